@@ -1,0 +1,96 @@
+ghost use Rattle.std.specs.Prelude.{◌≡◌};
+ghost use Rattle.cert_check.specs.declared.ends.CheckEnd.TheVariants.{Memory};
+
+use std::alloc::{AllocError, AllocFailed};
+use thiserror::Error;
+
+/// What a certificate claims of a cell at a node: its value lies between the two ends, in the cell's units.
+/// Cells are numbered from 1.
+#[derive(Clone, Copy, Debug, PartialEq, Eq)]
+pub struct Claim {
+    pub cell: u32,
+    pub low: i64,
+    pub high: i64,
+}
+
+/// What of a certificate's shape differs from the program's.
+#[derive(Clone, Copy, Debug, PartialEq, Eq)]
+pub enum Shape {
+    Cells,
+    Nodes,
+}
+
+/// The place at which what is reached doesn't lie in what is claimed.
+#[derive(Clone, Copy, Debug, PartialEq, Eq)]
+pub enum Gap {
+    /// The node is claimed never to be reached.
+    Reach,
+    /// The cell is claimed to be numeric.
+    Class {
+        cell: u32,
+    },
+    /// The low end reached is below the one claimed.
+    Low {
+        cell: u32,
+        reached: i64,
+        claimed: i64,
+    },
+    /// The high end reached is above the one claimed.
+    High {
+        cell: u32,
+        reached: i64,
+        claimed: i64,
+    },
+    /// The difference reached is above the bound claimed; `None` is no bound.
+    Diff {
+        pack: u32,
+        row: u32,
+        column: u32,
+        reached: Option<i128>,
+        claimed: i128,
+    },
+}
+
+/// An edge, and a place at which what it reaches doesn't lie in its target's claims.
+#[derive(Clone, Copy, Debug, PartialEq, Eq)]
+pub struct Leak {
+    pub edge: u32,
+    pub gap: Gap,
+}
+
+/// Why a certificate isn't accepted.
+#[derive(Debug, Drop, Error)]
+pub enum CheckEnd {
+    /// It has another number of cells or nodes than the program.
+    #[error("the certificate has another shape than the program")]
+    Shape {
+        what: Shape,
+        found: u32,
+        wanted: u32,
+    },
+    /// What an edge makes of its source's claims doesn't lie in its target's claims. Edge 0 is the entry.
+    #[error("the certificate is not inductive at edge {edge}")]
+    NotInductive {
+        layer: u8,
+        edge: u32,
+        gap: Gap,
+    },
+    #[error("out of memory")]
+    Memory,
+}
+
+impl From<AllocError> for CheckEnd {
+    ghost from_gives = { λ _ e. e ≡ Memory };
+
+    fn from(_error: AllocError) -> CheckEnd {
+        CheckEnd::Memory
+    }
+}
+
+impl<T: Drop> From<AllocFailed<T>> for CheckEnd {
+    ghost from_gives = { λ _ e. e ≡ Memory };
+
+    fn from(_error: AllocFailed<T>) -> CheckEnd {
+        CheckEnd::Memory
+    }
+}

@@ -1,0 +1,8 @@
+//! The meaning of straight-line programs: what a run does, from the standard alone.
+//!
+//! Nothing here knows of graphs, intervals or certificates.
+#![tactic(auto)]
+
+mod straight;
+
+pub use straight::{Kind, Open, Outcome, Simple, Straight};

@@ -1,0 +1,51 @@
+/// The kinds of fault that a statement without a phrase for them can meet (ISO 1989:1985, the rules on
+/// size errors, MOVE and class conditions).
+#[derive(Clone, Copy, Debug, PartialEq, Eq)]
+pub enum Kind {
+    /// A result exceeds what its receiver can hold.
+    Size,
+    /// A MOVE loses a nonzero digit at the high-order end.
+    Truncation,
+    /// A divisor is zero.
+    Zero,
+    /// An operand that is read as a number isn't numeric.
+    Class,
+}
+
+/// A statement that may meet a fault of this kind. Statements are numbered from 1 in source order.
+#[derive(Clone, Copy, Debug, PartialEq, Eq)]
+pub struct Open {
+    pub statement: u32,
+    pub kind: Kind,
+}
+
+/// How a run stands after some steps.
+#[derive(Clone, Copy, Debug, PartialEq, Eq)]
+pub enum Outcome {
+    /// It goes on.
+    Going,
+    /// STOP RUN was done, or the last statement.
+    Ended,
+    /// A file's status ended it.
+    IoStop { status: u8, statement: u32 },
+    /// A statement met a fault.
+    Fault { kind: Kind, statement: u32 },
+}
+
+/// A statement of a straight-line program. An amount is an unsigned whole number of at most 18 digits,
+/// and `to` is the receiver's place among the items, from 0.
+#[derive(Clone, Copy, Debug, PartialEq, Eq)]
+pub enum Simple {
+    Move { amount: i64, to: u32 },
+    Add { amount: i64, to: u32 },
+    Stop,
+}
+
+/// A straight-line program over unsigned whole DISPLAY items: the number of digits of each, its VALUE,
+/// and the statements in order.
+#[derive(Drop)]
+pub struct Straight {
+    pub digits: Vec<u32>,
+    pub first: Vec<i64>,
+    pub acts: Vec<Simple>,
+}
