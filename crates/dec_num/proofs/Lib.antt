@@ -1,0 +1,4 @@
+pub mod Powers
+pub mod Signed
+pub mod Exactness
+pub mod Rounding

@@ -1,0 +1,3 @@
+pub mod Exact
+pub mod Scaled
+pub mod Fit
