@@ -1,5 +1,5 @@
 -- Exact values: fractions of whole numbers, and what is left of one at a scale.
-use Rattle.std.specs.Prelude.{◌≡◌, ℕ, ◌+◌, ◌*◌, ◌/◌, ◌^◌, suc, ℤ, pos, negsuc, neg_ℤ, ◌+ℤ◌, ◌-ℤ◌, ◌*ℤ◌, unsigned_abs}
+use Rattle.std.specs.Prelude.{◌≡◌, ℕ, ◌+◌, ◌*◌, ◌/◌, ◌^◌, ◌<◌, ◌≤◌, suc, ℤ, pos, negsuc, neg_ℤ, ◌+ℤ◌, ◌-ℤ◌, ◌*ℤ◌, unsigned_abs}
 use Rattle.dec_num.specs.declared.types.Mode.{Mode}
 use Rattle.dec_num.specs.declared.types.Mode.TheVariants.{Trunc, Round}
 
@@ -44,3 +44,14 @@ near_size mode v (negsuc k) = rounded mode (unsigned_abs v.top) (v.bottom * 10 ^
 -- v * 10 ^ up, cut towards zero or rounded half away from zero: v in units of the scale `up`
 abbrev pub near : Mode → Fraction → ℤ → ℤ
 near mode v up = with_sign_of v.top (near_size mode v up)
+
+-- size is top / bottom, cut: size ≤ top / bottom < size + 1;
+-- or rounded: size - 1/2 ≤ top / bottom < size + 1/2
+abbrev pub IsRounded : Mode → ℕ → ℕ → ℕ → Type 0
+IsRounded Trunc top bottom size = (size * bottom ≤ top) × (top < (size + 1) * bottom)
+IsRounded Round top bottom size = (2 * size * bottom ≤ 2 * top + bottom) × (2 * top < (2 * size + 1) * bottom)
+
+-- size is that of v * 10 ^ up, cut or rounded
+abbrev pub IsNearSize : Mode → Fraction → ℤ → ℕ → Type 0
+IsNearSize mode v (pos k) size = IsRounded mode (unsigned_abs v.top * 10 ^ k) v.bottom size
+IsNearSize mode v (negsuc k) size = IsRounded mode (unsigned_abs v.top) (v.bottom * 10 ^ suc k) size

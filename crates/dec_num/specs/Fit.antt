@@ -1,4 +1,4 @@
--- Words on the answers of `quot` and `fit`.
+-- A word on the answers of `fit`.
 use Rattle.std.specs.Prelude.{⊤, ℤ}
 use Rattle.dec_num.specs.declared.types.Fit.{Fit}
 use Rattle.dec_num.specs.declared.types.Fit.TheVariants.{Stored, TooBig}

@@ -4,24 +4,12 @@ ghost use Rattle.dec_num.specs.Exact.{near, rounded, with_sign_of};
 ghost use Rattle.dec_num.specs.Scaled.{value_of};
 ghost use Rattle.dec_num.specs.Fit.{IfStored};
 
+use super::rounding::{finished, signed};
 use super::tens::ten;
 use super::types::{Fit, Mode, Scaled};
 
-// A long division's quotient, with the last step by what it left.
-pub(crate) fn finished(quotient: u128, rest: u128, bottom: u128, mode: Mode) -> u128
-    requires rest { rest < bottom }
-    requires quotient { quotient < 10 ^ 38 }
-    ensures { result ≡ rounded mode (quotient * bottom + rest) bottom }
-{
-    match mode {
-        Mode::Trunc => quotient,
-        Mode::Round if bottom - rest <= rest => quotient + 1,
-        Mode::Round => quotient,
-    }
-}
-
 // size / 10^from in units of the scale `to`
-#[tactic(auto, using(crate::proofs::Rounding::rounded_down, crate::proofs::Rounding::rounded_up, crate::proofs::Powers::ten_positive))]
+#[tactic(auto, using(crate::proofs::Near::rounded_down, crate::proofs::Near::rounded_up, crate::proofs::Powers::ten_positive))]
 fn rescaled(size: u128, from: u32, to: u32, mode: Mode) -> u128
     requires size { size < 10 ^ 37 }
     requires raised { from ≤ to → size < 10 ^ 18 }
@@ -37,7 +25,7 @@ fn rescaled(size: u128, from: u32, to: u32, mode: Mode) -> u128
 }
 
 // the same, if it has at most that many digits
-#[tactic(auto, using(crate::proofs::Rounding::rounded_up, crate::proofs::Rounding::rounded_above, crate::proofs::Powers::ten_monotone))]
+#[tactic(auto, using(crate::proofs::Near::rounded_up, crate::proofs::Near::rounded_above, crate::proofs::Powers::ten_monotone))]
 fn fitted_size(size: u128, from: u32, to: u32, digits: u32, mode: Mode) -> Option<u128>
     requires size { size < 10 ^ 37 }
     requires from { from ≤ 37 }
@@ -54,18 +42,9 @@ fn fitted_size(size: u128, from: u32, to: u32, digits: u32, mode: Mode) -> Optio
     if moved < limit { Some(moved) } else { None }
 }
 
-// the number of that size with the sign of `like`
-fn signed(size: u128, like: i128) -> i64
-    requires { size < 10 ^ 18 }
-    ensures { result ≡ with_sign_of like size }
-{
-    let z = size as i64;
-    if like < 0 { -z } else { z }
-}
-
 /// The value in units of the scale, cut or rounded, for a receiver of that many digits. The sign
 /// stays; that an unsigned receiver takes the absolute value is the caller's matter.
-#[tactic(auto, using(crate::proofs::Rounding::abs_with_sign, crate::proofs::Powers::ten_monotone))]
+#[tactic(auto, using(crate::proofs::Near::abs_with_sign, crate::proofs::Powers::ten_monotone))]
 pub fn fit(v: Scaled, digits: u32, scale: u32, mode: Mode) -> Fit
     requires digits { (1 ≤ digits) × (digits ≤ 18) }
     requires scale { scale ≤ digits }
@@ -75,7 +54,7 @@ pub fn fit(v: Scaled, digits: u32, scale: u32, mode: Mode) -> Fit
     ensures too_big { (result ≡ Fit.TooBig) ↔ (10 ^ digits ≤ unsigned_abs (near mode (value_of v) (pos scale))) }
 {
     match fitted_size(v.units.unsigned_abs(), v.scale, scale, digits, mode) {
-        Some(size) => Fit::Stored(signed(size, v.units)),
+        Some(size) => Fit::Stored(signed(size, v.units) as i64),
         None => Fit::TooBig,
     }
 }

@@ -6,11 +6,14 @@
 #![tactic(auto)]
 
 mod fitting;
+mod quotient;
+mod rounding;
 mod scaled;
 mod tens;
 mod types;
 
 pub use fitting::fit;
+pub use quotient::quot;
 pub use scaled::{add, align, mul, sub};
 pub use tens::pow10;
-pub use types::{Fit, Mode, Scaled};
+pub use types::{Fit, Mode, Quot, Scaled};

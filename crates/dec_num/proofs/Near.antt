@@ -1,7 +1,8 @@
 -- Whole numbers near a fraction.
 use Rattle.std.proofs.Common.{◌≡◌, ℕ, ◌+◌, ◌-◌, ◌*◌, ◌/◌, ◌%◌, ◌^◌, ◌<◌, ◌≤◌, ℤ, pos, negsuc, zero, suc, refl, ap, arith}
 use Rattle.std.specs.Prelude.{unsigned_abs}
-use Rattle.std.proofs.Math.Nat.{mul-div-mul_right, mul-div_left, div-add-mod', div-eq_of_lt-le, le-mul_of_pos_right}
+use Rattle.std.proofs.Math.Nat.{mul-div-mul_right, mul-div_left, div-add-mod', div-eq_of_lt-le, le-mul_of_pos_right, div-le_self, div-mul-le_self, le_refl}
+use Rattle.std.proofs.lemmas.Nat.{le-div, div_below}
 use Rattle.dec_num.specs.declared.types.Mode.{Mode}
 use Rattle.dec_num.specs.declared.types.Mode.TheVariants.{Trunc, Round}
 use Rattle.dec_num.specs.Exact.{rounded, with_sign_of}
@@ -42,3 +43,14 @@ pub abs_with_sign : (z : ℤ) (size : ℕ) → unsigned_abs (with_sign_of z size
 abs_with_sign (pos _) size = refl
 abs_with_sign (negsuc _) zero = refl
 abs_with_sign (negsuc _) (suc size) = refl
+
+-- no rounding goes past the number that is divided
+pub rounded_below : (mode : Mode) (top bottom : ℕ) → 0 < bottom → rounded mode top bottom ≤ top
+rounded_below Trunc top bottom h = div-le_self top bottom
+rounded_below Round top bottom h =
+    omega (arith, div_below (2 * top + bottom) (2 * bottom) (top + 1) (omega arith) (omega (arith, le-mul_of_pos_right top h)))
+
+-- what is cut is never more than what is rounded
+pub cut_below : (mode : Mode) (top bottom : ℕ) → 0 < bottom → top / bottom ≤ rounded mode top bottom
+cut_below Trunc top bottom h = le_refl (top / bottom)
+cut_below Round top bottom h = le-div (top / bottom) (2 * top + bottom) (2 * bottom) (omega arith) (omega (arith, div-mul-le_self top bottom))
