@@ -1,0 +1,5 @@
+pub mod Powers
+pub mod Signed
+pub mod Exactness
+pub mod Near
+pub mod LongDivision

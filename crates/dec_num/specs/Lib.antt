@@ -1,0 +1,4 @@
+pub mod Exact
+pub mod Scaled
+pub mod Quot
+pub mod Fit

@@ -1,0 +1,60 @@
+ghost use Rattle.std.specs.Prelude.{◌≡◌, ◌+◌, ◌*◌, ◌^◌, ◌<◌, ◌≤◌, pos, ℤ, unsigned_abs, ◌↔◌};
+ghost use Rattle.std.specs.Option.{SomeIff};
+ghost use Rattle.dec_num.specs.Exact.{near, rounded, with_sign_of};
+ghost use Rattle.dec_num.specs.Scaled.{value_of};
+ghost use Rattle.dec_num.specs.Fit.{IfStored};
+
+use super::rounding::{finished, signed};
+use super::tens::ten;
+use super::types::{Fit, Mode, Scaled};
+
+// size / 10^from in units of the scale `to`
+#[tactic(auto, using(crate::proofs::Near::rounded_down, crate::proofs::Near::rounded_up, crate::proofs::Powers::ten_positive))]
+fn rescaled(size: u128, from: u32, to: u32, mode: Mode) -> u128
+    requires size { size < 10 ^ 37 }
+    requires raised { from ≤ to → size < 10 ^ 18 }
+    requires from { from ≤ 37 }
+    requires to { to ≤ 18 }
+    ensures { result ≡ rounded mode (size * 10 ^ to) (10 ^ from) }
+{
+    if from <= to {
+        return size * ten(to - from);
+    }
+    let bottom = ten(from - to);
+    finished(size / bottom, size % bottom, bottom, mode)
+}
+
+// the same, if it has at most that many digits
+#[tactic(auto, using(crate::proofs::Near::rounded_up, crate::proofs::Near::rounded_above, crate::proofs::Powers::ten_monotone))]
+fn fitted_size(size: u128, from: u32, to: u32, digits: u32, mode: Mode) -> Option<u128>
+    requires size { size < 10 ^ 37 }
+    requires from { from ≤ 37 }
+    requires to { to ≤ digits }
+    requires digits { digits ≤ 18 }
+    ensures { let moved = rounded mode (size * 10 ^ to) (10 ^ from) in
+        SomeIff result (moved < 10 ^ digits) moved }
+{
+    let limit = ten(digits);
+    if from <= to && limit <= size {
+        return None;
+    }
+    let moved = rescaled(size, from, to, mode);
+    if moved < limit { Some(moved) } else { None }
+}
+
+/// The value in units of the scale, cut or rounded, for a receiver of that many digits. The sign
+/// stays; that an unsigned receiver takes the absolute value is the caller's matter.
+#[tactic(auto, using(crate::proofs::Near::abs_with_sign, crate::proofs::Powers::ten_monotone))]
+pub fn fit(v: Scaled, digits: u32, scale: u32, mode: Mode) -> Fit
+    requires digits { (1 ≤ digits) × (digits ≤ 18) }
+    requires scale { scale ≤ digits }
+    requires value_scale { v.scale ≤ 37 }
+    requires units { unsigned_abs v.units < 10 ^ 37 }
+    ensures stored { IfStored result (λ z. (z ≡ near mode (value_of v) (pos scale)) × (unsigned_abs z < 10 ^ digits)) }
+    ensures too_big { (result ≡ Fit.TooBig) ↔ (10 ^ digits ≤ unsigned_abs (near mode (value_of v) (pos scale))) }
+{
+    match fitted_size(v.units.unsigned_abs(), v.scale, scale, digits, mode) {
+        Some(size) => Fit::Stored(signed(size, v.units) as i64),
+        None => Fit::TooBig,
+    }
+}
