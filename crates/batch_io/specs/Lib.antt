@@ -4,3 +4,6 @@ pub mod FilesCalls
 pub mod SinkState
 pub mod SinkCalls
 pub mod Wholes
+pub mod Slots
+pub mod Failing
+pub mod Memory

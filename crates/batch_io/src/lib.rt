@@ -3,9 +3,13 @@
 #![tactic(auto)]
 
 mod ends;
+mod failing;
+mod memory;
 mod outside;
+mod slots;
 mod whole;
 
 pub use ends::{Failed, FileEnd, MakeEnd, OpenEnd, ReadEnd};
+pub use memory::{MemFiles, MemSink};
 pub use outside::{Files, Sink};
 pub use whole::{read_file, read_whole, show_whole};
