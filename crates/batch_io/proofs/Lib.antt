@@ -1,0 +1,5 @@
+pub mod GivesLemmas
+pub mod KnownLemmas
+pub mod WholeLemmas
+pub mod EntriesLemmas
+pub mod MemoryLemmas

@@ -1,0 +1,9 @@
+pub mod Faults
+pub mod FilesState
+pub mod FilesCalls
+pub mod SinkState
+pub mod SinkCalls
+pub mod Wholes
+pub mod Slots
+pub mod Failing
+pub mod Memory

@@ -1,0 +1,73 @@
+-- What the objects in memory mean. They tell everything.
+use Rattle.std.specs.Prelude.{◌≡◌, ℕ, List, [], map, get_or, bytes_eq, position, string_bytes, option_map, option_and_then, Option, None, Some, Vec, String}
+use Rattle.std.specs.declared.alloc.Global.{Global}
+use Rattle.std.specs.Ordering.{nat_cmp}
+use Rattle.std.specs.Cmp.Lexicographic.{slice_cmp}
+use Rattle.std.specs.FinMap.{FinMap, from_entries}
+use Rattle.batch_io.specs.declared.failing.FailingCalls.{FailingCalls}
+use Rattle.batch_io.specs.declared.memory.Opened.{Opened}
+use Rattle.batch_io.specs.declared.memory.Opened.TheVariants as opened
+use Rattle.batch_io.specs.declared.memory.MemFiles.{MemFiles}
+use Rattle.batch_io.specs.declared.memory.MemSink.{MemSink}
+use Rattle.batch_io.specs.FilesState.{FilesState, Contents, Told, Handle, Purpose, Reading, Writing, known_bytes}
+use Rattle.batch_io.specs.SinkState.{SinkState}
+use Rattle.batch_io.specs.Slots.{slot_at}
+
+abbrev pub File : Type 0
+File = String Global × Vec ℕ Global
+
+abbrev pub entry_of : File → List ℕ × List ℕ
+entry_of file = (string_bytes file.0, file.1.items)
+
+abbrev pub entries_of : List File → List (List ℕ × List ℕ)
+entries_of files = map entry_of files
+
+-- of two files of one name the first counts
+abbrev pub contents_of : List File → Contents
+contents_of files = from_entries (entries_of files)
+
+-- the place of the first file of this name
+abbrev pub place_of : List File → List ℕ → Option ℕ
+place_of files name = position (λ file. bytes_eq (string_bytes file.0) name) files
+
+abbrev pub purpose_of : Opened → Purpose
+purpose_of (opened.Reading name place) = Reading
+purpose_of (opened.Writing name) = Writing
+
+abbrev pub handle_of : Option Opened → Handle
+handle_of None = record { name = []; place = 0 }
+handle_of (Some (opened.Reading name place)) = record { name = string_bytes name; place = place }
+handle_of (Some (opened.Writing name)) = record { name = string_bytes name; place = 0 }
+
+abbrev pub mem_files : MemFiles → FilesState
+mem_files m = record {
+    told = Some (record { bytes = contents_of m.files.items; handle = λ id. handle_of (slot_at m.slots.items id) });
+    purpose = λ id. option_map purpose_of (slot_at m.slots.items id);
+    reading = m.reading;
+    writing = m.writing;
+  }
+
+abbrev pub files_calls : MemFiles → FailingCalls
+files_calls m = m.calls
+
+-- these files, no id open, no fault and no call so far
+pub record StartsFiles (files : List File) (failing : List ℕ) (result : MemFiles) : Type 0 where
+  pub bytes : known_bytes (mem_files result) ≡ Some (contents_of files)
+  pub purpose : (id : ℕ) → (mem_files result).purpose id ≡ None
+  pub reading : (mem_files result).reading ≡ 0
+  pub writing : (mem_files result).writing ≡ 0
+  pub listed : (files_calls result).listed.items ≡ failing
+  pub made : (files_calls result).made ≡ 0
+
+abbrev pub mem_sink : MemSink → SinkState
+mem_sink m = record { told = Some m.text.items; faults = m.faults }
+
+abbrev pub sink_calls : MemSink → FailingCalls
+sink_calls m = m.calls
+
+-- no text, no fault and no call so far
+pub record StartsSink (failing : List ℕ) (result : MemSink) : Type 0 where
+  pub told : (mem_sink result).told ≡ Some []
+  pub faults : (mem_sink result).faults ≡ 0
+  pub listed : (sink_calls result).listed.items ≡ failing
+  pub made : (sink_calls result).made ≡ 0

@@ -1,0 +1,96 @@
+//! Whole files and whole texts.
+ghost use Rattle.std.specs.Prelude.{◌≡◌, ℕ, ◌-◌, ◌^◌, ◌<◌, Some};
+ghost use Rattle.batch_io.specs.FilesState.{Reading};
+ghost use Rattle.batch_io.specs.Wholes.{ReadsWhole, ReadsToClose, ReadsFile, ShowsWhole, end_after};
+
+use crate::ends::{Failed, FileEnd, MakeEnd, OpenEnd, ReadEnd};
+use crate::outside::{Files, Sink};
+use std::alloc::Global;
+
+/// The most bytes that one call of `read` is asked for.
+const CHUNK: usize = 8192;
+
+/// Reads all bytes from the id's place to the end, where they are at most `limit`.
+pub fn read_whole<F: Files>(
+    alloc: Global,
+    files: &mut F,
+    id: u32,
+    limit: usize,
+) -> Result<Vec<u8>, ReadEnd>
+    requires opened { (F.state files.old).purpose id ≡ Some Reading }
+    requires limit { limit < 2 ^ 64 - 1 }
+    ensures { ReadsWhole (F.state files.old) (F.state files.new) id limit result }
+{
+    let mut bytes = Vec::new(alloc);
+    let mut chunk = [0u8; CHUNK];
+    loop {
+        let room = CHUNK.min(limit + 1 - bytes.len());
+        let piece = &mut chunk[..room];
+        let count = files.read(id, piece)?;
+        if count == 0 {
+            return Ok(bytes);
+        }
+        if count > limit - bytes.len() {
+            return Err(ReadEnd::Long);
+        }
+        bytes.extend_from_slice(&piece[..count])?;
+    }
+}
+
+/// Writes all of `bytes` to the sink. A refused show leaves a prefix of them there.
+pub fn show_whole<O: Sink>(out: &mut O, bytes: &[u8]) -> Result<(), MakeEnd>
+    ensures { ShowsWhole (O.state out.old) (O.state out.new) bytes.now result }
+{
+    let mut done = 0;
+    while done < bytes.len() {
+        done += out.write(&bytes[done..])?;
+    }
+    Ok(())
+}
+
+// What a read and the close after it come to. A refused close is Failed, whatever was read.
+fn end_of(whole: Result<Vec<u8>, ReadEnd>, closed: Result<(), Failed>) -> Result<Vec<u8>, FileEnd>
+    ensures { result ≡ end_after whole closed }
+{
+    match (whole, closed) {
+        (_, Err(Failed)) | (Err(ReadEnd::Failed), _) => Err(FileEnd::Failed),
+        (Ok(bytes), Ok(())) => Ok(bytes),
+        (Err(ReadEnd::Long), Ok(())) => Err(FileEnd::Long),
+        (Err(ReadEnd::Memory), Ok(())) => Err(FileEnd::Memory),
+    }
+}
+
+// Reads an open file from its place to its end, and closes it.
+fn read_and_close<F: Files>(
+    alloc: Global,
+    files: &mut F,
+    id: u32,
+    limit: usize,
+) -> Result<Vec<u8>, FileEnd>
+    requires opened { (F.state files.old).purpose id ≡ Some Reading }
+    requires limit { limit < 2 ^ 64 - 1 }
+    ensures { ReadsToClose (F.state files.old) (F.state files.new) id limit result }
+{
+    let whole = read_whole(alloc, files, id, limit);
+    let closed = files.close(id);
+    end_of(whole, closed)
+}
+
+/// Opens a file by name, reads it whole where it has at most `limit` bytes, and closes it again.
+pub fn read_file<F: Files>(
+    alloc: Global,
+    files: &mut F,
+    name: &str,
+    limit: usize,
+) -> Result<Vec<u8>, FileEnd>
+    requires { limit < 2 ^ 64 - 1 }
+    ensures { ReadsFile (F.state files.old) (F.state files.new) name.now limit result }
+{
+    let id = match files.open(name) {
+        Ok(id) => id,
+        Err(OpenEnd::Absent) => return Err(FileEnd::Absent),
+        Err(OpenEnd::Failed) => return Err(FileEnd::Failed),
+        Err(OpenEnd::Memory) => return Err(FileEnd::Memory),
+    };
+    read_and_close(alloc, files, id, limit)
+}
