@@ -1,0 +1,4 @@
+pub mod Claims
+pub mod Reading
+pub use Rattle.text_lines.specs.Lines
+pub use Rattle.text_lines.specs.Viable

@@ -1,0 +1,8 @@
+//! Certificates of straight-line programs, as they are written line by line.
+#![tactic(auto)]
+
+mod ends;
+mod read;
+
+pub use ends::ClaimsEnd;
+pub use read::read_claims;

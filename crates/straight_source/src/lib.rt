@@ -1,0 +1,8 @@
+//! Sources of straight-line programs, as they are written line by line.
+#![tactic(auto)]
+
+mod ends;
+mod read;
+
+pub use ends::SourceEnd;
+pub use read::read_source;
