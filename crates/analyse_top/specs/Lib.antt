@@ -1,0 +1,5 @@
+pub mod Text
+pub mod Answer
+pub mod Conclusion
+pub mod View
+pub mod Steps

@@ -1,0 +1,19 @@
+-- The code's answer as plain data.
+use Rattle.std.specs.Prelude.{Result, Ok, Err}
+use Rattle.analyse_top.specs.declared.answer.Stop.{Stop}
+use Rattle.analyse_top.specs.declared.answer.Answer.TheVariants as code
+use Rattle.analyse_top.specs.declared.answer.Answer as declared
+use Rattle.analyse_top.specs.Answer.{Answer, Usage, Absent, SourceLong, NotYet, CertificateLong, NotInductive, Report}
+
+abbrev pub plain_answer : declared.Answer → Answer
+plain_answer (code.Usage word) = Usage word.now
+plain_answer (code.Absent name) = Absent name.now
+plain_answer code.SourceLong = SourceLong
+plain_answer (code.NotYet line) = NotYet line
+plain_answer code.CertificateLong = CertificateLong
+plain_answer (code.NotInductive edge gap) = NotInductive edge gap
+plain_answer (code.Report alarms) = Report alarms.items
+
+abbrev pub plain_result : Result declared.Answer Stop → Result Answer Stop
+plain_result (Ok answer) = Ok (plain_answer answer)
+plain_result (Err stop) = Err stop

@@ -1,0 +1,47 @@
+ghost use Rattle.std.specs.Prelude.{◌≡◌};
+ghost use Rattle.analyse_top.specs.declared.answer.Stop.TheVariants.{Memory};
+
+use cert_check::Gap;
+use cob_meaning::Kind;
+use std::alloc::AllocError;
+
+/// A statement that a certificate leaves open, and the line on which it stands.
+#[derive(Clone, Copy, Debug, PartialEq, Eq)]
+pub struct Alarm {
+    pub kind: Kind,
+    pub statement: u32,
+    pub line: u32,
+}
+
+/// What `check` answers. Names are the command's own words.
+#[derive(Drop)]
+pub enum Answer<'a> {
+    /// The words are no command; the first of them, or empty.
+    Usage(&'a str),
+    /// There is no file of this name.
+    Absent(&'a str),
+    SourceLong,
+    /// The first line that isn't of the straight-line form.
+    NotYet(u32),
+    CertificateLong,
+    /// The first edge at which the certificate isn't inductive, and the first place there.
+    NotInductive(u32, Gap),
+    Report(Vec<Alarm>),
+}
+
+/// Why no answer is found.
+#[derive(Debug, Drop)]
+pub enum Stop {
+    /// A file couldn't be opened, read or closed.
+    ReadFault,
+    /// Memory ran out.
+    Memory,
+}
+
+impl From<AllocError> for Stop {
+    ghost from_gives = { λ _ e. e ≡ Memory };
+
+    fn from(_error: AllocError) -> Stop {
+        Stop::Memory
+    }
+}

@@ -1,0 +1,125 @@
+ghost use Rattle.std.specs.Prelude.{◌≡◌, ◌+◌, ◌<◌, ◌≤◌, ◌^◌, All, map, length, IfOk, IfSome, MatchResult, vec_len};
+ghost use Rattle.batch_io.specs.FilesState.{known_bytes};
+ghost use Rattle.cob_meaning.specs.Program.{IsValid, plain};
+ghost use Rattle.analyse_top.specs.Answer.{AnswersCheck, AnswersProgram, alarm_at};
+ghost use Rattle.analyse_top.specs.Steps.{Reads, stopped_by_fault, IsNoShape, AnswersChecked, AnswersBytes};
+ghost use Rattle.analyse_top.specs.View.{plain_answer, plain_result};
+
+use crate::answer::{Alarm, Answer, Stop};
+use batch_io::{FileEnd, Files, read_file};
+use cert_check::{CheckEnd, check_straight};
+use cob_meaning::{Open, Straight};
+use std::alloc::{AllocError, Global};
+use straight_claims::{ClaimsEnd, read_claims};
+use straight_source::{SourceEnd, read_source};
+
+const SOURCE_LIMIT: usize = 1_048_576;
+
+const CERTIFICATE_LIMIT: usize = 67_108_864;
+
+/// Answers `check SOURCE CERT`.
+pub fn check<'a, F: Files>(
+    alloc: Global,
+    source: &'a str,
+    certificate: &'a str,
+    files: &mut F,
+) -> Result<Answer<'a>, Stop>
+    ensures reads { Reads (F.state files.old) (F.state files.new) (stopped_by_fault result) }
+    ensures answer { IfOk result (λ answer. IfSome (known_bytes (F.state files.old)) (λ contents.
+        AnswersCheck contents source.now certificate.now (plain_answer answer))) }
+{
+    let bytes = match read_file(alloc, files, source, SOURCE_LIMIT) {
+        Ok(bytes) => bytes,
+        Err(FileEnd::Absent) => return Ok(Answer::Absent(source)),
+        Err(FileEnd::Long) => return Ok(Answer::SourceLong),
+        Err(FileEnd::Failed) => return Err(Stop::ReadFault),
+        Err(FileEnd::Memory) => return Err(Stop::Memory),
+    };
+    match read_source(alloc, &bytes) {
+        Ok(program) => check_program(alloc, &program, certificate, files),
+        Err(SourceEnd::NotYet { line }) => Ok(Answer::NotYet(line)),
+        Err(SourceEnd::Memory) => Err(Stop::Memory),
+    }
+}
+
+// Answers for a source that was read.
+fn check_program<'a, F: Files>(
+    alloc: Global,
+    program: &Straight,
+    certificate: &'a str,
+    files: &mut F,
+) -> Result<Answer<'a>, Stop>
+    requires valid { IsValid (plain program.now) }
+    requires items { vec_len program.now.digits ≤ 26 }
+    requires acts { vec_len program.now.acts ≤ 4095 }
+    ensures reads { Reads (F.state files.old) (F.state files.new) (stopped_by_fault result) }
+    ensures answer { IfOk result (λ answer. IfSome (known_bytes (F.state files.old)) (λ contents.
+        AnswersProgram contents certificate.now (plain program.now) (plain_answer answer))) }
+{
+    match read_file(alloc, files, certificate, CERTIFICATE_LIMIT) {
+        Ok(bytes) => check_bytes(alloc, program, &bytes),
+        Err(FileEnd::Absent) => Ok(Answer::Absent(certificate)),
+        Err(FileEnd::Long) => Ok(Answer::CertificateLong),
+        Err(FileEnd::Failed) => Err(Stop::ReadFault),
+        Err(FileEnd::Memory) => Err(Stop::Memory),
+    }
+}
+
+// Answers for a certificate's bytes.
+fn check_bytes<'a>(alloc: Global, program: &Straight, bytes: &[u8]) -> Result<Answer<'a>, Stop>
+    requires valid { IsValid (plain program.now) }
+    requires items { vec_len program.now.digits ≤ 26 }
+    requires acts { vec_len program.now.acts ≤ 4095 }
+    requires size { length bytes.now ≤ 67108864 }
+    ensures { MatchResult result (λ answer. AnswersBytes bytes.now (plain program.now) (plain_answer answer))
+        (λ stop. stop ≡ Stop.Memory) }
+{
+    let cells = program.digits.len() as u32;
+    let nodes = program.acts.len() as u32 + 1;
+    match read_claims(alloc, bytes, cells, nodes) {
+        Ok(claims) => answer_of(alloc, cells, check_straight(alloc, program, &claims)),
+        Err(ClaimsEnd::NotYet { line }) => Ok(Answer::NotYet(line)),
+        Err(ClaimsEnd::Memory) => Err(Stop::Memory),
+    }
+}
+
+// The checker's answer as the program's.
+fn answer_of<'a>(
+    alloc: Global,
+    items: u32,
+    checked: Result<Vec<Open>, CheckEnd>,
+) -> Result<Answer<'a>, Stop>
+    requires items { items ≤ 26 }
+    requires checked { MatchResult checked (λ pairs. All (λ pair. pair.statement < 2 ^ 31) pairs.items) IsNoShape }
+    ensures { AnswersChecked items checked (plain_result result) }
+{
+    match checked {
+        Ok(pairs) => Ok(Answer::Report(alarms_of(alloc, items, &pairs)?)),
+        Err(
+            CheckEnd::NotInductive {
+                layer: _,
+                edge,
+                gap,
+            },
+        ) => Ok(Answer::NotInductive(edge, gap)),
+        Err(CheckEnd::Memory) => Err(Stop::Memory),
+        Err(CheckEnd::Shape { .. }) => unreachable!(),
+    }
+}
+
+// The open pairs with the lines of their statements.
+fn alarms_of(alloc: Global, items: u32, pairs: &[Open]) -> Result<Vec<Alarm>, AllocError>
+    requires items { items ≤ 26 }
+    requires pairs { All (λ pair. pair.statement < 2 ^ 31) pairs.now }
+    ensures { IfOk result (λ alarms. alarms.items ≡ map (alarm_at items) pairs.now) }
+{
+    let mut alarms = Vec::new(alloc);
+    for pair in pairs {
+        alarms.push(Alarm {
+            kind: pair.kind,
+            statement: pair.statement,
+            line: 5 + items + pair.statement,
+        })?;
+    }
+    Ok(alarms)
+}
