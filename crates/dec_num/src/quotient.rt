@@ -70,14 +70,19 @@ fn ratio_top(n: i128, d: i128) -> i128
 }
 
 /// `n * 10^up / d` as a whole number, cut or rounded.
-#[tactic(auto, using(crate::proofs::Near::abs_with_sign))]
+#[tactic(auto, using(crate::proofs::Near::abs_with_sign, crate::proofs::Near::nearest_ratio))]
 pub fn quot(n: i128, d: i128, up: i32, mode: Mode) -> Quot
     requires n { unsigned_abs n < 10 ^ 37 }
     requires d { unsigned_abs d < 10 ^ 37 }
     requires up { (neg_ℤ (pos 37) ≤ℤ up) × (up ≤ℤ pos 55) }
     ensures zero_divisor { (result ≡ Quot.ZeroDivisor) ↔ (d ≡ pos 0) }
-    ensures over { (result ≡ Quot.Over) ↔ ((d ≢ pos 0) × (10 ^ 37 ≤ unsigned_abs (near mode (ratio_of n d) up))) }
-    ensures is { IfIs result (λ q. (d ≢ pos 0) × (q ≡ near mode (ratio_of n d) up) × (unsigned_abs q < 10 ^ 37)) }
+    ensures over { (result ≡ Quot.Over)
+        ↔ ((d ≢ pos 0) × (10 ^ 37 ≤ unsigned_abs (near mode (ratio_of n d) up))) }
+    ensures is { IfIs result (λ q.
+        (d ≢ pos 0) × (q ≡ near mode (ratio_of n d) up) × (unsigned_abs q < 10 ^ 37)) }
+
+    // what `near` is, as inequalities
+    ensures nearest { IfIs result (λ q. IsNearSize mode (ratio_of n d) up (unsigned_abs q)) }
 {
     if d == 0 {
         return Quot::ZeroDivisor;
