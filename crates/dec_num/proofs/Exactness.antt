@@ -56,3 +56,10 @@ own_units a b e = (unmoved a (joint_scale a b) (omega arith), unmoved b (joint_s
   where
     unmoved : (v : Scaled) (scale : ℕ) → scale ≡ v.scale → units_at v scale ≡ v.units
     unmoved v scale f = let g : scale - v.scale ≡ 0 = omega arith in rw g (omega (arith, ints))
+
+-- ---- what the calls need
+pub ruleset aligning = (align_is_exact, CanAlign_power)
+
+pub ruleset adding = (add_is_exact, own_units)
+
+pub ruleset subtracting = (sub_is_exact, own_units)

@@ -9,7 +9,7 @@ use Rattle.dec_num.specs.declared.types.Mode.TheVariants.{Trunc, Round}
 use Rattle.dec_num.specs.declared.types.Scaled.{Scaled}
 use Rattle.dec_num.specs.Exact.{Fraction, IsSameNumber, rounded, with_sign_of, near, near_size, ratio_of, IsRounded, IsNearSize}
 use Rattle.dec_num.specs.Scaled.{value_of}
-use Rattle.dec_num.proofs.Powers.{ten_positive, ten_split}
+use Rattle.dec_num.proofs.Powers.{ten_positive, ten_monotone, ten_split}
 
 -- a common factor goes
 pub rounded_common : (mode : Mode) (a b k : ℕ) → 0 < k → rounded mode (a * k) (b * k) ≡ rounded mode a b
@@ -150,3 +150,12 @@ near_monotone mode x y bottom (pos k) h =
     (λ m n l. rounded_monotone mode (m * 10 ^ k) (n * 10 ^ k) bottom h (mul-le m (10 ^ k) n (10 ^ k) l (le_refl (10 ^ k)))) x y
 near_monotone mode x y bottom (negsuc k) h =
     signed_monotone (λ n. rounded mode n (bottom * 10 ^ suc k)) (λ m n l. rounded_monotone mode m n (bottom * 10 ^ suc k) (times_ten bottom (suc k) h) l) x y
+
+-- ---- what the calls need
+pub ruleset rescaling = (rounded_down, rounded_up, ten_positive)
+
+pub ruleset raising = (rounded_up, rounded_above, ten_monotone)
+
+pub ruleset fits = (abs_with_sign, rounded_own_scale, nearest_value, ten_monotone)
+
+pub ruleset quotients = (abs_with_sign, nearest_ratio)
