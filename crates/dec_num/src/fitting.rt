@@ -62,7 +62,7 @@ pub fn fit(v: Scaled, digits: u32, scale: u32, mode: Mode) -> Fit
     // units at the receiver's own scale are stored as they are
     ensures own_scale { v.scale ≡ scale →
         MatchFit result (λ z. (z ≡ v.units) × (unsigned_abs z < 10 ^ digits))
-            (10 ^ digits ≤ unsigned_abs v.units) }
+        (10 ^ digits ≤ unsigned_abs v.units) }
 {
     match fitted_size(v.units.unsigned_abs(), v.scale, scale, digits, mode) {
         Some(size) => Fit::Stored(signed(size, v.units) as i64),
