@@ -49,3 +49,17 @@ CanAlign_power a scale nonzero h = omega (arith, exponent_below (unsigned_abs a.
   where
     abs_positive : (x : ℤ) → x ≢ pos 0 → 0 < unsigned_abs x
     abs_positive x h = omega (arith, ints)
+
+-- the units at the own scale
+pub own_units : (a b : Scaled) → a.scale ≡ b.scale → (units_at a (joint_scale a b) ≡ a.units) × (units_at b (joint_scale a b) ≡ b.units)
+own_units a b e = (unmoved a (joint_scale a b) (omega arith), unmoved b (joint_scale a b) (omega arith))
+  where
+    unmoved : (v : Scaled) (scale : ℕ) → scale ≡ v.scale → units_at v scale ≡ v.units
+    unmoved v scale f = let g : scale - v.scale ≡ 0 = omega arith in rw g (omega (arith, ints))
+
+-- ---- what the calls need
+pub ruleset aligning = (align_is_exact, CanAlign_power)
+
+pub ruleset adding = (add_is_exact, own_units)
+
+pub ruleset subtracting = (sub_is_exact, own_units)

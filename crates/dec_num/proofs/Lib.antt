@@ -3,3 +3,4 @@ pub mod Signed
 pub mod Exactness
 pub mod Near
 pub mod LongDivision
+pub mod Bounds

@@ -5,7 +5,7 @@ use Rattle.std.proofs.lemmas.Nat.{le-div, mul-le, div_below}
 use Rattle.dec_num.specs.declared.types.Mode.{Mode}
 use Rattle.dec_num.specs.Exact.{rounded}
 use Rattle.dec_num.proofs.Powers.{ten_positive, ten_monotone, ten-add, ten_split}
-use Rattle.dec_num.proofs.Near.{cut_below}
+use Rattle.dec_num.proofs.Near.{cut_below, rounded_below}
 
 -- some further digits
 pub digits_more : (n d q r place digits : ℕ) → q * d + r ≡ n * 10 ^ place → (q * 10 ^ digits + r * 10 ^ digits / d) * d + r * 10 ^ digits % d ≡ n * 10 ^ (place + digits)
@@ -47,3 +47,8 @@ nearest_by_half n d half ten h e =
 pub narrowed_nearest : (n d k : ℕ) → 1 ≤ k → (n / (5 * 10 ^ (k - 1)) + d) / (2 * d) ≡ (2 * n + d * 10 ^ k) / (2 * (d * 10 ^ k))
 narrowed_nearest n d k h =
     nearest_by_half n d (5 * 10 ^ (k - 1)) (10 ^ k) (omega (arith, ten_positive (k - 1))) (omega (arith, ten_split 1 k h))
+
+-- ---- what the calls need
+pub ruleset widening = (digits_more, digits_below, ten_monotone)
+
+pub ruleset narrowing = (narrowed_cut, narrowed_nearest, rounded_below, ten_positive, ten_monotone)

@@ -3,7 +3,7 @@ use Rattle.std.specs.Prelude.{◌≡◌, ℕ, ◌+◌, ◌*◌, ◌/◌, ◌^◌
 use Rattle.dec_num.specs.declared.types.Mode.{Mode}
 use Rattle.dec_num.specs.declared.types.Mode.TheVariants.{Trunc, Round}
 
--- the number top / bottom; bottom is positive wherever one is made here of a positive divisor
+-- the number top / bottom, for a bottom above 0
 pub record Fraction : Type 0 where
   pub top : ℤ
   pub bottom : ℕ
@@ -45,13 +45,13 @@ near_size mode v (negsuc k) = rounded mode (unsigned_abs v.top) (v.bottom * 10 ^
 abbrev pub near : Mode → Fraction → ℤ → ℤ
 near mode v up = with_sign_of v.top (near_size mode v up)
 
--- size is top / bottom, cut: size ≤ top / bottom < size + 1;
--- or rounded: size - 1/2 ≤ top / bottom < size + 1/2
+-- `rounded` by inequalities. Cut: size ≤ top / bottom < size + 1.
+-- Rounded: size - 1/2 ≤ top / bottom < size + 1/2
 abbrev pub IsRounded : Mode → ℕ → ℕ → ℕ → Type 0
 IsRounded Trunc top bottom size = (size * bottom ≤ top) × (top < (size + 1) * bottom)
 IsRounded Round top bottom size = (2 * size * bottom ≤ 2 * top + bottom) × (2 * top < (2 * size + 1) * bottom)
 
--- size is that of v * 10 ^ up, cut or rounded
+-- `near_size` by inequalities: of absolute values, so a cut goes towards zero and a half away from it
 abbrev pub IsNearSize : Mode → Fraction → ℤ → ℕ → Type 0
 IsNearSize mode v (pos k) size = IsRounded mode (unsigned_abs v.top * 10 ^ k) v.bottom size
 IsNearSize mode v (negsuc k) size = IsRounded mode (unsigned_abs v.top) (v.bottom * 10 ^ suc k) size

@@ -1,4 +1,4 @@
--- A word on the answers of `fit`.
+-- Words on the answers of `fit`.
 use Rattle.std.specs.Prelude.{⊤, ℤ}
 use Rattle.dec_num.specs.declared.types.Fit.{Fit}
 use Rattle.dec_num.specs.declared.types.Fit.TheVariants.{Stored, TooBig}
@@ -7,3 +7,8 @@ use Rattle.dec_num.specs.declared.types.Fit.TheVariants.{Stored, TooBig}
 abbrev pub IfStored : Fit → (ℤ → Type 0) → Type 0
 IfStored (Stored z) P = P z
 IfStored TooBig P = ⊤
+
+-- P of the stored number, or Q
+abbrev pub MatchFit : Fit → (ℤ → Type 0) → Type 0 → Type 0
+MatchFit (Stored z) P Q = P z
+MatchFit TooBig P Q = Q

@@ -3,6 +3,7 @@ use Rattle.std.specs.Prelude.{ℕ, ◌+◌, ◌-◌, ◌^◌, ◌<◌, ◌≤◌
 use Rattle.dec_num.specs.declared.types.Scaled.{Scaled}
 use Rattle.dec_num.specs.Exact.{Fraction}
 
+-- units / 10 ^ scale
 abbrev pub value_of : Scaled → Fraction
 value_of a = record { top = a.units; bottom = 10 ^ a.scale }
 

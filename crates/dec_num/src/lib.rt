@@ -17,3 +17,6 @@ pub use quotient::quot;
 pub use scaled::{add, align, mul, sub};
 pub use tens::pow10;
 pub use types::{Fit, Mode, Quot, Scaled};
+
+#[cfg(test)]
+mod tests;

@@ -7,11 +7,11 @@ use super::rounding::{finished, signed};
 use super::tens::ten;
 use super::types::{Mode, Quot};
 
-// The digits before the point of a quotient that fit: a quotient is below 10^37.
+// A quotient has at most so many digits.
 const DIGITS: u32 = 37;
 
 // n * 10^up / d by long division, several digits at a time where d is short, if it is below 10^37
-#[tactic(auto, using(crate::proofs::LongDivision::digits_more, crate::proofs::LongDivision::digits_below, crate::proofs::Powers::ten_monotone))]
+#[tactic(auto, using(crate::proofs::LongDivision::widening))]
 fn widened(n: u128, d: u128, up: u32, mode: Mode) -> Option<u128>
     requires n { n < 10 ^ 37 }
     requires d { (0 < d) × (d < 10 ^ 37) }
@@ -43,7 +43,7 @@ fn widened(n: u128, d: u128, up: u32, mode: Mode) -> Option<u128>
 }
 
 // n / (d * 10^down)
-#[tactic(auto, using(crate::proofs::LongDivision::narrowed_cut, crate::proofs::LongDivision::narrowed_nearest, crate::proofs::Near::rounded_below, crate::proofs::Powers::ten_positive, crate::proofs::Powers::ten_monotone))]
+#[tactic(auto, using(crate::proofs::LongDivision::narrowing))]
 fn narrowed(n: u128, d: u128, down: u32, mode: Mode) -> u128
     requires n { n < 10 ^ 37 }
     requires d { (0 < d) × (d < 10 ^ 37) }
@@ -70,14 +70,19 @@ fn ratio_top(n: i128, d: i128) -> i128
 }
 
 /// `n * 10^up / d` as a whole number, cut or rounded.
-#[tactic(auto, using(crate::proofs::Near::abs_with_sign))]
+#[tactic(auto, using(crate::proofs::Near::quotients))]
 pub fn quot(n: i128, d: i128, up: i32, mode: Mode) -> Quot
     requires n { unsigned_abs n < 10 ^ 37 }
     requires d { unsigned_abs d < 10 ^ 37 }
     requires up { (neg_ℤ (pos 37) ≤ℤ up) × (up ≤ℤ pos 55) }
     ensures zero_divisor { (result ≡ Quot.ZeroDivisor) ↔ (d ≡ pos 0) }
-    ensures over { (result ≡ Quot.Over) ↔ ((d ≢ pos 0) × (10 ^ 37 ≤ unsigned_abs (near mode (ratio_of n d) up))) }
-    ensures is { IfIs result (λ q. (d ≢ pos 0) × (q ≡ near mode (ratio_of n d) up) × (unsigned_abs q < 10 ^ 37)) }
+    ensures over { (result ≡ Quot.Over)
+        ↔ ((d ≢ pos 0) × (10 ^ 37 ≤ unsigned_abs (near mode (ratio_of n d) up))) }
+    ensures is { IfIs result (λ q.
+        (d ≢ pos 0) × (q ≡ near mode (ratio_of n d) up) × (unsigned_abs q < 10 ^ 37)) }
+
+    // what `near` is, as inequalities
+    ensures nearest { IfIs result (λ q. IsNearSize mode (ratio_of n d) up (unsigned_abs q)) }
 {
     if d == 0 {
         return Quot::ZeroDivisor;

@@ -13,7 +13,7 @@ fn scaled(units: i128, scale: u32) -> Scaled
 }
 
 /// The same number at a greater or equal scale.
-#[tactic(auto, using(crate::proofs::Exactness::align_is_exact, crate::proofs::Exactness::CanAlign_power))]
+#[tactic(auto, using(crate::proofs::Exactness::aligning))]
 pub fn align(a: Scaled, scale: u32) -> Scaled
     requires { CanAlign a scale }
     ensures scale { result.scale ≡ scale }
@@ -27,12 +27,14 @@ pub fn align(a: Scaled, scale: u32) -> Scaled
 }
 
 /// The sum, at the greater of the two scales.
-#[tactic(auto, using(crate::proofs::Exactness::add_is_exact))]
+#[tactic(auto, using(crate::proofs::Exactness::adding))]
 pub fn add(a: Scaled, b: Scaled) -> Scaled
     requires { CanAdd a b }
     ensures scale { result.scale ≡ joint_scale a b }
     ensures units { result.units ≡ units_at a (joint_scale a b) +ℤ units_at b (joint_scale a b) }
     ensures value { IsSameNumber (value_of result) (sum_of (value_of a) (value_of b)) }
+    ensures one_scale { a.scale ≡ b.scale →
+        (result.scale ≡ a.scale) × (result.units ≡ a.units +ℤ b.units) }
 {
     let scale = a.scale.max(b.scale);
     let left = align(a, scale);
@@ -41,12 +43,14 @@ pub fn add(a: Scaled, b: Scaled) -> Scaled
 }
 
 /// The difference `a - b`, at the greater of the two scales.
-#[tactic(auto, using(crate::proofs::Exactness::sub_is_exact))]
+#[tactic(auto, using(crate::proofs::Exactness::subtracting))]
 pub fn sub(a: Scaled, b: Scaled) -> Scaled
     requires { CanSubtract a b }
     ensures scale { result.scale ≡ joint_scale a b }
     ensures units { result.units ≡ units_at a (joint_scale a b) -ℤ units_at b (joint_scale a b) }
     ensures value { IsSameNumber (value_of result) (difference_of (value_of a) (value_of b)) }
+    ensures one_scale { a.scale ≡ b.scale →
+        (result.scale ≡ a.scale) × (result.units ≡ a.units -ℤ b.units) }
 {
     let scale = a.scale.max(b.scale);
     let left = align(a, scale);
