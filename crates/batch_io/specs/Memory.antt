@@ -12,6 +12,7 @@ use Rattle.batch_io.specs.declared.memory.MemFiles.{MemFiles}
 use Rattle.batch_io.specs.declared.memory.MemSink.{MemSink}
 use Rattle.batch_io.specs.FilesState.{FilesState, Contents, Told, Handle, Purpose, Reading, Writing, known_bytes, rest_of, moved_by}
 use Rattle.batch_io.specs.SinkState.{SinkState}
+use Rattle.batch_io.specs.Failing.{StartsCalls}
 use Rattle.batch_io.specs.Slots.{slot_at}
 
 abbrev pub File : Type 0
@@ -73,8 +74,7 @@ pub record StartsFiles (files : List File) (failing : List ℕ) (result : MemFil
   pub purpose : (id : ℕ) → (mem_files result).purpose id ≡ None
   pub reading : (mem_files result).reading ≡ 0
   pub writing : (mem_files result).writing ≡ 0
-  pub listed : (files_calls result).listed.items ≡ failing
-  pub made : (files_calls result).made ≡ 0
+  pub calls : StartsCalls failing (files_calls result)
 
 abbrev pub mem_sink : MemSink → SinkState
 mem_sink m = record { told = Some m.text.items; faults = m.faults }
@@ -86,5 +86,4 @@ sink_calls m = m.calls
 pub record StartsSink (failing : List ℕ) (result : MemSink) : Type 0 where
   pub told : (mem_sink result).told ≡ Some []
   pub faults : (mem_sink result).faults ≡ 0
-  pub listed : (sink_calls result).listed.items ≡ failing
-  pub made : (sink_calls result).made ≡ 0
+  pub calls : StartsCalls failing (sink_calls result)

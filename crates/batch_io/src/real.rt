@@ -1,7 +1,7 @@
 //! Files of the system and its standard output. These tell nothing of what they hold.
 ghost use Rattle.std.specs.Prelude.{◌≡◌, ◌≤◌, ℕ, length, Some, IfOk, MatchResult};
 ghost use Rattle.batch_io.specs.FilesState.{Reading, Writing};
-ghost use Rattle.batch_io.specs.Real.{purpose_at, untold_files, untold_sink, KeepsPurposes};
+ghost use Rattle.batch_io.specs.Real.{purpose_at, KeepsPurposes};
 
 use crate::ends::{Failed, MakeEnd, OpenEnd};
 use crate::outside::{Files, Sink};
@@ -66,8 +66,12 @@ fn write_slot<F: Write>(
 }
 
 impl<R: rt::Files> RealFiles<R> {
-    /// No file open so far.
-    pub fn new(rt: R, alloc: Global) -> RealFiles<R> {
+    ghost use Rattle.batch_io.specs.Real.{real_files, StartsUntold};
+
+    /// The files that `rt` reaches, none of them open.
+    pub fn new(rt: R, alloc: Global) -> RealFiles<R>
+        ensures { StartsUntold (real_files result) }
+    {
         RealFiles {
             rt,
             slots: Vec::new(alloc),
@@ -78,7 +82,9 @@ impl<R: rt::Files> RealFiles<R> {
 }
 
 impl<R: rt::Files> Files for RealFiles<R> {
-    ghost state = { λ real. untold_files real.slots.items real.reading real.writing };
+    ghost use Rattle.batch_io.specs.Real.{real_files};
+
+    ghost state = { real_files };
 
     fn open(&mut self, name: &str) -> Result<u32, OpenEnd> {
         match fs::open(&self.rt, name) {
@@ -128,13 +134,22 @@ impl<R: rt::Files> Files for RealFiles<R> {
 }
 
 impl<R: Print> StdSink<R> {
-    pub fn new(rt: R) -> StdSink<R> {
+    ghost use Rattle.std.specs.Prelude.{None};
+    ghost use Rattle.batch_io.specs.Real.{std_sink};
+
+    /// The standard output of `rt`.
+    pub fn new(rt: R) -> StdSink<R>
+        ensures told { (std_sink result).told ≡ None }
+        ensures faults { (std_sink result).faults ≡ 0 }
+    {
         StdSink { rt, faults: 0 }
     }
 }
 
 impl<R: Print> Sink for StdSink<R> {
-    ghost state = { λ sink. untold_sink sink.faults };
+    ghost use Rattle.batch_io.specs.Real.{std_sink};
+
+    ghost state = { std_sink };
 
     fn write(&mut self, piece: &[u8]) -> Result<usize, MakeEnd> {
         match self.rt.write_some(piece) {
