@@ -15,3 +15,6 @@ pub use memory::{MemFiles, MemSink};
 pub use outside::{Files, Sink};
 pub use real::{RealFiles, StdSink};
 pub use whole::{read_file, read_whole, show_whole};
+
+#[cfg(test)]
+mod tests;
