@@ -1,16 +1,15 @@
 -- Ids that are open in memory, and what a read does to them.
-use Rattle.std.proofs.Common.{◌≡◌, ◌≢◌, ℕ, zero, suc, ◌+◌, ◌<◌, ◌≤◌, Bool, false, List, [], ◌∷◌, ◌++◌, None, Some, Option, Ok, IsSome, inl, inr, refl, sym, ap, ◌∙◌, length, get_or, set, take, drop, length-take, subst, arith}
+use Rattle.std.proofs.Common.{◌≡◌, ℕ, zero, suc, ◌<◌, List, [], ◌∷◌, ◌++◌, None, Some, Option, Ok, inl, inr, refl, sym, ap, ◌∙◌, length, get_or, set, take, drop, length-take, arith}
 use Rattle.std.specs.Prelude.{option_map}
 use Rattle.std.proofs.lemmas.Bool.{cases_eq}
 use Rattle.std.proofs.lemmas.List.{drop-drop, get_or-set_same, get_or-set_other, take-append-drop}
-use Rattle.std.proofs.lemmas.Option.{same_Some}
 use Rattle.batch_io.specs.declared.memory.Reader.{Reader}
 use Rattle.batch_io.specs.declared.memory.Opened.{Opened}
 use Rattle.batch_io.specs.declared.memory.Opened.TheVariants as opened
-use Rattle.batch_io.specs.FilesState.{FilesState, Contents, Told, Handle, Purpose, Reading, Gives, known_rest, known_handle, rest_of, moved_by, bytes_at}
+use Rattle.batch_io.specs.FilesState.{FilesState, Contents, Handle, Purpose, Reading, Gives, rest_of, moved_by, bytes_at}
 use Rattle.batch_io.specs.FilesCalls.{Reads}
 use Rattle.batch_io.specs.Slots.{slot_at}
-use Rattle.batch_io.specs.Memory.{purpose_of, handle_of, handle_of_reader, ReadsOn, ReadsSlot}
+use Rattle.batch_io.specs.Memory.{purpose_of, handle_of, ReadsOn, ReadsSlot}
 use Rattle.batch_io.proofs.WholeLemmas.{kept_count}
 
 -- an id in use has a slot

@@ -1,16 +1,14 @@
 -- What the objects in memory mean. They tell everything.
-use Rattle.std.specs.Prelude.{◌≡◌, ◌≢◌, ◌≤◌, ℕ, List, [], length, take, map, get_or, bytes_eq, position, string_bytes, option_map, option_and_then, Option, None, Some, Vec, String}
+use Rattle.std.specs.Prelude.{◌≡◌, ◌≢◌, ◌≤◌, ℕ, List, [], length, take, map, bytes_eq, position, string_bytes, option_map, Option, None, Some, Vec, String}
 use Rattle.std.specs.declared.alloc.Global.{Global}
-use Rattle.std.specs.Ordering.{nat_cmp}
-use Rattle.std.specs.Cmp.Lexicographic.{slice_cmp}
-use Rattle.std.specs.FinMap.{FinMap, from_entries}
+use Rattle.std.specs.FinMap.{from_entries}
 use Rattle.batch_io.specs.declared.failing.FailingCalls.{FailingCalls}
 use Rattle.batch_io.specs.declared.memory.Reader.{Reader}
 use Rattle.batch_io.specs.declared.memory.Opened.{Opened}
 use Rattle.batch_io.specs.declared.memory.Opened.TheVariants as opened
 use Rattle.batch_io.specs.declared.memory.MemFiles.{MemFiles}
 use Rattle.batch_io.specs.declared.memory.MemSink.{MemSink}
-use Rattle.batch_io.specs.FilesState.{FilesState, Contents, Told, Handle, Purpose, Reading, Writing, known_bytes, rest_of, moved_by}
+use Rattle.batch_io.specs.FilesState.{FilesState, Contents, Handle, Purpose, Reading, Writing, known_bytes, rest_of, moved_by}
 use Rattle.batch_io.specs.SinkState.{SinkState}
 use Rattle.batch_io.specs.Failing.{StartsCalls}
 use Rattle.batch_io.specs.Slots.{slot_at}

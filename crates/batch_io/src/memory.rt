@@ -78,8 +78,9 @@ fn append(
     name: &str,
     piece: &[u8],
 ) -> Result<(), AllocError>
-    ensures ok { OnOk result (contents_of files.new.items
-        ≡ insert (contents_of files.old.items) name.now (bytes_at (contents_of files.old.items) name.now ++ piece.now)) }
+    ensures ok { let contents = contents_of files.old.items in
+        OnOk result (contents_of files.new.items
+        ≡ insert contents name.now (bytes_at contents name.now ++ piece.now)) }
     ensures err { OnErr result (contents_of files.new.items ≡ contents_of files.old.items) }
 {
     match place(files, name) {
@@ -92,7 +93,7 @@ fn append(
     Ok(())
 }
 
-// Copies the bytes that stand from `place` on to the front of `buf`, as many as fit, and says how many.
+// Copies the bytes from `place` on to the front of `buf`, as many as fit, and says how many.
 fn copy_from(bytes: &[u8], place: usize, buf: &mut [u8]) -> usize
     ensures count { result ≡ min (length bytes.now - place) (length buf.old) }
     ensures front { take result buf.new ≡ take result (drop place bytes.now) }

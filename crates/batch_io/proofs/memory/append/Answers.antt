@@ -1,4 +1,4 @@
-use Rattle.std.proofs.Common.{◌≡◌, ◌∙◌, ◌++◌, ◌∷◌, [], sym, ap}
+use Rattle.std.proofs.Common.{◌∙◌, ◌++◌, sym, ap}
 use Rattle.std.specs.FinMap.{insert}
 use Rattle.std.proofs.lemmas.Result.{err_from_is_err_and}
 use Rattle.batch_io.specs.Memory.{contents_of}

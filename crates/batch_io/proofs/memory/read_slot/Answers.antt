@@ -1,4 +1,4 @@
-use Rattle.std.proofs.Common.{◌≡◌, ◌∙◌, Some, ap}
+use Rattle.std.proofs.Common.{◌∙◌, Some, ap}
 use Rattle.batch_io.specs.Memory.{contents_of}
 use Rattle.batch_io.proofs.SlotLemmas.{reads_slot}
 use Rattle.batch_io.proofs.memory.read_slot.Goals as goal
