@@ -1,7 +1,7 @@
 -- Lists of entries, the first of a name before later ones, against the finite map that they make.
-use Rattle.std.proofs.Common.{◌≡◌, ◌≢◌, ℕ, zero, suc, ◌+◌, ◌<◌, ◌≤◌, Bool, true, false, not, cond, List, [], ◌∷◌, ◌++◌, None, Some, Option, refl, sym, ap, ◌∙◌, length, get_or, set, subst, arith}
-use Rattle.std.specs.Prelude.{map, position, bytes_eq, nat_lt}
-use Rattle.std.specs.List.{prefix_len, position_or_len}
+use Rattle.std.proofs.Common.{◌≡◌, ℕ, zero, suc, ◌<◌, ◌≤◌, Bool, true, false, not, cond, List, [], ◌∷◌, ◌++◌, None, Some, Option, refl, sym, ap, ◌∙◌, length, get_or, set, arith}
+use Rattle.std.specs.Prelude.{position, bytes_eq}
+use Rattle.std.specs.List.{position_or_len}
 use Rattle.std.specs.Cmp.Lexicographic.{slice_cmp}
 use Rattle.std.proofs.lemmas.Cmp.{nat_list_cmp_total}
 use Rattle.std.proofs.lemmas.Slice.Eq.{bytes_eq-Decides}
@@ -85,10 +85,10 @@ found-set name bytes q (e ∷ es) zero within here apart =
 found-set name bytes q (e ∷ es) (suc i) within here apart =
     ap (cond (is_name q e.0) (Some e.1)) (found-set name bytes q es i (omega arith) here (λ k h. apart (suc k) (omega arith)))
     ∙ swapped (is_name q e.0) (is_name q name) (Some e.1) (Some bytes) (found q es) (λ one other.
-        let same : name ≡ e.0 = sym (same_name q name other) ∙ same_name q e.0 one in
-        let yes = is_same name e.0 same in
-        let no = apart 0 (omega arith) in
-        cc)
+    let same : name ≡ e.0 = sym (same_name q name other) ∙ same_name q e.0 one in
+    let yes = is_same name e.0 same in
+    let no = apart 0 (omega arith) in
+    cc)
 
 same_contents : (m n : Contents) → ((q : List ℕ) → get m q ≡ get n q) → m ≡ n
 same_contents m n same = same_map nat_list_cmp_total (slice_cmp-IsAntisymmetric nat_cmp-IsAntisymmetric) m n same

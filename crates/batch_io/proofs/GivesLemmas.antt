@@ -1,7 +1,7 @@
 -- What an id gives in several reads, one after the other.
-use Rattle.std.proofs.Common.{◌≡◌, ℕ, ◌+◌, List, [], ◌++◌, None, Some, Option, IsSome, refl, sym, ap, ◌∙◌, length, length-append, add-zero, add_assoc, subst, arith}
+use Rattle.std.proofs.Common.{◌≡◌, ℕ, ◌+◌, List, [], ◌++◌, None, Some, Option, IsSome, refl, sym, ap, ◌∙◌, length, length-append, subst, arith}
 use Rattle.std.specs.Option.{option_map}
-use Rattle.batch_io.specs.FilesState.{FilesState, Handle, Gives, known_bytes, known_handle, known_rest, moved_by}
+use Rattle.batch_io.specs.FilesState.{FilesState, Handle, Gives, known_handle, known_rest, moved_by}
 use Rattle.batch_io.proofs.KnownLemmas.{prepend_known-nil, prepend_known-append}
 use Rattle.std.specs.Io.KnownBytes.{prepend_known}
 

@@ -3,3 +3,4 @@ pub mod KnownLemmas
 pub mod WholeLemmas
 pub mod EntriesLemmas
 pub mod MemoryLemmas
+pub mod SlotLemmas

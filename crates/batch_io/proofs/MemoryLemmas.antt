@@ -1,5 +1,5 @@
 -- The files in memory, against the contents that they tell.
-use Rattle.std.proofs.Common.{◌≡◌, ◌≢◌, ℕ, zero, suc, ◌+◌, ◌<◌, Bool, true, false, not, cond, List, [], ◌∷◌, ◌++◌, None, Some, Option, refl, sym, ap, ◌∙◌, length, get_or, set, subst, arith, Vec, Global}
+use Rattle.std.proofs.Common.{◌≡◌, ℕ, suc, ◌+◌, ◌<◌, Bool, not, cond, List, [], ◌∷◌, ◌++◌, None, Some, Option, refl, sym, ap, ◌∙◌, length, get_or, set, arith, Vec, Global}
 use Rattle.std.specs.Prelude.{map, position, bytes_eq, nat_lt, unwrap_or, string_bytes}
 use Rattle.std.specs.List.{prefix_len, position_or_len}
 use Rattle.std.proofs.lemmas.List.{map-set, map-append, get_or-map}

@@ -1,10 +1,9 @@
 -- How reading a file whole and showing a text whole end.
-use Rattle.std.proofs.Common.{◌≡◌, ℕ, ◌+◌, ◌-◌, ◌<◌, ◌≤◌, List, [], ◌++◌, false, Result, Ok, Err, IsTrue, refl, sym, ap, ◌∙◌, length, take, drop, length-append, length-take, length-drop, Vec, Global, subst, arith}
+use Rattle.std.proofs.Common.{◌≡◌, ℕ, ◌+◌, ◌-◌, ◌<◌, ◌≤◌, List, ◌++◌, false, Ok, Err, refl, sym, ap, ◌∙◌, length, take, drop, length-append, length-take, length-drop, arith}
 use Rattle.std.proofs.lemmas.List.{take_rest}
 use Rattle.std.proofs.Math.Seq.{take-add}
 use Rattle.std.specs.Prelude.{Option}
 use Rattle.std.specs.Io.KnownBytes.{append_known}
-use Rattle.batch_io.specs.declared.ends.ReadEnd.{ReadEnd}
 use Rattle.batch_io.specs.declared.ends.ReadEnd.TheVariants.{Long, Memory}
 use Rattle.batch_io.specs.Faults.{Counts}
 use Rattle.batch_io.specs.FilesState.{FilesState, Gives}

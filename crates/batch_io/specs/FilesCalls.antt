@@ -1,12 +1,12 @@
 -- What each call of a file object does to its state.
-use Rattle.std.specs.Prelude.{◌≡◌, ℕ, ◌<◌, ◌≤◌, ◌⊎◌, List, [], ◌++◌, take, length, option_map, Option, None, Some, IsSome, IfSome, Result, Ok, Err, is_err, IfOk, OnOk, OnErr, MatchResult}
+use Rattle.std.specs.Prelude.{◌≡◌, ℕ, ◌<◌, ◌≤◌, ◌⊎◌, List, [], ◌++◌, take, length, option_map, None, Some, IsSome, IfSome, Result, Ok, Err, is_err, IfOk, OnOk, OnErr, MatchResult}
 use Rattle.std.specs.FinMap.{get, insert}
 use Rattle.batch_io.specs.declared.ends.Failed.{Failed}
 use Rattle.batch_io.specs.declared.ends.OpenEnd.{OpenEnd}
 use Rattle.batch_io.specs.declared.ends.MakeEnd.{MakeEnd}
 use Rattle.batch_io.specs.declared.ends.OpenEnd.TheVariants.{Absent}
 use Rattle.batch_io.specs.Faults.{Counts, open_failed, make_failed}
-use Rattle.batch_io.specs.FilesState.{Contents, FilesState, Told, Handle, Purpose, Reading, Writing, known_bytes, known_handle, known_rest, bytes_at, KeepsIds, KeepsOthers, Gives}
+use Rattle.batch_io.specs.FilesState.{Contents, FilesState, Told, Purpose, Reading, Writing, known_bytes, known_handle, known_rest, bytes_at, KeepsIds, KeepsOthers, Gives}
 
 -- the call opened this id, which was not open, for the name at its first byte
 pub record OpensId (old new : FilesState) (id : ℕ) (name : List ℕ) (purpose : Purpose) : Type 0 where

@@ -7,3 +7,4 @@ pub mod Wholes
 pub mod Slots
 pub mod Failing
 pub mod Memory
+pub mod Real

@@ -1,6 +1,6 @@
 //! Calls by number, some of which are to fail.
 
-/// Which calls of an object are to fail, and how many calls there were.
+// Which calls of an object are to fail, and how many calls there were.
 #[derive(Drop)]
 pub struct FailingCalls {
     listed: Vec<u64>,
@@ -8,13 +8,11 @@ pub struct FailingCalls {
 }
 
 impl FailingCalls {
-    ghost use Rattle.std.specs.Prelude.{◌≡◌};
-    ghost use Rattle.batch_io.specs.Failing.{NumbersCall};
+    ghost use Rattle.batch_io.specs.Failing.{NumbersCall, StartsCalls};
 
     // The calls of these numbers are to fail. The first call has the number 1.
     pub fn new(listed: Vec<u64>) -> FailingCalls
-        ensures listed { result.listed.items ≡ listed.items }
-        ensures made { result.made ≡ 0 }
+        ensures { StartsCalls listed.items result }
     {
         FailingCalls { listed, made: 0 }
     }

@@ -6,10 +6,15 @@ mod ends;
 mod failing;
 mod memory;
 mod outside;
+mod real;
 mod slots;
 mod whole;
 
 pub use ends::{Failed, FileEnd, MakeEnd, OpenEnd, ReadEnd};
 pub use memory::{MemFiles, MemSink};
 pub use outside::{Files, Sink};
+pub use real::{RealFiles, StdSink};
 pub use whole::{read_file, read_whole, show_whole};
+
+#[cfg(test)]
+mod tests;

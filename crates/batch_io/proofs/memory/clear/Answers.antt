@@ -1,4 +1,4 @@
-use Rattle.std.proofs.Common.{◌≡◌, ◌∙◌, ◌++◌, ◌∷◌, [], sym, ap}
+use Rattle.std.proofs.Common.{◌∙◌, sym, ap}
 use Rattle.std.specs.FinMap.{insert}
 use Rattle.batch_io.specs.Memory.{contents_of}
 use Rattle.batch_io.proofs.MemoryLemmas.{files-set, files-push}

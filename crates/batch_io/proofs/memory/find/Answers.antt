@@ -1,4 +1,4 @@
-use Rattle.std.proofs.Common.{◌≡◌, ◌∙◌, sym, ap, Some, rules}
+use Rattle.std.proofs.Common.{◌∙◌, sym, ap, Some}
 use Rattle.batch_io.proofs.MemoryLemmas.{find-absent, find-present}
 use Rattle.batch_io.proofs.memory.find.Goals as goal
 

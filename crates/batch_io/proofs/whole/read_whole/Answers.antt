@@ -1,4 +1,4 @@
-use Rattle.std.proofs.Common.{◌≤◌, ◌<◌, ◌≡◌, ◌+◌, ◌-◌, length, length-take, arith}
+use Rattle.std.proofs.Common.{length-take, arith}
 use Rattle.std.proofs.lemmas.Result.{err_from_is_err_and}
 use Rattle.batch_io.proofs.WholeLemmas.{reads_long, reads_unkept}
 use Rattle.batch_io.proofs.whole.read_whole.Goals as goal

@@ -1,0 +1,125 @@
+use crate::{
+    Failed, FileEnd, Files, MakeEnd, MemFiles, MemSink, OpenEnd, RealFiles, Sink, StdSink,
+    read_file, read_whole, show_whole,
+};
+use std::alloc::{AllocError, Global};
+use std::test::Fail;
+use std::{fs, process};
+
+// A file A of five bytes. The calls of these numbers fail.
+fn one_file(alloc: Global, failing: &[u64]) -> Result<MemFiles, AllocError> {
+    let mut files = Vec::new(alloc);
+    files.push((
+        String::from_str(alloc, "A")?,
+        Vec::from_slice(alloc, b"hello")?,
+    ))?;
+    Ok(MemFiles::new(alloc, files, Vec::from_slice(alloc, failing)?))
+}
+
+// Makes a file of one piece, in three calls.
+fn put_piece<F: Files>(files: &mut F, name: &str, piece: &[u8]) -> Result<usize, MakeEnd> {
+    let id = files.create(name)?;
+    let written = files.write(id, piece);
+    let closed = files.close(id);
+    match (written, closed) {
+        (written, Ok(())) => written,
+        (_, Err(Failed)) => Err(MakeEnd::Failed),
+    }
+}
+
+#[test]
+fn reads_a_file_by_its_name(rt: HostRuntime) -> Result<(), Fail> {
+    let alloc = rt.alloc();
+    // The name, the limit, the call that fails, and how it ends.
+    const CASES: [(&str, usize, u64, Option<FileEnd>); 9] = [
+        ("A", 9, 0, None),
+        ("A", 5, 0, None),
+        ("A", 4, 0, Some(FileEnd::Long)),
+        ("B", 9, 0, Some(FileEnd::Absent)),
+        ("A", 9, 1, Some(FileEnd::Failed)),
+        ("A", 9, 2, Some(FileEnd::Failed)),
+        ("A", 9, 3, Some(FileEnd::Failed)),
+        ("A", 9, 4, Some(FileEnd::Failed)),
+        ("A", 9, 5, None),
+    ];
+    for (name, limit, failing, end) in CASES {
+        let mut files = one_file(alloc, &[failing])?;
+        let read = read_file(alloc, &mut files, name, limit);
+        assert_eq!(rt; read.err(), end, "{name} to {limit}, call {failing} fails");
+    }
+    let read = read_file(alloc, &mut one_file(alloc, &[])?, "A", 9)?;
+    assert_eq!(rt; read.as_slice(), b"hello".as_slice());
+    Ok(())
+}
+
+#[test]
+fn makes_a_file(rt: HostRuntime) -> Result<(), Fail> {
+    let alloc = rt.alloc();
+    // The call that fails, and how it ends.
+    const CASES: [(u64, Option<MakeEnd>); 5] = [
+        (0, None),
+        (1, Some(MakeEnd::Failed)),
+        (2, Some(MakeEnd::Failed)),
+        (3, Some(MakeEnd::Failed)),
+        (4, None),
+    ];
+    for (failing, end) in CASES {
+        let mut files = one_file(alloc, &[failing])?;
+        assert_eq!(rt;
+            put_piece(&mut files, "B", b"text").err(),
+            end,
+            "call {failing} fails"
+        );
+    }
+    let mut files = one_file(alloc, &[])?;
+    assert_eq!(rt; put_piece(&mut files, "A", b"hi")?, 2);
+    assert_eq!(rt; files.bytes("A") == Some(b"hi".as_slice()), true);
+    assert_eq!(rt; files.bytes("B").is_none(), true);
+    Ok(())
+}
+
+#[test]
+fn reads_on_from_the_place(rt: HostRuntime) -> Result<(), Fail> {
+    let alloc = rt.alloc();
+    let mut files = one_file(alloc, &[])?;
+    assert_eq!(rt; files.open("B").err(), Some(OpenEnd::Absent));
+    let id = files.open("A")?;
+    let mut buf = [0u8; 2];
+    assert_eq!(rt; files.read(id, &mut buf)?, 2);
+    assert_eq!(rt; buf, *b"he");
+    let rest = read_whole(alloc, &mut files, id, 9)?;
+    assert_eq!(rt; rest.as_slice(), b"llo".as_slice());
+    files.close(id)?;
+    Ok(())
+}
+
+#[test]
+fn shows_a_text(rt: HostRuntime) -> Result<(), Fail> {
+    let alloc = rt.alloc();
+    let mut out = MemSink::new(alloc, Vec::from_slice(alloc, &[3])?);
+    show_whole(&mut out, b"one ")?;
+    assert_eq!(rt; out.write(b"two")?, 3);
+    assert_eq!(rt; show_whole(&mut out, b"three").err(), Some(MakeEnd::Failed));
+    assert_eq!(rt; out.bytes(), b"one two".as_slice());
+    Ok(())
+}
+
+#[test]
+fn reads_back_from_the_system(rt: HostRuntime) -> Result<(), Fail> {
+    let alloc = rt.alloc();
+    let path = format!(in alloc; "/tmp/batch_io_{}", process::id(rt.process()))?;
+    let mut files = RealFiles::new(&rt, alloc);
+    assert_eq!(rt; put_piece(&mut files, path.as_str(), b"hello")?, 5);
+    let read = read_file(alloc, &mut files, path.as_str(), 9)?;
+    assert_eq!(rt; read.as_slice(), b"hello".as_slice());
+    fs::remove_file(&rt, path.as_str())?;
+    let again = read_file(alloc, &mut files, path.as_str(), 9);
+    assert_eq!(rt; again.err(), Some(FileEnd::Absent));
+    Ok(())
+}
+
+#[test]
+fn shows_on_the_standard_output(rt: HostRuntime) -> Result<(), Fail> {
+    show_whole(&mut StdSink::new(&rt), b"shown\n")?;
+    Ok(())
+}
