@@ -1,5 +1,5 @@
 -- Sources of ordinary lines alone.
-use Rattle.std.specs.Prelude.{◌≡◌, ℕ, List, [], ◌∷◌, ◌++◌, None, IsTrue, IsFalse, ⊤}
+use Rattle.std.specs.Prelude.{◌≡◌, IsTrue, IsFalse, List, [], ◌∷◌, ◌++◌, None}
 use Rattle.std.specs.List.{flat_map}
 use Rattle.cob_lines.specs.declared.Mark.{Mark}
 use Rattle.cob_lines.specs.Columns.{is_ordinary, is_dropped, bad_column}
@@ -13,7 +13,7 @@ pub record IsPlain (l : Line) : Type 0 where
   pub good : bad_column l.1 ≡ None
   pub closed : open_literal (marks_from l.0 l.1 8) ≡ None
 
--- columns 8 to 72 of a line and one space
+-- columns 8 to 72 of a line, and one space
 abbrev pub plain_marks : Line → List Mark
 plain_marks l = marks_from l.0 l.1 8 ++ end_mark l.0 ∷ []
 

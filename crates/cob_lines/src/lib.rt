@@ -2,9 +2,11 @@
 //! format"): lines, comment lines and continuations become one list of characters.
 #![tactic(auto)]
 
-ghost use Rattle.std.specs.Prelude.{◌≡◌, ◌≤◌, length, IfOk, IfErr};
+ghost use Rattle.std.specs.Prelude.{◌≡◌, ◌≤◌, ℕ, List, length, Ok, IfOk, IfErr};
 ghost use Rattle.cob_lines.specs.declared.TextEnd.TheVariants.{Memory};
-ghost use Rattle.cob_lines.specs.Text.{source_text, IfBadLine};
+ghost use Rattle.std.specs.List.{All};
+ghost use Rattle.cob_lines.specs.Text.{numbered_lines, source_text, IfBadLine};
+ghost use Rattle.cob_lines.specs.Plain.{IsPlain, plain_text};
 
 mod join;
 mod line;
@@ -74,4 +76,12 @@ pub fn text_of(alloc: Global, bytes: &[u8]) -> Result<Vec<Mark>, TextEnd>
         }
         Err(TextEnd::Memory) => Err(TextEnd::Memory),
     }
+}
+
+/// A source of ordinary lines alone, none blank and none with a literal open at its end, is
+/// columns 8 to 72 of each line, followed by one space.
+#[tactic(auto, using(crate::proofs::PlainLemmas::plain_source))]
+pub fn plain_lines_stand_as_they_are()
+    ensures { (bytes : List ℕ) → All IsPlain (numbered_lines bytes) → source_text bytes ≡ Ok (plain_text (numbered_lines bytes)) }
+{
 }
