@@ -1,5 +1,5 @@
 -- A source of plain lines is these lines, one behind the other.
-use Rattle.std.proofs.Common.{◌≡◌, ℕ, ◌+◌, arith, is_some, Bool, true, false, not, cond, eqb, List, [], ◌∷◌, ◌++◌, Option, None, Some, Result, Ok, Err, refl, sym, ◌∙◌, ap, subst, append_assoc, append-nil}
+use Rattle.std.proofs.Common.{◌≡◌, ℕ, arith, is_some, Bool, true, false, not, cond, eqb, List, [], ◌∷◌, ◌++◌, Option, None, Result, Ok, refl, sym, ◌∙◌, ap, append_assoc, append-nil}
 use Rattle.std.proofs.lemmas.Bool.Decides.{nat_tests}
 use Rattle.std.proofs.lemmas.List.Sums.{fold-append, fold_push}
 use Rattle.std.proofs.lemmas.List.Elements.{recursion_from_All}
@@ -8,9 +8,9 @@ use Rattle.cob_lines.specs.declared.Mark.{Mark}
 use Rattle.cob_lines.specs.declared.literal.Quote.{Quote}
 use Rattle.cob_lines.specs.declared.literal.Quote.TheVariants.{Outside, Inside, Behind}
 use Rattle.cob_lines.specs.declared.refusal.Place.{Place}
-use Rattle.cob_lines.specs.Columns.{is_continuation, is_ordinary, indicator, is_dropped, first_nonblank, bad_column}
+use Rattle.cob_lines.specs.Columns.{is_continuation, is_ordinary, first_nonblank}
 use Rattle.cob_lines.specs.Literal.{is_quotation, opened_by, quote_after, quote_of, opening_of, open_literal}
-use Rattle.cob_lines.specs.Text.{Line, kept, closed, marks_from, end_mark, ended, with_line, with_ordinary, with_continuation, onward, joined, bad_or, first_bad, numbered_lines, refused_first, source_text}
+use Rattle.cob_lines.specs.Text.{Line, kept, closed, marks_from, end_mark, with_line, with_ordinary, with_continuation, onward, joined, bad_or, first_bad, numbered_lines, refused_first, source_text}
 use Rattle.cob_lines.specs.Plain.{IsPlain, plain_marks, plain_text}
 
 -- what opens a literal is a quotation mark

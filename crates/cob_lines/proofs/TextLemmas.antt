@@ -1,9 +1,9 @@
 -- One more line in front of the text that the definitions give.
-use Rattle.std.proofs.Common.{◌≡◌, ℕ, zero, suc, ◌+◌, ◌-◌, ◌<◌, ◌≤◌, Bool, true, false, not, cond, List, [], ◌∷◌, ◌++◌, map, length, take, get_or, reverse, Option, None, Some, Result, Ok, Err, refl, sym, ◌∙◌, ap, subst, arith}
+use Rattle.std.proofs.Common.{◌≡◌, ℕ, zero, suc, ◌+◌, ◌-◌, ◌<◌, ◌≤◌, true, false, not, cond, List, [], ◌∷◌, ◌++◌, map, length, take, get_or, reverse, Option, None, Result, Ok, Err, refl, sym, ◌∙◌, ap, subst, arith}
 use Rattle.std.proofs.lemmas.List.{append_assoc, take_all, length-take-le, get_or-reverse, length-reverse}
 use Rattle.std.proofs.lemmas.List.FromFn.{map-range_with_len_more}
-use Rattle.std.proofs.lemmas.List.Sums.{suffix_len-take_no, prefix_len_stops, suffix_len-le-length}
-use Rattle.std.specs.List.{suffix_len, prefix_len, range_with_len, enumerate_from}
+use Rattle.std.proofs.lemmas.List.Sums.{suffix_len-take_no, prefix_len_stops}
+use Rattle.std.specs.List.{suffix_len, range_with_len, enumerate_from}
 use Rattle.std.specs.Str.Lines.{lines}
 use Rattle.cob_lines.specs.declared.Mark.{Mark}
 use Rattle.cob_lines.specs.declared.TextEnd.{TextEnd}
@@ -12,7 +12,7 @@ use Rattle.cob_lines.specs.declared.refusal.Place.{Place}
 use Rattle.cob_lines.specs.declared.join.Joining.{Joining}
 use Rattle.cob_lines.specs.Columns.{byte_at, bad_column, is_dropped}
 use Rattle.cob_lines.specs.Literal.{quote_of, open_literal}
-use Rattle.cob_lines.specs.Text.{Line, kept, closed, place, mark_at, is_space, with_line, with_kept, onward, joined, bad_or, first_bad, numbered_lines, refused_first, source_text, Gives}
+use Rattle.cob_lines.specs.Text.{kept, closed, mark_at, is_space, with_line, with_kept, onward, joined, bad_or, first_bad, numbered_lines, refused_first, source_text, Gives}
 use Rattle.cob_lines.specs.Run.{IsRun, Steps, text}
 
 pub first_bad_more : (n : ℕ) (bs line : List ℕ) (rest : List (List ℕ)) → lines bs ≡ line ∷ rest → first_bad (enumerate_from n (lines bs)) ≡ bad_or n (bad_column line) (first_bad (enumerate_from (n + 1) rest))

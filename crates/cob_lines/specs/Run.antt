@@ -1,5 +1,5 @@
 -- What the joining of lines keeps beside the text, and what its steps answer.
-use Rattle.std.specs.Prelude.{◌≡◌, ℕ, ◌+◌, List, length, take, Result, Ok, Err}
+use Rattle.std.specs.Prelude.{◌≡◌, ◌+◌, List, length, take, Result, Ok, Err}
 use Rattle.std.specs.List.{suffix_len}
 use Rattle.cob_lines.specs.declared.Mark.{Mark}
 use Rattle.cob_lines.specs.declared.refusal.Place.{Place}

@@ -12,6 +12,8 @@ mod join;
 mod line;
 mod literal;
 mod refusal;
+#[cfg(test)]
+mod tests;
 
 use join::joined;
 use refusal::{Place, earlier, first_bad};
@@ -83,5 +85,4 @@ pub fn text_of(alloc: Global, bytes: &[u8]) -> Result<Vec<Mark>, TextEnd>
 #[tactic(auto, using(crate::proofs::PlainLemmas::plain_source))]
 pub fn plain_lines_stand_as_they_are()
     ensures { (bytes : List ℕ) → All IsPlain (numbered_lines bytes) → source_text bytes ≡ Ok (plain_text (numbered_lines bytes)) }
-{
-}
+{}

@@ -1,4 +1,4 @@
-use Rattle.std.proofs.Common.{◌≡◌, None, Some, Ok, Err, ap, sym, ◌∙◌}
+use Rattle.std.proofs.Common.{None, Some, Ok, Err, ap, sym, ◌∙◌}
 use Rattle.cob_lines.specs.Text.{place}
 use Rattle.cob_lines.proofs.TextLemmas.{text_is}
 use Rattle.cob_lines.proofs.text_of.Goals as goal

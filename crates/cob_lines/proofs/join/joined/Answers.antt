@@ -1,11 +1,11 @@
-use Rattle.std.proofs.Common.{◌≡◌, ◌+◌, sym, ap, subst, ◌∙◌, arith, ℕ, List, Result, length}
+use Rattle.std.proofs.Common.{◌≡◌, ◌+◌, sym, ap, subst, ◌∙◌, arith, List, Result, length}
 use Rattle.std.proofs.lemmas.Bool.Decides.{nat_tests}
 use Rattle.std.proofs.lemmas.Result.{err_from_is_err_and}
 use Rattle.std.specs.List.{enumerate_from}
 use Rattle.std.specs.Str.Lines.{lines}
 use Rattle.cob_lines.specs.declared.Mark.{Mark}
 use Rattle.cob_lines.specs.declared.refusal.Place.{Place}
-use Rattle.cob_lines.specs.Text.{kept, joined, onward, with_kept, numbered_lines, Gives}
+use Rattle.cob_lines.specs.Text.{kept, joined, onward, Gives}
 use Rattle.cob_lines.specs.Run.{text}
 use Rattle.cob_lines.proofs.TextLemmas.{joined_more, joined_end, refused_gives}
 use Rattle.cob_lines.proofs.join.joined.Goals as goal

@@ -1,4 +1,4 @@
-use Rattle.std.proofs.Common.{◌≡◌, sym, ap, ◌∙◌, ◌++◌, ◌-◌, ℕ, map, arith}
+use Rattle.std.proofs.Common.{◌≡◌, ap, ◌∙◌, ◌++◌, ◌-◌, ℕ, map, arith}
 use Rattle.std.specs.List.{range_with_len}
 use Rattle.cob_lines.specs.Text.{mark_at}
 use Rattle.cob_lines.specs.Run.{text}
