@@ -37,6 +37,7 @@ impl Joining {
         }
     }
 
+    #[inline(always)]
     fn push(&mut self, mark: Mark) -> Result<(), AllocError>
         requires { IsRun self.old }
         ensures marks { OnOk result (text self.new ≡ text self.old ++ mark ∷ []) }

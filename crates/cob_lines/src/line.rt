@@ -45,6 +45,7 @@ pub fn columns(line: &[u8], from: usize, to: usize) -> &[u8]
 }
 
 /// The byte in a column; past the line's end a space.
+#[inline(always)]
 pub fn byte_at(line: &[u8], column: usize) -> u8
     requires { 0 < column }
     ensures { result ≡ byte_at line.now column }

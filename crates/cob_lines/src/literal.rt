@@ -14,12 +14,14 @@ pub enum Quote {
     Behind(Mark),
 }
 
+#[inline(always)]
 fn is_quotation(ch: u8) -> bool
     ensures { result ≡ is_quotation ch }
 {
     ch == b'"' || ch == b'\''
 }
 
+#[inline(always)]
 fn opened_by(mark: Mark) -> Quote
     ensures { result ≡ opened_by mark }
 {
@@ -32,6 +34,7 @@ fn opened_by(mark: Mark) -> Quote
 
 impl Quote {
     /// Where the text stands behind one more character.
+    #[inline(always)]
     pub fn after(self, mark: Mark) -> Quote
         ensures { result ≡ quote_after self mark }
     {

@@ -40,7 +40,7 @@ fn ends(alloc: Global, text: &[Mark]) -> Result<Vec<(u32, u32)>, AllocError> {
 
 #[test]
 fn sentences_of_the_reference_format(rt: HostRuntime) -> Result<(), Fail> {
-    const CASES: [(&[u8], Want); 38] = [
+    const CASES: [(&[u8], Want); 41] = [
         // a line ends in LF, and counts as filled with spaces
         (
             b"       MOVE 1 TO A.\n",
@@ -62,7 +62,7 @@ fn sentences_of_the_reference_format(rt: HostRuntime) -> Result<(), Fail> {
         (b"", Text(&[], &[])),
         // columns 1 to 6 and from 73 are ignored
         (
-            b"000100 MOVE X TO Y.                                                      IDENT001\n",
+            b"000100 MOVE X TO Y.                                                     IDENT0",
             Text(&[(b"MOVE X TO Y.", 66)], &[(1, 8), (1, 73)]),
         ),
         // any byte but a tab may stand there
@@ -76,9 +76,9 @@ fn sentences_of_the_reference_format(rt: HostRuntime) -> Result<(), Fail> {
                 &[(1, 8), (1, 73)],
             ),
         ),
-        // a text area that is full
+        // a text area that is full, and a CR behind it
         (
-            b"       ABBBBBBBBBBBBBBBBBBBBBBBBBBBBBBBBBBBBBBBBBBBBBBBBBBBBBBBBBBBBBBBBC\n",
+            b"       ABBBBBBBBBBBBBBBBBBBBBBBBBBBBBBBBBBBBBBBBBBBBBBBBBBBBBBBBBBBBBBBB\r",
             Text(
                 &[(
                     b"ABBBBBBBBBBBBBBBBBBBBBBBBBBBBBBBBBBBBBBBBBBBBBBBBBBBBBBBBBBBBBBBB",
@@ -100,6 +100,13 @@ fn sentences_of_the_reference_format(rt: HostRuntime) -> Result<(), Fail> {
         (b"      \tA\n", Bad(1, 7)),
         // a tab in the text area
         (b"       A\tB\n", Bad(1, 9)),
+        // a zero byte there
+        (b"\n       MOVE 1\x00 TO A.\n      D'debug\n", Bad(2, 14)),
+        // a CR there
+        (
+            b"  B   * comment\n\n       ABBBBBBBBBBBBBBBBBBBBB\rBBBBBBBBBBBBBBBBBBBBBBBBBBBBBBBBBBBBBBBBB\n",
+            Bad(3, 30),
+        ),
         // a byte above 126 in the text area
         (b"       A\x7f\n", Bad(1, 9)),
         // a blank line and a comment are dropped
@@ -112,11 +119,14 @@ fn sentences_of_the_reference_format(rt: HostRuntime) -> Result<(), Fail> {
         // a blank continuation
         (b"       A\n      -   \n", Bad(2, 7)),
         // a continuation comes first
-        (b"      * A\n      -    MO\n", Bad(2, 7)),
+        (
+            b"      d debug\n      -    \"\"C\".\n      d debug\n      D debug\n      * comment\n",
+            Bad(2, 7),
+        ),
         // a doubled mark stands for one, in the literal
         (
-            b"       DISPLAY 'IT''S'.\n",
-            Text(&[(b"DISPLAY 'IT''S'.", 66)], &[(1, 8), (1, 73)]),
+            b"       DISPLAY \"A\"\"B\".\n",
+            Text(&[(b"DISPLAY \"A\"\"B\".", 66)], &[(1, 8), (1, 73)]),
         ),
         // the other mark may stand in a literal
         (
@@ -142,7 +152,10 @@ fn sentences_of_the_reference_format(rt: HostRuntime) -> Result<(), Fail> {
             ),
         ),
         // another mark does not go on with it
-        (b"       \"A\n      -  'B\"\n", Bad(2, 10)),
+        (
+            b"       DISPLAY 'yyyyyyyyyyyyyyyyyyyyyyyyyyyyyyyyyyyyyyyyyyyyyyyyyyyyyyy'\n       DISPLAY \"A\"\"B\".\n       DISPLAY \"xxxxxxxxxxxxxxxxxxxxxxxxxxxxxxxxxxxxxxxxxxxxxxxxxxxxxxxx\n      -    'more'.\n",
+            Bad(4, 12),
+        ),
         // a letter does not go on with it
         (b"       \"A\n      -   B\"\n", Bad(2, 11)),
         // no continuation follows
@@ -150,17 +163,31 @@ fn sentences_of_the_reference_format(rt: HostRuntime) -> Result<(), Fail> {
         // nothing follows
         (b"       A \"B\"\"C\n", Bad(1, 10)),
         // a mark behind a literal and a letter opens the next
-        (b"       DISPLAY \"A\"B\".\n", Bad(1, 20)),
+        (
+            b"       DISPLAY \"A\"B\".\n       77 N PIC 9(3) VALUE 998.\n",
+            Bad(1, 20),
+        ),
         // so does a mark of a continuation
-        (b"       IF A = B\n      -    \"\"C\".\n", Bad(2, 15)),
+        (b"       IF A = B\r\n      -    \"\"C\".\n", Bad(2, 15)),
         // a doubled mark that arises by joining
         (b"       A 'B\n      -'C'\n      -'D\n", Bad(1, 10)),
-        // a literal that ends in column 72 is closed
+        // it goes on with the literal
         (
-            b"       'yyyyyyyyyyyyyyyyyyyyyyyyyyyyyyyyyyyyyyyyyyyyyyyyyyyyyyyyyyyyyyy'\n       A\n",
+            b"      * comment\r\n      / page\r\n       DISPLAY 'yyyyyyyyyyyyyyyyyyyyyyyyyyyyyyyyyyyyyyyyyyyyyyyyyyyyyyy'\r\n      -    'more'.\n",
             Text(
                 &[(
-                    b"'yyyyyyyyyyyyyyyyyyyyyyyyyyyyyyyyyyyyyyyyyyyyyyyyyyyyyyyyyyyyyyy' A",
+                    b"DISPLAY 'yyyyyyyyyyyyyyyyyyyyyyyyyyyyyyyyyyyyyyyyyyyyyyyyyyyyyyy''more'.",
+                    127,
+                )],
+                &[(3, 8), (4, 73)],
+            ),
+        ),
+        // a literal that ends in column 72 is closed
+        (
+            b"       DISPLAY 'yyyyyyyyyyyyyyyyyyyyyyyyyyyyyyyyyyyyyyyyyyyyyyyyyyyyyyy'\n       DISPLAY 'yyyyyyyyyyyyyyyyyyyyyyyyyyyyyyyyyyyyyyyyyyyyyyyyyyyyyyy'",
+            Text(
+                &[(
+                    b"DISPLAY 'yyyyyyyyyyyyyyyyyyyyyyyyyyyyyyyyyyyyyyyyyyyyyyyyyyyyyyy' DISPLAY 'yyyyyyyyyyyyyyyyyyyyyyyyyyyyyyyyyyyyyyyyyyyyyyyyyyyyyyy'",
                     132,
                 )],
                 &[(1, 8), (2, 73)],
@@ -168,13 +195,13 @@ fn sentences_of_the_reference_format(rt: HostRuntime) -> Result<(), Fail> {
         ),
         // a continuation joins the last nonblank
         (
-            b"       IF A = B\n      -    MO\n",
+            b"       IF A = B\n      -    MO",
             Text(&[(b"IF A = BMO", 70)], &[(1, 8), (2, 73)]),
         ),
-        // it joins a literal that is closed
+        // comments and blank lines before it are dropped
         (
-            b"       A 'B'  \n      -'C'\n",
-            Text(&[(b"A 'B''C'", 71)], &[(1, 8), (2, 73)]),
+            b"       DISPLAY 'IT''S'.\n      * comment\n          \n      -    'more'.\n",
+            Text(&[(b"DISPLAY 'IT''S'.'more'.", 78)], &[(1, 8), (4, 73)]),
         ),
         // a continuation of a continuation
         (
