@@ -1,0 +1,5 @@
+pub mod View
+pub mod Allowed
+pub mod Text
+pub mod Reading
+pub mod Draft

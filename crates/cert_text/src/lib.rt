@@ -1,0 +1,9 @@
+//! The text of a certificate, read and printed.
+#![tactic(auto)]
+
+mod cert;
+mod draft;
+mod number;
+mod word;
+
+pub use cert::{Bound, Cert, CertEnd, Claim, Element};
