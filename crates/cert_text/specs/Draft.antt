@@ -51,6 +51,9 @@ is_at a b = ordinal a == ordinal b
 abbrev pub closed : Parts → List Place
 closed d = if d.open_node then d.nodes ++ Holds d.claims d.bounds ∷ [] else d.nodes
 
+abbrev pub node_closed : Parts → Parts
+node_closed d = record d { nodes = closed d; open_node = false; claims = []; bounds = [] }
+
 -- ---- the numbers of a line
 
 -- the cells of a pack, after the last one
@@ -113,18 +116,18 @@ pack_read d zs =
 abbrev pub is_next : Parts → ℕ → Bool
 is_next d i =
     (is_at d.stage stages.Body && (length d.packs == d.pack_count))
-    && ((i == length (closed d) + 1) && nat_lt (length (closed d)) d.node_count)
+    && (nat_lt (length (closed d)) d.node_count && (i == length (closed d) + 1))
 
 abbrev pub never_read : Parts → ℕ → Option Parts
 never_read d i =
     if is_next d i
-    then Some (record d { nodes = closed d ++ NotReached ∷ []; open_node = false; claims = []; bounds = [] })
+    then Some (record (node_closed d) { nodes = closed d ++ NotReached ∷ [] })
     else None
 
 abbrev pub node_read : Parts → ℕ → Option Parts
 node_read d i =
     if is_next d i
-    then Some (record d { nodes = closed d; open_node = true; claims = []; bounds = []; cell = 0; key = no_key })
+    then Some (record (node_closed d) { open_node = true; cell = 0; key = no_key })
     else None
 
 abbrev pub claim_read : Parts → Claim → Option Parts
@@ -142,17 +145,30 @@ bound_read d b =
 abbrev pub end_read : Parts → List ℤ → Option Parts
 end_read d zs =
     if (is_at d.stage stages.Body && (length d.packs == d.pack_count)) && ((length (closed d) == d.node_count) && (length zs == 0))
-    then Some (record d { stage = stages.Ended; nodes = closed d; open_node = false; claims = []; bounds = [] })
+    then Some (record (node_closed d) { stage = stages.Ended })
     else None
 
+-- of the words that one number follows
+abbrev pub one_step : Parts → Word → ℕ → Option Parts
+one_step d words.Title n = title_read d n
+one_step d words.Cells n = cells_read d n
+one_step d words.Nodes n = nodes_read d n
+one_step d words.Packs n = packs_read d n
+one_step d words.Never n = never_read d n
+one_step d words.Node n = node_read d n
+one_step d words.Pack n = None
+one_step d words.Claim n = None
+one_step d words.Bound n = None
+one_step d words.End n = None
+
 abbrev pub step : Parts → Word → List ℤ → Option Parts
-step d words.Title zs = one_number zs ▷ title_read d
-step d words.Cells zs = one_number zs ▷ cells_read d
-step d words.Nodes zs = one_number zs ▷ nodes_read d
-step d words.Packs zs = one_number zs ▷ packs_read d
+step d words.Title zs = one_number zs ▷ one_step d words.Title
+step d words.Cells zs = one_number zs ▷ one_step d words.Cells
+step d words.Nodes zs = one_number zs ▷ one_step d words.Nodes
+step d words.Packs zs = one_number zs ▷ one_step d words.Packs
+step d words.Never zs = one_number zs ▷ one_step d words.Never
+step d words.Node zs = one_number zs ▷ one_step d words.Node
 step d words.Pack zs = pack_read d zs
-step d words.Never zs = one_number zs ▷ never_read d
-step d words.Node zs = one_number zs ▷ node_read d
 step d words.Claim zs = claim_among zs ▷ claim_read d
 step d words.Bound zs = bound_among zs ▷ bound_read d
 step d words.End zs = end_read d zs
@@ -161,7 +177,12 @@ step d words.End zs = end_read d zs
 unfoldable pub line_read : Parts → List ℕ → Option Parts
 line_read d line = word_at line ▷ (λ w. numbers_at 8 w.1 ▷ (λ zs. step d w.0 zs))
 
+-- what an ended certificate is
+abbrev pub certificate_of : Parts → Certificate
+certificate_of d = record { cells = d.cells; packs = d.packs; nodes = d.nodes }
+
 -- What a step left: the new parts where it went on.
 abbrev pub Stepped : Bool → Parts → Option Parts → Type 0
 Stepped true new read = read ≡ Some new
 Stepped false new read = read ≡ None
+

@@ -1,15 +1,18 @@
 //! A certificate while its lines are read.
 ghost use Rattle.std.specs.Prelude.{◌≡◌, ◌++◌, ◌+◌, ◌-◌, ◌<◌, ◌≤◌, map, length, get_or, []};
-ghost use Rattle.std.specs.Prelude.{IfOk, IfSome, if◌then◌else◌};
+ghost use Rattle.std.specs.Prelude.{IfOk, OnOk, IfSome, if◌then◌else◌};
 ghost use Rattle.cert_text.specs.Reading.{Reads, ◌▷◌};
 ghost use Rattle.cert_text.specs.Allowed.{key_of, no_key, is_before, places_fit, claim_fits, bound_fits};
 ghost use Rattle.cert_text.specs.Draft.{is_at, small_natural, small_integer, one_number, cells_among, pack_among, claim_among, bound_among};
-ghost use Rattle.cert_text.specs.Draft.{Parts, Stepped, parts_of, nothing_read, closed, is_next, title_read, cells_read, nodes_read, packs_read, pack_read, never_read, node_read, claim_read, bound_read, end_read, step};
+ghost use Rattle.cert_text.specs.Draft.{Parts, Stepped, parts_of, nothing_read, closed, is_next, title_read, cells_read, nodes_read, packs_read, pack_read, never_read, node_read, claim_read, bound_read, end_read, step, one_step, node_closed, line_read};
 ghost use Rattle.cert_text.specs.View.{view};
 
 use crate::cert::{Bound, Claim, Element};
+use crate::number::numbers_at;
+use crate::word::{Word, word_at};
 use diff_bounds::Pack;
 use std::alloc::{AllocError, Global};
+use std::mem;
 
 /// Which line comes next: one of the first four, one of the body, or none.
 #[derive(Clone, Copy)]
@@ -23,7 +26,7 @@ pub enum Stage {
 }
 
 impl Stage {
-    fn is_at(self, other: Stage) -> bool
+    pub fn is_at(self, other: Stage) -> bool
         ensures { result ≡ is_at self other }
     {
         self as u8 == other as u8
@@ -130,6 +133,24 @@ fn push_cells(cells: u32, numbers: &[i128], pack: &mut Vec<u32>) -> Result<bool,
         }
     }
     Ok(true)
+}
+
+fn pack_among(
+    alloc: Global,
+    cells: u32,
+    numbers: &[i128],
+) -> Result<Option<Pack>, AllocError>
+    ensures { IfOk result (λ pack. Reads (λ p. p.cells.items) pack (pack_among cells numbers.now)) }
+{
+    if numbers.len() < 2 || numbers.len() > 8 {
+        return Ok(None);
+    }
+    let mut pack = Vec::with_capacity(alloc, numbers.len())?;
+    if push_cells(cells, numbers, &mut pack)? {
+        Ok(Some(Pack { cells: pack }))
+    } else {
+        Ok(None)
+    }
 }
 
 // Whether the bound stands after the key.
@@ -266,5 +287,158 @@ impl Draft {
             };
         }
         Ok(fits)
+    }
+
+    fn read_pack(&mut self, alloc: Global, numbers: &[i128]) -> Result<bool, AllocError>
+        ensures { IfOk result (λ fits. Stepped fits (parts_of self.new) (pack_read (parts_of self.old) numbers.now)) }
+    {
+        if !self.stage.is_at(Stage::Body) || self.packs.len() >= self.pack_count as usize {
+            return Ok(false);
+        }
+        match pack_among(alloc, self.cells, numbers)? {
+            Some(pack) => {
+                self.packs.push(pack)?;
+                Ok(true)
+            }
+            None => Ok(false),
+        }
+    }
+
+    // How many nodes there are, the open one among them.
+    fn closed_len(&self) -> usize
+        ensures { result ≡ length (closed (parts_of self.now)) }
+    {
+        if self.open_node {
+            self.nodes.len() + 1
+        } else {
+            self.nodes.len()
+        }
+    }
+
+    fn is_next(&self, number: u32) -> bool
+        ensures { result ≡ is_next (parts_of self.now) number }
+    {
+        let count = self.closed_len();
+        self.stage.is_at(Stage::Body)
+            && self.packs.len() == self.pack_count as usize
+            && count < self.node_count as usize
+            && number as usize == count + 1
+    }
+
+    fn close_node(&mut self, alloc: Global) -> Result<(), AllocError>
+        ensures { OnOk result (parts_of self.new ≡ node_closed (parts_of self.old)) }
+    {
+        let cells = mem::replace(&mut self.claims, Vec::new(alloc));
+        let bounds = mem::replace(&mut self.bounds, Vec::new(alloc));
+        if self.open_node {
+            self.nodes.push(Element::At { cells, bounds })?;
+            self.open_node = false;
+        }
+        Ok(())
+    }
+
+    fn read_never(&mut self, alloc: Global, number: u32) -> Result<bool, AllocError>
+        ensures { IfOk result (λ fits. Stepped fits (parts_of self.new) (never_read (parts_of self.old) number)) }
+    {
+        if !self.is_next(number) {
+            return Ok(false);
+        }
+        self.close_node(alloc)?;
+        self.nodes.push(Element::Unreached)?;
+        Ok(true)
+    }
+
+    fn read_node(&mut self, alloc: Global, number: u32) -> Result<bool, AllocError>
+        ensures { IfOk result (λ fits. Stepped fits (parts_of self.new) (node_read (parts_of self.old) number)) }
+    {
+        if !self.is_next(number) {
+            return Ok(false);
+        }
+        self.close_node(alloc)?;
+        self.open_node = true;
+        self.cell = 0;
+        self.key = NO_KEY;
+        Ok(true)
+    }
+
+    fn read_end(&mut self, alloc: Global, numbers: &[i128]) -> Result<bool, AllocError>
+        ensures { IfOk result (λ fits. Stepped fits (parts_of self.new) (end_read (parts_of self.old) numbers.now)) }
+    {
+        let fits = self.stage.is_at(Stage::Body)
+            && self.packs.len() == self.pack_count as usize
+            && self.closed_len() == self.node_count as usize
+            && numbers.is_empty();
+        if fits {
+            self.close_node(alloc)?;
+            self.stage = Stage::Ended;
+        }
+        Ok(fits)
+    }
+
+    fn accept(
+        &mut self,
+        alloc: Global,
+        word: Word,
+        numbers: &[i128],
+    ) -> Result<bool, AllocError>
+        ensures { IfOk result (λ fits. Stepped fits (parts_of self.new) (step (parts_of self.old) word numbers.now)) }
+    {
+        match word {
+            Word::Pack => self.read_pack(alloc, numbers),
+            Word::Claim => match claim_among(numbers) {
+                Some(claim) => self.read_claim(claim),
+                None => Ok(false),
+            },
+            Word::Bound => match bound_among(numbers) {
+                Some(bound) => self.read_bound(bound),
+                None => Ok(false),
+            },
+            Word::End => self.read_end(alloc, numbers),
+            _ => match one_number(numbers) {
+                Some(number) => self.accept_one(alloc, word, number),
+                None => Ok(false),
+            },
+        }
+    }
+
+    // The words that one number follows.
+    fn accept_one(
+        &mut self,
+        alloc: Global,
+        word: Word,
+        number: u32,
+    ) -> Result<bool, AllocError>
+        ensures { IfOk result (λ fits. Stepped fits (parts_of self.new) (one_step (parts_of self.old) word number)) }
+    {
+        match word {
+            Word::Title => Ok(self.read_title(number)),
+            Word::Cells => Ok(self.read_cells(number)),
+            Word::Nodes => Ok(self.read_nodes(number)),
+            Word::Packs => Ok(self.read_packs(number)),
+            Word::Never => self.read_never(alloc, number),
+            Word::Node => self.read_node(alloc, number),
+            _ => Ok(false),
+        }
+    }
+
+    /// Reads one more line, and answers whether a certificate's text goes on with it.
+    #[tactic(auto, unfolding(crate::specs::Draft::line_read))]
+    pub fn read_line(
+        &mut self,
+        alloc: Global,
+        line: &[u8],
+        numbers: &mut Vec<i128>,
+    ) -> Result<bool, AllocError>
+        ensures { IfOk result (λ fits. Stepped fits (parts_of self.new) (line_read (parts_of self.old) line.now)) }
+    {
+        match word_at(line) {
+            Some((word, rest)) => {
+                if !numbers_at(rest, numbers)? {
+                    return Ok(false);
+                }
+                self.accept(alloc, word, numbers.as_slice())
+            }
+            None => Ok(false),
+        }
     }
 }

@@ -4,6 +4,7 @@
 mod cert;
 mod draft;
 mod number;
+mod reading;
 mod word;
 
 pub use cert::{Bound, Cert, CertEnd, Claim, Element};
