@@ -15,8 +15,10 @@ use std::alloc::Global;
 fn cut(bytes: &[u8]) -> Option<(&[u8], &[u8])>
     ensures { Cuts bytes.now (option_map (λ x. (x.0.now, x.1.now)) result) }
 {
-    let end = memchr(b'\n', bytes)?;
-    Some((&bytes[..end], &bytes[end + 1..]))
+    match memchr(b'\n', bytes) {
+        Some(end) => Some((&bytes[..end], &bytes[end + 1..])),
+        None => None,
+    }
 }
 
 fn certificate(draft: Draft) -> Cert
