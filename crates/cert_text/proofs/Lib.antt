@@ -1,3 +1,4 @@
 pub mod Loops
 pub mod Cutting
 pub mod Numbers
+pub mod Printed

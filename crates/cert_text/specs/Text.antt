@@ -70,5 +70,9 @@ abbrev pub with_ends : List (List ℕ) → List ℕ
 with_ends [] = []
 with_ends (l ∷ ls) = l ++ (10 ∷ with_ends ls)
 
+-- lines as text
+abbrev pub text_of : List Line → List ℕ
+text_of ls = with_ends (map line_text ls)
+
 abbrev pub spelling : Certificate → List ℕ
-spelling c = with_ends (text_lines c)
+spelling c = text_of (lines c)

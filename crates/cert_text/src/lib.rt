@@ -4,7 +4,9 @@
 mod cert;
 mod draft;
 mod number;
+mod printing;
 mod reading;
 mod word;
 
 pub use cert::{Bound, Cert, CertEnd, Claim, Element};
+pub use printing::print;

@@ -19,7 +19,7 @@ pub enum Word {
 }
 
 impl Word {
-    fn name(self) -> &'static [u8]
+    pub fn name(self) -> &'static [u8]
         ensures { result.now ≡ name self }
     {
         match self {
