@@ -2,3 +2,4 @@ pub mod Loops
 pub mod Cutting
 pub mod Numbers
 pub mod Printed
+pub mod Words

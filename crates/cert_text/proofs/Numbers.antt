@@ -26,11 +26,11 @@ decimal_push n b positive low high small =
 abbrev pub Takes : (ℕ → List ℕ) → List ℕ → ℕ × List ℕ → Type 0
 Takes text bytes x = (bytes ≡ text x.0 ++ x.1) × (x.0 ≤ 10 ^ 37)
 
-guard_some : {A : Type 0} (b : Bool) (o : Option A) (y : A) → cond b o None ≡ Some y → (b ≡ true) × (o ≡ Some y)
+pub guard_some : {A : Type 0} (b : Bool) (o : Option A) (y : A) → cond b o None ≡ Some y → (b ≡ true) × (o ≡ Some y)
 guard_some true o y e = (refl, e)
 guard_some false o y e = absurd cc
 
-some_is : {A : Type 0} (x y : A) → Some x ≡ Some y → x ≡ y
+pub some_is : {A : Type 0} (x y : A) → Some x ≡ Some y → x ≡ y
 some_is x y e = cc
 
 digits_take : (bs : List ℕ) (n : ℕ) (x : ℕ × List ℕ) → 0 < n → n ≤ 10 ^ 37 → digits_from n bs ≡ Some x → (decimal n ++ bs ≡ decimal x.0 ++ x.1) × (x.0 ≤ 10 ^ 37)

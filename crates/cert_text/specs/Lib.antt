@@ -5,3 +5,5 @@ pub mod Reading
 pub mod Draft
 pub mod Lines
 pub mod Whole
+pub mod Viable
+pub mod Texts

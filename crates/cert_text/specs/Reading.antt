@@ -65,14 +65,14 @@ without [] bs = Some bs
 without (w ∷ ws) [] = None
 without (w ∷ ws) (b ∷ bs) = if b == w then without ws bs else None
 
+abbrev pub or_other : Word → Option (List ℕ) → Option (Word × List ℕ) → Option (Word × List ℕ)
+or_other w (Some rest) other = Some (w, rest)
+or_other w None other = other
+
 -- the first of these words that the line begins with, and the bytes after it
 abbrev pub word_among : List Word → List ℕ → Option (Word × List ℕ)
 word_among [] line = None
-word_among (w ∷ ws) line = with_word w (without (name w) line) (word_among ws line)
-  where
-    with_word : Word → Option (List ℕ) → Option (Word × List ℕ) → Option (Word × List ℕ)
-    with_word w (Some rest) other = Some (w, rest)
-    with_word w None other = other
+word_among (w ∷ ws) line = or_other w (without (name w) line) (word_among ws line)
 
 unfoldable pub all_words : List Word
 all_words = words.Cells ∷ words.Claim ∷ words.Bound ∷ words.Nodes ∷ words.Node ∷ words.Never ∷ words.Packs ∷ words.Pack ∷ words.End ∷ words.Title ∷ []
