@@ -3,3 +3,5 @@ pub mod Cutting
 pub mod Numbers
 pub mod Printed
 pub mod Words
+pub mod Taken
+pub mod Made
