@@ -252,3 +252,134 @@ node_made d e i h ls m =
         ap (λ (xs : List Line). xs ++ one_line words.Node i ∷ []) k.1 ∙ sym (nodes_push (heading d.cells d.node_count d.pack_count) d.packs old_lines _ (one_line words.Node i ∷ []) more) in
     let made : MadeAt stages.Body new (ls ++ one_line words.Node i ∷ []) = (body, text) in
     subst (λ (y : Parts). Made y (ls ++ one_line words.Node i ∷ [])) (some_is new e g.1) (subst (λ (s : Stage). MadeAt s new (ls ++ one_line words.Node i ∷ [])) (sym (stage_is d.stage stages.Body n.stage)) made)
+
+closed_length : (o : Bool) (nodes : List Place) (p q : Place) → length (cond o (nodes ++ p ∷ []) nodes) ≡ length (cond o (nodes ++ q ∷ []) nodes)
+closed_length false nodes p q = refl
+closed_length true nodes p q = length-append nodes (p ∷ []) ∙ sym (length-append nodes (q ∷ []))
+
+open_claim : (xs : List Line) (o : Bool) (nodes : List Place) (claims : List Claim) (bounds : List Bound) (c : Claim) → o ≡ true → bounds ≡ []
+    → xs ++ open_lines o nodes (claims ++ c ∷ []) bounds ≡ (xs ++ open_lines o nodes claims bounds) ++ claim_line c ∷ []
+open_claim xs o nodes claims bounds c e f =
+    let head = one_line words.Node (suc (length nodes)) in
+    rw (e, f, append-nil (map claim_line (claims ++ c ∷ [])), append-nil (map claim_line claims), map_push claim_line claims c) (sym (append_assoc xs (head ∷ map claim_line claims) (claim_line c ∷ [])))
+
+open_bound : (xs : List Line) (o : Bool) (nodes : List Place) (claims : List Claim) (bounds : List Bound) (b : Bound) → o ≡ true
+    → xs ++ open_lines o nodes claims (bounds ++ b ∷ []) ≡ (xs ++ open_lines o nodes claims bounds) ++ bound_line b ∷ []
+open_bound xs o nodes claims bounds b e =
+    let head = one_line words.Node (suc (length nodes)) in
+    rw (e, map_push bound_line bounds b) (ap (λ (ys : List Line). xs ++ (head ∷ ys)) (sym (append_assoc (map claim_line claims) (map bound_line bounds) (bound_line b ∷ []))) ∙ sym (append_assoc xs (head ∷ (map claim_line claims ++ map bound_line bounds)) (bound_line b ∷ [])))
+
+claim_made : (d e : Parts) (c : Claim) → claim_read d c ≡ Some e → Keeps d words.Claim (pos c.cell ∷ c.low ∷ c.high ∷ []) e
+claim_made d e c h ls m =
+    let new : Parts = record d { claims = d.claims ++ c ∷ []; cell = c.cell } in
+    let g = guard_some ((is_at d.stage stages.Body && d.open_node) && (eqb (length d.bounds) 0 && claim_fits d.cells d.cell c)) (Some new) e h in
+    let a = and_parts _ _ g.0 in
+    let s = and_parts _ _ a.0 in
+    let f = and_parts _ _ a.1 in
+    let k = at_stage d stages.Body ls s.0 m in
+    let b = k.0 in
+    let none : d.bounds ≡ [] = nil_from_length d.bounds (eqb-true _ _ f.0) in
+    let fits : claim_fits d.cells (last_cell 0 d.claims) c ≡ true = subst (λ (n : ℕ). claim_fits d.cells n c ≡ true) (b.cell s.1) f.1 in
+    let body : IsBody new = record {
+        cells = b.cells; count = b.count; kinds = b.kinds; room = b.room; packs_in = b.packs_in; packs = b.packs;
+        nodes_in = let r = b.nodes_in in omega (arith, r, closed_length d.open_node d.nodes (Holds (d.claims ++ c ∷ []) d.bounds) (Holds d.claims d.bounds));
+        nodes = b.nodes;
+        claims = claims_fit_push d.cells 0 d.claims c b.claims fits;
+        bounds = b.bounds; cell = λ x. sym (last_cell_push 0 d.claims c); key = b.key; waiting = b.waiting;
+      } in
+    let old_lines = nodes_lines 1 d.nodes ++ open_lines d.open_node d.nodes d.claims d.bounds in
+    let text : ls ++ claim_line c ∷ [] ≡ body_lines new =
+        ap (λ (xs : List Line). xs ++ claim_line c ∷ []) k.1 ∙ sym (nodes_push (heading d.cells d.node_count d.pack_count) d.packs old_lines _ (claim_line c ∷ []) (open_claim (nodes_lines 1 d.nodes) d.open_node d.nodes d.claims d.bounds c s.1 none)) in
+    let made : MadeAt stages.Body new (ls ++ claim_line c ∷ []) = (body, text) in
+    subst (λ (y : Parts). Made y (ls ++ claim_line c ∷ [])) (some_is new e g.1) (subst (λ (t : Stage). MadeAt t new (ls ++ claim_line c ∷ [])) (sym (stage_is d.stage stages.Body s.0)) made)
+
+bound_made : (d e : Parts) (c : Bound) → bound_read d c ≡ Some e → Keeps d words.Bound (pos c.pack ∷ pos c.row ∷ pos c.column ∷ c.most ∷ []) e
+bound_made d e c h ls m =
+    let new : Parts = record d { bounds = d.bounds ++ c ∷ []; key = key_of c } in
+    let g = guard_some ((is_at d.stage stages.Body && d.open_node) && bound_fits d.packs d.key c) (Some new) e h in
+    let a = and_parts _ _ g.0 in
+    let s = and_parts _ _ a.0 in
+    let k = at_stage d stages.Body ls s.0 m in
+    let b = k.0 in
+    let fits : bound_fits d.packs (last_key no_key d.bounds) c ≡ true = subst (λ n. bound_fits d.packs n c ≡ true) (b.key s.1) a.1 in
+    let body : IsBody new = record {
+        cells = b.cells; count = b.count; kinds = b.kinds; room = b.room; packs_in = b.packs_in; packs = b.packs;
+        nodes_in = let r = b.nodes_in in omega (arith, r, closed_length d.open_node d.nodes (Holds d.claims (d.bounds ++ c ∷ [])) (Holds d.claims d.bounds));
+        nodes = b.nodes; claims = b.claims;
+        bounds = bounds_fit_push d.packs no_key d.bounds c b.bounds fits;
+        cell = b.cell; key = λ x. sym (last_key_push no_key d.bounds c);
+        waiting = λ x. absurd (false≢true (sym (b.waiting x).1 ∙ s.1));
+      } in
+    let old_lines = nodes_lines 1 d.nodes ++ open_lines d.open_node d.nodes d.claims d.bounds in
+    let text : ls ++ bound_line c ∷ [] ≡ body_lines new =
+        ap (λ (xs : List Line). xs ++ bound_line c ∷ []) k.1 ∙ sym (nodes_push (heading d.cells d.node_count d.pack_count) d.packs old_lines _ (bound_line c ∷ []) (open_bound (nodes_lines 1 d.nodes) d.open_node d.nodes d.claims d.bounds c s.1)) in
+    let made : MadeAt stages.Body new (ls ++ bound_line c ∷ []) = (body, text) in
+    subst (λ (y : Parts). Made y (ls ++ bound_line c ∷ [])) (some_is new e g.1) (subst (λ (t : Stage). MadeAt t new (ls ++ bound_line c ∷ [])) (sym (stage_is d.stage stages.Body s.0)) made)
+
+-- the whole text, from the body
+ended_lines : (cells n k : ℕ) (packs : List (List ℕ)) (nodes : List Place) (old : List Line) → length packs ≡ k → length nodes ≡ n → nodes_lines 1 nodes ≡ old
+    → body_of (heading cells n k) packs old ++ line words.End [] ∷ [] ≡ heading cells (length nodes) (length packs) ++ (map pack_line packs ++ (nodes_lines 1 nodes ++ line words.End [] ∷ []))
+ended_lines cells n k packs nodes old e f g =
+    rw (← e, ← f, ← g) (append_assoc (heading cells (length nodes) (length packs)) (map pack_line packs ++ nodes_lines 1 nodes) (line words.End [] ∷ []) ∙ ap (λ (xs : List Line). heading cells (length nodes) (length packs) ++ xs) (append_assoc (map pack_line packs) (nodes_lines 1 nodes) (line words.End [] ∷ [])))
+
+end_made : (d e : Parts) (zs : List ℤ) → end_read d zs ≡ Some e → Keeps d words.End zs e
+end_made d e zs h ls m =
+    let new : Parts = record (node_closed d) { stage = stages.Ended } in
+    let g = guard_some ((is_at d.stage stages.Body && eqb (length d.packs) d.pack_count) && (eqb (length (closed d)) d.node_count && eqb (length zs) 0)) (Some new) e h in
+    let a = and_parts _ _ g.0 in
+    let s = and_parts _ _ a.0 in
+    let f = and_parts _ _ a.1 in
+    let k = at_stage d stages.Body ls s.0 m in
+    let b = k.0 in
+    let none : zs ≡ [] = nil_from_length zs (eqb-true _ _ f.1) in
+    let all_packs : length d.packs ≡ d.pack_count = eqb-true _ _ s.1 in
+    let all_nodes : length (closed d) ≡ d.node_count = eqb-true _ _ f.0 in
+    let allowed : IsAllowed (certificate_of new) = record {
+        cells = b.cells;
+        nodes = let c = b.count in omega arith;
+        packs = let c = b.kinds in omega arith;
+        each_pack = b.packs;
+        each_node = closed_fit d b;
+      } in
+    let text : ls ++ line words.End zs ∷ [] ≡ lines (certificate_of new) =
+        ap (λ (ys : List ℤ). ls ++ line words.End ys ∷ []) none ∙ ap (λ (xs : List Line). xs ++ line words.End [] ∷ []) k.1
+        ∙ ended_lines d.cells d.node_count d.pack_count d.packs (closed d) (nodes_lines 1 d.nodes ++ open_lines d.open_node d.nodes d.claims d.bounds) all_packs all_nodes (closed_lines d) in
+    let made : MadeAt stages.Ended new (ls ++ line words.End zs ∷ []) = (allowed, text) in
+    subst (λ (y : Parts). Made y (ls ++ line words.End zs ∷ [])) (some_is new e g.1) made
+
+-- ---- every line
+
+by_one : (d e : Parts) (w : Word) (zs : List ℤ) → (one_number zs ▷ one_step d w) ≡ Some e → ((n : ℕ) → n < 2 ^ 32 → one_step d w n ≡ Some e → Keeps d w (pos n ∷ []) e) → Keeps d w zs e
+by_one d e w zs h each ls m =
+    let b = bind_some (one_number zs) (one_step d w) e h in
+    let t = one_takes zs b.0 b.1 in
+    subst (λ (ys : List ℤ). Made e (ls ++ line w ys ∷ [])) (sym t.0) (each b.0 t.1 b.2 ls m)
+
+pub step_made : (d e : Parts) (w : Word) (zs : List ℤ) → step d w zs ≡ Some e → Keeps d w zs e
+step_made d e words.Title zs h = by_one d e words.Title zs h (λ n lt k. title_made d e n k)
+step_made d e words.Cells zs h = by_one d e words.Cells zs h (λ n lt k. cells_made d e n lt k)
+step_made d e words.Nodes zs h = by_one d e words.Nodes zs h (λ n lt k. nodes_made d e n lt k)
+step_made d e words.Packs zs h = by_one d e words.Packs zs h (λ n lt k. packs_made d e n k)
+step_made d e words.Never zs h = by_one d e words.Never zs h (λ n lt k. never_made d e n k)
+step_made d e words.Node zs h = by_one d e words.Node zs h (λ n lt k. node_made d e n k)
+step_made d e words.Pack zs h = pack_made d e zs h
+step_made d e words.End zs h = end_made d e zs h
+step_made d e words.Claim zs h = λ ls m.
+    let b = bind_some (claim_among zs) (claim_read d) e h in
+    let t = claim_takes zs b.0 b.1 in
+    subst (λ (ys : List ℤ). Made e (ls ++ line words.Claim ys ∷ [])) (sym t.numbers) (claim_made d e b.0 b.2 ls m)
+step_made d e words.Bound zs h = λ ls m.
+    let b = bind_some (bound_among zs) (bound_read d) e h in
+    let t = bound_takes zs b.0 b.1 in
+    subst (λ (ys : List ℤ). Made e (ls ++ line words.Bound ys ∷ [])) (sym t.numbers) (bound_made d e b.0 b.2 ls m)
+
+made_cells_at : (s : Stage) (d : Parts) (ls : List Line) → MadeAt s d ls → d.cells < 2 ^ 32
+made_cells_at stages.Title d ls m = let e : d.cells ≡ 0 = ap (λ (y : Parts). y.cells) m.0 in omega arith
+made_cells_at stages.Cells d ls m = let e : d.cells ≡ 0 = ap (λ (y : Parts). y.cells) m.0 in omega arith
+made_cells_at stages.Nodes d ls m = let e : d.cells ≡ m.0 = ap (λ (y : Parts). y.cells) m.2 in let lt = m.1 in omega (arith, lt)
+made_cells_at stages.Packs d ls m = let e : d.cells ≡ m.0 = ap (λ (y : Parts). y.cells) m.4 in let lt = m.2 in omega (arith, lt)
+made_cells_at stages.Body d ls m = m.0.cells
+made_cells_at stages.Ended d ls m = m.0.cells
+
+pub made_cells : (d : Parts) (ls : List Line) → Made d ls → d.cells < 2 ^ 32
+made_cells d ls m = made_cells_at d.stage d ls m
