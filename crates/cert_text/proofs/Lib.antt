@@ -5,3 +5,6 @@ pub mod Printed
 pub mod Words
 pub mod Taken
 pub mod Made
+pub mod Complete
+pub mod Goes
+pub mod Laws

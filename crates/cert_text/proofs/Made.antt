@@ -127,10 +127,10 @@ nodes_made d e n lt h ls m =
     subst (λ (y : Parts). Made y (ls ++ one_line words.Nodes n ∷ [])) (some_is _ e g.1)
       (k.0, n, k.1, lt, ap (λ (y : Parts). let z : Parts = record y { stage = stages.Packs; node_count = n } in z) k.2, ap (λ (xs : List Line). xs ++ one_line words.Nodes n ∷ []) k.3)
 
-abbrev begun : ℕ → ℕ → ℕ → Parts
+abbrev pub begun : ℕ → ℕ → ℕ → Parts
 begun c n k = record nothing_read { stage = stages.Body; cells = c; node_count = n; pack_count = k }
 
-begun_body : (c n k : ℕ) → c < 2 ^ 32 → n < 2 ^ 32 → k ≤ 32 → (eqb k 0 || leb 2 c) ≡ true → IsBody (begun c n k)
+pub begun_body : (c n k : ℕ) → c < 2 ^ 32 → n < 2 ^ 32 → k ≤ 32 → (eqb k 0 || leb 2 c) ≡ true → IsBody (begun c n k)
 begun_body c n k cells count kinds room = record {
   cells = cells; count = count; kinds = kinds; room = room; packs_in = omega arith; packs = refl; nodes_in = omega arith; nodes = refl;
   claims = refl; bounds = refl; cell = λ h. absurd (false≢true h); key = λ h. absurd (false≢true h); waiting = λ h. (refl, refl, refl);
