@@ -7,4 +7,5 @@ pub mod Taken
 pub mod Made
 pub mod Complete
 pub mod Goes
-pub mod Laws
+pub mod WholeText
+pub mod Refused

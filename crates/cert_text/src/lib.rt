@@ -3,10 +3,13 @@
 
 mod cert;
 mod draft;
+mod laws;
 mod number;
 mod printing;
 mod reading;
 mod word;
 
 pub use cert::{Bound, Cert, CertEnd, Claim, Element};
+pub use laws::{one_place, one_spelling};
 pub use printing::print;
+pub use reading::read;

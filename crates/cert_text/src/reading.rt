@@ -1,9 +1,12 @@
 //! Reading a certificate's text.
-ghost use Rattle.std.specs.Prelude.{◌≡◌};
+ghost use Rattle.std.specs.Prelude.{◌≡◌, IfOk, IfErr};
 ghost use Rattle.std.specs.Option.{option_map};
 ghost use Rattle.cert_text.specs.Lines.{Cuts};
 ghost use Rattle.cert_text.specs.Draft.{parts_of, certificate_of};
-ghost use Rattle.cert_text.specs.View.{view};
+ghost use Rattle.cert_text.specs.View.{Certificate, view};
+ghost use Rattle.cert_text.specs.Allowed.{IsAllowed};
+ghost use Rattle.cert_text.specs.Text.{spelling};
+ghost use Rattle.cert_text.specs.Texts.{RefusedBy};
 ghost use Rattle.cert_text.specs.Whole.{Gives, read_of};
 
 use crate::cert::{Cert, CertEnd};
@@ -51,4 +54,16 @@ fn read_lines(alloc: Global, bytes: &[u8]) -> Result<Cert, CertEnd>
     } else {
         Err(CertEnd::Syntax { line })
     }
+}
+
+/// The certificate whose text the bytes are.
+pub fn read(alloc: Global, bytes: &[u8]) -> Result<Cert, CertEnd>
+    // What is read is allowed, and the bytes spell it.
+    ensures found { IfOk result (λ c. IsAllowed (view c) × (bytes.now ≡ spelling (view c))) }
+    // What is allowed and spelled so is read, unless memory runs out.
+    ensures only { (c : Certificate) → IsAllowed c → bytes.now ≡ spelling c → Gives result (Ok c) }
+    // A refusal names the first line with which no certificate's text goes on.
+    ensures refused { IfErr result (RefusedBy bytes.now) }
+{
+    read_lines(alloc, bytes)
 }

@@ -115,7 +115,7 @@ ok_at x = Ok x
 ok_is : {A : Type 0} (x y : A) → ok_at {B = ℕ} x ≡ ok_at y → x ≡ y
 ok_is x y e = cc
 
-begin : Made nothing_read []
+pub begin : Made nothing_read []
 begin = (refl, refl)
 
 whole_again : (ls : List (List ℕ)) (n : ℕ) (d e : Parts) → lines_read d ls ≡ Some e → e.stage ≡ stages.Ended → reading n d ls [] ≡ Ok (certificate_of e)
@@ -141,11 +141,11 @@ one_spelling c d v w e = ok_is c d (sym (read_again c v) ∙ ap read_of e ∙ re
 -- ---- what is read is spelled so
 
 -- so many lines were read, and made the parts
-record Front (d : Parts) (texts : List (List ℕ)) : Type 0 where
-  front : List Line
-  spelled : texts ≡ map line_text front
-  made : Made d front
-  read : lines_read nothing_read texts ≡ Some d
+pub record Front (d : Parts) (texts : List (List ℕ)) : Type 0 where
+  pub front : List Line
+  pub spelled : texts ≡ map line_text front
+  pub made : Made d front
+  pub read : lines_read nothing_read texts ≡ Some d
 
 lines_read_push : (ls : List (List ℕ)) (l : List ℕ) (d e f : Parts) → lines_read d ls ≡ Some e → line_read e l ≡ Some f → lines_read d (ls ++ l ∷ []) ≡ Some f
 lines_read_push [] l d e f h k = ap (λ r. r ▷ (λ y. lines_read y [])) (subst (λ (y : Parts). line_read y l ≡ Some f) (sym (some_is d e h)) k)
@@ -153,7 +153,7 @@ lines_read_push (x ∷ ls) l d e f h k =
     let b = bind_some (line_read d x) (λ y. lines_read y ls) e h in
     ap (λ r. r ▷ (λ y. lines_read y (ls ++ l ∷ []))) b.1 ∙ lines_read_push ls l b.0 e f b.2 k
 
-further : (d e : Parts) (texts : List (List ℕ)) (l : List ℕ) → Front d texts → line_read d l ≡ Some e → Front e (texts ++ l ∷ [])
+pub further : (d e : Parts) (texts : List (List ℕ)) (l : List ℕ) → Front d texts → line_read d l ≡ Some e → Front e (texts ++ l ∷ [])
 further d e texts l f h =
     let t = line_takes d l e h in
     record {
@@ -181,7 +181,7 @@ found_from (l ∷ ls) n d texts rest more c f h = by_line (line_read d l) refl h
     by_line None is k on = absurd cc
     by_line (Some e) is k on = let o = on e is k in (o.0, sym (append_assoc texts (l ∷ []) ls) ∙ o.1, o.2)
 
-start : Front nothing_read []
+pub start : Front nothing_read []
 start = record { front = []; spelled = refl; made = begin; read = refl }
 
 pub found_is : (bytes : List ℕ) (c : Certificate) → read_of bytes ≡ Ok c → IsAllowed c × (bytes ≡ spelling c)
