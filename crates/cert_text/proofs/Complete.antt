@@ -1,20 +1,19 @@
 -- The lines of an allowed certificate are read to their end.
-use Rattle.std.proofs.Common.{◌≡◌, ℕ, zero, suc, ◌+◌, ◌-◌, ◌^◌, ◌<◌, ◌≤◌, Bool, true, false, not, ◌&&◌, ◌||◌, cond, eqb, ltb, leb, List, [], ◌∷◌, ◌++◌, map, length, get_or, Option, Some, None, ℤ, pos, refl, sym, ap, subst, ◌∙◌, append_assoc, arith}
+use Rattle.std.proofs.Common.{◌≡◌, ℕ, zero, suc, ◌+◌, ◌-◌, ◌^◌, ◌<◌, ◌≤◌, true, not, ◌&&◌, ◌||◌, eqb, ltb, leb, List, [], ◌∷◌, ◌++◌, map, length, get_or, Option, Some, None, ℤ, pos, refl, sym, ap, subst, ◌∙◌, append_assoc, arith}
 use Rattle.std.specs.Prelude.{unsigned_abs, int_le}
 use Rattle.std.specs.List.{AllByRecursion}
-use Rattle.std.proofs.lemmas.Bool.{and_parts, and_from, or_left, or_right, ltb-true, leb-true, eqb-true, lt-ltb, le-leb, eq-eqb, cond-true}
+use Rattle.std.proofs.lemmas.Bool.{and_parts, and_from, or_right, ltb-true, leb-true, eqb-true, lt-ltb, le-leb, eq-eqb, cond-true}
 use Rattle.std.proofs.lemmas.List.{append-nil, length-append, nil_from_length, length-map}
 use Rattle.cert_text.specs.declared.cert.Claim.{Claim}
 use Rattle.cert_text.specs.declared.cert.Bound.{Bound}
-use Rattle.cert_text.specs.declared.draft.Stage.{Stage}
 use Rattle.cert_text.specs.declared.draft.Stage.TheVariants as stages
 use Rattle.cert_text.specs.declared.word.Word.{Word}
 use Rattle.cert_text.specs.declared.word.Word.TheVariants as words
 use Rattle.cert_text.specs.View.{Place, NotReached, Holds, Certificate}
-use Rattle.cert_text.specs.Text.{Line, line, line_text, pack_line, claim_line, bound_line, place_lines, nodes_lines, heading, lines, text_lines}
+use Rattle.cert_text.specs.Text.{Line, line, line_text, pack_line, claim_line, bound_line, place_lines, nodes_lines, heading, lines}
 use Rattle.cert_text.specs.Reading.{◌▷◌}
 use Rattle.cert_text.specs.Allowed.{cells_rise, pack_fits, packs_fit, claim_fits, claims_fit, key_of, no_key, is_before, places_fit, bound_fits, bounds_fit, place_fits, places_all_fit, IsAllowed}
-use Rattle.cert_text.specs.Draft.{Parts, nothing_read, is_at, closed, node_closed, is_next, one_number, pack_among, claim_among, bound_among, title_read, cells_read, nodes_read, packs_read, pack_read, never_read, node_read, claim_read, bound_read, end_read, one_step, step, certificate_of, line_read}
+use Rattle.cert_text.specs.Draft.{Parts, nothing_read, is_at, closed, node_closed, is_next, one_number, pack_among, claim_among, bound_among, claim_read, bound_read, one_step, step, certificate_of, line_read}
 use Rattle.cert_text.proofs.Numbers.{guard_some, some_is, IsSmall}
 use Rattle.cert_text.proofs.Words.{bind_some, line_again}
 use Rattle.cert_text.proofs.Taken.{one_takes, pack_takes, claim_takes, bound_takes, natural_again, pack_again, claim_again, bound_again, last_cell, last_key}
@@ -157,7 +156,7 @@ claim_step d c s o none lt h =
     let empty : eqb (length d.bounds) 0 ≡ true = ap (λ (bs : List Bound). eqb (length bs) 0) none in
     ap (λ r. r ▷ claim_read d) (claim_again c (omega arith) g.0 g.1)
     ∙ cond-true ((is_at d.stage stages.Body && d.open_node) && (eqb (length d.bounds) 0 && claim_fits d.cells d.cell c)) (Some (record d { claims = d.claims ++ c ∷ []; cell = c.cell })) None
-        (and_from _ _ (and_from _ _ (at_body d s) o) (and_from _ _ empty h))
+    (and_from _ _ (and_from _ _ (at_body d s) o) (and_from _ _ empty h))
 
 claims_run : (cs : List Claim) (d : Parts) → d.stage ≡ stages.Body → d.open_node ≡ true → d.bounds ≡ [] → d.cells < 2 ^ 32 → claims_fit d.cells d.cell cs ≡ true
     → run d (map claim_line cs) ≡ Some (record d { claims = d.claims ++ cs; cell = last_cell d.cell cs })
@@ -260,7 +259,7 @@ place_run c w d nodes (Holds claims bounds) r lt h =
     let bounds_ok : bounds_fit d.packs no_key bounds ≡ true = ap (λ ps. bounds_fit ps no_key bounds) r.packs ∙ a.1 in
     let first : step d words.Node (pos (suc (length nodes)) ∷ []) ≡ Some d1 = node_step d (suc (length nodes)) (omega arith) (next_again c d nodes r lt) in
     let both : run d1 (map claim_line claims ++ map bound_line bounds) ≡ Some d3 =
-        run_append d1 (map claim_line claims) (map bound_line bounds) d2 d3 (claims_run claims d1 r.stage refl refl cl claims_ok) (bounds_run bounds d2 r.stage refl few fit bounds_ok) in
+    run_append d1 (map claim_line claims) (map bound_line bounds) d2 d3 (claims_run claims d1 r.stage refl refl cl claims_ok) (bounds_run bounds d2 r.stage refl few fit bounds_ok) in
     record {
       after = d3;
       ran = ap (λ x. x ▷ (λ y. run y (map claim_line claims ++ map bound_line bounds))) first ∙ both;
@@ -304,7 +303,7 @@ room_for cells (p ∷ ps) h = let a = and_parts (pack_fits cells p) (packs_fit c
 pub end_step : (d : Parts) → d.stage ≡ stages.Body → length d.packs ≡ d.pack_count → length (closed d) ≡ d.node_count → step d words.End [] ≡ Some (record (node_closed d) { stage = stages.Ended })
 end_step d s full all =
     cond-true ((is_at d.stage stages.Body && eqb (length d.packs) d.pack_count) && (eqb (length (closed d)) d.node_count && eqb (length {A = ℤ} []) 0)) (Some (record (node_closed d) { stage = stages.Ended })) None
-      (and_from _ _ (and_from _ _ (at_body d s) (eq-eqb _ _ full)) (and_from _ _ (eq-eqb _ _ all) refl))
+    (and_from _ _ (and_from _ _ (at_body d s) (eq-eqb _ _ full)) (and_from _ _ (eq-eqb _ _ all) refl))
 
 -- what the lines of a certificate leave
 pub record Whole (c : Certificate) : Type 0 where

@@ -1,19 +1,18 @@
 -- What was read so far goes on to the text of a certificate.
-use Rattle.std.proofs.Common.{◌≡◌, ℕ, zero, suc, ◌+◌, ◌-◌, ◌^◌, ◌<◌, ◌≤◌, Bool, true, false, ◌&&◌, ◌||◌, cond, eqb, ltb, leb, List, [], ◌∷◌, ◌++◌, map, length, Option, Some, None, ℤ, pos, refl, sym, ap, subst, ◌∙◌, append_assoc, inl, inr, ⊎_elim, arith}
-use Rattle.std.proofs.lemmas.Bool.{and_from, or_cases, ltb-true, leb-true, eqb-true, lt-ltb, le-leb, eq-eqb, cases_lt, cond-true}
+use Rattle.std.proofs.Common.{◌≡◌, ℕ, zero, suc, ◌+◌, ◌-◌, ◌^◌, ◌<◌, ◌≤◌, true, ◌&&◌, eqb, leb, List, [], ◌∷◌, ◌++◌, length, Some, None, ℤ, pos, refl, sym, ap, subst, ◌∙◌, append_assoc, ⊎_elim, arith}
+use Rattle.std.proofs.lemmas.Bool.{and_from, or_cases, leb-true, eqb-true, le-leb, cond-true}
 use Rattle.std.proofs.lemmas.List.{append-nil, length-append}
 use Rattle.cert_text.specs.declared.draft.Stage.{Stage}
 use Rattle.cert_text.specs.declared.draft.Stage.TheVariants as stages
 use Rattle.cert_text.specs.declared.word.Word.{Word}
 use Rattle.cert_text.specs.declared.word.Word.TheVariants as words
-use Rattle.cert_text.specs.View.{Place, NotReached, Holds, Certificate}
+use Rattle.cert_text.specs.View.{NotReached, Certificate}
 use Rattle.cert_text.specs.Text.{Line, line, lines}
 use Rattle.cert_text.specs.Reading.{◌▷◌}
 use Rattle.cert_text.specs.Allowed.{pack_fits, IsAllowed}
-use Rattle.cert_text.specs.Draft.{Parts, nothing_read, is_at, closed, node_closed, is_next, one_number, one_step, step, certificate_of}
-use Rattle.cert_text.proofs.Taken.{natural_again}
-use Rattle.cert_text.proofs.Made.{one_line, IsBody, Made, MadeAt, step_made, stage_is}
-use Rattle.cert_text.proofs.Complete.{pack_step, never_step, end_step, at_body, one_again, next_from}
+use Rattle.cert_text.specs.Draft.{Parts, is_at, closed, node_closed, is_next, one_number, one_step, step, certificate_of}
+use Rattle.cert_text.proofs.Made.{one_line, IsBody, Made, MadeAt, step_made}
+use Rattle.cert_text.proofs.Complete.{pack_step, never_step, end_step, one_again, next_from}
 
 -- some certificate's lines begin so
 pub record Goes (ls : List Line) : Type 0 where
@@ -42,8 +41,8 @@ goes_nodes (suc n) d ls s b m full all =
     let next : is_next d (length (closed d) + 1) ≡ true = next_from d (length (closed d) + 1) s full (omega arith) refl in
     let new : Parts = record (node_closed d) { nodes = closed d ++ NotReached ∷ [] } in
     by_step d new words.Never (pos (length (closed d) + 1) ∷ []) ls (never_step d (length (closed d) + 1) (omega arith) next) m
-      (λ k. let body : MadeAt stages.Body new (ls ++ line words.Never (pos (length (closed d) + 1) ∷ []) ∷ []) = subst (λ (t : Stage). MadeAt t new (ls ++ line words.Never (pos (length (closed d) + 1) ∷ []) ∷ [])) s k in
-        goes_nodes n new (ls ++ line words.Never (pos (length (closed d) + 1) ∷ []) ∷ []) s body.0 k full (omega (arith, length-append (closed d) (NotReached ∷ []))))
+    (λ k. let body : MadeAt stages.Body new (ls ++ line words.Never (pos (length (closed d) + 1) ∷ []) ∷ []) = subst (λ (t : Stage). MadeAt t new (ls ++ line words.Never (pos (length (closed d) + 1) ∷ []) ∷ [])) s k in
+    goes_nodes n new (ls ++ line words.Never (pos (length (closed d) + 1) ∷ []) ∷ []) s body.0 k full (omega (arith, length-append (closed d) (NotReached ∷ []))))
 
 first_pack : (cells : ℕ) → leb 2 cells ≡ true → pack_fits cells (1 ∷ 2 ∷ []) ≡ true
 first_pack cells h =
@@ -57,8 +56,8 @@ goes_packs (suc n) d ls s b m all =
     let new : Parts = record d { packs = d.packs ++ (1 ∷ 2 ∷ []) ∷ [] } in
     let some : leb 2 d.cells ≡ true = ⊎_elim (λ (e : eqb d.pack_count 0 ≡ true). let z : d.pack_count ≡ 0 = eqb-true _ _ e in absurd (omega arith)) (λ h. h) (or_cases (eqb d.pack_count 0) (leb 2 d.cells) b.room) in
     by_step d new words.Pack (pos 1 ∷ pos 2 ∷ []) ls (pack_step d (1 ∷ 2 ∷ []) s (omega arith) (first_pack d.cells some)) m
-      (λ k. let body : MadeAt stages.Body new (ls ++ line words.Pack (pos 1 ∷ pos 2 ∷ []) ∷ []) = subst (λ (t : Stage). MadeAt t new (ls ++ line words.Pack (pos 1 ∷ pos 2 ∷ []) ∷ [])) s k in
-        goes_packs n new (ls ++ line words.Pack (pos 1 ∷ pos 2 ∷ []) ∷ []) s body.0 k (omega (arith, length-append d.packs ((1 ∷ 2 ∷ []) ∷ []))))
+    (λ k. let body : MadeAt stages.Body new (ls ++ line words.Pack (pos 1 ∷ pos 2 ∷ []) ∷ []) = subst (λ (t : Stage). MadeAt t new (ls ++ line words.Pack (pos 1 ∷ pos 2 ∷ []) ∷ [])) s k in
+    goes_packs n new (ls ++ line words.Pack (pos 1 ∷ pos 2 ∷ []) ∷ []) s body.0 k (omega (arith, length-append d.packs ((1 ∷ 2 ∷ []) ∷ []))))
 
 goes_body : (d : Parts) (ls : List Line) → d.stage ≡ stages.Body → Made d ls → Goes ls
 goes_body d ls s m =
@@ -73,23 +72,26 @@ by_one d e w n ls lt h same m on = by_step d e w (pos n ∷ []) ls (sym same ∙
 goes_packs_stage : (d : Parts) (ls : List Line) → d.stage ≡ stages.Packs → Made d ls → Goes ls
 goes_packs_stage d ls e m =
     by_one d (record d { stage = stages.Body; pack_count = 0 }) words.Packs 0 ls (omega arith)
-      (cond-true (is_at d.stage stages.Packs && true) (Some (record d { stage = stages.Body; pack_count = 0 })) None (and_from _ _ (ap (λ s. is_at s stages.Packs) e) refl)) refl m
-      (λ k. goes_body (record d { stage = stages.Body; pack_count = 0 }) (ls ++ one_line words.Packs 0 ∷ []) refl k)
+    (cond-true (is_at d.stage stages.Packs && true) (Some (record d { stage = stages.Body; pack_count = 0 })) None (and_from _ _ (ap (λ s. is_at s stages.Packs) e) refl)) refl m
+    (λ k. goes_body (record d { stage = stages.Body; pack_count = 0 }) (ls ++ one_line words.Packs 0 ∷ []) refl k)
+
 goes_nodes_stage : (d : Parts) (ls : List Line) → d.stage ≡ stages.Nodes → Made d ls → Goes ls
 goes_nodes_stage d ls e m =
     by_one d (record d { stage = stages.Packs; node_count = 0 }) words.Nodes 0 ls (omega arith)
-      (cond-true (is_at d.stage stages.Nodes) (Some (record d { stage = stages.Packs; node_count = 0 })) None (ap (λ s. is_at s stages.Nodes) e)) refl m
-      (λ k. goes_packs_stage (record d { stage = stages.Packs; node_count = 0 }) (ls ++ one_line words.Nodes 0 ∷ []) refl k)
+    (cond-true (is_at d.stage stages.Nodes) (Some (record d { stage = stages.Packs; node_count = 0 })) None (ap (λ s. is_at s stages.Nodes) e)) refl m
+    (λ k. goes_packs_stage (record d { stage = stages.Packs; node_count = 0 }) (ls ++ one_line words.Nodes 0 ∷ []) refl k)
+
 goes_cells_stage : (d : Parts) (ls : List Line) → d.stage ≡ stages.Cells → Made d ls → Goes ls
 goes_cells_stage d ls e m =
     by_one d (record d { stage = stages.Nodes; cells = 0 }) words.Cells 0 ls (omega arith)
-      (cond-true (is_at d.stage stages.Cells) (Some (record d { stage = stages.Nodes; cells = 0 })) None (ap (λ s. is_at s stages.Cells) e)) refl m
-      (λ k. goes_nodes_stage (record d { stage = stages.Nodes; cells = 0 }) (ls ++ one_line words.Cells 0 ∷ []) refl k)
+    (cond-true (is_at d.stage stages.Cells) (Some (record d { stage = stages.Nodes; cells = 0 })) None (ap (λ s. is_at s stages.Cells) e)) refl m
+    (λ k. goes_nodes_stage (record d { stage = stages.Nodes; cells = 0 }) (ls ++ one_line words.Cells 0 ∷ []) refl k)
+
 goes_title_stage : (d : Parts) (ls : List Line) → d.stage ≡ stages.Title → Made d ls → Goes ls
 goes_title_stage d ls e m =
     by_one d (record d { stage = stages.Cells }) words.Title 1 ls (omega arith)
-      (cond-true (is_at d.stage stages.Title && true) (Some (record d { stage = stages.Cells })) None (and_from _ _ (ap (λ s. is_at s stages.Title) e) refl)) refl m
-      (λ k. goes_cells_stage (record d { stage = stages.Cells }) (ls ++ one_line words.Title 1 ∷ []) refl k)
+    (cond-true (is_at d.stage stages.Title && true) (Some (record d { stage = stages.Cells })) None (and_from _ _ (ap (λ s. is_at s stages.Title) e) refl)) refl m
+    (λ k. goes_cells_stage (record d { stage = stages.Cells }) (ls ++ one_line words.Title 1 ∷ []) refl k)
 
 goes_at : (s : Stage) (d : Parts) (ls : List Line) → d.stage ≡ s → Made d ls → Goes ls
 goes_at stages.Title d ls e m = goes_title_stage d ls e m

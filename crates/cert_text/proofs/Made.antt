@@ -1,17 +1,17 @@
 -- What the lines so far make.
-use Rattle.std.proofs.Common.{◌≡◌, ℕ, zero, suc, ◌+◌, ◌-◌, ◌^◌, ◌<◌, ◌≤◌, Bool, true, false, ◌&&◌, ◌||◌, cond, eqb, ltb, leb, List, [], ◌∷◌, ◌++◌, map, length, Option, Some, None, ℤ, pos, refl, sym, ap, subst, ◌∙◌, append_assoc, arith}
-use Rattle.std.proofs.lemmas.Bool.{and_parts, and_from, ltb-true, leb-true, eqb-true, eqb-false, false≢true}
-use Rattle.std.proofs.lemmas.List.{append-nil, map_push, map-append, length-append, nil_from_length}
+use Rattle.std.proofs.Common.{◌≡◌, ℕ, zero, suc, ◌+◌, ◌^◌, ◌<◌, ◌≤◌, Bool, true, false, ◌&&◌, ◌||◌, cond, eqb, ltb, leb, List, [], ◌∷◌, ◌++◌, map, length, Some, ℤ, pos, refl, sym, ap, subst, ◌∙◌, append_assoc, arith}
+use Rattle.std.proofs.lemmas.Bool.{and_parts, and_from, ltb-true, leb-true, eqb-true, false≢true}
+use Rattle.std.proofs.lemmas.List.{append-nil, map_push, length-append, nil_from_length}
 use Rattle.cert_text.specs.declared.cert.Claim.{Claim}
 use Rattle.cert_text.specs.declared.cert.Bound.{Bound}
 use Rattle.cert_text.specs.declared.draft.Stage.{Stage}
 use Rattle.cert_text.specs.declared.draft.Stage.TheVariants as stages
 use Rattle.cert_text.specs.declared.word.Word.{Word}
 use Rattle.cert_text.specs.declared.word.Word.TheVariants as words
-use Rattle.cert_text.specs.View.{Place, NotReached, Holds, Certificate}
+use Rattle.cert_text.specs.View.{Place, NotReached, Holds}
 use Rattle.cert_text.specs.Text.{Line, line, pack_line, claim_line, bound_line, place_lines, nodes_lines, heading, lines}
 use Rattle.cert_text.specs.Reading.{◌▷◌}
-use Rattle.cert_text.specs.Allowed.{pack_fits, packs_fit, claim_fits, claims_fit, key_of, no_key, bound_fits, bounds_fit, place_fits, places_all_fit, IsAllowed}
+use Rattle.cert_text.specs.Allowed.{pack_fits, packs_fit, claim_fits, claims_fit, key_of, no_key, bound_fits, bounds_fit, places_all_fit, IsAllowed}
 use Rattle.cert_text.specs.Draft.{Parts, nothing_read, ordinal, is_at, closed, node_closed, is_next, one_number, pack_among, claim_among, bound_among, title_read, cells_read, nodes_read, packs_read, pack_read, never_read, node_read, claim_read, bound_read, end_read, one_step, step, certificate_of}
 use Rattle.cert_text.proofs.Numbers.{guard_some, some_is}
 use Rattle.cert_text.proofs.Words.{bind_some}
@@ -111,29 +111,40 @@ title_made d e n h ls m =
     let a = and_parts _ _ g.0 in
     let k = at_stage d stages.Title ls a.0 m in
     subst (λ (y : Parts). Made y (ls ++ one_line words.Title n ∷ [])) (some_is _ e g.1)
-      (ap (λ (y : Parts). let z : Parts = record y { stage = stages.Cells } in z) k.0, ap (λ (xs : List Line). xs ++ one_line words.Title n ∷ []) k.1 ∙ ap (λ (i : ℕ). one_line words.Title i ∷ []) (eqb-true n 1 a.1))
+    (ap (λ (y : Parts). let z : Parts = record y { stage = stages.Cells } in z) k.0, ap (λ (xs : List Line). xs ++ one_line words.Title n ∷ []) k.1 ∙ ap (λ (i : ℕ). one_line words.Title i ∷ []) (eqb-true n 1 a.1))
 
 cells_made : (d e : Parts) (n : ℕ) → n < 2 ^ 32 → cells_read d n ≡ Some e → Keeps d words.Cells (pos n ∷ []) e
 cells_made d e n lt h ls m =
     let g = guard_some (is_at d.stage stages.Cells) (Some (record d { stage = stages.Nodes; cells = n })) e h in
     let k = at_stage d stages.Cells ls g.0 m in
     subst (λ (y : Parts). Made y (ls ++ one_line words.Cells n ∷ [])) (some_is _ e g.1)
-      (n, lt, ap (λ (y : Parts). let z : Parts = record y { stage = stages.Nodes; cells = n } in z) k.0, ap (λ (xs : List Line). xs ++ one_line words.Cells n ∷ []) k.1)
+    (n, lt, ap (λ (y : Parts). let z : Parts = record y { stage = stages.Nodes; cells = n } in z) k.0, ap (λ (xs : List Line). xs ++ one_line words.Cells n ∷ []) k.1)
 
 nodes_made : (d e : Parts) (n : ℕ) → n < 2 ^ 32 → nodes_read d n ≡ Some e → Keeps d words.Nodes (pos n ∷ []) e
 nodes_made d e n lt h ls m =
     let g = guard_some (is_at d.stage stages.Nodes) (Some (record d { stage = stages.Packs; node_count = n })) e h in
     let k = at_stage d stages.Nodes ls g.0 m in
     subst (λ (y : Parts). Made y (ls ++ one_line words.Nodes n ∷ [])) (some_is _ e g.1)
-      (k.0, n, k.1, lt, ap (λ (y : Parts). let z : Parts = record y { stage = stages.Packs; node_count = n } in z) k.2, ap (λ (xs : List Line). xs ++ one_line words.Nodes n ∷ []) k.3)
+    (k.0, n, k.1, lt, ap (λ (y : Parts). let z : Parts = record y { stage = stages.Packs; node_count = n } in z) k.2, ap (λ (xs : List Line). xs ++ one_line words.Nodes n ∷ []) k.3)
 
 abbrev pub begun : ℕ → ℕ → ℕ → Parts
 begun c n k = record nothing_read { stage = stages.Body; cells = c; node_count = n; pack_count = k }
 
 pub begun_body : (c n k : ℕ) → c < 2 ^ 32 → n < 2 ^ 32 → k ≤ 32 → (eqb k 0 || leb 2 c) ≡ true → IsBody (begun c n k)
 begun_body c n k cells count kinds room = record {
-  cells = cells; count = count; kinds = kinds; room = room; packs_in = omega arith; packs = refl; nodes_in = omega arith; nodes = refl;
-  claims = refl; bounds = refl; cell = λ h. absurd (false≢true h); key = λ h. absurd (false≢true h); waiting = λ h. (refl, refl, refl);
+  cells = cells;
+  count = count;
+  kinds = kinds;
+  room = room;
+  packs_in = omega arith;
+  packs = refl;
+  nodes_in = omega arith;
+  nodes = refl;
+  claims = refl;
+  bounds = refl;
+  cell = λ h. absurd (false≢true h);
+  key = λ h. absurd (false≢true h);
+  waiting = λ h. (refl, refl, refl);
 }
 
 packs_made : (d e : Parts) (n : ℕ) → packs_read d n ≡ Some e → Keeps d words.Packs (pos n ∷ []) e
@@ -164,14 +175,19 @@ pack_body : (d : Parts) (p : List ℕ) → IsBody d → length d.packs < d.pack_
 pack_body d p b room fits =
     let w = b.waiting room in
     record {
-      cells = b.cells; count = b.count; kinds = b.kinds; room = b.room;
+      cells = b.cells;
+      count = b.count;
+      kinds = b.kinds;
+      room = b.room;
       packs_in = omega (arith, length-append d.packs (p ∷ []));
       packs = packs_fit_push d.cells d.packs p b.packs fits;
       nodes_in = b.nodes_in;
       nodes = ap (places_all_fit d.cells (d.packs ++ p ∷ [])) w.0;
       claims = b.claims;
       bounds = ap (bounds_fit (d.packs ++ p ∷ []) no_key) w.2;
-      cell = b.cell; key = b.key; waiting = λ h. w;
+      cell = b.cell;
+      key = b.key;
+      waiting = λ h. w;
     }
 
 pack_made : (d e : Parts) (zs : List ℤ) → pack_read d zs ≡ Some e → Keeps d words.Pack zs e
@@ -186,10 +202,10 @@ pack_made d e zs h ls m =
     let head = heading d.cells d.node_count d.pack_count in
     let new : Parts = record d { packs = d.packs ++ r.0 ∷ [] } in
     let text : ls ++ line words.Pack zs ∷ [] ≡ body_lines new =
-        ap (λ (xs : List Line). xs ++ line words.Pack zs ∷ []) (k.1 ∙ no_nodes head d.packs d.open_node d.nodes d.claims d.bounds w.0 w.1)
-        ∙ ap (λ (ys : List ℤ). body_of head d.packs [] ++ line words.Pack ys ∷ []) t.0
-        ∙ sym (packs_push head d.packs r.0)
-        ∙ sym (no_nodes head (d.packs ++ r.0 ∷ []) d.open_node d.nodes d.claims d.bounds w.0 w.1) in
+    ap (λ (xs : List Line). xs ++ line words.Pack zs ∷ []) (k.1 ∙ no_nodes head d.packs d.open_node d.nodes d.claims d.bounds w.0 w.1)
+    ∙ ap (λ (ys : List ℤ). body_of head d.packs [] ++ line words.Pack ys ∷ []) t.0
+    ∙ sym (packs_push head d.packs r.0)
+    ∙ sym (no_nodes head (d.packs ++ r.0 ∷ []) d.open_node d.nodes d.claims d.bounds w.0 w.1) in
     let made : MadeAt stages.Body new (ls ++ line words.Pack zs ∷ []) = (pack_body d r.0 k.0 room t.1, text) in
     subst (λ (y : Parts). Made y (ls ++ line words.Pack zs ∷ [])) (some_is new e r.2) (subst (λ (s : Stage). MadeAt s new (ls ++ line words.Pack zs ∷ [])) (sym (stage_is d.stage stages.Body a.0)) made)
 
@@ -215,18 +231,26 @@ never_made d e i h ls m =
     let k = at_stage d stages.Body ls n.stage m in
     let b = k.0 in
     let body : IsBody new = record {
-        cells = b.cells; count = b.count; kinds = b.kinds; room = b.room; packs_in = b.packs_in; packs = b.packs;
-        nodes_in = let r = n.room in omega (arith, length-append (closed d) (NotReached ∷ []), r);
-        nodes = places_fit_push d.cells d.packs (closed d) NotReached (closed_fit d b) refl;
-        claims = refl; bounds = refl; cell = λ x. absurd (false≢true x); key = λ x. absurd (false≢true x);
-        waiting = λ x. let f = n.full in absurd (omega arith);
-      } in
+      cells = b.cells;
+      count = b.count;
+      kinds = b.kinds;
+      room = b.room;
+      packs_in = b.packs_in;
+      packs = b.packs;
+      nodes_in = let r = n.room in omega (arith, length-append (closed d) (NotReached ∷ []), r);
+      nodes = places_fit_push d.cells d.packs (closed d) NotReached (closed_fit d b) refl;
+      claims = refl;
+      bounds = refl;
+      cell = λ x. absurd (false≢true x);
+      key = λ x. absurd (false≢true x);
+      waiting = λ x. let f = n.full in absurd (omega arith);
+    } in
     let old_lines = nodes_lines 1 d.nodes ++ open_lines d.open_node d.nodes d.claims d.bounds in
     let k1 : 1 + length (closed d) ≡ i = let f = n.number in omega arith in
     let more : nodes_lines 1 (closed d ++ NotReached ∷ []) ++ [] ≡ old_lines ++ one_line words.Never i ∷ [] =
-        append-nil (nodes_lines 1 (closed d ++ NotReached ∷ [])) ∙ nodes_lines-append 1 (closed d) (NotReached ∷ []) ∙ ap (λ (j : ℕ). nodes_lines 1 (closed d) ++ one_line words.Never j ∷ []) k1 ∙ ap (λ (xs : List Line). xs ++ one_line words.Never i ∷ []) (closed_lines d) in
+    append-nil (nodes_lines 1 (closed d ++ NotReached ∷ [])) ∙ nodes_lines-append 1 (closed d) (NotReached ∷ []) ∙ ap (λ (j : ℕ). nodes_lines 1 (closed d) ++ one_line words.Never j ∷ []) k1 ∙ ap (λ (xs : List Line). xs ++ one_line words.Never i ∷ []) (closed_lines d) in
     let text : ls ++ one_line words.Never i ∷ [] ≡ body_lines new =
-        ap (λ (xs : List Line). xs ++ one_line words.Never i ∷ []) k.1 ∙ sym (nodes_push (heading d.cells d.node_count d.pack_count) d.packs old_lines _ (one_line words.Never i ∷ []) more) in
+    ap (λ (xs : List Line). xs ++ one_line words.Never i ∷ []) k.1 ∙ sym (nodes_push (heading d.cells d.node_count d.pack_count) d.packs old_lines _ (one_line words.Never i ∷ []) more) in
     let made : MadeAt stages.Body new (ls ++ one_line words.Never i ∷ []) = (body, text) in
     subst (λ (y : Parts). Made y (ls ++ one_line words.Never i ∷ [])) (some_is new e g.1) (subst (λ (s : Stage). MadeAt s new (ls ++ one_line words.Never i ∷ [])) (sym (stage_is d.stage stages.Body n.stage)) made)
 
@@ -238,18 +262,26 @@ node_made d e i h ls m =
     let k = at_stage d stages.Body ls n.stage m in
     let b = k.0 in
     let body : IsBody new = record {
-        cells = b.cells; count = b.count; kinds = b.kinds; room = b.room; packs_in = b.packs_in; packs = b.packs;
-        nodes_in = let r = n.room in omega (arith, length-append (closed d) (Holds [] [] ∷ []), r);
-        nodes = closed_fit d b;
-        claims = refl; bounds = refl; cell = λ x. refl; key = λ x. refl;
-        waiting = λ x. let f = n.full in absurd (omega arith);
-      } in
+      cells = b.cells;
+      count = b.count;
+      kinds = b.kinds;
+      room = b.room;
+      packs_in = b.packs_in;
+      packs = b.packs;
+      nodes_in = let r = n.room in omega (arith, length-append (closed d) (Holds [] [] ∷ []), r);
+      nodes = closed_fit d b;
+      claims = refl;
+      bounds = refl;
+      cell = λ x. refl;
+      key = λ x. refl;
+      waiting = λ x. let f = n.full in absurd (omega arith);
+    } in
     let old_lines = nodes_lines 1 d.nodes ++ open_lines d.open_node d.nodes d.claims d.bounds in
     let k1 : suc (length (closed d)) ≡ i = let f = n.number in omega arith in
     let more : nodes_lines 1 (closed d) ++ one_line words.Node (suc (length (closed d))) ∷ [] ≡ old_lines ++ one_line words.Node i ∷ [] =
-        ap (λ (j : ℕ). nodes_lines 1 (closed d) ++ one_line words.Node j ∷ []) k1 ∙ ap (λ (xs : List Line). xs ++ one_line words.Node i ∷ []) (closed_lines d) in
+    ap (λ (j : ℕ). nodes_lines 1 (closed d) ++ one_line words.Node j ∷ []) k1 ∙ ap (λ (xs : List Line). xs ++ one_line words.Node i ∷ []) (closed_lines d) in
     let text : ls ++ one_line words.Node i ∷ [] ≡ body_lines new =
-        ap (λ (xs : List Line). xs ++ one_line words.Node i ∷ []) k.1 ∙ sym (nodes_push (heading d.cells d.node_count d.pack_count) d.packs old_lines _ (one_line words.Node i ∷ []) more) in
+    ap (λ (xs : List Line). xs ++ one_line words.Node i ∷ []) k.1 ∙ sym (nodes_push (heading d.cells d.node_count d.pack_count) d.packs old_lines _ (one_line words.Node i ∷ []) more) in
     let made : MadeAt stages.Body new (ls ++ one_line words.Node i ∷ []) = (body, text) in
     subst (λ (y : Parts). Made y (ls ++ one_line words.Node i ∷ [])) (some_is new e g.1) (subst (λ (s : Stage). MadeAt s new (ls ++ one_line words.Node i ∷ [])) (sym (stage_is d.stage stages.Body n.stage)) made)
 
@@ -281,15 +313,23 @@ claim_made d e c h ls m =
     let none : d.bounds ≡ [] = nil_from_length d.bounds (eqb-true _ _ f.0) in
     let fits : claim_fits d.cells (last_cell 0 d.claims) c ≡ true = subst (λ (n : ℕ). claim_fits d.cells n c ≡ true) (b.cell s.1) f.1 in
     let body : IsBody new = record {
-        cells = b.cells; count = b.count; kinds = b.kinds; room = b.room; packs_in = b.packs_in; packs = b.packs;
-        nodes_in = let r = b.nodes_in in omega (arith, r, closed_length d.open_node d.nodes (Holds (d.claims ++ c ∷ []) d.bounds) (Holds d.claims d.bounds));
-        nodes = b.nodes;
-        claims = claims_fit_push d.cells 0 d.claims c b.claims fits;
-        bounds = b.bounds; cell = λ x. sym (last_cell_push 0 d.claims c); key = b.key; waiting = b.waiting;
-      } in
+      cells = b.cells;
+      count = b.count;
+      kinds = b.kinds;
+      room = b.room;
+      packs_in = b.packs_in;
+      packs = b.packs;
+      nodes_in = let r = b.nodes_in in omega (arith, r, closed_length d.open_node d.nodes (Holds (d.claims ++ c ∷ []) d.bounds) (Holds d.claims d.bounds));
+      nodes = b.nodes;
+      claims = claims_fit_push d.cells 0 d.claims c b.claims fits;
+      bounds = b.bounds;
+      cell = λ x. sym (last_cell_push 0 d.claims c);
+      key = b.key;
+      waiting = b.waiting;
+    } in
     let old_lines = nodes_lines 1 d.nodes ++ open_lines d.open_node d.nodes d.claims d.bounds in
     let text : ls ++ claim_line c ∷ [] ≡ body_lines new =
-        ap (λ (xs : List Line). xs ++ claim_line c ∷ []) k.1 ∙ sym (nodes_push (heading d.cells d.node_count d.pack_count) d.packs old_lines _ (claim_line c ∷ []) (open_claim (nodes_lines 1 d.nodes) d.open_node d.nodes d.claims d.bounds c s.1 none)) in
+    ap (λ (xs : List Line). xs ++ claim_line c ∷ []) k.1 ∙ sym (nodes_push (heading d.cells d.node_count d.pack_count) d.packs old_lines _ (claim_line c ∷ []) (open_claim (nodes_lines 1 d.nodes) d.open_node d.nodes d.claims d.bounds c s.1 none)) in
     let made : MadeAt stages.Body new (ls ++ claim_line c ∷ []) = (body, text) in
     subst (λ (y : Parts). Made y (ls ++ claim_line c ∷ [])) (some_is new e g.1) (subst (λ (t : Stage). MadeAt t new (ls ++ claim_line c ∷ [])) (sym (stage_is d.stage stages.Body s.0)) made)
 
@@ -303,16 +343,23 @@ bound_made d e c h ls m =
     let b = k.0 in
     let fits : bound_fits d.packs (last_key no_key d.bounds) c ≡ true = subst (λ n. bound_fits d.packs n c ≡ true) (b.key s.1) a.1 in
     let body : IsBody new = record {
-        cells = b.cells; count = b.count; kinds = b.kinds; room = b.room; packs_in = b.packs_in; packs = b.packs;
-        nodes_in = let r = b.nodes_in in omega (arith, r, closed_length d.open_node d.nodes (Holds d.claims (d.bounds ++ c ∷ [])) (Holds d.claims d.bounds));
-        nodes = b.nodes; claims = b.claims;
-        bounds = bounds_fit_push d.packs no_key d.bounds c b.bounds fits;
-        cell = b.cell; key = λ x. sym (last_key_push no_key d.bounds c);
-        waiting = λ x. absurd (false≢true (sym (b.waiting x).1 ∙ s.1));
-      } in
+      cells = b.cells;
+      count = b.count;
+      kinds = b.kinds;
+      room = b.room;
+      packs_in = b.packs_in;
+      packs = b.packs;
+      nodes_in = let r = b.nodes_in in omega (arith, r, closed_length d.open_node d.nodes (Holds d.claims (d.bounds ++ c ∷ [])) (Holds d.claims d.bounds));
+      nodes = b.nodes;
+      claims = b.claims;
+      bounds = bounds_fit_push d.packs no_key d.bounds c b.bounds fits;
+      cell = b.cell;
+      key = λ x. sym (last_key_push no_key d.bounds c);
+      waiting = λ x. absurd (false≢true (sym (b.waiting x).1 ∙ s.1));
+    } in
     let old_lines = nodes_lines 1 d.nodes ++ open_lines d.open_node d.nodes d.claims d.bounds in
     let text : ls ++ bound_line c ∷ [] ≡ body_lines new =
-        ap (λ (xs : List Line). xs ++ bound_line c ∷ []) k.1 ∙ sym (nodes_push (heading d.cells d.node_count d.pack_count) d.packs old_lines _ (bound_line c ∷ []) (open_bound (nodes_lines 1 d.nodes) d.open_node d.nodes d.claims d.bounds c s.1)) in
+    ap (λ (xs : List Line). xs ++ bound_line c ∷ []) k.1 ∙ sym (nodes_push (heading d.cells d.node_count d.pack_count) d.packs old_lines _ (bound_line c ∷ []) (open_bound (nodes_lines 1 d.nodes) d.open_node d.nodes d.claims d.bounds c s.1)) in
     let made : MadeAt stages.Body new (ls ++ bound_line c ∷ []) = (body, text) in
     subst (λ (y : Parts). Made y (ls ++ bound_line c ∷ [])) (some_is new e g.1) (subst (λ (t : Stage). MadeAt t new (ls ++ bound_line c ∷ [])) (sym (stage_is d.stage stages.Body s.0)) made)
 
@@ -335,15 +382,15 @@ end_made d e zs h ls m =
     let all_packs : length d.packs ≡ d.pack_count = eqb-true _ _ s.1 in
     let all_nodes : length (closed d) ≡ d.node_count = eqb-true _ _ f.0 in
     let allowed : IsAllowed (certificate_of new) = record {
-        cells = b.cells;
-        nodes = let c = b.count in omega arith;
-        packs = let c = b.kinds in omega arith;
-        each_pack = b.packs;
-        each_node = closed_fit d b;
-      } in
+      cells = b.cells;
+      nodes = let c = b.count in omega arith;
+      packs = let c = b.kinds in omega arith;
+      each_pack = b.packs;
+      each_node = closed_fit d b;
+    } in
     let text : ls ++ line words.End zs ∷ [] ≡ lines (certificate_of new) =
-        ap (λ (ys : List ℤ). ls ++ line words.End ys ∷ []) none ∙ ap (λ (xs : List Line). xs ++ line words.End [] ∷ []) k.1
-        ∙ ended_lines d.cells d.node_count d.pack_count d.packs (closed d) (nodes_lines 1 d.nodes ++ open_lines d.open_node d.nodes d.claims d.bounds) all_packs all_nodes (closed_lines d) in
+    ap (λ (ys : List ℤ). ls ++ line words.End ys ∷ []) none ∙ ap (λ (xs : List Line). xs ++ line words.End [] ∷ []) k.1
+    ∙ ended_lines d.cells d.node_count d.pack_count d.packs (closed d) (nodes_lines 1 d.nodes ++ open_lines d.open_node d.nodes d.claims d.bounds) all_packs all_nodes (closed_lines d) in
     let made : MadeAt stages.Ended new (ls ++ line words.End zs ∷ []) = (allowed, text) in
     subst (λ (y : Parts). Made y (ls ++ line words.End zs ∷ [])) (some_is new e g.1) made
 

@@ -1,9 +1,9 @@
 -- Numbers that are read are spelled so, and what is spelled so is read.
-use Rattle.std.proofs.Common.{◌≡◌, ◌≢◌, ℕ, zero, suc, ◌+◌, ◌-◌, ◌*◌, ◌/◌, ◌%◌, ◌^◌, ◌<◌, ◌≤◌, Bool, true, false, not, ◌&&◌, cond, eqb, ltb, leb, List, [], ◌∷◌, ◌++◌, length, Option, Some, None, ℤ, pos, negsuc, refl, sym, ap, subst, ◌∙◌, append_assoc, arith}
+use Rattle.std.proofs.Common.{◌≡◌, ◌≢◌, ℕ, zero, suc, ◌+◌, ◌-◌, ◌*◌, ◌/◌, ◌%◌, ◌^◌, ◌<◌, ◌≤◌, Bool, true, false, not, cond, eqb, leb, List, [], ◌∷◌, ◌++◌, length, Option, Some, None, ℤ, pos, negsuc, refl, sym, ap, subst, ◌∙◌, append_assoc, arith}
 use Rattle.std.specs.Prelude.{unsigned_abs}
 use Rattle.std.specs.Fmt.{decimal, signed_decimal}
 use Rattle.std.specs.List.{AllByRecursion}
-use Rattle.std.proofs.lemmas.Bool.{leb-true, eqb-true, and_parts, and_from, le-leb, cases_lt, ne_eqb, eq-eqb, cond_both, cond-true, cond-false, not-true}
+use Rattle.std.proofs.lemmas.Bool.{leb-true, eqb-true, and_parts, and_from, le-leb, ne_eqb, not-true}
 use Rattle.std.proofs.lemmas.Fmt.{decimal_digit, decimal_step_wide, decimal_by_steps_wide}
 use Rattle.cert_text.specs.Reading.{◌▷◌, is_digit, digits_from, number_at, negative, positive, signed_at, after_space, numbers_at}
 use Rattle.cert_text.specs.Text.{numbers_text}
@@ -39,6 +39,7 @@ digits_take (b ∷ bs) n x positive small e = by_digit (is_digit b) refl e (λ p
   where
     next : ℕ
     next = n * 10 + (b - 48)
+
     by_digit : (t : Bool) → t ≡ is_digit b → cond t (cond (leb next (10 ^ 37)) (digits_from next bs) None) (Some (n, b ∷ bs)) ≡ Some x
         → (0 < next → next ≤ 10 ^ 37 → digits_from next bs ≡ Some x → (decimal next ++ bs ≡ decimal x.0 ++ x.1) × (x.0 ≤ 10 ^ 37))
         → (decimal n ++ b ∷ bs ≡ decimal x.0 ++ x.1) × (x.0 ≤ 10 ^ 37)
@@ -134,11 +135,13 @@ signed_takes (b ∷ bs) x e = by_minus (eqb b 45) refl e
     minus is (Some (suc n, rest)) r h =
         let t = number_takes bs (suc n, rest) r in
         subst (λ (y : ℤ × List ℕ). (b ∷ bs ≡ signed_decimal y.0 ++ y.1) × (unsigned_abs y.0 ≤ 10 ^ 37)) (some_is (negsuc n, rest) x (sym (negative_suc n rest) ∙ h)) (rw (is, t.0) refl, t.1)
+
     plain : (r : Option (ℕ × List ℕ)) → number_at (b ∷ bs) ≡ r → (r ▷ positive) ≡ Some x → (b ∷ bs ≡ signed_decimal x.0 ++ x.1) × (unsigned_abs x.0 ≤ 10 ^ 37)
     plain None r h = absurd cc
     plain (Some y) r h =
         let t = number_takes (b ∷ bs) y r in
         subst (λ (y : ℤ × List ℕ). (b ∷ bs ≡ signed_decimal y.0 ++ y.1) × (unsigned_abs y.0 ≤ 10 ^ 37)) (some_is (pos y.0, y.1) x h) t
+
     by_minus : (t : Bool) → t ≡ eqb b 45 → cond t (number_at bs ▷ negative) (number_at (b ∷ bs) ▷ positive) ≡ Some x → (b ∷ bs ≡ signed_decimal x.0 ++ x.1) × (unsigned_abs x.0 ≤ 10 ^ 37)
     by_minus true is h = minus (eqb-true b 45 (sym is)) (number_at bs) refl h
     by_minus false is h = plain (number_at (b ∷ bs)) refl h
@@ -179,6 +182,7 @@ numbers_take (suc k) (b ∷ bs) zs e = first (after_space (b ∷ bs)) refl e (λ
         let t = space_takes (b ∷ bs) x is in
         let u = again x.1 ys r in
         subst (λ (ws : List ℤ). (b ∷ bs ≡ numbers_text ws) × AllByRecursion IsSmall ws) (some_is (x.0 ∷ ys) zs h) (t.0 ∙ ap (λ (w : List ℕ). 32 ∷ (signed_decimal x.0 ++ w)) u.0, (t.1, u.1))
+
     first : (r : Option (ℤ × List ℕ)) → after_space (b ∷ bs) ≡ r → (r ▷ (λ x. numbers_at k x.1 ▷ (λ ys. Some (x.0 ∷ ys)))) ≡ Some zs → ((rest : List ℕ) (ys : List ℤ) → numbers_at k rest ≡ Some ys → (rest ≡ numbers_text ys) × AllByRecursion IsSmall ys)
         → (b ∷ bs ≡ numbers_text zs) × AllByRecursion IsSmall zs
     first None is h again = absurd cc

@@ -1,6 +1,6 @@
 -- Lines printed one after the other.
-use Rattle.std.proofs.Common.{◌≡◌, ℕ, zero, suc, ◌+◌, ◌<◌, List, [], ◌∷◌, ◌++◌, length, get_or, take, map, ℤ, pos, refl, sym, ap, ◌∙◌, append_assoc, add-zero, arith}
-use Rattle.std.proofs.lemmas.List.{take_more, get_or_default, map_push, length-take, length-map, take-map, length_push, append-nil}
+use Rattle.std.proofs.Common.{◌≡◌, ℕ, suc, ◌+◌, ◌<◌, List, [], ◌∷◌, ◌++◌, length, get_or, take, map, ℤ, pos, refl, sym, ap, ◌∙◌, append_assoc, add-zero, arith}
+use Rattle.std.proofs.lemmas.List.{take_more, get_or_default, map_push, length-take, length-map, append-nil}
 use Rattle.std.specs.Fmt.{decimal, signed_decimal}
 use Rattle.cert_text.specs.Text.{Line, text_of, line_text, numbers_text, place_lines, nodes_lines, heading}
 use Rattle.cert_text.specs.View.{Place}
@@ -36,7 +36,7 @@ nodes_more f front xs i x lt is =
     let e : map f (take (i + 1) xs) ≡ map f (take i xs) ++ f x ∷ [] = ap (map f) (take_more xs i x lt ∙ ap (λ y. take i xs ++ y ∷ []) (sym is)) ∙ map_push f (take i xs) x in
     let k : 1 + length (map f (take i xs)) ≡ i + 1 = omega (arith, length-map (take i xs) f, length-take i xs) in
     let ls : nodes_lines 1 (map f (take (i + 1) xs)) ≡ nodes_lines 1 (map f (take i xs)) ++ place_lines (i + 1) (f x) =
-        ap (nodes_lines 1) e ∙ nodes_lines-append 1 (map f (take i xs)) (f x ∷ []) ∙ ap (λ (t : List Line). nodes_lines 1 (map f (take i xs)) ++ t) (ap (λ (n : ℕ). nodes_lines n (f x ∷ [])) k ∙ append-nil (place_lines (i + 1) (f x))) in
+    ap (nodes_lines 1) e ∙ nodes_lines-append 1 (map f (take i xs)) (f x ∷ []) ∙ ap (λ (t : List Line). nodes_lines 1 (map f (take i xs)) ++ t) (ap (λ (n : ℕ). nodes_lines n (f x ∷ [])) k ∙ append-nil (place_lines (i + 1) (f x))) in
     append_assoc front (text_of (nodes_lines 1 (map f (take i xs)))) (text_of (place_lines (i + 1) (f x))) ∙ ap (λ (t : List ℕ). front ++ t) (sym (text_of-append (nodes_lines 1 (map f (take i xs))) (place_lines (i + 1) (f x))) ∙ ap text_of (sym ls))
 
 -- a line of a word and numbers after other text

@@ -1,5 +1,5 @@
 -- Where a text is refused.
-use Rattle.std.proofs.Common.{◌≡◌, ℕ, zero, suc, ◌+◌, ◌-◌, ◌^◌, ◌<◌, ◌≤◌, min, Bool, true, false, ◌&&◌, cond, eqb, List, [], ◌∷◌, ◌++◌, map, length, take, drop, Option, Some, None, Result, Ok, Err, refl, sym, ap, subst, ◌∙◌, append_assoc, inl, inr, ⊎_elim, ◌⊎◌, arith}
+use Rattle.std.proofs.Common.{◌≡◌, ℕ, ◌+◌, ◌-◌, ◌^◌, ◌<◌, ◌≤◌, min, Bool, true, false, ◌&&◌, cond, eqb, List, [], ◌∷◌, ◌++◌, map, length, take, drop, Option, Some, None, Result, Ok, Err, refl, sym, ap, subst, ◌∙◌, append_assoc, inl, inr, ⊎_elim, ◌⊎◌, arith}
 use Rattle.std.specs.Prelude.{IfOk, IfErr}
 use Rattle.std.proofs.lemmas.Bool.{cases_order}
 use Rattle.std.proofs.lemmas.List.{append-nil, length-append, take_at, map-append, take-take, take-append-drop}
@@ -62,13 +62,16 @@ refused_from [] n m d texts whole more f parts is h =
     let same : n ≡ m = ended_err (is_at d.stage stages.Ended && eqb (length more) 0) (certificate_of d) n m h in
     let all : texts ≡ whole = sym (append-nil texts) ∙ parts in
     let k : length texts + 1 - 1 ≡ length texts = omega arith in
-    let front : take (length texts + 1 - 1) whole ≡ texts = ap (λ (i : ℕ). take i whole) k ∙ ap (take (length texts)) (sym parts) ∙ take_at texts [] (length texts) refl in
-    (length texts + 1, sym same ∙ is, record {
-      counted = omega arith;
-      before_there = omega (arith, ap length all);
-      before = subst (Viable IsText) (sym front) (viable_front d texts f);
-      here = inl (omega (arith, ap length all));
-    })
+    let front : take (length texts + 1 - 1) whole ≡ texts = ap (λ (i : ℕ). take i whole) k ∙ ap (take (length texts)) (sym parts) ∙ take_at texts [] (length texts) refl in (
+      length texts + 1,
+      sym same ∙ is,
+      record {
+        counted = omega arith;
+        before_there = omega (arith, ap length all);
+        before = subst (Viable IsText) (sym front) (viable_front d texts f);
+        here = inl (omega (arith, ap length all));
+      },
+    )
 refused_from (l ∷ ls) n m d texts whole more f parts is h =
     by_line (line_read d l) refl h (λ e k r. refused_from ls (next_line n) m e (texts ++ l ∷ []) whole more (further d e texts l f k) (append_assoc texts (l ∷ []) ls ∙ parts) (omega (arith, length-append texts (l ∷ []))) r)
   where
@@ -80,13 +83,16 @@ refused_from (l ∷ ls) n m d texts whole more f parts is h =
         let same : n ≡ m = err_is n m k in
         let one : length texts + 1 - 1 ≡ length texts = omega arith in
         let front : take (length texts + 1 - 1) whole ≡ texts = ap (λ (i : ℕ). take i whole) one ∙ ap (take (length texts)) (sym parts) ∙ take_at texts (l ∷ ls) (length texts) refl in
-        let with_it : take (length texts + 1) whole ≡ texts ++ l ∷ [] = ap (take (length texts + 1)) (sym parts ∙ sym (append_assoc texts (l ∷ []) ls)) ∙ take_at (texts ++ l ∷ []) ls (length texts + 1) (length-append texts (l ∷ [])) in
-        (length texts + 1, sym same ∙ is, record {
-          counted = omega arith;
-          before_there = omega (arith, ap length parts, length-append texts (l ∷ ls));
-          before = subst (Viable IsText) (sym front) (viable_front d texts f);
-          here = inr (λ v. not_viable d texts l f none (subst (Viable IsText) with_it v));
-        })
+        let with_it : take (length texts + 1) whole ≡ texts ++ l ∷ [] = ap (take (length texts + 1)) (sym parts ∙ sym (append_assoc texts (l ∷ []) ls)) ∙ take_at (texts ++ l ∷ []) ls (length texts + 1) (length-append texts (l ∷ [])) in (
+          length texts + 1,
+          sym same ∙ is,
+          record {
+            counted = omega arith;
+            before_there = omega (arith, ap length parts, length-append texts (l ∷ ls));
+            before = subst (Viable IsText) (sym front) (viable_front d texts f);
+            here = inr (λ v. not_viable d texts l f none (subst (Viable IsText) with_it v));
+          },
+        )
 
 refused_is : (bytes : List ℕ) (m : ℕ) → read_of bytes ≡ Err m → RefusesAt bytes m
 unfolding read_of

@@ -1,17 +1,16 @@
 -- What the numbers of a line say, both ways; and lists that grow at their end.
-use Rattle.std.proofs.Common.{◌≡◌, ℕ, zero, suc, ◌+◌, ◌-◌, ◌^◌, ◌<◌, ◌≤◌, Bool, true, false, ◌&&◌, cond, eqb, ltb, leb, List, [], ◌∷◌, ◌++◌, map, length, get_or, Option, Some, None, ℤ, pos, negsuc, refl, sym, ap, subst, ◌∙◌, append_assoc, arith}
-use Rattle.std.specs.Prelude.{unsigned_abs, int_le}
-use Rattle.std.specs.List.{AllByRecursion}
-use Rattle.std.proofs.lemmas.Bool.{and_parts, and_from, ltb-true, leb-true, eqb-true, lt-ltb, le-leb}
+use Rattle.std.proofs.Common.{◌≡◌, ℕ, ◌^◌, ◌<◌, true, ◌&&◌, ltb, leb, List, [], ◌∷◌, ◌++◌, map, length, Some, ℤ, pos, negsuc, refl, ap, subst, ◌∙◌}
+use Rattle.std.specs.Prelude.{unsigned_abs}
+use Rattle.std.proofs.lemmas.Bool.{and_parts, and_from, ltb-true, lt-ltb}
 use Rattle.std.proofs.lemmas.List.{length-map}
 use Rattle.cert_text.specs.declared.cert.Claim.{Claim}
 use Rattle.cert_text.specs.declared.cert.Bound.{Bound}
 use Rattle.cert_text.specs.declared.draft.Key.{Key}
-use Rattle.cert_text.specs.View.{Place, NotReached, Holds}
+use Rattle.cert_text.specs.View.{Place}
 use Rattle.cert_text.specs.Reading.{◌▷◌}
 use Rattle.cert_text.specs.Allowed.{cells_rise, pack_fits, packs_fit, claim_fits, claims_fit, key_of, bound_fits, bounds_fit, place_fits, places_all_fit}
 use Rattle.cert_text.specs.Draft.{small_natural, small_integer, one_number, cells_among, pack_among, claim_among, bound_among}
-use Rattle.cert_text.proofs.Numbers.{guard_some, some_is, IsSmall}
+use Rattle.cert_text.proofs.Numbers.{guard_some, some_is}
 use Rattle.cert_text.proofs.Words.{bind_some}
 
 -- ---- single numbers
@@ -46,7 +45,7 @@ cells_take cells last (pos c ∷ zs) cs e =
     let b = bind_some (cells_among cells c zs) (λ ds. Some (c ∷ ds)) cs g.1 in
     let t = cells_take cells c zs b.0 b.1 in
     subst (λ (ds : List ℕ). (pos c ∷ zs ≡ map pos ds) × (cells_rise cells last ds ≡ true)) (some_is (c ∷ b.0) cs b.2)
-      (ap (λ (ys : List ℤ). pos c ∷ ys) t.0, and_from _ _ g.0 t.1)
+    (ap (λ (ys : List ℤ). pos c ∷ ys) t.0, and_from _ _ g.0 t.1)
 
 pub cells_again : (cells last : ℕ) (cs : List ℕ) → cells_rise cells last cs ≡ true → cells_among cells last (map pos cs) ≡ Some cs
 cells_again cells last [] h = refl
@@ -92,12 +91,12 @@ claim_takes (x ∷ y ∷ z ∷ []) c e =
     let h = integer_takes z d.0 d.1 in
     let made : Claim = record { cell = a.0; low = b.0; high = d.0 } in
     subst (IsClaimOf (x ∷ y ∷ z ∷ [])) (some_is made c d.2)
-      (record {
-        numbers = three_alike x (pos a.0) y b.0 z d.0 n.0 l.0 h.0;
-        cell = n.1;
-        low = subst (λ (v : ℤ). unsigned_abs v < 10 ^ 18) l.0 l.1;
-        high = subst (λ (v : ℤ). unsigned_abs v < 10 ^ 18) h.0 h.1;
-      })
+    (record {
+      numbers = three_alike x (pos a.0) y b.0 z d.0 n.0 l.0 h.0;
+      cell = n.1;
+      low = subst (λ (v : ℤ). unsigned_abs v < 10 ^ 18) l.0 l.1;
+      high = subst (λ (v : ℤ). unsigned_abs v < 10 ^ 18) h.0 h.1;
+    })
 
 pub claim_again : (c : Claim) → c.cell < 2 ^ 32 → ltb (unsigned_abs c.low) (10 ^ 18) ≡ true → ltb (unsigned_abs c.high) (10 ^ 18) ≡ true → claim_among (pos c.cell ∷ c.low ∷ c.high ∷ []) ≡ Some c
 claim_again c cell low high = rw (natural_again c.cell cell, integer_again c.low low, integer_again c.high high) refl
@@ -123,7 +122,7 @@ bound_takes (x ∷ y ∷ z ∷ w ∷ []) b e =
     let k = natural_takes z c.0 c.1 in
     let made : Bound = record { pack = p.0; row = r.0; column = c.0; most = w } in
     subst (IsBoundOf (x ∷ y ∷ z ∷ w ∷ [])) (some_is made b c.2)
-      (record { numbers = ap (λ (v : ℤ). v ∷ y ∷ z ∷ w ∷ []) i.0 ∙ ap (λ (v : List ℤ). pos p.0 ∷ v) (three_alike y (pos r.0) z (pos c.0) w w j.0 k.0 refl); pack = i.1; row = j.1; column = k.1 })
+    (record { numbers = ap (λ (v : ℤ). v ∷ y ∷ z ∷ w ∷ []) i.0 ∙ ap (λ (v : List ℤ). pos p.0 ∷ v) (three_alike y (pos r.0) z (pos c.0) w w j.0 k.0 refl); pack = i.1; row = j.1; column = k.1 })
 
 pub bound_again : (b : Bound) → b.pack < 2 ^ 32 → b.row < 2 ^ 32 → b.column < 2 ^ 32 → bound_among (pos b.pack ∷ pos b.row ∷ pos b.column ∷ b.most ∷ []) ≡ Some b
 bound_again b pack row column = rw (natural_again b.pack pack, natural_again b.row row, natural_again b.column column) refl

@@ -1,31 +1,24 @@
 -- What reading the whole gives.
-use Rattle.std.proofs.Common.{◌≡◌, ◌≢◌, ℕ, zero, suc, ◌+◌, ◌-◌, ◌*◌, ◌/◌, ◌%◌, ◌^◌, ◌<◌, ◌≤◌, min, Bool, true, false, not, ◌&&◌, cond, eqb, ltb, leb, List, [], ◌∷◌, ◌++◌, map, length, take, Option, Some, None, Result, Ok, Err, ℤ, pos, negsuc, refl, sym, ap, subst, ◌∙◌, append_assoc, inl, inr, arith}
-use Rattle.std.specs.Prelude.{unsigned_abs, IfOk, IfErr}
+use Rattle.std.proofs.Common.{◌≡◌, ℕ, suc, ◌+◌, ◌%◌, ◌^◌, ◌≤◌, Bool, true, false, not, ◌&&◌, cond, eqb, List, [], ◌∷◌, ◌++◌, map, length, Option, Some, None, Result, Ok, Err, ℤ, pos, negsuc, refl, sym, ap, subst, ◌∙◌, append_assoc, arith}
 use Rattle.std.specs.Fmt.{decimal, signed_decimal}
 use Rattle.std.specs.List.{AllByRecursion}
 use Rattle.std.proofs.lemmas.Bool.{and_parts, and_from, eqb-true, ne_eqb, not_from_false, not-true, cond-true}
-use Rattle.std.proofs.lemmas.List.{append-nil, length-append, length-map, nil_from_length, take_at, map-append, length_push}
+use Rattle.std.proofs.lemmas.List.{append-nil, nil_from_length, map-append}
 use Rattle.std.proofs.lemmas.Fmt.{decimal_by_steps_wide}
 use Rattle.cert_text.specs.declared.draft.Stage.TheVariants as stages
-use Rattle.cert_text.specs.declared.cert.Cert.{Cert}
-use Rattle.cert_text.specs.declared.cert.CertEnd.{CertEnd}
-use Rattle.cert_text.specs.declared.cert.CertEnd.TheVariants as ends
-use Rattle.cert_text.specs.View.{Certificate, view}
-use Rattle.cert_text.specs.Text.{name, Line, line, line_text, numbers_text, lines, text_lines, with_ends, spelling}
+use Rattle.cert_text.specs.View.{Certificate}
+use Rattle.cert_text.specs.Text.{name, Line, line_text, numbers_text, lines, text_lines, with_ends, spelling}
 use Rattle.cert_text.specs.Reading.{◌▷◌}
 use Rattle.cert_text.specs.Lines.{first_longer, whole_lines, last_longer, unended}
 use Rattle.cert_text.specs.Allowed.{IsAllowed}
 use Rattle.cert_text.specs.Draft.{Parts, nothing_read, is_at, certificate_of, line_read, step}
-use Rattle.cert_text.specs.Whole.{next_line, or_refuse, ended, reading, read_of, Gives}
-use Rattle.cert_text.specs.Viable.{Viable, RefusedAt}
-use Rattle.cert_text.specs.Texts.{IsText, RefusesAt}
+use Rattle.cert_text.specs.Whole.{next_line, or_refuse, reading, read_of}
 use Rattle.cert_text.specs.declared.word.Word.{Word}
 use Rattle.cert_text.specs.declared.word.Word.TheVariants as words
 use Rattle.cert_text.proofs.Numbers.{some_is, IsSmall}
-use Rattle.cert_text.proofs.Words.{bind_some, Took, line_takes}
+use Rattle.cert_text.proofs.Words.{bind_some, line_takes}
 use Rattle.cert_text.proofs.Made.{Made, MadeAt, made_cells, step_made, stage_is}
 use Rattle.cert_text.proofs.Complete.{run, lines_read, lines_run, whole_run, step_small}
-use Rattle.cert_text.proofs.Goes.{Goes, made_goes}
 
 -- ---- the lines of a text
 
@@ -37,6 +30,7 @@ text_is_lines (b ∷ bs) = by_end (eqb b 10) refl (whole_lines bs) (text_is_line
     longer : (ls : List (List ℕ)) (rest : List ℕ) → bs ≡ with_ends ls ++ rest → b ∷ bs ≡ with_ends (first_longer b ls) ++ last_longer b ls rest
     longer [] rest e = ap (λ (t : List ℕ). b ∷ t) e
     longer (l ∷ ls) rest e = ap (λ (t : List ℕ). b ∷ t) e
+
     by_end : (t : Bool) → t ≡ eqb b 10 → (ls : List (List ℕ)) → bs ≡ with_ends ls ++ unended bs
         → b ∷ bs ≡ with_ends (cond t ([] ∷ ls) (first_longer b ls)) ++ cond t (unended bs) (last_longer b ls (unended bs))
     by_end true is ls e = ap (λ (c : ℕ). c ∷ bs) (eqb-true b 10 (sym is)) ∙ ap (λ (t : List ℕ). 10 ∷ t) e

@@ -1,5 +1,5 @@
 -- What the lines so far make, and what one more line does.
-use Rattle.std.specs.Prelude.{◌≡◌, ℕ, zero, suc, ◌+◌, ◌^◌, Bool, true, false, ◌&&◌, ◌||◌, nat_lt, nat_le, ◌==◌, if◌then◌else◌, List, [], ◌∷◌, ◌++◌, map, length, Option, Some, None, ℤ, pos, negsuc, unsigned_abs}
+use Rattle.std.specs.Prelude.{◌≡◌, ℕ, ◌+◌, ◌^◌, Bool, true, false, ◌&&◌, ◌||◌, nat_lt, nat_le, ◌==◌, if◌then◌else◌, List, [], ◌∷◌, ◌++◌, map, length, Option, Some, None, ℤ, pos, negsuc, unsigned_abs}
 use Rattle.cert_text.specs.declared.word.Word.{Word}
 use Rattle.cert_text.specs.declared.word.Word.TheVariants as words
 use Rattle.cert_text.specs.declared.cert.Claim.{Claim}
@@ -9,7 +9,7 @@ use Rattle.cert_text.specs.declared.draft.Stage.{Stage}
 use Rattle.cert_text.specs.declared.draft.Stage.TheVariants as stages
 use Rattle.cert_text.specs.declared.draft.Draft.{Draft}
 use Rattle.cert_text.specs.View.{Place, NotReached, Holds, Certificate, place_of}
-use Rattle.cert_text.specs.Allowed.{pack_fits, claim_fits, bound_fits, key_of, no_key}
+use Rattle.cert_text.specs.Allowed.{claim_fits, bound_fits, key_of, no_key}
 use Rattle.cert_text.specs.Reading.{◌▷◌, numbers_at, word_at}
 
 -- the parts read so far; while a node is open, its claims and bounds are the last ones
@@ -28,9 +28,17 @@ pub record Parts : Type 0 where
 
 abbrev pub parts_of : Draft → Parts
 parts_of d = record {
-  stage = d.stage; cells = d.cells; node_count = d.node_count; pack_count = d.pack_count;
-  packs = map (λ p. p.cells.items) d.packs.items; nodes = map place_of d.nodes.items;
-  open_node = d.open_node; claims = d.claims.items; bounds = d.bounds.items; cell = d.cell; key = d.key;
+  stage = d.stage;
+  cells = d.cells;
+  node_count = d.node_count;
+  pack_count = d.pack_count;
+  packs = map (λ p. p.cells.items) d.packs.items;
+  nodes = map place_of d.nodes.items;
+  open_node = d.open_node;
+  claims = d.claims.items;
+  bounds = d.bounds.items;
+  cell = d.cell;
+  key = d.key;
 }
 
 abbrev pub nothing_read : Parts
@@ -185,4 +193,3 @@ certificate_of d = record { cells = d.cells; packs = d.packs; nodes = d.nodes }
 abbrev pub Stepped : Bool → Parts → Option Parts → Type 0
 Stepped true new read = read ≡ Some new
 Stepped false new read = read ≡ None
-

@@ -1,5 +1,5 @@
 -- Where a list leaves a set of lists.
-use Rattle.std.specs.Prelude.{ℕ, ◌+◌, ◌-◌, ◌<◌, ◌≤◌, ◌⊎◌, List, ◌++◌, length, take}
+use Rattle.std.specs.Prelude.{ℕ, ◌-◌, ◌<◌, ◌≤◌, ◌⊎◌, List, ◌++◌, length, take}
 
 -- some list of the set begins so
 abbrev pub Viable : {A : Type 0} → (List A → Type 0) → List A → Type 0

@@ -1,6 +1,5 @@
 -- Certificates as plain data, with lists for vectors.
 use Rattle.std.specs.Prelude.{ℕ, List, map}
-use Rattle.diff_bounds.specs.declared.Pack.{Pack}
 use Rattle.cert_text.specs.declared.cert.Claim.{Claim}
 use Rattle.cert_text.specs.declared.cert.Bound.{Bound}
 use Rattle.cert_text.specs.declared.cert.Element.{Element}

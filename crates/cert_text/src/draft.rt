@@ -112,7 +112,12 @@ fn bound_among(numbers: &[i128]) -> Option<Bound>
             let pack = small_natural(*pack)?;
             let row = small_natural(*row)?;
             let column = small_natural(*column)?;
-            Some(Bound { pack, row, column, most: *most })
+            Some(Bound {
+                pack,
+                row,
+                column,
+                most: *most,
+            })
         }
         _ => None,
     }
@@ -135,11 +140,7 @@ fn push_cells(cells: u32, numbers: &[i128], pack: &mut Vec<u32>) -> Result<bool,
     Ok(true)
 }
 
-fn pack_among(
-    alloc: Global,
-    cells: u32,
-    numbers: &[i128],
-) -> Result<Option<Pack>, AllocError>
+fn pack_among(alloc: Global, cells: u32, numbers: &[i128]) -> Result<Option<Pack>, AllocError>
     ensures { IfOk result (λ pack. Reads (λ p. p.cells.items) pack (pack_among cells numbers.now)) }
 {
     if numbers.len() < 2 || numbers.len() > 8 {
@@ -249,8 +250,9 @@ impl Draft {
     fn read_packs(&mut self, number: u32) -> bool
         ensures { Stepped result (parts_of self.new) (packs_read (parts_of self.old) number) }
     {
-        let fits =
-            self.stage.is_at(Stage::Packs) && number <= 32 && (number == 0 || self.cells >= 2);
+        let fits = self.stage.is_at(Stage::Packs)
+            && number <= 32
+            && (number == 0 || self.cells >= 2);
         if fits {
             self.stage = Stage::Body;
             self.pack_count = number;
@@ -375,12 +377,7 @@ impl Draft {
         Ok(fits)
     }
 
-    fn accept(
-        &mut self,
-        alloc: Global,
-        word: Word,
-        numbers: &[i128],
-    ) -> Result<bool, AllocError>
+    fn accept(&mut self, alloc: Global, word: Word, numbers: &[i128]) -> Result<bool, AllocError>
         ensures { IfOk result (λ fits. Stepped fits (parts_of self.new) (step (parts_of self.old) word numbers.now)) }
     {
         match word {
@@ -402,12 +399,7 @@ impl Draft {
     }
 
     // The words that one number follows.
-    fn accept_one(
-        &mut self,
-        alloc: Global,
-        word: Word,
-        number: u32,
-    ) -> Result<bool, AllocError>
+    fn accept_one(&mut self, alloc: Global, word: Word, number: u32) -> Result<bool, AllocError>
         ensures { IfOk result (λ fits. Stepped fits (parts_of self.new) (one_step (parts_of self.old) word number)) }
     {
         match word {

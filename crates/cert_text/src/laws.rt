@@ -9,11 +9,9 @@ ghost use Rattle.cert_text.specs.Viable.{RefusedAt};
 /// No two certificates have one text.
 pub fn one_spelling()
     ensures { (c d : Certificate) → IsAllowed c → IsAllowed d → spelling c ≡ spelling d → c ≡ d }
-{
-}
+{}
 
 /// A text is refused at one line only.
 pub fn one_place()
     ensures { (lines : List (List ℕ)) (m n : ℕ) → RefusedAt IsText lines m → RefusedAt IsText lines n → m ≡ n }
-{
-}
+{}

@@ -13,3 +13,6 @@ pub use cert::{Bound, Cert, CertEnd, Claim, Element};
 pub use laws::{one_place, one_spelling};
 pub use printing::print;
 pub use reading::read;
+
+#[cfg(test)]
+mod tests;

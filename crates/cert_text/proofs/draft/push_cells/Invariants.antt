@@ -1,4 +1,4 @@
-use Rattle.std.proofs.Common.{◌≡◌, ◌++◌, drop}
+use Rattle.std.proofs.Common.{◌≡◌, drop}
 use Rattle.cert_text.specs.Draft.{cells_among}
 use Rattle.cert_text.proofs.Loops.{with_front}
 use Rattle.cert_text.proofs.draft.push_cells.Given as goal

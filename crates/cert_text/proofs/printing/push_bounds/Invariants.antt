@@ -1,6 +1,5 @@
-use Rattle.std.proofs.Common.{◌≡◌, ◌++◌, map, take, pos}
-use Rattle.cert_text.specs.Text.{numbers_text, text_of, claim_line, bound_line, pack_line, nodes_lines}
-use Rattle.cert_text.specs.View.{place_of}
+use Rattle.std.proofs.Common.{◌≡◌, ◌++◌, map, take}
+use Rattle.cert_text.specs.Text.{text_of, bound_line}
 use Rattle.cert_text.proofs.printing.push_bounds.Given as goal
 
 abbrev pub invariant-loop-bound : goal.invariant-loop-bound

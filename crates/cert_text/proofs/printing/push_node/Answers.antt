@@ -1,8 +1,6 @@
-use Rattle.std.proofs.Common.{ap, ◌∙◌, sym, subst, ◌≡◌, ◌++◌, [], ◌∷◌, pos, map}
+use Rattle.std.proofs.Common.{[], ◌∷◌, pos, map}
 use Rattle.cert_text.specs.declared.word.Word.TheVariants as words
-use Rattle.cert_text.specs.Text.{line, claim_line, bound_line, text_of, place_lines}
-use Rattle.cert_text.specs.View.{place_of}
-use Rattle.std.specs.Prelude.{OnOk}
+use Rattle.cert_text.specs.Text.{line, claim_line, bound_line}
 use Rattle.cert_text.proofs.Printed.{node_printed}
 use Rattle.std.proofs.lemmas.Result.{on_ok_weaker}
 use Rattle.cert_text.proofs.printing.push_node.Goals as goal

@@ -1,4 +1,3 @@
-use Rattle.std.proofs.Common.{map}
 use Rattle.cert_text.specs.Text.{pack_line}
 use Rattle.cert_text.proofs.Printed.{packs_step}
 use Rattle.cert_text.proofs.printing.push_packs.Goals as goal
