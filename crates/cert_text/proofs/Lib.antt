@@ -1,0 +1,11 @@
+pub mod Loops
+pub mod Cutting
+pub mod Numbers
+pub mod Printed
+pub mod Words
+pub mod Taken
+pub mod Made
+pub mod Complete
+pub mod Goes
+pub mod WholeText
+pub mod Refused

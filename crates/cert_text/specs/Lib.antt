@@ -1,0 +1,9 @@
+pub mod View
+pub mod Allowed
+pub mod Text
+pub mod Reading
+pub mod Draft
+pub mod Lines
+pub mod Whole
+pub mod Viable
+pub mod Texts

@@ -1,0 +1,18 @@
+//! The text of a certificate, read and printed.
+#![tactic(auto)]
+
+mod cert;
+mod draft;
+mod laws;
+mod number;
+mod printing;
+mod reading;
+mod word;
+
+pub use cert::{Bound, Cert, CertEnd, Claim, Element};
+pub use laws::{one_place, one_spelling};
+pub use printing::print;
+pub use reading::read;
+
+#[cfg(test)]
+mod tests;

@@ -1,0 +1,69 @@
+//! Reading a certificate's text.
+ghost use Rattle.std.specs.Prelude.{◌≡◌, IfOk, IfErr};
+ghost use Rattle.std.specs.Option.{option_map};
+ghost use Rattle.cert_text.specs.Lines.{Cuts};
+ghost use Rattle.cert_text.specs.Draft.{parts_of, certificate_of};
+ghost use Rattle.cert_text.specs.View.{Certificate, view};
+ghost use Rattle.cert_text.specs.Allowed.{IsAllowed};
+ghost use Rattle.cert_text.specs.Text.{spelling};
+ghost use Rattle.cert_text.specs.Texts.{RefusedBy};
+ghost use Rattle.cert_text.specs.Whole.{Gives, read_of};
+
+use crate::cert::{Cert, CertEnd};
+use crate::draft::{Draft, Stage};
+use memchr::memchr;
+use std::alloc::Global;
+
+// The first line, without its end, and the bytes after it.
+fn cut(bytes: &[u8]) -> Option<(&[u8], &[u8])>
+    ensures { Cuts bytes.now (option_map (λ x. (x.0.now, x.1.now)) result) }
+{
+    match memchr(b'\n', bytes) {
+        Some(end) => Some((&bytes[..end], &bytes[end + 1..])),
+        None => None,
+    }
+}
+
+fn certificate(draft: Draft) -> Cert
+    ensures { view result ≡ certificate_of (parts_of draft) }
+{
+    Cert {
+        cells: draft.cells,
+        packs: draft.packs,
+        nodes: draft.nodes,
+    }
+}
+
+#[tactic(auto, unfolding(crate::specs::Whole::read_of))]
+fn read_lines(alloc: Global, bytes: &[u8]) -> Result<Cert, CertEnd>
+    ensures { Gives result (read_of bytes.now) }
+{
+    let mut draft = Draft::new(alloc);
+    let mut numbers = Vec::new(alloc);
+    let mut rest = bytes;
+    let mut line: u32 = 1;
+    while let Some((first, after)) = cut(rest) {
+        if !draft.read_line(alloc, first, &mut numbers)? {
+            return Err(CertEnd::Syntax { line });
+        }
+        rest = after;
+        line = line.saturating_add(1);
+    }
+    if draft.stage.is_at(Stage::Ended) && rest.is_empty() {
+        Ok(certificate(draft))
+    } else {
+        Err(CertEnd::Syntax { line })
+    }
+}
+
+/// The certificate whose text the bytes are.
+pub fn read(alloc: Global, bytes: &[u8]) -> Result<Cert, CertEnd>
+    // What is read is allowed, and the bytes spell it.
+    ensures found { IfOk result (λ c. IsAllowed (view c) × (bytes.now ≡ spelling (view c))) }
+    // What is allowed and spelled so is read, unless memory runs out.
+    ensures only { (c : Certificate) → IsAllowed c → bytes.now ≡ spelling c → Gives result (Ok c) }
+    // A refusal names the first line with which no certificate's text goes on.
+    ensures refused { IfErr result (RefusedBy bytes.now) }
+{
+    read_lines(alloc, bytes)
+}
