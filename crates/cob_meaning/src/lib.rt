@@ -3,6 +3,8 @@
 //! Nothing here knows of graphs, intervals or certificates.
 #![tactic(auto)]
 
+mod run;
 mod straight;
 
+pub use run::outcome_after;
 pub use straight::{Kind, Open, Outcome, Simple, Straight};
