@@ -5,6 +5,8 @@
 
 mod run;
 mod straight;
+#[cfg(test)]
+mod tests;
 
 pub use run::outcome_after;
 pub use straight::{Kind, Open, Outcome, Simple, Straight};
