@@ -1,3 +1,5 @@
 pub mod Walks
 pub mod Small
 pub mod Nodes
+pub mod Standing
+pub mod Runs

@@ -1,13 +1,12 @@
 -- Nodes and statements by their place, and the leaks and pairs one edge at a time.
-use Rattle.std.proofs.Common.{◌≡◌, ℕ, zero, suc, ◌+◌, ◌<◌, ◌≤◌, List, [], ◌∷◌, ◌++◌, map, length, drop, get_or, Option, Some, None, true, false, is_some, refl, sym, ap, ◌∙◌, subst, arith, ℤ, pos, negsuc}
+use Rattle.std.proofs.Common.{◌≡◌, ℕ, zero, suc, ◌+◌, ◌<◌, List, [], ◌∷◌, ◌++◌, map, length, drop, get_or, Option, Some, None, true, false, is_some, refl, sym, ap, ◌∙◌, subst, arith, ℤ, pos, negsuc}
 use Rattle.std.proofs.lemmas.Int.{ints}
-use Rattle.std.specs.Prelude.{slice_get, option_map, Vec, All}
+use Rattle.std.specs.Prelude.{slice_get, option_map, Vec}
 use Rattle.std.proofs.lemmas.List.{drop_more, append_assoc, length-map, get_or-map}
 use Rattle.std.specs.declared.alloc.Global.{Global}
 use Rattle.cob_meaning.specs.declared.straight.Simple.{Simple}
 use Rattle.cob_meaning.specs.declared.straight.Simple.TheVariants.{Move, Add, Stop}
 use Rattle.cob_meaning.specs.declared.straight.Open.{Open}
-use Rattle.cob_meaning.specs.declared.straight.Kind.{Kind}
 use Rattle.cert_check.proofs.Walks.{first_found, first_right}
 use Rattle.std.proofs.lemmas.Bool.{false≢true}
 use Rattle.cob_meaning.specs.Program.{Program, AreActs, AreItems, IsWithin}
@@ -29,7 +28,7 @@ length-claims cell zero (claim ∷ claims) h = absurd h
 length-claims cell (suc n) [] h = absurd h
 length-claims cell (suc n) (claim ∷ claims) h = ap suc (length-claims (cell + 1) n claims h.4)
 
-length-node : (cells n : ℕ) (nodes : List (List Claim)) (k : ℕ) → AreNodes cells n nodes → k < n → length (get_or nodes k []) ≡ cells
+pub length-node : (cells n : ℕ) (nodes : List (List Claim)) (k : ℕ) → AreNodes cells n nodes → k < n → length (get_or nodes k []) ≡ cells
 length-node cells zero nodes k h l = absurd (omega arith)
 length-node cells (suc n) [] k h l = absurd h
 length-node cells (suc n) (node ∷ nodes) zero h l = length-claims 1 cells node h.0

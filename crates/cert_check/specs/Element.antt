@@ -1,10 +1,8 @@
 -- Elements of the interval layer on straight-line programs, whose cells are unsigned whole numbers.
-use Rattle.std.specs.Prelude.{◌≡◌, ℕ, ◌-◌, ◌^◌, ◌<◌, ◌≤◌, All, unsigned_abs, ℤ, pos, ◌+ℤ◌, neg_ℤ, Bool, ◌&&◌, List, [], ◌∷◌, Option, Some, None, option_map, option_and_then, slice_index, slice_set, slice_index_or, int_le, if◌then◌else◌}
+use Rattle.std.specs.Prelude.{ℕ, ◌-◌, ◌^◌, ◌<◌, ◌≤◌, All, unsigned_abs, ℤ, pos, ◌+ℤ◌, neg_ℤ, Bool, ◌&&◌, List, [], ◌∷◌, Option, Some, None, option_map, option_and_then, slice_index, slice_set, slice_index_or, int_le, if◌then◌else◌}
 use Rattle.std.specs.Int.{int_max, int_min}
 use Rattle.cob_meaning.specs.declared.straight.Simple.{Simple}
 use Rattle.cob_meaning.specs.declared.straight.Simple.TheVariants.{Move, Add, Stop}
-use Rattle.cob_meaning.specs.declared.straight.Kind.{Kind}
-use Rattle.cob_meaning.specs.declared.straight.Kind.TheVariants.{Size, Truncation}
 use Rattle.cert_check.specs.declared.ends.Claim.{Claim}
 use Rattle.cert_check.specs.declared.interval.Interval.{Interval}
 

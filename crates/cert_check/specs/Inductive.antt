@@ -1,7 +1,6 @@
 -- When a certificate is inductive on a straight-line program, and which statements it leaves open. Node i
 -- stands before statement i, the last node behind the last; edge i is statement i, and edge 0 is the entry.
-use Rattle.std.specs.Prelude.{◌≡◌, ℕ, zero, suc, ◌+◌, ◌^◌, ◌<◌, ℤ, pos, ◌≤ℤ◌, unsigned_abs, int_lt, List, [], ◌∷◌, ◌++◌, map, length, Option, Some, None, slice_index, slice_get, Vec, Result, MatchResult, if◌then◌else◌}
-use Rattle.std.specs.Option.{option_map_or}
+use Rattle.std.specs.Prelude.{◌≡◌, ℕ, zero, suc, ◌+◌, ℤ, ◌≤ℤ◌, int_lt, List, [], ◌∷◌, ◌++◌, map, length, Option, Some, None, slice_index, Vec, Result, MatchResult, if◌then◌else◌}
 use Rattle.std.specs.declared.alloc.Global.{Global}
 use Rattle.cob_meaning.specs.declared.straight.Simple.{Simple}
 use Rattle.cob_meaning.specs.declared.straight.Simple.TheVariants.{Move, Add, Stop}

@@ -2,6 +2,7 @@ ghost use Rattle.std.specs.Prelude.{◌≡◌, ◌≤◌, ◌<◌, ◌+◌, ◌-
 ghost use Rattle.cert_check.specs.Element.{met, own, claimed, source_of, result_of, after, post, interval, IsSmall, AreDigits, IsStore};
 ghost use Rattle.cert_check.specs.Inductive.{Checks, FitsProgram, AreNodes, kind_of, plain_nodes, element_gaps, node_gaps, cell_gaps, open_kind, leaks, leaks_from, entry_leaks, pairs_from, pair_of, open_pairs};
 ghost use Rattle.cob_meaning.specs.Program.{IsValid, AreActs, plain};
+ghost use Rattle.cob_meaning.specs.Run.{CoversRuns, MeetsNoFault};
 
 use crate::ends::{CheckEnd, Claim, Gap, Leak};
 use crate::interval::Interval;
@@ -310,7 +311,9 @@ pub fn check_straight(
 ) -> Result<Vec<Open>, CheckEnd>
     requires valid { IsValid (plain program.now) }
     requires shape { FitsProgram (plain program.now) (plain_nodes claims.now) }
-    ensures { Checks (plain program.now) (plain_nodes claims.now) result }
+    ensures exact { Checks (plain program.now) (plain_nodes claims.now) result }
+    ensures sound { IfOk result (λ pairs. CoversRuns (plain program.now) pairs.items) }
+    ensures clean { IfOk result (λ pairs. pairs.items ≡ [] → MeetsNoFault (plain program.now)) }
 {
     if let Some(Leak { edge, gap }) = leak_of(alloc, program, claims)? {
         let layer = 1;

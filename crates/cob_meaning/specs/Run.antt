@@ -1,10 +1,11 @@
 -- What a straight-line program does, step by step. Each item has a VALUE and there are no files, so that
 -- nothing is left undefined and each program has one run.
-use Rattle.std.specs.Prelude.{◌≡◌, ℕ, zero, suc, ◌+◌, ◌^◌, ℤ, pos, ◌+ℤ◌, unsigned_abs, List, map, Option, slice_get, slice_set, slice_index, nat_lt, if◌then◌else◌}
+use Rattle.std.specs.Prelude.{◌≡◌, ℕ, zero, suc, ◌+◌, ◌^◌, ℤ, pos, ◌+ℤ◌, unsigned_abs, List, Contains, slice_get, slice_set, slice_index, nat_lt, if◌then◌else◌}
 use Rattle.std.specs.Option.{option_map_or}
 use Rattle.std.specs.List.{slice_index_or}
 use Rattle.cob_meaning.specs.declared.straight.Kind.{Kind}
 use Rattle.cob_meaning.specs.declared.straight.Kind.TheVariants.{Size, Truncation}
+use Rattle.cob_meaning.specs.declared.straight.Open.{Open}
 use Rattle.cob_meaning.specs.declared.straight.Outcome.{Outcome}
 use Rattle.cob_meaning.specs.declared.straight.Outcome.TheVariants.{Going, Ended, IoStop, Fault}
 use Rattle.cob_meaning.specs.declared.straight.Simple.{Simple}
@@ -48,6 +49,10 @@ step program state = step_at program state state.outcome
 abbrev pub run : Program → ℕ → State
 run program zero = start program
 run program (suc n) = step program (run program n)
+
+-- Whatever the number of steps, each fault that the run meets is among these.
+abbrev pub CoversRuns : Program → List Open → Type 0
+CoversRuns program pairs = (n : ℕ) (kind : Kind) (statement : ℕ) → (run program n).outcome ≡ Fault kind statement → Contains pairs (record { statement = statement; kind = kind })
 
 -- Whatever the number of steps, the run meets no fault.
 abbrev pub MeetsNoFault : Program → Type 0

@@ -3,6 +3,10 @@
 //! Nothing here knows of graphs, intervals or certificates.
 #![tactic(auto)]
 
+mod run;
 mod straight;
+#[cfg(test)]
+mod tests;
 
+pub use run::outcome_after;
 pub use straight::{Kind, Open, Outcome, Simple, Straight};

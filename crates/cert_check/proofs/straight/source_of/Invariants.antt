@@ -1,4 +1,4 @@
-use Rattle.std.proofs.Common.{◌≡◌, ◌++◌, length, drop}
+use Rattle.std.proofs.Common.{◌≡◌, ◌++◌, drop}
 use Rattle.std.specs.Prelude.{option_map, All, vec_len}
 use Rattle.cert_check.specs.Element.{source_of, IsSmall}
 use Rattle.cert_check.proofs.straight.source_of.Given as goal
