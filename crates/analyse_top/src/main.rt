@@ -6,4 +6,38 @@ mod check;
 mod text;
 mod top;
 
-fn main() {}
+use std::alloc::Global;
+use std::env;
+use std::io::ErrorKind;
+use std::process::ExitCode;
+
+use batch_io::{RealFiles, StdSink};
+use top::cobsound;
+
+// The status where a word of the command isn't text.
+const NO_TEXT: u8 = 4;
+// The status where the words can't be had for want of memory.
+const OUT_OF_MEMORY: u8 = 8;
+
+// The command's words, without the program's own name; or the status to end with.
+fn words_of(rt: &HostRuntime, alloc: Global) -> Result<Vec<String>, u8> {
+    let args = env::args(rt).map_err(|_| NO_TEXT)?;
+    args.skip(1).collect(alloc).map_err(|_| OUT_OF_MEMORY)
+}
+
+fn run(rt: &HostRuntime) -> u8 {
+    let alloc = rt.alloc();
+    match words_of(rt, alloc) {
+        Ok(words) => cobsound(
+            alloc,
+            &words,
+            &mut RealFiles::new(rt, alloc),
+            &mut StdSink::new(rt),
+        ),
+        Err(status) => status,
+    }
+}
+
+fn main(rt: HostRuntime) -> ExitCode {
+    ExitCode::from(run(&rt))
+}
