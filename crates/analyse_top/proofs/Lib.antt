@@ -1,3 +1,6 @@
 pub mod Pairs
 pub mod Endings
 pub mod Words
+pub mod Clean
+pub mod Found
+pub mod OneAnswer

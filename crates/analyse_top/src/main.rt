@@ -6,12 +6,11 @@ mod check;
 mod text;
 mod top;
 
+use batch_io::{RealFiles, StdSink};
 use std::alloc::Global;
 use std::env;
 use std::io::ErrorKind;
 use std::process::ExitCode;
-
-use batch_io::{RealFiles, StdSink};
 use top::cobsound;
 
 // The status where a word of the command isn't text.
@@ -41,3 +40,6 @@ fn run(rt: &HostRuntime) -> u8 {
 fn main(rt: HostRuntime) -> ExitCode {
     ExitCode::from(run(&rt))
 }
+
+#[cfg(test)]
+mod tests;

@@ -1,0 +1,137 @@
+-- Words and contents have one answer.
+use Rattle.std.proofs.Common.{◌≡◌, ℕ, ◌+◌, ◌<◌, ◌≤◌, List, [], ◌∷◌, map, length, get_or, Option, Some, None, ◌⊎◌, refl, sym, ap, ◌∙◌, subst, inl, inr, arith}
+use Rattle.std.specs.Prelude.{slice_get, IsSomeAnd}
+use Rattle.std.specs.FinMap.{get}
+use Rattle.std.proofs.lemmas.Option.{same_Some}
+use Rattle.batch_io.specs.FilesState.{Contents}
+use Rattle.text_lines.specs.Lines.{Line, text_of}
+use Rattle.text_lines.specs.Viable.{FirstBad}
+use Rattle.cob_meaning.specs.Program.{Program}
+use Rattle.cert_check.specs.declared.ends.Claim.{Claim}
+use Rattle.cert_check.specs.declared.ends.Gap.{Gap}
+use Rattle.cert_check.specs.declared.ends.Leak.{Leak}
+use Rattle.cert_check.specs.Inductive.{AreNodes, FitsProgram, leak, leaks}
+use Rattle.straight_source.specs.Source.{Source, IsSource, AreSourceLines, source_lines, program_of}
+use Rattle.straight_claims.specs.Claims.{AreClaimsLines, claims_lines}
+use Rattle.analyse_top.specs.Answer.{Answer, Usage, Absent, SourceLong, NotYet, CertificateLong, NotInductive, Report, Answers, AnswersCheck, AnswersSource, AnswersProgram, IsCheck, HoldsSource, HoldsClaims, alarms_of, source_limit, certificate_limit}
+use Rattle.analyse_top.proofs.Found.{Found, Missing, Long, Bad, Good, HoldsText, Finds, one_found}
+
+-- ---- the certificate
+
+module _ (contents : Contents) (certificate : List ℕ) (program : Program) where
+  abbrev cells : ℕ
+  cells = length program.digits
+
+  abbrev claims_texts : List Line → Type 0
+  claims_texts = AreClaimsLines cells (length program.acts + 1)
+
+  abbrev claims_text : List (List Claim) → List ℕ
+  claims_text nodes = text_of (claims_lines cells nodes)
+
+  module _ (one_line : (bytes : List ℕ) (m n : ℕ) → FirstBad claims_texts bytes m → FirstBad claims_texts bytes n → m ≡ n)
+      (refused : (nodes : List (List Claim)) (line : ℕ) → FitsProgram program nodes → FirstBad claims_texts (claims_text nodes) line → ⊥)
+      (one_value : (a b : List (List Claim)) → FitsProgram program a → FitsProgram program b → claims_text a ≡ claims_text b → a ≡ b) where
+    abbrev FindsClaims : Found (List (List Claim)) → Type 0
+    FindsClaims = Finds (get contents certificate) certificate_limit claims_texts (FitsProgram program) claims_text one_line refused one_value
+
+    -- what the checker makes of claims
+    abbrev Checked : List (List Claim) → Answer → Type 0
+    Checked nodes answer = ((edge : ℕ) × (gap : Gap) × (slice_get (leaks program nodes) 0 ≡ Some (leak edge gap)) × (answer ≡ NotInductive edge gap))
+        ⊎ ((leaks program nodes ≡ []) × (answer ≡ Report (alarms_of program nodes)))
+
+    abbrev Means : Found (List (List Claim)) → Answer → Type 0
+    Means Missing answer = answer ≡ Absent certificate
+    Means Long answer = answer ≡ CertificateLong
+    Means (Bad line) answer = answer ≡ NotYet line
+    Means (Good nodes) answer = Checked nodes answer
+
+    held : (nodes : List (List Claim)) → HoldsClaims contents certificate program nodes → FindsClaims (Good nodes)
+    held nodes h = record { is = h.shape; held_is = h.held; fits = h.fits }
+
+    means : (answer : Answer) → AnswersProgram contents certificate program answer → (found : Found (List (List Claim))) × FindsClaims found × Means found answer
+    means (Absent name) h = (Missing, h.0, ap Absent h.1)
+    means CertificateLong h = (Long, h, refl)
+    means (NotYet line) h = (Bad line, h, refl)
+    means (NotInductive edge gap) (nodes, holds, first) = (Good nodes, held nodes holds, inl (edge, gap, first, refl))
+    means (Report alarms) (nodes, holds, none, are) = (Good nodes, held nodes holds, inr (none, ap Report are))
+    means (Usage word) h = absurd h
+    means SourceLong h = absurd h
+
+    one_checked : (nodes : List (List Claim)) (a b : Answer) → Checked nodes a → Checked nodes b → a ≡ b
+    one_checked nodes a b (inl (edge, gap, first, e)) (inl (edge', gap', first', f)) =
+        let same = same_Some (leak edge gap) (leak edge' gap') (sym first ∙ first') in
+        e ∙ ap (λ (l : Leak). NotInductive l.edge l.gap) same ∙ sym f
+    one_checked nodes a b (inl (edge, gap, first, e)) (inr (none, f)) = let none_first = sym first ∙ ap (λ xs. slice_get xs 0) none in cc
+    one_checked nodes a b (inr (none, e)) (inl (edge, gap, first, f)) = let none_first = sym first ∙ ap (λ xs. slice_get xs 0) none in cc
+    one_checked nodes a b (inr (none, e)) (inr (none', f)) = e ∙ sym f
+
+    one_meaning : (found : Found (List (List Claim))) (a b : Answer) → Means found a → Means found b → a ≡ b
+    one_meaning Missing a b h k = h ∙ sym k
+    one_meaning Long a b h k = h ∙ sym k
+    one_meaning (Bad line) a b h k = h ∙ sym k
+    one_meaning (Good nodes) a b h k = one_checked nodes a b h k
+
+    pub one_for_program : (a b : Answer) → AnswersProgram contents certificate program a → AnswersProgram contents certificate program b → a ≡ b
+    one_for_program a b h k =
+        let x = means a h in
+        let y = means b k in
+        one_meaning y.0 a b
+        (subst (λ found. Means found a) (one_found (get contents certificate) certificate_limit claims_texts (FitsProgram program) claims_text one_line refused one_value x.0 y.0 x.1 y.1) x.2) y.2
+
+-- ---- the source, and the command
+
+module _ (contents : Contents) where
+  abbrev source_text : Source → List ℕ
+  source_text source = text_of (source_lines source)
+
+  module _ (one_line : (bytes : List ℕ) (m n : ℕ) → FirstBad AreSourceLines bytes m → FirstBad AreSourceLines bytes n → m ≡ n)
+      (refused : (source : Source) (line : ℕ) → IsSource source → FirstBad AreSourceLines (source_text source) line → ⊥)
+      (one_value : (a b : Source) → IsSource a → IsSource b → source_text a ≡ source_text b → a ≡ b)
+      (one_behind : (certificate : List ℕ) (source : Source) (a b : Answer) → AnswersProgram contents certificate (program_of source) a → AnswersProgram contents certificate (program_of source) b → a ≡ b) where
+    abbrev FindsSource : List ℕ → Found Source → Type 0
+    FindsSource name = Finds (get contents name) source_limit AreSourceLines IsSource source_text one_line refused one_value
+
+    abbrev SourceMeans : List ℕ → List ℕ → Found Source → Answer → Type 0
+    SourceMeans name certificate Missing answer = answer ≡ Absent name
+    SourceMeans name certificate Long answer = answer ≡ SourceLong
+    SourceMeans name certificate (Bad line) answer = answer ≡ NotYet line
+    SourceMeans name certificate (Good source) answer = AnswersProgram contents certificate (program_of source) answer
+
+    refusal_means : (name certificate : List ℕ) (answer : Answer) → AnswersSource contents name answer → (found : Found Source) × FindsSource name found × SourceMeans name certificate found answer
+    refusal_means name certificate (Absent other) h = (Missing, h.0, ap Absent h.1)
+    refusal_means name certificate SourceLong h = (Long, h, refl)
+    refusal_means name certificate (NotYet line) h = (Bad line, h, refl)
+    refusal_means name certificate (Usage word) h = absurd h
+    refusal_means name certificate CertificateLong h = absurd h
+    refusal_means name certificate (NotInductive edge gap) h = absurd h
+    refusal_means name certificate (Report alarms) h = absurd h
+
+    check_means : (name certificate : List ℕ) (answer : Answer) → AnswersCheck contents name certificate answer → (found : Found Source) × FindsSource name found × SourceMeans name certificate found answer
+    check_means name certificate answer (inl refusal) = refusal_means name certificate answer refusal
+    check_means name certificate answer (inr (source, holds, behind)) = (Good source, record { is = holds.is_source; held_is = holds.held; fits = holds.fits }, behind)
+
+    one_source_meaning : (name certificate : List ℕ) (found : Found Source) (a b : Answer) → SourceMeans name certificate found a → SourceMeans name certificate found b → a ≡ b
+    one_source_meaning name certificate Missing a b h k = h ∙ sym k
+    one_source_meaning name certificate Long a b h k = h ∙ sym k
+    one_source_meaning name certificate (Bad line) a b h k = h ∙ sym k
+    one_source_meaning name certificate (Good source) a b h k = one_behind certificate source a b h k
+
+    one_for_check : (name certificate : List ℕ) (a b : Answer) → AnswersCheck contents name certificate a → AnswersCheck contents name certificate b → a ≡ b
+    one_for_check name certificate a b h k =
+        let x = check_means name certificate a h in
+        let y = check_means name certificate b k in
+        one_source_meaning name certificate y.0 a b
+        (subst (λ found. SourceMeans name certificate found a) (one_found (get contents name) source_limit AreSourceLines IsSource source_text one_line refused one_value x.0 y.0 x.1 y.1) x.2) y.2
+
+    one_command : (words : List (List ℕ)) (name certificate name' certificate' : List ℕ) → IsCheck words name certificate → IsCheck words name' certificate' → (name ≡ name') × (certificate ≡ certificate')
+    one_command words name certificate name' certificate' is is' =
+        let e = sym is.words_are ∙ is'.words_are in
+        (ap (λ ws. get_or ws 1 []) e, ap (λ ws. get_or ws 2 []) e)
+
+    pub one_answer : (words : List (List ℕ)) (a b : Answer) → Answers (Some contents) words a → Answers (Some contents) words b → a ≡ b
+    one_answer words a b (inl (apart, e)) (inl (apart', f)) = e ∙ sym f
+    one_answer words a b (inl (apart, e)) (inr (name, certificate, is, h)) = absurd (apart name certificate is)
+    one_answer words a b (inr (name, certificate, is, h)) (inl (apart, e)) = absurd (apart name certificate is)
+    one_answer words a b (inr (name, certificate, is, h)) (inr (name', certificate', is', k)) =
+        let same = one_command words name certificate name' certificate' is is' in
+        one_for_check name certificate a b h (subst (λ (c : List ℕ). AnswersCheck contents name c b) (sym same.1) (subst (λ (n : List ℕ). AnswersCheck contents n certificate' b) (sym same.0) k))
