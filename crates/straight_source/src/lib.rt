@@ -2,7 +2,9 @@
 #![tactic(auto)]
 
 mod ends;
+mod line;
 mod read;
+mod reading;
 
 pub use ends::SourceEnd;
 pub use read::read_source;
