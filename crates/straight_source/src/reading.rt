@@ -105,7 +105,7 @@ impl Reading {
         Ok(true)
     }
 
-    #[tactic(auto, unfolding(crate::specs::Steps::next_in_procedure))]
+    #[tactic(auto, unfolding(crate::specs::Steps::next_in_procedure, crate::specs::Steps::next_fixed))]
     fn take_in_procedure(&mut self, line: &[u8]) -> Result<bool, AllocError>
         requires { vec_len self.old.letters ≤ 26 }
         ensures few { vec_len self.new.letters ≤ 26 }
