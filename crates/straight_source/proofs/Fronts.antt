@@ -22,7 +22,7 @@ use Rattle.straight_source.proofs.Pieces.{both_true, item_found, item_again, act
 
 -- ---- places of letters
 
-place_found : (letters : List ℕ) (letter : ℕ) → Contains letters letter → (place letters letter ≡ Some (place_of letters letter)) × (place_of letters letter < length letters)
+pub place_found : (letters : List ℕ) (letter : ℕ) → Contains letters letter → (place letters letter ≡ Some (place_of letters letter)) × (place_of letters letter < length letters)
 place_found letters letter h =
     let p : ℕ → Bool = λ other. eqb other letter in
     elim (cases_lt (position_or_len p letters) (length letters)) [
@@ -37,7 +37,7 @@ place_is letters letter to e =
     let s = position-Some (λ other. eqb other letter) letters to letter e in
     ((to, s.0, eqb-true _ _ s.1), ap (λ (o : Option ℕ). unwrap_or o 0) (sym e))
 
-place_absent : (letters : List ℕ) (letter : ℕ) → (Contains letters letter → ⊥) → place letters letter ≡ None
+pub place_absent : (letters : List ℕ) (letter : ℕ) → (Contains letters letter → ⊥) → place letters letter ≡ None
 place_absent letters letter h =
     elim (place letters letter) as (λ o. place letters letter ≡ o → o ≡ None) [
       | Some to ↦ λ e. absurd (h (place_is letters letter to e).0)
@@ -88,10 +88,10 @@ IsFront Stopped lines state = (source : Source) × IsSource source × (lines ≡
 
 -- ---- one more item, one more statement
 
-with-more-item : (items : List ItemLine) (item : ItemLine) → items_state (items ++ item ∷ []) ≡ with_item (items_state items) (item_of item)
+pub with-more-item : (items : List ItemLine) (item : ItemLine) → items_state (items ++ item ∷ []) ≡ with_item (items_state items) (item_of item)
 with-more-item items item = simp map-append
 
-with-more-act : (source : Source) (act : ActLine) → acts_state (record { items = source.items; acts = source.acts ++ act ∷ [] }) ≡ with_act (acts_state source) (simple_of (letters source.items) act)
+pub with-more-act : (source : Source) (act : ActLine) → acts_state (record { items = source.items; acts = source.acts ++ act ∷ [] }) ≡ with_act (acts_state source) (simple_of (letters source.items) act)
 with-more-act source act = simp map-append
 
 item_front_more : (items : List ItemLine) (item : ItemLine) → item_front items ++ item_line item ∷ [] ≡ item_front (items ++ item ∷ [])
@@ -119,7 +119,7 @@ fixed_found state line wanted stage behind e =
     let g = cond_some (bytes_eq line wanted) (at_stage state stage) behind e in
     ((bytes_eq-Decides line wanted).0 g.0, g.1)
 
-fixed_again : (state : State) (wanted : Line) (stage : Stage) → next_fixed state wanted wanted stage ≡ Some (at_stage state stage)
+pub fixed_again : (state : State) (wanted : Line) (stage : Stage) → next_fixed state wanted wanted stage ≡ Some (at_stage state stage)
 unfolding next_fixed
 fixed_again state wanted stage = rw ((bytes_eq-Decides wanted wanted).1 refl) refl
 
@@ -146,7 +146,7 @@ items_end items line behind h few e =
     subst (λ (s : State). IsFront s.stage (item_front items ++ line ∷ []) s) f.1
         (record { items = items; acts = [] }, record { items = h; some = some; most = few; acts = tt; most_acts = omega arith }, ap (λ (l : Line). item_front items ++ l ∷ []) f.0, refl)
 
-abbrev storage_or : State → Line → Option ItemLine → Option State
+abbrev pub storage_or : State → Line → Option ItemLine → Option State
 storage_or state line (Some item) = next_item state (item_of item)
 storage_or state line None = cond (ltb 0 (length state.letters)) (next_fixed state line procedure_line Procedure) None
 
@@ -181,7 +181,7 @@ acts_end source line behind h e =
     let f = fixed_found (with_act (acts_state source) simple.Stop) line stop_line Stopped behind e in
     subst (λ (s : State). IsFront s.stage (act_front source ++ line ∷ []) s) f.1 (source, h, ap (λ (l : Line). act_front source ++ l ∷ []) f.0, refl)
 
-abbrev procedure_or : State → Line → Option ActLine → Option State
+abbrev pub procedure_or : State → Line → Option ActLine → Option State
 procedure_or state line (Some act) = next_act state (act_of act)
 procedure_or state line None = next_fixed (with_act state simple.Stop) line stop_line Stopped
 
