@@ -1,5 +1,5 @@
 -- A source as bytes: its lines are lines, it is a valid program, and reading it ends as the form says.
-use Rattle.std.proofs.Common.{◌≡◌, ℕ, zero, suc, ◌+◌, ◌-◌, ◌^◌, ◌<◌, ◌≤◌, ◌⊎◌, Bool, true, false, not, ◌&&◌, eqb, List, [], ◌∷◌, ◌++◌, length, take, get_or, Option, Some, None, refl, sym, ap, ◌∙◌, subst, append_assoc, append-nil, map, arith, inl, inr}
+use Rattle.std.proofs.Common.{◌≡◌, ℕ, zero, suc, ◌+◌, ◌-◌, ◌^◌, ◌<◌, ◌≤◌, ◌⊎◌, Bool, true, false, cond, not, ◌&&◌, eqb, List, [], ◌∷◌, ◌++◌, length, take, get_or, Option, Some, None, refl, sym, ap, ◌∙◌, subst, append_assoc, append-nil, map, arith, inl, inr}
 use Rattle.std.specs.Prelude.{ℤ, pos, ◌≤ℤ◌, ◌<ℤ◌, Contains, codes, decimal}
 use Rattle.std.specs.List.{AllByRecursion}
 use Rattle.std.proofs.lemmas.Bool.{eqb-true, eq-eqb, false≢true}
@@ -11,11 +11,13 @@ use Rattle.text_lines.specs.Viable.{IsViable, FirstBad}
 use Rattle.text_lines.proofs.Texts.{cut_joins, cut_text, splits_line, splits_rest, one_bad, text_not_bad}
 use Rattle.cob_meaning.specs.declared.straight.Simple.{Simple}
 use Rattle.cob_meaning.specs.declared.straight.Simple.TheVariants as simple
-use Rattle.cob_meaning.specs.Program.{Program, IsWithin, AreItems, AreActs, IsValid}
+use Rattle.cob_meaning.specs.Program.{Program, plain, IsWithin, AreItems, AreActs, IsValid}
 use Rattle.straight_source.specs.declared.reading.Stage.{Stage}
 use Rattle.straight_source.specs.declared.reading.Stage.TheVariants.{Identification, Name, Data, Storage, Items, Procedure, Stopped}
 use Rattle.straight_source.specs.Source.{ItemLine, ActLine, Source, Verb, Move, Add, headings, item_line, act_line, verb_text, procedure_line, stop_line, source_lines, letters, IsItemLine, AreItemLines, IsActLine, IsNumeral, IsSource, AreSourceLines, number_of, place_of, with_verb, simple_of, program_of}
-use Rattle.straight_source.specs.Steps.{State, start, next, run}
+use Rattle.straight_source.specs.declared.reading.Reading.{Reading}
+use Rattle.straight_source.specs.Reading.{IsReading}
+use Rattle.straight_source.specs.Steps.{State, view, start, next, run}
 use Rattle.straight_source.proofs.Pieces.{IsDigit, both_true, count_again, number-small}
 use Rattle.straight_source.proofs.Fronts.{IsFront, end_state, place_found, run_front}
 use Rattle.straight_source.proofs.Complete.{complete, viable, refused, run_then}
@@ -224,3 +226,27 @@ short_there bytes rest number state g s short =
       stops = λ below v. absurd (omega arith);
       no_text = λ same lines t e. no_text bytes rest state g.front (sym whole) (g.behind ∙ parts.1) g.reached short lines t e;
     }
+
+-- ---- what the tests of the code tell
+
+pub not_taken : (taken : Bool) (next_is : Option State) (behind : State) → taken ≡ false → next_is ≡ cond taken (Some behind) None → next_is ≡ None
+not_taken true o behind e f = absurd (false≢true (sym e))
+not_taken false o behind e f = f
+
+pub is_taken : (taken : Bool) (next_is : Option State) (behind : State) → taken ≡ true → next_is ≡ cond taken (Some behind) None → next_is ≡ Some behind
+is_taken true o behind e f = f
+is_taken false o behind e f = absurd (false≢true e)
+
+pub more_left : (rest : List ℕ) (empty : Bool) → empty ≡ eqb (length rest) 0 → empty ≡ false → rest ≡ [] → ⊥
+more_left [] empty e f same = false≢true (sym f ∙ e)
+more_left (byte ∷ rest) empty e f same = absurd cc
+
+pub none_left : (rest : List ℕ) (empty : Bool) → empty ≡ eqb (length rest) 0 → empty ≡ true → rest ≡ []
+none_left [] empty e f = refl
+none_left (byte ∷ rest) empty e f = absurd (omega (arith, eqb-true (length (byte ∷ rest)) 0 (sym e ∙ f)))
+
+pub reading_is : (bytes rest : List ℕ) (number : ℕ) (reading : Reading) → Goes bytes rest number (view reading) → Splits rest None → reading.stage ≡ Stopped → rest ≡ [] → (source : Source) × IsReading bytes reading.program source
+reading_is bytes rest number reading g s stopped empty =
+    let r = ended_there bytes rest number (view reading) g s stopped empty in
+    let program_is : plain reading.program ≡ program_of r.0 = ap (λ (s : State). s.program) r.3 in
+    (r.0, record { is_source = r.1; written = r.2; program_is = program_is; valid = subst IsValid (sym program_is) (source_valid r.0 r.1) })

@@ -1,5 +1,5 @@
-ghost use Rattle.std.specs.Prelude.{◌≡◌, ◌<◌, ◌≤◌, IfOk, Some, None, if◌then◌else◌, IfSome, length, vec_len};
-ghost use Rattle.text_lines.specs.Lines.{Line};
+ghost use Rattle.std.specs.Prelude.{◌≡◌, ◌<◌, ◌≤◌, IfOk, Some, None, if◌then◌else◌, IfSome, length, vec_len, true, ◌↔◌};
+ghost use Rattle.straight_source.specs.declared.reading.Stage.TheVariants.{Stopped};
 ghost use Rattle.straight_source.specs.Pieces.{item_at, act_at};
 ghost use Rattle.straight_source.specs.Steps.{view, start, next, next_fixed, next_item, next_in_storage, next_act, next_in_procedure, place};
 
@@ -120,6 +120,13 @@ impl Reading {
         self.program.acts.push(Simple::Stop)?;
         self.stage = Stage::Stopped;
         Ok(true)
+    }
+
+    /// Whether STOP RUN is read.
+    pub fn is_stopped(&self) -> bool
+        ensures { result ≡ true ↔ self.now.stage ≡ Stopped }
+    {
+        matches!(&self.stage, Stage::Stopped)
     }
 
     /// Reads one more line, and answers whether a source goes on with it. Where none does, the reading stays.
