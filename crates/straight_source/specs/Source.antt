@@ -7,6 +7,8 @@ use Rattle.text_lines.specs.Lines.{Line}
 use Rattle.cob_meaning.specs.declared.straight.Simple.{Simple}
 use Rattle.cob_meaning.specs.declared.straight.Simple.TheVariants as simple
 use Rattle.cob_meaning.specs.Program.{Program}
+pub use Rattle.straight_source.specs.declared.line.Verb.{Verb}
+pub use Rattle.straight_source.specs.declared.line.Verb.TheVariants.{Move, Add}
 
 -- ---- what is written
 
@@ -15,10 +17,6 @@ pub record ItemLine : Type 0 where
   pub letter : ℕ
   pub digits : ℕ
   pub value : List ℕ
-
-pub data Verb : Type 0 where
-  Move : Verb
-  Add : Verb
 
 -- a statement's verb, the digits of its amount, and its receiver
 pub record ActLine : Type 0 where

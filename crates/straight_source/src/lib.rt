@@ -2,7 +2,11 @@
 #![tactic(auto)]
 
 mod ends;
+mod laws;
+mod line;
 mod read;
+mod reading;
 
 pub use ends::SourceEnd;
+pub use laws::{one_refusal, one_source, program_counts, read_or_refused};
 pub use read::read_source;

@@ -6,7 +6,7 @@ use Rattle.memchr.specs.Find.{Nowhere, NoneBefore, Passes, is_byte}
 use Rattle.text_lines.specs.Lines.{Line, Cut, cut, with_byte, text_of, IsOneLine}
 
 -- a byte that is no LF, before a text
-cut-byte : (byte : ℕ) (bytes : List ℕ) → (byte ≡ 10 → ⊥) → cut (byte ∷ bytes) ≡ with_byte byte (cut bytes).whole (cut bytes).rest
+pub cut-byte : (byte : ℕ) (bytes : List ℕ) → (byte ≡ 10 → ⊥) → cut (byte ∷ bytes) ≡ with_byte byte (cut bytes).whole (cut bytes).rest
 cut-byte byte bytes h =
     elim (eqb byte 10) as (λ b. eqb byte 10 ≡ b → cond b (record { whole = [] ∷ (cut bytes).whole; rest = (cut bytes).rest }) (with_byte byte (cut bytes).whole (cut bytes).rest) ≡ with_byte byte (cut bytes).whole (cut bytes).rest) [
       | true ↦ λ e. absurd (h (eqb-true byte 10 e))

@@ -1,0 +1,89 @@
+-- Texts of whole lines, and the first line with which none goes on.
+use Rattle.std.proofs.Common.{◌≡◌, ℕ, zero, suc, ◌+◌, ◌-◌, ◌<◌, ◌≤◌, Bool, List, [], ◌∷◌, ◌++◌, length, take, drop, refl, sym, ap, ◌∙◌, subst, append_assoc, append-nil, arith, inl, inr}
+use Rattle.std.specs.Prelude.{Some, None, Option}
+use Rattle.std.specs.List.{AllByRecursion}
+use Rattle.std.proofs.lemmas.Bool.{cases_eq, cases_lt}
+use Rattle.std.proofs.lemmas.List.{take-append-drop, length-take}
+use Rattle.text_lines.specs.Lines.{Line, Cut, cut, with_byte, text_of, IsOneLine, Splits}
+use Rattle.text_lines.specs.Viable.{IsViable, FirstBad}
+use Rattle.text_lines.proofs.Cuts.{cut-byte}
+
+with-byte-joins : (byte : ℕ) (whole : List Line) (rest : List ℕ) → text_of (with_byte byte whole rest).whole ++ (with_byte byte whole rest).rest ≡ byte ∷ (text_of whole ++ rest)
+with-byte-joins byte [] rest = refl
+with-byte-joins byte (line ∷ lines) rest = refl
+
+-- what is cut joins to the text
+pub cut_joins : (bytes : List ℕ) → text_of (cut bytes).whole ++ (cut bytes).rest ≡ bytes
+cut_joins [] = refl
+cut_joins (byte ∷ bytes) =
+    elim (cases_eq byte 10) [
+      | inl same ↦ rw same (ap (λ (rest : List ℕ). 10 ∷ rest) (cut_joins bytes))
+      | inr apart ↦ rw (cut-byte byte bytes apart) (with-byte-joins byte (cut bytes).whole (cut bytes).rest ∙ ap (λ (rest : List ℕ). byte ∷ rest) (cut_joins bytes))
+    ]
+
+cut-plain : (rest : List ℕ) → IsOneLine rest → cut rest ≡ record { whole = []; rest = rest }
+cut-plain [] h = refl
+cut-plain (byte ∷ rest) h = cut-byte byte rest h.0 ∙ ap (λ (c : Cut). with_byte byte c.whole c.rest) (cut-plain rest h.1)
+
+cut-line : (line rest : List ℕ) → IsOneLine line → cut (line ++ 10 ∷ rest) ≡ record { whole = line ∷ (cut rest).whole; rest = (cut rest).rest }
+cut-line [] rest h = refl
+cut-line (byte ∷ line) rest h = cut-byte byte (line ++ 10 ∷ rest) h.0 ∙ ap (λ (c : Cut). with_byte byte c.whole c.rest) (cut-line line rest h.1)
+
+cut-text-of : (lines : List Line) → AllByRecursion IsOneLine lines → cut (text_of lines) ≡ record { whole = lines; rest = [] }
+cut-text-of [] h = refl
+cut-text-of (line ∷ lines) h =
+    ap cut (append_assoc line (10 ∷ []) (text_of lines))
+    ∙ cut-line line (text_of lines) h.0
+    ∙ ap (λ (c : Cut). record { whole = line ∷ c.whole; rest = c.rest }) (cut-text-of lines h.1)
+
+-- the text of some lines is cut into them
+pub cut_text : (bytes : List ℕ) (lines : List Line) → AllByRecursion IsOneLine lines → bytes ≡ text_of lines → (lines ≡ (cut bytes).whole) × ((cut bytes).rest ≡ [])
+cut_text bytes lines h e =
+    let c : cut bytes ≡ record { whole = lines; rest = [] } = ap cut e ∙ cut-text-of lines h in
+    (ap (λ (c : Cut). c.whole) (sym c), ap (λ (c : Cut). c.rest) c)
+
+-- a front of a viable front is viable
+pub viable_front : {A : Type 0} (texts : List A → Type 0) (a b : List A) → IsViable texts (a ++ b) → IsViable texts a
+viable_front texts a b v = (b ++ v.0, subst texts (append_assoc a b v.0) v.1)
+
+take-parts : {A : Type 0} (xs : List A) (m n : ℕ) → m ≤ n → (b : List A) × (take n xs ≡ take m xs ++ b)
+take-parts xs zero n l = (take n xs, refl)
+take-parts [] (suc m) zero l = absurd (omega arith)
+take-parts [] (suc m) (suc n) l = ([], refl)
+take-parts (x ∷ xs) (suc m) zero l = absurd (omega arith)
+take-parts {A} (x ∷ xs) (suc m) (suc n) l = let p = take-parts xs m n (omega arith) in (p.0, ap (λ (ys : List A). x ∷ ys) p.1)
+
+viable_take : (texts : List Line → Type 0) (lines : List Line) (m n : ℕ) → m ≤ n → IsViable texts (take n lines) → IsViable texts (take m lines)
+viable_take texts lines m n l v = let p = take-parts lines m n l in viable_front texts (take m lines) p.0 (subst (IsViable texts) p.1 v)
+
+bad_not_before : (texts : List Line → Type 0) (bytes : List ℕ) (m n : ℕ) → FirstBad texts bytes m → FirstBad texts bytes n → m < n → ⊥
+bad_not_before texts bytes m n a b l =
+    a.stops (omega (arith, a.counted, b.counted, b.there)) (viable_take texts (cut bytes).whole (a.before + 1) b.before (omega (arith, a.counted, b.counted)) b.goes_on)
+
+-- a text has one first bad line
+pub one_bad : (texts : List Line → Type 0) (bytes : List ℕ) (m n : ℕ) → FirstBad texts bytes m → FirstBad texts bytes n → m ≡ n
+one_bad texts bytes m n a b =
+    elim (cases_lt m n) [
+      | inl below ↦ absurd (bad_not_before texts bytes m n a b below)
+      | inr from ↦ elim (cases_lt n m) [
+        | inl above ↦ absurd (bad_not_before texts bytes n m b a above)
+        | inr to ↦ omega arith
+      ]
+    ]
+
+-- a text of the set has none
+pub text_not_bad : (texts : List Line → Type 0) (bytes : List ℕ) (line : ℕ) (lines : List Line) → FirstBad texts bytes line → texts lines → AllByRecursion IsOneLine lines → bytes ≡ text_of lines → ⊥
+text_not_bad texts bytes line lines a t h e =
+    let c = cut_text bytes lines h e in
+    elim (cases_lt a.before (length (cut bytes).whole)) [
+      | inl below ↦ a.stops below (subst (λ (ls : List Line). IsViable texts (take (a.before + 1) ls)) c.0 (drop (a.before + 1) lines, subst texts (sym (take-append-drop (a.before + 1) lines)) t))
+      | inr from ↦ a.no_text (omega (arith, a.there)) lines t e
+    ]
+
+-- ---- splitting off one line after another
+
+pub splits_line : (bytes line behind : List ℕ) → Splits bytes (Some (line, behind)) → ((cut bytes).whole ≡ line ∷ (cut behind).whole) × ((cut bytes).rest ≡ (cut behind).rest)
+splits_line bytes line behind e = (ap (λ (c : Cut). c.whole) e, ap (λ (c : Cut). c.rest) e)
+
+pub splits_rest : (bytes : List ℕ) → Splits bytes None → ((cut bytes).whole ≡ []) × ((cut bytes).rest ≡ bytes)
+splits_rest bytes e = (ap (λ (c : Cut). c.whole) e, ap (λ (c : Cut). c.rest) e)
