@@ -2,7 +2,11 @@
 #![tactic(auto)]
 
 mod ends;
+mod laws;
+mod line;
+mod lines;
 mod read;
 
 pub use ends::ClaimsEnd;
+pub use laws::{one_certificate, read_or_refused};
 pub use read::read_claims;

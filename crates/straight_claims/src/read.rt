@@ -2,6 +2,7 @@ ghost use Rattle.std.specs.Prelude.{◌≤◌, length};
 ghost use Rattle.straight_claims.specs.Reading.{ReadsClaims};
 
 use crate::ends::ClaimsEnd;
+use crate::lines::Lines;
 use cert_check::Claim;
 use std::alloc::Global;
 
@@ -16,7 +17,15 @@ pub fn read_claims(
     requires { length bytes.now ≤ 67108864 }
     ensures { ReadsClaims bytes.now cells nodes result }
 {
-    let _text = Vec::from_slice(alloc, bytes)?;
-    if nodes < cells {}
-    Err(ClaimsEnd::Memory)
+    let mut lines = Lines {
+        rest: bytes,
+        number: 1,
+    };
+    lines.pass_head(cells, nodes)?;
+    let claims = lines.take_nodes(alloc, nodes, cells)?;
+    lines.pass(b"end")?;
+    if !lines.rest.is_empty() {
+        return Err(ClaimsEnd::NotYet { line: lines.number });
+    }
+    Ok(claims)
 }
