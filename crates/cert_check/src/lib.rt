@@ -6,6 +6,8 @@
 mod ends;
 mod interval;
 mod straight;
+#[cfg(test)]
+mod tests;
 
 pub use ends::{CheckEnd, Claim, Gap, Shape};
 pub use straight::check_straight;

@@ -1,11 +1,11 @@
 -- A run keeps a value of at most 18 digits for each item.
-use Rattle.std.proofs.Common.{◌≡◌, ℕ, zero, suc, ◌+◌, ◌-◌, ◌^◌, ◌<◌, ◌≤◌, true, false, cond, ℤ, pos, negsuc, ◌≤ℤ◌, ◌<ℤ◌, ◌+ℤ◌, List, [], ◌∷◌, length, get_or, set, Option, Some, None, refl, sym, ap, subst, ◌∙◌, arith, length-set}
+use Rattle.std.proofs.Common.{◌≡◌, ℕ, zero, suc, ◌+◌, ◌^◌, ◌<◌, ◌≤◌, true, false, cond, ℤ, pos, ◌+ℤ◌, List, [], ◌∷◌, length, get_or, set, Option, Some, None, refl, ap, ◌∙◌, arith, length-set}
 use Rattle.std.specs.Prelude.{All, slice_get, slice_index, unsigned_abs, nat_lt}
 use Rattle.std.specs.Option.{option_map_or}
 use Rattle.std.proofs.lemmas.Int.{ints}
 use Rattle.std.proofs.lemmas.Bool.{ltb-true}
 use Rattle.std.proofs.lemmas.Option.{slice_get_within, slice_get_past, slice_get_read}
-use Rattle.dec_num.proofs.Powers.{ten_positive, ten_monotone}
+use Rattle.dec_num.proofs.Powers.{ten_monotone}
 use Rattle.cob_meaning.specs.declared.straight.Kind.{Kind}
 use Rattle.cob_meaning.specs.declared.straight.Kind.TheVariants.{Size, Truncation}
 use Rattle.cob_meaning.specs.declared.straight.Outcome.{Outcome}

@@ -89,11 +89,7 @@ impl Progress {
 
 /// How the program's run stands after so many steps. It goes statement by statement, with no graph, so that
 /// it serves tests and comparisons.
-pub fn outcome_after(
-    alloc: Global,
-    program: &Straight,
-    steps: u32,
-) -> Result<Outcome, AllocError>
+pub fn outcome_after(alloc: Global, program: &Straight, steps: u32) -> Result<Outcome, AllocError>
     requires { IsValid (plain program.now) }
     ensures { IfOk result (λ outcome. outcome ≡ (run (plain program.now) steps).outcome) }
 {

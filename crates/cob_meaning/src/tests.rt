@@ -2,7 +2,7 @@ ghost use Rattle.std.specs.Prelude.{◌≡◌, ◌<◌, List, ◌∷◌, IfOk};
 ghost use Rattle.cob_meaning.specs.declared.straight.Simple as simple;
 ghost use Rattle.cob_meaning.specs.Program.{IsValid, AreActs, plain};
 
-use crate::{outcome_after, Kind, Outcome, Simple, Straight};
+use crate::{Kind, Outcome, Simple, Straight, outcome_after};
 use std::alloc::{AllocError, Global};
 use std::test::Fail;
 
@@ -48,10 +48,12 @@ const SIZE_AT_1: Outcome = Outcome::Fault {
     kind: Kind::Size,
     statement: 1,
 };
+
 const SIZE_AT_2: Outcome = Outcome::Fault {
     kind: Kind::Size,
     statement: 2,
 };
+
 const TRUNCATION_AT_1: Outcome = Outcome::Fault {
     kind: Kind::Truncation,
     statement: 1,

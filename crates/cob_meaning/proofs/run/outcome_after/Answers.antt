@@ -1,6 +1,5 @@
-use Rattle.std.proofs.Common.{◌∙◌, sym, ap, subst, add-one}
+use Rattle.std.proofs.Common.{sym, subst}
 use Rattle.cob_meaning.specs.Program.{plain}
-use Rattle.cob_meaning.specs.Run.{step}
 use Rattle.cob_meaning.specs.Progress.{KeepsItems}
 use Rattle.cob_meaning.proofs.Items.{run_keeps}
 use Rattle.cob_meaning.proofs.run.outcome_after.Goals as goal

@@ -1,4 +1,4 @@
-use Rattle.std.proofs.Common.{◌≡◌, ℕ, ◌<◌, ℤ, pos, List, [], ◌∷◌, length, refl, ap, subst, sym, arith}
+use Rattle.std.proofs.Common.{◌≡◌, ℕ, ◌<◌, ℤ, pos, List, [], ◌∷◌, length, refl, ap, arith}
 use Rattle.std.proofs.lemmas.Int.{ints}
 use Rattle.cob_meaning.specs.declared.straight.Simple.{Simple}
 use Rattle.cob_meaning.specs.declared.straight.Simple.TheVariants.{Stop}
