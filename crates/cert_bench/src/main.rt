@@ -3,10 +3,9 @@
 #![tactic(auto)]
 
 use cert_text::{CertEnd, print, read};
-use std::env;
-use std::fs;
 use std::io::{self, Write};
 use std::time::Instant;
+use std::{env, fs};
 
 fn main(rt: HostRuntime) -> io::Result<()> {
     let mut words = env::args(&rt)?;
