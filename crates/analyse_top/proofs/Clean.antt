@@ -2,12 +2,13 @@
 use Rattle.std.proofs.Common.{◌≡◌, ℕ, List, [], ◌∷◌, map, Option, Some, refl, sym, ap, ◌∙◌, subst, inl, inr, arith}
 use Rattle.batch_io.specs.FilesState.{Contents, known_bytes}
 use Rattle.cob_meaning.specs.declared.straight.Open.{Open}
-use Rattle.cob_meaning.specs.Program.{Program, IsValid}
+use Rattle.cob_meaning.specs.Program.{Program}
 use Rattle.cob_meaning.specs.Run.{MeetsNoFault}
 use Rattle.cert_check.specs.declared.ends.Claim.{Claim}
 use Rattle.cert_check.specs.Inductive.{open_pairs}
 use Rattle.cert_check.proofs.Runs.{faults_open, none_open}
-use Rattle.straight_source.specs.Source.{Source, IsSource, program_of}
+use Rattle.straight_source.specs.Source.{Source, program_of}
+use Rattle.straight_source.proofs.Whole.{source_valid}
 use Rattle.analyse_top.specs.Answer.{Answer, Usage, Absent, SourceLong, NotYet, CertificateLong, NotInductive, Report, Answers, AnswersCheck, AnswersProgram, HoldsSource, HoldsClaims, alarm_at, alarms_of, status_of, status_unwritten}
 use Rattle.analyse_top.specs.Conclusion.{Call, Concludes, CleanIsSafe, IsClean, EndsBy}
 
@@ -34,38 +35,36 @@ never_zero CertificateLong e = omega arith
 never_zero (NotInductive edge gap) e = omega arith
 never_zero (Report alarms) e = omega arith
 
--- every source of the form writes a valid program
-module _ (source_valid : (source : Source) → IsSource source → IsValid (program_of source)) where
-  program_safe : (source : Source) (nodes : List (List Claim)) (contents : Contents) (name certificate : List ℕ) → HoldsSource contents name source →
-      AnswersProgram contents certificate (program_of source) (Report []) → MeetsNoFault (program_of source)
-  program_safe source nodes contents name certificate holds (nodes', claims, inductive, none) =
-      none_open (program_of source) (open_pairs (program_of source) nodes')
-      (faults_open (program_of source) nodes' (source_valid source holds.is_source) claims.shape inductive)
-      (none_left _ _ none)
+program_safe : (source : Source) (contents : Contents) (name certificate : List ℕ) → HoldsSource contents name source →
+    AnswersProgram contents certificate (program_of source) (Report []) → MeetsNoFault (program_of source)
+program_safe source contents name certificate holds (nodes, claims, inductive, none) =
+    none_open (program_of source) (open_pairs (program_of source) nodes)
+    (faults_open (program_of source) nodes (source_valid source holds.is_source) claims.shape inductive)
+    (none_left _ _ none)
 
-  clean_answer : (contents : Contents) (words : List (List ℕ)) → Answers (Some contents) words (Report []) → IsClean contents words
-  clean_answer contents words (inl (no_check, usage)) = cc
-  clean_answer contents words (inr (name, certificate, checked, inl refused)) = absurd refused
-  clean_answer contents words (inr (name, certificate, checked, inr (source, held, answers))) = record {
-    name = name;
-    certificate = certificate;
-    checked = checked;
-    source = source;
-    held = held;
-    safe = program_safe source [] contents name certificate held answers;
-  }
+clean_answer : (contents : Contents) (words : List (List ℕ)) → Answers (Some contents) words (Report []) → IsClean contents words
+clean_answer contents words (inl (no_check, usage)) = cc
+clean_answer contents words (inr (name, certificate, checked, inl refused)) = absurd refused
+clean_answer contents words (inr (name, certificate, checked, inr (source, held, answers))) = record {
+  name = name;
+  certificate = certificate;
+  checked = checked;
+  source = source;
+  held = held;
+  safe = program_safe source contents name certificate held answers;
+}
 
-  pub clean_is_safe : (call : Call) → Concludes call → CleanIsSafe call
-  clean_is_safe call concludes contents known zero = elim concludes.ends [
-    | inl (answer, ends) ↦ by_answer answer ends
-    | inr (inl fault) ↦ elim fault.shows [ inl whole ↦ absurd (omega (arith, whole.0)) | inr front ↦ absurd (omega (arith, front.0)) ]
-    | inr (inr memory) ↦ absurd (omega (arith, memory.status))
-  ]
-    where
-      by_answer : (answer : Answer) → EndsBy call answer → IsClean contents call.words
-      by_answer answer ends = elim ends.shows [
-        | inl whole ↦
-            let report = zero_report answer (sym whole.0 ∙ zero) in
-            clean_answer contents call.words (subst (λ (k : Option Contents). Answers k call.words (Report [])) known (subst (λ (a : Answer). Answers (known_bytes call.files_before) call.words a) report ends.is_answer))
-        | inr front ↦ absurd (never_zero answer (sym front.0 ∙ zero))
-      ]
+pub clean_is_safe : (call : Call) → Concludes call → CleanIsSafe call
+clean_is_safe call concludes contents known zero = elim concludes.ends [
+  | inl (answer, ends) ↦ by_answer answer ends
+  | inr (inl fault) ↦ elim fault.shows [ inl whole ↦ absurd (omega (arith, whole.0)) | inr front ↦ absurd (omega (arith, front.0)) ]
+  | inr (inr memory) ↦ absurd (omega (arith, memory.status))
+]
+  where
+    by_answer : (answer : Answer) → EndsBy call answer → IsClean contents call.words
+    by_answer answer ends = elim ends.shows [
+      | inl whole ↦
+          let report = zero_report answer (sym whole.0 ∙ zero) in
+          clean_answer contents call.words (subst (λ (k : Option Contents). Answers k call.words (Report [])) known (subst (λ (a : Answer). Answers (known_bytes call.files_before) call.words a) report ends.is_answer))
+      | inr front ↦ absurd (never_zero answer (sym front.0 ∙ zero))
+    ]

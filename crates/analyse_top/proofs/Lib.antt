@@ -4,3 +4,4 @@ pub mod Words
 pub mod Clean
 pub mod Found
 pub mod OneAnswer
+pub mod Exact

@@ -87,7 +87,7 @@ module _ (contents : Contents) where
   module _ (one_line : (bytes : List ℕ) (m n : ℕ) → FirstBad AreSourceLines bytes m → FirstBad AreSourceLines bytes n → m ≡ n)
       (refused : (source : Source) (line : ℕ) → IsSource source → FirstBad AreSourceLines (source_text source) line → ⊥)
       (one_value : (a b : Source) → IsSource a → IsSource b → source_text a ≡ source_text b → a ≡ b)
-      (one_behind : (certificate : List ℕ) (source : Source) (a b : Answer) → AnswersProgram contents certificate (program_of source) a → AnswersProgram contents certificate (program_of source) b → a ≡ b) where
+      (one_behind : (certificate : List ℕ) (source : Source) (a b : Answer) → IsSource source → AnswersProgram contents certificate (program_of source) a → AnswersProgram contents certificate (program_of source) b → a ≡ b) where
     abbrev FindsSource : List ℕ → Found Source → Type 0
     FindsSource name = Finds (get contents name) source_limit AreSourceLines IsSource source_text one_line refused one_value
 
@@ -95,7 +95,7 @@ module _ (contents : Contents) where
     SourceMeans name certificate Missing answer = answer ≡ Absent name
     SourceMeans name certificate Long answer = answer ≡ SourceLong
     SourceMeans name certificate (Bad line) answer = answer ≡ NotYet line
-    SourceMeans name certificate (Good source) answer = AnswersProgram contents certificate (program_of source) answer
+    SourceMeans name certificate (Good source) answer = IsSource source × AnswersProgram contents certificate (program_of source) answer
 
     refusal_means : (name certificate : List ℕ) (answer : Answer) → AnswersSource contents name answer → (found : Found Source) × FindsSource name found × SourceMeans name certificate found answer
     refusal_means name certificate (Absent other) h = (Missing, h.0, ap Absent h.1)
@@ -108,13 +108,13 @@ module _ (contents : Contents) where
 
     check_means : (name certificate : List ℕ) (answer : Answer) → AnswersCheck contents name certificate answer → (found : Found Source) × FindsSource name found × SourceMeans name certificate found answer
     check_means name certificate answer (inl refusal) = refusal_means name certificate answer refusal
-    check_means name certificate answer (inr (source, holds, behind)) = (Good source, record { is = holds.is_source; held_is = holds.held; fits = holds.fits }, behind)
+    check_means name certificate answer (inr (source, holds, behind)) = (Good source, record { is = holds.is_source; held_is = holds.held; fits = holds.fits }, (holds.is_source, behind))
 
     one_source_meaning : (name certificate : List ℕ) (found : Found Source) (a b : Answer) → SourceMeans name certificate found a → SourceMeans name certificate found b → a ≡ b
     one_source_meaning name certificate Missing a b h k = h ∙ sym k
     one_source_meaning name certificate Long a b h k = h ∙ sym k
     one_source_meaning name certificate (Bad line) a b h k = h ∙ sym k
-    one_source_meaning name certificate (Good source) a b h k = one_behind certificate source a b h k
+    one_source_meaning name certificate (Good source) a b h k = one_behind certificate source a b h.0 h.1 k.1
 
     one_for_check : (name certificate : List ℕ) (a b : Answer) → AnswersCheck contents name certificate a → AnswersCheck contents name certificate b → a ≡ b
     one_for_check name certificate a b h k =

@@ -1,7 +1,7 @@
 ghost use Rattle.std.specs.Prelude.{◌≡◌, ◌↔◌, IsTrue, IfOk};
 ghost use Rattle.batch_io.specs.FilesState.{known_bytes};
 ghost use Rattle.analyse_top.specs.Answer.{Answers, IsPlain, status_of, status_unwritten};
-ghost use Rattle.analyse_top.specs.Conclusion.{Concludes, call};
+ghost use Rattle.analyse_top.specs.Conclusion.{Concludes, IsExact, CleanIsSafe, call};
 ghost use Rattle.analyse_top.specs.Steps.{Reads, stopped_by_fault, texts, ShowsAnswer, ShowsRefusal};
 ghost use Rattle.analyse_top.specs.View.{plain_answer};
 
@@ -25,6 +25,18 @@ pub fn cobsound<F: Files, O: Sink>(
     files: &mut F,
     out: &mut O,
 ) -> u8
+    ensures concludes { Concludes (call (texts words.now.items)
+        (F.state files.old) (F.state files.new) (O.state out.old) (O.state out.new) result) }
+    ensures exact { IsExact (call (texts words.now.items)
+        (F.state files.old) (F.state files.new) (O.state out.old) (O.state out.new) result) }
+    ensures clean { CleanIsSafe (call (texts words.now.items)
+        (F.state files.old) (F.state files.new) (O.state out.old) (O.state out.new) result) }
+{
+    conclude(alloc, words, files, out)
+}
+
+// The same, by what it does alone.
+fn conclude<F: Files, O: Sink>(alloc: Global, words: &Vec<String>, files: &mut F, out: &mut O) -> u8
     ensures { Concludes (call (texts words.now.items) (F.state files.old) (F.state files.new) (O.state out.old) (O.state out.new) result) }
 {
     match answer(alloc, words.as_slice(), files) {
