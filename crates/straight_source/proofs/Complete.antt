@@ -1,5 +1,5 @@
 -- A source of the form is read to its end, and what is read of one goes on as a source.
-use Rattle.std.proofs.Common.{◌≡◌, ℕ, zero, suc, ◌+◌, ◌-◌, ◌^◌, ◌<◌, ◌≤◌, Bool, true, false, cond, ltb, List, [], ◌∷◌, ◌++◌, length, drop, Option, Some, None, refl, sym, ap, ◌∙◌, subst, append_assoc, append-nil, map, arith}
+use Rattle.std.proofs.Common.{◌≡◌, ℕ, ◌+◌, ◌<◌, ◌≤◌, List, [], ◌∷◌, ◌++◌, length, drop, Option, Some, None, refl, sym, ap, ◌∙◌, subst, append_assoc, append-nil, map, arith}
 use Rattle.std.specs.Prelude.{option_and_then, Contains}
 use Rattle.std.specs.List.{AllByRecursion}
 use Rattle.std.proofs.lemmas.Bool.{lt-ltb}
@@ -11,9 +11,9 @@ use Rattle.cob_meaning.specs.declared.straight.Simple.TheVariants as simple
 use Rattle.straight_source.specs.declared.reading.Stage.{Stage}
 use Rattle.straight_source.specs.declared.reading.Stage.TheVariants.{Identification, Name, Data, Storage, Items, Procedure, Stopped}
 use Rattle.straight_source.specs.Source.{ItemLine, ActLine, Source, headings, item_line, act_line, procedure_line, stop_line, source_lines, letters, IsItemLine, AreItemLines, IsActLine, IsSource, AreSourceLines, simple_of}
-use Rattle.straight_source.specs.Steps.{State, start, item_of, act_of, place, with_item, with_act, at_stage, next_fixed, next_item, next_in_storage, next_act, next_in_procedure, next, run}
+use Rattle.straight_source.specs.Steps.{State, start, with_act, next_fixed, next_item, next_in_storage, next_act, next_in_procedure, next, run}
 use Rattle.straight_source.proofs.Pieces.{item_again, act_again, procedure_no_item, stop_no_act}
-use Rattle.straight_source.proofs.Fronts.{IsFront, items_state, acts_state, end_state, item_front, act_front, with-more-item, with-more-act, fixed_again, place_found, place_absent, storage_or, procedure_or}
+use Rattle.straight_source.proofs.Fronts.{IsFront, items_state, acts_state, end_state, item_front, with-more-item, with-more-act, fixed_again, place_found, place_absent, storage_or, procedure_or}
 
 -- ---- runs
 
@@ -65,15 +65,15 @@ run-items before (item ∷ items) h few =
     let more = before ++ item ∷ [] in
     let rest : AreItemLines (letters more) items = subst (λ (ls : List ℕ). AreItemLines ls items) (sym (map-append (λ (item : ItemLine). item.letter) before (item ∷ []))) h.2 in
     rw (item_next before item h.0 h.1 (omega arith))
-        (run-items more items rest (omega (arith, length-append before (item ∷ []))) ∙ ap (λ (items : List ItemLine). Some (items_state items)) (append_assoc before (item ∷ []) items))
+    (run-items more items rest (omega (arith, length-append before (item ∷ []))) ∙ ap (λ (items : List ItemLine). Some (items_state items)) (append_assoc before (item ∷ []) items))
 
 run-acts : (items : List ItemLine) (before acts : List ActLine) → AllByRecursion (IsActLine (letters items)) acts → length before + length acts ≤ 4094 →
     run (acts_state (record { items = items; acts = before })) (map act_line acts) ≡ Some (acts_state (record { items = items; acts = before ++ acts }))
 run-acts items before [] h few = ap (λ (acts : List ActLine). Some (acts_state (record { items = items; acts = acts }))) (sym (append-nil before))
 run-acts items before (act ∷ acts) h few =
     rw (act_next (record { items = items; acts = before }) act h.0 (omega arith))
-        (run-acts items (before ++ act ∷ []) acts h.1 (omega (arith, length-append before (act ∷ [])))
-        ∙ ap (λ (acts : List ActLine). Some (acts_state (record { items = items; acts = acts }))) (append_assoc before (act ∷ []) acts))
+    (run-acts items (before ++ act ∷ []) acts h.1 (omega (arith, length-append before (act ∷ [])))
+    ∙ ap (λ (acts : List ActLine). Some (acts_state (record { items = items; acts = acts }))) (append_assoc before (act ∷ []) acts))
 
 run-division : (source : Source) → IsSource source → run (items_state source.items) (procedure_line ∷ map act_line source.acts) ≡ Some (acts_state source)
 run-division source h = rw (procedure_next source.items h.some) (run-acts source.items [] source.acts h.acts (omega (arith, h.most_acts)))
@@ -87,7 +87,7 @@ complete source h =
     let items : List Line = map item_line source.items in
     let acts : List Line = procedure_line ∷ map act_line source.acts in
     let body : run (items_state []) (items ++ acts) ≡ Some (acts_state source) =
-        run_then (items_state []) (items_state source.items) items acts (run-items [] source.items h.items (omega (arith, h.most))) ∙ run-division source h in
+    run_then (items_state []) (items_state source.items) items acts (run-items [] source.items h.items (omega (arith, h.most))) ∙ run-division source h in
     run_headings ((items ++ acts) ++ stop_line ∷ []) ∙ run_then (items_state []) (acts_state source) (items ++ acts) (stop_line ∷ []) body ∙ run-stop source
 
 -- ---- what is read goes on as a source
@@ -109,9 +109,10 @@ sample_good = record {
 
 items-viable : (items : List ItemLine) → AreItemLines [] items → length items ≤ 26 → IsViable AreSourceLines (item_front items)
 items-viable [] h few = (item_line sample_item ∷ procedure_line ∷ stop_line ∷ [], (sample, sample_good, refl))
-items-viable (item ∷ items) h few =
-    (procedure_line ∷ stop_line ∷ [],
-    (record { items = item ∷ items; acts = [] }, record { items = h; some = omega arith; most = few; acts = tt; most_acts = omega arith }, sym (append_assoc (item_front (item ∷ items)) (procedure_line ∷ []) (stop_line ∷ []))))
+items-viable (item ∷ items) h few = (
+  procedure_line ∷ stop_line ∷ [],
+  (record { items = item ∷ items; acts = [] }, record { items = h; some = omega arith; most = few; acts = tt; most_acts = omega arith }, sym (append_assoc (item_front (item ∷ items)) (procedure_line ∷ []) (stop_line ∷ []))),
+)
 
 pub viable : (stage : Stage) (lines : List Line) (state : State) → IsFront stage lines state → IsViable AreSourceLines lines
 viable Identification lines state h = subst (IsViable AreSourceLines) (sym h.0) (source_lines sample, (sample, sample_good, refl))

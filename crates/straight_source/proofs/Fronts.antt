@@ -1,24 +1,22 @@
 -- What is read of a source: the lines before, and where the reading stands.
-use Rattle.std.proofs.Common.{◌≡◌, ℕ, zero, suc, ◌+◌, ◌-◌, ◌^◌, ◌<◌, ◌≤◌, Bool, true, false, cond, not, ◌&&◌, ◌⊎◌, eqb, ltb, leb, List, [], ◌∷◌, ◌++◌, length, take, drop, get_or, Option, Some, None, refl, sym, ap, ◌∙◌, subst, append_assoc, append-nil, map, arith, inl, inr}
-use Rattle.std.specs.Prelude.{ℤ, pos, option_and_then, unwrap_or, position, is_none, Contains, codes, bytes_eq}
+use Rattle.std.proofs.Common.{◌≡◌, ℕ, ◌<◌, ◌≤◌, Bool, true, false, cond, not, ◌&&◌, eqb, ltb, List, [], ◌∷◌, ◌++◌, length, take, get_or, Option, Some, None, refl, sym, ap, ◌∙◌, subst, append_assoc, append-nil, map, arith, inl, inr}
+use Rattle.std.specs.Prelude.{pos, unwrap_or, is_none, Contains, codes, bytes_eq}
 use Rattle.std.specs.List.{AllByRecursion, position_or_len}
-use Rattle.std.proofs.lemmas.Bool.{eqb-true, eq-eqb, cases_lt, ltb-true, lt-ltb, le-ltb, false≢true}
-use Rattle.std.proofs.lemmas.List.{map-append, length-map, length-append, take-append-drop}
+use Rattle.std.proofs.lemmas.Bool.{eqb-true, eq-eqb, cases_lt, ltb-true, lt-ltb, false≢true}
+use Rattle.std.proofs.lemmas.List.{map-append, length-map, length-append}
 use Rattle.std.proofs.lemmas.List.Quantifiers.{position-Some}
-use Rattle.std.proofs.lemmas.List.Sums.{prefix_len-le-length, prefix_len_passes}
+use Rattle.std.proofs.lemmas.List.Sums.{prefix_len_passes}
 use Rattle.std.proofs.lemmas.Option.{none-some, same_Some, cond_some, option_and_then_some}
 use Rattle.std.proofs.lemmas.Slice.Eq.{bytes_eq-Decides}
 use Rattle.text_lines.specs.Lines.{Line}
-use Rattle.text_lines.specs.Viable.{IsViable}
 use Rattle.cob_meaning.specs.declared.straight.Simple.{Simple}
 use Rattle.cob_meaning.specs.declared.straight.Simple.TheVariants as simple
-use Rattle.cob_meaning.specs.Program.{Program}
 use Rattle.straight_source.specs.declared.reading.Stage.{Stage}
 use Rattle.straight_source.specs.declared.reading.Stage.TheVariants.{Identification, Name, Data, Storage, Items, Procedure, Stopped}
-use Rattle.straight_source.specs.Source.{ItemLine, ActLine, Source, Move, Add, headings, item_line, act_line, procedure_line, stop_line, source_lines, letters, IsItemLine, AreItemLines, IsActLine, IsNumeral, IsSource, AreSourceLines, number_of, place_of, with_verb, simple_of, program_of}
-use Rattle.straight_source.specs.Pieces.{◌>>=◌, item_at, act_at}
+use Rattle.straight_source.specs.Source.{ItemLine, ActLine, Source, headings, item_line, act_line, procedure_line, stop_line, source_lines, letters, IsItemLine, AreItemLines, IsActLine, IsNumeral, IsSource, number_of, place_of, with_verb, simple_of, program_of}
+use Rattle.straight_source.specs.Pieces.{item_at, act_at}
 use Rattle.straight_source.specs.Steps.{State, start, item_of, act_of, place, with_item, with_act, at_stage, next_fixed, next_item, next_in_storage, next_act, next_in_procedure, next_at, next, run}
-use Rattle.straight_source.proofs.Pieces.{both_true, item_found, item_again, act_found, act_again, procedure_no_item, stop_no_act}
+use Rattle.straight_source.proofs.Pieces.{both_true, item_found, act_found}
 
 -- ---- places of letters
 
@@ -131,7 +129,7 @@ item_taken items item behind h good e =
     let b = both_true (is_none (place (letters items) item.letter)) (ltb (length (letters items)) 26) g.0 in
     let few : length (items ++ item ∷ []) ≤ 26 = omega (arith, ltb-true _ _ b.1, length-map items (λ (item : ItemLine). item.letter), length-append items (item ∷ [])) in
     subst (λ (s : State). IsFront s.stage (item_front items ++ item_line item ∷ []) s) g.1
-        (items ++ item ∷ [], are_more [] items item h good (place_none (letters items) item.letter b.0), few, item_front_more items item, sym (with-more-item items item))
+    (items ++ item ∷ [], are_more [] items item h good (place_none (letters items) item.letter b.0), few, item_front_more items item, sym (with-more-item items item))
 
 cond_then : {A : Type 0} (b : Bool) (o : Option A) (y : A) → cond b o None ≡ Some y → (b ≡ true) × (o ≡ Some y)
 cond_then true o y e = (refl, e)
@@ -144,7 +142,7 @@ items_end items line behind h few e =
     let f = fixed_found (items_state items) line procedure_line Procedure behind g.1 in
     let some : 1 ≤ length items = omega (arith, ltb-true 0 _ g.0, length-map items (λ (item : ItemLine). item.letter)) in
     subst (λ (s : State). IsFront s.stage (item_front items ++ line ∷ []) s) f.1
-        (record { items = items; acts = [] }, record { items = h; some = some; most = few; acts = tt; most_acts = omega arith }, ap (λ (l : Line). item_front items ++ l ∷ []) f.0, refl)
+    (record { items = items; acts = [] }, record { items = h; some = some; most = few; acts = tt; most_acts = omega arith }, ap (λ (l : Line). item_front items ++ l ∷ []) f.0, refl)
 
 abbrev pub storage_or : State → Line → Option ItemLine → Option State
 storage_or state line (Some item) = next_item state (item_of item)
@@ -170,11 +168,13 @@ act_taken source act behind h amount e =
     let g = cond_some (ltb (length acts) 4094) (with_act (acts_state source) (with_verb act.verb (pos (number_of act.amount)) to)) behind f in
     let few : length (source.acts ++ act ∷ []) ≤ 4094 = omega (arith, ltb-true _ _ g.0, length-map source.acts (simple_of (letters source.items)), length-append source.acts (act ∷ [])) in
     let same : acts_state (record { items = source.items; acts = source.acts ++ act ∷ [] }) ≡ with_act (acts_state source) (with_verb act.verb (pos (number_of act.amount)) to) =
-        with-more-act source act ∙ ap (λ (to : ℕ). with_act (acts_state source) (with_verb act.verb (pos (number_of act.amount)) to)) (sym at.1) in
-    subst (λ (s : State). IsFront s.stage (act_front source ++ act_line act ∷ []) s) g.1
-        (record { items = source.items; acts = source.acts ++ act ∷ [] },
-        record { items = h.items; some = h.some; most = h.most; acts = all_more (IsActLine (letters source.items)) source.acts act h.acts (record { amount = amount; receiver = at.0 }); most_acts = few },
-        act_front_more source act, sym same))
+    with-more-act source act ∙ ap (λ (to : ℕ). with_act (acts_state source) (with_verb act.verb (pos (number_of act.amount)) to)) (sym at.1) in
+    subst (λ (s : State). IsFront s.stage (act_front source ++ act_line act ∷ []) s) g.1 (
+      record { items = source.items; acts = source.acts ++ act ∷ [] },
+      record { items = h.items; some = h.some; most = h.most; acts = all_more (IsActLine (letters source.items)) source.acts act h.acts (record { amount = amount; receiver = at.0 }); most_acts = few },
+      act_front_more source act,
+      sym same,
+    ))
 
 acts_end : (source : Source) (line : Line) (behind : State) → IsSource source → next_fixed (with_act (acts_state source) simple.Stop) line stop_line Stopped ≡ Some behind → IsFront behind.stage (act_front source ++ line ∷ []) behind
 acts_end source line behind h e =

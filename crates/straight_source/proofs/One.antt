@@ -1,10 +1,10 @@
 -- A text is that of one source.
-use Rattle.std.proofs.Common.{◌≡◌, ℕ, Bool, List, [], ◌∷◌, ◌++◌, Option, Some, None, refl, sym, ap, ◌∙◌, subst, append-nil, map}
+use Rattle.std.proofs.Common.{◌≡◌, ℕ, List, [], ◌∷◌, ◌++◌, Option, Some, None, refl, sym, ap, ◌∙◌, append-nil, map}
 use Rattle.std.specs.List.{AllByRecursion}
-use Rattle.text_lines.specs.Lines.{Line, text_of, cut}
+use Rattle.text_lines.specs.Lines.{Line, text_of}
 use Rattle.text_lines.proofs.Texts.{cut_text}
-use Rattle.straight_source.specs.Source.{ItemLine, ActLine, Source, Verb, Move, Add, headings, item_line, act_line, verb_text, procedure_line, stop_line, source_lines, AreItemLines, IsActLine, IsSource}
-use Rattle.straight_source.specs.Pieces.{after, byte_at, verb_at, item_at, act_at}
+use Rattle.straight_source.specs.Source.{ItemLine, ActLine, Source, Verb, Move, Add, headings, item_line, act_line, procedure_line, stop_line, source_lines, AreItemLines, IsActLine, IsSource}
+use Rattle.straight_source.specs.Pieces.{after, verb_at, item_at, act_at}
 use Rattle.straight_source.proofs.Pieces.{item_again, act_again}
 use Rattle.straight_source.proofs.Whole.{source_one_line}
 
@@ -115,5 +115,5 @@ same_source a b h k e =
     let there = cut_text (text_of (source_lines a)) (source_lines b) (source_one_line b k) e in
     let lines : source_lines a ≡ source_lines b = here.0 ∙ sym there.0 in
     same-parts a.items b.items a.acts b.acts
-        (sym (source-items a h) ∙ ap (gather item_at) lines ∙ source-items b k)
-        (sym (source-acts a h) ∙ ap (gather act_at) lines ∙ source-acts b k)
+    (sym (source-items a h) ∙ ap (gather item_at) lines ∙ source-items b k)
+    (sym (source-acts a h) ∙ ap (gather act_at) lines ∙ source-acts b k)

@@ -1,21 +1,20 @@
 -- The pieces of a line: what is read stands there, and what stands there is read.
-use Rattle.std.proofs.Common.{◌≡◌, ℕ, zero, suc, ◌+◌, ◌-◌, ◌*◌, ◌^◌, ◌<◌, ◌≤◌, Bool, true, false, cond, not, ◌&&◌, ◌||◌, ◌⊎◌, eqb, ltb, leb, List, [], ◌∷◌, ◌++◌, length, take, drop, get_or, Option, Some, None, refl, sym, ap, ◌∙◌, subst, append_assoc, arith, rules, inl, inr}
-use Rattle.std.specs.Prelude.{MatchOption, option_map, option_and_then, unwrap_or, position, codes, decimal, bytes_eq}
-use Rattle.std.specs.List.{AllByRecursion, prefix_len, position_or_len}
+use Rattle.std.proofs.Common.{◌≡◌, ℕ, zero, suc, ◌+◌, ◌-◌, ◌*◌, ◌^◌, ◌<◌, ◌≤◌, Bool, true, false, not, ◌&&◌, ◌⊎◌, eqb, ltb, leb, List, [], ◌∷◌, ◌++◌, length, take, drop, get_or, Option, Some, None, refl, sym, ap, ◌∙◌, subst, append_assoc, arith, rules, inl, inr}
+use Rattle.std.specs.Prelude.{MatchOption, option_map, unwrap_or, position, codes, decimal, bytes_eq}
+use Rattle.std.specs.List.{AllByRecursion, position_or_len}
 use Rattle.std.specs.Cmp.Lexicographic.{pointwise}
-use Rattle.std.proofs.lemmas.Bool.{eqb-true, eq-eqb, cases_eq, cases_lt, ltb-true, ltb-false, lt-ltb, le-ltb, leb-true, le-leb, false≢true}
+use Rattle.std.proofs.lemmas.Bool.{eqb-true, eq-eqb, cases_eq, cases_lt, ltb-true, lt-ltb, le-ltb, leb-true, le-leb, false≢true}
 use Rattle.std.proofs.lemmas.Bool.Decides.{Decides-eqb}
-use Rattle.std.proofs.lemmas.List.{length-take, take-append-drop, take_at, drop_at, length-append}
+use Rattle.std.proofs.lemmas.List.{length-take, take-append-drop, take_at, drop_at}
 use Rattle.std.proofs.lemmas.Option.{none-some, same_Some, cond_some, option_and_then_some}
 use Rattle.std.proofs.lemmas.Str.Parse.{IsNumeralModel, numerals_by_value, digits_value_short, digits_value-take-le}
 use Rattle.std.proofs.lemmas.Int.Digits.{digits_value_more}
 use Rattle.std.specs.Char.{digit_value}
 use Rattle.std.proofs.lemmas.Fmt.{decimal-digits_value, decimal_digit, digits_value-decimal, first_decimal, decimal_nonempty, length-decimal-le, digits_decimal}
 use Rattle.std.proofs.lemmas.Slice.Eq.{strip_prefix_is, bytes_eq-Decides}
-use Rattle.std.proofs.lemmas.List.Sums.{prefix_len-le-length, prefix_len_passes, prefix_len_stops}
-use Rattle.text_lines.specs.Lines.{Line}
+use Rattle.std.proofs.lemmas.List.Sums.{prefix_len-le-length}
 use denote.Ref.{Bor}
-use Rattle.straight_source.specs.Pieces.{◌>>=◌, Gives, after, byte_at, numeral_at, verb_at, item_at, act_at, is_other, is_count, is_capital}
+use Rattle.straight_source.specs.Pieces.{Gives, after, byte_at, numeral_at, verb_at, item_at, act_at, is_other, is_count, is_capital}
 use Rattle.straight_source.specs.Source.{ItemLine, ActLine, Verb, Move, Add, verb_text, item_line, act_line, IsItemLine, IsNumeral, number_of, procedure_line, stop_line}
 
 -- ---- tools
@@ -131,12 +130,12 @@ count_found text h e =
     let few = leb-true (number_of text) 18 b.1 in
     let written : decimal (number_of text) ≡ text = decimal-digits_value own text h.2 (omega (arith, h.0)) (λ z. absurd (apart z)) (omega arith) in
     let some : 1 ≤ number_of text =
-        elim (cases_lt 0 (number_of text)) [
-          | inl more ↦ omega arith
-          | inr none ↦
-              let zero_is : number_of text ≡ 0 = omega arith in
-              absurd (apart (sym (ap (λ (ds : List ℕ). get_or ds 0 0) (sym (decimal_digit 0 (omega arith)) ∙ ap decimal (sym zero_is) ∙ written))))
-        ] in
+    elim (cases_lt 0 (number_of text)) [
+      | inl more ↦ omega arith
+      | inr none ↦
+          let zero_is : number_of text ≡ 0 = omega arith in
+          absurd (apart (sym (ap (λ (ds : List ℕ). get_or ds 0 0) (sym (decimal_digit 0 (omega arith)) ∙ ap decimal (sym zero_is) ∙ written))))
+    ] in
     (some, few, written)
 
 pub count_again : (n : ℕ) → 1 ≤ n → n ≤ 18 → IsNumeral (decimal n) × (is_count (decimal n) ≡ true) × (number_of (decimal n) ≡ n)
@@ -207,16 +206,17 @@ item_parts line name letter picture count clause value a b c d f g t =
     let valued = numeral_found clause value g in
     let count_is = count_found count.0 counted.0 t3.0 in
     let whole = item-chain (codes "       77 ") (codes " PIC 9(") (codes ") VALUE ") line name letter.1 picture count.0 count.1 clause value.0 value.1 (codes ".") letter.0
-        (after-found _ line name a) (byte_found name letter b) (after-found _ letter.1 picture c) counted.1 (after-found _ count.1 clause f) valued.1 (ends (codes ".") value.1 t1.0) in
+    (after-found _ line name a) (byte_found name letter b) (after-found _ letter.1 picture c) counted.1 (after-found _ count.1 clause f) valued.1 (ends (codes ".") value.1 t1.0) in
     let again : item_line (record { letter = letter.0; digits = number_of count.0; value = value.0 }) ≡ codes "       77 " ++ (letter.0 ∷ (codes " PIC 9(" ++ (decimal (number_of count.0) ++ (codes ") VALUE " ++ (value.0 ++ codes "."))))) =
-        item-regroup (codes "       77 ") (codes " PIC 9(") (decimal (number_of count.0)) (codes ") VALUE ") value.0 (codes ".") letter.0 in
-    (record {
-      capital = (leb-true 65 letter.0 capital.0, leb-true letter.0 90 capital.1);
-      digits = (count_is.0, count_is.1);
-      value = valued.0;
-      holds = ltb-true _ _ t3.1;
-    },
-    whole ∙ ap (λ (ds : List ℕ). codes "       77 " ++ (letter.0 ∷ (codes " PIC 9(" ++ (ds ++ (codes ") VALUE " ++ (value.0 ++ codes ".")))))) (sym count_is.2) ∙ sym again)
+    item-regroup (codes "       77 ") (codes " PIC 9(") (decimal (number_of count.0)) (codes ") VALUE ") value.0 (codes ".") letter.0 in (
+      record {
+        capital = (leb-true 65 letter.0 capital.0, leb-true letter.0 90 capital.1);
+        digits = (count_is.0, count_is.1);
+        value = valued.0;
+        holds = ltb-true _ _ t3.1;
+      },
+      whole ∙ ap (λ (ds : List ℕ). codes "       77 " ++ (letter.0 ∷ (codes " PIC 9(" ++ (ds ++ (codes ") VALUE " ++ (value.0 ++ codes ".")))))) (sym count_is.2) ∙ sym again,
+    )
 
 pub item_found : (line : List ℕ) (item : ItemLine) → item_at line ≡ Some item → IsItemLine item × (line ≡ item_line item)
 unfolding item_at
@@ -251,11 +251,12 @@ act_parts : (line statement : List ℕ) (verb : Verb × List ℕ) (amount : List
     after (codes "       ") line ≡ Some statement → verb_at statement ≡ Some verb → numeral_at verb.1 ≡ Some amount → after (codes " TO ") amount.1 ≡ Some receiver → byte_at receiver ≡ Some letter →
     bytes_eq letter.1 (codes ".") ≡ true → IsNumeral amount.0 × (line ≡ act_line (record { verb = verb.0; amount = amount.0; letter = letter.0 }))
 act_parts line statement verb amount receiver letter a b c d f t =
-    let counted = numeral_found verb.1 amount c in
-    (counted.0,
-    act-chain (codes "       ") (codes " ") (codes " TO ") line statement verb.1 amount.1 amount.0 receiver (codes ".") letter.0 (verb_text verb.0) letter.1
-        (after-found _ line statement a) (verb_found statement verb b) counted.1 (after-found _ amount.1 receiver d) (byte_found receiver letter f) (ends (codes ".") letter.1 t)
-    ∙ sym (act-regroup (codes "       ") (verb_text verb.0) (codes " ") amount.0 (codes " TO ") (codes ".") letter.0))
+    let counted = numeral_found verb.1 amount c in (
+      counted.0,
+      act-chain (codes "       ") (codes " ") (codes " TO ") line statement verb.1 amount.1 amount.0 receiver (codes ".") letter.0 (verb_text verb.0) letter.1
+          (after-found _ line statement a) (verb_found statement verb b) counted.1 (after-found _ amount.1 receiver d) (byte_found receiver letter f) (ends (codes ".") letter.1 t)
+          ∙ sym (act-regroup (codes "       ") (verb_text verb.0) (codes " ") amount.0 (codes " TO ") (codes ".") letter.0),
+    )
 
 pub act_found : (line : List ℕ) (act : ActLine) → act_at line ≡ Some act → IsNumeral act.amount × (line ≡ act_line act)
 unfolding act_at

@@ -1,19 +1,19 @@
 -- A source as bytes: its lines are lines, it is a valid program, and reading it ends as the form says.
-use Rattle.std.proofs.Common.{◌≡◌, ℕ, zero, suc, ◌+◌, ◌-◌, ◌^◌, ◌<◌, ◌≤◌, ◌⊎◌, Bool, true, false, cond, not, ◌&&◌, eqb, List, [], ◌∷◌, ◌++◌, length, take, get_or, Option, Some, None, refl, sym, ap, ◌∙◌, subst, append_assoc, append-nil, map, arith, inl, inr}
-use Rattle.std.specs.Prelude.{ℤ, pos, ◌≤ℤ◌, ◌<ℤ◌, Contains, codes, decimal}
+use Rattle.std.proofs.Common.{◌≡◌, ℕ, zero, suc, ◌+◌, ◌^◌, ◌<◌, ◌⊎◌, Bool, true, false, cond, not, ◌&&◌, eqb, List, [], ◌∷◌, ◌++◌, length, take, Option, Some, None, refl, sym, ap, ◌∙◌, subst, append_assoc, append-nil, map, arith, inl, inr}
+use Rattle.std.specs.Prelude.{ℤ, pos, Contains, codes, decimal}
 use Rattle.std.specs.List.{AllByRecursion}
 use Rattle.std.proofs.lemmas.Bool.{eqb-true, eq-eqb, false≢true}
 use Rattle.std.proofs.lemmas.Int.{ints}
-use Rattle.std.proofs.lemmas.List.{map-append, length-map, length-append, take_at}
-use Rattle.std.proofs.lemmas.Option.{none-some, same_Some}
+use Rattle.std.proofs.lemmas.List.{length-map, length-append, take_at}
+use Rattle.std.proofs.lemmas.Option.{same_Some}
 use Rattle.text_lines.specs.Lines.{Line, cut, text_of, IsOneLine, Splits}
 use Rattle.text_lines.specs.Viable.{IsViable, FirstBad}
 use Rattle.text_lines.proofs.Texts.{cut_joins, cut_text, splits_line, splits_rest, one_bad, text_not_bad}
 use Rattle.cob_meaning.specs.declared.straight.Simple.{Simple}
 use Rattle.cob_meaning.specs.declared.straight.Simple.TheVariants as simple
-use Rattle.cob_meaning.specs.Program.{Program, plain, IsWithin, AreItems, AreActs, IsValid}
+use Rattle.cob_meaning.specs.Program.{plain, IsWithin, AreItems, AreActs, IsValid}
 use Rattle.straight_source.specs.declared.reading.Stage.{Stage}
-use Rattle.straight_source.specs.declared.reading.Stage.TheVariants.{Identification, Name, Data, Storage, Items, Procedure, Stopped}
+use Rattle.straight_source.specs.declared.reading.Stage.TheVariants.{Stopped}
 use Rattle.straight_source.specs.Source.{ItemLine, ActLine, Source, Verb, Move, Add, headings, item_line, act_line, verb_text, procedure_line, stop_line, source_lines, letters, IsItemLine, AreItemLines, IsActLine, IsNumeral, IsSource, AreSourceLines, number_of, place_of, with_verb, simple_of, program_of}
 use Rattle.straight_source.specs.declared.reading.Reading.{Reading}
 use Rattle.straight_source.specs.Reading.{IsReading}
@@ -51,12 +51,12 @@ item-one-line item h =
     let count = (count_again item.digits h.digits.0 h.digits.1).0 in
     let front : IsOneLine (codes "       77 " ++ item.letter ∷ codes " PIC 9(") = all-append NoLf (codes "       77 ") (item.letter ∷ codes " PIC 9(") (is_clean (codes "       77 ") refl) (letter, is_clean (codes " PIC 9(") refl) in
     all-append NoLf ((((codes "       77 " ++ item.letter ∷ codes " PIC 9(") ++ decimal item.digits) ++ codes ") VALUE ") ++ item.value) (codes ".")
-        (all-append NoLf (((codes "       77 " ++ item.letter ∷ codes " PIC 9(") ++ decimal item.digits) ++ codes ") VALUE ") item.value
-            (all-append NoLf ((codes "       77 " ++ item.letter ∷ codes " PIC 9(") ++ decimal item.digits) (codes ") VALUE ")
-                (all-append NoLf (codes "       77 " ++ item.letter ∷ codes " PIC 9(") (decimal item.digits) front (digits-one-line (decimal item.digits) count.2))
-                (is_clean (codes ") VALUE ") refl))
-            (digits-one-line item.value h.value.2))
-        (is_clean (codes ".") refl)
+    (all-append NoLf (((codes "       77 " ++ item.letter ∷ codes " PIC 9(") ++ decimal item.digits) ++ codes ") VALUE ") item.value
+    (all-append NoLf ((codes "       77 " ++ item.letter ∷ codes " PIC 9(") ++ decimal item.digits) (codes ") VALUE ")
+    (all-append NoLf (codes "       77 " ++ item.letter ∷ codes " PIC 9(") (decimal item.digits) front (digits-one-line (decimal item.digits) count.2))
+    (is_clean (codes ") VALUE ") refl))
+    (digits-one-line item.value h.value.2))
+    (is_clean (codes ".") refl)
 
 verb-one-line : (verb : Verb) → IsOneLine (verb_text verb)
 verb-one-line Move = is_clean (codes "MOVE") refl
@@ -65,12 +65,12 @@ verb-one-line Add = is_clean (codes "ADD") refl
 act-one-line : (act : ActLine) → IsNumeral act.amount → NoLf act.letter → IsOneLine (act_line act)
 act-one-line act h letter =
     all-append NoLf ((((codes "       " ++ verb_text act.verb) ++ codes " ") ++ act.amount) ++ codes " TO ") (act.letter ∷ codes ".")
-        (all-append NoLf (((codes "       " ++ verb_text act.verb) ++ codes " ") ++ act.amount) (codes " TO ")
-            (all-append NoLf ((codes "       " ++ verb_text act.verb) ++ codes " ") act.amount
-                (all-append NoLf (codes "       " ++ verb_text act.verb) (codes " ") (all-append NoLf (codes "       ") (verb_text act.verb) (is_clean (codes "       ") refl) (verb-one-line act.verb)) (is_clean (codes " ") refl))
-                (digits-one-line act.amount h.2))
-            (is_clean (codes " TO ") refl))
-        (letter, is_clean (codes ".") refl)
+    (all-append NoLf (((codes "       " ++ verb_text act.verb) ++ codes " ") ++ act.amount) (codes " TO ")
+    (all-append NoLf ((codes "       " ++ verb_text act.verb) ++ codes " ") act.amount
+    (all-append NoLf (codes "       " ++ verb_text act.verb) (codes " ") (all-append NoLf (codes "       ") (verb_text act.verb) (is_clean (codes "       ") refl) (verb-one-line act.verb)) (is_clean (codes " ") refl))
+    (digits-one-line act.amount h.2))
+    (is_clean (codes " TO ") refl))
+    (letter, is_clean (codes ".") refl)
 
 -- a declared letter is a capital
 capital_in : (before : List ℕ) (items : List ItemLine) (letter : ℕ) → AreItemLines before items → Contains (letters items) letter → NoLf letter
@@ -93,12 +93,12 @@ headings-one-line =
 pub source_one_line : (source : Source) → IsSource source → AllByRecursion IsOneLine (source_lines source)
 source_one_line source h =
     all-append IsOneLine ((headings ++ map item_line source.items) ++ procedure_line ∷ map act_line source.acts) (stop_line ∷ [])
-        (all-append IsOneLine (headings ++ map item_line source.items) (procedure_line ∷ map act_line source.acts)
-            (all-append IsOneLine headings (map item_line source.items)
-                headings-one-line
-                (items-one-line [] source.items h.items))
-            (is_clean procedure_line refl, acts-one-line source.items source.acts h.items h.acts))
-        (is_clean stop_line refl, tt)
+    (all-append IsOneLine (headings ++ map item_line source.items) (procedure_line ∷ map act_line source.acts)
+    (all-append IsOneLine headings (map item_line source.items)
+    headings-one-line
+    (items-one-line [] source.items h.items))
+    (is_clean procedure_line refl, acts-one-line source.items source.acts h.items h.acts))
+    (is_clean stop_line refl, tt)
 
 -- ---- a valid program
 
@@ -117,14 +117,15 @@ acts-valid : (declared : List ℕ) (items : ℕ) (acts : List ActLine) → lengt
 acts-valid declared items [] e h = refl
 acts-valid declared items (act ∷ acts) e h =
     act-valid act.verb (pos (number_of act.amount)) (place_of declared act.letter) items (map (simple_of declared) acts ++ simple.Stop ∷ [])
-        (within (number_of act.amount) 18 (number-small act.amount h.0.amount)) (omega (arith, (place_found declared act.letter h.0.receiver).1)) (acts-valid declared items acts e h.1)
+    (within (number_of act.amount) 18 (number-small act.amount h.0.amount)) (omega (arith, (place_found declared act.letter h.0.receiver).1)) (acts-valid declared items acts e h.1)
 
 -- one more statement than lines of statements, and as many items as lines of items
 pub counts : (source : Source) → (length (program_of source).acts ≡ length source.acts + 1) × (length (program_of source).digits ≡ length source.items) × (length (program_of source).first ≡ length source.items)
-counts source =
-    (omega (arith, length-append (map (simple_of (letters source.items)) source.acts) (simple.Stop ∷ []), length-map source.acts (simple_of (letters source.items))),
-    length-map source.items (λ (item : ItemLine). item.digits),
-    length-map source.items (λ (item : ItemLine). pos (number_of item.value)))
+counts source = (
+  omega (arith, length-append (map (simple_of (letters source.items)) source.acts) (simple.Stop ∷ []), length-map source.acts (simple_of (letters source.items))),
+  length-map source.items (λ (item : ItemLine). item.digits),
+  length-map source.items (λ (item : ItemLine). pos (number_of item.value)),
+)
 
 pub source_valid : (source : Source) → IsSource source → IsValid (program_of source)
 source_valid source h =
@@ -180,7 +181,7 @@ refused_there bytes rest number state line behind g s e =
     let whole : (cut bytes).whole ≡ g.front ++ line ∷ (cut behind).whole = g.whole ∙ ap (λ (lines : List Line). g.front ++ lines) parts.0 in
     let long : length (cut bytes).whole ≡ length g.front + 1 + length (cut behind).whole = ap length whole ∙ omega (arith, length-append g.front (line ∷ (cut behind).whole)) in
     let more : take (length g.front + 1) (cut bytes).whole ≡ g.front ++ line ∷ [] =
-        ap (take (length g.front + 1)) (whole ∙ sym (append_assoc g.front (line ∷ []) (cut behind).whole)) ∙ take-front (g.front ++ line ∷ []) (cut behind).whole (length g.front + 1) (omega (arith, length-append g.front (line ∷ []))) in
+    ap (take (length g.front + 1)) (whole ∙ sym (append_assoc g.front (line ∷ []) (cut behind).whole)) ∙ take-front (g.front ++ line ∷ []) (cut behind).whole (length g.front + 1) (omega (arith, length-append g.front (line ∷ []))) in
     record {
       before = length g.front;
       counted = g.count;

@@ -1,5 +1,5 @@
 -- A line read from left to right: each piece is what it gives and the bytes behind it.
-use Rattle.std.specs.Prelude.{◌≡◌, ℕ, ◌^◌, Bool, ◌&&◌, ◌||◌, not, cond, nat_le, nat_lt, ◌==◌, if◌then◌else◌, List, [], ◌∷◌, take, drop, slice_index, length, codes, bytes_eq, Option, Some, None, option_and_then, option_map}
+use Rattle.std.specs.Prelude.{◌≡◌, ℕ, ◌^◌, Bool, ◌&&◌, ◌||◌, not, nat_le, nat_lt, ◌==◌, if◌then◌else◌, List, [], ◌∷◌, take, drop, slice_index, codes, bytes_eq, Option, Some, None, option_and_then, option_map}
 use Rattle.std.specs.List.{position_or_len}
 use Rattle.text_lines.specs.Lines.{Line}
 use Rattle.straight_source.specs.Source.{ItemLine, ActLine, Verb, Move, Add, number_of}
@@ -55,8 +55,8 @@ item_at line = do
   clause ← after (codes ") VALUE ") count.1
   value ← numeral_at clause
   if bytes_eq value.1 (codes ".") && (is_capital letter.0 && (is_count count.0 && nat_lt (number_of value.0) (10 ^ number_of count.0)))
-    then Some (record { letter = letter.0; digits = number_of count.0; value = value.0 })
-    else None
+      then Some (record { letter = letter.0; digits = number_of count.0; value = value.0 })
+      else None
 
 -- the line of one statement
 unfoldable pub act_at : Line → Option ActLine

@@ -1,5 +1,5 @@
 -- What reading a source answers.
-use Rattle.std.specs.Prelude.{◌≡◌, ℕ, List, Result, MatchResult, Ok, Err}
+use Rattle.std.specs.Prelude.{◌≡◌, ℕ, List, Result, MatchResult}
 use Rattle.text_lines.specs.Lines.{text_of}
 use Rattle.text_lines.specs.Viable.{FirstBad}
 use Rattle.cob_meaning.specs.declared.straight.Straight.{Straight}

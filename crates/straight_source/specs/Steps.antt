@@ -1,5 +1,5 @@
 -- Reading a source line by line, and how far it has come.
-use Rattle.std.specs.Prelude.{◌≡◌, ℕ, ◌+◌, ◌==◌, Bool, true, false, not, ◌&&◌, nat_lt, nat_le, if◌then◌else◌, List, [], ◌∷◌, ◌++◌, length, position, is_none, codes, bytes_eq, ℤ, pos, Option, Some, None, option_and_then, option_map}
+use Rattle.std.specs.Prelude.{ℕ, ◌==◌, ◌&&◌, nat_lt, if◌then◌else◌, List, [], ◌∷◌, ◌++◌, length, position, is_none, codes, bytes_eq, pos, Option, Some, None, option_and_then}
 use Rattle.text_lines.specs.Lines.{Line}
 use Rattle.cob_meaning.specs.declared.straight.Simple.{Simple}
 use Rattle.cob_meaning.specs.declared.straight.Simple.TheVariants as simple
@@ -9,7 +9,7 @@ use Rattle.straight_source.specs.declared.reading.Stage.TheVariants.{Identificat
 use Rattle.straight_source.specs.declared.reading.Reading.{Reading}
 use Rattle.straight_source.specs.declared.line.Item.{Item}
 use Rattle.straight_source.specs.declared.line.Act.{Act}
-use Rattle.straight_source.specs.Source.{ItemLine, ActLine, Verb, Move, Add, number_of, procedure_line, stop_line, with_verb}
+use Rattle.straight_source.specs.Source.{ItemLine, ActLine, number_of, procedure_line, stop_line, with_verb}
 use Rattle.straight_source.specs.Pieces.{◌>>=◌, item_at, act_at}
 
 -- what is read next, the letters declared so far, and the program so far

@@ -10,3 +10,6 @@ mod reading;
 pub use ends::SourceEnd;
 pub use laws::{one_refusal, one_source, program_counts, read_or_refused};
 pub use read::read_source;
+
+#[cfg(test)]
+mod tests;

@@ -1,9 +1,9 @@
 -- Where a text is cut.
-use Rattle.std.proofs.Common.{◌≡◌, ℕ, zero, suc, ◌+◌, ◌<◌, ◌≤◌, Bool, true, false, cond, eqb, List, [], ◌∷◌, ◌++◌, length, take, drop, get_or, refl, sym, ap, ◌∙◌, arith, add-one, ◌-◌}
-use Rattle.std.proofs.lemmas.Bool.{eqb-true, eq-eqb, cases_eq}
+use Rattle.std.proofs.Common.{◌≡◌, ℕ, zero, suc, ◌+◌, ◌<◌, true, false, cond, eqb, List, [], ◌∷◌, length, take, drop, get_or, refl, ap, ◌∙◌, arith, add-one, ◌-◌}
+use Rattle.std.proofs.lemmas.Bool.{eqb-true, eq-eqb}
 use Rattle.std.proofs.lemmas.List.{take_rest}
 use Rattle.memchr.specs.Find.{Nowhere, NoneBefore, Passes, is_byte}
-use Rattle.text_lines.specs.Lines.{Line, Cut, cut, with_byte, text_of, IsOneLine}
+use Rattle.text_lines.specs.Lines.{cut, with_byte}
 
 -- a byte that is no LF, before a text
 pub cut-byte : (byte : ℕ) (bytes : List ℕ) → (byte ≡ 10 → ⊥) → cut (byte ∷ bytes) ≡ with_byte byte (cut bytes).whole (cut bytes).rest

@@ -6,17 +6,14 @@ ghost use Rattle.text_lines.specs.Viable.{FirstBad};
 /// A law: a text has one first bad line.
 pub fn one_line()
     ensures { (texts : List Line → Bool) (bytes : List ℕ) (m n : ℕ) → FirstBad (λ lines. IsTrue (texts lines)) bytes m → FirstBad (λ lines. IsTrue (texts lines)) bytes n → m ≡ n }
-{
-}
+{}
 
 /// A law: a text of the set has no bad line.
 pub fn refused_nowhere()
     ensures { (texts : List Line → Bool) (bytes : List ℕ) (line : ℕ) (lines : List Line) → FirstBad (λ lines. IsTrue (texts lines)) bytes line → IsTrue (texts lines) → AllByRecursion IsOneLine lines → bytes ≡ text_of lines → ⊥ }
-{
-}
+{}
 
 /// A law: the text of some lines is cut into these lines, with nothing behind them.
 pub fn cut_again()
     ensures { (bytes : List ℕ) (lines : List Line) → AllByRecursion IsOneLine lines → bytes ≡ text_of lines → (lines ≡ (cut bytes).whole) × ((cut bytes).rest ≡ []) }
-{
-}
+{}

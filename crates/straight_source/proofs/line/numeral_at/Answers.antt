@@ -1,4 +1,4 @@
-use Rattle.std.proofs.Common.{arith, ◌+◌, ◌≤◌}
+use Rattle.std.proofs.Common.{arith}
 use Rattle.straight_source.proofs.Pieces.{digits-within, numeral_front}
 use Rattle.straight_source.proofs.line.numeral_at.Goals as goal
 
