@@ -1,6 +1,6 @@
 -- A line of words, from its front.
-use Rattle.std.proofs.Common.{◌≡◌, ℕ, zero, suc, ◌+◌, ◌-◌, ◌<◌, ◌≤◌, Bool, true, false, List, [], ◌∷◌, ◌++◌, length, get_or, take, drop, nat_eq, eqb, Option, None, Some, ℤ, decimal, refl, sym, ap, ◌∙◌, arith, add-one, rules, ◌<ℤ◌, ◌≤ℤ◌}
-use Rattle.std.specs.Prelude.{MatchOption, codes, IsTrue}
+use Rattle.std.proofs.Common.{◌≡◌, ℕ, zero, suc, ◌+◌, ◌-◌, ◌<◌, Bool, true, false, List, [], ◌∷◌, ◌++◌, length, get_or, take, drop, nat_eq, Option, None, Some, ℤ, decimal, refl, sym, ap, ◌∙◌, arith, rules, ◌<ℤ◌, ◌≤ℤ◌}
+use Rattle.std.specs.Prelude.{MatchOption, IsTrue}
 use Rattle.std.specs.Fmt.{signed_decimal}
 use Rattle.std.specs.Cmp.Lexicographic.{same_text, other_text}
 use Rattle.std.proofs.lemmas.Bool.{eqb-true, eq-eqb}

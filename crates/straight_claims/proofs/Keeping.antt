@@ -1,15 +1,15 @@
 -- Lines that keep to their forms, part by part.
-use Rattle.std.proofs.Common.{◌≡◌, ℕ, zero, suc, ◌+◌, ◌-◌, ◌<◌, ◌≤◌, List, [], ◌∷◌, ◌++◌, length, take, map, Vec, Result, Ok, Err, refl, sym, ap, subst, ◌∙◌, arith, add-one}
+use Rattle.std.proofs.Common.{◌≡◌, ℕ, zero, suc, ◌+◌, ◌-◌, ◌<◌, List, [], ◌∷◌, ◌++◌, length, map, Vec, Result, Ok, Err, refl, sym, ap, subst, ◌∙◌, arith, add-one}
 use Rattle.std.specs.Prelude.{MatchResult}
 use Rattle.std.specs.declared.alloc.Global.{Global}
-use Rattle.std.proofs.lemmas.List.{append_assoc, append-nil, length-append, length-map, map-append}
+use Rattle.std.proofs.lemmas.List.{append_assoc, append-nil, length-append, map-append}
 use Rattle.text_lines.specs.Lines.{Line, Cut, cut}
 use Rattle.cert_check.specs.declared.ends.Claim.{Claim}
 use Rattle.cert_check.specs.Inductive.{AreClaims, AreNodes, plain_nodes}
 use Rattle.straight_claims.specs.declared.ends.ClaimsEnd.{ClaimsEnd}
 use Rattle.straight_claims.specs.declared.ends.ClaimsEnd.TheVariants.{NotYet, Memory}
 use Rattle.straight_claims.specs.Claims.{claim_line, node_line, node_lines}
-use Rattle.straight_claims.specs.Forms.{Form, Just, ClaimOf, Fits, IsClaimOf, IsClaimLine, AreFits, Misfits, Passes, StopsAt, claim_forms, node_forms}
+use Rattle.straight_claims.specs.Forms.{Form, Just, ClaimOf, IsClaimOf, AreFits, Misfits, Passes, StopsAt, claim_forms, node_forms}
 
 -- ---- parts
 

@@ -1,24 +1,23 @@
 -- From the forms of lines to the certificates: which texts there are, and where a text stops being one.
-use Rattle.std.proofs.Common.{◌≡◌, ℕ, zero, suc, ◌+◌, ◌-◌, ◌<◌, ◌≤◌, ◌^◌, List, [], ◌∷◌, ◌++◌, length, take, map, decimal, ℤ, pos, ◌≤ℤ◌, Bool, true, false, ◌==◌, refl, sym, ap, subst, ◌∙◌, arith, add-one}
+use Rattle.std.proofs.Common.{◌≡◌, ℕ, zero, suc, ◌+◌, ◌<◌, ◌≤◌, ◌^◌, List, [], ◌∷◌, ◌++◌, length, take, map, decimal, pos, true, false, ◌==◌, refl, sym, ap, subst, ◌∙◌, arith, add-one}
 use Rattle.std.specs.Prelude.{codes}
 use Rattle.std.specs.List.{AllByRecursion}
 use Rattle.std.specs.Fmt.{signed_decimal}
 use Rattle.std.proofs.lemmas.Int.{ints}
 use Rattle.std.proofs.lemmas.Bool.{eqb-true, eq-eqb}
-use Rattle.std.proofs.lemmas.List.{append_assoc, append-nil, length-append, length-take-le, nil_from_length, take_at}
+use Rattle.std.proofs.lemmas.List.{append-nil, length-append, length-take-le, nil_from_length, take_at}
 use Rattle.text_lines.specs.Lines.{Line, Cut, cut, text_of, IsOneLine}
-use Rattle.text_lines.specs.Viable.{IsViable, FirstBad}
+use Rattle.text_lines.specs.Viable.{FirstBad}
 use Rattle.cert_check.specs.declared.ends.Claim.{Claim}
-use Rattle.cert_check.specs.Element.{IsEnd}
 use Rattle.cert_check.specs.Inductive.{AreClaims, AreNodes}
 use Rattle.straight_claims.specs.declared.ends.ClaimsEnd.{ClaimsEnd}
 use Rattle.straight_claims.specs.declared.ends.ClaimsEnd.TheVariants.{NotYet, Memory}
 use Rattle.straight_claims.specs.Claims.{claim_line, node_line, node_lines, claims_lines, AreClaimsLines}
 use Rattle.straight_claims.specs.Reading.{IsReading, Refuses}
-use Rattle.straight_claims.specs.Forms.{Form, Just, ClaimOf, Fits, IsClaimOf, IsClaimLine, AreFits, Misfits, Passes, StopsAt, claim_forms, node_forms, head_forms, head_lines, end_forms, forms_of}
+use Rattle.straight_claims.specs.Forms.{Form, Just, ClaimOf, Fits, IsClaimOf, AreFits, Misfits, Passes, StopsAt, claim_forms, node_forms, head_forms, head_lines, end_forms, forms_of}
 use Rattle.straight_claims.proofs.Numbers.{IsWord, decimal_word, end_word}
 use Rattle.straight_claims.proofs.Cuts.{cut-text_of, cut_joined, one_line-append, literal}
-use Rattle.straight_claims.proofs.Keeping.{passes_both, fits_both, claims_fit, nodes_fit, nodes_length}
+use Rattle.straight_claims.proofs.Keeping.{passes_both, fits_both, nodes_fit, nodes_length}
 
 -- ---- the lines that keep to the forms are the certificates
 

@@ -2,7 +2,7 @@
 -- in advance, but for the ends of its claims.
 use Rattle.std.specs.Prelude.{◌≡◌, ℕ, zero, suc, ◌+◌, ◌≤ℤ◌, List, [], ◌∷◌, ◌++◌, length, codes, decimal, ℤ}
 use Rattle.std.specs.Fmt.{signed_decimal}
-use Rattle.text_lines.specs.Lines.{Line, Cut, cut}
+use Rattle.text_lines.specs.Lines.{Line, cut}
 use Rattle.cert_check.specs.declared.ends.Claim.{Claim}
 use Rattle.cert_check.specs.Element.{IsEnd}
 use Rattle.straight_claims.specs.declared.ends.ClaimsEnd.{ClaimsEnd}

@@ -1,4 +1,4 @@
-use Rattle.std.proofs.Common.{rules, ◌≡◌, ◌++◌, sym, ap, ◌∙◌, decimal}
+use Rattle.std.proofs.Common.{◌∙◌, decimal}
 use Rattle.straight_claims.proofs.Fields.{numbered}
 use Rattle.straight_claims.proofs.line.is_numbered.Goals as goal
 

@@ -1,5 +1,4 @@
-use Rattle.std.proofs.Common.{rules, ◌≡◌, ◌^◌, ◌<◌, List, [], ◌∷◌, ◌++◌, arith, refl, ℕ, subst}
-use Rattle.std.specs.Prelude.{codes}
+use Rattle.std.proofs.Common.{rules, ◌^◌, ◌<◌, List, ◌++◌, arith, refl, ℕ, subst}
 use Rattle.cert_check.specs.Inductive.{plain_nodes}
 use Rattle.straight_claims.specs.Claims.{node_lines, claims_lines}
 use Rattle.straight_claims.specs.Forms.{Passes, node_forms, head_forms, head_lines, end_forms}

@@ -1,4 +1,4 @@
-use Rattle.std.proofs.Common.{rules, List, [], ◌∷◌, ◌++◌, decimal, refl}
+use Rattle.std.proofs.Common.{rules, [], ◌∷◌, ◌++◌, decimal, refl}
 use Rattle.std.specs.Prelude.{codes}
 use Rattle.text_lines.specs.Lines.{Line}
 use Rattle.straight_claims.specs.Forms.{Form, Just}
