@@ -1,0 +1,35 @@
+use crate::bytes::Bytes;
+
+/// How an item's number is kept (ISO 1989:1985, USAGE and SIGN). `Leading` and `Trailing` are DISPLAY with a
+/// separate sign byte.
+#[derive(Clone, Copy, Debug, PartialEq, Eq)]
+pub enum Usage {
+    Display,
+    Leading,
+    Trailing,
+    Binary,
+    Packed,
+}
+
+/// The form of an item, from its picture and usage. `digits` counts all digit places, 1 to 18, and `scale`
+/// those behind the decimal point.
+#[derive(Drop)]
+pub enum Form {
+    Group,
+    /// An alphanumeric item of so many bytes.
+    Text {
+        length: u32,
+    },
+    Number {
+        digits: u32,
+        scale: u32,
+        signed: bool,
+        usage: Usage,
+    },
+    /// An edited item; the picture has its repetitions written out, in capitals.
+    Edited {
+        picture: Bytes,
+        digits: u32,
+        scale: u32,
+    },
+}
