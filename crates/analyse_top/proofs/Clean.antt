@@ -1,10 +1,10 @@
 -- Where the status is 0, the program is safe.
 use Rattle.std.proofs.Common.{◌≡◌, ℕ, List, [], ◌∷◌, map, Option, Some, refl, sym, ap, ◌∙◌, subst, inl, inr, arith}
 use Rattle.batch_io.specs.FilesState.{Contents, known_bytes}
-use Rattle.cob_meaning.specs.declared.straight.Open.{Open}
+use Rattle.cob_tree.specs.declared.fault.Open.{Open}
 use Rattle.cob_meaning.specs.Program.{Program}
 use Rattle.cob_meaning.specs.Run.{MeetsNoFault}
-use Rattle.cert_check.specs.declared.ends.Claim.{Claim}
+use Rattle.cert_text.specs.declared.cert.Claim.{Claim}
 use Rattle.cert_check.specs.Inductive.{open_pairs}
 use Rattle.cert_check.proofs.Runs.{faults_open, none_open}
 use Rattle.straight_source.specs.Source.{Source, program_of}

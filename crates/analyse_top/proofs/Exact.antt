@@ -4,7 +4,7 @@ use Rattle.batch_io.specs.FilesState.{Contents, known_bytes}
 use Rattle.text_lines.specs.Lines.{text_of}
 use Rattle.text_lines.specs.Viable.{FirstBad}
 use Rattle.text_lines.proofs.Texts.{one_bad}
-use Rattle.cert_check.specs.declared.ends.Claim.{Claim}
+use Rattle.cert_text.specs.declared.cert.Claim.{Claim}
 use Rattle.cert_check.specs.Inductive.{FitsProgram}
 use Rattle.straight_source.specs.Source.{Source, IsSource, AreSourceLines, source_lines, program_of}
 use Rattle.straight_source.proofs.Whole.{counts, source_not_bad}

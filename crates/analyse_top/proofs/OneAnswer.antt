@@ -7,7 +7,7 @@ use Rattle.batch_io.specs.FilesState.{Contents}
 use Rattle.text_lines.specs.Lines.{Line, text_of}
 use Rattle.text_lines.specs.Viable.{FirstBad}
 use Rattle.cob_meaning.specs.Program.{Program}
-use Rattle.cert_check.specs.declared.ends.Claim.{Claim}
+use Rattle.cert_text.specs.declared.cert.Claim.{Claim}
 use Rattle.cert_check.specs.declared.ends.Gap.{Gap}
 use Rattle.cert_check.specs.declared.ends.Leak.{Leak}
 use Rattle.cert_check.specs.Inductive.{AreNodes, FitsProgram, leak, leaks}

@@ -4,10 +4,10 @@ use Rattle.std.specs.Prelude.{All, MatchResult}
 use Rattle.std.specs.List.{AllByRecursion}
 use Rattle.std.proofs.lemmas.List.Elements.{All-from_recursion}
 use Rattle.cob_meaning.specs.declared.straight.Simple.{Simple}
-use Rattle.cob_meaning.specs.declared.straight.Kind.{Kind}
-use Rattle.cob_meaning.specs.declared.straight.Open.{Open}
+use Rattle.cob_tree.specs.declared.fault.Kind.{Kind}
+use Rattle.cob_tree.specs.declared.fault.Open.{Open}
 use Rattle.cob_meaning.specs.Program.{Program}
-use Rattle.cert_check.specs.declared.ends.Claim.{Claim}
+use Rattle.cert_text.specs.declared.cert.Claim.{Claim}
 use Rattle.cert_check.specs.declared.ends.CheckEnd.{CheckEnd}
 use Rattle.cert_check.specs.declared.ends.CheckEnd.TheVariants.{Shape, NotInductive, Memory}
 use Rattle.cert_check.specs.Element.{source_of}

@@ -5,9 +5,9 @@ use Rattle.std.specs.FinMap.{get}
 use Rattle.batch_io.specs.FilesState.{Contents}
 use Rattle.text_lines.specs.Lines.{Line, text_of}
 use Rattle.text_lines.specs.Viable.{FirstBad}
-use Rattle.cob_meaning.specs.declared.straight.Open.{Open}
+use Rattle.cob_tree.specs.declared.fault.Open.{Open}
 use Rattle.cob_meaning.specs.Program.{Program}
-use Rattle.cert_check.specs.declared.ends.Claim.{Claim}
+use Rattle.cert_text.specs.declared.cert.Claim.{Claim}
 use Rattle.cert_check.specs.declared.ends.Gap.{Gap}
 use Rattle.cert_check.specs.Inductive.{FitsProgram, leak, leaks, open_pairs}
 use Rattle.straight_source.specs.Source.{Source, IsSource, AreSourceLines, source_lines, program_of}

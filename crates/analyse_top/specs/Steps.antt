@@ -2,9 +2,9 @@
 use Rattle.std.specs.Prelude.{◌≡◌, ℕ, ◌+◌, ◌⊎◌, Bool, true, false, List, [], map, length, slice_get, Option, Some, IfSome, Result, Ok, Err, IfOk, MatchResult, Vec, String, string_bytes}
 use Rattle.text_lines.specs.Lines.{text_of}
 use Rattle.text_lines.specs.Viable.{FirstBad}
-use Rattle.cob_meaning.specs.declared.straight.Open.{Open}
+use Rattle.cob_tree.specs.declared.fault.Open.{Open}
 use Rattle.cob_meaning.specs.Program.{Program}
-use Rattle.cert_check.specs.declared.ends.Claim.{Claim}
+use Rattle.cert_text.specs.declared.cert.Claim.{Claim}
 use Rattle.cert_check.specs.declared.ends.CheckEnd.{CheckEnd}
 use Rattle.cert_check.specs.declared.ends.CheckEnd.TheVariants as check
 use Rattle.cert_check.specs.Inductive.{FitsProgram, leak, leaks}

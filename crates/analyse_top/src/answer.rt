@@ -2,7 +2,7 @@ ghost use Rattle.std.specs.Prelude.{◌≡◌};
 ghost use Rattle.analyse_top.specs.declared.answer.Stop.TheVariants.{Memory};
 
 use cert_check::Gap;
-use cob_meaning::Kind;
+use cob_tree::Kind;
 use std::alloc::AllocError;
 
 /// A statement that a certificate leaves open, and the line on which it stands.

@@ -9,7 +9,6 @@ mod top;
 use batch_io::{RealFiles, StdSink};
 use std::alloc::Global;
 use std::env;
-use std::io::ErrorKind;
 use std::process::ExitCode;
 use top::cobsound;
 

@@ -5,7 +5,7 @@ ghost use Rattle.analyse_top.specs.Answer.{answer_text, usage_text};
 
 use crate::answer::{Alarm, Answer};
 use cert_check::Gap;
-use cob_meaning::Kind;
+use cob_tree::Kind;
 use itoa::{Buffer, Integer};
 use std::alloc::{AllocError, Global};
 

@@ -6,11 +6,11 @@ use Rattle.std.proofs.lemmas.List.{drop_more, append_assoc, length-map, get_or-m
 use Rattle.std.specs.declared.alloc.Global.{Global}
 use Rattle.cob_meaning.specs.declared.straight.Simple.{Simple}
 use Rattle.cob_meaning.specs.declared.straight.Simple.TheVariants.{Move, Add, Stop}
-use Rattle.cob_meaning.specs.declared.straight.Open.{Open}
+use Rattle.cob_tree.specs.declared.fault.Open.{Open}
 use Rattle.cert_check.proofs.Walks.{first_found, first_right}
 use Rattle.std.proofs.lemmas.Bool.{false≢true}
 use Rattle.cob_meaning.specs.Program.{Program, AreActs, AreItems, IsWithin}
-use Rattle.cert_check.specs.declared.ends.Claim.{Claim}
+use Rattle.cert_text.specs.declared.cert.Claim.{Claim}
 use Rattle.cert_check.specs.declared.ends.Gap.{Gap}
 use Rattle.cert_check.specs.declared.ends.Leak.{Leak}
 use Rattle.cert_check.specs.Element.{IsStore, IsEnd, AreDigits, post, source_of}

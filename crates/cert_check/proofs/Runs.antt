@@ -10,15 +10,15 @@ use Rattle.std.proofs.lemmas.List.{length-map}
 use Rattle.std.proofs.lemmas.Option.{slice_get_within, get_or_from_slice_get}
 use Rattle.std.proofs.lemmas.List.Elements.{Contains-append_left, Contains-append_right}
 use Rattle.dec_num.proofs.Powers.{ten_positive}
-use Rattle.cob_meaning.specs.declared.straight.Kind.{Kind}
-use Rattle.cob_meaning.specs.declared.straight.Open.{Open}
+use Rattle.cob_tree.specs.declared.fault.Kind.{Kind}
+use Rattle.cob_tree.specs.declared.fault.Open.{Open}
 use Rattle.cob_meaning.specs.declared.straight.Outcome.{Outcome}
 use Rattle.cob_meaning.specs.declared.straight.Outcome.TheVariants.{Going, Ended, IoStop, Fault}
 use Rattle.cob_meaning.specs.declared.straight.Simple.{Simple}
 use Rattle.cob_meaning.specs.declared.straight.Simple.TheVariants.{Move, Add, Stop}
 use Rattle.cob_meaning.specs.Program.{Program, IsValid, AreActs}
 use Rattle.cob_meaning.specs.Run.{State, start, stored, done, step_at, run, CoversRuns, MeetsNoFault}
-use Rattle.cert_check.specs.declared.ends.Claim.{Claim}
+use Rattle.cert_text.specs.declared.cert.Claim.{Claim}
 use Rattle.cert_check.specs.declared.interval.Interval.{Interval}
 use Rattle.cert_check.specs.Element.{own, claimed, interval, source_of, result_of, post, is_held}
 use Rattle.cert_check.specs.Inductive.{FitsProgram, leak, leaks, leaks_from, entry_leaks, element_gaps, pairs_from, pair_of, open_pairs, open_kind, open_result, kind_of}

@@ -3,7 +3,7 @@ use Rattle.std.specs.Prelude.{ℕ, ◌-◌, ◌^◌, ◌<◌, ◌≤◌, All, un
 use Rattle.std.specs.Int.{int_max, int_min}
 use Rattle.cob_meaning.specs.declared.straight.Simple.{Simple}
 use Rattle.cob_meaning.specs.declared.straight.Simple.TheVariants.{Move, Add, Stop}
-use Rattle.cert_check.specs.declared.ends.Claim.{Claim}
+use Rattle.cert_text.specs.declared.cert.Claim.{Claim}
 use Rattle.cert_check.specs.declared.interval.Interval.{Interval}
 
 abbrev pub interval : ℤ → ℤ → Interval

@@ -4,11 +4,11 @@ use Rattle.std.specs.Prelude.{◌≡◌, ℕ, zero, suc, ◌+◌, ℤ, ◌≤ℤ
 use Rattle.std.specs.declared.alloc.Global.{Global}
 use Rattle.cob_meaning.specs.declared.straight.Simple.{Simple}
 use Rattle.cob_meaning.specs.declared.straight.Simple.TheVariants.{Move, Add, Stop}
-use Rattle.cob_meaning.specs.declared.straight.Kind.{Kind}
-use Rattle.cob_meaning.specs.declared.straight.Kind.TheVariants.{Size, Truncation}
-use Rattle.cob_meaning.specs.declared.straight.Open.{Open}
+use Rattle.cob_tree.specs.declared.fault.Kind.{Kind}
+use Rattle.cob_tree.specs.declared.fault.Kind.TheVariants.{Size, Truncation}
+use Rattle.cob_tree.specs.declared.fault.Open.{Open}
 use Rattle.cob_meaning.specs.Program.{Program}
-use Rattle.cert_check.specs.declared.ends.Claim.{Claim}
+use Rattle.cert_text.specs.declared.cert.Claim.{Claim}
 use Rattle.cert_check.specs.declared.ends.Gap.{Gap}
 use Rattle.cert_check.specs.declared.ends.Gap.TheVariants.{Low, High}
 use Rattle.cert_check.specs.declared.ends.CheckEnd.{CheckEnd}

@@ -4,15 +4,6 @@ ghost use Rattle.cert_check.specs.declared.ends.CheckEnd.TheVariants.{Memory};
 use std::alloc::{AllocError, AllocFailed};
 use thiserror::Error;
 
-/// What a certificate claims of a cell at a node: its value lies between the two ends, in the cell's units.
-/// Cells are numbered from 1.
-#[derive(Clone, Copy, Debug, PartialEq, Eq)]
-pub struct Claim {
-    pub cell: u32,
-    pub low: i64,
-    pub high: i64,
-}
-
 /// What of a certificate's shape differs from the program's.
 #[derive(Clone, Copy, Debug, PartialEq, Eq)]
 pub enum Shape {

@@ -9,5 +9,5 @@ mod straight;
 #[cfg(test)]
 mod tests;
 
-pub use ends::{CheckEnd, Claim, Gap, Shape};
+pub use ends::{CheckEnd, Gap, Shape};
 pub use straight::check_straight;

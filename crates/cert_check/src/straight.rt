@@ -4,9 +4,11 @@ ghost use Rattle.cert_check.specs.Inductive.{Checks, FitsProgram, AreNodes, kind
 ghost use Rattle.cob_meaning.specs.Program.{IsValid, AreActs, plain};
 ghost use Rattle.cob_meaning.specs.Run.{CoversRuns, MeetsNoFault};
 
-use crate::ends::{CheckEnd, Claim, Gap, Leak};
+use crate::ends::{CheckEnd, Gap, Leak};
 use crate::interval::Interval;
-use cob_meaning::{Kind, Open, Simple, Straight};
+use cert_text::Claim;
+use cob_meaning::{Simple, Straight};
+use cob_tree::{Kind, Open};
 use std::alloc::{AllocError, Global};
 
 // A claim met with what its cell holds.

@@ -4,8 +4,10 @@ ghost use Rattle.cob_meaning.specs.Program.{IsValid, IsWithin, AreActs, plain};
 ghost use Rattle.cert_check.specs.Element.{IsEnd};
 ghost use Rattle.cert_check.specs.Inductive.{AreClaims, AreNodes, plain_nodes};
 
-use crate::{CheckEnd, Claim, Gap, check_straight};
-use cob_meaning::{Kind, Open, Simple, Straight};
+use crate::{CheckEnd, Gap, check_straight};
+use cert_text::Claim;
+use cob_meaning::{Simple, Straight};
+use cob_tree::{Kind, Open};
 use dec_num::pow10;
 use std::alloc::{AllocError, Global};
 use std::test::Fail;

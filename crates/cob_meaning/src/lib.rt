@@ -9,4 +9,4 @@ mod straight;
 mod tests;
 
 pub use run::outcome_after;
-pub use straight::{Kind, Open, Outcome, Simple, Straight};
+pub use straight::{Outcome, Simple, Straight};

@@ -4,7 +4,8 @@ ghost use Rattle.cob_meaning.specs.Program.{IsValid, plain};
 ghost use Rattle.cob_meaning.specs.Run.{run, start, step, done, stored};
 ghost use Rattle.cob_meaning.specs.Progress.{state_of, KeepsItems, IsAct};
 
-use crate::straight::{Kind, Outcome, Simple, Straight};
+use crate::straight::{Outcome, Simple, Straight};
+use cob_tree::Kind;
 use dec_num::pow10;
 use std::alloc::{AllocError, Global};
 

@@ -1,23 +1,4 @@
-/// The kinds of fault that a statement without a phrase for them can meet (ISO 1989:1985, the rules on
-/// size errors, MOVE and class conditions).
-#[derive(Clone, Copy, Debug, PartialEq, Eq)]
-pub enum Kind {
-    /// A result exceeds what its receiver can hold.
-    Size,
-    /// A MOVE loses a nonzero digit at the high-order end.
-    Truncation,
-    /// A divisor is zero.
-    Zero,
-    /// An operand that is read as a number isn't numeric.
-    Class,
-}
-
-/// A statement that may meet a fault of this kind. Statements are numbered from 1 in source order.
-#[derive(Clone, Copy, Debug, PartialEq, Eq)]
-pub struct Open {
-    pub statement: u32,
-    pub kind: Kind,
-}
+use cob_tree::Kind;
 
 /// How a run stands after some steps.
 #[derive(Clone, Copy, Debug, PartialEq, Eq)]

@@ -2,7 +2,8 @@ ghost use Rattle.std.specs.Prelude.{◌≡◌, ◌<◌, List, ◌∷◌, IfOk};
 ghost use Rattle.cob_meaning.specs.declared.straight.Simple as simple;
 ghost use Rattle.cob_meaning.specs.Program.{IsValid, AreActs, plain};
 
-use crate::{Kind, Outcome, Simple, Straight, outcome_after};
+use crate::{Outcome, Simple, Straight, outcome_after};
+use cob_tree::Kind;
 use std::alloc::{AllocError, Global};
 use std::test::Fail;
 

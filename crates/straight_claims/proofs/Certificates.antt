@@ -4,7 +4,7 @@ use Rattle.std.specs.Prelude.{codes}
 use Rattle.std.proofs.lemmas.List.{append_cancel_left, append_cancel_right, take-append-drop, take_at}
 use Rattle.text_lines.specs.Lines.{Line, Cut, cut, text_of}
 use Rattle.text_lines.specs.Viable.{FirstBad}
-use Rattle.cert_check.specs.declared.ends.Claim.{Claim}
+use Rattle.cert_text.specs.declared.cert.Claim.{Claim}
 use Rattle.cert_check.specs.Inductive.{AreClaims, AreNodes}
 use Rattle.straight_claims.specs.Claims.{claim_line, node_lines, claims_lines, AreClaimsLines}
 use Rattle.straight_claims.proofs.Fields.{claim_injective}

@@ -10,7 +10,7 @@ use lib.Pointwise.{pointwise}
 use Rattle.memchr.specs.Find.{Nowhere, NoneBefore, Passes, is_byte}
 use Rattle.text_lines.specs.Lines.{Line}
 use Rattle.cert_check.specs.Element.{IsEnd}
-use Rattle.cert_check.specs.declared.ends.Claim.{Claim}
+use Rattle.cert_text.specs.declared.cert.Claim.{Claim}
 use Rattle.straight_claims.specs.Claims.{claim_line}
 use Rattle.straight_claims.specs.Forms.{IsClaimOf, IsClaimLine, AreEnds, claim_front}
 use Rattle.straight_claims.proofs.Numbers.{IsWord, end_word, end_injective}

@@ -8,7 +8,7 @@ use Rattle.std.proofs.lemmas.Bool.{eqb-true, eq-eqb}
 use Rattle.std.proofs.lemmas.List.{append-nil, length-append, length-take-le, nil_from_length, take_at}
 use Rattle.text_lines.specs.Lines.{Line, Cut, cut, text_of, IsOneLine}
 use Rattle.text_lines.specs.Viable.{FirstBad}
-use Rattle.cert_check.specs.declared.ends.Claim.{Claim}
+use Rattle.cert_text.specs.declared.cert.Claim.{Claim}
 use Rattle.cert_check.specs.Inductive.{AreClaims, AreNodes}
 use Rattle.straight_claims.specs.declared.ends.ClaimsEnd.{ClaimsEnd}
 use Rattle.straight_claims.specs.declared.ends.ClaimsEnd.TheVariants.{NotYet, Memory}

@@ -3,7 +3,7 @@
 use Rattle.std.specs.Prelude.{◌≡◌, ℕ, zero, suc, ◌+◌, ◌≤ℤ◌, List, [], ◌∷◌, ◌++◌, length, codes, decimal, ℤ}
 use Rattle.std.specs.Fmt.{signed_decimal}
 use Rattle.text_lines.specs.Lines.{Line, cut}
-use Rattle.cert_check.specs.declared.ends.Claim.{Claim}
+use Rattle.cert_text.specs.declared.cert.Claim.{Claim}
 use Rattle.cert_check.specs.Element.{IsEnd}
 use Rattle.straight_claims.specs.declared.ends.ClaimsEnd.{ClaimsEnd}
 use Rattle.straight_claims.specs.declared.ends.ClaimsEnd.TheVariants.{NotYet, Memory}

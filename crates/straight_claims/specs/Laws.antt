@@ -2,7 +2,7 @@
 use Rattle.std.specs.Prelude.{◌≡◌, ℕ, ◌^◌, ◌<◌, List}
 use Rattle.text_lines.specs.Lines.{text_of}
 use Rattle.text_lines.specs.Viable.{FirstBad}
-use Rattle.cert_check.specs.declared.ends.Claim.{Claim}
+use Rattle.cert_text.specs.declared.cert.Claim.{Claim}
 use Rattle.cert_check.specs.Inductive.{AreNodes}
 use Rattle.straight_claims.specs.Claims.{claims_lines, AreClaimsLines}
 

@@ -3,7 +3,7 @@ use Rattle.std.specs.Prelude.{◌≡◌, ℕ, List, Result, MatchResult, Vec}
 use Rattle.std.specs.declared.alloc.Global.{Global}
 use Rattle.text_lines.specs.Lines.{text_of}
 use Rattle.text_lines.specs.Viable.{FirstBad}
-use Rattle.cert_check.specs.declared.ends.Claim.{Claim}
+use Rattle.cert_text.specs.declared.cert.Claim.{Claim}
 use Rattle.cert_check.specs.Inductive.{AreNodes, plain_nodes}
 use Rattle.straight_claims.specs.declared.ends.ClaimsEnd.{ClaimsEnd}
 use Rattle.straight_claims.specs.declared.ends.ClaimsEnd.TheVariants.{NotYet, Memory}

@@ -1,10 +1,10 @@
 ghost use Rattle.std.specs.Prelude.{◌≡◌, ℕ, ◌∷◌, ◌++◌, ◌↔◌, List, IsTrue, MatchOption, ℤ, decimal};
 ghost use Rattle.std.specs.Fmt.{signed_decimal};
 ghost use Rattle.cert_check.specs.Element.{IsEnd};
-ghost use Rattle.cert_check.specs.declared.ends.Claim.{Claim};
+ghost use Rattle.cert_text.specs.declared.cert.Claim.{Claim};
 ghost use Rattle.straight_claims.specs.Forms.{AreEnds, IsClaimLine, claim_front};
 
-use cert_check::Claim;
+use cert_text::Claim;
 use itoa::Buffer;
 use memchr::memchr;
 

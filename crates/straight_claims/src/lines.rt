@@ -6,7 +6,7 @@ ghost use Rattle.cert_check.specs.Inductive.{AreClaims, AreNodes, plain_nodes};
 
 use crate::ends::ClaimsEnd;
 use crate::line::{claim_of, is_numbered};
-use cert_check::Claim;
+use cert_text::Claim;
 use std::alloc::Global;
 use text_lines::split_line;
 

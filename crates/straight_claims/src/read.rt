@@ -3,7 +3,7 @@ ghost use Rattle.straight_claims.specs.Reading.{ReadsClaims};
 
 use crate::ends::ClaimsEnd;
 use crate::lines::Lines;
-use cert_check::Claim;
+use cert_text::Claim;
 use std::alloc::Global;
 
 /// Reads a certificate that claims an interval of each of so many cells at each of so many nodes: a text of at
