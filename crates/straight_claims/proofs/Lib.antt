@@ -1,6 +1,6 @@
 pub mod Numbers
 pub mod Fields
 pub mod Keeping
-pub mod Cuts
+pub mod OneLine
 pub mod Refusal
 pub mod Certificates

@@ -16,7 +16,8 @@ use Rattle.straight_claims.specs.Claims.{claim_line, node_line, node_lines, clai
 use Rattle.straight_claims.specs.Reading.{IsReading, Refuses}
 use Rattle.straight_claims.specs.Forms.{Form, Just, ClaimOf, Fits, IsClaimOf, AreFits, Misfits, Passes, StopsAt, claim_forms, node_forms, head_forms, head_lines, end_forms, forms_of}
 use Rattle.straight_claims.proofs.Numbers.{IsWord, decimal_word, end_word}
-use Rattle.straight_claims.proofs.Cuts.{cut-text_of, cut_joined, one_line-append, literal}
+use Rattle.text_lines.proofs.Texts.{cut-text_of, cut_joins}
+use Rattle.straight_claims.proofs.OneLine.{one_line-append, literal}
 use Rattle.straight_claims.proofs.Keeping.{passes_both, fits_both, nodes_fit, nodes_length}
 
 -- ---- the lines that keep to the forms are the certificates
@@ -243,7 +244,7 @@ refuses_more cells count number bytes rest lines few less fits p some =
           let cuts = text_cut cells count bytes lines' few less texts written in
           let none : length more ≡ 0 = omega (arith, e, size) in
           let last : (cut rest).rest ≡ [] = ap (λ (c : Cut). c.rest) (sym p.cuts ∙ cuts) in
-          some (sym (cut_joined rest) ∙ ap (λ l. text_of l ++ (cut rest).rest) (nil_from_length more none) ∙ last);
+          some (sym (cut_joins rest) ∙ ap (λ l. text_of l ++ (cut rest).rest) (nil_from_length more none) ∙ last);
     }
 
 pub is_reading : (cells count number : ℕ) (bytes : List ℕ) (nodes : List (List Claim)) → AreNodes cells count nodes → Passes bytes 1 (claims_lines cells nodes) [] number → IsReading bytes cells count nodes
@@ -253,7 +254,7 @@ is_reading cells count number bytes nodes h p =
     let rest : (cut bytes).rest ≡ [] = ap (λ (c : Cut). c.rest) p.cuts in
     record {
       shape = h;
-      written = sym (cut_joined bytes) ∙ ap (λ l. text_of l ++ (cut bytes).rest) whole ∙ ap (λ r. text_of lines ++ r) rest ∙ append-nil (text_of lines);
+      written = sym (cut_joins bytes) ∙ ap (λ l. text_of l ++ (cut bytes).rest) whole ∙ ap (λ r. text_of lines ++ r) rest ∙ append-nil (text_of lines);
     }
 
 -- what was passed, from the first line to the last

@@ -29,17 +29,18 @@ cut-line : (line rest : List ℕ) → IsOneLine line → cut (line ++ 10 ∷ res
 cut-line [] rest h = refl
 cut-line (byte ∷ line) rest h = cut-byte byte (line ++ 10 ∷ rest) h.0 ∙ ap (λ (c : Cut). with_byte byte c.whole c.rest) (cut-line line rest h.1)
 
-cut-text-of : (lines : List Line) → AllByRecursion IsOneLine lines → cut (text_of lines) ≡ record { whole = lines; rest = [] }
-cut-text-of [] h = refl
-cut-text-of (line ∷ lines) h =
+-- lines without LF are cut out of their text again
+pub cut-text_of : (lines : List Line) → AllByRecursion IsOneLine lines → cut (text_of lines) ≡ record { whole = lines; rest = [] }
+cut-text_of [] h = refl
+cut-text_of (line ∷ lines) h =
     ap cut (append_assoc line (10 ∷ []) (text_of lines))
     ∙ cut-line line (text_of lines) h.0
-    ∙ ap (λ (c : Cut). record { whole = line ∷ c.whole; rest = c.rest }) (cut-text-of lines h.1)
+    ∙ ap (λ (c : Cut). record { whole = line ∷ c.whole; rest = c.rest }) (cut-text_of lines h.1)
 
 -- the text of some lines is cut into them
 pub cut_text : (bytes : List ℕ) (lines : List Line) → AllByRecursion IsOneLine lines → bytes ≡ text_of lines → (lines ≡ (cut bytes).whole) × ((cut bytes).rest ≡ [])
 cut_text bytes lines h e =
-    let c : cut bytes ≡ record { whole = lines; rest = [] } = ap cut e ∙ cut-text-of lines h in
+    let c : cut bytes ≡ record { whole = lines; rest = [] } = ap cut e ∙ cut-text_of lines h in
     (ap (λ (c : Cut). c.whole) (sym c), ap (λ (c : Cut). c.rest) c)
 
 -- a front of a viable front is viable
