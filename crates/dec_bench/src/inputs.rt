@@ -36,7 +36,7 @@ pub struct Numbers {
 }
 
 impl Numbers {
-    pub fn new() -> Self {
+    pub(super) fn new() -> Self {
         Numbers {
             state: 88_172_645_463_325_252,
         }
@@ -80,7 +80,7 @@ impl Numbers {
         }
     }
 
-    pub fn division(&mut self) -> Division {
+    pub(super) fn division(&mut self) -> Division {
         let n = self.number();
         let d = self.number();
         let up = self.below(93) as i32 - 37;
@@ -88,7 +88,7 @@ impl Numbers {
         Division { n, d, up, mode }
     }
 
-    pub fn value(&mut self) -> Value {
+    pub(super) fn value(&mut self) -> Value {
         let digits = 1 + self.below(18);
         let units = self.number();
         let value = Scaled {
