@@ -3,7 +3,7 @@ use Rattle.std.proofs.Common.{◌≡◌, ℕ, zero, suc, ◌+◌, ◌<◌, ◌�
 use Rattle.std.specs.Prelude.{Some, None}
 use Rattle.std.specs.List.{AllByRecursion}
 use Rattle.std.proofs.lemmas.Bool.{cases_eq, cases_lt}
-use Rattle.std.proofs.lemmas.List.{take-append-drop}
+use Rattle.std.proofs.lemmas.List.{append-nil, length-append, take-append-drop, take_at}
 use Rattle.text_lines.specs.Lines.{Line, Cut, cut, with_byte, text_of, IsOneLine, Splits}
 use Rattle.text_lines.specs.Viable.{IsViable, FirstBad}
 use Rattle.text_lines.proofs.Cuts.{cut-byte}
@@ -80,6 +80,38 @@ text_not_bad texts bytes line lines a t h e =
       | inl below ↦ a.stops below (subst (λ (ls : List Line). IsViable texts (take (a.before + 1) ls)) c.0 (drop (a.before + 1) lines, subst texts (sym (take-append-drop (a.before + 1) lines)) t))
       | inr from ↦ a.no_text (omega (arith, a.there)) lines t e
     ]
+
+-- ---- which line is bad
+
+-- the whole lines are some with which a text goes on, and then one with which none does
+pub bad_there : (texts : List Line → Type 0) (bytes : List ℕ) (front : List Line) (line : Line) (behind : List Line) → (cut bytes).whole ≡ front ++ line ∷ behind → IsViable texts front → (IsViable texts (front ++ line ∷ []) → ⊥) → FirstBad texts bytes (length front + 1)
+bad_there texts bytes front line behind whole viable stops =
+    let long : length (cut bytes).whole ≡ length front + 1 + length behind = ap length whole ∙ omega (arith, length-append front (line ∷ behind)) in
+    let before : take (length front) (cut bytes).whole ≡ front = ap (take (length front)) whole ∙ take_at front (line ∷ behind) (length front) refl in
+    let with_it : take (length front + 1) (cut bytes).whole ≡ front ++ line ∷ [] =
+    ap (take (length front + 1)) (whole ∙ sym (append_assoc front (line ∷ []) behind)) ∙ take_at (front ++ line ∷ []) behind (length front + 1) (length-append front (line ∷ [])) in
+    record {
+      before = length front;
+      counted = refl;
+      there = omega arith;
+      goes_on = subst (IsViable texts) (sym before) viable;
+      stops = λ below on. stops (subst (IsViable texts) with_it on);
+      no_text = λ same. absurd (omega arith);
+    }
+
+-- a text goes on with all whole lines, but the bytes are none
+pub bad_behind : (texts : List Line → Type 0) (bytes : List ℕ) (front : List Line) → (cut bytes).whole ≡ front → IsViable texts front → ((lines : List Line) → texts lines → bytes ≡ text_of lines → ⊥) → FirstBad texts bytes (length front + 1)
+bad_behind texts bytes front whole viable no_text =
+    let long : length (cut bytes).whole ≡ length front = ap length whole in
+    let before : take (length front) (cut bytes).whole ≡ front = ap (take (length front)) (whole ∙ sym (append-nil front)) ∙ take_at front [] (length front) refl in
+    record {
+      before = length front;
+      counted = refl;
+      there = omega arith;
+      goes_on = subst (IsViable texts) (sym before) viable;
+      stops = λ below. absurd (omega arith);
+      no_text = λ same. no_text;
+    }
 
 -- ---- splitting off one line after another
 
