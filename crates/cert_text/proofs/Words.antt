@@ -4,7 +4,7 @@ use Rattle.std.specs.List.{AllByRecursion}
 use Rattle.std.proofs.lemmas.Bool.{eqb-true}
 use Rattle.cert_text.specs.declared.word.Word.{Word}
 use Rattle.cert_text.specs.declared.word.Word.TheVariants as words
-use Rattle.cert_text.specs.Text.{name, numbers_text, Line, line, line_text}
+use Rattle.cert_text.specs.Text.{name, numbers_text, Entry, entry, entry_line}
 use Rattle.cert_text.specs.Reading.{◌▷◌, without, or_other, word_among, all_words, word_at, numbers_at}
 use Rattle.cert_text.specs.Draft.{Parts, step, line_read}
 use Rattle.cert_text.proofs.Numbers.{guard_some, some_is, IsSmall, numbers_take, numbers_again}
@@ -54,8 +54,8 @@ word_again words.End (z ∷ zs) = refl
 
 -- a line that was read
 pub record Took (d : Parts) (bytes : List ℕ) (e : Parts) : Type 0 where
-  pub read : Line
-  pub spelled : bytes ≡ line_text read
+  pub read : Entry
+  pub spelled : bytes ≡ entry_line read
   pub small : AllByRecursion IsSmall read.numbers
   pub stepped : step d read.word read.numbers ≡ Some e
 
@@ -66,12 +66,12 @@ line_takes d bs e h =
     let n = bind_some (numbers_at 8 w.0.1) (λ zs. step d w.0.0 zs) e w.2 in
     let t = numbers_take 8 w.0.1 n.0 n.1 in
     record {
-      read = line w.0.0 n.0;
+      read = entry w.0.0 n.0;
       spelled = word_among_takes all_words bs w.0 w.1 ∙ ap (λ (t : List ℕ). name w.0.0 ++ t) t.0;
       small = t.1;
       stepped = n.2;
     }
 
-pub line_again : (d : Parts) (w : Word) (zs : List ℤ) → length zs ≤ 8 → AllByRecursion IsSmall zs → line_read d (line_text (line w zs)) ≡ step d w zs
+pub line_again : (d : Parts) (w : Word) (zs : List ℤ) → length zs ≤ 8 → AllByRecursion IsSmall zs → line_read d (entry_line (entry w zs)) ≡ step d w zs
 unfolding line_read
 line_again d w zs long small = rw (word_again w zs, numbers_again 8 zs long small) refl
