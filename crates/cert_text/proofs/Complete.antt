@@ -4,6 +4,7 @@ use Rattle.std.specs.Prelude.{unsigned_abs, int_le}
 use Rattle.std.specs.List.{AllByRecursion}
 use Rattle.std.proofs.lemmas.Bool.{and_parts, and_from, or_right, ltb-true, leb-true, eqb-true, lt-ltb, le-leb, eq-eqb, cond-true}
 use Rattle.std.proofs.lemmas.List.{append-nil, length-append, nil_from_length, length-map}
+use Rattle.std.proofs.lemmas.Option.{same_Some}
 use Rattle.text_lines.specs.Lines.{Line}
 use Rattle.cert_text.specs.declared.cert.Claim.{Claim}
 use Rattle.cert_text.specs.declared.cert.Bound.{Bound}
@@ -15,7 +16,7 @@ use Rattle.cert_text.specs.Text.{Entry, entry, entry_line, pack_entry, claim_ent
 use Rattle.cert_text.specs.Reading.{◌▷◌}
 use Rattle.cert_text.specs.Allowed.{cells_rise, pack_fits, packs_fit, claim_fits, claims_fit, key_of, no_key, is_before, places_fit, bound_fits, bounds_fit, place_fits, places_all_fit, IsAllowed}
 use Rattle.cert_text.specs.Draft.{Parts, nothing_read, is_at, closed, node_closed, is_next, one_number, pack_among, claim_among, bound_among, claim_read, bound_read, one_step, step, certificate_of, line_read}
-use Rattle.cert_text.proofs.Numbers.{guard_some, some_is, IsSmall}
+use Rattle.cert_text.proofs.Numbers.{guard_some, IsSmall}
 use Rattle.cert_text.proofs.Words.{bind_some, line_again}
 use Rattle.cert_text.proofs.Taken.{one_takes, pack_takes, claim_takes, bound_takes, natural_again, pack_again, claim_again, bound_again, last_cell, last_key}
 use Rattle.cert_text.proofs.Made.{one_entry, begun, Made, made_cells, step_made}
@@ -93,7 +94,7 @@ lines_read d [] = Some d
 lines_read d (l ∷ ls) = line_read d l ▷ (λ e. lines_read e ls)
 
 run_append : (d : Parts) (xs ys : List Entry) (e f : Parts) → run d xs ≡ Some e → run e ys ≡ Some f → run d (xs ++ ys) ≡ Some f
-run_append d [] ys e f h k = subst (λ (y : Parts). run y ys ≡ Some f) (sym (some_is d e h)) k
+run_append d [] ys e f h k = subst (λ (y : Parts). run y ys ≡ Some f) (sym (same_Some d e h)) k
 run_append d (x ∷ xs) ys e f h k =
     let b = bind_some (step d x.word x.numbers) (λ y. run y xs) e h in
     ap (λ r. r ▷ (λ y. run y (xs ++ ys))) b.1 ∙ run_append b.0 xs ys e f b.2 k

@@ -2,6 +2,7 @@
 use Rattle.std.proofs.Common.{◌≡◌, ℕ, zero, suc, ◌+◌, ◌^◌, ◌<◌, ◌≤◌, Bool, true, false, ◌&&◌, ◌||◌, cond, eqb, ltb, leb, List, [], ◌∷◌, ◌++◌, map, length, Some, ℤ, pos, refl, sym, ap, subst, ◌∙◌, append_assoc, arith}
 use Rattle.std.proofs.lemmas.Bool.{and_parts, and_from, ltb-true, leb-true, eqb-true, false≢true}
 use Rattle.std.proofs.lemmas.List.{append-nil, map_push, length-append, nil_from_length}
+use Rattle.std.proofs.lemmas.Option.{same_Some}
 use Rattle.cert_text.specs.declared.cert.Claim.{Claim}
 use Rattle.cert_text.specs.declared.cert.Bound.{Bound}
 use Rattle.cert_text.specs.declared.draft.Stage.{Stage}
@@ -13,7 +14,7 @@ use Rattle.cert_text.specs.Text.{Entry, entry, pack_entry, claim_entry, bound_en
 use Rattle.cert_text.specs.Reading.{◌▷◌}
 use Rattle.cert_text.specs.Allowed.{pack_fits, packs_fit, claim_fits, claims_fit, key_of, no_key, bound_fits, bounds_fit, places_all_fit, IsAllowed}
 use Rattle.cert_text.specs.Draft.{Parts, nothing_read, ordinal, is_at, closed, node_closed, is_next, one_number, pack_among, claim_among, bound_among, title_read, cells_read, nodes_read, packs_read, pack_read, never_read, node_read, claim_read, bound_read, end_read, one_step, step, certificate_of}
-use Rattle.cert_text.proofs.Numbers.{guard_some, some_is}
+use Rattle.cert_text.proofs.Numbers.{guard_some}
 use Rattle.cert_text.proofs.Words.{bind_some}
 use Rattle.cert_text.proofs.Printed.{nodes_entries-append}
 use Rattle.cert_text.proofs.Taken.{one_takes, pack_takes, claim_takes, bound_takes, packs_fit_push, places_fit_push, last_cell, last_cell_push, claims_fit_push, last_key, last_key_push, bounds_fit_push}
@@ -110,21 +111,21 @@ title_made d e n h ls m =
     let g = guard_some (is_at d.stage stages.Title && eqb n 1) (Some (record d { stage = stages.Cells })) e h in
     let a = and_parts _ _ g.0 in
     let k = at_stage d stages.Title ls a.0 m in
-    subst (λ (y : Parts). Made y (ls ++ one_entry words.Title n ∷ [])) (some_is _ e g.1)
+    subst (λ (y : Parts). Made y (ls ++ one_entry words.Title n ∷ [])) (same_Some _ e g.1)
     (ap (λ (y : Parts). let z : Parts = record y { stage = stages.Cells } in z) k.0, ap (λ (xs : List Entry). xs ++ one_entry words.Title n ∷ []) k.1 ∙ ap (λ (i : ℕ). one_entry words.Title i ∷ []) (eqb-true n 1 a.1))
 
 cells_made : (d e : Parts) (n : ℕ) → n < 2 ^ 32 → cells_read d n ≡ Some e → Keeps d words.Cells (pos n ∷ []) e
 cells_made d e n lt h ls m =
     let g = guard_some (is_at d.stage stages.Cells) (Some (record d { stage = stages.Nodes; cells = n })) e h in
     let k = at_stage d stages.Cells ls g.0 m in
-    subst (λ (y : Parts). Made y (ls ++ one_entry words.Cells n ∷ [])) (some_is _ e g.1)
+    subst (λ (y : Parts). Made y (ls ++ one_entry words.Cells n ∷ [])) (same_Some _ e g.1)
     (n, lt, ap (λ (y : Parts). let z : Parts = record y { stage = stages.Nodes; cells = n } in z) k.0, ap (λ (xs : List Entry). xs ++ one_entry words.Cells n ∷ []) k.1)
 
 nodes_made : (d e : Parts) (n : ℕ) → n < 2 ^ 32 → nodes_read d n ≡ Some e → Keeps d words.Nodes (pos n ∷ []) e
 nodes_made d e n lt h ls m =
     let g = guard_some (is_at d.stage stages.Nodes) (Some (record d { stage = stages.Packs; node_count = n })) e h in
     let k = at_stage d stages.Nodes ls g.0 m in
-    subst (λ (y : Parts). Made y (ls ++ one_entry words.Nodes n ∷ [])) (some_is _ e g.1)
+    subst (λ (y : Parts). Made y (ls ++ one_entry words.Nodes n ∷ [])) (same_Some _ e g.1)
     (k.0, n, k.1, lt, ap (λ (y : Parts). let z : Parts = record y { stage = stages.Packs; node_count = n } in z) k.2, ap (λ (xs : List Entry). xs ++ one_entry words.Nodes n ∷ []) k.3)
 
 abbrev pub begun : ℕ → ℕ → ℕ → Parts
@@ -156,7 +157,7 @@ packs_made d e n h ls m =
     let was : record d { stage = stages.Body; pack_count = n } ≡ begun k.0 k.1 n = ap (λ (y : Parts). let z : Parts = record y { stage = stages.Body; pack_count = n } in z) k.4 in
     let room : (eqb n 0 || leb 2 k.0) ≡ true = ap (λ (y : Parts). eqb n 0 || leb 2 y.cells) (sym k.4) ∙ b.1 in
     let made : Made (begun k.0 k.1 n) (ls ++ one_entry words.Packs n ∷ []) = (begun_body k.0 k.1 n k.2 k.3 (leb-true n 32 b.0) room, ap (λ (xs : List Entry). xs ++ one_entry words.Packs n ∷ []) k.5) in
-    subst (λ (y : Parts). Made y (ls ++ one_entry words.Packs n ∷ [])) (sym was ∙ some_is _ e g.1) made
+    subst (λ (y : Parts). Made y (ls ++ one_entry words.Packs n ∷ [])) (sym was ∙ same_Some _ e g.1) made
 
 -- ---- the body
 
@@ -207,7 +208,7 @@ pack_made d e zs h ls m =
     ∙ sym (packs_push head d.packs r.0)
     ∙ sym (no_nodes head (d.packs ++ r.0 ∷ []) d.open_node d.nodes d.claims d.bounds w.0 w.1) in
     let made : MadeAt stages.Body new (ls ++ entry words.Pack zs ∷ []) = (pack_body d r.0 k.0 room t.1, text) in
-    subst (λ (y : Parts). Made y (ls ++ entry words.Pack zs ∷ [])) (some_is new e r.2) (subst (λ (s : Stage). MadeAt s new (ls ++ entry words.Pack zs ∷ [])) (sym (stage_is d.stage stages.Body a.0)) made)
+    subst (λ (y : Parts). Made y (ls ++ entry words.Pack zs ∷ [])) (same_Some new e r.2) (subst (λ (s : Stage). MadeAt s new (ls ++ entry words.Pack zs ∷ [])) (sym (stage_is d.stage stages.Body a.0)) made)
 
 -- what is_next says
 pub record Next (d : Parts) (i : ℕ) : Type 0 where
@@ -252,7 +253,7 @@ never_made d e i h ls m =
     let text : ls ++ one_entry words.Never i ∷ [] ≡ body_entries new =
     ap (λ (xs : List Entry). xs ++ one_entry words.Never i ∷ []) k.1 ∙ sym (nodes_push (heading d.cells d.node_count d.pack_count) d.packs old_entries _ (one_entry words.Never i ∷ []) more) in
     let made : MadeAt stages.Body new (ls ++ one_entry words.Never i ∷ []) = (body, text) in
-    subst (λ (y : Parts). Made y (ls ++ one_entry words.Never i ∷ [])) (some_is new e g.1) (subst (λ (s : Stage). MadeAt s new (ls ++ one_entry words.Never i ∷ [])) (sym (stage_is d.stage stages.Body n.stage)) made)
+    subst (λ (y : Parts). Made y (ls ++ one_entry words.Never i ∷ [])) (same_Some new e g.1) (subst (λ (s : Stage). MadeAt s new (ls ++ one_entry words.Never i ∷ [])) (sym (stage_is d.stage stages.Body n.stage)) made)
 
 node_made : (d e : Parts) (i : ℕ) → node_read d i ≡ Some e → Keeps d words.Node (pos i ∷ []) e
 node_made d e i h ls m =
@@ -283,7 +284,7 @@ node_made d e i h ls m =
     let text : ls ++ one_entry words.Node i ∷ [] ≡ body_entries new =
     ap (λ (xs : List Entry). xs ++ one_entry words.Node i ∷ []) k.1 ∙ sym (nodes_push (heading d.cells d.node_count d.pack_count) d.packs old_entries _ (one_entry words.Node i ∷ []) more) in
     let made : MadeAt stages.Body new (ls ++ one_entry words.Node i ∷ []) = (body, text) in
-    subst (λ (y : Parts). Made y (ls ++ one_entry words.Node i ∷ [])) (some_is new e g.1) (subst (λ (s : Stage). MadeAt s new (ls ++ one_entry words.Node i ∷ [])) (sym (stage_is d.stage stages.Body n.stage)) made)
+    subst (λ (y : Parts). Made y (ls ++ one_entry words.Node i ∷ [])) (same_Some new e g.1) (subst (λ (s : Stage). MadeAt s new (ls ++ one_entry words.Node i ∷ [])) (sym (stage_is d.stage stages.Body n.stage)) made)
 
 closed_length : (o : Bool) (nodes : List Place) (p q : Place) → length (cond o (nodes ++ p ∷ []) nodes) ≡ length (cond o (nodes ++ q ∷ []) nodes)
 closed_length false nodes p q = refl
@@ -331,7 +332,7 @@ claim_made d e c h ls m =
     let text : ls ++ claim_entry c ∷ [] ≡ body_entries new =
     ap (λ (xs : List Entry). xs ++ claim_entry c ∷ []) k.1 ∙ sym (nodes_push (heading d.cells d.node_count d.pack_count) d.packs old_entries _ (claim_entry c ∷ []) (open_claim (nodes_entries 1 d.nodes) d.open_node d.nodes d.claims d.bounds c s.1 none)) in
     let made : MadeAt stages.Body new (ls ++ claim_entry c ∷ []) = (body, text) in
-    subst (λ (y : Parts). Made y (ls ++ claim_entry c ∷ [])) (some_is new e g.1) (subst (λ (t : Stage). MadeAt t new (ls ++ claim_entry c ∷ [])) (sym (stage_is d.stage stages.Body s.0)) made)
+    subst (λ (y : Parts). Made y (ls ++ claim_entry c ∷ [])) (same_Some new e g.1) (subst (λ (t : Stage). MadeAt t new (ls ++ claim_entry c ∷ [])) (sym (stage_is d.stage stages.Body s.0)) made)
 
 bound_made : (d e : Parts) (c : Bound) → bound_read d c ≡ Some e → Keeps d words.Bound (pos c.pack ∷ pos c.row ∷ pos c.column ∷ c.most ∷ []) e
 bound_made d e c h ls m =
@@ -361,7 +362,7 @@ bound_made d e c h ls m =
     let text : ls ++ bound_entry c ∷ [] ≡ body_entries new =
     ap (λ (xs : List Entry). xs ++ bound_entry c ∷ []) k.1 ∙ sym (nodes_push (heading d.cells d.node_count d.pack_count) d.packs old_entries _ (bound_entry c ∷ []) (open_bound (nodes_entries 1 d.nodes) d.open_node d.nodes d.claims d.bounds c s.1)) in
     let made : MadeAt stages.Body new (ls ++ bound_entry c ∷ []) = (body, text) in
-    subst (λ (y : Parts). Made y (ls ++ bound_entry c ∷ [])) (some_is new e g.1) (subst (λ (t : Stage). MadeAt t new (ls ++ bound_entry c ∷ [])) (sym (stage_is d.stage stages.Body s.0)) made)
+    subst (λ (y : Parts). Made y (ls ++ bound_entry c ∷ [])) (same_Some new e g.1) (subst (λ (t : Stage). MadeAt t new (ls ++ bound_entry c ∷ [])) (sym (stage_is d.stage stages.Body s.0)) made)
 
 -- the whole text, from the body
 ended_entries : (cells n k : ℕ) (packs : List (List ℕ)) (nodes : List Place) (old : List Entry) → length packs ≡ k → length nodes ≡ n → nodes_entries 1 nodes ≡ old
@@ -392,7 +393,7 @@ end_made d e zs h ls m =
     ap (λ (ys : List ℤ). ls ++ entry words.End ys ∷ []) none ∙ ap (λ (xs : List Entry). xs ++ entry words.End [] ∷ []) k.1
     ∙ ended_entries d.cells d.node_count d.pack_count d.packs (closed d) (nodes_entries 1 d.nodes ++ open_entries d.open_node d.nodes d.claims d.bounds) all_packs all_nodes (closed_entries d) in
     let made : MadeAt stages.Ended new (ls ++ entry words.End zs ∷ []) = (allowed, text) in
-    subst (λ (y : Parts). Made y (ls ++ entry words.End zs ∷ [])) (some_is new e g.1) made
+    subst (λ (y : Parts). Made y (ls ++ entry words.End zs ∷ [])) (same_Some new e g.1) made
 
 -- ---- every line
 

@@ -1,13 +1,15 @@
 -- Lines printed one after the other.
 use Rattle.std.proofs.Common.{◌≡◌, ℕ, suc, ◌+◌, ◌<◌, List, [], ◌∷◌, ◌++◌, length, get_or, take, map, ℤ, pos, refl, sym, ap, ◌∙◌, append_assoc, add-zero, arith}
-use Rattle.std.proofs.lemmas.List.{take_more, get_or_default, map_push, length-take, length-map, append-nil}
+use Rattle.std.proofs.lemmas.List.{take_more, get_or_default, map_push, length-take, length-map, map-append, append-nil}
+use Rattle.std.proofs.lemmas.List.Concat.{flat_map-append}
+use Rattle.std.proofs.lemmas.Simd.{map-map}
 use Rattle.std.specs.Fmt.{decimal, signed_decimal}
+use Rattle.text_lines.specs.Lines.{Line, text_of}
 use Rattle.cert_text.specs.Text.{Entry, entries_text, entry_line, numbers_text, place_entries, nodes_entries, heading}
 use Rattle.cert_text.specs.View.{Place}
 
 pub entries_text-append : (xs ys : List Entry) → entries_text (xs ++ ys) ≡ entries_text xs ++ entries_text ys
-entries_text-append [] ys = refl
-entries_text-append (x ∷ xs) ys = ap (λ (t : List ℕ). (entry_line x ++ 10 ∷ []) ++ t) (entries_text-append xs ys) ∙ sym (append_assoc (entry_line x ++ 10 ∷ []) (entries_text xs) (entries_text ys))
+entries_text-append xs ys = ap text_of (map-append entry_line xs ys) ∙ flat_map-append (λ (line : Line). line ++ 10 ∷ []) (map entry_line xs) (map entry_line ys)
 
 numbers_text-append : (xs ys : List ℤ) → numbers_text (xs ++ ys) ≡ numbers_text xs ++ numbers_text ys
 numbers_text-append [] ys = refl
@@ -58,14 +60,10 @@ text_step f front xs i d old new lt e n = n ∙ ap (λ (t : List ℕ). t ++ entr
 pub numbers_text_step : (front : List ℕ) (xs : List ℕ) (i d : ℕ) (old new : List ℕ) → i < length xs → old ≡ front ++ numbers_text (map pos (take i xs)) → new ≡ old ++ (32 ∷ decimal (get_or xs i d)) → new ≡ front ++ numbers_text (map pos (take (i + 1) xs))
 numbers_text_step front xs i d old new lt e n = n ∙ ap (λ (t : List ℕ). t ++ (32 ∷ decimal (get_or xs i d))) e ∙ numbers_text_more front xs i (get_or xs i d) lt (get_or_default xs i d 0 lt)
 
-map_map : {A B C : Type 0} (g : B → C) (f : A → B) (xs : List A) → map g (map f xs) ≡ map (λ x. g (f x)) xs
-map_map g f [] = refl
-map_map g f (x ∷ xs) = ap (λ ys. g (f x) ∷ ys) (map_map g f xs)
-
 pub packs_step : {A B : Type 0} (g : B → Entry) (f : A → B) (front : List ℕ) (xs : List A) (i : ℕ) (x : A) (old new : List ℕ) → i < length xs → x ≡ get_or xs i x → old ≡ front ++ entries_text (map g (map f (take i xs))) → new ≡ old ++ entries_text (g (f x) ∷ []) → new ≡ front ++ entries_text (map g (map f (take (i + 1) xs)))
 packs_step g f front xs i x old new lt is e n =
-    n ∙ ap (λ (t : List ℕ). t ++ entries_text (g (f x) ∷ [])) (e ∙ ap (λ ls. front ++ entries_text ls) (map_map g f (take i xs)))
-    ∙ text_more (λ y. g (f y)) front xs i x lt is ∙ ap (λ ls. front ++ entries_text ls) (sym (map_map g f (take (i + 1) xs)))
+    n ∙ ap (λ (t : List ℕ). t ++ entries_text (g (f x) ∷ [])) (e ∙ ap (λ ls. front ++ entries_text ls) (map-map g f (take i xs)))
+    ∙ text_more (λ y. g (f y)) front xs i x lt is ∙ ap (λ ls. front ++ entries_text ls) (sym (map-map g f (take (i + 1) xs)))
 
 pub nodes_step : {A : Type 0} (f : A → Place) (front : List ℕ) (xs : List A) (i number : ℕ) (x : A) (old new : List ℕ) → i < length xs → x ≡ get_or xs i x → number ≡ i → old ≡ front ++ entries_text (nodes_entries 1 (map f (take i xs)))
     → new ≡ old ++ entries_text (place_entries (number + 1) (f x)) → new ≡ front ++ entries_text (nodes_entries 1 (map f (take (i + 1) xs)))

@@ -2,6 +2,7 @@
 use Rattle.std.proofs.Common.{◌≡◌, ℕ, ◌+◌, ◌-◌, ◌^◌, min, Bool, true, false, ◌&&◌, cond, eqb, List, [], ◌∷◌, ◌++◌, map, length, Option, Some, None, Result, Ok, Err, refl, sym, ap, subst, ◌∙◌, append_assoc, arith}
 use Rattle.std.specs.Prelude.{IfOk, IfErr}
 use Rattle.std.proofs.lemmas.List.{append-nil, length-append, map-append}
+use Rattle.std.proofs.lemmas.Option.{same_Some}
 use Rattle.text_lines.specs.Lines.{Line, cut, text_of}
 use Rattle.text_lines.specs.Viable.{IsViable, FirstBad}
 use Rattle.text_lines.proofs.Texts.{bad_there, bad_behind}
@@ -16,7 +17,6 @@ use Rattle.cert_text.specs.Allowed.{IsAllowed}
 use Rattle.cert_text.specs.Draft.{Parts, nothing_read, is_at, certificate_of, line_read}
 use Rattle.cert_text.specs.Whole.{next_line, or_refuse, reading, read_of, Gives}
 use Rattle.cert_text.specs.Texts.{IsText, RefusedBy}
-use Rattle.cert_text.proofs.Numbers.{some_is}
 use Rattle.cert_text.proofs.Words.{bind_some}
 use Rattle.cert_text.proofs.Complete.{lines_read, lines_run, whole_run}
 use Rattle.cert_text.proofs.Goes.{made_goes}
@@ -28,7 +28,7 @@ front_viable d texts f =
     (map entry_line g.rest, (g.certificate, g.allowed, ap (λ ts. ts ++ map entry_line g.rest) f.spelled ∙ sym (map-append entry_line f.front g.rest) ∙ ap (map entry_line) g.whole))
 
 lines_read_split : (xs ys : List Line) (d e f : Parts) → lines_read d (xs ++ ys) ≡ Some f → lines_read d xs ≡ Some e → lines_read e ys ≡ Some f
-lines_read_split [] ys d e f h k = subst (λ (y : Parts). lines_read y ys ≡ Some f) (some_is d e k) h
+lines_read_split [] ys d e f h k = subst (λ (y : Parts). lines_read y ys ≡ Some f) (same_Some d e k) h
 lines_read_split (x ∷ xs) ys d e f h k =
     let b = bind_some (line_read d x) (λ y. lines_read y (xs ++ ys)) f h in
     lines_read_split xs ys b.0 e f b.2 (ap (λ r. r ▷ (λ y. lines_read y xs)) (sym b.1) ∙ k)

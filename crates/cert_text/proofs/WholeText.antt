@@ -5,6 +5,7 @@ use Rattle.std.specs.Fmt.{signed_decimal}
 use Rattle.std.specs.List.{AllByRecursion}
 use Rattle.std.proofs.lemmas.Bool.{and_parts, and_from, eqb-true, cond-true}
 use Rattle.std.proofs.lemmas.List.{append-nil, nil_from_length, map-append}
+use Rattle.std.proofs.lemmas.Option.{same_Some}
 use Rattle.text_lines.specs.Lines.{Line, Cut, cut, text_of, IsOneLine}
 use Rattle.text_lines.proofs.OneLine.{one_line-append, literal, signed_decimal-one_line}
 use Rattle.text_lines.proofs.Texts.{cut_joins, cut-text_of}
@@ -17,7 +18,7 @@ use Rattle.cert_text.specs.Draft.{Parts, nothing_read, is_at, certificate_of, li
 use Rattle.cert_text.specs.Whole.{next_line, or_refuse, reading, read_of}
 use Rattle.cert_text.specs.declared.word.Word.{Word}
 use Rattle.cert_text.specs.declared.word.Word.TheVariants as words
-use Rattle.cert_text.proofs.Numbers.{some_is, IsSmall}
+use Rattle.cert_text.proofs.Numbers.{IsSmall}
 use Rattle.cert_text.proofs.Words.{bind_some, line_takes}
 use Rattle.cert_text.proofs.Made.{Made, MadeAt, made_cells, step_made, stage_is}
 use Rattle.cert_text.proofs.Complete.{run, lines_read, lines_run, whole_run, step_small}
@@ -63,7 +64,7 @@ begin = (refl, refl)
 
 whole_again : (ls : List Line) (n : ℕ) (d e : Parts) → lines_read d ls ≡ Some e → e.stage ≡ stages.Ended → reading n d ls [] ≡ Ok (certificate_of e)
 whole_again [] n d e h s =
-    let same : d ≡ e = some_is d e h in
+    let same : d ≡ e = same_Some d e h in
     cond-true (is_at d.stage stages.Ended && true) (Ok (certificate_of d)) (Err n) (and_from _ _ (ap (λ (y : Parts). is_at y.stage stages.Ended) same ∙ ap (λ t. is_at t stages.Ended) s) refl) ∙ ap (λ (y : Parts). Ok (certificate_of y)) same
 whole_again (l ∷ ls) n d e h s =
     let b = bind_some (line_read d l) (λ y. lines_read y ls) e h in
@@ -91,7 +92,7 @@ pub record Front (d : Parts) (texts : List Line) : Type 0 where
   pub read : lines_read nothing_read texts ≡ Some d
 
 lines_read_push : (ls : List Line) (l : Line) (d e f : Parts) → lines_read d ls ≡ Some e → line_read e l ≡ Some f → lines_read d (ls ++ l ∷ []) ≡ Some f
-lines_read_push [] l d e f h k = ap (λ r. r ▷ (λ y. lines_read y [])) (subst (λ (y : Parts). line_read y l ≡ Some f) (sym (some_is d e h)) k)
+lines_read_push [] l d e f h k = ap (λ r. r ▷ (λ y. lines_read y [])) (subst (λ (y : Parts). line_read y l ≡ Some f) (sym (same_Some d e h)) k)
 lines_read_push (x ∷ ls) l d e f h k =
     let b = bind_some (line_read d x) (λ y. lines_read y ls) e h in
     ap (λ r. r ▷ (λ y. lines_read y (ls ++ l ∷ []))) b.1 ∙ lines_read_push ls l b.0 e f b.2 k

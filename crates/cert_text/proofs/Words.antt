@@ -2,12 +2,13 @@
 use Rattle.std.proofs.Common.{◌≡◌, ℕ, ◌≤◌, eqb, List, [], ◌∷◌, ◌++◌, length, Option, Some, None, ℤ, refl, ap, subst, ◌∙◌}
 use Rattle.std.specs.List.{AllByRecursion}
 use Rattle.std.proofs.lemmas.Bool.{eqb-true}
+use Rattle.std.proofs.lemmas.Option.{same_Some}
 use Rattle.cert_text.specs.declared.word.Word.{Word}
 use Rattle.cert_text.specs.declared.word.Word.TheVariants as words
 use Rattle.cert_text.specs.Text.{name, numbers_text, Entry, entry, entry_line}
 use Rattle.cert_text.specs.Reading.{◌▷◌, without, or_other, word_among, all_words, word_at, numbers_at}
 use Rattle.cert_text.specs.Draft.{Parts, step, line_read}
-use Rattle.cert_text.proofs.Numbers.{guard_some, some_is, IsSmall, numbers_take, numbers_again}
+use Rattle.cert_text.proofs.Numbers.{guard_some, IsSmall, numbers_take, numbers_again}
 
 -- the value of a step that went on
 pub bind_some : {A B : Type 0} (r : Option A) (f : A → Option B) (y : B) → (r ▷ f) ≡ Some y → (x : A) × (r ≡ Some x) × (f x ≡ Some y)
@@ -15,7 +16,7 @@ bind_some (Some x) f y e = (x, refl, e)
 bind_some None f y e = absurd cc
 
 without_takes : (ws bs rest : List ℕ) → without ws bs ≡ Some rest → bs ≡ ws ++ rest
-without_takes [] bs rest e = some_is bs rest e
+without_takes [] bs rest e = same_Some bs rest e
 without_takes (w ∷ ws) [] rest e = absurd cc
 without_takes (w ∷ ws) (b ∷ bs) rest e =
     let g = guard_some (eqb b w) (without ws bs) rest e in
@@ -27,7 +28,7 @@ word_among_takes (w ∷ ws) bs x e = by_word (without (name w) bs) refl e (λ h.
   where
     by_word : (r : Option (List ℕ)) → without (name w) bs ≡ r → or_other w r (word_among ws bs) ≡ Some x → (word_among ws bs ≡ Some x → bs ≡ name x.0 ++ x.1) → bs ≡ name x.0 ++ x.1
     by_word None is h other = other h
-    by_word (Some rest) is h other = subst (λ (y : Word × List ℕ). bs ≡ name y.0 ++ y.1) (some_is (w, rest) x h) (without_takes (name w) bs rest is)
+    by_word (Some rest) is h other = subst (λ (y : Word × List ℕ). bs ≡ name y.0 ++ y.1) (same_Some (w, rest) x h) (without_takes (name w) bs rest is)
 
 word_again : (w : Word) (zs : List ℤ) → word_at (name w ++ numbers_text zs) ≡ Some (w, numbers_text zs)
 unfolding all_words

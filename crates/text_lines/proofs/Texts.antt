@@ -3,7 +3,7 @@ use Rattle.std.proofs.Common.{◌≡◌, ℕ, zero, suc, ◌+◌, ◌<◌, ◌�
 use Rattle.std.specs.Prelude.{Some, None}
 use Rattle.std.specs.List.{AllByRecursion}
 use Rattle.std.proofs.lemmas.Bool.{cases_eq, cases_lt}
-use Rattle.std.proofs.lemmas.List.{append-nil, length-append, take-append-drop, take_at}
+use Rattle.std.proofs.lemmas.List.{append-nil, length-append, take-append-drop, take-take, take_at}
 use Rattle.text_lines.specs.Lines.{Line, Cut, cut, with_byte, text_of, IsOneLine, Splits}
 use Rattle.text_lines.specs.Viable.{IsViable, FirstBad}
 use Rattle.text_lines.proofs.Cuts.{cut-byte}
@@ -44,22 +44,14 @@ cut_text bytes lines h e =
     (ap (λ (c : Cut). c.whole) (sym c), ap (λ (c : Cut). c.rest) c)
 
 -- a front of a viable front is viable
-pub viable_front : {A : Type 0} (texts : List A → Type 0) (a b : List A) → IsViable texts (a ++ b) → IsViable texts a
-viable_front texts a b v = (b ++ v.0, subst texts (append_assoc a b v.0) v.1)
-
-take-parts : {A : Type 0} (xs : List A) (m n : ℕ) → m ≤ n → (b : List A) × (take n xs ≡ take m xs ++ b)
-take-parts xs zero n l = (take n xs, refl)
-take-parts [] (suc m) zero l = absurd (omega arith)
-take-parts [] (suc m) (suc n) l = ([], refl)
-take-parts (x ∷ xs) (suc m) zero l = absurd (omega arith)
-take-parts {A} (x ∷ xs) (suc m) (suc n) l = let p = take-parts xs m n (omega arith) in (p.0, ap (λ (ys : List A). x ∷ ys) p.1)
-
-viable_take : (texts : List Line → Type 0) (lines : List Line) (m n : ℕ) → m ≤ n → IsViable texts (take n lines) → IsViable texts (take m lines)
-viable_take texts lines m n l v = let p = take-parts lines m n l in viable_front texts (take m lines) p.0 (subst (IsViable texts) p.1 v)
+pub viable_take : {A : Type 0} (lists : List A → Type 0) (n : ℕ) (front : List A) → IsViable lists front → IsViable lists (take n front)
+viable_take lists n front v = (drop n front ++ v.0, subst lists (ap (λ xs. xs ++ v.0) (sym (take-append-drop n front)) ∙ append_assoc (take n front) (drop n front) v.0) v.1)
 
 bad_not_before : (texts : List Line → Type 0) (bytes : List ℕ) (m n : ℕ) → FirstBad texts bytes m → FirstBad texts bytes n → m < n → ⊥
 bad_not_before texts bytes m n a b l =
-    a.stops (omega (arith, a.counted, b.counted, b.there)) (viable_take texts (cut bytes).whole (a.before + 1) b.before (omega (arith, a.counted, b.counted)) b.goes_on)
+    let whole = (cut bytes).whole in
+    let shorter : take (a.before + 1) (take b.before whole) ≡ take (a.before + 1) whole = take-take (a.before + 1) b.before whole (omega (arith, a.counted, b.counted)) in
+    a.stops (omega (arith, a.counted, b.counted, b.there)) (subst (IsViable texts) shorter (viable_take texts (a.before + 1) (take b.before whole) b.goes_on))
 
 -- a text has one first bad line
 pub one_bad : (texts : List Line → Type 0) (bytes : List ℕ) (m n : ℕ) → FirstBad texts bytes m → FirstBad texts bytes n → m ≡ n
