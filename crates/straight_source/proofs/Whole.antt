@@ -1,13 +1,13 @@
 -- A source as bytes: its lines are lines, it is a valid program, and reading it ends as the form says.
-use Rattle.std.proofs.Common.{◌≡◌, ℕ, zero, suc, ◌+◌, ◌^◌, ◌<◌, ◌⊎◌, Bool, true, false, cond, not, ◌&&◌, eqb, List, [], ◌∷◌, ◌++◌, length, take, Option, Some, None, refl, sym, ap, ◌∙◌, subst, append_assoc, append-nil, map, arith, inl, inr}
+use Rattle.std.proofs.Common.{◌≡◌, ℕ, zero, suc, ◌+◌, ◌^◌, ◌<◌, ◌⊎◌, Bool, true, false, cond, eqb, List, [], ◌∷◌, ◌++◌, length, Option, Some, None, refl, sym, ap, ◌∙◌, subst, append_assoc, append-nil, map, arith, inl, inr}
 use Rattle.std.specs.Prelude.{ℤ, pos, Contains, codes, decimal}
 use Rattle.std.specs.List.{AllByRecursion}
-use Rattle.std.proofs.lemmas.Bool.{eqb-true, eq-eqb, false≢true}
+use Rattle.std.proofs.lemmas.Bool.{eqb-true, false≢true}
 use Rattle.std.proofs.lemmas.Int.{ints}
-use Rattle.std.proofs.lemmas.List.{length-map, length-append, take_at}
+use Rattle.std.proofs.lemmas.List.{length-map, length-append}
 use Rattle.std.proofs.lemmas.Option.{same_Some}
 use Rattle.text_lines.specs.Lines.{Line, cut, text_of, IsOneLine, Splits}
-use Rattle.text_lines.specs.Viable.{IsViable, FirstBad}
+use Rattle.text_lines.specs.Viable.{FirstBad}
 use Rattle.text_lines.proofs.OneLine.{all-append, literal}
 use Rattle.text_lines.proofs.Texts.{cut_joins, cut_text, splits_line, splits_rest, one_bad, text_not_bad, bad_there, bad_behind}
 use Rattle.cob_meaning.specs.declared.straight.Simple.{Simple}
@@ -19,7 +19,7 @@ use Rattle.straight_source.specs.Source.{ItemLine, ActLine, Source, Verb, Move, 
 use Rattle.straight_source.specs.declared.reading.Reading.{Reading}
 use Rattle.straight_source.specs.Reading.{IsReading}
 use Rattle.straight_source.specs.Steps.{State, view, start, next, run}
-use Rattle.straight_source.proofs.Pieces.{IsDigit, both_true, count_again, number-small}
+use Rattle.straight_source.proofs.Pieces.{IsDigit, count_again, number-small}
 use Rattle.straight_source.proofs.Fronts.{IsFront, end_state, place_found, run_front}
 use Rattle.straight_source.proofs.Complete.{complete, viable, refused, run_then}
 
