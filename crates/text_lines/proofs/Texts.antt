@@ -21,10 +21,6 @@ cut_joins (byte ∷ bytes) =
       | inr apart ↦ rw (cut-byte byte bytes apart) (with-byte-joins byte (cut bytes).whole (cut bytes).rest ∙ ap (λ (rest : List ℕ). byte ∷ rest) (cut_joins bytes))
     ]
 
-cut-plain : (rest : List ℕ) → IsOneLine rest → cut rest ≡ record { whole = []; rest = rest }
-cut-plain [] h = refl
-cut-plain (byte ∷ rest) h = cut-byte byte rest h.0 ∙ ap (λ (c : Cut). with_byte byte c.whole c.rest) (cut-plain rest h.1)
-
 cut-line : (line rest : List ℕ) → IsOneLine line → cut (line ++ 10 ∷ rest) ≡ record { whole = line ∷ (cut rest).whole; rest = (cut rest).rest }
 cut-line [] rest h = refl
 cut-line (byte ∷ line) rest h = cut-byte byte (line ++ 10 ∷ rest) h.0 ∙ ap (λ (c : Cut). with_byte byte c.whole c.rest) (cut-line line rest h.1)
