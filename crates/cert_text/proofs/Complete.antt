@@ -4,20 +4,22 @@ use Rattle.std.specs.Prelude.{unsigned_abs, int_le}
 use Rattle.std.specs.List.{AllByRecursion}
 use Rattle.std.proofs.lemmas.Bool.{and_parts, and_from, or_right, ltb-true, leb-true, eqb-true, lt-ltb, le-leb, eq-eqb, cond-true}
 use Rattle.std.proofs.lemmas.List.{append-nil, length-append, nil_from_length, length-map}
+use Rattle.std.proofs.lemmas.Option.{same_Some}
+use Rattle.text_lines.specs.Lines.{Line}
 use Rattle.cert_text.specs.declared.cert.Claim.{Claim}
 use Rattle.cert_text.specs.declared.cert.Bound.{Bound}
 use Rattle.cert_text.specs.declared.draft.Stage.TheVariants as stages
 use Rattle.cert_text.specs.declared.word.Word.{Word}
 use Rattle.cert_text.specs.declared.word.Word.TheVariants as words
 use Rattle.cert_text.specs.View.{Place, NotReached, Holds, Certificate}
-use Rattle.cert_text.specs.Text.{Line, line, line_text, pack_line, claim_line, bound_line, place_lines, nodes_lines, heading, lines}
+use Rattle.cert_text.specs.Text.{Entry, entry, entry_line, pack_entry, claim_entry, bound_entry, place_entries, nodes_entries, heading, entries}
 use Rattle.cert_text.specs.Reading.{◌▷◌}
 use Rattle.cert_text.specs.Allowed.{cells_rise, pack_fits, packs_fit, claim_fits, claims_fit, key_of, no_key, is_before, places_fit, bound_fits, bounds_fit, place_fits, places_all_fit, IsAllowed}
 use Rattle.cert_text.specs.Draft.{Parts, nothing_read, is_at, closed, node_closed, is_next, one_number, pack_among, claim_among, bound_among, claim_read, bound_read, one_step, step, certificate_of, line_read}
-use Rattle.cert_text.proofs.Numbers.{guard_some, some_is, IsSmall}
+use Rattle.cert_text.proofs.Numbers.{guard_some, IsSmall}
 use Rattle.cert_text.proofs.Words.{bind_some, line_again}
 use Rattle.cert_text.proofs.Taken.{one_takes, pack_takes, claim_takes, bound_takes, natural_again, pack_again, claim_again, bound_again, last_cell, last_key}
-use Rattle.cert_text.proofs.Made.{one_line, begun, Made, made_cells, step_made}
+use Rattle.cert_text.proofs.Made.{one_entry, begun, Made, made_cells, step_made}
 
 -- ---- what is read is small
 
@@ -83,28 +85,28 @@ step_small d e words.End zs lt h =
 
 -- ---- lines one after the other
 
-abbrev pub run : Parts → List Line → Option Parts
+abbrev pub run : Parts → List Entry → Option Parts
 run d [] = Some d
 run d (l ∷ ls) = step d l.word l.numbers ▷ (λ e. run e ls)
 
-abbrev pub lines_read : Parts → List (List ℕ) → Option Parts
+abbrev pub lines_read : Parts → List Line → Option Parts
 lines_read d [] = Some d
 lines_read d (l ∷ ls) = line_read d l ▷ (λ e. lines_read e ls)
 
-run_append : (d : Parts) (xs ys : List Line) (e f : Parts) → run d xs ≡ Some e → run e ys ≡ Some f → run d (xs ++ ys) ≡ Some f
-run_append d [] ys e f h k = subst (λ (y : Parts). run y ys ≡ Some f) (sym (some_is d e h)) k
+run_append : (d : Parts) (xs ys : List Entry) (e f : Parts) → run d xs ≡ Some e → run e ys ≡ Some f → run d (xs ++ ys) ≡ Some f
+run_append d [] ys e f h k = subst (λ (y : Parts). run y ys ≡ Some f) (sym (same_Some d e h)) k
 run_append d (x ∷ xs) ys e f h k =
     let b = bind_some (step d x.word x.numbers) (λ y. run y xs) e h in
     ap (λ r. r ▷ (λ y. run y (xs ++ ys))) b.1 ∙ run_append b.0 xs ys e f b.2 k
 
 -- the lines as bytes go the same way
-pub lines_run : (ls : List Line) (d e : Parts) (front : List Line) → Made d front → run d ls ≡ Some e → lines_read d (map line_text ls) ≡ Some e
+pub lines_run : (ls : List Entry) (d e : Parts) (front : List Entry) → Made d front → run d ls ≡ Some e → lines_read d (map entry_line ls) ≡ Some e
 lines_run [] d e front m h = h
 lines_run (l ∷ ls) d e front m h =
     let b = bind_some (step d l.word l.numbers) (λ y. run y ls) e h in
     let s = step_small d b.0 l.word l.numbers (made_cells d front m) b.1 in
     let next = step_made d b.0 l.word l.numbers b.1 front m in
-    ap (λ r. r ▷ (λ y. lines_read y (map line_text ls))) (line_again d l.word l.numbers s.0 s.1 ∙ b.1) ∙ lines_run ls b.0 e (front ++ l ∷ []) next b.2
+    ap (λ r. r ▷ (λ y. lines_read y (map entry_line ls))) (line_again d l.word l.numbers s.0 s.1 ∙ b.1) ∙ lines_run ls b.0 e (front ++ l ∷ []) next b.2
 
 -- ---- the heading
 
@@ -116,12 +118,12 @@ heading_run c n k cl nl kl room =
     let d2 : Parts = record nothing_read { stage = stages.Cells } in
     let d3 : Parts = record nothing_read { stage = stages.Nodes; cells = c } in
     let d4 : Parts = record nothing_read { stage = stages.Packs; cells = c; node_count = n } in
-    let e1 : run nothing_read (heading c n k) ≡ (one_number (pos c ∷ []) ▷ one_step d2 words.Cells) ▷ (λ y. run y (one_line words.Nodes n ∷ one_line words.Packs k ∷ [])) = refl in
+    let e1 : run nothing_read (heading c n k) ≡ (one_number (pos c ∷ []) ▷ one_step d2 words.Cells) ▷ (λ y. run y (one_entry words.Nodes n ∷ one_entry words.Packs k ∷ [])) = refl in
     let e2 : (one_number (pos c ∷ []) ▷ one_step d2 words.Cells) ≡ Some d3 = one_again d2 words.Cells c cl in
     let e3 : (one_number (pos n ∷ []) ▷ one_step d3 words.Nodes) ≡ Some d4 = one_again d3 words.Nodes n nl in
     let e4 : (one_number (pos k ∷ []) ▷ one_step d4 words.Packs) ≡ Some (begun c n k) = one_again d4 words.Packs k (omega arith) ∙ cond-true (leb k 32 && (eqb k 0 || leb 2 c)) (Some (begun c n k)) None (and_from _ _ (le-leb _ _ kl) room) in
-    e1 ∙ ap (λ r. r ▷ (λ y. run y (one_line words.Nodes n ∷ one_line words.Packs k ∷ []))) e2
-    ∙ ap (λ r. r ▷ (λ y. run y (one_line words.Packs k ∷ []))) e3
+    e1 ∙ ap (λ r. r ▷ (λ y. run y (one_entry words.Nodes n ∷ one_entry words.Packs k ∷ []))) e2
+    ∙ ap (λ r. r ▷ (λ y. run y (one_entry words.Packs k ∷ []))) e3
     ∙ ap (λ r. r ▷ (λ y. run y [])) e4
 
 -- ---- packs
@@ -134,12 +136,12 @@ pack_step d p s lt fits =
     cond-true (is_at d.stage stages.Body && ltb (length d.packs) d.pack_count) (pack_among d.cells (map pos p) ▷ (λ q. Some (record d { packs = d.packs ++ q ∷ [] }))) None (and_from _ _ (at_body d s) (lt-ltb _ _ lt))
     ∙ ap (λ r. r ▷ (λ q. Some (record d { packs = d.packs ++ q ∷ [] }))) (pack_again d.cells p fits)
 
-packs_run : (ps : List (List ℕ)) (d : Parts) → d.stage ≡ stages.Body → length d.packs + length ps ≤ d.pack_count → packs_fit d.cells ps ≡ true → run d (map pack_line ps) ≡ Some (record d { packs = d.packs ++ ps })
+packs_run : (ps : List (List ℕ)) (d : Parts) → d.stage ≡ stages.Body → length d.packs + length ps ≤ d.pack_count → packs_fit d.cells ps ≡ true → run d (map pack_entry ps) ≡ Some (record d { packs = d.packs ++ ps })
 packs_run [] d s le h = ap (λ (qs : List (List ℕ)). let e : Parts = record d { packs = qs } in Some e) (sym (append-nil d.packs))
 packs_run (p ∷ ps) d s le h =
     let a = and_parts (pack_fits d.cells p) (packs_fit d.cells ps) h in
     let next : Parts = record d { packs = d.packs ++ p ∷ [] } in
-    ap (λ r. r ▷ (λ y. run y (map pack_line ps))) (pack_step d p s (omega arith) a.0)
+    ap (λ r. r ▷ (λ y. run y (map pack_entry ps))) (pack_step d p s (omega arith) a.0)
     ∙ packs_run ps next s (omega (arith, length-append d.packs (p ∷ []))) a.1
     ∙ ap (λ (qs : List (List ℕ)). let e : Parts = record d { packs = qs } in Some e) (append_assoc d.packs (p ∷ []) ps)
 
@@ -159,12 +161,12 @@ claim_step d c s o none lt h =
     (and_from _ _ (and_from _ _ (at_body d s) o) (and_from _ _ empty h))
 
 claims_run : (cs : List Claim) (d : Parts) → d.stage ≡ stages.Body → d.open_node ≡ true → d.bounds ≡ [] → d.cells < 2 ^ 32 → claims_fit d.cells d.cell cs ≡ true
-    → run d (map claim_line cs) ≡ Some (record d { claims = d.claims ++ cs; cell = last_cell d.cell cs })
+    → run d (map claim_entry cs) ≡ Some (record d { claims = d.claims ++ cs; cell = last_cell d.cell cs })
 claims_run [] d s o none lt h = ap (λ (xs : List Claim). let e : Parts = record d { claims = xs } in Some e) (sym (append-nil d.claims))
 claims_run (c ∷ cs) d s o none lt h =
     let a = and_parts (claim_fits d.cells d.cell c) (claims_fit d.cells c.cell cs) h in
     let next : Parts = record d { claims = d.claims ++ c ∷ []; cell = c.cell } in
-    ap (λ r. r ▷ (λ y. run y (map claim_line cs))) (claim_step d c s o none lt a.0)
+    ap (λ r. r ▷ (λ y. run y (map claim_entry cs))) (claim_step d c s o none lt a.0)
     ∙ claims_run cs next s o none lt a.1
     ∙ ap (λ (xs : List Claim). let e : Parts = record d { claims = xs; cell = last_cell c.cell cs } in Some e) (append_assoc d.claims (c ∷ []) cs)
 
@@ -195,12 +197,12 @@ bound_step d b s o few fit h =
     ∙ cond-true ((is_at d.stage stages.Body && d.open_node) && bound_fits d.packs d.key b) (Some (record d { bounds = d.bounds ++ b ∷ []; key = key_of b })) None (and_from _ _ (and_from _ _ (at_body d s) o) h)
 
 bounds_run : (bs : List Bound) (d : Parts) → d.stage ≡ stages.Body → d.open_node ≡ true → length d.packs ≤ 32 → packs_fit d.cells d.packs ≡ true → bounds_fit d.packs d.key bs ≡ true
-    → run d (map bound_line bs) ≡ Some (record d { bounds = d.bounds ++ bs; key = last_key d.key bs })
+    → run d (map bound_entry bs) ≡ Some (record d { bounds = d.bounds ++ bs; key = last_key d.key bs })
 bounds_run [] d s o few fit h = ap (λ (xs : List Bound). let e : Parts = record d { bounds = xs } in Some e) (sym (append-nil d.bounds))
 bounds_run (b ∷ bs) d s o few fit h =
     let a = and_parts (bound_fits d.packs d.key b) (bounds_fit d.packs (key_of b) bs) h in
     let next : Parts = record d { bounds = d.bounds ++ b ∷ []; key = key_of b } in
-    ap (λ r. r ▷ (λ y. run y (map bound_line bs))) (bound_step d b s o few fit a.0)
+    ap (λ r. r ▷ (λ y. run y (map bound_entry bs))) (bound_step d b s o few fit a.0)
     ∙ bounds_run bs next s o few fit a.1
     ∙ ap (λ (xs : List Bound). let e : Parts = record d { bounds = xs; key = last_key (key_of b) bs } in Some e) (append_assoc d.bounds (b ∷ []) bs)
 
@@ -232,12 +234,12 @@ node_step : (d : Parts) (i : ℕ) → i < 2 ^ 32 → is_next d i ≡ true → st
 node_step d i lt h = one_again d words.Node i lt ∙ cond-true (is_next d i) (Some (record (node_closed d) { open_node = true; cell = 0; key = no_key })) None h
 
 -- what a run of lines leaves
-pub record Ran (c : Certificate) (d : Parts) (ls : List Line) (nodes : List Place) : Type 0 where
+pub record Ran (c : Certificate) (d : Parts) (ls : List Entry) (nodes : List Place) : Type 0 where
   pub after : Parts
   pub ran : run d ls ≡ Some after
   pub ready : Ready c after nodes
 
-place_run : (c : Certificate) → IsAllowed c → (d : Parts) (nodes : List Place) (p : Place) → Ready c d nodes → length nodes < length c.nodes → place_fits c.cells c.packs p ≡ true → Ran c d (place_lines (suc (length nodes)) p) (nodes ++ p ∷ [])
+place_run : (c : Certificate) → IsAllowed c → (d : Parts) (nodes : List Place) (p : Place) → Ready c d nodes → length nodes < length c.nodes → place_fits c.cells c.packs p ≡ true → Ran c d (place_entries (suc (length nodes)) p) (nodes ++ p ∷ [])
 place_run c w d nodes NotReached r lt h =
     let small : length c.nodes < 2 ^ 32 = w.nodes in
     let next : Parts = record (node_closed d) { nodes = closed d ++ NotReached ∷ [] } in
@@ -258,25 +260,25 @@ place_run c w d nodes (Holds claims bounds) r lt h =
     let claims_ok : claims_fit d.cells 0 claims ≡ true = ap (λ (n : ℕ). claims_fit n 0 claims) r.cells ∙ a.0 in
     let bounds_ok : bounds_fit d.packs no_key bounds ≡ true = ap (λ ps. bounds_fit ps no_key bounds) r.packs ∙ a.1 in
     let first : step d words.Node (pos (suc (length nodes)) ∷ []) ≡ Some d1 = node_step d (suc (length nodes)) (omega arith) (next_again c d nodes r lt) in
-    let both : run d1 (map claim_line claims ++ map bound_line bounds) ≡ Some d3 =
-    run_append d1 (map claim_line claims) (map bound_line bounds) d2 d3 (claims_run claims d1 r.stage refl refl cl claims_ok) (bounds_run bounds d2 r.stage refl few fit bounds_ok) in
+    let both : run d1 (map claim_entry claims ++ map bound_entry bounds) ≡ Some d3 =
+    run_append d1 (map claim_entry claims) (map bound_entry bounds) d2 d3 (claims_run claims d1 r.stage refl refl cl claims_ok) (bounds_run bounds d2 r.stage refl few fit bounds_ok) in
     record {
       after = d3;
-      ran = ap (λ x. x ▷ (λ y. run y (map claim_line claims ++ map bound_line bounds))) first ∙ both;
+      ran = ap (λ x. x ▷ (λ y. run y (map claim_entry claims ++ map bound_entry bounds))) first ∙ both;
       ready = record { stage = r.stage; cells = r.cells; count = r.count; kinds = r.kinds; packs = r.packs; nodes_are = ap (λ ns. ns ++ Holds claims bounds ∷ []) r.nodes_are };
     }
 
-nodes_run : (c : Certificate) → IsAllowed c → (ns : List Place) (d : Parts) (nodes : List Place) → Ready c d nodes → length nodes + length ns ≤ length c.nodes → places_all_fit c.cells c.packs ns ≡ true → Ran c d (nodes_lines (suc (length nodes)) ns) (nodes ++ ns)
+nodes_run : (c : Certificate) → IsAllowed c → (ns : List Place) (d : Parts) (nodes : List Place) → Ready c d nodes → length nodes + length ns ≤ length c.nodes → places_all_fit c.cells c.packs ns ≡ true → Ran c d (nodes_entries (suc (length nodes)) ns) (nodes ++ ns)
 nodes_run c w [] d nodes r le h = record { after = d; ran = refl; ready = subst (Ready c d) (sym (append-nil nodes)) r }
 nodes_run c w (n ∷ ns) d nodes r le h =
     let a = and_parts (place_fits c.cells c.packs n) (places_all_fit c.cells c.packs ns) h in
     let one = place_run c w d nodes n r (omega arith) a.0 in
     let len : length (nodes ++ n ∷ []) ≡ suc (length nodes) = omega (arith, length-append nodes (n ∷ [])) in
     let others = nodes_run c w ns one.after (nodes ++ n ∷ []) one.ready (omega arith) a.1 in
-    let ran : run one.after (nodes_lines (suc (suc (length nodes))) ns) ≡ Some others.after = ap (λ (k : ℕ). run one.after (nodes_lines (suc k) ns)) (sym len) ∙ others.ran in
+    let ran : run one.after (nodes_entries (suc (suc (length nodes))) ns) ≡ Some others.after = ap (λ (k : ℕ). run one.after (nodes_entries (suc k) ns)) (sym len) ∙ others.ran in
     record {
       after = others.after;
-      ran = run_append d (place_lines (suc (length nodes)) n) (nodes_lines (suc (suc (length nodes))) ns) one.after others.after one.ran ran;
+      ran = run_append d (place_entries (suc (length nodes)) n) (nodes_entries (suc (suc (length nodes))) ns) one.after others.after one.ran ran;
       ready = subst (Ready c others.after) (append_assoc nodes (n ∷ []) ns) others.ready;
     }
 
@@ -308,7 +310,7 @@ end_step d s full all =
 -- what the lines of a certificate leave
 pub record Whole (c : Certificate) : Type 0 where
   pub after : Parts
-  pub ran : run nothing_read (lines c) ≡ Some after
+  pub ran : run nothing_read (entries c) ≡ Some after
   pub stage : after.stage ≡ stages.Ended
   pub same : certificate_of after ≡ c
 
@@ -317,18 +319,18 @@ whole_run c w =
     let d0 : Parts = begun c.cells (length c.nodes) (length c.packs) in
     let d1 : Parts = record d0 { packs = c.packs } in
     let head = heading_run c.cells (length c.nodes) (length c.packs) w.cells w.nodes w.packs (room_for c.cells c.packs w.each_pack) in
-    let packs : run d0 (map pack_line c.packs) ≡ Some d1 = packs_run c.packs d0 refl (omega arith) w.each_pack in
+    let packs : run d0 (map pack_entry c.packs) ≡ Some d1 = packs_run c.packs d0 refl (omega arith) w.each_pack in
     let ready : Ready c d1 [] = record { stage = refl; cells = refl; count = refl; kinds = refl; packs = refl; nodes_are = refl } in
     let nodes = nodes_run c w c.nodes d1 [] ready (omega arith) w.each_node in
     let d2 = nodes.after in
     let r = nodes.ready in
     let d3 : Parts = record (node_closed d2) { stage = stages.Ended } in
-    let last : run d2 (line words.End [] ∷ []) ≡ Some d3 = ap (λ x. x ▷ (λ y. run y [])) (end_step d2 r.stage (ap length r.packs ∙ sym r.kinds) (ap length r.nodes_are ∙ sym r.count)) in
-    let body = run_append d1 (nodes_lines 1 c.nodes) (line words.End [] ∷ []) d2 d3 nodes.ran last in
-    let most = run_append d0 (map pack_line c.packs) (nodes_lines 1 c.nodes ++ line words.End [] ∷ []) d1 d3 packs body in
+    let last : run d2 (entry words.End [] ∷ []) ≡ Some d3 = ap (λ x. x ▷ (λ y. run y [])) (end_step d2 r.stage (ap length r.packs ∙ sym r.kinds) (ap length r.nodes_are ∙ sym r.count)) in
+    let body = run_append d1 (nodes_entries 1 c.nodes) (entry words.End [] ∷ []) d2 d3 nodes.ran last in
+    let most = run_append d0 (map pack_entry c.packs) (nodes_entries 1 c.nodes ++ entry words.End [] ∷ []) d1 d3 packs body in
     record {
       after = d3;
-      ran = run_append nothing_read (heading c.cells (length c.nodes) (length c.packs)) (map pack_line c.packs ++ (nodes_lines 1 c.nodes ++ line words.End [] ∷ [])) d0 d3 head most;
+      ran = run_append nothing_read (heading c.cells (length c.nodes) (length c.packs)) (map pack_entry c.packs ++ (nodes_entries 1 c.nodes ++ entry words.End [] ∷ [])) d0 d3 head most;
       stage = refl;
       same = ap (λ (n : ℕ). let y : Certificate = record { cells = n; packs = d2.packs; nodes = closed d2 } in y) r.cells ∙ ap (λ ps. let y : Certificate = record { cells = c.cells; packs = ps; nodes = closed d2 } in y) r.packs ∙ ap (λ ns. let y : Certificate = record { cells = c.cells; packs = c.packs; nodes = ns } in y) r.nodes_are;
     }

@@ -1,5 +1,4 @@
 pub mod Loops
-pub mod Cutting
 pub mod Numbers
 pub mod Printed
 pub mod Words

@@ -2,6 +2,7 @@
 use Rattle.std.proofs.Common.{◌≡◌, ℕ, zero, suc, ◌+◌, ◌^◌, ◌<◌, ◌≤◌, Bool, true, false, ◌&&◌, ◌||◌, cond, eqb, ltb, leb, List, [], ◌∷◌, ◌++◌, map, length, Some, ℤ, pos, refl, sym, ap, subst, ◌∙◌, append_assoc, arith}
 use Rattle.std.proofs.lemmas.Bool.{and_parts, and_from, ltb-true, leb-true, eqb-true, false≢true}
 use Rattle.std.proofs.lemmas.List.{append-nil, map_push, length-append, nil_from_length}
+use Rattle.std.proofs.lemmas.Option.{same_Some}
 use Rattle.cert_text.specs.declared.cert.Claim.{Claim}
 use Rattle.cert_text.specs.declared.cert.Bound.{Bound}
 use Rattle.cert_text.specs.declared.draft.Stage.{Stage}
@@ -9,13 +10,13 @@ use Rattle.cert_text.specs.declared.draft.Stage.TheVariants as stages
 use Rattle.cert_text.specs.declared.word.Word.{Word}
 use Rattle.cert_text.specs.declared.word.Word.TheVariants as words
 use Rattle.cert_text.specs.View.{Place, NotReached, Holds}
-use Rattle.cert_text.specs.Text.{Line, line, pack_line, claim_line, bound_line, place_lines, nodes_lines, heading, lines}
+use Rattle.cert_text.specs.Text.{Entry, entry, pack_entry, claim_entry, bound_entry, place_entries, nodes_entries, heading, entries}
 use Rattle.cert_text.specs.Reading.{◌▷◌}
 use Rattle.cert_text.specs.Allowed.{pack_fits, packs_fit, claim_fits, claims_fit, key_of, no_key, bound_fits, bounds_fit, places_all_fit, IsAllowed}
 use Rattle.cert_text.specs.Draft.{Parts, nothing_read, ordinal, is_at, closed, node_closed, is_next, one_number, pack_among, claim_among, bound_among, title_read, cells_read, nodes_read, packs_read, pack_read, never_read, node_read, claim_read, bound_read, end_read, one_step, step, certificate_of}
-use Rattle.cert_text.proofs.Numbers.{guard_some, some_is}
+use Rattle.cert_text.proofs.Numbers.{guard_some}
 use Rattle.cert_text.proofs.Words.{bind_some}
-use Rattle.cert_text.proofs.Printed.{nodes_lines-append}
+use Rattle.cert_text.proofs.Printed.{nodes_entries-append}
 use Rattle.cert_text.proofs.Taken.{one_takes, pack_takes, claim_takes, bound_takes, packs_fit_push, places_fit_push, last_cell, last_cell_push, claims_fit_push, last_key, last_key_push, bounds_fit_push}
 
 stage_of : ℕ → Stage
@@ -40,26 +41,26 @@ stage_is s t h = sym (stage_back s) ∙ ap stage_of (eqb-true _ _ h) ∙ stage_b
 
 -- ---- lines
 
-abbrev pub one_line : Word → ℕ → Line
-one_line w n = line w (pos n ∷ [])
+abbrev pub one_entry : Word → ℕ → Entry
+one_entry w n = entry w (pos n ∷ [])
 
-abbrev pub open_lines : Bool → List Place → List Claim → List Bound → List Line
-open_lines o nodes claims bounds = cond o (place_lines (suc (length nodes)) (Holds claims bounds)) []
+abbrev pub open_entries : Bool → List Place → List Claim → List Bound → List Entry
+open_entries o nodes claims bounds = cond o (place_entries (suc (length nodes)) (Holds claims bounds)) []
 
-abbrev pub body_of : List Line → List (List ℕ) → List Line → List Line
-body_of head packs nodes = head ++ (map pack_line packs ++ nodes)
+abbrev pub body_of : List Entry → List (List ℕ) → List Entry → List Entry
+body_of head packs nodes = head ++ (map pack_entry packs ++ nodes)
 
-abbrev pub body_lines : Parts → List Line
-body_lines d = body_of (heading d.cells d.node_count d.pack_count) d.packs (nodes_lines 1 d.nodes ++ open_lines d.open_node d.nodes d.claims d.bounds)
+abbrev pub body_entries : Parts → List Entry
+body_entries d = body_of (heading d.cells d.node_count d.pack_count) d.packs (nodes_entries 1 d.nodes ++ open_entries d.open_node d.nodes d.claims d.bounds)
 
-closed_lines_of : (o : Bool) (nodes : List Place) (claims : List Claim) (bounds : List Bound) → nodes_lines 1 (cond o (nodes ++ Holds claims bounds ∷ []) nodes) ≡ nodes_lines 1 nodes ++ open_lines o nodes claims bounds
-closed_lines_of false nodes claims bounds = sym (append-nil (nodes_lines 1 nodes))
-closed_lines_of true nodes claims bounds =
+closed_entries_of : (o : Bool) (nodes : List Place) (claims : List Claim) (bounds : List Bound) → nodes_entries 1 (cond o (nodes ++ Holds claims bounds ∷ []) nodes) ≡ nodes_entries 1 nodes ++ open_entries o nodes claims bounds
+closed_entries_of false nodes claims bounds = sym (append-nil (nodes_entries 1 nodes))
+closed_entries_of true nodes claims bounds =
     let k : 1 + length nodes ≡ suc (length nodes) = omega arith in
-    nodes_lines-append 1 nodes (Holds claims bounds ∷ []) ∙ ap (λ (n : ℕ). nodes_lines 1 nodes ++ (place_lines n (Holds claims bounds) ++ [])) k ∙ ap (λ (ls : List Line). nodes_lines 1 nodes ++ ls) (append-nil (place_lines (suc (length nodes)) (Holds claims bounds)))
+    nodes_entries-append 1 nodes (Holds claims bounds ∷ []) ∙ ap (λ (n : ℕ). nodes_entries 1 nodes ++ (place_entries n (Holds claims bounds) ++ [])) k ∙ ap (λ (ls : List Entry). nodes_entries 1 nodes ++ ls) (append-nil (place_entries (suc (length nodes)) (Holds claims bounds)))
 
-closed_lines : (d : Parts) → nodes_lines 1 (closed d) ≡ nodes_lines 1 d.nodes ++ open_lines d.open_node d.nodes d.claims d.bounds
-closed_lines d = closed_lines_of d.open_node d.nodes d.claims d.bounds
+closed_entries : (d : Parts) → nodes_entries 1 (closed d) ≡ nodes_entries 1 d.nodes ++ open_entries d.open_node d.nodes d.claims d.bounds
+closed_entries d = closed_entries_of d.open_node d.nodes d.claims d.bounds
 
 closed_fit_of : (cells : ℕ) (packs : List (List ℕ)) (o : Bool) (nodes : List Place) (claims : List Claim) (bounds : List Bound) → places_all_fit cells packs nodes ≡ true → claims_fit cells 0 claims ≡ true → bounds_fit packs no_key bounds ≡ true
     → places_all_fit cells packs (cond o (nodes ++ Holds claims bounds ∷ []) nodes) ≡ true
@@ -87,22 +88,22 @@ pub closed_fit : (d : Parts) → IsBody d → places_all_fit d.cells d.packs (cl
 closed_fit d b = closed_fit_of d.cells d.packs d.open_node d.nodes d.claims d.bounds b.nodes b.claims b.bounds
 
 -- The parts that these lines make, at each stage.
-abbrev pub MadeAt : Stage → Parts → List Line → Type 0
+abbrev pub MadeAt : Stage → Parts → List Entry → Type 0
 MadeAt stages.Title d ls = (d ≡ nothing_read) × (ls ≡ [])
-MadeAt stages.Cells d ls = (d ≡ record nothing_read { stage = stages.Cells }) × (ls ≡ one_line words.Title 1 ∷ [])
-MadeAt stages.Nodes d ls = (c : ℕ) × (c < 2 ^ 32) × (d ≡ record nothing_read { stage = stages.Nodes; cells = c }) × (ls ≡ one_line words.Title 1 ∷ one_line words.Cells c ∷ [])
-MadeAt stages.Packs d ls = (c : ℕ) × (n : ℕ) × (c < 2 ^ 32) × (n < 2 ^ 32) × (d ≡ record nothing_read { stage = stages.Packs; cells = c; node_count = n }) × (ls ≡ one_line words.Title 1 ∷ one_line words.Cells c ∷ one_line words.Nodes n ∷ [])
-MadeAt stages.Body d ls = IsBody d × (ls ≡ body_lines d)
-MadeAt stages.Ended d ls = IsAllowed (certificate_of d) × (ls ≡ lines (certificate_of d))
+MadeAt stages.Cells d ls = (d ≡ record nothing_read { stage = stages.Cells }) × (ls ≡ one_entry words.Title 1 ∷ [])
+MadeAt stages.Nodes d ls = (c : ℕ) × (c < 2 ^ 32) × (d ≡ record nothing_read { stage = stages.Nodes; cells = c }) × (ls ≡ one_entry words.Title 1 ∷ one_entry words.Cells c ∷ [])
+MadeAt stages.Packs d ls = (c : ℕ) × (n : ℕ) × (c < 2 ^ 32) × (n < 2 ^ 32) × (d ≡ record nothing_read { stage = stages.Packs; cells = c; node_count = n }) × (ls ≡ one_entry words.Title 1 ∷ one_entry words.Cells c ∷ one_entry words.Nodes n ∷ [])
+MadeAt stages.Body d ls = IsBody d × (ls ≡ body_entries d)
+MadeAt stages.Ended d ls = IsAllowed (certificate_of d) × (ls ≡ entries (certificate_of d))
 
-abbrev pub Made : Parts → List Line → Type 0
+abbrev pub Made : Parts → List Entry → Type 0
 Made d ls = MadeAt d.stage d ls
 
 -- the parts are made, and with this line more the new parts are
 abbrev pub Keeps : Parts → Word → List ℤ → Parts → Type 0
-Keeps d w zs e = (ls : List Line) → Made d ls → Made e (ls ++ line w zs ∷ [])
+Keeps d w zs e = (ls : List Entry) → Made d ls → Made e (ls ++ entry w zs ∷ [])
 
-at_stage : (d : Parts) (s : Stage) (ls : List Line) → is_at d.stage s ≡ true → Made d ls → MadeAt s d ls
+at_stage : (d : Parts) (s : Stage) (ls : List Entry) → is_at d.stage s ≡ true → Made d ls → MadeAt s d ls
 at_stage d s ls h m = subst (λ (t : Stage). MadeAt t d ls) (stage_is d.stage s h) m
 
 title_made : (d e : Parts) (n : ℕ) → title_read d n ≡ Some e → Keeps d words.Title (pos n ∷ []) e
@@ -110,22 +111,22 @@ title_made d e n h ls m =
     let g = guard_some (is_at d.stage stages.Title && eqb n 1) (Some (record d { stage = stages.Cells })) e h in
     let a = and_parts _ _ g.0 in
     let k = at_stage d stages.Title ls a.0 m in
-    subst (λ (y : Parts). Made y (ls ++ one_line words.Title n ∷ [])) (some_is _ e g.1)
-    (ap (λ (y : Parts). let z : Parts = record y { stage = stages.Cells } in z) k.0, ap (λ (xs : List Line). xs ++ one_line words.Title n ∷ []) k.1 ∙ ap (λ (i : ℕ). one_line words.Title i ∷ []) (eqb-true n 1 a.1))
+    subst (λ (y : Parts). Made y (ls ++ one_entry words.Title n ∷ [])) (same_Some _ e g.1)
+    (ap (λ (y : Parts). let z : Parts = record y { stage = stages.Cells } in z) k.0, ap (λ (xs : List Entry). xs ++ one_entry words.Title n ∷ []) k.1 ∙ ap (λ (i : ℕ). one_entry words.Title i ∷ []) (eqb-true n 1 a.1))
 
 cells_made : (d e : Parts) (n : ℕ) → n < 2 ^ 32 → cells_read d n ≡ Some e → Keeps d words.Cells (pos n ∷ []) e
 cells_made d e n lt h ls m =
     let g = guard_some (is_at d.stage stages.Cells) (Some (record d { stage = stages.Nodes; cells = n })) e h in
     let k = at_stage d stages.Cells ls g.0 m in
-    subst (λ (y : Parts). Made y (ls ++ one_line words.Cells n ∷ [])) (some_is _ e g.1)
-    (n, lt, ap (λ (y : Parts). let z : Parts = record y { stage = stages.Nodes; cells = n } in z) k.0, ap (λ (xs : List Line). xs ++ one_line words.Cells n ∷ []) k.1)
+    subst (λ (y : Parts). Made y (ls ++ one_entry words.Cells n ∷ [])) (same_Some _ e g.1)
+    (n, lt, ap (λ (y : Parts). let z : Parts = record y { stage = stages.Nodes; cells = n } in z) k.0, ap (λ (xs : List Entry). xs ++ one_entry words.Cells n ∷ []) k.1)
 
 nodes_made : (d e : Parts) (n : ℕ) → n < 2 ^ 32 → nodes_read d n ≡ Some e → Keeps d words.Nodes (pos n ∷ []) e
 nodes_made d e n lt h ls m =
     let g = guard_some (is_at d.stage stages.Nodes) (Some (record d { stage = stages.Packs; node_count = n })) e h in
     let k = at_stage d stages.Nodes ls g.0 m in
-    subst (λ (y : Parts). Made y (ls ++ one_line words.Nodes n ∷ [])) (some_is _ e g.1)
-    (k.0, n, k.1, lt, ap (λ (y : Parts). let z : Parts = record y { stage = stages.Packs; node_count = n } in z) k.2, ap (λ (xs : List Line). xs ++ one_line words.Nodes n ∷ []) k.3)
+    subst (λ (y : Parts). Made y (ls ++ one_entry words.Nodes n ∷ [])) (same_Some _ e g.1)
+    (k.0, n, k.1, lt, ap (λ (y : Parts). let z : Parts = record y { stage = stages.Packs; node_count = n } in z) k.2, ap (λ (xs : List Entry). xs ++ one_entry words.Nodes n ∷ []) k.3)
 
 abbrev pub begun : ℕ → ℕ → ℕ → Parts
 begun c n k = record nothing_read { stage = stages.Body; cells = c; node_count = n; pack_count = k }
@@ -155,20 +156,20 @@ packs_made d e n h ls m =
     let k = at_stage d stages.Packs ls a.0 m in
     let was : record d { stage = stages.Body; pack_count = n } ≡ begun k.0 k.1 n = ap (λ (y : Parts). let z : Parts = record y { stage = stages.Body; pack_count = n } in z) k.4 in
     let room : (eqb n 0 || leb 2 k.0) ≡ true = ap (λ (y : Parts). eqb n 0 || leb 2 y.cells) (sym k.4) ∙ b.1 in
-    let made : Made (begun k.0 k.1 n) (ls ++ one_line words.Packs n ∷ []) = (begun_body k.0 k.1 n k.2 k.3 (leb-true n 32 b.0) room, ap (λ (xs : List Line). xs ++ one_line words.Packs n ∷ []) k.5) in
-    subst (λ (y : Parts). Made y (ls ++ one_line words.Packs n ∷ [])) (sym was ∙ some_is _ e g.1) made
+    let made : Made (begun k.0 k.1 n) (ls ++ one_entry words.Packs n ∷ []) = (begun_body k.0 k.1 n k.2 k.3 (leb-true n 32 b.0) room, ap (λ (xs : List Entry). xs ++ one_entry words.Packs n ∷ []) k.5) in
+    subst (λ (y : Parts). Made y (ls ++ one_entry words.Packs n ∷ [])) (sym was ∙ same_Some _ e g.1) made
 
 -- ---- the body
 
 -- the same, one more line at the end of the nodes
-nodes_push : (head : List Line) (packs : List (List ℕ)) (old new more : List Line) → new ≡ old ++ more → body_of head packs new ≡ body_of head packs old ++ more
+nodes_push : (head : List Entry) (packs : List (List ℕ)) (old new more : List Entry) → new ≡ old ++ more → body_of head packs new ≡ body_of head packs old ++ more
 nodes_push head packs old new more e =
-    ap (λ (ns : List Line). head ++ (map pack_line packs ++ ns)) e ∙ ap (λ (ns : List Line). head ++ ns) (sym (append_assoc (map pack_line packs) old more)) ∙ sym (append_assoc head (map pack_line packs ++ old) more)
+    ap (λ (ns : List Entry). head ++ (map pack_entry packs ++ ns)) e ∙ ap (λ (ns : List Entry). head ++ ns) (sym (append_assoc (map pack_entry packs) old more)) ∙ sym (append_assoc head (map pack_entry packs ++ old) more)
 
-packs_push : (head : List Line) (packs : List (List ℕ)) (p : List ℕ) → body_of head (packs ++ p ∷ []) [] ≡ body_of head packs [] ++ pack_line p ∷ []
-packs_push head packs p = rw (append-nil (map pack_line (packs ++ p ∷ [])), append-nil (map pack_line packs), map_push pack_line packs p) (sym (append_assoc head (map pack_line packs) (pack_line p ∷ [])))
+packs_push : (head : List Entry) (packs : List (List ℕ)) (p : List ℕ) → body_of head (packs ++ p ∷ []) [] ≡ body_of head packs [] ++ pack_entry p ∷ []
+packs_push head packs p = rw (append-nil (map pack_entry (packs ++ p ∷ [])), append-nil (map pack_entry packs), map_push pack_entry packs p) (sym (append_assoc head (map pack_entry packs) (pack_entry p ∷ [])))
 
-no_nodes : (head : List Line) (packs : List (List ℕ)) (o : Bool) (nodes : List Place) (claims : List Claim) (bounds : List Bound) → nodes ≡ [] → o ≡ false → body_of head packs (nodes_lines 1 nodes ++ open_lines o nodes claims bounds) ≡ body_of head packs []
+no_nodes : (head : List Entry) (packs : List (List ℕ)) (o : Bool) (nodes : List Place) (claims : List Claim) (bounds : List Bound) → nodes ≡ [] → o ≡ false → body_of head packs (nodes_entries 1 nodes ++ open_entries o nodes claims bounds) ≡ body_of head packs []
 no_nodes head packs o nodes claims bounds e f = rw (e, f) refl
 
 pack_body : (d : Parts) (p : List ℕ) → IsBody d → length d.packs < d.pack_count → pack_fits d.cells p ≡ true → IsBody (record d { packs = d.packs ++ p ∷ [] })
@@ -201,13 +202,13 @@ pack_made d e zs h ls m =
     let w = k.0.waiting room in
     let head = heading d.cells d.node_count d.pack_count in
     let new : Parts = record d { packs = d.packs ++ r.0 ∷ [] } in
-    let text : ls ++ line words.Pack zs ∷ [] ≡ body_lines new =
-    ap (λ (xs : List Line). xs ++ line words.Pack zs ∷ []) (k.1 ∙ no_nodes head d.packs d.open_node d.nodes d.claims d.bounds w.0 w.1)
-    ∙ ap (λ (ys : List ℤ). body_of head d.packs [] ++ line words.Pack ys ∷ []) t.0
+    let text : ls ++ entry words.Pack zs ∷ [] ≡ body_entries new =
+    ap (λ (xs : List Entry). xs ++ entry words.Pack zs ∷ []) (k.1 ∙ no_nodes head d.packs d.open_node d.nodes d.claims d.bounds w.0 w.1)
+    ∙ ap (λ (ys : List ℤ). body_of head d.packs [] ++ entry words.Pack ys ∷ []) t.0
     ∙ sym (packs_push head d.packs r.0)
     ∙ sym (no_nodes head (d.packs ++ r.0 ∷ []) d.open_node d.nodes d.claims d.bounds w.0 w.1) in
-    let made : MadeAt stages.Body new (ls ++ line words.Pack zs ∷ []) = (pack_body d r.0 k.0 room t.1, text) in
-    subst (λ (y : Parts). Made y (ls ++ line words.Pack zs ∷ [])) (some_is new e r.2) (subst (λ (s : Stage). MadeAt s new (ls ++ line words.Pack zs ∷ [])) (sym (stage_is d.stage stages.Body a.0)) made)
+    let made : MadeAt stages.Body new (ls ++ entry words.Pack zs ∷ []) = (pack_body d r.0 k.0 room t.1, text) in
+    subst (λ (y : Parts). Made y (ls ++ entry words.Pack zs ∷ [])) (same_Some new e r.2) (subst (λ (s : Stage). MadeAt s new (ls ++ entry words.Pack zs ∷ [])) (sym (stage_is d.stage stages.Body a.0)) made)
 
 -- what is_next says
 pub record Next (d : Parts) (i : ℕ) : Type 0 where
@@ -245,14 +246,14 @@ never_made d e i h ls m =
       key = λ x. absurd (false≢true x);
       waiting = λ x. let f = n.full in absurd (omega arith);
     } in
-    let old_lines = nodes_lines 1 d.nodes ++ open_lines d.open_node d.nodes d.claims d.bounds in
+    let old_entries = nodes_entries 1 d.nodes ++ open_entries d.open_node d.nodes d.claims d.bounds in
     let k1 : 1 + length (closed d) ≡ i = let f = n.number in omega arith in
-    let more : nodes_lines 1 (closed d ++ NotReached ∷ []) ++ [] ≡ old_lines ++ one_line words.Never i ∷ [] =
-    append-nil (nodes_lines 1 (closed d ++ NotReached ∷ [])) ∙ nodes_lines-append 1 (closed d) (NotReached ∷ []) ∙ ap (λ (j : ℕ). nodes_lines 1 (closed d) ++ one_line words.Never j ∷ []) k1 ∙ ap (λ (xs : List Line). xs ++ one_line words.Never i ∷ []) (closed_lines d) in
-    let text : ls ++ one_line words.Never i ∷ [] ≡ body_lines new =
-    ap (λ (xs : List Line). xs ++ one_line words.Never i ∷ []) k.1 ∙ sym (nodes_push (heading d.cells d.node_count d.pack_count) d.packs old_lines _ (one_line words.Never i ∷ []) more) in
-    let made : MadeAt stages.Body new (ls ++ one_line words.Never i ∷ []) = (body, text) in
-    subst (λ (y : Parts). Made y (ls ++ one_line words.Never i ∷ [])) (some_is new e g.1) (subst (λ (s : Stage). MadeAt s new (ls ++ one_line words.Never i ∷ [])) (sym (stage_is d.stage stages.Body n.stage)) made)
+    let more : nodes_entries 1 (closed d ++ NotReached ∷ []) ++ [] ≡ old_entries ++ one_entry words.Never i ∷ [] =
+    append-nil (nodes_entries 1 (closed d ++ NotReached ∷ [])) ∙ nodes_entries-append 1 (closed d) (NotReached ∷ []) ∙ ap (λ (j : ℕ). nodes_entries 1 (closed d) ++ one_entry words.Never j ∷ []) k1 ∙ ap (λ (xs : List Entry). xs ++ one_entry words.Never i ∷ []) (closed_entries d) in
+    let text : ls ++ one_entry words.Never i ∷ [] ≡ body_entries new =
+    ap (λ (xs : List Entry). xs ++ one_entry words.Never i ∷ []) k.1 ∙ sym (nodes_push (heading d.cells d.node_count d.pack_count) d.packs old_entries _ (one_entry words.Never i ∷ []) more) in
+    let made : MadeAt stages.Body new (ls ++ one_entry words.Never i ∷ []) = (body, text) in
+    subst (λ (y : Parts). Made y (ls ++ one_entry words.Never i ∷ [])) (same_Some new e g.1) (subst (λ (s : Stage). MadeAt s new (ls ++ one_entry words.Never i ∷ [])) (sym (stage_is d.stage stages.Body n.stage)) made)
 
 node_made : (d e : Parts) (i : ℕ) → node_read d i ≡ Some e → Keeps d words.Node (pos i ∷ []) e
 node_made d e i h ls m =
@@ -276,30 +277,30 @@ node_made d e i h ls m =
       key = λ x. refl;
       waiting = λ x. let f = n.full in absurd (omega arith);
     } in
-    let old_lines = nodes_lines 1 d.nodes ++ open_lines d.open_node d.nodes d.claims d.bounds in
+    let old_entries = nodes_entries 1 d.nodes ++ open_entries d.open_node d.nodes d.claims d.bounds in
     let k1 : suc (length (closed d)) ≡ i = let f = n.number in omega arith in
-    let more : nodes_lines 1 (closed d) ++ one_line words.Node (suc (length (closed d))) ∷ [] ≡ old_lines ++ one_line words.Node i ∷ [] =
-    ap (λ (j : ℕ). nodes_lines 1 (closed d) ++ one_line words.Node j ∷ []) k1 ∙ ap (λ (xs : List Line). xs ++ one_line words.Node i ∷ []) (closed_lines d) in
-    let text : ls ++ one_line words.Node i ∷ [] ≡ body_lines new =
-    ap (λ (xs : List Line). xs ++ one_line words.Node i ∷ []) k.1 ∙ sym (nodes_push (heading d.cells d.node_count d.pack_count) d.packs old_lines _ (one_line words.Node i ∷ []) more) in
-    let made : MadeAt stages.Body new (ls ++ one_line words.Node i ∷ []) = (body, text) in
-    subst (λ (y : Parts). Made y (ls ++ one_line words.Node i ∷ [])) (some_is new e g.1) (subst (λ (s : Stage). MadeAt s new (ls ++ one_line words.Node i ∷ [])) (sym (stage_is d.stage stages.Body n.stage)) made)
+    let more : nodes_entries 1 (closed d) ++ one_entry words.Node (suc (length (closed d))) ∷ [] ≡ old_entries ++ one_entry words.Node i ∷ [] =
+    ap (λ (j : ℕ). nodes_entries 1 (closed d) ++ one_entry words.Node j ∷ []) k1 ∙ ap (λ (xs : List Entry). xs ++ one_entry words.Node i ∷ []) (closed_entries d) in
+    let text : ls ++ one_entry words.Node i ∷ [] ≡ body_entries new =
+    ap (λ (xs : List Entry). xs ++ one_entry words.Node i ∷ []) k.1 ∙ sym (nodes_push (heading d.cells d.node_count d.pack_count) d.packs old_entries _ (one_entry words.Node i ∷ []) more) in
+    let made : MadeAt stages.Body new (ls ++ one_entry words.Node i ∷ []) = (body, text) in
+    subst (λ (y : Parts). Made y (ls ++ one_entry words.Node i ∷ [])) (same_Some new e g.1) (subst (λ (s : Stage). MadeAt s new (ls ++ one_entry words.Node i ∷ [])) (sym (stage_is d.stage stages.Body n.stage)) made)
 
 closed_length : (o : Bool) (nodes : List Place) (p q : Place) → length (cond o (nodes ++ p ∷ []) nodes) ≡ length (cond o (nodes ++ q ∷ []) nodes)
 closed_length false nodes p q = refl
 closed_length true nodes p q = length-append nodes (p ∷ []) ∙ sym (length-append nodes (q ∷ []))
 
-open_claim : (xs : List Line) (o : Bool) (nodes : List Place) (claims : List Claim) (bounds : List Bound) (c : Claim) → o ≡ true → bounds ≡ []
-    → xs ++ open_lines o nodes (claims ++ c ∷ []) bounds ≡ (xs ++ open_lines o nodes claims bounds) ++ claim_line c ∷ []
+open_claim : (xs : List Entry) (o : Bool) (nodes : List Place) (claims : List Claim) (bounds : List Bound) (c : Claim) → o ≡ true → bounds ≡ []
+    → xs ++ open_entries o nodes (claims ++ c ∷ []) bounds ≡ (xs ++ open_entries o nodes claims bounds) ++ claim_entry c ∷ []
 open_claim xs o nodes claims bounds c e f =
-    let head = one_line words.Node (suc (length nodes)) in
-    rw (e, f, append-nil (map claim_line (claims ++ c ∷ [])), append-nil (map claim_line claims), map_push claim_line claims c) (sym (append_assoc xs (head ∷ map claim_line claims) (claim_line c ∷ [])))
+    let head = one_entry words.Node (suc (length nodes)) in
+    rw (e, f, append-nil (map claim_entry (claims ++ c ∷ [])), append-nil (map claim_entry claims), map_push claim_entry claims c) (sym (append_assoc xs (head ∷ map claim_entry claims) (claim_entry c ∷ [])))
 
-open_bound : (xs : List Line) (o : Bool) (nodes : List Place) (claims : List Claim) (bounds : List Bound) (b : Bound) → o ≡ true
-    → xs ++ open_lines o nodes claims (bounds ++ b ∷ []) ≡ (xs ++ open_lines o nodes claims bounds) ++ bound_line b ∷ []
+open_bound : (xs : List Entry) (o : Bool) (nodes : List Place) (claims : List Claim) (bounds : List Bound) (b : Bound) → o ≡ true
+    → xs ++ open_entries o nodes claims (bounds ++ b ∷ []) ≡ (xs ++ open_entries o nodes claims bounds) ++ bound_entry b ∷ []
 open_bound xs o nodes claims bounds b e =
-    let head = one_line words.Node (suc (length nodes)) in
-    rw (e, map_push bound_line bounds b) (ap (λ (ys : List Line). xs ++ (head ∷ ys)) (sym (append_assoc (map claim_line claims) (map bound_line bounds) (bound_line b ∷ []))) ∙ sym (append_assoc xs (head ∷ (map claim_line claims ++ map bound_line bounds)) (bound_line b ∷ [])))
+    let head = one_entry words.Node (suc (length nodes)) in
+    rw (e, map_push bound_entry bounds b) (ap (λ (ys : List Entry). xs ++ (head ∷ ys)) (sym (append_assoc (map claim_entry claims) (map bound_entry bounds) (bound_entry b ∷ []))) ∙ sym (append_assoc xs (head ∷ (map claim_entry claims ++ map bound_entry bounds)) (bound_entry b ∷ [])))
 
 claim_made : (d e : Parts) (c : Claim) → claim_read d c ≡ Some e → Keeps d words.Claim (pos c.cell ∷ c.low ∷ c.high ∷ []) e
 claim_made d e c h ls m =
@@ -327,11 +328,11 @@ claim_made d e c h ls m =
       key = b.key;
       waiting = b.waiting;
     } in
-    let old_lines = nodes_lines 1 d.nodes ++ open_lines d.open_node d.nodes d.claims d.bounds in
-    let text : ls ++ claim_line c ∷ [] ≡ body_lines new =
-    ap (λ (xs : List Line). xs ++ claim_line c ∷ []) k.1 ∙ sym (nodes_push (heading d.cells d.node_count d.pack_count) d.packs old_lines _ (claim_line c ∷ []) (open_claim (nodes_lines 1 d.nodes) d.open_node d.nodes d.claims d.bounds c s.1 none)) in
-    let made : MadeAt stages.Body new (ls ++ claim_line c ∷ []) = (body, text) in
-    subst (λ (y : Parts). Made y (ls ++ claim_line c ∷ [])) (some_is new e g.1) (subst (λ (t : Stage). MadeAt t new (ls ++ claim_line c ∷ [])) (sym (stage_is d.stage stages.Body s.0)) made)
+    let old_entries = nodes_entries 1 d.nodes ++ open_entries d.open_node d.nodes d.claims d.bounds in
+    let text : ls ++ claim_entry c ∷ [] ≡ body_entries new =
+    ap (λ (xs : List Entry). xs ++ claim_entry c ∷ []) k.1 ∙ sym (nodes_push (heading d.cells d.node_count d.pack_count) d.packs old_entries _ (claim_entry c ∷ []) (open_claim (nodes_entries 1 d.nodes) d.open_node d.nodes d.claims d.bounds c s.1 none)) in
+    let made : MadeAt stages.Body new (ls ++ claim_entry c ∷ []) = (body, text) in
+    subst (λ (y : Parts). Made y (ls ++ claim_entry c ∷ [])) (same_Some new e g.1) (subst (λ (t : Stage). MadeAt t new (ls ++ claim_entry c ∷ [])) (sym (stage_is d.stage stages.Body s.0)) made)
 
 bound_made : (d e : Parts) (c : Bound) → bound_read d c ≡ Some e → Keeps d words.Bound (pos c.pack ∷ pos c.row ∷ pos c.column ∷ c.most ∷ []) e
 bound_made d e c h ls m =
@@ -357,17 +358,17 @@ bound_made d e c h ls m =
       key = λ x. sym (last_key_push no_key d.bounds c);
       waiting = λ x. absurd (false≢true (sym (b.waiting x).1 ∙ s.1));
     } in
-    let old_lines = nodes_lines 1 d.nodes ++ open_lines d.open_node d.nodes d.claims d.bounds in
-    let text : ls ++ bound_line c ∷ [] ≡ body_lines new =
-    ap (λ (xs : List Line). xs ++ bound_line c ∷ []) k.1 ∙ sym (nodes_push (heading d.cells d.node_count d.pack_count) d.packs old_lines _ (bound_line c ∷ []) (open_bound (nodes_lines 1 d.nodes) d.open_node d.nodes d.claims d.bounds c s.1)) in
-    let made : MadeAt stages.Body new (ls ++ bound_line c ∷ []) = (body, text) in
-    subst (λ (y : Parts). Made y (ls ++ bound_line c ∷ [])) (some_is new e g.1) (subst (λ (t : Stage). MadeAt t new (ls ++ bound_line c ∷ [])) (sym (stage_is d.stage stages.Body s.0)) made)
+    let old_entries = nodes_entries 1 d.nodes ++ open_entries d.open_node d.nodes d.claims d.bounds in
+    let text : ls ++ bound_entry c ∷ [] ≡ body_entries new =
+    ap (λ (xs : List Entry). xs ++ bound_entry c ∷ []) k.1 ∙ sym (nodes_push (heading d.cells d.node_count d.pack_count) d.packs old_entries _ (bound_entry c ∷ []) (open_bound (nodes_entries 1 d.nodes) d.open_node d.nodes d.claims d.bounds c s.1)) in
+    let made : MadeAt stages.Body new (ls ++ bound_entry c ∷ []) = (body, text) in
+    subst (λ (y : Parts). Made y (ls ++ bound_entry c ∷ [])) (same_Some new e g.1) (subst (λ (t : Stage). MadeAt t new (ls ++ bound_entry c ∷ [])) (sym (stage_is d.stage stages.Body s.0)) made)
 
 -- the whole text, from the body
-ended_lines : (cells n k : ℕ) (packs : List (List ℕ)) (nodes : List Place) (old : List Line) → length packs ≡ k → length nodes ≡ n → nodes_lines 1 nodes ≡ old
-    → body_of (heading cells n k) packs old ++ line words.End [] ∷ [] ≡ heading cells (length nodes) (length packs) ++ (map pack_line packs ++ (nodes_lines 1 nodes ++ line words.End [] ∷ []))
-ended_lines cells n k packs nodes old e f g =
-    rw (← e, ← f, ← g) (append_assoc (heading cells (length nodes) (length packs)) (map pack_line packs ++ nodes_lines 1 nodes) (line words.End [] ∷ []) ∙ ap (λ (xs : List Line). heading cells (length nodes) (length packs) ++ xs) (append_assoc (map pack_line packs) (nodes_lines 1 nodes) (line words.End [] ∷ [])))
+ended_entries : (cells n k : ℕ) (packs : List (List ℕ)) (nodes : List Place) (old : List Entry) → length packs ≡ k → length nodes ≡ n → nodes_entries 1 nodes ≡ old
+    → body_of (heading cells n k) packs old ++ entry words.End [] ∷ [] ≡ heading cells (length nodes) (length packs) ++ (map pack_entry packs ++ (nodes_entries 1 nodes ++ entry words.End [] ∷ []))
+ended_entries cells n k packs nodes old e f g =
+    rw (← e, ← f, ← g) (append_assoc (heading cells (length nodes) (length packs)) (map pack_entry packs ++ nodes_entries 1 nodes) (entry words.End [] ∷ []) ∙ ap (λ (xs : List Entry). heading cells (length nodes) (length packs) ++ xs) (append_assoc (map pack_entry packs) (nodes_entries 1 nodes) (entry words.End [] ∷ [])))
 
 end_made : (d e : Parts) (zs : List ℤ) → end_read d zs ≡ Some e → Keeps d words.End zs e
 end_made d e zs h ls m =
@@ -388,11 +389,11 @@ end_made d e zs h ls m =
       each_pack = b.packs;
       each_node = closed_fit d b;
     } in
-    let text : ls ++ line words.End zs ∷ [] ≡ lines (certificate_of new) =
-    ap (λ (ys : List ℤ). ls ++ line words.End ys ∷ []) none ∙ ap (λ (xs : List Line). xs ++ line words.End [] ∷ []) k.1
-    ∙ ended_lines d.cells d.node_count d.pack_count d.packs (closed d) (nodes_lines 1 d.nodes ++ open_lines d.open_node d.nodes d.claims d.bounds) all_packs all_nodes (closed_lines d) in
-    let made : MadeAt stages.Ended new (ls ++ line words.End zs ∷ []) = (allowed, text) in
-    subst (λ (y : Parts). Made y (ls ++ line words.End zs ∷ [])) (some_is new e g.1) made
+    let text : ls ++ entry words.End zs ∷ [] ≡ entries (certificate_of new) =
+    ap (λ (ys : List ℤ). ls ++ entry words.End ys ∷ []) none ∙ ap (λ (xs : List Entry). xs ++ entry words.End [] ∷ []) k.1
+    ∙ ended_entries d.cells d.node_count d.pack_count d.packs (closed d) (nodes_entries 1 d.nodes ++ open_entries d.open_node d.nodes d.claims d.bounds) all_packs all_nodes (closed_entries d) in
+    let made : MadeAt stages.Ended new (ls ++ entry words.End zs ∷ []) = (allowed, text) in
+    subst (λ (y : Parts). Made y (ls ++ entry words.End zs ∷ [])) (same_Some new e g.1) made
 
 -- ---- every line
 
@@ -400,7 +401,7 @@ by_one : (d e : Parts) (w : Word) (zs : List ℤ) → (one_number zs ▷ one_ste
 by_one d e w zs h each ls m =
     let b = bind_some (one_number zs) (one_step d w) e h in
     let t = one_takes zs b.0 b.1 in
-    subst (λ (ys : List ℤ). Made e (ls ++ line w ys ∷ [])) (sym t.0) (each b.0 t.1 b.2 ls m)
+    subst (λ (ys : List ℤ). Made e (ls ++ entry w ys ∷ [])) (sym t.0) (each b.0 t.1 b.2 ls m)
 
 pub step_made : (d e : Parts) (w : Word) (zs : List ℤ) → step d w zs ≡ Some e → Keeps d w zs e
 step_made d e words.Title zs h = by_one d e words.Title zs h (λ n lt k. title_made d e n k)
@@ -414,13 +415,13 @@ step_made d e words.End zs h = end_made d e zs h
 step_made d e words.Claim zs h = λ ls m.
     let b = bind_some (claim_among zs) (claim_read d) e h in
     let t = claim_takes zs b.0 b.1 in
-    subst (λ (ys : List ℤ). Made e (ls ++ line words.Claim ys ∷ [])) (sym t.numbers) (claim_made d e b.0 b.2 ls m)
+    subst (λ (ys : List ℤ). Made e (ls ++ entry words.Claim ys ∷ [])) (sym t.numbers) (claim_made d e b.0 b.2 ls m)
 step_made d e words.Bound zs h = λ ls m.
     let b = bind_some (bound_among zs) (bound_read d) e h in
     let t = bound_takes zs b.0 b.1 in
-    subst (λ (ys : List ℤ). Made e (ls ++ line words.Bound ys ∷ [])) (sym t.numbers) (bound_made d e b.0 b.2 ls m)
+    subst (λ (ys : List ℤ). Made e (ls ++ entry words.Bound ys ∷ [])) (sym t.numbers) (bound_made d e b.0 b.2 ls m)
 
-made_cells_at : (s : Stage) (d : Parts) (ls : List Line) → MadeAt s d ls → d.cells < 2 ^ 32
+made_cells_at : (s : Stage) (d : Parts) (ls : List Entry) → MadeAt s d ls → d.cells < 2 ^ 32
 made_cells_at stages.Title d ls m = let e : d.cells ≡ 0 = ap (λ (y : Parts). y.cells) m.0 in omega arith
 made_cells_at stages.Cells d ls m = let e : d.cells ≡ 0 = ap (λ (y : Parts). y.cells) m.0 in omega arith
 made_cells_at stages.Nodes d ls m = let e : d.cells ≡ m.0 = ap (λ (y : Parts). y.cells) m.2 in let lt = m.1 in omega (arith, lt)
@@ -428,5 +429,5 @@ made_cells_at stages.Packs d ls m = let e : d.cells ≡ m.0 = ap (λ (y : Parts)
 made_cells_at stages.Body d ls m = m.0.cells
 made_cells_at stages.Ended d ls m = m.0.cells
 
-pub made_cells : (d : Parts) (ls : List Line) → Made d ls → d.cells < 2 ^ 32
+pub made_cells : (d : Parts) (ls : List Entry) → Made d ls → d.cells < 2 ^ 32
 made_cells d ls m = made_cells_at d.stage d ls m

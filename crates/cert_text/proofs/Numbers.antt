@@ -5,6 +5,7 @@ use Rattle.std.specs.Fmt.{decimal, signed_decimal}
 use Rattle.std.specs.List.{AllByRecursion}
 use Rattle.std.proofs.lemmas.Bool.{leb-true, eqb-true, and_parts, and_from, le-leb, ne_eqb, not-true}
 use Rattle.std.proofs.lemmas.Fmt.{decimal_digit, decimal_step_wide, decimal_by_steps_wide}
+use Rattle.std.proofs.lemmas.Option.{same_Some}
 use Rattle.cert_text.specs.Reading.{◌▷◌, is_digit, digits_from, number_at, negative, positive, signed_at, after_space, numbers_at}
 use Rattle.cert_text.specs.Text.{numbers_text}
 
@@ -30,11 +31,8 @@ pub guard_some : {A : Type 0} (b : Bool) (o : Option A) (y : A) → cond b o Non
 guard_some true o y e = (refl, e)
 guard_some false o y e = absurd cc
 
-pub some_is : {A : Type 0} (x y : A) → Some x ≡ Some y → x ≡ y
-some_is x y e = cc
-
 digits_take : (bs : List ℕ) (n : ℕ) (x : ℕ × List ℕ) → 0 < n → n ≤ 10 ^ 37 → digits_from n bs ≡ Some x → (decimal n ++ bs ≡ decimal x.0 ++ x.1) × (x.0 ≤ 10 ^ 37)
-digits_take [] n x positive small e = subst (λ (y : ℕ × List ℕ). (decimal n ++ [] ≡ decimal y.0 ++ y.1) × (y.0 ≤ 10 ^ 37)) (some_is (n, []) x e) (refl, small)
+digits_take [] n x positive small e = subst (λ (y : ℕ × List ℕ). (decimal n ++ [] ≡ decimal y.0 ++ y.1) × (y.0 ≤ 10 ^ 37)) (same_Some (n, []) x e) (refl, small)
 digits_take (b ∷ bs) n x positive small e = by_digit (is_digit b) refl e (λ p f h. digits_take bs (n * 10 + (b - 48)) x p f h)
   where
     next : ℕ
@@ -43,7 +41,7 @@ digits_take (b ∷ bs) n x positive small e = by_digit (is_digit b) refl e (λ p
     by_digit : (t : Bool) → t ≡ is_digit b → cond t (cond (leb next (10 ^ 37)) (digits_from next bs) None) (Some (n, b ∷ bs)) ≡ Some x
         → (0 < next → next ≤ 10 ^ 37 → digits_from next bs ≡ Some x → (decimal next ++ bs ≡ decimal x.0 ++ x.1) × (x.0 ≤ 10 ^ 37))
         → (decimal n ++ b ∷ bs ≡ decimal x.0 ++ x.1) × (x.0 ≤ 10 ^ 37)
-    by_digit false is h again = subst (λ (y : ℕ × List ℕ). (decimal n ++ b ∷ bs ≡ decimal y.0 ++ y.1) × (y.0 ≤ 10 ^ 37)) (some_is (n, b ∷ bs) x h) (refl, small)
+    by_digit false is h again = subst (λ (y : ℕ × List ℕ). (decimal n ++ b ∷ bs ≡ decimal y.0 ++ y.1) × (y.0 ≤ 10 ^ 37)) (same_Some (n, b ∷ bs) x h) (refl, small)
     by_digit true is h again =
         let d = digit_is b (sym is) in
         let g = guard_some (leb next (10 ^ 37)) (digits_from next bs) x h in
@@ -59,7 +57,7 @@ number_takes (b ∷ bs) x e = by_zero (eqb b 48) refl e
     by_zero : (t : Bool) → t ≡ eqb b 48 → cond t (Some (0, bs)) (cond (is_digit b) (digits_from (b - 48) bs) None) ≡ Some x → Takes decimal (b ∷ bs) x
     by_zero true is h =
         let same : b ≡ 48 = eqb-true b 48 (sym is) in
-        subst (Takes decimal (b ∷ bs)) (some_is (0, bs) x h) (rw (decimal_digit 0 (omega arith)) (ap (λ (c : ℕ). c ∷ bs) same), omega arith)
+        subst (Takes decimal (b ∷ bs)) (same_Some (0, bs) x h) (rw (decimal_digit 0 (omega arith)) (ap (λ (c : ℕ). c ∷ bs) same), omega arith)
     by_zero false is h =
         let g = guard_some (is_digit b) (digits_from (b - 48) bs) x h in
         let d = digit_is b g.0 in
@@ -134,13 +132,13 @@ signed_takes (b ∷ bs) x e = by_minus (eqb b 45) refl e
     minus is (Some (zero, rest)) r h = absurd cc
     minus is (Some (suc n, rest)) r h =
         let t = number_takes bs (suc n, rest) r in
-        subst (λ (y : ℤ × List ℕ). (b ∷ bs ≡ signed_decimal y.0 ++ y.1) × (unsigned_abs y.0 ≤ 10 ^ 37)) (some_is (negsuc n, rest) x (sym (negative_suc n rest) ∙ h)) (rw (is, t.0) refl, t.1)
+        subst (λ (y : ℤ × List ℕ). (b ∷ bs ≡ signed_decimal y.0 ++ y.1) × (unsigned_abs y.0 ≤ 10 ^ 37)) (same_Some (negsuc n, rest) x (sym (negative_suc n rest) ∙ h)) (rw (is, t.0) refl, t.1)
 
     plain : (r : Option (ℕ × List ℕ)) → number_at (b ∷ bs) ≡ r → (r ▷ positive) ≡ Some x → (b ∷ bs ≡ signed_decimal x.0 ++ x.1) × (unsigned_abs x.0 ≤ 10 ^ 37)
     plain None r h = absurd cc
     plain (Some y) r h =
         let t = number_takes (b ∷ bs) y r in
-        subst (λ (y : ℤ × List ℕ). (b ∷ bs ≡ signed_decimal y.0 ++ y.1) × (unsigned_abs y.0 ≤ 10 ^ 37)) (some_is (pos y.0, y.1) x h) t
+        subst (λ (y : ℤ × List ℕ). (b ∷ bs ≡ signed_decimal y.0 ++ y.1) × (unsigned_abs y.0 ≤ 10 ^ 37)) (same_Some (pos y.0, y.1) x h) t
 
     by_minus : (t : Bool) → t ≡ eqb b 45 → cond t (number_at bs ▷ negative) (number_at (b ∷ bs) ▷ positive) ≡ Some x → (b ∷ bs ≡ signed_decimal x.0 ++ x.1) × (unsigned_abs x.0 ≤ 10 ^ 37)
     by_minus true is h = minus (eqb-true b 45 (sym is)) (number_at bs) refl h
@@ -171,7 +169,7 @@ space_takes (b ∷ bs) x e =
     (rw (eqb-true b 32 g.0, t.0) refl, t.1)
 
 pub numbers_take : (k : ℕ) (bs : List ℕ) (zs : List ℤ) → numbers_at k bs ≡ Some zs → (bs ≡ numbers_text zs) × AllByRecursion IsSmall zs
-numbers_take k [] zs e = subst (λ (ys : List ℤ). ([] ≡ numbers_text ys) × AllByRecursion IsSmall ys) (some_is [] zs e) (refl, tt)
+numbers_take k [] zs e = subst (λ (ys : List ℤ). ([] ≡ numbers_text ys) × AllByRecursion IsSmall ys) (same_Some [] zs e) (refl, tt)
 numbers_take zero (b ∷ bs) zs e = absurd cc
 numbers_take (suc k) (b ∷ bs) zs e = first (after_space (b ∷ bs)) refl e (λ rest ys h. numbers_take k rest ys h)
   where
@@ -181,7 +179,7 @@ numbers_take (suc k) (b ∷ bs) zs e = first (after_space (b ∷ bs)) refl e (λ
     second x is (Some ys) r h again =
         let t = space_takes (b ∷ bs) x is in
         let u = again x.1 ys r in
-        subst (λ (ws : List ℤ). (b ∷ bs ≡ numbers_text ws) × AllByRecursion IsSmall ws) (some_is (x.0 ∷ ys) zs h) (t.0 ∙ ap (λ (w : List ℕ). 32 ∷ (signed_decimal x.0 ++ w)) u.0, (t.1, u.1))
+        subst (λ (ws : List ℤ). (b ∷ bs ≡ numbers_text ws) × AllByRecursion IsSmall ws) (same_Some (x.0 ∷ ys) zs h) (t.0 ∙ ap (λ (w : List ℕ). 32 ∷ (signed_decimal x.0 ++ w)) u.0, (t.1, u.1))
 
     first : (r : Option (ℤ × List ℕ)) → after_space (b ∷ bs) ≡ r → (r ▷ (λ x. numbers_at k x.1 ▷ (λ ys. Some (x.0 ∷ ys)))) ≡ Some zs → ((rest : List ℕ) (ys : List ℤ) → numbers_at k rest ≡ Some ys → (rest ≡ numbers_text ys) × AllByRecursion IsSmall ys)
         → (b ∷ bs ≡ numbers_text zs) × AllByRecursion IsSmall zs

@@ -3,6 +3,7 @@ use Rattle.std.proofs.Common.{◌≡◌, ℕ, ◌^◌, ◌<◌, true, ◌&&◌, 
 use Rattle.std.specs.Prelude.{unsigned_abs}
 use Rattle.std.proofs.lemmas.Bool.{and_parts, and_from, ltb-true, lt-ltb}
 use Rattle.std.proofs.lemmas.List.{length-map}
+use Rattle.std.proofs.lemmas.Option.{same_Some}
 use Rattle.cert_text.specs.declared.cert.Claim.{Claim}
 use Rattle.cert_text.specs.declared.cert.Bound.{Bound}
 use Rattle.cert_text.specs.declared.draft.Key.{Key}
@@ -10,7 +11,7 @@ use Rattle.cert_text.specs.View.{Place}
 use Rattle.cert_text.specs.Reading.{◌▷◌}
 use Rattle.cert_text.specs.Allowed.{cells_rise, pack_fits, packs_fit, claim_fits, claims_fit, key_of, bound_fits, bounds_fit, place_fits, places_all_fit}
 use Rattle.cert_text.specs.Draft.{small_natural, small_integer, one_number, cells_among, pack_among, claim_among, bound_among}
-use Rattle.cert_text.proofs.Numbers.{guard_some, some_is}
+use Rattle.cert_text.proofs.Numbers.{guard_some}
 use Rattle.cert_text.proofs.Words.{bind_some}
 
 -- ---- single numbers
@@ -18,14 +19,14 @@ use Rattle.cert_text.proofs.Words.{bind_some}
 pub natural_takes : (z : ℤ) (n : ℕ) → small_natural z ≡ Some n → (z ≡ pos n) × (n < 2 ^ 32)
 natural_takes (pos m) n e =
     let g = guard_some (ltb m (2 ^ 32)) (Some m) n e in
-    subst (λ (k : ℕ). (pos m ≡ pos k) × (k < 2 ^ 32)) (some_is m n g.1) (refl, ltb-true _ _ g.0)
+    subst (λ (k : ℕ). (pos m ≡ pos k) × (k < 2 ^ 32)) (same_Some m n g.1) (refl, ltb-true _ _ g.0)
 natural_takes (negsuc m) n e = absurd cc
 
 pub natural_again : (n : ℕ) → n < 2 ^ 32 → small_natural (pos n) ≡ Some n
 natural_again n lt = rw (lt-ltb n (2 ^ 32) lt) refl
 
 pub integer_takes : (z y : ℤ) → small_integer z ≡ Some y → (z ≡ y) × (unsigned_abs z < 10 ^ 18)
-integer_takes z y e = let g = guard_some (ltb (unsigned_abs z) (10 ^ 18)) (Some z) y e in (some_is z y g.1, ltb-true _ _ g.0)
+integer_takes z y e = let g = guard_some (ltb (unsigned_abs z) (10 ^ 18)) (Some z) y e in (same_Some z y g.1, ltb-true _ _ g.0)
 
 pub integer_again : (z : ℤ) → ltb (unsigned_abs z) (10 ^ 18) ≡ true → small_integer z ≡ Some z
 integer_again z lt = rw lt refl
@@ -38,13 +39,13 @@ one_takes (z ∷ y ∷ zs) n e = absurd cc
 -- ---- packs
 
 pub cells_take : (cells last : ℕ) (zs : List ℤ) (cs : List ℕ) → cells_among cells last zs ≡ Some cs → (zs ≡ map pos cs) × (cells_rise cells last cs ≡ true)
-cells_take cells last [] cs e = subst (λ (ds : List ℕ). ([] ≡ map pos ds) × (cells_rise cells last ds ≡ true)) (some_is [] cs e) (refl, refl)
+cells_take cells last [] cs e = subst (λ (ds : List ℕ). ([] ≡ map pos ds) × (cells_rise cells last ds ≡ true)) (same_Some [] cs e) (refl, refl)
 cells_take cells last (negsuc n ∷ zs) cs e = absurd cc
 cells_take cells last (pos c ∷ zs) cs e =
     let g = guard_some (ltb last c && leb c cells) (cells_among cells c zs ▷ (λ ds. Some (c ∷ ds))) cs e in
     let b = bind_some (cells_among cells c zs) (λ ds. Some (c ∷ ds)) cs g.1 in
     let t = cells_take cells c zs b.0 b.1 in
-    subst (λ (ds : List ℕ). (pos c ∷ zs ≡ map pos ds) × (cells_rise cells last ds ≡ true)) (some_is (c ∷ b.0) cs b.2)
+    subst (λ (ds : List ℕ). (pos c ∷ zs ≡ map pos ds) × (cells_rise cells last ds ≡ true)) (same_Some (c ∷ b.0) cs b.2)
     (ap (λ (ys : List ℤ). pos c ∷ ys) t.0, and_from _ _ g.0 t.1)
 
 pub cells_again : (cells last : ℕ) (cs : List ℕ) → cells_rise cells last cs ≡ true → cells_among cells last (map pos cs) ≡ Some cs
@@ -90,7 +91,7 @@ claim_takes (x ∷ y ∷ z ∷ []) c e =
     let l = integer_takes y b.0 b.1 in
     let h = integer_takes z d.0 d.1 in
     let made : Claim = record { cell = a.0; low = b.0; high = d.0 } in
-    subst (IsClaimOf (x ∷ y ∷ z ∷ [])) (some_is made c d.2)
+    subst (IsClaimOf (x ∷ y ∷ z ∷ [])) (same_Some made c d.2)
     (record {
       numbers = three_alike x (pos a.0) y b.0 z d.0 n.0 l.0 h.0;
       cell = n.1;
@@ -121,7 +122,7 @@ bound_takes (x ∷ y ∷ z ∷ w ∷ []) b e =
     let j = natural_takes y r.0 r.1 in
     let k = natural_takes z c.0 c.1 in
     let made : Bound = record { pack = p.0; row = r.0; column = c.0; most = w } in
-    subst (IsBoundOf (x ∷ y ∷ z ∷ w ∷ [])) (some_is made b c.2)
+    subst (IsBoundOf (x ∷ y ∷ z ∷ w ∷ [])) (same_Some made b c.2)
     (record { numbers = ap (λ (v : ℤ). v ∷ y ∷ z ∷ w ∷ []) i.0 ∙ ap (λ (v : List ℤ). pos p.0 ∷ v) (three_alike y (pos r.0) z (pos c.0) w w j.0 k.0 refl); pack = i.1; row = j.1; column = k.1 })
 
 pub bound_again : (b : Bound) → b.pack < 2 ^ 32 → b.row < 2 ^ 32 → b.column < 2 ^ 32 → bound_among (pos b.pack ∷ pos b.row ∷ pos b.column ∷ b.most ∷ []) ≡ Some b

@@ -3,7 +3,5 @@ pub mod Allowed
 pub mod Text
 pub mod Reading
 pub mod Draft
-pub mod Lines
 pub mod Whole
-pub mod Viable
 pub mod Texts

@@ -1,6 +1,6 @@
 //! Printing a certificate's text.
 ghost use Rattle.std.specs.Prelude.{◌≡◌, ◌++◌, ◌∷◌, [], ◌+◌, OnOk, IfOk, map, length, pos};
-ghost use Rattle.cert_text.specs.Text.{Line, line, name, numbers_text, text_of, pack_line, claim_line, bound_line, place_lines, nodes_lines, heading, spelling};
+ghost use Rattle.cert_text.specs.Text.{Entry, entry, name, numbers_text, entries_text, pack_entry, claim_entry, bound_entry, place_entries, nodes_entries, heading, spelling};
 ghost use Rattle.cert_text.specs.View.{view, place_of};
 ghost use Rattle.cert_text.specs.declared.word.Word.TheVariants as words;
 
@@ -22,7 +22,7 @@ fn push_number<I: Integer>(text: &mut Vec<u8>, number: I) -> Result<(), AllocErr
 
 // Adds a line of a word and one number.
 fn push_line(text: &mut Vec<u8>, word: Word, number: u64) -> Result<(), AllocError>
-    ensures { OnOk result (text.new.items ≡ text.old.items ++ text_of (line word (pos number ∷ []) ∷ [])) }
+    ensures { OnOk result (text.new.items ≡ text.old.items ++ entries_text (entry word (pos number ∷ []) ∷ [])) }
 {
     text.extend_from_slice(word.name())?;
     push_number(text, number)?;
@@ -31,7 +31,7 @@ fn push_line(text: &mut Vec<u8>, word: Word, number: u64) -> Result<(), AllocErr
 }
 
 fn push_claim(text: &mut Vec<u8>, claim: &Claim) -> Result<(), AllocError>
-    ensures { OnOk result (text.new.items ≡ text.old.items ++ text_of (claim_line claim.now ∷ [])) }
+    ensures { OnOk result (text.new.items ≡ text.old.items ++ entries_text (claim_entry claim.now ∷ [])) }
 {
     text.extend_from_slice(Word::Claim.name())?;
     push_number(text, claim.cell)?;
@@ -42,7 +42,7 @@ fn push_claim(text: &mut Vec<u8>, claim: &Claim) -> Result<(), AllocError>
 }
 
 fn push_bound(text: &mut Vec<u8>, bound: &Bound) -> Result<(), AllocError>
-    ensures { OnOk result (text.new.items ≡ text.old.items ++ text_of (bound_line bound.now ∷ [])) }
+    ensures { OnOk result (text.new.items ≡ text.old.items ++ entries_text (bound_entry bound.now ∷ [])) }
 {
     text.extend_from_slice(Word::Bound.name())?;
     push_number(text, bound.pack)?;
@@ -63,7 +63,7 @@ fn push_cells(text: &mut Vec<u8>, cells: &[u32]) -> Result<(), AllocError>
 }
 
 fn push_pack(text: &mut Vec<u8>, pack: &Pack) -> Result<(), AllocError>
-    ensures { OnOk result (text.new.items ≡ text.old.items ++ text_of (pack_line pack.now.cells.items ∷ [])) }
+    ensures { OnOk result (text.new.items ≡ text.old.items ++ entries_text (pack_entry pack.now.cells.items ∷ [])) }
 {
     text.extend_from_slice(Word::Pack.name())?;
     push_cells(text, pack.cells.as_slice())?;
@@ -72,7 +72,7 @@ fn push_pack(text: &mut Vec<u8>, pack: &Pack) -> Result<(), AllocError>
 }
 
 fn push_claims(text: &mut Vec<u8>, claims: &[Claim]) -> Result<(), AllocError>
-    ensures { OnOk result (text.new.items ≡ text.old.items ++ text_of (map claim_line claims.now)) }
+    ensures { OnOk result (text.new.items ≡ text.old.items ++ entries_text (map claim_entry claims.now)) }
 {
     for claim in claims {
         push_claim(text, claim)?;
@@ -81,7 +81,7 @@ fn push_claims(text: &mut Vec<u8>, claims: &[Claim]) -> Result<(), AllocError>
 }
 
 fn push_bounds(text: &mut Vec<u8>, bounds: &[Bound]) -> Result<(), AllocError>
-    ensures { OnOk result (text.new.items ≡ text.old.items ++ text_of (map bound_line bounds.now)) }
+    ensures { OnOk result (text.new.items ≡ text.old.items ++ entries_text (map bound_entry bounds.now)) }
 {
     for bound in bounds {
         push_bound(text, bound)?;
@@ -90,7 +90,7 @@ fn push_bounds(text: &mut Vec<u8>, bounds: &[Bound]) -> Result<(), AllocError>
 }
 
 fn push_packs(text: &mut Vec<u8>, packs: &[Pack]) -> Result<(), AllocError>
-    ensures { OnOk result (text.new.items ≡ text.old.items ++ text_of (map pack_line (map (λ p. p.cells.items) packs.now))) }
+    ensures { OnOk result (text.new.items ≡ text.old.items ++ entries_text (map pack_entry (map (λ p. p.cells.items) packs.now))) }
 {
     for pack in packs {
         push_pack(text, pack)?;
@@ -100,7 +100,7 @@ fn push_packs(text: &mut Vec<u8>, packs: &[Pack]) -> Result<(), AllocError>
 
 // Adds the lines of a node.
 fn push_node(text: &mut Vec<u8>, number: u64, node: &Element) -> Result<(), AllocError>
-    ensures { OnOk result (text.new.items ≡ text.old.items ++ text_of (place_lines number (place_of node.now))) }
+    ensures { OnOk result (text.new.items ≡ text.old.items ++ entries_text (place_entries number (place_of node.now))) }
 {
     match node {
         Element::Unreached => push_line(text, Word::Never, number),
@@ -113,7 +113,7 @@ fn push_node(text: &mut Vec<u8>, number: u64, node: &Element) -> Result<(), Allo
 }
 
 fn push_nodes(text: &mut Vec<u8>, nodes: &[Element]) -> Result<(), AllocError>
-    ensures { OnOk result (text.new.items ≡ text.old.items ++ text_of (nodes_lines 1 (map place_of nodes.now))) }
+    ensures { OnOk result (text.new.items ≡ text.old.items ++ entries_text (nodes_entries 1 (map place_of nodes.now))) }
 {
     let mut number = 0;
     for node in nodes {
@@ -124,7 +124,7 @@ fn push_nodes(text: &mut Vec<u8>, nodes: &[Element]) -> Result<(), AllocError>
 }
 
 fn push_heading(text: &mut Vec<u8>, cert: &Cert) -> Result<(), AllocError>
-    ensures { OnOk result (text.new.items ≡ text.old.items ++ text_of (heading cert.now.cells (length cert.now.nodes.items) (length cert.now.packs.items))) }
+    ensures { OnOk result (text.new.items ≡ text.old.items ++ entries_text (heading cert.now.cells (length cert.now.nodes.items) (length cert.now.packs.items))) }
 {
     push_line(text, Word::Title, 1)?;
     push_line(text, Word::Cells, u64::from(cert.cells))?;
@@ -133,7 +133,7 @@ fn push_heading(text: &mut Vec<u8>, cert: &Cert) -> Result<(), AllocError>
 }
 
 fn push_end(text: &mut Vec<u8>) -> Result<(), AllocError>
-    ensures { OnOk result (text.new.items ≡ text.old.items ++ text_of (line words.End [] ∷ [])) }
+    ensures { OnOk result (text.new.items ≡ text.old.items ++ entries_text (entry words.End [] ∷ [])) }
 {
     text.extend_from_slice(Word::End.name())?;
     text.push(b'\n')?;

@@ -1,7 +1,5 @@
 //! Reading a certificate's text.
 ghost use Rattle.std.specs.Prelude.{◌≡◌, IfOk, IfErr};
-ghost use Rattle.std.specs.Option.{option_map};
-ghost use Rattle.cert_text.specs.Lines.{Cuts};
 ghost use Rattle.cert_text.specs.Draft.{parts_of, certificate_of};
 ghost use Rattle.cert_text.specs.View.{Certificate, view};
 ghost use Rattle.cert_text.specs.Allowed.{IsAllowed};
@@ -11,18 +9,8 @@ ghost use Rattle.cert_text.specs.Whole.{Gives, read_of};
 
 use crate::cert::{Cert, CertEnd};
 use crate::draft::{Draft, Stage};
-use memchr::memchr;
 use std::alloc::Global;
-
-// The first line, without its end, and the bytes after it.
-fn cut(bytes: &[u8]) -> Option<(&[u8], &[u8])>
-    ensures { Cuts bytes.now (option_map (λ x. (x.0.now, x.1.now)) result) }
-{
-    match memchr(b'\n', bytes) {
-        Some(end) => Some((&bytes[..end], &bytes[end + 1..])),
-        None => None,
-    }
-}
+use text_lines::split_line;
 
 fn certificate(draft: Draft) -> Cert
     ensures { view result ≡ certificate_of (parts_of draft) }
@@ -42,7 +30,7 @@ fn read_lines(alloc: Global, bytes: &[u8]) -> Result<Cert, CertEnd>
     let mut numbers = Vec::new(alloc);
     let mut rest = bytes;
     let mut line: u32 = 1;
-    while let Some((first, after)) = cut(rest) {
+    while let Some((first, after)) = split_line(rest) {
         if !draft.read_line(alloc, first, &mut numbers)? {
             return Err(CertEnd::Syntax { line });
         }

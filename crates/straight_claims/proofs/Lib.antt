@@ -1,6 +1,5 @@
 pub mod Numbers
 pub mod Fields
 pub mod Keeping
-pub mod OneLine
 pub mod Refusal
 pub mod Certificates

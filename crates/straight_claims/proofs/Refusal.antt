@@ -16,8 +16,8 @@ use Rattle.straight_claims.specs.Claims.{claim_line, node_line, node_lines, clai
 use Rattle.straight_claims.specs.Reading.{IsReading, Refuses}
 use Rattle.straight_claims.specs.Forms.{Form, Just, ClaimOf, Fits, IsClaimOf, AreFits, Misfits, Passes, StopsAt, claim_forms, node_forms, head_forms, head_lines, end_forms, forms_of}
 use Rattle.straight_claims.proofs.Numbers.{IsWord, decimal_word, end_word}
+use Rattle.text_lines.proofs.OneLine.{one_line-append, one_lines-append, literal}
 use Rattle.text_lines.proofs.Texts.{cut-text_of, cut_joins}
-use Rattle.straight_claims.proofs.OneLine.{one_line-append, literal}
 use Rattle.straight_claims.proofs.Keeping.{passes_both, fits_both, nodes_fit, nodes_length}
 
 -- ---- the lines that keep to the forms are the certificates
@@ -155,10 +155,6 @@ claim_one_line cell claim less h =
     let front = number_one_line (codes "c ") claim.cell (literal (codes "c ") refl) (omega (arith, less, h.of_cell)) in
     let low = one_line-append (codes "c " ++ decimal claim.cell ++ codes " ") (signed_decimal claim.low) (space_one_line (codes "c " ++ decimal claim.cell) front) (word_one_line (signed_decimal claim.low) (end_word claim.low h.low)) in
     one_line-append (codes "c " ++ decimal claim.cell ++ codes " " ++ signed_decimal claim.low ++ codes " ") (signed_decimal claim.high) (space_one_line (codes "c " ++ decimal claim.cell ++ codes " " ++ signed_decimal claim.low) low) (word_one_line (signed_decimal claim.high) (end_word claim.high h.high))
-
-one_lines-append : (a b : List Line) → AllByRecursion IsOneLine a → AllByRecursion IsOneLine b → AllByRecursion IsOneLine (a ++ b)
-one_lines-append [] b h k = k
-one_lines-append (x ∷ a) b h k = (h.0, one_lines-append a b h.1 k)
 
 claims_one_lines : (cell more : ℕ) (claims : List Claim) → cell + more ≤ 2 ^ 64 → AreClaims cell more claims → AllByRecursion IsOneLine (map claim_line claims)
 claims_one_lines cell zero [] less h = tt

@@ -1,14 +1,15 @@
 -- A source as bytes: its lines are lines, it is a valid program, and reading it ends as the form says.
-use Rattle.std.proofs.Common.{◌≡◌, ℕ, zero, suc, ◌+◌, ◌^◌, ◌<◌, ◌⊎◌, Bool, true, false, cond, not, ◌&&◌, eqb, List, [], ◌∷◌, ◌++◌, length, take, Option, Some, None, refl, sym, ap, ◌∙◌, subst, append_assoc, append-nil, map, arith, inl, inr}
+use Rattle.std.proofs.Common.{◌≡◌, ℕ, zero, suc, ◌+◌, ◌^◌, ◌<◌, ◌⊎◌, Bool, true, false, cond, eqb, List, [], ◌∷◌, ◌++◌, length, Option, Some, None, refl, sym, ap, ◌∙◌, subst, append_assoc, append-nil, map, arith, inl, inr}
 use Rattle.std.specs.Prelude.{ℤ, pos, Contains, codes, decimal}
 use Rattle.std.specs.List.{AllByRecursion}
-use Rattle.std.proofs.lemmas.Bool.{eqb-true, eq-eqb, false≢true}
+use Rattle.std.proofs.lemmas.Bool.{eqb-true, false≢true}
 use Rattle.std.proofs.lemmas.Int.{ints}
-use Rattle.std.proofs.lemmas.List.{length-map, length-append, take_at}
+use Rattle.std.proofs.lemmas.List.{length-map, length-append}
 use Rattle.std.proofs.lemmas.Option.{same_Some}
 use Rattle.text_lines.specs.Lines.{Line, cut, text_of, IsOneLine, Splits}
-use Rattle.text_lines.specs.Viable.{IsViable, FirstBad}
-use Rattle.text_lines.proofs.Texts.{cut_joins, cut_text, splits_line, splits_rest, one_bad, text_not_bad}
+use Rattle.text_lines.specs.Viable.{FirstBad}
+use Rattle.text_lines.proofs.OneLine.{all-append, literal}
+use Rattle.text_lines.proofs.Texts.{cut_joins, cut_text, splits_line, splits_rest, one_bad, text_not_bad, bad_there, bad_behind}
 use Rattle.cob_meaning.specs.declared.straight.Simple.{Simple}
 use Rattle.cob_meaning.specs.declared.straight.Simple.TheVariants as simple
 use Rattle.cob_meaning.specs.Program.{plain, IsWithin, AreItems, AreActs, IsValid}
@@ -18,25 +19,11 @@ use Rattle.straight_source.specs.Source.{ItemLine, ActLine, Source, Verb, Move, 
 use Rattle.straight_source.specs.declared.reading.Reading.{Reading}
 use Rattle.straight_source.specs.Reading.{IsReading}
 use Rattle.straight_source.specs.Steps.{State, view, start, next, run}
-use Rattle.straight_source.proofs.Pieces.{IsDigit, both_true, count_again, number-small}
+use Rattle.straight_source.proofs.Pieces.{IsDigit, count_again, number-small}
 use Rattle.straight_source.proofs.Fronts.{IsFront, end_state, place_found, run_front}
 use Rattle.straight_source.proofs.Complete.{complete, viable, refused, run_then}
 
 -- ---- one line each
-
-abbrev clean : Line → Bool
-clean [] = true
-clean (byte ∷ line) = not (eqb byte 10) && clean line
-
-is_clean : (line : Line) → clean line ≡ true → IsOneLine line
-is_clean [] e = tt
-is_clean (byte ∷ line) e =
-    let b = both_true (not (eqb byte 10)) (clean line) e in
-    ((λ same. false≢true (rw (eq-eqb byte 10 same) at b.0)), is_clean line b.1)
-
-all-append : {X : Type 0} (P : X → Type 0) (a b : List X) → AllByRecursion P a → AllByRecursion P b → AllByRecursion P (a ++ b)
-all-append P [] b h k = k
-all-append P (x ∷ a) b h k = (h.0, all-append P a b h.1 k)
 
 abbrev NoLf : ℕ → Type 0
 NoLf byte = byte ≡ 10 → ⊥
@@ -49,28 +36,28 @@ item-one-line : (item : ItemLine) → IsItemLine item → IsOneLine (item_line i
 item-one-line item h =
     let letter : NoLf item.letter = λ same. absurd (omega (arith, h.capital.0)) in
     let count = (count_again item.digits h.digits.0 h.digits.1).0 in
-    let front : IsOneLine (codes "       77 " ++ item.letter ∷ codes " PIC 9(") = all-append NoLf (codes "       77 ") (item.letter ∷ codes " PIC 9(") (is_clean (codes "       77 ") refl) (letter, is_clean (codes " PIC 9(") refl) in
+    let front : IsOneLine (codes "       77 " ++ item.letter ∷ codes " PIC 9(") = all-append NoLf (codes "       77 ") (item.letter ∷ codes " PIC 9(") (literal (codes "       77 ") refl) (letter, literal (codes " PIC 9(") refl) in
     all-append NoLf ((((codes "       77 " ++ item.letter ∷ codes " PIC 9(") ++ decimal item.digits) ++ codes ") VALUE ") ++ item.value) (codes ".")
     (all-append NoLf (((codes "       77 " ++ item.letter ∷ codes " PIC 9(") ++ decimal item.digits) ++ codes ") VALUE ") item.value
     (all-append NoLf ((codes "       77 " ++ item.letter ∷ codes " PIC 9(") ++ decimal item.digits) (codes ") VALUE ")
     (all-append NoLf (codes "       77 " ++ item.letter ∷ codes " PIC 9(") (decimal item.digits) front (digits-one-line (decimal item.digits) count.2))
-    (is_clean (codes ") VALUE ") refl))
+    (literal (codes ") VALUE ") refl))
     (digits-one-line item.value h.value.2))
-    (is_clean (codes ".") refl)
+    (literal (codes ".") refl)
 
 verb-one-line : (verb : Verb) → IsOneLine (verb_text verb)
-verb-one-line Move = is_clean (codes "MOVE") refl
-verb-one-line Add = is_clean (codes "ADD") refl
+verb-one-line Move = literal (codes "MOVE") refl
+verb-one-line Add = literal (codes "ADD") refl
 
 act-one-line : (act : ActLine) → IsNumeral act.amount → NoLf act.letter → IsOneLine (act_line act)
 act-one-line act h letter =
     all-append NoLf ((((codes "       " ++ verb_text act.verb) ++ codes " ") ++ act.amount) ++ codes " TO ") (act.letter ∷ codes ".")
     (all-append NoLf (((codes "       " ++ verb_text act.verb) ++ codes " ") ++ act.amount) (codes " TO ")
     (all-append NoLf ((codes "       " ++ verb_text act.verb) ++ codes " ") act.amount
-    (all-append NoLf (codes "       " ++ verb_text act.verb) (codes " ") (all-append NoLf (codes "       ") (verb_text act.verb) (is_clean (codes "       ") refl) (verb-one-line act.verb)) (is_clean (codes " ") refl))
+    (all-append NoLf (codes "       " ++ verb_text act.verb) (codes " ") (all-append NoLf (codes "       ") (verb_text act.verb) (literal (codes "       ") refl) (verb-one-line act.verb)) (literal (codes " ") refl))
     (digits-one-line act.amount h.2))
-    (is_clean (codes " TO ") refl))
-    (letter, is_clean (codes ".") refl)
+    (literal (codes " TO ") refl))
+    (letter, literal (codes ".") refl)
 
 -- a declared letter is a capital
 capital_in : (before : List ℕ) (items : List ItemLine) (letter : ℕ) → AreItemLines before items → Contains (letters items) letter → NoLf letter
@@ -88,7 +75,7 @@ acts-one-line items (act ∷ acts) h k = (act-one-line act k.0.amount (capital_i
 
 headings-one-line : AllByRecursion IsOneLine headings
 headings-one-line =
-    (is_clean (codes "       IDENTIFICATION DIVISION.") refl, (is_clean (codes "       PROGRAM-ID. T.") refl, (is_clean (codes "       DATA DIVISION.") refl, (is_clean (codes "       WORKING-STORAGE SECTION.") refl, tt))))
+    (literal (codes "       IDENTIFICATION DIVISION.") refl, (literal (codes "       PROGRAM-ID. T.") refl, (literal (codes "       DATA DIVISION.") refl, (literal (codes "       WORKING-STORAGE SECTION.") refl, tt))))
 
 pub source_one_line : (source : Source) → IsSource source → AllByRecursion IsOneLine (source_lines source)
 source_one_line source h =
@@ -97,8 +84,8 @@ source_one_line source h =
     (all-append IsOneLine headings (map item_line source.items)
     headings-one-line
     (items-one-line [] source.items h.items))
-    (is_clean procedure_line refl, acts-one-line source.items source.acts h.items h.acts))
-    (is_clean stop_line refl, tt)
+    (literal procedure_line refl, acts-one-line source.items source.acts h.items h.acts))
+    (literal stop_line refl, tt)
 
 -- ---- a valid program
 
@@ -171,25 +158,13 @@ goes_on bytes rest number state line behind after g s e =
 front_of : (front : List Line) (state : State) → run start front ≡ Some state → IsFront state.stage front state
 front_of front state e = run_front front [] start state (refl, refl) e
 
-take-front : (front lines : List Line) (k : ℕ) → k ≡ length front → take k (front ++ lines) ≡ front
-take-front front lines k e = take_at front lines k (sym e)
-
 -- the next line is the first with which no source goes on
 pub refused_there : (bytes rest : List ℕ) (number : ℕ) (state : State) (line behind : List ℕ) → Goes bytes rest number state → Splits rest (Some (line, behind)) → next state line ≡ None → FirstBad AreSourceLines bytes number
 refused_there bytes rest number state line behind g s e =
     let parts = splits_line rest line behind s in
     let whole : (cut bytes).whole ≡ g.front ++ line ∷ (cut behind).whole = g.whole ∙ ap (λ (lines : List Line). g.front ++ lines) parts.0 in
-    let long : length (cut bytes).whole ≡ length g.front + 1 + length (cut behind).whole = ap length whole ∙ omega (arith, length-append g.front (line ∷ (cut behind).whole)) in
-    let more : take (length g.front + 1) (cut bytes).whole ≡ g.front ++ line ∷ [] =
-    ap (take (length g.front + 1)) (whole ∙ sym (append_assoc g.front (line ∷ []) (cut behind).whole)) ∙ take-front (g.front ++ line ∷ []) (cut behind).whole (length g.front + 1) (omega (arith, length-append g.front (line ∷ []))) in
-    record {
-      before = length g.front;
-      counted = g.count;
-      there = omega arith;
-      goes_on = subst (IsViable AreSourceLines) (sym (ap (take (length g.front)) g.whole ∙ take-front g.front (cut rest).whole (length g.front) refl)) (viable state.stage g.front state (front_of g.front state g.reached));
-      stops = λ below v. refused g.front state line g.reached e (subst (IsViable AreSourceLines) more v);
-      no_text = λ same. absurd (omega arith);
-    }
+    subst (FirstBad AreSourceLines bytes) (sym g.count)
+    (bad_there AreSourceLines bytes g.front line (cut behind).whole whole (viable state.stage g.front state (front_of g.front state g.reached)) (refused g.front state line g.reached e))
 
 -- nothing stands behind the lines read, and the last one was STOP RUN
 pub ended_there : (bytes rest : List ℕ) (number : ℕ) (state : State) → Goes bytes rest number state → Splits rest None → state.stage ≡ Stopped → rest ≡ [] →
@@ -218,15 +193,8 @@ pub short_there : (bytes rest : List ℕ) (number : ℕ) (state : State) → Goe
 short_there bytes rest number state g s short =
     let parts = splits_rest rest s in
     let whole : (cut bytes).whole ≡ g.front = g.whole ∙ ap (λ (lines : List Line). g.front ++ lines) parts.0 ∙ append-nil g.front in
-    let long : length (cut bytes).whole ≡ length g.front = ap length whole in
-    record {
-      before = length g.front;
-      counted = g.count;
-      there = omega arith;
-      goes_on = subst (IsViable AreSourceLines) (sym (ap (take (length g.front)) g.whole ∙ take-front g.front (cut rest).whole (length g.front) refl)) (viable state.stage g.front state (front_of g.front state g.reached));
-      stops = λ below v. absurd (omega arith);
-      no_text = λ same lines t e. no_text bytes rest state g.front (sym whole) (g.behind ∙ parts.1) g.reached short lines t e;
-    }
+    subst (FirstBad AreSourceLines bytes) (sym g.count)
+    (bad_behind AreSourceLines bytes g.front whole (viable state.stage g.front state (front_of g.front state g.reached)) (no_text bytes rest state g.front (sym whole) (g.behind ∙ parts.1) g.reached short))
 
 -- ---- what the tests of the code tell
 

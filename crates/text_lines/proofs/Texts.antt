@@ -1,9 +1,9 @@
 -- Texts of whole lines, and the first line with which none goes on.
-use Rattle.std.proofs.Common.{◌≡◌, ℕ, zero, suc, ◌+◌, ◌<◌, ◌≤◌, List, [], ◌∷◌, ◌++◌, length, take, drop, refl, sym, ap, ◌∙◌, subst, append_assoc, arith, inl, inr}
+use Rattle.std.proofs.Common.{◌≡◌, ℕ, ◌+◌, ◌<◌, List, [], ◌∷◌, ◌++◌, length, take, drop, refl, sym, ap, ◌∙◌, subst, append_assoc, arith, inl, inr}
 use Rattle.std.specs.Prelude.{Some, None}
 use Rattle.std.specs.List.{AllByRecursion}
 use Rattle.std.proofs.lemmas.Bool.{cases_eq, cases_lt}
-use Rattle.std.proofs.lemmas.List.{take-append-drop}
+use Rattle.std.proofs.lemmas.List.{append-nil, length-append, take-append-drop, take-take, take_at}
 use Rattle.text_lines.specs.Lines.{Line, Cut, cut, with_byte, text_of, IsOneLine, Splits}
 use Rattle.text_lines.specs.Viable.{IsViable, FirstBad}
 use Rattle.text_lines.proofs.Cuts.{cut-byte}
@@ -20,10 +20,6 @@ cut_joins (byte ∷ bytes) =
       | inl same ↦ rw same (ap (λ (rest : List ℕ). 10 ∷ rest) (cut_joins bytes))
       | inr apart ↦ rw (cut-byte byte bytes apart) (with-byte-joins byte (cut bytes).whole (cut bytes).rest ∙ ap (λ (rest : List ℕ). byte ∷ rest) (cut_joins bytes))
     ]
-
-cut-plain : (rest : List ℕ) → IsOneLine rest → cut rest ≡ record { whole = []; rest = rest }
-cut-plain [] h = refl
-cut-plain (byte ∷ rest) h = cut-byte byte rest h.0 ∙ ap (λ (c : Cut). with_byte byte c.whole c.rest) (cut-plain rest h.1)
 
 cut-line : (line rest : List ℕ) → IsOneLine line → cut (line ++ 10 ∷ rest) ≡ record { whole = line ∷ (cut rest).whole; rest = (cut rest).rest }
 cut-line [] rest h = refl
@@ -44,22 +40,14 @@ cut_text bytes lines h e =
     (ap (λ (c : Cut). c.whole) (sym c), ap (λ (c : Cut). c.rest) c)
 
 -- a front of a viable front is viable
-pub viable_front : {A : Type 0} (texts : List A → Type 0) (a b : List A) → IsViable texts (a ++ b) → IsViable texts a
-viable_front texts a b v = (b ++ v.0, subst texts (append_assoc a b v.0) v.1)
-
-take-parts : {A : Type 0} (xs : List A) (m n : ℕ) → m ≤ n → (b : List A) × (take n xs ≡ take m xs ++ b)
-take-parts xs zero n l = (take n xs, refl)
-take-parts [] (suc m) zero l = absurd (omega arith)
-take-parts [] (suc m) (suc n) l = ([], refl)
-take-parts (x ∷ xs) (suc m) zero l = absurd (omega arith)
-take-parts {A} (x ∷ xs) (suc m) (suc n) l = let p = take-parts xs m n (omega arith) in (p.0, ap (λ (ys : List A). x ∷ ys) p.1)
-
-viable_take : (texts : List Line → Type 0) (lines : List Line) (m n : ℕ) → m ≤ n → IsViable texts (take n lines) → IsViable texts (take m lines)
-viable_take texts lines m n l v = let p = take-parts lines m n l in viable_front texts (take m lines) p.0 (subst (IsViable texts) p.1 v)
+pub viable_take : {A : Type 0} (lists : List A → Type 0) (n : ℕ) (front : List A) → IsViable lists front → IsViable lists (take n front)
+viable_take lists n front v = (drop n front ++ v.0, subst lists (ap (λ xs. xs ++ v.0) (sym (take-append-drop n front)) ∙ append_assoc (take n front) (drop n front) v.0) v.1)
 
 bad_not_before : (texts : List Line → Type 0) (bytes : List ℕ) (m n : ℕ) → FirstBad texts bytes m → FirstBad texts bytes n → m < n → ⊥
 bad_not_before texts bytes m n a b l =
-    a.stops (omega (arith, a.counted, b.counted, b.there)) (viable_take texts (cut bytes).whole (a.before + 1) b.before (omega (arith, a.counted, b.counted)) b.goes_on)
+    let whole = (cut bytes).whole in
+    let shorter : take (a.before + 1) (take b.before whole) ≡ take (a.before + 1) whole = take-take (a.before + 1) b.before whole (omega (arith, a.counted, b.counted)) in
+    a.stops (omega (arith, a.counted, b.counted, b.there)) (subst (IsViable texts) shorter (viable_take texts (a.before + 1) (take b.before whole) b.goes_on))
 
 -- a text has one first bad line
 pub one_bad : (texts : List Line → Type 0) (bytes : List ℕ) (m n : ℕ) → FirstBad texts bytes m → FirstBad texts bytes n → m ≡ n
@@ -80,6 +68,38 @@ text_not_bad texts bytes line lines a t h e =
       | inl below ↦ a.stops below (subst (λ (ls : List Line). IsViable texts (take (a.before + 1) ls)) c.0 (drop (a.before + 1) lines, subst texts (sym (take-append-drop (a.before + 1) lines)) t))
       | inr from ↦ a.no_text (omega (arith, a.there)) lines t e
     ]
+
+-- ---- which line is bad
+
+-- the whole lines are some with which a text goes on, and then one with which none does
+pub bad_there : (texts : List Line → Type 0) (bytes : List ℕ) (front : List Line) (line : Line) (behind : List Line) → (cut bytes).whole ≡ front ++ line ∷ behind → IsViable texts front → (IsViable texts (front ++ line ∷ []) → ⊥) → FirstBad texts bytes (length front + 1)
+bad_there texts bytes front line behind whole viable stops =
+    let long : length (cut bytes).whole ≡ length front + 1 + length behind = ap length whole ∙ omega (arith, length-append front (line ∷ behind)) in
+    let before : take (length front) (cut bytes).whole ≡ front = ap (take (length front)) whole ∙ take_at front (line ∷ behind) (length front) refl in
+    let with_it : take (length front + 1) (cut bytes).whole ≡ front ++ line ∷ [] =
+    ap (take (length front + 1)) (whole ∙ sym (append_assoc front (line ∷ []) behind)) ∙ take_at (front ++ line ∷ []) behind (length front + 1) (length-append front (line ∷ [])) in
+    record {
+      before = length front;
+      counted = refl;
+      there = omega arith;
+      goes_on = subst (IsViable texts) (sym before) viable;
+      stops = λ below on. stops (subst (IsViable texts) with_it on);
+      no_text = λ same. absurd (omega arith);
+    }
+
+-- a text goes on with all whole lines, but the bytes are none
+pub bad_behind : (texts : List Line → Type 0) (bytes : List ℕ) (front : List Line) → (cut bytes).whole ≡ front → IsViable texts front → ((lines : List Line) → texts lines → bytes ≡ text_of lines → ⊥) → FirstBad texts bytes (length front + 1)
+bad_behind texts bytes front whole viable no_text =
+    let long : length (cut bytes).whole ≡ length front = ap length whole in
+    let before : take (length front) (cut bytes).whole ≡ front = ap (take (length front)) (whole ∙ sym (append-nil front)) ∙ take_at front [] (length front) refl in
+    record {
+      before = length front;
+      counted = refl;
+      there = omega arith;
+      goes_on = subst (IsViable texts) (sym before) viable;
+      stops = λ below. absurd (omega arith);
+      no_text = λ same. no_text;
+    }
 
 -- ---- splitting off one line after another
 

@@ -1,6 +1,6 @@
+use Rattle.text_lines.proofs.Texts.{one_bad}
 use Rattle.cert_text.specs.Texts.{IsText}
-use Rattle.cert_text.proofs.Refused.{one_place}
 use Rattle.cert_text.proofs.laws.one_place.Goals as goal
 
 pub returns : goal.returns
-returns c = one_place IsText
+returns c = one_bad IsText
