@@ -1,5 +1,5 @@
 -- Least intervals by their ends.
-use Rattle.std.proofs.Common.{◌≡◌, ℕ, zero, suc, ◌+◌, ◌*◌, ◌<◌, ◌≤◌, ◌⊎◌, inl, inr, Bool, true, false, cond, ℤ, pos, negsuc, neg_ℤ, ◌+ℤ◌, ◌-ℤ◌, ◌*ℤ◌, ◌≤ℤ◌, refl, sym, ap, ◌∙◌, subst, arith}
+use Rattle.std.proofs.Common.{◌≡◌, ℕ, suc, ◌+◌, ◌*◌, inl, inr, Bool, true, false, cond, ℤ, pos, negsuc, ◌+ℤ◌, ◌-ℤ◌, ◌*ℤ◌, ◌≤ℤ◌, refl, sym, ap, ◌∙◌, subst, arith}
 use Rattle.std.specs.Prelude.{int_lt}
 use Rattle.std.specs.Int.{int_max, int_min}
 use Rattle.std.proofs.lemmas.Int.{ints, clamps}
@@ -126,7 +126,7 @@ products_between a b = record {
   along_right = λ x y h k. product_across b x y k;
 }
 
-product_held : (a b : Interval) → a.low ≤ℤ a.high → (z : ℤ) → IsProduct a b z → Holds (corners (λ x y. x *ℤ y) a b) z
+pub product_held : (a b : Interval) → a.low ≤ℤ a.high → (z : ℤ) → IsProduct a b z → Holds (corners (λ x y. x *ℤ y) a b) z
 product_held a b h z (x, y, k, l, e) = subst (λ t. Holds (corners (λ x y. x *ℤ y) a b) t) (sym e) (corners_hold (λ x y. x *ℤ y) a b h (products_between a b) x y k l)
 
 pub products_are_least : (a b : Interval) → a.low ≤ℤ a.high → b.low ≤ℤ b.high → IsLeast (IsProduct a b) (corners (λ x y. x *ℤ y) a b)

@@ -1,6 +1,6 @@
 -- Least intervals of quotients.
-use Rattle.std.proofs.Common.{◌≡◌, ℕ, zero, suc, ◌*◌, ◌^◌, ◌<◌, ◌≤◌, ◌⊎◌, inl, inr, ℤ, pos, negsuc, neg_ℤ, ◌*ℤ◌, ◌≤ℤ◌, refl, sym, ◌∙◌, ap, subst, arith}
-use Rattle.std.specs.Prelude.{◌≢◌, ◌↔◌, Option, Some, None, IfSome, ⊤}
+use Rattle.std.proofs.Common.{◌≡◌, ℕ, zero, suc, ◌*◌, ◌<◌, ◌≤◌, ◌⊎◌, inl, inr, ℤ, pos, negsuc, neg_ℤ, ◌*ℤ◌, ◌≤ℤ◌, refl, sym, ◌∙◌, ap, subst, arith}
+use Rattle.std.specs.Prelude.{◌≢◌, ◌↔◌, Option, Some, None, IfSome}
 use Rattle.std.specs.Int.{int_max, int_min}
 use Rattle.std.proofs.lemmas.Int.{ints, clamps}
 use Rattle.std.proofs.lemmas.Nat.{mul-le}
@@ -13,8 +13,8 @@ use Rattle.dec_num.proofs.Near.{near_same, near_monotone}
 use Rattle.decimal_interval.specs.declared.bounds.Interval.{Interval}
 use Rattle.decimal_interval.specs.Bounds.{Holds, IsLeast}
 use Rattle.decimal_interval.specs.Results.{IsQuotient, IsLeastCapped, capped}
-use Rattle.decimal_interval.specs.Corners.{interval, span, joined, corners, negated, above_zero, quotient, either_of}
-use Rattle.decimal_interval.proofs.Ends.{IsBetweenEnds, corners_hold, corners_are_ones, corners_from, in_order, in_other_order, parts_of_product, low_held, high_held, min_is_one, max_is_one}
+use Rattle.decimal_interval.specs.Corners.{span, joined, corners, negated, above_zero, quotient, either_of}
+use Rattle.decimal_interval.proofs.Ends.{IsBetweenEnds, corners_hold, corners_are_ones, corners_from, in_order, in_other_order, parts_of_product, min_is_one, max_is_one}
 
 -- ---- a greater fraction is near no smaller number
 raised_same : (p : Fraction) (k : ℕ) → IsSameNumber p (record { top = p.top *ℤ pos k; bottom = k * p.bottom })

@@ -1,5 +1,5 @@
 -- Intervals of whole numbers.
-use Rattle.std.specs.Prelude.{◌≡◌, ℕ, ◌^◌, ◌<◌, ℤ, ◌≤ℤ◌, unsigned_abs}
+use Rattle.std.specs.Prelude.{◌^◌, ◌<◌, ℤ, ◌≤ℤ◌, unsigned_abs}
 use Rattle.decimal_interval.specs.declared.bounds.Interval.{Interval}
 
 -- the numbers of the interval

@@ -1,4 +1,4 @@
-use Rattle.std.proofs.Common.{refl, ◌*ℤ◌}
+use Rattle.std.proofs.Common.{◌*ℤ◌}
 use Rattle.decimal_interval.proofs.Ends.{low_held, high_held, corner_is_product, mul_gives}
 use Rattle.decimal_interval.proofs.arithmetic.mul_i.Goals as goal
 
