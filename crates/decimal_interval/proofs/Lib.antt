@@ -1,0 +1,4 @@
+pub mod Ends
+pub mod Quotients
+pub mod Nearest
+pub mod Sizes

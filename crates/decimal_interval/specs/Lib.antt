@@ -1,0 +1,4 @@
+pub mod Bounds
+pub mod Results
+pub mod Corners
+pub mod Thresholds

@@ -1,0 +1,5 @@
+pub mod Lattice
+pub mod Flow
+pub mod Meaning
+pub mod Sizes
+pub mod SizesLaws

@@ -1,0 +1,45 @@
+-- What rows mean: storages of a program, what its edges do to them, and the faults that its nodes meet.
+use Rattle.std.specs.Prelude.{◌≡◌, ℕ, zero, suc, List, ℤ, Option}
+use Rattle.cob_tree.specs.declared.fault.Kind.{Kind}
+use Rattle.dom_laws.specs.Lattice.{Lattice, IsElement}
+use Rattle.dom_laws.specs.Flow.{Flow, IsNode, IsEdge}
+
+-- bytes, and counters that are numbers or nothing
+pub record Storage : Type 0 where
+  pub bytes : List ℕ
+  pub counters : List (Option ℤ)
+
+-- What a program does along a graph, apart from any domain.
+pub record Runs : Type 1 where
+  -- the storage can be the first at node 1
+  pub Begins : Storage → Type 0
+  -- the edge makes the second storage of the first
+  pub Acts : ℕ → Storage → Storage → Type 0
+  -- the node meets a fault of this kind on the storage
+  pub Meets : ℕ → Kind → Storage → Type 0
+
+-- What a layer's rows say of a program.
+pub record Meaning : Type 1 where
+  pub runs : Runs
+  -- a row stands for a storage
+  pub StandsFor : List ℤ → Storage → Type 0
+  -- what the layer may take for granted of a storage at a node
+  pub Granted : ℕ → Storage → Type 0
+  -- at this node a row shows that there is no fault of this kind
+  pub Clears : ℕ → List ℤ → Kind → Type 0
+
+pub record IsMeaning (l : Lattice) (f : Flow) (m : Meaning) : Type 0 where
+  pub stands_above : (a b : List ℤ) (s : Storage) → IsElement l a → IsElement l b → l.Below a b → m.StandsFor a s → m.StandsFor b s
+  pub begins : (s : Storage) → m.runs.Begins s → m.Granted 1 s → m.StandsFor f.entry s
+  pub kept : (edge : ℕ) (row : List ℤ) (s t : Storage) → IsEdge f edge → IsElement l row → m.Granted (f.source edge) s → m.StandsFor row s → m.runs.Acts edge s t → m.StandsFor (f.post edge row) t
+  pub cleared : (node : ℕ) (row : List ℤ) (kind : Kind) (s : Storage) → IsNode f node → IsElement l row → m.Clears node row kind → m.Granted node s → m.StandsFor row s → ¬ m.runs.Meets node kind s
+  pub clears_below : (node : ℕ) (a b : List ℤ) (kind : Kind) → IsNode f node → IsElement l a → IsElement l b → l.Below a b → m.Clears node b kind → m.Clears node a kind
+
+-- a run comes to the node with this storage along so many edges
+abbrev pub ReachesIn : Flow → Runs → ℕ → ℕ → Storage → Type 0
+ReachesIn f r zero node s = (node ≡ 1) × r.Begins s
+ReachesIn f r (suc n) node s = (edge : ℕ) × (before : Storage) × IsEdge f edge × (f.target edge ≡ node) × ReachesIn f r n (f.source edge) before × r.Acts edge before s
+
+-- all that a layer takes for granted holds of the storages that come to a node
+abbrev pub IsGranted : Flow → Meaning → Type 0
+IsGranted f m = (n node : ℕ) (s : Storage) → ReachesIn f m.runs n node s → m.Granted node s

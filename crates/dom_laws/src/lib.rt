@@ -1,0 +1,14 @@
+//! What the domains, systems and layers of an analysis promise (Cousot and Cousot 1977): traits with
+//! laws, and the counter of transfers.
+#![tactic(auto)]
+
+mod counter;
+mod laws;
+mod traits;
+
+pub use counter::Steps;
+pub use laws::{clears_no_fault, growth_is_bounded, stands_where_reached};
+pub use traits::{Domain, Layer, Rows, System};
+
+#[cfg(test)]
+mod tests;
