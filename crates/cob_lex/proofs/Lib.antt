@@ -1,2 +1,4 @@
 pub mod MarkLemmas
 pub mod WordLemmas
+pub mod PieceLemmas
+pub mod RowLemmas
