@@ -3,12 +3,7 @@ use Rattle.std.proofs.Common.{◌≡◌, ℕ, ◌+◌, ◌-◌, ◌<◌, ◌≤�
 use Rattle.cob_lex.specs.declared.piece.Piece.{Piece}
 use Rattle.cob_lex.specs.declared.row.Row.{Row}
 use Rattle.cob_lex.specs.declared.row.Compared.{Compared}
-use Rattle.cob_lex.specs.Rows.{row_of, key_at, fated, reworded, compared_at, words_of, relation_or, related, is_stop, padded_one, padded, nothing}
-use Rattle.std.proofs.Common.{get_or}
-
--- the first token
-abbrev pub head : List Piece → Piece
-head ps = get_or ps 0 nothing
+use Rattle.cob_lex.specs.Rows.{row_at, head, fated, reworded, compared_at, words_of, relation_or, related, is_stop, padded_one, padded}
 
 reworded_skip : (n : ℕ) (xs : List Piece) → reworded n xs ≡ reworded 0 (drop n xs)
 unfolding reworded
@@ -21,16 +16,16 @@ reworded_behind : (n : ℕ) (p : Piece) (ps : List Piece) → 0 < n → reworded
 reworded_behind zero p ps h = absurd (omega arith)
 reworded_behind (suc n) p ps h = let e : suc n - 1 ≡ n = omega arith in ap (λ k. reworded k ps) e ∙ reworded_skip n ps
 
-reworded_more : (xs : List Piece) → 0 < length xs → 0 < (row_of (key_at xs 0) (key_at xs 1)).words → reworded 0 xs ≡ fated (row_of (key_at xs 0) (key_at xs 1)).fate (head xs) ++ reworded 0 (drop (row_of (key_at xs 0) (key_at xs 1)).words xs)
+reworded_more : (xs : List Piece) → 0 < length xs → 0 < (row_at xs).words → reworded 0 xs ≡ fated (row_at xs).fate (head xs) ++ reworded 0 (drop (row_at xs).words xs)
 unfolding reworded
 reworded_more [] h some = absurd (omega arith)
-reworded_more (p ∷ ps) h some = ap (λ t. fated (row_of (key_at (p ∷ ps) 0) (key_at (p ∷ ps) 1)).fate p ++ t) (reworded_behind (row_of (key_at (p ∷ ps) 0) (key_at (p ∷ ps) 1)).words p ps some)
+reworded_more (p ∷ ps) h some = ap (λ t. fated (row_at (p ∷ ps)).fate p ++ t) (reworded_behind (row_at (p ∷ ps)).words p ps some)
 
-pub reworded_step : (done next xs ys all : List Piece) (r : Row) → 0 < length xs → r ≡ row_of (key_at xs 0) (key_at xs 1) → 0 < r.words → ys ≡ drop r.words xs → next ≡ done ++ fated r.fate (head xs) → done ++ reworded 0 xs ≡ all → next ++ reworded 0 ys ≡ all
-reworded_step done next xs ys all r h is some rest pushed so_far =
-    let w : 0 < (row_of (key_at xs 0) (key_at xs 1)).words = rw (← is) some in
+pub reworded_step : (done next xs ys all : List Piece) (r : Row) (m : Piece) → m ≡ head xs → 0 < length xs → r ≡ row_at xs → 0 < r.words → ys ≡ drop r.words xs → next ≡ done ++ fated r.fate m → done ++ reworded 0 xs ≡ all → next ++ reworded 0 ys ≡ all
+reworded_step done next xs ys all r m e h is some rest pushed so_far =
+    let w : 0 < (row_at xs).words = rw (← is) some in
     let more : reworded 0 xs ≡ fated r.fate (head xs) ++ reworded 0 (drop r.words xs) = rw is (reworded_more xs h w) in
-    rw (rest, pushed) (append_assoc done (fated r.fate (head xs)) (reworded 0 (drop r.words xs)) ∙ ap (λ t. done ++ t) (sym more) ∙ so_far)
+    rw (rest, pushed, e) (append_assoc done (fated r.fate (head xs)) (reworded 0 (drop r.words xs)) ∙ ap (λ t. done ++ t) (sym more) ∙ so_far)
 
 pub reworded_ends : (done xs all : List Piece) → length xs ≡ 0 → done ++ reworded 0 xs ≡ all → done ≡ all
 unfolding reworded
@@ -53,11 +48,11 @@ unfolding related
 related_more [] h some = absurd (omega arith)
 related_more (p ∷ ps) h some = ap (λ t. relation_or (compared_at (p ∷ ps)) p ∷ t) (related_behind (words_of (compared_at (p ∷ ps))) p ps some)
 
-pub related_step : (done next xs ys all : List Piece) (c : Option Compared) (p : Piece) (n : ℕ) → 0 < length xs → c ≡ compared_at xs → 0 < words_of c → n ≡ words_of c → ys ≡ drop n xs → p ≡ relation_or c (head xs) → next ≡ done ++ p ∷ [] → done ++ related 0 xs ≡ all → next ++ related 0 ys ≡ all
-related_step done next xs ys all c p n h is some count rest here pushed so_far =
+pub related_step : (done next xs ys all : List Piece) (c : Option Compared) (m p : Piece) (n : ℕ) → m ≡ head xs → 0 < length xs → c ≡ compared_at xs → 0 < words_of c → n ≡ words_of c → ys ≡ drop n xs → p ≡ relation_or c m → next ≡ done ++ p ∷ [] → done ++ related 0 xs ≡ all → next ++ related 0 ys ≡ all
+related_step done next xs ys all c m p n e h is some count rest here pushed so_far =
     let w : 0 < words_of (compared_at xs) = rw (← is) some in
     let more : related 0 xs ≡ relation_or c (head xs) ∷ related 0 (drop (words_of c) xs) = rw is (related_more xs h w) in
-    rw (rest, count, pushed, here) (append_assoc done (relation_or c (head xs) ∷ []) (related 0 (drop (words_of c) xs)) ∙ ap (λ t. done ++ t) (sym more) ∙ so_far)
+    rw (rest, count, pushed, here, e) (append_assoc done (relation_or c (head xs) ∷ []) (related 0 (drop (words_of c) xs)) ∙ ap (λ t. done ++ t) (sym more) ∙ so_far)
 
 pub related_ends : (done xs all : List Piece) → length xs ≡ 0 → done ++ related 0 xs ≡ all → done ≡ all
 unfolding related
@@ -69,9 +64,9 @@ unfolding padded
 padded_more behind_stop [] h = absurd (omega arith)
 padded_more behind_stop (p ∷ ps) h = refl
 
-pub padded_step : (done next xs ys all : List Piece) (before behind : Bool) (p : Piece) → 0 < length xs → ys ≡ drop 1 xs → behind ≡ is_stop (head xs).shape → p ≡ padded_one before (head xs) → next ≡ done ++ p ∷ [] → done ++ padded before xs ≡ all → next ++ padded behind ys ≡ all
-padded_step done next xs ys all before behind p h rest is here pushed so_far =
-    rw (rest, is, pushed, here) (append_assoc done (padded_one before (head xs) ∷ []) (padded (is_stop (head xs).shape) (drop 1 xs)) ∙ ap (λ t. done ++ t) (sym (padded_more before xs h)) ∙ so_far)
+pub padded_step : (done next xs ys all : List Piece) (before behind : Bool) (m p : Piece) → m ≡ head xs → 0 < length xs → ys ≡ drop 1 xs → behind ≡ is_stop m.shape → p ≡ padded_one before m → next ≡ done ++ p ∷ [] → done ++ padded before xs ≡ all → next ++ padded behind ys ≡ all
+padded_step done next xs ys all before behind m p e h rest is here pushed so_far =
+    rw (rest, is, pushed, here, e) (append_assoc done (padded_one before (head xs) ∷ []) (padded (is_stop (head xs).shape) (drop 1 xs)) ∙ ap (λ t. done ++ t) (sym (padded_more before xs h)) ∙ so_far)
 
 pub padded_ends : (done xs all : List Piece) (before : Bool) → length xs ≡ 0 → done ++ padded before xs ≡ all → done ≡ all
 unfolding padded

@@ -67,13 +67,13 @@ abbrev pub alone : Key → Row
 alone word = record { fate = fate_of word; words = 1 }
 
 abbrev pub paired : Option Pair → Key → Key → Row
-paired None word next = alone word
-paired (Some p) word next =
-    if same p.second next then record { fate = Becomes p.word; words = 2 } else alone word
+paired None word behind = alone word
+paired (Some p) word behind =
+    if same p.second behind then record { fate = Becomes p.word; words = 2 } else alone word
 
 -- the row for a word and the token behind it: a row of two words goes before one of one word
 abbrev pub row_of : Key → Key → Row
-row_of word next = paired (pair_of word) word next
+row_of word behind = paired (pair_of word) word behind
 
 -- stands for no token
 abbrev pub nothing : Piece
@@ -82,6 +82,14 @@ nothing = record { shape = Stop; start = 0; length = 0; line = 0; column = 0 }
 -- the word at this place of a list of tokens, from 0
 abbrev pub key_at : List Piece → ℕ → Key
 key_at ps k = key (slice_index_or ps k nothing).shape
+
+-- the first token
+abbrev pub head : List Piece → Piece
+head ps = slice_index_or ps 0 nothing
+
+-- the row at the beginning of a list of tokens
+abbrev pub row_at : List Piece → Row
+row_at ps = row_of (key_at ps 0) (key_at ps 1)
 
 abbrev pub shaped : Shape → Piece → Piece
 shaped shape p = record p { shape = shape }
@@ -97,8 +105,7 @@ unfoldable pub reworded : ℕ → List Piece → List Piece
 reworded n [] = []
 reworded (suc n) (p ∷ ps) = reworded n ps
 reworded zero (p ∷ ps) =
-    fated (row_of (key_at (p ∷ ps) 0) (key_at (p ∷ ps) 1)).fate p
-    ++ reworded ((row_of (key_at (p ∷ ps) 0) (key_at (p ∷ ps) 1)).words - 1) ps
+    fated (row_at (p ∷ ps)).fate p ++ reworded ((row_at (p ∷ ps)).words - 1) ps
 
 -- `OR EQUAL TO` and `OR EQUAL` behind GREATER or LESS
 abbrev pub weakened : Rel → Rel → Key → Key → Key → Compared

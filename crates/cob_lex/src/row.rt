@@ -1,5 +1,5 @@
-ghost use Rattle.std.specs.Prelude.{◌≡◌, ◌+◌, ◌<◌, ◌∷◌, ◌++◌, [], length, IfOk, OnOk, false};
-ghost use Rattle.cob_lex.specs.Rows.{fate_of, pair_of, alone, paired, row_of, key_at, shaped, fated, reworded, weakened, equal, comparison, compared_at, words_of, relation_or, related, is_stop, is_digit_alone, padded_one, padded, rewritten};
+ghost use Rattle.std.specs.Prelude.{◌≡◌, ◌+◌, ◌<◌, ◌++◌, length, IfOk, OnOk, false};
+ghost use Rattle.cob_lex.specs.Rows.{fate_of, pair_of, alone, paired, row_of, row_at, head, key_at, shaped, fated, reworded, weakened, equal, comparison, compared_at, words_of, relation_or, related, is_stop, is_digit_alone, padded_one, padded, rewritten};
 
 use crate::cut::Shape;
 use crate::piece::{Piece, behind};
@@ -191,6 +191,14 @@ fn row_of(word: Key, next: Key) -> Row
     }
 }
 
+/// The first token.
+fn head(pieces: &[Piece]) -> Piece
+    requires { 0 < length pieces.now }
+    ensures { result ≡ head pieces.now }
+{
+    pieces[0]
+}
+
 /// The word at this place of the tokens, from 0.
 fn key_at(pieces: &[Piece], place: usize) -> Key
     ensures { result ≡ key_at pieces.now place }
@@ -232,16 +240,23 @@ fn push_fated(done: &mut Vec<Piece>, fate: Fate, piece: Piece) -> Result<(), All
     }
 }
 
+/// The row at the beginning of the tokens.
+fn row_at(pieces: &[Piece]) -> Row
+    ensures value { result ≡ row_at pieces.now }
+    ensures some { 0 < result.words }
+{
+    row_of(key_at(pieces, 0), key_at(pieces, 1))
+}
+
 /// The tokens after the rows of words.
-#[tactic(auto, using(crate::proofs::RowLemmas::reworded_step, crate::proofs::RowLemmas::reworded_ends))]
 fn reworded(alloc: Global, pieces: &[Piece]) -> Result<Vec<Piece>, AllocError>
     ensures { IfOk result (λ v. v.items ≡ reworded 0 pieces.now) }
 {
     let mut done = Vec::new(alloc);
     let mut rest = pieces;
     while !rest.is_empty() {
-        let row = row_of(key_at(rest, 0), key_at(rest, 1));
-        push_fated(&mut done, row.fate, rest[0])?;
+        let row = row_at(rest);
+        push_fated(&mut done, row.fate, head(rest))?;
         rest = behind(rest, row.words);
     }
     Ok(done)
@@ -320,7 +335,6 @@ fn relation_or(compared: Option<Compared>, piece: Piece) -> Piece
 }
 
 /// The tokens after the rows of relations.
-#[tactic(auto, using(crate::proofs::RowLemmas::related_step, crate::proofs::RowLemmas::related_ends))]
 fn related(alloc: Global, pieces: &[Piece]) -> Result<Vec<Piece>, AllocError>
     ensures { IfOk result (λ v. v.items ≡ related 0 pieces.now) }
 {
@@ -328,7 +342,7 @@ fn related(alloc: Global, pieces: &[Piece]) -> Result<Vec<Piece>, AllocError>
     let mut rest = pieces;
     while !rest.is_empty() {
         let compared = compared_at(rest);
-        done.push(relation_or(compared, rest[0]))?;
+        done.push(relation_or(compared, head(rest)))?;
         rest = behind(rest, words_of(compared));
     }
     Ok(done)
@@ -375,7 +389,6 @@ fn padded_one(behind_stop: bool, piece: Piece) -> Piece
 }
 
 /// The tokens after leading zeros.
-#[tactic(auto, using(crate::proofs::RowLemmas::padded_step, crate::proofs::RowLemmas::padded_ends))]
 fn padded(alloc: Global, pieces: &[Piece]) -> Result<Vec<Piece>, AllocError>
     ensures { IfOk result (λ v. v.items ≡ padded false pieces.now) }
 {
@@ -383,8 +396,9 @@ fn padded(alloc: Global, pieces: &[Piece]) -> Result<Vec<Piece>, AllocError>
     let mut rest = pieces;
     let mut behind_stop = false;
     while !rest.is_empty() {
-        done.push(padded_one(behind_stop, rest[0]))?;
-        behind_stop = is_stop(rest[0].shape);
+        let piece = head(rest);
+        done.push(padded_one(behind_stop, piece))?;
+        behind_stop = is_stop(piece.shape);
         rest = behind(rest, 1);
     }
     Ok(done)
