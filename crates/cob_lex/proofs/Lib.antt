@@ -2,3 +2,4 @@ pub mod MarkLemmas
 pub mod WordLemmas
 pub mod PieceLemmas
 pub mod RowLemmas
+pub mod TokenLemmas

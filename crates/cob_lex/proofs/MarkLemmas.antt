@@ -1,8 +1,8 @@
 -- Runs, literals and their insides, one character on.
-use Rattle.std.proofs.Common.{◌≡◌, ℕ, ◌+◌, ◌-◌, ◌<◌, ◌≤◌, Bool, true, false, List, [], ◌∷◌, length, drop, refl, ap, ◌∙◌, sym, cond, Option, Some, None, arith, add-zero, zero-add}
+use Rattle.std.proofs.Common.{◌≡◌, ℕ, ◌+◌, ◌-◌, ◌<◌, ◌≤◌, Bool, true, false, List, [], ◌∷◌, ◌++◌, append_assoc, append-nil, length, drop, refl, ap, ◌∙◌, sym, cond, Option, Some, None, arith, add-zero, zero-add}
 use Rattle.std.specs.Option.{option_map}
 use Rattle.cob_lines.specs.declared.Mark.{Mark}
-use Rattle.cob_lex.specs.Marks.{ch_at, goes_on, run_len, literal_len, undoubled, is_closed, half_behind, is_second, closed_at}
+use Rattle.cob_lex.specs.Marks.{ch_at, goes_on, run_len, literal_len, undoubled, is_closed, half_behind, is_second, closed_at, undoubled_one}
 
 pub run_len_on : (xs : List Mark) → 0 < length xs → goes_on xs ≡ true → run_len xs ≡ 1 + run_len (drop 1 xs)
 unfolding run_len
@@ -78,3 +78,19 @@ pub undoubled_nil : (quote : ℕ) (half : Bool) (xs : List Mark) → length xs �
 unfolding undoubled
 undoubled_nil quote half [] h = refl
 undoubled_nil quote half (m ∷ ms) h = absurd (omega arith)
+
+undoubled_more : (quote : ℕ) (half : Bool) (xs : List Mark) → 0 < length xs → undoubled quote half xs ≡ undoubled_one quote half xs ++ undoubled quote (half_behind quote half xs) (drop 1 xs)
+unfolding undoubled
+undoubled_more quote half [] h = absurd (omega arith)
+undoubled_more quote half (m ∷ ms) h = one_of (is_second quote half (m ∷ ms)) m.ch (undoubled quote (half_behind quote half (m ∷ ms)) ms)
+  where
+    one_of : (second : Bool) (ch : ℕ) (rest : List ℕ) → cond second rest (ch ∷ rest) ≡ cond second [] (ch ∷ []) ++ rest
+    one_of true ch rest = refl
+    one_of false ch rest = refl
+
+pub undoubled_step : (quote : ℕ) (half next : Bool) (done more all : List ℕ) (xs ys : List Mark) → 0 < length xs → ys ≡ drop 1 xs → next ≡ half_behind quote half xs → more ≡ done ++ undoubled_one quote half xs → done ++ undoubled quote half xs ≡ all → more ++ undoubled quote next ys ≡ all
+undoubled_step quote half next done more all xs ys h rest is pushed so_far =
+    rw (rest, is, pushed) (append_assoc done (undoubled_one quote half xs) (undoubled quote (half_behind quote half xs) (drop 1 xs)) ∙ ap (λ t. done ++ t) (sym (undoubled_more quote half xs h)) ∙ so_far)
+
+pub undoubled_ends : (quote : ℕ) (half : Bool) (done all : List ℕ) (xs : List Mark) → length xs ≡ 0 → done ++ undoubled quote half xs ≡ all → done ≡ all
+undoubled_ends quote half done all xs h so_far = sym (append-nil done) ∙ ap (λ t. done ++ t) (sym (undoubled_nil quote half xs h)) ∙ so_far

@@ -89,6 +89,10 @@ undoubled quote half (m ∷ ms) =
     if is_second quote half (m ∷ ms) then undoubled quote (half_behind quote half (m ∷ ms)) ms
     else m.ch ∷ undoubled quote (half_behind quote half (m ∷ ms)) ms
 
+-- what one character of a literal's inside gives
+abbrev pub undoubled_one : ℕ → Bool → List Mark → List ℕ
+undoubled_one quote half text = if is_second quote half text then [] else ch_at text 0 ∷ []
+
 -- what stands between the first and the last character
 abbrev pub inside : List Mark → List Mark
 inside front = take (length front - 2) (drop 1 front)

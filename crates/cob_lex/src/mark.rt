@@ -159,7 +159,7 @@ fn is_closed(quote: u8, half: bool, text: &[Mark]) -> bool
 
 /// Whether a mark that closes or is the first of two stands before the tail.
 #[inline(always)]
-fn half_behind(quote: u8, half: bool, text: &[Mark]) -> bool
+pub fn half_behind(quote: u8, half: bool, text: &[Mark]) -> bool
     ensures { result ≡ half_behind quote half text.now }
 {
     !half && ch_at(text, 0) == quote
@@ -167,7 +167,7 @@ fn half_behind(quote: u8, half: bool, text: &[Mark]) -> bool
 
 /// Whether a mark stands here that is the second of two.
 #[inline(always)]
-fn is_second(quote: u8, half: bool, text: &[Mark]) -> bool
+pub fn is_second(quote: u8, half: bool, text: &[Mark]) -> bool
     ensures { result ≡ is_second quote half text.now }
 {
     half && ch_at(text, 0) == quote

@@ -192,7 +192,7 @@ fn row_of(word: Key, next: Key) -> Row
 }
 
 /// The first token.
-fn head(pieces: &[Piece]) -> Piece
+pub fn head(pieces: &[Piece]) -> Piece
     requires { 0 < length pieces.now }
     ensures { result ≡ head pieces.now }
 {
