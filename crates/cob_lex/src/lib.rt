@@ -10,6 +10,8 @@ mod cut;
 mod mark;
 mod piece;
 mod row;
+#[cfg(test)]
+mod tests;
 mod token;
 mod word;
 

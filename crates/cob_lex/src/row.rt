@@ -101,11 +101,26 @@ fn pair_of(word: Key) -> Option<Pair>
     ensures { result ≡ pair_of word }
 {
     match word {
-        Key::Record => Some(Pair { second: Key::Contains, word: Key::RecordSize }),
-        Key::File => Some(Pair { second: Key::Status, word: Key::Status }),
-        Key::Go => Some(Pair { second: Key::To, word: Key::Go }),
-        Key::Assign => Some(Pair { second: Key::To, word: Key::Assign }),
-        Key::End => Some(Pair { second: Key::Program, word: Key::EndProgram }),
+        Key::Record => Some(Pair {
+            second: Key::Contains,
+            word: Key::RecordSize,
+        }),
+        Key::File => Some(Pair {
+            second: Key::Status,
+            word: Key::Status,
+        }),
+        Key::Go => Some(Pair {
+            second: Key::To,
+            word: Key::Go,
+        }),
+        Key::Assign => Some(Pair {
+            second: Key::To,
+            word: Key::Assign,
+        }),
+        Key::End => Some(Pair {
+            second: Key::Program,
+            word: Key::EndProgram,
+        }),
         Key::Plain
         | Key::Contains
         | Key::RecordSize

@@ -108,7 +108,12 @@ fn number(digits: Bytes, front: &[Mark]) -> Num
     }
 }
 
-fn push_undoubled(bytes: &mut Vec<u8>, quote: u8, half: bool, text: &[Mark]) -> Result<(), AllocError>
+fn push_undoubled(
+    bytes: &mut Vec<u8>,
+    quote: u8,
+    half: bool,
+    text: &[Mark],
+) -> Result<(), AllocError>
     ensures { OnOk result (bytes.new.items ≡ bytes.old.items ++ undoubled_one quote half text.now) }
 {
     if is_second(quote, half, text) {

@@ -216,7 +216,6 @@ fn spells(front: &[Mark], text: &[u8]) -> bool
     true
 }
 
-
 fn key_among(front: &[Mark], keys: &[Key]) -> Key
     ensures { result ≡ key_among front.now keys.now }
 {
@@ -253,7 +252,10 @@ pub fn is_word(front: &[Mark]) -> bool
 fn count_word_characters(front: &[Mark]) -> usize
     ensures { result ≡ count_by (λ m. is_word_character m.ch) front.now }
 {
-    front.iter().filter(|mark| is_word_character(mark.ch)).count()
+    front
+        .iter()
+        .filter(|mark| is_word_character(mark.ch))
+        .count()
 }
 
 fn count_letters(front: &[Mark]) -> usize
