@@ -3,3 +3,4 @@ pub mod WordLemmas
 pub mod PieceLemmas
 pub mod RowLemmas
 pub mod TokenLemmas
+pub mod SpelledLemmas

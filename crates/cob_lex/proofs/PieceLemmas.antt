@@ -29,7 +29,7 @@ skip_some start (suc n) s m ms h =
     let e : suc n - 1 ≡ n = omega arith in
     ap (λ k. read (start + 1) s k ms) e ∙ read_skip (start + 1) s n ms ∙ ap (λ k. read k s 0 (drop n ms)) (omega arith)
 
-read_more : (start : ℕ) (s : State) (xs : List Mark) (c : Cut) → 0 < length xs → cut s xs ≡ Some c → 0 < c.length → read start s 0 xs ≡ prefixed (piece_list start (first xs) c.length c.shape) (read (start + c.length) (after s c xs) 0 (drop c.length xs))
+pub read_more : (start : ℕ) (s : State) (xs : List Mark) (c : Cut) → 0 < length xs → cut s xs ≡ Some c → 0 < c.length → read start s 0 xs ≡ prefixed (piece_list start (first xs) c.length c.shape) (read (start + c.length) (after s c xs) 0 (drop c.length xs))
 unfolding read
 read_more start s [] c h e some = absurd (omega arith)
 read_more start s (m ∷ ms) c h e some =
@@ -43,7 +43,7 @@ read_step ps qs start s t xs ys c all h e some after_c rest pushed so_far =
     ∙ ap (prefixed ps) (sym (read_more start s xs c h (sym e) some))
     ∙ so_far)
 
-read_stops_here : (start : ℕ) (s : State) (xs : List Mark) → 0 < length xs → cut s xs ≡ None → read start s 0 xs ≡ Err (place_of (first xs))
+pub read_stops_here : (start : ℕ) (s : State) (xs : List Mark) → 0 < length xs → cut s xs ≡ None → read start s 0 xs ≡ Err (place_of (first xs))
 unfolding read
 read_stops_here start s [] h e = absurd (omega arith)
 read_stops_here start s (m ∷ ms) h e =
@@ -52,7 +52,7 @@ read_stops_here start s (m ∷ ms) h e =
 pub read_stops : (ps : List Piece) (start : ℕ) (s : State) (xs : List Mark) (all : Result (List Piece) Place) → 0 < length xs → None ≡ cut s xs → prefixed ps (read start s 0 xs) ≡ all → all ≡ Err (place_of (first xs))
 read_stops ps start s xs all h e so_far = sym so_far ∙ ap (prefixed ps) (read_stops_here start s xs h (sym e))
 
-read_ends_here : (start : ℕ) (s : State) (xs : List Mark) → length xs ≡ 0 → read start s 0 xs ≡ Ok []
+pub read_ends_here : (start : ℕ) (s : State) (xs : List Mark) → length xs ≡ 0 → read start s 0 xs ≡ Ok []
 unfolding read
 read_ends_here start s [] h = refl
 read_ends_here start s (m ∷ ms) h = absurd (omega arith)

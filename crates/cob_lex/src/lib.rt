@@ -7,6 +7,7 @@ ghost use Rattle.cob_lex.specs.Rows.{rewritten};
 ghost use Rattle.cob_lex.specs.declared.LexEnd.TheVariants.{Memory};
 
 mod cut;
+mod laws;
 mod mark;
 mod piece;
 mod row;
@@ -14,6 +15,8 @@ mod row;
 mod tests;
 mod token;
 mod word;
+
+pub use laws::{one_spelling, spelling_is_read};
 
 use cob_lines::Mark;
 use cob_tree::Token;
