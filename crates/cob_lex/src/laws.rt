@@ -6,7 +6,6 @@ ghost use Rattle.cob_lex.specs.Spelled.{IsSpelled, IsStopped};
 ghost use Rattle.cob_lex.specs.Pieces.{raw_tokens};
 
 /// A law: a text is spelled by one list of raw tokens at most.
-
 pub fn one_spelling()
     ensures { (text : List Mark) (ps : List Piece) (qs : List Piece) → IsSpelled text ps → IsSpelled text qs → ps ≡ qs }
 {}

@@ -16,10 +16,9 @@ mod tests;
 mod token;
 mod word;
 
-pub use laws::{one_spelling, spelling_is_read};
-
 use cob_lines::Mark;
 use cob_tree::Token;
+pub use laws::{one_spelling, spelling_is_read};
 use piece::{Piece, raw_tokens};
 use row::rewritten;
 use std::alloc::{AllocError, AllocFailed, Global};
