@@ -1,0 +1,5 @@
+use Rattle.cob_lex.proofs.SpelledLemmas.{one_spelling}
+use Rattle.cob_lex.proofs.laws.one_spelling.Goals as goal
+
+pub returns : goal.returns
+returns c = one_spelling

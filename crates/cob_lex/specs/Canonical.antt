@@ -1,0 +1,86 @@
+-- The canonical tokens of a text.
+use Rattle.std.specs.Prelude.{◌≡◌, ℕ, ◌+◌, ◌-◌, Bool, true, false, ◌||◌, ◌==◌, nat_le, min, if◌then◌else◌, List, [], ◌∷◌, map, length, take, drop, Option, Some, None, Result, Ok, Err}
+use Rattle.std.specs.List.{filter, position}
+use Rattle.std.specs.Option.{option_map, unwrap_or}
+use Rattle.std.specs.Global.{Vec}
+use Rattle.cob_lines.specs.declared.Mark.{Mark}
+use Rattle.cob_tree.specs.declared.token.Num.{Num}
+use Rattle.cob_tree.specs.declared.token.Tok.{Tok}
+use Rattle.cob_tree.specs.declared.token.Tok.TheVariants as tok
+use Rattle.cob_tree.specs.declared.token.Token.{Token}
+use Rattle.cob_lex.specs.declared.LexEnd.{LexEnd}
+use Rattle.cob_lex.specs.declared.LexEnd.TheVariants.{BadToken, Memory}
+use Rattle.cob_lex.specs.declared.word.Key.{Key}
+use Rattle.cob_lex.specs.declared.cut.Shape.{Shape}
+use Rattle.cob_lex.specs.declared.cut.Shape.TheVariants.{Word, Number, Padded, Literal, Symbol, Relation, Stop, PictureString}
+use Rattle.cob_lex.specs.declared.piece.Piece.{Piece}
+use Rattle.cob_lex.specs.declared.piece.Place.{Place}
+use Rattle.cob_lex.specs.Marks.{ch_at, is_digit, content, stripped}
+use Rattle.cob_lex.specs.Words.{name, raised}
+use Rattle.cob_lex.specs.Pieces.{place, raw_tokens}
+use Rattle.cob_lex.specs.Rows.{rewritten}
+
+-- the characters as they stand
+abbrev pub characters : List Mark → List ℕ
+characters front = map (λ m. m.ch) front
+
+-- a named word is written by its name, any other as it stands, in capitals
+abbrev pub written : Key → List Mark → List ℕ
+written word front = if length (name word) == 0 then raised front else name word
+
+abbrev pub is_digit_mark : Mark → Bool
+is_digit_mark m = is_digit m.ch
+
+abbrev pub digits : List Mark → List ℕ
+digits front = map (λ m. m.ch) (filter is_digit_mark front)
+
+abbrev pub is_sign : ℕ → Bool
+is_sign ch = ch == 43 || ch == 45
+
+abbrev pub sign : List Mark → ℕ
+sign front = if is_sign (ch_at front 0) then ch_at front 0 else 0
+
+abbrev pub is_point : Mark → Bool
+is_point m = m.ch == 46
+
+abbrev pub point : List Mark → Option ℕ
+point front = position is_point front
+
+-- how many characters stand behind a point; a number has 18 at most
+abbrev pub scale : Option ℕ → ℕ → ℕ
+scale None count = 0
+scale (Some k) count = min (count - k - 1) 18
+
+abbrev pub number : List ℕ → List Mark → Num
+number zeros front = record { sign = sign front; digits = zeros; scale = scale (point front) (length front) }
+
+-- what a token of this shape is, from its characters
+abbrev pub tok_of : Shape → List Mark → Tok
+tok_of (Word word) front = tok.Word (written word front)
+tok_of Number front = tok.Number (number (digits front) front)
+tok_of Padded front = tok.Number (number (48 ∷ digits front) front)
+tok_of Literal front = tok.Text (content front)
+tok_of Symbol front = tok.Mark (ch_at front 0)
+tok_of (Relation r) front = tok.Relation r
+tok_of Stop front = tok.Stop
+tok_of PictureString front = tok.Pic (characters (stripped front))
+
+-- the characters of a token
+abbrev pub characters_of : List Mark → Piece → List Mark
+characters_of text p = take p.length (drop p.start text)
+
+abbrev pub token : List Mark → Piece → Token
+token text p = record { tok = tok_of p.shape (characters_of text p); line = p.line; column = p.column }
+
+abbrev pub canonical : List Mark → Result (List Piece) Place → Result (List Token) Place
+canonical text (Ok ps) = Ok (map (token text) (rewritten ps))
+canonical text (Err refused) = Err refused
+
+-- the canonical tokens of a text, or the place of the first token that doesn't begin or end rightly
+unfoldable pub canonical_tokens : List Mark → Result (List Token) Place
+canonical_tokens text = canonical text (raw_tokens text)
+
+-- the fact for the place of a bad token; nothing for want of memory
+abbrev pub IfBadToken : LexEnd → (Place → Type 0) → Type 0
+IfBadToken (BadToken line column) P = P (place line column)
+IfBadToken Memory P = Unit {0}

@@ -1,0 +1,60 @@
+-- The raw tokens of a text, read from left to right, or the first place at which none stands.
+use Rattle.std.specs.Prelude.{◌≡◌, ℕ, ◌+◌, ◌-◌, zero, suc, false, List, [], ◌∷◌, ◌++◌, length, drop, slice_index_or, Option, Some, None, Result, Ok, Err}
+use Rattle.std.specs.Global.{Vec}
+use Rattle.cob_lines.specs.declared.Mark.{Mark}
+use Rattle.cob_lex.specs.declared.cut.Shape.{Shape}
+use Rattle.cob_lex.specs.declared.cut.Due.TheVariants.{Nothing}
+use Rattle.cob_lex.specs.declared.cut.State.{State}
+use Rattle.cob_lex.specs.declared.cut.Cut.{Cut}
+use Rattle.cob_lex.specs.declared.piece.Piece.{Piece}
+use Rattle.cob_lex.specs.declared.piece.Place.{Place}
+use Rattle.cob_lex.specs.declared.LexEnd.{LexEnd}
+use Rattle.cob_lex.specs.declared.LexEnd.TheVariants.{BadToken, Memory}
+use Rattle.cob_lex.specs.Marks.{blank}
+use Rattle.cob_lex.specs.Cuts.{cut, after}
+
+abbrev pub place : ℕ → ℕ → Place
+place line column = record { line = line; column = column }
+
+abbrev pub place_of : Mark → Place
+place_of m = place m.line m.column
+
+-- the first character
+abbrev pub first : List Mark → Mark
+first text = slice_index_or text 0 blank
+
+-- the token that begins with this character of the text, counted from 0; none for a separator
+abbrev pub piece_list : ℕ → Mark → ℕ → Option Shape → List Piece
+piece_list start m n None = []
+piece_list start m n (Some shape) =
+    (record { shape = shape; start = start; length = n; line = m.line; column = m.column }) ∷ []
+
+abbrev pub prefixed : List Piece → Result (List Piece) Place → Result (List Piece) Place
+prefixed ps (Ok qs) = Ok (ps ++ qs)
+prefixed ps (Err refused) = Err refused
+
+-- A token or separator, and then what follows it; without one the place is refused.
+abbrev pub begun : ℕ → Mark → Option Cut → (Cut → Result (List Piece) Place) → Result (List Piece) Place
+begun start m None next = Err (place_of m)
+begun start m (Some c) next = prefixed (piece_list start m c.length c.shape) (next c)
+
+-- the tokens of a text, of which so many characters belong to the token before
+unfoldable pub read : ℕ → State → ℕ → List Mark → Result (List Piece) Place
+read start s n [] = Ok []
+read start s (suc n) (m ∷ ms) = read (start + 1) s n ms
+read start s zero (m ∷ ms) =
+    begun start m (cut s (m ∷ ms)) (λ c. read (start + 1) (after s c (m ∷ ms)) (c.length - 1) ms)
+
+-- at the beginning of a text no space stands before
+abbrev pub beginning : State
+beginning = record { free = false; due = Nothing }
+
+-- the raw tokens of a text, or the first place at which no token begins or ends rightly
+abbrev pub raw_tokens : List Mark → Result (List Piece) Place
+raw_tokens text = read 0 beginning 0 text
+
+-- the call gives what is wanted, or memory ran out
+abbrev pub Gives : Result (List Piece) Place → Result (Vec Piece) LexEnd → Type 0
+Gives wanted (Ok pieces) = wanted ≡ Ok pieces.items
+Gives wanted (Err (BadToken line column)) = wanted ≡ Err (place line column)
+Gives wanted (Err Memory) = Unit {0}

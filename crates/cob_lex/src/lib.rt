@@ -1,0 +1,75 @@
+//! The canonical tokens of a COBOL text (ISO 1989:1985, "Character-strings" and "Separators").
+#![tactic(auto)]
+
+ghost use Rattle.std.specs.Prelude.{◌≡◌, map, Ok, Err, IfOk, IfErr};
+ghost use Rattle.cob_lex.specs.Canonical.{canonical_tokens, token, IfBadToken};
+ghost use Rattle.cob_lex.specs.Rows.{rewritten};
+ghost use Rattle.cob_lex.specs.declared.LexEnd.TheVariants.{Memory};
+
+mod cut;
+mod laws;
+mod mark;
+mod piece;
+mod row;
+#[cfg(test)]
+mod tests;
+mod token;
+mod word;
+
+use cob_lines::Mark;
+use cob_tree::Token;
+pub use laws::{one_spelling, spelling_is_read};
+use piece::{Piece, raw_tokens};
+use row::rewritten;
+use std::alloc::{AllocError, AllocFailed, Global};
+use token::tokens;
+
+/// Why a text has no canonical tokens.
+#[derive(Clone, Copy, Debug, PartialEq, Eq)]
+pub enum LexEnd {
+    /// The first character of the first token that doesn't begin or end rightly.
+    BadToken { line: u32, column: u32 },
+    /// Memory ran out.
+    Memory,
+}
+
+impl<T: Drop> From<AllocFailed<T>> for LexEnd {
+    ghost from_gives = { λ _ e. e ≡ Memory };
+
+    fn from(_failed: AllocFailed<T>) -> LexEnd {
+        LexEnd::Memory
+    }
+}
+
+impl From<AllocError> for LexEnd {
+    ghost from_gives = { λ _ e. e ≡ Memory };
+
+    fn from(_failed: AllocError) -> LexEnd {
+        LexEnd::Memory
+    }
+}
+
+fn finished(alloc: Global, text: &[Mark], raw: &[Piece]) -> Result<Vec<Token>, LexEnd>
+    ensures ok { IfOk result (λ v. v.items ≡ map (token text.now) (rewritten raw.now)) }
+    ensures err { IfErr result (λ e. e ≡ Memory) }
+{
+    let canonical = rewritten(alloc, raw)?;
+    Ok(tokens(alloc, text, &canonical)?)
+}
+
+/// The canonical tokens of a text: words in capitals, numbers, literals, symbols, relations, stops
+/// and pictures, after separators are dropped and words are rewritten. A text counts as followed by
+/// a space.
+///
+/// Own to this reader: `'` is a quotation mark like `"`; ID, COMP-3, COMPUTATIONAL-3 and RECORDING
+/// are words of the language; an optional word is dropped wherever it stands.
+#[tactic(auto, using(crate::proofs::TokenLemmas::canonical_are))]
+pub fn tokens_of(alloc: Global, text: &[Mark]) -> Result<Vec<Token>, LexEnd>
+    ensures tokens { IfOk result (λ tokens. canonical_tokens text.now ≡ Ok tokens.items) }
+    ensures bad_token { IfErr result (λ end. IfBadToken end (λ place. canonical_tokens text.now ≡ Err place)) }
+{
+    match raw_tokens(alloc, text) {
+        Err(end) => Err(end),
+        Ok(raw) => finished(alloc, text, &raw),
+    }
+}
