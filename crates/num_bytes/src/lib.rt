@@ -1,0 +1,6 @@
+//! x
+#![tactic(auto)]
+
+mod digits;
+mod zoned;
+mod packed;
