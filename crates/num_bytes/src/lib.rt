@@ -4,3 +4,5 @@
 mod digits;
 mod zoned;
 mod packed;
+mod binary;
+mod edit;
