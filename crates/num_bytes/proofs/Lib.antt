@@ -1,3 +1,4 @@
 pub mod DigitLemmas
 pub mod ZonedLemmas
 pub mod PackedLemmas
+pub mod EditLemmas

@@ -1,5 +1,5 @@
 -- How numbers are shown through an edited picture.
-use Rattle.std.specs.Prelude.{◌≡◌, ◌==◌, ℕ, ◌+◌, ◌<◌, ◌≤◌, ◌^◌, Bool, true, false, ◌&&◌, ◌||◌, if◌then◌else◌, List, [], ◌∷◌, length, replicate, count_by, slice_index, ℤ, pos, negsuc, unsigned_abs}
+use Rattle.std.specs.Prelude.{◌≡◌, ◌==◌, ℕ, ◌+◌, ◌<◌, ◌≤◌, ◌^◌, Bool, true, false, ◌&&◌, ◌||◌, not, if◌then◌else◌, List, [], ◌∷◌, length, replicate, count_by, slice_index, ℤ, pos, negsuc, unsigned_abs}
 use Rattle.std.specs.List.{list_all}
 use Rattle.cob_tree.specs.declared.form.Form.{Form}
 use Rattle.cob_tree.specs.declared.form.Form.TheVariants.{Group, Text, Number, Edited}
@@ -37,7 +37,7 @@ begins_suppressed picture = slice_index picture 0 == 90
 
 -- each place is a Z
 abbrev pub all_suppressed : List ℕ → Bool
-all_suppressed picture = list_all (λ c. if c == 57 then false else true) picture
+all_suppressed picture = list_all (λ c. not (c == 57)) picture
 
 -- the bytes of a number in an edited item of this picture
 abbrev pub edited_bytes : List ℕ → ℕ → List ℕ

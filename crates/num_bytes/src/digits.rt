@@ -5,9 +5,11 @@ ghost use Rattle.num_bytes.specs.Digits.{digits_in, digit_text, last_digits, num
 use dec_num::pow10;
 
 /// `10^k`.
+#[tactic(auto, using(dec_num::proofs::Powers::ten_positive))]
 pub(crate) fn ten(k: u32) -> u64
     requires { k ≤ 18 }
-    ensures { result ≡ 10 ^ k }
+    ensures value { result ≡ 10 ^ k }
+    ensures positive { 1 ≤ result }
 {
     pow10(k) as u64
 }
