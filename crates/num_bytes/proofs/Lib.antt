@@ -2,3 +2,4 @@ pub mod DigitLemmas
 pub mod ZonedLemmas
 pub mod PackedLemmas
 pub mod EditLemmas
+pub mod RoundTrip

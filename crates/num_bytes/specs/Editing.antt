@@ -1,9 +1,10 @@
 -- How numbers are shown through an edited picture.
-use Rattle.std.specs.Prelude.{◌≡◌, ◌==◌, ℕ, ◌+◌, ◌<◌, ◌≤◌, ◌^◌, Bool, true, false, ◌&&◌, ◌||◌, not, if◌then◌else◌, List, [], ◌∷◌, length, replicate, count_by, slice_index, ℤ, pos, negsuc, unsigned_abs}
+use Rattle.std.specs.Prelude.{◌≡◌, ◌==◌, ℕ, ◌+◌, ◌≤◌, IsTrue, Bool, true, false, ◌&&◌, ◌||◌, not, if◌then◌else◌, List, [], ◌∷◌, length, replicate, count_by, slice_index, ℤ, unsigned_abs}
 use Rattle.std.specs.List.{list_all}
 use Rattle.cob_tree.specs.declared.form.Form.{Form}
 use Rattle.cob_tree.specs.declared.form.Form.TheVariants.{Group, Text, Number, Edited}
 use Rattle.num_bytes.specs.Digits.{digit_at}
+use Rattle.num_bytes.specs.Reading.{is_own}
 
 -- 9 and Z are the places of digits
 abbrev pub is_place : ℕ → Bool
@@ -52,18 +53,13 @@ edit_bytes (Text length) z = []
 edit_bytes (Number digits scale signed usage) z = []
 edit_bytes (Edited picture digits scale) z = edited_bytes picture (unsigned_abs z)
 
--- the numbers from 0 of so many digits
-abbrev pub IsUnsignedBelow : ℕ → ℤ → Type 0
-IsUnsignedBelow digits (pos n) = n < 10 ^ digits
-IsUnsignedBelow digits (negsuc n) = ⊥
-
 -- an edited item of 1 to 18 digits whose picture has as many places, with its bytes, and a number that they hold
 pub record CanEditNumber (picture : List ℕ) (digits : ℕ) (z : ℤ) (bytes : ℕ) : Type 0 where
   pub places : place_count picture ≡ digits
   pub some_digits : 1 ≤ digits
   pub at_most_18 : digits ≤ 18
   pub whole : bytes ≡ length picture
-  pub held : IsUnsignedBelow digits z
+  pub held : IsTrue (is_own digits false z)
 
 abbrev pub CanEdit : Form → ℤ → ℕ → Type 0
 CanEdit Group z bytes = ⊥

@@ -27,7 +27,7 @@ fn from_bytes(digits: u32, bytes: &[u8]) -> i64
 }
 
 // Whether an item of so many digits has the number.
-fn is_in_range(digits: u32, signed: bool, number: i64) -> bool
+pub(crate) fn is_in_range(digits: u32, signed: bool, number: i64) -> bool
     requires { digits ≤ 18 }
     ensures { result ≡ is_own digits signed number }
 {

@@ -9,5 +9,8 @@ mod packed;
 mod picture;
 mod zoned;
 
+#[cfg(test)]
+mod tests;
+
 pub use contents::{is_numeric, put, value};
 pub use picture::edit;

@@ -6,7 +6,7 @@ use crate::digits::ten;
 use cob_tree::Form;
 
 // Whether the symbol is the place of a digit.
-fn is_digit_place(symbol: u8) -> bool
+pub(crate) fn is_digit_place(symbol: u8) -> bool
     ensures { result ≡ is_place symbol }
 {
     symbol == b'9' || symbol == b'Z'
