@@ -15,6 +15,7 @@ use Rattle.num_bytes.specs.Digits.{number_of, signed_number, last_digits, digit_
 use Rattle.num_bytes.specs.Reading.{half_bytes, packed_digits, packed_sign, packed_value, front, last}
 use Rattle.num_bytes.specs.Writing.{packed}
 use Rattle.num_bytes.proofs.DigitLemmas.{rest_more}
+
 pub half_bytes-append : (xs ys : List ℕ) → half_bytes (xs ++ ys) ≡ half_bytes xs ++ half_bytes ys
 half_bytes-append [] ys = refl
 half_bytes-append (x ∷ xs) ys = ap (λ hs. x / 16 ∷ x % 16 ∷ hs) (half_bytes-append xs ys)
@@ -42,7 +43,6 @@ hundred_monotone j k h = pow-le-pow_right (omega arith) h
 
 pub halves_fit : (i n : ℕ) → i < 9 → n < 100 ^ i → n * 100 + 100 ≤ 10 ^ 18
 halves_fit i n small below = omega (arith, hundred_monotone i 8 (omega arith))
-
 
 pub halves_digits : (p : ℕ → Bool) (bs : List ℕ) (i : ℕ) → i < length bs → list_all p (half_bytes (take i bs)) ≡ true →
     p (get_or bs i 0 / 16) ≡ true → p (get_or bs i 0 % 16) ≡ true → list_all p (half_bytes (take (i + 1) bs)) ≡ true
@@ -112,7 +112,7 @@ pub spare_bad : (digits : ℕ) (signed : Bool) (bs : List ℕ) → 1 ≤ digits 
     None ≡ packed_value digits signed bs
 spare_bad digits signed bs some count even first =
     let test : list_all (λ h. h == 0) (take (length (packed_digits bs) - digits) (packed_digits bs)) ≡ false =
-        ap (list_all (λ h. h == 0)) (spare_one digits bs some count even) ∙ and_left _ true (ne_eqb (get_or bs 0 0 / 16) 0 first) in
+    ap (list_all (λ h. h == 0)) (spare_one digits bs some count even) ∙ and_left _ true (ne_eqb (get_or bs 0 0 / 16) 0 first) in
     let both_tests = and_left _ (list_all (λ h. nat_lt h 10) (packed_digits bs)) test in
     ap (λ b. if b then option_map (λ minus. signed_number minus (number_of (packed_digits bs))) (packed_sign signed (last bs % 16)) else None) (sym both_tests)
 
@@ -128,16 +128,16 @@ number_below : (digits : ℕ) (hs : List ℕ) → length hs ≤ digits + 1 → l
 number_below digits [] count spare all = omega (arith, ten_positive digits)
 number_below digits (h ∷ hs) count spare all =
     elim (cases_lt digits (length (h ∷ hs))) as (λ _. number_of (h ∷ hs) < 10 ^ digits) [
-      inl more ↦
-        let one : length (h ∷ hs) - digits ≡ 1 = omega arith in
-        let first = ap (λ k. list_all (λ x. x == 0) (take k (h ∷ hs))) (sym one) ∙ spare in
-        let zero_first : h ≡ 0 = eqb-true h 0 (and_parts (h == 0) true first).0 in
-        let parts = and_parts (nat_lt h 10) (list_all (λ x. nat_lt x 10) hs) all in
-        let rest = number_lt 10 hs (below_base hs parts.1) in
-        let same : length hs ≡ digits = omega arith in
-        let shorter : number_of (h ∷ hs) ≡ number_of hs = ap (λ d. number_of (d ∷ hs)) zero_first in
-        rw shorter (rw (← same) rest)
-    | inr enough ↦ omega (arith, number_lt 10 (h ∷ hs) (below_base (h ∷ hs) all), ten_monotone (length (h ∷ hs)) digits enough)
+      | inl more ↦
+          let one : length (h ∷ hs) - digits ≡ 1 = omega arith in
+          let first = ap (λ k. list_all (λ x. x == 0) (take k (h ∷ hs))) (sym one) ∙ spare in
+          let zero_first : h ≡ 0 = eqb-true h 0 (and_parts (h == 0) true first).0 in
+          let parts = and_parts (nat_lt h 10) (list_all (λ x. nat_lt x 10) hs) all in
+          let rest = number_lt 10 hs (below_base hs parts.1) in
+          let same : length hs ≡ digits = omega arith in
+          let shorter : number_of (h ∷ hs) ≡ number_of hs = ap (λ d. number_of (d ∷ hs)) zero_first in
+          rw shorter (rw (← same) rest)
+      | inr enough ↦ omega (arith, number_lt 10 (h ∷ hs) (below_base (h ∷ hs) all), ten_monotone (length (h ∷ hs)) digits enough)
     ]
 
 -- what the half bytes before the sign are

@@ -16,21 +16,21 @@ place_count picture = count_by is_place picture
 -- whether zeros are still suppressed after a symbol: a 9 and the point end it, and a Z whose digit isn't 0
 abbrev pub still_suppressed : Bool → ℕ → ℕ → Bool
 still_suppressed on c digit =
-  on && (if c == 57 || c == 46 then false else (if c == 90 then digit == 0 else true))
+    on && (if c == 57 || c == 46 then false else (if c == 90 then digit == 0 else true))
 
 -- What a symbol shows. `on` says whether zeros are still suppressed after it. The point shows itself, as do the
 -- insertions 0, / and the comma where nothing is suppressed; B shows a space.
 abbrev pub shown : Bool → ℕ → ℕ → ℕ
 shown on c digit =
-  if on then 32 else (if is_place c then 48 + digit else (if c == 66 then 32 else c))
+    if on then 32 else (if is_place c then 48 + digit else (if c == 66 then 32 else c))
 
 -- From left to right. The digit of a place has the weight of the places to its right.
 abbrev pub edited : Bool → List ℕ → ℕ → List ℕ
 edited on [] v = []
 edited on (c ∷ cs) v =
-  let digit = digit_at (place_count cs) v in
-  let after = still_suppressed on c digit in
-  shown after c digit ∷ edited after cs v
+    let digit = digit_at (place_count cs) v in
+    let after = still_suppressed on c digit in
+    shown after c digit ∷ edited after cs v
 
 -- suppression is on at first where the picture begins with Z
 abbrev pub begins_suppressed : List ℕ → Bool
@@ -43,8 +43,8 @@ all_suppressed picture = list_all (λ c. not (c == 57)) picture
 -- the bytes of a number in an edited item of this picture
 abbrev pub edited_bytes : List ℕ → ℕ → List ℕ
 edited_bytes picture v =
-  if v == 0 && all_suppressed picture then replicate (length picture) 32
-  else edited (begins_suppressed picture) picture v
+    if v == 0 && all_suppressed picture then replicate (length picture) 32
+    else edited (begins_suppressed picture) picture v
 
 -- the bytes of a number in an item; only edited items have some
 abbrev pub edit_bytes : Form → ℤ → List ℕ

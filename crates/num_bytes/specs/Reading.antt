@@ -29,17 +29,17 @@ unsigned_value bs = option_map (λ ds. pos (number_of ds)) (digits_in bs)
 -- positive number; } and J to R for 0 to 9 of a negative one.
 abbrev pub signed_digit : ℕ → Option (Bool × ℕ)
 signed_digit b =
-  if nat_le 48 b && nat_le b 57 then Some (false, b - 48)
-  else (if b == 123 then Some (false, 0)
-  else (if nat_le 65 b && nat_le b 73 then Some (false, b - 64)
-  else (if b == 125 then Some (true, 0)
-  else (if nat_le 74 b && nat_le b 82 then Some (true, b - 73)
-  else None))))
+    if nat_le 48 b && nat_le b 57 then Some (false, b - 48)
+    else (if b == 123 then Some (false, 0)
+    else (if nat_le 65 b && nat_le b 73 then Some (false, b - 64)
+    else (if b == 125 then Some (true, 0)
+    else (if nat_le 74 b && nat_le b 82 then Some (true, b - 73)
+    else None))))
 
 -- DISPLAY with the sign in the last digit
 abbrev pub overpunched_value : List ℕ → Option ℤ
 overpunched_value bs =
-  both (λ ds d. signed_number d.0 (number_of (ds ++ d.1 ∷ []))) (digits_in (front bs)) (signed_digit (last bs))
+    both (λ ds d. signed_number d.0 (number_of (ds ++ d.1 ∷ []))) (digits_in (front bs)) (signed_digit (last bs))
 
 -- whether a separate sign says that the number is negative
 abbrev pub separate_sign : ℕ → Option Bool
@@ -66,7 +66,7 @@ twos_complement w bs = cast_signed w (from_be_bytes w bs)
 
 abbrev pub binary_value : ℕ → Bool → List ℕ → Option ℤ
 binary_value digits signed bs =
-  let z = twos_complement (binary_width digits) bs in if is_own digits signed z then Some z else None
+    let z = twos_complement (binary_width digits) bs in if is_own digits signed z then Some z else None
 
 -- the half bytes, the higher one of each byte first
 abbrev pub half_bytes : List ℕ → List ℕ
@@ -77,8 +77,8 @@ half_bytes (b ∷ bs) = b / 16 ∷ b % 16 ∷ half_bytes bs
 -- where the item has a sign
 abbrev pub packed_sign : Bool → ℕ → Option Bool
 packed_sign signed h =
-  if h == 10 || h == 12 || h == 14 || h == 15 then Some false
-  else (if signed && (h == 11 || h == 13) then Some true else None)
+    if h == 10 || h == 12 || h == 14 || h == 15 then Some false
+    else (if signed && (h == 11 || h == 13) then Some true else None)
 
 -- all half bytes but the last one
 abbrev pub packed_digits : List ℕ → List ℕ
@@ -87,10 +87,10 @@ packed_digits bs = half_bytes (front bs) ++ last bs / 16 ∷ []
 -- A packed item of an even number of digits has a half byte to spare before them, which is 0.
 abbrev pub packed_value : ℕ → Bool → List ℕ → Option ℤ
 packed_value digits signed bs =
-  let hs = packed_digits bs in
-  if list_all (λ h. h == 0) (take (length hs - digits) hs) && list_all (λ h. nat_lt h 10) hs
-  then option_map (λ minus. signed_number minus (number_of hs)) (packed_sign signed (last bs % 16))
-  else None
+    let hs = packed_digits bs in
+    if list_all (λ h. h == 0) (take (length hs - digits) hs) && list_all (λ h. nat_lt h 10) hs
+    then option_map (λ minus. signed_number minus (number_of hs)) (packed_sign signed (last bs % 16))
+    else None
 
 abbrev pub display_value : Bool → List ℕ → Option ℤ
 display_value true bs = overpunched_value bs

@@ -24,7 +24,7 @@ sign_byte minus = if minus then 45 else 43
 
 abbrev pub display_bytes : ℕ → Bool → ℤ → List ℕ
 display_bytes digits true z =
-  let size = unsigned_abs z in digit_text (last_digits (digits - 1) (size / 10)) ++ overpunched_digit (is_minus z) (size % 10) ∷ []
+    let size = unsigned_abs z in digit_text (last_digits (digits - 1) (size / 10)) ++ overpunched_digit (is_minus z) (size % 10) ∷ []
 display_bytes digits false z = digit_text (last_digits digits (unsigned_abs z))
 
 -- two half bytes a byte
@@ -45,7 +45,7 @@ number_bytes digits signed Leading z = sign_byte (is_minus z) ∷ digit_text (la
 number_bytes digits signed Trailing z = digit_text (last_digits digits (unsigned_abs z)) ++ sign_byte (is_minus z) ∷ []
 number_bytes digits signed Binary z = let w = binary_width digits in to_be_bytes w (cast_unsigned w z)
 number_bytes digits signed Packed z =
-  packed (last_digits (2 * (digits / 2) + 1) (unsigned_abs z) ++ sign_half signed (is_minus z) ∷ [])
+    packed (last_digits (2 * (digits / 2) + 1) (unsigned_abs z) ++ sign_half signed (is_minus z) ∷ [])
 
 -- the bytes of a number in an item; groups, alphanumeric and edited items take none
 abbrev pub contents_bytes : Form → ℤ → List ℕ

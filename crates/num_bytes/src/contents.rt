@@ -8,7 +8,8 @@ use crate::binary::{read_binary, write_binary};
 use crate::digits::write_digits;
 use crate::packed::{read_packed, write_packed};
 use crate::zoned::{
-    read_leading, read_overpunched, read_trailing, read_unsigned, write_leading, write_overpunched, write_trailing,
+    read_leading, read_overpunched, read_trailing, read_unsigned, write_leading, write_overpunched,
+    write_trailing,
 };
 use cob_tree::{Form, Usage};
 
@@ -92,6 +93,7 @@ pub fn is_numeric(form: &Form, bytes: &[u8]) -> bool
 pub fn put(form: &Form, value: i64, bytes: &mut [u8])
     requires { CanHold form.now value (length bytes.old) }
     ensures written { bytes.new ≡ contents_bytes form.now value }
+    ensures read_back { contents_value form.now bytes.new ≡ Some value }
 {
     if let Form::Number {
         digits,

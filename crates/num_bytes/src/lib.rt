@@ -7,10 +7,9 @@ mod contents;
 mod digits;
 mod packed;
 mod picture;
-mod zoned;
-
 #[cfg(test)]
 mod tests;
+mod zoned;
 
 pub use contents::{is_numeric, put, value};
 pub use picture::edit;

@@ -49,7 +49,10 @@ fn place_count_of(picture: &[u8]) -> u32
     requires { place_count picture.now ≤ 18 }
     ensures { result ≡ place_count picture.now }
 {
-    picture.iter().filter(|symbol| is_digit_place(**symbol)).count() as u32
+    picture
+        .iter()
+        .filter(|symbol| is_digit_place(**symbol))
+        .count() as u32
 }
 
 // How many places of digits stand behind the symbol, from their number with the symbol.
@@ -57,7 +60,11 @@ fn places_behind(symbol: u8, places: u32) -> u32
     requires { (if is_place symbol then 1 else 0) ≤ places }
     ensures { places ≡ (if is_place symbol then 1 else 0) + result }
 {
-    if is_digit_place(symbol) { places - 1 } else { places }
+    if is_digit_place(symbol) {
+        places - 1
+    } else {
+        places
+    }
 }
 
 // Whether each place is a Z.

@@ -14,14 +14,14 @@ overflow_add-number c =
 pub loop-byte-preserved : goal.loop-byte-preserved
 loop-byte-preserved c = record {
   digits =
-    all_more is_ascii_digit c.args.text.now c.loop-byte.byte-index c.loop-byte-test.true c.loop-byte.invariant.digits
-    (sym c.is_ascii_digit.ensures.value ∙ c.if-not-is_ascii_digit.false);
+      all_more is_ascii_digit c.args.text.now c.loop-byte.byte-index c.loop-byte-test.true c.loop-byte.invariant.digits
+      (sym c.is_ascii_digit.ensures.value ∙ c.if-not-is_ascii_digit.false);
   number =
-    number_more c.args.text.now c.loop-byte.byte-index c.loop-byte.number c.from.result c.loop-byte-test.true c.loop-byte.invariant.number
-    c.from.ensures;
+      number_more c.args.text.now c.loop-byte.byte-index c.loop-byte.number c.from.result c.loop-byte-test.true c.loop-byte.invariant.number
+      c.from.ensures;
   bound =
-    bound_more c.loop-byte.byte-index c.loop-byte.number c.from.result c.loop-byte.invariant.bound
-    (omega (arith, c.if-not-is_ascii_digit.ensures.cases));
+      bound_more c.loop-byte.byte-index c.loop-byte.number c.from.result c.loop-byte.invariant.bound
+      (omega (arith, c.if-not-is_ascii_digit.ensures.cases));
 }
 
 pub returns-clause-bound : goal.returns-clause-bound

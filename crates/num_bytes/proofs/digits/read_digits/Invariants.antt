@@ -8,5 +8,5 @@ abbrev pub invariant-loop-byte : goal.invariant-loop-byte
 invariant-loop-byte l = record {
   digits : list_all is_ascii_digit (take l.byte-index l.text) ≡ true;
   number : l.number ≡ number_of (map (λ b. b - 48) (take l.byte-index l.text));
-  bound : l.number < 10 ^ l.byte-index
+  bound : l.number < 10 ^ l.byte-index;
 }

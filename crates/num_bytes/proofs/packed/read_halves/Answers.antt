@@ -11,8 +11,8 @@ returns-then-high-gt9-clause-value c =
     let high = get_or c.args.bytes.now c.loop-byte.byte-index 0 / 16 in
     let low = get_or c.args.bytes.now c.loop-byte.byte-index 0 % 16 in
     let bad : (nat_lt high 10 && nat_lt low 10) ≡ false = elim c.then-high-gt9.branch [
-      then-high-gt9-via-then-high-gt9 w ↦ and_left (nat_lt high 10) (nat_lt low 10) (le-ltb high 10 (omega arith))
-    | then-high-gt9-via-else-high-gt9+then-low-gt9 w ↦ and_right (nat_lt high 10) (nat_lt low 10) (le-ltb low 10 (omega arith))
+      | then-high-gt9-via-then-high-gt9 w ↦ and_left (nat_lt high 10) (nat_lt low 10) (le-ltb high 10 (omega arith))
+      | then-high-gt9-via-else-high-gt9+then-low-gt9 w ↦ and_right (nat_lt high 10) (nat_lt low 10) (le-ltb low 10 (omega arith))
     ] in
     ap (λ b. if b then Some (number_of (half_bytes c.args.bytes.now)) else None)
     (sym (halves_bad (λ h. nat_lt h 10) c.args.bytes.now c.loop-byte.byte-index c.loop-byte-test.true bad))
@@ -32,15 +32,15 @@ overflow_add-number-in-loop-byte c = omega (arith, halves_fit c.loop-byte.byte-i
 pub loop-byte-preserved : goal.loop-byte-preserved
 loop-byte-preserved c = record {
   digits =
-    halves_digits (λ h. nat_lt h 10) c.args.bytes.now c.loop-byte.byte-index c.loop-byte-test.true c.loop-byte.invariant.digits
-    (lt-ltb (get_or c.args.bytes.now c.loop-byte.byte-index 0 / 16) 10 (omega arith))
-    (lt-ltb (get_or c.args.bytes.now c.loop-byte.byte-index 0 % 16) 10 (omega arith));
+      halves_digits (λ h. nat_lt h 10) c.args.bytes.now c.loop-byte.byte-index c.loop-byte-test.true c.loop-byte.invariant.digits
+      (lt-ltb (get_or c.args.bytes.now c.loop-byte.byte-index 0 / 16) 10 (omega arith))
+      (lt-ltb (get_or c.args.bytes.now c.loop-byte.byte-index 0 % 16) 10 (omega arith));
   number =
-    halves_number c.args.bytes.now c.loop-byte.byte-index c.loop-byte.number c.from-high.result c.from-low.result c.loop-byte-test.true
-    c.loop-byte.invariant.number c.from-high.ensures c.from-low.ensures;
+      halves_number c.args.bytes.now c.loop-byte.byte-index c.loop-byte.number c.from-high.result c.from-low.result c.loop-byte-test.true
+      c.loop-byte.invariant.number c.from-high.ensures c.from-low.ensures;
   bound =
-    halves_bound c.loop-byte.byte-index c.loop-byte.number c.from-high.result c.from-low.result c.loop-byte.invariant.bound
-    (omega arith) (omega arith);
+      halves_bound c.loop-byte.byte-index c.loop-byte.number c.from-high.result c.from-low.result c.loop-byte.invariant.bound
+      (omega arith) (omega arith);
 }
 
 pub returns-clause-bound : goal.returns-clause-bound

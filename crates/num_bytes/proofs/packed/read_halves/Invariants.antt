@@ -8,5 +8,5 @@ abbrev pub invariant-loop-byte : goal.invariant-loop-byte
 invariant-loop-byte l = record {
   digits : list_all (λ h. nat_lt h 10) (half_bytes (take l.byte-index l.bytes)) ≡ true;
   number : l.number ≡ number_of (half_bytes (take l.byte-index l.bytes));
-  bound : l.number < 100 ^ l.byte-index
+  bound : l.number < 100 ^ l.byte-index;
 }

@@ -14,25 +14,25 @@ returns-then-bytes-ne0 c =
 pub signed-requires : goal.signed-requires
 signed-requires c =
     let no_spare : HasNoSpare c.args.digits c.args.bytes.now = elim c.else-digits-eq0.branch [
-      else-digits-eq0-via-then-digits-eq0+else-bytes-ne0 w ↦
-        no_spare_even c.args.digits c.args.bytes.now c.requires.digits.0 c.requires.length w.if-digits-eq0.true w.if-bytes-ne0.false
-    | else-digits-eq0-via-else-digits-eq0 w ↦ no_spare_odd c.args.digits c.args.bytes.now c.requires.length (omega arith)
+      | else-digits-eq0-via-then-digits-eq0+else-bytes-ne0 w ↦
+          no_spare_even c.args.digits c.args.bytes.now c.requires.digits.0 c.requires.length w.if-digits-eq0.true w.if-bytes-ne0.false
+      | else-digits-eq0-via-else-digits-eq0 w ↦ no_spare_odd c.args.digits c.args.bytes.now c.requires.length (omega arith)
     ] in
     let has : HasPackedNumber c.args.digits c.args.bytes.now (c.in_ok-number.number * 10 + c.from.result) =
-        packed_number c.args.digits c.args.bytes.now c.in_ok-number.number c.from.result c.requires.length no_spare
-        (grind (arith, common_steps, c.in_ok-number.ensures.value)) c.from.ensures (omega arith) in
+    packed_number c.args.digits c.args.bytes.now c.in_ok-number.number c.from.result c.requires.length no_spare
+    (grind (arith, common_steps, c.in_ok-number.ensures.value)) c.from.ensures (omega arith) in
     omega (arith, has.below, ten_monotone c.args.digits 18 c.requires.digits.1)
 
 pub returns : goal.returns
 returns c =
     let no_spare : HasNoSpare c.args.digits c.args.bytes.now = elim c.else-digits-eq0.branch [
-      else-digits-eq0-via-then-digits-eq0+else-bytes-ne0 w ↦
-        no_spare_even c.args.digits c.args.bytes.now c.requires.digits.0 c.requires.length w.if-digits-eq0.true w.if-bytes-ne0.false
-    | else-digits-eq0-via-else-digits-eq0 w ↦ no_spare_odd c.args.digits c.args.bytes.now c.requires.length (omega arith)
+      | else-digits-eq0-via-then-digits-eq0+else-bytes-ne0 w ↦
+          no_spare_even c.args.digits c.args.bytes.now c.requires.digits.0 c.requires.length w.if-digits-eq0.true w.if-bytes-ne0.false
+      | else-digits-eq0-via-else-digits-eq0 w ↦ no_spare_odd c.args.digits c.args.bytes.now c.requires.length (omega arith)
     ] in
     let has : HasPackedNumber c.args.digits c.args.bytes.now (c.in_ok-number.number * 10 + c.from.result) =
-        packed_number c.args.digits c.args.bytes.now c.in_ok-number.number c.from.result c.requires.length no_spare
-        (grind (arith, common_steps, c.in_ok-number.ensures.value)) c.from.ensures (omega arith) in
+    packed_number c.args.digits c.args.bytes.now c.in_ok-number.number c.from.result c.requires.length no_spare
+    (grind (arith, common_steps, c.in_ok-number.ensures.value)) c.from.ensures (omega arith) in
     let fits : SFits w64 c.signed.result = search rules in
     ap Some (to_z-of_z w64 c.signed.result fits ∙ c.signed.ensures)
     ∙ packed_is c.args.digits c.args.is_signed c.args.bytes.now _ c.in_ok-minus.minus no_spare has c.in_ok-minus.ensures

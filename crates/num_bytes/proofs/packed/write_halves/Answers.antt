@@ -9,9 +9,9 @@ loop-at-preserved c =
     record {
       within = omega (arith, length-set c.loop-at.bytes (c.loop-at.at - 1) byte, c.loop-at.invariant.within);
       rest =
-        packed_rest_step c.loop-at.bytes c.loop-at.at c.args.size c.loop-at.rest byte c.loop-at-test.true c.loop-at.invariant.within
-        c.loop-at.invariant.rest;
+          packed_rest_step c.loop-at.bytes c.loop-at.at c.args.size c.loop-at.rest byte c.loop-at-test.true c.loop-at.invariant.within
+          c.loop-at.invariant.rest;
       written =
-        packed_step c.loop-at.bytes c.loop-at.at c.args.size c.loop-at.rest byte c.args.last c.loop-at-test.true c.loop-at.invariant.within
-        c.loop-at.invariant.rest refl c.loop-at.invariant.written;
+          packed_step c.loop-at.bytes c.loop-at.at c.args.size c.loop-at.rest byte c.args.last c.loop-at-test.true c.loop-at.invariant.within
+          c.loop-at.invariant.rest refl c.loop-at.invariant.written;
     }

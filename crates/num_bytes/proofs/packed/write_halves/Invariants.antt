@@ -7,5 +7,5 @@ abbrev pub invariant-loop-at : goal.invariant-loop-at
 invariant-loop-at l = record {
   within : l.at < length l.bytes;
   rest : l.rest ≡ l.size / 10 ^ (2 * (length l.bytes - l.at) - 1);
-  written : drop l.at l.bytes ≡ packed (last_digits (2 * (length l.bytes - l.at) - 1) l.size ++ l.last ∷ [])
+  written : drop l.at l.bytes ≡ packed (last_digits (2 * (length l.bytes - l.at) - 1) l.size ++ l.last ∷ []);
 }

@@ -6,5 +6,5 @@ abbrev pub invariant-loop-at : goal.invariant-loop-at
 invariant-loop-at l = record {
   at_most_18 : l.places ≤ 18;
   places : l.places ≡ place_count (drop l.at l.picture);
-  written : take l.at l.bytes ++ edited l.suppressed (drop l.at l.picture) l.number ≡ edited (begins_suppressed l.picture) l.picture l.number
+  written : take l.at l.bytes ++ edited l.suppressed (drop l.at l.picture) l.number ≡ edited (begins_suppressed l.picture) l.picture l.number;
 }

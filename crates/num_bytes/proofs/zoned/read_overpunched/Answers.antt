@@ -10,4 +10,4 @@ returns c =
     let fits : SFits w64 c.signed.result = search rules in
     ap Some (to_z-of_z w64 c.signed.result fits ∙ c.signed.ensures)
     ∙ overpunched_is c.args.bytes.now c.in_ok-number.number c.in_ok-minus.minus c.in_ok-minus.digit
-      (grind (arith, common_steps, c.in_ok-number.ensures.value)) c.in_ok-minus.ensures.value
+    (grind (arith, common_steps, c.in_ok-number.ensures.value)) c.in_ok-minus.ensures.value
