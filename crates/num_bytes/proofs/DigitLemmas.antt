@@ -1,15 +1,13 @@
 -- Digits read one after another, and written from the last one on.
-use Rattle.std.proofs.Common.{◌≡◌, ℕ, ◌+◌, ◌-◌, ◌*◌, ◌/◌, ◌%◌, ◌^◌, ◌<◌, ◌≤◌, zero, suc, Bool, true, false, List, [], ◌∷◌, ◌++◌, length, get_or, take, drop, set, map, refl, ap, ◌∙◌, sym, arith, rules}
+use Rattle.std.proofs.Common.{◌≡◌, ℕ, ◌+◌, ◌-◌, ◌*◌, ◌/◌, ◌%◌, ◌^◌, ◌<◌, ◌≤◌, zero, suc, Bool, true, List, ◌∷◌, length, get_or, take, drop, set, map, refl, ap, ◌∙◌, sym, arith}
 use Rattle.std.proofs.lemmas.List.{map_more, drop-set, length-set}
-use Rattle.std.proofs.lemmas.List.Folds.{list_all_more, list_all_at}
+use Rattle.std.proofs.lemmas.List.Folds.{list_all_more}
 use Rattle.std.proofs.lemmas.Int.Digits.{number_push}
-use Rattle.std.proofs.lemmas.Nat.{pow-add}
 use Rattle.std.proofs.lemmas.Grind.{pow_more}
 use Rattle.std.proofs.Math.Nat.{div-div-eq-div-mul}
 use Rattle.std.specs.List.{list_all}
-use Rattle.std.specs.Char.{is_ascii_digit}
 use Rattle.dec_num.proofs.Powers.{ten_monotone}
-use Rattle.num_bytes.specs.Digits.{number_of, last_digits, digit_text, digit_at}
+use Rattle.num_bytes.specs.Digits.{number_of, last_digits, digit_text}
 
 pub number_more : (bs : List ℕ) (i n x : ℕ) → i < length bs → n ≡ number_of (map (λ b. b - 48) (take i bs)) → x ≡ get_or bs i 0 - 48 →
     n * 10 + x ≡ number_of (map (λ b. b - 48) (take (i + 1) bs))

@@ -1,7 +1,7 @@
 -- What is written reads back.
-use Rattle.std.proofs.Common.{◌≡◌, ◌==◌, ℕ, ◌+◌, ◌-◌, ◌*◌, ◌/◌, ◌%◌, ◌^◌, ◌<◌, ◌≤◌, zero, suc, nat_lt, nat_le, Bool, true, false, ◌&&◌, ◌||◌, if◌then◌else◌, IsTrue, List, [], ◌∷◌, ◌++◌, map, length, get_or, take, drop, set, refl, ap, ◌∙◌, sym, inl, inr, arith, rules, Option, Some, None, ℤ, pos, negsuc, unsigned_abs}
-use Rattle.std.proofs.lemmas.Bool.{and_left, and_from, and_parts, le-leb, lt-ltb, ltb-true, eq-eqb, cases_lt, cond_both, leb-true}
-use Rattle.std.proofs.lemmas.List.{append_assoc, length-append, length-take-le, take_at, take_all, take_more, get_or_at, take-append-drop, drop_more, drop_all, same_from_push, append-nil}
+use Rattle.std.proofs.Common.{◌≡◌, ◌==◌, ℕ, ◌+◌, ◌-◌, ◌*◌, ◌/◌, ◌%◌, ◌^◌, ◌<◌, ◌≤◌, zero, suc, nat_lt, nat_le, Bool, true, false, ◌&&◌, if◌then◌else◌, List, [], ◌∷◌, ◌++◌, map, length, take, refl, ap, ◌∙◌, sym, inl, inr, arith, Option, Some, None, ℤ, pos, negsuc, unsigned_abs}
+use Rattle.std.proofs.lemmas.Bool.{and_from, and_parts, le-leb, lt-ltb, ltb-true, eq-eqb, cases_lt, cond_both, leb-true}
+use Rattle.std.proofs.lemmas.List.{append_assoc, length-append, take_at, take_all, take_more, get_or_at, same_from_push}
 use Rattle.std.proofs.lemmas.Int.Digits.{number_push}
 use Rattle.std.proofs.lemmas.Grind.{pow_more}
 use Rattle.std.proofs.lemmas.Nat.{div-add-mod', mod_below, div_below, from_be_bytes-to_be_bytes_2, from_be_bytes-to_be_bytes_4, from_be_bytes-to_be_bytes_8}

@@ -1,4 +1,4 @@
-use Rattle.std.proofs.Common.{◌≡◌, ◌/◌, ◌-◌, ◌^◌, ◌≤◌, drop, length}
+use Rattle.std.proofs.Common.{◌≡◌, ◌/◌, ◌-◌, ◌^◌, drop, length}
 use Rattle.num_bytes.specs.Digits.{digit_text, last_digits}
 use Rattle.num_bytes.proofs.digits.write_digits.Given as goal
 

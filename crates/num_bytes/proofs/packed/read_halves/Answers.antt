@@ -1,4 +1,4 @@
-use Rattle.std.proofs.Common.{◌≡◌, ◌<◌, ◌/◌, ◌%◌, ◌&&◌, ℕ, false, nat_lt, get_or, arith, if◌then◌else◌, Option, Some, None, ap, sym}
+use Rattle.std.proofs.Common.{◌≡◌, ◌/◌, ◌%◌, ◌&&◌, false, nat_lt, get_or, arith, if◌then◌else◌, Some, None, ap, sym}
 use Rattle.std.proofs.lemmas.Bool.{lt-ltb, le-ltb, and_left, and_right}
 use Rattle.num_bytes.specs.Digits.{number_of}
 use Rattle.num_bytes.specs.Reading.{half_bytes}

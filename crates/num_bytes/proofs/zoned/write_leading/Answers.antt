@@ -1,6 +1,5 @@
 use Rattle.std.proofs.Common.{arith, ◌≡◌, ◌∷◌, ◌-◌, ap, ◌∙◌, length, take, drop, set}
 use Rattle.std.proofs.lemmas.List.{length-set}
-use Rattle.num_bytes.specs.Digits.{digit_text, last_digits}
 use Rattle.num_bytes.specs.Writing.{sign_byte}
 use Rattle.num_bytes.proofs.DigitLemmas.{digits_counted}
 use Rattle.num_bytes.proofs.ZonedLemmas.{leading_written}
