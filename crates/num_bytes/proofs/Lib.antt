@@ -1,0 +1,5 @@
+pub mod DigitLemmas
+pub mod ZonedLemmas
+pub mod PackedLemmas
+pub mod EditLemmas
+pub mod RoundTrip

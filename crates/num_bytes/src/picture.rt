@@ -1,0 +1,115 @@
+ghost use Rattle.std.specs.Prelude.{◌≡◌, ℕ, ◌==◌, ◌&&◌, ◌+◌, ◌<◌, ◌≤◌, if◌then◌else◌, length};
+ghost use Rattle.num_bytes.specs.Digits.{digit_at};
+ghost use Rattle.num_bytes.specs.Editing.{CanEdit, all_suppressed, begins_suppressed, edit_bytes, edited, edited_bytes, is_place, place_count, shown, still_suppressed};
+
+use crate::digits::ten;
+use cob_tree::Form;
+
+// Whether the symbol is the place of a digit.
+pub(crate) fn is_digit_place(symbol: u8) -> bool
+    ensures { result ≡ is_place symbol }
+{
+    symbol == b'9' || symbol == b'Z'
+}
+
+// Whether zeros are still suppressed after the symbol.
+fn stays_suppressed(on: bool, symbol: u8, digit: u8) -> bool
+    ensures { result ≡ still_suppressed on symbol digit }
+{
+    on && match symbol {
+        b'9' | b'.' => false,
+        b'Z' => digit == 0,
+        _ => true,
+    }
+}
+
+// What the symbol shows; `on` says whether zeros are still suppressed after it.
+fn shown_byte(on: bool, symbol: u8, digit: u8) -> u8
+    requires { digit < 10 }
+    ensures { result ≡ shown on symbol digit }
+{
+    match symbol {
+        _ if on => b' ',
+        b'9' | b'Z' => b'0' + digit,
+        b'B' => b' ',
+        insertion => insertion,
+    }
+}
+
+// The digit of a number at the place of this weight.
+fn digit_of(number: u64, weight: u32) -> u8
+    requires { weight ≤ 18 }
+    ensures { result ≡ digit_at weight number }
+{
+    (number / ten(weight) % 10) as u8
+}
+
+// How many places of digits the picture has.
+fn place_count_of(picture: &[u8]) -> u32
+    requires { place_count picture.now ≤ 18 }
+    ensures { result ≡ place_count picture.now }
+{
+    picture
+        .iter()
+        .filter(|symbol| is_digit_place(**symbol))
+        .count() as u32
+}
+
+// How many places of digits stand behind the symbol, from their number with the symbol.
+fn places_behind(symbol: u8, places: u32) -> u32
+    requires { (if is_place symbol then 1 else 0) ≤ places }
+    ensures { places ≡ (if is_place symbol then 1 else 0) + result }
+{
+    if is_digit_place(symbol) {
+        places - 1
+    } else {
+        places
+    }
+}
+
+// Whether each place is a Z.
+fn is_all_suppressed(picture: &[u8]) -> bool
+    ensures { result ≡ all_suppressed picture.now }
+{
+    picture.iter().all(|symbol| *symbol != b'9')
+}
+
+// Writes the number through the picture, from left to right.
+fn write_edited(picture: &[u8], number: u64, bytes: &mut [u8])
+    requires places { place_count picture.now ≤ 18 }
+    requires whole { length bytes.old ≡ length picture.now }
+    ensures { bytes.new ≡ edited (begins_suppressed picture.now) picture.now number }
+{
+    let mut suppressed = picture.first() == Some(&b'Z');
+    let mut places = place_count_of(picture);
+    for (at, symbol) in picture.iter().enumerate() {
+        places = places_behind(*symbol, places);
+        let digit = digit_of(number, places);
+        suppressed = stays_suppressed(suppressed, *symbol, digit);
+        bytes[at] = shown_byte(suppressed, *symbol, digit);
+    }
+}
+
+fn write_through(picture: &[u8], number: u64, bytes: &mut [u8])
+    requires places { place_count picture.now ≤ 18 }
+    requires whole { length bytes.old ≡ length picture.now }
+    ensures { bytes.new ≡ edited_bytes picture.now number }
+{
+    if number == 0 && is_all_suppressed(picture) {
+        bytes.fill(b' ');
+    } else {
+        write_edited(picture, number, bytes);
+    }
+}
+
+/// Shows the number in an edited item: the form is `Edited` with 1 to 18 digits, of which its picture has the
+/// places, the bytes are as many as the picture's symbols, and the value is from 0 and has at most the digits,
+/// in units of the form's scale.
+pub fn edit(form: &Form, value: i64, bytes: &mut [u8])
+    requires { CanEdit form.now value (length bytes.old) }
+    ensures { bytes.new ≡ edit_bytes form.now value }
+{
+    if let Form::Edited { picture, .. } = form {
+        write_through(picture.get(), value.unsigned_abs(), bytes);
+    }
+}
