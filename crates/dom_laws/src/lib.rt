@@ -4,6 +4,7 @@
 
 mod counter;
 mod laws;
+mod sizes;
 mod traits;
 
 pub use counter::Steps;
