@@ -1,13 +1,24 @@
-//! What the layers of the reader hand on: tokens, and the forms of items. Kinds of faults stand here too,
-//! since the reader, the meaning and the checker all speak of them.
+//! What the layers of the reader hand on: tokens, the tree of a program, and the forms of items. Kinds of faults
+//! stand here too, since the reader, the meaning and the checker all speak of them.
 #![tactic(auto)]
 
 mod bytes;
+mod expr;
 mod fault;
 mod form;
+mod front;
+mod list;
+mod operand;
 mod token;
 
 pub use bytes::{Bytes, Name};
+pub use expr::{Expr, Fact, Primary, Scaling, Sign, Term};
 pub use fault::{Kind, Open};
 pub use form::{Form, Usage};
+pub use front::{
+    Clause, Config, Data, Described, Entry, Env, External, Fd, FdClause, Front, Io, Label, Range,
+    SelClause, Select,
+};
+pub use list::Many;
+pub use operand::{Const, Opnd, Recv, Ref};
 pub use token::{Num, Rel, Tok, Token};

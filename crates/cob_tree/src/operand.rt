@@ -1,0 +1,36 @@
+use crate::bytes::{Bytes, Name};
+use crate::list::Many;
+use crate::token::Num;
+
+/// A literal or a figurative constant (ISO 1989:1985, "Literals" and "Figurative constants").
+#[derive(Drop)]
+pub enum Const {
+    Number(Num),
+    Text(Bytes),
+    Zero,
+    Space,
+    Quote,
+    HighValue,
+    LowValue,
+}
+
+/// A name with its qualifiers, the nearest first (ISO 1989:1985, "Qualification").
+#[derive(Drop)]
+pub struct Ref {
+    pub name: Name,
+    pub of: Many<Name>,
+}
+
+/// An operand: a reference or a constant.
+#[derive(Drop)]
+pub enum Opnd {
+    Ref(Ref),
+    Const(Const),
+}
+
+/// A receiver of an arithmetic statement, with ROUNDED or without it.
+#[derive(Drop)]
+pub struct Recv {
+    pub item: Ref,
+    pub rounded: bool,
+}
