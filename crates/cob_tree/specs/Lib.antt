@@ -1,2 +1,4 @@
 pub mod Expr
 pub mod ExprView
+pub mod Cond
+pub mod CondView

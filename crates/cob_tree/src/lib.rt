@@ -3,15 +3,19 @@
 #![tactic(auto)]
 
 mod bytes;
+mod cond;
 mod expr;
 mod fault;
 mod form;
 mod front;
 mod list;
 mod operand;
+mod stmt;
 mod token;
+mod tree;
 
 pub use bytes::{Bytes, Name};
+pub use cond::{Cond, Conj, Neg, SignTest, Simple};
 pub use expr::{Expr, Fact, Primary, Scaling, Sign, Term};
 pub use fault::{Kind, Open};
 pub use form::{Form, Usage};
@@ -21,4 +25,8 @@ pub use front::{
 };
 pub use list::Many;
 pub use operand::{Const, Opnd, Recv, Ref};
+pub use stmt::{
+    Loop, Mode, Opens, Place, Sel, Stmt, Subject, Tail, Varying, Verb, Way, When,
+};
 pub use token::{Num, Rel, Tok, Token};
+pub use tree::{EndProgram, Paragraph, Sentence, Tree};
