@@ -2,3 +2,5 @@ pub mod Expr
 pub mod ExprView
 pub mod Cond
 pub mod CondView
+pub mod Stmt
+pub mod StmtView

@@ -1,3 +1,7 @@
+ghost use Rattle.std.specs.Prelude.{◌≡◌};
+ghost use Rattle.cob_tree.specs.Stmt.{MkStmt};
+ghost use Rattle.cob_tree.specs.StmtView.{plain_stmt, plain_verb};
+
 use crate::bytes::Name;
 use crate::cond::Cond;
 use crate::expr::Expr;
@@ -194,4 +198,13 @@ pub struct Varying {
     pub item: Ref,
     pub from: Opnd,
     pub by: Opnd,
+}
+
+impl Stmt {
+    /// The statement of a verb on a line.
+    pub fn of(line: u32, verb: Verb) -> Stmt
+        ensures { plain_stmt result ≡ MkStmt line (plain_verb verb) }
+    {
+        Stmt { line, verb }
+    }
 }

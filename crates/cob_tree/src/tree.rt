@@ -31,5 +31,5 @@ pub struct Paragraph {
 /// The statements before one point.
 #[derive(Drop)]
 pub struct Sentence {
-    pub statements: Vec<Stmt>,
+    pub statements: Many<Stmt>,
 }
