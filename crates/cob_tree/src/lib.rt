@@ -5,9 +5,11 @@
 mod bytes;
 mod fault;
 mod form;
+mod keyword;
 mod token;
 
 pub use bytes::{Bytes, Name};
 pub use fault::{Kind, Open};
 pub use form::{Form, Usage};
+pub use keyword::{Keyword, keyword_of, keywords_differ};
 pub use token::{Num, Rel, Tok, Token};
