@@ -4,3 +4,4 @@ pub mod Cond
 pub mod CondView
 pub mod Stmt
 pub mod StmtView
+pub mod Keywords

@@ -11,6 +11,7 @@ mod front;
 mod list;
 mod operand;
 mod stmt;
+mod keyword;
 mod token;
 mod tree;
 
@@ -28,5 +29,6 @@ pub use operand::{Const, Opnd, Recv, Ref};
 pub use stmt::{
     Loop, Mode, Opens, Place, Sel, Stmt, Subject, Tail, Varying, Verb, Way, When,
 };
+pub use keyword::{Keyword, keyword_of, keywords_differ};
 pub use token::{Num, Rel, Tok, Token};
 pub use tree::{EndProgram, Paragraph, Sentence, Tree};
