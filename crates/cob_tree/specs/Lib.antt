@@ -5,3 +5,5 @@ pub mod CondView
 pub mod Stmt
 pub mod StmtView
 pub mod Keywords
+pub mod Symbols
+pub mod Items
