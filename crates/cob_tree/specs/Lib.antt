@@ -7,3 +7,5 @@ pub mod StmtView
 pub mod Keywords
 pub mod Symbols
 pub mod Items
+pub mod PrintExpr
+pub mod PrintFront
