@@ -1,3 +1,4 @@
 pub mod Results
 pub mod Texts
 pub mod Consequences
+pub mod Follow
