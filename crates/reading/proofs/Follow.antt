@@ -35,6 +35,21 @@ module _ {T I M A B : Type 0} (G : Alphabet T I M) (top : ℕ) (a : Syntax I M A
     pub below : Below G top before
     pub at : At G top fault left after
 
+  pub behind_of : (x : A) (ts : List T) (fault : Fault) (h : Fails G (b x) top ts fault) → Good x h.tree → FailsBehind x ts fault
+  behind_of x ts fault h good = record {
+    read = h.read;
+    left = h.left;
+    parts = h.parts;
+    tree = (x, h.tree);
+    good = good;
+    before = h.before;
+    after = h.after;
+    text = ap (λ (z : List I). a.print x ++ z) h.text;
+    spells = h.spells;
+    below = h.below;
+    at = h.at;
+  }
+
   pub record Joint : Type 0 where
     pub first : (x : A) (y : B) → Good x y → a.Good x
     pub second : (x : A) (y : B) → Good x y → (b x).Good y
