@@ -5,3 +5,5 @@ pub mod Follow
 pub mod Dependent
 pub mod Lead
 pub mod Seen
+pub mod Optional
+pub mod Tail
