@@ -7,3 +7,4 @@ pub mod Lead
 pub mod Seen
 pub mod Optional
 pub mod Tail
+pub mod Many

@@ -11,6 +11,10 @@ abbrev pub Apart : Bool → Bool → Type 0
 Apart false before = Unit {0}
 Apart true before = before ≡ false
 
+pub apart : (given before : Bool) → before ≡ false → Apart given before
+apart false before e = tt
+apart true before e = e
+
 -- what is left out leaves what stands before to go on
 abbrev pub onward : Bool → Bool → Bool → Bool
 onward false before own = before || own
@@ -37,10 +41,6 @@ pub record Tail {T I M B : Type 0} (G : Alphabet T I M) (set : M → Bool) (give
 
 module _ {T I M A B : Type 0} {G : Alphabet T I M} {R : Reader T A} {a : Syntax I M A} {top : ℕ} {S : A → Reader T B} {b : A → Syntax I M B} {set : A → M → Bool} {given : B → Bool}
     (LA : Law G R a top) (m : M) (alike : (x : A) (p : M) → a.Good x → set x p ≡ true → a.takes x p ≡ a.takes x m) (tails : (x : A) → Tail G (set x) given (S x) (b x) top) where
-  apart : (c before : Bool) → before ≡ false → Apart c before
-  apart false before e = tt
-  apart true before e = e
-
   ends : (x : A) (y : B) (text rest : List T) → tail_good a b given m x y → Matches G ((b x).print y) text → Next G (tail_takes a b given m x y) rest → Next G (a.takes x) (text ++ rest) × Next G ((b x).takes y) rest
   ends x y text rest good s next = go (given y) refl good.2 next
     where
