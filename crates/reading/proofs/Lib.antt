@@ -1,0 +1,10 @@
+pub mod Results
+pub mod Texts
+pub mod Consequences
+pub mod Follow
+pub mod Dependent
+pub mod Lead
+pub mod Seen
+pub mod Optional
+pub mod Tail
+pub mod Many
