@@ -18,17 +18,6 @@ pub record Fits (item : Item) (sign : Sign) : Type 0 where
   pub symbol : sign.symbol ≡ item.symbol
   pub line : IsLine item.line sign.line
 
--- the tokens are those that are asked for, one by one
-abbrev pub Matches : List Item → List Sign → Type 0
-Matches [] [] = Unit {0}
-Matches (item ∷ items) (sign ∷ signs) = Fits item sign × Matches items signs
-Matches _ _ = ⊥
-
--- at each token fewer are open
-abbrev pub Below : ℕ → List Item → Type 0
-Below top [] = Unit {0}
-Below top (item ∷ items) = (item.depth < top) × Below top items
-
 -- ---- items
 
 abbrev pub item : ℕ → Symbol → Item

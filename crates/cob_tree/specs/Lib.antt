@@ -9,7 +9,7 @@ pub mod Symbols
 pub mod Items
 pub mod PrintExpr
 pub mod PrintFront
-pub mod Ahead
+pub mod Cues
 pub mod Takes
 pub mod PrintStmt
 pub mod Shaped

@@ -16,8 +16,8 @@ use Rattle.cob_tree.specs.declared.front.Clause.{Clause}
 use Rattle.cob_tree.specs.declared.front.Clause.TheVariants as clause
 use Rattle.cob_tree.specs.Symbols.{Symbol, symbol_of, written}
 use Rattle.cob_tree.specs.Items.{Item}
-use Rattle.cob_tree.specs.Ahead.{Ahead, Starts, NotSize, NotAtEnd, Else, WhenOthers, EndAdd, EndSubtract, EndMultiply, EndDivide, EndCompute, EndIf, EndEvaluate, EndRead}
-use Rattle.cob_tree.specs.Ahead as ahead
+use Rattle.cob_tree.specs.Cues.{Cue, Starts, NotSize, NotAtEnd, Else, EndAdd, EndSubtract, EndMultiply, EndDivide, EndCompute, EndIf, EndEvaluate, EndRead}
+use Rattle.cob_tree.specs.Cues as cue
 use Rattle.cob_tree.specs.Cond.{Cond, MkCond, Conjs, no_conjs, more_conjs, Conj, MkConj, Negs, no_negs, more_negs, Neg, MkNeg, Simple, parenthesised, relation, abbreviated, numeric, alone}
 use Rattle.cob_tree.specs.Cond as cond
 use Rattle.cob_tree.specs.Stmt.{Sel, any, range, choice, Loop, times, until, Stmt, MkStmt, Verb, move, set, display, add_to, add_giving, subtract_from, subtract_giving, multiply_by, multiply_giving, divide_into, divide_giving, compute, if_, evaluate, perform_range, perform_inline, go, exit, continue, stop_run, open_, close, read, write, Stmts, no_stmts, more_stmts, Phrase, left_out, given, Tail, MkTail, Whens, no_whens, more_whens, When, MkWhen, Paragraph, Tree}
@@ -102,7 +102,7 @@ abbrev mutual
   ShapedPhrase left_out before = Unit {0}
   ShapedPhrase (given ss) before = ShapedStmts ss × (before ≡ false)
 
-  pub ShapedTail : Tail → Ahead → Type 0
+  pub ShapedTail : Tail → Cue → Type 0
   ShapedTail (MkTail size not_size ended) end =
       ShapedPhrase size false × ShapedPhrase not_size (takes_phrase size false false NotSize)
       × ShapedEnd ended (takes_phrase not_size (takes_phrase size false false end) false end)
@@ -110,7 +110,7 @@ abbrev mutual
   pub ShapedWhens : Whens → Type 0
   ShapedWhens no_whens = ⊥
   ShapedWhens (more_whens w no_whens) = ShapedWhen w
-  ShapedWhens (more_whens w (more_whens x xs)) = ShapedWhen w × (takes_when w ahead.Whens ≡ false) × ShapedWhens (more_whens x xs)
+  ShapedWhens (more_whens w (more_whens x xs)) = ShapedWhen w × (takes_when w cue.Whens ≡ false) × ShapedWhens (more_whens x xs)
 
   pub ShapedWhen : When → Type 0
   ShapedWhen (MkWhen choices body) = IsNotEmpty choices × AllByRecursion ShapedSel choices × ShapedStmts body
@@ -132,7 +132,7 @@ abbrev mutual
       ShapedCond test × ShapedStmts ss × ShapedPhrase other (takes_stmts ss Else)
       × ShapedEnd ended (takes_phrase other (takes_stmts ss EndIf) false EndIf)
   ShapedVerb (evaluate subject whens other ended) =
-      ShapedWhens whens × ShapedPhrase other (takes_whens whens WhenOthers)
+      ShapedWhens whens × ShapedPhrase other (takes_whens whens cue.Whens)
       × ShapedEnd ended (takes_phrase other (takes_whens whens EndEvaluate) false EndEvaluate)
   ShapedVerb (perform_range first thru turns) = IfThere ShapedLoop turns
   ShapedVerb (perform_inline turns body) = IfThere ShapedLoop turns × ShapedStmts body
