@@ -11,3 +11,6 @@ pub mod Tail
 pub mod Many
 pub mod Opt
 pub mod Plus
+pub mod Must
+pub mod Choose
+pub mod Full
