@@ -5,6 +5,12 @@ pub mod Follow
 pub mod Dependent
 pub mod Lead
 pub mod Seen
+pub mod Starts
 pub mod Optional
 pub mod Tail
 pub mod Many
+pub mod Opt
+pub mod Plus
+pub mod Must
+pub mod Choose
+pub mod Full

@@ -6,13 +6,8 @@ use Rattle.reading.specs.Law.{Syntax, Read, Fails, Law}
 use Rattle.reading.proofs.Results.{bind_ok, bind_err, ok_is, ok_fails, fault_before, cut_at}
 use Rattle.reading.proofs.Texts.{cases, matches_nothing, matches_join, matches_split, below_join, below_left, below_right, next_both, next_left, next_right, next_at, at_next}
 use Rattle.reading.proofs.Consequences.{within, first_is, at_more}
+use Rattle.reading.proofs.Starts.{Starts}
 use Rattle.reading.proofs.Tail.{Apart, apart, onward, Tail}
-
--- What is read so begins with one of the marks.
-pub record Starts {T I M A : Type 0} (G : Alphabet T I M) (set : M → Bool) (r : Reader T A) (s : Syntax I M A) : Type 0 where
-  pub starts : (x : A) (text rest : List T) → s.Good x → Matches G (s.print x) text → begins G set (text ++ rest) ≡ true
-  -- and the tokens before the place where reading stops have decided that
-  pub decided : (c r' z : List T) (t : T) → begins G set (c ++ t ∷ r') ≡ true → r (c ++ t ∷ r') ≡ Err (Stop (suc (length r'))) → begins G set (c ++ t ∷ z) ≡ true
 
 abbrev pub is_given : {A : Type 0} → List A → Bool
 is_given [] = false
