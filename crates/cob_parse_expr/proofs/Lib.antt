@@ -1,0 +1,5 @@
+mod CueLemmas
+mod ClassLaws
+mod Generic
+mod OperandLaws
+mod ExprLaws

@@ -1,0 +1,3 @@
+//! Reads expressions and conditions from tokens (ISO 1989:1985, "Arithmetic expressions" and "Conditional
+//! expressions").
+#![tactic(auto)]
