@@ -1,2 +1,3 @@
 pub mod Classes
 pub mod Reading
+pub mod Steps
