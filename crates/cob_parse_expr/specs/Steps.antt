@@ -1,5 +1,5 @@
 -- What one function says of what it read, in the terms of readers.
-use Rattle.std.specs.Prelude.{◌≡◌, Bool, true, List, Option, Result, Ok, Err, map}
+use Rattle.std.specs.Prelude.{◌≡◌, Bool, true, false, List, length, Option, Result, Ok, Err, map}
 use Rattle.cob_tree.specs.declared.symbol.Lexeme.{Lexeme}
 use Rattle.cob_tree.specs.Lexemes.{plain_lexeme}
 use Rattle.cob_tree.specs.Symbols.{Sign}
@@ -14,6 +14,11 @@ signs = map plain_lexeme
 pub record Leads {K : Type 0} (class : Sign → Option K) (x : K) (ts rest : List Sign) : Type 0 where
   pub reads : lead class ts ≡ Ok (x, rest)
   pub stands : stands class ts ≡ true
+
+-- none does
+pub record Lacks {K : Type 0} (class : Sign → Option K) (ts : List Sign) : Type 0 where
+  pub reads : lead class ts ≡ Err (Stop (length ts))
+  pub stands : stands class ts ≡ false
 
 -- What a function returned, seen by view, is what reading gives, unless memory ran out.
 abbrev pub Fails : {Y : Type 0} → Halt → Result Y Fault → Type 0
