@@ -1,6 +1,6 @@
 -- What one function says of what it read, in the terms of readers.
 use Rattle.std.specs.Prelude.{◌≡◌, Bool, true, false, List, length, Option, Result, Ok, Err, map}
-use Rattle.cob_tree.specs.declared.symbol.Lexeme.{Lexeme}
+use Rattle.cob_tree.specs.declared.lexeme.Lexeme.{Lexeme}
 use Rattle.cob_tree.specs.Lexemes.{plain_lexeme}
 use Rattle.cob_tree.specs.Symbols.{Sign}
 use Rattle.reading.specs.Readers.{Fault, Stop, Deep, lead, stands}

@@ -1,7 +1,7 @@
 -- What contracts see of lexemes.
-use Rattle.cob_tree.specs.declared.symbol.Symbol as declared
-use Rattle.cob_tree.specs.declared.symbol.Symbol.TheVariants as symbol
-use Rattle.cob_tree.specs.declared.symbol.Lexeme.{Lexeme}
+use Rattle.cob_tree.specs.declared.lexeme.Symbol as declared
+use Rattle.cob_tree.specs.declared.lexeme.Symbol.TheVariants as symbol
+use Rattle.cob_tree.specs.declared.lexeme.Lexeme.{Lexeme}
 use Rattle.cob_tree.specs.Symbols.{Symbol, Key, Name, Number, Text, Mark, Relation, Pic, Stop, Sign}
 
 abbrev pub plain_symbol : declared.Symbol → Symbol

@@ -11,7 +11,7 @@ mod front;
 mod list;
 mod operand;
 mod stmt;
-mod symbol;
+mod lexeme;
 mod keyword;
 mod token;
 mod tree;
@@ -31,6 +31,6 @@ pub use stmt::{
     Loop, Mode, Opens, Place, Sel, Stmt, Subject, Tail, Varying, Verb, Way, When,
 };
 pub use keyword::{Keyword, keyword_of, keywords_differ};
-pub use symbol::{Lexeme, Symbol, lexemes};
+pub use lexeme::{Lexeme, Symbol, lexemes};
 pub use token::{Num, Rel, Tok, Token};
 pub use tree::{EndProgram, Paragraph, Sentence, Tree};
