@@ -5,9 +5,14 @@
 mod bytes;
 mod fault;
 mod form;
+mod picture;
+mod repetition;
+#[cfg(test)]
+mod tests;
 mod token;
 
 pub use bytes::{Bytes, Name};
 pub use fault::{Kind, Open};
 pub use form::{Form, Usage};
+pub use picture::{PicEnd, picture_of};
 pub use token::{Num, Rel, Tok, Token};
