@@ -1,1 +1,3 @@
 pub mod PictureLemmas
+pub mod PictureLaws
+pub mod FormLaws

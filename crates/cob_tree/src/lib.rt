@@ -5,6 +5,7 @@
 mod bytes;
 mod fault;
 mod form;
+mod laws;
 mod picture;
 mod repetition;
 #[cfg(test)]
@@ -14,5 +15,6 @@ mod token;
 pub use bytes::{Bytes, Name};
 pub use fault::{Kind, Open};
 pub use form::{Form, Usage};
+pub use laws::{one_form, picture_form_is};
 pub use picture::{PicEnd, picture_of};
 pub use token::{Num, Rel, Tok, Token};
