@@ -1,15 +1,17 @@
 -- A word of symbols has one form.
-use Rattle.std.proofs.Common.{◌≡◌, ℕ, ◌+◌, ◌<◌, ◌≤◌, zero, suc, Bool, true, false, not, cond, eqb, leb, ◌&&◌, ◌||◌, IsTrue, List, [], ◌∷◌, length, drop, count_by, Option, Some, None, refl, ap, ◌∙◌, sym, subst, ⊎_elim, arith}
+use Rattle.std.proofs.Common.{◌≡◌, ℕ, ◌+◌, ◌<◌, ◌≤◌, zero, suc, Bool, true, false, not, cond, eqb, leb, ◌&&◌, ◌||◌, IsTrue, List, [], ◌∷◌, length, drop, count_by, Option, Some, None, Result, Ok, Err, IfOk, IfErr, refl, ap, ◌∙◌, sym, subst, ⊎_elim, arith}
 use Rattle.std.specs.Option.{option_and_then}
 use Rattle.std.proofs.lemmas.Bool.{false≢true, and_parts, and_left, and_right, leb-true, or_cases, or_parts, not-true}
 use Rattle.std.proofs.lemmas.Bool.Decides.{nat_tests}
-use Rattle.std.proofs.lemmas.List.Sums.{sum_by-cons}
-use Rattle.std.specs.List.{list_all, list_any}
+use Rattle.std.proofs.lemmas.List.Sums.{sum_by-cons, sum_by-take-drop}
+use Rattle.std.specs.List.{list_all, list_any, position}
 use Rattle.cob_tree.specs.declared.form.Form.{Form}
 use Rattle.cob_tree.specs.declared.form.Form.TheVariants.{Group, Text, Number, Edited}
 use Rattle.cob_tree.specs.declared.form.Usage.{Usage}
-use Rattle.cob_tree.specs.Pictures.{IsPicture, place_count, may_suppress, is_inserted_rightly, IsForm, IsTextForm, IsNumberForm, IsEditedForm, is_numeric_symbol, is_alphanumeric_symbol, is_edited_symbol, has, symbol_count, is_signed_rightly, is_digit_count, is_numeric, is_alphanumeric, is_edited, most_bytes}
-use Rattle.cob_tree.specs.PictureForms.{number_form, text_form, edited_form, form_of_word, picture_word, picture_form}
+use Rattle.cob_tree.specs.declared.picture.PicEnd.{PicEnd}
+use Rattle.cob_tree.specs.declared.picture.PicEnd.TheVariants.{Bad, Memory}
+use Rattle.cob_tree.specs.Pictures.{IsPicture, IsAllowed, AreDigits, HasPlaces, is_place, behind, behind_first, place_count, may_suppress, is_inserted_rightly, IsForm, IsTextForm, IsNumberForm, IsEditedForm, is_numeric_symbol, is_alphanumeric_symbol, is_edited_symbol, has, symbol_count, is_signed_rightly, is_digit_count, is_numeric, is_alphanumeric, is_edited, most_bytes}
+use Rattle.cob_tree.specs.PictureForms.{number_form, text_form, edited_form, form_of_word, picture_word, picture_form, IfBad}
 use Rattle.cob_tree.proofs.PictureLaws.{spells_is_word, word_spells}
 
 -- ---- a numeric word is short
@@ -169,3 +171,60 @@ one_form text form other p q =
 
 pub no_picture : (text : List ℕ) → picture_form text ≡ None → (form : Form) → ¬ IsPicture text form
 no_picture text none form p = let a : picture_form text ≡ Some form = picture_has_form text form p in cc
+
+-- ---- what a picture gives is allowed
+
+some_there : (p : ℕ → Bool) (word : List ℕ) → list_any p word ≡ true → 1 ≤ length word
+some_there p [] any = absurd (false≢true any)
+some_there p (c ∷ cs) any = omega arith
+
+fewer_behind : (p : ℕ → Bool) (place : Option ℕ) (word : List ℕ) → count_by p (behind place word) ≤ count_by p word
+fewer_behind p None word = omega arith
+fewer_behind p (Some n) word = omega (arith, sum_by-take-drop (λ x. cond (p x) 1 0) word (n + 1))
+
+are_digits : (digits scale : ℕ) → is_digit_count digits ≡ true → scale ≤ digits → AreDigits digits scale
+are_digits digits scale counts fewer =
+    let parts = and_parts (leb 1 digits) (leb digits 18) counts in
+    record { some = leb-true 1 digits parts.0; at_most_18 = leb-true digits 18 parts.1; decimals = fewer }
+
+numeric_digits : (word : List ℕ) → is_numeric word ≡ true → is_digit_count (symbol_count 57 word) ≡ true
+numeric_digits word numeric =
+    let parts = and_parts (list_all is_numeric_symbol word && is_signed_rightly word) (is_digit_count (symbol_count 57 word)) numeric in parts.1
+
+edited_digits : (word : List ℕ) → is_edited word ≡ true → is_digit_count (place_count word) ≡ true
+edited_digits word edited =
+    let outer = and_parts (list_all is_edited_symbol word && is_inserted_rightly word && is_digit_count (place_count word)) (may_suppress word) edited in
+    let middle = and_parts (list_all is_edited_symbol word && is_inserted_rightly word) (is_digit_count (place_count word)) outer.0 in middle.1
+
+word_allows : (word : List ℕ) (form : Form) → IsForm word form → IsAllowed form
+word_allows word Group f = elim f [ ]
+word_allows word (Text bytes) f =
+    let parts = and_parts (list_all is_alphanumeric_symbol word) (has 88 word) f.allowed in
+    (omega (arith, f.bytes_are, some_there (λ c. eqb c 88) word parts.1), f.within)
+word_allows word (Number digits scale signed usage) f =
+    rw (f.digits_are, f.scale_is)
+    (are_digits (symbol_count 57 word) (symbol_count 57 (behind_first 86 word)) (numeric_digits word f.allowed)
+    (fewer_behind (λ c. eqb c 57) (position (λ c. eqb c 86) word) word))
+word_allows word (Edited picture digits scale) f =
+    rw (f.picture_is, f.digits_are, f.scale_is)
+    (are_digits (place_count word) (place_count (behind_first 46 word)) (edited_digits word f.allowed)
+      (fewer_behind is_place (position (λ c. eqb c 46) word) word),
+      record { edited = f.allowed; places = refl; decimals = refl; within = f.within })
+
+pub picture_is_allowed : (text : List ℕ) (form : Form) → picture_form text ≡ Some form → IsAllowed form
+picture_is_allowed text form e = let p : IsPicture text form = form_is_of_picture text form e in word_allows p.word form p.describes
+
+-- ---- what an answer says
+
+pub answer_is_picture : (text : List ℕ) (answer : Result Form PicEnd) → IfOk answer (λ form. picture_form text ≡ Some form) → IfOk answer (λ form. IsPicture text form)
+answer_is_picture text (Ok form) e = form_is_of_picture text form e
+answer_is_picture text (Err end) e = tt
+
+pub answer_is_allowed : (text : List ℕ) (answer : Result Form PicEnd) → IfOk answer (λ form. picture_form text ≡ Some form) → IfOk answer IsAllowed
+answer_is_allowed text (Ok form) e = picture_is_allowed text form e
+answer_is_allowed text (Err end) e = tt
+
+pub answer_is_bad : (text : List ℕ) (answer : Result Form PicEnd) → IfErr answer (λ end. IfBad end (picture_form text ≡ None)) → IfErr answer (λ end. IfBad end ((form : Form) → ¬ IsPicture text form))
+answer_is_bad text (Ok form) e = tt
+answer_is_bad text (Err Bad) e = no_picture text e
+answer_is_bad text (Err Memory) e = tt

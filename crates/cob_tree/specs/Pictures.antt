@@ -159,3 +159,23 @@ pub record IsPicture (text : List ℕ) (form : Form) : Type 0 where
   pub word : List ℕ
   pub spelled_by : Spells text word
   pub describes : IsForm word form
+
+-- 1 to 18 digits, of which so many at most are decimals
+pub record AreDigits (digits scale : ℕ) : Type 0 where
+  pub some : 1 ≤ digits
+  pub at_most_18 : digits ≤ 18
+  pub decimals : scale ≤ digits
+
+-- an edited picture, written out, that has these places of digits
+pub record HasPlaces (picture : List ℕ) (digits scale : ℕ) : Type 0 where
+  pub edited : IsTrue (is_edited picture)
+  pub places : place_count picture ≡ digits
+  pub decimals : place_count (behind_first 46 picture) ≡ scale
+  pub within : length picture ≤ most_bytes
+
+-- what holds of a form with a picture
+abbrev pub IsAllowed : Form → Type 0
+IsAllowed Group = ⊥
+IsAllowed (Text bytes) = (1 ≤ bytes) × (bytes ≤ most_bytes)
+IsAllowed (Number digits scale signed usage) = AreDigits digits scale
+IsAllowed (Edited picture digits scale) = AreDigits digits scale × HasPlaces picture digits scale

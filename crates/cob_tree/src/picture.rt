@@ -1,6 +1,7 @@
 ghost use Rattle.std.specs.Prelude.{◌≡◌, ◌==◌, ◌<◌, ◌≤◌, not, length, drop, Some, None, IfSome, IfOk, IfErr};
 ghost use Rattle.std.specs.List.{list_all, list_any, position};
-ghost use Rattle.cob_tree.specs.Pictures.{has, symbol_count, behind_first, begins_with, place_count, is_digit_count, is_numeric, is_alphanumeric, suppresses_rightly, may_suppress, is_inserted_rightly, is_signed_rightly, is_numeric_symbol, is_alphanumeric_symbol, is_edited_symbol, is_edited, most_bytes};
+ghost use Rattle.cob_tree.specs.Pictures.{has, symbol_count, behind_first, begins_with, place_count, is_digit_count, is_numeric, is_alphanumeric, suppresses_rightly, may_suppress, is_inserted_rightly, is_signed_rightly, is_numeric_symbol, is_alphanumeric_symbol, is_edited_symbol, is_edited, most_bytes, IsPicture, IsAllowed};
+ghost use Rattle.cob_tree.specs.declared.form.Form.{Form};
 ghost use Rattle.cob_tree.specs.declared.picture.PicEnd.TheVariants.{Memory};
 ghost use Rattle.cob_tree.specs.PictureForms.{number_form, text_form, edited_form, form_of_word, picture_form, IfBad};
 
@@ -219,15 +220,27 @@ fn form_of_word(alloc: Global, word: &[u8]) -> Result<Form, PicEnd>
     }
 }
 
-/// The form of the item that a picture describes (ISO 1989:1985, the PICTURE clause), with usage
-/// DISPLAY. An edited picture comes in capitals, with its repetitions written out.
-///
-/// Symbols count in either case, and each may have a count of 1 and more in parentheses.
 #[tactic(auto, unfolding(crate::specs::PictureForms::picture_form))]
-pub fn picture_of(alloc: Global, text: &[u8]) -> Result<Form, PicEnd>
+fn picture_form(alloc: Global, text: &[u8]) -> Result<Form, PicEnd>
     ensures form { IfOk result (λ form. picture_form text.now ≡ Some form) }
     ensures bad { IfErr result (λ end. IfBad end (picture_form text.now ≡ None)) }
 {
     let word = picture_word(alloc, text)?;
     form_of_word(alloc, &word)
+}
+
+/// The form of the item that a picture describes (ISO 1989:1985, the PICTURE clause), with usage
+/// DISPLAY. An edited picture comes in capitals, with its repetitions written out.
+///
+/// Symbols count in either case. Each may have a count of 1 and more in parentheses behind it, with
+/// any number of digits. An S is first, a V stands once at most, a picture has 1 to 18 places of
+/// digits or an X, and its item 1,048,576 bytes at most. The rules on edited pictures are own.
+pub fn picture_of(alloc: Global, text: &[u8]) -> Result<Form, PicEnd>
+    ensures picture { IfOk result (λ form. IsPicture text.now form) }
+    ensures bad { IfErr result (λ end. IfBad end ((form : Form) → ¬ IsPicture text.now form)) }
+    ensures form { IfOk result (λ form. picture_form text.now ≡ Some form) }
+    ensures no_form { IfErr result (λ end. IfBad end (picture_form text.now ≡ None)) }
+    ensures allowed { IfOk result IsAllowed }
+{
+    picture_form(alloc, text)
 }
