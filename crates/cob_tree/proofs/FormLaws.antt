@@ -96,10 +96,11 @@ alphanumeric_alone word alphanumeric =
 
 edited_alone : (word : List ℕ) → is_edited word ≡ true → (is_numeric word ≡ false) × (is_alphanumeric word ≡ false)
 edited_alone word edited =
-    let parts = edited_parts word edited in
-    (not_numeric word (other_symbol is_numeric_symbol (λ c. not (eqb c 57)) is_edited_symbol edited_is_not_numeric word parts.1 parts.0),
+    let parts = edited_parts word edited in (
+      not_numeric word (other_symbol is_numeric_symbol (λ c. not (eqb c 57)) is_edited_symbol edited_is_not_numeric word parts.1 parts.0),
       and_left (list_all is_alphanumeric_symbol word) (has 88 word)
-      (other_symbol is_alphanumeric_symbol (λ c. not (eqb c 57)) is_edited_symbol edited_is_not_alphanumeric word parts.1 parts.0))
+          (other_symbol is_alphanumeric_symbol (λ c. not (eqb c 57)) is_edited_symbol edited_is_not_alphanumeric word parts.1 parts.0),
+    )
 
 -- ---- the form is what the word describes
 
@@ -206,10 +207,11 @@ word_allows word (Number digits scale signed usage) f =
     (are_digits (symbol_count 57 word) (symbol_count 57 (behind_first 86 word)) (numeric_digits word f.allowed)
     (fewer_behind (λ c. eqb c 57) (position (λ c. eqb c 86) word) word))
 word_allows word (Edited picture digits scale) f =
-    rw (f.picture_is, f.digits_are, f.scale_is)
-    (are_digits (place_count word) (place_count (behind_first 46 word)) (edited_digits word f.allowed)
-      (fewer_behind is_place (position (λ c. eqb c 46) word) word),
-      record { edited = f.allowed; places = refl; decimals = refl; within = f.within })
+    rw (f.picture_is, f.digits_are, f.scale_is) (
+      are_digits (place_count word) (place_count (behind_first 46 word)) (edited_digits word f.allowed)
+          (fewer_behind is_place (position (λ c. eqb c 46) word) word),
+      record { edited = f.allowed; places = refl; decimals = refl; within = f.within },
+    )
 
 pub picture_is_allowed : (text : List ℕ) (form : Form) → picture_form text ≡ Some form → IsAllowed form
 picture_is_allowed text form e = let p : IsPicture text form = form_is_of_picture text form e in word_allows p.word form p.describes

@@ -41,7 +41,6 @@ closing_is ds rest decimal =
 count_value_is : (ds : List ℕ) → list_all is_ascii_digit ds ≡ true → 1 ≤ digits_value 10 ds → digits_value 10 ds ≤ most_bytes → count_value ds ≡ Some (digits_value 10 ds)
 count_value_is ds decimal some within = rw (decimal, le-leb 1 (digits_value 10 ds) some, le-leb (digits_value 10 ds) most_bytes within) refl
 
-
 -- ---- the symbol at the beginning of a text
 
 not_open_behind : (ss : List Symbol) → AllByRecursion IsSymbol ss → begins_with 40 (spelled ss) ≡ false

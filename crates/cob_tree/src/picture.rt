@@ -111,9 +111,7 @@ fn is_numeric(word: &[u8]) -> bool
     requires { length word.now ≤ most_bytes }
     ensures { result ≡ is_numeric word.now }
 {
-    has_numeric_symbols(word)
-        && is_signed_rightly(word)
-        && is_digit_count(symbol_count(b'9', word))
+    has_numeric_symbols(word) && is_signed_rightly(word) && is_digit_count(symbol_count(b'9', word))
 }
 
 fn has_alphanumeric_symbols(word: &[u8]) -> bool

@@ -149,13 +149,12 @@ fn first_run(text: &[u8]) -> Option<Run>
 
 /// Writes a symbol out.
 fn push_run(word: &mut Vec<u8>, run: Run) -> Result<(), AllocError>
-    requires { run.count ≤ most_bytes }
+    requires run { run.count ≤ most_bytes }
+    requires word { length word.old.items ≤ most_bytes }
     ensures items { OnOk result (word.new.items ≡ word.old.items ++ replicate run.count run.symbol) }
     ensures len { OnOk result (length word.new.items ≡ length word.old.items + run.count) }
 {
-    for _ in 0..run.count {
-        word.push(run.symbol)?;
-    }
+    word.resize(word.len() + run.count, run.symbol)?;
     Ok(())
 }
 
