@@ -12,7 +12,7 @@ use Rattle.std.specs.Char.{is_ascii_digit, to_ascii_uppercase}
 use Rattle.std.specs.Str.Parse.{digits_value}
 use Rattle.cob_tree.specs.declared.form.Form.{Form}
 use Rattle.cob_tree.specs.declared.form.Form.TheVariants.{Group, Text, Number, Edited}
-use Rattle.cob_tree.specs.declared.repetition.Run.{Run}
+use Rattle.cob_tree.specs.declared.symbol.Run.{Run}
 use Rattle.cob_tree.specs.Pictures.{Symbol, IsCount, IsSymbol, Spells, IsPicture, IsForm, parenthesized, times, spelled, written_out, is_symbol, begins_with, most_bytes}
 use Rattle.cob_tree.specs.PictureForms.{count_value, counted, repeated, closing, run, run_behind, first_run, prefixed, begun, word_from, short, picture_word, form_of_word, picture_form}
 use Rattle.cob_tree.proofs.PictureLemmas.{word_more, word_skip}

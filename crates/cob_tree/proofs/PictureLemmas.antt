@@ -8,7 +8,7 @@ use Rattle.std.proofs.lemmas.Bool.Decides.{nat_tests}
 use Rattle.std.specs.Option.{option_map, option_and_then}
 use Rattle.std.specs.Char.{is_ascii_digit, digit_value, to_ascii_uppercase}
 use Rattle.std.specs.Str.Parse.{digits_value}
-use Rattle.cob_tree.specs.declared.repetition.Run.{Run}
+use Rattle.cob_tree.specs.declared.symbol.Run.{Run}
 use Rattle.cob_tree.specs.Pictures.{is_symbol, most_bytes}
 use Rattle.cob_tree.specs.PictureForms.{run_behind, first_run, prefixed, begun, word_from, short, picture_word}
 

@@ -9,7 +9,7 @@ use Rattle.cob_tree.specs.declared.form.Form.TheVariants.{Text, Number, Edited}
 use Rattle.cob_tree.specs.declared.form.Usage.TheVariants.{Display}
 use Rattle.cob_tree.specs.declared.picture.PicEnd.{PicEnd}
 use Rattle.cob_tree.specs.declared.picture.PicEnd.TheVariants.{Bad, Memory}
-use Rattle.cob_tree.specs.declared.repetition.Run.{Run}
+use Rattle.cob_tree.specs.declared.symbol.Run.{Run}
 use Rattle.cob_tree.specs.Pictures.{is_symbol, has, symbol_count, behind_first, begins_with, place_count, is_numeric, is_alphanumeric, is_edited, most_bytes}
 
 -- a count is 1 at least; no item has more bytes than its symbols count

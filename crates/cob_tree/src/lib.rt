@@ -7,7 +7,7 @@ mod fault;
 mod form;
 mod laws;
 mod picture;
-mod repetition;
+mod symbol;
 #[cfg(test)]
 mod tests;
 mod token;

@@ -7,7 +7,7 @@ ghost use Rattle.cob_tree.specs.PictureForms.{number_form, text_form, edited_for
 
 use crate::bytes::Bytes;
 use crate::form::{Form, Usage};
-use crate::repetition::{
+use crate::symbol::{
     is_alphanumeric_symbol, is_edited_symbol, is_numeric_symbol, is_place, picture_word,
 };
 use std::alloc::{AllocError, AllocFailed, Global};
@@ -228,7 +228,7 @@ fn picture_form(alloc: Global, text: &[u8]) -> Result<Form, PicEnd>
 }
 
 /// The form of the item that a picture describes (ISO 1989:1985, the PICTURE clause), with usage
-/// DISPLAY. An edited picture comes in capitals, with its repetitions written out.
+/// DISPLAY. An edited picture comes in capitals, with its symbols written out.
 ///
 /// Symbols count in either case. Each may have a count of 1 and more in parentheses behind it, with
 /// any number of digits. An S is first, a V stands once at most, a picture has 1 to 18 places of

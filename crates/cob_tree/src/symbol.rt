@@ -84,17 +84,13 @@ fn repeated(symbol: u8, text: &[u8]) -> Option<Run>
     ensures some { IfSome result (λ r. 0 < r.length) }
     ensures count { IfSome result (λ r. r.count ≤ most_bytes) }
 {
-    match closing(text) {
-        None => None,
-        Some(digits) => match count_value(&text[..digits]) {
-            None => None,
-            Some(count) => Some(Run {
-                symbol,
-                count,
-                length: digits + 3,
-            }),
-        },
-    }
+    let digits = closing(text)?;
+    let count = count_value(&text[..digits])?;
+    Some(Run {
+        symbol,
+        count,
+        length: digits + 3,
+    })
 }
 
 fn is_open(text: &[u8]) -> bool

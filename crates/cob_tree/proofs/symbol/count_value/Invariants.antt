@@ -3,7 +3,7 @@ use Rattle.std.specs.List.{list_all}
 use Rattle.std.specs.Char.{is_ascii_digit}
 use Rattle.std.specs.Str.Parse.{digits_value}
 use Rattle.cob_tree.specs.Pictures.{most_bytes}
-use Rattle.cob_tree.proofs.repetition.count_value.Given as goal
+use Rattle.cob_tree.proofs.symbol.count_value.Given as goal
 
 abbrev pub invariant-loop-digit : goal.invariant-loop-digit
 invariant-loop-digit l = record {

@@ -1,7 +1,7 @@
 use Rattle.std.proofs.Common.{◌≡◌, ◌≤◌, length}
 use Rattle.cob_tree.specs.Pictures.{most_bytes}
 use Rattle.cob_tree.specs.PictureForms.{prefixed, word_from}
-use Rattle.cob_tree.proofs.repetition.picture_word.Given as goal
+use Rattle.cob_tree.proofs.symbol.picture_word.Given as goal
 
 abbrev pub invariant-loop-rest : goal.invariant-loop-rest
 invariant-loop-rest l = record {
