@@ -1,60 +1,18 @@
 -- A word of symbols has one form.
-use Rattle.std.proofs.Common.{◌≡◌, ℕ, ◌+◌, ◌<◌, ◌≤◌, zero, suc, Bool, true, false, not, cond, eqb, leb, ◌&&◌, ◌||◌, IsTrue, List, [], ◌∷◌, length, drop, count_by, Option, Some, None, Result, Ok, Err, IfOk, IfErr, refl, ap, ◌∙◌, sym, subst, ⊎_elim, arith}
+use Rattle.std.proofs.Common.{◌≡◌, ℕ, ◌+◌, ◌≤◌, Bool, true, false, not, cond, eqb, leb, ◌&&◌, List, [], ◌∷◌, length, count_by, Option, Some, None, Result, Ok, Err, IfOk, IfErr, refl, ap, ◌∙◌, subst, ⊎_elim, arith}
 use Rattle.std.specs.Option.{option_and_then}
-use Rattle.std.proofs.lemmas.Bool.{false≢true, and_parts, and_left, and_right, leb-true, or_cases, or_parts, not-true}
+use Rattle.std.proofs.lemmas.Bool.{false≢true, and_parts, and_left, and_right, leb-true, or_cases}
 use Rattle.std.proofs.lemmas.Bool.Decides.{nat_tests}
-use Rattle.std.proofs.lemmas.List.Sums.{sum_by-cons, sum_by-take-drop}
+use Rattle.std.proofs.lemmas.List.Sums.{sum_by-take-drop}
 use Rattle.std.specs.List.{list_all, list_any, position}
 use Rattle.cob_tree.specs.declared.form.Form.{Form}
 use Rattle.cob_tree.specs.declared.form.Form.TheVariants.{Group, Text, Number, Edited}
-use Rattle.cob_tree.specs.declared.form.Usage.{Usage}
 use Rattle.cob_tree.specs.declared.picture.PicEnd.{PicEnd}
 use Rattle.cob_tree.specs.declared.picture.PicEnd.TheVariants.{Bad, Memory}
-use Rattle.cob_tree.specs.Pictures.{IsPicture, IsAllowed, AreDigits, HasPlaces, is_place, behind, behind_first, place_count, may_suppress, is_inserted_rightly, IsForm, IsTextForm, IsNumberForm, IsEditedForm, is_numeric_symbol, is_alphanumeric_symbol, is_edited_symbol, has, symbol_count, is_signed_rightly, is_digit_count, is_numeric, is_alphanumeric, is_edited, most_bytes}
-use Rattle.cob_tree.specs.PictureForms.{number_form, text_form, edited_form, form_of_word, picture_word, picture_form, IfBad}
+use Rattle.cob_tree.specs.Pictures.{IsPicture, IsAllowed, AreDigits, is_place, behind, behind_first, place_count, may_suppress, is_inserted_rightly, IsForm, IsTextForm, IsEditedForm, is_numeric_symbol, is_alphanumeric_symbol, is_edited_symbol, has, symbol_count, is_digit_count, is_alphanumeric, is_edited, most_bytes}
+use Rattle.cob_tree.specs.PictureForms.{is_signed_rightly, is_numeric, number_form, text_form, edited_form, form_of_word, picture_word, picture_form, IfBad}
+use Rattle.cob_tree.proofs.NumericLaws.{number_is_numeric, number_is, numeric_has_form, numeric_is_short}
 use Rattle.cob_tree.proofs.PictureLaws.{spells_is_word, word_spells}
-
--- ---- a numeric word is short
-
-count-cons : (p : ℕ → Bool) (c : ℕ) (cs : List ℕ) → count_by p (c ∷ cs) ≡ cond (p c) 1 0 + count_by p cs
-count-cons p c cs = sum_by-cons (λ x. cond (p x) 1 0) c cs
-
-none_counted : (p : ℕ → Bool) (word : List ℕ) → list_any p word ≡ false → count_by p word ≡ 0
-none_counted p [] none = refl
-none_counted p (c ∷ cs) none =
-    let parts = or_parts (p c) (list_any p cs) none in
-    count-cons p c cs ∙ rw (parts.0, none_counted p cs parts.1) refl
-
-one_of_three : (c : ℕ) → is_numeric_symbol c ≡ true → 1 ≤ cond (eqb c 57) 1 0 + cond (eqb c 83) 1 0 + cond (eqb c 86) 1 0
-one_of_three c allowed = grind (arith, nat_tests)
-
-counted_by_symbol : (word : List ℕ) → list_all is_numeric_symbol word ≡ true → length word ≤ symbol_count 57 word + symbol_count 83 word + symbol_count 86 word
-counted_by_symbol [] all = omega arith
-counted_by_symbol (c ∷ cs) all =
-    let parts = and_parts (is_numeric_symbol c) (list_all is_numeric_symbol cs) all in
-    let rest = counted_by_symbol cs parts.1 in
-    let here = one_of_three c parts.0 in
-    let nines = count-cons (λ x. eqb x 57) c cs in
-    let signs = count-cons (λ x. eqb x 83) c cs in
-    let points = count-cons (λ x. eqb x 86) c cs in
-    rw (nines, signs, points) (omega arith)
-
-at_most_first : (word : List ℕ) → has 83 (drop 1 word) ≡ false → symbol_count 83 word ≤ 1
-at_most_first [] none = omega arith
-at_most_first (c ∷ cs) none =
-    let first = count-cons (λ x. eqb x 83) c cs in
-    let rest : symbol_count 83 cs ≡ 0 = none_counted (λ x. eqb x 83) cs none in
-    rw (first, rest) (grind arith)
-
-pub numeric_is_short : (word : List ℕ) → is_numeric word ≡ true → length word ≤ 20
-numeric_is_short word numeric =
-    let parts = and_parts (list_all is_numeric_symbol word && is_signed_rightly word) (is_digit_count (symbol_count 57 word)) numeric in
-    let symbols = and_parts (list_all is_numeric_symbol word) (is_signed_rightly word) parts.0 in
-    let signs = and_parts (not (has 83 (drop 1 word))) (leb (symbol_count 86 word) 1) symbols.1 in
-    let digits = and_parts (leb 1 (symbol_count 57 word)) (leb (symbol_count 57 word) 18) parts.1 in
-    let all = counted_by_symbol word symbols.0 in
-    let sign = at_most_first word (not-true (has 83 (drop 1 word)) signs.0) in
-    omega (arith, leb-true (symbol_count 86 word) 1 signs.1, leb-true (symbol_count 57 word) 18 digits.1)
 
 -- ---- the categories have no word in common
 
@@ -104,9 +62,6 @@ edited_alone word edited =
 
 -- ---- the form is what the word describes
 
-number_is : (word : List ℕ) (digits scale : ℕ) (signed : Bool) (usage : Usage) → IsNumberForm word digits scale signed usage → number_form word ≡ Number digits scale signed usage
-number_is word digits scale signed usage f = let a = f.digits_are in let b = f.scale_is in let c = f.sign_is in let d = f.usage_is in cc
-
 text_is : (word : List ℕ) (bytes : ℕ) → IsTextForm word bytes → text_form word ≡ Text bytes
 text_is word bytes f = let a = f.bytes_are in cc
 
@@ -116,7 +71,8 @@ edited_is word picture digits scale f = let a = f.picture_is in let b = f.digits
 pub described_is : (word : List ℕ) (form : Form) → IsForm word form → form_of_word word ≡ Some form
 unfolding form_of_word
 described_is word Group f = elim f [ ]
-described_is word (Number digits scale signed usage) f = rw f.allowed (ap Some (number_is word digits scale signed usage f))
+described_is word (Number digits scale signed usage) f =
+    rw (number_is_numeric word digits scale signed usage f) (ap Some (number_is word digits scale signed usage f))
 described_is word (Text bytes) f = rw (alphanumeric_alone word f.allowed, f.allowed) (ap Some (text_is word bytes f))
 described_is word (Edited picture digits scale) f =
     let alone = edited_alone word f.allowed in
@@ -124,7 +80,7 @@ described_is word (Edited picture digits scale) f =
 
 pub described_is_short : (word : List ℕ) (form : Form) → IsForm word form → length word ≤ most_bytes
 described_is_short word Group f = elim f [ ]
-described_is_short word (Number digits scale signed usage) f = omega (arith, numeric_is_short word f.allowed)
+described_is_short word (Number digits scale signed usage) f = omega (arith, numeric_is_short word (number_is_numeric word digits scale signed usage f))
 described_is_short word (Text bytes) f = omega (arith, f.bytes_are, f.within)
 described_is_short word (Edited picture digits scale) f = f.within
 
@@ -132,7 +88,7 @@ by_category : (word : List ℕ) (form : Form) (numeric alphanumeric edited : Boo
     cond numeric (Some (number_form word)) (cond alphanumeric (Some (text_form word)) (cond edited (Some (edited_form word)) None)) ≡ Some form → IsForm word form
 by_category word form true alphanumeric edited within n a d e =
     let is : number_form word ≡ form = cc in
-    subst (IsForm word) is (record { allowed = n; digits_are = refl; scale_is = refl; sign_is = refl; usage_is = refl })
+    subst (IsForm word) is (numeric_has_form word n)
 by_category word form false true edited within n a d e =
     let is : text_form word ≡ form = cc in
     subst (IsForm word) is (record { allowed = a; bytes_are = refl; within = within })
@@ -188,10 +144,6 @@ are_digits digits scale counts fewer =
     let parts = and_parts (leb 1 digits) (leb digits 18) counts in
     record { some = leb-true 1 digits parts.0; at_most_18 = leb-true digits 18 parts.1; decimals = fewer }
 
-numeric_digits : (word : List ℕ) → is_numeric word ≡ true → is_digit_count (symbol_count 57 word) ≡ true
-numeric_digits word numeric =
-    let parts = and_parts (list_all is_numeric_symbol word && is_signed_rightly word) (is_digit_count (symbol_count 57 word)) numeric in parts.1
-
 edited_digits : (word : List ℕ) → is_edited word ≡ true → is_digit_count (place_count word) ≡ true
 edited_digits word edited =
     let outer = and_parts (list_all is_edited_symbol word && is_inserted_rightly word && is_digit_count (place_count word)) (may_suppress word) edited in
@@ -202,10 +154,7 @@ word_allows word Group f = elim f [ ]
 word_allows word (Text bytes) f =
     let parts = and_parts (list_all is_alphanumeric_symbol word) (has 88 word) f.allowed in
     (omega (arith, f.bytes_are, some_there (λ c. eqb c 88) word parts.1), f.within)
-word_allows word (Number digits scale signed usage) f =
-    rw (f.digits_are, f.scale_is)
-    (are_digits (symbol_count 57 word) (symbol_count 57 (behind_first 86 word)) (numeric_digits word f.allowed)
-    (fewer_behind (λ c. eqb c 57) (position (λ c. eqb c 86) word) word))
+word_allows word (Number digits scale signed usage) f = are_digits digits scale f.allowed (omega (arith, f.digits_are, f.scale_is))
 word_allows word (Edited picture digits scale) f =
     rw (f.picture_is, f.digits_are, f.scale_is) (
       are_digits (place_count word) (place_count (behind_first 46 word)) (edited_digits word f.allowed)

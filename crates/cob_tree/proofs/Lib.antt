@@ -1,3 +1,4 @@
 pub mod PictureLemmas
 pub mod PictureLaws
 pub mod FormLaws
+pub mod NumericLaws

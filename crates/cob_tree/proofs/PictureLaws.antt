@@ -1,21 +1,18 @@
 -- What spells a picture is what is read, and a picture has one form.
-use Rattle.std.proofs.Common.{◌≡◌, ◌≢◌, ℕ, ◌+◌, ◌-◌, ◌<◌, ◌≤◌, zero, suc, Bool, true, false, not, cond, eqb, ltb, leb, ◌&&◌, IsTrue, List, [], ◌∷◌, ◌++◌, append_assoc, append-nil, length, length-append, get_or, take, drop, replicate, Option, Some, None, IfSome, refl, ap, ◌∙◌, sym, subst, arith, tests, add-one}
+use Rattle.std.proofs.Common.{◌≡◌, ℕ, ◌+◌, ◌-◌, ◌<◌, ◌≤◌, zero, suc, Bool, true, false, not, cond, eqb, leb, ◌&&◌, List, [], ◌∷◌, ◌++◌, append_assoc, length, length-append, get_or, take, drop, replicate, Option, Some, None, IfSome, refl, ap, ◌∙◌, sym, subst, arith, add-one}
 use Rattle.std.proofs.lemmas.List.{length-replicate, take-append-drop}
 use Rattle.std.proofs.lemmas.List.Quantifiers.{position-Some}
 use Rattle.std.proofs.lemmas.Bool.{false≢true, and_parts, lt-ltb, le-leb, leb-true, eqb-true}
 use Rattle.std.proofs.lemmas.Bool.Decides.{nat_tests}
-use Rattle.std.proofs.lemmas.List.Sums.{position_or_len_is}
-use Rattle.std.proofs.Math.Seq.{take-append_seam, drop-append_seam, drop-append-add, drop-cons}
-use Rattle.std.specs.List.{list_all, list_any, position, position_or_len, prefix_len, AllByRecursion}
-use Rattle.std.specs.Option.{option_map, option_and_then}
+use Rattle.std.proofs.Math.Seq.{take-append_seam, drop-append-add, drop-cons}
+use Rattle.std.specs.List.{list_all, prefix_len, AllByRecursion}
+use Rattle.std.specs.Option.{option_and_then}
 use Rattle.std.specs.Char.{is_ascii_digit, to_ascii_uppercase}
 use Rattle.std.specs.Str.Parse.{digits_value}
-use Rattle.cob_tree.specs.declared.form.Form.{Form}
-use Rattle.cob_tree.specs.declared.form.Form.TheVariants.{Group, Text, Number, Edited}
 use Rattle.cob_tree.specs.declared.symbol.Run.{Run}
-use Rattle.cob_tree.specs.Pictures.{Symbol, IsCount, IsSymbol, Spells, IsPicture, IsForm, parenthesized, times, spelled, written_out, is_symbol, begins_with, most_bytes}
-use Rattle.cob_tree.specs.PictureForms.{count_value, counted, repeated, closing, run, run_behind, first_run, prefixed, begun, word_from, short, picture_word, form_of_word, picture_form}
-use Rattle.cob_tree.proofs.PictureLemmas.{word_more, word_skip}
+use Rattle.cob_tree.specs.Pictures.{Symbol, IsCount, IsSymbol, Spells, parenthesized, times, spelled, written_out, is_symbol, begins_with, most_bytes}
+use Rattle.cob_tree.specs.PictureForms.{count_value, counted, repeated, closing, run, run_behind, first_run, prefixed, begun, word_from, short, picture_word}
+use Rattle.cob_tree.proofs.PictureLemmas.{word_more}
 
 -- ---- a symbol is no parenthesis, and a digit closes none
 

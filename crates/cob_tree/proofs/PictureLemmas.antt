@@ -1,16 +1,16 @@
 -- Pictures read symbol by symbol, and counts digit by digit.
-use Rattle.std.proofs.Common.{◌≡◌, ℕ, ◌+◌, ◌-◌, ◌*◌, ◌<◌, ◌≤◌, zero, suc, min, Bool, true, false, cond, leb, List, [], ◌∷◌, ◌++◌, append_assoc, append-nil, length, length-append, get_or, take, drop, replicate, Option, Some, None, refl, ap, ◌∙◌, sym, arith}
+use Rattle.std.proofs.Common.{◌≡◌, ℕ, ◌+◌, ◌-◌, ◌*◌, ◌<◌, ◌≤◌, zero, suc, min, Bool, true, false, cond, List, [], ◌∷◌, ◌++◌, append_assoc, append-nil, length, length-append, get_or, take, drop, replicate, Option, Some, None, refl, ap, ◌∙◌, sym, arith}
 use Rattle.std.proofs.lemmas.List.{length-replicate}
 use Rattle.std.proofs.lemmas.List.Folds.{list_all_more}
 use Rattle.std.specs.List.{list_all}
 use Rattle.std.proofs.lemmas.Int.Digits.{digits_value_more}
 use Rattle.std.proofs.lemmas.Bool.Decides.{nat_tests}
-use Rattle.std.specs.Option.{option_map, option_and_then}
+use Rattle.std.specs.Option.{option_and_then}
 use Rattle.std.specs.Char.{is_ascii_digit, digit_value, to_ascii_uppercase}
 use Rattle.std.specs.Str.Parse.{digits_value}
 use Rattle.cob_tree.specs.declared.symbol.Run.{Run}
 use Rattle.cob_tree.specs.Pictures.{is_symbol, most_bytes}
-use Rattle.cob_tree.specs.PictureForms.{run_behind, first_run, prefixed, begun, word_from, short, picture_word}
+use Rattle.cob_tree.specs.PictureForms.{run_behind, first_run, prefixed, begun, word_from, short}
 
 -- ---- counts
 

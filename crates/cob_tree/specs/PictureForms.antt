@@ -1,5 +1,5 @@
 -- The form of a picture, as a function of its text.
-use Rattle.std.specs.Prelude.{◌≡◌, ◌==◌, ℕ, ◌+◌, ◌-◌, ◌≤◌, zero, suc, nat_le, min, Bool, ◌&&◌, if◌then◌else◌, List, [], ◌∷◌, ◌++◌, length, take, drop, replicate, slice_index, Option, Some, None}
+use Rattle.std.specs.Prelude.{◌==◌, ℕ, ◌+◌, ◌-◌, zero, suc, nat_le, Bool, not, ◌&&◌, if◌then◌else◌, List, [], ◌∷◌, ◌++◌, length, take, drop, replicate, Option, Some, None}
 use Rattle.std.specs.List.{list_all, position}
 use Rattle.std.specs.Option.{option_map, option_and_then}
 use Rattle.std.specs.Char.{is_ascii_digit, to_ascii_uppercase}
@@ -10,7 +10,7 @@ use Rattle.cob_tree.specs.declared.form.Usage.TheVariants.{Display}
 use Rattle.cob_tree.specs.declared.picture.PicEnd.{PicEnd}
 use Rattle.cob_tree.specs.declared.picture.PicEnd.TheVariants.{Bad, Memory}
 use Rattle.cob_tree.specs.declared.symbol.Run.{Run}
-use Rattle.cob_tree.specs.Pictures.{is_symbol, has, symbol_count, behind_first, begins_with, place_count, is_numeric, is_alphanumeric, is_edited, most_bytes}
+use Rattle.cob_tree.specs.Pictures.{is_symbol, has, symbol_count, behind_first, begins_with, place_count, is_digit_count, is_numeric_symbol, is_alphanumeric, is_edited, most_bytes}
 
 -- a count is 1 at least; no item has more bytes than its symbols count
 abbrev pub is_count : ℕ → Bool
@@ -67,6 +67,14 @@ short word = if nat_le (length word) most_bytes then Some word else None
 -- the symbols of a text written out, if they are not more than an item's bytes
 abbrev pub picture_word : List ℕ → Option (List ℕ)
 picture_word text = option_and_then short (word_from 0 text)
+
+-- S stands first, V once at most
+abbrev pub is_signed_rightly : List ℕ → Bool
+is_signed_rightly word = not (has 83 (drop 1 word)) && nat_le (symbol_count 86 word) 1
+
+-- symbols 9, S and V, with 1 to 18 of the first
+abbrev pub is_numeric : List ℕ → Bool
+is_numeric word = list_all is_numeric_symbol word && is_signed_rightly word && is_digit_count (symbol_count 57 word)
 
 abbrev pub number_form : List ℕ → Form
 number_form word = Number (symbol_count 57 word) (symbol_count 57 (behind_first 86 word)) (has 83 word) Display

@@ -1,5 +1,5 @@
 -- Pictures: the symbols that spell one, and the item that it describes.
-use Rattle.std.specs.Prelude.{◌≡◌, ◌==◌, ℕ, ◌+◌, ◌≤◌, nat_le, Bool, not, ◌&&◌, ◌||◌, IsTrue, List, [], ◌∷◌, ◌++◌, length, drop, replicate, count_by, slice_index, Option, Some, None, IfSome}
+use Rattle.std.specs.Prelude.{◌≡◌, ◌==◌, ℕ, ◌+◌, ◌≤◌, nat_le, Bool, true, false, not, ◌&&◌, ◌||◌, IsTrue, List, [], ◌∷◌, ◌++◌, length, drop, replicate, count_by, slice_index, Option, Some, None, IfSome}
 use Rattle.std.specs.List.{list_all, list_any, position, AllByRecursion}
 use Rattle.std.specs.Char.{is_ascii_digit, to_ascii_uppercase}
 use Rattle.std.specs.Str.Parse.{digits_value}
@@ -92,14 +92,6 @@ place_count word = count_by is_place word
 abbrev pub is_digit_count : ℕ → Bool
 is_digit_count n = nat_le 1 n && nat_le n 18
 
--- S stands first, V once at most
-abbrev pub is_signed_rightly : List ℕ → Bool
-is_signed_rightly word = not (has 83 (drop 1 word)) && nat_le (symbol_count 86 word) 1
-
--- symbols 9, S and V, with 1 to 18 of the first
-abbrev pub is_numeric : List ℕ → Bool
-is_numeric word = list_all is_numeric_symbol word && is_signed_rightly word && is_digit_count (symbol_count 57 word)
-
 -- symbols X and 9, with an X at least
 abbrev pub is_alphanumeric : List ℕ → Bool
 is_alphanumeric word = list_all is_alphanumeric_symbol word && has 88 word
@@ -131,12 +123,29 @@ pub record IsTextForm (word : List ℕ) (bytes : ℕ) : Type 0 where
   pub bytes_are : bytes ≡ length word
   pub within : bytes ≤ most_bytes
 
--- A numeric item with a digit for each 9, those behind V being decimals; it has a sign where there is an S.
+-- S, or nothing
+abbrev pub sign_symbols : Bool → List ℕ
+sign_symbols true = 83 ∷ []
+sign_symbols false = []
+
+-- V and so many nines, or nothing
+abbrev pub decimal_symbols : Option ℕ → List ℕ
+decimal_symbols None = []
+decimal_symbols (Some n) = 86 ∷ replicate n 57
+
+abbrev pub decimals : Option ℕ → ℕ
+decimals None = 0
+decimals (Some n) = n
+
+-- A numeric item: S where it has a sign, then nines, then V and the decimals; one of these may be absent, but not
+-- each 9.
 pub record IsNumberForm (word : List ℕ) (digits scale : ℕ) (signed : Bool) (usage : Usage) : Type 0 where
-  pub allowed : IsTrue (is_numeric word)
-  pub digits_are : digits ≡ symbol_count 57 word
-  pub scale_is : scale ≡ symbol_count 57 (behind_first 86 word)
-  pub sign_is : signed ≡ has 83 word
+  pub whole : ℕ
+  pub point : Option ℕ
+  pub symbols : word ≡ sign_symbols signed ++ (replicate whole 57 ++ decimal_symbols point)
+  pub digits_are : digits ≡ whole + decimals point
+  pub scale_is : scale ≡ decimals point
+  pub allowed : IsTrue (is_digit_count digits)
   pub usage_is : usage ≡ Display
 
 -- An edited item of a byte for each symbol, with a digit for each place, those behind the point being decimals.

@@ -1,9 +1,9 @@
 ghost use Rattle.std.specs.Prelude.{◌≡◌, ◌==◌, ◌<◌, ◌≤◌, not, length, drop, Some, None, IfSome, IfOk, IfErr};
 ghost use Rattle.std.specs.List.{list_all, list_any, position};
-ghost use Rattle.cob_tree.specs.Pictures.{has, symbol_count, behind_first, begins_with, place_count, is_digit_count, is_numeric, is_alphanumeric, suppresses_rightly, may_suppress, is_inserted_rightly, is_signed_rightly, is_numeric_symbol, is_alphanumeric_symbol, is_edited_symbol, is_edited, most_bytes, IsPicture, IsAllowed};
+ghost use Rattle.cob_tree.specs.Pictures.{has, symbol_count, behind_first, begins_with, place_count, is_digit_count, is_alphanumeric, suppresses_rightly, may_suppress, is_inserted_rightly, is_numeric_symbol, is_alphanumeric_symbol, is_edited_symbol, is_edited, most_bytes, IsPicture, IsAllowed};
 ghost use Rattle.cob_tree.specs.declared.form.Form.{Form};
 ghost use Rattle.cob_tree.specs.declared.picture.PicEnd.TheVariants.{Memory};
-ghost use Rattle.cob_tree.specs.PictureForms.{number_form, text_form, edited_form, form_of_word, picture_form, IfBad};
+ghost use Rattle.cob_tree.specs.PictureForms.{is_signed_rightly, is_numeric, number_form, text_form, edited_form, form_of_word, picture_form, IfBad};
 
 use crate::bytes::Bytes;
 use crate::form::{Form, Usage};
