@@ -1,1 +1,5 @@
 pub mod KeywordLemmas
+pub mod PictureLemmas
+pub mod PictureLaws
+pub mod FormLaws
+pub mod NumericLaws

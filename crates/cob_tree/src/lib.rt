@@ -8,13 +8,18 @@ mod expr;
 mod fault;
 mod form;
 mod front;
+mod keyword;
+mod laws;
+mod lexeme;
 mod list;
 mod operand;
+mod picture;
 mod stmt;
-mod lexeme;
-mod keyword;
+mod symbol;
 mod token;
 mod tree;
+#[cfg(test)]
+mod tests;
 
 pub use bytes::{Bytes, Name};
 pub use cond::{Cond, Conj, Neg, SignTest, Simple};
@@ -32,5 +37,7 @@ pub use stmt::{
 };
 pub use keyword::{Keyword, keyword_of, keywords_differ};
 pub use lexeme::{Lexeme, Symbol, lexemes};
+pub use laws::{one_form, picture_form_is};
+pub use picture::{PicEnd, picture_of};
 pub use token::{Num, Rel, Tok, Token};
 pub use tree::{EndProgram, Paragraph, Sentence, Tree};
