@@ -1,119 +1,78 @@
--- A text is that of one source.
-use Rattle.std.proofs.Common.{◌≡◌, ℕ, List, [], ◌∷◌, ◌++◌, Option, Some, None, refl, sym, ap, ◌∙◌, append-nil, map}
-use Rattle.std.specs.List.{AllByRecursion}
-use Rattle.text_lines.specs.Lines.{Line, text_of}
-use Rattle.text_lines.proofs.Texts.{cut_text}
-use Rattle.straight_source.specs.Source.{ItemLine, ActLine, Source, Verb, Move, Add, headings, item_line, act_line, procedure_line, stop_line, source_lines, AreItemLines, IsActLine, IsSource}
-use Rattle.straight_source.specs.Pieces.{after, verb_at, item_at, act_at}
-use Rattle.straight_source.proofs.Pieces.{item_again, act_again}
-use Rattle.straight_source.proofs.Whole.{source_one_line}
+-- Tokens are those of one source.
+use Rattle.std.proofs.Common.{◌≡◌, ℕ, Bool, true, false, List, [], ◌∷◌, ◌++◌, drop, get_or, refl, sym, ap, ◌∙◌}
+use Rattle.std.specs.Prelude.{codes}
+use Rattle.std.specs.List.{flat_map}
+use Rattle.std.proofs.lemmas.Bool.{false≢true}
+use Rattle.std.proofs.lemmas.Option.{same_Some}
+use Rattle.cob_tree.specs.declared.token.Tok.{Tok}
+use Rattle.cob_tree.specs.declared.token.Tok.TheVariants as tok
+use Rattle.straight_source.specs.Source.{Item, Act, Source, Verb, Move, Add, item_tokens, act_tokens, procedure_tokens, stop_tokens, verb_text, word, source_tokens, IsItem, AreItems, IsSource}
+use Rattle.straight_source.specs.Tokens.{is_word, picture_at, verb_at}
+use Rattle.straight_source.proofs.Tokens.{picture_tok, picture_at-again, verb_at-again}
+use Rattle.straight_source.proofs.Complete.{regrouped}
 
-abbrev put : {X : Type 0} → Option X → List X → List X
-put None xs = xs
-put (Some x) xs = x ∷ xs
+-- what a word or a number holds
+abbrev text_in : Tok → List ℕ
+text_in (tok.Word text) = text
+text_in (tok.Number n) = n.digits
+text_in _ = []
 
--- what is read from each line that reads so
-abbrev gather : {X : Type 0} → (Line → Option X) → List Line → List X
-gather read [] = []
-gather read (line ∷ lines) = put (read line) (gather read lines)
+abbrev is_number : Tok → Bool
+is_number (tok.Number n) = true
+is_number _ = false
 
-put-append : {X : Type 0} (o : Option X) (xs ys : List X) → put o (xs ++ ys) ≡ put o xs ++ ys
-put-append None xs ys = refl
-put-append (Some x) xs ys = refl
+abbrev nth : ℕ → List Tok → Tok
+nth k ts = get_or ts k tok.Stop
 
-gather-append : {X : Type 0} (read : Line → Option X) (a b : List Line) → gather read (a ++ b) ≡ gather read a ++ gather read b
-gather-append read [] b = refl
-gather-append {X} read (line ∷ a) b = ap (λ (xs : List X). put (read line) xs) (gather-append read a b) ∙ put-append (read line) (gather read a) (gather read b)
+abbrev item_of : List ℕ → ℕ → List ℕ → Item
+item_of name digits value = record { name = name; digits = digits; value = value }
 
-act-no-item : (verb : Verb) (amount : List ℕ) (letter : ℕ) → item_at (act_line (record { verb = verb; amount = amount; letter = letter })) ≡ None
-unfolding item_at after
-act-no-item Move amount letter = refl
-act-no-item Add amount letter = refl
+same_item : (a b : Item) → a.name ≡ b.name → a.digits ≡ b.digits → a.value ≡ b.value → a ≡ b
+same_item a b e f g = ap (λ n. item_of n a.digits a.value) e ∙ ap (λ d. item_of b.name d a.value) f ∙ ap (λ v. item_of b.name b.digits v) g
 
-item-no-act : (item : ItemLine) → act_at (item_line item) ≡ None
-unfolding act_at after verb_at
-item-no-act item = refl
+same_digits : (a b : Item) → IsItem a → IsItem b → picture_tok a.digits ≡ picture_tok b.digits → a.digits ≡ b.digits
+same_digits a b h k e = same_Some _ _ (sym (picture_at-again a.digits h.digits.0 h.digits.1) ∙ ap picture_at e ∙ picture_at-again b.digits k.digits.0 k.digits.1)
 
-heads-no-item : gather item_at headings ≡ []
-unfolding item_at after
-heads-no-item = refl
+items_same : (a b : List Item) (before before' : List (List ℕ)) (xs ys : List Tok) → AreItems before a → AreItems before' b →
+    flat_map item_tokens a ++ (procedure_tokens ++ xs) ≡ flat_map item_tokens b ++ (procedure_tokens ++ ys) → (a ≡ b) × (xs ≡ ys)
+items_same [] [] before before' xs ys h k e = (refl, ap (drop 3) e)
+items_same [] (item ∷ b) before before' xs ys h k e = absurd (false≢true (ap (λ ts. is_number (nth 0 ts)) e))
+items_same (item ∷ a) [] before before' xs ys h k e = absurd (false≢true (sym (ap (λ ts. is_number (nth 0 ts)) e)))
+items_same (item ∷ a) (other ∷ b) before before' xs ys h k e =
+    let more = items_same a b (before ++ item.name ∷ []) (before' ++ other.name ∷ []) xs ys h.2 k.2 (ap (drop 7) e) in
+    let first : item ≡ other = same_item item other (ap (λ ts. text_in (nth 1 ts)) e) (same_digits item other h.0 k.0 (ap (nth 3) e)) (ap (λ ts. text_in (nth 5 ts)) e) in
+    (ap (λ (x : Item). x ∷ a) first ∙ ap (λ (xs : List Item). other ∷ xs) more.0, more.1)
 
-heads-no-act : gather act_at headings ≡ []
-unfolding act_at after verb_at
-heads-no-act = refl
+abbrev act_of : Verb → List ℕ → List ℕ → Act
+act_of verb amount receiver = record { verb = verb; amount = amount; receiver = receiver }
 
-procedure-no-item : item_at procedure_line ≡ None
-unfolding item_at after
-procedure-no-item = refl
+same_act : (a b : Act) → a.verb ≡ b.verb → a.amount ≡ b.amount → a.receiver ≡ b.receiver → a ≡ b
+same_act a b e f g = ap (λ v. act_of v a.amount a.receiver) e ∙ ap (λ n. act_of b.verb n a.receiver) f ∙ ap (λ r. act_of b.verb b.amount r) g
 
-procedure-no-act : act_at procedure_line ≡ None
-unfolding act_at after verb_at
-procedure-no-act = refl
+same_verb : (a b : Verb) → word (verb_text a) ≡ word (verb_text b) → a ≡ b
+same_verb a b e = same_Some a b (sym (verb_at-again a) ∙ ap verb_at e ∙ verb_at-again b)
 
-stop-no-item : item_at stop_line ≡ None
-unfolding item_at after
-stop-no-item = refl
+verb_no_stop : (verb : Verb) → word (codes "STOP") ≡ word (verb_text verb) → ⊥
+verb_no_stop Move e = false≢true (sym (ap (is_word (codes "STOP")) e))
+verb_no_stop Add e = false≢true (sym (ap (is_word (codes "STOP")) e))
 
-stop-no-act : act_at stop_line ≡ None
-unfolding act_at after verb_at
-stop-no-act = refl
+acts_same : (a b : List Act) → flat_map act_tokens a ++ stop_tokens ≡ flat_map act_tokens b ++ stop_tokens → a ≡ b
+acts_same [] [] e = refl
+acts_same [] (act ∷ b) e = absurd (verb_no_stop act.verb (ap (nth 0) e))
+acts_same (act ∷ a) [] e = absurd (verb_no_stop act.verb (sym (ap (nth 0) e)))
+acts_same (act ∷ a) (other ∷ b) e =
+    let more = acts_same a b (ap (drop 5) e) in
+    let first : act ≡ other = same_act act other (same_verb act.verb other.verb (ap (nth 0) e)) (ap (λ ts. text_in (nth 1 ts)) e) (ap (λ ts. text_in (nth 3 ts)) e) in
+    ap (λ (x : Act). x ∷ a) first ∙ ap (λ (xs : List Act). other ∷ xs) more
 
-items-gather : (before : List ℕ) (items : List ItemLine) → AreItemLines before items → gather item_at (map item_line items) ≡ items
-items-gather before [] h = refl
-items-gather before (item ∷ items) h =
-    ap (λ (o : Option ItemLine). put o (gather item_at (map item_line items))) (item_again item h.0) ∙ ap (λ (xs : List ItemLine). item ∷ xs) (items-gather (before ++ item.letter ∷ []) items h.2)
+abbrev source_of : List ℕ → List Item → List Act → Source
+source_of name items acts = record { name = name; items = items; acts = acts }
 
-items-gather-none : (items : List ItemLine) → gather act_at (map item_line items) ≡ []
-items-gather-none [] = refl
-items-gather-none (item ∷ items) = ap (λ (o : Option ActLine). put o (gather act_at (map item_line items))) (item-no-act item) ∙ items-gather-none items
-
-acts-gather : (declared : List ℕ) (acts : List ActLine) → AllByRecursion (IsActLine declared) acts → gather act_at (map act_line acts) ≡ acts
-acts-gather declared [] h = refl
-acts-gather declared (act ∷ acts) h =
-    ap (λ (o : Option ActLine). put o (gather act_at (map act_line acts))) (act_again act h.0.amount) ∙ ap (λ (xs : List ActLine). act ∷ xs) (acts-gather declared acts h.1)
-
-acts-gather-none : (acts : List ActLine) → gather item_at (map act_line acts) ≡ []
-acts-gather-none [] = refl
-acts-gather-none (act ∷ acts) = ap (λ (o : Option ItemLine). put o (gather item_at (map act_line acts))) (act-no-item act.verb act.amount act.letter) ∙ acts-gather-none acts
-
--- what is read from the parts of a source, one behind the other
-parts : {X : Type 0} (read : Line → Option X) (source : Source) → gather read headings ≡ [] → read procedure_line ≡ None → read stop_line ≡ None →
-    gather read (source_lines source) ≡ gather read (map item_line source.items) ++ gather read (map act_line source.acts)
-parts {X} read source heads procedure stop =
-    let items : List Line = map item_line source.items in
-    let acts : List Line = map act_line source.acts in
-    gather-append read ((headings ++ items) ++ procedure_line ∷ acts) (stop_line ∷ [])
-    ∙ ap (λ (o : Option X). gather read ((headings ++ items) ++ procedure_line ∷ acts) ++ put o []) stop
-    ∙ append-nil (gather read ((headings ++ items) ++ procedure_line ∷ acts))
-    ∙ gather-append read (headings ++ items) (procedure_line ∷ acts)
-    ∙ ap (λ (o : Option X). gather read (headings ++ items) ++ put o (gather read acts)) procedure
-    ∙ ap (λ (xs : List X). xs ++ gather read acts) (gather-append read headings items ∙ ap (λ (xs : List X). xs ++ gather read items) heads)
-
-source-items : (source : Source) → IsSource source → gather item_at (source_lines source) ≡ source.items
-source-items source h =
-    parts item_at source heads-no-item procedure-no-item stop-no-item
-    ∙ ap (λ (xs : List ItemLine). gather item_at (map item_line source.items) ++ xs) (acts-gather-none source.acts)
-    ∙ append-nil (gather item_at (map item_line source.items))
-    ∙ items-gather [] source.items h.items
-
-source-acts : (source : Source) → IsSource source → gather act_at (source_lines source) ≡ source.acts
-source-acts source h =
-    parts act_at source heads-no-act procedure-no-act stop-no-act
-    ∙ ap (λ (xs : List ActLine). xs ++ gather act_at (map act_line source.acts)) (items-gather-none source.items)
-    ∙ acts-gather _ source.acts h.acts
-
-abbrev source : List ItemLine → List ActLine → Source
-source items acts = record { items = items; acts = acts }
-
-same-parts : (i j : List ItemLine) (k l : List ActLine) → i ≡ j → k ≡ l → source i k ≡ source j l
-same-parts i j k l e f = ap (λ (items : List ItemLine). source items k) e ∙ ap (λ (acts : List ActLine). source j acts) f
-
--- sources of the form with equal texts are equal
-pub same_source : (a b : Source) → IsSource a → IsSource b → text_of (source_lines a) ≡ text_of (source_lines b) → a ≡ b
+-- sources of the form with equal tokens are equal
+pub same_source : (a b : Source) → IsSource a → IsSource b → source_tokens a ≡ source_tokens b → a ≡ b
 same_source a b h k e =
-    let here = cut_text (text_of (source_lines a)) (source_lines a) (source_one_line a h) refl in
-    let there = cut_text (text_of (source_lines a)) (source_lines b) (source_one_line b k) e in
-    let lines : source_lines a ≡ source_lines b = here.0 ∙ sym there.0 in
-    same-parts a.items b.items a.acts b.acts
-    (sym (source-items a h) ∙ ap (gather item_at) lines ∙ source-items b k)
-    (sym (source-acts a h) ∙ ap (gather act_at) lines ∙ source-acts b k)
+    let whole = sym (regrouped a) ∙ e ∙ regrouped b in
+    let items = items_same a.items b.items [] [] (flat_map act_tokens a.acts ++ stop_tokens) (flat_map act_tokens b.acts ++ stop_tokens) h.items k.items (ap (drop 13) whole) in
+    ap (λ n. source_of n a.items a.acts) (ap (λ ts. text_in (nth 5 ts)) whole)
+    ∙ ap (λ items. source_of b.name items a.acts) items.0
+    ∙ ap (λ acts. source_of b.name b.items acts) (acts_same a.acts b.acts items.1)

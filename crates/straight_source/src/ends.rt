@@ -7,7 +7,7 @@ use thiserror::Error;
 /// Why a source isn't read as a straight-line program.
 #[derive(Debug, Drop, Error)]
 pub enum SourceEnd {
-    /// The first line, counted from 1, with which no source of the form goes on.
+    /// The line, counted from 1, of the first token with which no source of the form goes on.
     #[error("line {line} is not of the straight-line form")]
     NotYet { line: u32 },
     #[error("out of memory")]

@@ -1,15 +1,16 @@
-//! Sources of straight-line programs, as they are written line by line.
+//! Sources of straight-line programs, read from their canonical tokens.
 #![tactic(auto)]
 
 mod ends;
 mod laws;
-mod line;
+mod numeral;
 mod read;
 mod reading;
+mod token;
 
 pub use ends::SourceEnd;
 pub use laws::{one_refusal, one_source, program_counts, read_or_refused};
-pub use read::read_source;
+pub use read::{StraightLines, read_source};
 
 #[cfg(test)]
 mod tests;

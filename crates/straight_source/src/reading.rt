@@ -1,29 +1,65 @@
-ghost use Rattle.std.specs.Prelude.{◌≡◌, ◌<◌, ◌≤◌, IfOk, Some, None, if◌then◌else◌, IfSome, length, vec_len, true, ◌↔◌};
-ghost use Rattle.straight_source.specs.declared.reading.Stage.TheVariants.{Stopped};
-ghost use Rattle.straight_source.specs.Pieces.{item_at, act_at};
-ghost use Rattle.straight_source.specs.Steps.{view, start, next, next_fixed, next_item, next_in_storage, next_act, next_in_procedure, place};
+ghost use Rattle.std.specs.Prelude.{◌≡◌, ◌<◌, ◌≤◌, ◌↔◌, IfOk, Some, None, if◌then◌else◌, IfSome, IsTrue, length, vec_len};
+ghost use Rattle.straight_source.specs.Steps.{view, start, next, next_at, next_name, next_in_storage, next_item_name, next_picture, next_value, next_stop, next_verb, next_in_procedure, next_amount, next_receiver, place, is_finished, IsBounded};
 
-use crate::line::{Act, Item, Verb, act_at, item_at};
+use crate::token::{
+    Due, Verb, is_level, is_word, name_at, number_at, picture_at, verb_at, word_at,
+};
 use cob_meaning::{Simple, Straight};
+use cob_tree::{Keyword, Name, Tok};
 use std::alloc::{AllocError, Global};
 
-/// What is read next.
+/// What is read behind the tokens that are due.
 #[derive(Clone, Copy)]
 pub enum Stage {
-    Identification,
     Name,
-    Data,
-    Storage,
     Items,
+    ItemName,
+    Picture,
+    Value { digits: u32 },
     Procedure,
+    Amount { verb: Verb },
+    Receiver { verb: Verb, amount: i64 },
     Stopped,
 }
 
-/// How far a source is read: the letters that are declared, and the program so far.
+static NONE_DUE: [Due; 0] = [];
+
+static BEFORE_NAME: [Due; 5] = [
+    Due::Word(Keyword::Identification),
+    Due::Word(Keyword::Division),
+    Due::Stop,
+    Due::Word(Keyword::ProgramId),
+    Due::Stop,
+];
+
+static BEHIND_NAME: [Due; 7] = [
+    Due::Stop,
+    Due::Word(Keyword::Data),
+    Due::Word(Keyword::Division),
+    Due::Stop,
+    Due::Word(Keyword::WorkingStorage),
+    Due::Word(Keyword::Section),
+    Due::Stop,
+];
+
+static BEHIND_ITEM_NAME: [Due; 1] = [Due::Word(Keyword::Pic)];
+
+static BEHIND_PICTURE: [Due; 1] = [Due::Word(Keyword::Value)];
+
+static BEHIND_PROCEDURE: [Due; 2] = [Due::Word(Keyword::Division), Due::Stop];
+
+static BEHIND_AMOUNT: [Due; 1] = [Due::Word(Keyword::To)];
+
+static BEHIND_STOP: [Due; 2] = [Due::Word(Keyword::Run), Due::Stop];
+
+static END: [Due; 1] = [Due::Stop];
+
+/// How far a source is read: the names that are declared, and the program so far.
 #[derive(Drop)]
 pub struct Reading {
+    pub due: &'static [Due],
     pub stage: Stage,
-    pub letters: Vec<u8>,
+    pub names: Vec<Name>,
     pub program: Straight,
 }
 
@@ -32,8 +68,9 @@ impl Reading {
         ensures { view result ≡ start }
     {
         Reading {
-            stage: Stage::Identification,
-            letters: Vec::new(alloc),
+            due: &BEFORE_NAME,
+            stage: Stage::Name,
+            names: Vec::new(alloc),
             program: Straight {
                 digits: Vec::new(alloc),
                 first: Vec::new(alloc),
@@ -42,111 +79,199 @@ impl Reading {
         }
     }
 
-    fn place(&self, letter: u8) -> Option<usize>
-        ensures value { result ≡ place self.now.letters.items letter }
-        ensures within { IfSome result (λ to. to < length self.now.letters.items) }
+    fn place(&self, name: &[u8]) -> Option<usize>
+        ensures value { result ≡ place self.now.names.items name.now }
+        ensures within { IfSome result (λ to. to < length self.now.names.items) }
     {
-        self.letters.iter().position(|other| *other == letter)
+        self.names.iter().position(|other| other.get() == name)
     }
 
-    #[tactic(auto, unfolding(crate::specs::Steps::next_fixed))]
-    fn take_fixed(&mut self, line: &[u8], wanted: &[u8], stage: Stage) -> bool
-        ensures letters { self.new.letters.items ≡ self.old.letters.items }
-        ensures taken { next_fixed (view self.old) line.now wanted.now stage ≡ (if result then Some (view self.new) else None) }
+    #[tactic(auto, unfolding(crate::specs::Steps::next_name))]
+    fn take_name(&mut self, tok: &Tok) -> bool
+        ensures names { self.new.names.items ≡ self.old.names.items }
+        ensures taken { next_name (view self.old) tok.now ≡ (if result then Some (view self.new) else None) }
     {
-        if line != wanted {
+        if name_at(tok).is_none() {
             return false;
         }
-        self.stage = stage;
+        self.due = &BEHIND_NAME;
+        self.stage = Stage::Items;
         true
     }
 
-    #[tactic(auto, unfolding(crate::specs::Steps::next_item))]
-    fn take_item(&mut self, item: Item) -> Result<bool, AllocError>
-        requires { vec_len self.old.letters ≤ 26 }
-        ensures few { vec_len self.new.letters ≤ 26 }
-        ensures taken { IfOk result (λ taken. next_item (view self.old) item ≡ (if taken then Some (view self.new) else None)) }
-    {
-        if self.place(item.letter).is_some() || self.letters.len() >= 26 {
-            return Ok(false);
-        }
-        self.letters.push(item.letter)?;
-        self.program.digits.push(item.digits)?;
-        self.program.first.push(item.first)?;
-        Ok(true)
-    }
-
     #[tactic(auto, unfolding(crate::specs::Steps::next_in_storage))]
-    fn take_in_storage(&mut self, line: &[u8]) -> Result<bool, AllocError>
-        requires { vec_len self.old.letters ≤ 26 }
-        ensures few { vec_len self.new.letters ≤ 26 }
-        ensures taken { IfOk result (λ taken. next_in_storage (view self.old) line.now ≡ (if taken then Some (view self.new) else None)) }
+    fn take_in_storage(&mut self, tok: &Tok) -> bool
+        ensures names { self.new.names.items ≡ self.old.names.items }
+        ensures taken { next_in_storage (view self.old) tok.now ≡ (if result then Some (view self.new) else None) }
     {
-        match item_at(line) {
-            Some(item) => self.take_item(item),
-            None if self.letters.is_empty() => Ok(false),
-            None => Ok(self.take_fixed(line, b"       PROCEDURE DIVISION.", Stage::Procedure)),
+        if is_level(tok) {
+            if self.names.len() >= 26 {
+                return false;
+            }
+            self.due = &NONE_DUE;
+            self.stage = Stage::ItemName;
+            return true;
         }
+        if !is_word(Keyword::Procedure, tok) || self.names.is_empty() {
+            return false;
+        }
+        self.due = &BEHIND_PROCEDURE;
+        self.stage = Stage::Procedure;
+        true
     }
 
-    #[tactic(auto, unfolding(crate::specs::Steps::next_act))]
-    fn take_act(&mut self, act: Act) -> Result<bool, AllocError>
-        requires { vec_len self.old.letters ≤ 26 }
-        ensures few { vec_len self.new.letters ≤ 26 }
-        ensures taken { IfOk result (λ taken. next_act (view self.old) act ≡ (if taken then Some (view self.new) else None)) }
+    #[tactic(auto, unfolding(crate::specs::Steps::next_item_name))]
+    fn take_item_name(&mut self, alloc: Global, tok: &Tok) -> Result<bool, AllocError>
+        requires { vec_len self.old.names ≤ 26 }
+        ensures { IfOk result (λ taken. next_item_name (view self.old) tok.now ≡ (if taken then Some (view self.new) else None)) }
     {
-        let Some(place) = self.place(act.letter) else {
+        let Some(name) = name_at(tok) else {
             return Ok(false);
         };
-        if self.program.acts.len() >= 4094 {
+        if self.place(name).is_some() {
             return Ok(false);
         }
-        self.program.acts.push(act.simple(place as u32))?;
+        self.names.push(Name::of(alloc, name)?)?;
+        self.due = &BEHIND_ITEM_NAME;
+        self.stage = Stage::Picture;
         Ok(true)
     }
 
-    #[tactic(auto, unfolding(crate::specs::Steps::next_in_procedure, crate::specs::Steps::next_fixed))]
-    fn take_in_procedure(&mut self, line: &[u8]) -> Result<bool, AllocError>
-        requires { vec_len self.old.letters ≤ 26 }
-        ensures few { vec_len self.new.letters ≤ 26 }
-        ensures taken { IfOk result (λ taken. next_in_procedure (view self.old) line.now ≡ (if taken then Some (view self.new) else None)) }
+    #[tactic(auto, unfolding(crate::specs::Steps::next_picture))]
+    fn take_picture(&mut self, tok: &Tok) -> bool
+        ensures { next_picture (view self.old) tok.now ≡ (if result then Some (view self.new) else None) }
     {
-        if let Some(act) = act_at(line) {
-            return self.take_act(act);
+        let Some(digits) = picture_at(tok) else {
+            return false;
+        };
+        self.due = &BEHIND_PICTURE;
+        self.stage = Stage::Value { digits };
+        true
+    }
+
+    #[tactic(auto, unfolding(crate::specs::Steps::next_value))]
+    fn take_value(&mut self, digits: u32, tok: &Tok) -> Result<bool, AllocError>
+        requires { digits ≤ 18 }
+        ensures { IfOk result (λ taken. next_value digits (view self.old) tok.now ≡ (if taken then Some (view self.new) else None)) }
+    {
+        let Some(first) = number_at(tok) else {
+            return Ok(false);
+        };
+        if first >= 10u64.pow(digits) {
+            return Ok(false);
         }
-        if line != b"       STOP RUN.".as_slice() {
+        self.program.digits.push(digits)?;
+        self.program.first.push(first as i64)?;
+        self.due = &END;
+        self.stage = Stage::Items;
+        Ok(true)
+    }
+
+    #[tactic(auto, unfolding(crate::specs::Steps::next_in_procedure))]
+    fn take_in_procedure(&mut self, tok: &Tok) -> Result<bool, AllocError>
+        ensures { IfOk result (λ taken. next_in_procedure (view self.old) tok.now ≡ (if taken then Some (view self.new) else None)) }
+    {
+        match verb_at(tok) {
+            Some(verb) => Ok(self.take_verb(verb)),
+            None => self.take_stop(tok),
+        }
+    }
+
+    #[tactic(auto, unfolding(crate::specs::Steps::next_verb))]
+    fn take_verb(&mut self, verb: Verb) -> bool
+        ensures { next_verb verb (view self.old) ≡ (if result then Some (view self.new) else None) }
+    {
+        if self.program.acts.len() >= 4094 {
+            return false;
+        }
+        self.due = &NONE_DUE;
+        self.stage = Stage::Amount { verb };
+        true
+    }
+
+    #[tactic(auto, unfolding(crate::specs::Steps::next_stop))]
+    fn take_stop(&mut self, tok: &Tok) -> Result<bool, AllocError>
+        ensures { IfOk result (λ taken. next_stop (view self.old) tok.now ≡ (if taken then Some (view self.new) else None)) }
+    {
+        if !is_word(Keyword::Stop, tok) {
             return Ok(false);
         }
         self.program.acts.push(Simple::Stop)?;
+        self.due = &BEHIND_STOP;
         self.stage = Stage::Stopped;
         Ok(true)
     }
 
-    /// Whether STOP RUN is read.
-    pub fn is_stopped(&self) -> bool
-        ensures { result ≡ true ↔ self.now.stage ≡ Stopped }
+    #[tactic(auto, unfolding(crate::specs::Steps::next_amount))]
+    fn take_amount(&mut self, verb: Verb, tok: &Tok) -> bool
+        ensures { next_amount verb (view self.old) tok.now ≡ (if result then Some (view self.new) else None) }
     {
-        matches!(&self.stage, Stage::Stopped)
+        let Some(amount) = number_at(tok) else {
+            return false;
+        };
+        self.due = &BEHIND_AMOUNT;
+        self.stage = Stage::Receiver {
+            verb,
+            amount: amount as i64,
+        };
+        true
     }
 
-    /// Reads one more line, and answers whether a source goes on with it. Where none does, the reading stays.
-    pub fn take(&mut self, line: &[u8]) -> Result<bool, AllocError>
-        requires { vec_len self.old.letters ≤ 26 }
-        ensures few { vec_len self.new.letters ≤ 26 }
-        ensures taken { IfOk result (λ taken. next (view self.old) line.now ≡ (if taken then Some (view self.new) else None)) }
+    #[tactic(auto, unfolding(crate::specs::Steps::next_receiver))]
+    fn take_receiver(&mut self, verb: Verb, amount: i64, tok: &Tok) -> Result<bool, AllocError>
+        requires { vec_len self.old.names ≤ 26 }
+        ensures { IfOk result (λ taken. next_receiver verb amount (view self.old) tok.now ≡ (if taken then Some (view self.new) else None)) }
+    {
+        let Some(name) = word_at(tok) else {
+            return Ok(false);
+        };
+        let Some(to) = self.place(name) else {
+            return Ok(false);
+        };
+        self.program.acts.push(verb.simple(amount, to as u32))?;
+        self.due = &END;
+        self.stage = Stage::Procedure;
+        Ok(true)
+    }
+
+    fn take_at_stage(&mut self, alloc: Global, tok: &Tok) -> Result<bool, AllocError>
+        requires { IsBounded (view self.old) }
+        ensures { IfOk result (λ taken. next_at self.old.stage (view self.old) tok.now ≡ (if taken then Some (view self.new) else None)) }
     {
         match self.stage {
-            Stage::Identification => {
-                Ok(self.take_fixed(line, b"       IDENTIFICATION DIVISION.", Stage::Name))
-            }
-            Stage::Name => Ok(self.take_fixed(line, b"       PROGRAM-ID. T.", Stage::Data)),
-            Stage::Data => Ok(self.take_fixed(line, b"       DATA DIVISION.", Stage::Storage)),
-            Stage::Storage => {
-                Ok(self.take_fixed(line, b"       WORKING-STORAGE SECTION.", Stage::Items))
-            }
-            Stage::Items => self.take_in_storage(line),
-            Stage::Procedure => self.take_in_procedure(line),
+            Stage::Name => Ok(self.take_name(tok)),
+            Stage::Items => Ok(self.take_in_storage(tok)),
+            Stage::ItemName => self.take_item_name(alloc, tok),
+            Stage::Picture => Ok(self.take_picture(tok)),
+            Stage::Value { digits } => self.take_value(digits, tok),
+            Stage::Procedure => self.take_in_procedure(tok),
+            Stage::Amount { verb } => Ok(self.take_amount(verb, tok)),
+            Stage::Receiver { verb, amount } => self.take_receiver(verb, amount, tok),
             Stage::Stopped => Ok(false),
+        }
+    }
+
+    /// Whether STOP RUN is read, with its point.
+    pub fn is_finished(&self) -> bool
+        ensures { result ≡ is_finished (view self.now) }
+    {
+        self.due.is_empty() && matches!(&self.stage, Stage::Stopped)
+    }
+
+    /// Reads one more token, and answers whether a source goes on with it. Where none does, the reading stays.
+    pub fn take(&mut self, alloc: Global, tok: &Tok) -> Result<bool, AllocError>
+        requires { IsBounded (view self.old) }
+        ensures { IfOk result (λ taken. next (view self.old) tok.now ≡ (if taken then Some (view self.new) else None)) }
+    {
+        match self.due {
+            [] => self.take_at_stage(alloc, tok),
+            [due, behind @ ..] => {
+                if !due.fits(tok) {
+                    return Ok(false);
+                }
+                self.due = behind;
+                Ok(true)
+            }
         }
     }
 }

@@ -1,3 +1,4 @@
 pub mod Cuts
 pub mod OneLine
 pub mod Texts
+pub mod Stops

@@ -15,3 +15,11 @@ pub record FirstBad (texts : List Line → Type 0) (bytes : List ℕ) (line : �
   pub goes_on : IsViable texts (take before (cut bytes).whole)
   pub stops : before < length (cut bytes).whole → IsViable texts (take (before + 1) (cut bytes).whole) → ⊥
   pub no_text : before ≡ length (cut bytes).whole → (lines : List Line) → texts lines → bytes ≡ text_of lines → ⊥
+
+-- The list is none of the set, and so many of its elements begin one: with the next element none goes on, or there
+-- is no next one.
+pub record StopsAfter {A : Type 0} (lists : List A → Type 0) (list : List A) (n : ℕ) : Type 0 where
+  pub within : n ≤ length list
+  pub goes_on : IsViable lists (take n list)
+  pub stops : n < length list → IsViable lists (take (n + 1) list) → ⊥
+  pub short : n ≡ length list → lists list → ⊥

@@ -4,5 +4,5 @@
 mod laws;
 mod split;
 
-pub use laws::{cut_again, one_line, refused_nowhere};
+pub use laws::{cut_again, never_stops, one_line, one_stop, refused_nowhere};
 pub use split::split_line;

@@ -1,5 +1,5 @@
-use Rattle.straight_source.proofs.Whole.{source_not_bad}
+use Rattle.straight_source.proofs.Whole.{read_or_refused}
 use Rattle.straight_source.proofs.laws.read_or_refused.Goals as goal
 
 pub returns : goal.returns
-returns c = source_not_bad
+returns c = read_or_refused

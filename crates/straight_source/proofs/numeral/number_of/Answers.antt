@@ -1,6 +1,6 @@
 use Rattle.std.proofs.Common.{◌∙◌, ◌+◌, ◌*◌, ap, arith}
-use Rattle.straight_source.proofs.Pieces.{number_more, number_below}
-use Rattle.straight_source.proofs.line.number_of.Goals as goal
+use Rattle.straight_source.proofs.Digits.{number_more, number_below}
+use Rattle.straight_source.proofs.numeral.number_of.Goals as goal
 
 pub overflow_mul-number : goal.overflow_mul-number
 overflow_mul-number c = omega (arith, number_below c.args.numeral.now c.loop-digit.digit-index c.requires, c.loop-digit.invariant)
