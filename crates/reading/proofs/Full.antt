@@ -6,13 +6,13 @@ use Rattle.reading.specs.Law.{Syntax, Fails, Law}
 use Rattle.reading.proofs.Results.{fault_is}
 
 -- Every tree opens one at its first token, and so does some tree at each token that the test finds.
-pub record Opening {T I M A : Type 0} (G : Alphabet T I M) (s : Syntax I M A) (top : ℕ) (opens : List T → Bool) : Type 0 where
+pub record NoRoom {T I M A : Type 0} (G : Alphabet T I M) (s : Syntax I M A) (top : ℕ) (opens : List T → Bool) : Type 0 where
   pub none : (x : A) → s.Good x → Below G top (s.print x) → ⊥
   pub some : (x : A) × s.Good x
   pub at_end : opens [] ≡ false
   pub deep : (t : T) (ts : List T) → opens (t ∷ ts) ≡ true → (x : A) × (i : I) × (more : List I) × s.Good x × (s.print x ≡ i ∷ more) × G.Fits i t × (G.depth i ≡ top)
 
-module _ {T I M A : Type 0} {G : Alphabet T I M} {s : Syntax I M A} {top : ℕ} {opens : List T → Bool} (O : Opening G s top opens) where
+module _ {T I M A : Type 0} {G : Alphabet T I M} {s : Syntax I M A} {top : ℕ} {opens : List T → Bool} (O : NoRoom G s top opens) where
   reads_none : (c : Bool) (ts : List T) (x : A × List T) → full_on c ts ≡ Ok x → ⊥
   reads_none true ts x e = cc
   reads_none false ts x e = cc

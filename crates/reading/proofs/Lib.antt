@@ -14,3 +14,5 @@ pub mod Plus
 pub mod Must
 pub mod Choose
 pub mod Full
+pub mod Wider
+pub mod Clauses

@@ -1,5 +1,5 @@
 -- What a reader of some trees does, whatever the trees.
-use Rattle.std.specs.Prelude.{◌≡◌, ℕ, suc, Bool, List, ◌∷◌, ◌++◌, length, Result, Ok, Err}
+use Rattle.std.specs.Prelude.{◌≡◌, ℕ, suc, Bool, List, ◌∷◌, ◌++◌, length, Result, Ok, Err, ◌⊎◌}
 use Rattle.reading.specs.Readers.{Fault, Stop, Deep, Reader}
 use Rattle.reading.specs.Printing.{Alphabet, Matches, Below, Opens, Next}
 
@@ -51,3 +51,10 @@ module _ {T I M A : Type 0} where
     pub fails : (ts : List T) (fault : Fault) → r ts ≡ Err fault → Fails G s top ts fault
     -- nor later: where it stops before a token, no tree's text goes on with that token
     pub firm : (q r' z text rest : List T) (t : T) (a : A) → r (q ++ t ∷ r') ≡ Err (Stop (suc (length r'))) → Matches G (s.print a) text → s.Good a → Below G top (s.print a) → Next G (s.takes a) rest → text ++ rest ≡ q ++ t ∷ z → ⊥
+
+-- With less room the answer is the same, unless it is that there is too little.
+abbrev pub Agree : {B : Type 0} → Result B Fault → Result B Fault → Type 0
+Agree less more = ((n : ℕ) × (less ≡ Err (Deep n))) ⊎ (less ≡ more)
+
+abbrev pub Agrees : {T A : Type 0} → Reader T A → Reader T A → Type 0
+Agrees {T} less more = (ts : List T) → Agree (less ts) (more ts)
