@@ -1,5 +1,5 @@
 -- One of two, by what stands first.
-use Rattle.std.proofs.Common.{◌≡◌, ℕ, suc, ◌⊎◌, inl, inr, Bool, true, false, List, ◌∷◌, ◌++◌, length, Result, Ok, Err, refl, sym, ap, subst, ◌∙◌}
+use Rattle.std.proofs.Common.{◌≡◌, ℕ, suc, ◌⊎◌, inl, inr, Bool, true, false, List, ◌∷◌, ◌++◌, length, Ok, Err, refl, sym, ap, subst, ◌∙◌}
 use Rattle.reading.specs.Readers.{Fault, Stop, Reader, choose_on, choose}
 use Rattle.reading.specs.Printing.{Alphabet, Matches, Below, Next}
 use Rattle.reading.specs.Law.{Syntax, Read, Fails, Law}

@@ -1,9 +1,9 @@
 -- Clauses in any order, each kind at most once.
-use Rattle.std.proofs.Common.{◌≡◌, ℕ, suc, ◌<◌, ◌⊎◌, inl, inr, ⊎_elim, Bool, true, false, List, [], ◌∷◌, ◌++◌, length, Option, Some, None, is_some, Result, Ok, Err, refl, sym, ap, subst, ◌∙◌}
-use Rattle.reading.specs.Readers.{Fault, Stop, Reader, branch, many_from, among, unless_on, fresh_on, fresh, stands, with_kind, clauses}
+use Rattle.std.proofs.Common.{◌≡◌, ℕ, suc, ◌<◌, Bool, true, false, List, [], ◌∷◌, ◌++◌, length, Option, Some, None, is_some, Err, refl, sym, ap, subst, ◌∙◌}
+use Rattle.reading.specs.Readers.{Stop, Reader, branch, many_from, among, unless_on, fresh_on, fresh, stands, with_kind, clauses}
 use Rattle.reading.specs.Printing.{Alphabet, Matches, peek, on_mark, begins}
 use Rattle.reading.specs.Law.{Syntax, Law}
-use Rattle.reading.proofs.Texts.{Always, cases}
+use Rattle.reading.proofs.Texts.{Always}
 use Rattle.reading.proofs.Dependent.{dependent_syntax}
 use Rattle.reading.proofs.Lead.{Class, lead_syntax, branch_law}
 use Rattle.reading.proofs.Starts.{Starts}

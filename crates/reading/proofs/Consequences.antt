@@ -1,10 +1,10 @@
 -- What follows from the law of any reader.
-use Rattle.std.proofs.Common.{◌≡◌, ℕ, suc, ◌+◌, ◌≤◌, ◌<◌, ◌⊎◌, inl, inr, ⊎_elim, Bool, true, false, List, [], ◌∷◌, ◌++◌, length, length-append, Option, Some, None, Result, Ok, Err, refl, sym, ap, subst, ◌∙◌, arith}
+use Rattle.std.proofs.Common.{◌≡◌, ℕ, suc, ◌≤◌, ⊎_elim, Bool, false, List, [], ◌∷◌, ◌++◌, length, length-append, Result, Ok, Err, refl, sym, ap, subst, ◌∙◌, arith}
 use Rattle.std.proofs.lemmas.List.{append-nil}
 use Rattle.std.proofs.lemmas.Bool.{cases_lt}
 use Rattle.reading.specs.Readers.{Fault, Stop, Deep, Reader}
-use Rattle.reading.specs.Printing.{Front, Here, Ahead, Alphabet, Matches, Below, Opens, on_mark, ahead, peek_on, peek, Next}
-use Rattle.reading.specs.Law.{Syntax, Read, At, Fails, Law}
+use Rattle.reading.specs.Printing.{Front, Here, Ahead, Alphabet, Matches, Below, on_mark, peek_on, Next}
+use Rattle.reading.specs.Law.{Syntax, Read, At, Law}
 use Rattle.reading.proofs.Results.{ok_is, cut_at}
 use Rattle.reading.proofs.Texts.{opens_more}
 

@@ -1,11 +1,11 @@
 -- One reader after another, where what is read first never goes on. It may say what is read behind it.
-use Rattle.std.proofs.Common.{◌≡◌, ℕ, Bool, false, List, ◌∷◌, ◌++◌, Option, Ok, Err, refl, sym, ap, ◌∙◌}
-use Rattle.reading.specs.Readers.{Reader, follow, seq, lead, branch}
-use Rattle.reading.specs.Printing.{Alphabet, Next, on_mark, peek}
+use Rattle.std.proofs.Common.{◌≡◌, ℕ, false, List, ◌∷◌, ◌++◌, sym}
+use Rattle.reading.specs.Readers.{Reader, follow, seq}
+use Rattle.reading.specs.Printing.{Alphabet, Next}
 use Rattle.reading.specs.Law.{Syntax, Law}
-use Rattle.reading.proofs.Texts.{takes_nothing, Always, next_same, next_none}
+use Rattle.reading.proofs.Texts.{takes_nothing, next_same, next_none}
 use Rattle.reading.proofs.Consequences.{some_tree}
-use Rattle.reading.proofs.Follow.{pair, behind_of, follow_law, reads_of}
+use Rattle.reading.proofs.Follow.{behind_of, follow_law, reads_of}
 
 module _ {I M A B : Type 0} (a : Syntax I M A) (b : A → Syntax I M B) where
   abbrev pub dependent_syntax : Syntax I M (A × B)

@@ -1,6 +1,6 @@
 -- Where no more may open.
-use Rattle.std.proofs.Common.{◌≡◌, ℕ, suc, Bool, true, false, List, [], ◌∷◌, ◌++◌, length, Result, Ok, Err, refl, sym, ap, subst, ◌∙◌}
-use Rattle.reading.specs.Readers.{Fault, Stop, Deep, Reader, full_on, full}
+use Rattle.std.proofs.Common.{◌≡◌, ℕ, Bool, true, false, List, [], ◌∷◌, length, Ok, Err, refl, sym, subst, ◌∙◌}
+use Rattle.reading.specs.Readers.{Fault, Stop, Deep, full_on, full}
 use Rattle.reading.specs.Printing.{Alphabet, Below}
 use Rattle.reading.specs.Law.{Syntax, Fails, Law}
 use Rattle.reading.proofs.Results.{fault_is}

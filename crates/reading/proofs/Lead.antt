@@ -1,7 +1,7 @@
 -- Nothing, one token of a class, and what such a token says.
-use Rattle.std.proofs.Common.{◌≡◌, ℕ, suc, ◌<◌, Bool, false, List, [], ◌∷◌, ◌++◌, length, length-append, Option, Some, None, Ok, Err, refl, sym, ap, subst, ◌∙◌, arith}
+use Rattle.std.proofs.Common.{◌≡◌, ℕ, suc, ◌<◌, List, [], ◌∷◌, ◌++◌, length, length-append, Option, Some, None, Ok, Err, refl, sym, ap, subst, ◌∙◌, arith}
 use Rattle.reading.specs.Readers.{Fault, Stop, Reader, nothing, lead_as, lead, branch}
-use Rattle.reading.specs.Printing.{Alphabet, Matches, Below, Next}
+use Rattle.reading.specs.Printing.{Alphabet, Matches}
 use Rattle.reading.specs.Law.{Syntax, Read, Fails, Law}
 use Rattle.reading.proofs.Results.{ok_is, ok_fails, fault_is}
 use Rattle.reading.proofs.Texts.{takes_nothing, Always, matches_nothing, next_none}

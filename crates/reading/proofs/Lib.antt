@@ -16,3 +16,4 @@ pub mod Choose
 pub mod Full
 pub mod Wider
 pub mod Clauses
+pub mod BracketsLaw

@@ -1,11 +1,11 @@
 -- Any number, as long as one begins. What was read before, a state, may say which begin and how they are read.
-use Rattle.std.proofs.Common.{◌≡◌, ℕ, zero, suc, ◌≤◌, ⊎_elim, Bool, true, false, List, [], ◌∷◌, ◌++◌, length, length-append, Option, Some, None, Result, Ok, Err, refl, sym, ap, subst, ◌∙◌, append_assoc, arith}
-use Rattle.reading.specs.Readers.{Fault, Stop, Reader, ◌>>=◌, many_on, many_at, many_from, no_step, many}
+use Rattle.std.proofs.Common.{◌≡◌, ℕ, zero, suc, ◌≤◌, ⊎_elim, Bool, true, false, List, [], ◌∷◌, ◌++◌, length, length-append, Result, Ok, Err, refl, sym, ap, subst, ◌∙◌, append_assoc, arith}
+use Rattle.reading.specs.Readers.{Fault, Stop, Reader, ◌>>=◌, many_at, many_from, no_step, many}
 use Rattle.reading.specs.Printing.{Alphabet, Matches, Below, begins, Next}
 use Rattle.reading.specs.Law.{Syntax, Read, Fails, Law}
 use Rattle.reading.proofs.Results.{bind_ok, bind_err, ok_is, ok_fails, fault_before, cut_at}
 use Rattle.reading.proofs.Texts.{cases, matches_nothing, matches_join, matches_split, below_join, below_left, below_right, next_both, next_left, next_right, next_at, at_next}
-use Rattle.reading.proofs.Consequences.{within, first_is, at_more}
+use Rattle.reading.proofs.Consequences.{first_is, at_more}
 use Rattle.reading.proofs.Starts.{Starts}
 use Rattle.reading.proofs.Tail.{Apart, apart, onward, Tail}
 

@@ -1,9 +1,9 @@
 -- What has to stand behind something that may go on, and a token that has to.
-use Rattle.std.proofs.Common.{◌≡◌, ℕ, suc, ◌<◌, ◌≤◌, ⊎_elim, Bool, true, false, List, [], ◌∷◌, ◌++◌, length, length-append, Option, Some, None, is_some, Result, Ok, Err, refl, sym, ap, subst, ◌∙◌, append_assoc, arith}
-use Rattle.reading.specs.Readers.{Fault, Stop, Reader, left_on, missing, need_on, need, must, lead, stands, closed}
-use Rattle.reading.specs.Printing.{Front, Here, Ahead, Alphabet, Matches, Below, peek, on_mark, begins, Next}
-use Rattle.reading.specs.Law.{Syntax, Read, Fails, Law}
-use Rattle.reading.proofs.Results.{ok_is, fault_is}
+use Rattle.std.proofs.Common.{◌≡◌, ℕ, suc, ◌<◌, ◌≤◌, ⊎_elim, Bool, true, false, List, [], ◌∷◌, ◌++◌, length, Option, is_some, Ok, Err, refl, sym, ap, subst, ◌∙◌, append_assoc, arith}
+use Rattle.reading.specs.Readers.{Fault, Stop, Reader, left_on, missing, need, must, stands, closed}
+use Rattle.reading.specs.Printing.{Ahead, Alphabet, Matches, Below, on_mark, Next}
+use Rattle.reading.specs.Law.{Syntax, Law}
+use Rattle.reading.proofs.Results.{fault_is}
 use Rattle.reading.proofs.Texts.{cases, peek_two, next_one}
 use Rattle.reading.proofs.Consequences.{within, some_tree}
 use Rattle.reading.proofs.Follow.{Reads, FailsBehind, behind_of, follow_law}

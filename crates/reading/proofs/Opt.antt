@@ -1,8 +1,8 @@
 -- What may stand behind what was read: what begins with a mark, or a phrase with the tokens that open it.
-use Rattle.std.proofs.Common.{◌≡◌, ℕ, suc, Bool, true, false, ◌||◌, ◌&&◌, List, [], ◌∷◌, ◌++◌, length, Option, Some, None, is_some, Ok, Err, refl, sym, ap, ◌∙◌, append_assoc}
-use Rattle.reading.specs.Readers.{Fault, Stop, Reader, here_on, here_if, behind_on, behind, both_behind_on, both_behind, opt, optional, with_phrase}
-use Rattle.reading.specs.Printing.{Alphabet, Matches, Below, peek, on_mark, begins, Next}
-use Rattle.reading.specs.Law.{Syntax, Read, Fails, Law}
+use Rattle.std.proofs.Common.{◌≡◌, ℕ, suc, Bool, true, false, ◌&&◌, List, [], ◌∷◌, ◌++◌, length, Option, Some, None, is_some, Err, refl, sym, ap, ◌∙◌, append_assoc}
+use Rattle.reading.specs.Readers.{Stop, Reader, here_on, here_if, behind_on, behind, both_behind_on, both_behind, opt, optional, with_phrase}
+use Rattle.reading.specs.Printing.{Alphabet, Matches, Below, begins}
+use Rattle.reading.specs.Law.{Syntax, Law}
 use Rattle.reading.proofs.Texts.{Always, matches_nothing, matches_split, next_none}
 use Rattle.reading.proofs.Lead.{Class}
 use Rattle.reading.proofs.Starts.{Starts}

@@ -1,10 +1,10 @@
 -- What may be left out, where the tokens that open it tell whether it stands.
-use Rattle.std.proofs.Common.{◌≡◌, ℕ, suc, ⊎_elim, Bool, true, false, List, [], ◌∷◌, ◌++◌, length, Option, Some, None, Result, Ok, Err, refl, sym, ap, subst, ◌∙◌, append_assoc}
-use Rattle.reading.specs.Readers.{Fault, Stop, Reader, ◌>>=◌, optional_on, optional}
+use Rattle.std.proofs.Common.{◌≡◌, ℕ, suc, Bool, true, false, List, [], ◌∷◌, ◌++◌, length, Option, Some, None, Result, Ok, Err, refl, sym, ap, subst, ◌∙◌, append_assoc}
+use Rattle.reading.specs.Readers.{Fault, Stop, Reader, optional_on, optional}
 use Rattle.reading.specs.Printing.{Alphabet, Matches, Below, begins, Next}
 use Rattle.reading.specs.Law.{Syntax, Read, Fails, Law}
 use Rattle.reading.proofs.Results.{bind_ok, ok_is, ok_fails, fault_before, cut_at}
-use Rattle.reading.proofs.Texts.{matches_nothing, matches_join, matches_split, below_join, below_left, below_right}
+use Rattle.reading.proofs.Texts.{matches_nothing, matches_join, matches_split, below_join, below_right}
 use Rattle.reading.proofs.Consequences.{within}
 
 module _ {I M B : Type 0} (set : M → Bool) (its : List I) (b : Syntax I M B) where

@@ -1,7 +1,7 @@
 -- What begins with one of some marks.
-use Rattle.std.proofs.Common.{◌≡◌, ℕ, suc, ◌≤◌, ◌<◌, Bool, true, false, List, [], ◌∷◌, ◌++◌, length, Option, Some, None, Ok, Err, refl, sym, ap, ◌∙◌, append_assoc, arith}
-use Rattle.reading.specs.Readers.{Fault, Stop, Reader, ◌>>=◌, lead_as, lead, follow, branch, seen}
-use Rattle.reading.specs.Printing.{Front, Here, Ahead, Alphabet, Matches, ahead, peek_on, peek, on_mark, begins}
+use Rattle.std.proofs.Common.{◌≡◌, ℕ, suc, ◌≤◌, Bool, true, false, List, [], ◌∷◌, ◌++◌, length, Option, Some, Ok, Err, refl, sym, ap, ◌∙◌, append_assoc, arith}
+use Rattle.reading.specs.Readers.{Stop, Reader, ◌>>=◌, branch, seen}
+use Rattle.reading.specs.Printing.{Front, Here, Ahead, Alphabet, Matches, ahead, peek_on, on_mark, begins}
 use Rattle.reading.specs.Law.{Syntax, Law}
 use Rattle.reading.proofs.Results.{fault_before}
 use Rattle.reading.proofs.Texts.{matches_split, peek_two}

@@ -1,10 +1,10 @@
 -- What may stand behind something that may go on: it is left out, or begins with one of some marks.
-use Rattle.std.proofs.Common.{◌≡◌, ℕ, suc, Bool, true, false, ◌||◌, List, [], ◌∷◌, ◌++◌, length, Ok, Err, refl, sym, ap, subst, ◌∙◌}
+use Rattle.std.proofs.Common.{◌≡◌, ℕ, suc, Bool, true, false, ◌||◌, List, [], ◌∷◌, ◌++◌, length, Err, refl, sym, subst}
 use Rattle.reading.specs.Readers.{Fault, Stop, Reader, follow}
-use Rattle.reading.specs.Printing.{Alphabet, Matches, Below, begins, Next}
+use Rattle.reading.specs.Printing.{Alphabet, Matches, begins, Next}
 use Rattle.reading.specs.Law.{Syntax, Law}
 use Rattle.reading.proofs.Texts.{matches_nothing, next_both, next_left, next_right, next_at, at_next}
-use Rattle.reading.proofs.Follow.{pair, behind_of, follow_law, reads_of}
+use Rattle.reading.proofs.Follow.{behind_of, follow_law, reads_of}
 
 -- what is given behind something must not be taken by it
 abbrev pub Apart : Bool → Bool → Type 0

@@ -1,5 +1,5 @@
 -- Texts and what they begin with.
-use Rattle.std.proofs.Common.{◌≡◌, ℕ, suc, ◌⊎◌, inl, inr, Bool, true, false, ◌||◌, ◌&&◌, List, [], ◌∷◌, ◌++◌, length, Option, Some, None, refl, sym, ap, ◌∙◌}
+use Rattle.std.proofs.Common.{◌≡◌, ℕ, suc, ◌⊎◌, inl, inr, Bool, true, false, ◌||◌, List, [], ◌∷◌, ◌++◌, length, Option, Some, None, refl, sym, ap, ◌∙◌}
 use Rattle.reading.specs.Printing.{Front, Here, Ahead, Alphabet, Matches, Below, Opens, ahead, peek_on, peek, on_mark, begins, Next}
 
 -- for a reader that can't go on

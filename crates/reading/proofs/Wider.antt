@@ -1,5 +1,5 @@
 -- Readers with less and with more room agree, unless the first answers that there is too little.
-use Rattle.std.proofs.Common.{◌≡◌, ℕ, zero, suc, ◌⊎◌, inl, inr, Bool, true, false, List, [], ◌∷◌, length, Option, Some, None, Result, Ok, Err, refl, sym, ap, subst, ◌∙◌}
+use Rattle.std.proofs.Common.{◌≡◌, ℕ, zero, suc, inl, inr, Bool, true, false, List, [], ◌∷◌, length, Option, Some, None, Result, Ok, Err, refl, sym, subst, ◌∙◌}
 use Rattle.reading.specs.Readers.{Fault, Stop, Deep, Reader, ◌>>=◌, lead, follow, seq, branch, seen, choose_on, choose, optional_on, optional, opt, with_phrase, many_on, many_at, many_from, no_step, many, plus, chain, need_on, need, must, closed, fresh, stands, with_kind, clauses, full_on, full}
 use Rattle.reading.specs.Law.{Agree, Agrees}
 use Rattle.reading.proofs.Results.{faulty}

@@ -1,5 +1,5 @@
 -- What a tree is printed as, and how far a reader looks ahead.
-use Rattle.std.specs.Prelude.{◌≡◌, ℕ, ◌<◌, Bool, true, false, List, [], ◌∷◌, Option, Some, None}
+use Rattle.std.specs.Prelude.{◌≡◌, ℕ, ◌<◌, Bool, false, List, [], ◌∷◌, Option, Some, None}
 
 -- The mark of a token for what stands open before it: its own, or one that the token behind it decides.
 pub data Front (T M : Type 0) : Type 0 where
