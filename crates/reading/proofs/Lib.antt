@@ -11,8 +11,9 @@ pub mod Tail
 pub mod Many
 pub mod Opt
 pub mod Plus
-pub mod Must
 pub mod Choose
+pub mod Grows
+pub mod Must
 pub mod Full
 pub mod Wider
 pub mod Clauses

@@ -1,31 +1,41 @@
 -- What has to stand behind something that may go on, and a token that has to.
 use Rattle.std.proofs.Common.{◌≡◌, ℕ, suc, ◌<◌, ◌≤◌, ⊎_elim, Bool, true, false, List, [], ◌∷◌, ◌++◌, length, Option, is_some, Ok, Err, refl, sym, ap, subst, ◌∙◌, append_assoc, arith}
 use Rattle.reading.specs.Readers.{Fault, Stop, Reader, left_on, missing, need, must, stands, closed}
-use Rattle.reading.specs.Printing.{Ahead, Alphabet, Matches, Below, on_mark, Next}
+use Rattle.reading.specs.Printing.{Ahead, Alphabet, Matches, Below, on_mark, Next, Front, Here, any_of, goes_by, goes_on}
 use Rattle.reading.specs.Law.{Syntax, Law}
 use Rattle.reading.proofs.Results.{fault_is}
 use Rattle.reading.proofs.Texts.{cases, peek_two, next_one}
 use Rattle.reading.proofs.Consequences.{within, some_tree}
 use Rattle.reading.proofs.Follow.{Reads, FailsBehind, behind_of, follow_law}
 use Rattle.reading.proofs.Dependent.{seq_syntax}
+use Rattle.reading.proofs.Grows.{GoesOn, Shows, Grows}
 use Rattle.reading.proofs.Lead.{Class, lead_syntax, lead_law}
-
--- Some tree goes on behind x with the token.
-pub record Grown {T I M A : Type 0} (G : Alphabet T I M) (a : Syntax I M A) (top : ℕ) (x : A) (t : T) : Type 0 where
-  pub tree : A
-  pub good : a.Good tree
-  pub item : I
-  pub more : List I
-  pub text : a.print tree ≡ a.print x ++ item ∷ more
-  pub fits : G.Fits item t
-  pub low : G.depth item < top
 
 -- What ends what is open; and where goes says that x may go on with a token, some tree does, and otherwise that token
 -- alone decides that x ends.
 pub record Ends {T I M A : Type 0} (G : Alphabet T I M) (a : Syntax I M A) (top : ℕ) (goes : A → T → Bool) (test : List T → Bool) : Type 0 where
   pub ends : (x : A) (ts : List T) → a.Good x → test ts ≡ true → Next G (a.takes x) ts
-  pub grows : (x : A) (t : T) → a.Good x → Below G top (a.print x) → goes x t ≡ true → Grown G a top x t
+  pub grows : (x : A) (t : T) → a.Good x → Below G top (a.print x) → goes x t ≡ true → GoesOn G a top (a.print x) t
   pub steady : (x : A) (t : T) → a.Good x → goes x t ≡ false → (mark : T → Option M) → G.front t ≡ Ahead mark → (u : T) → on_mark G (a.takes x) (mark u) ≡ false
+
+-- All marks that hang on a second token, whatever the first.
+pub record Seconds {T I M : Type 0} (G : Alphabet T I M) (marks : List M) : Type 0 where
+  pub listed : (t : T) (mark : T → Option M) (takes : M → Bool) → G.front t ≡ Ahead mark → any_of G takes marks ≡ false → (u : T) → on_mark G takes (mark u) ≡ false
+  pub shown : (t : T) (mark : T → Option M) (takes : M → Bool) → G.front t ≡ Ahead mark → any_of G takes marks ≡ true → (p : M) × (takes p ≡ true) × Shows G t p
+
+-- where each tree that takes such a mark goes on with it
+pub ends_by : {T I M A : Type 0} {G : Alphabet T I M} {a : Syntax I M A} {top : ℕ} {test : List T → Bool} (marks : List M) → Seconds G marks → Grows G a top → ((x : A) (ts : List T) → a.Good x → test ts ≡ true → Next G (a.takes x) ts) → Ends G a top (λ x t. goes_on G marks (a.takes x) t) test
+ends_by {T} {I} {M} {A} {G} {a} {top} marks seconds grows ends = record { ends = ends; grows = grown; steady = steady }
+  where
+    grown : (x : A) (t : T) → a.Good x → Below G top (a.print x) → goes_on G marks (a.takes x) t ≡ true → GoesOn G a top (a.print x) t
+    grown x t good below e = go (G.front t) refl e
+      where
+        go : (o : Front T M) → G.front t ≡ o → goes_by G marks (a.takes x) o ≡ true → GoesOn G a top (a.print x) t
+        go (Here mark) eo e0 = absurd cc
+        go (Ahead mark) eo e0 = let w = seconds.shown t mark (a.takes x) eo e0 in grows x t w.0 good below w.1 w.2
+
+    steady : (x : A) (t : T) → a.Good x → goes_on G marks (a.takes x) t ≡ false → (mark : T → Option M) → G.front t ≡ Ahead mark → (u : T) → on_mark G (a.takes x) (mark u) ≡ false
+    steady x t good e mark eo = seconds.listed t mark (a.takes x) eo (sym (ap (goes_by G marks (a.takes x)) eo) ∙ e)
 
 module _ {T I M A B : Type 0} {G : Alphabet T I M} {R : Reader T A} {a : Syntax I M A} {S : Reader T B} {b : Syntax I M B} {top : ℕ} {goes : A → T → Bool} {test : List T → Bool}
     (LA : Law G R a top) (LB : Law G S b top) (E : Ends G a top goes test)

@@ -3,7 +3,7 @@ use Rattle.std.proofs.Common.{◌≡◌, ℕ, suc, Bool, true, false, ◌&&◌, 
 use Rattle.reading.specs.Readers.{Stop, Reader, here_on, here_if, behind_on, behind, both_behind_on, both_behind, opt, optional, with_phrase}
 use Rattle.reading.specs.Printing.{Alphabet, Matches, Below, begins}
 use Rattle.reading.specs.Law.{Syntax, Law}
-use Rattle.reading.proofs.Texts.{Always, matches_nothing, matches_split, next_none}
+use Rattle.reading.proofs.Texts.{Always, matches_nothing, matches_split, next_none, both_true}
 use Rattle.reading.proofs.Lead.{Class}
 use Rattle.reading.proofs.Starts.{Starts}
 use Rattle.reading.proofs.Optional.{optional_syntax, Opener, optional_law, optional_begun, optional_decided, print_option, good_option}
@@ -55,10 +55,6 @@ module _ {T I M B : Type 0} {G : Alphabet T I M} {set : M → Bool} {S : Reader 
   tests true ts = refl
   tests false ts = next_none G ts
 
-  both_true : (c d : Bool) → (c && d) ≡ true → (c ≡ true) × (d ≡ true)
-  both_true true d e = (refl, e)
-  both_true false d e = absurd cc
-
   here : (ts rest : List T) → here_if test ts ≡ Some rest → (test ts ≡ true) × (ts ≡ rest)
   here ts rest e = go (test ts) refl e
     where
@@ -103,7 +99,7 @@ module _ {I M A B : Type 0} (a : Syntax I M A) (may : A → Bool) (set : M → B
 module _ {T I M A B : Type 0} {G : Alphabet T I M} {R : Reader T A} {a : Syntax I M A} {S : Reader T B} {b : Syntax I M B} {top : ℕ} where
   pub opt_law : Law G R a top → Law G S b top → (may : A → Bool) (set : M → Bool) (m : M) → ((x : A) (p : M) → a.Good x → set p ≡ true → a.takes x p ≡ a.takes x m) → Starts G set S b
       → Law G (opt R (λ x ts. may x && begins G set ts) S) (opt_syntax a may set m b) top
-  opt_law LA LB may set m alike St = tail_law LA m (λ x p good e. alike x p good (both_true St (may x) top (may x) (set p) e).1) (λ x. optional_tail (opener_here St (may x) top) (λ ts rest e. when_law LB (both_true St (may x) top (may x) (begins G set ts) (here St (may x) top ts rest e).0).0))
+  opt_law LA LB may set m alike St = tail_law LA m (λ x p good e. alike x p good (both_true (may x) (set p) e).1) (λ x. optional_tail (opener_here St (may x) top) (λ ts rest e. when_law LB (both_true (may x) (begins G set ts) (here St (may x) top ts rest e).0).0))
 
 -- The tokens that open a phrase: they alone decide that it stands, and a mark tells it.
 pub record Opening {T I M : Type 0} (G : Alphabet T I M) (set : M → Bool) (its : List I) (cut : List T → Option (List T)) : Type 0 where

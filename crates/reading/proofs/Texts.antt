@@ -1,5 +1,5 @@
 -- Texts and what they begin with.
-use Rattle.std.proofs.Common.{◌≡◌, ℕ, suc, ◌⊎◌, inl, inr, Bool, true, false, ◌||◌, List, [], ◌∷◌, ◌++◌, length, Option, Some, None, refl, sym, ap, ◌∙◌}
+use Rattle.std.proofs.Common.{◌≡◌, ℕ, suc, ◌⊎◌, inl, inr, Bool, true, false, ◌||◌, ◌&&◌, List, [], ◌∷◌, ◌++◌, length, Option, Some, None, refl, sym, ap, ◌∙◌}
 use Rattle.reading.specs.Printing.{Front, Here, Ahead, Alphabet, Matches, Below, Opens, ahead, peek_on, peek, on_mark, begins, Next}
 
 -- for a reader that can't go on
@@ -19,6 +19,10 @@ left_false false b e = refl
 pub right_false : (a b : Bool) → (a || b) ≡ false → b ≡ false
 right_false true b e = absurd cc
 right_false false b e = e
+
+pub both_true : (a b : Bool) → (a && b) ≡ true → (a ≡ true) × (b ≡ true)
+both_true true b e = (refl, e)
+both_true false b e = absurd cc
 
 pub cases : (b : Bool) → (b ≡ false) ⊎ (b ≡ true)
 cases false = inl refl
