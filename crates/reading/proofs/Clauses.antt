@@ -1,6 +1,6 @@
 -- Clauses in any order, each kind at most once.
 use Rattle.std.proofs.Common.{◌≡◌, ℕ, suc, ◌<◌, Bool, true, false, List, [], ◌∷◌, ◌++◌, length, Option, Some, None, is_some, Err, refl, sym, ap, subst, ◌∙◌}
-use Rattle.reading.specs.Readers.{Stop, Reader, branch, many_from, among, unless_on, fresh_on, fresh, stands, with_kind, clauses}
+use Rattle.reading.specs.Readers.{left_of, Fault, Stop, Reader, branch, many_from, among, unless_on, fresh_on, fresh, stands, with_kind, clauses}
 use Rattle.reading.specs.Printing.{Alphabet, Matches, peek, on_mark, begins}
 use Rattle.reading.specs.Law.{Syntax, Law}
 use Rattle.reading.proofs.Texts.{Always}
@@ -75,9 +75,9 @@ module _ {T I M K C : Type 0} {G : Alphabet T I M} {class : T → Option K} {ite
       all x [] rest good spells = absurd spells
       all x (t ∷ text) rest good spells = sym (here kinds (t ∷ (text ++ rest))) ∙ ap is_some ((fresh_class kinds).reads x.0 t good.0 spells.0)
 
-      decided : (q r z : List T) (t : T) → begins G (takes_fresh same kind kinds) (q ++ t ∷ r) ≡ true → branch (fresh same class kinds) clause (q ++ t ∷ r) ≡ Err (Stop (suc (length r))) → begins G (takes_fresh same kind kinds) (q ++ t ∷ z) ≡ true
-      decided [] r z t b e = sym (here kinds (t ∷ z)) ∙ (here kinds (t ∷ r) ∙ b)
-      decided (u ∷ q) r z t b e = sym (here kinds (u ∷ (q ++ t ∷ z))) ∙ (here kinds (u ∷ (q ++ t ∷ r)) ∙ b)
+      decided : (q r z : List T) (t : T) (d : Fault) → begins G (takes_fresh same kind kinds) (q ++ t ∷ r) ≡ true → branch (fresh same class kinds) clause (q ++ t ∷ r) ≡ Err d → left_of d ≡ suc (length r) → begins G (takes_fresh same kind kinds) (q ++ t ∷ z) ≡ true
+      decided [] r z t d b e at = sym (here kinds (t ∷ z)) ∙ (here kinds (t ∷ r) ∙ b)
+      decided (u ∷ q) r z t d b e at = sym (here kinds (u ∷ (q ++ t ∷ z))) ∙ (here kinds (u ∷ (q ++ t ∷ r)) ∙ b)
 
   known : (kinds : List K) (o : Option K) → is_some (fresh_on same kinds o) ≡ true → is_some o ≡ true
   known kinds None e = e

@@ -27,7 +27,7 @@ module _ {T I M A : Type 0} {G : Alphabet T I M} {R : Reader T A} {a : Syntax I 
     some = λ x good. let y = some_tree (LB x good) in (y.0, (good, y.1));
     reads = λ x good. reads_of (LB x good);
     fails = λ x ts fault good below next e. let h = (LB x good).fails ts fault e in behind_of G top a S b (λ x y. a.Good x × (b x).Good y) (λ x y. (b x).takes y) x ts fault h (good, h.good);
-    steady = λ x c r z t good next e. ended x (c ++ t ∷ z) good;
+    steady = λ x c r z t d good next e at. ended x (c ++ t ∷ z) good;
   })
 
   pub seq_law : {B : Type 0} {S : Reader T B} {b : Syntax I M B} → Law G S b top → Law G (seq R S) (seq_syntax a b) top

@@ -1,11 +1,11 @@
 -- Any number, as long as one begins. What was read before, a state, may say which begin and how they are read.
 use Rattle.std.proofs.Common.{◌≡◌, ℕ, zero, suc, ◌≤◌, ⊎_elim, Bool, true, false, List, [], ◌∷◌, ◌++◌, length, length-append, Result, Ok, Err, refl, sym, ap, subst, ◌∙◌, append_assoc, arith}
-use Rattle.reading.specs.Readers.{Fault, Stop, Reader, ◌>>=◌, many_at, many_from, no_step, many}
+use Rattle.reading.specs.Readers.{left_of, Fault, Stop, Reader, ◌>>=◌, many_at, many_from, no_step, many}
 use Rattle.reading.specs.Printing.{Alphabet, Matches, Below, begins, Next}
 use Rattle.reading.specs.Law.{Syntax, Read, Fails, Law}
 use Rattle.reading.proofs.Results.{bind_ok, bind_err, ok_is, ok_fails, fault_before, cut_at}
 use Rattle.reading.proofs.Texts.{cases, matches_nothing, matches_join, matches_split, below_join, below_left, below_right, next_both, next_left, next_right, next_at, at_next}
-use Rattle.reading.proofs.Consequences.{first_is, at_more}
+use Rattle.reading.proofs.Consequences.{first_is, at_more, at_left}
 use Rattle.reading.proofs.Starts.{Starts}
 use Rattle.reading.proofs.Tail.{Apart, apart, onward, Tail}
 
@@ -204,11 +204,11 @@ module _ {T I M A State : Type 0} {G : Alphabet T I M} {r : State → Reader T A
   fails_at zero state ts d le e = ok_fails ([], ts) d e
   fails_at (suc n) state ts d le e = fails_step n (fails_at n) state ts d le e
 
-  within_at : (n : ℕ) (state : State) (ts : List T) (k : ℕ) → length ts ≤ n → reader n state ts ≡ Err (Stop k) → k ≤ length ts
-  within_at n state ts k le e = let h = fails_at n state ts (Stop k) le e in omega (arith, ap length h.parts, length-append h.read h.left, h.at)
+  within_at : (n : ℕ) (state : State) (ts : List T) (d : Fault) → length ts ≤ n → reader n state ts ≡ Err d → left_of d ≤ length ts
+  within_at n state ts d le e = let h = fails_at n state ts d le e in omega (arith, ap length h.parts, length-append h.read h.left, at_left G top d h.left h.after h.at)
 
-  -- where reading stops behind the first: that one, and the tokens between
-  record Later (n : ℕ) (state : State) (q r' : List T) (t : T) : Type 0 where
+  -- where reading ends behind the first: that one, and the tokens between
+  record Later (n : ℕ) (state : State) (q r' : List T) (t : T) (d : Fault) : Type 0 where
     x : A
     text : List T
     c : List T
@@ -218,14 +218,14 @@ module _ {T I M A State : Type 0} {G : Alphabet T I M} {r : State → Reader T A
     next : Next G ((s state).takes x) (c ++ t ∷ r')
     front : q ≡ text ++ c
     short : length (c ++ t ∷ r') ≤ n
-    stop : reader n (step state x) (c ++ t ∷ r') ≡ Err (Stop (suc (length r')))
+    stop : reader n (step state x) (c ++ t ∷ r') ≡ Err d
 
-  later : (n : ℕ) (state : State) (q r' : List T) (t : T) → length (q ++ t ∷ r') ≤ suc n → begun state (q ++ t ∷ r') ≡ true → (a : A × List T) → r state (q ++ t ∷ r') ≡ Ok a → more n state a ≡ Err (Stop (suc (length r'))) → Later n state q r' t
-  later n state q r' t le here a read e =
-      let e' = later_fault n state a (Stop (suc (length r'))) e in
+  later : (n : ℕ) (state : State) (q r' : List T) (t : T) (d : Fault) → left_of d ≡ suc (length r') → length (q ++ t ∷ r') ≤ suc n → begun state (q ++ t ∷ r') ≡ true → (a : A × List T) → r state (q ++ t ∷ r') ≡ Ok a → more n state a ≡ Err d → Later n state q r' t d
+  later n state q r' t d at le here a read e =
+      let e' = later_fault n state a d e in
       let f = (laws state (q ++ t ∷ r') here).sound (q ++ t ∷ r') a read in
       let short = shorter n state (q ++ t ∷ r') a le f in
-      let cut = cut_at q (t ∷ r') f.text a.1 f.parts (within_at n (step state a.0) a.1 (suc (length r')) short e') in
+      let cut = cut_at q (t ∷ r') f.text a.1 f.parts (omega (arith, at, within_at n (step state a.0) a.1 d short e')) in
       record {
         x = a.0;
         text = f.text;
@@ -239,17 +239,17 @@ module _ {T I M A State : Type 0} {G : Alphabet T I M} {r : State → Reader T A
         stop = sym (ap (reader n (step state a.0)) cut.1) ∙ e';
       }
 
-  -- where reading stops, the tokens before and the next have decided that one begins
-  decided_at : (n : ℕ) (state : State) (q r' z : List T) (t : T) → length (q ++ t ∷ r') ≤ n → reader n state (q ++ t ∷ r') ≡ Err (Stop (suc (length r'))) → begun state (q ++ t ∷ z) ≡ true
-  decided_at zero state q r' z t le e = ok_fails ([], q ++ t ∷ r') (Stop (suc (length r'))) e
-  decided_at (suc n) state q r' z t le e = ⊎_elim ((St state).decided q r' z t w.0) others (bind_err (r state (q ++ t ∷ r')) (more n state) (Stop (suc (length r'))) w.1)
+  -- where reading ends, the tokens before and the next have decided that one begins
+  decided_at : (n : ℕ) (state : State) (q r' z : List T) (t : T) (d : Fault) → length (q ++ t ∷ r') ≤ n → reader n state (q ++ t ∷ r') ≡ Err d → left_of d ≡ suc (length r') → begun state (q ++ t ∷ z) ≡ true
+  decided_at zero state q r' z t d le e at = ok_fails ([], q ++ t ∷ r') d e
+  decided_at (suc n) state q r' z t d le e at = ⊎_elim (λ ea. (St state).decided q r' z t d w.0 ea at) others (bind_err (r state (q ++ t ∷ r')) (more n state) d w.1)
     where
-      w : (begun state (q ++ t ∷ r') ≡ true) × ((r state (q ++ t ∷ r') >>= more n state) ≡ Err (Stop (suc (length r'))))
-      w = ended n state (q ++ t ∷ r') (Stop (suc (length r'))) e
+      w : (begun state (q ++ t ∷ r') ≡ true) × ((r state (q ++ t ∷ r') >>= more n state) ≡ Err d)
+      w = ended n state (q ++ t ∷ r') d e
 
-      others : (a : A × List T) × (r state (q ++ t ∷ r') ≡ Ok a) × (more n state a ≡ Err (Stop (suc (length r')))) → begun state (q ++ t ∷ z) ≡ true
+      others : (a : A × List T) × (r state (q ++ t ∷ r') ≡ Ok a) × (more n state a ≡ Err d) → begun state (q ++ t ∷ z) ≡ true
       others p =
-          let l = later n state q r' t le w.0 p.0 p.1 p.2 in
+          let l = later n state q r' t d at le w.0 p.0 p.1 p.2 in
           ap (begun state) (ap (λ (y : List T). y ++ t ∷ z) l.front ∙ append_assoc l.text l.c (t ∷ z)) ∙ (St state).starts l.x l.text (l.c ++ t ∷ z) l.good l.spells
 
   abbrev FirmAt : ℕ → Type 0
@@ -258,7 +258,7 @@ module _ {T I M A State : Type 0} {G : Alphabet T I M} {r : State → Reader T A
   firm_step : (n : ℕ) → FirmAt n → FirmAt (suc n)
   firm_step n before state q r' z text rest t [] le e spells good below next same =
       let here : rest ≡ q ++ t ∷ z = sym (ap (λ (y : List T). y ++ rest) (matches_nothing G text spells)) ∙ same in
-      let never : true ≡ false = sym (decided_at (suc n) state q r' z t le e) ∙ (sym (ap (begun state) here) ∙ next) in
+      let never : true ≡ false = sym (decided_at (suc n) state q r' z t (Stop (suc (length r'))) le e refl) ∙ (sym (ap (begun state) here) ∙ next) in
       cc
   firm_step n before state q r' z text rest t (x ∷ xs) le e spells good below next same = ⊎_elim first others (bind_err (r state (q ++ t ∷ r')) (more n state) (Stop (suc (length r'))) w.1)
     where
@@ -279,9 +279,9 @@ module _ {T I M A State : Type 0} {G : Alphabet T I M} {r : State → Reader T A
 
       others : (a : A × List T) × (r state (q ++ t ∷ r') ≡ Ok a) × (more n state a ≡ Err (Stop (suc (length r')))) → ⊥
       others p =
-          let l = later n state q r' t le w.0 p.0 p.1 p.2 in
+          let l = later n state q r' t (Stop (suc (length r'))) refl le w.0 p.0 p.1 p.2 in
           let free = at_next G ((s state).takes l.x) (set (step state l.x)) m (λ k. alike state l.x k l.good) (l.c ++ t ∷ r') (many_begun n (step state l.x) (l.c ++ t ∷ r') (Stop (suc (length r'))) l.stop) l.next in
-          let next' = next_at G ((s state).takes l.x) (set (step state l.x)) m (λ k. alike state l.x k l.good) (l.c ++ t ∷ z) (decided_at n (step state l.x) l.c r' z t l.short l.stop) free in
+          let next' = next_at G ((s state).takes l.x) (set (step state l.x)) m (λ k. alike state l.x k l.good) (l.c ++ t ∷ z) (decided_at n (step state l.x) l.c r' z t (Stop (suc (length r'))) l.short l.stop refl) free in
           let goes : v.front ++ (v.back ++ rest) ≡ l.text ++ (l.c ++ t ∷ z) = same' ∙ ap (λ (y : List T). y ++ t ∷ z) l.front ∙ append_assoc l.text l.c (t ∷ z) in
           let one = first_is (laws state (q ++ t ∷ r') w.0) l.text (l.c ++ t ∷ z) v.front (v.back ++ rest) l.x x l.spells l.good l.below next' v.spells good.0 v.below v.next goes in
           behind l.x one.0 l.c l.short l.stop one.1
@@ -305,7 +305,7 @@ module _ {T I M A State : Type 0} {G : Alphabet T I M} {r : State → Reader T A
     bare = bare;
     starts = λ xs text rest good given spells. many_starts state xs text rest good given spells;
     begun = λ ts d e. many_begun (length ts) state ts d e;
-    decided = λ q r' z t e. decided_at (length (q ++ t ∷ r')) state q r' z t (omega arith) e;
+    decided = λ q r' z t d e at. decided_at (length (q ++ t ∷ r')) state q r' z t d (omega arith) e at;
     left_out = ([], tt, refl);
   }
     where

@@ -1,6 +1,6 @@
 -- What has to stand behind something that may go on, and a token that has to.
 use Rattle.std.proofs.Common.{◌≡◌, ℕ, suc, ◌<◌, ◌≤◌, ⊎_elim, Bool, true, false, List, [], ◌∷◌, ◌++◌, length, Option, is_some, Ok, Err, refl, sym, ap, subst, ◌∙◌, append_assoc, arith}
-use Rattle.reading.specs.Readers.{Fault, Stop, Reader, left_on, missing, need, must, stands, closed}
+use Rattle.reading.specs.Readers.{left_of, Fault, Stop, Reader, left_on, missing, need, must, stands, closed}
 use Rattle.reading.specs.Printing.{Ahead, Alphabet, Matches, Below, on_mark, Next, Front, Here, any_of, goes_by, goes_on}
 use Rattle.reading.specs.Law.{Syntax, Law}
 use Rattle.reading.proofs.Results.{fault_is}
@@ -55,12 +55,9 @@ module _ {T I M A B : Type 0} {G : Alphabet T I M} {R : Reader T A} {a : Syntax 
   left_within true ts = omega arith
   left_within false ts = omega arith
 
-  missing_within : (x : A) (ts : List T) (n : ℕ) → missing {B = B} (goes x) ts ≡ Err (Stop n) → n ≤ length ts
-  missing_within x [] n e = let at : Stop 0 ≡ Stop n = fault_is {A = B × List T} (Stop 0) (Stop n) e in let count : 0 ≡ n = cc in omega arith
-  missing_within x (t ∷ ts) n e =
-      let at : Stop (left_on (goes x t) ts) ≡ Stop n = fault_is {A = B × List T} (Stop (left_on (goes x t) ts)) (Stop n) e in
-      let count : left_on (goes x t) ts ≡ n = cc in
-      omega (arith, left_within (goes x t) ts)
+  missing_within : (x : A) (ts : List T) (d : Fault) → missing {B = B} (goes x) ts ≡ Err d → left_of d ≤ length ts
+  missing_within x [] d e = omega (arith, ap left_of (fault_is {A = B × List T} (Stop 0) d e))
+  missing_within x (t ∷ ts) d e = omega (arith, left_within (goes x t) ts, ap left_of (fault_is {A = B × List T} (Stop (left_on (goes x t) ts)) d e))
 
   -- the test looks at one token
   moved : (c r z : List T) (t : T) → test (c ++ t ∷ r) ≡ test (c ++ t ∷ z)
@@ -71,7 +68,7 @@ module _ {T I M A B : Type 0} {G : Alphabet T I M} {R : Reader T A} {a : Syntax 
   reads x = record {
     sound = λ ts y e. ⊎_elim (λ no. absurd (missing_reads x ts y (sym (absent x ts no) ∙ e))) (λ here. LB.sound ts y (sym (there x ts here) ∙ e)) (cases (test ts));
     complete = λ y text rest spells good below next. there x (text ++ rest) (all y text rest good spells) ∙ LB.complete y text rest spells good below next;
-    within = λ ts n e. ⊎_elim (λ no. missing_within x ts n (sym (absent x ts no) ∙ e)) (λ here. within LB ts n (sym (there x ts here) ∙ e)) (cases (test ts));
+    within = λ ts d e. ⊎_elim (λ no. missing_within x ts d (sym (absent x ts no) ∙ e)) (λ here. within LB ts d (sym (there x ts here) ∙ e)) (cases (test ts));
     firm = λ q r z text rest t y e spells good below next same.
         let here : test (q ++ t ∷ r) ≡ true = moved q r z t ∙ (ap test (sym same) ∙ all y text rest good spells) in
         LB.firm q r z text rest t y (sym (there x (q ++ t ∷ r) here) ∙ e) spells good below next same;
@@ -123,17 +120,17 @@ module _ {T I M A B : Type 0} {G : Alphabet T I M} {R : Reader T A} {a : Syntax 
       (λ here. let h = LB.fails ts d (sym (there x ts here) ∙ e) in behind_of G top a (λ x. need test S (goes x)) (λ x. b) good_pair takes_pair x ts d h (good, h.good)) (cases (test ts))
 
   -- where it isn't there, one token decides, or two
-  missing_steady : (x : A) (c r z : List T) (t : T) → a.Good x → Next G (a.takes x) (c ++ t ∷ r) → missing {B = B} (goes x) (c ++ t ∷ r) ≡ Err (Stop (suc (length r))) → Next G (a.takes x) (c ++ t ∷ z)
-  missing_steady x (u ∷ []) r z t good next e = ap (on_mark G (a.takes x)) (peek_two G u t z r) ∙ next
-  missing_steady x (u ∷ v ∷ c) r z t good next e = ap (on_mark G (a.takes x)) (peek_two G u v (c ++ t ∷ z) (c ++ t ∷ r)) ∙ next
-  missing_steady x [] r z t good next e = go (goes x t) refl (fault_is {A = B × List T} (Stop (left_on (goes x t) r)) (Stop (suc (length r))) e)
+  missing_steady : (x : A) (c r z : List T) (t : T) (d : Fault) → a.Good x → Next G (a.takes x) (c ++ t ∷ r) → missing {B = B} (goes x) (c ++ t ∷ r) ≡ Err d → left_of d ≡ suc (length r) → Next G (a.takes x) (c ++ t ∷ z)
+  missing_steady x (u ∷ []) r z t d good next e at = ap (on_mark G (a.takes x)) (peek_two G u t z r) ∙ next
+  missing_steady x (u ∷ v ∷ c) r z t d good next e at = ap (on_mark G (a.takes x)) (peek_two G u v (c ++ t ∷ z) (c ++ t ∷ r)) ∙ next
+  missing_steady x [] r z t d good next e at = go (goes x t) refl (ap left_of (fault_is {A = B × List T} (Stop (left_on (goes x t) r)) d e) ∙ at)
     where
-      go : (c : Bool) → goes x t ≡ c → Stop (left_on c r) ≡ Stop (suc (length r)) → Next G (a.takes x) (t ∷ z)
-      go true ec e0 = let count : length r ≡ suc (length r) = cc in absurd (omega arith)
+      go : (c : Bool) → goes x t ≡ c → left_on c r ≡ suc (length r) → Next G (a.takes x) (t ∷ z)
+      go true ec e0 = absurd (omega (arith, e0))
       go false ec e0 = next_one G (a.takes x) t r z (E.steady x t good ec) next
 
-  steady : (x : A) (c r z : List T) (t : T) → a.Good x → Next G (a.takes x) (c ++ t ∷ r) → need test S (goes x) (c ++ t ∷ r) ≡ Err (Stop (suc (length r))) → Next G (a.takes x) (c ++ t ∷ z)
-  steady x c r z t good next e = ⊎_elim (λ no. missing_steady x c r z t good next (sym (absent x (c ++ t ∷ r) no) ∙ e)) (λ here. E.ends x (c ++ t ∷ z) good (moved c z r t ∙ here)) (cases (test (c ++ t ∷ r)))
+  steady : (x : A) (c r z : List T) (t : T) (d : Fault) → a.Good x → Next G (a.takes x) (c ++ t ∷ r) → need test S (goes x) (c ++ t ∷ r) ≡ Err d → left_of d ≡ suc (length r) → Next G (a.takes x) (c ++ t ∷ z)
+  steady x c r z t d good next e at = ⊎_elim (λ no. missing_steady x c r z t d good next (sym (absent x (c ++ t ∷ r) no) ∙ e) at) (λ here. E.ends x (c ++ t ∷ z) good (moved c z r t ∙ here)) (cases (test (c ++ t ∷ r)))
 
   pub must_law : Law G (must R goes test S) (seq_syntax a b) top
   must_law = follow_law G top a (λ x. need test S (goes x)) (λ x. b) good_pair takes_pair LA (record {

@@ -1,6 +1,6 @@
 -- What may stand behind what was read: what begins with a mark, or a phrase with the tokens that open it.
 use Rattle.std.proofs.Common.{◌≡◌, ℕ, suc, Bool, true, false, ◌&&◌, List, [], ◌∷◌, ◌++◌, length, Option, Some, None, is_some, Err, refl, sym, ap, ◌∙◌, append_assoc}
-use Rattle.reading.specs.Readers.{Stop, Reader, here_on, here_if, behind_on, behind, both_behind_on, both_behind, opt, optional, with_phrase}
+use Rattle.reading.specs.Readers.{left_of, Fault, Stop, Reader, here_on, here_if, behind_on, behind, both_behind_on, both_behind, opt, optional, with_phrase}
 use Rattle.reading.specs.Printing.{Alphabet, Matches, Below, begins}
 use Rattle.reading.specs.Law.{Syntax, Law}
 use Rattle.reading.proofs.Texts.{Always, matches_nothing, matches_split, next_none, both_true}
@@ -85,12 +85,12 @@ module _ {T I M B : Type 0} {G : Alphabet T I M} {set : M → Bool} {S : Reader 
       reads : (y : B) (o text rest : List T) → (when (may ≡ true) b).Good y → Matches G [] o → Matches G (b.print y) text → here_if test (o ++ (text ++ rest)) ≡ Some (text ++ rest)
       reads y o text rest good m spells = rw (matches_nothing G o m) (there (text ++ rest) good.1 (St.starts y text rest good.0 spells))
 
-      decided : (o c r z : List T) (t : T) → Matches G [] o → here_if test (o ++ (c ++ t ∷ r)) ≡ Some (c ++ t ∷ r) → S (c ++ t ∷ r) ≡ Err (Stop (suc (length r))) → here_if test (o ++ (c ++ t ∷ z)) ≡ Some (c ++ t ∷ z)
-      decided o c r z t m e stop =
+      decided : (o c r z : List T) (t : T) (d : Fault) → Matches G [] o → here_if test (o ++ (c ++ t ∷ r)) ≡ Some (c ++ t ∷ r) → S (c ++ t ∷ r) ≡ Err d → left_of d ≡ suc (length r) → here_if test (o ++ (c ++ t ∷ z)) ≡ Some (c ++ t ∷ z)
+      decided o c r z t d m e stop at =
           let nothing : o ≡ [] = matches_nothing G o m in
           let w = here (c ++ t ∷ r) (c ++ t ∷ r) (ap (λ (y : List T). here_if test (y ++ (c ++ t ∷ r))) (sym nothing) ∙ e) in
-          let d = both_true may (begins G set (c ++ t ∷ r)) w.0 in
-          rw nothing (there (c ++ t ∷ z) d.0 (St.decided c r z t d.1 stop))
+          let b = both_true may (begins G set (c ++ t ∷ r)) w.0 in
+          rw nothing (there (c ++ t ∷ z) b.0 (St.decided c r z t d b.1 stop at))
 
 module _ {I M A B : Type 0} (a : Syntax I M A) (may : A → Bool) (set : M → Bool) (m : M) (b : Syntax I M B) where
   abbrev pub opt_syntax : Syntax I M (A × Option B)
@@ -114,7 +114,7 @@ module _ {T I M B : Type 0} {G : Alphabet T I M} {set : M → Bool} {its : List 
     stands = λ ts rest e. O.tells ts ∙ ap is_some e;
     none = λ ts e. O.tells ts ∙ ap is_some e;
     reads = λ y o text rest good m spells. O.reads o (text ++ rest) m;
-    decided = λ o c r z t m e stop. O.reads o (c ++ t ∷ z) m;
+    decided = λ o c r z t d m e stop at. O.reads o (c ++ t ∷ z) m;
     low = low;
   }
 
