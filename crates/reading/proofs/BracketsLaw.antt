@@ -91,10 +91,10 @@ module _ (d top : ℕ) (low : suc d < top) (inner : Reader Bracket Tree) (L : La
 
 pub tree_law : (room d top : ℕ) → top ≡ suc (d + room) → Law brackets (tree_in room) (tree_syntax d) top
 unfolding tree_in
-tree_law zero d top same = full_law (record { none = none_fits; some = (Node none, tt); at_end = refl; deep = deep })
+tree_law zero d top same = full_law (record { first = first_opens; some = (Node none, tt); at_end = refl; deep = deep })
   where
-    none_fits : (t : Tree) → Always t → Below brackets top (print d t) → ⊥
-    none_fits (Node ts) good below = let low = below.0 in omega arith
+    first_opens : (t : Tree) → Always t → (i : Bracket × ℕ) × (more : List (Bracket × ℕ)) × (print d t ≡ i ∷ more) × (i.1 ≡ top)
+    first_opens (Node ts) good = ((Open, suc d), print_all (suc d) ts ++ (Close, suc d) ∷ [], refl, omega arith)
 
     deep : (t : Bracket) (ts : List Bracket) → stands mark_of (t ∷ ts) ≡ true → (x : Tree) × (i : Bracket × ℕ) × (more : List (Bracket × ℕ)) × Always x × (print d x ≡ i ∷ more) × (t ≡ i.0) × (i.1 ≡ top)
     deep Open ts e = (Node none, (Open, suc d), (Close, suc d) ∷ [], tt, refl, refl, omega arith)

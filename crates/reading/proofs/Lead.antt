@@ -45,7 +45,7 @@ module _ {T I M K : Type 0} {G : Alphabet T I M} {class : T → Option K} {Allow
   complete x (t ∷ []) rest s good = rw (C.reads x t good s.0) refl
   complete x (t ∷ u ∷ text) rest s good = absurd s.1
 
-  stops : (ts : List T) (d : Fault) → lead class ts ≡ Err d → d ≡ Stop (length ts)
+  pub stops : (ts : List T) (d : Fault) → lead class ts ≡ Err d → d ≡ Stop (length ts)
   stops [] d e = fault_is {A = K × List T} d (Stop 0) (sym e)
   stops (t ∷ ts) d e = go (class t) e
     where

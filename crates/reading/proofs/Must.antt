@@ -6,7 +6,7 @@ use Rattle.reading.specs.Law.{Syntax, Law}
 use Rattle.reading.proofs.Results.{fault_is}
 use Rattle.reading.proofs.Texts.{cases, peek_two, next_one}
 use Rattle.reading.proofs.Consequences.{within, some_tree}
-use Rattle.reading.proofs.Follow.{Reads, FailsBehind, behind_of, follow_law}
+use Rattle.reading.proofs.Follow.{Joint, Reads, FailsBehind, behind_of, follow_law}
 use Rattle.reading.proofs.Dependent.{seq_syntax}
 use Rattle.reading.proofs.Grows.{GoesOn, Shows, Grows}
 use Rattle.reading.proofs.Lead.{Class, lead_syntax, lead_law}
@@ -132,8 +132,8 @@ module _ {T I M A B : Type 0} {G : Alphabet T I M} {R : Reader T A} {a : Syntax 
   steady : (x : A) (c r z : List T) (t : T) (d : Fault) → a.Good x → Next G (a.takes x) (c ++ t ∷ r) → need test S (goes x) (c ++ t ∷ r) ≡ Err d → left_of d ≡ suc (length r) → Next G (a.takes x) (c ++ t ∷ z)
   steady x c r z t d good next e at = ⊎_elim (λ no. missing_steady x c r z t d good next (sym (absent x (c ++ t ∷ r) no) ∙ e) at) (λ here. E.ends x (c ++ t ∷ z) good (moved c z r t ∙ here)) (cases (test (c ++ t ∷ r)))
 
-  pub must_law : Law G (must R goes test S) (seq_syntax a b) top
-  must_law = follow_law G top a (λ x. need test S (goes x)) (λ x. b) good_pair takes_pair LA (record {
+  pub must_joint : Joint G top a (λ x. need test S (goes x)) (λ x. b) good_pair takes_pair
+  must_joint = record {
     first = λ x y good. good.0;
     second = λ x y good. good.1;
     ends = λ x y text rest good spells next. (E.ends x (text ++ rest) good.0 (all y text rest good.1 spells), next);
@@ -142,7 +142,10 @@ module _ {T I M A B : Type 0} {G : Alphabet T I M} {R : Reader T A} {a : Syntax 
     reads = λ x good. reads x;
     fails = fails;
     steady = steady;
-  })
+  }
+
+  pub must_law : Law G (must R goes test S) (seq_syntax a b) top
+  must_law = follow_law G top a (λ x. need test S (goes x)) (λ x. b) good_pair takes_pair LA must_joint
 
 -- a token that has to stand behind what was read
 module _ {T I M A K : Type 0} {G : Alphabet T I M} {R : Reader T A} {a : Syntax I M A} {class : T → Option K} {Allowed : K → Type 0} {item : K → I} {top : ℕ} {goes : A → T → Bool} where

@@ -4,7 +4,7 @@ use Rattle.reading.specs.Readers.{left_of, Fault, Stop, Reader, follow}
 use Rattle.reading.specs.Printing.{Alphabet, Matches, begins, Next}
 use Rattle.reading.specs.Law.{Syntax, Law}
 use Rattle.reading.proofs.Texts.{matches_nothing, next_both, next_left, next_right, next_at, at_next}
-use Rattle.reading.proofs.Follow.{behind_of, follow_law, reads_of}
+use Rattle.reading.proofs.Follow.{Joint, behind_of, follow_law, reads_of}
 
 -- what is given behind something must not be taken by it
 abbrev pub Apart : Bool → Bool → Type 0
@@ -59,8 +59,8 @@ module _ {T I M A B : Type 0} {G : Alphabet T I M} {R : Reader T A} {a : Syntax 
           (tt, next_both G (a.takes x) ((b x).takes y) rest (subst (λ (z : List T). Next G (a.takes x) (z ++ rest)) bare next) next')
       go true eg = (at_next G (a.takes x) (set x) m (λ p. alike x p good) (text ++ rest) ((tails x).starts y text rest good' eg s) next, next')
 
-  pub tail_law : Law G (follow R S) (tail_syntax a b given m) top
-  tail_law = follow_law G top a S b (tail_good a b given m) (tail_takes a b given m) LA (record {
+  pub tail_joint : Joint G top a S b (tail_good a b given m) (tail_takes a b given m)
+  tail_joint = record {
     first = λ x y good. good.0;
     second = λ x y good. good.1;
     ends = ends;
@@ -74,4 +74,7 @@ module _ {T I M A B : Type 0} {G : Alphabet T I M} {R : Reader T A} {a : Syntax 
     steady = λ x c r z t d good next e at.
         let free = at_next G (a.takes x) (set x) m (λ p. alike x p good) (c ++ t ∷ r) ((tails x).begun (c ++ t ∷ r) d e) next in
         next_at G (a.takes x) (set x) m (λ p. alike x p good) (c ++ t ∷ z) ((tails x).decided c r z t d e at) free;
-  })
+  }
+
+  pub tail_law : Law G (follow R S) (tail_syntax a b given m) top
+  tail_law = follow_law G top a S b (tail_good a b given m) (tail_takes a b given m) LA tail_joint
