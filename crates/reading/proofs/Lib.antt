@@ -1,6 +1,7 @@
 pub mod Results
 pub mod Texts
 pub mod Consequences
+pub mod Opens
 pub mod Follow
 pub mod Dependent
 pub mod Lead
