@@ -19,3 +19,4 @@ pub mod Full
 pub mod Wider
 pub mod Clauses
 pub mod BracketsLaw
+pub mod Deeper

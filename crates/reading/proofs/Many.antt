@@ -342,7 +342,7 @@ module _ {T I M A State : Type 0} {G : Alphabet T I M} {r : State → Reader T A
         same' = sym v.parts ∙ same
 
         first : r state (q ++ t ∷ r0) ≡ Err (Deep (suc (length r0))) → OpensAt G top ((syntax state).print (x ∷ xs)) (length q)
-        first ea = opens_left G top ((s state).print x) (many_print set s step m (step state x) xs) (length q) (deep state (q ++ t ∷ r0) w.0 q r0 z v.front (v.back ++ rest) t x ea v.spells good.0 v.below v.next same')
+        first ea = opens_left G top ((s state).print x) (many_print set s step m (step state x) xs) (length q) ((deep state (q ++ t ∷ r0) w.0).there q r0 z v.front (v.back ++ rest) t x ea v.spells good.0 v.below v.next same')
 
         behind : (x' : A) → x' ≡ x → Below G top ((s state).print x') → (front c : List T) → Matches G ((s state).print x') front → q ≡ front ++ c → length (c ++ t ∷ r0) ≤ n → reader n (step state x') (c ++ t ∷ r0) ≡ Err (Deep (suc (length r0))) → v.back ++ rest ≡ c ++ t ∷ z → OpensAt G top ((syntax state).print (x ∷ xs)) (length q)
         behind x' ex low front c fits parts short stop back = deep_behind state x xs q front c (subst (λ (y : A). Below G top ((s state).print y)) ex low) (subst (λ (y : A). Matches G ((s state).print y) front) ex fits) parts
@@ -362,7 +362,7 @@ module _ {T I M A State : Type 0} {G : Alphabet T I M} {r : State → Reader T A
     deep_at (suc n) state q r0 z text rest t xs le0 e spells good below next same = deep_step n (deep_at n) state q r0 z text rest t xs le0 e spells good below next same
 
     pub many_from_deepens : (state : State) → Deepens G (many_from begun r step state) (syntax state) top wide
-    many_from_deepens state q r0 z text rest t xs e spells good below next same = deep_at (length (q ++ t ∷ r0)) state q r0 z text rest t xs (omega arith) e spells good below next same
+    many_from_deepens state = record { there = λ q r0 z text rest t xs e spells good below next same. deep_at (length (q ++ t ∷ r0)) state q r0 z text rest t xs (omega arith) e spells good below next same }
 
 -- plain lists
 abbrev pub many_syntax : {I M A : Type 0} → (M → Bool) → Syntax I M A → M → Syntax I M (List A)

@@ -148,10 +148,10 @@ module _ {T I M A B : Type 0} {G : Alphabet T I M} {R : Reader T A} {a : Syntax 
   must_law = follow_law G top a (λ x. need test S (goes x)) (λ x. b) good_pair takes_pair LA must_joint
 
 -- a token that has to stand behind what was read
+pub closed_all : {T I M K : Type 0} {G : Alphabet T I M} {class : T → Option K} {Allowed : K → Type 0} {item : K → I} → Class G class Allowed item → (x : K) (text rest : List T) → Allowed x → Matches G (item x ∷ []) text → stands class (text ++ rest) ≡ true
+closed_all C x [] rest good spells = absurd spells
+closed_all C x (t ∷ text) rest good spells = ap is_some (C.reads x t good spells.0)
+
 module _ {T I M A K : Type 0} {G : Alphabet T I M} {R : Reader T A} {a : Syntax I M A} {class : T → Option K} {Allowed : K → Type 0} {item : K → I} {top : ℕ} {goes : A → T → Bool} where
   pub closed_law : Law G R a top → (C : Class G class Allowed item) → ((x : K) → Allowed x → G.depth (item x) < top) → (some : K) → Allowed some → Ends G a top goes (stands class) → Law G (closed R class goes) (seq_syntax a (lead_syntax Allowed item)) top
-  closed_law LA C low some allowed E = must_law LA (lead_law C top low some allowed) E all (λ t y z. refl)
-    where
-      all : (x : K) (text rest : List T) → Allowed x → Matches G (item x ∷ []) text → stands class (text ++ rest) ≡ true
-      all x [] rest good spells = absurd spells
-      all x (t ∷ text) rest good spells = ap is_some (C.reads x t good spells.0)
+  closed_law LA C low some allowed E = must_law LA (lead_law C top low some allowed) E (closed_all C) (λ t y z. refl)

@@ -96,10 +96,17 @@ module _ {I M A B : Type 0} (a : Syntax I M A) (may : A → Bool) (set : M → B
   abbrev pub opt_syntax : Syntax I M (A × Option B)
   opt_syntax = tail_syntax a (λ x. optional_syntax (λ p. may x && set p) [] (when (may x ≡ true) b)) is_some m
 
+module _ {T I M A B : Type 0} {G : Alphabet T I M} {S : Reader T B} {b : Syntax I M B} {top : ℕ} (LB : Law G S b top) (may : A → Bool) (set : M → Bool) (St : Starts G set S b) (x : A) where
+  pub opt_laws : (ts rest : List T) → here_if (λ us. may x && begins G set us) ts ≡ Some rest → Law G S (when (may x ≡ true) b) top
+  opt_laws ts rest e = when_law LB (both_true (may x) (begins G set ts) (here St (may x) top ts rest e).0).0
+
+  pub opt_tail : Tail G (λ p. may x && set p) is_some (optional (here_if (λ us. may x && begins G set us)) S) (optional_syntax (λ p. may x && set p) [] (when (may x ≡ true) b)) top
+  opt_tail = optional_tail (opener_here St (may x) top) opt_laws
+
 module _ {T I M A B : Type 0} {G : Alphabet T I M} {R : Reader T A} {a : Syntax I M A} {S : Reader T B} {b : Syntax I M B} {top : ℕ} where
   pub opt_law : Law G R a top → Law G S b top → (may : A → Bool) (set : M → Bool) (m : M) → ((x : A) (p : M) → a.Good x → set p ≡ true → a.takes x p ≡ a.takes x m) → Starts G set S b
       → Law G (opt R (λ x ts. may x && begins G set ts) S) (opt_syntax a may set m b) top
-  opt_law LA LB may set m alike St = tail_law LA m (λ x p good e. alike x p good (both_true (may x) (set p) e).1) (λ x. optional_tail (opener_here St (may x) top) (λ ts rest e. when_law LB (both_true (may x) (begins G set ts) (here St (may x) top ts rest e).0).0))
+  opt_law LA LB may set m alike St = tail_law LA m (λ x p good e. alike x p good (both_true (may x) (set p) e).1) (λ x. opt_tail LB may set St x)
 
 -- The tokens that open a phrase: they alone decide that it stands, and a mark tells it.
 pub record Opening {T I M : Type 0} (G : Alphabet T I M) (set : M → Bool) (its : List I) (cut : List T → Option (List T)) : Type 0 where

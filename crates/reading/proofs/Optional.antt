@@ -107,7 +107,7 @@ module _ {T I M B : Type 0} {G : Alphabet T I M} {set : M → Bool} {its : List 
   optional_begun ts d e = let w = ended ts d e in O.stands ts w.0 w.1
 
   -- where it stops, the tokens before and the next have decided what is cut
-  still : (q r z : List T) (t : T) (d : Fault) → optional cut S (q ++ t ∷ r) ≡ Err d → left_of d ≡ suc (length r) → (c : List T) × (S (c ++ t ∷ r) ≡ Err d) × (cut (q ++ t ∷ z) ≡ Some (c ++ t ∷ z))
+  pub still : (q r z : List T) (t : T) (d : Fault) → optional cut S (q ++ t ∷ r) ≡ Err d → left_of d ≡ suc (length r) → (c : List T) × (S (c ++ t ∷ r) ≡ Err d) × (cut (q ++ t ∷ z) ≡ Some (c ++ t ∷ z))
   still q r z t d e at =
       let w = ended (q ++ t ∷ r) d e in
       let o = O.found (q ++ t ∷ r) w.0 w.1 in
@@ -121,7 +121,7 @@ module _ {T I M B : Type 0} {G : Alphabet T I M} {set : M → Bool} {its : List 
   pub optional_decided : (q r z : List T) (t : T) (d : Fault) → optional cut S (q ++ t ∷ r) ≡ Err d → left_of d ≡ suc (length r) → begins G set (q ++ t ∷ z) ≡ true
   optional_decided q r z t d e at = let w = still q r z t d e at in O.stands (q ++ t ∷ z) (w.0 ++ t ∷ z) w.2
 
-  some_is : (u v : List T) (c : Option (List T)) → c ≡ Some u → c ≡ Some v → u ≡ v
+  pub some_is : (u v : List T) (c : Option (List T)) → c ≡ Some u → c ≡ Some v → u ≡ v
   some_is u v c e f = let same : Some u ≡ Some v = sym e ∙ f in cc
 
   firm : (q r z text rest : List T) (t : T) (x : Option B) → optional cut S (q ++ t ∷ r) ≡ Err (Stop (suc (length r))) → Matches G (syntax.print x) text → syntax.Good x → Below G top (syntax.print x) → Next G (syntax.takes x) rest → text ++ rest ≡ q ++ t ∷ z → ⊥

@@ -64,8 +64,8 @@ module _ {T I M A : Type 0} where
     pub firm : (q r' z text rest : List T) (t : T) (a : A) → r (q ++ t ∷ r') ≡ Err (Stop (suc (length r'))) → Matches G (s.print a) text → s.Good a → Below G top (s.print a) → Next G (s.takes a) rest → text ++ rest ≡ q ++ t ∷ z → ⊥
 
 -- Where there is too little room before a token, each tree whose text goes on with that token opens one too many there.
-abbrev pub Deepens : {T I M A : Type 0} → Alphabet T I M → Reader T A → Syntax I M A → ℕ → ℕ → Type 0
-Deepens {T} {I} {M} {A} G r s top wide = (q r' z text rest : List T) (t : T) (a : A) → r (q ++ t ∷ r') ≡ Err (Deep (suc (length r'))) → Matches G (s.print a) text → s.Good a → Below G wide (s.print a) → Next G (s.takes a) rest → text ++ rest ≡ q ++ t ∷ z → OpensAt G top (s.print a) (length q)
+pub record Deepens {T I M A : Type 0} (G : Alphabet T I M) (r : Reader T A) (s : Syntax I M A) (top wide : ℕ) : Type 0 where
+  pub there : (q r' z text rest : List T) (t : T) (a : A) → r (q ++ t ∷ r') ≡ Err (Deep (suc (length r'))) → Matches G (s.print a) text → s.Good a → Below G wide (s.print a) → Next G (s.takes a) rest → text ++ rest ≡ q ++ t ∷ z → OpensAt G top (s.print a) (length q)
 
 -- With less room the answer is the same, unless it is that there is too little.
 abbrev pub Agree : {B : Type 0} → Result B Fault → Result B Fault → Type 0
