@@ -1,6 +1,6 @@
 -- One of two, by what stands first.
-use Rattle.std.proofs.Common.{◌≡◌, ℕ, suc, ◌⊎◌, inl, inr, Bool, true, false, List, ◌∷◌, ◌++◌, length, Result, Ok, Err, refl, sym, ap, subst, ◌∙◌}
-use Rattle.reading.specs.Readers.{Fault, Stop, Reader, choose_on, choose}
+use Rattle.std.proofs.Common.{◌≡◌, ℕ, suc, ◌⊎◌, inl, inr, Bool, true, false, List, ◌∷◌, ◌++◌, length, Ok, Err, refl, sym, ap, subst, ◌∙◌}
+use Rattle.reading.specs.Readers.{left_of, Fault, Stop, Reader, choose_on, choose}
 use Rattle.reading.specs.Printing.{Alphabet, Matches, Below, Next}
 use Rattle.reading.specs.Law.{Syntax, Read, Fails, Law}
 use Rattle.reading.proofs.Results.{bind_ok, ok_is, fault_before}
@@ -25,8 +25,8 @@ module _ {I M A B : Type 0} (a : Syntax I M A) (b : Syntax I M B) where
 pub record Tells {T I M A B : Type 0} (G : Alphabet T I M) (test : List T → Bool) (R : Reader T A) (S : Reader T B) (a : Syntax I M A) (b : Syntax I M B) : Type 0 where
   pub first : (x : A) (text rest : List T) → a.Good x → Matches G (a.print x) text → Next G (a.takes x) rest → test (text ++ rest) ≡ true
   pub second : (y : B) (text rest : List T) → b.Good y → Matches G (b.print y) text → Next G (b.takes y) rest → test (text ++ rest) ≡ false
-  pub decided : (q r z : List T) (t : T) → test (q ++ t ∷ r) ≡ true → R (q ++ t ∷ r) ≡ Err (Stop (suc (length r))) → test (q ++ t ∷ z) ≡ true
-  pub excluded : (q r z : List T) (t : T) → test (q ++ t ∷ r) ≡ false → S (q ++ t ∷ r) ≡ Err (Stop (suc (length r))) → test (q ++ t ∷ z) ≡ false
+  pub decided : (q r z : List T) (t : T) (d : Fault) → test (q ++ t ∷ r) ≡ true → R (q ++ t ∷ r) ≡ Err d → left_of d ≡ suc (length r) → test (q ++ t ∷ z) ≡ true
+  pub excluded : (q r z : List T) (t : T) (d : Fault) → test (q ++ t ∷ r) ≡ false → S (q ++ t ∷ r) ≡ Err d → left_of d ≡ suc (length r) → test (q ++ t ∷ z) ≡ false
 
 module _ {T I M A B : Type 0} {G : Alphabet T I M} {R : Reader T A} {S : Reader T B} {a : Syntax I M A} {b : Syntax I M B} {top : ℕ} {test : List T → Bool} (LA : Law G R a top) (LB : Law G S b top) (D : Tells G test R S a b) where
   abbrev syntax : Syntax I M (A ⊎ B)
@@ -72,8 +72,8 @@ module _ {T I M A B : Type 0} {G : Alphabet T I M} {R : Reader T A} {S : Reader 
       at_second er still (inl y) s0 g0 b0 n0 = let never : true ≡ false = sym (D.first y text rest g0 s0 n0) ∙ (ap test same ∙ still) in cc
 
       go : (c : Bool) → test (q ++ t ∷ r) ≡ c → choose_on c R S (q ++ t ∷ r) ≡ Err (Stop (suc (length r))) → ⊥
-      go true ec e0 = let er = fault_before (R (q ++ t ∷ r)) (λ y. (inl y.0, y.1)) (Stop (suc (length r))) e0 in at_first er (D.decided q r z t ec er) x spells good below next
-      go false ec e0 = let er = fault_before (S (q ++ t ∷ r)) (λ y. (inr y.0, y.1)) (Stop (suc (length r))) e0 in at_second er (D.excluded q r z t ec er) x spells good below next
+      go true ec e0 = let er = fault_before (R (q ++ t ∷ r)) (λ y. (inl y.0, y.1)) (Stop (suc (length r))) e0 in at_first er (D.decided q r z t (Stop (suc (length r))) ec er refl) x spells good below next
+      go false ec e0 = let er = fault_before (S (q ++ t ∷ r)) (λ y. (inr y.0, y.1)) (Stop (suc (length r))) e0 in at_second er (D.excluded q r z t (Stop (suc (length r))) ec er refl) x spells good below next
 
   pub choose_law : Law G (choose test R S) syntax top
   choose_law = record { sound = sound; complete = complete; fails = fails; firm = firm }

@@ -1,10 +1,10 @@
 -- What follows from the law of any reader.
-use Rattle.std.proofs.Common.{◌≡◌, ℕ, suc, ◌+◌, ◌≤◌, ◌<◌, ◌⊎◌, inl, inr, ⊎_elim, Bool, true, false, List, [], ◌∷◌, ◌++◌, length, length-append, Option, Some, None, Result, Ok, Err, refl, sym, ap, subst, ◌∙◌, arith}
+use Rattle.std.proofs.Common.{◌≡◌, ℕ, suc, ◌≤◌, ⊎_elim, Bool, false, List, [], ◌∷◌, ◌++◌, length, length-append, Result, Ok, Err, refl, sym, ap, subst, ◌∙◌, arith}
 use Rattle.std.proofs.lemmas.List.{append-nil}
 use Rattle.std.proofs.lemmas.Bool.{cases_lt}
-use Rattle.reading.specs.Readers.{Fault, Stop, Deep, Reader}
-use Rattle.reading.specs.Printing.{Front, Here, Ahead, Alphabet, Matches, Below, Opens, on_mark, ahead, peek_on, peek, Next}
-use Rattle.reading.specs.Law.{Syntax, Read, At, Fails, Law}
+use Rattle.reading.specs.Readers.{left_of, Fault, Stop, Deep, Reader}
+use Rattle.reading.specs.Printing.{Front, Here, Ahead, Alphabet, Matches, Below, on_mark, peek_on, Next}
+use Rattle.reading.specs.Law.{Syntax, Read, At, Law}
 use Rattle.reading.proofs.Results.{ok_is, cut_at}
 use Rattle.reading.proofs.Texts.{opens_more}
 
@@ -12,10 +12,14 @@ pub at_more : {T I M : Type 0} (G : Alphabet T I M) (top : ℕ) (d : Fault) (lef
 at_more G top (Stop n) left after js a = a
 at_more G top (Deep n) left after js a = (a.0, opens_more G top left after js a.1)
 
+pub at_left : {T I M : Type 0} (G : Alphabet T I M) (top : ℕ) (d : Fault) (left : List T) (after : List I) → At G top d left after → length left ≡ left_of d
+at_left G top (Stop n) left after a = a
+at_left G top (Deep n) left after a = a.0
+
 module _ {T I M A : Type 0} {G : Alphabet T I M} {R : Reader T A} {s : Syntax I M A} {top : ℕ} (L : Law G R s top) where
-  -- where reading stops, it is within the tokens
-  pub within : (ts : List T) (n : ℕ) → R ts ≡ Err (Stop n) → n ≤ length ts
-  within ts n e = let h = L.fails ts (Stop n) e in omega (arith, ap length h.parts, length-append h.read h.left, h.at)
+  -- where reading ends, it is within the tokens
+  pub within : (ts : List T) (d : Fault) → R ts ≡ Err d → left_of d ≤ length ts
+  within ts d e = let h = L.fails ts d e in omega (arith, ap length h.parts, length-append h.read h.left, at_left G top d h.left h.after h.at)
 
   -- some tree is allowed
   pub some_tree : (a : A) × s.Good a

@@ -1,6 +1,6 @@
 -- One reader after another, in general: what each pair of the two must keep so that the law of the whole follows.
 use Rattle.std.proofs.Common.{◌≡◌, ℕ, suc, ◌≤◌, ⊎_elim, Bool, List, ◌∷◌, ◌++◌, length, Result, Ok, Err, refl, sym, ap, subst, ◌∙◌, append_assoc}
-use Rattle.reading.specs.Readers.{Fault, Stop, Reader, ◌>>=◌, follow}
+use Rattle.reading.specs.Readers.{left_of, Fault, Stop, Reader, ◌>>=◌, follow}
 use Rattle.reading.specs.Printing.{Alphabet, Matches, Below, Next}
 use Rattle.reading.specs.Law.{Syntax, Read, At, Fails, Law}
 use Rattle.reading.proofs.Results.{bind_ok, bind_err, ok_is, fault_before, cut_at}
@@ -11,7 +11,7 @@ use Rattle.reading.proofs.Consequences.{within, first_is, at_more}
 pub record Reads {T I M A : Type 0} (G : Alphabet T I M) (r : Reader T A) (s : Syntax I M A) (top : ℕ) : Type 0 where
   pub sound : (ts : List T) (x : A × List T) → r ts ≡ Ok x → Read G s top ts x.0 x.1
   pub complete : (a : A) (text rest : List T) → Matches G (s.print a) text → s.Good a → Below G top (s.print a) → Next G (s.takes a) rest → r (text ++ rest) ≡ Ok (a, rest)
-  pub within : (ts : List T) (n : ℕ) → r ts ≡ Err (Stop n) → n ≤ length ts
+  pub within : (ts : List T) (d : Fault) → r ts ≡ Err d → left_of d ≤ length ts
   pub firm : (q r' z text rest : List T) (t : T) (a : A) → r (q ++ t ∷ r') ≡ Err (Stop (suc (length r'))) → Matches G (s.print a) text → s.Good a → Below G top (s.print a) → Next G (s.takes a) rest → text ++ rest ≡ q ++ t ∷ z → ⊥
 
 pub reads_of : {T I M A : Type 0} {G : Alphabet T I M} {r : Reader T A} {s : Syntax I M A} {top : ℕ} → Law G r s top → Reads G r s top
@@ -60,8 +60,8 @@ module _ {T I M A B : Type 0} (G : Alphabet T I M) (top : ℕ) (a : Syntax I M A
     pub some : (x : A) → a.Good x → (y : B) × Good x y
     pub reads : (x : A) → a.Good x → Reads G (S x) (b x) top
     pub fails : (x : A) (ts : List T) (fault : Fault) → a.Good x → Below G top (a.print x) → Next G (a.takes x) ts → S x ts ≡ Err fault → FailsBehind x ts fault
-    -- where the second stops, the tokens before and the next have decided that the first ended
-    pub steady : (x : A) (c r z : List T) (t : T) → a.Good x → Next G (a.takes x) (c ++ t ∷ r) → S x (c ++ t ∷ r) ≡ Err (Stop (suc (length r))) → Next G (a.takes x) (c ++ t ∷ z)
+    -- where reading the second ends, the tokens before and the next have decided that the first ended
+    pub steady : (x : A) (c r z : List T) (t : T) (d : Fault) → a.Good x → Next G (a.takes x) (c ++ t ∷ r) → S x (c ++ t ∷ r) ≡ Err d → left_of d ≡ suc (length r) → Next G (a.takes x) (c ++ t ∷ z)
 
   module _ {R : Reader T A} (LA : Law G R a top) (J : Joint) where
     abbrev then_b : A × List T → Result ((A × B) × List T) Fault
@@ -181,9 +181,9 @@ module _ {T I M A B : Type 0} (G : Alphabet T I M) (top : ℕ) (a : Syntax I M A
         at_second p =
             let es = fault_before (S p.0.0 p.0.1) (λ y. ((p.0.0, y.0), y.1)) (Stop (suc (length r))) p.2 in
             let f = LA.sound (q ++ t ∷ r) p.0 p.1 in
-            let cut = cut_at q (t ∷ r) f.text p.0.1 f.parts ((J.reads p.0.0 f.good).within p.0.1 (suc (length r)) es) in
+            let cut = cut_at q (t ∷ r) f.text p.0.1 f.parts ((J.reads p.0.0 f.good).within p.0.1 (Stop (suc (length r))) es) in
             let stop : S p.0.0 (cut.0 ++ t ∷ r) ≡ Err (Stop (suc (length r))) = sym (ap (S p.0.0) cut.1) ∙ es in
-            let still = J.steady p.0.0 cut.0 r z t f.good (subst (Next G (a.takes p.0.0)) cut.1 f.next) stop in
+            let still = J.steady p.0.0 cut.0 r z t (Stop (suc (length r))) f.good (subst (Next G (a.takes p.0.0)) cut.1 f.next) stop refl in
             let goes : w.front ++ (w.back ++ rest) ≡ f.text ++ (cut.0 ++ t ∷ z) = same' ∙ ap (λ (y : List T). y ++ t ∷ z) cut.2 ∙ append_assoc f.text cut.0 (t ∷ z) in
             let one = first_is LA f.text (cut.0 ++ t ∷ z) w.front (w.back ++ rest) p.0.0 x.0 f.spells f.good f.below still w.spells w.good w.below w.next goes in
             behind p.0.0 one.0 cut.0 stop one.1

@@ -1,18 +1,24 @@
 -- Where no more may open.
-use Rattle.std.proofs.Common.{◌≡◌, ℕ, suc, Bool, true, false, List, [], ◌∷◌, ◌++◌, length, Result, Ok, Err, refl, sym, ap, subst, ◌∙◌}
-use Rattle.reading.specs.Readers.{Fault, Stop, Deep, Reader, full_on, full}
+use Rattle.std.proofs.Common.{◌≡◌, ℕ, Bool, true, false, List, [], ◌∷◌, length, Ok, Err, refl, sym, subst, ◌∙◌, arith}
+use Rattle.reading.specs.Readers.{Fault, Stop, Deep, full_on, full}
 use Rattle.reading.specs.Printing.{Alphabet, Below}
 use Rattle.reading.specs.Law.{Syntax, Fails, Law}
 use Rattle.reading.proofs.Results.{fault_is}
 
 -- Every tree opens one at its first token, and so does some tree at each token that the test finds.
-pub record Opening {T I M A : Type 0} (G : Alphabet T I M) (s : Syntax I M A) (top : ℕ) (opens : List T → Bool) : Type 0 where
-  pub none : (x : A) → s.Good x → Below G top (s.print x) → ⊥
+pub record NoRoom {T I M A : Type 0} (G : Alphabet T I M) (s : Syntax I M A) (top : ℕ) (opens : List T → Bool) : Type 0 where
+  pub first : (x : A) → s.Good x → (i : I) × (more : List I) × (s.print x ≡ i ∷ more) × (G.depth i ≡ top)
   pub some : (x : A) × s.Good x
   pub at_end : opens [] ≡ false
   pub deep : (t : T) (ts : List T) → opens (t ∷ ts) ≡ true → (x : A) × (i : I) × (more : List I) × s.Good x × (s.print x ≡ i ∷ more) × G.Fits i t × (G.depth i ≡ top)
 
-module _ {T I M A : Type 0} {G : Alphabet T I M} {s : Syntax I M A} {top : ℕ} {opens : List T → Bool} (O : Opening G s top opens) where
+module _ {T I M A : Type 0} {G : Alphabet T I M} {s : Syntax I M A} {top : ℕ} {opens : List T → Bool} (O : NoRoom G s top opens) where
+  none : (x : A) → s.Good x → Below G top (s.print x) → ⊥
+  none x good below =
+      let w = O.first x good in
+      let low : Below G top (w.0 ∷ w.1) = subst (Below G top) w.2 below in
+      omega (arith, low.0, w.3)
+
   reads_none : (c : Bool) (ts : List T) (x : A × List T) → full_on c ts ≡ Ok x → ⊥
   reads_none true ts x e = cc
   reads_none false ts x e = cc
@@ -31,7 +37,7 @@ module _ {T I M A : Type 0} {G : Alphabet T I M} {s : Syntax I M A} {top : ℕ} 
   pub full_law : Law G (full opens) s top
   full_law = record {
     sound = λ ts x e. absurd (reads_none (opens ts) ts x e);
-    complete = λ x text rest spells good below next. absurd (O.none x good below);
+    complete = λ x text rest spells good below next. absurd (none x good below);
     fails = λ ts d e. fails (opens ts) ts d refl e;
-    firm = λ q r z text rest t x e spells good below next same. O.none x good below;
+    firm = λ q r z text rest t x e spells good below next same. none x good below;
   }

@@ -1,7 +1,7 @@
 -- Nothing, one token of a class, and what such a token says.
-use Rattle.std.proofs.Common.{◌≡◌, ℕ, suc, ◌<◌, Bool, false, List, [], ◌∷◌, ◌++◌, length, length-append, Option, Some, None, Ok, Err, refl, sym, ap, subst, ◌∙◌, arith}
+use Rattle.std.proofs.Common.{◌≡◌, ℕ, suc, ◌<◌, List, [], ◌∷◌, ◌++◌, length, length-append, Option, Some, None, Ok, Err, refl, sym, ap, subst, ◌∙◌, arith}
 use Rattle.reading.specs.Readers.{Fault, Stop, Reader, nothing, lead_as, lead, branch}
-use Rattle.reading.specs.Printing.{Alphabet, Matches, Below, Next}
+use Rattle.reading.specs.Printing.{Alphabet, Matches}
 use Rattle.reading.specs.Law.{Syntax, Read, Fails, Law}
 use Rattle.reading.proofs.Results.{ok_is, ok_fails, fault_is}
 use Rattle.reading.proofs.Texts.{takes_nothing, Always, matches_nothing, next_none}
@@ -45,7 +45,7 @@ module _ {T I M K : Type 0} {G : Alphabet T I M} {class : T → Option K} {Allow
   complete x (t ∷ []) rest s good = rw (C.reads x t good s.0) refl
   complete x (t ∷ u ∷ text) rest s good = absurd s.1
 
-  stops : (ts : List T) (d : Fault) → lead class ts ≡ Err d → d ≡ Stop (length ts)
+  pub stops : (ts : List T) (d : Fault) → lead class ts ≡ Err d → d ≡ Stop (length ts)
   stops [] d e = fault_is {A = K × List T} d (Stop 0) (sym e)
   stops (t ∷ ts) d e = go (class t) e
     where

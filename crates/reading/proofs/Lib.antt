@@ -1,6 +1,7 @@
 pub mod Results
 pub mod Texts
 pub mod Consequences
+pub mod Opens
 pub mod Follow
 pub mod Dependent
 pub mod Lead
@@ -11,6 +12,11 @@ pub mod Tail
 pub mod Many
 pub mod Opt
 pub mod Plus
-pub mod Must
 pub mod Choose
+pub mod Grows
+pub mod Must
 pub mod Full
+pub mod Wider
+pub mod Clauses
+pub mod BracketsLaw
+pub mod Deeper

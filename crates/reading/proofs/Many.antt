@@ -1,11 +1,12 @@
 -- Any number, as long as one begins. What was read before, a state, may say which begin and how they are read.
-use Rattle.std.proofs.Common.{◌≡◌, ℕ, zero, suc, ◌≤◌, ⊎_elim, Bool, true, false, List, [], ◌∷◌, ◌++◌, length, length-append, Option, Some, None, Result, Ok, Err, refl, sym, ap, subst, ◌∙◌, append_assoc, arith}
-use Rattle.reading.specs.Readers.{Fault, Stop, Reader, ◌>>=◌, many_on, many_at, many_from, no_step, many}
+use Rattle.std.proofs.Common.{◌≡◌, ℕ, zero, suc, ◌≤◌, ⊎_elim, Bool, true, false, List, [], ◌∷◌, ◌++◌, length, length-append, Result, Ok, Err, refl, sym, ap, subst, ◌∙◌, append_assoc, arith}
+use Rattle.reading.specs.Readers.{left_of, Fault, Stop, Deep, Reader, ◌>>=◌, many_at, many_from, no_step, many}
 use Rattle.reading.specs.Printing.{Alphabet, Matches, Below, begins, Next}
-use Rattle.reading.specs.Law.{Syntax, Read, Fails, Law}
+use Rattle.reading.specs.Law.{Syntax, Read, Fails, Law, OpensAt, Deepens}
 use Rattle.reading.proofs.Results.{bind_ok, bind_err, ok_is, ok_fails, fault_before, cut_at}
-use Rattle.reading.proofs.Texts.{cases, matches_nothing, matches_join, matches_split, below_join, below_left, below_right, next_both, next_left, next_right, next_at, at_next}
-use Rattle.reading.proofs.Consequences.{within, first_is, at_more}
+use Rattle.reading.proofs.Texts.{cases, matches_length, matches_nothing, matches_join, matches_split, below_join, below_left, below_right, next_both, next_left, next_right, next_at, at_next}
+use Rattle.reading.proofs.Consequences.{first_is, at_more, at_left}
+use Rattle.reading.proofs.Opens.{below_wider, opens_left, opens_right}
 use Rattle.reading.proofs.Starts.{Starts}
 use Rattle.reading.proofs.Tail.{Apart, apart, onward, Tail}
 
@@ -64,28 +65,28 @@ module _ {T I M A State : Type 0} {G : Alphabet T I M} {r : State → Reader T A
   one_at n state ts e = rw e refl
 
   -- the first of a list and what stands behind it
-  record Parts (state : State) (x : A) (xs : List A) (text rest : List T) : Type 0 where
+  record Parts (limit : ℕ) (state : State) (x : A) (xs : List A) (text rest : List T) : Type 0 where
     front : List T
     back : List T
     parts : text ++ rest ≡ front ++ (back ++ rest)
     here : begun state (text ++ rest) ≡ true
     spells : Matches G ((s state).print x) front
     spells_back : Matches G (many_print set s step m (step state x) xs) back
-    below : Below G top ((s state).print x)
-    below_back : Below G top (many_print set s step m (step state x) xs)
+    below : Below G limit ((s state).print x)
+    below_back : Below G limit (many_print set s step m (step state x) xs)
     next : Next G ((s state).takes x) (back ++ rest)
     next_back : Next G (many_takes set s step m (step state x) xs) rest
 
-  parts_of : (state : State) (x : A) (xs : List A) (text rest : List T) → Matches G ((syntax state).print (x ∷ xs)) text → (syntax state).Good (x ∷ xs) → Below G top ((syntax state).print (x ∷ xs)) → Next G ((syntax state).takes (x ∷ xs)) rest → Parts state x xs text rest
-  parts_of state x xs text rest spells good below next = record {
+  parts_of : (limit : ℕ) (state : State) (x : A) (xs : List A) (text rest : List T) → Matches G ((syntax state).print (x ∷ xs)) text → (syntax state).Good (x ∷ xs) → Below G limit ((syntax state).print (x ∷ xs)) → Next G ((syntax state).takes (x ∷ xs)) rest → Parts limit state x xs text rest
+  parts_of limit state x xs text rest spells good below next = record {
     front = w.0;
     back = w.1;
     parts = ap (λ (z : List T). z ++ rest) w.2 ∙ append_assoc w.0 w.1 rest;
     here = many_starts state (x ∷ xs) text rest good refl spells;
     spells = w.3;
     spells_back = w.4;
-    below = below_left G top ((s state).print x) (many_print set s step m (step state x) xs) below;
-    below_back = below_right G top ((s state).print x) (many_print set s step m (step state x) xs) below;
+    below = below_left G limit ((s state).print x) (many_print set s step m (step state x) xs) below;
+    below_back = below_right G limit ((s state).print x) (many_print set s step m (step state x) xs) below;
     next = (ends xs good.1 good.2 w.4 next).0;
     next_back = (ends xs good.1 good.2 w.4 next).1;
   }
@@ -149,7 +150,7 @@ module _ {T I M A State : Type 0} {G : Alphabet T I M} {r : State → Reader T A
   complete_at zero state (x ∷ xs) text rest le spells good below next =
       let never : true ≡ false = sym (many_starts state (x ∷ xs) text rest good refl spells) ∙ no_tokens state (text ++ rest) le in absurd cc
   complete_at (suc n) state (x ∷ xs) text rest le spells good below next =
-      let w = parts_of state x xs text rest spells good below next in
+      let w = parts_of top state x xs text rest spells good below next in
       let f = (laws state (text ++ rest) w.here).complete x w.front (w.back ++ rest) w.spells good.0 w.below w.next in
       let short : length (w.back ++ rest) ≤ n = omega (arith, some_token state x w.front good.0 w.spells, ap length w.parts, length-append w.front (w.back ++ rest)) in
       let g = complete_at n (step state x) xs w.back rest short w.spells_back good.1 w.below_back w.next_back in
@@ -204,11 +205,11 @@ module _ {T I M A State : Type 0} {G : Alphabet T I M} {r : State → Reader T A
   fails_at zero state ts d le e = ok_fails ([], ts) d e
   fails_at (suc n) state ts d le e = fails_step n (fails_at n) state ts d le e
 
-  within_at : (n : ℕ) (state : State) (ts : List T) (k : ℕ) → length ts ≤ n → reader n state ts ≡ Err (Stop k) → k ≤ length ts
-  within_at n state ts k le e = let h = fails_at n state ts (Stop k) le e in omega (arith, ap length h.parts, length-append h.read h.left, h.at)
+  within_at : (n : ℕ) (state : State) (ts : List T) (d : Fault) → length ts ≤ n → reader n state ts ≡ Err d → left_of d ≤ length ts
+  within_at n state ts d le e = let h = fails_at n state ts d le e in omega (arith, ap length h.parts, length-append h.read h.left, at_left G top d h.left h.after h.at)
 
-  -- where reading stops behind the first: that one, and the tokens between
-  record Later (n : ℕ) (state : State) (q r' : List T) (t : T) : Type 0 where
+  -- where reading ends behind the first: that one, and the tokens between
+  record Later (n : ℕ) (state : State) (q r' : List T) (t : T) (d : Fault) : Type 0 where
     x : A
     text : List T
     c : List T
@@ -218,14 +219,14 @@ module _ {T I M A State : Type 0} {G : Alphabet T I M} {r : State → Reader T A
     next : Next G ((s state).takes x) (c ++ t ∷ r')
     front : q ≡ text ++ c
     short : length (c ++ t ∷ r') ≤ n
-    stop : reader n (step state x) (c ++ t ∷ r') ≡ Err (Stop (suc (length r')))
+    stop : reader n (step state x) (c ++ t ∷ r') ≡ Err d
 
-  later : (n : ℕ) (state : State) (q r' : List T) (t : T) → length (q ++ t ∷ r') ≤ suc n → begun state (q ++ t ∷ r') ≡ true → (a : A × List T) → r state (q ++ t ∷ r') ≡ Ok a → more n state a ≡ Err (Stop (suc (length r'))) → Later n state q r' t
-  later n state q r' t le here a read e =
-      let e' = later_fault n state a (Stop (suc (length r'))) e in
+  later : (n : ℕ) (state : State) (q r' : List T) (t : T) (d : Fault) → left_of d ≡ suc (length r') → length (q ++ t ∷ r') ≤ suc n → begun state (q ++ t ∷ r') ≡ true → (a : A × List T) → r state (q ++ t ∷ r') ≡ Ok a → more n state a ≡ Err d → Later n state q r' t d
+  later n state q r' t d at le here a read e =
+      let e' = later_fault n state a d e in
       let f = (laws state (q ++ t ∷ r') here).sound (q ++ t ∷ r') a read in
       let short = shorter n state (q ++ t ∷ r') a le f in
-      let cut = cut_at q (t ∷ r') f.text a.1 f.parts (within_at n (step state a.0) a.1 (suc (length r')) short e') in
+      let cut = cut_at q (t ∷ r') f.text a.1 f.parts (omega (arith, at, within_at n (step state a.0) a.1 d short e')) in
       record {
         x = a.0;
         text = f.text;
@@ -239,17 +240,17 @@ module _ {T I M A State : Type 0} {G : Alphabet T I M} {r : State → Reader T A
         stop = sym (ap (reader n (step state a.0)) cut.1) ∙ e';
       }
 
-  -- where reading stops, the tokens before and the next have decided that one begins
-  decided_at : (n : ℕ) (state : State) (q r' z : List T) (t : T) → length (q ++ t ∷ r') ≤ n → reader n state (q ++ t ∷ r') ≡ Err (Stop (suc (length r'))) → begun state (q ++ t ∷ z) ≡ true
-  decided_at zero state q r' z t le e = ok_fails ([], q ++ t ∷ r') (Stop (suc (length r'))) e
-  decided_at (suc n) state q r' z t le e = ⊎_elim ((St state).decided q r' z t w.0) others (bind_err (r state (q ++ t ∷ r')) (more n state) (Stop (suc (length r'))) w.1)
+  -- where reading ends, the tokens before and the next have decided that one begins
+  decided_at : (n : ℕ) (state : State) (q r' z : List T) (t : T) (d : Fault) → length (q ++ t ∷ r') ≤ n → reader n state (q ++ t ∷ r') ≡ Err d → left_of d ≡ suc (length r') → begun state (q ++ t ∷ z) ≡ true
+  decided_at zero state q r' z t d le e at = ok_fails ([], q ++ t ∷ r') d e
+  decided_at (suc n) state q r' z t d le e at = ⊎_elim (λ ea. (St state).decided q r' z t d w.0 ea at) others (bind_err (r state (q ++ t ∷ r')) (more n state) d w.1)
     where
-      w : (begun state (q ++ t ∷ r') ≡ true) × ((r state (q ++ t ∷ r') >>= more n state) ≡ Err (Stop (suc (length r'))))
-      w = ended n state (q ++ t ∷ r') (Stop (suc (length r'))) e
+      w : (begun state (q ++ t ∷ r') ≡ true) × ((r state (q ++ t ∷ r') >>= more n state) ≡ Err d)
+      w = ended n state (q ++ t ∷ r') d e
 
-      others : (a : A × List T) × (r state (q ++ t ∷ r') ≡ Ok a) × (more n state a ≡ Err (Stop (suc (length r')))) → begun state (q ++ t ∷ z) ≡ true
+      others : (a : A × List T) × (r state (q ++ t ∷ r') ≡ Ok a) × (more n state a ≡ Err d) → begun state (q ++ t ∷ z) ≡ true
       others p =
-          let l = later n state q r' t le w.0 p.0 p.1 p.2 in
+          let l = later n state q r' t d at le w.0 p.0 p.1 p.2 in
           ap (begun state) (ap (λ (y : List T). y ++ t ∷ z) l.front ∙ append_assoc l.text l.c (t ∷ z)) ∙ (St state).starts l.x l.text (l.c ++ t ∷ z) l.good l.spells
 
   abbrev FirmAt : ℕ → Type 0
@@ -258,15 +259,15 @@ module _ {T I M A State : Type 0} {G : Alphabet T I M} {r : State → Reader T A
   firm_step : (n : ℕ) → FirmAt n → FirmAt (suc n)
   firm_step n before state q r' z text rest t [] le e spells good below next same =
       let here : rest ≡ q ++ t ∷ z = sym (ap (λ (y : List T). y ++ rest) (matches_nothing G text spells)) ∙ same in
-      let never : true ≡ false = sym (decided_at (suc n) state q r' z t le e) ∙ (sym (ap (begun state) here) ∙ next) in
+      let never : true ≡ false = sym (decided_at (suc n) state q r' z t (Stop (suc (length r'))) le e refl) ∙ (sym (ap (begun state) here) ∙ next) in
       cc
   firm_step n before state q r' z text rest t (x ∷ xs) le e spells good below next same = ⊎_elim first others (bind_err (r state (q ++ t ∷ r')) (more n state) (Stop (suc (length r'))) w.1)
     where
       w : (begun state (q ++ t ∷ r') ≡ true) × ((r state (q ++ t ∷ r') >>= more n state) ≡ Err (Stop (suc (length r'))))
       w = ended n state (q ++ t ∷ r') (Stop (suc (length r'))) e
 
-      v : Parts state x xs text rest
-      v = parts_of state x xs text rest spells good below next
+      v : Parts top state x xs text rest
+      v = parts_of top state x xs text rest spells good below next
 
       same' : v.front ++ (v.back ++ rest) ≡ q ++ t ∷ z
       same' = sym v.parts ∙ same
@@ -279,9 +280,9 @@ module _ {T I M A State : Type 0} {G : Alphabet T I M} {r : State → Reader T A
 
       others : (a : A × List T) × (r state (q ++ t ∷ r') ≡ Ok a) × (more n state a ≡ Err (Stop (suc (length r')))) → ⊥
       others p =
-          let l = later n state q r' t le w.0 p.0 p.1 p.2 in
+          let l = later n state q r' t (Stop (suc (length r'))) refl le w.0 p.0 p.1 p.2 in
           let free = at_next G ((s state).takes l.x) (set (step state l.x)) m (λ k. alike state l.x k l.good) (l.c ++ t ∷ r') (many_begun n (step state l.x) (l.c ++ t ∷ r') (Stop (suc (length r'))) l.stop) l.next in
-          let next' = next_at G ((s state).takes l.x) (set (step state l.x)) m (λ k. alike state l.x k l.good) (l.c ++ t ∷ z) (decided_at n (step state l.x) l.c r' z t l.short l.stop) free in
+          let next' = next_at G ((s state).takes l.x) (set (step state l.x)) m (λ k. alike state l.x k l.good) (l.c ++ t ∷ z) (decided_at n (step state l.x) l.c r' z t (Stop (suc (length r'))) l.short l.stop refl) free in
           let goes : v.front ++ (v.back ++ rest) ≡ l.text ++ (l.c ++ t ∷ z) = same' ∙ ap (λ (y : List T). y ++ t ∷ z) l.front ∙ append_assoc l.text l.c (t ∷ z) in
           let one = first_is (laws state (q ++ t ∷ r') w.0) l.text (l.c ++ t ∷ z) v.front (v.back ++ rest) l.x x l.spells l.good l.below next' v.spells good.0 v.below v.next goes in
           behind l.x one.0 l.c l.short l.stop one.1
@@ -305,13 +306,63 @@ module _ {T I M A State : Type 0} {G : Alphabet T I M} {r : State → Reader T A
     bare = bare;
     starts = λ xs text rest good given spells. many_starts state xs text rest good given spells;
     begun = λ ts d e. many_begun (length ts) state ts d e;
-    decided = λ q r' z t e. decided_at (length (q ++ t ∷ r')) state q r' z t (omega arith) e;
+    decided = λ q r' z t d e at. decided_at (length (q ++ t ∷ r')) state q r' z t d (omega arith) e at;
     left_out = ([], tt, refl);
   }
     where
       bare : (xs : List A) → is_given xs ≡ false → many_print set s step m state xs ≡ []
       bare [] e = refl
       bare (x ∷ xs) e = absurd cc
+
+  -- where there is too little room for one of them
+  module _ {r' : State → Reader T A} (wide : ℕ) (le : top ≤ wide) (wide_laws : (state : State) (ts : List T) → begins G (set state) ts ≡ true → Law G (r' state) (s state) wide)
+      (deep : (state : State) (ts : List T) → begins G (set state) ts ≡ true → Deepens G (r state) (s state) top wide) where
+    -- behind the first, as it was read
+    deep_behind : (state : State) (x : A) (xs : List A) (q text c : List T) → Below G top ((s state).print x) → Matches G ((s state).print x) text → q ≡ text ++ c → OpensAt G top (many_print set s step m (step state x) xs) (length c) → OpensAt G top ((syntax state).print (x ∷ xs)) (length q)
+    deep_behind state x xs q text c below spells parts o =
+        opens_right G top ((s state).print x) (many_print set s step m (step state x) xs) (length c) (length q) below (omega (arith, ap length parts, length-append text c, matches_length G ((s state).print x) text spells)) o
+
+    abbrev DeepAt : ℕ → Type 0
+    DeepAt n = (state : State) (q r0 z text rest : List T) (t : T) (xs : List A) → length (q ++ t ∷ r0) ≤ n → reader n state (q ++ t ∷ r0) ≡ Err (Deep (suc (length r0))) → Matches G ((syntax state).print xs) text → (syntax state).Good xs → Below G wide ((syntax state).print xs) → Next G ((syntax state).takes xs) rest → text ++ rest ≡ q ++ t ∷ z → OpensAt G top ((syntax state).print xs) (length q)
+
+    deep_step : (n : ℕ) → DeepAt n → DeepAt (suc n)
+    deep_step n before state q r0 z text rest t [] le0 e spells good below next same =
+        let here : rest ≡ q ++ t ∷ z = sym (ap (λ (y : List T). y ++ rest) (matches_nothing G text spells)) ∙ same in
+        let never : true ≡ false = sym (decided_at (suc n) state q r0 z t (Deep (suc (length r0))) le0 e refl) ∙ (sym (ap (begun state) here) ∙ next) in
+        absurd cc
+    deep_step n before state q r0 z text rest t (x ∷ xs) le0 e spells good below next same = ⊎_elim first others (bind_err (r state (q ++ t ∷ r0)) (more n state) (Deep (suc (length r0))) w.1)
+      where
+        w : (begun state (q ++ t ∷ r0) ≡ true) × ((r state (q ++ t ∷ r0) >>= more n state) ≡ Err (Deep (suc (length r0))))
+        w = ended n state (q ++ t ∷ r0) (Deep (suc (length r0))) e
+
+        v : Parts wide state x xs text rest
+        v = parts_of wide state x xs text rest spells good below next
+
+        same' : v.front ++ (v.back ++ rest) ≡ q ++ t ∷ z
+        same' = sym v.parts ∙ same
+
+        first : r state (q ++ t ∷ r0) ≡ Err (Deep (suc (length r0))) → OpensAt G top ((syntax state).print (x ∷ xs)) (length q)
+        first ea = opens_left G top ((s state).print x) (many_print set s step m (step state x) xs) (length q) ((deep state (q ++ t ∷ r0) w.0).there q r0 z v.front (v.back ++ rest) t x ea v.spells good.0 v.below v.next same')
+
+        behind : (x' : A) → x' ≡ x → Below G top ((s state).print x') → (front c : List T) → Matches G ((s state).print x') front → q ≡ front ++ c → length (c ++ t ∷ r0) ≤ n → reader n (step state x') (c ++ t ∷ r0) ≡ Err (Deep (suc (length r0))) → v.back ++ rest ≡ c ++ t ∷ z → OpensAt G top ((syntax state).print (x ∷ xs)) (length q)
+        behind x' ex low front c fits parts short stop back = deep_behind state x xs q front c (subst (λ (y : A). Below G top ((s state).print y)) ex low) (subst (λ (y : A). Matches G ((s state).print y) front) ex fits) parts
+            (before (step state x) c r0 z v.back rest t xs short (ap (λ (y : A). reader n (step state y) (c ++ t ∷ r0)) (sym ex) ∙ stop) v.spells_back good.1 v.below_back v.next_back back)
+
+        others : (a : A × List T) × (r state (q ++ t ∷ r0) ≡ Ok a) × (more n state a ≡ Err (Deep (suc (length r0)))) → OpensAt G top ((syntax state).print (x ∷ xs)) (length q)
+        others p =
+            let l = later n state q r0 t (Deep (suc (length r0))) refl le0 w.0 p.0 p.1 p.2 in
+            let free = at_next G ((s state).takes l.x) (set (step state l.x)) m (λ k. alike state l.x k l.good) (l.c ++ t ∷ r0) (many_begun n (step state l.x) (l.c ++ t ∷ r0) (Deep (suc (length r0))) l.stop) l.next in
+            let next' = next_at G ((s state).takes l.x) (set (step state l.x)) m (λ k. alike state l.x k l.good) (l.c ++ t ∷ z) (decided_at n (step state l.x) l.c r0 z t (Deep (suc (length r0))) l.short l.stop refl) free in
+            let goes : v.front ++ (v.back ++ rest) ≡ l.text ++ (l.c ++ t ∷ z) = same' ∙ ap (λ (y : List T). y ++ t ∷ z) l.front ∙ append_assoc l.text l.c (t ∷ z) in
+            let one = first_is (wide_laws state (q ++ t ∷ r0) w.0) l.text (l.c ++ t ∷ z) v.front (v.back ++ rest) l.x x l.spells l.good (below_wider G top wide ((s state).print l.x) le l.below) next' v.spells good.0 v.below v.next goes in
+            behind l.x one.0 l.below l.text l.c l.spells l.front l.short l.stop one.1
+
+    deep_at : (n : ℕ) → DeepAt n
+    deep_at zero state q r0 z text rest t xs le0 e spells good below next same = ok_fails ([], q ++ t ∷ r0) (Deep (suc (length r0))) e
+    deep_at (suc n) state q r0 z text rest t xs le0 e spells good below next same = deep_step n (deep_at n) state q r0 z text rest t xs le0 e spells good below next same
+
+    pub many_from_deepens : (state : State) → Deepens G (many_from begun r step state) (syntax state) top wide
+    many_from_deepens state = record { there = λ q r0 z text rest t xs e spells good below next same. deep_at (length (q ++ t ∷ r0)) state q r0 z text rest t xs (omega arith) e spells good below next same }
 
 -- plain lists
 abbrev pub many_syntax : {I M A : Type 0} → (M → Bool) → Syntax I M A → M → Syntax I M (List A)

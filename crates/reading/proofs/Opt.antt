@@ -1,9 +1,9 @@
 -- What may stand behind what was read: what begins with a mark, or a phrase with the tokens that open it.
-use Rattle.std.proofs.Common.{◌≡◌, ℕ, suc, Bool, true, false, ◌||◌, ◌&&◌, List, [], ◌∷◌, ◌++◌, length, Option, Some, None, is_some, Ok, Err, refl, sym, ap, ◌∙◌, append_assoc}
-use Rattle.reading.specs.Readers.{Fault, Stop, Reader, here_on, here_if, behind_on, behind, both_behind_on, both_behind, opt, optional, with_phrase}
-use Rattle.reading.specs.Printing.{Alphabet, Matches, Below, peek, on_mark, begins, Next}
-use Rattle.reading.specs.Law.{Syntax, Read, Fails, Law}
-use Rattle.reading.proofs.Texts.{Always, matches_nothing, matches_split, next_none}
+use Rattle.std.proofs.Common.{◌≡◌, ℕ, suc, Bool, true, false, ◌&&◌, List, [], ◌∷◌, ◌++◌, length, Option, Some, None, is_some, Err, refl, sym, ap, ◌∙◌, append_assoc}
+use Rattle.reading.specs.Readers.{left_of, Fault, Stop, Reader, here_on, here_if, behind_on, behind, both_behind_on, both_behind, opt, optional, with_phrase}
+use Rattle.reading.specs.Printing.{Alphabet, Matches, Below, begins}
+use Rattle.reading.specs.Law.{Syntax, Law}
+use Rattle.reading.proofs.Texts.{Always, matches_nothing, matches_split, next_none, both_true}
 use Rattle.reading.proofs.Lead.{Class}
 use Rattle.reading.proofs.Starts.{Starts}
 use Rattle.reading.proofs.Optional.{optional_syntax, Opener, optional_law, optional_begun, optional_decided, print_option, good_option}
@@ -55,10 +55,6 @@ module _ {T I M B : Type 0} {G : Alphabet T I M} {set : M → Bool} {S : Reader 
   tests true ts = refl
   tests false ts = next_none G ts
 
-  both_true : (c d : Bool) → (c && d) ≡ true → (c ≡ true) × (d ≡ true)
-  both_true true d e = (refl, e)
-  both_true false d e = absurd cc
-
   here : (ts rest : List T) → here_if test ts ≡ Some rest → (test ts ≡ true) × (ts ≡ rest)
   here ts rest e = go (test ts) refl e
     where
@@ -89,21 +85,28 @@ module _ {T I M B : Type 0} {G : Alphabet T I M} {set : M → Bool} {S : Reader 
       reads : (y : B) (o text rest : List T) → (when (may ≡ true) b).Good y → Matches G [] o → Matches G (b.print y) text → here_if test (o ++ (text ++ rest)) ≡ Some (text ++ rest)
       reads y o text rest good m spells = rw (matches_nothing G o m) (there (text ++ rest) good.1 (St.starts y text rest good.0 spells))
 
-      decided : (o c r z : List T) (t : T) → Matches G [] o → here_if test (o ++ (c ++ t ∷ r)) ≡ Some (c ++ t ∷ r) → S (c ++ t ∷ r) ≡ Err (Stop (suc (length r))) → here_if test (o ++ (c ++ t ∷ z)) ≡ Some (c ++ t ∷ z)
-      decided o c r z t m e stop =
+      decided : (o c r z : List T) (t : T) (d : Fault) → Matches G [] o → here_if test (o ++ (c ++ t ∷ r)) ≡ Some (c ++ t ∷ r) → S (c ++ t ∷ r) ≡ Err d → left_of d ≡ suc (length r) → here_if test (o ++ (c ++ t ∷ z)) ≡ Some (c ++ t ∷ z)
+      decided o c r z t d m e stop at =
           let nothing : o ≡ [] = matches_nothing G o m in
           let w = here (c ++ t ∷ r) (c ++ t ∷ r) (ap (λ (y : List T). here_if test (y ++ (c ++ t ∷ r))) (sym nothing) ∙ e) in
-          let d = both_true may (begins G set (c ++ t ∷ r)) w.0 in
-          rw nothing (there (c ++ t ∷ z) d.0 (St.decided c r z t d.1 stop))
+          let b = both_true may (begins G set (c ++ t ∷ r)) w.0 in
+          rw nothing (there (c ++ t ∷ z) b.0 (St.decided c r z t d b.1 stop at))
 
 module _ {I M A B : Type 0} (a : Syntax I M A) (may : A → Bool) (set : M → Bool) (m : M) (b : Syntax I M B) where
   abbrev pub opt_syntax : Syntax I M (A × Option B)
   opt_syntax = tail_syntax a (λ x. optional_syntax (λ p. may x && set p) [] (when (may x ≡ true) b)) is_some m
 
+module _ {T I M A B : Type 0} {G : Alphabet T I M} {S : Reader T B} {b : Syntax I M B} {top : ℕ} (LB : Law G S b top) (may : A → Bool) (set : M → Bool) (St : Starts G set S b) (x : A) where
+  pub opt_laws : (ts rest : List T) → here_if (λ us. may x && begins G set us) ts ≡ Some rest → Law G S (when (may x ≡ true) b) top
+  opt_laws ts rest e = when_law LB (both_true (may x) (begins G set ts) (here St (may x) top ts rest e).0).0
+
+  pub opt_tail : Tail G (λ p. may x && set p) is_some (optional (here_if (λ us. may x && begins G set us)) S) (optional_syntax (λ p. may x && set p) [] (when (may x ≡ true) b)) top
+  opt_tail = optional_tail (opener_here St (may x) top) opt_laws
+
 module _ {T I M A B : Type 0} {G : Alphabet T I M} {R : Reader T A} {a : Syntax I M A} {S : Reader T B} {b : Syntax I M B} {top : ℕ} where
   pub opt_law : Law G R a top → Law G S b top → (may : A → Bool) (set : M → Bool) (m : M) → ((x : A) (p : M) → a.Good x → set p ≡ true → a.takes x p ≡ a.takes x m) → Starts G set S b
       → Law G (opt R (λ x ts. may x && begins G set ts) S) (opt_syntax a may set m b) top
-  opt_law LA LB may set m alike St = tail_law LA m (λ x p good e. alike x p good (both_true St (may x) top (may x) (set p) e).1) (λ x. optional_tail (opener_here St (may x) top) (λ ts rest e. when_law LB (both_true St (may x) top (may x) (begins G set ts) (here St (may x) top ts rest e).0).0))
+  opt_law LA LB may set m alike St = tail_law LA m (λ x p good e. alike x p good (both_true (may x) (set p) e).1) (λ x. opt_tail LB may set St x)
 
 -- The tokens that open a phrase: they alone decide that it stands, and a mark tells it.
 pub record Opening {T I M : Type 0} (G : Alphabet T I M) (set : M → Bool) (its : List I) (cut : List T → Option (List T)) : Type 0 where
@@ -118,7 +121,7 @@ module _ {T I M B : Type 0} {G : Alphabet T I M} {set : M → Bool} {its : List 
     stands = λ ts rest e. O.tells ts ∙ ap is_some e;
     none = λ ts e. O.tells ts ∙ ap is_some e;
     reads = λ y o text rest good m spells. O.reads o (text ++ rest) m;
-    decided = λ o c r z t m e stop. O.reads o (c ++ t ∷ z) m;
+    decided = λ o c r z t d m e stop at. O.reads o (c ++ t ∷ z) m;
     low = low;
   }
 

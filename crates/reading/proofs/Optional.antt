@@ -1,10 +1,10 @@
 -- What may be left out, where the tokens that open it tell whether it stands.
-use Rattle.std.proofs.Common.{◌≡◌, ℕ, suc, ⊎_elim, Bool, true, false, List, [], ◌∷◌, ◌++◌, length, Option, Some, None, Result, Ok, Err, refl, sym, ap, subst, ◌∙◌, append_assoc}
-use Rattle.reading.specs.Readers.{Fault, Stop, Reader, ◌>>=◌, optional_on, optional}
+use Rattle.std.proofs.Common.{◌≡◌, ℕ, suc, Bool, true, false, List, [], ◌∷◌, ◌++◌, length, Option, Some, None, Result, Ok, Err, refl, sym, ap, subst, ◌∙◌, append_assoc, arith}
+use Rattle.reading.specs.Readers.{left_of, Fault, Stop, Reader, optional_on, optional}
 use Rattle.reading.specs.Printing.{Alphabet, Matches, Below, begins, Next}
 use Rattle.reading.specs.Law.{Syntax, Read, Fails, Law}
 use Rattle.reading.proofs.Results.{bind_ok, ok_is, ok_fails, fault_before, cut_at}
-use Rattle.reading.proofs.Texts.{matches_nothing, matches_join, matches_split, below_join, below_left, below_right}
+use Rattle.reading.proofs.Texts.{matches_nothing, matches_join, matches_split, below_join, below_right}
 use Rattle.reading.proofs.Consequences.{within}
 
 module _ {I M B : Type 0} (set : M → Bool) (its : List I) (b : Syntax I M B) where
@@ -31,7 +31,7 @@ pub record Opener {T I M B : Type 0} (G : Alphabet T I M) (set : M → Bool) (it
   pub none : (ts : List T) → cut ts ≡ None → begins G set ts ≡ false
   pub reads : (y : B) (o text rest : List T) → b.Good y → Matches G its o → Matches G (b.print y) text → cut (o ++ (text ++ rest)) ≡ Some (text ++ rest)
   -- the tokens before the place where reading stops have decided it
-  pub decided : (o c r z : List T) (t : T) → Matches G its o → cut (o ++ (c ++ t ∷ r)) ≡ Some (c ++ t ∷ r) → S (c ++ t ∷ r) ≡ Err (Stop (suc (length r))) → cut (o ++ (c ++ t ∷ z)) ≡ Some (c ++ t ∷ z)
+  pub decided : (o c r z : List T) (t : T) (d : Fault) → Matches G its o → cut (o ++ (c ++ t ∷ r)) ≡ Some (c ++ t ∷ r) → S (c ++ t ∷ r) ≡ Err d → left_of d ≡ suc (length r) → cut (o ++ (c ++ t ∷ z)) ≡ Some (c ++ t ∷ z)
   pub low : Below G top its
 
 module _ {T I M B : Type 0} {G : Alphabet T I M} {set : M → Bool} {its : List I} {cut : List T → Option (List T)} {S : Reader T B} {b : Syntax I M B} {top : ℕ}
@@ -107,31 +107,31 @@ module _ {T I M B : Type 0} {G : Alphabet T I M} {set : M → Bool} {its : List 
   optional_begun ts d e = let w = ended ts d e in O.stands ts w.0 w.1
 
   -- where it stops, the tokens before and the next have decided what is cut
-  still : (q r z : List T) (t : T) → optional cut S (q ++ t ∷ r) ≡ Err (Stop (suc (length r))) → (c : List T) × (S (c ++ t ∷ r) ≡ Err (Stop (suc (length r)))) × (cut (q ++ t ∷ z) ≡ Some (c ++ t ∷ z))
-  still q r z t e =
-      let w = ended (q ++ t ∷ r) (Stop (suc (length r))) e in
+  pub still : (q r z : List T) (t : T) (d : Fault) → optional cut S (q ++ t ∷ r) ≡ Err d → left_of d ≡ suc (length r) → (c : List T) × (S (c ++ t ∷ r) ≡ Err d) × (cut (q ++ t ∷ z) ≡ Some (c ++ t ∷ z))
+  still q r z t d e at =
+      let w = ended (q ++ t ∷ r) d e in
       let o = O.found (q ++ t ∷ r) w.0 w.1 in
-      let k = cut_at q (t ∷ r) o.0 w.0 o.1 (within (LB (q ++ t ∷ r) w.0 w.1) w.0 (suc (length r)) w.2) in
+      let k = cut_at q (t ∷ r) o.0 w.0 o.1 (omega (arith, at, within (LB (q ++ t ∷ r) w.0 w.1) w.0 d w.2)) in
       let whole : q ++ t ∷ r ≡ o.0 ++ (k.0 ++ t ∷ r) = o.1 ∙ ap (λ (y : List T). o.0 ++ y) k.1 in
-      let stop : S (k.0 ++ t ∷ r) ≡ Err (Stop (suc (length r))) = sym (ap S k.1) ∙ w.2 in
+      let stop : S (k.0 ++ t ∷ r) ≡ Err d = sym (ap S k.1) ∙ w.2 in
       let here : cut (o.0 ++ (k.0 ++ t ∷ r)) ≡ Some (k.0 ++ t ∷ r) = sym (ap cut whole) ∙ w.1 ∙ ap (λ (y : List T). Some y) k.1 in
       let moved : q ++ t ∷ z ≡ o.0 ++ (k.0 ++ t ∷ z) = ap (λ (y : List T). y ++ t ∷ z) k.2 ∙ append_assoc o.0 k.0 (t ∷ z) in
-      (k.0, stop, ap cut moved ∙ O.decided o.0 k.0 r z t o.2 here stop)
+      (k.0, stop, ap cut moved ∙ O.decided o.0 k.0 r z t d o.2 here stop at)
 
-  pub optional_decided : (q r z : List T) (t : T) → optional cut S (q ++ t ∷ r) ≡ Err (Stop (suc (length r))) → begins G set (q ++ t ∷ z) ≡ true
-  optional_decided q r z t e = let w = still q r z t e in O.stands (q ++ t ∷ z) (w.0 ++ t ∷ z) w.2
+  pub optional_decided : (q r z : List T) (t : T) (d : Fault) → optional cut S (q ++ t ∷ r) ≡ Err d → left_of d ≡ suc (length r) → begins G set (q ++ t ∷ z) ≡ true
+  optional_decided q r z t d e at = let w = still q r z t d e at in O.stands (q ++ t ∷ z) (w.0 ++ t ∷ z) w.2
 
-  some_is : (u v : List T) (c : Option (List T)) → c ≡ Some u → c ≡ Some v → u ≡ v
+  pub some_is : (u v : List T) (c : Option (List T)) → c ≡ Some u → c ≡ Some v → u ≡ v
   some_is u v c e f = let same : Some u ≡ Some v = sym e ∙ f in cc
 
   firm : (q r z text rest : List T) (t : T) (x : Option B) → optional cut S (q ++ t ∷ r) ≡ Err (Stop (suc (length r))) → Matches G (syntax.print x) text → syntax.Good x → Below G top (syntax.print x) → Next G (syntax.takes x) rest → text ++ rest ≡ q ++ t ∷ z → ⊥
   firm q r z text rest t None e s good below next same =
       let here : rest ≡ q ++ t ∷ z = sym (ap (λ (y : List T). y ++ rest) (matches_nothing G text s)) ∙ same in
-      let never : true ≡ false = sym (optional_decided q r z t e) ∙ (sym (ap (begins G set) here) ∙ next) in
+      let never : true ≡ false = sym (optional_decided q r z t (Stop (suc (length r))) e refl) ∙ (sym (ap (begins G set) here) ∙ next) in
       cc
   firm q r z text rest t (Some y) e s good below next same =
       let w = matches_split G its (b.print y) text s in
-      let k = still q r z t e in
+      let k = still q r z t (Stop (suc (length r))) e refl in
       let parts : q ++ t ∷ z ≡ w.0 ++ (w.1 ++ rest) = sym same ∙ ap (λ (u : List T). u ++ rest) w.2 ∙ append_assoc w.0 w.1 rest in
       let back : w.1 ++ rest ≡ k.0 ++ t ∷ z = some_is (w.1 ++ rest) (k.0 ++ t ∷ z) (cut (q ++ t ∷ z)) (ap cut parts ∙ O.reads y w.0 w.1 rest good w.3 w.4) k.2 in
       (LB (q ++ t ∷ z) (k.0 ++ t ∷ z) k.2).firm k.0 r z w.1 rest t y k.1 w.4 good (below_right G top its (b.print y) below) next back

@@ -1,7 +1,7 @@
 -- At least one, and one with others behind tokens of a class.
-use Rattle.std.proofs.Common.{◌≡◌, ℕ, ◌<◌, Bool, true, List, [], ◌∷◌, ◌++◌, Option, Some, None, refl, sym, ap, ◌∙◌}
+use Rattle.std.proofs.Common.{◌≡◌, ℕ, ◌<◌, Bool, true, List, [], ◌∷◌, ◌++◌, Option, refl}
 use Rattle.reading.specs.Readers.{Reader, branch, plus, chain}
-use Rattle.reading.specs.Printing.{Alphabet, Matches, begins}
+use Rattle.reading.specs.Printing.{Alphabet, begins}
 use Rattle.reading.specs.Law.{Syntax, Law}
 use Rattle.reading.proofs.Texts.{Always}
 use Rattle.reading.proofs.Dependent.{seq_syntax}

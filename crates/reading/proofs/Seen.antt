@@ -1,5 +1,5 @@
 -- A reader's trees seen as others.
-use Rattle.std.proofs.Common.{◌≡◌, ℕ, suc, Bool, false, List, ◌∷◌, ◌++◌, length, Result, Ok, Err, refl, sym, ap, subst, ◌∙◌}
+use Rattle.std.proofs.Common.{◌≡◌, ℕ, suc, List, ◌∷◌, ◌++◌, length, Ok, Err, sym, ap, subst, ◌∙◌}
 use Rattle.reading.specs.Readers.{Fault, Stop, Reader, seen}
 use Rattle.reading.specs.Printing.{Alphabet, Matches, Below, Next}
 use Rattle.reading.specs.Law.{Syntax, Read, Fails, Law}

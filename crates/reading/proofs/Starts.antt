@@ -1,7 +1,7 @@
 -- What begins with one of some marks.
-use Rattle.std.proofs.Common.{◌≡◌, ℕ, suc, ◌≤◌, ◌<◌, Bool, true, false, List, [], ◌∷◌, ◌++◌, length, Option, Some, None, Ok, Err, refl, sym, ap, ◌∙◌, append_assoc, arith}
-use Rattle.reading.specs.Readers.{Fault, Stop, Reader, ◌>>=◌, lead_as, lead, follow, branch, seen}
-use Rattle.reading.specs.Printing.{Front, Here, Ahead, Alphabet, Matches, ahead, peek_on, peek, on_mark, begins}
+use Rattle.std.proofs.Common.{◌≡◌, ℕ, suc, ◌≤◌, Bool, true, false, List, [], ◌∷◌, ◌++◌, length, Option, Some, Ok, Err, refl, sym, ap, ◌∙◌, append_assoc, arith}
+use Rattle.reading.specs.Readers.{left_of, Fault, Stop, Reader, ◌>>=◌, branch, seen}
+use Rattle.reading.specs.Printing.{Front, Here, Ahead, Alphabet, Matches, ahead, peek_on, on_mark, begins}
 use Rattle.reading.specs.Law.{Syntax, Law}
 use Rattle.reading.proofs.Results.{fault_before}
 use Rattle.reading.proofs.Texts.{matches_split, peek_two}
@@ -15,7 +15,7 @@ Begins {T} {I} {M} {A} G set s = (x : A) (text rest : List T) → s.Good x → M
 -- And where its reader stops, the tokens before and the next have decided it.
 pub record Starts {T I M A : Type 0} (G : Alphabet T I M) (set : M → Bool) (r : Reader T A) (s : Syntax I M A) : Type 0 where
   pub starts : Begins G set s
-  pub decided : (c r' z : List T) (t : T) → begins G set (c ++ t ∷ r') ≡ true → r (c ++ t ∷ r') ≡ Err (Stop (suc (length r'))) → begins G set (c ++ t ∷ z) ≡ true
+  pub decided : (c r' z : List T) (t : T) (d : Fault) → begins G set (c ++ t ∷ r') ≡ true → r (c ++ t ∷ r') ≡ Err d → left_of d ≡ suc (length r') → begins G set (c ++ t ∷ z) ≡ true
 
 module _ {T I M : Type 0} (G : Alphabet T I M) (set : M → Bool) where
   -- no mark of the set hangs on a second token
@@ -48,19 +48,19 @@ module _ {T I M : Type 0} (G : Alphabet T I M) (set : M → Bool) where
     pub starts_by_one : OneToken → Starts G set r s
     starts_by_one one = record { starts = all; decided = decided }
       where
-        decided : (c r' z : List T) (t : T) → begins G set (c ++ t ∷ r') ≡ true → r (c ++ t ∷ r') ≡ Err (Stop (suc (length r'))) → begins G set (c ++ t ∷ z) ≡ true
-        decided [] r' z t b e = one_decides one t z r' ∙ b
-        decided (u ∷ c) r' z t b e = one_decides one u (c ++ t ∷ z) (c ++ t ∷ r') ∙ b
+        decided : (c r' z : List T) (t : T) (d : Fault) → begins G set (c ++ t ∷ r') ≡ true → r (c ++ t ∷ r') ≡ Err d → left_of d ≡ suc (length r') → begins G set (c ++ t ∷ z) ≡ true
+        decided [] r' z t d b e at = one_decides one t z r' ∙ b
+        decided (u ∷ c) r' z t d b e at = one_decides one u (c ++ t ∷ z) (c ++ t ∷ r') ∙ b
 
     -- a reader that begun never stops at its first two tokens
-    pub starts_by_two : TwoTokens → ((t u : T) (ts : List T) (n : ℕ) → begins G set (t ∷ u ∷ ts) ≡ true → r (t ∷ u ∷ ts) ≡ Err (Stop n) → n ≤ length ts) → Starts G set r s
+    pub starts_by_two : TwoTokens → ((t u : T) (ts : List T) (d : Fault) → begins G set (t ∷ u ∷ ts) ≡ true → r (t ∷ u ∷ ts) ≡ Err d → left_of d ≤ length ts) → Starts G set r s
     starts_by_two two enters = record { starts = all; decided = decided }
       where
-        decided : (c r' z : List T) (t : T) → begins G set (c ++ t ∷ r') ≡ true → r (c ++ t ∷ r') ≡ Err (Stop (suc (length r'))) → begins G set (c ++ t ∷ z) ≡ true
-        decided [] [] z t b e = let never : true ≡ false = sym b ∙ two_there two t in absurd cc
-        decided [] (u ∷ r') z t b e = absurd (omega (arith, enters t u r' (suc (suc (length r'))) b e))
-        decided (v ∷ []) r' z t b e = absurd (omega (arith, enters v t r' (suc (length r')) b e))
-        decided (v ∷ u ∷ c) r' z t b e = ap (on_mark G set) (peek_two G v u (c ++ t ∷ z) (c ++ t ∷ r')) ∙ b
+        decided : (c r' z : List T) (t : T) (d : Fault) → begins G set (c ++ t ∷ r') ≡ true → r (c ++ t ∷ r') ≡ Err d → left_of d ≡ suc (length r') → begins G set (c ++ t ∷ z) ≡ true
+        decided [] [] z t d b e at = let never : true ≡ false = sym b ∙ two_there two t in absurd cc
+        decided [] (u ∷ r') z t d b e at = absurd (omega (arith, at, enters t u r' d b e))
+        decided (v ∷ []) r' z t d b e at = absurd (omega (arith, at, enters v t r' d b e))
+        decided (v ∷ u ∷ c) r' z t d b e at = ap (on_mark G set) (peek_two G v u (c ++ t ∷ z) (c ++ t ∷ r')) ∙ b
 
   -- what is read first begins the whole
   pub begins_first : {A B : Type 0} (a : Syntax I M A) (b : A → Syntax I M B) (c : Syntax I M (A × B)) → ((x : A × B) → c.Good x → a.Good x.0) → ((x : A × B) → c.print x ≡ a.print x.0 ++ (b x.0).print x.1) → Begins G set a → Begins G set c
@@ -70,7 +70,7 @@ module _ {T I M : Type 0} (G : Alphabet T I M) (set : M → Bool) where
 
   -- a view begins as what is viewed
   pub starts_seen : {A B : Type 0} {r : Reader T A} {a : Syntax I M A} {b : Syntax I M B} {view : A → B} {parts : B → A} → View a b view parts → Starts G set r a → Starts G set (seen view r) b
-  starts_seen {A} {B} {r} {a} {b} {view} {parts} V St = record { starts = starts; decided = λ c r' z t here e. St.decided c r' z t here (fault_before (r (c ++ t ∷ r')) (λ x. (view x.0, x.1)) (Stop (suc (length r'))) e) }
+  starts_seen {A} {B} {r} {a} {b} {view} {parts} V St = record { starts = starts; decided = λ c r' z t d here e at. St.decided c r' z t d here (fault_before (r (c ++ t ∷ r')) (λ x. (view x.0, x.1)) d e) at }
     where
       starts : Begins G set b
       starts y text rest good spells = St.starts (parts y) text rest (V.good_back y good) (rw⁻¹ (ap b.print (sym (V.back y good)) ∙ V.print (parts y) (V.good_back y good)) spells)
@@ -79,7 +79,7 @@ begun : {T K B : Type 0} (class : T → Option K) (S : K → Reader T B) (t : T)
 begun class S t ts x e = rw e refl
 
 -- behind its first token, a branch stops behind it
-pub enters : {T I M K B : Type 0} {G : Alphabet T I M} {b : Syntax I M B} {top : ℕ} (class : T → Option K) (S : K → Reader T B) (t : T) (ts : List T) (x : K) (n : ℕ) → Law G (S x) b top → class t ≡ Some x → branch class S (t ∷ ts) ≡ Err (Stop n) → (S x ts ≡ Err (Stop n)) × (n ≤ length ts)
-enters class S t ts x n L ex e =
-    let stop = fault_before (S x ts) (λ y. ((x, y.0), y.1)) (Stop n) (sym (begun class S t ts x ex) ∙ e) in
-    (stop, within L ts n stop)
+pub enters : {T I M K B : Type 0} {G : Alphabet T I M} {b : Syntax I M B} {top : ℕ} (class : T → Option K) (S : K → Reader T B) (t : T) (ts : List T) (x : K) (d : Fault) → Law G (S x) b top → class t ≡ Some x → branch class S (t ∷ ts) ≡ Err d → (S x ts ≡ Err d) × (left_of d ≤ length ts)
+enters class S t ts x d L ex e =
+    let stop = fault_before (S x ts) (λ y. ((x, y.0), y.1)) d (sym (begun class S t ts x ex) ∙ e) in
+    (stop, within L ts d stop)

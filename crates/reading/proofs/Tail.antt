@@ -1,10 +1,10 @@
 -- What may stand behind something that may go on: it is left out, or begins with one of some marks.
-use Rattle.std.proofs.Common.{◌≡◌, ℕ, suc, Bool, true, false, ◌||◌, List, [], ◌∷◌, ◌++◌, length, Ok, Err, refl, sym, ap, subst, ◌∙◌}
-use Rattle.reading.specs.Readers.{Fault, Stop, Reader, follow}
-use Rattle.reading.specs.Printing.{Alphabet, Matches, Below, begins, Next}
+use Rattle.std.proofs.Common.{◌≡◌, ℕ, suc, Bool, true, false, ◌||◌, List, [], ◌∷◌, ◌++◌, length, Err, refl, sym, subst}
+use Rattle.reading.specs.Readers.{left_of, Fault, Stop, Reader, follow}
+use Rattle.reading.specs.Printing.{Alphabet, Matches, begins, Next}
 use Rattle.reading.specs.Law.{Syntax, Law}
 use Rattle.reading.proofs.Texts.{matches_nothing, next_both, next_left, next_right, next_at, at_next}
-use Rattle.reading.proofs.Follow.{pair, behind_of, follow_law, reads_of}
+use Rattle.reading.proofs.Follow.{Joint, behind_of, follow_law, reads_of}
 
 -- what is given behind something must not be taken by it
 abbrev pub Apart : Bool → Bool → Type 0
@@ -36,7 +36,7 @@ pub record Tail {T I M B : Type 0} (G : Alphabet T I M) (set : M → Bool) (give
   pub starts : (y : B) (text rest : List T) → b.Good y → given y ≡ true → Matches G (b.print y) text → begins G set (text ++ rest) ≡ true
   -- where reading ends, it was begun, and the tokens before and the next have decided that
   pub begun : (ts : List T) (d : Fault) → S ts ≡ Err d → begins G set ts ≡ true
-  pub decided : (q r z : List T) (t : T) → S (q ++ t ∷ r) ≡ Err (Stop (suc (length r))) → begins G set (q ++ t ∷ z) ≡ true
+  pub decided : (q r z : List T) (t : T) (d : Fault) → S (q ++ t ∷ r) ≡ Err d → left_of d ≡ suc (length r) → begins G set (q ++ t ∷ z) ≡ true
   pub left_out : (y : B) × b.Good y × (given y ≡ false)
 
 module _ {T I M A B : Type 0} {G : Alphabet T I M} {R : Reader T A} {a : Syntax I M A} {top : ℕ} {S : A → Reader T B} {b : A → Syntax I M B} {set : A → M → Bool} {given : B → Bool}
@@ -59,8 +59,8 @@ module _ {T I M A B : Type 0} {G : Alphabet T I M} {R : Reader T A} {a : Syntax 
           (tt, next_both G (a.takes x) ((b x).takes y) rest (subst (λ (z : List T). Next G (a.takes x) (z ++ rest)) bare next) next')
       go true eg = (at_next G (a.takes x) (set x) m (λ p. alike x p good) (text ++ rest) ((tails x).starts y text rest good' eg s) next, next')
 
-  pub tail_law : Law G (follow R S) (tail_syntax a b given m) top
-  tail_law = follow_law G top a S b (tail_good a b given m) (tail_takes a b given m) LA (record {
+  pub tail_joint : Joint G top a S b (tail_good a b given m) (tail_takes a b given m)
+  tail_joint = record {
     first = λ x y good. good.0;
     second = λ x y good. good.1;
     ends = ends;
@@ -71,7 +71,10 @@ module _ {T I M A B : Type 0} {G : Alphabet T I M} {R : Reader T A} {a : Syntax 
         let h = (tails x).law.fails ts d e in
         let free = at_next G (a.takes x) (set x) m (λ p. alike x p good) ts ((tails x).begun ts d e) next in
         behind_of G top a S b (tail_good a b given m) (tail_takes a b given m) x ts d h (good, h.good, apart (given h.tree) (a.takes x m) free);
-    steady = λ x c r z t good next e.
-        let free = at_next G (a.takes x) (set x) m (λ p. alike x p good) (c ++ t ∷ r) ((tails x).begun (c ++ t ∷ r) (Stop (suc (length r))) e) next in
-        next_at G (a.takes x) (set x) m (λ p. alike x p good) (c ++ t ∷ z) ((tails x).decided c r z t e) free;
-  })
+    steady = λ x c r z t d good next e at.
+        let free = at_next G (a.takes x) (set x) m (λ p. alike x p good) (c ++ t ∷ r) ((tails x).begun (c ++ t ∷ r) d e) next in
+        next_at G (a.takes x) (set x) m (λ p. alike x p good) (c ++ t ∷ z) ((tails x).decided c r z t d e at) free;
+  }
+
+  pub tail_law : Law G (follow R S) (tail_syntax a b given m) top
+  tail_law = follow_law G top a S b (tail_good a b given m) (tail_takes a b given m) LA tail_joint

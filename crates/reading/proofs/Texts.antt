@@ -20,6 +20,10 @@ pub right_false : (a b : Bool) → (a || b) ≡ false → b ≡ false
 right_false true b e = absurd cc
 right_false false b e = e
 
+pub both_true : (a b : Bool) → (a && b) ≡ true → (a ≡ true) × (b ≡ true)
+both_true true b e = (refl, e)
+both_true false b e = absurd cc
+
 pub cases : (b : Bool) → (b ≡ false) ⊎ (b ≡ true)
 cases false = inl refl
 cases true = inr refl

@@ -1,5 +1,5 @@
 -- What a reader of some trees does, whatever the trees.
-use Rattle.std.specs.Prelude.{◌≡◌, ℕ, suc, Bool, List, ◌∷◌, ◌++◌, length, Result, Ok, Err}
+use Rattle.std.specs.Prelude.{◌≡◌, ℕ, suc, Bool, List, ◌∷◌, ◌++◌, length, Result, Ok, Err, ◌⊎◌}
 use Rattle.reading.specs.Readers.{Fault, Stop, Deep, Reader}
 use Rattle.reading.specs.Printing.{Alphabet, Matches, Below, Opens, Next}
 
@@ -14,6 +14,17 @@ module _ {T I M : Type 0} (G : Alphabet T I M) (top : ℕ) where
   abbrev pub At : Fault → List T → List I → Type 0
   At (Stop n) left after = length left ≡ n
   At (Deep n) left after = (length left ≡ n) × Opens G top left after
+
+module _ {T I M : Type 0} (G : Alphabet T I M) (top : ℕ) where
+  -- what is printed so opens one too many at this place, and none before
+  pub record OpensAt (printed : List I) (place : ℕ) : Type 0 where
+    pub before : List I
+    pub item : I
+    pub after : List I
+    pub parts : printed ≡ before ++ item ∷ after
+    pub count : length before ≡ place
+    pub below : Below G top before
+    pub depth : G.depth item ≡ top
 
 module _ {T I M A : Type 0} (G : Alphabet T I M) (s : Syntax I M A) (top : ℕ) where
   -- what was read and is the tree's text, with fewer than top open at each token
@@ -51,3 +62,14 @@ module _ {T I M A : Type 0} where
     pub fails : (ts : List T) (fault : Fault) → r ts ≡ Err fault → Fails G s top ts fault
     -- nor later: where it stops before a token, no tree's text goes on with that token
     pub firm : (q r' z text rest : List T) (t : T) (a : A) → r (q ++ t ∷ r') ≡ Err (Stop (suc (length r'))) → Matches G (s.print a) text → s.Good a → Below G top (s.print a) → Next G (s.takes a) rest → text ++ rest ≡ q ++ t ∷ z → ⊥
+
+-- Where there is too little room before a token, each tree whose text goes on with that token opens one too many there.
+pub record Deepens {T I M A : Type 0} (G : Alphabet T I M) (r : Reader T A) (s : Syntax I M A) (top wide : ℕ) : Type 0 where
+  pub there : (q r' z text rest : List T) (t : T) (a : A) → r (q ++ t ∷ r') ≡ Err (Deep (suc (length r'))) → Matches G (s.print a) text → s.Good a → Below G wide (s.print a) → Next G (s.takes a) rest → text ++ rest ≡ q ++ t ∷ z → OpensAt G top (s.print a) (length q)
+
+-- With less room the answer is the same, unless it is that there is too little.
+abbrev pub Agree : {B : Type 0} → Result B Fault → Result B Fault → Type 0
+Agree less more = ((n : ℕ) × (less ≡ Err (Deep n))) ⊎ (less ≡ more)
+
+abbrev pub Agrees : {T A : Type 0} → Reader T A → Reader T A → Type 0
+Agrees {T} less more = (ts : List T) → Agree (less ts) (more ts)

@@ -1,3 +1,4 @@
 pub mod Readers
 pub mod Printing
 pub mod Law
+pub mod Brackets

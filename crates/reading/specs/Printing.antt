@@ -1,5 +1,5 @@
 -- What a tree is printed as, and how far a reader looks ahead.
-use Rattle.std.specs.Prelude.{◌≡◌, ℕ, ◌<◌, Bool, true, false, List, [], ◌∷◌, Option, Some, None}
+use Rattle.std.specs.Prelude.{◌≡◌, ℕ, ◌<◌, Bool, false, List, [], ◌∷◌, Option, Some, None, ◌||◌}
 
 -- The mark of a token for what stands open before it: its own, or one that the token behind it decides.
 pub data Front (T M : Type 0) : Type 0 where
@@ -53,3 +53,15 @@ module _ {T I M : Type 0} (G : Alphabet T I M) where
   -- what takes so doesn't go on here
   abbrev pub Next : (M → Bool) → List T → Type 0
   Next takes ts = begins takes ts ≡ false
+
+  abbrev pub any_of : (M → Bool) → List M → Bool
+  any_of takes [] = false
+  any_of takes (m ∷ ms) = takes m || any_of takes ms
+
+  abbrev pub goes_by : List M → (M → Bool) → Front T M → Bool
+  goes_by marks takes (Here mark) = false
+  goes_by marks takes (Ahead mark) = any_of takes marks
+
+  -- whether what takes so may go on with a token, whatever stands behind it: by marks that hang on a second token
+  abbrev pub goes_on : List M → (M → Bool) → T → Bool
+  goes_on marks takes t = goes_by marks takes (G.front t)

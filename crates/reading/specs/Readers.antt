@@ -8,6 +8,10 @@ pub data Fault : Type 0 where
   Stop : ℕ → Fault
   Deep : ℕ → Fault
 
+abbrev pub left_of : Fault → ℕ
+left_of (Stop n) = n
+left_of (Deep n) = n
+
 infixl 10 ◌>>=◌
 abbrev pub ◌>>=◌ : {A B : Type 0} → Result A Fault → (A → Result B Fault) → Result B Fault
 (Ok x) >>= next = next x
