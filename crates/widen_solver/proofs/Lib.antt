@@ -1,0 +1,4 @@
+mod RowAt
+mod HeadRanks
+mod OneEdge
+mod Swept
