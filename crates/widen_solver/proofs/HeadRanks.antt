@@ -1,12 +1,12 @@
 -- How often the heads can still grow.
-use Rattle.std.proofs.Common.{◌≡◌, ℕ, zero, suc, ◌+◌, ◌*◌, ◌<◌, ◌≤◌, List, ℤ, Bool, true, false, if◌then◌else◌, ◌⊎◌, inl, inr, refl, sym, arith}
+use Rattle.std.proofs.Common.{◌≡◌, ℕ, zero, suc, ◌*◌, ◌<◌, ◌≤◌, List, ℤ, Bool, true, false, if◌then◌else◌, ◌⊎◌, inl, inr, refl, arith}
 use Rattle.std.proofs.lemmas.Grind.{common_steps}
 use Rattle.std.proofs.lemmas.Bool.{cases_Bool, cases_eq}
 use Rattle.dom_laws.specs.Lattice.{Lattice, IsElement, IsLattice}
-use Rattle.dom_laws.specs.Flow.{Flow, IsNode, IsHead, goes_back_to, heads_up_to, head_count}
+use Rattle.dom_laws.specs.Flow.{Flow, IsHead, goes_back_to, heads_up_to}
 use Rattle.dom_laws.proofs.Heads.{found, missed_none}
 use Rattle.widen_solver.specs.Stored.{row_at}
-use Rattle.widen_solver.specs.Solving.{IsUnderWay, ranks_up_to, head_ranks}
+use Rattle.widen_solver.specs.Solving.{ranks_up_to}
 
 -- the test for heads, both ways
 pub test_finds_head : (f : Flow) (node : ℕ) → goes_back_to f node f.edges ≡ true → IsHead f node

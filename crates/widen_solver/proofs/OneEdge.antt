@@ -1,8 +1,8 @@
 -- One edge's step.
-use Rattle.std.proofs.Common.{◌≡◌, ℕ, ◌+◌, ◌-◌, ◌<◌, ◌≤◌, ◌≢◌, List, ℤ, Bool, true, false, length, get_or, slice_set, ◌⊎◌, inl, inr, refl, ap, sym, ◌∙◌, subst, length-set, arith}
+use Rattle.std.proofs.Common.{◌≡◌, ℕ, ◌-◌, ◌<◌, ◌≤◌, List, ℤ, Bool, true, false, length, get_or, slice_set, inl, inr, refl, ap, sym, ◌∙◌, subst, length-set, arith}
 use Rattle.std.proofs.lemmas.Bool.{cases_Bool, cases_eq}
 use Rattle.dom_laws.specs.Lattice.{Lattice, IsElement, IsLattice}
-use Rattle.dom_laws.specs.Flow.{Flow, IsNode, IsEdge, IsHead, IsFlow, IsInductive, HeadsAreFixed, IsDominated, goes_back_to}
+use Rattle.dom_laws.specs.Flow.{Flow, IsNode, IsEdge, IsHead, IsFlow, IsDominated, goes_back_to}
 use Rattle.widen_solver.specs.Stored.{row_at}
 use Rattle.widen_solver.specs.Solving.{Arrives, IsUnderWay, IsSettled, head_ranks, TakesEdge}
 use Rattle.widen_solver.proofs.RowAt.{row_at-set_same, row_at-set_other, each_row, row_at_read}
@@ -84,18 +84,18 @@ new_elements : (l : Lattice) (f : Flow) (edge : ℕ) (old : List (List ℤ)) (ro
 new_elements l f edge old row grew again s node is =
     let target = target_is l f edge old row grew again s in
     each_row (λ n r. n ≤ f.nodes → IsElement l r) old (f.target edge) row target.first (target_has_row l f edge old row grew again s)
-      (λ last. new_element l f s.laws (f.target edge) (row_at old (f.target edge)) (transferred f edge old) row grew (at_target l f edge old row grew again s) (is_transferred l f edge old row grew again s) s.arrives)
-      (λ other first last. s.before.elements other (record { first = first; last = last }))
-      node is.first is.last
+    (λ last. new_element l f s.laws (f.target edge) (row_at old (f.target edge)) (transferred f edge old) row grew (at_target l f edge old row grew again s) (is_transferred l f edge old row grew again s) s.arrives)
+    (λ other first last. s.before.elements other (record { first = first; last = last }))
+    node is.first is.last
 
 -- no row sinks
 grows : (l : Lattice) (f : Flow) (edge : ℕ) (old : List (List ℤ)) (row : List ℤ) (grew again : Bool) → Step l f edge old row grew again → (node : ℕ) → IsNode f node → l.Below (row_at old node) (row_at (written f edge old row) node)
 grows l f edge old row grew again s node is =
     let target = target_is l f edge old row grew again s in
     each_row (λ n r. n ≤ f.nodes → l.Below (row_at old n) r) old (f.target edge) row target.first (target_has_row l f edge old row grew again s)
-      (λ last. above_old l f s.laws (f.target edge) (row_at old (f.target edge)) (transferred f edge old) row grew (at_target l f edge old row grew again s) (is_transferred l f edge old row grew again s) s.arrives)
-      (λ other first last. s.laws.reflexive (row_at old other) (s.before.elements other (record { first = first; last = last })))
-      node is.first is.last
+    (λ last. above_old l f s.laws (f.target edge) (row_at old (f.target edge)) (transferred f edge old) row grew (at_target l f edge old row grew again s) (is_transferred l f edge old row grew again s) s.arrives)
+    (λ other first last. s.laws.reflexive (row_at old other) (s.before.elements other (record { first = first; last = last })))
+    node is.first is.last
 
 stays_dominated : (l : Lattice) (f : Flow) (edge : ℕ) (old : List (List ℤ)) (row : List ℤ) (grew again : Bool) → Step l f edge old row grew again → IsDominated l f (row_at (written f edge old row))
 stays_dominated l f edge old row grew again s others inductive fixed node is =
@@ -106,13 +106,13 @@ stays_dominated l f edge old row grew again s others inductive fixed node is =
     let old_is = at_target l f edge old row grew again s in
     let more_is = is_transferred l f edge old row grew again s in
     let under = s.laws.transitive (transferred f edge old) (f.post edge (others (f.source edge))) (others (f.target edge)) more_is (s.flows.post_element edge (others (f.source edge)) s.is (inductive.elements (f.source edge) source)) bound
-      (s.flows.post_monotone edge (row_at old (f.source edge)) (others (f.source edge)) s.is (s.before.elements (f.source edge) source) (inductive.elements (f.source edge) source) (below (f.source edge) source))
-      (inductive.edges edge s.is) in
+    (s.flows.post_monotone edge (row_at old (f.source edge)) (others (f.source edge)) s.is (s.before.elements (f.source edge) source) (inductive.elements (f.source edge) source) (below (f.source edge) source))
+    (inductive.edges edge s.is) in
     each_row (λ n r. n ≤ f.nodes → l.Below r (others n)) old (f.target edge) row target.first (target_has_row l f edge old row grew again s)
-      (λ last. below_bound l f s.laws (f.target edge) (row_at old (f.target edge)) (transferred f edge old) row (others (f.target edge)) grew old_is more_is bound s.arrives (below (f.target edge) target) under
-        (λ head. fixed (f.target edge) head (row_at old (f.target edge)) (transferred f edge old) old_is more_is (below (f.target edge) target) under))
-      (λ other first last. below other (record { first = first; last = last }))
-      node is.first is.last
+    (λ last. below_bound l f s.laws (f.target edge) (row_at old (f.target edge)) (transferred f edge old) row (others (f.target edge)) grew old_is more_is bound s.arrives (below (f.target edge) target) under
+    (λ head. fixed (f.target edge) head (row_at old (f.target edge)) (transferred f edge old) old_is more_is (below (f.target edge) target) under))
+    (λ other first last. below other (record { first = first; last = last }))
+    node is.first is.last
 
 stays_under_way : (l : Lattice) (f : Flow) (edge : ℕ) (old : List (List ℤ)) (row : List ℤ) (grew again : Bool) → Step l f edge old row grew again → IsUnderWay l f (written f edge old row)
 stays_under_way l f edge old row grew again s =
@@ -145,7 +145,7 @@ settles l f edge old row grew again s quiet =
     let same = unmoved l f edge old row grew again s quiet (f.source edge) (s.flows.source_node edge s.is).first (omega arith) in
     let more = above_more l f s.laws (f.target edge) (row_at old (f.target edge)) (transferred f edge old) row grew (at_target l f edge old row grew again s) (is_transferred l f edge old row grew again s) s.arrives in
     subst (λ r. l.Below (f.post edge r) (row_at (written f edge old row) (f.target edge))) (sym same)
-      (subst (λ r. l.Below (transferred f edge old) r) (sym (row_at-set_same old (f.target edge) row target.first (target_has_row l f edge old row grew again s))) more)
+    (subst (λ r. l.Below (transferred f edge old) r) (sym (row_at-set_same old (f.target edge) row target.first (target_has_row l f edge old row grew again s))) more)
 
 stays_settled : (l : Lattice) (f : Flow) (edge : ℕ) (old : List (List ℤ)) (row : List ℤ) (grew again : Bool) → Step l f edge old row grew again → again ≡ false → (other : ℕ) → IsEdge f other → f.source other ≤ f.source edge → IsSettled l f old other → IsSettled l f (written f edge old row) other
 stays_settled l f edge old row grew again s quiet other is upto settled =
@@ -153,17 +153,17 @@ stays_settled l f edge old row grew again s quiet other is upto settled =
     let source = s.flows.source_node other is in
     let same = unmoved l f edge old row grew again s quiet (f.source other) source.first upto in
     subst (λ r. l.Below (f.post other r) (row_at (written f edge old row) (f.target other))) (sym same)
-      (s.laws.transitive (transferred f other old) (row_at old (f.target other)) (row_at (written f edge old row) (f.target other))
-        (s.flows.post_element other (row_at old (f.source other)) is (s.before.elements (f.source other) source))
-        (s.before.elements (f.target other) target) (new_elements l f edge old row grew again s (f.target other) target) settled (grows l f edge old row grew again s (f.target other) target))
+    (s.laws.transitive (transferred f other old) (row_at old (f.target other)) (row_at (written f edge old row) (f.target other))
+    (s.flows.post_element other (row_at old (f.source other)) is (s.before.elements (f.source other) source))
+    (s.before.elements (f.target other) target) (new_elements l f edge old row grew again s (f.target other) target) settled (grows l f edge old row grew again s (f.target other) target))
 
 none_higher : (l : Lattice) (f : Flow) (edge : ℕ) (old : List (List ℤ)) (row : List ℤ) (grew again : Bool) → Step l f edge old row grew again → NoneHigher l f old (written f edge old row) f.nodes
 none_higher l f edge old row grew again s node first last =
     let target = target_is l f edge old row grew again s in
     each_row (λ n r. goes_back_to f n f.edges ≡ true → l.rank r ≤ l.rank (row_at old n)) old (f.target edge) row target.first (target_has_row l f edge old row grew again s)
-      (λ passes. head_no_higher l f s.laws (f.target edge) (row_at old (f.target edge)) (transferred f edge old) row grew (at_target l f edge old row grew again s) (is_transferred l f edge old row grew again s) s.arrives (test_finds_head f (f.target edge) passes))
-      (λ other also passes. omega arith)
-      node first
+    (λ passes. head_no_higher l f s.laws (f.target edge) (row_at old (f.target edge)) (transferred f edge old) row grew (at_target l f edge old row grew again s) (is_transferred l f edge old row grew again s) s.arrives (test_finds_head f (f.target edge) passes))
+    (λ other also passes. omega arith)
+    node first
 
 falls_back : (l : Lattice) (f : Flow) (edge : ℕ) (old : List (List ℤ)) (row : List ℤ) (grew again : Bool) → Step l f edge old row grew again → again ≡ true → head_ranks l f (written f edge old row) < head_ranks l f old
 falls_back l f edge old row grew again s tells =
@@ -171,7 +171,7 @@ falls_back l f edge old row grew again s tells =
     let head = is_head l f edge old row grew again s (s.told tells).1 in
     let less = head_falls l f s.laws (f.target edge) (row_at old (f.target edge)) (transferred f edge old) row grew (at_target l f edge old row grew again s) (is_transferred l f edge old row grew again s) s.arrives head (s.told tells).0 in
     ranks_fall l f old (written f edge old row) f.nodes (f.target edge) (none_higher l f edge old row grew again s) target.first target.last (head_passes_test f (f.target edge) head)
-      (subst (λ r. l.rank r < l.rank (row_at old (f.target edge))) (sym (row_at-set_same old (f.target edge) row target.first (target_has_row l f edge old row grew again s))) less)
+    (subst (λ r. l.rank r < l.rank (row_at old (f.target edge))) (sym (row_at-set_same old (f.target edge) row target.first (target_has_row l f edge old row grew again s))) less)
 
 pub takes_edge : (l : Lattice) (f : Flow) (edge : ℕ) (old : List (List ℤ)) (row : List ℤ) (grew again : Bool) → Step l f edge old row grew again → TakesEdge l f edge old (written f edge old row) again
 takes_edge l f edge old row grew again s = record {

@@ -1,5 +1,5 @@
 -- The rows of the nodes after one row was written.
-use Rattle.std.proofs.Common.{◌≡◌, ℕ, ◌-◌, ◌≤◌, ◌<◌, ◌≢◌, List, [], ℤ, length, get_or, slice_set, ◌⊎◌, inl, inr, sym, subst, arith, get_or-set_other, get_or-set_same}
+use Rattle.std.proofs.Common.{◌≡◌, ℕ, ◌-◌, ◌≤◌, ◌≢◌, List, [], ℤ, length, get_or, slice_set, inl, inr, sym, subst, arith, get_or-set_other, get_or-set_same}
 use Rattle.std.proofs.lemmas.Bool.{cases_eq}
 use Rattle.std.proofs.lemmas.List.{get_or_default}
 use Rattle.widen_solver.specs.Stored.{row_at}

@@ -1,9 +1,9 @@
 -- A sweep as far as it has come, and the sweeps that are left.
 use Rattle.std.proofs.Common.{◌≡◌, ℕ, ◌+◌, ◌*◌, ◌<◌, ◌≤◌, List, ℤ, Bool, true, false, ◌||◌, ◌⊎◌, inl, inr, refl, subst, sym, arith}
-use Rattle.std.proofs.lemmas.Bool.{cases_Bool, cases_eq}
+use Rattle.std.proofs.lemmas.Bool.{cases_eq}
 use Rattle.std.proofs.Math.Nat.{mul-le-mul_left}
-use Rattle.dom_laws.specs.Lattice.{Lattice, IsElement, IsLattice}
-use Rattle.dom_laws.specs.Flow.{Flow, IsNode, IsEdge, IsFlow, head_count}
+use Rattle.dom_laws.specs.Lattice.{Lattice, IsLattice}
+use Rattle.dom_laws.specs.Flow.{Flow, IsEdge, IsFlow, head_count}
 use Rattle.widen_solver.specs.Solving.{IsUnderWay, IsSettled, head_ranks, TakesEdge, TakesEdges, step_bound}
 use Rattle.widen_solver.proofs.HeadRanks.{ranks_within}
 
@@ -36,11 +36,11 @@ swept_more l f flows initial old new again grew index within swept taken =
     record {
       under_way = taken.under_way;
       settled = λ quiet edge is upto.
-        let none = both_false again grew quiet in
-        elim (cases_eq edge (index + 1)) [
-          | inl at ↦ subst (λ n. IsSettled l f new n) (sym at) (taken.here none.1)
-          | inr off ↦ taken.keeps none.1 edge is (flows.by_source edge (index + 1) is here upto) (swept.settled none.0 edge is (omega arith))
-        ];
+          let none = both_false again grew quiet in
+          elim (cases_eq edge (index + 1)) [
+            | inl at ↦ subst (λ n. IsSettled l f new n) (sym at) (taken.here none.1)
+            | inr off ↦ taken.keeps none.1 edge is (flows.by_source edge (index + 1) is here upto) (swept.settled none.0 edge is (omega arith))
+          ];
       no_higher = omega (arith, taken.no_higher, swept.no_higher);
       falls = λ tells. elim (either_true again grew tells) [
         | inl before ↦ omega (arith, taken.no_higher, swept.falls before)

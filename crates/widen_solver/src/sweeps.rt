@@ -2,7 +2,12 @@
 ghost use Rattle.std.specs.Prelude.{◌≡◌, ℕ, ◌+◌, ◌*◌, ◌≤◌, length};
 ghost use Rattle.dom_laws.specs.Flow.{IsEdge};
 ghost use Rattle.widen_solver.specs.Solving.{
-    HasRows, IsUnderWay, IsSettled, TakesEdge, TakesEdges, head_ranks
+  HasRows,
+  IsUnderWay,
+  IsSettled,
+  TakesEdge,
+  TakesEdges,
+  head_ranks,
 };
 
 use super::row::Row;
