@@ -7,3 +7,8 @@ mod store;
 mod sweeps;
 
 pub use store::{Store, solve};
+
+#[cfg(test)]
+mod levels;
+#[cfg(test)]
+mod tests;
