@@ -154,7 +154,7 @@ graph_over_flows nodes arcs facts holds inductive =
       by_source = λ d e is also upto. tells.rising d e is.first also.last upto;
       entry_element = element (pos 0) (omega (arith, ints)) (omega (arith, ints));
       post_element = λ edge a is e. let arc = tells.fitting edge in
-        let fact = (inductive.elements (arc_at arcs edge).0 (record { first = arc.source_first; last = arc.source_last })).formed in
-        element _ (omega (arith, ints, clamps)) (omega (arith, ints, clamps));
+          let fact = (inductive.elements (arc_at arcs edge).0 (record { first = arc.source_first; last = arc.source_last })).formed in
+          element _ (omega (arith, ints, clamps)) (omega (arith, ints, clamps));
       post_monotone = λ edge a b is e f h. omega (arith, ints, clamps);
     }
