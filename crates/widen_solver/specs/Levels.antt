@@ -1,5 +1,5 @@
 -- The systems of the tests. A row has one word, a level from 0 to 9, and heads widen to the levels 4 and 9.
-use Rattle.std.specs.Prelude.{◌≡◌, ℕ, ◌-◌, ◌≤◌, List, [], ◌∷◌, ℤ, pos, ◌+ℤ◌, ◌≤ℤ◌, Bool, true, ◌&&◌, nat_le, int_le, length, slice_index_or, if◌then◌else◌}
+use Rattle.std.specs.Prelude.{ℕ, ◌-◌, List, [], ◌∷◌, ℤ, pos, ◌+ℤ◌, ◌≤ℤ◌, Bool, true, ◌&&◌, nat_le, int_le, length, slice_index_or, if◌then◌else◌}
 use Rattle.std.specs.Int.{int_max, int_min}
 use Rattle.dom_laws.specs.Lattice.{Lattice}
 use Rattle.dom_laws.specs.Flow.{Flow}

@@ -5,10 +5,10 @@ use Rattle.std.proofs.lemmas.Grind.{common_steps}
 use Rattle.std.proofs.lemmas.Bool.Decides.{nat_tests}
 use Rattle.std.proofs.lemmas.Int.{ints, clamps, by_lt_z}
 use Rattle.dom_laws.specs.Lattice.{IsElement, IsLattice}
-use Rattle.dom_laws.specs.Flow.{IsNode, IsEdge, IsFlow, IsInductive}
+use Rattle.dom_laws.specs.Flow.{IsFlow, IsInductive}
 use Rattle.dom_laws.specs.Sizes.{word, one_word}
 use Rattle.dom_laws.specs.SizesLaws.{only_word}
-use Rattle.widen_solver.specs.Levels.{threshold_above, widened, growths_left, levels, Arc, arc_at, fits, all_fit, in_order, is_graph, graph, graph_over}
+use Rattle.widen_solver.specs.Levels.{widened, growths_left, levels, Arc, arc_at, fits, all_fit, in_order, is_graph, graph, graph_over}
 
 element : (z : ℤ) → pos 0 ≤ℤ z → z ≤ℤ pos 9 → IsElement levels (one_word z)
 element z h k = record { width = refl; formed = (h, k) }

@@ -25,6 +25,7 @@ pub record Arrives (l : Lattice) (f : Flow) (node : ℕ) (old more new : List �
   pub widened : IsHead f node → new ≡ l.widen old more
   pub joined : ¬ IsHead f node → new ≡ l.join old more
   pub kept : IsHead f node → (grew ≡ false) ↔ l.Below more old
+  pub quiet : ¬ IsHead f node → grew ≡ false
 
 -- the edge adds nothing to its target's row
 abbrev pub IsSettled : Lattice → Flow → List (List ℤ) → ℕ → Type 0

@@ -14,6 +14,7 @@ use std::sync::ledger::Ledger;
 #[derive(Drop)]
 pub struct Store {
     rows: Vec<Row>,
+    // what an edge makes of the row at its source, on its way to the target
     transferred: Vec<i128>,
 }
 
@@ -53,7 +54,10 @@ impl Rows for Store {
     }
 }
 
-/// Finds rows that the system's edges keep.
+/// Solves the system: fills the store with rows that the entry and every edge keep, whatever it held.
+/// Heads are widened and other nodes joined, in sweeps over the edges in the order of their sources,
+/// until no head grows by an edge that goes back (Cousot and Cousot 1977).
+/// The answer for want of memory never comes: `Store::new` takes all memory.
 pub fn solve<S: System, L: Ledger>(
     system: &S,
     store: &mut Store,
@@ -63,8 +67,11 @@ pub fn solve<S: System, L: Ledger>(
     ensures memory { IsOk result }
     ensures shape { HasShape (S.lattice system.now) (S.flow system.now) store.new }
     ensures inductive { IsInductive (S.lattice system.now) (S.flow system.now) (row_at store.new.rows) }
+    // Nothing is missed that the thresholds can prove: rows that the edges keep, and that widening
+    // leaves as they are at the heads, are above these.
     ensures dominated { IsDominated (S.lattice system.now) (S.flow system.now) (row_at store.new.rows) }
-    ensures bounded { steps.new ≤ steps.old + step_bound (S.lattice system.now) (S.flow system.now) }
+    ensures at_least { steps.old + (S.flow system.now).edges ≤ steps.new }
+    ensures at_most { steps.new ≤ steps.old + step_bound (S.lattice system.now) (S.flow system.now) }
 {
     let rows = store.rows.as_mut_slice();
     start(system, rows);

@@ -25,7 +25,7 @@ pub fn start<S: System>(system: &S, rows: &mut [Row])
     rows[0].set_entry(system);
 }
 
-// takes one edge, and tells whether a head grew by it that it goes back to
+// takes one edge, and tells whether it goes back and its head grew
 fn take_edge<S: System, L: Ledger>(
     system: &S,
     edge: u32,
@@ -77,7 +77,8 @@ pub fn settle<S: System, L: Ledger>(
     ensures under_way { IsUnderWay (S.lattice system.now) (S.flow system.now) rows.new }
     ensures settled { (edge : ℕ) → IsEdge (S.flow system.now) edge
         → IsSettled (S.lattice system.now) (S.flow system.now) rows.new edge }
-    ensures bounded { let l = S.lattice system.now in let f = S.flow system.now in
+    ensures at_least { steps.old + (S.flow system.now).edges ≤ steps.new }
+    ensures at_most { let l = S.lattice system.now in let f = S.flow system.now in
         steps.new ≤ steps.old + f.edges * (head_ranks l f rows.old + 1) }
 {
     'sweeps: while sweep(system, rows, transferred, steps) {}

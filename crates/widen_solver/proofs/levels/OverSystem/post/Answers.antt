@@ -1,8 +1,6 @@
-use Rattle.std.proofs.Common.{◌≡◌, ℤ, ◌+ℤ◌, ap, ◌∙◌, arith, rules}
-use Rattle.std.proofs.lemmas.Int.{ints, clamps, to_z-of_z}
-use Rattle.dom_laws.specs.Sizes.{one_word}
+use Rattle.std.proofs.Common.{rules}
+use Rattle.std.proofs.lemmas.Int.{to_z-of_z}
 use Rattle.dom_laws.specs.SizesLaws.{set_only}
-use Rattle.widen_solver.specs.Levels.{IsLevel}
 use Rattle.widen_solver.proofs.levels.OverSystem.post.Goals as goal
 
 pub returns-clause-row : goal.returns-clause-row
