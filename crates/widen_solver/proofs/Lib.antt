@@ -1,0 +1,5 @@
+mod RowAt
+mod HeadRanks
+mod OneEdge
+mod Starting
+mod Swept

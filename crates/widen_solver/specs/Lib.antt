@@ -1,0 +1,4 @@
+pub mod Stored
+pub mod Solving
+pub mod Levels
+pub mod LevelsLaws

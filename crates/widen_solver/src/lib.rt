@@ -1,0 +1,14 @@
+//! The solver of an analysis, over any system: in sweeps over the edges it finds rows for the nodes
+//! that the edges keep, widening at the heads (Cousot and Cousot 1977).
+#![tactic(auto)]
+
+mod row;
+mod store;
+mod sweeps;
+
+pub use store::{Store, solve};
+
+#[cfg(test)]
+mod levels;
+#[cfg(test)]
+mod tests;
