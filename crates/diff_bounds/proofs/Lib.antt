@@ -1,0 +1,6 @@
+pub mod Walks
+pub mod Places
+pub mod Tightness
+pub mod Steps
+pub mod Rows
+pub mod Ends

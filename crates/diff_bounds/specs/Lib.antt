@@ -1,0 +1,4 @@
+pub mod Matrix
+pub mod Paths
+pub mod Storages
+pub mod Sums
