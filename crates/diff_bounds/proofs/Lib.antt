@@ -4,3 +4,5 @@ pub mod Tightness
 pub mod Steps
 pub mod Rows
 pub mod Ends
+pub mod Standing
+pub mod WordByWord

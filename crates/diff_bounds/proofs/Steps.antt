@@ -3,7 +3,7 @@ use Rattle.std.proofs.Common.{◌≡◌, ◌≢◌, ℕ, zero, suc, ◌+◌, ◌
 use Rattle.std.specs.Int.{int_max, int_min}
 use Rattle.std.proofs.lemmas.Int.{ints, clamps, by_lt_z}
 use Rattle.std.proofs.lemmas.Bool.{cases_eq, cases_lt}
-use Rattle.diff_bounds.specs.Matrix.{none, most, IsBound, IsWord}
+use Rattle.diff_bounds.specs.Matrix.{none, largest, IsBound, IsWord}
 use Rattle.diff_bounds.specs.Paths.{path_sum, AreBounds, AreBelow, IsPath, cut_of, HasNoNegativeCycle, IsLeastSum, IsClosure}
 use Rattle.diff_bounds.specs.Sums.{no_path, IsSum, IsShort, IsSumOf, IsLesser, IsThrough, IsTight, AreShort, NegativeCycle, IsNegativeTrip}
 use Rattle.diff_bounds.proofs.Walks.{AreWords, sum_join, bounds_join, below_join, below_more}
@@ -156,7 +156,7 @@ cut_monotone x y h = grind (arith, ints, clamps)
 pub cut_is_word : (z : ℤ) → IsWord (cut_of z)
 cut_is_word z = record { low = grind (arith, ints, clamps); high = λ b. grind (arith, ints, clamps); top = grind (arith, ints, clamps) }
 
-pub cut_bound : (z : ℤ) → IsBound (cut_of z) → z ≤ℤ most
+pub cut_bound : (z : ℤ) → IsBound (cut_of z) → z ≤ℤ largest
 cut_bound z h = grind (arith, ints, clamps)
 
 pub cut_zero : (z : ℤ) → z ≡ pos 0 → cut_of z ≡ pos 0
@@ -172,6 +172,6 @@ closure_of n old a b words t cuts = record { sums = λ i j h g. subst (λ (x : �
     least i j h g = record {
       least = λ p path. cut_monotone (a i j) (path_sum old i p j) (along n n old a t words (omega arith) i p j h g path.places path.bounds).1;
       reached = λ bound.
-          let r = t.reached i j h g (let z : a i j ≤ℤ most = cut_bound (a i j) bound in omega (arith, ints)) in
+          let r = t.reached i j h g (let z : a i j ≤ℤ largest = cut_bound (a i j) bound in omega (arith, ints)) in
           (r.0, r.1, ap cut_of r.2);
     }

@@ -10,8 +10,8 @@ word places m i j = slice_index_or m (i * places + j) (pos 0)
 abbrev pub none : ℤ
 none = pos (10 ^ 38)
 
-abbrev pub most : ℤ
-most = pos (10 ^ 37)
+abbrev pub largest : ℤ
+largest = pos (10 ^ 37)
 
 -- the word is a number
 abbrev pub IsBound : ℤ → Type 0
@@ -19,8 +19,8 @@ IsBound x = x <ℤ none
 
 -- none, or a number of at most 10^37 in absolute value
 pub record IsWord (x : ℤ) : Type 0 where
-  pub low : neg_ℤ most ≤ℤ x
-  pub high : IsBound x → x ≤ℤ most
+  pub low : neg_ℤ largest ≤ℤ x
+  pub high : IsBound x → x ≤ℤ largest
   pub top : x ≤ℤ none
 
 -- (size + 1)^2 words with zeros on the diagonal

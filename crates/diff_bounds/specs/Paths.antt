@@ -2,7 +2,7 @@
 -- places, and a path between two places is the list of the places that it passes.
 use Rattle.std.specs.Prelude.{◌≡◌, ℕ, ◌<◌, List, [], ◌∷◌, ℤ, pos, neg_ℤ, ◌+ℤ◌, ◌≤ℤ◌, int_lt, if◌then◌else◌}
 use Rattle.std.specs.Int.{int_max}
-use Rattle.diff_bounds.specs.Matrix.{none, most, IsBound}
+use Rattle.diff_bounds.specs.Matrix.{none, largest, IsBound}
 
 -- the sum of the words along the path
 abbrev pub path_sum : (ℕ → ℕ → ℤ) → ℕ → List ℕ → ℕ → ℤ
@@ -28,7 +28,7 @@ pub record HasNoNegativeCycle (n : ℕ) (w : ℕ → ℕ → ℤ) : Type 0 where
 
 -- a sum as a word: none above 10^37, and -10^37 below that
 abbrev pub cut_of : ℤ → ℤ
-cut_of z = if int_lt most z then none else int_max (neg_ℤ most) z
+cut_of z = if int_lt largest z then none else int_max (neg_ℤ largest) z
 
 -- The word is the cut of the least sum over all paths from i to j, and none where there is no path. The cut of
 -- the least sum is the least of the cuts.

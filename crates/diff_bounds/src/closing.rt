@@ -1,13 +1,10 @@
-ghost use Rattle.std.specs.Prelude.{◌≡◌, ◌≢◌, ℕ, ◌+◌, ◌*◌, ◌<◌, ◌≤◌, ◌↔◌, length, pos, false, IsTrue, slice_index_or};
+ghost use Rattle.std.specs.Prelude.{◌≡◌, ◌≢◌, ℕ, ◌+◌, ◌*◌, ◌<◌, ◌≤◌, ◌↔◌, length, pos, false, IsTrue, slice_index_or, ℤ, Option};
 ghost use Rattle.diff_bounds.specs.Matrix.{word, IsMatrix, IsWord};
 ghost use Rattle.diff_bounds.specs.Paths.{cut_of, HasNoNegativeCycle, IsClosure};
+ghost use Rattle.diff_bounds.specs.Storages.{StandsIn};
 ghost use Rattle.diff_bounds.specs.Sums.{IsShort, IsSumOf, IsLesser, IsThrough, IsTight, IsNegativeTrip, NegativeCycle};
 
-use super::words::place_of;
-
-const NONE: i128 = 100_000_000_000_000_000_000_000_000_000_000_000_000;
-
-const MOST: i128 = 10_000_000_000_000_000_000_000_000_000_000_000_000;
+use super::words::{LARGEST, NONE, place_of};
 
 // no path between two places
 const NO_PATH: i128 = i128::MAX;
@@ -36,7 +33,11 @@ fn sum_of(word: i128) -> i128
 fn cut(sum: i128) -> i128
     ensures { result ≡ cut_of sum }
 {
-    if MOST < sum { NONE } else { sum.max(-MOST) }
+    if LARGEST < sum {
+        NONE
+    } else {
+        sum.max(-LARGEST)
+    }
 }
 
 // puts no path where there is no bound
@@ -127,6 +128,8 @@ pub fn close(size: usize, m: &mut [i128]) -> bool
     ensures cycles { IsTrue result ↔ HasNoNegativeCycle (size + 1) (word (size + 1) m.old) }
     ensures sums { IsTrue result → IsClosure (size + 1) (word (size + 1) m.old) (word (size + 1) m.new) }
     ensures matrix { IsTrue result → IsMatrix size m.new }
+    ensures meaning { IsTrue result → (cells : ℕ → Option ℤ) → StandsIn (size + 1) (word (size + 1) m.old) cells ↔ StandsIn (size + 1) (word (size + 1) m.new) cells }
+    ensures empty { result ≡ false → (cells : ℕ → Option ℤ) → ¬ StandsIn (size + 1) (word (size + 1) m.old) cells }
 {
     let places = size + 1;
     if !least_sums(places, m) {

@@ -8,9 +8,11 @@
 #![tactic(auto)]
 
 mod closing;
+mod lattice;
 mod words;
 
 pub use closing::close;
+pub use lattice::{add_bound, join, leq, widen};
 
 /// Cells whose differences are tracked together, by their places from 1, in rising order.
 #[derive(Debug, PartialEq, Eq, Drop)]

@@ -1,5 +1,11 @@
 ghost use Rattle.std.specs.Prelude.{◌≡◌, ◌+◌, ◌*◌, ◌<◌, ◌≤◌};
 
+/// The word of no bound.
+pub(crate) const NONE: i128 = 100_000_000_000_000_000_000_000_000_000_000_000_000;
+
+/// The greatest number that a word can be.
+pub(crate) const LARGEST: i128 = 10_000_000_000_000_000_000_000_000_000_000_000_000;
+
 // the place of a word, where a row has so many
 #[inline(always)]
 pub(crate) fn place_of(places: usize, row: usize, column: usize) -> usize
@@ -10,4 +16,13 @@ pub(crate) fn place_of(places: usize, row: usize, column: usize) -> usize
     ensures within { result < places * places }
 {
     row * places + column
+}
+
+// how many words a matrix has
+#[inline(always)]
+pub(crate) fn word_count(size: usize) -> usize
+    requires { size ≤ 8 }
+    ensures { result ≡ (size + 1) * (size + 1) }
+{
+    (size + 1) * (size + 1)
 }
