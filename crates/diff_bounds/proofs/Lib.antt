@@ -6,3 +6,5 @@ pub mod Rows
 pub mod Ends
 pub mod Standing
 pub mod WordByWord
+pub mod MatrixLattice
+pub mod Monotone

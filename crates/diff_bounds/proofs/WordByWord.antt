@@ -133,7 +133,7 @@ next_step t ts z is = by_lt_z t z below at_or_above
         (λ (lt : next_threshold ts z <ℤ t). along (next_threshold ts z) (grind (arith, ints, clamps)) (passed (next_threshold ts z) is (λ h. omega (arith, ints))))
         (λ (ge : t ≤ℤ next_threshold ts z). along t (grind (arith, ints, clamps)) (taken is le ge))
 
-next_of_all : (ts : List ℤ) (z : ℤ) → z ≤ℤ none → IsNext ts z (next_threshold ts z)
+pub next_of_all : (ts : List ℤ) (z : ℤ) → z ≤ℤ none → IsNext ts z (next_threshold ts z)
 next_of_all [] z small = record { one = inl refl; above = small; least = λ k h. absurd (omega arith) }
 next_of_all (t ∷ ts) z small = next_step t ts z (next_of_all ts z small)
 

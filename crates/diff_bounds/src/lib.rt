@@ -9,10 +9,15 @@
 
 mod closing;
 mod lattice;
+mod laws;
 mod words;
 
 pub use closing::close;
 pub use lattice::{add_bound, join, leq, widen};
+pub use laws::{
+    close_is_monotone, closed_words_are_least_sums, growth_is_bounded, matrices_are_a_lattice,
+    stands_above,
+};
 
 /// Cells whose differences are tracked together, by their places from 1, in rising order.
 #[derive(Debug, PartialEq, Eq, Drop)]
