@@ -82,7 +82,7 @@ static void measure(const char *name, int shape, unsigned turns) {
     for (unsigned turn = 0; turn < turns; turn++)
         for (int k = 0; k < INPUTS; k++) {
             memcpy(words, matrices[k], sizeof words);
-            if (close_matrix(PLACES, words)) sum += (size)words[turn % WORDS];
+            if (close_matrix(PLACES, words)) sum += (size)words[(turn + 1) % WORDS];
         }
     long long taken = nanoseconds() - start;
     printf("%s ", name);

@@ -32,7 +32,7 @@ fn no_bounds() -> [i128; 81]
 {
     let mut words = [NONE; 81];
     for place in 0..9usize {
-        words[place * 10] = 0;
+        words[place * 9 + place] = 0;
     }
     words
 }

@@ -37,7 +37,7 @@ fn sum_of_closures(matrices: &[Matrix], turns: u32) -> i128 {
         for matrix in matrices {
             let mut words = matrix.words;
             if close(8, &mut words) {
-                sum = sum.wrapping_add(words[turn as usize % 81]);
+                sum = sum.wrapping_add(words[(turn as usize + 1) % 81]);
             }
         }
     }

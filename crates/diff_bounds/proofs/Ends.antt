@@ -1,9 +1,8 @@
 -- The first sums and the last words of a closure.
-use Rattle.std.proofs.Common.{◌≡◌, ◌≢◌, ℕ, ◌+◌, ◌*◌, ◌<◌, ◌≤◌, List, length, get_or, ℤ, pos, refl, sym, ap, subst, ◌∙◌, arith}
-use Rattle.std.proofs.lemmas.Int.{ints}
+use Rattle.std.proofs.Common.{◌≡◌, ℕ, ◌+◌, ◌*◌, ◌<◌, List, length, get_or, ℤ, pos, sym, subst, ◌∙◌, arith}
 use Rattle.diff_bounds.specs.Matrix.{word, IsMatrix, IsWord}
-use Rattle.diff_bounds.specs.Paths.{cut_of, IsClosure}
-use Rattle.diff_bounds.specs.Sums.{IsSumOf, IsTight, AreShort}
+use Rattle.diff_bounds.specs.Paths.{cut_of}
+use Rattle.diff_bounds.specs.Sums.{IsSumOf, IsTight}
 use Rattle.diff_bounds.proofs.Walks.{AreWords}
 use Rattle.diff_bounds.proofs.Places.{place_fits}
 use Rattle.diff_bounds.proofs.Tightness.{AreOpened}

@@ -8,3 +8,4 @@ pub mod Standing
 pub mod WordByWord
 pub mod MatrixLattice
 pub mod Monotone
+pub mod NoBounds

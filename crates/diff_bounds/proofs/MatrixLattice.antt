@@ -1,15 +1,13 @@
 -- The matrices of one size are a lattice, and each grows only so often.
-use Rattle.std.proofs.Common.{◌≡◌, ◌≢◌, ℕ, zero, suc, ◌+◌, ◌-◌, ◌*◌, ◌/◌, ◌%◌, ◌<◌, ◌≤◌, Bool, true, false, cond, eqb, List, [], ◌∷◌, map, length, get_or, ℤ, pos, neg_ℤ, ◌≤ℤ◌, ◌<ℤ◌, ◌⊎◌, inl, inr, refl, sym, ap, subst, ◌∙◌, arith}
-use Rattle.std.specs.Prelude.{int_lt}
+use Rattle.std.proofs.Common.{◌≡◌, ℕ, zero, suc, ◌+◌, ◌*◌, ◌/◌, ◌%◌, ◌<◌, ◌≤◌, Bool, true, false, cond, eqb, List, [], ◌∷◌, length, get_or, ℤ, pos, neg_ℤ, ◌≤ℤ◌, ◌<ℤ◌, ◌⊎◌, inl, inr, refl, sym, ap, subst, ◌∙◌, arith}
 use Rattle.std.specs.Int.{int_max}
-use Rattle.std.specs.List.{range_with_len}
-use Rattle.std.proofs.lemmas.Int.{ints, clamps, by_lt_z}
+use Rattle.std.proofs.lemmas.Int.{ints, by_lt_z}
 use Rattle.std.proofs.lemmas.Bool.{cases_eq, cases_lt, eq-eqb, ne_eqb}
 use Rattle.std.proofs.lemmas.Nat.{div-mul-add, mod-mul-add, div-add-mod', mod_below, div_below}
 use Rattle.std.proofs.lemmas.List.FromFn.{fill_by_all, get_or-map-range_with_len, length-map-range_with_len}
-use Rattle.dom_laws.specs.Lattice.{Lattice, IsElement, IsLattice}
+use Rattle.dom_laws.specs.Lattice.{IsLattice}
 use Rattle.diff_bounds.specs.Matrix.{word, none, largest, IsBound, IsWord, IsMatrix}
-use Rattle.diff_bounds.specs.Order.{IsAtMost, IsJoin, IsLeastAbove}
+use Rattle.diff_bounds.specs.Order.{IsAtMost, IsJoin}
 use Rattle.diff_bounds.specs.Widening.{AreThresholds, IsListed, IsNext, IsWidened, AreWidened}
 use Rattle.diff_bounds.specs.Lattice.{matrix_of, bottom_word, joined, next_threshold, widened_word, widened, above, room, sum_below, room_at, total_room, height_of, matrices}
 use Rattle.diff_bounds.proofs.Places.{place_fits}

@@ -1,11 +1,10 @@
 -- Lower matrices have lower closures, and what stands in a matrix stands above it.
-use Rattle.std.proofs.Common.{◌≡◌, ◌≢◌, ℕ, zero, suc, ◌+◌, ◌*◌, ◌/◌, ◌%◌, ◌<◌, ◌≤◌, List, [], ◌∷◌, length, get_or, ℤ, pos, ◌+ℤ◌, ◌≤ℤ◌, ◌<ℤ◌, Option, ◌⊎◌, inl, inr, refl, sym, ap, subst, ◌∙◌, arith}
-use Rattle.std.proofs.lemmas.Int.{ints, clamps, by_lt_z}
-use Rattle.std.proofs.lemmas.Nat.{div-add-mod', mod_below, div_below}
-use Rattle.diff_bounds.specs.Matrix.{word, none, largest, IsBound, IsWord, IsMatrix}
+use Rattle.std.proofs.Common.{◌≡◌, ℕ, ◌+◌, ◌*◌, ◌<◌, List, [], ◌∷◌, length, ℤ, ◌≤ℤ◌, ◌<ℤ◌, Option, sym, subst, arith}
+use Rattle.std.proofs.lemmas.Int.{ints, by_lt_z}
+use Rattle.diff_bounds.specs.Matrix.{word, none, IsWord, IsMatrix}
 use Rattle.diff_bounds.specs.Paths.{path_sum, AreBounds, AreBelow, IsPath, cut_of, HasNoNegativeCycle, IsLeastSum, IsClosure}
 use Rattle.diff_bounds.specs.Order.{IsAtMost}
-use Rattle.diff_bounds.specs.Storages.{value_at, DifferBy, StandsIn}
+use Rattle.diff_bounds.specs.Storages.{value_at, StandsIn}
 use Rattle.diff_bounds.proofs.Places.{place_fits}
 use Rattle.diff_bounds.proofs.Steps.{cut_monotone, cut_is_word}
 use Rattle.diff_bounds.proofs.Standing.{differ_more}

@@ -1,9 +1,9 @@
 -- Values that stand in a matrix.
-use Rattle.std.proofs.Common.{◌≡◌, ◌≢◌, ℕ, zero, suc, ◌+◌, ◌<◌, ◌≤◌, List, [], ◌∷◌, ℤ, pos, ◌+ℤ◌, ◌-ℤ◌, ◌≤ℤ◌, ◌<ℤ◌, Option, Some, None, ◌⊎◌, inl, inr, refl, sym, ap, subst, ◌∙◌, arith}
+use Rattle.std.proofs.Common.{◌≡◌, ◌≢◌, ℕ, ◌<◌, List, [], ◌∷◌, ℤ, pos, ◌+ℤ◌, ◌≤ℤ◌, Option, Some, None, ◌⊎◌, inl, inr, sym, subst, ◌∙◌, arith}
 use Rattle.std.proofs.lemmas.Int.{ints, clamps}
 use Rattle.std.proofs.lemmas.Bool.{cases_eq}
-use Rattle.diff_bounds.specs.Matrix.{none, largest, IsBound, IsWord}
-use Rattle.diff_bounds.specs.Paths.{path_sum, AreBounds, AreBelow, IsPath, cut_of, IsClosure}
+use Rattle.diff_bounds.specs.Matrix.{largest, IsBound, IsWord}
+use Rattle.diff_bounds.specs.Paths.{path_sum, AreBounds, AreBelow, cut_of, IsClosure}
 use Rattle.diff_bounds.specs.Sums.{NegativeCycle}
 use Rattle.diff_bounds.specs.Storages.{value_at, DifferBy, StandsIn}
 use Rattle.diff_bounds.proofs.Steps.{cut_bound}

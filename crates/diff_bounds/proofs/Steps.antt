@@ -1,11 +1,11 @@
 -- One more place, and the end.
-use Rattle.std.proofs.Common.{◌≡◌, ◌≢◌, ℕ, zero, suc, ◌+◌, ◌-◌, ◌*◌, ◌^◌, ◌<◌, ◌≤◌, List, [], ◌∷◌, ◌++◌, length, get_or, ℤ, pos, neg_ℤ, ◌+ℤ◌, ◌≤ℤ◌, ◌<ℤ◌, ◌⊎◌, inl, inr, refl, sym, ap, subst, ◌∙◌, arith}
-use Rattle.std.specs.Int.{int_max, int_min}
+use Rattle.std.proofs.Common.{◌≡◌, ℕ, ◌+◌, ◌*◌, ◌^◌, ◌<◌, ◌≤◌, List, ◌∷◌, ◌++◌, ℤ, pos, ◌+ℤ◌, ◌≤ℤ◌, ◌<ℤ◌, ◌⊎◌, inl, inr, refl, sym, ap, subst, ◌∙◌, arith}
+use Rattle.std.specs.Int.{int_min}
 use Rattle.std.proofs.lemmas.Int.{ints, clamps, by_lt_z}
-use Rattle.std.proofs.lemmas.Bool.{cases_eq, cases_lt}
-use Rattle.diff_bounds.specs.Matrix.{none, largest, IsBound, IsWord}
-use Rattle.diff_bounds.specs.Paths.{path_sum, AreBounds, AreBelow, IsPath, cut_of, HasNoNegativeCycle, IsLeastSum, IsClosure}
-use Rattle.diff_bounds.specs.Sums.{no_path, IsSum, IsShort, IsSumOf, IsLesser, IsThrough, IsTight, AreShort, NegativeCycle, IsNegativeTrip}
+use Rattle.std.proofs.lemmas.Bool.{cases_eq}
+use Rattle.diff_bounds.specs.Matrix.{largest, IsBound, IsWord}
+use Rattle.diff_bounds.specs.Paths.{path_sum, IsPath, cut_of, HasNoNegativeCycle, IsLeastSum, IsClosure}
+use Rattle.diff_bounds.specs.Sums.{no_path, IsSum, IsShort, IsLesser, IsThrough, IsTight, AreShort, NegativeCycle, IsNegativeTrip}
 use Rattle.diff_bounds.proofs.Walks.{AreWords, sum_join, bounds_join, below_join, below_more}
 use Rattle.diff_bounds.proofs.Tightness.{along, cycles_below, short_again}
 

@@ -1,11 +1,11 @@
 -- Sums that go through one more place.
-use Rattle.std.proofs.Common.{◌≡◌, ◌≢◌, ℕ, zero, suc, ◌+◌, ◌-◌, ◌*◌, ◌^◌, ◌<◌, ◌≤◌, List, [], ◌∷◌, ◌++◌, length, ℤ, pos, neg_ℤ, ◌+ℤ◌, ◌≤ℤ◌, ◌<ℤ◌, ◌⊎◌, inl, inr, refl, sym, ap, subst, ◌∙◌, arith}
+use Rattle.std.proofs.Common.{◌≡◌, ◌≢◌, ℕ, ◌*◌, ◌^◌, ◌<◌, ◌≤◌, List, [], ◌∷◌, ℤ, pos, neg_ℤ, ◌+ℤ◌, ◌≤ℤ◌, ◌<ℤ◌, ◌⊎◌, inl, inr, subst, ◌∙◌, arith}
 use Rattle.std.proofs.lemmas.Int.{ints, by_lt_z}
-use Rattle.std.proofs.lemmas.Bool.{cases_eq, cases_lt}
+use Rattle.std.proofs.lemmas.Bool.{cases_eq}
 use Rattle.diff_bounds.specs.Matrix.{none, IsBound, IsWord}
-use Rattle.diff_bounds.specs.Paths.{path_sum, AreBounds, AreBelow, IsPath}
-use Rattle.diff_bounds.specs.Sums.{no_path, IsSum, IsShort, IsSumOf, IsLesser, IsThrough, IsTight, AreShort, NegativeCycle, IsNegativeTrip}
-use Rattle.diff_bounds.proofs.Walks.{HasNoNegativeCycleBelow, AreWords, sum_high, sum_low, few_suffice, sum_join, bounds_join, below_join, below_more}
+use Rattle.diff_bounds.specs.Paths.{path_sum, AreBounds, AreBelow}
+use Rattle.diff_bounds.specs.Sums.{no_path, IsSum, IsShort, IsSumOf, IsTight, AreShort}
+use Rattle.diff_bounds.proofs.Walks.{HasNoNegativeCycleBelow, AreWords, sum_high, sum_low, few_suffice, below_more}
 
 -- ---- at the start
 -- each word with no_path for none

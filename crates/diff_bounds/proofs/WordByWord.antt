@@ -1,5 +1,5 @@
 -- Words by the order, joins and widening.
-use Rattle.std.proofs.Common.{◌≡◌, ◌≢◌, ℕ, zero, suc, ◌+◌, ◌*◌, ◌<◌, ◌≤◌, Bool, true, false, List, [], ◌∷◌, length, get_or, set, ℤ, pos, neg_ℤ, Option, ◌≤ℤ◌, ◌<ℤ◌, ◌⊎◌, inl, inr, refl, sym, ap, subst, ◌∙◌, arith}
+use Rattle.std.proofs.Common.{◌≡◌, ◌≢◌, ℕ, zero, suc, ◌+◌, ◌*◌, ◌<◌, ◌≤◌, List, [], ◌∷◌, length, get_or, set, ℤ, pos, neg_ℤ, Option, ◌≤ℤ◌, ◌<ℤ◌, ◌⊎◌, inl, inr, refl, sym, subst, ◌∙◌, arith}
 use Rattle.std.specs.Int.{int_max, int_min}
 use Rattle.std.proofs.lemmas.Int.{ints, clamps, by_lt_z}
 use Rattle.std.proofs.lemmas.Bool.{cases_eq}
@@ -7,9 +7,9 @@ use Rattle.std.proofs.lemmas.List.{get_or-set_same, get_or-set_other, length-set
 use Rattle.std.proofs.lemmas.Grind.{get_or-set_at}
 use Rattle.std.proofs.lemmas.List.FromFn.{fill_by_all}
 use Rattle.diff_bounds.specs.Matrix.{word, none, largest, IsBound, IsWord, IsMatrix}
-use Rattle.diff_bounds.specs.Order.{IsAtMost, IsJoin, IsLeastAbove}
+use Rattle.diff_bounds.specs.Order.{IsJoin, IsLeastAbove}
 use Rattle.diff_bounds.specs.Widening.{AreThresholds, IsListed, IsNext, IsWidened, AreWidened}
-use Rattle.diff_bounds.specs.Lattice.{matrix_of, joined, next_threshold, widened_word, widened}
+use Rattle.diff_bounds.specs.Lattice.{joined, next_threshold, widened_word, widened}
 use Rattle.diff_bounds.specs.Storages.{value_at, DifferBy, StandsIn}
 use Rattle.diff_bounds.proofs.Places.{place_fits, word-set_other}
 use Rattle.diff_bounds.proofs.Standing.{differ_more}

@@ -1,5 +1,5 @@
 -- Matrices of one size as a lattice, with a widening under which each grows only so often.
-use Rattle.std.specs.Prelude.{◌≡◌, ℕ, zero, suc, ◌+◌, ◌*◌, ◌/◌, ◌%◌, List, [], ◌∷◌, ℤ, pos, neg_ℤ, length, slice_index_or, map, int_lt, int_le, nat_eq, if◌then◌else◌}
+use Rattle.std.specs.Prelude.{ℕ, zero, suc, ◌+◌, ◌*◌, ◌/◌, ◌%◌, List, [], ◌∷◌, ℤ, pos, neg_ℤ, length, slice_index_or, map, int_lt, int_le, nat_eq, if◌then◌else◌}
 use Rattle.std.specs.Int.{int_max, int_min}
 use Rattle.std.specs.List.{range_with_len}
 use Rattle.dom_laws.specs.Lattice.{Lattice}

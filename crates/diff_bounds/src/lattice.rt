@@ -93,6 +93,20 @@ fn widened_word(old: i128, reached: i128, thresholds: &[i128]) -> i128
     }
 }
 
+fn widen_words(size: usize, a: &mut [i128], b: &[i128], thresholds: &[i128])
+    requires size { size ≤ 8 }
+    requires a { IsMatrix size a.old }
+    requires b { IsMatrix size b.now }
+    requires thresholds { AreThresholds thresholds.now }
+    ensures words { AreWidened thresholds.now a.old b.now a.new }
+    ensures matrix { IsMatrix size a.new }
+    ensures row { a.new ≡ widened size thresholds.now a.old b.now }
+{
+    for k in 0..word_count(size) {
+        a[k] = widened_word(a[k], b[k], thresholds);
+    }
+}
+
 /// Widens `a` by `b`, and says whether a word grew.
 ///
 /// A word that doesn't grow is kept, so that the matrix isn't closed. One that grows goes to the least
@@ -107,9 +121,7 @@ pub fn widen(size: usize, a: &mut [i128], b: &[i128], thresholds: &[i128]) -> bo
     ensures matrix { IsMatrix size a.new }
     ensures row { a.new ≡ widened size thresholds.now a.old b.now }
 {
-    let below = leq(size, b, a);
-    for k in 0..word_count(size) {
-        a[k] = widened_word(a[k], b[k], thresholds);
-    }
-    !below
+    let grows = !leq(size, b, a);
+    widen_words(size, a, b, thresholds);
+    grows
 }

@@ -1,5 +1,5 @@
-use Rattle.dbm_bench.proofs.NoBounds.{NoBounds}
+use Rattle.diff_bounds.proofs.NoBounds.{IsCleared}
 use Rattle.dbm_bench.proofs.inputs.no_bounds.Given as goal
 
 abbrev pub invariant-loop-place : goal.invariant-loop-place
-invariant-loop-place l = NoBounds l.place l.words
+invariant-loop-place l = IsCleared 8 l.place l.words

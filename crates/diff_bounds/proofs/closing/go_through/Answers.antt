@@ -1,7 +1,6 @@
-use Rattle.std.proofs.Common.{ℕ, pos, get_or, ◌≤ℤ◌, ◌<ℤ◌, sym, ap, subst, arith}
+use Rattle.std.proofs.Common.{ℕ, pos, get_or, ◌≤ℤ◌, ◌<ℤ◌, subst, arith}
 use Rattle.std.proofs.lemmas.Int.{ints}
-use Rattle.diff_bounds.specs.Matrix.{word}
-use Rattle.diff_bounds.proofs.Rows.{trip_negative, rows_more, through_of}
+use Rattle.diff_bounds.proofs.Rows.{trip_negative, rows_more}
 use Rattle.diff_bounds.proofs.closing.go_through.Goals as goal
 
 pub returns-then-m-place_of-lt0-clause-negative : goal.returns-then-m-place_of-lt0-clause-negative

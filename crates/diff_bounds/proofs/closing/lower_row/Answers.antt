@@ -1,8 +1,8 @@
-use Rattle.std.proofs.Common.{ℕ, pos, get_or, to_z, of_z, sym, ap, ◌∙◌, arith, rules}
+use Rattle.std.proofs.Common.{ℕ, pos, get_or, sym, ap, ◌∙◌, arith, rules}
 use Rattle.std.specs.Int.{w128}
 use Rattle.std.proofs.lemmas.Int.{to_z-of_z}
 use Rattle.diff_bounds.specs.Matrix.{word}
-use Rattle.diff_bounds.proofs.Rows.{short_along, lesser_along, via_word, columns_none, columns_more}
+use Rattle.diff_bounds.proofs.Rows.{short_along, lesser_along, via_word, columns_more}
 use Rattle.diff_bounds.proofs.closing.lower_row.Goals as goal
 
 pub lesser-requires-clause-second : goal.lesser-requires-clause-second

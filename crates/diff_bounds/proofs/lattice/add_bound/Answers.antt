@@ -1,7 +1,7 @@
-use Rattle.std.proofs.Common.{◌+◌, ◌*◌, ◌≡◌, ◌≢◌, ◌<◌, ℕ, ℤ, pos, get_or, set, to_z, of_z, ◌⊎◌, inl, inr, sym, ap, ◌∙◌, arith, rules}
+use Rattle.std.proofs.Common.{◌+◌, ◌*◌, ◌≡◌, ◌<◌, ℕ, pos, get_or, set, to_z, of_z, inl, inr, ap, arith}
 use Rattle.std.specs.Int.{w128, int_min}
-use Rattle.std.proofs.lemmas.Int.{ints, clamps, to_z-of_z}
-use Rattle.diff_bounds.specs.Matrix.{word, IsWord}
+use Rattle.std.proofs.lemmas.Int.{ints, clamps}
+use Rattle.diff_bounds.specs.Matrix.{word}
 use Rattle.diff_bounds.proofs.Places.{word-set_same, word-set_other, place_fits}
 use Rattle.diff_bounds.proofs.WordByWord.{min_word, added_matrix, stands_added, stands_with}
 use Rattle.diff_bounds.proofs.lattice.add_bound.Goals as goal

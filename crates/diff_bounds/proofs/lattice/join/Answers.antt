@@ -1,4 +1,4 @@
-use Rattle.std.proofs.Common.{◌≡◌, ◌≤◌, ℕ, ℤ, pos, get_or, arith}
+use Rattle.std.proofs.Common.{◌≡◌, ℕ, ℤ, pos, get_or, arith}
 use Rattle.std.specs.Int.{int_max}
 use Rattle.std.proofs.lemmas.Int.{ints, clamps}
 use Rattle.diff_bounds.proofs.WordByWord.{done_more, left_more, join_row}

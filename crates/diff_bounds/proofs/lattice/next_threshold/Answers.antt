@@ -1,4 +1,4 @@
-use Rattle.std.proofs.Common.{◌+◌, ◌≡◌, ◌≤ℤ◌, pos, get_or, ◌⊎◌, inl, inr, arith, rules}
+use Rattle.std.proofs.Common.{◌+◌, inl, inr, arith, rules}
 use Rattle.std.specs.Int.{w128}
 use Rattle.std.proofs.lemmas.Int.{ints, to_z-of_z}
 use Rattle.diff_bounds.proofs.WordByWord.{next_more, next_along}

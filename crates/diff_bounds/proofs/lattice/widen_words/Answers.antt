@@ -1,9 +1,9 @@
-use Rattle.std.proofs.Common.{◌≡◌, ◌≤◌, ℕ, ℤ, pos, get_or, sym, ◌∙◌, arith, rules}
+use Rattle.std.proofs.Common.{ℕ, ℤ, pos, get_or, sym, ◌∙◌, arith, rules}
 use Rattle.std.specs.Int.{w128}
-use Rattle.std.proofs.lemmas.Int.{ints, to_z-of_z}
+use Rattle.std.proofs.lemmas.Int.{to_z-of_z}
 use Rattle.diff_bounds.specs.Widening.{IsWidened}
 use Rattle.diff_bounds.proofs.WordByWord.{done_more, left_more, widened_along, widened_matrix, widened_row}
-use Rattle.diff_bounds.proofs.lattice.widen.Goals as goal
+use Rattle.diff_bounds.proofs.lattice.widen_words.Goals as goal
 
 pub loop-k-preserved : goal.loop-k-preserved
 loop-k-preserved c =

@@ -1,6 +1,6 @@
 use Rattle.std.proofs.Common.{◌≡◌, ℕ, ◌<◌, ◌≤◌, pos, get_or}
 use Rattle.diff_bounds.specs.Widening.{IsWidened}
-use Rattle.diff_bounds.proofs.lattice.widen.Given as goal
+use Rattle.diff_bounds.proofs.lattice.widen_words.Given as goal
 
 abbrev pub invariant-loop-k : goal.invariant-loop-k
 invariant-loop-k l = record {
