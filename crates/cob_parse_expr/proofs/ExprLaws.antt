@@ -10,7 +10,8 @@ use Rattle.cob_tree.specs.declared.expr.Scaling.{Scaling}
 use Rattle.cob_tree.specs.declared.expr.Scaling.TheVariants as scaling
 use Rattle.cob_tree.specs.Symbols.{Symbol, Key, Name, Mark, Sign}
 use Rattle.cob_tree.specs.Items.{Item, Fits, item}
-use Rattle.cob_tree.specs.Cues.{Cue, is, symbol_front, grammar, Qualifies, Signs, Scales, NotRelates, NotTests, NotSize, NotAtEnd}
+use Rattle.cob_tree.specs.Cues.{Cue, is, Qualifies, Signs, Scales, NotRelates, NotTests, NotSize, NotAtEnd}
+use Rattle.cob_parse_expr.specs.Alphabet.{symbol_front, grammar}
 use Rattle.cob_tree.specs.Expr.{Expr, MkExpr, Terms, no_terms, more_terms, terms_of, Term, MkTerm, Facts, no_facts, more_facts, facts_of, Fact, MkFact, Primary, operand, group}
 use Rattle.cob_tree.specs.PrintExpr.{const_symbol, open_mark, close_mark, sign_character, scaling_character, print_expr, print_terms, print_term, print_facts, print_fact, print_primary}
 use Rattle.cob_tree.specs.Takes.{takes_primary, takes_fact, takes_facts, takes_term, takes_terms, takes_expr}

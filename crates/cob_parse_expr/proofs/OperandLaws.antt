@@ -8,7 +8,8 @@ use Rattle.cob_tree.specs.declared.operand.Opnd.TheVariants as opnd
 use Rattle.cob_tree.specs.declared.keyword.Keyword.TheVariants as key
 use Rattle.cob_tree.specs.Symbols.{Symbol, Key, Name, Sign}
 use Rattle.cob_tree.specs.Items.{Item, Fits, item, name, each}
-use Rattle.cob_tree.specs.Cues.{Cue, is, grammar, Qualifies}
+use Rattle.cob_tree.specs.Cues.{Cue, is, Qualifies}
+use Rattle.cob_parse_expr.specs.Alphabet.{grammar}
 use Rattle.cob_tree.specs.PrintExpr.{const_symbol, print_const, print_qualifier, print_ref, print_opnd}
 use Rattle.cob_tree.specs.Takes.{takes_ref, takes_opnd}
 use Rattle.reading.specs.Readers.{lead, seq, many, stands}

@@ -1,3 +1,4 @@
+pub mod Alphabet
 pub mod Classes
 pub mod Reading
 pub mod Steps

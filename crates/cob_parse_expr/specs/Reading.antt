@@ -8,7 +8,8 @@ use Rattle.cob_tree.specs.declared.operand.Opnd.TheVariants as opnd
 use Rattle.cob_tree.specs.declared.expr.Sign as plus_minus
 use Rattle.cob_tree.specs.declared.expr.Scaling.{Scaling}
 use Rattle.cob_tree.specs.Symbols.{Sign}
-use Rattle.cob_tree.specs.Cues.{Cue, is, grammar, Qualifies, Signs, Scales}
+use Rattle.cob_tree.specs.Cues.{Cue, is, Qualifies, Signs, Scales}
+use Rattle.cob_parse_expr.specs.Alphabet.{grammar}
 use Rattle.cob_tree.specs.Expr.{Expr, MkExpr, terms_of, Term, MkTerm, facts_of, Fact, MkFact, Primary, operand, group}
 use Rattle.reading.specs.Readers.{Reader, lead, seq, branch, seen, choose, many, chain, stands, closed, full}
 use Rattle.reading.specs.Printing.{begins}
