@@ -1,5 +1,4 @@
 -- What contracts see of an expression: each type's layer, with what its children are seen as in their place.
-use Rattle.std.specs.Prelude.{List, Option}
 use Rattle.cob_tree.specs.declared.expr.Sign.{Sign}
 use Rattle.cob_tree.specs.declared.expr.Scaling.{Scaling}
 use Rattle.cob_tree.specs.declared.expr.Expr as declared_expr

@@ -1,8 +1,8 @@
 -- The tokens that a tree asks for: each a symbol, with the line where the tree holds it, and with how many
 -- statements and parentheses are open at it.
-use Rattle.std.specs.Prelude.{◌≡◌, ℕ, ◌<◌, List, [], ◌∷◌, ◌++◌, flat_map, Bool, false, true, Option, Some, None, codes}
+use Rattle.std.specs.Prelude.{◌≡◌, ℕ, List, [], ◌∷◌, ◌++◌, Bool, false, true, Option, Some, None}
 use Rattle.cob_tree.specs.declared.keyword.Keyword.{Keyword}
-use Rattle.cob_tree.specs.Symbols.{Symbol, Key, Name, Mark, Stop, Sign}
+use Rattle.cob_tree.specs.Symbols.{Symbol, Key, Name, Stop, Sign}
 
 pub record Item : Type 0 where
   pub symbol : Symbol

@@ -1,5 +1,5 @@
 -- The tokens of operands, expressions and conditions, where so many statements and parentheses are open around.
-use Rattle.std.specs.Prelude.{ℕ, suc, Bool, false, true, List, [], ◌∷◌, ◌++◌, Option, Some, None}
+use Rattle.std.specs.Prelude.{ℕ, suc, Bool, false, List, [], ◌∷◌, ◌++◌, Option, Some, None}
 use Rattle.cob_tree.specs.declared.keyword.Keyword.TheVariants as key
 use Rattle.cob_tree.specs.declared.operand.Const.{Const}
 use Rattle.cob_tree.specs.declared.operand.Const.TheVariants as const

@@ -1,5 +1,5 @@
 -- Which trees the grammar allows.
-use Rattle.std.specs.Prelude.{◌≡◌, ℕ, ◌==◌, Bool, false, true, List, [], ◌∷◌, Option, Some, None}
+use Rattle.std.specs.Prelude.{◌≡◌, ℕ, Bool, false, true, List, [], ◌∷◌, Option, Some, None}
 use Rattle.std.specs.List.{AllByRecursion}
 use Rattle.cob_tree.specs.declared.front.Front.{Front}
 use Rattle.cob_tree.specs.declared.front.Env.{Env}
@@ -14,7 +14,7 @@ use Rattle.cob_tree.specs.declared.front.FdClause.TheVariants as fd
 use Rattle.cob_tree.specs.declared.front.Entry.{Entry}
 use Rattle.cob_tree.specs.declared.front.Clause.{Clause}
 use Rattle.cob_tree.specs.declared.front.Clause.TheVariants as clause
-use Rattle.cob_tree.specs.Symbols.{Symbol, symbol_of, written}
+use Rattle.cob_tree.specs.Symbols.{symbol_of, written}
 use Rattle.cob_tree.specs.Items.{Item}
 use Rattle.cob_tree.specs.Cues.{Cue, Starts, NotSize, NotAtEnd, Else, EndAdd, EndSubtract, EndMultiply, EndDivide, EndCompute, EndIf, EndEvaluate, EndRead}
 use Rattle.cob_tree.specs.Cues as cue

@@ -1,5 +1,5 @@
 -- What contracts see of statements: each type's layer, with what its children are seen as in their place.
-use Rattle.std.specs.Prelude.{List, map, Option, Vec}
+use Rattle.std.specs.Prelude.{map, Option, Vec}
 use Rattle.std.specs.Option.{option_map}
 use Rattle.std.specs.declared.alloc.Global.{Global}
 use Rattle.cob_tree.specs.declared.stmt.Sel as declared_sel

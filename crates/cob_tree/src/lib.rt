@@ -16,10 +16,10 @@ mod operand;
 mod picture;
 mod stmt;
 mod symbol;
-mod token;
-mod tree;
 #[cfg(test)]
 mod tests;
+mod token;
+mod tree;
 
 pub use bytes::{Bytes, Name};
 pub use cond::{Cond, Conj, Neg, SignTest, Simple};
@@ -30,14 +30,12 @@ pub use front::{
     Clause, Config, Data, Described, Entry, Env, External, Fd, FdClause, Front, Io, Label, Range,
     SelClause, Select,
 };
+pub use keyword::{Keyword, keyword_of, keywords_differ};
+pub use laws::{one_form, picture_form_is};
+pub use lexeme::{Lexeme, Symbol, lexemes};
 pub use list::Many;
 pub use operand::{Const, Opnd, Recv, Ref};
-pub use stmt::{
-    Loop, Mode, Opens, Place, Sel, Stmt, Subject, Tail, Varying, Verb, Way, When,
-};
-pub use keyword::{Keyword, keyword_of, keywords_differ};
-pub use lexeme::{Lexeme, Symbol, lexemes};
-pub use laws::{one_form, picture_form_is};
 pub use picture::{PicEnd, picture_of};
+pub use stmt::{Loop, Mode, Opens, Place, Sel, Stmt, Subject, Tail, Varying, Verb, Way, When};
 pub use token::{Num, Rel, Tok, Token};
 pub use tree::{EndProgram, Paragraph, Sentence, Tree};

@@ -10,6 +10,7 @@ pub struct Many<T: Drop> {
 
 impl<T: Drop> Model for Many<T> {
     ghost use Rattle.std.specs.Prelude.{List};
+
     ghost Value = { List T };
 
     ghost view = { λ many. many.items.items };
