@@ -1,5 +1,0 @@
-mod CueLemmas
-mod ClassLaws
-mod Generic
-mod OperandLaws
-mod ExprLaws

@@ -1,4 +1,0 @@
-pub mod Alphabet
-pub mod Classes
-pub mod Reading
-pub mod Steps
