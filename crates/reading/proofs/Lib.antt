@@ -20,3 +20,4 @@ pub mod Wider
 pub mod Clauses
 pub mod BracketsLaw
 pub mod Deeper
+pub mod Exact
