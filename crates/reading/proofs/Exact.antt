@@ -5,7 +5,7 @@ use Rattle.std.proofs.lemmas.Bool.{cases_lt}
 use Rattle.reading.specs.Readers.{Fault, Stop, Deep, left_of, Reader}
 use Rattle.reading.specs.Printing.{Alphabet, Matches, Below, Opens}
 use Rattle.reading.specs.Law.{Syntax, Law, Read, OpensAt, Fails, Deepens, Agree, Agrees}
-use Rattle.reading.proofs.Results.{cut_at, ok_fails}
+use Rattle.reading.proofs.Results.{behind_front, cut_at, ok_fails}
 use Rattle.reading.proofs.Texts.{matches_join, matches_length}
 use Rattle.reading.proofs.Opens.{below_wider, never_below, not_later, one_place}
 use Rattle.reading.proofs.Consequences.{one_tree, none_goes_on}
@@ -95,16 +95,6 @@ module _ {T I M A : Type 0} {G : Alphabet T I M} {s : Syntax I M A} (top : ℕ) 
             let at = (deep k.0).there u more (cut.0 ++ rest.0) (read ++ rest.0) [] t b own spells' good' k.1 refl (append-nil (read ++ rest.0) ∙ text) in
             omega (arith, long, matches_length G before read fits, not_later G top (s.print b) before after (length u) at printed below)
 
-        -- what stands behind a front of u
-        moved : (v read left : List T) → u ++ t ∷ v ≡ read ++ left → length read ≤ length u → (t' : T) × (after z : List T) × (left ≡ t' ∷ after) × (u ++ t ∷ more ≡ read ++ t' ∷ z)
-        moved v read left parts short =
-            let cut = cut_at u (t ∷ v) read left parts (omega (arith, ap length parts, length-append u (t ∷ v), length-append read left)) in
-            go cut.0 cut.1 cut.2
-          where
-            go : (m : List T) → left ≡ m ++ t ∷ v → u ≡ read ++ m → (t' : T) × (after z : List T) × (left ≡ t' ∷ after) × (u ++ t ∷ more ≡ read ++ t' ∷ z)
-            go [] el eu = (t, v, more, el, ap (λ (y : List T). y ++ t ∷ more) eu ∙ append_assoc read [] (t ∷ more))
-            go (m0 ∷ m) el eu = (m0, m ++ t ∷ v, m ++ t ∷ more, el, ap (λ (y : List T). y ++ t ∷ more) eu ∙ append_assoc read (m0 ∷ m) (t ∷ more))
-
         -- Reading tokens that begin so ends there too, unless a tree ends before.
         pub deep_there : (v : List T) → (r (u ++ t ∷ v) ≡ Err (Deep (suc (length v)))) ⊎ ((x : A × List T) × (r (u ++ t ∷ v) ≡ Ok x) × (suc (length v) ≤ length x.1))
         deep_there v = go (r (u ++ t ∷ v)) refl
@@ -120,7 +110,7 @@ module _ {T I M A : Type 0} {G : Alphabet T I M} {s : Syntax I M A} (top : ℕ) 
             go (Err (Stop n)) e = ⊎_elim
                 (λ long. absurd (shallow v h.read h.left h.tree h.before h.after h.parts (omega (arith, long)) h.good h.text h.spells h.below))
                 (λ short.
-                    let w = moved v h.read h.left h.parts (omega (arith, short)) in
+                    let w = behind_front u v more h.read h.left t h.parts (omega (arith, short)) in
                     let at : n ≡ suc (length w.1) = sym h.at ∙ ap length w.3 in
                     absurd (none_of_any h.read w.1 w.2 w.0 a (ap r (sym (h.parts ∙ ap (λ (z : List T). h.read ++ z) w.3)) ∙ e ∙ ap (λ (k : ℕ). Err (Stop k)) at) (subst (Matches G (s.print a)) w.4 spells) good))
                 (cases_lt (length u) (length h.read))
@@ -130,7 +120,7 @@ module _ {T I M A : Type 0} {G : Alphabet T I M} {s : Syntax I M A} (top : ℕ) 
             go (Err (Deep n)) e = ⊎_elim
                 (λ long. absurd (shallow v h.read h.left h.tree h.before h.after h.parts (omega (arith, long)) h.good h.text h.spells h.below))
                 (λ short.
-                    let w = moved v h.read h.left h.parts (omega (arith, short)) in
+                    let w = behind_front u v more h.read h.left t h.parts (omega (arith, short)) in
                     let at : n ≡ suc (length w.1) = sym h.at.0 ∙ ap length w.3 in
                     let place = same_place (u ++ t ∷ v) h.read w.1 w.2 w.0 (ap r (sym (h.parts ∙ ap (λ (z : List T). h.read ++ z) w.3)) ∙ e ∙ ap (λ (k : ℕ). Err (Deep k)) at) w.4 in
                     let count : n ≡ suc (length v) = omega (arith, at, place, ap length h.parts, ap length w.3, length-append u (t ∷ v), length-append h.read h.left) in

@@ -21,3 +21,4 @@ pub mod Clauses
 pub mod BracketsLaw
 pub mod Deeper
 pub mod Exact
+pub mod Whole
