@@ -137,8 +137,8 @@ abbrev pub decimals : Option ℕ → ℕ
 decimals None = 0
 decimals (Some n) = n
 
--- A numeric item: S where it has a sign, then nines, then V and the decimals; one of these may be absent, but not
--- each 9.
+-- A numeric item: an S if it has a sign, then nines, then a V and the nines of its decimals, or neither; 1 to 18 nines
+-- in all.
 pub record IsNumberForm (word : List ℕ) (digits scale : ℕ) (signed : Bool) (usage : Usage) : Type 0 where
   pub whole : ℕ
   pub point : Option ℕ

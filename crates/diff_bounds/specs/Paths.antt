@@ -26,7 +26,7 @@ pub record IsPath (n : ℕ) (w : ℕ → ℕ → ℤ) (i : ℕ) (between : List 
 pub record HasNoNegativeCycle (n : ℕ) (w : ℕ → ℕ → ℤ) : Type 0 where
   pub cycle : (i : ℕ) (between : List ℕ) → i < n → IsPath n w i between i → pos 0 ≤ℤ path_sum w i between i
 
--- a sum as a word: none above 10^37, and -10^37 below that
+-- a sum as a word: none above 10^37, and -10^37 below -10^37
 abbrev pub cut_of : ℤ → ℤ
 cut_of z = if int_lt largest z then none else int_max (neg_ℤ largest) z
 

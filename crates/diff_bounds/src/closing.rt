@@ -9,6 +9,7 @@ use super::words::{LARGEST, NONE, place_of};
 // no path between two places
 const NO_PATH: i128 = i128::MAX;
 
+// the lesser of the best sum so far and the sum of two sums
 #[inline(always)]
 fn lesser(best: i128, first: i128, second: i128) -> i128
     requires first { IsShort first }
@@ -22,6 +23,7 @@ fn lesser(best: i128, first: i128, second: i128) -> i128
     }
 }
 
+// the word, with no path for none
 #[inline(always)]
 fn sum_of(word: i128) -> i128
     ensures { IsSumOf word result }
@@ -29,6 +31,7 @@ fn sum_of(word: i128) -> i128
     if word < NONE { word } else { NO_PATH }
 }
 
+// a sum as a word
 #[inline(always)]
 fn cut(sum: i128) -> i128
     ensures { result ≡ cut_of sum }

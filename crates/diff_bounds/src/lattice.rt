@@ -8,7 +8,7 @@ ghost use Rattle.diff_bounds.specs.Lattice.{joined, widened};
 
 use super::words::{NONE, place_of, word_count};
 
-/// Bounds what the value at `row` exceeds the value at `column` by to `most` at most.
+/// Bounds the value at `row` minus the value at `column` by `most`, where no lesser bound is there yet.
 pub fn add_bound(size: usize, m: &mut [i128], row: usize, column: usize, most: i128)
     requires size { size ≤ 8 }
     requires m { IsMatrix size m.old }
@@ -82,6 +82,7 @@ fn next_threshold(thresholds: &[i128], z: i128) -> i128
     least
 }
 
+// kept, or moved to the next threshold
 fn widened_word(old: i128, reached: i128, thresholds: &[i128]) -> i128
     requires reached { reached ≤ℤ none }
     ensures { IsWidened thresholds.now old reached result }
@@ -93,6 +94,7 @@ fn widened_word(old: i128, reached: i128, thresholds: &[i128]) -> i128
     }
 }
 
+// widens each word
 fn widen_words(size: usize, a: &mut [i128], b: &[i128], thresholds: &[i128])
     requires size { size ≤ 8 }
     requires a { IsMatrix size a.old }

@@ -2,9 +2,9 @@
 //! cells' values, and of a cell's value and zero.
 //!
 //! A matrix for a pack of `size` cells, at most 8, has `(size + 1)^2` words, row by row. Place 0 is for the
-//! number zero, and the pack's cells have the places from 1. The word at row i and column j bounds what the
-//! value at i exceeds the value at j by: it is a number within 10^37, or 10^38 for no bound. The words of the
-//! diagonal are 0 and say nothing. No call takes memory.
+//! number zero, and the pack's cells have the places from 1. The word at row i and column j bounds the
+//! value at i minus the value at j: it is a number of at most 10^37 in absolute value, or 10^38 for no bound.
+//! The words of the diagonal are 0 and say nothing. No call takes memory.
 #![tactic(auto)]
 
 mod closing;

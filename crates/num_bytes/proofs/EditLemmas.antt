@@ -3,7 +3,8 @@ use Rattle.std.proofs.Common.{◌≡◌, ℕ, ◌+◌, ◌<◌, Bool, if◌then�
 use Rattle.std.proofs.lemmas.List.{drop_more, take_more_set, append_assoc}
 use Rattle.std.proofs.lemmas.List.Sums.{sum_by-drop_more}
 use Rattle.num_bytes.specs.Digits.{digit_at}
-use Rattle.num_bytes.specs.Editing.{is_place, place_count, still_suppressed, shown, edited}
+use Rattle.cob_tree.specs.Pictures.{is_place, place_count}
+use Rattle.num_bytes.specs.Editing.{still_suppressed, shown, edited}
 
 pub place_count-drop : (picture : List ℕ) (at : ℕ) → at < length picture →
     place_count (drop at picture) ≡ (if is_place (get_or picture at 0) then 1 else 0) + place_count (drop (at + 1) picture)

@@ -1,17 +1,11 @@
 -- How numbers are shown through an edited picture.
-use Rattle.std.specs.Prelude.{◌≡◌, ◌==◌, ℕ, ◌+◌, ◌≤◌, IsTrue, Bool, true, false, ◌&&◌, ◌||◌, not, if◌then◌else◌, List, [], ◌∷◌, length, replicate, count_by, slice_index, ℤ, unsigned_abs}
+use Rattle.std.specs.Prelude.{◌≡◌, ◌==◌, ℕ, ◌+◌, ◌≤◌, IsTrue, Bool, true, false, ◌&&◌, ◌||◌, not, if◌then◌else◌, List, [], ◌∷◌, length, replicate, slice_index, ℤ, unsigned_abs}
 use Rattle.std.specs.List.{list_all}
 use Rattle.cob_tree.specs.declared.form.Form.{Form}
 use Rattle.cob_tree.specs.declared.form.Form.TheVariants.{Group, Text, Number, Edited}
+use Rattle.cob_tree.specs.Pictures.{is_place, place_count}
 use Rattle.num_bytes.specs.Digits.{digit_at}
 use Rattle.num_bytes.specs.Reading.{is_own}
-
--- 9 and Z are the places of digits
-abbrev pub is_place : ℕ → Bool
-is_place c = c == 57 || c == 90
-
-abbrev pub place_count : List ℕ → ℕ
-place_count picture = count_by is_place picture
 
 -- whether zeros are still suppressed after a symbol: a 9 and the point end it, and a Z whose digit isn't 0
 abbrev pub still_suppressed : Bool → ℕ → ℕ → Bool

@@ -1,6 +1,7 @@
 ghost use Rattle.std.specs.Prelude.{◌≡◌, ℕ, ◌==◌, ◌&&◌, ◌+◌, ◌<◌, ◌≤◌, if◌then◌else◌, length};
+ghost use Rattle.cob_tree.specs.Pictures.{is_place, place_count};
 ghost use Rattle.num_bytes.specs.Digits.{digit_at};
-ghost use Rattle.num_bytes.specs.Editing.{CanEdit, all_suppressed, begins_suppressed, edit_bytes, edited, edited_bytes, is_place, place_count, shown, still_suppressed};
+ghost use Rattle.num_bytes.specs.Editing.{CanEdit, all_suppressed, begins_suppressed, edit_bytes, edited, edited_bytes, shown, still_suppressed};
 
 use crate::digits::ten;
 use cob_tree::Form;

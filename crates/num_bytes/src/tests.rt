@@ -1,5 +1,6 @@
 ghost use Rattle.std.specs.Prelude.{◌≡◌, length};
-ghost use Rattle.num_bytes.specs.Editing.{CanEditNumber, place_count};
+ghost use Rattle.cob_tree.specs.Pictures.{place_count};
+ghost use Rattle.num_bytes.specs.Editing.{CanEditNumber};
 ghost use Rattle.num_bytes.specs.Reading.{number_length};
 
 use super::binary::is_in_range;

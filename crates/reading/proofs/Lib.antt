@@ -20,3 +20,5 @@ pub mod Wider
 pub mod Clauses
 pub mod BracketsLaw
 pub mod Deeper
+pub mod Exact
+pub mod Whole

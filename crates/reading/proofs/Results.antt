@@ -1,5 +1,5 @@
 -- Results of readers, one after the other.
-use Rattle.std.proofs.Common.{◌≡◌, ◌≤◌, ◌⊎◌, inl, inr, ⊎_elim, List, [], ◌∷◌, ◌++◌, length, length-append, Result, Ok, Err, refl, sym, ap, ◌∙◌, arith}
+use Rattle.std.proofs.Common.{◌≡◌, ◌≤◌, ◌⊎◌, inl, inr, ⊎_elim, List, [], ◌∷◌, ◌++◌, length, length-append, Result, Ok, Err, refl, sym, ap, ◌∙◌, append_assoc, arith}
 use Rattle.reading.specs.Readers.{Fault, ◌>>=◌}
 
 pub bind_ok : {A B : Type 0} (r : Result A Fault) (f : A → Result B Fault) (y : B) → (r >>= f) ≡ Ok y → (x : A) × (r ≡ Ok x) × (f x ≡ Ok y)
@@ -39,3 +39,11 @@ module _ {T : Type 0} where
       let rest : q ++ r ≡ u ++ v = cc in
       let found = cut_at q r u v rest le in
       (found.0, found.1, ap (λ (z : List T). y ∷ z) found.2 ∙ ap (λ (z : T). z ∷ (u ++ found.0)) same)
+
+  -- where two lists go on alike up to t: what stands there behind a front of u
+  pub behind_front : (u v more read left : List T) (t : T) → u ++ t ∷ v ≡ read ++ left → length read ≤ length u → (t' : T) × (after z : List T) × (left ≡ t' ∷ after) × (u ++ t ∷ more ≡ read ++ t' ∷ z)
+  behind_front u v more read left t parts short = let cut = cut_at u (t ∷ v) read left parts (omega (arith, ap length parts, length-append u (t ∷ v), length-append read left)) in go cut.0 cut.1 cut.2
+    where
+      go : (m : List T) → left ≡ m ++ t ∷ v → u ≡ read ++ m → (t' : T) × (after z : List T) × (left ≡ t' ∷ after) × (u ++ t ∷ more ≡ read ++ t' ∷ z)
+      go [] el eu = (t, v, more, el, ap (λ (y : List T). y ++ t ∷ more) eu ∙ append_assoc read [] (t ∷ more))
+      go (m0 ∷ m) el eu = (m0, m ++ t ∷ v, m ++ t ∷ more, el, ap (λ (y : List T). y ++ t ∷ more) eu ∙ append_assoc read (m0 ∷ m) (t ∷ more))

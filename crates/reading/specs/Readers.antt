@@ -183,3 +183,11 @@ full_on false ts = Err (Stop (length ts))
 
 abbrev pub full : {T A : Type 0} → (List T → Bool) → Reader T A
 full opens ts = full_on (opens ts) ts
+
+-- all tokens
+abbrev pub ended : {T A : Type 0} → A → List T → Result A Fault
+ended a [] = Ok a
+ended a (t ∷ ts) = Err (Stop (length (t ∷ ts)))
+
+abbrev pub whole : {T A : Type 0} → Reader T A → List T → Result A Fault
+whole r ts = r ts >>= λ a. ended a.0 a.1

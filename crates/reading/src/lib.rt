@@ -5,4 +5,4 @@
 
 mod laws;
 
-pub use laws::{brackets_are_read, more_room_agrees};
+pub use laws::{brackets_are_read, more_room_agrees, too_deep_is_told};

@@ -1,5 +1,6 @@
 use Rattle.std.proofs.Common.{◌≡◌, ◌≤◌, ◌++◌, take, drop}
-use Rattle.num_bytes.specs.Editing.{begins_suppressed, edited, place_count}
+use Rattle.cob_tree.specs.Pictures.{place_count}
+use Rattle.num_bytes.specs.Editing.{begins_suppressed, edited}
 use Rattle.num_bytes.proofs.picture.write_edited.Given as goal
 
 abbrev pub invariant-loop-at : goal.invariant-loop-at
