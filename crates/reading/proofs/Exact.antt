@@ -110,9 +110,9 @@ module _ {T I M A : Type 0} {G : Alphabet T I M} {s : Syntax I M A} (top : ℕ) 
             go (Err (Stop n)) e = ⊎_elim
                 (λ long. absurd (shallow v h.read h.left h.tree h.before h.after h.parts (omega (arith, long)) h.good h.text h.spells h.below))
                 (λ short.
-                    let w = behind_front u v more h.read h.left t h.parts (omega (arith, short)) in
-                    let at : n ≡ suc (length w.1) = sym h.at ∙ ap length w.3 in
-                    absurd (none_of_any h.read w.1 w.2 w.0 a (ap r (sym (h.parts ∙ ap (λ (z : List T). h.read ++ z) w.3)) ∙ e ∙ ap (λ (k : ℕ). Err (Stop k)) at) (subst (Matches G (s.print a)) w.4 spells) good))
+                let w = behind_front u v more h.read h.left t h.parts (omega (arith, short)) in
+                let at : n ≡ suc (length w.1) = sym h.at ∙ ap length w.3 in
+                absurd (none_of_any h.read w.1 w.2 w.0 a (ap r (sym (h.parts ∙ ap (λ (z : List T). h.read ++ z) w.3)) ∙ e ∙ ap (λ (k : ℕ). Err (Stop k)) at) (subst (Matches G (s.print a)) w.4 spells) good))
                 (cases_lt (length u) (length h.read))
               where
                 h : Fails G s top (u ++ t ∷ v) (Stop n)
@@ -120,11 +120,11 @@ module _ {T I M A : Type 0} {G : Alphabet T I M} {s : Syntax I M A} (top : ℕ) 
             go (Err (Deep n)) e = ⊎_elim
                 (λ long. absurd (shallow v h.read h.left h.tree h.before h.after h.parts (omega (arith, long)) h.good h.text h.spells h.below))
                 (λ short.
-                    let w = behind_front u v more h.read h.left t h.parts (omega (arith, short)) in
-                    let at : n ≡ suc (length w.1) = sym h.at.0 ∙ ap length w.3 in
-                    let place = same_place (u ++ t ∷ v) h.read w.1 w.2 w.0 (ap r (sym (h.parts ∙ ap (λ (z : List T). h.read ++ z) w.3)) ∙ e ∙ ap (λ (k : ℕ). Err (Deep k)) at) w.4 in
-                    let count : n ≡ suc (length v) = omega (arith, at, place, ap length h.parts, ap length w.3, length-append u (t ∷ v), length-append h.read h.left) in
-                    inl (e ∙ ap (λ (k : ℕ). Err (Deep k)) count))
+                let w = behind_front u v more h.read h.left t h.parts (omega (arith, short)) in
+                let at : n ≡ suc (length w.1) = sym h.at.0 ∙ ap length w.3 in
+                let place = same_place (u ++ t ∷ v) h.read w.1 w.2 w.0 (ap r (sym (h.parts ∙ ap (λ (z : List T). h.read ++ z) w.3)) ∙ e ∙ ap (λ (k : ℕ). Err (Deep k)) at) w.4 in
+                let count : n ≡ suc (length v) = omega (arith, at, place, ap length h.parts, ap length w.3, length-append u (t ∷ v), length-append h.read h.left) in
+                inl (e ∙ ap (λ (k : ℕ). Err (Deep k)) count))
                 (cases_lt (length u) (length h.read))
               where
                 h : Fails G s top (u ++ t ∷ v) (Deep n)
