@@ -29,3 +29,7 @@ Fails (halt.Deep n) read = read ≡ Err (Deep n)
 abbrev pub Gives : {X Y : Type 0} → (X → Y) → Result X Halt → Result Y Fault → Type 0
 Gives view (Ok x) read = read ≡ Ok (view x)
 Gives view (Err e) read = Fails e read
+
+-- what stands behind a word
+abbrev pub behind_word : {A : Type 0} → A → Unit {0} × A
+behind_word a = (tt, a)

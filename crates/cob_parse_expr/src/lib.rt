@@ -4,5 +4,7 @@
 
 mod class;
 mod halt;
+mod operand;
 
 pub use halt::Halt;
+pub use operand::{const_at, name_at, opnd_in, ref_in};

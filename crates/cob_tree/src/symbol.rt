@@ -8,64 +8,64 @@ use crate::token::{Num, Rel, Tok, Token};
 use std::alloc::{AllocError, Global};
 
 /// What the grammar sees of a token: a word is a reserved word or a name.
-#[derive(Clone, Copy)]
-pub enum Symbol<'a> {
+#[derive(Drop)]
+pub enum Symbol {
     Key(Keyword),
-    Name(&'a Name),
-    Number(&'a Num),
-    Text(&'a Bytes),
+    Name(Name),
+    Number(Num),
+    Text(Bytes),
     Mark(u8),
     Relation(Rel),
-    Pic(&'a Bytes),
+    Pic(Bytes),
     Stop,
 }
 
 /// A symbol and the line of its token.
-#[derive(Clone, Copy)]
-pub struct Lexeme<'a> {
-    pub symbol: Symbol<'a>,
+#[derive(Drop)]
+pub struct Lexeme {
+    pub symbol: Symbol,
     pub line: u32,
 }
 
-impl<'a> Symbol<'a> {
+impl Symbol {
     /// The symbol of a token.
-    pub fn of(tok: &'a Tok) -> Symbol<'a>
-        ensures { plain_symbol result ≡ symbol_of tok.now }
+    pub fn of(alloc: Global, tok: &Tok) -> Result<Symbol, AllocError>
+        ensures { IfOk result (λ symbol. plain_symbol symbol ≡ symbol_of tok.now) }
     {
         match tok {
             Tok::Word(name) => match keyword_of(name.get()) {
-                Some(keyword) => Symbol::Key(keyword),
-                None => Symbol::Name(name),
+                Some(keyword) => Ok(Symbol::Key(keyword)),
+                None => Ok(Symbol::Name(Name::of(alloc, name.get())?)),
             },
-            Tok::Number(number) => Symbol::Number(number),
-            Tok::Text(text) => Symbol::Text(text),
-            Tok::Mark(mark) => Symbol::Mark(*mark),
-            Tok::Relation(relation) => Symbol::Relation(*relation),
-            Tok::Pic(text) => Symbol::Pic(text),
-            Tok::Stop => Symbol::Stop,
+            Tok::Number(number) => Ok(Symbol::Number(number.copied(alloc)?)),
+            Tok::Text(text) => Ok(Symbol::Text(Bytes::of(alloc, text.get())?)),
+            Tok::Mark(mark) => Ok(Symbol::Mark(*mark)),
+            Tok::Relation(relation) => Ok(Symbol::Relation(*relation)),
+            Tok::Pic(text) => Ok(Symbol::Pic(Bytes::of(alloc, text.get())?)),
+            Tok::Stop => Ok(Symbol::Stop),
         }
     }
 }
 
-impl<'a> Lexeme<'a> {
+impl Lexeme {
     /// The lexeme of a token.
-    pub fn of(token: &'a Token) -> Lexeme<'a>
-        ensures { plain_lexeme result ≡ seen token.now }
+    pub fn of(alloc: Global, token: &Token) -> Result<Lexeme, AllocError>
+        ensures { IfOk result (λ lexeme. plain_lexeme lexeme ≡ seen token.now) }
     {
-        Lexeme {
-            symbol: Symbol::of(&token.tok),
+        Ok(Lexeme {
+            symbol: Symbol::of(alloc, &token.tok)?,
             line: token.line,
-        }
+        })
     }
 }
 
 /// The lexemes of some tokens: each word is looked up once.
-pub fn lexemes<'a>(alloc: Global, tokens: &'a [Token]) -> Result<Vec<Lexeme<'a>>, AllocError>
+pub fn lexemes(alloc: Global, tokens: &[Token]) -> Result<Vec<Lexeme>, AllocError>
     ensures { IfOk result (λ lexemes. map plain_lexeme lexemes.items ≡ map seen tokens.now) }
 {
     let mut lexemes = Vec::new(alloc);
     for token in tokens {
-        lexemes.push(Lexeme::of(token))?;
+        lexemes.push(Lexeme::of(alloc, token)?)?;
     }
     Ok(lexemes)
 }
