@@ -3,3 +3,4 @@ mod ClassLaws
 mod Generic
 mod OperandLaws
 mod ExprLaws
+mod Loop

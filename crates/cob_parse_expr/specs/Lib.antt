@@ -2,3 +2,4 @@ pub mod Alphabet
 pub mod Classes
 pub mod Reading
 pub mod Steps
+pub mod Lexemes

@@ -1,7 +1,7 @@
 -- What one function says of what it read, in the terms of readers.
 use Rattle.std.specs.Prelude.{◌≡◌, Bool, true, false, List, length, Option, Result, Ok, Err, map}
-use Rattle.cob_tree.specs.declared.lexeme.Lexeme.{Lexeme}
-use Rattle.cob_tree.specs.Lexemes.{plain_lexeme}
+use Rattle.cob_parse_expr.specs.declared.lexeme.Lexeme.{Lexeme}
+use Rattle.cob_parse_expr.specs.Lexemes.{plain_lexeme}
 use Rattle.cob_tree.specs.Symbols.{Sign}
 use Rattle.reading.specs.Readers.{Fault, Stop, Deep, lead, stands}
 use Rattle.cob_parse_expr.specs.declared.halt.Halt.{Halt}
@@ -29,3 +29,7 @@ Fails (halt.Deep n) read = read ≡ Err (Deep n)
 abbrev pub Gives : {X Y : Type 0} → (X → Y) → Result X Halt → Result Y Fault → Type 0
 Gives view (Ok x) read = read ≡ Ok (view x)
 Gives view (Err e) read = Fails e read
+
+-- what stands behind a word
+abbrev pub behind_word : {A : Type 0} → A → Unit {0} × A
+behind_word a = (tt, a)

@@ -4,5 +4,9 @@
 
 mod class;
 mod halt;
+mod lexeme;
+mod operand;
 
 pub use halt::Halt;
+pub use lexeme::{Lexeme, Symbol, lexemes};
+pub use operand::{const_at, name_at, opnd_in, ref_in};
