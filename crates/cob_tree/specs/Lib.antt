@@ -6,7 +6,6 @@ pub mod Stmt
 pub mod StmtView
 pub mod Keywords
 pub mod Symbols
-pub mod Lexemes
 pub mod Items
 pub mod PrintExpr
 pub mod PrintFront

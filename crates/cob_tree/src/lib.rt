@@ -10,7 +10,6 @@ mod form;
 mod front;
 mod keyword;
 mod laws;
-mod lexeme;
 mod list;
 mod operand;
 mod picture;
@@ -32,7 +31,6 @@ pub use front::{
 };
 pub use keyword::{Keyword, keyword_of, keywords_differ};
 pub use laws::{one_form, picture_form_is};
-pub use lexeme::{Lexeme, Symbol, lexemes};
 pub use list::Many;
 pub use operand::{Const, Opnd, Recv, Ref};
 pub use picture::{PicEnd, picture_of};

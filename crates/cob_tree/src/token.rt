@@ -1,4 +1,7 @@
+ghost use Rattle.std.specs.Prelude.{◌≡◌, IfOk};
+
 use crate::bytes::{Bytes, Name};
+use std::alloc::{AllocError, Global};
 
 /// A numeric literal: its sign `+` or `-`, or 0 for none; its digits as written, without the point; and how many
 /// of them stand behind the point.
@@ -7,6 +10,19 @@ pub struct Num {
     pub sign: u8,
     pub digits: Bytes,
     pub scale: u32,
+}
+
+impl Num {
+    /// Copies the number.
+    pub fn copied(&self, alloc: Global) -> Result<Num, AllocError>
+        ensures { IfOk result (λ copy. copy ≡ self.now) }
+    {
+        Ok(Num {
+            sign: self.sign,
+            digits: Bytes::of(alloc, self.digits.get())?,
+            scale: self.scale,
+        })
+    }
 }
 
 /// The relations `=`, `<`, `>`, `>=` and `<=`, in this order.
