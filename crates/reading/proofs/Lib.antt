@@ -22,3 +22,4 @@ pub mod BracketsLaw
 pub mod Deeper
 pub mod Exact
 pub mod Whole
+pub mod Turns

@@ -27,13 +27,20 @@ module _ {T I M A : Type 0} {G : Alphabet T I M} {r : Reader T A} {s : Syntax I 
     abbrev pub chain_syntax : Syntax I M (A × List (K × A))
     chain_syntax = tail_syntax s (λ x. many_syntax set link_syntax m) is_given m
 
-    -- the tokens of the class begin with one of the marks
-    pub chain_law : OneToken G set → ((x : K) (t : T) (ts : List T) → G.Fits (item x) t → begins G set (t ∷ ts) ≡ true) → Law G (chain (begins G set) class r) chain_syntax top
-    chain_law one tells = tail_law L m alike (λ x. many_tail links set m (λ y p good e. alike y.1 p good.1 e) (starts_by_one G set all one))
-      where
-        links : Law G (branch class (λ x. r)) link_syntax top
-        links = branch_law C top (λ x allowed. low x) some tt (λ x. r) (λ x. s) (λ x allowed. L)
+    pub link_law : Law G (branch class (λ x. r)) link_syntax top
+    link_law = branch_law C top (λ x allowed. low x) some tt (λ x. r) (λ x. s) (λ x allowed. L)
 
-        all : Begins G set link_syntax
-        all x [] rest good spells = absurd spells
-        all x (t ∷ text) rest good spells = tells x.0 t (text ++ rest) spells.0
+    -- the tokens of the class begin with one of the marks
+    module _ (one : OneToken G set) (tells : (x : K) (t : T) (ts : List T) → G.Fits (item x) t → begins G set (t ∷ ts) ≡ true) where
+      pub link_starts : Starts G set (branch class (λ x. r)) link_syntax
+      link_starts = starts_by_one G set all one
+        where
+          all : Begins G set link_syntax
+          all x [] rest good spells = absurd spells
+          all x (t ∷ text) rest good spells = tells x.0 t (text ++ rest) spells.0
+
+      pub link_alike : (y : K × A) (p : M) → link_syntax.Good y → set p ≡ true → link_syntax.takes y p ≡ link_syntax.takes y m
+      link_alike y p good e = alike y.1 p good.1 e
+
+      pub chain_law : Law G (chain (begins G set) class r) chain_syntax top
+      chain_law = tail_law L m alike (λ x. many_tail link_law set m link_alike link_starts)
