@@ -1,10 +1,10 @@
 -- Where there is too little room: each tree whose text goes on with the token opens one too many there, and none before.
 use Rattle.std.proofs.Common.{◌≡◌, ℕ, suc, ◌≤◌, ◌<◌, ◌+◌, ⊎_elim, ◌⊎◌, inl, inr, Bool, true, false, ◌&&◌, List, [], ◌∷◌, ◌++◌, length, length-append, Option, Some, None, is_some, Result, Ok, Err, refl, sym, ap, subst, ◌∙◌, append_assoc, arith}
-use Rattle.reading.specs.Readers.{left_of, Fault, Stop, Deep, Reader, ◌>>=◌, nothing, lead_as, lead, follow, seq, branch, seen, choose_on, choose, optional, opt, with_phrase, here_if, no_step, many, plus, missing, need_on, need, must, closed, stands, fresh, clauses, full_on, full}
+use Rattle.reading.specs.Readers.{left_of, Fault, Stop, Deep, Reader, ◌>>=◌, nothing, lead_as, lead, follow, seq, branch, seen, choose_on, choose, optional, opt, with_phrase, here_if, no_step, many, plus, chain, missing, need_on, need, must, closed, stands, fresh, clauses, full_on, full}
 use Rattle.reading.specs.Printing.{Alphabet, Matches, Below, begins, Next}
 use Rattle.reading.specs.Law.{Syntax, Law, OpensAt, Deepens}
 use Rattle.reading.proofs.Results.{bind_err, ok_fails, fault_is, fault_before, cut_at}
-use Rattle.reading.proofs.Texts.{both_true, next_same, matches_nothing, matches_split, matches_length, below_left, below_right}
+use Rattle.reading.proofs.Texts.{Always, both_true, next_same, matches_nothing, matches_split, matches_length, below_left, below_right}
 use Rattle.reading.proofs.Opens.{below_wider, opens_first, opens_left, opens_right}
 use Rattle.reading.proofs.Consequences.{first_is}
 use Rattle.reading.proofs.Follow.{Joint, pair}
@@ -14,10 +14,10 @@ use Rattle.reading.proofs.Seen.{View}
 use Rattle.reading.proofs.Optional.{Opener, optional_syntax, optional_decided, still, some_is}
 use Rattle.reading.proofs.Choose.{choose_syntax, Tells}
 use Rattle.reading.proofs.Full.{NoRoom}
-use Rattle.reading.proofs.Starts.{Starts}
+use Rattle.reading.proofs.Starts.{OneToken, Starts}
 use Rattle.reading.proofs.Tail.{Tail, tail_syntax, tail_joint}
 use Rattle.reading.proofs.Many.{many_syntax, many_tail, many_from_deepens}
-use Rattle.reading.proofs.Plus.{plus_syntax}
+use Rattle.reading.proofs.Plus.{plus_syntax, link_syntax, chain_syntax, link_law, link_alike, link_starts}
 use Rattle.reading.proofs.Opt.{when, optional_tail, opener_here, opt_tail, opt_laws, opt_syntax, Opening, opener_of, phrase_syntax}
 use Rattle.reading.proofs.Must.{Ends, must_joint, closed_all}
 
@@ -204,3 +204,18 @@ module _ {T I M A : Type 0} {G : Alphabet T I M} {r r' : Reader T A} {s : Syntax
 
   pub deepens_plus : Starts G set r s → Deepens G (plus (begins G set) r) (plus_syntax set m s) top wide
   deepens_plus St = deepens_tail le L W D m alike (λ x. many_tail L set m alike St) (λ x good. deepens_many St)
+
+module _ {T I M A : Type 0} {G : Alphabet T I M} {r r' : Reader T A} {s : Syntax I M A} {top wide : ℕ} (le : top ≤ wide) (L : Law G r s top) (W : Law G r' s wide) (D : Deepens G r s top wide) (set : M → Bool) (m : M) (alike : (x : A) (p : M) → s.Good x → set p ≡ true → s.takes x p ≡ s.takes x m)
+    {K : Type 0} {class : T → Option K} {item : K → I} (C : Class G class Always item) (low : (x : K) → G.depth (item x) < top) (some : K) (one : OneToken G set) (tells : (x : K) (t : T) (ts : List T) → G.Fits (item x) t → begins G set (t ∷ ts) ≡ true) where
+  links : Deepens G (branch class (λ x. r)) (link_syntax set m item s) top wide
+  links = deepens_branch C le (λ x good. low x) some tt (λ x. r) (λ x. s) (λ x good. L) (λ x good. D)
+
+  wide_links : Law G (branch class (λ x. r')) (link_syntax set m item s) wide
+  wide_links = link_law W set m alike C (λ x. low_wide C le (λ y good. low y) some tt x tt) some
+
+  pub deepens_chain : Deepens G (chain (begins G set) class r) (chain_syntax set m item s) top wide
+  deepens_chain = deepens_tail le L W D m alike (λ x. many_tail (link_law L set m alike C low some) set m (link_alike L set m alike C low some one tells) (link_starts L set m alike C low some one tells))
+      (λ x good. many_of_links)
+    where
+      many_of_links : Deepens G (many (begins G set) (branch class (λ x. r))) (many_syntax set (link_syntax set m item s) m) top wide
+      many_of_links = deepens_many le (link_law L set m alike C low some) wide_links links set m (link_alike L set m alike C low some one tells) (link_starts L set m alike C low some one tells)
