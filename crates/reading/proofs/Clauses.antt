@@ -1,6 +1,6 @@
 -- Clauses in any order, each kind at most once.
 use Rattle.std.proofs.Common.{◌≡◌, ℕ, suc, ◌<◌, ◌≤◌, Bool, true, false, List, [], ◌∷◌, ◌++◌, length, Option, Some, None, is_some, Err, refl, sym, ap, subst, ◌∙◌, arith}
-use Rattle.reading.specs.Readers.{left_of, Fault, Stop, Reader, branch, many_from, among, unless_on, fresh_on, fresh, stands, with_kind, clauses}
+use Rattle.reading.specs.Readers.{left_of, Fault, Reader, branch, many_from, among, unless_on, fresh_on, fresh, stands, with_kind, clauses}
 use Rattle.reading.specs.Printing.{Alphabet, Matches, peek, on_mark, begins}
 use Rattle.reading.specs.Law.{Syntax, Law, Deepens}
 use Rattle.reading.proofs.Texts.{Always}

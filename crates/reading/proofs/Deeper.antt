@@ -1,6 +1,6 @@
 -- Where there is too little room: each tree whose text goes on with the token opens one too many there, and none before.
-use Rattle.std.proofs.Common.{◌≡◌, ℕ, suc, ◌≤◌, ◌<◌, ◌+◌, ⊎_elim, ◌⊎◌, inl, inr, Bool, true, false, ◌&&◌, List, [], ◌∷◌, ◌++◌, length, length-append, Option, Some, None, is_some, Result, Ok, Err, refl, sym, ap, subst, ◌∙◌, append_assoc, arith}
-use Rattle.reading.specs.Readers.{left_of, Fault, Stop, Deep, Reader, ◌>>=◌, nothing, lead_as, lead, follow, seq, branch, seen, choose_on, choose, optional, opt, with_phrase, here_if, no_step, many, plus, chain, missing, need_on, need, must, closed, stands, fresh, clauses, full_on, full}
+use Rattle.std.proofs.Common.{◌≡◌, ℕ, suc, ◌≤◌, ◌<◌, ◌+◌, ⊎_elim, ◌⊎◌, inl, inr, Bool, true, false, ◌&&◌, List, [], ◌∷◌, ◌++◌, length, length-append, Option, Some, None, Result, Ok, Err, refl, sym, ap, subst, ◌∙◌, append_assoc, arith}
+use Rattle.reading.specs.Readers.{left_of, Fault, Stop, Deep, Reader, ◌>>=◌, nothing, lead_as, lead, follow, seq, branch, seen, choose_on, choose, optional, opt, with_phrase, here_if, no_step, many, plus, chain, missing, need_on, need, must, closed, stands, full_on, full}
 use Rattle.reading.specs.Printing.{Alphabet, Matches, Below, begins, Next}
 use Rattle.reading.specs.Law.{Syntax, Law, OpensAt, Deepens}
 use Rattle.reading.proofs.Results.{bind_err, ok_fails, fault_is, fault_before, cut_at}
@@ -9,7 +9,7 @@ use Rattle.reading.proofs.Opens.{below_wider, opens_first, opens_left, opens_rig
 use Rattle.reading.proofs.Consequences.{first_is}
 use Rattle.reading.proofs.Follow.{Joint, pair}
 use Rattle.reading.proofs.Dependent.{dependent_syntax, seq_syntax, dependent_joint}
-use Rattle.reading.proofs.Lead.{Class, lead_syntax, lead_law, stops}
+use Rattle.reading.proofs.Lead.{Class, lead_syntax, lead_law}
 use Rattle.reading.proofs.Seen.{View}
 use Rattle.reading.proofs.Optional.{Opener, optional_syntax, optional_decided, still, some_is}
 use Rattle.reading.proofs.Choose.{choose_syntax, Tells}
@@ -18,7 +18,7 @@ use Rattle.reading.proofs.Starts.{OneToken, Starts}
 use Rattle.reading.proofs.Tail.{Tail, tail_syntax, tail_joint}
 use Rattle.reading.proofs.Many.{many_syntax, many_tail, many_from_deepens}
 use Rattle.reading.proofs.Plus.{plus_syntax, link_syntax, chain_syntax, link_law, link_alike, link_starts}
-use Rattle.reading.proofs.Opt.{when, optional_tail, opener_here, opt_tail, opt_laws, opt_syntax, Opening, opener_of, phrase_syntax}
+use Rattle.reading.proofs.Opt.{when, optional_tail, opener_here, opt_opener, opt_tail, opt_laws, opt_syntax, Opening, opener_of, phrase_syntax}
 use Rattle.reading.proofs.Must.{Ends, must_joint, closed_all}
 
 module _ {T I M A : Type 0} {G : Alphabet T I M} {r : Reader T A} {s : Syntax I M A} {top wide : ℕ} where
@@ -44,12 +44,12 @@ module _ {T I M A B : Type 0} {G : Alphabet T I M} {top wide : ℕ} where
   pub deepens_seen : {R : Reader T A} {a : Syntax I M A} {b : Syntax I M B} {view : A → B} {parts : B → A} → View a b view parts → Deepens G R a top wide → Deepens G (seen view R) b top wide
   deepens_seen {R} {a} {b} {view} {parts} V D = record { there = there }
     where
-     there : (q r z text rest : List T) (t : T) (y : B) → seen view R (q ++ t ∷ r) ≡ Err (Deep (suc (length r))) → Matches G (b.print y) text → b.Good y → Below G wide (b.print y) → Next G (b.takes y) rest → text ++ rest ≡ q ++ t ∷ z → OpensAt G top (b.print y) (length q)
-     there q r z text rest t y e spells good below next same =
-      let back : b.print y ≡ a.print (parts y) = ap b.print (sym (V.back y good)) ∙ V.print (parts y) (V.good_back y good) in
-      subst (λ (is : List I). OpensAt G top is (length q)) (sym back)
-      (D.there q r z text rest t (parts y) (fault_before (R (q ++ t ∷ r)) (λ x. (view x.0, x.1)) (Deep (suc (length r))) e) (subst (λ (is : List I). Matches G is text) back spells) (V.good_back y good) (subst (Below G wide) back below)
-      (next_same G (b.takes y) (a.takes (parts y)) rest (λ p. ap (λ (z' : B). b.takes z' p) (sym (V.back y good)) ∙ V.takes (parts y) p (V.good_back y good)) next) same)
+      there : (q r z text rest : List T) (t : T) (y : B) → seen view R (q ++ t ∷ r) ≡ Err (Deep (suc (length r))) → Matches G (b.print y) text → b.Good y → Below G wide (b.print y) → Next G (b.takes y) rest → text ++ rest ≡ q ++ t ∷ z → OpensAt G top (b.print y) (length q)
+      there q r z text rest t y e spells good below next same =
+          let back : b.print y ≡ a.print (parts y) = ap b.print (sym (V.back y good)) ∙ V.print (parts y) (V.good_back y good) in
+          subst (λ (is : List I). OpensAt G top is (length q)) (sym back)
+          (D.there q r z text rest t (parts y) (fault_before (R (q ++ t ∷ r)) (λ x. (view x.0, x.1)) (Deep (suc (length r))) e) (subst (λ (is : List I). Matches G is text) back spells) (V.good_back y good) (subst (Below G wide) back below)
+          (next_same G (b.takes y) (a.takes (parts y)) rest (λ p. ap (λ (z' : B). b.takes z' p) (sym (V.back y good)) ∙ V.takes (parts y) p (V.good_back y good)) next) same)
 
   -- one after the other, in general
   module _ {R R' : Reader T A} {a : Syntax I M A} {S : A → Reader T B} {b : A → Syntax I M B} {Good : A → B → Type 0} {takes : A → B → M → Bool} (le : top ≤ wide) (LA : Law G R a top) (WA : Law G R' a wide) (J : Joint G top a S b Good takes) (DA : Deepens G R a top wide) (DB : (x : A) → a.Good x → Deepens G (S x) (b x) top wide) where
@@ -98,71 +98,71 @@ module _ {T I M A B : Type 0} {G : Alphabet T I M} {top wide : ℕ} where
   pub deepens_choose : {R : Reader T A} {S : Reader T B} {a : Syntax I M A} {b : Syntax I M B} {test : List T → Bool} → Tells G test R S a b → Deepens G R a top wide → Deepens G S b top wide → Deepens G (choose test R S) (choose_syntax a b) top wide
   deepens_choose {R} {S} {a} {b} {test} D DA DB = record { there = there }
     where
-     there : (q r z text rest : List T) (t : T) (x : A ⊎ B) → choose test R S (q ++ t ∷ r) ≡ Err (Deep (suc (length r))) → Matches G ((choose_syntax a b).print x) text → (choose_syntax a b).Good x → Below G wide ((choose_syntax a b).print x) → Next G ((choose_syntax a b).takes x) rest → text ++ rest ≡ q ++ t ∷ z → OpensAt G top ((choose_syntax a b).print x) (length q)
-     there q r z text rest t x e spells good below next same = go (test (q ++ t ∷ r)) refl e
-      where
-        at_first : R (q ++ t ∷ r) ≡ Err (Deep (suc (length r))) → test (q ++ t ∷ z) ≡ true → (y : A ⊎ B) → Matches G ((choose_syntax a b).print y) text → (choose_syntax a b).Good y → Below G wide ((choose_syntax a b).print y) → Next G ((choose_syntax a b).takes y) rest → OpensAt G top ((choose_syntax a b).print y) (length q)
-        at_first er there (inl y) s0 g0 b0 n0 = DA.there q r z text rest t y er s0 g0 b0 n0 same
-        at_first er there (inr y) s0 g0 b0 n0 = let never : true ≡ false = sym there ∙ (ap test (sym same) ∙ D.second y text rest g0 s0 n0) in absurd cc
+      there : (q r z text rest : List T) (t : T) (x : A ⊎ B) → choose test R S (q ++ t ∷ r) ≡ Err (Deep (suc (length r))) → Matches G ((choose_syntax a b).print x) text → (choose_syntax a b).Good x → Below G wide ((choose_syntax a b).print x) → Next G ((choose_syntax a b).takes x) rest → text ++ rest ≡ q ++ t ∷ z → OpensAt G top ((choose_syntax a b).print x) (length q)
+      there q r z text rest t x e spells good below next same = go (test (q ++ t ∷ r)) refl e
+        where
+          at_first : R (q ++ t ∷ r) ≡ Err (Deep (suc (length r))) → test (q ++ t ∷ z) ≡ true → (y : A ⊎ B) → Matches G ((choose_syntax a b).print y) text → (choose_syntax a b).Good y → Below G wide ((choose_syntax a b).print y) → Next G ((choose_syntax a b).takes y) rest → OpensAt G top ((choose_syntax a b).print y) (length q)
+          at_first er there (inl y) s0 g0 b0 n0 = DA.there q r z text rest t y er s0 g0 b0 n0 same
+          at_first er there (inr y) s0 g0 b0 n0 = let never : true ≡ false = sym there ∙ (ap test (sym same) ∙ D.second y text rest g0 s0 n0) in absurd cc
 
-        at_second : S (q ++ t ∷ r) ≡ Err (Deep (suc (length r))) → test (q ++ t ∷ z) ≡ false → (y : A ⊎ B) → Matches G ((choose_syntax a b).print y) text → (choose_syntax a b).Good y → Below G wide ((choose_syntax a b).print y) → Next G ((choose_syntax a b).takes y) rest → OpensAt G top ((choose_syntax a b).print y) (length q)
-        at_second er there (inr y) s0 g0 b0 n0 = DB.there q r z text rest t y er s0 g0 b0 n0 same
-        at_second er there (inl y) s0 g0 b0 n0 = let never : true ≡ false = sym (D.first y text rest g0 s0 n0) ∙ (ap test same ∙ there) in absurd cc
+          at_second : S (q ++ t ∷ r) ≡ Err (Deep (suc (length r))) → test (q ++ t ∷ z) ≡ false → (y : A ⊎ B) → Matches G ((choose_syntax a b).print y) text → (choose_syntax a b).Good y → Below G wide ((choose_syntax a b).print y) → Next G ((choose_syntax a b).takes y) rest → OpensAt G top ((choose_syntax a b).print y) (length q)
+          at_second er there (inr y) s0 g0 b0 n0 = DB.there q r z text rest t y er s0 g0 b0 n0 same
+          at_second er there (inl y) s0 g0 b0 n0 = let never : true ≡ false = sym (D.first y text rest g0 s0 n0) ∙ (ap test same ∙ there) in absurd cc
 
-        go : (c : Bool) → test (q ++ t ∷ r) ≡ c → choose_on c R S (q ++ t ∷ r) ≡ Err (Deep (suc (length r))) → OpensAt G top ((choose_syntax a b).print x) (length q)
-        go true ec e0 = let er = fault_before (R (q ++ t ∷ r)) (λ y. (inl y.0, y.1)) (Deep (suc (length r))) e0 in at_first er (D.decided q r z t (Deep (suc (length r))) ec er refl) x spells good below next
-        go false ec e0 = let er = fault_before (S (q ++ t ∷ r)) (λ y. (inr y.0, y.1)) (Deep (suc (length r))) e0 in at_second er (D.excluded q r z t (Deep (suc (length r))) ec er refl) x spells good below next
+          go : (c : Bool) → test (q ++ t ∷ r) ≡ c → choose_on c R S (q ++ t ∷ r) ≡ Err (Deep (suc (length r))) → OpensAt G top ((choose_syntax a b).print x) (length q)
+          go true ec e0 = let er = fault_before (R (q ++ t ∷ r)) (λ y. (inl y.0, y.1)) (Deep (suc (length r))) e0 in at_first er (D.decided q r z t (Deep (suc (length r))) ec er refl) x spells good below next
+          go false ec e0 = let er = fault_before (S (q ++ t ∷ r)) (λ y. (inr y.0, y.1)) (Deep (suc (length r))) e0 in at_second er (D.excluded q r z t (Deep (suc (length r))) ec er refl) x spells good below next
 
 module _ {T I M B : Type 0} {G : Alphabet T I M} {top wide : ℕ} where
   pub deepens_optional : {set : M → Bool} {its : List I} {cut : List T → Option (List T)} {S : Reader T B} {b : Syntax I M B} → (O : Opener G set its cut S b top) → ((ts rest : List T) → cut ts ≡ Some rest → Law G S b top) → Deepens G S b top wide → Deepens G (optional cut S) (optional_syntax set its b) top wide
   deepens_optional {set} {its} {cut} {S} {b} O LB DB = record { there = there }
     where
-     there : (q r z text rest : List T) (t : T) (x : Option B) → optional cut S (q ++ t ∷ r) ≡ Err (Deep (suc (length r))) → Matches G ((optional_syntax set its b).print x) text → (optional_syntax set its b).Good x → Below G wide ((optional_syntax set its b).print x) → Next G ((optional_syntax set its b).takes x) rest → text ++ rest ≡ q ++ t ∷ z → OpensAt G top ((optional_syntax set its b).print x) (length q)
-     there q r z text rest t None e spells good below next same =
-        let here : rest ≡ q ++ t ∷ z = sym (ap (λ (y : List T). y ++ rest) (matches_nothing G text spells)) ∙ same in
-        let never : true ≡ false = sym (optional_decided O LB q r z t (Deep (suc (length r))) e refl) ∙ (sym (ap (begins G set) here) ∙ next) in
-        absurd cc
-     there q r z text rest t (Some y) e spells good below next same =
-        let w = matches_split G its (b.print y) text spells in
-        let k = still O LB q r z t (Deep (suc (length r))) e refl in
-        let parts : q ++ t ∷ z ≡ w.0 ++ (w.1 ++ rest) = sym same ∙ ap (λ (u : List T). u ++ rest) w.2 ∙ append_assoc w.0 w.1 rest in
-        let back : w.1 ++ rest ≡ k.0 ++ t ∷ z = some_is O LB (w.1 ++ rest) (k.0 ++ t ∷ z) (cut (q ++ t ∷ z)) (ap cut parts ∙ O.reads y w.0 w.1 rest good w.3 w.4) k.2 in
-        let sizes : length q + length (t ∷ z) ≡ length w.0 + (length w.1 + length rest) = omega (arith, ap length parts, length-append q (t ∷ z), length-append w.0 (w.1 ++ rest), length-append w.1 rest) in
-        opens_right G top its (b.print y) (length k.0) (length q) O.low (omega (arith, sizes, ap length back, length-append w.1 rest, length-append k.0 (t ∷ z), matches_length G its w.0 w.3))
-        (DB.there k.0 r z w.1 rest t y k.1 w.4 good (below_right G wide its (b.print y) below) next back)
+      there : (q r z text rest : List T) (t : T) (x : Option B) → optional cut S (q ++ t ∷ r) ≡ Err (Deep (suc (length r))) → Matches G ((optional_syntax set its b).print x) text → (optional_syntax set its b).Good x → Below G wide ((optional_syntax set its b).print x) → Next G ((optional_syntax set its b).takes x) rest → text ++ rest ≡ q ++ t ∷ z → OpensAt G top ((optional_syntax set its b).print x) (length q)
+      there q r z text rest t None e spells good below next same =
+          let here : rest ≡ q ++ t ∷ z = sym (ap (λ (y : List T). y ++ rest) (matches_nothing G text spells)) ∙ same in
+          let never : true ≡ false = sym (optional_decided O LB q r z t (Deep (suc (length r))) e refl) ∙ (sym (ap (begins G set) here) ∙ next) in
+          absurd cc
+      there q r z text rest t (Some y) e spells good below next same =
+          let w = matches_split G its (b.print y) text spells in
+          let k = still O LB q r z t (Deep (suc (length r))) e refl in
+          let parts : q ++ t ∷ z ≡ w.0 ++ (w.1 ++ rest) = sym same ∙ ap (λ (u : List T). u ++ rest) w.2 ∙ append_assoc w.0 w.1 rest in
+          let back : w.1 ++ rest ≡ k.0 ++ t ∷ z = some_is O LB (w.1 ++ rest) (k.0 ++ t ∷ z) (cut (q ++ t ∷ z)) (ap cut parts ∙ O.reads y w.0 w.1 rest good w.3 w.4) k.2 in
+          let sizes : length q + length (t ∷ z) ≡ length w.0 + (length w.1 + length rest) = omega (arith, ap length parts, length-append q (t ∷ z), length-append w.0 (w.1 ++ rest), length-append w.1 rest) in
+          opens_right G top its (b.print y) (length k.0) (length q) O.low (omega (arith, sizes, ap length back, length-append w.1 rest, length-append k.0 (t ∷ z), matches_length G its w.0 w.3))
+          (DB.there k.0 r z w.1 rest t y k.1 w.4 good (below_right G wide its (b.print y) below) next back)
 
   -- what has to stand
   pub deepens_need : {S : Reader T B} {b : Syntax I M B} (test : List T → Bool) (goes : T → Bool) → Deepens G S b top wide → Deepens G (need test S goes) b top wide
   deepens_need {S} {b} test goes DB = record { there = there }
     where
-     there : (q r z text rest : List T) (t : T) (y : B) → need test S goes (q ++ t ∷ r) ≡ Err (Deep (suc (length r))) → Matches G (b.print y) text → b.Good y → Below G wide (b.print y) → Next G (b.takes y) rest → text ++ rest ≡ q ++ t ∷ z → OpensAt G top (b.print y) (length q)
-     there q r z text rest t y e spells good below next same = go (test (q ++ t ∷ r)) e
-      where
-        not_deep : (ts : List T) → missing {B = B} goes ts ≡ Err (Deep (suc (length r))) → ⊥
-        not_deep [] e0 = cc
-        not_deep (u ∷ us) e0 = cc
+      there : (q r z text rest : List T) (t : T) (y : B) → need test S goes (q ++ t ∷ r) ≡ Err (Deep (suc (length r))) → Matches G (b.print y) text → b.Good y → Below G wide (b.print y) → Next G (b.takes y) rest → text ++ rest ≡ q ++ t ∷ z → OpensAt G top (b.print y) (length q)
+      there q r z text rest t y e spells good below next same = go (test (q ++ t ∷ r)) e
+        where
+          not_deep : (ts : List T) → missing {B = B} goes ts ≡ Err (Deep (suc (length r))) → ⊥
+          not_deep [] e0 = cc
+          not_deep (u ∷ us) e0 = cc
 
-        go : (c : Bool) → need_on c S goes (q ++ t ∷ r) ≡ Err (Deep (suc (length r))) → OpensAt G top (b.print y) (length q)
-        go true e0 = DB.there q r z text rest t y e0 spells good below next same
-        go false e0 = absurd (not_deep (q ++ t ∷ r) e0)
+          go : (c : Bool) → need_on c S goes (q ++ t ∷ r) ≡ Err (Deep (suc (length r))) → OpensAt G top (b.print y) (length q)
+          go true e0 = DB.there q r z text rest t y e0 spells good below next same
+          go false e0 = absurd (not_deep (q ++ t ∷ r) e0)
 
   -- where there is no room
   pub deepens_full : {b : Syntax I M B} {opens : List T → Bool} → NoRoom G b top opens → Deepens G (full opens) b top wide
   deepens_full {b} {opens} O = record { there = λ q r z text rest t y e spells good below next same. there q r t y e good }
     where
-     there : (q r : List T) (t : T) (y : B) → full {A = B} opens (q ++ t ∷ r) ≡ Err (Deep (suc (length r))) → b.Good y → OpensAt G top (b.print y) (length q)
-     there q r t y e good = go (opens (q ++ t ∷ r)) e
-      where
-        at_once : length q ≡ 0 → OpensAt G top (b.print y) (length q)
-        at_once le =
-            let w = O.first y good in
-            subst (λ (is : List I). OpensAt G top is (length q)) (sym w.2) (subst (λ (n : ℕ). OpensAt G top (w.0 ∷ w.1) n) (sym le) (opens_first G top w.0 w.1 w.3))
+      there : (q r : List T) (t : T) (y : B) → full {A = B} opens (q ++ t ∷ r) ≡ Err (Deep (suc (length r))) → b.Good y → OpensAt G top (b.print y) (length q)
+      there q r t y e good = go (opens (q ++ t ∷ r)) e
+        where
+          at_once : length q ≡ 0 → OpensAt G top (b.print y) (length q)
+          at_once le =
+              let w = O.first y good in
+              subst (λ (is : List I). OpensAt G top is (length q)) (sym w.2) (subst (λ (n : ℕ). OpensAt G top (w.0 ∷ w.1) n) (sym le) (opens_first G top w.0 w.1 w.3))
 
-        go : (c : Bool) → full_on {A = B} c (q ++ t ∷ r) ≡ Err (Deep (suc (length r))) → OpensAt G top (b.print y) (length q)
-        go true e0 =
-            let at : Deep (length (q ++ t ∷ r)) ≡ Deep (suc (length r)) = fault_is {A = B × List T} (Deep (length (q ++ t ∷ r))) (Deep (suc (length r))) e0 in
-            at_once (omega (arith, ap left_of at, length-append q (t ∷ r)))
-        go false e0 = let at : Stop (length (q ++ t ∷ r)) ≡ Deep (suc (length r)) = fault_is {A = B × List T} (Stop (length (q ++ t ∷ r))) (Deep (suc (length r))) e0 in absurd cc
+          go : (c : Bool) → full_on {A = B} c (q ++ t ∷ r) ≡ Err (Deep (suc (length r))) → OpensAt G top (b.print y) (length q)
+          go true e0 =
+              let at : Deep (length (q ++ t ∷ r)) ≡ Deep (suc (length r)) = fault_is {A = B × List T} (Deep (length (q ++ t ∷ r))) (Deep (suc (length r))) e0 in
+              at_once (omega (arith, ap left_of at, length-append q (t ∷ r)))
+          go false e0 = let at : Stop (length (q ++ t ∷ r)) ≡ Deep (suc (length r)) = fault_is {A = B × List T} (Stop (length (q ++ t ∷ r))) (Deep (suc (length r))) e0 in absurd cc
 
 -- only where a condition holds
 deepens_when : {T I M B : Type 0} {G : Alphabet T I M} {S : Reader T B} {b : Syntax I M B} {top wide : ℕ} → Deepens G S b top wide → (Holds : Type 0) → Deepens G S (when Holds b) top wide
@@ -180,10 +180,13 @@ module _ {T I M A : Type 0} {G : Alphabet T I M} {R R' : Reader T A} {a : Syntax
   deepens_tail m alike tails DB = deepens_follow le LA WA (tail_joint LA m alike tails) DA DB
 
   pub deepens_opt : {B : Type 0} {S : Reader T B} {b : Syntax I M B} (may : A → Bool) (set : M → Bool) (m : M) → ((x : A) (p : M) → a.Good x → set p ≡ true → a.takes x p ≡ a.takes x m) → Starts G set S b → Law G S b top → Deepens G S b top wide → Deepens G (opt R (λ x ts. may x && begins G set ts) S) (opt_syntax a may set m b) top wide
-  deepens_opt {S} {b} may set m alike St LB DB = deepens_tail m (λ x p good e. alike x p good (both_true (may x) (set p) e).1) (λ x. opt_tail LB may set St x) (λ x good. deepens_optional (opener_here St (may x) top) (opt_laws LB may set St x) (deepens_when DB (may x ≡ true)))
+  deepens_opt {S} {b} may set m alike St LB DB = deepens_tail m (λ x p good e. alike x p good (both_true (may x) (set p) e).1) (λ x. opt_tail LB may set St x) (λ x good. deepens_optional (opt_opener LB may set St x) (opt_laws LB may set St x) (deepens_when DB (may x ≡ true)))
 
   pub deepens_phrase : {B : Type 0} {S : Reader T B} {b : Syntax I M B} {set : M → Bool} {its : List I} {cut : List T → Option (List T)} → Opening G set its cut → Below G top its → (m : M) → ((x : A) (p : M) → a.Good x → set p ≡ true → a.takes x p ≡ a.takes x m) → Law G S b top → Deepens G S b top wide → Deepens G (with_phrase R cut S) (phrase_syntax a set m its b) top wide
   deepens_phrase {S} {b} O low m alike LB DB = deepens_tail m alike (λ x. optional_tail (opener_of O S b top low) (λ ts rest e. LB)) (λ x good. deepens_optional (opener_of O S b top low) (λ ts rest e. LB) DB)
+
+  pub deepens_plain : {B : Type 0} {S : Reader T B} {b : Syntax I M B} (set : M → Bool) (m : M) → ((x : A) (p : M) → a.Good x → set p ≡ true → a.takes x p ≡ a.takes x m) → Starts G set S b → Law G S b top → Deepens G S b top wide → Deepens G (with_phrase R (here_if (begins G set)) S) (phrase_syntax a set m [] b) top wide
+  deepens_plain set m alike St LB DB = deepens_tail m alike (λ x. optional_tail (opener_here St true (λ y good. refl) top) (λ ts rest e. LB)) (λ x good. deepens_optional (opener_here St true (λ y g. refl) top) (λ ts rest e. LB) DB)
 
   pub deepens_must : {B : Type 0} {S : Reader T B} {b : Syntax I M B} {goes : A → T → Bool} {test : List T → Bool} → (LB : Law G S b top) (E : Ends G a top goes test) (all : (y : B) (text rest : List T) → b.Good y → Matches G (b.print y) text → test (text ++ rest) ≡ true) (one : (t : T) (y z : List T) → test (t ∷ y) ≡ test (t ∷ z)) → Deepens G S b top wide → Deepens G (must R goes test S) (seq_syntax a b) top wide
   deepens_must {S} {b} {goes} {test} LB E all one DB = deepens_follow le LA WA (must_joint LA LB E all one) DA (λ x good. deepens_need test (goes x) DB)

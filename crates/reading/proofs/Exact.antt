@@ -1,11 +1,11 @@
 -- With wider readers at hand: what a refusal says of trees of any depth.
-use Rattle.std.proofs.Common.{◌≡◌, ℕ, zero, suc, ◌+◌, ◌≤◌, ◌<◌, ◌⊎◌, inl, inr, ⊎_elim, List, [], ◌∷◌, ◌++◌, length, length-append, Result, Ok, Err, refl, sym, ap, subst, ◌∙◌, append_assoc, arith}
+use Rattle.std.proofs.Common.{◌≡◌, ℕ, zero, suc, ◌+◌, ◌≤◌, ◌⊎◌, inl, inr, ⊎_elim, List, [], ◌∷◌, ◌++◌, length, length-append, Result, Ok, Err, refl, sym, ap, subst, ◌∙◌, append_assoc, arith}
 use Rattle.std.proofs.lemmas.List.{append-nil}
 use Rattle.std.proofs.lemmas.Bool.{cases_lt}
-use Rattle.reading.specs.Readers.{Fault, Stop, Deep, left_of, Reader}
+use Rattle.reading.specs.Readers.{Fault, Stop, Deep, Reader}
 use Rattle.reading.specs.Printing.{Alphabet, Matches, Below, Opens}
 use Rattle.reading.specs.Law.{Syntax, Law, Read, OpensAt, Fails, Deepens, Agree, Agrees}
-use Rattle.reading.proofs.Results.{behind_front, cut_at, ok_fails}
+use Rattle.reading.proofs.Results.{behind_front, cut_at}
 use Rattle.reading.proofs.Texts.{matches_join, matches_length}
 use Rattle.reading.proofs.Opens.{below_wider, never_below, not_later, one_place}
 use Rattle.reading.proofs.Consequences.{one_tree, none_goes_on}
@@ -110,9 +110,9 @@ module _ {T I M A : Type 0} {G : Alphabet T I M} {s : Syntax I M A} (top : ℕ) 
             go (Err (Stop n)) e = ⊎_elim
                 (λ long. absurd (shallow v h.read h.left h.tree h.before h.after h.parts (omega (arith, long)) h.good h.text h.spells h.below))
                 (λ short.
-                    let w = behind_front u v more h.read h.left t h.parts (omega (arith, short)) in
-                    let at : n ≡ suc (length w.1) = sym h.at ∙ ap length w.3 in
-                    absurd (none_of_any h.read w.1 w.2 w.0 a (ap r (sym (h.parts ∙ ap (λ (z : List T). h.read ++ z) w.3)) ∙ e ∙ ap (λ (k : ℕ). Err (Stop k)) at) (subst (Matches G (s.print a)) w.4 spells) good))
+                let w = behind_front u v more h.read h.left t h.parts (omega (arith, short)) in
+                let at : n ≡ suc (length w.1) = sym h.at ∙ ap length w.3 in
+                absurd (none_of_any h.read w.1 w.2 w.0 a (ap r (sym (h.parts ∙ ap (λ (z : List T). h.read ++ z) w.3)) ∙ e ∙ ap (λ (k : ℕ). Err (Stop k)) at) (subst (Matches G (s.print a)) w.4 spells) good))
                 (cases_lt (length u) (length h.read))
               where
                 h : Fails G s top (u ++ t ∷ v) (Stop n)
@@ -120,11 +120,11 @@ module _ {T I M A : Type 0} {G : Alphabet T I M} {s : Syntax I M A} (top : ℕ) 
             go (Err (Deep n)) e = ⊎_elim
                 (λ long. absurd (shallow v h.read h.left h.tree h.before h.after h.parts (omega (arith, long)) h.good h.text h.spells h.below))
                 (λ short.
-                    let w = behind_front u v more h.read h.left t h.parts (omega (arith, short)) in
-                    let at : n ≡ suc (length w.1) = sym h.at.0 ∙ ap length w.3 in
-                    let place = same_place (u ++ t ∷ v) h.read w.1 w.2 w.0 (ap r (sym (h.parts ∙ ap (λ (z : List T). h.read ++ z) w.3)) ∙ e ∙ ap (λ (k : ℕ). Err (Deep k)) at) w.4 in
-                    let count : n ≡ suc (length v) = omega (arith, at, place, ap length h.parts, ap length w.3, length-append u (t ∷ v), length-append h.read h.left) in
-                    inl (e ∙ ap (λ (k : ℕ). Err (Deep k)) count))
+                let w = behind_front u v more h.read h.left t h.parts (omega (arith, short)) in
+                let at : n ≡ suc (length w.1) = sym h.at.0 ∙ ap length w.3 in
+                let place = same_place (u ++ t ∷ v) h.read w.1 w.2 w.0 (ap r (sym (h.parts ∙ ap (λ (z : List T). h.read ++ z) w.3)) ∙ e ∙ ap (λ (k : ℕ). Err (Deep k)) at) w.4 in
+                let count : n ≡ suc (length v) = omega (arith, at, place, ap length h.parts, ap length w.3, length-append u (t ∷ v), length-append h.read h.left) in
+                inl (e ∙ ap (λ (k : ℕ). Err (Deep k)) count))
                 (cases_lt (length u) (length h.read))
               where
                 h : Fails G s top (u ++ t ∷ v) (Deep n)

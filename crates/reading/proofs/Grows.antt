@@ -3,7 +3,7 @@
 use Rattle.std.proofs.Common.{◌≡◌, ℕ, ◌<◌, ◌⊎◌, inl, inr, ⊎_elim, Bool, true, false, ◌||◌, ◌&&◌, List, [], ◌∷◌, ◌++◌, Option, Some, None, is_some, refl, sym, ap, subst, ◌∙◌, append_assoc}
 use Rattle.std.proofs.lemmas.List.{append-nil}
 use Rattle.reading.specs.Readers.{no_step}
-use Rattle.reading.specs.Printing.{Front, Here, Ahead, Alphabet, Below, on_mark, begins, any_of, goes_by, goes_on, Next}
+use Rattle.reading.specs.Printing.{Ahead, Alphabet, Below, on_mark}
 use Rattle.reading.specs.Law.{Syntax}
 use Rattle.reading.proofs.Texts.{Always, both_true, below_left, below_right}
 use Rattle.reading.proofs.Dependent.{dependent_syntax}
@@ -11,11 +11,11 @@ use Rattle.reading.proofs.Lead.{lead_syntax}
 use Rattle.reading.proofs.Seen.{View}
 use Rattle.reading.proofs.Starts.{OneToken}
 use Rattle.reading.proofs.Optional.{optional_syntax}
-use Rattle.reading.proofs.Tail.{Apart, apart, onward, tail_good, tail_syntax}
+use Rattle.reading.proofs.Tail.{Apart, apart, onward, tail_syntax}
 use Rattle.reading.proofs.Opt.{when, opt_syntax, phrase_syntax}
 use Rattle.reading.proofs.Plus.{plus_syntax, link_syntax, chain_syntax}
 use Rattle.reading.proofs.Choose.{choose_syntax}
-use Rattle.reading.proofs.Many.{is_given, many_good, many_print, many_takes, many_from_syntax, many_syntax}
+use Rattle.reading.proofs.Many.{is_given, many_print, many_from_syntax, many_syntax}
 
 or_cases : (c d : Bool) → (c || d) ≡ true → (c ≡ true) ⊎ ((c ≡ false) × (d ≡ true))
 or_cases true d e = inl refl
