@@ -14,6 +14,7 @@ use Rattle.reading.proofs.Seen.{View}
 use Rattle.reading.proofs.Optional.{Opener, optional_syntax, optional_decided, still, some_is}
 use Rattle.reading.proofs.Choose.{choose_syntax, Tells}
 use Rattle.reading.proofs.Full.{NoRoom}
+use Rattle.reading.proofs.Apart.{apart_joint}
 use Rattle.reading.proofs.Starts.{OneToken, Starts}
 use Rattle.reading.proofs.Tail.{Tail, tail_syntax, tail_joint}
 use Rattle.reading.proofs.Many.{many_syntax, many_tail, many_from_deepens}
@@ -175,6 +176,9 @@ module _ {T I M A : Type 0} {G : Alphabet T I M} {R R' : Reader T A} {a : Syntax
 
   pub deepens_seq : {B : Type 0} (ends : (x : A) (p : M) → a.Good x → a.takes x p ≡ false) {S : Reader T B} {b : Syntax I M B} → Law G S b top → Deepens G S b top wide → Deepens G (seq R S) (seq_syntax a b) top wide
   deepens_seq ends {S} {b} LB DB = deepens_dependent ends (λ x. S) (λ x. b) (λ x good. LB) (λ x good. DB)
+
+  pub deepens_apart : {B : Type 0} (one : (x : A) → OneToken G (a.takes x)) (S : A → Reader T B) (b : A → Syntax I M B) (LB : (x : A) → a.Good x → Law G (S x) (b x) top) (apart : (x : A) (y : B) (text rest : List T) → a.Good x → (b x).Good y → Matches G ((b x).print y) text → Next G (a.takes x) (text ++ rest)) → ((x : A) → a.Good x → Deepens G (S x) (b x) top wide) → Deepens G (follow R S) (dependent_syntax a b) top wide
+  deepens_apart one S b LB apart DB = deepens_follow le LA WA (apart_joint LA one S b LB apart) DA DB
 
   pub deepens_tail : {B : Type 0} {S : A → Reader T B} {b : A → Syntax I M B} {set : A → M → Bool} {given : B → Bool} (m : M) (alike : (x : A) (p : M) → a.Good x → set x p ≡ true → a.takes x p ≡ a.takes x m) → ((x : A) → Tail G (set x) given (S x) (b x) top) → ((x : A) → a.Good x → Deepens G (S x) (b x) top wide) → Deepens G (follow R S) (tail_syntax a b given m) top wide
   deepens_tail m alike tails DB = deepens_follow le LA WA (tail_joint LA m alike tails) DA DB
