@@ -1,8 +1,8 @@
 -- The law of brackets, put together from the laws of their parts.
-use Rattle.std.proofs.Common.{◌≡◌, ℕ, zero, suc, ◌+◌, ◌-◌, ◌≤◌, ◌<◌, ◌⊎◌, inl, inr, Bool, true, false, List, [], ◌∷◌, ◌++◌, length, Option, Some, None, Ok, Err, refl, sym, ap, subst, ◌∙◌, arith}
-use Rattle.reading.specs.Readers.{Fault, Stop, Deep, Reader, lead, seq, seen, many, closed, stands, full, whole}
-use Rattle.reading.specs.Printing.{Front, Here, Ahead, Alphabet, Matches, Below, begins, Next}
-use Rattle.reading.specs.Law.{Syntax, Law, OpensAt, Deepens, Agree, Agrees}
+use Rattle.std.proofs.Common.{◌≡◌, ℕ, zero, suc, ◌+◌, ◌≤◌, ◌<◌, inr, Bool, true, false, List, [], ◌∷◌, ◌++◌, length, Some, Err, refl, sym, ap, arith}
+use Rattle.reading.specs.Readers.{Stop, Deep, Reader, lead, seq, seen, many, closed, stands, whole}
+use Rattle.reading.specs.Printing.{Here, Ahead, Matches, begins, Next}
+use Rattle.reading.specs.Law.{Syntax, Law, OpensAt, Deepens, Agrees}
 use Rattle.reading.specs.Brackets.{Bracket, Open, Close, Tree, Node, Trees, none, and_more, mark_of, brackets, print, print_all, tree_syntax, close_of, trees_of, node, goes_no_further, tree_in}
 use Rattle.reading.proofs.Texts.{Always}
 use Rattle.reading.proofs.Dependent.{seq_syntax, seq_law}

@@ -1,8 +1,9 @@
 -- One of two, by what stands first.
-use Rattle.std.proofs.Common.{◌≡◌, ℕ, suc, ◌⊎◌, inl, inr, Bool, true, false, List, ◌∷◌, ◌++◌, length, Ok, Err, refl, sym, ap, subst, ◌∙◌}
+use Rattle.std.proofs.Common.{◌≡◌, ℕ, suc, ◌⊎◌, inl, inr, Bool, true, false, List, [], ◌∷◌, ◌++◌, length, Ok, Err, refl, sym, ap, subst, ◌∙◌}
 use Rattle.reading.specs.Readers.{left_of, Fault, Stop, Reader, choose_on, choose}
-use Rattle.reading.specs.Printing.{Alphabet, Matches, Below, Next}
+use Rattle.reading.specs.Printing.{begins, Alphabet, Matches, Below, Next}
 use Rattle.reading.specs.Law.{Syntax, Read, Fails, Law}
+use Rattle.reading.proofs.Starts.{Begins, OneToken, one_decides}
 use Rattle.reading.proofs.Results.{bind_ok, ok_is, fault_before}
 
 module _ {I M A B : Type 0} (a : Syntax I M A) (b : Syntax I M B) where
@@ -27,6 +28,15 @@ pub record Tells {T I M A B : Type 0} (G : Alphabet T I M) (test : List T → Bo
   pub second : (y : B) (text rest : List T) → b.Good y → Matches G (b.print y) text → Next G (b.takes y) rest → test (text ++ rest) ≡ false
   pub decided : (q r z : List T) (t : T) (d : Fault) → test (q ++ t ∷ r) ≡ true → R (q ++ t ∷ r) ≡ Err d → left_of d ≡ suc (length r) → test (q ++ t ∷ z) ≡ true
   pub excluded : (q r z : List T) (t : T) (d : Fault) → test (q ++ t ∷ r) ≡ false → S (q ++ t ∷ r) ≡ Err d → left_of d ≡ suc (length r) → test (q ++ t ∷ z) ≡ false
+
+-- where a mark that one token decides tells them apart
+pub tells_by_one : {T I M A B : Type 0} {G : Alphabet T I M} {R : Reader T A} {S : Reader T B} {a : Syntax I M A} {b : Syntax I M B} (set : M → Bool) → OneToken G set → Begins G set a
+    → ((y : B) (text rest : List T) → b.Good y → Matches G (b.print y) text → Next G (b.takes y) rest → begins G set (text ++ rest) ≡ false) → Tells G (begins G set) R S a b
+tells_by_one {T} {I} {M} {A} {B} {G} {R} {S} {a} {b} set one all none = record { first = λ x text rest good spells next. all x text rest good spells; second = none; decided = λ q r z t d e stop at. moved q r z t ∙ e; excluded = λ q r z t d e stop at. moved q r z t ∙ e }
+  where
+    moved : (q r z : List T) (t : T) → begins G set (q ++ t ∷ z) ≡ begins G set (q ++ t ∷ r)
+    moved [] r z t = one_decides G set one t z r
+    moved (u ∷ q) r z t = one_decides G set one u (q ++ t ∷ z) (q ++ t ∷ r)
 
 module _ {T I M A B : Type 0} {G : Alphabet T I M} {R : Reader T A} {S : Reader T B} {a : Syntax I M A} {b : Syntax I M B} {top : ℕ} {test : List T → Bool} (LA : Law G R a top) (LB : Law G S b top) (D : Tells G test R S a b) where
   abbrev syntax : Syntax I M (A ⊎ B)

@@ -1,14 +1,15 @@
 -- Clauses in any order, each kind at most once.
-use Rattle.std.proofs.Common.{◌≡◌, ℕ, suc, ◌<◌, Bool, true, false, List, [], ◌∷◌, ◌++◌, length, Option, Some, None, is_some, Err, refl, sym, ap, subst, ◌∙◌}
-use Rattle.reading.specs.Readers.{left_of, Fault, Stop, Reader, branch, many_from, among, unless_on, fresh_on, fresh, stands, with_kind, clauses}
+use Rattle.std.proofs.Common.{◌≡◌, ℕ, suc, ◌<◌, ◌≤◌, Bool, true, false, List, [], ◌∷◌, ◌++◌, length, Option, Some, None, is_some, Err, refl, sym, ap, subst, ◌∙◌, arith}
+use Rattle.reading.specs.Readers.{left_of, Fault, Reader, branch, many_from, among, unless_on, fresh_on, fresh, stands, with_kind, clauses}
 use Rattle.reading.specs.Printing.{Alphabet, Matches, peek, on_mark, begins}
-use Rattle.reading.specs.Law.{Syntax, Law}
+use Rattle.reading.specs.Law.{Syntax, Law, Deepens}
 use Rattle.reading.proofs.Texts.{Always}
 use Rattle.reading.proofs.Dependent.{dependent_syntax}
 use Rattle.reading.proofs.Lead.{Class, lead_syntax, branch_law}
 use Rattle.reading.proofs.Starts.{Starts}
 use Rattle.reading.proofs.Tail.{Tail}
-use Rattle.reading.proofs.Many.{is_given, many_from_syntax, many_from_law, many_from_tail}
+use Rattle.reading.proofs.Many.{is_given, many_from_syntax, many_from_law, many_from_tail, many_from_deepens}
+use Rattle.reading.proofs.Deeper.{deepens_branch}
 
 -- the kind of clause that a mark begins
 abbrev pub kind_at : {M K : Type 0} → (M → Option K) → Option M → Option K
@@ -98,3 +99,18 @@ module _ {T I M K C : Type 0} {G : Alphabet T I M} {class : T → Option K} {ite
 
   pub clauses_tail : Tail G (takes_fresh same kind []) is_given (clauses same class clause) (clauses_syntax same kind item c m) top
   clauses_tail = subst (λ (test : List K → List T → Bool). Tail G (takes_fresh same kind []) is_given (by_test test) (clauses_syntax same kind item c m) top) tests (many_from_tail (takes_fresh same kind) with_kind m alike_clause starts clause_law [])
+
+  -- where there is too little room in one
+  module _ (wide : ℕ) (le : top ≤ wide) (clause' : K → Reader T C) (WC : (k : K) → Law G (clause' k) (c k) wide) (DC : (k : K) → Deepens G (clause k) (c k) top wide) where
+    wide_law : (kinds : List K) (ts : List T) → begins G (takes_fresh same kind kinds) ts ≡ true → Law G (branch (fresh same class kinds) clause') (clause_syntax same kind item c m kinds) wide
+    wide_law kinds ts b =
+        let k = one_left kinds ts (here kinds ts ∙ b) in
+        branch_law (fresh_class kinds) wide (λ j allowed. omega (arith, low j)) k.0 k.1 clause' c (λ j allowed. WC j)
+
+    clause_deepens : (kinds : List K) (ts : List T) → begins G (takes_fresh same kind kinds) ts ≡ true → Deepens G (branch (fresh same class kinds) clause) (clause_syntax same kind item c m kinds) top wide
+    clause_deepens kinds ts b =
+        let k = one_left kinds ts (here kinds ts ∙ b) in
+        deepens_branch (fresh_class kinds) le (λ j allowed. low j) k.0 k.1 clause c (λ j allowed. LC j) (λ j allowed. DC j)
+
+    pub deepens_clauses : Deepens G (clauses same class clause) (clauses_syntax same kind item c m) top wide
+    deepens_clauses = subst (λ (test : List K → List T → Bool). Deepens G (by_test test) (clauses_syntax same kind item c m) top wide) tests (many_from_deepens (takes_fresh same kind) with_kind m alike_clause starts clause_law wide le wide_law clause_deepens [])

@@ -1,24 +1,25 @@
 -- Where there is too little room: each tree whose text goes on with the token opens one too many there, and none before.
-use Rattle.std.proofs.Common.{◌≡◌, ℕ, suc, ◌≤◌, ◌<◌, ◌+◌, ⊎_elim, ◌⊎◌, inl, inr, Bool, true, false, ◌&&◌, List, [], ◌∷◌, ◌++◌, length, length-append, Option, Some, None, is_some, Result, Ok, Err, refl, sym, ap, subst, ◌∙◌, append_assoc, arith}
-use Rattle.reading.specs.Readers.{left_of, Fault, Stop, Deep, Reader, ◌>>=◌, nothing, lead_as, lead, follow, seq, branch, seen, choose_on, choose, optional, opt, with_phrase, here_if, no_step, many, plus, missing, need_on, need, must, closed, stands, fresh, clauses, full_on, full}
+use Rattle.std.proofs.Common.{◌≡◌, ℕ, suc, ◌≤◌, ◌<◌, ◌+◌, ⊎_elim, ◌⊎◌, inl, inr, Bool, true, false, ◌&&◌, List, [], ◌∷◌, ◌++◌, length, length-append, Option, Some, None, Result, Ok, Err, refl, sym, ap, subst, ◌∙◌, append_assoc, arith}
+use Rattle.reading.specs.Readers.{left_of, Fault, Stop, Deep, Reader, ◌>>=◌, nothing, lead_as, lead, follow, seq, branch, seen, choose_on, choose, optional, opt, with_phrase, here_if, no_step, many, plus, chain, missing, need_on, need, must, closed, stands, full_on, full}
 use Rattle.reading.specs.Printing.{Alphabet, Matches, Below, begins, Next}
 use Rattle.reading.specs.Law.{Syntax, Law, OpensAt, Deepens}
 use Rattle.reading.proofs.Results.{bind_err, ok_fails, fault_is, fault_before, cut_at}
-use Rattle.reading.proofs.Texts.{both_true, next_same, matches_nothing, matches_split, matches_length, below_left, below_right}
+use Rattle.reading.proofs.Texts.{Always, both_true, next_same, matches_nothing, matches_split, matches_length, below_left, below_right}
 use Rattle.reading.proofs.Opens.{below_wider, opens_first, opens_left, opens_right}
 use Rattle.reading.proofs.Consequences.{first_is}
 use Rattle.reading.proofs.Follow.{Joint, pair}
 use Rattle.reading.proofs.Dependent.{dependent_syntax, seq_syntax, dependent_joint}
-use Rattle.reading.proofs.Lead.{Class, lead_syntax, lead_law, stops}
+use Rattle.reading.proofs.Lead.{Class, lead_syntax, lead_law}
 use Rattle.reading.proofs.Seen.{View}
 use Rattle.reading.proofs.Optional.{Opener, optional_syntax, optional_decided, still, some_is}
 use Rattle.reading.proofs.Choose.{choose_syntax, Tells}
 use Rattle.reading.proofs.Full.{NoRoom}
-use Rattle.reading.proofs.Starts.{Starts}
+use Rattle.reading.proofs.Apart.{apart_joint}
+use Rattle.reading.proofs.Starts.{OneToken, Starts}
 use Rattle.reading.proofs.Tail.{Tail, tail_syntax, tail_joint}
 use Rattle.reading.proofs.Many.{many_syntax, many_tail, many_from_deepens}
-use Rattle.reading.proofs.Plus.{plus_syntax}
-use Rattle.reading.proofs.Opt.{when, optional_tail, opener_here, opt_tail, opt_laws, opt_syntax, Opening, opener_of, phrase_syntax}
+use Rattle.reading.proofs.Plus.{plus_syntax, link_syntax, chain_syntax, link_law, link_alike, link_starts}
+use Rattle.reading.proofs.Opt.{when, optional_tail, opener_here, opt_opener, opt_tail, opt_laws, opt_syntax, Opening, opener_of, phrase_syntax}
 use Rattle.reading.proofs.Must.{Ends, must_joint, closed_all}
 
 module _ {T I M A : Type 0} {G : Alphabet T I M} {r : Reader T A} {s : Syntax I M A} {top wide : ℕ} where
@@ -176,14 +177,20 @@ module _ {T I M A : Type 0} {G : Alphabet T I M} {R R' : Reader T A} {a : Syntax
   pub deepens_seq : {B : Type 0} (ends : (x : A) (p : M) → a.Good x → a.takes x p ≡ false) {S : Reader T B} {b : Syntax I M B} → Law G S b top → Deepens G S b top wide → Deepens G (seq R S) (seq_syntax a b) top wide
   deepens_seq ends {S} {b} LB DB = deepens_dependent ends (λ x. S) (λ x. b) (λ x good. LB) (λ x good. DB)
 
+  pub deepens_apart : {B : Type 0} (one : (x : A) → OneToken G (a.takes x)) (S : A → Reader T B) (b : A → Syntax I M B) (LB : (x : A) → a.Good x → Law G (S x) (b x) top) (apart : (x : A) (y : B) (text rest : List T) → a.Good x → (b x).Good y → Matches G ((b x).print y) text → Next G (a.takes x) (text ++ rest)) → ((x : A) → a.Good x → Deepens G (S x) (b x) top wide) → Deepens G (follow R S) (dependent_syntax a b) top wide
+  deepens_apart one S b LB apart DB = deepens_follow le LA WA (apart_joint LA one S b LB apart) DA DB
+
   pub deepens_tail : {B : Type 0} {S : A → Reader T B} {b : A → Syntax I M B} {set : A → M → Bool} {given : B → Bool} (m : M) (alike : (x : A) (p : M) → a.Good x → set x p ≡ true → a.takes x p ≡ a.takes x m) → ((x : A) → Tail G (set x) given (S x) (b x) top) → ((x : A) → a.Good x → Deepens G (S x) (b x) top wide) → Deepens G (follow R S) (tail_syntax a b given m) top wide
   deepens_tail m alike tails DB = deepens_follow le LA WA (tail_joint LA m alike tails) DA DB
 
   pub deepens_opt : {B : Type 0} {S : Reader T B} {b : Syntax I M B} (may : A → Bool) (set : M → Bool) (m : M) → ((x : A) (p : M) → a.Good x → set p ≡ true → a.takes x p ≡ a.takes x m) → Starts G set S b → Law G S b top → Deepens G S b top wide → Deepens G (opt R (λ x ts. may x && begins G set ts) S) (opt_syntax a may set m b) top wide
-  deepens_opt {S} {b} may set m alike St LB DB = deepens_tail m (λ x p good e. alike x p good (both_true (may x) (set p) e).1) (λ x. opt_tail LB may set St x) (λ x good. deepens_optional (opener_here St (may x) top) (opt_laws LB may set St x) (deepens_when DB (may x ≡ true)))
+  deepens_opt {S} {b} may set m alike St LB DB = deepens_tail m (λ x p good e. alike x p good (both_true (may x) (set p) e).1) (λ x. opt_tail LB may set St x) (λ x good. deepens_optional (opt_opener LB may set St x) (opt_laws LB may set St x) (deepens_when DB (may x ≡ true)))
 
   pub deepens_phrase : {B : Type 0} {S : Reader T B} {b : Syntax I M B} {set : M → Bool} {its : List I} {cut : List T → Option (List T)} → Opening G set its cut → Below G top its → (m : M) → ((x : A) (p : M) → a.Good x → set p ≡ true → a.takes x p ≡ a.takes x m) → Law G S b top → Deepens G S b top wide → Deepens G (with_phrase R cut S) (phrase_syntax a set m its b) top wide
   deepens_phrase {S} {b} O low m alike LB DB = deepens_tail m alike (λ x. optional_tail (opener_of O S b top low) (λ ts rest e. LB)) (λ x good. deepens_optional (opener_of O S b top low) (λ ts rest e. LB) DB)
+
+  pub deepens_plain : {B : Type 0} {S : Reader T B} {b : Syntax I M B} (set : M → Bool) (m : M) → ((x : A) (p : M) → a.Good x → set p ≡ true → a.takes x p ≡ a.takes x m) → Starts G set S b → Law G S b top → Deepens G S b top wide → Deepens G (with_phrase R (here_if (begins G set)) S) (phrase_syntax a set m [] b) top wide
+  deepens_plain set m alike St LB DB = deepens_tail m alike (λ x. optional_tail (opener_here St true (λ y good. refl) top) (λ ts rest e. LB)) (λ x good. deepens_optional (opener_here St true (λ y g. refl) top) (λ ts rest e. LB) DB)
 
   pub deepens_must : {B : Type 0} {S : Reader T B} {b : Syntax I M B} {goes : A → T → Bool} {test : List T → Bool} → (LB : Law G S b top) (E : Ends G a top goes test) (all : (y : B) (text rest : List T) → b.Good y → Matches G (b.print y) text → test (text ++ rest) ≡ true) (one : (t : T) (y z : List T) → test (t ∷ y) ≡ test (t ∷ z)) → Deepens G S b top wide → Deepens G (must R goes test S) (seq_syntax a b) top wide
   deepens_must {S} {b} {goes} {test} LB E all one DB = deepens_follow le LA WA (must_joint LA LB E all one) DA (λ x good. deepens_need test (goes x) DB)
@@ -204,3 +211,18 @@ module _ {T I M A : Type 0} {G : Alphabet T I M} {r r' : Reader T A} {s : Syntax
 
   pub deepens_plus : Starts G set r s → Deepens G (plus (begins G set) r) (plus_syntax set m s) top wide
   deepens_plus St = deepens_tail le L W D m alike (λ x. many_tail L set m alike St) (λ x good. deepens_many St)
+
+module _ {T I M A : Type 0} {G : Alphabet T I M} {r r' : Reader T A} {s : Syntax I M A} {top wide : ℕ} (le : top ≤ wide) (L : Law G r s top) (W : Law G r' s wide) (D : Deepens G r s top wide) (set : M → Bool) (m : M) (alike : (x : A) (p : M) → s.Good x → set p ≡ true → s.takes x p ≡ s.takes x m)
+    {K : Type 0} {class : T → Option K} {item : K → I} (C : Class G class Always item) (low : (x : K) → G.depth (item x) < top) (some : K) (one : OneToken G set) (tells : (x : K) (t : T) (ts : List T) → G.Fits (item x) t → begins G set (t ∷ ts) ≡ true) where
+  links : Deepens G (branch class (λ x. r)) (link_syntax set m item s) top wide
+  links = deepens_branch C le (λ x good. low x) some tt (λ x. r) (λ x. s) (λ x good. L) (λ x good. D)
+
+  wide_links : Law G (branch class (λ x. r')) (link_syntax set m item s) wide
+  wide_links = link_law W set m alike C (λ x. low_wide C le (λ y good. low y) some tt x tt) some
+
+  pub deepens_chain : Deepens G (chain (begins G set) class r) (chain_syntax set m item s) top wide
+  deepens_chain = deepens_tail le L W D m alike (λ x. many_tail (link_law L set m alike C low some) set m (link_alike L set m alike C low some one tells) (link_starts L set m alike C low some one tells))
+      (λ x good. many_of_links)
+    where
+      many_of_links : Deepens G (many (begins G set) (branch class (λ x. r))) (many_syntax set (link_syntax set m item s) m) top wide
+      many_of_links = deepens_many le (link_law L set m alike C low some) wide_links links set m (link_alike L set m alike C low some one tells) (link_starts L set m alike C low some one tells)

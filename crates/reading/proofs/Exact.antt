@@ -1,11 +1,11 @@
 -- With wider readers at hand: what a refusal says of trees of any depth.
-use Rattle.std.proofs.Common.{◌≡◌, ℕ, zero, suc, ◌+◌, ◌≤◌, ◌<◌, ◌⊎◌, inl, inr, ⊎_elim, List, [], ◌∷◌, ◌++◌, length, length-append, Result, Ok, Err, refl, sym, ap, subst, ◌∙◌, append_assoc, arith}
+use Rattle.std.proofs.Common.{◌≡◌, ℕ, zero, suc, ◌+◌, ◌≤◌, ◌⊎◌, inl, inr, ⊎_elim, List, [], ◌∷◌, ◌++◌, length, length-append, Result, Ok, Err, refl, sym, ap, subst, ◌∙◌, append_assoc, arith}
 use Rattle.std.proofs.lemmas.List.{append-nil}
 use Rattle.std.proofs.lemmas.Bool.{cases_lt}
-use Rattle.reading.specs.Readers.{Fault, Stop, Deep, left_of, Reader}
+use Rattle.reading.specs.Readers.{Fault, Stop, Deep, Reader}
 use Rattle.reading.specs.Printing.{Alphabet, Matches, Below, Opens}
 use Rattle.reading.specs.Law.{Syntax, Law, Read, OpensAt, Fails, Deepens, Agree, Agrees}
-use Rattle.reading.proofs.Results.{behind_front, cut_at, ok_fails}
+use Rattle.reading.proofs.Results.{behind_front, cut_at}
 use Rattle.reading.proofs.Texts.{matches_join, matches_length}
 use Rattle.reading.proofs.Opens.{below_wider, never_below, not_later, one_place}
 use Rattle.reading.proofs.Consequences.{one_tree, none_goes_on}

@@ -3,18 +3,19 @@
 use Rattle.std.proofs.Common.{◌≡◌, ℕ, ◌<◌, ◌⊎◌, inl, inr, ⊎_elim, Bool, true, false, ◌||◌, ◌&&◌, List, [], ◌∷◌, ◌++◌, Option, Some, None, is_some, refl, sym, ap, subst, ◌∙◌, append_assoc}
 use Rattle.std.proofs.lemmas.List.{append-nil}
 use Rattle.reading.specs.Readers.{no_step}
-use Rattle.reading.specs.Printing.{Front, Here, Ahead, Alphabet, Below, on_mark, begins, any_of, goes_by, goes_on, Next}
+use Rattle.reading.specs.Printing.{Ahead, Alphabet, Below, on_mark}
 use Rattle.reading.specs.Law.{Syntax}
-use Rattle.reading.proofs.Texts.{both_true, below_left, below_right}
+use Rattle.reading.proofs.Texts.{Always, both_true, below_left, below_right}
 use Rattle.reading.proofs.Dependent.{dependent_syntax}
+use Rattle.reading.proofs.Lead.{lead_syntax}
 use Rattle.reading.proofs.Seen.{View}
 use Rattle.reading.proofs.Starts.{OneToken}
 use Rattle.reading.proofs.Optional.{optional_syntax}
-use Rattle.reading.proofs.Tail.{Apart, apart, onward, tail_good, tail_syntax}
+use Rattle.reading.proofs.Tail.{Apart, apart, onward, tail_syntax}
 use Rattle.reading.proofs.Opt.{when, opt_syntax, phrase_syntax}
-use Rattle.reading.proofs.Plus.{plus_syntax}
+use Rattle.reading.proofs.Plus.{plus_syntax, link_syntax, chain_syntax}
 use Rattle.reading.proofs.Choose.{choose_syntax}
-use Rattle.reading.proofs.Many.{is_given, many_good, many_print, many_takes, many_from_syntax, many_syntax}
+use Rattle.reading.proofs.Many.{is_given, many_print, many_from_syntax, many_syntax}
 
 or_cases : (c d : Bool) → (c || d) ≡ true → (c ≡ true) ⊎ ((c ≡ false) × (d ≡ true))
 or_cases true d e = inl refl
@@ -204,3 +205,8 @@ module _ {T I M A : Type 0} {G : Alphabet T I M} {top : ℕ} (s : Syntax I M A) 
 
   pub grows_plus : Grows G (plus_syntax set m s) top
   grows_plus = grows_tail s (λ x. many_syntax set s m) (λ x. set) is_given m alike (λ x. bare_list set s m) (λ x. own_list set s m) (λ x. ([], tt, refl)) grows (λ x. grows_many)
+
+-- a chain, whose links one token begins
+pub grows_chain : {T I M A K : Type 0} {G : Alphabet T I M} {top : ℕ} (s : Syntax I M A) (set : M → Bool) (m : M) → ((x : A) (p : M) → s.Good x → set p ≡ true → s.takes x p ≡ s.takes x m) → Grows G s top → (item : K → I) → OneToken G set → Grows G (chain_syntax set m item s) top
+grows_chain {T} {I} {M} {A} {K} {G} {top} s set m alike grows item one = grows_tail s (λ x. many_syntax set (link_syntax set m item s) m) (λ x. set) is_given m alike (λ x. bare_list set (link_syntax set m item s) m) (λ x. own_list set (link_syntax set m item s) m) (λ x. ([], tt, refl)) grows
+    (λ x. grows_many (link_syntax set m item s) set m (λ y p good e. alike y.1 p good.1 e) (samples_one G set [] (link_syntax set m item s) top one) (grows_dependent (lead_syntax Always item) (λ k. s) (λ k good. grows)))

@@ -1,5 +1,5 @@
 -- Where what is printed opens one too many.
-use Rattle.std.proofs.Common.{◌≡◌, ℕ, zero, suc, ◌+◌, ◌≤◌, ◌<◌, ⊎_elim, List, [], ◌∷◌, ◌++◌, length, length-append, refl, sym, ap, subst, ◌∙◌, append_assoc, arith}
+use Rattle.std.proofs.Common.{◌≡◌, ℕ, zero, ◌+◌, ◌≤◌, List, [], ◌∷◌, ◌++◌, length, length-append, refl, sym, ap, subst, ◌∙◌, append_assoc, arith}
 use Rattle.reading.specs.Printing.{Alphabet, Below}
 use Rattle.reading.specs.Law.{OpensAt}
 use Rattle.reading.proofs.Texts.{below_join}

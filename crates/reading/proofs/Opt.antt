@@ -1,6 +1,6 @@
 -- What may stand behind what was read: what begins with a mark, or a phrase with the tokens that open it.
 use Rattle.std.proofs.Common.{◌≡◌, ℕ, suc, Bool, true, false, ◌&&◌, List, [], ◌∷◌, ◌++◌, length, Option, Some, None, is_some, Err, refl, sym, ap, ◌∙◌, append_assoc}
-use Rattle.reading.specs.Readers.{left_of, Fault, Stop, Reader, here_on, here_if, behind_on, behind, both_behind_on, both_behind, opt, optional, with_phrase}
+use Rattle.reading.specs.Readers.{left_of, Fault, Reader, here_on, here_if, behind_on, behind, both_behind_on, both_behind, opt, optional, with_phrase}
 use Rattle.reading.specs.Printing.{Alphabet, Matches, Below, begins}
 use Rattle.reading.specs.Law.{Syntax, Law}
 use Rattle.reading.proofs.Texts.{Always, matches_nothing, matches_split, next_none, both_true}
@@ -44,7 +44,8 @@ module _ {T I M B : Type 0} {G : Alphabet T I M} {set : M → Bool} {its : List 
           let w = matches_split G its (b.print y) text spells in
           ap (begins G set) (ap (λ (z : List T). z ++ rest) w.2 ∙ append_assoc w.0 w.1 rest) ∙ O.stands (w.0 ++ (w.1 ++ rest)) (w.1 ++ rest) (O.reads y w.0 w.1 rest good w.3 w.4)
 
-module _ {T I M B : Type 0} {G : Alphabet T I M} {set : M → Bool} {S : Reader T B} {b : Syntax I M B} (St : Starts G set S b) (may : Bool) (top : ℕ) where
+-- what begins with a mark, where it may: each tree holds that it may
+module _ {T I M B : Type 0} {G : Alphabet T I M} {set : M → Bool} {S : Reader T B} {b : Syntax I M B} (St : Starts G set S b) (may : Bool) (holds : (y : B) → b.Good y → may ≡ true) (top : ℕ) where
   abbrev guarded : M → Bool
   guarded p = may && set p
 
@@ -65,8 +66,7 @@ module _ {T I M B : Type 0} {G : Alphabet T I M} {set : M → Bool} {S : Reader 
   there : (ts : List T) → may ≡ true → begins G set ts ≡ true → here_if test ts ≡ Some ts
   there ts e b = rw (e, b) refl
 
-  -- what begins with a mark, where it may
-  pub opener_here : Opener G guarded [] (here_if test) S (when (may ≡ true) b) top
+  pub opener_here : Opener G guarded [] (here_if test) S b top
   opener_here = record { found = found; stands = stands; none = none; reads = reads; decided = decided; low = tt }
     where
       found : (ts rest : List T) → here_if test ts ≡ Some rest → (o : List T) × (ts ≡ o ++ rest) × Matches G [] o
@@ -82,8 +82,8 @@ module _ {T I M B : Type 0} {G : Alphabet T I M} {set : M → Bool} {S : Reader 
           go false e0 = refl
           go true e0 = absurd cc
 
-      reads : (y : B) (o text rest : List T) → (when (may ≡ true) b).Good y → Matches G [] o → Matches G (b.print y) text → here_if test (o ++ (text ++ rest)) ≡ Some (text ++ rest)
-      reads y o text rest good m spells = rw (matches_nothing G o m) (there (text ++ rest) good.1 (St.starts y text rest good.0 spells))
+      reads : (y : B) (o text rest : List T) → b.Good y → Matches G [] o → Matches G (b.print y) text → here_if test (o ++ (text ++ rest)) ≡ Some (text ++ rest)
+      reads y o text rest good m spells = rw (matches_nothing G o m) (there (text ++ rest) (holds y good) (St.starts y text rest good spells))
 
       decided : (o c r z : List T) (t : T) (d : Fault) → Matches G [] o → here_if test (o ++ (c ++ t ∷ r)) ≡ Some (c ++ t ∷ r) → S (c ++ t ∷ r) ≡ Err d → left_of d ≡ suc (length r) → here_if test (o ++ (c ++ t ∷ z)) ≡ Some (c ++ t ∷ z)
       decided o c r z t d m e stop at =
@@ -97,11 +97,17 @@ module _ {I M A B : Type 0} (a : Syntax I M A) (may : A → Bool) (set : M → B
   opt_syntax = tail_syntax a (λ x. optional_syntax (λ p. may x && set p) [] (when (may x ≡ true) b)) is_some m
 
 module _ {T I M A B : Type 0} {G : Alphabet T I M} {S : Reader T B} {b : Syntax I M B} {top : ℕ} (LB : Law G S b top) (may : A → Bool) (set : M → Bool) (St : Starts G set S b) (x : A) where
+  when_starts : Starts G set S (when (may x ≡ true) b)
+  when_starts = record { starts = λ y text rest good spells. St.starts y text rest good.0 spells; decided = St.decided }
+
+  pub opt_opener : Opener G (λ p. may x && set p) [] (here_if (λ us. may x && begins G set us)) S (when (may x ≡ true) b) top
+  opt_opener = opener_here when_starts (may x) (λ y good. good.1) top
+
   pub opt_laws : (ts rest : List T) → here_if (λ us. may x && begins G set us) ts ≡ Some rest → Law G S (when (may x ≡ true) b) top
-  opt_laws ts rest e = when_law LB (both_true (may x) (begins G set ts) (here St (may x) top ts rest e).0).0
+  opt_laws ts rest e = when_law LB (both_true (may x) (begins G set ts) (here when_starts (may x) (λ y good. good.1) top ts rest e).0).0
 
   pub opt_tail : Tail G (λ p. may x && set p) is_some (optional (here_if (λ us. may x && begins G set us)) S) (optional_syntax (λ p. may x && set p) [] (when (may x ≡ true) b)) top
-  opt_tail = optional_tail (opener_here St (may x) top) opt_laws
+  opt_tail = optional_tail opt_opener opt_laws
 
 module _ {T I M A B : Type 0} {G : Alphabet T I M} {R : Reader T A} {a : Syntax I M A} {S : Reader T B} {b : Syntax I M B} {top : ℕ} where
   pub opt_law : Law G R a top → Law G S b top → (may : A → Bool) (set : M → Bool) (m : M) → ((x : A) (p : M) → a.Good x → set p ≡ true → a.takes x p ≡ a.takes x m) → Starts G set S b
@@ -132,6 +138,11 @@ module _ {T I M A B : Type 0} {G : Alphabet T I M} {R : Reader T A} {a : Syntax 
   pub phrase_law : {set : M → Bool} {its : List I} {cut : List T → Option (List T)} → Law G R a top → Law G S b top → Opening G set its cut → Below G top its → (m : M) → ((x : A) (p : M) → a.Good x → set p ≡ true → a.takes x p ≡ a.takes x m)
       → Law G (with_phrase R cut S) (phrase_syntax a set m its b) top
   phrase_law LA LB O low m alike = tail_law LA m alike (λ x. optional_tail (opener_of O S b top low) (λ ts rest e. LB))
+
+-- what begins with a mark, wherever it does
+module _ {T I M A B : Type 0} {G : Alphabet T I M} {R : Reader T A} {a : Syntax I M A} {S : Reader T B} {b : Syntax I M B} {top : ℕ} where
+  pub plain_law : Law G R a top → Law G S b top → (set : M → Bool) (m : M) → ((x : A) (p : M) → a.Good x → set p ≡ true → a.takes x p ≡ a.takes x m) → Starts G set S b → Law G (with_phrase R (here_if (begins G set)) S) (phrase_syntax a set m [] b) top
+  plain_law LA LB set m alike St = tail_law LA m alike (λ x. optional_tail (opener_here St true (λ y good. refl) top) (λ ts rest e. LB))
 
 -- a phrase that one token opens
 module _ {T I M K : Type 0} {G : Alphabet T I M} {class : T → Option K} {item : K → I} (C : Class G class Always item) (one : (x y : K) → x ≡ y) (some : K) (set : M → Bool) where

@@ -1,6 +1,6 @@
 -- What begins with one of some marks.
 use Rattle.std.proofs.Common.{◌≡◌, ℕ, suc, ◌≤◌, Bool, true, false, List, [], ◌∷◌, ◌++◌, length, Option, Some, Ok, Err, refl, sym, ap, ◌∙◌, append_assoc, arith}
-use Rattle.reading.specs.Readers.{left_of, Fault, Stop, Reader, ◌>>=◌, branch, seen}
+use Rattle.reading.specs.Readers.{left_of, Fault, Reader, ◌>>=◌, branch, seen}
 use Rattle.reading.specs.Printing.{Front, Here, Ahead, Alphabet, Matches, ahead, peek_on, on_mark, begins}
 use Rattle.reading.specs.Law.{Syntax, Law}
 use Rattle.reading.proofs.Results.{fault_before}

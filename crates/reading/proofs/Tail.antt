@@ -1,6 +1,6 @@
 -- What may stand behind something that may go on: it is left out, or begins with one of some marks.
 use Rattle.std.proofs.Common.{◌≡◌, ℕ, suc, Bool, true, false, ◌||◌, List, [], ◌∷◌, ◌++◌, length, Err, refl, sym, subst}
-use Rattle.reading.specs.Readers.{left_of, Fault, Stop, Reader, follow}
+use Rattle.reading.specs.Readers.{left_of, Fault, Reader, follow}
 use Rattle.reading.specs.Printing.{Alphabet, Matches, begins, Next}
 use Rattle.reading.specs.Law.{Syntax, Law}
 use Rattle.reading.proofs.Texts.{matches_nothing, next_both, next_left, next_right, next_at, at_next}

@@ -1,10 +1,10 @@
 -- All tokens of a text: it is a tree's, or the place where reading ends is exact, however deep trees may be.
-use Rattle.std.proofs.Common.{◌≡◌, ℕ, suc, ◌+◌, ◌≤◌, ◌⊎◌, inl, inr, ⊎_elim, List, [], ◌∷◌, ◌++◌, length, length-append, Result, Ok, Err, refl, sym, ap, subst, ◌∙◌, append_assoc, arith}
+use Rattle.std.proofs.Common.{◌≡◌, ℕ, suc, ◌+◌, ◌≤◌, ⊎_elim, List, [], ◌∷◌, ◌++◌, length, length-append, Ok, Err, refl, sym, ap, subst, ◌∙◌, arith}
 use Rattle.std.proofs.lemmas.List.{append-nil}
 use Rattle.reading.specs.Readers.{Fault, Stop, Deep, left_of, Reader, ended, whole}
 use Rattle.reading.specs.Printing.{Alphabet, Matches, Below, Next}
-use Rattle.reading.specs.Law.{Syntax, Law, Read, Fails, OpensAt, Deepens, Agrees}
-use Rattle.reading.proofs.Results.{bind_ok, bind_err, behind_front, ok_is, fault_is}
+use Rattle.reading.specs.Law.{Syntax, Law, Fails, OpensAt, Deepens, Agrees}
+use Rattle.reading.proofs.Results.{bind_ok, bind_err, behind_front, fault_is}
 use Rattle.reading.proofs.Consequences.{first_is}
 use Rattle.reading.proofs.Starts.{OneToken, one_decides}
 use Rattle.reading.proofs.Opens.{below_wider}

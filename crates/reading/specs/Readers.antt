@@ -72,6 +72,23 @@ here_on false ts = None
 abbrev pub here_if : {T : Type 0} → (List T → Bool) → List T → Option (List T)
 here_if test ts = here_on (test ts) ts
 
+-- the value of the first token, if it is of the class, and what is behind it
+abbrev pub split_on : {T K : Type 0} → Option K → List T → Option (K × List T)
+split_on None ts = None
+split_on (Some x) ts = Some (x, ts)
+
+abbrev pub split : {T K : Type 0} → (T → Option K) → List T → Option (K × List T)
+split class [] = None
+split class (t ∷ ts) = split_on (class t) ts
+
+-- such a token, where one stands
+abbrev pub maybe_on : {T K : Type 0} → Option (K × List T) → List T → Result (Option K × List T) Fault
+maybe_on None ts = Ok (None, ts)
+maybe_on (Some x) ts = Ok (Some x.0, x.1)
+
+abbrev pub maybe : {T K : Type 0} → (T → Option K) → Reader T (Option K)
+maybe class ts = maybe_on (split class ts) ts
+
 -- what is behind a token of the class
 abbrev pub behind_on : {T K : Type 0} → Option K → List T → Option (List T)
 behind_on None ts = None
