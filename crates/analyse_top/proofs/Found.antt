@@ -1,6 +1,6 @@
 -- What a name holds is one thing: nothing, bytes that are too long, bytes that are bad in one way, or bytes of one
 -- value.
-use Rattle.std.proofs.Common.{◌≡◌, ℕ, ◌<◌, ◌≤◌, List, length, Option, Some, None, refl, ap, arith}
+use Rattle.std.proofs.Common.{◌≡◌, ℕ, ◌<◌, ◌≤◌, List, length, Option, Some, None, refl, sym, ap, subst, arith}
 use Rattle.std.specs.Prelude.{IsSomeAnd}
 
 pub data Found (B X : Type 0) : Type 0 where
@@ -8,6 +8,10 @@ pub data Found (B X : Type 0) : Type 0 where
   Long : Found B X
   Bad : B → Found B X
   Good : X → Found B X
+
+-- the bytes that are held
+pub at_held : (held : Option (List ℕ)) (bytes : List ℕ) (P : List ℕ → Type 0) → held ≡ Some bytes → P bytes → IsSomeAnd held P
+at_held held bytes P e h = subst (λ (o : Option (List ℕ)). IsSomeAnd o P) (sym e) h
 
 no_some : (P : List ℕ → Type 0) (held : Option (List ℕ)) → held ≡ None → IsSomeAnd held P → ⊥
 no_some P None e h = h

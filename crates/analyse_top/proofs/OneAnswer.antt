@@ -14,12 +14,8 @@ use Rattle.cert_check.specs.Inductive.{FitsProgram, leak, leaks}
 use Rattle.straight_source.specs.Source.{Source, program_of, statement_lines}
 use Rattle.straight_claims.specs.Claims.{AreClaimsLines, claims_lines}
 use Rattle.analyse_top.specs.Answer.{Answer, Usage, Absent, SourceLong, BadLine, BadToken, NotYet, CertificateLong, NotInductive, Report, Answers, AnswersCheck, AnswersSource, AnswersProgram, IsCheck, HoldsSource, HoldsClaims, RefusesBytes, HoldsRefused, alarms_of, source_limit, certificate_limit}
-use Rattle.analyse_top.proofs.Found.{Found, Missing, Long, Bad, Good, Finds, one_found}
+use Rattle.analyse_top.proofs.Found.{Found, Missing, Long, Bad, Good, Finds, at_held, one_found}
 use Rattle.analyse_top.proofs.Sources.{Writing, Wrote, one_refused, written_or_refused, one_written}
-
--- the bytes that a name holds
-at_held : (held : Option (List ℕ)) (bytes : List ℕ) (P : List ℕ → Type 0) → held ≡ Some bytes → P bytes → IsSomeAnd held P
-at_held held bytes P e h = subst (λ (o : Option (List ℕ)). IsSomeAnd o P) (sym e) h
 
 -- ---- the certificate
 
