@@ -1,16 +1,14 @@
 -- Where the status is 0, the program is safe.
-use Rattle.std.proofs.Common.{◌≡◌, ℕ, List, [], ◌∷◌, map, Option, Some, refl, sym, ap, ◌∙◌, subst, inl, inr, arith}
+use Rattle.std.proofs.Common.{◌≡◌, ℕ, List, [], ◌∷◌, map, Option, Some, refl, sym, ◌∙◌, subst, inl, inr, arith}
 use Rattle.batch_io.specs.FilesState.{Contents, known_bytes}
 use Rattle.cob_tree.specs.declared.fault.Open.{Open}
-use Rattle.cob_meaning.specs.Program.{Program}
 use Rattle.cob_meaning.specs.Run.{MeetsNoFault}
-use Rattle.cert_text.specs.declared.cert.Claim.{Claim}
 use Rattle.cert_check.specs.Inductive.{open_pairs}
 use Rattle.cert_check.proofs.Runs.{faults_open, none_open}
 use Rattle.cob_tree.specs.declared.token.Token.{Token}
 use Rattle.straight_source.specs.Source.{Source, program_of, statement_lines}
 use Rattle.straight_source.proofs.Whole.{source_valid}
-use Rattle.analyse_top.specs.Answer.{Answer, Usage, Absent, SourceLong, BadLine, BadToken, NotYet, CertificateLong, NotInductive, Report, Answers, AnswersCheck, AnswersProgram, HoldsSource, HoldsClaims, alarm_at, alarms_of, status_of, status_unwritten}
+use Rattle.analyse_top.specs.Answer.{Answer, Usage, Absent, SourceLong, BadLine, BadToken, NotYet, CertificateLong, NotInductive, Report, Answers, AnswersProgram, HoldsSource, alarm_at, status_of, status_unwritten}
 use Rattle.analyse_top.specs.Conclusion.{Call, Concludes, CleanIsSafe, IsClean, EndsBy}
 
 none_left : (lines : List ℕ) (pairs : List Open) → [] ≡ map (alarm_at lines) pairs → pairs ≡ []

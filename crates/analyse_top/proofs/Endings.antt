@@ -1,22 +1,19 @@
 -- From what the parts did to how the call ends.
-use Rattle.std.proofs.Common.{◌≡◌, ℕ, ◌≤◌, Bool, false, List, take, length, refl, sym, ap, ◌∙◌, subst, inl, inr, Result, Ok, Err, arith}
+use Rattle.std.proofs.Common.{◌≡◌, ℕ, ◌≤◌, false, List, length, refl, sym, ap, ◌∙◌, subst, inl, inr, Result, Ok, Err, arith}
 use Rattle.std.specs.Prelude.{IfOk, IfSome, Option, Some, None}
 use Rattle.std.specs.FinMap.{get}
 use Rattle.cob_meaning.specs.Program.{Program, plain}
 use Rattle.straight_source.specs.Source.{program_of}
 use Rattle.straight_source.specs.declared.read.StraightLines.{StraightLines}
-use Rattle.analyse_top.specs.declared.front.FrontEnd.{FrontEnd}
-use Rattle.analyse_top.specs.declared.front.FrontEnd.TheVariants as front
 use Rattle.std.proofs.lemmas.List.{take_all}
 use Rattle.std.specs.Io.KnownBytes.{append_known}
 use Rattle.batch_io.specs.FilesState.{Contents, known_bytes}
 use Rattle.analyse_top.specs.declared.answer.Stop.{Stop}
 use Rattle.analyse_top.specs.declared.answer.Answer as code
-use Rattle.analyse_top.specs.Answer.{Answer, Usage, Absent, SourceLong, BadLine, BadToken, NotYet, CertificateLong, NotInductive, Report, Answers, AnswersCheck, AnswersSource, AnswersProgram, RefusesBytes, IsCheck, source_limit, answer_text}
+use Rattle.analyse_top.specs.Answer.{Answer, Answers, AnswersCheck, AnswersProgram, IsCheck, source_limit, answer_text}
 use Rattle.analyse_top.specs.Conclusion.{Call, Concludes, EndsBy, EndsByMemory, Gains, GainsFront, memory_text}
-use Rattle.analyse_top.specs.Steps.{Reads, ShowsAnswer, ShowsRefusal, RefusesFront, Writes, answer_to}
-use Rattle.analyse_top.specs.View.{plain_answer, plain_result}
-use Rattle.analyse_top.proofs.Found.{at_held}
+use Rattle.analyse_top.specs.Steps.{Reads, ShowsAnswer, ShowsRefusal, Writes}
+use Rattle.analyse_top.specs.View.{plain_answer}
 
 module _ (call : Call) (reads : Reads call.files_before call.files_after false) where
   ends_in : (answer : Answer) → EndsBy call answer → Concludes call
@@ -43,38 +40,9 @@ pub answers_check : (result : Result code.Answer Stop) (known : Option Contents)
 answers_check (Ok answer) known words source certificate is h = inr (source, certificate, is, h)
 answers_check (Err stop) known words source certificate is h = tt
 
--- ---- a source that is read, and one that isn't
+-- ---- a source that is read
 
 module _ (source certificate bytes : List ℕ) (fits : length bytes ≤ source_limit) where
-  refusal : (contents : Contents) (answer : Answer) → get contents source ≡ Some bytes → RefusesBytes bytes answer → AnswersSource contents source answer
-  refusal contents (BadLine line column) held h = at_held (get contents source) bytes (λ bytes. (length bytes ≤ source_limit) × RefusesBytes bytes (BadLine line column)) held (fits, h)
-  refusal contents (BadToken line column) held h = at_held (get contents source) bytes (λ bytes. (length bytes ≤ source_limit) × RefusesBytes bytes (BadToken line column)) held (fits, h)
-  refusal contents (NotYet line) held h = at_held (get contents source) bytes (λ bytes. (length bytes ≤ source_limit) × RefusesBytes bytes (NotYet line)) held (fits, h)
-  refusal contents (Usage word) held h = absurd h
-  refusal contents (Absent name) held h = absurd h
-  refusal contents SourceLong held h = absurd h
-  refusal contents CertificateLong held h = absurd h
-  refusal contents (NotInductive edge gap) held h = absurd h
-  refusal contents (Report alarms) held h = absurd h
-
-  refused_known : (known : Option Contents) (answer : Answer) → IfSome known (λ contents. get contents source ≡ Some bytes) → RefusesBytes bytes answer → IfSome known (λ contents. AnswersCheck contents source certificate answer)
-  refused_known None answer held h = tt
-  refused_known (Some contents) answer held h = inl (refusal contents answer held h)
-
-  answer_is : (answer : code.Answer) (other : Answer) → plain_result (Ok answer) ≡ Ok other → other ≡ plain_answer answer
-  answer_is answer other e = cc
-
-  pub answers_refused : (result : Result code.Answer Stop) (end : FrontEnd) (known : Option Contents) → IfSome known (λ contents. get contents source ≡ Some bytes) → plain_result result ≡ answer_to end → RefusesFront bytes end →
-      IfOk result (λ answer. IfSome known (λ contents. AnswersCheck contents source certificate (plain_answer answer)))
-  answers_refused (Err stop) end known held e h = tt
-  answers_refused (Ok answer) (front.BadLine line column) known held e h =
-      subst (λ (a : Answer). IfSome known (λ contents. AnswersCheck contents source certificate a)) (answer_is answer (BadLine line column) e) (refused_known known (BadLine line column) held h)
-  answers_refused (Ok answer) (front.BadToken line column) known held e h =
-      subst (λ (a : Answer). IfSome known (λ contents. AnswersCheck contents source certificate a)) (answer_is answer (BadToken line column) e) (refused_known known (BadToken line column) held h)
-  answers_refused (Ok answer) (front.NotYet line) known held e h =
-      subst (λ (a : Answer). IfSome known (λ contents. AnswersCheck contents source certificate a)) (answer_is answer (NotYet line) e) (refused_known known (NotYet line) held h)
-  answers_refused (Ok answer) front.Memory known held e h = cc
-
   read_known : (known : Option Contents) (read : StraightLines) (answer : Answer) → IfSome known (λ contents. get contents source ≡ Some bytes) → Writes bytes read →
       IfSome known (λ contents. AnswersProgram contents certificate (plain read.program) read.lines.items answer) → IfSome known (λ contents. AnswersCheck contents source certificate answer)
   read_known None read answer held w h = tt
@@ -83,8 +51,10 @@ module _ (source certificate bytes : List ℕ) (fits : length bytes ≤ source_l
       let at_lines = subst (λ (ls : List ℕ). AnswersProgram contents certificate (program_of s) ls answer) lines at_program in
       inr (tokens, s, record { bytes = bytes; held = held; fits = fits; written = written }, at_lines)
 
-  pub answers_read : (result : Result code.Answer Stop) (read : StraightLines) (known : Option Contents) → IfSome known (λ contents. get contents source ≡ Some bytes) → Writes bytes read →
-      IfOk result (λ answer. IfSome known (λ contents. AnswersProgram contents certificate (plain read.program) read.lines.items (plain_answer answer))) →
+  pub answers_read : (result : Result code.Answer Stop) (read : StraightLines) (seen : List ℕ) (known after : Option Contents) → IfSome known (λ contents. get contents source ≡ Some bytes) → seen ≡ bytes → Writes seen read → after ≡ known →
+      IfOk result (λ answer. IfSome after (λ contents. AnswersProgram contents certificate (plain read.program) read.lines.items (plain_answer answer))) →
       IfOk result (λ answer. IfSome known (λ contents. AnswersCheck contents source certificate (plain_answer answer)))
-  answers_read (Err stop) read known held w h = tt
-  answers_read (Ok answer) read known held w h = read_known known read (plain_answer answer) held w h
+  answers_read (Err stop) read seen known after held s w k h = tt
+  answers_read (Ok answer) read seen known after held s w k h =
+      let P : Option Contents → Type 0 = λ known. IfSome known (λ contents. AnswersProgram contents certificate (plain read.program) read.lines.items (plain_answer answer)) in
+      read_known known read (plain_answer answer) held (subst (λ (bs : List ℕ). Writes bs read) s w) (subst P k h)

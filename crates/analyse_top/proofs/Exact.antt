@@ -1,16 +1,12 @@
 -- Each answer is given exactly where it is the answer.
-use Rattle.std.proofs.Common.{◌≡◌, ℕ, ◌+◌, ◌^◌, ◌<◌, ◌≤◌, List, length, Option, Some, refl, subst, inl, inr, arith}
-use Rattle.batch_io.specs.FilesState.{Contents, known_bytes}
-use Rattle.text_lines.specs.Lines.{text_of}
-use Rattle.text_lines.specs.Viable.{FirstBad}
+use Rattle.std.proofs.Common.{◌≡◌, ℕ, ◌+◌, ◌^◌, ◌<◌, List, length, Option, Some, subst, inl, inr, arith}
+use Rattle.batch_io.specs.FilesState.{Contents}
 use Rattle.text_lines.proofs.Texts.{one_bad}
-use Rattle.cert_text.specs.declared.cert.Claim.{Claim}
-use Rattle.cert_check.specs.Inductive.{FitsProgram}
 use Rattle.straight_source.specs.Source.{Source, IsSource, program_of, statement_lines}
 use Rattle.straight_source.proofs.Whole.{counts}
-use Rattle.straight_claims.specs.Claims.{AreClaimsLines, claims_lines}
+use Rattle.straight_claims.specs.Claims.{AreClaimsLines}
 use Rattle.straight_claims.proofs.Certificates.{one_certificate, read_or_refused as claims_or_refused}
-use Rattle.analyse_top.specs.Answer.{Answer, Answers, AnswersProgram}
+use Rattle.analyse_top.specs.Answer.{Answer, Answers}
 use Rattle.analyse_top.specs.Conclusion.{Call, Concludes, IsExact, EndsBy}
 use Rattle.analyse_top.proofs.OneAnswer.{Behind, one_for_program, one_answer}
 use Rattle.analyse_top.proofs.Sources.{Writing, Wrote}

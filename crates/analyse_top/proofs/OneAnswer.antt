@@ -1,6 +1,6 @@
 -- Words and contents have one answer.
-use Rattle.std.proofs.Common.{◌≡◌, ℕ, ◌+◌, ◌≤◌, List, [], ◌∷◌, length, get_or, Option, Some, None, ◌⊎◌, refl, sym, ap, ◌∙◌, subst, inl, inr}
-use Rattle.std.specs.Prelude.{slice_get, IsSomeAnd}
+use Rattle.std.proofs.Common.{◌≡◌, ℕ, ◌+◌, ◌≤◌, List, [], length, get_or, Some, ◌⊎◌, refl, sym, ap, ◌∙◌, subst, inl, inr}
+use Rattle.std.specs.Prelude.{slice_get}
 use Rattle.std.specs.FinMap.{get}
 use Rattle.std.proofs.lemmas.Option.{same_Some}
 use Rattle.batch_io.specs.FilesState.{Contents}
@@ -11,9 +11,9 @@ use Rattle.cert_text.specs.declared.cert.Claim.{Claim}
 use Rattle.cert_check.specs.declared.ends.Gap.{Gap}
 use Rattle.cert_check.specs.declared.ends.Leak.{Leak}
 use Rattle.cert_check.specs.Inductive.{FitsProgram, leak, leaks}
-use Rattle.straight_source.specs.Source.{Source, program_of, statement_lines}
+use Rattle.straight_source.specs.Source.{program_of, statement_lines}
 use Rattle.straight_claims.specs.Claims.{AreClaimsLines, claims_lines}
-use Rattle.analyse_top.specs.Answer.{Answer, Usage, Absent, SourceLong, BadLine, BadToken, NotYet, CertificateLong, NotInductive, Report, Answers, AnswersCheck, AnswersSource, AnswersProgram, IsCheck, HoldsSource, HoldsClaims, RefusesBytes, HoldsRefused, alarms_of, source_limit, certificate_limit}
+use Rattle.analyse_top.specs.Answer.{Answer, Usage, Absent, SourceLong, BadLine, BadToken, NotYet, CertificateLong, NotInductive, Report, Answers, AnswersCheck, AnswersSource, AnswersProgram, IsCheck, HoldsClaims, RefusesBytes, alarms_of, source_limit, certificate_limit}
 use Rattle.analyse_top.proofs.Found.{Found, Missing, Long, Bad, Good, Finds, at_held, one_found}
 use Rattle.analyse_top.proofs.Sources.{Writing, Wrote, one_refused, written_or_refused, one_written}
 
@@ -102,7 +102,7 @@ module _ (contents : Contents) where
   abbrev FindsSource : List ℕ → FoundSource → Type 0
   FindsSource name = Finds (get contents name) source_limit RefusesBytes Wrote one_refused written_or_refused one_written
 
-  abbrev Behind : List ℕ → Writing → Answer → Type 0
+  abbrev pub Behind : List ℕ → Writing → Answer → Type 0
   Behind certificate x answer = AnswersProgram contents certificate (program_of x.1) (statement_lines x.0 x.1) answer
 
   module _ (one_behind : (certificate bytes : List ℕ) (x : Writing) (a b : Answer) → Wrote bytes x → Behind certificate x a → Behind certificate x b → a ≡ b) where

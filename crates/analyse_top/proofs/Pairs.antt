@@ -1,5 +1,5 @@
 -- What the checker's answer keeps to.
-use Rattle.std.proofs.Common.{◌≡◌, ℕ, ◌+◌, ◌^◌, ◌<◌, ◌≤◌, List, [], ◌∷◌, ◌++◌, length, Option, Some, None, Result, Ok, Err, Vec, Global, sym, subst, arith}
+use Rattle.std.proofs.Common.{◌≡◌, ℕ, ◌+◌, ◌≤◌, List, [], ◌∷◌, ◌++◌, length, Option, Some, None, Result, Ok, Err, Vec, Global, sym, subst, arith}
 use Rattle.std.specs.Prelude.{All, MatchResult}
 use Rattle.std.specs.List.{AllByRecursion}
 use Rattle.std.proofs.lemmas.List.Elements.{All-from_recursion}
@@ -11,7 +11,7 @@ use Rattle.cert_text.specs.declared.cert.Claim.{Claim}
 use Rattle.cert_check.specs.declared.ends.CheckEnd.{CheckEnd}
 use Rattle.cert_check.specs.declared.ends.CheckEnd.TheVariants.{Shape, NotInductive, Memory}
 use Rattle.cert_check.specs.Element.{source_of}
-use Rattle.cert_check.specs.Inductive.{Checks, open_kind, open_pairs, pair_of, pairs_from}
+use Rattle.cert_check.specs.Inductive.{Checks, open_kind, pair_of, pairs_from}
 use Rattle.analyse_top.specs.Steps.{HasLine, IsNoShape}
 
 abbrev IsWithin : ℕ → Open → Type 0

@@ -1,11 +1,17 @@
 -- Bytes are refused in one way, or write one source.
-use Rattle.std.proofs.Common.{◌≡◌, ℕ, List, Option, Some, refl, sym, ap, ◌∙◌, subst}
-use Rattle.std.proofs.lemmas.Option.{same_Some, none-some}
-use Rattle.std.specs.Prelude.{None}
+use Rattle.std.proofs.Common.{◌≡◌, ℕ, ◌+◌, List, length, Option, Some, None, refl, sym, ap, ◌∙◌, subst, arith}
+use Rattle.std.proofs.lemmas.Option.{same_Some}
+use Rattle.std.specs.Prelude.{slice_index}
+use Rattle.std.specs.List.{range_with_len}
+use Rattle.std.proofs.lemmas.List.{length-map}
+use Rattle.std.proofs.lemmas.List.FromFn.{length-range_with_len}
 use Rattle.cob_tree.specs.declared.token.Token.{Token}
-use Rattle.straight_source.specs.Source.{Source, AreSourceTokens, toks}
-use Rattle.straight_source.specs.Reading.{StopsAtLine}
-use Rattle.straight_source.proofs.Whole.{one_refusal, read_or_refused}
+use Rattle.straight_source.specs.Source.{Source, toks, lines, tokens_before}
+use Rattle.straight_source.specs.Reading.{StopsAtLine, IsReading}
+use Rattle.straight_source.specs.declared.read.StraightLines.{StraightLines}
+use Rattle.cob_meaning.specs.Program.{Program}
+use Rattle.analyse_top.specs.Steps.{IsCheckable}
+use Rattle.straight_source.proofs.Whole.{counts, one_refusal, read_or_refused}
 use Rattle.straight_source.proofs.One.{same_source}
 use Rattle.analyse_top.specs.Front.{Front, BadLineAt, BadTokenAt, Tokens, front_of}
 use Rattle.analyse_top.specs.Answer.{Answer, Usage, Absent, SourceLong, BadLine, BadToken, NotYet, CertificateLong, NotInductive, Report, IsWritten, RefusesBytes}
@@ -62,3 +68,18 @@ one_written bytes x y h k =
     let source : x.1 ≡ y.1 = same_source x.1 y.1 h.is_source k.is_source (sym h.tokens_are ∙ ap toks tokens ∙ k.tokens_are) in
     let pair : List Token → Source → Writing = λ tokens source. (tokens, source) in
     ap (λ (ts : List Token). pair ts x.1) tokens ∙ ap (λ (s : Source). pair y.0 s) source
+
+-- ---- what the checker needs
+
+pub checkable : (tokens : List Token) (read : StraightLines) (source : Source) → IsReading tokens read source → IsCheckable read
+checkable tokens read source h =
+    let c = counts source in
+    let digits = ap (λ (p : Program). length p.digits) h.program_is in
+    let acts = ap (λ (p : Program). length p.acts) h.program_is in
+    let line : ℕ → ℕ = λ statement. slice_index (lines tokens) (tokens_before source statement) in
+    record {
+      valid = h.valid;
+      items = omega (arith, digits, c.1, h.is_source.most);
+      acts = omega (arith, acts, c.0, h.is_source.most_acts);
+      lines = omega (arith, acts, c.0, ap length h.lines_are, length-map (range_with_len 1 (length source.acts + 1)) line, length-range_with_len 1 (length source.acts + 1));
+    }

@@ -1,5 +1,5 @@
 -- What the parts of the program's call do.
-use Rattle.std.specs.Prelude.{◌≡◌, ℕ, ◌+◌, ◌≤◌, ◌⊎◌, Bool, true, false, List, [], map, length, slice_get, Option, Some, IfSome, Result, Ok, Err, IfOk, MatchResult, Vec, String, string_bytes}
+use Rattle.std.specs.Prelude.{◌≡◌, ℕ, ◌+◌, ◌≤◌, ◌⊎◌, Bool, true, false, List, [], map, length, slice_get, Some, Result, Ok, Err, IfOk, MatchResult, Vec, String, string_bytes}
 use Rattle.text_lines.specs.Lines.{text_of}
 use Rattle.text_lines.specs.Viable.{FirstBad}
 use Rattle.cob_tree.specs.declared.fault.Open.{Open}
@@ -15,13 +15,13 @@ use Rattle.straight_source.specs.declared.read.StraightLines.{StraightLines}
 use Rattle.straight_source.specs.Source.{Source, program_of, statement_lines}
 use Rattle.analyse_top.specs.declared.front.FrontEnd.{FrontEnd}
 use Rattle.analyse_top.specs.declared.front.FrontEnd.TheVariants as front
-use Rattle.analyse_top.specs.Front.{Front, Tokens, BadLineAt, BadTokenAt, front_of}
+use Rattle.analyse_top.specs.Front.{Tokens, front_of}
 use Rattle.analyse_top.specs.Answer.{Answer, Usage, Absent, SourceLong, BadLine, BadToken, NotYet, CertificateLong, NotInductive, Report, IsWritten, RefusesBytes, alarm_at, alarms_of, answer_text, status_of, status_unwritten}
 use Rattle.batch_io.specs.SinkState.{SinkState}
 use Rattle.analyse_top.specs.Conclusion.{Shows, GainsFront, memory_text}
 use Rattle.std.specs.declared.alloc.Global.{Global}
 use Rattle.batch_io.specs.Faults.{Counts}
-use Rattle.batch_io.specs.FilesState.{FilesState, Contents, KeepsIds, known_bytes}
+use Rattle.batch_io.specs.FilesState.{FilesState, KeepsIds, known_bytes}
 use Rattle.analyse_top.specs.declared.answer.Stop.{Stop}
 use Rattle.analyse_top.specs.declared.answer.Stop.TheVariants.{ReadFault, Memory}
 
