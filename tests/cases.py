@@ -44,11 +44,66 @@ def of_the_sample():
         yield f"x at {length}", SAMPLE, changed, 2, f"E20 line {line}\n"
 
 
+def over_tokens():
+    """Spacing, lines and names are free; expected answers are worked out from the rules by hand."""
+    alarm = "SIZE statement 1 line {}\nalarms 1\n"
+    two = SAMPLE.replace("ADD 1", "ADD 2")
+    clean = {
+        "lower case": SAMPLE.lower(),
+        "a line for two statements": SAMPLE.replace(" N.\n       STOP", " N. STOP"),
+        "a statement on three lines": SAMPLE.replace("ADD 1 TO N.", "ADD\n         1 TO\n       N ."),
+        "carriage returns": SAMPLE.replace("\n", "\r\n"),
+        "no last line end": SAMPLE.rstrip("\n"),
+        "blank lines": SAMPLE.replace("\n", "\n\n"),
+        "sequence numbers": SAMPLE.replace("       ADD", "000700 ADD"),
+        "columns from 73": SAMPLE.replace("TO N.", "TO N.".ljust(59) + "NOTHING"),
+        "a longer name": SAMPLE.replace("77 N", "77 TOTAL-1").replace("TO N", "TO TOTAL-1"),
+        "a continued name": SAMPLE.replace("77 N", "77 TOTAL").replace("TO N", "TO TO\n      -    TAL"),
+        "a program's name": SAMPLE.replace("T.", "PAYROLL-2.", 1),
+        "words that are dropped": SAMPLE.replace("PIC 9(3) VALUE", "PICTURE IS 9(3), VALUE IS"),
+    }
+    for name, source in clean.items():
+        yield name, source, CERTIFICATE, 0, "clean\n"
+    comment = two.replace("       ADD", "      * nothing\n      /\n       ADD")
+    yield "comment lines", comment, CERTIFICATE, 1, alarm.format(9)
+    joined = two.replace(" VALUE 998.\n       PROCEDURE DIVISION.\n       ADD", " VALUE 998. PROCEDURE DIVISION. ADD")
+    yield "one line for three", joined, CERTIFICATE, 1, alarm.format(5)
+    refused = {
+        "a reserved word as item": (SAMPLE.replace("77 N", "77 SIZE"), "E20 line 5"),
+        "a reserved word as program": (SAMPLE.replace("T.", "PROGRAM.", 1), "E20 line 2"),
+        "an undeclared name": (SAMPLE.replace("TO N.", "TO\n       M."), "E20 line 8"),
+        "a name declared twice": (SAMPLE.replace("       77", "       77 n PIC 9(1) VALUE 0.\n       77"), "E20 line 6"),
+        "a signed VALUE": (SAMPLE.replace("998", "+998"), "E20 line 5"),
+        "a VALUE with a point": (SAMPLE.replace("998", "99.8"), "E20 line 5"),
+        "a VALUE too large": (SAMPLE.replace("VALUE 998", "VALUE\n       1000"), "E20 line 6"),
+        "a count with a leading zero": (SAMPLE.replace("9(3)", "9(03)"), "E20 line 5"),
+        "another level": (SAMPLE.replace("77", "01"), "E20 line 5"),
+        "no point": (SAMPLE.replace("TO N.", "TO N"), "E20 line 8"),
+        "a statement behind STOP RUN": (SAMPLE + "\n       STOP RUN.\n", "E20 line 10"),
+        "nothing behind": (SAMPLE.replace("       STOP RUN.\n", "\n      * nothing\n"), "E20 line 7"),
+        "no point at the end": (SAMPLE.replace("RUN.", "RUN"), "E20 line 8"),
+        "an empty source": ("", "E20 line 1"),
+        "comments alone": ("\n      * nothing\n", "E20 line 1"),
+        "a tab": ("\t" + SAMPLE[1:], "E6 line 1 column 1"),
+        "an indicator": (SAMPLE.replace("       ADD", "      XADD"), "E6 line 7 column 7"),
+        "a byte": (SAMPLE.replace("ADD 1", "ADD\x7f1"), "E6 line 7 column 11"),
+        "19 digits": (SAMPLE.replace("ADD 1", "ADD 1234567890123456789"), "E7 line 7 column 12"),
+        "a tab behind a bad token": (SAMPLE.replace("ADD 1", "ADD -A").replace("       STOP", "\t      STOP"), "E6 line 8 column 1"),
+        "a bad token behind a bad VALUE": (SAMPLE.replace("998", "1000").replace("ADD 1", "ADD -A"), "E7 line 7 column 12"),
+    }
+    for name, (source, line) in refused.items():
+        yield name, source, CERTIFICATE, 2, line + "\n"
+    letters = "ABCDEFGHIJKLMNOPQRSTUVWXYZ"
+    items = [f"       77 {letter}-1 PIC 9(1) VALUE 1.\n" for letter in letters]
+    many = SAMPLE.replace("       77 N PIC 9(3) VALUE 998.\n", "".join(items) + "       77 N PIC 9(3) VALUE 998.\n")
+    yield "27 items", many, CERTIFICATE, 2, "E20 line 31\n"
+
+
 def main():
     passed = failed = 0
     with tempfile.TemporaryDirectory() as folder:
         source, certificate = pathlib.Path(folder, "S"), pathlib.Path(folder, "C")
-        for name, text, claims, status, out in [*listed(), *of_the_sample()]:
+        for name, text, claims, status, out in [*listed(), *of_the_sample(), *over_tokens()]:
             source.write_bytes(text.encode("latin-1"))
             certificate.write_bytes(claims.encode("latin-1"))
             found = answer(["check", "S", "C"], folder)

@@ -1,25 +1,26 @@
 -- Where the status is 0, the program is safe.
-use Rattle.std.proofs.Common.{◌≡◌, ℕ, List, [], ◌∷◌, map, Option, Some, refl, sym, ap, ◌∙◌, subst, inl, inr, arith}
+use Rattle.std.proofs.Common.{◌≡◌, ℕ, List, [], ◌∷◌, map, Option, Some, refl, sym, ◌∙◌, subst, inl, inr, arith}
 use Rattle.batch_io.specs.FilesState.{Contents, known_bytes}
 use Rattle.cob_tree.specs.declared.fault.Open.{Open}
-use Rattle.cob_meaning.specs.Program.{Program}
 use Rattle.cob_meaning.specs.Run.{MeetsNoFault}
-use Rattle.cert_text.specs.declared.cert.Claim.{Claim}
 use Rattle.cert_check.specs.Inductive.{open_pairs}
 use Rattle.cert_check.proofs.Runs.{faults_open, none_open}
-use Rattle.straight_source.specs.Source.{Source, program_of}
+use Rattle.cob_tree.specs.declared.token.Token.{Token}
+use Rattle.straight_source.specs.Source.{Source, program_of, statement_lines}
 use Rattle.straight_source.proofs.Whole.{source_valid}
-use Rattle.analyse_top.specs.Answer.{Answer, Usage, Absent, SourceLong, NotYet, CertificateLong, NotInductive, Report, Answers, AnswersCheck, AnswersProgram, HoldsSource, HoldsClaims, alarm_at, alarms_of, status_of, status_unwritten}
+use Rattle.analyse_top.specs.Answer.{Answer, Usage, Absent, SourceLong, BadLine, BadToken, NotYet, CertificateLong, NotInductive, Report, Answers, AnswersProgram, HoldsSource, alarm_at, status_of, status_unwritten}
 use Rattle.analyse_top.specs.Conclusion.{Call, Concludes, CleanIsSafe, IsClean, EndsBy}
 
-none_left : (items : ℕ) (pairs : List Open) → [] ≡ map (alarm_at items) pairs → pairs ≡ []
-none_left items [] e = refl
-none_left items (pair ∷ pairs) e = cc
+none_left : (lines : List ℕ) (pairs : List Open) → [] ≡ map (alarm_at lines) pairs → pairs ≡ []
+none_left lines [] e = refl
+none_left lines (pair ∷ pairs) e = cc
 
 zero_report : (answer : Answer) → status_of answer ≡ 0 → answer ≡ Report []
 zero_report (Usage word) e = absurd (omega arith)
 zero_report (Absent name) e = absurd (omega arith)
 zero_report SourceLong e = absurd (omega arith)
+zero_report (BadLine line column) e = absurd (omega arith)
+zero_report (BadToken line column) e = absurd (omega arith)
 zero_report (NotYet line) e = absurd (omega arith)
 zero_report CertificateLong e = absurd (omega arith)
 zero_report (NotInductive edge gap) e = absurd (omega arith)
@@ -30,28 +31,31 @@ never_zero : (answer : Answer) → status_unwritten answer ≡ 0 → ⊥
 never_zero (Usage word) e = omega arith
 never_zero (Absent name) e = omega arith
 never_zero SourceLong e = omega arith
+never_zero (BadLine line column) e = omega arith
+never_zero (BadToken line column) e = omega arith
 never_zero (NotYet line) e = omega arith
 never_zero CertificateLong e = omega arith
 never_zero (NotInductive edge gap) e = omega arith
 never_zero (Report alarms) e = omega arith
 
-program_safe : (source : Source) (contents : Contents) (name certificate : List ℕ) → HoldsSource contents name source →
-    AnswersProgram contents certificate (program_of source) (Report []) → MeetsNoFault (program_of source)
-program_safe source contents name certificate holds (nodes, claims, inductive, none) =
+program_safe : (source : Source) (contents : Contents) (name certificate : List ℕ) (tokens : List Token) → HoldsSource contents name tokens source →
+    AnswersProgram contents certificate (program_of source) (statement_lines tokens source) (Report []) → MeetsNoFault (program_of source)
+program_safe source contents name certificate tokens holds (nodes, claims, inductive, none) =
     none_open (program_of source) (open_pairs (program_of source) nodes)
-    (faults_open (program_of source) nodes (source_valid source holds.is_source) claims.shape inductive)
+    (faults_open (program_of source) nodes (source_valid source holds.written.is_source) claims.shape inductive)
     (none_left _ _ none)
 
 clean_answer : (contents : Contents) (words : List (List ℕ)) → Answers (Some contents) words (Report []) → IsClean contents words
 clean_answer contents words (inl (no_check, usage)) = cc
 clean_answer contents words (inr (name, certificate, checked, inl refused)) = absurd refused
-clean_answer contents words (inr (name, certificate, checked, inr (source, held, answers))) = record {
+clean_answer contents words (inr (name, certificate, checked, inr (tokens, source, held, answers))) = record {
   name = name;
   certificate = certificate;
   checked = checked;
+  tokens = tokens;
   source = source;
   held = held;
-  safe = program_safe source contents name certificate held answers;
+  safe = program_safe source contents name certificate tokens held answers;
 }
 
 pub clean_is_safe : (call : Call) → Concludes call → CleanIsSafe call

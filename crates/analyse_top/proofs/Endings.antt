@@ -1,14 +1,18 @@
 -- From what the parts did to how the call ends.
-use Rattle.std.proofs.Common.{◌≡◌, ℕ, ◌≤◌, Bool, false, List, take, length, refl, sym, ap, ◌∙◌, subst, inl, inr, Result, Ok, Err, arith}
-use Rattle.std.specs.Prelude.{IfOk, IfSome, Option}
+use Rattle.std.proofs.Common.{◌≡◌, ℕ, ◌≤◌, false, List, length, refl, sym, ap, ◌∙◌, subst, inl, inr, Result, Ok, Err, arith}
+use Rattle.std.specs.Prelude.{IfOk, IfSome, Option, Some, None}
+use Rattle.std.specs.FinMap.{get}
+use Rattle.cob_meaning.specs.Program.{Program, plain}
+use Rattle.straight_source.specs.Source.{program_of}
+use Rattle.straight_source.specs.declared.read.StraightLines.{StraightLines}
 use Rattle.std.proofs.lemmas.List.{take_all}
 use Rattle.std.specs.Io.KnownBytes.{append_known}
 use Rattle.batch_io.specs.FilesState.{Contents, known_bytes}
 use Rattle.analyse_top.specs.declared.answer.Stop.{Stop}
 use Rattle.analyse_top.specs.declared.answer.Answer as code
-use Rattle.analyse_top.specs.Answer.{Answer, Answers, AnswersCheck, IsCheck, answer_text}
+use Rattle.analyse_top.specs.Answer.{Answer, Answers, AnswersCheck, AnswersProgram, IsCheck, source_limit, answer_text}
 use Rattle.analyse_top.specs.Conclusion.{Call, Concludes, EndsBy, EndsByMemory, Gains, GainsFront, memory_text}
-use Rattle.analyse_top.specs.Steps.{Reads, ShowsAnswer, ShowsRefusal}
+use Rattle.analyse_top.specs.Steps.{Reads, ShowsAnswer, ShowsRefusal, Writes}
 use Rattle.analyse_top.specs.View.{plain_answer}
 
 module _ (call : Call) (reads : Reads call.files_before call.files_after false) where
@@ -35,3 +39,22 @@ pub answers_check : (result : Result code.Answer Stop) (known : Option Contents)
     IfOk result (λ answer. IfSome known (λ contents. AnswersCheck contents source certificate (plain_answer answer))) → IfOk result (λ answer. Answers known words (plain_answer answer))
 answers_check (Ok answer) known words source certificate is h = inr (source, certificate, is, h)
 answers_check (Err stop) known words source certificate is h = tt
+
+-- ---- a source that is read
+
+module _ (source certificate bytes : List ℕ) (fits : length bytes ≤ source_limit) where
+  read_known : (known : Option Contents) (read : StraightLines) (answer : Answer) → IfSome known (λ contents. get contents source ≡ Some bytes) → Writes bytes read →
+      IfSome known (λ contents. AnswersProgram contents certificate (plain read.program) read.lines.items answer) → IfSome known (λ contents. AnswersCheck contents source certificate answer)
+  read_known None read answer held w h = tt
+  read_known (Some contents) read answer held (tokens, s, written, program, lines) h =
+      let at_program = subst (λ (p : Program). AnswersProgram contents certificate p read.lines.items answer) program h in
+      let at_lines = subst (λ (ls : List ℕ). AnswersProgram contents certificate (program_of s) ls answer) lines at_program in
+      inr (tokens, s, record { bytes = bytes; held = held; fits = fits; written = written }, at_lines)
+
+  pub answers_read : (result : Result code.Answer Stop) (read : StraightLines) (seen : List ℕ) (known after : Option Contents) → IfSome known (λ contents. get contents source ≡ Some bytes) → seen ≡ bytes → Writes seen read → after ≡ known →
+      IfOk result (λ answer. IfSome after (λ contents. AnswersProgram contents certificate (plain read.program) read.lines.items (plain_answer answer))) →
+      IfOk result (λ answer. IfSome known (λ contents. AnswersCheck contents source certificate (plain_answer answer)))
+  answers_read (Err stop) read seen known after held s w k h = tt
+  answers_read (Ok answer) read seen known after held s w k h =
+      let P : Option Contents → Type 0 = λ known. IfSome known (λ contents. AnswersProgram contents certificate (plain read.program) read.lines.items (plain_answer answer)) in
+      read_known known read (plain_answer answer) held (subst (λ (bs : List ℕ). Writes bs read) s w) (subst P k h)

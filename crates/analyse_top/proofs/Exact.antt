@@ -1,19 +1,15 @@
 -- Each answer is given exactly where it is the answer.
-use Rattle.std.proofs.Common.{◌≡◌, ℕ, ◌+◌, ◌^◌, ◌<◌, ◌≤◌, List, length, Option, Some, refl, subst, inl, inr, arith}
-use Rattle.batch_io.specs.FilesState.{Contents, known_bytes}
-use Rattle.text_lines.specs.Lines.{text_of}
-use Rattle.text_lines.specs.Viable.{FirstBad}
+use Rattle.std.proofs.Common.{◌≡◌, ℕ, ◌+◌, ◌^◌, ◌<◌, List, length, Option, Some, subst, inl, inr, arith}
+use Rattle.batch_io.specs.FilesState.{Contents}
 use Rattle.text_lines.proofs.Texts.{one_bad}
-use Rattle.cert_text.specs.declared.cert.Claim.{Claim}
-use Rattle.cert_check.specs.Inductive.{FitsProgram}
-use Rattle.straight_source.specs.Source.{Source, IsSource, AreSourceLines, source_lines, program_of}
-use Rattle.straight_source.proofs.Whole.{counts, source_not_bad}
-use Rattle.straight_source.proofs.One.{same_source}
-use Rattle.straight_claims.specs.Claims.{AreClaimsLines, claims_lines}
-use Rattle.straight_claims.proofs.Certificates.{one_certificate, read_or_refused}
-use Rattle.analyse_top.specs.Answer.{Answer, Answers, AnswersProgram}
+use Rattle.straight_source.specs.Source.{Source, IsSource, program_of, statement_lines}
+use Rattle.straight_source.proofs.Whole.{counts}
+use Rattle.straight_claims.specs.Claims.{AreClaimsLines}
+use Rattle.straight_claims.proofs.Certificates.{one_certificate, read_or_refused as claims_or_refused}
+use Rattle.analyse_top.specs.Answer.{Answer, Answers}
 use Rattle.analyse_top.specs.Conclusion.{Call, Concludes, IsExact, EndsBy}
-use Rattle.analyse_top.proofs.OneAnswer.{one_for_program, one_answer}
+use Rattle.analyse_top.proofs.OneAnswer.{Behind, one_for_program, one_answer}
+use Rattle.analyse_top.proofs.Sources.{Writing, Wrote}
 
 -- a source of the form has few enough items and statements for their numbers
 few_cells : (source : Source) → IsSource source → length (program_of source).digits < 2 ^ 32
@@ -22,18 +18,19 @@ few_cells source is = omega (arith, (counts source).1, is.most)
 few_nodes : (source : Source) → IsSource source → length (program_of source).acts + 1 < 2 ^ 32
 few_nodes source is = omega (arith, (counts source).0, is.most_acts)
 
-one_behind : (contents : Contents) (certificate : List ℕ) (source : Source) (a b : Answer) → IsSource source → AnswersProgram contents certificate (program_of source) a → AnswersProgram contents certificate (program_of source) b → a ≡ b
-one_behind contents certificate source a b is =
+one_behind : (contents : Contents) (certificate bytes : List ℕ) (x : Writing) (a b : Answer) → Wrote bytes x → Behind contents certificate x a → Behind contents certificate x b → a ≡ b
+one_behind contents certificate bytes x a b wrote =
+    let source : Source = x.1 in
     let cells = length (program_of source).digits in
     let count = length (program_of source).acts + 1 in
-    one_for_program contents certificate (program_of source)
+    one_for_program contents certificate (program_of source) (statement_lines x.0 source)
     (one_bad (AreClaimsLines cells count))
-    (λ nodes line shape. read_or_refused cells count nodes line (few_cells source is) (few_nodes source is) shape)
-    (λ x y. one_certificate cells count x y (few_cells source is) (few_nodes source is))
+    (λ nodes line shape. claims_or_refused cells count nodes line (few_cells source wrote.is_source) (few_nodes source wrote.is_source) shape)
+    (λ x y. one_certificate cells count x y (few_cells source wrote.is_source) (few_nodes source wrote.is_source))
     a b
 
 same_answer : (contents : Contents) (words : List (List ℕ)) (a b : Answer) → Answers (Some contents) words a → Answers (Some contents) words b → a ≡ b
-same_answer contents = one_answer contents (one_bad AreSourceLines) source_not_bad same_source (one_behind contents)
+same_answer contents = one_answer contents (one_behind contents)
 
 pub is_exact : (call : Call) → Concludes call → IsExact call
 is_exact call concludes contents answer known is = elim concludes.ends [

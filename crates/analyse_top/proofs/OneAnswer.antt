@@ -1,6 +1,6 @@
 -- Words and contents have one answer.
-use Rattle.std.proofs.Common.{◌≡◌, ℕ, ◌+◌, ◌<◌, ◌≤◌, List, [], ◌∷◌, map, length, get_or, Option, Some, None, ◌⊎◌, refl, sym, ap, ◌∙◌, subst, inl, inr, arith}
-use Rattle.std.specs.Prelude.{slice_get, IsSomeAnd}
+use Rattle.std.proofs.Common.{◌≡◌, ℕ, ◌+◌, ◌≤◌, List, [], length, get_or, Some, ◌⊎◌, refl, sym, ap, ◌∙◌, subst, inl, inr}
+use Rattle.std.specs.Prelude.{slice_get}
 use Rattle.std.specs.FinMap.{get}
 use Rattle.std.proofs.lemmas.Option.{same_Some}
 use Rattle.batch_io.specs.FilesState.{Contents}
@@ -10,15 +10,16 @@ use Rattle.cob_meaning.specs.Program.{Program}
 use Rattle.cert_text.specs.declared.cert.Claim.{Claim}
 use Rattle.cert_check.specs.declared.ends.Gap.{Gap}
 use Rattle.cert_check.specs.declared.ends.Leak.{Leak}
-use Rattle.cert_check.specs.Inductive.{AreNodes, FitsProgram, leak, leaks}
-use Rattle.straight_source.specs.Source.{Source, IsSource, AreSourceLines, source_lines, program_of}
+use Rattle.cert_check.specs.Inductive.{FitsProgram, leak, leaks}
+use Rattle.straight_source.specs.Source.{program_of, statement_lines}
 use Rattle.straight_claims.specs.Claims.{AreClaimsLines, claims_lines}
-use Rattle.analyse_top.specs.Answer.{Answer, Usage, Absent, SourceLong, NotYet, CertificateLong, NotInductive, Report, Answers, AnswersCheck, AnswersSource, AnswersProgram, IsCheck, HoldsSource, HoldsClaims, alarms_of, source_limit, certificate_limit}
-use Rattle.analyse_top.proofs.Found.{Found, Missing, Long, Bad, Good, HoldsText, Finds, one_found}
+use Rattle.analyse_top.specs.Answer.{Answer, Usage, Absent, SourceLong, BadLine, BadToken, NotYet, CertificateLong, NotInductive, Report, Answers, AnswersCheck, AnswersSource, AnswersProgram, IsCheck, HoldsClaims, RefusesBytes, alarms_of, source_limit, certificate_limit}
+use Rattle.analyse_top.proofs.Found.{Found, Missing, Long, Bad, Good, Finds, at_held, one_found}
+use Rattle.analyse_top.proofs.Sources.{Writing, Wrote, one_refused, written_or_refused, one_written}
 
 -- ---- the certificate
 
-module _ (contents : Contents) (certificate : List ℕ) (program : Program) where
+module _ (contents : Contents) (certificate : List ℕ) (program : Program) (lines : List ℕ) where
   abbrev cells : ℕ
   cells = length program.digits
 
@@ -28,27 +29,39 @@ module _ (contents : Contents) (certificate : List ℕ) (program : Program) wher
   abbrev claims_text : List (List Claim) → List ℕ
   claims_text nodes = text_of (claims_lines cells nodes)
 
+  abbrev AreClaims : List ℕ → List (List Claim) → Type 0
+  AreClaims bytes nodes = FitsProgram program nodes × (bytes ≡ claims_text nodes)
+
   module _ (one_line : (bytes : List ℕ) (m n : ℕ) → FirstBad claims_texts bytes m → FirstBad claims_texts bytes n → m ≡ n)
       (refused : (nodes : List (List Claim)) (line : ℕ) → FitsProgram program nodes → FirstBad claims_texts (claims_text nodes) line → ⊥)
       (one_value : (a b : List (List Claim)) → FitsProgram program a → FitsProgram program b → claims_text a ≡ claims_text b → a ≡ b) where
-    abbrev FindsClaims : Found (List (List Claim)) → Type 0
-    FindsClaims = Finds (get contents certificate) certificate_limit claims_texts (FitsProgram program) claims_text one_line refused one_value
+    claims_or_bad : (bytes : List ℕ) (nodes : List (List Claim)) (line : ℕ) → AreClaims bytes nodes → FirstBad claims_texts bytes line → ⊥
+    claims_or_bad bytes nodes line (fits, e) bad = refused nodes line fits (subst (λ (bytes : List ℕ). FirstBad claims_texts bytes line) e bad)
+
+    one_claims : (bytes : List ℕ) (a b : List (List Claim)) → AreClaims bytes a → AreClaims bytes b → a ≡ b
+    one_claims bytes a b (fits, e) (fits', f) = one_value a b fits fits' (sym e ∙ f)
+
+    abbrev FoundClaims : Type 0
+    FoundClaims = Found ℕ (List (List Claim))
+
+    abbrev FindsClaims : FoundClaims → Type 0
+    FindsClaims = Finds (get contents certificate) certificate_limit (FirstBad claims_texts) AreClaims one_line claims_or_bad one_claims
 
     -- what the checker makes of claims
     abbrev Checked : List (List Claim) → Answer → Type 0
     Checked nodes answer = ((edge : ℕ) × (gap : Gap) × (slice_get (leaks program nodes) 0 ≡ Some (leak edge gap)) × (answer ≡ NotInductive edge gap))
-        ⊎ ((leaks program nodes ≡ []) × (answer ≡ Report (alarms_of program nodes)))
+        ⊎ ((leaks program nodes ≡ []) × (answer ≡ Report (alarms_of program lines nodes)))
 
-    abbrev Means : Found (List (List Claim)) → Answer → Type 0
+    abbrev Means : FoundClaims → Answer → Type 0
     Means Missing answer = answer ≡ Absent certificate
     Means Long answer = answer ≡ CertificateLong
     Means (Bad line) answer = answer ≡ NotYet line
     Means (Good nodes) answer = Checked nodes answer
 
     held : (nodes : List (List Claim)) → HoldsClaims contents certificate program nodes → FindsClaims (Good nodes)
-    held nodes h = record { is = h.shape; held_is = h.held; fits = h.fits }
+    held nodes h = at_held (get contents certificate) (claims_text nodes) (λ bytes. (length bytes ≤ certificate_limit) × AreClaims bytes nodes) h.held (h.fits, (h.shape, refl))
 
-    means : (answer : Answer) → AnswersProgram contents certificate program answer → (found : Found (List (List Claim))) × FindsClaims found × Means found answer
+    means : (answer : Answer) → AnswersProgram contents certificate program lines answer → (found : FoundClaims) × FindsClaims found × Means found answer
     means (Absent name) h = (Missing, h.0, ap Absent h.1)
     means CertificateLong h = (Long, h, refl)
     means (NotYet line) h = (Bad line, h, refl)
@@ -56,6 +69,8 @@ module _ (contents : Contents) (certificate : List ℕ) (program : Program) wher
     means (Report alarms) (nodes, holds, none, are) = (Good nodes, held nodes holds, inr (none, ap Report are))
     means (Usage word) h = absurd h
     means SourceLong h = absurd h
+    means (BadLine line column) h = absurd h
+    means (BadToken line column) h = absurd h
 
     one_checked : (nodes : List (List Claim)) (a b : Answer) → Checked nodes a → Checked nodes b → a ≡ b
     one_checked nodes a b (inl (edge, gap, first, e)) (inl (edge', gap', first', f)) =
@@ -65,63 +80,69 @@ module _ (contents : Contents) (certificate : List ℕ) (program : Program) wher
     one_checked nodes a b (inr (none, e)) (inl (edge, gap, first, f)) = let none_first = sym first ∙ ap (λ xs. slice_get xs 0) none in cc
     one_checked nodes a b (inr (none, e)) (inr (none', f)) = e ∙ sym f
 
-    one_meaning : (found : Found (List (List Claim))) (a b : Answer) → Means found a → Means found b → a ≡ b
+    one_meaning : (found : FoundClaims) (a b : Answer) → Means found a → Means found b → a ≡ b
     one_meaning Missing a b h k = h ∙ sym k
     one_meaning Long a b h k = h ∙ sym k
     one_meaning (Bad line) a b h k = h ∙ sym k
     one_meaning (Good nodes) a b h k = one_checked nodes a b h k
 
-    pub one_for_program : (a b : Answer) → AnswersProgram contents certificate program a → AnswersProgram contents certificate program b → a ≡ b
+    pub one_for_program : (a b : Answer) → AnswersProgram contents certificate program lines a → AnswersProgram contents certificate program lines b → a ≡ b
     one_for_program a b h k =
         let x = means a h in
         let y = means b k in
         one_meaning y.0 a b
-        (subst (λ found. Means found a) (one_found (get contents certificate) certificate_limit claims_texts (FitsProgram program) claims_text one_line refused one_value x.0 y.0 x.1 y.1) x.2) y.2
+        (subst (λ found. Means found a) (one_found (get contents certificate) certificate_limit (FirstBad claims_texts) AreClaims one_line claims_or_bad one_claims x.0 y.0 x.1 y.1) x.2) y.2
 
 -- ---- the source, and the command
 
 module _ (contents : Contents) where
-  abbrev source_text : Source → List ℕ
-  source_text source = text_of (source_lines source)
+  abbrev FoundSource : Type 0
+  FoundSource = Found Answer Writing
 
-  module _ (one_line : (bytes : List ℕ) (m n : ℕ) → FirstBad AreSourceLines bytes m → FirstBad AreSourceLines bytes n → m ≡ n)
-      (refused : (source : Source) (line : ℕ) → IsSource source → FirstBad AreSourceLines (source_text source) line → ⊥)
-      (one_value : (a b : Source) → IsSource a → IsSource b → source_text a ≡ source_text b → a ≡ b)
-      (one_behind : (certificate : List ℕ) (source : Source) (a b : Answer) → IsSource source → AnswersProgram contents certificate (program_of source) a → AnswersProgram contents certificate (program_of source) b → a ≡ b) where
-    abbrev FindsSource : List ℕ → Found Source → Type 0
-    FindsSource name = Finds (get contents name) source_limit AreSourceLines IsSource source_text one_line refused one_value
+  abbrev FindsSource : List ℕ → FoundSource → Type 0
+  FindsSource name = Finds (get contents name) source_limit RefusesBytes Wrote one_refused written_or_refused one_written
 
-    abbrev SourceMeans : List ℕ → List ℕ → Found Source → Answer → Type 0
+  abbrev pub Behind : List ℕ → Writing → Answer → Type 0
+  Behind certificate x answer = AnswersProgram contents certificate (program_of x.1) (statement_lines x.0 x.1) answer
+
+  module _ (one_behind : (certificate bytes : List ℕ) (x : Writing) (a b : Answer) → Wrote bytes x → Behind certificate x a → Behind certificate x b → a ≡ b) where
+    abbrev SourceMeans : List ℕ → List ℕ → FoundSource → Answer → Type 0
     SourceMeans name certificate Missing answer = answer ≡ Absent name
     SourceMeans name certificate Long answer = answer ≡ SourceLong
-    SourceMeans name certificate (Bad line) answer = answer ≡ NotYet line
-    SourceMeans name certificate (Good source) answer = IsSource source × AnswersProgram contents certificate (program_of source) answer
+    SourceMeans name certificate (Bad refusal) answer = answer ≡ refusal
+    SourceMeans name certificate (Good x) answer = (bytes : List ℕ) × Wrote bytes x × Behind certificate x answer
 
-    refusal_means : (name certificate : List ℕ) (answer : Answer) → AnswersSource contents name answer → (found : Found Source) × FindsSource name found × SourceMeans name certificate found answer
+    refusal_means : (name certificate : List ℕ) (answer : Answer) → AnswersSource contents name answer → (found : FoundSource) × FindsSource name found × SourceMeans name certificate found answer
     refusal_means name certificate (Absent other) h = (Missing, h.0, ap Absent h.1)
     refusal_means name certificate SourceLong h = (Long, h, refl)
-    refusal_means name certificate (NotYet line) h = (Bad line, h, refl)
+    refusal_means name certificate (BadLine line column) h = (Bad (BadLine line column), h, refl)
+    refusal_means name certificate (BadToken line column) h = (Bad (BadToken line column), h, refl)
+    refusal_means name certificate (NotYet line) h = (Bad (NotYet line), h, refl)
     refusal_means name certificate (Usage word) h = absurd h
     refusal_means name certificate CertificateLong h = absurd h
     refusal_means name certificate (NotInductive edge gap) h = absurd h
     refusal_means name certificate (Report alarms) h = absurd h
 
-    check_means : (name certificate : List ℕ) (answer : Answer) → AnswersCheck contents name certificate answer → (found : Found Source) × FindsSource name found × SourceMeans name certificate found answer
+    check_means : (name certificate : List ℕ) (answer : Answer) → AnswersCheck contents name certificate answer → (found : FoundSource) × FindsSource name found × SourceMeans name certificate found answer
     check_means name certificate answer (inl refusal) = refusal_means name certificate answer refusal
-    check_means name certificate answer (inr (source, holds, behind)) = (Good source, record { is = holds.is_source; held_is = holds.held; fits = holds.fits }, (holds.is_source, behind))
+    check_means name certificate answer (inr (tokens, source, holds, behind)) = (
+      Good (tokens, source),
+      at_held (get contents name) holds.bytes (λ bytes. (length bytes ≤ source_limit) × Wrote bytes (tokens, source)) holds.held (holds.fits, holds.written),
+      (holds.bytes, holds.written, behind),
+    )
 
-    one_source_meaning : (name certificate : List ℕ) (found : Found Source) (a b : Answer) → SourceMeans name certificate found a → SourceMeans name certificate found b → a ≡ b
+    one_source_meaning : (name certificate : List ℕ) (found : FoundSource) (a b : Answer) → SourceMeans name certificate found a → SourceMeans name certificate found b → a ≡ b
     one_source_meaning name certificate Missing a b h k = h ∙ sym k
     one_source_meaning name certificate Long a b h k = h ∙ sym k
-    one_source_meaning name certificate (Bad line) a b h k = h ∙ sym k
-    one_source_meaning name certificate (Good source) a b h k = one_behind certificate source a b h.0 h.1 k.1
+    one_source_meaning name certificate (Bad refusal) a b h k = h ∙ sym k
+    one_source_meaning name certificate (Good x) a b h k = one_behind certificate h.0 x a b h.1 h.2 k.2
 
     one_for_check : (name certificate : List ℕ) (a b : Answer) → AnswersCheck contents name certificate a → AnswersCheck contents name certificate b → a ≡ b
     one_for_check name certificate a b h k =
         let x = check_means name certificate a h in
         let y = check_means name certificate b k in
         one_source_meaning name certificate y.0 a b
-        (subst (λ found. SourceMeans name certificate found a) (one_found (get contents name) source_limit AreSourceLines IsSource source_text one_line refused one_value x.0 y.0 x.1 y.1) x.2) y.2
+        (subst (λ found. SourceMeans name certificate found a) (one_found (get contents name) source_limit RefusesBytes Wrote one_refused written_or_refused one_written x.0 y.0 x.1 y.1) x.2) y.2
 
     one_command : (words : List (List ℕ)) (name certificate name' certificate' : List ℕ) → IsCheck words name certificate → IsCheck words name' certificate' → (name ≡ name') × (certificate ≡ certificate')
     one_command words name certificate name' certificate' is is' =

@@ -1,5 +1,5 @@
 -- The words of a command.
-use Rattle.std.proofs.Common.{◌≡◌, ℕ, zero, suc, ◌<◌, ◌≤◌, List, [], ◌∷◌, length, get_or, refl, sym, ap, ◌∙◌, arith, String, Global, string_bytes}
+use Rattle.std.proofs.Common.{◌≡◌, ℕ, List, [], ◌∷◌, length, get_or, refl, ◌∙◌, arith, String, Global, string_bytes}
 use Rattle.std.specs.Prelude.{codes}
 use Rattle.analyse_top.specs.Answer.{IsCheck, IsPlain}
 use Rattle.analyse_top.specs.Steps.{texts}

@@ -1,11 +1,11 @@
 -- How a call of the program ends: its status, what it shows, and what it leaves.
-use Rattle.std.specs.Prelude.{◌≡◌, ℕ, ◌≤◌, ◌⊎◌, List, ◌++◌, take, length, codes, Option, None, Some}
-use Rattle.std.specs.FinMap.{get}
+use Rattle.std.specs.Prelude.{◌≡◌, ℕ, ◌≤◌, ◌⊎◌, List, ◌++◌, take, length, codes, Some}
 use Rattle.std.specs.Io.KnownBytes.{append_known}
 use Rattle.batch_io.specs.Faults.{Rose}
 use Rattle.batch_io.specs.FilesState.{FilesState, Contents, KeepsIds, known_bytes}
 use Rattle.batch_io.specs.SinkState.{SinkState}
 use Rattle.cob_meaning.specs.Run.{MeetsNoFault}
+use Rattle.cob_tree.specs.declared.token.Token.{Token}
 use Rattle.straight_source.specs.Source.{Source, program_of}
 use Rattle.analyse_top.specs.Text.{line_end}
 use Rattle.analyse_top.specs.Answer.{Answer, Answers, IsCheck, HoldsSource, answer_text, status_of, status_unwritten}
@@ -88,14 +88,15 @@ abbrev pub IsExact : Call → Type 0
 IsExact call = (contents : Contents) (answer : Answer) → known_bytes call.files_before ≡ Some contents → Answers (Some contents) call.words answer →
     EndsBy call answer ⊎ EndsByReadFault call ⊎ EndsByMemory call
 
--- The headline: where `check` answers 0, the bytes of SOURCE are a source of the form, and whatever the number of
+-- The headline: where `check` answers 0, the canonical tokens of SOURCE are those of a source of the form, and whatever the number of
 -- steps, its run meets no size error, no truncation and no other fault.
 pub record IsClean (contents : Contents) (words : List (List ℕ)) : Type 0 where
   pub name : List ℕ
   pub certificate : List ℕ
   pub checked : IsCheck words name certificate
+  pub tokens : List Token
   pub source : Source
-  pub held : HoldsSource contents name source
+  pub held : HoldsSource contents name tokens source
   pub safe : MeetsNoFault (program_of source)
 
 abbrev pub CleanIsSafe : Call → Type 0

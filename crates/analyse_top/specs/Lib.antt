@@ -1,4 +1,5 @@
 pub mod Text
+pub mod Front
 pub mod Answer
 pub mod Conclusion
 pub mod View

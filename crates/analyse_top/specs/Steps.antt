@@ -1,5 +1,5 @@
 -- What the parts of the program's call do.
-use Rattle.std.specs.Prelude.{◌≡◌, ℕ, ◌+◌, ◌⊎◌, Bool, true, false, List, [], map, length, slice_get, Option, Some, IfSome, Result, Ok, Err, IfOk, MatchResult, Vec, String, string_bytes}
+use Rattle.std.specs.Prelude.{◌≡◌, ℕ, ◌+◌, ◌≤◌, ◌⊎◌, Bool, true, false, List, [], map, length, slice_get, Some, Result, Ok, Err, IfOk, MatchResult, Vec, String, string_bytes}
 use Rattle.text_lines.specs.Lines.{text_of}
 use Rattle.text_lines.specs.Viable.{FirstBad}
 use Rattle.cob_tree.specs.declared.fault.Open.{Open}
@@ -9,12 +9,19 @@ use Rattle.cert_check.specs.declared.ends.CheckEnd.{CheckEnd}
 use Rattle.cert_check.specs.declared.ends.CheckEnd.TheVariants as check
 use Rattle.cert_check.specs.Inductive.{FitsProgram, leak, leaks}
 use Rattle.straight_claims.specs.Claims.{AreClaimsLines, claims_lines}
-use Rattle.analyse_top.specs.Answer.{Answer, Usage, Absent, SourceLong, NotYet, CertificateLong, NotInductive, Report, alarm_at, alarms_of, answer_text, status_of, status_unwritten}
+use Rattle.cob_tree.specs.declared.token.Token.{Token}
+use Rattle.cob_meaning.specs.Program.{plain, IsValid}
+use Rattle.straight_source.specs.declared.read.StraightLines.{StraightLines}
+use Rattle.straight_source.specs.Source.{Source, program_of, statement_lines}
+use Rattle.analyse_top.specs.declared.front.FrontEnd.{FrontEnd}
+use Rattle.analyse_top.specs.declared.front.FrontEnd.TheVariants as front
+use Rattle.analyse_top.specs.Front.{Tokens, front_of}
+use Rattle.analyse_top.specs.Answer.{Answer, Usage, Absent, SourceLong, BadLine, BadToken, NotYet, CertificateLong, NotInductive, Report, IsWritten, RefusesBytes, alarm_at, alarms_of, answer_text, status_of, status_unwritten}
 use Rattle.batch_io.specs.SinkState.{SinkState}
 use Rattle.analyse_top.specs.Conclusion.{Shows, GainsFront, memory_text}
 use Rattle.std.specs.declared.alloc.Global.{Global}
 use Rattle.batch_io.specs.Faults.{Counts}
-use Rattle.batch_io.specs.FilesState.{FilesState, Contents, KeepsIds, known_bytes}
+use Rattle.batch_io.specs.FilesState.{FilesState, KeepsIds, known_bytes}
 use Rattle.analyse_top.specs.declared.answer.Stop.{Stop}
 use Rattle.analyse_top.specs.declared.answer.Stop.TheVariants.{ReadFault, Memory}
 
@@ -33,6 +40,34 @@ pub record Reads (old new : FilesState) (failed : Bool) : Type 0 where
   pub writing : new.writing ≡ old.writing
   pub reading : Counts failed old.reading new.reading
 
+-- ---- reading the source
+
+-- a program and its lines, as the checker takes them
+pub record IsCheckable (read : StraightLines) : Type 0 where
+  pub valid : IsValid (plain read.program)
+  pub items : length read.program.digits.items ≤ 26
+  pub acts : length read.program.acts.items ≤ 4095
+  pub lines : length read.lines.items ≡ length read.program.acts.items
+
+-- the bytes write this program, on these lines
+abbrev pub Writes : List ℕ → StraightLines → Type 0
+Writes bytes read = (tokens : List Token) × (source : Source) × IsWritten bytes tokens source × (plain read.program ≡ program_of source) × (read.lines.items ≡ statement_lines tokens source)
+
+-- the answer that says why a source isn't read
+abbrev pub answer_to : FrontEnd → Result Answer Stop
+answer_to (front.BadLine line column) = Ok (BadLine line column)
+answer_to (front.BadToken line column) = Ok (BadToken line column)
+answer_to (front.NotYet line) = Ok (NotYet line)
+answer_to front.Memory = Err Memory
+
+abbrev pub RefusesFront : List ℕ → FrontEnd → Type 0
+RefusesFront bytes end = IfOk (answer_to end) (RefusesBytes bytes)
+
+-- the tokens of the bytes, or why there are none
+abbrev pub GivesTokens : List ℕ → Result (Vec Token Global) FrontEnd → Type 0
+GivesTokens bytes (Ok tokens) = front_of bytes ≡ Tokens tokens.items
+GivesTokens bytes (Err end) = RefusesFront bytes end
+
 -- ---- between the checker and the answer
 
 -- the shape was right before the checker was called
@@ -41,24 +76,30 @@ IsNoShape (check.Shape what found wanted) = ⊥
 IsNoShape (check.NotInductive layer edge gap) = Unit {0}
 IsNoShape check.Memory = Unit {0}
 
+-- the pair's statement is one of these lines' statements
+abbrev pub HasLine : List ℕ → Open → Type 0
+HasLine lines pair = (1 ≤ pair.statement) × (pair.statement ≤ length lines)
+
 -- the answer that says what the checker says
-abbrev pub AnswersChecked : ℕ → Result (Vec Open Global) CheckEnd → Result Answer Stop → Type 0
-AnswersChecked items (Ok pairs) result = MatchResult result (λ answer. answer ≡ Report (map (alarm_at items) pairs.items)) (λ stop. stop ≡ Memory)
-AnswersChecked items (Err (check.NotInductive layer edge gap)) result = result ≡ Ok (NotInductive edge gap)
-AnswersChecked items (Err check.Memory) result = result ≡ Err Memory
-AnswersChecked items (Err (check.Shape what found wanted)) result = ⊥
+abbrev pub AnswersChecked : List ℕ → Result (Vec Open Global) CheckEnd → Result Answer Stop → Type 0
+AnswersChecked lines (Ok pairs) result = MatchResult result (λ answer. answer ≡ Report (map (alarm_at lines) pairs.items)) (λ stop. stop ≡ Memory)
+AnswersChecked lines (Err (check.NotInductive layer edge gap)) result = result ≡ Ok (NotInductive edge gap)
+AnswersChecked lines (Err check.Memory) result = result ≡ Err Memory
+AnswersChecked lines (Err (check.Shape what found wanted)) result = ⊥
 
 -- the answer to a certificate of these bytes
-abbrev pub AnswersBytes : List ℕ → Program → Answer → Type 0
-AnswersBytes bytes program (NotYet line) = FirstBad (AreClaimsLines (length program.digits) (length program.acts + 1)) bytes line
-AnswersBytes bytes program (NotInductive edge gap) =
+abbrev pub AnswersBytes : List ℕ → Program → List ℕ → Answer → Type 0
+AnswersBytes bytes program lines (NotYet line) = FirstBad (AreClaimsLines (length program.digits) (length program.acts + 1)) bytes line
+AnswersBytes bytes program lines (NotInductive edge gap) =
     (nodes : List (List Claim)) × FitsProgram program nodes × (bytes ≡ text_of (claims_lines (length program.digits) nodes)) × (slice_get (leaks program nodes) 0 ≡ Some (leak edge gap))
-AnswersBytes bytes program (Report alarms) =
-    (nodes : List (List Claim)) × FitsProgram program nodes × (bytes ≡ text_of (claims_lines (length program.digits) nodes)) × (leaks program nodes ≡ []) × (alarms ≡ alarms_of program nodes)
-AnswersBytes bytes program (Usage word) = ⊥
-AnswersBytes bytes program (Absent name) = ⊥
-AnswersBytes bytes program SourceLong = ⊥
-AnswersBytes bytes program CertificateLong = ⊥
+AnswersBytes bytes program lines (Report alarms) =
+    (nodes : List (List Claim)) × FitsProgram program nodes × (bytes ≡ text_of (claims_lines (length program.digits) nodes)) × (leaks program nodes ≡ []) × (alarms ≡ alarms_of program lines nodes)
+AnswersBytes bytes program lines (Usage word) = ⊥
+AnswersBytes bytes program lines (Absent name) = ⊥
+AnswersBytes bytes program lines SourceLong = ⊥
+AnswersBytes bytes program lines CertificateLong = ⊥
+AnswersBytes bytes program lines (BadLine line column) = ⊥
+AnswersBytes bytes program lines (BadToken line column) = ⊥
 
 -- ---- what is shown
 

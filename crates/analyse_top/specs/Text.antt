@@ -1,5 +1,5 @@
 -- What is printed.
-use Rattle.std.specs.Prelude.{◌≡◌, ℕ, ℤ, List, [], ◌∷◌, ◌++◌, length, codes, decimal, Option, None, Some}
+use Rattle.std.specs.Prelude.{ℕ, ℤ, List, [], ◌∷◌, ◌++◌, length, codes, decimal, Option, None, Some}
 use Rattle.std.specs.Fmt.{signed_decimal}
 use Rattle.std.specs.List.{flat_map}
 use Rattle.cob_tree.specs.declared.fault.Kind.{Kind}
@@ -47,3 +47,7 @@ gap_text (gap.Class cell) = cell_text cell ++ codes " class"
 gap_text (gap.Low cell reached claimed) = cell_text cell ++ codes " low" ++ ends_text reached claimed
 gap_text (gap.High cell reached claimed) = cell_text cell ++ codes " high" ++ ends_text reached claimed
 gap_text (gap.Diff pack row column reached claimed) = place_text pack row column ++ difference_text reached claimed
+
+-- the one line of a refusal at a place
+abbrev pub place_line : List ℕ → ℕ → ℕ → List ℕ
+place_line code line column = code ++ codes " line " ++ decimal line ++ codes " column " ++ decimal column ++ line_end

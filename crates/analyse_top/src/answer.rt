@@ -21,6 +21,10 @@ pub enum Answer<'a> {
     /// There is no file of this name.
     Absent(&'a str),
     SourceLong,
+    /// The line and the column of the first place that the reference format refuses.
+    BadLine(u32, u32),
+    /// The line and the column of the first token that doesn't begin or end rightly.
+    BadToken(u32, u32),
     /// The first line that isn't of the straight-line form.
     NotYet(u32),
     CertificateLong,

@@ -1,18 +1,18 @@
-ghost use Rattle.std.specs.Prelude.{◌≡◌, ◌+◌, ◌<◌, ◌≤◌, ◌^◌, All, map, length, IfOk, IfSome, MatchResult, vec_len};
+ghost use Rattle.std.specs.Prelude.{◌≡◌, ◌≤◌, All, map, length, IfOk, IfSome, MatchResult};
 ghost use Rattle.batch_io.specs.FilesState.{known_bytes};
-ghost use Rattle.cob_meaning.specs.Program.{IsValid, plain};
+ghost use Rattle.cob_meaning.specs.Program.{plain};
 ghost use Rattle.analyse_top.specs.Answer.{AnswersCheck, AnswersProgram, alarm_at};
-ghost use Rattle.analyse_top.specs.Steps.{Reads, stopped_by_fault, IsNoShape, AnswersChecked, AnswersBytes};
+ghost use Rattle.analyse_top.specs.Steps.{Reads, stopped_by_fault, IsCheckable, answer_to, HasLine, IsNoShape, AnswersChecked, AnswersBytes};
 ghost use Rattle.analyse_top.specs.View.{plain_answer, plain_result};
 
 use crate::answer::{Alarm, Answer, Stop};
+use crate::front::{FrontEnd, read_front};
 use batch_io::{FileEnd, Files, read_file};
 use cert_check::{CheckEnd, check_straight};
-use cob_meaning::Straight;
 use cob_tree::Open;
 use std::alloc::{AllocError, Global};
 use straight_claims::{ClaimsEnd, read_claims};
-use straight_source::{SourceEnd, read_source};
+use straight_source::StraightLines;
 
 const SOURCE_LIMIT: usize = 1_048_576;
 
@@ -36,29 +36,38 @@ pub fn check<'a, F: Files>(
         Err(FileEnd::Failed) => return Err(Stop::ReadFault),
         Err(FileEnd::Memory) => return Err(Stop::Memory),
     };
-    match read_source(alloc, &bytes) {
-        Ok(program) => check_program(alloc, &program, certificate, files),
-        Err(SourceEnd::NotYet { line }) => Ok(Answer::NotYet(line)),
-        Err(SourceEnd::Memory) => Err(Stop::Memory),
+    match read_front(alloc, &bytes) {
+        Ok(read) => check_program(alloc, &read, certificate, files),
+        Err(end) => answer_to(end),
+    }
+}
+
+// The answer to a source that isn't read.
+fn answer_to<'a>(end: FrontEnd) -> Result<Answer<'a>, Stop>
+    ensures { plain_result result ≡ answer_to end }
+{
+    match end {
+        FrontEnd::BadLine { line, column } => Ok(Answer::BadLine(line, column)),
+        FrontEnd::BadToken { line, column } => Ok(Answer::BadToken(line, column)),
+        FrontEnd::NotYet { line } => Ok(Answer::NotYet(line)),
+        FrontEnd::Memory => Err(Stop::Memory),
     }
 }
 
 // Answers for a source that was read.
 fn check_program<'a, F: Files>(
     alloc: Global,
-    program: &Straight,
+    read: &StraightLines,
     certificate: &'a str,
     files: &mut F,
 ) -> Result<Answer<'a>, Stop>
-    requires valid { IsValid (plain program.now) }
-    requires items { vec_len program.now.digits ≤ 26 }
-    requires acts { vec_len program.now.acts ≤ 4095 }
+    requires { IsCheckable read.now }
     ensures reads { Reads (F.state files.old) (F.state files.new) (stopped_by_fault result) }
     ensures answer { IfOk result (λ answer. IfSome (known_bytes (F.state files.old)) (λ contents.
-        AnswersProgram contents certificate.now (plain program.now) (plain_answer answer))) }
+        AnswersProgram contents certificate.now (plain read.now.program) read.now.lines.items (plain_answer answer))) }
 {
     match read_file(alloc, files, certificate, CERTIFICATE_LIMIT) {
-        Ok(bytes) => check_bytes(alloc, program, &bytes),
+        Ok(bytes) => check_bytes(alloc, read, &bytes),
         Err(FileEnd::Absent) => Ok(Answer::Absent(certificate)),
         Err(FileEnd::Long) => Ok(Answer::CertificateLong),
         Err(FileEnd::Failed) => Err(Stop::ReadFault),
@@ -67,18 +76,21 @@ fn check_program<'a, F: Files>(
 }
 
 // Answers for a certificate's bytes.
-fn check_bytes<'a>(alloc: Global, program: &Straight, bytes: &[u8]) -> Result<Answer<'a>, Stop>
-    requires valid { IsValid (plain program.now) }
-    requires items { vec_len program.now.digits ≤ 26 }
-    requires acts { vec_len program.now.acts ≤ 4095 }
+fn check_bytes<'a>(alloc: Global, read: &StraightLines, bytes: &[u8]) -> Result<Answer<'a>, Stop>
+    requires checkable { IsCheckable read.now }
     requires size { length bytes.now ≤ 67108864 }
-    ensures { MatchResult result (λ answer. AnswersBytes bytes.now (plain program.now) (plain_answer answer))
+    ensures { MatchResult result (λ answer. AnswersBytes bytes.now (plain read.now.program) read.now.lines.items (plain_answer answer))
         (λ stop. stop ≡ Stop.Memory) }
 {
+    let program = &read.program;
     let cells = program.digits.len() as u32;
     let nodes = program.acts.len() as u32 + 1;
     match read_claims(alloc, bytes, cells, nodes) {
-        Ok(claims) => answer_of(alloc, cells, check_straight(alloc, program, &claims)),
+        Ok(claims) => answer_of(
+            alloc,
+            read.lines.as_slice(),
+            check_straight(alloc, program, &claims),
+        ),
         Err(ClaimsEnd::NotYet { line }) => Ok(Answer::NotYet(line)),
         Err(ClaimsEnd::Memory) => Err(Stop::Memory),
     }
@@ -87,15 +99,14 @@ fn check_bytes<'a>(alloc: Global, program: &Straight, bytes: &[u8]) -> Result<An
 // The checker's answer as the program's.
 fn answer_of<'a>(
     alloc: Global,
-    items: u32,
+    lines: &[u32],
     checked: Result<Vec<Open>, CheckEnd>,
 ) -> Result<Answer<'a>, Stop>
-    requires items { items ≤ 26 }
-    requires checked { MatchResult checked (λ pairs. All (λ pair. pair.statement < 2 ^ 31) pairs.items) IsNoShape }
-    ensures { AnswersChecked items checked (plain_result result) }
+    requires { MatchResult checked (λ pairs. All (HasLine lines.now) pairs.items) IsNoShape }
+    ensures { AnswersChecked lines.now checked (plain_result result) }
 {
     match checked {
-        Ok(pairs) => Ok(Answer::Report(alarms_of(alloc, items, &pairs)?)),
+        Ok(pairs) => Ok(Answer::Report(alarms_of(alloc, lines, &pairs)?)),
         Err(
             CheckEnd::NotInductive {
                 layer: _,
@@ -109,17 +120,16 @@ fn answer_of<'a>(
 }
 
 // The open pairs with the lines of their statements.
-fn alarms_of(alloc: Global, items: u32, pairs: &[Open]) -> Result<Vec<Alarm>, AllocError>
-    requires items { items ≤ 26 }
-    requires pairs { All (λ pair. pair.statement < 2 ^ 31) pairs.now }
-    ensures { IfOk result (λ alarms. alarms.items ≡ map (alarm_at items) pairs.now) }
+fn alarms_of(alloc: Global, lines: &[u32], pairs: &[Open]) -> Result<Vec<Alarm>, AllocError>
+    requires { All (HasLine lines.now) pairs.now }
+    ensures { IfOk result (λ alarms. alarms.items ≡ map (alarm_at lines.now) pairs.now) }
 {
     let mut alarms = Vec::new(alloc);
     for pair in pairs {
         alarms.push(Alarm {
             kind: pair.kind,
             statement: pair.statement,
-            line: 5 + items + pair.statement,
+            line: lines[pair.statement as usize - 1],
         })?;
     }
     Ok(alarms)

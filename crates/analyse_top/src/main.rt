@@ -3,6 +3,7 @@
 
 mod answer;
 mod check;
+mod front;
 mod text;
 mod top;
 

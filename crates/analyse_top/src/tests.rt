@@ -10,7 +10,7 @@ const CERTIFICATE: &str =
     "COBSOUND 1\ncells 1\nnodes 3\npacks 0\nnode 1\nc 1 998 998\nnode 2\nc 1 999 999\nnode 3\nc 1 999 999\nend\n";
 
 // A text in the sample, the text in its place, likewise in its certificate, and what `check` answers.
-const CHECKS: [(&str, &str, &str, &str, u8, &str); 9] = [
+const CHECKS: [(&str, &str, &str, &str, u8, &str); 20] = [
     ("", "", "", "", 0, "clean\n"),
     (
         "ADD 1",
@@ -45,7 +45,81 @@ const CHECKS: [(&str, &str, &str, &str, u8, &str); 9] = [
         "E14 layer 1 edge 0 cell 1 low reached 997 claimed 998\n",
     ),
     ("TO N", "TO M", "", "", 2, "E20 line 7\n"),
-    ("STOP RUN.\n", "STOP RUN.", "", "", 2, "E20 line 8\n"),
+    ("STOP RUN.\n", "STOP RUN.", "", "", 0, "clean\n"),
+    (
+        "       ADD 1 TO N.\n",
+        "      * a comment\n\n       add 2\n           to n.  ",
+        "",
+        "",
+        1,
+        "SIZE statement 1 line 9\nalarms 1\n",
+    ),
+    (
+        "PROGRAM-ID. T.",
+        "PROGRAM-ID. PAYRUN.",
+        "",
+        "",
+        0,
+        "clean\n",
+    ),
+    (
+        "PROGRAM-ID. T.",
+        "PROGRAM-ID. PROGRAM.",
+        "",
+        "",
+        2,
+        "E20 line 2\n",
+    ),
+    ("77 N", "77 MOVE", "", "", 2, "E20 line 5\n"),
+    (
+        "PIC 9(3) VALUE",
+        "PICTURE IS 9(3) VALUE IS",
+        "",
+        "",
+        0,
+        "clean\n",
+    ),
+    (
+        "ADD 1 TO N.",
+        "ADD 1\n\n       .",
+        "",
+        "",
+        2,
+        "E20 line 9\n",
+    ),
+    ("       STOP RUN.\n", "\n\n", "", "", 2, "E20 line 7\n"),
+    (
+        "       IDENTIFICATION",
+        "\t      IDENTIFICATION",
+        "",
+        "",
+        2,
+        "E6 line 1 column 1\n",
+    ),
+    (
+        "ADD 1 TO",
+        "ADD 1234567890123456789 TO",
+        "",
+        "",
+        2,
+        "E7 line 7 column 12\n",
+    ),
+    (
+        "ADD 1 TO N.\n",
+        "ADD 1234567890123456789 TO N.\n\t\n",
+        "",
+        "",
+        2,
+        "E6 line 8 column 1\n",
+    ),
+    (
+        "VALUE 998.\n       PROCEDURE DIVISION.\n       ADD 1 TO",
+        "VALUE 1000.\n       PROCEDURE DIVISION.\n       ADD -A TO",
+        "",
+        "",
+        2,
+        "E7 line 7 column 12\n",
+    ),
     (
         "",
         "",

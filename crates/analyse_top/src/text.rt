@@ -1,5 +1,5 @@
 ghost use Rattle.std.specs.Prelude.{◌≡◌, ◌++◌, codes, decimal, OnOk, IfOk, length, vec_len};
-ghost use Rattle.analyse_top.specs.Text.{line_end, alarm_text, bound_text, gap_text, kind_text, report_text, ends_text, cell_text, difference_text, place_text};
+ghost use Rattle.analyse_top.specs.Text.{line_end, alarm_text, bound_text, gap_text, kind_text, report_text, ends_text, cell_text, difference_text, place_text, place_line};
 ghost use Rattle.analyse_top.specs.View.{plain_answer};
 ghost use Rattle.analyse_top.specs.Answer.{answer_text, usage_text};
 
@@ -177,6 +177,22 @@ fn push_line(text: &mut Vec<u8>, line: u32) -> Result<(), AllocError>
     text.extend_from_slice(b"\n")
 }
 
+fn push_place_line(
+    text: &mut Vec<u8>,
+    code: &[u8],
+    line: u32,
+    column: u32,
+) -> Result<(), AllocError>
+    ensures { OnOk result (text.new.items ≡ text.old.items ++ place_line code.now line column) }
+{
+    text.extend_from_slice(code)?;
+    text.extend_from_slice(b" line ")?;
+    push_number(text, line)?;
+    text.extend_from_slice(b" column ")?;
+    push_number(text, column)?;
+    text.extend_from_slice(b"\n")
+}
+
 fn push_leak(text: &mut Vec<u8>, edge: u32, gap: &Gap) -> Result<(), AllocError>
     ensures { OnOk result
         (text.new.items ≡ text.old.items ++ (codes "E14 layer 1 edge " ++ decimal edge ++ gap_text gap.now ++ line_end)) }
@@ -194,6 +210,8 @@ fn push_answer(text: &mut Vec<u8>, answer: &Answer) -> Result<(), AllocError>
         Answer::Usage(word) => push_usage(text, word),
         Answer::Absent(name) => push_word(text, b"E2 absent ", name),
         Answer::SourceLong => text.extend_from_slice(b"E5 source too long\n"),
+        Answer::BadLine(line, column) => push_place_line(text, b"E6", *line, *column),
+        Answer::BadToken(line, column) => push_place_line(text, b"E7", *line, *column),
         Answer::NotYet(line) => push_line(text, *line),
         Answer::CertificateLong => text.extend_from_slice(b"E11 certificate too long\n"),
         Answer::NotInductive(edge, gap) => push_leak(text, *edge, gap),

@@ -105,7 +105,8 @@ fn status_of(answer: &Answer) -> u8
     match answer {
         Answer::Report(alarms) if alarms.is_empty() => 0,
         Answer::Report(_) => 1,
-        Answer::SourceLong | Answer::NotYet(_) => 2,
+        Answer::SourceLong | Answer::BadLine(_, _) | Answer::BadToken(_, _) | Answer::NotYet(_) =>
+            2,
         Answer::CertificateLong | Answer::NotInductive(_, _) => 3,
         Answer::Usage(_) => 4,
         Answer::Absent(_) => 7,

@@ -1,11 +1,28 @@
-// Says how long the text of each source is that its arguments name. bench/lines measures it.
+// Says how long the text of each source is that its arguments name, and how many tokens it has where `--tokens`
+// stands before its name. bench/lines measures it.
 #![tactic(auto)]
 
-use cob_lines::{TextEnd, text_of};
+use cob_lex::{LexEnd, tokens_of};
+use cob_lines::{Mark, TextEnd, text_of};
 use std::rt::Files;
 use std::{env, fs, io};
 
-fn report(rt: &(impl Files + Print + AllocGlobal), path: &str) -> io::Result<()> {
+fn report_tokens(rt: &(impl Print + AllocGlobal), text: &[Mark]) -> io::Result<()> {
+    match tokens_of(rt.alloc(), text) {
+        Ok(tokens) => {
+            let count = tokens.len();
+            println!(rt; "{count} tokens")
+        }
+        Err(LexEnd::BadToken { line, column }) => println!(rt; "bad token at {line}:{column}"),
+        Err(LexEnd::Memory) => println!(rt; "out of memory"),
+    }
+}
+
+fn report(
+    rt: &(impl Files + Print + AllocGlobal),
+    path: &str,
+    with_tokens: bool,
+) -> io::Result<()> {
     let bytes = fs::read(rt, path)?;
     if bytes.len() > 1_048_576 {
         return println!(rt; "too long");
@@ -13,7 +30,11 @@ fn report(rt: &(impl Files + Print + AllocGlobal), path: &str) -> io::Result<()>
     match text_of(rt.alloc(), bytes.as_slice()) {
         Ok(text) => {
             let count = text.len();
-            println!(rt; "{count} characters")
+            println!(rt; "{count} characters")?;
+            if with_tokens {
+                report_tokens(rt, &text)?;
+            }
+            Ok(())
         }
         Err(TextEnd::BadLine { line, column }) => println!(rt; "refused at {line}:{column}"),
         Err(TextEnd::Memory) => println!(rt; "out of memory"),
@@ -21,8 +42,13 @@ fn report(rt: &(impl Files + Print + AllocGlobal), path: &str) -> io::Result<()>
 }
 
 fn main(rt: HostRuntime) -> io::Result<()> {
-    for path in env::args(&rt)?.skip(1) {
-        report(&rt, path.as_str())?;
+    let mut with_tokens = false;
+    for word in env::args(&rt)?.skip(1) {
+        if word.as_str() == "--tokens" {
+            with_tokens = true;
+        } else {
+            report(&rt, word.as_str(), with_tokens)?;
+        }
     }
     Ok(())
 }

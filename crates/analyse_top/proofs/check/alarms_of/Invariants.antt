@@ -3,4 +3,4 @@ use Rattle.analyse_top.specs.Answer.{alarm_at}
 use Rattle.analyse_top.proofs.check.alarms_of.Given as goal
 
 abbrev pub invariant-loop-pair : goal.invariant-loop-pair
-invariant-loop-pair l = l.alarms.items ≡ map (alarm_at l.items) (take l.pair-index l.pairs)
+invariant-loop-pair l = l.alarms.items ≡ map (alarm_at l.lines) (take l.pair-index l.pairs)

@@ -1,5 +1,4 @@
-use Rattle.std.proofs.Common.{sym, ◌∙◌, arith, rules}
-use Rattle.std.proofs.lemmas.Grind.{common_steps}
+use Rattle.std.proofs.Common.{arith, rules}
 use Rattle.analyse_top.proofs.Endings.{answers_check}
 use Rattle.analyse_top.proofs.Words.{check_words}
 use Rattle.analyse_top.proofs.top.answer.Goals as goal
