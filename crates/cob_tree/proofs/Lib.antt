@@ -1,1 +1,4 @@
 pub mod KeywordLemmas
+pub mod PictureLemmas
+pub mod PictureLaws
+pub mod FormLaws

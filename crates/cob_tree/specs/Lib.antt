@@ -13,3 +13,5 @@ pub mod Cues
 pub mod Takes
 pub mod PrintStmt
 pub mod Shaped
+pub mod Pictures
+pub mod PictureForms

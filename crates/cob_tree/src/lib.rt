@@ -12,6 +12,11 @@ mod list;
 mod operand;
 mod stmt;
 mod keyword;
+mod laws;
+mod picture;
+mod symbol;
+#[cfg(test)]
+mod tests;
 mod token;
 mod tree;
 
@@ -30,5 +35,7 @@ pub use stmt::{
     Loop, Mode, Opens, Place, Sel, Stmt, Subject, Tail, Varying, Verb, Way, When,
 };
 pub use keyword::{Keyword, keyword_of, keywords_differ};
+pub use laws::{one_form, picture_form_is};
+pub use picture::{PicEnd, picture_of};
 pub use token::{Num, Rel, Tok, Token};
 pub use tree::{EndProgram, Paragraph, Sentence, Tree};
