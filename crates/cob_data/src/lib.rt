@@ -1,0 +1,10 @@
+//! Where items lie in storage, and the rules that data entries and files keep (ISO 1989:1985, "Data division" and
+//! "Environment division").
+#![tactic(auto)]
+
+mod description;
+mod end;
+mod layout;
+
+pub use end::{DataEnd, Rule, Which};
+pub use layout::{FileDecl, Flag, Item, Layout, Pair, Sender};

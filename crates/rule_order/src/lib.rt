@@ -1,0 +1,17 @@
+//! The first broken rule of a table, and the first line that breaks it. The rules on data, on typing and on nesting
+//! are told in this order.
+#![tactic(auto)]
+
+ghost use Rattle.std.specs.Prelude.{◌≡◌};
+ghost use Rattle.rule_order.specs.Order.{lesser};
+
+/// The lesser of two lines, where there are any.
+pub fn lesser(a: Option<u32>, b: Option<u32>) -> Option<u32>
+    ensures { result ≡ lesser a b }
+{
+    match (a, b) {
+        (None, other) => other,
+        (Some(line), None) => Some(line),
+        (Some(line), Some(other)) => Some(line.min(other)),
+    }
+}
