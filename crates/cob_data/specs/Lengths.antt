@@ -1,29 +1,10 @@
 -- Items below items, and how many bytes each of them has.
-use Rattle.std.specs.Prelude.{ℕ, ◌+◌, ◌/◌, nat_lt, nat_le, ◌==◌, if◌then◌else◌, is_some, List, [], ◌∷◌, length}
+use Rattle.std.specs.Prelude.{ℕ, ◌+◌, ◌/◌, nat_lt, nat_le, ◌==◌, Bool, if◌then◌else◌, is_some, List, [], ◌∷◌, length}
 use Rattle.cob_tree.specs.declared.form.Form.{Form}
 use Rattle.cob_tree.specs.declared.form.Form.TheVariants as form
 use Rattle.cob_tree.specs.declared.form.Usage.{Usage}
 use Rattle.cob_tree.specs.declared.form.Usage.TheVariants.{Display, Leading, Trailing, Binary, Packed}
 use Rattle.cob_data.specs.declared.description.Description.{Description}
-
--- ---- bytes of a form
-
--- bytes of a binary number: 2 up to 4 digits, 4 up to 9, else 8
-abbrev pub binary_bytes : ℕ → ℕ
-binary_bytes digits = if nat_le digits 4 then 2 else if nat_le digits 9 then 4 else 8
-
-abbrev pub number_bytes : ℕ → Usage → ℕ
-number_bytes digits Display = digits
-number_bytes digits Leading = digits + 1
-number_bytes digits Trailing = digits + 1
-number_bytes digits Binary = binary_bytes digits
-number_bytes digits Packed = digits / 2 + 1
-
-abbrev pub form_bytes : Form → ℕ
-form_bytes form.Group = 0
-form_bytes (form.Text n) = n
-form_bytes (form.Number digits scale signed usage) = number_bytes digits usage
-form_bytes (form.Edited picture digits scale) = length picture
 
 -- ---- items below items
 
@@ -37,15 +18,18 @@ pub data Forest : Type 0 where
 abbrev pub depth : Description → ℕ
 depth d = if d.level == 77 then 1 else d.level
 
+abbrev pub is_deeper : ℕ → Description → Bool
+is_deeper n d = nat_lt n (depth d)
+
 -- those at the beginning that are deeper
 abbrev pub deeper : ℕ → Forest → Forest
 deeper n bare = bare
-deeper n (item d below beside) = if nat_lt n (depth d) then item d below (deeper n beside) else bare
+deeper n (item d below beside) = if is_deeper n d then item d below (deeper n beside) else bare
 
 -- the others
 abbrev pub behind : ℕ → Forest → Forest
 behind n bare = bare
-behind n (item d below beside) = if nat_lt n (depth d) then behind n beside else item d below beside
+behind n (item d below beside) = if is_deeper n d then behind n beside else item d below beside
 
 -- An item has below it all that follows and is deeper, up to the first that isn't. So the group directly above an
 -- item is the nearest earlier one of a lower level, and items side by side may have unequal levels.
@@ -59,7 +43,7 @@ size (item d below beside) = size below + 1 + size beside
 
 -- the bytes of an item: those of its parts, where it has parts
 abbrev pub bytes_with : Description → Forest → ℕ → ℕ
-bytes_with d bare parts = form_bytes d.form
+bytes_with d bare parts = d.bytes
 bytes_with d (item _ _ _) parts = parts
 
 abbrev pub unless_redefining : Description → ℕ → ℕ

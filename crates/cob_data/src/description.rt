@@ -16,7 +16,7 @@ pub struct Span {
 }
 
 /// What the entry of an item says. A level that isn't written as one is 0. `form` is that of the picture and the
-/// usage, and a group's where there is no allowed picture. `usage` is Display, Binary or Packed, and `sign` Leading or
+/// usage, and a group's where there is no allowed picture; `bytes` is what it takes. `usage` is Display, Binary or Packed, and `sign` Leading or
 /// Trailing, as they are written.
 #[derive(Drop)]
 pub struct Description {
@@ -27,6 +27,7 @@ pub struct Description {
     pub redefines: Option<Name>,
     pub pictured: bool,
     pub form: Form,
+    pub bytes: u32,
     pub usage: Option<Usage>,
     pub sign: Option<Usage>,
     pub value: Option<Many<Span>>,

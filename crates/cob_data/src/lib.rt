@@ -4,7 +4,10 @@
 
 mod description;
 mod end;
+mod entry;
 mod layout;
+mod lengths;
+mod slice;
 
 pub use end::{DataEnd, Rule, Which};
 pub use layout::{FileDecl, Flag, Item, Layout, Pair, Sender};
