@@ -1,6 +1,7 @@
 pub mod Entries
 pub mod Lengths
 pub mod Spots
+pub mod Starts
 pub mod Values
 pub mod ItemRules
 pub mod Files

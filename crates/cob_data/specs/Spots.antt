@@ -17,8 +17,8 @@ abbrev pub is_file : Area → Bool
 is_file (area.File n) = true
 is_file area.Storage = false
 
--- an item with its place
-pub record Seated : Type 0 where
+-- the item directly before, with where it lies
+pub record Neighbour : Type 0 where
   pub item : Description
   pub spot : Spot
 
@@ -32,7 +32,7 @@ same_level d e = d.level == e.level && same_area d.area e.area
 
 -- The length of what an item redefines: that is the item directly before at the same level, or what this one
 -- redefines. Nothing where it names neither.
-abbrev pub room_behind : Description → Option Seated → Option ℕ
+abbrev pub room_behind : Description → Option Neighbour → Option ℕ
 room_behind d None = None
 room_behind d (Some before) =
     if not (same_level d before.item) then None
@@ -43,16 +43,16 @@ room_behind d (Some before) =
 -- ---- where an item starts
 
 -- An item lies on the one before where it redefines, and so do the records of one file.
-abbrev pub lies_on : Above → Description → Seated → Bool
+abbrev pub lies_on : Above → Description → Neighbour → Bool
 lies_on above d before =
     is_some d.redefines || (is_record above && is_file d.area && same_area d.area before.item.area)
 
-abbrev pub lies_on_last : Above → Description → Option Seated → Bool
+abbrev pub lies_on_last : Above → Description → Option Neighbour → Bool
 lies_on_last above d None = false
 lies_on_last above d (Some before) = lies_on above d before
 
 -- it starts where that one starts, or else where all before end
-abbrev pub start_at : Above → ℕ → Description → Option Seated → ℕ
+abbrev pub start_at : Above → ℕ → Description → Option Neighbour → ℕ
 start_at above next d None = next
 start_at above next d (Some before) = if lies_on above d before then before.spot.start else next
 
@@ -76,7 +76,7 @@ abbrev pub is_bare : Forest → Bool
 is_bare bare = true
 is_bare (item _ _ _) = false
 
-abbrev pub spot : Above → ℕ → Option Seated → Description → Forest → Spot
+abbrev pub spot : Above → ℕ → Option Neighbour → Description → Forest → Spot
 spot above next last d below = record {
   start = start_at above next d last;
   length = item_bytes d below;
@@ -91,7 +91,7 @@ abbrev pub above_parts : ℕ → Spot → Above
 above_parts place s = record { parent = Some place; under = s.under; shared = s.shared }
 
 -- The items side by side from this place on, each before the items below it.
-abbrev pub spots : Above → ℕ → ℕ → Option Seated → Forest → List Spot
+abbrev pub spots : Above → ℕ → ℕ → Option Neighbour → Forest → List Spot
 spots above place next last bare = []
 spots above place next last (item d below beside) =
     let s = spot above next last d below in

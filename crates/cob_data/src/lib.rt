@@ -8,6 +8,7 @@ mod entry;
 mod layout;
 mod lengths;
 mod slice;
+mod spots;
 
 pub use end::{DataEnd, Rule, Which};
 pub use layout::{FileDecl, Flag, Item, Layout, Pair, Sender};
