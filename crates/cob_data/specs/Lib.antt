@@ -1,4 +1,5 @@
 pub mod Entries
+pub mod Reading
 pub mod Lengths
 pub mod Spots
 pub mod Starts

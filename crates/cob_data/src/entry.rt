@@ -1,10 +1,15 @@
-ghost use Rattle.std.specs.Prelude.{◌≡◌, ◌≤◌, ◌<◌, find, map, IfOk, IfErr, OnOk};
+ghost use Rattle.std.specs.Prelude.{◌≡◌, ◌≤◌, ◌<◌, ◌+◌, ◌^◌, ◌++◌, ◌∷◌, List, is_some, length, find, map, IfOk, IfErr, OnOk};
 ghost use Rattle.std.specs.Option.{option_copied};
-ghost use Rattle.cob_data.specs.Entries.{two_digits, level_of, name_of, is_picture, is_redefines, is_usage, is_sign, is_value, text_in, usage_in, sender_of, sender_if, span_of, spans_in};
+ghost use Rattle.cob_data.specs.Entries.{two_digits, level_of, name_of, is_picture, is_redefines, is_usage, is_sign, is_value, text_in, usage_in, sender_of, sender_if, span_of, spans_in, kept_as, form_kept_as, form_or_group, pictured_form, form_bytes, binary_bytes, number_bytes, Placed, description, only_values, condition, is_condition, owner_in, placed};
+ghost use Rattle.cob_data.specs.Reading.{IsFormed, Moves};
+ghost use Rattle.cob_tree.specs.PictureForms.{picture_form};
 
-use crate::description::Span;
+use crate::description::{Area, Condition, Description, Span};
 use crate::layout::Sender;
-use cob_tree::{Bytes, Clause, Const, Described, Many, Name, Num, Range, Usage};
+use crate::spots::same_area;
+use cob_tree::{
+    Bytes, Clause, Const, Described, Entry, Form, Many, Name, Num, PicEnd, Range, Usage, picture_of,
+};
 use std::alloc::{AllocError, Global};
 
 /// The number that two digits write.
@@ -242,4 +247,206 @@ fn spans_in(alloc: Global, clause: Option<&Clause>) -> Result<Option<Many<Span>>
         ) => Ok(None),
         None => Ok(None),
     }
+}
+
+fn kept_as(usage: Option<Usage>, sign: Option<Usage>) -> Usage
+    ensures { result ≡ kept_as usage sign }
+{
+    match (usage, sign) {
+        (Some(Usage::Binary), _) => Usage::Binary,
+        (Some(Usage::Packed), _) => Usage::Packed,
+        (_, Some(sign)) => sign,
+        (_, None) => Usage::Display,
+    }
+}
+
+fn form_kept_as(usage: Usage, form: Form) -> Form
+    requires { IsFormed form }
+    ensures value { result ≡ form_kept_as usage form }
+    ensures formed { IsFormed result }
+{
+    match form {
+        Form::Group => Form::Group,
+        Form::Text { length } => Form::Text { length },
+        Form::Number {
+            digits,
+            scale,
+            signed,
+            usage: _,
+        } => Form::Number {
+            digits,
+            scale,
+            signed,
+            usage,
+        },
+        Form::Edited {
+            picture,
+            digits,
+            scale,
+        } => Form::Edited {
+            picture,
+            digits,
+            scale,
+        },
+    }
+}
+
+/// The form of an allowed picture, else a group's.
+fn allowed_form(alloc: Global, text: &[u8]) -> Result<Form, AllocError>
+    ensures form { IfOk result (λ f. f ≡ form_or_group (picture_form text.now)) }
+    ensures formed { IfOk result IsFormed }
+{
+    match picture_of(alloc, text) {
+        Ok(form) => Ok(form),
+        Err(PicEnd::Bad) => Ok(Form::Group),
+        Err(PicEnd::Memory) => Err(AllocError),
+    }
+}
+
+fn pictured_form(alloc: Global, clause: Option<&Clause>) -> Result<Form, AllocError>
+    ensures form { IfOk result (λ f. f ≡ pictured_form (text_in (option_copied clause.entry))) }
+    ensures formed { IfOk result IsFormed }
+{
+    match clause {
+        Some(Clause::Pic(text)) => Ok(allowed_form(alloc, text.get())?),
+        Some(Clause::Redefines(text)) => Ok(allowed_form(alloc, text.get())?),
+        Some(
+            Clause::Display
+            | Clause::Binary
+            | Clause::PackedDecimal
+            | Clause::LeadingSeparate
+            | Clause::TrailingSeparate
+            | Clause::Value(_),
+        ) => Ok(Form::Group),
+        None => Ok(Form::Group),
+    }
+}
+
+fn binary_bytes(digits: u32) -> u32
+    ensures { result ≡ binary_bytes digits }
+{
+    if digits <= 4 {
+        2
+    } else if digits <= 9 {
+        4
+    } else {
+        8
+    }
+}
+
+fn number_bytes(digits: u32, usage: Usage) -> u32
+    requires { digits ≤ 18 }
+    ensures { result ≡ number_bytes digits usage }
+{
+    match usage {
+        Usage::Display => digits,
+        Usage::Leading => digits + 1,
+        Usage::Trailing => digits + 1,
+        Usage::Binary => binary_bytes(digits),
+        Usage::Packed => digits / 2 + 1,
+    }
+}
+
+/// The bytes of an elementary item of this form.
+fn form_bytes(form: &Form) -> u32
+    requires { IsFormed form.now }
+    ensures { result ≡ form_bytes form.now }
+{
+    match form {
+        Form::Group => 0,
+        Form::Text { length } => *length,
+        Form::Number { digits, usage, .. } => number_bytes(*digits, *usage),
+        Form::Edited { picture, .. } => picture.get().len() as u32,
+    }
+}
+
+fn has_text(clause: Option<&Clause>) -> bool
+    ensures { result ≡ is_some (text_in (option_copied clause.entry)) }
+{
+    match clause {
+        Some(Clause::Pic(_) | Clause::Redefines(_)) => true,
+        Some(
+            Clause::Display
+            | Clause::Binary
+            | Clause::PackedDecimal
+            | Clause::LeadingSeparate
+            | Clause::TrailingSeparate
+            | Clause::Value(_),
+        ) => false,
+        None => false,
+    }
+}
+
+fn description(alloc: Global, area: Area, entry: &Entry) -> Result<Description, AllocError>
+    ensures { IfOk result (λ d. d ≡ description (record { area = area; entry = entry.now })) }
+{
+    let clauses = entry.clauses.get();
+    let usage = usage_in(find_usage(clauses));
+    let sign = usage_in(find_sign(clauses));
+    let picture = find_picture(clauses);
+    let form = form_kept_as(kept_as(usage, sign), pictured_form(alloc, picture)?);
+    Ok(Description {
+        area,
+        line: entry.line,
+        level: level_of(&entry.level),
+        name: name_of(alloc, &entry.name)?,
+        redefines: name_in(alloc, find_redefines(clauses))?,
+        pictured: has_text(picture),
+        bytes: form_bytes(&form),
+        form,
+        usage,
+        sign,
+        value: spans_in(alloc, find_value(clauses))?,
+    })
+}
+
+/// The values of an entry that has one VALUE and nothing else.
+fn only_values(alloc: Global, clauses: &[Clause]) -> Result<Option<Many<Span>>, AllocError>
+    ensures { IfOk result (λ s. s ≡ only_values clauses.now) }
+{
+    match clauses {
+        [Clause::Value(ranges)] => Ok(Some(spans_of(alloc, ranges.get())?)),
+        _ => Ok(None),
+    }
+}
+
+fn condition(alloc: Global, entry: &Entry, owner: Option<u32>) -> Result<Condition, AllocError>
+    ensures { IfOk result (λ c. c ≡ condition entry.now owner) }
+{
+    Ok(Condition {
+        line: entry.line,
+        name: name_of(alloc, &entry.name)?,
+        owner,
+        value: only_values(alloc, entry.clauses.get())?,
+    })
+}
+
+fn is_condition(entry: &Entry) -> bool
+    ensures { result ≡ is_condition entry.now }
+{
+    level_of(&entry.level) == 88
+}
+
+/// The last of so many items, where it stands in this area.
+fn owner_in(here: Area, count: u32, last: Option<Area>) -> Option<u32>
+    ensures { result ≡ owner_in here count last }
+{
+    match last {
+        None => None,
+        Some(area) => {
+            if same_area(area, here) {
+                Some(count.saturating_sub(1))
+            } else {
+                None
+            }
+        }
+    }
+}
+
+/// The items and the condition-names read so far, and the area of the last item.
+#[derive(Drop)]
+pub struct Table {
+    pub items: Vec<Description>,
+    pub conditions: Vec<Condition>,
+    pub last: Option<Area>,
 }
