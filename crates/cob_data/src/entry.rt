@@ -1,4 +1,4 @@
-ghost use Rattle.std.specs.Prelude.{◌≡◌, ◌≤◌, ◌<◌, ◌+◌, ◌^◌, ◌++◌, ◌∷◌, List, is_some, length, find, map, IfOk, IfErr, OnOk};
+ghost use Rattle.std.specs.Prelude.{◌≡◌, ◌≤◌, ◌<◌, ◌+◌, ◌^◌, ◌++◌, ◌∷◌, true, false, List, is_some, length, find, map, IfOk, IfErr, OnOk};
 ghost use Rattle.std.specs.Option.{option_copied};
 ghost use Rattle.cob_data.specs.Entries.{two_digits, level_of, name_of, is_picture, is_redefines, is_usage, is_sign, is_value, text_in, usage_in, sender_of, sender_if, span_of, spans_in, kept_as, form_kept_as, form_or_group, pictured_form, form_bytes, binary_bytes, number_bytes, Placed, description, only_values, condition, is_condition, owner_in, placed};
 ghost use Rattle.cob_data.specs.Reading.{IsFormed, Moves};
@@ -6,6 +6,7 @@ ghost use Rattle.cob_tree.specs.PictureForms.{picture_form};
 
 use crate::description::{Area, Condition, Description, Span};
 use crate::layout::Sender;
+use crate::slice::behind;
 use crate::spots::same_area;
 use cob_tree::{
     Bytes, Clause, Const, Described, Entry, Form, Many, Name, Num, PicEnd, Range, Usage, picture_of,
@@ -449,4 +450,60 @@ pub struct Table {
     pub items: Vec<Description>,
     pub conditions: Vec<Condition>,
     pub last: Option<Area>,
+}
+
+impl Table {
+    fn push_condition(
+        &mut self,
+        alloc: Global,
+        area: Area,
+        entry: &Entry,
+    ) -> Result<(), AllocError>
+        requires few { length self.old.items.items < 2 ^ 32 }
+        requires is { is_condition entry.now ≡ true }
+        ensures moves { OnOk result ((ps : List Placed) → Moves self.old self.new (record { area = area; entry = entry.now } ∷ ps) ps) }
+        ensures more { OnOk result (length self.new.items.items ≤ length self.old.items.items + 1) }
+    {
+        let owner = owner_in(area, self.items.len() as u32, self.last);
+        let condition = condition(alloc, entry, owner)?;
+        self.conditions.push(condition)?;
+        Ok(())
+    }
+
+    fn push_item(&mut self, alloc: Global, area: Area, entry: &Entry) -> Result<(), AllocError>
+        requires { is_condition entry.now ≡ false }
+        ensures moves { OnOk result ((ps : List Placed) → Moves self.old self.new (record { area = area; entry = entry.now } ∷ ps) ps) }
+        ensures more { OnOk result (length self.new.items.items ≤ length self.old.items.items + 1) }
+    {
+        let item = description(alloc, area, entry)?;
+        self.items.push(item)?;
+        self.last = Some(area);
+        Ok(())
+    }
+
+    fn push(&mut self, alloc: Global, area: Area, entry: &Entry) -> Result<(), AllocError>
+        requires { length self.old.items.items < 2 ^ 32 }
+        ensures moves { OnOk result ((ps : List Placed) → Moves self.old self.new (record { area = area; entry = entry.now } ∷ ps) ps) }
+        ensures more { OnOk result (length self.new.items.items ≤ length self.old.items.items + 1) }
+    {
+        if is_condition(entry) {
+            self.push_condition(alloc, area, entry)
+        } else {
+            self.push_item(alloc, area, entry)
+        }
+    }
+
+    /// Reads the entries of an area.
+    pub fn read(&mut self, alloc: Global, area: Area, entries: &[Entry]) -> Result<(), AllocError>
+        requires { length self.old.items.items + length entries.now ≤ 2 ^ 27 }
+        ensures moves { OnOk result ((later : List Placed) → Moves self.old self.new (placed area entries.now ++ later) later) }
+        ensures more { OnOk result (length self.new.items.items ≤ length self.old.items.items + length entries.now) }
+    {
+        let mut rest = entries;
+        while !rest.is_empty() {
+            self.push(alloc, area, &rest[0])?;
+            rest = behind(rest, 1);
+        }
+        Ok(())
+    }
 }

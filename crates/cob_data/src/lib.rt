@@ -9,6 +9,7 @@ mod layout;
 mod lengths;
 mod slice;
 mod spots;
+mod values;
 
 pub use end::{DataEnd, Rule, Which};
 pub use layout::{FileDecl, Flag, Item, Layout, Pair, Sender};
