@@ -1,3 +1,4 @@
 pub mod LengthLemmas
 pub mod SpotLemmas
 pub mod ReadLemmas
+pub mod ValueLemmas

@@ -110,9 +110,12 @@ abbrev pub is_range_of : Form → Sender → Option Sender → Bool
 is_range_of f low None = has_category f low
 is_range_of f low (Some high) = has_category f low && has_category f high && at_most low high
 
+abbrev pub is_span_of : Form → Span → Bool
+is_span_of f s = is_range_of f s.low s.high
+
 abbrev pub are_values_of : Form → Option (List Span) → Bool
 are_values_of f None = false
-are_values_of f (Some spans) = list_all (λ s. is_range_of f s.low s.high) spans
+are_values_of f (Some spans) = list_all (is_span_of f) spans
 
 abbrev pub is_condition_of : Form → Condition → Bool
 is_condition_of f c = is_some c.name && are_values_of f c.value

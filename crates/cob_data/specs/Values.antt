@@ -117,12 +117,9 @@ number_at_most a b =
     else if is_negative b then false
     else magnitude_at_most a b
 
-abbrev pub zero_number : Num
-zero_number = record { sign = 0; digits = []; scale = 0 }
-
 -- ends of a range of one category
 abbrev pub at_most : Sender → Sender → Bool
 at_most (sender.Number a) (sender.Number b) = number_at_most a b
-at_most (sender.Number a) sender.Zero = number_at_most a zero_number
-at_most sender.Zero (sender.Number b) = number_at_most zero_number b
+at_most (sender.Number a) sender.Zero = is_negative a || all_zeros a.digits
+at_most sender.Zero (sender.Number b) = not (is_negative b)
 at_most low high = text_at_most low high

@@ -5,6 +5,8 @@
 mod description;
 mod end;
 mod entry;
+mod files;
+mod item_rules;
 mod layout;
 mod lengths;
 mod slice;
