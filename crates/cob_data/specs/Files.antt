@@ -96,11 +96,12 @@ may_hold_status name d = is_named name d && not (is_file d.area) && is_two_bytes
 abbrev pub is_status_item : List ℕ → List Description → Bool
 is_status_item name ds = count_by (is_named name) ds == 1 && list_any (may_hold_status name) ds
 
+abbrev pub is_wrong_status : List Description → Option (List ℕ) → Bool
+is_wrong_status ds None = false
+is_wrong_status ds (Some name) = not (is_status_item name ds)
+
 abbrev pub breaks_status : List Description → Select → Bool
-breaks_status ds s = breaks ds (status_of s) where
-  breaks : List Description → Option (List ℕ) → Bool
-  breaks ds None = false
-  breaks ds (Some name) = not (is_status_item name ds)
+breaks_status ds s = is_wrong_status ds (status_of s)
 
 -- ---- END PROGRAM names the program
 

@@ -7,4 +7,5 @@ pub mod Values
 pub mod ItemRules
 pub mod Files
 pub mod Rules
+pub mod Known
 pub mod Layouts

@@ -6,6 +6,7 @@ use Rattle.cob_tree.specs.declared.front.Select.{Select}
 use Rattle.cob_tree.specs.declared.front.Fd.{Fd}
 use Rattle.cob_tree.specs.declared.tree.Tree.{Tree}
 use Rattle.cob_tree.specs.declared.tree.EndProgram.{EndProgram}
+use Rattle.rule_order.specs.Order.{line_if}
 use Rattle.cob_data.specs.declared.end.Rule.{Rule}
 use Rattle.cob_data.specs.declared.end.Rule.TheVariants.{L1, L2, L3, L4, L5, L6, L7, L8, L9, L10, L11, L12}
 use Rattle.cob_data.specs.declared.end.Which.{Which}
@@ -60,10 +61,6 @@ end_breaks L12 program e = breaks_end program e
 end_breaks _ program e = false
 
 -- ---- the lines at which a rule is broken
-
-abbrev pub line_if : Bool → ℕ → List ℕ → List ℕ
-line_if true line others = line ∷ others
-line_if false line others = others
 
 abbrev pub item_lines : Rule → List Description → List Spot → List ℕ
 item_lines rule [] ss = []

@@ -59,8 +59,8 @@ start_at above next d (Some before) = if lies_on above d before then before.spot
 -- The end of all up to this item. In a group, what redefines adds nothing; among records the longest counts.
 abbrev pub end_behind : Above → ℕ → Bool → Spot → ℕ
 end_behind above next on_last s =
-    if not on_last then s.start + s.length
-    else if is_record above then max next (s.start + s.length)
+    if not on_last then s.end
+    else if is_record above then max next s.end
     else next
 
 -- ---- all items
@@ -80,6 +80,7 @@ abbrev pub spot : Above → ℕ → Option Neighbour → Description → Forest 
 spot above next last d below = record {
   start = start_at above next d last;
   length = item_bytes d below;
+  end = start_at above next d last + item_bytes d below;
   parent = above.parent;
   under = area_above above d;
   room = room_behind d last;
@@ -106,9 +107,6 @@ nothing_above = record { parent = None; under = None; shared = false }
 abbrev pub all_spots : List Description → List Spot
 all_spots ds = spots nothing_above 0 0 None (forest ds)
 
-abbrev pub end_of : Spot → ℕ
-end_of s = s.start + s.length
-
 -- the bytes of all record areas and working storage
 abbrev pub storage_of : List Spot → ℕ
-storage_of ss = fold (λ most s. max most (end_of s)) 0 ss
+storage_of ss = fold (λ most s. max most s.end) 0 ss

@@ -43,13 +43,14 @@ pub struct Condition {
     pub value: Option<Many<Span>>,
 }
 
-/// Where an item lies among the others. `start` and `length` count bytes. `under` is the area of the 01 that it
+/// Where an item lies among the others. `start`, `length` and `end` count bytes. `under` is the area of the 01 that it
 /// belongs to, if it belongs to one. `room` is the length of what it redefines, if that is there. `group` tells that
 /// it has items below it, `shared` that it stands in a redefinition.
 #[derive(Clone, Copy)]
 pub struct Spot {
     pub start: u64,
     pub length: u64,
+    pub end: u64,
     pub parent: Option<u32>,
     pub under: Option<Area>,
     pub room: Option<u64>,

@@ -1,7 +1,7 @@
 ghost use Rattle.std.specs.Prelude.{◌≡◌, ◌≤◌, ◌<◌, ◌+◌, ◌-◌, ◌^◌, ◌==◌, if◌then◌else◌, max, find, count_by, drop, length, IfSome};
 ghost use Rattle.std.specs.List.{list_any, list_all};
 ghost use Rattle.std.specs.Option.{option_copied};
-ghost use Rattle.cob_data.specs.Files.{selects_name, describes_name, breaks_select_match, is_record_of, breaks_fd_match, longest, largest_record, contains_rightly, breaks_record_size, external_text, breaks_externals, is_status, name_in, status_of, is_named, is_two_bytes, may_hold_status, is_status_item, breaks_status, breaks_end};
+ghost use Rattle.cob_data.specs.Files.{selects_name, describes_name, breaks_select_match, is_record_of, breaks_fd_match, longest, largest_record, contains_rightly, breaks_record_size, external_text, breaks_externals, is_status, name_in, status_of, is_named, is_two_bytes, may_hold_status, is_status_item, is_wrong_status, breaks_status, breaks_end};
 ghost use Rattle.std.specs.Str.{bytes_eq, str_eq_ignore_ascii_case};
 
 use crate::description::{Area, Description, Spot};
@@ -76,7 +76,6 @@ pub fn largest_record(file: u32, items: &[Description], spots: &[Spot]) -> u64
 }
 
 fn contains_rightly(bytes: u64, clause: &FdClause) -> bool
-    requires { bytes < 2 ^ 64 - 1 }
     ensures { result ≡ contains_rightly bytes clause.now }
 {
     match clause {
@@ -88,7 +87,6 @@ fn contains_rightly(bytes: u64, clause: &FdClause) -> bool
 }
 
 fn contain_rightly(bytes: u64, clauses: &[FdClause]) -> bool
-    requires { bytes < 2 ^ 64 - 1 }
     ensures { result ≡ list_all (contains_rightly bytes) clauses.now }
 {
     for clause in clauses {
@@ -97,6 +95,18 @@ fn contain_rightly(bytes: u64, clauses: &[FdClause]) -> bool
         }
     }
     true
+}
+
+pub fn breaks_record_size(
+    items: &[Description],
+    spots: &[Spot],
+    file: u32,
+    fd: &Fd,
+) -> bool
+    requires { length items.now ≡ length spots.now }
+    ensures { result ≡ breaks_record_size items.now spots.now file fd.now }
+{
+    !contain_rightly(largest_record(file, items, spots), fd.clauses.get())
 }
 
 // ---- external names
@@ -181,14 +191,35 @@ fn is_status_item(name: &[u8], items: &[Description]) -> bool
     count_named(name, items) == 1 && has_holder(name, items)
 }
 
+fn name_in(clause: Option<&SelClause>) -> Option<&Name>
+    ensures { option_copied result ≡ name_in (option_copied clause.entry) }
+{
+    match clause {
+        Some(SelClause::Status(name)) => Some(name),
+        Some(SelClause::Organization | SelClause::Access) => None,
+        None => None,
+    }
+}
+
+pub fn status_of(select: &Select) -> Option<&Name>
+    ensures { option_copied result ≡ status_of select.now }
+{
+    name_in(find_status(select.clauses.get()))
+}
+
+fn is_wrong_status(items: &[Description], name: Option<&Name>) -> bool
+    ensures { result ≡ is_wrong_status items.now (option_copied name.entry) }
+{
+    match name {
+        None => false,
+        Some(name) => !is_status_item(name.get(), items),
+    }
+}
+
 pub fn breaks_status(items: &[Description], select: &Select) -> bool
     ensures { result ≡ breaks_status items.now select.now }
 {
-    match find_status(select.clauses.get()) {
-        Some(SelClause::Status(name)) => !is_status_item(name.get(), items),
-        Some(SelClause::Organization | SelClause::Access) => false,
-        None => false,
-    }
+    is_wrong_status(items, status_of(select))
 }
 
 // ---- END PROGRAM

@@ -9,6 +9,7 @@ mod files;
 mod item_rules;
 mod layout;
 mod lengths;
+mod rules;
 mod slice;
 mod spots;
 mod values;

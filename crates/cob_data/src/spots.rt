@@ -1,4 +1,4 @@
-ghost use Rattle.std.specs.Prelude.{◌≡◌, not, ◌||◌, is_some, ◌≤◌, ◌<◌, ◌+◌, ◌*◌, ◌^◌, ◌++◌, length, None, IfSome, OnOk, IfOk};
+ghost use Rattle.std.specs.Prelude.{◌≡◌, not, ◌||◌, is_some, ◌≤◌, ◌<◌, ◌+◌, ◌*◌, ◌^◌, ◌++◌, min, max, length, None, IfSome, OnOk, IfOk};
 ghost use Rattle.cob_data.specs.Entries.{same_area};
 ghost use Rattle.cob_data.specs.Lengths.{forest, item_bytes};
 ghost use Rattle.cob_data.specs.Spots.{same_name, is_file, is_record, same_level, room_behind, lies_on, lies_on_last, start_at, end_behind, area_above, is_bare, spot, above_parts, spots, nothing_above, all_spots};
@@ -121,17 +121,14 @@ fn start_at(above: &Above, next: u64, item: &Description, last: &Option<Seated>)
 }
 
 fn end_behind(above: &Above, next: u64, on_last: bool, spot: &Spot) -> u64
-    requires room { next + spot.now.length < 2 ^ 64 }
-    requires low { spot.now.start ≤ next }
     ensures value { result ≡ end_behind above.now next on_last spot.now }
-    ensures within { result ≤ next + spot.now.length }
-    ensures high { spot.now.start ≤ result }
+    ensures within { result ≤ max next spot.now.end }
+    ensures high { min next spot.now.end ≤ result }
 {
-    let end = spot.start + spot.length;
     if !on_last {
-        end
+        spot.end
     } else if is_record(above) {
-        next.max(end)
+        next.max(spot.end)
     } else {
         next
     }
@@ -170,14 +167,19 @@ fn spot_of(
     below: &[Description],
 ) -> Spot
     requires few { length below.now ≤ 2 ^ 27 }
+    requires room { next ≤ 2 ^ 60 }
     requires before { IsBefore last.now next }
     ensures value { result ≡ spot above.now next last.now item.now (forest below.now) }
     ensures low { result.start ≤ next }
-    ensures within { result.length ≤ (length below.now + 1) * 2 ^ 32 }
+    ensures long { result.start ≤ result.end }
+    ensures within { result.end ≤ next + (length below.now + 1) * 2 ^ 32 }
 {
+    let start = start_at(above, next, item, last);
+    let length = item_bytes(item, below);
     Spot {
-        start: start_at(above, next, item, last),
-        length: item_bytes(item, below),
+        start,
+        length,
+        end: start + length,
         parent: above.parent,
         under: area_above(above, item),
         room: room_behind(item, last),

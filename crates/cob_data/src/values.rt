@@ -110,24 +110,23 @@ pub fn holds(form: &Form, values: &[Span]) -> bool
 
 // ---- the value of a numeral
 
-/// The number that digits write, or 2^64 - 1 where it isn't below that.
-fn value(digits: &[u8]) -> u64
-    ensures { result ≡ min (value_behind 0 digits.now) (2 ^ 64 - 1) }
+/// The number that digits write, or 2^70 where it isn't below that.
+fn value(digits: &[u8]) -> u128
+    ensures { result ≡ min (value_behind 0 digits.now) (2 ^ 70) }
 {
-    let mut value: u64 = 0;
+    let mut value: u128 = 0;
     for c in digits {
-        let digit = u64::from(*c).saturating_sub(48);
-        value = value.saturating_mul(10).saturating_add(digit);
+        let digit = u128::from(*c).saturating_sub(48);
+        value = (value * 10 + digit).min(1 << 70);
     }
     value
 }
 
 /// Whether a numeral has this value.
 pub fn is_number(number: &Num, count: u64) -> bool
-    requires { count < 2 ^ 64 - 1 }
     ensures { result ≡ is_number number.now count }
 {
-    value(whole(number)) == count && all_zeros(decimals(number)) && !is_negative(number)
+    value(whole(number)) == u128::from(count) && all_zeros(decimals(number)) && !is_negative(number)
 }
 
 // ---- which is at most another

@@ -1,5 +1,5 @@
 -- The first rule in a table that is broken, and the first line that breaks it.
-use Rattle.std.specs.Prelude.{◌≡◌, ℕ, ◌≤◌, min, List, [], ◌∷◌, ◌++◌, Option, Some, None}
+use Rattle.std.specs.Prelude.{◌≡◌, ℕ, ◌≤◌, min, Bool, true, false, List, [], ◌∷◌, ◌++◌, Option, Some, None}
 use Rattle.std.specs.List.{AllByRecursion, Contains}
 
 -- the line is among these, and none of them is before it
@@ -29,6 +29,16 @@ lesser (Some a) (Some b) = Some (min a b)
 abbrev pub least : List ℕ → Option ℕ
 least [] = None
 least (n ∷ ns) = lesser (Some n) (least ns)
+
+-- a line among others, where it is broken
+abbrev pub line_if : Bool → ℕ → List ℕ → List ℕ
+line_if true line others = line ∷ others
+line_if false line others = others
+
+-- the least so far, with a line more where it is broken
+abbrev pub noted : Option ℕ → Bool → ℕ → Option ℕ
+noted least_so_far true line = lesser least_so_far (Some line)
+noted least_so_far false line = least_so_far
 
 -- a rule with its first line, or else what is first of the others
 abbrev pub or_first : {R : Type 0} → R → Option ℕ → Option (R × ℕ) → Option (R × ℕ)

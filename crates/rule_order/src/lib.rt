@@ -3,7 +3,7 @@
 #![tactic(auto)]
 
 ghost use Rattle.std.specs.Prelude.{◌≡◌};
-ghost use Rattle.rule_order.specs.Order.{lesser};
+ghost use Rattle.rule_order.specs.Order.{lesser, noted};
 
 /// The lesser of two lines, where there are any.
 pub fn lesser(a: Option<u32>, b: Option<u32>) -> Option<u32>
@@ -13,5 +13,16 @@ pub fn lesser(a: Option<u32>, b: Option<u32>) -> Option<u32>
         (None, other) => other,
         (Some(line), None) => Some(line),
         (Some(line), Some(other)) => Some(line.min(other)),
+    }
+}
+
+/// The least line so far, with one more where this is broken.
+pub fn noted(least: Option<u32>, broken: bool, line: u32) -> Option<u32>
+    ensures { result ≡ noted least broken line }
+{
+    if broken {
+        lesser(least, Some(line))
+    } else {
+        least
     }
 }

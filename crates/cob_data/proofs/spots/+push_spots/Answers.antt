@@ -22,5 +22,5 @@ loop-last-preserved t c =
         (c.len-place.ensures ∙ c.loop-last.placed.ok.0) c.spot_of-spot.ensures.value c.in_ok-push.ensures.items c.above_parts-parts.ensures
         c.in_ok-push_spots.ensures c.lies_on_last-on_last.ensures c.end_behind-next.ensures.value c.loop-last.invariant.same;
       low = omega arith;
-      before = c.end_behind-next.ensures.high;
+      before = omega arith;
     }

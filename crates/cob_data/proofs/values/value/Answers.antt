@@ -4,8 +4,8 @@ use Rattle.cob_data.proofs.values.value.Goals as goal
 
 pub loop-c-preserved : goal.loop-c-preserved
 loop-c-preserved c = record {
-  same = value_step c.args.digits.now c.loop-c.c-index c.loop-c.value c.saturating_sub-digit.result c.saturating_add-value.result _ c.loop-c-test.true (c.saturating_sub-digit.ensures ∙ ap (λ n. n - 48) c.from.ensures) (omega arith) c.loop-c.invariant.same;
-  small = c.saturating_add-value.type_inv;
+  same = value_step c.args.digits.now c.loop-c.c-index c.loop-c.value c.saturating_sub-digit.result c.min-value.result _ c.loop-c-test.true (c.saturating_sub-digit.ensures ∙ ap (λ n. n - 48) c.from.ensures) (omega arith) c.loop-c.invariant.same;
+  small = omega arith;
 }
 
 pub returns : goal.returns
