@@ -2,3 +2,4 @@ pub mod LengthLemmas
 pub mod SpotLemmas
 pub mod ReadLemmas
 pub mod ValueLemmas
+pub mod LineLemmas

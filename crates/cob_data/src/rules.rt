@@ -1,4 +1,4 @@
-ghost use Rattle.std.specs.Prelude.{◌≡◌, ◌≤◌, ◌<◌, ◌+◌, ◌++◌, ◌∷◌, [], take, drop, length};
+ghost use Rattle.std.specs.Prelude.{◌≡◌, ◌≤◌, ◌<◌, ◌+◌, ◌^◌, ◌++◌, ◌∷◌, [], take, drop, length};
 ghost use Rattle.rule_order.specs.Order.{least, first_broken};
 ghost use Rattle.cob_data.specs.Rules.{item_breaks, condition_breaks, select_breaks, fd_breaks, end_breaks, item_lines, condition_lines, select_lines, fd_lines, end_lines, lines_in, data_rules};
 ghost use Rattle.cob_data.specs.Known.{AreSeated};
@@ -16,6 +16,22 @@ use crate::item_rules::{
 use cob_tree::{EndProgram, Fd, Name, Select};
 use rule_order::{lesser, noted};
 use std::marker::Model;
+
+/// The rules on data, in their order.
+const DATA_RULES: [Rule; 12] = [
+    Rule::L1,
+    Rule::L2,
+    Rule::L3,
+    Rule::L4,
+    Rule::L5,
+    Rule::L6,
+    Rule::L7,
+    Rule::L8,
+    Rule::L9,
+    Rule::L10,
+    Rule::L11,
+    Rule::L12,
+];
 
 /// What the rules speak of: the items with where they lie, the condition-names, the files, and END PROGRAM.
 #[derive(Drop)]
@@ -74,8 +90,10 @@ fn item_line(rule: Rule, items: &[Description], spots: &[Spot]) -> Option<u32>
 {
     let mut first = None;
     for place in 0..items.len() {
-        let broken = item_breaks(rule, &items[place], &spots[place]);
-        first = noted(first, broken, items[place].line);
+        let item = &items[place];
+        let spot = &spots[place];
+        let broken = item_breaks(rule, item, spot);
+        first = noted(first, broken, item.line);
     }
     first
 }
@@ -112,5 +130,81 @@ impl<'a> Known<'a> {
             Rule::L9 => breaks_record_size(&self.items, &self.spots, file, fd),
             _ => false,
         }
+    }
+
+    fn condition_line(&self, rule: Rule) -> Option<u32>
+        requires { AreSeated self.now }
+        ensures { result ≡ least (condition_lines rule self.now self.now.conditions) }
+    {
+        let mut first = None;
+        for place in 0..self.conditions.len() {
+            let condition = &self.conditions[place];
+            let broken = self.condition_breaks(rule, condition);
+            first = noted(first, broken, condition.line);
+        }
+        first
+    }
+
+    fn select_line(&self, rule: Rule) -> Option<u32>
+        ensures { result ≡ least (select_lines rule self.now [] self.now.selects) }
+    {
+        let mut first = None;
+        for place in 0..self.selects.len() {
+            let select = &self.selects[place];
+            let broken = self.select_breaks(rule, &self.selects[..place], select);
+            first = noted(first, broken, select.line);
+        }
+        first
+    }
+
+    fn fd_line(&self, rule: Rule) -> Option<u32>
+        requires seated { AreSeated self.now }
+        requires few { length self.now.fds ≤ 2 ^ 27 }
+        ensures { result ≡ least (fd_lines rule self.now [] self.now.fds) }
+    {
+        let mut first = None;
+        for place in 0..self.fds.len() {
+            let fd = &self.fds[place];
+            let broken = self.fd_breaks(rule, &self.fds[..place], place as u32, fd);
+            first = noted(first, broken, fd.line);
+        }
+        first
+    }
+
+    /// The first line at which a rule is broken.
+    fn first_line(&self, rule: Rule) -> Option<u32>
+        requires seated { AreSeated self.now }
+        requires few { length self.now.fds ≤ 2 ^ 27 }
+        ensures { result ≡ least (lines_in self.now rule) }
+    {
+        let items = item_line(rule, &self.items, &self.spots);
+        let data = lesser(items, self.condition_line(rule));
+        let selects = lesser(data, self.select_line(rule));
+        let files = lesser(selects, self.fd_line(rule));
+        lesser(files, end_line(rule, self.program, self.end))
+    }
+
+    fn first_among(&self, rules: &[Rule]) -> Option<(Rule, u32)>
+        requires seated { AreSeated self.now }
+        requires few { length self.now.fds ≤ 2 ^ 27 }
+        ensures { result ≡ first_broken (lines_in self.now) rules.now }
+    {
+        for place in 0..rules.len() {
+            let rule = rules[place];
+            match self.first_line(rule) {
+                None => {}
+                Some(line) => return Some((rule, line)),
+            }
+        }
+        None
+    }
+
+    /// The first rule on data that is broken, with its first line.
+    pub fn first_broken(&self) -> Option<(Rule, u32)>
+        requires seated { AreSeated self.now }
+        requires few { length self.now.fds ≤ 2 ^ 27 }
+        ensures { result ≡ first_broken (lines_in self.now) data_rules }
+    {
+        self.first_among(&DATA_RULES)
     }
 }
