@@ -75,7 +75,7 @@ fn end_breaks(rule: Rule, program: &Name, end: &EndProgram) -> bool
     }
 }
 
-fn end_line(rule: Rule, program: &Name, end: &Option<EndProgram>) -> Option<u32>
+fn line_of_end(rule: Rule, program: &Name, end: &Option<EndProgram>) -> Option<u32>
     ensures { result ≡ least (end_lines rule program.now end.now) }
 {
     match end {
@@ -84,7 +84,7 @@ fn end_line(rule: Rule, program: &Name, end: &Option<EndProgram>) -> Option<u32>
     }
 }
 
-fn item_line(rule: Rule, items: &[Description], spots: &[Spot]) -> Option<u32>
+fn line_of_items(rule: Rule, items: &[Description], spots: &[Spot]) -> Option<u32>
     requires { length items.now ≡ length spots.now }
     ensures { result ≡ least (item_lines rule items.now spots.now) }
 {
@@ -132,6 +132,19 @@ impl<'a> Known<'a> {
         }
     }
 
+    fn item_line(&self, rule: Rule) -> Option<u32>
+        requires { AreSeated self.now }
+        ensures { result ≡ least (item_lines rule self.now.items self.now.spots) }
+    {
+        line_of_items(rule, &self.items, &self.spots)
+    }
+
+    fn end_line(&self, rule: Rule) -> Option<u32>
+        ensures { result ≡ least (end_lines rule self.now.program self.now.end) }
+    {
+        line_of_end(rule, self.program, self.end)
+    }
+
     fn condition_line(&self, rule: Rule) -> Option<u32>
         requires { AreSeated self.now }
         ensures { result ≡ least (condition_lines rule self.now self.now.conditions) }
@@ -177,11 +190,11 @@ impl<'a> Known<'a> {
         requires few { length self.now.fds ≤ 2 ^ 27 }
         ensures { result ≡ least (lines_in self.now rule) }
     {
-        let items = item_line(rule, &self.items, &self.spots);
+        let items = self.item_line(rule);
         let data = lesser(items, self.condition_line(rule));
         let selects = lesser(data, self.select_line(rule));
         let files = lesser(selects, self.fd_line(rule));
-        lesser(files, end_line(rule, self.program, self.end))
+        lesser(files, self.end_line(rule))
     }
 
     fn first_among(&self, rules: &[Rule]) -> Option<(Rule, u32)>
