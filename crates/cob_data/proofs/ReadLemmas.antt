@@ -1,11 +1,14 @@
 -- Entries read, one further.
-use Rattle.std.proofs.Common.{◌≡◌, ℕ, ◌+◌, ◌<◌, true, false, List, [], ◌∷◌, ◌++◌, append_assoc, length, length-append, get_or, drop, Some, refl, ap, ◌∙◌, sym, arith}
+use Rattle.std.proofs.Common.{◌≡◌, ℕ, ◌+◌, ◌<◌, suc, true, false, List, [], ◌∷◌, ◌++◌, append_assoc, append-nil, drop-cons, None, length, length-append, get_or, drop, Some, refl, ap, ◌∙◌, sym, arith}
+use Rattle.cob_tree.specs.declared.front.Front.{Front}
+use Rattle.cob_tree.specs.declared.front.Fd.{Fd}
 use Rattle.cob_tree.specs.declared.front.Entry.{Entry}
+use Rattle.cob_data.specs.declared.description.Area.TheVariants.{File, Storage}
 use Rattle.cob_data.specs.declared.entry.Table.{Table}
 use Rattle.cob_data.specs.declared.description.Area.{Area}
 use Rattle.cob_data.specs.declared.description.Description.{Description}
 use Rattle.cob_data.specs.declared.description.Condition.{Condition}
-use Rattle.cob_data.specs.Entries.{Placed, description, descriptions, condition, conditions, is_condition, owner_in, placed}
+use Rattle.cob_data.specs.Entries.{Placed, description, descriptions, condition, conditions, is_condition, owner_in, placed, file_entries, all_entries, fds_in, entries_in, items_of, conditions_of}
 use Rattle.cob_data.specs.Reading.{Moves}
 
 pub moves_condition : (old new : Table) (p : Placed) (ps : List Placed) (c : Condition) → is_condition p.entry ≡ true →
@@ -49,3 +52,50 @@ moves_entry a b c here all later xs ys e some is others so_far one =
 pub moves_end : (a b : Table) (here : Area) (all later : List Placed) (xs : List Entry) → length xs ≡ 0 → Moves a b all (placed here xs ++ later) → Moves a b all later
 moves_end a b here all later [] none so_far = so_far
 moves_end a b here all later (x ∷ xs) none so_far = absurd (omega arith)
+
+-- ---- one file further
+
+drop_is : {A : Type 0} (xs : List A) (i : ℕ) (x : A) → i < length xs → x ≡ get_or xs i x → drop i xs ≡ x ∷ drop (i + 1) xs
+drop_is xs i x within is =
+    let one : i + 1 ≡ suc i = omega arith in
+    rw one (drop-cons xs i x within ∙ ap (λ y. y ∷ drop (suc i) xs) (sym is))
+
+pub placed_length : (here : Area) (es : List Entry) → length (placed here es) ≡ length es
+placed_length here [] = refl
+placed_length here (e ∷ es) = ap suc (placed_length here es)
+
+files_split : (xs : List Fd) (i : ℕ) (x : Fd) → i < length xs → x ≡ get_or xs i x → file_entries i (drop i xs) ≡ placed (File i) x.entries ++ file_entries (i + 1) (drop (i + 1) xs)
+files_split xs i x within is = rw (drop_is xs i x within is) refl
+
+pub files_length : (xs : List Fd) (i : ℕ) (x : Fd) (es : List Entry) → i < length xs → x ≡ get_or xs i x → es ≡ x.entries →
+    length (file_entries i (drop i xs)) ≡ length es + length (file_entries (i + 1) (drop (i + 1) xs))
+files_length xs i x es within is entries =
+    rw (files_split xs i x within is, entries) (length-append (placed (File i) x.entries) (file_entries (i + 1) (drop (i + 1) xs)) ∙ ap (λ n. n + length (file_entries (i + 1) (drop (i + 1) xs))) (placed_length (File i) x.entries))
+
+pub moves_file : (a b c : Table) (all later : List Placed) (xs : List Fd) (i : ℕ) (x : Fd) (es : List Entry) → i < length xs → x ≡ get_or xs i x → es ≡ x.entries →
+    Moves a b all (file_entries i (drop i xs) ++ later) → ((ps : List Placed) → Moves b c (placed (File i) es ++ ps) ps) →
+    Moves a c all (file_entries (i + 1) (drop (i + 1) xs) ++ later)
+moves_file a b c all later xs i x es within is entries so_far one =
+    let others = file_entries (i + 1) (drop (i + 1) xs) in
+    let split : file_entries i (drop i xs) ++ later ≡ placed (File i) es ++ (others ++ later) = rw (files_split xs i x within is, entries) (append_assoc (placed (File i) x.entries) others later) in
+    moves_on a b c all (file_entries i (drop i xs) ++ later) (others ++ later) so_far (rw split (one (others ++ later)))
+
+-- ---- all of them
+
+pub record Reads (c : Table) (front : Front) : Type 0 where
+  pub items : c.items.items ≡ items_of front
+  pub conditions : c.conditions.items ≡ conditions_of front
+
+pub reads_front : (a b c : Table) (front : Front) (fds : List Fd) (es : List Entry) → a.items.items ≡ [] → a.conditions.items ≡ [] → a.last ≡ None → fds ≡ fds_in front.«data» → es ≡ entries_in front.«data» →
+    ((ps : List Placed) → Moves a b (file_entries 0 fds ++ ps) ps) → ((ps : List Placed) → Moves b c (placed Storage es ++ ps) ps) → Reads c front
+reads_front a b c front fds es no_items no_conditions no_last is_fds is_es first second =
+    let later = placed Storage es in
+    let all : file_entries 0 fds ++ (later ++ []) ≡ all_entries front = rw (append-nil later, is_fds, is_es) refl in
+    let both = moves_on a b c (file_entries 0 fds ++ (later ++ [])) (later ++ []) [] (first (later ++ [])) (second []) in
+    record {
+      items = sym (append-nil c.items.items) ∙ sym both.items ∙ rw (no_items, all) refl;
+      conditions = sym (append-nil c.conditions.items) ∙ sym both.conditions ∙ rw (no_conditions, no_items, no_last, all) refl;
+    }
+
+pub front_length : (front : Front) → length (all_entries front) ≡ length (file_entries 0 (fds_in front.«data»)) + length (entries_in front.«data»)
+front_length front = length-append (file_entries 0 (fds_in front.«data»)) (placed Storage (entries_in front.«data»)) ∙ ap (λ n. length (file_entries 0 (fds_in front.«data»)) + n) (placed_length Storage (entries_in front.«data»))

@@ -203,19 +203,17 @@ conditions n last (p ∷ ps) =
 
 -- ---- all entries, in the order of the source
 
+abbrev pub list_if : {A : Type 0} → Option (List A) → List A
+list_if None = []
+list_if (Some xs) = xs
+
 abbrev pub fds_in : Option Data → List Fd
-fds_in (Some d) = fds_if d.files where
-  fds_if : Option (List Fd) → List Fd
-  fds_if None = []
-  fds_if (Some fds) = fds
 fds_in None = []
+fds_in (Some d) = list_if d.files
 
 abbrev pub entries_in : Option Data → List Entry
-entries_in (Some d) = entries_if d.storage where
-  entries_if : Option (List Entry) → List Entry
-  entries_if None = []
-  entries_if (Some es) = es
 entries_in None = []
+entries_in (Some d) = list_if d.storage
 
 abbrev pub placed : Area → List Entry → List Placed
 placed here [] = []

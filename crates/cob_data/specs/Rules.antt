@@ -91,12 +91,13 @@ lines_in f rule =
 
 -- ---- the facts of a tree
 
+abbrev pub selects_if : Option Io → List Select
+selects_if None = []
+selects_if (Some io) = io.selects
+
 abbrev pub selects_in : Option Env → List Select
 selects_in None = []
-selects_in (Some e) = selects_if e.io where
-  selects_if : Option Io → List Select
-  selects_if None = []
-  selects_if (Some io) = io.selects
+selects_in (Some e) = selects_if e.io
 
 abbrev pub facts_of : Tree → Facts
 facts_of t =

@@ -2,6 +2,7 @@
 //! "Environment division").
 #![tactic(auto)]
 
+mod build;
 mod description;
 mod end;
 mod entry;
@@ -9,6 +10,8 @@ mod files;
 mod item_rules;
 mod layout;
 mod lengths;
+mod limits;
+mod read;
 mod rules;
 mod slice;
 mod spots;
