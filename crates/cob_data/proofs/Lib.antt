@@ -3,3 +3,5 @@ pub mod SpotLemmas
 pub mod ReadLemmas
 pub mod ValueLemmas
 pub mod LineLemmas
+pub mod LowLemmas
+pub mod AreaLemmas

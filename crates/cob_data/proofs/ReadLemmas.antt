@@ -1,5 +1,5 @@
 -- Entries read, one further.
-use Rattle.std.proofs.Common.{◌≡◌, ℕ, ◌+◌, ◌<◌, suc, true, false, List, [], ◌∷◌, ◌++◌, append_assoc, append-nil, drop-cons, None, length, length-append, get_or, drop, Some, refl, ap, ◌∙◌, sym, arith}
+use Rattle.std.proofs.Common.{◌≡◌, ℕ, ◌+◌, ◌<◌, ◌≤◌, suc, Bool, cond, true, false, List, [], ◌∷◌, ◌++◌, append_assoc, append-nil, drop-cons, None, length, length-append, get_or, drop, Some, refl, ap, ◌∙◌, sym, arith}
 use Rattle.cob_tree.specs.declared.front.Front.{Front}
 use Rattle.cob_tree.specs.declared.front.Fd.{Fd}
 use Rattle.cob_tree.specs.declared.front.Entry.{Entry}
@@ -99,3 +99,10 @@ reads_front a b c front fds es no_items no_conditions no_last is_fds is_es first
 
 pub front_length : (front : Front) → length (all_entries front) ≡ length (file_entries 0 (fds_in front.«data»)) + length (entries_in front.«data»)
 front_length front = length-append (file_entries 0 (fds_in front.«data»)) (placed Storage (entries_in front.«data»)) ∙ ap (λ n. length (file_entries 0 (fds_in front.«data»)) + n) (placed_length Storage (entries_in front.«data»))
+
+pub descriptions_length : (ps : List Placed) → length (descriptions ps) ≤ length ps
+descriptions_length [] = omega arith
+descriptions_length (p ∷ ps) = at (is_condition p.entry) p ps (descriptions_length ps) where
+  at : (x : Bool) (p : Placed) (ps : List Placed) → length (descriptions ps) ≤ length ps → length (cond x (descriptions ps) (description p ∷ descriptions ps)) ≤ length (p ∷ ps)
+  at true p ps so_far = omega arith
+  at false p ps so_far = omega arith

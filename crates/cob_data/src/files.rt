@@ -111,7 +111,7 @@ pub fn breaks_record_size(
 
 // ---- external names
 
-fn external_text(external: &External) -> &[u8]
+pub fn external_text(external: &External) -> &[u8]
     ensures { result.now ≡ external_text external.now }
 {
     match external {
@@ -149,7 +149,7 @@ fn find_status(clauses: &[SelClause]) -> Option<&SelClause>
     clauses.iter().find(|clause| is_status(clause))
 }
 
-fn is_named(name: &[u8], item: &Description) -> bool
+pub fn is_named(name: &[u8], item: &Description) -> bool
     ensures { result ≡ is_named name.now item.now }
 {
     match &item.name {
