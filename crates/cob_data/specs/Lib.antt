@@ -9,3 +9,4 @@ pub mod Files
 pub mod Rules
 pub mod Known
 pub mod Layouts
+pub mod Answers

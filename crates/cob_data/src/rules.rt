@@ -1,10 +1,11 @@
 ghost use Rattle.std.specs.Prelude.{◌≡◌, ◌≤◌, ◌<◌, ◌+◌, ◌^◌, ◌++◌, ◌∷◌, [], take, drop, length};
 ghost use Rattle.rule_order.specs.Order.{least, first_broken};
-ghost use Rattle.cob_data.specs.Rules.{item_breaks, condition_breaks, select_breaks, fd_breaks, end_breaks, item_lines, condition_lines, select_lines, fd_lines, end_lines, lines_in, data_rules};
+ghost use Rattle.cob_data.specs.Rules.{item_breaks, condition_breaks, select_breaks, fd_breaks, end_breaks, item_lines, condition_lines, select_lines, fd_lines, end_lines, lines_in, data_rules, count_of, limit_of};
 ghost use Rattle.cob_data.specs.Known.{AreSeated};
+ghost use Rattle.cob_data.specs.Answers.{limit_or, limit_in, refusal_in};
 
 use crate::description::{Condition, Description, Spot};
-use crate::end::Rule;
+use crate::end::{DataEnd, Rule, Which};
 use crate::files::{
     breaks_end, breaks_externals, breaks_fd_match, breaks_record_size, breaks_select_match,
     breaks_status,
@@ -13,6 +14,7 @@ use crate::item_rules::{
     breaks_conditions, breaks_levels, breaks_parts, breaks_pictures, breaks_redefinitions,
     breaks_usages, breaks_values, is_stray,
 };
+use crate::limits::{count_items, storage_of};
 use cob_tree::{EndProgram, Fd, Name, Select};
 use rule_order::{lesser, noted};
 use std::marker::Model;
@@ -219,5 +221,65 @@ impl<'a> Known<'a> {
         ensures { result ≡ first_broken (lines_in self.now) data_rules }
     {
         self.first_among(&DATA_RULES)
+    }
+}
+
+// ---- limits
+
+/// How much there is of what is limited here.
+fn count_of(known: &Known, which: Which) -> u64
+    requires { AreSeated known.now }
+    ensures { result ≡ count_of known.now which }
+{
+    match which {
+        Which::Items => count_items(&known.items, &known.spots),
+        Which::Storage => storage_of(&known.spots),
+        Which::Files => known.selects.len() as u64,
+        Which::Nesting | Which::Cells | Which::Nodes => 0,
+    }
+}
+
+fn limit_of(which: Which) -> u64
+    ensures { result ≡ limit_of which }
+{
+    match which {
+        Which::Items => 512,
+        Which::Storage => 1_048_576,
+        Which::Files => 16,
+        Which::Nesting | Which::Cells | Which::Nodes => 0,
+    }
+}
+
+fn limit_or(known: &Known, which: Which, other: Option<DataEnd>) -> Option<DataEnd>
+    requires { AreSeated known.now }
+    ensures { result ≡ limit_or known.now which other }
+{
+    let count = count_of(known, which);
+    if limit_of(which) < count {
+        Some(DataEnd::Limit { which, count })
+    } else {
+        other
+    }
+}
+
+/// The first limit that is exceeded.
+fn limit_in(known: &Known) -> Option<DataEnd>
+    requires { AreSeated known.now }
+    ensures { result ≡ limit_in known.now }
+{
+    let files = limit_or(known, Which::Files, None);
+    let storage = limit_or(known, Which::Storage, files);
+    limit_or(known, Which::Items, storage)
+}
+
+/// Why there is no layout: the first broken rule, or else the first limit that is exceeded.
+pub fn refusal_in(known: &Known) -> Option<DataEnd>
+    requires seated { AreSeated known.now }
+    requires few { length known.now.fds ≤ 2 ^ 27 }
+    ensures { result ≡ refusal_in known.now }
+{
+    match known.first_broken() {
+        None => limit_in(known),
+        Some((rule, line)) => Some(DataEnd::Outside { rule, line }),
     }
 }
