@@ -5,3 +5,5 @@ pub mod ValueLemmas
 pub mod LineLemmas
 pub mod LowLemmas
 pub mod AreaLemmas
+pub mod AnswerLemmas
+pub mod PrintLemmas

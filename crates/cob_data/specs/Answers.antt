@@ -9,7 +9,7 @@ use Rattle.cob_data.specs.declared.end.DataEnd.{DataEnd}
 use Rattle.cob_data.specs.declared.end.DataEnd.TheVariants as data_end
 use Rattle.cob_data.specs.declared.layout.Layout.{Layout}
 use Rattle.cob_data.specs.Rules.{Facts, lines_in, data_rules, count_of, limit_of}
-use Rattle.cob_data.specs.Layouts.{HasLayout, layout, IsCause}
+use Rattle.cob_data.specs.Layouts.{HasLayout, layout, layout_in, IsCause}
 
 -- ---- which answers there are
 
@@ -43,3 +43,8 @@ limit_in f = limit_or f which.Items (limit_or f which.Storage (limit_or f which.
 
 abbrev pub refusal_in : Facts → Option DataEnd
 refusal_in f = outside_or (first_broken (lines_in f) data_rules) (limit_in f)
+
+-- what is answered from facts
+abbrev pub IsJudged : Facts → Result Layout DataEnd → Type 0
+IsJudged f (Ok l) = (refusal_in f ≡ None) × (l ≡ layout_in f)
+IsJudged f (Err end) = (refusal_in f ≡ Some end) ⊎ (end ≡ data_end.Memory)
