@@ -10,3 +10,4 @@ pub mod Rules
 pub mod Known
 pub mod Layouts
 pub mod Answers
+pub mod Overlaps

@@ -15,7 +15,9 @@ mod read;
 mod rules;
 mod slice;
 mod spots;
+mod top;
 mod values;
 
 pub use end::{DataEnd, Rule, Which};
+pub use top::{layout_of, overlaps};
 pub use layout::{FileDecl, Flag, Item, Layout, Pair, Sender};
