@@ -1,5 +1,5 @@
 -- The answer as a function, and in words.
-use Rattle.std.proofs.Common.{◌≡◌, ℕ, ◌+◌, ◌^◌, max, min, IsTrue, ◌↔◌, ◌<◌, ◌≤◌, Bool, true, false, cond, ltb, ◌⊎◌, inl, inr, List, [], ◌∷◌, length, Option, Some, None, Result, Ok, Err, refl, sym, ap, ◌∙◌, subst, arith}
+use Rattle.std.proofs.Common.{◌≡◌, ℕ, ◌+◌, ◌^◌, max, min, IsTrue, ◌↔◌, ◌<◌, ◌≤◌, Bool, true, false, cond, ltb, inl, inr, List, length, Option, Some, None, Result, Ok, Err, refl, sym, ap, ◌∙◌, subst, arith}
 use Rattle.std.proofs.lemmas.Bool.Decides.{nat_tests}
 use Rattle.rule_order.specs.Order.{AreKept, IsFirstBroken, first_broken}
 use Rattle.rule_order.proofs.OrderLemmas.{first_is, kept_is, is_first, is_kept}
@@ -8,7 +8,7 @@ use Rattle.cob_data.specs.declared.end.Rule.{Rule}
 use Rattle.cob_data.specs.declared.end.Which.{Which}
 use Rattle.cob_data.specs.declared.end.Which.TheVariants.{Nesting, Items, Storage, Files, Cells, Nodes}
 use Rattle.cob_data.specs.declared.end.DataEnd.{DataEnd}
-use Rattle.cob_data.specs.declared.end.DataEnd.TheVariants.{Outside, Limit, Memory}
+use Rattle.cob_data.specs.declared.end.DataEnd.TheVariants.{Outside, Limit}
 use Rattle.cob_data.specs.declared.layout.Layout.{Layout}
 use Rattle.cob_data.specs.declared.layout.Item.{Item as LaidItem}
 use Rattle.cob_data.specs.declared.description.Description.{Description}
@@ -20,9 +20,9 @@ use Rattle.cob_data.proofs.LowLemmas.{are_low}
 use Rattle.cob_data.proofs.ReadLemmas.{descriptions_length}
 use Rattle.cob_data.specs.Lengths.{forest}
 use Rattle.cob_data.specs.Spots.{all_spots, nothing_above, storage_of}
-use Rattle.cob_data.specs.Rules.{Facts, facts_of, broken_lines, lines_in, data_rules, count_of, limit_of, IsExceeded, IsWithin, IsFirstExceeded, IsWithinLimits}
-use Rattle.cob_data.specs.Layouts.{HasLayout, layout, IsCause}
-use Rattle.cob_data.specs.Answers.{IsAnswer, IsRefused, IsAccepted, outside_or, limit_or, limit_in, refusal_in, IsJudged}
+use Rattle.cob_data.specs.Rules.{Facts, facts_of, broken_lines, lines_in, data_rules, count_of, limit_of, IsFirstExceeded, IsWithinLimits}
+use Rattle.cob_data.specs.Layouts.{HasLayout, IsCause}
+use Rattle.cob_data.specs.Answers.{IsAnswer, IsRefused, IsAccepted, outside_or, limit_in, refusal_in, IsJudged}
 use Rattle.cob_data.proofs.SpotLemmas.{spots_length, size_forest}
 
 -- ---- limits

@@ -1,5 +1,5 @@
 -- The start of a file's area, one item further.
-use Rattle.std.proofs.Common.{◌≡◌, ℕ, ◌+◌, ◌<◌, suc, false, List, [], ◌∷◌, length, get_or, drop, drop-cons, refl, ap, ◌∙◌, sym, arith}
+use Rattle.std.proofs.Common.{◌≡◌, ℕ, ◌+◌, ◌<◌, suc, false, List, [], ◌∷◌, length, get_or, drop, drop-cons, ap, ◌∙◌, sym, arith}
 use Rattle.cob_data.specs.declared.description.Description.{Description}
 use Rattle.cob_data.specs.declared.description.Spot.{Spot}
 use Rattle.cob_data.specs.Files.{is_record_of}

@@ -1,10 +1,8 @@
 -- The first line at which a rule is broken, from those of each kind of places.
-use Rattle.std.proofs.Common.{◌≡◌, ℕ, List, [], ◌++◌, refl, ap, ◌∙◌, sym, Option}
+use Rattle.std.proofs.Common.{◌≡◌, ℕ, List, [], ◌++◌, refl, Option}
 use Rattle.rule_order.specs.Order.{lesser, least}
 use Rattle.rule_order.proofs.OrderLemmas.{least_append}
 use Rattle.cob_data.specs.declared.end.Rule.{Rule}
-use Rattle.cob_data.specs.declared.description.Description.{Description}
-use Rattle.cob_data.specs.declared.description.Spot.{Spot}
 use Rattle.cob_data.specs.Rules.{Facts, item_lines, condition_lines, select_lines, fd_lines, end_lines, lines_in}
 
 least_of_five : (xs ys zs us vs : List ℕ) → lesser (lesser (lesser (lesser (least xs) (least ys)) (least zs)) (least us)) (least vs) ≡ least (xs ++ ys ++ zs ++ us ++ vs)

@@ -1,5 +1,5 @@
 -- What lies within storage of few bytes.
-use Rattle.std.proofs.Common.{◌≡◌, ℕ, ◌+◌, ◌<◌, ◌≤◌, max, Bool, true, false, cond, List, [], ◌∷◌, ◌++◌, length, Option, Some, None, refl, sym, ap, ◌∙◌, arith}
+use Rattle.std.proofs.Common.{◌≡◌, ℕ, ◌+◌, ◌≤◌, max, Bool, true, false, cond, List, [], ◌∷◌, ◌++◌, Option, Some, None, refl, arith}
 use Rattle.std.specs.List.{AllByRecursion, fold}
 use Rattle.cob_data.specs.declared.description.Description.{Description}
 use Rattle.cob_data.specs.declared.description.Spot.{Spot}
@@ -8,7 +8,7 @@ use Rattle.cob_data.specs.Lengths.{Forest, bare, item, forest, size}
 use Rattle.cob_data.specs.Spots.{Neighbour, spot, spots, above_parts, end_behind, lies_on_last, nothing_above, all_spots, storage_of}
 use Rattle.cob_data.specs.Files.{longest, largest_record, is_record_of}
 use Rattle.cob_data.specs.Layouts.{area_start}
-use Rattle.cob_data.specs.Known.{IsLow, AreLow}
+use Rattle.cob_data.specs.Known.{AreLow}
 
 all_append : (P : Spot → Type 0) (xs ys : List Spot) → AllByRecursion P xs → AllByRecursion P ys → AllByRecursion P (xs ++ ys)
 all_append P [] ys p q = q
@@ -20,10 +20,12 @@ EndsRightly s = s.end ≡ s.start + s.length
 pub spots_end_rightly : (above : Above) (place next : ℕ) (last : Option Neighbour) (f : Forest) → AllByRecursion EndsRightly (spots above place next last f)
 spots_end_rightly above place next last bare = tt
 spots_end_rightly above place next last (item d b r) =
-    let s = spot above next last d b in
-    (refl, all_append EndsRightly (spots (above_parts place s) (place + 1) s.start None b) (spots above (place + 1 + size b) (end_behind above next (lies_on_last above d last) s) (Some (record { item = d; spot = s })) r)
-      (spots_end_rightly (above_parts place s) (place + 1) s.start None b)
-      (spots_end_rightly above (place + 1 + size b) (end_behind above next (lies_on_last above d last) s) (Some (record { item = d; spot = s })) r))
+    let s = spot above next last d b in (
+      refl,
+      all_append EndsRightly (spots (above_parts place s) (place + 1) s.start None b) (spots above (place + 1 + size b) (end_behind above next (lies_on_last above d last) s) (Some (record { item = d; spot = s })) r)
+          (spots_end_rightly (above_parts place s) (place + 1) s.start None b)
+          (spots_end_rightly above (place + 1 + size b) (end_behind above next (lies_on_last above d last) s) (Some (record { item = d; spot = s })) r),
+    )
 
 abbrev greatest : ℕ → List Spot → ℕ
 greatest m ss = fold (λ most (s : Spot). max most s.end) m ss

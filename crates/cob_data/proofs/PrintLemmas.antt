@@ -1,5 +1,5 @@
 -- A tree's printing has at least as many tokens as the tree has entries.
-use Rattle.std.proofs.Common.{◌≡◌, ℕ, ◌+◌, ◌<◌, ◌≤◌, suc, List, [], ◌∷◌, ◌++◌, length, length-append, ◌^◌, Option, Some, None, refl, ap, ◌∙◌, arith}
+use Rattle.std.proofs.Common.{ℕ, ◌+◌, ◌≤◌, List, [], ◌∷◌, ◌++◌, length, length-append, ◌^◌, Option, Some, None, arith}
 use Rattle.cob_tree.specs.declared.front.Front.{Front}
 use Rattle.cob_tree.specs.declared.front.Data.{Data}
 use Rattle.cob_tree.specs.declared.front.Fd.{Fd}
@@ -10,7 +10,7 @@ use Rattle.cob_tree.specs.StmtView.{plain_tree}
 use Rattle.cob_tree.specs.PrintStmt.{print_tree, print_sentence, print_paragraph, print_end}
 use Rattle.cob_tree.specs.Items.{Item, each, stop}
 use Rattle.cob_tree.specs.PrintFront.{heading, print_name_and_stop, print_env, print_fd_clause, print_entry, print_fd, print_files, print_storage, print_data, print_front, print_if}
-use Rattle.cob_data.specs.Entries.{Placed, placed, file_entries, all_entries, fds_in, entries_in, list_if}
+use Rattle.cob_data.specs.Entries.{placed, file_entries, fds_in, entries_in, list_if}
 use Rattle.cob_data.specs.declared.description.Area.TheVariants.{File}
 use Rattle.cob_data.specs.Known.{HasFewEntries}
 use Rattle.cob_data.proofs.ReadLemmas.{placed_length, front_length}
@@ -55,14 +55,14 @@ data_if : (o : Option Data) → count_in o ≤ length (print_if print_data o)
 data_if None = omega arith
 data_if (Some d) =
     at_least (heading (word.Data ∷ word.Division ∷ [])) (print_if print_files d.files ++ print_if print_storage d.storage) (count_in (Some d))
-      (both (print_if print_files d.files) (print_if print_storage d.storage) (length (file_entries 0 (list_if d.files)) + length (list_if d.files)) (length (list_if d.storage)) (files_if d.files) (storage_if d.storage))
+    (both (print_if print_files d.files) (print_if print_storage d.storage) (length (file_entries 0 (list_if d.files)) + length (list_if d.files)) (length (list_if d.storage)) (files_if d.files) (storage_if d.storage))
 
 front_printed : (f : Front) → count_in f.«data» ≤ length (print_front f)
 front_printed f =
     at_least (heading (word.Identification ∷ word.Division ∷ [])) (heading (word.ProgramId ∷ []) ++ (print_name_and_stop f.name ++ (print_if print_env f.env ++ print_if print_data f.«data»))) (count_in f.«data»)
-      (at_least (heading (word.ProgramId ∷ [])) (print_name_and_stop f.name ++ (print_if print_env f.env ++ print_if print_data f.«data»)) (count_in f.«data»)
-        (at_least (print_name_and_stop f.name) (print_if print_env f.env ++ print_if print_data f.«data») (count_in f.«data»)
-          (at_least (print_if print_env f.env) (print_if print_data f.«data») (count_in f.«data») (data_if f.«data»))))
+    (at_least (heading (word.ProgramId ∷ [])) (print_name_and_stop f.name ++ (print_if print_env f.env ++ print_if print_data f.«data»)) (count_in f.«data»)
+    (at_least (print_name_and_stop f.name) (print_if print_env f.env ++ print_if print_data f.«data») (count_in f.«data»)
+    (at_least (print_if print_env f.env) (print_if print_data f.«data») (count_in f.«data») (data_if f.«data»))))
 
 pub few_entries : (t : Tree) → length (print_tree (plain_tree t)) ≤ 2 ^ 27 → HasFewEntries t.front
 few_entries t few =

@@ -25,10 +25,12 @@ pub spots_length : (above : Above) (place next : ℕ) (last : Option Neighbour) 
 spots_length above place next last bare = refl
 spots_length above place next last (item d b r) =
     let s = spot above next last d b in
-    omega (arith,
+    omega (
+      arith,
       length-append (spots (above_parts place s) (place + 1) s.start None b) (spots above (place + 1 + size b) (end_behind above next (lies_on_last above d last) s) (Some (record { item = d; spot = s })) r),
       spots_length (above_parts place s) (place + 1) s.start None b,
-      spots_length above (place + 1 + size b) (end_behind above next (lies_on_last above d last) s) (Some (record { item = d; spot = s })) r)
+      spots_length above (place + 1 + size b) (end_behind above next (lies_on_last above d last) s) (Some (record { item = d; spot = s })) r,
+    )
 
 -- the items so far, then this one with those below it, then the others
 one_more : (done parts others : List Spot) (s : Spot) → ((done ++ s ∷ []) ++ parts) ++ others ≡ done ++ (s ∷ (parts ++ others))
@@ -50,7 +52,7 @@ spots_step above parts done one more all place next last xs ds ys zs d s level k
     let length_more : length more ≡ length done + 1 + size (forest ys) = rw e_more (omega (arith, length-append (done ++ s ∷ []) inner, length-append done (s ∷ []), length_inner)) in
     let outer : List Spot = spots above (length done + 1 + size (forest ys)) (end_behind above next (lies_on_last above d last) s) (Some (record { item = d; spot = s })) (forest zs) in
     let whole : spots above (length done) next last (forest xs) ≡ s ∷ (inner ++ outer) =
-      rw begins (ap (λ (x : Spot). x ∷ (spots (above_parts (length done) x) (length done + 1) x.start None (forest ys) ++ spots above (length done + 1 + size (forest ys)) (end_behind above next (lies_on_last above d last) x) (Some (record { item = d; spot = x })) (forest zs))) (sym is)) in
+    rw begins (ap (λ (x : Spot). x ∷ (spots (above_parts (length done) x) (length done + 1) x.start None (forest ys) ++ spots above (length done + 1 + size (forest ys)) (end_behind above next (lies_on_last above d last) x) (Some (record { item = d; spot = x })) (forest zs))) (sym is)) in
     rw (length_more, ends, lies, e_more) (one_more done inner outer s ∙ ap (λ t. done ++ t) (sym whole) ∙ so_far)
 
 pub spots_end : (above : Above) (done all : List Spot) (place next : ℕ) (last : Option Neighbour) (xs : List Description) → length xs ≡ 0 → done ++ spots above place next last (forest xs) ≡ all → done ≡ all

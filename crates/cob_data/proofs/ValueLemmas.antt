@@ -1,5 +1,5 @@
 -- Numerals and texts, one character further.
-use Rattle.std.proofs.Common.{◌≡◌, ℕ, ◌+◌, ◌-◌, ◌*◌, ◌^◌, ◌<◌, ◌≤◌, zero, suc, min, Bool, true, false, cond, eqb, ltb, List, [], ◌∷◌, length, get_or, drop, drop-cons, refl, ap, ◌∙◌, sym, arith}
+use Rattle.std.proofs.Common.{◌≡◌, ℕ, ◌+◌, ◌-◌, ◌*◌, ◌^◌, ◌<◌, ◌≤◌, zero, suc, min, Bool, true, false, eqb, ltb, List, [], ◌∷◌, length, get_or, drop, drop-cons, ap, ◌∙◌, sym, arith}
 use Rattle.std.proofs.lemmas.Bool.Decides.{nat_tests}
 use Rattle.std.proofs.lemmas.List.{drop_all}
 use Rattle.cob_data.specs.Values.{Padded, character, at_most_from, value_behind}

@@ -1,9 +1,5 @@
 -- Items below items, and how many bytes each of them has.
-use Rattle.std.specs.Prelude.{ℕ, ◌+◌, ◌/◌, nat_lt, nat_le, ◌==◌, Bool, if◌then◌else◌, is_some, List, [], ◌∷◌, length}
-use Rattle.cob_tree.specs.declared.form.Form.{Form}
-use Rattle.cob_tree.specs.declared.form.Form.TheVariants as form
-use Rattle.cob_tree.specs.declared.form.Usage.{Usage}
-use Rattle.cob_tree.specs.declared.form.Usage.TheVariants.{Display, Leading, Trailing, Binary, Packed}
+use Rattle.std.specs.Prelude.{ℕ, ◌+◌, nat_lt, ◌==◌, Bool, if◌then◌else◌, is_some, List, [], ◌∷◌}
 use Rattle.cob_data.specs.declared.description.Description.{Description}
 
 -- ---- items below items

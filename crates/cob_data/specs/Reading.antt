@@ -1,5 +1,5 @@
 -- Entries read one after another.
-use Rattle.std.specs.Prelude.{◌≡◌, ℕ, ◌≤◌, List, ◌++◌, length}
+use Rattle.std.specs.Prelude.{◌≡◌, List, ◌++◌, length}
 use Rattle.cob_tree.specs.declared.form.Form.{Form}
 use Rattle.cob_tree.specs.declared.form.Form.TheVariants as form
 use Rattle.cob_tree.specs.Pictures.{IsAllowed}

@@ -1,5 +1,5 @@
 -- The lines at which each rule on data is broken, and what is limited.
-use Rattle.std.specs.Prelude.{ℕ, ◌+◌, ◌≤◌, ◌<◌, Bool, true, false, not, ◌&&◌, if◌then◌else◌, is_some, List, [], ◌∷◌, ◌++◌, length, Option, Some, None}
+use Rattle.std.specs.Prelude.{ℕ, ◌+◌, ◌≤◌, ◌<◌, Bool, false, not, ◌&&◌, if◌then◌else◌, is_some, List, [], ◌∷◌, ◌++◌, length, Option, Some, None}
 use Rattle.cob_tree.specs.declared.front.Env.{Env}
 use Rattle.cob_tree.specs.declared.front.Io.{Io}
 use Rattle.cob_tree.specs.declared.front.Select.{Select}

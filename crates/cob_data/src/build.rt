@@ -7,9 +7,9 @@ ghost use Rattle.cob_data.specs.Known.{IsLow, AreLow, AreSeated};
 ghost use Rattle.cob_data.specs.Spots.{storage_of};
 
 use crate::description::{Condition, Description, Span, Spot};
-use crate::limits::storage_of;
-use crate::layout::{FileDecl, Flag, Item, Layout, Pair, Sender};
 use crate::files::{external_text, is_named, is_record_of, largest_record, status_of};
+use crate::layout::{FileDecl, Flag, Item, Layout, Pair, Sender};
+use crate::limits::storage_of;
 use crate::rules::Known;
 use cob_tree::{Bytes, Fd, Form, Many, Name, Num, Select};
 use std::alloc::{AllocError, Global};

@@ -453,12 +453,7 @@ pub struct Table {
 }
 
 impl Table {
-    fn push_condition(
-        &mut self,
-        alloc: Global,
-        area: Area,
-        entry: &Entry,
-    ) -> Result<(), AllocError>
+    fn push_condition(&mut self, alloc: Global, area: Area, entry: &Entry) -> Result<(), AllocError>
         requires few { length self.old.items.items < 2 ^ 32 }
         requires is { is_condition entry.now ≡ true }
         ensures moves { OnOk result ((ps : List Placed) → Moves self.old self.new (record { area = area; entry = entry.now } ∷ ps) ps) }

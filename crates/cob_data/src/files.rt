@@ -97,12 +97,7 @@ fn contain_rightly(bytes: u64, clauses: &[FdClause]) -> bool
     true
 }
 
-pub fn breaks_record_size(
-    items: &[Description],
-    spots: &[Spot],
-    file: u32,
-    fd: &Fd,
-) -> bool
+pub fn breaks_record_size(items: &[Description], spots: &[Spot], file: u32, fd: &Fd) -> bool
     requires { length items.now ≡ length spots.now }
     ensures { result ≡ breaks_record_size items.now spots.now file fd.now }
 {

@@ -186,12 +186,7 @@ fn is_condition_of(form: &Form, condition: &Condition) -> bool
 }
 
 /// Whether a condition-name isn't one of its item, where it stands behind an item.
-fn breaks_behind(
-    items: &[Description],
-    spots: &[Spot],
-    place: usize,
-    condition: &Condition,
-) -> bool
+fn breaks_behind(items: &[Description], spots: &[Spot], place: usize, condition: &Condition) -> bool
     requires same { length items.now ≡ length spots.now }
     ensures { result ≡ not (is_condition_of (form_at items.now spots.now place) condition.now) }
 {

@@ -19,5 +19,5 @@ mod top;
 mod values;
 
 pub use end::{DataEnd, Rule, Which};
-pub use top::{layout_of, overlaps};
 pub use layout::{FileDecl, Flag, Item, Layout, Pair, Sender};
+pub use top::{layout_of, overlaps};

@@ -7,7 +7,11 @@ use crate::description::{Description, Spot};
 fn one_if_counted(item: &Description, spot: &Spot) -> u64
     ensures { result ≡ (if is_some item.now.name && not spot.now.group then 1 else 0) }
 {
-    if item.name.is_some() && !spot.group { 1 } else { 0 }
+    if item.name.is_some() && !spot.group {
+        1
+    } else {
+        0
+    }
 }
 
 /// How many named elementary items there are.

@@ -49,6 +49,7 @@ pub struct Known<'a> {
 
 impl<'a> Model for Known<'a> {
     ghost use Rattle.cob_data.specs.Rules.{Facts};
+
     ghost Value = { Facts };
 
     ghost view = { λ k. record { items = k.items.items; spots = k.spots.items; conditions = k.conditions.items; selects = k.selects.now; fds = k.fds.now; program = k.program.now; end = k.end.now } };

@@ -20,6 +20,7 @@ pub struct Seated<'a> {
 
 impl<'a> Model for Seated<'a> {
     ghost use Rattle.cob_data.specs.Spots.{Neighbour};
+
     ghost Value = { Neighbour };
 
     ghost view = { λ s. record { item = s.item.now; spot = s.spot } };

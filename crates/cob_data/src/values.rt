@@ -20,7 +20,11 @@ fn whole_length(number: &Num) -> usize
     ensures within { result ≤ length number.now.digits }
     ensures small { result < 2 ^ 63 }
 {
-    number.digits.get().len().saturating_sub(number.scale as usize)
+    number
+        .digits
+        .get()
+        .len()
+        .saturating_sub(number.scale as usize)
 }
 
 /// The digits before the point.
@@ -141,6 +145,7 @@ pub struct Bordered<'a> {
 
 impl<'a> Model for Bordered<'a> {
     ghost use Rattle.cob_data.specs.Values.{Padded};
+
     ghost Value = { Padded };
 
     ghost view = { λ b. record { shift = b.shift; text = b.text.now; fill = b.fill } };
@@ -229,7 +234,11 @@ fn magnitude_at_most(low: &Num, high: &Num) -> bool
 {
     let places = whole_length(low).max(whole_length(high));
     let decimals = low.scale.max(high.scale) as usize;
-    at_most_from(places + decimals, &aligned(places, low), &aligned(places, high))
+    at_most_from(
+        places + decimals,
+        &aligned(places, low),
+        &aligned(places, high),
+    )
 }
 
 fn number_at_most(low: &Num, high: &Num) -> bool
@@ -254,9 +263,7 @@ pub fn at_most(low: &Sender, high: &Sender) -> bool
 {
     match (low, high) {
         (Sender::Number(low), Sender::Number(high)) => number_at_most(low, high),
-        (Sender::Number(low), Sender::Zero) => {
-            is_negative(low) || all_zeros(low.digits.get())
-        }
+        (Sender::Number(low), Sender::Zero) => { is_negative(low) || all_zeros(low.digits.get()) }
         (Sender::Zero, Sender::Number(high)) => !is_negative(high),
         _ => text_at_most(low, high),
     }

@@ -1,5 +1,5 @@
 -- The least line and the first broken rule: as functions, and in words.
-use Rattle.std.proofs.Common.{◌≡◌, ℕ, ◌+◌, ◌<◌, ◌≤◌, zero, suc, min, Bool, true, false, leb, ◌⊎◌, inl, inr, List, [], ◌∷◌, ◌++◌, length, get_or, Option, Some, None, refl, ap, ◌∙◌, sym, subst, arith}
+use Rattle.std.proofs.Common.{◌≡◌, ℕ, ◌<◌, ◌≤◌, zero, suc, min, Bool, true, false, leb, ◌⊎◌, inl, inr, List, [], ◌∷◌, ◌++◌, length, Option, Some, None, refl, ap, ◌∙◌, sym, subst, arith}
 use Rattle.std.proofs.lemmas.Bool.Decides.{nat_tests}
 use Rattle.std.specs.List.{AllByRecursion, Contains}
 use Rattle.rule_order.specs.Order.{IsLeast, AreKept, IsFirstBroken, lesser, least, line_if, noted, or_first, first_broken}
@@ -58,8 +58,10 @@ some_is a b e = cc
 
 least_with : (l : ℕ) (ls : List ℕ) (m n : ℕ) → IsLeast ls m → min l m ≡ n → IsLeast (l ∷ ls) n
 least_with l ls m n is e =
-    elim (nat_le_or l m) [ inl h ↦ (let same : l ≡ n = omega (arith, h, e) in record { among = (zero, omega arith, same); first = (omega (arith, same), later_than n m ls (omega (arith, h, same)) is.first) })
-      | inr h ↦ (let same : m ≡ n = omega (arith, h, e) in record { among = contains_later l ls n (subst (λ (x : ℕ). Contains ls x) same is.among); first = (omega (arith, h, same), later_than n m ls (omega (arith, same)) is.first) }) ]
+    elim (nat_le_or l m) [
+      | inl h ↦ (let same : l ≡ n = omega (arith, h, e) in record { among = (zero, omega arith, same); first = (omega (arith, same), later_than n m ls (omega (arith, h, same)) is.first) })
+      | inr h ↦ (let same : m ≡ n = omega (arith, h, e) in record { among = contains_later l ls n (subst (λ (x : ℕ). Contains ls x) same is.among); first = (omega (arith, h, same), later_than n m ls (omega (arith, same)) is.first) })
+    ]
 
 least_is_at : (l : ℕ) (ls : List ℕ) (n : ℕ) (o : Option ℕ) → least ls ≡ o → ((m : ℕ) → least ls ≡ Some m → IsLeast ls m) → lesser (Some l) o ≡ Some n → IsLeast (l ∷ ls) n
 least_is_at l ls n None none others e =

@@ -1,4 +1,4 @@
-use Rattle.std.proofs.Common.{◌≡◌, ◌∙◌, sym}
+use Rattle.std.proofs.Common.{◌∙◌, sym}
 use Rattle.cob_data.proofs.AreaLemmas.{area_step}
 use Rattle.cob_data.proofs.build.area_start.Goals as goal
 

@@ -1,4 +1,4 @@
-use Rattle.std.proofs.Common.{◌≡◌, not, ap, ◌∙◌, List, ℕ}
+use Rattle.std.proofs.Common.{not, ap, ◌∙◌, List, ℕ}
 use Rattle.cob_data.specs.Files.{is_status_item}
 use Rattle.cob_data.proofs.files.is_wrong_status.Goals as goal
 

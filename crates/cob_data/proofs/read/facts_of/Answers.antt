@@ -1,4 +1,4 @@
-use Rattle.std.proofs.Common.{◌≡◌, ◌≤◌, length, ap, ◌∙◌, arith}
+use Rattle.std.proofs.Common.{◌≡◌, length, ap, ◌∙◌, arith}
 use Rattle.cob_data.specs.Entries.{all_entries, items_of}
 use Rattle.cob_data.proofs.ReadLemmas.{descriptions_length}
 use Rattle.cob_data.proofs.read.facts_of.Goals as goal

@@ -1,5 +1,5 @@
-use Rattle.std.proofs.Common.{◌≡◌, ◌<◌, length, refl, sym, ◌∙◌, arith}
-use Rattle.cob_data.proofs.ValueLemmas.{differs_further, differs_here, differs_nowhere}
+use Rattle.std.proofs.Common.{sym, ◌∙◌, arith}
+use Rattle.cob_data.proofs.ValueLemmas.{differs_further, differs_here}
 use Rattle.cob_data.proofs.values.at_most_from.Goals as goal
 
 pub loop-place-preserved : goal.loop-place-preserved

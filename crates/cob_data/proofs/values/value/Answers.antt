@@ -1,4 +1,4 @@
-use Rattle.std.proofs.Common.{◌≡◌, ◌-◌, ◌∙◌, ap, arith}
+use Rattle.std.proofs.Common.{◌-◌, ◌∙◌, ap, arith}
 use Rattle.cob_data.proofs.ValueLemmas.{value_step, value_end}
 use Rattle.cob_data.proofs.values.value.Goals as goal
 
