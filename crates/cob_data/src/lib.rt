@@ -15,6 +15,8 @@ mod read;
 mod rules;
 mod slice;
 mod spots;
+#[cfg(test)]
+mod tests;
 mod top;
 mod values;
 

@@ -23,7 +23,7 @@ fn selects_in(env: &Option<Env>) -> &[Select]
     }
 }
 
-fn fds_in(data: &Option<Data>) -> &[Fd]
+pub fn fds_in(data: &Option<Data>) -> &[Fd]
     ensures { result.now ≡ fds_in «data».now }
 {
     match data {
@@ -35,7 +35,7 @@ fn fds_in(data: &Option<Data>) -> &[Fd]
     }
 }
 
-fn entries_in(data: &Option<Data>) -> &[Entry]
+pub fn entries_in(data: &Option<Data>) -> &[Entry]
     ensures { result.now ≡ entries_in «data».now }
 {
     match data {
