@@ -1,0 +1,7 @@
+use Rattle.std.proofs.Common.{◌≡◌, take, drop, []}
+use Rattle.rule_order.specs.Order.{lesser, least}
+use Rattle.cob_data.specs.Rules.{fd_lines}
+use Rattle.cob_data.proofs.rules.Known.fd_line.Given as goal
+
+abbrev pub invariant-loop-place : goal.invariant-loop-place
+invariant-loop-place l = lesser l.first (least (fd_lines l.rule l.self (take l.place l.self.fds) (drop l.place l.self.fds))) ≡ least (fd_lines l.rule l.self [] l.self.fds)

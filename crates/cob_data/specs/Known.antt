@@ -1,0 +1,24 @@
+-- What is relied on beside the facts themselves.
+use Rattle.std.specs.Prelude.{◌≡◌, ◌≤◌, ◌^◌, length, List}
+use Rattle.std.specs.List.{AllByRecursion}
+use Rattle.cob_tree.specs.declared.front.Front.{Front}
+use Rattle.cob_data.specs.declared.description.Spot.{Spot}
+use Rattle.cob_data.specs.Entries.{all_entries, fds_in}
+use Rattle.cob_data.specs.Rules.{Facts}
+
+-- each item has its place
+abbrev pub AreSeated : Facts → Type 0
+AreSeated f = length f.items ≡ length f.spots
+
+-- few enough entries that each has a number
+pub record HasFewEntries (f : Front) : Type 0 where
+  pub entries : length (all_entries f) ≤ 2 ^ 27
+  pub fds : length (fds_in f.data) ≤ 2 ^ 27
+
+-- what lies within the storage of a layout
+pub record IsLow (s : Spot) : Type 0 where
+  pub start : s.start ≤ 1048576
+  pub length : s.length ≤ 1048576
+
+abbrev pub AreLow : List Spot → Type 0
+AreLow ss = AllByRecursion IsLow ss

@@ -1,0 +1,13 @@
+pub mod Entries
+pub mod Reading
+pub mod Lengths
+pub mod Spots
+pub mod Starts
+pub mod Values
+pub mod ItemRules
+pub mod Files
+pub mod Rules
+pub mod Known
+pub mod Layouts
+pub mod Answers
+pub mod Overlaps

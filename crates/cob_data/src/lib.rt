@@ -1,0 +1,25 @@
+//! Where items lie in storage, and the rules that data entries and files keep (ISO 1989:1985, "Data division" and
+//! "Environment division").
+#![tactic(auto)]
+
+mod build;
+mod description;
+mod end;
+mod entry;
+mod files;
+mod item_rules;
+mod layout;
+mod lengths;
+mod limits;
+mod read;
+mod rules;
+mod slice;
+mod spots;
+#[cfg(test)]
+mod tests;
+mod top;
+mod values;
+
+pub use end::{DataEnd, Rule, Which};
+pub use layout::{FileDecl, Flag, Item, Layout, Pair, Sender};
+pub use top::{layout_of, overlaps};

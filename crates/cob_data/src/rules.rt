@@ -1,0 +1,286 @@
+ghost use Rattle.std.specs.Prelude.{◌≡◌, ◌≤◌, ◌<◌, ◌+◌, ◌^◌, ◌++◌, ◌∷◌, [], take, drop, length};
+ghost use Rattle.rule_order.specs.Order.{least, first_broken};
+ghost use Rattle.cob_data.specs.Rules.{item_breaks, condition_breaks, select_breaks, fd_breaks, end_breaks, item_lines, condition_lines, select_lines, fd_lines, end_lines, lines_in, data_rules, count_of, limit_of};
+ghost use Rattle.cob_data.specs.Known.{AreSeated};
+ghost use Rattle.cob_data.specs.Answers.{limit_or, limit_in, refusal_in};
+
+use crate::description::{Condition, Description, Spot};
+use crate::end::{DataEnd, Rule, Which};
+use crate::files::{
+    breaks_end, breaks_externals, breaks_fd_match, breaks_record_size, breaks_select_match,
+    breaks_status,
+};
+use crate::item_rules::{
+    breaks_conditions, breaks_levels, breaks_parts, breaks_pictures, breaks_redefinitions,
+    breaks_usages, breaks_values, is_stray,
+};
+use crate::limits::{count_items, storage_of};
+use cob_tree::{EndProgram, Fd, Name, Select};
+use rule_order::{lesser, noted};
+use std::marker::Model;
+
+/// The rules on data, in their order.
+const DATA_RULES: [Rule; 12] = [
+    Rule::L1,
+    Rule::L2,
+    Rule::L3,
+    Rule::L4,
+    Rule::L5,
+    Rule::L6,
+    Rule::L7,
+    Rule::L8,
+    Rule::L9,
+    Rule::L10,
+    Rule::L11,
+    Rule::L12,
+];
+
+/// What the rules speak of: the items with where they lie, the condition-names, the files, and END PROGRAM.
+#[derive(Drop)]
+pub struct Known<'a> {
+    pub items: Vec<Description>,
+    pub spots: Vec<Spot>,
+    pub conditions: Vec<Condition>,
+    pub selects: &'a [Select],
+    pub fds: &'a [Fd],
+    pub program: &'a Name,
+    pub end: &'a Option<EndProgram>,
+}
+
+impl<'a> Model for Known<'a> {
+    ghost use Rattle.cob_data.specs.Rules.{Facts};
+
+    ghost Value = { Facts };
+
+    ghost view = { λ k. record { items = k.items.items; spots = k.spots.items; conditions = k.conditions.items; selects = k.selects.now; fds = k.fds.now; program = k.program.now; end = k.end.now } };
+}
+
+fn item_breaks(rule: Rule, item: &Description, spot: &Spot) -> bool
+    ensures { result ≡ item_breaks rule item.now spot.now }
+{
+    match rule {
+        Rule::L1 => breaks_levels(item, spot),
+        Rule::L2 => breaks_parts(item, spot),
+        Rule::L3 => breaks_pictures(item),
+        Rule::L4 => breaks_usages(item),
+        Rule::L5 => breaks_values(item, spot),
+        Rule::L6 => breaks_redefinitions(item, spot),
+        _ => false,
+    }
+}
+
+fn end_breaks(rule: Rule, program: &Name, end: &EndProgram) -> bool
+    ensures { result ≡ end_breaks rule program.now end.now }
+{
+    match rule {
+        Rule::L12 => breaks_end(program, end),
+        _ => false,
+    }
+}
+
+fn line_of_end(rule: Rule, program: &Name, end: &Option<EndProgram>) -> Option<u32>
+    ensures { result ≡ least (end_lines rule program.now end.now) }
+{
+    match end {
+        None => None,
+        Some(end) => noted(None, end_breaks(rule, program, end), end.line),
+    }
+}
+
+fn line_of_items(rule: Rule, items: &[Description], spots: &[Spot]) -> Option<u32>
+    requires { length items.now ≡ length spots.now }
+    ensures { result ≡ least (item_lines rule items.now spots.now) }
+{
+    let mut first = None;
+    for place in 0..items.len() {
+        let item = &items[place];
+        let spot = &spots[place];
+        let broken = item_breaks(rule, item, spot);
+        first = noted(first, broken, item.line);
+    }
+    first
+}
+
+impl<'a> Known<'a> {
+    fn condition_breaks(&self, rule: Rule, condition: &Condition) -> bool
+        requires { AreSeated self.now }
+        ensures { result ≡ condition_breaks rule self.now condition.now }
+    {
+        match rule {
+            Rule::L1 => is_stray(condition),
+            Rule::L7 => breaks_conditions(&self.items, &self.spots, condition),
+            _ => false,
+        }
+    }
+
+    fn select_breaks(&self, rule: Rule, before: &[Select], select: &Select) -> bool
+        ensures { result ≡ select_breaks rule self.now before.now select.now }
+    {
+        match rule {
+            Rule::L8 => breaks_select_match(before, self.fds, select),
+            Rule::L10 => breaks_externals(before, select),
+            Rule::L11 => breaks_status(&self.items, select),
+            _ => false,
+        }
+    }
+
+    fn fd_breaks(&self, rule: Rule, before: &[Fd], file: u32, fd: &Fd) -> bool
+        requires { AreSeated self.now }
+        ensures { result ≡ fd_breaks rule self.now before.now file fd.now }
+    {
+        match rule {
+            Rule::L8 => breaks_fd_match(before, self.selects, &self.items, file, fd),
+            Rule::L9 => breaks_record_size(&self.items, &self.spots, file, fd),
+            _ => false,
+        }
+    }
+
+    fn item_line(&self, rule: Rule) -> Option<u32>
+        requires { AreSeated self.now }
+        ensures { result ≡ least (item_lines rule self.now.items self.now.spots) }
+    {
+        line_of_items(rule, &self.items, &self.spots)
+    }
+
+    fn end_line(&self, rule: Rule) -> Option<u32>
+        ensures { result ≡ least (end_lines rule self.now.program self.now.end) }
+    {
+        line_of_end(rule, self.program, self.end)
+    }
+
+    fn condition_line(&self, rule: Rule) -> Option<u32>
+        requires { AreSeated self.now }
+        ensures { result ≡ least (condition_lines rule self.now self.now.conditions) }
+    {
+        let mut first = None;
+        for place in 0..self.conditions.len() {
+            let condition = &self.conditions[place];
+            let broken = self.condition_breaks(rule, condition);
+            first = noted(first, broken, condition.line);
+        }
+        first
+    }
+
+    fn select_line(&self, rule: Rule) -> Option<u32>
+        ensures { result ≡ least (select_lines rule self.now [] self.now.selects) }
+    {
+        let mut first = None;
+        for place in 0..self.selects.len() {
+            let select = &self.selects[place];
+            let broken = self.select_breaks(rule, &self.selects[..place], select);
+            first = noted(first, broken, select.line);
+        }
+        first
+    }
+
+    fn fd_line(&self, rule: Rule) -> Option<u32>
+        requires seated { AreSeated self.now }
+        requires few { length self.now.fds ≤ 2 ^ 27 }
+        ensures { result ≡ least (fd_lines rule self.now [] self.now.fds) }
+    {
+        let mut first = None;
+        for place in 0..self.fds.len() {
+            let fd = &self.fds[place];
+            let broken = self.fd_breaks(rule, &self.fds[..place], place as u32, fd);
+            first = noted(first, broken, fd.line);
+        }
+        first
+    }
+
+    /// The first line at which a rule is broken.
+    fn first_line(&self, rule: Rule) -> Option<u32>
+        requires seated { AreSeated self.now }
+        requires few { length self.now.fds ≤ 2 ^ 27 }
+        ensures { result ≡ least (lines_in self.now rule) }
+    {
+        let items = self.item_line(rule);
+        let data = lesser(items, self.condition_line(rule));
+        let selects = lesser(data, self.select_line(rule));
+        let files = lesser(selects, self.fd_line(rule));
+        lesser(files, self.end_line(rule))
+    }
+
+    fn first_among(&self, rules: &[Rule]) -> Option<(Rule, u32)>
+        requires seated { AreSeated self.now }
+        requires few { length self.now.fds ≤ 2 ^ 27 }
+        ensures { result ≡ first_broken (lines_in self.now) rules.now }
+    {
+        for place in 0..rules.len() {
+            let rule = rules[place];
+            match self.first_line(rule) {
+                None => {}
+                Some(line) => return Some((rule, line)),
+            }
+        }
+        None
+    }
+
+    /// The first rule on data that is broken, with its first line.
+    pub fn first_broken(&self) -> Option<(Rule, u32)>
+        requires seated { AreSeated self.now }
+        requires few { length self.now.fds ≤ 2 ^ 27 }
+        ensures { result ≡ first_broken (lines_in self.now) data_rules }
+    {
+        self.first_among(&DATA_RULES)
+    }
+}
+
+// ---- limits
+
+/// How much there is of what is limited here.
+fn count_of(known: &Known, which: Which) -> u64
+    requires { AreSeated known.now }
+    ensures { result ≡ count_of known.now which }
+{
+    match which {
+        Which::Items => count_items(&known.items, &known.spots),
+        Which::Storage => storage_of(&known.spots),
+        Which::Files => known.selects.len() as u64,
+        Which::Nesting | Which::Cells | Which::Nodes => 0,
+    }
+}
+
+fn limit_of(which: Which) -> u64
+    ensures { result ≡ limit_of which }
+{
+    match which {
+        Which::Items => 512,
+        Which::Storage => 1_048_576,
+        Which::Files => 16,
+        Which::Nesting | Which::Cells | Which::Nodes => 0,
+    }
+}
+
+fn limit_or(known: &Known, which: Which, other: Option<DataEnd>) -> Option<DataEnd>
+    requires { AreSeated known.now }
+    ensures { result ≡ limit_or known.now which other }
+{
+    let count = count_of(known, which);
+    if limit_of(which) < count {
+        Some(DataEnd::Limit { which, count })
+    } else {
+        other
+    }
+}
+
+/// The first limit that is exceeded.
+fn limit_in(known: &Known) -> Option<DataEnd>
+    requires { AreSeated known.now }
+    ensures { result ≡ limit_in known.now }
+{
+    let files = limit_or(known, Which::Files, None);
+    let storage = limit_or(known, Which::Storage, files);
+    limit_or(known, Which::Items, storage)
+}
+
+/// Why there is no layout: the first broken rule, or else the first limit that is exceeded.
+pub fn refusal_in(known: &Known) -> Option<DataEnd>
+    requires seated { AreSeated known.now }
+    requires few { length known.now.fds ≤ 2 ^ 27 }
+    ensures { result ≡ refusal_in known.now }
+{
+    match known.first_broken() {
+        None => limit_in(known),
+        Some((rule, line)) => Some(DataEnd::Outside { rule, line }),
+    }
+}

@@ -1,0 +1,122 @@
+ghost use Rattle.std.specs.Prelude.{◌≡◌, ℕ, ◌≤◌, ◌^◌, length, ◌+◌, ◌↔◌, IsTrue, IfSome};
+ghost use Rattle.rule_order.specs.Order.{IsFirstBroken, AreKept};
+ghost use Rattle.cob_tree.specs.StmtView.{plain_tree};
+ghost use Rattle.cob_tree.specs.PrintStmt.{print_tree};
+ghost use Rattle.cob_data.specs.declared.end.Rule.{Rule};
+ghost use Rattle.cob_data.specs.declared.end.Which.{Which};
+ghost use Rattle.cob_data.specs.declared.end.DataEnd.TheVariants.{Outside, Limit, Memory};
+ghost use Rattle.cob_data.specs.Spots.{all_spots};
+ghost use Rattle.cob_data.specs.Rules.{facts_of, broken_lines, data_rules, count_of, IsFirstExceeded};
+ghost use Rattle.cob_data.specs.Layouts.{HasLayout};
+ghost use Rattle.cob_data.specs.Known.{HasFewEntries};
+ghost use Rattle.cob_data.specs.Overlaps.{Meet};
+ghost use Rattle.cob_data.specs.Entries.{file_entries};
+ghost use Rattle.cob_data.specs.Answers.{IsAnswer, IsRefused, IsAccepted, IsJudged};
+
+use crate::build::layout_in;
+use crate::end::DataEnd;
+use crate::layout::{Item, Layout};
+use crate::read::facts_of;
+#[cfg(test)]
+use crate::read::{entries_in, fds_in};
+use crate::rules::{Known, refusal_in};
+#[cfg(test)]
+use cob_tree::Fd;
+use cob_tree::Tree;
+use std::alloc::{AllocError, AllocFailed, Global};
+
+impl<T: Drop> From<AllocFailed<T>> for DataEnd {
+    ghost from_gives = { λ _ e. e ≡ Memory };
+
+    fn from(_failed: AllocFailed<T>) -> DataEnd {
+        DataEnd::Memory
+    }
+}
+
+impl From<AllocError> for DataEnd {
+    ghost from_gives = { λ _ e. e ≡ Memory };
+
+    fn from(_failed: AllocError) -> DataEnd {
+        DataEnd::Memory
+    }
+}
+
+fn judged(alloc: Global, known: &Known) -> Result<Layout, DataEnd>
+    requires laid { known.now.spots ≡ all_spots known.now.items }
+    requires few { length known.now.items ≤ 2 ^ 27 }
+    requires short { length known.now.fds ≤ 2 ^ 27 }
+    ensures { IsJudged known.now result }
+{
+    match refusal_in(known) {
+        Some(end) => Err(end),
+        None => Ok(layout_in(alloc, known)?),
+    }
+}
+
+fn laid_out(alloc: Global, tree: &Tree) -> Result<Layout, DataEnd>
+    requires { HasFewEntries tree.now.front }
+    ensures { IsJudged (facts_of tree.now) result }
+{
+    let known = facts_of(alloc, tree)?;
+    judged(alloc, &known)
+}
+
+/// Where the items of a program lie, with its condition-names and files, or the first rule on data that the program
+/// breaks and the first line that breaks it, or the first limit that it exceeds: 512 named elementary items,
+/// 1,048,576 bytes, 16 files (ISO 1989:1985, "Data division" and "Environment division").
+///
+/// Records follow each other from offset 0 in the order of the source; those of one file lie on each other, and a
+/// redefinition lies on what it redefines. Where two entries clash, the line is the later one's.
+pub fn layout_of(alloc: Global, tree: &Tree) -> Result<Layout, DataEnd>
+    requires { length (print_tree (plain_tree tree.now)) ≤ 2 ^ 27 }
+    ensures answer { IsAnswer tree.now result }
+    ensures outside { (rule : Rule) (line : ℕ) → IsFirstBroken (broken_lines tree.now) data_rules rule line → IsRefused result (Outside rule line) }
+    ensures limit { (w : Which) → AreKept (broken_lines tree.now) data_rules → IsFirstExceeded tree.now w → IsRefused result (Limit w (count_of (facts_of tree.now) w)) }
+    ensures accepted { HasLayout tree.now → IsAccepted result }
+{
+    laid_out(alloc, tree)
+}
+
+fn end_of(item: &Item) -> u64
+    ensures { result ≡ item.now.offset + item.now.length }
+{
+    u64::from(item.offset) + u64::from(item.length)
+}
+
+/// Whether some byte lies in both items.
+pub fn overlaps(a: &Item, b: &Item) -> bool
+    ensures { IsTrue result ↔ Meet a.now b.now }
+{
+    u64::from(a.offset.max(b.offset)) < end_of(a).min(end_of(b))
+}
+
+/// The number of entries of the files, where it is small.
+#[cfg(test)]
+fn count_entries(fds: &[Fd]) -> Option<usize>
+    ensures { IfSome result (λ n. (n ≡ length (file_entries 0 fds.now)) × (n ≤ 2 ^ 26)) }
+{
+    let mut total: usize = 0;
+    for place in 0..fds.len() {
+        let fd = &fds[place];
+        let entries = fd.entries.get();
+        if entries.len() > (1 << 26) - total {
+            return None;
+        }
+        total += entries.len();
+    }
+    Some(total)
+}
+
+/// The layout of a tree of few entries.
+#[cfg(test)]
+pub fn checked_layout(alloc: Global, tree: &Tree) -> Option<Result<Layout, DataEnd>> {
+    let fds = fds_in(&tree.front.data);
+    let entries = entries_in(&tree.front.data);
+    if fds.len() > 1 << 26 || entries.len() > 1 << 26 {
+        return None;
+    }
+    match count_entries(fds) {
+        None => None,
+        Some(_) => Some(laid_out(alloc, tree)),
+    }
+}
