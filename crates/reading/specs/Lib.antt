@@ -2,3 +2,4 @@ pub mod Readers
 pub mod Printing
 pub mod Law
 pub mod Brackets
+pub mod Outcome

@@ -1,0 +1,17 @@
+mod CueLemmas
+mod ClassLaws
+mod Generic
+mod OperandLaws
+mod ExprLaws
+mod Loop
+mod StepLemmas
+mod Agree
+mod Outcomes
+mod ExprAgree
+mod ParseLemmas
+mod GuardLaws
+mod TestLaws
+mod CondLaws
+mod ParenLaws
+mod OneAnswer
+mod Levels

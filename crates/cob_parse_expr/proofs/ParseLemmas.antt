@@ -1,0 +1,83 @@
+-- From what is read of lexemes to what is promised of tokens.
+use Rattle.std.proofs.Common.{◌≡◌, ℕ, zero, suc, ◌+◌, ◌-◌, ◌≤◌, List, [], ◌∷◌, ◌++◌, length, length-append, length-drop, drop, map, Option, Some, None, Result, Ok, Err, refl, sym, ap, subst, ◌∙◌, arith}
+use Rattle.std.proofs.lemmas.List.{drop-map, drop-drop, length-map}
+use Rattle.std.proofs.Math.Seq.{drop-append_seam}
+use Rattle.cob_tree.specs.declared.token.Token.{Token}
+use Rattle.cob_parse_expr.specs.declared.lexeme.Lexeme.{Lexeme}
+use Rattle.cob_tree.specs.Symbols.{Sign, Symbol, seen}
+use Rattle.cob_tree.specs.Items.{Item, Fits, IsLine}
+use Rattle.cob_tree.specs.Cues.{Cue}
+use Rattle.cob_parse_expr.specs.Alphabet.{grammar}
+use Rattle.reading.specs.Readers.{Fault, Stop, Deep, Reader}
+use Rattle.reading.specs.Law.{Syntax, Law}
+use Rattle.reading.specs.Outcome.{IsRead, Stops, OpensTooDeep}
+use Rattle.reading.proofs.Consequences.{within}
+use Rattle.cob_parse_expr.specs.Lexemes.{plain_lexeme}
+use Rattle.cob_parse_expr.specs.declared.halt.Halt.{Halt}
+use Rattle.cob_parse_expr.specs.declared.halt.Halt.TheVariants as halt
+use Rattle.cob_parse_expr.specs.Steps.{signs, Fails}
+use Rattle.cob_parse_expr.specs.Parsing.{from, line_at, IsWrong}
+use Rattle.cob_parse_expr.proofs.Agree.{Agree}
+use Rattle.cob_parse_expr.proofs.Outcomes.{is_read, too_deep, stops}
+
+-- each item has a token
+line_for : Option ℕ → ℕ
+line_for None = 1
+line_for (Some l) = l
+
+fits_line : (line : Option ℕ) → IsLine line (line_for line)
+unfolding line_for
+fits_line None = tt
+fits_line (Some l) = refl
+
+pub spell : (i : Item) → (t : Sign) × Fits i t
+spell i = (record { symbol = i.symbol; line = line_for i.line }, record { symbol = refl; line = fits_line i.line })
+
+drop_to : (u v : List Sign) → drop (length (u ++ v) - length v) (u ++ v) ≡ v
+drop_to u v =
+    let n : length (u ++ v) - length v ≡ length u = omega (arith, length-append u v) in
+    rw n (drop-append_seam u v)
+
+-- the rest of what was read is what stands at the new place
+rest_is : (tokens : List Token) (old : ℕ) (text rest : List Sign) → old ≤ length tokens → from tokens old ≡ text ++ rest → rest ≡ from tokens (length tokens - length rest)
+rest_is tokens old text rest le parts =
+    let count : length (drop old tokens) ≡ length text + length rest = sym (length-map (drop old tokens) seen) ∙ ap length parts ∙ length-append text rest in
+    let size : length (drop old tokens) ≡ length tokens - old = length-drop old tokens in
+    let there : drop (length (text ++ rest) - length rest) (from tokens old) ≡ rest = ap (drop (length (text ++ rest) - length rest)) parts ∙ drop_to text rest in
+    let steps : old + (length (text ++ rest) - length rest) ≡ length tokens - length rest = omega (arith, count, size, length-append text rest) in
+    sym there ∙ (drop-map seen (length (text ++ rest) - length rest) (drop old tokens) ∙ (ap (map seen) (drop-drop (length (text ++ rest) - length rest) old tokens) ∙ ap (λ (k : ℕ). from tokens k) steps))
+
+module _ {A : Type 0} (s : Syntax Item Cue A) (R : ℕ → Reader Sign A) (depth : ℕ) (shallow : depth ≤ 64) (laws : (room top : ℕ) → top ≡ suc (depth + room) → Law grammar (R room) s top) (wider : (room more : ℕ) (ts : List Sign) → Agree (R room ts) (R (room + more) ts))
+    (tokens left : List Token) (old : ℕ) (inside : old ≤ length tokens) (items lexemes : List Lexeme) (shown : lexemes ≡ items) (lexed : map plain_lexeme items ≡ map seen left) (cut : left ≡ drop old tokens) where
+  same : signs lexemes ≡ from tokens old
+  same = ap signs shown ∙ lexed ∙ ap (map seen) cut
+
+  room : ℕ
+  room = 64 - depth
+
+  enough : 65 ≡ suc (depth + (64 - depth))
+  enough = omega arith
+
+  law : Law grammar (R (64 - depth)) s 65
+  law = laws (64 - depth) 65 enough
+
+  pub parse_read : (tree : A) (rest : List Lexeme) → R (64 - depth) (signs lexemes) ≡ Ok (tree, signs rest) → IsRead grammar s 65 (from tokens old) tree (from tokens (length tokens - length rest))
+  parse_read tree rest e =
+      let read = is_read law (from tokens old) tree (signs rest) (sym (ap (R (64 - depth)) same) ∙ e) in
+      let there = rest_is tokens old read.text (signs rest) inside read.parts in
+      let lengths : length (signs rest) ≡ length rest = length-map rest _ in
+      subst (IsRead grammar s 65 (from tokens old) tree) (there ∙ ap (λ (k : ℕ). from tokens (length tokens - k)) lengths) read
+
+  pub parse_wrong : (h : Halt) (n at line : ℕ) → h ≡ halt.Stop n → Fails h (R (64 - depth) (signs lexemes)) → at ≡ line_at tokens n → at ≡ line → IsWrong s 65 tokens old line
+  parse_wrong h n at line is f there same_line =
+      let e : R (64 - depth) (signs lexemes) ≡ Err (Stop n) = subst (λ (x : Halt). Fails x (R (64 - depth) (signs lexemes))) is f in
+      let stop = stops grammar spell s R depth laws wider (64 - depth) 65 enough (from tokens old) n (sym (ap (R (64 - depth)) same) ∙ e) in
+      record { left = stop.0; stops = stop.2; line_is = sym same_line ∙ there ∙ ap (line_at tokens) (sym stop.1) }
+
+  pub parse_deep : (h : Halt) (n : ℕ) → h ≡ halt.Deep n → Fails h (R (64 - depth) (signs lexemes)) → OpensTooDeep grammar s 65 (from tokens old)
+  parse_deep h n is f = too_deep law (from tokens old) n (sym (ap (R (64 - depth)) same) ∙ subst (λ (x : Halt). Fails x (R (64 - depth) (signs lexemes))) is f)
+
+  pub parse_within : (h : Halt) (n : ℕ) → h ≡ halt.Stop n → Fails h (R (64 - depth) (signs lexemes)) → n ≤ length tokens
+  parse_within h n is f =
+      let le = within law (signs lexemes) n (subst (λ (x : Halt). Fails x (R (64 - depth) (signs lexemes))) is f) in
+      omega (arith, le, ap length same, length-map (drop old tokens) seen, length-drop old tokens)

@@ -1,0 +1,289 @@
+ghost use Rattle.std.specs.Prelude.{◌≡◌, ◌+◌, ◌∷◌, [], length, IfOk, IfSome, IfNone, is_some, true, false};
+ghost use Rattle.std.specs.Option.{option_map};
+ghost use Rattle.cob_parse_expr.specs.Lexemes.{plain_symbol, plain_lexeme};
+ghost use Rattle.reading.specs.Readers.{stands};
+ghost use Rattle.cob_parse_expr.specs.Classes.{name_symbol, name_of, const_key, const_as, const_of, mark_symbol, open_mark, open_of, close_mark, close_of, sign_mark, sign_of, scaling_mark, scaling_of, word_symbol, of_key, of_of, not_key, not_of, and_key, and_of, or_key, or_of, numeric_key, numeric_of, sign_test_key, sign_test_of, relation_symbol, relation_of};
+ghost use Rattle.cob_parse_expr.specs.Steps.{signs, Leads, Lacks};
+
+use cob_tree::{Bytes, Const, Keyword, Name, Rel, Scaling, Sign, SignTest};
+use crate::lexeme::{Lexeme, Symbol};
+use std::alloc::{AllocError, Global};
+
+fn sign(symbol: &Symbol) -> Option<Sign>
+    ensures { result ≡ mark_symbol sign_mark (plain_symbol symbol.now) }
+{
+    match symbol {
+        Symbol::Mark(b'+') => Some(Sign::Plus),
+        Symbol::Mark(b'-') => Some(Sign::Minus),
+        _ => None,
+    }
+}
+
+fn scaling(symbol: &Symbol) -> Option<Scaling>
+    ensures { result ≡ mark_symbol scaling_mark (plain_symbol symbol.now) }
+{
+    match symbol {
+        Symbol::Mark(b'*') => Some(Scaling::Times),
+        Symbol::Mark(b'/') => Some(Scaling::Over),
+        _ => None,
+    }
+}
+
+fn relation(symbol: &Symbol) -> Option<Rel>
+    ensures { result ≡ relation_symbol (plain_symbol symbol.now) }
+{
+    match symbol {
+        Symbol::Relation(relation) => Some(*relation),
+        _ => None,
+    }
+}
+
+fn sign_test(symbol: &Symbol) -> Option<SignTest>
+    ensures { result ≡ word_symbol sign_test_key (plain_symbol symbol.now) }
+{
+    match symbol {
+        Symbol::Key(Keyword::Positive) => Some(SignTest::Positive),
+        Symbol::Key(Keyword::Negative) => Some(SignTest::Negative),
+        Symbol::Key(Keyword::Zero) => Some(SignTest::Zero),
+        _ => None,
+    }
+}
+
+fn opens(symbol: &Symbol) -> bool
+    ensures { result ≡ is_some (mark_symbol open_mark (plain_symbol symbol.now)) }
+{
+    matches!(symbol, Symbol::Mark(b'('))
+}
+
+fn closes(symbol: &Symbol) -> bool
+    ensures { result ≡ is_some (mark_symbol close_mark (plain_symbol symbol.now)) }
+{
+    matches!(symbol, Symbol::Mark(b')'))
+}
+
+fn is_of(symbol: &Symbol) -> bool
+    ensures { result ≡ is_some (word_symbol of_key (plain_symbol symbol.now)) }
+{
+    matches!(symbol, Symbol::Key(Keyword::Of))
+}
+
+fn is_not(symbol: &Symbol) -> bool
+    ensures { result ≡ is_some (word_symbol not_key (plain_symbol symbol.now)) }
+{
+    matches!(symbol, Symbol::Key(Keyword::Not))
+}
+
+fn is_and(symbol: &Symbol) -> bool
+    ensures { result ≡ is_some (word_symbol and_key (plain_symbol symbol.now)) }
+{
+    matches!(symbol, Symbol::Key(Keyword::And))
+}
+
+fn is_or(symbol: &Symbol) -> bool
+    ensures { result ≡ is_some (word_symbol or_key (plain_symbol symbol.now)) }
+{
+    matches!(symbol, Symbol::Key(Keyword::Or))
+}
+
+fn is_numeric(symbol: &Symbol) -> bool
+    ensures { result ≡ is_some (word_symbol numeric_key (plain_symbol symbol.now)) }
+{
+    matches!(symbol, Symbol::Key(Keyword::Numeric))
+}
+
+fn name(symbol: &Symbol) -> Option<&Name>
+    ensures { option_map (λ name. name.now) result ≡ name_symbol (plain_symbol symbol.now) }
+{
+    match symbol {
+        Symbol::Name(name) => Some(name),
+        _ => None,
+    }
+}
+
+fn figurative(keyword: Keyword) -> Option<Const>
+    ensures { result ≡ const_key keyword }
+{
+    match keyword {
+        Keyword::Zero => Some(Const::Zero),
+        Keyword::Space => Some(Const::Space),
+        Keyword::Quote => Some(Const::Quote),
+        Keyword::HighValue => Some(Const::HighValue),
+        Keyword::LowValue => Some(Const::LowValue),
+        _ => None,
+    }
+}
+
+fn constant(alloc: Global, symbol: &Symbol) -> Result<Option<Const>, AllocError>
+    ensures { IfOk result (λ constant. constant ≡ const_as (plain_symbol symbol.now)) }
+{
+    match symbol {
+        Symbol::Number(number) => Ok(Some(Const::Number(number.copied(alloc)?))),
+        Symbol::Text(text) => Ok(Some(Const::Text(Bytes::of(alloc, text.get())?))),
+        Symbol::Key(keyword) => Ok(figurative(*keyword)),
+        _ => Ok(None),
+    }
+}
+
+// The first lexeme, and those behind it.
+fn next(lexemes: &[Lexeme]) -> Option<(&Lexeme, &[Lexeme])>
+    ensures some { IfSome result (λ x. signs lexemes.now ≡ plain_lexeme x.0.now ∷ signs x.1.now) }
+    ensures none { IfNone result (signs lexemes.now ≡ []) }
+    ensures shorter { IfSome result (λ x. length lexemes.now ≡ length x.1.now + 1) }
+{
+    match lexemes {
+        [] => None,
+        [lexeme, rest @ ..] => Some((lexeme, rest)),
+    }
+}
+
+/// `+` or `-`, where one stands first, and the lexemes behind it.
+pub fn sign_in(lexemes: &[Lexeme]) -> Option<(Sign, &[Lexeme])>
+    ensures found { IfSome result (λ x. Leads sign_of x.0 (signs lexemes.now) (signs x.1.now)) }
+    ensures none { IfNone result (Lacks sign_of (signs lexemes.now)) }
+    ensures shorter { IfSome result (λ x. length lexemes.now ≡ length x.1.now + 1) }
+{
+    let (lexeme, rest) = next(lexemes)?;
+    Some((sign(&lexeme.symbol)?, rest))
+}
+
+/// `*` or `/`, likewise.
+pub fn scaling_in(lexemes: &[Lexeme]) -> Option<(Scaling, &[Lexeme])>
+    ensures found { IfSome result (λ x. Leads scaling_of x.0 (signs lexemes.now) (signs x.1.now)) }
+    ensures none { IfNone result (Lacks scaling_of (signs lexemes.now)) }
+    ensures shorter { IfSome result (λ x. length lexemes.now ≡ length x.1.now + 1) }
+{
+    let (lexeme, rest) = next(lexemes)?;
+    Some((scaling(&lexeme.symbol)?, rest))
+}
+
+/// A relation, likewise.
+pub fn relation_in(lexemes: &[Lexeme]) -> Option<(Rel, &[Lexeme])>
+    ensures found { IfSome result (λ x. Leads relation_of x.0 (signs lexemes.now) (signs x.1.now)) }
+    ensures none { IfNone result (Lacks relation_of (signs lexemes.now)) }
+    ensures shorter { IfSome result (λ x. length lexemes.now ≡ length x.1.now + 1) }
+{
+    let (lexeme, rest) = next(lexemes)?;
+    Some((relation(&lexeme.symbol)?, rest))
+}
+
+/// POSITIVE, NEGATIVE or ZERO, likewise.
+pub fn sign_test_in(lexemes: &[Lexeme]) -> Option<(SignTest, &[Lexeme])>
+    ensures found { IfSome result (λ x. Leads sign_test_of x.0 (signs lexemes.now) (signs x.1.now)) }
+    ensures none { IfNone result (Lacks sign_test_of (signs lexemes.now)) }
+    ensures shorter { IfSome result (λ x. length lexemes.now ≡ length x.1.now + 1) }
+{
+    let (lexeme, rest) = next(lexemes)?;
+    Some((sign_test(&lexeme.symbol)?, rest))
+}
+
+/// A name, likewise.
+pub fn name_in(lexemes: &[Lexeme]) -> Option<(&Name, &[Lexeme])>
+    ensures found { IfSome result (λ x. Leads name_of x.0.now (signs lexemes.now) (signs x.1.now)) }
+    ensures none { IfNone result (Lacks name_of (signs lexemes.now)) }
+    ensures shorter { IfSome result (λ x. length lexemes.now ≡ length x.1.now + 1) }
+{
+    let (lexeme, rest) = next(lexemes)?;
+    Some((name(&lexeme.symbol)?, rest))
+}
+
+/// A constant, likewise.
+pub fn constant_in(
+    alloc: Global,
+    lexemes: &[Lexeme],
+) -> Result<Option<(Const, &[Lexeme])>, AllocError>
+    ensures found { IfOk result (λ o. IfSome o (λ x. Leads const_of x.0 (signs lexemes.now) (signs x.1.now))) }
+    ensures none { IfOk result (λ o. IfNone o (Lacks const_of (signs lexemes.now))) }
+    ensures shorter { IfOk result (λ o. IfSome o (λ x. length lexemes.now ≡ length x.1.now + 1)) }
+{
+    match next(lexemes) {
+        None => Ok(None),
+        Some((lexeme, rest)) => match constant(alloc, &lexeme.symbol)? {
+            None => Ok(None),
+            Some(constant) => Ok(Some((constant, rest))),
+        },
+    }
+}
+
+/// The lexemes behind `(`, where it stands first.
+pub fn behind_open(lexemes: &[Lexeme]) -> Option<&[Lexeme]>
+    ensures found { IfSome result (λ rest. Leads open_of tt (signs lexemes.now) (signs rest.now)) }
+    ensures none { IfNone result (Lacks open_of (signs lexemes.now)) }
+    ensures shorter { IfSome result (λ rest. length lexemes.now ≡ length rest.now + 1) }
+{
+    match next(lexemes) {
+        Some((lexeme, rest)) if opens(&lexeme.symbol) => Some(rest),
+        _ => None,
+    }
+}
+
+/// The lexemes behind `)`, likewise.
+pub fn behind_close(lexemes: &[Lexeme]) -> Option<&[Lexeme]>
+    ensures found { IfSome result (λ rest. Leads close_of tt (signs lexemes.now) (signs rest.now)) }
+    ensures none { IfNone result (Lacks close_of (signs lexemes.now)) }
+    ensures shorter { IfSome result (λ rest. length lexemes.now ≡ length rest.now + 1) }
+{
+    match next(lexemes) {
+        Some((lexeme, rest)) if closes(&lexeme.symbol) => Some(rest),
+        _ => None,
+    }
+}
+
+/// The lexemes behind OF, likewise.
+pub fn behind_of(lexemes: &[Lexeme]) -> Option<&[Lexeme]>
+    ensures found { IfSome result (λ rest. Leads of_of tt (signs lexemes.now) (signs rest.now)) }
+    ensures none { IfNone result (Lacks of_of (signs lexemes.now)) }
+    ensures shorter { IfSome result (λ rest. length lexemes.now ≡ length rest.now + 1) }
+{
+    match next(lexemes) {
+        Some((lexeme, rest)) if is_of(&lexeme.symbol) => Some(rest),
+        _ => None,
+    }
+}
+
+/// The lexemes behind NOT, likewise.
+pub fn behind_not(lexemes: &[Lexeme]) -> Option<&[Lexeme]>
+    ensures found { IfSome result (λ rest. Leads not_of tt (signs lexemes.now) (signs rest.now)) }
+    ensures none { IfNone result (Lacks not_of (signs lexemes.now)) }
+    ensures shorter { IfSome result (λ rest. length lexemes.now ≡ length rest.now + 1) }
+{
+    match next(lexemes) {
+        Some((lexeme, rest)) if is_not(&lexeme.symbol) => Some(rest),
+        _ => None,
+    }
+}
+
+/// The lexemes behind AND, likewise.
+pub fn behind_and(lexemes: &[Lexeme]) -> Option<&[Lexeme]>
+    ensures found { IfSome result (λ rest. Leads and_of tt (signs lexemes.now) (signs rest.now)) }
+    ensures none { IfNone result (Lacks and_of (signs lexemes.now)) }
+    ensures shorter { IfSome result (λ rest. length lexemes.now ≡ length rest.now + 1) }
+{
+    match next(lexemes) {
+        Some((lexeme, rest)) if is_and(&lexeme.symbol) => Some(rest),
+        _ => None,
+    }
+}
+
+/// The lexemes behind OR, likewise.
+pub fn behind_or(lexemes: &[Lexeme]) -> Option<&[Lexeme]>
+    ensures found { IfSome result (λ rest. Leads or_of tt (signs lexemes.now) (signs rest.now)) }
+    ensures none { IfNone result (Lacks or_of (signs lexemes.now)) }
+    ensures shorter { IfSome result (λ rest. length lexemes.now ≡ length rest.now + 1) }
+{
+    match next(lexemes) {
+        Some((lexeme, rest)) if is_or(&lexeme.symbol) => Some(rest),
+        _ => None,
+    }
+}
+
+/// The lexemes behind NUMERIC, likewise.
+pub fn behind_numeric(lexemes: &[Lexeme]) -> Option<&[Lexeme]>
+    ensures found { IfSome result (λ rest. Leads numeric_of tt (signs lexemes.now) (signs rest.now)) }
+    ensures none { IfNone result (Lacks numeric_of (signs lexemes.now)) }
+    ensures shorter { IfSome result (λ rest. length lexemes.now ≡ length rest.now + 1) }
+{
+    match next(lexemes) {
+        Some((lexeme, rest)) if is_numeric(&lexeme.symbol) => Some(rest),
+        _ => None,
+    }
+}

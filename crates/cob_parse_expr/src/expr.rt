@@ -1,0 +1,126 @@
+ghost use Rattle.std.specs.Prelude.{◌≡◌, ◌≤◌, ◌<◌, length, IfOk, map};
+ghost use Rattle.cob_tree.specs.ExprView.{plain_expr, plain_term, plain_fact, plain_prim, added, multiplied};
+ghost use Rattle.cob_parse_expr.specs.Reading.{group_at, primary_with, fact_with, factors_with, term_with, summands_with, expr_with, expr_at};
+ghost use Rattle.cob_parse_expr.specs.Steps.{signs, Gives};
+
+use crate::class::{behind_close, behind_open, scaling_in, sign_in};
+use crate::halt::Halt;
+use crate::operand::opnd_in;
+use cob_tree::{Expr, Fact, Primary, Scaling, Sign, Term};
+use crate::lexeme::{Lexeme};
+use std::alloc::Global;
+
+/// An expression in parentheses, where so many may still open, this one among them.
+#[cycle(expr)]
+pub fn group(alloc: Global, lexemes: &[Lexeme], room: u32) -> Result<(Expr, &[Lexeme]), Halt>
+    ensures gives { Gives (λ x. (plain_expr x.0, signs x.1.now)) result (group_at room (signs lexemes.now)) }
+    ensures rest { IfOk result (λ x. length x.1.now ≤ length lexemes.now) }
+{
+    let Some(rest) = behind_open(lexemes) else {
+        return Err(Halt::Stop(lexemes.len()));
+    };
+    if room == 0 {
+        return Err(Halt::Deep(lexemes.len()));
+    }
+    let (expr, rest) = expr_in(alloc, rest, room - 1)?;
+    match behind_close(rest) {
+        None => Err(Halt::Stop(rest.len())),
+        Some(rest) => Ok((expr, rest)),
+    }
+}
+
+#[cycle(expr)]
+fn primary(alloc: Global, lexemes: &[Lexeme], room: u32) -> Result<(Primary, &[Lexeme]), Halt>
+    ensures gives { Gives (λ x. (plain_prim x.0, signs x.1.now)) result (primary_with (group_at room) (signs lexemes.now)) }
+    ensures rest { IfOk result (λ x. length x.1.now ≤ length lexemes.now) }
+{
+    match behind_open(lexemes) {
+        Some(_) => {
+            let (expr, rest) = group(alloc, lexemes, room)?;
+            Ok((Primary::Expr(Box::new(alloc, expr)?), rest))
+        }
+        None => {
+            let (opnd, rest) = opnd_in(alloc, lexemes)?;
+            Ok((Primary::Opnd(opnd), rest))
+        }
+    }
+}
+
+/// An operand or an expression in parentheses, with a sign before it or without.
+#[cycle(expr)]
+pub fn fact_in(alloc: Global, lexemes: &[Lexeme], room: u32) -> Result<(Fact, &[Lexeme]), Halt>
+    ensures gives { Gives (λ x. (plain_fact x.0, signs x.1.now)) result (fact_with (group_at room) (signs lexemes.now)) }
+    ensures rest { IfOk result (λ x. length x.1.now ≤ length lexemes.now) }
+{
+    match sign_in(lexemes) {
+        Some((sign, rest)) => {
+            let (prim, rest) = primary(alloc, rest, room)?;
+            Ok((Fact::of(Some(sign), prim), rest))
+        }
+        None => {
+            let (prim, rest) = primary(alloc, lexemes, room)?;
+            Ok((Fact::of(None, prim), rest))
+        }
+    }
+}
+
+/// What a factor is multiplied or divided by.
+#[cycle(expr)]
+pub fn factors_in(
+    alloc: Global,
+    lexemes: &[Lexeme],
+    room: u32,
+) -> Result<(Vec<(Scaling, Fact)>, &[Lexeme]), Halt>
+    ensures gives { Gives (λ x. (map multiplied x.0.items, signs x.1.now)) result (factors_with (group_at room) (signs lexemes.now)) }
+    ensures rest { IfOk result (λ x. length x.1.now ≤ length lexemes.now) }
+{
+    let mut left = lexemes;
+    let mut factors = Vec::new(alloc);
+    'factors: while let Some((scaling, rest)) = scaling_in(left) {
+        let (fact, after) = fact_in(alloc, rest, room)?;
+        factors.push((scaling, fact))?;
+        left = after;
+    }
+    Ok((factors, left))
+}
+
+#[cycle(expr)]
+fn term(alloc: Global, lexemes: &[Lexeme], room: u32) -> Result<(Term, &[Lexeme]), Halt>
+    ensures gives { Gives (λ x. (plain_term x.0, signs x.1.now)) result (term_with (group_at room) (signs lexemes.now)) }
+    ensures rest { IfOk result (λ x. length x.1.now ≤ length lexemes.now) }
+{
+    let (first, rest) = fact_in(alloc, lexemes, room)?;
+    let (others, rest) = factors_in(alloc, rest, room)?;
+    Ok((Term::of(first, others), rest))
+}
+
+/// What is added to a term or subtracted from it.
+#[cycle(expr)]
+pub fn summands_in(
+    alloc: Global,
+    lexemes: &[Lexeme],
+    room: u32,
+) -> Result<(Vec<(Sign, Term)>, &[Lexeme]), Halt>
+    ensures gives { Gives (λ x. (map added x.0.items, signs x.1.now)) result (summands_with (group_at room) (signs lexemes.now)) }
+    ensures rest { IfOk result (λ x. length x.1.now ≤ length lexemes.now) }
+{
+    let mut left = lexemes;
+    let mut summands = Vec::new(alloc);
+    'summands: while let Some((sign, rest)) = sign_in(left) {
+        let (term, after) = term(alloc, rest, room)?;
+        summands.push((sign, term))?;
+        left = after;
+    }
+    Ok((summands, left))
+}
+
+/// The longest expression in front, where so many parentheses may open.
+#[cycle(expr)]
+pub fn expr_in(alloc: Global, lexemes: &[Lexeme], room: u32) -> Result<(Expr, &[Lexeme]), Halt>
+    ensures gives { Gives (λ x. (plain_expr x.0, signs x.1.now)) result (expr_at room (signs lexemes.now)) }
+    ensures rest { IfOk result (λ x. length x.1.now ≤ length lexemes.now) }
+{
+    let (first, rest) = term(alloc, lexemes, room)?;
+    let (others, rest) = summands_in(alloc, rest, room)?;
+    Ok((Expr::of(first, others), rest))
+}

@@ -1,0 +1,76 @@
+ghost use Rattle.std.specs.Prelude.{◌≡◌, ◌≤◌, ◌<◌, length, IfOk, map};
+ghost use Rattle.reading.specs.Readers.{lead};
+ghost use Rattle.cob_parse_expr.specs.Classes.{name_of, const_of};
+ghost use Rattle.cob_parse_expr.specs.Reading.{qualifiers_at, ref_at, opnd_at};
+ghost use Rattle.cob_parse_expr.specs.Steps.{signs, Gives, behind_word};
+
+use crate::class::{behind_of, constant_in, name_in};
+use crate::halt::Halt;
+use cob_tree::{Const, Many, Name, Opnd, Ref};
+use crate::lexeme::{Lexeme};
+use std::alloc::Global;
+
+/// A name.
+pub fn name_at(alloc: Global, lexemes: &[Lexeme]) -> Result<(Name, &[Lexeme]), Halt>
+    ensures gives { Gives (λ x. (x.0, signs x.1.now)) result (lead name_of (signs lexemes.now)) }
+    ensures rest { IfOk result (λ x. length x.1.now < length lexemes.now) }
+{
+    match name_in(lexemes) {
+        None => Err(Halt::Stop(lexemes.len())),
+        Some((name, rest)) => Ok((Name::of(alloc, name.get())?, rest)),
+    }
+}
+
+// The names behind OF.
+fn qualifiers(alloc: Global, lexemes: &[Lexeme]) -> Result<(Vec<Name>, &[Lexeme]), Halt>
+    ensures gives { Gives (λ x. (map behind_word x.0.items, signs x.1.now)) result (qualifiers_at (signs lexemes.now)) }
+    ensures rest { IfOk result (λ x. length x.1.now ≤ length lexemes.now) }
+{
+    let mut left = lexemes;
+    let mut names = Vec::new(alloc);
+    'names: while let Some(rest) = behind_of(left) {
+        let (name, after) = name_at(alloc, rest)?;
+        names.push(name)?;
+        left = after;
+    }
+    Ok((names, left))
+}
+
+/// A name with its qualifiers.
+pub fn ref_in(alloc: Global, lexemes: &[Lexeme]) -> Result<(Ref, &[Lexeme]), Halt>
+    ensures gives { Gives (λ x. (x.0, signs x.1.now)) result (ref_at (signs lexemes.now)) }
+    ensures rest { IfOk result (λ x. length x.1.now < length lexemes.now) }
+{
+    let (name, rest) = name_at(alloc, lexemes)?;
+    let (of, rest) = qualifiers(alloc, rest)?;
+    let of = Many::of(of);
+    Ok((Ref { name, of }, rest))
+}
+
+/// A literal or a figurative constant.
+pub fn const_at(alloc: Global, lexemes: &[Lexeme]) -> Result<(Const, &[Lexeme]), Halt>
+    ensures gives { Gives (λ x. (x.0, signs x.1.now)) result (lead const_of (signs lexemes.now)) }
+    ensures rest { IfOk result (λ x. length x.1.now < length lexemes.now) }
+{
+    match constant_in(alloc, lexemes)? {
+        None => Err(Halt::Stop(lexemes.len())),
+        Some(found) => Ok(found),
+    }
+}
+
+/// An operand.
+pub fn opnd_in(alloc: Global, lexemes: &[Lexeme]) -> Result<(Opnd, &[Lexeme]), Halt>
+    ensures gives { Gives (λ x. (x.0, signs x.1.now)) result (opnd_at (signs lexemes.now)) }
+    ensures rest { IfOk result (λ x. length x.1.now < length lexemes.now) }
+{
+    match name_in(lexemes) {
+        Some(_) => {
+            let (item, rest) = ref_in(alloc, lexemes)?;
+            Ok((Opnd::Ref(item), rest))
+        }
+        None => {
+            let (constant, rest) = const_at(alloc, lexemes)?;
+            Ok((Opnd::Const(constant), rest))
+        }
+    }
+}
