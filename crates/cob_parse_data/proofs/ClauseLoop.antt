@@ -86,7 +86,7 @@ module _ {K C : Type 0} (same : K → K → Bool) (class : Sign → Option K) (b
         let first : reads_at (kinds_behind cs []) (signs left) ≡ Ok ((k, c), signs after) = read_so k (signs rest) leads.reads ∙ rw read refl in
         let turned = turns_on begins_at reads_at with_kind (kinds_behind cs []) (tagged cs) (signs left) (whole (signs all)) kept (k, c) (signs after) there first (omega (arith, less, signs_length left, signs_length after)) in
         subst (λ (ks : List K). Turns begins_at reads_at with_kind ks (tagged (cs ++ c ∷ [])) (signs after) (whole (signs all))) (ap (λ (j : K). j ∷ kinds_behind cs []) (sym headed) ∙ sym (last_kind cs c []))
-            (subst (λ (xs : List (K × C)). Turns begins_at reads_at with_kind (k ∷ kinds_behind cs []) xs (signs after) (whole (signs all))) (ap (λ (j : K). tagged cs ++ (j, c) ∷ []) (sym headed) ∙ sym (tagged_more cs c)) turned)
+        (subst (λ (xs : List (K × C)). Turns begins_at reads_at with_kind (k ∷ kinds_behind cs []) xs (signs after) (whole (signs all))) (ap (λ (j : K). tagged cs ++ (j, c) ∷ []) (sym headed) ∙ sym (tagged_more cs c)) turned)
 
     pub kept_end : Lacks (fresh same class (map head cs)) (signs left) → seen untagged (clauses same class body) (signs all) ≡ Ok (cs, signs left)
     kept_end lacks =

@@ -151,7 +151,7 @@ config_head = print.heading (key.Configuration ∷ key.Section ∷ [])
 config_on : (u : Sign) (c : Config) → Always c → takes_config c u.symbol ≡ true → GoesOn Always print_config c u
 config_on u c good e =
     let w = two_on key.SourceComputer key.ObjectComputer Always (print_named_computer key.SourceComputer) takes_no_more Always (print_named_computer key.ObjectComputer) takes_no_more u [] tt (item 0 Stop ∷ item 0 (Name []) ∷ item 0 Stop ∷ []) refl [] tt (item 0 Stop ∷ item 0 (Name []) ∷ item 0 Stop ∷ []) refl
-        (λ x g f. absurd (never f)) (λ x g f. absurd (never f)) c.source c.object (anything c.source) (anything c.object) e in
+    (λ x g f. absurd (never f)) (λ x g f. absurd (never f)) c.source c.object (anything c.source) (anything c.object) e in
     record { tree = record { source = w.tree.0; object = w.tree.1 }; good = tt; item = w.item; more = w.more; text = ap (λ (z : List Item). config_head ++ z) (both w.tree.0 w.tree.1 ∙ w.text ∙ ap (λ (z : List Item). z ++ w.item ∷ w.more) (sym (both c.source c.object))); fits = w.fits }
   where
     never : false ≡ true → ⊥
@@ -168,19 +168,19 @@ io_on u i good e =
 env_on : (u : Sign) (x : Env) → ShapedEnv x → takes_env x u.symbol ≡ true → GoesOn ShapedEnv print_env x u
 env_on u x good e =
     let w = two_on key.Configuration key.InputOutput Always print_config takes_config ShapedIo print_io takes_io u (record { source = None; object = None }) tt (key_item 0 key.Section ∷ item 0 Stop ∷ []) refl (record { selects = [] }) tt (key_item 0 key.Section ∷ item 0 Stop ∷ key_item 0 key.FileControl ∷ item 0 Stop ∷ []) refl
-        (config_on u) (io_on u) x.config x.io (anything x.config) good e in
+    (config_on u) (io_on u) x.config x.io (anything x.config) good e in
     record { tree = record { config = w.tree.0; io = w.tree.1 }; good = w.good.1; item = w.item; more = w.more; text = ap (λ (z : List Item). print.heading (key.Environment ∷ key.Division ∷ []) ++ z) w.text; fits = w.fits }
 
 data_on : (u : Sign) (d : Data) → ShapedData d → takes_data d u.symbol ≡ true → GoesOn ShapedData print_data d u
 data_on u d good e =
     let w = two_on key.File key.WorkingStorage (AllByRecursion ShapedFd) print_files takes_fds (AllByRecursion ShapedEntry) print_storage takes_entries u [] tt (key_item 0 key.Section ∷ item 0 Stop ∷ []) refl [] tt (key_item 0 key.Section ∷ item 0 Stop ∷ []) refl
-        (λ fs g f. behind (print.heading (key.File ∷ key.Section ∷ [])) (fds_on u fs g f)) (λ es g f. behind (print.heading (key.WorkingStorage ∷ key.Section ∷ [])) (entries_on u es g f)) d.files d.storage good.0 good.1 e in
+    (λ fs g f. behind (print.heading (key.File ∷ key.Section ∷ [])) (fds_on u fs g f)) (λ es g f. behind (print.heading (key.WorkingStorage ∷ key.Section ∷ [])) (entries_on u es g f)) d.files d.storage good.0 good.1 e in
     record { tree = record { files = w.tree.0; storage = w.tree.1 }; good = (w.good.0, w.good.1); item = w.item; more = w.more; text = ap (λ (z : List Item). print.heading (key.Data ∷ key.Division ∷ []) ++ z) w.text; fits = w.fits }
 
 front_on : (u : Sign) (f : Front) → ShapedFront f → takes_front f u.symbol ≡ true → GoesOn ShapedFront print_front f u
 front_on u f good e =
     let w = two_on key.Environment key.Data ShapedEnv print_env takes_env ShapedData print_data takes_data u (record { config = None; io = None }) tt (key_item 0 key.Division ∷ item 0 Stop ∷ []) refl (record { files = None; storage = None }) (tt, tt) (key_item 0 key.Division ∷ item 0 Stop ∷ []) refl
-        (env_on u) (data_on u) f.env f.data good.0 good.1 e in
+    (env_on u) (data_on u) f.env f.data good.0 good.1 e in
     record { tree = record { name = f.name; env = w.tree.0; «data» = w.tree.1 }; good = (w.good.0, w.good.1); item = w.item; more = w.more; text = ap (λ (z : List Item). print.heading (key.Identification ∷ key.Division ∷ []) ++ (print.heading (key.ProgramId ∷ []) ++ (print_name_and_stop f.name ++ z))) w.text; fits = w.fits }
 
 -- ---- the law

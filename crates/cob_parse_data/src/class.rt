@@ -255,7 +255,10 @@ pub fn label_at(lexemes: &[Lexeme]) -> Result<(Label, &[Lexeme]), Halt>
     }
 }
 
-fn external_in(alloc: Global, lexemes: &[Lexeme]) -> Result<Option<(External, &[Lexeme])>, AllocError>
+fn external_in(
+    alloc: Global,
+    lexemes: &[Lexeme],
+) -> Result<Option<(External, &[Lexeme])>, AllocError>
     ensures found { IfOk result (λ o. IfSome o (λ x. Leads (of external_symbol) x.0 (signs lexemes.now) (signs x.1.now))) }
     ensures none { IfOk result (λ o. IfNone o (Lacks (of external_symbol) (signs lexemes.now))) }
     ensures shorter { IfOk result (λ o. IfSome o (λ x. length lexemes.now ≡ length x.1.now + 1)) }
@@ -281,7 +284,10 @@ pub fn external_at(alloc: Global, lexemes: &[Lexeme]) -> Result<(External, &[Lex
 }
 
 /// A name or FILLER, where one stands.
-pub fn described_in(alloc: Global, lexemes: &[Lexeme]) -> Result<(Option<Described>, &[Lexeme]), Halt>
+pub fn described_in(
+    alloc: Global,
+    lexemes: &[Lexeme],
+) -> Result<(Option<Described>, &[Lexeme]), Halt>
     ensures gives { Gives (λ x. (x.0, signs x.1.now)) result (maybe (of described_symbol) (signs lexemes.now)) }
     ensures rest { IfOk result (λ x. length x.1.now ≤ length lexemes.now) }
 {

@@ -9,7 +9,9 @@ ghost use Rattle.cob_parse_data.specs.Tokens.{of, here};
 ghost use Rattle.cob_parse_data.specs.Heads.{same_kind, clause_symbol, clause_kind_of, clause_head_of};
 ghost use Rattle.cob_parse_data.specs.Reading.{perhaps, led, constant, range, ranges, first_and, clause_body, entry_clauses, entry, entries};
 
-use crate::class::{described_in, level_at, next, picture_at, stands, stands_constant, stands_number, stop, word};
+use crate::class::{
+    described_in, level_at, next, picture_at, stands, stands_constant, stands_number, stop, word,
+};
 use crate::head::ClauseHead;
 use cob_parse_expr::{Halt, Lexeme, Symbol, const_at, name_at};
 use cob_tree::{Clause, Const, Entry, Keyword, Many, Range};
@@ -145,7 +147,11 @@ fn fresh_head<'a>(clauses: &[Clause], lexemes: &'a [Lexeme]) -> Option<(ClauseHe
     }
 }
 
-fn clause_behind(alloc: Global, head: ClauseHead, lexemes: &[Lexeme]) -> Result<(Clause, &[Lexeme]), Halt>
+fn clause_behind(
+    alloc: Global,
+    head: ClauseHead,
+    lexemes: &[Lexeme],
+) -> Result<(Clause, &[Lexeme]), Halt>
     ensures gives { Gives (λ x. (x.0, signs x.1.now)) result (clause_body head (signs lexemes.now)) }
     ensures headed { IfOk result (λ x. clause_head_of x.0 ≡ head) }
     ensures rest { IfOk result (λ x. length x.1.now ≤ length lexemes.now) }
@@ -208,7 +214,15 @@ fn entry(alloc: Global, lexemes: &[Lexeme]) -> Result<(Entry, &[Lexeme]), Halt>
     let (clauses, rest) = clauses(alloc, rest)?;
     let rest = stop(rest)?;
     let clauses = Many::of(clauses);
-    Ok((Entry { line, level, name, clauses }, rest))
+    Ok((
+        Entry {
+            line,
+            level,
+            name,
+            clauses,
+        },
+        rest,
+    ))
 }
 
 /// Any number of data description entries.

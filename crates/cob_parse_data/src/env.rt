@@ -23,7 +23,11 @@ fn computer(alloc: Global, keyword: Keyword, lexemes: &[Lexeme]) -> Result<(Name
     named(alloc, rest)
 }
 
-fn computer_part(alloc: Global, keyword: Keyword, lexemes: &[Lexeme]) -> Result<(Option<Name>, &[Lexeme]), Halt>
+fn computer_part(
+    alloc: Global,
+    keyword: Keyword,
+    lexemes: &[Lexeme],
+) -> Result<(Option<Name>, &[Lexeme]), Halt>
     ensures gives { Gives (λ x. (x.0, signs x.1.now)) result (perhaps keyword (computer keyword) (signs lexemes.now)) }
     ensures rest { IfOk result (λ x. length x.1.now ≤ length lexemes.now) }
 {
@@ -100,7 +104,10 @@ fn is_among(head: SelectHead, clauses: &[SelClause]) -> bool
 }
 
 // The word of a clause of a kind that wasn't read yet.
-fn fresh_head<'a>(clauses: &[SelClause], lexemes: &'a [Lexeme]) -> Option<(SelectHead, &'a [Lexeme])>
+fn fresh_head<'a>(
+    clauses: &[SelClause],
+    lexemes: &'a [Lexeme],
+) -> Option<(SelectHead, &'a [Lexeme])>
     ensures found { IfSome result (λ x. Leads (fresh (same_kind select_kind) (of select_symbol) (map select_head_of clauses.now)) x.0 (signs lexemes.now) (signs x.1.now)) }
     ensures none { IfNone result (Lacks (fresh (same_kind select_kind) (of select_symbol) (map select_head_of clauses.now)) (signs lexemes.now)) }
     ensures shorter { IfSome result (λ x. length lexemes.now ≡ length x.1.now + 1) }
@@ -114,7 +121,11 @@ fn fresh_head<'a>(clauses: &[SelClause], lexemes: &'a [Lexeme]) -> Option<(Selec
     }
 }
 
-fn clause_behind(alloc: Global, head: SelectHead, lexemes: &[Lexeme]) -> Result<(SelClause, &[Lexeme]), Halt>
+fn clause_behind(
+    alloc: Global,
+    head: SelectHead,
+    lexemes: &[Lexeme],
+) -> Result<(SelClause, &[Lexeme]), Halt>
     ensures gives { Gives (λ x. (x.0, signs x.1.now)) result (select_body head (signs lexemes.now)) }
     ensures headed { IfOk result (λ x. select_head_of x.0 ≡ head) }
     ensures rest { IfOk result (λ x. length x.1.now ≤ length lexemes.now) }
@@ -161,7 +172,15 @@ fn select(alloc: Global, lexemes: &[Lexeme]) -> Result<(Select, &[Lexeme]), Halt
     let (clauses, rest) = clauses(alloc, rest)?;
     let rest = stop(rest)?;
     let clauses = Many::of(clauses);
-    Ok((Select { line, name, external, clauses }, rest))
+    Ok((
+        Select {
+            line,
+            name,
+            external,
+            clauses,
+        },
+        rest,
+    ))
 }
 
 fn selects(alloc: Global, lexemes: &[Lexeme]) -> Result<(Vec<Select>, &[Lexeme]), Halt>

@@ -114,7 +114,11 @@ fn data_behind(alloc: Global, lexemes: &[Lexeme]) -> Result<(FdClause, &[Lexeme]
     Ok((FdClause::Data(names), rest))
 }
 
-fn clause_behind(alloc: Global, head: FdHead, lexemes: &[Lexeme]) -> Result<(FdClause, &[Lexeme]), Halt>
+fn clause_behind(
+    alloc: Global,
+    head: FdHead,
+    lexemes: &[Lexeme],
+) -> Result<(FdClause, &[Lexeme]), Halt>
     ensures gives { Gives (λ x. (x.0, signs x.1.now)) result (fd_body head (signs lexemes.now)) }
     ensures headed { IfOk result (λ x. fd_head_of x.0 ≡ head) }
     ensures rest { IfOk result (λ x. length x.1.now ≤ length lexemes.now) }
@@ -166,7 +170,15 @@ fn fd(alloc: Global, lexemes: &[Lexeme]) -> Result<(Fd, &[Lexeme]), Halt>
     let (entries, rest) = entries(alloc, rest)?;
     let clauses = Many::of(clauses);
     let entries = Many::of(entries);
-    Ok((Fd { line, name, clauses, entries }, rest))
+    Ok((
+        Fd {
+            line,
+            name,
+            clauses,
+            entries,
+        },
+        rest,
+    ))
 }
 
 fn fds(alloc: Global, lexemes: &[Lexeme]) -> Result<(Vec<Fd>, &[Lexeme]), Halt>

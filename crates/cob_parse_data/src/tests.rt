@@ -1,6 +1,9 @@
 //! Divisions, their trees printed back, and refused ones with their lines. Tokens stand between single spaces.
 use crate::{ParseEnd, front_of};
-use cob_tree::{Bytes, Clause, Config, Const, Data, Described, Entry, Env, External, Fd, FdClause, Front, Io, Label, Name, Num, Range, SelClause, Select, Tok, Token};
+use cob_tree::{
+    Bytes, Clause, Config, Const, Data, Described, Entry, Env, External, Fd, FdClause, Front, Io,
+    Label, Name, Num, Range, SelClause, Select, Tok, Token,
+};
 use std::alloc::{AllocError, Global};
 use std::test::Fail;
 
@@ -317,12 +320,30 @@ FD F RECORDING V DATA R S BLOCK 1 LABEL OMITTED RECORD-SIZE 80 .",
 const REFUSED: [(&str, u32); 9] = [
     ("IDENTIFICATION DIVISION .\nPROGRAM-ID . MOVE .", 2),
     ("IDENTIFICATION DIVISION .\nPROGRAM-ID . A", 2),
-    ("IDENTIFICATION DIVISION . PROGRAM-ID . A .\nENVIRONMENT DIVISION .\nINPUT-OUTPUT SECTION .\nSELECT F ASSIGN F .", 4),
-    ("IDENTIFICATION DIVISION . PROGRAM-ID . A .\nDATA DIVISION . WORKING-STORAGE SECTION .\n01 A PIC X\nPIC X .", 4),
-    ("IDENTIFICATION DIVISION . PROGRAM-ID . A .\nDATA DIVISION . WORKING-STORAGE SECTION .\n01 A DISPLAY\nBINARY .", 4),
-    ("IDENTIFICATION DIVISION . PROGRAM-ID . A .\nDATA DIVISION . WORKING-STORAGE SECTION .\n01 A LEADING SEPARATE\nTRAILING SEPARATE .", 4),
-    ("IDENTIFICATION DIVISION . PROGRAM-ID . A .\nDATA DIVISION . WORKING-STORAGE SECTION .\n01 A VALUE\n.", 4),
-    ("IDENTIFICATION DIVISION . PROGRAM-ID . A .\nDATA DIVISION . FILE SECTION .\nFD A DATA\n.", 4),
+    (
+        "IDENTIFICATION DIVISION . PROGRAM-ID . A .\nENVIRONMENT DIVISION .\nINPUT-OUTPUT SECTION .\nSELECT F ASSIGN F .",
+        4,
+    ),
+    (
+        "IDENTIFICATION DIVISION . PROGRAM-ID . A .\nDATA DIVISION . WORKING-STORAGE SECTION .\n01 A PIC X\nPIC X .",
+        4,
+    ),
+    (
+        "IDENTIFICATION DIVISION . PROGRAM-ID . A .\nDATA DIVISION . WORKING-STORAGE SECTION .\n01 A DISPLAY\nBINARY .",
+        4,
+    ),
+    (
+        "IDENTIFICATION DIVISION . PROGRAM-ID . A .\nDATA DIVISION . WORKING-STORAGE SECTION .\n01 A LEADING SEPARATE\nTRAILING SEPARATE .",
+        4,
+    ),
+    (
+        "IDENTIFICATION DIVISION . PROGRAM-ID . A .\nDATA DIVISION . WORKING-STORAGE SECTION .\n01 A VALUE\n.",
+        4,
+    ),
+    (
+        "IDENTIFICATION DIVISION . PROGRAM-ID . A .\nDATA DIVISION . FILE SECTION .\nFD A DATA\n.",
+        4,
+    ),
     ("PROCEDURE DIVISION .", 1),
 ];
 
@@ -354,7 +375,11 @@ fn shown(alloc: Global, text: &str) -> Result<Vec<u8>, AllocError> {
 #[test]
 fn divisions_print_back_to_their_tokens(rt: HostRuntime) -> Result<(), Fail> {
     for text in READ {
-        assert_eq!(rt; shown(rt.alloc(), text)?.as_slice(), joined(rt.alloc(), text)?.as_slice(), "{text}");
+        assert_eq!(rt;
+            shown(rt.alloc(), text)?.as_slice(),
+            joined(rt.alloc(), text)?.as_slice(),
+            "{text}"
+        );
     }
     Ok(())
 }
@@ -363,7 +388,11 @@ fn divisions_print_back_to_their_tokens(rt: HostRuntime) -> Result<(), Fail> {
 fn clauses_stand_in_any_order(rt: HostRuntime) -> Result<(), Fail> {
     for entry in ORDERS {
         let text = format!(in rt.alloc(); "{BEFORE_ENTRIES} {entry}")?;
-        assert_eq!(rt; shown(rt.alloc(), text.as_str())?.as_slice(), joined(rt.alloc(), text.as_str())?.as_slice(), "{entry}");
+        assert_eq!(rt;
+            shown(rt.alloc(), text.as_str())?.as_slice(),
+            joined(rt.alloc(), text.as_str())?.as_slice(),
+            "{entry}"
+        );
     }
     Ok(())
 }
@@ -371,7 +400,11 @@ fn clauses_stand_in_any_order(rt: HostRuntime) -> Result<(), Fail> {
 #[test]
 fn refused_divisions_have_their_lines(rt: HostRuntime) -> Result<(), Fail> {
     for (text, line) in REFUSED {
-        assert_eq!(rt; shown(rt.alloc(), text)?.as_slice(), format!(in rt.alloc(); "line {line} ")?.as_bytes(), "{text}");
+        assert_eq!(rt;
+            shown(rt.alloc(), text)?.as_slice(),
+            format!(in rt.alloc(); "line {line} ")?.as_bytes(),
+            "{text}"
+        );
     }
     Ok(())
 }

@@ -8,7 +8,7 @@ use Rattle.cob_parse_data.proofs.entry.clauses.Given as goal
 abbrev pub invariant-clauses : goal.invariant-clauses
 invariant-clauses l = record {
   kept : Kept (same_kind clause_kind_of) (of clause_symbol) clause_body clause_head_of l.clauses.items l.left l.lexemes;
-  shorter : length l.left ≤ length l.lexemes
+  shorter : length l.left ≤ length l.lexemes;
 }
 
 abbrev pub decreases-clauses : goal.decreases-clauses

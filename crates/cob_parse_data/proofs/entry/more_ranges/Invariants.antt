@@ -7,7 +7,7 @@ use Rattle.cob_parse_data.proofs.entry.more_ranges.Given as goal
 abbrev pub invariant-values : goal.invariant-values
 invariant-values l = record {
   kept : Kept const_as range l.values.items l.left l.lexemes;
-  shorter : length l.left ≤ length l.lexemes
+  shorter : length l.left ≤ length l.lexemes;
 }
 
 abbrev pub decreases-values : goal.decreases-values

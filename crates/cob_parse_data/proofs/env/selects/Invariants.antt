@@ -8,7 +8,7 @@ use Rattle.cob_parse_data.proofs.env.selects.Given as goal
 abbrev pub invariant-selects : goal.invariant-selects
 invariant-selects l = record {
   kept : Kept (the key.Select) select l.selects.items l.left l.lexemes;
-  shorter : length l.left ≤ length l.lexemes
+  shorter : length l.left ≤ length l.lexemes;
 }
 
 abbrev pub decreases-selects : goal.decreases-selects

@@ -8,7 +8,7 @@ use Rattle.cob_parse_data.proofs.file.fds.Given as goal
 abbrev pub invariant-fds : goal.invariant-fds
 invariant-fds l = record {
   kept : Kept (the key.Fd) fd l.fds.items l.left l.lexemes;
-  shorter : length l.left ≤ length l.lexemes
+  shorter : length l.left ≤ length l.lexemes;
 }
 
 abbrev pub decreases-fds : goal.decreases-fds
