@@ -1,6 +1,6 @@
 -- The divisions with the word behind them, for a reader of whole programs: what is read so takes nothing more, so that
 -- its law holds with the marks of the whole grammar too.
-use Rattle.std.proofs.Common.{◌≡◌, ℕ, suc, ◌<◌, Bool, false, List, [], ◌∷◌, ◌++◌, length, None, Ok, Err, refl, sym}
+use Rattle.std.proofs.Common.{◌≡◌, ℕ, suc, ◌<◌, false, List, [], ◌∷◌, ◌++◌, length, None, Ok, Err, refl, sym}
 use Rattle.cob_tree.specs.declared.keyword.Keyword.TheVariants as key
 use Rattle.cob_tree.specs.declared.front.Front.{Front}
 use Rattle.cob_tree.specs.Symbols.{Symbol, Key, Sign}

@@ -1,5 +1,5 @@
 -- Which tokens are of which class.
-use Rattle.std.proofs.Common.{◌≡◌, ℕ, ◌<◌, Bool, true, false, List, [], ◌∷◌, ◌++◌, Option, Some, None, is_some, refl, sym, ap, subst, ◌∙◌}
+use Rattle.std.proofs.Common.{◌≡◌, ℕ, ◌<◌, Bool, true, false, List, [], ◌∷◌, ◌++◌, Option, Some, None, is_some, refl, sym, ap, ◌∙◌}
 use Rattle.std.proofs.lemmas.Slice.Eq.{bytes_eq-Decides}
 use Rattle.cob_tree.specs.declared.token.Num.{Num}
 use Rattle.cob_tree.specs.declared.keyword.Keyword.{Keyword}
@@ -20,12 +20,12 @@ use Rattle.cob_tree.specs.PrintFront.{print_label}
 use Rattle.cob_tree.proofs.KeywordLemmas.{texts-differ}
 use Rattle.cob_parse_expr.specs.Classes.{name_symbol, const_key, const_as, word_symbol}
 use Rattle.reading.specs.Readers.{Reader, lead}
-use Rattle.reading.specs.Printing.{Here, Ahead, Matches, begins}
+use Rattle.reading.specs.Printing.{Matches, begins}
 use Rattle.reading.specs.Law.{Syntax, Law}
 use Rattle.reading.proofs.Texts.{Always}
 use Rattle.reading.proofs.Lead.{Class, lead_syntax, lead_law}
 use Rattle.reading.proofs.Starts.{Begins, Starts, OneToken, starts_by_one}
-use Rattle.cob_parse_data.specs.Tokens.{divisions, of, is, here, same_key, found, the_key, the, on_line, on_its_line, stop_symbol, number_symbol, pic_symbol, external_symbol, label_key, label_symbol, filler_key, described_symbol}
+use Rattle.cob_parse_data.specs.Tokens.{divisions, of, is, same_key, found, the_key, the, on_line, on_its_line, stop_symbol, number_symbol, pic_symbol, external_symbol, label_key, label_symbol, filler_key, described_symbol}
 
 pub one_token : (takes : Symbol → Bool) → OneToken divisions takes
 one_token takes t mark e u = absurd cc

@@ -1,13 +1,12 @@
 -- Clauses read one after the other, as a loop does that asks the clauses before for their kinds.
-use Rattle.std.proofs.Common.{◌≡◌, ℕ, suc, ◌<◌, ◌≤◌, Bool, true, false, ◌||◌, List, [], ◌∷◌, ◌++◌, length, Option, Some, None, is_some, Result, Ok, Err, refl, sym, ap, subst, ◌∙◌, map, arith}
-use Rattle.cob_tree.specs.Symbols.{Symbol, Sign}
+use Rattle.std.proofs.Common.{◌≡◌, ◌<◌, ◌≤◌, Bool, true, false, ◌||◌, List, [], ◌∷◌, ◌++◌, length, Option, Some, None, Result, Ok, Err, refl, sym, ap, subst, ◌∙◌, map, arith}
+use Rattle.cob_tree.specs.Symbols.{Sign}
 use Rattle.cob_parse_expr.specs.declared.lexeme.Lexeme.{Lexeme}
 use Rattle.cob_parse_expr.specs.declared.halt.Halt.{Halt}
-use Rattle.cob_parse_expr.specs.Steps.{signs, Fails, Gives, Leads, Lacks}
-use Rattle.reading.specs.Readers.{Fault, Reader, ◌>>=◌, lead, lead_as, branch, seen, stands, many_from, among, unless_on, fresh_on, fresh, with_kind, clauses}
-use Rattle.reading.proofs.Results.{ok_is}
+use Rattle.cob_parse_expr.specs.Steps.{signs, Fails, Leads, Lacks}
+use Rattle.reading.specs.Readers.{Fault, Reader, ◌>>=◌, lead, branch, seen, stands, among, unless_on, fresh_on, fresh, with_kind, clauses}
 use Rattle.reading.proofs.Turns.{Turns, turns_start, turns_on, turns_end, turns_fail}
-use Rattle.cob_parse_data.specs.Reading.{back, untagged}
+use Rattle.cob_parse_data.specs.Reading.{untagged}
 use Rattle.cob_parse_data.proofs.ListLoop.{fails_whole, signs_length}
 
 module _ {K C : Type 0} (same : K → K → Bool) (class : Sign → Option K) (body : K → Reader Sign C) (head : C → K) where

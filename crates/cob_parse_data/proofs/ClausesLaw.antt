@@ -1,5 +1,5 @@
 -- Clauses in any order, each kind at most once, without the words that begin them.
-use Rattle.std.proofs.Common.{◌≡◌, ℕ, ◌==◌, ◌<◌, Bool, true, false, List, [], ◌∷◌, ◌++◌, Option, Some, None, is_some, refl, sym, ap, subst, ◌∙◌, map}
+use Rattle.std.proofs.Common.{◌≡◌, ℕ, ◌==◌, ◌<◌, Bool, true, false, List, [], ◌∷◌, ◌++◌, Option, None, is_some, refl, sym, ap, subst, ◌∙◌, map}
 use Rattle.std.proofs.lemmas.Bool.{eqb-true, eq-eqb}
 use Rattle.std.specs.List.{AllByRecursion}
 use Rattle.cob_tree.specs.declared.keyword.Keyword.{Keyword}
@@ -15,7 +15,7 @@ use Rattle.reading.proofs.Many.{is_given, many_good, many_print, many_takes}
 use Rattle.reading.proofs.Clauses.{takes_fresh, clause_syntax, clauses_syntax, clauses_law}
 use Rattle.cob_parse_data.specs.Tokens.{divisions, of, is}
 use Rattle.cob_parse_data.specs.Heads.{same_kind}
-use Rattle.cob_parse_data.specs.Reading.{back, untagged}
+use Rattle.cob_parse_data.specs.Reading.{untagged}
 use Rattle.cob_parse_data.proofs.Parts.{onward_false}
 use Rattle.cob_parse_data.proofs.ClassLaws.{Spelling, tokens}
 

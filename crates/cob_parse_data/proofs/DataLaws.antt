@@ -18,30 +18,29 @@ use Rattle.cob_tree.specs.declared.front.Described.TheVariants as described
 use Rattle.cob_tree.specs.declared.front.Clause.{Clause}
 use Rattle.cob_tree.specs.declared.front.Clause.TheVariants as clause
 use Rattle.cob_tree.specs.declared.front.Range.{Range}
-use Rattle.cob_tree.specs.Symbols.{Symbol, Key, Name, Number, Text, Mark, Relation, Pic, Stop, Sign}
+use Rattle.cob_tree.specs.Symbols.{Symbol, Key, Name, Number, Pic, Stop, Sign}
 use Rattle.cob_tree.specs.Items.{Item, item, item_on, each}
 use Rattle.cob_tree.specs.Items as items
 use Rattle.cob_tree.specs.PrintExpr.{const_symbol, print_const}
 use Rattle.cob_tree.specs.PrintFront.{print_if, print_name, print_label, print_fd_clause, print_range, print_clause, print_described, print_entry, print_fd, print_files, print_storage, print_data}
-use Rattle.cob_tree.specs.Shaped.{IsNotEmpty, IfThere, fd_kind, clause_kind, ShapedFdClause, ShapedClause, ShapedEntry, ShapedFd, ShapedData}
-use Rattle.cob_parse_expr.specs.Classes.{name_symbol, const_as, word_symbol}
-use Rattle.reading.specs.Readers.{Reader, nothing, seq, seen, lead, maybe, stands}
+use Rattle.cob_tree.specs.Shaped.{fd_kind, clause_kind, ShapedFdClause, ShapedClause, ShapedEntry, ShapedFd, ShapedData}
+use Rattle.cob_parse_expr.specs.Classes.{name_symbol, const_as}
+use Rattle.reading.specs.Readers.{seq, stands}
 use Rattle.reading.specs.Printing.{Matches, begins}
 use Rattle.reading.specs.Law.{Syntax, Law}
-use Rattle.reading.proofs.Texts.{Always, takes_nothing, cases}
+use Rattle.reading.proofs.Texts.{Always, takes_nothing}
 use Rattle.reading.proofs.Seen.{View, seen_law}
 use Rattle.reading.proofs.Lead.{nothing_law}
 use Rattle.reading.proofs.Maybe.{maybe_syntax, maybe_law}
 use Rattle.reading.proofs.Dependent.{seq_syntax, seq_law}
 use Rattle.reading.proofs.Starts.{Begins}
 use Rattle.reading.proofs.Tail.{onward}
-use Rattle.reading.proofs.Many.{is_given}
 use Rattle.reading.proofs.Optional.{optional_syntax}
 use Rattle.cob_parse_data.specs.declared.head.FdHead.{FdHead}
 use Rattle.cob_parse_data.specs.declared.head.FdHead.TheVariants as fd_head
 use Rattle.cob_parse_data.specs.declared.head.ClauseHead.{ClauseHead}
 use Rattle.cob_parse_data.specs.declared.head.ClauseHead.TheVariants as head
-use Rattle.cob_parse_data.specs.Tokens.{divisions, of, is, the, on_its_line, stop_symbol, number_symbol, pic_symbol, label_symbol, described_symbol}
+use Rattle.cob_parse_data.specs.Tokens.{divisions, of, is, the, stop_symbol, number_symbol, described_symbol}
 use Rattle.cob_parse_data.specs.Heads.{fd_word, fd_key, fd_symbol, fd_kind_of, fd_head_of, clause_word, clause_key, clause_symbol, clause_kind_of, clause_head_of}
 use Rattle.cob_parse_data.specs.Reading as reading
 use Rattle.cob_parse_data.specs.Reading.{stop, word, to_clause, clause_body, fd_body, first_and, entry_clauses, fd_clauses, make_range, make_entry, make_fd, make_data}
@@ -49,7 +48,7 @@ use Rattle.cob_parse_data.specs.Takes.{takes_entries, takes_fds, takes_data}
 use Rattle.cob_parse_data.proofs.Parts.{law_as, then_law, pair_law, pair_syntax, list_syntax, list_law, last_takes, some_syntax, some_law, last_ended, last_free}
 use Rattle.cob_parse_data.proofs.ClassLaws.{Spelling, fits_is, tokens, one_token, begins_with, starts_with, one_syntax, one_law, line_syntax, line_law, words, one_word, is_the, free_of, stops, numbers, pics, names, labels, describeds, spelled_described, consts}
 use Rattle.cob_parse_data.proofs.ClausesLaw.{Clausal, clause_list, clause_list_law, clauses_end}
-use Rattle.cob_parse_data.proofs.WordLaws.{Leads, leads_begin, headed_syntax, headed_law, led_syntax, led_law, perhaps_tail, named_syntax, named_law, two_syntax, two_law, two_free}
+use Rattle.cob_parse_data.proofs.WordLaws.{Leads, headed_law, led_syntax, led_law, perhaps_tail, two_syntax, two_law, two_free}
 use Rattle.cob_parse_data.proofs.EnvLaws.{is_stop, stop_begins, all_always, nothing_of}
 
 -- a token of a class that a word isn't of is not that word

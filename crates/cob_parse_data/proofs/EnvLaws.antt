@@ -1,5 +1,5 @@
 -- The laws of the ENVIRONMENT DIVISION.
-use Rattle.std.proofs.Common.{◌≡◌, ℕ, ◌<◌, Bool, true, false, ◌||◌, List, [], ◌∷◌, ◌++◌, Option, Some, None, is_some, refl, sym, ap, subst, ◌∙◌}
+use Rattle.std.proofs.Common.{◌≡◌, ℕ, ◌<◌, true, false, List, [], ◌∷◌, ◌++◌, Option, Some, None, refl, sym, ap, ◌∙◌}
 use Rattle.std.specs.List.{AllByRecursion}
 use Rattle.cob_tree.specs.declared.keyword.Keyword.{Keyword}
 use Rattle.cob_tree.specs.declared.keyword.Keyword.TheVariants as key
@@ -11,13 +11,12 @@ use Rattle.cob_tree.specs.declared.front.External.{External}
 use Rattle.cob_tree.specs.declared.front.External.TheVariants as external
 use Rattle.cob_tree.specs.declared.front.SelClause.{SelClause}
 use Rattle.cob_tree.specs.declared.front.SelClause.TheVariants as sel
-use Rattle.cob_tree.specs.Symbols.{Symbol, Key, Name, Number, Text, Mark, Relation, Pic, Stop, Sign}
+use Rattle.cob_tree.specs.Symbols.{Symbol, Key, Name, Stop}
 use Rattle.cob_tree.specs.Items.{Item, item, item_on, each}
 use Rattle.cob_tree.specs.Items as items
 use Rattle.cob_tree.specs.PrintFront.{print_if, print_computer, print_config, print_external, print_sel_clause, print_select, print_io, print_env}
-use Rattle.cob_tree.specs.Shaped.{IfThere, AreOfKinds, sel_kind, ShapedSelect, ShapedIo, ShapedEnv}
-use Rattle.reading.specs.Readers.{Reader, seq, seen, lead}
-use Rattle.reading.specs.Printing.{Matches, begins}
+use Rattle.cob_tree.specs.Shaped.{IfThere, sel_kind, ShapedSelect, ShapedIo, ShapedEnv}
+use Rattle.reading.specs.Readers.{seq}
 use Rattle.reading.specs.Law.{Syntax, Law}
 use Rattle.reading.proofs.Texts.{Always, takes_nothing}
 use Rattle.reading.proofs.Seen.{View, seen_law}
@@ -27,12 +26,12 @@ use Rattle.cob_parse_data.specs.declared.head.SelectHead.{SelectHead}
 use Rattle.cob_parse_data.specs.declared.head.SelectHead.TheVariants as head
 use Rattle.cob_parse_data.specs.Tokens.{divisions, is, the, stop_symbol}
 use Rattle.cob_parse_data.specs.Heads.{select_word, select_key, select_symbol, select_kind, select_head_of}
-use Rattle.cob_parse_data.specs.Reading.{word, stop, computer, to_organization, to_access, to_status, select_body, select_clauses, make_select, select, selects, make_config, config, make_io, io, make_env, env}
+use Rattle.cob_parse_data.specs.Reading.{word, stop, computer, select_body, select_clauses, make_select, select, make_config, config, make_io, io, make_env, env}
 use Rattle.cob_parse_data.specs.Takes.{takes_config, takes_io, takes_env}
-use Rattle.cob_parse_data.proofs.Parts.{law_as, then_law, list_syntax, list_law, last_ended}
-use Rattle.cob_parse_data.proofs.ClassLaws.{one_token, begins_with, starts_with, one_syntax, one_law, line_syntax, line_law, words, one_word, free_of, stops, names, externals, spelled_external}
+use Rattle.cob_parse_data.proofs.Parts.{then_law, list_syntax, list_law, last_ended}
+use Rattle.cob_parse_data.proofs.ClassLaws.{one_token, begins_with, starts_with, one_syntax, one_law, line_syntax, line_law, words, one_word, stops, names, externals, spelled_external}
 use Rattle.cob_parse_data.proofs.ClausesLaw.{Clausal, clause_list, clause_list_law, clauses_end}
-use Rattle.cob_parse_data.proofs.WordLaws.{Leads, leads_begin, headed_syntax, headed_law, named_syntax, named_law, two_syntax, two_law, two_free}
+use Rattle.cob_parse_data.proofs.WordLaws.{Leads, headed_syntax, headed_law, named_syntax, named_law, two_syntax, two_law, two_free}
 
 pub is_stop : (y : Symbol) → is stop_symbol y ≡ true → y ≡ Stop
 is_stop Stop e = refl

@@ -1,12 +1,12 @@
 -- The law of all divisions before PROCEDURE.
-use Rattle.std.proofs.Common.{◌≡◌, ℕ, ◌<◌, Bool, false, List, [], ◌∷◌, ◌++◌, Option, refl, arith}
+use Rattle.std.proofs.Common.{◌≡◌, ℕ, ◌<◌, false, List, [], ◌∷◌, ◌++◌, Option, refl, arith}
 use Rattle.cob_tree.specs.declared.keyword.Keyword.TheVariants as key
 use Rattle.cob_tree.specs.declared.front.Front.{Front}
 use Rattle.cob_tree.specs.declared.front.Env.{Env}
 use Rattle.cob_tree.specs.declared.front.Data.{Data}
-use Rattle.cob_tree.specs.Symbols.{Symbol, Key, Stop, Sign}
+use Rattle.cob_tree.specs.Symbols.{Symbol, Key, Stop}
 use Rattle.cob_tree.specs.Items.{Item}
-use Rattle.cob_tree.specs.PrintFront.{heading, print_if, print_name_and_stop, print_env, print_data, print_front}
+use Rattle.cob_tree.specs.PrintFront.{print_if, print_name_and_stop, print_env, print_data, print_front}
 use Rattle.cob_tree.specs.Shaped.{ShapedFront}
 use Rattle.reading.specs.Readers.{seq}
 use Rattle.reading.specs.Law.{Syntax, Law}

@@ -1,5 +1,5 @@
 -- What a tree of these divisions takes is what some tree goes on with.
-use Rattle.std.proofs.Common.{◌≡◌, ◌↔◌, ℕ, suc, Bool, true, false, ◌||◌, ◌⊎◌, inl, inr, ⊎_elim, List, [], ◌∷◌, ◌++◌, length, Option, Some, None, is_some, Ok, refl, sym, ap, subst, ◌∙◌, append_assoc}
+use Rattle.std.proofs.Common.{◌≡◌, ◌↔◌, ℕ, Bool, true, false, ◌||◌, ◌⊎◌, inl, inr, ⊎_elim, List, [], ◌∷◌, ◌++◌, Option, Some, None, is_some, refl, sym, ap, subst, ◌∙◌, append_assoc}
 use Rattle.std.proofs.lemmas.List.{append-nil}
 use Rattle.std.specs.List.{AllByRecursion}
 use Rattle.cob_tree.specs.declared.token.Num.{Num}
@@ -21,15 +21,12 @@ use Rattle.cob_tree.specs.PrintFront.{print_if, print_name_and_stop, print_compu
 use Rattle.cob_tree.specs.Shaped.{IfThere, ShapedSelect, ShapedEntry, ShapedFd, ShapedIo, ShapedEnv, ShapedData, ShapedFront}
 use Rattle.reading.specs.Printing.{Matches}
 use Rattle.reading.proofs.Results.{ok_is}
-use Rattle.reading.proofs.Texts.{Always, takes_nothing, matches_join}
+use Rattle.reading.proofs.Texts.{Always, matches_join}
 use Rattle.reading.proofs.Tail.{onward}
 use Rattle.cob_parse_data.specs.Tokens.{divisions, is, the, number_symbol}
-use Rattle.cob_parse_data.specs.Reading.{front_at}
 use Rattle.cob_parse_data.specs.Takes.{takes_perhaps, takes_no_more, takes_config, takes_io, takes_env, takes_entries, takes_fds, takes_data, takes_front}
 use Rattle.cob_parse_data.specs.Outcome.{IsFront, Begins}
-use Rattle.cob_parse_data.proofs.ClassLaws.{is_the, numbers}
-use Rattle.cob_parse_data.proofs.WordLaws.{two_syntax, headed_syntax, named_syntax}
-use Rattle.cob_parse_data.proofs.FrontLaw.{front_syntax}
+use Rattle.cob_parse_data.proofs.ClassLaws.{is_the}
 use Rattle.cob_parse_data.proofs.Outcomes.{tokens_of, to_grammar, from_grammar, read_so}
 
 or_cases : (a b : Bool) → (a || b) ≡ true → (a ≡ true) ⊎ (b ≡ true)

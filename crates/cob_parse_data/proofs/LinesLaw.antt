@@ -8,14 +8,11 @@ use Rattle.cob_tree.specs.declared.operand.Const.{Const}
 use Rattle.cob_tree.specs.declared.front.Front.{Front}
 use Rattle.cob_tree.specs.declared.front.Env.{Env}
 use Rattle.cob_tree.specs.declared.front.Config.{Config}
-use Rattle.cob_tree.specs.declared.front.Io.{Io}
-use Rattle.cob_tree.specs.declared.front.Select.{Select}
 use Rattle.cob_tree.specs.declared.front.External.{External}
 use Rattle.cob_tree.specs.declared.front.External.TheVariants as external
 use Rattle.cob_tree.specs.declared.front.SelClause.{SelClause}
 use Rattle.cob_tree.specs.declared.front.SelClause.TheVariants as sel
 use Rattle.cob_tree.specs.declared.front.Data.{Data}
-use Rattle.cob_tree.specs.declared.front.Fd.{Fd}
 use Rattle.cob_tree.specs.declared.front.FdClause.{FdClause}
 use Rattle.cob_tree.specs.declared.front.FdClause.TheVariants as fd_clause
 use Rattle.cob_tree.specs.declared.front.Entry.{Entry}
@@ -24,9 +21,9 @@ use Rattle.cob_tree.specs.declared.front.Described.TheVariants as described
 use Rattle.cob_tree.specs.declared.front.Clause.{Clause}
 use Rattle.cob_tree.specs.declared.front.Clause.TheVariants as clause
 use Rattle.cob_tree.specs.declared.front.Range.{Range}
-use Rattle.cob_tree.specs.Symbols.{Symbol, Key, Name, Number, Stop, Sign}
+use Rattle.cob_tree.specs.Symbols.{Symbol, Key, Name, Number, Sign}
 use Rattle.cob_tree.specs.Items.{Item, IsLine, item, item_on, stop, each, behind}
-use Rattle.cob_tree.specs.PrintExpr.{const_symbol, print_const}
+use Rattle.cob_tree.specs.PrintExpr.{print_const}
 use Rattle.cob_tree.specs.PrintFront.{heading, print_if, print_name, print_name_and_stop, print_computer, print_config, print_external, print_sel_clause, print_select, print_io, print_env, print_fd_clause, print_range, print_clause, print_described, print_entry, print_fd, print_files, print_storage, print_data, print_front}
 use Rattle.cob_tree.specs.Shaped.{IfThere, ShapedSelect, ShapedEntry, ShapedFd, ShapedIo, ShapedEnv, ShapedData, ShapedFront}
 use Rattle.reading.specs.Printing.{Matches}

@@ -1,5 +1,5 @@
 -- Lists read one item after the other, as a loop does.
-use Rattle.std.proofs.Common.{◌≡◌, ℕ, ◌<◌, ◌≤◌, Bool, true, false, List, [], ◌∷◌, ◌++◌, length, Option, Some, None, is_some, Result, Ok, Err, refl, sym, ap, subst, ◌∙◌, map, arith}
+use Rattle.std.proofs.Common.{◌≡◌, ◌<◌, ◌≤◌, true, false, List, [], ◌∷◌, ◌++◌, length, Option, Result, Ok, Err, refl, sym, ap, subst, ◌∙◌, arith}
 use Rattle.std.proofs.lemmas.List.{length-map}
 use Rattle.std.specs.Result.{IsErrAnd}
 use Rattle.cob_tree.specs.Symbols.{Symbol, Sign}
@@ -8,9 +8,8 @@ use Rattle.cob_parse_expr.specs.declared.halt.Halt.{Halt}
 use Rattle.cob_parse_expr.specs.declared.halt.Halt.TheVariants as halt
 use Rattle.cob_parse_expr.specs.Steps.{signs, Fails, Gives}
 use Rattle.reading.specs.Readers.{Fault, Stop, Deep, Reader, ◌>>=◌, seen, many, no_step}
-use Rattle.reading.specs.Printing.{begins}
 use Rattle.reading.proofs.Turns.{Turns, turns_start, turns_on, turns_end, turns_fail}
-use Rattle.cob_parse_data.specs.Tokens.{divisions, here, is}
+use Rattle.cob_parse_data.specs.Tokens.{here}
 
 -- at the exit of a `?`
 pub gives_wrong : {X Y : Type 0} (view : X → Y) (r : Result X Halt) (read : Result Y Fault) (h : Halt) → IsErrAnd r (λ y. y ≡ h) → Fails h read → Gives view r read

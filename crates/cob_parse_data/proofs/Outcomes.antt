@@ -1,14 +1,13 @@
 -- From what is read to what is promised.
-use Rattle.std.proofs.Common.{◌≡◌, ℕ, zero, suc, ◌<◌, ◌≤◌, ◌⊎◌, inl, inr, ⊎_elim, List, [], ◌∷◌, ◌++◌, length, length-append, Option, Some, None, Ok, Err, refl, sym, ap, subst, ◌∙◌, append_assoc, arith}
-use Rattle.std.proofs.lemmas.List.{append-nil}
+use Rattle.std.proofs.Common.{◌≡◌, ℕ, suc, ◌<◌, ⊎_elim, List, [], ◌∷◌, ◌++◌, length, length-append, Option, Some, None, Ok, Err, refl, sym, ap, subst, ◌∙◌, append_assoc, arith}
 use Rattle.std.proofs.lemmas.Bool.{cases_lt}
 use Rattle.cob_tree.specs.declared.front.Front.{Front}
-use Rattle.cob_tree.specs.Symbols.{Symbol, Sign}
-use Rattle.cob_tree.specs.Items.{Item, Fits, IsLine}
+use Rattle.cob_tree.specs.Symbols.{Sign}
+use Rattle.cob_tree.specs.Items.{Item, IsLine}
 use Rattle.cob_tree.specs.PrintFront.{print_front}
 use Rattle.cob_tree.specs.Shaped.{ShapedFront}
-use Rattle.reading.specs.Readers.{Fault, Stop, Deep}
-use Rattle.reading.specs.Printing.{Matches, Below, Opens, Next}
+use Rattle.reading.specs.Readers.{Stop, Deep}
+use Rattle.reading.specs.Printing.{Matches, Below, Opens}
 use Rattle.reading.specs.Law.{Law, Fails}
 use Rattle.reading.proofs.Results.{ok_is, ok_fails, cut_at}
 use Rattle.reading.proofs.Texts.{matches_join, below_right}
@@ -17,7 +16,6 @@ use Rattle.reading.proofs.Exact.{enough}
 use Rattle.reading.proofs.Consequences.{one_tree, longest, none_goes_on}
 use Rattle.cob_parse_expr.specs.Alphabet.{grammar}
 use Rattle.cob_parse_data.specs.Tokens.{divisions}
-use Rattle.cob_parse_data.specs.Takes.{takes_front}
 use Rattle.cob_parse_data.specs.Reading.{front_at}
 use Rattle.cob_parse_data.specs.Outcome.{IsFront, Ends, Begins, IsRead, Stops}
 use Rattle.cob_parse_data.proofs.FrontLaw.{front_syntax, front_law}

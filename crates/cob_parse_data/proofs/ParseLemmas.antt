@@ -1,5 +1,5 @@
 -- From what is read of lexemes to what is promised of tokens.
-use Rattle.std.proofs.Common.{◌≡◌, ℕ, ◌+◌, ◌-◌, ◌≤◌, List, [], ◌∷◌, ◌++◌, length, length-append, length-drop, drop, map, Ok, Err, refl, sym, ap, subst, ◌∙◌, arith}
+use Rattle.std.proofs.Common.{◌≡◌, ℕ, ◌+◌, ◌-◌, ◌≤◌, List, ◌++◌, length, length-append, length-drop, drop, map, Ok, Err, sym, ap, subst, ◌∙◌, arith}
 use Rattle.std.proofs.lemmas.List.{drop-map, drop-drop, length-map}
 use Rattle.std.proofs.Math.Seq.{drop-append_seam}
 use Rattle.cob_tree.specs.declared.token.Token.{Token}
@@ -10,7 +10,7 @@ use Rattle.cob_parse_expr.specs.Lexemes.{plain_lexeme}
 use Rattle.cob_parse_expr.specs.declared.halt.Halt.{Halt}
 use Rattle.cob_parse_expr.specs.declared.halt.Halt.TheVariants as halt
 use Rattle.cob_parse_expr.specs.Steps.{signs, Fails}
-use Rattle.reading.specs.Readers.{Stop, Deep}
+use Rattle.reading.specs.Readers.{Stop}
 use Rattle.reading.proofs.Consequences.{within}
 use Rattle.cob_parse_data.specs.Reading.{front_at}
 use Rattle.cob_parse_data.specs.Outcome.{IsRead, IsWrong, from, line_at}

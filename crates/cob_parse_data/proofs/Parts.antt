@@ -2,7 +2,7 @@
 use Rattle.std.proofs.Common.{◌≡◌, ℕ, Bool, true, false, List, [], ◌∷◌, ◌++◌, Option, Some, None, is_some, Result, Ok, Err, refl, sym, ap, ◌∙◌}
 use Rattle.std.specs.List.{AllByRecursion}
 use Rattle.cob_tree.specs.Items.{Item, each}
-use Rattle.reading.specs.Readers.{Fault, Reader, ◌>>=◌, seq, seen, optional, here_if, many, plus}
+use Rattle.reading.specs.Readers.{Fault, Reader, ◌>>=◌, seq, optional, here_if, many, plus}
 use Rattle.reading.specs.Printing.{Alphabet, peek, on_mark, begins, Next}
 use Rattle.reading.specs.Law.{Syntax, Law}
 use Rattle.reading.proofs.Texts.{or_false}

@@ -1,24 +1,24 @@
 -- The laws of headings, of what stands behind words, and of two parts that may be left out.
-use Rattle.std.proofs.Common.{◌≡◌, ℕ, ◌<◌, Bool, true, false, List, [], ◌∷◌, ◌++◌, Option, Some, None, is_some, refl, sym, ap, subst, ◌∙◌}
+use Rattle.std.proofs.Common.{◌≡◌, ℕ, ◌<◌, Bool, true, false, List, [], ◌∷◌, ◌++◌, Option, Some, None, is_some, refl, ap, ◌∙◌}
 use Rattle.cob_tree.specs.declared.keyword.Keyword.{Keyword}
 use Rattle.cob_tree.specs.Symbols.{Symbol, Key, Name, Stop, Sign}
-use Rattle.cob_tree.specs.Items.{Item, item, key}
+use Rattle.cob_tree.specs.Items.{Item, key}
 use Rattle.cob_tree.specs.PrintFront as print
 use Rattle.cob_tree.specs.PrintFront.{print_if, print_name_and_stop}
 use Rattle.cob_tree.specs.Shaped.{IfThere}
-use Rattle.reading.specs.Readers.{Reader, seq, seen, optional, here_if}
+use Rattle.reading.specs.Readers.{Reader, seq}
 use Rattle.reading.specs.Law.{Syntax, Law}
-use Rattle.reading.proofs.Texts.{Always, takes_nothing, cases}
+use Rattle.reading.proofs.Texts.{Always, takes_nothing}
 use Rattle.reading.proofs.Seen.{View, seen_law}
 use Rattle.reading.proofs.Dependent.{seq_syntax, seq_law}
 use Rattle.reading.proofs.Starts.{Begins}
 use Rattle.reading.proofs.Tail.{onward, Tail}
 use Rattle.reading.proofs.Optional.{optional_syntax}
 use Rattle.cob_parse_data.specs.Tokens.{divisions, is, the}
-use Rattle.cob_parse_data.specs.Reading.{back, front, heading, headed, led, perhaps, named, name, stop}
+use Rattle.cob_parse_data.specs.Reading.{back, front, heading, headed, led, perhaps, named}
 use Rattle.cob_parse_data.specs.Takes.{takes_perhaps}
 use Rattle.cob_parse_data.proofs.Parts.{onward_false, law_as, pair_syntax, pair_law, optional_part}
-use Rattle.cob_parse_data.proofs.ClassLaws.{one_token, begins_with, starts_with, one_syntax, one_law, one_word, free_of, stops, names}
+use Rattle.cob_parse_data.proofs.ClassLaws.{begins_with, starts_with, one_syntax, one_law, one_word, free_of, stops, names}
 
 abbrev pub beside : {A : Type 0} → A → Unit {0} × A
 beside y = (tt, y)

@@ -8,7 +8,6 @@ use Rattle.cob_tree.specs.declared.front.Config.{Config}
 use Rattle.cob_tree.specs.declared.front.Io.{Io}
 use Rattle.cob_tree.specs.declared.front.Data.{Data}
 use Rattle.cob_tree.specs.declared.front.Fd.{Fd}
-use Rattle.cob_tree.specs.declared.front.Entry.{Entry}
 use Rattle.cob_tree.specs.Symbols.{Symbol}
 use Rattle.reading.proofs.Tail.{onward}
 use Rattle.cob_parse_data.specs.Tokens.{is, the, number_symbol}

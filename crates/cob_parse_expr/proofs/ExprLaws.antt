@@ -324,7 +324,7 @@ some_expr = MkExpr (MkTerm (MkFact None (operand (opnd.Const const.Zero))) no_fa
 
 pub group_law : (room d top : ℕ) → top ≡ suc (d + room) → Law grammar (group_at room) (group_syntax d) top
 unfolding group_at
-group_law zero d top e = full_law (record { none = λ x good below. absurd (omega (arith, e, below.0)); some = (some_expr, tt); at_end = refl; deep = deep })
+group_law zero d top e = full_law (record { first = λ x good. (open_mark (suc d), print_expr (suc d) x ++ close_mark (suc d) ∷ [], refl, omega (arith, e)); some = (some_expr, tt); at_end = refl; deep = deep })
   where
     deep : (t : Sign) (ts : List Sign) → stands open_of (t ∷ ts) ≡ true → (x : Expr) × (i : Item) × (more : List Item) × Always x × (print_primary d (group x) ≡ i ∷ more) × Fits i t × (i.depth ≡ top)
     deep t ts here = go (open_of t) refl here

@@ -14,8 +14,8 @@ module _ {T I M A B : Type 0} {G : Alphabet T I M} {test : List T → Bool} {R :
   tells_by_one first second = record {
     first = λ x text rest good spells next. first x text rest good spells;
     second = λ y text rest good spells next. second y text rest good spells;
-    decided = λ q r z t e stop. moved q r z t true e;
-    excluded = λ q r z t e stop. moved q r z t false e;
+    decided = λ q r z t d e stop at. moved q r z t true e;
+    excluded = λ q r z t d e stop at. moved q r z t false e;
   }
     where
       moved : (q r z : List T) (t : T) (c : Bool) → test (q ++ t ∷ r) ≡ c → test (q ++ t ∷ z) ≡ c

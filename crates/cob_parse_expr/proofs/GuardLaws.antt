@@ -25,9 +25,9 @@ module _ {T I M A : Type 0} {G : Alphabet T I M} {r : Reader T A} {s : Syntax I 
   starts : Starts G (guarded may set) r (when (may ≡ true) s)
   starts = record {
     starts = λ x text rest good spells. tests may (text ++ rest) ∙ rw (good.1, St.starts x text rest good.0 spells) refl;
-    decided = λ c r' z t e stop.
+    decided = λ c r' z t d e stop at.
         let w = both may (begins G set (c ++ t ∷ r')) (sym (tests may (c ++ t ∷ r')) ∙ e) in
-        tests may (c ++ t ∷ z) ∙ rw (w.0, St.decided c r' z t w.1 stop) refl;
+        tests may (c ++ t ∷ z) ∙ rw (w.0, St.decided c r' z t d w.1 stop at) refl;
   }
 
   pub guarded_tail : Tail G (guarded may set) is_given (many (begins G (guarded may set)) r) (many_syntax (guarded may set) (when (may ≡ true) s) m) top

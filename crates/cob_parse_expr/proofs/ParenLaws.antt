@@ -22,7 +22,8 @@ use Rattle.reading.proofs.Texts.{Always}
 use Rattle.reading.proofs.Dependent.{seq_syntax}
 use Rattle.reading.proofs.Lead.{lead_syntax, branch_law}
 use Rattle.reading.proofs.Seen.{seen_law}
-use Rattle.reading.proofs.Must.{Grown, Ends, closed_law}
+use Rattle.reading.proofs.Grows.{GoesOn}
+use Rattle.reading.proofs.Must.{Ends, closed_law}
 use Rattle.reading.proofs.Full.{full_law}
 use Rattle.cob_parse_expr.specs.Classes.{open_of, close_of, word_symbol, not_key, not_of}
 use Rattle.cob_parse_expr.specs.Reading.{group_at}
@@ -188,7 +189,7 @@ both_true false b e = absurd cc
 cond_ends : (d top : ℕ) → d < top → Ends grammar (cond_syntax d) top cond_goes (stands close_of)
 cond_ends d top low = record { ends = λ c ts good here. close_free (takes_cond c) ts here; grows = grows; steady = steady }
   where
-    grows : (c : Cond) (t : Sign) → ShapedCond c → Below grammar top (print_cond d c) → cond_goes c t ≡ true → Grown grammar (cond_syntax d) top c t
+    grows : (c : Cond) (t : Sign) → ShapedCond c → Below grammar top (print_cond d c) → cond_goes c t ≡ true → GoesOn grammar (cond_syntax d) top (print_cond d c) t
     grows c t good below goes =
         let w = both_true (is_some (not_of t)) (takes_cond c NotRelates) goes in
         record { tree = grown_cond c; good = cond_shaped c good; item = items.key d key.Not; more = behind d; text = cond_text d c w.1; fits = record { symbol = (is_not t w.0).symbol; line = tt }; low = low }
@@ -206,7 +207,7 @@ some_good = ((tt, tt), tt)
 
 pub paren_law : (room d top : ℕ) → top ≡ suc (d + room) → Law grammar (paren_at room) (paren_syntax d) top
 unfolding paren_at
-paren_law zero d top e = full_law (record { none = λ x good below. absurd (omega (arith, e, below.0)); some = (alone_cond some_expr, some_good); at_end = refl; deep = deep })
+paren_law zero d top e = full_law (record { first = λ x good. (open_mark (suc d), print_cond (suc d) x ++ close_mark (suc d) ∷ [], refl, omega (arith, e)); some = (alone_cond some_expr, some_good); at_end = refl; deep = deep })
   where
     deep : (t : Sign) (ts : List Sign) → stands open_of (t ∷ ts) ≡ true → (x : Cond) × (i : Item) × (more : List Item) × ShapedCond x × (print_simple d (parenthesised x) ≡ i ∷ more) × Fits i t × (i.depth ≡ top)
     deep t ts here = go (open_of t) refl here

@@ -79,5 +79,5 @@ module _ {A : Type 0} (s : Syntax Item Cue A) (R : ℕ → Reader Sign A) (depth
 
   pub parse_within : (h : Halt) (n : ℕ) → h ≡ halt.Stop n → Fails h (R (64 - depth) (signs lexemes)) → n ≤ length tokens
   parse_within h n is f =
-      let le = within law (signs lexemes) n (subst (λ (x : Halt). Fails x (R (64 - depth) (signs lexemes))) is f) in
+      let le = within law (signs lexemes) (Stop n) (subst (λ (x : Halt). Fails x (R (64 - depth) (signs lexemes))) is f) in
       omega (arith, le, ap length same, length-map (drop old tokens) seen, length-drop old tokens)

@@ -15,7 +15,7 @@ use Rattle.cob_tree.specs.Cues as cue
 use Rattle.cob_tree.specs.Expr.{Expr}
 use Rattle.cob_tree.specs.PrintExpr.{print_expr, print_not, print_relation, sign_word}
 use Rattle.cob_tree.specs.Takes.{takes_expr, takes_test}
-use Rattle.reading.specs.Readers.{Fault, Stop, Reader, lead_as, lead, branch, choose_on, choose, stands}
+use Rattle.reading.specs.Readers.{left_of, Fault, Reader, lead_as, lead, branch, choose_on, choose, stands}
 use Rattle.reading.specs.Printing.{Front, Here, Ahead, Matches, peek_on, on_mark, begins}
 use Rattle.reading.specs.Law.{Syntax, Law}
 use Rattle.reading.proofs.Results.{fault_before, done, faulty, ok_fails}
@@ -260,39 +260,39 @@ module _ (d top : ℕ) (low : d < top) (inner : Reader Sign Expr) (LG : Law gram
 
   -- ---- where what is asked begins, reading doesn't stop there
 
-  asked_within : (t : Sign) (ts : List Sign) (n : ℕ) → bare_symbol t.symbol ≡ true → asked_with inner (t ∷ ts) ≡ Err (Stop n) → n ≤ length ts
-  asked_within t ts n bare e = go (relation_of t) (numeric_of t) (sign_test_of t) refl refl refl bare (fault_before (choose (stands relation_of) (compared_with inner) (choose (stands numeric_of) (lead numeric_of) (lead sign_test_of)) (t ∷ ts)) (λ x. (make_asked x.0, x.1)) (Stop n) e)
+  asked_within : (t : Sign) (ts : List Sign) (n : Fault) → bare_symbol t.symbol ≡ true → asked_with inner (t ∷ ts) ≡ Err n → left_of n ≤ length ts
+  asked_within t ts n bare e = go (relation_of t) (numeric_of t) (sign_test_of t) refl refl refl bare (fault_before (choose (stands relation_of) (compared_with inner) (choose (stands numeric_of) (lead numeric_of) (lead sign_test_of)) (t ∷ ts)) (λ x. (make_asked x.0, x.1)) n e)
     where
       go : (a : Option Rel) (b : Option (Unit {0})) (c : Option SignTest) → relation_of t ≡ a → numeric_of t ≡ b → sign_test_of t ≡ c → (is_some a || (is_some b || is_some c)) ≡ true
-          → choose_on (is_some (relation_of t)) (compared_with inner) (choose (stands numeric_of) (lead numeric_of) (lead sign_test_of)) (t ∷ ts) ≡ Err (Stop n) → n ≤ length ts
+          → choose_on (is_some (relation_of t)) (compared_with inner) (choose (stands numeric_of) (lead numeric_of) (lead sign_test_of)) (t ∷ ts) ≡ Err n → left_of n ≤ length ts
       go (Some r) b c ea eb ec some stop =
-          let at : choose_on true (compared_with inner) (choose (stands numeric_of) (lead numeric_of) (lead sign_test_of)) (t ∷ ts) ≡ Err (Stop n) = sym (ap (λ (o : Option Rel). choose_on (is_some o) (compared_with inner) (choose (stands numeric_of) (lead numeric_of) (lead sign_test_of)) (t ∷ ts)) ea) ∙ stop in
-          let err = fault_before (compared_with inner (t ∷ ts)) (λ x. (left_compared x.0, x.1)) (Stop n) at in
+          let at : choose_on true (compared_with inner) (choose (stands numeric_of) (lead numeric_of) (lead sign_test_of)) (t ∷ ts) ≡ Err n = sym (ap (λ (o : Option Rel). choose_on (is_some o) (compared_with inner) (choose (stands numeric_of) (lead numeric_of) (lead sign_test_of)) (t ∷ ts)) ea) ∙ stop in
+          let err = fault_before (compared_with inner (t ∷ ts)) (λ x. (left_compared x.0, x.1)) n at in
           (enters {G = grammar} {b = expr_syntax d} {top = top} relation_of (λ r. expr_with inner) t ts r n (expr_law d top low inner LG) ea err).1
-      go None (Some x) c ea eb ec some stop = let read : done (right_words (inl x), ts) ≡ faulty (Stop n) = sym (rw (ea, eb, eb) refl) ∙ stop in ok_fails (right_words (inl x), ts) (Stop n) read
-      go None None (Some x) ea eb ec some stop = let read : done (right_words (inr x), ts) ≡ faulty (Stop n) = sym (rw (ea, eb, ec) refl) ∙ stop in ok_fails (right_words (inr x), ts) (Stop n) read
+      go None (Some x) c ea eb ec some stop = let read : done (right_words (inl x), ts) ≡ faulty n = sym (rw (ea, eb, eb) refl) ∙ stop in ok_fails (right_words (inl x), ts) n read
+      go None None (Some x) ea eb ec some stop = let read : done (right_words (inr x), ts) ≡ faulty n = sym (rw (ea, eb, ec) refl) ∙ stop in ok_fails (right_words (inr x), ts) n read
       go None None None ea eb ec some stop = absurd cc
 
-  test_within : (t : Sign) (ts : List Sign) (n : ℕ) → tests (t ∷ ts) ≡ true → test_with inner (t ∷ ts) ≡ Err (Stop n) → n ≤ length ts
-  test_within t ts n begun e = go (not_of t) refl begun (fault_before (choose (stands not_of) (branch not_of (λ x. asked_with inner)) (asked_with inner) (t ∷ ts)) (λ x. (make_test x.0, x.1)) (Stop n) e)
+  test_within : (t : Sign) (ts : List Sign) (n : Fault) → tests (t ∷ ts) ≡ true → test_with inner (t ∷ ts) ≡ Err n → left_of n ≤ length ts
+  test_within t ts n begun e = go (not_of t) refl begun (fault_before (choose (stands not_of) (branch not_of (λ x. asked_with inner)) (asked_with inner) (t ∷ ts)) (λ x. (make_test x.0, x.1)) n e)
     where
-      go : (a : Option (Unit {0})) → not_of t ≡ a → tests_on (is_some a) t ts ≡ true → choose_on (is_some (not_of t)) (branch not_of (λ x. asked_with inner)) (asked_with inner) (t ∷ ts) ≡ Err (Stop n) → n ≤ length ts
+      go : (a : Option (Unit {0})) → not_of t ≡ a → tests_on (is_some a) t ts ≡ true → choose_on (is_some (not_of t)) (branch not_of (λ x. asked_with inner)) (asked_with inner) (t ∷ ts) ≡ Err n → left_of n ≤ length ts
       go (Some x) ea some stop =
-          let at : choose_on true (branch not_of (λ x. asked_with inner)) (asked_with inner) (t ∷ ts) ≡ Err (Stop n) = sym (ap (λ (o : Option (Unit {0})). choose_on (is_some o) (branch not_of (λ x. asked_with inner)) (asked_with inner) (t ∷ ts)) ea) ∙ stop in
-          let err = fault_before (branch not_of (λ x. asked_with inner) (t ∷ ts)) (λ x. (left_asked x.0, x.1)) (Stop n) at in
+          let at : choose_on true (branch not_of (λ x. asked_with inner)) (asked_with inner) (t ∷ ts) ≡ Err n = sym (ap (λ (o : Option (Unit {0})). choose_on (is_some o) (branch not_of (λ x. asked_with inner)) (asked_with inner) (t ∷ ts)) ea) ∙ stop in
+          let err = fault_before (branch not_of (λ x. asked_with inner) (t ∷ ts)) (λ x. (left_asked x.0, x.1)) n at in
           (enters {G = grammar} {b = asked_syntax d} {top = top} not_of (λ x. asked_with inner) t ts x n asked_law ea err).1
       go None ea some stop =
-          let at : choose_on false (branch not_of (λ x. asked_with inner)) (asked_with inner) (t ∷ ts) ≡ Err (Stop n) = sym (ap (λ (o : Option (Unit {0})). choose_on (is_some o) (branch not_of (λ x. asked_with inner)) (asked_with inner) (t ∷ ts)) ea) ∙ stop in
-          asked_within t ts n some (fault_before (asked_with inner (t ∷ ts)) (λ x. (right_asked x.0, x.1)) (Stop n) at)
+          let at : choose_on false (branch not_of (λ x. asked_with inner)) (asked_with inner) (t ∷ ts) ≡ Err n = sym (ap (λ (o : Option (Unit {0})). choose_on (is_some o) (branch not_of (λ x. asked_with inner)) (asked_with inner) (t ∷ ts)) ea) ∙ stop in
+          asked_within t ts n some (fault_before (asked_with inner (t ∷ ts)) (λ x. (right_asked x.0, x.1)) n at)
 
   -- nor behind NOT
-  second_within : (u t : Sign) (ts : List Sign) (n : ℕ) → tests (u ∷ t ∷ ts) ≡ true → is_some (not_of u) ≡ true → test_with inner (u ∷ t ∷ ts) ≡ Err (Stop n) → n ≤ length ts
-  second_within u t ts n begun not_ e = go (not_of u) refl not_ begun (fault_before (choose (stands not_of) (branch not_of (λ x. asked_with inner)) (asked_with inner) (u ∷ t ∷ ts)) (λ x. (make_test x.0, x.1)) (Stop n) e)
+  second_within : (u t : Sign) (ts : List Sign) (n : Fault) → tests (u ∷ t ∷ ts) ≡ true → is_some (not_of u) ≡ true → test_with inner (u ∷ t ∷ ts) ≡ Err n → left_of n ≤ length ts
+  second_within u t ts n begun not_ e = go (not_of u) refl not_ begun (fault_before (choose (stands not_of) (branch not_of (λ x. asked_with inner)) (asked_with inner) (u ∷ t ∷ ts)) (λ x. (make_test x.0, x.1)) n e)
     where
-      go : (a : Option (Unit {0})) → not_of u ≡ a → is_some a ≡ true → tests_on (is_some a) u (t ∷ ts) ≡ true → choose_on (is_some (not_of u)) (branch not_of (λ x. asked_with inner)) (asked_with inner) (u ∷ t ∷ ts) ≡ Err (Stop n) → n ≤ length ts
+      go : (a : Option (Unit {0})) → not_of u ≡ a → is_some a ≡ true → tests_on (is_some a) u (t ∷ ts) ≡ true → choose_on (is_some (not_of u)) (branch not_of (λ x. asked_with inner)) (asked_with inner) (u ∷ t ∷ ts) ≡ Err n → left_of n ≤ length ts
       go (Some x) ea there some stop =
-          let at : choose_on true (branch not_of (λ x. asked_with inner)) (asked_with inner) (u ∷ t ∷ ts) ≡ Err (Stop n) = sym (ap (λ (o : Option (Unit {0})). choose_on (is_some o) (branch not_of (λ x. asked_with inner)) (asked_with inner) (u ∷ t ∷ ts)) ea) ∙ stop in
-          let err = fault_before (branch not_of (λ x. asked_with inner) (u ∷ t ∷ ts)) (λ x. (left_asked x.0, x.1)) (Stop n) at in
+          let at : choose_on true (branch not_of (λ x. asked_with inner)) (asked_with inner) (u ∷ t ∷ ts) ≡ Err n = sym (ap (λ (o : Option (Unit {0})). choose_on (is_some o) (branch not_of (λ x. asked_with inner)) (asked_with inner) (u ∷ t ∷ ts)) ea) ∙ stop in
+          let err = fault_before (branch not_of (λ x. asked_with inner) (u ∷ t ∷ ts)) (λ x. (left_asked x.0, x.1)) n at in
           asked_within t ts n some (enters {G = grammar} {b = asked_syntax d} {top = top} not_of (λ x. asked_with inner) u (t ∷ ts) x n asked_law ea err).0
       go None ea there some stop = absurd cc
 
@@ -327,11 +327,11 @@ module _ (d top : ℕ) (low : d < top) (inner : Reader Sign Expr) (LG : Law gram
       begins_so false a [] rest spells = absurd (asked_some d a spells)
       begins_so false a (t ∷ text) rest spells = ap (λ (c : Bool). tests_on c t (text ++ rest)) (ap (λ (y : Symbol). is_some (word_symbol not_key y)) (asked_first d a t text spells) ∙ no_not a) ∙ bare_text a t text spells
 
-      decided_one : (u t : Sign) (r' z : List Sign) (b : Bool) → is_some (not_of u) ≡ b → tests (u ∷ t ∷ r') ≡ true → test_with inner (u ∷ t ∷ r') ≡ Err (Stop (suc (length r'))) → tests (u ∷ t ∷ z) ≡ true
-      decided_one u t r' z true eb begun stop = absurd (omega (arith, second_within u t r' (suc (length r')) begun eb stop))
-      decided_one u t r' z false eb begun stop = first_tests false u (t ∷ r') (t ∷ z) eb refl (sym (ap (λ (c : Bool). tests_on c u (t ∷ r')) eb) ∙ begun)
+      decided_one : (u t : Sign) (r' z : List Sign) (f : Fault) (b : Bool) → is_some (not_of u) ≡ b → tests (u ∷ t ∷ r') ≡ true → test_with inner (u ∷ t ∷ r') ≡ Err f → left_of f ≡ suc (length r') → tests (u ∷ t ∷ z) ≡ true
+      decided_one u t r' z f true eb begun stop at = absurd (omega (arith, second_within u t r' f begun eb stop, at))
+      decided_one u t r' z f false eb begun stop at = first_tests false u (t ∷ r') (t ∷ z) eb refl (sym (ap (λ (c : Bool). tests_on c u (t ∷ r')) eb) ∙ begun)
 
-      decided : (c r' z : List Sign) (t : Sign) → begins grammar takes_test (c ++ t ∷ r') ≡ true → test_with inner (c ++ t ∷ r') ≡ Err (Stop (suc (length r'))) → begins grammar takes_test (c ++ t ∷ z) ≡ true
-      decided [] r' z t b e = absurd (omega (arith, test_within t r' (suc (length r')) (sym (tests_told (t ∷ r')) ∙ b) e))
-      decided (u ∷ []) r' z t b e = tests_told (u ∷ t ∷ z) ∙ decided_one u t r' z (is_some (not_of u)) refl (sym (tests_told (u ∷ t ∷ r')) ∙ b) e
-      decided (u ∷ v ∷ c) r' z t b e = ap (on_mark grammar takes_test) (peek_two grammar u v (c ++ t ∷ z) (c ++ t ∷ r')) ∙ b
+      decided : (c r' z : List Sign) (t : Sign) (f : Fault) → begins grammar takes_test (c ++ t ∷ r') ≡ true → test_with inner (c ++ t ∷ r') ≡ Err f → left_of f ≡ suc (length r') → begins grammar takes_test (c ++ t ∷ z) ≡ true
+      decided [] r' z t f b e at = absurd (omega (arith, test_within t r' f (sym (tests_told (t ∷ r')) ∙ b) e, at))
+      decided (u ∷ []) r' z t f b e at = tests_told (u ∷ t ∷ z) ∙ decided_one u t r' z f (is_some (not_of u)) refl (sym (tests_told (u ∷ t ∷ r')) ∙ b) e at
+      decided (u ∷ v ∷ c) r' z t f b e at = ap (on_mark grammar takes_test) (peek_two grammar u v (c ++ t ∷ z) (c ++ t ∷ r')) ∙ b

@@ -1,4 +1,4 @@
-use Rattle.std.proofs.Common.{◌≡◌, ℕ, ◌<◌, ◌≤◌, List, [], ◌∷◌, ◌++◌, length, map, sym, subst, ◌∙◌, arith}
+use Rattle.std.proofs.Common.{List, map, sym, subst, arith}
 use Rattle.cob_tree.specs.declared.front.Clause.{Clause}
 use Rattle.cob_parse_expr.specs.Steps.{signs, Leads, Lacks}
 use Rattle.reading.specs.Readers.{fresh}

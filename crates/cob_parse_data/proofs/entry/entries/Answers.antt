@@ -1,4 +1,4 @@
-use Rattle.std.proofs.Common.{◌≡◌, ℕ, ◌<◌, ◌≤◌, List, [], ◌∷◌, ◌++◌, length, sym, subst, ◌∙◌, arith}
+use Rattle.std.proofs.Common.{List, sym, subst, ◌∙◌, arith}
 use Rattle.cob_tree.specs.declared.front.Entry.{Entry}
 use Rattle.cob_parse_data.specs.Tokens.{number_symbol}
 use Rattle.cob_parse_data.specs.Reading.{entry}

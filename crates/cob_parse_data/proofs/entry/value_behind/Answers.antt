@@ -1,4 +1,4 @@
-use Rattle.std.proofs.Common.{◌≡◌, ℕ, List, Ok, sym, ap, ◌∙◌}
+use Rattle.std.proofs.Common.{List, Ok, sym, ap, ◌∙◌}
 use Rattle.cob_tree.specs.declared.front.Clause.TheVariants as made
 use Rattle.cob_tree.specs.declared.front.Range.{Range}
 use Rattle.cob_parse_expr.specs.Steps.{signs}

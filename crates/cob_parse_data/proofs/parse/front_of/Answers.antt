@@ -1,4 +1,3 @@
-use Rattle.std.proofs.Common.{◌≡◌, ◌-◌, ℕ, arith, sym, refl}
 use Rattle.cob_parse_data.proofs.ParseLemmas.{parse_read, parse_wrong, parse_deep, parse_within}
 use Rattle.cob_parse_data.proofs.parse.front_of.Goals as goal
 
