@@ -2,9 +2,8 @@ ghost use Rattle.std.specs.Prelude.{◌≡◌, ◌≤◌, ℕ, length, IfOk, OnE
 ghost use Rattle.cob_parse_expr.specs.declared.end.ParseEnd.TheVariants as end;
 ghost use Rattle.cob_parse_data.specs.Outcome.{from, line_at, IsRead, IsWrong};
 
-use cob_parse_expr::ParseEnd;
 use crate::front::front_at;
-use cob_parse_expr::{Halt, lexemes};
+use cob_parse_expr::{Halt, ParseEnd, lexemes};
 use cob_tree::{Front, Token};
 use std::alloc::Global;
 

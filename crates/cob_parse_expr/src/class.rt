@@ -5,8 +5,8 @@ ghost use Rattle.reading.specs.Readers.{stands};
 ghost use Rattle.cob_parse_expr.specs.Classes.{name_symbol, name_of, const_key, const_as, const_of, mark_symbol, open_mark, open_of, close_mark, close_of, sign_mark, sign_of, scaling_mark, scaling_of, word_symbol, of_key, of_of, not_key, not_of, and_key, and_of, or_key, or_of, numeric_key, numeric_of, sign_test_key, sign_test_of, relation_symbol, relation_of};
 ghost use Rattle.cob_parse_expr.specs.Steps.{signs, Leads, Lacks};
 
-use cob_tree::{Bytes, Const, Keyword, Name, Rel, Scaling, Sign, SignTest};
 use crate::lexeme::{Lexeme, Symbol};
+use cob_tree::{Bytes, Const, Keyword, Name, Rel, Scaling, Sign, SignTest};
 use std::alloc::{AllocError, Global};
 
 fn sign(symbol: &Symbol) -> Option<Sign>

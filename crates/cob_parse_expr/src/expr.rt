@@ -5,9 +5,9 @@ ghost use Rattle.cob_parse_expr.specs.Steps.{signs, Gives};
 
 use crate::class::{behind_close, behind_open, scaling_in, sign_in};
 use crate::halt::Halt;
+use crate::lexeme::Lexeme;
 use crate::operand::opnd_in;
 use cob_tree::{Expr, Fact, Primary, Scaling, Sign, Term};
-use crate::lexeme::{Lexeme};
 use std::alloc::Global;
 
 /// An expression in parentheses, where so many may still open, this one among them.

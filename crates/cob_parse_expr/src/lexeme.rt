@@ -2,8 +2,6 @@ ghost use Rattle.std.specs.Prelude.{◌≡◌, IfOk, map};
 ghost use Rattle.cob_tree.specs.Symbols.{symbol_of, seen};
 ghost use Rattle.cob_parse_expr.specs.Lexemes.{plain_symbol, plain_lexeme};
 
-
-
 use cob_tree::{Bytes, Keyword, Name, Num, Rel, Tok, Token, keyword_of};
 use std::alloc::{AllocError, Global};
 

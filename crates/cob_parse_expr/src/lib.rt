@@ -6,16 +6,16 @@ mod class;
 mod end;
 mod expr;
 mod halt;
-mod lexeme;
 mod laws;
+mod lexeme;
 mod operand;
 mod parse;
 
 pub use end::ParseEnd;
 pub use expr::{expr_in, fact_in, factors_in, group, summands_in};
 pub use halt::Halt;
-pub use lexeme::{Lexeme, Symbol, lexemes};
 pub use laws::{one_answer_for_conds, one_answer_for_exprs, one_cond, one_expr};
+pub use lexeme::{Lexeme, Symbol, lexemes};
 pub use operand::{const_at, name_at, opnd_in, ref_in};
 pub use parse::expr_of;
 

@@ -6,8 +6,8 @@ ghost use Rattle.cob_parse_expr.specs.Steps.{signs, Gives, behind_word};
 
 use crate::class::{behind_of, constant_in, name_in};
 use crate::halt::Halt;
+use crate::lexeme::Lexeme;
 use cob_tree::{Const, Many, Name, Opnd, Ref};
-use crate::lexeme::{Lexeme};
 use std::alloc::Global;
 
 /// A name.

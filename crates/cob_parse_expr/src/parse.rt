@@ -7,8 +7,8 @@ ghost use Rattle.cob_parse_expr.specs.Parsing.{expr_syntax, from, line_at, IsWro
 use crate::end::ParseEnd;
 use crate::expr::expr_in;
 use crate::halt::Halt;
+use crate::lexeme::lexemes;
 use cob_tree::{Expr, Token};
-use crate::lexeme::{lexemes};
 use std::alloc::Global;
 
 // The line of the first of so many tokens at the end, or of the last token, or 1.
