@@ -1,0 +1,13 @@
+//! A program of the profile with its names resolved: what the meaning, the control graph and the analysis speak of.
+//! What a sum is worth stands here too, and how great each of its intermediates can be.
+#![tactic(auto)]
+
+mod act;
+mod logic;
+mod program;
+mod sum;
+
+pub use act::{Act, Body, How, Opening, Stmt, Target, Turns, When};
+pub use logic::{Logic, Test};
+pub use program::{Para, Program};
+pub use sum::{Atom, Factor, Part, Sum};
