@@ -1,18 +1,19 @@
 -- Each operation keeps within its bound.
-use Rattle.std.proofs.Common.{◌≡◌, ◌≢◌, ℕ, ◌+◌, ◌-◌, ◌*◌, ◌^◌, ◌<◌, ◌≤◌, ◌==◌, ◌&&◌, max, zero, suc, ℤ, pos, negsuc, neg_ℤ, Bool, true, false, List, [], ◌∷◌, length, Option, Some, None, if◌then◌else◌, refl, sym, ap, ◌∙◌, arith, ◌⊎◌, inl, inr, ⊎_elim}
-use Rattle.std.specs.Prelude.{unsigned_abs, min, IfSome}
-use Rattle.std.proofs.lemmas.Int.{ints, unsigned_abs-mul}
+use Rattle.std.proofs.Common.{◌≡◌, ℕ, ◌+◌, ◌-◌, ◌*◌, ◌^◌, ◌<◌, ◌≤◌, ◌==◌, ◌&&◌, ℤ, pos, negsuc, Bool, true, false, List, [], ◌∷◌, length, Option, Some, None, if◌then◌else◌, refl, ap, subst, ◌∙◌, arith}
+use Rattle.std.specs.Prelude.{unsigned_abs, nat_le, unwrap_or, IfSome}
+use Rattle.std.proofs.lemmas.Int.{ints}
 use Rattle.std.proofs.lemmas.Nat.{mul-le}
+use Rattle.std.proofs.lemmas.Bool.Decides.{nat_tests}
 use Rattle.dec_num.specs.declared.types.Mode.TheVariants.{Trunc}
 use Rattle.dec_num.specs.declared.types.Scaled.{Scaled}
-use Rattle.dec_num.specs.Exact.{ratio_of, near, rounded}
+use Rattle.dec_num.specs.Exact.{ratio_of, near}
 use Rattle.dec_num.specs.Scaled.{units_at, joint_scale}
 use Rattle.dec_num.proofs.Bounds.{size_of_sum, size_of_product, size_of_units_at}
 use Rattle.dec_num.proofs.Near.{size_of_near, rounded_below}
-use Rattle.dec_num.proofs.Powers.{ten_positive}
+use Rattle.dec_num.proofs.Powers.{ten-add}
 use Rattle.cob_tree.specs.declared.token.Num.{Num}
 use Rattle.cob_program.specs.Values.{whole_number, negated, plus, product, quotient_scale, quotient, digit_of, numeral, literal, with_factor, ◌>>=◌}
-use Rattle.cob_program.specs.Bounds.{Bound, exactly, of_digits, literal_bound, joint, raised, sum_bound, product_bound, quotient_bound, factor_bound, is_small, IsWithin, IsSmall}
+use Rattle.cob_program.specs.Bounds.{Bound, exactly, literal_bound, joint, raised, sum_bound, product_bound, quotient_bound, factor_bound, is_small, IsWithin, IsSmall}
 
 -- ---- what may be missing
 
@@ -36,9 +37,11 @@ digit_low c = omega arith
 numeral_below : (n : ℕ) (digits : List ℕ) → numeral n digits < (n + 1) * 10 ^ length digits
 numeral_below n [] = omega arith
 numeral_below n (c ∷ cs) =
-    let e : 10 ^ length (c ∷ cs) ≡ 10 * 10 ^ length cs = refl in
+    let l : length (c ∷ cs) ≡ 1 + length cs = omega arith in
+    let e : 10 ^ length (c ∷ cs) ≡ 10 ^ 1 * 10 ^ length cs = ap (λ k. 10 ^ k) l ∙ ten-add 1 (length cs) in
+    let f : (n + 1) * 10 ^ length (c ∷ cs) ≡ 10 * (n + 1) * 10 ^ length cs = omega (arith, ap (λ k. (n + 1) * k) e) in
     let more = mul-le (10 * n + digit_of c + 1) (10 ^ length cs) (10 * (n + 1)) (10 ^ length cs) (omega (arith, digit_low c)) (omega arith) in
-    omega (arith, e, more, numeral_below (10 * n + digit_of c) cs)
+    omega (arith, f, more, numeral_below (10 * n + digit_of c) cs)
 
 pub negated_within : (minus : Bool) (v : Scaled) (b : Bound) → IsWithin v b → IsWithin (negated minus v) b
 negated_within false v b h = h
@@ -61,8 +64,10 @@ raised_within v b scale h = rw (← h.scale) (size_of_units_at v scale b.most h.
 pub plus_within : (v w : Scaled) (a b : Bound) → IsWithin v a → IsWithin w b → IsWithin (plus v w) (sum_bound a b)
 plus_within v w a b h k =
     let same : joint_scale v w ≡ joint a b = rw (h.scale, k.scale) refl in
+    let left : unsigned_abs (units_at v (joint_scale v w)) ≤ raised a (joint a b) = subst (λ s. unsigned_abs (units_at v (joint_scale v w)) ≤ raised a s) same (raised_within v a (joint_scale v w) h) in
+    let right : unsigned_abs (units_at w (joint_scale v w)) ≤ raised b (joint a b) = subst (λ s. unsigned_abs (units_at w (joint_scale v w)) ≤ raised b s) same (raised_within w b (joint_scale v w) k) in
     record {
-      most = omega (arith, size_of_sum (units_at v (joint_scale v w)) (units_at w (joint_scale v w)), rw (← same) (raised_within v a (joint_scale v w) h), rw (← same) (raised_within w b (joint_scale v w) k));
+      most = omega (arith, size_of_sum (units_at v (joint_scale v w)) (units_at w (joint_scale v w)), left, right);
       scale = same;
     }
 
@@ -84,5 +89,39 @@ quotient_size n d k most positive h =
     let more = mul-le (unsigned_abs (ratio_of n d).top) (10 ^ k) most (10 ^ k) (rw (ratio_top n d) h) (omega arith) in
     omega (arith, size, below, more)
 
+pub some_same : {A : Type 0} (a b : A) → Some a ≡ Some b → a ≡ b
+some_same a b e = ap (λ o. unwrap_or o a) e
+
+positive_of : (n : ℕ) → (n == 0) ≡ false → 0 < n
+positive_of n e = grind (arith, nat_tests)
+
+at_most_of : (a b : ℕ) → nat_le a b ≡ true → a ≤ b
+at_most_of a b e = grind (arith, nat_tests)
+
 pub quotient_within : (v w x : Scaled) (a b : Bound) → IsWithin v a → IsWithin w b → quotient v w ≡ Some x → IsWithin x (quotient_bound a b)
-quotient_within v w x a b h k e = ?
+quotient_within v w x a b h k e = go (unsigned_abs w.units == 0) refl e
+  where
+    here : Scaled
+    here = record {
+      units = near Trunc (ratio_of v.units w.units) (pos (quotient_scale v.scale w.scale + w.scale - v.scale));
+      scale = quotient_scale v.scale w.scale;
+    }
+
+    inside : 0 < unsigned_abs w.units → IsWithin here (quotient_bound a b)
+    inside positive = record {
+      most = rw (← h.scale, ← k.scale) (quotient_size v.units w.units (quotient_scale v.scale w.scale + w.scale - v.scale) a.most positive h.most);
+      scale = rw (h.scale, k.scale) refl;
+    }
+
+    go : (zero_ : Bool) → (unsigned_abs w.units == 0) ≡ zero_ → (if zero_ then None else Some here) ≡ Some x → IsWithin x (quotient_bound a b)
+    go true ez e0 = absurd cc
+    go false ez e0 = subst (λ y. IsWithin y (quotient_bound a b)) (some_same here x e0) (inside (positive_of (unsigned_abs w.units) ez))
+
+pub factor_within : (over : Bool) (v w x : Scaled) (a b : Bound) → IsWithin v a → IsWithin w b → with_factor over v w ≡ Some x → IsWithin x (factor_bound over a b)
+factor_within false v w x a b h k e = subst (λ y. IsWithin y (product_bound a b)) (some_same (product v w) x e) (product_within v w a b h k)
+factor_within true v w x a b h k e = quotient_within v w x a b h k e
+
+pub small_of : (v : Scaled) (b : Bound) → IsWithin v b → is_small b ≡ true → IsSmall v
+small_of v b h e =
+    let l = both (nat_le b.most (10 ^ 37 - 1)) (nat_le b.scale 37) e in
+    record { most = omega (arith, h.most, at_most_of b.most (10 ^ 37 - 1) l.0); scale = omega (arith, h.scale, at_most_of b.scale 37 l.1) }

@@ -1,10 +1,10 @@
 -- How great the intermediates of a sum can be, whatever its items hold within their pictures.
-use Rattle.std.specs.Prelude.{◌≡◌, ◌≤◌, nat_le, ℕ, zero, suc, ◌+◌, ◌-◌, ◌*◌, ◌^◌, max, Bool, true, false, ◌&&◌, pos, unsigned_abs, length, Option, Some, None, IfSome}
+use Rattle.std.specs.Prelude.{◌≡◌, ◌≤◌, nat_le, ℕ, ◌+◌, ◌-◌, ◌*◌, ◌^◌, max, Bool, true, false, ◌&&◌, pos, unsigned_abs, length, Option, Some, None, IfSome}
 use Rattle.dec_num.specs.declared.types.Scaled.{Scaled}
 use Rattle.cob_tree.specs.declared.token.Num.{Num}
 use Rattle.cob_tree.specs.declared.form.Form.{Form}
 use Rattle.cob_tree.specs.declared.form.Form.TheVariants as form
-use Rattle.cob_program.specs.Sum.{Sum, MkSum, Parts, no_parts, more_parts, Part, MkPart, Factors, no_factors, more_factors, Factor, MkFactor, Atom, item, number, group}
+use Rattle.cob_program.specs.Sum.{Sum, MkSum, Parts, no_parts, more_parts, Part, MkPart, Factors, no_factors, more_factors, MkFactor, Atom, item, number, group}
 use Rattle.cob_program.specs.Values.{whole_number, negated, plus, literal, quotient_scale, with_factor, part_value, atom_value, Root, root_of}
 
 -- the greatest absolute value, in units of a scale
@@ -85,7 +85,7 @@ module _ (bound : ℕ → Bound) where
     pub is_small_sum_from : Bound → Parts → Bool
     is_small_sum_from a no_parts = true
     is_small_sum_from a (more_parts p ps) =
-        is_small_part p && is_small (sum_bound a (part_most p)) && is_small_sum_from (sum_bound a (part_most p)) ps
+        is_small_part p && (is_small (sum_bound a (part_most p)) && is_small_sum_from (sum_bound a (part_most p)) ps)
 
     pub is_small_part : Part → Bool
     is_small_part (MkPart minus fs) = is_small_product (exactly 1) fs
@@ -93,7 +93,7 @@ module _ (bound : ℕ → Bound) where
     pub is_small_product : Bound → Factors → Bool
     is_small_product a no_factors = true
     is_small_product a (more_factors (MkFactor over minus atom) fs) =
-        is_small_atom atom && is_small (factor_bound over a (atom_most atom)) && is_small_product (factor_bound over a (atom_most atom)) fs
+        is_small_atom atom && (is_small (factor_bound over a (atom_most atom)) && is_small_product (factor_bound over a (atom_most atom)) fs)
 
     pub is_small_atom : Atom → Bool
     is_small_atom (item place) = is_small (bound place)

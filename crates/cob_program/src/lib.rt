@@ -3,11 +3,19 @@
 #![tactic(auto)]
 
 mod act;
+mod laws;
 mod logic;
 mod program;
 mod sum;
 
 pub use act::{Act, Body, How, Opening, Stmt, Target, Turns, When};
+pub use laws::{
+    intermediates_are_small, intermediates_of_what_is_stored_are_small,
+    sums_lie_within_their_bounds,
+};
 pub use logic::{Logic, Test};
 pub use program::{Para, Program};
 pub use sum::{Atom, Factor, Part, Sum};
+
+#[cfg(test)]
+mod tests;

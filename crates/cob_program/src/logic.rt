@@ -10,7 +10,11 @@ use cob_tree::{Many, Rel};
 #[derive(Drop)]
 pub enum Test {
     /// Two numbers are compared.
-    Number { left: Sum, rel: Rel, right: Sum },
+    Number {
+        left: Sum,
+        rel: Rel,
+        right: Sum,
+    },
     /// Two texts are compared.
     Text {
         left: Sender,
@@ -18,7 +22,10 @@ pub enum Test {
         right: Sender,
     },
     /// An item equals one of some values, or lies in one of some ranges.
-    Member { item: u32, ranges: Many<Pair> },
+    Member {
+        item: u32,
+        ranges: Many<Pair>,
+    },
     /// The item's contents can be read as a number.
     Numeric(u32),
     /// ANY
