@@ -108,6 +108,19 @@ module _ (bound : ℕ → Bound) where
   abbrev pub is_small_stored : Sum → Bool
   is_small_stored s = is_small_root s (root_of s)
 
+-- ---- two sides
+
+abbrev pub at_scale : Bound → ℕ → Bound
+at_scale a scale = record { most = raised a scale; scale = scale }
+
+module _ (bound : ℕ → Bound) where
+  -- each side of a comparison is small, and so it is at the greater of the two scales
+  abbrev pub is_small_sides : Sum → Sum → Bool
+  is_small_sides a b =
+      is_small_sum bound a && (is_small_sum bound b
+      && (is_small (at_scale (sum_most bound a) (joint (sum_most bound a) (sum_most bound b)))
+      && is_small (at_scale (sum_most bound b) (joint (sum_most bound a) (sum_most bound b)))))
+
 -- ---- what the rule is for
 
 -- a number within a bound, at its scale

@@ -1,0 +1,121 @@
+-- Which values may be moved where, and which may be compared (ISO 1989:1985, "The MOVE statement" and "Comparison of
+-- operands").
+use Rattle.std.specs.Prelude.{ℕ, ◌==◌, ◌&&◌, ◌||◌, nat_le, not, Bool, true, false, List, [], ◌∷◌, length, Option, Some, None}
+use Rattle.std.specs.List.{list_all}
+use Rattle.cob_tree.specs.declared.form.Form.{Form}
+use Rattle.cob_tree.specs.declared.form.Form.TheVariants as form
+use Rattle.cob_tree.specs.declared.form.Usage.{Usage}
+use Rattle.cob_tree.specs.declared.form.Usage.TheVariants as usage
+use Rattle.cob_data.specs.declared.layout.Sender.{Sender}
+use Rattle.cob_data.specs.declared.layout.Sender.TheVariants as sender
+use Rattle.cob_typed.specs.Scope.{Scope, form_at}
+
+-- ---- moves
+
+-- to a numeric or edited item
+abbrev pub is_amount : Form → Bool
+is_amount (form.Number digits scale signed kept) = true
+is_amount (form.Edited picture digits scale) = true
+is_amount _ = false
+
+abbrev pub is_group : Form → Bool
+is_group form.Group = true
+is_group _ = false
+
+abbrev pub is_digit : ℕ → Bool
+is_digit c = nat_le 48 c && nat_le c 57
+
+-- Text becomes a whole number of at most 18 digits; a number with decimals becomes no text; what is edited becomes no
+-- number.
+abbrev pub may_move_item : Form → Form → Bool
+may_move_item form.Group to = true
+may_move_item (form.Text n) to = not (is_amount to) || nat_le n 18
+may_move_item (form.Edited picture digits scale) to = not (is_amount to)
+may_move_item (form.Number digits scale signed kept) to = is_amount to || is_group to || scale == 0
+
+abbrev pub may_move : Scope → Sender → Form → Bool
+may_move s (sender.Item place) to = may_move_item (form_at s place) to
+may_move s (sender.Number n) to = is_amount to || n.scale == 0
+may_move s (sender.Text text) to = not (is_amount to) || (nat_le (length text) 18 && list_all is_digit text)
+may_move s (sender.Fill byte) to = not (is_amount to)
+may_move s sender.Zero to = true
+
+-- ---- what is a number
+
+abbrev pub is_number_form : Form → Bool
+is_number_form (form.Number digits scale signed kept) = true
+is_number_form _ = false
+
+-- a numeric item, a numeric literal, or ZERO
+abbrev pub is_number : Scope → Sender → Bool
+is_number s (sender.Item place) = is_number_form (form_at s place)
+is_number s (sender.Number n) = true
+is_number s (sender.Text text) = false
+is_number s (sender.Fill byte) = false
+is_number s sender.Zero = true
+
+abbrev pub is_whole_form : Form → Bool
+is_whole_form (form.Number digits scale signed kept) = scale == 0
+is_whole_form _ = false
+
+-- a number without decimals
+abbrev pub is_whole : Scope → Sender → Bool
+is_whole s (sender.Item place) = is_whole_form (form_at s place)
+is_whole s (sender.Number n) = n.scale == 0
+is_whole s (sender.Text text) = false
+is_whole s (sender.Fill byte) = false
+is_whole s sender.Zero = true
+
+-- NUMERIC asks it of a numeric or an alphanumeric item
+abbrev pub is_testable : Form → Bool
+is_testable (form.Number digits scale signed kept) = true
+is_testable (form.Text n) = true
+is_testable _ = false
+
+-- ---- comparisons
+
+-- one side of a relation: a number, with its digits as text where it may stand beside text; text; or ZERO, which is
+-- what the other side is
+pub data Side : Type 0 where
+  number : Bool → Side
+  text : Side
+  zero_ : Side
+
+-- kept in characters
+abbrev pub is_shown : Usage → Bool
+is_shown usage.Display = true
+is_shown usage.Leading = true
+is_shown usage.Trailing = true
+is_shown _ = false
+
+abbrev pub side_of_form : Form → Side
+side_of_form (form.Number digits scale signed kept) = number (scale == 0 && is_shown kept)
+side_of_form _ = text
+
+abbrev pub side_of : Scope → Sender → Side
+side_of s (sender.Item place) = side_of_form (form_at s place)
+side_of s (sender.Number n) = number (n.scale == 0)
+side_of s (sender.Text t) = text
+side_of s (sender.Fill byte) = text
+side_of s sender.Zero = zero_
+
+-- how two sides compare
+pub data Comparison : Type 0 where
+  by_value : Comparison
+  by_bytes : Comparison
+  not_at_all : Comparison
+
+abbrev pub beside_text : Bool → Comparison
+beside_text true = by_bytes
+beside_text false = not_at_all
+
+abbrev pub comparison : Side → Side → Comparison
+comparison (number a) (number b) = by_value
+comparison (number a) zero_ = by_value
+comparison zero_ (number b) = by_value
+comparison zero_ zero_ = by_value
+comparison (number a) text = beside_text a
+comparison text (number b) = beside_text b
+comparison text text = by_bytes
+comparison text zero_ = by_bytes
+comparison zero_ text = by_bytes

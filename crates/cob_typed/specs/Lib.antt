@@ -1,0 +1,9 @@
+pub mod Judged
+pub mod Scope
+pub mod Kinds
+pub mod Sums
+pub mod Conditions
+pub mod Selections
+pub mod Arithmetic
+pub mod Statements
+pub mod Typing

@@ -1,0 +1,157 @@
+-- Expressions as sums.
+use Rattle.std.specs.Prelude.{ℕ, ◌||◌, Bool, true, false, List, [], ◌∷◌, ◌++◌, map, Option, Some, None}
+use Rattle.cob_tree.specs.declared.token.Num.{Num}
+use Rattle.cob_tree.specs.declared.operand.Opnd.{Opnd}
+use Rattle.cob_tree.specs.declared.operand.Opnd.TheVariants as opnd
+use Rattle.cob_tree.specs.declared.operand.Const.{Const}
+use Rattle.cob_tree.specs.declared.operand.Const.TheVariants as const
+use Rattle.cob_tree.specs.declared.expr.Sign.{Sign}
+use Rattle.cob_tree.specs.declared.expr.Sign.TheVariants as sign
+use Rattle.cob_tree.specs.declared.expr.Scaling.{Scaling}
+use Rattle.cob_tree.specs.declared.expr.Scaling.TheVariants as scaling
+use Rattle.cob_tree.specs.Expr.{Expr, MkExpr, Terms, no_terms, more_terms, Term, MkTerm, Facts, no_facts, more_facts, Fact, MkFact, Primary}
+use Rattle.cob_tree.specs.Expr as expr
+use Rattle.cob_data.specs.declared.end.Rule.TheVariants.{Q1, Q3}
+use Rattle.cob_data.specs.declared.layout.Sender.{Sender}
+use Rattle.cob_data.specs.declared.layout.Sender.TheVariants as sender
+use Rattle.cob_data.specs.Entries.{sender_of}
+use Rattle.cob_program.specs.Sum.{Sum, MkSum, Parts, no_parts, more_parts, Part, MkPart, Factors, no_factors, more_factors, Factor, MkFactor, Atom, item, number, group}
+use Rattle.cob_typed.specs.Judged.{Judged, sound, breaks, demand, seen_as, ◌>>=◌}
+use Rattle.cob_typed.specs.Scope.{Scope, the_item, form_at}
+use Rattle.cob_typed.specs.Kinds.{is_number}
+
+-- ---- operands
+
+abbrev pub operand : Scope → Opnd → Judged Sender
+operand s (opnd.Ref r) = seen_as (λ place. sender.Item place) (the_item s r)
+operand s (opnd.Const c) = sound (sender_of c)
+
+-- ZERO among numbers
+abbrev pub zero_literal : Num
+zero_literal = record { sign = 0; digits = 48 ∷ []; scale = 0 }
+
+abbrev pub atom_of : Sender → Atom
+atom_of (sender.Item place) = item place
+atom_of (sender.Number n) = number n
+atom_of _ = number zero_literal
+
+-- an operand of arithmetic is a number
+abbrev pub numeric_operand : Scope → Opnd → Judged Atom
+numeric_operand s o = operand s o >>= λ x. demand Q3 (is_number s x) (atom_of x)
+
+-- ---- expressions
+
+abbrev pub is_minus : Option Sign → Bool
+is_minus (Some sign.Minus) = true
+is_minus _ = false
+
+abbrev pub is_subtracted : Sign → Bool
+is_subtracted sign.Plus = false
+is_subtracted sign.Minus = true
+
+abbrev pub is_divided_by : Scaling → Bool
+is_divided_by scaling.Times = false
+is_divided_by scaling.Over = true
+
+module _ (s : Scope) where
+  abbrev mutual
+    pub sum_of : Expr → Judged Sum
+    sum_of (MkExpr t ts) = part_of false t >>= λ p. parts_of ts >>= λ ps. sound (MkSum (more_parts p ps))
+
+    pub parts_of : Terms → Judged Parts
+    parts_of no_terms = sound no_parts
+    parts_of (more_terms plus_minus t ts) = part_of (is_subtracted plus_minus) t >>= λ p. parts_of ts >>= λ ps. sound (more_parts p ps)
+
+    pub part_of : Bool → Term → Judged Part
+    part_of minus (MkTerm f fs) = factor_of false f >>= λ g. factors_of fs >>= λ gs. sound (MkPart minus (more_factors g gs))
+
+    pub factors_of : Facts → Judged Factors
+    factors_of no_facts = sound no_factors
+    factors_of (more_facts by f fs) = factor_of (is_divided_by by) f >>= λ g. factors_of fs >>= λ gs. sound (more_factors g gs)
+
+    pub factor_of : Bool → Fact → Judged Factor
+    factor_of over (MkFact sign_ p) = atom_in p >>= λ a. sound (MkFactor over (is_minus sign_) a)
+
+    pub atom_in : Primary → Judged Atom
+    atom_in (expr.operand o) = numeric_operand s o
+    atom_in (expr.group e) = sum_of e >>= λ x. sound (group x)
+
+-- ---- parentheses round a whole
+
+abbrev mutual
+  -- the operand that an expression is, with parentheses round it or without
+  pub lone : Expr → Option Opnd
+  lone (MkExpr (MkTerm (MkFact None p) no_facts) no_terms) = lone_primary p
+  lone _ = None
+
+  pub lone_primary : Primary → Option Opnd
+  lone_primary (expr.operand o) = Some o
+  lone_primary (expr.group e) = lone e
+
+abbrev mutual
+  -- without parentheses round the whole, and without a plus before them
+  pub bare : Expr → Expr
+  bare (MkExpr (MkTerm (MkFact None p) no_facts) no_terms) = bare_primary None p
+  bare (MkExpr (MkTerm (MkFact (Some sign.Plus) p) no_facts) no_terms) = bare_primary (Some sign.Plus) p
+  bare e = e
+
+  pub bare_primary : Option Sign → Primary → Expr
+  bare_primary sign_ (expr.operand o) = MkExpr (MkTerm (MkFact sign_ (expr.operand o)) no_facts) no_terms
+  bare_primary sign_ (expr.group e) = bare e
+
+abbrev pub whole_sum : Scope → Expr → Judged Sum
+whole_sum s e = sum_of s (bare e)
+
+-- ---- what stands in an expression
+
+abbrev pub is_reference : Opnd → Bool
+is_reference (opnd.Ref r) = true
+is_reference (opnd.Const c) = false
+
+abbrev mutual
+  -- an item stands in it
+  pub has_item : Expr → Bool
+  has_item (MkExpr t ts) = term_has_item t || terms_have_item ts
+
+  pub terms_have_item : Terms → Bool
+  terms_have_item no_terms = false
+  terms_have_item (more_terms plus_minus t ts) = term_has_item t || terms_have_item ts
+
+  pub term_has_item : Term → Bool
+  term_has_item (MkTerm f fs) = fact_has_item f || facts_have_item fs
+
+  pub facts_have_item : Facts → Bool
+  facts_have_item no_facts = false
+  facts_have_item (more_facts by f fs) = fact_has_item f || facts_have_item fs
+
+  pub fact_has_item : Fact → Bool
+  fact_has_item (MkFact sign_ p) = primary_has_item p
+
+  pub primary_has_item : Primary → Bool
+  primary_has_item (expr.operand o) = is_reference o
+  primary_has_item (expr.group e) = has_item e
+
+-- only what its names mean, where its operands needn't be numbers
+abbrev pub reference : Scope → Opnd → Judged (Unit {0})
+reference s (opnd.Ref r) = the_item s r >>= λ place. sound tt
+reference s (opnd.Const c) = sound tt
+
+module _ (s : Scope) where
+  abbrev mutual
+    pub names_in : Expr → Judged (Unit {0})
+    names_in (MkExpr t ts) = names_in_term t >>= λ x. names_in_terms ts
+
+    pub names_in_terms : Terms → Judged (Unit {0})
+    names_in_terms no_terms = sound tt
+    names_in_terms (more_terms plus_minus t ts) = names_in_term t >>= λ x. names_in_terms ts
+
+    pub names_in_term : Term → Judged (Unit {0})
+    names_in_term (MkTerm f fs) = names_in_fact f >>= λ x. names_in_facts fs
+
+    pub names_in_facts : Facts → Judged (Unit {0})
+    names_in_facts no_facts = sound tt
+    names_in_facts (more_facts by f fs) = names_in_fact f >>= λ x. names_in_facts fs
+
+    pub names_in_fact : Fact → Judged (Unit {0})
+    names_in_fact (MkFact sign_ (expr.operand o)) = reference s o
+    names_in_fact (MkFact sign_ (expr.group e)) = names_in e

@@ -1,0 +1,7 @@
+//! From the tree of a program to a program of the profile: names resolved, statements numbered, abbreviations written
+//! out, and the rules on statements (ISO 1989:1985, "Procedure division").
+#![tactic(auto)]
+
+mod end;
+
+pub use end::TypedEnd;
