@@ -10,7 +10,7 @@ use cob_tree::{Front, Keyword};
 use std::alloc::Global;
 
 /// The divisions before PROCEDURE, and the lexemes behind them.
-pub fn front_at(alloc: Global, lexemes: &[Lexeme]) -> Result<(Front, &[Lexeme]), Halt>
+pub fn front_in(alloc: Global, lexemes: &[Lexeme]) -> Result<(Front, &[Lexeme]), Halt>
     ensures gives { Gives (λ x. (x.0, signs x.1.now)) result (front_at (signs lexemes.now)) }
     ensures rest { IfOk result (λ x. length x.1.now < length lexemes.now) }
 {
