@@ -16,7 +16,7 @@ mod tests;
 mod word;
 
 pub use cob_parse_expr::ParseEnd;
-pub use front::front_in;
+pub use front::{before_procedure_in, front_in};
 pub use head::{ClauseHead, FdHead, SelectHead};
 pub use laws::{
     one_front, one_reading, one_stop, read_or_stopped, same_but_for_lines, takes_is_going_on,
