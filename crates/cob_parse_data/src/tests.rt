@@ -442,7 +442,7 @@ fn left(alloc: Global, text: &str) -> Result<usize, AllocError> {
     let tokens = tokens(alloc, text)?;
     let mut at = 0;
     match front_of(alloc, tokens.as_slice(), &mut at) {
-        Ok(_) => Ok(tokens.len() - at),
+        Ok(_) => Ok(tokens.len().saturating_sub(at)),
         Err(_) => Ok(tokens.len()),
     }
 }
