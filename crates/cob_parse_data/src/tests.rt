@@ -23,9 +23,9 @@ fn tok(alloc: Global, word: &[u8], behind_pic: bool) -> Result<Tok, AllocError> 
 
 fn tokens(alloc: Global, text: &str) -> Result<Vec<Token>, AllocError> {
     let mut tokens = Vec::new(alloc);
-    let mut line = 0;
+    let mut line: u32 = 0;
     for written in text.lines() {
-        line = (line + 1).min(1_000_000);
+        line = line.saturating_add(1);
         let mut behind_pic = false;
         for word in written.split(' ') {
             let tok = tok(alloc, word.as_bytes(), behind_pic)?;
@@ -317,7 +317,8 @@ FD F RECORDING V DATA R S BLOCK 1 LABEL OMITTED RECORD-SIZE 80 .",
 ];
 
 // refused at a line
-const REFUSED: [(&str, u32); 13] = [
+const REFUSED: [(&str, u32); 14] = [
+    ("", 1),
     ("IDENTIFICATION DIVISION .\nPROGRAM-ID . MOVE .", 2),
     ("IDENTIFICATION DIVISION .\nPROGRAM-ID . A", 2),
     (
