@@ -15,3 +15,4 @@ mod CondLaws
 mod ParenLaws
 mod OneAnswer
 mod Levels
+mod CondLemmas
