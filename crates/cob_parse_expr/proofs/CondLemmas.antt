@@ -5,8 +5,7 @@ use Rattle.cob_tree.specs.declared.expr.Sign as plus_minus
 use Rattle.cob_tree.specs.declared.expr.Scaling.{Scaling}
 use Rattle.cob_tree.specs.Symbols.{Sign}
 use Rattle.cob_tree.specs.Expr.{Expr, Term, Fact, MkFact, Primary, group}
-use Rattle.cob_tree.specs.Cond.{Cond, MkCond, Conj, MkConj, no_negs, more_negs, no_conjs, Neg, MkNeg, Simple, parenthesised, relation, abbreviated, numeric, alone, conjs_of, negs_of}
-use Rattle.cob_tree.specs.Cond as cond
+use Rattle.cob_tree.specs.Cond.{Cond, MkCond, Conj, MkConj, Neg, Simple, parenthesised, conjs_of, negs_of}
 use Rattle.cob_tree.specs.Cues.{Cue, is, Scales, Signs, NotRelates}
 use Rattle.cob_tree.specs.PrintExpr.{one_alone}
 use Rattle.cob_tree.specs.Takes.{takes_test, takes_expr, takes_neg, takes_negs, takes_conj, takes_conjs, takes_cond}
@@ -18,7 +17,7 @@ use Rattle.cob_parse_expr.specs.Alphabet.{grammar}
 use Rattle.cob_parse_expr.specs.Classes.{open_of, not_of, sign_of, scaling_of, bare_first}
 use Rattle.cob_parse_expr.specs.Reading.{primary_with, fact_with, factors_with, term_with, summands_with, opnd_at}
 use Rattle.cob_parse_expr.specs.CondReading.{Begun, whole, part, goes_on, begun_fact, make_head, head_with, begun_factors, begun_term, begun_summands, begun_expr, Asked, test_with, make_subject, subject_with}
-use Rattle.cob_parse_expr.specs.CondSteps.{conj_alone, from_fact, make_value, subject_behind, subject_after, last_neg, last_conj}
+use Rattle.cob_parse_expr.specs.CondSteps.{from_fact, make_value, subject_behind, subject_after, last_neg, last_conj}
 use Rattle.cob_parse_expr.specs.Steps.{Leads, Lacks}
 use Rattle.cob_parse_expr.proofs.ExprLaws.{expr_never}
 use Rattle.cob_parse_expr.proofs.TestLaws.{tests_told, tests_on}
@@ -41,24 +40,6 @@ begins_bare (t ∷ ts) none = tests_told (t ∷ ts) ∙ ap (λ (b : Bool). tests
 
 pub no_not : (e : Expr) → takes_expr e NotRelates ≡ false
 no_not e = expr_never NotRelates refl refl refl e
-
--- ---- one expression alone
-
-pub alone_by_conj : (c : Conj) → one_alone (MkCond c no_conjs) ≡ conj_alone c
-alone_by_conj (MkConj (MkNeg false (alone e)) no_negs) = refl
-alone_by_conj (MkConj (MkNeg false (parenthesised c)) no_negs) = refl
-alone_by_conj (MkConj (MkNeg false (relation e b r f)) no_negs) = refl
-alone_by_conj (MkConj (MkNeg false (abbreviated b r f)) no_negs) = refl
-alone_by_conj (MkConj (MkNeg false (numeric e b)) no_negs) = refl
-alone_by_conj (MkConj (MkNeg false (cond.sign e b t)) no_negs) = refl
-alone_by_conj (MkConj (MkNeg true s) no_negs) = refl
-alone_by_conj (MkConj (MkNeg true s) (more_negs n ns)) = refl
-alone_by_conj (MkConj (MkNeg false (alone e)) (more_negs n ns)) = refl
-alone_by_conj (MkConj (MkNeg false (parenthesised c)) (more_negs n ns)) = refl
-alone_by_conj (MkConj (MkNeg false (relation e b r f)) (more_negs n ns)) = refl
-alone_by_conj (MkConj (MkNeg false (abbreviated b r f)) (more_negs n ns)) = refl
-alone_by_conj (MkConj (MkNeg false (numeric e b)) (more_negs n ns)) = refl
-alone_by_conj (MkConj (MkNeg false (cond.sign e b t)) (more_negs n ns)) = refl
 
 -- ---- a subject
 

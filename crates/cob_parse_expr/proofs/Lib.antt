@@ -16,3 +16,4 @@ mod ParenLaws
 mod OneAnswer
 mod Levels
 mod CondLemmas
+mod AloneLemmas

@@ -95,7 +95,7 @@ fn conj_alone(conj: Conj) -> Result<Expr, Conj>
     ensures other { IfErr result (λ c. conj_alone (plain_conj conj) ≡ None) }
     ensures same { IfErr result (λ c. plain_conj c ≡ plain_conj conj) }
 {
-    if !conj.others.is_empty() {
+    if !conj.others.as_slice().is_empty() {
         return Err(conj);
     }
     match neg_alone(conj.first) {
@@ -110,7 +110,7 @@ pub fn one_alone(cond: Cond) -> Result<Expr, Cond>
     ensures other { IfErr result (λ c. one_alone (plain_cond cond) ≡ None) }
     ensures same { IfErr result (λ c. plain_cond c ≡ plain_cond cond) }
 {
-    if !cond.others.is_empty() {
+    if !cond.others.as_slice().is_empty() {
         return Err(cond);
     }
     match conj_alone(cond.first) {
