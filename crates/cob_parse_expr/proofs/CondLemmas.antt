@@ -1,5 +1,5 @@
 -- What the functions that read a condition return, step by step, is what its readers give.
-use Rattle.std.proofs.Common.{◌≡◌, ℕ, ◌⊎◌, inl, inr, Bool, true, false, ◌||◌, ◌&&◌, List, [], ◌∷◌, ◌++◌, Option, Some, None, Result, Ok, Err, refl, ap, ◌∙◌}
+use Rattle.std.proofs.Common.{◌≡◌, ℕ, Bool, true, false, ◌||◌, ◌&&◌, List, [], ◌∷◌, ◌++◌, Option, Some, None, Result, Ok, Err, refl, ap, ◌∙◌}
 use Rattle.cob_tree.specs.declared.operand.Opnd.{Opnd}
 use Rattle.cob_tree.specs.declared.expr.Sign as plus_minus
 use Rattle.cob_tree.specs.declared.expr.Scaling.{Scaling}
@@ -9,14 +9,14 @@ use Rattle.cob_tree.specs.Cond.{Cond, MkCond, Conj, MkConj, Neg, Simple, parenth
 use Rattle.cob_tree.specs.Cues.{Cue, is, Scales, Signs, NotRelates}
 use Rattle.cob_tree.specs.PrintExpr.{one_alone}
 use Rattle.cob_tree.specs.Takes.{takes_test, takes_expr, takes_neg, takes_negs, takes_conj, takes_conjs, takes_cond}
-use Rattle.reading.specs.Readers.{Fault, Reader, ◌>>=◌, lead_as, branch, follow, seen, many, opt, optional, here_if, stands}
+use Rattle.reading.specs.Readers.{Fault, Reader, ◌>>=◌, lead_as, branch, follow, seen, many, opt, stands}
 use Rattle.reading.specs.Printing.{begins}
 use Rattle.reading.proofs.Texts.{next_none}
 use Rattle.reading.proofs.Results.{ok_is}
 use Rattle.cob_parse_expr.specs.Alphabet.{grammar}
 use Rattle.cob_parse_expr.specs.Classes.{open_of, not_of, sign_of, scaling_of, bare_first}
 use Rattle.cob_parse_expr.specs.Reading.{primary_with, fact_with, factors_with, term_with, summands_with, opnd_at}
-use Rattle.cob_parse_expr.specs.CondReading.{Begun, whole, part, goes_on, begun_fact, make_head, head_with, begun_factors, begun_term, begun_summands, begun_expr, Asked, test_with, make_subject, subject_with}
+use Rattle.cob_parse_expr.specs.CondReading.{Begun, whole, part, goes_on, begun_fact, head_with, begun_factors, begun_term, begun_summands, begun_expr, Asked, test_with, make_subject, subject_with}
 use Rattle.cob_parse_expr.specs.CondSteps.{from_fact, make_value, subject_behind, subject_after, last_neg, last_conj}
 use Rattle.cob_parse_expr.specs.Steps.{Leads, Lacks}
 use Rattle.cob_parse_expr.proofs.ExprLaws.{expr_never}
@@ -69,7 +69,7 @@ module _ (paren : Reader Sign Cond) (inner : Reader Sign Expr) where
   on_part f ts = first (factors_with inner ts) refl
     where
       test : (e : Expr) (c : Bool) (us : List Sign) (r : Result ((Bool × Asked) × List Sign) Fault) → begins grammar takes_test us ≡ c → test_with inner us ≡ r
-          → ((optional (here_if (begins grammar takes_test)) (test_with inner) us >>= λ o. Ok ((part e, o.0), o.1)) >>= λ x. Ok (make_subject x.0, x.1)) ≡ ((optional (here_if (begins grammar takes_test)) (test_with inner) us >>= λ o. Ok ((e, o.0), o.1)) >>= λ x. Ok (make_value x.0, x.1))
+          → seen make_subject (opt (λ ts. Ok (part e, us)) (λ h ts. goes_on h && begins grammar takes_test ts) (test_with inner)) [] ≡ seen make_value (opt (λ ts. Ok (e, us)) (λ e. begins grammar takes_test) (test_with inner)) []
       test e false us r ec er = rw ec refl
       test e true us (Err d) ec er = rw (ec, er) refl
       test e true us (Ok x) ec er = rw (ec, er) refl
@@ -83,12 +83,15 @@ module _ (paren : Reader Sign Cond) (inner : Reader Sign Expr) where
       first (Ok xs) e = second_ xs (summands_with inner xs.1) e refl
 
   -- a parenthesis first
-  opened_head : (ts : List Sign) → stands open_of ts ≡ true → head_with paren inner ts ≡ (paren ts >>= λ a. Ok (begun_fact a.0 (one_alone a.0), a.1))
-  opened_head ts opens = rw opens (go (paren ts))
+  abbrev by_alone : Cond → Begun Fact
+  by_alone c = begun_fact c (one_alone c)
+
+  opened_head : (ts : List Sign) → stands open_of ts ≡ true → head_with paren inner ts ≡ seen by_alone paren ts
+  opened_head ts opens = go (paren ts) refl
     where
-      go : (r : Result (Cond × List Sign) Fault) → ((r >>= λ a. Ok (inl a.0, a.1)) >>= λ a. Ok (make_head a.0, a.1)) ≡ (r >>= λ a. Ok (begun_fact a.0 (one_alone a.0), a.1))
-      go (Err d) = refl
-      go (Ok x) = refl
+      go : (r : Result (Cond × List Sign) Fault) → paren ts ≡ r → head_with paren inner ts ≡ seen by_alone paren ts
+      go (Err d) e = rw (opens, e) refl
+      go (Ok x) e = rw (opens, e) refl
 
   pub subject_opened : (ts : List Sign) → stands open_of ts ≡ true → subject_with paren inner ts ≡ paren ts >>= λ x. subject_after inner x.0 (one_alone x.0) x.1
   subject_opened ts opens = ap subject_on (opened_head ts opens) ∙ go (paren ts)
@@ -97,30 +100,33 @@ module _ (paren : Reader Sign Cond) (inner : Reader Sign Expr) where
       at c us None = on_whole c us
       at c us (Some e) = on_part (MkFact None (group e)) us
 
-      go : (r : Result (Cond × List Sign) Fault) → subject_on (r >>= λ a. Ok (begun_fact a.0 (one_alone a.0), a.1)) ≡ (r >>= λ x. subject_after inner x.0 (one_alone x.0) x.1)
+      go : (r : Result (Cond × List Sign) Fault) → subject_on (seen by_alone (λ us. r) []) ≡ (r >>= λ x. subject_after inner x.0 (one_alone x.0) x.1)
       go (Err d) = refl
       go (Ok x) = at x.0 x.1 (one_alone x.0)
 
   -- none
-  bare_head : (ts : List Sign) → stands open_of ts ≡ false → head_with paren inner ts ≡ (fact_with inner ts >>= λ x. Ok (part x.0, x.1))
+  abbrev begun_part : Fact → Begun Fact
+  begun_part f = part f
+
+  bare_head : (ts : List Sign) → stands open_of ts ≡ false → head_with paren inner ts ≡ seen begun_part (fact_with inner) ts
   bare_head ts opens = at (stands sign_of ts) refl
     where
-      signed : (r : Result ((plus_minus.Sign × Primary) × List Sign) Fault) → stands sign_of ts ≡ true → branch sign_of (λ s. primary_with inner) ts ≡ r → head_with paren inner ts ≡ (fact_with inner ts >>= λ x. Ok (part x.0, x.1))
+      signed : (r : Result ((plus_minus.Sign × Primary) × List Sign) Fault) → stands sign_of ts ≡ true → branch sign_of (λ s. primary_with inner) ts ≡ r → head_with paren inner ts ≡ seen begun_part (fact_with inner) ts
       signed (Err d) e er = rw (opens, e, er) refl
       signed (Ok x) e er = rw (opens, e, er) refl
 
-      plain : (r : Result (Opnd × List Sign) Fault) → stands sign_of ts ≡ false → opnd_at ts ≡ r → head_with paren inner ts ≡ (fact_with inner ts >>= λ x. Ok (part x.0, x.1))
+      plain : (r : Result (Opnd × List Sign) Fault) → stands sign_of ts ≡ false → opnd_at ts ≡ r → head_with paren inner ts ≡ seen begun_part (fact_with inner) ts
       plain (Err d) e er = rw (opens, e, opens, er) refl
       plain (Ok x) e er = rw (opens, e, opens, er) refl
 
-      at : (c : Bool) → stands sign_of ts ≡ c → head_with paren inner ts ≡ (fact_with inner ts >>= λ x. Ok (part x.0, x.1))
+      at : (c : Bool) → stands sign_of ts ≡ c → head_with paren inner ts ≡ seen begun_part (fact_with inner) ts
       at true e = signed (branch sign_of (λ s. primary_with inner) ts) e refl
       at false e = plain (opnd_at ts) e refl
 
   pub subject_bare : (ts : List Sign) → stands open_of ts ≡ false → subject_with paren inner ts ≡ fact_with inner ts >>= λ x. subject_behind inner x.0 x.1
   subject_bare ts opens = ap subject_on (bare_head ts opens) ∙ go (fact_with inner ts)
     where
-      go : (r : Result (Fact × List Sign) Fault) → subject_on (r >>= λ x. Ok (part x.0, x.1)) ≡ (r >>= λ x. subject_behind inner x.0 x.1)
+      go : (r : Result (Fact × List Sign) Fault) → subject_on (seen begun_part (λ us. r) []) ≡ (r >>= λ x. subject_behind inner x.0 x.1)
       go (Err d) = refl
       go (Ok x) = on_part x.0 x.1
 

@@ -14,7 +14,7 @@ use crate::halt::Halt;
 use cob_tree::{Cond, Conj, Expr, Fact, Neg, Primary, Rel, SignTest, Simple};
 use std::alloc::Global;
 
-// Each variant is made in a function of its own, which says what it is seen as and whether NOT may follow it.
+// Each variant is made in a function of its own, which says what it is seen as.
 
 pub fn parenthesised(alloc: Global, cond: Cond) -> Result<Simple, Halt>
     ensures simple { Gives plain_simple result (Ok (parenthesised (plain_cond cond))) }
@@ -24,7 +24,7 @@ pub fn parenthesised(alloc: Global, cond: Cond) -> Result<Simple, Halt>
 }
 
 pub fn relation(left: Expr, not: bool, rel: Rel, right: Expr) -> Simple
-    ensures simple { plain_simple result ≡ relation (plain_expr left) not rel (plain_expr right) }
+    ensures { plain_simple result ≡ relation (plain_expr left) not rel (plain_expr right) }
 {
     Simple::Relation {
         left,
@@ -35,25 +35,25 @@ pub fn relation(left: Expr, not: bool, rel: Rel, right: Expr) -> Simple
 }
 
 pub fn abbreviated(not: bool, rel: Rel, right: Expr) -> Simple
-    ensures simple { plain_simple result ≡ abbreviated not rel (plain_expr right) }
+    ensures { plain_simple result ≡ abbreviated not rel (plain_expr right) }
 {
     Simple::Abbreviated { not, rel, right }
 }
 
 pub fn numeric(value: Expr, not: bool) -> Simple
-    ensures simple { plain_simple result ≡ numeric (plain_expr value) not }
+    ensures { plain_simple result ≡ numeric (plain_expr value) not }
 {
     Simple::Numeric { value, not }
 }
 
 pub fn sign_of(value: Expr, not: bool, test: SignTest) -> Simple
-    ensures simple { plain_simple result ≡ cond.sign (plain_expr value) not test }
+    ensures { plain_simple result ≡ cond.sign (plain_expr value) not test }
 {
     Simple::Sign { value, not, test }
 }
 
 pub fn alone(expr: Expr) -> Simple
-    ensures simple { plain_simple result ≡ alone (plain_expr expr) }
+    ensures { plain_simple result ≡ alone (plain_expr expr) }
 {
     Simple::Expr(expr)
 }
