@@ -1,8 +1,9 @@
 -- What the functions that read a condition return, step by step, is what its readers give.
-use Rattle.std.proofs.Common.{◌≡◌, ℕ, Bool, true, false, ◌||◌, ◌&&◌, List, [], ◌∷◌, ◌++◌, Option, Some, None, Result, Ok, Err, refl, ap, ◌∙◌}
+use Rattle.std.proofs.Common.{◌≡◌, ℕ, ◌⊎◌, Bool, true, false, ◌||◌, ◌&&◌, List, [], ◌∷◌, ◌++◌, Option, Some, None, Result, Ok, Err, map, refl, sym, ap, subst, ◌∙◌}
 use Rattle.cob_tree.specs.declared.operand.Opnd.{Opnd}
 use Rattle.cob_tree.specs.declared.expr.Sign as plus_minus
 use Rattle.cob_tree.specs.declared.expr.Scaling.{Scaling}
+use Rattle.cob_tree.specs.declared.token.Rel.{Rel}
 use Rattle.cob_tree.specs.Symbols.{Sign}
 use Rattle.cob_tree.specs.Expr.{Expr, Term, Fact, MkFact, Primary, group}
 use Rattle.cob_tree.specs.Cond.{Cond, MkCond, Conj, MkConj, Neg, Simple, parenthesised, conjs_of, negs_of}
@@ -12,13 +13,15 @@ use Rattle.cob_tree.specs.Takes.{takes_test, takes_expr, takes_neg, takes_negs, 
 use Rattle.reading.specs.Readers.{Fault, Reader, ◌>>=◌, lead_as, branch, follow, seen, many, opt, stands}
 use Rattle.reading.specs.Printing.{begins}
 use Rattle.reading.proofs.Texts.{next_none}
-use Rattle.reading.proofs.Results.{ok_is}
+use Rattle.reading.proofs.Results.{ok_is, done}
 use Rattle.cob_parse_expr.specs.Alphabet.{grammar}
 use Rattle.cob_parse_expr.specs.Classes.{open_of, not_of, sign_of, scaling_of, bare_first}
 use Rattle.cob_parse_expr.specs.Reading.{primary_with, fact_with, factors_with, term_with, summands_with, opnd_at}
-use Rattle.cob_parse_expr.specs.CondReading.{Begun, whole, part, goes_on, begun_fact, head_with, begun_factors, begun_term, begun_summands, begun_expr, Asked, test_with, make_subject, subject_with}
-use Rattle.cob_parse_expr.specs.CondSteps.{from_fact, make_value, subject_behind, subject_after, last_neg, last_conj}
-use Rattle.cob_parse_expr.specs.Steps.{Leads, Lacks}
+use Rattle.cob_parse_expr.specs.CondReading.{Begun, whole, part, goes_on, begun_fact, head_with, begun_factors, begun_term, begun_summands, begun_expr, Asked, test_with, make_subject, subject_with, negated_with, plain_with, neg_with, negs_with, conj_with, conjs_with, cond_with}
+use Rattle.cob_parse_expr.specs.CondSteps.{from_fact, make_value, subject_behind, subject_after, negated_neg, plain_neg_at, last_neg, last_conj}
+use Rattle.cob_parse_expr.specs.declared.halt.Halt.{Halt}
+use Rattle.cob_parse_expr.specs.Steps.{behind_word, Leads, Lacks, Fails}
+use Rattle.cob_parse_expr.proofs.StepLemmas.{bare, fails_first}
 use Rattle.cob_parse_expr.proofs.ExprLaws.{expr_never}
 use Rattle.cob_parse_expr.proofs.TestLaws.{tests_told, tests_on}
 
@@ -93,7 +96,7 @@ module _ (paren : Reader Sign Cond) (inner : Reader Sign Expr) where
       go (Err d) e = rw (opens, e) refl
       go (Ok x) e = rw (opens, e) refl
 
-  pub subject_opened : (ts : List Sign) → stands open_of ts ≡ true → subject_with paren inner ts ≡ paren ts >>= λ x. subject_after inner x.0 (one_alone x.0) x.1
+  subject_opened : (ts : List Sign) → stands open_of ts ≡ true → subject_with paren inner ts ≡ paren ts >>= λ x. subject_after inner x.0 (one_alone x.0) x.1
   subject_opened ts opens = ap subject_on (opened_head ts opens) ∙ go (paren ts)
     where
       at : (c : Cond) (us : List Sign) (o : Option Expr) → subject_on (Ok (begun_fact c o, us)) ≡ subject_after inner c o us
@@ -123,12 +126,48 @@ module _ (paren : Reader Sign Cond) (inner : Reader Sign Expr) where
       at true e = signed (branch sign_of (λ s. primary_with inner) ts) e refl
       at false e = plain (opnd_at ts) e refl
 
-  pub subject_bare : (ts : List Sign) → stands open_of ts ≡ false → subject_with paren inner ts ≡ fact_with inner ts >>= λ x. subject_behind inner x.0 x.1
+  subject_bare : (ts : List Sign) → stands open_of ts ≡ false → subject_with paren inner ts ≡ fact_with inner ts >>= λ x. subject_behind inner x.0 x.1
   subject_bare ts opens = ap subject_on (bare_head ts opens) ∙ go (fact_with inner ts)
     where
       go : (r : Result (Fact × List Sign) Fault) → subject_on (seen begun_part (λ us. r) []) ≡ (r >>= λ x. subject_behind inner x.0 x.1)
       go (Err d) = refl
       go (Ok x) = on_part x.0 x.1
+
+  pub opened_is : (ts u : List Sign) (c : Cond) → Leads open_of tt ts u → (v : List Sign) → paren ts ≡ Ok (c, v) → subject_with paren inner ts ≡ subject_after inner c (one_alone c) v
+  opened_is ts u c lead v e = subject_opened ts lead.stands ∙ ap (λ (r : Result (Cond × List Sign) Fault). r >>= λ x. subject_after inner x.0 (one_alone x.0) x.1) e
+
+  pub bare_is : (ts v : List Sign) (f : Fact) → Lacks open_of ts → fact_with inner ts ≡ Ok (f, v) → subject_with paren inner ts ≡ subject_behind inner f v
+  bare_is ts v f none e = subject_bare ts none.stands ∙ ap (λ (r : Result (Fact × List Sign) Fault). r >>= λ x. subject_behind inner x.0 x.1) e
+
+  pub opened_fails : (ts u : List Sign) (h : Halt) → Leads open_of tt ts u → Fails h (paren ts) → Fails h (subject_with paren inner ts)
+  opened_fails ts u h lead f = subst (Fails h) (sym (subject_opened ts lead.stands)) (fails_first h (paren ts) (λ x. subject_after inner x.0 (one_alone x.0) x.1) f)
+
+  pub bare_fails : (ts : List Sign) (h : Halt) → Lacks open_of ts → Fails h (fact_with inner ts) → Fails h (subject_with paren inner ts)
+  bare_fails ts h none f = subst (Fails h) (sym (subject_bare ts none.stands)) (fails_first h (fact_with inner ts) (λ x. subject_behind inner x.0 x.1) f)
+
+  -- ---- NOT
+
+  pub behind_not_is : (ts rest : List Sign) → Leads not_of tt ts rest → neg_with paren inner ts ≡ negated_neg paren inner rest
+  behind_not_is ts rest lead = go (negated_with paren inner rest) refl
+    where
+      go : (r : Result (((Rel × Expr) ⊎ Simple) × List Sign) Fault) → negated_with paren inner rest ≡ r → neg_with paren inner ts ≡ negated_neg paren inner rest
+      go (Err d) e = rw (lead.stands, lead.reads, e) refl
+      go (Ok x) e = rw (lead.stands, lead.reads, e) refl
+
+  pub no_not_is : (ts : List Sign) → Lacks not_of ts → neg_with paren inner ts ≡ plain_neg_at paren inner ts
+  no_not_is ts none = go (plain_with paren inner ts) refl
+    where
+      go : (r : Result (((Rel × Expr) ⊎ Simple) × List Sign) Fault) → plain_with paren inner ts ≡ r → neg_with paren inner ts ≡ plain_neg_at paren inner ts
+      go (Err d) e = rw (none.stands, e) refl
+      go (Ok x) e = rw (none.stands, e) refl
+
+  -- ---- AND and OR
+
+  pub conj_is : (ts u v : List Sign) (n : Neg) (ns : List Neg) (c : Conj) → neg_with paren inner ts ≡ Ok (n, u) → negs_with paren inner u ≡ Ok (map behind_word ns, v) → c ≡ MkConj n (negs_of ns) → conj_with paren inner ts ≡ Ok (c, v)
+  conj_is ts u v n ns c e e' made = rw (e, e') (ap (λ (z : Conj). done (z, v)) (ap (λ (z : List Neg). MkConj n (negs_of z)) (bare ns) ∙ sym made))
+
+  pub cond_is : (ts u v : List Sign) (c : Conj) (cs : List Conj) (whole : Cond) → conj_with paren inner ts ≡ Ok (c, u) → conjs_with paren inner u ≡ Ok (map behind_word cs, v) → whole ≡ MkCond c (conjs_of cs) → cond_with paren inner ts ≡ Ok (whole, v)
+  cond_is ts u v c cs whole e e' made = rw (e, e') (ap (λ (z : Cond). done (z, v)) (ap (λ (z : List Conj). MkCond c (conjs_of z)) (bare cs) ∙ sym made))
 
 -- ---- whether the last takes NOT
 

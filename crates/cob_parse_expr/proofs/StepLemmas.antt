@@ -22,6 +22,10 @@ pub gives_wrong : {X Y : Type 0} (view : X → Y) (r : Result X Halt) (read : Re
 gives_wrong view (Ok x) read h e f = absurd e
 gives_wrong view (Err y) read h e f = subst (λ (z : Halt). Fails z read) (sym e) f
 
+-- where two readings are one
+pub gives_as : {X Y : Type 0} (view : X → Y) (r : Result X Halt) (a b : Result Y Fault) → a ≡ b → Gives view r b → Gives view r a
+gives_as view r a b e g = subst (Gives view r) (sym e) g
+
 pub signs_length : (ls : List Lexeme) → length ls ≡ length (signs ls)
 signs_length ls = sym (length-map ls plain_lexeme)
 
