@@ -5,9 +5,9 @@ mod OperandLaws
 mod ExprLaws
 mod Loop
 mod StepLemmas
-mod Agree
 mod Outcomes
 mod ExprAgree
+mod CondAgree
 mod ParseLemmas
 mod GuardLaws
 mod TestLaws
@@ -15,3 +15,5 @@ mod CondLaws
 mod ParenLaws
 mod OneAnswer
 mod Levels
+mod CondLemmas
+mod AloneLemmas
