@@ -7,3 +7,4 @@ pub mod LowLemmas
 pub mod AreaLemmas
 pub mod AnswerLemmas
 pub mod PrintLemmas
+pub mod NameLemmas

@@ -11,3 +11,4 @@ pub mod Known
 pub mod Layouts
 pub mod Answers
 pub mod Overlaps
+pub mod Names

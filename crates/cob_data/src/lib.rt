@@ -11,6 +11,7 @@ mod item_rules;
 mod layout;
 mod lengths;
 mod limits;
+mod names;
 mod read;
 mod rules;
 mod slice;
