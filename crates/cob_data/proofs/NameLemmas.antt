@@ -229,3 +229,23 @@ flags_step p xs i x flags more b within is flag pushed so_far =
   map_last : {A : Type 0} (p : A → Bool) (xs : List A) (x : A) → map p (xs ++ x ∷ []) ≡ map p xs ++ p x ∷ []
   map_last p [] x = refl
   map_last p (y ∷ ys) x = ap (λ t. p y ∷ t) (map_last p ys x)
+
+-- ---- the rule on FDs
+
+or_true : (a b c l : Bool) → l ≡ (a || b) → l ≡ true → l ≡ (a || b || c)
+or_true true b c l e t = e
+or_true false true c l e t = e
+or_true false false c l e t = absurd (cc)
+
+or_other : (a b c l : Bool) → l ≡ (a || b) → l ≡ false → c ≡ (a || b || c)
+or_other true b c l e f = absurd (cc)
+or_other false true c l e f = absurd (cc)
+or_other false false c l e f = refl
+
+pub fd_match_then : (f : Facts) (i : ℕ) (l : Bool) (d : Fd) → l ≡ (describes_name d.name (take i f.fds) || not (selects_name d.name f.selects)) → l ≡ true →
+    l ≡ breaks_fd_match (take i f.fds) f.selects f.items i d
+fd_match_then f i l d e t = or_true (describes_name d.name (take i f.fds)) (not (selects_name d.name f.selects)) (not (list_any (is_record_of i) f.items)) l e t
+
+pub fd_match_else : (f : Facts) (i : ℕ) (l has : Bool) (d : Fd) → l ≡ (describes_name d.name (take i f.fds) || not (selects_name d.name f.selects)) → l ≡ false → has ≡ list_any (is_record_of i) f.items →
+    not has ≡ breaks_fd_match (take i f.fds) f.selects f.items i d
+fd_match_else f i l has d e t is = ap not is ∙ or_other (describes_name d.name (take i f.fds)) (not (selects_name d.name f.selects)) (not (list_any (is_record_of i) f.items)) l e t
