@@ -8,3 +8,5 @@ pub mod AreaLemmas
 pub mod AnswerLemmas
 pub mod PrintLemmas
 pub mod NameLemmas
+pub mod PartLemmas
+pub mod StartLemmas

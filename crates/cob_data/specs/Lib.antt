@@ -12,3 +12,4 @@ pub mod Layouts
 pub mod Answers
 pub mod Overlaps
 pub mod Names
+pub mod Parts

@@ -8,6 +8,7 @@ mod end;
 mod entry;
 mod files;
 mod item_rules;
+mod laws;
 mod layout;
 mod lengths;
 mod limits;
@@ -23,4 +24,5 @@ mod values;
 
 pub use end::{DataEnd, Rule, Which};
 pub use layout::{FileDecl, Flag, Item, Layout, Pair, Sender};
+pub use laws::{groups_are_as_long_as_their_parts, parts_follow_each_other};
 pub use top::{layout_of, overlaps};
