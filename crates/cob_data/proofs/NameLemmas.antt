@@ -156,7 +156,7 @@ module _ {K S : Type 0} (text : K → List ℕ) (old new : HashMap K Bool S) (ke
       (q : List ℕ) → get_by (λ k. bytes_eq q (text k)) new ≡ cond (bytes_eq name q) (Some (is_none (get_by (λ k. bytes_eq q (text k)) old) && may)) (get_by (λ k. bytes_eq q (text k)) old)
   noted_name name updates spelled is q =
       subst (λ n. get_by (λ k. bytes_eq q (text k)) new ≡ cond (bytes_eq n q) (Some (is_none (get_by (λ k. bytes_eq q (text k)) old) && may)) (get_by (λ k. bytes_eq q (text k)) old)) spelled
-          (noted_at updates (subst (λ n. single ≡ (is_none (get_by (λ k. bytes_eq n (text k)) old) && may)) (sym spelled) is) q (bytes_eq (text key) q) refl)
+      (noted_at updates (subst (λ n. single ≡ (is_none (get_by (λ k. bytes_eq n (text k)) old) && may)) (sym spelled) is) q (bytes_eq (text key) q) refl)
 
 count_first : (p : Description → Bool) (d : Description) (ds : List Description) → count_by p (d ∷ ds) ≡ cond (p d) 1 0 + count_by p ds
 count_first p d ds = omega (arith, sum_by-append (λ x. cond (p x) 1 0) (d ∷ []) ds)
@@ -226,9 +226,9 @@ flags_step p xs i x flags more b within is flag pushed so_far =
     let one : i + 1 ≡ suc i = omega arith in
     let split : take (i + 1) xs ≡ take i xs ++ x ∷ [] = rw one (take-suc xs i x within ∙ ap (λ m. take i xs ++ m ∷ []) (sym is)) in
     rw (pushed, so_far, flag, split) (sym (map_last p (take i xs) x)) where
-  map_last : {A : Type 0} (p : A → Bool) (xs : List A) (x : A) → map p (xs ++ x ∷ []) ≡ map p xs ++ p x ∷ []
-  map_last p [] x = refl
-  map_last p (y ∷ ys) x = ap (λ t. p y ∷ t) (map_last p ys x)
+      map_last : {A : Type 0} (p : A → Bool) (xs : List A) (x : A) → map p (xs ++ x ∷ []) ≡ map p xs ++ p x ∷ []
+      map_last p [] x = refl
+      map_last p (y ∷ ys) x = ap (λ t. p y ∷ t) (map_last p ys x)
 
 -- ---- the rule on FDs
 

@@ -142,12 +142,11 @@ long_at above place next last (item d b r) es ts high none rest =
     let end : place + 1 + size b + size r ≡ place + size (item d b r) = omega arith in
     let later : AreAsLongAsParts (place + 1 + size b) (flat r ++ es) (O ++ ts) =
     long_at above (place + 1 + size b) (end_behind above next (lies_on_last above d last) s) (Some (record { item = d; spot = s })) r es ts
-        (λ p h. high p (omega (arith, h))) (λ p low up. none p (omega (arith, low)) (omega (arith, up, end))) (subst (λ n. AreAsLongAsParts n es ts) (sym end) rest) in
+    (λ p h. high p (omega (arith, h))) (λ p low up. none p (omega (arith, low)) (omega (arith, up, end))) (subst (λ n. AreAsLongAsParts n es ts) (sym end) rest) in
     let below : AreAsLongAsParts (place + 1) (flat b ++ (flat r ++ es)) (I ++ (O ++ ts)) =
     long_at (above_parts place s) (place + 1) s.start None b (flat r ++ es) (O ++ ts) (parts_above place s)
-        (λ p low up. apart_append p O ts (before p above (place + 1 + size b) (end_behind above next (lies_on_last above d last) s) (Some (record { item = d; spot = s })) r up (high p (omega (arith, low)))) (none p (omega (arith, low)) (omega (arith, up))))
-        later in
-    (
+    (λ p low up. apart_append p O ts (before p above (place + 1 + size b) (end_behind above next (lies_on_last above d last) s) (Some (record { item = d; spot = s })) r up (high p (omega (arith, low)))) (none p (omega (arith, low)) (omega (arith, up))))
+    later in (
       λ group. group_bytes d b group ∙ sym whole ∙ rw (append_assoc (flat b) (flat r) es, append_assoc I O ts) refl,
       rw (append_assoc (flat b) (flat r) es, append_assoc I O ts) below,
     )

@@ -139,6 +139,7 @@ below_place : (above : Above) (place p : ℕ) → IsAbove above place → above.
 below_place above place p high e = by (leb place p) refl where
   is_low : (h : place ≤ p) → ⊥
   is_low h = let no : eqb p p ≡ false = rw e at (high p h) in let yes = same_place p in absurd (cc)
+
   by : (x : Bool) → leb place p ≡ x → p < place
   by true t = absurd (is_low (grind (arith, nat_tests)))
   by false t = grind (arith, nat_tests)
@@ -197,11 +198,10 @@ behind_at above place next last (item d b r) ds ss items seats high none level h
     let items_beside : length ((ds ++ d ∷ []) ++ flat b) ≡ place + 1 + size b = omega (arith, length-append (ds ++ d ∷ []) (flat b), items_here, flat_length b) in
     let seats_beside : length ((ss ++ s ∷ []) ++ I) ≡ place + 1 + size b = omega (arith, length-append (ss ++ s ∷ []) I, seats_here, flat_length b, same) in
     let below = behind_at (above_parts place s) (place + 1) s.start None b (ds ++ d ∷ []) (ss ++ s ∷ []) items_here seats_here (parts_above place s)
-        (λ p h. with_this above place next last d b ds ss items seats high none p (omega (arith, h))) (level_below above place next last d b ds ss items seats high none) inside in
+    (λ p h. with_this above place next last d b ds ss items seats high none p (omega (arith, h))) (level_below above place next last d b ds ss items seats high none) inside in
     let beside = behind_at above (place + 1 + size b) (end_behind above next (lies_on_last above d last) s) (Some (record { item = d; spot = s })) r ((ds ++ d ∷ []) ++ flat b) ((ss ++ s ∷ []) ++ I) items_beside seats_beside
-        (λ p h. high p (omega (arith, h))) (none_beside above place next last d b ds ss items seats high none)
-        (level_beside above place next last d b ds ss items seats high none (λ e. has_last d last (have.0 e)) level) outside in
-    (
+    (λ p h. high p (omega (arith, h))) (none_beside above place next last d b ds ss items seats high none)
+    (level_beside above place next last d b ds ss items seats high none (λ e. has_last d last (have.0 e)) level) outside in (
       head_at above next last d ds ss s.start above.parent refl refl level,
       behind_append (ds ++ d ∷ []) (ss ++ s ∷ []) (flat b) (flat r) I O below beside,
     )

@@ -183,10 +183,7 @@ fn note_item(
 }
 
 /// For each name of items whether it names a single one, which may hold a status.
-fn status_items(
-    alloc: Global,
-    items: &[Description],
-) -> Result<IndexMap<Vec<u8>, bool>, AllocError>
+fn status_items(alloc: Global, items: &[Description]) -> Result<IndexMap<Vec<u8>, bool>, AllocError>
     ensures { IfOk result (λ m. (q : List ℕ) → unwrap_or (get_by (λ k. bytes_eq q k.items) m) false ≡ is_status_item q items.now) }
 {
     let mut notes = IndexMap::new(alloc);

@@ -1,7 +1,11 @@
 //! Layouts and refusals of small programs, built by hand.
+ghost use Rattle.std.specs.Prelude.{◌≤◌, ◌^◌, length, IfOk};
+ghost use Rattle.cob_tree.specs.StmtView.{plain_tree};
+ghost use Rattle.cob_tree.specs.PrintStmt.{print_tree};
+
 use crate::end::{DataEnd, Rule, Which};
 use crate::layout::{FileDecl, Item, Layout};
-use crate::top::{checked_layout, overlaps};
+use crate::top::{checked_layout, layout_of, overlaps};
 use cob_tree::{
     Bytes, Clause, Const, Data, Described, EndProgram, Entry, Env, External, Fd, FdClause, Form,
     Front, Io, Many, Name, Num, Range, SelClause, Select, Tree,
@@ -232,13 +236,7 @@ fn program(
             name: Name::of(alloc, end)?,
         });
     }
-    Ok(tree_of(
-        alloc,
-        Many::of(selects),
-        Many::of(fds),
-        storage,
-        last,
-    )?)
+    Ok(tree_of(alloc, Many::of(selects), Many::of(fds), storage, last)?)
 }
 
 fn has_name(name: &Option<Name>, text: &[u8]) -> bool {
@@ -592,7 +590,11 @@ const CASES: [Case; 20] = [
     ),
     // an earlier rule comes before an earlier line
     (
-        &[(b"01", b"A", b"", b"", b""), (b"05", b"B", b"X", b"", b""), (b"50", b"C", b"X", b"", b"")],
+        &[
+            (b"01", b"A", b"", b"", b""),
+            (b"05", b"B", b"X", b"", b""),
+            (b"50", b"C", b"X", b"", b""),
+        ],
         DataEnd::Outside {
             rule: Rule::L1,
             line: 3,
@@ -865,6 +867,46 @@ fn rules_come_before_limits(rt: HostRuntime) -> Result<(), Fail> {
 }
 
 // ---- public calls
+
+/// A program of one item, 77 A PIC X(80).
+fn small_program(alloc: Global) -> Result<Tree, AllocError>
+    ensures { IfOk result (λ t. length (print_tree (plain_tree t)) ≤ 2 ^ 27) }
+{
+    let mut clauses = Vec::new(alloc);
+    clauses.push(Clause::Pic(Bytes::of(alloc, b"X(80)")?))?;
+    let mut storage = Vec::new(alloc);
+    storage.push(Entry {
+        line: 1,
+        level: number(alloc, b"77")?,
+        name: Some(Described::Name(Name::of(alloc, b"A")?)),
+        clauses: Many::of(clauses),
+    })?;
+    Ok(Tree {
+        front: Front {
+            name: Name::of(alloc, b"P")?,
+            env: None,
+            data: Some(Data {
+                files: None,
+                storage: Some(Many::of(storage)),
+            }),
+        },
+        sentences: Many::of(Vec::new(alloc)),
+        paragraphs: Many::of(Vec::new(alloc)),
+        end: None,
+    })
+}
+
+#[test]
+fn small_program_is_laid_out(rt: HostRuntime) -> Result<(), Fail> {
+    let alloc = rt.alloc();
+    let tree = small_program(alloc)?;
+    let good = match layout_of(alloc, &tree) {
+        Ok(layout) => lies_so(&layout, &[(b"A", 0, 80)]) && layout.storage == 80,
+        Err(_) => false,
+    };
+    assert!(&rt; good);
+    Ok(())
+}
 
 fn bytes_at(offset: u32, length: u32) -> Item {
     Item {
