@@ -7,3 +7,6 @@ pub mod LowLemmas
 pub mod AreaLemmas
 pub mod AnswerLemmas
 pub mod PrintLemmas
+pub mod NameLemmas
+pub mod PartLemmas
+pub mod StartLemmas

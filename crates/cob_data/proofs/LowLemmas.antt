@@ -10,7 +10,7 @@ use Rattle.cob_data.specs.Files.{longest, largest_record, is_record_of}
 use Rattle.cob_data.specs.Layouts.{area_start}
 use Rattle.cob_data.specs.Known.{AreLow}
 
-all_append : (P : Spot → Type 0) (xs ys : List Spot) → AllByRecursion P xs → AllByRecursion P ys → AllByRecursion P (xs ++ ys)
+pub all_append : (P : Spot → Type 0) (xs ys : List Spot) → AllByRecursion P xs → AllByRecursion P ys → AllByRecursion P (xs ++ ys)
 all_append P [] ys p q = q
 all_append P (x ∷ xs) ys p q = (p.0, all_append P xs ys p.1 q)
 

@@ -1,5 +1,5 @@
 -- What the data entries of a tree say.
-use Rattle.std.specs.Prelude.{◌/◌, nat_le, length, ℕ, ◌+◌, ◌-◌, ◌*◌, Bool, true, false, ◌==◌, ◌&&◌, if◌then◌else◌, is_some, List, [], ◌∷◌, ◌++◌, map, find, Option, Some, None}
+use Rattle.std.specs.Prelude.{length, ℕ, ◌+◌, ◌-◌, ◌*◌, Bool, true, false, ◌==◌, ◌&&◌, if◌then◌else◌, is_some, List, [], ◌∷◌, ◌++◌, map, find, Option, Some, None}
 use Rattle.cob_tree.specs.declared.token.Num.{Num}
 use Rattle.cob_tree.specs.declared.operand.Const.{Const}
 use Rattle.cob_tree.specs.declared.operand.Const.TheVariants as const
@@ -17,6 +17,7 @@ use Rattle.cob_tree.specs.declared.front.Clause.{Clause}
 use Rattle.cob_tree.specs.declared.front.Clause.TheVariants as clause
 use Rattle.cob_tree.specs.declared.front.Range.{Range}
 use Rattle.cob_tree.specs.PictureForms.{picture_form}
+use Rattle.num_bytes.specs.Reading.{number_length}
 use Rattle.cob_data.specs.declared.layout.Sender.{Sender}
 use Rattle.cob_data.specs.declared.layout.Sender.TheVariants as sender
 use Rattle.cob_data.specs.declared.description.Area.{Area}
@@ -123,21 +124,10 @@ pictured_form (Some text) = form_or_group (picture_form text)
 
 -- ---- bytes of a form
 
--- bytes of a binary number: 2 up to 4 digits, 4 up to 9, else 8
-abbrev pub binary_bytes : ℕ → ℕ
-binary_bytes digits = if nat_le digits 4 then 2 else if nat_le digits 9 then 4 else 8
-
-abbrev pub number_bytes : ℕ → Usage → ℕ
-number_bytes digits Display = digits
-number_bytes digits Leading = digits + 1
-number_bytes digits Trailing = digits + 1
-number_bytes digits Binary = binary_bytes digits
-number_bytes digits Packed = digits / 2 + 1
-
 abbrev pub form_bytes : Form → ℕ
 form_bytes form.Group = 0
 form_bytes (form.Text n) = n
-form_bytes (form.Number digits scale signed usage) = number_bytes digits usage
+form_bytes (form.Number digits scale signed usage) = number_length digits usage
 form_bytes (form.Edited picture digits scale) = length picture
 
 -- ---- entries

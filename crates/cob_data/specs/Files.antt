@@ -90,8 +90,11 @@ abbrev pub is_two_bytes : Form → Bool
 is_two_bytes (form.Text n) = n == 2
 is_two_bytes _ = false
 
+abbrev pub is_status_holder : Description → Bool
+is_status_holder d = not (is_file d.area) && is_two_bytes d.form
+
 abbrev pub may_hold_status : List ℕ → Description → Bool
-may_hold_status name d = is_named name d && not (is_file d.area) && is_two_bytes d.form
+may_hold_status name d = is_named name d && is_status_holder d
 
 abbrev pub is_status_item : List ℕ → List Description → Bool
 is_status_item name ds = count_by (is_named name) ds == 1 && list_any (may_hold_status name) ds

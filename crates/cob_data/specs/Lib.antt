@@ -11,3 +11,5 @@ pub mod Known
 pub mod Layouts
 pub mod Answers
 pub mod Overlaps
+pub mod Names
+pub mod Parts

@@ -1,8 +1,9 @@
 ghost use Rattle.std.specs.Prelude.{◌≡◌, ◌≤◌, ◌<◌, ◌+◌, ◌^◌, ◌++◌, ◌∷◌, true, false, List, is_some, length, find, map, IfOk, IfErr, OnOk};
 ghost use Rattle.std.specs.Option.{option_copied};
-ghost use Rattle.cob_data.specs.Entries.{two_digits, level_of, name_of, is_picture, is_redefines, is_usage, is_sign, is_value, text_in, usage_in, sender_of, sender_if, span_of, spans_in, kept_as, form_kept_as, form_or_group, pictured_form, form_bytes, binary_bytes, number_bytes, Placed, description, only_values, condition, is_condition, owner_in, placed};
+ghost use Rattle.cob_data.specs.Entries.{two_digits, level_of, name_of, is_picture, is_redefines, is_usage, is_sign, is_value, text_in, usage_in, sender_of, sender_if, span_of, spans_in, kept_as, form_kept_as, form_or_group, pictured_form, form_bytes, Placed, description, only_values, condition, is_condition, owner_in, placed};
 ghost use Rattle.cob_data.specs.Reading.{IsFormed, Moves};
 ghost use Rattle.cob_tree.specs.PictureForms.{picture_form};
+ghost use Rattle.num_bytes.specs.Reading.{number_length};
 
 use crate::description::{Area, Condition, Description, Span};
 use crate::layout::Sender;
@@ -323,27 +324,17 @@ fn pictured_form(alloc: Global, clause: Option<&Clause>) -> Result<Form, AllocEr
     }
 }
 
-fn binary_bytes(digits: u32) -> u32
-    ensures { result ≡ binary_bytes digits }
-{
-    if digits <= 4 {
-        2
-    } else if digits <= 9 {
-        4
-    } else {
-        8
-    }
-}
-
+/// The bytes of a number with so many digits.
 fn number_bytes(digits: u32, usage: Usage) -> u32
     requires { digits ≤ 18 }
-    ensures { result ≡ number_bytes digits usage }
+    ensures { result ≡ number_length digits usage }
 {
     match usage {
         Usage::Display => digits,
-        Usage::Leading => digits + 1,
-        Usage::Trailing => digits + 1,
-        Usage::Binary => binary_bytes(digits),
+        Usage::Leading | Usage::Trailing => digits + 1,
+        Usage::Binary if digits <= 4 => 2,
+        Usage::Binary if digits <= 9 => 4,
+        Usage::Binary => 8,
         Usage::Packed => digits / 2 + 1,
     }
 }

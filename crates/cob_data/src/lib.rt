@@ -8,9 +8,11 @@ mod end;
 mod entry;
 mod files;
 mod item_rules;
+mod laws;
 mod layout;
 mod lengths;
 mod limits;
+mod names;
 mod read;
 mod rules;
 mod slice;
@@ -21,5 +23,6 @@ mod top;
 mod values;
 
 pub use end::{DataEnd, Rule, Which};
+pub use laws::{groups_are_as_long_as_their_parts, parts_follow_each_other};
 pub use layout::{FileDecl, Flag, Item, Layout, Pair, Sender};
 pub use top::{layout_of, overlaps};

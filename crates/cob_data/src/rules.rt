@@ -1,20 +1,22 @@
-ghost use Rattle.std.specs.Prelude.{◌≡◌, ◌≤◌, ◌<◌, ◌+◌, ◌^◌, ◌++◌, ◌∷◌, [], take, drop, length};
+ghost use Rattle.std.specs.Prelude.{◌≡◌, ◌≤◌, ◌<◌, ◌^◌, [], take, length, slice_index_or};
 ghost use Rattle.rule_order.specs.Order.{least, first_broken};
 ghost use Rattle.cob_data.specs.Rules.{item_breaks, condition_breaks, select_breaks, fd_breaks, end_breaks, item_lines, condition_lines, select_lines, fd_lines, end_lines, lines_in, data_rules, count_of, limit_of};
+ghost use Rattle.cob_tree.specs.declared.front.Select.{Select};
+ghost use Rattle.cob_tree.specs.declared.front.Fd.{Fd};
 ghost use Rattle.cob_data.specs.Known.{AreSeated};
+ghost use Rattle.cob_data.specs.Names.{HasNames};
+ghost use Rattle.cob_data.specs.Files.{breaks_fd_match};
 ghost use Rattle.cob_data.specs.Answers.{limit_or, limit_in, refusal_in};
 
 use crate::description::{Condition, Description, Spot};
 use crate::end::{DataEnd, Rule, Which};
-use crate::files::{
-    breaks_end, breaks_externals, breaks_fd_match, breaks_record_size, breaks_select_match,
-    breaks_status,
-};
+use crate::files::{breaks_end, breaks_record_size, has_record};
 use crate::item_rules::{
     breaks_conditions, breaks_levels, breaks_parts, breaks_pictures, breaks_redefinitions,
     breaks_usages, breaks_values, is_stray,
 };
 use crate::limits::{count_items, storage_of};
+use crate::names::Names;
 use cob_tree::{EndProgram, Fd, Name, Select};
 use rule_order::{lesser, noted};
 use std::marker::Model;
@@ -113,23 +115,37 @@ impl<'a> Known<'a> {
         }
     }
 
-    fn select_breaks(&self, rule: Rule, before: &[Select], select: &Select) -> bool
-        ensures { result ≡ select_breaks rule self.now before.now select.now }
+    /// Whether a rule is broken at the SELECT of this place.
+    fn select_breaks(&self, names: &Names, rule: Rule, place: usize) -> bool
+        requires named { HasNames names.now self.now }
+        requires within { place < length self.now.selects }
+        ensures { (s : Select) → s ≡ slice_index_or self.now.selects place s → result ≡ select_breaks rule self.now (take place self.now.selects) s }
     {
         match rule {
-            Rule::L8 => breaks_select_match(before, self.fds, select),
-            Rule::L10 => breaks_externals(before, select),
-            Rule::L11 => breaks_status(&self.items, select),
+            Rule::L8 => names.breaks_select_match(place),
+            Rule::L10 => names.breaks_externals(place),
+            Rule::L11 => names.breaks_status(place),
             _ => false,
         }
     }
 
-    fn fd_breaks(&self, rule: Rule, before: &[Fd], file: u32, fd: &Fd) -> bool
-        requires { AreSeated self.now }
-        ensures { result ≡ fd_breaks rule self.now before.now file fd.now }
+    fn breaks_fd_match(&self, names: &Names, file: u32) -> bool
+        requires named { HasNames names.now self.now }
+        requires within { file < length self.now.fds }
+        ensures { (d : Fd) → d ≡ slice_index_or self.now.fds file d → result ≡ breaks_fd_match (take file self.now.fds) self.now.selects self.now.items file d }
+    {
+        names.lacks_select(file as usize) || !has_record(file, &self.items)
+    }
+
+    fn fd_breaks(&self, names: &Names, rule: Rule, file: u32, fd: &Fd) -> bool
+        requires seated { AreSeated self.now }
+        requires named { HasNames names.now self.now }
+        requires within { file < length self.now.fds }
+        requires is { fd.now ≡ slice_index_or self.now.fds file fd.now }
+        ensures { result ≡ fd_breaks rule self.now (take file self.now.fds) file fd.now }
     {
         match rule {
-            Rule::L8 => breaks_fd_match(before, self.selects, &self.items, file, fd),
+            Rule::L8 => self.breaks_fd_match(names, file),
             Rule::L9 => breaks_record_size(&self.items, &self.spots, file, fd),
             _ => false,
         }
@@ -161,53 +177,57 @@ impl<'a> Known<'a> {
         first
     }
 
-    fn select_line(&self, rule: Rule) -> Option<u32>
+    fn select_line(&self, names: &Names, rule: Rule) -> Option<u32>
+        requires { HasNames names.now self.now }
         ensures { result ≡ least (select_lines rule self.now [] self.now.selects) }
     {
         let mut first = None;
         for place in 0..self.selects.len() {
             let select = &self.selects[place];
-            let broken = self.select_breaks(rule, &self.selects[..place], select);
+            let broken = self.select_breaks(names, rule, place);
             first = noted(first, broken, select.line);
         }
         first
     }
 
-    fn fd_line(&self, rule: Rule) -> Option<u32>
+    fn fd_line(&self, names: &Names, rule: Rule) -> Option<u32>
         requires seated { AreSeated self.now }
+        requires named { HasNames names.now self.now }
         requires few { length self.now.fds ≤ 2 ^ 27 }
         ensures { result ≡ least (fd_lines rule self.now [] self.now.fds) }
     {
         let mut first = None;
         for place in 0..self.fds.len() {
             let fd = &self.fds[place];
-            let broken = self.fd_breaks(rule, &self.fds[..place], place as u32, fd);
+            let broken = self.fd_breaks(names, rule, place as u32, fd);
             first = noted(first, broken, fd.line);
         }
         first
     }
 
     /// The first line at which a rule is broken.
-    fn first_line(&self, rule: Rule) -> Option<u32>
+    fn first_line(&self, names: &Names, rule: Rule) -> Option<u32>
         requires seated { AreSeated self.now }
+        requires named { HasNames names.now self.now }
         requires few { length self.now.fds ≤ 2 ^ 27 }
         ensures { result ≡ least (lines_in self.now rule) }
     {
         let items = self.item_line(rule);
         let data = lesser(items, self.condition_line(rule));
-        let selects = lesser(data, self.select_line(rule));
-        let files = lesser(selects, self.fd_line(rule));
+        let selects = lesser(data, self.select_line(names, rule));
+        let files = lesser(selects, self.fd_line(names, rule));
         lesser(files, self.end_line(rule))
     }
 
-    fn first_among(&self, rules: &[Rule]) -> Option<(Rule, u32)>
+    fn first_among(&self, names: &Names, rules: &[Rule]) -> Option<(Rule, u32)>
         requires seated { AreSeated self.now }
+        requires named { HasNames names.now self.now }
         requires few { length self.now.fds ≤ 2 ^ 27 }
         ensures { result ≡ first_broken (lines_in self.now) rules.now }
     {
         for place in 0..rules.len() {
             let rule = rules[place];
-            match self.first_line(rule) {
+            match self.first_line(names, rule) {
                 None => {}
                 Some(line) => return Some((rule, line)),
             }
@@ -216,12 +236,13 @@ impl<'a> Known<'a> {
     }
 
     /// The first rule on data that is broken, with its first line.
-    pub fn first_broken(&self) -> Option<(Rule, u32)>
+    pub fn first_broken(&self, names: &Names) -> Option<(Rule, u32)>
         requires seated { AreSeated self.now }
+        requires named { HasNames names.now self.now }
         requires few { length self.now.fds ≤ 2 ^ 27 }
         ensures { result ≡ first_broken (lines_in self.now) data_rules }
     {
-        self.first_among(&DATA_RULES)
+        self.first_among(names, &DATA_RULES)
     }
 }
 
@@ -274,12 +295,13 @@ fn limit_in(known: &Known) -> Option<DataEnd>
 }
 
 /// Why there is no layout: the first broken rule, or else the first limit that is exceeded.
-pub fn refusal_in(known: &Known) -> Option<DataEnd>
+pub fn refusal_in(known: &Known, names: &Names) -> Option<DataEnd>
     requires seated { AreSeated known.now }
+    requires named { HasNames names.now known.now }
     requires few { length known.now.fds ≤ 2 ^ 27 }
     ensures { result ≡ refusal_in known.now }
 {
-    match known.first_broken() {
+    match known.first_broken(names) {
         None => limit_in(known),
         Some((rule, line)) => Some(DataEnd::Outside { rule, line }),
     }

@@ -1,10 +1,14 @@
 //! Layouts and refusals of small programs, built by hand.
+ghost use Rattle.std.specs.Prelude.{◌≤◌, ◌^◌, length, IfOk};
+ghost use Rattle.cob_tree.specs.StmtView.{plain_tree};
+ghost use Rattle.cob_tree.specs.PrintStmt.{print_tree};
+
 use crate::end::{DataEnd, Rule, Which};
-use crate::layout::Layout;
-use crate::top::checked_layout;
+use crate::layout::{FileDecl, Item, Layout};
+use crate::top::{checked_layout, layout_of, overlaps};
 use cob_tree::{
-    Bytes, Clause, Const, Data, Described, EndProgram, Entry, Env, External, Fd, FdClause, Front,
-    Io, Many, Name, Num, Range, SelClause, Select, Tree,
+    Bytes, Clause, Const, Data, Described, EndProgram, Entry, Env, External, Fd, FdClause, Form,
+    Front, Io, Many, Name, Num, Range, SelClause, Select, Tree,
 };
 use std::alloc::{AllocError, Global};
 use std::test::Fail;
@@ -174,6 +178,31 @@ fn fd(alloc: Global, next: &mut u32, file: &File) -> Result<Fd, AllocError> {
     })
 }
 
+fn tree_of(
+    alloc: Global,
+    selects: Many<Select>,
+    fds: Many<Fd>,
+    storage: Many<Entry>,
+    end: Option<EndProgram>,
+) -> Result<Tree, AllocError> {
+    Ok(Tree {
+        front: Front {
+            name: Name::of(alloc, b"P")?,
+            env: Some(Env {
+                config: None,
+                io: Some(Io { selects }),
+            }),
+            data: Some(Data {
+                files: Some(fds),
+                storage: Some(storage),
+            }),
+        },
+        sentences: Many::of(Vec::new(alloc)),
+        paragraphs: Many::of(Vec::new(alloc)),
+        end,
+    })
+}
+
 /// A program whose lines are its SELECTs, its FDs with their entries, its storage, and END PROGRAM: `P` names it, and
 /// none stands there for an empty name. A SELECT without external name and an FD with the external name `-` are left
 /// out.
@@ -207,24 +236,7 @@ fn program(
             name: Name::of(alloc, end)?,
         });
     }
-    Ok(Tree {
-        front: Front {
-            name: Name::of(alloc, b"P")?,
-            env: Some(Env {
-                config: None,
-                io: Some(Io {
-                    selects: Many::of(selects),
-                }),
-            }),
-            data: Some(Data {
-                files: Some(Many::of(fds)),
-                storage: Some(storage),
-            }),
-        },
-        sentences: Many::of(Vec::new(alloc)),
-        paragraphs: Many::of(Vec::new(alloc)),
-        end: last,
-    })
+    Ok(tree_of(alloc, Many::of(selects), Many::of(fds), storage, last)?)
 }
 
 fn has_name(name: &Option<Name>, text: &[u8]) -> bool {
@@ -246,6 +258,14 @@ fn lies_so(layout: &Layout, wanted: &[(&[u8], u32, u32)]) -> bool {
         }
     }
     true
+}
+
+/// Whether a file's area and records are these. A file without status item has the place 999 for it.
+fn is_file(file: &FileDecl, area: (u32, u32), records: &[u32], status: u32) -> bool {
+    file.offset == area.0
+        && file.length == area.1
+        && file.records.get() == records
+        && file.status.unwrap_or(999) == status
 }
 
 const PAYROLL_FILES: [File; 2] = [
@@ -339,6 +359,15 @@ const PAYROLL_ITEMS: [(&[u8], u32, u32); 31] = [
     (b"TOTAL-GROSS", 58, 9),
 ];
 
+fn has_payroll_files(files: &[FileDecl]) -> bool {
+    match files {
+        [first, second] => {
+            is_file(first, (0, 12), &[0, 4, 9], 23) && is_file(second, (12, 24), &[13, 19], 999)
+        }
+        _ => false,
+    }
+}
+
 #[test]
 fn payroll_is_laid_out(rt: HostRuntime) -> Result<(), Fail> {
     let alloc = rt.alloc();
@@ -348,7 +377,43 @@ fn payroll_is_laid_out(rt: HostRuntime) -> Result<(), Fail> {
             lies_so(&layout, &PAYROLL_ITEMS)
                 && layout.storage == 67
                 && layout.flags.get().len() == 4
-                && layout.files.get().len() == 2
+                && has_payroll_files(layout.files.get())
+        }
+        Some(Err(_)) => false,
+        None => false,
+    };
+    assert!(&rt; good);
+    Ok(())
+}
+
+const READER_FILES: [File; 1] = [(
+    b"F",
+    b"INP",
+    b"",
+    b"",
+    &[(b"01", b"REC", b"X(80)", b"", b"")],
+)];
+
+const READER_STORAGE: [Line; 1] = [(b"77", b"E", b"X", b"VALUE", b"'N")];
+
+const READER_ITEMS: [(&[u8], u32, u32); 2] = [(b"REC", 0, 80), (b"E", 80, 1)];
+
+fn is_reader_file(files: &[FileDecl]) -> bool {
+    match files {
+        [file] => is_file(file, (0, 80), &[0], 999) && file.external.get() == b"INP".as_slice(),
+        _ => false,
+    }
+}
+
+#[test]
+fn reader_is_laid_out(rt: HostRuntime) -> Result<(), Fail> {
+    let alloc = rt.alloc();
+    let tree = program(alloc, &READER_FILES, &READER_STORAGE, b"")?;
+    let good = match checked_layout(alloc, &tree) {
+        Some(Ok(layout)) => {
+            lies_so(&layout, &READER_ITEMS)
+                && layout.storage == 81
+                && is_reader_file(layout.files.get())
         }
         Some(Err(_)) => false,
         None => false,
@@ -360,8 +425,22 @@ fn payroll_is_laid_out(rt: HostRuntime) -> Result<(), Fail> {
 /// What a program is refused for: storage entries alone, the rule, and the line.
 type Case = (&'static [Line], DataEnd);
 
-const CASES: [Case; 14] = [
-    // a level of one digit, and an entry before any record
+const CASES: [Case; 20] = [
+    // a level of one digit, one above 49, and an entry before any record
+    (
+        &[(b"1", b"A", b"X", b"", b"")],
+        DataEnd::Outside {
+            rule: Rule::L1,
+            line: 1,
+        },
+    ),
+    (
+        &[(b"01", b"A", b"", b"", b""), (b"50", b"B", b"X", b"", b"")],
+        DataEnd::Outside {
+            rule: Rule::L1,
+            line: 2,
+        },
+    ),
     (
         &[(b"05", b"A", b"X", b"", b"")],
         DataEnd::Outside {
@@ -429,6 +508,25 @@ const CASES: [Case; 14] = [
             line: 1,
         },
     ),
+    // no value on edited items, nor in a redefinition
+    (
+        &[(b"77", b"A", b"Z9", b"VALUE", b"5")],
+        DataEnd::Outside {
+            rule: Rule::L5,
+            line: 1,
+        },
+    ),
+    (
+        &[
+            (b"01", b"A", b"X", b"", b""),
+            (b"01", b"B", b"", b"REDEFINES", b"A"),
+            (b"05", b"C", b"X", b"VALUE", b"'C"),
+        ],
+        DataEnd::Outside {
+            rule: Rule::L5,
+            line: 3,
+        },
+    ),
     // a chain, and one that is longer below 01
     (
         &[
@@ -478,6 +576,30 @@ const CASES: [Case; 14] = [
             line: 3,
         },
     ),
+    // behind a group
+    (
+        &[
+            (b"01", b"A", b"", b"", b""),
+            (b"88", b"B", b"", b"VALUE", b"'A"),
+            (b"05", b"C", b"X", b"", b""),
+        ],
+        DataEnd::Outside {
+            rule: Rule::L7,
+            line: 2,
+        },
+    ),
+    // an earlier rule comes before an earlier line
+    (
+        &[
+            (b"01", b"A", b"", b"", b""),
+            (b"05", b"B", b"X", b"", b""),
+            (b"50", b"C", b"X", b"", b""),
+        ],
+        DataEnd::Outside {
+            rule: Rule::L1,
+            line: 3,
+        },
+    ),
     (
         &[
             (b"77", b"A", b"X(1048576)", b"", b""),
@@ -513,7 +635,7 @@ fn entries_are_refused(rt: HostRuntime) -> Result<(), Fail> {
 /// What a program with files is refused for.
 type FileCase = (&'static [File], &'static [u8], Rule, u32);
 
-const FILE_CASES: [FileCase; 8] = [
+const FILE_CASES: [FileCase; 14] = [
     // a 77 in the FILE SECTION
     (
         &[(b"F", b"X", b"", b"", &[(b"77", b"R", b"X", b"", b"")])],
@@ -549,7 +671,32 @@ const FILE_CASES: [FileCase; 8] = [
         Rule::L6,
         4,
     ),
-    // an FD without a record, and a SELECT without an FD
+    // two files of one name: the later SELECT, and the later FD
+    (
+        &[
+            (b"F", b"X", b"", b"", &[(b"01", b"R", b"X", b"", b"")]),
+            (b"F", b"-", b"", b"", &[]),
+        ],
+        b"P",
+        Rule::L8,
+        2,
+    ),
+    (
+        &[
+            (b"F", b"X", b"", b"", &[(b"01", b"R", b"X", b"", b"")]),
+            (b"F", b"", b"", b"", &[(b"01", b"R", b"X", b"", b"")]),
+        ],
+        b"P",
+        Rule::L8,
+        4,
+    ),
+    // an FD without a SELECT, one without a record, and a SELECT without an FD
+    (
+        &[(b"F", b"", b"", b"", &[(b"01", b"R", b"X", b"", b"")])],
+        b"P",
+        Rule::L8,
+        1,
+    ),
     (&[(b"F", b"X", b"", b"", &[])], b"P", Rule::L8, 2),
     (&[(b"F", b"-", b"", b"", &[])], b"P", Rule::L8, 1),
     (
@@ -557,6 +704,38 @@ const FILE_CASES: [FileCase; 8] = [
         b"P",
         Rule::L9,
         2,
+    ),
+    // one external name in capitals and in small letters
+    (
+        &[
+            (b"F", b"INP", b"", b"", &[(b"01", b"R", b"X", b"", b"")]),
+            (b"G", b"inp", b"", b"", &[(b"01", b"S", b"X", b"", b"")]),
+        ],
+        b"P",
+        Rule::L10,
+        2,
+    ),
+    // a status that is missing, that stands in a record, and that is there twice
+    (
+        &[(b"F", b"X", b"R", b"", &[(b"01", b"R", b"XX", b"", b"")])],
+        b"P",
+        Rule::L11,
+        1,
+    ),
+    (
+        &[(
+            b"F",
+            b"X",
+            b"T",
+            b"",
+            &[
+                (b"01", b"R", b"XX", b"", b""),
+                (b"01", b"T", b"XX", b"", b""),
+            ],
+        )],
+        b"P",
+        Rule::L11,
+        1,
     ),
     (
         &[(b"F", b"X", b"S", b"1.0", &[(b"01", b"R", b"X", b"", b"")])],
@@ -580,6 +759,185 @@ fn files_are_refused(rt: HostRuntime) -> Result<(), Fail> {
         let answer = checked_layout(alloc, &tree);
         let good = is_refused(&answer, DataEnd::Outside { rule, line });
         assert!(&rt; good);
+    }
+    Ok(())
+}
+
+// ---- limits
+
+/// A program of so many items of one byte.
+fn program_of_items(alloc: Global, count: u32, picture: &'static [u8]) -> Result<Tree, AllocError> {
+    let mut storage = Vec::new(alloc);
+    for line in 0..count {
+        let one = entry(alloc, line, &(b"77", b"A", picture, b"", b""))?;
+        storage.push(one)?;
+    }
+    Ok(tree_of(
+        alloc,
+        Many::of(Vec::new(alloc)),
+        Many::of(Vec::new(alloc)),
+        Many::of(storage),
+        None,
+    )?)
+}
+
+/// A program of so many files.
+fn program_of_files(alloc: Global, count: u8) -> Result<Tree, AllocError> {
+    let mut selects = Vec::new(alloc);
+    let mut fds = Vec::new(alloc);
+    for place in 0..count {
+        let name = [b'F', b'A'.saturating_add(place)];
+        let mut entries = Vec::new(alloc);
+        let record = entry(alloc, 1, &(b"01", b"R", b"X", b"", b""))?;
+        entries.push(record)?;
+        selects.push(Select {
+            line: 1,
+            name: Name::of(alloc, &name)?,
+            external: External::Name(Name::of(alloc, &name)?),
+            clauses: Many::of(Vec::new(alloc)),
+        })?;
+        fds.push(Fd {
+            line: 1,
+            name: Name::of(alloc, &name)?,
+            clauses: Many::of(Vec::new(alloc)),
+            entries: Many::of(entries),
+        })?;
+    }
+    Ok(tree_of(
+        alloc,
+        Many::of(selects),
+        Many::of(fds),
+        Many::of(Vec::new(alloc)),
+        None,
+    )?)
+}
+
+fn is_laid_out(answer: &Option<Result<Layout, DataEnd>>, storage: u32) -> bool {
+    match answer {
+        Some(Ok(layout)) => layout.storage == storage,
+        Some(Err(_)) => false,
+        None => false,
+    }
+}
+
+#[test]
+fn limits_are_kept(rt: HostRuntime) -> Result<(), Fail> {
+    let alloc = rt.alloc();
+    let items = program_of_items(alloc, 512, b"X")?;
+    let files = program_of_files(alloc, 16)?;
+    let storage = program(alloc, &[], &[(b"77", b"A", b"X(1048576)", b"", b"")], b"")?;
+    let good = is_laid_out(&checked_layout(alloc, &items), 512)
+        && is_laid_out(&checked_layout(alloc, &files), 16)
+        && is_laid_out(&checked_layout(alloc, &storage), 1_048_576);
+    assert!(&rt; good);
+    Ok(())
+}
+
+#[test]
+fn limits_are_told(rt: HostRuntime) -> Result<(), Fail> {
+    let alloc = rt.alloc();
+    let items = program_of_items(alloc, 513, b"X")?;
+    let few = DataEnd::Limit {
+        which: Which::Items,
+        count: 513,
+    };
+    let good = is_refused(&checked_layout(alloc, &items), few);
+    assert!(&rt; good);
+    let files = program_of_files(alloc, 17)?;
+    let fewer = DataEnd::Limit {
+        which: Which::Files,
+        count: 17,
+    };
+    let good = is_refused(&checked_layout(alloc, &files), fewer);
+    assert!(&rt; good);
+    Ok(())
+}
+
+#[test]
+fn rules_come_before_limits(rt: HostRuntime) -> Result<(), Fail> {
+    let alloc = rt.alloc();
+    let items = program_of_items(alloc, 513, b"9(19)")?;
+    let end = DataEnd::Outside {
+        rule: Rule::L3,
+        line: 0,
+    };
+    let good = is_refused(&checked_layout(alloc, &items), end);
+    assert!(&rt; good);
+    Ok(())
+}
+
+// ---- public calls
+
+/// A program of one item, 77 A PIC X(80).
+fn small_program(alloc: Global) -> Result<Tree, AllocError>
+    ensures { IfOk result (λ t. length (print_tree (plain_tree t)) ≤ 2 ^ 27) }
+{
+    let mut clauses = Vec::new(alloc);
+    clauses.push(Clause::Pic(Bytes::of(alloc, b"X(80)")?))?;
+    let mut storage = Vec::new(alloc);
+    storage.push(Entry {
+        line: 1,
+        level: number(alloc, b"77")?,
+        name: Some(Described::Name(Name::of(alloc, b"A")?)),
+        clauses: Many::of(clauses),
+    })?;
+    Ok(Tree {
+        front: Front {
+            name: Name::of(alloc, b"P")?,
+            env: None,
+            data: Some(Data {
+                files: None,
+                storage: Some(Many::of(storage)),
+            }),
+        },
+        sentences: Many::of(Vec::new(alloc)),
+        paragraphs: Many::of(Vec::new(alloc)),
+        end: None,
+    })
+}
+
+#[test]
+fn small_program_is_laid_out(rt: HostRuntime) -> Result<(), Fail> {
+    let alloc = rt.alloc();
+    let tree = small_program(alloc)?;
+    let good = match layout_of(alloc, &tree) {
+        Ok(layout) => lies_so(&layout, &[(b"A", 0, 80)]) && layout.storage == 80,
+        Err(_) => false,
+    };
+    assert!(&rt; good);
+    Ok(())
+}
+
+fn bytes_at(offset: u32, length: u32) -> Item {
+    Item {
+        name: None,
+        offset,
+        length,
+        form: Form::Group,
+        parent: None,
+        line: 1,
+        value: None,
+    }
+}
+
+// offset and length of two items, and whether they share bytes
+const RANGES: [(u32, u32, u32, u32, bool); 6] = [
+    (0, 5, 4, 2, true),
+    (4, 2, 0, 5, true),
+    (0, 9, 3, 1, true),
+    (0, 4, 4, 2, false),
+    (6, 1, 0, 2, false),
+    (3, 0, 0, 9, false),
+];
+
+#[test]
+fn ranges_overlap(rt: HostRuntime) -> Result<(), Fail> {
+    for (first, first_length, second, second_length, wanted) in RANGES {
+        let meets = overlaps(
+            &bytes_at(first, first_length),
+            &bytes_at(second, second_length),
+        );
+        assert_eq!(&rt; meets, wanted);
     }
     Ok(())
 }

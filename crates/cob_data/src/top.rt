@@ -16,6 +16,7 @@ ghost use Rattle.cob_data.specs.Answers.{IsAnswer, IsRefused, IsAccepted, IsJudg
 use crate::build::layout_in;
 use crate::end::DataEnd;
 use crate::layout::{Item, Layout};
+use crate::names::names_of;
 use crate::read::facts_of;
 #[cfg(test)]
 use crate::read::{entries_in, fds_in};
@@ -47,7 +48,8 @@ fn judged(alloc: Global, known: &Known) -> Result<Layout, DataEnd>
     requires short { length known.now.fds ≤ 2 ^ 27 }
     ensures { IsJudged known.now result }
 {
-    match refusal_in(known) {
+    let names = names_of(alloc, known.selects, known.fds, &known.items)?;
+    match refusal_in(known, &names) {
         Some(end) => Err(end),
         None => Ok(layout_in(alloc, known)?),
     }

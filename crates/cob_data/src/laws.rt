@@ -1,0 +1,15 @@
+ghost use Rattle.std.specs.Prelude.{◌≡◌, List, []};
+ghost use Rattle.cob_data.specs.declared.description.Description.{Description};
+ghost use Rattle.cob_data.specs.Spots.{all_spots};
+ghost use Rattle.cob_data.specs.Parts.{AreAsLongAsParts, AreBehind, MayRedefine};
+
+/// A law: a group is as long as its parts that redefine nothing (ISO 1989:1985, "Concept of levels").
+pub fn groups_are_as_long_as_their_parts()
+    ensures { (ds : List Description) → AreAsLongAsParts 0 ds (all_spots ds) }
+{}
+
+/// A law: where the rule on redefinitions is kept, a part of a group starts where the parts before it end, and a
+/// redefinition starts where the part before it starts (ISO 1989:1985, "REDEFINES clause").
+pub fn parts_follow_each_other()
+    ensures { (ds : List Description) → MayRedefine ds (all_spots ds) → AreBehind [] [] ds (all_spots ds) }
+{}
