@@ -1,0 +1,4 @@
+pub mod AboveLemmas
+pub mod HomeLemmas
+pub mod FoundLemmas
+pub mod MeaningLemmas

@@ -18,3 +18,7 @@ home_in m place = option_copied (get nat_eq m place)
 -- the map has each record of these files, with the name of the first file that has it
 abbrev pub HasHomes : {S : Type 0} → IndexMap ℕ (Bor (List ℕ)) S → List FileDecl → Type 0
 HasHomes m files = (place : ℕ) → home_in m place ≡ home_of files place
+
+abbrev pub list_of : Option (List ℕ) → List (Option (List ℕ))
+list_of None = []
+list_of (Some text) = Some text ∷ []

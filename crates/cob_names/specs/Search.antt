@@ -1,5 +1,5 @@
 -- The four kinds of things that have names, in one form: a name, and what is asked of a place beside it.
-use Rattle.std.specs.Prelude.{ℕ, ◌≡◌, ◌&&◌, ◌+◌, ◌<◌, ◌≤◌, ◌^◌, Bool, true, false, List, [], ◌∷◌, length, slice_get, Option, Some, None}
+use Rattle.std.specs.Prelude.{ℕ, ◌≡◌, ◌&&◌, ◌+◌, ◌<◌, ◌≤◌, ◌^◌, if◌then◌else◌, Bool, true, false, List, [], ◌∷◌, length, slice_get, Option, Some, None}
 use Rattle.std.specs.Borrow.{Bor}
 use Rattle.indexmap.specs.IndexMap.{IndexMap}
 use Rattle.cob_data.specs.declared.layout.Flag.{Flag}
@@ -83,4 +83,17 @@ IsPlace text names count (Some place) = (place < count) × (is_named text (names
 abbrev pub IsFoundFrom : (ℕ → Type 0) → ℕ → Found → Type 0
 IsFoundFrom Names from found.Nothing = (place : ℕ) → from ≤ place → Names place → ⊥
 IsFoundFrom Names from (found.One place) = (from ≤ place) × Names place × ((other : ℕ) → from ≤ other → Names other → other ≡ place)
-IsFoundFrom Names from found.Several = ⊥
+IsFoundFrom Names from found.Several = (first : ℕ) × (second : ℕ) × (from ≤ first) × (first < second) × Names first × Names second
+
+-- what is found with one more place
+abbrev pub found_and : Found → ℕ → Found
+found_and found.Nothing place = found.One place
+found_and (found.One other) place = found.Several
+found_and found.Several place = found.Several
+
+-- ---- a walk from an item up
+
+-- the qualifiers that are left behind a group
+abbrev pub left_behind : List (List ℕ) → Option (List ℕ) → List (List ℕ)
+left_behind [] name = []
+left_behind (q ∷ qs) name = if is_named q name then qs else q ∷ qs

@@ -1,10 +1,12 @@
-ghost use Rattle.std.specs.Prelude.{◌≡◌, ℕ, ◌+◌, ◌<◌, ◌≤◌, ◌∷◌, [], Option, Some, None, List, length, slice_get, IfOk, IsTrue};
+ghost use Rattle.std.specs.Prelude.{◌≡◌, ℕ, ◌+◌, ◌<◌, ◌≤◌, ◌^◌, ◌∷◌, [], Option, Some, None, List, length, slice_get, IfOk, if◌then◌else◌};
 ghost use Rattle.cob_tree.specs.declared.operand.Ref.{Ref};
 ghost use Rattle.cob_data.specs.declared.layout.Layout.{Layout};
 ghost use Rattle.cob_names.specs.declared.found.Found.{Found};
-ghost use Rattle.cob_names.specs.Names.{is_named, item_name, item_parent, above, above_at, qualifies, file_above, IsFound, NamesItem, NamesFlag, NamesFile, NamesRecord, alone};
+ghost use Rattle.cob_names.specs.Names.{is_named, item_name, item_parent, above, above_at, qualifies, file_above, IsFound, NamesItem, NamesFlag, NamesFile, NamesRecord, is_record, alone};
 ghost use Rattle.cob_names.specs.Tables.{IsTable};
-ghost use Rattle.cob_names.specs.Search.{name_in, count_in, fits, NamesIn, HasFewPlaces, flag_name, file_name};
+ghost use Rattle.cob_names.specs.Search.{name_in, count_in, fits, NamesIn, HasFewPlaces, flag_name, file_name, left_behind, found_and};
+ghost use Rattle.cob_names.specs.Homes.{list_of};
+ghost use Rattle.std.specs.Option.{option_copied};
 
 use crate::found::Found;
 use crate::homes::homes_of;
@@ -98,6 +100,42 @@ fn parent_of(items: &[Item], place: u32) -> Option<u32>
     }
 }
 
+/// The qualifiers that are left behind a group: all but the first, where that names the group.
+fn left_behind<'n>(items: &[Item], of: &'n [Name], group: u32) -> &'n [Name]
+    ensures { result.now ≡ left_behind of.now (item_name (slice_get items.now group)) }
+{
+    match of.split_first() {
+        None => of,
+        Some((first, others)) => {
+            if has_name(items, group, first) {
+                others
+            } else {
+                of
+            }
+        }
+    }
+}
+
+/// Whether no qualifier is left.
+fn none_left(of: &[Name]) -> bool
+    ensures { result ≡ qualifies of.now [] }
+{
+    of.is_empty()
+}
+
+/// Whether these qualifiers name a file: there is none, or its name alone.
+fn name_home(of: &[Name], home: Option<&[u8]>) -> bool
+    ensures { result ≡ qualifies of.now (list_of (option_copied home.entry)) }
+{
+    match of.split_first() {
+        None => true,
+        Some((first, others)) => match home {
+            None => false,
+            Some(file) => first.get() == file && none_left(others),
+        },
+    }
+}
+
 impl<'a> Names<'a> {
     /// The names of a layout.
     pub fn of(alloc: Global, layout: &'a Layout) -> Result<Names<'a>, AllocError>
@@ -128,40 +166,29 @@ impl<'a> Names<'a> {
     fn name_file(&self, of: &[Name], place: u32) -> bool
         ensures { result ≡ qualifies of.now (file_above self.now.files place) }
     {
-        if of.is_empty() {
-            true
-        } else if of.len() > 1 {
-            false
-        } else {
-            match self.homes.get(&place) {
-                None => false,
-                Some(file) => of[0].get() == *file,
-            }
-        }
+        name_home(of, self.homes.get(&place).copied())
     }
 
-    /// Whether each qualifier names one of what stands above a place below this group, in order; at most so many groups are
-    /// looked at.
+    /// Whether each qualifier names one of what stands above a place below this group, in order. At most so many
+    /// groups are looked at.
     fn qualify(&self, of: &[Name], place: u32, parent: Option<u32>, most: usize) -> bool
         ensures { result ≡ qualifies of.now (above_at self.now most place parent) }
     {
         let items = self.layout.items.get();
+        let mut left = of;
         let mut below = place;
         let mut above = parent;
-        let mut done: usize = 0;
-        for _ in 0..most {
+        for step in 0..most {
             match above {
-                None => return self.name_file(&of[done..], below),
+                None => return self.name_file(left, below),
                 Some(group) => {
-                    if done < of.len() && has_name(items, group, &of[done]) {
-                        done += 1;
-                    }
+                    left = left_behind(items, left, group);
                     below = group;
                     above = parent_of(items, group);
                 }
             }
         }
-        done == of.len()
+        none_left(left)
     }
 
     /// Whether the item stands below what these qualifiers name.
@@ -180,15 +207,34 @@ impl<'a> Names<'a> {
         self.qualify(of, item, Some(item), items.len() + 2)
     }
 
+    /// Whether the item is an 01 of a file.
+    fn is_record(&self, place: u32) -> bool
+        ensures { result ≡ is_record self.now.files place }
+    {
+        self.homes.contains_key(&place)
+    }
+
     fn fits(&self, kind: Kind, of: &[Name], place: u32) -> bool
         requires { place < count_in self.now kind }
         ensures { result ≡ fits self.now kind of.now place }
     {
         match kind {
             Kind::Item => self.stands_below(of, place),
-            Kind::Record => self.homes.contains_key(&place) && self.stands_below(of, place),
+            Kind::Record => self.is_record(place) && self.stands_below(of, place),
             Kind::Flag => self.stands_within(of, self.layout.flags.get()[place as usize].item),
             Kind::File => true,
+        }
+    }
+
+    /// What is found, with this place where it fits.
+    fn count(&self, kind: Kind, of: &[Name], place: u32, found: Found) -> Found
+        requires { place < count_in self.now kind }
+        ensures { result ≡ (if fits self.now kind of.now place then found_and found place else found) }
+    {
+        if self.fits(kind, of, place) {
+            found.and(place)
+        } else {
+            found
         }
     }
 
@@ -200,12 +246,7 @@ impl<'a> Names<'a> {
         let mut found = Found::Nothing;
         let mut next = table.last(name);
         while let Some(place) = next {
-            if self.fits(kind, of, place) {
-                match found {
-                    Found::Nothing => found = Found::One(place),
-                    _ => return Found::Several,
-                }
-            }
+            found = self.count(kind, of, place, found);
             next = table.before(place);
         }
         found

@@ -44,7 +44,7 @@ impl<'a> Table<'a> {
     /// The next place has this name.
     pub fn add(&mut self, name: Option<&'a Name>) -> Result<(), AllocError>
         requires { length self.old.earlier.items < 2 ^ 32 }
-        ensures { (names : ℕ → Option (List ℕ)) → IsTable self.old names (length self.old.earlier.items) → names (length self.old.earlier.items) ≡ option_copied name.entry → OnOk result (IsTable self.new names (length self.old.earlier.items + 1)) }
+        ensures { (names : ℕ → Option (List ℕ)) (count : ℕ) → IsTable self.old names count → names count ≡ option_copied name.entry → OnOk result (IsTable self.new names (count + 1)) }
     {
         let place = self.earlier.len() as u32;
         let before = note(&mut self.last, name, place)?;
