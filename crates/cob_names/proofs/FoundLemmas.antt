@@ -67,6 +67,13 @@ found_all N found.Nothing so_far = λ place. so_far place (omega arith)
 found_all N (found.One p) so_far = (so_far.1, λ place. so_far.2 place (omega arith))
 found_all N found.Several so_far = (so_far.0, so_far.1, so_far.3, so_far.4, so_far.5)
 
+pub found_two : (N : ℕ → Type 0) (from : ℕ) (f : Found) → f ≡ found.Several → IsFoundFrom N from f → IsFound N f
+found_two N from f is so_far = by f is so_far where
+  by : (f : Found) → f ≡ found.Several → IsFoundFrom N from f → IsFound N f
+  by found.Nothing e h = absurd (cc)
+  by (found.One p) e h = absurd (cc)
+  by found.Several e h = (h.0, h.1, h.3, h.4, h.5)
+
 -- ---- the walk
 
 module _ (l : Layout) (k : Kind) (text : List ℕ) (of : List (List ℕ)) where
@@ -83,13 +90,19 @@ module _ (l : Layout) (k : Kind) (text : List ℕ) (of : List (List ℕ)) where
   pub walk_smaller : (place : ℕ) (next now : Option ℕ) → now ≡ Some place → next ≡ last_named text (name_in l k) place → bound next < bound now
   walk_smaller place next now at is = rw at (omega (arith, walk_falls place next is))
 
+  pub walk_stops : (place : ℕ) (now : Option ℕ) (f g : Found) → now ≡ Some place → IsPlace text (name_in l k) (count_in l k) now →
+      g ≡ cond (fits l k of place) (found_and f place) f → IsFoundFrom (NamesIn l k text of) (bound now) f → IsFoundFrom (NamesIn l k text of) place g
+  walk_stops place now f g at stands counted so_far =
+      let here : (place < count_in l k) × (is_named text (name_in l k place) ≡ true) = rw at at stands in
+      let from : IsFoundFrom (NamesIn l k text of) (place + 1) f = rw at at so_far in
+      found_count (NamesIn l k text of) place (fits l k of place) f g (λ e. (here.1, e)) (λ n. n.1) counted from
+
   pub walk_step : (place : ℕ) (next now : Option ℕ) (f g : Found) → now ≡ Some place → IsPlace text (name_in l k) (count_in l k) now → next ≡ last_named text (name_in l k) place →
       g ≡ cond (fits l k of place) (found_and f place) f → IsFoundFrom (NamesIn l k text of) (bound now) f →
       IsPlace text (name_in l k) (count_in l k) next × IsFoundFrom (NamesIn l k text of) (bound next) g
   walk_step place next now f g at stands is counted so_far =
       let here : (place < count_in l k) × (is_named text (name_in l k place) ≡ true) = rw at at stands in
-      let from : IsFoundFrom (NamesIn l k text of) (place + 1) f = rw at at so_far in
-      let counts : IsFoundFrom (NamesIn l k text of) place g = found_count (NamesIn l k text of) place (fits l k of place) f g (λ e. (here.1, e)) (λ n. n.1) counted from in
+      let counts = walk_stops place now f g at stands counted so_far in
       let falls = walk_falls place next is in
       (rw is (last_is_place text (name_in l k) place (count_in l k) (omega (arith, here.0))),
       found_lower (NamesIn l k text of) (bound next) place g falls (λ other low high named. none_behind text (name_in l k) place other (rw (← is) low) high named.0) counts)

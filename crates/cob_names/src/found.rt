@@ -1,4 +1,5 @@
-ghost use Rattle.std.specs.Prelude.{◌≡◌};
+ghost use Rattle.std.specs.Prelude.{◌≡◌, ◌↔◌, IsTrue};
+ghost use Rattle.cob_names.specs.declared.found.Found.TheVariants.{Several};
 ghost use Rattle.cob_names.specs.Search.{found_and};
 
 /// What has a name.
@@ -19,5 +20,12 @@ impl Found {
             Found::Nothing => Found::One(place),
             _ => Found::Several,
         }
+    }
+
+    /// Whether two have the name.
+    pub fn is_several(self) -> bool
+        ensures { IsTrue result ↔ (self ≡ Several) }
+    {
+        matches!(self, Found::Several)
     }
 }

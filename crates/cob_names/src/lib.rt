@@ -11,4 +11,4 @@ mod table;
 mod tests;
 
 pub use found::Found;
-pub use names::{Names, one_answer};
+pub use names::{Names, layouts_have_few_places, one_answer};

@@ -1,6 +1,10 @@
-ghost use Rattle.std.specs.Prelude.{◌≡◌, ℕ, ◌+◌, ◌<◌, ◌≤◌, ◌^◌, ◌∷◌, [], Option, Some, None, List, length, slice_get, IfOk, if◌then◌else◌};
+ghost use Rattle.std.specs.Prelude.{◌≡◌, ℕ, ◌+◌, ◌<◌, ◌≤◌, ◌^◌, ◌∷◌, [], Option, Some, None, List, length, slice_get, Ok, IfOk, if◌then◌else◌};
 ghost use Rattle.cob_tree.specs.declared.operand.Ref.{Ref};
+ghost use Rattle.cob_tree.specs.declared.tree.Tree.{Tree};
+ghost use Rattle.cob_tree.specs.StmtView.{plain_tree};
+ghost use Rattle.cob_tree.specs.PrintStmt.{print_tree};
 ghost use Rattle.cob_data.specs.declared.layout.Layout.{Layout};
+ghost use Rattle.cob_data.specs.Answers.{IsAnswer};
 ghost use Rattle.cob_names.specs.declared.found.Found.{Found};
 ghost use Rattle.cob_names.specs.Names.{is_named, item_name, item_parent, above, above_at, qualifies, file_above, IsFound, NamesItem, NamesFlag, NamesFile, NamesRecord, is_record, alone};
 ghost use Rattle.cob_names.specs.Tables.{IsTable};
@@ -238,7 +242,7 @@ impl<'a> Names<'a> {
         }
     }
 
-    /// What of this kind has the name and stands below what the qualifiers name, from the last place back.
+    /// What of this kind has the name and stands below what the qualifiers name: from the last place back, up to two.
     fn search(&self, kind: Kind, name: &[u8], of: &[Name]) -> Found
         ensures { IsFound (NamesIn self.now kind name.now of.now) result }
     {
@@ -247,6 +251,9 @@ impl<'a> Names<'a> {
         let mut next = table.last(name);
         while let Some(place) = next {
             found = self.count(kind, of, place, found);
+            if found.is_several() {
+                return found;
+            }
             next = table.before(place);
         }
         found
@@ -294,5 +301,11 @@ pub fn one_answer()
     ensures flags { (l : Layout) (r : Ref) (f g : Found) → IsFound (NamesFlag l r) f → IsFound (NamesFlag l r) g → f ≡ g }
     ensures files { (l : Layout) (text : List ℕ) (f g : Found) → IsFound (NamesFile l text) f → IsFound (NamesFile l text) g → f ≡ g }
     ensures records { (l : Layout) (r : Ref) (f g : Found) → IsFound (NamesRecord l r) f → IsFound (NamesRecord l r) g → f ≡ g }
+{
+}
+
+/// A layout that was made from a tree can have its names looked up.
+pub fn layouts_have_few_places()
+    ensures { (t : Tree) (l : Layout) → length (print_tree (plain_tree t)) ≤ 2 ^ 27 → IsAnswer t (Ok l) → HasFewPlaces l }
 {
 }

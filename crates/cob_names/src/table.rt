@@ -11,8 +11,8 @@ use std::alloc::{AllocError, Global};
 /// one before it of the same name.
 #[derive(Drop)]
 pub struct Table<'a> {
-    pub last: IndexMap<&'a [u8], u32>,
-    pub earlier: Vec<Option<u32>>,
+    last: IndexMap<&'a [u8], u32>,
+    earlier: Vec<Option<u32>>,
 }
 
 /// Makes this place the last of its name. The one before is told.
