@@ -97,9 +97,7 @@ fn asks(symbol: &Symbol) -> bool
     matches!(
         symbol,
         Symbol::Relation(_)
-            | Symbol::Key(
-                Keyword::Numeric | Keyword::Positive | Keyword::Negative | Keyword::Zero
-            )
+            | Symbol::Key(Keyword::Numeric | Keyword::Positive | Keyword::Negative | Keyword::Zero)
     )
 }
 

@@ -13,7 +13,7 @@ use crate::class::{behind_and, behind_close, behind_not, behind_open, behind_or,
 use crate::expr::fact_in;
 use crate::halt::Halt;
 use crate::lexeme::Lexeme;
-use crate::simple::{abbreviated, grouped, one_alone, parenthesised};
+use crate::simple::{abbreviated, bare_relation, grouped, one_alone, parenthesised};
 use cob_tree::{Cond, Conj, Neg, Simple};
 use std::alloc::Global;
 
@@ -67,11 +67,7 @@ fn subject_after(
 
 // A simple condition that isn't a relation without its subject.
 #[cycle(cond)]
-fn subject(
-    alloc: Global,
-    lexemes: &[Lexeme],
-    room: u32,
-) -> Result<(Simple, bool, &[Lexeme]), Halt>
+fn subject(alloc: Global, lexemes: &[Lexeme], room: u32) -> Result<(Simple, bool, &[Lexeme]), Halt>
     ensures gives { Gives (λ x. (plain_simple x.0, signs x.2.now)) result (subject_with (paren_at room) (group_at room) (signs lexemes.now)) }
     ensures takes { IfOk result (λ x. x.1 ≡ takes_simple (plain_simple x.0) NotRelates) }
     ensures rest { IfOk result (λ x. length x.2.now ≤ length lexemes.now) }
@@ -90,11 +86,7 @@ fn subject(
 
 // Behind NOT, where no relation stands.
 #[cycle(cond)]
-fn further(
-    alloc: Global,
-    lexemes: &[Lexeme],
-    room: u32,
-) -> Result<(Simple, bool, &[Lexeme]), Halt>
+fn further(alloc: Global, lexemes: &[Lexeme], room: u32) -> Result<(Simple, bool, &[Lexeme]), Halt>
     ensures gives { Gives (λ x. (plain_simple x.0, signs x.2.now)) result (further_with (paren_at room) (group_at room) (signs lexemes.now)) }
     ensures takes { IfOk result (λ x. x.1 ≡ takes_simple (plain_simple x.0) NotRelates) }
     ensures rest { IfOk result (λ x. length x.2.now ≤ length lexemes.now) }
@@ -110,18 +102,14 @@ fn further(
 
 // Behind NOT: it is a relation's, where one stands.
 #[cycle(cond)]
-fn negated(
-    alloc: Global,
-    lexemes: &[Lexeme],
-    room: u32,
-) -> Result<(Neg, bool, &[Lexeme]), Halt>
+fn negated(alloc: Global, lexemes: &[Lexeme], room: u32) -> Result<(Neg, bool, &[Lexeme]), Halt>
     ensures gives { Gives (λ x. (plain_neg x.0, signs x.2.now)) result (negated_neg (paren_at room) (group_at room) (signs lexemes.now)) }
     ensures takes { IfOk result (λ x. x.1 ≡ takes_neg (plain_neg x.0) NotRelates) }
     ensures rest { IfOk result (λ x. length x.2.now ≤ length lexemes.now) }
 {
     if relation_in(lexemes).is_some() {
         let (rel, right, rest) = compared(alloc, lexemes, room)?;
-        Ok((Neg::of(false, abbreviated(true, rel, right)), false, rest))
+        Ok((bare_relation(true, rel, right), false, rest))
     } else {
         let (simple, takes_not, rest) = further(alloc, lexemes, room)?;
         Ok((Neg::of(true, simple), takes_not, rest))
@@ -136,11 +124,7 @@ fn plain(alloc: Global, lexemes: &[Lexeme], room: u32) -> Result<(Neg, bool, &[L
 {
     if relation_in(lexemes).is_some() {
         let (rel, right, rest) = compared(alloc, lexemes, room)?;
-        Ok((
-            Neg::of(false, abbreviated(false, rel, right)),
-            false,
-            rest,
-        ))
+        Ok((bare_relation(false, rel, right), false, rest))
     } else {
         let (simple, takes_not, rest) = subject(alloc, lexemes, room)?;
         Ok((Neg::of(false, simple), takes_not, rest))

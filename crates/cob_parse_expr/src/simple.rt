@@ -2,11 +2,11 @@ ghost use Rattle.std.specs.Prelude.{◌≡◌, None, Some, IfOk, IfErr, Ok, fals
 ghost use Rattle.cob_tree.specs.Cues.{NotRelates};
 ghost use Rattle.cob_tree.specs.Expr.{MkFact, group};
 ghost use Rattle.cob_tree.specs.ExprView.{plain_expr, plain_fact};
-ghost use Rattle.cob_tree.specs.Cond.{parenthesised, relation, abbreviated, numeric, alone};
+ghost use Rattle.cob_tree.specs.Cond.{MkNeg, parenthesised, relation, abbreviated, numeric, alone};
 ghost use Rattle.cob_tree.specs.Cond as cond;
 ghost use Rattle.cob_tree.specs.CondView.{plain_cond, plain_conj, plain_neg, plain_simple};
 ghost use Rattle.cob_tree.specs.PrintExpr.{one_alone};
-ghost use Rattle.cob_tree.specs.Takes.{takes_simple};
+ghost use Rattle.cob_tree.specs.Takes.{takes_simple, takes_neg};
 ghost use Rattle.cob_parse_expr.specs.CondSteps.{simple_alone, neg_alone, conj_alone};
 ghost use Rattle.cob_parse_expr.specs.Steps.{Gives};
 
@@ -38,6 +38,14 @@ pub fn abbreviated(not: bool, rel: Rel, right: Expr) -> Simple
     ensures { plain_simple result ≡ abbreviated not rel (plain_expr right) }
 {
     Simple::Abbreviated { not, rel, right }
+}
+
+/// A relation without its subject: a NOT before it is its own.
+pub fn bare_relation(not: bool, rel: Rel, right: Expr) -> Neg
+    ensures neg { plain_neg result ≡ MkNeg false (abbreviated not rel (plain_expr right)) }
+    ensures ends { takes_neg (plain_neg result) NotRelates ≡ false }
+{
+    Neg::of(false, abbreviated(not, rel, right))
 }
 
 pub fn numeric(value: Expr, not: bool) -> Simple

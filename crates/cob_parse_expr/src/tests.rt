@@ -44,137 +44,76 @@ fn tokens(alloc: Global, text: &[u8]) -> Result<Vec<Token>, AllocError> {
     Ok(tokens)
 }
 
-fn show_opnd(out: &mut Vec<u8>, opnd: &Opnd) -> Result<(), AllocError> {
-    match opnd {
-        Opnd::Ref(item) => out.extend_from_slice(item.name.get())?,
-        Opnd::Const(_) => out.push(b'z')?,
-    }
-    Ok(())
+fn show(out: &mut Vec<u8>, text: &[u8]) -> Result<(), AllocError> {
+    out.extend_from_slice(text)
 }
 
-fn show_sign(out: &mut Vec<u8>, sign: Sign) -> Result<(), AllocError> {
-    match sign {
-        Sign::Plus => out.push(b'+')?,
-        Sign::Minus => out.push(b'-')?,
+// A name, `z` for a constant, `()` for an expression in parentheses.
+fn show_fact(out: &mut Vec<u8>, fact: &Fact) -> Result<(), AllocError> {
+    match fact.sign {
+        Some(Sign::Plus) => show(out, b"+")?,
+        Some(Sign::Minus) => show(out, b"-")?,
+        None => {}
     }
-    Ok(())
+    match &fact.prim {
+        Primary::Opnd(Opnd::Ref(item)) => show(out, item.name.get()),
+        Primary::Opnd(Opnd::Const(_)) => show(out, b"z"),
+        Primary::Expr(_) => show(out, b"()"),
+    }
 }
 
 // A term of several factors stands in braces.
-#[cycle(show_expr)]
+fn show_term(out: &mut Vec<u8>, term: &Term) -> Result<(), AllocError> {
+    if term.others.is_empty() {
+        return show_fact(out, &term.first);
+    }
+    show(out, b"{")?;
+    show_fact(out, &term.first)?;
+    for (scaling, fact) in term.others.as_slice() {
+        let scaled = *scaling == Scaling::Times;
+        show(out, if scaled { b"*" } else { b"/" })?;
+        show_fact(out, fact)?;
+    }
+    show(out, b"}")
+}
+
 fn show_expr(out: &mut Vec<u8>, expr: &Expr) -> Result<(), AllocError> {
     show_term(out, &expr.first)?;
     for (sign, term) in expr.others.as_slice() {
-        show_sign(out, *sign)?;
+        let added = *sign == Sign::Plus;
+        show(out, if added { b"+" } else { b"-" })?;
         show_term(out, term)?;
     }
     Ok(())
 }
 
-#[cycle(show_expr)]
-fn show_term(out: &mut Vec<u8>, term: &Term) -> Result<(), AllocError> {
-    if term.others.is_empty() {
-        return show_fact(out, &term.first);
-    }
-    out.push(b'{')?;
-    show_fact(out, &term.first)?;
-    for (scaling, fact) in term.others.as_slice() {
-        match scaling {
-            Scaling::Times => out.push(b'*')?,
-            Scaling::Over => out.push(b'/')?,
-        }
-        show_fact(out, fact)?;
-    }
-    out.push(b'}')?;
-    Ok(())
-}
-
-#[cycle(show_expr)]
-fn show_fact(out: &mut Vec<u8>, fact: &Fact) -> Result<(), AllocError> {
-    if let Some(sign) = fact.sign {
-        show_sign(out, sign)?;
-    }
-    match &fact.prim {
-        Primary::Opnd(opnd) => show_opnd(out, opnd),
-        Primary::Expr(expr) => {
-            out.push(b'(')?;
-            show_expr(out, expr)?;
-            out.push(b')')?;
-            Ok(())
-        }
-    }
-}
-
 // The NOT of a relation or a test is `~`, that of a condition `!`.
 fn show_not(out: &mut Vec<u8>, not: bool) -> Result<(), AllocError> {
-    if not {
-        out.push(b'~')?;
-    }
-    Ok(())
+    if not { show(out, b"~") } else { Ok(()) }
 }
 
-fn show_relation(
-    out: &mut Vec<u8>,
-    not: bool,
-    rel: Rel,
-    right: &Expr,
-) -> Result<(), AllocError> {
+fn show_relation(out: &mut Vec<u8>, not: bool, rel: Rel, right: &Expr) -> Result<(), AllocError> {
     show_not(out, not)?;
     match rel {
-        Rel::Equal => out.push(b'=')?,
-        Rel::Less => out.push(b'<')?,
-        _ => out.push(b'>')?,
+        Rel::Equal => show(out, b"=")?,
+        Rel::Less => show(out, b"<")?,
+        _ => show(out, b">")?,
     }
     show_expr(out, right)
 }
 
 fn show_test(out: &mut Vec<u8>, test: SignTest) -> Result<(), AllocError> {
     match test {
-        SignTest::Positive => out.push(b'p')?,
-        SignTest::Negative => out.push(b'n')?,
-        SignTest::Zero => out.push(b'z')?,
+        SignTest::Positive => show(out, b"p"),
+        SignTest::Negative => show(out, b"n"),
+        SignTest::Zero => show(out, b"z"),
     }
-    Ok(())
 }
 
-#[cycle(show_cond)]
-fn show_cond(out: &mut Vec<u8>, cond: &Cond) -> Result<(), AllocError> {
-    show_conj(out, &cond.first)?;
-    for conj in cond.others.as_slice() {
-        out.push(b'|')?;
-        show_conj(out, conj)?;
-    }
-    Ok(())
-}
-
-#[cycle(show_cond)]
-fn show_conj(out: &mut Vec<u8>, conj: &Conj) -> Result<(), AllocError> {
-    show_neg(out, &conj.first)?;
-    for neg in conj.others.as_slice() {
-        out.push(b'&')?;
-        show_neg(out, neg)?;
-    }
-    Ok(())
-}
-
-#[cycle(show_cond)]
-fn show_neg(out: &mut Vec<u8>, neg: &Neg) -> Result<(), AllocError> {
-    if neg.not {
-        out.push(b'!')?;
-    }
-    show_simple(out, &neg.simple)
-}
-
-// A condition in parentheses stands in brackets.
-#[cycle(show_cond)]
+// `[]` for a condition in parentheses.
 fn show_simple(out: &mut Vec<u8>, simple: &Simple) -> Result<(), AllocError> {
     match simple {
-        Simple::Cond(cond) => {
-            out.push(b'[')?;
-            show_cond(out, cond)?;
-            out.push(b']')?;
-            Ok(())
-        }
+        Simple::Cond(_) => show(out, b"[]"),
         Simple::Relation {
             left,
             not,
@@ -188,8 +127,7 @@ fn show_simple(out: &mut Vec<u8>, simple: &Simple) -> Result<(), AllocError> {
         Simple::Numeric { value, not } => {
             show_expr(out, value)?;
             show_not(out, *not)?;
-            out.push(b'#')?;
-            Ok(())
+            show(out, b"#")
         }
         Simple::Sign { value, not, test } => {
             show_expr(out, value)?;
@@ -200,6 +138,31 @@ fn show_simple(out: &mut Vec<u8>, simple: &Simple) -> Result<(), AllocError> {
     }
 }
 
+fn show_neg(out: &mut Vec<u8>, neg: &Neg) -> Result<(), AllocError> {
+    if neg.not {
+        show(out, b"!")?;
+    }
+    show_simple(out, &neg.simple)
+}
+
+fn show_conj(out: &mut Vec<u8>, conj: &Conj) -> Result<(), AllocError> {
+    show_neg(out, &conj.first)?;
+    for neg in conj.others.as_slice() {
+        show(out, b"&")?;
+        show_neg(out, neg)?;
+    }
+    Ok(())
+}
+
+fn show_cond(out: &mut Vec<u8>, cond: &Cond) -> Result<(), AllocError> {
+    show_conj(out, &cond.first)?;
+    for conj in cond.others.as_slice() {
+        show(out, b"|")?;
+        show_conj(out, conj)?;
+    }
+    Ok(())
+}
+
 #[test]
 fn expressions_are_read(rt: HostRuntime) -> Result<(), Fail> {
     let alloc = rt.alloc();
@@ -207,10 +170,10 @@ fn expressions_are_read(rt: HostRuntime) -> Result<(), Fail> {
     let cases: [(&[u8], &[u8], usize); 6] = [
         (b"A+B*C.", b"A+{B*C}", 5),
         (b"A-B-C)", b"A-B-C", 5),
-        (b"(A-B)*-C+D E", b"{(A-B)*-C}+D", 10),
+        (b"(A-B)*-C+D E", b"{()*-C}+D", 10),
         (b"A", b"A", 1),
         (b"-A/B(", b"{-A/B}", 4),
-        (b"((A))", b"((A))", 5),
+        (b"((A))", b"()", 5),
     ];
     for place in 0..cases.len() {
         let (text, shown, count) = cases[place];
@@ -267,13 +230,13 @@ fn conditions_are_read(rt: HostRuntime) -> Result<(), Fail> {
         (b"!A=B.", b"!A=B", 4),
         (b"A=B|C", b"A=B|C", 5),
         (b"A!=B&<C", b"A~=B&<C", 7),
-        (b"(A+B)*C>D", b"{(A+B)*C}>D", 9),
-        (b"(A=B)", b"[A=B]", 5),
-        (b"((A))", b"((A))", 5),
-        (b"((A=B))", b"[[A=B]]", 7),
-        (b"((A)=B)", b"[(A)=B]", 7),
-        (b"(!A)", b"[!A]", 4),
-        (b"(A|B)&C", b"[A|B]&C", 7),
+        (b"(A+B)*C>D", b"{()*C}>D", 9),
+        (b"(A=B)", b"[]", 5),
+        (b"((A))", b"()", 5),
+        (b"((A=B))", b"[]", 7),
+        (b"((A)=B)", b"[]", 7),
+        (b"(!A)", b"[]", 4),
+        (b"(A|B)&C", b"[]&C", 7),
         (b"A|B&C", b"A|B&C", 5),
         (b"A!#", b"A~#", 3),
         (b"A+Bz", b"A+Bz", 4),
@@ -283,11 +246,11 @@ fn conditions_are_read(rt: HostRuntime) -> Result<(), Fail> {
         (b"!=B", b"~=B", 3),
         (b"!!=B", b"!~=B", 4),
         (b"A=B&!!<C", b"A=B&!~<C", 8),
-        (b"-(A)=B", b"-(A)=B", 6),
+        (b"-(A)=B", b"-()=B", 6),
         (b"A=B)", b"A=B", 3),
         (b"A=B!C", b"A=B", 3),
         (b"A!B", b"A", 1),
-        (b"(A=B)*C", b"[A=B]", 5),
+        (b"(A=B)*C", b"[]", 5),
     ];
     for place in 0..cases.len() {
         let (text, shown, count) = cases[place];

@@ -78,12 +78,6 @@ subject-returns-in_ok-first-in-None-clause-gives t c = gives_as _ c.subject_behi
 pub further-returns-in_ok-rel-in-Some-clause-takes : goal.further-returns-in_ok-rel-in-Some-clause-takes
 further-returns-in_ok-rel-in-Some-clause-takes t c = sym (ap (λ (s : Simple). takes_simple s NotRelates) c.abbreviated.ensures ∙ no_not (plain_expr c.in_ok-rel-in-Some.right))
 
-pub negated-returns-in_ok-rel-clause-takes : goal.negated-returns-in_ok-rel-clause-takes
-negated-returns-in_ok-rel-clause-takes t c = sym (ap (λ (n : Neg). takes_neg n NotRelates) c.of.ensures ∙ (ap (λ (s : Simple). takes_simple s NotRelates) c.abbreviated.ensures ∙ no_not (plain_expr c.in_ok-rel.right)))
-
-pub plain-returns-in_ok-rel-clause-takes : goal.plain-returns-in_ok-rel-clause-takes
-plain-returns-in_ok-rel-clause-takes t c = sym (ap (λ (n : Neg). takes_neg n NotRelates) c.of.ensures ∙ (ap (λ (s : Simple). takes_simple s NotRelates) c.abbreviated.ensures ∙ no_not (plain_expr c.in_ok-rel.right)))
-
 pub neg-returns-in-Some-clause-gives : goal.neg-returns-in-Some-clause-gives
 neg-returns-in-Some-clause-gives t c = gives_as _ c.negated.result _ _ (behind_not_is (paren_at c.args.room) (group_at c.args.room) (signs c.args.lexemes.now) (signs c.in-Some.rest.now) c.in-Some.ensures.found) c.negated.ensures.gives
 
