@@ -1,1 +1,3 @@
-mod Hold
+mod WordLaws
+pub mod Across
+mod ListLaws
