@@ -1,3 +1,6 @@
 mod WordLaws
+mod WordNext
 pub mod Across
 mod ListLaws
+mod TargetLaws
+mod SumLaws
