@@ -11,6 +11,7 @@ use Rattle.reading.specs.Printing.{Front, Here, Ahead, Matches, Below, Opens, ah
 use Rattle.reading.specs.Law.{Syntax, At, Read, Fails, Law, OpensAt, Deepens}
 use Rattle.reading.proofs.Grows.{GoesOn, Shows, Grows}
 use Rattle.reading.proofs.Lead.{Class}
+use Rattle.reading.proofs.Starts.{OneToken}
 use Rattle.cob_parse_expr.specs.Alphabet.{key_front, symbol_front, grammar}
 use Rattle.cob_parse_verb.specs.Procedure.{word_front, token_front, procedure}
 
@@ -91,3 +92,45 @@ module _ {A : Type 0} {r : Reader Sign A} {s : Syntax Item Cue A} {top : ℕ} wh
         record { read = h.read; left = h.left; parts = h.parts; tree = h.tree; good = h.good; before = h.before; after = h.after; text = h.text; spells = matches_to h.before h.read h.spells; below = below_to top h.before h.below; at = at_to top d h.left h.after h.at };
     firm = λ q r' z text rest t a e m good below next same. L.firm q r' z text rest t a e (matches_back (s.print a) text m) good (below_back top (s.print a) below) (sym (next_across (s.takes a) (none a good) rest) ∙ next) same;
   }
+
+-- ---- what begins
+
+pub front_back : (t : Sign) (mark : Sign → Option Cue) → token_front t.symbol ≡ Ahead mark → symbol_front t.symbol ≡ Ahead mark
+front_back t mark e = go t.symbol e
+  where
+    at_key : (k : Keyword) → word_front k ≡ Ahead mark → key_front k ≡ Ahead mark
+    at_key key.Times e0 = absurd cc
+    at_key _ e0 = e0
+
+    go : (y : Symbol) → token_front y ≡ Ahead mark → symbol_front y ≡ Ahead mark
+    go (Key k) e0 = at_key k e0
+    go (Name text) e0 = e0
+    go (Number n) e0 = e0
+    go (Text text) e0 = e0
+    go (Mark ch) e0 = e0
+    go (Relation r) e0 = e0
+    go (Pic text) e0 = e0
+    go Stop e0 = e0
+
+pub one_across : {set : Cue → Bool} → OneToken grammar set → OneToken procedure set
+one_across {set} one t mark front u = on_same set (mark u) ∙ one t mark (front_back t mark front) u
+
+-- what begins in the grammar's eyes does in those of statements
+pub begins_across : (set : Cue → Bool) (ts : List Sign) → begins grammar set ts ≡ true → begins procedure set ts ≡ true
+begins_across set [] e = absurd cc
+begins_across set (t ∷ ts) e = go t.symbol e
+  where
+    at_key : (k : Keyword) → on_mark grammar set (peek_on grammar (key_front k) ts) ≡ true → on_mark procedure set (peek_on procedure (word_front k) ts) ≡ true
+    at_key key.Not e0 = ahead_same set (λ s. not_cue s.symbol) ts ∙ e0
+    at_key key.Times e0 = absurd cc
+    at_key _ e0 = e0
+
+    go : (y : Symbol) → on_mark grammar set (peek_on grammar (symbol_front y) ts) ≡ true → on_mark procedure set (peek_on procedure (token_front y) ts) ≡ true
+    go (Key k) e0 = at_key k e0
+    go (Name text) e0 = e0
+    go (Number n) e0 = e0
+    go (Text text) e0 = e0
+    go (Mark ch) e0 = on_same set (mark_cue ch) ∙ e0
+    go (Relation r) e0 = e0
+    go (Pic text) e0 = e0
+    go Stop e0 = e0

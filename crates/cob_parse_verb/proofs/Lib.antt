@@ -4,3 +4,4 @@ pub mod Across
 mod ListLaws
 mod TargetLaws
 mod SumLaws
+mod LoopLaws
