@@ -5,3 +5,4 @@ mod ListLaws
 mod TargetLaws
 mod SumLaws
 mod LoopLaws
+mod PerformLaws

@@ -1,5 +1,5 @@
 -- The laws of arithmetic statements, up to their phrases.
-use Rattle.std.proofs.Common.{◌≡◌, ℕ, suc, ◌+◌, ◌<◌, ◌⊎◌, inl, inr, List, [], ◌∷◌, ◌++◌, Option, Some, None, refl, ap, ◌∙◌}
+use Rattle.std.proofs.Common.{◌≡◌, ℕ, suc, ◌+◌, ◌<◌, ◌⊎◌, inl, inr, List, [], ◌∷◌, ◌++◌, Option, Some, None, refl, ap, subst, ◌∙◌}
 use Rattle.cob_tree.specs.declared.keyword.Keyword.TheVariants as key
 use Rattle.cob_tree.specs.declared.token.Rel.TheVariants as rel
 use Rattle.cob_tree.specs.declared.operand.Const.TheVariants as const
@@ -49,6 +49,22 @@ use Rattle.cob_parse_verb.proofs.TargetLaws.{opnds_never, recvs_never, target_sy
 -- the statements that begin with a word
 abbrev pub arithmetic_syntax : Start → ℕ → Syntax Item Cue Arithmetic
 arithmetic_syntax s d = record { Good = λ a. GoodArithmetic a × (arithmetic_start a ≡ s); print = print_arithmetic d; takes = takes_arithmetic }
+
+-- no other words begin them
+abbrev IsSum : Start → Type 0
+IsSum start.Add = Unit {0}
+IsSum start.Subtract = Unit {0}
+IsSum start.Multiply = Unit {0}
+IsSum start.Divide = Unit {0}
+IsSum start.Compute = Unit {0}
+IsSum _ = ⊥
+
+is_sum : (a : Arithmetic) → IsSum (arithmetic_start a)
+is_sum (add_to os rs) = tt
+is_sum _ = tt
+
+pub sum_start : (a : Arithmetic) (s : Start) → Some (arithmetic_start a) ≡ Some s → IsSum s
+sum_start a s e = let same : arithmetic_start a ≡ s = cc in subst IsSum same (is_sum a)
 
 pub opnd_one : (o : Opnd) → OneToken grammar (takes_opnd o)
 opnd_one o = not_taken (takes_opnd o) (opnd_never NotRelates refl o) (opnd_never NotTests refl o) (opnd_never NotSize refl o) (opnd_never NotAtEnd refl o)
