@@ -8,3 +8,4 @@ pub mod LoopLaws
 pub mod PerformLaws
 pub mod SelLaws
 pub mod HeadLaws
+pub mod Agreeing
