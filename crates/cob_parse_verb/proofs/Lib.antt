@@ -9,3 +9,4 @@ pub mod PerformLaws
 pub mod SelLaws
 pub mod HeadLaws
 pub mod Agreeing
+pub mod Deepening
