@@ -10,3 +10,4 @@ pub mod SelLaws
 pub mod HeadLaws
 pub mod Agreeing
 pub mod Deepening
+pub mod HeadLevels
