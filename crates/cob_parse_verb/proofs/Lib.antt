@@ -11,3 +11,4 @@ pub mod HeadLaws
 pub mod Agreeing
 pub mod Deepening
 pub mod HeadLevels
+pub mod Growing

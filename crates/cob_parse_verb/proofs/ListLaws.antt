@@ -29,7 +29,8 @@ use Rattle.reading.proofs.Turns.{law_along}
 use Rattle.reading.proofs.Dependent.{dependent_syntax}
 use Rattle.reading.proofs.Lead.{lead_syntax, lead_law, branch_law}
 use Rattle.reading.proofs.Seen.{View, seen_law}
-use Rattle.reading.proofs.Starts.{Begins, Starts, starts_by_one}
+use Rattle.reading.proofs.Starts.{Begins, Starts, OneToken, starts_by_one}
+use Rattle.reading.proofs.Grows.{Grows, samples_one, grows_seen, grows_plus}
 use Rattle.reading.proofs.Tail.{apart, onward, tail_syntax, tail_law}
 use Rattle.reading.proofs.Many.{is_given, many_syntax}
 use Rattle.reading.proofs.Maybe.{maybe_syntax, maybe_tail}
@@ -87,6 +88,9 @@ module _ {A : Type 0} {r : Reader Sign A} {s : Syntax Item Cue A} {top : ℕ} (L
 
   pub some_law : Law grammar (some_at set r) (listed_syntax set s) top
   some_law = seen_law (plus_law L set m alike St) view
+
+  pub some_grows : OneToken grammar set → Grows grammar s top → Grows grammar (listed_syntax set s) top
+  some_grows one grows = grows_seen view (grows_plus s set m alike (samples_one grammar set [] s top one) grows)
 
 pub all_always : {A : Type 0} (xs : List A) → AllByRecursion Always xs
 all_always [] = tt
