@@ -1,6 +1,5 @@
 -- With more room heads and the choices of EVALUATE are read alike, unless there was too little.
 use Rattle.std.proofs.Common.{◌≡◌, ◌&&◌, ℕ, ◌+◌, ◌-◌, ◌≤◌, subst, arith}
-use Rattle.cob_tree.specs.Symbols.{Sign}
 use Rattle.cob_tree.specs.Cues.{is, Throughs, Whens}
 use Rattle.cob_tree.specs.Takes.{begins_opnd, begins_loop}
 use Rattle.reading.specs.Readers.{here_if, lead, stands}
@@ -21,7 +20,7 @@ use Rattle.cob_parse_verb.specs.Procedure.{procedure}
 use Rattle.cob_parse_verb.specs.Heads.{arithmetic, if_head}
 use Rattle.cob_parse_verb.specs.Lists.{cons, recvs_at}
 use Rattle.cob_parse_verb.specs.Sums.{make_compute, compute_at}
-use Rattle.cob_parse_verb.specs.Turning.{times_at, varying_at, until_at, make_varied, varied_at, make_tested, tested_at, make_loop, loop_at, turns, follows_name, qualified_at, through_at, ranged_at, behind_name, named_at, unnamed_at, make_perform, perform_at, is_alone, make_sel, sel_at, choice_at, choices_at}
+use Rattle.cob_parse_verb.specs.Turning.{times_at, varying_at, until_at, make_varied, varied_at, make_tested, tested_at, make_loop, loop_at, turns, follows_name, qualified_at, through_at, behind_name, named_at, unnamed_at, make_perform, perform_at, is_alone, make_sel, sel_at, choice_at, choices_at}
 use Rattle.cob_parse_verb.specs.Reading.{behind_at, head_at}
 
 module _ (a b : ℕ) (cond : Agrees (cond_at a) (cond_at b)) (expr : Agrees (expr_at a) (expr_at b)) where

@@ -3,7 +3,6 @@ use Rattle.std.proofs.Common.{◌≡◌, ℕ, suc, ◌-◌, ◌<◌, ◌||◌, �
 use Rattle.cob_tree.specs.declared.keyword.Keyword.TheVariants as key
 use Rattle.cob_tree.specs.declared.operand.Opnd.{Opnd}
 use Rattle.cob_tree.specs.declared.operand.Recv.{Recv}
-use Rattle.cob_tree.specs.declared.operand.Ref.{Ref}
 use Rattle.cob_tree.specs.declared.stmt.Place.{Place}
 use Rattle.cob_tree.specs.declared.stmt.Subject.TheVariants as subject
 use Rattle.cob_tree.specs.declared.stmt.Varying.{Varying}
@@ -12,11 +11,11 @@ use Rattle.cob_tree.specs.Items.{Item, item_on, name, behind}
 use Rattle.cob_tree.specs.Items as items
 use Rattle.cob_tree.specs.Cues.{Cue, is, Qualifies, Rounds, Names, Signs, Scales, NotRelates, NotTests, NotSize, NotAtEnd, Throughs, Givings, Remainders, Intos, Froms, Modes, EndWrite}
 use Rattle.cob_tree.specs.Cond.{Cond}
-use Rattle.cob_tree.specs.Stmt.{Loop, times, until, Verb, move, set, display, perform_range, go, exit, continue, stop_run, open_, close, write}
+use Rattle.cob_tree.specs.Stmt.{times, until, Verb, move, set, display, perform_range, go, exit, continue, stop_run, open_, close, write}
 use Rattle.cob_tree.specs.PrintExpr.{print_cond}
-use Rattle.cob_tree.specs.PrintStmt.{print_place, print_varying, print_loop, print_name_only}
-use Rattle.cob_tree.specs.Takes.{begins_opnd, begins_loop, takes_cond, takes_recvs, takes_giving, takes_from, takes_expr}
-use Rattle.reading.specs.Printing.{Ahead, Below, on_mark}
+use Rattle.cob_tree.specs.PrintStmt.{print_place, print_varying, print_loop}
+use Rattle.cob_tree.specs.Takes.{begins_opnd, begins_loop, takes_cond, takes_recvs, takes_giving, takes_from}
+use Rattle.reading.specs.Printing.{Below, on_mark}
 use Rattle.reading.specs.Law.{Syntax}
 use Rattle.reading.proofs.Texts.{or_false, below_right}
 use Rattle.reading.proofs.Starts.{OneToken}
@@ -31,9 +30,9 @@ use Rattle.cob_parse_verb.specs.declared.word.Start.{Start}
 use Rattle.cob_parse_verb.specs.declared.word.Begin.{Begin}
 use Rattle.cob_parse_verb.specs.Procedure.{procedure}
 use Rattle.cob_parse_verb.specs.Words.{start_word}
-use Rattle.cob_parse_verb.specs.Heads.{Arithmetic, add_to, add_giving, subtract_from, subtract_giving, multiply_by, multiply_giving, divide_into, divide_giving, compute, takes_arithmetic, Head, done, arithmetic, if_head, evaluate_head, perform_head, read_head, verb_start, takes_done, takes_behind, print_behind, print_head, takes_head, GoodStarted, HasStart}
+use Rattle.cob_parse_verb.specs.Heads.{Arithmetic, add_to, add_giving, subtract_from, subtract_giving, multiply_by, multiply_giving, divide_into, divide_giving, compute, takes_arithmetic, Head, done, arithmetic, if_head, evaluate_head, perform_head, read_head, verb_start, takes_done, takes_behind, print_head, GoodStarted, HasStart}
 use Rattle.cob_parse_verb.specs.Syntaxes.{head_syntax, choices_syntax}
-use Rattle.cob_parse_verb.proofs.Across.{below_back, front_back, one_across}
+use Rattle.cob_parse_verb.proofs.Across.{below_back, front_back}
 use Rattle.cob_parse_verb.proofs.ListLaws.{opnd_never}
 use Rattle.cob_parse_verb.proofs.TargetLaws.{opnds_never, recvs_never}
 use Rattle.cob_parse_verb.proofs.SelLaws.{choices_grow_by}

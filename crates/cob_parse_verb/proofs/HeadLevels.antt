@@ -1,8 +1,6 @@
 -- The tokens of heads and of the choices of EVALUATE stand at the depths that the parentheses before them tell.
-use Rattle.std.specs.List.{AllByRecursion}
-use Rattle.std.proofs.Common.{◌≡◌, ℕ, suc, ◌+◌, ◌≤◌, ◌<◌, Bool, true, false, List, [], ◌∷◌, ◌++◌, Option, Some, None, refl, sym, subst, arith}
+use Rattle.std.proofs.Common.{◌≡◌, ℕ, suc, ◌+◌, Bool, true, false, List, [], ◌∷◌, ◌++◌, Option, Some, None, refl, arith}
 use Rattle.cob_tree.specs.declared.keyword.Keyword.TheVariants as key
-use Rattle.cob_tree.specs.declared.operand.Const.{Const}
 use Rattle.cob_tree.specs.declared.operand.Const.TheVariants as const
 use Rattle.cob_tree.specs.declared.operand.Opnd.{Opnd}
 use Rattle.cob_tree.specs.declared.operand.Opnd.TheVariants as opnd
@@ -13,18 +11,16 @@ use Rattle.cob_tree.specs.declared.stmt.Subject.{Subject}
 use Rattle.cob_tree.specs.declared.stmt.Subject.TheVariants as subject
 use Rattle.cob_tree.specs.declared.stmt.Place.{Place}
 use Rattle.cob_tree.specs.declared.stmt.Varying.{Varying}
-use Rattle.cob_tree.specs.Symbols.{Key}
 use Rattle.cob_tree.specs.Items.{Item, each, behind, word_if, keys}
 use Rattle.cob_tree.specs.Items as items
 use Rattle.cob_tree.specs.Stmt.{Sel, any, range, choice, Loop, times, until, Verb, move, set, display, perform_range, go, exit, continue, stop_run, open_, close, write}
-use Rattle.cob_tree.specs.PrintExpr.{const_symbol, print_qualifier, print_ref, print_opnd, print_recv, print_expr, print_cond}
+use Rattle.cob_tree.specs.PrintExpr.{print_qualifier, print_ref, print_opnd, print_recv, print_expr, print_cond}
 use Rattle.cob_tree.specs.PrintFront.{print_if}
 use Rattle.cob_tree.specs.PrintStmt.{print_opnds, print_recvs, print_refs, print_names, print_opens, print_sel, print_choice, print_place, print_varying, print_loop, print_name_only}
 use Rattle.reading.specs.Law.{Deepens}
-use Rattle.cob_parse_expr.proofs.OneAnswer.{depth_at, depth_behind, Leveled, leveled_join}
+use Rattle.cob_parse_expr.proofs.OneAnswer.{Leveled, leveled_join}
 use Rattle.cob_parse_expr.proofs.Levels.{expr_level, cond_level}
 use Rattle.cob_parse_verb.specs.declared.word.Start.{Start}
-use Rattle.cob_parse_verb.specs.declared.word.Start.TheVariants as start
 use Rattle.cob_parse_verb.specs.declared.word.Begin.{Begin}
 use Rattle.cob_parse_verb.specs.Procedure.{procedure}
 use Rattle.cob_parse_verb.specs.Heads.{Arithmetic, add_to, add_giving, subtract_from, subtract_giving, multiply_by, multiply_giving, divide_into, divide_giving, compute, print_arithmetic, Head, done, arithmetic, if_head, evaluate_head, perform_head, read_head, verb_start, print_behind, print_head, GoodStarted, HasStart}

@@ -1,13 +1,11 @@
 -- The laws of what stands behind WHEN.
-use Rattle.std.specs.List.{AllByRecursion}
-use Rattle.std.proofs.Common.{◌≡◌, ℕ, suc, ◌+◌, ◌<◌, ◌⊎◌, inl, inr, ◌||◌, ◌&&◌, Bool, true, false, List, [], ◌∷◌, ◌++◌, Option, Some, None, is_some, refl, sym, ap, ◌∙◌, arith}
+use Rattle.std.proofs.Common.{◌≡◌, ℕ, suc, ◌+◌, ◌<◌, ◌⊎◌, inl, inr, ◌||◌, ◌&&◌, true, false, List, [], ◌∷◌, ◌++◌, Option, Some, None, is_some, refl, sym, ap, ◌∙◌, arith}
 use Rattle.std.proofs.lemmas.List.{append-nil}
 use Rattle.cob_tree.specs.declared.keyword.Keyword.TheVariants as key
 use Rattle.cob_tree.specs.declared.operand.Const.TheVariants as const
 use Rattle.cob_tree.specs.declared.operand.Opnd.TheVariants as opnd
 use Rattle.cob_tree.specs.Symbols.{Symbol, Key, Sign}
 use Rattle.cob_tree.specs.Items.{Item, item}
-use Rattle.cob_tree.specs.Items as items
 use Rattle.cob_tree.specs.Cues.{Cue, is, Qualifies, Scales, Signs, Ands, Ors, Throughs, Loops}
 use Rattle.cob_tree.specs.Cues as cue
 use Rattle.cob_tree.specs.Expr.{Expr, MkExpr, MkTerm, Fact, MkFact, operand, group}
@@ -17,12 +15,11 @@ use Rattle.cob_tree.specs.Stmt.{Sel, any, range, choice}
 use Rattle.cob_tree.specs.PrintExpr.{print_expr, print_fact, print_term, print_cond, print_conj, print_neg, print_simple, one_alone}
 use Rattle.cob_tree.specs.PrintStmt.{print_sel, print_choice}
 use Rattle.cob_tree.specs.Takes.{takes_expr, takes_test, takes_cond, takes_thru, takes_sel}
-use Rattle.cob_tree.specs.Shaped.{IsNotEmpty, ShapedCond, ShapedSel}
-use Rattle.reading.specs.Readers.{lead, stands, branch}
+use Rattle.cob_tree.specs.Shaped.{ShapedSel}
+use Rattle.reading.specs.Readers.{stands}
 use Rattle.reading.specs.Printing.{Matches}
 use Rattle.reading.specs.Law.{Syntax, Law}
 use Rattle.reading.proofs.Texts.{Always, or_false}
-use Rattle.reading.proofs.Dependent.{dependent_syntax}
 use Rattle.reading.proofs.Lead.{lead_syntax, lead_law}
 use Rattle.reading.proofs.Seen.{View, seen_law}
 use Rattle.reading.proofs.Starts.{Begins, Starts, OneToken, starts_by_one}
