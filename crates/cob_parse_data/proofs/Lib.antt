@@ -1,0 +1,14 @@
+pub mod Parts
+pub mod ClassLaws
+pub mod ClausesLaw
+pub mod WordLaws
+pub mod EnvLaws
+pub mod DataLaws
+pub mod FrontLaw
+pub mod ListLoop
+pub mod ClauseLoop
+pub mod Outcomes
+pub mod ParseLemmas
+pub mod LinesLaw
+pub mod BeforeProcedure
+pub mod GoesOn

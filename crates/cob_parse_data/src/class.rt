@@ -1,0 +1,332 @@
+ghost use Rattle.std.specs.Prelude.{◌≡◌, ◌+◌, ◌<◌, ◌≤◌, ◌∷◌, [], ℕ, length, IfOk, IfSome, IfNone, is_some, true, false};
+ghost use Rattle.std.specs.Option.{option_map};
+ghost use Rattle.cob_parse_expr.specs.Lexemes.{plain_symbol, plain_lexeme};
+ghost use Rattle.cob_parse_expr.specs.Classes.{name_symbol, const_key, const_as};
+ghost use Rattle.cob_parse_expr.specs.Steps.{signs, Leads, Lacks, Gives};
+ghost use Rattle.reading.specs.Readers.{lead, maybe};
+ghost use Rattle.cob_parse_data.specs.Tokens.{of, is, here, same_key, the, on_its_line, stop_symbol, number_symbol, pic_symbol, external_symbol, label_key, label_symbol, filler_key, described_symbol};
+ghost use Rattle.cob_parse_data.specs.Reading.{one, word, stop, line_of};
+
+use cob_parse_expr::{Halt, Lexeme, Symbol};
+use cob_tree::{Bytes, Described, External, Keyword, Label, Name, Num};
+use std::alloc::{AllocError, Global};
+
+fn same_key(first: Keyword, second: Keyword) -> bool
+    ensures { result ≡ same_key first second }
+{
+    first.text() == second.text()
+}
+
+fn is_word(keyword: Keyword, symbol: &Symbol) -> bool
+    ensures { result ≡ is (the keyword) (plain_symbol symbol.now) }
+{
+    match symbol {
+        Symbol::Key(other) => same_key(keyword, *other),
+        _ => false,
+    }
+}
+
+fn is_stop(symbol: &Symbol) -> bool
+    ensures { result ≡ is stop_symbol (plain_symbol symbol.now) }
+{
+    matches!(symbol, Symbol::Stop)
+}
+
+fn number(symbol: &Symbol) -> Option<&Num>
+    ensures { option_map (λ n. n.now) result ≡ number_symbol (plain_symbol symbol.now) }
+{
+    match symbol {
+        Symbol::Number(number) => Some(number),
+        _ => None,
+    }
+}
+
+fn picture(symbol: &Symbol) -> Option<&Bytes>
+    ensures { option_map (λ text. text.now) result ≡ pic_symbol (plain_symbol symbol.now) }
+{
+    match symbol {
+        Symbol::Pic(text) => Some(text),
+        _ => None,
+    }
+}
+
+fn label(symbol: &Symbol) -> Option<Label>
+    ensures { result ≡ label_symbol (plain_symbol symbol.now) }
+{
+    match symbol {
+        Symbol::Key(Keyword::Standard) => Some(Label::Standard),
+        Symbol::Key(Keyword::Omitted) => Some(Label::Omitted),
+        _ => None,
+    }
+}
+
+fn external(alloc: Global, symbol: &Symbol) -> Result<Option<External>, AllocError>
+    ensures { IfOk result (λ external. external ≡ external_symbol (plain_symbol symbol.now)) }
+{
+    match symbol {
+        Symbol::Name(name) => Ok(Some(External::Name(Name::of(alloc, name.get())?))),
+        Symbol::Text(text) => Ok(Some(External::Text(Bytes::of(alloc, text.get())?))),
+        _ => Ok(None),
+    }
+}
+
+fn described(alloc: Global, symbol: &Symbol) -> Result<Option<Described>, AllocError>
+    ensures { IfOk result (λ described. described ≡ described_symbol (plain_symbol symbol.now)) }
+{
+    match symbol {
+        Symbol::Name(name) => Ok(Some(Described::Name(Name::of(alloc, name.get())?))),
+        Symbol::Key(Keyword::Filler) => Ok(Some(Described::Filler)),
+        _ => Ok(None),
+    }
+}
+
+// The first lexeme, and those behind it.
+pub fn next(lexemes: &[Lexeme]) -> Option<(&Lexeme, &[Lexeme])>
+    ensures some { IfSome result (λ x. signs lexemes.now ≡ plain_lexeme x.0.now ∷ signs x.1.now) }
+    ensures none { IfNone result (signs lexemes.now ≡ []) }
+    ensures shorter { IfSome result (λ x. length lexemes.now ≡ length x.1.now + 1) }
+{
+    match lexemes {
+        [] => None,
+        [lexeme, rest @ ..] => Some((lexeme, rest)),
+    }
+}
+
+/// Whether a reserved word stands first.
+pub fn stands(keyword: Keyword, lexemes: &[Lexeme]) -> bool
+    ensures { result ≡ here (the keyword) (signs lexemes.now) }
+{
+    match next(lexemes) {
+        Some((lexeme, _)) => is_word(keyword, &lexeme.symbol),
+        None => false,
+    }
+}
+
+/// Whether a number stands first.
+pub fn stands_number(lexemes: &[Lexeme]) -> bool
+    ensures { result ≡ here number_symbol (signs lexemes.now) }
+{
+    match next(lexemes) {
+        Some((lexeme, _)) => matches!(&lexeme.symbol, Symbol::Number(_)),
+        None => false,
+    }
+}
+
+/// Whether a name stands first.
+pub fn stands_name(lexemes: &[Lexeme]) -> bool
+    ensures { result ≡ here name_symbol (signs lexemes.now) }
+{
+    match next(lexemes) {
+        Some((lexeme, _)) => matches!(&lexeme.symbol, Symbol::Name(_)),
+        None => false,
+    }
+}
+
+fn is_figurative(keyword: Keyword) -> bool
+    ensures { result ≡ is_some (const_key keyword) }
+{
+    matches!(
+        keyword,
+        Keyword::Zero | Keyword::Space | Keyword::Quote | Keyword::HighValue | Keyword::LowValue
+    )
+}
+
+fn is_constant(symbol: &Symbol) -> bool
+    ensures { result ≡ is const_as (plain_symbol symbol.now) }
+{
+    match symbol {
+        Symbol::Number(_) | Symbol::Text(_) => true,
+        Symbol::Key(keyword) => is_figurative(*keyword),
+        _ => false,
+    }
+}
+
+/// Whether a constant stands first.
+pub fn stands_constant(lexemes: &[Lexeme]) -> bool
+    ensures { result ≡ here const_as (signs lexemes.now) }
+{
+    match next(lexemes) {
+        Some((lexeme, _)) => is_constant(&lexeme.symbol),
+        None => false,
+    }
+}
+
+fn behind(keyword: Keyword, lexemes: &[Lexeme]) -> Option<&[Lexeme]>
+    ensures found { IfSome result (λ rest. Leads (of (the keyword)) tt (signs lexemes.now) (signs rest.now)) }
+    ensures none { IfNone result (Lacks (of (the keyword)) (signs lexemes.now)) }
+    ensures shorter { IfSome result (λ rest. length lexemes.now ≡ length rest.now + 1) }
+{
+    match next(lexemes) {
+        Some((lexeme, rest)) if is_word(keyword, &lexeme.symbol) => Some(rest),
+        _ => None,
+    }
+}
+
+/// A reserved word.
+pub fn word(keyword: Keyword, lexemes: &[Lexeme]) -> Result<&[Lexeme], Halt>
+    ensures gives { Gives (λ rest. (tt, signs rest.now)) result (word keyword (signs lexemes.now)) }
+    ensures rest { IfOk result (λ rest. length rest.now < length lexemes.now) }
+{
+    match behind(keyword, lexemes) {
+        Some(rest) => Ok(rest),
+        None => Err(Halt::Stop(lexemes.len())),
+    }
+}
+
+fn behind_stop(lexemes: &[Lexeme]) -> Option<&[Lexeme]>
+    ensures found { IfSome result (λ rest. Leads (of stop_symbol) tt (signs lexemes.now) (signs rest.now)) }
+    ensures none { IfNone result (Lacks (of stop_symbol) (signs lexemes.now)) }
+    ensures shorter { IfSome result (λ rest. length lexemes.now ≡ length rest.now + 1) }
+{
+    match next(lexemes) {
+        Some((lexeme, rest)) if is_stop(&lexeme.symbol) => Some(rest),
+        _ => None,
+    }
+}
+
+/// The point that ends an entry.
+pub fn stop(lexemes: &[Lexeme]) -> Result<&[Lexeme], Halt>
+    ensures gives { Gives (λ rest. (tt, signs rest.now)) result (stop (signs lexemes.now)) }
+    ensures rest { IfOk result (λ rest. length rest.now < length lexemes.now) }
+{
+    match behind_stop(lexemes) {
+        Some(rest) => Ok(rest),
+        None => Err(Halt::Stop(lexemes.len())),
+    }
+}
+
+fn number_in(lexemes: &[Lexeme]) -> Option<(&Num, &[Lexeme])>
+    ensures found { IfSome result (λ x. Leads (of number_symbol) x.0.now (signs lexemes.now) (signs x.1.now)) }
+    ensures none { IfNone result (Lacks (of number_symbol) (signs lexemes.now)) }
+    ensures shorter { IfSome result (λ x. length lexemes.now ≡ length x.1.now + 1) }
+{
+    let (lexeme, rest) = next(lexemes)?;
+    Some((number(&lexeme.symbol)?, rest))
+}
+
+/// A number.
+pub fn number_at(alloc: Global, lexemes: &[Lexeme]) -> Result<(Num, &[Lexeme]), Halt>
+    ensures gives { Gives (λ x. (x.0, signs x.1.now)) result (one number_symbol (signs lexemes.now)) }
+    ensures rest { IfOk result (λ x. length x.1.now < length lexemes.now) }
+{
+    match number_in(lexemes) {
+        Some((number, rest)) => Ok((number.copied(alloc)?, rest)),
+        None => Err(Halt::Stop(lexemes.len())),
+    }
+}
+
+fn picture_in(lexemes: &[Lexeme]) -> Option<(&Bytes, &[Lexeme])>
+    ensures found { IfSome result (λ x. Leads (of pic_symbol) x.0.now (signs lexemes.now) (signs x.1.now)) }
+    ensures none { IfNone result (Lacks (of pic_symbol) (signs lexemes.now)) }
+    ensures shorter { IfSome result (λ x. length lexemes.now ≡ length x.1.now + 1) }
+{
+    let (lexeme, rest) = next(lexemes)?;
+    Some((picture(&lexeme.symbol)?, rest))
+}
+
+/// A picture.
+pub fn picture_at(alloc: Global, lexemes: &[Lexeme]) -> Result<(Bytes, &[Lexeme]), Halt>
+    ensures gives { Gives (λ x. (x.0, signs x.1.now)) result (one pic_symbol (signs lexemes.now)) }
+    ensures rest { IfOk result (λ x. length x.1.now < length lexemes.now) }
+{
+    match picture_in(lexemes) {
+        Some((text, rest)) => Ok((Bytes::of(alloc, text.get())?, rest)),
+        None => Err(Halt::Stop(lexemes.len())),
+    }
+}
+
+fn label_in(lexemes: &[Lexeme]) -> Option<(Label, &[Lexeme])>
+    ensures found { IfSome result (λ x. Leads (of label_symbol) x.0 (signs lexemes.now) (signs x.1.now)) }
+    ensures none { IfNone result (Lacks (of label_symbol) (signs lexemes.now)) }
+    ensures shorter { IfSome result (λ x. length lexemes.now ≡ length x.1.now + 1) }
+{
+    let (lexeme, rest) = next(lexemes)?;
+    Some((label(&lexeme.symbol)?, rest))
+}
+
+/// STANDARD or OMITTED.
+pub fn label_at(lexemes: &[Lexeme]) -> Result<(Label, &[Lexeme]), Halt>
+    ensures gives { Gives (λ x. (x.0, signs x.1.now)) result (one label_symbol (signs lexemes.now)) }
+    ensures rest { IfOk result (λ x. length x.1.now < length lexemes.now) }
+{
+    match label_in(lexemes) {
+        Some(found) => Ok(found),
+        None => Err(Halt::Stop(lexemes.len())),
+    }
+}
+
+fn external_in(
+    alloc: Global,
+    lexemes: &[Lexeme],
+) -> Result<Option<(External, &[Lexeme])>, AllocError>
+    ensures found { IfOk result (λ o. IfSome o (λ x. Leads (of external_symbol) x.0 (signs lexemes.now) (signs x.1.now))) }
+    ensures none { IfOk result (λ o. IfNone o (Lacks (of external_symbol) (signs lexemes.now))) }
+    ensures shorter { IfOk result (λ o. IfSome o (λ x. length lexemes.now ≡ length x.1.now + 1)) }
+{
+    match next(lexemes) {
+        None => Ok(None),
+        Some((lexeme, rest)) => match external(alloc, &lexeme.symbol)? {
+            None => Ok(None),
+            Some(external) => Ok(Some((external, rest))),
+        },
+    }
+}
+
+/// A file's name outside of the program.
+pub fn external_at(alloc: Global, lexemes: &[Lexeme]) -> Result<(External, &[Lexeme]), Halt>
+    ensures gives { Gives (λ x. (x.0, signs x.1.now)) result (one external_symbol (signs lexemes.now)) }
+    ensures rest { IfOk result (λ x. length x.1.now < length lexemes.now) }
+{
+    match external_in(alloc, lexemes)? {
+        None => Err(Halt::Stop(lexemes.len())),
+        Some(found) => Ok(found),
+    }
+}
+
+/// A name or FILLER, where one stands.
+pub fn described_in(
+    alloc: Global,
+    lexemes: &[Lexeme],
+) -> Result<(Option<Described>, &[Lexeme]), Halt>
+    ensures gives { Gives (λ x. (x.0, signs x.1.now)) result (maybe (of described_symbol) (signs lexemes.now)) }
+    ensures rest { IfOk result (λ x. length x.1.now ≤ length lexemes.now) }
+{
+    match next(lexemes) {
+        None => Ok((None, lexemes)),
+        Some((lexeme, rest)) => match described(alloc, &lexeme.symbol)? {
+            None => Ok((None, lexemes)),
+            Some(described) => Ok((Some(described), rest)),
+        },
+    }
+}
+
+/// The line of a reserved word.
+pub fn line_of(keyword: Keyword, lexemes: &[Lexeme]) -> Result<(u32, &[Lexeme]), Halt>
+    ensures gives { Gives (λ x. ((x.0, tt), signs x.1.now)) result (line_of keyword (signs lexemes.now)) }
+    ensures rest { IfOk result (λ x. length x.1.now < length lexemes.now) }
+{
+    match next(lexemes) {
+        None => Err(Halt::Stop(0)),
+        Some((lexeme, rest)) => {
+            if is_word(keyword, &lexeme.symbol) {
+                Ok((lexeme.line, rest))
+            } else {
+                Err(Halt::Stop(lexemes.len()))
+            }
+        }
+    }
+}
+
+/// A number and its line.
+pub fn level_at(alloc: Global, lexemes: &[Lexeme]) -> Result<((u32, Num), &[Lexeme]), Halt>
+    ensures gives { Gives (λ x. (x.0, signs x.1.now)) result (lead (on_its_line number_symbol) (signs lexemes.now)) }
+    ensures rest { IfOk result (λ x. length x.1.now < length lexemes.now) }
+{
+    match next(lexemes) {
+        None => Err(Halt::Stop(0)),
+        Some((lexeme, rest)) => match number(&lexeme.symbol) {
+            None => Err(Halt::Stop(lexemes.len())),
+            Some(number) => Ok(((lexeme.line, number.copied(alloc)?), rest)),
+        },
+    }
+}

@@ -1,0 +1,23 @@
+ghost use Rattle.std.specs.Prelude.{◌≡◌, ◌<◌, length, IfOk};
+ghost use Rattle.cob_parse_expr.specs.Steps.{signs, Gives};
+ghost use Rattle.cob_parse_data.specs.Reading.{front_at};
+
+use crate::env::env_part;
+use crate::file::data_part;
+use crate::word::{heading, named, title};
+use cob_parse_expr::{Halt, Lexeme};
+use cob_tree::{Front, Keyword};
+use std::alloc::Global;
+
+/// The divisions before PROCEDURE, and the lexemes behind them.
+pub fn front_at(alloc: Global, lexemes: &[Lexeme]) -> Result<(Front, &[Lexeme]), Halt>
+    ensures gives { Gives (λ x. (x.0, signs x.1.now)) result (front_at (signs lexemes.now)) }
+    ensures rest { IfOk result (λ x. length x.1.now < length lexemes.now) }
+{
+    let rest = heading(Keyword::Identification, Keyword::Division, lexemes)?;
+    let rest = title(Keyword::ProgramId, rest)?;
+    let (name, rest) = named(alloc, rest)?;
+    let (env, rest) = env_part(alloc, rest)?;
+    let (data, rest) = data_part(alloc, rest)?;
+    Ok((Front { name, env, data }, rest))
+}

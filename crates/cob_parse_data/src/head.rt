@@ -1,0 +1,32 @@
+ghost use Rattle.std.specs.Prelude.{◌≡◌};
+
+/// The reserved word that begins a clause of a SELECT entry.
+#[derive(Clone, Copy, Debug)]
+pub enum SelectHead {
+    Organization,
+    Access,
+    Status,
+}
+
+/// The reserved word that begins a clause of a file description entry.
+#[derive(Clone, Copy, Debug)]
+pub enum FdHead {
+    Block,
+    RecordSize,
+    Label,
+    Data,
+    Recording,
+}
+
+/// The reserved word that begins a clause of a data description entry.
+#[derive(Clone, Copy, Debug)]
+pub enum ClauseHead {
+    Pic,
+    Redefines,
+    Display,
+    Binary,
+    PackedDecimal,
+    Leading,
+    Trailing,
+    Value,
+}
