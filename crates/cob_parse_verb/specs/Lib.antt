@@ -1,0 +1,10 @@
+pub mod Words
+pub mod Procedure
+pub mod Heads
+pub mod Lists
+pub mod Listed
+pub mod Targets
+pub mod Sums
+pub mod Turning
+pub mod Reading
+pub mod Syntaxes
