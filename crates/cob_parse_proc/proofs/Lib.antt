@@ -1,1 +1,2 @@
 mod Mixed
+mod Words

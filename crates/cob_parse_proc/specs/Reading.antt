@@ -7,10 +7,16 @@ use Rattle.cob_tree.specs.Symbols.{Sign}
 use Rattle.cob_tree.specs.Cues.{Cue, is, Starts, NotRelates, NotTests, NotSize, NotAtEnd}
 use Rattle.cob_tree.specs.Cues as cue
 use Rattle.cob_tree.specs.Stmt.{Sel, Stmt, MkStmt, Verb, if_, evaluate, perform_inline, continue, read, Stmts, more_stmts, stmts_of, Phrase, left_out, given, phrase_of, Tail, MkTail, Whens, no_whens, more_whens, When, MkWhen}
+use Rattle.cob_tree.specs.Takes.{takes_sel}
 use Rattle.reading.specs.Readers.{Reader, nothing, lead, follow, branch, seen, choose, optional, behind, both_behind, many_from, plus, need, must, stands, full}
 use Rattle.reading.specs.Printing.{begins, goes_on}
 use Rattle.cob_parse_data.specs.Tokens.{of, the}
-use Rattle.cob_parse_proc.specs.Heads.{procedure, Head, done, arithmetic, if_head, evaluate_head, perform_head, read_head, with_tail, end_word, head_at, takes_head, choices_at, takes_choices}
+use Rattle.cob_parse_verb.specs.declared.word.Begin.{Begin}
+use Rattle.cob_parse_verb.specs.Procedure.{procedure}
+use Rattle.cob_parse_verb.specs.Heads.{Head, done, arithmetic, if_head, evaluate_head, perform_head, read_head, with_tail, end_word, takes_behind}
+use Rattle.cob_parse_verb.specs.Reading.{head_at}
+use Rattle.cob_parse_verb.specs.Turning.{choices_at}
+use Rattle.cob_parse_verb.specs.Listed.{takes_listed}
 use Rattle.cob_parse_proc.specs.Bare.{list_takes}
 
 -- a token with the cue stands first
@@ -38,7 +44,7 @@ abbrev pub make_when : List Sel × Stmts → When
 make_when x = MkWhen x.0 x.1
 
 abbrev pub when_with : Reader Sign Stmts → ℕ → Reader Sign When
-when_with inner room = seen make_when (must (choices_at room) (λ xs. may_go (takes_choices xs)) (here Starts) inner)
+when_with inner room = seen make_when (must (choices_at room) (λ xs. may_go (takes_listed takes_sel (is cue.Whens) xs)) (here Starts) inner)
 
 -- what stands behind WHEN OTHER
 abbrev pub other_with : Reader Sign Stmts → Reader Sign Stmts
@@ -88,13 +94,13 @@ abbrev pub make_whens : When × List Case → Inside
 make_whens x = whens_inside x.0 x.1
 
 abbrev pub list_with : Reader Sign Stmts → Head → Reader Sign Inside
-list_with inner h = need (here Starts) (seen list_inside inner) (may_go (takes_head h))
+list_with inner h = need (here Starts) (seen list_inside inner) (may_go (takes_behind h))
 
 abbrev pub inside_with : Reader Sign Stmts → ℕ → Head → Reader Sign Inside
 inside_with inner room (done v) ts = Ok (no_inside, ts)
 inside_with inner room (arithmetic a) ts = Ok (no_inside, ts)
 inside_with inner room (if_head c) ts = list_with inner (if_head c) ts
-inside_with inner room (evaluate_head s) ts = need (here cue.Whens) (seen make_whens (whens_with inner room)) (may_go (takes_head (evaluate_head s))) ts
+inside_with inner room (evaluate_head s) ts = need (here cue.Whens) (seen make_whens (whens_with inner room)) (may_go (takes_behind (evaluate_head s))) ts
 inside_with inner room (perform_head turns) ts = list_with inner (perform_head turns) ts
 inside_with inner room (read_head file into) ts = Ok (no_inside, ts)
 
@@ -156,13 +162,13 @@ verb_of (read_head file into) i first second ended = read file into (phrase_of f
 verb_of _ i first second ended = continue
 
 abbrev pub Begun : Type 0
-Begun = (ℕ × Head) × Inside
+Begun = (Begin × Head) × Inside
 
 abbrev pub Parts : Type 0
 Parts = ((Begun × Option Stmts) × Option Stmts) × Option (Unit {0})
 
 abbrev pub make_stmt : Parts → Stmt
-make_stmt x = MkStmt x.0.0.0.0.0 (verb_of x.0.0.0.0.1 x.0.0.0.1 x.0.0.1 x.0.1 (is_some x.1))
+make_stmt x = MkStmt x.0.0.0.0.0.line (verb_of x.0.0.0.0.1 x.0.0.0.1 x.0.0.1 x.0.1 (is_some x.1))
 
 module _ (inner : Reader Sign Stmts) (room : ℕ) where
   abbrev pub begun_with : Reader Sign Begun
