@@ -1,2 +1,6 @@
 mod Mixed
 mod Words
+mod Marks
+mod Syntaxes
+mod WhenLaws
+mod CaseLaws
