@@ -4,3 +4,4 @@ mod Marks
 mod Syntaxes
 mod WhenLaws
 mod CaseLaws
+mod Levels
