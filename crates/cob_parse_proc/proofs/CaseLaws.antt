@@ -73,7 +73,7 @@ case_begins d (inl ss) [] rest good spells = absurd spells
 case_begins d (inl ss) (t ∷ text) rest good spells = is_when d t spells.0.symbol (text ++ rest)
 case_begins d (inr w) text rest good spells = when_begins d w text rest good spells
 
-cases_one : (ended : Bool) → OneToken procedure (more_cases ended)
+pub cases_one : (ended : Bool) → OneToken procedure (more_cases ended)
 cases_one true = not_taken (more_cases true) refl refl refl refl
 cases_one false = not_taken (more_cases false) refl refl refl refl
 
@@ -88,7 +88,7 @@ still_open : (ended : Bool) (ts : List Sign) → begins procedure (more_cases en
 still_open false ts e = refl
 still_open true ts e = let never : true ≡ false = sym e ∙ next_none procedure ts in absurd cc
 
-whens_only : (ended : Bool) (p : Cue) → more_cases ended p ≡ true → p ≡ cue.Whens
+pub whens_only : (ended : Bool) (p : Cue) → more_cases ended p ≡ true → p ≡ cue.Whens
 whens_only ended p e = only cue.Whens p (both_true (not ended) (is cue.Whens p) e).1
 
 module _ (K : Known) (d top room : ℕ) (low : d < top) (inner : Reader Sign Stmts) (LI : Law procedure inner (stmts_syntax d) top) (LC : Law procedure (choices_at room) (choices_syntax d) top) where
