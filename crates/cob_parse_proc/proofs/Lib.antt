@@ -5,3 +5,4 @@ mod Syntaxes
 mod WhenLaws
 mod CaseLaws
 mod Levels
+mod StmtView

@@ -1,0 +1,325 @@
+-- A statement seen as its parts, and its parts as a statement.
+use Rattle.std.proofs.Common.{◌≡◌, ℕ, suc, ◌||◌, ◌&&◌, not, Bool, true, false, List, [], ◌∷◌, ◌++◌, ◌⊎◌, inl, inr, Option, Some, None, is_some, refl, sym, ap, subst, ◌∙◌, append_assoc}
+use Rattle.std.proofs.lemmas.List.{append-nil}
+use Rattle.cob_tree.specs.declared.keyword.Keyword.{Keyword}
+use Rattle.cob_tree.specs.declared.keyword.Keyword.TheVariants as word
+use Rattle.cob_tree.specs.declared.token.Rel.TheVariants as rel
+use Rattle.cob_tree.specs.declared.operand.Ref.{Ref}
+use Rattle.cob_tree.specs.Symbols.{Key}
+use Rattle.cob_tree.specs.Cond.{Cond}
+use Rattle.cob_tree.specs.Items.{Item, item_on, key, keys, word_if, behind}
+use Rattle.cob_tree.specs.Cues.{Cue, is, Qualifies, Size, NotSize, AtEnd, NotAtEnd, Else, EndIf, EndEvaluate, EndRead}
+use Rattle.cob_tree.specs.Cues as cue
+use Rattle.cob_tree.specs.Stmt.{Stmt, MkStmt, Verb, move, set, display, add_to, add_giving, subtract_from, subtract_giving, multiply_by, multiply_giving, divide_into, divide_giving, compute, if_, evaluate, perform_range, perform_inline, go, exit, continue, stop_run, open_, close, read, write, Stmts, no_stmts, more_stmts, Phrase, left_out, given, phrase_of, Tail, MkTail, Whens, no_whens, more_whens, When, MkWhen}
+use Rattle.cob_tree.specs.PrintExpr.{print_ref, print_opnd, print_expr, print_relation}
+use Rattle.cob_tree.specs.PrintStmt.{print_opnds, print_recvs, way_word, first_word, size_words, not_size_words, print_stmts, print_stmt, print_verb, print_phrase, print_tail, print_whens, print_when}
+use Rattle.cob_tree.specs.Takes.{takes_stmts, takes_phrase, takes_tail, takes_whens, takes_when, takes_verb, unless}
+use Rattle.cob_tree.specs.Shaped.{ShapedStmts, ShapedStmt, ShapedPhrase, ShapedTail, ShapedEnd, ShapedWhens, ShapedWhen, ShapedVerb}
+use Rattle.reading.specs.Law.{Syntax}
+use Rattle.reading.proofs.Seen.{View}
+use Rattle.reading.proofs.Tail.{Apart, apart, onward}
+use Rattle.reading.proofs.Many.{is_given}
+use Rattle.reading.proofs.Optional.{optional_syntax}
+use Rattle.cob_parse_verb.specs.declared.word.Start.{Start}
+use Rattle.cob_parse_verb.specs.declared.word.Start.TheVariants as start
+use Rattle.cob_parse_verb.specs.declared.word.Begin.{Begin}
+use Rattle.cob_parse_verb.specs.Words.{start_word}
+use Rattle.cob_parse_verb.specs.Heads as heads
+use Rattle.cob_parse_verb.specs.Heads.{Arithmetic, Head, done, arithmetic, if_head, evaluate_head, perform_head, read_head, with_tail, end_word, end_cue, head_start, HasStart, print_arithmetic, print_behind, takes_arithmetic, takes_done, takes_behind, GoodHead}
+use Rattle.cob_parse_proc.specs.Bare.{bare_stmts, bare_phrase, bare_tail, bare_whens, bare_when, bare_verb, or_of, list_takes, stmt_takes, when_takes}
+use Rattle.cob_parse_proc.specs.Reading.{Case, is_other, more_cases, whens_in, other_in, Inside, no_inside, list_inside, whens_inside, verb_of, Parts, make_stmt}
+use Rattle.cob_parse_proc.proofs.Syntaxes.{stmt_syntax, Known}
+use Rattle.cob_parse_proc.proofs.CaseLaws.{cases_syntax, whens_syntax}
+use Rattle.cob_parse_proc.proofs.Levels.{inside_good, inside_print, first_syntax, second_syntax, ended_syntax, end_syntax, parts_syntax}
+
+-- ---- parts of a verb
+
+abbrev head_in : Verb → Head
+head_in (add_to addends to tail) = arithmetic (heads.add_to addends to)
+head_in (add_giving addends to giving tail) = arithmetic (heads.add_giving addends to giving)
+head_in (subtract_from less from tail) = arithmetic (heads.subtract_from less from)
+head_in (subtract_giving less from giving tail) = arithmetic (heads.subtract_giving less from giving)
+head_in (multiply_by factor by tail) = arithmetic (heads.multiply_by factor by)
+head_in (multiply_giving factor by giving tail) = arithmetic (heads.multiply_giving factor by giving)
+head_in (divide_into divisor into tail) = arithmetic (heads.divide_into divisor into)
+head_in (divide_giving first way second giving remainder tail) = arithmetic (heads.divide_giving first way second giving remainder)
+head_in (compute to value tail) = arithmetic (heads.compute to value)
+head_in (if_ test ss other ended) = if_head test
+head_in (evaluate subject whens other ended) = evaluate_head subject
+head_in (perform_inline turns body) = perform_head turns
+head_in (read file into end not_end ended) = read_head file into
+head_in v = done v
+
+abbrev option_of : Phrase → Option Stmts
+option_of left_out = None
+option_of (given ss) = Some ss
+
+abbrev unit_if : Bool → Option (Unit {0})
+unit_if false = None
+unit_if true = Some tt
+
+-- WHEN OTHER behind the others
+abbrev cases_of : Whens → Phrase → List Case
+cases_of no_whens left_out = []
+cases_of no_whens (given ss) = inl ss ∷ []
+cases_of (more_whens w ws) other = inr w ∷ cases_of ws other
+
+abbrev inside_of : Whens → Phrase → Inside
+inside_of no_whens other = no_inside
+inside_of (more_whens w ws) other = whens_inside w (cases_of ws other)
+
+abbrev inside_in : Verb → Inside
+inside_in (if_ test ss other ended) = list_inside ss
+inside_in (evaluate subject whens other ended) = inside_of whens other
+inside_in (perform_inline turns body) = list_inside body
+inside_in v = no_inside
+
+abbrev size_of : Tail → Option Stmts
+size_of (MkTail size not_size ended) = option_of size
+
+abbrev not_size_of : Tail → Option Stmts
+not_size_of (MkTail size not_size ended) = option_of not_size
+
+abbrev ended_of : Tail → Option (Unit {0})
+ended_of (MkTail size not_size ended) = unit_if ended
+
+abbrev first_in : Verb → Option Stmts
+first_in (add_to addends to tail) = size_of tail
+first_in (add_giving addends to giving tail) = size_of tail
+first_in (subtract_from less from tail) = size_of tail
+first_in (subtract_giving less from giving tail) = size_of tail
+first_in (multiply_by factor by tail) = size_of tail
+first_in (multiply_giving factor by giving tail) = size_of tail
+first_in (divide_into divisor into tail) = size_of tail
+first_in (divide_giving first way second giving remainder tail) = size_of tail
+first_in (compute to value tail) = size_of tail
+first_in (if_ test ss other ended) = option_of other
+first_in (read file into end not_end ended) = option_of end
+first_in v = None
+
+abbrev second_in : Verb → Option Stmts
+second_in (add_to addends to tail) = not_size_of tail
+second_in (add_giving addends to giving tail) = not_size_of tail
+second_in (subtract_from less from tail) = not_size_of tail
+second_in (subtract_giving less from giving tail) = not_size_of tail
+second_in (multiply_by factor by tail) = not_size_of tail
+second_in (multiply_giving factor by giving tail) = not_size_of tail
+second_in (divide_into divisor into tail) = not_size_of tail
+second_in (divide_giving first way second giving remainder tail) = not_size_of tail
+second_in (compute to value tail) = not_size_of tail
+second_in (read file into end not_end ended) = option_of not_end
+second_in v = None
+
+abbrev end_in : Verb → Option (Unit {0})
+end_in (add_to addends to tail) = ended_of tail
+end_in (add_giving addends to giving tail) = ended_of tail
+end_in (subtract_from less from tail) = ended_of tail
+end_in (subtract_giving less from giving tail) = ended_of tail
+end_in (multiply_by factor by tail) = ended_of tail
+end_in (multiply_giving factor by giving tail) = ended_of tail
+end_in (divide_into divisor into tail) = ended_of tail
+end_in (divide_giving first way second giving remainder tail) = ended_of tail
+end_in (compute to value tail) = ended_of tail
+end_in (if_ test ss other ended) = unit_if ended
+end_in (evaluate subject whens other ended) = unit_if ended
+end_in (perform_inline turns body) = Some tt
+end_in (read file into end not_end ended) = unit_if ended
+end_in v = None
+
+abbrev start_or : Option Start → Start
+start_or None = start.Exit
+start_or (Some s) = s
+
+abbrev stmt_parts : Stmt → Parts
+stmt_parts (MkStmt line v) = (((((record { line = line; start = start_or (head_start (head_in v)) }, head_in v), inside_in v), first_in v), second_in v), end_in v)
+
+-- ---- and back
+
+phrase_back : (p : Phrase) → phrase_of (option_of p) ≡ p
+phrase_back left_out = refl
+phrase_back (given ss) = refl
+
+ended_back : (b : Bool) → is_some (unit_if b) ≡ b
+ended_back false = refl
+ended_back true = refl
+
+tail_back : (t : Tail) → MkTail (phrase_of (size_of t)) (phrase_of (not_size_of t)) (is_some (ended_of t)) ≡ t
+tail_back (MkTail size not_size ended) = rw (phrase_back size, phrase_back not_size, ended_back ended) refl
+
+whens_back : (ws : Whens) (o : Phrase) → whens_in (cases_of ws o) ≡ ws
+whens_back no_whens left_out = refl
+whens_back no_whens (given ss) = refl
+whens_back (more_whens w ws) o = ap (λ (z : Whens). more_whens w z) (whens_back ws o)
+
+other_back : (ws : Whens) (o : Phrase) → other_in (cases_of ws o) ≡ o
+other_back no_whens left_out = refl
+other_back no_whens (given ss) = refl
+other_back (more_whens w ws) o = other_back ws o
+
+verb_back : (v : Verb) → ShapedVerb v → verb_of (head_in v) (inside_in v) (first_in v) (second_in v) (is_some (end_in v)) ≡ v
+verb_back (add_to addends to tail) g = ap (add_to addends to) (tail_back tail)
+verb_back (add_giving addends to giving tail) g = ap (add_giving addends to giving) (tail_back tail)
+verb_back (subtract_from less from tail) g = ap (subtract_from less from) (tail_back tail)
+verb_back (subtract_giving less from giving tail) g = ap (subtract_giving less from giving) (tail_back tail)
+verb_back (multiply_by factor by tail) g = ap (multiply_by factor by) (tail_back tail)
+verb_back (multiply_giving factor by giving tail) g = ap (multiply_giving factor by giving) (tail_back tail)
+verb_back (divide_into divisor into tail) g = ap (divide_into divisor into) (tail_back tail)
+verb_back (divide_giving first way second giving remainder tail) g = ap (divide_giving first way second giving remainder) (tail_back tail)
+verb_back (compute to value tail) g = ap (compute to value) (tail_back tail)
+verb_back (if_ test ss other ended) g = rw (phrase_back other, ended_back ended) refl
+verb_back (evaluate subject no_whens other ended) g = absurd g.0
+verb_back (evaluate subject (more_whens w ws) other ended) g = rw (whens_back ws other, other_back ws other, ended_back ended) refl
+verb_back (perform_inline turns body) g = refl
+verb_back (read file into end not_end ended) g = rw (phrase_back end, phrase_back not_end, ended_back ended) refl
+verb_back (move from to) g = refl
+verb_back (set text) g = refl
+verb_back (display operands) g = refl
+verb_back (perform_range first thru turns) g = refl
+verb_back (go text) g = refl
+verb_back exit g = refl
+verb_back continue g = refl
+verb_back stop_run g = refl
+verb_back (open_ files) g = refl
+verb_back (close names) g = refl
+verb_back (write rec from ended) g = refl
+
+stmt_back : (s : Stmt) → ShapedStmt s → make_stmt (stmt_parts s) ≡ s
+stmt_back (MkStmt line v) g = ap (MkStmt line) (verb_back v g)
+
+-- ---- how they are printed
+
+flat : (a i p q e : List Item) → (((a ++ i) ++ p) ++ q) ++ e ≡ a ++ (i ++ (p ++ (q ++ e)))
+flat a i p q e =
+    append_assoc ((a ++ i) ++ p) q e ∙ append_assoc (a ++ i) p (q ++ e) ∙ append_assoc a i (p ++ (q ++ e))
+
+arithmetic_print : (d : ℕ) (a : Arithmetic) (t : Tail) → print_verb d (with_tail a t) ≡ print_arithmetic d a ++ print_tail d (end_word a) t
+arithmetic_print d (heads.add_to addends to) t = sym (append_assoc (print_opnds d addends) (key d word.To ∷ print_recvs d to) (print_tail d word.EndAdd t))
+arithmetic_print d (heads.add_giving addends to giving) t =
+    sym (append_assoc (print_opnds d addends) (behind d (word.To ∷ []) (print_opnd d) to ++ key d word.Giving ∷ print_recvs d giving) (print_tail d word.EndAdd t)
+    ∙ ap (λ (z : List Item). print_opnds d addends ++ z) (append_assoc (behind d (word.To ∷ []) (print_opnd d) to) (key d word.Giving ∷ print_recvs d giving) (print_tail d word.EndAdd t)))
+arithmetic_print d (heads.subtract_from less from) t = sym (append_assoc (print_opnds d less) (key d word.From ∷ print_recvs d from) (print_tail d word.EndSubtract t))
+arithmetic_print d (heads.subtract_giving less from giving) t =
+    sym (append_assoc (print_opnds d less) (key d word.From ∷ (print_opnd d from ++ key d word.Giving ∷ print_recvs d giving)) (print_tail d word.EndSubtract t)
+    ∙ ap (λ (z : List Item). print_opnds d less ++ key d word.From ∷ z) (append_assoc (print_opnd d from) (key d word.Giving ∷ print_recvs d giving) (print_tail d word.EndSubtract t)))
+arithmetic_print d (heads.multiply_by factor by) t = sym (append_assoc (print_opnd d factor) (key d word.By ∷ print_recvs d by) (print_tail d word.EndMultiply t))
+arithmetic_print d (heads.multiply_giving factor by giving) t =
+    sym (append_assoc (print_opnd d factor) (key d word.By ∷ (print_opnd d by ++ key d word.Giving ∷ print_recvs d giving)) (print_tail d word.EndMultiply t)
+    ∙ ap (λ (z : List Item). print_opnd d factor ++ key d word.By ∷ z) (append_assoc (print_opnd d by) (key d word.Giving ∷ print_recvs d giving) (print_tail d word.EndMultiply t)))
+arithmetic_print d (heads.divide_into divisor into) t = sym (append_assoc (print_opnd d divisor) (key d word.Into ∷ print_recvs d into) (print_tail d word.EndDivide t))
+arithmetic_print d (heads.divide_giving first way second giving remainder) t =
+    sym (append_assoc (print_opnd d first) (key d (way_word way) ∷ (print_opnd d second ++ key d word.Giving ∷ (print_recvs d giving ++ behind d (word.Remainder ∷ []) (print_ref d) remainder))) (print_tail d word.EndDivide t)
+    ∙ ap (λ (z : List Item). print_opnd d first ++ key d (way_word way) ∷ z)
+    (append_assoc (print_opnd d second) (key d word.Giving ∷ (print_recvs d giving ++ behind d (word.Remainder ∷ []) (print_ref d) remainder)) (print_tail d word.EndDivide t)
+    ∙ ap (λ (z : List Item). print_opnd d second ++ key d word.Giving ∷ z) (append_assoc (print_recvs d giving) (behind d (word.Remainder ∷ []) (print_ref d) remainder) (print_tail d word.EndDivide t))))
+arithmetic_print d (heads.compute to value) t = sym (append_assoc (print_recvs d to) (print_relation d rel.Equal ∷ print_expr d value) (print_tail d word.EndCompute t))
+
+module _ (d : ℕ) where
+  -- phrases
+  size_print : (o : Option Stmts) (a : Arithmetic) → print_phrase d size_words (phrase_of o) ≡ (first_syntax d (arithmetic a)).print o
+  size_print None a = refl
+  size_print (Some ss) a = refl
+
+  not_size_print : (o : Option Stmts) (a : Arithmetic) → print_phrase d not_size_words (phrase_of o) ≡ (second_syntax d (arithmetic a)).print o
+  not_size_print None a = refl
+  not_size_print (Some ss) a = refl
+
+  end_print : (e : Option (Unit {0})) (c : Cue) (k : Keyword) → word_if d (is_some e) k ≡ (ended_syntax d c k).print e
+  end_print None c k = refl
+  end_print (Some x) c k = refl
+
+  else_print : (o : Option Stmts) (c : Cond) → print_phrase d (word.Else ∷ []) (phrase_of o) ≡ (first_syntax d (if_head c)).print o
+  else_print None c = refl
+  else_print (Some ss) c = refl
+
+  at_end_print : (o : Option Stmts) (file : List ℕ) (into : Option Ref) → print_phrase d (word.End ∷ []) (phrase_of o) ≡ (first_syntax d (read_head file into)).print o
+  at_end_print None file into = refl
+  at_end_print (Some ss) file into = refl
+
+  not_end_print : (o : Option Stmts) (file : List ℕ) (into : Option Ref) → print_phrase d (word.Not ∷ word.End ∷ []) (phrase_of o) ≡ (second_syntax d (read_head file into)).print o
+  not_end_print None file into = refl
+  not_end_print (Some ss) file into = refl
+
+  -- WHEN
+  last_print : (a b more : List Item) → (a ++ []) ++ (b ++ more) ≡ (a ++ (b ++ [])) ++ more
+  last_print a b more = ap (λ (z : List Item). z ++ (b ++ more)) (append-nil a) ∙ (sym (append_assoc a b more) ∙ ap (λ (z : List Item). (a ++ z) ++ more) (sym (append-nil b)))
+
+  whens_print : (w : When) (cs : List Case) (more : List Item) → (cases_syntax d).Good cs → print_whens d (more_whens w (whens_in cs)) ++ (print_phrase d (word.When ∷ word.Other ∷ []) (other_in cs) ++ more) ≡ (whens_syntax d).print (w, cs) ++ more
+  whens_print w [] more good = refl
+  whens_print w (inl ss ∷ []) more good = last_print (print_when d w) (key d word.When ∷ key d word.Other ∷ print_stmts d ss) more
+  whens_print w (inl ss ∷ c ∷ cs) more good = let never : true ≡ false = good.1.0.1 in absurd cc
+  whens_print w (inr v ∷ cs) more good =
+      append_assoc (print_when d w) (print_whens d (more_whens v (whens_in cs))) (print_phrase d (word.When ∷ word.Other ∷ []) (other_in cs) ++ more)
+      ∙ ap (λ (z : List Item). print_when d w ++ z) (whens_print v cs more good.1)
+      ∙ sym (append_assoc (print_when d w) ((whens_syntax d).print (v, cs)) more)
+
+  abbrev parts_print : Head → Inside → Option Stmts → Option Stmts → Option (Unit {0}) → List Item
+  parts_print h i o u e = print_behind d h ++ (inside_print d i ++ ((first_syntax d h).print o ++ ((second_syntax d h).print u ++ (end_syntax d h).print e)))
+
+  verb_print : (h : Head) (i : Inside) (o u : Option Stmts) (e : Option (Unit {0})) → inside_good d h i → print_verb d (verb_of h i o u (is_some e)) ≡ parts_print h i o u e
+  verb_print (done v) no_inside o u e g = sym (append-nil (print_verb d v))
+  verb_print (arithmetic a) no_inside o u e g =
+      arithmetic_print d a (MkTail (phrase_of o) (phrase_of u) (is_some e))
+      ∙ ap (λ (z : List Item). print_arithmetic d a ++ (z ++ (print_phrase d not_size_words (phrase_of u) ++ word_if d (is_some e) (end_word a)))) (size_print o a)
+      ∙ ap (λ (z : List Item). print_arithmetic d a ++ ((first_syntax d (arithmetic a)).print o ++ (z ++ word_if d (is_some e) (end_word a)))) (not_size_print u a)
+      ∙ ap (λ (z : List Item). print_arithmetic d a ++ ((first_syntax d (arithmetic a)).print o ++ ((second_syntax d (arithmetic a)).print u ++ z))) (end_print e (end_cue a) (end_word a))
+  verb_print (if_head c) (list_inside ss) o u e g =
+      ap (λ (z : List Item). print_behind d (if_head c) ++ (print_stmts d ss ++ (z ++ word_if d (is_some e) word.EndIf))) (else_print o c)
+      ∙ ap (λ (z : List Item). print_behind d (if_head c) ++ (print_stmts d ss ++ ((first_syntax d (if_head c)).print o ++ z))) (end_print e EndIf word.EndIf)
+  verb_print (evaluate_head s) (whens_inside w cs) o u e g =
+      ap (λ (z : List Item). print_behind d (evaluate_head s) ++ z)
+      (whens_print w cs (word_if d (is_some e) word.EndEvaluate) g.1 ∙ ap (λ (z : List Item). (whens_syntax d).print (w, cs) ++ z) (end_print e EndEvaluate word.EndEvaluate))
+  verb_print (perform_head turns) (list_inside ss) o u e g = refl
+  verb_print (read_head file into) no_inside o u e g =
+      ap (λ (z : List Item). print_behind d (read_head file into) ++ (z ++ (print_phrase d (word.Not ∷ word.End ∷ []) (phrase_of u) ++ word_if d (is_some e) word.EndRead))) (at_end_print o file into)
+      ∙ ap (λ (z : List Item). print_behind d (read_head file into) ++ ((first_syntax d (read_head file into)).print o ++ (z ++ word_if d (is_some e) word.EndRead))) (not_end_print u file into)
+      ∙ ap (λ (z : List Item). print_behind d (read_head file into) ++ ((first_syntax d (read_head file into)).print o ++ ((second_syntax d (read_head file into)).print u ++ z))) (end_print e EndRead word.EndRead)
+  verb_print _ i o u e g = absurd g
+
+-- the word with which it begins
+some_start : (s t : Start) → Some s ≡ Some t → s ≡ t
+some_start s t e = cc
+
+arithmetic_word : (a : Arithmetic) (t : Tail) (s : Start) → HasStart (arithmetic a) s → start_word s ≡ first_word (with_tail a t)
+arithmetic_word (heads.add_to addends to) t s e = ap start_word (sym (some_start _ s e))
+arithmetic_word (heads.add_giving addends to giving) t s e = ap start_word (sym (some_start _ s e))
+arithmetic_word (heads.subtract_from less from) t s e = ap start_word (sym (some_start _ s e))
+arithmetic_word (heads.subtract_giving less from giving) t s e = ap start_word (sym (some_start _ s e))
+arithmetic_word (heads.multiply_by factor by) t s e = ap start_word (sym (some_start _ s e))
+arithmetic_word (heads.multiply_giving factor by giving) t s e = ap start_word (sym (some_start _ s e))
+arithmetic_word (heads.divide_into divisor into) t s e = ap start_word (sym (some_start _ s e))
+arithmetic_word (heads.divide_giving first way second giving remainder) t s e = ap start_word (sym (some_start _ s e))
+arithmetic_word (heads.compute to value) t s e = ap start_word (sym (some_start _ s e))
+
+done_word : (v : Verb) (s : Start) → HasStart (done v) s → start_word s ≡ first_word v
+done_word (move from to) s e = ap start_word (sym (some_start _ s e))
+done_word (set text) s e = ap start_word (sym (some_start _ s e))
+done_word (display operands) s e = ap start_word (sym (some_start _ s e))
+done_word (perform_range first thru turns) s e = ap start_word (sym (some_start _ s e))
+done_word (go text) s e = ap start_word (sym (some_start _ s e))
+done_word exit s e = ap start_word (sym (some_start _ s e))
+done_word continue s e = ap start_word (sym (some_start _ s e))
+done_word stop_run s e = ap start_word (sym (some_start _ s e))
+done_word (open_ files) s e = ap start_word (sym (some_start _ s e))
+done_word (close names) s e = ap start_word (sym (some_start _ s e))
+done_word (write rec from ended) s e = ap start_word (sym (some_start _ s e))
+done_word _ s e = absurd cc
+
+verb_word : (d : ℕ) (h : Head) (i : Inside) (o u : Option Stmts) (e : Option (Unit {0})) (s : Start) → inside_good d h i → HasStart h s → start_word s ≡ first_word (verb_of h i o u (is_some e))
+verb_word d (done v) i o u e s g has = done_word v s has
+verb_word d (arithmetic a) i o u e s g has = arithmetic_word a (MkTail (phrase_of o) (phrase_of u) (is_some e)) s has
+verb_word d (if_head c) (list_inside ss) o u e s g has = ap start_word (sym (some_start _ s has))
+verb_word d (evaluate_head subject) (whens_inside w cs) o u e s g has = ap start_word (sym (some_start _ s has))
+verb_word d (perform_head turns) (list_inside ss) o u e s g has = ap start_word (sym (some_start _ s has))
+verb_word d (read_head file into) i o u e s g has = ap start_word (sym (some_start _ s has))
+verb_word d (if_head c) no_inside o u e s g has = absurd g
+verb_word d (if_head c) (whens_inside w cs) o u e s g has = absurd g
+verb_word d (evaluate_head subject) no_inside o u e s g has = absurd g
+verb_word d (evaluate_head subject) (list_inside ss) o u e s g has = absurd g
+verb_word d (perform_head turns) no_inside o u e s g has = absurd g
+verb_word d (perform_head turns) (whens_inside w cs) o u e s g has = absurd g
+
+stmt_print : (d : ℕ) (x : Parts) → (parts_syntax (suc d)).Good x → print_stmt d (make_stmt x) ≡ (parts_syntax (suc d)).print x
+stmt_print d (((((b, h), i), o), u), e) g =
+    ap (λ (k : Keyword). item_on (suc d) b.line (Key k) ∷ print_verb (suc d) (verb_of h i o u (is_some e))) (sym (verb_word (suc d) h i o u e b.start g.0.0.0.1 g.0.0.0.0.1))
+    ∙ ap (λ (z : List Item). item_on (suc d) b.line (Key (start_word b.start)) ∷ z) (verb_print (suc d) h i o u e g.0.0.0.1)
+    ∙ sym (flat (item_on (suc d) b.line (Key (start_word b.start)) ∷ print_behind (suc d) h) (inside_print (suc d) i) ((first_syntax (suc d) h).print o) ((second_syntax (suc d) h).print u) ((end_syntax (suc d) h).print e))
