@@ -323,3 +323,165 @@ stmt_print d (((((b, h), i), o), u), e) g =
     ap (λ (k : Keyword). item_on (suc d) b.line (Key k) ∷ print_verb (suc d) (verb_of h i o u (is_some e))) (sym (verb_word (suc d) h i o u e b.start g.0.0.0.1 g.0.0.0.0.1))
     ∙ ap (λ (z : List Item). item_on (suc d) b.line (Key (start_word b.start)) ∷ z) (verb_print (suc d) h i o u e g.0.0.0.1)
     ∙ sym (flat (item_on (suc d) b.line (Key (start_word b.start)) ∷ print_behind (suc d) h) (inside_print (suc d) i) ((first_syntax (suc d) h).print o) ((second_syntax (suc d) h).print u) ((end_syntax (suc d) h).print e))
+
+-- ---- what they take
+
+abbrev opt_takes : Option Stmts → Bool → Cue → Bool
+opt_takes None own p = own
+opt_takes (Some ss) own p = list_takes ss p
+
+abbrev end_takes : Option (Unit {0}) → Bool → Bool
+end_takes None own = own
+end_takes (Some x) own = false
+
+or_more : (q b x y : Bool) → or_of q b (x || y) ≡ (or_of q b x || y)
+or_more true true x y = refl
+or_more true false x y = refl
+or_more false b x y = refl
+
+or_none : (q x : Bool) → or_of q false x ≡ x
+or_none true x = refl
+or_none false x = refl
+
+or_ended : (q b : Bool) → or_of q (not true && b) false ≡ false
+or_ended true b = refl
+or_ended false b = refl
+
+or_last : (x : Bool) → (x || false) ≡ x
+or_last true = refl
+or_last false = refl
+
+cases_take : (d : ℕ) (w : When) (cs : List Case) (p : Cue) → (cases_syntax d).Good cs
+    → or_of (is Qualifies p) (bare_phrase (other_in cs) (bare_whens (more_whens w (whens_in cs)))) (takes_phrase (other_in cs) (takes_whens (more_whens w (whens_in cs)) p) (is cue.Whens p) p) ≡ (whens_syntax d).takes (w, cs) p
+cases_take d w [] p good = or_more (is Qualifies p) (bare_when w) (takes_when w p) (is cue.Whens p)
+cases_take d w (inl ss ∷ []) p good = sym (or_last (list_takes ss p))
+cases_take d w (inl ss ∷ c ∷ cs) p good = let never : true ≡ false = good.1.0.1 in absurd cc
+cases_take d w (inr v ∷ cs) p good = cases_take d v cs p good.1
+
+module _ (d : ℕ) (q : Bool) (before : Bool) (bare : Bool) where
+  -- a phrase behind what takes so
+  phrase_take : (o : Option Stmts) (own : Bool) (p : Cue) → is Qualifies p ≡ q → or_of q (bare_phrase (phrase_of o) bare) (takes_phrase (phrase_of o) before own p) ≡ onward (is_some o) (or_of q bare before) (opt_takes o own p)
+  phrase_take None own p e = or_more q bare before own
+  phrase_take (Some ss) own p e = ap (λ (c : Bool). or_of c (bare_stmts ss) (takes_stmts ss p)) (sym e)
+
+  ended_take : (e : Option (Unit {0})) (own : Bool) → or_of q (not (is_some e) && bare) (unless (is_some e) before own) ≡ onward (is_some e) (or_of q bare before) (end_takes e own)
+  ended_take None own = or_more q bare before own
+  ended_take (Some x) own = or_ended q bare
+
+module _ (d : ℕ) (b : Begin) (p : Cue) where
+  abbrev q : Bool
+  q = is Qualifies p
+
+  -- the syntaxes of phrases, in these words
+  size_take : (a : Arithmetic) (o : Option Stmts) → (first_syntax d (arithmetic a)).takes o p ≡ opt_takes o (is Size p) p
+  size_take a None = refl
+  size_take a (Some ss) = refl
+
+  not_size_take : (a : Arithmetic) (o : Option Stmts) → (second_syntax d (arithmetic a)).takes o p ≡ opt_takes o (is NotSize p) p
+  not_size_take a None = refl
+  not_size_take a (Some ss) = refl
+
+  else_take : (c : Cond) (o : Option Stmts) → (first_syntax d (if_head c)).takes o p ≡ opt_takes o (is Else p) p
+  else_take c None = refl
+  else_take c (Some ss) = refl
+
+  at_end_take : (file : List ℕ) (into : Option Ref) (o : Option Stmts) → (first_syntax d (read_head file into)).takes o p ≡ opt_takes o (is AtEnd p) p
+  at_end_take file into None = refl
+  at_end_take file into (Some ss) = refl
+
+  not_end_take : (file : List ℕ) (into : Option Ref) (o : Option Stmts) → (second_syntax d (read_head file into)).takes o p ≡ opt_takes o (is NotAtEnd p) p
+  not_end_take file into None = refl
+  not_end_take file into (Some ss) = refl
+
+  end_take : (c : Cue) (k : Keyword) (e : Option (Unit {0})) → (ended_syntax d c k).takes e p ≡ end_takes e (is c p)
+  end_take c k None = refl
+  end_take c k (Some x) = refl
+
+  -- two phrases and a word that ends, in general
+  abbrev two_take : Bool → Option Stmts → Bool → Option Stmts → Bool → Option (Unit {0}) → Bool → Bool
+  two_take before o m u n e own = onward (is_some e) (onward (is_some u) (onward (is_some o) before (opt_takes o m p)) (opt_takes u n p)) (end_takes e own)
+
+  two_taken : (before : Bool) (o : Option Stmts) (m : Bool) (u : Option Stmts) (n : Bool) (e : Option (Unit {0})) (own : Bool)
+      → or_of q (not (is_some e) && bare_phrase (phrase_of u) (bare_phrase (phrase_of o) false)) (unless (is_some e) (takes_phrase (phrase_of u) (takes_phrase (phrase_of o) before m p) n p) own) ≡ two_take before o m u n e own
+  two_taken before o m u n e own =
+      ended_take d q (takes_phrase (phrase_of u) (takes_phrase (phrase_of o) before m p) n p) (bare_phrase (phrase_of u) (bare_phrase (phrase_of o) false)) e own
+      ∙ ap (λ (z : Bool). onward (is_some e) z (end_takes e own))
+      (phrase_take d q (takes_phrase (phrase_of o) before m p) (bare_phrase (phrase_of o) false) u n p refl
+      ∙ ap (λ (z : Bool). onward (is_some u) z (opt_takes u n p))
+      (phrase_take d q before false o m p refl ∙ ap (λ (z : Bool). onward (is_some o) z (opt_takes o m p)) (or_none q before)))
+
+  arithmetic_takes : (a : Arithmetic) (t : Tail) → takes_verb (with_tail a t) p ≡ takes_tail t (takes_arithmetic a p) (is (end_cue a) p) p
+  arithmetic_takes (heads.add_to addends to) t = refl
+  arithmetic_takes (heads.add_giving addends to giving) t = refl
+  arithmetic_takes (heads.subtract_from less from) t = refl
+  arithmetic_takes (heads.subtract_giving less from giving) t = refl
+  arithmetic_takes (heads.multiply_by factor by) t = refl
+  arithmetic_takes (heads.multiply_giving factor by giving) t = refl
+  arithmetic_takes (heads.divide_into divisor into) t = refl
+  arithmetic_takes (heads.divide_giving first way second giving remainder) t = refl
+  arithmetic_takes (heads.compute to value) t = refl
+
+  arithmetic_bare : (a : Arithmetic) (t : Tail) → bare_verb (with_tail a t) ≡ bare_tail t
+  arithmetic_bare (heads.add_to addends to) t = refl
+  arithmetic_bare (heads.add_giving addends to giving) t = refl
+  arithmetic_bare (heads.subtract_from less from) t = refl
+  arithmetic_bare (heads.subtract_giving less from giving) t = refl
+  arithmetic_bare (heads.multiply_by factor by) t = refl
+  arithmetic_bare (heads.multiply_giving factor by giving) t = refl
+  arithmetic_bare (heads.divide_into divisor into) t = refl
+  arithmetic_bare (heads.divide_giving first way second giving remainder) t = refl
+  arithmetic_bare (heads.compute to value) t = refl
+
+  and_true : (c : Bool) → (c && true) ≡ c
+  and_true true = refl
+  and_true false = refl
+
+  done_takes : (v : Verb) (s : Start) → HasStart (done v) s → or_of q (bare_verb v) (takes_verb v p) ≡ takes_done v p
+  done_takes (perform_range first None None) s e = ap (λ (c : Bool). c || takes_verb (perform_range first None None) p) (and_true q)
+  done_takes (perform_range first None (Some l)) s e = or_none q _
+  done_takes (perform_range first (Some thru) None) s e = or_none q _
+  done_takes (perform_range first (Some thru) (Some l)) s e = or_none q _
+  done_takes (move from to) s e = or_none q _
+  done_takes (set text) s e = or_none q _
+  done_takes (display operands) s e = or_none q _
+  done_takes (go text) s e = or_none q _
+  done_takes exit s e = or_none q _
+  done_takes continue s e = or_none q _
+  done_takes stop_run s e = or_none q _
+  done_takes (open_ files) s e = or_none q _
+  done_takes (close names) s e = or_none q _
+  done_takes (write rec from ended) s e = or_none q _
+  done_takes _ s e = absurd cc
+
+  verb_takes : (h : Head) (i : Inside) (o u : Option Stmts) (e : Option (Unit {0})) → inside_good d h i → HasStart h b.start → or_of q (bare_verb (verb_of h i o u (is_some e))) (takes_verb (verb_of h i o u (is_some e)) p) ≡ (parts_syntax d).takes (((((b, h), i), o), u), e) p
+  verb_takes (done v) i o u e g has = done_takes v b.start has
+  verb_takes (arithmetic a) i o u e g has =
+      ap (λ (z : Bool). or_of q z (takes_verb (with_tail a (MkTail (phrase_of o) (phrase_of u) (is_some e))) p)) (arithmetic_bare a (MkTail (phrase_of o) (phrase_of u) (is_some e)))
+      ∙ ap (λ (z : Bool). or_of q (bare_tail (MkTail (phrase_of o) (phrase_of u) (is_some e))) z) (arithmetic_takes a (MkTail (phrase_of o) (phrase_of u) (is_some e)))
+      ∙ two_taken (takes_arithmetic a p) o (is Size p) u (is NotSize p) e (is (end_cue a) p)
+      ∙ ap (λ (z : Bool). onward (is_some e) (onward (is_some u) (onward (is_some o) (takes_arithmetic a p) z) (opt_takes u (is NotSize p) p)) (end_takes e (is (end_cue a) p))) (sym (size_take a o))
+      ∙ ap (λ (z : Bool). onward (is_some e) (onward (is_some u) (onward (is_some o) (takes_arithmetic a p) ((first_syntax d (arithmetic a)).takes o p)) z) (end_takes e (is (end_cue a) p))) (sym (not_size_take a u))
+      ∙ ap (λ (z : Bool). onward (is_some e) (onward (is_some u) (onward (is_some o) (takes_arithmetic a p) ((first_syntax d (arithmetic a)).takes o p)) ((second_syntax d (arithmetic a)).takes u p)) z) (sym (end_take (end_cue a) (end_word a) e))
+  verb_takes (if_head c) (list_inside ss) o u e g has =
+      ended_take d q (takes_phrase (phrase_of o) (takes_stmts ss p) (is Else p) p) (bare_phrase (phrase_of o) (bare_stmts ss)) e (is EndIf p)
+      ∙ ap (λ (z : Bool). onward (is_some e) z (end_takes e (is EndIf p))) (phrase_take d q (takes_stmts ss p) (bare_stmts ss) o (is Else p) p refl ∙ ap (λ (z : Bool). onward (is_some o) (list_takes ss p) z) (sym (else_take c o)))
+      ∙ ap (λ (z : Bool). onward (is_some e) (onward (is_some o) (list_takes ss p) ((first_syntax d (if_head c)).takes o p)) z) (sym (end_take EndIf word.EndIf e))
+  verb_takes (evaluate_head s) (whens_inside w cs) o u e g has =
+      ended_take d q (takes_phrase (other_in cs) (takes_whens (more_whens w (whens_in cs)) p) (is cue.Whens p) p) (bare_phrase (other_in cs) (bare_whens (more_whens w (whens_in cs)))) e (is EndEvaluate p)
+      ∙ ap (λ (z : Bool). onward (is_some e) z (end_takes e (is EndEvaluate p))) (cases_take d w cs p g.1)
+      ∙ ap (λ (z : Bool). onward (is_some e) ((whens_syntax d).takes (w, cs) p) z) (sym (end_take EndEvaluate word.EndEvaluate e))
+  verb_takes (perform_head turns) (list_inside ss) o u e g has = or_none q false
+  verb_takes (read_head file into) i o u e g has =
+      two_taken (takes_behind (read_head file into) p) o (is AtEnd p) u (is NotAtEnd p) e (is EndRead p)
+      ∙ ap (λ (z : Bool). onward (is_some e) (onward (is_some u) (onward (is_some o) (takes_behind (read_head file into) p) z) (opt_takes u (is NotAtEnd p) p)) (end_takes e (is EndRead p))) (sym (at_end_take file into o))
+      ∙ ap (λ (z : Bool). onward (is_some e) (onward (is_some u) (onward (is_some o) (takes_behind (read_head file into) p) ((first_syntax d (read_head file into)).takes o p)) z) (end_takes e (is EndRead p))) (sym (not_end_take file into u))
+      ∙ ap (λ (z : Bool). onward (is_some e) (onward (is_some u) (onward (is_some o) (takes_behind (read_head file into) p) ((first_syntax d (read_head file into)).takes o p)) ((second_syntax d (read_head file into)).takes u p)) z) (sym (end_take EndRead word.EndRead e))
+  verb_takes (if_head c) no_inside o u e g has = absurd g
+  verb_takes (if_head c) (whens_inside w cs) o u e g has = absurd g
+  verb_takes (evaluate_head s) no_inside o u e g has = absurd g
+  verb_takes (evaluate_head s) (list_inside ss) o u e g has = absurd g
+  verb_takes (perform_head turns) no_inside o u e g has = absurd g
+  verb_takes (perform_head turns) (whens_inside w cs) o u e g has = absurd g
+
+stmt_taken : (d : ℕ) (x : Parts) (p : Cue) → (parts_syntax d).Good x → stmt_takes (make_stmt x) p ≡ (parts_syntax d).takes x p
+stmt_taken d (((((b, h), i), o), u), e) p g = verb_takes d b p h i o u e g.0.0.0.1 g.0.0.0.0.1
