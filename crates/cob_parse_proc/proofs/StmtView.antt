@@ -28,7 +28,7 @@ use Rattle.cob_parse_verb.specs.Heads as heads
 use Rattle.cob_parse_verb.specs.Heads.{Arithmetic, Head, done, arithmetic, if_head, evaluate_head, perform_head, read_head, with_tail, end_word, end_cue, head_start, HasStart, print_arithmetic, print_behind, takes_arithmetic, takes_done, takes_behind, GoodHead}
 use Rattle.cob_parse_proc.specs.Bare.{bare_stmts, bare_phrase, bare_tail, bare_whens, bare_when, bare_verb, or_of, list_takes, stmt_takes, when_takes}
 use Rattle.cob_parse_proc.specs.Reading.{Case, is_other, more_cases, whens_in, other_in, Inside, no_inside, list_inside, whens_inside, verb_of, Parts, make_stmt}
-use Rattle.cob_parse_proc.proofs.Syntaxes.{stmt_syntax, Known}
+use Rattle.cob_parse_proc.proofs.Syntaxes.{stmt_syntax, foreign, Known}
 use Rattle.cob_parse_proc.proofs.CaseLaws.{cases_syntax, whens_syntax}
 use Rattle.cob_parse_proc.proofs.Levels.{inside_good, inside_print, first_syntax, second_syntax, ended_syntax, end_syntax, parts_syntax}
 
@@ -485,3 +485,239 @@ module _ (d : ℕ) (b : Begin) (p : Cue) where
 
 stmt_taken : (d : ℕ) (x : Parts) (p : Cue) → (parts_syntax d).Good x → stmt_takes (make_stmt x) p ≡ (parts_syntax d).takes x p
 stmt_taken d (((((b, h), i), o), u), e) p g = verb_takes d b p h i o u e g.0.0.0.1 g.0.0.0.0.1
+
+-- ---- which are allowed
+
+abbrev AllGood : Option Stmts → Type 0
+AllGood None = Unit {0}
+AllGood (Some ss) = ShapedStmts ss
+
+phrase_from : (o : Option Stmts) (b c : Bool) → b ≡ c → AllGood o → Apart (is_some o) b → ShapedPhrase (phrase_of o) c
+phrase_from None b c e g f = tt
+phrase_from (Some ss) b c e g f = (g, sym e ∙ f)
+
+phrase_to : (p : Phrase) (b c : Bool) → b ≡ c → ShapedPhrase p c → AllGood (option_of p) × Apart (is_some (option_of p)) b
+phrase_to left_out b c e g = (tt, tt)
+phrase_to (given ss) b c e g = (g.0, e ∙ g.1)
+
+ended_from : (o : Option (Unit {0})) (b c : Bool) → b ≡ c → Apart (is_some o) b → ShapedEnd (is_some o) c
+ended_from None b c e f = tt
+ended_from (Some x) b c e f = sym e ∙ f
+
+ended_to : (x : Bool) (b c : Bool) → b ≡ c → ShapedEnd x c → Apart (is_some (unit_if x)) b
+ended_to false b c e g = tt
+ended_to true b c e g = e ∙ g
+
+abbrev one_on : (Cue → Bool) → Cue → Option Stmts → Cue → Bool
+one_on before m o p = onward (is_some o) (before p) (opt_takes o (is m p) p)
+
+abbrev two_on : (Cue → Bool) → Cue → Cue → Option Stmts → Option Stmts → Cue → Bool
+two_on before m n o u p = onward (is_some u) (one_on before m o p) (opt_takes u (is n p) p)
+
+-- two phrases and a word that ends
+module _ (before : Cue → Bool) (m n e : Cue) (bm : before m ≡ false) (bn : before n ≡ false) (be : before e ≡ false) (mn : is m n ≡ false) (me : is m e ≡ false) (ne : is n e ≡ false) (qn : is Qualifies n ≡ false) (qe : is Qualifies e ≡ false) where
+  listed : (ss : Stmts) (c : Cue) → is Qualifies c ≡ false → list_takes ss c ≡ takes_stmts ss c
+  listed ss c q = ap (λ (z : Bool). or_of z (bare_stmts ss) (takes_stmts ss c)) q
+
+  one_is : (o : Option Stmts) (c : Cue) → before c ≡ false → is m c ≡ false → is Qualifies c ≡ false → one_on before m o c ≡ takes_phrase (phrase_of o) false false c
+  one_is None c b i q = rw (b, i) refl
+  one_is (Some ss) c b i q = listed ss c q
+
+  two_is : (o u : Option Stmts) → two_on before m n o u e ≡ takes_phrase (phrase_of u) (takes_phrase (phrase_of o) false false e) false e
+  two_is o None = rw (one_is o e be me qe, ne) refl
+  two_is o (Some ss) = listed ss e qe
+
+  abbrev ShapedTwo : Phrase → Phrase → Bool → Type 0
+  ShapedTwo size not_size ended = ShapedPhrase size false × ShapedPhrase not_size (takes_phrase size false false n) × ShapedEnd ended (takes_phrase not_size (takes_phrase size false false e) false e)
+
+  two_from : (o u : Option Stmts) (w : Option (Unit {0})) → AllGood o → Apart (is_some o) (before m) → AllGood u → Apart (is_some u) (one_on before m o n) → Apart (is_some w) (two_on before m n o u e) → ShapedTwo (phrase_of o) (phrase_of u) (is_some w)
+  two_from o u w ao fo au fu fw = (phrase_from o (before m) false bm ao fo, phrase_from u (one_on before m o n) (takes_phrase (phrase_of o) false false n) (one_is o n bn mn qn) au fu, ended_from w (two_on before m n o u e) (takes_phrase (phrase_of u) (takes_phrase (phrase_of o) false false e) false e) (two_is o u) fw)
+
+  two_to : (size not_size : Phrase) (ended : Bool) → ShapedTwo size not_size ended → (AllGood (option_of size) × Apart (is_some (option_of size)) (before m)) × (AllGood (option_of not_size) × Apart (is_some (option_of not_size)) (one_on before m (option_of size) n)) × Apart (is_some (unit_if ended)) (two_on before m n (option_of size) (option_of not_size) e)
+  two_to size not_size ended g = (
+    phrase_to size (before m) false bm g.0,
+    phrase_to not_size (one_on before m (option_of size) n) (takes_phrase size false false n) (one_is (option_of size) n bn mn qn ∙ ap (λ (z : Phrase). takes_phrase z false false n) (phrase_back size)) g.1,
+    ended_to ended (two_on before m n (option_of size) (option_of not_size) e) (takes_phrase not_size (takes_phrase size false false e) false e)
+        (two_is (option_of size) (option_of not_size) ∙ ap (λ (z : Phrase). takes_phrase z (takes_phrase (phrase_of (option_of size)) false false e) false e) (phrase_back not_size) ∙ ap (λ (z : Phrase). takes_phrase not_size (takes_phrase z false false e) false e) (phrase_back size)) g.2,
+  )
+
+-- the words that end arithmetic statements
+record EndFacts (c : Cue) : Type 0 where
+  foreign_one : foreign c ≡ true
+  size : is Size c ≡ false
+  not_size : is NotSize c ≡ false
+  qualifies : is Qualifies c ≡ false
+
+end_facts : (a : Arithmetic) → EndFacts (end_cue a)
+end_facts (heads.add_to addends to) = record { foreign_one = refl; size = refl; not_size = refl; qualifies = refl }
+end_facts (heads.add_giving addends to giving) = record { foreign_one = refl; size = refl; not_size = refl; qualifies = refl }
+end_facts (heads.subtract_from less from) = record { foreign_one = refl; size = refl; not_size = refl; qualifies = refl }
+end_facts (heads.subtract_giving less from giving) = record { foreign_one = refl; size = refl; not_size = refl; qualifies = refl }
+end_facts (heads.multiply_by factor by) = record { foreign_one = refl; size = refl; not_size = refl; qualifies = refl }
+end_facts (heads.multiply_giving factor by giving) = record { foreign_one = refl; size = refl; not_size = refl; qualifies = refl }
+end_facts (heads.divide_into divisor into) = record { foreign_one = refl; size = refl; not_size = refl; qualifies = refl }
+end_facts (heads.divide_giving first way second giving remainder) = record { foreign_one = refl; size = refl; not_size = refl; qualifies = refl }
+end_facts (heads.compute to value) = record { foreign_one = refl; size = refl; not_size = refl; qualifies = refl }
+
+arithmetic_good : (a : Arithmetic) (t : Tail) → GoodHead (arithmetic a) → ShapedTail t (end_cue a) → ShapedVerb (with_tail a t)
+arithmetic_good (heads.add_to addends to) t g s = (g.0, g.1, s)
+arithmetic_good (heads.add_giving addends to giving) t g s = (g.0, g.1, s)
+arithmetic_good (heads.subtract_from less from) t g s = (g.0, g.1, s)
+arithmetic_good (heads.subtract_giving less from giving) t g s = (g.0, g.1, s)
+arithmetic_good (heads.multiply_by factor by) t g s = (g, s)
+arithmetic_good (heads.multiply_giving factor by giving) t g s = (g, s)
+arithmetic_good (heads.divide_into divisor into) t g s = (g, s)
+arithmetic_good (heads.divide_giving first way second giving remainder) t g s = (g, s)
+arithmetic_good (heads.compute to value) t g s = (g, s)
+
+-- WHEN and WHEN OTHER
+whens_from : (d : ℕ) (w : When) (cs : List Case) → ShapedWhen w → (cases_syntax d).Good cs → Apart (is_given cs) (takes_when w cue.Whens) → ShapedWhens (more_whens w (whens_in cs)) × ShapedPhrase (other_in cs) (takes_whens (more_whens w (whens_in cs)) cue.Whens)
+whens_from d w [] gw gc f = (gw, tt)
+whens_from d w (inl ss ∷ []) gw gc f = (gw, (gc.0.0, f))
+whens_from d w (inl ss ∷ c ∷ cs) gw gc f = let never : true ≡ false = gc.1.0.1 in absurd cc
+whens_from d w (inr v ∷ cs) gw gc f = let more = whens_from d v cs gc.0.0 gc.1 gc.2 in ((gw, f, more.0), more.1)
+
+whens_to : (d : ℕ) (w : When) (ws : Whens) (o : Phrase) → ShapedWhens (more_whens w ws) → ShapedPhrase o (takes_whens (more_whens w ws) cue.Whens) → ShapedWhen w × (cases_syntax d).Good (cases_of ws o) × Apart (is_given (cases_of ws o)) (takes_when w cue.Whens)
+whens_to d w no_whens left_out g f = (g, tt, tt)
+whens_to d w no_whens (given ss) g f = (g, ((f.0, refl), tt, tt), f.1)
+whens_to d w (more_whens v ws) o g f = let more = whens_to d v ws o g.2 f in (g.0, ((more.0, refl), more.1, more.2), g.1)
+
+-- what is allowed of a phrase
+abbrev Fits : Syntax Item Cue (Option Stmts) → Type 0
+Fits s = (o : Option Stmts) → (s.Good o → AllGood o) × (AllGood o → s.Good o)
+
+size_fits : (d : ℕ) (a : Arithmetic) → Fits (first_syntax d (arithmetic a))
+size_fits d a None = (λ g. g, λ g. g)
+size_fits d a (Some ss) = (λ g. g, λ g. g)
+
+not_size_fits : (d : ℕ) (a : Arithmetic) → Fits (second_syntax d (arithmetic a))
+not_size_fits d a None = (λ g. g, λ g. g)
+not_size_fits d a (Some ss) = (λ g. g, λ g. g)
+
+else_fits : (d : ℕ) (c : Cond) → Fits (first_syntax d (if_head c))
+else_fits d c None = (λ g. g, λ g. g)
+else_fits d c (Some ss) = (λ g. g, λ g. g)
+
+at_end_fits : (d : ℕ) (file : List ℕ) (into : Option Ref) → Fits (first_syntax d (read_head file into))
+at_end_fits d file into None = (λ g. g, λ g. g)
+at_end_fits d file into (Some ss) = (λ g. g, λ g. g)
+
+not_end_fits : (d : ℕ) (file : List ℕ) (into : Option Ref) → Fits (second_syntax d (read_head file into))
+not_end_fits d file into None = (λ g. g, λ g. g)
+not_end_fits d file into (Some ss) = (λ g. g, λ g. g)
+
+end_fits : (d : ℕ) (c : Cue) (k : Keyword) (e : Option (Unit {0})) → (ended_syntax d c k).Good e
+end_fits d c k None = tt
+end_fits d c k (Some x) = tt
+
+module _ (K : Known) (d : ℕ) where
+  -- ---- arithmetic statements
+  module _ (b : Begin) (a : Arithmetic) (good : GoodHead (arithmetic a)) (has : HasStart (arithmetic a) b.start) where
+    never : (c : Cue) → foreign c ≡ true → takes_arithmetic a c ≡ false
+    never c e = K.head_never (b, arithmetic a) c (good, has) e
+
+    F : EndFacts (end_cue a)
+    F = end_facts a
+
+    one_same : (o : Option Stmts) (p : Cue) → onward (is_some o) (takes_arithmetic a p) ((first_syntax d (arithmetic a)).takes o p) ≡ one_on (takes_arithmetic a) Size o p
+    one_same o p = ap (onward (is_some o) (takes_arithmetic a p)) (size_take d b p a o)
+
+    two_same : (o u : Option Stmts) (p : Cue) → onward (is_some u) (onward (is_some o) (takes_arithmetic a p) ((first_syntax d (arithmetic a)).takes o p)) ((second_syntax d (arithmetic a)).takes u p) ≡ two_on (takes_arithmetic a) Size NotSize o u p
+    two_same o u p = ap (λ (z : Bool). onward (is_some u) z ((second_syntax d (arithmetic a)).takes u p)) (one_same o p) ∙ ap (onward (is_some u) (one_on (takes_arithmetic a) Size o p)) (not_size_take d b p a u)
+
+    arithmetic_from : (i : Inside) (o u : Option Stmts) (e : Option (Unit {0})) → (parts_syntax d).Good (((((b, arithmetic a), i), o), u), e) → ShapedTail (MkTail (phrase_of o) (phrase_of u) (is_some e)) (end_cue a)
+    arithmetic_from i o u e g = two_from (takes_arithmetic a) Size NotSize (end_cue a) (never Size refl) (never NotSize refl) (never (end_cue a) F.foreign_one) refl F.size F.not_size refl F.qualifies o u e
+        ((size_fits d a o).0 g.0.0.1) g.0.0.2 ((not_size_fits d a u).0 g.0.1) (subst (Apart (is_some u)) (one_same o NotSize) g.0.2) (subst (Apart (is_some e)) (two_same o u (end_cue a)) g.2)
+
+    arithmetic_to : (t : Tail) → ShapedTail t (end_cue a) → (parts_syntax d).Good (((((b, arithmetic a), no_inside), size_of t), not_size_of t), ended_of t)
+    arithmetic_to (MkTail size not_size ended) g =
+        let w = two_to (takes_arithmetic a) Size NotSize (end_cue a) (never Size refl) (never NotSize refl) (never (end_cue a) F.foreign_one) refl F.size F.not_size refl F.qualifies size not_size ended g in
+        (((((good, has), tt, tt), (size_fits d a (option_of size)).1 w.0.0, w.0.1), (not_size_fits d a (option_of not_size)).1 w.1.0, subst (Apart (is_some (option_of not_size))) (sym (one_same (option_of size) NotSize)) w.1.1), end_fits d (end_cue a) (end_word a) (unit_if ended), subst (Apart (is_some (unit_if ended))) (sym (two_same (option_of size) (option_of not_size) (end_cue a))) w.2)
+
+  -- ---- READ
+  module _ (b : Begin) (file : List ℕ) (into : Option Ref) (has : HasStart (read_head file into) b.start) where
+    abbrev reads : Cue → Bool
+    reads = takes_behind (read_head file into)
+
+    read_never : (c : Cue) → foreign c ≡ true → reads c ≡ false
+    read_never c e = K.head_never (b, read_head file into) c (tt, has) e
+
+    read_one : (o : Option Stmts) (p : Cue) → onward (is_some o) (reads p) ((first_syntax d (read_head file into)).takes o p) ≡ one_on reads AtEnd o p
+    read_one o p = ap (onward (is_some o) (reads p)) (at_end_take d b p file into o)
+
+    read_two : (o u : Option Stmts) (p : Cue) → onward (is_some u) (onward (is_some o) (reads p) ((first_syntax d (read_head file into)).takes o p)) ((second_syntax d (read_head file into)).takes u p) ≡ two_on reads AtEnd NotAtEnd o u p
+    read_two o u p = ap (λ (z : Bool). onward (is_some u) z ((second_syntax d (read_head file into)).takes u p)) (read_one o p) ∙ ap (onward (is_some u) (one_on reads AtEnd o p)) (not_end_take d b p file into u)
+
+    read_from : (i : Inside) (o u : Option Stmts) (e : Option (Unit {0})) → (parts_syntax d).Good (((((b, read_head file into), i), o), u), e) → ShapedVerb (read file into (phrase_of o) (phrase_of u) (is_some e))
+    read_from i o u e g = two_from reads AtEnd NotAtEnd EndRead (read_never AtEnd refl) (read_never NotAtEnd refl) (read_never EndRead refl) refl refl refl refl refl o u e
+        ((at_end_fits d file into o).0 g.0.0.1) g.0.0.2 ((not_end_fits d file into u).0 g.0.1) (subst (Apart (is_some u)) (read_one o NotAtEnd) g.0.2) (subst (Apart (is_some e)) (read_two o u EndRead) g.2)
+
+    read_to : (end not_end : Phrase) (ended : Bool) → ShapedVerb (read file into end not_end ended) → (parts_syntax d).Good (((((b, read_head file into), no_inside), option_of end), option_of not_end), unit_if ended)
+    read_to end not_end ended g =
+        let w = two_to reads AtEnd NotAtEnd EndRead (read_never AtEnd refl) (read_never NotAtEnd refl) (read_never EndRead refl) refl refl refl refl refl end not_end ended g in
+        (((((tt, has), tt, tt), (at_end_fits d file into (option_of end)).1 w.0.0, w.0.1), (not_end_fits d file into (option_of not_end)).1 w.1.0, subst (Apart (is_some (option_of not_end))) (sym (read_one (option_of end) NotAtEnd)) w.1.1), end_fits d EndRead word.EndRead (unit_if ended), subst (Apart (is_some (unit_if ended))) (sym (read_two (option_of end) (option_of not_end) EndRead)) w.2)
+
+  -- ---- IF
+  else_is : (c : Cond) (before : Bool) (o : Option Stmts) → onward (is_some o) before ((first_syntax d (if_head c)).takes o EndIf) ≡ takes_phrase (phrase_of o) before false EndIf
+  else_is c before None = refl
+  else_is c before (Some us) = refl
+
+  -- ---- statements without lists
+  done_to : (b : Begin) (v : Verb) → ShapedVerb v → HasStart (done v) b.start → (parts_syntax d).Good (((((b, done v), no_inside), None), None), None)
+  done_to b v g has = (((((g, has), tt, tt), refl, tt), refl, tt), refl, tt)
+
+  verb_good : (b : Begin) (h : Head) (i : Inside) (o u : Option Stmts) (e : Option (Unit {0})) → (parts_syntax d).Good (((((b, h), i), o), u), e) → ShapedVerb (verb_of h i o u (is_some e))
+  verb_good b (done v) i o u e g = g.0.0.0.0.0
+  verb_good b (arithmetic a) i o u e g = arithmetic_good a (MkTail (phrase_of o) (phrase_of u) (is_some e)) g.0.0.0.0.0 (arithmetic_from b a g.0.0.0.0.0 g.0.0.0.0.1 i o u e g)
+  verb_good b (if_head c) (list_inside ss) o u e g = (g.0.0.0.0.0, g.0.0.0.1, phrase_from o (takes_stmts ss Else) (takes_stmts ss Else) refl ((else_fits d c o).0 g.0.0.1) g.0.0.2, ended_from e (onward (is_some o) (takes_stmts ss EndIf) ((first_syntax d (if_head c)).takes o EndIf)) (takes_phrase (phrase_of o) (takes_stmts ss EndIf) false EndIf) (else_is c (takes_stmts ss EndIf) o) g.2)
+  verb_good b (evaluate_head s) (whens_inside w cs) o u e g =
+      let ws = whens_from d w cs g.0.0.0.1.0 g.0.0.0.1.1 g.0.0.0.1.2 in
+      (ws.0, ws.1, ended_from e ((whens_syntax d).takes (w, cs) EndEvaluate) (takes_phrase (other_in cs) (takes_whens (more_whens w (whens_in cs)) EndEvaluate) false EndEvaluate) (sym (cases_take d w cs EndEvaluate g.0.0.0.1.1)) g.2)
+  verb_good b (perform_head turns) (list_inside ss) o u e g = (g.0.0.0.0.0, g.0.0.0.1)
+  verb_good b (read_head file into) i o u e g = read_from b file into g.0.0.0.0.1 i o u e g
+  verb_good b (if_head c) no_inside o u e g = absurd g.0.0.0.1
+  verb_good b (if_head c) (whens_inside w cs) o u e g = absurd g.0.0.0.1
+  verb_good b (evaluate_head s) no_inside o u e g = absurd g.0.0.0.1
+  verb_good b (evaluate_head s) (list_inside ss) o u e g = absurd g.0.0.0.1
+  verb_good b (perform_head turns) no_inside o u e g = absurd g.0.0.0.1
+  verb_good b (perform_head turns) (whens_inside w cs) o u e g = absurd g.0.0.0.1
+
+  stmt_good : (x : Parts) → (parts_syntax d).Good x → ShapedStmt (make_stmt x)
+  stmt_good (((((b, h), i), o), u), e) g = verb_good b h i o u e g
+
+  abbrev begun_by : ℕ → Start → Begin
+  begun_by line s = record { line = line; start = s }
+
+  stmt_parts_good : (s : Stmt) → ShapedStmt s → (parts_syntax d).Good (stmt_parts s)
+  stmt_parts_good (MkStmt line (add_to addends to tail)) g = arithmetic_to (begun_by line start.Add) (heads.add_to addends to) (g.0, g.1) refl tail g.2
+  stmt_parts_good (MkStmt line (add_giving addends to giving tail)) g = arithmetic_to (begun_by line start.Add) (heads.add_giving addends to giving) (g.0, g.1) refl tail g.2
+  stmt_parts_good (MkStmt line (subtract_from less from tail)) g = arithmetic_to (begun_by line start.Subtract) (heads.subtract_from less from) (g.0, g.1) refl tail g.2
+  stmt_parts_good (MkStmt line (subtract_giving less from giving tail)) g = arithmetic_to (begun_by line start.Subtract) (heads.subtract_giving less from giving) (g.0, g.1) refl tail g.2
+  stmt_parts_good (MkStmt line (multiply_by factor by tail)) g = arithmetic_to (begun_by line start.Multiply) (heads.multiply_by factor by) g.0 refl tail g.1
+  stmt_parts_good (MkStmt line (multiply_giving factor by giving tail)) g = arithmetic_to (begun_by line start.Multiply) (heads.multiply_giving factor by giving) g.0 refl tail g.1
+  stmt_parts_good (MkStmt line (divide_into divisor into tail)) g = arithmetic_to (begun_by line start.Divide) (heads.divide_into divisor into) g.0 refl tail g.1
+  stmt_parts_good (MkStmt line (divide_giving first way second giving remainder tail)) g = arithmetic_to (begun_by line start.Divide) (heads.divide_giving first way second giving remainder) g.0 refl tail g.1
+  stmt_parts_good (MkStmt line (compute to value tail)) g = arithmetic_to (begun_by line start.Compute) (heads.compute to value) g.0 refl tail g.1
+  stmt_parts_good (MkStmt line (if_ test ss other ended)) g =
+      let w = phrase_to other (takes_stmts ss Else) (takes_stmts ss Else) refl g.2 in
+      (((((g.0, refl), g.1, tt), (else_fits d test (option_of other)).1 w.0, w.1), refl, tt), end_fits d EndIf word.EndIf (unit_if ended), ended_to ended (onward (is_some (option_of other)) (takes_stmts ss EndIf) ((first_syntax d (if_head test)).takes (option_of other) EndIf)) (takes_phrase other (takes_stmts ss EndIf) false EndIf) (else_is test (takes_stmts ss EndIf) (option_of other) ∙ ap (λ (z : Phrase). takes_phrase z (takes_stmts ss EndIf) false EndIf) (phrase_back other)) g.3)
+  stmt_parts_good (MkStmt line (evaluate subject no_whens other ended)) g = absurd g.0
+  stmt_parts_good (MkStmt line (evaluate subject (more_whens v ws) other ended)) g =
+      let w = whens_to d v ws other g.0 g.1 in
+      (((((tt, refl), (w.0, w.1, w.2), tt), refl, tt), refl, tt), end_fits d EndEvaluate word.EndEvaluate (unit_if ended), ended_to ended ((whens_syntax d).takes (v, cases_of ws other) EndEvaluate) (takes_phrase other (takes_whens (more_whens v ws) EndEvaluate) false EndEvaluate) (sym (cases_take d v (cases_of ws other) EndEvaluate w.1) ∙ ap (λ (z : Phrase). takes_phrase z (takes_whens (more_whens v (whens_in (cases_of ws other))) EndEvaluate) false EndEvaluate) (other_back ws other) ∙ ap (λ (z : Whens). takes_phrase other (takes_whens (more_whens v z) EndEvaluate) false EndEvaluate) (whens_back ws other)) g.2)
+  stmt_parts_good (MkStmt line (perform_inline turns body)) g = (((((g.0, refl), g.1, tt), refl, tt), refl, tt), refl, tt)
+  stmt_parts_good (MkStmt line (read file into end not_end ended)) g = read_to (begun_by line start.Read) file into refl end not_end ended g
+  stmt_parts_good (MkStmt line (move from to)) g = done_to (begun_by line start.Move) (move from to) g refl
+  stmt_parts_good (MkStmt line (set text)) g = done_to (begun_by line start.Set) (set text) g refl
+  stmt_parts_good (MkStmt line (display operands)) g = done_to (begun_by line start.Display) (display operands) g refl
+  stmt_parts_good (MkStmt line (perform_range first thru turns)) g = done_to (begun_by line start.Perform) (perform_range first thru turns) g refl
+  stmt_parts_good (MkStmt line (go text)) g = done_to (begun_by line start.Go) (go text) g refl
+  stmt_parts_good (MkStmt line exit) g = done_to (begun_by line start.Exit) exit g refl
+  stmt_parts_good (MkStmt line continue) g = done_to (begun_by line start.Continue) continue g refl
+  stmt_parts_good (MkStmt line stop_run) g = done_to (begun_by line start.Stop) stop_run g refl
+  stmt_parts_good (MkStmt line (open_ files)) g = done_to (begun_by line start.Open) (open_ files) g refl
+  stmt_parts_good (MkStmt line (close names)) g = done_to (begun_by line start.Close) (close names) g refl
+  stmt_parts_good (MkStmt line (write rec from ended)) g = done_to (begun_by line start.Write) (write rec from ended) g refl
+
+pub stmt_view : Known → (d : ℕ) → View (parts_syntax (suc d)) (stmt_syntax d) make_stmt stmt_parts
+stmt_view K d = record { back = stmt_back; print = stmt_print d; takes = λ x p good. stmt_taken (suc d) x p good; good = stmt_good K (suc d); good_back = stmt_parts_good K (suc d) }
