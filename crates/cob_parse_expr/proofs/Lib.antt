@@ -1,3 +1,20 @@
+pub mod CueLemmas
+pub mod ClassLaws
+pub mod Generic
+pub mod OperandLaws
+pub mod ExprLaws
+pub mod Loop
+pub mod StepLemmas
+pub mod Agree
+pub mod Outcomes
+pub mod ExprAgree
+pub mod ParseLemmas
+pub mod GuardLaws
+pub mod TestLaws
+pub mod CondLaws
+pub mod ParenLaws
+pub mod OneAnswer
+pub mod Levels
 mod CueLemmas
 mod ClassLaws
 mod Generic
@@ -5,9 +22,9 @@ mod OperandLaws
 mod ExprLaws
 mod Loop
 mod StepLemmas
-mod Agree
 mod Outcomes
 mod ExprAgree
+mod CondAgree
 mod ParseLemmas
 mod GuardLaws
 mod TestLaws
@@ -15,3 +32,5 @@ mod CondLaws
 mod ParenLaws
 mod OneAnswer
 mod Levels
+mod CondLemmas
+mod AloneLemmas

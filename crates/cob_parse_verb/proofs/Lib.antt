@@ -1,1 +1,10 @@
-mod Hold
+mod WordLaws
+mod WordNext
+pub mod Across
+mod ListLaws
+mod TargetLaws
+mod SumLaws
+mod LoopLaws
+mod PerformLaws
+pub mod SelLaws
+pub mod HeadLaws

@@ -17,7 +17,7 @@ use Rattle.cob_tree.specs.Takes.{begins_opnd, begins_loop}
 use Rattle.reading.specs.Readers.{Reader, lead, follow, seq, branch, seen, choose, opt, optional, here_if, with_phrase, stands}
 use Rattle.reading.specs.Printing.{begins}
 use Rattle.cob_parse_expr.specs.Alphabet.{grammar}
-use Rattle.cob_parse_expr.specs.Classes.{name_of, const_of}
+use Rattle.cob_parse_expr.specs.Classes.{name_of, const_of, of_of}
 use Rattle.cob_parse_expr.specs.Reading.{second, make_ref, ref_at, opnd_at, qualifiers_at, expr_at}
 use Rattle.cob_parse_expr.specs.CondReading.{cond_at}
 use Rattle.cob_parse_verb.specs.declared.word.Word.TheVariants as word
@@ -67,7 +67,7 @@ loop_at room = seen make_loop (choose (begins grammar begins_opnd) times_at (tes
 
 -- behind a name: OF and TIMES make it an operand
 abbrev pub turns : List Sign → Bool
-turns ts = stands (the word.Times) ts || begins grammar (is Qualifies) ts
+turns ts = stands (the word.Times) ts || stands of_of ts
 
 -- what may stand behind the name
 abbrev pub follows_name : Cue → Bool

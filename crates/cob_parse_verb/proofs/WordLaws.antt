@@ -1,0 +1,217 @@
+-- The classes of the words.
+use Rattle.std.proofs.Common.{◌≡◌, ℕ, ◌==◌, if◌then◌else◌, Bool, true, false, List, [], ◌∷◌, Option, Some, None, refl, sym, ap, subst, ◌∙◌, get_or}
+use Rattle.std.proofs.lemmas.Bool.{eqb-true}
+use Rattle.cob_tree.specs.declared.keyword.Keyword.{Keyword}
+use Rattle.cob_tree.specs.declared.keyword.Keyword.TheVariants as key
+use Rattle.cob_tree.specs.declared.token.Rel.{Rel}
+use Rattle.cob_tree.specs.declared.token.Rel.TheVariants as rel
+use Rattle.cob_tree.specs.declared.stmt.Mode.{Mode}
+use Rattle.cob_tree.specs.declared.stmt.Mode.TheVariants as mode
+use Rattle.cob_tree.specs.declared.stmt.Place.{Place}
+use Rattle.cob_tree.specs.declared.stmt.Place.TheVariants as place
+use Rattle.cob_tree.specs.Symbols.{Symbol, Key, Name, Number, Text, Mark, Relation, Pic, Stop, Sign}
+use Rattle.cob_tree.specs.Items.{Item, Fits, item, item_on}
+use Rattle.cob_tree.specs.PrintExpr.{print_relation}
+use Rattle.cob_tree.specs.PrintStmt as printed
+use Rattle.reading.proofs.Texts.{Always}
+use Rattle.reading.proofs.Lead.{Class}
+use Rattle.reading.specs.Printing.{Here}
+use Rattle.cob_tree.specs.Cues.{key_cue}
+use Rattle.cob_parse_expr.specs.Alphabet.{key_front, grammar}
+use Rattle.cob_parse_expr.specs.Classes.{word_symbol}
+use Rattle.cob_parse_verb.specs.declared.word.Word.{Word}
+use Rattle.cob_parse_verb.specs.declared.word.Word.TheVariants as word
+use Rattle.cob_parse_verb.specs.declared.word.Start.{Start}
+use Rattle.cob_parse_verb.specs.declared.word.Start.TheVariants as start
+use Rattle.cob_parse_verb.specs.declared.word.Begin.{Begin}
+use Rattle.cob_parse_verb.specs.Words.{key_of, word_key, number, same, if_same, the_key, the, mode_word, place_word, if_word, mode_key, mode_of, place_key, place_of, equal_rel, equal_symbol, equal_of, start_word, start_key, begin_on, begin_of}
+
+-- ---- one word
+
+words : List Word
+words = word.To ∷ word.Giving ∷ word.From ∷ word.By ∷ word.Into ∷ word.Remainder ∷ word.Rounded ∷ word.True ∷ word.Run ∷ word.Input ∷ word.Output ∷ word.EndWrite ∷ word.Thru ∷ word.Times ∷ word.Test ∷ word.Before ∷ word.After ∷ word.Varying ∷ word.Until ∷ word.Any ∷ word.When ∷ []
+
+numbered : (w : Word) → get_or words (number w) word.To ≡ w
+unfolding words
+numbered word.To = refl
+numbered _ = refl
+
+pub same_is : (a b : Word) → same a b ≡ true → b ≡ a
+same_is a b e = sym (numbered b) ∙ ap (λ (n : ℕ). get_or words n word.To) (sym (eqb-true (number a) (number b) e)) ∙ numbered a
+
+abbrev spelled_so : Keyword → Option Word → Type 0
+spelled_so k None = Unit {0}
+spelled_so k (Some w) = k ≡ key_of w
+
+spelled : (k : Keyword) → spelled_so k (word_key k)
+spelled key.To = refl
+spelled key.Giving = refl
+spelled key.From = refl
+spelled key.By = refl
+spelled key.Into = refl
+spelled key.Remainder = refl
+spelled key.Rounded = refl
+spelled key.True = refl
+spelled key.Run = refl
+spelled key.Input = refl
+spelled key.Output = refl
+spelled key.EndWrite = refl
+spelled key.Thru = refl
+spelled key.Times = refl
+spelled key.Test = refl
+spelled key.Before = refl
+spelled key.After = refl
+spelled key.Varying = refl
+spelled key.Until = refl
+spelled key.Any = refl
+spelled key.When = refl
+spelled _ = tt
+
+pub only_key : (k : Keyword) (w : Word) → word_key k ≡ Some w → k ≡ key_of w
+only_key k w e = subst (spelled_so k) e (spelled k)
+
+pub own_key : (w : Word) → word_key (key_of w) ≡ Some w
+own_key word.To = refl
+own_key _ = refl
+
+own : (w : Word) → the_key w (key_of w) ≡ Some tt
+own word.To = refl
+own _ = refl
+
+the_only : (w : Word) (k : Keyword) (x : Unit {0}) → the_key w k ≡ Some x → k ≡ key_of w
+the_only w k x e = go (word_key k) refl e
+  where
+    on_same : (v : Word) (c : Bool) → word_key k ≡ Some v → same w v ≡ c → (if c then Some tt else None) ≡ Some x → k ≡ key_of w
+    on_same v true eo ec e0 = only_key k v eo ∙ ap key_of (same_is w v ec)
+    on_same v false eo ec e0 = absurd cc
+
+    go : (o : Option Word) → word_key k ≡ o → if_same w o ≡ Some x → k ≡ key_of w
+    go None eo e0 = absurd cc
+    go (Some v) eo e0 = on_same v (same w v) eo refl e0
+
+-- a class of words is one of symbols
+module _ {K : Type 0} (class : Keyword → Option K) (print : K → Keyword) (reads : (x : K) → class (print x) ≡ Some x) (only : (k : Keyword) (x : K) → class k ≡ Some x → k ≡ print x) where
+  only_symbol : (y : Symbol) (x : K) → word_symbol class y ≡ Some x → y ≡ Key (print x)
+  only_symbol (Key k) x e = ap (λ (j : Keyword). Key j) (only k x e)
+  only_symbol (Name text) x e = absurd cc
+  only_symbol (Number n) x e = absurd cc
+  only_symbol (Text text) x e = absurd cc
+  only_symbol (Mark ch) x e = absurd cc
+  only_symbol (Relation r) x e = absurd cc
+  only_symbol (Pic text) x e = absurd cc
+  only_symbol Stop x e = absurd cc
+
+  keyed : (d : ℕ) → Class grammar (λ s. word_symbol class s.symbol) Always (λ x. item d (Key (print x)))
+  keyed d = record { reads = λ x t a f. ap (word_symbol class) f.symbol ∙ reads x; only = λ t x e. (tt, record { symbol = only_symbol t.symbol x e; line = tt }) }
+
+pub the_word : (w : Word) (d : ℕ) → Class grammar (the w) Always (λ x. item d (Key (key_of w)))
+the_word w d = keyed (the_key w) (λ x. key_of w) (λ x. own w) (the_only w) d
+
+-- ---- INPUT and OUTPUT, BEFORE and AFTER
+
+mode_own : (m : Mode) → mode_key (printed.mode_word m) ≡ Some m
+mode_own mode.Input = refl
+mode_own mode.Output = refl
+
+abbrev mode_so : Keyword → Option Mode → Type 0
+mode_so k None = Unit {0}
+mode_so k (Some m) = k ≡ printed.mode_word m
+
+mode_spelled : (k : Keyword) → mode_so k (mode_key k)
+mode_spelled key.Input = refl
+mode_spelled key.Output = refl
+mode_spelled _ = tt
+
+pub modes : (d : ℕ) → Class grammar mode_of Always (λ m. item d (Key (printed.mode_word m)))
+modes d = keyed mode_key printed.mode_word mode_own (λ k m e. subst (mode_so k) e (mode_spelled k)) d
+
+place_own : (p : Place) → place_key (printed.place_word p) ≡ Some p
+place_own place.Before = refl
+place_own place.After = refl
+
+abbrev place_so : Keyword → Option Place → Type 0
+place_so k None = Unit {0}
+place_so k (Some p) = k ≡ printed.place_word p
+
+place_spelled : (k : Keyword) → place_so k (place_key k)
+place_spelled key.Before = refl
+place_spelled key.After = refl
+place_spelled _ = tt
+
+pub places : (d : ℕ) → Class grammar place_of Always (λ p. item d (Key (printed.place_word p)))
+places d = keyed place_key printed.place_word place_own (λ k p e. subst (place_so k) e (place_spelled k)) d
+
+-- ---- the relation =
+
+only_rel : (r : Rel) (x : Unit {0}) → equal_rel r ≡ Some x → r ≡ rel.Equal
+only_rel rel.Equal x e = refl
+only_rel _ x e = absurd cc
+
+only_equal : (y : Symbol) (x : Unit {0}) → equal_symbol y ≡ Some x → y ≡ Relation rel.Equal
+only_equal (Relation r) x e = ap (λ (q : Rel). Relation q) (only_rel r x e)
+only_equal (Key k) x e = absurd cc
+only_equal (Name text) x e = absurd cc
+only_equal (Number n) x e = absurd cc
+only_equal (Text text) x e = absurd cc
+only_equal (Mark ch) x e = absurd cc
+only_equal (Pic text) x e = absurd cc
+only_equal Stop x e = absurd cc
+
+pub equals : (d : ℕ) → Class grammar equal_of Always (λ x. print_relation d rel.Equal)
+equals d = record { reads = λ x t a f. ap equal_symbol f.symbol; only = λ t x e. (tt, record { symbol = only_equal t.symbol x e; line = tt }) }
+
+-- ---- first words
+
+start_own : (s : Start) → start_key (start_word s) ≡ Some s
+start_own start.Move = refl
+start_own _ = refl
+
+abbrev start_so : Keyword → Option Start → Type 0
+start_so k None = Unit {0}
+start_so k (Some s) = k ≡ start_word s
+
+start_spelled : (k : Keyword) → start_so k (start_key k)
+start_spelled key.Move = refl
+start_spelled key.Set = refl
+start_spelled key.Display = refl
+start_spelled key.Add = refl
+start_spelled key.Subtract = refl
+start_spelled key.Multiply = refl
+start_spelled key.Divide = refl
+start_spelled key.Compute = refl
+start_spelled key.If = refl
+start_spelled key.Evaluate = refl
+start_spelled key.Perform = refl
+start_spelled key.Go = refl
+start_spelled key.Exit = refl
+start_spelled key.Continue = refl
+start_spelled key.Stop = refl
+start_spelled key.Open = refl
+start_spelled key.Close = refl
+start_spelled key.Read = refl
+start_spelled key.Write = refl
+start_spelled _ = tt
+
+start_symbol : (y : Symbol) (s : Start) → word_symbol start_key y ≡ Some s → y ≡ Key (start_word s)
+start_symbol y s e = only_symbol start_key start_word start_own (λ k x h. subst (start_so k) h (start_spelled k)) y s e
+
+pub begin_reads : (b : Begin) (d : ℕ) (t : Sign) → Fits (item_on d b.line (Key (start_word b.start))) t → begin_of t ≡ Some b
+begin_reads b d t f = rw (ap (word_symbol start_key) f.symbol ∙ start_own b.start, f.line) refl
+
+begin_only : (d : ℕ) (t : Sign) (b : Begin) → begin_of t ≡ Some b → Fits (item_on d b.line (Key (start_word b.start))) t
+begin_only d t b e = go (word_symbol start_key t.symbol) refl e
+  where
+    go : (o : Option Start) → word_symbol start_key t.symbol ≡ o → begin_on t.line o ≡ Some b → Fits (item_on d b.line (Key (start_word b.start))) t
+    go None eo e0 = absurd cc
+    go (Some s) eo e0 =
+        let same : record { line = t.line; start = s } ≡ b = cc in
+        subst (λ (c : Begin). Fits (item_on d c.line (Key (start_word c.start))) t) same (record { symbol = start_symbol t.symbol s eo; line = refl })
+
+pub begins_ : (d : ℕ) → Class grammar begin_of Always (λ b. item_on d b.line (Key (start_word b.start)))
+begins_ d = record { reads = λ b t a f. begin_reads b d t f; only = λ t b e. (tt, begin_only d t b e) }
+
+-- ---- no word looks ahead
+
+pub front_word : (w : Word) → key_front (key_of w) ≡ Here (key_cue (key_of w))
+front_word word.To = refl
+front_word _ = refl
