@@ -204,7 +204,7 @@ led_grows d top ks GI ss t p good below e s =
     let g = GI ss t p good (below_right procedure top (behind_words d ks) (print_stmts d ss) below) e s in
     record { tree = g.tree; good = g.good; item = g.item; more = g.more; text = ap (λ (z : List Item). behind_words d ks ++ z) g.text ∙ sym (append_assoc (behind_words d ks) (print_stmts d ss) (g.item ∷ g.more)); fits = g.fits; low = g.low }
 
-abbrev some_list : Stmts
+abbrev pub some_list : Stmts
 some_list = more_stmts (MkStmt 0 continue) no_stmts
 
 -- what begins with NOT
