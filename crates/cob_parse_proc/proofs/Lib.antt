@@ -6,4 +6,6 @@ mod WhenLaws
 mod CaseLaws
 mod Levels
 mod StmtView
+mod Never
+mod StmtAgree
 mod StmtLaws
