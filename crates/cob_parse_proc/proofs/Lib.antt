@@ -9,3 +9,5 @@ mod StmtView
 mod Never
 mod StmtAgree
 mod StmtLaws
+mod Across
+mod ProgramLaws
