@@ -1,0 +1,13 @@
+mod Mixed
+mod Words
+mod Marks
+mod Syntaxes
+mod WhenLaws
+mod CaseLaws
+mod Levels
+mod StmtView
+mod Never
+mod StmtAgree
+mod StmtLaws
+mod Across
+mod ProgramLaws

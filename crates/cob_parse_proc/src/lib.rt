@@ -1,0 +1,5 @@
+//! Reads the statements of the PROCEDURE DIVISION, and with them whole programs, from tokens (ISO 1989:1985,
+//! "Procedure Division").
+#![tactic(auto)]
+
+mod laws;
