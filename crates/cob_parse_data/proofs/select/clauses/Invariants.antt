@@ -3,7 +3,7 @@ use Rattle.cob_parse_data.specs.Tokens.{of}
 use Rattle.cob_parse_data.specs.Heads.{same_kind, select_symbol, select_kind, select_head_of}
 use Rattle.cob_parse_data.specs.Reading.{select_body}
 use Rattle.cob_parse_data.proofs.ClauseLoop.{Kept}
-use Rattle.cob_parse_data.proofs.env.clauses.Given as goal
+use Rattle.cob_parse_data.proofs.select.clauses.Given as goal
 
 abbrev pub invariant-clauses : goal.invariant-clauses
 invariant-clauses l = record {

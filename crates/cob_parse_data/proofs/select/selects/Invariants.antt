@@ -3,7 +3,7 @@ use Rattle.cob_tree.specs.declared.keyword.Keyword.TheVariants as key
 use Rattle.cob_parse_data.specs.Tokens.{the}
 use Rattle.cob_parse_data.specs.Reading.{select}
 use Rattle.cob_parse_data.proofs.ListLoop.{Kept}
-use Rattle.cob_parse_data.proofs.env.selects.Given as goal
+use Rattle.cob_parse_data.proofs.select.selects.Given as goal
 
 abbrev pub invariant-selects : goal.invariant-selects
 invariant-selects l = record {

@@ -7,7 +7,7 @@ use Rattle.cob_parse_data.specs.Heads.{same_kind, select_symbol, select_kind, se
 use Rattle.cob_parse_data.specs.Reading.{select_body}
 use Rattle.cob_parse_data.proofs.ListLoop.{gives_wrong}
 use Rattle.cob_parse_data.proofs.ClauseLoop.{Kept, kept_start, kept_on, kept_end, kept_fail}
-use Rattle.cob_parse_data.proofs.env.clauses.Goals as goal
+use Rattle.cob_parse_data.proofs.select.clauses.Goals as goal
 
 pub clauses-init : goal.clauses-init
 clauses-init c = record { kept = subst (λ (xs : List SelClause). Kept (same_kind select_kind) (of select_symbol) select_body select_head_of xs c.args.lexemes.now c.args.lexemes.now) (sym c.new-clauses.ensures.items) (kept_start (same_kind select_kind) (of select_symbol) select_body select_head_of c.args.lexemes.now); shorter = omega arith }

@@ -4,7 +4,7 @@ use Rattle.cob_tree.specs.declared.keyword.Keyword.TheVariants as key
 use Rattle.cob_parse_data.specs.Tokens.{the}
 use Rattle.cob_parse_data.specs.Reading.{select}
 use Rattle.cob_parse_data.proofs.ListLoop.{Kept, kept_start, kept_on, kept_end, kept_fail, gives_wrong}
-use Rattle.cob_parse_data.proofs.env.selects.Goals as goal
+use Rattle.cob_parse_data.proofs.select.selects.Goals as goal
 
 pub selects-init : goal.selects-init
 selects-init c = record { kept = subst (λ (xs : List Select). Kept (the key.Select) select xs c.args.lexemes.now c.args.lexemes.now) (sym c.new-selects.ensures.items) (kept_start (the key.Select) select c.args.lexemes.now); shorter = omega arith }
