@@ -15,3 +15,22 @@ pub mod CondLaws
 pub mod ParenLaws
 pub mod OneAnswer
 pub mod Levels
+mod CueLemmas
+mod ClassLaws
+mod Generic
+mod OperandLaws
+mod ExprLaws
+mod Loop
+mod StepLemmas
+mod Outcomes
+mod ExprAgree
+mod CondAgree
+mod ParseLemmas
+mod GuardLaws
+mod TestLaws
+mod CondLaws
+mod ParenLaws
+mod OneAnswer
+mod Levels
+mod CondLemmas
+mod AloneLemmas

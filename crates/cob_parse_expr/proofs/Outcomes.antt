@@ -3,12 +3,11 @@ use Rattle.std.proofs.Common.{◌≡◌, ℕ, zero, suc, ◌+◌, ◌≤◌, ◌
 use Rattle.std.proofs.lemmas.List.{append-nil}
 use Rattle.reading.specs.Readers.{Fault, Stop, Deep, Reader}
 use Rattle.reading.specs.Printing.{Alphabet, Matches, Below, Next}
-use Rattle.reading.specs.Law.{Syntax, At, Law}
+use Rattle.reading.specs.Law.{Syntax, At, Law, Agrees}
 use Rattle.reading.specs.Outcome.{GoesOn, NoneReads, IsRead, Stops, OpensTooDeep}
 use Rattle.reading.proofs.Results.{ok_fails, fault_is}
 use Rattle.reading.proofs.Texts.{matches_join}
 use Rattle.reading.proofs.Consequences.{longest, one_tree, none_goes_on}
-use Rattle.cob_parse_expr.proofs.Agree.{Agree}
 
 module _ {T I M A : Type 0} {G : Alphabet T I M} {s : Syntax I M A} {R : Reader T A} {limit : ℕ} (L : Law G R s limit) where
   none_reads : (ts : List T) (d : Fault) → R ts ≡ Err d → NoneReads G s limit ts
@@ -55,7 +54,7 @@ module _ {T I M : Type 0} (G : Alphabet T I M) (spell : (i : I) → (t : T) × G
         let below : Below G top (s.print a) = below_deepest top (s.print a) (omega arith) in
         one_tree (laws room top refl) text.0 a b text.1 good below (subst (λ (is : List I). Matches G is text.0) same text.1) good' (subst (Below G top) same below)
 
-    module _ (wider : (room more : ℕ) (ts : List T) → Agree (R room ts) (R (room + more) ts)) (room limit : ℕ) (e : limit ≡ suc (d + room)) where
+    module _ (wider : (room more : ℕ) → Agrees (R room) (R (room + more))) (room limit : ℕ) (e : limit ≡ suc (d + room)) where
       still : (more n : ℕ) (ts : List T) → R room ts ≡ Err (Stop n) → R (room + more) ts ≡ Err (Stop n)
       still more n ts stop = ⊎_elim
           (λ deep. let never : Stop n ≡ Deep deep.0 = fault_is {A = A × List T} (Stop n) (Deep deep.0) (sym stop ∙ deep.1) in absurd cc)

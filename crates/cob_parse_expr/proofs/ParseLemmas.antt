@@ -9,15 +9,15 @@ use Rattle.cob_tree.specs.Items.{Item, Fits, IsLine}
 use Rattle.cob_tree.specs.Cues.{Cue}
 use Rattle.cob_parse_expr.specs.Alphabet.{grammar}
 use Rattle.reading.specs.Readers.{Fault, Stop, Deep, Reader}
-use Rattle.reading.specs.Law.{Syntax, Law}
+use Rattle.reading.specs.Law.{Syntax, Law, Agrees}
 use Rattle.reading.specs.Outcome.{IsRead, Stops, OpensTooDeep}
 use Rattle.reading.proofs.Consequences.{within}
 use Rattle.cob_parse_expr.specs.Lexemes.{plain_lexeme}
 use Rattle.cob_parse_expr.specs.declared.halt.Halt.{Halt}
 use Rattle.cob_parse_expr.specs.declared.halt.Halt.TheVariants as halt
 use Rattle.cob_parse_expr.specs.Steps.{signs, Fails}
-use Rattle.cob_parse_expr.specs.Parsing.{from, line_at, IsWrong}
-use Rattle.cob_parse_expr.proofs.Agree.{Agree}
+use Rattle.cob_parse_expr.specs.declared.end.ParseEnd.TheVariants as end
+use Rattle.cob_parse_expr.specs.Parsing.{from, line_at, end_at, IsWrong}
 use Rattle.cob_parse_expr.proofs.Outcomes.{is_read, too_deep, stops}
 
 -- each item has a token
@@ -47,19 +47,21 @@ rest_is tokens old text rest le parts =
     let steps : old + (length (text ++ rest) - length rest) ≡ length tokens - length rest = omega (arith, count, size, length-append text rest) in
     sym there ∙ (drop-map seen (length (text ++ rest) - length rest) (drop old tokens) ∙ (ap (map seen) (drop-drop (length (text ++ rest) - length rest) old tokens) ∙ ap (λ (k : ℕ). from tokens k) steps))
 
-module _ {A : Type 0} (s : Syntax Item Cue A) (R : ℕ → Reader Sign A) (depth : ℕ) (shallow : depth ≤ 64) (laws : (room top : ℕ) → top ≡ suc (depth + room) → Law grammar (R room) s top) (wider : (room more : ℕ) (ts : List Sign) → Agree (R room ts) (R (room + more) ts))
-    (tokens left : List Token) (old : ℕ) (inside : old ≤ length tokens) (items lexemes : List Lexeme) (shown : lexemes ≡ items) (lexed : map plain_lexeme items ≡ map seen left) (cut : left ≡ drop old tokens) where
+-- What a reader's answer, and the end that a parser makes of it, say of the tokens: for expressions and conditions
+-- alike. The reader has the room that is left under 65 where so many are open around.
+module _ {A : Type 0} (s : Syntax Item Cue A) (R : ℕ → Reader Sign A) (depth : ℕ) (shallow : depth ≤ 64) (laws : (room top : ℕ) → top ≡ suc (depth + room) → Law grammar (R room) s top) (wider : (room more : ℕ) → Agrees (R room) (R (room + more)))
+    (tokens : List Token) (old : ℕ) (inside : old ≤ length tokens) (items lexemes : List Lexeme) (shown : lexemes ≡ items) (lexed : signs items ≡ from tokens old) where
   same : signs lexemes ≡ from tokens old
-  same = ap signs shown ∙ lexed ∙ ap (map seen) cut
-
-  room : ℕ
-  room = 64 - depth
+  same = ap signs shown ∙ lexed
 
   enough : 65 ≡ suc (depth + (64 - depth))
   enough = omega arith
 
   law : Law grammar (R (64 - depth)) s 65
   law = laws (64 - depth) 65 enough
+
+  abbrev Halts : Halt → Type 0
+  Halts h = Fails h (R (64 - depth) (signs lexemes))
 
   pub parse_read : (tree : A) (rest : List Lexeme) → R (64 - depth) (signs lexemes) ≡ Ok (tree, signs rest) → IsRead grammar s 65 (from tokens old) tree (from tokens (length tokens - length rest))
   parse_read tree rest e =
@@ -68,16 +70,22 @@ module _ {A : Type 0} (s : Syntax Item Cue A) (R : ℕ → Reader Sign A) (depth
       let lengths : length (signs rest) ≡ length rest = length-map rest _ in
       subst (IsRead grammar s 65 (from tokens old) tree) (there ∙ ap (λ (k : ℕ). from tokens (length tokens - k)) lengths) read
 
-  pub parse_wrong : (h : Halt) (n at line : ℕ) → h ≡ halt.Stop n → Fails h (R (64 - depth) (signs lexemes)) → at ≡ line_at tokens n → at ≡ line → IsWrong s 65 tokens old line
-  parse_wrong h n at line is f there same_line =
-      let e : R (64 - depth) (signs lexemes) ≡ Err (Stop n) = subst (λ (x : Halt). Fails x (R (64 - depth) (signs lexemes))) is f in
+  stopped : (n line : ℕ) → R (64 - depth) (signs lexemes) ≡ Err (Stop n) → line_at tokens n ≡ line → IsWrong s 65 tokens old line
+  stopped n line e there =
       let stop = stops grammar spell s R depth laws wider (64 - depth) 65 enough (from tokens old) n (sym (ap (R (64 - depth)) same) ∙ e) in
-      record { left = stop.0; stops = stop.2; line_is = sym same_line ∙ there ∙ ap (line_at tokens) (sym stop.1) }
+      record { left = stop.0; stops = stop.2; line_is = sym there ∙ ap (line_at tokens) (sym stop.1) }
 
-  pub parse_deep : (h : Halt) (n : ℕ) → h ≡ halt.Deep n → Fails h (R (64 - depth) (signs lexemes)) → OpensTooDeep grammar s 65 (from tokens old)
-  parse_deep h n is f = too_deep law (from tokens old) n (sym (ap (R (64 - depth)) same) ∙ subst (λ (x : Halt). Fails x (R (64 - depth) (signs lexemes))) is f)
+  pub parse_wrong : (h : Halt) (line : ℕ) → Halts h → end_at tokens h ≡ end.Syntax line → IsWrong s 65 tokens old line
+  parse_wrong halt.Memory line f e = absurd cc
+  parse_wrong (halt.Stop n) line f e = stopped n line f cc
+  parse_wrong (halt.Deep n) line f e = absurd cc
 
-  pub parse_within : (h : Halt) (n : ℕ) → h ≡ halt.Stop n → Fails h (R (64 - depth) (signs lexemes)) → n ≤ length tokens
+  pub parse_deep : (h : Halt) (count : ℕ) → Halts h → end_at tokens h ≡ end.Deep count → (count ≡ 65) × OpensTooDeep grammar s 65 (from tokens old)
+  parse_deep halt.Memory count f e = absurd cc
+  parse_deep (halt.Stop n) count f e = absurd cc
+  parse_deep (halt.Deep n) count f e = (cc, too_deep law (from tokens old) n (sym (ap (R (64 - depth)) same) ∙ f))
+
+  pub parse_within : (h : Halt) (n : ℕ) → h ≡ halt.Stop n → Halts h → n ≤ length tokens
   parse_within h n is f =
-      let le = within law (signs lexemes) (Stop n) (subst (λ (x : Halt). Fails x (R (64 - depth) (signs lexemes))) is f) in
+      let le = within law (signs lexemes) (Stop n) (subst Halts is f) in
       omega (arith, le, ap length same, length-map (drop old tokens) seen, length-drop old tokens)

@@ -5,18 +5,26 @@ use Rattle.std.proofs.lemmas.List.{length-map}
 use Rattle.cob_tree.specs.Symbols.{Sign}
 use Rattle.cob_parse_expr.specs.declared.lexeme.Lexeme.{Lexeme}
 use Rattle.cob_parse_expr.specs.Lexemes.{plain_lexeme}
-use Rattle.cob_tree.specs.Expr.{Expr}
-use Rattle.reading.specs.Readers.{Fault, Stop, Deep, ◌>>=◌, lead, stands, missing, need}
+use Rattle.cob_tree.specs.Cond.{Cond}
+use Rattle.cob_tree.specs.Cues.{NotRelates}
+use Rattle.cob_tree.specs.Takes.{takes_cond}
+use Rattle.reading.specs.Readers.{Fault, Stop, Deep, Reader, ◌>>=◌, lead, branch, seen, stands, need, closed, left_on, full}
 use Rattle.cob_parse_expr.specs.declared.halt.Halt.{Halt}
 use Rattle.cob_parse_expr.specs.declared.halt.Halt.TheVariants as halt
 use Rattle.cob_parse_expr.specs.Classes.{open_of, close_of}
 use Rattle.cob_parse_expr.specs.Reading.{second, expr_goes, group_at, expr_at}
+use Rattle.cob_parse_expr.specs.CondReading.{cond_goes, paren_at, cond_at}
+use Rattle.cob_parse_expr.specs.CondSteps.{unclosed}
 use Rattle.cob_parse_expr.specs.Steps.{signs, behind_word, Leads, Lacks, Fails, Gives}
 
 -- at the exit of a `?`
 pub gives_wrong : {X Y : Type 0} (view : X → Y) (r : Result X Halt) (read : Result Y Fault) (h : Halt) → IsErrAnd r (λ y. y ≡ h) → Fails h read → Gives view r read
 gives_wrong view (Ok x) read h e f = absurd e
 gives_wrong view (Err y) read h e f = subst (λ (z : Halt). Fails z read) (sym e) f
+
+-- where two readings are one
+pub gives_as : {X Y : Type 0} (view : X → Y) (r : Result X Halt) (a b : Result Y Fault) → a ≡ b → Gives view r b → Gives view r a
+gives_as view r a b e g = subst (Gives view r) (sym e) g
 
 pub signs_length : (ls : List Lexeme) → length ls ≡ length (signs ls)
 signs_length ls = sym (length-map ls plain_lexeme)
@@ -35,52 +43,98 @@ fails_first (halt.Deep n) read more f = rw f refl
 pub fails_second : {A B : Type 0} (h : Halt) (read : Result A Fault) (more : A → Result B Fault) (x : A) → read ≡ Ok x → Fails h (more x) → Fails h (read >>= more)
 fails_second h read more x e f = subst (λ (r : Result _ Fault). Fails h (r >>= more)) (sym e) f
 
--- ---- an expression in parentheses
+-- ---- what stands in parentheses
+
+-- how many tokens are left where what goes on so isn't closed
+abbrev pub left_open : (Sign → Bool) → List Sign → ℕ
+left_open goes [] = 0
+left_open goes (t ∷ ts) = left_on (goes t) ts
+
+pub stays_open : (ts : List Sign) → left_open (λ t. false) ts ≡ length ts
+stays_open [] = refl
+stays_open (t ∷ ts) = refl
+
+module _ {A : Type 0} (r : Reader Sign A) (goes : A → Sign → Bool) where
+  abbrev pub inner_of : (Unit {0} × (A × Unit {0})) → A
+  inner_of x = x.1.0
+
+  abbrev pub in_parentheses : Reader Sign A
+  in_parentheses = seen inner_of (branch open_of (λ x. closed r close_of goes))
+
+  abbrev closing : A → List Sign → Result (Unit {0} × List Sign) Fault
+  closing a = need (stands close_of) (lead close_of) (goes a)
+
+  not_closed : (a : A) (ts : List Sign) (n : ℕ) → Lacks close_of ts → n ≡ left_open (goes a) ts → closing a ts ≡ Err (Stop n)
+  not_closed a [] n none same = ap (λ (k : ℕ). Err (Stop k)) (sym same)
+  not_closed a (t ∷ ts) n none same = rw (none.stands, same) refl
+
+  is_closed : (a : A) (ts rest : List Sign) → Leads close_of tt ts rest → closing a ts ≡ Ok (tt, rest)
+  is_closed a ts rest lead = rw (lead.stands, lead.reads) refl
+
+  pub none_opens : (ts : List Sign) (n : ℕ) → Lacks open_of ts → n ≡ length ts → in_parentheses ts ≡ Err (Stop n)
+  none_opens ts n none e = rw (none.reads, e) refl
+
+  module _ (ts rest : List Sign) (lead : Leads open_of tt ts rest) where
+    pub inside_wrong : (h : Halt) → Fails h (r rest) → Fails h (in_parentheses ts)
+    inside_wrong halt.Memory f = tt
+    inside_wrong (halt.Stop k) f = rw (lead.reads, f) refl
+    inside_wrong (halt.Deep k) f = rw (lead.reads, f) refl
+
+    pub inside_open : (a : A) (after : List Sign) (k : ℕ) → r rest ≡ Ok (a, after) → Lacks close_of after → k ≡ left_open (goes a) after → in_parentheses ts ≡ Err (Stop k)
+    inside_open a after k read none same = rw (lead.reads, read, not_closed a after k none same) refl
+
+    pub inside_closed : (a : A) (after end : List Sign) → r rest ≡ Ok (a, after) → Leads close_of tt after end → in_parentheses ts ≡ Ok (a, end)
+    inside_closed a after end read close = rw (lead.reads, read, is_closed a after end close) refl
+
+-- A reader by room: where there is none, it says so, and else it reads in parentheses with one less.
+module _ {A : Type 0} (p r : ℕ → Reader Sign A) (goes : A → Sign → Bool) (none : (ts : List Sign) → p zero ts ≡ full (stands open_of) ts) (some : (room : ℕ) (ts : List Sign) → p (suc room) ts ≡ in_parentheses (r room) goes ts) where
+  pub nested_lacks : (room : ℕ) (ts : List Sign) (n : ℕ) → Lacks open_of ts → n ≡ length ts → p room ts ≡ Err (Stop n)
+  nested_lacks zero ts n lacks e = none ts ∙ rw (lacks.stands, e) refl
+  nested_lacks (suc room) ts n lacks e = some room ts ∙ none_opens (r room) goes ts n lacks e
+
+  pub nested_full : (room : ℕ) (ts rest : List Sign) (n : ℕ) → room ≡ 0 → Leads open_of tt ts rest → n ≡ length ts → p room ts ≡ Err (Deep n)
+  nested_full zero ts rest n zero_is lead e = none ts ∙ rw (lead.stands, e) refl
+  nested_full (suc room) ts rest n zero_is lead e = absurd (omega arith)
+
+  module _ (room : ℕ) (left : room ≢ 0) (ts rest : List Sign) (lead : Leads open_of tt ts rest) where
+    one_less : p room ts ≡ in_parentheses (r (room - 1)) goes ts
+    one_less =
+        let k : suc (room - 1) ≡ room = omega arith in
+        ap (λ (x : ℕ). p x ts) (sym k) ∙ some (room - 1) ts
+
+    pub nested_wrong : (h : Halt) → Fails h (r (room - 1) rest) → Fails h (p room ts)
+    nested_wrong h f = subst (Fails h) (sym one_less) (inside_wrong (r (room - 1)) goes ts rest lead h f)
+
+    pub nested_open : (a : A) (after : List Sign) (n : ℕ) → r (room - 1) rest ≡ Ok (a, after) → Lacks close_of after → n ≡ left_open (goes a) after → p room ts ≡ Err (Stop n)
+    nested_open a after n read lacks same = one_less ∙ inside_open (r (room - 1)) goes ts rest lead a after n read lacks same
+
+    pub nested_closed : (a : A) (after end : List Sign) → r (room - 1) rest ≡ Ok (a, after) → Leads close_of tt after end → p room ts ≡ Ok (a, end)
+    nested_closed a after end read close = one_less ∙ inside_closed (r (room - 1)) goes ts rest lead a after end read close
+
+-- ---- an expression in parentheses, and a condition
+
+pub group_none : (ts : List Sign) → group_at zero ts ≡ full (stands open_of) ts
+unfolding group_at
+group_none ts = refl
+
+pub group_some : (room : ℕ) (ts : List Sign) → group_at (suc room) ts ≡ in_parentheses (expr_at room) expr_goes ts
+unfolding group_at
+group_some room ts = refl
+
+pub paren_none : (ts : List Sign) → paren_at zero ts ≡ full (stands open_of) ts
+unfolding paren_at
+paren_none ts = refl
+
+pub paren_some : (room : ℕ) (ts : List Sign) → paren_at (suc room) ts ≡ in_parentheses (cond_at room) cond_goes ts
+unfolding paren_at
+paren_some room ts = refl
 
 pub group_lacks : (room : ℕ) (ts : List Sign) (n : ℕ) → Lacks open_of ts → n ≡ length ts → group_at room ts ≡ Err (Stop n)
-unfolding group_at
-group_lacks zero ts n none e = rw (none.stands, e) refl
-group_lacks (suc room) ts n none e = rw (none.reads, e) refl
+group_lacks = nested_lacks group_at expr_at expr_goes group_none group_some
 
-pub group_full : (room : ℕ) (ts rest : List Sign) (n : ℕ) → room ≡ 0 → Leads open_of tt ts rest → n ≡ length ts → group_at room ts ≡ Err (Deep n)
-unfolding group_at
-group_full zero ts rest n none lead e = rw (lead.stands, e) refl
-group_full (suc room) ts rest n none lead e = absurd (omega arith)
+pub paren_lacks : (room : ℕ) (ts : List Sign) (n : ℕ) → Lacks open_of ts → n ≡ length ts → paren_at room ts ≡ Err (Stop n)
+paren_lacks = nested_lacks paren_at cond_at cond_goes paren_none paren_some
 
-abbrev closing : Expr → List Sign → Result (Unit {0} × List Sign) Fault
-closing e = need (stands close_of) (lead close_of) (expr_goes e)
-
-not_closed : (e : Expr) (ts : List Sign) (n : ℕ) → Lacks close_of ts → n ≡ length ts → closing e ts ≡ Err (Stop n)
-not_closed e [] n none same = ap (λ (k : ℕ). Err (Stop k)) (sym same)
-not_closed e (t ∷ ts) n none same = rw (none.stands, same) refl
-
-is_closed : (e : Expr) (ts rest : List Sign) → Leads close_of tt ts rest → closing e ts ≡ Ok (tt, rest)
-is_closed e ts rest lead = rw (lead.stands, lead.reads) refl
-
-module _ (n : ℕ) (ts rest : List Sign) (lead : Leads open_of tt ts rest) where
-  wrong_at : (h : Halt) → Fails h (expr_at n rest) → Fails h (group_at (suc n) ts)
-  unfolding group_at
-  wrong_at halt.Memory f = tt
-  wrong_at (halt.Stop k) f = rw (lead.reads, f) refl
-  wrong_at (halt.Deep k) f = rw (lead.reads, f) refl
-
-  open_at : (e : Expr) (after : List Sign) (k : ℕ) → expr_at n rest ≡ Ok (e, after) → Lacks close_of after → k ≡ length after → group_at (suc n) ts ≡ Err (Stop k)
-  unfolding group_at
-  open_at e after k read none same = rw (lead.reads, read, not_closed e after k none same) refl
-
-  closed_at : (e : Expr) (after end : List Sign) → expr_at n rest ≡ Ok (e, after) → Leads close_of tt after end → group_at (suc n) ts ≡ Ok (e, end)
-  unfolding group_at
-  closed_at e after end read close = rw (lead.reads, read, is_closed e after end close) refl
-
-module _ (room : ℕ) (some : room ≢ 0) (ts rest : List Sign) (lead : Leads open_of tt ts rest) where
-  suc_room : suc (room - 1) ≡ room
-  suc_room = omega arith
-
-  pub group_wrong : (h : Halt) → Fails h (expr_at (room - 1) rest) → Fails h (group_at room ts)
-  group_wrong h f = subst (λ (k : ℕ). Fails h (group_at k ts)) suc_room (wrong_at (room - 1) ts rest lead h f)
-
-  pub group_open : (e : Expr) (after : List Sign) (n : ℕ) → expr_at (room - 1) rest ≡ Ok (e, after) → Lacks close_of after → n ≡ length after → group_at room ts ≡ Err (Stop n)
-  group_open e after n read none same = ap (λ (k : ℕ). group_at k ts) (sym suc_room) ∙ open_at (room - 1) ts rest lead e after n read none same
-
-  pub group_closed : (e : Expr) (after end : List Sign) → expr_at (room - 1) rest ≡ Ok (e, after) → Leads close_of tt after end → group_at room ts ≡ Ok (e, end)
-  group_closed e after end read close = ap (λ (k : ℕ). group_at k ts) (sym suc_room) ∙ closed_at (room - 1) ts rest lead e after end read close
+pub not_unclosed : (takes : Bool) (c : Cond) (ts : List Sign) → takes ≡ takes_cond c NotRelates → unclosed takes ts ≡ left_open (cond_goes c) ts
+not_unclosed takes c [] e = refl
+not_unclosed takes c (t ∷ ts) e = rw e refl

@@ -25,7 +25,7 @@ use Rattle.reading.proofs.Lead.{lead_syntax, lead_law, branch_law}
 use Rattle.reading.proofs.Seen.{View, seen_law}
 use Rattle.reading.proofs.Starts.{Starts, enters}
 use Rattle.reading.proofs.Choose.{choose_syntax, choose_law}
-use Rattle.cob_parse_expr.specs.Classes.{word_symbol, not_key, not_of, numeric_key, numeric_of, sign_test_key, sign_test_of, relation_symbol, relation_of}
+use Rattle.cob_parse_expr.specs.Classes.{word_symbol, not_key, not_of, numeric_key, numeric_of, sign_test_key, sign_test_of, relation_symbol, relation_of, bare_symbol, bare_first}
 use Rattle.cob_parse_expr.specs.Reading.{expr_with}
 use Rattle.cob_parse_expr.specs.CondReading.{Asked, compared, for_digits, for_sign, make_asked, compared_with, asked_with, make_test, test_with}
 use Rattle.cob_parse_expr.specs.Parsing.{expr_syntax}
@@ -75,14 +75,6 @@ no_not (for_sign test.Negative) = refl
 no_not (for_sign test.Zero) = refl
 
 -- ---- the cues
-
--- what is asked begins with the token
-abbrev pub bare_symbol : Symbol → Bool
-bare_symbol y = is_some (relation_symbol y) || (is_some (word_symbol numeric_key y) || is_some (word_symbol sign_test_key y))
-
-abbrev pub bare_first : List Sign → Bool
-bare_first [] = false
-bare_first (t ∷ ts) = bare_symbol t.symbol
 
 abbrev pub tests_on : Bool → Sign → List Sign → Bool
 tests_on true t ts = bare_first ts

@@ -1,5 +1,5 @@
 -- The classes of tokens of which expressions and conditions are made.
-use Rattle.std.specs.Prelude.{◌≡◌, ℕ, ◌==◌, if◌then◌else◌, Bool, List, [], ◌∷◌, Option, Some, None}
+use Rattle.std.specs.Prelude.{◌≡◌, ℕ, ◌==◌, ◌||◌, if◌then◌else◌, Bool, false, List, [], ◌∷◌, Option, Some, None, is_some}
 use Rattle.cob_tree.specs.declared.keyword.Keyword.{Keyword}
 use Rattle.cob_tree.specs.declared.keyword.Keyword.TheVariants as key
 use Rattle.cob_tree.specs.declared.operand.Const.{Const}
@@ -123,3 +123,12 @@ relation_symbol _ = None
 
 abbrev pub relation_of : Sign → Option Rel
 relation_of s = relation_symbol s.symbol
+
+-- ---- what is asked of an expression begins with the token
+
+abbrev pub bare_symbol : Symbol → Bool
+bare_symbol y = is_some (relation_symbol y) || (is_some (word_symbol numeric_key y) || is_some (word_symbol sign_test_key y))
+
+abbrev pub bare_first : List Sign → Bool
+bare_first [] = false
+bare_first (t ∷ ts) = bare_symbol t.symbol

@@ -163,26 +163,3 @@ paren_at (suc room) ts = seen inside_cond (branch open_of (λ x. closed (cond_wi
 
 abbrev pub cond_at : ℕ → Reader Sign Cond
 cond_at room = cond_with (paren_at room) (group_at room)
-
--- ---- for the functions
-
--- the two of what NOT opens and what it doesn't, seen as what they are
-abbrev pub negated_neg : Reader Sign Cond → Reader Sign Expr → Reader Sign Neg
-negated_neg paren inner = seen (λ x. make_neg (inl (tt, x))) (negated_with paren inner)
-
-abbrev pub plain_neg_at : Reader Sign Cond → Reader Sign Expr → Reader Sign Neg
-plain_neg_at paren inner = seen (λ x. make_neg (inr x)) (plain_with paren inner)
-
--- whether the last takes NOT, where the one before them all does or doesn't
-abbrev pub last_neg : Bool → List Neg → Bool
-last_neg before [] = before
-last_neg before (n ∷ ns) = last_neg (takes_neg n NotRelates) ns
-
-abbrev pub last_conj : Bool → List Conj → Bool
-last_conj before [] = before
-last_conj before (c ∷ cs) = last_conj (takes_conj c NotRelates) cs
-
--- how many tokens are left where a condition isn't closed
-abbrev pub unclosed : Bool → List Sign → ℕ
-unclosed takes [] = 0
-unclosed takes (t ∷ ts) = left_on (is_some (not_of t) && takes) ts

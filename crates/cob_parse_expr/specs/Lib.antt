@@ -4,5 +4,6 @@ pub mod Reading
 pub mod Steps
 pub mod Lexemes
 pub mod CondReading
+pub mod CondSteps
 pub mod Parsing
 pub mod Laws

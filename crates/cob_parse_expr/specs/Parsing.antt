@@ -11,6 +11,10 @@ use Rattle.cob_tree.specs.PrintExpr.{print_expr, print_cond}
 use Rattle.cob_tree.specs.Takes.{takes_expr, takes_cond}
 use Rattle.cob_tree.specs.Cond.{Cond}
 use Rattle.cob_tree.specs.Shaped.{ShapedCond}
+use Rattle.cob_parse_expr.specs.declared.halt.Halt.{Halt}
+use Rattle.cob_parse_expr.specs.declared.halt.Halt.TheVariants as halt
+use Rattle.cob_parse_expr.specs.declared.end.ParseEnd.{ParseEnd}
+use Rattle.cob_parse_expr.specs.declared.end.ParseEnd.TheVariants as end
 use Rattle.reading.specs.Law.{Syntax}
 use Rattle.reading.specs.Outcome.{Stops}
 
@@ -29,6 +33,12 @@ from tokens place = map seen (drop place tokens)
 -- the line of the first of so many tokens at the end, or of the last token, or 1
 abbrev pub line_at : List Token → ℕ → ℕ
 line_at tokens left = unwrap_or (option_map (λ t. t.line) (slice_get tokens (length tokens - max left 1))) 1
+
+-- what a parser answers where its reader halts
+abbrev pub end_at : List Token → Halt → ParseEnd
+end_at tokens (halt.Stop left) = end.Syntax (line_at tokens left)
+end_at tokens (halt.Deep left) = end.Deep 65
+end_at tokens halt.Memory = end.Memory
 
 -- No tree is read from a place on, and the line is that of the first token at which none goes on.
 pub record IsWrong {A : Type 0} (s : Syntax Item Cue A) (limit : ℕ) (tokens : List Token) (place line : ℕ) : Type 0 where

@@ -2,7 +2,7 @@ ghost use Rattle.std.specs.Prelude.{◌≡◌, ◌+◌, ◌∷◌, [], length, I
 ghost use Rattle.std.specs.Option.{option_map};
 ghost use Rattle.cob_parse_expr.specs.Lexemes.{plain_symbol, plain_lexeme};
 ghost use Rattle.reading.specs.Readers.{stands};
-ghost use Rattle.cob_parse_expr.specs.Classes.{name_symbol, name_of, const_key, const_as, const_of, mark_symbol, open_mark, open_of, close_mark, close_of, sign_mark, sign_of, scaling_mark, scaling_of, word_symbol, of_key, of_of, not_key, not_of, and_key, and_of, or_key, or_of, numeric_key, numeric_of, sign_test_key, sign_test_of, relation_symbol, relation_of};
+ghost use Rattle.cob_parse_expr.specs.Classes.{name_symbol, name_of, const_key, const_as, const_of, mark_symbol, open_mark, open_of, close_mark, close_of, sign_mark, sign_of, scaling_mark, scaling_of, word_symbol, of_key, of_of, not_key, not_of, and_key, and_of, or_key, or_of, numeric_key, numeric_of, sign_test_key, sign_test_of, relation_symbol, relation_of, bare_symbol, bare_first};
 ghost use Rattle.cob_parse_expr.specs.Steps.{signs, Leads, Lacks};
 
 use crate::lexeme::{Lexeme, Symbol};
@@ -89,6 +89,18 @@ fn is_numeric(symbol: &Symbol) -> bool
     ensures { result ≡ is_some (word_symbol numeric_key (plain_symbol symbol.now)) }
 {
     matches!(symbol, Symbol::Key(Keyword::Numeric))
+}
+
+fn asks(symbol: &Symbol) -> bool
+    ensures { result ≡ bare_symbol (plain_symbol symbol.now) }
+{
+    matches!(
+        symbol,
+        Symbol::Relation(_)
+            | Symbol::Key(
+                Keyword::Numeric | Keyword::Positive | Keyword::Negative | Keyword::Zero
+            )
+    )
 }
 
 fn name(symbol: &Symbol) -> Option<&Name>
@@ -285,5 +297,15 @@ pub fn behind_numeric(lexemes: &[Lexeme]) -> Option<&[Lexeme]>
     match next(lexemes) {
         Some((lexeme, rest)) if is_numeric(&lexeme.symbol) => Some(rest),
         _ => None,
+    }
+}
+
+/// Whether a relation, NUMERIC, POSITIVE, NEGATIVE or ZERO stands first.
+pub fn asks_first(lexemes: &[Lexeme]) -> bool
+    ensures { result ≡ bare_first (signs lexemes.now) }
+{
+    match next(lexemes) {
+        Some((lexeme, _)) => asks(&lexeme.symbol),
+        None => false,
     }
 }

@@ -3,11 +3,11 @@ use Rattle.std.proofs.lemmas.List.{map_push, length-map}
 use Rattle.cob_tree.specs.Cues.{Scales, Signs}
 use Rattle.cob_tree.specs.ExprView.{plain_expr, plain_term, plain_fact, added, multiplied}
 use Rattle.cob_parse_expr.specs.Classes.{scaling_of, sign_of}
-use Rattle.cob_parse_expr.specs.Reading.{group_at, fact_with, term_with}
+use Rattle.cob_parse_expr.specs.Reading.{group_at, fact_with, term_with, expr_at, expr_goes}
 use Rattle.cob_parse_expr.specs.Steps.{signs}
 use Rattle.cob_parse_expr.proofs.ClassLaws.{scaling_told, sign_told}
 use Rattle.cob_parse_expr.proofs.Loop.{goes_on, goes_end, goes_fails}
-use Rattle.cob_parse_expr.proofs.StepLemmas.{gives_wrong, signs_length, group_lacks, group_full, group_wrong, group_open, group_closed}
+use Rattle.cob_parse_expr.proofs.StepLemmas.{gives_wrong, signs_length, stays_open, group_none, group_some, group_lacks, nested_full, nested_wrong, nested_open, nested_closed}
 use Rattle.cob_parse_expr.proofs.expr.+expr.Goals as goal
 
 pub factors_in-returns-in_err-fact-clause-gives : goal.factors_in-returns-in_err-fact-clause-gives
@@ -44,13 +44,15 @@ pub group-returns-in_default-clause-gives : goal.group-returns-in_default-clause
 group-returns-in_default-clause-gives t c = group_lacks c.args.room (signs c.args.lexemes.now) _ c.in_default.ensures.none (signs_length c.args.lexemes.now)
 
 pub group-returns-then-room-eq0-clause-gives : goal.group-returns-then-room-eq0-clause-gives
-group-returns-then-room-eq0-clause-gives t c = group_full c.args.room (signs c.args.lexemes.now) (signs c.in-Some.rest.now) _ c.if-room-eq0.true c.in-Some.ensures.found (signs_length c.args.lexemes.now)
+group-returns-then-room-eq0-clause-gives t c = nested_full group_at expr_at expr_goes group_none group_some c.args.room (signs c.args.lexemes.now) (signs c.in-Some.rest.now) _ c.if-room-eq0.true c.in-Some.ensures.found (signs_length c.args.lexemes.now)
 
 pub group-returns-in_err-expr-clause-gives : goal.group-returns-in_err-expr-clause-gives
-group-returns-in_err-expr-clause-gives t c = gives_wrong _ c.from_residual.result _ c.in_err-expr.field-0.0 c.from_residual.ensures.1 (group_wrong c.args.room c.if-room-eq0.false (signs c.args.lexemes.now) (signs c.in-Some.rest.now) c.in-Some.ensures.found c.in_err-expr.field-0.0 c.in_err-expr.ensures.gives)
+group-returns-in_err-expr-clause-gives t c = gives_wrong _ c.from_residual.result _ c.in_err-expr.field-0.0 c.from_residual.ensures.1
+    (nested_wrong group_at expr_at expr_goes group_none group_some c.args.room c.if-room-eq0.false (signs c.args.lexemes.now) (signs c.in-Some.rest.now) c.in-Some.ensures.found c.in_err-expr.field-0.0 c.in_err-expr.ensures.gives)
 
 pub group-returns-in-None-clause-gives : goal.group-returns-in-None-clause-gives
-group-returns-in-None-clause-gives t c = group_open c.args.room c.if-room-eq0.false (signs c.args.lexemes.now) (signs c.in-Some.rest.now) c.in-Some.ensures.found (plain_expr c.in_ok-expr.expr) (signs c.in_ok-expr.rest.now) _ c.in_ok-expr.ensures.gives c.in-None.ensures.none (signs_length c.in_ok-expr.rest.now)
+group-returns-in-None-clause-gives t c = nested_open group_at expr_at expr_goes group_none group_some c.args.room c.if-room-eq0.false (signs c.args.lexemes.now) (signs c.in-Some.rest.now) c.in-Some.ensures.found (plain_expr c.in_ok-expr.expr) (signs c.in_ok-expr.rest.now) _ c.in_ok-expr.ensures.gives c.in-None.ensures.none
+    (signs_length c.in_ok-expr.rest.now ∙ sym (stays_open (signs c.in_ok-expr.rest.now)))
 
 pub group-returns-in-Some-behind_close-clause-gives : goal.group-returns-in-Some-behind_close-clause-gives
-group-returns-in-Some-behind_close-clause-gives t c = group_closed c.args.room c.if-room-eq0.false (signs c.args.lexemes.now) (signs c.in-Some.rest.now) c.in-Some.ensures.found (plain_expr c.in_ok-expr.expr) (signs c.in_ok-expr.rest.now) (signs c.in-Some-behind_close.rest.now) c.in_ok-expr.ensures.gives c.in-Some-behind_close.ensures.found
+group-returns-in-Some-behind_close-clause-gives t c = nested_closed group_at expr_at expr_goes group_none group_some c.args.room c.if-room-eq0.false (signs c.args.lexemes.now) (signs c.in-Some.rest.now) c.in-Some.ensures.found (plain_expr c.in_ok-expr.expr) (signs c.in_ok-expr.rest.now) (signs c.in-Some-behind_close.rest.now) c.in_ok-expr.ensures.gives c.in-Some-behind_close.ensures.found

@@ -1,4 +1,4 @@
-use Rattle.std.proofs.Common.{◌≡◌, ◌-◌, ℕ, arith, sym, refl}
+use Rattle.std.proofs.Common.{◌≡◌, ◌-◌, ◌∙◌, ℕ, sym}
 use Rattle.cob_tree.specs.ExprView.{plain_expr}
 use Rattle.cob_parse_expr.specs.Parsing.{expr_syntax}
 use Rattle.cob_parse_expr.specs.Reading.{expr_at}
@@ -7,25 +7,18 @@ use Rattle.cob_parse_expr.proofs.ExprAgree.{expr_wider}
 use Rattle.cob_parse_expr.proofs.ParseLemmas.{parse_read, parse_wrong, parse_deep, parse_within}
 use Rattle.cob_parse_expr.proofs.parse.expr_of.Goals as goal
 
-pub line_of-requires : goal.line_of-requires
-line_of-requires c = parse_within (expr_syntax c.args.depth) expr_at c.args.depth c.requires.shallow (λ room top e. law room c.args.depth top e) expr_wider
-    c.args.tokens.now c.split_at.result.1.now c.args.at.now c.requires.inside c.in_ok-lexemes.lexemes.items c.as_slice.result.now c.as_slice.ensures.value c.in_ok-lexemes.ensures c.split_at.ensures.back
-    c.in-Err-Stop.field-0 c.in-Err-Stop.left c.in-Err-Stop.field-0-is c.in-Err-Stop.ensures.gives
+pub end_at-requires : goal.end_at-requires
+end_at-requires c = λ left is. parse_within (expr_syntax c.args.depth) expr_at c.args.depth c.requires.shallow (λ room top e. law room c.args.depth top e) expr_wider
+    c.args.tokens.now c.args.at.now c.requires.inside c.in_ok-lexemes.lexemes.items c.as_slice.result.now c.as_slice.ensures.value c.in_ok-lexemes.ensures c.in-Err.halt left is c.in-Err.ensures.gives
 
 pub returns-in-Ok-clause-read : goal.returns-in-Ok-clause-read
 returns-in-Ok-clause-read c = parse_read (expr_syntax c.args.depth) expr_at c.args.depth c.requires.shallow (λ room top e. law room c.args.depth top e) expr_wider
-    c.args.tokens.now c.split_at.result.1.now c.args.at.now c.requires.inside c.in_ok-lexemes.lexemes.items c.as_slice.result.now c.as_slice.ensures.value c.in_ok-lexemes.ensures c.split_at.ensures.back
-    (plain_expr c.in-Ok.expr) c.in-Ok.rest.now c.in-Ok.ensures.gives
+    c.args.tokens.now c.args.at.now c.requires.inside c.in_ok-lexemes.lexemes.items c.as_slice.result.now c.as_slice.ensures.value c.in_ok-lexemes.ensures (plain_expr c.in-Ok.expr) c.in-Ok.rest.now c.in-Ok.ensures.gives
 
-pub returns-in-Err-Stop-clause-syntax : goal.returns-in-Err-Stop-clause-syntax
-returns-in-Err-Stop-clause-syntax c = λ line e. parse_wrong (expr_syntax c.args.depth) expr_at c.args.depth c.requires.shallow (λ room top e. law room c.args.depth top e) expr_wider
-    c.args.tokens.now c.split_at.result.1.now c.args.at.now c.requires.inside c.in_ok-lexemes.lexemes.items c.as_slice.result.now c.as_slice.ensures.value c.in_ok-lexemes.ensures c.split_at.ensures.back
-    c.in-Err-Stop.field-0 c.in-Err-Stop.left c.line_of.result line c.in-Err-Stop.field-0-is c.in-Err-Stop.ensures.gives c.line_of.ensures cc
+pub returns-in-Err-clause-syntax : goal.returns-in-Err-clause-syntax
+returns-in-Err-clause-syntax c = λ line e. parse_wrong (expr_syntax c.args.depth) expr_at c.args.depth c.requires.shallow (λ room top e. law room c.args.depth top e) expr_wider
+    c.args.tokens.now c.args.at.now c.requires.inside c.in_ok-lexemes.lexemes.items c.as_slice.result.now c.as_slice.ensures.value c.in_ok-lexemes.ensures c.in-Err.halt line c.in-Err.ensures.gives (sym c.end_at.ensures ∙ cc)
 
-pub returns-in-Err-Deep-clause-deep : goal.returns-in-Err-Deep-clause-deep
-returns-in-Err-Deep-clause-deep c = λ count e. (
-  cc,
-  parse_deep (expr_syntax c.args.depth) expr_at c.args.depth c.requires.shallow (λ room top e. law room c.args.depth top e) expr_wider
-      c.args.tokens.now c.split_at.result.1.now c.args.at.now c.requires.inside c.in_ok-lexemes.lexemes.items c.as_slice.result.now c.as_slice.ensures.value c.in_ok-lexemes.ensures c.split_at.ensures.back
-      c.in-Err-Deep.field-0 c.in-Err-Deep.field-0-0 c.in-Err-Deep.field-0-is c.in-Err-Deep.ensures.gives,
-)
+pub returns-in-Err-clause-deep : goal.returns-in-Err-clause-deep
+returns-in-Err-clause-deep c = λ count e. parse_deep (expr_syntax c.args.depth) expr_at c.args.depth c.requires.shallow (λ room top e. law room c.args.depth top e) expr_wider
+    c.args.tokens.now c.args.at.now c.requires.inside c.in_ok-lexemes.lexemes.items c.as_slice.result.now c.as_slice.ensures.value c.in_ok-lexemes.ensures c.in-Err.halt count c.in-Err.ensures.gives (sym c.end_at.ensures ∙ cc)

@@ -1,0 +1,105 @@
+use Rattle.std.proofs.Common.{◌≡◌, ◌++◌, ◌∷◌, [], Bool, map, arith, refl, ap, sym, ◌∙◌, ℕ}
+use Rattle.std.proofs.lemmas.List.{map_push, length-map}
+use Rattle.cob_tree.specs.Cond.{Cond, Conj, Neg, Simple}
+use Rattle.cob_tree.specs.ExprView.{plain_expr, plain_fact}
+use Rattle.cob_tree.specs.Takes.{takes_simple, takes_neg, takes_conj, takes_cond}
+use Rattle.cob_tree.specs.Cues.{Ands, Ors, NotRelates}
+use Rattle.cob_tree.specs.CondView.{plain_cond, plain_conj, plain_neg}
+use Rattle.cob_parse_expr.specs.Classes.{and_of, or_of}
+use Rattle.cob_parse_expr.specs.Reading.{group_at}
+use Rattle.cob_parse_expr.specs.CondReading.{paren_at, cond_at, cond_goes, neg_with, conj_with}
+use Rattle.cob_parse_expr.specs.CondSteps.{last_neg, last_conj}
+use Rattle.cob_parse_expr.specs.Steps.{signs, behind_word}
+use Rattle.cob_parse_expr.proofs.ClassLaws.{and_told, or_told}
+use Rattle.cob_parse_expr.proofs.Loop.{goes_on, goes_end, goes_fails}
+use Rattle.cob_parse_expr.proofs.CondLemmas.{no_not, opened_is, bare_is, behind_not_is, no_not_is, conj_is, cond_is, last_neg_push, last_conj_push, conj_takes, cond_takes}
+use Rattle.cob_parse_expr.proofs.StepLemmas.{gives_wrong, gives_as, signs_length, not_unclosed, paren_none, paren_some, paren_lacks, nested_full, nested_wrong, nested_open, nested_closed}
+use Rattle.cob_parse_expr.proofs.cond.+cond.Goals as goal
+
+pub negs-returns-in_err-neg-clause-gives : goal.negs-returns-in_err-neg-clause-gives
+negs-returns-in_err-neg-clause-gives t c = gives_wrong _ c.from_residual.result _ c.in_err-neg.field-0.0 c.from_residual.ensures.1
+    (goes_fails Ands and_of and_told (neg_with (paren_at c.args.room) (group_at c.args.room)) (signs c.args.lexemes.now) (signs c.negs.left.now) (signs c.in-Some.rest.now) (map behind_word (map plain_neg c.negs.negs.items)) tt c.in_err-neg.field-0.0 c.in-Some.ensures.found c.in_err-neg.ensures.gives c.negs.invariant.goes)
+
+pub negs-negs-preserved : goal.negs-negs-preserved
+negs-negs-preserved t c =
+    let pushed : map plain_neg c.push.new.self.items ≡ map plain_neg c.negs.negs.items ++ plain_neg c.in_ok-neg.neg ∷ [] = rw c.in_ok-push.ensures.items (map_push plain_neg c.negs.negs.items c.in_ok-neg.neg) in
+    let behind : map behind_word (map plain_neg c.push.new.self.items) ≡ map behind_word (map plain_neg c.negs.negs.items) ++ (tt, plain_neg c.in_ok-neg.neg) ∷ [] = ap (map behind_word) pushed ∙ map_push behind_word (map plain_neg c.negs.negs.items) (plain_neg c.in_ok-neg.neg) in
+    record {
+      goes = rw behind (goes_on Ands and_of and_told (neg_with (paren_at c.args.room) (group_at c.args.room)) (signs c.args.lexemes.now) (signs c.negs.left.now) (signs c.in-Some.rest.now) (signs c.in_ok-neg.after.now) (map behind_word (map plain_neg c.negs.negs.items)) tt (plain_neg c.in_ok-neg.neg) c.in-Some.ensures.found c.in_ok-neg.ensures.gives (simp length-map (omega (arith, c.in_ok-neg.ensures.rest))) c.negs.invariant.goes);
+      shorter = omega (arith, c.in_ok-neg.ensures.rest, c.in-Some.ensures.shorter, c.negs.invariant.shorter);
+      takes = c.in_ok-neg.ensures.takes ∙ sym (ap (last_neg c.args.before) pushed ∙ last_neg_push c.args.before (map plain_neg c.negs.negs.items) (plain_neg c.in_ok-neg.neg));
+    }
+
+pub negs-returns-clause-gives : goal.negs-returns-clause-gives
+negs-returns-clause-gives t c = goes_end Ands and_of and_told (neg_with (paren_at c.args.room) (group_at c.args.room)) (signs c.args.lexemes.now) (signs c.negs.left.now) (map behind_word (map plain_neg c.negs.negs.items)) c.in_default.ensures.none c.negs.invariant.goes
+
+pub conjs-returns-in_err-conj-clause-gives : goal.conjs-returns-in_err-conj-clause-gives
+conjs-returns-in_err-conj-clause-gives t c = gives_wrong _ c.from_residual.result _ c.in_err-conj.field-0.0 c.from_residual.ensures.1
+    (goes_fails Ors or_of or_told (conj_with (paren_at c.args.room) (group_at c.args.room)) (signs c.args.lexemes.now) (signs c.conjs.left.now) (signs c.in-Some.rest.now) (map behind_word (map plain_conj c.conjs.conjs.items)) tt c.in_err-conj.field-0.0 c.in-Some.ensures.found c.in_err-conj.ensures.gives c.conjs.invariant.goes)
+
+pub conjs-conjs-preserved : goal.conjs-conjs-preserved
+conjs-conjs-preserved t c =
+    let pushed : map plain_conj c.push.new.self.items ≡ map plain_conj c.conjs.conjs.items ++ plain_conj c.in_ok-conj.conj ∷ [] = rw c.in_ok-push.ensures.items (map_push plain_conj c.conjs.conjs.items c.in_ok-conj.conj) in
+    let behind : map behind_word (map plain_conj c.push.new.self.items) ≡ map behind_word (map plain_conj c.conjs.conjs.items) ++ (tt, plain_conj c.in_ok-conj.conj) ∷ [] = ap (map behind_word) pushed ∙ map_push behind_word (map plain_conj c.conjs.conjs.items) (plain_conj c.in_ok-conj.conj) in
+    record {
+      goes = rw behind (goes_on Ors or_of or_told (conj_with (paren_at c.args.room) (group_at c.args.room)) (signs c.args.lexemes.now) (signs c.conjs.left.now) (signs c.in-Some.rest.now) (signs c.in_ok-conj.after.now) (map behind_word (map plain_conj c.conjs.conjs.items)) tt (plain_conj c.in_ok-conj.conj) c.in-Some.ensures.found c.in_ok-conj.ensures.gives (simp length-map (omega (arith, c.in_ok-conj.ensures.rest))) c.conjs.invariant.goes);
+      shorter = omega (arith, c.in_ok-conj.ensures.rest, c.in-Some.ensures.shorter, c.conjs.invariant.shorter);
+      takes = c.in_ok-conj.ensures.takes ∙ sym (ap (last_conj c.args.before) pushed ∙ last_conj_push c.args.before (map plain_conj c.conjs.conjs.items) (plain_conj c.in_ok-conj.conj));
+    }
+
+pub conjs-returns-clause-gives : goal.conjs-returns-clause-gives
+conjs-returns-clause-gives t c = goes_end Ors or_of or_told (conj_with (paren_at c.args.room) (group_at c.args.room)) (signs c.args.lexemes.now) (signs c.conjs.left.now) (map behind_word (map plain_conj c.conjs.conjs.items)) c.in_default.ensures.none c.conjs.invariant.goes
+
+pub paren-returns-in_default-clause-gives : goal.paren-returns-in_default-clause-gives
+paren-returns-in_default-clause-gives t c = paren_lacks c.args.room (signs c.args.lexemes.now) _ c.in_default.ensures.none (signs_length c.args.lexemes.now)
+
+pub paren-returns-then-room-eq0-clause-gives : goal.paren-returns-then-room-eq0-clause-gives
+paren-returns-then-room-eq0-clause-gives t c = nested_full paren_at cond_at cond_goes paren_none paren_some c.args.room (signs c.args.lexemes.now) (signs c.in-Some.rest.now) _ c.if-room-eq0.true c.in-Some.ensures.found (signs_length c.args.lexemes.now)
+
+pub paren-returns-in_err-cond-clause-gives : goal.paren-returns-in_err-cond-clause-gives
+paren-returns-in_err-cond-clause-gives t c = gives_wrong _ c.from_residual.result _ c.in_err-cond.field-0.0 c.from_residual.ensures.1
+    (nested_wrong paren_at cond_at cond_goes paren_none paren_some c.args.room c.if-room-eq0.false (signs c.args.lexemes.now) (signs c.in-Some.rest.now) c.in-Some.ensures.found c.in_err-cond.field-0.0 c.in_err-cond.ensures.gives)
+
+pub paren-returns-in-None-clause-gives : goal.paren-returns-in-None-clause-gives
+paren-returns-in-None-clause-gives t c = nested_open paren_at cond_at cond_goes paren_none paren_some c.args.room c.if-room-eq0.false (signs c.args.lexemes.now) (signs c.in-Some.rest.now) c.in-Some.ensures.found (plain_cond c.in_ok-cond.cond) (signs c.in_ok-cond.rest.now) _ c.in_ok-cond.ensures.gives c.in-None.ensures.none
+    (c.unclosed.ensures.value ∙ not_unclosed c.in_ok-cond.takes_not (plain_cond c.in_ok-cond.cond) (signs c.in_ok-cond.rest.now) c.in_ok-cond.ensures.takes)
+
+pub paren-returns-in-Some-behind_close-clause-gives : goal.paren-returns-in-Some-behind_close-clause-gives
+paren-returns-in-Some-behind_close-clause-gives t c = nested_closed paren_at cond_at cond_goes paren_none paren_some c.args.room c.if-room-eq0.false (signs c.args.lexemes.now) (signs c.in-Some.rest.now) c.in-Some.ensures.found (plain_cond c.in_ok-cond.cond) (signs c.in_ok-cond.rest.now) (signs c.in-Some-behind_close.rest.now) c.in_ok-cond.ensures.gives c.in-Some-behind_close.ensures.found
+
+pub subject-returns-in_ok-cond-in-Some-clause-gives : goal.subject-returns-in_ok-cond-in-Some-clause-gives
+subject-returns-in_ok-cond-in-Some-clause-gives t c = gives_as _ c.subject_after.result _ _
+    (opened_is (paren_at c.args.room) (group_at c.args.room) (signs c.args.lexemes.now) _ (plain_cond c.in_ok-cond-in-Some.cond) c.in-Some.ensures.found (signs c.in_ok-cond-in-Some.rest.now) c.in_ok-cond-in-Some.ensures.gives) c.subject_after.ensures.gives
+
+pub subject-returns-in_ok-first-in-None-clause-gives : goal.subject-returns-in_ok-first-in-None-clause-gives
+subject-returns-in_ok-first-in-None-clause-gives t c = gives_as _ c.subject_behind.result _ _
+    (bare_is (paren_at c.args.room) (group_at c.args.room) (signs c.args.lexemes.now) (signs c.in_ok-first-in-None.rest.now) (plain_fact c.in_ok-first-in-None.first) c.in-None.ensures.none c.in_ok-first-in-None.ensures.gives) c.subject_behind.ensures.gives
+
+pub further-returns-in_ok-rel-in-Some-clause-takes : goal.further-returns-in_ok-rel-in-Some-clause-takes
+further-returns-in_ok-rel-in-Some-clause-takes t c = sym (ap (λ (s : Simple). takes_simple s NotRelates) c.abbreviated.ensures ∙ no_not (plain_expr c.in_ok-rel-in-Some.right))
+
+pub negated-returns-in_ok-rel-clause-takes : goal.negated-returns-in_ok-rel-clause-takes
+negated-returns-in_ok-rel-clause-takes t c = sym (ap (λ (n : Neg). takes_neg n NotRelates) c.of.ensures ∙ (ap (λ (s : Simple). takes_simple s NotRelates) c.abbreviated.ensures ∙ no_not (plain_expr c.in_ok-rel.right)))
+
+pub plain-returns-in_ok-rel-clause-takes : goal.plain-returns-in_ok-rel-clause-takes
+plain-returns-in_ok-rel-clause-takes t c = sym (ap (λ (n : Neg). takes_neg n NotRelates) c.of.ensures ∙ (ap (λ (s : Simple). takes_simple s NotRelates) c.abbreviated.ensures ∙ no_not (plain_expr c.in_ok-rel.right)))
+
+pub neg-returns-in-Some-clause-gives : goal.neg-returns-in-Some-clause-gives
+neg-returns-in-Some-clause-gives t c = gives_as _ c.negated.result _ _ (behind_not_is (paren_at c.args.room) (group_at c.args.room) (signs c.args.lexemes.now) (signs c.in-Some.rest.now) c.in-Some.ensures.found) c.negated.ensures.gives
+
+pub neg-returns-in-None-clause-gives : goal.neg-returns-in-None-clause-gives
+neg-returns-in-None-clause-gives t c = gives_as _ c.plain.result _ _ (no_not_is (paren_at c.args.room) (group_at c.args.room) (signs c.args.lexemes.now) c.in-None.ensures.none) c.plain.ensures.gives
+
+pub conj-returns-clause-gives : goal.conj-returns-clause-gives
+conj-returns-clause-gives t c = conj_is (paren_at c.args.room) (group_at c.args.room) (signs c.args.lexemes.now) (signs c.in_ok-first.rest.now) (signs c.in_ok-others.rest.now) (plain_neg c.in_ok-first.first) (map plain_neg c.in_ok-others.others.items) (plain_conj c.of.result) c.in_ok-first.ensures.gives c.in_ok-others.ensures.gives c.of.ensures
+
+pub conj-returns-clause-takes : goal.conj-returns-clause-takes
+conj-returns-clause-takes t c = c.in_ok-others.ensures.takes ∙ (ap (λ (b : Bool). last_neg b (map plain_neg c.in_ok-others.others.items)) c.in_ok-first.ensures.takes
+    ∙ (sym (conj_takes (plain_neg c.in_ok-first.first) (map plain_neg c.in_ok-others.others.items)) ∙ ap (λ (z : Conj). takes_conj z NotRelates) (sym c.of.ensures)))
+
+pub cond_in-returns-clause-gives : goal.cond_in-returns-clause-gives
+cond_in-returns-clause-gives t c = cond_is (paren_at c.args.room) (group_at c.args.room) (signs c.args.lexemes.now) (signs c.in_ok-first.rest.now) (signs c.in_ok-others.rest.now) (plain_conj c.in_ok-first.first) (map plain_conj c.in_ok-others.others.items) (plain_cond c.of.result) c.in_ok-first.ensures.gives c.in_ok-others.ensures.gives c.of.ensures
+
+pub cond_in-returns-clause-takes : goal.cond_in-returns-clause-takes
+cond_in-returns-clause-takes t c = c.in_ok-others.ensures.takes ∙ (ap (λ (b : Bool). last_conj b (map plain_conj c.in_ok-others.others.items)) c.in_ok-first.ensures.takes
+    ∙ (sym (cond_takes (plain_conj c.in_ok-first.first) (map plain_conj c.in_ok-others.others.items)) ∙ ap (λ (z : Cond). takes_cond z NotRelates) (sym c.of.ensures)))
