@@ -6,3 +6,5 @@ mod TargetLaws
 mod SumLaws
 mod LoopLaws
 mod PerformLaws
+pub mod SelLaws
+pub mod HeadLaws

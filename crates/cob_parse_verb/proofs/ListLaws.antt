@@ -21,7 +21,7 @@ use Rattle.cob_tree.specs.PrintStmt as printed
 use Rattle.cob_tree.specs.Takes.{takes_ref, takes_opnd, takes_recv, begins_opnd, takes_opnds, takes_refs, takes_recvs}
 use Rattle.cob_tree.specs.Shaped.{IsNotEmpty}
 use Rattle.reading.specs.Readers.{Fault, ◌>>=◌, Reader, lead, follow, branch, maybe, plus}
-use Rattle.reading.specs.Printing.{Matches, begins, on_mark, peek_on}
+use Rattle.reading.specs.Printing.{Alphabet, Matches, begins, on_mark, peek_on}
 use Rattle.reading.specs.Law.{Syntax, Law}
 use Rattle.reading.proofs.Texts.{Always, takes_nothing, or_false}
 use Rattle.reading.proofs.Consequences.{some_tree}
@@ -102,8 +102,8 @@ listed_view {A} set s b print takes good good_back = record { back = λ xs g. re
     some_takes (x ∷ xs) p g = takes x xs p
 
 -- with the same trees, and the same reader
-pub same_trees : {A : Type 0} {r : Reader Sign A} {a b : Syntax Item Cue A} {top : ℕ} → Law grammar r a top → View a b (λ x. x) (λ x. x) → Law grammar r b top
-same_trees {A} {r} {a} {b} {top} L V = law_along (λ ts. same (r ts)) (seen_law L V)
+pub same_trees : {G : Alphabet Sign Item Cue} {A : Type 0} {r : Reader Sign A} {a b : Syntax Item Cue A} {top : ℕ} → Law G r a top → View a b (λ x. x) (λ x. x) → Law G r b top
+same_trees {G} {A} {r} {a} {b} {top} L V = law_along (λ ts. same (r ts)) (seen_law L V)
   where
     same : (x : Result (A × List Sign) Fault) → x ≡ (x >>= λ y. Ok (y.0, y.1))
     same (Ok y) = refl
@@ -202,7 +202,7 @@ mode_told = told Modes mode_key same refl refl refl refl refl refl refl refl ref
     same key.Input = refl
     same _ = refl
 
-abbrev tag_if : Bool → Option (Unit {0})
+abbrev pub tag_if : Bool → Option (Unit {0})
 tag_if true = Some tt
 tag_if false = None
 

@@ -51,7 +51,7 @@ abbrev pub arithmetic_syntax : Start → ℕ → Syntax Item Cue Arithmetic
 arithmetic_syntax s d = record { Good = λ a. GoodArithmetic a × (arithmetic_start a ≡ s); print = print_arithmetic d; takes = takes_arithmetic }
 
 -- no other words begin them
-abbrev IsSum : Start → Type 0
+abbrev pub IsSum : Start → Type 0
 IsSum start.Add = Unit {0}
 IsSum start.Subtract = Unit {0}
 IsSum start.Multiply = Unit {0}
@@ -159,7 +159,7 @@ subtract_view d = record { back = back; print = print; takes = takes; good = goo
 
 -- ---- MULTIPLY
 
-abbrev some_opnd : Opnd
+abbrev pub some_opnd : Opnd
 some_opnd = opnd.Const const.Zero
 
 abbrev multiply_raw : ℕ → Syntax Item Cue (Opnd × (Unit {0} × Target (List Recv)))
