@@ -1,5 +1,5 @@
 -- With more room the answer of reading a condition is the same, unless there was too little.
-use Rattle.std.proofs.Common.{◌≡◌, ℕ, zero, suc, ◌+◌, ◌&&◌, length, sym, subst, zero-add, arith}
+use Rattle.std.proofs.Common.{◌≡◌, ℕ, zero, suc, ◌+◌, ◌&&◌, length, refl, sym, subst, zero-add, arith}
 use Rattle.cob_tree.specs.Symbols.{Sign}
 use Rattle.cob_tree.specs.Cues.{is, Scales, Signs, Ands, Ors}
 use Rattle.cob_tree.specs.Expr.{Expr, Term, Fact}

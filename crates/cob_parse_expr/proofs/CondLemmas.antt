@@ -166,8 +166,8 @@ module _ (paren : Reader Sign Cond) (inner : Reader Sign Expr) where
   pub conj_is : (ts u v : List Sign) (n : Neg) (ns : List Neg) (c : Conj) → neg_with paren inner ts ≡ Ok (n, u) → negs_with paren inner u ≡ Ok (map behind_word ns, v) → c ≡ MkConj n (negs_of ns) → conj_with paren inner ts ≡ Ok (c, v)
   conj_is ts u v n ns c e e' made = rw (e, e') (ap (λ (z : Conj). done (z, v)) (ap (λ (z : List Neg). MkConj n (negs_of z)) (bare ns) ∙ sym made))
 
-  pub cond_is : (ts u v : List Sign) (c : Conj) (cs : List Conj) (whole : Cond) → conj_with paren inner ts ≡ Ok (c, u) → conjs_with paren inner u ≡ Ok (map behind_word cs, v) → whole ≡ MkCond c (conjs_of cs) → cond_with paren inner ts ≡ Ok (whole, v)
-  cond_is ts u v c cs whole e e' made = rw (e, e') (ap (λ (z : Cond). done (z, v)) (ap (λ (z : List Conj). MkCond c (conjs_of z)) (bare cs) ∙ sym made))
+  pub cond_is : (ts u v : List Sign) (c : Conj) (cs : List Conj) (read : Cond) → conj_with paren inner ts ≡ Ok (c, u) → conjs_with paren inner u ≡ Ok (map behind_word cs, v) → read ≡ MkCond c (conjs_of cs) → cond_with paren inner ts ≡ Ok (read, v)
+  cond_is ts u v c cs read e e' made = rw (e, e') (ap (λ (z : Cond). done (z, v)) (ap (λ (z : List Conj). MkCond c (conjs_of z)) (bare cs) ∙ sym made))
 
 -- ---- whether the last takes NOT
 

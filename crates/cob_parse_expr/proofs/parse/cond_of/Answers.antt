@@ -15,10 +15,10 @@ pub returns-in-Ok-clause-read : goal.returns-in-Ok-clause-read
 returns-in-Ok-clause-read c = parse_read (cond_syntax c.args.depth) cond_at c.args.depth c.requires.shallow (λ room top e. law_of_conditions room c.args.depth top e) cond_wider
     c.args.tokens.now c.args.at.now c.requires.inside c.in_ok-lexemes.lexemes.items c.as_slice.result.now c.as_slice.ensures.value c.in_ok-lexemes.ensures (plain_cond c.in-Ok.cond) c.in-Ok.rest.now c.in-Ok.ensures.gives
 
-pub returns-in-Err-clause-syntax : goal.returns-in-Err-clause-syntax
-returns-in-Err-clause-syntax c = λ line e. parse_wrong (cond_syntax c.args.depth) cond_at c.args.depth c.requires.shallow (λ room top e. law_of_conditions room c.args.depth top e) cond_wider
+pub returns-clause-syntax : goal.returns-clause-syntax
+returns-clause-syntax c = λ line e. parse_wrong (cond_syntax c.args.depth) cond_at c.args.depth c.requires.shallow (λ room top e. law_of_conditions room c.args.depth top e) cond_wider
     c.args.tokens.now c.args.at.now c.requires.inside c.in_ok-lexemes.lexemes.items c.as_slice.result.now c.as_slice.ensures.value c.in_ok-lexemes.ensures c.in-Err.halt line c.in-Err.ensures.gives (sym c.end_at.ensures ∙ cc)
 
-pub returns-in-Err-clause-deep : goal.returns-in-Err-clause-deep
-returns-in-Err-clause-deep c = λ count e. parse_deep (cond_syntax c.args.depth) cond_at c.args.depth c.requires.shallow (λ room top e. law_of_conditions room c.args.depth top e) cond_wider
+pub returns-clause-deep : goal.returns-clause-deep
+returns-clause-deep c = λ count e. parse_deep (cond_syntax c.args.depth) cond_at c.args.depth c.requires.shallow (λ room top e. law_of_conditions room c.args.depth top e) cond_wider
     c.args.tokens.now c.args.at.now c.requires.inside c.in_ok-lexemes.lexemes.items c.as_slice.result.now c.as_slice.ensures.value c.in_ok-lexemes.ensures c.in-Err.halt count c.in-Err.ensures.gives (sym c.end_at.ensures ∙ cc)
