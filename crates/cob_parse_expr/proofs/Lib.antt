@@ -8,9 +8,6 @@ pub mod StepLemmas
 pub mod Outcomes
 pub mod ExprAgree
 pub mod CondAgree
-pub mod Agree
-pub mod Outcomes
-pub mod ExprAgree
 pub mod ParseLemmas
 pub mod GuardLaws
 pub mod TestLaws
@@ -20,22 +17,3 @@ pub mod OneAnswer
 pub mod Levels
 pub mod CondLemmas
 pub mod AloneLemmas
-mod CueLemmas
-mod ClassLaws
-mod Generic
-mod OperandLaws
-mod ExprLaws
-mod Loop
-mod StepLemmas
-mod Outcomes
-mod ExprAgree
-mod CondAgree
-mod ParseLemmas
-mod GuardLaws
-mod TestLaws
-mod CondLaws
-mod ParenLaws
-mod OneAnswer
-mod Levels
-mod CondLemmas
-mod AloneLemmas
