@@ -5,9 +5,9 @@ pub mod OperandLaws
 pub mod ExprLaws
 pub mod Loop
 pub mod StepLemmas
-pub mod Agree
 pub mod Outcomes
 pub mod ExprAgree
+pub mod CondAgree
 pub mod ParseLemmas
 pub mod GuardLaws
 pub mod TestLaws
@@ -15,22 +15,5 @@ pub mod CondLaws
 pub mod ParenLaws
 pub mod OneAnswer
 pub mod Levels
-mod CueLemmas
-mod ClassLaws
-mod Generic
-mod OperandLaws
-mod ExprLaws
-mod Loop
-mod StepLemmas
-mod Outcomes
-mod ExprAgree
-mod CondAgree
-mod ParseLemmas
-mod GuardLaws
-mod TestLaws
-mod CondLaws
-mod ParenLaws
-mod OneAnswer
-mod Levels
-mod CondLemmas
-mod AloneLemmas
+pub mod CondLemmas
+pub mod AloneLemmas
