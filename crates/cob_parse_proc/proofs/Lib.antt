@@ -6,3 +6,4 @@ mod WhenLaws
 mod CaseLaws
 mod Levels
 mod StmtView
+pub mod StmtAhead

@@ -1,2 +1,4 @@
 pub mod Bare
 pub mod Reading
+pub mod StandIn
+pub mod StmtSteps
