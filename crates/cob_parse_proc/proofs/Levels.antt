@@ -7,7 +7,9 @@ use Rattle.cob_tree.specs.Symbols.{Symbol, Key, Sign}
 use Rattle.cob_tree.specs.Items.{Item, key}
 use Rattle.cob_tree.specs.Cues.{Cue, is, Size, NotSize, AtEnd, NotAtEnd, Else, EndAdd, EndSubtract, EndMultiply, EndDivide, EndCompute, EndIf, EndEvaluate, EndRead}
 use Rattle.cob_tree.specs.Cues as cue
-use Rattle.cob_tree.specs.Stmt.{Stmt, MkStmt, continue, Stmts, no_stmts, more_stmts, When, MkWhen}
+use Rattle.cob_tree.specs.declared.stmt.Subject.{Subject}
+use Rattle.cob_tree.specs.Cond.{Cond}
+use Rattle.cob_tree.specs.Stmt.{Loop, Stmt, MkStmt, continue, Stmts, no_stmts, more_stmts, When, MkWhen}
 use Rattle.cob_tree.specs.PrintStmt.{print_stmts}
 use Rattle.cob_tree.specs.Shaped.{ShapedStmts}
 use Rattle.reading.specs.Readers.{Reader, nothing, lead, seen, behind, optional, stands}
@@ -178,6 +180,45 @@ abbrev pub whens_parts : Inside → When × List Case
 whens_parts (whens_inside w cs) = (w, cs)
 whens_parts _ = (some_when, [])
 
+pub if_view : (d : ℕ) (c : Cond) → View (stmts_syntax d) (inside_syntax d (if_head c)) list_inside stmts_in
+if_view d c = record { back = back; print = λ x g. refl; takes = λ x p g. refl; good = λ x g. g; good_back = good_back }
+  where
+    back : (y : Inside) → inside_good d (if_head c) y → list_inside (stmts_in y) ≡ y
+    back (list_inside ss) g = refl
+    back no_inside g = absurd g
+    back (whens_inside w cs) g = absurd g
+
+    good_back : (y : Inside) → inside_good d (if_head c) y → ShapedStmts (stmts_in y)
+    good_back (list_inside ss) g = g
+    good_back no_inside g = absurd g
+    good_back (whens_inside w cs) g = absurd g
+
+pub perform_view : (d : ℕ) (turns : Option Loop) → View (stmts_syntax d) (inside_syntax d (perform_head turns)) list_inside stmts_in
+perform_view d turns = record { back = back; print = λ x g. refl; takes = λ x p g. refl; good = λ x g. g; good_back = good_back }
+  where
+    back : (y : Inside) → inside_good d (perform_head turns) y → list_inside (stmts_in y) ≡ y
+    back (list_inside ss) g = refl
+    back no_inside g = absurd g
+    back (whens_inside w cs) g = absurd g
+
+    good_back : (y : Inside) → inside_good d (perform_head turns) y → ShapedStmts (stmts_in y)
+    good_back (list_inside ss) g = g
+    good_back no_inside g = absurd g
+    good_back (whens_inside w cs) g = absurd g
+
+pub evaluate_view : (d : ℕ) (s : Subject) → View (whens_syntax d) (inside_syntax d (evaluate_head s)) make_whens whens_parts
+evaluate_view d s = record { back = back; print = λ x g. refl; takes = λ x p g. refl; good = λ x g. g; good_back = good_back }
+  where
+    back : (y : Inside) → inside_good d (evaluate_head s) y → make_whens (whens_parts y) ≡ y
+    back (whens_inside w cs) g = refl
+    back no_inside g = absurd g
+    back (list_inside ss) g = absurd g
+
+    good_back : (y : Inside) → inside_good d (evaluate_head s) y → (whens_syntax d).Good (whens_parts y)
+    good_back (whens_inside w cs) g = g
+    good_back no_inside g = absurd g
+    good_back (list_inside ss) g = absurd g
+
 whens_told : (t : Sign) (y z : List Sign) → here cue.Whens (t ∷ y) ≡ here cue.Whens (t ∷ z)
 whens_told = one_decides procedure (is cue.Whens) (not_taken (is cue.Whens) refl refl refl refl)
 
@@ -186,7 +227,7 @@ whens_begin d = begins_first procedure (is cue.Whens) (when_syntax d) (λ w. cas
 
 -- ---- phrases, wherever they stand
 
-phrase_tail : {B : Type 0} {R : Reader Sign B} {s : Syntax Item Cue B} {top : ℕ} {cut : List Sign → Option (List Sign)} (c : Cue) (its : List Item) → Opening procedure (is c) its cut → Below procedure top its → Law procedure R s top → Tail procedure (is c) is_some (optional cut R) (optional_syntax (is c) its s) top
+pub phrase_tail : {B : Type 0} {R : Reader Sign B} {s : Syntax Item Cue B} {top : ℕ} {cut : List Sign → Option (List Sign)} (c : Cue) (its : List Item) → Opening procedure (is c) its cut → Below procedure top its → Law procedure R s top → Tail procedure (is c) is_some (optional cut R) (optional_syntax (is c) its s) top
 phrase_tail {B} {R} {s} {top} c its O low L = optional_tail (opener_of O R s top low) (λ ts rest e. L)
 
 own_phrase : {B : Type 0} (c : Cue) (its : List Item) (s : Syntax Item Cue B) (y : Option B) (p : Cue) → is_some y ≡ false → (optional_syntax (is c) its s).takes y p ≡ true → is c p ≡ true
@@ -204,7 +245,7 @@ led_grows d top ks GI ss t p good below e s =
     let g = GI ss t p good (below_right procedure top (behind_words d ks) (print_stmts d ss) below) e s in
     record { tree = g.tree; good = g.good; item = g.item; more = g.more; text = ap (λ (z : List Item). behind_words d ks ++ z) g.text ∙ sym (append_assoc (behind_words d ks) (print_stmts d ss) (g.item ∷ g.more)); fits = g.fits; low = g.low }
 
-abbrev some_list : Stmts
+abbrev pub some_list : Stmts
 some_list = more_stmts (MkStmt 0 continue) no_stmts
 
 -- what begins with NOT
@@ -259,7 +300,7 @@ module _ (K : Known) (d top room : ℕ) (low : d < top) (inner : Reader Sign Stm
   abbrev inside_part_of : Begin × Head → Style Cue → Type 0
   inside_part_of x st = Part procedure top (head_syntax d) (λ y. inside_with inner room y.1) (λ y. inside_syntax d y.1) never_given x st
 
-  inside_part : (x : Begin × Head) → GoodStarted x → inside_part_of x (inside_style x.1)
+  pub inside_part : (x : Begin × Head) → GoodStarted x → inside_part_of x (inside_style x.1)
   inside_part (b, done v) good = record { value = no_inside; reads = λ ts. refl; good = tt; only = only_none; bare = refl; free = λ p. refl }
     where
       only_none : (y : Inside) → inside_good d (done v) y → y ≡ no_inside
@@ -283,7 +324,7 @@ module _ (K : Known) (d top room : ℕ) (low : d < top) (inner : Reader Sign Stm
     test = here cue.Starts;
     goes = may_go (takes_behind (if_head c));
     reads = λ ts. refl;
-    law = seen_law LI (record { back = back; print = λ x g. refl; takes = λ x p g. refl; good = λ x g. g; good_back = good_back });
+    law = seen_law LI (if_view d c);
     all = all;
     one = start_told;
     ends = λ ts there. heads_end.ends (b, if_head c) ts good there;
@@ -291,16 +332,6 @@ module _ (K : Known) (d top room : ℕ) (low : d < top) (inner : Reader Sign Stm
     steady = λ t goes. heads_end.steady (b, if_head c) t good goes;
   }
     where
-      back : (y : Inside) → inside_good d (if_head c) y → list_inside (stmts_in y) ≡ y
-      back (list_inside ss) g = refl
-      back no_inside g = absurd g
-      back (whens_inside w cs) g = absurd g
-
-      good_back : (y : Inside) → inside_good d (if_head c) y → ShapedStmts (stmts_in y)
-      good_back (list_inside ss) g = g
-      good_back no_inside g = absurd g
-      good_back (whens_inside w cs) g = absurd g
-
       all : (y : Inside) (text rest : List Sign) → inside_good d (if_head c) y → Matches procedure (inside_print d y) text → here cue.Starts (text ++ rest) ≡ true
       all (list_inside ss) text rest g spells = stmts_begin d ss text rest g spells
       all no_inside text rest g spells = absurd g
@@ -310,7 +341,7 @@ module _ (K : Known) (d top room : ℕ) (low : d < top) (inner : Reader Sign Stm
     test = here cue.Starts;
     goes = may_go (takes_behind (perform_head turns));
     reads = λ ts. refl;
-    law = seen_law LI (record { back = back; print = λ x g. refl; takes = λ x p g. refl; good = λ x g. g; good_back = good_back });
+    law = seen_law LI (perform_view d turns);
     all = all;
     one = start_told;
     ends = λ ts there. heads_end.ends (b, perform_head turns) ts good there;
@@ -318,16 +349,6 @@ module _ (K : Known) (d top room : ℕ) (low : d < top) (inner : Reader Sign Stm
     steady = λ t goes. heads_end.steady (b, perform_head turns) t good goes;
   }
     where
-      back : (y : Inside) → inside_good d (perform_head turns) y → list_inside (stmts_in y) ≡ y
-      back (list_inside ss) g = refl
-      back no_inside g = absurd g
-      back (whens_inside w cs) g = absurd g
-
-      good_back : (y : Inside) → inside_good d (perform_head turns) y → ShapedStmts (stmts_in y)
-      good_back (list_inside ss) g = g
-      good_back no_inside g = absurd g
-      good_back (whens_inside w cs) g = absurd g
-
       all : (y : Inside) (text rest : List Sign) → inside_good d (perform_head turns) y → Matches procedure (inside_print d y) text → here cue.Starts (text ++ rest) ≡ true
       all (list_inside ss) text rest g spells = stmts_begin d ss text rest g spells
       all no_inside text rest g spells = absurd g
@@ -337,7 +358,7 @@ module _ (K : Known) (d top room : ℕ) (low : d < top) (inner : Reader Sign Stm
     test = here cue.Whens;
     goes = may_go (takes_behind (evaluate_head s));
     reads = λ ts. refl;
-    law = seen_law (whens_law K d top room low inner LI LC) (record { back = back; print = λ x g. refl; takes = λ x p g. refl; good = λ x g. g; good_back = good_back });
+    law = seen_law (whens_law K d top room low inner LI LC) (evaluate_view d s);
     all = all;
     one = whens_told;
     ends = λ ts there. free_next cue.Whens (takes_behind (evaluate_head s)) (K.head_never (b, evaluate_head s) cue.Whens good refl) ts there;
@@ -345,16 +366,6 @@ module _ (K : Known) (d top room : ℕ) (low : d < top) (inner : Reader Sign Stm
     steady = λ t goes. heads_end.steady (b, evaluate_head s) t good goes;
   }
     where
-      back : (y : Inside) → inside_good d (evaluate_head s) y → make_whens (whens_parts y) ≡ y
-      back (whens_inside w cs) g = refl
-      back no_inside g = absurd g
-      back (list_inside ss) g = absurd g
-
-      good_back : (y : Inside) → inside_good d (evaluate_head s) y → (whens_syntax d).Good (whens_parts y)
-      good_back (whens_inside w cs) g = g
-      good_back no_inside g = absurd g
-      good_back (list_inside ss) g = absurd g
-
       all : (y : Inside) (text rest : List Sign) → inside_good d (evaluate_head s) y → Matches procedure (inside_print d y) text → here cue.Whens (text ++ rest) ≡ true
       all (whens_inside w cs) text rest g spells = whens_begin d (w, cs) text rest g spells
       all no_inside text rest g spells = absurd g
@@ -379,10 +390,10 @@ module _ (K : Known) (d top room : ℕ) (low : d < top) (inner : Reader Sign Stm
 
   -- ---- the first phrase
 
-  error_law : Law procedure (error_with inner) (led_syntax d error_words) top
+  pub error_law : Law procedure (error_with inner) (led_syntax d error_words) top
   error_law = led_law d top low inner [] word.Error LI
 
-  first_part : (x : Begun) → (begun_syntax d).Good x → Part procedure top (begun_syntax d) (λ y. first_with inner y.0.1) (λ y. first_syntax d y.0.1) is_some x (first_style x.0.1)
+  pub first_part : (x : Begun) → (begun_syntax d).Good x → Part procedure top (begun_syntax d) (λ y. first_with inner y.0.1) (λ y. first_syntax d y.0.1) is_some x (first_style x.0.1)
   first_part ((b, done v), i) good = record { value = None; reads = λ ts. refl; good = refl; only = λ y g. g; bare = refl; free = λ p. refl }
   first_part ((b, evaluate_head s), i) good = record { value = None; reads = λ ts. refl; good = refl; only = λ y g. g; bare = refl; free = λ p. refl }
   first_part ((b, perform_head turns), i) good = record { value = None; reads = λ ts. refl; good = refl; only = λ y g. g; bare = refl; free = λ p. refl }
@@ -390,7 +401,7 @@ module _ (K : Known) (d top room : ℕ) (low : d < top) (inner : Reader Sign Stm
   first_part ((b, if_head c), i) good = record { set = is Else; tail = phrase_tail Else (key d word.Else ∷ []) (else_opening d) (low, tt) LI; alike = λ p e. ap ((begun_syntax d).takes ((b, if_head c), i)) (only Else p e); own = own_phrase Else (key d word.Else ∷ []) (stmts_syntax d) }
   first_part ((b, read_head file into), i) good = record { set = is AtEnd; tail = phrase_tail AtEnd (key d word.End ∷ []) (end_opening d) (low, tt) LI; alike = λ p e. ap ((begun_syntax d).takes ((b, read_head file into), i)) (only AtEnd p e); own = own_phrase AtEnd (key d word.End ∷ []) (stmts_syntax d) }
 
-  one_law : Law procedure (one_phrase inner room) (one_syntax d) top
+  pub one_law : Law procedure (one_phrase inner room) (one_syntax d) top
   one_law = mixed_law procedure top (begun_syntax d) (λ x. first_with inner x.0.1) (λ x. first_syntax d x.0.1) is_some (λ x. first_style x.0.1) first_part begun_law
 
   first_grows : (h : Head) → Grows procedure (first_syntax d h) top
@@ -406,7 +417,7 @@ module _ (K : Known) (d top room : ℕ) (low : d < top) (inner : Reader Sign Stm
 
   -- ---- the second phrase
 
-  second_part : (x : Begun × Option Stmts) → (one_syntax d).Good x → Part procedure top (one_syntax d) (λ y. second_with inner y.0.0.1) (λ y. second_syntax d y.0.0.1) is_some x (second_style x.0.0.1)
+  pub second_part : (x : Begun × Option Stmts) → (one_syntax d).Good x → Part procedure top (one_syntax d) (λ y. second_with inner y.0.0.1) (λ y. second_syntax d y.0.0.1) is_some x (second_style x.0.0.1)
   second_part (((b, done v), i), o) good = record { value = None; reads = λ ts. refl; good = refl; only = λ y g. g; bare = refl; free = λ p. refl }
   second_part (((b, if_head c), i), o) good = record { value = None; reads = λ ts. refl; good = refl; only = λ y g. g; bare = refl; free = λ p. refl }
   second_part (((b, evaluate_head s), i), o) good = record { value = None; reads = λ ts. refl; good = refl; only = λ y g. g; bare = refl; free = λ p. refl }
@@ -414,7 +425,7 @@ module _ (K : Known) (d top room : ℕ) (low : d < top) (inner : Reader Sign Stm
   second_part (((b, arithmetic a), i), o) good = record { set = is NotSize; tail = phrase_tail NotSize (key d word.Not ∷ key d word.Size ∷ []) (not_size_opening d) (low, (low, tt)) error_law; alike = λ p e. ap ((one_syntax d).takes (((b, arithmetic a), i), o)) (only NotSize p e); own = own_phrase NotSize (key d word.Not ∷ key d word.Size ∷ []) (led_syntax d error_words) }
   second_part (((b, read_head file into), i), o) good = record { set = is NotAtEnd; tail = phrase_tail NotAtEnd (key d word.Not ∷ key d word.End ∷ []) (not_end_opening d) (low, (low, tt)) LI; alike = λ p e. ap ((one_syntax d).takes (((b, read_head file into), i), o)) (only NotAtEnd p e); own = own_phrase NotAtEnd (key d word.Not ∷ key d word.End ∷ []) (stmts_syntax d) }
 
-  two_law : Law procedure (two_phrases inner room) (two_syntax d) top
+  pub two_law : Law procedure (two_phrases inner room) (two_syntax d) top
   two_law = mixed_law procedure top (one_syntax d) (λ x. second_with inner x.0.0.1) (λ x. second_syntax d x.0.0.1) is_some (λ x. second_style x.0.0.1) second_part one_law
 
   second_grows : (h : Head) → Grows procedure (second_syntax d h) top
@@ -433,10 +444,10 @@ module _ (K : Known) (d top room : ℕ) (low : d < top) (inner : Reader Sign Stm
   two_end : Ends procedure (two_syntax d) top (λ x. may_go ((two_syntax d).takes x)) (stands (one_word word.EndPerform))
   two_end = ends_by nots not_seconds two_grows (λ x ts good there. perform_free ((two_syntax d).takes x) ts there)
 
-  ended_tail : (c : Cue) (k : Keyword) → Opening procedure (is c) (key d k ∷ []) (behind (one_word k)) → Tail procedure (is c) is_some (ended_with k) (ended_syntax d c k) top
+  pub ended_tail : (c : Cue) (k : Keyword) → Opening procedure (is c) (key d k ∷ []) (behind (one_word k)) → Tail procedure (is c) is_some (ended_with k) (ended_syntax d c k) top
   ended_tail c k O = phrase_tail c (key d k ∷ []) O (low, tt) (nothing_law procedure top)
 
-  closed_word : Law procedure (seen given_word (lead (one_word word.EndPerform))) (closed_syntax d) top
+  pub closed_word : Law procedure (seen given_word (lead (one_word word.EndPerform))) (closed_syntax d) top
   closed_word = seen_law (lead_law (one_key d word.EndPerform) top (λ x a. low) tt tt) view
     where
       to_unit : Option (Unit {0}) → Unit {0}
@@ -445,7 +456,7 @@ module _ (K : Known) (d top room : ℕ) (low : d < top) (inner : Reader Sign Stm
       view : View (lead_syntax Always (λ (x : Unit {0}). key d word.EndPerform)) (closed_syntax d) given_word to_unit
       view = record { back = λ y good. sym good; print = λ x good. refl; takes = λ x p good. refl; good = λ x good. refl; good_back = λ y good. tt }
 
-  end_part : (x : (Begun × Option Stmts) × Option Stmts) → (two_syntax d).Good x → Part procedure top (two_syntax d) (λ y. end_with y.0.0.0.1 y.0.0.1) (λ y. end_syntax d y.0.0.0.1) is_some x (end_style x.0.0.0.1)
+  pub end_part : (x : (Begun × Option Stmts) × Option Stmts) → (two_syntax d).Good x → Part procedure top (two_syntax d) (λ y. end_with y.0.0.0.1 y.0.0.1) (λ y. end_syntax d y.0.0.0.1) is_some x (end_style x.0.0.0.1)
   end_part ((((b, done v), i), o), u) good = record { value = None; reads = λ ts. refl; good = refl; only = λ y g. g; bare = refl; free = λ p. refl }
   end_part ((((b, arithmetic a), i), o), u) good = record { set = is (end_cue a); tail = ended_tail (end_cue a) (end_word a) (ends_opening a d); alike = λ p e. ap ((two_syntax d).takes ((((b, arithmetic a), i), o), u)) (only (end_cue a) p e); own = own_phrase (end_cue a) (key d (end_word a) ∷ []) nothing_syntax }
   end_part ((((b, if_head c), i), o), u) good = record { set = is EndIf; tail = ended_tail EndIf word.EndIf (end_if_opening d); alike = λ p e. ap ((two_syntax d).takes ((((b, if_head c), i), o), u)) (only EndIf p e); own = own_phrase EndIf (key d word.EndIf ∷ []) nothing_syntax }

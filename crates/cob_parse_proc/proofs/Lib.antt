@@ -7,3 +7,6 @@ mod CaseLaws
 mod Levels
 mod StmtView
 pub mod StmtAhead
+mod Never
+mod StmtAgree
+mod StmtLaws

@@ -334,7 +334,7 @@ abbrev end_takes : Option (Unit {0}) → Bool → Bool
 end_takes None own = own
 end_takes (Some x) own = false
 
-or_more : (q b x y : Bool) → or_of q b (x || y) ≡ (or_of q b x || y)
+pub or_more : (q b x y : Bool) → or_of q b (x || y) ≡ (or_of q b x || y)
 or_more true true x y = refl
 or_more true false x y = refl
 or_more false b x y = refl

@@ -1,10 +1,10 @@
-mod WordLaws
-mod WordNext
+pub mod WordLaws
+pub mod WordNext
 pub mod Across
-mod ListLaws
-mod TargetLaws
-mod SumLaws
-mod LoopLaws
-mod PerformLaws
+pub mod ListLaws
+pub mod TargetLaws
+pub mod SumLaws
+pub mod LoopLaws
+pub mod PerformLaws
 pub mod SelLaws
 pub mod HeadLaws
