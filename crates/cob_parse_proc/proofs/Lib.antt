@@ -7,6 +7,7 @@ mod CaseLaws
 mod Levels
 mod StmtView
 pub mod StmtAhead
+pub mod NotLemmas
 mod Never
 mod StmtAgree
 mod StmtLaws

@@ -14,11 +14,11 @@ use Rattle.cob_tree.specs.Stmt.{Loop, Stmt, MkStmt, Verb, if_, evaluate, perform
 use Rattle.cob_tree.specs.Stmt as stmt
 use Rattle.cob_tree.specs.StmtView.{plain_stmt}
 use Rattle.cob_tree.specs.Takes.{takes_stmts, takes_verb}
-use Rattle.reading.specs.Readers.{Fault, Stop, Reader, ◌>>=◌, lead, seen, optional_on, behind, both_behind, left_on}
+use Rattle.reading.specs.Readers.{Fault, Stop, Reader, ◌>>=◌, lead, seen, behind, optional, both_behind, left_on, full}
 use Rattle.reading.specs.Printing.{any_of}
 use Rattle.cob_parse_verb.specs.Procedure.{procedure}
 use Rattle.cob_parse_verb.specs.Heads.{Arithmetic, Head, done, arithmetic, if_head, evaluate_head, perform_head, read_head, with_tail, end_word}
-use Rattle.cob_parse_proc.specs.Reading.{here, one_word, nots, Case, whens_with, whens_in, other_in}
+use Rattle.cob_parse_proc.specs.Reading.{here, one_word, nots, Case, whens_with, whens_in, other_in, error_with}
 
 -- ---- what contracts see of lists
 
@@ -52,6 +52,10 @@ left_at takes [] = 0
 left_at takes (t ∷ ts) = left_on (is_some (one_word word.Not t) && takes) ts
 
 -- ---- parts of statements
+
+-- where no more statements may open
+abbrev pub full_at : Reader Sign Stmts
+full_at = full (here Starts)
 
 -- a list that has to stand
 abbrev pub list_on : Bool → Reader Sign Stmts → Bool → Reader Sign Stmts
@@ -94,8 +98,8 @@ chosen_on false whens ts = Err (Stop (length ts))
 module _ (inner : Reader Sign Stmts) where
   abbrev pub tail_at : Keyword → Reader Sign Tail
   tail_at end ts =
-      behind_error (behind (one_word word.Size) ts) >>= λ cut. optional_on cut inner ts
-      >>= λ a. behind_error (both_behind (one_word word.Not) (one_word word.Size) a.1) >>= λ cut. optional_on cut inner a.1
+      optional (behind (one_word word.Size)) (error_with inner) ts
+      >>= λ a. optional (both_behind (one_word word.Not) (one_word word.Size)) (error_with inner) a.1
       >>= λ b. Ok (MkTail (phrase_of a.0) (phrase_of b.0) (end_at end b.1).0, (end_at end b.1).1)
 
   abbrev pub arithmetic_at : Arithmetic → Reader Sign Verb
@@ -103,7 +107,7 @@ module _ (inner : Reader Sign Stmts) where
 
   abbrev pub if_at : Cond → Bool → Reader Sign Verb
   if_at test takes ts =
-      list_at inner takes ts >>= λ a. optional_on (behind (one_word word.Else) a.1) inner a.1
+      list_at inner takes ts >>= λ a. optional (behind (one_word word.Else)) inner a.1
       >>= λ b. Ok (if_ test a.0 (phrase_of b.0) (end_at word.EndIf b.1).0, (end_at word.EndIf b.1).1)
 
   abbrev pub chosen_at : ℕ → Reader Sign (stmt.Whens × Phrase)
@@ -119,8 +123,8 @@ module _ (inner : Reader Sign Stmts) where
 
   abbrev pub read_at : List ℕ → Option Ref → Reader Sign Verb
   read_at file into ts =
-      optional_on (behind (one_word word.End) ts) inner ts
-      >>= λ a. optional_on (both_behind (one_word word.Not) (one_word word.End) a.1) inner a.1
+      optional (behind (one_word word.End)) inner ts
+      >>= λ a. optional (both_behind (one_word word.Not) (one_word word.End)) inner a.1
       >>= λ b. Ok (read file into (phrase_of a.0) (phrase_of b.0) (end_at word.EndRead b.1).0, (end_at word.EndRead b.1).1)
 
   -- behind a head, which may go on with NOT or may not

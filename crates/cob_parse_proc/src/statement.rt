@@ -43,15 +43,15 @@ fn list_in(
 
 // Statements behind words that open them, where these words stand.
 #[cycle(stmt)]
-fn phrase_in(
+fn phrase_in<'a>(
     alloc: Global,
-    opened: Option<&[Lexeme]>,
+    opened: Option<&'a [Lexeme]>,
     takes_not: bool,
-    lexemes: &[Lexeme],
+    lexemes: &'a [Lexeme],
     room: u32,
-) -> Result<(Option<Vec<Stmt>>, bool, &[Lexeme]), Halt>
+) -> Result<(Option<Vec<Stmt>>, bool, &'a [Lexeme]), Halt>
     requires { IfSome opened (λ rest. length rest.now < length lexemes.now) }
-    ensures gives { Gives (λ x. (option_map plain_list x.0, signs x.2.now)) result (optional_on (option_map (λ rest. signs rest.now) opened) (stmts_at room) (signs lexemes.now)) }
+    ensures gives { Gives (λ x. (option_map plain_list x.0, signs x.2.now)) result (optional_on (option_map (λ rest. signs rest.now) opened.entry) (stmts_at room) (signs lexemes.now)) }
     ensures takes { IfOk result (λ x. x.1 ≡ phrase_may (plain_phrase x.0) takes_not) }
     ensures rest { IfOk result (λ x. length x.2.now ≤ length lexemes.now) }
 {

@@ -2,14 +2,14 @@ ghost use Rattle.std.specs.Prelude.{◌≡◌, ◌≤◌, ◌<◌, ◌+◌, ◌�
 ghost use Rattle.std.specs.Option.{option_map};
 ghost use Rattle.cob_tree.specs.declared.keyword.Keyword.TheVariants as key;
 ghost use Rattle.cob_tree.specs.Cues.{Starts, Whens};
-ghost use Rattle.reading.specs.Readers.{lead, behind, both_behind, full};
+ghost use Rattle.reading.specs.Readers.{lead, behind, both_behind};
 ghost use Rattle.cob_parse_expr.specs.Classes.{word_symbol};
 ghost use Rattle.cob_parse_expr.specs.Lexemes.{plain_symbol, plain_lexeme};
 ghost use Rattle.cob_parse_expr.specs.Steps.{signs, Fails, Gives};
 ghost use Rattle.cob_parse_data.specs.Tokens.{same_key, the, is};
 ghost use Rattle.cob_parse_verb.specs.Words.{start_key};
 ghost use Rattle.cob_parse_proc.specs.Reading.{here, one_word};
-ghost use Rattle.cob_parse_proc.specs.StmtSteps.{left_at, behind_error, end_at};
+ghost use Rattle.cob_parse_proc.specs.StmtSteps.{full_at, left_at, behind_error, end_at};
 
 use cob_parse_expr::{Halt, Lexeme, Symbol};
 use cob_tree::Keyword;
@@ -105,8 +105,14 @@ pub fn expect(keyword: Keyword, lexemes: &[Lexeme]) -> Result<&[Lexeme], Halt>
     ensures rest { IfOk result (λ rest. length rest.now < length lexemes.now) }
 {
     match next(lexemes) {
-        Some((lexeme, rest)) if is_word(keyword, &lexeme.symbol) => Ok(rest),
-        _ => Err(Halt::Stop(lexemes.len())),
+        None => Err(Halt::Stop(0)),
+        Some((lexeme, rest)) => {
+            if is_word(keyword, &lexeme.symbol) {
+                Ok(rest)
+            } else {
+                Err(Halt::Stop(lexemes.len()))
+            }
+        }
     }
 }
 
@@ -175,7 +181,7 @@ pub fn left_at(takes_not: bool, lexemes: &[Lexeme]) -> usize
 
 /// Where no more statements may open.
 pub fn full(lexemes: &[Lexeme]) -> Halt
-    ensures { Fails result (full (here Starts) (signs lexemes.now)) }
+    ensures { Fails result (full_at (signs lexemes.now)) }
 {
     if starts(lexemes) {
         Halt::Deep(lexemes.len())
