@@ -8,6 +8,7 @@ mod Levels
 mod StmtView
 pub mod StmtAhead
 pub mod NotLemmas
+pub mod VerbSteps
 mod Never
 mod StmtAgree
 mod StmtLaws

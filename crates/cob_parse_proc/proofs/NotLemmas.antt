@@ -18,7 +18,7 @@ use Rattle.cob_tree.specs.Stmt.{Sel, any, range, choice, Loop, times, until, Stm
 use Rattle.cob_tree.specs.Takes.{takes_opnds, takes_expr, takes_simple, takes_negs, takes_conjs, takes_cond, takes_thru, takes_sel, takes_loop, takes_into, takes_stmts, takes_stmt, takes_phrase, takes_tail, takes_whens, takes_when, takes_verb}
 use Rattle.cob_parse_expr.proofs.ExprLaws.{expr_never}
 use Rattle.cob_parse_expr.proofs.CondLaws.{cond_never}
-use Rattle.cob_parse_verb.specs.Heads.{Arithmetic, add_to, add_giving, subtract_from, subtract_giving, multiply_by, multiply_giving, divide_into, divide_giving, compute, Head, done, if_head, evaluate_head, perform_head, with_tail, verb_start, takes_done, takes_behind}
+use Rattle.cob_parse_verb.specs.Heads.{Arithmetic, add_to, add_giving, subtract_from, subtract_giving, multiply_by, multiply_giving, divide_into, divide_giving, compute, Head, done, if_head, evaluate_head, perform_head, with_tail, verb_start, takes_done, takes_arithmetic, takes_behind}
 use Rattle.cob_parse_verb.specs.Listed.{takes_listed}
 use Rattle.cob_parse_proc.specs.StmtSteps.{may, phrase_may, tail_may}
 
@@ -152,7 +152,7 @@ sel_end any = refl
 sel_end (range low high) = expr_never NotAtEnd refl refl refl high
 sel_end (choice c) = sel_takes c NotAtEnd refl ∙ cond_never NotAtEnd refl refl refl refl refl refl c
 
-abbrev sels_take : List Sel → Cue → Bool
+abbrev pub sels_take : List Sel → Cue → Bool
 sels_take = takes_listed takes_sel (is cue.Whens)
 
 pub choices_may : (xs : List Sel) → may (sels_take xs) ≡ sels_take xs NotRelates
@@ -200,12 +200,12 @@ module _ (before own : Cue → Bool) (relates : own NotRelates ≡ false) (tests
   behind_tail (MkTail p (given os) false) = rw (relates, tests, size, end) (may_more (takes_stmts os))
 
 pub arithmetic_may : (a : Arithmetic) (t : Tail) → may (takes_verb (with_tail a t)) ≡ tail_may t
-arithmetic_may (add_to os rs) t = behind_tail _ (is EndAdd) refl refl refl refl t
-arithmetic_may (add_giving os o rs) t = behind_tail _ (is EndAdd) refl refl refl refl t
-arithmetic_may (subtract_from os rs) t = behind_tail _ (is EndSubtract) refl refl refl refl t
-arithmetic_may (subtract_giving os o rs) t = behind_tail _ (is EndSubtract) refl refl refl refl t
-arithmetic_may (multiply_by o rs) t = behind_tail _ (is EndMultiply) refl refl refl refl t
-arithmetic_may (multiply_giving o p rs) t = behind_tail _ (is EndMultiply) refl refl refl refl t
-arithmetic_may (divide_into o rs) t = behind_tail _ (is EndDivide) refl refl refl refl t
-arithmetic_may (divide_giving o way p rs r) t = behind_tail _ (is EndDivide) refl refl refl refl t
-arithmetic_may (compute rs e) t = behind_tail _ (is EndCompute) refl refl refl refl t
+arithmetic_may (add_to os rs) t = behind_tail (takes_arithmetic (add_to os rs)) (is EndAdd) refl refl refl refl t
+arithmetic_may (add_giving os o rs) t = behind_tail (takes_arithmetic (add_giving os o rs)) (is EndAdd) refl refl refl refl t
+arithmetic_may (subtract_from os rs) t = behind_tail (takes_arithmetic (subtract_from os rs)) (is EndSubtract) refl refl refl refl t
+arithmetic_may (subtract_giving os o rs) t = behind_tail (takes_arithmetic (subtract_giving os o rs)) (is EndSubtract) refl refl refl refl t
+arithmetic_may (multiply_by o rs) t = behind_tail (takes_arithmetic (multiply_by o rs)) (is EndMultiply) refl refl refl refl t
+arithmetic_may (multiply_giving o p rs) t = behind_tail (takes_arithmetic (multiply_giving o p rs)) (is EndMultiply) refl refl refl refl t
+arithmetic_may (divide_into o rs) t = behind_tail (takes_arithmetic (divide_into o rs)) (is EndDivide) refl refl refl refl t
+arithmetic_may (divide_giving o way p rs r) t = behind_tail (takes_arithmetic (divide_giving o way p rs r)) (is EndDivide) refl refl refl refl t
+arithmetic_may (compute rs e) t = behind_tail (takes_arithmetic (compute rs e)) (is EndCompute) refl refl refl refl t
