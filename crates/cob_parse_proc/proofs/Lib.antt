@@ -6,6 +6,9 @@ mod WhenLaws
 mod CaseLaws
 mod Levels
 mod StmtView
+pub mod StmtAhead
+pub mod NotLemmas
+pub mod VerbSteps
 mod Never
 mod StmtAgree
 mod StmtLaws

@@ -2,4 +2,10 @@
 //! "Procedure Division").
 #![tactic(auto)]
 
+mod head;
 mod laws;
+mod statement;
+mod token;
+mod verb;
+
+pub use statement::stmts_in;
