@@ -8,3 +8,6 @@ mod LoopLaws
 mod PerformLaws
 pub mod SelLaws
 pub mod HeadLaws
+mod AheadLemmas
+mod ListSteps
+mod VerbLemmas
