@@ -1,11 +1,11 @@
 -- Names that stand twice, and names among others, at a place of a list.
-use Rattle.std.proofs.Common.{◌≡◌, ℕ, ◌+◌, ◌<◌, ◌≤◌, zero, suc, Bool, true, false, not, cond, ◌||◌, ◌&&◌, eqb, List, [], ◌∷◌, ◌++◌, append_assoc, append-nil, map, length, get_or, take, drop, drop-cons, take-suc, count_by, sum_by, Option, Some, None, is_none, unwrap_or, take_all, bytes_eq, refl, sym, ap, subst, ◌∙◌, true≢false, arith}
+use Rattle.std.proofs.Common.{◌≡◌, ℕ, ◌+◌, ◌<◌, ◌≤◌, zero, suc, Bool, true, false, not, cond, ◌||◌, ◌&&◌, eqb, List, [], ◌∷◌, ◌++◌, append_assoc, append-nil, map, length, get_or, take, drop, drop-cons, take-suc, count_by, Option, Some, None, is_none, unwrap_or, take_all, bytes_eq, refl, sym, ap, subst, ◌∙◌, arith}
 use Rattle.std.proofs.lemmas.Bool.Decides.{nat_tests}
 use Rattle.std.proofs.lemmas.List.Folds.{list_any-append}
 use Rattle.std.proofs.lemmas.List.Sums.{sum_by-append}
 use Rattle.std.specs.List.{list_any}
 use Rattle.std.specs.Cmp.Lexicographic.{bytes_decides, nat_list_eq_equiv}
-use Rattle.std.specs.Str.{str_eq_ignore_ascii_case, str_to_ascii_lowercase}
+use Rattle.std.specs.Str.{str_to_ascii_lowercase}
 use Rattle.std.specs.HashMap.{HashMap, get_by, UpdatesBy}
 use Rattle.std.specs.Map.{KeepsOthers, IsKeyTest, AreApart, lookup}
 use Rattle.indexmap.specs.IndexSet.{insert_key}
@@ -14,7 +14,7 @@ use Rattle.cob_tree.specs.declared.front.Fd.{Fd}
 use Rattle.cob_data.specs.declared.description.Description.{Description}
 use Rattle.cob_data.specs.declared.names.Names.{Names}
 use Rattle.cob_data.specs.Files.{selects_name, describes_name, breaks_select_match, breaks_fd_match, breaks_externals, breaks_status, external_text, is_named, is_record_of, is_status_holder, may_hold_status, is_status_item}
-use Rattle.cob_data.specs.Names.{stands_in, repeats, select_names, fd_names, external_names, HasNames}
+use Rattle.cob_data.specs.Names.{stands_in, repeats, HasNames}
 use Rattle.cob_data.specs.Rules.{Facts}
 
 -- ---- names in a set

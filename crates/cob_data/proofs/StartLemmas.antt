@@ -1,18 +1,16 @@
 -- Where parts of groups start, from the forest of the items.
-use Rattle.std.proofs.Common.{◌≡◌, ℕ, ◌+◌, ◌<◌, ◌≤◌, zero, suc, Bool, true, false, not, cond, eqb, leb, ◌||◌, ◌&&◌, List, [], ◌∷◌, ◌++◌, append_assoc, append-nil, length, length-append, slice_get, ◌⊎◌, inl, inr, Option, Some, None, is_some, IfSome, refl, sym, ap, ◌∙◌, subst, arith}
+use Rattle.std.proofs.Common.{◌≡◌, ℕ, ◌+◌, ◌<◌, ◌≤◌, zero, suc, Bool, true, false, not, cond, eqb, leb, ◌||◌, ◌&&◌, List, [], ◌∷◌, ◌++◌, append_assoc, append-nil, length, length-append, slice_get, inl, inr, Option, Some, None, is_some, IfSome, refl, sym, ap, ◌∙◌, subst, arith}
 use Rattle.std.proofs.lemmas.Bool.Decides.{nat_tests}
-use Rattle.std.specs.List.{AllByRecursion}
 use Rattle.rule_order.specs.Order.{line_if}
 use Rattle.cob_data.specs.declared.description.Description.{Description}
 use Rattle.cob_data.specs.declared.description.Spot.{Spot}
 use Rattle.cob_data.specs.declared.description.Above.{Above}
 use Rattle.cob_data.specs.declared.end.Rule.TheVariants.{L6}
-use Rattle.cob_data.specs.Lengths.{Forest, bare, item, forest, size, extent, item_bytes, unless_redefining}
+use Rattle.cob_data.specs.Lengths.{Forest, bare, item, forest, size, item_bytes, unless_redefining}
 use Rattle.cob_data.specs.Spots.{Neighbour, room_behind, lies_on, spot, spots, above_parts, end_behind, lies_on_last, start_at, nothing_above, all_spots}
-use Rattle.cob_data.specs.ItemRules.{is_top, has_room, may_redefine, breaks_redefinitions}
+use Rattle.cob_data.specs.ItemRules.{has_room, breaks_redefinitions}
 use Rattle.cob_data.specs.Rules.{item_lines}
-use Rattle.cob_data.specs.Parts.{is_at, is_part, part_bytes, last_start, start_in, StartsBehind, AreBehind, MayRedefine}
-use Rattle.cob_data.proofs.SpotLemmas.{spots_length}
+use Rattle.cob_data.specs.Parts.{is_at, is_part, part_bytes, last_start, start_in, AreBehind, MayRedefine}
 use Rattle.cob_data.proofs.PartLemmas.{flat, flat_length, flat_forest, bytes_append, inner, outer, same_length, AreApart, apart_append, no_bytes, same_start, differ, before, behind_it, IsAbove, parts_above, same_place}
 
 -- ---- a redefinition has something before it

@@ -1,4 +1,4 @@
-use Rattle.std.proofs.Common.{◌≡◌, ◌≤◌, ◌+◌, List, length, ap, arith}
+use Rattle.std.proofs.Common.{List, length, ap, arith}
 use Rattle.cob_tree.specs.declared.front.Fd.{Fd}
 use Rattle.cob_data.specs.Entries.{file_entries}
 use Rattle.cob_data.proofs.ReadLemmas.{front_length}

@@ -1,4 +1,4 @@
-use Rattle.std.proofs.Common.{◌≡◌, ◌≤◌, ◌+◌, length, arith}
+use Rattle.std.proofs.Common.{arith}
 use Rattle.cob_data.proofs.ReadLemmas.{files_length}
 use Rattle.cob_data.proofs.top.count_entries.Goals as goal
 

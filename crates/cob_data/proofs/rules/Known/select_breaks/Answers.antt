@@ -1,4 +1,4 @@
-use Rattle.cob_data.proofs.NameLemmas.{select_match_is, externals_is, status_is}
+use Rattle.cob_data.proofs.NameLemmas.{select_match_is, externals_is}
 use Rattle.cob_data.proofs.rules.Known.select_breaks.Goals as goal
 
 pub returns-in-L8 : goal.returns-in-L8
