@@ -103,6 +103,7 @@ module _ (l : Layout) (k : Kind) (text : List ℕ) (of : List (List ℕ)) where
   walk_step place next now f g at stands is counted so_far =
       let here : (place < count_in l k) × (is_named text (name_in l k place) ≡ true) = rw at at stands in
       let counts = walk_stops place now f g at stands counted so_far in
-      let falls = walk_falls place next is in
-      (rw is (last_is_place text (name_in l k) place (count_in l k) (omega (arith, here.0))),
-      found_lower (NamesIn l k text of) (bound next) place g falls (λ other low high named. none_behind text (name_in l k) place other (rw (← is) low) high named.0) counts)
+      let falls = walk_falls place next is in (
+        rw is (last_is_place text (name_in l k) place (count_in l k) (omega (arith, here.0))),
+        found_lower (NamesIn l k text of) (bound next) place g falls (λ other low high named. none_behind text (name_in l k) place other (rw (← is) low) high named.0) counts,
+      )

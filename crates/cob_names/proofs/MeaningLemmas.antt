@@ -32,10 +32,10 @@ found_item l r f = found_same (NamesIn l kind.Item r.name r.of) (NamesItem l r) 
 pub found_record : (l : Layout) (r : Ref) (f : Found) → IsFound (NamesIn l kind.Record r.name r.of) f → IsFound (NamesRecord l r) f
 found_record l r f = found_same (NamesIn l kind.Record r.name r.of) (NamesRecord l r) f
     (λ place h. let parts = both (is_record l.files place) (qualifies r.of (above l place)) h.1 in
-        (named_within l kind.Record r.name place h.0, from_both _ _ parts.0 (from_both _ _ h.0 parts.1)))
+    (named_within l kind.Record r.name place h.0, from_both _ _ parts.0 (from_both _ _ h.0 parts.1)))
     (λ place h. let outer = both (is_record l.files place) (names_item l r place) h.1 in
-        let inner = both (is_named r.name (item_name (slice_get l.items place))) (qualifies r.of (above l place)) outer.1 in
-        (inner.0, from_both _ _ outer.0 inner.1))
+    let inner = both (is_named r.name (item_name (slice_get l.items place))) (qualifies r.of (above l place)) outer.1 in
+    (inner.0, from_both _ _ outer.0 inner.1))
 
 flag_to : (l : Layout) (r : Ref) (o : Option Flag) → is_named r.name (flag_name o) ≡ true → flag_fits l r.of o ≡ true → names_flag_at l r o ≡ true
 flag_to l r None named fits = absurd (cc)

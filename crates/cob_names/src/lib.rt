@@ -6,7 +6,9 @@ mod found;
 mod homes;
 mod kind;
 mod names;
+mod qualifiers;
 mod table;
+mod tables;
 #[cfg(test)]
 mod tests;
 

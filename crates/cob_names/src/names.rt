@@ -6,17 +6,17 @@ ghost use Rattle.cob_tree.specs.PrintStmt.{print_tree};
 ghost use Rattle.cob_data.specs.declared.layout.Layout.{Layout};
 ghost use Rattle.cob_data.specs.Answers.{IsAnswer};
 ghost use Rattle.cob_names.specs.declared.found.Found.{Found};
-ghost use Rattle.cob_names.specs.Names.{is_named, item_name, item_parent, above, above_at, qualifies, file_above, IsFound, NamesItem, NamesFlag, NamesFile, NamesRecord, is_record, alone};
+ghost use Rattle.cob_names.specs.Names.{item_name, above, above_at, qualifies, file_above, IsFound, NamesItem, NamesFlag, NamesFile, NamesRecord, is_record, alone};
 ghost use Rattle.cob_names.specs.Tables.{IsTable};
-ghost use Rattle.cob_names.specs.Search.{name_in, count_in, fits, NamesIn, HasFewPlaces, flag_name, file_name, left_behind, found_and};
-ghost use Rattle.cob_names.specs.Homes.{list_of};
-ghost use Rattle.std.specs.Option.{option_copied};
+ghost use Rattle.cob_names.specs.Search.{name_in, count_in, fits, NamesIn, HasFewPlaces, found_and};
 
 use crate::found::Found;
 use crate::homes::homes_of;
 use crate::kind::Kind;
+use crate::qualifiers::{left_behind, name_home, none_left, parent_of};
 use crate::table::Table;
-use cob_data::{FileDecl, Flag, Item, Layout};
+use crate::tables::{files_table, flags_table, items_table};
+use cob_data::Layout;
 use cob_tree::{Name, Ref};
 use indexmap::IndexMap;
 use std::alloc::{AllocError, Global};
@@ -44,102 +44,6 @@ impl<'a> Model for Names<'a> {
     ghost invariant = { λ n. AreNames n.layout.now n.items n.flags n.files n.homes };
 }
 
-// ---- tables
-
-fn items_table<'a>(alloc: Global, items: &'a [Item]) -> Result<Table<'a>, AllocError>
-    requires { length items.now ≤ 2 ^ 32 }
-    ensures { IfOk result (λ table. IsTable table (λ place. item_name (slice_get items.now place)) (length items.now)) }
-{
-    let mut table = Table::new(alloc);
-    for item in items {
-        table.add(item.name.as_ref())?;
-    }
-    Ok(table)
-}
-
-fn flags_table<'a>(alloc: Global, flags: &'a [Flag]) -> Result<Table<'a>, AllocError>
-    requires { length flags.now ≤ 2 ^ 32 }
-    ensures { IfOk result (λ table. IsTable table (λ place. flag_name (slice_get flags.now place)) (length flags.now)) }
-{
-    let mut table = Table::new(alloc);
-    for flag in flags {
-        table.add(Some(&flag.name))?;
-    }
-    Ok(table)
-}
-
-fn files_table<'a>(alloc: Global, files: &'a [FileDecl]) -> Result<Table<'a>, AllocError>
-    requires { length files.now ≤ 2 ^ 32 }
-    ensures { IfOk result (λ table. IsTable table (λ place. file_name (slice_get files.now place)) (length files.now)) }
-{
-    let mut table = Table::new(alloc);
-    for file in files {
-        table.add(Some(&file.name))?;
-    }
-    Ok(table)
-}
-
-// ---- what stands above
-
-/// Whether the item has the name.
-fn has_name(items: &[Item], place: u32, name: &Name) -> bool
-    ensures { result ≡ is_named name.now (item_name (slice_get items.now place)) }
-{
-    match items.get(place as usize) {
-        None => false,
-        Some(item) => match &item.name {
-            None => false,
-            Some(own) => name.get() == own.get(),
-        },
-    }
-}
-
-/// The group directly above the item.
-fn parent_of(items: &[Item], place: u32) -> Option<u32>
-    ensures { result ≡ item_parent (slice_get items.now place) }
-{
-    match items.get(place as usize) {
-        None => None,
-        Some(item) => item.parent,
-    }
-}
-
-/// The qualifiers that are left behind a group: all but the first, where that names the group.
-fn left_behind<'n>(items: &[Item], of: &'n [Name], group: u32) -> &'n [Name]
-    ensures { result.now ≡ left_behind of.now (item_name (slice_get items.now group)) }
-{
-    match of.split_first() {
-        None => of,
-        Some((first, others)) => {
-            if has_name(items, group, first) {
-                others
-            } else {
-                of
-            }
-        }
-    }
-}
-
-/// Whether no qualifier is left.
-fn none_left(of: &[Name]) -> bool
-    ensures { result ≡ qualifies of.now [] }
-{
-    of.is_empty()
-}
-
-/// Whether these qualifiers name a file: there is none, or its name alone.
-fn name_home(of: &[Name], home: Option<&[u8]>) -> bool
-    ensures { result ≡ qualifies of.now (list_of (option_copied home.entry)) }
-{
-    match of.split_first() {
-        None => true,
-        Some((first, others)) => match home {
-            None => false,
-            Some(file) => first.get() == file && none_left(others),
-        },
-    }
-}
-
 impl<'a> Names<'a> {
     /// The names of a layout.
     pub fn of(alloc: Global, layout: &'a Layout) -> Result<Names<'a>, AllocError>
@@ -155,6 +59,7 @@ impl<'a> Names<'a> {
         })
     }
 
+    /// Where such names are looked up.
     fn table(&self, kind: Kind) -> &Table<'a>
         ensures { IsTable result.now (name_in self.now kind) (count_in self.now kind) }
     {
@@ -218,6 +123,7 @@ impl<'a> Names<'a> {
         self.homes.contains_key(&place)
     }
 
+    /// Whether the place, which has the name, is of this kind and stands below what the qualifiers name.
     fn fits(&self, kind: Kind, of: &[Name], place: u32) -> bool
         requires { place < count_in self.now kind }
         ensures { result ≡ fits self.now kind of.now place }
@@ -301,11 +207,9 @@ pub fn one_answer()
     ensures flags { (l : Layout) (r : Ref) (f g : Found) → IsFound (NamesFlag l r) f → IsFound (NamesFlag l r) g → f ≡ g }
     ensures files { (l : Layout) (text : List ℕ) (f g : Found) → IsFound (NamesFile l text) f → IsFound (NamesFile l text) g → f ≡ g }
     ensures records { (l : Layout) (r : Ref) (f g : Found) → IsFound (NamesRecord l r) f → IsFound (NamesRecord l r) g → f ≡ g }
-{
-}
+{}
 
 /// A layout that was made from a tree can have its names looked up.
 pub fn layouts_have_few_places()
     ensures { (t : Tree) (l : Layout) → length (print_tree (plain_tree t)) ≤ 2 ^ 27 → IsAnswer t (Ok l) → HasFewPlaces l }
-{
-}
+{}

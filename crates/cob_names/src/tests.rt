@@ -13,40 +13,40 @@ use std::alloc::{AllocError, Global};
 type Row = (&'static [u8], u32);
 
 const ITEMS: [Row; 15] = [
-    (b"CUSTOMER", 0),  // 0: a record of CUSTOMERS
-    (b"ID", 1),        // 1
-    (b"ADDRESS", 1),   // 2
-    (b"STREET", 3),    // 3
-    (b"CITY", 3),      // 4
-    (b"SHORT", 0),     // 5: a record of CUSTOMERS
-    (b"ID", 6),        // 6
-    (b"CUSTOMER", 0),  // 7: working storage
-    (b"HOME", 8),      // 8
-    (b"CITY", 9),      // 9
-    (b"", 8),          // 10: FILLER
-    (b"LIMIT", 11),    // 11
-    (b"TOTAL", 0),     // 12
+    (b"CUSTOMER", 0), // 0: a record of CUSTOMERS
+    (b"ID", 1), // 1
+    (b"ADDRESS", 1), // 2
+    (b"STREET", 3), // 3
+    (b"CITY", 3), // 4
+    (b"SHORT", 0), // 5: a record of CUSTOMERS
+    (b"ID", 6), // 6
+    (b"CUSTOMER", 0), // 7: working storage
+    (b"HOME", 8), // 8
+    (b"CITY", 9), // 9
+    (b"", 8), // 10: FILLER
+    (b"LIMIT", 11), // 11
+    (b"TOTAL", 0), // 12
     (b"CUSTOMERS", 0), // 13: an item of the file's name
-    (b"LIMIT", 14),    // 14
+    (b"LIMIT", 14), // 14
 ];
 
 const FLAGS: [Row; 4] = [(b"OPEN", 1), (b"OPEN", 11), (b"FAR", 4), (b"BIG", 12)];
 
 const FILES: [Row; 2] = [(b"CUSTOMERS", 0), (b"ORDERS", 5)];
 
-fn items(alloc: Global) -> Result<Many<Item>, AllocError> {
+fn items(alloc: Global, rows: &[Row]) -> Result<Many<Item>, AllocError> {
     let mut items = Vec::new(alloc);
-    for (name, above) in ITEMS {
-        let mut own = None;
-        if !name.is_empty() {
-            own = Some(Name::of(alloc, name)?);
+    for row in rows {
+        let mut name = None;
+        if !row.0.is_empty() {
+            name = Some(Name::of(alloc, row.0)?);
         }
         items.push(Item {
-            name: own,
+            name,
             offset: 0,
             length: 1,
             form: Form::Group,
-            parent: above.checked_sub(1),
+            parent: row.1.checked_sub(1),
             line: 1,
             value: None,
         })?;
@@ -54,38 +54,45 @@ fn items(alloc: Global) -> Result<Many<Item>, AllocError> {
     Ok(Many::of(items))
 }
 
-fn flags(alloc: Global) -> Result<Many<Flag>, AllocError> {
+fn flags(alloc: Global, rows: &[Row]) -> Result<Many<Flag>, AllocError> {
     let mut flags = Vec::new(alloc);
-    for (name, item) in FLAGS {
+    for row in rows {
         flags.push(Flag {
-            name: Name::of(alloc, name)?,
-            item,
+            name: Name::of(alloc, row.0)?,
+            item: row.1,
             ranges: Many::of(Vec::new(alloc)),
         })?;
     }
     Ok(Many::of(flags))
 }
 
-fn files(alloc: Global) -> Result<Many<FileDecl>, AllocError> {
+fn files(alloc: Global, rows: &[Row]) -> Result<Many<FileDecl>, AllocError> {
     let mut files = Vec::new(alloc);
-    for (name, record) in FILES {
+    for row in rows {
+        let mut records = Vec::new(alloc);
+        records.push(row.1)?;
         files.push(FileDecl {
-            name: Name::of(alloc, name)?,
-            external: Name::of(alloc, name)?,
+            name: Name::of(alloc, row.0)?,
+            external: Name::of(alloc, row.0)?,
             offset: 0,
             length: 1,
-            records: Many::of(vec![in alloc; record]?),
+            records: Many::of(records),
             status: None,
         })?;
     }
     Ok(Many::of(files))
 }
 
-fn layout(alloc: Global) -> Result<Layout, AllocError> {
+fn layout(
+    alloc: Global,
+    item_rows: &[Row],
+    flag_rows: &[Row],
+    file_rows: &[Row],
+) -> Result<Layout, AllocError> {
     Ok(Layout {
-        items: items(alloc)?,
-        flags: flags(alloc)?,
-        files: files(alloc)?,
+        items: items(alloc, item_rows)?,
+        flags: flags(alloc, flag_rows)?,
+        files: files(alloc, file_rows)?,
         storage: 1,
     })
 }
@@ -160,41 +167,65 @@ const RECORD_QUESTIONS: [Question; 7] = [
     (b"CUSTOMERS", b"", b"", Found::Nothing),
 ];
 
-/// The first question whose answer isn't the expected one, by its place in its table: items, condition-names,
-/// records.
-fn wrong_reference(alloc: Global, names: &Names) -> Result<Option<(u8, usize)>, AllocError> {
-    for place in 0..ITEM_QUESTIONS.len() {
-        let question = ITEM_QUESTIONS[place];
-        if names.item(&reference(alloc, &question)?) != question.3 {
-            return Ok(Some((0, place)));
+fn items_mean_so(alloc: Global, names: &Names, questions: &[Question]) -> Result<bool, AllocError> {
+    for question in questions {
+        let reference = reference(alloc, question)?;
+        if names.item(&reference) != question.3 {
+            return Ok(false);
         }
     }
-    for place in 0..FLAG_QUESTIONS.len() {
-        let question = FLAG_QUESTIONS[place];
-        if names.flag(&reference(alloc, &question)?) != question.3 {
-            return Ok(Some((1, place)));
+    Ok(true)
+}
+
+fn flags_mean_so(alloc: Global, names: &Names, questions: &[Question]) -> Result<bool, AllocError> {
+    for question in questions {
+        let reference = reference(alloc, question)?;
+        if names.flag(&reference) != question.3 {
+            return Ok(false);
         }
     }
-    for place in 0..RECORD_QUESTIONS.len() {
-        let question = RECORD_QUESTIONS[place];
-        if names.record(&reference(alloc, &question)?) != question.3 {
-            return Ok(Some((2, place)));
+    Ok(true)
+}
+
+fn records_mean_so(
+    alloc: Global,
+    names: &Names,
+    questions: &[Question],
+) -> Result<bool, AllocError> {
+    for question in questions {
+        let reference = reference(alloc, question)?;
+        if names.record(&reference) != question.3 {
+            return Ok(false);
         }
     }
-    Ok(None)
+    Ok(true)
+}
+
+/// The same by names alone.
+fn names_mean_so(names: &Names) -> bool {
+    names.flag_named(b"OPEN") == Found::Several
+        && names.flag_named(b"BIG") == Found::One(3)
+        && names.flag_named(b"TOTAL") == Found::Nothing
+        && names.file(b"ORDERS") == Found::One(1)
+        && names.file(b"CUSTOMER") == Found::Nothing
+}
+
+fn all_mean_so(alloc: Global, layout: &Layout) -> Result<bool, AllocError> {
+    if !has_few_places(layout) {
+        return Ok(false);
+    }
+    let names = Names::of(alloc, layout)?;
+    let items = items_mean_so(alloc, &names, &ITEM_QUESTIONS)?;
+    let flags = flags_mean_so(alloc, &names, &FLAG_QUESTIONS)?;
+    let records = records_mean_so(alloc, &names, &RECORD_QUESTIONS)?;
+    Ok(items && flags && records && names_mean_so(&names))
 }
 
 #[test]
 fn names_mean_what_they_say(rt: HostRuntime) -> Result<(), AllocError> {
     let alloc = rt.alloc();
-    let layout = layout(alloc)?;
-    assert!(rt; has_few_places(&layout));
-    let names = Names::of(alloc, &layout)?;
-    assert_eq!(rt; wrong_reference(alloc, &names)?, None);
-    assert_eq!(rt; names.flag_named(b"OPEN"), Found::Several);
-    assert_eq!(rt; names.flag_named(b"BIG"), Found::One(3));
-    assert_eq!(rt; names.flag_named(b"TOTAL"), Found::Nothing);
-    assert_eq!(rt; names.file(b"ORDERS"), Found::One(1));
-    assert_eq!(rt; names.file(b"CUSTOMER"), Found::Nothing);
+    let layout = layout(alloc, &ITEMS, &FLAGS, &FILES)?;
+    let good = all_mean_so(alloc, &layout)?;
+    assert!(&rt; good);
     Ok(())
 }

@@ -1,7 +1,7 @@
 use Rattle.std.proofs.Common.{refl, slice_get}
 use Rattle.std.proofs.lemmas.Option.{slice_get_read}
 use Rattle.cob_names.specs.Search.{flag_name}
-use Rattle.cob_names.proofs.names.flags_table.Goals as goal
+use Rattle.cob_names.proofs.tables.flags_table.Goals as goal
 
 pub loop-flag-init : goal.loop-flag-init
 loop-flag-init c = c.new-table.ensures (λ place. flag_name (slice_get c.args.flags.now place))

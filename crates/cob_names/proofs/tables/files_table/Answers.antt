@@ -1,7 +1,7 @@
 use Rattle.std.proofs.Common.{refl, slice_get}
 use Rattle.std.proofs.lemmas.Option.{slice_get_read}
 use Rattle.cob_names.specs.Search.{file_name}
-use Rattle.cob_names.proofs.names.files_table.Goals as goal
+use Rattle.cob_names.proofs.tables.files_table.Goals as goal
 
 pub loop-file-init : goal.loop-file-init
 loop-file-init c = c.new-table.ensures (λ place. file_name (slice_get c.args.files.now place))

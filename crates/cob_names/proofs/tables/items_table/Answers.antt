@@ -1,7 +1,7 @@
 use Rattle.std.proofs.Common.{sym, refl, slice_get}
 use Rattle.std.proofs.lemmas.Option.{slice_get_read}
 use Rattle.cob_names.specs.Names.{item_name}
-use Rattle.cob_names.proofs.names.items_table.Goals as goal
+use Rattle.cob_names.proofs.tables.items_table.Goals as goal
 
 pub loop-item-init : goal.loop-item-init
 loop-item-init c = c.new-table.ensures (λ place. item_name (slice_get c.args.items.now place))
