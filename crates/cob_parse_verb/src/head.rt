@@ -53,6 +53,7 @@ fn if_in(
 
 // The arithmetic statements as heads.
 
+#[tactic(auto, using(crate::proofs::VerbLemmas::arithmetic_never))]
 fn add_head(
     alloc: Global,
     lexemes: &[Lexeme],
@@ -65,6 +66,7 @@ fn add_head(
     Ok((Head::Arithmetic(sum), false, rest))
 }
 
+#[tactic(auto, using(crate::proofs::VerbLemmas::arithmetic_never))]
 fn subtract_head(
     alloc: Global,
     lexemes: &[Lexeme],
@@ -77,6 +79,7 @@ fn subtract_head(
     Ok((Head::Arithmetic(sum), false, rest))
 }
 
+#[tactic(auto, using(crate::proofs::VerbLemmas::arithmetic_never))]
 fn multiply_head(
     alloc: Global,
     lexemes: &[Lexeme],
@@ -89,6 +92,7 @@ fn multiply_head(
     Ok((Head::Arithmetic(sum), false, rest))
 }
 
+#[tactic(auto, using(crate::proofs::VerbLemmas::arithmetic_never))]
 fn divide_head(
     alloc: Global,
     lexemes: &[Lexeme],
@@ -101,6 +105,7 @@ fn divide_head(
     Ok((Head::Arithmetic(sum), false, rest))
 }
 
+#[tactic(auto, using(crate::proofs::VerbLemmas::arithmetic_never))]
 fn compute_head(
     alloc: Global,
     lexemes: &[Lexeme],

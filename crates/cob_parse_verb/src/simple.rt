@@ -103,6 +103,7 @@ pub fn set_in(alloc: Global, lexemes: &[Lexeme]) -> Result<(Head, bool, &[Lexeme
     Ok((set(name), false, rest))
 }
 
+#[tactic(auto, using(crate::proofs::VerbLemmas::display_never))]
 pub fn display_in(alloc: Global, lexemes: &[Lexeme]) -> Result<(Head, bool, &[Lexeme]), Halt>
     ensures gives { Gives (λ x. (plain_head x.0, signs x.2.now)) result (display_at (signs lexemes.now)) }
     ensures takes { IfOk result (λ x. x.1 ≡ takes_behind (plain_head x.0) NotRelates) }
