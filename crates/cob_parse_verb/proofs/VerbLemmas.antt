@@ -229,7 +229,7 @@ sel_on_cond room ts (u ∷ us) c l e = go (the word.Thru u) (one_alone c) refl r
   where
     high : (low : Expr) (x : Unit {0}) (read : Result (Expr × List Sign) Fault) → the word.Thru u ≡ Some x → one_alone c ≡ Some low → expr_at room us ≡ read → sel_at room ts ≡ sel_behind room c (u ∷ us)
     high low x (Err f) ew eo ee = rw (l.stands, e, told_thru u us, ew, eo) (rw (ew, ee) refl)
-    high low x (Ok y) ew eo ee = rw (l.stands, e, told_thru u us, ew, eo) (rw (ew, ee) refl)
+    high low x (Ok y) ew eo ee = rw (l.stands, e, told_thru u us, ew, eo) (rw (ew, ee, eo) refl)
 
     go : (w : Option (Unit {0})) (o : Option Expr) → the word.Thru u ≡ w → one_alone c ≡ o → sel_at room ts ≡ sel_behind room c (u ∷ us)
     go None None ew eo = rw (l.stands, e, told_thru u us, ew, eo) refl

@@ -14,5 +14,5 @@ files-preserved c = record {
 }
 
 pub returns-in_err-opens-clause-gives : goal.returns-in_err-opens-clause-gives
-returns-in_err-opens-clause-gives c = gives_wrong _ c.from_residual.result _ c.in_err-opens.field-0.0 c.from_residual.ensures.1
+returns-in_err-opens-clause-gives c = gives_wrong _ c.from_residual-in_err-opens.result _ c.in_err-opens.field-0.0 c.from_residual-in_err-opens.ensures.1
     (list_fails (is Modes) opens_at (signs c.args.lexemes.now) (signs c.files.left.now) c.files.files.items c.in_err-opens.field-0.0 (sym c.mode_begins.ensures ∙ c.files-test.true) c.in_err-opens.ensures.gives c.files.invariant.goes)

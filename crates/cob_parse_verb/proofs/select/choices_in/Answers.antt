@@ -31,5 +31,5 @@ choices-preserved c =
     }
 
 pub returns-in_err-sel-clause-gives : goal.returns-in_err-sel-clause-gives
-returns-in_err-sel-clause-gives c = gives_wrong _ c.from_residual.result _ c.in_err-sel.field-0.0 c.from_residual.ensures.1
+returns-in_err-sel-clause-gives c = gives_wrong _ c.from_residual-in_err-sel.result _ c.in_err-sel.field-0.0 c.from_residual-in_err-sel.ensures.1
     (list_fails (is Whens) (choice_at c.args.room) (signs c.args.lexemes.now) (signs c.choices.left.now) (map plain_sel c.choices.choices.items) c.in_err-sel.field-0.0 (sym c.when_begins.ensures ∙ c.choices-test.true) c.in_err-sel.ensures.gives c.choices.invariant.goes)
