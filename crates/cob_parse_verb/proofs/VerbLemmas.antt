@@ -243,3 +243,12 @@ sel_on_cond room ts (u ∷ us) c l e = go (the word.Thru u) (one_alone c) refl r
     go None (Some low) ew eo = rw (l.stands, e, told_thru u us, ew, eo) refl
     go (Some x) None ew eo = rw (l.stands, e, told_thru u us, ew, eo) refl
     go (Some x) (Some low) ew eo = high low x (expr_at room us) ew eo refl
+
+behind_thru : (room : ℕ) (ts rest : List Sign) (c : Cond) (low : Expr) → Leads (the word.Thru) tt ts rest → one_alone c ≡ Some low → sel_behind room c ts ≡ (expr_at room rest >>= λ x. Ok (range low x.0, x.1))
+behind_thru room ts rest c low l eo = rw (lead_behind (the word.Thru) tt ts rest l, eo) refl
+
+pub sel_high : (room : ℕ) (ts rest after : List Sign) (c : Cond) (low high : Expr) (s : Sel) → Leads (the word.Thru) tt ts rest → one_alone c ≡ Some low → expr_at room rest ≡ Ok (high, after) → s ≡ range low high → sel_behind room c ts ≡ Ok (s, after)
+sel_high room ts rest after c low high s l eo ee es = behind_thru room ts rest c low l eo ∙ (ap (λ (z : Result (Expr × List Sign) Fault). z >>= λ x. Ok (range low x.0, x.1)) ee ∙ ap (λ (z : Sel). Ok (z, after)) (sym es))
+
+pub sel_high_fails : (h : Halt) (room : ℕ) (ts rest : List Sign) (c : Cond) (low : Expr) → Leads (the word.Thru) tt ts rest → one_alone c ≡ Some low → Fails h (expr_at room rest) → Fails h (sel_behind room c ts)
+sel_high_fails h room ts rest c low l eo f = subst (Fails h) (sym (behind_thru room ts rest c low l eo)) (fails_first h (expr_at room rest) (λ x. Ok (range low x.0, x.1)) f)
