@@ -1,13 +1,17 @@
-mod WordLaws
-mod WordNext
+pub mod WordLaws
+pub mod WordNext
 pub mod Across
-mod ListLaws
-mod TargetLaws
-mod SumLaws
-mod LoopLaws
-mod PerformLaws
+pub mod ListLaws
+pub mod TargetLaws
+pub mod SumLaws
+pub mod LoopLaws
+pub mod PerformLaws
 pub mod SelLaws
 pub mod HeadLaws
-mod AheadLemmas
-mod ListSteps
-mod VerbLemmas
+pub mod Agreeing
+pub mod Deepening
+pub mod HeadLevels
+pub mod Growing
+pub mod AheadLemmas
+pub mod ListSteps
+pub mod VerbLemmas

@@ -4,6 +4,7 @@
 mod ahead;
 mod arithmetic;
 mod head;
+mod laws;
 mod list;
 mod loops;
 mod perform;
@@ -15,6 +16,7 @@ mod word;
 
 pub use arithmetic::Arithmetic;
 pub use head::{Head, head_in};
+pub use laws::{choices_are_read, heads_are_read, more_room_agrees, too_deep_is_told};
 pub use select::choices_in;
 pub use word::{Begin, Start, Word};
 

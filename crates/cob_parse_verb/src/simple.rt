@@ -150,10 +150,7 @@ pub fn close_in(alloc: Global, lexemes: &[Lexeme]) -> Result<(Head, bool, &[Lexe
 }
 
 // A record, with FROM or without.
-fn written_in(
-    alloc: Global,
-    lexemes: &[Lexeme],
-) -> Result<(Ref, Option<Opnd>, &[Lexeme]), Halt>
+fn written_in(alloc: Global, lexemes: &[Lexeme]) -> Result<(Ref, Option<Opnd>, &[Lexeme]), Halt>
     ensures gives { Gives (λ x. ((x.0, x.1), signs x.2.now)) result (written_at (signs lexemes.now)) }
     ensures rest { IfOk result (λ x. length x.2.now ≤ length lexemes.now) }
 {

@@ -67,11 +67,7 @@ fn show_opnds(out: &mut Vec<u8>, opnds: &[Opnd]) -> Result<(), AllocError> {
     Ok(())
 }
 
-fn show_recvs(
-    out: &mut Vec<u8>,
-    word: &[u8],
-    recvs: &[Recv],
-) -> Result<(), AllocError> {
+fn show_recvs(out: &mut Vec<u8>, word: &[u8], recvs: &[Recv]) -> Result<(), AllocError> {
     out.extend_from_slice(word)?;
     for recv in recvs {
         show_ref(out, &recv.item)?;
@@ -345,11 +341,7 @@ fn shown(alloc: Global, text: &[u8]) -> Result<(Vec<u8>, usize), AllocError> {
     Ok((out, left))
 }
 
-fn try_all(
-    rt: &impl Abort,
-    alloc: Global,
-    cases: &[(&[u8], &[u8], usize)],
-) -> Result<(), Fail> {
+fn try_all(rt: &impl Abort, alloc: Global, cases: &[(&[u8], &[u8], usize)]) -> Result<(), Fail> {
     for (text, expected, left) in cases {
         let (out, rest) = shown(alloc, text)?;
         assert_eq!(rt; out.as_slice(), *expected);
@@ -464,10 +456,7 @@ fn others_are_refused(rt: HostRuntime) -> Result<(), Fail> {
 #[test]
 fn whens_are_read(rt: HostRuntime) -> Result<(), Fail> {
     let alloc = rt.alloc();
-    let lexemes = read(
-        alloc,
-        b"WHEN ANY WHEN A THRU B + 1 WHEN C = D THRU E",
-    )?;
+    let lexemes = read(alloc, b"WHEN ANY WHEN A THRU B + 1 WHEN C = D THRU E")?;
     match choices_in(alloc, lexemes.as_slice(), 9) {
         Ok((choices, takes_not, rest)) => {
             assert_eq!(rt; rest.len(), 2);
