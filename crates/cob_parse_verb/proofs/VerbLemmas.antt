@@ -1,20 +1,18 @@
 -- What the functions that read statements return, step by step, is what their readers give.
-use Rattle.std.proofs.Common.{◌≡◌, ℕ, ◌⊎◌, inl, inr, Bool, true, false, not, ◌||◌, ◌&&◌, List, [], ◌∷◌, ◌++◌, Option, Some, None, is_some, Result, Ok, Err, refl, sym, ap, subst, ◌∙◌}
+use Rattle.std.proofs.Common.{◌≡◌, ℕ, inl, inr, Bool, true, false, not, ◌||◌, ◌&&◌, List, [], ◌∷◌, ◌++◌, Option, Some, None, Result, Ok, Err, refl, sym, ap, subst, ◌∙◌}
 use Rattle.cob_tree.specs.declared.operand.Const.{Const}
 use Rattle.cob_tree.specs.declared.operand.Opnd.{Opnd}
 use Rattle.cob_tree.specs.declared.operand.Opnd.TheVariants as opnd
 use Rattle.cob_tree.specs.declared.operand.Recv.{Recv}
 use Rattle.cob_tree.specs.declared.operand.Ref.{Ref}
-use Rattle.cob_tree.specs.declared.stmt.Subject.{Subject}
-use Rattle.cob_tree.specs.declared.stmt.Subject.TheVariants as subject
 use Rattle.cob_tree.specs.Symbols.{Sign}
-use Rattle.cob_tree.specs.Cues.{Cue, is, NotRelates, Givings, Throughs, Whens, Qualifies}
+use Rattle.cob_tree.specs.Cues.{is, NotRelates, Givings, Whens}
 use Rattle.cob_tree.specs.Expr.{Expr}
 use Rattle.cob_tree.specs.Cond.{Cond}
 use Rattle.cob_tree.specs.PrintExpr.{one_alone}
-use Rattle.cob_tree.specs.Stmt.{Sel, any, range, choice, display, write, perform_range}
-use Rattle.cob_tree.specs.Takes.{takes_recvs, takes_giving, takes_sel, begins_loop, takes_opnd}
-use Rattle.reading.specs.Readers.{Fault, Reader, ◌>>=◌, lead_as, lead, branch, seen, stands, behind}
+use Rattle.cob_tree.specs.Stmt.{Sel, range, display, write, perform_range}
+use Rattle.cob_tree.specs.Takes.{takes_recvs, takes_giving, takes_sel, begins_loop}
+use Rattle.reading.specs.Readers.{Fault, Reader, ◌>>=◌, lead_as, lead, seen, stands, behind}
 use Rattle.reading.specs.Printing.{begins}
 use Rattle.cob_parse_expr.specs.Alphabet.{grammar}
 use Rattle.cob_parse_expr.specs.Classes.{name_of, const_of}
@@ -26,7 +24,7 @@ use Rattle.cob_parse_expr.proofs.StepLemmas.{fails_first, fails_second}
 use Rattle.cob_parse_expr.proofs.CondLemmas.{no_not}
 use Rattle.reading.proofs.Results.{ok_is}
 use Rattle.cob_parse_verb.specs.declared.word.Word.TheVariants as word
-use Rattle.cob_parse_verb.specs.Heads.{Arithmetic, add_to, add_giving, subtract_from, subtract_giving, multiply_by, multiply_giving, divide_into, divide_giving, compute, takes_arithmetic, Head, done, takes_behind, read_head, evaluate_head}
+use Rattle.cob_parse_verb.specs.Heads.{Arithmetic, add_to, add_giving, subtract_from, subtract_giving, multiply_by, multiply_giving, divide_into, divide_giving, compute, takes_arithmetic, done, takes_behind}
 use Rattle.cob_parse_verb.specs.Listed.{takes_listed}
 use Rattle.cob_parse_verb.specs.Lists.{recvs_at}
 use Rattle.cob_parse_verb.specs.Procedure.{procedure}
@@ -34,7 +32,7 @@ use Rattle.cob_parse_verb.specs.Targets.{Target, receivers, may_give, item_of, g
 use Rattle.cob_parse_verb.specs.Sums.{make_divide, by_part, divide_at}
 use Rattle.cob_parse_verb.specs.Targets as targets
 use Rattle.cob_parse_verb.specs.Turning.{turns, follows_name, through_at, Ranged, ranged_at, named_at, unnamed_at, make_perform, perform_at, sel_at}
-use Rattle.cob_parse_verb.specs.VerbSteps.{Aim, all_of, one_of, aim_at, make_ranged, counted_at, sel_behind, sel_range}
+use Rattle.cob_parse_verb.specs.VerbSteps.{Aim, all_of, one_of, aim_at, make_ranged, counted_at, sel_behind}
 use Rattle.cob_parse_verb.specs.Words.{the}
 use Rattle.cob_parse_verb.proofs.TargetLaws.{opnds_never, recvs_never}
 use Rattle.cob_parse_verb.proofs.WordNext.{told_thru}

@@ -1,4 +1,4 @@
-use Rattle.std.proofs.Common.{◌≡◌, inl, Ok, ap, ◌∙◌}
+use Rattle.std.proofs.Common.{inl, Ok, ap, ◌∙◌}
 use Rattle.cob_parse_expr.specs.Steps.{signs}
 use Rattle.cob_parse_expr.proofs.StepLemmas.{gives_wrong, fails_first}
 use Rattle.cob_parse_verb.specs.declared.target.Aim.{Aim}

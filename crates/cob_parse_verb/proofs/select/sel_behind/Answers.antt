@@ -1,4 +1,4 @@
-use Rattle.std.proofs.Common.{◌≡◌, sym, ap, ◌∙◌}
+use Rattle.std.proofs.Common.{sym, ap, ◌∙◌}
 use Rattle.cob_tree.specs.CondView.{plain_cond}
 use Rattle.cob_tree.specs.Cues.{NotRelates}
 use Rattle.cob_tree.specs.ExprView.{plain_expr}

@@ -1,4 +1,3 @@
-use Rattle.std.proofs.Common.{◌≡◌}
 use Rattle.cob_tree.specs.CondView.{plain_cond}
 use Rattle.cob_parse_expr.specs.Steps.{signs}
 use Rattle.cob_parse_expr.proofs.StepLemmas.{gives_as}
