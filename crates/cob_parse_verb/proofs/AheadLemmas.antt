@@ -5,7 +5,7 @@ use Rattle.cob_tree.specs.declared.keyword.Keyword.TheVariants as key
 use Rattle.cob_tree.specs.declared.token.Num.{Num}
 use Rattle.cob_tree.specs.declared.token.Rel.{Rel}
 use Rattle.cob_tree.specs.Symbols.{Symbol, Key, Name, Number, Text, Mark, Relation, Pic, Stop, Sign}
-use Rattle.cob_tree.specs.Cues.{Cue, is, mark_cue, key_cue, not_cue, Qualifies, Names, Constants, Signs, Scales, Relates, NotRelates, NotTests, NotSize, NotAtEnd, Throughs, Givings, Modes, Loops, Whens}
+use Rattle.cob_tree.specs.Cues.{Cue, is, mark_cue, key_cue, not_cue, Names, Constants, Signs, Scales, Relates, NotRelates, NotTests, NotSize, NotAtEnd, Throughs, Givings, Modes, Loops, Whens}
 use Rattle.cob_tree.specs.Takes.{begins_opnd, begins_loop}
 use Rattle.reading.specs.Readers.{stands}
 use Rattle.reading.specs.Printing.{begins, on_mark, ahead, peek_on}

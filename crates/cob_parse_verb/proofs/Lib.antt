@@ -15,3 +15,6 @@ pub mod Growing
 mod AheadLemmas
 mod ListSteps
 mod VerbLemmas
+pub mod AheadLemmas
+pub mod ListSteps
+pub mod VerbLemmas

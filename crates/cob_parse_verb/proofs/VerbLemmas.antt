@@ -1,24 +1,22 @@
 -- What the functions that read statements return, step by step, is what their readers give.
-use Rattle.std.proofs.Common.{◌≡◌, ℕ, ◌⊎◌, inl, inr, Bool, true, false, not, ◌||◌, ◌&&◌, List, [], ◌∷◌, ◌++◌, Option, Some, None, is_some, Result, Ok, Err, refl, sym, ap, subst, ◌∙◌}
+use Rattle.std.proofs.Common.{◌≡◌, ℕ, inl, inr, Bool, true, false, not, ◌||◌, ◌&&◌, List, [], ◌∷◌, ◌++◌, Option, Some, None, Result, Ok, Err, refl, sym, ap, subst, ◌∙◌}
 use Rattle.cob_tree.specs.declared.operand.Const.{Const}
 use Rattle.cob_tree.specs.declared.operand.Opnd.{Opnd}
 use Rattle.cob_tree.specs.declared.operand.Opnd.TheVariants as opnd
 use Rattle.cob_tree.specs.declared.operand.Recv.{Recv}
 use Rattle.cob_tree.specs.declared.operand.Ref.{Ref}
-use Rattle.cob_tree.specs.declared.stmt.Subject.{Subject}
-use Rattle.cob_tree.specs.declared.stmt.Subject.TheVariants as subject
 use Rattle.cob_tree.specs.Symbols.{Sign}
-use Rattle.cob_tree.specs.Cues.{Cue, is, NotRelates, Givings, Throughs, Whens, Qualifies}
+use Rattle.cob_tree.specs.Cues.{is, NotRelates, Givings, Whens}
 use Rattle.cob_tree.specs.Expr.{Expr}
 use Rattle.cob_tree.specs.Cond.{Cond}
 use Rattle.cob_tree.specs.PrintExpr.{one_alone}
-use Rattle.cob_tree.specs.Stmt.{Sel, any, range, choice, display, write, perform_range}
-use Rattle.cob_tree.specs.Takes.{takes_recvs, takes_giving, takes_sel, begins_loop, takes_opnd}
-use Rattle.reading.specs.Readers.{Fault, Stop, Reader, ◌>>=◌, lead_as, lead, branch, seen, stands, behind, maybe, split}
+use Rattle.cob_tree.specs.Stmt.{Sel, range, display, write, perform_range}
+use Rattle.cob_tree.specs.Takes.{takes_recvs, takes_giving, takes_sel, begins_loop}
+use Rattle.reading.specs.Readers.{Fault, Reader, ◌>>=◌, lead_as, lead, seen, stands, behind}
 use Rattle.reading.specs.Printing.{begins}
 use Rattle.cob_parse_expr.specs.Alphabet.{grammar}
 use Rattle.cob_parse_expr.specs.Classes.{name_of, const_of}
-use Rattle.cob_parse_expr.specs.Reading.{qualifiers_at, expr_at}
+use Rattle.cob_parse_expr.specs.Reading.{qualifiers_at, opnd_at, expr_at}
 use Rattle.cob_parse_expr.specs.CondReading.{cond_at}
 use Rattle.cob_parse_expr.specs.declared.halt.Halt.{Halt}
 use Rattle.cob_parse_expr.specs.Steps.{Leads, Lacks, Fails}
@@ -26,14 +24,15 @@ use Rattle.cob_parse_expr.proofs.StepLemmas.{fails_first, fails_second}
 use Rattle.cob_parse_expr.proofs.CondLemmas.{no_not}
 use Rattle.reading.proofs.Results.{ok_is}
 use Rattle.cob_parse_verb.specs.declared.word.Word.TheVariants as word
-use Rattle.cob_parse_verb.specs.Heads.{Arithmetic, add_to, add_giving, subtract_from, subtract_giving, multiply_by, multiply_giving, divide_into, divide_giving, compute, takes_arithmetic, Head, done, takes_behind, read_head, evaluate_head}
+use Rattle.cob_parse_verb.specs.Heads.{Arithmetic, add_to, add_giving, subtract_from, subtract_giving, multiply_by, multiply_giving, divide_into, divide_giving, compute, takes_arithmetic, done, takes_behind}
 use Rattle.cob_parse_verb.specs.Listed.{takes_listed}
 use Rattle.cob_parse_verb.specs.Lists.{recvs_at}
 use Rattle.cob_parse_verb.specs.Procedure.{procedure}
-use Rattle.cob_parse_verb.specs.Targets.{Target, receivers, may_give, item_of, giving_at, target_at}
+use Rattle.cob_parse_verb.specs.Targets.{Target, receivers, may_give, item_of, giving_at, target_at, given_at}
+use Rattle.cob_parse_verb.specs.Sums.{make_divide, by_part, divide_at}
 use Rattle.cob_parse_verb.specs.Targets as targets
 use Rattle.cob_parse_verb.specs.Turning.{turns, follows_name, through_at, Ranged, ranged_at, named_at, unnamed_at, make_perform, perform_at, sel_at}
-use Rattle.cob_parse_verb.specs.VerbSteps.{Aim, all_of, one_of, aim_at, make_ranged, counted_at, sel_behind, sel_range}
+use Rattle.cob_parse_verb.specs.VerbSteps.{Aim, all_of, one_of, aim_at, make_ranged, counted_at, sel_behind}
 use Rattle.cob_parse_verb.specs.Words.{the}
 use Rattle.cob_parse_verb.proofs.TargetLaws.{opnds_never, recvs_never}
 use Rattle.cob_parse_verb.proofs.WordNext.{told_thru}
@@ -47,30 +46,6 @@ lead_behind {K} class x (t ∷ ts) rest l = go (class t) refl l.reads
     go : (o : Option K) → class t ≡ o → lead_as o t ts ≡ Ok (x, rest) → behind class (t ∷ ts) ≡ Some rest
     go None e r = absurd cc
     go (Some y) e r = rw e (ap (λ (z : K × List Sign). Some z.1) (ok_is (y, ts) (x, rest) r))
-
-pub lacks_behind : {K : Type 0} (class : Sign → Option K) (ts : List Sign) → Lacks class ts → behind class ts ≡ None
-lacks_behind {K} class [] l = refl
-lacks_behind {K} class (t ∷ ts) l = go (class t) refl l.stands
-  where
-    go : (o : Option K) → class t ≡ o → is_some o ≡ false → behind class (t ∷ ts) ≡ None
-    go None e s = rw e refl
-    go (Some y) e s = absurd cc
-
-pub lead_maybe : {K : Type 0} (class : Sign → Option K) (x : K) (ts rest : List Sign) → Leads class x ts rest → maybe class ts ≡ Ok (Some x, rest)
-lead_maybe {K} class x [] rest l = absurd cc
-lead_maybe {K} class x (t ∷ ts) rest l = go (class t) refl l.reads
-  where
-    go : (o : Option K) → class t ≡ o → lead_as o t ts ≡ Ok (x, rest) → maybe class (t ∷ ts) ≡ Ok (Some x, rest)
-    go None e r = absurd cc
-    go (Some y) e r = rw e (ap (λ (z : K × List Sign). Ok (Some z.0, z.1)) (ok_is (y, ts) (x, rest) r))
-
-pub lacks_maybe : {K : Type 0} (class : Sign → Option K) (ts : List Sign) → Lacks class ts → maybe class ts ≡ Ok (None, ts)
-lacks_maybe {K} class [] l = refl
-lacks_maybe {K} class (t ∷ ts) l = go (class t) refl l.stands
-  where
-    go : (o : Option K) → class t ≡ o → is_some o ≡ false → maybe class (t ∷ ts) ≡ Ok (None, ts)
-    go None e s = rw e refl
-    go (Some y) e s = absurd cc
 
 -- ---- what never goes on with NOT
 
@@ -179,6 +154,22 @@ module _ {B : Type 0} (r : Reader Sign B) where
   pub target_one_fails : (h : Halt) (ts us : List Sign) (o : Opnd) → aim_at ts ≡ Ok (one_of o, us) → Fails h (giving_at r us) → Fails h (target_at r ts)
   target_one_fails h ts us o e f = subst (Fails h) (sym (target_is ts)) (fails_second h (aim_at ts) (λ a. target_behind a.0 a.1) (one_of o, us) e (fails_first h (giving_at r us) (λ x. Ok (targets.giving o x.0.1, x.1)) f))
 
+-- ---- DIVIDE
+
+pub division_into : (ts us rest : List Sign) (o : Opnd) → opnd_at ts ≡ Ok (o, us) → Leads (the word.Into) tt us rest → divide_at ts ≡ seen (λ t. make_divide (o, inl (tt, t))) (target_at given_at) rest
+division_into ts us rest o e l = go (target_at given_at rest) refl
+  where
+    go : (read : Result (Target (List Recv × Option Ref) × List Sign) Fault) → target_at given_at rest ≡ read → divide_at ts ≡ seen (λ t. make_divide (o, inl (tt, t))) (target_at given_at) rest
+    go (Err f) er = rw (e, l.stands, l.reads, er) refl
+    go (Ok x) er = rw (e, l.stands, l.reads, er) refl
+
+pub division_by : (ts us : List Sign) (o : Opnd) → opnd_at ts ≡ Ok (o, us) → Lacks (the word.Into) us → divide_at ts ≡ seen (λ p. make_divide (o, inr p)) by_part us
+division_by ts us o e l = go (by_part us) refl
+  where
+    go : (read : Result (_ × List Sign) Fault) → by_part us ≡ read → divide_at ts ≡ seen (λ p. make_divide (o, inr p)) by_part us
+    go (Err f) er = rw (e, l.stands, er) refl
+    go (Ok x) er = rw (e, l.stands, er) refl
+
 -- ---- PERFORM
 
 pub named_bare : (room : ℕ) (ts us : List Sign) (text : List ℕ) → lead name_of ts ≡ Ok (text, us) → begins procedure follows_name us ≡ false → seen (λ x. make_perform (Some (inl x))) (named_at room) ts ≡ Ok (done (perform_range text None None), us)
@@ -235,11 +226,20 @@ sel_on_cond room ts [] c l e = go (one_alone c) refl
 sel_on_cond room ts (u ∷ us) c l e = go (the word.Thru u) (one_alone c) refl refl
   where
     high : (low : Expr) (x : Unit {0}) (read : Result (Expr × List Sign) Fault) → the word.Thru u ≡ Some x → one_alone c ≡ Some low → expr_at room us ≡ read → sel_at room ts ≡ sel_behind room c (u ∷ us)
-    high low x (Err f) ew eo ee = rw (l.stands, e, told_thru u us, ew, eo, ee) refl
-    high low x (Ok y) ew eo ee = rw (l.stands, e, told_thru u us, ew, eo, ee) refl
+    high low x (Err f) ew eo ee = rw (l.stands, e, told_thru u us, ew, eo) (rw (ew, ee) refl)
+    high low x (Ok y) ew eo ee = rw (l.stands, e, told_thru u us, ew, eo) (rw (ew, ee, eo) refl)
 
     go : (w : Option (Unit {0})) (o : Option Expr) → the word.Thru u ≡ w → one_alone c ≡ o → sel_at room ts ≡ sel_behind room c (u ∷ us)
     go None None ew eo = rw (l.stands, e, told_thru u us, ew, eo) refl
     go None (Some low) ew eo = rw (l.stands, e, told_thru u us, ew, eo) refl
     go (Some x) None ew eo = rw (l.stands, e, told_thru u us, ew, eo) refl
     go (Some x) (Some low) ew eo = high low x (expr_at room us) ew eo refl
+
+behind_thru : (room : ℕ) (ts rest : List Sign) (c : Cond) (low : Expr) → Leads (the word.Thru) tt ts rest → one_alone c ≡ Some low → sel_behind room c ts ≡ (expr_at room rest >>= λ x. Ok (range low x.0, x.1))
+behind_thru room ts rest c low l eo = rw (lead_behind (the word.Thru) tt ts rest l, eo) refl
+
+pub sel_high : (room : ℕ) (ts rest after : List Sign) (c : Cond) (low high : Expr) (s : Sel) → Leads (the word.Thru) tt ts rest → one_alone c ≡ Some low → expr_at room rest ≡ Ok (high, after) → s ≡ range low high → sel_behind room c ts ≡ Ok (s, after)
+sel_high room ts rest after c low high s l eo ee es = behind_thru room ts rest c low l eo ∙ (ap (λ (z : Result (Expr × List Sign) Fault). z >>= λ x. Ok (range low x.0, x.1)) ee ∙ ap (λ (z : Sel). Ok (z, after)) (sym es))
+
+pub sel_high_fails : (h : Halt) (room : ℕ) (ts rest : List Sign) (c : Cond) (low : Expr) → Leads (the word.Thru) tt ts rest → one_alone c ≡ Some low → Fails h (expr_at room rest) → Fails h (sel_behind room c ts)
+sel_high_fails h room ts rest c low l eo f = subst (Fails h) (sym (behind_thru room ts rest c low l eo)) (fails_first h (expr_at room rest) (λ x. Ok (range low x.0, x.1)) f)

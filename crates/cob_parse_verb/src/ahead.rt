@@ -64,9 +64,7 @@ pub fn when_begins(lexemes: &[Lexeme]) -> bool
 fn loop_word_begins(lexemes: &[Lexeme]) -> bool
     ensures { result ≡ loop_stands (signs lexemes.now) }
 {
-    stands(Word::Test, lexemes)
-        || stands(Word::Varying, lexemes)
-        || stands(Word::Until, lexemes)
+    stands(Word::Test, lexemes) || stands(Word::Varying, lexemes) || stands(Word::Until, lexemes)
 }
 
 /// Whether what stands here may begin the loop of a PERFORM: TIMES as well, which makes a name before it an operand.

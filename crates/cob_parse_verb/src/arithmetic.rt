@@ -75,12 +75,7 @@ fn add_to(addends: Many<Opnd>, to: Many<Recv>, tail: Tail) -> Verb
     Verb::AddTo { addends, to, tail }
 }
 
-fn add_giving(
-    addends: Many<Opnd>,
-    to: Option<Opnd>,
-    giving: Many<Recv>,
-    tail: Tail,
-) -> Verb
+fn add_giving(addends: Many<Opnd>, to: Option<Opnd>, giving: Many<Recv>, tail: Tail) -> Verb
     ensures { plain_verb result ≡ add_giving addends to giving (plain_tail tail) }
 {
     Verb::AddGiving {
@@ -354,10 +349,7 @@ fn divide_into_in(
         Aim::Receivers(into) => Ok((divided_into(divisor, into), rest)),
         Aim::Operand(second) => {
             let (giving, remainder, rest) = giving_remainder_in(alloc, rest)?;
-            Ok((
-                divided(divisor, Way::Into, second, giving, remainder),
-                rest,
-            ))
+            Ok((divided(divisor, Way::Into, second, giving, remainder), rest))
         }
     }
 }
@@ -374,10 +366,7 @@ fn divide_by_in(
     let rest = expect(Word::By, lexemes)?;
     let (second, rest) = opnd_in(alloc, rest)?;
     let (giving, remainder, rest) = giving_remainder_in(alloc, rest)?;
-    Ok((
-        divided(first, Way::By, second, giving, remainder),
-        rest,
-    ))
+    Ok((divided(first, Way::By, second, giving, remainder), rest))
 }
 
 /// What stands behind DIVIDE.

@@ -7,9 +7,7 @@ ghost use Rattle.cob_parse_verb.specs.Reading.{if_at, behind_at, head_at};
 ghost use Rattle.cob_parse_verb.specs.Sums.{add_at, subtract_at, multiply_at, divide_at, compute_at};
 ghost use Rattle.cob_parse_verb.specs.VerbSteps.{plain_head};
 
-use crate::arithmetic::{
-    Arithmetic, add_in, compute_in, divide_in, multiply_in, subtract_in,
-};
+use crate::arithmetic::{Arithmetic, add_in, compute_in, divide_in, multiply_in, subtract_in};
 use crate::perform::perform_in;
 use crate::select::evaluate_in;
 use crate::simple::{
@@ -32,17 +30,10 @@ pub enum Head {
     Evaluate(Subject),
     /// An inline PERFORM.
     Perform(Option<Loop>),
-    Read {
-        file: Name,
-        into: Option<Ref>,
-    },
+    Read { file: Name, into: Option<Ref> },
 }
 
-fn if_in(
-    alloc: Global,
-    lexemes: &[Lexeme],
-    room: u32,
-) -> Result<(Head, bool, &[Lexeme]), Halt>
+fn if_in(alloc: Global, lexemes: &[Lexeme], room: u32) -> Result<(Head, bool, &[Lexeme]), Halt>
     ensures gives { Gives (λ x. (plain_head x.0, signs x.2.now)) result (if_at room (signs lexemes.now)) }
     ensures takes { IfOk result (λ x. x.1 ≡ takes_behind (plain_head x.0) NotRelates) }
     ensures rest { IfOk result (λ x. length x.2.now ≤ length lexemes.now) }
@@ -53,10 +44,8 @@ fn if_in(
 
 // The arithmetic statements as heads.
 
-fn add_head(
-    alloc: Global,
-    lexemes: &[Lexeme],
-) -> Result<(Head, bool, &[Lexeme]), Halt>
+#[tactic(auto, using(crate::proofs::VerbLemmas::arithmetic_never))]
+fn add_head(alloc: Global, lexemes: &[Lexeme]) -> Result<(Head, bool, &[Lexeme]), Halt>
     ensures gives { Gives (λ x. (plain_head x.0, signs x.2.now)) result (seen arithmetic add_at (signs lexemes.now)) }
     ensures takes { IfOk result (λ x. x.1 ≡ takes_behind (plain_head x.0) NotRelates) }
     ensures rest { IfOk result (λ x. length x.2.now ≤ length lexemes.now) }
@@ -65,10 +54,8 @@ fn add_head(
     Ok((Head::Arithmetic(sum), false, rest))
 }
 
-fn subtract_head(
-    alloc: Global,
-    lexemes: &[Lexeme],
-) -> Result<(Head, bool, &[Lexeme]), Halt>
+#[tactic(auto, using(crate::proofs::VerbLemmas::arithmetic_never))]
+fn subtract_head(alloc: Global, lexemes: &[Lexeme]) -> Result<(Head, bool, &[Lexeme]), Halt>
     ensures gives { Gives (λ x. (plain_head x.0, signs x.2.now)) result (seen arithmetic subtract_at (signs lexemes.now)) }
     ensures takes { IfOk result (λ x. x.1 ≡ takes_behind (plain_head x.0) NotRelates) }
     ensures rest { IfOk result (λ x. length x.2.now ≤ length lexemes.now) }
@@ -77,10 +64,8 @@ fn subtract_head(
     Ok((Head::Arithmetic(sum), false, rest))
 }
 
-fn multiply_head(
-    alloc: Global,
-    lexemes: &[Lexeme],
-) -> Result<(Head, bool, &[Lexeme]), Halt>
+#[tactic(auto, using(crate::proofs::VerbLemmas::arithmetic_never))]
+fn multiply_head(alloc: Global, lexemes: &[Lexeme]) -> Result<(Head, bool, &[Lexeme]), Halt>
     ensures gives { Gives (λ x. (plain_head x.0, signs x.2.now)) result (seen arithmetic multiply_at (signs lexemes.now)) }
     ensures takes { IfOk result (λ x. x.1 ≡ takes_behind (plain_head x.0) NotRelates) }
     ensures rest { IfOk result (λ x. length x.2.now ≤ length lexemes.now) }
@@ -89,10 +74,8 @@ fn multiply_head(
     Ok((Head::Arithmetic(sum), false, rest))
 }
 
-fn divide_head(
-    alloc: Global,
-    lexemes: &[Lexeme],
-) -> Result<(Head, bool, &[Lexeme]), Halt>
+#[tactic(auto, using(crate::proofs::VerbLemmas::arithmetic_never))]
+fn divide_head(alloc: Global, lexemes: &[Lexeme]) -> Result<(Head, bool, &[Lexeme]), Halt>
     ensures gives { Gives (λ x. (plain_head x.0, signs x.2.now)) result (seen arithmetic divide_at (signs lexemes.now)) }
     ensures takes { IfOk result (λ x. x.1 ≡ takes_behind (plain_head x.0) NotRelates) }
     ensures rest { IfOk result (λ x. length x.2.now ≤ length lexemes.now) }
@@ -101,6 +84,7 @@ fn divide_head(
     Ok((Head::Arithmetic(sum), false, rest))
 }
 
+#[tactic(auto, using(crate::proofs::VerbLemmas::arithmetic_never))]
 fn compute_head(
     alloc: Global,
     lexemes: &[Lexeme],

@@ -53,11 +53,7 @@ fn varying_in(alloc: Global, lexemes: &[Lexeme]) -> Result<(Varying, &[Lexeme]),
     Ok((Varying { item, from, by }, rest))
 }
 
-fn until_in(
-    alloc: Global,
-    lexemes: &[Lexeme],
-    room: u32,
-) -> Result<(Cond, bool, &[Lexeme]), Halt>
+fn until_in(alloc: Global, lexemes: &[Lexeme], room: u32) -> Result<(Cond, bool, &[Lexeme]), Halt>
     ensures gives { Gives (λ x. ((tt, plain_cond x.0), signs x.2.now)) result (until_at room (signs lexemes.now)) }
     ensures takes { IfOk result (λ x. x.1 ≡ takes_cond (plain_cond x.0) NotRelates) }
     ensures rest { IfOk result (λ x. length x.2.now ≤ length lexemes.now) }

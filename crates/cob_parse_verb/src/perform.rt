@@ -33,11 +33,7 @@ fn counted_in(alloc: Global, lexemes: &[Lexeme]) -> Result<(Head, bool, &[Lexeme
 {
     let (item, rest) = ref_in(alloc, lexemes)?;
     let rest = expect(Word::Times, rest)?;
-    Ok((
-        Head::Perform(Some(times(Opnd::Ref(item)))),
-        false,
-        rest,
-    ))
+    Ok((Head::Perform(Some(times(Opnd::Ref(item)))), false, rest))
 }
 
 // THRU and a name, with a loop behind them or without.
@@ -55,11 +51,7 @@ fn through_in(
     let (thru, rest) = name_at(alloc, rest)?;
     if loop_begins(rest) {
         let (turns, takes_not, rest) = loop_in(alloc, rest, room)?;
-        Ok((
-            range(first, Some(thru), Some(turns)),
-            takes_not,
-            rest,
-        ))
+        Ok((range(first, Some(thru), Some(turns)), takes_not, rest))
     } else {
         Ok((range(first, Some(thru), None), false, rest))
     }
@@ -86,11 +78,7 @@ fn ranged_in(
 }
 
 // What begins with a name: a range, unless OF or TIMES makes the name an operand.
-fn named_in(
-    alloc: Global,
-    lexemes: &[Lexeme],
-    room: u32,
-) -> Result<(Head, bool, &[Lexeme]), Halt>
+fn named_in(alloc: Global, lexemes: &[Lexeme], room: u32) -> Result<(Head, bool, &[Lexeme]), Halt>
     ensures gives { Gives (λ x. (plain_head x.0, signs x.2.now)) result (seen (λ x. make_perform (Some (inl x))) (named_at room) (signs lexemes.now)) }
     ensures takes { IfOk result (λ x. x.1 ≡ takes_behind (plain_head x.0) NotRelates) }
     ensures rest { IfOk result (λ x. length x.2.now ≤ length lexemes.now) }
@@ -107,11 +95,7 @@ fn named_in(
 }
 
 // What begins otherwise: a loop.
-fn unnamed_in(
-    alloc: Global,
-    lexemes: &[Lexeme],
-    room: u32,
-) -> Result<(Head, bool, &[Lexeme]), Halt>
+fn unnamed_in(alloc: Global, lexemes: &[Lexeme], room: u32) -> Result<(Head, bool, &[Lexeme]), Halt>
     ensures gives { Gives (λ x. (plain_head x.0, signs x.2.now)) result (seen (λ x. make_perform (Some (inr x))) (unnamed_at room) (signs lexemes.now)) }
     ensures takes { IfOk result (λ x. x.1 ≡ takes_behind (plain_head x.0) NotRelates) }
     ensures rest { IfOk result (λ x. length x.2.now ≤ length lexemes.now) }
@@ -119,11 +103,7 @@ fn unnamed_in(
     if begins_constant(lexemes) {
         let (count, rest) = const_at(alloc, lexemes)?;
         let rest = expect(Word::Times, rest)?;
-        Ok((
-            Head::Perform(Some(times(Opnd::Const(count)))),
-            false,
-            rest,
-        ))
+        Ok((Head::Perform(Some(times(Opnd::Const(count)))), false, rest))
     } else {
         let (turns, takes_not, rest) = tested_in(alloc, lexemes, room)?;
         Ok((Head::Perform(Some(turns)), takes_not, rest))

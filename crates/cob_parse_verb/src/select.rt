@@ -72,11 +72,7 @@ fn sel_behind(
     }
 }
 
-fn sel_in(
-    alloc: Global,
-    lexemes: &[Lexeme],
-    room: u32,
-) -> Result<(Sel, bool, &[Lexeme]), Halt>
+fn sel_in(alloc: Global, lexemes: &[Lexeme], room: u32) -> Result<(Sel, bool, &[Lexeme]), Halt>
     ensures gives { Gives (λ x. (plain_sel x.0, signs x.2.now)) result (sel_at room (signs lexemes.now)) }
     ensures takes { IfOk result (λ x. x.1 ≡ takes_sel (plain_sel x.0) NotRelates) }
     ensures rest { IfOk result (λ x. length x.2.now ≤ length lexemes.now) }
@@ -89,11 +85,7 @@ fn sel_in(
 }
 
 // WHEN and what stands behind it.
-fn choice_in(
-    alloc: Global,
-    lexemes: &[Lexeme],
-    room: u32,
-) -> Result<(Sel, bool, &[Lexeme]), Halt>
+fn choice_in(alloc: Global, lexemes: &[Lexeme], room: u32) -> Result<(Sel, bool, &[Lexeme]), Halt>
     ensures gives { Gives (λ x. (plain_sel x.0, signs x.2.now)) result (choice_at room (signs lexemes.now)) }
     ensures takes { IfOk result (λ x. x.1 ≡ takes_sel (plain_sel x.0) NotRelates) }
     ensures rest { IfOk result (λ x. length x.2.now < length lexemes.now) }

@@ -103,6 +103,7 @@ pub fn set_in(alloc: Global, lexemes: &[Lexeme]) -> Result<(Head, bool, &[Lexeme
     Ok((set(name), false, rest))
 }
 
+#[tactic(auto, using(crate::proofs::VerbLemmas::display_never))]
 pub fn display_in(alloc: Global, lexemes: &[Lexeme]) -> Result<(Head, bool, &[Lexeme]), Halt>
     ensures gives { Gives (λ x. (plain_head x.0, signs x.2.now)) result (display_at (signs lexemes.now)) }
     ensures takes { IfOk result (λ x. x.1 ≡ takes_behind (plain_head x.0) NotRelates) }
@@ -149,10 +150,7 @@ pub fn close_in(alloc: Global, lexemes: &[Lexeme]) -> Result<(Head, bool, &[Lexe
 }
 
 // A record, with FROM or without.
-fn written_in(
-    alloc: Global,
-    lexemes: &[Lexeme],
-) -> Result<(Ref, Option<Opnd>, &[Lexeme]), Halt>
+fn written_in(alloc: Global, lexemes: &[Lexeme]) -> Result<(Ref, Option<Opnd>, &[Lexeme]), Halt>
     ensures gives { Gives (λ x. ((x.0, x.1), signs x.2.now)) result (written_at (signs lexemes.now)) }
     ensures rest { IfOk result (λ x. length x.2.now ≤ length lexemes.now) }
 {

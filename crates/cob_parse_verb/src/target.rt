@@ -75,10 +75,7 @@ pub fn giving_in(alloc: Global, lexemes: &[Lexeme]) -> Result<(Vec<Recv>, &[Lexe
 }
 
 // Receivers, with REMAINDER or without.
-fn given_in(
-    alloc: Global,
-    lexemes: &[Lexeme],
-) -> Result<(Vec<Recv>, Option<Ref>, &[Lexeme]), Halt>
+fn given_in(alloc: Global, lexemes: &[Lexeme]) -> Result<(Vec<Recv>, Option<Ref>, &[Lexeme]), Halt>
     ensures gives { Gives (λ x. ((x.0.items, x.1), signs x.2.now)) result (given_at (signs lexemes.now)) }
     ensures rest { IfOk result (λ x. length x.2.now ≤ length lexemes.now) }
 {

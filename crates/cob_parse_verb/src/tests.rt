@@ -5,6 +5,7 @@ use cob_tree::{
     Sel, Simple, Subject, Tail, Tok, Token, Verb, Way,
 };
 use std::alloc::{AllocError, Global};
+use std::process::Abort;
 use std::test::Fail;
 
 // A mark, a relation, a whole number, or else a word.
@@ -66,11 +67,7 @@ fn show_opnds(out: &mut Vec<u8>, opnds: &[Opnd]) -> Result<(), AllocError> {
     Ok(())
 }
 
-fn show_recvs(
-    out: &mut Vec<u8>,
-    word: &[u8],
-    recvs: &[Recv],
-) -> Result<(), AllocError> {
+fn show_recvs(out: &mut Vec<u8>, word: &[u8], recvs: &[Recv]) -> Result<(), AllocError> {
     out.extend_from_slice(word)?;
     for recv in recvs {
         show_ref(out, &recv.item)?;
@@ -344,12 +341,9 @@ fn shown(alloc: Global, text: &[u8]) -> Result<(Vec<u8>, usize), AllocError> {
     Ok((out, left))
 }
 
-fn try_all(
-    rt: HostRuntime,
-    cases: &[(&[u8], &[u8], usize)],
-) -> Result<(), Fail> {
+fn try_all(rt: &impl Abort, alloc: Global, cases: &[(&[u8], &[u8], usize)]) -> Result<(), Fail> {
     for (text, expected, left) in cases {
-        let (out, rest) = shown(rt.alloc(), text)?;
+        let (out, rest) = shown(alloc, text)?;
         assert_eq!(rt; out.as_slice(), *expected);
         assert_eq!(rt; rest, *left);
     }
@@ -375,7 +369,7 @@ fn simple_statements_are_read(rt: HostRuntime) -> Result<(), Fail> {
         (b"READ F INTO A OF B", b" F into A/B", 0),
         (b"READ F END", b" F", 1),
     ];
-    try_all(rt, cases.as_slice())
+    try_all(&rt, rt.alloc(), cases.as_slice())
 }
 
 #[test]
@@ -400,7 +394,7 @@ fn arithmetic_statements_are_read(rt: HostRuntime) -> Result<(), Fail> {
         (b"COMPUTE A B ROUNDED = 1 + C", b" to A B! 1..", 0),
         (b"COMPUTE A = ( B ) SIZE", b" to A (", 1),
     ];
-    try_all(rt, cases.as_slice())
+    try_all(&rt, rt.alloc(), cases.as_slice())
 }
 
 #[test]
@@ -430,7 +424,7 @@ fn loops_and_choices_are_read(rt: HostRuntime) -> Result<(), Fail> {
             0,
         ),
     ];
-    try_all(rt, cases.as_slice())
+    try_all(&rt, rt.alloc(), cases.as_slice())
 }
 
 #[test]
@@ -456,16 +450,13 @@ fn others_are_refused(rt: HostRuntime) -> Result<(), Fail> {
         (b"PERFORM A THRU 1 TIMES", b"stop", 2),
         (b"PERFORM VARYING I FROM 1 UNTIL A", b"stop", 2),
     ];
-    try_all(rt, cases.as_slice())
+    try_all(&rt, rt.alloc(), cases.as_slice())
 }
 
 #[test]
 fn whens_are_read(rt: HostRuntime) -> Result<(), Fail> {
     let alloc = rt.alloc();
-    let lexemes = read(
-        alloc,
-        b"WHEN ANY WHEN A THRU B + 1 WHEN C = D THRU E",
-    )?;
+    let lexemes = read(alloc, b"WHEN ANY WHEN A THRU B + 1 WHEN C = D THRU E")?;
     match choices_in(alloc, lexemes.as_slice(), 9) {
         Ok((choices, takes_not, rest)) => {
             assert_eq!(rt; rest.len(), 2);

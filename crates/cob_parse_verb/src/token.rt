@@ -121,11 +121,7 @@ fn is_figurative(keyword: Keyword) -> bool
 {
     matches!(
         keyword,
-        Keyword::Zero
-            | Keyword::Space
-            | Keyword::Quote
-            | Keyword::HighValue
-            | Keyword::LowValue
+        Keyword::Zero | Keyword::Space | Keyword::Quote | Keyword::HighValue | Keyword::LowValue
     )
 }
 
