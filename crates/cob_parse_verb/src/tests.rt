@@ -472,22 +472,30 @@ fn whens_are_read(rt: HostRuntime) -> Result<(), Fail> {
     Ok(())
 }
 
+// An arithmetic statement without phrases.
+fn completed(head: Head) -> Option<Verb> {
+    match head {
+        Head::Arithmetic(sum) => Some(sum.with_tail(Tail {
+            size: None,
+            not_size: None,
+            ended: false,
+        })),
+        _other => None,
+    }
+}
+
 #[test]
 fn a_head_is_completed(rt: HostRuntime) -> Result<(), Fail> {
     let alloc = rt.alloc();
     let lexemes = read(alloc, b"ADD A TO B")?;
     match head_in(alloc, lexemes.as_slice(), 0) {
-        Ok((begin, Head::Arithmetic(sum), _, _)) => {
+        Ok((begin, head, _takes_not, _rest)) => {
             assert_eq!(rt; begin.line, 7);
             assert_eq!(rt; begin.start, Start::Add);
-            let tail = Tail {
-                size: None,
-                not_size: None,
-                ended: false,
-            };
-            assert!(rt; matches!(sum.with_tail(tail), Verb::AddTo { .. }));
+            let verb = completed(head);
+            assert!(rt; matches!(&verb, Some(Verb::AddTo { .. })));
         }
-        _ => assert!(rt; false),
+        Err(_halt) => assert!(rt; false),
     }
     Ok(())
 }
