@@ -15,7 +15,7 @@ use Rattle.cob_lex.specs.declared.cut.Shape.{Shape}
 use Rattle.cob_lex.specs.declared.cut.Shape.TheVariants.{Word, Number, Padded, Literal, Symbol, Relation, Stop, PictureString}
 use Rattle.cob_lex.specs.declared.piece.Piece.{Piece}
 use Rattle.cob_lex.specs.declared.piece.Place.{Place}
-use Rattle.cob_lex.specs.Marks.{ch_at, is_digit, content, stripped}
+use Rattle.cob_lex.specs.Marks.{ch_at, is_digit, content}
 use Rattle.cob_lex.specs.Words.{name, raised}
 use Rattle.cob_lex.specs.Pieces.{place, raw_tokens}
 use Rattle.cob_lex.specs.Rows.{rewritten}
@@ -63,7 +63,7 @@ tok_of Literal front = tok.Text (content front)
 tok_of Symbol front = tok.Mark (ch_at front 0)
 tok_of (Relation r) front = tok.Relation r
 tok_of Stop front = tok.Stop
-tok_of PictureString front = tok.Pic (characters (stripped front))
+tok_of PictureString front = tok.Pic (characters front)
 
 -- the characters of a token
 abbrev pub characters_of : List Mark → Piece → List Mark

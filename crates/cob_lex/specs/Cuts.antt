@@ -68,10 +68,11 @@ literal_token None text = None
 literal_token (Some n) text =
     if is_literal (take (n + 1) text) then ended Literal (n + 1) text else None
 
--- a picture goes up to the next space
+-- A picture goes up to the next space. A last point, comma or semicolon isn't part of it: it is read on, as what ends
+-- a sentence or separates.
 abbrev pub picture_token : List Mark → Option Cut
 picture_token front =
-    if length (stripped front) == 0 then None else Some (token_of_len PictureString (length front))
+    if length (stripped front) == 0 then None else Some (token_of_len PictureString (length (stripped front)))
 
 -- the optional word IS before a picture
 abbrev pub is_is : List Mark → List Mark → Bool

@@ -188,12 +188,13 @@ fn picture_token(front: &[Mark]) -> Option<Cut>
     ensures value { result ≡ picture_token front.now }
     ensures within { IsWithin result front.now }
 {
-    if stripped(front).is_empty() {
+    let picture = stripped(front);
+    if picture.is_empty() {
         None
     } else {
         Some(Cut {
             shape: Some(Shape::PictureString),
-            length: front.len(),
+            length: picture.len(),
         })
     }
 }

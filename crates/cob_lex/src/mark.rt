@@ -252,7 +252,8 @@ fn is_point_comma_semicolon(ch: u8) -> bool
 
 /// Without a last point, comma or semicolon.
 pub fn stripped(front: &[Mark]) -> &[Mark]
-    ensures { result.now ≡ stripped front.now }
+    ensures value { result.now ≡ stripped front.now }
+    ensures shorter { length result.now ≤ length front.now }
 {
     let last = front.len().saturating_sub(1);
     if is_point_comma_semicolon(ch_at(front, last)) {

@@ -165,6 +165,11 @@ fn tokens_of_lines(rt: HostRuntime) -> Result<(), Fail> {
         ),
         (b"       PIC -1", b"word PIC@08 pic -1@12 "),
         (
+            b"       77 N PIC 9. 77 M PIC IS X(2), VALUE",
+            b"number 77/0@08 word N@11 word PIC@13 pic 9@17 stop@18 number 77/0@20 word M@23 word PIC@25 pic X(2)@32 word VALUE@38 ",
+        ),
+        (b"       PIC Z9.. PIC .", b"bad@21 "),
+        (
             b"       CONTAINS SIZE AAAAAAAAAAAAAAAAAAAAAAAAAAAAAA ., (  NEXT, 9A IS TH",
             b"bad@53 ",
         ),

@@ -4,7 +4,7 @@ ghost use Rattle.cob_lex.specs.Words.{raised};
 ghost use Rattle.cob_lex.specs.Canonical.{characters, written, digits, is_sign, sign, point, scale, number, tok_of, characters_of, token};
 
 use crate::cut::Shape;
-use crate::mark::{ch_at, half_behind, inside, is_digit, is_second, stripped, tail};
+use crate::mark::{ch_at, half_behind, inside, is_digit, is_second, tail};
 use crate::piece::{Piece, behind};
 use crate::row::head;
 use crate::word::Key;
@@ -157,7 +157,7 @@ fn tok_of(alloc: Global, shape: Shape, front: &[Mark]) -> Result<Tok, AllocError
         Shape::Symbol => Ok(Tok::Mark(ch_at(front, 0))),
         Shape::Relation(relation) => Ok(Tok::Relation(relation)),
         Shape::Stop => Ok(Tok::Stop),
-        Shape::PictureString => Ok(Tok::Pic(characters(alloc, stripped(front))?)),
+        Shape::PictureString => Ok(Tok::Pic(characters(alloc, front)?)),
     }
 }
 
