@@ -19,46 +19,46 @@ use Rattle.cob_data.specs.declared.layout.Sender.TheVariants as sender
 use Rattle.cob_program.specs.Sum.{Sum, MkSum, no_parts, more_parts, MkPart, no_factors, more_factors, MkFactor, Atom, number}
 use Rattle.cob_program.specs.Bounds.{form_bound, is_small_sides}
 use Rattle.cob_program.specs.Logic.{Test, numbers, texts, member, numeric, always, Logic, all_of, any_of, not_, test, logics_of}
+use Rattle.cob_typed.specs.declared.kinds.Side.{Side}
+use Rattle.cob_typed.specs.declared.kinds.Side.TheVariants as side
+use Rattle.cob_typed.specs.declared.kinds.Comparison.{Comparison}
+use Rattle.cob_typed.specs.declared.kinds.Comparison.TheVariants as way
+use Rattle.cob_typed.specs.declared.operand.Operand.{Operand}
+use Rattle.cob_typed.specs.declared.operand.Operand.TheVariants as operand_
 use Rattle.cob_typed.specs.Judged.{Judged, sound, breaks, demand, demanded, beside, seen_as, ◌>>=◌}
-use Rattle.cob_typed.specs.Scope.{Scope, items_named, flags_named, is_empty, means_something, exactly_one, one_of_kind, the_item, form_at}
-use Rattle.cob_typed.specs.Kinds.{is_number, is_testable, Side, side_of, Comparison, by_value, by_bytes, not_at_all, comparison}
-use Rattle.cob_typed.specs.Kinds as kinds
-use Rattle.cob_typed.specs.Sums.{operand, zero_literal, atom_of, sum_of, lone, whole_sum, has_item, names_in}
+use Rattle.cob_typed.specs.Scope.{Scope, flag_named, item_named, is_there, means_something, exactly_one, one_of_kind, the_item, form_at}
+use Rattle.cob_typed.specs.Kinds.{is_number, is_testable, side_of, comparison}
+use Rattle.cob_typed.specs.Sums.{operand, zero_literal, atom_of, sum_of, lone, whole_sum, has_item, wrong_at}
 
 -- ---- relations
 
--- a side is one operand, or is worked out
-pub data Operand : Type 0 where
-  alone : Sender → Operand
-  worked_out : Operand
-
 abbrev pub lone_side : Scope → Option Opnd → Judged Operand
-lone_side s None = sound worked_out
-lone_side s (Some o) = seen_as alone (operand s o)
+lone_side s None = sound operand_.WorkedOut
+lone_side s (Some o) = seen_as operand_.Alone (operand s o)
 
 abbrev pub side_kind : Scope → Operand → Side
-side_kind s (alone x) = side_of s x
-side_kind s worked_out = kinds.number false
+side_kind s (operand_.Alone x) = side_of s x
+side_kind s operand_.WorkedOut = side.Number false
 
 abbrev pub one_atom : Atom → Sum
 one_atom a = MkSum (more_parts (MkPart false (more_factors (MkFactor false false a) no_factors)) no_parts)
 
 abbrev pub sum_of_side : Scope → Expr → Operand → Judged Sum
-sum_of_side s e (alone x) = sound (one_atom (atom_of x))
-sum_of_side s e worked_out = whole_sum s e
+sum_of_side s e (operand_.Alone x) = sound (one_atom (atom_of x))
+sum_of_side s e operand_.WorkedOut = whole_sum s e
 
 abbrev pub sender_of_side : Operand → Sender
-sender_of_side (alone x) = x
-sender_of_side worked_out = sender.Zero
+sender_of_side (operand_.Alone x) = x
+sender_of_side operand_.WorkedOut = sender.Zero
 
 abbrev pub number_test : Scope → Sum → Rel → Sum → Judged Test
 number_test s a r b = demand N5 (is_small_sides (λ place. form_bound (form_at s place)) a b) (numbers a r b)
 
 abbrev pub compared : Scope → Expr → Operand → Rel → Expr → Operand → Comparison → Judged Test
-compared s left a r right b by_value =
+compared s left a r right b way.ByValue =
     sum_of_side s left a >>= λ x. sum_of_side s right b >>= λ y. number_test s x r y
-compared s left a r right b by_bytes = sound (texts (sender_of_side a) r (sender_of_side b))
-compared s left a r right b not_at_all = sum_of_side s left a >>= λ x. sum_of_side s right b >>= λ y. breaks Q4 always
+compared s left a r right b way.ByBytes = sound (texts (sender_of_side a) r (sender_of_side b))
+compared s left a r right b way.NotAtAll = sum_of_side s left a >>= λ x. sum_of_side s right b >>= λ y. breaks Q4 always
 
 -- there is an item on one of the sides, and the sides compare
 abbrev pub relation_test : Scope → Expr → Rel → Expr → Judged Test
@@ -77,7 +77,7 @@ relation_logic s left not__ r right = seen_as (λ t. denied_if not__ (test t)) (
 
 abbrev pub numeric_test : Scope → Expr → Option Opnd → Judged Test
 numeric_test s e (Some (opnd.Ref r)) = the_item s r >>= λ place. demand Q5 (is_testable (form_at s place)) (numeric place)
-numeric_test s e _ = names_in s e >>= λ x. breaks Q5 always
+numeric_test s e _ = wrong_at s Q5 e always
 
 abbrev pub sign_relation : SignTest → Rel
 sign_relation sign_test.Positive = rel.Greater
@@ -106,7 +106,7 @@ member_if s None = always
 member_if s (Some place) = member_of (slice_get s.layout.flags place)
 
 abbrev pub named_condition : Scope → Ref → Judged Test
-named_condition s r = seen_as (member_if s) (one_of_kind Q6 (means_something s r) (flags_named s r))
+named_condition s r = seen_as (member_if s) (one_of_kind Q6 (means_something s r) (flag_named s r))
 
 -- ---- abbreviations
 
@@ -131,11 +131,11 @@ tested t = walked (seen_as test t) None
 -- an abbreviation needs a relation directly before it, and stands with no NOT before either
 abbrev pub abbreviated_from : Scope → Bool → Carry → Bool → Rel → Expr → Walked
 abbreviated_from s denied k not__ r right =
-    if denied || k.denied then walked (names_in s right >>= λ x. breaks Q6 (test always)) None
+    if denied || k.denied then walked (wrong_at s Q6 right (test always)) None
     else walked (relation_logic s k.subject not__ r right) (Some (record { subject = k.subject; not = not__; rel = r; denied = false }))
 
 abbrev pub unrelated : Scope → Expr → Walked
-unrelated s right = walked (names_in s right >>= λ x. breaks Q6 (test always)) None
+unrelated s right = walked (wrong_at s Q6 right (test always)) None
 
 -- a value alone: it has the subject and the relation before it
 abbrev pub value_alone : Scope → Bool → Option Carry → Expr → Walked
@@ -146,7 +146,7 @@ value_alone s denied (Some k) e = abbreviated_from s denied k k.not k.rel e
 abbrev pub name_alone : Scope → Bool → Option Carry → Expr → Ref → Walked
 name_alone s denied None e r = tested (named_condition s r)
 name_alone s denied (Some k) e r =
-    if is_empty (items_named s r) then tested (named_condition s r) else abbreviated_from s denied k k.not k.rel e
+    if is_there (item_named s r) then abbreviated_from s denied k k.not k.rel e else tested (named_condition s r)
 
 abbrev pub expression_alone : Scope → Bool → Option Carry → Expr → Option Opnd → Walked
 expression_alone s denied carry e (Some (opnd.Ref r)) = name_alone s denied carry e r

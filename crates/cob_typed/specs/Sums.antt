@@ -11,12 +11,13 @@ use Rattle.cob_tree.specs.declared.expr.Scaling.{Scaling}
 use Rattle.cob_tree.specs.declared.expr.Scaling.TheVariants as scaling
 use Rattle.cob_tree.specs.Expr.{Expr, MkExpr, Terms, no_terms, more_terms, Term, MkTerm, Facts, no_facts, more_facts, Fact, MkFact, Primary}
 use Rattle.cob_tree.specs.Expr as expr
-use Rattle.cob_data.specs.declared.end.Rule.TheVariants.{Q1, Q3}
+use Rattle.cob_data.specs.declared.end.Rule.{Rule}
+use Rattle.cob_data.specs.declared.end.Rule.TheVariants.{Q3}
 use Rattle.cob_data.specs.declared.layout.Sender.{Sender}
 use Rattle.cob_data.specs.declared.layout.Sender.TheVariants as sender
 use Rattle.cob_data.specs.Entries.{sender_of}
-use Rattle.cob_program.specs.Sum.{Sum, MkSum, Parts, no_parts, more_parts, Part, MkPart, Factors, no_factors, more_factors, Factor, MkFactor, Atom, item, number, group}
-use Rattle.cob_typed.specs.Judged.{Judged, sound, breaks, demand, seen_as, ◌>>=◌}
+use Rattle.cob_program.specs.Sum.{Sum, MkSum, Part, MkPart, parts_of, Factor, MkFactor, factors_of, Atom, item, number, group}
+use Rattle.cob_typed.specs.Judged.{Broken, kept, one, both, Judged, sound, demand, seen_as, ◌>>=◌}
 use Rattle.cob_typed.specs.Scope.{Scope, the_item, form_at}
 use Rattle.cob_typed.specs.Kinds.{is_number}
 
@@ -56,25 +57,25 @@ is_divided_by scaling.Over = true
 module _ (s : Scope) where
   abbrev mutual
     pub sum_of : Expr → Judged Sum
-    sum_of (MkExpr t ts) = part_of false t >>= λ p. parts_of ts >>= λ ps. sound (MkSum (more_parts p ps))
+    sum_of (MkExpr t ts) = part_of false t >>= λ p. parts_in ts >>= λ ps. sound (MkSum (parts_of (p ∷ ps)))
 
-    pub parts_of : Terms → Judged Parts
-    parts_of no_terms = sound no_parts
-    parts_of (more_terms plus_minus t ts) = part_of (is_subtracted plus_minus) t >>= λ p. parts_of ts >>= λ ps. sound (more_parts p ps)
+    pub parts_in : Terms → Judged (List Part)
+    parts_in no_terms = sound []
+    parts_in (more_terms plus_minus t ts) = part_of (is_subtracted plus_minus) t >>= λ p. parts_in ts >>= λ ps. sound (p ∷ ps)
 
     pub part_of : Bool → Term → Judged Part
-    part_of minus (MkTerm f fs) = factor_of false f >>= λ g. factors_of fs >>= λ gs. sound (MkPart minus (more_factors g gs))
+    part_of minus (MkTerm f fs) = factor_of false f >>= λ g. factors_in fs >>= λ gs. sound (MkPart minus (factors_of (g ∷ gs)))
 
-    pub factors_of : Facts → Judged Factors
-    factors_of no_facts = sound no_factors
-    factors_of (more_facts by f fs) = factor_of (is_divided_by by) f >>= λ g. factors_of fs >>= λ gs. sound (more_factors g gs)
+    pub factors_in : Facts → Judged (List Factor)
+    factors_in no_facts = sound []
+    factors_in (more_facts by f fs) = factor_of (is_divided_by by) f >>= λ g. factors_in fs >>= λ gs. sound (g ∷ gs)
 
     pub factor_of : Bool → Fact → Judged Factor
-    factor_of over (MkFact sign_ p) = atom_in p >>= λ a. sound (MkFactor over (is_minus sign_) a)
+    factor_of over (MkFact sign_ p) = seen_as (MkFactor over (is_minus sign_)) (atom_in p)
 
     pub atom_in : Primary → Judged Atom
     atom_in (expr.operand o) = numeric_operand s o
-    atom_in (expr.group e) = sum_of e >>= λ x. sound (group x)
+    atom_in (expr.group e) = seen_as group (sum_of e)
 
 -- ---- parentheses round a whole
 
@@ -132,26 +133,33 @@ abbrev mutual
   primary_has_item (expr.group e) = has_item e
 
 -- only what its names mean, where its operands needn't be numbers
-abbrev pub reference : Scope → Opnd → Judged (Unit {0})
-reference s (opnd.Ref r) = the_item s r >>= λ place. sound tt
-reference s (opnd.Const c) = sound tt
+abbrev pub reference : Scope → Opnd → Broken
+reference s (opnd.Ref r) = (the_item s r).broken
+reference s (opnd.Const c) = kept
 
 module _ (s : Scope) where
   abbrev mutual
-    pub names_in : Expr → Judged (Unit {0})
-    names_in (MkExpr t ts) = names_in_term t >>= λ x. names_in_terms ts
+    pub names_in : Expr → Broken
+    names_in (MkExpr t ts) = both (names_in_term t) (names_in_terms ts)
 
-    pub names_in_terms : Terms → Judged (Unit {0})
-    names_in_terms no_terms = sound tt
-    names_in_terms (more_terms plus_minus t ts) = names_in_term t >>= λ x. names_in_terms ts
+    pub names_in_terms : Terms → Broken
+    names_in_terms no_terms = kept
+    names_in_terms (more_terms plus_minus t ts) = both (names_in_term t) (names_in_terms ts)
 
-    pub names_in_term : Term → Judged (Unit {0})
-    names_in_term (MkTerm f fs) = names_in_fact f >>= λ x. names_in_facts fs
+    pub names_in_term : Term → Broken
+    names_in_term (MkTerm f fs) = both (names_in_fact f) (names_in_facts fs)
 
-    pub names_in_facts : Facts → Judged (Unit {0})
-    names_in_facts no_facts = sound tt
-    names_in_facts (more_facts by f fs) = names_in_fact f >>= λ x. names_in_facts fs
+    pub names_in_facts : Facts → Broken
+    names_in_facts no_facts = kept
+    names_in_facts (more_facts by f fs) = both (names_in_fact f) (names_in_facts fs)
 
-    pub names_in_fact : Fact → Judged (Unit {0})
-    names_in_fact (MkFact sign_ (expr.operand o)) = reference s o
-    names_in_fact (MkFact sign_ (expr.group e)) = names_in e
+    pub names_in_fact : Fact → Broken
+    names_in_fact (MkFact sign_ p) = names_in_primary p
+
+    pub names_in_primary : Primary → Broken
+    names_in_primary (expr.operand o) = reference s o
+    names_in_primary (expr.group e) = names_in e
+
+-- a rule is broken where an expression stands, and what its names mean is asked first
+abbrev pub wrong_at : {A : Type 0} → Scope → Rule → Expr → A → Judged A
+wrong_at s rule e a = record { value = a; broken = both (names_in s e) (one rule) }

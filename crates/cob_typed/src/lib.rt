@@ -3,5 +3,12 @@
 #![tactic(auto)]
 
 mod end;
+mod finding;
+mod kinds;
+mod operand;
+mod scope;
+mod selections;
 
 pub use end::TypedEnd;
+pub use finding::Finding;
+pub use scope::Scope;
