@@ -1,5 +1,5 @@
 -- Expressions as sums.
-use Rattle.std.specs.Prelude.{ℕ, ◌||◌, Bool, true, false, List, [], ◌∷◌, ◌++◌, map, Option, Some, None}
+use Rattle.std.specs.Prelude.{ℕ, ◌||◌, if◌then◌else◌, Bool, true, false, List, [], ◌∷◌, ◌++◌, map, Option, Some, None}
 use Rattle.cob_tree.specs.declared.token.Num.{Num}
 use Rattle.cob_tree.specs.declared.operand.Opnd.{Opnd}
 use Rattle.cob_tree.specs.declared.operand.Opnd.TheVariants as opnd
@@ -79,26 +79,49 @@ module _ (s : Scope) where
 
 -- ---- parentheses round a whole
 
+abbrev pub none_added : Terms → Bool
+none_added no_terms = true
+none_added (more_terms plus_minus t ts) = false
+
+abbrev pub none_multiplied : Facts → Bool
+none_multiplied no_facts = true
+none_multiplied (more_facts by f fs) = false
+
 abbrev mutual
   -- the operand that an expression is, with parentheses round it or without
   pub lone : Expr → Option Opnd
-  lone (MkExpr (MkTerm (MkFact None p) no_facts) no_terms) = lone_primary p
-  lone _ = None
+  lone (MkExpr t ts) = if none_added ts then lone_term t else None
+
+  pub lone_term : Term → Option Opnd
+  lone_term (MkTerm f fs) = if none_multiplied fs then lone_fact f else None
+
+  pub lone_fact : Fact → Option Opnd
+  lone_fact (MkFact None p) = lone_primary p
+  lone_fact (MkFact (Some sign_) p) = None
 
   pub lone_primary : Primary → Option Opnd
   lone_primary (expr.operand o) = Some o
   lone_primary (expr.group e) = lone e
 
+abbrev pub or_whole : Expr → Option Expr → Expr
+or_whole e None = e
+or_whole e (Some inner) = inner
+
 abbrev mutual
   -- without parentheses round the whole, and without a plus before them
   pub bare : Expr → Expr
-  bare (MkExpr (MkTerm (MkFact None p) no_facts) no_terms) = bare_primary None p
-  bare (MkExpr (MkTerm (MkFact (Some sign.Plus) p) no_facts) no_terms) = bare_primary (Some sign.Plus) p
-  bare e = e
+  bare (MkExpr t ts) = or_whole (MkExpr t ts) (if none_added ts then bare_term t else None)
 
-  pub bare_primary : Option Sign → Primary → Expr
-  bare_primary sign_ (expr.operand o) = MkExpr (MkTerm (MkFact sign_ (expr.operand o)) no_facts) no_terms
-  bare_primary sign_ (expr.group e) = bare e
+  -- what stands in parentheses alone
+  pub bare_term : Term → Option Expr
+  bare_term (MkTerm f fs) = if none_multiplied fs then bare_fact f else None
+
+  pub bare_fact : Fact → Option Expr
+  bare_fact (MkFact sign_ p) = if is_minus sign_ then None else bare_primary p
+
+  pub bare_primary : Primary → Option Expr
+  bare_primary (expr.operand o) = None
+  bare_primary (expr.group e) = Some (bare e)
 
 abbrev pub whole_sum : Scope → Expr → Judged Sum
 whole_sum s e = sum_of s (bare e)

@@ -1,6 +1,7 @@
 //! Which values may be moved where, and which may be compared (ISO 1989:1985, "The MOVE statement" and "Comparison of
 //! operands").
 ghost use Rattle.std.specs.Prelude.{◌≡◌};
+ghost use Rattle.std.specs.List.{list_all};
 ghost use Rattle.cob_typed.specs.Kinds.{is_amount, is_group, is_digit, may_move_item, may_move, is_number_form, is_number, is_whole_form, is_whole, is_testable, is_shown, side_of_form, side_of, beside_text, comparison};
 
 use crate::scope::Scope;
@@ -32,6 +33,12 @@ fn is_digit(c: u8) -> bool
     ensures { result ≡ is_digit c }
 {
     48 <= c && c <= 57
+}
+
+fn are_digits(text: &[u8]) -> bool
+    ensures { result ≡ list_all is_digit text.now }
+{
+    text.iter().all(|c| is_digit(*c))
 }
 
 fn may_move_item(from: &Form, to: &Form) -> bool
@@ -85,7 +92,7 @@ impl<'a> Scope<'a> {
             Sender::Item(place) => may_move_item(self.form(*place), to),
             Sender::Number(number) => is_amount(to) || number.scale == 0,
             Sender::Text(text) => {
-                !is_amount(to) || (text.get().len() <= 18 && text.get().iter().all(|c| is_digit(*c)))
+                !is_amount(to) || (text.get().len() <= 18 && are_digits(text.get()))
             }
             Sender::Fill(_) => !is_amount(to),
             Sender::Zero => true,

@@ -8,6 +8,8 @@ mod kinds;
 mod operand;
 mod scope;
 mod selections;
+mod shapes;
+mod sums;
 
 pub use end::TypedEnd;
 pub use finding::Finding;
