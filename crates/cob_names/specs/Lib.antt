@@ -1,1 +1,4 @@
 pub mod Names
+pub mod Tables
+pub mod Homes
+pub mod Search

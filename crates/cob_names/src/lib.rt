@@ -3,5 +3,12 @@
 #![tactic(auto)]
 
 mod found;
+mod homes;
+mod kind;
+mod names;
+mod table;
+#[cfg(test)]
+mod tests;
 
 pub use found::Found;
+pub use names::{Names, layouts_have_few_places, one_answer};

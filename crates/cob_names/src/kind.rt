@@ -1,0 +1,9 @@
+/// What a name is asked for.
+#[derive(Clone, Copy, Debug, PartialEq, Eq)]
+pub enum Kind {
+    Item,
+    /// An 01 item of a file.
+    Record,
+    Flag,
+    File,
+}
