@@ -4,6 +4,7 @@ pub mod Paras
 pub mod Kinds
 pub mod Sums
 pub mod Conditions
+pub mod Operands
 pub mod Selections
 pub mod Arithmetic
 pub mod Statements

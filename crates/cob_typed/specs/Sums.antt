@@ -108,20 +108,23 @@ or_whole e None = e
 or_whole e (Some inner) = inner
 
 abbrev mutual
-  -- without parentheses round the whole, and without a plus before them
-  pub bare : Expr → Expr
-  bare (MkExpr t ts) = or_whole (MkExpr t ts) (if none_added ts then bare_term t else None)
+  -- what stands in parentheses alone, without a plus before them; innermost
+  pub inside : Expr → Option Expr
+  inside (MkExpr t ts) = if none_added ts then inside_term t else None
 
-  -- what stands in parentheses alone
-  pub bare_term : Term → Option Expr
-  bare_term (MkTerm f fs) = if none_multiplied fs then bare_fact f else None
+  pub inside_term : Term → Option Expr
+  inside_term (MkTerm f fs) = if none_multiplied fs then inside_fact f else None
 
-  pub bare_fact : Fact → Option Expr
-  bare_fact (MkFact sign_ p) = if is_minus sign_ then None else bare_primary p
+  pub inside_fact : Fact → Option Expr
+  inside_fact (MkFact sign_ p) = if is_minus sign_ then None else inside_primary p
 
-  pub bare_primary : Primary → Option Expr
-  bare_primary (expr.operand o) = None
-  bare_primary (expr.group e) = Some (bare e)
+  pub inside_primary : Primary → Option Expr
+  inside_primary (expr.operand o) = None
+  inside_primary (expr.group e) = Some (or_whole e (inside e))
+
+-- without parentheses round the whole, and without a plus before them
+abbrev pub bare : Expr → Expr
+bare e = or_whole e (inside e)
 
 abbrev pub whole_sum : Scope → Expr → Judged Sum
 whole_sum s e = sum_of s (bare e)

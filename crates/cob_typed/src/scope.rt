@@ -1,11 +1,12 @@
-ghost use Rattle.std.specs.Prelude.{◌≡◌, ℕ, List, [], IfOk, OnOk};
+ghost use Rattle.std.specs.Prelude.{◌≡◌, slice_get, IfOk, OnOk};
+ghost use Rattle.std.specs.Option.{option_copied};
 ghost use Rattle.cob_names.specs.declared.found.Found.{Found};
 ghost use Rattle.cob_typed.specs.Judged.{noted, kept, Judged};
 ghost use Rattle.cob_typed.specs.Scope.{item_named, flag_named, file_named, record_named, para_named, is_there, names_apart, means_something, exactly_one, one_of_kind, rule_if, the_item, the_para, form_or_group, form_at};
 
 use crate::finding::{Finding, note};
-use cob_data::{Layout, Rule};
-use cob_names::Found;
+use cob_data::{Flag, Layout, Rule};
+use cob_names::{Found, Names};
 use cob_tree::{Form, Paragraph, Ref};
 use indexmap::IndexMap;
 use std::alloc::{AllocError, Global};
@@ -16,7 +17,7 @@ use std::marker::Model;
 pub struct Scope<'a> {
     pub alloc: Global,
     layout: &'a Layout,
-    // names
+    names: &'a Names<'a>,
     paras: &'a [Paragraph],
     places: &'a IndexMap<&'a [u8], Found>,
     // the form of what is no item
@@ -33,7 +34,7 @@ impl<'a> Model for Scope<'a> {
 
     ghost view = { λ s. record { layout = s.layout.now; paras = map (λ p. p.name) s.paras.now } };
 
-    ghost invariant = { λ s. (s.group ≡ form.Group) × HasParas s.places.now (map (λ p. p.name) s.paras.now) };
+    ghost invariant = { λ s. (s.names.now ≡ s.layout.now) × (s.group ≡ form.Group) × HasParas s.places.now (map (λ p. p.name) s.paras.now) };
 }
 
 /// Whether there is something.
@@ -47,28 +48,36 @@ pub fn is_there(found: Found) -> bool
 }
 
 impl<'a> Scope<'a> {
+    /// What the reference names among items.
+    #[tactic(auto, using(crate::proofs::Places::item_is))]
     pub fn item(&self, reference: &Ref) -> Found
         ensures { result ≡ item_named self.now reference.now }
     {
-        Found::Nothing
+        self.names.item(reference)
     }
 
+    /// What the reference names among condition-names.
+    #[tactic(auto, using(crate::proofs::Places::flag_is))]
     pub fn flag(&self, reference: &Ref) -> Found
         ensures { result ≡ flag_named self.now reference.now }
     {
-        Found::Nothing
+        self.names.flag(reference)
     }
 
+    /// The file of this name.
+    #[tactic(auto, using(crate::proofs::Places::file_is))]
     pub fn file(&self, name: &[u8]) -> Found
         ensures { result ≡ file_named self.now name.now }
     {
-        Found::Nothing
+        self.names.file(name)
     }
 
+    /// What the reference names among the 01 items of files.
+    #[tactic(auto, using(crate::proofs::Places::record_is))]
     pub fn record(&self, reference: &Ref) -> Found
         ensures { result ≡ record_named self.now reference.now }
     {
-        Found::Nothing
+        self.names.record(reference)
     }
 
     /// The paragraph of this name.
@@ -79,6 +88,13 @@ impl<'a> Scope<'a> {
             None => Found::Nothing,
             Some(found) => *found,
         }
+    }
+
+    /// The condition-name at a place.
+    pub fn flag_at(&self, place: u32) -> Option<&Flag>
+        ensures { option_copied result ≡ slice_get self.now.layout.flags place }
+    {
+        self.layout.flags.get().get(place as usize)
     }
 
     /// The form of an item.

@@ -4,7 +4,7 @@ ghost use Rattle.std.specs.Option.{option_copied};
 ghost use Rattle.cob_tree.specs.ExprView.{plain_expr, plain_term, plain_fact, plain_prim, added, multiplied};
 ghost use Rattle.cob_tree.specs.Expr.{terms_of, facts_of};
 ghost use Rattle.cob_typed.specs.Judged.{noted, one, both};
-ghost use Rattle.cob_typed.specs.Sums.{none_added, none_multiplied, lone, lone_term, lone_fact, lone_primary, or_whole, bare, bare_term, bare_fact, bare_primary, is_reference, has_item, terms_have_item, term_has_item, facts_have_item, fact_has_item, primary_has_item, reference, names_in, names_in_terms, names_in_term, names_in_facts, names_in_fact, names_in_primary};
+ghost use Rattle.cob_typed.specs.Sums.{none_added, none_multiplied, lone, lone_term, lone_fact, lone_primary, or_whole, bare, inside, inside_term, inside_fact, inside_primary, is_reference, has_item, terms_have_item, term_has_item, facts_have_item, fact_has_item, primary_has_item, reference, names_in, names_in_terms, names_in_term, names_in_facts, names_in_fact, names_in_primary};
 
 use crate::finding::{Finding, note};
 use crate::scope::Scope;
@@ -13,12 +13,14 @@ use cob_data::Rule;
 use cob_tree::{Expr, Fact, Opnd, Primary, Scaling, Sign, Term};
 use std::alloc::AllocError;
 
+#[tactic(auto, using(crate::proofs::Loops::none_added_is))]
 fn none_added(terms: &[(Sign, Term)]) -> bool
     ensures { result ≡ none_added (terms_of (map added terms.now)) }
 {
     terms.is_empty()
 }
 
+#[tactic(auto, using(crate::proofs::Loops::none_multiplied_is))]
 fn none_multiplied(facts: &[(Scaling, Fact)]) -> bool
     ensures { result ≡ none_multiplied (facts_of (map multiplied facts.now)) }
 {
@@ -82,47 +84,53 @@ fn or_whole<'a>(whole: &'a Expr, inner: Option<&'a Expr>) -> &'a Expr
 }
 
 /// An expression without parentheses round the whole, and without a plus before them.
-#[cycle(bare)]
 pub fn bare(expr: &Expr) -> &Expr
     ensures { plain_expr result.now ≡ bare (plain_expr expr.now) }
 {
-    if none_added(&expr.others) {
-        or_whole(expr, bare_term(&expr.first))
-    } else {
-        expr
-    }
+    or_whole(expr, inside(expr))
 }
 
-// What stands in parentheses alone.
-#[cycle(bare)]
-fn bare_term(term: &Term) -> Option<&Expr>
-    ensures { option_map plain_expr (option_copied result) ≡ bare_term (plain_term term.now) }
+// What stands in parentheses alone, innermost.
+#[cycle(inside)]
+fn inside(expr: &Expr) -> Option<&Expr>
+    ensures { option_map plain_expr (option_copied result) ≡ inside (plain_expr expr.now) }
 {
-    if none_multiplied(&term.others) {
-        bare_fact(&term.first)
+    if none_added(&expr.others) {
+        inside_term(&expr.first)
     } else {
         None
     }
 }
 
-#[cycle(bare)]
-fn bare_fact(fact: &Fact) -> Option<&Expr>
-    ensures { option_map plain_expr (option_copied result) ≡ bare_fact (plain_fact fact.now) }
+#[cycle(inside)]
+fn inside_term(term: &Term) -> Option<&Expr>
+    ensures { option_map plain_expr (option_copied result) ≡ inside_term (plain_term term.now) }
+{
+    if none_multiplied(&term.others) {
+        inside_fact(&term.first)
+    } else {
+        None
+    }
+}
+
+#[cycle(inside)]
+fn inside_fact(fact: &Fact) -> Option<&Expr>
+    ensures { option_map plain_expr (option_copied result) ≡ inside_fact (plain_fact fact.now) }
 {
     if is_minus(fact.sign) {
         None
     } else {
-        bare_primary(&fact.prim)
+        inside_primary(&fact.prim)
     }
 }
 
-#[cycle(bare)]
-fn bare_primary(primary: &Primary) -> Option<&Expr>
-    ensures { option_map plain_expr (option_copied result) ≡ bare_primary (plain_prim primary.now) }
+#[cycle(inside)]
+fn inside_primary(primary: &Primary) -> Option<&Expr>
+    ensures { option_map plain_expr (option_copied result) ≡ inside_primary (plain_prim primary.now) }
 {
     match primary {
         Primary::Opnd(_) => None,
-        Primary::Expr(inner) => Some(bare(inner)),
+        Primary::Expr(inner) => Some(or_whole(inner, inside(inner))),
     }
 }
 
@@ -189,7 +197,7 @@ fn primary_has_item(primary: &Primary) -> bool
 // ---- names in it
 
 impl<'a> Scope<'a> {
-    fn reference(
+    pub fn reference(
         &self,
         findings: &mut Vec<Finding>,
         line: u32,

@@ -1,13 +1,13 @@
-use Rattle.std.proofs.Common.{◌≡◌, map, option_map, IfOk, OnOk, ℕ, ◌+◌, ◌-◌, ◌*◌, ◌<◌, ◌≤◌, length}
-use Rattle.std.specs.Option.{option_copied}
-use Rattle.cob_tree.specs.ExprView.{plain_expr, plain_term, plain_fact, plain_prim, added, multiplied}
-use Rattle.cob_tree.specs.Expr.{terms_of, facts_of}
-use Rattle.cob_typed.specs.Judged.{noted, one, both}
-use Rattle.cob_typed.specs.Sums.{none_added, none_multiplied, lone, lone_term, lone_fact, lone_primary, or_whole, bare, bare_term, bare_fact, bare_primary, is_reference, has_item, terms_have_item, term_has_item, facts_have_item, fact_has_item, primary_has_item, reference, names_in, names_in_terms, names_in_term, names_in_facts, names_in_fact, names_in_primary}
+use Rattle.std.proofs.Common.{◌≡◌}
+use Rattle.cob_typed.specs.Judged.{noted}
+use Rattle.cob_typed.specs.Sums.{names_in_terms, names_in_facts}
+use Rattle.cob_typed.proofs.Loops.{terms_from, facts_from}
 use Rattle.cob_typed.proofs.scope.Scope.+names.Given as goal
 
 abbrev pub invariant-names_in_facts-loop-fact : goal.invariant-names_in_facts-loop-fact
-invariant-names_in_facts-loop-fact l = ?
+invariant-names_in_facts-loop-fact l =
+    noted l.line l.findings.items (names_in_facts l.self (facts_from l.facts l.fact-index)) ≡ noted l.line l.initial.findings.items (names_in_facts l.self (facts_from l.facts 0))
 
 abbrev pub invariant-names_in_terms-loop-term : goal.invariant-names_in_terms-loop-term
-invariant-names_in_terms-loop-term l = ?
+invariant-names_in_terms-loop-term l =
+    noted l.line l.findings.items (names_in_terms l.self (terms_from l.terms l.term-index)) ≡ noted l.line l.initial.findings.items (names_in_terms l.self (terms_from l.terms 0))
