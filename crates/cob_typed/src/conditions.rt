@@ -140,9 +140,9 @@ impl<'a> Scope<'a> {
         carry: Carry<'t>,
         right: &'t Expr,
     ) -> Result<(Logic, Option<Carry<'t>>), AllocError>
-        ensures value { IfOk result (λ x. plain_logic x.0 ≡ (related self.now carry.denied (plain_expr carry.subject.now) carry.not carry.rel (plain_expr right.now)).logic.value) }
-        ensures carry { IfOk result (λ x. option_map plain_carry x.1 ≡ (related self.now carry.denied (plain_expr carry.subject.now) carry.not carry.rel (plain_expr right.now)).carry) }
-        ensures noted { OnOk result (findings.new.items ≡ noted line findings.old.items (related self.now carry.denied (plain_expr carry.subject.now) carry.not carry.rel (plain_expr right.now)).logic.broken) }
+        ensures value { IfOk result (λ x. plain_logic x.0 ≡ (related self.now carry.entry.denied (plain_expr carry.entry.subject.now) carry.entry.not carry.entry.rel (plain_expr right.now)).logic.value) }
+        ensures carry { IfOk result (λ x. option_map plain_carry x.1 ≡ (related self.now carry.entry.denied (plain_expr carry.entry.subject.now) carry.entry.not carry.entry.rel (plain_expr right.now)).carry) }
+        ensures noted { OnOk result (findings.new.items ≡ noted line findings.old.items (related self.now carry.entry.denied (plain_expr carry.entry.subject.now) carry.entry.not carry.entry.rel (plain_expr right.now)).logic.broken) }
     {
         let logic = self.relation_logic(findings, line, carry.subject, carry.not, carry.rel, right)?;
         Ok((logic, Some(carry)))
@@ -158,9 +158,9 @@ impl<'a> Scope<'a> {
         rel: Rel,
         right: &'t Expr,
     ) -> Result<(Logic, Option<Carry<'t>>), AllocError>
-        ensures value { IfOk result (λ x. plain_logic x.0 ≡ (abbreviated_from self.now denied (plain_carry before) not rel (plain_expr right.now)).logic.value) }
-        ensures carry { IfOk result (λ x. option_map plain_carry x.1 ≡ (abbreviated_from self.now denied (plain_carry before) not rel (plain_expr right.now)).carry) }
-        ensures noted { OnOk result (findings.new.items ≡ noted line findings.old.items (abbreviated_from self.now denied (plain_carry before) not rel (plain_expr right.now)).logic.broken) }
+        ensures value { IfOk result (λ x. plain_logic x.0 ≡ (abbreviated_from self.now denied (plain_carry before.entry) not rel (plain_expr right.now)).logic.value) }
+        ensures carry { IfOk result (λ x. option_map plain_carry x.1 ≡ (abbreviated_from self.now denied (plain_carry before.entry) not rel (plain_expr right.now)).carry) }
+        ensures noted { OnOk result (findings.new.items ≡ noted line findings.old.items (abbreviated_from self.now denied (plain_carry before.entry) not rel (plain_expr right.now)).logic.broken) }
     {
         if denied || before.denied {
             self.unrelated(findings, line, right)
@@ -180,9 +180,9 @@ impl<'a> Scope<'a> {
         rel: Rel,
         right: &'t Expr,
     ) -> Result<(Logic, Option<Carry<'t>>), AllocError>
-        ensures value { IfOk result (λ x. plain_logic x.0 ≡ (abbreviated_behind self.now denied (option_map plain_carry before) not rel (plain_expr right.now)).logic.value) }
-        ensures carry { IfOk result (λ x. option_map plain_carry x.1 ≡ (abbreviated_behind self.now denied (option_map plain_carry before) not rel (plain_expr right.now)).carry) }
-        ensures noted { OnOk result (findings.new.items ≡ noted line findings.old.items (abbreviated_behind self.now denied (option_map plain_carry before) not rel (plain_expr right.now)).logic.broken) }
+        ensures value { IfOk result (λ x. plain_logic x.0 ≡ (abbreviated_behind self.now denied (option_map plain_carry before.entry) not rel (plain_expr right.now)).logic.value) }
+        ensures carry { IfOk result (λ x. option_map plain_carry x.1 ≡ (abbreviated_behind self.now denied (option_map plain_carry before.entry) not rel (plain_expr right.now)).carry) }
+        ensures noted { OnOk result (findings.new.items ≡ noted line findings.old.items (abbreviated_behind self.now denied (option_map plain_carry before.entry) not rel (plain_expr right.now)).logic.broken) }
     {
         match before {
             None => self.unrelated(findings, line, right),
@@ -198,9 +198,9 @@ impl<'a> Scope<'a> {
         before: Option<Carry<'t>>,
         expr: &'t Expr,
     ) -> Result<(Logic, Option<Carry<'t>>), AllocError>
-        ensures value { IfOk result (λ x. plain_logic x.0 ≡ (value_alone self.now denied (option_map plain_carry before) (plain_expr expr.now)).logic.value) }
-        ensures carry { IfOk result (λ x. option_map plain_carry x.1 ≡ (value_alone self.now denied (option_map plain_carry before) (plain_expr expr.now)).carry) }
-        ensures noted { OnOk result (findings.new.items ≡ noted line findings.old.items (value_alone self.now denied (option_map plain_carry before) (plain_expr expr.now)).logic.broken) }
+        ensures value { IfOk result (λ x. plain_logic x.0 ≡ (value_alone self.now denied (option_map plain_carry before.entry) (plain_expr expr.now)).logic.value) }
+        ensures carry { IfOk result (λ x. option_map plain_carry x.1 ≡ (value_alone self.now denied (option_map plain_carry before.entry) (plain_expr expr.now)).carry) }
+        ensures noted { OnOk result (findings.new.items ≡ noted line findings.old.items (value_alone self.now denied (option_map plain_carry before.entry) (plain_expr expr.now)).logic.broken) }
     {
         match before {
             None => self.unrelated(findings, line, expr),
@@ -219,9 +219,9 @@ impl<'a> Scope<'a> {
         expr: &'t Expr,
         reference: &Ref,
     ) -> Result<(Logic, Option<Carry<'t>>), AllocError>
-        ensures value { IfOk result (λ x. plain_logic x.0 ≡ (name_alone self.now denied (option_map plain_carry before) (plain_expr expr.now) reference.now).logic.value) }
-        ensures carry { IfOk result (λ x. option_map plain_carry x.1 ≡ (name_alone self.now denied (option_map plain_carry before) (plain_expr expr.now) reference.now).carry) }
-        ensures noted { OnOk result (findings.new.items ≡ noted line findings.old.items (name_alone self.now denied (option_map plain_carry before) (plain_expr expr.now) reference.now).logic.broken) }
+        ensures value { IfOk result (λ x. plain_logic x.0 ≡ (name_alone self.now denied (option_map plain_carry before.entry) (plain_expr expr.now) reference.now).logic.value) }
+        ensures carry { IfOk result (λ x. option_map plain_carry x.1 ≡ (name_alone self.now denied (option_map plain_carry before.entry) (plain_expr expr.now) reference.now).carry) }
+        ensures noted { OnOk result (findings.new.items ≡ noted line findings.old.items (name_alone self.now denied (option_map plain_carry before.entry) (plain_expr expr.now) reference.now).logic.broken) }
     {
         match before {
             None => Ok((self.named_condition(findings, line, reference)?, None)),
@@ -244,9 +244,9 @@ impl<'a> Scope<'a> {
         expr: &'t Expr,
         alone: Option<&Opnd>,
     ) -> Result<(Logic, Option<Carry<'t>>), AllocError>
-        ensures value { IfOk result (λ x. plain_logic x.0 ≡ (expression_alone self.now denied (option_map plain_carry before) (plain_expr expr.now) (option_copied alone.entry)).logic.value) }
-        ensures carry { IfOk result (λ x. option_map plain_carry x.1 ≡ (expression_alone self.now denied (option_map plain_carry before) (plain_expr expr.now) (option_copied alone.entry)).carry) }
-        ensures noted { OnOk result (findings.new.items ≡ noted line findings.old.items (expression_alone self.now denied (option_map plain_carry before) (plain_expr expr.now) (option_copied alone.entry)).logic.broken) }
+        ensures value { IfOk result (λ x. plain_logic x.0 ≡ (expression_alone self.now denied (option_map plain_carry before.entry) (plain_expr expr.now) (option_copied alone.entry)).logic.value) }
+        ensures carry { IfOk result (λ x. option_map plain_carry x.1 ≡ (expression_alone self.now denied (option_map plain_carry before.entry) (plain_expr expr.now) (option_copied alone.entry)).carry) }
+        ensures noted { OnOk result (findings.new.items ≡ noted line findings.old.items (expression_alone self.now denied (option_map plain_carry before.entry) (plain_expr expr.now) (option_copied alone.entry)).logic.broken) }
     {
         match alone {
             Some(Opnd::Ref(reference)) => {
@@ -285,8 +285,8 @@ impl<'a> Scope<'a> {
         conjs: &'t [Conj],
         parts: &mut Vec<Logic>,
     ) -> Result<(), AllocError>
-        ensures value { OnOk result (map plain_logic parts.new.items ≡ map plain_logic parts.old.items ++ (walk_conjs self.now (option_map plain_carry before) (conjs_of (map plain_conj conjs.now))).logics.value) }
-        ensures noted { OnOk result (findings.new.items ≡ noted line findings.old.items (walk_conjs self.now (option_map plain_carry before) (conjs_of (map plain_conj conjs.now))).logics.broken) }
+        ensures value { OnOk result (map plain_logic parts.new.items ≡ map plain_logic parts.old.items ++ (walk_conjs self.now (option_map plain_carry before.entry) (conjs_of (map plain_conj conjs.now))).logics.value) }
+        ensures noted { OnOk result (findings.new.items ≡ noted line findings.old.items (walk_conjs self.now (option_map plain_carry before.entry) (conjs_of (map plain_conj conjs.now))).logics.broken) }
     {
         let mut carry = before;
         for conj in conjs {
@@ -305,9 +305,9 @@ impl<'a> Scope<'a> {
         before: Option<Carry<'t>>,
         conj: &'t Conj,
     ) -> Result<(Logic, Option<Carry<'t>>), AllocError>
-        ensures value { IfOk result (λ x. plain_logic x.0 ≡ (walk_conj self.now (option_map plain_carry before) (plain_conj conj.now)).logic.value) }
-        ensures carry { IfOk result (λ x. option_map plain_carry x.1 ≡ (walk_conj self.now (option_map plain_carry before) (plain_conj conj.now)).carry) }
-        ensures noted { OnOk result (findings.new.items ≡ noted line findings.old.items (walk_conj self.now (option_map plain_carry before) (plain_conj conj.now)).logic.broken) }
+        ensures value { IfOk result (λ x. plain_logic x.0 ≡ (walk_conj self.now (option_map plain_carry before.entry) (plain_conj conj.now)).logic.value) }
+        ensures carry { IfOk result (λ x. option_map plain_carry x.1 ≡ (walk_conj self.now (option_map plain_carry before.entry) (plain_conj conj.now)).carry) }
+        ensures noted { OnOk result (findings.new.items ≡ noted line findings.old.items (walk_conj self.now (option_map plain_carry before.entry) (plain_conj conj.now)).logic.broken) }
     {
         let (first, behind) = self.neg(findings, line, before, &conj.first)?;
         let mut parts = Vec::new(self.alloc);
@@ -325,9 +325,9 @@ impl<'a> Scope<'a> {
         negs: &'t [Neg],
         parts: &mut Vec<Logic>,
     ) -> Result<Option<Carry<'t>>, AllocError>
-        ensures value { OnOk result (map plain_logic parts.new.items ≡ map plain_logic parts.old.items ++ (walk_negs self.now (option_map plain_carry before) (negs_of (map plain_neg negs.now))).logics.value) }
-        ensures carry { IfOk result (λ x. option_map plain_carry x ≡ (walk_negs self.now (option_map plain_carry before) (negs_of (map plain_neg negs.now))).carry) }
-        ensures noted { OnOk result (findings.new.items ≡ noted line findings.old.items (walk_negs self.now (option_map plain_carry before) (negs_of (map plain_neg negs.now))).logics.broken) }
+        ensures value { OnOk result (map plain_logic parts.new.items ≡ map plain_logic parts.old.items ++ (walk_negs self.now (option_map plain_carry before.entry) (negs_of (map plain_neg negs.now))).logics.value) }
+        ensures carry { IfOk result (λ x. option_map plain_carry x ≡ (walk_negs self.now (option_map plain_carry before.entry) (negs_of (map plain_neg negs.now))).carry) }
+        ensures noted { OnOk result (findings.new.items ≡ noted line findings.old.items (walk_negs self.now (option_map plain_carry before.entry) (negs_of (map plain_neg negs.now))).logics.broken) }
     {
         let mut carry = before;
         for neg in negs {
@@ -346,9 +346,9 @@ impl<'a> Scope<'a> {
         before: Option<Carry<'t>>,
         neg: &'t Neg,
     ) -> Result<(Logic, Option<Carry<'t>>), AllocError>
-        ensures value { IfOk result (λ x. plain_logic x.0 ≡ (walk_neg self.now (option_map plain_carry before) (plain_neg neg.now)).logic.value) }
-        ensures carry { IfOk result (λ x. option_map plain_carry x.1 ≡ (walk_neg self.now (option_map plain_carry before) (plain_neg neg.now)).carry) }
-        ensures noted { OnOk result (findings.new.items ≡ noted line findings.old.items (walk_neg self.now (option_map plain_carry before) (plain_neg neg.now)).logic.broken) }
+        ensures value { IfOk result (λ x. plain_logic x.0 ≡ (walk_neg self.now (option_map plain_carry before.entry) (plain_neg neg.now)).logic.value) }
+        ensures carry { IfOk result (λ x. option_map plain_carry x.1 ≡ (walk_neg self.now (option_map plain_carry before.entry) (plain_neg neg.now)).carry) }
+        ensures noted { OnOk result (findings.new.items ≡ noted line findings.old.items (walk_neg self.now (option_map plain_carry before.entry) (plain_neg neg.now)).logic.broken) }
     {
         let (logic, behind) = self.simple(findings, line, neg.not, before, &neg.simple)?;
         Ok((denied_if(self.alloc, neg.not, logic)?, behind))
@@ -363,9 +363,9 @@ impl<'a> Scope<'a> {
         before: Option<Carry<'t>>,
         simple: &'t Simple,
     ) -> Result<(Logic, Option<Carry<'t>>), AllocError>
-        ensures value { IfOk result (λ x. plain_logic x.0 ≡ (walk_simple self.now denied (option_map plain_carry before) (plain_simple simple.now)).logic.value) }
-        ensures carry { IfOk result (λ x. option_map plain_carry x.1 ≡ (walk_simple self.now denied (option_map plain_carry before) (plain_simple simple.now)).carry) }
-        ensures noted { OnOk result (findings.new.items ≡ noted line findings.old.items (walk_simple self.now denied (option_map plain_carry before) (plain_simple simple.now)).logic.broken) }
+        ensures value { IfOk result (λ x. plain_logic x.0 ≡ (walk_simple self.now denied (option_map plain_carry before.entry) (plain_simple simple.now)).logic.value) }
+        ensures carry { IfOk result (λ x. option_map plain_carry x.1 ≡ (walk_simple self.now denied (option_map plain_carry before.entry) (plain_simple simple.now)).carry) }
+        ensures noted { OnOk result (findings.new.items ≡ noted line findings.old.items (walk_simple self.now denied (option_map plain_carry before.entry) (plain_simple simple.now)).logic.broken) }
     {
         match simple {
             Simple::Cond(inner) => Ok((self.condition(findings, line, inner)?, None)),

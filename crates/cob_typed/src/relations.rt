@@ -40,7 +40,7 @@ fn zero_sum(alloc: Global) -> Result<Sum, AllocError>
 }
 
 fn sender_of_side(side: Operand) -> Sender
-    ensures { result ≡ sender_of_side (plain_operand side) }
+    ensures { result ≡ sender_of_side (plain_operand side.entry) }
 {
     match side {
         Operand::Alone(value) => value,
@@ -92,8 +92,8 @@ impl<'a> Scope<'a> {
         line: u32,
         side: Operand,
     ) -> Result<Sum, AllocError>
-        ensures value { IfOk result (λ sum. plain_sum sum ≡ (sum_of_side self.now (plain_operand side)).value) }
-        ensures noted { OnOk result (findings.new.items ≡ noted line findings.old.items (sum_of_side self.now (plain_operand side)).broken) }
+        ensures value { IfOk result (λ sum. plain_sum sum ≡ (sum_of_side self.now (plain_operand side.entry)).value) }
+        ensures noted { OnOk result (findings.new.items ≡ noted line findings.old.items (sum_of_side self.now (plain_operand side.entry)).broken) }
     {
         match side {
             Operand::Alone(value) => one_atom(self.alloc, atom_of(self.alloc, value)?),
@@ -124,8 +124,8 @@ impl<'a> Scope<'a> {
         rel: Rel,
         right: Operand,
     ) -> Result<Test, AllocError>
-        ensures value { IfOk result (λ test. plain_test test ≡ (by_value self.now (plain_operand left) rel (plain_operand right)).value) }
-        ensures noted { OnOk result (findings.new.items ≡ noted line findings.old.items (by_value self.now (plain_operand left) rel (plain_operand right)).broken) }
+        ensures value { IfOk result (λ test. plain_test test ≡ (by_value self.now (plain_operand left.entry) rel (plain_operand right.entry)).value) }
+        ensures noted { OnOk result (findings.new.items ≡ noted line findings.old.items (by_value self.now (plain_operand left.entry) rel (plain_operand right.entry)).broken) }
     {
         let left = self.sum_of_side(findings, line, left)?;
         let right = self.sum_of_side(findings, line, right)?;
@@ -139,8 +139,8 @@ impl<'a> Scope<'a> {
         left: Operand,
         right: Operand,
     ) -> Result<Test, AllocError>
-        ensures value { IfOk result (λ test. plain_test test ≡ (not_at_all self.now (plain_operand left) (plain_operand right)).value) }
-        ensures noted { OnOk result (findings.new.items ≡ noted line findings.old.items (not_at_all self.now (plain_operand left) (plain_operand right)).broken) }
+        ensures value { IfOk result (λ test. plain_test test ≡ (not_at_all self.now (plain_operand left.entry) (plain_operand right.entry)).value) }
+        ensures noted { OnOk result (findings.new.items ≡ noted line findings.old.items (not_at_all self.now (plain_operand left.entry) (plain_operand right.entry)).broken) }
     {
         self.sum_of_side(findings, line, left)?;
         self.sum_of_side(findings, line, right)?;
@@ -157,8 +157,8 @@ impl<'a> Scope<'a> {
         right: Operand,
         way: Comparison,
     ) -> Result<Test, AllocError>
-        ensures value { IfOk result (λ test. plain_test test ≡ (compared self.now (plain_operand left) rel (plain_operand right) way).value) }
-        ensures noted { OnOk result (findings.new.items ≡ noted line findings.old.items (compared self.now (plain_operand left) rel (plain_operand right) way).broken) }
+        ensures value { IfOk result (λ test. plain_test test ≡ (compared self.now (plain_operand left.entry) rel (plain_operand right.entry) way).value) }
+        ensures noted { OnOk result (findings.new.items ≡ noted line findings.old.items (compared self.now (plain_operand left.entry) rel (plain_operand right.entry) way).broken) }
     {
         match way {
             Comparison::ByValue => self.by_value(findings, line, left, rel, right),
