@@ -8,12 +8,13 @@ use Rattle.cob_tree.specs.declared.expr.Expr.{out-Expr}
 use Rattle.cob_tree.specs.declared.expr.Term as declared_term
 use Rattle.cob_tree.specs.declared.expr.Term.{out-Term}
 use Rattle.cob_tree.specs.declared.expr.Fact as declared_fact
+use Rattle.cob_tree.specs.declared.expr.Primary.TheFolds.{fold_out-Expr, fold_out-Term}
 use Rattle.cob_tree.specs.Expr.{Expr, MkExpr, Term, MkTerm, Terms, no_terms, more_terms, Facts, no_facts, more_facts, terms_of, facts_of}
 use Rattle.cob_tree.specs.ExprView.{plain_expr, plain_term, plain_fact, added, multiplied}
 use Rattle.cob_typed.specs.declared.finding.Finding.{Finding}
 use Rattle.cob_typed.specs.Judged.{noted}
 use Rattle.cob_typed.specs.Scope.{Scope}
-use Rattle.cob_typed.specs.Sums.{none_added, none_multiplied, inside, inside_term, inside_fact, sum_of, part_of, parts_in}
+use Rattle.cob_typed.specs.Sums.{none_added, none_multiplied, lone, lone_term, lone_fact, inside, inside_term, inside_fact, sum_of, part_of, parts_in}
 
 -- the terms from a place on, and the factors
 abbrev pub terms_from : List (Sign × declared_term.Term) → ℕ → Terms
@@ -40,10 +41,10 @@ facts_end xs i past = ap (λ ys. facts_of (map multiplied ys)) (drop_all i xs pa
 -- ---- what an expression and a term are made of
 
 pub expr_is : (e : declared_expr.Expr) → plain_expr e ≡ MkExpr (plain_term (out-Expr e).first) (terms_of (map added (out-Expr e).others.items))
-expr_is e = search rules
+expr_is e = fold_out-Expr _ _ _ _ _ _ _ _ e
 
 pub term_is : (t : declared_term.Term) → plain_term t ≡ MkTerm (plain_fact (out-Term t).first) (facts_of (map multiplied (out-Term t).others.items))
-term_is t = search rules
+term_is t = fold_out-Term _ _ _ _ _ _ _ _ t
 
 pub inside_of : (e : declared_expr.Expr) (b : Bool) (xs : List (Sign × declared_term.Term)) → b ≡ none_added (terms_of (map added xs)) → xs ≡ (out-Expr e).others.items →
     inside (plain_expr e) ≡ (if b then inside_term (plain_term (out-Expr e).first) else None)
@@ -54,6 +55,16 @@ pub inside_term_of : (t : declared_term.Term) (b : Bool) (xs : List (Scaling × 
     inside_term (plain_term t) ≡ (if b then inside_fact (plain_fact (out-Term t).first) else None)
 inside_term_of t b xs told same =
     ap inside_term (term_is t) ∙ ap (λ x. if x then inside_fact (plain_fact (out-Term t).first) else None) (sym (told ∙ ap (λ ys. none_multiplied (facts_of (map multiplied ys))) same))
+
+pub lone_of : (e : declared_expr.Expr) (b : Bool) (xs : List (Sign × declared_term.Term)) → b ≡ none_added (terms_of (map added xs)) → xs ≡ (out-Expr e).others.items →
+    lone (plain_expr e) ≡ (if b then lone_term (plain_term (out-Expr e).first) else None)
+lone_of e b xs told same =
+    ap lone (expr_is e) ∙ ap (λ x. if x then lone_term (plain_term (out-Expr e).first) else None) (sym (told ∙ ap (λ ys. none_added (terms_of (map added ys))) same))
+
+pub lone_term_of : (t : declared_term.Term) (b : Bool) (xs : List (Scaling × declared_fact.Fact)) → b ≡ none_multiplied (facts_of (map multiplied xs)) → xs ≡ (out-Term t).others.items →
+    lone_term (plain_term t) ≡ (if b then lone_fact (plain_fact (out-Term t).first) else None)
+lone_term_of t b xs told same =
+    ap lone_term (term_is t) ∙ ap (λ x. if x then lone_fact (plain_fact (out-Term t).first) else None) (sym (told ∙ ap (λ ys. none_multiplied (facts_of (map multiplied ys))) same))
 
 -- what is seen so far and what is left give the whole, with one more
 pub pushed : {A B : Type 0} (f : A → B) (old new : List A) (x : A) (v : B) (rest whole : List B) → new ≡ old ++ x ∷ [] → f x ≡ v → map f old ++ v ∷ rest ≡ whole → map f new ++ rest ≡ whole

@@ -169,7 +169,7 @@ fn terms_have_item(terms: &[(Sign, Term)]) -> bool
 fn term_has_item(term: &Term) -> bool
     ensures { result ≡ term_has_item (plain_term term.now) }
 {
-    primary_has_item(&term.first.prim) || facts_have_item(&term.others)
+    fact_has_item(&term.first) || facts_have_item(&term.others)
 }
 
 #[cycle(items)]
@@ -177,11 +177,18 @@ fn facts_have_item(facts: &[(Scaling, Fact)]) -> bool
     ensures { result ≡ facts_have_item (facts_of (map multiplied facts.now)) }
 {
     for fact in facts {
-        if primary_has_item(&fact.1.prim) {
+        if fact_has_item(&fact.1) {
             return true;
         }
     }
     false
+}
+
+#[cycle(items)]
+fn fact_has_item(fact: &Fact) -> bool
+    ensures { result ≡ fact_has_item (plain_fact fact.now) }
+{
+    primary_has_item(&fact.prim)
 }
 
 #[cycle(items)]
@@ -252,7 +259,7 @@ impl<'a> Scope<'a> {
     ) -> Result<(), AllocError>
         ensures { OnOk result (findings.new.items ≡ noted line findings.old.items (names_in_term self.now (plain_term term.now))) }
     {
-        self.names_in_primary(findings, line, &term.first.prim)?;
+        self.names_in_fact(findings, line, &term.first)?;
         self.names_in_facts(findings, line, &term.others)
     }
 
@@ -266,9 +273,21 @@ impl<'a> Scope<'a> {
         ensures { OnOk result (findings.new.items ≡ noted line findings.old.items (names_in_facts self.now (facts_of (map multiplied facts.now)))) }
     {
         for fact in facts {
-            self.names_in_primary(findings, line, &fact.1.prim)?;
+            self.names_in_fact(findings, line, &fact.1)?;
         }
         Ok(())
+    }
+
+    #[cycle(names)]
+    fn names_in_fact(
+        &self,
+        findings: &mut Vec<Finding>,
+        line: u32,
+        fact: &Fact,
+    ) -> Result<(), AllocError>
+        ensures { OnOk result (findings.new.items ≡ noted line findings.old.items (names_in_fact self.now (plain_fact fact.now))) }
+    {
+        self.names_in_primary(findings, line, &fact.prim)
     }
 
     #[cycle(names)]

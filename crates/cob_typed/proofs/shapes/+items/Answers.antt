@@ -3,18 +3,18 @@ use Rattle.cob_typed.specs.Sums.{terms_have_item, facts_have_item}
 use Rattle.cob_typed.proofs.Loops.{terms_from, facts_from, term_step, fact_step, terms_end, facts_end}
 use Rattle.cob_typed.proofs.shapes.+items.Goals as goal
 
-pub facts_have_item-returns-then-primary_has_item : goal.facts_have_item-returns-then-primary_has_item
-facts_have_item-returns-then-primary_has_item t c =
+pub facts_have_item-returns-then-fact_has_item : goal.facts_have_item-returns-then-fact_has_item
+facts_have_item-returns-then-fact_has_item t c =
     let xs = c.args.facts.now in
     let i = c.loop-fact.fact-index in
-    sym (ap (λ b. b || facts_have_item (facts_from xs (i + 1))) (sym c.primary_has_item.ensures ∙ c.if-primary_has_item.true))
+    sym (ap (λ b. b || facts_have_item (facts_from xs (i + 1))) (sym c.fact_has_item.ensures ∙ c.if-fact_has_item.true))
     ∙ sym (ap facts_have_item (fact_step xs i c.fact-item.result c.loop-fact-test.true c.fact-item.is)) ∙ c.loop-fact.invariant
 
 pub facts_have_item-loop-fact-preserved : goal.facts_have_item-loop-fact-preserved
 facts_have_item-loop-fact-preserved t c =
     let xs = c.args.facts.now in
     let i = c.loop-fact.fact-index in
-    sym (ap (λ b. b || facts_have_item (facts_from xs (i + 1))) (sym c.primary_has_item.ensures ∙ c.if-primary_has_item.false))
+    sym (ap (λ b. b || facts_have_item (facts_from xs (i + 1))) (sym c.fact_has_item.ensures ∙ c.if-fact_has_item.false))
     ∙ sym (ap facts_have_item (fact_step xs i c.fact-item.result c.loop-fact-test.true c.fact-item.is)) ∙ c.loop-fact.invariant
 
 pub facts_have_item-returns : goal.facts_have_item-returns

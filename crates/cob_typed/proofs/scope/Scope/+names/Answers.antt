@@ -9,7 +9,7 @@ names_in_facts-loop-fact-preserved t c =
     let s = c.args.self.now in
     let xs = c.args.facts.now in
     let i = c.loop-fact.fact-index in
-    ap (λ fs. noted c.args.line fs (names_in_facts s (facts_from xs (i + 1)))) c.in_ok-names_in_primary.ensures
+    ap (λ fs. noted c.args.line fs (names_in_facts s (facts_from xs (i + 1)))) c.in_ok-names_in_fact.ensures
     ∙ sym (ap (λ ts. noted c.args.line c.loop-fact.findings.items (names_in_facts s ts)) (fact_step xs i c.fact-item.result c.loop-fact-test.true c.fact-item.is))
     ∙ c.loop-fact.invariant
 
