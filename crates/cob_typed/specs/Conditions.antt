@@ -17,54 +17,65 @@ use Rattle.cob_data.specs.declared.layout.Flag.{Flag}
 use Rattle.cob_data.specs.declared.layout.Sender.{Sender}
 use Rattle.cob_data.specs.declared.layout.Sender.TheVariants as sender
 use Rattle.cob_program.specs.Sum.{Sum, MkSum, no_parts, more_parts, MkPart, no_factors, more_factors, MkFactor, Atom, number}
-use Rattle.cob_program.specs.Bounds.{form_bound, is_small_sides}
+use Rattle.cob_program.specs.Bounds.{Bound, form_bound, is_small_sides}
 use Rattle.cob_program.specs.Logic.{Test, numbers, texts, member, numeric, always, Logic, all_of, any_of, not_, test, logics_of}
-use Rattle.cob_typed.specs.Judged.{Judged, sound, breaks, demand, demanded, beside, seen_as, ◌>>=◌}
-use Rattle.cob_typed.specs.Scope.{Scope, items_named, flags_named, is_empty, means_something, exactly_one, one_of_kind, the_item, form_at}
-use Rattle.cob_typed.specs.Kinds.{is_number, is_testable, Side, side_of, Comparison, by_value, by_bytes, not_at_all, comparison}
-use Rattle.cob_typed.specs.Kinds as kinds
-use Rattle.cob_typed.specs.Sums.{operand, zero_literal, atom_of, sum_of, lone, whole_sum, has_item, names_in}
+use Rattle.cob_typed.specs.declared.kinds.Side.{Side}
+use Rattle.cob_typed.specs.declared.kinds.Side.TheVariants as side
+use Rattle.cob_typed.specs.declared.kinds.Comparison.{Comparison}
+use Rattle.cob_typed.specs.declared.kinds.Comparison.TheVariants as way
+use Rattle.cob_typed.specs.Judged.{Broken, one, both, Judged, sound, breaks, demand, demanded, beside, seen_as, ◌>>=◌}
+use Rattle.cob_typed.specs.Scope.{Scope, flag_named, item_named, is_there, means_something, exactly_one, one_of_kind, the_item, form_at}
+use Rattle.cob_typed.specs.Kinds.{is_number, is_testable, side_of, comparison}
+use Rattle.cob_typed.specs.Sums.{operand, zero_literal, atom_of, sum_of, lone, whole_sum, has_item, reference}
 
 -- ---- relations
 
 -- a side is one operand, or is worked out
 pub data Operand : Type 0 where
   alone : Sender → Operand
-  worked_out : Operand
+  worked_out : Expr → Operand
 
-abbrev pub lone_side : Scope → Option Opnd → Judged Operand
-lone_side s None = sound worked_out
-lone_side s (Some o) = seen_as alone (operand s o)
+abbrev pub lone_side : Scope → Expr → Option Opnd → Judged Operand
+lone_side s e None = sound (worked_out e)
+lone_side s e (Some o) = seen_as alone (operand s o)
 
 abbrev pub side_kind : Scope → Operand → Side
 side_kind s (alone x) = side_of s x
-side_kind s worked_out = kinds.number false
+side_kind s (worked_out e) = side.Number false
 
 abbrev pub one_atom : Atom → Sum
 one_atom a = MkSum (more_parts (MkPart false (more_factors (MkFactor false false a) no_factors)) no_parts)
 
-abbrev pub sum_of_side : Scope → Expr → Operand → Judged Sum
-sum_of_side s e (alone x) = sound (one_atom (atom_of x))
-sum_of_side s e worked_out = whole_sum s e
+abbrev pub sum_of_side : Scope → Operand → Judged Sum
+sum_of_side s (alone x) = sound (one_atom (atom_of x))
+sum_of_side s (worked_out e) = whole_sum s e
 
 abbrev pub sender_of_side : Operand → Sender
 sender_of_side (alone x) = x
-sender_of_side worked_out = sender.Zero
+sender_of_side (worked_out e) = sender.Zero
+
+abbrev pub bound_at : Scope → ℕ → Bound
+bound_at s place = form_bound (form_at s place)
 
 abbrev pub number_test : Scope → Sum → Rel → Sum → Judged Test
-number_test s a r b = demand N5 (is_small_sides (λ place. form_bound (form_at s place)) a b) (numbers a r b)
+number_test s a r b = demand N5 (is_small_sides (bound_at s) a b) (numbers a r b)
 
-abbrev pub compared : Scope → Expr → Operand → Rel → Expr → Operand → Comparison → Judged Test
-compared s left a r right b by_value =
-    sum_of_side s left a >>= λ x. sum_of_side s right b >>= λ y. number_test s x r y
-compared s left a r right b by_bytes = sound (texts (sender_of_side a) r (sender_of_side b))
-compared s left a r right b not_at_all = sum_of_side s left a >>= λ x. sum_of_side s right b >>= λ y. breaks Q4 always
+abbrev pub by_value : Scope → Operand → Rel → Operand → Judged Test
+by_value s a r b = sum_of_side s a >>= λ x. sum_of_side s b >>= λ y. number_test s x r y
+
+abbrev pub not_at_all : Scope → Operand → Operand → Judged Test
+not_at_all s a b = sum_of_side s a >>= λ x. sum_of_side s b >>= λ y. breaks Q4 always
+
+abbrev pub compared : Scope → Operand → Rel → Operand → Comparison → Judged Test
+compared s a r b way.ByValue = by_value s a r b
+compared s a r b way.ByBytes = sound (texts (sender_of_side a) r (sender_of_side b))
+compared s a r b way.NotAtAll = not_at_all s a b
 
 -- there is an item on one of the sides, and the sides compare
 abbrev pub relation_test : Scope → Expr → Rel → Expr → Judged Test
 relation_test s left r right =
-    lone_side s (lone left) >>= λ a. lone_side s (lone right) >>= λ b.
-    beside (demanded Q4 (has_item left || has_item right)) (compared s left a r right b (comparison (side_kind s a) (side_kind s b)))
+    lone_side s left (lone left) >>= λ a. lone_side s right (lone right) >>= λ b.
+    beside (demanded Q4 (has_item left || has_item right)) (compared s a r b (comparison (side_kind s a) (side_kind s b)))
 
 abbrev pub denied_if : Bool → Logic → Logic
 denied_if false l = l
@@ -75,9 +86,22 @@ relation_logic s left not__ r right = seen_as (λ t. denied_if not__ (test t)) (
 
 -- ---- class and sign conditions
 
+-- Where an expression stands that is none of what is asked for: what its name means, or else what it is as a sum, is
+-- looked at first.
+abbrev pub looked_over : Scope → Expr → Option Opnd → Broken
+looked_over s e (Some o) = reference s o
+looked_over s e None = (sum_of s e).broken
+
+abbrev pub misplaced : {A : Type 0} → Scope → Rule → Expr → A → Judged A
+misplaced s rule e a = record { value = a; broken = both (looked_over s e (lone e)) (one rule) }
+
+abbrev pub numeric_item : Scope → Ref → Judged Test
+numeric_item s r = the_item s r >>= λ place. demand Q5 (is_testable (form_at s place)) (numeric place)
+
 abbrev pub numeric_test : Scope → Expr → Option Opnd → Judged Test
-numeric_test s e (Some (opnd.Ref r)) = the_item s r >>= λ place. demand Q5 (is_testable (form_at s place)) (numeric place)
-numeric_test s e _ = names_in s e >>= λ x. breaks Q5 always
+numeric_test s e (Some (opnd.Ref r)) = numeric_item s r
+numeric_test s e (Some (opnd.Const c)) = misplaced s Q5 e always
+numeric_test s e None = misplaced s Q5 e always
 
 abbrev pub sign_relation : SignTest → Rel
 sign_relation sign_test.Positive = rel.Greater
@@ -87,13 +111,17 @@ sign_relation sign_test.Zero = rel.Equal
 abbrev pub zero_sum : Sum
 zero_sum = one_atom (number zero_literal)
 
+-- a sum against 0
+abbrev pub sign_of : Scope → SignTest → Sum → Judged Test
+sign_of s asked a = number_test s a (sign_relation asked) zero_sum
+
 -- a sign is asked of a number
-abbrev pub sign_of_operand : Scope → SignTest → Sender → Judged Test
-sign_of_operand s asked x = beside (demanded Q5 (is_number s x)) (number_test s (one_atom (atom_of x)) (sign_relation asked) zero_sum)
+abbrev pub sign_of_operand : Scope → SignTest → Opnd → Judged Test
+sign_of_operand s asked o = operand s o >>= λ x. beside (demanded Q5 (is_number s x)) (sign_of s asked (one_atom (atom_of x)))
 
 abbrev pub signed_test : Scope → SignTest → Expr → Option Opnd → Judged Test
-signed_test s asked e (Some o) = operand s o >>= λ x. sign_of_operand s asked x
-signed_test s asked e None = whole_sum s e >>= λ a. number_test s a (sign_relation asked) zero_sum
+signed_test s asked e (Some o) = sign_of_operand s asked o
+signed_test s asked e None = whole_sum s e >>= λ a. sign_of s asked a
 
 -- ---- condition-names
 
@@ -106,7 +134,7 @@ member_if s None = always
 member_if s (Some place) = member_of (slice_get s.layout.flags place)
 
 abbrev pub named_condition : Scope → Ref → Judged Test
-named_condition s r = seen_as (member_if s) (one_of_kind Q6 (means_something s r) (flags_named s r))
+named_condition s r = seen_as (member_if s) (one_of_kind Q6 (means_something s r) (flag_named s r))
 
 -- ---- abbreviations
 
@@ -128,34 +156,42 @@ walked l c = record { logic = l; carry = c }
 abbrev pub tested : Judged Test → Walked
 tested t = walked (seen_as test t) None
 
+-- a test, or with NOT its contrary
+abbrev pub tested_or_not : Bool → Judged Test → Walked
+tested_or_not not__ t = walked (seen_as (λ x. denied_if not__ (test x)) t) None
+
+-- an abbreviation with no relation before it
+abbrev pub unrelated : Scope → Expr → Walked
+unrelated s e = tested (misplaced s Q6 e always)
+
+-- a relation, with its subject written out or taken over
+abbrev pub related : Scope → Bool → Expr → Bool → Rel → Expr → Walked
+related s denied subject not__ r right =
+    walked (relation_logic s subject not__ r right) (Some (record { subject = subject; not = not__; rel = r; denied = denied }))
+
 -- an abbreviation needs a relation directly before it, and stands with no NOT before either
 abbrev pub abbreviated_from : Scope → Bool → Carry → Bool → Rel → Expr → Walked
 abbreviated_from s denied k not__ r right =
-    if denied || k.denied then walked (names_in s right >>= λ x. breaks Q6 (test always)) None
-    else walked (relation_logic s k.subject not__ r right) (Some (record { subject = k.subject; not = not__; rel = r; denied = false }))
+    if denied || k.denied then unrelated s right else related s false k.subject not__ r right
 
-abbrev pub unrelated : Scope → Expr → Walked
-unrelated s right = walked (names_in s right >>= λ x. breaks Q6 (test always)) None
+abbrev pub abbreviated_behind : Scope → Bool → Option Carry → Bool → Rel → Expr → Walked
+abbreviated_behind s denied None not__ r right = unrelated s right
+abbreviated_behind s denied (Some k) not__ r right = abbreviated_from s denied k not__ r right
 
 -- a value alone: it has the subject and the relation before it
 abbrev pub value_alone : Scope → Bool → Option Carry → Expr → Walked
-value_alone s denied None e = walked (sum_of s e >>= λ x. breaks Q6 (test always)) None
+value_alone s denied None e = unrelated s e
 value_alone s denied (Some k) e = abbreviated_from s denied k k.not k.rel e
 
 -- a name alone: behind a relation an item, else a condition-name
 abbrev pub name_alone : Scope → Bool → Option Carry → Expr → Ref → Walked
 name_alone s denied None e r = tested (named_condition s r)
 name_alone s denied (Some k) e r =
-    if is_empty (items_named s r) then tested (named_condition s r) else abbreviated_from s denied k k.not k.rel e
+    if is_there (item_named s r) then abbreviated_from s denied k k.not k.rel e else tested (named_condition s r)
 
 abbrev pub expression_alone : Scope → Bool → Option Carry → Expr → Option Opnd → Walked
 expression_alone s denied carry e (Some (opnd.Ref r)) = name_alone s denied carry e r
-expression_alone s denied carry e (Some (opnd.Const c)) = constant_alone carry
-  where
-    -- no name stands in it, and it is no operation
-    constant_alone : Option Carry → Walked
-    constant_alone None = walked (breaks Q6 (test always)) None
-    constant_alone (Some k) = abbreviated_from s denied k k.not k.rel e
+expression_alone s denied carry e (Some (opnd.Const c)) = value_alone s denied carry e
 expression_alone s denied carry e None = value_alone s denied carry e
 
 abbrev pub any_or_one : List Logic → Logic
@@ -202,12 +238,8 @@ module _ (s : Scope) where
 
     pub walk_simple : Bool → Option Carry → Simple → Walked
     walk_simple denied carry (cond.parenthesised c) = walked (walk_cond c) None
-    walk_simple denied carry (cond.relation left not__ r right) =
-        walked (relation_logic s left not__ r right) (Some (record { subject = left; not = not__; rel = r; denied = denied }))
-    walk_simple denied None (cond.abbreviated not__ r right) = unrelated s right
-    walk_simple denied (Some k) (cond.abbreviated not__ r right) = abbreviated_from s denied k not__ r right
-    walk_simple denied carry (cond.numeric value not__) =
-        walked (seen_as (λ t. denied_if not__ (test t)) (numeric_test s value (lone value))) None
-    walk_simple denied carry (cond.sign value not__ asked) =
-        walked (seen_as (λ t. denied_if not__ (test t)) (signed_test s asked value (lone value))) None
+    walk_simple denied carry (cond.relation left not__ r right) = related s denied left not__ r right
+    walk_simple denied carry (cond.abbreviated not__ r right) = abbreviated_behind s denied carry not__ r right
+    walk_simple denied carry (cond.numeric value not__) = tested_or_not not__ (numeric_test s value (lone value))
+    walk_simple denied carry (cond.sign value not__ asked) = tested_or_not not__ (signed_test s asked value (lone value))
     walk_simple denied carry (cond.alone e) = expression_alone s denied carry e (lone e)

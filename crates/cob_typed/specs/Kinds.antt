@@ -8,6 +8,10 @@ use Rattle.cob_tree.specs.declared.form.Usage.{Usage}
 use Rattle.cob_tree.specs.declared.form.Usage.TheVariants as usage
 use Rattle.cob_data.specs.declared.layout.Sender.{Sender}
 use Rattle.cob_data.specs.declared.layout.Sender.TheVariants as sender
+use Rattle.cob_typed.specs.declared.kinds.Side.{Side}
+use Rattle.cob_typed.specs.declared.kinds.Side.TheVariants as side
+use Rattle.cob_typed.specs.declared.kinds.Comparison.{Comparison}
+use Rattle.cob_typed.specs.declared.kinds.Comparison.TheVariants as way
 use Rattle.cob_typed.specs.Scope.{Scope, form_at}
 
 -- ---- moves
@@ -74,13 +78,6 @@ is_testable _ = false
 
 -- ---- comparisons
 
--- one side of a relation: a number, with its digits as text where it may stand beside text; text; or ZERO, which is
--- what the other side is
-pub data Side : Type 0 where
-  number : Bool → Side
-  text : Side
-  zero_ : Side
-
 -- kept in characters
 abbrev pub is_shown : Usage → Bool
 is_shown usage.Display = true
@@ -89,33 +86,27 @@ is_shown usage.Trailing = true
 is_shown _ = false
 
 abbrev pub side_of_form : Form → Side
-side_of_form (form.Number digits scale signed kept) = number (scale == 0 && is_shown kept)
-side_of_form _ = text
+side_of_form (form.Number digits scale signed kept) = side.Number (scale == 0 && is_shown kept)
+side_of_form _ = side.Text
 
 abbrev pub side_of : Scope → Sender → Side
 side_of s (sender.Item place) = side_of_form (form_at s place)
-side_of s (sender.Number n) = number (n.scale == 0)
-side_of s (sender.Text t) = text
-side_of s (sender.Fill byte) = text
-side_of s sender.Zero = zero_
-
--- how two sides compare
-pub data Comparison : Type 0 where
-  by_value : Comparison
-  by_bytes : Comparison
-  not_at_all : Comparison
+side_of s (sender.Number n) = side.Number (n.scale == 0)
+side_of s (sender.Text t) = side.Text
+side_of s (sender.Fill byte) = side.Text
+side_of s sender.Zero = side.Zero
 
 abbrev pub beside_text : Bool → Comparison
-beside_text true = by_bytes
-beside_text false = not_at_all
+beside_text true = way.ByBytes
+beside_text false = way.NotAtAll
 
 abbrev pub comparison : Side → Side → Comparison
-comparison (number a) (number b) = by_value
-comparison (number a) zero_ = by_value
-comparison zero_ (number b) = by_value
-comparison zero_ zero_ = by_value
-comparison (number a) text = beside_text a
-comparison text (number b) = beside_text b
-comparison text text = by_bytes
-comparison text zero_ = by_bytes
-comparison zero_ text = by_bytes
+comparison (side.Number a) (side.Number b) = way.ByValue
+comparison (side.Number a) side.Zero = way.ByValue
+comparison side.Zero (side.Number b) = way.ByValue
+comparison side.Zero side.Zero = way.ByValue
+comparison (side.Number a) side.Text = beside_text a
+comparison side.Text (side.Number b) = beside_text b
+comparison side.Text side.Text = way.ByBytes
+comparison side.Text side.Zero = way.ByBytes
+comparison side.Zero side.Text = way.ByBytes

@@ -21,12 +21,13 @@ use Rattle.cob_data.specs.declared.layout.Sender.TheVariants as sender
 use Rattle.cob_program.specs.declared.act.Opening.{Opening}
 use Rattle.cob_program.specs.Logic.{Logic}
 use Rattle.cob_program.specs.Act.{Turns, once, times, until, varying, Stmt, MkStmt, Stmts, no_stmts, more_stmts, Phrase, left_out, given, Act, move, arith, if_, evaluate, perform, go, nothing, stop, open_files, close_files, read, write, show, Whens, no_whens, more_whens, When, MkWhen, Body, range, inline}
-use Rattle.cob_typed.specs.Judged.{Judged, sound, breaks, demand, beside, each_of, if_there, seen_as, ◌>>=◌}
-use Rattle.cob_typed.specs.Scope.{Scope, the_item, the_para, one_of_kind, means_something, flags_named, files_named, records_named, plain_name, form_at}
+use Rattle.cob_typed.specs.Judged.{Broken, kept, one, both, Judged, sound, breaks, demand, beside, each_of, if_there, seen_as, ◌>>=◌}
+use Rattle.cob_typed.specs.Scope.{Scope, the_item, the_para, one_of_kind, means_something, flag_named, file_named, record_named, plain_name, form_at}
 use Rattle.cob_typed.specs.Kinds.{may_move, is_number, is_number_form, is_whole}
 use Rattle.cob_typed.specs.Sums.{operand}
 use Rattle.cob_typed.specs.Conditions.{walk_cond}
-use Rattle.cob_typed.specs.Selections.{Looked, looked_at, selection}
+use Rattle.cob_typed.specs.declared.selections.Looked.{Looked}
+use Rattle.cob_typed.specs.Selections.{looked_at, selection}
 use Rattle.cob_typed.specs.Arithmetic.{Worked, add_to, add_giving, subtract_from, subtract_giving, multiply_by, multiply_giving, divide_into, divide_giving, compute}
 
 module _ (s : Scope) where
@@ -52,7 +53,7 @@ module _ (s : Scope) where
   set_if (Some place) = set_flag (slice_get s.layout.flags place)
 
   abbrev pub set_act : List ℕ → Judged Act
-  set_act text = seen_as set_if (one_of_kind Q8 (means_something s (plain_name text)) (flags_named s (plain_name text)))
+  set_act text = seen_as set_if (one_of_kind Q8 (means_something s (plain_name text)) (flag_named s (plain_name text)))
 
   abbrev pub show_act : List Opnd → Judged Act
   show_act operands = seen_as show (each_of (operand s) operands)
@@ -60,7 +61,7 @@ module _ (s : Scope) where
   -- ---- files
 
   abbrev pub the_file : List ℕ → Judged (Option ℕ)
-  the_file text = one_of_kind Q9 (means_something s (plain_name text)) (files_named s text)
+  the_file text = one_of_kind Q9 (means_something s (plain_name text)) (file_named s text)
 
   abbrev pub some_of : {A : Type 0} → List (Option A) → List A
   some_of [] = []
@@ -106,7 +107,7 @@ module _ (s : Scope) where
 
   abbrev pub write_act : Ref → Option Opnd → Judged Act
   write_act r from =
-      one_of_kind Q9 (means_something s r) (records_named s r) >>= λ rec_. if_there (from_of rec_) from >>= λ x. sound (write (unwrap_or rec_ 0) x)
+      one_of_kind Q9 (means_something s r) (record_named s r) >>= λ rec_. if_there (from_of rec_) from >>= λ x. sound (write (unwrap_or rec_ 0) x)
 
   -- ---- loops
 
@@ -152,12 +153,14 @@ pub record Numbered (A : Type 0) : Type 0 where
 abbrev pub numbered : {A : Type 0} → A → ℕ → Numbered A
 numbered a n = record { value = a; next = n; found = [] }
 
-abbrev pub on_line : ℕ → Rule → Rule × ℕ
-on_line line rule = (rule, line)
+abbrev pub found_on : ℕ → Broken → List (Rule × ℕ)
+found_on line kept = []
+found_on line (one rule) = (rule, line) ∷ []
+found_on line (both a b) = found_on line a ++ found_on line b
 
 -- what is judged on a line, where the next statement has this number
 abbrev pub judged_on : {A : Type 0} → ℕ → ℕ → Judged A → Numbered A
-judged_on line n j = record { value = j.value; next = n; found = map (on_line line) j.broken }
+judged_on line n j = record { value = j.value; next = n; found = found_on line j.broken }
 
 infixl 10 ◌>>>◌
 abbrev pub ◌>>>◌ : {A B : Type 0} → Numbered A → (A → ℕ → Numbered B) → Numbered B
