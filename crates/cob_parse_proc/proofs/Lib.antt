@@ -9,6 +9,7 @@ mod StmtView
 pub mod StmtAhead
 pub mod NotLemmas
 pub mod VerbSteps
+pub mod StmtLoops
 mod Never
 mod StmtAgree
 mod StmtLaws
