@@ -1,4 +1,3 @@
 pub mod Bare
 pub mod Reading
-pub mod StandIn
 pub mod StmtSteps

@@ -2,7 +2,6 @@
 //! "Procedure Division").
 #![tactic(auto)]
 
-mod head;
 mod laws;
 mod statement;
 mod token;
