@@ -1,14 +1,8 @@
 ghost use Rattle.std.specs.Prelude.{◌≡◌, ◌+◌, ◌<◌, ◌∷◌, ◌||◌, [], length, IfOk, IfSome, IfNone, is_some, false};
-ghost use Rattle.cob_tree.specs.Cues.{is, Throughs, Givings, Names, Modes, Whens};
-ghost use Rattle.cob_tree.specs.Takes.{begins_opnd, begins_loop};
 ghost use Rattle.reading.specs.Readers.{lead, stands};
-ghost use Rattle.reading.specs.Printing.{begins};
-ghost use Rattle.cob_parse_expr.specs.Alphabet.{grammar};
 ghost use Rattle.cob_parse_expr.specs.Classes.{name_symbol, name_of, const_key, const_as, const_of, word_symbol, of_key, of_of};
 ghost use Rattle.cob_parse_expr.specs.Lexemes.{plain_symbol, plain_lexeme};
 ghost use Rattle.cob_parse_expr.specs.Steps.{signs, Gives, Leads, Lacks};
-ghost use Rattle.cob_parse_verb.specs.Procedure.{procedure};
-ghost use Rattle.cob_parse_verb.specs.Turning.{turns, follows_name};
 ghost use Rattle.cob_parse_verb.specs.Words.{same, the_key, the, mode_word, mode_key, mode_of, place_word, place_key, place_of, equal_symbol, equal_of, start_key, begin_on, begin_of};
 
 use crate::word::{Begin, Start, Word, start_of, word_of};
@@ -127,11 +121,7 @@ fn is_figurative(keyword: Keyword) -> bool
 {
     matches!(
         keyword,
-        Keyword::Zero
-            | Keyword::Space
-            | Keyword::Quote
-            | Keyword::HighValue
-            | Keyword::LowValue
+        Keyword::Zero | Keyword::Space | Keyword::Quote | Keyword::HighValue | Keyword::LowValue
     )
 }
 
@@ -266,7 +256,8 @@ pub fn begins_constant(lexemes: &[Lexeme]) -> bool
     }
 }
 
-fn begins_of(lexemes: &[Lexeme]) -> bool
+/// Whether OF stands first.
+pub fn begins_of(lexemes: &[Lexeme]) -> bool
     ensures { result ≡ stands of_of (signs lexemes.now) }
 {
     match next(lexemes) {
@@ -275,7 +266,8 @@ fn begins_of(lexemes: &[Lexeme]) -> bool
     }
 }
 
-fn begins_mode(lexemes: &[Lexeme]) -> bool
+/// Whether INPUT or OUTPUT stands first.
+pub fn begins_mode(lexemes: &[Lexeme]) -> bool
     ensures { result ≡ stands mode_of (signs lexemes.now) }
 {
     match next(lexemes) {
