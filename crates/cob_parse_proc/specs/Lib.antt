@@ -1,3 +1,5 @@
 pub mod Bare
 pub mod Reading
 pub mod Program
+pub mod Heads
+pub mod Steps
