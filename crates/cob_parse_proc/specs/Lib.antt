@@ -1,5 +1,3 @@
 pub mod Bare
 pub mod Reading
 pub mod Program
-pub mod Heads
-pub mod Steps

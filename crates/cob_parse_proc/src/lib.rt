@@ -3,10 +3,3 @@
 #![tactic(auto)]
 
 mod laws;
-mod stub;
-mod make;
-mod stmt;
-mod word;
-
-pub use stmt::stmts_in;
-pub use stub::{Head, Arithmetic, head_in, choices_in};
