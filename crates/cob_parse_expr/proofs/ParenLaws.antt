@@ -186,7 +186,7 @@ both_true : (a b : Bool) → (a && b) ≡ true → (a ≡ true) × (b ≡ true)
 both_true true b e = (refl, e)
 both_true false b e = absurd cc
 
-cond_ends : (d top : ℕ) → d < top → Ends grammar (cond_syntax d) top cond_goes (stands close_of)
+pub cond_ends : (d top : ℕ) → d < top → Ends grammar (cond_syntax d) top cond_goes (stands close_of)
 cond_ends d top low = record { ends = λ c ts good here. close_free (takes_cond c) ts here; grows = grows; steady = steady }
   where
     grows : (c : Cond) (t : Sign) → ShapedCond c → Below grammar top (print_cond d c) → cond_goes c t ≡ true → GoesOn grammar (cond_syntax d) top (print_cond d c) t

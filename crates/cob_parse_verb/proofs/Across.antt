@@ -1,5 +1,5 @@
 -- A law over the grammar's alphabet holds over that of statements, where nothing takes what begins a loop.
-use Rattle.std.proofs.Common.{◌≡◌, ℕ, suc, ◌<◌, Bool, true, false, List, [], ◌∷◌, ◌++◌, Option, Some, None, Ok, Err, refl, sym, ap, subst, ◌∙◌}
+use Rattle.std.proofs.Common.{◌≡◌, ℕ, Bool, true, false, List, [], ◌∷◌, Option, Some, None, refl, sym, ◌∙◌}
 use Rattle.cob_tree.specs.declared.keyword.Keyword.{Keyword}
 use Rattle.cob_tree.specs.declared.keyword.Keyword.TheVariants as key
 use Rattle.cob_tree.specs.Symbols.{Symbol, Key, Name, Number, Text, Mark, Relation, Pic, Stop, Sign}
@@ -7,9 +7,8 @@ use Rattle.cob_tree.specs.Items.{Item}
 use Rattle.cob_tree.specs.Cues.{Cue, Loops, mark_cue, not_cue}
 use Rattle.reading.specs.Readers.{Fault, Reader}
 use Rattle.reading.specs.Readers as readers
-use Rattle.reading.specs.Printing.{Front, Here, Ahead, Matches, Below, Opens, ahead, peek_on, on_mark, begins, Next}
-use Rattle.reading.specs.Law.{Syntax, At, Read, Fails, Law, OpensAt, Deepens}
-use Rattle.reading.proofs.Grows.{GoesOn, Shows, Grows}
+use Rattle.reading.specs.Printing.{Ahead, Matches, Below, Opens, ahead, peek_on, on_mark, begins}
+use Rattle.reading.specs.Law.{Syntax, At, Law}
 use Rattle.reading.proofs.Lead.{Class}
 use Rattle.reading.proofs.Starts.{OneToken}
 use Rattle.cob_parse_expr.specs.Alphabet.{key_front, symbol_front, grammar}

@@ -1,5 +1,5 @@
 -- The law of heads, as statements see tokens.
-use Rattle.std.proofs.Common.{◌≡◌, ℕ, suc, ◌+◌, ◌<◌, ◌⊎◌, inl, inr, ◌||◌, ◌&&◌, not, Bool, true, false, List, [], ◌∷◌, ◌++◌, Option, Some, None, is_some, refl, sym, ap, subst, ◌∙◌, append_assoc, arith}
+use Rattle.std.proofs.Common.{◌≡◌, ℕ, suc, ◌+◌, ◌<◌, ◌⊎◌, inl, inr, ◌||◌, ◌&&◌, not, Bool, true, false, List, [], ◌∷◌, ◌++◌, Option, Some, None, is_some, refl, sym, ap, subst, append_assoc, arith}
 use Rattle.cob_tree.specs.declared.keyword.Keyword.TheVariants as key
 use Rattle.cob_tree.specs.declared.operand.Opnd.{Opnd}
 use Rattle.cob_tree.specs.declared.operand.Recv.{Recv}
@@ -7,13 +7,13 @@ use Rattle.cob_tree.specs.declared.operand.Ref.{Ref}
 use Rattle.cob_tree.specs.declared.stmt.Opens.{Opens}
 use Rattle.cob_tree.specs.declared.stmt.Subject.TheVariants as subject
 use Rattle.cob_tree.specs.Symbols.{Symbol, Key, Sign}
-use Rattle.cob_tree.specs.Items.{Item, item, item_on, behind, word_if}
+use Rattle.cob_tree.specs.Items.{Item, item}
 use Rattle.cob_tree.specs.Cues.{Cue, is, Intos, Froms, Givings, EndWrite, Loops}
 use Rattle.cob_tree.specs.Cond.{Cond}
 use Rattle.cob_tree.specs.Stmt.{Verb, move, set, display, go, exit, continue, stop_run, open_, close, write}
 use Rattle.cob_tree.specs.PrintExpr.{print_ref, print_opnd}
 use Rattle.cob_tree.specs.Takes.{takes_ref, takes_opnd, takes_giving, takes_recvs}
-use Rattle.reading.specs.Readers.{Reader, lead, branch, choose, maybe, stands}
+use Rattle.reading.specs.Readers.{branch, stands}
 use Rattle.reading.specs.Printing.{Matches}
 use Rattle.reading.specs.Law.{Syntax, Law}
 use Rattle.reading.proofs.Texts.{Always, or_false}
@@ -39,17 +39,16 @@ use Rattle.cob_parse_expr.proofs.ParenLaws.{law_of_conditions}
 use Rattle.cob_parse_verb.specs.declared.word.Word.TheVariants as word
 use Rattle.cob_parse_verb.specs.declared.word.Start.{Start}
 use Rattle.cob_parse_verb.specs.declared.word.Start.TheVariants as start
-use Rattle.cob_parse_verb.specs.declared.word.Begin.{Begin}
-use Rattle.cob_parse_verb.specs.Words.{the_key, the, start_word, begin_of}
+use Rattle.cob_parse_verb.specs.Words.{the_key, the}
 use Rattle.cob_parse_verb.specs.Procedure.{procedure}
-use Rattle.cob_parse_verb.specs.Heads.{Arithmetic, add_to, add_giving, subtract_from, subtract_giving, multiply_by, multiply_giving, divide_into, divide_giving, compute, arithmetic_start, takes_arithmetic, Head, done, arithmetic, if_head, evaluate_head, perform_head, read_head, verb_start, head_start, print_behind, takes_behind, GoodHead, HasStart}
+use Rattle.cob_parse_verb.specs.Heads.{Arithmetic, add_to, add_giving, subtract_from, subtract_giving, multiply_by, multiply_giving, divide_into, divide_giving, compute, arithmetic_start, takes_arithmetic, Head, done, arithmetic, if_head, evaluate_head, perform_head, read_head, verb_start, head_start, print_behind, takes_behind}
 use Rattle.cob_parse_verb.specs.Lists.{refs_at}
 use Rattle.cob_parse_verb.specs.Syntaxes.{head_syntax}
-use Rattle.cob_parse_verb.specs.Reading.{make_move, move_at, make_set, set_at, make_display, display_at, make_go, go_at, make_exit, exit_at, make_continue, continue_at, make_stop, stop_at, make_open, open_at, make_close, close_at, make_write, written_at, write_at, if_at, make_subject, evaluate_at, make_read, read_at, behind_at, head_at}
+use Rattle.cob_parse_verb.specs.Reading.{make_move, move_at, make_set, set_at, make_display, make_go, make_exit, make_continue, make_stop, make_open, make_close, make_write, written_at, write_at, if_at, make_subject, evaluate_at, make_read, read_at, behind_at, head_at}
 use Rattle.cob_parse_verb.proofs.WordLaws.{the_word, begins_}
 use Rattle.cob_parse_verb.proofs.WordNext.{word_is, behind_syntax, behind_law, behind_next, word_opening, told_stands, told_into, told_from, told_end_write}
 use Rattle.cob_parse_verb.proofs.Across.{class_across, law_across}
-use Rattle.cob_parse_verb.proofs.ListLaws.{same_trees, opnd_never, name_syntax, name_law, names_syntax, names_law, refs_syntax, refs_law, opnds_syntax, opnds_law, opens_syntax, files_syntax, files_law, tag_if}
+use Rattle.cob_parse_verb.proofs.ListLaws.{same_trees, opnd_never, name_syntax, name_law, names_syntax, names_law, refs_syntax, refs_law, opnds_syntax, opnds_law, files_syntax, files_law, tag_if}
 use Rattle.cob_parse_verb.proofs.TargetLaws.{opnds_never, recvs_never}
 use Rattle.cob_parse_verb.proofs.SumLaws.{arithmetic_syntax, IsSum, sum_start, opnd_one, some_opnd, add_law, subtract_law, multiply_law, divide_law, compute_law}
 use Rattle.cob_parse_verb.proofs.PerformLaws.{behind_word_syntax, perform_law}

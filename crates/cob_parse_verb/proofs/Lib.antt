@@ -8,3 +8,7 @@ pub mod LoopLaws
 pub mod PerformLaws
 pub mod SelLaws
 pub mod HeadLaws
+pub mod Agreeing
+pub mod Deepening
+pub mod HeadLevels
+pub mod Growing

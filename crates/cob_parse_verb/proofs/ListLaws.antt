@@ -9,27 +9,25 @@ use Rattle.cob_tree.specs.declared.operand.Opnd.{Opnd}
 use Rattle.cob_tree.specs.declared.operand.Opnd.TheVariants as opnd
 use Rattle.cob_tree.specs.declared.operand.Recv.{Recv}
 use Rattle.cob_tree.specs.declared.operand.Ref.{Ref}
-use Rattle.cob_tree.specs.declared.stmt.Mode.{Mode}
 use Rattle.cob_tree.specs.declared.stmt.Mode.TheVariants as mode
 use Rattle.cob_tree.specs.declared.stmt.Opens.{Opens}
 use Rattle.cob_tree.specs.Symbols.{Symbol, Key, Name, Number, Text, Mark, Relation, Pic, Stop, Sign}
 use Rattle.cob_tree.specs.Items.{Item, item, name, each}
-use Rattle.cob_tree.specs.Cues.{Cue, is, key_cue, mark_cue, not_cue, Qualifies, Rounds, Names, Constants, Zeros, Signs, Scales, Modes}
-use Rattle.cob_tree.specs.PrintExpr.{const_symbol, print_ref, print_opnd, print_recv}
+use Rattle.cob_tree.specs.Cues.{Cue, is, key_cue, Qualifies, Rounds, Names, Constants, Zeros, Signs, Scales, Modes}
+use Rattle.cob_tree.specs.PrintExpr.{const_symbol, print_recv}
 use Rattle.cob_tree.specs.PrintStmt.{print_opnds, print_recvs, print_refs, print_names, print_opens}
-use Rattle.cob_tree.specs.PrintStmt as printed
 use Rattle.cob_tree.specs.Takes.{takes_ref, takes_opnd, takes_recv, begins_opnd, takes_opnds, takes_refs, takes_recvs}
 use Rattle.cob_tree.specs.Shaped.{IsNotEmpty}
-use Rattle.reading.specs.Readers.{Fault, ◌>>=◌, Reader, lead, follow, branch, maybe, plus}
-use Rattle.reading.specs.Printing.{Alphabet, Matches, begins, on_mark, peek_on}
+use Rattle.reading.specs.Readers.{Fault, ◌>>=◌, Reader, lead}
+use Rattle.reading.specs.Printing.{Alphabet, on_mark, peek_on}
 use Rattle.reading.specs.Law.{Syntax, Law}
-use Rattle.reading.proofs.Texts.{Always, takes_nothing, or_false}
+use Rattle.reading.proofs.Texts.{Always}
 use Rattle.reading.proofs.Consequences.{some_tree}
 use Rattle.reading.proofs.Turns.{law_along}
-use Rattle.reading.proofs.Dependent.{dependent_syntax}
 use Rattle.reading.proofs.Lead.{lead_syntax, lead_law, branch_law}
 use Rattle.reading.proofs.Seen.{View, seen_law}
-use Rattle.reading.proofs.Starts.{Begins, Starts, starts_by_one}
+use Rattle.reading.proofs.Starts.{Begins, Starts, OneToken, starts_by_one}
+use Rattle.reading.proofs.Grows.{Grows, samples_one, grows_seen, grows_plus}
 use Rattle.reading.proofs.Tail.{apart, onward, tail_syntax, tail_law}
 use Rattle.reading.proofs.Many.{is_given, many_syntax}
 use Rattle.reading.proofs.Maybe.{maybe_syntax, maybe_tail}
@@ -41,9 +39,9 @@ use Rattle.cob_parse_expr.proofs.CueLemmas.{only, not_cues, not_taken}
 use Rattle.cob_parse_expr.proofs.ClassLaws.{names, told}
 use Rattle.cob_parse_expr.proofs.OperandLaws.{ref_syntax, ref_law, opnd_syntax, opnd_law}
 use Rattle.cob_parse_verb.specs.declared.word.Word.TheVariants as word
-use Rattle.cob_parse_verb.specs.Words.{the_key, the, mode_key, mode_of}
+use Rattle.cob_parse_verb.specs.Words.{mode_key, mode_of}
 use Rattle.cob_parse_verb.specs.Listed.{takes_listed}
-use Rattle.cob_parse_verb.specs.Lists.{cons, some_at, names_at, refs_at, opnds_at, make_recv, recv_at, recvs_at, make_opens, opens_at, files_at}
+use Rattle.cob_parse_verb.specs.Lists.{cons, some_at, names_at, refs_at, opnds_at, make_recv, recv_at, recvs_at, opens_at, files_at}
 use Rattle.cob_parse_verb.proofs.WordLaws.{the_word, modes}
 use Rattle.cob_parse_verb.proofs.WordNext.{told_stands, told_rounded}
 
@@ -87,6 +85,9 @@ module _ {A : Type 0} {r : Reader Sign A} {s : Syntax Item Cue A} {top : ℕ} (L
 
   pub some_law : Law grammar (some_at set r) (listed_syntax set s) top
   some_law = seen_law (plus_law L set m alike St) view
+
+  pub some_grows : OneToken grammar set → Grows grammar s top → Grows grammar (listed_syntax set s) top
+  some_grows one grows = grows_seen view (grows_plus s set m alike (samples_one grammar set [] s top one) grows)
 
 pub all_always : {A : Type 0} (xs : List A) → AllByRecursion Always xs
 all_always [] = tt

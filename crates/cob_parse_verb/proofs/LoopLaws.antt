@@ -1,7 +1,6 @@
 -- The laws of loops.
-use Rattle.std.proofs.Common.{◌≡◌, ℕ, suc, ◌+◌, ◌<◌, ◌⊎◌, inl, inr, ◌||◌, Bool, true, false, List, [], ◌∷◌, ◌++◌, Option, Some, None, is_some, refl, ap, ◌∙◌}
+use Rattle.std.proofs.Common.{◌≡◌, ℕ, suc, ◌+◌, ◌<◌, ◌⊎◌, inl, inr, true, false, List, [], ◌∷◌, ◌++◌, Option, Some, None, refl, ap, ◌∙◌}
 use Rattle.cob_tree.specs.declared.keyword.Keyword.TheVariants as key
-use Rattle.cob_tree.specs.declared.operand.Const.{Const}
 use Rattle.cob_tree.specs.declared.operand.Const.TheVariants as const
 use Rattle.cob_tree.specs.declared.operand.Opnd.{Opnd}
 use Rattle.cob_tree.specs.declared.operand.Opnd.TheVariants as opnd
@@ -20,7 +19,7 @@ use Rattle.cob_tree.specs.PrintStmt.{print_varying, print_loop}
 use Rattle.cob_tree.specs.PrintStmt as printed
 use Rattle.cob_tree.specs.Takes.{takes_ref, takes_opnd, begins_opnd, takes_test, takes_cond, begins_loop, takes_loop}
 use Rattle.cob_tree.specs.Shaped.{ShapedCond, ShapedLoop}
-use Rattle.reading.specs.Readers.{Reader, lead, follow, branch, stands}
+use Rattle.reading.specs.Readers.{lead, follow, branch, stands}
 use Rattle.reading.specs.Printing.{Matches, Next, on_mark, peek_on}
 use Rattle.reading.specs.Law.{Syntax, Law}
 use Rattle.reading.proofs.Texts.{Always}
@@ -35,15 +34,14 @@ use Rattle.reading.proofs.Choose as choosing
 use Rattle.cob_parse_expr.specs.Alphabet.{symbol_front, grammar}
 use Rattle.cob_parse_expr.specs.Parsing.{cond_syntax}
 use Rattle.cob_parse_expr.specs.Reading.{opnd_at}
-use Rattle.cob_parse_expr.specs.CondReading.{cond_at}
 use Rattle.cob_parse_expr.proofs.CueLemmas.{not_taken}
 use Rattle.cob_parse_expr.proofs.Generic.{tells_by_one}
-use Rattle.cob_parse_expr.proofs.OperandLaws.{ref_syntax, ref_law, opnd_syntax, opnd_law}
+use Rattle.cob_parse_expr.proofs.OperandLaws.{ref_law, opnd_syntax, opnd_law}
 use Rattle.cob_parse_expr.proofs.CondLaws.{cond_never}
 use Rattle.cob_parse_expr.proofs.ParenLaws.{law_of_conditions}
 use Rattle.cob_parse_verb.specs.declared.word.Word.TheVariants as word
-use Rattle.cob_parse_verb.specs.Words.{the_key, the}
-use Rattle.cob_parse_verb.specs.Turning.{times_at, make_varying, varying_at, until_at, make_varied, varied_at, make_tested, tested_at, make_loop, loop_at}
+use Rattle.cob_parse_verb.specs.Words.{the}
+use Rattle.cob_parse_verb.specs.Turning.{times_at, varying_at, until_at, make_varied, varied_at, make_tested, tested_at, make_loop, loop_at}
 use Rattle.cob_parse_verb.proofs.WordLaws.{the_word, places}
 use Rattle.cob_parse_verb.proofs.WordNext.{word_next, word_is, behind_syntax, behind_law, behind_next, behind_stands}
 use Rattle.cob_parse_verb.proofs.ListLaws.{opnd_begins, opnd_never}

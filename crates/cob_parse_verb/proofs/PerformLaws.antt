@@ -1,20 +1,19 @@
 -- The law of what stands behind PERFORM, as statements see tokens.
-use Rattle.std.proofs.Common.{◌≡◌, ℕ, suc, ◌+◌, ◌<◌, ◌⊎◌, inl, inr, ◌||◌, ◌&&◌, Bool, true, false, List, [], ◌∷◌, ◌++◌, Option, Some, None, is_some, refl, sym, ap, ◌∙◌, map}
+use Rattle.std.proofs.Common.{◌≡◌, ℕ, suc, ◌+◌, ◌<◌, ◌⊎◌, inl, inr, ◌||◌, ◌&&◌, Bool, true, false, List, [], ◌∷◌, ◌++◌, Option, Some, None, is_some, refl, ap, ◌∙◌, map}
 use Rattle.cob_tree.specs.declared.keyword.Keyword.TheVariants as key
 use Rattle.cob_tree.specs.declared.operand.Const.{Const}
 use Rattle.cob_tree.specs.declared.operand.Const.TheVariants as const
-use Rattle.cob_tree.specs.declared.operand.Opnd.{Opnd}
 use Rattle.cob_tree.specs.declared.operand.Opnd.TheVariants as opnd
 use Rattle.cob_tree.specs.declared.operand.Ref.{Ref}
 use Rattle.cob_tree.specs.Symbols.{Symbol, Key, Name, Sign}
 use Rattle.cob_tree.specs.Items.{Item, item, name, each}
 use Rattle.cob_tree.specs.Cues.{Cue, is, Qualifies, Names, Throughs, Loops}
 use Rattle.cob_tree.specs.Stmt.{Loop, times, until, perform_range}
-use Rattle.cob_tree.specs.PrintExpr.{const_symbol, print_const, print_qualifier}
+use Rattle.cob_tree.specs.PrintExpr.{const_symbol, print_qualifier}
 use Rattle.cob_tree.specs.PrintStmt.{print_loop}
 use Rattle.cob_tree.specs.Takes.{begins_loop}
 use Rattle.cob_tree.specs.Shaped.{ShapedLoop}
-use Rattle.reading.specs.Readers.{Reader, lead, choose, optional, here_if, with_phrase, stands}
+use Rattle.reading.specs.Readers.{lead, choose, optional, here_if, with_phrase, stands}
 use Rattle.reading.specs.Printing.{Matches, begins, on_mark, peek, peek_on, Next}
 use Rattle.reading.specs.Law.{Syntax, Law}
 use Rattle.reading.proofs.Texts.{Always}
@@ -24,12 +23,12 @@ use Rattle.reading.proofs.Seen.{View, seen_law}
 use Rattle.reading.proofs.Apart.{apart_law}
 use Rattle.reading.proofs.Starts.{Begins, Starts, OneToken, starts_by_one}
 use Rattle.reading.proofs.Optional.{optional_syntax, optional_law}
-use Rattle.reading.proofs.Many.{is_given, many_syntax, many_law}
+use Rattle.reading.proofs.Many.{many_syntax, many_law}
 use Rattle.reading.proofs.Opt.{opener_here, phrase_syntax, plain_law}
 use Rattle.reading.proofs.Choose.{choose_syntax, choose_law}
 use Rattle.cob_parse_expr.specs.Alphabet.{grammar}
-use Rattle.cob_parse_expr.specs.Classes.{name_symbol, name_of, const_as, const_of, word_symbol, of_key, of_of}
-use Rattle.cob_parse_expr.specs.Reading.{here, second, make_ref, qualifier_at, qualifiers_at}
+use Rattle.cob_parse_expr.specs.Classes.{name_symbol, name_of, const_as, const_of, word_symbol, of_key}
+use Rattle.cob_parse_expr.specs.Reading.{second, qualifiers_at}
 use Rattle.cob_parse_expr.proofs.CueLemmas.{not_taken}
 use Rattle.cob_parse_expr.proofs.ClassLaws.{ofs, names, consts, of_told}
 use Rattle.cob_parse_expr.proofs.Generic.{tells_by_one, all_good}
@@ -40,7 +39,7 @@ use Rattle.cob_parse_verb.specs.declared.word.Start.{Start}
 use Rattle.cob_parse_verb.specs.declared.word.Start.TheVariants as start
 use Rattle.cob_parse_verb.specs.Words.{the_key, the}
 use Rattle.cob_parse_verb.specs.Heads.{Head, done, arithmetic, perform_head, print_behind, takes_behind, GoodHead, HasStart}
-use Rattle.cob_parse_verb.specs.Turning.{turns, follows_name, qualified_at, through_at, Ranged, ranged_at, Behind, behind_name, named_at, unnamed_at, Performed, make_perform, performed_at, perform_at, loop_at, tested_at}
+use Rattle.cob_parse_verb.specs.Turning.{turns, follows_name, qualified_at, through_at, Ranged, ranged_at, Behind, behind_name, named_at, unnamed_at, Performed, make_perform, perform_at, loop_at}
 use Rattle.cob_parse_verb.proofs.WordLaws.{the_word}
 use Rattle.cob_parse_verb.proofs.WordNext.{word_next, word_is}
 use Rattle.cob_parse_verb.proofs.Across.{class_across, matches_back, law_across, one_across, begins_across}

@@ -1,13 +1,11 @@
 -- The laws of what stands behind WHEN.
-use Rattle.std.specs.List.{AllByRecursion}
-use Rattle.std.proofs.Common.{◌≡◌, ℕ, suc, ◌+◌, ◌<◌, ◌⊎◌, inl, inr, ◌||◌, ◌&&◌, Bool, true, false, List, [], ◌∷◌, ◌++◌, Option, Some, None, is_some, refl, sym, ap, ◌∙◌, arith}
+use Rattle.std.proofs.Common.{◌≡◌, ℕ, suc, ◌+◌, ◌<◌, ◌⊎◌, inl, inr, ◌||◌, ◌&&◌, true, false, List, [], ◌∷◌, ◌++◌, Option, Some, None, is_some, refl, sym, ap, ◌∙◌, arith}
 use Rattle.std.proofs.lemmas.List.{append-nil}
 use Rattle.cob_tree.specs.declared.keyword.Keyword.TheVariants as key
 use Rattle.cob_tree.specs.declared.operand.Const.TheVariants as const
 use Rattle.cob_tree.specs.declared.operand.Opnd.TheVariants as opnd
 use Rattle.cob_tree.specs.Symbols.{Symbol, Key, Sign}
 use Rattle.cob_tree.specs.Items.{Item, item}
-use Rattle.cob_tree.specs.Items as items
 use Rattle.cob_tree.specs.Cues.{Cue, is, Qualifies, Scales, Signs, Ands, Ors, Throughs, Loops}
 use Rattle.cob_tree.specs.Cues as cue
 use Rattle.cob_tree.specs.Expr.{Expr, MkExpr, MkTerm, Fact, MkFact, operand, group}
@@ -17,20 +15,20 @@ use Rattle.cob_tree.specs.Stmt.{Sel, any, range, choice}
 use Rattle.cob_tree.specs.PrintExpr.{print_expr, print_fact, print_term, print_cond, print_conj, print_neg, print_simple, one_alone}
 use Rattle.cob_tree.specs.PrintStmt.{print_sel, print_choice}
 use Rattle.cob_tree.specs.Takes.{takes_expr, takes_test, takes_cond, takes_thru, takes_sel}
-use Rattle.cob_tree.specs.Shaped.{IsNotEmpty, ShapedCond, ShapedSel}
-use Rattle.reading.specs.Readers.{lead, stands, branch}
+use Rattle.cob_tree.specs.Shaped.{ShapedSel}
+use Rattle.reading.specs.Readers.{stands}
 use Rattle.reading.specs.Printing.{Matches}
 use Rattle.reading.specs.Law.{Syntax, Law}
 use Rattle.reading.proofs.Texts.{Always, or_false}
-use Rattle.reading.proofs.Dependent.{dependent_syntax}
 use Rattle.reading.proofs.Lead.{lead_syntax, lead_law}
 use Rattle.reading.proofs.Seen.{View, seen_law}
-use Rattle.reading.proofs.Starts.{Begins, Starts, starts_by_one}
+use Rattle.reading.proofs.Starts.{Begins, Starts, OneToken, starts_by_one}
+use Rattle.reading.proofs.Grows.{Grows, samples_one, grows_one, grows_nothing, grows_seen, grows_choose, grows_opt, grows_dependent}
 use Rattle.reading.proofs.Opt.{opt_syntax, opt_law}
 use Rattle.reading.proofs.Choose.{choose_syntax, choose_law}
 use Rattle.cob_parse_expr.specs.Alphabet.{grammar}
 use Rattle.cob_parse_expr.specs.Classes.{word_symbol}
-use Rattle.cob_parse_expr.specs.Reading.{expr_at}
+use Rattle.cob_parse_expr.specs.Reading.{second, expr_at}
 use Rattle.cob_parse_expr.specs.Parsing.{expr_syntax, cond_syntax}
 use Rattle.cob_parse_expr.proofs.CueLemmas.{only, not_taken}
 use Rattle.cob_parse_expr.proofs.Generic.{tells_by_one}
@@ -46,7 +44,7 @@ use Rattle.cob_parse_verb.specs.Turning.{is_alone, ranged_sel, make_sel, sel_at,
 use Rattle.cob_parse_verb.proofs.WordLaws.{the_word}
 use Rattle.cob_parse_verb.proofs.WordNext.{word_is, behind_syntax, behind_law, behind_starts, told_thru, told_when}
 use Rattle.cob_parse_verb.proofs.Across.{law_across}
-use Rattle.cob_parse_verb.proofs.ListLaws.{some_law}
+use Rattle.cob_parse_verb.proofs.ListLaws.{some_law, some_grows}
 
 -- ---- a condition doesn't begin with ANY
 
@@ -181,6 +179,12 @@ sel_view d = record { back = back; print = print; takes = takes; good = good; go
 abbrev choice_syntax : ℕ → Syntax Item Cue Sel
 choice_syntax d = record { Good = ShapedSel; print = print_choice d; takes = takes_sel }
 
+abbrev chosen : Sel → Unit {0} × Sel
+chosen s = (tt, s)
+
+choice_view : (d : ℕ) → View (behind_syntax d word.When (sel_syntax d)) (choice_syntax d) second chosen
+choice_view d = record { back = λ s g. refl; print = λ x g. refl; takes = λ x p g. refl; good = λ x g. g.1; good_back = λ s g. (tt, g) }
+
 module _ (d top : ℕ) (low : d < top) (room : ℕ) (e : top ≡ suc (d + room)) where
   pub sel_law : Law grammar (sel_at room) (sel_syntax d) top
   sel_law = seen_law (choose_law (lead_law (the_word word.Any d) top (λ x a. low) tt tt)
@@ -195,9 +199,9 @@ module _ (d top : ℕ) (low : d < top) (room : ℕ) (e : top ≡ suc (d + room))
       second_ x text rest g m = free_stands ((chosen_syntax d).print x) text rest (free_join (print_cond d x.0) _ (cond_free d x.0)) m
 
   choice_law : Law grammar (choice_at room) (choice_syntax d) top
-  choice_law = seen_law (behind_law d word.When (sel_syntax d) low sel_law) (record { back = λ s g. refl; print = λ x g. refl; takes = λ x p g. refl; good = λ x g. g.1; good_back = λ s g. (tt, g) })
+  choice_law = seen_law (behind_law d word.When (sel_syntax d) low sel_law) (choice_view d)
 
-  choices_law : Law grammar (choices_at room) (choices_syntax d) top
+  pub choices_law : Law grammar (choices_at room) (choices_syntax d) top
   choices_law = some_law choice_law (is cue.Whens) cue.Whens (λ s p g h. ap (takes_sel s) (only cue.Whens p h)) (λ s g. sel_never cue.Whens refl refl refl refl refl refl refl s) starts
     where
       begin : Begins grammar (is cue.Whens) (choice_syntax d)
@@ -206,6 +210,30 @@ module _ (d top : ℕ) (low : d < top) (room : ℕ) (e : top ≡ suc (d + room))
 
       starts : Starts grammar (is cue.Whens) (choice_at room) (choice_syntax d)
       starts = starts_by_one grammar (is cue.Whens) begin (not_taken (is cue.Whens) refl refl refl refl)
+
+  -- and where a token such as NOT goes on
+  pub choices_grow_by : Grows grammar (cond_syntax d) top → Grows grammar (choices_syntax d) top
+  choices_grow_by grows = some_grows choice_law (is cue.Whens) cue.Whens (λ s p g h. ap (takes_sel s) (only cue.Whens p h)) (λ s g. sel_never cue.Whens refl refl refl refl refl refl refl s) starts when_one choice_grows
+    where
+      begin : Begins grammar (is cue.Whens) (choice_syntax d)
+      begin s [] rest g m = absurd m
+      begin s (t ∷ text) rest g m = told_when t (text ++ rest) ∙ word_is word.When word.When t m.0.symbol
+
+      when_one : OneToken grammar (is cue.Whens)
+      when_one = not_taken (is cue.Whens) refl refl refl refl
+
+      starts : Starts grammar (is cue.Whens) (choice_at room) (choice_syntax d)
+      starts = starts_by_one grammar (is cue.Whens) begin when_one
+
+      expr_one : (x : Expr) → OneToken grammar (takes_expr x)
+      expr_one x = not_taken (takes_expr x) (expr_never cue.NotRelates refl refl refl x) (expr_never cue.NotTests refl refl refl x) (expr_never cue.NotSize refl refl refl x) (expr_never cue.NotAtEnd refl refl refl x)
+
+      sel_grows : Grows grammar (sel_syntax d) top
+      sel_grows = grows_seen (sel_view d) (grows_choose (grows_nothing grammar (any_syntax d) top (λ x p. refl))
+          (grows_opt (cond_syntax d) (thru_syntax d) is_alone (is Throughs) Throughs (λ c p g h. ap (takes_cond c) (only Throughs p h)) (samples_one grammar (is Throughs) [] (thru_syntax d) top (not_taken (is Throughs) refl refl refl refl)) grows (grows_one grammar (thru_syntax d) top (λ x. expr_one x.1))))
+
+      choice_grows : Grows grammar (choice_syntax d) top
+      choice_grows = grows_seen (choice_view d) (grows_dependent (lead_syntax Always (λ x. item d (Key key.When))) (λ x. sel_syntax d) (λ x g. sel_grows))
 
 choices_never : (xs : List Sel) → takes_listed takes_sel (is cue.Whens) xs Loops ≡ false
 choices_never [] = refl

@@ -1,6 +1,5 @@
 -- The laws of arithmetic statements, up to their phrases.
 use Rattle.std.proofs.Common.{◌≡◌, ℕ, suc, ◌+◌, ◌<◌, ◌⊎◌, inl, inr, List, [], ◌∷◌, ◌++◌, Option, Some, None, refl, ap, subst, ◌∙◌}
-use Rattle.cob_tree.specs.declared.keyword.Keyword.TheVariants as key
 use Rattle.cob_tree.specs.declared.token.Rel.TheVariants as rel
 use Rattle.cob_tree.specs.declared.operand.Const.TheVariants as const
 use Rattle.cob_tree.specs.declared.operand.Opnd.{Opnd}
@@ -8,13 +7,11 @@ use Rattle.cob_tree.specs.declared.operand.Opnd.TheVariants as opnd
 use Rattle.cob_tree.specs.declared.operand.Recv.{Recv}
 use Rattle.cob_tree.specs.declared.operand.Ref.{Ref}
 use Rattle.cob_tree.specs.declared.stmt.Way.TheVariants as way
-use Rattle.cob_tree.specs.Symbols.{Symbol, Relation, Sign}
+use Rattle.cob_tree.specs.Symbols.{Symbol, Sign}
 use Rattle.cob_tree.specs.Items.{Item}
-use Rattle.cob_tree.specs.Items as items
 use Rattle.cob_tree.specs.Cues.{Cue, NotRelates, NotTests, NotSize, NotAtEnd, Givings, Froms, Intos, Relates}
 use Rattle.cob_tree.specs.Expr.{Expr}
-use Rattle.cob_tree.specs.PrintExpr.{print_opnd, print_relation}
-use Rattle.cob_tree.specs.PrintStmt.{print_opnds}
+use Rattle.cob_tree.specs.PrintExpr.{print_relation}
 use Rattle.cob_tree.specs.Takes.{takes_opnd, takes_opnds, takes_recvs}
 use Rattle.reading.specs.Readers.{Reader, branch, choose, stands}
 use Rattle.reading.specs.Printing.{Matches, Next, on_mark, peek_on}

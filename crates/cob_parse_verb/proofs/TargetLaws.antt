@@ -1,5 +1,5 @@
 -- The laws of receivers, with GIVING and REMAINDER or without.
-use Rattle.std.proofs.Common.{◌≡◌, ℕ, ◌<◌, ◌⊎◌, inl, inr, ◌||◌, ◌&&◌, not, Bool, true, false, List, [], ◌∷◌, ◌++◌, Option, Some, None, is_some, refl, sym, ap, subst, ◌∙◌}
+use Rattle.std.proofs.Common.{◌≡◌, ℕ, ◌<◌, ◌⊎◌, inl, inr, ◌||◌, not, Bool, true, false, List, [], ◌∷◌, ◌++◌, Option, Some, None, is_some, refl, sym, ap, ◌∙◌}
 use Rattle.std.proofs.lemmas.List.{append-nil}
 use Rattle.cob_tree.specs.declared.keyword.Keyword.TheVariants as key
 use Rattle.cob_tree.specs.declared.operand.Const.{Const}
@@ -14,12 +14,12 @@ use Rattle.cob_tree.specs.Items as items
 use Rattle.cob_tree.specs.Cues.{Cue, is, Qualifies, Rounds, Names, Givings, Remainders}
 use Rattle.cob_tree.specs.PrintExpr.{const_symbol, print_ref, print_opnd, print_recv}
 use Rattle.cob_tree.specs.PrintStmt.{print_recvs}
-use Rattle.cob_tree.specs.Takes.{takes_ref, takes_recv, takes_recvs, takes_giving, takes_opnds, begins_opnd, takes_remainder}
+use Rattle.cob_tree.specs.Takes.{takes_recv, takes_recvs, takes_giving, takes_opnds, begins_opnd, takes_remainder}
 use Rattle.cob_tree.specs.Shaped.{IsNotEmpty}
 use Rattle.reading.specs.Readers.{Reader, stands}
 use Rattle.reading.specs.Printing.{Matches}
 use Rattle.reading.specs.Law.{Syntax, Law}
-use Rattle.reading.proofs.Texts.{Always, or_false}
+use Rattle.reading.proofs.Texts.{or_false}
 use Rattle.reading.proofs.Dependent.{seq_syntax, seq_law}
 use Rattle.reading.proofs.Seen.{View, seen_law}
 use Rattle.reading.proofs.Opt.{opt_syntax, opt_law, phrase_syntax, phrase_law}
@@ -30,8 +30,7 @@ use Rattle.cob_parse_expr.proofs.CueLemmas.{only}
 use Rattle.cob_parse_expr.proofs.Generic.{tells_by_one}
 use Rattle.cob_parse_expr.proofs.OperandLaws.{ref_syntax, ref_law, const_syntax, const_law}
 use Rattle.cob_parse_verb.specs.declared.word.Word.TheVariants as word
-use Rattle.cob_parse_verb.specs.Lists.{recvs_at}
-use Rattle.cob_parse_verb.specs.Targets.{Target, receivers, giving, may_give, item_of, make_target, giving_at, target_at, given_at}
+use Rattle.cob_parse_verb.specs.Targets.{Target, receivers, giving, may_give, make_target, giving_at, target_at, given_at}
 use Rattle.cob_parse_verb.proofs.WordNext.{behind_syntax, behind_law, behind_starts, word_opening, told_giving, told_remainder}
 use Rattle.cob_parse_verb.proofs.ListLaws.{opnd_never, recvs_syntax, recvs_law, same_trees}
 

@@ -1,5 +1,5 @@
 -- The classes of the words.
-use Rattle.std.proofs.Common.{◌≡◌, ℕ, ◌==◌, if◌then◌else◌, Bool, true, false, List, [], ◌∷◌, Option, Some, None, refl, sym, ap, subst, ◌∙◌, get_or}
+use Rattle.std.proofs.Common.{◌≡◌, ℕ, if◌then◌else◌, Bool, true, false, List, [], ◌∷◌, Option, Some, None, refl, sym, ap, subst, ◌∙◌, get_or}
 use Rattle.std.proofs.lemmas.Bool.{eqb-true}
 use Rattle.cob_tree.specs.declared.keyword.Keyword.{Keyword}
 use Rattle.cob_tree.specs.declared.keyword.Keyword.TheVariants as key
@@ -10,7 +10,7 @@ use Rattle.cob_tree.specs.declared.stmt.Mode.TheVariants as mode
 use Rattle.cob_tree.specs.declared.stmt.Place.{Place}
 use Rattle.cob_tree.specs.declared.stmt.Place.TheVariants as place
 use Rattle.cob_tree.specs.Symbols.{Symbol, Key, Name, Number, Text, Mark, Relation, Pic, Stop, Sign}
-use Rattle.cob_tree.specs.Items.{Item, Fits, item, item_on}
+use Rattle.cob_tree.specs.Items.{Fits, item, item_on}
 use Rattle.cob_tree.specs.PrintExpr.{print_relation}
 use Rattle.cob_tree.specs.PrintStmt as printed
 use Rattle.reading.proofs.Texts.{Always}
@@ -24,7 +24,7 @@ use Rattle.cob_parse_verb.specs.declared.word.Word.TheVariants as word
 use Rattle.cob_parse_verb.specs.declared.word.Start.{Start}
 use Rattle.cob_parse_verb.specs.declared.word.Start.TheVariants as start
 use Rattle.cob_parse_verb.specs.declared.word.Begin.{Begin}
-use Rattle.cob_parse_verb.specs.Words.{key_of, word_key, number, same, if_same, the_key, the, mode_word, place_word, if_word, mode_key, mode_of, place_key, place_of, equal_rel, equal_symbol, equal_of, start_word, start_key, begin_on, begin_of}
+use Rattle.cob_parse_verb.specs.Words.{key_of, word_key, number, same, if_same, the_key, the, mode_key, mode_of, place_key, place_of, equal_rel, equal_symbol, equal_of, start_word, start_key, begin_on, begin_of}
 
 -- ---- one word
 

@@ -1,10 +1,10 @@
 -- What stands behind a word.
-use Rattle.std.proofs.Common.{◌≡◌, ℕ, ◌<◌, Bool, true, false, List, [], ◌∷◌, ◌++◌, Option, Some, None, is_some, refl, sym, ap, ◌∙◌}
+use Rattle.std.proofs.Common.{◌≡◌, ℕ, ◌<◌, Bool, false, List, [], ◌∷◌, ◌++◌, Option, Some, None, is_some, refl, ap, ◌∙◌}
 use Rattle.cob_tree.specs.declared.keyword.Keyword.{Keyword}
 use Rattle.cob_tree.specs.declared.keyword.Keyword.TheVariants as key
 use Rattle.cob_tree.specs.Symbols.{Symbol, Key, Sign}
 use Rattle.cob_tree.specs.Items.{Item, item}
-use Rattle.cob_tree.specs.Cues.{Cue, is, key_cue, not_cue, NotRelates, NotTests, NotSize, NotAtEnd, Givings, Remainders, Rounds, Intos, Froms, Throughs, Whens, EndWrite}
+use Rattle.cob_tree.specs.Cues.{Cue, is, key_cue, NotRelates, NotTests, NotSize, NotAtEnd, Givings, Remainders, Rounds, Intos, Froms, Throughs, Whens, EndWrite}
 use Rattle.reading.specs.Readers.{Reader, branch, stands, behind, behind_on}
 use Rattle.reading.specs.Printing.{Front, Matches, begins, on_mark, peek_on, Next}
 use Rattle.reading.specs.Law.{Syntax, Law}

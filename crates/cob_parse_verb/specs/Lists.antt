@@ -1,5 +1,5 @@
 -- How lists in statements are read.
-use Rattle.std.specs.Prelude.{ℕ, ◌||◌, Bool, List, [], ◌∷◌, Option, is_some}
+use Rattle.std.specs.Prelude.{ℕ, Bool, List, ◌∷◌, Option, is_some}
 use Rattle.cob_tree.specs.declared.operand.Opnd.{Opnd}
 use Rattle.cob_tree.specs.declared.operand.Recv.{Recv}
 use Rattle.cob_tree.specs.declared.operand.Ref.{Ref}
@@ -12,7 +12,7 @@ use Rattle.reading.specs.Readers.{Reader, lead, follow, branch, seen, maybe, plu
 use Rattle.reading.specs.Printing.{begins}
 use Rattle.cob_parse_expr.specs.Alphabet.{grammar}
 use Rattle.cob_parse_expr.specs.Classes.{name_of}
-use Rattle.cob_parse_expr.specs.Reading.{here, ref_at, opnd_at}
+use Rattle.cob_parse_expr.specs.Reading.{ref_at, opnd_at}
 use Rattle.cob_parse_verb.specs.declared.word.Word.TheVariants as word
 use Rattle.cob_parse_verb.specs.Words.{the, mode_of}
 

@@ -1,5 +1,5 @@
 -- What stands behind TO, FROM, BY and INTO of an arithmetic statement: receivers, or an operand and GIVING.
-use Rattle.std.specs.Prelude.{ℕ, ◌&&◌, ◌⊎◌, not, Bool, false, List, [], ◌∷◌, Option, Some, None}
+use Rattle.std.specs.Prelude.{◌&&◌, ◌⊎◌, not, Bool, false, List, [], ◌∷◌, Option, Some, None}
 use Rattle.std.proofs.Common.{inl, inr}
 use Rattle.cob_tree.specs.declared.operand.Const.{Const}
 use Rattle.cob_tree.specs.declared.operand.Opnd.{Opnd}
@@ -12,7 +12,7 @@ use Rattle.reading.specs.Readers.{Reader, lead, seq, branch, seen, choose, opt, 
 use Rattle.cob_parse_expr.specs.Alphabet.{grammar}
 use Rattle.reading.specs.Printing.{begins}
 use Rattle.cob_parse_expr.specs.Classes.{name_of, const_of}
-use Rattle.cob_parse_expr.specs.Reading.{here, ref_at}
+use Rattle.cob_parse_expr.specs.Reading.{ref_at}
 use Rattle.cob_parse_verb.specs.declared.word.Word.TheVariants as word
 use Rattle.cob_parse_verb.specs.Words.{the}
 use Rattle.cob_parse_verb.specs.Lists.{recvs_at}

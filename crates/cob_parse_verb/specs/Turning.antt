@@ -1,5 +1,5 @@
 -- How loops, and what stands behind PERFORM and WHEN, are read.
-use Rattle.std.specs.Prelude.{ℕ, ◌||◌, ◌&&◌, ◌⊎◌, Bool, List, Option, Some, None, is_some, map}
+use Rattle.std.specs.Prelude.{ℕ, ◌||◌, ◌&&◌, ◌⊎◌, Bool, List, Option, Some, None, is_some}
 use Rattle.std.proofs.Common.{inl, inr}
 use Rattle.cob_tree.specs.declared.operand.Const.{Const}
 use Rattle.cob_tree.specs.declared.operand.Opnd.{Opnd}

@@ -1,5 +1,5 @@
 -- The words that stand in statements before their lists of statements, and the classes of tokens that they are.
-use Rattle.std.specs.Prelude.{◌≡◌, ℕ, ◌==◌, if◌then◌else◌, Bool, Option, Some, None}
+use Rattle.std.specs.Prelude.{ℕ, ◌==◌, if◌then◌else◌, Bool, Option, Some, None}
 use Rattle.cob_tree.specs.declared.keyword.Keyword.{Keyword}
 use Rattle.cob_tree.specs.declared.keyword.Keyword.TheVariants as key
 use Rattle.cob_tree.specs.declared.token.Rel.{Rel}
@@ -8,7 +8,7 @@ use Rattle.cob_tree.specs.declared.stmt.Mode.{Mode}
 use Rattle.cob_tree.specs.declared.stmt.Mode.TheVariants as mode
 use Rattle.cob_tree.specs.declared.stmt.Place.{Place}
 use Rattle.cob_tree.specs.declared.stmt.Place.TheVariants as place
-use Rattle.cob_tree.specs.Symbols.{Symbol, Key, Relation, Sign}
+use Rattle.cob_tree.specs.Symbols.{Symbol, Relation, Sign}
 use Rattle.cob_parse_expr.specs.Classes.{word_symbol}
 use Rattle.cob_parse_verb.specs.declared.word.Word.{Word}
 use Rattle.cob_parse_verb.specs.declared.word.Word.TheVariants as word
