@@ -11,3 +11,5 @@ mod StmtAgree
 mod StmtLaws
 mod Across
 mod ProgramLaws
+mod StmtDeep
+mod Given
