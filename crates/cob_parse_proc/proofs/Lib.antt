@@ -13,3 +13,4 @@ mod Across
 mod ProgramLaws
 mod StmtDeep
 mod Given
+mod ProgramAgree

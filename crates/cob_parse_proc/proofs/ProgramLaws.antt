@@ -38,6 +38,7 @@ use Rattle.cob_parse_verb.specs.Procedure.{procedure, token_front}
 use Rattle.cob_parse_verb.specs.Words.{start_key}
 use Rattle.cob_parse_proc.specs.Bare.{list_takes}
 use Rattle.cob_parse_proc.specs.Reading.{nots, may_go, stmts_at}
+use Rattle.cob_parse_proc.specs.Parsing.{ShapedTree}
 use Rattle.cob_parse_proc.specs.Program.{limit, starts, sentence_at, sentences_at, make_paragraph, behind_name, paragraph_at, paragraphs_at, make_end, end_at, ending_at, before_at, Body, body_at, make_tree, tree_at}
 use Rattle.cob_parse_proc.proofs.Across.{Alike, other_marks, law_across}
 use Rattle.cob_parse_proc.proofs.Marks.{not_seconds}
@@ -185,9 +186,6 @@ ending_tail : (room : ℕ) → Tail divisions (is (the word.EndProgram)) is_some
 ending_tail room = optional_part (is (the word.EndProgram)) (end_law room) (starts_with (begins_with (one_word word.EndProgram) end_syntax (λ e good. (tt, Some e.line, print_name_and_stop e.name, refl))))
 
 -- ---- whole programs
-
-abbrev pub ShapedTree : Tree → Type 0
-ShapedTree t = ShapedFront t.front × AllByRecursion ShapedStmts t.sentences × AllByRecursion ShapedParagraph t.paragraphs
 
 abbrev body_syntax : Syntax Item Symbol Body
 body_syntax = pair_syntax parts_syntax ending_syntax is_some

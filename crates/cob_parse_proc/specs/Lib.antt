@@ -1,3 +1,4 @@
 pub mod Bare
 pub mod Reading
 pub mod Program
+pub mod Parsing
