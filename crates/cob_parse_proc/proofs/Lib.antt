@@ -14,3 +14,4 @@ mod ProgramLaws
 mod StmtDeep
 mod Given
 mod ProgramAgree
+mod ProgramAnswers
