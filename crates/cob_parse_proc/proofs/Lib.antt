@@ -15,3 +15,4 @@ mod StmtDeep
 mod Given
 mod ProgramAgree
 mod ProgramAnswers
+mod ProgramOnce

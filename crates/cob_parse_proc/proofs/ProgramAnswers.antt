@@ -55,16 +55,16 @@ readable (i ∷ is) (t ∷ tokens) m = (subst (λ (y : Symbol). symbol_of (writt
 pub law_at : (room limit' : ℕ) → limit' ≡ suc room → Law divisions (tree_at room) tree_syntax limit'
 law_at room limit' e = subst (Law divisions (tree_at room) tree_syntax) (sym e) (tree_law known room)
 
-law : Law divisions (tree_at limit) tree_syntax top
+pub law : Law divisions (tree_at limit) tree_syntax top
 law = law_at limit top refl
 
-abbrev wides : ℕ → Reader Sign Tree
+abbrev pub wides : ℕ → Reader Sign Tree
 wides more = tree_at (limit + more)
 
-wide_law : (more : ℕ) → Law divisions (wides more) tree_syntax (top + more)
+pub wide_law : (more : ℕ) → Law divisions (wides more) tree_syntax (top + more)
 wide_law more = law_at (limit + more) (top + more) (omega arith)
 
-wide_agrees : (more : ℕ) (ts : List Sign) → Agree (tree_at limit ts) (wides more ts)
+pub wide_agrees : (more : ℕ) (ts : List Sign) → Agree (tree_at limit ts) (wides more ts)
 wide_agrees more = tree_agree rooms limit (limit + more) (omega arith)
 
 -- tokens for what is printed
@@ -75,7 +75,7 @@ spell i = go i.line refl
     go None e = (record { symbol = i.symbol; line = 1 }, record { symbol = refl; line = subst (λ (l : Option ℕ). IsLine l 1) (sym e) tt })
     go (Some l) e = (record { symbol = i.symbol; line = l }, record { symbol = refl; line = subst (λ (o : Option ℕ). IsLine o l) (sym e) refl })
 
-spelled : (is : List Item) → (ts : List Sign) × Matches divisions is ts
+pub spelled : (is : List Item) → (ts : List Sign) × Matches divisions is ts
 spelled [] = ([], tt)
 spelled (i ∷ is) = let t = spell i in let w = spelled is in (t.0 ∷ w.0, (t.1, w.1))
 

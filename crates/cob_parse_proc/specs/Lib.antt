@@ -2,3 +2,4 @@ pub mod Bare
 pub mod Reading
 pub mod Program
 pub mod Parsing
+pub mod Laws
