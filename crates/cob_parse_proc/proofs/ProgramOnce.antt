@@ -1,6 +1,5 @@
 -- One tree a printing, and one answer for each list of tokens.
-use Rattle.std.proofs.Common.{◌≡◌, ℕ, ◌≤◌, ⊎_elim, List, [], ◌∷◌, ◌++◌, length, refl, sym, ap, subst, ◌∙◌, append_assoc, arith}
-use Rattle.std.proofs.lemmas.Bool.{cases_lt}
+use Rattle.std.proofs.Common.{◌≡◌, ℕ, ◌≤◌, List, [], ◌∷◌, ◌++◌, length, refl, sym, ap, subst, ◌∙◌, append_assoc}
 use Rattle.cob_tree.specs.Symbols.{Sign}
 use Rattle.cob_tree.specs.Items.{Item}
 use Rattle.cob_tree.specs.Stmt.{Tree}
@@ -9,8 +8,7 @@ use Rattle.reading.specs.Printing.{Matches}
 use Rattle.reading.proofs.Results.{cut_at}
 use Rattle.reading.proofs.Exact.{one_of_any}
 use Rattle.cob_parse_data.specs.Tokens.{divisions}
-use Rattle.cob_parse_proc.specs.Parsing.{ShapedTree, top, IsTree, GoesOn, Stops, IsDeep}
-use Rattle.cob_parse_proc.specs.Laws.{OneAnswer}
+use Rattle.cob_parse_proc.specs.Parsing.{ShapedTree, top, IsTree, GoesOn, Stops}
 use Rattle.cob_parse_proc.proofs.ProgramAnswers.{wides, wide_law, spelled}
 
 -- tokens are one tree's
@@ -24,7 +22,7 @@ one_printing a b good good' same =
 
 -- ---- one answer
 
-shaped_of : (ts : List Sign) (a : Tree) → IsTree ts a → ShapedTree a
+pub shaped_of : (ts : List Sign) (a : Tree) → IsTree ts a → ShapedTree a
 shaped_of ts a x = (x.shaped.front, x.shaped.sentences, x.shaped.paragraphs)
 
 -- the items of a front of the tokens
@@ -53,16 +51,8 @@ no_later ts v read [] rest y parts same g = refl
 no_later ts v read (t ∷ m) rest y parts same g =
     absurd (y.no_further t (m ++ rest) parts (fewer (y.read ++ t ∷ []) m (subst GoesOn (same ∙ sym (append_assoc y.read (t ∷ []) m)) g)))
 
-one_place : (ts u v : List Sign) → Stops ts u → Stops ts v → length u ≤ length v → u ≡ v
+pub one_place : (ts u v : List Sign) → Stops ts u → Stops ts v → length u ≤ length v → u ≡ v
 one_place ts u v x y le =
     let cut = cut_at x.read u y.read v (sym x.parts ∙ y.parts) le in
     let none : cut.0 ≡ [] = no_later ts v x.read cut.0 u y cut.1 cut.2 x.goes_on in
     sym (cut.1 ∙ ap (λ (z : List Sign). z ++ u) none)
-
-pub one_answer : (ts : List Sign) → OneAnswer ts
-one_answer ts = record {
-  read_once = λ a b x y. one_text ts a b x.spells (shaped_of ts a x) y.spells (shaped_of ts b y);
-  read_or_wrong = λ a u x y. y.none a x.spells (shaped_of ts a x);
-  read_or_deep = λ a x y. y.none a x.spells (shaped_of ts a x) x.below;
-  wrong_once = λ u v x y. ⊎_elim (λ lt. one_place ts u v x y (omega (arith, lt))) (λ le. sym (one_place ts v u y x le)) (cases_lt (length u) (length v));
-}

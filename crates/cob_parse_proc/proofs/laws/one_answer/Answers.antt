@@ -1,4 +1,4 @@
-use Rattle.cob_parse_proc.proofs.ProgramOnce.{one_answer}
+use Rattle.cob_parse_proc.proofs.OneAnswer.{one_answer}
 use Rattle.cob_parse_proc.proofs.laws.one_answer.Goals as goal
 
 pub returns : goal.returns
