@@ -7,4 +7,5 @@ mod statement;
 mod token;
 mod verb;
 
+pub use laws::{one_answer, one_tree};
 pub use statement::stmts_in;
