@@ -22,3 +22,4 @@ pub mod StmtAhead
 pub mod NotLemmas
 pub mod VerbSteps
 pub mod StmtLoops
+pub mod StmtAnswers

@@ -24,7 +24,6 @@ use std::alloc::Global;
 
 // Statements that have to stand behind what may go on with NOT or may not.
 #[cycle(stmt)]
-#[tactic(none)]
 fn list_in(
     alloc: Global,
     takes_not: bool,
@@ -44,7 +43,6 @@ fn list_in(
 
 // Statements behind words that open them, where these words stand.
 #[cycle(stmt)]
-#[tactic(none)]
 fn phrase_in<'a>(
     alloc: Global,
     opened: Option<&'a [Lexeme]>,
@@ -68,7 +66,6 @@ fn phrase_in<'a>(
 
 // SIZE ERROR, NOT SIZE ERROR and the END- word.
 #[cycle(stmt)]
-#[tactic(none)]
 fn tail_in(
     alloc: Global,
     end: Keyword,
@@ -91,7 +88,6 @@ fn tail_in(
 
 // An arithmetic statement, behind what stands before its phrases.
 #[cycle(stmt)]
-#[tactic(none)]
 fn arithmetic_in(
     alloc: Global,
     arithmetic: Arithmetic,
@@ -108,7 +104,6 @@ fn arithmetic_in(
 
 // IF, behind its condition.
 #[cycle(stmt)]
-#[tactic(none)]
 fn if_in(
     alloc: Global,
     test: Cond,
@@ -133,7 +128,6 @@ fn if_in(
 
 // What is looked for, one or more, and what is done then.
 #[cycle(stmt)]
-#[tactic(none)]
 fn when_in(
     alloc: Global,
     lexemes: &[Lexeme],
@@ -150,7 +144,6 @@ fn when_in(
 
 // The WHENs of EVALUATE, and what stands behind WHEN OTHER, which is the last.
 #[cycle(stmt)]
-#[tactic(none)]
 fn whens_in(
     alloc: Global,
     lexemes: &[Lexeme],
@@ -181,7 +174,6 @@ fn whens_in(
 
 // EVALUATE, behind what it looks at.
 #[cycle(stmt)]
-#[tactic(none)]
 fn evaluate_in(
     alloc: Global,
     subject: Subject,
@@ -203,7 +195,6 @@ fn evaluate_in(
 
 // An inline PERFORM, behind its loop.
 #[cycle(stmt)]
-#[tactic(none)]
 fn perform_in(
     alloc: Global,
     turns: Option<Loop>,
@@ -224,7 +215,6 @@ fn perform_in(
 
 // READ, behind INTO.
 #[cycle(stmt)]
-#[tactic(none)]
 fn read_in(
     alloc: Global,
     file: Name,
@@ -249,7 +239,6 @@ fn read_in(
 
 // A statement behind what stands before its lists.
 #[cycle(stmt)]
-#[tactic(none)]
 fn verb_in(
     alloc: Global,
     head: Head,
@@ -273,7 +262,6 @@ fn verb_in(
 
 // The longest statement in front, where so many more statements and parentheses may open in it.
 #[cycle(stmt)]
-#[tactic(none)]
 fn stmt_in(
     alloc: Global,
     lexemes: &[Lexeme],
@@ -291,7 +279,6 @@ fn stmt_in(
 /// The most statements in front, one at least, where so many statements and parentheses may open; and whether they
 /// may go on with NOT.
 #[cycle(stmt)]
-#[tactic(none)]
 pub fn stmts_in(
     alloc: Global,
     lexemes: &[Lexeme],
