@@ -24,11 +24,11 @@ module _ {T I M N : Type 0} {G : Alphabet T I M} {H : Alphabet T I N} (A : Alike
   matches_back (i ∷ is) [] m = absurd m
   matches_back (i ∷ is) (t ∷ ts) m = (A.back i t m.0, matches_back is ts m.1)
 
-  low_to : (top : ℕ) (is : List I) → Below G top is → Below H top is
+  pub low_to : (top : ℕ) (is : List I) → Below G top is → Below H top is
   low_to top [] b = tt
   low_to top (i ∷ is) b = (subst (λ (n : ℕ). n < top) (A.depth i) b.0, low_to top is b.1)
 
-  low_back : (top : ℕ) (is : List I) → Below H top is → Below G top is
+  pub low_back : (top : ℕ) (is : List I) → Below H top is → Below G top is
   low_back top [] b = tt
   low_back top (i ∷ is) b = (subst (λ (n : ℕ). n < top) (sym (A.depth i)) b.0, low_back top is b.1)
 

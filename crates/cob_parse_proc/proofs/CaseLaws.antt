@@ -77,7 +77,7 @@ pub cases_one : (ended : Bool) → OneToken procedure (more_cases ended)
 cases_one true = not_taken (more_cases true) refl refl refl refl
 cases_one false = not_taken (more_cases false) refl refl refl refl
 
-cases_starts : (d : ℕ) (r : Reader Sign Case) (ended : Bool) → Starts procedure (more_cases ended) r (open_cases d ended)
+pub cases_starts : (d : ℕ) (r : Reader Sign Case) (ended : Bool) → Starts procedure (more_cases ended) r (open_cases d ended)
 cases_starts d r ended = starts_by_one procedure (more_cases ended) (all ended) (cases_one ended)
   where
     all : (e : Bool) → Begins procedure (more_cases e) (open_cases d e)
@@ -173,7 +173,7 @@ module _ (K : Known) (d top room : ℕ) (low : d < top) (inner : Reader Sign Stm
       first None eo e0 = absurd cc
       first (Some x) eo e0 = (eo, second (the word.Other u.symbol) refl e0)
 
-  case_tells : Tells procedure other_stands (other_with inner) (when_with inner room) (other_syntax d) (when_syntax d)
+  pub case_tells : Tells procedure other_stands (other_with inner) (when_with inner room) (other_syntax d) (when_syntax d)
   case_tells = record { first = λ x text rest good spells next. first_told x text rest good spells; second = λ y text rest good spells next. second_told y text rest good spells; decided = decided; excluded = excluded }
     where
       decided : (q r z : List Sign) (t : Sign) (f : Fault) → other_stands (q ++ t ∷ r) ≡ true → other_with inner (q ++ t ∷ r) ≡ Err f → left_of f ≡ suc (length r) → other_stands (q ++ t ∷ z) ≡ true
@@ -198,10 +198,10 @@ module _ (K : Known) (d top room : ℕ) (low : d < top) (inner : Reader Sign Stm
   pub case_law : Law procedure (case_with inner room) (case_syntax d) top
   case_law = choose_law other_with_law when_with_law case_tells
 
-  cases_alike : (ended : Bool) (x : Case) (p : Cue) → (open_cases d ended).Good x → more_cases (is_other ended x) p ≡ true → (open_cases d ended).takes x p ≡ (open_cases d ended).takes x cue.Whens
+  pub cases_alike : (ended : Bool) (x : Case) (p : Cue) → (open_cases d ended).Good x → more_cases (is_other ended x) p ≡ true → (open_cases d ended).takes x p ≡ (open_cases d ended).takes x cue.Whens
   cases_alike ended x p good e = ap ((case_syntax d).takes x) (whens_only (is_other ended x) p e)
 
-  cases_laws : (ended : Bool) (ts : List Sign) → begins procedure (more_cases ended) ts ≡ true → Law procedure (case_with inner room) (open_cases d ended) top
+  pub cases_laws : (ended : Bool) (ts : List Sign) → begins procedure (more_cases ended) ts ≡ true → Law procedure (case_with inner room) (open_cases d ended) top
   cases_laws ended ts e = when_law case_law (still_open ended ts e)
 
   pub whens_law : Law procedure (whens_with inner room) (whens_syntax d) top

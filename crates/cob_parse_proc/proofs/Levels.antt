@@ -156,6 +156,12 @@ parts_syntax d = mixed_syntax (two_syntax d) (λ x. end_syntax d x.0.0.0.1) is_s
 
 -- ---- END-PERFORM
 
+abbrev pub to_unit : Option (Unit {0}) → Unit {0}
+to_unit o = tt
+
+pub closed_view : (d : ℕ) → View (lead_syntax Always (λ (x : Unit {0}). key d word.EndPerform)) (closed_syntax d) given_word to_unit
+closed_view d = record { back = λ y good. sym good; print = λ x good. refl; takes = λ x p good. refl; good = λ x good. refl; good_back = λ y good. tt }
+
 perform_word : (takes : Cue → Bool) (t : Sign) (ts : List Sign) → t.symbol ≡ Key word.EndPerform → Next procedure takes (t ∷ ts)
 perform_word takes t ts e = ap (λ (y : Symbol). on_mark procedure takes (peek_on procedure (token_front y) ts)) e
 
@@ -448,13 +454,7 @@ module _ (K : Known) (d top room : ℕ) (low : d < top) (inner : Reader Sign Stm
   ended_tail c k O = phrase_tail c (key d k ∷ []) O (low, tt) (nothing_law procedure top)
 
   pub closed_word : Law procedure (seen given_word (lead (one_word word.EndPerform))) (closed_syntax d) top
-  closed_word = seen_law (lead_law (one_key d word.EndPerform) top (λ x a. low) tt tt) view
-    where
-      to_unit : Option (Unit {0}) → Unit {0}
-      to_unit o = tt
-
-      view : View (lead_syntax Always (λ (x : Unit {0}). key d word.EndPerform)) (closed_syntax d) given_word to_unit
-      view = record { back = λ y good. sym good; print = λ x good. refl; takes = λ x p good. refl; good = λ x good. refl; good_back = λ y good. tt }
+  closed_word = seen_law (lead_law (one_key d word.EndPerform) top (λ x a. low) tt tt) (closed_view d)
 
   pub end_part : (x : (Begun × Option Stmts) × Option Stmts) → (two_syntax d).Good x → Part procedure top (two_syntax d) (λ y. end_with y.0.0.0.1 y.0.0.1) (λ y. end_syntax d y.0.0.0.1) is_some x (end_style x.0.0.0.1)
   end_part ((((b, done v), i), o), u) good = record { value = None; reads = λ ts. refl; good = refl; only = λ y g. g; bare = refl; free = λ p. refl }

@@ -1,16 +1,25 @@
-mod Mixed
-mod Words
-mod Marks
-mod Syntaxes
-mod WhenLaws
-mod CaseLaws
-mod Levels
-mod StmtView
+pub mod Mixed
+pub mod Words
+pub mod Marks
+pub mod Syntaxes
+pub mod WhenLaws
+pub mod CaseLaws
+pub mod Levels
+pub mod StmtView
+pub mod Never
+pub mod StmtAgree
+pub mod StmtLaws
+pub mod Across
+pub mod ProgramLaws
+pub mod StmtDeep
+pub mod Given
+pub mod ProgramAgree
+pub mod ProgramAnswers
+pub mod ProgramOnce
+pub mod ProgramDeep
+pub mod OneAnswer
 pub mod StmtAhead
 pub mod NotLemmas
 pub mod VerbSteps
-mod Never
-mod StmtAgree
-mod StmtLaws
-mod Across
-mod ProgramLaws
+pub mod StmtLoops
+pub mod StmtAnswers

@@ -172,10 +172,10 @@ no_room d top same = record { first = first; some = (some_list, tt); at_end = re
 
 -- ---- the law
 
-starts_one : (d : ℕ) (r : Reader Sign Stmt) → Starts procedure (is cue.Starts) r (stmt_syntax d)
+pub starts_one : (d : ℕ) (r : Reader Sign Stmt) → Starts procedure (is cue.Starts) r (stmt_syntax d)
 starts_one d r = starts_by_one procedure (is cue.Starts) (stmt_begins d) (not_taken (is cue.Starts) refl refl refl refl)
 
-alike : (d : ℕ) (s : Stmt) (p : Cue) → ShapedStmt s → is cue.Starts p ≡ true → stmt_takes s p ≡ stmt_takes s cue.Starts
+pub alike : (d : ℕ) (s : Stmt) (p : Cue) → ShapedStmt s → is cue.Starts p ≡ true → stmt_takes s p ≡ stmt_takes s cue.Starts
 alike d s p good e = ap (stmt_takes s) (only cue.Starts p e)
 
 module _ (K : Known) (room d top : ℕ) (low : suc d < top) (same : top ≡ suc (suc d + room)) (inner : Reader Sign Stmts) (LI : Law procedure inner (stmts_syntax (suc d)) top) (GI : Grows procedure (stmts_syntax (suc d)) top) where

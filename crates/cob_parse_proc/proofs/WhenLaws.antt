@@ -58,11 +58,11 @@ choices_end K d top low = ends_by nots not_seconds (K.choices_grow d top low) (�
 
 -- ---- words before a list
 
+pub led_view : (d : ℕ) (ks : List Keyword) (k : Keyword) → View (dependent_syntax (lead_syntax Always (λ (x : Unit {0}). key d k)) (λ x. led_syntax d ks)) (led_syntax d (k ∷ ks)) last beside
+led_view d ks k = record { back = λ y good. refl; print = λ x good. refl; takes = λ x p good. refl; good = λ x good. good.1; good_back = λ y good. (tt, good) }
+
 pub led_law : (d top : ℕ) (low : d < top) (inner : Reader Sign Stmts) (ks : List Keyword) (k : Keyword) → Law procedure inner (led_syntax d ks) top → Law procedure (seen last (branch (one_word k) (λ x. inner))) (led_syntax d (k ∷ ks)) top
-led_law d top low inner ks k LI = seen_law (branch_law (one_key d k) top (λ x a. low) tt tt (λ x. inner) (λ x. led_syntax d ks) (λ x a. LI)) view
-  where
-    view : View (dependent_syntax (lead_syntax Always (λ x. key d k)) (λ x. led_syntax d ks)) (led_syntax d (k ∷ ks)) last beside
-    view = record { back = λ y good. refl; print = λ x good. refl; takes = λ x p good. refl; good = λ x good. good.1; good_back = λ y good. (tt, good) }
+led_law d top low inner ks k LI = seen_law (branch_law (one_key d k) top (λ x a. low) tt tt (λ x. inner) (λ x. led_syntax d ks) (λ x a. LI)) (led_view d ks k)
 
 -- ---- OTHER is no choice
 

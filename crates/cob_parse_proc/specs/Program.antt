@@ -29,24 +29,26 @@ abbrev pub starts : Symbol → Bool
 starts (Key k) = is_some (start_key k)
 starts y = false
 
-abbrev pub sentence_at : Reader Sign Stmts
-sentence_at = seen front (closed (stmts_at limit) (of stop_symbol) (λ ss. may_go (list_takes ss)))
+-- ---- each where so many may be open
 
-abbrev pub sentences_at : Reader Sign (List Stmts)
-sentences_at = many (begins divisions starts) sentence_at
+abbrev pub sentence_at : ℕ → Reader Sign Stmts
+sentence_at room = seen front (closed (stmts_at room) (of stop_symbol) (λ ss. may_go (list_takes ss)))
+
+abbrev pub sentences_at : ℕ → Reader Sign (List Stmts)
+sentences_at room = many (begins divisions starts) (sentence_at room)
 
 abbrev pub make_paragraph : (ℕ × List ℕ) × List Stmts → Paragraph
 make_paragraph x = record { line = x.0.0; name = x.0.1; sentences = x.1 }
 
 -- what stands behind a paragraph's name
-abbrev pub behind_name : Reader Sign (List Stmts)
-behind_name = seen back (branch (of stop_symbol) (λ x. sentences_at))
+abbrev pub behind_name : ℕ → Reader Sign (List Stmts)
+behind_name room = seen back (branch (of stop_symbol) (λ x. sentences_at room))
 
-abbrev pub paragraph_at : Reader Sign Paragraph
-paragraph_at = seen make_paragraph (branch (on_its_line name_symbol) (λ x. behind_name))
+abbrev pub paragraph_at : ℕ → Reader Sign Paragraph
+paragraph_at room = seen make_paragraph (branch (on_its_line name_symbol) (λ x. behind_name room))
 
-abbrev pub paragraphs_at : Reader Sign (List Paragraph)
-paragraphs_at = many (tokens.here name_symbol) paragraph_at
+abbrev pub paragraphs_at : ℕ → Reader Sign (List Paragraph)
+paragraphs_at room = many (tokens.here name_symbol) (paragraph_at room)
 
 abbrev pub make_end : (ℕ × Unit {0}) × List ℕ → EndProgram
 make_end x = record { line = x.0.0; name = x.1 }
@@ -64,11 +66,11 @@ before_at = seq front_at (heading (word.Procedure ∷ word.Division ∷ []))
 abbrev pub Body : Type 0
 Body = (List Stmts × List Paragraph) × Option EndProgram
 
-abbrev pub body_at : Reader Sign Body
-body_at = seq (seq sentences_at paragraphs_at) ending_at
+abbrev pub body_at : ℕ → Reader Sign Body
+body_at room = seq (seq (sentences_at room) (paragraphs_at room)) ending_at
 
 abbrev pub make_tree : (Front × Unit {0}) × Body → Tree
 make_tree x = record { front = x.0.0; sentences = x.1.0.0; paragraphs = x.1.0.1; end = x.1.1 }
 
-abbrev pub tree_at : Reader Sign Tree
-tree_at = seen make_tree (seq before_at body_at)
+abbrev pub tree_at : ℕ → Reader Sign Tree
+tree_at room = seen make_tree (seq before_at (body_at room))

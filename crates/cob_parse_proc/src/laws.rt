@@ -1,6 +1,13 @@
-ghost use Rattle.std.specs.Prelude.{◌≡◌, ℕ};
+ghost use Rattle.std.specs.Prelude.{List};
+ghost use Rattle.cob_tree.specs.Symbols.{Sign};
+ghost use Rattle.cob_parse_proc.specs.Laws.{OneTree, OneAnswer};
 
-/// Stand-in.
-pub fn nothing_yet()
-    ensures { (n : ℕ) → n ≡ n }
+/// A law: two programs that the grammar allows, with one printing, are one.
+pub fn one_tree()
+    ensures { OneTree }
+{}
+
+/// A law: each list of tokens has one answer.
+pub fn one_answer()
+    ensures { (ts : List Sign) → OneAnswer ts }
 {}

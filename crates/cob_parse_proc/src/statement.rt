@@ -7,15 +7,15 @@ ghost use Rattle.cob_tree.specs.Takes.{takes_stmts, takes_stmt, takes_verb, take
 ghost use Rattle.reading.specs.Readers.{optional_on};
 ghost use Rattle.cob_parse_expr.specs.Steps.{signs, Gives};
 ghost use Rattle.cob_parse_proc.specs.Reading.{when_with, stmt_with, stmts_at};
-ghost use Rattle.cob_parse_proc.specs.StandIn.{plain_arithmetic, plain_head};
+ghost use Rattle.cob_parse_verb.specs.VerbSteps.{plain_arithmetic, plain_head};
 ghost use Rattle.cob_parse_proc.specs.StmtSteps.{plain_list, plain_phrase, may, phrase_may, tail_may, verb_may, list_at, tail_at, arithmetic_at, if_at, chosen_at, evaluate_at, perform_at, read_at, verb_at};
 
-use crate::head::{Arithmetic, Head, choices_in, head_in};
 use crate::token::{
     behind, behind_not_size, behind_size, both_behind, ended, full, left_at, starts, when_begins,
 };
 use crate::verb::{conditional, evaluation, inline, reading, tail, when};
 use cob_parse_expr::{Halt, Lexeme};
+use cob_parse_verb::{Arithmetic, Head, choices_in, head_in};
 use cob_tree::{Cond, Keyword, Loop, Name, Ref, Stmt, Subject, Tail, Verb, When};
 use std::alloc::Global;
 
