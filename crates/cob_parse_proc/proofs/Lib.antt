@@ -18,3 +18,4 @@ pub mod ProgramAnswers
 pub mod ProgramOnce
 pub mod ProgramDeep
 pub mod OneAnswer
+pub mod Plain

@@ -3,3 +3,4 @@ pub mod Reading
 pub mod Program
 pub mod Parsing
 pub mod Laws
+pub mod Lines
