@@ -19,3 +19,4 @@ pub mod ProgramOnce
 pub mod ProgramDeep
 pub mod OneAnswer
 pub mod Plain
+pub mod LinesLaw

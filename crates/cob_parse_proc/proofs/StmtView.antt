@@ -192,7 +192,7 @@ flat : (a i p q e : List Item) → (((a ++ i) ++ p) ++ q) ++ e ≡ a ++ (i ++ (p
 flat a i p q e =
     append_assoc ((a ++ i) ++ p) q e ∙ append_assoc (a ++ i) p (q ++ e) ∙ append_assoc a i (p ++ (q ++ e))
 
-arithmetic_print : (d : ℕ) (a : Arithmetic) (t : Tail) → print_verb d (with_tail a t) ≡ print_arithmetic d a ++ print_tail d (end_word a) t
+pub arithmetic_print : (d : ℕ) (a : Arithmetic) (t : Tail) → print_verb d (with_tail a t) ≡ print_arithmetic d a ++ print_tail d (end_word a) t
 arithmetic_print d (heads.add_to addends to) t = sym (append_assoc (print_opnds d addends) (key d word.To ∷ print_recvs d to) (print_tail d word.EndAdd t))
 arithmetic_print d (heads.add_giving addends to giving) t =
     sym (append_assoc (print_opnds d addends) (behind d (word.To ∷ []) (print_opnd d) to ++ key d word.Giving ∷ print_recvs d giving) (print_tail d word.EndAdd t)
