@@ -6,7 +6,7 @@ use Rattle.cob_tree.specs.declared.keyword.Keyword.{Keyword}
 use Rattle.cob_tree.specs.declared.keyword.Keyword.TheVariants as word
 use Rattle.cob_tree.specs.declared.tree.EndProgram.{EndProgram}
 use Rattle.cob_tree.specs.declared.token.Rel.TheVariants as rel
-use Rattle.cob_tree.specs.Symbols.{Symbol, Key, Sign}
+use Rattle.cob_tree.specs.Symbols.{Symbol, Key, Name, Sign}
 use Rattle.cob_tree.specs.Items.{Item, IsLine, item_on, key, keys, name, stop, word_if, behind, each}
 use Rattle.cob_tree.specs.Cues.{Cue, is, Starts, Size, NotSize, AtEnd, NotAtEnd, Else, EndAdd, EndSubtract, EndMultiply, EndDivide, EndCompute, EndIf, EndEvaluate, EndRead}
 use Rattle.cob_tree.specs.Cues as cue
@@ -15,7 +15,7 @@ use Rattle.cob_tree.specs.PrintExpr.{print_ref, print_opnd, print_expr, print_co
 use Rattle.cob_tree.specs.PrintFront as print
 use Rattle.cob_tree.specs.PrintFront.{print_if, print_front}
 use Rattle.cob_tree.specs.PrintStmt.{print_opnds, print_recvs, print_refs, way_word, print_subject, print_choice, print_loop, print_name_only, first_word, size_words, not_size_words, print_stmts, print_stmt, print_verb, print_phrase, print_tail, print_whens, print_when, print_sentence, print_paragraph, print_end, print_tree}
-use Rattle.cob_tree.specs.Takes.{takes_stmts, takes_stmt, takes_phrase, takes_tail, takes_whens, takes_when, takes_verb, unless}
+use Rattle.cob_tree.specs.Takes.{takes_stmts, takes_stmt, takes_phrase, takes_tail, takes_whens, takes_when, takes_verb, takes_into, unless}
 use Rattle.cob_tree.specs.Shaped.{ShapedStmts, ShapedStmt, ShapedPhrase, ShapedTail, ShapedEnd, ShapedWhens, ShapedWhen, ShapedVerb, ShapedParagraph}
 use Rattle.reading.specs.Printing.{Matches}
 use Rattle.cob_parse_data.specs.Tokens.{divisions}
@@ -111,3 +111,183 @@ mutual
   verb_blank d (open_ files) = opens_plain d files
   verb_blank d (close names) = names_plain d names
   verb_blank d (write rec from ended) = both (print_ref d rec) (behind d (word.From ∷ []) (print_opnd d) from ++ word_if d ended word.EndWrite) (ref_plain d rec) (both (behind d (word.From ∷ []) (print_opnd d) from) (word_if d ended word.EndWrite) (opened_plain d (word.From ∷ []) (print_opnd d) (opnd_plain d) from) (word_plain d ended word.EndWrite))
+
+-- ---- what they take
+
+mutual
+  stmts_take : (ss : Stmts) (p : Cue) → takes_stmts (stmts_without ss) p ≡ takes_stmts ss p
+  stmts_take no_stmts p = refl
+  stmts_take (more_stmts s no_stmts) p = ap (λ (z : Bool). z || is Starts p) (stmt_take s p)
+  stmts_take (more_stmts s (more_stmts u us)) p = stmts_take (more_stmts u us) p
+
+  stmt_take : (s : Stmt) (p : Cue) → takes_stmt (stmt_without s) p ≡ takes_stmt s p
+  stmt_take (MkStmt line v) p = verb_take v p
+
+  phrase_take : (ph : Phrase) (before own : Bool) (p : Cue) → takes_phrase (phrase_without ph) before own p ≡ takes_phrase ph before own p
+  phrase_take left_out before own p = refl
+  phrase_take (given ss) before own p = stmts_take ss p
+
+  tail_take : (t : Tail) (before end : Bool) (p : Cue) → takes_tail (tail_without t) before end p ≡ takes_tail t before end p
+  tail_take (MkTail size not_size ended) before end p = ap (λ (z : Bool). unless ended z end) (phrase_take not_size (takes_phrase (phrase_without size) before (is Size p) p) (is NotSize p) p ∙ ap (λ (z : Bool). takes_phrase not_size z (is NotSize p) p) (phrase_take size before (is Size p) p))
+
+  whens_take : (ws : Whens) (p : Cue) → takes_whens (whens_without ws) p ≡ takes_whens ws p
+  whens_take no_whens p = refl
+  whens_take (more_whens w no_whens) p = when_take w p
+  whens_take (more_whens w (more_whens x xs)) p = whens_take (more_whens x xs) p
+
+  when_take : (w : When) (p : Cue) → takes_when (when_without w) p ≡ takes_when w p
+  when_take (MkWhen choices body) p = stmts_take body p
+
+  verb_take : (v : Verb) (p : Cue) → takes_verb (verb_without v) p ≡ takes_verb v p
+  verb_take (add_to os rs t) p = tail_take t _ _ p
+  verb_take (add_giving os o rs t) p = tail_take t _ _ p
+  verb_take (subtract_from os rs t) p = tail_take t _ _ p
+  verb_take (subtract_giving os o rs t) p = tail_take t _ _ p
+  verb_take (multiply_by o rs t) p = tail_take t _ _ p
+  verb_take (multiply_giving o q rs t) p = tail_take t _ _ p
+  verb_take (divide_into o rs t) p = tail_take t _ _ p
+  verb_take (divide_giving o way q rs r t) p = tail_take t _ _ p
+  verb_take (compute rs e t) p = tail_take t _ _ p
+  verb_take (if_ test ss other ended) p = ap (λ (z : Bool). unless ended z (is EndIf p)) (phrase_take other (takes_stmts (stmts_without ss) p) (is Else p) p ∙ ap (λ (z : Bool). takes_phrase other z (is Else p) p) (stmts_take ss p))
+  verb_take (evaluate subject ws other ended) p = ap (λ (z : Bool). unless ended z (is EndEvaluate p)) (phrase_take other (takes_whens (whens_without ws) p) (is cue.Whens p) p ∙ ap (λ (z : Bool). takes_phrase other z (is cue.Whens p) p) (whens_take ws p))
+  verb_take (perform_inline turns body) p = refl
+  verb_take (read file into end not_end ended) p = ap (λ (z : Bool). unless ended z (is EndRead p)) (phrase_take not_end (takes_phrase (phrase_without end) (takes_into into p) (is AtEnd p) p) (is NotAtEnd p) p ∙ ap (λ (z : Bool). takes_phrase not_end z (is NotAtEnd p) p) (phrase_take end (takes_into into p) (is AtEnd p) p))
+  verb_take (move from to) p = refl
+  verb_take (set text) p = refl
+  verb_take (display operands) p = refl
+  verb_take (perform_range first thru turns) p = refl
+  verb_take (go text) p = refl
+  verb_take exit p = refl
+  verb_take continue p = refl
+  verb_take stop_run p = refl
+  verb_take (open_ files) p = refl
+  verb_take (close names) p = refl
+  verb_take (write rec from ended) p = refl
+
+two_take : (a b : Phrase) (before m n : Bool) (p : Cue) → takes_phrase (phrase_without b) (takes_phrase (phrase_without a) before m p) n p ≡ takes_phrase b (takes_phrase a before m p) n p
+two_take a b before m n p = phrase_take b (takes_phrase (phrase_without a) before m p) n p ∙ ap (λ (z : Bool). takes_phrase b z n p) (phrase_take a before m p)
+
+-- ---- shapes
+
+ended_shaped : (x : Bool) (b c : Bool) → b ≡ c → ShapedEnd x c → ShapedEnd x b
+ended_shaped false b c e g = tt
+ended_shaped true b c e g = e ∙ g
+
+mutual
+  stmts_shaped : (ss : Stmts) → ShapedStmts ss → ShapedStmts (stmts_without ss)
+  stmts_shaped no_stmts g = absurd g
+  stmts_shaped (more_stmts s no_stmts) g = stmt_shaped s g
+  stmts_shaped (more_stmts s (more_stmts u us)) g = (stmt_shaped s g.0, stmt_take s Starts ∙ g.1, stmts_shaped (more_stmts u us) g.2)
+
+  stmt_shaped : (s : Stmt) → ShapedStmt s → ShapedStmt (stmt_without s)
+  stmt_shaped (MkStmt line v) g = verb_shaped v g
+
+  phrase_shaped : (ph : Phrase) (b c : Bool) → b ≡ c → ShapedPhrase ph c → ShapedPhrase (phrase_without ph) b
+  phrase_shaped left_out b c e g = tt
+  phrase_shaped (given ss) b c e g = (stmts_shaped ss g.0, e ∙ g.1)
+
+  tail_shaped : (t : Tail) (end : Cue) → ShapedTail t end → ShapedTail (tail_without t) end
+  tail_shaped (MkTail size not_size ended) end g = (
+    phrase_shaped size false false refl g.0,
+    phrase_shaped not_size (takes_phrase (phrase_without size) false false NotSize) (takes_phrase size false false NotSize) (phrase_take size false false NotSize) g.1,
+    ended_shaped ended (takes_phrase (phrase_without not_size) (takes_phrase (phrase_without size) false false end) false end) (takes_phrase not_size (takes_phrase size false false end) false end) (two_take size not_size false false false end) g.2,
+  )
+
+  whens_shaped : (ws : Whens) → ShapedWhens ws → ShapedWhens (whens_without ws)
+  whens_shaped no_whens g = absurd g
+  whens_shaped (more_whens w no_whens) g = when_shaped w g
+  whens_shaped (more_whens w (more_whens x xs)) g = (when_shaped w g.0, when_take w cue.Whens ∙ g.1, whens_shaped (more_whens x xs) g.2)
+
+  when_shaped : (w : When) → ShapedWhen w → ShapedWhen (when_without w)
+  when_shaped (MkWhen choices body) g = (g.0, g.1, stmts_shaped body g.2)
+
+  verb_shaped : (v : Verb) → ShapedVerb v → ShapedVerb (verb_without v)
+  verb_shaped (add_to os rs t) g = (g.0, g.1, tail_shaped t EndAdd g.2)
+  verb_shaped (add_giving os o rs t) g = (g.0, g.1, tail_shaped t EndAdd g.2)
+  verb_shaped (subtract_from os rs t) g = (g.0, g.1, tail_shaped t EndSubtract g.2)
+  verb_shaped (subtract_giving os o rs t) g = (g.0, g.1, tail_shaped t EndSubtract g.2)
+  verb_shaped (multiply_by o rs t) g = (g.0, tail_shaped t EndMultiply g.1)
+  verb_shaped (multiply_giving o q rs t) g = (g.0, tail_shaped t EndMultiply g.1)
+  verb_shaped (divide_into o rs t) g = (g.0, tail_shaped t EndDivide g.1)
+  verb_shaped (divide_giving o way q rs r t) g = (g.0, tail_shaped t EndDivide g.1)
+  verb_shaped (compute rs e t) g = (g.0, tail_shaped t EndCompute g.1)
+  verb_shaped (if_ test ss other ended) g = (
+    g.0,
+    stmts_shaped ss g.1,
+    phrase_shaped other (takes_stmts (stmts_without ss) Else) (takes_stmts ss Else) (stmts_take ss Else) g.2,
+    ended_shaped ended (takes_phrase (phrase_without other) (takes_stmts (stmts_without ss) EndIf) false EndIf) (takes_phrase other (takes_stmts ss EndIf) false EndIf) (phrase_take other (takes_stmts (stmts_without ss) EndIf) false EndIf ∙ ap (λ (z : Bool). takes_phrase other z false EndIf) (stmts_take ss EndIf)) g.3,
+  )
+  verb_shaped (evaluate subject ws other ended) g = (
+    whens_shaped ws g.0,
+    phrase_shaped other (takes_whens (whens_without ws) cue.Whens) (takes_whens ws cue.Whens) (whens_take ws cue.Whens) g.1,
+    ended_shaped ended (takes_phrase (phrase_without other) (takes_whens (whens_without ws) EndEvaluate) false EndEvaluate) (takes_phrase other (takes_whens ws EndEvaluate) false EndEvaluate) (phrase_take other (takes_whens (whens_without ws) EndEvaluate) false EndEvaluate ∙ ap (λ (z : Bool). takes_phrase other z false EndEvaluate) (whens_take ws EndEvaluate)) g.2,
+  )
+  verb_shaped (perform_inline turns body) g = (g.0, stmts_shaped body g.1)
+  verb_shaped (read file into end not_end ended) g = (
+    phrase_shaped end false false refl g.0,
+    phrase_shaped not_end (takes_phrase (phrase_without end) false false NotAtEnd) (takes_phrase end false false NotAtEnd) (phrase_take end false false NotAtEnd) g.1,
+    ended_shaped ended (takes_phrase (phrase_without not_end) (takes_phrase (phrase_without end) false false EndRead) false EndRead) (takes_phrase not_end (takes_phrase end false false EndRead) false EndRead) (two_take end not_end false false false EndRead) g.2,
+  )
+  verb_shaped (move from to) g = g
+  verb_shaped (set text) g = g
+  verb_shaped (display operands) g = g
+  verb_shaped (perform_range first thru turns) g = g
+  verb_shaped (go text) g = g
+  verb_shaped exit g = g
+  verb_shaped continue g = g
+  verb_shaped stop_run g = g
+  verb_shaped (open_ files) g = g
+  verb_shaped (close names) g = g
+  verb_shaped (write rec from ended) g = g
+
+-- ---- whole programs
+
+each_blank : {A : Type 0} (prints : A → List Item) (without : A → A) → ((a : A) → prints (without a) ≡ map blank (prints a)) → (xs : List A) → each prints (map without xs) ≡ map blank (each prints xs)
+each_blank prints without b [] = refl
+each_blank prints without b (x ∷ xs) = two (prints x) (each prints xs) (prints (without x)) (each prints (map without xs)) (b x) (each_blank prints without b xs)
+
+sentence_blank : (ss : Stmts) → print_sentence (stmts_without ss) ≡ map blank (print_sentence ss)
+sentence_blank ss = two (print_stmts 0 ss) (stop 0 ∷ []) (print_stmts 0 (stmts_without ss)) (stop 0 ∷ []) (stmts_blank 0 ss) refl
+
+paragraph_blank : (p : Paragraph) → print_paragraph (paragraph_without p) ≡ map blank (print_paragraph p)
+paragraph_blank p = ap (λ (z : List Item). item_on 0 0 (Name p.name) ∷ stop 0 ∷ z) (each_blank print_sentence stmts_without sentence_blank p.sentences)
+
+end_blank : (o : Option EndProgram) → print_if print_end (option_map end_without o) ≡ map blank (print_if print_end o)
+end_blank None = refl
+end_blank (Some e) = refl
+
+tree_blank : (t : Tree) → print_tree (tree_without t) ≡ map blank (print_tree t)
+tree_blank t =
+    two (print_front t.front) (print.heading (word.Procedure ∷ word.Division ∷ []) ++ (each print_sentence t.sentences ++ (each print_paragraph t.paragraphs ++ print_if print_end t.end))) (print_front (without_lines t.front)) (print.heading (word.Procedure ∷ word.Division ∷ []) ++ (each print_sentence (map stmts_without t.sentences) ++ (each print_paragraph (map paragraph_without t.paragraphs) ++ print_if print_end (option_map end_without t.end)))) (front_blank t.front)
+    (ap (λ (z : List Item). print.heading (word.Procedure ∷ word.Division ∷ []) ++ z)
+    (two (each print_sentence t.sentences) (each print_paragraph t.paragraphs ++ print_if print_end t.end) (each print_sentence (map stmts_without t.sentences)) (each print_paragraph (map paragraph_without t.paragraphs) ++ print_if print_end (option_map end_without t.end)) (each_blank print_sentence stmts_without sentence_blank t.sentences)
+    (two (each print_paragraph t.paragraphs) (print_if print_end t.end) (each print_paragraph (map paragraph_without t.paragraphs)) (print_if print_end (option_map end_without t.end)) (each_blank print_paragraph paragraph_without paragraph_blank t.paragraphs) (end_blank t.end))))
+
+all_shaped : {A : Type 0} (P : A → Type 0) (without : A → A) → ((a : A) → P a → P (without a)) → (xs : List A) → AllByRecursion P xs → AllByRecursion P (map without xs)
+all_shaped P without f [] g = tt
+all_shaped P without f (x ∷ xs) g = (f x g.0, all_shaped P without f xs g.1)
+
+tree_shaped : (t : Tree) → ShapedTree t → ShapedTree (tree_without t)
+tree_shaped t g = (shaped t.front g.0, all_shaped ShapedStmts stmts_without stmts_shaped t.sentences g.1, all_shaped ShapedParagraph paragraph_without (λ p h. all_shaped ShapedStmts stmts_without stmts_shaped p.sentences h) t.paragraphs g.2)
+
+-- ---- the law
+
+abbrev symbol_of_item : Item → Symbol
+symbol_of_item i = i.symbol
+
+abbrev bare : Symbol → Sign
+bare y = record { symbol = y; line = 0 }
+
+on_line_zero : (i : Item) (o : Option ℕ) → i.line ≡ o → IsLine (blank i).line 0
+on_line_zero i None e = subst (λ (l : Option ℕ). IsLine (blank (record { symbol = i.symbol; line = l; depth = i.depth })).line 0) (sym e) tt
+on_line_zero i (Some l) e = subst (λ (l : Option ℕ). IsLine (blank (record { symbol = i.symbol; line = l; depth = i.depth })).line 0) (sym e) refl
+
+fits_bare : (is : List Item) → Matches divisions (map blank is) (map bare (map symbol_of_item is))
+fits_bare [] = tt
+fits_bare (i ∷ is) = (record { symbol = refl; line = on_line_zero i i.line refl }, fits_bare is)
+
+pub same_but_for_lines : (a b : Tree) → ShapedTree a → ShapedTree b → map (λ i. i.symbol) (print_tree a) ≡ map (λ i. i.symbol) (print_tree b) → tree_without a ≡ tree_without b
+same_but_for_lines a b good good' e =
+    one_text (map bare (map symbol_of_item (print_tree a))) (tree_without a) (tree_without b)
+    (subst (λ (is : List Item). Matches divisions is (map bare (map symbol_of_item (print_tree a)))) (sym (tree_blank a)) (fits_bare (print_tree a))) (tree_shaped a good)
+    (subst (λ (is : List Item). Matches divisions is (map bare (map symbol_of_item (print_tree a)))) (sym (tree_blank b)) (subst (λ (ys : List Symbol). Matches divisions (map blank (print_tree b)) (map bare ys)) (sym e) (fits_bare (print_tree b)))) (tree_shaped b good')

@@ -4,4 +4,4 @@
 
 mod laws;
 
-pub use laws::{one_answer, one_tree};
+pub use laws::{one_answer, one_tree, same_but_for_lines};
