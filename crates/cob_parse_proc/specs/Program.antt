@@ -1,17 +1,12 @@
 -- How sentences, paragraphs and whole programs are read. Outside of sentences each token is its own mark.
 use Rattle.std.specs.Prelude.{ℕ, Bool, false, List, [], ◌∷◌, Option, is_some}
-use Rattle.std.specs.List.{AllByRecursion}
 use Rattle.cob_tree.specs.declared.keyword.Keyword.TheVariants as word
 use Rattle.cob_tree.specs.declared.front.Front.{Front}
 use Rattle.cob_tree.specs.declared.tree.EndProgram.{EndProgram}
 use Rattle.cob_tree.specs.Symbols.{Symbol, Key, Sign}
-use Rattle.cob_tree.specs.Items.{Item}
 use Rattle.cob_tree.specs.Stmt.{Stmts, Paragraph, Tree}
-use Rattle.cob_tree.specs.PrintStmt.{print_tree}
-use Rattle.cob_tree.specs.Shaped.{ShapedFront, ShapedStmts, ShapedParagraph}
 use Rattle.reading.specs.Readers.{Reader, branch, seen, seq, many, optional, here_if, closed}
 use Rattle.reading.specs.Printing.{begins}
-use Rattle.reading.specs.Law.{Syntax}
 use Rattle.cob_parse_expr.specs.Classes.{name_symbol}
 use Rattle.cob_parse_data.specs.Tokens.{divisions, of, the, on_its_line, stop_symbol}
 use Rattle.cob_parse_data.specs.Tokens as tokens
