@@ -1,23 +1,25 @@
 -- The divisions with the word behind them, for a reader of whole programs: what is read so takes nothing more, so that
 -- its law holds with the marks of the whole grammar too.
-use Rattle.std.proofs.Common.{◌≡◌, ℕ, suc, ◌<◌, false, List, [], ◌∷◌, ◌++◌, length, None, Ok, Err, refl, sym}
+use Rattle.std.proofs.Common.{◌≡◌, ℕ, suc, ◌<◌, ⊎_elim, false, List, [], ◌∷◌, ◌++◌, length, Option, None, Some, Result, Ok, Err, refl, sym}
 use Rattle.cob_tree.specs.declared.keyword.Keyword.TheVariants as key
 use Rattle.cob_tree.specs.declared.front.Front.{Front}
 use Rattle.cob_tree.specs.Symbols.{Symbol, Key, Sign}
 use Rattle.cob_tree.specs.Items.{Item}
 use Rattle.cob_tree.specs.Cues.{Cue}
-use Rattle.reading.specs.Readers.{Fault, Stop, Deep, Reader, seq}
+use Rattle.reading.specs.Readers.{Fault, Stop, Deep, Reader, ◌>>=◌, lead_as}
 use Rattle.reading.specs.Printing.{Matches, Below, Opens, Next}
-use Rattle.reading.specs.Law.{Syntax, Law, Read, Fails, At}
+use Rattle.reading.specs.Law.{Syntax, Law, Read, Fails, At, Deepens}
+use Rattle.reading.proofs.Results.{bind_err}
 use Rattle.reading.proofs.Texts.{takes_nothing, next_none, next_same}
 use Rattle.reading.proofs.Dependent.{seq_syntax}
+use Rattle.reading.proofs.Deeper.{deepens_never}
 use Rattle.cob_parse_expr.specs.Alphabet.{grammar}
-use Rattle.cob_parse_data.specs.Tokens.{divisions, is, the}
-use Rattle.cob_parse_data.specs.Reading.{word, front_at}
+use Rattle.cob_parse_data.specs.Tokens.{divisions, of, is, the}
+use Rattle.cob_parse_data.specs.Reading.{word, front_at, before_procedure_at}
 use Rattle.cob_parse_data.proofs.Parts.{then_law}
 use Rattle.cob_parse_data.proofs.ClassLaws.{one_token, begins_with, one_syntax, one_law, one_word, free_of}
 use Rattle.cob_parse_data.proofs.FrontLaw.{front_syntax, front_law, front_free}
-use Rattle.cob_parse_data.proofs.Outcomes.{to_grammar, from_grammar}
+use Rattle.cob_parse_data.proofs.Outcomes.{to_grammar, from_grammar, never_deep}
 
 low_to : (top : ℕ) (is : List Item) → Below divisions top is → Below grammar top is
 low_to top [] b = tt
@@ -63,9 +65,33 @@ abbrev pub before_procedure : Syntax Item Symbol (Front × Unit {0})
 before_procedure = seq_syntax front_syntax (one_syntax (λ (x : Unit {0}). Key key.Procedure))
 
 module _ (top : ℕ) (low : 0 < top) where
-  front_and_word : Law divisions (seq front_at (word key.Procedure)) before_procedure top
+  front_and_word : Law divisions before_procedure_at before_procedure top
   front_and_word = then_law (front_law top low) (one_law (one_word key.Procedure) top low tt) (λ f. one_token (front_syntax.takes f)) (is (the key.Procedure)) (begins_with (one_word key.Procedure) (one_syntax (λ x. Key key.Procedure)) (λ x good. (tt, None, [], refl)))
       (λ f y good e. free_of key.Procedure (front_syntax.takes f) (front_free (Key key.Procedure) refl refl refl refl refl refl refl refl refl refl refl f good) y e)
 
-  pub before_procedure_law : Law grammar (seq front_at (word key.Procedure)) (ended_syntax before_procedure) top
+  pub before_procedure_law : Law grammar before_procedure_at (ended_syntax before_procedure) top
   before_procedure_law = law_across before_procedure top front_and_word (λ x p. refl)
+
+word_never_deep : (ts : List Sign) (n : ℕ) → word key.Procedure ts ≡ Err (Deep n) → ⊥
+word_never_deep [] n e = cc
+word_never_deep (t ∷ ts) n e = go (of (the key.Procedure) t) e
+  where
+    go : (o : Option (Unit {0})) → lead_as o t ts ≡ Err (Deep n) → ⊥
+    go None e0 = cc
+    go (Some x) e0 = cc
+
+abbrev with_front : Front → Unit {0} × List Sign → Result ((Front × Unit {0}) × List Sign) Fault
+with_front front x = Ok ((front, x.0), x.1)
+
+abbrev behind : Front × List Sign → Result ((Front × Unit {0}) × List Sign) Fault
+behind x = word key.Procedure x.1 >>= with_front x.0
+
+behind_never_deep : (x : Front × List Sign) (n : ℕ) → behind x ≡ Err (Deep n) → ⊥
+behind_never_deep x n e = ⊎_elim (word_never_deep x.1 n) (λ w. let never = w.2 in cc) (bind_err (word key.Procedure x.1) (with_front x.0) (Deep n) e)
+
+-- nothing is open there
+pub before_procedure_never_deep : (ts : List Sign) (n : ℕ) → before_procedure_at ts ≡ Err (Deep n) → ⊥
+before_procedure_never_deep ts n e = ⊎_elim (never_deep ts n) (λ w. behind_never_deep w.0 n w.2) (bind_err (front_at ts) behind (Deep n) e)
+
+pub before_procedure_deepens : (top wide : ℕ) → Deepens grammar before_procedure_at (ended_syntax before_procedure) top wide
+before_procedure_deepens top wide = deepens_never before_procedure_never_deep

@@ -13,7 +13,8 @@ use Rattle.cob_parse_expr.specs.Steps.{signs, Fails}
 use Rattle.reading.specs.Readers.{Stop}
 use Rattle.reading.proofs.Consequences.{within}
 use Rattle.cob_parse_data.specs.Reading.{front_at}
-use Rattle.cob_parse_data.specs.Outcome.{IsRead, IsWrong, from, line_at}
+use Rattle.cob_parse_expr.specs.Parsing.{from, line_at}
+use Rattle.cob_parse_data.specs.Outcome.{IsRead, IsWrong}
 use Rattle.cob_parse_data.proofs.Outcomes.{law, is_read, stops, never_deep}
 
 drop_to : (u v : List Sign) → drop (length (u ++ v) - length v) (u ++ v) ≡ v

@@ -1,13 +1,13 @@
 -- What reading the divisions before PROCEDURE promises, in the terms of trees and their texts.
-use Rattle.std.specs.Prelude.{◌≡◌, ℕ, ◌-◌, ◌≤◌, List, [], ◌∷◌, ◌++◌, length, drop, map, max, slice_get, unwrap_or}
-use Rattle.std.specs.Option.{option_map}
+use Rattle.std.specs.Prelude.{◌≡◌, ℕ, ◌≤◌, List, [], ◌∷◌, ◌++◌, length}
 use Rattle.cob_tree.specs.declared.token.Token.{Token}
 use Rattle.cob_tree.specs.declared.front.Front.{Front}
-use Rattle.cob_tree.specs.Symbols.{Sign, seen}
+use Rattle.cob_tree.specs.Symbols.{Sign}
 use Rattle.cob_tree.specs.PrintFront.{print_front}
 use Rattle.cob_tree.specs.Shaped.{ShapedFront}
 use Rattle.reading.specs.Printing.{Matches, Next}
 use Rattle.cob_parse_expr.specs.Alphabet.{grammar}
+use Rattle.cob_parse_expr.specs.Parsing.{from, line_at}
 use Rattle.cob_parse_data.specs.Tokens.{divisions}
 use Rattle.cob_parse_data.specs.Takes.{takes_front}
 
@@ -43,14 +43,6 @@ pub record Stops (ts left : List Sign) : Type 0 where
   pub parts : ts ≡ read ++ left
   pub begins : Begins read
   pub no_further : (u : Sign) (rest : List Sign) → left ≡ u ∷ rest → Begins (read ++ u ∷ []) → ⊥
-
--- what the grammar sees of the tokens from a place on
-abbrev pub from : List Token → ℕ → List Sign
-from tokens place = map seen (drop place tokens)
-
--- the line of the first of so many tokens at the end, or of the last token, or 1
-abbrev pub line_at : List Token → ℕ → ℕ
-line_at tokens left = unwrap_or (option_map (λ t. t.line) (slice_get tokens (length tokens - max left 1))) 1
 
 -- Nothing is read from a place on, and the line is that of the first token at which nothing goes on.
 pub record IsWrong (tokens : List Token) (place line : ℕ) : Type 0 where

@@ -1,8 +1,9 @@
 ghost use Rattle.std.specs.Prelude.{◌≡◌, ◌≤◌, ℕ, length, IfOk, OnErr, Err};
 ghost use Rattle.cob_parse_expr.specs.declared.end.ParseEnd.TheVariants as end;
-ghost use Rattle.cob_parse_data.specs.Outcome.{from, line_at, IsRead, IsWrong};
+ghost use Rattle.cob_parse_expr.specs.Parsing.{from, line_at};
+ghost use Rattle.cob_parse_data.specs.Outcome.{IsRead, IsWrong};
 
-use crate::front::front_at;
+use crate::front::front_in;
 use cob_parse_expr::{Halt, ParseEnd, lexemes};
 use cob_tree::{Front, Token};
 use std::alloc::Global;
@@ -31,7 +32,7 @@ pub fn front_of(alloc: Global, tokens: &[Token], at: &mut usize) -> Result<Front
 {
     let (_, left) = tokens.split_at(*at);
     let lexemes = lexemes(alloc, left)?;
-    match front_at(alloc, lexemes.as_slice()) {
+    match front_in(alloc, lexemes.as_slice()) {
         Ok((front, rest)) => {
             *at = tokens.len() - rest.len();
             Ok(front)

@@ -23,9 +23,9 @@ fn tok(alloc: Global, word: &[u8], behind_pic: bool) -> Result<Tok, AllocError> 
 
 fn tokens(alloc: Global, text: &str) -> Result<Vec<Token>, AllocError> {
     let mut tokens = Vec::new(alloc);
-    let mut line = 0;
+    let mut line: u32 = 0;
     for written in text.lines() {
-        line = (line + 1).min(1_000_000);
+        line = line.saturating_add(1);
         let mut behind_pic = false;
         for word in written.split(' ') {
             let tok = tok(alloc, word.as_bytes(), behind_pic)?;
@@ -317,7 +317,8 @@ FD F RECORDING V DATA R S BLOCK 1 LABEL OMITTED RECORD-SIZE 80 .",
 ];
 
 // refused at a line
-const REFUSED: [(&str, u32); 9] = [
+const REFUSED: [(&str, u32); 14] = [
+    ("", 1),
     ("IDENTIFICATION DIVISION .\nPROGRAM-ID . MOVE .", 2),
     ("IDENTIFICATION DIVISION .\nPROGRAM-ID . A", 2),
     (
@@ -344,20 +345,60 @@ const REFUSED: [(&str, u32); 9] = [
         "IDENTIFICATION DIVISION . PROGRAM-ID . A .\nDATA DIVISION . FILE SECTION .\nFD A DATA\n.",
         4,
     ),
+    (
+        "IDENTIFICATION DIVISION . PROGRAM-ID . A .\nDATA DIVISION . WORKING-STORAGE SECTION .\n88 A VALUE 1 THRU\n.",
+        4,
+    ),
+    (
+        "IDENTIFICATION DIVISION . PROGRAM-ID . A .\nDATA DIVISION . WORKING-STORAGE SECTION .\n01 A REDEFINES\nFILLER .",
+        4,
+    ),
+    (
+        "IDENTIFICATION DIVISION . PROGRAM-ID . A .\nDATA DIVISION . FILE SECTION .\nFD\nFILLER .",
+        4,
+    ),
+    (
+        "IDENTIFICATION DIVISION . PROGRAM-ID . A .\nENVIRONMENT DIVISION . INPUT-OUTPUT SECTION . FILE-CONTROL .\nSELECT F ASSIGN F STATUS S\nSTATUS T .",
+        4,
+    ),
     ("PROCEDURE DIVISION .", 1),
 ];
 
-// all orders of three clauses
 const BEFORE_ENTRIES: &str =
     "IDENTIFICATION DIVISION . PROGRAM-ID . A . DATA DIVISION . WORKING-STORAGE SECTION .";
 
+// all orders of three clauses
 const ORDERS: [&str; 6] = [
-    "01 A PIC X REDEFINES B VALUE 'A' .",
-    "01 A PIC X VALUE 'A' REDEFINES B .",
-    "01 A REDEFINES B PIC X VALUE 'A' .",
-    "01 A REDEFINES B VALUE 'A' PIC X .",
-    "01 A VALUE 'A' PIC X REDEFINES B .",
-    "01 A VALUE 'A' REDEFINES B PIC X .",
+    "01 A PIC 9 BINARY VALUE 1 .",
+    "01 A PIC 9 VALUE 1 BINARY .",
+    "01 A BINARY PIC 9 VALUE 1 .",
+    "01 A BINARY VALUE 1 PIC 9 .",
+    "01 A VALUE 1 PIC 9 BINARY .",
+    "01 A VALUE 1 BINARY PIC 9 .",
+];
+
+// what is read, and how many tokens stand behind it
+const LEFT: [(&str, usize); 5] = [
+    (
+        "IDENTIFICATION DIVISION . PROGRAM-ID . A . PROCEDURE DIVISION .",
+        3,
+    ),
+    (
+        "IDENTIFICATION DIVISION . PROGRAM-ID . A . ENVIRONMENT DIVISION . INPUT-OUTPUT SECTION . FILE-CONTROL . CONFIGURATION SECTION .",
+        3,
+    ),
+    (
+        "IDENTIFICATION DIVISION . PROGRAM-ID . A . ENVIRONMENT DIVISION . CONFIGURATION SECTION . OBJECT-COMPUTER . X . SOURCE-COMPUTER . Y .",
+        4,
+    ),
+    (
+        "IDENTIFICATION DIVISION . PROGRAM-ID . A . DATA DIVISION . WORKING-STORAGE SECTION . FILE SECTION .",
+        3,
+    ),
+    (
+        "IDENTIFICATION DIVISION . PROGRAM-ID . A . DATA DIVISION . FILE SECTION . 01 A .",
+        3,
+    ),
 ];
 
 // What is read, printed back, or the line where nothing goes on.
@@ -393,6 +434,56 @@ fn clauses_stand_in_any_order(rt: HostRuntime) -> Result<(), Fail> {
             joined(rt.alloc(), text.as_str())?.as_slice(),
             "{entry}"
         );
+    }
+    Ok(())
+}
+
+// How many tokens stand behind what is read.
+fn left(alloc: Global, text: &str) -> Result<usize, AllocError> {
+    let tokens = tokens(alloc, text)?;
+    let mut at = 0;
+    match front_of(alloc, tokens.as_slice(), &mut at) {
+        Ok(_) => Ok(tokens.len().saturating_sub(at)),
+        Err(_) => Ok(tokens.len()),
+    }
+}
+
+#[test]
+fn what_nothing_goes_on_with_is_left(rt: HostRuntime) -> Result<(), Fail> {
+    for (text, count) in LEFT {
+        assert_eq!(rt; left(rt.alloc(), text)?, count, "{text}");
+    }
+    for text in READ {
+        assert_eq!(rt; left(rt.alloc(), text)?, 0, "{text}");
+    }
+    Ok(())
+}
+
+// The lines of the entries in WORKING-STORAGE.
+fn storage_lines(alloc: Global, front: &Front) -> Result<Vec<u32>, AllocError> {
+    let mut lines = Vec::new(alloc);
+    if let Some(data) = &front.data {
+        if let Some(entries) = &data.storage {
+            for entry in entries.get() {
+                lines.push(entry.line)?;
+            }
+        }
+    }
+    Ok(lines)
+}
+
+#[test]
+fn entries_have_their_lines(rt: HostRuntime) -> Result<(), Fail> {
+    let alloc = rt.alloc();
+    let text = format!(in alloc; "{BEFORE_ENTRIES}\n01 A .\n05\nB PIC X\n.\n77\nC .")?;
+    let tokens = tokens(alloc, text.as_str())?;
+    let mut at = 0;
+    match front_of(alloc, tokens.as_slice(), &mut at) {
+        Ok(front) => {
+            let lines = storage_lines(alloc, &front)?;
+            assert_eq!(rt; lines.as_slice(), [2, 3, 6].as_slice());
+        }
+        Err(_) => assert!(rt; false),
     }
     Ok(())
 }

@@ -3,5 +3,9 @@
 #![tactic(auto)]
 
 mod laws;
+mod statement;
+mod token;
+mod verb;
 
 pub use laws::{one_answer, one_tree, same_but_for_lines};
+pub use statement::stmts_in;

@@ -180,35 +180,48 @@ module _ {A : Type 0} {r : Reader Sign A} {s : Syntax Item Cue A} (d top : ℕ) 
     opens = w.fits.symbol ∙ is_open (level d q) top w.item.symbol (level_low d d top w.before (w.item ∷ w.after) q low its w.spells w.below) (sym its_depth ∙ w.depth)
 
     -- the tree's text goes on with the token
+    from_cut : (c : Cut (s.print a) q t) → Leveled d (c.first ++ c.item ∷ c.behind) d → OpensAt procedure top (s.print a) (length q)
+    from_cut c own = record {
+      before = c.first;
+      item = c.item;
+      after = c.behind;
+      parts = c.parts;
+      count = matches_length procedure c.first q c.spells;
+      below = below_same d d d top w.before c.first (w.item ∷ w.after) (c.item ∷ c.behind) q its own w.spells c.spells w.below;
+      depth = item_there d d c.first c.item c.behind q own c.spells ∙ ap (depth_at (level d q)) (sym c.symbol ∙ w.fits.symbol) ∙ sym its_depth ∙ w.depth;
+    }
+
+    at_token : (m : List Sign) → text ≡ q ++ t ∷ m → OpensAt procedure top (s.print a) (length q)
+    at_token m e' = let c = cut_items (s.print a) q t m (subst (Matches procedure (s.print a)) e' spells) in from_cut c (subst (λ (is : List Item). Leveled d is d) c.parts (leveled a good))
+
     long : length q < length text → OpensAt procedure top (s.print a) (length q)
     long lt =
         let cut = cut_at text rest (q ++ t ∷ []) z (same ∙ sym (append_assoc q (t ∷ []) z)) (omega (arith, lt, ap length same, length-append text rest, length-append q (t ∷ z))) in
-        let c = cut_items (s.print a) q t cut.0 (subst (Matches procedure (s.print a)) (cut.2 ∙ append_assoc q (t ∷ []) cut.0) spells) in
-        let own : Leveled d (c.first ++ c.item ∷ c.behind) d = subst (λ (is : List Item). Leveled d is d) c.parts (leveled a good) in
-        record {
-          before = c.first;
-          item = c.item;
-          after = c.behind;
-          parts = c.parts;
-          count = matches_length procedure c.first q c.spells;
-          below = below_same d d d top w.before c.first (w.item ∷ w.after) (c.item ∷ c.behind) q its own w.spells c.spells w.below;
-          depth = item_there d d c.first c.item c.behind q own c.spells ∙ ap (depth_at (level d q)) (sym c.symbol ∙ w.fits.symbol) ∙ sym its_depth ∙ w.depth;
-        }
+        at_token cut.0 (cut.2 ∙ append_assoc q (t ∷ []) cut.0)
 
     -- it can't end before, since with more room the other tree would be read
+    both_read : (more : ℕ) (c m : List Sign) → rest ≡ c ++ t ∷ z → q ≡ text ++ c → Matches procedure (s.print w.tree) (q ++ t ∷ m) → Below procedure (top + more) (s.print w.tree) → Below procedure (top + more) (s.print a) → ⊥
+    both_read more c m parts front whole below below' =
+        let one = (laws more).complete w.tree (q ++ t ∷ m) [] whole w.good below refl in
+        let other = (laws more).complete a text (c ++ t ∷ m) spells good below' (next_moves (s.takes a) c z m t opens (subst (Next procedure (s.takes a)) parts next)) in
+        let tokens : (q ++ t ∷ m) ++ [] ≡ text ++ (c ++ t ∷ m) = append-nil (q ++ t ∷ m) ∙ ap (λ (y : List Sign). y ++ t ∷ m) front ∙ append_assoc text c (t ∷ m) in
+        let both : (w.tree, []) ≡ (a, c ++ t ∷ m) = ok_is (w.tree, []) (a, c ++ t ∷ m) (sym one ∙ ap (wides more) tokens ∙ other) in
+        omega (arith, ap (λ (x : A × List Sign). length x.1) both, length-append c (t ∷ m))
+
+    whole_text : (m : List Sign) → Matches procedure w.after m → Matches procedure (s.print w.tree) (q ++ t ∷ m)
+    whole_text m fits = subst (λ (is : List Item). Matches procedure is (q ++ t ∷ m)) (sym w.text) (matches_join procedure w.before (w.item ∷ w.after) q (t ∷ m) w.spells (w.fits, fits))
+
+    in_room : (k k' : ℕ) → Below procedure k (s.print w.tree) → Below procedure k' (s.print a) → Below procedure (top + (k + k')) (s.print w.tree) × Below procedure (top + (k + k')) (s.print a)
+    in_room k k' b b' = (below_wider procedure k (top + (k + k')) (s.print w.tree) (omega arith) b, below_wider procedure k' (top + (k + k')) (s.print a) (omega arith) b')
+
     short : length text ≤ length q → ⊥
     short le =
         let cut = cut_at q (t ∷ z) text rest (sym same) (omega (arith, le, ap length same, length-append text rest, length-append q (t ∷ z))) in
         let m = tokens_of w.after in
         let k = enough procedure (s.print w.tree) in
         let k' = enough procedure (s.print a) in
-        let whole : Matches procedure (s.print w.tree) (q ++ t ∷ m.0) = subst (λ (is : List Item). Matches procedure is (q ++ t ∷ m.0)) (sym w.text) (matches_join procedure w.before (w.item ∷ w.after) q (t ∷ m.0) w.spells (w.fits, m.1)) in
-        let one = (laws (k.0 + k'.0)).complete w.tree (q ++ t ∷ m.0) [] whole w.good (below_wider procedure k.0 (top + (k.0 + k'.0)) (s.print w.tree) (omega arith) k.1) refl in
-        let moved = next_moves (s.takes a) cut.0 z m.0 t opens (subst (Next procedure (s.takes a)) cut.1 next) in
-        let other = (laws (k.0 + k'.0)).complete a text (cut.0 ++ t ∷ m.0) spells good (below_wider procedure k'.0 (top + (k.0 + k'.0)) (s.print a) (omega arith) k'.1) moved in
-        let tokens : (q ++ t ∷ m.0) ++ [] ≡ text ++ (cut.0 ++ t ∷ m.0) = append-nil (q ++ t ∷ m.0) ∙ ap (λ (y : List Sign). y ++ t ∷ m.0) cut.2 ∙ append_assoc text cut.0 (t ∷ m.0) in
-        let both : (w.tree, []) ≡ (a, cut.0 ++ t ∷ m.0) = ok_is (w.tree, []) (a, cut.0 ++ t ∷ m.0) (sym one ∙ ap (wides (k.0 + k'.0)) tokens ∙ other) in
-        omega (arith, ap (λ (x : A × List Sign). length x.1) both, length-append cut.0 (t ∷ m.0))
+        let b = in_room k.0 k'.0 k.1 k'.1 in
+        both_read (k.0 + k'.0) cut.0 m.0 cut.1 cut.2 (whole_text m.0 m.1) b.0 b.1
 
     opens_there : OpensAt procedure top (s.print a) (length q)
     opens_there = ⊎_elim long (λ le. absurd (short le)) (cases_lt (length q) (length text))

@@ -12,3 +12,6 @@ pub mod Agreeing
 pub mod Deepening
 pub mod HeadLevels
 pub mod Growing
+pub mod AheadLemmas
+pub mod ListSteps
+pub mod VerbLemmas

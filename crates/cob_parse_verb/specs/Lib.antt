@@ -8,3 +8,4 @@ pub mod Sums
 pub mod Turning
 pub mod Reading
 pub mod Syntaxes
+pub mod VerbSteps

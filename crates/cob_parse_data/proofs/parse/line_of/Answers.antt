@@ -2,7 +2,7 @@ use Rattle.std.proofs.Common.{◌≡◌, ◌-◌, ℕ, Some, List, length, max, 
 use Rattle.std.specs.Prelude.{slice_get}
 use Rattle.std.proofs.lemmas.Option.{slice_get_read}
 use Rattle.cob_tree.specs.declared.token.Token.{Token}
-use Rattle.cob_parse_data.specs.Outcome.{line_at}
+use Rattle.cob_parse_expr.specs.Parsing.{line_at}
 use Rattle.cob_parse_data.proofs.parse.line_of.Goals as goal
 
 found_there : (ts : List Token) (left m i : ℕ) (t : Token) → m ≡ max left 1 → i ≡ length ts - m → i < length ts → t ≡ get_or ts i t → t.line ≡ line_at ts left

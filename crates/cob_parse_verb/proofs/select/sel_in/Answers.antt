@@ -1,0 +1,10 @@
+use Rattle.std.proofs.Common.{◌≡◌}
+use Rattle.cob_tree.specs.CondView.{plain_cond}
+use Rattle.cob_parse_expr.specs.Steps.{signs}
+use Rattle.cob_parse_expr.proofs.StepLemmas.{gives_as}
+use Rattle.cob_parse_verb.proofs.VerbLemmas.{sel_on_cond}
+use Rattle.cob_parse_verb.proofs.select.sel_in.Goals as goal
+
+pub returns-clause-gives : goal.returns-clause-gives
+returns-clause-gives c = gives_as _ c.sel_behind.result _ _
+    (sel_on_cond c.args.room (signs c.args.lexemes.now) (signs c.in_ok-cond.rest.now) (plain_cond c.in_ok-cond.cond) c.in_default.ensures.none c.in_ok-cond.ensures.gives) c.sel_behind.ensures.gives

@@ -1,0 +1,13 @@
+use Rattle.std.proofs.Common.{◌≡◌, Ok, ap, ◌∙◌}
+use Rattle.cob_parse_expr.specs.Steps.{signs}
+use Rattle.cob_parse_expr.proofs.StepLemmas.{gives_wrong}
+use Rattle.cob_parse_verb.specs.declared.target.Aim.{Aim}
+use Rattle.cob_parse_verb.specs.Lists.{recvs_at}
+use Rattle.cob_parse_verb.specs.VerbSteps.{plain_aim}
+use Rattle.cob_parse_verb.proofs.VerbLemmas.{target_one_fails}
+use Rattle.cob_parse_verb.proofs.target.target_in.Goals as goal
+
+pub returns-in_err-giving-in-Operand-clause-gives : goal.returns-in_err-giving-in-Operand-clause-gives
+returns-in_err-giving-in-Operand-clause-gives c = gives_wrong _ c.from_residual-in_err-giving-in-Operand.result _ c.in_err-giving-in-Operand.field-0.0 c.from_residual-in_err-giving-in-Operand.ensures.1
+    (target_one_fails recvs_at c.in_err-giving-in-Operand.field-0.0 (signs c.args.lexemes.now) (signs c.in_ok-aim.rest.now) c.in-Operand.opnd
+    (c.in_ok-aim.ensures.gives ∙ ap (λ (a : Aim). Ok (plain_aim a, signs c.in_ok-aim.rest.now)) c.in-Operand.is) c.in_err-giving-in-Operand.ensures.gives)

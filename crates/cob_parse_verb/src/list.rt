@@ -1,0 +1,122 @@
+ghost use Rattle.std.specs.Prelude.{◌≡◌, ◌≤◌, ◌<◌, length, IfOk};
+ghost use Rattle.cob_parse_expr.specs.Steps.{signs, Gives};
+ghost use Rattle.cob_parse_verb.specs.Lists.{names_at, refs_at, opnds_at, recv_at, recvs_at, opens_at, files_at};
+
+use crate::ahead::{mode_begins, name_begins, operand_begins};
+use crate::token::{behind, mode_in};
+use crate::word::Word;
+use cob_parse_expr::{Halt, Lexeme, name_at, opnd_in, ref_in};
+use cob_tree::{Many, Name, Opens, Opnd, Recv, Ref};
+use std::alloc::Global;
+
+// Each list is the longest one of one or more in front.
+
+pub fn names_in(alloc: Global, lexemes: &[Lexeme]) -> Result<(Vec<Name>, &[Lexeme]), Halt>
+    ensures gives { Gives (λ x. (x.0.items, signs x.1.now)) result (names_at (signs lexemes.now)) }
+    ensures rest { IfOk result (λ x. length x.1.now ≤ length lexemes.now) }
+{
+    let (first, mut left) = name_at(alloc, lexemes)?;
+    let mut names = Vec::new(alloc);
+    names.push(first)?;
+    'names: while name_begins(left) {
+        let (name, after) = name_at(alloc, left)?;
+        names.push(name)?;
+        left = after;
+    }
+    Ok((names, left))
+}
+
+pub fn refs_in(alloc: Global, lexemes: &[Lexeme]) -> Result<(Vec<Ref>, &[Lexeme]), Halt>
+    ensures gives { Gives (λ x. (x.0.items, signs x.1.now)) result (refs_at (signs lexemes.now)) }
+    ensures rest { IfOk result (λ x. length x.1.now ≤ length lexemes.now) }
+{
+    let (first, mut left) = ref_in(alloc, lexemes)?;
+    let mut items = Vec::new(alloc);
+    items.push(first)?;
+    'items: while name_begins(left) {
+        let (item, after) = ref_in(alloc, left)?;
+        items.push(item)?;
+        left = after;
+    }
+    Ok((items, left))
+}
+
+pub fn opnds_in(alloc: Global, lexemes: &[Lexeme]) -> Result<(Vec<Opnd>, &[Lexeme]), Halt>
+    ensures gives { Gives (λ x. (x.0.items, signs x.1.now)) result (opnds_at (signs lexemes.now)) }
+    ensures rest { IfOk result (λ x. length x.1.now ≤ length lexemes.now) }
+{
+    let (first, mut left) = opnd_in(alloc, lexemes)?;
+    let mut opnds = Vec::new(alloc);
+    opnds.push(first)?;
+    'opnds: while operand_begins(left) {
+        let (opnd, after) = opnd_in(alloc, left)?;
+        opnds.push(opnd)?;
+        left = after;
+    }
+    Ok((opnds, left))
+}
+
+// A receiver, with ROUNDED behind it or without.
+fn recv_in(alloc: Global, lexemes: &[Lexeme]) -> Result<(Recv, &[Lexeme]), Halt>
+    ensures gives { Gives (λ x. (x.0, signs x.1.now)) result (recv_at (signs lexemes.now)) }
+    ensures rest { IfOk result (λ x. length x.1.now < length lexemes.now) }
+{
+    let (item, rest) = ref_in(alloc, lexemes)?;
+    match behind(Word::Rounded, rest) {
+        Some(rest) => Ok((
+            Recv {
+                item,
+                rounded: true,
+            },
+            rest,
+        )),
+        None => Ok((
+            Recv {
+                item,
+                rounded: false,
+            },
+            rest,
+        )),
+    }
+}
+
+pub fn recvs_in(alloc: Global, lexemes: &[Lexeme]) -> Result<(Vec<Recv>, &[Lexeme]), Halt>
+    ensures gives { Gives (λ x. (x.0.items, signs x.1.now)) result (recvs_at (signs lexemes.now)) }
+    ensures rest { IfOk result (λ x. length x.1.now ≤ length lexemes.now) }
+{
+    let (first, mut left) = recv_in(alloc, lexemes)?;
+    let mut recvs = Vec::new(alloc);
+    recvs.push(first)?;
+    'recvs: while name_begins(left) {
+        let (recv, after) = recv_in(alloc, left)?;
+        recvs.push(recv)?;
+        left = after;
+    }
+    Ok((recvs, left))
+}
+
+// INPUT or OUTPUT, and files.
+fn opens_in(alloc: Global, lexemes: &[Lexeme]) -> Result<(Opens, &[Lexeme]), Halt>
+    ensures gives { Gives (λ x. (x.0, signs x.1.now)) result (opens_at (signs lexemes.now)) }
+    ensures rest { IfOk result (λ x. length x.1.now < length lexemes.now) }
+{
+    let (mode, rest) = mode_in(lexemes)?;
+    let (files, rest) = names_in(alloc, rest)?;
+    let files = Many::of(files);
+    Ok((Opens { mode, files }, rest))
+}
+
+pub fn files_in(alloc: Global, lexemes: &[Lexeme]) -> Result<(Vec<Opens>, &[Lexeme]), Halt>
+    ensures gives { Gives (λ x. (x.0.items, signs x.1.now)) result (files_at (signs lexemes.now)) }
+    ensures rest { IfOk result (λ x. length x.1.now ≤ length lexemes.now) }
+{
+    let (first, mut left) = opens_in(alloc, lexemes)?;
+    let mut files = Vec::new(alloc);
+    files.push(first)?;
+    'files: while mode_begins(left) {
+        let (opens, after) = opens_in(alloc, left)?;
+        files.push(opens)?;
+        left = after;
+    }
+    Ok((files, left))
+}

@@ -1,0 +1,194 @@
+ghost use Rattle.std.specs.Prelude.{◌≡◌, ◌≤◌, length, IfOk};
+ghost use Rattle.cob_tree.specs.Cues.{NotRelates};
+ghost use Rattle.cob_tree.specs.Stmt.{move, set, display, go, exit, continue, stop_run, open_, close, write};
+ghost use Rattle.cob_parse_expr.specs.Steps.{signs, Gives};
+ghost use Rattle.cob_parse_verb.specs.Heads.{done, takes_behind};
+ghost use Rattle.cob_parse_verb.specs.Reading.{move_at, set_at, display_at, go_at, stop_at, open_at, close_at, written_at, write_at, read_at};
+ghost use Rattle.cob_parse_verb.specs.VerbSteps.{plain_head};
+
+use crate::head::Head;
+use crate::list::{files_in, names_in, opnds_in, refs_in};
+use crate::token::{behind, expect};
+use crate::word::Word;
+use cob_parse_expr::{Halt, Lexeme, name_at, opnd_in, ref_in};
+use cob_tree::{Many, Name, Opens, Opnd, Ref, Verb};
+use std::alloc::Global;
+
+// Each statement is made in a function of its own, which says what it is seen as.
+
+fn moved(from: Opnd, to: Many<Ref>) -> Head
+    ensures head { plain_head result ≡ done (move from to) }
+{
+    Head::Done(Verb::Move { from, to })
+}
+
+fn set(name: Name) -> Head
+    ensures head { plain_head result ≡ done (set name) }
+{
+    Head::Done(Verb::Set(name))
+}
+
+fn display(operands: Many<Opnd>) -> Head
+    ensures head { plain_head result ≡ done (display operands) }
+{
+    Head::Done(Verb::Display(operands))
+}
+
+fn go(name: Name) -> Head
+    ensures head { plain_head result ≡ done (go name) }
+{
+    Head::Done(Verb::Go(name))
+}
+
+pub fn exit() -> Head
+    ensures head { plain_head result ≡ done exit }
+{
+    Head::Done(Verb::Exit)
+}
+
+pub fn continued() -> Head
+    ensures head { plain_head result ≡ done continue }
+{
+    Head::Done(Verb::Continue)
+}
+
+fn stop_run() -> Head
+    ensures head { plain_head result ≡ done stop_run }
+{
+    Head::Done(Verb::StopRun)
+}
+
+fn open(files: Many<Opens>) -> Head
+    ensures head { plain_head result ≡ done (open_ files) }
+{
+    Head::Done(Verb::Open(files))
+}
+
+fn close(names: Many<Name>) -> Head
+    ensures head { plain_head result ≡ done (close names) }
+{
+    Head::Done(Verb::Close(names))
+}
+
+fn write(item: Ref, from: Option<Opnd>, ended: bool) -> Head
+    ensures head { plain_head result ≡ done (write item from ended) }
+{
+    Head::Done(Verb::Write {
+        record: item,
+        from,
+        ended,
+    })
+}
+
+pub fn move_in(alloc: Global, lexemes: &[Lexeme]) -> Result<(Head, bool, &[Lexeme]), Halt>
+    ensures gives { Gives (λ x. (plain_head x.0, signs x.2.now)) result (move_at (signs lexemes.now)) }
+    ensures takes { IfOk result (λ x. x.1 ≡ takes_behind (plain_head x.0) NotRelates) }
+    ensures rest { IfOk result (λ x. length x.2.now ≤ length lexemes.now) }
+{
+    let (from, rest) = opnd_in(alloc, lexemes)?;
+    let rest = expect(Word::To, rest)?;
+    let (to, rest) = refs_in(alloc, rest)?;
+    Ok((moved(from, Many::of(to)), false, rest))
+}
+
+/// SET name TO TRUE.
+pub fn set_in(alloc: Global, lexemes: &[Lexeme]) -> Result<(Head, bool, &[Lexeme]), Halt>
+    ensures gives { Gives (λ x. (plain_head x.0, signs x.2.now)) result (set_at (signs lexemes.now)) }
+    ensures takes { IfOk result (λ x. x.1 ≡ takes_behind (plain_head x.0) NotRelates) }
+    ensures rest { IfOk result (λ x. length x.2.now ≤ length lexemes.now) }
+{
+    let (name, rest) = name_at(alloc, lexemes)?;
+    let rest = expect(Word::To, rest)?;
+    let rest = expect(Word::True, rest)?;
+    Ok((set(name), false, rest))
+}
+
+#[tactic(auto, using(crate::proofs::VerbLemmas::display_never))]
+pub fn display_in(alloc: Global, lexemes: &[Lexeme]) -> Result<(Head, bool, &[Lexeme]), Halt>
+    ensures gives { Gives (λ x. (plain_head x.0, signs x.2.now)) result (display_at (signs lexemes.now)) }
+    ensures takes { IfOk result (λ x. x.1 ≡ takes_behind (plain_head x.0) NotRelates) }
+    ensures rest { IfOk result (λ x. length x.2.now ≤ length lexemes.now) }
+{
+    let (operands, rest) = opnds_in(alloc, lexemes)?;
+    Ok((display(Many::of(operands)), false, rest))
+}
+
+pub fn go_in(alloc: Global, lexemes: &[Lexeme]) -> Result<(Head, bool, &[Lexeme]), Halt>
+    ensures gives { Gives (λ x. (plain_head x.0, signs x.2.now)) result (go_at (signs lexemes.now)) }
+    ensures takes { IfOk result (λ x. x.1 ≡ takes_behind (plain_head x.0) NotRelates) }
+    ensures rest { IfOk result (λ x. length x.2.now ≤ length lexemes.now) }
+{
+    let (name, rest) = name_at(alloc, lexemes)?;
+    Ok((go(name), false, rest))
+}
+
+pub fn stop_in(lexemes: &[Lexeme]) -> Result<(Head, bool, &[Lexeme]), Halt>
+    ensures gives { Gives (λ x. (plain_head x.0, signs x.2.now)) result (stop_at (signs lexemes.now)) }
+    ensures takes { IfOk result (λ x. x.1 ≡ takes_behind (plain_head x.0) NotRelates) }
+    ensures rest { IfOk result (λ x. length x.2.now ≤ length lexemes.now) }
+{
+    let rest = expect(Word::Run, lexemes)?;
+    Ok((stop_run(), false, rest))
+}
+
+pub fn open_in(alloc: Global, lexemes: &[Lexeme]) -> Result<(Head, bool, &[Lexeme]), Halt>
+    ensures gives { Gives (λ x. (plain_head x.0, signs x.2.now)) result (open_at (signs lexemes.now)) }
+    ensures takes { IfOk result (λ x. x.1 ≡ takes_behind (plain_head x.0) NotRelates) }
+    ensures rest { IfOk result (λ x. length x.2.now ≤ length lexemes.now) }
+{
+    let (files, rest) = files_in(alloc, lexemes)?;
+    Ok((open(Many::of(files)), false, rest))
+}
+
+pub fn close_in(alloc: Global, lexemes: &[Lexeme]) -> Result<(Head, bool, &[Lexeme]), Halt>
+    ensures gives { Gives (λ x. (plain_head x.0, signs x.2.now)) result (close_at (signs lexemes.now)) }
+    ensures takes { IfOk result (λ x. x.1 ≡ takes_behind (plain_head x.0) NotRelates) }
+    ensures rest { IfOk result (λ x. length x.2.now ≤ length lexemes.now) }
+{
+    let (names, rest) = names_in(alloc, lexemes)?;
+    Ok((close(Many::of(names)), false, rest))
+}
+
+// A record, with FROM or without.
+fn written_in(alloc: Global, lexemes: &[Lexeme]) -> Result<(Ref, Option<Opnd>, &[Lexeme]), Halt>
+    ensures gives { Gives (λ x. ((x.0, x.1), signs x.2.now)) result (written_at (signs lexemes.now)) }
+    ensures rest { IfOk result (λ x. length x.2.now ≤ length lexemes.now) }
+{
+    let (item, rest) = ref_in(alloc, lexemes)?;
+    match behind(Word::From, rest) {
+        Some(rest) => {
+            let (from, rest) = opnd_in(alloc, rest)?;
+            Ok((item, Some(from), rest))
+        }
+        None => Ok((item, None, rest)),
+    }
+}
+
+pub fn write_in(alloc: Global, lexemes: &[Lexeme]) -> Result<(Head, bool, &[Lexeme]), Halt>
+    ensures gives { Gives (λ x. (plain_head x.0, signs x.2.now)) result (write_at (signs lexemes.now)) }
+    ensures takes { IfOk result (λ x. x.1 ≡ takes_behind (plain_head x.0) NotRelates) }
+    ensures rest { IfOk result (λ x. length x.2.now ≤ length lexemes.now) }
+{
+    let (item, from, rest) = written_in(alloc, lexemes)?;
+    match behind(Word::EndWrite, rest) {
+        Some(rest) => Ok((write(item, from, true), false, rest)),
+        None => Ok((write(item, from, false), false, rest)),
+    }
+}
+
+/// The file of a READ, with INTO or without.
+pub fn read_in(alloc: Global, lexemes: &[Lexeme]) -> Result<(Head, bool, &[Lexeme]), Halt>
+    ensures gives { Gives (λ x. (plain_head x.0, signs x.2.now)) result (read_at (signs lexemes.now)) }
+    ensures takes { IfOk result (λ x. x.1 ≡ takes_behind (plain_head x.0) NotRelates) }
+    ensures rest { IfOk result (λ x. length x.2.now ≤ length lexemes.now) }
+{
+    let (file, rest) = name_at(alloc, lexemes)?;
+    match behind(Word::Into, rest) {
+        Some(rest) => {
+            let (into, rest) = ref_in(alloc, rest)?;
+            let into = Some(into);
+            Ok((Head::Read { file, into }, false, rest))
+        }
+        None => Ok((Head::Read { file, into: None }, false, rest)),
+    }
+}

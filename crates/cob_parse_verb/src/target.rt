@@ -1,0 +1,117 @@
+ghost use Rattle.std.specs.Prelude.{◌≡◌, ◌≤◌, ◌&&◌, length, IfOk};
+ghost use Rattle.cob_parse_expr.specs.Steps.{signs, Gives};
+ghost use Rattle.cob_parse_verb.specs.Lists.{recvs_at};
+ghost use Rattle.cob_parse_verb.specs.Targets.{may_give, giving_at, target_at, given_at};
+ghost use Rattle.cob_parse_verb.specs.VerbSteps.{plain_aim, aim_if, aim_at, plain_target};
+
+use crate::ahead::giving_begins;
+use crate::list::recvs_in;
+use crate::token::{begins_name, behind, expect};
+use crate::word::Word;
+use cob_parse_expr::{Halt, Lexeme, const_at, ref_in};
+use cob_tree::{Opnd, Recv, Ref};
+use std::alloc::Global;
+
+/// What stands first behind TO, FROM, BY or INTO.
+#[derive(Drop)]
+pub enum Aim {
+    Receivers(Vec<Recv>),
+    /// An operand, behind which GIVING has to stand.
+    Operand(Opnd),
+}
+
+/// What stands behind TO, FROM or BY.
+#[derive(Drop)]
+pub enum Target {
+    Receivers(Vec<Recv>),
+    Giving(Opnd, Vec<Recv>),
+}
+
+// Whether receivers may turn out to be an operand: one without ROUNDED.
+fn may_give(recvs: &[Recv]) -> bool
+    ensures { result ≡ may_give recvs.now }
+{
+    match recvs {
+        [recv] => !recv.rounded,
+        _ => false,
+    }
+}
+
+// Receivers, or where they may be an operand and GIVING stands behind them, that operand.
+fn aimed(recvs: Vec<Recv>, given: bool) -> Aim
+    ensures { plain_aim result ≡ aim_if (may_give recvs.items && given) recvs.items }
+{
+    let mut recvs = recvs;
+    if !may_give(recvs.as_slice()) || !given {
+        return Aim::Receivers(recvs);
+    }
+    match recvs.pop() {
+        Some(recv) => Aim::Operand(Opnd::Ref(recv.item)),
+        None => Aim::Receivers(recvs),
+    }
+}
+
+/// Receivers, or an operand: a constant, or one item with GIVING behind it.
+pub fn aim_in(alloc: Global, lexemes: &[Lexeme]) -> Result<(Aim, &[Lexeme]), Halt>
+    ensures gives { Gives (λ x. (plain_aim x.0, signs x.1.now)) result (aim_at (signs lexemes.now)) }
+    ensures rest { IfOk result (λ x. length x.1.now ≤ length lexemes.now) }
+{
+    if begins_name(lexemes) {
+        let (recvs, rest) = recvs_in(alloc, lexemes)?;
+        Ok((aimed(recvs, giving_begins(rest)), rest))
+    } else {
+        let (constant, rest) = const_at(alloc, lexemes)?;
+        Ok((Aim::Operand(Opnd::Const(constant)), rest))
+    }
+}
+
+/// GIVING and receivers.
+pub fn giving_in(alloc: Global, lexemes: &[Lexeme]) -> Result<(Vec<Recv>, &[Lexeme]), Halt>
+    ensures gives { Gives (λ x. ((tt, x.0.items), signs x.1.now)) result (giving_at recvs_at (signs lexemes.now)) }
+    ensures rest { IfOk result (λ x. length x.1.now ≤ length lexemes.now) }
+{
+    let rest = expect(Word::Giving, lexemes)?;
+    recvs_in(alloc, rest)
+}
+
+// Receivers, with REMAINDER or without.
+fn given_in(alloc: Global, lexemes: &[Lexeme]) -> Result<(Vec<Recv>, Option<Ref>, &[Lexeme]), Halt>
+    ensures gives { Gives (λ x. ((x.0.items, x.1), signs x.2.now)) result (given_at (signs lexemes.now)) }
+    ensures rest { IfOk result (λ x. length x.2.now ≤ length lexemes.now) }
+{
+    let (recvs, rest) = recvs_in(alloc, lexemes)?;
+    match behind(Word::Remainder, rest) {
+        Some(rest) => {
+            let (item, rest) = ref_in(alloc, rest)?;
+            Ok((recvs, Some(item), rest))
+        }
+        None => Ok((recvs, None, rest)),
+    }
+}
+
+/// GIVING and receivers, with REMAINDER or without.
+pub fn giving_remainder_in(
+    alloc: Global,
+    lexemes: &[Lexeme],
+) -> Result<(Vec<Recv>, Option<Ref>, &[Lexeme]), Halt>
+    ensures gives { Gives (λ x. ((tt, (x.0.items, x.1)), signs x.2.now)) result (giving_at given_at (signs lexemes.now)) }
+    ensures rest { IfOk result (λ x. length x.2.now ≤ length lexemes.now) }
+{
+    let rest = expect(Word::Giving, lexemes)?;
+    given_in(alloc, rest)
+}
+
+/// Receivers, or an operand and GIVING (ISO 1989:1985, the formats of ADD, SUBTRACT and MULTIPLY).
+pub fn target_in(alloc: Global, lexemes: &[Lexeme]) -> Result<(Target, &[Lexeme]), Halt>
+    ensures gives { Gives (λ x. (plain_target x.0, signs x.1.now)) result (target_at recvs_at (signs lexemes.now)) }
+    ensures rest { IfOk result (λ x. length x.1.now ≤ length lexemes.now) }
+{
+    let (aim, rest) = aim_in(alloc, lexemes)?;
+    match aim {
+        Aim::Receivers(recvs) => Ok((Target::Receivers(recvs), rest)),
+        Aim::Operand(opnd) => {
+            let (giving, rest) = giving_in(alloc, rest)?;
+            Ok((Target::Giving(opnd, giving), rest))
+        }
+    }
+}
