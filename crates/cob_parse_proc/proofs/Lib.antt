@@ -24,3 +24,5 @@ pub mod StmtAhead
 pub mod NotLemmas
 pub mod VerbSteps
 pub mod StmtLoops
+pub mod SentenceSteps
+pub mod ParseLemmas
