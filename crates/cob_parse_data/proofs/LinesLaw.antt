@@ -37,7 +37,7 @@ blank_line None = None
 blank_line (Some l) = Some 0
 
 -- the same on line 0, where it asks for a line
-abbrev blank : Item → Item
+abbrev pub blank : Item → Item
 blank i = record { symbol = i.symbol; line = blank_line i.line; depth = i.depth }
 
 -- ---- printings without lines
@@ -136,7 +136,7 @@ storage_blank es = ap (λ (z : List Item). heading (key.WorkingStorage ∷ key.S
 data_blank : Blanks print_data data_without_lines
 data_blank d = ap (λ (z : List Item). heading (key.Data ∷ key.Division ∷ []) ++ z) (two (print_if print_files d.files) (print_if print_storage d.storage) (print_if print_files (option_map (map fd_without_lines) d.files)) (print_if print_storage (option_map (map entry_without_line) d.storage)) (if_blank print_files (map fd_without_lines) files_blank d.files) (if_blank print_storage (map entry_without_line) storage_blank d.storage))
 
-front_blank : Blanks print_front without_lines
+pub front_blank : Blanks print_front without_lines
 front_blank f = ap (λ (z : List Item). heading (key.Identification ∷ key.Division ∷ []) ++ (heading (key.ProgramId ∷ []) ++ (print_name_and_stop f.name ++ z))) (two (print_if print_env f.env) (print_if print_data f.data) (print_if print_env (option_map env_without_lines f.env)) (print_if print_data (option_map data_without_lines f.data)) (if_blank print_env env_without_lines env_blank f.env) (if_blank print_data data_without_lines data_blank f.data))
 
 -- ---- shapes
@@ -152,7 +152,7 @@ there_without P without f (Some x) g = f x g
 entries_shaped : (es : List Entry) → AllByRecursion ShapedEntry es → AllByRecursion ShapedEntry (map entry_without_line es)
 entries_shaped es g = all_without ShapedEntry entry_without_line (λ e h. (h.0, h.1)) es g
 
-shaped : (f : Front) → ShapedFront f → ShapedFront (without_lines f)
+pub shaped : (f : Front) → ShapedFront f → ShapedFront (without_lines f)
 shaped f g = (there_without ShapedEnv env_without_lines of_env f.env g.0, there_without ShapedData data_without_lines of_data f.data g.1)
   where
     of_env : (e : Env) → ShapedEnv e → ShapedEnv (env_without_lines e)

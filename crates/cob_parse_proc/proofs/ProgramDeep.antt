@@ -1,49 +1,42 @@
 -- Where there is too little room for a program: each whose text goes on with the token opens one too many there.
-use Rattle.std.proofs.Common.{◌≡◌, ℕ, zero, suc, ◌+◌, ◌≤◌, ◌<◌, ◌⊎◌, ⊎_elim, Bool, true, false, List, [], ◌∷◌, ◌++◌, length, length-append, Option, Some, None, is_some, Result, Ok, Err, refl, sym, ap, subst, ◌∙◌, append_assoc, arith}
+use Rattle.std.proofs.Common.{◌≡◌, ℕ, suc, ◌+◌, ◌≤◌, ◌<◌, ⊎_elim, Bool, true, false, List, [], ◌∷◌, ◌++◌, length, length-append, Option, Some, None, Err, refl, sym, ap, subst, ◌∙◌, append_assoc, arith}
 use Rattle.std.specs.List.{AllByRecursion}
 use Rattle.std.proofs.lemmas.List.{append-nil}
 use Rattle.std.proofs.lemmas.Bool.{cases_lt}
-use Rattle.cob_tree.specs.declared.keyword.Keyword.{Keyword}
 use Rattle.cob_tree.specs.declared.keyword.Keyword.TheVariants as word
 use Rattle.cob_tree.specs.Symbols.{Symbol, Key, Name, Sign}
 use Rattle.cob_tree.specs.Symbols as symbol
-use Rattle.cob_tree.specs.Items.{Item, stop, each}
+use Rattle.cob_tree.specs.Items.{Item, each}
 use Rattle.cob_tree.specs.declared.front.Front.{Front}
 use Rattle.cob_tree.specs.declared.tree.EndProgram.{EndProgram}
-use Rattle.cob_tree.specs.Stmt.{Stmts, Tree}
+use Rattle.cob_tree.specs.Stmt.{Tree}
 use Rattle.cob_tree.specs.PrintFront as print
 use Rattle.cob_tree.specs.PrintFront.{print_front}
 use Rattle.cob_tree.specs.PrintStmt.{print_tree}
-use Rattle.reading.specs.Readers.{Fault, Stop, Deep, left_of, Reader, ◌>>=◌, ended, whole, lead, branch, seen, seq, many, optional, here_if, closed}
-use Rattle.reading.specs.Printing.{Alphabet, Matches, Below, Opens, begins, Next}
+use Rattle.reading.specs.Readers.{Stop, Deep, Reader, ended, whole, seq, many}
+use Rattle.reading.specs.Printing.{Alphabet, Matches, Below, Opens, begins}
 use Rattle.reading.specs.Law.{Syntax, Law, OpensAt, Deepens}
-use Rattle.reading.proofs.Results.{bind_err, ok_fails, fault_is, cut_at}
-use Rattle.reading.proofs.Texts.{Always, takes_nothing, next_none, next_same, matches_join, matches_length, below_join, below_right}
+use Rattle.reading.proofs.Results.{bind_err, fault_is, cut_at}
+use Rattle.reading.proofs.Texts.{takes_nothing, next_none, next_same, matches_join, matches_length, below_join, below_right}
 use Rattle.reading.proofs.Opens.{below_wider, not_later}
 use Rattle.reading.proofs.Exact.{enough}
 use Rattle.reading.proofs.Whole.{whole_deep}
-use Rattle.reading.proofs.Lead.{lead_syntax}
 use Rattle.reading.proofs.Starts.{Starts}
 use Rattle.reading.proofs.Tail.{apart, onward, Tail}
 use Rattle.reading.proofs.Many.{is_given, many_syntax}
-use Rattle.reading.proofs.Deeper.{deepens_never, deepens_lead, deepens_seen, deepens_seq, deepens_tail, deepens_branch, deepens_closed, deepens_many}
+use Rattle.reading.proofs.Deeper.{deepens_never, deepens_seen, deepens_seq, deepens_tail, deepens_branch, deepens_closed, deepens_many}
 use Rattle.cob_parse_expr.specs.Classes.{name_symbol}
-use Rattle.cob_parse_data.specs.Tokens.{divisions, of, is, the, on_its_line, stop_symbol}
-use Rattle.cob_parse_data.specs.Tokens as tokens
-use Rattle.cob_parse_data.specs.Reading.{front_at, heading, named}
+use Rattle.cob_parse_data.specs.Tokens.{divisions, is}
 use Rattle.cob_parse_data.proofs.Parts.{pair_syntax, list_syntax}
 use Rattle.cob_parse_data.proofs.ClassLaws.{one_token, free_of, one_syntax, line_syntax, starts_with, stops, names, lines}
 use Rattle.cob_parse_data.proofs.ClassLaws as classes
 use Rattle.cob_parse_data.proofs.Outcomes.{shallow}
-use Rattle.cob_parse_verb.specs.Procedure.{procedure}
-use Rattle.cob_parse_proc.specs.Bare.{list_takes}
-use Rattle.cob_parse_proc.specs.Reading.{may_go, stmts_at}
-use Rattle.cob_parse_proc.specs.Program.{limit, starts, sentence_at, sentences_at, behind_name, paragraph_at, paragraphs_at, end_at, ending_at, before_at, body_at, tree_at}
-use Rattle.cob_parse_proc.specs.Parsing.{ShapedTree, top, GoesOn, Stops, IsDeep}
+use Rattle.cob_parse_proc.specs.Program.{limit, starts, sentence_at, sentences_at, behind_name, paragraph_at, paragraphs_at, body_at, tree_at}
+use Rattle.cob_parse_proc.specs.Parsing.{top, GoesOn, Stops, IsDeep}
 use Rattle.cob_parse_proc.proofs.Across.{Alike, matches_back, low_to, low_back, other_marks}
 use Rattle.cob_parse_proc.proofs.StmtLaws.{law_of_statements}
 use Rattle.cob_parse_proc.proofs.StmtDeep.{statements_deepen}
-use Rattle.cob_parse_proc.proofs.ProgramLaws.{sentence_syntax, alike, points, sentence_pair, sentence_view, sentence_end, closed_sentence, sentence_law, sentence_begins, sentences_syntax, sentences_take, sentences_law, paragraph_syntax, behind_syntax, low, behind_view, behind_law, paragraph_view, paragraph_law, paragraph_begins, name_free, paragraphs_syntax, parts_syntax, paragraphs_tail, parts_law, parts_take, ending_syntax, ending_tail, body_syntax, body_law, procedure_words, before_syntax, before_law, tree_syntax, tree_view}
+use Rattle.cob_parse_proc.proofs.ProgramLaws.{sentence_syntax, alike, points, sentence_view, sentence_end, sentence_law, sentence_begins, sentences_syntax, sentences_take, sentences_law, paragraph_syntax, behind_syntax, low, behind_view, behind_law, paragraph_view, paragraph_law, paragraph_begins, name_free, paragraphs_syntax, parts_syntax, paragraphs_tail, parts_law, parts_take, ending_syntax, ending_tail, body_syntax, body_law, procedure_words, before_syntax, before_law, tree_syntax, tree_view}
 use Rattle.cob_parse_proc.proofs.ProgramAnswers.{wides, wide_law, wide_agrees, law, spell, spelled}
 use Rattle.cob_parse_proc.proofs.ProgramOnce.{no_later}
 use Rattle.cob_parse_proc.proofs.Given.{known}
@@ -55,8 +48,10 @@ module _ {T I M N B : Type 0} {G : Alphabet T I M} {H : Alphabet T I N} (A : Ali
   opens_across is place o = record { before = o.before; item = o.item; after = o.after; parts = o.parts; count = o.count; below = low_to A most o.before o.below; depth = sym (A.depth o.item) ∙ o.depth }
 
   deepens_across : Deepens H R (other_marks A s) most wide
-  deepens_across = record { there = λ q r z text rest t b e spells good below next same. opens_across (s.print b) (length q)
-      (D.there q r z text rest t b e (matches_back A (s.print b) text spells) good (low_back A wide (s.print b) below) (next_same G (takes_nothing b) (s.takes b) rest (λ p. sym (ended_ b p)) (next_none G rest)) same) }
+  deepens_across = record {
+    there = λ q r z text rest t b e spells good below next same. opens_across (s.print b) (length q)
+        (D.there q r z text rest t b e (matches_back A (s.print b) text spells) good (low_back A wide (s.print b) below) (next_same G (takes_nothing b) (s.takes b) rest (λ p. sym (ended_ b p)) (next_none G rest)) same);
+  }
 
 -- ---- lists and pairs of the outer grammar
 
@@ -78,8 +73,10 @@ module _ {A : Type 0} {R R' : Reader Sign A} {s : Syntax Item Symbol A} {most wi
   good_back (x ∷ xs) g = (g.0, good_back xs g.1, apart (is_given xs) (s.takes x m) (never x g.0))
 
   list_deepen : Deepens divisions (many (begins divisions set) R) (list_syntax set s) most wide
-  list_deepen = record { there = λ q r z text rest t xs e spells good below next same. subst (λ (is : List Item). OpensAt divisions most is (length q)) (sym (printed xs))
-      (many_deepen.there q r z text rest t xs e (subst (λ (is : List Item). Matches divisions is text) (printed xs) spells) (good_back xs good) (subst (Below divisions wide) (printed xs) below) (next_same divisions ((list_syntax set s).takes xs) ((many_syntax set s m).takes xs) rest (λ p. taken xs p) next) same) }
+  list_deepen = record {
+    there = λ q r z text rest t xs e spells good below next same. subst (λ (is : List Item). OpensAt divisions most is (length q)) (sym (printed xs))
+        (many_deepen.there q r z text rest t xs e (subst (λ (is : List Item). Matches divisions is text) (printed xs) spells) (good_back xs good) (subst (Below divisions wide) (printed xs) below) (next_same divisions ((list_syntax set s).takes xs) ((many_syntax set s m).takes xs) rest (λ p. taken xs p) next) same);
+  }
 
 module _ {A B : Type 0} {R R' : Reader Sign A} {a : Syntax Item Symbol A} {S : Reader Sign B} {b : Syntax Item Symbol B} {set : Symbol → Bool} {given : B → Bool} {most wide : ℕ} (le : most ≤ wide) (LA : Law divisions R a most) (WA : Law divisions R' a wide) (DA : Deepens divisions R a most wide)
     (tail : Tail divisions set given S b most) (DB : Deepens divisions S b most wide) (m : Symbol) (never : (x : A) → a.Good x → a.takes x m ≡ false) (free : (x : A) (p : Symbol) → a.Good x → set p ≡ true → a.takes x p ≡ false) where

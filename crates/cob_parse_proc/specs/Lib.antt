@@ -4,3 +4,4 @@ pub mod StmtSteps
 pub mod Program
 pub mod Parsing
 pub mod Laws
+pub mod Lines

@@ -1,6 +1,6 @@
 ghost use Rattle.std.specs.Prelude.{List};
 ghost use Rattle.cob_tree.specs.Symbols.{Sign};
-ghost use Rattle.cob_parse_proc.specs.Laws.{OneTree, OneAnswer};
+ghost use Rattle.cob_parse_proc.specs.Laws.{OneTree, OneAnswer, SameButForLines};
 
 /// A law: two programs that the grammar allows, with one printing, are one.
 pub fn one_tree()
@@ -10,4 +10,9 @@ pub fn one_tree()
 /// A law: each list of tokens has one answer.
 pub fn one_answer()
     ensures { (ts : List Sign) → OneAnswer ts }
+{}
+
+/// A law: two programs that the grammar allows, with the same symbols, are equal but for the lines that they hold.
+pub fn same_but_for_lines()
+    ensures { SameButForLines }
 {}

@@ -3,9 +3,16 @@
 #![tactic(auto)]
 
 mod laws;
+mod outer;
+mod parse;
+mod sentence;
 mod statement;
+#[cfg(test)]
+mod tests;
 mod token;
+mod tree;
 mod verb;
 
-pub use laws::{one_answer, one_tree};
+pub use laws::{one_answer, one_tree, same_but_for_lines};
+pub use parse::program_of;
 pub use statement::stmts_in;

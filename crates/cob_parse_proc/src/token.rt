@@ -20,7 +20,7 @@ fn same_key(first: Keyword, second: Keyword) -> bool
     first.text() == second.text()
 }
 
-fn is_word(keyword: Keyword, symbol: &Symbol) -> bool
+pub fn is_word(keyword: Keyword, symbol: &Symbol) -> bool
     ensures { result ≡ is (the keyword) (plain_symbol symbol.now) }
 {
     match symbol {
@@ -56,7 +56,7 @@ fn begins_statement(keyword: Keyword) -> bool
     )
 }
 
-fn is_start(symbol: &Symbol) -> bool
+pub fn is_start(symbol: &Symbol) -> bool
     ensures { result ≡ is_some (word_symbol start_key (plain_symbol symbol.now)) }
 {
     match symbol {
@@ -66,7 +66,7 @@ fn is_start(symbol: &Symbol) -> bool
 }
 
 // The first lexeme, and those behind it.
-fn next(lexemes: &[Lexeme]) -> Option<(&Lexeme, &[Lexeme])>
+pub fn next(lexemes: &[Lexeme]) -> Option<(&Lexeme, &[Lexeme])>
     ensures some { IfSome result (λ x. signs lexemes.now ≡ plain_lexeme x.0.now ∷ signs x.1.now) }
     ensures none { IfNone result (signs lexemes.now ≡ []) }
     ensures shorter { IfSome result (λ x. length lexemes.now ≡ length x.1.now + 1) }
