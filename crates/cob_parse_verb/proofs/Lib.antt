@@ -12,9 +12,6 @@ pub mod Agreeing
 pub mod Deepening
 pub mod HeadLevels
 pub mod Growing
-mod AheadLemmas
-mod ListSteps
-mod VerbLemmas
 pub mod AheadLemmas
 pub mod ListSteps
 pub mod VerbLemmas
