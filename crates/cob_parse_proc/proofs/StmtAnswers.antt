@@ -27,6 +27,10 @@ use Rattle.cob_parse_proc.proofs.NotLemmas.{sels_take, done_may, if_may, evaluat
 use Rattle.cob_parse_proc.proofs.VerbSteps.{error_is, stmt_is, when_is}
 use Rattle.cob_parse_proc.proofs.StmtLoops.{listed, chosen}
 
+-- where two readings are one
+pub fails_as : {A : Type 0} (h : Halt) {read other : Result A Fault} → read ≡ other → Fails h other → Fails h read
+fails_as h e f = subst (Fails h) (sym e) f
+
 module _ (inner : Reader Sign Stmts) where
   -- ---- a list that has to stand
 
