@@ -82,11 +82,7 @@ fn tail_in(
     let (size, _, rest) = phrase_in(alloc, behind_size(lexemes)?, true, lexemes, room)?;
     let (not_size, takes_not, rest) = phrase_in(alloc, behind_not_size(rest)?, true, rest, room)?;
     let (is_ended, rest) = ended(end, rest);
-    Ok((
-        tail(size, not_size, is_ended),
-        !is_ended && takes_not,
-        rest,
-    ))
+    Ok((tail(size, not_size, is_ended), !is_ended && takes_not, rest))
 }
 
 // An arithmetic statement, behind what stands before its phrases.
@@ -121,8 +117,13 @@ fn if_in(
     ensures rest { IfOk result (λ x. length x.2.now ≤ length lexemes.now) }
 {
     let (yes, takes_not, rest) = list_in(alloc, takes_not, lexemes, room)?;
-    let (other, takes_not, rest) =
-        phrase_in(alloc, behind(Keyword::Else, rest), takes_not, rest, room)?;
+    let (other, takes_not, rest) = phrase_in(
+        alloc,
+        behind(Keyword::Else, rest),
+        takes_not,
+        rest,
+        room,
+    )?;
     let (is_ended, rest) = ended(Keyword::EndIf, rest);
     Ok((
         conditional(test, yes, other, is_ended),
@@ -134,11 +135,7 @@ fn if_in(
 // What is looked for, one or more, and what is done then.
 #[cycle(stmt)]
 #[tactic(none)]
-fn when_in(
-    alloc: Global,
-    lexemes: &[Lexeme],
-    room: u32,
-) -> Result<(When, bool, &[Lexeme]), Halt>
+fn when_in(alloc: Global, lexemes: &[Lexeme], room: u32) -> Result<(When, bool, &[Lexeme]), Halt>
     ensures gives { Gives (λ x. (plain_when x.0, signs x.2.now)) result (when_with (stmts_at room) room (signs lexemes.now)) }
     ensures takes { IfOk result (λ x. x.1 ≡ may (takes_when (plain_when x.0))) }
     ensures rest { IfOk result (λ x. length x.2.now ≤ length lexemes.now) }
@@ -274,11 +271,7 @@ fn verb_in(
 // The longest statement in front, where so many more statements and parentheses may open in it.
 #[cycle(stmt)]
 #[tactic(none)]
-fn stmt_in(
-    alloc: Global,
-    lexemes: &[Lexeme],
-    room: u32,
-) -> Result<(Stmt, bool, &[Lexeme]), Halt>
+fn stmt_in(alloc: Global, lexemes: &[Lexeme], room: u32) -> Result<(Stmt, bool, &[Lexeme]), Halt>
     ensures gives { Gives (λ x. (plain_stmt x.0, signs x.2.now)) result (stmt_with (stmts_at room) room (signs lexemes.now)) }
     ensures takes { IfOk result (λ x. x.1 ≡ may (takes_stmt (plain_stmt x.0))) }
     ensures rest { IfOk result (λ x. length x.2.now < length lexemes.now) }

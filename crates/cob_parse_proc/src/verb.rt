@@ -19,12 +19,7 @@ pub fn tail(size: Option<Vec<Stmt>>, not_size: Option<Vec<Stmt>>, ended: bool) -
     }
 }
 
-pub fn conditional(
-    test: Cond,
-    yes: Vec<Stmt>,
-    other: Option<Vec<Stmt>>,
-    ended: bool,
-) -> Verb
+pub fn conditional(test: Cond, yes: Vec<Stmt>, other: Option<Vec<Stmt>>, ended: bool) -> Verb
     ensures { plain_verb result ≡ if_ (plain_cond test) (plain_list yes) (plain_phrase other) ended }
 {
     Verb::If {
@@ -35,12 +30,7 @@ pub fn conditional(
     }
 }
 
-pub fn evaluation(
-    subject: Subject,
-    whens: Vec<When>,
-    other: Option<Vec<Stmt>>,
-    ended: bool,
-) -> Verb
+pub fn evaluation(subject: Subject, whens: Vec<When>, other: Option<Vec<Stmt>>, ended: bool) -> Verb
     ensures { plain_verb result ≡ evaluate subject (whens_of (map plain_when whens.items)) (plain_phrase other) ended }
 {
     Verb::Evaluate {
