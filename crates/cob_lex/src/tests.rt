@@ -83,7 +83,7 @@ fn shown(alloc: Global, line: &[u8]) -> Result<Vec<u8>, AllocError> {
 
 #[test]
 fn tokens_of_lines(rt: HostRuntime) -> Result<(), Fail> {
-    const CASES: [(&[u8], &[u8]); 54] = [
+    const CASES: [(&[u8], &[u8]); 56] = [
         (
             b"       STATUS 9(3)V99. VALUES, GOSTATUS STATUS, PIC ",
             b"word STATUS@08 number 9/0@15 mark (@16 number 3/0@17 mark )@18 word V99@19 stop@22 word VALUE@24 word GOSTATUS@32 word STATUS@41 word PIC@49 ",
