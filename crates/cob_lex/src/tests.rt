@@ -255,7 +255,7 @@ fn tokens_of_lines(rt: HostRuntime) -> Result<(), Fail> {
         // pictures
         (
             b"       PIC IS X(3)V9, pic s9.",
-            b"word PIC@08 pic X(3)V9@15 word PIC@23 pic s9@27 ",
+            b"word PIC@08 pic X(3)V9@15 word PIC@23 pic s9@27 stop@29 ",
         ),
         // a point alone is no picture
         (b"       PIC .", b"bad@12 "),
