@@ -99,8 +99,42 @@ def over_tokens():
     yield "27 items", many, CERTIFICATE, 2, "E20 line 31\n"
 
 
-def main():
+def probe():
+    """The program that tells the first refusal of a source; built where it is missing."""
+    crate = ROOT / "crates/front_probe"
+    program = crate / "out/front_probe"
+    if not program.exists():
+        subprocess.run(["rt", "run"], cwd=crate, stdout=subprocess.DEVNULL, stderr=subprocess.DEVNULL)
+    return program
+
+
+def of_the_grammar():
+    """Sources and their first refusal, or none. A refusal by a later rule counts as none."""
+    for number, line in enumerate((ROOT / "tests/cases/grammar.jsonl").open(), 1):
+        case = json.loads(line)
+        yield f"grammar.jsonl {number}", case["source"].encode("latin-1"), case["refused"] or "accepted"
+    for name in ("payroll", "listing"):
+        yield name, (ROOT / f"samples/{name}.cob").read_bytes(), "accepted"
+
+
+def refusals(folder):
+    """How many of the grammar's cases are answered as they must be, and how many aren't."""
+    program, source = probe(), pathlib.Path(folder, "S")
     passed = failed = 0
+    for name, text, wanted in of_the_grammar():
+        source.write_bytes(text)
+        found = subprocess.run([program, "S"], cwd=folder, capture_output=True).stdout.decode("latin-1").strip()
+        if found == wanted:
+            passed += 1
+        else:
+            failed += 1
+            print(f"{name}: {found} in place of {wanted}")
+    return passed, failed
+
+
+def main():
+    with tempfile.TemporaryDirectory() as folder:
+        passed, failed = refusals(folder)
     with tempfile.TemporaryDirectory() as folder:
         source, certificate = pathlib.Path(folder, "S"), pathlib.Path(folder, "C")
         for name, text, claims, status, out in [*listed(), *of_the_sample(), *over_tokens()]:
