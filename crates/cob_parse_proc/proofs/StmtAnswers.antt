@@ -7,25 +7,29 @@ use Rattle.cob_tree.specs.declared.stmt.Subject.{Subject}
 use Rattle.cob_tree.specs.Symbols.{Sign}
 use Rattle.cob_tree.specs.Cond.{Cond}
 use Rattle.cob_tree.specs.Cues.{Cue, Starts, Whens, NotRelates}
-use Rattle.cob_tree.specs.Stmt.{Sel, Loop, Stmt, MkStmt, Verb, if_, evaluate, perform_inline, read, Stmts, Phrase, phrase_of, Tail, MkTail, When, MkWhen}
+use Rattle.cob_tree.specs.Stmt.{Sel, Loop, Stmt, MkStmt, Verb, perform_inline, Stmts, Phrase, phrase_of, Tail, MkTail, When, MkWhen}
 use Rattle.cob_tree.specs.Stmt as stmt
-use Rattle.cob_tree.specs.Takes.{takes_stmts, takes_whens, takes_verb}
-use Rattle.reading.specs.Readers.{Fault, Stop, Deep, Reader, ◌>>=◌, optional_on, optional, behind, both_behind}
+use Rattle.cob_tree.specs.Takes.{takes_stmts, takes_verb}
+use Rattle.reading.specs.Readers.{Fault, Stop, Deep, Reader, ◌>>=◌, seen, optional_on, optional, behind, both_behind}
 use Rattle.reading.proofs.Results.{ok_is}
 use Rattle.cob_parse_expr.specs.declared.halt.Halt.{Halt}
 use Rattle.cob_parse_expr.specs.declared.halt.Halt.TheVariants as halt
 use Rattle.cob_parse_expr.specs.Steps.{Fails}
 use Rattle.cob_parse_expr.proofs.StepLemmas.{fails_first, fails_second}
 use Rattle.cob_parse_verb.specs.declared.word.Begin.{Begin}
-use Rattle.cob_parse_verb.specs.Heads.{Arithmetic, Head, done, arithmetic, if_head, evaluate_head, perform_head, read_head, head_start, with_tail, end_word, takes_behind}
+use Rattle.cob_parse_verb.specs.Heads.{Arithmetic, Head, done, arithmetic, if_head, evaluate_head, perform_head, read_head, head_start, with_tail, takes_behind}
 use Rattle.cob_parse_verb.specs.Reading.{head_at}
 use Rattle.cob_parse_verb.specs.Turning.{choices_at}
 use Rattle.cob_parse_verb.proofs.HeadLaws.{law_of_heads}
 use Rattle.cob_parse_proc.specs.Reading.{here, one_word, error_with, when_with, stmt_with, stmts_at}
-use Rattle.cob_parse_proc.specs.StmtSteps.{may, phrase_may, tail_may, left_at, list_at, full_at, behind_error, end_at, tail_at, arithmetic_at, if_at, chosen_at, evaluate_at, perform_at, read_at, verb_at, verb_may, on_line}
+use Rattle.cob_parse_proc.specs.StmtSteps.{may, tail_may, left_at, list_at, full_at, behind_error, end_at, tail_at, Branches, branches_at, branches_may, if_of, chosen_at, Cases, cases_at, cases_may, evaluate_of, body_at, Ends, ends_at, ends_may, read_of, verb_at, verb_may, on_line}
 use Rattle.cob_parse_proc.proofs.NotLemmas.{sels_take, done_may, if_may, evaluate_may, read_may, arithmetic_may}
 use Rattle.cob_parse_proc.proofs.VerbSteps.{error_is, stmt_is, when_is}
-use Rattle.cob_parse_proc.proofs.StmtLoops.{listed, chosen}
+use Rattle.cob_parse_proc.proofs.StmtLoops.{listed}
+
+-- where two readings are one
+pub fails_as : {B : Type 0} (h : Halt) (a b : Result B Fault) → a ≡ b → Fails h b → Fails h a
+fails_as h a b e f = subst (Fails h) (sym e) f
 
 module _ (inner : Reader Sign Stmts) where
   -- ---- a list that has to stand
@@ -69,85 +73,72 @@ module _ (inner : Reader Sign Stmts) where
     pub tail_read : (a b : Option Stmts × List Sign) (ended : Bool) (rest : List Sign) (t : Tail) → size_at ts ≡ Ok a → not_size_at a.1 ≡ Ok b → (ended, rest) ≡ end_at k b.1 → t ≡ MkTail (phrase_of a.0) (phrase_of b.0) ended → tail_at inner k ts ≡ Ok (t, rest)
     tail_read a b ended rest t e e' same st = rw (e, e', sym same, st) refl
 
-  module _ (a : Arithmetic) (k : Keyword) (ts : List Sign) (end : k ≡ end_word a) where
-    sum_first : (h : Halt) → Fails h (tail_at inner (end_word a) ts) → Fails h (arithmetic_at inner a ts)
-    sum_first h f = fails_first h (tail_at inner (end_word a) ts) (λ x. Ok (with_tail a x.0, x.1)) f
+  -- ---- behind the condition of IF
 
-    pub sum_wrong : (h : Halt) → Fails h (tail_at inner k ts) → Fails h (arithmetic_at inner a ts)
-    sum_wrong h f = sum_first h (subst (λ (x : Keyword). Fails h (tail_at inner x ts)) end f)
-
-    sum_last : (t : Tail) (rest : List Sign) → tail_at inner (end_word a) ts ≡ Ok (t, rest) → arithmetic_at inner a ts ≡ Ok (with_tail a t, rest)
-    sum_last t rest e = ap (λ (r : Result (Tail × List Sign) Fault). r >>= λ x. Ok (with_tail a x.0, x.1)) e
-
-    pub sum_read : (t : Tail) (rest : List Sign) (v : Verb) → tail_at inner k ts ≡ Ok (t, rest) → v ≡ with_tail a t → arithmetic_at inner a ts ≡ Ok (v, rest)
-    sum_read t rest v e ev = sum_last t rest (subst (λ (x : Keyword). tail_at inner x ts ≡ Ok (t, rest)) end e) ∙ ap (λ (w : Verb). Ok (w, rest)) (sym ev)
-
-  -- ---- IF
-
-  module _ (c : Cond) (takes : Bool) (ts : List Sign) where
-    pub if_first : (h : Halt) → Fails h (list_at inner takes ts) → Fails h (if_at inner c takes ts)
-    if_first halt.Memory f = tt
-    if_first (halt.Stop n) f = rw f refl
-    if_first (halt.Deep n) f = rw f refl
+  module _ (takes : Bool) (ts : List Sign) where
+    pub branches_first : (h : Halt) → Fails h (list_at inner takes ts) → Fails h (branches_at inner takes ts)
+    branches_first halt.Memory f = tt
+    branches_first (halt.Stop n) f = rw f refl
+    branches_first (halt.Deep n) f = rw f refl
 
     module _ (x : Stmts × List Sign) (e : list_at inner takes ts ≡ Ok x) (o : Option (List Sign)) (cut : o ≡ behind (one_word word.Else) x.1) where
-      if_after : (h : Halt) → Fails h (optional (behind (one_word word.Else)) inner x.1) → Fails h (if_at inner c takes ts)
-      if_after halt.Memory f = tt
-      if_after (halt.Stop n) f = rw (e, f) refl
-      if_after (halt.Deep n) f = rw (e, f) refl
+      branches_after : (h : Halt) → Fails h (optional (behind (one_word word.Else)) inner x.1) → Fails h (branches_at inner takes ts)
+      branches_after halt.Memory f = tt
+      branches_after (halt.Stop n) f = rw (e, f) refl
+      branches_after (halt.Deep n) f = rw (e, f) refl
 
-      pub if_second : (h : Halt) → Fails h (optional_on o inner x.1) → Fails h (if_at inner c takes ts)
-      if_second h f = if_after h (subst (λ (z : Option (List Sign)). Fails h (optional_on z inner x.1)) cut f)
+      pub branches_second : (h : Halt) → Fails h (optional_on o inner x.1) → Fails h (branches_at inner takes ts)
+      branches_second h f = branches_after h (subst (λ (z : Option (List Sign)). Fails h (optional_on z inner x.1)) cut f)
 
-      pub if_read : (y : Option Stmts × List Sign) (ended : Bool) (rest : List Sign) (v : Verb) → optional_on o inner x.1 ≡ Ok y → (ended, rest) ≡ end_at word.EndIf y.1 → v ≡ if_ c x.0 (phrase_of y.0) ended → if_at inner c takes ts ≡ Ok (v, rest)
-      if_read y ended rest v e' same ev =
+      pub branches_read : (y : Option Stmts × List Sign) (ended : Bool) (rest : List Sign) → optional_on o inner x.1 ≡ Ok y → (ended, rest) ≡ end_at word.EndIf y.1 → branches_at inner takes ts ≡ Ok (((x.0, phrase_of y.0), ended), rest)
+      branches_read y ended rest e' same =
           let read : optional (behind (one_word word.Else)) inner x.1 ≡ Ok y = subst (λ (z : Option (List Sign)). optional_on z inner x.1 ≡ Ok y) cut e' in
-          rw (e, read, sym same, ev) refl
+          rw (e, read, sym same) refl
 
   -- ---- an inline PERFORM
 
-  module _ (turns : Option Loop) (takes : Bool) (ts : List Sign) where
-    pub perform_first : (h : Halt) → Fails h (list_at inner takes ts) → Fails h (perform_at inner turns takes ts)
-    perform_first halt.Memory f = tt
-    perform_first (halt.Stop n) f = rw f refl
-    perform_first (halt.Deep n) f = rw f refl
+  module _ (takes : Bool) (ts : List Sign) where
+    pub body_first : (h : Halt) → Fails h (list_at inner takes ts) → Fails h (body_at inner takes ts)
+    body_first halt.Memory f = tt
+    body_first (halt.Stop n) f = rw f refl
+    body_first (halt.Deep n) f = rw f refl
 
     module _ (x : Stmts × List Sign) (e : list_at inner takes ts ≡ Ok x) where
-      pub perform_closed : (rest : List Sign) (v : Verb) → Some rest ≡ behind (one_word word.EndPerform) x.1 → v ≡ perform_inline turns x.0 → perform_at inner turns takes ts ≡ Ok (v, rest)
-      perform_closed rest v cut ev = rw (e, sym cut, ev) refl
+      pub body_closed : (rest : List Sign) → Some rest ≡ behind (one_word word.EndPerform) x.1 → body_at inner takes ts ≡ Ok (x.0, rest)
+      body_closed rest cut = rw (e, sym cut) refl
 
-      pub perform_open : (goes : Bool) (n : ℕ) → None ≡ behind (one_word word.EndPerform) x.1 → goes ≡ may (takes_stmts x.0) → n ≡ left_at goes x.1 → perform_at inner turns takes ts ≡ Err (Stop n)
-      perform_open goes n cut same left =
+      pub body_open : (goes : Bool) (n : ℕ) → None ≡ behind (one_word word.EndPerform) x.1 → goes ≡ may (takes_stmts x.0) → n ≡ left_at goes x.1 → body_at inner takes ts ≡ Err (Stop n)
+      body_open goes n cut same left =
           let count : left_at (may (takes_stmts x.0)) x.1 ≡ n = ap (λ (b : Bool). left_at b x.1) (sym same) ∙ sym left in
           rw (e, sym cut) (ap (λ (m : ℕ). Err (Stop m)) count)
 
   -- ---- READ
 
-  module _ (file : List ℕ) (into : Option Ref) (ts : List Sign) (o : Option (List Sign)) (cut : o ≡ behind (one_word word.End) ts) where
-    read_begun : (h : Halt) → Fails h (optional (behind (one_word word.End)) inner ts) → Fails h (read_at inner file into ts)
-    read_begun halt.Memory f = tt
-    read_begun (halt.Stop n) f = rw f refl
-    read_begun (halt.Deep n) f = rw f refl
+  module _ (ts : List Sign) (o : Option (List Sign)) (cut : o ≡ behind (one_word word.End) ts) where
+    ends_begun : (h : Halt) → Fails h (optional (behind (one_word word.End)) inner ts) → Fails h (ends_at inner ts)
+    ends_begun halt.Memory f = tt
+    ends_begun (halt.Stop n) f = rw f refl
+    ends_begun (halt.Deep n) f = rw f refl
 
-    pub read_first : (h : Halt) → Fails h (optional_on o inner ts) → Fails h (read_at inner file into ts)
-    read_first h f = read_begun h (subst (λ (z : Option (List Sign)). Fails h (optional_on z inner ts)) cut f)
+    pub ends_first : (h : Halt) → Fails h (optional_on o inner ts) → Fails h (ends_at inner ts)
+    ends_first h f = ends_begun h (subst (λ (z : Option (List Sign)). Fails h (optional_on z inner ts)) cut f)
 
     module _ (a : Option Stmts × List Sign) (e : optional_on o inner ts ≡ Ok a) (p : Option (List Sign)) (cut' : p ≡ both_behind (one_word word.Not) (one_word word.End) a.1) where
       front : optional (behind (one_word word.End)) inner ts ≡ Ok a
       front = subst (λ (z : Option (List Sign)). optional_on z inner ts ≡ Ok a) cut e
 
-      read_after : (h : Halt) → Fails h (optional (both_behind (one_word word.Not) (one_word word.End)) inner a.1) → Fails h (read_at inner file into ts)
-      read_after halt.Memory f = tt
-      read_after (halt.Stop n) f = rw (front, f) refl
-      read_after (halt.Deep n) f = rw (front, f) refl
+      ends_after : (h : Halt) → Fails h (optional (both_behind (one_word word.Not) (one_word word.End)) inner a.1) → Fails h (ends_at inner ts)
+      ends_after halt.Memory f = tt
+      ends_after (halt.Stop n) f = rw (front, f) refl
+      ends_after (halt.Deep n) f = rw (front, f) refl
 
-      pub read_second : (h : Halt) → Fails h (optional_on p inner a.1) → Fails h (read_at inner file into ts)
-      read_second h f = read_after h (subst (λ (z : Option (List Sign)). Fails h (optional_on z inner a.1)) cut' f)
+      pub ends_second : (h : Halt) → Fails h (optional_on p inner a.1) → Fails h (ends_at inner ts)
+      ends_second h f = ends_after h (subst (λ (z : Option (List Sign)). Fails h (optional_on z inner a.1)) cut' f)
 
-      pub read_read : (b : Option Stmts × List Sign) (ended : Bool) (rest : List Sign) (v : Verb) → optional_on p inner a.1 ≡ Ok b → (ended, rest) ≡ end_at word.EndRead b.1 → v ≡ read file into (phrase_of a.0) (phrase_of b.0) ended → read_at inner file into ts ≡ Ok (v, rest)
-      read_read b ended rest v e' same ev =
+      pub ends_read : (b : Option Stmts × List Sign) (ended : Bool) (rest : List Sign) → optional_on p inner a.1 ≡ Ok b → (ended, rest) ≡ end_at word.EndRead b.1 → ends_at inner ts ≡ Ok (((phrase_of a.0, phrase_of b.0), ended), rest)
+      ends_read b ended rest e' same =
           let back : optional (both_behind (one_word word.Not) (one_word word.End)) inner a.1 ≡ Ok b = subst (λ (z : Option (List Sign)). optional_on z inner a.1 ≡ Ok b) cut' e' in
-          rw (front, back, sym same, ev) refl
+          rw (front, back, sym same) refl
 
   -- ---- WHEN and EVALUATE
 
@@ -158,20 +149,17 @@ module _ (inner : Reader Sign Stmts) where
     pub when_read : (ss : Stmts) (rest : List Sign) (w : When) → list_at inner takes us ≡ Ok (ss, rest) → w ≡ MkWhen xs ss → when_with inner room ts ≡ Ok (w, rest)
     when_read ss rest w e' ew = when_is inner room ts us xs takes e same ∙ (ap (λ (r : Result (Stmts × List Sign) Fault). r >>= λ x. Ok (MkWhen xs x.0, x.1)) e' ∙ ap (λ (z : When). Ok (z, rest)) (sym ew))
 
-  pub chosen_none : (room : ℕ) (ts : List Sign) (n : ℕ) → here Whens ts ≡ false → n ≡ length ts → chosen_at inner room ts ≡ Err (Stop n)
-  chosen_none room ts n e same = rw (e, same) refl
+  module _ (room : ℕ) (ts : List Sign) where
+    pub cases_none : (n : ℕ) → here Whens ts ≡ false → n ≡ length ts → cases_at inner room ts ≡ Err (Stop n)
+    cases_none n e same = rw (e, same) refl
 
-  pub chosen_some : (room : ℕ) (ts : List Sign) → here Whens ts ≡ true → chosen_at inner room ts ≡ chosen inner room ts
-  chosen_some room ts e = rw e refl
+    pub cases_wrong : (h : Halt) → here Whens ts ≡ true → Fails h (chosen_at inner room ts) → Fails h (cases_at inner room ts)
+    cases_wrong halt.Memory there f = tt
+    cases_wrong (halt.Stop n) there f = rw (there, f) refl
+    cases_wrong (halt.Deep n) there f = rw (there, f) refl
 
-  module _ (room : ℕ) (s : Subject) (ts : List Sign) where
-    pub evaluate_wrong : (h : Halt) → Fails h (chosen_at inner room ts) → Fails h (evaluate_at inner room s ts)
-    evaluate_wrong halt.Memory f = tt
-    evaluate_wrong (halt.Stop n) f = rw f refl
-    evaluate_wrong (halt.Deep n) f = rw f refl
-
-    pub evaluate_read : (x : (stmt.Whens × Phrase) × List Sign) (ended : Bool) (rest : List Sign) (v : Verb) → chosen_at inner room ts ≡ Ok x → (ended, rest) ≡ end_at word.EndEvaluate x.1 → v ≡ evaluate s x.0.0 x.0.1 ended → evaluate_at inner room s ts ≡ Ok (v, rest)
-    evaluate_read x ended rest v e same ev = rw (e, sym same, ev) refl
+    pub cases_read : (x : (stmt.Whens × Phrase) × List Sign) (ended : Bool) (rest : List Sign) → here Whens ts ≡ true → chosen_at inner room ts ≡ Ok x → (ended, rest) ≡ end_at word.EndEvaluate x.1 → cases_at inner room ts ≡ Ok ((x.0, ended), rest)
+    cases_read x ended rest there e same = rw (there, e, sym same) refl
 
   -- ---- one statement
 
@@ -201,19 +189,28 @@ module _ (inner : Reader Sign Stmts) where
         go (perform_head turns) some s got = refl
         go (read_head file into) some s got = refl
 
--- ---- whether NOT may go on
+-- ---- a statement, put together
+
+pub put_wrong : {A B : Type 0} (make : A → B) (h : Halt) (r : Reader Sign A) (ts : List Sign) → Fails h (r ts) → Fails h (seen make r ts)
+put_wrong make h r ts f = fails_first h (r ts) (λ x. Ok (make x.0, x.1)) f
+
+pub put_read : {A B : Type 0} (make : A → B) (r : Reader Sign A) (ts : List Sign) (a : A) (b : B) (rest : List Sign) → b ≡ make a → r ts ≡ Ok (a, rest) → seen make r ts ≡ Ok (b, rest)
+put_read make r ts a b rest same e = rw (e, same) refl
 
 pub sum_takes : (a : Arithmetic) (t : Tail) (v : Verb) (takes : Bool) → v ≡ with_tail a t → takes ≡ tail_may t → takes ≡ may (takes_verb v)
 sum_takes a t v takes ev e = e ∙ sym (ap (λ (z : Verb). may (takes_verb z)) ev ∙ arithmetic_may a t)
 
-pub if_takes : (c : Cond) (ss : Stmts) (o : Phrase) (ended : Bool) (v : Verb) (takes before : Bool) → v ≡ if_ c ss o ended → before ≡ may (takes_stmts ss) → takes ≡ phrase_may o before → (not ended && takes) ≡ may (takes_verb v)
-if_takes c ss o ended v takes before ev eb e = ap (λ (b : Bool). not ended && b) (e ∙ ap (phrase_may o) eb) ∙ sym (ap (λ (z : Verb). may (takes_verb z)) ev ∙ if_may c ss o ended)
+pub if_takes : (c : Cond) (b : Branches) (v : Verb) (takes : Bool) → v ≡ if_of c b → takes ≡ branches_may b → takes ≡ may (takes_verb v)
+if_takes c b v takes ev e = e ∙ sym (ap (λ (z : Verb). may (takes_verb z)) ev ∙ if_may c b.0.0 b.0.1 b.1)
 
-pub evaluate_takes : (s : Subject) (ws : stmt.Whens) (o : Phrase) (ended : Bool) (v : Verb) (takes : Bool) → v ≡ evaluate s ws o ended → takes ≡ phrase_may o (may (takes_whens ws)) → (not ended && takes) ≡ may (takes_verb v)
-evaluate_takes s ws o ended v takes ev e = ap (λ (b : Bool). not ended && b) e ∙ sym (ap (λ (z : Verb). may (takes_verb z)) ev ∙ evaluate_may s ws o ended)
+pub evaluate_takes : (s : Subject) (c : Cases) (v : Verb) (takes : Bool) → v ≡ evaluate_of s c → takes ≡ cases_may c → takes ≡ may (takes_verb v)
+evaluate_takes s c v takes ev e = e ∙ sym (ap (λ (z : Verb). may (takes_verb z)) ev ∙ evaluate_may s c.0.0 c.0.1 c.1)
 
-pub read_takes : (file : List ℕ) (into : Option Ref) (p q : Phrase) (ended : Bool) (v : Verb) (takes : Bool) → v ≡ read file into p q ended → takes ≡ phrase_may q true → (not ended && takes) ≡ may (takes_verb v)
-read_takes file into p q ended v takes ev e = ap (λ (b : Bool). not ended && b) e ∙ sym (ap (λ (z : Verb). may (takes_verb z)) ev ∙ read_may file into p q ended)
+pub perform_takes : (turns : Option Loop) (ss : Stmts) (v : Verb) (takes : Bool) → v ≡ perform_inline turns ss → takes ≡ false → takes ≡ may (takes_verb v)
+perform_takes turns ss v takes ev e = e ∙ sym (ap (λ (z : Verb). may (takes_verb z)) ev)
+
+pub read_takes : (file : List ℕ) (into : Option Ref) (x : Ends) (v : Verb) (takes : Bool) → v ≡ read_of file into x → takes ≡ ends_may x → takes ≡ may (takes_verb v)
+read_takes file into x v takes ev e = e ∙ sym (ap (λ (z : Verb). may (takes_verb z)) ev ∙ read_may file into x.0.0 x.0.1 x.1)
 
 -- ---- statements
 

@@ -10,14 +10,17 @@ use Rattle.cob_tree.specs.declared.stmt.Subject.{Subject}
 use Rattle.cob_tree.specs.Symbols.{Sign}
 use Rattle.cob_tree.specs.Cond.{Cond}
 use Rattle.cob_tree.specs.Cues.{Cue, Starts, Whens}
-use Rattle.cob_tree.specs.Stmt.{Loop, Stmt, MkStmt, Verb, if_, evaluate, perform_inline, read, Stmts, stmts_of, Phrase, left_out, given, phrase_of, Tail, MkTail, more_whens, When}
+use Rattle.cob_tree.specs.Stmt.{Loop, Stmt, MkStmt, Verb, if_, evaluate, perform_inline, read, Stmts, stmts_of, Phrase, left_out, given, phrase_of, Tail, MkTail, more_whens, whens_of, When}
 use Rattle.cob_tree.specs.Stmt as stmt
-use Rattle.cob_tree.specs.StmtView.{plain_stmt}
-use Rattle.cob_tree.specs.Takes.{takes_stmts, takes_verb}
+use Rattle.cob_tree.specs.StmtView.{plain_stmt, plain_when}
+use Rattle.cob_tree.specs.Takes.{takes_stmts, takes_whens, takes_verb}
 use Rattle.reading.specs.Readers.{Fault, Stop, Reader, ◌>>=◌, lead, seen, behind, optional, both_behind, left_on, full}
 use Rattle.reading.specs.Printing.{any_of}
 use Rattle.cob_parse_verb.specs.Procedure.{procedure}
 use Rattle.cob_parse_verb.specs.Heads.{Arithmetic, Head, done, arithmetic, if_head, evaluate_head, perform_head, read_head, with_tail, end_word}
+use Rattle.cob_parse_proc.specs.declared.verb.Branches as declared_branches
+use Rattle.cob_parse_proc.specs.declared.verb.Cases as declared_cases
+use Rattle.cob_parse_proc.specs.declared.verb.Ends as declared_ends
 use Rattle.cob_parse_proc.specs.Reading.{here, one_word, nots, Case, whens_with, whens_in, other_in, error_with}
 
 -- ---- what contracts see of lists
@@ -89,9 +92,46 @@ close_at takes ts = close_on (behind (one_word word.EndPerform) ts) takes ts
 abbrev pub make_chosen : When × List Case → stmt.Whens × Phrase
 make_chosen x = (more_whens x.0 (whens_in x.1), other_in x.1)
 
-abbrev pub chosen_on : Bool → Reader Sign (stmt.Whens × Phrase) → Reader Sign (stmt.Whens × Phrase)
-chosen_on true whens ts = whens ts
-chosen_on false whens ts = Err (Stop (length ts))
+-- ---- what is read behind a head
+
+-- the two lists of IF, and whether END-IF stands
+abbrev pub Branches : Type 0
+Branches = (Stmts × Phrase) × Bool
+
+-- what EVALUATE chooses from, and whether END-EVALUATE stands
+abbrev pub Cases : Type 0
+Cases = (stmt.Whens × Phrase) × Bool
+
+-- what READ does at the file's end and before it, and whether END-READ stands
+abbrev pub Ends : Type 0
+Ends = (Phrase × Phrase) × Bool
+
+abbrev pub plain_branches : declared_branches.Branches → Branches
+plain_branches b = ((plain_list b.yes, plain_phrase b.other), b.ended)
+
+abbrev pub plain_cases : declared_cases.Cases → Cases
+plain_cases c = ((whens_of (map plain_when c.whens.items), plain_phrase c.other), c.ended)
+
+abbrev pub plain_ends : declared_ends.Ends → Ends
+plain_ends e = ((plain_phrase e.end, plain_phrase e.not_end), e.ended)
+
+abbrev pub branches_may : Branches → Bool
+branches_may b = not b.1 && phrase_may b.0.1 (may (takes_stmts b.0.0))
+
+abbrev pub cases_may : Cases → Bool
+cases_may c = not c.1 && phrase_may c.0.1 (may (takes_whens c.0.0))
+
+abbrev pub ends_may : Ends → Bool
+ends_may e = not e.1 && phrase_may e.0.1 true
+
+abbrev pub if_of : Cond → Branches → Verb
+if_of test b = if_ test b.0.0 b.0.1 b.1
+
+abbrev pub evaluate_of : Subject → Cases → Verb
+evaluate_of subject c = evaluate subject c.0.0 c.0.1 c.1
+
+abbrev pub read_of : List ℕ → Option Ref → Ends → Verb
+read_of file into e = read file into e.0.0 e.0.1 e.1
 
 -- ---- behind the heads
 
@@ -102,30 +142,44 @@ module _ (inner : Reader Sign Stmts) where
       >>= λ a. optional (both_behind (one_word word.Not) (one_word word.Size)) (error_with inner) a.1
       >>= λ b. Ok (MkTail (phrase_of a.0) (phrase_of b.0) (end_at end b.1).0, (end_at end b.1).1)
 
-  abbrev pub arithmetic_at : Arithmetic → Reader Sign Verb
-  arithmetic_at a ts = tail_at (end_word a) ts >>= λ x. Ok (with_tail a x.0, x.1)
-
-  abbrev pub if_at : Cond → Bool → Reader Sign Verb
-  if_at test takes ts =
+  abbrev pub branches_at : Bool → Reader Sign Branches
+  branches_at takes ts =
       list_at inner takes ts >>= λ a. optional (behind (one_word word.Else)) inner a.1
-      >>= λ b. Ok (if_ test a.0 (phrase_of b.0) (end_at word.EndIf b.1).0, (end_at word.EndIf b.1).1)
+      >>= λ b. Ok (((a.0, phrase_of b.0), (end_at word.EndIf b.1).0), (end_at word.EndIf b.1).1)
 
   abbrev pub chosen_at : ℕ → Reader Sign (stmt.Whens × Phrase)
-  chosen_at room ts = chosen_on (here Whens ts) (seen make_chosen (whens_with inner room)) ts
+  chosen_at room = seen make_chosen (whens_with inner room)
 
-  abbrev pub evaluate_at : ℕ → Subject → Reader Sign Verb
-  evaluate_at room subject ts =
-      chosen_at room ts >>= λ a. Ok (evaluate subject a.0.0 a.0.1 (end_at word.EndEvaluate a.1).0, (end_at word.EndEvaluate a.1).1)
+  abbrev pub cases_on : Bool → ℕ → Reader Sign Cases
+  cases_on true room ts = chosen_at room ts >>= λ a. Ok ((a.0, (end_at word.EndEvaluate a.1).0), (end_at word.EndEvaluate a.1).1)
+  cases_on false room ts = Err (Stop (length ts))
 
-  abbrev pub perform_at : Option Loop → Bool → Reader Sign Verb
-  perform_at turns takes ts =
-      list_at inner takes ts >>= λ a. close_at (may (takes_stmts a.0)) a.1 >>= λ rest. Ok (perform_inline turns a.0, rest)
+  abbrev pub cases_at : ℕ → Reader Sign Cases
+  cases_at room ts = cases_on (here Whens ts) room ts
 
-  abbrev pub read_at : List ℕ → Option Ref → Reader Sign Verb
-  read_at file into ts =
+  abbrev pub body_at : Bool → Reader Sign Stmts
+  body_at takes ts = list_at inner takes ts >>= λ a. close_at (may (takes_stmts a.0)) a.1 >>= λ rest. Ok (a.0, rest)
+
+  abbrev pub ends_at : Reader Sign Ends
+  ends_at ts =
       optional (behind (one_word word.End)) inner ts
       >>= λ a. optional (both_behind (one_word word.Not) (one_word word.End)) inner a.1
-      >>= λ b. Ok (read file into (phrase_of a.0) (phrase_of b.0) (end_at word.EndRead b.1).0, (end_at word.EndRead b.1).1)
+      >>= λ b. Ok (((phrase_of a.0, phrase_of b.0), (end_at word.EndRead b.1).0), (end_at word.EndRead b.1).1)
+
+  abbrev pub arithmetic_at : Arithmetic → Reader Sign Verb
+  arithmetic_at a = seen (with_tail a) (tail_at (end_word a))
+
+  abbrev pub if_at : Cond → Bool → Reader Sign Verb
+  if_at test takes = seen (if_of test) (branches_at takes)
+
+  abbrev pub evaluate_at : ℕ → Subject → Reader Sign Verb
+  evaluate_at room subject = seen (evaluate_of subject) (cases_at room)
+
+  abbrev pub perform_at : Option Loop → Bool → Reader Sign Verb
+  perform_at turns takes = seen (perform_inline turns) (body_at takes)
+
+  abbrev pub read_at : List ℕ → Option Ref → Reader Sign Verb
+  read_at file into = seen (read_of file into) ends_at
 
   -- behind a head, which may go on with NOT or may not
   abbrev pub verb_at : ℕ → Bool → Head → Reader Sign Verb

@@ -1,22 +1,23 @@
-ghost use Rattle.std.specs.Prelude.{◌≡◌, ◌≤◌, ◌<◌, length, IfOk, IfSome, map, true};
+ghost use Rattle.std.specs.Prelude.{◌≡◌, ◌≤◌, ◌<◌, length, IfOk, IfSome, map, false};
 ghost use Rattle.std.specs.Option.{option_map};
-ghost use Rattle.cob_tree.specs.CondView.{plain_cond};
 ghost use Rattle.cob_tree.specs.Stmt.{whens_of};
-ghost use Rattle.cob_tree.specs.StmtView.{plain_loop, plain_stmt, plain_tail, plain_verb, plain_when};
-ghost use Rattle.cob_tree.specs.Takes.{takes_stmts, takes_stmt, takes_verb, takes_whens, takes_when};
+ghost use Rattle.cob_tree.specs.StmtView.{plain_stmt, plain_tail, plain_verb, plain_when};
+ghost use Rattle.cob_tree.specs.Takes.{takes_stmts, takes_stmt, takes_whens, takes_when};
 ghost use Rattle.reading.specs.Readers.{optional_on};
 ghost use Rattle.cob_parse_expr.specs.Steps.{signs, Gives};
 ghost use Rattle.cob_parse_proc.specs.Reading.{when_with, stmt_with, stmts_at};
-ghost use Rattle.cob_parse_verb.specs.VerbSteps.{plain_arithmetic, plain_head};
-ghost use Rattle.cob_parse_proc.specs.StmtSteps.{plain_list, plain_phrase, may, phrase_may, tail_may, verb_may, list_at, tail_at, arithmetic_at, if_at, chosen_at, evaluate_at, perform_at, read_at, verb_at};
+ghost use Rattle.cob_parse_verb.specs.VerbSteps.{plain_head};
+ghost use Rattle.cob_parse_proc.specs.StmtSteps.{plain_list, plain_phrase, plain_branches, plain_cases, plain_ends, may, phrase_may, tail_may, branches_may, cases_may, ends_may, verb_may, list_at, tail_at, branches_at, chosen_at, cases_at, body_at, ends_at, verb_at};
 
 use crate::token::{
     behind, behind_not_size, behind_size, both_behind, ended, full, left_at, starts, when_begins,
 };
-use crate::verb::{conditional, evaluation, inline, reading, tail, when};
+use crate::verb::{
+    Branches, Cases, Ends, tail, when, with_body, with_branches, with_cases, with_ends, with_phrases,
+};
 use cob_parse_expr::{Halt, Lexeme};
-use cob_parse_verb::{Arithmetic, Head, choices_in, head_in};
-use cob_tree::{Cond, Keyword, Loop, Name, Ref, Stmt, Subject, Tail, Verb, When};
+use cob_parse_verb::{Head, choices_in, head_in};
+use cob_tree::{Keyword, Stmt, Tail, Verb, When};
 use std::alloc::Global;
 
 // Beside what it reads, each function here tells whether that may go on with NOT: before a relation, NUMERIC, a sign
@@ -24,6 +25,7 @@ use std::alloc::Global;
 
 // Statements that have to stand behind what may go on with NOT or may not.
 #[cycle(stmt)]
+#[tactic(none)]
 fn list_in(
     alloc: Global,
     takes_not: bool,
@@ -43,6 +45,7 @@ fn list_in(
 
 // Statements behind words that open them, where these words stand.
 #[cycle(stmt)]
+#[tactic(none)]
 fn phrase_in<'a>(
     alloc: Global,
     opened: Option<&'a [Lexeme]>,
@@ -66,6 +69,7 @@ fn phrase_in<'a>(
 
 // SIZE ERROR, NOT SIZE ERROR and the END- word.
 #[cycle(stmt)]
+#[tactic(none)]
 fn tail_in(
     alloc: Global,
     end: Keyword,
@@ -86,48 +90,38 @@ fn tail_in(
     ))
 }
 
-// An arithmetic statement, behind what stands before its phrases.
+// What stands behind the condition of IF.
 #[cycle(stmt)]
-fn arithmetic_in(
+#[tactic(none)]
+fn branches_in(
     alloc: Global,
-    arithmetic: Arithmetic,
-    lexemes: &[Lexeme],
-    room: u32,
-) -> Result<(Verb, bool, &[Lexeme]), Halt>
-    ensures gives { Gives (λ x. (plain_verb x.0, signs x.2.now)) result (arithmetic_at (stmts_at room) (plain_arithmetic arithmetic) (signs lexemes.now)) }
-    ensures takes { IfOk result (λ x. x.1 ≡ may (takes_verb (plain_verb x.0))) }
-    ensures rest { IfOk result (λ x. length x.2.now ≤ length lexemes.now) }
-{
-    let (tail, takes_not, rest) = tail_in(alloc, arithmetic.end_word(), lexemes, room)?;
-    Ok((arithmetic.with_tail(tail), takes_not, rest))
-}
-
-// IF, behind its condition.
-#[cycle(stmt)]
-fn if_in(
-    alloc: Global,
-    test: Cond,
     takes_not: bool,
     lexemes: &[Lexeme],
     room: u32,
-) -> Result<(Verb, bool, &[Lexeme]), Halt>
-    ensures gives { Gives (λ x. (plain_verb x.0, signs x.2.now)) result (if_at (stmts_at room) (plain_cond test) takes_not (signs lexemes.now)) }
-    ensures takes { IfOk result (λ x. x.1 ≡ may (takes_verb (plain_verb x.0))) }
+) -> Result<(Branches, bool, &[Lexeme]), Halt>
+    ensures gives { Gives (λ x. (plain_branches x.0, signs x.2.now)) result (branches_at (stmts_at room) takes_not (signs lexemes.now)) }
+    ensures takes { IfOk result (λ x. x.1 ≡ branches_may (plain_branches x.0)) }
     ensures rest { IfOk result (λ x. length x.2.now ≤ length lexemes.now) }
 {
     let (yes, takes_not, rest) = list_in(alloc, takes_not, lexemes, room)?;
-    let (other, takes_not, rest) =
-        phrase_in(alloc, behind(Keyword::Else, rest), takes_not, rest, room)?;
+    let opened = behind(Keyword::Else, rest);
+    let (other, takes_not, rest) = phrase_in(alloc, opened, takes_not, rest, room)?;
     let (is_ended, rest) = ended(Keyword::EndIf, rest);
+    let takes_not = !is_ended && takes_not;
     Ok((
-        conditional(test, yes, other, is_ended),
-        !is_ended && takes_not,
+        Branches {
+            yes,
+            other,
+            ended: is_ended,
+        },
+        takes_not,
         rest,
     ))
 }
 
 // What is looked for, one or more, and what is done then.
 #[cycle(stmt)]
+#[tactic(none)]
 fn when_in(
     alloc: Global,
     lexemes: &[Lexeme],
@@ -144,6 +138,7 @@ fn when_in(
 
 // The WHENs of EVALUATE, and what stands behind WHEN OTHER, which is the last.
 #[cycle(stmt)]
+#[tactic(none)]
 fn whens_in(
     alloc: Global,
     lexemes: &[Lexeme],
@@ -153,9 +148,6 @@ fn whens_in(
     ensures takes { IfOk result (λ x. x.2 ≡ phrase_may (plain_phrase x.1) (may (takes_whens (whens_of (map plain_when x.0.items))))) }
     ensures rest { IfOk result (λ x. length x.3.now ≤ length lexemes.now) }
 {
-    if !when_begins(lexemes) {
-        return Err(Halt::Stop(lexemes.len()));
-    }
     let (first, mut takes_not, mut left) = when_in(alloc, lexemes, room)?;
     let mut whens = Vec::new(alloc);
     whens.push(first)?;
@@ -172,73 +164,87 @@ fn whens_in(
     Ok((whens, None, takes_not, left))
 }
 
-// EVALUATE, behind what it looks at.
+// What stands behind the subject of EVALUATE.
 #[cycle(stmt)]
-fn evaluate_in(
+#[tactic(none)]
+fn cases_in(
     alloc: Global,
-    subject: Subject,
     lexemes: &[Lexeme],
     room: u32,
-) -> Result<(Verb, bool, &[Lexeme]), Halt>
-    ensures gives { Gives (λ x. (plain_verb x.0, signs x.2.now)) result (evaluate_at (stmts_at room) room subject (signs lexemes.now)) }
-    ensures takes { IfOk result (λ x. x.1 ≡ may (takes_verb (plain_verb x.0))) }
+) -> Result<(Cases, bool, &[Lexeme]), Halt>
+    ensures gives { Gives (λ x. (plain_cases x.0, signs x.2.now)) result (cases_at (stmts_at room) room (signs lexemes.now)) }
+    ensures takes { IfOk result (λ x. x.1 ≡ cases_may (plain_cases x.0)) }
     ensures rest { IfOk result (λ x. length x.2.now ≤ length lexemes.now) }
 {
+    if !when_begins(lexemes) {
+        return Err(Halt::Stop(lexemes.len()));
+    }
     let (whens, other, takes_not, rest) = whens_in(alloc, lexemes, room)?;
     let (is_ended, rest) = ended(Keyword::EndEvaluate, rest);
+    let takes_not = !is_ended && takes_not;
     Ok((
-        evaluation(subject, whens, other, is_ended),
-        !is_ended && takes_not,
+        Cases {
+            whens,
+            other,
+            ended: is_ended,
+        },
+        takes_not,
         rest,
     ))
 }
 
-// An inline PERFORM, behind its loop.
+// What stands behind the loop of an inline PERFORM.
 #[cycle(stmt)]
-fn perform_in(
+#[tactic(none)]
+fn body_in(
     alloc: Global,
-    turns: Option<Loop>,
     takes_not: bool,
     lexemes: &[Lexeme],
     room: u32,
-) -> Result<(Verb, bool, &[Lexeme]), Halt>
-    ensures gives { Gives (λ x. (plain_verb x.0, signs x.2.now)) result (perform_at (stmts_at room) (option_map plain_loop turns) takes_not (signs lexemes.now)) }
-    ensures takes { IfOk result (λ x. x.1 ≡ may (takes_verb (plain_verb x.0))) }
+) -> Result<(Vec<Stmt>, bool, &[Lexeme]), Halt>
+    ensures gives { Gives (λ x. (plain_list x.0, signs x.2.now)) result (body_at (stmts_at room) takes_not (signs lexemes.now)) }
+    ensures takes { IfOk result (λ x. x.1 ≡ false) }
     ensures rest { IfOk result (λ x. length x.2.now ≤ length lexemes.now) }
 {
     let (body, takes_not, rest) = list_in(alloc, takes_not, lexemes, room)?;
     match behind(Keyword::EndPerform, rest) {
-        Some(rest) => Ok((inline(turns, body), false, rest)),
+        Some(rest) => Ok((body, false, rest)),
         None => Err(Halt::Stop(left_at(takes_not, rest))),
     }
 }
 
-// READ, behind INTO.
+// What stands behind INTO of READ.
 #[cycle(stmt)]
-fn read_in(
+#[tactic(none)]
+fn ends_in(
     alloc: Global,
-    file: Name,
-    into: Option<Ref>,
     lexemes: &[Lexeme],
     room: u32,
-) -> Result<(Verb, bool, &[Lexeme]), Halt>
-    ensures gives { Gives (λ x. (plain_verb x.0, signs x.2.now)) result (read_at (stmts_at room) file into (signs lexemes.now)) }
-    ensures takes { IfOk result (λ x. x.1 ≡ may (takes_verb (plain_verb x.0))) }
+) -> Result<(Ends, bool, &[Lexeme]), Halt>
+    ensures gives { Gives (λ x. (plain_ends x.0, signs x.2.now)) result (ends_at (stmts_at room) (signs lexemes.now)) }
+    ensures takes { IfOk result (λ x. x.1 ≡ ends_may (plain_ends x.0)) }
     ensures rest { IfOk result (λ x. length x.2.now ≤ length lexemes.now) }
 {
-    let (end, _, rest) = phrase_in(alloc, behind(Keyword::End, lexemes), true, lexemes, room)?;
+    let opened = behind(Keyword::End, lexemes);
+    let (end, _, rest) = phrase_in(alloc, opened, true, lexemes, room)?;
     let opened = both_behind(Keyword::Not, Keyword::End, rest);
     let (not_end, takes_not, rest) = phrase_in(alloc, opened, true, rest, room)?;
     let (is_ended, rest) = ended(Keyword::EndRead, rest);
+    let takes_not = !is_ended && takes_not;
     Ok((
-        reading(file, into, end, not_end, is_ended),
-        !is_ended && takes_not,
+        Ends {
+            end,
+            not_end,
+            ended: is_ended,
+        },
+        takes_not,
         rest,
     ))
 }
 
 // A statement behind what stands before its lists.
 #[cycle(stmt)]
+#[tactic(none)]
 fn verb_in(
     alloc: Global,
     head: Head,
@@ -252,16 +258,20 @@ fn verb_in(
 {
     match head {
         Head::Done(verb) => Ok((verb, takes_not, lexemes)),
-        Head::Arithmetic(arithmetic) => arithmetic_in(alloc, arithmetic, lexemes, room),
-        Head::If(test) => if_in(alloc, test, takes_not, lexemes, room),
-        Head::Evaluate(subject) => evaluate_in(alloc, subject, lexemes, room),
-        Head::Perform(turns) => perform_in(alloc, turns, takes_not, lexemes, room),
-        Head::Read { file, into } => read_in(alloc, file, into, lexemes, room),
+        Head::Arithmetic(arithmetic) => {
+            let end = arithmetic.end_word();
+            with_phrases(arithmetic, tail_in(alloc, end, lexemes, room))
+        }
+        Head::If(test) => with_branches(test, branches_in(alloc, takes_not, lexemes, room)),
+        Head::Evaluate(subject) => with_cases(subject, cases_in(alloc, lexemes, room)),
+        Head::Perform(turns) => with_body(turns, body_in(alloc, takes_not, lexemes, room)),
+        Head::Read { file, into } => with_ends(file, into, ends_in(alloc, lexemes, room)),
     }
 }
 
 // The longest statement in front, where so many more statements and parentheses may open in it.
 #[cycle(stmt)]
+#[tactic(none)]
 fn stmt_in(
     alloc: Global,
     lexemes: &[Lexeme],
@@ -279,6 +289,7 @@ fn stmt_in(
 /// The most statements in front, one at least, where so many statements and parentheses may open; and whether they
 /// may go on with NOT.
 #[cycle(stmt)]
+#[tactic(none)]
 pub fn stmts_in(
     alloc: Global,
     lexemes: &[Lexeme],

@@ -23,23 +23,20 @@ decreases-when_in l = 8 * l.room + 2
 abbrev pub decreases-tail_in : goal.decreases-tail_in
 decreases-tail_in l = 8 * l.room + 2
 
+abbrev pub decreases-branches_in : goal.decreases-branches_in
+decreases-branches_in l = 8 * l.room + 2
+
+abbrev pub decreases-body_in : goal.decreases-body_in
+decreases-body_in l = 8 * l.room + 2
+
+abbrev pub decreases-ends_in : goal.decreases-ends_in
+decreases-ends_in l = 8 * l.room + 2
+
 abbrev pub decreases-whens_in : goal.decreases-whens_in
 decreases-whens_in l = 8 * l.room + 3
 
-abbrev pub decreases-arithmetic_in : goal.decreases-arithmetic_in
-decreases-arithmetic_in l = 8 * l.room + 4
-
-abbrev pub decreases-if_in : goal.decreases-if_in
-decreases-if_in l = 8 * l.room + 4
-
-abbrev pub decreases-evaluate_in : goal.decreases-evaluate_in
-decreases-evaluate_in l = 8 * l.room + 4
-
-abbrev pub decreases-perform_in : goal.decreases-perform_in
-decreases-perform_in l = 8 * l.room + 4
-
-abbrev pub decreases-read_in : goal.decreases-read_in
-decreases-read_in l = 8 * l.room + 4
+abbrev pub decreases-cases_in : goal.decreases-cases_in
+decreases-cases_in l = 8 * l.room + 4
 
 abbrev pub decreases-verb_in : goal.decreases-verb_in
 decreases-verb_in l = 8 * l.room + 5
