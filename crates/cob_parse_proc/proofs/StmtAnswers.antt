@@ -189,28 +189,10 @@ module _ (inner : Reader Sign Stmts) where
         go (perform_head turns) some s got = refl
         go (read_head file into) some s got = refl
 
--- ---- a statement, put together
-
-pub put_wrong : {A B : Type 0} (make : A → B) (h : Halt) (r : Reader Sign A) (ts : List Sign) → Fails h (r ts) → Fails h (seen make r ts)
-put_wrong make h r ts f = fails_first h (r ts) (λ x. Ok (make x.0, x.1)) f
-
-pub put_read : {A B : Type 0} (make : A → B) (r : Reader Sign A) (ts : List Sign) (a : A) (b : B) (rest : List Sign) → b ≡ make a → r ts ≡ Ok (a, rest) → seen make r ts ≡ Ok (b, rest)
-put_read make r ts a b rest same e = rw (e, same) refl
+-- ---- whether NOT may go on
 
 pub sum_takes : (a : Arithmetic) (t : Tail) (v : Verb) (takes : Bool) → v ≡ with_tail a t → takes ≡ tail_may t → takes ≡ may (takes_verb v)
 sum_takes a t v takes ev e = e ∙ sym (ap (λ (z : Verb). may (takes_verb z)) ev ∙ arithmetic_may a t)
-
-pub if_takes : (c : Cond) (b : Branches) (v : Verb) (takes : Bool) → v ≡ if_of c b → takes ≡ branches_may b → takes ≡ may (takes_verb v)
-if_takes c b v takes ev e = e ∙ sym (ap (λ (z : Verb). may (takes_verb z)) ev ∙ if_may c b.0.0 b.0.1 b.1)
-
-pub evaluate_takes : (s : Subject) (c : Cases) (v : Verb) (takes : Bool) → v ≡ evaluate_of s c → takes ≡ cases_may c → takes ≡ may (takes_verb v)
-evaluate_takes s c v takes ev e = e ∙ sym (ap (λ (z : Verb). may (takes_verb z)) ev ∙ evaluate_may s c.0.0 c.0.1 c.1)
-
-pub perform_takes : (turns : Option Loop) (ss : Stmts) (v : Verb) (takes : Bool) → v ≡ perform_inline turns ss → takes ≡ false → takes ≡ may (takes_verb v)
-perform_takes turns ss v takes ev e = e ∙ sym (ap (λ (z : Verb). may (takes_verb z)) ev)
-
-pub read_takes : (file : List ℕ) (into : Option Ref) (x : Ends) (v : Verb) (takes : Bool) → v ≡ read_of file into x → takes ≡ ends_may x → takes ≡ may (takes_verb v)
-read_takes file into x v takes ev e = e ∙ sym (ap (λ (z : Verb). may (takes_verb z)) ev ∙ read_may file into x.0.0 x.0.1 x.1)
 
 -- ---- statements
 

@@ -25,7 +25,6 @@ use std::alloc::Global;
 
 // Statements that have to stand behind what may go on with NOT or may not.
 #[cycle(stmt)]
-#[tactic(none)]
 fn list_in(
     alloc: Global,
     takes_not: bool,
@@ -45,7 +44,6 @@ fn list_in(
 
 // Statements behind words that open them, where these words stand.
 #[cycle(stmt)]
-#[tactic(none)]
 fn phrase_in<'a>(
     alloc: Global,
     opened: Option<&'a [Lexeme]>,
@@ -69,7 +67,6 @@ fn phrase_in<'a>(
 
 // SIZE ERROR, NOT SIZE ERROR and the END- word.
 #[cycle(stmt)]
-#[tactic(none)]
 fn tail_in(
     alloc: Global,
     end: Keyword,
@@ -92,7 +89,6 @@ fn tail_in(
 
 // What stands behind the condition of IF.
 #[cycle(stmt)]
-#[tactic(none)]
 fn branches_in(
     alloc: Global,
     takes_not: bool,
@@ -121,7 +117,6 @@ fn branches_in(
 
 // What is looked for, one or more, and what is done then.
 #[cycle(stmt)]
-#[tactic(none)]
 fn when_in(
     alloc: Global,
     lexemes: &[Lexeme],
@@ -138,7 +133,6 @@ fn when_in(
 
 // The WHENs of EVALUATE, and what stands behind WHEN OTHER, which is the last.
 #[cycle(stmt)]
-#[tactic(none)]
 fn whens_in(
     alloc: Global,
     lexemes: &[Lexeme],
@@ -166,7 +160,6 @@ fn whens_in(
 
 // What stands behind the subject of EVALUATE.
 #[cycle(stmt)]
-#[tactic(none)]
 fn cases_in(
     alloc: Global,
     lexemes: &[Lexeme],
@@ -195,7 +188,6 @@ fn cases_in(
 
 // What stands behind the loop of an inline PERFORM.
 #[cycle(stmt)]
-#[tactic(none)]
 fn body_in(
     alloc: Global,
     takes_not: bool,
@@ -215,7 +207,6 @@ fn body_in(
 
 // What stands behind INTO of READ.
 #[cycle(stmt)]
-#[tactic(none)]
 fn ends_in(
     alloc: Global,
     lexemes: &[Lexeme],
@@ -244,7 +235,6 @@ fn ends_in(
 
 // A statement behind what stands before its lists.
 #[cycle(stmt)]
-#[tactic(none)]
 fn verb_in(
     alloc: Global,
     head: Head,
@@ -271,7 +261,6 @@ fn verb_in(
 
 // The longest statement in front, where so many more statements and parentheses may open in it.
 #[cycle(stmt)]
-#[tactic(none)]
 fn stmt_in(
     alloc: Global,
     lexemes: &[Lexeme],
@@ -289,7 +278,6 @@ fn stmt_in(
 /// The most statements in front, one at least, where so many statements and parentheses may open; and whether they
 /// may go on with NOT.
 #[cycle(stmt)]
-#[tactic(none)]
 pub fn stmts_in(
     alloc: Global,
     lexemes: &[Lexeme],
