@@ -14,7 +14,6 @@ use Rattle.cob_parse_proc.specs.Reading.{here, one_word}
 use Rattle.cob_parse_proc.proofs.Marks.{not_cues}
 use Rattle.cob_parse_proc.proofs.Words.{when_told}
 
-
 abbrev starts_mark : Option Cue → Bool
 starts_mark o = on_mark procedure (is Starts) o
 

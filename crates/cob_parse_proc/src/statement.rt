@@ -10,10 +10,12 @@ ghost use Rattle.cob_parse_verb.specs.VerbSteps.{plain_head};
 ghost use Rattle.cob_parse_proc.specs.StmtSteps.{plain_list, plain_phrase, plain_branches, plain_cases, plain_ends, may, phrase_may, tail_may, branches_may, cases_may, ends_may, verb_may, list_at, tail_at, branches_at, chosen_at, cases_at, body_at, ends_at, verb_at};
 
 use crate::token::{
-    behind, behind_not_size, behind_size, both_behind, ended, full, left_at, starts, when_begins,
+    behind, behind_not_size, behind_size, both_behind, ended, full, goes_on, left_at, starts,
+    when_begins,
 };
 use crate::verb::{
-    Branches, Cases, Ends, tail, when, with_body, with_branches, with_cases, with_ends, with_phrases,
+    Branches, Cases, Ends, tail, when, with_body, with_branches, with_cases, with_ends,
+    with_phrases,
 };
 use cob_parse_expr::{Halt, Lexeme};
 use cob_parse_verb::{Head, choices_in, head_in};
@@ -33,7 +35,7 @@ fn list_in(
 ) -> Result<(Vec<Stmt>, bool, &[Lexeme]), Halt>
     ensures gives { Gives (λ x. (plain_list x.0, signs x.2.now)) result (list_at (stmts_at room) takes_not (signs lexemes.now)) }
     ensures takes { IfOk result (λ x. x.1 ≡ may (takes_stmts (plain_list x.0))) }
-    ensures rest { IfOk result (λ x. length x.2.now ≤ length lexemes.now) }
+    ensures rest { IfOk result (λ x. length x.2.now < length lexemes.now) }
 {
     if starts(lexemes) {
         stmts_in(alloc, lexemes, room)
@@ -82,7 +84,7 @@ fn tail_in(
     let (is_ended, rest) = ended(end, rest);
     Ok((
         tail(size, not_size, is_ended),
-        !is_ended && takes_not,
+        goes_on(is_ended, takes_not),
         rest,
     ))
 }
@@ -103,28 +105,23 @@ fn branches_in(
     let opened = behind(Keyword::Else, rest);
     let (other, takes_not, rest) = phrase_in(alloc, opened, takes_not, rest, room)?;
     let (is_ended, rest) = ended(Keyword::EndIf, rest);
-    let takes_not = !is_ended && takes_not;
     Ok((
         Branches {
             yes,
             other,
             ended: is_ended,
         },
-        takes_not,
+        goes_on(is_ended, takes_not),
         rest,
     ))
 }
 
 // What is looked for, one or more, and what is done then.
 #[cycle(stmt)]
-fn when_in(
-    alloc: Global,
-    lexemes: &[Lexeme],
-    room: u32,
-) -> Result<(When, bool, &[Lexeme]), Halt>
+fn when_in(alloc: Global, lexemes: &[Lexeme], room: u32) -> Result<(When, bool, &[Lexeme]), Halt>
     ensures gives { Gives (λ x. (plain_when x.0, signs x.2.now)) result (when_with (stmts_at room) room (signs lexemes.now)) }
     ensures takes { IfOk result (λ x. x.1 ≡ may (takes_when (plain_when x.0))) }
-    ensures rest { IfOk result (λ x. length x.2.now ≤ length lexemes.now) }
+    ensures rest { IfOk result (λ x. length x.2.now < length lexemes.now) }
 {
     let (choices, takes_not, rest) = choices_in(alloc, lexemes, room)?;
     let (body, takes_not, rest) = list_in(alloc, takes_not, rest, room)?;
@@ -160,11 +157,7 @@ fn whens_in(
 
 // What stands behind the subject of EVALUATE.
 #[cycle(stmt)]
-fn cases_in(
-    alloc: Global,
-    lexemes: &[Lexeme],
-    room: u32,
-) -> Result<(Cases, bool, &[Lexeme]), Halt>
+fn cases_in(alloc: Global, lexemes: &[Lexeme], room: u32) -> Result<(Cases, bool, &[Lexeme]), Halt>
     ensures gives { Gives (λ x. (plain_cases x.0, signs x.2.now)) result (cases_at (stmts_at room) room (signs lexemes.now)) }
     ensures takes { IfOk result (λ x. x.1 ≡ cases_may (plain_cases x.0)) }
     ensures rest { IfOk result (λ x. length x.2.now ≤ length lexemes.now) }
@@ -174,14 +167,13 @@ fn cases_in(
     }
     let (whens, other, takes_not, rest) = whens_in(alloc, lexemes, room)?;
     let (is_ended, rest) = ended(Keyword::EndEvaluate, rest);
-    let takes_not = !is_ended && takes_not;
     Ok((
         Cases {
             whens,
             other,
             ended: is_ended,
         },
-        takes_not,
+        goes_on(is_ended, takes_not),
         rest,
     ))
 }
@@ -207,11 +199,7 @@ fn body_in(
 
 // What stands behind INTO of READ.
 #[cycle(stmt)]
-fn ends_in(
-    alloc: Global,
-    lexemes: &[Lexeme],
-    room: u32,
-) -> Result<(Ends, bool, &[Lexeme]), Halt>
+fn ends_in(alloc: Global, lexemes: &[Lexeme], room: u32) -> Result<(Ends, bool, &[Lexeme]), Halt>
     ensures gives { Gives (λ x. (plain_ends x.0, signs x.2.now)) result (ends_at (stmts_at room) (signs lexemes.now)) }
     ensures takes { IfOk result (λ x. x.1 ≡ ends_may (plain_ends x.0)) }
     ensures rest { IfOk result (λ x. length x.2.now ≤ length lexemes.now) }
@@ -221,14 +209,13 @@ fn ends_in(
     let opened = both_behind(Keyword::Not, Keyword::End, rest);
     let (not_end, takes_not, rest) = phrase_in(alloc, opened, true, rest, room)?;
     let (is_ended, rest) = ended(Keyword::EndRead, rest);
-    let takes_not = !is_ended && takes_not;
     Ok((
         Ends {
             end,
             not_end,
             ended: is_ended,
         },
-        takes_not,
+        goes_on(is_ended, takes_not),
         rest,
     ))
 }
@@ -261,11 +248,7 @@ fn verb_in(
 
 // The longest statement in front, where so many more statements and parentheses may open in it.
 #[cycle(stmt)]
-fn stmt_in(
-    alloc: Global,
-    lexemes: &[Lexeme],
-    room: u32,
-) -> Result<(Stmt, bool, &[Lexeme]), Halt>
+fn stmt_in(alloc: Global, lexemes: &[Lexeme], room: u32) -> Result<(Stmt, bool, &[Lexeme]), Halt>
     ensures gives { Gives (λ x. (plain_stmt x.0, signs x.2.now)) result (stmt_with (stmts_at room) room (signs lexemes.now)) }
     ensures takes { IfOk result (λ x. x.1 ≡ may (takes_stmt (plain_stmt x.0))) }
     ensures rest { IfOk result (λ x. length x.2.now < length lexemes.now) }

@@ -1,4 +1,4 @@
-ghost use Rattle.std.specs.Prelude.{◌≡◌, ◌≤◌, ◌<◌, ◌+◌, ◌∷◌, [], length, IfOk, IfSome, IfNone, is_some, false};
+ghost use Rattle.std.specs.Prelude.{◌≡◌, ◌≤◌, ◌<◌, ◌+◌, ◌∷◌, [], ◌&&◌, not, length, IfOk, IfSome, IfNone, is_some, false};
 ghost use Rattle.std.specs.Option.{option_map};
 ghost use Rattle.cob_tree.specs.declared.keyword.Keyword.TheVariants as key;
 ghost use Rattle.cob_tree.specs.Cues.{Starts, Whens};
@@ -147,6 +147,13 @@ pub fn ended(keyword: Keyword, lexemes: &[Lexeme]) -> (bool, &[Lexeme])
         Some(rest) => (true, rest),
         None => (false, lexemes),
     }
+}
+
+/// Whether NOT may go on behind what an END- word may end.
+pub fn goes_on(is_ended: bool, takes_not: bool) -> bool
+    ensures { result ≡ (not is_ended && takes_not) }
+{
+    !is_ended && takes_not
 }
 
 /// Whether a statement begins.

@@ -12,7 +12,7 @@ use Rattle.cob_parse_verb.specs.declared.head.Head.{Head}
 use Rattle.cob_parse_verb.specs.Heads.{end_word}
 use Rattle.cob_parse_verb.specs.VerbSteps.{plain_arithmetic, plain_head}
 use Rattle.cob_parse_proc.specs.Reading.{stmt_with, stmts_at}
-use Rattle.cob_parse_proc.specs.StmtSteps.{may, phrase_may, plain_list, plain_phrase, tail_at, branches_at, cases_at, body_at, ends_at, verb_at, verb_may}
+use Rattle.cob_parse_proc.specs.StmtSteps.{may, phrase_may, tail_may, plain_list, plain_phrase, tail_at, branches_at, cases_at, body_at, ends_at, verb_at, verb_may}
 use Rattle.cob_parse_proc.proofs.NotLemmas.{stmts_may, whens_may}
 use Rattle.cob_parse_proc.proofs.VerbSteps.{stmt_wrong, when_wrong}
 use Rattle.cob_parse_proc.proofs.StmtLoops.{Listed, listed_wrong, listed_first, listed_on, listed_end, listed_fail, Chosen, chosen_wrong, chosen_first, chosen_end, when_on, when_fail, other_end, other_fail}
@@ -35,23 +35,26 @@ tail_in-returns-in_err-behind_size-clause-gives t c = gives_wrong _ c.from_resid
 
 pub tail_in-returns-in_err-size-clause-gives : goal.tail_in-returns-in_err-size-clause-gives
 tail_in-returns-in_err-size-clause-gives t c = gives_wrong _ c.from_residual-in_err-size.result _ c.in_err-size.field-0.0 c.from_residual-in_err-size.ensures.1
-    (tail_first (stmts_at c.args.room) c.args.end (signs c.args.lexemes.now) c.in_err-size.field-0.0 (error_wrong (stmts_at c.args.room) _ (signs c.args.lexemes.now) (option_map (λ rest. signs rest.now) c.in_ok-behind_size.field-0.0) c.in_err-size.field-0.0 c.in_ok-behind_size.ensures.gives c.in_err-size.ensures.gives))
+    (tail_first (stmts_at c.args.room) c.args.end (signs c.args.lexemes.now) c.in_err-size.field-0.0 (error_wrong (stmts_at c.args.room) _ (signs c.args.lexemes.now) (option_map (λ rest. signs rest.now) c.in_ok-behind_size.field-0) c.in_err-size.field-0.0 c.in_ok-behind_size.ensures.gives c.in_err-size.ensures.gives))
 
 pub tail_in-returns-in_err-behind_not_size-clause-gives : goal.tail_in-returns-in_err-behind_not_size-clause-gives
 tail_in-returns-in_err-behind_not_size-clause-gives t c = gives_wrong _ c.from_residual-in_err-behind_not_size.result _ c.in_err-behind_not_size.field-0.0 c.from_residual-in_err-behind_not_size.ensures.1
-    (tail_second (stmts_at c.args.room) c.args.end (signs c.args.lexemes.now) (option_map plain_list c.in_ok-size.size, signs c.in_ok-size.rest.now) c.in_err-behind_not_size.field-0.0 (error_read (stmts_at c.args.room) _ (signs c.args.lexemes.now) (option_map (λ rest. signs rest.now) c.in_ok-behind_size.field-0.0) _ c.in_ok-behind_size.ensures.gives c.in_ok-size.ensures.gives)
-        (error_words (stmts_at c.args.room) _ (signs c.in_ok-size.rest.now) c.in_err-behind_not_size.field-0.0 c.in_err-behind_not_size.ensures.gives))
+    (tail_second (stmts_at c.args.room) c.args.end (signs c.args.lexemes.now) (option_map plain_list c.in_ok-size.size, signs c.in_ok-size.rest.now) c.in_err-behind_not_size.field-0.0 (error_read (stmts_at c.args.room) _ (signs c.args.lexemes.now) (option_map (λ rest. signs rest.now) c.in_ok-behind_size.field-0) _ c.in_ok-behind_size.ensures.gives c.in_ok-size.ensures.gives)
+    (error_words (stmts_at c.args.room) _ (signs c.in_ok-size.rest.now) c.in_err-behind_not_size.field-0.0 c.in_err-behind_not_size.ensures.gives))
 
 pub tail_in-returns-in_err-not_size-clause-gives : goal.tail_in-returns-in_err-not_size-clause-gives
 tail_in-returns-in_err-not_size-clause-gives t c = gives_wrong _ c.from_residual-in_err-not_size.result _ c.in_err-not_size.field-0.0 c.from_residual-in_err-not_size.ensures.1
-    (tail_second (stmts_at c.args.room) c.args.end (signs c.args.lexemes.now) (option_map plain_list c.in_ok-size.size, signs c.in_ok-size.rest.now) c.in_err-not_size.field-0.0 (error_read (stmts_at c.args.room) _ (signs c.args.lexemes.now) (option_map (λ rest. signs rest.now) c.in_ok-behind_size.field-0.0) _ c.in_ok-behind_size.ensures.gives c.in_ok-size.ensures.gives)
-        (error_wrong (stmts_at c.args.room) _ (signs c.in_ok-size.rest.now) (option_map (λ rest. signs rest.now) c.in_ok-behind_not_size.field-0.0) c.in_err-not_size.field-0.0 c.in_ok-behind_not_size.ensures.gives c.in_err-not_size.ensures.gives))
+    (tail_second (stmts_at c.args.room) c.args.end (signs c.args.lexemes.now) (option_map plain_list c.in_ok-size.size, signs c.in_ok-size.rest.now) c.in_err-not_size.field-0.0 (error_read (stmts_at c.args.room) _ (signs c.args.lexemes.now) (option_map (λ rest. signs rest.now) c.in_ok-behind_size.field-0) _ c.in_ok-behind_size.ensures.gives c.in_ok-size.ensures.gives)
+    (error_wrong (stmts_at c.args.room) _ (signs c.in_ok-size.rest.now) (option_map (λ rest. signs rest.now) c.in_ok-behind_not_size.field-0) c.in_err-not_size.field-0.0 c.in_ok-behind_not_size.ensures.gives c.in_err-not_size.ensures.gives))
 
 pub tail_in-returns-clause-gives : goal.tail_in-returns-clause-gives
 tail_in-returns-clause-gives t c = tail_read (stmts_at c.args.room) c.args.end (signs c.args.lexemes.now) (option_map plain_list c.in_ok-size.size, signs c.in_ok-size.rest.now) (option_map plain_list c.in_ok-not_size.not_size, signs c.in_ok-not_size.rest.now) c.ended-is_ended.result.0 (signs c.ended-is_ended.result.1.now) (plain_tail c.tail.result)
-    (error_read (stmts_at c.args.room) _ (signs c.args.lexemes.now) (option_map (λ rest. signs rest.now) c.in_ok-behind_size.field-0.0) _ c.in_ok-behind_size.ensures.gives c.in_ok-size.ensures.gives)
-    (error_read (stmts_at c.args.room) _ (signs c.in_ok-size.rest.now) (option_map (λ rest. signs rest.now) c.in_ok-behind_not_size.field-0.0) _ c.in_ok-behind_not_size.ensures.gives c.in_ok-not_size.ensures.gives)
+    (error_read (stmts_at c.args.room) _ (signs c.args.lexemes.now) (option_map (λ rest. signs rest.now) c.in_ok-behind_size.field-0) _ c.in_ok-behind_size.ensures.gives c.in_ok-size.ensures.gives)
+    (error_read (stmts_at c.args.room) _ (signs c.in_ok-size.rest.now) (option_map (λ rest. signs rest.now) c.in_ok-behind_not_size.field-0) _ c.in_ok-behind_not_size.ensures.gives c.in_ok-not_size.ensures.gives)
     c.ended-is_ended.ensures.end c.tail.ensures
+
+pub tail_in-returns-clause-takes : goal.tail_in-returns-clause-takes
+tail_in-returns-clause-takes t c = c.goes_on.ensures ∙ (ap (λ (b : Bool). not c.ended-is_ended.result.0 && b) c.in_ok-not_size.ensures.takes ∙ sym (ap tail_may c.tail.ensures))
 
 -- ---- IF
 
@@ -67,7 +70,7 @@ pub branches_in-returns-clause-gives : goal.branches_in-returns-clause-gives
 branches_in-returns-clause-gives t c = branches_read (stmts_at c.args.room) c.args.takes_not (signs c.args.lexemes.now) (plain_list c.in_ok-yes.yes, signs c.in_ok-yes.rest.now) c.in_ok-yes.ensures.gives (option_map (λ rest. signs rest.now) c.behind-opened.result) c.behind-opened.ensures.cut (option_map plain_list c.in_ok-other.other, signs c.in_ok-other.rest.now) c.ended-is_ended.result.0 (signs c.ended-is_ended.result.1.now) c.in_ok-other.ensures.gives c.ended-is_ended.ensures.end
 
 pub branches_in-returns-clause-takes : goal.branches_in-returns-clause-takes
-branches_in-returns-clause-takes t c = ap (λ (b : Bool). not c.ended-is_ended.result.0 && b) (c.in_ok-other.ensures.takes ∙ ap (phrase_may (plain_phrase c.in_ok-other.other)) c.in_ok-yes.ensures.takes)
+branches_in-returns-clause-takes t c = c.goes_on.ensures ∙ ap (λ (b : Bool). not c.ended-is_ended.result.0 && b) (c.in_ok-other.ensures.takes ∙ ap (phrase_may (plain_phrase c.in_ok-other.other)) c.in_ok-yes.ensures.takes)
 
 -- ---- an inline PERFORM
 
@@ -95,7 +98,7 @@ pub ends_in-returns-clause-gives : goal.ends_in-returns-clause-gives
 ends_in-returns-clause-gives t c = ends_read (stmts_at c.args.room) (signs c.args.lexemes.now) (option_map (λ rest. signs rest.now) c.behind-opened.result) c.behind-opened.ensures.cut (option_map plain_list c.in_ok-end.end, signs c.in_ok-end.rest.now) c.in_ok-end.ensures.gives (option_map (λ rest. signs rest.now) c.both_behind-opened.result) c.both_behind-opened.ensures.cut (option_map plain_list c.in_ok-not_end.not_end, signs c.in_ok-not_end.rest.now) c.ended-is_ended.result.0 (signs c.ended-is_ended.result.1.now) c.in_ok-not_end.ensures.gives c.ended-is_ended.ensures.end
 
 pub ends_in-returns-clause-takes : goal.ends_in-returns-clause-takes
-ends_in-returns-clause-takes t c = ap (λ (b : Bool). not c.ended-is_ended.result.0 && b) c.in_ok-not_end.ensures.takes
+ends_in-returns-clause-takes t c = c.goes_on.ensures ∙ ap (λ (b : Bool). not c.ended-is_ended.result.0 && b) c.in_ok-not_end.ensures.takes
 
 -- ---- WHEN
 
@@ -120,12 +123,12 @@ whens_in-returns-in_err-first-clause-gives t c = gives_wrong _ c.from_residual.r
     (chosen_wrong (stmts_at c.args.room) c.args.room (signs c.args.lexemes.now) c.in_err-first.field-0.0 c.in_err-first.ensures.gives)
 
 pub whens_in-whens-init : goal.whens_in-whens-init
-whens_in-whens-init t c = 
+whens_in-whens-init t c =
     let one : map plain_when c.push.new.self.items ≡ plain_when c.in_ok-first.first ∷ [] = rw (c.in_ok-push.ensures.items, c.new-whens.ensures.items) refl in
     record {
       chosen = subst (λ (ws : List When). Chosen (stmts_at c.args.room) c.args.room ws (signs c.in_ok-first.left.now) (signs c.args.lexemes.now)) (sym one) (chosen_first (stmts_at c.args.room) c.args.room (signs c.args.lexemes.now) (signs c.in_ok-first.left.now) (plain_when c.in_ok-first.first) c.in_ok-first.ensures.gives);
       takes = c.in_ok-first.ensures.takes ∙ sym (ap (λ (ws : List When). may (takes_whens (whens_of ws))) one ∙ whens_may [] (plain_when c.in_ok-first.first));
-      shorter = c.in_ok-first.ensures.rest;
+      shorter = omega (arith, c.in_ok-first.ensures.rest);
     }
 
 pub whens_in-returns-in_err-other-clause-gives : goal.whens_in-returns-in_err-other-clause-gives
@@ -140,7 +143,7 @@ whens_in-returns-in_err-when-clause-gives t c = gives_wrong _ c.from_residual-in
     (when_fail (stmts_at c.args.room) c.args.room (map plain_when c.whens.whens.items) (signs c.whens.left.now) (signs c.args.lexemes.now) c.whens.invariant.chosen (sym c.when_begins.ensures ∙ c.whens-test.true) (ap is_some (sym c.in_default.ensures.cut)) c.in_err-when.field-0.0 c.in_err-when.ensures.gives)
 
 pub whens_in-whens-preserved : goal.whens_in-whens-preserved
-whens_in-whens-preserved t c = 
+whens_in-whens-preserved t c =
     let pushed : map plain_when c.push-in-whens.new.self.items ≡ map plain_when c.whens.whens.items ++ plain_when c.in_ok-when.when ∷ [] = rw c.in_ok-push-2.ensures.items (map_push plain_when c.whens.whens.items c.in_ok-when.when) in
     record {
       chosen = subst (λ (ws : List When). Chosen (stmts_at c.args.room) c.args.room ws (signs c.in_ok-when.rest.now) (signs c.args.lexemes.now)) (sym pushed)
@@ -165,7 +168,7 @@ pub cases_in-returns-clause-gives : goal.cases_in-returns-clause-gives
 cases_in-returns-clause-gives t c = cases_read (stmts_at c.args.room) c.args.room (signs c.args.lexemes.now) ((whens_of (map plain_when c.in_ok-whens.whens.items), plain_phrase c.in_ok-whens.other), signs c.in_ok-whens.rest.now) c.ended-is_ended.result.0 (signs c.ended-is_ended.result.1.now) (sym c.when_begins.ensures ∙ c.if-not-when_begins.false) c.in_ok-whens.ensures.gives c.ended-is_ended.ensures.end
 
 pub cases_in-returns-clause-takes : goal.cases_in-returns-clause-takes
-cases_in-returns-clause-takes t c = ap (λ (b : Bool). not c.ended-is_ended.result.0 && b) c.in_ok-whens.ensures.takes
+cases_in-returns-clause-takes t c = c.goes_on.ensures ∙ ap (λ (b : Bool). not c.ended-is_ended.result.0 && b) c.in_ok-whens.ensures.takes
 
 -- ---- behind a head
 
@@ -233,7 +236,7 @@ pub stmt_in-returns-clause-gives : goal.stmt_in-returns-clause-gives
 stmt_in-returns-clause-gives t c = stmt_read (stmts_at c.args.room) c.args.room (signs c.args.lexemes.now) (signs c.in_ok-begin.rest.now) c.in_ok-begin.begin (plain_head c.in_ok-begin.head) c.in_ok-begin.takes_not c.in_ok-begin.ensures.gives c.in_ok-begin.ensures.takes (plain_verb c.in_ok-verb.verb) (signs c.in_ok-verb.rest.now) (plain_stmt c.of.result) c.in_ok-verb.ensures.gives c.of.ensures
 
 pub stmt_in-returns-clause-takes : goal.stmt_in-returns-clause-takes
-stmt_in-returns-clause-takes t c = 
+stmt_in-returns-clause-takes t c =
     c.in_ok-verb.ensures.takes
     ∙ (stmt_takes (stmts_at c.args.room) c.args.room (signs c.args.lexemes.now) (signs c.in_ok-begin.rest.now) c.in_ok-begin.begin (plain_head c.in_ok-begin.head) c.in_ok-begin.takes_not c.in_ok-begin.ensures.gives c.in_ok-begin.ensures.takes (plain_verb c.in_ok-verb.verb) (signs c.in_ok-verb.rest.now) c.in_ok-verb.ensures.gives
     ∙ sym (ap (λ (s : Stmt). may (takes_stmt s)) c.of.ensures))
@@ -248,7 +251,7 @@ stmts_in-returns-in_err-first-clause-gives t c = gives_wrong _ c.from_residual.r
     (fails_as c.in_err-first.field-0.0 _ _ (stmts_some c.args.room (signs c.args.lexemes.now) c.if-room-eq0.false) (listed_wrong (stmt_with (stmts_at (c.args.room - 1)) (c.args.room - 1)) (signs c.args.lexemes.now) c.in_err-first.field-0.0 c.in_err-first.ensures.gives))
 
 pub stmts_in-stmts-init : goal.stmts_in-stmts-init
-stmts_in-stmts-init t c = 
+stmts_in-stmts-init t c =
     let one : map plain_stmt c.push.new.self.items ≡ plain_stmt c.in_ok-first.first ∷ [] = rw (c.in_ok-push.ensures.items, c.new-stmts.ensures.items) refl in
     record {
       listed = subst (λ (ss : List Stmt). Listed (stmt_with (stmts_at (c.args.room - 1)) (c.args.room - 1)) ss (signs c.in_ok-first.left.now) (signs c.args.lexemes.now)) (sym one) (listed_first (stmt_with (stmts_at (c.args.room - 1)) (c.args.room - 1)) (signs c.args.lexemes.now) (signs c.in_ok-first.left.now) (plain_stmt c.in_ok-first.first) c.in_ok-first.ensures.gives);
@@ -261,7 +264,7 @@ stmts_in-returns-in_err-stmt-clause-gives t c = gives_wrong _ c.from_residual-in
     (fails_as c.in_err-stmt.field-0.0 _ _ (stmts_some c.args.room (signs c.args.lexemes.now) c.if-room-eq0.false) (listed_fail (stmt_with (stmts_at (c.args.room - 1)) (c.args.room - 1)) (map plain_stmt c.stmts.stmts.items) (signs c.stmts.left.now) (signs c.args.lexemes.now) c.in_err-stmt.field-0.0 c.stmts.invariant.listed (sym c.starts.ensures ∙ c.stmts-test.true) c.in_err-stmt.ensures.gives))
 
 pub stmts_in-stmts-preserved : goal.stmts_in-stmts-preserved
-stmts_in-stmts-preserved t c = 
+stmts_in-stmts-preserved t c =
     let pushed : map plain_stmt c.push-in-stmts.new.self.items ≡ map plain_stmt c.stmts.stmts.items ++ plain_stmt c.in_ok-stmt.stmt ∷ [] = rw c.in_ok-push-2.ensures.items (map_push plain_stmt c.stmts.stmts.items c.in_ok-stmt.stmt) in
     record {
       listed = subst (λ (ss : List Stmt). Listed (stmt_with (stmts_at (c.args.room - 1)) (c.args.room - 1)) ss (signs c.in_ok-stmt.rest.now) (signs c.args.lexemes.now)) (sym pushed)
