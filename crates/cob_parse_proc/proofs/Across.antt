@@ -1,5 +1,5 @@
 -- A law of what takes nothing more holds with other marks too.
-use Rattle.std.proofs.Common.{◌≡◌, ℕ, suc, ◌<◌, false, List, [], ◌∷◌, ◌++◌, length, Ok, Err, refl, sym, ap, subst, ◌∙◌}
+use Rattle.std.proofs.Common.{◌≡◌, ℕ, suc, ◌<◌, false, List, [], ◌∷◌, ◌++◌, length, Ok, Err, sym, subst, ◌∙◌}
 use Rattle.reading.specs.Readers.{Fault, Stop, Deep, Reader}
 use Rattle.reading.specs.Printing.{Alphabet, Matches, Below, Opens, Next}
 use Rattle.reading.specs.Law.{Syntax, Law, Read, Fails, At}

@@ -1,24 +1,22 @@
 -- The laws of WHEN, WHEN OTHER and of all that stands in EVALUATE.
-use Rattle.std.proofs.Common.{◌≡◌, ℕ, suc, ◌<◌, ◌≤◌, ◌⊎◌, inl, inr, ⊎_elim, not, Bool, true, false, ◌&&◌, List, [], ◌∷◌, ◌++◌, length, length-append, Option, Some, None, is_some, Result, Ok, Err, refl, sym, ap, subst, ◌∙◌, append_assoc, arith}
-use Rattle.std.proofs.lemmas.List.{append-nil}
+use Rattle.std.proofs.Common.{◌≡◌, ℕ, suc, ◌<◌, ◌≤◌, inl, inr, ⊎_elim, not, Bool, true, false, List, [], ◌∷◌, ◌++◌, length, length-append, Option, Some, None, is_some, Result, Ok, Err, refl, sym, ap, subst, ◌∙◌, arith}
 use Rattle.cob_tree.specs.declared.keyword.Keyword.{Keyword}
 use Rattle.cob_tree.specs.declared.keyword.Keyword.TheVariants as word
-use Rattle.cob_tree.specs.Symbols.{Symbol, Key, Sign}
-use Rattle.cob_tree.specs.Items.{Item, key, each}
+use Rattle.cob_tree.specs.Symbols.{Key, Sign}
+use Rattle.cob_tree.specs.Items.{Item, each}
 use Rattle.cob_tree.specs.Cues.{Cue, is}
 use Rattle.cob_tree.specs.Cues as cue
 use Rattle.cob_tree.specs.Stmt.{Sel, any, Stmts, When, MkWhen}
 use Rattle.cob_tree.specs.PrintStmt.{print_sel, print_choice, print_stmts}
-use Rattle.reading.specs.Readers.{Fault, Stop, Deep, left_of, Reader, ◌>>=◌, behind_on, behind, both_behind_on, branch, seen, choose, must, need, follow, many_from}
-use Rattle.reading.specs.Printing.{Matches, Opens, on_mark, begins, Next}
+use Rattle.reading.specs.Readers.{Fault, Stop, Deep, left_of, Reader, ◌>>=◌, behind_on, behind, both_behind_on, branch, seen, must, need}
+use Rattle.reading.specs.Printing.{Matches, Opens, begins}
 use Rattle.reading.specs.Law.{Syntax, Law, Fails}
 use Rattle.reading.proofs.Results.{bind_err, fault_before}
-use Rattle.reading.proofs.Texts.{Always, matches_split, both_true, next_none}
-use Rattle.reading.proofs.Consequences.{within}
+use Rattle.reading.proofs.Texts.{both_true, next_none}
 use Rattle.reading.proofs.Seen.{seen_law}
 use Rattle.reading.proofs.Starts.{Begins, Starts, OneToken, starts_by_one, enters}
 use Rattle.reading.proofs.Tail.{tail_syntax, tail_law}
-use Rattle.reading.proofs.Many.{is_given, many_from_syntax, many_from_law, many_from_tail}
+use Rattle.reading.proofs.Many.{is_given, many_from_syntax, many_from_tail}
 use Rattle.reading.proofs.Opt.{when, when_law}
 use Rattle.reading.proofs.Choose.{choose_syntax, Tells, choose_law}
 use Rattle.reading.proofs.Must.{must_joint, must_law}
@@ -28,7 +26,7 @@ use Rattle.cob_parse_data.proofs.ClassLaws as classes
 use Rattle.cob_parse_verb.specs.Procedure.{procedure}
 use Rattle.cob_parse_verb.specs.Turning.{choices_at}
 use Rattle.cob_parse_verb.specs.Syntaxes.{choices_syntax}
-use Rattle.cob_parse_proc.specs.Reading.{here, one_word, last, may_go, make_when, when_with, other_with, other_stands, Case, case_with, is_other, more_cases, cases_with, whens_with}
+use Rattle.cob_parse_proc.specs.Reading.{here, one_word, last, may_go, make_when, when_with, other_with, other_stands, Case, case_with, is_other, more_cases, whens_with}
 use Rattle.cob_parse_proc.specs.Bare.{when_takes}
 use Rattle.cob_parse_proc.proofs.Words.{one_key, when_told}
 use Rattle.cob_parse_proc.proofs.Marks.{only, not_taken}

@@ -1,6 +1,6 @@
 -- A statement's head, what stands inside it before its phrases, the phrases, and the word that ends it, each behind what
 -- was read before. d counts the statement itself.
-use Rattle.std.proofs.Common.{◌≡◌, ℕ, suc, ◌<◌, Bool, true, false, List, [], ◌∷◌, ◌++◌, Option, Some, None, is_some, refl, sym, ap, ◌∙◌, append_assoc}
+use Rattle.std.proofs.Common.{◌≡◌, ℕ, ◌<◌, Bool, true, false, List, [], ◌∷◌, ◌++◌, Option, Some, None, is_some, refl, sym, ap, ◌∙◌, append_assoc}
 use Rattle.cob_tree.specs.declared.keyword.Keyword.{Keyword}
 use Rattle.cob_tree.specs.declared.keyword.Keyword.TheVariants as word
 use Rattle.cob_tree.specs.Symbols.{Symbol, Key, Sign}
@@ -9,10 +9,10 @@ use Rattle.cob_tree.specs.Cues.{Cue, is, Size, NotSize, AtEnd, NotAtEnd, Else, E
 use Rattle.cob_tree.specs.Cues as cue
 use Rattle.cob_tree.specs.declared.stmt.Subject.{Subject}
 use Rattle.cob_tree.specs.Cond.{Cond}
-use Rattle.cob_tree.specs.Stmt.{Loop, Stmt, MkStmt, continue, Stmts, no_stmts, more_stmts, When, MkWhen}
+use Rattle.cob_tree.specs.Stmt.{Loop, MkStmt, continue, Stmts, no_stmts, more_stmts, When, MkWhen}
 use Rattle.cob_tree.specs.PrintStmt.{print_stmts}
 use Rattle.cob_tree.specs.Shaped.{ShapedStmts}
-use Rattle.reading.specs.Readers.{Reader, nothing, lead, seen, behind, optional, stands}
+use Rattle.reading.specs.Readers.{Reader, lead, seen, behind, optional, stands}
 use Rattle.reading.specs.Printing.{Matches, Below, peek_on, on_mark, Next}
 use Rattle.reading.specs.Law.{Syntax, Law}
 use Rattle.reading.proofs.Texts.{Always, below_right}
@@ -33,7 +33,7 @@ use Rattle.cob_parse_verb.specs.Heads.{Arithmetic, Head, done, arithmetic, if_he
 use Rattle.cob_parse_verb.specs.Reading.{head_at}
 use Rattle.cob_parse_verb.specs.Turning.{choices_at}
 use Rattle.cob_parse_verb.specs.Syntaxes.{head_syntax, choices_syntax}
-use Rattle.cob_parse_proc.specs.Reading.{here, one_word, nots, may_go, Case, is_other, more_cases, whens_with, Inside, no_inside, list_inside, whens_inside, make_whens, inside_with, inside_takes, error_with, first_with, second_with, ended_with, given_word, end_with, Begun, begun_with, one_phrase, two_phrases, Parts, parts_with}
+use Rattle.cob_parse_proc.specs.Reading.{here, one_word, nots, may_go, Case, is_other, more_cases, whens_with, Inside, no_inside, list_inside, whens_inside, make_whens, inside_with, error_with, first_with, second_with, ended_with, given_word, end_with, Begun, begun_with, one_phrase, two_phrases, Parts, parts_with}
 use Rattle.cob_parse_proc.specs.Bare.{list_takes, when_takes}
 use Rattle.cob_parse_proc.proofs.Mixed.{Style, nothing as no_style, phrase, needed, mixed_syntax, Part, mixed_law, mixed_grows}
 use Rattle.cob_parse_proc.proofs.Words.{one_key, size_opening, not_size_opening, end_opening, not_end_opening, else_opening, ends_opening, end_if_opening, end_evaluate_opening, end_read_opening}

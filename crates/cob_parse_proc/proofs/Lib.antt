@@ -20,3 +20,10 @@ pub mod ProgramDeep
 pub mod OneAnswer
 pub mod Plain
 pub mod LinesLaw
+pub mod StmtAhead
+pub mod NotLemmas
+pub mod VerbSteps
+pub mod StmtLoops
+pub mod StmtAnswers
+pub mod SentenceSteps
+pub mod ParseLemmas

@@ -1,12 +1,10 @@
 -- What heads and choices never take: what begins another statement, opens a phrase or ends a statement.
-use Rattle.std.proofs.Common.{◌≡◌, ℕ, ◌||◌, ◌&&◌, not, Bool, true, false, List, [], ◌∷◌, Option, Some, None, refl, sym, ◌∙◌}
-use Rattle.cob_tree.specs.declared.operand.Opnd.{Opnd}
+use Rattle.std.proofs.Common.{◌≡◌, ◌||◌, ◌&&◌, not, Bool, true, false, List, [], ◌∷◌, Some, None, refl, sym, ◌∙◌}
 use Rattle.cob_tree.specs.declared.operand.Recv.{Recv}
-use Rattle.cob_tree.specs.declared.operand.Ref.{Ref}
 use Rattle.cob_tree.specs.declared.stmt.Subject.TheVariants as subject
 use Rattle.cob_tree.specs.Cues.{Cue, is, Starts, Qualifies, Rounds, Names, Signs, Scales, Ands, Ors, Throughs, Givings, Remainders, Intos, Froms, Modes, Size, NotSize, AtEnd, NotAtEnd, Else, EndAdd, EndSubtract, EndMultiply, EndDivide, EndCompute, EndIf, EndEvaluate, EndRead, EndWrite}
 use Rattle.cob_tree.specs.Cues as cue
-use Rattle.cob_tree.specs.Stmt.{Sel, Verb, move, set, display, perform_range, go, exit, continue, stop_run, open_, close, write}
+use Rattle.cob_tree.specs.Stmt.{Sel, move, set, display, perform_range, go, exit, continue, stop_run, open_, close, write}
 use Rattle.cob_tree.specs.Takes.{takes_recvs, takes_giving, takes_opnd, takes_test, takes_sel, begins_opnd, begins_loop}
 use Rattle.reading.proofs.Texts.{or_false}
 use Rattle.cob_parse_expr.proofs.ExprLaws.{expr_never}

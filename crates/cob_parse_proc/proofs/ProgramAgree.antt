@@ -1,15 +1,10 @@
 -- Programs read with less and with more room, and where there is too little.
-use Rattle.std.proofs.Common.{◌≡◌, ℕ, suc, ◌+◌, ◌≤◌, ◌<◌, Bool, false, List, [], ◌∷◌, ◌++◌, length, Option, is_some, Ok, Err, refl, sym, ap, subst, ◌∙◌, arith}
-use Rattle.cob_tree.specs.declared.keyword.Keyword.TheVariants as word
-use Rattle.cob_tree.specs.declared.front.Front.{Front}
-use Rattle.cob_tree.specs.Symbols.{Symbol, Key, Name, Stop, Sign}
-use Rattle.cob_tree.specs.Items.{Item, stop}
-use Rattle.cob_tree.specs.Stmt.{Stmts, Paragraph, Tree}
-use Rattle.reading.specs.Readers.{Fault, Deep, Reader, branch, seen, seq, many, closed}
-use Rattle.reading.specs.Printing.{begins, Matches, Below, Next}
-use Rattle.reading.specs.Law.{Syntax, Law, OpensAt, Deepens, Agrees}
-use Rattle.reading.proofs.Texts.{Always, next_none}
-use Rattle.reading.proofs.Lead.{lead_syntax}
+use Rattle.std.proofs.Common.{ℕ, ◌≤◌, Bool}
+use Rattle.cob_tree.specs.Symbols.{Sign}
+use Rattle.cob_tree.specs.Stmt.{Stmts}
+use Rattle.reading.specs.Readers.{branch, seq, closed}
+use Rattle.reading.specs.Printing.{begins}
+use Rattle.reading.specs.Law.{Agrees}
 use Rattle.reading.proofs.Wider.{agree_same, agree_seen, agree_seq, agree_branch, agree_many, agree_closed}
 use Rattle.cob_parse_expr.specs.Classes.{name_symbol}
 use Rattle.cob_parse_data.specs.Tokens.{divisions, of, is, the, on_its_line, stop_symbol}

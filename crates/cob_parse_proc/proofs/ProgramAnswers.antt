@@ -1,5 +1,5 @@
 -- What reading all tokens of a program answers.
-use Rattle.std.proofs.Common.{◌≡◌, ℕ, suc, ◌+◌, ◌≤◌, ◌⊎◌, inl, inr, ⊎_elim, List, [], ◌∷◌, ◌++◌, length, length-append, Option, Some, None, Result, Ok, Err, refl, sym, ap, subst, ◌∙◌, append_assoc, map, arith}
+use Rattle.std.proofs.Common.{◌≡◌, ℕ, suc, ◌+◌, ◌≤◌, ⊎_elim, List, [], ◌∷◌, ◌++◌, length, length-append, Option, Some, None, Ok, Err, refl, sym, ap, subst, ◌∙◌, append_assoc, map, arith}
 use Rattle.std.specs.List.{AllByRecursion}
 use Rattle.cob_tree.specs.declared.keyword.Keyword.{Keyword}
 use Rattle.cob_tree.specs.declared.token.Tok.{Tok}
@@ -12,8 +12,8 @@ use Rattle.cob_tree.specs.Stmt.{Tree}
 use Rattle.cob_tree.specs.PrintStmt.{print_tree}
 use Rattle.cob_tree.specs.Shaped.{IsReadable}
 use Rattle.cob_tree.proofs.KeywordLemmas.{keyword_of-text}
-use Rattle.reading.specs.Readers.{Fault, Stop, Deep, Reader, ended, whole}
-use Rattle.reading.specs.Printing.{Matches, Below, Opens}
+use Rattle.reading.specs.Readers.{Stop, Deep, Reader, ended, whole}
+use Rattle.reading.specs.Printing.{Matches, Opens}
 use Rattle.reading.specs.Law.{Law, Fails, Agree}
 use Rattle.reading.proofs.Results.{ok_fails, fault_is}
 use Rattle.reading.proofs.Texts.{matches_join}

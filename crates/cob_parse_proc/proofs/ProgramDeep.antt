@@ -1,49 +1,42 @@
 -- Where there is too little room for a program: each whose text goes on with the token opens one too many there.
-use Rattle.std.proofs.Common.{◌≡◌, ℕ, zero, suc, ◌+◌, ◌≤◌, ◌<◌, ◌⊎◌, ⊎_elim, Bool, true, false, List, [], ◌∷◌, ◌++◌, length, length-append, Option, Some, None, is_some, Result, Ok, Err, refl, sym, ap, subst, ◌∙◌, append_assoc, arith}
+use Rattle.std.proofs.Common.{◌≡◌, ℕ, suc, ◌+◌, ◌≤◌, ◌<◌, ⊎_elim, Bool, true, false, List, [], ◌∷◌, ◌++◌, length, length-append, Option, Some, None, Err, refl, sym, ap, subst, ◌∙◌, append_assoc, arith}
 use Rattle.std.specs.List.{AllByRecursion}
 use Rattle.std.proofs.lemmas.List.{append-nil}
 use Rattle.std.proofs.lemmas.Bool.{cases_lt}
-use Rattle.cob_tree.specs.declared.keyword.Keyword.{Keyword}
 use Rattle.cob_tree.specs.declared.keyword.Keyword.TheVariants as word
 use Rattle.cob_tree.specs.Symbols.{Symbol, Key, Name, Sign}
 use Rattle.cob_tree.specs.Symbols as symbol
-use Rattle.cob_tree.specs.Items.{Item, stop, each}
+use Rattle.cob_tree.specs.Items.{Item, each}
 use Rattle.cob_tree.specs.declared.front.Front.{Front}
 use Rattle.cob_tree.specs.declared.tree.EndProgram.{EndProgram}
-use Rattle.cob_tree.specs.Stmt.{Stmts, Tree}
+use Rattle.cob_tree.specs.Stmt.{Tree}
 use Rattle.cob_tree.specs.PrintFront as print
 use Rattle.cob_tree.specs.PrintFront.{print_front}
 use Rattle.cob_tree.specs.PrintStmt.{print_tree}
-use Rattle.reading.specs.Readers.{Fault, Stop, Deep, left_of, Reader, ◌>>=◌, ended, whole, lead, branch, seen, seq, many, optional, here_if, closed}
-use Rattle.reading.specs.Printing.{Alphabet, Matches, Below, Opens, begins, Next}
+use Rattle.reading.specs.Readers.{Stop, Deep, Reader, ended, whole, seq, many}
+use Rattle.reading.specs.Printing.{Alphabet, Matches, Below, Opens, begins}
 use Rattle.reading.specs.Law.{Syntax, Law, OpensAt, Deepens}
-use Rattle.reading.proofs.Results.{bind_err, ok_fails, fault_is, cut_at}
-use Rattle.reading.proofs.Texts.{Always, takes_nothing, next_none, next_same, matches_join, matches_length, below_join, below_right}
+use Rattle.reading.proofs.Results.{bind_err, fault_is, cut_at}
+use Rattle.reading.proofs.Texts.{takes_nothing, next_none, next_same, matches_join, matches_length, below_join, below_right}
 use Rattle.reading.proofs.Opens.{below_wider, not_later}
 use Rattle.reading.proofs.Exact.{enough}
 use Rattle.reading.proofs.Whole.{whole_deep}
-use Rattle.reading.proofs.Lead.{lead_syntax}
 use Rattle.reading.proofs.Starts.{Starts}
 use Rattle.reading.proofs.Tail.{apart, onward, Tail}
 use Rattle.reading.proofs.Many.{is_given, many_syntax}
-use Rattle.reading.proofs.Deeper.{deepens_never, deepens_lead, deepens_seen, deepens_seq, deepens_tail, deepens_branch, deepens_closed, deepens_many}
+use Rattle.reading.proofs.Deeper.{deepens_never, deepens_seen, deepens_seq, deepens_tail, deepens_branch, deepens_closed, deepens_many}
 use Rattle.cob_parse_expr.specs.Classes.{name_symbol}
-use Rattle.cob_parse_data.specs.Tokens.{divisions, of, is, the, on_its_line, stop_symbol}
-use Rattle.cob_parse_data.specs.Tokens as tokens
-use Rattle.cob_parse_data.specs.Reading.{front_at, heading, named}
+use Rattle.cob_parse_data.specs.Tokens.{divisions, is}
 use Rattle.cob_parse_data.proofs.Parts.{pair_syntax, list_syntax}
 use Rattle.cob_parse_data.proofs.ClassLaws.{one_token, free_of, one_syntax, line_syntax, starts_with, stops, names, lines}
 use Rattle.cob_parse_data.proofs.ClassLaws as classes
 use Rattle.cob_parse_data.proofs.Outcomes.{shallow}
-use Rattle.cob_parse_verb.specs.Procedure.{procedure}
-use Rattle.cob_parse_proc.specs.Bare.{list_takes}
-use Rattle.cob_parse_proc.specs.Reading.{may_go, stmts_at}
-use Rattle.cob_parse_proc.specs.Program.{limit, starts, sentence_at, sentences_at, behind_name, paragraph_at, paragraphs_at, end_at, ending_at, before_at, body_at, tree_at}
-use Rattle.cob_parse_proc.specs.Parsing.{ShapedTree, top, GoesOn, Stops, IsDeep}
+use Rattle.cob_parse_proc.specs.Program.{limit, starts, sentence_at, sentences_at, behind_name, paragraph_at, paragraphs_at, body_at, tree_at}
+use Rattle.cob_parse_proc.specs.Parsing.{top, GoesOn, Stops, IsDeep}
 use Rattle.cob_parse_proc.proofs.Across.{Alike, matches_back, low_to, low_back, other_marks}
 use Rattle.cob_parse_proc.proofs.StmtLaws.{law_of_statements}
 use Rattle.cob_parse_proc.proofs.StmtDeep.{statements_deepen}
-use Rattle.cob_parse_proc.proofs.ProgramLaws.{sentence_syntax, alike, points, sentence_pair, sentence_view, sentence_end, closed_sentence, sentence_law, sentence_begins, sentences_syntax, sentences_take, sentences_law, paragraph_syntax, behind_syntax, low, behind_view, behind_law, paragraph_view, paragraph_law, paragraph_begins, name_free, paragraphs_syntax, parts_syntax, paragraphs_tail, parts_law, parts_take, ending_syntax, ending_tail, body_syntax, body_law, procedure_words, before_syntax, before_law, tree_syntax, tree_view}
+use Rattle.cob_parse_proc.proofs.ProgramLaws.{sentence_syntax, alike, points, sentence_view, sentence_end, sentence_law, sentence_begins, sentences_syntax, sentences_take, sentences_law, paragraph_syntax, behind_syntax, low, behind_view, behind_law, paragraph_view, paragraph_law, paragraph_begins, name_free, paragraphs_syntax, parts_syntax, paragraphs_tail, parts_law, parts_take, ending_syntax, ending_tail, body_syntax, body_law, procedure_words, before_syntax, before_law, tree_syntax, tree_view}
 use Rattle.cob_parse_proc.proofs.ProgramAnswers.{wides, wide_law, wide_agrees, law, spell, spelled}
 use Rattle.cob_parse_proc.proofs.ProgramOnce.{no_later}
 use Rattle.cob_parse_proc.proofs.Given.{known}

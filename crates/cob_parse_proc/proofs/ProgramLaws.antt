@@ -1,45 +1,42 @@
 -- The laws of sentences, paragraphs and whole programs.
 use Rattle.std.proofs.Common.{◌≡◌, ℕ, suc, ◌<◌, Bool, true, false, List, [], ◌∷◌, ◌++◌, Option, Some, None, is_some, refl, sym, ap, ◌∙◌, append_assoc, arith}
-use Rattle.std.specs.List.{AllByRecursion}
 use Rattle.cob_tree.specs.declared.keyword.Keyword.{Keyword}
 use Rattle.cob_tree.specs.declared.keyword.Keyword.TheVariants as word
 use Rattle.cob_tree.specs.declared.front.Front.{Front}
 use Rattle.cob_tree.specs.declared.tree.EndProgram.{EndProgram}
 use Rattle.cob_tree.specs.Symbols.{Symbol, Key, Name, Number, Text, Mark, Relation, Pic, Stop, Sign}
-use Rattle.cob_tree.specs.Items.{Item, item_on, stop, each}
+use Rattle.cob_tree.specs.Items.{Item, stop, each}
 use Rattle.cob_tree.specs.Cues.{Cue}
 use Rattle.cob_tree.specs.Stmt.{MkStmt, Verb, move, Stmts, no_stmts, more_stmts, Paragraph, Tree}
 use Rattle.cob_tree.specs.PrintFront as print
 use Rattle.cob_tree.specs.PrintFront.{print_if, print_front, print_name_and_stop}
-use Rattle.cob_tree.specs.PrintStmt.{first_word, print_stmts, print_sentence, print_paragraph, print_end, print_tree}
-use Rattle.cob_tree.specs.Shaped.{ShapedFront, ShapedStmts, ShapedParagraph}
-use Rattle.reading.specs.Readers.{Reader, branch, seen, seq, many, optional, here_if, closed, stands}
-use Rattle.reading.specs.Printing.{Matches, Below, peek_on, on_mark, begins, Next}
+use Rattle.cob_tree.specs.PrintStmt.{first_word, print_sentence, print_paragraph, print_end, print_tree}
+use Rattle.cob_tree.specs.Shaped.{ShapedStmts, ShapedParagraph}
+use Rattle.reading.specs.Readers.{seq, closed, stands}
+use Rattle.reading.specs.Printing.{peek_on, on_mark, Next}
 use Rattle.reading.specs.Law.{Syntax, Law}
 use Rattle.reading.proofs.Texts.{Always, takes_nothing}
 use Rattle.reading.proofs.Dependent.{dependent_syntax, seq_syntax, seq_law}
 use Rattle.reading.proofs.Lead.{Class, lead_syntax, branch_law}
 use Rattle.reading.proofs.Seen.{View, seen_law}
-use Rattle.reading.proofs.Starts.{Begins, Starts}
-use Rattle.reading.proofs.Tail.{onward, Tail}
+use Rattle.reading.proofs.Starts.{Begins}
+use Rattle.reading.proofs.Tail.{Tail}
 use Rattle.reading.proofs.Many.{is_given}
 use Rattle.reading.proofs.Optional.{optional_syntax}
 use Rattle.reading.proofs.Must.{Ends, ends_by, closed_law}
 use Rattle.cob_parse_expr.specs.Classes.{name_symbol}
-use Rattle.cob_parse_data.specs.Tokens.{divisions, of, is, the, on_its_line, stop_symbol}
-use Rattle.cob_parse_data.specs.Tokens as tokens
-use Rattle.cob_parse_data.specs.Reading.{back, front, heading, named, front_at}
+use Rattle.cob_parse_data.specs.Tokens.{divisions, of, is, the, stop_symbol}
+use Rattle.cob_parse_data.specs.Reading.{back, front, named}
 use Rattle.cob_parse_data.proofs.Parts.{then_law, pair_syntax, pair_law, list_syntax, list_law, list_tail, optional_part, onward_false}
 use Rattle.cob_parse_data.proofs.ClassLaws.{one_token, begins_with, starts_with, one_syntax, one_law, line_syntax, one_word, free_of, is_the, stops, names, lines}
 use Rattle.cob_parse_data.proofs.ClassLaws as classes
 use Rattle.cob_parse_data.proofs.WordLaws.{beside, heading_syntax, heading_law, named_syntax, named_law}
 use Rattle.cob_parse_data.proofs.FrontLaw.{front_syntax, front_law, front_free}
 use Rattle.cob_parse_verb.specs.Procedure.{procedure, token_front}
-use Rattle.cob_parse_verb.specs.Words.{start_key}
 use Rattle.cob_parse_proc.specs.Bare.{list_takes}
 use Rattle.cob_parse_proc.specs.Reading.{nots, may_go, stmts_at}
 use Rattle.cob_parse_proc.specs.Parsing.{ShapedTree}
-use Rattle.cob_parse_proc.specs.Program.{limit, starts, sentence_at, sentences_at, make_paragraph, behind_name, paragraph_at, paragraphs_at, make_end, end_at, ending_at, before_at, Body, body_at, make_tree, tree_at}
+use Rattle.cob_parse_proc.specs.Program.{starts, sentence_at, sentences_at, make_paragraph, behind_name, paragraph_at, paragraphs_at, make_end, end_at, ending_at, before_at, Body, body_at, make_tree, tree_at}
 use Rattle.cob_parse_proc.proofs.Across.{Alike, other_marks, law_across}
 use Rattle.cob_parse_proc.proofs.Marks.{not_seconds}
 use Rattle.cob_parse_proc.proofs.Syntaxes.{stmts_syntax, Known}

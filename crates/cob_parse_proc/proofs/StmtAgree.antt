@@ -1,12 +1,12 @@
 -- Statements read with less and with more room.
-use Rattle.std.proofs.Common.{◌≡◌, ℕ, zero, suc, ◌+◌, ◌≤◌, ◌⊎◌, inl, inr, Bool, true, false, List, [], ◌∷◌, length, Option, Some, None, is_some, Err, refl, sym, ap, ◌∙◌, arith}
+use Rattle.std.proofs.Common.{◌≡◌, ℕ, zero, suc, ◌≤◌, inr, false, List, [], ◌∷◌, length, Option, Some, None, is_some, Err, refl, sym, ap, ◌∙◌, arith}
 use Rattle.cob_tree.specs.declared.keyword.Keyword.{Keyword}
 use Rattle.cob_tree.specs.declared.keyword.Keyword.TheVariants as word
 use Rattle.cob_tree.specs.Symbols.{Symbol, Key, Name, Number, Text, Mark, Relation, Pic, Stop, Sign}
 use Rattle.cob_tree.specs.Cues.{is, key_cue}
 use Rattle.cob_tree.specs.Cues as cue
 use Rattle.cob_tree.specs.Takes.{takes_sel}
-use Rattle.cob_tree.specs.Stmt.{Stmt, Stmts, When}
+use Rattle.cob_tree.specs.Stmt.{Stmts}
 use Rattle.reading.specs.Readers.{Reader, branch, seen, follow, behind, both_behind, optional, must, plus, full}
 use Rattle.reading.specs.Readers as reader
 use Rattle.reading.specs.Printing.{begins, on_mark, peek_on}
@@ -14,14 +14,13 @@ use Rattle.reading.specs.Law.{Agrees}
 use Rattle.reading.proofs.Wider.{agree_same, agree_seen, agree_follow, agree_branch, agree_choose, agree_optional, agree_need, agree_full, agree_many_from, agree_plus, agree_must}
 use Rattle.cob_parse_expr.specs.Classes.{word_symbol}
 use Rattle.cob_parse_verb.specs.declared.word.Start.{Start}
-use Rattle.cob_parse_verb.specs.declared.word.Begin.{Begin}
 use Rattle.cob_parse_verb.specs.Words.{start_key, begin_on, begin_of}
 use Rattle.cob_parse_verb.specs.Procedure.{procedure, word_front, token_front}
 use Rattle.cob_parse_verb.specs.Heads.{Head, done, arithmetic, if_head, evaluate_head, perform_head, read_head, takes_behind}
 use Rattle.cob_parse_verb.specs.Listed.{takes_listed}
 use Rattle.cob_parse_verb.specs.Reading.{head_at}
 use Rattle.cob_parse_verb.specs.Turning.{choices_at}
-use Rattle.cob_parse_proc.specs.Reading.{here, one_word, may_go, last, make_when, when_with, other_with, other_stands, Case, case_with, is_other, more_cases, cases_with, whens_with, list_inside, make_whens, inside_with, error_with, first_with, second_with, end_with, Begun, begun_with, one_phrase, two_phrases, parts_with, make_stmt, stmt_with, make_stmts, stmts_at}
+use Rattle.cob_parse_proc.specs.Reading.{here, one_word, may_go, last, make_when, when_with, other_with, other_stands, case_with, is_other, more_cases, cases_with, whens_with, list_inside, make_whens, inside_with, error_with, first_with, second_with, end_with, begun_with, one_phrase, two_phrases, parts_with, make_stmt, stmt_with, make_stmts, stmts_at}
 use Rattle.cob_parse_proc.proofs.Marks.{not_cues}
 
 pub record Rooms : Type 0 where

@@ -1,14 +1,14 @@
 -- Where there is too little room for statements: each whose text goes on with the token opens one too many there.
-use Rattle.std.proofs.Common.{◌≡◌, ℕ, zero, suc, ◌+◌, ◌<◌, ◌≤◌, Bool, true, false, List, [], ◌∷◌, ◌++◌, Option, None, is_some, Ok, Err, refl, sym, ap, ◌∙◌, arith}
+use Rattle.std.proofs.Common.{◌≡◌, ℕ, zero, suc, ◌+◌, ◌<◌, ◌≤◌, false, List, [], ◌∷◌, Option, None, is_some, Ok, refl, sym, ap, ◌∙◌, arith}
 use Rattle.cob_tree.specs.declared.keyword.Keyword.{Keyword}
 use Rattle.cob_tree.specs.declared.keyword.Keyword.TheVariants as word
 use Rattle.cob_tree.specs.Symbols.{Sign}
 use Rattle.cob_tree.specs.Items.{Item, key}
 use Rattle.cob_tree.specs.Cues.{Cue, is, Size, NotSize, AtEnd, NotAtEnd, Else, EndIf, EndEvaluate, EndRead}
 use Rattle.cob_tree.specs.Cues as cue
-use Rattle.cob_tree.specs.Stmt.{Stmt, Stmts, When}
-use Rattle.reading.specs.Readers.{Fault, Deep, Reader, nothing, lead, branch, seen, behind, optional, plus, stands}
-use Rattle.reading.specs.Printing.{Below, begins}
+use Rattle.cob_tree.specs.Stmt.{Stmts}
+use Rattle.reading.specs.Readers.{Deep, Reader, branch, seen, behind, optional, plus, stands}
+use Rattle.reading.specs.Printing.{Below}
 use Rattle.reading.specs.Law.{Syntax, Law, Deepens}
 use Rattle.reading.proofs.Results.{ok_fails}
 use Rattle.reading.proofs.Texts.{Always}
@@ -26,14 +26,14 @@ use Rattle.cob_parse_verb.specs.Turning.{choices_at}
 use Rattle.cob_parse_verb.proofs.HeadLaws.{law_of_heads}
 use Rattle.cob_parse_verb.proofs.SelLaws.{law_of_choices}
 use Rattle.cob_parse_verb.proofs.HeadLevels.{heads_deepen, choices_deepen}
-use Rattle.cob_parse_proc.specs.Reading.{here, one_word, may_go, last, when_with, other_with, Case, case_with, is_other, more_cases, cases_with, whens_with, Inside, no_inside, list_inside, whens_inside, inside_with, inside_takes, error_with, first_with, second_with, ended_with, given_word, end_with, begun_with, one_phrase, two_phrases, parts_with, stmt_with, make_stmts, stmts_at}
+use Rattle.cob_parse_proc.specs.Reading.{here, one_word, may_go, last, when_with, other_with, case_with, is_other, more_cases, whens_with, Inside, no_inside, inside_with, inside_takes, error_with, first_with, second_with, ended_with, end_with, begun_with, one_phrase, two_phrases, parts_with, stmt_with, make_stmts, stmts_at}
 use Rattle.cob_parse_proc.specs.Bare.{when_takes}
 use Rattle.cob_parse_proc.proofs.Mixed.{mixed_joint}
 use Rattle.cob_parse_proc.proofs.Words.{one_key, size_opening, not_size_opening, end_opening, not_end_opening, else_opening, ends_opening, end_if_opening, end_evaluate_opening, end_read_opening}
 use Rattle.cob_parse_proc.proofs.Syntaxes.{stmts_syntax, stmt_syntax, when_syntax, led_syntax, stmts_begin, Known}
 use Rattle.cob_parse_proc.proofs.WhenLaws.{start_told, when_view, choices_end, led_view, led_law}
-use Rattle.cob_parse_proc.proofs.CaseLaws.{other_syntax, case_syntax, open_cases, cases_syntax, whens_syntax, cases_starts, whens_only, when_with_law, case_tells, cases_alike, cases_laws}
-use Rattle.cob_parse_proc.proofs.Levels.{inside_syntax, inside_style, never_given, begun_syntax, none_syntax, error_words, first_syntax, first_style, one_syntax, second_syntax, second_style, two_syntax, closed_syntax, closed_view, ended_syntax, end_syntax, end_style, parts_syntax, if_view, perform_view, evaluate_view, inside_part, begun_law, error_law, first_part, one_law, second_part, two_law, end_part, parts_law}
+use Rattle.cob_parse_proc.proofs.CaseLaws.{other_syntax, case_syntax, whens_syntax, cases_starts, whens_only, when_with_law, case_tells, cases_alike, cases_laws}
+use Rattle.cob_parse_proc.proofs.Levels.{inside_syntax, inside_style, never_given, begun_syntax, none_syntax, error_words, first_syntax, first_style, one_syntax, second_syntax, second_style, two_syntax, closed_view, ended_syntax, end_syntax, end_style, parts_syntax, if_view, perform_view, evaluate_view, inside_part, begun_law, error_law, first_part, one_law, second_part, two_law, end_part}
 use Rattle.cob_parse_proc.proofs.StmtView.{stmt_view}
 use Rattle.cob_parse_proc.proofs.StmtLaws.{no_room, stmts_view, starts_one, alike, stmt_law, law_of_statements, statements_grow}
 

@@ -1,5 +1,5 @@
 -- The law of statements, for each room.
-use Rattle.std.proofs.Common.{◌≡◌, ℕ, zero, suc, ◌+◌, ◌<◌, ◌||◌, ◌==◌, if◌then◌else◌, Bool, true, false, List, [], ◌∷◌, ◌++◌, Option, Some, None, refl, sym, ap, ◌∙◌, arith}
+use Rattle.std.proofs.Common.{◌≡◌, ℕ, zero, suc, ◌+◌, ◌<◌, ◌||◌, ◌==◌, if◌then◌else◌, Bool, true, false, List, [], ◌∷◌, ◌++◌, Some, None, refl, sym, ap, ◌∙◌, arith}
 use Rattle.cob_tree.specs.declared.keyword.Keyword.{Keyword}
 use Rattle.cob_tree.specs.declared.keyword.Keyword.TheVariants as word
 use Rattle.cob_tree.specs.declared.operand.Const.TheVariants as const
@@ -20,12 +20,12 @@ use Rattle.cob_tree.specs.Stmt.{any, Stmt, MkStmt, Verb, move, set, display, add
 use Rattle.cob_tree.specs.PrintStmt.{first_word, print_stmts, print_stmt, print_verb}
 use Rattle.cob_tree.specs.Takes.{takes_stmt}
 use Rattle.cob_tree.specs.Shaped.{ShapedStmts, ShapedStmt, ShapedVerb}
-use Rattle.reading.specs.Readers.{Reader, seen, plus, full}
-use Rattle.reading.specs.Printing.{Below, peek_on, on_mark}
+use Rattle.reading.specs.Readers.{Reader, seen, plus}
+use Rattle.reading.specs.Printing.{peek_on, on_mark}
 use Rattle.reading.specs.Law.{Syntax, Law}
 use Rattle.reading.proofs.Seen.{View, seen_law}
 use Rattle.reading.proofs.Starts.{Starts, starts_by_one}
-use Rattle.reading.proofs.Tail.{apart, onward}
+use Rattle.reading.proofs.Tail.{onward}
 use Rattle.reading.proofs.Many.{is_given, many_syntax}
 use Rattle.reading.proofs.Plus.{plus_syntax, plus_law}
 use Rattle.reading.proofs.Grows.{Grows, grows_seen, grows_plus, samples_one}
@@ -34,7 +34,7 @@ use Rattle.cob_parse_verb.specs.Procedure.{procedure, word_front, token_front}
 use Rattle.cob_parse_verb.proofs.HeadLaws.{law_of_heads}
 use Rattle.cob_parse_verb.proofs.SelLaws.{law_of_choices}
 use Rattle.cob_parse_proc.specs.Reading.{here, stmt_with, make_stmts, stmts_at}
-use Rattle.cob_parse_proc.specs.Bare.{bare_stmt, or_of, list_takes, stmt_takes}
+use Rattle.cob_parse_proc.specs.Bare.{bare_stmt, list_takes, stmt_takes}
 use Rattle.cob_parse_proc.proofs.Marks.{only, not_taken, not_cues}
 use Rattle.cob_parse_proc.proofs.Syntaxes.{stmts_syntax, stmt_syntax, stmt_begins, Known}
 use Rattle.cob_parse_proc.proofs.Levels.{some_list, parts_law, parts_grow}

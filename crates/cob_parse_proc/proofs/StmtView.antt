@@ -1,5 +1,5 @@
 -- A statement seen as its parts, and its parts as a statement.
-use Rattle.std.proofs.Common.{◌≡◌, ℕ, suc, ◌||◌, ◌&&◌, not, Bool, true, false, List, [], ◌∷◌, ◌++◌, ◌⊎◌, inl, inr, Option, Some, None, is_some, refl, sym, ap, subst, ◌∙◌, append_assoc}
+use Rattle.std.proofs.Common.{◌≡◌, ℕ, suc, ◌||◌, ◌&&◌, not, Bool, true, false, List, [], ◌∷◌, ◌++◌, inl, inr, Option, Some, None, is_some, refl, sym, ap, subst, ◌∙◌, append_assoc}
 use Rattle.std.proofs.lemmas.List.{append-nil}
 use Rattle.cob_tree.specs.declared.keyword.Keyword.{Keyword}
 use Rattle.cob_tree.specs.declared.keyword.Keyword.TheVariants as word
@@ -7,27 +7,26 @@ use Rattle.cob_tree.specs.declared.token.Rel.TheVariants as rel
 use Rattle.cob_tree.specs.declared.operand.Ref.{Ref}
 use Rattle.cob_tree.specs.Symbols.{Key}
 use Rattle.cob_tree.specs.Cond.{Cond}
-use Rattle.cob_tree.specs.Items.{Item, item_on, key, keys, word_if, behind}
+use Rattle.cob_tree.specs.Items.{Item, item_on, key, word_if, behind}
 use Rattle.cob_tree.specs.Cues.{Cue, is, Qualifies, Size, NotSize, AtEnd, NotAtEnd, Else, EndIf, EndEvaluate, EndRead}
 use Rattle.cob_tree.specs.Cues as cue
-use Rattle.cob_tree.specs.Stmt.{Stmt, MkStmt, Verb, move, set, display, add_to, add_giving, subtract_from, subtract_giving, multiply_by, multiply_giving, divide_into, divide_giving, compute, if_, evaluate, perform_range, perform_inline, go, exit, continue, stop_run, open_, close, read, write, Stmts, no_stmts, more_stmts, Phrase, left_out, given, phrase_of, Tail, MkTail, Whens, no_whens, more_whens, When, MkWhen}
+use Rattle.cob_tree.specs.Stmt.{Stmt, MkStmt, Verb, move, set, display, add_to, add_giving, subtract_from, subtract_giving, multiply_by, multiply_giving, divide_into, divide_giving, compute, if_, evaluate, perform_range, perform_inline, go, exit, continue, stop_run, open_, close, read, write, Stmts, Phrase, left_out, given, phrase_of, Tail, MkTail, Whens, no_whens, more_whens, When}
 use Rattle.cob_tree.specs.PrintExpr.{print_ref, print_opnd, print_expr, print_relation}
 use Rattle.cob_tree.specs.PrintStmt.{print_opnds, print_recvs, way_word, first_word, size_words, not_size_words, print_stmts, print_stmt, print_verb, print_phrase, print_tail, print_whens, print_when}
 use Rattle.cob_tree.specs.Takes.{takes_stmts, takes_phrase, takes_tail, takes_whens, takes_when, takes_verb, unless}
 use Rattle.cob_tree.specs.Shaped.{ShapedStmts, ShapedStmt, ShapedPhrase, ShapedTail, ShapedEnd, ShapedWhens, ShapedWhen, ShapedVerb}
 use Rattle.reading.specs.Law.{Syntax}
 use Rattle.reading.proofs.Seen.{View}
-use Rattle.reading.proofs.Tail.{Apart, apart, onward}
+use Rattle.reading.proofs.Tail.{Apart, onward}
 use Rattle.reading.proofs.Many.{is_given}
-use Rattle.reading.proofs.Optional.{optional_syntax}
 use Rattle.cob_parse_verb.specs.declared.word.Start.{Start}
 use Rattle.cob_parse_verb.specs.declared.word.Start.TheVariants as start
 use Rattle.cob_parse_verb.specs.declared.word.Begin.{Begin}
 use Rattle.cob_parse_verb.specs.Words.{start_word}
 use Rattle.cob_parse_verb.specs.Heads as heads
 use Rattle.cob_parse_verb.specs.Heads.{Arithmetic, Head, done, arithmetic, if_head, evaluate_head, perform_head, read_head, with_tail, end_word, end_cue, head_start, HasStart, print_arithmetic, print_behind, takes_arithmetic, takes_done, takes_behind, GoodHead}
-use Rattle.cob_parse_proc.specs.Bare.{bare_stmts, bare_phrase, bare_tail, bare_whens, bare_when, bare_verb, or_of, list_takes, stmt_takes, when_takes}
-use Rattle.cob_parse_proc.specs.Reading.{Case, is_other, more_cases, whens_in, other_in, Inside, no_inside, list_inside, whens_inside, verb_of, Parts, make_stmt}
+use Rattle.cob_parse_proc.specs.Bare.{bare_stmts, bare_phrase, bare_tail, bare_whens, bare_when, bare_verb, or_of, list_takes, stmt_takes}
+use Rattle.cob_parse_proc.specs.Reading.{Case, whens_in, other_in, Inside, no_inside, list_inside, whens_inside, verb_of, Parts, make_stmt}
 use Rattle.cob_parse_proc.proofs.Syntaxes.{stmt_syntax, foreign, Known}
 use Rattle.cob_parse_proc.proofs.CaseLaws.{cases_syntax, whens_syntax}
 use Rattle.cob_parse_proc.proofs.Levels.{inside_good, inside_print, first_syntax, second_syntax, ended_syntax, end_syntax, parts_syntax}

@@ -1,15 +1,14 @@
 -- What is printed, allowed and taken, for each part of a statement; d counts the statement itself.
-use Rattle.std.proofs.Common.{◌≡◌, ℕ, suc, ◌<◌, Bool, true, false, List, [], ◌∷◌, ◌++◌, Option, Some, None, refl, sym, ap, ◌∙◌}
+use Rattle.std.proofs.Common.{◌≡◌, ℕ, ◌<◌, Bool, true, false, List, [], ◌∷◌, ◌++◌, refl, ap, ◌∙◌}
 use Rattle.cob_tree.specs.declared.keyword.Keyword.{Keyword}
-use Rattle.cob_tree.specs.declared.keyword.Keyword.TheVariants as word
 use Rattle.cob_tree.specs.Symbols.{Symbol, Key, Sign}
 use Rattle.cob_tree.specs.Items.{Item, key}
 use Rattle.cob_tree.specs.Cues.{Cue, is, Starts, Size, NotSize, AtEnd, NotAtEnd, Else, EndAdd, EndSubtract, EndMultiply, EndDivide, EndCompute, EndIf, EndEvaluate, EndRead}
 use Rattle.cob_tree.specs.Cues as cue
-use Rattle.cob_tree.specs.Stmt.{Sel, Stmt, MkStmt, Verb, move, set, display, add_to, add_giving, subtract_from, subtract_giving, multiply_by, multiply_giving, divide_into, divide_giving, compute, if_, evaluate, perform_range, perform_inline, go, exit, continue, stop_run, open_, close, read, write, Stmts, no_stmts, more_stmts, When}
+use Rattle.cob_tree.specs.Stmt.{Sel, Stmt, MkStmt, Verb, move, Stmts, no_stmts, more_stmts, When}
 use Rattle.cob_tree.specs.PrintStmt.{first_word, print_stmts, print_stmt, print_when}
 use Rattle.cob_tree.specs.Shaped.{ShapedStmts, ShapedStmt, ShapedWhen}
-use Rattle.reading.specs.Printing.{Matches, peek_on, on_mark, begins}
+use Rattle.reading.specs.Printing.{peek_on, on_mark}
 use Rattle.reading.specs.Law.{Syntax}
 use Rattle.reading.proofs.Starts.{Begins}
 use Rattle.reading.proofs.Grows.{Grows}

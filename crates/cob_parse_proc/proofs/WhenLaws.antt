@@ -1,5 +1,5 @@
 -- The laws of what stands in EVALUATE.
-use Rattle.std.proofs.Common.{◌≡◌, ℕ, suc, ◌<◌, ◌⊎◌, inl, inr, not, Bool, true, false, ◌&&◌, List, [], ◌∷◌, ◌++◌, length, Option, Some, None, is_some, Err, refl, sym, ap, ◌∙◌, arith}
+use Rattle.std.proofs.Common.{◌≡◌, ℕ, ◌<◌, Bool, true, false, List, [], ◌∷◌, ◌++◌, Option, Some, None, is_some, refl, ap, ◌∙◌}
 use Rattle.cob_tree.specs.declared.keyword.Keyword.{Keyword}
 use Rattle.cob_tree.specs.declared.keyword.Keyword.TheVariants as word
 use Rattle.cob_tree.specs.declared.operand.Const.TheVariants as const
@@ -7,35 +7,30 @@ use Rattle.cob_tree.specs.declared.operand.Opnd.{Opnd}
 use Rattle.cob_tree.specs.declared.operand.Opnd.TheVariants as opnd
 use Rattle.cob_tree.specs.Symbols.{Symbol, Sign}
 use Rattle.cob_tree.specs.Items.{Item, key}
-use Rattle.cob_tree.specs.Cues.{Cue, is, Starts}
-use Rattle.cob_tree.specs.Cues as cue
+use Rattle.cob_tree.specs.Cues.{is, Starts}
 use Rattle.cob_tree.specs.Expr.{Expr, MkExpr, Term, MkTerm, Fact, MkFact, Primary, operand, group}
 use Rattle.cob_tree.specs.Cond.{Cond, MkCond, Conj, MkConj, Neg, MkNeg, Simple, parenthesised, relation, abbreviated, numeric, alone}
 use Rattle.cob_tree.specs.Cond as cond
 use Rattle.cob_tree.specs.PrintExpr.{print_opnd, print_expr, print_term, print_terms, print_fact, print_facts, print_primary, print_not, print_relation, sign_word, print_cond, print_conj, print_conjs, print_neg, print_negs, print_simple}
 use Rattle.cob_tree.specs.Stmt.{Sel, any, range, choice, Stmts, When, MkWhen}
-use Rattle.cob_tree.specs.PrintStmt.{print_sel, print_stmts}
-use Rattle.cob_tree.specs.Takes.{takes_sel}
-use Rattle.cob_tree.specs.Shaped.{ShapedStmts}
-use Rattle.reading.specs.Readers.{Reader, behind_on, behind, both_behind_on, branch, seen, must}
-use Rattle.reading.specs.Printing.{Matches, begins, Next}
-use Rattle.reading.specs.Law.{Syntax, Law}
+use Rattle.cob_tree.specs.PrintStmt.{print_sel}
+use Rattle.reading.specs.Readers.{Reader, behind_on, behind, both_behind_on, branch, seen}
+use Rattle.reading.specs.Printing.{Matches}
+use Rattle.reading.specs.Law.{Law}
 use Rattle.reading.proofs.Texts.{Always}
 use Rattle.reading.proofs.Dependent.{dependent_syntax, seq_syntax}
 use Rattle.reading.proofs.Lead.{lead_syntax, branch_law}
 use Rattle.reading.proofs.Seen.{View, seen_law}
 use Rattle.reading.proofs.Starts.{one_decides}
-use Rattle.reading.proofs.Must.{Ends, ends_by, must_law}
+use Rattle.reading.proofs.Must.{Ends, ends_by}
 use Rattle.cob_parse_data.specs.Tokens.{the}
 use Rattle.cob_parse_data.proofs.WordLaws.{beside}
 use Rattle.cob_parse_verb.specs.Procedure.{procedure}
-use Rattle.cob_parse_verb.specs.Listed.{takes_listed}
-use Rattle.cob_parse_verb.specs.Turning.{choices_at}
 use Rattle.cob_parse_verb.specs.Syntaxes.{choices_syntax}
-use Rattle.cob_parse_proc.specs.Reading.{here, one_word, nots, may_go, last, make_when, when_with, other_with, other_stands}
+use Rattle.cob_parse_proc.specs.Reading.{here, one_word, nots, may_go, last, make_when, other_stands}
 use Rattle.cob_parse_proc.proofs.Words.{one_key}
 use Rattle.cob_parse_proc.proofs.Marks.{free_next, not_taken, not_seconds}
-use Rattle.cob_parse_proc.proofs.Syntaxes.{stmts_syntax, when_syntax, led_syntax, stmts_begin, Known}
+use Rattle.cob_parse_proc.proofs.Syntaxes.{stmts_syntax, when_syntax, led_syntax, Known}
 
 -- whether a statement begins, one token tells
 pub start_told : (t : Sign) (y z : List Sign) → here Starts (t ∷ y) ≡ here Starts (t ∷ z)

@@ -1,18 +1,18 @@
 -- The words of phrases: their classes, and the cues that tell them.
-use Rattle.std.proofs.Common.{◌≡◌, ℕ, ◌<◌, ◌||◌, if◌then◌else◌, ◌==◌, Bool, true, false, List, [], ◌∷◌, ◌++◌, Option, Some, None, is_some, refl, sym, ap, ◌∙◌}
+use Rattle.std.proofs.Common.{◌≡◌, ℕ, ◌||◌, if◌then◌else◌, ◌==◌, Bool, true, false, List, [], ◌∷◌, Option, Some, None, is_some, refl, ap, ◌∙◌}
 use Rattle.cob_tree.specs.declared.keyword.Keyword.{Keyword}
 use Rattle.cob_tree.specs.declared.keyword.Keyword.TheVariants as word
 use Rattle.cob_tree.specs.Symbols.{Symbol, Key, Name, Number, Text, Mark, Relation, Pic, Stop, Sign}
-use Rattle.cob_tree.specs.Items.{Item, Fits, item, key}
+use Rattle.cob_tree.specs.Items.{key}
 use Rattle.cob_tree.specs.Cues.{Cue, is, mark_cue, key_cue, not_cue, Names, Constants, Signs, Scales, Relates, NotRelates, NotTests, Loops, Size, NotSize, AtEnd, NotAtEnd, Else, EndAdd, EndSubtract, EndMultiply, EndDivide, EndCompute, EndIf, EndEvaluate, EndRead}
 use Rattle.cob_tree.specs.Cues as cue
 use Rattle.reading.specs.Readers.{behind_on, behind, both_behind_on, both_behind}
-use Rattle.reading.specs.Printing.{Front, peek_on, on_mark, begins}
+use Rattle.reading.specs.Printing.{peek_on, on_mark, begins}
 use Rattle.reading.proofs.Texts.{Always}
 use Rattle.reading.proofs.Lead.{Class}
 use Rattle.reading.proofs.Opt.{Opening, one_opening, two_opening}
 use Rattle.cob_parse_verb.specs.Procedure.{procedure, word_front, token_front}
-use Rattle.cob_parse_data.specs.Tokens.{the, the_key, found, same_key}
+use Rattle.cob_parse_data.specs.Tokens.{the, the_key}
 use Rattle.cob_parse_data.proofs.ClassLaws as classes
 use Rattle.cob_parse_verb.specs.Heads.{Arithmetic, add_to, add_giving, subtract_from, subtract_giving, multiply_by, multiply_giving, divide_into, divide_giving, compute, end_word, end_cue}
 use Rattle.cob_parse_proc.specs.Reading.{one_word}

@@ -2,7 +2,7 @@
 use Rattle.std.specs.Prelude.{◌||◌, ◌&&◌, not, Bool, false, true, None}
 use Rattle.cob_tree.specs.Cues.{Cue, is, Qualifies}
 use Rattle.cob_tree.specs.Stmt.{Stmt, MkStmt, Verb, add_to, add_giving, subtract_from, subtract_giving, multiply_by, multiply_giving, divide_into, divide_giving, compute, if_, evaluate, perform_range, read, Stmts, no_stmts, more_stmts, Phrase, left_out, given, Tail, MkTail, Whens, no_whens, more_whens, When, MkWhen}
-use Rattle.cob_tree.specs.Takes.{takes_stmts, takes_stmt, takes_when, takes_verb}
+use Rattle.cob_tree.specs.Takes.{takes_stmts, takes_stmt, takes_when}
 
 abbrev mutual
   pub bare_stmts : Stmts → Bool

@@ -1,5 +1,5 @@
 -- Programs without the lines that they hold.
-use Rattle.std.specs.Prelude.{ℕ, List, Option, map}
+use Rattle.std.specs.Prelude.{map}
 use Rattle.std.specs.Option.{option_map}
 use Rattle.cob_tree.specs.declared.tree.EndProgram.{EndProgram}
 use Rattle.cob_tree.specs.Stmt.{Stmt, MkStmt, Verb, add_to, add_giving, subtract_from, subtract_giving, multiply_by, multiply_giving, divide_into, divide_giving, compute, if_, evaluate, perform_inline, read, Stmts, no_stmts, more_stmts, Phrase, left_out, given, Tail, MkTail, Whens, no_whens, more_whens, When, MkWhen, Paragraph, Tree}

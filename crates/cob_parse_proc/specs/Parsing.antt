@@ -1,8 +1,8 @@
 -- What reading a whole program promises.
-use Rattle.std.specs.Prelude.{◌≡◌, ℕ, false, List, [], ◌∷◌, ◌++◌, length, map}
+use Rattle.std.specs.Prelude.{◌≡◌, ℕ, List, [], ◌∷◌, ◌++◌, length, map}
 use Rattle.std.specs.List.{AllByRecursion}
 use Rattle.cob_tree.specs.declared.token.Token.{Token}
-use Rattle.cob_tree.specs.Symbols.{Symbol, Sign, seen}
+use Rattle.cob_tree.specs.Symbols.{Sign, seen}
 use Rattle.cob_tree.specs.Items.{Item, Fits}
 use Rattle.cob_tree.specs.Stmt.{Tree}
 use Rattle.cob_tree.specs.PrintStmt.{print_tree}
@@ -10,7 +10,6 @@ use Rattle.cob_tree.specs.Shaped.{ShapedFront, ShapedStmts, ShapedParagraph, Sha
 use Rattle.reading.specs.Printing.{Matches, Below}
 use Rattle.cob_parse_expr.specs.Parsing.{line_at}
 use Rattle.cob_parse_data.specs.Tokens.{divisions}
-use Rattle.cob_parse_proc.specs.Program.{limit}
 
 -- what the grammar asks of a tree beside its names
 abbrev pub ShapedTree : Tree → Type 0

@@ -1,21 +1,17 @@
 -- How sentences, paragraphs and whole programs are read. Outside of sentences each token is its own mark.
 use Rattle.std.specs.Prelude.{ℕ, Bool, false, List, [], ◌∷◌, Option, is_some}
-use Rattle.std.specs.List.{AllByRecursion}
 use Rattle.cob_tree.specs.declared.keyword.Keyword.TheVariants as word
 use Rattle.cob_tree.specs.declared.front.Front.{Front}
 use Rattle.cob_tree.specs.declared.tree.EndProgram.{EndProgram}
 use Rattle.cob_tree.specs.Symbols.{Symbol, Key, Sign}
-use Rattle.cob_tree.specs.Items.{Item}
 use Rattle.cob_tree.specs.Stmt.{Stmts, Paragraph, Tree}
-use Rattle.cob_tree.specs.PrintStmt.{print_tree}
-use Rattle.cob_tree.specs.Shaped.{ShapedFront, ShapedStmts, ShapedParagraph}
 use Rattle.reading.specs.Readers.{Reader, branch, seen, seq, many, optional, here_if, closed}
 use Rattle.reading.specs.Printing.{begins}
-use Rattle.reading.specs.Law.{Syntax}
-use Rattle.cob_parse_expr.specs.Classes.{name_symbol}
+use Rattle.cob_parse_expr.specs.Classes.{name_symbol, word_symbol}
 use Rattle.cob_parse_data.specs.Tokens.{divisions, of, the, on_its_line, stop_symbol}
 use Rattle.cob_parse_data.specs.Tokens as tokens
 use Rattle.cob_parse_data.specs.Reading.{back, front, heading, named, front_at}
+use Rattle.cob_parse_verb.specs.declared.word.Start.{Start}
 use Rattle.cob_parse_verb.specs.Words.{start_key}
 use Rattle.cob_parse_proc.specs.Bare.{list_takes}
 use Rattle.cob_parse_proc.specs.Reading.{may_go, stmts_at}
@@ -24,10 +20,13 @@ use Rattle.cob_parse_proc.specs.Reading.{may_go, stmts_at}
 abbrev pub limit : ℕ
 limit = 64
 
+-- the word with which a statement begins
+abbrev pub start_symbol : Symbol → Option Start
+start_symbol y = word_symbol start_key y
+
 -- a statement begins with the token
 abbrev pub starts : Symbol → Bool
-starts (Key k) = is_some (start_key k)
-starts y = false
+starts y = tokens.is start_symbol y
 
 -- ---- each where so many may be open
 

@@ -6,7 +6,7 @@ use Rattle.cob_tree.specs.declared.keyword.Keyword.TheVariants as word
 use Rattle.cob_tree.specs.Symbols.{Sign}
 use Rattle.cob_tree.specs.Cues.{Cue, is, Starts, NotRelates, NotTests, NotSize, NotAtEnd}
 use Rattle.cob_tree.specs.Cues as cue
-use Rattle.cob_tree.specs.Stmt.{Sel, Stmt, MkStmt, Verb, if_, evaluate, perform_inline, continue, read, Stmts, more_stmts, stmts_of, Phrase, left_out, given, phrase_of, Tail, MkTail, Whens, no_whens, more_whens, When, MkWhen}
+use Rattle.cob_tree.specs.Stmt.{Sel, Stmt, MkStmt, Verb, if_, evaluate, perform_inline, continue, read, Stmts, more_stmts, stmts_of, Phrase, left_out, given, phrase_of, MkTail, Whens, no_whens, more_whens, When, MkWhen}
 use Rattle.cob_tree.specs.Takes.{takes_sel}
 use Rattle.reading.specs.Readers.{Reader, nothing, lead, follow, branch, seen, choose, optional, behind, both_behind, many_from, plus, need, must, stands, full}
 use Rattle.reading.specs.Printing.{begins, goes_on}

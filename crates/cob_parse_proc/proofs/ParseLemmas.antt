@@ -1,0 +1,37 @@
+-- From what is read of lexemes to what is promised of tokens.
+use Rattle.std.proofs.Common.{◌≡◌, ℕ, ◌≤◌, List, [], ◌∷◌, length, map, Ok, Err, sym, ap, subst, ◌∙◌, arith}
+use Rattle.std.proofs.lemmas.List.{length-map}
+use Rattle.cob_tree.specs.declared.token.Token.{Token}
+use Rattle.cob_tree.specs.Symbols.{seen}
+use Rattle.cob_tree.specs.Stmt.{Tree}
+use Rattle.cob_parse_expr.specs.declared.lexeme.Lexeme.{Lexeme}
+use Rattle.cob_parse_expr.specs.Lexemes.{plain_lexeme}
+use Rattle.cob_parse_expr.specs.declared.halt.Halt.{Halt}
+use Rattle.cob_parse_expr.specs.declared.halt.Halt.TheVariants as halt
+use Rattle.cob_parse_expr.specs.Steps.{signs, Fails}
+use Rattle.cob_parse_expr.specs.Parsing.{line_at}
+use Rattle.reading.specs.Readers.{Stop, Deep, whole}
+use Rattle.cob_parse_proc.specs.Program.{limit, tree_at}
+use Rattle.cob_parse_proc.specs.Parsing.{IsTree, IsWrong, IsDeep}
+use Rattle.cob_parse_proc.proofs.ProgramAnswers.{tree_read, tree_stops, tree_deep, tree_within}
+
+module _ (tokens : List Token) (items lexemes : List Lexeme) (shown : lexemes ≡ items) (lexed : map plain_lexeme items ≡ map seen tokens) where
+  same : signs lexemes ≡ map seen tokens
+  same = ap signs shown ∙ lexed
+
+  pub program_read : (t : Tree) → whole (tree_at limit) (signs lexemes) ≡ Ok t → IsTree (map seen tokens) t
+  program_read t e = tree_read tokens t (sym (ap (whole (tree_at limit)) same) ∙ e)
+
+  pub program_wrong : (h : Halt) (n at line : ℕ) → h ≡ halt.Stop n → Fails h (whole (tree_at limit) (signs lexemes)) → at ≡ line_at tokens n → at ≡ line → IsWrong tokens line
+  program_wrong h n at line is f there same_line =
+      let e : whole (tree_at limit) (signs lexemes) ≡ Err (Stop n) = subst (λ (x : Halt). Fails x (whole (tree_at limit) (signs lexemes))) is f in
+      let stop = tree_stops (map seen tokens) n (sym (ap (whole (tree_at limit)) same) ∙ e) in
+      record { left = stop.0; stops = stop.2; line_is = sym same_line ∙ there ∙ ap (line_at tokens) (sym stop.1) }
+
+  pub program_deep : (h : Halt) (n : ℕ) → h ≡ halt.Deep n → Fails h (whole (tree_at limit) (signs lexemes)) → IsDeep (map seen tokens)
+  program_deep h n is f = tree_deep (map seen tokens) n (sym (ap (whole (tree_at limit)) same) ∙ subst (λ (x : Halt). Fails x (whole (tree_at limit) (signs lexemes))) is f)
+
+  pub program_within : (h : Halt) (n : ℕ) → h ≡ halt.Stop n → Fails h (whole (tree_at limit) (signs lexemes)) → n ≤ length tokens
+  program_within h n is f =
+      let le = tree_within (map seen tokens) n (sym (ap (whole (tree_at limit)) same) ∙ subst (λ (x : Halt). Fails x (whole (tree_at limit) (signs lexemes))) is f) in
+      omega (arith, le, length-map tokens seen)
