@@ -21,7 +21,7 @@ point_read (u ∷ us) rest ss e = go (of stop_symbol u) refl e
   where
     go : (o : Option (Unit {0})) → of stop_symbol u ≡ o → behind_on o us ≡ Some rest → need (reader.stands (of stop_symbol)) (lead (of stop_symbol)) (may_go (list_takes ss)) (u ∷ us) ≡ Ok (tt, rest)
     go None eo e0 = absurd cc
-    go (Some x) eo e0 = let same : us ≡ rest = cc in rw eo (ap (λ (z : List Sign). Ok (tt, z)) same)
+    go (Some x) eo e0 = let same : us ≡ rest = cc in rw eo (rw eo (ap (λ (z : List Sign). Ok (tt, z)) same))
 
 -- and where it doesn't
 point_open : (us : List Sign) (ss : Stmts) (takes : Bool) → takes ≡ may (list_takes ss) → behind (of stop_symbol) us ≡ None → need (reader.stands (of stop_symbol)) (lead (of stop_symbol)) (may_go (list_takes ss)) us ≡ Err (Stop (left_at takes us))
