@@ -23,7 +23,11 @@ fn token(alloc: Global, text: &[u8]) -> Result<Tok, AllocError> {
 fn add(alloc: Global, tokens: &mut Vec<Token>, text: &[u8]) -> Result<(), AllocError> {
     for word in text.split(|character| *character == b' ') {
         let before = tokens.len();
-        let line = if before < 1000 { before as u32 + 1 } else { 1000 };
+        let line = if before < 1000 {
+            before as u32 + 1
+        } else {
+            1000
+        };
         tokens.push(Token {
             tok: token(alloc, word)?,
             line,

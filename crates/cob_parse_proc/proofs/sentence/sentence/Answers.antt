@@ -1,4 +1,4 @@
-use Rattle.std.proofs.Common.{◌≡◌, ℕ, Ok, Err, sym, ap, ◌∙◌, arith}
+use Rattle.std.proofs.Common.{ℕ, Ok, Err, sym, ap, ◌∙◌}
 use Rattle.reading.specs.Readers.{Stop}
 use Rattle.cob_tree.specs.Stmt.{Stmts}
 use Rattle.cob_parse_expr.specs.Steps.{signs}
