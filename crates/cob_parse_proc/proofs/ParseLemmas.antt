@@ -1,8 +1,8 @@
 -- From what is read of lexemes to what is promised of tokens.
-use Rattle.std.proofs.Common.{◌≡◌, ℕ, ◌≤◌, List, [], ◌∷◌, length, map, Ok, Err, sym, ap, subst, ◌∙◌, arith}
+use Rattle.std.proofs.Common.{◌≡◌, ◌≢◌, ℕ, suc, ◌≤◌, List, [], ◌∷◌, length, map, Result, Ok, Err, refl, sym, ap, subst, ◌∙◌, arith}
 use Rattle.std.proofs.lemmas.List.{length-map}
 use Rattle.cob_tree.specs.declared.token.Token.{Token}
-use Rattle.cob_tree.specs.Symbols.{seen}
+use Rattle.cob_tree.specs.Symbols.{Sign, seen}
 use Rattle.cob_tree.specs.Stmt.{Tree}
 use Rattle.cob_parse_expr.specs.declared.lexeme.Lexeme.{Lexeme}
 use Rattle.cob_parse_expr.specs.Lexemes.{plain_lexeme}
@@ -10,10 +10,28 @@ use Rattle.cob_parse_expr.specs.declared.halt.Halt.{Halt}
 use Rattle.cob_parse_expr.specs.declared.halt.Halt.TheVariants as halt
 use Rattle.cob_parse_expr.specs.Steps.{signs, Fails}
 use Rattle.cob_parse_expr.specs.Parsing.{line_at}
-use Rattle.reading.specs.Readers.{Stop, Deep, whole}
+use Rattle.cob_parse_expr.proofs.StepLemmas.{fails_first}
+use Rattle.reading.specs.Readers.{Fault, Stop, Deep, ◌>>=◌, ended, whole}
 use Rattle.cob_parse_proc.specs.Program.{limit, tree_at}
 use Rattle.cob_parse_proc.specs.Parsing.{IsTree, IsWrong, IsDeep}
 use Rattle.cob_parse_proc.proofs.ProgramAnswers.{tree_read, tree_stops, tree_deep, tree_within}
+
+-- ---- all lexemes
+
+module _ (ts : List Sign) where
+  pub whole_wrong : (h : Halt) → Fails h (tree_at limit ts) → Fails h (whole (tree_at limit) ts)
+  whole_wrong h f = fails_first h (tree_at limit ts) (λ a. ended a.0 a.1) f
+
+  pub whole_read : (t : Tree) (rest : List Lexeme) → tree_at limit ts ≡ Ok (t, signs rest) → length rest ≡ 0 → whole (tree_at limit) ts ≡ Ok t
+  whole_read t [] e none = ap (λ (r : Result (Tree × List Sign) Fault). r >>= λ a. ended a.0 a.1) e
+  whole_read t (l ∷ ls) e none = absurd (omega arith)
+
+  pub whole_left : (t : Tree) (rest : List Lexeme) → tree_at limit ts ≡ Ok (t, signs rest) → length rest ≢ 0 → whole (tree_at limit) ts ≡ Err (Stop (length rest))
+  whole_left t [] e some = absurd (some refl)
+  whole_left t (l ∷ ls) e some =
+      ap (λ (r : Result (Tree × List Sign) Fault). r >>= λ a. ended a.0 a.1) e ∙ ap (λ (n : ℕ). Err (Stop (suc n))) (length-map ls plain_lexeme)
+
+-- ---- from lexemes to tokens
 
 module _ (tokens : List Token) (items lexemes : List Lexeme) (shown : lexemes ≡ items) (lexed : map plain_lexeme items ≡ map seen tokens) where
   same : signs lexemes ≡ map seen tokens

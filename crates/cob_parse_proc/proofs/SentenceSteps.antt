@@ -1,10 +1,10 @@
 -- A sentence, step by step.
-use Rattle.std.proofs.Common.{◌≡◌, Bool, List, [], ◌∷◌, Option, Some, None, is_some, Ok, Err, refl, sym, ap, ◌∙◌}
+use Rattle.std.proofs.Common.{◌≡◌, Bool, List, [], ◌∷◌, Option, Some, None, Ok, Err, refl, ap}
 use Rattle.cob_tree.specs.Symbols.{Sign}
 use Rattle.cob_tree.specs.Stmt.{Stmts}
 use Rattle.cob_parse_expr.specs.declared.halt.Halt.{Halt}
 use Rattle.cob_parse_expr.specs.Steps.{Fails}
-use Rattle.reading.specs.Readers.{Fault, Stop, behind_on, behind, need, lead}
+use Rattle.reading.specs.Readers.{Stop, behind_on, behind, need, lead}
 use Rattle.reading.specs.Readers as reader
 use Rattle.cob_parse_data.specs.Tokens.{of, stop_symbol}
 use Rattle.cob_parse_data.proofs.ListLoop.{fails_whole}
@@ -21,7 +21,7 @@ point_read (u ∷ us) rest ss e = go (of stop_symbol u) refl e
   where
     go : (o : Option (Unit {0})) → of stop_symbol u ≡ o → behind_on o us ≡ Some rest → need (reader.stands (of stop_symbol)) (lead (of stop_symbol)) (may_go (list_takes ss)) (u ∷ us) ≡ Ok (tt, rest)
     go None eo e0 = absurd cc
-    go (Some x) eo e0 = let same : us ≡ rest = cc in rw eo (ap (λ (z : List Sign). Ok (tt, z)) same)
+    go (Some x) eo e0 = let same : us ≡ rest = cc in rw eo (rw eo (ap (λ (z : List Sign). Ok (tt, z)) same))
 
 -- and where it doesn't
 point_open : (us : List Sign) (ss : Stmts) (takes : Bool) → takes ≡ may (list_takes ss) → behind (of stop_symbol) us ≡ None → need (reader.stands (of stop_symbol)) (lead (of stop_symbol)) (may_go (list_takes ss)) us ≡ Err (Stop (left_at takes us))

@@ -1,8 +1,8 @@
-ghost use Rattle.std.specs.Prelude.{◌≡◌, ◌<◌, ◌+◌, ◌∷◌, [], length, IfOk, IfSome, IfNone};
+ghost use Rattle.std.specs.Prelude.{◌≡◌, ◌<◌, length, IfOk, IfSome};
 ghost use Rattle.std.specs.Option.{option_map};
 ghost use Rattle.reading.specs.Readers.{lead, behind};
 ghost use Rattle.cob_parse_expr.specs.Classes.{name_symbol};
-ghost use Rattle.cob_parse_expr.specs.Lexemes.{plain_symbol, plain_lexeme};
+ghost use Rattle.cob_parse_expr.specs.Lexemes.{plain_symbol};
 ghost use Rattle.cob_parse_expr.specs.Steps.{signs, Gives};
 ghost use Rattle.cob_parse_data.specs.Tokens.{here, is, of, on_its_line, stop_symbol, the};
 ghost use Rattle.cob_parse_data.specs.Reading.{named};

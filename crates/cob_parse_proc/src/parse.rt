@@ -26,7 +26,7 @@ fn line_of(tokens: &[Token], left: usize) -> u32
 
 // A program that all lexemes are.
 fn whole_in(alloc: Global, lexemes: &[Lexeme]) -> Result<Tree, Halt>
-    ensures gives { Gives plain_tree result (whole (tree_at limit) (signs lexemes.now)) }
+    ensures { Gives plain_tree result (whole (tree_at limit) (signs lexemes.now)) }
 {
     let (tree, rest) = tree_in(alloc, lexemes)?;
     if rest.is_empty() {

@@ -20,7 +20,6 @@ fn sentence_of(stmts: Vec<Stmt>) -> Sentence
 }
 
 // Statements and a point.
-#[tactic(none)]
 fn sentence(alloc: Global, lexemes: &[Lexeme]) -> Result<(Sentence, &[Lexeme]), Halt>
     ensures gives { Gives (λ x. (plain_sentence x.0, signs x.1.now)) result (sentence_at limit (signs lexemes.now)) }
     ensures rest { IfOk result (λ x. length x.1.now < length lexemes.now) }

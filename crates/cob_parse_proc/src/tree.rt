@@ -1,4 +1,4 @@
-ghost use Rattle.std.specs.Prelude.{◌≡◌, ◌≤◌, ◌<◌, length, IfOk};
+ghost use Rattle.std.specs.Prelude.{◌≤◌, ◌<◌, length, IfOk};
 ghost use Rattle.cob_tree.specs.StmtView.{plain_tree};
 ghost use Rattle.cob_parse_expr.specs.Steps.{signs, Gives};
 ghost use Rattle.cob_parse_proc.specs.Program.{limit, before_at, ending_at, end_at, tree_at};
