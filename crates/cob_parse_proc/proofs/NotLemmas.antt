@@ -1,26 +1,22 @@
 -- What may go on with NOT.
-use Rattle.std.proofs.Common.{◌≡◌, ℕ, ◌||◌, ◌&&◌, not, Bool, true, false, List, [], ◌∷◌, ◌++◌, Option, Some, None, is_some, Err, refl, sym, ap, ◌∙◌}
-use Rattle.cob_tree.specs.declared.keyword.Keyword.{Keyword}
-use Rattle.cob_tree.specs.declared.keyword.Keyword.TheVariants as word
+use Rattle.std.proofs.Common.{◌≡◌, ◌||◌, Bool, true, false, List, [], ◌∷◌, ◌++◌, Option, Some, None, refl, sym, ap, ◌∙◌}
 use Rattle.cob_tree.specs.declared.operand.Opnd.{Opnd}
 use Rattle.cob_tree.specs.declared.operand.Opnd.TheVariants as opnd
-use Rattle.cob_tree.specs.declared.operand.Ref.{Ref}
 use Rattle.cob_tree.specs.declared.stmt.Subject.{Subject}
 use Rattle.cob_tree.specs.declared.stmt.Subject.TheVariants as subject
-use Rattle.cob_tree.specs.Symbols.{Symbol, Key, Name, Number, Text, Mark, Relation, Pic, Stop, Sign}
 use Rattle.cob_tree.specs.Expr.{Expr}
 use Rattle.cob_tree.specs.Cond.{Cond, MkCond, Conjs, no_conjs, more_conjs, Conj, MkConj, Negs, no_negs, more_negs, Neg, MkNeg, Simple, parenthesised, relation, abbreviated, numeric, alone}
 use Rattle.cob_tree.specs.Cond as cond
 use Rattle.cob_tree.specs.PrintExpr.{one_alone}
-use Rattle.cob_tree.specs.Cues.{Cue, is, Starts, NotRelates, NotTests, NotSize, NotAtEnd, Size, AtEnd, EndAdd, EndSubtract, EndMultiply, EndDivide, EndCompute}
+use Rattle.cob_tree.specs.Cues.{Cue, is, NotRelates, NotTests, NotSize, NotAtEnd, Size, EndAdd, EndSubtract, EndMultiply, EndDivide, EndCompute}
 use Rattle.cob_tree.specs.Cues as cue
-use Rattle.cob_tree.specs.Stmt.{Sel, any, range, choice, Loop, times, until, Stmt, MkStmt, Verb, move, set, display, if_, evaluate, perform_range, read, go, exit, continue, stop_run, open_, close, write, Stmts, no_stmts, more_stmts, stmts_of, Phrase, left_out, given, Tail, MkTail, Whens, more_whens, whens_of, When, MkWhen}
-use Rattle.cob_tree.specs.Takes.{takes_opnds, takes_expr, takes_simple, takes_negs, takes_conjs, takes_cond, takes_thru, takes_sel, takes_loop, takes_into, takes_stmts, takes_stmt, takes_phrase, takes_tail, takes_whens, takes_when, takes_verb}
+use Rattle.cob_tree.specs.Stmt.{Sel, any, range, choice, Loop, times, until, Stmt, Verb, move, set, display, perform_range, go, exit, continue, stop_run, open_, close, write, stmts_of, left_out, given, Tail, MkTail, whens_of, When}
+use Rattle.cob_tree.specs.Takes.{takes_opnds, takes_simple, takes_negs, takes_conjs, takes_cond, takes_thru, takes_sel, takes_loop, takes_stmts, takes_stmt, takes_phrase, takes_tail, takes_whens, takes_when, takes_verb}
 use Rattle.cob_parse_expr.proofs.ExprLaws.{expr_never}
 use Rattle.cob_parse_expr.proofs.CondLaws.{cond_never}
-use Rattle.cob_parse_verb.specs.Heads.{Arithmetic, add_to, add_giving, subtract_from, subtract_giving, multiply_by, multiply_giving, divide_into, divide_giving, compute, Head, done, if_head, evaluate_head, perform_head, with_tail, verb_start, takes_done, takes_arithmetic, takes_behind}
+use Rattle.cob_parse_verb.specs.Heads.{Arithmetic, add_to, add_giving, subtract_from, subtract_giving, multiply_by, multiply_giving, divide_into, divide_giving, compute, if_head, evaluate_head, perform_head, with_tail, verb_start, takes_done, takes_arithmetic, takes_behind}
 use Rattle.cob_parse_verb.specs.Listed.{takes_listed}
-use Rattle.cob_parse_proc.specs.StmtSteps.{may, phrase_may, tail_may}
+use Rattle.cob_parse_proc.specs.StmtSteps.{may, tail_may}
 
 pub or_nothing : (b : Bool) → (b || false) ≡ b
 or_nothing true = refl
@@ -49,17 +45,8 @@ third true b d = refl
 third false true d = refl
 third false false d = refl
 
-fourth : (a b c : Bool) → (a || (b || (c || (true || false)))) ≡ true
-fourth true b c = refl
-fourth false true c = refl
-fourth false false true = refl
-fourth false false false = refl
-
 pub may_size : (f : Cue → Bool) → f NotSize ≡ true → may f ≡ true
 may_size f e = rw e (third (f NotRelates) (f NotTests) (f NotAtEnd || false))
-
-pub may_end : (f : Cue → Bool) → f NotAtEnd ≡ true → may f ≡ true
-may_end f e = rw e (fourth (f NotRelates) (f NotTests) (f NotSize))
 
 -- ---- conditions
 
@@ -173,21 +160,6 @@ whens_may (u ∷ []) w = refl
 whens_may (u ∷ v ∷ us) w = whens_may (v ∷ us) w
 
 -- ---- statements with lists
-
-pub if_may : (c : Cond) (ss : Stmts) (o : Phrase) (ended : Bool) → may (takes_verb (if_ c ss o ended)) ≡ (not ended && phrase_may o (may (takes_stmts ss)))
-if_may c ss o true = refl
-if_may c ss left_out false = may_more (λ m. takes_stmts ss m || false) ∙ may_more (takes_stmts ss)
-if_may c ss (given os) false = may_more (takes_stmts os)
-
-pub evaluate_may : (s : Subject) (ws : Whens) (o : Phrase) (ended : Bool) → may (takes_verb (evaluate s ws o ended)) ≡ (not ended && phrase_may o (may (takes_whens ws)))
-evaluate_may s ws o true = refl
-evaluate_may s ws left_out false = may_more (λ m. takes_whens ws m || false) ∙ may_more (takes_whens ws)
-evaluate_may s ws (given os) false = may_more (takes_stmts os)
-
-pub read_may : (file : List ℕ) (into : Option Ref) (p q : Phrase) (ended : Bool) → may (takes_verb (read file into p q ended)) ≡ (not ended && phrase_may q true)
-read_may file into p q true = refl
-read_may file into p left_out false = may_end (takes_verb (read file into p left_out false)) (or_nothing (takes_phrase p (takes_into into NotAtEnd) (is AtEnd NotAtEnd) NotAtEnd || true) ∙ or_all (takes_phrase p (takes_into into NotAtEnd) (is AtEnd NotAtEnd) NotAtEnd))
-read_may file into p (given os) false = may_more (takes_stmts os)
 
 -- the END- word that may end it is no cue of NOT
 module _ (before own : Cue → Bool) (relates : own NotRelates ≡ false) (tests : own NotTests ≡ false) (size : own NotSize ≡ false) (end : own NotAtEnd ≡ false) where

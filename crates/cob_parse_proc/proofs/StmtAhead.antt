@@ -1,12 +1,12 @@
 -- What stands next, told by the first token.
-use Rattle.std.proofs.Common.{◌≡◌, ℕ, ◌==◌, if◌then◌else◌, ◌||◌, Bool, true, false, List, [], ◌∷◌, Option, Some, None, is_some, refl, sym, ap, ◌∙◌}
+use Rattle.std.proofs.Common.{◌≡◌, ℕ, ◌==◌, if◌then◌else◌, ◌||◌, Bool, true, false, List, [], ◌∷◌, Option, Some, None, is_some, refl}
 use Rattle.cob_tree.specs.declared.keyword.Keyword.{Keyword}
 use Rattle.cob_tree.specs.declared.keyword.Keyword.TheVariants as word
 use Rattle.cob_tree.specs.Symbols.{Symbol, Key, Name, Number, Text, Mark, Relation, Pic, Stop, Sign}
 use Rattle.cob_tree.specs.Cues.{Cue, is, mark_cue, Starts, Signs, Scales}
 use Rattle.cob_tree.specs.Cues as cue
 use Rattle.reading.specs.Readers.{behind, stands}
-use Rattle.reading.specs.Printing.{begins, on_mark, peek_on}
+use Rattle.reading.specs.Printing.{on_mark, peek_on}
 use Rattle.cob_parse_expr.specs.Classes.{word_symbol}
 use Rattle.cob_parse_verb.specs.Procedure.{procedure, word_front, token_front}
 use Rattle.cob_parse_verb.specs.Words.{start_key}

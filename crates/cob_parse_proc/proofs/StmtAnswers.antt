@@ -1,16 +1,13 @@
 -- What the functions that read statements return, step by step, is what readers give.
-use Rattle.std.proofs.Common.{◌≡◌, ◌≢◌, ℕ, zero, suc, ◌-◌, ◌+◌, ◌≤◌, ◌&&◌, not, Bool, true, false, List, [], ◌∷◌, length, map, Option, Some, None, Result, Ok, Err, refl, sym, ap, subst, ◌∙◌, arith}
+use Rattle.std.proofs.Common.{◌≡◌, ◌≢◌, ℕ, zero, suc, ◌-◌, ◌+◌, Bool, true, false, List, length, Option, Some, None, Result, Ok, Err, refl, sym, ap, subst, ◌∙◌, arith}
 use Rattle.cob_tree.specs.declared.keyword.Keyword.{Keyword}
 use Rattle.cob_tree.specs.declared.keyword.Keyword.TheVariants as word
-use Rattle.cob_tree.specs.declared.operand.Ref.{Ref}
-use Rattle.cob_tree.specs.declared.stmt.Subject.{Subject}
 use Rattle.cob_tree.specs.Symbols.{Sign}
-use Rattle.cob_tree.specs.Cond.{Cond}
-use Rattle.cob_tree.specs.Cues.{Cue, Starts, Whens, NotRelates}
-use Rattle.cob_tree.specs.Stmt.{Sel, Loop, Stmt, MkStmt, Verb, perform_inline, Stmts, Phrase, phrase_of, Tail, MkTail, When, MkWhen}
+use Rattle.cob_tree.specs.Cues.{Starts, Whens, NotRelates}
+use Rattle.cob_tree.specs.Stmt.{Sel, Stmt, MkStmt, Verb, Stmts, Phrase, phrase_of, Tail, MkTail, When, MkWhen}
 use Rattle.cob_tree.specs.Stmt as stmt
 use Rattle.cob_tree.specs.Takes.{takes_stmts, takes_verb}
-use Rattle.reading.specs.Readers.{Fault, Stop, Deep, Reader, ◌>>=◌, seen, optional_on, optional, behind, both_behind}
+use Rattle.reading.specs.Readers.{Fault, Stop, Reader, ◌>>=◌, optional_on, optional, behind, both_behind}
 use Rattle.reading.proofs.Results.{ok_is}
 use Rattle.cob_parse_expr.specs.declared.halt.Halt.{Halt}
 use Rattle.cob_parse_expr.specs.declared.halt.Halt.TheVariants as halt
@@ -22,8 +19,8 @@ use Rattle.cob_parse_verb.specs.Reading.{head_at}
 use Rattle.cob_parse_verb.specs.Turning.{choices_at}
 use Rattle.cob_parse_verb.proofs.HeadLaws.{law_of_heads}
 use Rattle.cob_parse_proc.specs.Reading.{here, one_word, error_with, when_with, stmt_with, stmts_at}
-use Rattle.cob_parse_proc.specs.StmtSteps.{may, tail_may, left_at, list_at, full_at, behind_error, end_at, tail_at, Branches, branches_at, branches_may, if_of, chosen_at, Cases, cases_at, cases_may, evaluate_of, body_at, Ends, ends_at, ends_may, read_of, verb_at, verb_may, on_line}
-use Rattle.cob_parse_proc.proofs.NotLemmas.{sels_take, done_may, if_may, evaluate_may, read_may, arithmetic_may}
+use Rattle.cob_parse_proc.specs.StmtSteps.{may, tail_may, left_at, list_at, full_at, behind_error, end_at, tail_at, branches_at, chosen_at, cases_at, body_at, ends_at, verb_at, verb_may, on_line}
+use Rattle.cob_parse_proc.proofs.NotLemmas.{sels_take, done_may, arithmetic_may}
 use Rattle.cob_parse_proc.proofs.VerbSteps.{error_is, stmt_is, when_is}
 use Rattle.cob_parse_proc.proofs.StmtLoops.{listed}
 

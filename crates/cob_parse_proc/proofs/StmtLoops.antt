@@ -1,12 +1,12 @@
 -- Statements and WHENs read one after the other, as a loop does.
-use Rattle.std.proofs.Common.{◌≡◌, ℕ, suc, ◌≤◌, ◌<◌, not, ◌&&◌, Bool, true, false, List, [], ◌∷◌, ◌++◌, length, map, Option, Some, None, is_some, Result, Ok, Err, refl, sym, ap, subst, ◌∙◌, arith, inl, inr}
+use Rattle.std.proofs.Common.{◌≡◌, ℕ, suc, ◌≤◌, Bool, true, false, List, [], ◌∷◌, ◌++◌, length, map, Option, Some, None, is_some, Result, Ok, Err, refl, sym, ap, subst, ◌∙◌, arith, inl, inr}
 use Rattle.cob_tree.specs.declared.keyword.Keyword.TheVariants as word
 use Rattle.cob_tree.specs.Symbols.{Sign}
 use Rattle.cob_tree.specs.Cues.{Cue, is, Starts, Whens}
-use Rattle.cob_tree.specs.Stmt.{Stmt, Stmts, stmts_of, Phrase, left_out, given, no_whens, more_whens, whens_of, When}
+use Rattle.cob_tree.specs.Stmt.{Stmt, Stmts, stmts_of, Phrase, left_out, given, more_whens, whens_of, When}
 use Rattle.cob_tree.specs.Stmt as stmt
-use Rattle.reading.specs.Readers.{Fault, Stop, Deep, Reader, ◌>>=◌, lead_as, lead, seen, behind_on, behind, both_behind_on, both_behind, many, no_step, plus, follow, choose}
-use Rattle.reading.specs.Printing.{begins, on_mark, peek}
+use Rattle.reading.specs.Readers.{Fault, Stop, Deep, Reader, lead_as, lead, seen, behind_on, behind, both_behind_on, both_behind, many, no_step, plus, follow}
+use Rattle.reading.specs.Printing.{begins}
 use Rattle.reading.proofs.Texts.{next_none}
 use Rattle.reading.proofs.Turns.{Turns, turns_start, turns_on, turns_end, turns_fail}
 use Rattle.cob_parse_expr.specs.declared.halt.Halt.{Halt}

@@ -1,5 +1,5 @@
 -- Statements are read behind their heads.
-use Rattle.std.proofs.Common.{◌≡◌, ℕ, ◌&&◌, Bool, true, false, List, [], ◌∷◌, length, Option, Some, None, is_some, Result, Ok, Err, refl, sym, ap, subst, ◌∙◌}
+use Rattle.std.proofs.Common.{◌≡◌, ℕ, ◌&&◌, Bool, true, false, List, [], ◌∷◌, length, Option, Some, None, is_some, Result, Ok, Err, refl, sym, ap, ◌∙◌}
 use Rattle.cob_tree.specs.declared.keyword.Keyword.{Keyword}
 use Rattle.cob_tree.specs.declared.keyword.Keyword.TheVariants as word
 use Rattle.cob_tree.specs.declared.operand.Ref.{Ref}
@@ -7,10 +7,10 @@ use Rattle.cob_tree.specs.declared.stmt.Subject.{Subject}
 use Rattle.cob_tree.specs.Symbols.{Symbol, Key, Sign}
 use Rattle.cob_tree.specs.Cond.{Cond}
 use Rattle.cob_tree.specs.Cues.{Cue, Starts, Whens, NotRelates}
-use Rattle.cob_tree.specs.Stmt.{Sel, Loop, Stmt, Verb, Stmts, MkWhen, When}
-use Rattle.cob_tree.specs.Takes.{takes_sel, takes_stmts}
-use Rattle.reading.specs.Readers.{Fault, Stop, Deep, Reader, ◌>>=◌, lead, follow, branch, seen, optional_on, optional, behind, both_behind, left_on, missing, need_on, need, stands}
-use Rattle.reading.specs.Printing.{Front, goes_by}
+use Rattle.cob_tree.specs.Stmt.{Sel, Loop, Stmt, Stmts, MkWhen, When}
+use Rattle.cob_tree.specs.Takes.{takes_stmts}
+use Rattle.reading.specs.Readers.{Fault, Stop, Reader, ◌>>=◌, lead, follow, seen, optional_on, optional, behind, both_behind, left_on, missing, need_on, need, stands}
+use Rattle.reading.specs.Printing.{goes_by}
 use Rattle.cob_parse_expr.specs.declared.halt.Halt.{Halt}
 use Rattle.cob_parse_expr.specs.declared.halt.Halt.TheVariants as halt
 use Rattle.cob_parse_expr.specs.Steps.{Fails}
@@ -20,8 +20,8 @@ use Rattle.cob_parse_verb.specs.Procedure.{procedure, word_front, token_front}
 use Rattle.cob_parse_verb.specs.Heads.{Arithmetic, Head, done, arithmetic, if_head, evaluate_head, perform_head, read_head, end_word, takes_behind}
 use Rattle.cob_parse_verb.specs.Reading.{head_at}
 use Rattle.cob_parse_verb.specs.Turning.{choices_at}
-use Rattle.cob_parse_proc.specs.Reading.{here, one_word, nots, may_go, last, make_when, Case, whens_with, Inside, list_inside, whens_inside, make_whens, inside_with, error_with, first_with, second_with, given_word, end_with, when_with, make_stmt, stmt_with}
-use Rattle.cob_parse_proc.specs.StmtSteps.{may, left_at, list_on, list_at, behind_error, close_on, close_at, make_chosen, arithmetic_at, if_at, evaluate_at, perform_at, read_at, verb_at, on_line}
+use Rattle.cob_parse_proc.specs.Reading.{here, one_word, nots, may_go, last, make_when, Case, whens_with, Inside, list_inside, inside_with, error_with, first_with, second_with, given_word, end_with, when_with, make_stmt, stmt_with}
+use Rattle.cob_parse_proc.specs.StmtSteps.{may, left_at, list_on, list_at, behind_error, close_on, arithmetic_at, if_at, evaluate_at, perform_at, read_at, verb_at, on_line}
 use Rattle.cob_parse_proc.proofs.NotLemmas.{if_head_may, perform_head_may, evaluate_head_may, choices_may, sels_take}
 
 -- ---- where something has to stand
