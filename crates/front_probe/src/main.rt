@@ -5,6 +5,7 @@ use cob_lex::{LexEnd, tokens_of};
 use cob_lines::{TextEnd, text_of};
 use cob_parse_expr::ParseEnd;
 use cob_parse_proc::program_of;
+use cob_tree::Token;
 use std::alloc::Global;
 use std::rt::Files;
 use std::{env, fs, io};
@@ -48,12 +49,17 @@ impl From<ParseEnd> for Refusal {
     }
 }
 
+// The text isn't kept once its tokens stand.
+fn tokens_in(alloc: Global, bytes: &[u8]) -> Result<Vec<Token>, Refusal> {
+    let text = text_of(alloc, bytes)?;
+    Ok(tokens_of(alloc, &text)?)
+}
+
 fn read(alloc: Global, bytes: &[u8]) -> Result<(), Refusal> {
     if bytes.len() > 1_048_576 {
         return Err(Refusal::TooLong);
     }
-    let text = text_of(alloc, bytes)?;
-    let tokens = tokens_of(alloc, &text)?;
+    let tokens = tokens_in(alloc, bytes)?;
     program_of(alloc, &tokens)?;
     Ok(())
 }
