@@ -51,14 +51,14 @@ impl From<ParseEnd> for Refusal {
 
 // The text isn't kept once its tokens stand.
 fn tokens_in(alloc: Global, bytes: &[u8]) -> Result<Vec<Token>, Refusal> {
+    if bytes.len() > 1_048_576 {
+        return Err(Refusal::TooLong);
+    }
     let text = text_of(alloc, bytes)?;
     Ok(tokens_of(alloc, &text)?)
 }
 
 fn read(alloc: Global, bytes: &[u8]) -> Result<(), Refusal> {
-    if bytes.len() > 1_048_576 {
-        return Err(Refusal::TooLong);
-    }
     let tokens = tokens_in(alloc, bytes)?;
     program_of(alloc, &tokens)?;
     Ok(())
