@@ -15,7 +15,7 @@ use crate::token::{
 };
 use crate::verb::{
     Branches, Cases, Ends, tail, when, with_body, with_branches, with_cases, with_ends,
-    with_phrases,
+    with_phrases, with_room,
 };
 use cob_parse_expr::{Halt, Lexeme};
 use cob_parse_verb::{Head, choices_in, head_in};
@@ -140,7 +140,7 @@ fn whens_in(
     ensures rest { IfOk result (λ x. length x.3.now ≤ length lexemes.now) }
 {
     let (first, mut takes_not, mut left) = when_in(alloc, lexemes, room)?;
-    let mut whens = Vec::new(alloc);
+    let mut whens = with_room(alloc)?;
     whens.push(first)?;
     'whens: while when_begins(left) {
         if let Some(rest) = both_behind(Keyword::When, Keyword::Other, left) {
@@ -274,7 +274,7 @@ pub fn stmts_in(
         return Err(full(lexemes));
     }
     let (first, mut takes_not, mut left) = stmt_in(alloc, lexemes, room - 1)?;
-    let mut stmts = Vec::new(alloc);
+    let mut stmts = with_room(alloc)?;
     stmts.push(first)?;
     'stmts: while starts(left) {
         let (stmt, takes, rest) = stmt_in(alloc, left, room - 1)?;

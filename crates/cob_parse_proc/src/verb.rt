@@ -1,4 +1,4 @@
-ghost use Rattle.std.specs.Prelude.{◌≡◌, ◌≤◌, ℕ, List, false, IfOk, length, map};
+ghost use Rattle.std.specs.Prelude.{◌≡◌, ◌≤◌, ℕ, List, [], false, IfOk, length, map};
 ghost use Rattle.std.specs.Option.{option_map};
 ghost use Rattle.cob_tree.specs.CondView.{plain_cond};
 ghost use Rattle.cob_tree.specs.Symbols.{Sign};
@@ -15,6 +15,7 @@ ghost use Rattle.cob_parse_proc.specs.StmtSteps.{Branches as Two, Cases as Choic
 use cob_parse_expr::{Halt, Lexeme};
 use cob_parse_verb::Arithmetic;
 use cob_tree::{Cond, Loop, Many, Name, Ref, Sel, Stmt, Subject, Tail, Verb, When};
+use std::alloc::{AllocError, Global};
 
 /// The two lists of IF, and whether END-IF stands.
 #[derive(Drop)]
@@ -99,6 +100,13 @@ pub fn when(choices: Vec<Sel>, body: Vec<Stmt>) -> When
         choices: Many::of(choices),
         body,
     }
+}
+
+/// An empty list with room for one, since most lists of statements hold one.
+pub fn with_room<T>(alloc: Global) -> Result<Vec<T>, AllocError>
+    ensures { IfOk result (λ list. list.items ≡ []) }
+{
+    Vec::with_capacity(alloc, 1)
 }
 
 // What stands before the lists of a statement, with what was read behind it, whatever reader that is of.

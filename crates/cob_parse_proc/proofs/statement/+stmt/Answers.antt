@@ -124,7 +124,7 @@ whens_in-returns-in_err-first-clause-gives t c = gives_wrong _ c.from_residual.r
 
 pub whens_in-whens-init : goal.whens_in-whens-init
 whens_in-whens-init t c =
-    let one : map plain_when c.push.new.self.items ≡ plain_when c.in_ok-first.first ∷ [] = rw (c.in_ok-push.ensures.items, c.new-whens.ensures.items) refl in
+    let one : map plain_when c.push.new.self.items ≡ plain_when c.in_ok-first.first ∷ [] = rw (c.in_ok-push.ensures.items, c.in_ok-whens.ensures) refl in
     record {
       chosen = subst (λ (ws : List When). Chosen (stmts_at c.args.room) c.args.room ws (signs c.in_ok-first.left.now) (signs c.args.lexemes.now)) (sym one) (chosen_first (stmts_at c.args.room) c.args.room (signs c.args.lexemes.now) (signs c.in_ok-first.left.now) (plain_when c.in_ok-first.first) c.in_ok-first.ensures.gives);
       takes = c.in_ok-first.ensures.takes ∙ sym (ap (λ (ws : List When). may (takes_whens (whens_of ws))) one ∙ whens_may [] (plain_when c.in_ok-first.first));
@@ -252,7 +252,7 @@ stmts_in-returns-in_err-first-clause-gives t c = gives_wrong _ c.from_residual.r
 
 pub stmts_in-stmts-init : goal.stmts_in-stmts-init
 stmts_in-stmts-init t c =
-    let one : map plain_stmt c.push.new.self.items ≡ plain_stmt c.in_ok-first.first ∷ [] = rw (c.in_ok-push.ensures.items, c.new-stmts.ensures.items) refl in
+    let one : map plain_stmt c.push.new.self.items ≡ plain_stmt c.in_ok-first.first ∷ [] = rw (c.in_ok-push.ensures.items, c.in_ok-stmts.ensures) refl in
     record {
       listed = subst (λ (ss : List Stmt). Listed (stmt_with (stmts_at (c.args.room - 1)) (c.args.room - 1)) ss (signs c.in_ok-first.left.now) (signs c.args.lexemes.now)) (sym one) (listed_first (stmt_with (stmts_at (c.args.room - 1)) (c.args.room - 1)) (signs c.args.lexemes.now) (signs c.in_ok-first.left.now) (plain_stmt c.in_ok-first.first) c.in_ok-first.ensures.gives);
       takes = c.in_ok-first.ensures.takes ∙ sym (ap (λ (ss : List Stmt). may (takes_stmts (stmts_of ss))) one ∙ stmts_may [] (plain_stmt c.in_ok-first.first));
