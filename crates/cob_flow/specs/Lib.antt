@@ -1,0 +1,6 @@
+pub mod Laid
+pub mod Places
+pub mod Nodes
+pub mod Copies
+pub mod Graphs
+pub mod Nesting
