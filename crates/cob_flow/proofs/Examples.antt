@@ -1,5 +1,5 @@
 -- Small programs, worked out.
-use Rattle.std.specs.Prelude.{◌≡◌, ◌+◌, ℕ, Bool, true, false, List, [], ◌∷◌, Option, Some, None, pos, negsuc}
+use Rattle.std.specs.Prelude.{◌≡◌, ◌+◌, ℕ, Bool, true, false, List, [], ◌∷◌, map, Option, Some, None, pos, negsuc}
 use Rattle.std.proofs.Common.{refl}
 use Rattle.dec_num.specs.declared.types.Mode.TheVariants.{Trunc, Round}
 use Rattle.cob_tree.specs.declared.fault.Kind.TheVariants as kind
@@ -15,12 +15,18 @@ use Rattle.cob_data.specs.declared.layout.Sender.TheVariants as sender
 use Rattle.cob_program.specs.declared.act.How.TheVariants as how
 use Rattle.cob_program.specs.declared.act.Target.{Target}
 use Rattle.cob_program.specs.Sum.{Sum, MkSum, no_parts, more_parts, MkPart, no_factors, more_factors, MkFactor, item, number}
-use Rattle.cob_program.specs.Logic.{numbers, test}
+use Rattle.cob_program.specs.Logic.{numbers, Logic, test, all_of, any_of, not_, no_logics, more_logics}
 use Rattle.cob_data.specs.declared.layout.FileDecl.{FileDecl}
-use Rattle.cob_program.specs.Act.{once, until, times, MkStmt, Stmts, no_stmts, more_stmts, left_out, given, Act, move, arith, perform, go, nothing, stop, open_files, read, show, range, inline, Para, Program}
+use Rattle.cob_program.specs.Act.{once, until, times, varying, MkStmt, Stmts, no_stmts, more_stmts, left_out, given, Act, move, arith, perform, go, nothing, stop, open_files, read, show, range, inline, Para, Program}
 use Rattle.cob_meaning.specs.declared.straight.Outcome.TheVariants.{Going, Ended, IoStop, Fault}
 use Rattle.cob_meaning.specs.State.{State}
 use Rattle.cob_meaning.specs.Runs.{run}
+use Rattle.cob_meaning.specs.declared.action.Action.{Action}
+use Rattle.cob_meaning.specs.declared.action.Action.TheVariants as action
+use Rattle.cob_flow.specs.declared.graph.Node.{Node}
+use Rattle.cob_flow.specs.declared.graph.Edge.{Edge}
+use Rattle.cob_flow.specs.Laid.{MkLaid, no_laid, more_laid, a_phrase, showing, skipping, ending, deciding, performing, reading, own_list, copy, LaidParas, no_laid_paras, more_laid_paras}
+use Rattle.cob_flow.specs.Graphs.{as_node, all_nodes, edges_of}
 
 abbrev item_of : ℕ → ℕ → Form → Option Sender → Item
 item_of offset length f value = record { name = Some (78 ∷ []); offset = offset; length = length; form = f; parent = None; line = 5; value = value }
@@ -203,3 +209,49 @@ an_empty_file = refl
 
 a_record : (told (Some ((65 ∷ 66 ∷ []) ∷ [])) (listing None) 4).world.shown ≡ 32 ∷ 32 ∷ 10 ∷ 65 ∷ 66 ∷ 10 ∷ []
 a_record = refl
+
+-- ---- graphs
+
+abbrev edge : ℕ → Action → ℕ → Edge
+edge from action to = record { from = from; to = to; action = action }
+
+abbrev a_node : ℕ → List ℕ → Bool → Node
+a_node statement sites starts = record { statement = statement; sites = sites; starts = starts }
+
+abbrev laid_twice : LaidParas
+laid_twice = more_laid_paras no_laid
+    (more_laid_paras (more_laid (MkLaid 1 (performing (copy 2 (more_laid_paras (more_laid (MkLaid 3 showing) no_laid) no_laid_paras)) (times (sender.Number (numeral (50 ∷ []) 0))))) (more_laid (MkLaid 2 ending) no_laid))
+    (more_laid_paras (more_laid (MkLaid 3 showing) no_laid) no_laid_paras))
+
+its_nodes : map as_node (all_nodes twice laid_twice)
+    ≡ a_node 1 [] true ∷ a_node 1 [] true ∷ a_node 3 (1 ∷ []) true ∷ a_node 1 [] true ∷ a_node 2 [] true ∷ a_node 3 [] true ∷ a_node 0 [] false ∷ []
+its_nodes = refl
+
+its_edges : edges_of 1 (all_nodes twice laid_twice)
+    ≡ edge 1 action.SetCount 2 ∷ edge 2 (action.True 0) 3 ∷ edge 2 (action.False 0) 5 ∷ edge 3 action.Show 4 ∷ edge 4 action.Down 2 ∷ edge 5 action.Skip 7 ∷ edge 6 action.Show 7 ∷ []
+its_edges = refl
+
+-- IF A = 1 OR A = 2 AND A = 3 CONTINUE ELSE EXIT, then DISPLAY
+abbrev equals : ℕ → Logic
+equals c = test (numbers (atom_sum (numeral (c ∷ []) 0)) rel.Equal (atom_sum (numeral (c ∷ []) 0)))
+
+abbrev both_or_one : Logic
+both_or_one = any_of (more_logics (equals 49) (more_logics (all_of (more_logics (equals 50) (more_logics (not_ (equals 51)) no_logics))) no_logics))
+
+abbrev laid_if : LaidParas
+laid_if = more_laid_paras (more_laid (MkLaid 1 (deciding both_or_one (more_laid (MkLaid 2 skipping) no_laid) (more_laid (MkLaid 3 skipping) no_laid))) (more_laid (MkLaid 4 showing) no_laid)) no_laid_paras
+
+if_edges : edges_of 1 (all_nodes twice laid_if)
+    ≡ edge 1 (action.True 0) 4 ∷ edge 1 (action.False 0) 2 ∷ edge 2 (action.True 1) 3 ∷ edge 2 (action.False 1) 5
+    ∷ edge 3 (action.True 2) 5 ∷ edge 3 (action.False 2) 4 ∷ edge 4 action.Skip 6 ∷ edge 5 action.Skip 6 ∷ edge 6 action.Show 7 ∷ []
+if_edges = refl
+
+-- READ F INTO X AT END DISPLAY NOT AT END CONTINUE, without FILE STATUS; then VARYING .. TEST AFTER round DISPLAY
+abbrev laid_read : LaidParas
+laid_read = more_laid_paras (more_laid (MkLaid 1 (reading 0 true (a_phrase (more_laid (MkLaid 2 showing) no_laid)) (more_laid (MkLaid 3 skipping) no_laid)))
+    (more_laid (MkLaid 4 (performing (own_list (more_laid (MkLaid 5 showing) no_laid)) (varying true 0 sender.Zero sender.Zero (equals 49)))) no_laid)) no_laid_paras
+
+read_edges : edges_of 1 (all_nodes (listing None) laid_read)
+    ≡ edge 1 action.Take 2 ∷ edge 1 action.AtEnd 3 ∷ edge 1 (action.Bad 0) 9 ∷ edge 2 action.Assign 4 ∷ edge 3 action.Show 5 ∷ edge 4 action.Skip 5
+    ∷ edge 5 action.Assign 6 ∷ edge 6 action.Show 7 ∷ edge 7 (action.True 0) 9 ∷ edge 7 (action.False 0) 8 ∷ edge 8 action.Done 6 ∷ []
+read_edges = refl

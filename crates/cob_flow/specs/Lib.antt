@@ -4,3 +4,4 @@ pub mod Nodes
 pub mod Copies
 pub mod Graphs
 pub mod Nesting
+pub mod Walks

@@ -90,26 +90,35 @@ module _ (l : Layout) where
   found_in c d None storage = chosen_in c d storage
   found_in c d (Some r) storage = record_in d r storage
 
+  abbrev pub taken_world : Choice → ℕ → FileDecl → Taken → World → World × ℕ
+  taken_world c place d t w =
+      (with_storage (with_files w (slice_set w.files place t.file)) (found_in c d t.found (with_status l d t.status w.storage)), t.status)
+
+  abbrev pub take_on : Choice → ℕ → Option FileDecl → Option File → World → World × ℕ
+  take_on c place (Some d) (Some f) w = taken_world c place d (after_read f) w
+  take_on c place d f w = (w, 0)
+
+  -- READ without INTO
+  abbrev pub take_one : Choice → ℕ → World → World × ℕ
+  take_one c place w = take_on c place (decl_at place) (slice_get w.files place) w
+
   -- INTO gets the record area as a group
-  abbrev pub into_from : FileDecl → Option ℕ → List ℕ → List ℕ
-  into_from d None storage = storage
-  into_from d (Some place) storage = filled_at l storage place (fitted (length_at l place) (area storage d.offset d.length))
+  abbrev pub into_from : Option FileDecl → ℕ → List ℕ → List ℕ
+  into_from None place storage = storage
+  into_from (Some d) place storage = filled_at l storage place (fitted (length_at l place) (area storage d.offset d.length))
 
-  abbrev pub into_if : Bool → FileDecl → Option ℕ → List ℕ → List ℕ
-  into_if true d into storage = into_from d into storage
-  into_if false d into storage = storage
+  abbrev pub into_one : ℕ → ℕ → World → World
+  into_one file place w = with_storage w (into_from (decl_at file) place w.storage)
 
-  abbrev pub read_found : Choice → ℕ → FileDecl → Option ℕ → Taken → World → World × ℕ
-  read_found c place d into t w =
-      (with_storage (with_files w (slice_set w.files place t.file))
-        (into_if (is_fine t.status) d into (found_in c d t.found (with_status l d t.status w.storage))), t.status)
+  abbrev pub into_if : ℕ → Option ℕ → World → World
+  into_if file None w = w
+  into_if file (Some place) w = into_one file place w
 
-  abbrev pub read_on : Choice → ℕ → Option ℕ → Option FileDecl → Option File → World → World × ℕ
-  read_on c place into (Some d) (Some f) w = read_found c place d into (after_read f) w
-  read_on c place into d f w = (w, 0)
+  abbrev pub where_fine : ℕ → Option ℕ → World × ℕ → World × ℕ
+  where_fine file into x = if is_fine x.1 then (into_if file into x.0, x.1) else x
 
   abbrev pub read_one : Choice → ℕ → Option ℕ → World → World × ℕ
-  read_one c place into w = read_on c place into (decl_at place) (slice_get w.files place) w
+  read_one c place into w = where_fine place into (take_one c place w)
 
   -- the file whose record an item is
   abbrev pub file_from : ℕ → List FileDecl → ℕ → Option ℕ

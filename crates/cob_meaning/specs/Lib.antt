@@ -11,4 +11,5 @@ pub mod Files
 pub mod State
 pub mod Acts
 pub mod Steps
+pub mod Effects
 pub mod Runs
