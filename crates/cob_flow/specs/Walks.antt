@@ -16,6 +16,11 @@ use Rattle.cob_flow.specs.Graphs.{all_nodes, final_of, IsMainCopy}
 
 -- ---- programs whose statements have what the grammar gives them
 
+abbrev pub IsWholeTurns : Turns → Type 0
+IsWholeTurns (until after t) = 1 ≤ tests_in t
+IsWholeTurns (varying after item start by t) = 1 ≤ tests_in t
+IsWholeTurns _ = Unit {0}
+
 abbrev mutual
   -- each condition has a simple condition, OPEN and CLOSE name a file, and each statement is found by its number
   pub AreWhole : Program → Stmts → Type 0
@@ -43,11 +48,6 @@ abbrev mutual
   pub IsWholeBody : Program → Body → Type 0
   IsWholeBody p (range first last) = Unit {0}
   IsWholeBody p (inline ss) = AreWhole p ss
-
-  pub IsWholeTurns : Turns → Type 0
-  IsWholeTurns (until after t) = 1 ≤ tests_in t
-  IsWholeTurns (varying after item start by t) = 1 ≤ tests_in t
-  IsWholeTurns _ = Unit {0}
 
 abbrev pub AreWholeParas : Program → List Para → Type 0
 AreWholeParas p [] = Unit {0}
