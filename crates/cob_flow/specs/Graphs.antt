@@ -1,7 +1,9 @@
 -- The graph of a program: the main copy of its paragraphs, with the copies that PERFORMs lay, and the final node.
-use Rattle.std.specs.Prelude.{◌≡◌, ◌≤◌, nat_le, ℕ, zero, suc, ◌+◌, ◌-◌, if◌then◌else◌, Bool, true, false, List, [], ◌∷◌, ◌++◌, length, map, Option, Some, None}
+use Rattle.std.specs.Prelude.{◌≡◌, ◌≤◌, ◌<◌, nat_le, min, ℕ, zero, suc, ◌+◌, ◌-◌, if◌then◌else◌, Bool, true, false, List, [], ◌∷◌, ◌++◌, length, map, Option, Some, None}
 use Rattle.cob_tree.specs.declared.form.Form.{Form}
 use Rattle.cob_tree.specs.declared.form.Form.TheVariants as form
+use Rattle.cob_data.specs.declared.end.Which.{Which}
+use Rattle.cob_data.specs.declared.end.Which.TheVariants.{Cells, Nodes}
 use Rattle.cob_data.specs.declared.layout.Item.{Item}
 use Rattle.cob_program.specs.Act.{Turns, times, Stmt, MkStmt, Stmts, no_stmts, more_stmts, Phrase, left_out, given, Act, arith, if_, evaluate, perform, read, Whens, no_whens, more_whens, MkWhen, Body, range, inline, Para, Program}
 use Rattle.cob_meaning.specs.declared.action.Action.{Action}
@@ -122,3 +124,25 @@ pub record HasNodes (p : Program) (count : ℕ) : Type 0 where
   pub copies : LaidParas
   pub laid : IsMainCopy p copies
   pub counted : count ≡ final_of copies
+
+-- ---- limits
+
+-- a greater count of nodes is told as this
+abbrev pub most_told : ℕ
+most_told = 1000000000
+
+pub record HasTooManyCells (p : Program) (count : ℕ) : Type 0 where
+  pub counted : count ≡ length (cells_of p)
+  pub over : 512 < count
+
+pub record HasTooManyNodes (p : Program) (count : ℕ) : Type 0 where
+  pub cells : length (cells_of p) ≤ 512
+  pub nodes : ℕ
+  pub counted : HasNodes p nodes
+  pub over : 4096 < nodes
+  pub told : count ≡ min nodes most_told
+
+abbrev pub IsOver : Program → Which → ℕ → Type 0
+IsOver p Cells count = HasTooManyCells p count
+IsOver p Nodes count = HasTooManyNodes p count
+IsOver p _ count = ⊥

@@ -1,6 +1,8 @@
 //! The control graph of a program: what a step may be, from where to where.
 #![tactic(auto)]
 
+mod end;
 mod graph;
 
+pub use end::FlowEnd;
 pub use graph::{Edge, Graph, Node};
