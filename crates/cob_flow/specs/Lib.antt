@@ -7,3 +7,4 @@ pub mod Nesting
 pub mod Walks
 pub mod Listing
 pub mod Reaching
+pub mod Broken

@@ -4,6 +4,7 @@
 mod calls;
 mod end;
 mod graph;
+mod reach;
 
 pub use end::FlowEnd;
 pub use graph::{Edge, Graph, Node};

@@ -80,8 +80,58 @@ fn join(marks: &mut [bool], more: &[bool])
     ensures { marks.new ≡ either marks.old more.now }
 {
     for (place, mark) in more.iter().enumerate() {
-        if *mark {
-            marks[place] = true;
-        }
+        marks[place] |= *mark;
     }
+}
+
+/// Joins what is reached from a call to each row that reaches it.
+fn join_rows(rows: &mut [Row], place: usize, more: &Row)
+    requires place { place < length more.now }
+    requires wide { (i : ℕ) → i < length rows.old → length (row_at rows.old i) ≡ length more.now }
+    ensures { rows.new ≡ map (with_row place more.now) rows.old }
+{
+    for row in rows.iter_mut() {
+        row.join_if(place, more);
+    }
+}
+
+/// Takes in the ways that go by one call more.
+fn pass(alloc: Global, rows: &mut [Row], place: usize) -> Result<(), AllocError>
+    requires place { place < length rows.old }
+    requires wide { (i : ℕ) → i < length rows.old → length (row_at rows.old i) ≡ length rows.old }
+    ensures { OnOk result (rows.new ≡ map (with_row place (row_at rows.old place)) rows.old) }
+{
+    let pivot = rows[place].copied(alloc)?;
+    join_rows(rows, place, &pivot);
+    Ok(())
+}
+
+fn direct(alloc: Global, calls: &[Call]) -> Result<Vec<Row>, AllocError>
+    ensures { IfOk result (λ rows. rows.items ≡ map (λ c. calls_in (map plain_call calls.now) c.span) (map plain_call calls.now)) }
+{
+    let mut rows = Vec::new(alloc);
+    for call in calls {
+        rows.push(Row::of(alloc, call.span, calls)?)?;
+    }
+    Ok(rows)
+}
+
+/// Takes in the ways by all calls, where the rows say what is reached directly.
+fn close(alloc: Global, calls: &[Call], rows: &mut [Row]) -> Result<(), AllocError>
+    requires { IsReached (map plain_call calls.now) 0 rows.old }
+    ensures { OnOk result (IsReached (map plain_call calls.now) (length calls.now) rows.new) }
+{
+    for place in 0..calls.len() {
+        pass(alloc, rows, place)?;
+    }
+    Ok(())
+}
+
+/// A row for each call: the calls that its range has, or reaches.
+pub fn reached(alloc: Global, calls: &[Call]) -> Result<Vec<Row>, AllocError>
+    ensures { IfOk result (λ rows. IsReached (map plain_call calls.now) (length calls.now) rows.items) }
+{
+    let mut rows = direct(alloc, calls)?;
+    close(alloc, calls, rows.as_mut_slice())?;
+    Ok(rows)
 }
