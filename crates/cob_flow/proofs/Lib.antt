@@ -1,3 +1,7 @@
 mod Examples
 mod ListingLemmas
 mod ReachLemmas
+mod LeastLemmas
+mod BoolLemmas
+mod NestLemmas
+mod FirstLemmas

@@ -7,7 +7,10 @@ use Rattle.cob_program.specs.declared.program.Para as declared_para
 use Rattle.cob_program.specs.Act.{Stmt, MkStmt, Stmts, more_stmts, stmts_of, When, MkWhen, Whens, more_whens, whens_of}
 use Rattle.cob_program.specs.ActView.{plain_stmt, plain_when, plain_para}
 use Rattle.cob_flow.specs.Nesting.{Call, Jump, Found, ◌&◌, nothing_found, found, found_whens, found_among}
-use Rattle.cob_flow.specs.Listing.{found_stmt, found_when}
+use Rattle.cob_flow.specs.declared.calls.Call as declared_call
+use Rattle.cob_flow.specs.declared.calls.Jump as declared_jump
+use Rattle.cob_flow.specs.declared.calls.Found as declared_found
+use Rattle.cob_flow.specs.Listing.{plain_call, plain_jump, plain_found, found_stmt, found_when}
 
 pub and_assoc : (a b c : Found) → (a & b) & c ≡ a & (b & c)
 and_assoc a b c =
@@ -67,3 +70,9 @@ paras_step xs i x within is = ap (λ ys. found_among i (map plain_para ys)) (ite
 
 pub paras_end : (xs : List declared_para.Para) (i : ℕ) → length xs ≤ i → paras_from xs i ≡ nothing_found
 paras_end xs i past = ap (λ ys. found_among i (map plain_para ys)) (drop_all i xs past)
+
+abbrev pub listed : List declared_call.Call → List declared_jump.Jump → Found
+listed calls jumps = record { calls = map plain_call calls; jumps = map plain_jump jumps }
+
+pub listed_is : (f : declared_found.Found) (calls : List declared_call.Call) (jumps : List declared_jump.Jump) (all : Found) → calls ≡ f.calls.items → jumps ≡ f.jumps.items → plain_found f ≡ all → listed calls jumps ≡ all
+listed_is f calls jumps all same_calls same_jumps is = ap (λ xs. listed xs jumps) same_calls ∙ ap (listed f.calls.items) same_jumps ∙ is

@@ -1,7 +1,10 @@
 -- The least line at which something is broken, and the tests of the rules on calls and jumps at their places.
-use Rattle.std.specs.Prelude.{◌≡◌, ◌≤◌, ℕ, zero, suc, max, min, Bool, ◌&&◌, not, nat_le, nat_lt, List, length, slice_index_or, Option, Some, None}
+use Rattle.std.specs.Prelude.{◌≡◌, ◌≤◌, ℕ, zero, suc, max, min, Bool, ◌&&◌, not, nat_le, nat_lt, List, length, slice_index_or, Option, Some, None, Result, Ok, Err}
 use Rattle.rule_order.specs.Order.{lesser, noted}
 use Rattle.cob_data.specs.declared.end.Rule.{Rule}
+use Rattle.cob_data.specs.declared.end.Rule.TheVariants.{N1, N2, N3, N4}
+use Rattle.cob_flow.specs.declared.end.FlowEnd.{FlowEnd}
+use Rattle.cob_flow.specs.declared.end.FlowEnd.TheVariants.{Outside}
 use Rattle.cob_flow.specs.Nesting.{Span, Call, Jump, Found, IsBrokenBy, before}
 use Rattle.cob_flow.specs.Reaching.{is_in, call_at, through}
 use Rattle.std.specs.List.{Contains}
@@ -68,3 +71,15 @@ pub record IsFirst (f : Found) (told : Option (Rule × ℕ)) : Type 0 where
   pub kept : told ≡ None → (rule : Rule) (line : ℕ) → IsBrokenBy f rule line → ⊥
   pub outside : (rule : Rule) (line : ℕ) → told ≡ Some (rule, line) → IsFirstOf f rule line
   pub exact : (rule : Rule) (line : ℕ) → IsFirstOf f rule line → told ≡ Some (rule, line)
+
+abbrev pub told : Option ℕ → Option ℕ → Option ℕ → Option ℕ → Option (Rule × ℕ)
+told (Some line) crossing leaving reversed = Some (N1, line)
+told None (Some line) leaving reversed = Some (N2, line)
+told None None (Some line) reversed = Some (N3, line)
+told None None None (Some line) = Some (N4, line)
+told None None None None = None
+
+-- the answer, where memory doesn't run out
+abbrev pub answer_of : Option (Rule × ℕ) → Result (Unit {0}) FlowEnd
+answer_of None = Ok tt
+answer_of (Some (rule, line)) = Err (Outside rule line)

@@ -4,6 +4,7 @@
 mod calls;
 mod end;
 mod graph;
+mod nesting;
 mod reach;
 
 pub use end::FlowEnd;
