@@ -22,21 +22,6 @@ either_at (x ∷ xs) [] j same = absurd (omega (arith, same))
 either_at (x ∷ xs) (y ∷ ys) zero same = refl
 either_at (x ∷ xs) (y ∷ ys) (suc j) same = either_at xs ys j (omega (arith, same))
 
--- a loop that joins: what is left joined, behind what is done
-pub join_step : (xs ys : List Bool) (i : ℕ) (x y : Bool) (whole : List Bool) → i < length xs → i < length ys → x ≡ get_or xs i x → y ≡ get_or ys i y →
-    take i xs ++ either (drop i xs) (drop i ys) ≡ whole → take (i + 1) (set xs i (x || y)) ++ either (drop (i + 1) (set xs i (x || y))) (drop (i + 1) ys) ≡ whole
-join_step xs ys i x y whole within within_more read read_more so_far =
-    ap (λ zs. zs ++ either (drop (i + 1) (set xs i (x || y))) (drop (i + 1) ys)) (take_more_set xs i (x || y) within)
-    ∙ ap (λ zs. (take i xs ++ (x || y) ∷ []) ++ either zs (drop (i + 1) ys)) (drop-set-lt (i + 1) xs i (x || y) (omega arith))
-    ∙ append_assoc (take i xs) ((x || y) ∷ []) (either (drop (i + 1) xs) (drop (i + 1) ys))
-    ∙ sym (ap (λ zs. take i xs ++ either zs (drop i ys)) (drop_more xs i x within ∙ ap (λ z. z ∷ drop (i + 1) xs) (sym read))
-        ∙ ap (λ zs. take i xs ++ either (x ∷ drop (i + 1) xs) zs) (drop_more ys i y within_more ∙ ap (λ z. z ∷ drop (i + 1) ys) (sym read_more)))
-    ∙ so_far
-
-pub join_end : (xs ys : List Bool) (i : ℕ) (whole : List Bool) → length xs ≤ i → take i xs ++ either (drop i xs) (drop i ys) ≡ whole → xs ≡ whole
-join_end xs ys i whole past so_far =
-    sym (ap (λ zs. take i xs ++ either zs (drop i ys)) (drop_all i xs past) ∙ append-nil (take i xs) ∙ take_all i xs past) ∙ so_far
-
 with_row_at_when : (b : Bool) (pivot row : List Bool) (j : ℕ) → length row ≡ length pivot →
     get_or (if b then either row pivot else row) j false ≡ (get_or row j false || (b && get_or pivot j false))
 with_row_at_when true pivot row j same = either_at row pivot j same

@@ -9,3 +9,7 @@ mod reach;
 
 pub use end::FlowEnd;
 pub use graph::{Edge, Graph, Node};
+pub use nesting::nested;
+
+#[cfg(test)]
+mod tests;
