@@ -70,28 +70,28 @@ crossing_is s t e =
     let meet : max s.first t.first ≤ min s.last t.last = le_is _ _ both.0 in (
       (λ none. none (max s.first t.first) (record { from = omega arith; to = omega (arith, meet) }) (record { from = omega arith; to = omega (arith, meet) })),
       (λ inside.
-        let first = (inside.all s.first (record { from = omega arith; to = omega (arith, meet) })).from in
-        let last = (inside.all s.last (record { from = omega (arith, meet); to = omega arith })).to in
-        let so = true_and (nat_le t.first s.first) (nat_lt s.last t.last) (is_le _ _ first) (is_lt _ _ (omega (arith, last, inside.exit))) in
-        let other = not_true (within s t) both.1 in
-        cc),
+          let first = (inside.all s.first (record { from = omega arith; to = omega (arith, meet) })).from in
+          let last = (inside.all s.last (record { from = omega (arith, meet); to = omega arith })).to in
+          let so = true_and (nat_le t.first s.first) (nat_lt s.last t.last) (is_le _ _ first) (is_lt _ _ (omega (arith, last, inside.exit))) in
+          let other = not_true (within s t) both.1 in
+          cc),
     )
 
 pub is_crossing_from : (s t : Span) → (ShareNone s t → ⊥) → (IsWithin s t → ⊥) → is_crossing s t ≡ true
 is_crossing_from s t some outside =
     true_and (shares s t) (not (within s t)) (meeting (shares s t) refl)
     (true_not (within s t) (λ e.
-        let both = and_true (nat_le t.first s.first) (nat_lt s.last t.last) e in
-        let first = le_is _ _ both.0 in
-        let last = lt_is _ _ both.1 in
-        outside (record { all = λ n h. record { from = omega (arith, first, h.from); to = omega (arith, last, h.to) }; exit = λ same. omega (arith, last, same) })))
+    let both = and_true (nat_le t.first s.first) (nat_lt s.last t.last) e in
+    let first = le_is _ _ both.0 in
+    let last = lt_is _ _ both.1 in
+    outside (record { all = λ n h. record { from = omega (arith, first, h.from); to = omega (arith, last, h.to) }; exit = λ same. omega (arith, last, same) })))
   where
     meeting : (b : Bool) → shares s t ≡ b → b ≡ true
     meeting true e = refl
     meeting false e =
         absurd (some (λ n h g.
-            let meet = is_le (max s.first t.first) (min s.last t.last) (omega (arith, h.from, h.to, g.from, g.to)) in
-            cc))
+        let meet = is_le (max s.first t.first) (min s.last t.last) (omega (arith, h.from, h.to, g.from, g.to)) in
+        cc))
 
 pub leaving_is : (j : Jump) (s : Span) → is_leaving j s ≡ true → IsIn j.para s × (IsIn j.to s → ⊥)
 leaving_is j s e =

@@ -45,6 +45,6 @@ crossing_read cs rows outer i c d row b is within inside read told =
     let n : length (map plain_call cs) ≡ length cs = length-map cs plain_call in
     ap (λ x. line_where x (get_or cs i d).line) told
     ∙ ap (λ x. line_where (x && is_crossing (plain_span (get_or cs i d).span) (plain_span (get_or cs outer c).span)) (get_or cs i d).line)
-      (mark_read rows outer i row (omega (arith, is.count, n)) read ∙ is.marks outer i (omega (arith, n)) (omega (arith, n)) ∙ ap (λ k. through (map plain_call cs) k outer i) (sym n))
+    (mark_read rows outer i row (omega (arith, is.count, n)) read ∙ is.marks outer i (omega (arith, n)) (omega (arith, n)) ∙ ap (λ k. through (map plain_call cs) k outer i) (sym n))
     ∙ ap (λ (x : Call). line_where (through (map plain_call cs) (length (map plain_call cs)) outer i && is_crossing x.span (plain_span (get_or cs outer c).span)) x.line) (call_read cs i d inside)
     ∙ ap (λ (x : Call). line_where (through (map plain_call cs) (length (map plain_call cs)) outer i && is_crossing (call_at (map plain_call cs) i).span x.span) (call_at (map plain_call cs) i).line) (call_read cs outer c within)

@@ -112,19 +112,19 @@ module _ (cs : List Call) where
   goes_onward (suc k) m i j below a b =
       ⊎_elim
       (λ (h : m < k).
-        ⊎_elim
-        (λ (p : Goes k i m).
-          ⊎_elim (λ (q : Goes k m j). goes_more k i j (goes_onward k m i j h p q))
-          (λ (q : Goes k m k × Goes k k j). goes_by k i j (goes_onward k m i k h p q.0) q.1) (goes_cases k m j b))
-        (λ (p : Goes k i k × Goes k k m).
-          ⊎_elim (λ (q : Goes k m j). goes_by k i j p.0 (goes_onward k m k j h p.1 q))
-          (λ (q : Goes k m k × Goes k k j). goes_by k i j p.0 q.1) (goes_cases k m j b))
-        (goes_cases k i m a))
+      ⊎_elim
+      (λ (p : Goes k i m).
+      ⊎_elim (λ (q : Goes k m j). goes_more k i j (goes_onward k m i j h p q))
+      (λ (q : Goes k m k × Goes k k j). goes_by k i j (goes_onward k m i k h p q.0) q.1) (goes_cases k m j b))
+      (λ (p : Goes k i k × Goes k k m).
+      ⊎_elim (λ (q : Goes k m j). goes_by k i j p.0 (goes_onward k m k j h p.1 q))
+      (λ (q : Goes k m k × Goes k k j). goes_by k i j p.0 q.1) (goes_cases k m j b))
+      (goes_cases k i m a))
       (λ (h : k ≤ m).
-        let same : m ≡ k = omega (arith, h, below) in
-        goes_by k i j
-        (⊎_elim (λ (p : Goes k i k). p) (λ (p : Goes k i k × Goes k k k). p.0) (goes_cases k i k (subst (λ x. Goes (suc k) i x) same a)))
-        (⊎_elim (λ (p : Goes k k j). p) (λ (p : Goes k k k × Goes k k j). p.1) (goes_cases k k j (subst (λ x. Goes (suc k) x j) same b))))
+      let same : m ≡ k = omega (arith, h, below) in
+      goes_by k i j
+      (⊎_elim (λ (p : Goes k i k). p) (λ (p : Goes k i k × Goes k k k). p.0) (goes_cases k i k (subst (λ x. Goes (suc k) i x) same a)))
+      (⊎_elim (λ (p : Goes k k j). p) (λ (p : Goes k k k × Goes k k j). p.1) (goes_cases k k j (subst (λ x. Goes (suc k) x j) same b))))
       (cases_lt m k)
 
   goes_reaches : (k i j : ℕ) → k ≤ n → i < n → j < n → Goes k i j → Reaches cs (span i) (span j)
@@ -143,10 +143,10 @@ module _ (cs : List Call) where
   goes_lastly (suc k) i j le h g e =
       ⊎_elim (λ (p : Goes k i j). goes_lastly k i j (omega (arith, le)) h g p)
       (λ (p : Goes k i k × Goes k k j).
-          let first = goes_reaches k i k (omega (arith, le)) h (omega (arith, le)) p.0 in
-          ⊎_elim (λ (q : IsIn (call_at cs j).para (span k)). inr (k, omega (arith, le), first, q))
-          (λ (q : (m : ℕ) × (m < n) × Reaches cs (span k) (span m) × IsIn (call_at cs j).para (span m)). inr (q.0, q.1, onward first q.2, q.3))
-          (goes_lastly k k j (omega (arith, le)) (omega (arith, le)) g p.1))
+      let first = goes_reaches k i k (omega (arith, le)) h (omega (arith, le)) p.0 in
+      ⊎_elim (λ (q : IsIn (call_at cs j).para (span k)). inr (k, omega (arith, le), first, q))
+      (λ (q : (m : ℕ) × (m < n) × Reaches cs (span k) (span m) × IsIn (call_at cs j).para (span m)). inr (q.0, q.1, onward first q.2, q.3))
+      (goes_lastly k k j (omega (arith, le)) (omega (arith, le)) g p.1))
       (goes_cases k i j e)
 
   -- a range that is reached is that of a call, which is reached
@@ -176,10 +176,11 @@ module _ (cs : List Call) where
       sound l (i, h, e) =
           let is = line_is (through cs n i i) (call_at cs i).line l e in
           ⊎_elim (λ (p : IsIn (call_at cs i).para (span i)).
-              record { call = call_at cs i; stands = stands_at i h; outer = span i; performed = performed_at i h; inside = p; back = directly (call_at cs i) (stands_at i h) p; here = sym is.1 })
+          record { call = call_at cs i; stands = stands_at i h; outer = span i; performed = performed_at i h; inside = p; back = directly (call_at cs i) (stands_at i h) p; here = sym is.1 })
           (λ (q : (m : ℕ) × (m < n) × Reaches cs (span i) (span m) × IsIn (call_at cs i).para (span m)).
-              record { call = call_at cs i; stands = stands_at i h; outer = span q.0; performed = performed_at q.0 q.1; inside = q.3; back = q.2; here = sym is.1 })
+          record { call = call_at cs i; stands = stands_at i h; outer = span q.0; performed = performed_at q.0 q.1; inside = q.3; back = q.2; here = sym is.1 })
           (goes_lastly n i i (omega arith) h h is.0)
+
       complete : (l : ℕ) → BreaksCycles cs l → (m : ℕ) × Stands (cycle_at cs) n m × (m ≤ l)
       complete l b =
           let at = place b.call b.stands in
@@ -200,9 +201,10 @@ module _ (cs : List Call) where
           let both = and_true (through cs n o i) (is_crossing (span i) (span o)) is.0 in
           let crossing = crossing_is (span i) (span o) both.1 in
           let reached : IsIn (call_at cs i).para (span o) ⊎ ((between : Span) × Reaches cs (span o) between × IsIn (call_at cs i).para between) =
-              ⊎_elim (λ (p : IsIn (call_at cs i).para (span o)). inl p)
-              (λ (q : (m : ℕ) × (m < n) × Reaches cs (span o) (span m) × IsIn (call_at cs i).para (span m)). inr (span q.0, q.2, q.3)) (goes_lastly n o i (omega arith) g here.1 both.0) in
+          ⊎_elim (λ (p : IsIn (call_at cs i).para (span o)). inl p)
+          (λ (q : (m : ℕ) × (m < n) × Reaches cs (span o) (span m) × IsIn (call_at cs i).para (span m)). inr (span q.0, q.2, q.3)) (goes_lastly n o i (omega arith) g here.1 both.0) in
           record { call = call_at cs i; stands = stands_at i here.1; outer = span o; performed = performed_at o g; reached = reached; not_apart = crossing.0; not_within = crossing.1; here = sym is.1 }
+
       complete : (l : ℕ) → BreaksNests cs l → (m : ℕ) × Stands (crossings cs) n m × (m ≤ l)
       complete l b =
           let at = place b.call b.stands in
@@ -212,12 +214,12 @@ module _ (cs : List Call) where
           let outer : span o ≡ b.outer = ap (λ (x : Call). x.span) by.2 ∙ b.performed.it in
           let inner : span i ≡ b.call.span = ap (λ (x : Call). x.span) at.2 in
           let goes : Goes n o i =
-              ⊎_elim (λ (p : IsIn b.call.para b.outer). goes_into i o b.call b.outer at.2 outer p)
-              (λ (q : (between : Span) × Reaches cs b.outer between × IsIn b.call.para between).
-                  let way = reaches_goes q.1 o by.1 outer in
-                  goes_onward n way.0 o i way.1 way.3 (goes_into i way.0 b.call q.0 at.2 way.2 q.2)) b.reached in
+          ⊎_elim (λ (p : IsIn b.call.para b.outer). goes_into i o b.call b.outer at.2 outer p)
+          (λ (q : (between : Span) × Reaches cs b.outer between × IsIn b.call.para between).
+          let way = reaches_goes q.1 o by.1 outer in
+          goes_onward n way.0 o i way.1 way.3 (goes_into i way.0 b.call q.0 at.2 way.2 q.2)) b.reached in
           let crosses : is_crossing (span i) (span o) ≡ true =
-              subst (λ (s : Span). is_crossing s (span o) ≡ true) (sym inner) (subst (λ (t : Span). is_crossing b.call.span t ≡ true) (sym outer) (is_crossing_from b.call.span b.outer b.not_apart b.not_within)) in
+          subst (λ (s : Span). is_crossing s (span o) ≡ true) (sym inner) (subst (λ (t : Span). is_crossing b.call.span t ≡ true) (sym outer) (is_crossing_from b.call.span b.outer b.not_apart b.not_within)) in
           let line : (call_at cs i).line ≡ l = ap (λ (x : Call). x.line) at.2 ∙ sym b.here in
           let stands = line_from (through cs n o i && is_crossing (span i) (span o)) (call_at cs i).line (true_and (through cs n o i) (is_crossing (span i) (span o)) goes crosses) in
           let most = below_least (crossing_at cs o) n i (call_at cs i).line at.1 stands in
@@ -233,6 +235,7 @@ module _ (cs : List Call) where
           let is = line_is (is_leaving (jump_at js i) (span o)) (jump_at js i).line l here.2 in
           let leaves = leaving_is (jump_at js i) (span o) is.0 in
           record { jump = jump_at js i; stands = Contains-get_or js i blank_jump here.1; outer = span o; performed = performed_at o g; inside = leaves.0; outside = leaves.1; here = sym is.1 }
+
       complete : (l : ℕ) → BreaksJumps cs js l → (m : ℕ) × Stands (leavings cs js) n m × (m ≤ l)
       complete l b =
           let at = jump_place js b.jump b.stands in
@@ -241,7 +244,7 @@ module _ (cs : List Call) where
           let o = by.0 in
           let outer : span o ≡ b.outer = ap (λ (x : Call). x.span) by.2 ∙ b.performed.it in
           let leaves : is_leaving (jump_at js i) (span o) ≡ true =
-              subst (λ (j : Jump). is_leaving j (span o) ≡ true) (sym at.2) (subst (λ (t : Span). is_leaving b.jump t ≡ true) (sym outer) (is_leaving_from b.jump b.outer b.inside b.outside)) in
+          subst (λ (j : Jump). is_leaving j (span o) ≡ true) (sym at.2) (subst (λ (t : Span). is_leaving b.jump t ≡ true) (sym outer) (is_leaving_from b.jump b.outer b.inside b.outside)) in
           let line : (jump_at js i).line ≡ l = ap (λ (x : Jump). x.line) at.2 ∙ sym b.here in
           let most = below_least (leaving_at cs js o) (length js) i (jump_at js i).line at.1 (line_from (is_leaving (jump_at js i) (span o)) (jump_at js i).line leaves) in
           (most.0, (o, by.1, most.1), omega (arith, most.2, line))
@@ -253,6 +256,7 @@ module _ (cs : List Call) where
       sound l (i, h, e) =
           let is = line_is (nat_lt (span i).last (span i).first) (call_at cs i).line l e in
           record { call = call_at cs i; stands = stands_at i h; reversed = lt_is (span i).last (span i).first is.0; here = sym is.1 }
+
       complete : (l : ℕ) → BreaksOrder cs l → (m : ℕ) × Stands (reversed_at cs) n m × (m ≤ l)
       complete l b =
           let at = place b.call b.stands in

@@ -79,7 +79,11 @@ fn cycles_and_crossing_ranges_are_refused(rt: HostRuntime) -> Result<(), Fail> {
     let in_turn = program(
         alloc,
         3,
-        &[(0, 10, 1, Some(1)), (1, 20, 2, Some(2)), (2, 30, 1, Some(1))],
+        &[
+            (0, 10, 1, Some(1)),
+            (1, 20, 2, Some(2)),
+            (2, 30, 1, Some(1)),
+        ],
     )?;
     assert_eq!(rt; nested(alloc, &in_turn), refused(Rule::N1, 20));
     let crossing = program(alloc, 4, &[(0, 10, 1, Some(2)), (1, 20, 2, Some(3))])?;
@@ -89,7 +93,11 @@ fn cycles_and_crossing_ranges_are_refused(rt: HostRuntime) -> Result<(), Fail> {
     let far = program(
         alloc,
         5,
-        &[(0, 10, 1, Some(2)), (1, 20, 4, Some(4)), (4, 30, 2, Some(2))],
+        &[
+            (0, 10, 1, Some(2)),
+            (1, 20, 4, Some(4)),
+            (4, 30, 2, Some(2)),
+        ],
     )?;
     assert_eq!(rt; nested(alloc, &far), refused(Rule::N2, 30));
     Ok(())
@@ -150,15 +158,32 @@ fn around(alloc: Global, way: u32, list: Vec<Stmt>) -> Result<Act, AllocError> {
     let test = Logic::test(Test::Numeric(0));
     let none = Vec::new(alloc);
     match way {
-        0 => Ok(Act::If { test, yes: list, no: none }),
-        1 => Ok(Act::If { test, yes: none, no: list }),
-        2 => Ok(Act::Evaluate { whens: whens(alloc, list)?, other: none }),
-        3 => Ok(Act::Evaluate { whens: whens(alloc, none)?, other: list }),
+        0 => Ok(Act::If {
+            test,
+            yes: list,
+            no: none,
+        }),
+        1 => Ok(Act::If {
+            test,
+            yes: none,
+            no: list,
+        }),
+        2 => Ok(Act::Evaluate {
+            whens: whens(alloc, list)?,
+            other: none,
+        }),
+        3 => Ok(Act::Evaluate {
+            whens: whens(alloc, none)?,
+            other: list,
+        }),
         4 => Ok(arith(alloc, Some(list), none)),
         5 => Ok(arith(alloc, None, list)),
         6 => Ok(read(Some(list), none)),
         7 => Ok(read(None, list)),
-        _ => Ok(Act::Perform { body: Body::Inline(list), turns: Turns::Once }),
+        _ => Ok(Act::Perform {
+            body: Body::Inline(list),
+            turns: Turns::Once,
+        }),
     }
 }
 
@@ -170,9 +195,21 @@ fn each_list_of_a_statement_is_looked_into(rt: HostRuntime) -> Result<(), Fail> 
         let act = around(alloc, way, one(alloc, 40, reversed)?)?;
         let body = Many::of(one(alloc, 39, act)?);
         let mut paras = Vec::new(alloc);
-        paras.push(Para { name: None, line: 0, body })?;
-        let program = Program { layout: layout(alloc), paras: Many::of(paras), statements: 2 };
-        assert_eq!(rt; nested(alloc, &program), refused(Rule::N4, 40), "in list {way}");
+        paras.push(Para {
+            name: None,
+            line: 0,
+            body,
+        })?;
+        let program = Program {
+            layout: layout(alloc),
+            paras: Many::of(paras),
+            statements: 2,
+        };
+        assert_eq!(rt;
+            nested(alloc, &program),
+            refused(Rule::N4, 40),
+            "in list {way}"
+        );
     }
     Ok(())
 }
