@@ -1,5 +1,5 @@
 -- The first broken rule, from the least line of each.
-use Rattle.std.proofs.Common.{◌≡◌, ℕ, ◌<◌, ◌≤◌, zero, suc, ◌⊎◌, inl, inr, List, [], ◌∷◌, length, Option, Some, None, Result, Ok, Err, refl, sym, ap, ◌∙◌, subst, arith}
+use Rattle.std.proofs.Common.{◌≡◌, ℕ, ◌<◌, ◌≤◌, zero, suc, ◌⊎◌, inl, inr, List, [], ◌∷◌, length, map, Option, Some, None, Result, Ok, Err, refl, sym, ap, ◌∙◌, subst, arith}
 use Rattle.std.specs.Result.{IfOk}
 use Rattle.std.specs.List.{Contains}
 use Rattle.cob_data.specs.declared.end.Rule.{Rule}
@@ -10,6 +10,13 @@ use Rattle.cob_flow.specs.declared.end.FlowEnd.{FlowEnd}
 use Rattle.cob_flow.specs.declared.end.FlowEnd.TheVariants.{Outside, Limit, Memory}
 use Rattle.cob_flow.specs.Nesting.{Call, Jump, Found, found_all, BreaksCycles, BreaksNests, BreaksJumps, BreaksOrder, IsBrokenBy, IsNested, IsOutside, before}
 use Rattle.cob_flow.specs.Broken.{IsLeast, least_below, cycle_at, crossings, leavings, reversed_at, IsFirstOf, IsFirst, told, answer_of}
+use Rattle.cob_flow.specs.Covering.{Covers}
+use Rattle.cob_flow.specs.Listing.{plain_call, plain_jump, plain_found}
+use Rattle.cob_flow.specs.declared.calls.Call as declared_call
+use Rattle.cob_flow.specs.declared.calls.Jump as declared_jump
+use Rattle.cob_flow.specs.declared.calls.Found as declared_found
+use Rattle.cob_flow.proofs.ListingLemmas.{listed_is}
+use Rattle.cob_flow.proofs.CoverLemmas.{cycles_over, nests_over, jumps_over, orders_over}
 use Rattle.cob_flow.proofs.NestLemmas.{cycles, nests, jumps, orders}
 
 none_is : (P : ℕ → Type 0) (o : Option ℕ) → IsLeast P o → ((l : ℕ) → P l → ⊥) → o ≡ None
@@ -89,13 +96,13 @@ module _ (f : Found) where
   exact_at _ line a b c d p q r s is = absurd is.broken
 
   -- where the four lines are the least that break each rule
-  pub first_is : (n : ℕ) (a b c d : Option ℕ) (o : Option (Rule × ℕ)) → n ≡ length f.calls → a ≡ least_below (cycle_at f.calls) n → b ≡ least_below (crossings f.calls) n →
-      c ≡ least_below (leavings f.calls f.jumps) n → d ≡ least_below (reversed_at f.calls) n → o ≡ told a b c d → IsFirst f o
-  first_is n a b c d o same a_is b_is c_is d_is made =
-      let p = subst (Least N1) (sym (a_is ∙ ap (least_below (cycle_at f.calls)) same)) (cycles f.calls) in
-      let q = subst (Least N2) (sym (b_is ∙ ap (least_below (crossings f.calls)) same)) (nests f.calls) in
-      let r = subst (Least N3) (sym (c_is ∙ ap (least_below (leavings f.calls f.jumps)) same)) (jumps f.calls f.jumps) in
-      let s = subst (Least N4) (sym (d_is ∙ ap (least_below (reversed_at f.calls)) same)) (orders f.calls) in record {
+  pub first_is : (ds : List Call) (n : ℕ) (a b c d : Option ℕ) (o : Option (Rule × ℕ)) → Covers f.calls ds → n ≡ length ds → a ≡ least_below (cycle_at ds) n →
+      b ≡ least_below (crossings ds) n → c ≡ least_below (leavings ds f.jumps) n → d ≡ least_below (reversed_at ds) n → o ≡ told a b c d → IsFirst f o
+  first_is ds n a b c d o covers same a_is b_is c_is d_is made =
+      let p = cycles_over f.calls ds covers a (subst (IsLeast (BreaksCycles ds)) (sym (a_is ∙ ap (least_below (cycle_at ds)) same)) (cycles ds)) in
+      let q = nests_over f.calls ds covers b (subst (IsLeast (BreaksNests ds)) (sym (b_is ∙ ap (least_below (crossings ds)) same)) (nests ds)) in
+      let r = jumps_over f.calls ds covers f.jumps c (subst (IsLeast (BreaksJumps ds f.jumps)) (sym (c_is ∙ ap (least_below (leavings ds f.jumps)) same)) (jumps ds f.jumps)) in
+      let s = orders_over f.calls ds covers d (subst (IsLeast (BreaksOrder ds)) (sym (d_is ∙ ap (least_below (reversed_at ds)) same)) (orders ds)) in record {
         kept = λ e rule line.
             let none = kept_at a b c d p q r s (sym made ∙ e) in
             each_kept rule line (p.none none.0) (q.none none.1) (r.none none.2) (s.none none.3);
@@ -132,5 +139,10 @@ answers_at p (Some (r, l)) is = record {
       inl (ap answer_of same);
 }
 
-pub answers : (p : Program) (f : Found) (o : Option (Rule × ℕ)) (result : Result (Unit {0}) FlowEnd) → f ≡ found_all p → IsFirst f o → result ≡ answer_of o → Answers p result
-answers p f o result found is told = subst (Answers p) (sym told) (answers_at p o (subst (λ x. IsFirst x o) found is))
+pub answers : (p : Program) (f : declared_found.Found) (calls kept told_by : List declared_call.Call) (js : List declared_jump.Jump) (o : Option (Rule × ℕ)) (result : Result (Unit {0}) FlowEnd) →
+    plain_found f ≡ found_all p → calls ≡ f.calls.items → js ≡ f.jumps.items → told_by ≡ kept → Covers (map plain_call calls) (map plain_call kept) →
+    ((all : List Call) → Covers all (map plain_call told_by) → IsFirst (record { calls = all; jumps = map plain_jump js }) o) → result ≡ answer_of o → Answers p result
+answers p f calls kept told_by js o result found same_calls same_jumps same covers is told =
+    let by = subst (λ ks. Covers (map plain_call calls) (map plain_call ks)) (sym same) covers in
+    let first = subst (λ x. IsFirst x o) (listed_is f calls js (found_all p) same_calls same_jumps found) (is (map plain_call calls) by) in
+    subst (Answers p) (sym told) (answers_at p o first)

@@ -5,3 +5,4 @@ mod LeastLemmas
 mod BoolLemmas
 mod NestLemmas
 mod FirstLemmas
+mod CoverLemmas

@@ -8,3 +8,4 @@ pub mod Walks
 pub mod Listing
 pub mod Reaching
 pub mod Broken
+pub mod Covering

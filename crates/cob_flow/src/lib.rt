@@ -2,6 +2,7 @@
 #![tactic(auto)]
 
 mod calls;
+mod distinct;
 mod end;
 mod graph;
 mod nesting;

@@ -1,15 +1,18 @@
 //! How PERFORMs of ranges nest, and where GO TOs go (ISO 1989:1985, "The PERFORM statement").
-ghost use Rattle.std.specs.Prelude.{◌≡◌, ◌<◌, ◌⊎◌, ◌&&◌, ℕ, Err, false, length, map, slice_index_or, IfOk};
+ghost use Rattle.std.specs.Prelude.{◌≡◌, ◌<◌, ◌⊎◌, ◌&&◌, ℕ, Err, false, List, length, map, slice_index_or, IfOk};
 ghost use Rattle.cob_data.specs.declared.end.Rule.{Rule};
 ghost use Rattle.cob_data.specs.declared.end.Which.{Which};
 ghost use Rattle.cob_flow.specs.declared.end.FlowEnd.TheVariants as end;
 ghost use Rattle.cob_program.specs.ActView.{plain_program};
+ghost use Rattle.cob_flow.specs.Nesting as spec;
 ghost use Rattle.cob_flow.specs.Nesting.{IsNested, IsOutside};
 ghost use Rattle.cob_flow.specs.Listing.{plain_span, plain_call, plain_jump, plain_found};
 ghost use Rattle.cob_flow.specs.Reaching.{IsReached};
+ghost use Rattle.cob_flow.specs.Covering.{Covers};
 ghost use Rattle.cob_flow.specs.Broken.{least_below, is_crossing, is_leaving, cycle_at, crossing_at, crossings, leaving_at, leavings, reversed_at, told, IsFirst, answer_of};
 
 use crate::calls::{Call, Found, Jump, Span};
+use crate::distinct::distinct;
 use crate::end::FlowEnd;
 use crate::reach::{Row, reached};
 use cob_data::Rule;
@@ -136,10 +139,11 @@ fn told(
     }
 }
 
-/// The first rule that is broken, with its first line.
+/// The first rule that is broken, with its first line: by calls that tell as much as all do.
 fn first_broken(calls: &[Call], jumps: &[Jump], rows: &[Row]) -> Option<(Rule, u32)>
     requires { IsReached (map plain_call calls.now) (length calls.now) rows.now }
-    ensures { IsFirst (record { calls = map plain_call calls.now; jumps = map plain_jump jumps.now }) result }
+    ensures { (all : List spec.Call) → Covers all (map plain_call calls.now)
+        → IsFirst (record { calls = all; jumps = map plain_jump jumps.now }) result }
 {
     let cycle = first_cycle(calls, rows);
     let crossing = first_crossing(calls, rows);
@@ -167,8 +171,11 @@ pub fn nested(alloc: Global, program: &Program) -> Result<(), FlowEnd>
     let Ok(found) = Found::of(alloc, program) else {
         return Err(FlowEnd::Memory);
     };
-    let Ok(rows) = reached(alloc, &found.calls) else {
+    let Ok(calls) = distinct(alloc, &found.calls) else {
         return Err(FlowEnd::Memory);
     };
-    answer(first_broken(&found.calls, &found.jumps, &rows))
+    let Ok(rows) = reached(alloc, &calls) else {
+        return Err(FlowEnd::Memory);
+    };
+    answer(first_broken(&calls, &found.jumps, &rows))
 }
