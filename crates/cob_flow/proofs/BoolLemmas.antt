@@ -1,5 +1,5 @@
 -- Tests and what they say.
-use Rattle.std.proofs.Common.{◌≡◌, ℕ, ◌<◌, ◌≤◌, Bool, true, false, ◌&&◌, ◌||◌, ◌⊎◌, inl, inr, leb, ltb, max, min, refl, sym, arith}
+use Rattle.std.proofs.Common.{◌≡◌, ℕ, ◌<◌, ◌≤◌, Bool, true, false, ◌&&◌, ◌||◌, ◌⊎◌, inl, inr, max, min, refl, sym, arith}
 use Rattle.std.specs.Prelude.{nat_le, nat_lt, not}
 use Rattle.std.proofs.lemmas.Bool.Decides.{nat_tests}
 use Rattle.cob_flow.specs.Nesting.{Span, Jump, IsIn, ShareNone, IsWithin}
@@ -72,7 +72,8 @@ crossing_is s t e =
       (λ inside.
           let first = (inside.all s.first (record { from = omega arith; to = omega (arith, meet) })).from in
           let last = (inside.all s.last (record { from = omega (arith, meet); to = omega arith })).to in
-          let so = true_and (nat_le t.first s.first) (nat_lt s.last t.last) (is_le _ _ first) (is_lt _ _ (omega (arith, last, inside.exit))) in
+          let so =
+          true_and (nat_le t.first s.first) (nat_lt s.last t.last) (is_le _ _ first) (is_lt _ _ (omega (arith, last, inside.exit))) in
           let other = not_true (within s t) both.1 in
           cc),
     )
@@ -99,4 +100,5 @@ leaving_is j s e =
     (in_is j.para s both.0, λ h. let yes_ = is_in_from j.to s h in let no_ = not_true (is_in j.to s) both.1 in cc)
 
 pub is_leaving_from : (j : Jump) (s : Span) → IsIn j.para s → (IsIn j.to s → ⊥) → is_leaving j s ≡ true
-is_leaving_from j s h g = true_and (is_in j.para s) (not (is_in j.to s)) (is_in_from j.para s h) (true_not (is_in j.to s) (λ e. g (in_is j.to s e)))
+is_leaving_from j s h g =
+    true_and (is_in j.para s) (not (is_in j.to s)) (is_in_from j.para s h) (true_not (is_in j.to s) (λ e. g (in_is j.to s e)))

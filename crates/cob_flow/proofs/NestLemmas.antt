@@ -1,13 +1,13 @@
 -- What is reached by way of all calls is what the relation says, and so the places that the tests find are those that break the rules.
-use Rattle.std.proofs.Common.{◌≡◌, ℕ, ◌+◌, ◌<◌, ◌≤◌, zero, suc, min, Bool, true, false, ◌&&◌, ◌||◌, ◌⊎◌, inl, inr, ⊎_elim, List, [], ◌∷◌, length, get_or, Option, Some, None, refl, sym, ap, ◌∙◌, subst, arith}
+use Rattle.std.proofs.Common.{◌≡◌, ℕ, ◌<◌, ◌≤◌, zero, suc, min, Bool, true, false, ◌&&◌, ◌⊎◌, inl, inr, ⊎_elim, List, length, Option, Some, None, refl, sym, ap, ◌∙◌, subst, arith}
 use Rattle.std.specs.Prelude.{nat_lt}
 use Rattle.std.specs.List.{Contains}
 use Rattle.std.proofs.lemmas.List.{get_or_default}
 use Rattle.std.proofs.lemmas.List.Elements.{Contains-get_or}
 use Rattle.std.proofs.lemmas.Bool.{cases_lt}
-use Rattle.rule_order.specs.Order.{lesser, noted}
-use Rattle.cob_flow.specs.Nesting.{Span, Call, Jump, Reaches, directly, onward, IsIn, IsPerformed, ShareNone, IsWithin, BreaksCycles, BreaksNests, BreaksJumps, BreaksOrder}
-use Rattle.cob_flow.specs.Reaching.{is_in, blank, call_at, has_call, through}
+use Rattle.rule_order.specs.Order.{lesser}
+use Rattle.cob_flow.specs.Nesting.{Span, Call, Jump, Reaches, directly, onward, IsIn, IsPerformed, BreaksCycles, BreaksNests, BreaksJumps, BreaksOrder}
+use Rattle.cob_flow.specs.Reaching.{blank, call_at, through}
 use Rattle.cob_flow.specs.Broken.{IsLeast, least_below, line_where, blank_jump, jump_at, is_crossing, is_leaving, cycle_at, crossing_at, crossings, leaving_at, leavings, reversed_at}
 use Rattle.cob_flow.proofs.BoolLemmas.{and_true, true_and, or_true, true_or_left, true_or_right, in_is, is_in_from, lt_is, is_lt, crossing_is, is_crossing_from, leaving_is, is_leaving_from}
 
@@ -57,9 +57,11 @@ below_least at (suc n) i m h e =
     (λ (g : n ≤ i). let same : i ≡ n = omega (arith, g, h) in lesser_right (least_below at n) (at n) m (m, sym (ap at same) ∙ e, omega arith)) (cases_lt i n)
 
 -- each line that stands somewhere is broken, and what is broken has no lesser line than one that stands
-least_of : (Broken : ℕ → Type 0) (at : ℕ → Option ℕ) (n : ℕ) → ((l : ℕ) → Stands at n l → Broken l) → ((l : ℕ) → Broken l → (m : ℕ) × Stands at n m × (m ≤ l)) → IsLeast Broken (least_below at n)
+least_of : (Broken : ℕ → Type 0) (at : ℕ → Option ℕ) (n : ℕ) → ((l : ℕ) → Stands at n l → Broken l) →
+    ((l : ℕ) → Broken l → (m : ℕ) × Stands at n m × (m ≤ l)) → IsLeast Broken (least_below at n)
 least_of Broken at n sound complete = record {
-  none = λ e other b. let found = complete other b in let most = below_least at n found.1.0 found.0 found.1.1 found.1.2 in cc;
+  none =
+      λ e other b. let found = complete other b in let most = below_least at n found.1.0 found.0 found.1.1 found.1.2 in cc;
   broken = λ l e. sound l (below_some at n l e);
   first = λ l e other b.
       let found = complete other b in
@@ -101,7 +103,8 @@ module _ (cs : List Call) where
   goes_more k i j e = true_or_left (through cs k i j) (through cs k i k && through cs k k j) e
 
   goes_by : (k i j : ℕ) → Goes k i k → Goes k k j → Goes (suc k) i j
-  goes_by k i j a b = true_or_right (through cs k i j) (through cs k i k && through cs k k j) (true_and (through cs k i k) (through cs k k j) a b)
+  goes_by k i j a b =
+      true_or_right (through cs k i j) (through cs k i k && through cs k k j) (true_and (through cs k i k) (through cs k k j) a b)
 
   goes_directly : (k i j : ℕ) → IsIn (call_at cs j).para (span i) → Goes k i j
   goes_directly zero i j h = is_in_from (call_at cs j).para (span i) h
@@ -165,7 +168,8 @@ module _ (cs : List Call) where
 
   -- into a range that is that of j
   goes_into : (i j : ℕ) (c : Call) (t : Span) → call_at cs i ≡ c → span j ≡ t → IsIn c.para t → Goes n j i
-  goes_into i j c t at e inside = goes_directly n j i (subst (λ (x : Call). IsIn x.para (span j)) (sym at) (subst (IsIn c.para) (sym e) inside))
+  goes_into i j c t at e inside =
+      goes_directly n j i (subst (λ (x : Call). IsIn x.para (span j)) (sym at) (subst (IsIn c.para) (sym e) inside))
 
   -- ---- the rules
 
@@ -221,7 +225,8 @@ module _ (cs : List Call) where
           let crosses : is_crossing (span i) (span o) ≡ true =
           subst (λ (s : Span). is_crossing s (span o) ≡ true) (sym inner) (subst (λ (t : Span). is_crossing b.call.span t ≡ true) (sym outer) (is_crossing_from b.call.span b.outer b.not_apart b.not_within)) in
           let line : (call_at cs i).line ≡ l = ap (λ (x : Call). x.line) at.2 ∙ sym b.here in
-          let stands = line_from (through cs n o i && is_crossing (span i) (span o)) (call_at cs i).line (true_and (through cs n o i) (is_crossing (span i) (span o)) goes crosses) in
+          let stands =
+          line_from (through cs n o i && is_crossing (span i) (span o)) (call_at cs i).line (true_and (through cs n o i) (is_crossing (span i) (span o)) goes crosses) in
           let most = below_least (crossing_at cs o) n i (call_at cs i).line at.1 stands in
           (most.0, (o, by.1, most.1), omega (arith, most.2, line))
 
@@ -246,7 +251,8 @@ module _ (cs : List Call) where
           let leaves : is_leaving (jump_at js i) (span o) ≡ true =
           subst (λ (j : Jump). is_leaving j (span o) ≡ true) (sym at.2) (subst (λ (t : Span). is_leaving b.jump t ≡ true) (sym outer) (is_leaving_from b.jump b.outer b.inside b.outside)) in
           let line : (jump_at js i).line ≡ l = ap (λ (x : Jump). x.line) at.2 ∙ sym b.here in
-          let most = below_least (leaving_at cs js o) (length js) i (jump_at js i).line at.1 (line_from (is_leaving (jump_at js i) (span o)) (jump_at js i).line leaves) in
+          let most =
+          below_least (leaving_at cs js o) (length js) i (jump_at js i).line at.1 (line_from (is_leaving (jump_at js i) (span o)) (jump_at js i).line leaves) in
           (most.0, (o, by.1, most.1), omega (arith, most.2, line))
 
   pub orders : IsLeast (BreaksOrder cs) (least_below (reversed_at cs) n)
@@ -261,6 +267,7 @@ module _ (cs : List Call) where
       complete l b =
           let at = place b.call b.stands in
           let i = at.0 in
-          let reversed : (span i).last < (span i).first = subst (λ (x : Call). x.span.last < x.span.first) (sym at.2) b.reversed in
+          let reversed : (span i).last < (span i).first =
+          subst (λ (x : Call). x.span.last < x.span.first) (sym at.2) b.reversed in
           let line : (call_at cs i).line ≡ l = ap (λ (x : Call). x.line) at.2 ∙ sym b.here in
           ((call_at cs i).line, (i, at.1, line_from (nat_lt (span i).last (span i).first) (call_at cs i).line (is_lt _ _ reversed)), omega (arith, line))

@@ -1,8 +1,8 @@
 -- Rows of marks, and the steps that close them.
-use Rattle.std.proofs.Common.{◌≡◌, ℕ, ◌+◌, ◌<◌, ◌≤◌, zero, suc, Bool, true, false, ◌&&◌, ◌||◌, List, [], ◌∷◌, ◌++◌, append_assoc, append-nil, add-one, length, get_or, set, take, drop, map, if◌then◌else◌, refl, sym, ap, ◌∙◌, subst, arith}
-use Rattle.std.proofs.lemmas.List.{drop_more, drop_all, take_all, take_more_set, drop-set-lt, get_or-map, get_or_default, length-map}
+use Rattle.std.proofs.Common.{◌≡◌, ℕ, ◌+◌, ◌<◌, zero, suc, Bool, true, false, ◌&&◌, ◌||◌, List, [], ◌∷◌, add-one, length, get_or, map, if◌then◌else◌, refl, sym, ap, ◌∙◌, arith}
+use Rattle.std.proofs.lemmas.List.{get_or-map, length-map}
 use Rattle.cob_flow.specs.Nesting.{Call}
-use Rattle.cob_flow.specs.Reaching.{is_in, blank, call_at, has_call, through, calls_in, either, with_row, row_at, mark, IsReached}
+use Rattle.cob_flow.specs.Reaching.{is_in, blank, call_at, through, calls_in, either, with_row, row_at, mark, IsReached}
 
 -- ---- one row
 
@@ -15,7 +15,8 @@ length_either [] ys = refl
 length_either (x ∷ xs) [] = refl
 length_either (x ∷ xs) (y ∷ ys) = ap suc (length_either xs ys)
 
-pub either_at : (xs ys : List Bool) (j : ℕ) → length xs ≡ length ys → get_or (either xs ys) j false ≡ (get_or xs j false || get_or ys j false)
+pub either_at : (xs ys : List Bool) (j : ℕ) → length xs ≡ length ys →
+    get_or (either xs ys) j false ≡ (get_or xs j false || get_or ys j false)
 either_at [] [] j same = refl
 either_at [] (y ∷ ys) j same = absurd (omega (arith, same))
 either_at (x ∷ xs) [] j same = absurd (omega (arith, same))
@@ -41,10 +42,12 @@ length_with_row k pivot row = length_with_row_when (get_or row k false) pivot ro
 -- ---- all rows
 
 -- what one pass makes of the rows
-pub reached_more : (cs : List Call) (k : ℕ) (rows : List (List Bool)) → k < length cs → IsReached cs k rows → IsReached cs (k + 1) (map (with_row k (row_at rows k)) rows)
+pub reached_more : (cs : List Call) (k : ℕ) (rows : List (List Bool)) → k < length cs → IsReached cs k rows →
+    IsReached cs (k + 1) (map (with_row k (row_at rows k)) rows)
 reached_more cs k rows within is =
     let pivot = row_at rows k in
-    let row_is = λ (i : ℕ) (h : i < length cs). get_or-map (with_row k pivot) rows i [] [] (omega (arith, h, is.count)) in record {
+    let row_is =
+    λ (i : ℕ) (h : i < length cs). get_or-map (with_row k pivot) rows i [] [] (omega (arith, h, is.count)) in record {
       count = length-map rows (with_row k pivot) ∙ is.count;
       wide = λ i h. ap length (row_is i h) ∙ length_with_row k pivot (row_at rows i) ∙ is.wide i h;
       marks = λ i j h g.
@@ -56,10 +59,15 @@ reached_more cs k rows within is =
           ∙ sym (ap (λ n. through cs n i j) (add-one k));
     }
 
-pub reached_none : (cs : List Call) (rows : List (List Bool)) → rows ≡ map (λ c. calls_in cs c.span) cs → IsReached cs 0 rows
+pub reached_none : (cs : List Call) (rows : List (List Bool)) → rows ≡ map (λ c. calls_in cs c.span) cs →
+    IsReached cs 0 rows
 reached_none cs rows made =
-    let row_is = λ (i : ℕ) (h : i < length cs). ap (λ rs. row_at rs i) made ∙ get_or-map (λ c. calls_in cs c.span) cs i blank [] h in record {
+    let row_is =
+    λ (i : ℕ) (h : i < length cs). ap (λ rs. row_at rs i) made
+    ∙ get_or-map (λ c. calls_in cs c.span) cs i blank [] h in record {
       count = ap length made ∙ length-map cs (λ c. calls_in cs c.span);
       wide = λ i h. ap length (row_is i h) ∙ length-map cs (λ c. is_in c.para (call_at cs i).span);
-      marks = λ i j h g. ap (λ row. get_or row j false) (row_is i h) ∙ get_or-map (λ c. is_in c.para (call_at cs i).span) cs j blank false g;
+      marks =
+          λ i j h g. ap (λ row. get_or row j false) (row_is i h)
+          ∙ get_or-map (λ c. is_in c.para (call_at cs i).span) cs j blank false g;
     }

@@ -33,7 +33,8 @@ jump_at js i = slice_index_or js i blank_jump
 
 -- they share a paragraph, and the first isn't within the second with another exit
 abbrev pub is_crossing : Span → Span → Bool
-is_crossing s t = nat_le (max s.first t.first) (min s.last t.last) && not (nat_le t.first s.first && nat_lt s.last t.last)
+is_crossing s t =
+    nat_le (max s.first t.first) (min s.last t.last) && not (nat_le t.first s.first && nat_lt s.last t.last)
 
 abbrev pub is_leaving : Jump → Span → Bool
 is_leaving j s = is_in j.para s && not (is_in j.to s)
@@ -45,7 +46,8 @@ module _ (cs : List Call) where
 
   -- whether a range reaches the call at a place, and crosses its range
   abbrev pub crossing_at : ℕ → ℕ → Option ℕ
-  crossing_at outer i = line_where (through cs (length cs) outer i && is_crossing (call_at cs i).span (call_at cs outer).span) (call_at cs i).line
+  crossing_at outer i =
+      line_where (through cs (length cs) outer i && is_crossing (call_at cs i).span (call_at cs outer).span) (call_at cs i).line
 
   abbrev pub crossings : ℕ → Option ℕ
   crossings outer = least_below (crossing_at outer) (length cs)

@@ -1,5 +1,5 @@
 -- What contracts see of the calls and jumps that are found, and of the parts of statements that they are found in.
-use Rattle.std.specs.Prelude.{ℕ, List, map}
+use Rattle.std.specs.Prelude.{ℕ, map}
 use Rattle.cob_program.specs.Act.{Stmt, MkStmt, When, MkWhen}
 use Rattle.cob_flow.specs.declared.calls.Span as declared_span
 use Rattle.cob_flow.specs.declared.calls.Call as declared_call

@@ -1,5 +1,5 @@
 -- Which ranges perform which, by the places of their calls.
-use Rattle.std.specs.Prelude.{◌≡◌, ◌<◌, ℕ, zero, suc, Bool, true, false, ◌&&◌, ◌||◌, nat_le, List, [], ◌∷◌, map, length, slice_index_or, if◌then◌else◌}
+use Rattle.std.specs.Prelude.{◌≡◌, ◌<◌, ℕ, zero, suc, Bool, false, ◌&&◌, ◌||◌, nat_le, List, [], ◌∷◌, map, length, slice_index_or, if◌then◌else◌}
 use Rattle.cob_flow.specs.Nesting.{Span, Call}
 
 abbrev pub is_in : ℕ → Span → Bool

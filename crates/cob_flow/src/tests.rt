@@ -43,16 +43,18 @@ fn para(alloc: Global, place: u32, deeds: &[Deed]) -> Result<Para, AllocError> {
     })
 }
 
-fn program(alloc: Global, count: u32, deeds: &[Deed]) -> Result<Program, AllocError> {
+/// The answer to a program of some paragraphs.
+fn told(alloc: Global, count: u32, deeds: &[Deed]) -> Result<Result<(), FlowEnd>, AllocError> {
     let mut paras = Vec::new(alloc);
     for place in 0..count {
         paras.push(para(alloc, place, deeds)?)?;
     }
-    Ok(Program {
+    let program = Program {
         layout: layout(alloc),
         paras: Many::of(paras),
         statements: 99,
-    })
+    };
+    Ok(nested(alloc, &program))
 }
 
 fn refused(rule: Rule, line: u32) -> Result<(), FlowEnd> {
@@ -62,60 +64,54 @@ fn refused(rule: Rule, line: u32) -> Result<(), FlowEnd> {
 #[test]
 fn what_nests_is_kept(rt: HostRuntime) -> Result<(), Fail> {
     let alloc = rt.alloc();
-    let apart = program(alloc, 4, &[(0, 10, 1, Some(2)), (1, 20, 3, Some(3))])?;
-    assert_eq!(rt; nested(alloc, &apart), Ok(()));
-    let within = program(alloc, 4, &[(0, 10, 1, Some(3)), (1, 20, 2, Some(2))])?;
-    assert_eq!(rt; nested(alloc, &within), Ok(()));
-    let inside = program(alloc, 3, &[(0, 10, 1, Some(2)), (1, 20, 2, None)])?;
-    assert_eq!(rt; nested(alloc, &inside), Ok(()));
+    let apart = [(0, 10, 1, Some(2)), (1, 20, 3, Some(3))];
+    assert_eq!(rt; told(alloc, 4, &apart)?, Ok(()));
+    let within = [(0, 10, 1, Some(3)), (1, 20, 2, Some(2))];
+    assert_eq!(rt; told(alloc, 4, &within)?, Ok(()));
+    let inside = [(0, 10, 1, Some(2)), (1, 20, 2, None)];
+    assert_eq!(rt; told(alloc, 3, &inside)?, Ok(()));
     Ok(())
 }
 
 #[test]
-fn cycles_and_crossing_ranges_are_refused(rt: HostRuntime) -> Result<(), Fail> {
+fn cycles_are_refused(rt: HostRuntime) -> Result<(), Fail> {
     let alloc = rt.alloc();
-    let by_itself = program(alloc, 2, &[(0, 10, 1, Some(1)), (1, 20, 1, Some(1))])?;
-    assert_eq!(rt; nested(alloc, &by_itself), refused(Rule::N1, 20));
-    let in_turn = program(
-        alloc,
-        3,
-        &[
-            (0, 10, 1, Some(1)),
-            (1, 20, 2, Some(2)),
-            (2, 30, 1, Some(1)),
-        ],
-    )?;
-    assert_eq!(rt; nested(alloc, &in_turn), refused(Rule::N1, 20));
-    let crossing = program(alloc, 4, &[(0, 10, 1, Some(2)), (1, 20, 2, Some(3))])?;
-    assert_eq!(rt; nested(alloc, &crossing), refused(Rule::N2, 20));
-    let same_exit = program(alloc, 3, &[(0, 10, 1, Some(2)), (1, 20, 2, Some(2))])?;
-    assert_eq!(rt; nested(alloc, &same_exit), refused(Rule::N2, 20));
-    let far = program(
-        alloc,
-        5,
-        &[
-            (0, 10, 1, Some(2)),
-            (1, 20, 4, Some(4)),
-            (4, 30, 2, Some(2)),
-        ],
-    )?;
-    assert_eq!(rt; nested(alloc, &far), refused(Rule::N2, 30));
+    let by_itself = [(0, 10, 1, Some(1)), (1, 20, 1, Some(1))];
+    assert_eq!(rt; told(alloc, 2, &by_itself)?, refused(Rule::N1, 20));
+    let in_turn = [
+        (0, 10, 1, Some(1)),
+        (1, 20, 2, Some(2)),
+        (2, 30, 1, Some(1)),
+    ];
+    assert_eq!(rt; told(alloc, 3, &in_turn)?, refused(Rule::N1, 20));
+    Ok(())
+}
+
+#[test]
+fn crossing_ranges_are_refused(rt: HostRuntime) -> Result<(), Fail> {
+    let alloc = rt.alloc();
+    let crossing = [(0, 10, 1, Some(2)), (1, 20, 2, Some(3))];
+    assert_eq!(rt; told(alloc, 4, &crossing)?, refused(Rule::N2, 20));
+    let same_exit = [(0, 10, 1, Some(2)), (1, 20, 2, Some(2))];
+    assert_eq!(rt; told(alloc, 3, &same_exit)?, refused(Rule::N2, 20));
+    let far = [
+        (0, 10, 1, Some(2)),
+        (1, 20, 4, Some(4)),
+        (4, 30, 2, Some(2)),
+    ];
+    assert_eq!(rt; told(alloc, 5, &far)?, refused(Rule::N2, 30));
     Ok(())
 }
 
 #[test]
 fn jumps_outside_and_reversed_ranges_are_refused(rt: HostRuntime) -> Result<(), Fail> {
     let alloc = rt.alloc();
-    let outside = program(alloc, 3, &[(0, 10, 1, Some(1)), (1, 20, 2, None)])?;
-    assert_eq!(rt; nested(alloc, &outside), refused(Rule::N3, 20));
-    let reversed = program(alloc, 3, &[(0, 10, 2, Some(1))])?;
-    assert_eq!(rt; nested(alloc, &reversed), refused(Rule::N4, 10));
-    let earlier_rule = program(
-        alloc,
-        3,
-        &[(0, 10, 1, Some(1)), (1, 20, 2, None), (2, 30, 2, Some(2))],
-    )?;
-    assert_eq!(rt; nested(alloc, &earlier_rule), refused(Rule::N1, 30));
+    let outside = [(0, 10, 1, Some(1)), (1, 20, 2, None)];
+    assert_eq!(rt; told(alloc, 3, &outside)?, refused(Rule::N3, 20));
+    let reversed = [(0, 10, 2, Some(1))];
+    assert_eq!(rt; told(alloc, 3, &reversed)?, refused(Rule::N4, 10));
+    let earlier_rule = [(0, 10, 1, Some(1)), (1, 20, 2, None), (2, 30, 2, Some(2))];
+    assert_eq!(rt; told(alloc, 3, &earlier_rule)?, refused(Rule::N1, 30));
     Ok(())
 }
 
@@ -187,26 +183,30 @@ fn around(alloc: Global, way: u32, list: Vec<Stmt>) -> Result<Act, AllocError> {
     }
 }
 
+/// The answer to a program of one paragraph, with a reversed range in a list of its statement.
+fn told_inside(alloc: Global, way: u32) -> Result<Result<(), FlowEnd>, AllocError> {
+    let act = around(alloc, way, one(alloc, 40, done(2, Some(1)))?)?;
+    let body = Many::of(one(alloc, 39, act)?);
+    let mut paras = Vec::new(alloc);
+    paras.push(Para {
+        name: None,
+        line: 0,
+        body,
+    })?;
+    let program = Program {
+        layout: layout(alloc),
+        paras: Many::of(paras),
+        statements: 2,
+    };
+    Ok(nested(alloc, &program))
+}
+
 #[test]
 fn each_list_of_a_statement_is_looked_into(rt: HostRuntime) -> Result<(), Fail> {
     let alloc = rt.alloc();
     for way in 0..9 {
-        let reversed = done(2, Some(1));
-        let act = around(alloc, way, one(alloc, 40, reversed)?)?;
-        let body = Many::of(one(alloc, 39, act)?);
-        let mut paras = Vec::new(alloc);
-        paras.push(Para {
-            name: None,
-            line: 0,
-            body,
-        })?;
-        let program = Program {
-            layout: layout(alloc),
-            paras: Many::of(paras),
-            statements: 2,
-        };
         assert_eq!(rt;
-            nested(alloc, &program),
+            told_inside(alloc, way)?,
             refused(Rule::N4, 40),
             "in list {way}"
         );

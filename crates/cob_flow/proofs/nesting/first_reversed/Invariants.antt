@@ -1,6 +1,6 @@
 use Rattle.std.proofs.Common.{◌≡◌, map}
-use Rattle.cob_flow.specs.Listing.{plain_call, plain_jump}
-use Rattle.cob_flow.specs.Broken.{least_below, cycle_at, crossing_at, crossings, leaving_at, leavings, reversed_at}
+use Rattle.cob_flow.specs.Listing.{plain_call}
+use Rattle.cob_flow.specs.Broken.{least_below, reversed_at}
 use Rattle.cob_flow.proofs.nesting.first_reversed.Given as goal
 
 abbrev pub invariant-loop-call : goal.invariant-loop-call

@@ -1,4 +1,4 @@
-use Rattle.std.proofs.Common.{◌≡◌, map}
+use Rattle.std.proofs.Common.{map}
 use Rattle.cob_flow.specs.Listing.{plain_call, plain_jump}
 use Rattle.cob_flow.specs.Broken.{leaving_at}
 use Rattle.cob_flow.proofs.LeastLemmas.{noted_more, leaving_read}

@@ -1,7 +1,7 @@
-use Rattle.std.proofs.Common.{◌≡◌, ◌<◌, ◌+◌, length, map, sym, subst, arith}
+use Rattle.std.proofs.Common.{◌<◌, ◌+◌, length, map, sym, subst, arith}
 use Rattle.std.proofs.lemmas.List.{length-map}
 use Rattle.cob_flow.specs.Listing.{plain_call}
-use Rattle.cob_flow.specs.Reaching.{row_at, with_row, IsReached}
+use Rattle.cob_flow.specs.Reaching.{IsReached}
 use Rattle.cob_flow.proofs.ReachLemmas.{reached_more}
 use Rattle.cob_flow.proofs.reach.close.Goals as goal
 

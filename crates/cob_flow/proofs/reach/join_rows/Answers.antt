@@ -1,4 +1,4 @@
-use Rattle.std.proofs.Common.{◌≡◌, ◌++◌, ◌+◌, ◌∙◌, sym, ap, set, take, drop, map}
+use Rattle.std.proofs.Common.{◌∙◌, sym, ap, set}
 use Rattle.std.proofs.lemmas.List.Edits.{map_over_more}
 use Rattle.cob_flow.specs.Reaching.{with_row}
 use Rattle.cob_flow.proofs.reach.join_rows.Goals as goal

@@ -6,7 +6,8 @@ use Rattle.cob_flow.proofs.ReachLemmas.{reached_none}
 use Rattle.cob_flow.proofs.reach.reached.Goals as goal
 
 pub close-requires : goal.close-requires
-close-requires c = reached_none (map plain_call c.args.calls.now) c.as_mut_slice.result.now (c.as_mut_slice.ensures.value ∙ c.in_ok-rows.ensures)
+close-requires c =
+    reached_none (map plain_call c.args.calls.now) c.as_mut_slice.result.now (c.as_mut_slice.ensures.value ∙ c.in_ok-rows.ensures)
 
 pub returns : goal.returns
 returns c =
