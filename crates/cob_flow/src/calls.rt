@@ -65,7 +65,8 @@ impl Found {
 
     #[cycle(add)]
     fn add_stmts(&mut self, para: usize, list: &[Stmt]) -> Result<(), AllocError>
-        ensures { OnOk result (plain_found self.new ≡ plain_found self.old & found para (stmts_of (map plain_stmt list.now))) }
+        ensures { OnOk result
+            (plain_found self.new ≡ plain_found self.old & found para (stmts_of (map plain_stmt list.now))) }
     {
         for statement in list {
             self.add_stmt(para, statement)?;
@@ -75,7 +76,8 @@ impl Found {
 
     #[cycle(add)]
     fn add_stmt(&mut self, para: usize, statement: &Stmt) -> Result<(), AllocError>
-        ensures { OnOk result (plain_found self.new ≡ plain_found self.old & found_stmt para (plain_stmt statement.now)) }
+        ensures { OnOk result
+            (plain_found self.new ≡ plain_found self.old & found_stmt para (plain_stmt statement.now)) }
     {
         self.add_act(para, statement.line, &statement.act)?;
         Ok(())
@@ -83,7 +85,8 @@ impl Found {
 
     #[cycle(add)]
     fn add_whens(&mut self, para: usize, whens: &[When]) -> Result<(), AllocError>
-        ensures { OnOk result (plain_found self.new ≡ plain_found self.old & found_whens para (whens_of (map plain_when whens.now))) }
+        ensures { OnOk result
+            (plain_found self.new ≡ plain_found self.old & found_whens para (whens_of (map plain_when whens.now))) }
     {
         for when in whens {
             self.add_when(para, when)?;
@@ -101,7 +104,8 @@ impl Found {
 
     #[cycle(add)]
     fn add_body(&mut self, para: usize, line: u32, body: &Body) -> Result<(), AllocError>
-        ensures { OnOk result (plain_found self.new ≡ plain_found self.old & found_body para line (plain_body body.now)) }
+        ensures { OnOk result
+            (plain_found self.new ≡ plain_found self.old & found_body para line (plain_body body.now)) }
     {
         match body {
             Body::Range { first, last } => self.add_call(line, para, *first, *last)?,

@@ -27,7 +27,8 @@ fn has_like(calls: &[Call], call: Call) -> bool
 }
 
 fn add(calls: &mut Vec<Call>, call: Call) -> Result<(), AllocError>
-    ensures { OnOk result (IsAdded (map plain_call calls.old.items) (plain_call call) (map plain_call calls.new.items)) }
+    ensures { OnOk result
+        (IsAdded (map plain_call calls.old.items) (plain_call call) (map plain_call calls.new.items)) }
 {
     if has_like(calls, call) {
         return Ok(());

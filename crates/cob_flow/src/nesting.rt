@@ -164,9 +164,11 @@ fn answer(broken: Option<(Rule, u32)>) -> Result<(), FlowEnd>
 /// Tells whether PERFORMs nest and GO TOs stay inside, or else which rule is broken first, and where.
 pub fn nested(alloc: Global, program: &Program) -> Result<(), FlowEnd>
     ensures kept { IfOk result (λ _. IsNested (plain_program program.now)) }
-    ensures outside { (rule : Rule) (line : ℕ) → result ≡ Err (end.Outside rule line) → IsOutside (plain_program program.now) rule line }
+    ensures outside { (rule : Rule) (line : ℕ) → result ≡ Err (end.Outside rule line)
+        → IsOutside (plain_program program.now) rule line }
     ensures limit { (which : Which) (count : ℕ) → result ≡ Err (end.Limit which count) → ⊥ }
-    ensures exact { (rule : Rule) (line : ℕ) → IsOutside (plain_program program.now) rule line → (result ≡ Err (end.Outside rule line)) ⊎ (result ≡ Err end.Memory) }
+    ensures exact { (rule : Rule) (line : ℕ) → IsOutside (plain_program program.now) rule line
+        → (result ≡ Err (end.Outside rule line)) ⊎ (result ≡ Err end.Memory) }
 {
     let Ok(found) = Found::of(alloc, program) else {
         return Err(FlowEnd::Memory);

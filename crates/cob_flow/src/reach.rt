@@ -107,7 +107,8 @@ fn pass(alloc: Global, rows: &mut [Row], place: usize) -> Result<(), AllocError>
 }
 
 fn direct(alloc: Global, calls: &[Call]) -> Result<Vec<Row>, AllocError>
-    ensures { IfOk result (λ rows. rows.items ≡ map (λ c. calls_in (map plain_call calls.now) c.span) (map plain_call calls.now)) }
+    ensures { IfOk result
+        (λ rows. rows.items ≡ map (λ c. calls_in (map plain_call calls.now) c.span) (map plain_call calls.now)) }
 {
     let mut rows = Vec::new(alloc);
     for call in calls {
