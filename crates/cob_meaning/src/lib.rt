@@ -3,10 +3,12 @@
 //! Nothing here knows of graphs, intervals or certificates.
 #![tactic(auto)]
 
+mod action;
 mod run;
 mod straight;
 #[cfg(test)]
 mod tests;
 
+pub use action::{Action, Cell};
 pub use run::outcome_after;
 pub use straight::{Outcome, Simple, Straight};

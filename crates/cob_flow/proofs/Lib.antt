@@ -1,0 +1,8 @@
+mod Examples
+mod ListingLemmas
+mod ReachLemmas
+mod LeastLemmas
+mod BoolLemmas
+mod NestLemmas
+mod FirstLemmas
+mod CoverLemmas

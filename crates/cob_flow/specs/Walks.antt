@@ -1,0 +1,118 @@
+-- Ways through the graph, and that they show what runs do.
+use Rattle.std.specs.Prelude.{◌≡◌, ◌≤◌, ◌<◌, ℕ, zero, suc, ◌+◌, ◌-◌, Bool, true, false, List, [], ◌∷◌, length, slice_get, Contains, Option, Some, None, Result, Ok, Err}
+use Rattle.cob_tree.specs.declared.fault.Kind.{Kind}
+use Rattle.cob_program.specs.Logic.{Logic}
+use Rattle.cob_program.specs.Act.{Turns, once, times, until, varying, Stmt, MkStmt, Stmts, no_stmts, more_stmts, Phrase, left_out, given, Act, arith, if_, evaluate, perform, open_files, close_files, read, Whens, no_whens, more_whens, MkWhen, Body, range, inline, Para, Program}
+use Rattle.cob_meaning.specs.declared.action.Action.{Action}
+use Rattle.cob_meaning.specs.declared.straight.Outcome.{Outcome}
+use Rattle.cob_meaning.specs.declared.straight.Outcome.TheVariants.{Going, Ended, IoStop, Fault}
+use Rattle.cob_meaning.specs.Files.{Choice}
+use Rattle.cob_meaning.specs.State.{World, State}
+use Rattle.cob_meaning.specs.Effects.{effect, act_at}
+use Rattle.cob_meaning.specs.Runs.{Contents, first_world, run, choice_at}
+use Rattle.cob_flow.specs.Laid.{LaidParas, one_if, tests_in}
+use Rattle.cob_flow.specs.Nodes.{Noded}
+use Rattle.cob_flow.specs.Graphs.{all_nodes, final_of, IsMainCopy}
+
+-- ---- programs whose statements have what the grammar gives them
+
+abbrev pub IsWholeTurns : Turns → Type 0
+IsWholeTurns (until after t) = 1 ≤ tests_in t
+IsWholeTurns (varying after item start by t) = 1 ≤ tests_in t
+IsWholeTurns _ = Unit {0}
+
+abbrev mutual
+  -- each condition has a simple condition, OPEN and CLOSE name a file, and each statement is found by its number
+  pub AreWhole : Program → Stmts → Type 0
+  AreWhole p no_stmts = Unit {0}
+  AreWhole p (more_stmts (MkStmt n line a) ss) = (act_at p n ≡ Some a) × IsWholeAct p a × AreWhole p ss
+
+  pub IsWholePhrase : Program → Phrase → Type 0
+  IsWholePhrase p left_out = Unit {0}
+  IsWholePhrase p (given ss) = AreWhole p ss
+
+  pub IsWholeAct : Program → Act → Type 0
+  IsWholeAct p (arith s targets remainder size fine) = IsWholePhrase p size × AreWhole p fine
+  IsWholeAct p (if_ t held other) = (1 ≤ tests_in t) × AreWhole p held × AreWhole p other
+  IsWholeAct p (evaluate ws other) = AreWholeWhens p ws × AreWhole p other
+  IsWholeAct p (perform body turns) = IsWholeTurns turns × IsWholeBody p body
+  IsWholeAct p (open_files os) = 1 ≤ length os
+  IsWholeAct p (close_files fs) = 1 ≤ length fs
+  IsWholeAct p (read f into end fine) = IsWholePhrase p end × AreWhole p fine
+  IsWholeAct p _ = Unit {0}
+
+  pub AreWholeWhens : Program → Whens → Type 0
+  AreWholeWhens p no_whens = Unit {0}
+  AreWholeWhens p (more_whens (MkWhen ts ss) ws) = AreWhole p ss × AreWholeWhens p ws
+
+  pub IsWholeBody : Program → Body → Type 0
+  IsWholeBody p (range first last) = Unit {0}
+  IsWholeBody p (inline ss) = AreWhole p ss
+
+abbrev pub AreWholeParas : Program → List Para → Type 0
+AreWholeParas p [] = Unit {0}
+AreWholeParas p (x ∷ xs) = AreWhole p x.body × AreWholeParas p xs
+
+abbrev pub IsWhole : Program → Type 0
+IsWhole p = AreWholeParas p p.paras
+
+-- ---- ways
+
+abbrev pub node_at : List Noded → ℕ → Option Noded
+node_at ns n = slice_get ns (n - 1)
+
+-- how many nodes at which a step begins were left, where so many were left before this one
+abbrev pub passed : ℕ → Noded → ℕ
+passed k x = k + one_if x.starts
+
+module _ (p : Program) (copies : LaidParas) (contents : Contents) (first : List ℕ) (choices : List Choice) where
+  -- A way from node 1 has left so many nodes at which a step begins, and stands at a node with a world. What is left
+  -- undefined is chosen as in the step to which the node belongs.
+  pub data Comes : ℕ → ℕ → World → Type 0 where
+    at_first : Comes 0 1 (first_world p contents first)
+    onward : {k n : ℕ} {w v : World} (x : Noded) (a : Action) (m : ℕ) → Comes k n w → node_at (all_nodes p copies) n ≡ Some x
+        → Contains x.out (a, m) → effect p x.statement (choice_at p contents first choices (passed k x - 1)) w a ≡ Ok (Some v)
+        → Comes (passed k x) m v
+
+  -- a way to a node with this world, which has left at most so many
+  pub record ComesWithin (n : ℕ) (node : ℕ) (w : World) : Type 0 where
+    pub left : ℕ
+    pub within : left ≤ n
+    pub way : Comes left node w
+
+  -- a way to a node of the statement, in one of whose edges it meets the fault
+  pub record ComesToFault (n : ℕ) (kind : Kind) (statement : ℕ) (w : World) : Type 0 where
+    pub left : ℕ
+    pub node : ℕ
+    pub at : Noded
+    pub edge : Action
+    pub to : ℕ
+    pub way : Comes left node w
+    pub stands : node_at (all_nodes p copies) node ≡ Some at
+    pub within : passed left at ≤ n
+    pub its : at.statement ≡ statement
+    pub out : Contains at.out (edge, to)
+    pub meets : effect p statement (choice_at p contents first choices (passed left at - 1)) w edge ≡ Err kind
+
+  -- what a run that goes on after n steps shows: a way that left n nodes at which a step begins
+  pub record ComesExactly (n : ℕ) (w : World) : Type 0 where
+    pub node : ℕ
+    pub way : Comes n node w
+
+  abbrev pub ShowsBy : Outcome → ℕ → World → Type 0
+  ShowsBy Going n w = ComesExactly n w
+  ShowsBy Ended n w = ComesWithin n (final_of copies) w
+  ShowsBy (IoStop status statement) n w = ComesWithin n (final_of copies) w
+  ShowsBy (Fault kind statement) n w = ComesToFault n kind statement w
+
+  abbrev pub Shows : ℕ → State → Type 0
+  Shows n s = ShowsBy s.outcome n s.world
+
+-- Each run of so many steps is a way through the graph, with the same storage, files, shown text and outcome.
+abbrev pub IsSimulated : Program → LaidParas → Type 0
+IsSimulated p copies =
+    (contents : Contents) (first : List ℕ) (choices : List Choice) (n : ℕ) → Shows p copies contents first choices n (run p contents first choices n)
+
+-- what is proved of the programs whose copies are written in
+abbrev pub Simulation : Type 0
+Simulation = (p : Program) (copies : LaidParas) → IsWhole p → IsMainCopy p copies → IsSimulated p copies

@@ -1,0 +1,198 @@
+-- What each edge of the graph does to what a run works on: its part of its node's statement.
+use Rattle.std.specs.Prelude.{ℕ, zero, suc, ◌+◌, ◌-◌, ◌==◌, nat_lt, ◌&&◌, if◌then◌else◌, Bool, true, false, not, List, [], ◌∷◌, ◌++◌, slice_get, Option, Some, None, is_some, Result, Ok, Err}
+use Rattle.std.specs.Option.{option_map_or}
+use Rattle.cob_tree.specs.declared.fault.Kind.{Kind}
+use Rattle.cob_data.specs.declared.layout.Sender.{Sender}
+use Rattle.cob_program.specs.declared.act.Opening.{Opening}
+use Rattle.cob_program.specs.Logic.{Test, always, Logic, all_of, any_of, not_, test, Logics, no_logics, more_logics}
+use Rattle.cob_program.specs.Act.{Turns, once, times, until, varying, Stmt, MkStmt, Stmts, no_stmts, more_stmts, Phrase, left_out, given, Act, arith, if_, evaluate, perform, open_files, close_files, read, write, Whens, no_whens, more_whens, MkWhen, Body, range, inline, Para, Program}
+use Rattle.cob_program.specs.Act as act
+use Rattle.cob_meaning.specs.declared.action.Action.{Action}
+use Rattle.cob_meaning.specs.declared.action.Action.TheVariants as action
+use Rattle.cob_meaning.specs.Faults.{◌>>=◌}
+use Rattle.cob_meaning.specs.Deciding.{test_holds}
+use Rattle.cob_meaning.specs.Files.{Choice}
+use Rattle.cob_meaning.specs.State.{World}
+use Rattle.cob_meaning.specs.Acts.{move, compute, show, count_of, set_count, count_down, set_varied, augment, has_status, is_fine, open_one, close_one, take_one, into_if, write_one, file_from, move_if}
+use Rattle.cob_meaning.specs.Steps.{is_given, is_left}
+
+-- ---- the statement with a number
+
+abbrev pub or_else : {A : Type 0} → Option A → Option A → Option A
+or_else None b = b
+or_else (Some a) b = Some a
+
+abbrev pub if_same : {A : Type 0} → ℕ → ℕ → A → Option A → Option A
+if_same n m a other = if n == m then Some a else other
+
+abbrev mutual
+  pub found : ℕ → Stmts → Option Act
+  found n no_stmts = None
+  found n (more_stmts (MkStmt m line a) ss) = if_same n m a (or_else (found_in n a) (found n ss))
+
+  pub found_phrase : ℕ → Phrase → Option Act
+  found_phrase n left_out = None
+  found_phrase n (given ss) = found n ss
+
+  pub found_in : ℕ → Act → Option Act
+  found_in n (arith s targets remainder size fine) = or_else (found_phrase n size) (found n fine)
+  found_in n (if_ t held other) = or_else (found n held) (found n other)
+  found_in n (evaluate ws other) = or_else (found_whens n ws) (found n other)
+  found_in n (perform body turns) = found_body n body
+  found_in n (read f into end fine) = or_else (found_phrase n end) (found n fine)
+  found_in n _ = None
+
+  pub found_whens : ℕ → Whens → Option Act
+  found_whens n no_whens = None
+  found_whens n (more_whens (MkWhen tests ss) ws) = or_else (found n ss) (found_whens n ws)
+
+  pub found_body : ℕ → Body → Option Act
+  found_body n (range first last) = None
+  found_body n (inline ss) = found n ss
+
+abbrev pub found_among : ℕ → List Para → Option Act
+found_among n [] = None
+found_among n (x ∷ xs) = or_else (found n x.body) (found_among n xs)
+
+abbrev pub act_at : Program → ℕ → Option Act
+act_at p n = found_among n p.paras
+
+-- ---- the simple conditions of a statement, in the order of its nodes
+
+abbrev mutual
+  pub tests_of : Logic → List Test
+  tests_of (all_of ls) = tests_among ls
+  tests_of (any_of ls) = tests_among ls
+  tests_of (not_ x) = tests_of x
+  tests_of (test t) = t ∷ []
+
+  pub tests_among : Logics → List Test
+  tests_among no_logics = []
+  tests_among (more_logics x xs) = tests_of x ++ tests_among xs
+
+abbrev pub tests_in_list : List Logic → List Test
+tests_in_list [] = []
+tests_in_list (x ∷ xs) = tests_of x ++ tests_in_list xs
+
+abbrev pub tests_in_whens : Whens → List Test
+tests_in_whens no_whens = []
+tests_in_whens (more_whens (MkWhen tests ss) ws) = tests_in_list tests ++ tests_in_whens ws
+
+abbrev pub tests_in_turns : Turns → List Test
+tests_in_turns (until after t) = tests_of t
+tests_in_turns (varying after item start by t) = tests_of t
+tests_in_turns _ = []
+
+abbrev pub tests_in_act : Act → List Test
+tests_in_act (if_ t held other) = tests_of t
+tests_in_act (evaluate ws other) = tests_in_whens ws
+tests_in_act (perform body turns) = tests_in_turns turns
+tests_in_act _ = []
+
+-- ---- effects: none where another edge is the way on
+
+abbrev pub Effect : Type 0
+Effect = Result (Option World) Kind
+
+abbrev pub taken : World → Effect
+taken w = Ok (Some w)
+
+abbrev pub not_taken : Effect
+not_taken = Ok None
+
+abbrev pub taken_if : Bool → World → Effect
+taken_if true w = taken w
+taken_if false w = not_taken
+
+abbrev pub met : Result World Kind → Effect
+met r = r >>= taken
+
+module _ (p : Program) (number : ℕ) (c : Choice) (w : World) where
+  abbrev pub assigned : Act → Effect
+  assigned (act.move x places) = met (move p.layout x places w)
+  assigned (perform body (varying after item start by t)) = met (set_varied p.layout item start w)
+  assigned (read f into end fine) = taken (into_if p.layout f into w)
+  assigned (write r from) = met (move_if p.layout from r w)
+  assigned _ = not_taken
+
+  abbrev pub computed : Bool → Act → Effect
+  computed failed (arith s targets remainder size fine) =
+      compute p.layout (is_given size) s targets remainder w >>= λ x. taken_if (if failed then x.1 else not x.1) x.0
+  computed false (perform body (varying after item start by t)) = met (augment p.layout item by w)
+  computed failed _ = not_taken
+
+  abbrev pub decided : Bool → Option Test → Effect
+  decided wanted None = not_taken
+  decided wanted (Some t) = test_holds p.layout w.storage t >>= λ b. taken_if (if wanted then b else not b) w
+
+  -- the test of TIMES, or a simple condition
+  abbrev pub tested : Bool → ℕ → Act → Effect
+  tested wanted k (perform body (times x)) =
+      taken_if (if wanted then is_left p c (count_of p.layout number w) else not (is_left p c (count_of p.layout number w))) w
+  tested wanted k a = decided wanted (slice_get (tests_in_act a) k)
+
+  abbrev pub counted : Act → Effect
+  counted (perform body (times x)) = met (set_count p.layout number x w)
+  counted _ = not_taken
+
+  -- a call on a file, where its status is as the edge says
+  abbrev pub by_status : Bool → World × ℕ → Effect
+  by_status fine x = taken_if (if fine then is_fine x.1 else not (is_fine x.1)) x.0
+
+  abbrev pub opened : Bool → Option Opening → Effect
+  opened fine None = not_taken
+  opened fine (Some o) = by_status fine (open_one p.layout o w)
+
+  abbrev pub closed : Bool → Option ℕ → Effect
+  closed fine None = not_taken
+  closed fine (Some f) = by_status fine (close_one p.layout f w)
+
+  abbrev pub wrote : Bool → ℕ → Option ℕ → Effect
+  wrote fine r None = not_taken
+  wrote fine r (Some f) = by_status fine (write_one p.layout c f r w)
+
+  abbrev pub file_call : Bool → ℕ → Act → Effect
+  file_call fine k (open_files os) = opened fine (slice_get os k)
+  file_call fine k (close_files fs) = closed fine (slice_get fs k)
+  file_call fine k (write r from) = wrote fine r (file_from p.layout 0 p.layout.files r)
+  file_call fine k _ = not_taken
+
+  abbrev pub ended_with : ℕ → World × ℕ → Effect
+  ended_with status x = taken_if (x.1 == status) x.0
+
+  -- neither 00 nor 10
+  abbrev pub bad_read : World × ℕ → Effect
+  bad_read x = taken_if (not (is_fine x.1) && not (x.1 == 10)) x.0
+
+  abbrev pub called_bad : ℕ → Act → Effect
+  called_bad k (read f into end fine) = bad_read (take_one p.layout c f w)
+  called_bad k a = file_call false k a
+
+  abbrev pub read_with : ℕ → Act → Effect
+  read_with status (read f into end fine) = ended_with status (take_one p.layout c f w)
+  read_with status _ = not_taken
+
+  abbrev pub shown : Act → Effect
+  shown (act.show xs) = taken (show p.layout xs w)
+  shown _ = not_taken
+
+  abbrev pub effect_of : Action → Act → Effect
+  effect_of action.Skip a = taken w
+  effect_of action.Assign a = assigned a
+  effect_of action.Done a = computed false a
+  effect_of action.Size a = computed true a
+  effect_of (action.True k) a = tested true k a
+  effect_of (action.False k) a = tested false k a
+  effect_of action.SetCount a = counted a
+  effect_of action.Down a = taken (count_down p.layout number w)
+  effect_of (action.Open k) a = file_call true k a
+  effect_of (action.Close k) a = file_call true k a
+  effect_of action.Take a = read_with 0 a
+  effect_of action.AtEnd a = read_with 10 a
+  effect_of (action.Bad k) a = called_bad k a
+  effect_of action.Write a = file_call true 0 a
+  effect_of action.Show a = shown a
+
+  -- what the edge does where the run is at its node, or the fault that the statement meets there
+  abbrev pub effect : Action → Effect
+  effect a = option_map_or (effect_of a) (act_at p number) not_taken

@@ -1,0 +1,75 @@
+-- Whole runs of a program.
+use Rattle.std.specs.Prelude.{◌≡◌, ℕ, zero, suc, ◌-◌, List, [], ◌∷◌, length, map, replicate, slice_get, Option, Some, None, Result, Ok, Err}
+use Rattle.std.specs.Option.{option_map, option_map_or}
+use Rattle.cob_tree.specs.declared.fault.Kind.{Kind}
+use Rattle.cob_data.specs.declared.layout.FileDecl.{FileDecl}
+use Rattle.cob_data.specs.declared.layout.Item.{Item}
+use Rattle.cob_data.specs.declared.layout.Layout.{Layout}
+use Rattle.cob_data.specs.declared.layout.Sender.{Sender}
+use Rattle.cob_program.specs.Act.{Program}
+use Rattle.cob_meaning.specs.declared.straight.Outcome.{Outcome}
+use Rattle.cob_meaning.specs.declared.straight.Outcome.TheVariants.{Going, Fault}
+use Rattle.cob_meaning.specs.Contents.{written, fitted}
+use Rattle.cob_meaning.specs.Moves.{moved}
+use Rattle.cob_meaning.specs.Files.{File, file, closed, Choice}
+use Rattle.cob_meaning.specs.State.{World, rest, paras, State, going}
+use Rattle.cob_meaning.specs.Steps.{body_at, settled_state, step}
+
+-- ---- the beginning
+
+abbrev pub with_value : Item → Result (List ℕ) Kind → List ℕ → List ℕ
+with_value i (Ok bytes) storage = written storage i.offset bytes
+with_value i (Err kind) storage = storage
+
+-- a VALUE is put as by MOVE
+abbrev pub with_constant : Layout → Item → Option Sender → List ℕ → List ℕ
+with_constant l i None storage = storage
+with_constant l i (Some x) storage = with_value i (moved l [] i.form i.length x) storage
+
+abbrev pub with_values : Layout → List Item → List ℕ → List ℕ
+with_values l [] storage = storage
+with_values l (i ∷ items) storage = with_values l items (with_constant l i i.value storage)
+
+-- each VALUE, and elsewhere the bytes that stood there
+abbrev pub first_storage : Layout → List ℕ → List ℕ
+first_storage l first = with_values l l.items (fitted l.storage first)
+
+-- what each file holds: nothing where it is absent, else records of its length
+abbrev pub Contents : Type 0
+Contents = List (Option (List (List ℕ)))
+
+abbrev pub content_at : Contents → ℕ → Option (List (List ℕ))
+content_at contents n = option_map_or (λ c. c) (slice_get contents n) None
+
+abbrev pub first_files : Contents → ℕ → List FileDecl → List File
+first_files contents n [] = []
+first_files contents n (d ∷ ds) = file (option_map (map (fitted d.length)) (content_at contents n)) closed 0 ∷ first_files contents (suc n) ds
+
+abbrev pub first_world : Program → Contents → List ℕ → World
+first_world p contents first = record {
+  storage = first_storage p.layout first;
+  counts = replicate p.statements None;
+  files = first_files contents 0 p.layout.files;
+  shown = [];
+}
+
+-- ---- runs
+
+module _ (p : Program) (contents : Contents) (first : List ℕ) where
+  abbrev pub begin : State
+  begin = settled_state p None (going (first_world p contents first) (rest (body_at p 0) ∷ paras 1 (length p.paras - 1) ∷ []))
+
+  -- what is chosen in the step behind n steps, where the list says nothing what stood there
+  abbrev pub choice_at : List Choice → ℕ → Choice
+  choice_at choices n = option_map_or (λ c. c) (slice_get choices n) None
+
+  -- the state after so many steps
+  abbrev pub run : List Choice → ℕ → State
+  run choices zero = begin
+  run choices (suc n) = step p (choice_at choices n) (run choices n)
+
+-- On all input files, for all contents that are left undefined and every number of steps, the run meets no fault.
+abbrev pub IsFaultless : Program → Type 0
+IsFaultless p =
+    (contents : Contents) (first : List ℕ) (choices : List Choice) (n : ℕ) (kind : Kind) (statement : ℕ) →
+    (run p contents first choices n).outcome ≡ Fault kind statement → ⊥
