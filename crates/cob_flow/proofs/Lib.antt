@@ -1,3 +1,5 @@
 mod Examples
 mod Fronts
 mod Lengths
+mod Relation
+mod Settling
