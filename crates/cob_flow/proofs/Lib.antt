@@ -3,3 +3,5 @@ mod Fronts
 mod Lengths
 mod Relation
 mod Settling
+mod Ways
+mod Conditions

@@ -1,5 +1,6 @@
 -- How what is still to be done stands at a node of the graph.
 use Rattle.std.proofs.Common.{◌≡◌, ℕ, zero, suc, ◌+◌, ◌-◌, ◌≤◌, ◌<◌, List, [], ◌∷◌, Option, Some, None, refl, sym, ap, subst, ◌∙◌, arith}
+use Rattle.cob_tree.specs.declared.fault.Kind.{Kind}
 use Rattle.cob_program.specs.Act.{Turns, once, times, until, varying, Stmts, Act, perform, Body, Para, Program}
 use Rattle.cob_meaning.specs.declared.straight.Outcome.{Outcome}
 use Rattle.cob_meaning.specs.declared.straight.Outcome.TheVariants.{Going, Ended, IoStop, Fault}
@@ -43,6 +44,9 @@ module _ (s : Setting) where
 
   abbrev pub Within : ℕ → World → Type 0
   Within k w = ComesWithin s.p s.copies s.contents s.first s.choices k (final_of s.copies) w
+
+  abbrev pub Meets : ℕ → Kind → ℕ → World → Type 0
+  Meets k kind number w = ComesToFault s.p s.copies s.contents s.first s.choices k kind number w
 
   abbrev pub Stand : ℕ → List Noded → Type 0
   Stand at ns = Runs (node_at (all_nodes s.p s.copies)) at ns
@@ -120,4 +124,4 @@ module _ (s : Setting) where
   Comes_by Going k w ds = Goes k w ds
   Comes_by Ended k w ds = Within k w
   Comes_by (IoStop status statement) k w ds = Within k w
-  Comes_by (Fault kind statement) k w ds = ComesToFault s.p s.copies s.contents s.first s.choices k kind statement w
+  Comes_by (Fault kind statement) k w ds = Meets k kind statement w
