@@ -23,6 +23,9 @@ module _ {A : Type 0} (get : ℕ → Option A) where
   back at size [] ys e h = moved at (at + size) ys (omega (arith, e)) h
   back at size (x ∷ xs) ys e h = moved (at + 1 + length xs) (at + size) ys (omega (arith, e)) (back (at + 1) (length xs) xs ys refl h.1)
 
+  pub right : (at : ℕ) (xs ys zs : List A) → Runs get at (xs ++ ys ++ zs) → Runs get at (xs ++ (ys ++ zs))
+  right at xs ys zs h = subst (λ (l : List A). Runs get at l) (append_assoc xs ys zs) h
+
 at_seam : {A : Type 0} (xs ys : List A) (y : A) → slice_get (xs ++ y ∷ ys) (length xs) ≡ Some y
 at_seam [] ys y = refl
 at_seam (x ∷ xs) ys y = at_seam xs ys y

@@ -5,3 +5,5 @@ mod Relation
 mod Settling
 mod Ways
 mod Conditions
+mod SizeErrors
+mod Statements
