@@ -7,3 +7,5 @@ mod Ways
 mod Conditions
 mod SizeErrors
 mod Statements
+mod Choosing
+mod Loops

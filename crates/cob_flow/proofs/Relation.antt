@@ -93,12 +93,15 @@ module _ (s : Setting) where
     pub tests : HasTest turns
     pub begins : n ≡ tests_at turns at laid
 
-  pub record AugmentAt (h : Here) (number : ℕ) (body : Body) (turns : Turns) (n next : ℕ) : Type 0 where
+  -- it goes on at the loop's test
+  pub record AugmentAt (h : Here) (number : ℕ) (body : Body) (turns : Turns) (n then : ℕ) : Type 0 where
     pub laid : LaidBody
     pub at : ℕ
+    pub next : ℕ
     pub loop : ActAt h number (perform body turns) (performing laid turns) at next
     pub augments : HasAugment turns
     pub begins : n ≡ augment_at turns at laid
+    pub goes : then ≡ tests_at turns at laid
 
   -- with the copies that it lies in, the innermost first, of which each of its paragraphs uses one
   abbrev pub Stands : List Doing → List Here → ℕ → Type 0
