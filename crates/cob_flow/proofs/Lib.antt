@@ -9,3 +9,4 @@ mod SizeErrors
 mod Statements
 mod Choosing
 mod Loops
+mod Calls

@@ -94,14 +94,14 @@ module _ (s : Setting) where
     pub begins : n ≡ tests_at turns at laid
 
   -- it goes on at the loop's test
-  pub record AugmentAt (h : Here) (number : ℕ) (body : Body) (turns : Turns) (n then : ℕ) : Type 0 where
+  pub record AugmentAt (h : Here) (number : ℕ) (body : Body) (turns : Turns) (n onto : ℕ) : Type 0 where
     pub laid : LaidBody
     pub at : ℕ
     pub next : ℕ
     pub loop : ActAt h number (perform body turns) (performing laid turns) at next
     pub augments : HasAugment turns
     pub begins : n ≡ augment_at turns at laid
-    pub goes : then ≡ tests_at turns at laid
+    pub goes : onto ≡ tests_at turns at laid
 
   -- with the copies that it lies in, the innermost first, of which each of its paragraphs uses one
   abbrev pub Stands : List Doing → List Here → ℕ → Type 0
