@@ -1,50 +1,44 @@
 -- Where statements on files lead.
 use Rattle.std.proofs.Common.{◌≡◌, ℕ, zero, suc, ◌+◌, ◌≤◌, Bool, true, false, not, List, [], ◌∷◌, ◌++◌, length, Option, Some, None, is_some, Result, Ok, Err, refl, sym, ap, subst, ◌∙◌, arith}
-use Rattle.std.specs.Prelude.{Contains, slice_get, ◌==◌, ◌&&◌, if◌then◌else◌}
+use Rattle.std.specs.Prelude.{slice_get, if◌then◌else◌}
 use Rattle.std.specs.Option.{option_map_or}
 use Rattle.std.proofs.lemmas.Bool.{false≢true}
 use Rattle.cob_tree.specs.declared.fault.Kind.{Kind}
 use Rattle.cob_data.specs.declared.layout.Sender.{Sender}
 use Rattle.cob_program.specs.declared.act.Opening.{Opening}
-use Rattle.cob_program.specs.Act.{Stmts, Phrase, left_out, given, Act, open_files, close_files, read, write}
+use Rattle.cob_program.specs.Act.{Act, open_files, close_files, write}
 use Rattle.cob_meaning.specs.declared.action.Action.{Action}
 use Rattle.cob_meaning.specs.declared.action.Action.TheVariants as action
 use Rattle.cob_meaning.specs.declared.straight.Outcome.{Outcome}
 use Rattle.cob_meaning.specs.declared.straight.Outcome.TheVariants.{Going, Ended, IoStop, Fault}
 use Rattle.cob_meaning.specs.Faults.{◌>>=◌}
-use Rattle.cob_meaning.specs.State.{World, Doing, rest, State, state, going}
-use Rattle.cob_meaning.specs.Acts.{has_status, is_fine, open_one, close_one, take_one, into_if, read_one, write_one, file_from, move_if}
-use Rattle.cob_meaning.specs.Steps.{outcome_of, unless_over, each_from, ended_by, behind_read, is_given, list_of, written_by}
+use Rattle.cob_meaning.specs.State.{World, Doing, state}
+use Rattle.cob_meaning.specs.Acts.{has_status, is_fine, open_one, close_one, write_one, file_from, move_if}
+use Rattle.cob_meaning.specs.Steps.{outcome_of, unless_over, each_from, written_by}
 use Rattle.cob_meaning.specs.Effects.{effect_of, met, taken, taken_if, act_at, by_status}
 use Rattle.cob_meaning.specs.Effects as effect
-use Rattle.cob_flow.specs.Laid.{LaidList, LaidPhrase, no_phrase, a_phrase, reading, one_if, phrase_size}
-use Rattle.cob_flow.specs.Places.{first_of_list}
-use Rattle.cob_flow.specs.Nodes.{Copied, bad_to, open_nodes, close_nodes, end_to, read_nodes, write_nodes, write_edges, phrase_nodes, list_nodes}
-use Rattle.cob_flow.specs.Copies.{IsLaidPhrase}
-use Rattle.cob_flow.specs.Graphs.{all_nodes, final_of}
-use Rattle.cob_flow.specs.Walks.{IsWholePhrase, node_at}
-use Rattle.cob_flow.proofs.Fronts.{Runs, front, back, right, moved}
-use Rattle.cob_flow.proofs.Lengths.{length-read, length-phrase}
-use Rattle.cob_flow.proofs.Relation.{Setting, choice, Way, Within, Stand, Here, ActAt, Stands, Standing, Goes, Comes_by}
+use Rattle.cob_flow.specs.Nodes.{bad_to, open_nodes, close_nodes, write_nodes, write_edges}
+use Rattle.cob_flow.proofs.Fronts.{Runs}
+use Rattle.cob_flow.proofs.Relation.{Setting, choice, Way, Within, Stand, Here, Stands, Comes_by}
 use Rattle.cob_flow.proofs.Ways.{so_far, IsNode, leaves, meets, by_act}
-use Rattle.cob_flow.proofs.Statements.{Leads, listed}
+use Rattle.cob_flow.proofs.Statements.{Leads}
 
 module _ (s : Setting) (h : Here s) (number k : ℕ) where
   -- behind a call: at m, or where the run ends
-  abbrev Called : ℕ → World → Outcome → Type 0
+  abbrev pub Called : ℕ → World → Outcome → Type 0
   Called m v Going = Way s (suc k) m v
   Called m v Ended = Within s (suc k) v
   Called m v (IoStop status statement) = Within s (suc k) v
   Called m v (Fault kind statement) = ⊥
 
-  bad_lands : (has : Bool) (file m status : ℕ) (v : World) → has_status h.c.layout file ≡ has → Way s (suc k) (bad_to h.c number file m) v →
+  pub bad_lands : (has : Bool) (file m status : ℕ) (v : World) → has_status h.c.layout file ≡ has → Way s (suc k) (bad_to h.c number file m) v →
       Called m v (if has then Going else IoStop status number)
   bad_lands true file m status v e way = subst (λ (b : Bool). Way s (suc k) (if b then m else h.c.final) v) e way
   bad_lands false file m status v e way = record {
       left = suc k; within = omega arith;
       way = subst (λ (n : ℕ). Way s (suc k) n v) h.final (subst (λ (b : Bool). Way s (suc k) (if b then m else h.c.final) v) e way) }
 
-  same_status : (file : ℕ) → has_status h.c.layout file ≡ has_status s.p.layout file
+  pub same_status : (file : ℕ) → has_status h.c.layout file ≡ has_status s.p.layout file
   same_status file = ap (λ l. has_status l file) h.layout
 
   -- a node with a way for a good status and one for a bad one
@@ -63,7 +57,7 @@ module _ (s : Setting) (h : Here s) (number k : ℕ) where
     called = called_by (is_fine x.1) refl
 
   module _ (hs : List (Here s)) (ds : List Doing) (next : ℕ) (st : Stands s ds (h ∷ hs) next) where
-    landed : (o : Outcome) (v : World) → Called next v o → Comes_by s o (suc k) v ds
+    pub landed : (o : Outcome) (v : World) → Called next v o → Comes_by s o (suc k) v ds
     landed Going v d = record { node = next; way = d; standing = record { copies = h ∷ hs; stands = st } }
     landed Ended v d = d
     landed (IoStop status statement) v d = d
@@ -77,7 +71,7 @@ module _ (s : Setting) (h : Here s) (number k : ℕ) where
       goes_on (IoStop status statement) v m more d f = d
       goes_on (Fault kind statement) v m more d f = absurd d
 
-    opens : (all os : List Opening) (b : Bool) (i at : ℕ) (w : World) → act_at s.p number ≡ Some (open_files all) → 1 ≤ length os → Runs (slice_get all) i os →
+    pub opens : (all os : List Opening) (b : Bool) (i at : ℕ) (w : World) → act_at s.p number ≡ Some (open_files all) → 1 ≤ length os → Runs (slice_get all) i os →
         Stand s at (open_nodes h.c number b os i at next) → Way s (so_far k b) at w →
         Comes_by s (each_from s.p.layout (open_one s.p.layout) (λ o. o.file) number os w).1 (suc k) (each_from s.p.layout (open_one s.p.layout) (λ o. o.file) number os w).0 ds
     opens all [] b i at w its l r ns way = absurd (omega (arith, l))
@@ -95,7 +89,7 @@ module _ (s : Setting) (h : Here s) (number k : ℕ) where
             (ap (effect.opened s.p number (choice s k) w true) r.0) (ap (effect.opened s.p number (choice s k) w false) r.0))
           (λ d. opens all (o2 ∷ os) false (i + 1) (at + 1) x.0 its (omega arith) r.1 ns.1 d)
 
-    closes : (all fs : List ℕ) (b : Bool) (i at : ℕ) (w : World) → act_at s.p number ≡ Some (close_files all) → 1 ≤ length fs → Runs (slice_get all) i fs →
+    pub closes : (all fs : List ℕ) (b : Bool) (i at : ℕ) (w : World) → act_at s.p number ≡ Some (close_files all) → 1 ≤ length fs → Runs (slice_get all) i fs →
         Stand s at (close_nodes h.c number b fs i at next) → Way s (so_far k b) at w →
         Comes_by s (each_from s.p.layout (close_one s.p.layout) (λ f. f) number fs w).1 (suc k) (each_from s.p.layout (close_one s.p.layout) (λ f. f) number fs w).0 ds
     closes all [] b i at w its l r ns way = absurd (omega (arith, l))
@@ -134,7 +128,7 @@ module _ (s : Setting) (h : Here s) (number k : ℕ) where
           meets s h.c number k true _ at action.Assign (at + 1) w kind way is (0, omega arith, refl)
             (by_act s number (choice s k) w action.Assign (write r from) (Err kind) its (ap met e))
 
-    write_leads : (r : ℕ) (from : Option Sender) (at : ℕ) (w : World) → act_at s.p number ≡ Some (write r from) → (file : Option ℕ) → file_from s.p.layout 0 s.p.layout.files r ≡ file →
+    pub write_leads : (r : ℕ) (from : Option Sender) (at : ℕ) (w : World) → act_at s.p number ≡ Some (write r from) → (file : Option ℕ) → file_from s.p.layout 0 s.p.layout.files r ≡ file →
         is_some file ≡ true → Stand s at (write_nodes h.c number (option_map_or (λ f. f) file 0) (is_some from) at next) → Way s k at w →
         Leads s k number w (written_by s.p (choice s k) number r file from w ds)
     write_leads r from at w its None e i ns way = absurd (false≢true i)

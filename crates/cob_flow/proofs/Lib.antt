@@ -10,3 +10,4 @@ mod Statements
 mod Choosing
 mod Loops
 mod Calls
+mod ReadSteps
