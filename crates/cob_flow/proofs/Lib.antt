@@ -11,3 +11,5 @@ mod Choosing
 mod Loops
 mod Calls
 mod ReadSteps
+mod EachAct
+pub mod Simulated

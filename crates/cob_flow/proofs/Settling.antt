@@ -15,7 +15,7 @@ use Rattle.cob_flow.proofs.Fronts.{front, back}
 use Rattle.cob_flow.proofs.Lengths.{length-list}
 use Rattle.cob_flow.proofs.Relation.{Setting, Stand, ParasAt, Here, RestAt, Stands, Standing}
 
-whole_in : (p : Program) (xs : List Para) (n : ℕ) → AreWholeParas p xs → AreWhole p (option_map_or (λ x. x.body) (slice_get xs n) no_stmts)
+pub whole_in : (p : Program) (xs : List Para) (n : ℕ) → AreWholeParas p xs → AreWhole p (option_map_or (λ x. x.body) (slice_get xs n) no_stmts)
 whole_in p [] n h = tt
 whole_in p (x ∷ xs) zero h = h.0
 whole_in p (x ∷ xs) (suc n) h = whole_in p xs n h.1
