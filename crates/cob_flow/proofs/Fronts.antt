@@ -1,5 +1,5 @@
 -- What is found from one number on, one behind the other: fronts and backs.
-use Rattle.std.proofs.Common.{◌≡◌, ℕ, zero, suc, ◌+◌, ◌-◌, List, [], ◌∷◌, ◌++◌, length, Option, Some, None, refl, sym, ap, subst, ◌∙◌, arith, append_assoc, length-append}
+use Rattle.std.proofs.Common.{◌≡◌, ℕ, ◌+◌, List, [], ◌∷◌, ◌++◌, length, Option, Some, refl, ap, subst, ◌∙◌, arith, append_assoc, length-append}
 use Rattle.std.specs.Prelude.{slice_get}
 use Rattle.cob_flow.specs.Nodes.{Noded}
 use Rattle.cob_flow.specs.Walks.{node_at}
@@ -21,7 +21,8 @@ module _ {A : Type 0} (get : ℕ → Option A) where
 
   pub back : (at size : ℕ) (xs ys : List A) → length xs ≡ size → Runs get at (xs ++ ys) → Runs get (at + size) ys
   back at size [] ys e h = moved at (at + size) ys (omega (arith, e)) h
-  back at size (x ∷ xs) ys e h = moved (at + 1 + length xs) (at + size) ys (omega (arith, e)) (back (at + 1) (length xs) xs ys refl h.1)
+  back at size (x ∷ xs) ys e h = moved (at + 1 + length xs) (at + size) ys (omega (arith, e))
+      (back (at + 1) (length xs) xs ys refl h.1)
 
   pub right : (at : ℕ) (xs ys zs : List A) → Runs get at (xs ++ ys ++ zs) → Runs get at (xs ++ (ys ++ zs))
   right at xs ys zs h = subst (λ (l : List A). Runs get at l) (append_assoc xs ys zs) h
@@ -33,10 +34,11 @@ at_seam (x ∷ xs) ys y = at_seam xs ys y
 -- a list's own elements
 pub behind : {A : Type 0} (xs ys : List A) (at : ℕ) → at ≡ length xs → Runs (slice_get (xs ++ ys)) at ys
 behind xs [] at e = tt
-behind xs (y ∷ ys) at e =
-    (ap (slice_get (xs ++ y ∷ ys)) e ∙ at_seam xs ys y,
-     subst (λ l. Runs (slice_get l) (at + 1) ys) (append_assoc xs (y ∷ []) ys)
-       (behind (xs ++ y ∷ []) ys (at + 1) (omega (arith, e, length-append xs (y ∷ [])))))
+behind xs (y ∷ ys) at e = (
+  ap (slice_get (xs ++ y ∷ ys)) e ∙ at_seam xs ys y,
+  subst (λ l. Runs (slice_get l) (at + 1) ys) (append_assoc xs (y ∷ []) ys)
+      (behind (xs ++ y ∷ []) ys (at + 1) (omega (arith, e, length-append xs (y ∷ [])))),
+)
 
 pub of_nodes : (all ns : List Noded) (at : ℕ) → Runs (slice_get all) at ns → Runs (node_at all) (at + 1) ns
 of_nodes all [] at h = tt

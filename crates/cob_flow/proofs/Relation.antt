@@ -1,11 +1,11 @@
 -- How what is still to be done stands at a node of the graph.
-use Rattle.std.proofs.Common.{◌≡◌, ℕ, zero, suc, ◌+◌, ◌-◌, ◌≤◌, ◌<◌, List, [], ◌∷◌, Option, Some, None, refl, sym, ap, subst, ◌∙◌, arith}
+use Rattle.std.proofs.Common.{◌≡◌, ℕ, suc, ◌-◌, ◌≤◌, List, [], ◌∷◌, Some}
 use Rattle.cob_tree.specs.declared.fault.Kind.{Kind}
-use Rattle.cob_program.specs.Act.{Turns, once, times, until, varying, Stmts, Act, perform, Body, Para, Program}
+use Rattle.cob_program.specs.Act.{Turns, once, times, varying, Stmts, Act, perform, Body, Program}
 use Rattle.cob_meaning.specs.declared.straight.Outcome.{Outcome}
 use Rattle.cob_meaning.specs.declared.straight.Outcome.TheVariants.{Going, Ended, IoStop, Fault}
 use Rattle.cob_meaning.specs.Files.{Choice}
-use Rattle.cob_meaning.specs.State.{World, Doing, rest, paras, testing, augmenting, State}
+use Rattle.cob_meaning.specs.State.{World, Doing, rest, paras, testing, augmenting}
 use Rattle.cob_meaning.specs.Effects.{act_at}
 use Rattle.cob_meaning.specs.Runs.{Contents, choice_at}
 use Rattle.cob_flow.specs.Laid.{LaidList, LaidAct, performing, LaidBody, LaidParas}
@@ -110,8 +110,10 @@ module _ (s : Setting) where
   Stands (d ∷ ds) [] n = ⊥
   Stands (rest ss ∷ ds) (h ∷ hs) n = (next : ℕ) × RestAt h ss n next × Stands ds (h ∷ hs) next
   Stands (paras from q ∷ ds) (h ∷ hs) n = (q ≡ h.hi) × ParasAt h.c h.lo h.hi from n h.next × Stands ds hs h.next
-  Stands (testing number body turns ∷ ds) (h ∷ hs) n = (next : ℕ) × TestAt h number body turns n next × Stands ds (h ∷ hs) next
-  Stands (augmenting number body turns ∷ ds) (h ∷ hs) n = (next : ℕ) × AugmentAt h number body turns n next × Stands ds (h ∷ hs) next
+  Stands (testing number body turns ∷ ds) (h ∷ hs) n = (next : ℕ) × TestAt h number body turns n next × Stands ds
+      (h ∷ hs) next
+  Stands (augmenting number body turns ∷ ds) (h ∷ hs) n = (next : ℕ) × AugmentAt h number body turns n next × Stands ds
+      (h ∷ hs) next
 
   pub record Standing (ds : List Doing) (n : ℕ) : Type 0 where
     pub copies : List Here

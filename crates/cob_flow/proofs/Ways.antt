@@ -1,5 +1,5 @@
 -- How a way goes on from a node, in a step that begins there or has begun before.
-use Rattle.std.proofs.Common.{◌≡◌, ℕ, zero, suc, ◌+◌, ◌-◌, ◌≤◌, ◌<◌, Bool, true, false, List, [], ◌∷◌, Option, Some, None, Result, Ok, Err, refl, sym, ap, subst, ◌∙◌, arith}
+use Rattle.std.proofs.Common.{◌≡◌, ℕ, suc, ◌-◌, Bool, true, false, List, Option, Some, Ok, Err, refl, ap, subst, ◌∙◌, arith}
 use Rattle.std.specs.Prelude.{Contains}
 use Rattle.std.specs.Option.{option_map_or}
 use Rattle.cob_tree.specs.declared.fault.Kind.{Kind}
@@ -30,23 +30,38 @@ module _ (s : Setting) where
   abbrev pub IsNode : Copied → ℕ → Bool → List (Action × ℕ) → ℕ → Type 0
   IsNode c number b out n = node_at (all_nodes s.p s.copies) n ≡ Some (node c number b out)
 
-  pub leaves : (c : Copied) (number k : ℕ) (b : Bool) (out : List (Action × ℕ)) (n : ℕ) (a : Action) (m : ℕ) (w v : World) → Way s (so_far k b) n w →
-      IsNode c number b out n → Contains out (a, m) → effect s.p number (choice s k) w a ≡ Ok (Some v) → Way s (suc k) m v
+  pub leaves : (c : Copied) (number k : ℕ) (b : Bool) (out : List (Action × ℕ)) (n : ℕ) (a : Action) (m : ℕ)
+      (w v : World) → Way s (so_far k b) n w →
+      IsNode c number b out n → Contains out (a, m) → effect s.p number (choice s k) w a ≡ Ok (Some v) →
+      Way s (suc k) m v
   leaves c number k b out n a m w v way is there e =
       let x = node c number b out in
       subst (λ (i : ℕ). Way s i m v) (passes k b x refl)
-        (onward x a m way is there (ap (λ (d : Choice). effect s.p number d w a) (same_choice k b x refl) ∙ e))
+      (onward x a m way is there (ap (λ (d : Choice). effect s.p number d w a) (same_choice k b x refl) ∙ e))
 
-  pub meets : (c : Copied) (number k : ℕ) (b : Bool) (out : List (Action × ℕ)) (n : ℕ) (a : Action) (m : ℕ) (w : World) (kind : Kind) → Way s (so_far k b) n w →
-      IsNode c number b out n → Contains out (a, m) → effect s.p number (choice s k) w a ≡ Err kind → Meets s (suc k) kind number w
+  pub meets : (c : Copied) (number k : ℕ) (b : Bool) (out : List (Action × ℕ)) (n : ℕ) (a : Action) (m : ℕ) (w : World)
+      (kind : Kind) → Way s (so_far k b) n w →
+      IsNode c number b out n → Contains out (a, m) → effect s.p number (choice s k) w a ≡ Err kind →
+      Meets s (suc k) kind number w
   meets c number k b out n a m w kind way is there e =
       let x = node c number b out in
       record {
-        left = so_far k b; node = n; at = x; edge = a; to = m; way = way; stands = is; within = omega (arith, passes k b x refl); its = refl; out = there;
+        left = so_far k b;
+        node = n;
+        at = x;
+        edge = a;
+        to = m;
+        way = way;
+        stands = is;
+        within = omega (arith, passes k b x refl);
+        its = refl;
+        out = there;
         meets = ap (λ (d : Choice). effect s.p number d w a) (same_choice k b x refl) ∙ e;
       }
 
   -- an edge does its part of the statement with the number
-  pub by_act : (number : ℕ) (c : Choice) (w : World) (a : Action) (act : Act) (r : Effect) → act_at s.p number ≡ Some act → effect_of s.p number c w a act ≡ r →
+  pub by_act : (number : ℕ) (c : Choice) (w : World) (a : Action) (act : Act) (r : Effect) →
+      act_at s.p number ≡ Some act → effect_of s.p number c w a act ≡ r →
       effect s.p number c w a ≡ r
-  by_act number c w a act r its e = ap (λ (o : Option Act). option_map_or (effect_of s.p number c w a) o not_taken) its ∙ e
+  by_act number c w a act r its e = ap (λ (o : Option Act). option_map_or (effect_of s.p number c w a) o not_taken) its
+      ∙ e
