@@ -19,7 +19,7 @@ use Rattle.cob_meaning.specs.Effects.{effect_of, met, taken, taken_if, act_at, b
 use Rattle.cob_meaning.specs.Effects as effect
 use Rattle.cob_flow.specs.Nodes.{bad_to, open_nodes, close_nodes, write_nodes, write_edges}
 use Rattle.cob_flow.proofs.Fronts.{Runs}
-use Rattle.cob_flow.proofs.Relation.{Setting, choice, Way, Within, Stand, Here, Stands, Comes_by}
+use Rattle.cob_flow.proofs.Relation.{Setting, choice, Way, Within, Stand, Here, Stands, among, Comes_by}
 use Rattle.cob_flow.proofs.Ways.{so_far, IsNode, leaves, meets, by_act}
 use Rattle.cob_flow.proofs.Statements.{Leads}
 
@@ -59,14 +59,15 @@ module _ (s : Setting) (h : Here s) (number k : ℕ) where
           (by_act s number (choice s k) w good act (taken x.0) its (does ∙ ap (λ f. taken_if f x.0) e))
       called_by false e = bad_lands (has_status s.p.layout file) file m x.1 x.0 (same_status file)
           (leaves s h.c number k b _ n (action.Bad i) (bad_to h.c number file m) w x.0 way is (1, omega arith, refl)
-          (by_act s number (choice s k) w (action.Bad i) act (taken x.0) its (fails ∙ ap (λ f. taken_if (not f) x.0) e)))
+          (by_act s number (choice s k) w (action.Bad i) act (taken x.0) its
+          (fails ∙ ap (λ f. taken_if (not f) x.0) e)))
 
       called : Called m x.0 (outcome_of number (has_status s.p.layout file) x.1)
       called = called_by (is_fine x.1) refl
 
   module _ (hs : List (Here s)) (ds : List Doing) (next : ℕ) (st : Stands s ds (h ∷ hs) next) where
     pub landed : (o : Outcome) (v : World) → Called next v o → Comes_by s o (suc k) v ds
-    landed Going v d = record { node = next; way = d; standing = record { copies = h ∷ hs; stands = st } }
+    landed Going v d = record { node = next; way = d; standing = among s h hs _ _ st }
     landed Ended v d = d
     landed (IoStop status statement) v d = d
     landed (Fault kind statement) v d = absurd d

@@ -16,7 +16,7 @@ use Rattle.cob_flow.specs.Graphs.{all_nodes}
 use Rattle.cob_flow.specs.Walks.{AreWhole, node_at}
 use Rattle.cob_flow.proofs.Fronts.{front, back, behind}
 use Rattle.cob_flow.proofs.Lengths.{length-nodes}
-use Rattle.cob_flow.proofs.Relation.{Setting, choice, Way, Stand, Here, ActAt, Stands}
+use Rattle.cob_flow.proofs.Relation.{Setting, choice, Way, Stand, Here, ActAt, Stands, among}
 use Rattle.cob_flow.proofs.Settling.{IsReady, gone}
 use Rattle.cob_flow.proofs.Ways.{leaves, by_act}
 use Rattle.cob_flow.proofs.Statements.{Leads, one_way, if_leads, arith_leads}
@@ -37,15 +37,15 @@ module _ (s : Setting) where
     act_leads (move v places) x y =
         one_way s h.c number k at w (move v places) _ action.Assign next ds way y.its
         (as_laid (move v places) x moving y y.laid).0 (0, omega arith, refl)
-        (record { copies = h ∷ hs; stands = st }) (acts.move s.p.layout v places w) refl _ refl
+        (among s h hs _ _ st) (acts.move s.p.layout v places w) refl _ refl
     act_leads (show xs) x y =
         one_way s h.c number k at w (show xs) _ action.Show next ds way y.its (as_laid (show xs) x showing y y.laid).0
         (0, omega arith, refl)
-        (record { copies = h ∷ hs; stands = st }) (Ok (acts.show s.p.layout xs w)) refl _ refl
+        (among s h hs _ _ st) (Ok (acts.show s.p.layout xs w)) refl _ refl
     act_leads nothing x y =
         one_way s h.c number k at w nothing _ action.Skip next ds way y.its (as_laid nothing x skipping y y.laid).0
         (0, omega arith, refl)
-        (record { copies = h ∷ hs; stands = st }) (Ok w) refl _ refl
+        (among s h hs _ _ st) (Ok w) refl _ refl
     act_leads (go to) x y =
         one_way s h.c number k at w (go to) _ action.Skip (h.c.para to) (gone_to to ds) way y.its
         (as_laid (go to) x (going to) y y.laid.0).0 (0, omega arith, refl)

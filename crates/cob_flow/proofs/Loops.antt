@@ -18,7 +18,7 @@ use Rattle.cob_flow.specs.Graphs.{all_nodes}
 use Rattle.cob_flow.specs.Walks.{Begins, node_at}
 use Rattle.cob_flow.proofs.Fronts.{Runs, front, back, moved, behind}
 use Rattle.cob_flow.proofs.Lengths.{length-logic, length-body}
-use Rattle.cob_flow.proofs.Relation.{Setting, HasTest, HasAugment, choice, Way, Stand, Here, ActAt, TestAt, AugmentAt, Stands, Standing}
+use Rattle.cob_flow.proofs.Relation.{Setting, HasTest, HasAugment, choice, Way, Stand, Here, ActAt, TestAt, AugmentAt, Stands, Standing, among}
 use Rattle.cob_flow.proofs.Settling.{body_stands}
 use Rattle.cob_flow.proofs.Conditions.{Decides, two_ways, logic_decides, begins_at}
 use Rattle.cob_flow.proofs.Statements.{Leads, one_way}
@@ -106,19 +106,13 @@ module _ (s : Setting) (h : Here s) (hs : List (Here s)) (ds : List Doing) (numb
   loop_leads body (times v) x at next y way st =
       one_way s h.c number k at w (perform body (times v)) _ action.SetCount (at + 1)
       (testing number body (times v) ∷ ds) way y.its (before s h number body (times v) x at next y).0
-      (0, omega arith, refl) (record {
-        copies = h ∷ hs;
-        stands = test_there s h number body (times v) x at next y hs ds
-            tt st;
-      }) (set_count s.p.layout number v w) refl _ refl
+      (0, omega arith, refl) (among s h hs _ _ (test_there s h number body (times v) x at next y hs ds tt st))
+      (set_count s.p.layout number v w) refl _ refl
   loop_leads body (until false t) x at next y way st =
       one_way s h.c number k at w (perform body (until false t)) _ action.Skip (at + 1)
       (testing number body (until false t) ∷ ds) way y.its (before s h number body (until false t) x at next y).0
-      (0, omega arith, refl) (record {
-        copies = h ∷ hs;
-        stands = test_there s h number body (until false t) x at next y
-            hs ds tt st;
-      }) (Ok w) refl (Ok w) refl
+      (0, omega arith, refl) (among s h hs _ _ (test_there s h number body (until false t) x at next y hs ds tt st))
+      (Ok w) refl (Ok w) refl
   loop_leads body (until true t) x at next y way st =
       one_way s h.c number k at w (perform body (until true t)) _ action.Skip
       (first_of_body x (at + 1) (tests_at (until true t) at x))
@@ -130,11 +124,8 @@ module _ (s : Setting) (h : Here s) (hs : List (Here s)) (ds : List Doing) (numb
       one_way s h.c number k at w (perform body (varying false i from by t)) _ action.Assign (at + 1)
       (testing number body (varying false i from by t) ∷ ds)
       way y.its (before s h number body (varying false i from by t) x at next y).0 (0, omega arith, refl)
-      (record {
-        copies = h ∷ hs;
-        stands = test_there s h number body (varying false i from by t) x at next y hs ds tt
-            st;
-      }) (set_varied s.p.layout i from w) refl _ refl
+      (among s h hs _ _ (test_there s h number body (varying false i from by t) x at next y hs ds tt st))
+      (set_varied s.p.layout i from w) refl _ refl
   loop_leads body (varying true i from by t) x at next y way st =
       one_way s h.c number k at w (perform body (varying true i from by t)) _ action.Assign
       (first_of_body x (at + 1) (tests_at (varying true i from by t) at x))
@@ -190,12 +181,12 @@ module _ (s : Setting) (h : Here s) (hs : List (Here s)) (ds : List Doing) (numb
       (before s h number body (times v) x at next y).1.0 y.its (λ wanted. refl) _ refl)
       (body_there s h number body (times v) x at next y hs _
       (augment_there s h number body (times v) x at next y hs ds tt tt st))
-      (record { copies = h ∷ hs; stands = st })
+      (among s h hs _ _ st)
   test_leads body (until false u) x at next y t way st =
       condition_leads body (until false u) u (at + 1) (first_of_body x (body_at (until false u) at) (at + 1)) next
       (turn s.p (choice s k) number body (until false u) ds)
       y.its refl y.whole.0 (λ wanted i. refl) (before s h number body (until false u) x at next y).1 way
-      (record { copies = h ∷ hs; stands = st })
+      (among s h hs _ _ st)
       (body_there s h number body (until false u) x at next y hs _
       (test_there s h number body (until false u) x at next y hs ds tt st))
   test_leads body (until true u) x at next y t way st =
@@ -203,7 +194,7 @@ module _ (s : Setting) (h : Here s) (hs : List (Here s)) (ds : List Doing) (numb
       (first_of_body x (at + 1) (tests_at (until true u) at x)) next
       (turn s.p (choice s k) number body (until true u) ds)
       y.its refl y.whole.0 (λ wanted i. refl) (after s h number body (until true u) x at next y) way
-      (record { copies = h ∷ hs; stands = st })
+      (among s h hs _ _ st)
       (body_there s h number body (until true u) x at next y hs _
       (test_there s h number body (until true u) x at next y hs ds tt st))
   test_leads body (varying false i from by u) x at next y t way st =
@@ -211,7 +202,7 @@ module _ (s : Setting) (h : Here s) (hs : List (Here s)) (ds : List Doing) (numb
       condition_leads body turns u (at + 1) (first_of_body x (at + 1 + tests_in u) (augment_at turns at x)) next
       (turn s.p (choice s k) number body turns ds)
       y.its refl y.whole.0 (λ wanted i. refl) (before s h number body turns x at next y).1 way
-      (record { copies = h ∷ hs; stands = st })
+      (among s h hs _ _ st)
       (body_there s h number body turns x at next y hs _
       (augment_there s h number body turns x at next y hs ds tt tt st))
   test_leads body (varying true i from by u) x at next y t way st =
@@ -222,8 +213,8 @@ module _ (s : Setting) (h : Here s) (hs : List (Here s)) (ds : List Doing) (numb
       (front (node_at (all_nodes s.p s.copies)) (tests_at turns at x)
       (logic_nodes h.c number true u 0 (tests_at turns at x) next (augment_at turns at x)) _
       (after s h number body turns x at next y))
-      way (record { copies = h ∷ hs; stands = st })
-      (record { copies = h ∷ hs; stands = augment_there s h number body turns x at next y hs ds tt tt st })
+      way (among s h hs _ _ st)
+      (among s h hs _ _ (augment_there s h number body turns x at next y hs ds tt tt st))
 
   augment_leads : (body : Body) (turns : Turns) (x : LaidBody) (at next : ℕ) →
       ActAt s h number (perform body turns) (performing x turns) at next → HasAugment turns →
@@ -234,12 +225,12 @@ module _ (s : Setting) (h : Here s) (hs : List (Here s)) (ds : List Doing) (numb
   augment_leads body (times v) x at next y t way st =
       one_way s h.c number k (augment_at (times v) at x) w (perform body (times v)) _ action.Down (at + 1) ds way y.its
       (after s h number body (times v) x at next y).0
-      (0, omega arith, refl) (record { copies = h ∷ hs; stands = st }) (Ok (count_down s.p.layout number w)) refl _ refl
+      (0, omega arith, refl) (among s h hs _ _ st) (Ok (count_down s.p.layout number w)) refl _ refl
   augment_leads body (varying false i from by u) x at next y t way st =
       one_way s h.c number k (augment_at (varying false i from by u) at x) w (perform body (varying false i from by u))
       _ action.Done (at + 1) ds way y.its
       (after s h number body (varying false i from by u) x at next y).0 (0, omega arith, refl)
-      (record { copies = h ∷ hs; stands = st }) (augment s.p.layout i by w) refl _ refl
+      (among s h hs _ _ st) (augment s.p.layout i by w) refl _ refl
   augment_leads body (varying true i from by u) x at next y t way st =
       let turns = varying true i from by u in
       one_way s h.c number k (augment_at turns at x) w (perform body turns) _ action.Done

@@ -119,6 +119,9 @@ module _ (s : Setting) where
     pub copies : List Here
     pub stands : Stands ds copies n
 
+  abbrev pub among : (h : Here) (hs : List Here) (ds : List Doing) (n : ℕ) → Stands ds (h ∷ hs) n → Standing ds n
+  among h hs ds n st = record { copies = h ∷ hs; stands = st }
+
   -- a way on which k steps were begun stands where something is to be done
   pub record Goes (k : ℕ) (w : World) (ds : List Doing) : Type 0 where
     pub node : ℕ
