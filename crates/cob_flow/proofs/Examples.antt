@@ -26,7 +26,9 @@ use Rattle.cob_meaning.specs.declared.action.Action.TheVariants as action
 use Rattle.cob_flow.specs.declared.graph.Node.{Node}
 use Rattle.cob_flow.specs.declared.graph.Edge.{Edge}
 use Rattle.cob_flow.specs.Laid.{MkLaid, no_laid, more_laid, a_phrase, showing, skipping, ending, deciding, performing, reading, own_list, copy, LaidParas, no_laid_paras, more_laid_paras}
-use Rattle.cob_flow.specs.Graphs.{as_node, all_nodes, edges_of}
+use Rattle.cob_flow.specs.Graphs.{as_node, all_nodes, edges_of, IsMainCopy}
+use Rattle.cob_flow.specs.Walks.{IsWhole, IsSimulated}
+use Rattle.cob_flow.proofs.Simulated.{simulates}
 
 abbrev item_of : ℕ → ℕ → Form → Option Sender → Item
 item_of offset length f value = record { name = Some (78 ∷ []); offset = offset; length = length; form = f; parent = None; line = 5; value = value }
@@ -255,3 +257,14 @@ read_edges : edges_of 1 (all_nodes (listing None) laid_read)
     ≡ edge 1 action.Take 2 ∷ edge 1 action.AtEnd 3 ∷ edge 1 (action.Bad 0) 9 ∷ edge 2 action.Assign 4 ∷ edge 3 action.Show 5 ∷ edge 4 action.Skip 5
     ∷ edge 5 action.Assign 6 ∷ edge 6 action.Show 7 ∷ edge 7 (action.True 0) 9 ∷ edge 7 (action.False 0) 8 ∷ edge 8 action.Done 6 ∷ []
 read_edges = refl
+
+-- ---- what the simulation asks of a program and its copies can be met
+
+twice_is_whole : IsWhole twice
+twice_is_whole = (tt, ((refl, (tt, tt), (refl, tt, tt)), ((refl, tt, tt), tt)))
+
+twice_is_laid : IsMainCopy twice laid_twice
+twice_is_laid = (tt, (((refl, (refl, (refl, (((refl, refl), tt), tt)))), ((refl, refl), tt)), (((refl, refl), tt), tt)))
+
+twice_is_simulated : IsSimulated twice laid_twice
+twice_is_simulated = simulates twice laid_twice twice_is_whole twice_is_laid

@@ -1,1 +1,15 @@
 mod Examples
+mod Fronts
+mod Lengths
+mod Relation
+mod Settling
+mod Ways
+mod Conditions
+mod SizeErrors
+mod Statements
+mod Choosing
+mod Loops
+mod Calls
+mod ReadSteps
+mod EachAct
+pub mod Simulated

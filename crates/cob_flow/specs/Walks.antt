@@ -1,28 +1,42 @@
 -- Ways through the graph, and that they show what runs do.
-use Rattle.std.specs.Prelude.{◌≡◌, ◌≤◌, ◌<◌, ℕ, zero, suc, ◌+◌, ◌-◌, Bool, true, false, List, [], ◌∷◌, length, slice_get, Contains, Option, Some, None, Result, Ok, Err}
+use Rattle.std.specs.Prelude.{◌≡◌, ◌≤◌, ◌<◌, ℕ, zero, suc, ◌+◌, ◌-◌, Bool, true, false, List, [], ◌∷◌, length, slice_get, Contains, Option, Some, None, is_some, Result, Ok, Err}
 use Rattle.cob_tree.specs.declared.fault.Kind.{Kind}
-use Rattle.cob_program.specs.Logic.{Logic}
-use Rattle.cob_program.specs.Act.{Turns, once, times, until, varying, Stmt, MkStmt, Stmts, no_stmts, more_stmts, Phrase, left_out, given, Act, arith, if_, evaluate, perform, open_files, close_files, read, Whens, no_whens, more_whens, MkWhen, Body, range, inline, Para, Program}
+use Rattle.cob_program.specs.Logic.{Logic, all_of, any_of, not_, test, Logics, no_logics, more_logics}
+use Rattle.cob_program.specs.Act.{Turns, once, times, until, varying, Stmt, MkStmt, Stmts, no_stmts, more_stmts, Phrase, left_out, given, Act, arith, if_, evaluate, perform, open_files, close_files, read, write, Whens, no_whens, more_whens, MkWhen, Body, range, inline, Para, Program}
 use Rattle.cob_meaning.specs.declared.action.Action.{Action}
 use Rattle.cob_meaning.specs.declared.straight.Outcome.{Outcome}
 use Rattle.cob_meaning.specs.declared.straight.Outcome.TheVariants.{Going, Ended, IoStop, Fault}
+use Rattle.cob_meaning.specs.Acts.{file_from}
 use Rattle.cob_meaning.specs.Files.{Choice}
 use Rattle.cob_meaning.specs.State.{World, State}
 use Rattle.cob_meaning.specs.Effects.{effect, act_at}
 use Rattle.cob_meaning.specs.Runs.{Contents, first_world, run, choice_at}
-use Rattle.cob_flow.specs.Laid.{LaidParas, one_if, tests_in}
+use Rattle.cob_flow.specs.Laid.{LaidParas, one_if}
 use Rattle.cob_flow.specs.Nodes.{Noded}
 use Rattle.cob_flow.specs.Graphs.{all_nodes, final_of, IsMainCopy}
 
 -- ---- programs whose statements have what the grammar gives them
 
+abbrev mutual
+  -- a condition begins with a simple condition, as none of its lists is empty
+  pub Begins : Logic → Type 0
+  Begins (all_of ls) = FirstBegins ls
+  Begins (any_of ls) = FirstBegins ls
+  Begins (not_ x) = Begins x
+  Begins (test t) = Unit {0}
+
+  pub FirstBegins : Logics → Type 0
+  FirstBegins no_logics = ⊥
+  FirstBegins (more_logics x xs) = Begins x
+
 abbrev pub IsWholeTurns : Turns → Type 0
-IsWholeTurns (until after t) = 1 ≤ tests_in t
-IsWholeTurns (varying after item start by t) = 1 ≤ tests_in t
+IsWholeTurns (until after t) = Begins t
+IsWholeTurns (varying after item start by t) = Begins t
 IsWholeTurns _ = Unit {0}
 
 abbrev mutual
-  -- each condition has a simple condition, OPEN and CLOSE name a file, and each statement is found by its number
+  -- each condition begins with a simple condition, OPEN and CLOSE name a file, WRITE a file's record, and each statement
+  -- is found by its number
   pub AreWhole : Program → Stmts → Type 0
   AreWhole p no_stmts = Unit {0}
   AreWhole p (more_stmts (MkStmt n line a) ss) = (act_at p n ≡ Some a) × IsWholeAct p a × AreWhole p ss
@@ -33,12 +47,13 @@ abbrev mutual
 
   pub IsWholeAct : Program → Act → Type 0
   IsWholeAct p (arith s targets remainder size fine) = IsWholePhrase p size × AreWhole p fine
-  IsWholeAct p (if_ t held other) = (1 ≤ tests_in t) × AreWhole p held × AreWhole p other
+  IsWholeAct p (if_ t held other) = Begins t × AreWhole p held × AreWhole p other
   IsWholeAct p (evaluate ws other) = AreWholeWhens p ws × AreWhole p other
   IsWholeAct p (perform body turns) = IsWholeTurns turns × IsWholeBody p body
   IsWholeAct p (open_files os) = 1 ≤ length os
   IsWholeAct p (close_files fs) = 1 ≤ length fs
   IsWholeAct p (read f into end fine) = IsWholePhrase p end × AreWhole p fine
+  IsWholeAct p (write r from) = is_some (file_from p.layout 0 p.layout.files r) ≡ true
   IsWholeAct p _ = Unit {0}
 
   pub AreWholeWhens : Program → Whens → Type 0

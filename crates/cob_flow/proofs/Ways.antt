@@ -1,0 +1,67 @@
+-- How a way goes on from a node, in a step that begins there or has begun before.
+use Rattle.std.proofs.Common.{◌≡◌, ℕ, suc, ◌-◌, Bool, true, false, List, Option, Some, Ok, Err, refl, ap, subst, ◌∙◌, arith}
+use Rattle.std.specs.Prelude.{Contains}
+use Rattle.std.specs.Option.{option_map_or}
+use Rattle.cob_tree.specs.declared.fault.Kind.{Kind}
+use Rattle.cob_program.specs.Act.{Act}
+use Rattle.cob_meaning.specs.declared.action.Action.{Action}
+use Rattle.cob_meaning.specs.Files.{Choice}
+use Rattle.cob_meaning.specs.State.{World}
+use Rattle.cob_meaning.specs.Effects.{Effect, effect, effect_of, not_taken, act_at}
+use Rattle.cob_flow.specs.Laid.{one_if}
+use Rattle.cob_flow.specs.Nodes.{Noded, Copied, node}
+use Rattle.cob_flow.specs.Graphs.{all_nodes}
+use Rattle.cob_flow.specs.Walks.{node_at, passed, onward}
+use Rattle.cob_flow.proofs.Relation.{Setting, choice, Way, Meets}
+
+-- the steps begun before a node, in the step behind k steps, which begins with it or not
+abbrev pub so_far : ℕ → Bool → ℕ
+so_far k true = k
+so_far k false = suc k
+
+passes : (k : ℕ) (b : Bool) (x : Noded) → x.starts ≡ b → passed (so_far k b) x ≡ suc k
+passes k true x e = let f : one_if x.starts ≡ 1 = ap one_if e in omega (arith, f)
+passes k false x e = let f : one_if x.starts ≡ 0 = ap one_if e in omega (arith, f)
+
+module _ (s : Setting) where
+  same_choice : (k : ℕ) (b : Bool) (x : Noded) → x.starts ≡ b → choice s (passed (so_far k b) x - 1) ≡ choice s k
+  same_choice k b x e = ap (choice s) (omega (arith, passes k b x e))
+
+  abbrev pub IsNode : Copied → ℕ → Bool → List (Action × ℕ) → ℕ → Type 0
+  IsNode c number b out n = node_at (all_nodes s.p s.copies) n ≡ Some (node c number b out)
+
+  pub leaves : (c : Copied) (number k : ℕ) (b : Bool) (out : List (Action × ℕ)) (n : ℕ) (a : Action) (m : ℕ)
+      (w v : World) → Way s (so_far k b) n w →
+      IsNode c number b out n → Contains out (a, m) → effect s.p number (choice s k) w a ≡ Ok (Some v) →
+      Way s (suc k) m v
+  leaves c number k b out n a m w v way is there e =
+      let x = node c number b out in
+      subst (λ (i : ℕ). Way s i m v) (passes k b x refl)
+      (onward x a m way is there (ap (λ (d : Choice). effect s.p number d w a) (same_choice k b x refl) ∙ e))
+
+  pub meets : (c : Copied) (number k : ℕ) (b : Bool) (out : List (Action × ℕ)) (n : ℕ) (a : Action) (m : ℕ) (w : World)
+      (kind : Kind) → Way s (so_far k b) n w →
+      IsNode c number b out n → Contains out (a, m) → effect s.p number (choice s k) w a ≡ Err kind →
+      Meets s (suc k) kind number w
+  meets c number k b out n a m w kind way is there e =
+      let x = node c number b out in
+      record {
+        left = so_far k b;
+        node = n;
+        at = x;
+        edge = a;
+        to = m;
+        way = way;
+        stands = is;
+        within = omega (arith, passes k b x refl);
+        its = refl;
+        out = there;
+        meets = ap (λ (d : Choice). effect s.p number d w a) (same_choice k b x refl) ∙ e;
+      }
+
+  -- an edge does its part of the statement with the number
+  pub by_act : (number : ℕ) (c : Choice) (w : World) (a : Action) (act : Act) (r : Effect) →
+      act_at s.p number ≡ Some act → effect_of s.p number c w a act ≡ r →
+      effect s.p number c w a ≡ r
+  by_act number c w a act r its e = ap (λ (o : Option Act). option_map_or (effect_of s.p number c w a) o not_taken) its
+      ∙ e
