@@ -9,7 +9,7 @@ use Rattle.cob_meaning.specs.declared.straight.Outcome.TheVariants.{Going, Ended
 use Rattle.cob_meaning.specs.Acts.{file_from}
 use Rattle.cob_meaning.specs.Files.{Choice}
 use Rattle.cob_meaning.specs.State.{World, State}
-use Rattle.cob_meaning.specs.Effects.{effect, act_at}
+use Rattle.cob_meaning.specs.Effects.{effect, status, act_at}
 use Rattle.cob_meaning.specs.Runs.{Contents, first_world, run, choice_at}
 use Rattle.cob_flow.specs.Laid.{LaidParas, one_if}
 use Rattle.cob_flow.specs.Nodes.{Noded}
@@ -109,6 +109,21 @@ module _ (p : Program) (copies : LaidParas) (contents : Contents) (first : List 
     pub out : Contains at.out (edge, to)
     pub meets : effect p statement (choice_at p contents first choices (passed left at - 1)) w edge ≡ Err kind
 
+  -- a way to the final node by an edge of the statement on whose file this status is met
+  pub record ComesByStatus (n : ℕ) (status_ : ℕ) (statement : ℕ) (w : World) : Type 0 where
+    pub left : ℕ
+    pub node : ℕ
+    pub before : World
+    pub at : Noded
+    pub edge : Action
+    pub way : Comes left node before
+    pub stands : node_at (all_nodes p copies) node ≡ Some at
+    pub within : passed left at ≤ n
+    pub its : at.statement ≡ statement
+    pub out : Contains at.out (edge, final_of copies)
+    pub leads : effect p statement (choice_at p contents first choices (passed left at - 1)) before edge ≡ Ok (Some w)
+    pub meets : status p statement (choice_at p contents first choices (passed left at - 1)) before edge ≡ Some status_
+
   -- what a run that goes on after n steps shows: a way that left n nodes at which a step begins
   pub record ComesExactly (n : ℕ) (w : World) : Type 0 where
     pub node : ℕ
@@ -117,7 +132,7 @@ module _ (p : Program) (copies : LaidParas) (contents : Contents) (first : List 
   abbrev pub ShowsBy : Outcome → ℕ → World → Type 0
   ShowsBy Going n w = ComesExactly n w
   ShowsBy Ended n w = ComesWithin n (final_of copies) w
-  ShowsBy (IoStop status statement) n w = ComesWithin n (final_of copies) w
+  ShowsBy (IoStop status_ statement) n w = ComesByStatus n status_ statement w
   ShowsBy (Fault kind statement) n w = ComesToFault n kind statement w
 
   abbrev pub Shows : ℕ → State → Type 0
