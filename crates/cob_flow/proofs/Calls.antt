@@ -15,12 +15,13 @@ use Rattle.cob_meaning.specs.Faults.{◌>>=◌}
 use Rattle.cob_meaning.specs.State.{World, Doing, state}
 use Rattle.cob_meaning.specs.Acts.{has_status, is_fine, open_one, close_one, write_one, file_from, move_if}
 use Rattle.cob_meaning.specs.Steps.{outcome_of, unless_over, each_from, written_by}
-use Rattle.cob_meaning.specs.Effects.{effect_of, met, taken, taken_if, act_at, by_status}
+use Rattle.cob_meaning.specs.Effects.{effect_of, met, taken, taken_if, act_at, by_status, status_of, status_in}
 use Rattle.cob_meaning.specs.Effects as effect
 use Rattle.cob_flow.specs.Nodes.{bad_to, open_nodes, close_nodes, write_nodes, write_edges}
+use Rattle.cob_flow.specs.Graphs.{final_of}
 use Rattle.cob_flow.proofs.Fronts.{Runs}
-use Rattle.cob_flow.proofs.Relation.{Setting, choice, Way, Within, Stand, Here, Stands, among, Comes_by}
-use Rattle.cob_flow.proofs.Ways.{so_far, IsNode, leaves, meets, by_act}
+use Rattle.cob_flow.proofs.Relation.{Setting, choice, Way, Within, Stops, Stand, Here, Stands, among, Comes_by}
+use Rattle.cob_flow.proofs.Ways.{so_far, IsNode, leaves, meets, stops, by_act, status_by_act}
 use Rattle.cob_flow.proofs.Statements.{Leads}
 
 module _ (s : Setting) (h : Here s) (number k : ℕ) where
@@ -28,19 +29,15 @@ module _ (s : Setting) (h : Here s) (number k : ℕ) where
   abbrev pub Called : ℕ → World → Outcome → Type 0
   Called m v Going = Way s (suc k) m v
   Called m v Ended = Within s (suc k) v
-  Called m v (IoStop status statement) = Within s (suc k) v
+  Called m v (IoStop status statement) = Stops s (suc k) status statement v
   Called m v (Fault kind statement) = ⊥
 
   pub bad_lands : (has : Bool) (file m status : ℕ) (v : World) → has_status h.c.layout file ≡ has →
       Way s (suc k) (bad_to h.c number file m) v →
+      (bad_to h.c number file m ≡ final_of s.copies → Stops s (suc k) status number v) →
       Called m v (if has then Going else IoStop status number)
-  bad_lands true file m status v e way = subst (λ (b : Bool). Way s (suc k) (if b then m else h.c.final) v) e way
-  bad_lands false file m status v e way = record {
-    left = suc k;
-    within = omega arith;
-    way = subst (λ (n : ℕ). Way s (suc k) n v) h.final
-        (subst (λ (b : Bool). Way s (suc k) (if b then m else h.c.final) v) e way);
-  }
+  bad_lands true file m status v e way stop = subst (λ (b : Bool). Way s (suc k) (if b then m else h.c.final) v) e way
+  bad_lands false file m status v e way stop = stop (ap (λ (b : Bool). if b then m else h.c.final) e ∙ h.final)
 
   pub same_status : (file : ℕ) → has_status h.c.layout file ≡ has_status s.p.layout file
   same_status file = ap (λ l. has_status l file) h.layout
@@ -52,15 +49,20 @@ module _ (s : Setting) (h : Here s) (number k : ℕ) where
       (its : act_at s.p number ≡ Some act)
       (does : effect_of s.p number (choice s k) w good act ≡ by_status s.p number (choice s k) w true x)
       (fails : effect_of s.p number (choice s k) w (action.Bad i) act ≡ by_status s.p number (choice s k) w false x)
+      (tells : status_of s.p number (choice s k) w (action.Bad i) act ≡ Some x.1)
     where
       called_by : (fine : Bool) → is_fine x.1 ≡ fine →
           Called m x.0 (if fine then Going else (if has_status s.p.layout file then Going else IoStop x.1 number))
       called_by true e = leaves s h.c number k b _ n good m w x.0 way is (0, omega arith, refl)
           (by_act s number (choice s k) w good act (taken x.0) its (does ∙ ap (λ f. taken_if f x.0) e))
-      called_by false e = bad_lands (has_status s.p.layout file) file m x.1 x.0 (same_status file)
-          (leaves s h.c number k b _ n (action.Bad i) (bad_to h.c number file m) w x.0 way is (1, omega arith, refl)
-          (by_act s number (choice s k) w (action.Bad i) act (taken x.0) its
-          (fails ∙ ap (λ f. taken_if (not f) x.0) e)))
+      called_by false e =
+          let to = bad_to h.c number file m in
+          let does_so = by_act s number (choice s k) w (action.Bad i) act (taken x.0) its
+              (fails ∙ ap (λ f. taken_if (not f) x.0) e) in
+          bad_lands (has_status s.p.layout file) file m x.1 x.0 (same_status file)
+          (leaves s h.c number k b _ n (action.Bad i) to w x.0 way is (1, omega arith, refl) does_so)
+          (stops s h.c number k b _ n (action.Bad i) to w x.0 x.1 way is (1, omega arith, refl) does_so
+          (status_by_act s number (choice s k) w (action.Bad i) act (Some x.1) its tells))
 
       called : Called m x.0 (outcome_of number (has_status s.p.layout file) x.1)
       called = called_by (is_fine x.1) refl
@@ -94,7 +96,8 @@ module _ (s : Setting) (h : Here s) (number k : ℕ) where
         (x.0, Going)
         (called b at o.file i next (action.Open i) w (open_files all) x way ns.0 its
         (ap (effect.opened s.p number (choice s k) w true) r.0)
-        (ap (effect.opened s.p number (choice s k) w false) r.0))
+        (ap (effect.opened s.p number (choice s k) w false) r.0)
+        (ap (λ (y : Option Opening). status_in s.p number (choice s k) w y (λ o. open_one s.p.layout o w)) r.0))
         (λ d. landed Going x.0 d)
     opens all (o ∷ o2 ∷ os) b i at w its l r ns way =
         let x = open_one s.p.layout o w in
@@ -102,7 +105,8 @@ module _ (s : Setting) (h : Here s) (number k : ℕ) where
         (each_from s.p.layout (open_one s.p.layout) (λ o. o.file) number (o2 ∷ os) x.0)
         (called b at o.file i (at + 1) (action.Open i) w (open_files all) x way ns.0 its
         (ap (effect.opened s.p number (choice s k) w true) r.0)
-        (ap (effect.opened s.p number (choice s k) w false) r.0))
+        (ap (effect.opened s.p number (choice s k) w false) r.0)
+        (ap (λ (y : Option Opening). status_in s.p number (choice s k) w y (λ o. open_one s.p.layout o w)) r.0))
         (λ d. opens all (o2 ∷ os) false (i + 1) (at + 1) x.0 its (omega arith) r.1 ns.1 d)
 
     pub closes : (all fs : List ℕ) (b : Bool) (i at : ℕ) (w : World) → act_at s.p number ≡ Some (close_files all) →
@@ -116,7 +120,8 @@ module _ (s : Setting) (h : Here s) (number k : ℕ) where
         goes_on (close_one s.p.layout) (λ f. f) (outcome_of number (has_status s.p.layout f) x.1) x.0 next (x.0, Going)
         (called b at f i next (action.Close i) w (close_files all) x way ns.0 its
         (ap (effect.closed s.p number (choice s k) w true) r.0)
-        (ap (effect.closed s.p number (choice s k) w false) r.0))
+        (ap (effect.closed s.p number (choice s k) w false) r.0)
+        (ap (λ (y : Option ℕ). status_in s.p number (choice s k) w y (λ f. close_one s.p.layout f w)) r.0))
         (λ d. landed Going x.0 d)
     closes all (f ∷ g ∷ fs) b i at w its l r ns way =
         let x = close_one s.p.layout f w in
@@ -124,7 +129,8 @@ module _ (s : Setting) (h : Here s) (number k : ℕ) where
         (each_from s.p.layout (close_one s.p.layout) (λ f. f) number (g ∷ fs) x.0)
         (called b at f i (at + 1) (action.Close i) w (close_files all) x way ns.0 its
         (ap (effect.closed s.p number (choice s k) w true) r.0)
-        (ap (effect.closed s.p number (choice s k) w false) r.0))
+        (ap (effect.closed s.p number (choice s k) w false) r.0)
+        (ap (λ (y : Option ℕ). status_in s.p number (choice s k) w y (λ f. close_one s.p.layout f w)) r.0))
         (λ d. closes all (g ∷ fs) false (i + 1) (at + 1) x.0 its (omega arith) r.1 ns.1 d)
 
     -- ---- WRITE
@@ -140,7 +146,9 @@ module _ (s : Setting) (h : Here s) (number k : ℕ) where
           landed (outcome_of number (has_status s.p.layout f) x.1) x.0
           (called b n f 0 next action.Write v (write r from) x way is its
           (ap (effect.wrote s.p number (choice s k) v true r) found)
-          (ap (effect.wrote s.p number (choice s k) v false r) found))
+          (ap (effect.wrote s.p number (choice s k) v false r) found)
+          (ap (λ (y : Option ℕ). status_in s.p number (choice s k) v y (λ f. write_one s.p.layout (choice s k) f r v))
+          found))
 
       writes_moved : (at : ℕ) (w : World) → IsNode s h.c number true ((action.Assign, at + 1) ∷ []) at →
           IsNode s h.c number false (write_edges h.c number f next) (at + 1) → Way s k at w →

@@ -12,12 +12,12 @@ use Rattle.cob_flow.specs.Laid.{LaidList, LaidPhrase, no_phrase, a_phrase, readi
 use Rattle.cob_flow.specs.Places.{first_of_list}
 use Rattle.cob_flow.specs.Nodes.{bad_to, end_to, read_nodes, phrase_nodes, list_nodes}
 use Rattle.cob_flow.specs.Copies.{IsLaidPhrase}
-use Rattle.cob_flow.specs.Graphs.{all_nodes}
+use Rattle.cob_flow.specs.Graphs.{all_nodes, final_of}
 use Rattle.cob_flow.specs.Walks.{IsWholePhrase, node_at}
 use Rattle.cob_flow.proofs.Fronts.{front, back, moved}
 use Rattle.cob_flow.proofs.Lengths.{length-read, length-phrase}
-use Rattle.cob_flow.proofs.Relation.{Setting, choice, Way, Stand, Here, ActAt, Stands, Comes_by}
-use Rattle.cob_flow.proofs.Ways.{IsNode, leaves, by_act}
+use Rattle.cob_flow.proofs.Relation.{Setting, choice, Way, Stops, Stand, Here, ActAt, Stands, Comes_by}
+use Rattle.cob_flow.proofs.Ways.{IsNode, leaves, stops, by_act, status_by_act}
 use Rattle.cob_flow.proofs.Statements.{Leads, listed}
 use Rattle.cob_flow.proofs.Calls.{bad_lands, same_status, landed}
 
@@ -90,29 +90,33 @@ module _ (s : Setting) (h : Here s) (hs : List (Here s)) (ds : List Doing) (numb
   -- ---- none was found
 
   unhandled : (status : ℕ) → is_fine status ≡ false → Way s (suc k) (bad_to h.c number f next) found.0 →
+      (bad_to h.c number f next ≡ final_of s.copies → Stops s (suc k) status number found.0) →
       Comes_by s (outcome_of number (has_status s.p.layout f) status) (suc k) found.0 ds
-  unhandled status e onwards =
+  unhandled status e onwards stop =
       subst (λ c. Comes_by s (if c then Going else (if has_status s.p.layout f then Going else IoStop status number))
       (suc k) found.0 ds) (sym e)
       (landed s h number k hs ds next st (if has_status s.p.layout f then Going else IoStop status number) found.0
-      (bad_lands s h number k (has_status s.p.layout f) f next status found.0 (same_status s h number k f) onwards))
+      (bad_lands s h number k (has_status s.p.layout f) f next status found.0 (same_status s h number k f) onwards
+      stop))
 
   at_end : (status : ℕ) → is_fine status ≡ false → (end2 : Phrase) (a2 : LaidPhrase) → IsWholePhrase s.p end2 →
       IsLaidPhrase s.p h.lo h.hi end2 a2 →
       Stand s (at + 1 + one_if (is_some into)) (phrase_nodes h.c a2 (at + 1 + one_if (is_some into)) next) →
       Way s (suc k) (end_to h.c number a2 f (at + 1 + one_if (is_some into)) next) found.0 →
+      (end_to h.c number a2 f (at + 1 + one_if (is_some into)) next ≡ final_of s.copies →
+      Stops s (suc k) status number found.0) →
       Leads s k number w (Ok (if true && is_given end2 then going found.0 (rest (list_of end2) ∷ ds) else state found.0
       ds (outcome_of number (has_status s.p.layout f) status)))
-  at_end status e left_out no_phrase whole laid ns onwards = unhandled status e onwards
-  at_end status e (given ss) (a_phrase xs) whole laid ns onwards =
+  at_end status e left_out no_phrase whole laid ns onwards stop = unhandled status e onwards stop
+  at_end status e (given ss) (a_phrase xs) whole laid ns onwards stop =
       record {
         node = first_of_list xs (at + 1 + one_if (is_some into)) next;
         way = onwards;
         standing = listed s h hs
             ds ss xs (at + 1 + one_if (is_some into)) next whole laid ns st;
       }
-  at_end status e left_out (a_phrase xs) whole laid ns onwards = absurd laid
-  at_end status e (given ss) no_phrase whole laid ns onwards = absurd laid
+  at_end status e left_out (a_phrase xs) whole laid ns onwards stop = absurd laid
+  at_end status e (given ss) no_phrase whole laid ns onwards stop = absurd laid
 
   first_node : (into2 : Bool) → Stand s at (read_nodes h.c number f into2 at end_at fine_at next) →
       (taken_to : ℕ) × IsNode s h.c number true
@@ -125,17 +129,21 @@ module _ (s : Setting) (h : Here s) (hs : List (Here s)) (ds : List Doing) (numb
       (outcome_of number (has_status s.p.layout f) found.1)))
   none_found true t e =
       let n = first_node (is_some into) own in
+      let does_so = by_act s number (choice s k) w action.AtEnd (read f into end fine) (taken found.0) y.its
+          (ap (λ c. taken_if c found.0) t) in
       at_end found.1 e end a y.whole.0 y.laid.2 end_list
-      (leaves s h.c number k true _ at action.AtEnd end_at w found.0 way n.1 (1, omega arith, refl)
-      (by_act s number (choice s k) w action.AtEnd (read f into end fine) (taken found.0) y.its
-      (ap (λ c. taken_if c found.0) t)))
+      (leaves s h.c number k true _ at action.AtEnd end_at w found.0 way n.1 (1, omega arith, refl) does_so)
+      (stops s h.c number k true _ at action.AtEnd end_at w found.0 found.1 way n.1 (1, omega arith, refl) does_so
+      (status_by_act s number (choice s k) w action.AtEnd (read f into end fine) (Some found.1) y.its refl))
   none_found false t e =
       let n = first_node (is_some into) own in
+      let to = bad_to h.c number f next in
+      let does_so = by_act s number (choice s k) w (action.Bad 0) (read f into end fine) (taken found.0) y.its
+          (ap (λ c. taken_if (not c && not (found.1 == 10)) found.0) e ∙ ap (λ c. taken_if (true && not c) found.0) t) in
       unhandled found.1 e
-      (leaves s h.c number k true _ at (action.Bad 0) (bad_to h.c number f next) w found.0 way n.1
-      (2, omega arith, refl)
-      (by_act s number (choice s k) w (action.Bad 0) (read f into end fine) (taken found.0) y.its
-      (ap (λ c. taken_if (not c && not (found.1 == 10)) found.0) e ∙ ap (λ c. taken_if (true && not c) found.0) t)))
+      (leaves s h.c number k true _ at (action.Bad 0) to w found.0 way n.1 (2, omega arith, refl) does_so)
+      (stops s h.c number k true _ at (action.Bad 0) to w found.0 found.1 way n.1 (2, omega arith, refl) does_so
+      (status_by_act s number (choice s k) w (action.Bad 0) (read f into end fine) (Some found.1) y.its refl))
 
   -- ---- both
 

@@ -13,7 +13,7 @@ use Rattle.cob_flow.specs.Places.{first_of_list, first_of_paras, tests_at, augme
 use Rattle.cob_flow.specs.Nodes.{Noded, Copied, list_nodes, paras_nodes, act_nodes}
 use Rattle.cob_flow.specs.Copies.{AreLaid, AreLaidParas, IsLaidAct}
 use Rattle.cob_flow.specs.Graphs.{all_nodes, final_of}
-use Rattle.cob_flow.specs.Walks.{AreWhole, IsWholeAct, IsWhole, node_at, Comes, ComesWithin, ComesToFault}
+use Rattle.cob_flow.specs.Walks.{AreWhole, IsWholeAct, IsWhole, node_at, Comes, ComesWithin, ComesToFault, ComesByStatus}
 use Rattle.cob_flow.proofs.Fronts.{Runs}
 
 -- a program with its copies, and a run of it
@@ -47,6 +47,9 @@ module _ (s : Setting) where
 
   abbrev pub Meets : ℕ → Kind → ℕ → World → Type 0
   Meets k kind number w = ComesToFault s.p s.copies s.contents s.first s.choices k kind number w
+
+  abbrev pub Stops : ℕ → ℕ → ℕ → World → Type 0
+  Stops k status number w = ComesByStatus s.p s.copies s.contents s.first s.choices k status number w
 
   abbrev pub Stand : ℕ → List Noded → Type 0
   Stand at ns = Runs (node_at (all_nodes s.p s.copies)) at ns
@@ -131,5 +134,5 @@ module _ (s : Setting) where
   abbrev pub Comes_by : Outcome → ℕ → World → List Doing → Type 0
   Comes_by Going k w ds = Goes k w ds
   Comes_by Ended k w ds = Within k w
-  Comes_by (IoStop status statement) k w ds = Within k w
+  Comes_by (IoStop status statement) k w ds = Stops k status statement w
   Comes_by (Fault kind statement) k w ds = Meets k kind statement w

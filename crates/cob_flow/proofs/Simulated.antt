@@ -69,7 +69,25 @@ module _ (s : Setting) where
       led (going w (d ∷ ds)) k (number_of s.p (choice s k) d) (front_done s.p (choice s k) d w ds)
       (front_leads s d ds h.0.standing.copies k h.0.node w h.0.standing.stands h.1 h.0.way)
   step_holds Ended k w ds h = (later k w h.0, tt)
-  step_holds (IoStop status statement) k w ds h = (later k w h.0, tt)
+  step_holds (IoStop status statement) k w ds h =
+      let x = h.0 in
+      let l = x.within in (
+        record {
+          left = x.left;
+          node = x.node;
+          before = x.before;
+          at = x.at;
+          edge = x.edge;
+          way = x.way;
+          stands = x.stands;
+          within = omega (arith, l);
+          its = x.its;
+          out = x.out;
+          leads = x.leads;
+          meets = x.meets;
+        },
+        tt,
+      )
   step_holds (Fault kind statement) k w ds h =
       let x = h.0 in
       let l = x.within in (

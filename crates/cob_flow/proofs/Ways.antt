@@ -1,5 +1,5 @@
 -- How a way goes on from a node, in a step that begins there or has begun before.
-use Rattle.std.proofs.Common.{◌≡◌, ℕ, suc, ◌-◌, Bool, true, false, List, Option, Some, Ok, Err, refl, ap, subst, ◌∙◌, arith}
+use Rattle.std.proofs.Common.{◌≡◌, ℕ, suc, ◌-◌, Bool, true, false, List, Option, Some, None, Ok, Err, refl, ap, subst, ◌∙◌, arith}
 use Rattle.std.specs.Prelude.{Contains}
 use Rattle.std.specs.Option.{option_map_or}
 use Rattle.cob_tree.specs.declared.fault.Kind.{Kind}
@@ -7,12 +7,12 @@ use Rattle.cob_program.specs.Act.{Act}
 use Rattle.cob_meaning.specs.declared.action.Action.{Action}
 use Rattle.cob_meaning.specs.Files.{Choice}
 use Rattle.cob_meaning.specs.State.{World}
-use Rattle.cob_meaning.specs.Effects.{Effect, effect, effect_of, not_taken, act_at}
+use Rattle.cob_meaning.specs.Effects.{Effect, effect, effect_of, not_taken, act_at, status, status_of}
 use Rattle.cob_flow.specs.Laid.{one_if}
 use Rattle.cob_flow.specs.Nodes.{Noded, Copied, node}
-use Rattle.cob_flow.specs.Graphs.{all_nodes}
+use Rattle.cob_flow.specs.Graphs.{all_nodes, final_of}
 use Rattle.cob_flow.specs.Walks.{node_at, passed, onward}
-use Rattle.cob_flow.proofs.Relation.{Setting, choice, Way, Meets}
+use Rattle.cob_flow.proofs.Relation.{Setting, choice, Way, Meets, Stops}
 
 -- the steps begun before a node, in the step behind k steps, which begins with it or not
 abbrev pub so_far : ℕ → Bool → ℕ
@@ -59,9 +59,38 @@ module _ (s : Setting) where
         meets = ap (λ (d : Choice). effect s.p number d w a) (same_choice k b x refl) ∙ e;
       }
 
+  -- the edge of a status, where it goes to the final node
+  pub stops : (c : Copied) (number k : ℕ) (b : Bool) (out : List (Action × ℕ)) (n : ℕ) (a : Action) (m : ℕ)
+      (w v : World) (met : ℕ) → Way s (so_far k b) n w →
+      IsNode c number b out n → Contains out (a, m) → effect s.p number (choice s k) w a ≡ Ok (Some v) →
+      status s.p number (choice s k) w a ≡ Some met → m ≡ final_of s.copies → Stops s (suc k) met number v
+  stops c number k b out n a m w v met way is there e f final =
+      let x = node c number b out in
+      let same = same_choice k b x refl in
+      record {
+        left = so_far k b;
+        node = n;
+        before = w;
+        at = x;
+        edge = a;
+        way = way;
+        stands = is;
+        within = omega (arith, passes k b x refl);
+        its = refl;
+        out = subst (λ (i : ℕ). Contains out (a, i)) final there;
+        leads = ap (λ (d : Choice). effect s.p number d w a) same ∙ e;
+        meets = ap (λ (d : Choice). status s.p number d w a) same ∙ f;
+      }
+
   -- an edge does its part of the statement with the number
   pub by_act : (number : ℕ) (c : Choice) (w : World) (a : Action) (act : Act) (r : Effect) →
       act_at s.p number ≡ Some act → effect_of s.p number c w a act ≡ r →
       effect s.p number c w a ≡ r
   by_act number c w a act r its e = ap (λ (o : Option Act). option_map_or (effect_of s.p number c w a) o not_taken) its
+      ∙ e
+
+  -- and it has the status of its part
+  pub status_by_act : (number : ℕ) (c : Choice) (w : World) (a : Action) (act : Act) (r : Option ℕ) →
+      act_at s.p number ≡ Some act → status_of s.p number c w a act ≡ r → status s.p number c w a ≡ r
+  status_by_act number c w a act r its e = ap (λ (o : Option Act). option_map_or (status_of s.p number c w a) o None) its
       ∙ e
