@@ -18,7 +18,7 @@ use Rattle.cob_meaning.specs.Steps.{outcome_of, unless_over, each_from, written_
 use Rattle.cob_meaning.specs.Effects.{effect_of, met, taken, taken_if, act_at, by_status, status_of, status_in}
 use Rattle.cob_meaning.specs.Effects as effect
 use Rattle.cob_flow.specs.Nodes.{bad_to, open_nodes, close_nodes, write_nodes, write_edges}
-use Rattle.cob_flow.specs.Graphs.{final_of}
+use Rattle.cob_flow.specs.Walks.{final_in}
 use Rattle.cob_flow.proofs.Fronts.{Runs}
 use Rattle.cob_flow.proofs.Relation.{Setting, choice, Way, Within, Stops, Stand, Here, Stands, among, Comes_by}
 use Rattle.cob_flow.proofs.Ways.{so_far, IsNode, leaves, meets, stops, by_act, status_by_act}
@@ -34,7 +34,7 @@ module _ (s : Setting) (h : Here s) (number k : ℕ) where
 
   pub bad_lands : (has : Bool) (file m status : ℕ) (v : World) → has_status h.c.layout file ≡ has →
       Way s (suc k) (bad_to h.c number file m) v →
-      (bad_to h.c number file m ≡ final_of s.copies → Stops s (suc k) status number v) →
+      (bad_to h.c number file m ≡ final_in s.g → Stops s (suc k) status number v) →
       Called m v (if has then Going else IoStop status number)
   bad_lands true file m status v e way stop = subst (λ (b : Bool). Way s (suc k) (if b then m else h.c.final) v) e way
   bad_lands false file m status v e way stop = stop (ap (λ (b : Bool). if b then m else h.c.final) e ∙ h.final)

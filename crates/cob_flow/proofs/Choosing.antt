@@ -51,7 +51,7 @@ module _ (s : Setting) (h : Here s) (hs : List (Here s)) (ds : List Doing) (numb
     whens_lead no_whens no_laid_whens i at whole laid ts ns way = record
         { node = other_at; way = way; standing = others }
     whens_lead (more_whens (MkWhen us ss) ws) (more_laid_whens vs ys xs) i at whole laid ts ns way =
-        let all = node_at (all_nodes s.p s.copies) in
+        let all = node_at (all_nodes s.p s.is.copies) in
         let size = tests_among (logics_of vs) in
         let tr = first_of_list ys (at + size) next in
         let fa = first_of_whens xs (at + size + list_size ys) other_at next in
@@ -81,7 +81,7 @@ module _ (s : Setting) (h : Here s) (hs : List (Here s)) (ds : List Doing) (numb
       ActAt s h number (evaluate ws other) (choosing xs b) at next → Way s k at w →
       Leads s k number w (chosen s.p (choice s k) w ws other >>= λ ss. Ok (going w (rest ss ∷ ds)))
   evaluate_leads ws other xs b at x way =
-      let all = node_at (all_nodes s.p s.copies) in
+      let all = node_at (all_nodes s.p s.is.copies) in
       let other_at = first_of_list b (at + 1 + whens_size xs) next in
       let ns = whens_nodes h.c number xs 0 (at + 1) other_at next in
       let ms = list_nodes h.c b (at + 1 + whens_size xs) next in

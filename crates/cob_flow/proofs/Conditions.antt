@@ -142,10 +142,10 @@ module _ (s : Setting) (c : Copied) (number k : ℕ) (w : World) where
           let others = node.all_nodes c number false xs (i + tests_in x) (at + tests_in x) tr fa in
           all_on (logic_holds s.p.layout w.storage x) m tr fa (all_hold s.p.layout w.storage xs)
           (logic_decides b x i at m fa h (front (slice_get tests) i (tests_of x) (effect.tests_among xs) ts)
-          (front (node_at (all_nodes s.p s.copies)) at firsts others ns) way)
+          (front (node_at (all_nodes s.p s.is.copies)) at firsts others ns) way)
           (λ onwards. all_decide false xs (i + tests_in x) (at + tests_in x) tr fa (λ e. absurd (false≢true e))
           (back (slice_get tests) i (tests_in x) (tests_of x) (effect.tests_among xs) (length-tests x) ts)
-          (back (node_at (all_nodes s.p s.copies)) at (tests_in x) firsts others (length-logic c number b x i at m fa)
+          (back (node_at (all_nodes s.p s.is.copies)) at (tests_in x) firsts others (length-logic c number b x i at m fa)
           ns) onwards)
 
       pub any_decide : (b : Bool) (ls : Logics) (i at tr fa : ℕ) → (b ≡ true → FirstBegins ls) →
@@ -160,8 +160,8 @@ module _ (s : Setting) (c : Copied) (number k : ℕ) (w : World) where
           let others = any_nodes c number false xs (i + tests_in x) (at + tests_in x) tr fa in
           any_on (logic_holds s.p.layout w.storage x) m tr fa (some_holds s.p.layout w.storage xs)
           (logic_decides b x i at tr m h (front (slice_get tests) i (tests_of x) (effect.tests_among xs) ts)
-          (front (node_at (all_nodes s.p s.copies)) at firsts others ns) way)
+          (front (node_at (all_nodes s.p s.is.copies)) at firsts others ns) way)
           (λ onwards. any_decide false xs (i + tests_in x) (at + tests_in x) tr fa (λ e. absurd (false≢true e))
           (back (slice_get tests) i (tests_in x) (tests_of x) (effect.tests_among xs) (length-tests x) ts)
-          (back (node_at (all_nodes s.p s.copies)) at (tests_in x) firsts others (length-logic c number b x i at tr m)
+          (back (node_at (all_nodes s.p s.is.copies)) at (tests_in x) firsts others (length-logic c number b x i at tr m)
           ns) onwards)

@@ -96,7 +96,7 @@ module _ (s : Setting) where
       Leads s k number w (done s.p (choice s k) number a w (rest ss ∷ ds))
   rest_leads h hs ds k n number line w a ss no_laid at next whole are ns e st way = absurd are
   rest_leads h hs ds k n number line w a ss (more_laid (MkLaid m x) xs) at next whole are ns e st way =
-      let all = node_at (all_nodes s.p s.copies) in
+      let all = node_at (all_nodes s.p s.is.copies) in
       let behind_it = first_of_list xs (at + act_size x) next in
       let own = act_nodes h.c m x at behind_it in
       let more = list_nodes h.c xs (at + act_size x) next in

@@ -25,9 +25,10 @@ use Rattle.cob_meaning.specs.declared.action.Action.{Action}
 use Rattle.cob_meaning.specs.declared.action.Action.TheVariants as action
 use Rattle.cob_flow.specs.declared.graph.Node.{Node}
 use Rattle.cob_flow.specs.declared.graph.Edge.{Edge}
+use Rattle.cob_flow.specs.declared.graph.Graph.{Graph}
 use Rattle.cob_flow.specs.Laid.{MkLaid, no_laid, more_laid, a_phrase, showing, skipping, ending, deciding, performing, reading, own_list, copy, LaidParas, no_laid_paras, more_laid_paras}
-use Rattle.cob_flow.specs.Graphs.{as_node, all_nodes, edges_of, IsMainCopy}
-use Rattle.cob_flow.specs.Walks.{IsWhole, IsSimulated}
+use Rattle.cob_flow.specs.Graphs.{as_node, all_nodes, edges_of, cells_of, IsMainCopy, IsGraph}
+use Rattle.cob_flow.specs.Walks.{IsWhole, edge, IsSimulated}
 use Rattle.cob_flow.proofs.Simulated.{simulates}
 
 abbrev item_of : ℕ → ℕ → Form → Option Sender → Item
@@ -214,9 +215,6 @@ a_record = refl
 
 -- ---- graphs
 
-abbrev edge : ℕ → Action → ℕ → Edge
-edge from action to = record { from = from; to = to; action = action }
-
 abbrev a_node : ℕ → List ℕ → Bool → Node
 a_node statement sites starts = record { statement = statement; sites = sites; starts = starts }
 
@@ -266,5 +264,15 @@ twice_is_whole = (tt, ((refl, (tt, tt), (refl, tt, tt)), ((refl, tt, tt), tt)))
 twice_is_laid : IsMainCopy twice laid_twice
 twice_is_laid = (tt, (((refl, (refl, (refl, (((refl, refl), tt), tt)))), ((refl, refl), tt)), (((refl, refl), tt), tt)))
 
-twice_is_simulated : IsSimulated twice laid_twice
-twice_is_simulated = simulates twice laid_twice twice_is_whole twice_is_laid
+abbrev graph_of_twice : Graph
+graph_of_twice = record {
+  nodes = map as_node (all_nodes twice laid_twice);
+  edges = edges_of 1 (all_nodes twice laid_twice);
+  cells = cells_of twice;
+}
+
+it_is_its_graph : IsGraph twice graph_of_twice
+it_is_its_graph = record { copies = laid_twice; laid = twice_is_laid; nodes = refl; edges = refl; cells = refl }
+
+twice_is_simulated : IsSimulated twice graph_of_twice
+twice_is_simulated = simulates twice graph_of_twice twice_is_whole it_is_its_graph

@@ -1,5 +1,5 @@
 -- What is found from one number on, one behind the other: fronts and backs.
-use Rattle.std.proofs.Common.{◌≡◌, ℕ, ◌+◌, List, [], ◌∷◌, ◌++◌, length, Option, Some, refl, ap, subst, ◌∙◌, arith, append_assoc, length-append}
+use Rattle.std.proofs.Common.{◌≡◌, ℕ, suc, ◌+◌, List, [], ◌∷◌, ◌++◌, length, Option, Some, refl, ap, subst, ◌∙◌, arith, append_assoc, length-append}
 use Rattle.std.specs.Prelude.{slice_get}
 use Rattle.cob_flow.specs.Nodes.{Noded}
 use Rattle.cob_flow.specs.Walks.{node_at}
@@ -43,7 +43,8 @@ behind xs (y ∷ ys) at e = (
 pub of_nodes : (all ns : List Noded) (at : ℕ) → Runs (slice_get all) at ns → Runs (node_at all) (at + 1) ns
 of_nodes all [] at h = tt
 of_nodes all (n ∷ ns) at h =
-    (ap (slice_get all) (omega arith) ∙ h.0, of_nodes all ns (at + 1) h.1)
+    let same : at + 1 ≡ suc at = omega arith in
+    (ap (node_at all) same ∙ h.0, of_nodes all ns (at + 1) h.1)
 
 pub whole : (ns : List Noded) → Runs (node_at ns) 1 ns
 whole ns = moved (node_at ns) (0 + 1) 1 ns (omega arith) (of_nodes ns ns 0 (behind [] ns 0 refl))

@@ -1,6 +1,7 @@
 mod Examples
 mod Fronts
 mod Lengths
+pub mod InGraphs
 mod Relation
 mod Settling
 mod Ways

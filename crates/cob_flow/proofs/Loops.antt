@@ -41,16 +41,16 @@ length-before c n (varying true i from by t) x at next = omega arith
 module _ (s : Setting) (h : Here s) (number : ℕ) (body : Body) (turns : Turns) (x : LaidBody) (at next : ℕ)
     (y : ActAt s h number (perform body turns) (performing x turns) at next) where
   before : Stand s at (loop_before h.c number turns x at next)
-  before = front (node_at (all_nodes s.p s.copies)) at (loop_before h.c number turns x at next)
+  before = front (node_at (all_nodes s.p s.is.copies)) at (loop_before h.c number turns x at next)
       (body_nodes h.c number x (body_at turns at) (body_next turns at x next))
-      (front (node_at (all_nodes s.p s.copies)) at
+      (front (node_at (all_nodes s.p s.is.copies)) at
       (loop_before h.c number turns x at next ++ body_nodes h.c number x (body_at turns at)
       (body_next turns at x next))
       (loop_behind h.c number turns x at next) y.stand)
 
   within : Stand s (body_at turns at) (body_nodes h.c number x (body_at turns at) (body_next turns at x next))
   within =
-      let all = node_at (all_nodes s.p s.copies) in
+      let all = node_at (all_nodes s.p s.is.copies) in
       let ns = loop_before h.c number turns x at next in
       let ms = body_nodes h.c number x (body_at turns at) (body_next turns at x next) in
       moved all (at + length ns) (body_at turns at) ms (length-before h.c number turns x at next)
@@ -58,7 +58,7 @@ module _ (s : Setting) (h : Here s) (number : ℕ) (body : Body) (turns : Turns)
 
   after : Stand s (body_at turns at + body_size x) (loop_behind h.c number turns x at next)
   after =
-      let all = node_at (all_nodes s.p s.copies) in
+      let all = node_at (all_nodes s.p s.is.copies) in
       let ns = loop_before h.c number turns x at next in
       let ms = body_nodes h.c number x (body_at turns at) (body_next turns at x next) in
       let ls = loop_behind h.c number turns x at next in
@@ -210,7 +210,7 @@ module _ (s : Setting) (h : Here s) (hs : List (Here s)) (ds : List Doing) (numb
       condition_leads body turns u (tests_at turns at x) (augment_at turns at x) next
       (turn s.p (choice s k) number body turns ds)
       y.its refl y.whole.0 (λ wanted i. refl)
-      (front (node_at (all_nodes s.p s.copies)) (tests_at turns at x)
+      (front (node_at (all_nodes s.p s.is.copies)) (tests_at turns at x)
       (logic_nodes h.c number true u 0 (tests_at turns at x) next (augment_at turns at x)) _
       (after s h number body turns x at next y))
       way (among s h hs _ _ st)
@@ -235,7 +235,7 @@ module _ (s : Setting) (h : Here s) (hs : List (Here s)) (ds : List Doing) (numb
       let turns = varying true i from by u in
       one_way s h.c number k (augment_at turns at x) w (perform body turns) _ action.Done
       (first_of_body x (at + 1) (tests_at turns at x)) (body_of body ∷ ds) way y.its
-      (back (node_at (all_nodes s.p s.copies)) (tests_at turns at x) (tests_in u)
+      (back (node_at (all_nodes s.p s.is.copies)) (tests_at turns at x) (tests_in u)
       (logic_nodes h.c number true u 0 (tests_at turns at x) next (augment_at turns at x)) _
       (length-logic h.c number true u 0 (tests_at turns at x) next (augment_at turns at x))
       (after s h number body turns x at next y)).0

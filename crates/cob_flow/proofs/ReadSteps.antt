@@ -12,8 +12,8 @@ use Rattle.cob_flow.specs.Laid.{LaidList, LaidPhrase, no_phrase, a_phrase, readi
 use Rattle.cob_flow.specs.Places.{first_of_list}
 use Rattle.cob_flow.specs.Nodes.{bad_to, end_to, read_nodes, phrase_nodes, list_nodes}
 use Rattle.cob_flow.specs.Copies.{IsLaidPhrase}
-use Rattle.cob_flow.specs.Graphs.{all_nodes, final_of}
-use Rattle.cob_flow.specs.Walks.{IsWholePhrase, node_at}
+use Rattle.cob_flow.specs.Graphs.{all_nodes}
+use Rattle.cob_flow.specs.Walks.{IsWholePhrase, node_at, final_in}
 use Rattle.cob_flow.proofs.Fronts.{front, back, moved}
 use Rattle.cob_flow.proofs.Lengths.{length-read, length-phrase}
 use Rattle.cob_flow.proofs.Relation.{Setting, choice, Way, Stops, Stand, Here, ActAt, Stands, Comes_by}
@@ -35,16 +35,16 @@ module _ (s : Setting) (h : Here s) (hs : List (Here s)) (ds : List Doing) (numb
   found = take_one s.p.layout (choice s k) f w
 
   own : Stand s at (read_nodes h.c number f (is_some into) at end_at fine_at next)
-  own = front (node_at (all_nodes s.p s.copies)) at (read_nodes h.c number f (is_some into) at end_at fine_at next)
+  own = front (node_at (all_nodes s.p s.is.copies)) at (read_nodes h.c number f (is_some into) at end_at fine_at next)
       (phrase_nodes h.c a (at + 1 + one_if (is_some into)) next)
-      (front (node_at (all_nodes s.p s.copies)) at
+      (front (node_at (all_nodes s.p s.is.copies)) at
       (read_nodes h.c number f (is_some into) at end_at fine_at next ++ phrase_nodes h.c a
       (at + 1 + one_if (is_some into)) next)
       (list_nodes h.c b (at + 1 + one_if (is_some into) + phrase_size a) next) y.stand)
 
   end_list : Stand s (at + 1 + one_if (is_some into)) (phrase_nodes h.c a (at + 1 + one_if (is_some into)) next)
   end_list =
-      let all = node_at (all_nodes s.p s.copies) in
+      let all = node_at (all_nodes s.p s.is.copies) in
       let rs = read_nodes h.c number f (is_some into) at end_at fine_at next in
       let ns = phrase_nodes h.c a (at + 1 + one_if (is_some into)) next in
       moved all (at + (1 + one_if (is_some into))) (at + 1 + one_if (is_some into)) ns (omega arith)
@@ -54,7 +54,7 @@ module _ (s : Setting) (h : Here s) (hs : List (Here s)) (ds : List Doing) (numb
   fine_list : Stand s (at + 1 + one_if (is_some into) + phrase_size a)
       (list_nodes h.c b (at + 1 + one_if (is_some into) + phrase_size a) next)
   fine_list =
-      let all = node_at (all_nodes s.p s.copies) in
+      let all = node_at (all_nodes s.p s.is.copies) in
       let rs = read_nodes h.c number f (is_some into) at end_at fine_at next in
       let ns = phrase_nodes h.c a (at + 1 + one_if (is_some into)) next in
       let ms = list_nodes h.c b (at + 1 + one_if (is_some into) + phrase_size a) next in
@@ -90,7 +90,7 @@ module _ (s : Setting) (h : Here s) (hs : List (Here s)) (ds : List Doing) (numb
   -- ---- none was found
 
   unhandled : (status : ℕ) → is_fine status ≡ false → Way s (suc k) (bad_to h.c number f next) found.0 →
-      (bad_to h.c number f next ≡ final_of s.copies → Stops s (suc k) status number found.0) →
+      (bad_to h.c number f next ≡ final_in s.g → Stops s (suc k) status number found.0) →
       Comes_by s (outcome_of number (has_status s.p.layout f) status) (suc k) found.0 ds
   unhandled status e onwards stop =
       subst (λ c. Comes_by s (if c then Going else (if has_status s.p.layout f then Going else IoStop status number))
@@ -103,7 +103,7 @@ module _ (s : Setting) (h : Here s) (hs : List (Here s)) (ds : List Doing) (numb
       IsLaidPhrase s.p h.lo h.hi end2 a2 →
       Stand s (at + 1 + one_if (is_some into)) (phrase_nodes h.c a2 (at + 1 + one_if (is_some into)) next) →
       Way s (suc k) (end_to h.c number a2 f (at + 1 + one_if (is_some into)) next) found.0 →
-      (end_to h.c number a2 f (at + 1 + one_if (is_some into)) next ≡ final_of s.copies →
+      (end_to h.c number a2 f (at + 1 + one_if (is_some into)) next ≡ final_in s.g →
       Stops s (suc k) status number found.0) →
       Leads s k number w (Ok (if true && is_given end2 then going found.0 (rest (list_of end2) ∷ ds) else state found.0
       ds (outcome_of number (has_status s.p.layout f) status)))

@@ -8,18 +8,20 @@ use Rattle.cob_meaning.specs.Files.{Choice}
 use Rattle.cob_meaning.specs.State.{World, Doing, rest, paras, testing, augmenting}
 use Rattle.cob_meaning.specs.Effects.{act_at}
 use Rattle.cob_meaning.specs.Runs.{Contents, choice_at}
+use Rattle.cob_flow.specs.declared.graph.Graph.{Graph}
 use Rattle.cob_flow.specs.Laid.{LaidList, LaidAct, performing, LaidBody, LaidParas}
 use Rattle.cob_flow.specs.Places.{first_of_list, first_of_paras, tests_at, augment_at}
 use Rattle.cob_flow.specs.Nodes.{Noded, Copied, list_nodes, paras_nodes, act_nodes}
 use Rattle.cob_flow.specs.Copies.{AreLaid, AreLaidParas, IsLaidAct}
-use Rattle.cob_flow.specs.Graphs.{all_nodes, final_of}
-use Rattle.cob_flow.specs.Walks.{AreWhole, IsWholeAct, IsWhole, node_at, Comes, ComesWithin, ComesToFault, ComesByStatus}
+use Rattle.cob_flow.specs.Graphs.{all_nodes, IsGraph}
+use Rattle.cob_flow.specs.Walks.{AreWhole, IsWholeAct, IsWhole, node_at, final_in, Comes, ComesWithin, ComesToFault, ComesByStatus}
 use Rattle.cob_flow.proofs.Fronts.{Runs}
 
--- a program with its copies, and a run of it
+-- a program with its graph, and a run of it
 pub record Setting : Type 0 where
   pub p : Program
-  pub copies : LaidParas
+  pub g : Graph
+  pub is : IsGraph p g
   pub contents : Contents
   pub first : List ℕ
   pub choices : List Choice
@@ -40,19 +42,19 @@ module _ (s : Setting) where
   choice k = choice_at s.p s.contents s.first s.choices k
 
   abbrev pub Way : ℕ → ℕ → World → Type 0
-  Way k n w = Comes s.p s.copies s.contents s.first s.choices k n w
+  Way k n w = Comes s.p s.g s.contents s.first s.choices k n w
 
   abbrev pub Within : ℕ → World → Type 0
-  Within k w = ComesWithin s.p s.copies s.contents s.first s.choices k (final_of s.copies) w
+  Within k w = ComesWithin s.p s.g s.contents s.first s.choices k (final_in s.g) w
 
   abbrev pub Meets : ℕ → Kind → ℕ → World → Type 0
-  Meets k kind number w = ComesToFault s.p s.copies s.contents s.first s.choices k kind number w
+  Meets k kind number w = ComesToFault s.p s.g s.contents s.first s.choices k kind number w
 
   abbrev pub Stops : ℕ → ℕ → ℕ → World → Type 0
-  Stops k status number w = ComesByStatus s.p s.copies s.contents s.first s.choices k status number w
+  Stops k status number w = ComesByStatus s.p s.g s.contents s.first s.choices k status number w
 
   abbrev pub Stand : ℕ → List Noded → Type 0
-  Stand at ns = Runs (node_at (all_nodes s.p s.copies)) at ns
+  Stand at ns = Runs (node_at (all_nodes s.p s.is.copies)) at ns
 
   -- paragraphs from one to hi, the last of a copy of those from lo on, whose first node is n
   pub record ParasAt (c : Copied) (lo hi from n next : ℕ) : Type 0 where
@@ -71,7 +73,7 @@ module _ (s : Setting) where
     pub hi : ℕ
     pub next : ℕ
     pub layout : c.layout ≡ s.p.layout
-    pub final : c.final ≡ final_of s.copies
+    pub final : c.final ≡ final_in s.g
     pub parts : (t : ℕ) → lo ≤ t → t ≤ hi → ParasAt c lo hi t (c.para t) next
 
   pub record RestAt (h : Here) (ss : Stmts) (n next : ℕ) : Type 0 where
@@ -108,7 +110,7 @@ module _ (s : Setting) where
 
   -- with the copies that it lies in, the innermost first, of which each of its paragraphs uses one
   abbrev pub Stands : List Doing → List Here → ℕ → Type 0
-  Stands [] [] n = n ≡ final_of s.copies
+  Stands [] [] n = n ≡ final_in s.g
   Stands [] (h ∷ hs) n = ⊥
   Stands (d ∷ ds) [] n = ⊥
   Stands (rest ss ∷ ds) (h ∷ hs) n = (next : ℕ) × RestAt h ss n next × Stands ds (h ∷ hs) next

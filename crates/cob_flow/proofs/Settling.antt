@@ -71,7 +71,7 @@ module _ (s : Setting) where
   entered_stands zero first q ds behind h hs n (more_laid_paras xs ps) at e are stand b e2 st o = absurd are
   entered_stands (suc count) first q ds behind h hs n no_laid_paras at e are stand b e2 st o = absurd are
   entered_stands (suc count) first q ds behind h hs n (more_laid_paras xs ps) at e are stand b e2 st o =
-      let all = node_at (all_nodes s.p s.copies) in
+      let all = node_at (all_nodes s.p s.is.copies) in
       let ns = list_nodes h.c xs at (first_of_paras ps (at + list_size xs) h.next) in
       let ms = paras_nodes h.c ps (at + list_size xs) h.next in
       let later = back all at (list_size xs) ns ms
@@ -139,7 +139,7 @@ module _ (s : Setting) where
   part c lo hi next (suc j) first (suc count) (more_laid_paras xs ps) at t l e f are stand =
       part c lo hi next j (suc first) count ps (at + list_size xs) t (omega (arith, l)) (omega (arith, e))
       (omega (arith, f)) are.1
-      (back (node_at (all_nodes s.p s.copies)) at (list_size xs)
+      (back (node_at (all_nodes s.p s.is.copies)) at (list_size xs)
       (list_nodes c xs at (first_of_paras ps (at + list_size xs) next)) (paras_nodes c ps (at + list_size xs) next)
       (length-list c xs at (first_of_paras ps (at + list_size xs) next)) stand)
 

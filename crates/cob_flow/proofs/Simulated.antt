@@ -13,9 +13,10 @@ use Rattle.cob_flow.specs.Laid.{no_laid, more_laid, LaidParas, no_laid_paras, mo
 use Rattle.cob_flow.specs.Places.{first_of_paras}
 use Rattle.cob_flow.specs.Nodes.{list_nodes, paras_nodes}
 use Rattle.cob_flow.specs.Copies.{AreLaid, AreLaidParas}
-use Rattle.cob_flow.specs.Graphs.{all_nodes, final_of, final_node, last_para, main_copy, IsMainCopy}
+use Rattle.cob_flow.specs.Graphs.{all_nodes, final_of, final_node, last_para, main_copy}
 use Rattle.cob_flow.specs.Walks.{node_at, at_first, Shows, Simulation}
 use Rattle.cob_flow.proofs.Fronts.{front, back, whole}
+use Rattle.cob_flow.proofs.InGraphs.{final_is}
 use Rattle.cob_flow.proofs.Lengths.{length-list}
 use Rattle.cob_flow.proofs.Relation.{Setting, choice, Way, Within, Stand, Here, Stands, Standing, Comes_by}
 use Rattle.cob_flow.proofs.Settling.{IsReady, settled_ready, settling, part, whole_in}
@@ -77,7 +78,7 @@ module _ (s : Setting) where
           node = x.node;
           before = x.before;
           at = x.at;
-          edge = x.edge;
+          action = x.action;
           way = x.way;
           stands = x.stands;
           within = omega (arith, l);
@@ -95,7 +96,7 @@ module _ (s : Setting) where
           left = x.left;
           node = x.node;
           at = x.at;
-          edge = x.edge;
+          action = x.action;
           to = x.to;
           way = x.way;
           stands = x.stands;
@@ -109,19 +110,19 @@ module _ (s : Setting) where
 
   -- ---- the beginning
 
-  main_stands : Stand s 1 (paras_nodes (main_copy s.p s.copies) s.copies 1 (final_of s.copies))
-  main_stands = front (node_at (all_nodes s.p s.copies)) 1
-      (paras_nodes (main_copy s.p s.copies) s.copies 1 (final_of s.copies)) (final_node ∷ [])
-      (whole (all_nodes s.p s.copies))
+  main_stands : Stand s 1 (paras_nodes (main_copy s.p s.is.copies) s.is.copies 1 (final_of s.is.copies))
+  main_stands = front (node_at (all_nodes s.p s.is.copies)) 1
+      (paras_nodes (main_copy s.p s.is.copies) s.is.copies 1 (final_of s.is.copies)) (final_node ∷ [])
+      (whole (all_nodes s.p s.is.copies))
 
-  begins : (is : IsMainCopy s.p s.copies) (count : ℕ) (laid : LaidParas) → count ≡ length s.p.paras →
-      final_of s.copies ≡ 1 + paras_size laid →
+  begins : (count : ℕ) (laid : LaidParas) → count ≡ length s.p.paras →
+      final_of s.is.copies ≡ 1 + paras_size laid →
       AreLaidParas s.p 0 (last_para s.p) 0 count laid →
-      Stand s 1 (paras_nodes (main_copy s.p s.copies) laid 1 (final_of s.copies)) →
+      Stand s 1 (paras_nodes (main_copy s.p s.is.copies) laid 1 (final_of s.is.copies)) →
       Standing s (rest (body_at s.p 0) ∷ paras 1 (last_para s.p) ∷ []) 1
-  begins is zero no_laid_paras e f are ns =
-      let c = main_copy s.p s.copies in
-      let final = final_of s.copies in
+  begins zero no_laid_paras e f are ns =
+      let c = main_copy s.p s.is.copies in
+      let final = final_of s.is.copies in
       let none : body_at s.p 0 ≡ no_stmts = ap (λ (o : Option Para). option_map_or (λ x. x.body) o no_stmts)
       (slice_get_past s.p.paras 0 (omega (arith, e))) in
       let h : Here s = record {
@@ -130,7 +131,7 @@ module _ (s : Setting) where
         hi = last_para s.p;
         next = final;
         layout = refl;
-        final = refl;
+        final = final_is s.p s.g s.is;
         parts =
             λ t l g. absurd (omega (arith, e, l, g));
       } in
@@ -158,14 +159,14 @@ module _ (s : Setting) where
               stand = tt;
               begins = omega (arith, f);
             },
-            refl,
+            final_is s.p s.g s.is,
           ),
         );
       }
-  begins is (suc count) (more_laid_paras xs ps) e f are ns =
-      let c = main_copy s.p s.copies in
-      let final = final_of s.copies in
-      let all = node_at (all_nodes s.p s.copies) in
+  begins (suc count) (more_laid_paras xs ps) e f are ns =
+      let c = main_copy s.p s.is.copies in
+      let final = final_of s.is.copies in
+      let all = node_at (all_nodes s.p s.is.copies) in
       let behind_it = first_of_paras ps (1 + list_size xs) final in
       let own = list_nodes c xs 1 behind_it in
       let more = paras_nodes c ps (1 + list_size xs) final in
@@ -175,9 +176,9 @@ module _ (s : Setting) where
         hi = last_para s.p;
         next = final;
         layout = refl;
-        final = refl;
-        parts = λ t l g. part s c 0 (last_para s.p) final t 0 (length s.p.paras) s.copies 1 t (omega (arith, e, g))
-            (omega arith) (omega (arith, e)) is main_stands;
+        final = final_is s.p s.g s.is;
+        parts = λ t l g. part s c 0 (last_para s.p) final t 0 (length s.p.paras) s.is.copies 1 t (omega (arith, e, g))
+            (omega arith) (omega (arith, e)) s.is.laid main_stands;
       } in
       record {
         copies = h ∷ [];
@@ -203,36 +204,37 @@ module _ (s : Setting) where
               stand = back all 1 (list_size xs) own more (length-list c xs 1 behind_it) ns;
               begins = refl;
             },
-            refl,
+            final_is s.p s.g s.is,
           ),
         );
       }
-  begins is zero (more_laid_paras xs ps) e f are ns = absurd are
-  begins is (suc count) no_laid_paras e f are ns = absurd are
+  begins zero (more_laid_paras xs ps) e f are ns = absurd are
+  begins (suc count) no_laid_paras e f are ns = absurd are
 
-  begin_holds : IsMainCopy s.p s.copies → Holds 0 (begin s.p s.contents s.first)
-  begin_holds is =
+  begin_holds : Holds 0 (begin s.p s.contents s.first)
+  begin_holds =
       settle_holds Going 0 (first_world s.p s.contents s.first) (rest (body_at s.p 0) ∷ paras 1 (last_para s.p) ∷ [])
-      (record { node = 1; way = at_first; standing = begins is (length s.p.paras) s.copies refl refl is main_stands })
+      (record { node = 1; way = at_first; standing = begins (length s.p.paras) s.is.copies refl refl s.is.laid main_stands })
 
-  run_holds : IsMainCopy s.p s.copies → (n : ℕ) → Holds n (run s.p s.contents s.first s.choices n)
-  run_holds is zero = begin_holds is
-  run_holds is (suc n) =
+  run_holds : (n : ℕ) → Holds n (run s.p s.contents s.first s.choices n)
+  run_holds zero = begin_holds
+  run_holds (suc n) =
       let t = run s.p s.contents s.first s.choices n in
-      step_holds t.outcome n t.world t.control (run_holds is n)
+      step_holds t.outcome n t.world t.control (run_holds n)
 
   shown : (o : Outcome) (k : ℕ) (w : World) (ds : List Doing) → Comes_by s o k w ds →
-      Shows s.p s.copies s.contents s.first s.choices k (state w ds o)
+      Shows s.p s.g s.contents s.first s.choices k (state w ds o)
   shown Going k w ds g = record { node = g.node; way = g.way }
   shown Ended k w ds g = g
   shown (IoStop status statement) k w ds g = g
   shown (Fault kind statement) k w ds g = g
 
 pub simulates : Simulation
-simulates p copies whole is contents first choices n =
+simulates p g whole is contents first choices n =
     let s : Setting = record {
       p = p;
-      copies = copies;
+      g = g;
+      is = is;
       contents = contents;
       first = first;
       choices = choices;
@@ -240,4 +242,4 @@ simulates p copies whole is contents first choices n =
           whole;
     } in
     let t = run p contents first choices n in
-    shown s t.outcome n t.world t.control (run_holds s is n).0
+    shown s t.outcome n t.world t.control (run_holds s n).0

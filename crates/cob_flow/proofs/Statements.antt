@@ -76,7 +76,7 @@ module _ (s : Setting) where
         Leads k number w (logic_holds s.p.layout w.storage t >>= λ b. Ok
         (going w (rest (if b then held else other) ∷ ds)))
     if_leads t held other a b x =
-        let all = node_at (all_nodes s.p s.copies) in
+        let all = node_at (all_nodes s.p s.is.copies) in
         let tr = first_of_list a (at + tests_in t) next in
         let fa = first_of_list b (at + tests_in t + list_size a) next in
         let tests = logic_nodes h.c number true t 0 at tr fa in
@@ -122,7 +122,7 @@ module _ (s : Setting) where
           (failed : Bool) → x.1 ≡ failed → Goes s (suc k) x.0 (rest (if failed then list_of size else fine) ∷ ds)
       failed_leads x e true f =
           size_leads sum ts remainder size fine a b y
-          (front (node_at (all_nodes s.p s.copies)) (at + 1) (phrase_nodes h.c a (at + 1) next)
+          (front (node_at (all_nodes s.p s.is.copies)) (at + 1) (phrase_nodes h.c a (at + 1) next)
           (list_nodes h.c b (at + 1 + phrase_size a) next) y.stand.1)
           y.whole.0 y.laid.0 x e f
       failed_leads x e false f = record {
@@ -133,7 +133,7 @@ module _ (s : Setting) where
             (ap (λ r. r >>= λ (z : World × Bool). taken_if (if false then z.1 else not z.1) z.0) e ∙ ap
             (λ c. taken_if (not c) x.0) f));
         standing = listed h hs ds fine b (at + 1 + phrase_size a) next y.whole.1 y.laid.1
-            (back (node_at (all_nodes s.p s.copies)) (at + 1) (phrase_size a) (phrase_nodes h.c a (at + 1) next)
+            (back (node_at (all_nodes s.p s.is.copies)) (at + 1) (phrase_size a) (phrase_nodes h.c a (at + 1) next)
             (list_nodes h.c b (at + 1 + phrase_size a) next) (length-phrase h.c a (at + 1) next) y.stand.1) st;
       }
 

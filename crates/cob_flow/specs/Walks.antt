@@ -1,5 +1,6 @@
--- Ways through the graph, and that they show what runs do.
-use Rattle.std.specs.Prelude.{◌≡◌, ◌≤◌, ◌<◌, ℕ, zero, suc, ◌+◌, ◌-◌, Bool, true, false, List, [], ◌∷◌, length, slice_get, Contains, Option, Some, None, is_some, Result, Ok, Err}
+-- Ways through a program's graph, and that they show what its runs do.
+use Rattle.std.specs.Prelude.{◌≡◌, ◌≤◌, ◌↔◌, ℕ, zero, suc, ◌+◌, ◌-◌, Bool, true, false, List, [], ◌∷◌, length, slice_get, Contains, Option, Some, None, is_some, Result, Ok, Err}
+use Rattle.std.specs.Option.{option_map}
 use Rattle.cob_tree.specs.declared.fault.Kind.{Kind}
 use Rattle.cob_program.specs.Logic.{Logic, all_of, any_of, not_, test, Logics, no_logics, more_logics}
 use Rattle.cob_program.specs.Act.{Turns, once, times, until, varying, Stmt, MkStmt, Stmts, no_stmts, more_stmts, Phrase, left_out, given, Act, arith, if_, evaluate, perform, open_files, close_files, read, write, Whens, no_whens, more_whens, MkWhen, Body, range, inline, Para, Program}
@@ -11,9 +12,12 @@ use Rattle.cob_meaning.specs.Files.{Choice}
 use Rattle.cob_meaning.specs.State.{World, State}
 use Rattle.cob_meaning.specs.Effects.{effect, status, act_at}
 use Rattle.cob_meaning.specs.Runs.{Contents, first_world, run, choice_at}
-use Rattle.cob_flow.specs.Laid.{LaidParas, one_if}
+use Rattle.cob_flow.specs.declared.graph.Node.{Node}
+use Rattle.cob_flow.specs.declared.graph.Edge.{Edge}
+use Rattle.cob_flow.specs.declared.graph.Graph.{Graph}
+use Rattle.cob_flow.specs.Laid.{one_if}
 use Rattle.cob_flow.specs.Nodes.{Noded}
-use Rattle.cob_flow.specs.Graphs.{all_nodes, final_of, IsMainCopy}
+use Rattle.cob_flow.specs.Graphs.{all_nodes, as_node, IsGraph}
 
 -- ---- programs whose statements have what the grammar gives them
 
@@ -73,20 +77,29 @@ IsWhole p = AreWholeParas p p.paras
 
 -- ---- ways
 
-abbrev pub node_at : List Noded → ℕ → Option Noded
-node_at ns n = slice_get ns (n - 1)
+-- the node with a number, which count from one on
+abbrev pub node_at : {A : Type 0} → List A → ℕ → Option A
+node_at ns zero = None
+node_at ns (suc n) = slice_get ns n
+
+abbrev pub edge : ℕ → Action → ℕ → Edge
+edge from action to = record { from = from; to = to; action = action }
+
+-- the last node
+abbrev pub final_in : Graph → ℕ
+final_in g = length g.nodes
 
 -- how many nodes at which a step begins were left, where so many were left before this one
-abbrev pub passed : ℕ → Noded → ℕ
+abbrev pub passed : ℕ → Node → ℕ
 passed k x = k + one_if x.starts
 
-module _ (p : Program) (copies : LaidParas) (contents : Contents) (first : List ℕ) (choices : List Choice) where
+module _ (p : Program) (g : Graph) (contents : Contents) (first : List ℕ) (choices : List Choice) where
   -- A way from node 1 has left so many nodes at which a step begins, and stands at a node with a world. What is left
   -- undefined is chosen as in the step to which the node belongs.
   pub data Comes : ℕ → ℕ → World → Type 0 where
     at_first : Comes 0 1 (first_world p contents first)
-    onward : {k n : ℕ} {w v : World} (x : Noded) (a : Action) (m : ℕ) → Comes k n w → node_at (all_nodes p copies) n ≡ Some x
-        → Contains x.out (a, m) → effect p x.statement (choice_at p contents first choices (passed k x - 1)) w a ≡ Ok (Some v)
+    onward : {k n : ℕ} {w v : World} (x : Node) (a : Action) (m : ℕ) → Comes k n w → node_at g.nodes n ≡ Some x
+        → Contains g.edges (edge n a m) → effect p x.statement (choice_at p contents first choices (passed k x - 1)) w a ≡ Ok (Some v)
         → Comes (passed k x) m v
 
   -- a way to a node with this world, which has left at most so many
@@ -99,30 +112,30 @@ module _ (p : Program) (copies : LaidParas) (contents : Contents) (first : List 
   pub record ComesToFault (n : ℕ) (kind : Kind) (statement : ℕ) (w : World) : Type 0 where
     pub left : ℕ
     pub node : ℕ
-    pub at : Noded
-    pub edge : Action
+    pub at : Node
+    pub action : Action
     pub to : ℕ
     pub way : Comes left node w
-    pub stands : node_at (all_nodes p copies) node ≡ Some at
+    pub stands : node_at g.nodes node ≡ Some at
     pub within : passed left at ≤ n
     pub its : at.statement ≡ statement
-    pub out : Contains at.out (edge, to)
-    pub meets : effect p statement (choice_at p contents first choices (passed left at - 1)) w edge ≡ Err kind
+    pub out : Contains g.edges (edge node action to)
+    pub meets : effect p statement (choice_at p contents first choices (passed left at - 1)) w action ≡ Err kind
 
   -- a way to the final node by an edge of the statement on whose file this status is met
   pub record ComesByStatus (n : ℕ) (status_ : ℕ) (statement : ℕ) (w : World) : Type 0 where
     pub left : ℕ
     pub node : ℕ
     pub before : World
-    pub at : Noded
-    pub edge : Action
+    pub at : Node
+    pub action : Action
     pub way : Comes left node before
-    pub stands : node_at (all_nodes p copies) node ≡ Some at
+    pub stands : node_at g.nodes node ≡ Some at
     pub within : passed left at ≤ n
     pub its : at.statement ≡ statement
-    pub out : Contains at.out (edge, final_of copies)
-    pub leads : effect p statement (choice_at p contents first choices (passed left at - 1)) before edge ≡ Ok (Some w)
-    pub meets : status p statement (choice_at p contents first choices (passed left at - 1)) before edge ≡ Some status_
+    pub out : Contains g.edges (edge node action (final_in g))
+    pub leads : effect p statement (choice_at p contents first choices (passed left at - 1)) before action ≡ Ok (Some w)
+    pub meets : status p statement (choice_at p contents first choices (passed left at - 1)) before action ≡ Some status_
 
   -- what a run that goes on after n steps shows: a way that left n nodes at which a step begins
   pub record ComesExactly (n : ℕ) (w : World) : Type 0 where
@@ -131,7 +144,7 @@ module _ (p : Program) (copies : LaidParas) (contents : Contents) (first : List 
 
   abbrev pub ShowsBy : Outcome → ℕ → World → Type 0
   ShowsBy Going n w = ComesExactly n w
-  ShowsBy Ended n w = ComesWithin n (final_of copies) w
+  ShowsBy Ended n w = ComesWithin n (final_in g) w
   ShowsBy (IoStop status_ statement) n w = ComesByStatus n status_ statement w
   ShowsBy (Fault kind statement) n w = ComesToFault n kind statement w
 
@@ -139,10 +152,22 @@ module _ (p : Program) (copies : LaidParas) (contents : Contents) (first : List 
   Shows n s = ShowsBy s.outcome n s.world
 
 -- Each run of so many steps is a way through the graph, with the same storage, files, shown text and outcome.
-abbrev pub IsSimulated : Program → LaidParas → Type 0
-IsSimulated p copies =
-    (contents : Contents) (first : List ℕ) (choices : List Choice) (n : ℕ) → Shows p copies contents first choices n (run p contents first choices n)
+abbrev pub IsSimulated : Program → Graph → Type 0
+IsSimulated p g =
+    (contents : Contents) (first : List ℕ) (choices : List Choice) (n : ℕ) → Shows p g contents first choices n (run p contents first choices n)
 
--- what is proved of the programs whose copies are written in
+-- what is proved of each graph of a program
 abbrev pub Simulation : Type 0
-Simulation = (p : Program) (copies : LaidParas) → IsWhole p → IsMainCopy p copies → IsSimulated p copies
+Simulation = (p : Program) (g : Graph) → IsWhole p → IsGraph p g → IsSimulated p g
+
+-- ---- a graph against the program with its copies written in
+
+-- its nodes are those laid
+abbrev pub NodesAreLaid : Type 0
+NodesAreLaid = (p : Program) (g : Graph) (is : IsGraph p g) (n : ℕ) →
+    node_at g.nodes n ≡ option_map as_node (node_at (all_nodes p is.copies) n)
+
+-- its edges are those that leave them
+abbrev pub EdgesAreLaid : Type 0
+EdgesAreLaid = (p : Program) (g : Graph) (is : IsGraph p g) (n : ℕ) (a : Action) (m : ℕ) →
+    Contains g.edges (edge n a m) ↔ ((x : Noded) × (node_at (all_nodes p is.copies) n ≡ Some x) × Contains x.out (a, m))
