@@ -58,7 +58,7 @@ module _ (s : Setting) (h : Here s) (number k : ℕ) where
       called_by false e =
           let to = bad_to h.c number file m in
           let does_so = by_act s number (choice s k) w (action.Bad i) act (taken x.0) its
-              (fails ∙ ap (λ f. taken_if (not f) x.0) e) in
+          (fails ∙ ap (λ f. taken_if (not f) x.0) e) in
           bad_lands (has_status s.p.layout file) file m x.1 x.0 (same_status file)
           (leaves s h.c number k b _ n (action.Bad i) to w x.0 way is (1, omega arith, refl) does_so)
           (stops s h.c number k b _ n (action.Bad i) to w x.0 x.1 way is (1, omega arith, refl) does_so

@@ -9,7 +9,7 @@ use Rattle.cob_meaning.specs.declared.action.Action.TheVariants as action
 use Rattle.cob_meaning.specs.Faults.{◌>>=◌}
 use Rattle.cob_meaning.specs.Deciding.{test_holds, logic_holds, all_hold, some_holds, denied}
 use Rattle.cob_meaning.specs.State.{World}
-use Rattle.cob_meaning.specs.Effects.{Effect, act_at, taken, taken_if, tests_of, decided, tested}
+use Rattle.cob_meaning.specs.Effects.{act_at, taken, taken_if, tests_of, decided, tested}
 use Rattle.cob_meaning.specs.Effects as effect
 use Rattle.cob_flow.specs.Laid.{tests_in, tests_among}
 use Rattle.cob_flow.specs.Places.{first_of_logic, first_of_all, first_of_any}

@@ -1,5 +1,5 @@
 -- Small programs, worked out.
-use Rattle.std.specs.Prelude.{◌≡◌, ◌+◌, ℕ, Bool, true, false, List, [], ◌∷◌, map, Option, Some, None, pos, negsuc}
+use Rattle.std.specs.Prelude.{◌≡◌, ◌+◌, ℕ, Bool, true, false, List, [], ◌∷◌, map, Option, Some, None}
 use Rattle.std.proofs.Common.{refl}
 use Rattle.dec_num.specs.declared.types.Mode.TheVariants.{Trunc, Round}
 use Rattle.cob_tree.specs.declared.fault.Kind.TheVariants as kind
@@ -13,18 +13,15 @@ use Rattle.cob_data.specs.declared.layout.Layout.{Layout}
 use Rattle.cob_data.specs.declared.layout.Sender.{Sender}
 use Rattle.cob_data.specs.declared.layout.Sender.TheVariants as sender
 use Rattle.cob_program.specs.declared.act.How.TheVariants as how
-use Rattle.cob_program.specs.declared.act.Target.{Target}
 use Rattle.cob_program.specs.Sum.{Sum, MkSum, no_parts, more_parts, MkPart, no_factors, more_factors, MkFactor, item, number}
 use Rattle.cob_program.specs.Logic.{numbers, Logic, test, all_of, any_of, not_, no_logics, more_logics}
 use Rattle.cob_data.specs.declared.layout.FileDecl.{FileDecl}
-use Rattle.cob_program.specs.Act.{once, until, times, varying, MkStmt, Stmts, no_stmts, more_stmts, left_out, given, Act, move, arith, perform, go, nothing, stop, open_files, read, show, range, inline, Para, Program}
+use Rattle.cob_program.specs.Act.{once, times, varying, MkStmt, Stmts, no_stmts, more_stmts, left_out, given, Act, move, arith, perform, go, nothing, stop, open_files, read, show, range, Para, Program}
 use Rattle.cob_meaning.specs.declared.straight.Outcome.TheVariants.{Going, Ended, IoStop, Fault}
 use Rattle.cob_meaning.specs.State.{State}
 use Rattle.cob_meaning.specs.Runs.{run}
-use Rattle.cob_meaning.specs.declared.action.Action.{Action}
 use Rattle.cob_meaning.specs.declared.action.Action.TheVariants as action
 use Rattle.cob_flow.specs.declared.graph.Node.{Node}
-use Rattle.cob_flow.specs.declared.graph.Edge.{Edge}
 use Rattle.cob_flow.specs.declared.graph.Graph.{Graph}
 use Rattle.cob_flow.specs.Laid.{MkLaid, no_laid, more_laid, a_phrase, showing, skipping, ending, deciding, performing, reading, own_list, copy, LaidParas, no_laid_paras, more_laid_paras}
 use Rattle.cob_flow.specs.Graphs.{as_node, all_nodes, edges_of, cells_of, IsMainCopy, IsGraph}
@@ -93,7 +90,7 @@ a_digit_is_lost = refl
 -- MOVE 12.349 to 9(2)V99, and DISPLAY
 decimals_are_cut :
     (after (doing (display 4 2) 4 (more_stmts (MkStmt 1 7 (move (sender.Number (numeral (49 ∷ 50 ∷ 51 ∷ 52 ∷ 57 ∷ []) 3)) (0 ∷ [])))
-      (more_stmts (MkStmt 2 8 (show (sender.Item 0 ∷ []))) no_stmts))) 2).world.shown ≡ 49 ∷ 50 ∷ 46 ∷ 51 ∷ 52 ∷ 10 ∷ []
+    (more_stmts (MkStmt 2 8 (show (sender.Item 0 ∷ []))) no_stmts))) 2).world.shown ≡ 49 ∷ 50 ∷ 46 ∷ 51 ∷ 52 ∷ 10 ∷ []
 decimals_are_cut = refl
 
 -- MOVE -5 to 9

@@ -130,7 +130,7 @@ module _ (s : Setting) (h : Here s) (hs : List (Here s)) (ds : List Doing) (numb
   none_found true t e =
       let n = first_node (is_some into) own in
       let does_so = by_act s number (choice s k) w action.AtEnd (read f into end fine) (taken found.0) y.its
-          (ap (λ c. taken_if c found.0) t) in
+      (ap (λ c. taken_if c found.0) t) in
       at_end found.1 e end a y.whole.0 y.laid.2 end_list
       (leaves s h.c number k true _ at action.AtEnd end_at w found.0 way n.1 (1, omega arith, refl) does_so)
       (stops s h.c number k true _ at action.AtEnd end_at w found.0 found.1 way n.1 (1, omega arith, refl) does_so
@@ -139,7 +139,7 @@ module _ (s : Setting) (h : Here s) (hs : List (Here s)) (ds : List Doing) (numb
       let n = first_node (is_some into) own in
       let to = bad_to h.c number f next in
       let does_so = by_act s number (choice s k) w (action.Bad 0) (read f into end fine) (taken found.0) y.its
-          (ap (λ c. taken_if (not c && not (found.1 == 10)) found.0) e ∙ ap (λ c. taken_if (true && not c) found.0) t) in
+      (ap (λ c. taken_if (not c && not (found.1 == 10)) found.0) e ∙ ap (λ c. taken_if (true && not c) found.0) t) in
       unhandled found.1 e
       (leaves s h.c number k true _ at (action.Bad 0) to w found.0 way n.1 (2, omega arith, refl) does_so)
       (stops s h.c number k true _ at (action.Bad 0) to w found.0 found.1 way n.1 (2, omega arith, refl) does_so
