@@ -145,7 +145,8 @@ module _ (s : Setting) (c : Copied) (number k : ℕ) (w : World) where
           (front (node_at (all_nodes s.p s.is.copies)) at firsts others ns) way)
           (λ onwards. all_decide false xs (i + tests_in x) (at + tests_in x) tr fa (λ e. absurd (false≢true e))
           (back (slice_get tests) i (tests_in x) (tests_of x) (effect.tests_among xs) (length-tests x) ts)
-          (back (node_at (all_nodes s.p s.is.copies)) at (tests_in x) firsts others (length-logic c number b x i at m fa)
+          (back (node_at (all_nodes s.p s.is.copies)) at (tests_in x) firsts others
+          (length-logic c number b x i at m fa)
           ns) onwards)
 
       pub any_decide : (b : Bool) (ls : Logics) (i at tr fa : ℕ) → (b ≡ true → FirstBegins ls) →
@@ -163,5 +164,6 @@ module _ (s : Setting) (c : Copied) (number k : ℕ) (w : World) where
           (front (node_at (all_nodes s.p s.is.copies)) at firsts others ns) way)
           (λ onwards. any_decide false xs (i + tests_in x) (at + tests_in x) tr fa (λ e. absurd (false≢true e))
           (back (slice_get tests) i (tests_in x) (tests_of x) (effect.tests_among xs) (length-tests x) ts)
-          (back (node_at (all_nodes s.p s.is.copies)) at (tests_in x) firsts others (length-logic c number b x i at tr m)
+          (back (node_at (all_nodes s.p s.is.copies)) at (tests_in x) firsts others
+          (length-logic c number b x i at tr m)
           ns) onwards)

@@ -1,6 +1,6 @@
 -- Small programs, worked out.
 use Rattle.std.specs.Prelude.{◌≡◌, ◌+◌, ℕ, Bool, true, false, List, [], ◌∷◌, map, Option, Some, None}
-use Rattle.std.proofs.Common.{refl}
+use Rattle.std.proofs.Common.{refl, arith as plain}
 use Rattle.dec_num.specs.declared.types.Mode.TheVariants.{Trunc, Round}
 use Rattle.cob_tree.specs.declared.fault.Kind.TheVariants as kind
 use Rattle.cob_tree.specs.declared.form.Form.{Form}
@@ -23,9 +23,9 @@ use Rattle.cob_meaning.specs.Runs.{run}
 use Rattle.cob_meaning.specs.declared.action.Action.TheVariants as action
 use Rattle.cob_flow.specs.declared.graph.Node.{Node}
 use Rattle.cob_flow.specs.declared.graph.Graph.{Graph}
-use Rattle.cob_flow.specs.Laid.{MkLaid, no_laid, more_laid, a_phrase, showing, skipping, ending, deciding, performing, reading, own_list, copy, LaidParas, no_laid_paras, more_laid_paras}
+use Rattle.cob_flow.specs.Laid.{MkLaid, no_laid, more_laid, a_phrase, showing, skipping, ending, deciding, performing, opening, reading, own_list, copy, LaidParas, no_laid_paras, more_laid_paras}
 use Rattle.cob_flow.specs.Graphs.{as_node, all_nodes, edges_of, cells_of, IsMainCopy, IsGraph}
-use Rattle.cob_flow.specs.Walks.{IsWhole, edge, IsSimulated}
+use Rattle.cob_flow.specs.Walks.{IsWhole, edge, IsSimulated, ComesByStatus}
 use Rattle.cob_flow.proofs.Simulated.{simulates}
 
 abbrev item_of : ℕ → ℕ → Form → Option Sender → Item
@@ -261,15 +261,47 @@ twice_is_whole = (tt, ((refl, (tt, tt), (refl, tt, tt)), ((refl, tt, tt), tt)))
 twice_is_laid : IsMainCopy twice laid_twice
 twice_is_laid = (tt, (((refl, (refl, (refl, (((refl, refl), tt), tt)))), ((refl, refl), tt)), (((refl, refl), tt), tt)))
 
-abbrev graph_of_twice : Graph
-graph_of_twice = record {
-  nodes = map as_node (all_nodes twice laid_twice);
-  edges = edges_of 1 (all_nodes twice laid_twice);
-  cells = cells_of twice;
+abbrev with_copies : Program → LaidParas → Graph
+with_copies p copies = record {
+  nodes = map as_node (all_nodes p copies);
+  edges = edges_of 1 (all_nodes p copies);
+  cells = cells_of p;
 }
 
-it_is_its_graph : IsGraph twice graph_of_twice
-it_is_its_graph = record { copies = laid_twice; laid = twice_is_laid; nodes = refl; edges = refl; cells = refl }
+is_graph : (p : Program) (copies : LaidParas) → IsMainCopy p copies → IsGraph p (with_copies p copies)
+is_graph p copies laid = record { copies = copies; laid = laid; nodes = refl; edges = refl; cells = refl }
 
-twice_is_simulated : IsSimulated twice graph_of_twice
-twice_is_simulated = simulates twice graph_of_twice twice_is_whole it_is_its_graph
+twice_is_simulated : IsSimulated twice (with_copies twice laid_twice)
+twice_is_simulated =
+    simulates twice (with_copies twice laid_twice) twice_is_whole (is_graph twice laid_twice twice_is_laid)
+
+-- an OPEN whose status ends the run is met on the edge to the final node
+abbrev laid_listing : LaidParas
+laid_listing = more_laid_paras (more_laid (MkLaid 1 (opening (record { file = 0; output = false } ∷ [])))
+    (more_laid (MkLaid 2 showing) (more_laid (MkLaid 3 (reading 0 false
+    (a_phrase (more_laid (MkLaid 4 showing) (more_laid (MkLaid 5 ending) no_laid)))
+    (more_laid (MkLaid 6 showing) no_laid))) no_laid))) no_laid_paras
+
+listing_is_whole : IsWhole (listing None)
+listing_is_whole = ((refl, omega plain, (refl, tt, (refl, ((refl, tt, (refl, tt, tt)), (refl, tt, tt)), tt))), tt)
+
+listing_is_laid : IsMainCopy (listing None) laid_listing
+listing_is_laid = (
+  (
+    (refl, refl),
+    (
+      (refl, refl),
+      ((refl, (refl, refl, (((refl, refl), ((refl, refl), tt))), ((refl, refl), tt))), tt),
+    ),
+  ),
+  tt,
+)
+
+abbrev graph_of_listing : Graph
+graph_of_listing = with_copies (listing None) laid_listing
+
+an_absent_file_is_met :
+    ComesByStatus (listing None) graph_of_listing (None ∷ []) [] [] 1 35 1 (told None (listing None) 1).world
+an_absent_file_is_met =
+    simulates (listing None) graph_of_listing listing_is_whole (is_graph (listing None) laid_listing listing_is_laid)
+    (None ∷ []) [] [] 1

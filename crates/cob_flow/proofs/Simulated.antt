@@ -214,7 +214,11 @@ module _ (s : Setting) where
   begin_holds : Holds 0 (begin s.p s.contents s.first)
   begin_holds =
       settle_holds Going 0 (first_world s.p s.contents s.first) (rest (body_at s.p 0) ∷ paras 1 (last_para s.p) ∷ [])
-      (record { node = 1; way = at_first; standing = begins (length s.p.paras) s.is.copies refl refl s.is.laid main_stands })
+      (record {
+        node = 1;
+        way = at_first;
+        standing = begins (length s.p.paras) s.is.copies refl refl s.is.laid main_stands;
+      })
 
   run_holds : (n : ℕ) → Holds n (run s.p s.contents s.first s.choices n)
   run_holds zero = begin_holds

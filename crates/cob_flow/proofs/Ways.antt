@@ -40,7 +40,8 @@ module _ (s : Setting) where
       let x = as_node (node c number b out) in
       subst (λ (i : ℕ). Way s i m v) (passes k b x refl)
       (onward x a m way (node_there s.p s.g s.is n (node c number b out) is)
-      (edge_there s.p s.g s.is n (node c number b out) a m is there) (ap (λ (d : Choice). effect s.p number d w a) (same_choice k b x refl) ∙ e))
+      (edge_there s.p s.g s.is n (node c number b out) a m is there)
+      (ap (λ (d : Choice). effect s.p number d w a) (same_choice k b x refl) ∙ e))
 
   pub meets : (c : Copied) (number k : ℕ) (b : Bool) (out : List (Action × ℕ)) (n : ℕ) (a : Action) (m : ℕ) (w : World)
       (kind : Kind) → Way s (so_far k b) n w →
@@ -96,5 +97,5 @@ module _ (s : Setting) where
   -- and it has the status of its part
   pub status_by_act : (number : ℕ) (c : Choice) (w : World) (a : Action) (act : Act) (r : Option ℕ) →
       act_at s.p number ≡ Some act → status_of s.p number c w a act ≡ r → status s.p number c w a ≡ r
-  status_by_act number c w a act r its e = ap (λ (o : Option Act). option_map_or (status_of s.p number c w a) o None) its
-      ∙ e
+  status_by_act number c w a act r its e =
+      ap (λ (o : Option Act). option_map_or (status_of s.p number c w a) o None) its ∙ e

@@ -39,8 +39,8 @@ IsWholeTurns (varying after item start by t) = Begins t
 IsWholeTurns _ = Unit {0}
 
 abbrev mutual
-  -- each condition begins with a simple condition, OPEN and CLOSE name a file, WRITE a file's record, and each statement
-  -- is found by its number
+  -- each condition begins with a simple condition, OPEN and CLOSE name a file, WRITE a file's record, and each
+  -- statement is found by its number
   pub AreWhole : Program → Stmts → Type 0
   AreWhole p no_stmts = Unit {0}
   AreWhole p (more_stmts (MkStmt n line a) ss) = (act_at p n ≡ Some a) × IsWholeAct p a × AreWhole p ss
@@ -99,7 +99,8 @@ module _ (p : Program) (g : Graph) (contents : Contents) (first : List ℕ) (cho
   pub data Comes : ℕ → ℕ → World → Type 0 where
     at_first : Comes 0 1 (first_world p contents first)
     onward : {k n : ℕ} {w v : World} (x : Node) (a : Action) (m : ℕ) → Comes k n w → node_at g.nodes n ≡ Some x
-        → Contains g.edges (edge n a m) → effect p x.statement (choice_at p contents first choices (passed k x - 1)) w a ≡ Ok (Some v)
+        → Contains g.edges (edge n a m)
+        → effect p x.statement (choice_at p contents first choices (passed k x - 1)) w a ≡ Ok (Some v)
         → Comes (passed k x) m v
 
   -- a way to a node with this world, which has left at most so many
@@ -135,7 +136,8 @@ module _ (p : Program) (g : Graph) (contents : Contents) (first : List ℕ) (cho
     pub its : at.statement ≡ statement
     pub out : Contains g.edges (edge node action (final_in g))
     pub leads : effect p statement (choice_at p contents first choices (passed left at - 1)) before action ≡ Ok (Some w)
-    pub meets : status p statement (choice_at p contents first choices (passed left at - 1)) before action ≡ Some status_
+    pub meets :
+        status p statement (choice_at p contents first choices (passed left at - 1)) before action ≡ Some status_
 
   -- what a run that goes on after n steps shows: a way that left n nodes at which a step begins
   pub record ComesExactly (n : ℕ) (w : World) : Type 0 where
@@ -154,7 +156,8 @@ module _ (p : Program) (g : Graph) (contents : Contents) (first : List ℕ) (cho
 -- Each run of so many steps is a way through the graph, with the same storage, files, shown text and outcome.
 abbrev pub IsSimulated : Program → Graph → Type 0
 IsSimulated p g =
-    (contents : Contents) (first : List ℕ) (choices : List Choice) (n : ℕ) → Shows p g contents first choices n (run p contents first choices n)
+    (contents : Contents) (first : List ℕ) (choices : List Choice) (n : ℕ) →
+    Shows p g contents first choices n (run p contents first choices n)
 
 -- what is proved of each graph of a program
 abbrev pub Simulation : Type 0

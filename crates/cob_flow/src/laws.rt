@@ -1,9 +1,10 @@
 //! What holds of each program's graph.
 ghost use Rattle.cob_flow.specs.Walks.{EdgesAreLaid, NodesAreLaid, Simulation};
 
-/// So many steps of a run are a way through the graph, with the same storage, files and shown text, which has left as
-/// many nodes at which a step begins. A run that ends stands at the final node; one that a file's status ends came
-/// there by an edge on which the statement meets that status; a fault is met on an edge of its statement's node.
+/// So many steps of a run are a way through the graph from its first node, with the same storage, files and shown text.
+/// While the run goes on the way has left as many nodes at which a step begins, and at most as many once it is over:
+/// then it stands at the final node, has come there by an edge on which a statement meets the status that ends the run,
+/// or stands at a node of the statement that meets the fault, on one of its edges.
 pub fn runs_are_ways()
     ensures { Simulation }
 {}
