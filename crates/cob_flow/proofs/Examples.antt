@@ -1,6 +1,6 @@
 -- Small programs, worked out.
-use Rattle.std.specs.Prelude.{◌≡◌, ◌+◌, ℕ, Bool, true, false, List, [], ◌∷◌, map, Option, Some, None, pos, negsuc}
-use Rattle.std.proofs.Common.{refl}
+use Rattle.std.specs.Prelude.{◌≡◌, ◌+◌, ℕ, Bool, true, false, List, [], ◌∷◌, map, Option, Some, None}
+use Rattle.std.proofs.Common.{refl, arith as plain}
 use Rattle.dec_num.specs.declared.types.Mode.TheVariants.{Trunc, Round}
 use Rattle.cob_tree.specs.declared.fault.Kind.TheVariants as kind
 use Rattle.cob_tree.specs.declared.form.Form.{Form}
@@ -13,20 +13,20 @@ use Rattle.cob_data.specs.declared.layout.Layout.{Layout}
 use Rattle.cob_data.specs.declared.layout.Sender.{Sender}
 use Rattle.cob_data.specs.declared.layout.Sender.TheVariants as sender
 use Rattle.cob_program.specs.declared.act.How.TheVariants as how
-use Rattle.cob_program.specs.declared.act.Target.{Target}
 use Rattle.cob_program.specs.Sum.{Sum, MkSum, no_parts, more_parts, MkPart, no_factors, more_factors, MkFactor, item, number}
 use Rattle.cob_program.specs.Logic.{numbers, Logic, test, all_of, any_of, not_, no_logics, more_logics}
 use Rattle.cob_data.specs.declared.layout.FileDecl.{FileDecl}
-use Rattle.cob_program.specs.Act.{once, until, times, varying, MkStmt, Stmts, no_stmts, more_stmts, left_out, given, Act, move, arith, perform, go, nothing, stop, open_files, read, show, range, inline, Para, Program}
+use Rattle.cob_program.specs.Act.{once, times, varying, MkStmt, Stmts, no_stmts, more_stmts, left_out, given, Act, move, arith, perform, go, nothing, stop, open_files, read, show, range, Para, Program}
 use Rattle.cob_meaning.specs.declared.straight.Outcome.TheVariants.{Going, Ended, IoStop, Fault}
 use Rattle.cob_meaning.specs.State.{State}
 use Rattle.cob_meaning.specs.Runs.{run}
-use Rattle.cob_meaning.specs.declared.action.Action.{Action}
 use Rattle.cob_meaning.specs.declared.action.Action.TheVariants as action
 use Rattle.cob_flow.specs.declared.graph.Node.{Node}
-use Rattle.cob_flow.specs.declared.graph.Edge.{Edge}
-use Rattle.cob_flow.specs.Laid.{MkLaid, no_laid, more_laid, a_phrase, showing, skipping, ending, deciding, performing, reading, own_list, copy, LaidParas, no_laid_paras, more_laid_paras}
-use Rattle.cob_flow.specs.Graphs.{as_node, all_nodes, edges_of}
+use Rattle.cob_flow.specs.declared.graph.Graph.{Graph}
+use Rattle.cob_flow.specs.Laid.{MkLaid, no_laid, more_laid, a_phrase, showing, skipping, ending, deciding, performing, opening, reading, own_list, copy, LaidParas, no_laid_paras, more_laid_paras}
+use Rattle.cob_flow.specs.Graphs.{as_node, all_nodes, edges_of, cells_of, IsMainCopy, IsGraph}
+use Rattle.cob_flow.specs.Walks.{IsWhole, edge, IsSimulated, ComesByStatus}
+use Rattle.cob_flow.proofs.Simulated.{simulates}
 
 abbrev item_of : ℕ → ℕ → Form → Option Sender → Item
 item_of offset length f value = record { name = Some (78 ∷ []); offset = offset; length = length; form = f; parent = None; line = 5; value = value }
@@ -90,7 +90,7 @@ a_digit_is_lost = refl
 -- MOVE 12.349 to 9(2)V99, and DISPLAY
 decimals_are_cut :
     (after (doing (display 4 2) 4 (more_stmts (MkStmt 1 7 (move (sender.Number (numeral (49 ∷ 50 ∷ 51 ∷ 52 ∷ 57 ∷ []) 3)) (0 ∷ [])))
-      (more_stmts (MkStmt 2 8 (show (sender.Item 0 ∷ []))) no_stmts))) 2).world.shown ≡ 49 ∷ 50 ∷ 46 ∷ 51 ∷ 52 ∷ 10 ∷ []
+    (more_stmts (MkStmt 2 8 (show (sender.Item 0 ∷ []))) no_stmts))) 2).world.shown ≡ 49 ∷ 50 ∷ 46 ∷ 51 ∷ 52 ∷ 10 ∷ []
 decimals_are_cut = refl
 
 -- MOVE -5 to 9
@@ -212,9 +212,6 @@ a_record = refl
 
 -- ---- graphs
 
-abbrev edge : ℕ → Action → ℕ → Edge
-edge from action to = record { from = from; to = to; action = action }
-
 abbrev a_node : ℕ → List ℕ → Bool → Node
 a_node statement sites starts = record { statement = statement; sites = sites; starts = starts }
 
@@ -255,3 +252,56 @@ read_edges : edges_of 1 (all_nodes (listing None) laid_read)
     ≡ edge 1 action.Take 2 ∷ edge 1 action.AtEnd 3 ∷ edge 1 (action.Bad 0) 9 ∷ edge 2 action.Assign 4 ∷ edge 3 action.Show 5 ∷ edge 4 action.Skip 5
     ∷ edge 5 action.Assign 6 ∷ edge 6 action.Show 7 ∷ edge 7 (action.True 0) 9 ∷ edge 7 (action.False 0) 8 ∷ edge 8 action.Done 6 ∷ []
 read_edges = refl
+
+-- ---- what the simulation asks of a program and its copies can be met
+
+twice_is_whole : IsWhole twice
+twice_is_whole = (tt, ((refl, (tt, tt), (refl, tt, tt)), ((refl, tt, tt), tt)))
+
+twice_is_laid : IsMainCopy twice laid_twice
+twice_is_laid = (tt, (((refl, (refl, (refl, (((refl, refl), tt), tt)))), ((refl, refl), tt)), (((refl, refl), tt), tt)))
+
+abbrev with_copies : Program → LaidParas → Graph
+with_copies p copies = record {
+  nodes = map as_node (all_nodes p copies);
+  edges = edges_of 1 (all_nodes p copies);
+  cells = cells_of p;
+}
+
+is_graph : (p : Program) (copies : LaidParas) → IsMainCopy p copies → IsGraph p (with_copies p copies)
+is_graph p copies laid = record { copies = copies; laid = laid; nodes = refl; edges = refl; cells = refl }
+
+twice_is_simulated : IsSimulated twice (with_copies twice laid_twice)
+twice_is_simulated =
+    simulates twice (with_copies twice laid_twice) twice_is_whole (is_graph twice laid_twice twice_is_laid)
+
+-- an OPEN whose status ends the run is met on the edge to the final node
+abbrev laid_listing : LaidParas
+laid_listing = more_laid_paras (more_laid (MkLaid 1 (opening (record { file = 0; output = false } ∷ [])))
+    (more_laid (MkLaid 2 showing) (more_laid (MkLaid 3 (reading 0 false
+    (a_phrase (more_laid (MkLaid 4 showing) (more_laid (MkLaid 5 ending) no_laid)))
+    (more_laid (MkLaid 6 showing) no_laid))) no_laid))) no_laid_paras
+
+listing_is_whole : IsWhole (listing None)
+listing_is_whole = ((refl, omega plain, (refl, tt, (refl, ((refl, tt, (refl, tt, tt)), (refl, tt, tt)), tt))), tt)
+
+listing_is_laid : IsMainCopy (listing None) laid_listing
+listing_is_laid = (
+  (
+    (refl, refl),
+    (
+      (refl, refl),
+      ((refl, (refl, refl, (((refl, refl), ((refl, refl), tt))), ((refl, refl), tt))), tt),
+    ),
+  ),
+  tt,
+)
+
+abbrev graph_of_listing : Graph
+graph_of_listing = with_copies (listing None) laid_listing
+
+an_absent_file_is_met :
+    ComesByStatus (listing None) graph_of_listing (None ∷ []) [] [] 1 35 1 (told None (listing None) 1).world
+an_absent_file_is_met =
+    simulates (listing None) graph_of_listing listing_is_whole (is_graph (listing None) laid_listing listing_is_laid)
+    (None ∷ []) [] [] 1

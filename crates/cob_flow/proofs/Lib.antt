@@ -6,3 +6,18 @@ mod BoolLemmas
 mod NestLemmas
 mod FirstLemmas
 mod CoverLemmas
+mod Fronts
+mod Lengths
+pub mod InGraphs
+mod Relation
+mod Settling
+mod Ways
+mod Conditions
+mod SizeErrors
+mod Statements
+mod Choosing
+mod Loops
+mod Calls
+mod ReadSteps
+mod EachAct
+pub mod Simulated

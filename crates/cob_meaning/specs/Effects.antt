@@ -196,3 +196,25 @@ module _ (p : Program) (number : ℕ) (c : Choice) (w : World) where
   -- what the edge does where the run is at its node, or the fault that the statement meets there
   abbrev pub effect : Action → Effect
   effect a = option_map_or (effect_of a) (act_at p number) not_taken
+
+  -- ---- the status that a call on a file gives
+
+  abbrev pub status_in : {A : Type 0} → Option A → (A → World × ℕ) → Option ℕ
+  status_in None call = None
+  status_in (Some a) call = Some (call a).1
+
+  abbrev pub status_by : ℕ → Act → Option ℕ
+  status_by k (open_files os) = status_in (slice_get os k) (λ o. open_one p.layout o w)
+  status_by k (close_files fs) = status_in (slice_get fs k) (λ f. close_one p.layout f w)
+  status_by k (read f into end fine) = Some (take_one p.layout c f w).1
+  status_by k (write r from) = status_in (file_from p.layout 0 p.layout.files r) (λ f. write_one p.layout c f r w)
+  status_by k _ = None
+
+  -- of the edge at the end of a file, and of one with another status
+  abbrev pub status_of : Action → Act → Option ℕ
+  status_of action.AtEnd a = status_by 0 a
+  status_of (action.Bad k) a = status_by k a
+  status_of _ a = None
+
+  abbrev pub status : Action → Option ℕ
+  status x = option_map_or (status_of x) (act_at p number) None
