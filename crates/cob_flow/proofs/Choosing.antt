@@ -5,13 +5,13 @@ use Rattle.std.proofs.lemmas.Bool.{false≢true}
 use Rattle.cob_tree.specs.declared.fault.Kind.{Kind}
 use Rattle.cob_program.specs.Logic.{Test, Logic, logics_of}
 use Rattle.cob_program.specs.Act.{Stmts, Act, evaluate, Whens, no_whens, more_whens, MkWhen}
-use Rattle.cob_meaning.specs.declared.action.Action.TheVariants as action
-use Rattle.cob_meaning.specs.Faults.{◌>>=◌}
-use Rattle.cob_meaning.specs.Deciding.{some_holds}
-use Rattle.cob_meaning.specs.State.{World, Doing, rest, going}
-use Rattle.cob_meaning.specs.Steps.{chosen}
-use Rattle.cob_meaning.specs.Effects.{taken, act_at, tests_of, tests_in_list, tests_in_whens, decided, tested}
-use Rattle.cob_meaning.specs.Effects as effect
+use Rattle.cob_runs.specs.declared.action.Action.TheVariants as action
+use Rattle.cob_runs.specs.Faults.{◌>>=◌}
+use Rattle.cob_runs.specs.Deciding.{some_holds}
+use Rattle.cob_runs.specs.State.{World, Doing, rest, going}
+use Rattle.cob_runs.specs.Steps.{chosen}
+use Rattle.cob_runs.specs.Effects.{taken, act_at, tests_of, tests_in_list, tests_in_whens, decided, tested}
+use Rattle.cob_runs.specs.Effects as effect
 use Rattle.cob_flow.specs.Laid.{LaidList, LaidWhens, no_laid_whens, more_laid_whens, choosing, tests_among, list_size, whens_size}
 use Rattle.cob_flow.specs.Places.{first_of_list, first_of_whens}
 use Rattle.cob_flow.specs.Nodes.{list_nodes, any_nodes, whens_nodes}

@@ -5,12 +5,12 @@ use Rattle.std.proofs.lemmas.Bool.{false≢true}
 use Rattle.cob_tree.specs.declared.fault.Kind.{Kind}
 use Rattle.cob_program.specs.Logic.{Test, numbers, texts, member, numeric, always, Logic, all_of, any_of, not_, test, Logics, no_logics, more_logics}
 use Rattle.cob_program.specs.Act.{Act}
-use Rattle.cob_meaning.specs.declared.action.Action.TheVariants as action
-use Rattle.cob_meaning.specs.Faults.{◌>>=◌}
-use Rattle.cob_meaning.specs.Deciding.{test_holds, logic_holds, all_hold, some_holds, denied}
-use Rattle.cob_meaning.specs.State.{World}
-use Rattle.cob_meaning.specs.Effects.{act_at, taken, taken_if, tests_of, decided, tested}
-use Rattle.cob_meaning.specs.Effects as effect
+use Rattle.cob_runs.specs.declared.action.Action.TheVariants as action
+use Rattle.cob_runs.specs.Faults.{◌>>=◌}
+use Rattle.cob_runs.specs.Deciding.{test_holds, logic_holds, all_hold, some_holds, denied}
+use Rattle.cob_runs.specs.State.{World}
+use Rattle.cob_runs.specs.Effects.{act_at, taken, taken_if, tests_of, decided, tested}
+use Rattle.cob_runs.specs.Effects as effect
 use Rattle.cob_flow.specs.Laid.{tests_in, tests_among}
 use Rattle.cob_flow.specs.Places.{first_of_logic, first_of_all, first_of_any}
 use Rattle.cob_flow.specs.Nodes as node

@@ -2,12 +2,12 @@
 use Rattle.std.proofs.Common.{◌≡◌, ℕ, suc, ◌+◌, Bool, true, List, [], ◌∷◌, is_some, Ok, refl, sym, subst, arith}
 use Rattle.cob_program.specs.Logic.{Logic}
 use Rattle.cob_program.specs.Act.{Turns, MkStmt, Stmts, no_stmts, more_stmts, Act, move, arith as arithmetic, if_, evaluate, perform, go, nothing, stop, open_files, close_files, read, write, show}
-use Rattle.cob_meaning.specs.declared.action.Action.TheVariants as action
-use Rattle.cob_meaning.specs.State.{World, Doing, rest, paras, testing, augmenting}
-use Rattle.cob_meaning.specs.Acts as acts
-use Rattle.cob_meaning.specs.Acts.{compute, file_from}
-use Rattle.cob_meaning.specs.Steps.{is_given, gone_to, done, number_of, front_done}
-use Rattle.cob_meaning.specs.Effects.{taken}
+use Rattle.cob_runs.specs.declared.action.Action.TheVariants as action
+use Rattle.cob_runs.specs.State.{World, Doing, rest, paras, testing, augmenting}
+use Rattle.cob_runs.specs.Acts as acts
+use Rattle.cob_runs.specs.Acts.{compute, file_from}
+use Rattle.cob_runs.specs.Steps.{is_given, gone_to, done, number_of, front_done}
+use Rattle.cob_runs.specs.Effects.{taken}
 use Rattle.cob_flow.specs.Laid.{MkLaid, LaidList, no_laid, more_laid, LaidAct, moving, showing, skipping, going, ending, computing, deciding, choosing, performing, opening, closing, reading, writing, size, act_size}
 use Rattle.cob_flow.specs.Places.{first_of_list}
 use Rattle.cob_flow.specs.Nodes.{list_nodes, act_nodes}
@@ -22,7 +22,7 @@ use Rattle.cob_flow.proofs.Ways.{leaves, by_act}
 use Rattle.cob_flow.proofs.Statements.{Leads, one_way, if_leads, arith_leads}
 use Rattle.cob_flow.proofs.Choosing.{evaluate_leads}
 use Rattle.cob_flow.proofs.Loops.{loop_leads, testing_leads, augmenting_leads}
-use Rattle.cob_flow.proofs.Calls.{opens, closes, write_leads}
+use Rattle.cob_flow.proofs.FileCalls.{opens, closes, write_leads}
 use Rattle.cob_flow.proofs.ReadSteps.{read_leads}
 
 module _ (s : Setting) where

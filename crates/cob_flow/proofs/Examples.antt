@@ -18,9 +18,9 @@ use Rattle.cob_program.specs.Logic.{numbers, Logic, test, all_of, any_of, not_, 
 use Rattle.cob_data.specs.declared.layout.FileDecl.{FileDecl}
 use Rattle.cob_program.specs.Act.{once, times, varying, MkStmt, Stmts, no_stmts, more_stmts, left_out, given, Act, move, arith, perform, go, nothing, stop, open_files, read, show, range, Para, Program}
 use Rattle.cob_meaning.specs.declared.straight.Outcome.TheVariants.{Going, Ended, IoStop, Fault}
-use Rattle.cob_meaning.specs.State.{State}
-use Rattle.cob_meaning.specs.Runs.{run}
-use Rattle.cob_meaning.specs.declared.action.Action.TheVariants as action
+use Rattle.cob_runs.specs.State.{State}
+use Rattle.cob_runs.specs.Runs.{run}
+use Rattle.cob_runs.specs.declared.action.Action.TheVariants as action
 use Rattle.cob_flow.specs.declared.graph.Node.{Node}
 use Rattle.cob_flow.specs.declared.graph.Graph.{Graph}
 use Rattle.cob_flow.specs.Laid.{MkLaid, no_laid, more_laid, a_phrase, showing, skipping, ending, deciding, performing, opening, reading, own_list, copy, LaidParas, no_laid_paras, more_laid_paras}

@@ -6,7 +6,7 @@ use Rattle.std.proofs.lemmas.Option.{slice_get-map, same_Some, none-some}
 use Rattle.std.proofs.lemmas.List.{length-map}
 use Rattle.std.proofs.lemmas.List.Elements.{Contains-append_left, Contains-append_right, Contains-append_cases}
 use Rattle.cob_program.specs.Act.{Program}
-use Rattle.cob_meaning.specs.declared.action.Action.{Action}
+use Rattle.cob_runs.specs.declared.action.Action.{Action}
 use Rattle.cob_flow.specs.declared.graph.Edge.{Edge}
 use Rattle.cob_flow.specs.declared.graph.Graph.{Graph}
 use Rattle.cob_flow.specs.Nodes.{Noded, paras_nodes}

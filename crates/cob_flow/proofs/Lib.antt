@@ -17,7 +17,7 @@ mod SizeErrors
 mod Statements
 mod Choosing
 mod Loops
-mod Calls
+mod FileCalls
 mod ReadSteps
 mod EachAct
 pub mod Simulated

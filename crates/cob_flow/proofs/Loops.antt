@@ -4,13 +4,13 @@ use Rattle.std.specs.Prelude.{slice_get, if◌then◌else◌}
 use Rattle.cob_tree.specs.declared.fault.Kind.{Kind}
 use Rattle.cob_program.specs.Logic.{Test, Logic}
 use Rattle.cob_program.specs.Act.{Turns, once, times, until, varying, perform, Body}
-use Rattle.cob_meaning.specs.declared.action.Action.TheVariants as action
-use Rattle.cob_meaning.specs.Faults.{◌>>=◌}
-use Rattle.cob_meaning.specs.Deciding.{logic_holds}
-use Rattle.cob_meaning.specs.State.{World, Doing, testing, augmenting, going}
-use Rattle.cob_meaning.specs.Acts.{count_of, set_count, count_down, set_varied, augment}
-use Rattle.cob_meaning.specs.Steps.{body_of, loop_begun, is_left, turn, tested, augmented}
-use Rattle.cob_meaning.specs.Effects.{act_at, tests_of, tests_in_turns, decided, tested as edge_tested}
+use Rattle.cob_runs.specs.declared.action.Action.TheVariants as action
+use Rattle.cob_runs.specs.Faults.{◌>>=◌}
+use Rattle.cob_runs.specs.Deciding.{logic_holds}
+use Rattle.cob_runs.specs.State.{World, Doing, testing, augmenting, going}
+use Rattle.cob_runs.specs.Acts.{count_of, set_count, count_down, set_varied, augment}
+use Rattle.cob_runs.specs.Steps.{body_of, loop_begun, is_left, turn, tested, augmented}
+use Rattle.cob_runs.specs.Effects.{act_at, tests_of, tests_in_turns, decided, tested as edge_tested}
 use Rattle.cob_flow.specs.Laid.{LaidBody, performing, tests_in, body_size}
 use Rattle.cob_flow.specs.Places.{first_of_body, body_at, tests_at, augment_at, body_next}
 use Rattle.cob_flow.specs.Nodes.{Copied, logic_nodes, loop_before, loop_behind, body_nodes}

@@ -2,12 +2,12 @@
 use Rattle.std.proofs.Common.{◌≡◌, ℕ, suc, ◌+◌, Bool, true, false, not, List, [], ◌∷◌, ◌++◌, length, Option, Some, None, is_some, Ok, refl, sym, ap, subst, ◌∙◌, arith, length-append}
 use Rattle.std.specs.Prelude.{◌==◌, ◌&&◌, if◌then◌else◌}
 use Rattle.cob_program.specs.Act.{Stmts, Phrase, left_out, given, read}
-use Rattle.cob_meaning.specs.declared.action.Action.TheVariants as action
+use Rattle.cob_runs.specs.declared.action.Action.TheVariants as action
 use Rattle.cob_meaning.specs.declared.straight.Outcome.TheVariants.{Going, IoStop}
-use Rattle.cob_meaning.specs.State.{World, Doing, rest, state, going}
-use Rattle.cob_meaning.specs.Acts.{has_status, is_fine, take_one, into_if, where_fine}
-use Rattle.cob_meaning.specs.Steps.{outcome_of, behind_read, is_given, list_of}
-use Rattle.cob_meaning.specs.Effects.{taken, taken_if}
+use Rattle.cob_runs.specs.State.{World, Doing, rest, state, going}
+use Rattle.cob_runs.specs.Acts.{has_status, is_fine, take_one, into_if, where_fine}
+use Rattle.cob_runs.specs.Steps.{outcome_of, behind_read, is_given, list_of}
+use Rattle.cob_runs.specs.Effects.{taken, taken_if}
 use Rattle.cob_flow.specs.Laid.{LaidList, LaidPhrase, no_phrase, a_phrase, reading, one_if, phrase_size}
 use Rattle.cob_flow.specs.Places.{first_of_list}
 use Rattle.cob_flow.specs.Nodes.{bad_to, end_to, read_nodes, phrase_nodes, list_nodes}
@@ -19,7 +19,7 @@ use Rattle.cob_flow.proofs.Lengths.{length-read, length-phrase}
 use Rattle.cob_flow.proofs.Relation.{Setting, choice, Way, Stops, Stand, Here, ActAt, Stands, Comes_by}
 use Rattle.cob_flow.proofs.Ways.{IsNode, leaves, stops, by_act, status_by_act}
 use Rattle.cob_flow.proofs.Statements.{Leads, listed}
-use Rattle.cob_flow.proofs.Calls.{bad_lands, same_status, landed}
+use Rattle.cob_flow.proofs.FileCalls.{bad_lands, same_status, landed}
 
 module _ (s : Setting) (h : Here s) (hs : List (Here s)) (ds : List Doing) (number k at next : ℕ) (w : World)
     (way : Way s k at w) (st : Stands s ds (h ∷ hs) next)

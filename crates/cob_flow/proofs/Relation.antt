@@ -4,10 +4,10 @@ use Rattle.cob_tree.specs.declared.fault.Kind.{Kind}
 use Rattle.cob_program.specs.Act.{Turns, once, times, varying, Stmts, Act, perform, Body, Program}
 use Rattle.cob_meaning.specs.declared.straight.Outcome.{Outcome}
 use Rattle.cob_meaning.specs.declared.straight.Outcome.TheVariants.{Going, Ended, IoStop, Fault}
-use Rattle.cob_meaning.specs.Files.{Choice}
-use Rattle.cob_meaning.specs.State.{World, Doing, rest, paras, testing, augmenting}
-use Rattle.cob_meaning.specs.Effects.{act_at}
-use Rattle.cob_meaning.specs.Runs.{Contents, choice_at}
+use Rattle.cob_runs.specs.Files.{Choice}
+use Rattle.cob_runs.specs.State.{World, Doing, rest, paras, testing, augmenting}
+use Rattle.cob_runs.specs.Effects.{act_at}
+use Rattle.cob_runs.specs.Runs.{Contents, choice_at}
 use Rattle.cob_flow.specs.declared.graph.Graph.{Graph}
 use Rattle.cob_flow.specs.Laid.{LaidList, LaidAct, performing, LaidBody, LaidParas}
 use Rattle.cob_flow.specs.Places.{first_of_list, first_of_paras, tests_at, augment_at}

@@ -3,8 +3,8 @@ use Rattle.std.proofs.Common.{◌≡◌, ℕ, zero, suc, ◌+◌, ◌-◌, ◌�
 use Rattle.std.specs.Prelude.{slice_get}
 use Rattle.std.specs.Option.{option_map_or}
 use Rattle.cob_program.specs.Act.{Stmts, no_stmts, more_stmts, Body, range, inline, Para, Program}
-use Rattle.cob_meaning.specs.State.{Doing, rest, paras, testing, augmenting}
-use Rattle.cob_meaning.specs.Steps.{body_at, begun, entered, settled, gone_to, body_of}
+use Rattle.cob_runs.specs.State.{Doing, rest, paras, testing, augmenting}
+use Rattle.cob_runs.specs.Steps.{body_at, begun, entered, settled, gone_to, body_of}
 use Rattle.cob_flow.specs.Laid.{LaidList, no_laid, more_laid, LaidBody, own_list, copy, LaidParas, no_laid_paras, more_laid_paras, list_size}
 use Rattle.cob_flow.specs.Places.{first_of_list, first_of_paras, first_of_para, first_of_body}
 use Rattle.cob_flow.specs.Nodes.{Copied, list_nodes, paras_nodes, body_nodes, copied_in}

@@ -6,9 +6,9 @@ use Rattle.cob_tree.specs.declared.fault.Kind.{Kind}
 use Rattle.cob_program.specs.Act.{Stmts, no_stmts, Para}
 use Rattle.cob_meaning.specs.declared.straight.Outcome.{Outcome}
 use Rattle.cob_meaning.specs.declared.straight.Outcome.TheVariants.{Going, Ended, IoStop, Fault}
-use Rattle.cob_meaning.specs.State.{World, Doing, rest, paras, State, state, going}
-use Rattle.cob_meaning.specs.Steps.{body_at, settled, settle, settled_on, faulty_or, step, number_of, front_done}
-use Rattle.cob_meaning.specs.Runs.{first_world, begin, run}
+use Rattle.cob_runs.specs.State.{World, Doing, rest, paras, State, state, going}
+use Rattle.cob_runs.specs.Steps.{body_at, settled, settle, settled_on, faulty_or, step, number_of, front_done}
+use Rattle.cob_runs.specs.Runs.{first_world, begin, run}
 use Rattle.cob_flow.specs.Laid.{no_laid, more_laid, LaidParas, no_laid_paras, more_laid_paras, list_size, paras_size}
 use Rattle.cob_flow.specs.Places.{first_of_paras}
 use Rattle.cob_flow.specs.Nodes.{list_nodes, paras_nodes}

@@ -8,10 +8,10 @@ use Rattle.cob_tree.specs.declared.fault.Kind.TheVariants as kind
 use Rattle.cob_data.specs.declared.layout.Layout.{Layout}
 use Rattle.cob_program.specs.declared.act.Target.{Target}
 use Rattle.cob_program.specs.Sum.{Sum}
-use Rattle.cob_meaning.specs.Faults.{◌>>=◌}
-use Rattle.cob_meaning.specs.Computing.{Receiving, receiving, received, own_worth, stored_result, result, receive, receive_all, remainder_received, after_divisors, after_arithmetic, are_numeric, items_in, worth, has_zero_divisor}
-use Rattle.cob_meaning.specs.State.{World, with_storage}
-use Rattle.cob_meaning.specs.Acts.{compute}
+use Rattle.cob_runs.specs.Faults.{◌>>=◌}
+use Rattle.cob_runs.specs.Computing.{Receiving, receiving, received, own_worth, stored_result, result, receive, receive_all, remainder_received, after_divisors, after_arithmetic, are_numeric, items_in, worth, has_zero_divisor}
+use Rattle.cob_runs.specs.State.{World, with_storage}
+use Rattle.cob_runs.specs.Acts.{compute}
 
 abbrev IsMet : Result Receiving Kind → Type 0
 IsMet (Ok r) = r.failed ≡ false

@@ -7,14 +7,14 @@ use Rattle.cob_program.specs.declared.act.Target.{Target}
 use Rattle.cob_program.specs.Sum.{Sum}
 use Rattle.cob_program.specs.Logic.{Logic}
 use Rattle.cob_program.specs.Act.{Stmts, Phrase, left_out, given, Act, arith as arithmetic, if_}
-use Rattle.cob_meaning.specs.declared.action.Action.{Action}
-use Rattle.cob_meaning.specs.declared.action.Action.TheVariants as action
-use Rattle.cob_meaning.specs.Faults.{◌>>=◌}
-use Rattle.cob_meaning.specs.Deciding.{logic_holds}
-use Rattle.cob_meaning.specs.State.{World, Doing, rest, State, going}
-use Rattle.cob_meaning.specs.Acts.{compute}
-use Rattle.cob_meaning.specs.Steps.{is_given, list_of}
-use Rattle.cob_meaning.specs.Effects.{effect_of, met, taken, taken_if, act_at, tests_of}
+use Rattle.cob_runs.specs.declared.action.Action.{Action}
+use Rattle.cob_runs.specs.declared.action.Action.TheVariants as action
+use Rattle.cob_runs.specs.Faults.{◌>>=◌}
+use Rattle.cob_runs.specs.Deciding.{logic_holds}
+use Rattle.cob_runs.specs.State.{World, Doing, rest, State, going}
+use Rattle.cob_runs.specs.Acts.{compute}
+use Rattle.cob_runs.specs.Steps.{is_given, list_of}
+use Rattle.cob_runs.specs.Effects.{effect_of, met, taken, taken_if, act_at, tests_of}
 use Rattle.cob_flow.specs.Laid.{LaidList, LaidPhrase, no_phrase, a_phrase, computing, deciding, tests_in, phrase_size, list_size}
 use Rattle.cob_flow.specs.Places.{first_of_list}
 use Rattle.cob_flow.specs.Nodes.{Copied, list_nodes, phrase_nodes, logic_nodes}

@@ -4,10 +4,10 @@ use Rattle.std.specs.Prelude.{Contains}
 use Rattle.std.specs.Option.{option_map_or}
 use Rattle.cob_tree.specs.declared.fault.Kind.{Kind}
 use Rattle.cob_program.specs.Act.{Act}
-use Rattle.cob_meaning.specs.declared.action.Action.{Action}
-use Rattle.cob_meaning.specs.Files.{Choice}
-use Rattle.cob_meaning.specs.State.{World}
-use Rattle.cob_meaning.specs.Effects.{Effect, effect, effect_of, not_taken, act_at, status, status_of}
+use Rattle.cob_runs.specs.declared.action.Action.{Action}
+use Rattle.cob_runs.specs.Files.{Choice}
+use Rattle.cob_runs.specs.State.{World}
+use Rattle.cob_runs.specs.Effects.{Effect, effect, effect_of, not_taken, act_at, status, status_of}
 use Rattle.cob_flow.specs.declared.graph.Node.{Node}
 use Rattle.cob_flow.specs.Laid.{one_if}
 use Rattle.cob_flow.specs.Nodes.{Copied, node}

@@ -6,8 +6,8 @@ use Rattle.cob_data.specs.declared.end.Which.{Which}
 use Rattle.cob_data.specs.declared.end.Which.TheVariants.{Cells, Nodes}
 use Rattle.cob_data.specs.declared.layout.Item.{Item}
 use Rattle.cob_program.specs.Act.{Turns, times, Stmt, MkStmt, Stmts, no_stmts, more_stmts, Phrase, left_out, given, Act, arith, if_, evaluate, perform, read, Whens, no_whens, more_whens, MkWhen, Body, range, inline, Para, Program}
-use Rattle.cob_meaning.specs.declared.action.Action.{Action}
-use Rattle.cob_meaning.specs.declared.action.Cell.{Cell}
+use Rattle.cob_runs.specs.declared.action.Action.{Action}
+use Rattle.cob_runs.specs.declared.action.Cell.{Cell}
 use Rattle.cob_flow.specs.declared.graph.Node.{Node}
 use Rattle.cob_flow.specs.declared.graph.Edge.{Edge}
 use Rattle.cob_flow.specs.declared.graph.Graph.{Graph}

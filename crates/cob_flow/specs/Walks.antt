@@ -4,14 +4,14 @@ use Rattle.std.specs.Option.{option_map}
 use Rattle.cob_tree.specs.declared.fault.Kind.{Kind}
 use Rattle.cob_program.specs.Logic.{Logic, all_of, any_of, not_, test, Logics, no_logics, more_logics}
 use Rattle.cob_program.specs.Act.{Turns, until, varying, MkStmt, Stmts, no_stmts, more_stmts, Phrase, left_out, given, Act, arith, if_, evaluate, perform, open_files, close_files, read, write, Whens, no_whens, more_whens, MkWhen, Body, range, inline, Para, Program}
-use Rattle.cob_meaning.specs.declared.action.Action.{Action}
+use Rattle.cob_runs.specs.declared.action.Action.{Action}
 use Rattle.cob_meaning.specs.declared.straight.Outcome.{Outcome}
 use Rattle.cob_meaning.specs.declared.straight.Outcome.TheVariants.{Going, Ended, IoStop, Fault}
-use Rattle.cob_meaning.specs.Acts.{file_from}
-use Rattle.cob_meaning.specs.Files.{Choice}
-use Rattle.cob_meaning.specs.State.{World, State}
-use Rattle.cob_meaning.specs.Effects.{effect, status, act_at}
-use Rattle.cob_meaning.specs.Runs.{Contents, first_world, run, choice_at}
+use Rattle.cob_runs.specs.Acts.{file_from}
+use Rattle.cob_runs.specs.Files.{Choice}
+use Rattle.cob_runs.specs.State.{World, State}
+use Rattle.cob_runs.specs.Effects.{effect, status, act_at}
+use Rattle.cob_runs.specs.Runs.{Contents, first_world, run, choice_at}
 use Rattle.cob_flow.specs.declared.graph.Node.{Node}
 use Rattle.cob_flow.specs.declared.graph.Edge.{Edge}
 use Rattle.cob_flow.specs.declared.graph.Graph.{Graph}

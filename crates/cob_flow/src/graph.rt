@@ -1,4 +1,4 @@
-use cob_meaning::{Action, Cell};
+use cob_runs::{Action, Cell};
 use cob_tree::Many;
 
 /// A place of a program's control, numbered from 1. `sites` are the numbers of the PERFORMs in whose copies it lies,

@@ -3,12 +3,10 @@
 //! Nothing here knows of graphs, intervals or certificates.
 #![tactic(auto)]
 
-mod action;
 mod run;
 mod straight;
 #[cfg(test)]
 mod tests;
 
-pub use action::{Action, Cell};
 pub use run::outcome_after;
 pub use straight::{Outcome, Simple, Straight};

@@ -4,7 +4,7 @@ use Rattle.std.specs.Option.{option_map, option_map_or}
 use Rattle.cob_data.specs.declared.layout.FileDecl.{FileDecl}
 use Rattle.cob_data.specs.declared.layout.Layout.{Layout}
 use Rattle.cob_program.specs.declared.act.Opening.{Opening}
-use Rattle.cob_meaning.specs.Contents.{area, written, fitted, bytes_at, filled_at}
+use Rattle.cob_runs.specs.Contents.{area, written, fitted, bytes_at, filled_at}
 
 -- not open, open for reading (and whether the end was met), open for writing
 pub data Mode : Type 0 where

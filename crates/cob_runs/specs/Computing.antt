@@ -16,8 +16,8 @@ use Rattle.cob_program.specs.declared.act.How.TheVariants as how
 use Rattle.cob_program.specs.Sum.{Sum, MkSum, Parts, no_parts, more_parts, Part, MkPart, Factors, no_factors, more_factors, MkFactor, Atom, item, number, group}
 use Rattle.cob_program.specs.Values as value
 use Rattle.cob_program.specs.Values.{whole_number, negated, plus, product, sum_value, product_from, atom_value, Root, root_of, exact_quotient, stored_value}
-use Rattle.cob_meaning.specs.Contents.{form_at, scale_of, scaled_by, filled_at, number_at, stored}
-use Rattle.cob_meaning.specs.Faults.{◌>>=◌, or_fault}
+use Rattle.cob_runs.specs.Contents.{form_at, scale_of, scaled_by, filled_at, number_at, stored}
+use Rattle.cob_runs.specs.Faults.{◌>>=◌, or_fault}
 
 -- ---- operands
 

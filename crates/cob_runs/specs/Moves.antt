@@ -13,8 +13,8 @@ use Rattle.cob_data.specs.declared.layout.Sender.{Sender}
 use Rattle.cob_data.specs.declared.layout.Sender.TheVariants as sender
 use Rattle.num_bytes.specs.Digits.{last_digits, digit_text}
 use Rattle.cob_program.specs.Values.{whole_number, literal}
-use Rattle.cob_meaning.specs.Contents.{fitted, form_at, length_at, bytes_at, filled_at, number_in, number_at, stored}
-use Rattle.cob_meaning.specs.Faults.{◌>>=◌, or_fault}
+use Rattle.cob_runs.specs.Contents.{fitted, form_at, length_at, bytes_at, filled_at, number_in, number_at, stored}
+use Rattle.cob_runs.specs.Faults.{◌>>=◌, or_fault}
 
 -- a numeric or edited item
 abbrev pub takes_number : Form → Bool

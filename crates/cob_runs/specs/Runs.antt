@@ -9,11 +9,11 @@ use Rattle.cob_data.specs.declared.layout.Sender.{Sender}
 use Rattle.cob_program.specs.Act.{Program}
 use Rattle.cob_meaning.specs.declared.straight.Outcome.{Outcome}
 use Rattle.cob_meaning.specs.declared.straight.Outcome.TheVariants.{Going, Fault}
-use Rattle.cob_meaning.specs.Contents.{written, fitted}
-use Rattle.cob_meaning.specs.Moves.{moved}
-use Rattle.cob_meaning.specs.Files.{File, file, closed, Choice}
-use Rattle.cob_meaning.specs.State.{World, rest, paras, State, going}
-use Rattle.cob_meaning.specs.Steps.{body_at, settled_state, step}
+use Rattle.cob_runs.specs.Contents.{written, fitted}
+use Rattle.cob_runs.specs.Moves.{moved}
+use Rattle.cob_runs.specs.Files.{File, file, closed, Choice}
+use Rattle.cob_runs.specs.State.{World, rest, paras, State, going}
+use Rattle.cob_runs.specs.Steps.{body_at, settled_state, step}
 
 -- ---- the beginning
 

@@ -7,16 +7,16 @@ use Rattle.cob_tree.specs.declared.fault.Kind.{Kind}
 use Rattle.cob_data.specs.declared.layout.Sender.{Sender}
 use Rattle.cob_program.specs.declared.act.Opening.{Opening}
 use Rattle.cob_program.specs.Act.{Act, open_files, close_files, write}
-use Rattle.cob_meaning.specs.declared.action.Action.{Action}
-use Rattle.cob_meaning.specs.declared.action.Action.TheVariants as action
+use Rattle.cob_runs.specs.declared.action.Action.{Action}
+use Rattle.cob_runs.specs.declared.action.Action.TheVariants as action
 use Rattle.cob_meaning.specs.declared.straight.Outcome.{Outcome}
 use Rattle.cob_meaning.specs.declared.straight.Outcome.TheVariants.{Going, Ended, IoStop, Fault}
-use Rattle.cob_meaning.specs.Faults.{◌>>=◌}
-use Rattle.cob_meaning.specs.State.{World, Doing, state}
-use Rattle.cob_meaning.specs.Acts.{has_status, is_fine, open_one, close_one, write_one, file_from, move_if}
-use Rattle.cob_meaning.specs.Steps.{outcome_of, unless_over, each_from, written_by}
-use Rattle.cob_meaning.specs.Effects.{effect_of, met, taken, taken_if, act_at, by_status, status_of, status_in}
-use Rattle.cob_meaning.specs.Effects as effect
+use Rattle.cob_runs.specs.Faults.{◌>>=◌}
+use Rattle.cob_runs.specs.State.{World, Doing, state}
+use Rattle.cob_runs.specs.Acts.{has_status, is_fine, open_one, close_one, write_one, file_from, move_if}
+use Rattle.cob_runs.specs.Steps.{outcome_of, unless_over, each_from, written_by}
+use Rattle.cob_runs.specs.Effects.{effect_of, met, taken, taken_if, act_at, by_status, status_of, status_in}
+use Rattle.cob_runs.specs.Effects as effect
 use Rattle.cob_flow.specs.Nodes.{bad_to, open_nodes, close_nodes, write_nodes, write_edges}
 use Rattle.cob_flow.specs.Walks.{final_in}
 use Rattle.cob_flow.proofs.Fronts.{Runs}

@@ -10,11 +10,11 @@ use Rattle.cob_program.specs.Act.{Turns, once, times, until, varying, Stmt, MkSt
 use Rattle.cob_program.specs.Act as act
 use Rattle.cob_meaning.specs.declared.straight.Outcome.{Outcome}
 use Rattle.cob_meaning.specs.declared.straight.Outcome.TheVariants.{Going, Ended, IoStop, Fault}
-use Rattle.cob_meaning.specs.Faults.{◌>>=◌}
-use Rattle.cob_meaning.specs.Deciding.{logic_holds, some_holds}
-use Rattle.cob_meaning.specs.Files.{Choice}
-use Rattle.cob_meaning.specs.State.{World, Doing, rest, paras, testing, augmenting, State, state, going}
-use Rattle.cob_meaning.specs.Acts.{move, compute, show, count_of, set_count, count_down, set_varied, augment, has_status, is_fine, open_one, close_one, read_one, write_one, file_from, move_if}
+use Rattle.cob_runs.specs.Faults.{◌>>=◌}
+use Rattle.cob_runs.specs.Deciding.{logic_holds, some_holds}
+use Rattle.cob_runs.specs.Files.{Choice}
+use Rattle.cob_runs.specs.State.{World, Doing, rest, paras, testing, augmenting, State, state, going}
+use Rattle.cob_runs.specs.Acts.{move, compute, show, count_of, set_count, count_down, set_varied, augment, has_status, is_fine, open_one, close_one, read_one, write_one, file_from, move_if}
 
 -- ---- what comes next
 

@@ -17,10 +17,10 @@ use Rattle.num_bytes.specs.Reading.{contents_value}
 use Rattle.cob_program.specs.Sum.{Sum}
 use Rattle.cob_program.specs.Values.{sum_value}
 use Rattle.cob_program.specs.Logic.{Test, numbers, texts, member, numeric, always, Logic, all_of, any_of, not_, test, Logics, no_logics, more_logics}
-use Rattle.cob_meaning.specs.Contents.{fitted, form_at, length_at, bytes_at, digits_of, number_at}
-use Rattle.cob_meaning.specs.Faults.{◌>>=◌, or_fault}
-use Rattle.cob_meaning.specs.Moves.{number_of, text_of}
-use Rattle.cob_meaning.specs.Computing.{items_in, are_numeric, worth}
+use Rattle.cob_runs.specs.Contents.{fitted, form_at, length_at, bytes_at, digits_of, number_at}
+use Rattle.cob_runs.specs.Faults.{◌>>=◌, or_fault}
+use Rattle.cob_runs.specs.Moves.{number_of, text_of}
+use Rattle.cob_runs.specs.Computing.{items_in, are_numeric, worth}
 
 -- ---- order
 

@@ -14,13 +14,13 @@ use Rattle.cob_program.specs.declared.act.Opening.{Opening}
 use Rattle.cob_program.specs.declared.act.Target.{Target}
 use Rattle.cob_program.specs.Sum.{Sum}
 use Rattle.cob_program.specs.Values.{plus}
-use Rattle.cob_meaning.specs.Contents.{area, fitted, form_at, length_at, bytes_at, filled_at, number_at, stored}
-use Rattle.cob_meaning.specs.Faults.{◌>>=◌, or_fault}
-use Rattle.cob_meaning.specs.Moves.{number_of, after_move}
-use Rattle.cob_meaning.specs.Computing.{Receiving, after_arithmetic}
-use Rattle.cob_meaning.specs.Showing.{line_of}
-use Rattle.cob_meaning.specs.Files.{File, Choice, Taken, opened, after_close, after_read, after_write, with_status, chosen_in, record_in}
-use Rattle.cob_meaning.specs.State.{World, with_storage, with_counts, with_files, with_shown}
+use Rattle.cob_runs.specs.Contents.{area, fitted, form_at, length_at, bytes_at, filled_at, number_at, stored}
+use Rattle.cob_runs.specs.Faults.{◌>>=◌, or_fault}
+use Rattle.cob_runs.specs.Moves.{number_of, after_move}
+use Rattle.cob_runs.specs.Computing.{Receiving, after_arithmetic}
+use Rattle.cob_runs.specs.Showing.{line_of}
+use Rattle.cob_runs.specs.Files.{File, Choice, Taken, opened, after_close, after_read, after_write, with_status, chosen_in, record_in}
+use Rattle.cob_runs.specs.State.{World, with_storage, with_counts, with_files, with_shown}
 
 abbrev pub is_fine : ℕ → Bool
 is_fine status = status == 0

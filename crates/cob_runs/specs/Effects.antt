@@ -7,14 +7,14 @@ use Rattle.cob_program.specs.declared.act.Opening.{Opening}
 use Rattle.cob_program.specs.Logic.{Test, always, Logic, all_of, any_of, not_, test, Logics, no_logics, more_logics}
 use Rattle.cob_program.specs.Act.{Turns, once, times, until, varying, Stmt, MkStmt, Stmts, no_stmts, more_stmts, Phrase, left_out, given, Act, arith, if_, evaluate, perform, open_files, close_files, read, write, Whens, no_whens, more_whens, MkWhen, Body, range, inline, Para, Program}
 use Rattle.cob_program.specs.Act as act
-use Rattle.cob_meaning.specs.declared.action.Action.{Action}
-use Rattle.cob_meaning.specs.declared.action.Action.TheVariants as action
-use Rattle.cob_meaning.specs.Faults.{◌>>=◌}
-use Rattle.cob_meaning.specs.Deciding.{test_holds}
-use Rattle.cob_meaning.specs.Files.{Choice}
-use Rattle.cob_meaning.specs.State.{World}
-use Rattle.cob_meaning.specs.Acts.{move, compute, show, count_of, set_count, count_down, set_varied, augment, has_status, is_fine, open_one, close_one, take_one, into_if, write_one, file_from, move_if}
-use Rattle.cob_meaning.specs.Steps.{is_given, is_left}
+use Rattle.cob_runs.specs.declared.action.Action.{Action}
+use Rattle.cob_runs.specs.declared.action.Action.TheVariants as action
+use Rattle.cob_runs.specs.Faults.{◌>>=◌}
+use Rattle.cob_runs.specs.Deciding.{test_holds}
+use Rattle.cob_runs.specs.Files.{Choice}
+use Rattle.cob_runs.specs.State.{World}
+use Rattle.cob_runs.specs.Acts.{move, compute, show, count_of, set_count, count_down, set_varied, augment, has_status, is_fine, open_one, close_one, take_one, into_if, write_one, file_from, move_if}
+use Rattle.cob_runs.specs.Steps.{is_given, is_left}
 
 -- ---- the statement with a number
 

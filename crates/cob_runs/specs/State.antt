@@ -3,7 +3,7 @@ use Rattle.std.specs.Prelude.{ℕ, Bool, List, [], ◌∷◌, ◌++◌, Option, 
 use Rattle.cob_meaning.specs.declared.straight.Outcome.{Outcome}
 use Rattle.cob_meaning.specs.declared.straight.Outcome.TheVariants.{Going}
 use Rattle.cob_program.specs.Act.{Stmts, Body, Turns}
-use Rattle.cob_meaning.specs.Files.{File}
+use Rattle.cob_runs.specs.Files.{File}
 
 -- Storage; the count of each PERFORM with TIMES, by its statement's number, if it has one; the files; the text that is
 -- shown.

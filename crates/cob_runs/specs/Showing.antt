@@ -9,7 +9,7 @@ use Rattle.cob_data.specs.declared.layout.Sender.{Sender}
 use Rattle.cob_data.specs.declared.layout.Sender.TheVariants as sender
 use Rattle.num_bytes.specs.Digits.{last_digits, digit_text}
 use Rattle.num_bytes.specs.Writing.{is_minus}
-use Rattle.cob_meaning.specs.Contents.{form_at, bytes_at, number_in}
+use Rattle.cob_runs.specs.Contents.{form_at, bytes_at, number_in}
 
 abbrev pub minus_if : Bool → List ℕ
 minus_if b = if b then 45 ∷ [] else []

@@ -1,0 +1,12 @@
+pub mod Contents
+pub mod Faults
+pub mod Moves
+pub mod Computing
+pub mod Deciding
+pub mod Showing
+pub mod Files
+pub mod State
+pub mod Acts
+pub mod Steps
+pub mod Effects
+pub mod Runs
