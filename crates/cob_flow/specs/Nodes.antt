@@ -158,7 +158,7 @@ abbrev mutual
   whens_nodes c number no_laid_whens k at other next = []
   whens_nodes c number (more_laid_whens ts xs ws) k at other next =
       any_nodes c number false (logics_of ts) k at (first_of_list xs (at + tests_among (logics_of ts)) next)
-        (first_of_whens ws (at + tests_among (logics_of ts) + list_size xs) other next)
+      (first_of_whens ws (at + tests_among (logics_of ts) + list_size xs) other next)
       ++ list_nodes c xs (at + tests_among (logics_of ts)) next
       ++ whens_nodes c number ws (k + tests_among (logics_of ts)) (at + tests_among (logics_of ts) + list_size xs) other next
 

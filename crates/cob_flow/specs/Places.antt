@@ -43,7 +43,7 @@ abbrev pub first_of_whens : LaidWhens → ℕ → ℕ → ℕ → ℕ
 first_of_whens no_laid_whens at other next = other
 first_of_whens (more_laid_whens ts xs ws) at other next =
     first_of_any (logics_of ts) at (first_of_list xs (at + tests_among (logics_of ts)) next)
-      (first_of_whens ws (at + tests_among (logics_of ts) + list_size xs) other next)
+    (first_of_whens ws (at + tests_among (logics_of ts) + list_size xs) other next)
 
 -- ---- loops: where the parts of one that begins at a node stand
 
