@@ -1,1 +1,3 @@
+mod CellLemmas
 mod Examples
+mod Loops

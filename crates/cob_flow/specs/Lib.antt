@@ -5,3 +5,5 @@ pub mod Copies
 pub mod Graphs
 pub mod Nesting
 pub mod Walks
+pub mod Views
+pub mod Steps

@@ -1,6 +1,7 @@
 //! The control graph of a program: what a step may be, from where to where.
 #![tactic(auto)]
 
+mod cells;
 mod end;
 mod graph;
 
