@@ -1,3 +1,4 @@
 mod CellLemmas
 mod Examples
 mod Loops
+mod SizeLoops

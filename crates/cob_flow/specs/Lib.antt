@@ -7,3 +7,5 @@ pub mod Nesting
 pub mod Walks
 pub mod Views
 pub mod Steps
+pub mod Sizes
+pub mod Tables
