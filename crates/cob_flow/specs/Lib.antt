@@ -9,3 +9,4 @@ pub mod Views
 pub mod Steps
 pub mod Sizes
 pub mod Tables
+pub mod Growing

@@ -82,3 +82,8 @@ pub record IsEntry (p : Program) (es : List Entry) (e : Entry) : Type 0 where
 abbrev pub IsTable : Program → List Entry → Type 0
 IsTable p [] = Unit {0}
 IsTable p (e ∷ es) = IsEntry p es e × IsTable p es
+
+-- the table behind a range's entry
+abbrev pub rest_in : List Entry → ℕ → ℕ → Option (List Entry)
+rest_in [] first last = None
+rest_in (e ∷ es) first last = if is_for e first last then Some es else rest_in es first last

@@ -23,9 +23,9 @@ pub struct Entry {
 }
 
 /// A greater count is told as this.
-const MOST_TOLD: u64 = 1_000_000_000;
+pub const MOST_TOLD: u64 = 1_000_000_000;
 
-fn plus(one: u64, two: u64) -> u64
+pub fn plus(one: u64, two: u64) -> u64
     ensures { result ≡ min (one + two) most_told }
 {
     (one.min(MOST_TOLD) + two.min(MOST_TOLD)).min(MOST_TOLD)
@@ -33,7 +33,7 @@ fn plus(one: u64, two: u64) -> u64
 
 // ---- the table
 
-fn is_for(entry: &Entry, first: u32, last: u32) -> bool
+pub fn is_for(entry: &Entry, first: u32, last: u32) -> bool
     ensures { result ≡ is_for entry.now first last }
 {
     entry.first == first && entry.last == last
@@ -56,7 +56,7 @@ fn size_in(table: &[Entry], first: u32, last: u32) -> u64
     told_size(table, first, last).unwrap_or(0)
 }
 
-fn is_in(table: &[Entry], first: u32, last: u32) -> bool
+pub fn is_in(table: &[Entry], first: u32, last: u32) -> bool
     ensures { result ≡ is_in table.now first last }
 {
     told_size(table, first, last).is_some()
@@ -179,7 +179,7 @@ fn act_size(table: &[Entry], act: &Act) -> u64
 }
 
 #[cycle(sizes)]
-fn whens_size(table: &[Entry], whens: &[When]) -> u64
+pub fn whens_size(table: &[Entry], whens: &[When]) -> u64
     ensures { result ≡ min (stmt_whens_size (size_in table.now) (plain_whens whens.now)) most_told }
 {
     let mut sum = 0;
@@ -197,7 +197,7 @@ fn when_size(table: &[Entry], when: &When) -> u64
 }
 
 #[cycle(sizes)]
-fn body_size(table: &[Entry], body: &Body) -> u64
+pub fn body_size(table: &[Entry], body: &Body) -> u64
     ensures { result ≡ min (stmt_body_size (size_in table.now) (plain_body body.now)) most_told }
 {
     match body {

@@ -1,0 +1,114 @@
+//! The graph of a program.
+ghost use Rattle.std.specs.Prelude.{◌≡◌, ℕ, IfOk};
+ghost use Rattle.cob_data.specs.declared.end.Which.{Which};
+ghost use Rattle.cob_data.specs.declared.end.Rule.{Rule};
+ghost use Rattle.cob_program.specs.ActView.{plain_program};
+ghost use Rattle.cob_flow.specs.declared.end.FlowEnd.TheVariants as end;
+ghost use Rattle.cob_flow.specs.Nesting.{IsNested};
+ghost use Rattle.cob_flow.specs.Graphs.{IsGraph, IsOver};
+
+use crate::cells::cells_of;
+use crate::counting::{Entry, plus, range_fits, range_size, table_of};
+use crate::end::FlowEnd;
+use crate::graph::{Edge, Graph, Node};
+use crate::laying::Laying;
+use crate::numbers::exact;
+use crate::within::Within;
+use cob_data::Which;
+use cob_meaning::Cell;
+use cob_program::Program;
+use cob_tree::Many;
+use std::alloc::{AllocError, Global};
+
+/// More cells are refused.
+const MOST_CELLS: u64 = 512;
+
+/// More nodes are refused.
+const MOST_NODES: u64 = 4096;
+
+/// How deep calls are nested at most while nodes are laid.
+const DEPTH: u32 = 40_000;
+
+impl From<AllocError> for FlowEnd {
+    ghost from_gives = { λ _ e. e ≡ end.Memory };
+
+    fn from(_failed: AllocError) -> FlowEnd {
+        FlowEnd::Memory
+    }
+}
+
+/// The nodes and edges of a program with this table and so many paragraphs, where each performed range is in the table.
+fn lay_all(
+    alloc: Global,
+    program: &Program,
+    table: &[Entry],
+    paras: u32,
+    nodes: u32,
+) -> Result<(Many<Node>, Many<Edge>), AllocError> {
+    let mut laying = Laying::new(alloc);
+    let main = Within {
+        program,
+        table,
+        sites: &[],
+        first: 0,
+        end: paras,
+        at: 1,
+        next: nodes,
+        final_node: nodes,
+    };
+    laying.lay_paras(&main, DEPTH)?;
+    laying.add_final()?;
+    Ok(laying.parts())
+}
+
+fn laid(
+    alloc: Global,
+    program: &Program,
+    cells: Vec<Cell>,
+    paras: u32,
+) -> Result<Graph, FlowEnd> {
+    let table = table_of(alloc, program)?;
+    if !range_fits(program, &table, 0, paras.saturating_sub(1), 0, paras) {
+        return Err(FlowEnd::Memory);
+    }
+    let count = plus(1, range_size(program, &table, 0, paras));
+    if count > MOST_NODES {
+        return Err(FlowEnd::Limit {
+            which: Which::Nodes,
+            count,
+        });
+    }
+    let (nodes, edges) = lay_all(alloc, program, &table, paras, exact(count)?)?;
+    Ok(Graph {
+        nodes,
+        edges,
+        cells: Many::of(cells),
+    })
+}
+
+/// The control graph of a program whose PERFORMs nest. What isn't so, counts as want of memory.
+pub fn graph_of(alloc: Global, program: &Program) -> Result<Graph, FlowEnd>
+    requires { IsNested (plain_program program.now) }
+    ensures graph { IfOk result (λ g. IsGraph (plain_program program.now) g) }
+    ensures limit { (which : Which) (count : ℕ) → result ≡ Err (end.Limit which count) → IsOver (plain_program program.now) which count }
+    ensures inside { (rule : Rule) (line : ℕ) → result ≡ Err (end.Outside rule line) → ⊥ }
+{
+    let cells = cells_of(alloc, program)?;
+    let count = cells.len() as u64;
+    if count > MOST_CELLS {
+        return Err(FlowEnd::Limit {
+            which: Which::Cells,
+            count,
+        });
+    }
+    let paras = paras_of(program)?;
+    laid(alloc, program, cells, paras)
+}
+
+/// How many paragraphs it has.
+fn paras_of(program: &Program) -> Result<u32, AllocError> {
+    match u32::try_from(program.paras.get().len()) {
+        Err(_) => Err(AllocError),
+        Ok(count) => Ok(count),
+    }
+}
