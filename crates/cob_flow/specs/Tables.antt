@@ -74,14 +74,18 @@ copy_in p [] first last = no_laid_paras
 copy_in p (e ∷ es) first last =
     if is_for e first last then lay_paras p (copy_in p es) first (suc last - first) else copy_in p es first last
 
--- what an entry says, behind which others stand
-pub record IsEntry (p : Program) (es : List Entry) (e : Entry) : Type 0 where
-  pub fits : range_fits (is_in es) e.first e.last p e.first (suc e.last - e.first) ≡ true
-  pub told : e.size ≡ min (range_size (size_in es) p e.first (suc e.last - e.first)) most_told
+-- whether an entry, behind which others stand, can be copied from them and has the size that they tell
+abbrev pub is_entry : Program → List Entry → Entry → Bool
+is_entry p es e =
+    range_fits (is_in es) e.first e.last p e.first (suc e.last - e.first)
+    && (e.size == min (range_size (size_in es) p e.first (suc e.last - e.first)) most_told)
+
+abbrev pub is_table : Program → List Entry → Bool
+is_table p [] = true
+is_table p (e ∷ es) = is_entry p es e && is_table p es
 
 abbrev pub IsTable : Program → List Entry → Type 0
-IsTable p [] = Unit {0}
-IsTable p (e ∷ es) = IsEntry p es e × IsTable p es
+IsTable p es = is_table p es ≡ true
 
 -- the table behind a range's entry
 abbrev pub rest_in : List Entry → ℕ → ℕ → Option (List Entry)

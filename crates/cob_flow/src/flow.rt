@@ -61,7 +61,7 @@ fn lay_all(
     Ok(laying.parts())
 }
 
-fn laid(
+pub fn laid(
     alloc: Global,
     program: &Program,
     cells: Vec<Cell>,

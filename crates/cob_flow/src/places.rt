@@ -1,6 +1,6 @@
 //! Where control goes: the first node of what follows, by the number at which it begins and what follows that.
 ghost use Rattle.std.specs.Prelude.{◌≡◌, ◌+◌, ◌-◌, ℕ, IfOk};
-ghost use Rattle.cob_program.specs.Act.{Program};
+ghost use Rattle.cob_program.specs.Act as act;
 ghost use Rattle.cob_program.specs.ActView.{plain_stmt, plain_program, plain_body, plain_turns};
 ghost use Rattle.cob_program.specs.LogicView.{plain_logic};
 ghost use Rattle.cob_meaning.specs.Acts.{has_status};
@@ -156,7 +156,7 @@ fn has_status(layout: &Layout, file: u32) -> bool
 
 /// The first node of a list of statements.
 pub fn first_of_list(list: &[Stmt], at: u32, next: u32) -> u32
-    ensures { (p : Program) (copies : ℕ → ℕ → LaidParas) → result ≡ first_of_list (lay_list p copies (plain_stmts list.now)) at next }
+    ensures { (p : act.Program) (copies : ℕ → ℕ → LaidParas) → result ≡ first_of_list (lay_list p copies (plain_stmts list.now)) at next }
 {
     match list {
         [] => next,
