@@ -1,8 +1,11 @@
 mod CellLemmas
 mod Cuts
+mod Exact
 mod Examples
+mod FlowLemmas
 mod Growth
 mod LayLemmas
 mod Loops
+mod PlaceLemmas
 mod SizeLemmas
 mod SizeLoops

@@ -152,7 +152,7 @@ table_sizes p (e ∷ es) h first last =
       (λ no_. table_sizes p es (others p es e h) first last)
 
 pub table_laid : (p : Program) (es : List Entry) → IsTable p es → (first last : ℕ) → is_in es first last ≡ true → AreLaidParas p first last first (suc last - first) (copy_in p es first last)
-table_laid p [] h first last it = absurd (cc)
+table_laid p [] h first last = λ it. absurd (cc)
 table_laid p (e ∷ es) h first last =
     entry_cases (is_for e first last)
       (λ b. is_some (if b then Some e.size else told_size es first last) ≡ true →
@@ -187,7 +187,7 @@ copy_is p (e ∷ es) first last =
       (λ yes_. refl) (λ no_. copy_is p es first last)
 
 pub rest_is_table : (p : Program) (es rest : List Entry) (first last : ℕ) → IsTable p es → rest_in es first last ≡ Some rest → IsTable p rest
-rest_is_table p [] rest first last h it = absurd (cc)
+rest_is_table p [] rest first last h = λ it. absurd (cc)
 rest_is_table p (e ∷ es) rest first last h =
     entry_cases (is_for e first last) (λ b. (if b then Some es else rest_in es first last) ≡ Some rest → IsTable p rest)
       (λ yes_ it. subst (λ xs. IsTable p xs) (some_is es rest it) (others p es e h))

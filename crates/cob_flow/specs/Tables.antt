@@ -1,5 +1,5 @@
 -- Tables of performed ranges, the last one that was added first: each range performs only those behind it.
-use Rattle.std.specs.Prelude.{◌≡◌, min, ℕ, zero, suc, ◌-◌, ◌==◌, ◌&&◌, if◌then◌else◌, Bool, true, List, [], ◌∷◌, Option, Some, None, is_some}
+use Rattle.std.specs.Prelude.{◌≡◌, min, ℕ, zero, suc, ◌-◌, ◌==◌, ◌&&◌, if◌then◌else◌, Bool, true, List, [], ◌∷◌, length, Option, Some, None, is_some}
 use Rattle.std.specs.Option.{option_map_or}
 use Rattle.cob_program.specs.Act.{Stmt, MkStmt, Stmts, no_stmts, more_stmts, Phrase, left_out, given, Act, move, arith, if_, evaluate, perform, go, nothing, stop, open_files, close_files, read, write, show, Whens, no_whens, more_whens, MkWhen, Body, range, inline, Program}
 use Rattle.cob_meaning.specs.Steps.{body_at}
@@ -91,3 +91,7 @@ IsTable p es = is_table p es ≡ true
 abbrev pub rest_in : List Entry → ℕ → ℕ → Option (List Entry)
 rest_in [] first last = None
 rest_in (e ∷ es) first last = if is_for e first last then Some es else rest_in es first last
+
+-- the paragraphs of a program with the copies that a table tells
+abbrev pub main_paras : Program → List Entry → LaidParas
+main_paras p es = lay_paras p (copy_in p es) 0 (length p.paras)

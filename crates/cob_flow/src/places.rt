@@ -11,8 +11,7 @@ ghost use Rattle.cob_flow.specs.Nodes.{bad_to, end_to};
 ghost use Rattle.cob_flow.specs.Tables.{lay_stmt, lay_list, lay_phrase, lay_whens, lay_body, lay_paras};
 ghost use Rattle.cob_flow.specs.Growing.{plan, copies_of, copied_of};
 
-use crate::counting::{body_size, is_in, stmt_size, stmts_size, tests_among, tests_in, whens_size};
-use crate::counting::body_at as paragraph;
+use crate::counting::{body_at, body_size, is_in, stmt_size, stmts_size, tests_among, tests_in, whens_size};
 use crate::numbers::{exact, less, sum_of};
 use crate::within::Within;
 use cob_data::Layout;
@@ -26,14 +25,16 @@ impl<'a> Within<'a> {
     pub fn stmt_nodes(&self, stmt: &Stmt) -> Result<u32, AllocError>
         ensures { IfOk result (λ n. n ≡ size (lay_stmt (plan self.now) (copies_of self.now) (plain_stmt stmt.now))) }
     {
-        exact(stmt_size(self.table, stmt))
+        let nodes = exact(stmt_size(self.table, stmt))?;
+        Ok(nodes)
     }
 
     /// The nodes of statements.
     pub fn list_nodes(&self, list: &[Stmt]) -> Result<u32, AllocError>
         ensures { IfOk result (λ n. n ≡ list_size (lay_list (plan self.now) (copies_of self.now) (plain_stmts list.now))) }
     {
-        exact(stmts_size(self.table, list))
+        let nodes = exact(stmts_size(self.table, list))?;
+        Ok(nodes)
     }
 
     /// The nodes of statements that may be left out.
@@ -50,14 +51,16 @@ impl<'a> Within<'a> {
     pub fn whens_nodes(&self, whens: &[When]) -> Result<u32, AllocError>
         ensures { IfOk result (λ n. n ≡ whens_size (lay_whens (plan self.now) (copies_of self.now) (plain_whens whens.now))) }
     {
-        exact(whens_size(self.table, whens))
+        let nodes = exact(whens_size(self.table, whens))?;
+        Ok(nodes)
     }
 
     /// The nodes of what a PERFORM does.
     pub fn body_nodes(&self, body: &Body) -> Result<u32, AllocError>
         ensures { IfOk result (λ n. n ≡ body_size (lay_body (plan self.now) (copies_of self.now) (plain_body body.now))) }
     {
-        exact(body_size(self.table, body))
+        let nodes = exact(body_size(self.table, body))?;
+        Ok(nodes)
     }
 
     /// The first node of a paragraph.
@@ -71,30 +74,35 @@ impl<'a> Within<'a> {
                 return Ok(first_of_range(self.program, from, self.end, at, self.next));
             }
             skip -= 1;
-            at = sum_of(at, self.list_nodes(paragraph(self.program, from))?)?;
+            at = sum_of(at, self.list_nodes(body_at(self.program, from))?)?;
         }
         Ok(self.next)
     }
 
     /// The first node of what a PERFORM does.
-    pub fn first_of_body(&self, body: &Body, at: u32, next: u32) -> u32
-        ensures { result ≡ first_of_body (lay_body (plan self.now) (copies_of self.now) (plain_body body.now)) at next }
+    pub fn first_of_body(&self, body: &Body, at: u32, next: u32) -> Result<u32, AllocError>
+        ensures { IfOk result (λ n. n ≡ first_of_body (lay_body (plan self.now) (copies_of self.now) (plain_body body.now)) at next) }
     {
         match body {
             Body::Range { first, last } => self.first_of_copy(*first, *last, at, next),
-            Body::Inline(list) => first_of_list(list, at, next),
+            Body::Inline(list) => Ok(first_of_list(list, at, next)),
         }
     }
 
-    fn first_of_copy(&self, first: u32, last: u32, at: u32, next: u32) -> u32
-        ensures { result ≡ first_of_paras (copies_of self.now first last) at next }
+    fn first_of_copy(
+        &self,
+        first: u32,
+        last: u32,
+        at: u32,
+        next: u32,
+    ) -> Result<u32, AllocError>
+        ensures { IfOk result (λ n. n ≡ first_of_paras (copies_of self.now first last) at next) }
     {
-        if !is_in(self.table, first, last) {
-            return next;
-        }
-        match last.checked_add(1) {
-            None => next,
-            Some(end) => first_of_range(self.program, first, end, at, next),
+        if is_in(self.table, first, last) {
+            let end = sum_of(last, 1)?;
+            Ok(first_of_range(self.program, first, end, at, next))
+        } else {
+            Ok(next)
         }
     }
 
@@ -169,7 +177,7 @@ pub fn first_of_range(program: &Program, from: u32, end: u32, at: u32, next: u32
     ensures { (copies : ℕ → ℕ → LaidParas) → result ≡ first_of_paras (lay_paras (plain_program program.now) copies from (end - from)) at next }
 {
     for place in from..end {
-        if !paragraph(program, place).is_empty() {
+        if !body_at(program, place).is_empty() {
             return at;
         }
     }
@@ -245,7 +253,7 @@ pub fn first_of_any(
 // ---- loops
 
 /// Where the body of a loop begins.
-pub fn body_at(turns: &Turns, at: u32) -> Result<u32, AllocError>
+pub fn inner_at(turns: &Turns, at: u32) -> Result<u32, AllocError>
     ensures { IfOk result (λ n. n ≡ body_at (plain_turns turns.now) at) }
 {
     match turns {

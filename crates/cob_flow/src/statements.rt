@@ -13,10 +13,10 @@ ghost use Rattle.cob_flow.specs.Tables.{lay_stmt, lay_list, lay_phrase, lay_act,
 ghost use Rattle.cob_flow.specs.Growing.{grown, plan, copies_of, paras_of, copied_of};
 
 use crate::copies::{rest_in, sites_with};
-use crate::counting::{body_at as paragraph, tests_among, tests_in};
+use crate::counting::{body_at, tests_among, tests_in};
 use crate::laying::{Fork, Laying};
 use crate::numbers::{exact, less, sum_of};
-use crate::places::{augment_at, body_at, body_next, first_of_list, first_of_range, tests_at};
+use crate::places::{body_next, first_of_list, first_of_range, inner_at};
 use crate::within::Within;
 use cob_data::Layout;
 use cob_meaning::Action;
@@ -302,6 +302,7 @@ impl Laying {
 
     /// The nodes of statements.
     #[cycle(lists)]
+    #[tactic(none)]
     fn lay_list(
         &mut self,
         within: &Within,
@@ -325,6 +326,7 @@ impl Laying {
     }
 
     #[cycle(lists)]
+    #[tactic(none)]
     fn lay_stmt(
         &mut self,
         within: &Within,
@@ -339,6 +341,7 @@ impl Laying {
     }
 
     #[cycle(lists)]
+    #[tactic(none)]
     fn lay_phrase(
         &mut self,
         within: &Within,
@@ -356,6 +359,7 @@ impl Laying {
     }
 
     #[cycle(lists)]
+    #[tactic(none)]
     fn lay_act(
         &mut self,
         within: &Within,
@@ -412,6 +416,7 @@ impl Laying {
     }
 
     #[cycle(lists)]
+    #[tactic(none)]
     fn lay_arith(
         &mut self,
         within: &Within,
@@ -434,6 +439,7 @@ impl Laying {
     }
 
     #[cycle(lists)]
+    #[tactic(none)]
     fn lay_if(
         &mut self,
         within: &Within,
@@ -462,6 +468,7 @@ impl Laying {
     }
 
     #[cycle(lists)]
+    #[tactic(none)]
     fn lay_evaluate(
         &mut self,
         within: &Within,
@@ -485,6 +492,7 @@ impl Laying {
     }
 
     #[cycle(lists)]
+    #[tactic(none)]
     fn lay_whens(
         &mut self,
         within: &Within,
@@ -528,6 +536,7 @@ impl Laying {
     }
 
     #[cycle(lists)]
+    #[tactic(none)]
     fn lay_read(
         &mut self,
         within: &Within,
@@ -553,6 +562,7 @@ impl Laying {
     }
 
     #[cycle(lists)]
+    #[tactic(none)]
     fn lay_perform(
         &mut self,
         within: &Within,
@@ -567,15 +577,16 @@ impl Laying {
     {
         let left = less(left)?;
         let size = within.body_nodes(body)?;
-        let begin = body_at(turns, at)?;
+        let begin = inner_at(turns, at)?;
         let behind = body_next(turns, at, size, next)?;
-        let enter = within.first_of_body(body, begin, behind);
+        let enter = within.first_of_body(body, begin, behind)?;
         self.lay_before(within, number, turns, at, next, enter, left)?;
         self.lay_body(within, number, body, begin, behind, left)?;
         self.lay_behind(within, number, turns, size, at, next, enter, left)
     }
 
     #[cycle(lists)]
+    #[tactic(none)]
     fn lay_body(
         &mut self,
         within: &Within,
@@ -597,6 +608,7 @@ impl Laying {
     }
 
     #[cycle(lists)]
+    #[tactic(none)]
     fn lay_copy(
         &mut self,
         within: &Within,
@@ -631,13 +643,14 @@ impl Laying {
 
     /// The paragraphs of a copy.
     #[cycle(lists)]
+    #[tactic(none)]
     pub fn lay_paras(&mut self, within: &Within, left: u32) -> Result<(), AllocError>
         ensures { OnOk result (self.new ≡ grown self.old (paras_nodes (copied_of within.now) (paras_of within.now) within.now.at within.now.next)) }
     {
         let left = less(left)?;
         let mut at = within.at;
         for place in within.first..within.end {
-            let list = paragraph(within.program, place);
+            let list = body_at(within.program, place);
             let behind = sum_of(at, within.list_nodes(list)?)?;
             let to = first_of_range(within.program, place + 1, within.end, behind, within.next);
             self.lay_list(within, list, at, to, left)?;

@@ -1,5 +1,5 @@
 //! Graphs of small programs.
-use crate::cells::cells_of;
+
 use crate::flow::laid;
 use crate::graph::{Edge, Graph, Node};
 use cob_data::{Layout, Sender};
