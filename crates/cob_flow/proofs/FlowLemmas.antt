@@ -1,14 +1,17 @@
 -- The whole graph, from what is laid of the main copy.
-use Rattle.std.proofs.Common.{ℕ, suc, ◌+◌, ◌-◌, ◌≡◌, ◌<◌, ◌≤◌, min, Bool, true, List, [], ◌∷◌, ◌++◌, length, map, refl, sym, ap, ◌∙◌, subst}
+use Rattle.std.proofs.Common.{ℕ, suc, ◌+◌, ◌-◌, ◌≡◌, ◌<◌, ◌≤◌, min, Bool, true, List, [], ◌∷◌, ◌++◌, length, map, Result, Err, refl, sym, ap, ◌∙◌, subst}
 use Rattle.std.proofs.Math.Nat.{sub-zero}
+use Rattle.cob_data.specs.declared.end.Which.{Which}
+use Rattle.cob_data.specs.declared.end.Which.TheVariants.{Cells, Nodes}
 use Rattle.cob_program.specs.Act.{Program}
+use Rattle.cob_flow.specs.declared.end.FlowEnd.TheVariants as end
 use Rattle.cob_meaning.specs.declared.action.Cell.{Cell}
 use Rattle.cob_flow.specs.declared.counting.Entry.{Entry}
 use Rattle.cob_flow.specs.declared.graph.Graph.{Graph}
 use Rattle.cob_flow.specs.Laid.{LaidParas, paras_size}
 use Rattle.cob_flow.specs.Places.{first_of_para}
 use Rattle.cob_flow.specs.Nodes.{Copied, Noded, paras_nodes}
-use Rattle.cob_flow.specs.Graphs.{last_para, final_of, main_copy, final_node, all_nodes, as_node, edges_of, cells_of, IsMainCopy, IsGraph, HasNodes, HasTooManyNodes, HasTooManyCells, most_told}
+use Rattle.cob_flow.specs.Graphs.{last_para, final_of, main_copy, final_node, all_nodes, as_node, edges_of, cells_of, IsMainCopy, IsGraph, IsOver, HasNodes, HasTooManyNodes, HasTooManyCells, most_told}
 use Rattle.cob_flow.specs.Sizes.{range_size, range_fits}
 use Rattle.cob_flow.specs.Tables.{lay_paras, copy_in, is_in, size_in, main_paras, IsTable}
 use mathlib.Core.Path.{fun_ext}
@@ -84,3 +87,17 @@ module _ (p : Program) (es : List Entry) (paras nodes : ℕ) (is : paras ≡ len
       grown_more none laid all (paras_nodes laid_in laid_from 1 nodes) (final_node ∷ []) one two
       ∙ ap (λ s. grown s (paras_nodes laid_in laid_from 1 nodes ++ final_node ∷ [])) empty
       ∙ ap (λ ns. grown (record { nodes = []; edges = [] }) ns) nodes_are
+
+-- ---- limits
+
+pub over_nodes : {T : Type 0} (p : Program) (told : ℕ) → HasTooManyNodes p told → (which : Which) (count : ℕ) → Err {T = T} (end.Limit Nodes told) ≡ Err (end.Limit which count) → IsOver p which count
+over_nodes p told over which count same =
+    let one : Nodes ≡ which = cc in
+    let two : told ≡ count = cc in
+    subst (λ w. IsOver p w count) one (subst (λ n. HasTooManyNodes p n) two over)
+
+pub over_cells : {T : Type 0} (p : Program) (told : ℕ) → HasTooManyCells p told → (which : Which) (count : ℕ) → Err {T = T} (end.Limit Cells told) ≡ Err (end.Limit which count) → IsOver p which count
+over_cells p told over which count same =
+    let one : Cells ≡ which = cc in
+    let two : told ≡ count = cc in
+    subst (λ w. IsOver p w count) one (subst (λ n. HasTooManyCells p n) two over)

@@ -1,4 +1,5 @@
 -- Nodes that are laid one behind another.
+use Rattle.std.specs.Prelude.{Result, Ok, Err, OnOk}
 use Rattle.std.proofs.Common.{ℕ, suc, ◌+◌, ◌≡◌, List, [], ◌∷◌, ◌++◌, length, map, refl, sym, ap, ◌∙◌, append_assoc, length-append, arith}
 use Rattle.std.proofs.lemmas.List.{map-append, length-map, append-nil}
 use Rattle.cob_flow.specs.declared.graph.Edge.{Edge}
@@ -35,3 +36,8 @@ grown_more old mid new xs ys one two = two ∙ ap (λ s. grown s ys) one ∙ gro
 
 pub grown_none : (s : Seen) → s ≡ grown s []
 grown_none s = same_seen s (grown s []) (sym (append-nil s.nodes)) (sym (append-nil s.edges))
+
+-- what follows where there is a value
+pub on_ok : {T E A B : Type 0} (r : Result T E) → (A → B) → OnOk r A → OnOk r B
+on_ok (Ok x) f h = f h
+on_ok (Err e) f h = tt

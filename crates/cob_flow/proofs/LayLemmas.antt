@@ -7,7 +7,9 @@ use Rattle.cob_flow.specs.Laid.{Laid, LaidList, more_laid, LaidPhrase, LaidAct, 
 use Rattle.cob_flow.specs.Places.{first_of_list, first_of_paras, first_of_para, first_of_all, first_of_any, first_of_whens, body_at, body_next}
 use Rattle.cob_flow.specs.Nodes.{Noded, Copied, node, logic_nodes, all_nodes, any_nodes, end_to, read_nodes, size_edges, loop_before, loop_behind, copied_in, nodes, list_nodes, phrase_nodes, whens_nodes, body_nodes, paras_nodes, act_nodes}
 use Rattle.cob_flow.specs.Growing.{Seen, grown}
-use Rattle.cob_flow.proofs.Growth.{grown_more}
+use Rattle.std.specs.Prelude.{Result, OnOk}
+use Rattle.cob_flow.specs.declared.laying.Fork.{Fork}
+use Rattle.cob_flow.proofs.Growth.{grown_more, on_ok}
 
 -- three lots behind one another
 grown_thrice : (old one two new : Seen) (xs ys zs : List Noded) → one ≡ grown old xs → two ≡ grown one ys → new ≡ grown two zs → new ≡ grown old (xs ++ ys ++ zs)
@@ -29,23 +31,51 @@ module _ (c : Copied) where
       ∙ ap (λ n. grown old (list_nodes c xs at (first_of_paras ps n next) ++ paras_nodes c ps n next)) e
 
   module _ (number : ℕ) where
-    pub every_more : (old mid new : Seen) (starts : Bool) (x : Logic) (xs : Logics) (k at more behind yes first no : ℕ) → more ≡ k + tests_in x → behind ≡ at + tests_in x → first ≡ first_of_all xs behind yes no →
-        mid ≡ grown old (logic_nodes c number starts x k at first no) → new ≡ grown mid (all_nodes c number false xs more behind yes no) →
-        new ≡ grown old (all_nodes c number starts (more_logics x xs) k at yes no)
-    every_more old mid new starts x xs k at more behind yes first no e f g one two =
-        let all = grown_more old mid new (logic_nodes c number starts x k at first no) (all_nodes c number false xs more behind yes no) one two in
-        all ∙ ap (λ n. grown old (logic_nodes c number starts x k at first no ++ all_nodes c number false xs n behind yes no)) e
-        ∙ ap (λ n. grown old (logic_nodes c number starts x k at n no ++ all_nodes c number false xs (k + tests_in x) behind yes no)) g
-        ∙ ap (λ n. grown old (logic_nodes c number starts x k at (first_of_all xs n yes no) no ++ all_nodes c number false xs (k + tests_in x) n yes no)) f
+    pub every_more : (old mid new : Seen) (starts : Bool) (x : Logic) (xs : Logics) (k at more behind held first failed : ℕ) → more ≡ k + tests_in x → behind ≡ at + tests_in x → first ≡ first_of_all xs behind held failed →
+        mid ≡ grown old (logic_nodes c number starts x k at first failed) → new ≡ grown mid (all_nodes c number false xs more behind held failed) →
+        new ≡ grown old (all_nodes c number starts (more_logics x xs) k at held failed)
+    every_more old mid new starts x xs k at more behind held first failed e f g one two =
+        let all = grown_more old mid new (logic_nodes c number starts x k at first failed) (all_nodes c number false xs more behind held failed) one two in
+        all ∙ ap (λ n. grown old (logic_nodes c number starts x k at first failed ++ all_nodes c number false xs n behind held failed)) e
+        ∙ ap (λ n. grown old (logic_nodes c number starts x k at n failed ++ all_nodes c number false xs (k + tests_in x) behind held failed)) g
+        ∙ ap (λ n. grown old (logic_nodes c number starts x k at (first_of_all xs n held failed) failed ++ all_nodes c number false xs (k + tests_in x) n held failed)) f
 
-    pub some_more : (old mid new : Seen) (starts : Bool) (x : Logic) (xs : Logics) (k at more behind yes first no : ℕ) → more ≡ k + tests_in x → behind ≡ at + tests_in x → first ≡ first_of_any xs behind yes no →
-        mid ≡ grown old (logic_nodes c number starts x k at yes first) → new ≡ grown mid (any_nodes c number false xs more behind yes no) →
-        new ≡ grown old (any_nodes c number starts (more_logics x xs) k at yes no)
-    some_more old mid new starts x xs k at more behind yes first no e f g one two =
-        let all = grown_more old mid new (logic_nodes c number starts x k at yes first) (any_nodes c number false xs more behind yes no) one two in
-        all ∙ ap (λ n. grown old (logic_nodes c number starts x k at yes first ++ any_nodes c number false xs n behind yes no)) e
-        ∙ ap (λ n. grown old (logic_nodes c number starts x k at yes n ++ any_nodes c number false xs (k + tests_in x) behind yes no)) g
-        ∙ ap (λ n. grown old (logic_nodes c number starts x k at yes (first_of_any xs n yes no) ++ any_nodes c number false xs (k + tests_in x) n yes no)) f
+    pub some_more : (old mid new : Seen) (starts : Bool) (x : Logic) (xs : Logics) (k at more behind held first failed : ℕ) → more ≡ k + tests_in x → behind ≡ at + tests_in x → first ≡ first_of_any xs behind held failed →
+        mid ≡ grown old (logic_nodes c number starts x k at held first) → new ≡ grown mid (any_nodes c number false xs more behind held failed) →
+        new ≡ grown old (any_nodes c number starts (more_logics x xs) k at held failed)
+    some_more old mid new starts x xs k at more behind held first failed e f g one two =
+        let all = grown_more old mid new (logic_nodes c number starts x k at held first) (any_nodes c number false xs more behind held failed) one two in
+        all ∙ ap (λ n. grown old (logic_nodes c number starts x k at held first ++ any_nodes c number false xs n behind held failed)) e
+        ∙ ap (λ n. grown old (logic_nodes c number starts x k at held n ++ any_nodes c number false xs (k + tests_in x) behind held failed)) g
+        ∙ ap (λ n. grown old (logic_nodes c number starts x k at held (first_of_any xs n held failed) ++ any_nodes c number false xs (k + tests_in x) n held failed)) f
+
+    pub every_ok : {T E : Type 0} (r : Result T E) (old mid new : Seen) (starts : Bool) (list : Logics) (x : Logic) (rest : Logics) (f b h : Fork) (tests first : ℕ) →
+        OnOk r (new ≡ grown mid (all_nodes c number false rest b.k b.at b.yes b.no)) → list ≡ more_logics x rest → tests ≡ tests_in x →
+        b ≡ record { k = f.k + tests; at = f.at + tests; yes = f.yes; no = f.no } → first ≡ first_of_all rest b.at f.yes f.no →
+        h ≡ record { k = f.k; at = f.at; yes = first; no = f.no } → mid ≡ grown old (logic_nodes c number starts x h.k h.at h.yes h.no) →
+        OnOk r (new ≡ grown old (all_nodes c number starts list f.k f.at f.yes f.no))
+    every_ok r old mid new starts list x rest f b h tests first laid cut et eb ef eh front =
+        on_ok r
+          (λ all. every_more old mid new starts x rest f.k f.at b.k b.at f.yes first f.no
+              (ap (λ (g : Fork). g.k) eb ∙ ap (λ n. f.k + n) et) (ap (λ (g : Fork). g.at) eb ∙ ap (λ n. f.at + n) et) ef
+              (front ∙ ap (λ (g : Fork). grown old (logic_nodes c number starts x g.k g.at g.yes g.no)) eh)
+              (all ∙ ap (λ (g : Fork). grown mid (all_nodes c number false rest b.k b.at g.yes g.no)) eb)
+            ∙ ap (λ ls. grown old (all_nodes c number starts ls f.k f.at f.yes f.no)) (sym cut))
+          laid
+
+    pub some_ok : {T E : Type 0} (r : Result T E) (old mid new : Seen) (starts : Bool) (list : Logics) (x : Logic) (rest : Logics) (f b h : Fork) (tests first : ℕ) →
+        OnOk r (new ≡ grown mid (any_nodes c number false rest b.k b.at b.yes b.no)) → list ≡ more_logics x rest → tests ≡ tests_in x →
+        b ≡ record { k = f.k + tests; at = f.at + tests; yes = f.yes; no = f.no } → first ≡ first_of_any rest b.at f.yes f.no →
+        h ≡ record { k = f.k; at = f.at; yes = f.yes; no = first } → mid ≡ grown old (logic_nodes c number starts x h.k h.at h.yes h.no) →
+        OnOk r (new ≡ grown old (any_nodes c number starts list f.k f.at f.yes f.no))
+    some_ok r old mid new starts list x rest f b h tests first laid cut et eb ef eh front =
+        on_ok r
+          (λ all. some_more old mid new starts x rest f.k f.at b.k b.at f.yes first f.no
+              (ap (λ (g : Fork). g.k) eb ∙ ap (λ n. f.k + n) et) (ap (λ (g : Fork). g.at) eb ∙ ap (λ n. f.at + n) et) ef
+              (front ∙ ap (λ (g : Fork). grown old (logic_nodes c number starts x g.k g.at g.yes g.no)) eh)
+              (all ∙ ap (λ (g : Fork). grown mid (any_nodes c number false rest b.k b.at g.yes g.no)) eb)
+            ∙ ap (λ ls. grown old (any_nodes c number starts ls f.k f.at f.yes f.no)) (sym cut))
+          laid
 
     pub arith_laid : (old one two new : Seen) (x : LaidPhrase) (b : LaidList) (at size_at fine_at to next : ℕ) → size_at ≡ at + 1 → fine_at ≡ size_at + phrase_size x → to ≡ first_of_list b fine_at next →
         one ≡ grown old (node c number true ((action.Done, to) ∷ size_edges c number x size_at next) ∷ []) → two ≡ grown one (phrase_nodes c x size_at next) → new ≡ grown two (list_nodes c b fine_at next) →
@@ -56,12 +86,12 @@ module _ (c : Copied) where
         ∙ ap (λ n. grown old ((node c number true ((action.Done, first_of_list b n next) ∷ size_edges c number x size_at next) ∷ []) ++ phrase_nodes c x size_at next ++ list_nodes c b n next)) f
         ∙ ap (λ n. grown old ((node c number true ((action.Done, first_of_list b (n + phrase_size x) next) ∷ size_edges c number x n next) ∷ []) ++ phrase_nodes c x n next ++ list_nodes c b (n + phrase_size x) next)) e
 
-    pub if_laid : (old one two new : Seen) (t : Logic) (a b : LaidList) (at held_at other_at yes no next : ℕ) → held_at ≡ at + tests_in t → other_at ≡ held_at + list_size a → yes ≡ first_of_list a held_at next → no ≡ first_of_list b other_at next →
-        one ≡ grown old (logic_nodes c number true t 0 at yes no) → two ≡ grown one (list_nodes c a held_at next) → new ≡ grown two (list_nodes c b other_at next) →
+    pub if_laid : (old one two new : Seen) (t : Logic) (a b : LaidList) (at held_at other_at held failed next : ℕ) → held_at ≡ at + tests_in t → other_at ≡ held_at + list_size a → held ≡ first_of_list a held_at next → failed ≡ first_of_list b other_at next →
+        one ≡ grown old (logic_nodes c number true t 0 at held failed) → two ≡ grown one (list_nodes c a held_at next) → new ≡ grown two (list_nodes c b other_at next) →
         new ≡ grown old (act_nodes c number (deciding t a b) at next)
-    if_laid old one two new t a b at held_at other_at yes no next e f g h i j k =
-        grown_thrice old one two new (logic_nodes c number true t 0 at yes no) (list_nodes c a held_at next) (list_nodes c b other_at next) i j k
-        ∙ ap (λ n. grown old (logic_nodes c number true t 0 at n no ++ list_nodes c a held_at next ++ list_nodes c b other_at next)) g
+    if_laid old one two new t a b at held_at other_at held failed next e f g h i j k =
+        grown_thrice old one two new (logic_nodes c number true t 0 at held failed) (list_nodes c a held_at next) (list_nodes c b other_at next) i j k
+        ∙ ap (λ n. grown old (logic_nodes c number true t 0 at n failed ++ list_nodes c a held_at next ++ list_nodes c b other_at next)) g
         ∙ ap (λ n. grown old (logic_nodes c number true t 0 at (first_of_list a held_at next) n ++ list_nodes c a held_at next ++ list_nodes c b other_at next)) h
         ∙ ap (λ n. grown old (logic_nodes c number true t 0 at (first_of_list a held_at next) (first_of_list b n next) ++ list_nodes c a held_at next ++ list_nodes c b n next)) f
         ∙ ap (λ n. grown old (logic_nodes c number true t 0 at (first_of_list a n next) (first_of_list b (n + list_size a) next) ++ list_nodes c a n next ++ list_nodes c b (n + list_size a) next)) e
@@ -76,14 +106,14 @@ module _ (c : Copied) where
         ∙ ap (λ n. grown old ((node c number true ((action.Skip, first_of_whens ws whens_at (first_of_list b n next) next) ∷ []) ∷ []) ++ whens_nodes c number ws 0 whens_at (first_of_list b n next) next ++ list_nodes c b n next)) f
         ∙ ap (λ n. grown old ((node c number true ((action.Skip, first_of_whens ws n (first_of_list b (n + whens_size ws) next) next) ∷ []) ∷ []) ++ whens_nodes c number ws 0 n (first_of_list b (n + whens_size ws) next) next ++ list_nodes c b (n + whens_size ws) next)) e
 
-    pub whens_more : (old one two new : Seen) (ts : List Logic) (xs : LaidList) (ws : LaidWhens) (k at more list_at rest_at other yes no next : ℕ) →
-        more ≡ k + tests_among (logics_of ts) → list_at ≡ at + tests_among (logics_of ts) → rest_at ≡ list_at + list_size xs → yes ≡ first_of_list xs list_at next → no ≡ first_of_whens ws rest_at other next →
-        one ≡ grown old (any_nodes c number false (logics_of ts) k at yes no) → two ≡ grown one (list_nodes c xs list_at next) → new ≡ grown two (whens_nodes c number ws more rest_at other next) →
+    pub whens_more : (old one two new : Seen) (ts : List Logic) (xs : LaidList) (ws : LaidWhens) (k at more list_at rest_at other held failed next : ℕ) →
+        more ≡ k + tests_among (logics_of ts) → list_at ≡ at + tests_among (logics_of ts) → rest_at ≡ list_at + list_size xs → held ≡ first_of_list xs list_at next → failed ≡ first_of_whens ws rest_at other next →
+        one ≡ grown old (any_nodes c number false (logics_of ts) k at held failed) → two ≡ grown one (list_nodes c xs list_at next) → new ≡ grown two (whens_nodes c number ws more rest_at other next) →
         new ≡ grown old (whens_nodes c number (more_laid_whens ts xs ws) k at other next)
-    whens_more old one two new ts xs ws k at more list_at rest_at other yes no next d e f g h i j l =
-        grown_thrice old one two new (any_nodes c number false (logics_of ts) k at yes no) (list_nodes c xs list_at next) (whens_nodes c number ws more rest_at other next) i j l
-        ∙ ap (λ n. grown old (any_nodes c number false (logics_of ts) k at yes no ++ list_nodes c xs list_at next ++ whens_nodes c number ws n rest_at other next)) d
-        ∙ ap (λ n. grown old (any_nodes c number false (logics_of ts) k at n no ++ list_nodes c xs list_at next ++ whens_nodes c number ws (k + tests_among (logics_of ts)) rest_at other next)) g
+    whens_more old one two new ts xs ws k at more list_at rest_at other held failed next d e f g h i j l =
+        grown_thrice old one two new (any_nodes c number false (logics_of ts) k at held failed) (list_nodes c xs list_at next) (whens_nodes c number ws more rest_at other next) i j l
+        ∙ ap (λ n. grown old (any_nodes c number false (logics_of ts) k at held failed ++ list_nodes c xs list_at next ++ whens_nodes c number ws n rest_at other next)) d
+        ∙ ap (λ n. grown old (any_nodes c number false (logics_of ts) k at n failed ++ list_nodes c xs list_at next ++ whens_nodes c number ws (k + tests_among (logics_of ts)) rest_at other next)) g
         ∙ ap (λ n. grown old (any_nodes c number false (logics_of ts) k at (first_of_list xs list_at next) n ++ list_nodes c xs list_at next ++ whens_nodes c number ws (k + tests_among (logics_of ts)) rest_at other next)) h
         ∙ ap (λ n. grown old (any_nodes c number false (logics_of ts) k at (first_of_list xs list_at next) (first_of_whens ws n other next) ++ list_nodes c xs list_at next ++ whens_nodes c number ws (k + tests_among (logics_of ts)) n other next)) f
         ∙ ap (λ n. grown old (any_nodes c number false (logics_of ts) k at (first_of_list xs n next) (first_of_whens ws (n + list_size xs) other next) ++ list_nodes c xs n next ++ whens_nodes c number ws (k + tests_among (logics_of ts)) (n + list_size xs) other next)) e

@@ -1,5 +1,6 @@
 -- First nodes of paragraphs, one paragraph after another.
 use Rattle.std.proofs.Common.{ℕ, zero, suc, ◌+◌, ◌-◌, ◌≡◌, ◌<◌, ◌≤◌, ◌==◌, Bool, true, false, List, [], ◌∷◌, length, refl, sym, ap, ◌∙◌, arith, add-zero, add-one, if◌then◌else◌, Option, Some, None, is_some}
+use Rattle.std.proofs.lemmas.Bool.{eqb-true}
 use Rattle.cob_program.specs.declared.act.Stmt as declared_stmt
 use Rattle.cob_program.specs.Act.{Program, Stmts, no_stmts, more_stmts}
 use Rattle.cob_meaning.specs.Steps.{body_at}
@@ -29,10 +30,7 @@ module _ (p : Program) (copies : ℕ → ℕ → LaidParas) where
 
   empty_is : (xs : List declared_stmt.Stmt) → (length xs == 0) ≡ true → plain_stmts xs ≡ no_stmts
   empty_is [] h = refl
-  empty_is (x ∷ xs) h = absurd (not_none (length xs) h)
-    where
-      not_none : (n : ℕ) → (suc n == 0) ≡ true → ⊥
-      not_none n e = absurd (cc)
+  empty_is (x ∷ xs) h = absurd (omega (arith, eqb-true (length (x ∷ xs)) 0 h))
 
   -- a paragraph that is not empty comes first
   pub range_full : (xs : List declared_stmt.Stmt) (from end at next : ℕ) → from < end → plain_stmts xs ≡ body_at p from → (length xs == 0) ≡ false → first_of_paras (lay_paras p copies from (end - from)) at next ≡ at

@@ -48,7 +48,7 @@ fn lay_all(
     nodes: u32,
 ) -> Result<(Many<Node>, Many<Edge>), AllocError>
     requires table { IsTable (plain_program program.now) table.now }
-    requires paras { paras ≡ length program.now.paras }
+    requires paras { paras ≡ length (plain_program program.now).paras }
     requires nodes { nodes ≡ final_of (main_paras (plain_program program.now) table.now) }
     ensures nodes { IfOk result (λ parts. parts.0 ≡ map as_node (all_nodes (plain_program program.now) (main_paras (plain_program program.now) table.now))) }
     ensures edges { IfOk result (λ parts. parts.1 ≡ edges_of 1 (all_nodes (plain_program program.now) (main_paras (plain_program program.now) table.now))) }
@@ -79,7 +79,7 @@ fn graph_with(
 ) -> Result<Graph, FlowEnd>
     requires table { IsTable (plain_program program.now) table.now }
     requires fits { range_fits (is_in table.now) 0 (paras - 1) (plain_program program.now) 0 (paras - 0) ≡ true }
-    requires paras { paras ≡ length program.now.paras }
+    requires paras { paras ≡ length (plain_program program.now).paras }
     requires cells { cells.items ≡ cells_of (plain_program program.now) }
     requires few { length cells.items ≤ 512 }
     ensures graph { IfOk result (λ g. IsGraph (plain_program program.now) g) }
@@ -102,13 +102,13 @@ fn graph_with(
 }
 
 /// The graph with these cells.
-pub fn laid(
+fn laid(
     alloc: Global,
     program: &Program,
     cells: Vec<Cell>,
     paras: u32,
 ) -> Result<Graph, FlowEnd>
-    requires paras { paras ≡ length program.now.paras }
+    requires paras { paras ≡ length (plain_program program.now).paras }
     requires cells { cells.items ≡ cells_of (plain_program program.now) }
     requires few { length cells.items ≤ 512 }
     ensures graph { IfOk result (λ g. IsGraph (plain_program program.now) g) }
@@ -125,7 +125,7 @@ pub fn laid(
 
 /// How many paragraphs it has.
 fn count_paras(program: &Program) -> Result<u32, AllocError>
-    ensures { IfOk result (λ count. count ≡ length program.now.paras) }
+    ensures { IfOk result (λ count. count ≡ length (plain_program program.now).paras) }
 {
     match u32::try_from(program.paras.get().len()) {
         Err(_) => Err(AllocError),
@@ -133,10 +133,8 @@ fn count_paras(program: &Program) -> Result<u32, AllocError>
     }
 }
 
-/// The control graph of a program whose PERFORMs nest. A GO TO to no paragraph at all counts as want of memory, and so
-/// do calls that would be nested too deep for the stack.
-pub fn graph_of(alloc: Global, program: &Program) -> Result<Graph, FlowEnd>
-    requires { IsNested (plain_program program.now) }
+/// The graph of a program, where each performed range can be copied.
+pub fn graph_in(alloc: Global, program: &Program) -> Result<Graph, FlowEnd>
     ensures graph { IfOk result (λ g. IsGraph (plain_program program.now) g) }
     ensures limit { (which : Which) (count : ℕ) → result ≡ Err (end.Limit which count) → IsOver (plain_program program.now) which count }
     ensures inside { (rule : Rule) (line : ℕ) → result ≡ Err (end.Outside rule line) → ⊥ }
@@ -151,4 +149,15 @@ pub fn graph_of(alloc: Global, program: &Program) -> Result<Graph, FlowEnd>
     }
     let paras = count_paras(program)?;
     laid(alloc, program, cells, paras)
+}
+
+/// The control graph of a program whose PERFORMs nest. A GO TO to no paragraph at all counts as want of memory, and so
+/// do calls that would be nested too deep for the stack.
+pub fn graph_of(alloc: Global, program: &Program) -> Result<Graph, FlowEnd>
+    requires { IsNested (plain_program program.now) }
+    ensures graph { IfOk result (λ g. IsGraph (plain_program program.now) g) }
+    ensures limit { (which : Which) (count : ℕ) → result ≡ Err (end.Limit which count) → IsOver (plain_program program.now) which count }
+    ensures inside { (rule : Rule) (line : ℕ) → result ≡ Err (end.Outside rule line) → ⊥ }
+{
+    graph_in(alloc, program)
 }

@@ -1,6 +1,7 @@
 //! The nodes of statements, with copies of what they perform.
 ghost use Rattle.std.specs.Prelude.{◌≡◌, ◌==◌, ◌-◌, ℕ, ◌∷◌, ◌++◌, [], true, is_some, OnOk, IfOk};
 ghost use Rattle.cob_program.specs.ActView.{plain_stmt, plain_act, plain_body, plain_turns};
+ghost use Rattle.cob_program.specs.LogicView.{plain_logic};
 ghost use Rattle.cob_meaning.specs.declared.action.Action.TheVariants as action;
 ghost use Rattle.cob_flow.specs.Views.{plain_stmts, plain_phrase, plain_whens};
 ghost use Rattle.cob_flow.specs.Laid.{LaidBody, computing, deciding, choosing, performing, reading, copy, one_if, body_size};
@@ -274,9 +275,10 @@ impl Laying {
                 self.lay_one(within, number, Action::Done, begin)
             }
             Turns::Until { after: true, test } => {
+                let tests_at = sum_of(begin, size)?;
                 let fork = Fork {
                     k: 0,
-                    at: sum_of(begin, size)?,
+                    at: tests_at,
                     yes: next,
                     no: enter,
                 };
@@ -285,12 +287,14 @@ impl Laying {
             Turns::Varying {
                 after: true, test, ..
             } => {
-                let tests = sum_of(begin, size)?;
+                let tests_at = sum_of(begin, size)?;
+                let tests = exact(tests_in(test))?;
+                let no = sum_of(tests_at, tests)?;
                 let fork = Fork {
                     k: 0,
-                    at: tests,
+                    at: tests_at,
                     yes: next,
-                    no: sum_of(tests, exact(tests_in(test))?)?,
+                    no,
                 };
                 self.lay_logic(within, number, true, test, fork, left)?;
                 self.lay_one(within, number, Action::Done, enter)
@@ -302,7 +306,6 @@ impl Laying {
 
     /// The nodes of statements.
     #[cycle(lists)]
-    #[tactic(none)]
     fn lay_list(
         &mut self,
         within: &Within,
@@ -317,7 +320,8 @@ impl Laying {
             [] => Ok(()),
             [stmt, rest @ ..] => {
                 let left = less(left)?;
-                let behind = sum_of(at, within.stmt_nodes(stmt)?)?;
+                let nodes = within.stmt_nodes(stmt)?;
+                let behind = sum_of(at, nodes)?;
                 let to = first_of_list(rest, behind, next);
                 self.lay_stmt(within, stmt, at, to, left)?;
                 self.lay_list(within, rest, behind, next, left)
@@ -326,7 +330,6 @@ impl Laying {
     }
 
     #[cycle(lists)]
-    #[tactic(none)]
     fn lay_stmt(
         &mut self,
         within: &Within,
@@ -341,7 +344,6 @@ impl Laying {
     }
 
     #[cycle(lists)]
-    #[tactic(none)]
     fn lay_phrase(
         &mut self,
         within: &Within,
@@ -359,7 +361,6 @@ impl Laying {
     }
 
     #[cycle(lists)]
-    #[tactic(none)]
     fn lay_act(
         &mut self,
         within: &Within,
@@ -416,7 +417,6 @@ impl Laying {
     }
 
     #[cycle(lists)]
-    #[tactic(none)]
     fn lay_arith(
         &mut self,
         within: &Within,
@@ -431,7 +431,8 @@ impl Laying {
     {
         let left = less(left)?;
         let size_at = sum_of(at, 1)?;
-        let fine_at = sum_of(size_at, within.phrase_nodes(size)?)?;
+        let nodes = within.phrase_nodes(size)?;
+        let fine_at = sum_of(size_at, nodes)?;
         let to = first_of_list(fine, fine_at, next);
         self.lay_sum(within, number, size, size_at, to, next)?;
         self.lay_phrase(within, size, size_at, next, left)?;
@@ -439,7 +440,6 @@ impl Laying {
     }
 
     #[cycle(lists)]
-    #[tactic(none)]
     fn lay_if(
         &mut self,
         within: &Within,
@@ -454,21 +454,19 @@ impl Laying {
         ensures { OnOk result (self.new ≡ grown self.old (act_nodes (copied_of within.now) number (deciding (plain_logic test.now) (lay_list (plan within.now) (copies_of within.now) (plain_stmts held.now)) (lay_list (plan within.now) (copies_of within.now) (plain_stmts other.now))) at next)) }
     {
         let left = less(left)?;
-        let held_at = sum_of(at, exact(tests_in(test))?)?;
-        let other_at = sum_of(held_at, within.list_nodes(held)?)?;
-        let fork = Fork {
-            k: 0,
-            at,
-            yes: first_of_list(held, held_at, next),
-            no: first_of_list(other, other_at, next),
-        };
+        let tests = exact(tests_in(test))?;
+        let held_at = sum_of(at, tests)?;
+        let nodes = within.list_nodes(held)?;
+        let other_at = sum_of(held_at, nodes)?;
+        let yes = first_of_list(held, held_at, next);
+        let no = first_of_list(other, other_at, next);
+        let fork = Fork { k: 0, at, yes, no };
         self.lay_logic(within, number, true, test, fork, left)?;
         self.lay_list(within, held, held_at, next, left)?;
         self.lay_list(within, other, other_at, next, left)
     }
 
     #[cycle(lists)]
-    #[tactic(none)]
     fn lay_evaluate(
         &mut self,
         within: &Within,
@@ -483,7 +481,8 @@ impl Laying {
     {
         let left = less(left)?;
         let whens_at = sum_of(at, 1)?;
-        let other_at = sum_of(whens_at, within.whens_nodes(whens)?)?;
+        let nodes = within.whens_nodes(whens)?;
+        let other_at = sum_of(whens_at, nodes)?;
         let to_other = first_of_list(other, other_at, next);
         let to = within.first_of_whens(whens, whens_at, to_other, next, left)?;
         self.lay_one(within, number, Action::Skip, to)?;
@@ -492,7 +491,6 @@ impl Laying {
     }
 
     #[cycle(lists)]
-    #[tactic(none)]
     fn lay_whens(
         &mut self,
         within: &Within,
@@ -512,31 +510,20 @@ impl Laying {
                 let left = less(left)?;
                 let tests = exact(tests_among(when.tests.get()))?;
                 let list_at = sum_of(at, tests)?;
-                let rest_at = sum_of(list_at, within.list_nodes(&when.body)?)?;
-                let fork = Fork {
-                    k,
-                    at,
-                    yes: first_of_list(&when.body, list_at, next),
-                    no: within.first_of_whens(rest, rest_at, other, next, left)?,
-                };
+                let nodes = within.list_nodes(&when.body)?;
+                let rest_at = sum_of(list_at, nodes)?;
+                let more = sum_of(k, tests)?;
+                let yes = first_of_list(&when.body, list_at, next);
+                let no = within.first_of_whens(rest, rest_at, other, next, left)?;
+                let fork = Fork { k, at, yes, no };
                 self.lay_some(within, number, false, when.tests.get(), fork, left)?;
                 self.lay_list(within, &when.body, list_at, next, left)?;
-                self.lay_whens(
-                    within,
-                    number,
-                    rest,
-                    sum_of(k, tests)?,
-                    rest_at,
-                    other,
-                    next,
-                    left,
-                )
+                self.lay_whens(within, number, rest, more, rest_at, other, next, left)
             }
         }
     }
 
     #[cycle(lists)]
-    #[tactic(none)]
     fn lay_read(
         &mut self,
         within: &Within,
@@ -552,8 +539,10 @@ impl Laying {
         ensures { OnOk result (self.new ≡ grown self.old (act_nodes (copied_of within.now) number (reading file into (lay_phrase (plan within.now) (copies_of within.now) (plain_phrase end.now)) (lay_list (plan within.now) (copies_of within.now) (plain_stmts fine.now))) at next)) }
     {
         let left = less(left)?;
-        let end_at = sum_of(sum_of(at, 1)?, one_if(into))?;
-        let fine_at = sum_of(end_at, within.phrase_nodes(end)?)?;
+        let behind = sum_of(at, 1)?;
+        let end_at = sum_of(behind, one_if(into))?;
+        let nodes = within.phrase_nodes(end)?;
+        let fine_at = sum_of(end_at, nodes)?;
         let to_end = within.end_to(end, file, end_at, next);
         let to_fine = first_of_list(fine, fine_at, next);
         self.lay_take(within, number, file, into, at, to_end, to_fine, next)?;
@@ -562,7 +551,6 @@ impl Laying {
     }
 
     #[cycle(lists)]
-    #[tactic(none)]
     fn lay_perform(
         &mut self,
         within: &Within,
@@ -586,7 +574,6 @@ impl Laying {
     }
 
     #[cycle(lists)]
-    #[tactic(none)]
     fn lay_body(
         &mut self,
         within: &Within,
@@ -608,7 +595,6 @@ impl Laying {
     }
 
     #[cycle(lists)]
-    #[tactic(none)]
     fn lay_copy(
         &mut self,
         within: &Within,
@@ -626,12 +612,13 @@ impl Laying {
             None => Ok(()),
             Some(table) => {
                 let sites = sites_with(self.allocator(), within.sites, number)?;
+                let end = sum_of(last, 1)?;
                 let inner = Within {
                     program: within.program,
                     table,
                     sites: sites.as_slice(),
                     first,
-                    end: sum_of(last, 1)?,
+                    end,
                     at,
                     next,
                     final_node: within.final_node,
@@ -643,7 +630,6 @@ impl Laying {
 
     /// The paragraphs of a copy.
     #[cycle(lists)]
-    #[tactic(none)]
     pub fn lay_paras(&mut self, within: &Within, left: u32) -> Result<(), AllocError>
         ensures { OnOk result (self.new ≡ grown self.old (paras_nodes (copied_of within.now) (paras_of within.now) within.now.at within.now.next)) }
     {
@@ -651,7 +637,8 @@ impl Laying {
         let mut at = within.at;
         for place in within.first..within.end {
             let list = body_at(within.program, place);
-            let behind = sum_of(at, within.list_nodes(list)?)?;
+            let nodes = within.list_nodes(list)?;
+            let behind = sum_of(at, nodes)?;
             let to = first_of_range(within.program, place + 1, within.end, behind, within.next);
             self.lay_list(within, list, at, to, left)?;
             at = behind;

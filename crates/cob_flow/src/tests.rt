@@ -1,6 +1,7 @@
 //! Graphs of small programs.
 
-use crate::flow::laid;
+use crate::cells::cells_of;
+use crate::flow::graph_in;
 use crate::graph::{Edge, Graph, Node};
 use cob_data::{Layout, Sender};
 use cob_program::{Act, Body, Para, Program, Stmt, Sum, Turns};
@@ -90,7 +91,7 @@ fn two_statements_have_three_nodes(rt: HostRuntime) -> Result<(), Fail> {
     let alloc = rt.alloc();
     let body = vec![in alloc; Stmt::of(1, 7, add(alloc)), Stmt::of(2, 8, Act::Stop)]?;
     let program = program_of(alloc, vec![in alloc; body]?)?;
-    let graph = laid(alloc, &program, Vec::new(alloc), 1)?;
+    let graph = graph_in(alloc, &program)?;
     assert_eq!(rt;
         shown(alloc, &graph)?.as_str(),
         "1 0 true, 2 0 true, 0 0 false, 1 Done 2; 2 Skip 3; "
@@ -105,7 +106,7 @@ fn a_performed_range_is_copied(rt: HostRuntime) -> Result<(), Fail> {
     let one = vec![in alloc; Stmt::of(1, 7, perform(2, 2, turns)), Stmt::of(2, 8, Act::Stop)]?;
     let two = vec![in alloc; Stmt::of(3, 9, Act::Show(Many::of(Vec::new(alloc))))]?;
     let program = program_of(alloc, vec![in alloc; Vec::new(alloc), one, two]?)?;
-    let graph = laid(alloc, &program, Vec::new(alloc), 3)?;
+    let graph = graph_in(alloc, &program)?;
     assert_eq!(rt;
         shown(alloc, &graph)?.as_str(),
         "1 0 true, 1 0 true, 3 1 true, 1 0 true, 2 0 true, 3 0 true, 0 0 false, 1 SetCount 2; 2 True(0) 3; 2 False(0) 5; 3 Show 4; 4 Down 2; 5 Skip 7; 6 Show 7; "
