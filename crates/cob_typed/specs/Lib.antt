@@ -1,0 +1,11 @@
+pub mod Judged
+pub mod Scope
+pub mod Paras
+pub mod Kinds
+pub mod Sums
+pub mod Conditions
+pub mod Operands
+pub mod Selections
+pub mod Arithmetic
+pub mod Statements
+pub mod Typing

@@ -1,0 +1,14 @@
+-- What contracts see of a side of a relation, and of a relation that may be abbreviated.
+use Rattle.std.specs.Prelude.{Option, Some, None}
+use Rattle.cob_tree.specs.ExprView.{plain_expr}
+use Rattle.cob_typed.specs.declared.operand.Operand as declared_operand
+use Rattle.cob_typed.specs.declared.operand.Operand.TheVariants as variant
+use Rattle.cob_typed.specs.declared.carry.Carry as declared_carry
+use Rattle.cob_typed.specs.Conditions.{Operand, alone, worked_out, Carry}
+
+abbrev pub plain_operand : declared_operand.Operand → Operand
+plain_operand (variant.Alone x) = alone x
+plain_operand (variant.WorkedOut e) = worked_out (plain_expr e.now)
+
+abbrev pub plain_carry : declared_carry.Carry → Carry
+plain_carry c = record { subject = plain_expr c.subject.now; not = c.not; rel = c.rel; denied = c.denied }

@@ -1,0 +1,21 @@
+//! From the tree of a program to a program of the profile: names resolved, statements numbered, abbreviations written
+//! out, and the rules on statements (ISO 1989:1985, "Procedure division").
+#![tactic(auto)]
+
+mod bounds;
+mod carry;
+mod conditions;
+mod copies;
+mod end;
+mod finding;
+mod kinds;
+mod operand;
+mod relations;
+mod scope;
+mod selections;
+mod shapes;
+mod sums;
+
+pub use end::TypedEnd;
+pub use finding::Finding;
+pub use scope::Scope;
