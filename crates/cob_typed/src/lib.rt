@@ -2,6 +2,8 @@
 //! out, and the rules on statements (ISO 1989:1985, "Procedure division").
 #![tactic(auto)]
 
+mod acts;
+mod arithmetic;
 mod bounds;
 mod carry;
 mod conditions;
@@ -14,8 +16,10 @@ mod relations;
 mod scope;
 mod selections;
 mod shapes;
+mod statements;
 mod sums;
+mod typing;
+mod verbs;
 
 pub use end::TypedEnd;
-pub use finding::Finding;
-pub use scope::Scope;
+pub use typing::typed_of;

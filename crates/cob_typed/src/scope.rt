@@ -1,11 +1,12 @@
-ghost use Rattle.std.specs.Prelude.{◌≡◌, slice_get, IfOk, OnOk};
+ghost use Rattle.std.specs.Prelude.{◌≡◌, map, slice_get, IfOk, OnOk};
+ghost use Rattle.cob_typed.specs.Paras.{HasParas};
 ghost use Rattle.std.specs.Option.{option_copied};
 ghost use Rattle.cob_names.specs.declared.found.Found.{Found};
 ghost use Rattle.cob_typed.specs.Judged.{noted, kept, Judged};
 ghost use Rattle.cob_typed.specs.Scope.{item_named, flag_named, file_named, record_named, para_named, is_there, names_apart, means_something, exactly_one, one_of_kind, rule_if, the_item, the_para, form_or_group, form_at};
 
 use crate::finding::{Finding, note};
-use cob_data::{Flag, Layout, Rule};
+use cob_data::{FileDecl, Flag, Item, Layout, Rule};
 use cob_names::{Found, Names};
 use cob_tree::{Form, Paragraph, Ref};
 use indexmap::IndexMap;
@@ -181,5 +182,45 @@ pub fn one_of_kind(
             note(findings, line, Rule::Q1)?;
             Ok(None)
         }
+    }
+}
+
+// ---- the scope of a program
+
+impl<'a> Scope<'a> {
+    /// The names of a layout and of paragraphs.
+    pub fn of(
+        alloc: Global,
+        layout: &'a Layout,
+        names: &'a Names<'a>,
+        paras: &'a [Paragraph],
+        places: &'a IndexMap<&'a [u8], Found>,
+    ) -> Scope<'a>
+        requires names { names.now ≡ layout.now }
+        requires paras { HasParas places.now (map (λ p. p.name) paras.now) }
+        ensures { result ≡ record { layout = layout.now; paras = map (λ p. p.name) paras.now } }
+    {
+        Scope {
+            alloc,
+            layout,
+            names,
+            paras,
+            places,
+            group: Form::Group,
+        }
+    }
+
+    /// The item at a place.
+    pub fn item_at(&self, place: u32) -> Option<&Item>
+        ensures { option_copied result ≡ slice_get self.now.layout.items place }
+    {
+        self.layout.items.get().get(place as usize)
+    }
+
+    /// The file at a place.
+    pub fn file_at(&self, place: u32) -> Option<&FileDecl>
+        ensures { option_copied result ≡ slice_get self.now.layout.files place }
+    {
+        self.layout.files.get().get(place as usize)
     }
 }
