@@ -1,3 +1,9 @@
+pub mod EachLemmas
+pub mod FoundLemmas
+pub mod ListLemmas
 pub mod Loops
+pub mod ParaLemmas
 pub mod Places
+pub mod SizeLemmas
+pub mod SizeLoops
 pub mod Walks

@@ -9,6 +9,7 @@ ghost use Rattle.cob_program.specs.SumView.{plain_sum, plain_part, plain_atom};
 ghost use Rattle.cob_program.specs.Bounds.{Bound, atom_most, is_small_sum, is_small_stored};
 ghost use Rattle.cob_typed.specs.Judged.{noted, each_of, if_there};
 ghost use Rattle.cob_typed.specs.Sums.{numeric_operand};
+ghost use Rattle.cob_typed.specs.Scope.{Scope};
 ghost use Rattle.cob_typed.specs.Conditions.{bound_at};
 ghost use Rattle.cob_typed.specs.Sizes.{plain_size, capped, if_small, small_sum, is_plain};
 ghost use Rattle.cob_typed.specs.Workings.{plain_worked, atoms_if, remainder};
@@ -87,7 +88,7 @@ fn scale_of(form: &Form) -> u32
 }
 
 fn is_small_remainder(n: Size, d: Size, scale: u32) -> bool
-    ensures { (above below : Bound) → plain_size n ≡ capped above → plain_size d ≡ capped below → result ≡ is_small_remainder_at above below (quotient_at above below scale) }
+    ensures { (s : Scope) (above below : Bound) → plain_size n ≡ capped above → plain_size d ≡ capped below → result ≡ is_small_remainder_at s above below (quotient_at s above below scale) }
 {
     if n.scale > 37 {
         return false;

@@ -1,11 +1,12 @@
 //! How great the intermediates of sums can be, whatever their items hold within their pictures.
 ghost use Rattle.std.specs.Prelude.{◌≡◌, true, ◌^◌, ◌*◌, ◌/◌, ◌-◌, ◌≤◌, ℕ, min, map, option_map};
-ghost use Rattle.cob_program.specs.Sum.{parts_of, factors_of};
+ghost use Rattle.cob_program.specs.Sum.{MkSum, no_parts, more_parts, parts_of, factors_of};
 ghost use Rattle.cob_program.specs.SumView.{plain_sum, plain_part, plain_factor, plain_atom};
 ghost use Rattle.cob_program.specs.Values.{root_in, root_of};
 ghost use Rattle.cob_program.specs.Bounds.{form_bound, literal_bound, of_digits, exactly, atom_most, sum_bound, product_bound, quotient_bound, factor_bound, at_scale, is_small_stored, is_small_sides};
+ghost use Rattle.cob_typed.specs.Scope.{Scope};
 ghost use Rattle.cob_typed.specs.Conditions.{bound_at};
-ghost use Rattle.cob_typed.specs.Sizes.{plain_size, plain_root, capped, if_small, small_sum, small_part, small_product, small_atom, is_plain};
+ghost use Rattle.cob_typed.specs.Sizes.{plain_size, plain_root, capped, if_small, small_sum, small_sum_from, small_part, small_product, small_atom, is_plain};
 ghost use Rattle.cob_typed.specs.Arithmetic.{quotient_at};
 
 use crate::scope::Scope;
@@ -153,7 +154,7 @@ pub fn literal_size(number: &Num) -> Size
 /// How great `n / d` at a scale, rounded down, can be, where it is small.
 pub fn quotient_size(n: Size, d: Size, scale: u32) -> Option<Size>
     requires { n.scale ≤ 37 }
-    ensures { option_map plain_size result ≡ if_small (quotient_at (plain_size n) (plain_size d) scale) }
+    ensures { (s : Scope) → option_map plain_size result ≡ if_small (quotient_at s (plain_size n) (plain_size d) scale) }
 {
     let up = u64::from(scale) + u64::from(d.scale);
     let from = u64::from(n.scale);
@@ -182,14 +183,25 @@ fn quotient_of(factors: &[Factor]) -> Option<(&[Factor], &Factor)>
     }
 }
 
-/// The quotient that is the last operation of a sum, if one is.
-fn quotient_in(sum: &Sum) -> Option<(&[Factor], &Factor)>
-    ensures { option_map plain_root result ≡ root_of (plain_sum sum.now) }
+fn quotient_of_part(part: &Part) -> Option<(&[Factor], &Factor)>
+    ensures { option_map plain_root result ≡ root_of (MkSum (more_parts (plain_part part.now) no_parts)) }
 {
-    if sum.parts.len() != 1 || sum.parts[0].minus {
-        return None;
+    if part.minus {
+        None
+    } else {
+        quotient_of(&part.factors)
     }
-    quotient_of(&sum.parts[0].factors)
+}
+
+/// The quotient that is the last operation of a sum, if one is.
+fn quotient_in(parts: &[Part]) -> Option<(&[Factor], &Factor)>
+    ensures { option_map plain_root result ≡ root_of (MkSum (parts_of (map plain_part parts.now))) }
+{
+    if parts.len() == 1 {
+        quotient_of_part(&parts[0])
+    } else {
+        None
+    }
 }
 
 impl<'a> Scope<'a> {
@@ -247,13 +259,12 @@ impl<'a> Scope<'a> {
         self.small_product(&part.factors)
     }
 
-    /// How great a sum can be, where each of its intermediates is small.
     #[cycle(size)]
-    pub fn small_sum(&self, sum: &Sum) -> Option<Size>
-        ensures { option_map plain_size result ≡ small_sum (bound_at self.now) (plain_sum sum.now) }
+    fn small_parts(&self, parts: &[Part]) -> Option<Size>
+        ensures { option_map plain_size result ≡ small_sum_from (bound_at self.now) (exactly 0) (parts_of (map plain_part parts.now)) }
     {
         let mut size = ZERO;
-        for part in &sum.parts {
+        for part in parts {
             match self.small_part(part) {
                 None => return None,
                 Some(more) => match size.plus(more) {
@@ -265,17 +276,32 @@ impl<'a> Scope<'a> {
         Some(size)
     }
 
+    /// How great a sum can be, where each of its intermediates is small.
+    #[cycle(size)]
+    pub fn small_sum(&self, sum: &Sum) -> Option<Size>
+        ensures { option_map plain_size result ≡ small_sum (bound_at self.now) (plain_sum sum.now) }
+    {
+        self.small_parts(&sum.parts)
+    }
+
+    /// Whether the rule of bounds is kept by parts that are stored.
+    fn are_small_stored(&self, parts: &[Part]) -> bool
+        ensures { result ≡ is_small_stored (bound_at self.now) (MkSum (parts_of (map plain_part parts.now))) }
+    {
+        match quotient_in(parts) {
+            None => self.small_parts(parts).is_some(),
+            Some((above, below)) => {
+                self.small_product(above).is_some() && self.small_atom(&below.atom).is_some()
+            }
+        }
+    }
+
     /// Whether the rule of bounds is kept by a sum that is stored. A quotient that is its last operation stays exact, and
     /// doesn't count.
     pub fn is_small_stored(&self, sum: &Sum) -> bool
         ensures { result ≡ is_small_stored (bound_at self.now) (plain_sum sum.now) }
     {
-        match quotient_in(sum) {
-            None => self.small_sum(sum).is_some(),
-            Some((above, below)) => {
-                self.small_product(above).is_some() && self.small_atom(&below.atom).is_some()
-            }
-        }
+        self.are_small_stored(&sum.parts)
     }
 
     /// Whether the two sides of a comparison keep the rule of bounds.

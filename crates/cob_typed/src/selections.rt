@@ -1,13 +1,17 @@
 //! What stands behind WHEN (ISO 1989:1985, "The EVALUATE statement").
-ghost use Rattle.std.specs.Prelude.{◌≡◌, IfOk, OnOk};
+ghost use Rattle.std.specs.Prelude.{◌≡◌, ◌∷◌, [], IfOk, OnOk};
 ghost use Rattle.std.specs.Option.{option_copied};
 ghost use Rattle.cob_tree.specs.ExprView.{plain_expr};
 ghost use Rattle.cob_tree.specs.CondView.{plain_cond};
 ghost use Rattle.cob_tree.specs.StmtView.{plain_sel};
 ghost use Rattle.cob_program.specs.LogicView.{plain_logic, plain_test};
-ghost use Rattle.cob_typed.specs.Judged.{noted};
+ghost use Rattle.cob_tree.specs.Stmt.{range};
+ghost use Rattle.cob_data.specs.declared.end.Rule.TheVariants.{Q7};
+ghost use Rattle.cob_typed.specs.declared.selections.Looked.TheVariants.{Truth, Item};
+ghost use Rattle.cob_typed.specs.Judged.{noted, one, both};
+ghost use Rattle.cob_typed.specs.Conditions.{walk_cond};
 ghost use Rattle.cob_typed.specs.Operands.{seen_value};
-ghost use Rattle.cob_typed.specs.Selections.{looked_at, compares, may_equal, value_of, member_test, value_in, value_test, choice_of_item, selection};
+ghost use Rattle.cob_typed.specs.Selections.{looked_at, compares, may_equal, pair, value_of, member_test, value_in, value_test, choice_of_item, selection};
 
 use crate::copies::copied_sender;
 use crate::finding::{Finding, demand, note};
@@ -62,7 +66,9 @@ fn value_in(cond: &Cond) -> Value<'_>
 }
 
 /// All values from one to another.
-fn one_range(alloc: Global, low: Sender, high: Sender) -> Result<Many<Pair>, AllocError> {
+fn one_range(alloc: Global, low: Sender, high: Sender) -> Result<Many<Pair>, AllocError>
+    ensures { IfOk result (λ ranges. ranges ≡ pair low high ∷ []) }
+{
     let mut ranges = Vec::new(alloc);
     ranges.push(Pair { low, high })?;
     Ok(Many::of(ranges))
@@ -162,7 +168,10 @@ impl<'a> Scope<'a> {
         findings: &mut Vec<Finding>,
         line: u32,
         cond: &Cond,
-    ) -> Result<Logic, AllocError> {
+    ) -> Result<Logic, AllocError>
+        ensures value { IfOk result (λ logic. plain_logic logic ≡ (walk_cond self.now (plain_cond cond.now)).value) }
+        ensures noted { OnOk result (findings.new.items ≡ noted line findings.old.items (both (walk_cond self.now (plain_cond cond.now)).broken (one Q7))) }
+    {
         let logic = self.condition(findings, line, cond)?;
         note(findings, line, Rule::Q7)?;
         Ok(logic)
@@ -198,7 +207,10 @@ impl<'a> Scope<'a> {
         line: u32,
         low: &Expr,
         high: &Expr,
-    ) -> Result<Logic, AllocError> {
+    ) -> Result<Logic, AllocError>
+        ensures value { IfOk result (λ logic. plain_logic logic ≡ (selection self.now Truth (range (plain_expr low.now) (plain_expr high.now))).value) }
+        ensures noted { OnOk result (findings.new.items ≡ noted line findings.old.items (selection self.now Truth (range (plain_expr low.now) (plain_expr high.now))).broken) }
+    {
         self.names(findings, line, low)?;
         self.wrong_at(findings, line, Rule::Q7, high)?;
         Ok(Logic::test(Test::Always))
@@ -211,7 +223,10 @@ impl<'a> Scope<'a> {
         place: u32,
         low: &Expr,
         high: &Expr,
-    ) -> Result<Logic, AllocError> {
+    ) -> Result<Logic, AllocError>
+        ensures value { IfOk result (λ logic. plain_logic logic ≡ (selection self.now (Item place) (range (plain_expr low.now) (plain_expr high.now))).value) }
+        ensures noted { OnOk result (findings.new.items ≡ noted line findings.old.items (selection self.now (Item place) (range (plain_expr low.now) (plain_expr high.now))).broken) }
+    {
         let low = self.value_of(findings, line, low, lone(low))?;
         let high = self.value_of(findings, line, high, lone(high))?;
         Ok(Logic::test(self.member_test(findings, line, place, low, high)?))

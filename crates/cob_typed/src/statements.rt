@@ -11,7 +11,8 @@ ghost use Rattle.cob_typed.specs.Judged.{noted, each_of};
 ghost use Rattle.cob_typed.specs.Selections.{selection};
 ghost use Rattle.cob_typed.specs.Lists.{plain_stmts, plain_phrase, plain_whens, found_behind, tree_list, tree_phrase};
 ghost use Rattle.cob_typed.specs.Statements.{stmts_if, typed_stmts, typed_stmt, typed_phrase, typed_whens, typed_verb};
-ghost use Rattle.cob_typed.specs.StatementSteps.{typed_phrases, typed_lists, typed_when, typed_cases};
+ghost use Rattle.cob_typed.specs.StatementSteps.{typed_phrases, typed_lists, typed_when, typed_cases, typed_tail};
+ghost use Rattle.cob_typed.specs.Workings.{plain_worked};
 ghost use Rattle.cob_typed.specs.Typing.{joined};
 
 use crate::acts::{
@@ -222,6 +223,9 @@ impl<'a> Scope<'a> {
         whens: &[cob_tree::When],
         other: &Option<Vec<cob_tree::Stmt>>,
     ) -> Result<Act, AllocError>
+        ensures value { IfOk result (λ act. plain_act act ≡ (typed_cases self.now line next.old looked (tree_spec.whens_of (map tree_view.plain_when whens.now)) (tree_phrase other.now)).value) }
+        ensures next { OnOk result (next.new ≡ (typed_cases self.now line next.old looked (tree_spec.whens_of (map tree_view.plain_when whens.now)) (tree_phrase other.now)).next) }
+        ensures found { OnOk result (findings.new.items ≡ found_behind findings.old.items (typed_cases self.now line next.old looked (tree_spec.whens_of (map tree_view.plain_when whens.now)) (tree_phrase other.now)).found) }
     {
         let whens = self.whens(findings, next, line, looked, whens)?;
         let other = self.phrase(findings, next, other)?;
@@ -238,6 +242,9 @@ impl<'a> Scope<'a> {
         worked: Worked,
         tail: &Tail,
     ) -> Result<Act, AllocError>
+        ensures value { IfOk result (λ act. plain_act act ≡ (typed_tail self.now next.old (plain_worked worked) (plain_tail tail.now)).value) }
+        ensures next { OnOk result (next.new ≡ (typed_tail self.now next.old (plain_worked worked) (plain_tail tail.now)).next) }
+        ensures found { OnOk result (findings.new.items ≡ found_behind findings.old.items (typed_tail self.now next.old (plain_worked worked) (plain_tail tail.now)).found) }
     {
         let (size, fine) = self.phrases(findings, next, &tail.size, &tail.not_size)?;
         Ok(arith_of(worked, size, fine))

@@ -1,12 +1,15 @@
 //! A tree as a program of the profile, or the first rule on statements that it breaks.
-ghost use Rattle.std.specs.Prelude.{◌≡◌, ℕ, ◌-◌, ◌+◌, ◌++◌, map, IfOk, OnOk};
+ghost use Rattle.std.specs.Prelude.{◌≡◌, ℕ, ◌+◌, ◌++◌, List, [], map, if◌then◌else◌, IfOk, OnOk};
+ghost use Rattle.std.specs.Str.{bytes_eq};
 ghost use Rattle.rule_order.specs.Order.{least, first_broken, IsFirstBroken};
 ghost use Rattle.cob_tree.specs.StmtView.{plain_sentence, plain_paragraph, plain_tree};
 ghost use Rattle.cob_data.specs.declared.end.Rule.{Rule};
 ghost use Rattle.cob_program.specs.Act.{stmts_of};
 ghost use Rattle.cob_program.specs.ActView.{plain_stmt, plain_para, plain_program};
-ghost use Rattle.cob_names.specs.Search.{HasFewPlaces};
-ghost use Rattle.cob_typed.specs.Paras.{HasParas};
+ghost use Rattle.cob_names.specs.Search.{HasFewPlaces, found_and};
+ghost use Rattle.cob_typed.specs.declared.end.TypedEnd.TheVariants.{Memory};
+ghost use Rattle.cob_typed.specs.Paras.{para_in, HasParas};
+ghost use Rattle.cob_typed.specs.StatementSteps.{typed_para, all_from};
 ghost use Rattle.cob_typed.specs.Lists.{plain_stmts, found_behind};
 ghost use Rattle.cob_typed.specs.Typing.{typed_sentences, typed_paras, typed_all, rule_number, clashes, lines_of, typing_rules, IsTyped, IsOutside};
 ghost use Rattle.cob_typed.specs.Answer.{lines_in, AreTyped, IsAnswer, IsRefused, IsAccepted};
@@ -61,7 +64,9 @@ fn add_place<'a>(
     places: &mut IndexMap<&'a [u8], Found>,
     name: &'a [u8],
     place: u32,
-) -> Result<(), AllocError> {
+) -> Result<(), AllocError>
+    ensures { OnOk result ((text : List ℕ) → para_in places.new text ≡ (if bytes_eq text name.now then found_and (para_in places.old text) place else para_in places.old text)) }
+{
     let found = match places.get(name) {
         None => Found::Nothing,
         Some(found) => *found,
@@ -137,7 +142,11 @@ impl<'a> Scope<'a> {
         findings: &mut Vec<Finding>,
         next: &mut u32,
         paragraph: &Paragraph,
-    ) -> Result<Para, AllocError> {
+    ) -> Result<Para, AllocError>
+        ensures value { IfOk result (λ para. plain_para para ≡ (typed_para self.now next.old (plain_paragraph paragraph.now)).value) }
+        ensures next { OnOk result (next.new ≡ (typed_para self.now next.old (plain_paragraph paragraph.now)).next) }
+        ensures found { OnOk result (findings.new.items ≡ found_behind findings.old.items (typed_para self.now next.old (plain_paragraph paragraph.now)).found) }
+    {
         let body = self.sentences(findings, next, paragraph.sentences.get())?;
         Ok(Para {
             name: Some(Name::of(self.alloc, paragraph.name.get())?),
@@ -170,6 +179,9 @@ impl<'a> Scope<'a> {
         next: &mut u32,
         tree: &Tree,
     ) -> Result<Vec<Para>, AllocError>
+        ensures value { IfOk result (λ paras. map plain_para paras.items ≡ (all_from self.now next.old (map plain_sentence tree.now.sentences) (map plain_paragraph tree.now.paragraphs)).value) }
+        ensures next { OnOk result (next.new ≡ (all_from self.now next.old (map plain_sentence tree.now.sentences) (map plain_paragraph tree.now.paragraphs)).next) }
+        ensures found { OnOk result (findings.new.items ≡ found_behind findings.old.items (all_from self.now next.old (map plain_sentence tree.now.sentences) (map plain_paragraph tree.now.paragraphs)).found) }
     {
         let body = self.sentences(findings, next, tree.sentences.get())?;
         let mut paras = Vec::new(self.alloc);
@@ -239,7 +251,7 @@ pub struct Typed {
     pub findings: Vec<Finding>,
 }
 
-fn typed_in(alloc: Global, layout: &Layout, tree: &Tree) -> Result<Typed, AllocError>
+fn typed_in<'x>(alloc: Global, layout: &'x Layout, tree: &'x Tree) -> Result<Typed, AllocError>
     requires { HasFewPlaces layout.now }
     ensures { IfOk result (λ typed. AreTyped layout.now (plain_tree tree.now) typed) }
 {
@@ -253,7 +265,7 @@ fn typed_in(alloc: Global, layout: &Layout, tree: &Tree) -> Result<Typed, AllocE
     add_clashes(alloc, &mut findings, paragraphs)?;
     Ok(Typed {
         paras,
-        statements: next - 1,
+        statements: next.saturating_sub(1),
         findings,
     })
 }

@@ -2,6 +2,7 @@
 ghost use Rattle.std.specs.Prelude.{◌≡◌, ◌++◌, map, option_map, slice_get, IfOk, OnOk};
 ghost use Rattle.std.specs.Option.{option_copied};
 ghost use Rattle.cob_tree.specs.CondView.{plain_cond};
+ghost use Rattle.cob_tree.specs.Stmt.{times};
 ghost use Rattle.cob_tree.specs.StmtView.{plain_loop};
 ghost use Rattle.cob_program.specs.ActView.{plain_act, plain_turns};
 ghost use Rattle.cob_program.specs.LogicView.{plain_logic};
@@ -449,7 +450,10 @@ impl<'a> Scope<'a> {
         findings: &mut Vec<Finding>,
         line: u32,
         count: &Opnd,
-    ) -> Result<Turns, AllocError> {
+    ) -> Result<Turns, AllocError>
+        ensures value { IfOk result (λ turns. plain_turns turns ≡ (turns_of self.now (Some (times count.now))).value) }
+        ensures noted { OnOk result (findings.new.items ≡ noted line findings.old.items (turns_of self.now (Some (times count.now))).broken) }
+    {
         let value = self.operand(findings, line, count)?;
         demand(findings, line, Rule::Q10, self.is_whole(&value))?;
         Ok(Turns::Times(value))
