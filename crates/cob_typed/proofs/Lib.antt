@@ -7,3 +7,4 @@ pub mod Places
 pub mod SizeLemmas
 pub mod SizeLoops
 pub mod Walks
+pub mod WorkLemmas

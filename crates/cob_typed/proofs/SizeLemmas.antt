@@ -18,7 +18,7 @@ too_great a h = grind (arith, nat_tests)
 too_long : (s : ℕ) → 37 < s → nat_le s 37 ≡ false
 too_long s h = grind (arith, nat_tests)
 
-and_false : (x : Bool) → (x && false) ≡ false
+pub and_false : (x : Bool) → (x && false) ≡ false
 and_false true = refl
 and_false false = refl
 

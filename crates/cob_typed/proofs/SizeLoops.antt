@@ -12,7 +12,7 @@ use Rattle.cob_program.specs.Sum.{MkSum, Parts, no_parts, more_parts, parts_of, 
 use Rattle.cob_program.specs.Values.{Root, behind_factor, root_in, root_of}
 use Rattle.cob_program.specs.SumView.{plain_sum, plain_part, plain_factor, plain_atom}
 use Rattle.cob_program.specs.Bounds.{Bound, sum_bound, factor_bound, is_small, atom_most, part_most, is_small_atom, is_small_part, is_small_product, is_small_sum_from, product_most_from, sum_most_from}
-use Rattle.cob_typed.specs.Sizes.{bound_if, if_small, small_atom, small_part, small_product, small_sum_from}
+use Rattle.cob_typed.specs.Sizes.{root_with, bound_if, if_small, small_atom, small_part, small_product, small_sum_from}
 use Rattle.cob_typed.proofs.Loops.{item_step}
 use Rattle.cob_typed.proofs.SizeLemmas.{some_if, none_if}
 
@@ -116,3 +116,27 @@ root_last (x ∷ y ∷ xs) over minus a =
     behind : (b : Bool) → behind_factor x (if b then Some (record { above = factors_of (y ∷ xs); minus = minus; below = a }) else None) ≡ (if b then Some (record { above = factors_of (x ∷ y ∷ xs); minus = minus; below = a }) else None)
     behind true = refl
     behind false = refl
+
+map_push : {A B : Type 0} (f : A → B) (xs : List A) (x : A) → map f (xs ++ x ∷ []) ≡ map f xs ++ f x ∷ []
+map_push f [] x = refl
+map_push f (y ∷ ys) x = ap (λ zs. f y ∷ zs) (map_push f ys x)
+
+abbrev root_when : Bool → Factors → Bool → Atom → Option Root
+root_when over above minus a = if over then Some (record { above = above; minus = minus; below = a }) else None
+
+root_split : (xs rest : List declared_factor.Factor) (x : declared_factor.Factor) → xs ≡ rest ++ x ∷ [] →
+    root_in (factors_of (map plain_factor xs)) ≡ root_when (out-Factor x).over (factors_of (map plain_factor rest)) (out-Factor x).minus (plain_atom (out-Factor x).atom)
+root_split xs rest x made =
+    ap (λ ys. root_in (factors_of (map plain_factor ys))) made ∙ ap (λ ys. root_in (factors_of ys)) (map_push plain_factor rest x)
+    ∙ ap (λ f. root_in (factors_of (map plain_factor rest ++ f ∷ []))) (factor_is x)
+    ∙ root_last (map plain_factor rest) (out-Factor x).over (out-Factor x).minus (plain_atom (out-Factor x).atom)
+
+pub root_over : (xs rest : List declared_factor.Factor) (x : declared_factor.Factor) → xs ≡ rest ++ x ∷ [] → (out-Factor x).over ≡ true →
+    Some (root_with (factors_of (map plain_factor rest)) (plain_factor x)) ≡ root_in (factors_of (map plain_factor xs))
+root_over xs rest x made over =
+    ap (λ f. Some (root_with (factors_of (map plain_factor rest)) f)) (factor_is x)
+    ∙ sym (root_split xs rest x made ∙ ap (λ b. root_when b (factors_of (map plain_factor rest)) (out-Factor x).minus (plain_atom (out-Factor x).atom)) over)
+
+pub root_not_over : (xs rest : List declared_factor.Factor) (x : declared_factor.Factor) → xs ≡ rest ++ x ∷ [] → (out-Factor x).over ≡ false → None ≡ root_in (factors_of (map plain_factor xs))
+root_not_over xs rest x made over =
+    sym (root_split xs rest x made ∙ ap (λ b. root_when b (factors_of (map plain_factor rest)) (out-Factor x).minus (plain_atom (out-Factor x).atom)) over)

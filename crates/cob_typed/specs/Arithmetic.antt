@@ -62,6 +62,22 @@ target s h r = the_item s r.item >>= λ place. demand Q3 (may_receive h (form_at
 
 -- ---- how great the results can be
 
+-- n / d at a scale, rounded down
+abbrev pub quotient_at : Bound → Bound → ℕ → Bound
+quotient_at n d scale = record {
+  most = if nat_le n.scale (scale + d.scale) then n.most * 10 ^ (scale + d.scale - n.scale) else n.most / 10 ^ (n.scale - (scale + d.scale));
+  scale = scale;
+}
+
+-- the quotient, its product with the divisor, and the difference
+abbrev pub is_small_remainder_at : Bound → Bound → Bound → Bool
+is_small_remainder_at n d q = is_small q && is_small (product_bound d q) && is_small (sum_bound n (product_bound d q))
+
+abbrev pub scale_of : Form → ℕ
+scale_of (form.Number digits scale signed kept) = scale
+scale_of (form.Edited picture digits scale) = scale
+scale_of _ = 0
+
 module _ (s : Scope) where
   abbrev pub bound_at : ℕ → Bound
   bound_at place = form_bound (form_at s place)
@@ -77,22 +93,6 @@ module _ (s : Scope) where
   abbrev pub are_small_results : Sum → List Target → Bool
   are_small_results common [] = true
   are_small_results common (t ∷ ts) = is_small_result common t t.how && are_small_results common ts
-
-  -- n / d at a scale, rounded down
-  abbrev pub quotient_at : Bound → Bound → ℕ → Bound
-  quotient_at n d scale = record {
-    most = if nat_le n.scale (scale + d.scale) then n.most * 10 ^ (scale + d.scale - n.scale) else n.most / 10 ^ (n.scale - (scale + d.scale));
-    scale = scale;
-  }
-
-  -- the quotient, its product with the divisor, and the difference
-  abbrev pub is_small_remainder_at : Bound → Bound → Bound → Bool
-  is_small_remainder_at n d q = is_small q && is_small (product_bound d q) && is_small (sum_bound n (product_bound d q))
-
-  abbrev pub scale_of : Form → ℕ
-  scale_of (form.Number digits scale signed kept) = scale
-  scale_of (form.Edited picture digits scale) = scale
-  scale_of _ = 0
 
   abbrev pub are_small_remainders : Bound → Bound → List Target → Bool
   are_small_remainders n d [] = true

@@ -30,6 +30,36 @@ use Rattle.cob_typed.specs.declared.selections.Looked.{Looked}
 use Rattle.cob_typed.specs.Selections.{looked_at, selection}
 use Rattle.cob_typed.specs.Arithmetic.{Worked, add_to, add_giving, subtract_from, subtract_giving, multiply_by, multiply_giving, divide_into, divide_giving, compute}
 
+-- SET moves the first value of the condition-name
+abbrev pub first_value : List Pair → Sender
+first_value [] = sender.Zero
+first_value (p ∷ ps) = p.low
+
+abbrev pub set_flag : Option Flag → Act
+set_flag None = nothing
+set_flag (Some f) = move (first_value f.ranges) (f.item ∷ [])
+
+abbrev pub some_of : {A : Type 0} → List (Option A) → List A
+some_of [] = []
+some_of (None ∷ xs) = some_of xs
+some_of (Some x ∷ xs) = x ∷ some_of xs
+
+abbrev pub is_output : Mode → Bool
+is_output mode.Input = false
+is_output mode.Output = true
+
+abbrev pub opening : Bool → ℕ → Opening
+opening output file = record { file = file; output = output }
+
+-- some byte lies in both
+abbrev pub lie_apart : Option FileDecl → Option Item → Bool
+lie_apart (Some f) (Some i) = not (nat_lt i.offset (f.offset + f.length) && nat_lt f.offset (i.offset + i.length))
+lie_apart _ _ = true
+
+abbrev pub is_after : Option Place → Bool
+is_after (Some place_.After) = true
+is_after _ = false
+
 module _ (s : Scope) where
   -- ---- statements without lists
 
@@ -38,15 +68,6 @@ module _ (s : Scope) where
 
   abbrev pub move_act : Opnd → List Ref → Judged Act
   move_act from to = operand s from >>= λ x. each_of (receiver x) to >>= λ places. sound (move x places)
-
-  -- SET moves the first value of the condition-name
-  abbrev pub first_value : List Pair → Sender
-  first_value [] = sender.Zero
-  first_value (p ∷ ps) = p.low
-
-  abbrev pub set_flag : Option Flag → Act
-  set_flag None = nothing
-  set_flag (Some f) = move (first_value f.ranges) (f.item ∷ [])
 
   abbrev pub set_if : Option ℕ → Act
   set_if None = nothing
@@ -63,18 +84,6 @@ module _ (s : Scope) where
   abbrev pub the_file : List ℕ → Judged (Option ℕ)
   the_file text = one_of_kind Q9 (means_something s (plain_name text)) (file_named s text)
 
-  abbrev pub some_of : {A : Type 0} → List (Option A) → List A
-  some_of [] = []
-  some_of (None ∷ xs) = some_of xs
-  some_of (Some x ∷ xs) = x ∷ some_of xs
-
-  abbrev pub is_output : Mode → Bool
-  is_output mode.Input = false
-  is_output mode.Output = true
-
-  abbrev pub opening : Bool → ℕ → Opening
-  opening output file = record { file = file; output = output }
-
   abbrev pub openings : Opens → Judged (List Opening)
   openings o = seen_as (λ files. map (opening (is_output o.mode)) (some_of files)) (each_of the_file o.files)
 
@@ -87,11 +96,6 @@ module _ (s : Scope) where
 
   abbrev pub close_act : List (List ℕ) → Judged Act
   close_act names = seen_as (λ files. close_files (some_of files)) (each_of the_file names)
-
-  -- some byte lies in both
-  abbrev pub lie_apart : Option FileDecl → Option Item → Bool
-  lie_apart (Some f) (Some i) = not (nat_lt i.offset (f.offset + f.length) && nat_lt f.offset (i.offset + i.length))
-  lie_apart _ _ = true
 
   abbrev pub into_of : Option ℕ → Ref → Judged ℕ
   into_of None r = the_item s r
@@ -110,10 +114,6 @@ module _ (s : Scope) where
       one_of_kind Q9 (means_something s r) (record_named s r) >>= λ rec_. if_there (from_of rec_) from >>= λ x. sound (write (unwrap_or rec_ 0) x)
 
   -- ---- loops
-
-  abbrev pub is_after : Option Place → Bool
-  is_after (Some place_.After) = true
-  is_after _ = false
 
   abbrev pub number_operand : Opnd → Judged Sender
   number_operand o = operand s o >>= λ x. demand Q10 (is_number s x) x

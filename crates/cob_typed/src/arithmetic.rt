@@ -4,12 +4,11 @@ ghost use Rattle.std.specs.Prelude.{◌≡◌, ◌++◌, ◌/◌, ◌^◌, ◌�
 ghost use Rattle.std.specs.Option.{option_copied};
 ghost use Rattle.cob_tree.specs.ExprView.{plain_expr};
 ghost use Rattle.cob_program.specs.declared.act.Target.{Target};
-ghost use Rattle.cob_program.specs.Sum.{Sum, Atom};
+ghost use Rattle.cob_program.specs.Sum as sum_spec;
 ghost use Rattle.cob_program.specs.SumView.{plain_sum, plain_part, plain_atom};
 ghost use Rattle.cob_program.specs.Bounds.{Bound, atom_most, is_small_sum, is_small_stored};
 ghost use Rattle.cob_typed.specs.Judged.{noted, each_of, if_there};
 ghost use Rattle.cob_typed.specs.Sums.{numeric_operand};
-ghost use Rattle.cob_typed.specs.Scope.{Scope};
 ghost use Rattle.cob_typed.specs.Conditions.{bound_at};
 ghost use Rattle.cob_typed.specs.Sizes.{plain_size, capped, if_small, small_sum, is_plain};
 ghost use Rattle.cob_typed.specs.Workings.{plain_worked, atoms_if, remainder};
@@ -88,7 +87,7 @@ fn scale_of(form: &Form) -> u32
 }
 
 fn is_small_remainder(n: Size, d: Size, scale: u32) -> bool
-    ensures { (s : Scope) (above below : Bound) → plain_size n ≡ capped above → plain_size d ≡ capped below → result ≡ is_small_remainder_at s above below (quotient_at s above below scale) }
+    ensures { (above below : Bound) → plain_size n ≡ capped above → plain_size d ≡ capped below → result ≡ is_small_remainder_at above below (quotient_at above below scale) }
 {
     if n.scale > 37 {
         return false;
@@ -186,7 +185,7 @@ impl<'a> Scope<'a> {
     /// Whether a receiver's new value is small. `sum` is how great the common value can be, where all is small;
     /// `stored` says whether it is small where a quotient stays exact until it is stored.
     fn is_small_result(&self, sum: Option<Size>, stored: bool, target: &Target) -> bool
-        ensures { (common : Sum) → option_map plain_size sum ≡ small_sum (bound_at self.now) common → stored ≡ is_small_stored (bound_at self.now) common → result ≡ is_small_result self.now common target.now target.now.how }
+        ensures { (common : sum_spec.Sum) → option_map plain_size sum ≡ small_sum (bound_at self.now) common → stored ≡ is_small_stored (bound_at self.now) common → result ≡ is_small_result self.now common target.now target.now.how }
     {
         match sum {
             None => match target.how {
@@ -379,8 +378,8 @@ impl<'a> Scope<'a> {
         targets: &[Target],
         receiver: &Ref,
     ) -> Result<u32, AllocError>
-        ensures value { (above below : Atom) → plain_size n ≡ capped (atom_most (bound_at self.now) above) → plain_size d ≡ capped (atom_most (bound_at self.now) below) → IfOk result (λ place. place ≡ (remainder self.now above below giving.now targets.now receiver.now).value) }
-        ensures noted { (above below : Atom) → plain_size n ≡ capped (atom_most (bound_at self.now) above) → plain_size d ≡ capped (atom_most (bound_at self.now) below) → OnOk result (findings.new.items ≡ noted line findings.old.items (remainder self.now above below giving.now targets.now receiver.now).broken) }
+        ensures value { (above below : sum_spec.Atom) → plain_size n ≡ capped (atom_most (bound_at self.now) above) → plain_size d ≡ capped (atom_most (bound_at self.now) below) → IfOk result (λ place. place ≡ (remainder self.now above below giving.now targets.now receiver.now).value) }
+        ensures noted { (above below : sum_spec.Atom) → plain_size n ≡ capped (atom_most (bound_at self.now) above) → plain_size d ≡ capped (atom_most (bound_at self.now) below) → OnOk result (findings.new.items ≡ noted line findings.old.items (remainder self.now above below giving.now targets.now receiver.now).broken) }
     {
         let place = self.the_item(findings, line, receiver)?;
         let fits = is_amount(self.form(place)) && one_receiver(giving);
@@ -399,8 +398,8 @@ impl<'a> Scope<'a> {
         worked: Worked,
         remainder: Option<&Ref>,
     ) -> Result<Worked, AllocError>
-        ensures value { (above below : Atom) → plain_size n ≡ capped (atom_most (bound_at self.now) above) → plain_size d ≡ capped (atom_most (bound_at self.now) below) → IfOk result (λ made. plain_worked made ≡ (with_remainder self.now above below giving.now (plain_worked worked) (option_copied remainder.entry)).value) }
-        ensures noted { (above below : Atom) → plain_size n ≡ capped (atom_most (bound_at self.now) above) → plain_size d ≡ capped (atom_most (bound_at self.now) below) → OnOk result (findings.new.items ≡ noted line findings.old.items (with_remainder self.now above below giving.now (plain_worked worked) (option_copied remainder.entry)).broken) }
+        ensures value { (above below : sum_spec.Atom) → plain_size n ≡ capped (atom_most (bound_at self.now) above) → plain_size d ≡ capped (atom_most (bound_at self.now) below) → IfOk result (λ made. plain_worked made ≡ (with_remainder self.now above below giving.now (plain_worked worked) (option_copied remainder.entry)).value) }
+        ensures noted { (above below : sum_spec.Atom) → plain_size n ≡ capped (atom_most (bound_at self.now) above) → plain_size d ≡ capped (atom_most (bound_at self.now) below) → OnOk result (findings.new.items ≡ noted line findings.old.items (with_remainder self.now above below giving.now (plain_worked worked) (option_copied remainder.entry)).broken) }
     {
         match remainder {
             None => Ok(worked),

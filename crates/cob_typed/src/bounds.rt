@@ -4,7 +4,6 @@ ghost use Rattle.cob_program.specs.Sum.{MkSum, no_parts, more_parts, parts_of, f
 ghost use Rattle.cob_program.specs.SumView.{plain_sum, plain_part, plain_factor, plain_atom};
 ghost use Rattle.cob_program.specs.Values.{root_in, root_of};
 ghost use Rattle.cob_program.specs.Bounds.{form_bound, literal_bound, of_digits, exactly, atom_most, sum_bound, product_bound, quotient_bound, factor_bound, at_scale, is_small_stored, is_small_sides};
-ghost use Rattle.cob_typed.specs.Scope.{Scope};
 ghost use Rattle.cob_typed.specs.Conditions.{bound_at};
 ghost use Rattle.cob_typed.specs.Sizes.{plain_size, plain_root, capped, if_small, small_sum, small_sum_from, small_part, small_product, small_atom, is_plain};
 ghost use Rattle.cob_typed.specs.Arithmetic.{quotient_at};
@@ -154,7 +153,7 @@ pub fn literal_size(number: &Num) -> Size
 /// How great `n / d` at a scale, rounded down, can be, where it is small.
 pub fn quotient_size(n: Size, d: Size, scale: u32) -> Option<Size>
     requires { n.scale ≤ 37 }
-    ensures { (s : Scope) → option_map plain_size result ≡ if_small (quotient_at s (plain_size n) (plain_size d) scale) }
+    ensures { option_map plain_size result ≡ if_small (quotient_at (plain_size n) (plain_size d) scale) }
 {
     let up = u64::from(scale) + u64::from(d.scale);
     let from = u64::from(n.scale);

@@ -7,7 +7,6 @@ ghost use Rattle.cob_tree.specs.StmtView.{plain_sel};
 ghost use Rattle.cob_program.specs.LogicView.{plain_logic, plain_test};
 ghost use Rattle.cob_tree.specs.Stmt.{range};
 ghost use Rattle.cob_data.specs.declared.end.Rule.TheVariants.{Q7};
-ghost use Rattle.cob_typed.specs.declared.selections.Looked.TheVariants.{Truth, Item};
 ghost use Rattle.cob_typed.specs.Judged.{noted, one, both};
 ghost use Rattle.cob_typed.specs.Conditions.{walk_cond};
 ghost use Rattle.cob_typed.specs.Operands.{seen_value};
@@ -208,8 +207,8 @@ impl<'a> Scope<'a> {
         low: &Expr,
         high: &Expr,
     ) -> Result<Logic, AllocError>
-        ensures value { IfOk result (λ logic. plain_logic logic ≡ (selection self.now Truth (range (plain_expr low.now) (plain_expr high.now))).value) }
-        ensures noted { OnOk result (findings.new.items ≡ noted line findings.old.items (selection self.now Truth (range (plain_expr low.now) (plain_expr high.now))).broken) }
+        ensures value { IfOk result (λ logic. plain_logic logic ≡ (selection self.now Looked.Truth (range (plain_expr low.now) (plain_expr high.now))).value) }
+        ensures noted { OnOk result (findings.new.items ≡ noted line findings.old.items (selection self.now Looked.Truth (range (plain_expr low.now) (plain_expr high.now))).broken) }
     {
         self.names(findings, line, low)?;
         self.wrong_at(findings, line, Rule::Q7, high)?;
@@ -224,8 +223,8 @@ impl<'a> Scope<'a> {
         low: &Expr,
         high: &Expr,
     ) -> Result<Logic, AllocError>
-        ensures value { IfOk result (λ logic. plain_logic logic ≡ (selection self.now (Item place) (range (plain_expr low.now) (plain_expr high.now))).value) }
-        ensures noted { OnOk result (findings.new.items ≡ noted line findings.old.items (selection self.now (Item place) (range (plain_expr low.now) (plain_expr high.now))).broken) }
+        ensures value { IfOk result (λ logic. plain_logic logic ≡ (selection self.now (Looked.Item place) (range (plain_expr low.now) (plain_expr high.now))).value) }
+        ensures noted { OnOk result (findings.new.items ≡ noted line findings.old.items (selection self.now (Looked.Item place) (range (plain_expr low.now) (plain_expr high.now))).broken) }
     {
         let low = self.value_of(findings, line, low, lone(low))?;
         let high = self.value_of(findings, line, high, lone(high))?;

@@ -4,6 +4,7 @@ ghost use Rattle.std.specs.Str.{bytes_eq};
 ghost use Rattle.rule_order.specs.Order.{least, first_broken, IsFirstBroken};
 ghost use Rattle.cob_tree.specs.StmtView.{plain_sentence, plain_paragraph, plain_tree};
 ghost use Rattle.cob_data.specs.declared.end.Rule.{Rule};
+ghost use Rattle.cob_data.specs.declared.layout.Layout.{Layout};
 ghost use Rattle.cob_program.specs.Act.{stmts_of};
 ghost use Rattle.cob_program.specs.ActView.{plain_stmt, plain_para, plain_program};
 ghost use Rattle.cob_names.specs.Search.{HasFewPlaces, found_and};
@@ -11,7 +12,7 @@ ghost use Rattle.cob_typed.specs.declared.end.TypedEnd.TheVariants.{Memory};
 ghost use Rattle.cob_typed.specs.Paras.{para_in, HasParas};
 ghost use Rattle.cob_typed.specs.StatementSteps.{typed_para, all_from};
 ghost use Rattle.cob_typed.specs.Lists.{plain_stmts, found_behind};
-ghost use Rattle.cob_typed.specs.Typing.{typed_sentences, typed_paras, typed_all, rule_number, clashes, lines_of, typing_rules, IsTyped, IsOutside};
+ghost use Rattle.cob_typed.specs.Typing.{typed_sentences, typed_paras, typed_all, rule_number, clashes, lines_of, scope_of, typing_rules, IsTyped, IsOutside};
 ghost use Rattle.cob_typed.specs.Answer.{lines_in, AreTyped, IsAnswer, IsRefused, IsAccepted};
 
 use crate::end::TypedEnd;
@@ -251,23 +252,42 @@ pub struct Typed {
     pub findings: Vec<Finding>,
 }
 
-fn typed_in<'x>(alloc: Global, layout: &'x Layout, tree: &'x Tree) -> Result<Typed, AllocError>
-    requires { HasFewPlaces layout.now }
-    ensures { IfOk result (λ typed. AreTyped layout.now (plain_tree tree.now) typed) }
+fn typed_with(scope: &Scope, tree: &Tree) -> Result<Typed, AllocError>
+    ensures { (l : Layout) → scope.now ≡ scope_of l (plain_tree tree.now) → IfOk result (λ typed. AreTyped l (plain_tree tree.now) typed) }
 {
-    let paragraphs = tree.paragraphs.get();
-    let names = Names::of(alloc, layout)?;
-    let places = places_of(alloc, paragraphs)?;
-    let scope = Scope::of(alloc, layout, &names, paragraphs, &places);
-    let mut findings = Vec::new(alloc);
+    let mut findings = Vec::new(scope.alloc);
     let mut next = 1;
     let paras = scope.paras(&mut findings, &mut next, tree)?;
-    add_clashes(alloc, &mut findings, paragraphs)?;
+    add_clashes(scope.alloc, &mut findings, tree.paragraphs.get())?;
     Ok(Typed {
         paras,
         statements: next.saturating_sub(1),
         findings,
     })
+}
+
+fn typed_among<'x>(
+    alloc: Global,
+    layout: &'x Layout,
+    names: &'x Names<'x>,
+    places: &'x IndexMap<&'x [u8], Found>,
+    tree: &'x Tree,
+) -> Result<Typed, AllocError>
+    requires names { names.now ≡ layout.now }
+    requires paras { HasParas places.now (map (λ p. p.name) tree.now.paragraphs) }
+    ensures { IfOk result (λ typed. AreTyped layout.now (plain_tree tree.now) typed) }
+{
+    let scope = Scope::of(alloc, layout, names, tree.paragraphs.get(), places);
+    typed_with(&scope, tree)
+}
+
+fn typed_in<'x>(alloc: Global, layout: &'x Layout, tree: &'x Tree) -> Result<Typed, AllocError>
+    requires { HasFewPlaces layout.now }
+    ensures { IfOk result (λ typed. AreTyped layout.now (plain_tree tree.now) typed) }
+{
+    let names = Names::of(alloc, layout)?;
+    let places = places_of(alloc, tree.paragraphs.get())?;
+    typed_among(alloc, layout, &names, &places, tree)
 }
 
 /// A tree as a program of the profile: its names resolved in its layout, its statements numbered from 1 in the order of

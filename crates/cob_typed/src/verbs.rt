@@ -337,14 +337,14 @@ impl<'a> Scope<'a> {
         &self,
         findings: &mut Vec<Finding>,
         line: u32,
-        record: Option<u32>,
+        written: Option<u32>,
         given: &Opnd,
     ) -> Result<Sender, AllocError>
-        ensures value { IfOk result (λ value. value ≡ (from_of self.now record given.now).value) }
-        ensures noted { OnOk result (findings.new.items ≡ noted line findings.old.items (from_of self.now record given.now).broken) }
+        ensures value { IfOk result (λ value. value ≡ (from_of self.now written given.now).value) }
+        ensures noted { OnOk result (findings.new.items ≡ noted line findings.old.items (from_of self.now written given.now).broken) }
     {
         let value = self.operand(findings, line, given)?;
-        match record {
+        match written {
             None => Ok(value),
             Some(place) => {
                 demand(findings, line, Rule::Q2, self.may_move(&value, self.form(place)))?;
@@ -357,15 +357,15 @@ impl<'a> Scope<'a> {
         &self,
         findings: &mut Vec<Finding>,
         line: u32,
-        record: Option<u32>,
+        written: Option<u32>,
         given: Option<&Opnd>,
     ) -> Result<Option<Sender>, AllocError>
-        ensures value { IfOk result (λ value. value ≡ (if_there (from_of self.now record) (option_copied given.entry)).value) }
-        ensures noted { OnOk result (findings.new.items ≡ noted line findings.old.items (if_there (from_of self.now record) (option_copied given.entry)).broken) }
+        ensures value { IfOk result (λ value. value ≡ (if_there (from_of self.now written) (option_copied given.entry)).value) }
+        ensures noted { OnOk result (findings.new.items ≡ noted line findings.old.items (if_there (from_of self.now written) (option_copied given.entry)).broken) }
     {
         match given {
             None => Ok(None),
-            Some(given) => Ok(Some(self.from(findings, line, record, given)?)),
+            Some(given) => Ok(Some(self.from(findings, line, written, given)?)),
         }
     }
 
