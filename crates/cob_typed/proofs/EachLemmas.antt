@@ -48,18 +48,16 @@ each_map f judge (x ∷ xs) = ap (λ j. record { value = (judge (f x)).value ∷
 
 -- ---- files
 
-module _ {A : Type 0} (judge : A → Judged (Option ℕ)) (xs : List A) where
-  pub none_more : (i : ℕ) (x : A) (old whole : List ℕ) → i < length xs → x ≡ get_or xs i x → None ≡ (judge x).value →
-      old ++ some_of (each_of judge (drop i xs)).value ≡ whole → old ++ some_of (each_of judge (drop (i + 1) xs)).value ≡ whole
-  none_more i x old whole within is none so_far =
-      ap (λ o. old ++ some_of (o ∷ (each_of judge (drop (i + 1) xs)).value)) none
-      ∙ sym (ap (λ ys. old ++ some_of (each_of judge ys).value) (item_step xs i x within is)) ∙ so_far
+some_first : (o : Option ℕ) (os : List (Option ℕ)) → some_of (o ∷ []) ++ some_of os ≡ some_of (o ∷ os)
+some_first None os = refl
+some_first (Some n) os = refl
 
-  pub some_more : (i n : ℕ) (x : A) (old new whole : List ℕ) → i < length xs → x ≡ get_or xs i x → Some n ≡ (judge x).value → new ≡ old ++ n ∷ [] →
+module _ {A : Type 0} (judge : A → Judged (Option ℕ)) (xs : List A) where
+  pub file_more : (i : ℕ) (x : A) (old new whole : List ℕ) → i < length xs → x ≡ get_or xs i x → new ≡ old ++ some_of ((judge x).value ∷ []) →
       old ++ some_of (each_of judge (drop i xs)).value ≡ whole → new ++ some_of (each_of judge (drop (i + 1) xs)).value ≡ whole
-  some_more i n x old new whole within is one_ made so_far =
-      let rest = (each_of judge (drop (i + 1) xs)).value in
-      ap (λ ys. ys ++ some_of rest) made ∙ append_assoc old (n ∷ []) (some_of rest) ∙ ap (λ o. old ++ some_of (o ∷ rest)) one_
+  file_more i x old new whole within is made so_far =
+      let rest = some_of (each_of judge (drop (i + 1) xs)).value in
+      ap (λ ys. ys ++ rest) made ∙ append_assoc old (some_of ((judge x).value ∷ [])) rest ∙ ap (λ ys. old ++ ys) (some_first (judge x).value (each_of judge (drop (i + 1) xs)).value)
       ∙ sym (ap (λ ys. old ++ some_of (each_of judge ys).value) (item_step xs i x within is)) ∙ so_far
 
   pub some_end : (i : ℕ) (old whole : List ℕ) → length xs ≤ i → old ++ some_of (each_of judge (drop i xs)).value ≡ whole → old ≡ whole

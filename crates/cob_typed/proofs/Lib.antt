@@ -1,3 +1,4 @@
+pub mod AnswerLemmas
 pub mod EachLemmas
 pub mod FoundLemmas
 pub mod ListLemmas

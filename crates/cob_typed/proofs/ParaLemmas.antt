@@ -1,5 +1,5 @@
 -- Names of paragraphs: their places, and which of them stand before.
-use Rattle.std.proofs.Common.{◌≡◌, ℕ, ◌+◌, ◌<◌, ◌≤◌, zero, suc, Bool, true, false, ◌||◌, cond, if◌then◌else◌, List, [], ◌∷◌, ◌++◌, append_assoc, append-nil, ◌==◌, map, length, length-take, get_or, take, drop, take-suc, drop-cons, bytes_eq, Option, Some, None, refl, sym, ap, subst, ◌∙◌, arith}
+use Rattle.std.proofs.Common.{◌≡◌, ℕ, ◌+◌, ◌<◌, ◌≤◌, zero, suc, Bool, true, false, not, ◌||◌, cond, if◌then◌else◌, List, [], ◌∷◌, ◌++◌, append_assoc, append-nil, ◌==◌, map, length, length-take, get_or, take, drop, take-suc, drop-cons, bytes_eq, Option, Some, None, refl, sym, ap, subst, ◌∙◌, arith}
 use Rattle.std.specs.List.{list_any}
 use Rattle.std.specs.Borrow.{Bor}
 use Rattle.std.specs.Cmp.Lexicographic.{bytes_decides, nat_list_eq_equiv}
@@ -15,7 +15,7 @@ use Rattle.cob_names.specs.declared.found.Found.{Found}
 use Rattle.cob_names.specs.declared.found.Found.TheVariants as found
 use Rattle.cob_names.specs.Search.{found_and}
 use Rattle.cob_typed.specs.declared.finding.Finding.{Finding}
-use Rattle.cob_typed.specs.Judged.{finding}
+use Rattle.cob_typed.specs.Judged.{finding, noted, unless}
 use Rattle.cob_typed.specs.Scope.{place_if, found_in, paras_from}
 use Rattle.cob_typed.specs.Paras.{para_in, HasParas}
 use Rattle.cob_typed.specs.Lists.{found_behind}
@@ -146,3 +146,8 @@ lines_behind fs (x ∷ xs) rule =
 
 pub lines_are : (xs : List (Rule × ℕ)) (rule : Rule) → lines_in (found_behind [] xs) rule ≡ lines_among rule xs
 lines_are xs rule = lines_behind [] xs rule
+
+-- what is noted of a name that is new or known
+pub clash_found : (line : ℕ) (fs : List Finding) (new known : Bool) → new ≡ not known → noted line fs (unless Q11 new) ≡ found_behind fs (if known then (Q11, line) ∷ [] else [])
+clash_found line fs new true is = ap (λ b. noted line fs (unless Q11 b)) is
+clash_found line fs new false is = ap (λ b. noted line fs (unless Q11 b)) is

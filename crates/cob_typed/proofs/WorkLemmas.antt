@@ -4,11 +4,16 @@ use Rattle.std.specs.Prelude.{is_some, option_map}
 use Rattle.std.proofs.lemmas.Bool.{cases_lt}
 use Rattle.std.proofs.Math.Nat.{le-mul_of_pos_right}
 use Rattle.cob_program.specs.Sum.{Sum, Part, Parts, parts_of, no_parts, more_parts, Atom}
-use Rattle.cob_program.specs.Bounds.{Bound, joint, sum_bound, product_bound, is_small}
+use Rattle.cob_program.specs.Bounds.{Bound, joint, sum_bound, product_bound, is_small, is_small_sum}
 use Rattle.cob_typed.specs.declared.bounds.Size as declared_size
+use Rattle.cob_typed.specs.Scope.{Scope}
+use Rattle.cob_typed.specs.Conditions.{bound_at}
+use Rattle.cob_program.specs.declared.act.Target.{Target}
+use Rattle.cob_program.specs.declared.act.How.{How}
+use Rattle.cob_program.specs.declared.act.How.TheVariants as how
 use Rattle.cob_typed.specs.Sizes.{plain_size, capped, bound_if, if_small}
 use Rattle.cob_typed.specs.Workings.{atoms_if}
-use Rattle.cob_typed.specs.Arithmetic.{atom_part, parts_with, part_if, quotient_at, is_small_remainder_at}
+use Rattle.cob_typed.specs.Arithmetic.{atom_part, parts_with, part_if, quotient_at, is_small_result, is_small_remainder_at}
 use Rattle.cob_typed.proofs.SizeLemmas.{some_if, none_if, is_some_if, capped_sum, capped_product, great_none, long_none, and_false, one_power}
 
 -- ---- sums of operands
@@ -48,6 +53,14 @@ multiplied_ r own size a m b is held some =
     let l = some_if b m size (sym some) in
     small_some r (product_bound own size) is ∙ ap (λ x. is_small (product_bound x size)) held ∙ same_small (product_bound (capped a) size) (product_bound a size) (capped_product a size)
     ∙ ap (λ x. is_small (product_bound a x)) (sym l.1) ∙ ap (λ x. x && is_small (product_bound a m)) (sym l.0)
+
+-- what isn't small grows to nothing small
+pub no_result : (s : Scope) (common : Sum) (t : Target) (h : How) → (h ≡ how.Whole → ⊥) → is_small_sum (bound_at s) common ≡ false → false ≡ is_small_result s common t h
+no_result s common t how.Whole other e = absurd (other refl)
+no_result s common t how.Plus other e = rw e refl
+no_result s common t how.Minus other e = rw e refl
+no_result s common t how.Times other e = rw e refl
+no_result s common t how.Under other e = sym e
 
 -- ---- remainders
 

@@ -194,7 +194,8 @@ impl<'a> Scope<'a> {
             },
             Some(size) => match target.how {
                 How::Whole => stored,
-                How::Plus | How::Minus => self.item_size(target.item).plus(size).is_some(),
+                How::Plus => self.item_size(target.item).plus(size).is_some(),
+                How::Minus => self.item_size(target.item).plus(size).is_some(),
                 How::Times => self.item_size(target.item).by(size).is_some(),
                 How::Under => true,
             },

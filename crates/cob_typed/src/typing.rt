@@ -2,21 +2,22 @@
 ghost use Rattle.std.specs.Prelude.{◌≡◌, ℕ, ◌+◌, ◌++◌, List, [], map, if◌then◌else◌, IfOk, OnOk};
 ghost use Rattle.std.specs.Str.{bytes_eq};
 ghost use Rattle.rule_order.specs.Order.{least, first_broken, IsFirstBroken};
+ghost use Rattle.cob_tree.specs.Stmt as tree_spec;
 ghost use Rattle.cob_tree.specs.StmtView.{plain_sentence, plain_paragraph, plain_tree};
 ghost use Rattle.cob_data.specs.declared.end.Rule.{Rule};
 ghost use Rattle.cob_data.specs.declared.layout.Layout.{Layout};
 ghost use Rattle.cob_program.specs.Act.{stmts_of};
 ghost use Rattle.cob_program.specs.ActView.{plain_stmt, plain_para, plain_program};
 ghost use Rattle.cob_names.specs.Search.{HasFewPlaces, found_and};
-ghost use Rattle.cob_typed.specs.declared.end.TypedEnd.TheVariants.{Memory};
 ghost use Rattle.cob_typed.specs.Paras.{para_in, HasParas};
 ghost use Rattle.cob_typed.specs.StatementSteps.{typed_para, all_from};
 ghost use Rattle.cob_typed.specs.Lists.{plain_stmts, found_behind};
-ghost use Rattle.cob_typed.specs.Typing.{typed_sentences, typed_paras, typed_all, rule_number, clashes, lines_of, scope_of, typing_rules, IsTyped, IsOutside};
+ghost use Rattle.cob_typed.specs.Statements.{typed_stmts};
+ghost use Rattle.cob_typed.specs.Typing.{joined, typed_sentences, typed_paras, typed_all, rule_number, clashes, lines_of, scope_of, typing_rules, IsTyped, IsOutside};
 ghost use Rattle.cob_typed.specs.Answer.{lines_in, AreTyped, IsAnswer, IsRefused, IsAccepted};
 
 use crate::end::TypedEnd;
-use crate::finding::{Finding, note};
+use crate::finding::{Finding, demand};
 use crate::scope::Scope;
 use cob_data::{Layout, Rule};
 use cob_names::{Found, Names};
@@ -24,7 +25,7 @@ use cob_program::{Para, Program, Stmt};
 use cob_tree::{Many, Name, Paragraph, Sentence, Tree};
 use indexmap::{IndexMap, IndexSet};
 use rule_order::noted;
-use std::alloc::{AllocError, AllocFailed, Global};
+use std::alloc::{AllocError, Global};
 
 /// The rules on statements, in their order.
 const TYPING_RULES: [Rule; 12] = [
@@ -41,22 +42,6 @@ const TYPING_RULES: [Rule; 12] = [
     Rule::Q11,
     Rule::N5,
 ];
-
-impl<T: Drop> From<AllocFailed<T>> for TypedEnd {
-    ghost from_gives = { λ _ e. e ≡ Memory };
-
-    fn from(_failed: AllocFailed<T>) -> TypedEnd {
-        TypedEnd::Memory
-    }
-}
-
-impl From<AllocError> for TypedEnd {
-    ghost from_gives = { λ _ e. e ≡ Memory };
-
-    fn from(_failed: AllocError) -> TypedEnd {
-        TypedEnd::Memory
-    }
-}
 
 // ---- names of paragraphs
 
@@ -111,9 +96,8 @@ fn add_clashes(
 {
     let mut known = IndexSet::new(alloc);
     for paragraph in paragraphs {
-        if !known.insert(paragraph.name.get())? {
-            note(findings, paragraph.line, Rule::Q11)?;
-        }
+        let is_new = known.insert(paragraph.name.get())?;
+        demand(findings, paragraph.line, Rule::Q11, is_new)?;
     }
     Ok(())
 }
@@ -121,6 +105,20 @@ fn add_clashes(
 // ---- lists of statements
 
 impl<'a> Scope<'a> {
+    fn add_sentence(
+        &self,
+        findings: &mut Vec<Finding>,
+        next: &mut u32,
+        sentence: &Sentence,
+        typed: &mut Vec<Stmt>,
+    ) -> Result<(), AllocError>
+        ensures value { OnOk result (stmts_of (map plain_stmt typed.new.items) ≡ joined (stmts_of (map plain_stmt typed.old.items)) (typed_stmts self.now next.old (plain_sentence sentence.now)).value) }
+        ensures next { OnOk result (next.new ≡ (typed_stmts self.now next.old (plain_sentence sentence.now)).next) }
+        ensures found { OnOk result (findings.new.items ≡ found_behind findings.old.items (typed_stmts self.now next.old (plain_sentence sentence.now)).found) }
+    {
+        self.add_stmts(findings, next, sentence.statements.get(), typed)
+    }
+
     fn sentences(
         &self,
         findings: &mut Vec<Finding>,
@@ -133,7 +131,7 @@ impl<'a> Scope<'a> {
     {
         let mut typed = Vec::new(self.alloc);
         for sentence in sentences {
-            self.add_stmts(findings, next, sentence.statements.get(), &mut typed)?;
+            self.add_sentence(findings, next, sentence, &mut typed)?;
         }
         Ok(typed)
     }
@@ -290,16 +288,12 @@ fn typed_in<'x>(alloc: Global, layout: &'x Layout, tree: &'x Tree) -> Result<Typ
     typed_among(alloc, layout, &names, &places, tree)
 }
 
-/// A tree as a program of the profile: its names resolved in its layout, its statements numbered from 1 in the order of
-/// the source, its abbreviations written out. Or the first rule on statements, in the order of the table, that it breaks,
-/// and the first line that breaks it (ISO 1989:1985, "Procedure division").
-pub fn typed_of(alloc: Global, tree: &Tree, layout: Layout) -> Result<Program, TypedEnd>
-    requires { HasFewPlaces layout }
-    ensures answer { IsAnswer layout (plain_tree tree.now) result }
-    ensures outside { (rule : Rule) (line : ℕ) → IsOutside layout (plain_tree tree.now) rule line → IsRefused result rule line }
-    ensures accepted { IsTyped layout (plain_tree tree.now) → IsAccepted result }
+/// The program, where no rule is broken; else the first rule of the table that is, and its first line.
+fn answer_of(layout: Layout, typed: Typed) -> Result<Program, TypedEnd>
+    ensures answer { (t : tree_spec.Tree) → AreTyped layout t typed → IsAnswer layout t result }
+    ensures outside { (t : tree_spec.Tree) → AreTyped layout t typed → (rule : Rule) (line : ℕ) → IsOutside layout t rule line → IsRefused result rule line }
+    ensures accepted { (t : tree_spec.Tree) → AreTyped layout t typed → IsTyped layout t → IsAccepted result }
 {
-    let typed = typed_in(alloc, &layout, tree)?;
     match first_among(&typed.findings, &TYPING_RULES) {
         Some((rule, line)) => Err(TypedEnd::Outside { rule, line }),
         None => Ok(Program {
@@ -307,5 +301,21 @@ pub fn typed_of(alloc: Global, tree: &Tree, layout: Layout) -> Result<Program, T
             paras: Many::of(typed.paras),
             statements: typed.statements,
         }),
+    }
+}
+
+/// A tree as a program of the profile: its names resolved in its layout, its statements numbered from 1 in the order of
+/// the source, its abbreviations written out. Or the first rule on statements, in the order of the table, that it breaks,
+/// and the first line that breaks it (ISO 1989:1985, "Procedure division"). More statements or paragraphs than 32 bits
+/// count as want of memory.
+pub fn typed_of(alloc: Global, tree: &Tree, layout: Layout) -> Result<Program, TypedEnd>
+    requires { HasFewPlaces layout }
+    ensures answer { IsAnswer layout (plain_tree tree.now) result }
+    ensures outside { (rule : Rule) (line : ℕ) → IsOutside layout (plain_tree tree.now) rule line → IsRefused result rule line }
+    ensures accepted { IsTyped layout (plain_tree tree.now) → IsAccepted result }
+{
+    match typed_in(alloc, &layout, tree) {
+        Err(_) => Err(TypedEnd::Memory),
+        Ok(typed) => answer_of(layout, typed),
     }
 }

@@ -1,5 +1,5 @@
 //! Statements without lists of their own, and what stands before the lists of the others.
-ghost use Rattle.std.specs.Prelude.{◌≡◌, ◌++◌, map, option_map, slice_get, IfOk, OnOk};
+ghost use Rattle.std.specs.Prelude.{◌≡◌, ◌++◌, ◌∷◌, [], map, option_map, slice_get, IfOk, OnOk};
 ghost use Rattle.std.specs.Option.{option_copied};
 ghost use Rattle.cob_tree.specs.CondView.{plain_cond};
 ghost use Rattle.cob_tree.specs.Stmt.{times};
@@ -210,6 +210,26 @@ impl<'a> Scope<'a> {
         one_of_kind(findings, line, Rule::Q9, something, self.file(name.get()))
     }
 
+    /// Adds the file of this name, where there is one.
+    fn add_file(
+        &self,
+        findings: &mut Vec<Finding>,
+        line: u32,
+        name: &Name,
+        files: &mut Vec<u32>,
+    ) -> Result<(), AllocError>
+        ensures value { OnOk result (files.new.items ≡ files.old.items ++ some_of ((the_file self.now name.now).value ∷ [])) }
+        ensures noted { OnOk result (findings.new.items ≡ noted line findings.old.items (the_file self.now name.now).broken) }
+    {
+        match self.the_file(findings, line, name)? {
+            None => Ok(()),
+            Some(file) => {
+                files.push(file)?;
+                Ok(())
+            }
+        }
+    }
+
     fn files(
         &self,
         findings: &mut Vec<Finding>,
@@ -221,10 +241,7 @@ impl<'a> Scope<'a> {
     {
         let mut files = Vec::new(self.alloc);
         for name in names {
-            match self.the_file(findings, line, name)? {
-                None => {}
-                Some(file) => files.push(file)?,
-            }
+            self.add_file(findings, line, name, &mut files)?;
         }
         Ok(files)
     }
