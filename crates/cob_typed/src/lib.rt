@@ -23,3 +23,6 @@ mod verbs;
 
 pub use end::TypedEnd;
 pub use typing::typed_of;
+
+#[cfg(test)]
+mod tests;

@@ -51,6 +51,7 @@ fn list_if(alloc: Global, phrase: Option<Vec<Stmt>>) -> Vec<Stmt>
     }
 }
 
+#[tactic(auto, using(crate::proofs::FoundLemmas::found_noted, crate::proofs::FoundLemmas::found_append))]
 impl<'a> Scope<'a> {
     fn choices(
         &self,
@@ -263,12 +264,12 @@ impl<'a> Scope<'a> {
         ensures found { OnOk result (findings.new.items ≡ found_behind findings.old.items (typed_verb self.now line next.old (plain_verb verb.now)).found) }
     {
         match verb {
-            Verb::Move { from, to } => self.move_act(findings, line, from, to.get()),
-            Verb::Set(name) => self.set_act(findings, line, name),
-            Verb::Display(operands) => self.show_act(findings, line, operands.get()),
+            Verb::Move { from, to } => Ok(self.move_act(findings, line, from, to.get())?),
+            Verb::Set(name) => Ok(self.set_act(findings, line, name)?),
+            Verb::Display(operands) => Ok(self.show_act(findings, line, operands.get())?),
             Verb::AddTo { addends, to, tail } => {
                 let worked = self.add_to(findings, line, addends.get(), to.get())?;
-                self.arith(findings, next, worked, tail)
+                Ok(self.arith(findings, next, worked, tail)?)
             }
             Verb::AddGiving {
                 addends,
@@ -278,11 +279,11 @@ impl<'a> Scope<'a> {
             } => {
                 let to = to.as_ref();
                 let worked = self.add_giving(findings, line, addends.get(), to, giving.get())?;
-                self.arith(findings, next, worked, tail)
+                Ok(self.arith(findings, next, worked, tail)?)
             }
             Verb::SubtractFrom { less, from, tail } => {
                 let worked = self.subtract_from(findings, line, less.get(), from.get())?;
-                self.arith(findings, next, worked, tail)
+                Ok(self.arith(findings, next, worked, tail)?)
             }
             Verb::SubtractGiving {
                 less,
@@ -291,11 +292,11 @@ impl<'a> Scope<'a> {
                 tail,
             } => {
                 let worked = self.subtract_giving(findings, line, less.get(), from, giving.get())?;
-                self.arith(findings, next, worked, tail)
+                Ok(self.arith(findings, next, worked, tail)?)
             }
             Verb::MultiplyBy { factor, by, tail } => {
                 let worked = self.multiply_by(findings, line, factor, by.get())?;
-                self.arith(findings, next, worked, tail)
+                Ok(self.arith(findings, next, worked, tail)?)
             }
             Verb::MultiplyGiving {
                 factor,
@@ -304,7 +305,7 @@ impl<'a> Scope<'a> {
                 tail,
             } => {
                 let worked = self.multiply_giving(findings, line, factor, by, giving.get())?;
-                self.arith(findings, next, worked, tail)
+                Ok(self.arith(findings, next, worked, tail)?)
             }
             Verb::DivideInto {
                 divisor,
@@ -312,7 +313,7 @@ impl<'a> Scope<'a> {
                 tail,
             } => {
                 let worked = self.divide_into(findings, line, divisor, into.get())?;
-                self.arith(findings, next, worked, tail)
+                Ok(self.arith(findings, next, worked, tail)?)
             }
             Verb::DivideGiving {
                 first,
@@ -325,11 +326,11 @@ impl<'a> Scope<'a> {
                 let rest = remainder.as_ref();
                 let worked =
                     self.divide_giving(findings, line, first, *way, second, giving.get(), rest)?;
-                self.arith(findings, next, worked, tail)
+                Ok(self.arith(findings, next, worked, tail)?)
             }
             Verb::Compute { to, value, tail } => {
                 let worked = self.compute(findings, line, to.get(), value)?;
-                self.arith(findings, next, worked, tail)
+                Ok(self.arith(findings, next, worked, tail)?)
             }
             Verb::If {
                 test, yes, other, ..
@@ -345,21 +346,21 @@ impl<'a> Scope<'a> {
                 ..
             } => {
                 let looked = self.looked_at(findings, line, subject)?;
-                self.cases(findings, next, line, looked, whens, other)
+                Ok(self.cases(findings, next, line, looked, whens, other)?)
             }
             Verb::PerformRange { first, thru, turns } => {
-                self.range_act(findings, line, first, thru.as_ref(), turns.as_ref())
+                Ok(self.range_act(findings, line, first, thru.as_ref(), turns.as_ref())?)
             }
             Verb::PerformInline { turns, body } => {
                 let turns = self.turns(findings, line, turns.as_ref())?;
                 let body = self.stmts(findings, next, body)?;
                 Ok(perform_of(inline_of(body), turns))
             }
-            Verb::Go(name) => self.go_act(findings, line, name),
+            Verb::Go(name) => Ok(self.go_act(findings, line, name)?),
             Verb::Exit | Verb::Continue => Ok(nothing()),
             Verb::StopRun => Ok(stop()),
-            Verb::Open(opens) => self.open_act(findings, line, opens.get()),
-            Verb::Close(names) => self.close_act(findings, line, names.get()),
+            Verb::Open(opens) => Ok(self.open_act(findings, line, opens.get())?),
+            Verb::Close(names) => Ok(self.close_act(findings, line, names.get())?),
             Verb::Read {
                 file,
                 into,
@@ -372,7 +373,7 @@ impl<'a> Scope<'a> {
                 Ok(read_of(file, into, end, fine))
             }
             Verb::Write { record, from, .. } => {
-                self.write_act(findings, line, record, from.as_ref())
+                Ok(self.write_act(findings, line, record, from.as_ref())?)
             }
         }
     }

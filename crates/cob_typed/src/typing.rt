@@ -104,6 +104,7 @@ fn add_clashes(
 
 // ---- lists of statements
 
+#[tactic(auto, using(crate::proofs::FoundLemmas::found_append))]
 impl<'a> Scope<'a> {
     fn add_sentence(
         &self,
@@ -116,7 +117,8 @@ impl<'a> Scope<'a> {
         ensures next { OnOk result (next.new ≡ (typed_stmts self.now next.old (plain_sentence sentence.now)).next) }
         ensures found { OnOk result (findings.new.items ≡ found_behind findings.old.items (typed_stmts self.now next.old (plain_sentence sentence.now)).found) }
     {
-        self.add_stmts(findings, next, sentence.statements.get(), typed)
+        self.add_stmts(findings, next, sentence.statements.get(), typed)?;
+        Ok(())
     }
 
     fn sentences(

@@ -39,7 +39,7 @@ fn first_value(alloc: Global, ranges: &[Pair]) -> Result<Sender, AllocError>
 {
     match ranges.first() {
         None => Ok(Sender::Zero),
-        Some(pair) => copied_sender(alloc, &pair.low),
+        Some(pair) => Ok(copied_sender(alloc, &pair.low)?),
     }
 }
 
@@ -145,7 +145,7 @@ impl<'a> Scope<'a> {
     {
         match place {
             None => Ok(nothing()),
-            Some(place) => set_flag(self.alloc, self.flag_at(place)),
+            Some(place) => Ok(set_flag(self.alloc, self.flag_at(place))?),
         }
     }
 
@@ -162,7 +162,7 @@ impl<'a> Scope<'a> {
         let reference = plain_name(self.alloc, name)?;
         let something = self.means_something(&reference);
         let place = one_of_kind(findings, line, Rule::Q8, something, self.flag(&reference))?;
-        self.set_if(place)
+        Ok(self.set_if(place)?)
     }
 
     fn operands(
@@ -207,7 +207,8 @@ impl<'a> Scope<'a> {
     {
         let reference = plain_name(self.alloc, name)?;
         let something = self.means_something(&reference);
-        one_of_kind(findings, line, Rule::Q9, something, self.file(name.get()))
+        let file = self.file(name.get());
+        Ok(one_of_kind(findings, line, Rule::Q9, something, file)?)
     }
 
     /// Adds the file of this name, where there is one.
@@ -495,7 +496,7 @@ impl<'a> Scope<'a> {
                 until,
             }) => {
                 let logic = self.condition(findings, line, until)?;
-                self.turns_until(findings, line, *test, varying.as_ref(), logic)
+                Ok(self.turns_until(findings, line, *test, varying.as_ref(), logic)?)
             }
         }
     }
@@ -511,7 +512,7 @@ impl<'a> Scope<'a> {
         ensures value { IfOk result (λ place. place ≡ (the_para self.now name.now).value) }
         ensures noted { OnOk result (findings.new.items ≡ noted line findings.old.items (the_para self.now name.now).broken) }
     {
-        exactly_one(findings, line, self.para(name.get()))
+        Ok(exactly_one(findings, line, self.para(name.get()))?)
     }
 
     fn last_para(
