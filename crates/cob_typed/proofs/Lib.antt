@@ -7,5 +7,6 @@ pub mod ParaLemmas
 pub mod Places
 pub mod SizeLemmas
 pub mod SizeLoops
+pub mod ValueLemmas
 pub mod Walks
 pub mod WorkLemmas

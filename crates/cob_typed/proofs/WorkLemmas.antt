@@ -3,7 +3,7 @@ use Rattle.std.proofs.Common.{◌≡◌, ℕ, ◌+◌, ◌-◌, ◌*◌, ◌^◌
 use Rattle.std.specs.Prelude.{is_some, option_map}
 use Rattle.std.proofs.lemmas.Bool.{cases_lt}
 use Rattle.std.proofs.Math.Nat.{le-mul_of_pos_right}
-use Rattle.cob_program.specs.Sum.{Sum, Part, Parts, parts_of, no_parts, more_parts, Atom}
+use Rattle.cob_program.specs.Sum.{Sum, MkSum, Part, Parts, parts_of, no_parts, more_parts, Atom}
 use Rattle.cob_program.specs.Bounds.{Bound, joint, sum_bound, product_bound, is_small, is_small_sum}
 use Rattle.cob_typed.specs.declared.bounds.Size as declared_size
 use Rattle.cob_typed.specs.Scope.{Scope}
@@ -29,6 +29,12 @@ parts_with_only minus (a ∷ as_) = ap (more_parts (atom_part minus a)) (parts_w
 pub part_if_is : (o : Option Atom) → parts_of (atoms_if o) ≡ part_if o
 part_if_is None = refl
 part_if_is (Some a) = refl
+
+pub summed_is : (minus : Bool) (as_ : List Atom) (o : Option Atom) (old mid new : List Part) → old ≡ [] → mid ≡ old ++ map (atom_part minus) as_ → new ≡ mid ++ atoms_if o →
+    MkSum (parts_of new) ≡ MkSum (parts_with minus as_ (part_if o))
+summed_is minus as_ o old mid new none first rest =
+    ap (λ ps. MkSum (parts_of ps)) (rest ∙ ap (λ ps. ps ++ atoms_if o) (first ∙ ap (λ ps. ps ++ map (atom_part minus) as_) none))
+    ∙ ap MkSum (parts_with_is minus as_ (atoms_if o) ∙ ap (parts_with minus as_) (part_if_is o))
 
 -- ---- results
 

@@ -1,5 +1,8 @@
 -- What contracts see of a side of a relation, and of a relation that may be abbreviated.
 use Rattle.std.specs.Prelude.{Option, Some, None}
+use Rattle.cob_tree.specs.Expr.{Expr}
+use Rattle.cob_tree.specs.Cond.{Simple}
+use Rattle.cob_tree.specs.Cond as cond
 use Rattle.cob_tree.specs.ExprView.{plain_expr}
 use Rattle.cob_typed.specs.declared.operand.Operand as declared_operand
 use Rattle.cob_typed.specs.declared.operand.Operand.TheVariants as variant
@@ -20,3 +23,8 @@ abbrev pub seen_value : declared_value.Value → Value
 seen_value (form.Plain e) = plain_value (plain_expr e.now)
 seen_value (form.Denied e) = denied_value (plain_expr e.now)
 seen_value form.Other = no_value
+
+-- the expression that a simple condition is
+abbrev pub alone_in : Simple → Option Expr
+alone_in (cond.alone e) = Some e
+alone_in _ = None

@@ -7,12 +7,12 @@ ghost use Rattle.cob_program.specs.declared.act.Target.{Target};
 ghost use Rattle.cob_program.specs.Sum as sum_spec;
 ghost use Rattle.cob_program.specs.SumView.{plain_sum, plain_part, plain_atom};
 ghost use Rattle.cob_program.specs.Bounds.{Bound, atom_most, is_small_sum, is_small_stored};
-ghost use Rattle.cob_typed.specs.Judged.{noted, each_of, if_there};
+ghost use Rattle.cob_typed.specs.Judged.{noted, both, each_of, if_there};
 ghost use Rattle.cob_typed.specs.Sums.{numeric_operand};
 ghost use Rattle.cob_typed.specs.Conditions.{bound_at};
 ghost use Rattle.cob_typed.specs.Sizes.{plain_size, capped, if_small, small_sum, is_plain};
 ghost use Rattle.cob_typed.specs.Workings.{plain_worked, atoms_if, remainder};
-ghost use Rattle.cob_typed.specs.Arithmetic.{atom_part, one_by_other, mode_of, may_receive, target, is_small_result, are_small_results, quotient_at, is_small_remainder_at, scale_of, are_small_remainders, worked, add_to, add_giving, subtract_from, subtract_giving, multiply_by, multiply_giving, divide_into, one_receiver, with_remainder, divided, divide_giving, compute};
+ghost use Rattle.cob_typed.specs.Arithmetic.{atom_part, parts_with, part_if, one_by_other, mode_of, may_receive, target, is_small_result, are_small_results, quotient_at, is_small_remainder_at, scale_of, are_small_remainders, worked, add_to, add_giving, subtract_from, subtract_giving, multiply_by, multiply_giving, divide_into, one_receiver, with_remainder, divided, divide_giving, compute};
 
 use crate::bounds::{Size, quotient_size};
 use crate::finding::{Finding, demand};
@@ -142,6 +142,24 @@ impl<'a> Scope<'a> {
         }
     }
 
+    /// What operands add up to, or with `minus` are subtracted as, and one more, where there is one.
+    fn summed(
+        &self,
+        findings: &mut Vec<Finding>,
+        line: u32,
+        minus: bool,
+        operands: &[Opnd],
+        last: Option<&Opnd>,
+    ) -> Result<Sum, AllocError>
+        ensures value { IfOk result (λ sum. plain_sum sum ≡ sum_spec.MkSum (parts_with minus (each_of (numeric_operand self.now) operands.now).value (part_if (if_there (numeric_operand self.now) (option_copied last.entry)).value))) }
+        ensures noted { OnOk result (findings.new.items ≡ noted line findings.old.items (both (each_of (numeric_operand self.now) operands.now).broken (if_there (numeric_operand self.now) (option_copied last.entry)).broken)) }
+    {
+        let mut parts = Vec::new(self.alloc);
+        self.add_operands(findings, line, minus, operands, &mut parts)?;
+        self.add_operand(findings, line, last, &mut parts)?;
+        Ok(Sum::of(parts))
+    }
+
     // ---- receivers
 
     fn target(
@@ -260,9 +278,8 @@ impl<'a> Scope<'a> {
         ensures value { IfOk result (λ made. plain_worked made ≡ (add_to self.now addends.now to.now).value) }
         ensures noted { OnOk result (findings.new.items ≡ noted line findings.old.items (add_to self.now addends.now to.now).broken) }
     {
-        let mut parts = Vec::new(self.alloc);
-        self.add_operands(findings, line, false, addends, &mut parts)?;
-        self.worked(findings, line, How::Plus, Sum::of(parts), to)
+        let common = self.summed(findings, line, false, addends, None)?;
+        self.worked(findings, line, How::Plus, common, to)
     }
 
     /// ADD .. TO .. GIVING ..
@@ -277,10 +294,8 @@ impl<'a> Scope<'a> {
         ensures value { IfOk result (λ made. plain_worked made ≡ (add_giving self.now addends.now (option_copied to.entry) giving.now).value) }
         ensures noted { OnOk result (findings.new.items ≡ noted line findings.old.items (add_giving self.now addends.now (option_copied to.entry) giving.now).broken) }
     {
-        let mut parts = Vec::new(self.alloc);
-        self.add_operands(findings, line, false, addends, &mut parts)?;
-        self.add_operand(findings, line, to, &mut parts)?;
-        self.worked(findings, line, How::Whole, Sum::of(parts), giving)
+        let common = self.summed(findings, line, false, addends, to)?;
+        self.worked(findings, line, How::Whole, common, giving)
     }
 
     /// SUBTRACT .. FROM ..
@@ -294,9 +309,8 @@ impl<'a> Scope<'a> {
         ensures value { IfOk result (λ made. plain_worked made ≡ (subtract_from self.now less.now from.now).value) }
         ensures noted { OnOk result (findings.new.items ≡ noted line findings.old.items (subtract_from self.now less.now from.now).broken) }
     {
-        let mut parts = Vec::new(self.alloc);
-        self.add_operands(findings, line, false, less, &mut parts)?;
-        self.worked(findings, line, How::Minus, Sum::of(parts), from)
+        let common = self.summed(findings, line, false, less, None)?;
+        self.worked(findings, line, How::Minus, common, from)
     }
 
     /// SUBTRACT .. FROM .. GIVING ..
@@ -311,10 +325,8 @@ impl<'a> Scope<'a> {
         ensures value { IfOk result (λ made. plain_worked made ≡ (subtract_giving self.now less.now from.now giving.now).value) }
         ensures noted { OnOk result (findings.new.items ≡ noted line findings.old.items (subtract_giving self.now less.now from.now giving.now).broken) }
     {
-        let mut parts = Vec::new(self.alloc);
-        self.add_operands(findings, line, true, less, &mut parts)?;
-        self.add_operand(findings, line, Some(from), &mut parts)?;
-        self.worked(findings, line, How::Whole, Sum::of(parts), giving)
+        let common = self.summed(findings, line, true, less, Some(from))?;
+        self.worked(findings, line, How::Whole, common, giving)
     }
 
     /// MULTIPLY .. BY ..

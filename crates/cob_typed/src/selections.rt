@@ -1,15 +1,16 @@
 //! What stands behind WHEN (ISO 1989:1985, "The EVALUATE statement").
-ghost use Rattle.std.specs.Prelude.{◌≡◌, ◌∷◌, [], IfOk, OnOk};
+ghost use Rattle.std.specs.Prelude.{◌≡◌, ◌∷◌, [], option_map, IfOk, OnOk};
 ghost use Rattle.std.specs.Option.{option_copied};
 ghost use Rattle.cob_tree.specs.ExprView.{plain_expr};
-ghost use Rattle.cob_tree.specs.CondView.{plain_cond};
+ghost use Rattle.cob_tree.specs.Cond.{MkCond, no_conjs, MkConj, no_negs};
+ghost use Rattle.cob_tree.specs.CondView.{plain_cond, plain_conj, plain_neg, plain_simple};
 ghost use Rattle.cob_tree.specs.StmtView.{plain_sel};
 ghost use Rattle.cob_program.specs.LogicView.{plain_logic, plain_test};
 ghost use Rattle.cob_tree.specs.Stmt.{range};
 ghost use Rattle.cob_data.specs.declared.end.Rule.TheVariants.{Q7};
 ghost use Rattle.cob_typed.specs.Judged.{noted, one, both};
 ghost use Rattle.cob_typed.specs.Conditions.{walk_cond};
-ghost use Rattle.cob_typed.specs.Operands.{seen_value};
+ghost use Rattle.cob_typed.specs.Operands.{seen_value, alone_in};
 ghost use Rattle.cob_typed.specs.Selections.{looked_at, compares, may_equal, pair, value_of, member_test, value_in, value_test, choice_of_item, selection};
 
 use crate::copies::copied_sender;
@@ -19,7 +20,7 @@ use crate::scope::Scope;
 use crate::shapes::lone;
 use cob_data::{Pair, Rule, Sender};
 use cob_program::{Logic, Test};
-use cob_tree::{Cond, Expr, Many, Opnd, Sel, Simple, Subject};
+use cob_tree::{Cond, Conj, Expr, Many, Neg, Opnd, Sel, Simple, Subject};
 use std::alloc::{AllocError, Global};
 
 /// What EVALUATE looks at: TRUE, or an item.
@@ -46,21 +47,53 @@ fn compares(way: Comparison) -> bool
     }
 }
 
-fn value_in(cond: &Cond) -> Value<'_>
-    ensures { seen_value result ≡ value_in (plain_cond cond.now) }
+/// The expression that a simple condition is.
+fn alone_in(simple: &Simple) -> Option<&Expr>
+    ensures { option_map plain_expr (option_copied result) ≡ alone_in (plain_simple simple.now) }
 {
-    if !cond.others.is_empty() || !cond.first.others.is_empty() {
-        return Value::Other;
+    match simple {
+        Simple::Expr(expr) => Some(expr),
+        Simple::Cond(_) => None,
+        Simple::Relation { .. } => None,
+        Simple::Abbreviated { .. } => None,
+        Simple::Numeric { .. } => None,
+        Simple::Sign { .. } => None,
     }
-    match &cond.first.first.simple {
-        Simple::Expr(expr) => {
-            if cond.first.first.not {
+}
+
+#[tactic(auto, using(crate::proofs::ValueLemmas::value_of_neg))]
+fn value_in_neg(neg: &Neg) -> Value<'_>
+    ensures { seen_value result ≡ value_in (MkCond (MkConj (plain_neg neg.now) no_negs) no_conjs) }
+{
+    match alone_in(&neg.simple) {
+        None => Value::Other,
+        Some(expr) => {
+            if neg.not {
                 Value::Denied(expr)
             } else {
                 Value::Plain(expr)
             }
         }
-        _ => Value::Other,
+    }
+}
+
+fn value_in_conj(conj: &Conj) -> Value<'_>
+    ensures { seen_value result ≡ value_in (MkCond (plain_conj conj.now) no_conjs) }
+{
+    if conj.others.as_slice().is_empty() {
+        value_in_neg(&conj.first)
+    } else {
+        Value::Other
+    }
+}
+
+fn value_in(cond: &Cond) -> Value<'_>
+    ensures { seen_value result ≡ value_in (plain_cond cond.now) }
+{
+    if cond.others.as_slice().is_empty() {
+        value_in_conj(&cond.first)
+    } else {
+        Value::Other
     }
 }
 

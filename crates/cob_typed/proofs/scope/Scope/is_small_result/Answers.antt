@@ -28,13 +28,13 @@ returns-in-Plus c = λ common small stored.
 pub returns-in-Minus : goal.returns-in-Minus
 returns-in-Minus c = λ common small stored.
     let b = bound_at c.args.self.now in
-    c.is_some.ensures ∙ grown c.plus.result _ _ (b c.args.target.now.item) (sum_most b common) (is_small_sum b common) c.plus.ensures c.item_size.ensures (ap (option_map plain_size) (sym c.in-Some.is) ∙ small)
+    c.is_some-in-Minus.ensures ∙ grown c.plus-in-Minus.result _ _ (b c.args.target.now.item) (sum_most b common) (is_small_sum b common) c.plus-in-Minus.ensures c.item_size-in-Minus.ensures (ap (option_map plain_size) (sym c.in-Some.is) ∙ small)
     ∙ sym (ap (is_small_result c.args.self.now common c.args.target.now) c.in-Minus.is)
 
 pub returns-in-Times : goal.returns-in-Times
 returns-in-Times c = λ common small stored.
     let b = bound_at c.args.self.now in
-    c.is_some.ensures ∙ multiplied_ c.by.result _ _ (b c.args.target.now.item) (sum_most b common) (is_small_sum b common) c.by.ensures c.item_size.ensures (ap (option_map plain_size) (sym c.in-Some.is) ∙ small)
+    c.is_some-in-Times.ensures ∙ multiplied_ c.by.result _ _ (b c.args.target.now.item) (sum_most b common) (is_small_sum b common) c.by.ensures c.item_size-in-Times.ensures (ap (option_map plain_size) (sym c.in-Some.is) ∙ small)
     ∙ sym (ap (is_small_result c.args.self.now common c.args.target.now) c.in-Times.is)
 
 pub returns-in-Under : goal.returns-in-Under
