@@ -281,13 +281,25 @@ fn typed_among<'x>(
     typed_with(&scope, tree)
 }
 
-fn typed_in<'x>(alloc: Global, layout: &'x Layout, tree: &'x Tree) -> Result<Typed, AllocError>
+fn typed_by_names<'x>(
+    alloc: Global,
+    layout: &'x Layout,
+    names: &'x Names<'x>,
+    tree: &'x Tree,
+) -> Result<Typed, AllocError>
+    requires { names.now ≡ layout.now }
+    ensures { IfOk result (λ typed. AreTyped layout.now (plain_tree tree.now) typed) }
+{
+    let places = places_of(alloc, tree.paragraphs.get())?;
+    typed_among(alloc, layout, names, &places, tree)
+}
+
+fn typed_in(alloc: Global, layout: &Layout, tree: &Tree) -> Result<Typed, AllocError>
     requires { HasFewPlaces layout.now }
     ensures { IfOk result (λ typed. AreTyped layout.now (plain_tree tree.now) typed) }
 {
     let names = Names::of(alloc, layout)?;
-    let places = places_of(alloc, tree.paragraphs.get())?;
-    typed_among(alloc, layout, &names, &places, tree)
+    typed_by_names(alloc, layout, &names, tree)
 }
 
 /// The program, where no rule is broken; else the first rule of the table that is, and its first line.
