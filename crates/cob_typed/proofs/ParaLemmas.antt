@@ -17,7 +17,8 @@ use Rattle.cob_names.specs.Search.{found_and}
 use Rattle.cob_typed.specs.declared.finding.Finding.{Finding}
 use Rattle.cob_typed.specs.Judged.{finding, noted, unless}
 use Rattle.cob_typed.specs.Scope.{place_if, found_in, paras_from}
-use Rattle.cob_typed.specs.Paras.{para_in, HasParas}
+use Rattle.cob_typed.specs.Paras.{found_or_nothing, para_in, HasParas}
+use Rattle.indexmap.specs.IndexMap.{IndexMap, get_by}
 use Rattle.cob_typed.specs.Lists.{found_behind}
 use Rattle.cob_typed.specs.Typing.{clashes, is_known, lines_among, rule_number}
 use Rattle.cob_typed.specs.Answer.{lines_in}
@@ -151,3 +152,14 @@ lines_are xs rule = lines_behind [] xs rule
 pub clash_found : (line : ℕ) (fs : List Finding) (new known : Bool) → new ≡ not known → noted line fs (unless Q11 new) ≡ found_behind fs (if known then (Q11, line) ∷ [] else [])
 clash_found line fs new true is = ap (λ b. noted line fs (unless Q11 b)) is
 clash_found line fs new false is = ap (λ b. noted line fs (unless Q11 b)) is
+
+-- one more place of a name
+module _ {S : Type 0} (old new : IndexMap (Bor (List ℕ)) Found S) (name text : List ℕ) (v : Found) (p : ℕ) where
+  added_at : (b : Bool) → bytes_eq text name ≡ b → get_by (λ k. bytes_eq text k.now) new ≡ (if b then Some v else get_by (λ k. bytes_eq text k.now) old) → v ≡ found_and (para_in old name) p →
+      para_in new text ≡ (if b then found_and (para_in old text) p else para_in old text)
+  added_at true same put is = ap found_or_nothing put ∙ is ∙ ap (λ n. found_and (para_in old n) p) (sym ((bytes_decides text name).0 same))
+  added_at false same put is = ap found_or_nothing put
+
+  pub place_added : get_by (λ k. bytes_eq text k.now) new ≡ (if bytes_eq name text then Some v else get_by (λ k. bytes_eq text k.now) old) → v ≡ found_and (para_in old name) p →
+      para_in new text ≡ (if bytes_eq text name then found_and (para_in old text) p else para_in old text)
+  place_added put is = added_at (bytes_eq text name) refl (put ∙ ap (λ b. if b then Some v else get_by (λ k. bytes_eq text k.now) old) (same_bytes name text)) is

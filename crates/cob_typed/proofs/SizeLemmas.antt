@@ -56,6 +56,9 @@ great_power most by some far =
 pub one_power : (by : ℕ) → 1 ≤ 10 ^ by
 one_power by = pow-le-pow_right {n = 10} (omega arith) {i = 0} {j = by} (omega arith)
 
+pub positive_power : (p by : ℕ) → p ≡ 10 ^ by → 0 < p
+positive_power p by e = omega (arith, e, one_power by)
+
 pub few_digits : (digits : ℕ) → digits ≤ 37 → 10 ^ digits ≤ 10 ^ 37
 few_digits digits h = pow-le-pow_right {n = 10} (omega arith) {i = digits} {j = 37} h
 

@@ -1,5 +1,5 @@
 -- What a condition is as a value behind WHEN.
-use Rattle.std.proofs.Common.{◌≡◌, Bool, true, false, List, [], ◌∷◌, length, map, Option, Some, None, if◌then◌else◌, refl, sym, ap, ◌∙◌, arith}
+use Rattle.std.proofs.Common.{◌≡◌, ◌==◌, Bool, true, false, List, [], ◌∷◌, length, map, Option, Some, None, if◌then◌else◌, refl, sym, ap, ◌∙◌, arith, rules}
 use Rattle.cob_tree.specs.declared.cond.Cond as declared_cond
 use Rattle.cob_tree.specs.declared.cond.Cond.{out-Cond}
 use Rattle.cob_tree.specs.declared.cond.Conj as declared_conj
@@ -63,26 +63,32 @@ more_than_one_conj (MkConj (MkNeg false (cond.sign value not__ asked)) ns) d ds 
 more_than_one_conj (MkConj (MkNeg false (cond.alone e)) no_negs) d ds = refl
 more_than_one_conj (MkConj (MkNeg false (cond.alone e)) (more_negs m ms)) d ds = refl
 
+full : {A : Type 0} (x : A) (xs : List A) → (length (x ∷ xs) == 0) ≡ true → ⊥
+full x xs e = let f : (length (x ∷ xs) == 0) ≡ false = search rules in let g : true ≡ false = sym e ∙ f in absurd cc
+
+empty : true ≡ false → ⊥
+empty e = absurd cc
+
 pub value_of_neg : (n : declared_neg.Neg) → value_in (MkCond (MkConj (plain_neg n) no_negs) no_conjs) ≡ value_if (out-Neg n).not (alone_in (plain_simple (out-Neg n).simple))
 value_of_neg n = ap (λ m. value_in (MkCond (MkConj m no_negs) no_conjs)) (fold_out-Neg _ _ _ _ _ _ _ _ n) ∙ value_of_simple (out-Neg n).not (plain_simple (out-Neg n).simple)
 
-pub value_of_conj : (c : declared_conj.Conj) (xs : List declared_neg.Neg) → xs ≡ (out-Conj c).others.items → length xs ≡ 0 →
+pub value_of_conj : (c : declared_conj.Conj) (xs : List declared_neg.Neg) → xs ≡ (out-Conj c).others.items → (length xs == 0) ≡ true →
     value_in (MkCond (MkConj (plain_neg (out-Conj c).first) no_negs) no_conjs) ≡ value_in (MkCond (plain_conj c) no_conjs)
 value_of_conj c [] same none = sym (ap (λ d. value_in (MkCond d no_conjs)) (fold_out-Conj _ _ _ _ _ _ _ _ c) ∙ sym (ap (λ ns. value_in (MkCond (MkConj (plain_neg (out-Conj c).first) (negs_of (map plain_neg ns))) no_conjs)) same))
-value_of_conj c (x ∷ xs) same none = absurd (omega (arith, none))
+value_of_conj c (x ∷ xs) same none = absurd (full x xs none)
 
-pub no_value_of_conj : (c : declared_conj.Conj) (xs : List declared_neg.Neg) → xs ≡ (out-Conj c).others.items → (length xs ≡ 0 → ⊥) → no_value ≡ value_in (MkCond (plain_conj c) no_conjs)
-no_value_of_conj c [] same some = absurd (some refl)
+pub no_value_of_conj : (c : declared_conj.Conj) (xs : List declared_neg.Neg) → xs ≡ (out-Conj c).others.items → (length xs == 0) ≡ false → no_value ≡ value_in (MkCond (plain_conj c) no_conjs)
+no_value_of_conj c [] same some = absurd (empty some)
 no_value_of_conj c (x ∷ xs) same some =
     sym (ap (λ d. value_in (MkCond d no_conjs)) (fold_out-Conj _ _ _ _ _ _ _ _ c) ∙ sym (ap (λ ns. value_in (MkCond (MkConj (plain_neg (out-Conj c).first) (negs_of (map plain_neg ns))) no_conjs)) same)
     ∙ more_than_one_neg (plain_neg (out-Conj c).first) (plain_neg x) (negs_of (map plain_neg xs)))
 
-pub value_of_cond : (c : declared_cond.Cond) (xs : List declared_conj.Conj) → xs ≡ (out-Cond c).others.items → length xs ≡ 0 → value_in (MkCond (plain_conj (out-Cond c).first) no_conjs) ≡ value_in (plain_cond c)
+pub value_of_cond : (c : declared_cond.Cond) (xs : List declared_conj.Conj) → xs ≡ (out-Cond c).others.items → (length xs == 0) ≡ true → value_in (MkCond (plain_conj (out-Cond c).first) no_conjs) ≡ value_in (plain_cond c)
 value_of_cond c [] same none = sym (ap value_in (fold_out-Cond _ _ _ _ _ _ _ _ c) ∙ sym (ap (λ cs. value_in (MkCond (plain_conj (out-Cond c).first) (conjs_of (map plain_conj cs)))) same))
-value_of_cond c (x ∷ xs) same none = absurd (omega (arith, none))
+value_of_cond c (x ∷ xs) same none = absurd (full x xs none)
 
-pub no_value_of_cond : (c : declared_cond.Cond) (xs : List declared_conj.Conj) → xs ≡ (out-Cond c).others.items → (length xs ≡ 0 → ⊥) → no_value ≡ value_in (plain_cond c)
-no_value_of_cond c [] same some = absurd (some refl)
+pub no_value_of_cond : (c : declared_cond.Cond) (xs : List declared_conj.Conj) → xs ≡ (out-Cond c).others.items → (length xs == 0) ≡ false → no_value ≡ value_in (plain_cond c)
+no_value_of_cond c [] same some = absurd (empty some)
 no_value_of_cond c (x ∷ xs) same some =
     sym (ap value_in (fold_out-Cond _ _ _ _ _ _ _ _ c) ∙ sym (ap (λ cs. value_in (MkCond (plain_conj (out-Cond c).first) (conjs_of (map plain_conj cs)))) same)
     ∙ more_than_one_conj (plain_conj (out-Cond c).first) (plain_conj x) (conjs_of (map plain_conj xs)))

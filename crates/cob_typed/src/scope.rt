@@ -18,9 +18,9 @@ use std::marker::Model;
 pub struct Scope<'a> {
     pub alloc: Global,
     layout: &'a Layout,
-    names: &'a Names<'a>,
+    names: Names<'a>,
     paras: &'a [Paragraph],
-    places: &'a IndexMap<&'a [u8], Found>,
+    places: IndexMap<&'a [u8], Found>,
     // the form of what is no item
     group: Form,
 }
@@ -35,7 +35,7 @@ impl<'a> Model for Scope<'a> {
 
     ghost view = { λ s. record { layout = s.layout.now; paras = map (λ p. p.name) s.paras.now } };
 
-    ghost invariant = { λ s. (s.names.now ≡ s.layout.now) × (s.group ≡ form.Group) × HasParas s.places.now (map (λ p. p.name) s.paras.now) };
+    ghost invariant = { λ s. (s.names ≡ s.layout.now) × (s.group ≡ form.Group) × HasParas s.places (map (λ p. p.name) s.paras.now) };
 }
 
 /// Whether there is something.
@@ -194,12 +194,12 @@ impl<'a> Scope<'a> {
     pub fn of(
         alloc: Global,
         layout: &'a Layout,
-        names: &'a Names<'a>,
+        names: Names<'a>,
         paras: &'a [Paragraph],
-        places: &'a IndexMap<&'a [u8], Found>,
+        places: IndexMap<&'a [u8], Found>,
     ) -> Scope<'a>
-        requires names { names.now ≡ layout.now }
-        requires paras { HasParas places.now (map (λ p. p.name) paras.now) }
+        requires names { names ≡ layout.now }
+        requires paras { HasParas places (map (λ p. p.name) paras.now) }
         ensures { result ≡ record { layout = layout.now; paras = map (λ p. p.name) paras.now } }
     {
         Scope {

@@ -46,6 +46,15 @@ const TYPING_RULES: [Rule; 12] = [
 
 // ---- names of paragraphs
 
+fn found_at(places: &IndexMap<&[u8], Found>, name: &[u8]) -> Found
+    ensures { result ≡ para_in places.now name.now }
+{
+    match places.get(name) {
+        None => Found::Nothing,
+        Some(found) => *found,
+    }
+}
+
 /// Notes one more paragraph of a name, counted from 1.
 fn add_place<'a>(
     places: &mut IndexMap<&'a [u8], Found>,
@@ -54,11 +63,8 @@ fn add_place<'a>(
 ) -> Result<(), AllocError>
     ensures { OnOk result ((text : List ℕ) → para_in places.new text ≡ (if bytes_eq text name.now then found_and (para_in places.old text) place else para_in places.old text)) }
 {
-    let found = match places.get(name) {
-        None => Found::Nothing,
-        Some(found) => *found,
-    };
-    places.insert(name, found.and(place))?;
+    let found = found_at(places, name).and(place);
+    places.insert(name, found)?;
     Ok(())
 }
 
@@ -267,40 +273,26 @@ fn typed_with(scope: &Scope, tree: &Tree) -> Result<Typed, AllocError>
     })
 }
 
-fn typed_among<'x>(
+fn scope_in<'x>(
     alloc: Global,
     layout: &'x Layout,
-    names: &'x Names<'x>,
-    places: &'x IndexMap<&'x [u8], Found>,
-    tree: &'x Tree,
-) -> Result<Typed, AllocError>
-    requires names { names.now ≡ layout.now }
-    requires paras { HasParas places.now (map (λ p. p.name) tree.now.paragraphs) }
-    ensures { IfOk result (λ typed. AreTyped layout.now (plain_tree tree.now) typed) }
+    paragraphs: &'x [Paragraph],
+) -> Result<Scope<'x>, AllocError>
+    requires { HasFewPlaces layout.now }
+    ensures { IfOk result (λ scope. scope ≡ record { layout = layout.now; paras = map (λ p. p.name) paragraphs.now }) }
 {
-    let scope = Scope::of(alloc, layout, names, tree.paragraphs.get(), places);
-    typed_with(&scope, tree)
+    let names = Names::of(alloc, layout)?;
+    let places = places_of(alloc, paragraphs)?;
+    Ok(Scope::of(alloc, layout, names, paragraphs, places))
 }
 
-fn typed_by_names<'x>(
-    alloc: Global,
-    layout: &'x Layout,
-    names: &'x Names<'x>,
-    tree: &'x Tree,
-) -> Result<Typed, AllocError>
-    requires { names.now ≡ layout.now }
-    ensures { IfOk result (λ typed. AreTyped layout.now (plain_tree tree.now) typed) }
-{
-    let places = places_of(alloc, tree.paragraphs.get())?;
-    typed_among(alloc, layout, names, &places, tree)
-}
-
-fn typed_in(alloc: Global, layout: &Layout, tree: &Tree) -> Result<Typed, AllocError>
+fn typed_in<'x>(alloc: Global, layout: &'x Layout, tree: &'x Tree) -> Result<Typed, AllocError>
     requires { HasFewPlaces layout.now }
     ensures { IfOk result (λ typed. AreTyped layout.now (plain_tree tree.now) typed) }
 {
-    let names = Names::of(alloc, layout)?;
-    typed_by_names(alloc, layout, &names, tree)
+    let scope = scope_in(alloc, layout, tree.paragraphs.get())?;
+    let typed = typed_with(&scope, tree)?;
+    Ok(typed)
 }
 
 /// The program of what was typed, over a copy of the layout.

@@ -1,5 +1,5 @@
 //! Statements without lists of their own, and what stands before the lists of the others.
-ghost use Rattle.std.specs.Prelude.{◌≡◌, ◌++◌, ◌∷◌, [], map, option_map, slice_get, IfOk, OnOk};
+ghost use Rattle.std.specs.Prelude.{◌≡◌, ◌+◌, ◌++◌, ◌∷◌, [], map, option_map, slice_get, IfOk, OnOk};
 ghost use Rattle.std.specs.Option.{option_copied};
 ghost use Rattle.cob_tree.specs.CondView.{plain_cond};
 ghost use Rattle.cob_tree.specs.Stmt.{times};
@@ -66,14 +66,20 @@ fn is_output(mode: Mode) -> bool
     }
 }
 
+fn end_of(offset: u32, length: u32) -> u64
+    ensures { result ≡ offset + length }
+{
+    u64::from(offset) + u64::from(length)
+}
+
 /// Whether no byte lies in both.
 fn lie_apart(file: Option<&FileDecl>, item: Option<&Item>) -> bool
     ensures { result ≡ lie_apart (option_copied file.entry) (option_copied item.entry) }
 {
     match (file, item) {
         (Some(file), Some(item)) => {
-            let file_end = u64::from(file.offset) + u64::from(file.length);
-            let item_end = u64::from(item.offset) + u64::from(item.length);
+            let file_end = end_of(file.offset, file.length);
+            let item_end = end_of(item.offset, item.length);
             !(u64::from(item.offset) < file_end && u64::from(file.offset) < item_end)
         }
         _ => true,

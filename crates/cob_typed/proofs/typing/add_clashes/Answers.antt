@@ -1,4 +1,5 @@
-use Rattle.std.proofs.Common.{◌≡◌, ◌∷◌, ◌∙◌, ◌+◌, [], not, sym, ap, map, take, drop}
+use Rattle.std.proofs.Common.{◌≡◌, ◌∷◌, ◌∙◌, ◌+◌, [], not, if◌then◌else◌, sym, ap, map, take, drop}
+use Rattle.cob_data.specs.declared.end.Rule.TheVariants.{Q11}
 use Rattle.cob_tree.specs.StmtView.{plain_paragraph}
 use Rattle.cob_typed.specs.Lists.{found_behind}
 use Rattle.cob_typed.specs.Typing.{clashes, is_known}
@@ -19,5 +20,5 @@ loop-paragraph-preserved c =
       keys = λ text. inserted l.known.keys c.insert.new.self.keys c.get.result before c.in_ok-is_new.ensures.keys l.invariant.keys text ∙ ap (is_known text) (ap (λ n. n ∷ before) c.get.ensures ∙ sym more);
       found = ap (λ ns. found_behind c.demand.new.findings.items (clashes ns rest)) more
           ∙ ap (λ fs. found_behind fs (clashes (x.name ∷ before) rest)) (c.in_ok-demand.ensures ∙ clash_found x.line l.findings.items c.in_ok-is_new.is_new (is_known x.name before) (c.in_ok-is_new.ensures.added ∙ ap not stood))
-          ∙ sym (ap (found_behind l.findings.items) (clash_step before ps i x c.loop-paragraph-test.true c.paragraph-item.is) ∙ found_append l.findings.items _ _) ∙ l.invariant.found;
+          ∙ sym (ap (found_behind l.findings.items) (clash_step before ps i x c.loop-paragraph-test.true c.paragraph-item.is) ∙ found_append l.findings.items (if is_known x.name before then (Q11, x.line) ∷ [] else []) (clashes (x.name ∷ before) rest)) ∙ l.invariant.found;
     }
