@@ -144,7 +144,14 @@ impl<'a> Scope<'a> {
         ensures carry { IfOk result (λ x. option_map plain_carry x.1 ≡ (related self.now carry.entry.denied (plain_expr carry.entry.subject.now) carry.entry.not carry.entry.rel (plain_expr right.now)).carry) }
         ensures noted { OnOk result (findings.new.items ≡ noted line findings.old.items (related self.now carry.entry.denied (plain_expr carry.entry.subject.now) carry.entry.not carry.entry.rel (plain_expr right.now)).logic.broken) }
     {
-        let logic = self.relation_logic(findings, line, carry.subject, carry.not, carry.rel, right)?;
+        let logic = self.relation_logic(
+            findings,
+            line,
+            carry.subject,
+            carry.not,
+            carry.rel,
+            right,
+        )?;
         Ok((logic, Some(carry)))
     }
 
@@ -166,7 +173,17 @@ impl<'a> Scope<'a> {
             self.unrelated(findings, line, right)
         } else {
             let subject = before.subject;
-            self.related(findings, line, Carry { subject, not, rel, denied: false }, right)
+            self.related(
+                findings,
+                line,
+                Carry {
+                    subject,
+                    not,
+                    rel,
+                    denied: false,
+                },
+                right,
+            )
         }
     }
 
@@ -227,7 +244,9 @@ impl<'a> Scope<'a> {
             None => Ok((self.named_condition(findings, line, reference)?, None)),
             Some(before) => {
                 if is_there(self.item(reference)) {
-                    self.abbreviated_from(findings, line, denied, before, before.not, before.rel, expr)
+                    self.abbreviated_from(
+                        findings, line, denied, before, before.not, before.rel, expr,
+                    )
                 } else {
                     Ok((self.named_condition(findings, line, reference)?, None))
                 }

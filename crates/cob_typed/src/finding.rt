@@ -20,7 +20,12 @@ pub fn note(findings: &mut Vec<Finding>, line: u32, rule: Rule) -> Result<(), Al
 }
 
 /// Notes that a rule is broken, unless what it demands is met.
-pub fn demand(findings: &mut Vec<Finding>, line: u32, rule: Rule, met: bool) -> Result<(), AllocError>
+pub fn demand(
+    findings: &mut Vec<Finding>,
+    line: u32,
+    rule: Rule,
+    met: bool,
+) -> Result<(), AllocError>
     ensures { OnOk result (findings.new.items ≡ noted line findings.old.items (unless rule met)) }
 {
     if met {

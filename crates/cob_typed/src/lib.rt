@@ -11,6 +11,7 @@ mod copies;
 mod end;
 mod finding;
 mod kinds;
+mod layout_copies;
 mod operand;
 mod relations;
 mod scope;

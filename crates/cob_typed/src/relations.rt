@@ -112,7 +112,12 @@ impl<'a> Scope<'a> {
         ensures value { IfOk result (λ test. plain_test test ≡ (number_test self.now (plain_sum left) rel (plain_sum right)).value) }
         ensures noted { OnOk result (findings.new.items ≡ noted line findings.old.items (number_test self.now (plain_sum left) rel (plain_sum right)).broken) }
     {
-        demand(findings, line, Rule::N5, self.are_small_sides(&left, &right))?;
+        demand(
+            findings,
+            line,
+            Rule::N5,
+            self.are_small_sides(&left, &right),
+        )?;
         Ok(Test::Number { left, rel, right })
     }
 

@@ -124,7 +124,9 @@ impl<'a> Scope<'a> {
     pub fn means_something(&self, reference: &Ref) -> bool
         ensures { result ≡ means_something self.now reference.now }
     {
-        is_there(self.item(reference)) || is_there(self.flag(reference)) || self.names_apart(reference)
+        is_there(self.item(reference))
+            || is_there(self.flag(reference))
+            || self.names_apart(reference)
     }
 
     /// The item that the reference names. Else the rule on names is broken, and what is given doesn't matter.

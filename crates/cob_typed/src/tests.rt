@@ -300,7 +300,7 @@ fn answered(alloc: Global, verb: Verb, clash: bool) -> Result<String, AllocError
     if !has_few_places(&layout) {
         return format!(in alloc; "many places");
     }
-    let answer = typed_of(alloc, &tree(alloc, verb, clash)?, layout);
+    let answer = typed_of(alloc, &tree(alloc, verb, clash)?, &layout);
     shown(alloc, &answer)
 }
 

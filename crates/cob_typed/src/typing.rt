@@ -18,6 +18,7 @@ ghost use Rattle.cob_typed.specs.Answer.{lines_in, AreTyped, IsAnswer, IsRefused
 
 use crate::end::TypedEnd;
 use crate::finding::{Finding, demand};
+use crate::layout_copies::copied_layout;
 use crate::scope::Scope;
 use cob_data::{Layout, Rule};
 use cob_names::{Found, Names};
@@ -294,19 +295,31 @@ fn typed_in<'x>(alloc: Global, layout: &'x Layout, tree: &'x Tree) -> Result<Typ
     Ok(typed)
 }
 
+/// The program of what was typed, over a copy of the layout.
+fn program_of(alloc: Global, layout: &Layout, typed: Typed) -> Result<Program, AllocError>
+    ensures layout { IfOk result (λ program. program.layout ≡ layout.now) }
+    ensures paras { IfOk result (λ program. program.paras ≡ typed.paras.items) }
+    ensures statements { IfOk result (λ program. program.statements ≡ typed.statements) }
+{
+    Ok(Program {
+        layout: copied_layout(alloc, layout)?,
+        paras: Many::of(typed.paras),
+        statements: typed.statements,
+    })
+}
+
 /// The program, where no rule is broken; else the first rule of the table that is, and its first line.
-fn answer_of(layout: Layout, typed: Typed) -> Result<Program, TypedEnd>
-    ensures answer { (t : tree_spec.Tree) → AreTyped layout t typed → IsAnswer layout t result }
-    ensures outside { (t : tree_spec.Tree) → AreTyped layout t typed → (rule : Rule) (line : ℕ) → IsOutside layout t rule line → IsRefused result rule line }
-    ensures accepted { (t : tree_spec.Tree) → AreTyped layout t typed → IsTyped layout t → IsAccepted result }
+fn answer_of(alloc: Global, layout: &Layout, typed: Typed) -> Result<Program, TypedEnd>
+    ensures answer { (t : tree_spec.Tree) → AreTyped layout.now t typed → IsAnswer layout.now t result }
+    ensures outside { (t : tree_spec.Tree) → AreTyped layout.now t typed → (rule : Rule) (line : ℕ) → IsOutside layout.now t rule line → IsRefused result rule line }
+    ensures accepted { (t : tree_spec.Tree) → AreTyped layout.now t typed → IsTyped layout.now t → IsAccepted result }
 {
     match first_among(&typed.findings, &TYPING_RULES) {
         Some((rule, line)) => Err(TypedEnd::Outside { rule, line }),
-        None => Ok(Program {
-            layout,
-            paras: Many::of(typed.paras),
-            statements: typed.statements,
-        }),
+        None => match program_of(alloc, layout, typed) {
+            Err(_) => Err(TypedEnd::Memory),
+            Ok(program) => Ok(program),
+        },
     }
 }
 
@@ -314,14 +327,14 @@ fn answer_of(layout: Layout, typed: Typed) -> Result<Program, TypedEnd>
 /// the source, its abbreviations written out. Or the first rule on statements, in the order of the table, that it breaks,
 /// and the first line that breaks it (ISO 1989:1985, "Procedure division"). More statements or paragraphs than 32 bits
 /// count as want of memory.
-pub fn typed_of(alloc: Global, tree: &Tree, layout: Layout) -> Result<Program, TypedEnd>
-    requires { HasFewPlaces layout }
-    ensures answer { IsAnswer layout (plain_tree tree.now) result }
-    ensures outside { (rule : Rule) (line : ℕ) → IsOutside layout (plain_tree tree.now) rule line → IsRefused result rule line }
-    ensures accepted { IsTyped layout (plain_tree tree.now) → IsAccepted result }
+pub fn typed_of(alloc: Global, tree: &Tree, layout: &Layout) -> Result<Program, TypedEnd>
+    requires { HasFewPlaces layout.now }
+    ensures answer { IsAnswer layout.now (plain_tree tree.now) result }
+    ensures outside { (rule : Rule) (line : ℕ) → IsOutside layout.now (plain_tree tree.now) rule line → IsRefused result rule line }
+    ensures accepted { IsTyped layout.now (plain_tree tree.now) → IsAccepted result }
 {
-    match typed_in(alloc, &layout, tree) {
+    match typed_in(alloc, layout, tree) {
         Err(_) => Err(TypedEnd::Memory),
-        Ok(typed) => answer_of(layout, typed),
+        Ok(typed) => answer_of(alloc, layout, typed),
     }
 }

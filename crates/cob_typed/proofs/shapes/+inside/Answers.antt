@@ -1,4 +1,4 @@
-use Rattle.std.proofs.Common.{◌≡◌, ◌∙◌, ap, sym, if◌then◌else◌, None}
+use Rattle.std.proofs.Common.{◌∙◌, ap, sym, if◌then◌else◌, None}
 use Rattle.cob_tree.specs.declared.expr.Expr.{out-Expr}
 use Rattle.cob_tree.specs.declared.expr.Term.{out-Term}
 use Rattle.cob_tree.specs.ExprView.{plain_term, plain_fact}

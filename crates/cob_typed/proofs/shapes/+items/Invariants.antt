@@ -1,6 +1,4 @@
 use Rattle.std.proofs.Common.{◌≡◌}
-use Rattle.cob_tree.specs.ExprView.{added, multiplied}
-use Rattle.cob_tree.specs.Expr.{terms_of, facts_of}
 use Rattle.cob_typed.specs.Sums.{terms_have_item, facts_have_item}
 use Rattle.cob_typed.proofs.Loops.{terms_from, facts_from}
 use Rattle.cob_typed.proofs.shapes.+items.Given as goal

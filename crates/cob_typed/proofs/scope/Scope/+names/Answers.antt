@@ -1,4 +1,4 @@
-use Rattle.std.proofs.Common.{◌≡◌, ◌++◌, ◌∷◌, ◌∙◌, ◌+◌, ◌||◌, ap, sym, map, drop, length, Bool, true, false}
+use Rattle.std.proofs.Common.{◌∙◌, ◌+◌, ap, sym}
 use Rattle.cob_typed.specs.Judged.{noted}
 use Rattle.cob_typed.specs.Sums.{names_in_terms, names_in_facts}
 use Rattle.cob_typed.proofs.Loops.{terms_from, facts_from, term_step, fact_step, terms_end, facts_end}

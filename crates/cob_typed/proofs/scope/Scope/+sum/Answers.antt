@@ -1,4 +1,4 @@
-use Rattle.std.proofs.Common.{◌≡◌, ◌++◌, ◌∷◌, ◌∙◌, ◌+◌, ap, sym, map}
+use Rattle.std.proofs.Common.{◌++◌, ◌∙◌, ◌+◌, ap, sym, map}
 use Rattle.std.proofs.lemmas.List.{append-nil}
 use Rattle.cob_tree.specs.ExprView.{plain_expr, plain_term, plain_fact, added}
 use Rattle.cob_tree.specs.Expr.{terms_of}
