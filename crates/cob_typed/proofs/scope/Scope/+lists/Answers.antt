@@ -1,0 +1,80 @@
+use Rattle.std.proofs.Common.{◌≡◌, ◌∙◌, ◌+◌, sym, ap, map}
+use Rattle.cob_tree.specs.StmtView as tree_view
+use Rattle.cob_program.specs.Act.{stmts_of}
+use Rattle.cob_program.specs.ActView.{plain_stmt, plain_when}
+use Rattle.cob_typed.specs.Lists.{found_behind}
+use Rattle.cob_typed.specs.Statements.{typed_stmts, typed_whens}
+use Rattle.cob_typed.specs.Typing.{joined}
+use Rattle.cob_typed.proofs.EachLemmas.{map_more}
+use Rattle.cob_typed.proofs.ListLemmas.{stmts_from, whens_from, stmts_step, stmts_end, whens_step, whens_end, stmt_value, stmt_next, stmt_found, when_value, when_next, when_found, whens_behind, whens_none, joined_none}
+use Rattle.cob_typed.proofs.scope.Scope.+lists.Goals as goal
+
+pub add_stmts-loop-statement-preserved : goal.add_stmts-loop-statement-preserved
+add_stmts-loop-statement-preserved t c =
+    let s = c.args.self.now in
+    let l = c.loop-statement in
+    let i = l.statement-index in
+    let x = c.statement-item.result in
+    let made = c.in_ok-stmt.field-0 in
+    let told = c.in_ok-stmt.ensures in
+    let here = stmts_step c.args.list.now i x c.loop-statement-test.true c.statement-item.is in
+    let rest = stmts_from c.args.list.now (i + 1) in record {
+      value = stmt_value s l.next c.stmt.new.next (tree_view.plain_stmt x) rest (map plain_stmt l.typed.items) (map plain_stmt c.push.new.self.items) (plain_stmt made) _ told.next told.value
+          (map_more plain_stmt l.typed.items c.push.new.self.items made c.in_ok-push.ensures.items)
+          (sym (ap (λ ys. joined (stmts_of (map plain_stmt l.typed.items)) (typed_stmts s l.next ys).value) here) ∙ l.invariant.value);
+      next = stmt_next s l.next c.stmt.new.next _ (tree_view.plain_stmt x) rest told.next (sym (ap (λ ys. (typed_stmts s l.next ys).next) here) ∙ l.invariant.next);
+      found = stmt_found s l.next c.stmt.new.next (tree_view.plain_stmt x) rest l.findings.items c.stmt.new.findings.items _ told.next told.found
+          (sym (ap (λ ys. found_behind l.findings.items (typed_stmts s l.next ys).found) here) ∙ l.invariant.found);
+    }
+
+pub add_stmts-returns-clause-value : goal.add_stmts-returns-clause-value
+add_stmts-returns-clause-value t c =
+    let l = c.loop-statement in
+    let past = stmts_end c.args.list.now l.statement-index c.loop-statement-test.false in
+    sym (ap (λ ys. joined (stmts_of (map plain_stmt l.typed.items)) (typed_stmts c.args.self.now l.next ys).value) past ∙ joined_none (stmts_of (map plain_stmt l.typed.items))) ∙ l.invariant.value
+
+pub add_stmts-returns-clause-next : goal.add_stmts-returns-clause-next
+add_stmts-returns-clause-next t c =
+    let l = c.loop-statement in
+    sym (ap (λ ys. (typed_stmts c.args.self.now l.next ys).next) (stmts_end c.args.list.now l.statement-index c.loop-statement-test.false)) ∙ l.invariant.next
+
+pub add_stmts-returns-clause-found : goal.add_stmts-returns-clause-found
+add_stmts-returns-clause-found t c =
+    let l = c.loop-statement in
+    sym (ap (λ ys. found_behind l.findings.items (typed_stmts c.args.self.now l.next ys).found) (stmts_end c.args.list.now l.statement-index c.loop-statement-test.false)) ∙ l.invariant.found
+
+pub whens-loop-when-preserved : goal.whens-loop-when-preserved
+whens-loop-when-preserved t c =
+    let s = c.args.self.now in
+    let l = c.loop-when in
+    let i = l.when-index in
+    let x = c.when-item.result in
+    let line = c.args.line in
+    let looked = c.args.looked in
+    let made = c.in_ok-when.field-0 in
+    let told = c.in_ok-when.ensures in
+    let here = whens_step c.args.whens.now i x c.loop-when-test.true c.when-item.is in
+    let rest = whens_from c.args.whens.now (i + 1) in record {
+      value = when_value s line l.next c.when.new.next looked (tree_view.plain_when x) rest (map plain_when l.typed.items) (map plain_when c.push.new.self.items) (plain_when made) _ told.next told.value
+          (map_more plain_when l.typed.items c.push.new.self.items made c.in_ok-push.ensures.items)
+          (sym (ap (λ ys. whens_behind (map plain_when l.typed.items) (typed_whens s line l.next looked ys).value) here) ∙ l.invariant.value);
+      next = when_next s line l.next c.when.new.next _ looked (tree_view.plain_when x) rest told.next (sym (ap (λ ys. (typed_whens s line l.next looked ys).next) here) ∙ l.invariant.next);
+      found = when_found s line l.next c.when.new.next looked (tree_view.plain_when x) rest l.findings.items c.when.new.findings.items _ told.next told.found
+          (sym (ap (λ ys. found_behind l.findings.items (typed_whens s line l.next looked ys).found) here) ∙ l.invariant.found);
+    }
+
+pub whens-returns-clause-value : goal.whens-returns-clause-value
+whens-returns-clause-value t c =
+    let l = c.loop-when in
+    let past = whens_end c.args.whens.now l.when-index c.loop-when-test.false in
+    sym (ap (λ ys. whens_behind (map plain_when l.typed.items) (typed_whens c.args.self.now c.args.line l.next c.args.looked ys).value) past ∙ whens_none (map plain_when l.typed.items)) ∙ l.invariant.value
+
+pub whens-returns-clause-next : goal.whens-returns-clause-next
+whens-returns-clause-next t c =
+    let l = c.loop-when in
+    sym (ap (λ ys. (typed_whens c.args.self.now c.args.line l.next c.args.looked ys).next) (whens_end c.args.whens.now l.when-index c.loop-when-test.false)) ∙ l.invariant.next
+
+pub whens-returns-clause-found : goal.whens-returns-clause-found
+whens-returns-clause-found t c =
+    let l = c.loop-when in
+    sym (ap (λ ys. found_behind l.findings.items (typed_whens c.args.self.now c.args.line l.next c.args.looked ys).found) (whens_end c.args.whens.now l.when-index c.loop-when-test.false)) ∙ l.invariant.found
