@@ -7,6 +7,7 @@ pub mod ParaLemmas
 pub mod Places
 pub mod SizeLemmas
 pub mod SizeLoops
+pub mod StmtLemmas
 pub mod ValueLemmas
 pub mod Walks
 pub mod WorkLemmas

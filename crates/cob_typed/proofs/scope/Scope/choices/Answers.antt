@@ -19,12 +19,12 @@ loop-choice-preserved c =
 pub returns-clause-value : goal.returns-clause-value
 returns-clause-value c =
     let l = c.loop-choice in
-    let judge = λ y. selection c.args.self.now c.args.looked (plain_sel y) in
-    each_value_end judge c.args.choices.now (λ y. y) l.choice-index (map plain_logic l.tests.items) _ c.loop-choice-test.false l.invariant.value
-    ∙ map_same (each_of judge c.args.choices.now).value ∙ sym (ap (λ j. j.value) (each_map plain_sel (selection c.args.self.now c.args.looked) c.args.choices.now))
+    each_value_end (λ y. selection c.args.self.now c.args.looked (plain_sel y)) c.args.choices.now (λ y. y) l.choice-index (map plain_logic l.tests.items) _ c.loop-choice-test.false l.invariant.value
+    ∙ map_same (each_of (λ y. selection c.args.self.now c.args.looked (plain_sel y)) c.args.choices.now).value
+    ∙ sym (ap (λ j. j.value) (each_map plain_sel (selection c.args.self.now c.args.looked) c.args.choices.now))
 
 pub returns-clause-noted : goal.returns-clause-noted
 returns-clause-noted c =
     let l = c.loop-choice in
     each_noted_end (λ y. selection c.args.self.now c.args.looked (plain_sel y)) c.args.choices.now l.choice-index c.args.line l.findings.items _ c.loop-choice-test.false l.invariant.noted
-    ∙ sym (ap (λ j. noted c.args.line c.args.findings.old.items j.broken) (each_map plain_sel (selection c.args.self.now c.args.looked) c.args.choices.now))
+    ∙ sym (ap (λ j. noted c.args.line c.args.findings.now.items j.broken) (each_map plain_sel (selection c.args.self.now c.args.looked) c.args.choices.now))
