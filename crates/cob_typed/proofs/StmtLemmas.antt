@@ -16,7 +16,7 @@ use Rattle.cob_typed.specs.Judged.{Broken, Judged, noted}
 use Rattle.cob_typed.specs.Scope.{Scope}
 use Rattle.cob_typed.specs.Arithmetic.{Worked}
 use Rattle.cob_typed.specs.Lists.{found_behind, tree_list, tree_phrase}
-use Rattle.cob_typed.specs.Statements.{Numbered, found_on, typed_arith}
+use Rattle.cob_typed.specs.Statements.{Numbered, found_on, typed_arith, typed_verb}
 use Rattle.cob_typed.specs.StatementSteps.{typed_tail, typed_phrases}
 use Rattle.cob_typed.proofs.FoundLemmas.{found_append, found_noted}
 
@@ -50,3 +50,11 @@ module _ (s : Scope) (line n : ℕ) (j : Judged Worked) where
 
   pub arith_found : (t : tree.Tail) (w : Worked) (old mid new : List Finding) → w ≡ j.value → mid ≡ noted line old j.broken → new ≡ found_behind mid (typed_tail s n w t).found → new ≡ found_behind old (typed_arith s line n j t).found
   arith_found (tree.MkTail size fine ended) w old mid new made first rest = judged_found line old mid new j.broken (typed_tail s n w (tree.MkTail size fine ended)).found first rest
+
+-- the rules that a verb breaks: those of one judgement, or those of what follows it too
+module _ (s : Scope) (line n : ℕ) (v : tree.Verb) (b : Broken) (old new : List Finding) where
+  pub only_found : new ≡ noted line old b → (typed_verb s line n v).found ≡ found_on line b → new ≡ found_behind old (typed_verb s line n v).found
+  only_found made is = made ∙ sym (found_noted line old b) ∙ sym (ap (found_behind old) is)
+
+  pub rest_found : (mid : List Finding) (xs : List (Rule × ℕ)) → mid ≡ noted line old b → new ≡ found_behind mid xs → (typed_verb s line n v).found ≡ found_on line b ++ xs → new ≡ found_behind old (typed_verb s line n v).found
+  rest_found mid xs first rest is = judged_found line old mid new b xs first rest ∙ sym (ap (found_behind old) is)
