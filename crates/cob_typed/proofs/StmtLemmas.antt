@@ -1,5 +1,5 @@
 -- Statements before their lists, and with them.
-use Rattle.std.proofs.Common.{◌≡◌, ℕ, List, [], ◌++◌, append-nil, map, Option, Some, None, option_map, refl, sym, ap, ◌∙◌}
+use Rattle.std.proofs.Common.{◌≡◌, ℕ, false, List, [], ◌++◌, append-nil, map, Option, Some, None, option_map, refl, sym, ap, ◌∙◌}
 use Rattle.cob_tree.specs.declared.stmt.Stmt as declared_stmt
 use Rattle.cob_tree.specs.declared.stmt.Stmt.{out-Stmt}
 use Rattle.cob_tree.specs.declared.stmt.Tail as declared_tail
@@ -9,15 +9,20 @@ use Rattle.cob_tree.specs.declared.stmt.When.{out-When}
 use Rattle.cob_tree.specs.declared.stmt.Verb.TheFolds.{fold_out-Stmt, fold_out-Tail, fold_out-When}
 use Rattle.cob_tree.specs.Stmt as tree
 use Rattle.cob_tree.specs.StmtView as tree_view
-use Rattle.cob_program.specs.Act.{Act}
+use Rattle.cob_tree.specs.Cond.{Cond}
+use Rattle.cob_tree.specs.declared.operand.Ref.{Ref}
+use Rattle.cob_program.specs.Act.{Act, Phrase, Stmts, read}
 use Rattle.cob_data.specs.declared.end.Rule.{Rule}
 use Rattle.cob_typed.specs.declared.finding.Finding.{Finding}
-use Rattle.cob_typed.specs.Judged.{Broken, Judged, noted}
+use Rattle.cob_typed.specs.Judged.{Broken, Judged, noted, each_of}
 use Rattle.cob_typed.specs.Scope.{Scope}
+use Rattle.cob_typed.specs.declared.selections.Looked.{Looked}
+use Rattle.cob_typed.specs.Selections.{selection}
+use Rattle.cob_typed.specs.Conditions.{walk_cond}
 use Rattle.cob_typed.specs.Arithmetic.{Worked}
 use Rattle.cob_typed.specs.Lists.{found_behind, tree_list, tree_phrase}
-use Rattle.cob_typed.specs.Statements.{Numbered, found_on, typed_arith, typed_verb}
-use Rattle.cob_typed.specs.StatementSteps.{typed_tail, typed_phrases}
+use Rattle.cob_typed.specs.Statements.{Numbered, found_on, typed_arith, typed_verb, typed_stmts, turns_of, read_parts}
+use Rattle.cob_typed.specs.StatementSteps.{typed_tail, typed_phrases, typed_lists, typed_when}
 use Rattle.cob_typed.proofs.FoundLemmas.{found_append, found_noted}
 
 pub twice : {A B C : Type 0} (f : B → C) (g : A → B) (o : Option A) → option_map f (option_map g o) ≡ option_map (λ a. f (g a)) o
@@ -52,9 +57,43 @@ module _ (s : Scope) (line n : ℕ) (j : Judged Worked) where
   arith_found (tree.MkTail size fine ended) w old mid new made first rest = judged_found line old mid new j.broken (typed_tail s n w (tree.MkTail size fine ended)).found first rest
 
 -- the rules that a verb breaks: those of one judgement, or those of what follows it too
-module _ (s : Scope) (line n : ℕ) (v : tree.Verb) (b : Broken) (old new : List Finding) where
-  pub only_found : new ≡ noted line old b → (typed_verb s line n v).found ≡ found_on line b → new ≡ found_behind old (typed_verb s line n v).found
-  only_found made is = made ∙ sym (found_noted line old b) ∙ sym (ap (found_behind old) is)
+module _ (s : Scope) (line n : ℕ) (v : tree.Verb) (old new : List Finding) where
+  pub only_found : (b : Broken) → new ≡ noted line old b → (typed_verb s line n v).found ≡ found_on line b → new ≡ found_behind old (typed_verb s line n v).found
+  only_found b made is = made ∙ sym (found_noted line old b) ∙ sym (ap (found_behind old) is)
 
-  pub rest_found : (mid : List Finding) (xs : List (Rule × ℕ)) → mid ≡ noted line old b → new ≡ found_behind mid xs → (typed_verb s line n v).found ≡ found_on line b ++ xs → new ≡ found_behind old (typed_verb s line n v).found
-  rest_found mid xs first rest is = judged_found line old mid new b xs first rest ∙ sym (ap (found_behind old) is)
+  pub work_found : (j : Judged Worked) (t : tree.Tail) (w : Worked) (mid : List Finding) → w ≡ j.value → mid ≡ noted line old j.broken → new ≡ found_behind mid (typed_tail s n w t).found
+      → typed_verb s line n v ≡ typed_arith s line n j t → new ≡ found_behind old (typed_verb s line n v).found
+  work_found j t w mid made first rest is = arith_found s line n j t w old mid new made first rest ∙ sym (ap (λ x. found_behind old x.found) is)
+
+  rest_found : (b : Broken) (mid : List Finding) (xs : List (Rule × ℕ)) → mid ≡ noted line old b → new ≡ found_behind mid xs → (typed_verb s line n v).found ≡ found_on line b ++ xs → new ≡ found_behind old (typed_verb s line n v).found
+  rest_found b mid xs first rest is = judged_found line old mid new b xs first rest ∙ sym (ap (found_behind old) is)
+
+  pub if_found : (test : Cond) (yes : tree.Stmts) (no : tree.Phrase) (mid : List Finding) → typed_verb s line n v ≡ typed_verb s line n (tree.if_ test yes no false) → mid ≡ noted line old (walk_cond s test).broken
+      → new ≡ found_behind mid (typed_lists s n yes no).found → new ≡ found_behind old (typed_verb s line n v).found
+  if_found test yes no mid is first rest = rest_found (walk_cond s test).broken mid (typed_lists s n yes no).found first rest (ap (λ x. x.found) is)
+
+  pub inline_found : (turns : Option tree.Loop) (body : tree.Stmts) (mid : List Finding) → typed_verb s line n v ≡ typed_verb s line n (tree.perform_inline turns body) → mid ≡ noted line old (turns_of s turns).broken
+      → new ≡ found_behind mid (typed_stmts s n body).found → new ≡ found_behind old (typed_verb s line n v).found
+  inline_found turns body mid is first rest =
+      rest_found (turns_of s turns).broken mid (typed_stmts s n body).found first rest
+          (ap (λ x. x.found) is ∙ ap (λ xs. found_on line (turns_of s turns).broken ++ xs) (append-nil (typed_stmts s n body).found))
+
+  pub read_found : (file : List ℕ) (into : Option Ref) (end fine : tree.Phrase) (mid : List Finding) → typed_verb s line n v ≡ typed_verb s line n (tree.read file into end fine false) → mid ≡ noted line old (read_parts s file into).broken
+      → new ≡ found_behind mid (typed_phrases s n end fine).found → new ≡ found_behind old (typed_verb s line n v).found
+  read_found file into end fine mid is first rest = rest_found (read_parts s file into).broken mid (typed_phrases s n end fine).found first rest (ap (λ x. x.found) is)
+
+pub read_value : (s : Scope) (line n : ℕ) (v : tree.Verb) (file : List ℕ) (into : Option Ref) (end fine : tree.Phrase) (a : Act) (f : ℕ) (i : Option ℕ) (p : Phrase) (q : Stmts) →
+    typed_verb s line n v ≡ typed_verb s line n (tree.read file into end fine false) → a ≡ read f i p q → f ≡ (read_parts s file into).value.0 → i ≡ (read_parts s file into).value.1
+    → p ≡ (typed_phrases s n end fine).value.0 → q ≡ (typed_phrases s n end fine).value.1 → a ≡ (typed_verb s line n v).value
+read_value s line n v file into end fine a f i p q is made file_is into_is end_is fine_is =
+    made ∙ ap (λ x. read x i p q) file_is ∙ ap (λ x. read (read_parts s file into).value.0 x p q) into_is
+    ∙ ap (λ x. read (read_parts s file into).value.0 (read_parts s file into).value.1 x q) end_is
+    ∙ ap (λ x. read (read_parts s file into).value.0 (read_parts s file into).value.1 (typed_phrases s n end fine).value.0 x) fine_is
+    ∙ sym (ap (λ x. x.value) is)
+
+pub choice_found : (s : Scope) (line n : ℕ) (looked : Looked) (x : tree.When) (choices : List tree.Sel) (body : tree.Stmts) (old mid new : List Finding) → x ≡ tree.MkWhen choices body
+    → mid ≡ noted line old (each_of (selection s looked) choices).broken → new ≡ found_behind mid (typed_stmts s n body).found → new ≡ found_behind old (typed_when s line n looked x).found
+choice_found s line n looked x choices body old mid new is first rest =
+    let b = (each_of (selection s looked) choices).broken in
+    judged_found line old mid new b (typed_stmts s n body).found first rest
+    ∙ sym (ap (λ y. found_behind old (typed_when s line n looked y).found) is ∙ ap (λ xs. found_behind old (found_on line b ++ xs)) (append-nil (typed_stmts s n body).found))

@@ -41,6 +41,16 @@ fn number(next: &mut u32) -> Result<u32, AllocError>
     }
 }
 
+/// One level of lists less. More levels than numbers count as want of memory.
+fn less(left: u32) -> Result<u32, AllocError>
+    ensures { IfOk result (λ fewer. fewer + 1 ≡ left) }
+{
+    match left.checked_sub(1) {
+        None => Err(AllocError),
+        Some(fewer) => Ok(fewer),
+    }
+}
+
 /// A list, which is empty where it is left out.
 fn list_if(alloc: Global, phrase: Option<Vec<Stmt>>) -> Vec<Stmt>
     ensures { plain_stmts result ≡ stmts_if (plain_phrase phrase) }
@@ -70,7 +80,7 @@ impl<'a> Scope<'a> {
         Ok(tests)
     }
 
-    /// Types statements, and adds them to a list.
+    /// Types statements, and adds them to a list. `left` is how many levels of lists may still follow.
     #[cycle(lists)]
     pub fn add_stmts(
         &self,
@@ -78,13 +88,14 @@ impl<'a> Scope<'a> {
         next: &mut u32,
         list: &[cob_tree::Stmt],
         typed: &mut Vec<Stmt>,
+        left: u32,
     ) -> Result<(), AllocError>
         ensures value { OnOk result (stmts_of (map plain_stmt typed.new.items) ≡ joined (stmts_of (map plain_stmt typed.old.items)) (typed_stmts self.now next.old (tree_spec.stmts_of (map tree_view.plain_stmt list.now))).value) }
         ensures next { OnOk result (next.new ≡ (typed_stmts self.now next.old (tree_spec.stmts_of (map tree_view.plain_stmt list.now))).next) }
         ensures found { OnOk result (findings.new.items ≡ found_behind findings.old.items (typed_stmts self.now next.old (tree_spec.stmts_of (map tree_view.plain_stmt list.now))).found) }
     {
         for statement in list {
-            typed.push(self.stmt(findings, next, statement)?)?;
+            typed.push(self.stmt(findings, next, statement, less(left)?)?)?;
         }
         Ok(())
     }
@@ -95,13 +106,14 @@ impl<'a> Scope<'a> {
         findings: &mut Vec<Finding>,
         next: &mut u32,
         list: &[cob_tree::Stmt],
+        left: u32,
     ) -> Result<Vec<Stmt>, AllocError>
         ensures value { IfOk result (λ typed. plain_stmts typed ≡ (typed_stmts self.now next.old (tree_spec.stmts_of (map tree_view.plain_stmt list.now))).value) }
         ensures next { OnOk result (next.new ≡ (typed_stmts self.now next.old (tree_spec.stmts_of (map tree_view.plain_stmt list.now))).next) }
         ensures found { OnOk result (findings.new.items ≡ found_behind findings.old.items (typed_stmts self.now next.old (tree_spec.stmts_of (map tree_view.plain_stmt list.now))).found) }
     {
         let mut typed = Vec::new(self.alloc);
-        self.add_stmts(findings, next, list, &mut typed)?;
+        self.add_stmts(findings, next, list, &mut typed, left)?;
         Ok(typed)
     }
 
@@ -111,13 +123,14 @@ impl<'a> Scope<'a> {
         findings: &mut Vec<Finding>,
         next: &mut u32,
         statement: &cob_tree::Stmt,
+        left: u32,
     ) -> Result<Stmt, AllocError>
         ensures value { IfOk result (λ typed. plain_stmt typed ≡ (typed_stmt self.now next.old (tree_view.plain_stmt statement.now)).value) }
         ensures next { OnOk result (next.new ≡ (typed_stmt self.now next.old (tree_view.plain_stmt statement.now)).next) }
         ensures found { OnOk result (findings.new.items ≡ found_behind findings.old.items (typed_stmt self.now next.old (tree_view.plain_stmt statement.now)).found) }
     {
         let number = number(next)?;
-        let act = self.verb(findings, next, statement.line, &statement.verb)?;
+        let act = self.verb(findings, next, statement.line, &statement.verb, left)?;
         Ok(Stmt::of(number, statement.line, act))
     }
 
@@ -127,6 +140,7 @@ impl<'a> Scope<'a> {
         findings: &mut Vec<Finding>,
         next: &mut u32,
         phrase: &Option<Vec<cob_tree::Stmt>>,
+        left: u32,
     ) -> Result<Option<Vec<Stmt>>, AllocError>
         ensures value { IfOk result (λ typed. plain_phrase typed ≡ (typed_phrase self.now next.old (tree_phrase phrase.now)).value) }
         ensures next { OnOk result (next.new ≡ (typed_phrase self.now next.old (tree_phrase phrase.now)).next) }
@@ -134,7 +148,7 @@ impl<'a> Scope<'a> {
     {
         match phrase {
             None => Ok(None),
-            Some(list) => Ok(Some(self.stmts(findings, next, list)?)),
+            Some(list) => Ok(Some(self.stmts(findings, next, list, left)?)),
         }
     }
 
@@ -145,14 +159,15 @@ impl<'a> Scope<'a> {
         next: &mut u32,
         first: &Option<Vec<cob_tree::Stmt>>,
         second: &Option<Vec<cob_tree::Stmt>>,
+        left: u32,
     ) -> Result<(Option<Vec<Stmt>>, Vec<Stmt>), AllocError>
         ensures first { IfOk result (λ x. plain_phrase x.0 ≡ (typed_phrases self.now next.old (tree_phrase first.now) (tree_phrase second.now)).value.0) }
         ensures second { IfOk result (λ x. plain_stmts x.1 ≡ (typed_phrases self.now next.old (tree_phrase first.now) (tree_phrase second.now)).value.1) }
         ensures next { OnOk result (next.new ≡ (typed_phrases self.now next.old (tree_phrase first.now) (tree_phrase second.now)).next) }
         ensures found { OnOk result (findings.new.items ≡ found_behind findings.old.items (typed_phrases self.now next.old (tree_phrase first.now) (tree_phrase second.now)).found) }
     {
-        let size = self.phrase(findings, next, first)?;
-        let fine = self.phrase(findings, next, second)?;
+        let size = self.phrase(findings, next, first, left)?;
+        let fine = self.phrase(findings, next, second, left)?;
         Ok((size, list_if(self.alloc, fine)))
     }
 
@@ -163,14 +178,15 @@ impl<'a> Scope<'a> {
         next: &mut u32,
         first: &[cob_tree::Stmt],
         second: &Option<Vec<cob_tree::Stmt>>,
+        left: u32,
     ) -> Result<(Vec<Stmt>, Vec<Stmt>), AllocError>
         ensures first { IfOk result (λ x. plain_stmts x.0 ≡ (typed_lists self.now next.old (tree_spec.stmts_of (map tree_view.plain_stmt first.now)) (tree_phrase second.now)).value.0) }
         ensures second { IfOk result (λ x. plain_stmts x.1 ≡ (typed_lists self.now next.old (tree_spec.stmts_of (map tree_view.plain_stmt first.now)) (tree_phrase second.now)).value.1) }
         ensures next { OnOk result (next.new ≡ (typed_lists self.now next.old (tree_spec.stmts_of (map tree_view.plain_stmt first.now)) (tree_phrase second.now)).next) }
         ensures found { OnOk result (findings.new.items ≡ found_behind findings.old.items (typed_lists self.now next.old (tree_spec.stmts_of (map tree_view.plain_stmt first.now)) (tree_phrase second.now)).found) }
     {
-        let yes = self.stmts(findings, next, first)?;
-        let no = self.phrase(findings, next, second)?;
+        let yes = self.stmts(findings, next, first, left)?;
+        let no = self.phrase(findings, next, second, left)?;
         Ok((yes, list_if(self.alloc, no)))
     }
 
@@ -184,13 +200,14 @@ impl<'a> Scope<'a> {
         line: u32,
         looked: Looked,
         when: &cob_tree::When,
+        left: u32,
     ) -> Result<When, AllocError>
         ensures value { IfOk result (λ typed. plain_when typed ≡ (typed_when self.now line next.old looked (tree_view.plain_when when.now)).value) }
         ensures next { OnOk result (next.new ≡ (typed_when self.now line next.old looked (tree_view.plain_when when.now)).next) }
         ensures found { OnOk result (findings.new.items ≡ found_behind findings.old.items (typed_when self.now line next.old looked (tree_view.plain_when when.now)).found) }
     {
         let tests = self.choices(findings, line, looked, when.choices.get())?;
-        let body = self.stmts(findings, next, &when.body)?;
+        let body = self.stmts(findings, next, &when.body, left)?;
         Ok(when_of(tests, body))
     }
 
@@ -202,6 +219,7 @@ impl<'a> Scope<'a> {
         line: u32,
         looked: Looked,
         whens: &[cob_tree::When],
+        left: u32,
     ) -> Result<Vec<When>, AllocError>
         ensures value { IfOk result (λ typed. plain_whens typed ≡ (typed_whens self.now line next.old looked (tree_spec.whens_of (map tree_view.plain_when whens.now))).value) }
         ensures next { OnOk result (next.new ≡ (typed_whens self.now line next.old looked (tree_spec.whens_of (map tree_view.plain_when whens.now))).next) }
@@ -209,7 +227,7 @@ impl<'a> Scope<'a> {
     {
         let mut typed = Vec::new(self.alloc);
         for when in whens {
-            typed.push(self.when(findings, next, line, looked, when)?)?;
+            typed.push(self.when(findings, next, line, looked, when, left)?)?;
         }
         Ok(typed)
     }
@@ -223,13 +241,14 @@ impl<'a> Scope<'a> {
         looked: Looked,
         whens: &[cob_tree::When],
         other: &Option<Vec<cob_tree::Stmt>>,
+        left: u32,
     ) -> Result<Act, AllocError>
         ensures value { IfOk result (λ act. plain_act act ≡ (typed_cases self.now line next.old looked (tree_spec.whens_of (map tree_view.plain_when whens.now)) (tree_phrase other.now)).value) }
         ensures next { OnOk result (next.new ≡ (typed_cases self.now line next.old looked (tree_spec.whens_of (map tree_view.plain_when whens.now)) (tree_phrase other.now)).next) }
         ensures found { OnOk result (findings.new.items ≡ found_behind findings.old.items (typed_cases self.now line next.old looked (tree_spec.whens_of (map tree_view.plain_when whens.now)) (tree_phrase other.now)).found) }
     {
-        let whens = self.whens(findings, next, line, looked, whens)?;
-        let other = self.phrase(findings, next, other)?;
+        let whens = self.whens(findings, next, line, looked, whens, left)?;
+        let other = self.phrase(findings, next, other, left)?;
         Ok(evaluate_of(whens, list_if(self.alloc, other)))
     }
 
@@ -242,12 +261,13 @@ impl<'a> Scope<'a> {
         next: &mut u32,
         worked: Worked,
         tail: &Tail,
+        left: u32,
     ) -> Result<Act, AllocError>
         ensures value { IfOk result (λ act. plain_act act ≡ (typed_tail self.now next.old (plain_worked worked) (plain_tail tail.now)).value) }
         ensures next { OnOk result (next.new ≡ (typed_tail self.now next.old (plain_worked worked) (plain_tail tail.now)).next) }
         ensures found { OnOk result (findings.new.items ≡ found_behind findings.old.items (typed_tail self.now next.old (plain_worked worked) (plain_tail tail.now)).found) }
     {
-        let (size, fine) = self.phrases(findings, next, &tail.size, &tail.not_size)?;
+        let (size, fine) = self.phrases(findings, next, &tail.size, &tail.not_size, left)?;
         Ok(arith_of(worked, size, fine))
     }
 
@@ -258,6 +278,7 @@ impl<'a> Scope<'a> {
         next: &mut u32,
         line: u32,
         verb: &Verb,
+        left: u32,
     ) -> Result<Act, AllocError>
         ensures value { IfOk result (λ act. plain_act act ≡ (typed_verb self.now line next.old (plain_verb verb.now)).value) }
         ensures next { OnOk result (next.new ≡ (typed_verb self.now line next.old (plain_verb verb.now)).next) }
@@ -269,7 +290,7 @@ impl<'a> Scope<'a> {
             Verb::Display(operands) => Ok(self.show_act(findings, line, operands.get())?),
             Verb::AddTo { addends, to, tail } => {
                 let worked = self.add_to(findings, line, addends.get(), to.get())?;
-                Ok(self.arith(findings, next, worked, tail)?)
+                Ok(self.arith(findings, next, worked, tail, left)?)
             }
             Verb::AddGiving {
                 addends,
@@ -279,11 +300,11 @@ impl<'a> Scope<'a> {
             } => {
                 let to = to.as_ref();
                 let worked = self.add_giving(findings, line, addends.get(), to, giving.get())?;
-                Ok(self.arith(findings, next, worked, tail)?)
+                Ok(self.arith(findings, next, worked, tail, left)?)
             }
             Verb::SubtractFrom { less, from, tail } => {
                 let worked = self.subtract_from(findings, line, less.get(), from.get())?;
-                Ok(self.arith(findings, next, worked, tail)?)
+                Ok(self.arith(findings, next, worked, tail, left)?)
             }
             Verb::SubtractGiving {
                 less,
@@ -292,11 +313,11 @@ impl<'a> Scope<'a> {
                 tail,
             } => {
                 let worked = self.subtract_giving(findings, line, less.get(), from, giving.get())?;
-                Ok(self.arith(findings, next, worked, tail)?)
+                Ok(self.arith(findings, next, worked, tail, left)?)
             }
             Verb::MultiplyBy { factor, by, tail } => {
                 let worked = self.multiply_by(findings, line, factor, by.get())?;
-                Ok(self.arith(findings, next, worked, tail)?)
+                Ok(self.arith(findings, next, worked, tail, left)?)
             }
             Verb::MultiplyGiving {
                 factor,
@@ -305,7 +326,7 @@ impl<'a> Scope<'a> {
                 tail,
             } => {
                 let worked = self.multiply_giving(findings, line, factor, by, giving.get())?;
-                Ok(self.arith(findings, next, worked, tail)?)
+                Ok(self.arith(findings, next, worked, tail, left)?)
             }
             Verb::DivideInto {
                 divisor,
@@ -313,7 +334,7 @@ impl<'a> Scope<'a> {
                 tail,
             } => {
                 let worked = self.divide_into(findings, line, divisor, into.get())?;
-                Ok(self.arith(findings, next, worked, tail)?)
+                Ok(self.arith(findings, next, worked, tail, left)?)
             }
             Verb::DivideGiving {
                 first,
@@ -326,17 +347,17 @@ impl<'a> Scope<'a> {
                 let rest = remainder.as_ref();
                 let worked =
                     self.divide_giving(findings, line, first, *way, second, giving.get(), rest)?;
-                Ok(self.arith(findings, next, worked, tail)?)
+                Ok(self.arith(findings, next, worked, tail, left)?)
             }
             Verb::Compute { to, value, tail } => {
                 let worked = self.compute(findings, line, to.get(), value)?;
-                Ok(self.arith(findings, next, worked, tail)?)
+                Ok(self.arith(findings, next, worked, tail, left)?)
             }
             Verb::If {
                 test, yes, other, ..
             } => {
                 let test = self.condition(findings, line, test)?;
-                let (yes, no) = self.lists(findings, next, yes, other)?;
+                let (yes, no) = self.lists(findings, next, yes, other, left)?;
                 Ok(if_of(test, yes, no))
             }
             Verb::Evaluate {
@@ -346,14 +367,14 @@ impl<'a> Scope<'a> {
                 ..
             } => {
                 let looked = self.looked_at(findings, line, subject)?;
-                Ok(self.cases(findings, next, line, looked, whens, other)?)
+                Ok(self.cases(findings, next, line, looked, whens, other, left)?)
             }
             Verb::PerformRange { first, thru, turns } => {
                 Ok(self.range_act(findings, line, first, thru.as_ref(), turns.as_ref())?)
             }
             Verb::PerformInline { turns, body } => {
                 let turns = self.turns(findings, line, turns.as_ref())?;
-                let body = self.stmts(findings, next, body)?;
+                let body = self.stmts(findings, next, body, left)?;
                 Ok(perform_of(inline_of(body), turns))
             }
             Verb::Go(name) => Ok(self.go_act(findings, line, name)?),
@@ -369,7 +390,7 @@ impl<'a> Scope<'a> {
                 ..
             } => {
                 let (file, into) = self.read_parts(findings, line, file, into.as_ref())?;
-                let (end, fine) = self.phrases(findings, next, end, not_end)?;
+                let (end, fine) = self.phrases(findings, next, end, not_end, left)?;
                 Ok(read_of(file, into, end, fine))
             }
             Verb::Write { record, from, .. } => {

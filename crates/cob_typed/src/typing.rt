@@ -124,7 +124,7 @@ impl<'a> Scope<'a> {
         ensures next { OnOk result (next.new ≡ (typed_stmts self.now next.old (plain_sentence sentence.now)).next) }
         ensures found { OnOk result (findings.new.items ≡ found_behind findings.old.items (typed_stmts self.now next.old (plain_sentence sentence.now)).found) }
     {
-        self.add_stmts(findings, next, sentence.statements.get(), typed)?;
+        self.add_stmts(findings, next, sentence.statements.get(), typed, u32::MAX)?;
         Ok(())
     }
 

@@ -7,7 +7,7 @@ use Rattle.cob_typed.specs.Statements.{typed_stmts, typed_whens}
 use Rattle.cob_typed.specs.Typing.{joined}
 use Rattle.cob_typed.proofs.EachLemmas.{map_more}
 use Rattle.cob_typed.proofs.ListLemmas.{stmts_from, whens_from, stmts_step, stmts_end, whens_step, whens_end, stmt_value, stmt_next, stmt_found, when_value, when_next, when_found, whens_behind, whens_none, joined_none}
-use Rattle.cob_typed.proofs.StmtLemmas.{only_found, rest_found}
+use Rattle.cob_typed.proofs.StmtLemmas.{only_found, work_found, if_found, inline_found}
 use Rattle.cob_typed.proofs.scope.Scope.+lists.Goals as goal
 
 pub add_stmts-loop-statement-preserved : goal.add_stmts-loop-statement-preserved
@@ -81,57 +81,69 @@ whens-returns-clause-found t c =
     sym (ap (λ ys. found_behind l.findings.items (typed_whens c.args.self.now c.args.line l.next c.args.looked ys).found) (whens_end c.args.whens.now l.when-index c.loop-when-test.false)) ∙ l.invariant.found
 
 pub verb-returns-in_ok-move_act-in-Move-clause-found : goal.verb-returns-in_ok-move_act-in-Move-clause-found
-verb-returns-in_ok-move_act-in-Move-clause-found t c =
-    only_found c.args.self.now c.args.line c.args.next.now (tree_view.plain_verb c.args.verb.now) _ c.args.findings.now.items _ c.in_ok-move_act-in-Move.ensures.noted (search rules)
+verb-returns-in_ok-move_act-in-Move-clause-found t c = only_found c.args.self.now c.args.line c.args.next.now (tree_view.plain_verb c.args.verb.now) c.args.findings.now.items _ _ c.in_ok-move_act-in-Move.ensures.noted (search rules)
 
 pub verb-returns-in_ok-show_act-in-Display-clause-found : goal.verb-returns-in_ok-show_act-in-Display-clause-found
-verb-returns-in_ok-show_act-in-Display-clause-found t c =
-    only_found c.args.self.now c.args.line c.args.next.now (tree_view.plain_verb c.args.verb.now) _ c.args.findings.now.items _ c.in_ok-show_act-in-Display.ensures.noted (search rules)
+verb-returns-in_ok-show_act-in-Display-clause-found t c = only_found c.args.self.now c.args.line c.args.next.now (tree_view.plain_verb c.args.verb.now) c.args.findings.now.items _ _ c.in_ok-show_act-in-Display.ensures.noted (search rules)
 
 pub verb-returns-in_ok-range_act-in-PerformRange-clause-found : goal.verb-returns-in_ok-range_act-in-PerformRange-clause-found
-verb-returns-in_ok-range_act-in-PerformRange-clause-found t c =
-    only_found c.args.self.now c.args.line c.args.next.now (tree_view.plain_verb c.args.verb.now) _ c.args.findings.now.items _ c.in_ok-range_act-in-PerformRange.ensures.noted (search rules)
+verb-returns-in_ok-range_act-in-PerformRange-clause-found t c = only_found c.args.self.now c.args.line c.args.next.now (tree_view.plain_verb c.args.verb.now) c.args.findings.now.items _ _ c.in_ok-range_act-in-PerformRange.ensures.noted (search rules)
 
 pub verb-returns-in_ok-open_act-in-Open-clause-found : goal.verb-returns-in_ok-open_act-in-Open-clause-found
-verb-returns-in_ok-open_act-in-Open-clause-found t c =
-    only_found c.args.self.now c.args.line c.args.next.now (tree_view.plain_verb c.args.verb.now) _ c.args.findings.now.items _ c.in_ok-open_act-in-Open.ensures.noted (search rules)
+verb-returns-in_ok-open_act-in-Open-clause-found t c = only_found c.args.self.now c.args.line c.args.next.now (tree_view.plain_verb c.args.verb.now) c.args.findings.now.items _ _ c.in_ok-open_act-in-Open.ensures.noted (search rules)
 
 pub verb-returns-in_ok-close_act-in-Close-clause-found : goal.verb-returns-in_ok-close_act-in-Close-clause-found
-verb-returns-in_ok-close_act-in-Close-clause-found t c =
-    only_found c.args.self.now c.args.line c.args.next.now (tree_view.plain_verb c.args.verb.now) _ c.args.findings.now.items _ c.in_ok-close_act-in-Close.ensures.noted (search rules)
+verb-returns-in_ok-close_act-in-Close-clause-found t c = only_found c.args.self.now c.args.line c.args.next.now (tree_view.plain_verb c.args.verb.now) c.args.findings.now.items _ _ c.in_ok-close_act-in-Close.ensures.noted (search rules)
 
 pub verb-returns-in_ok-arith-in-AddTo-clause-found : goal.verb-returns-in_ok-arith-in-AddTo-clause-found
 verb-returns-in_ok-arith-in-AddTo-clause-found t c =
-    rest_found c.args.self.now c.args.line c.args.next.now (tree_view.plain_verb c.args.verb.now) _ c.args.findings.now.items _ _ _ c.in_ok-worked-in-AddTo.ensures.noted c.in_ok-arith-in-AddTo.ensures.found (search rules)
+    work_found c.args.self.now c.args.line c.args.next.now (tree_view.plain_verb c.args.verb.now) c.args.findings.now.items _ _ _ _ _ c.in_ok-worked-in-AddTo.ensures.value c.in_ok-worked-in-AddTo.ensures.noted c.in_ok-arith-in-AddTo.ensures.found (search rules)
 
 pub verb-returns-in_ok-arith-in-AddGiving-clause-found : goal.verb-returns-in_ok-arith-in-AddGiving-clause-found
 verb-returns-in_ok-arith-in-AddGiving-clause-found t c =
-    rest_found c.args.self.now c.args.line c.args.next.now (tree_view.plain_verb c.args.verb.now) _ c.args.findings.now.items _ _ _ c.in_ok-worked-in-AddGiving.ensures.noted c.in_ok-arith-in-AddGiving.ensures.found (search rules)
+    work_found c.args.self.now c.args.line c.args.next.now (tree_view.plain_verb c.args.verb.now) c.args.findings.now.items _ _ _ _ _ c.in_ok-worked-in-AddGiving.ensures.value c.in_ok-worked-in-AddGiving.ensures.noted c.in_ok-arith-in-AddGiving.ensures.found (search rules)
 
 pub verb-returns-in_ok-arith-in-SubtractFrom-clause-found : goal.verb-returns-in_ok-arith-in-SubtractFrom-clause-found
 verb-returns-in_ok-arith-in-SubtractFrom-clause-found t c =
-    rest_found c.args.self.now c.args.line c.args.next.now (tree_view.plain_verb c.args.verb.now) _ c.args.findings.now.items _ _ _ c.in_ok-worked-in-SubtractFrom.ensures.noted c.in_ok-arith-in-SubtractFrom.ensures.found (search rules)
+    work_found c.args.self.now c.args.line c.args.next.now (tree_view.plain_verb c.args.verb.now) c.args.findings.now.items _ _ _ _ _ c.in_ok-worked-in-SubtractFrom.ensures.value c.in_ok-worked-in-SubtractFrom.ensures.noted c.in_ok-arith-in-SubtractFrom.ensures.found (search rules)
 
 pub verb-returns-in_ok-arith-in-SubtractGiving-clause-found : goal.verb-returns-in_ok-arith-in-SubtractGiving-clause-found
 verb-returns-in_ok-arith-in-SubtractGiving-clause-found t c =
-    rest_found c.args.self.now c.args.line c.args.next.now (tree_view.plain_verb c.args.verb.now) _ c.args.findings.now.items _ _ _ c.in_ok-worked-in-SubtractGiving.ensures.noted c.in_ok-arith-in-SubtractGiving.ensures.found (search rules)
+    work_found c.args.self.now c.args.line c.args.next.now (tree_view.plain_verb c.args.verb.now) c.args.findings.now.items _ _ _ _ _ c.in_ok-worked-in-SubtractGiving.ensures.value c.in_ok-worked-in-SubtractGiving.ensures.noted c.in_ok-arith-in-SubtractGiving.ensures.found (search rules)
 
 pub verb-returns-in_ok-arith-in-MultiplyBy-clause-found : goal.verb-returns-in_ok-arith-in-MultiplyBy-clause-found
 verb-returns-in_ok-arith-in-MultiplyBy-clause-found t c =
-    rest_found c.args.self.now c.args.line c.args.next.now (tree_view.plain_verb c.args.verb.now) _ c.args.findings.now.items _ _ _ c.in_ok-worked-in-MultiplyBy.ensures.noted c.in_ok-arith-in-MultiplyBy.ensures.found (search rules)
+    work_found c.args.self.now c.args.line c.args.next.now (tree_view.plain_verb c.args.verb.now) c.args.findings.now.items _ _ _ _ _ c.in_ok-worked-in-MultiplyBy.ensures.value c.in_ok-worked-in-MultiplyBy.ensures.noted c.in_ok-arith-in-MultiplyBy.ensures.found (search rules)
 
 pub verb-returns-in_ok-arith-in-MultiplyGiving-clause-found : goal.verb-returns-in_ok-arith-in-MultiplyGiving-clause-found
 verb-returns-in_ok-arith-in-MultiplyGiving-clause-found t c =
-    rest_found c.args.self.now c.args.line c.args.next.now (tree_view.plain_verb c.args.verb.now) _ c.args.findings.now.items _ _ _ c.in_ok-worked-in-MultiplyGiving.ensures.noted c.in_ok-arith-in-MultiplyGiving.ensures.found (search rules)
+    work_found c.args.self.now c.args.line c.args.next.now (tree_view.plain_verb c.args.verb.now) c.args.findings.now.items _ _ _ _ _ c.in_ok-worked-in-MultiplyGiving.ensures.value c.in_ok-worked-in-MultiplyGiving.ensures.noted c.in_ok-arith-in-MultiplyGiving.ensures.found (search rules)
 
 pub verb-returns-in_ok-arith-in-DivideInto-clause-found : goal.verb-returns-in_ok-arith-in-DivideInto-clause-found
 verb-returns-in_ok-arith-in-DivideInto-clause-found t c =
-    rest_found c.args.self.now c.args.line c.args.next.now (tree_view.plain_verb c.args.verb.now) _ c.args.findings.now.items _ _ _ c.in_ok-worked-in-DivideInto.ensures.noted c.in_ok-arith-in-DivideInto.ensures.found (search rules)
+    work_found c.args.self.now c.args.line c.args.next.now (tree_view.plain_verb c.args.verb.now) c.args.findings.now.items _ _ _ _ _ c.in_ok-worked-in-DivideInto.ensures.value c.in_ok-worked-in-DivideInto.ensures.noted c.in_ok-arith-in-DivideInto.ensures.found (search rules)
 
 pub verb-returns-in_ok-arith-in-DivideGiving-clause-found : goal.verb-returns-in_ok-arith-in-DivideGiving-clause-found
 verb-returns-in_ok-arith-in-DivideGiving-clause-found t c =
-    rest_found c.args.self.now c.args.line c.args.next.now (tree_view.plain_verb c.args.verb.now) _ c.args.findings.now.items _ _ _ c.in_ok-worked-in-DivideGiving.ensures.noted c.in_ok-arith-in-DivideGiving.ensures.found (search rules)
+    work_found c.args.self.now c.args.line c.args.next.now (tree_view.plain_verb c.args.verb.now) c.args.findings.now.items _ _ _ _ _ c.in_ok-worked-in-DivideGiving.ensures.value c.in_ok-worked-in-DivideGiving.ensures.noted c.in_ok-arith-in-DivideGiving.ensures.found (search rules)
 
 pub verb-returns-in_ok-arith-in-Compute-clause-found : goal.verb-returns-in_ok-arith-in-Compute-clause-found
 verb-returns-in_ok-arith-in-Compute-clause-found t c =
-    rest_found c.args.self.now c.args.line c.args.next.now (tree_view.plain_verb c.args.verb.now) _ c.args.findings.now.items _ _ _ c.in_ok-worked-in-Compute.ensures.noted c.in_ok-arith-in-Compute.ensures.found (search rules)
+    work_found c.args.self.now c.args.line c.args.next.now (tree_view.plain_verb c.args.verb.now) c.args.findings.now.items _ _ _ _ _ c.in_ok-worked-in-Compute.ensures.value c.in_ok-worked-in-Compute.ensures.noted c.in_ok-arith-in-Compute.ensures.found (search rules)
+
+pub verb-returns-in_ok-yes-in-If-clause-found : goal.verb-returns-in_ok-yes-in-If-clause-found
+verb-returns-in_ok-yes-in-If-clause-found t c =
+    if_found c.args.self.now c.args.line c.args.next.now (tree_view.plain_verb c.args.verb.now) c.args.findings.now.items _ _ _ _ _ (search rules) c.in_ok-test-in-If.ensures.noted c.in_ok-yes-in-If.ensures.found
+
+pub verb-returns-in_ok-body-in-PerformInline-clause-found : goal.verb-returns-in_ok-body-in-PerformInline-clause-found
+verb-returns-in_ok-body-in-PerformInline-clause-found t c =
+    inline_found c.args.self.now c.args.line c.args.next.now (tree_view.plain_verb c.args.verb.now) c.args.findings.now.items _ _ _ _ (search rules) c.in_ok-turns-in-PerformInline.ensures.noted c.in_ok-body-in-PerformInline.ensures.found
+
+pub verb-returns-in_ok-end-in-Read-clause-found : goal.verb-returns-in_ok-end-in-Read-clause-found
+verb-returns-in_ok-end-in-Read-clause-found t c = ?
+
+pub verb-returns-in_ok-end-in-Read-clause-value : goal.verb-returns-in_ok-end-in-Read-clause-value
+verb-returns-in_ok-end-in-Read-clause-value t c = ?
+
+pub when-returns-clause-found : goal.when-returns-clause-found
+when-returns-clause-found t c = ?

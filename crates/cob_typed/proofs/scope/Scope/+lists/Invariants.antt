@@ -1,4 +1,4 @@
-use Rattle.std.proofs.Common.{◌≡◌, ◌++◌, map, drop}
+use Rattle.std.proofs.Common.{◌≡◌, ◌+◌, ◌*◌, ◌++◌, map, drop}
 use Rattle.cob_tree.specs.Stmt as tree
 use Rattle.cob_tree.specs.StmtView as tree_view
 use Rattle.cob_program.specs.Act.{stmts_of}
@@ -22,3 +22,37 @@ invariant-whens-loop-when l = record {
   next : (typed_whens l.self l.line l.next l.looked (whens_from l.whens l.when-index)).next ≡ (typed_whens l.self l.line l.initial.next l.looked (whens_from l.whens 0)).next;
   found : found_behind l.findings.items (typed_whens l.self l.line l.next l.looked (whens_from l.whens l.when-index)).found ≡ found_behind l.initial.findings.items (typed_whens l.self l.line l.initial.next l.looked (whens_from l.whens 0)).found;
 }
+
+-- levels that are left, and within one level who calls whom
+abbrev pub decreases-stmt : goal.decreases-stmt
+decreases-stmt l = l.left * 16 + 15
+
+abbrev pub decreases-verb : goal.decreases-verb
+decreases-verb l = l.left * 16 + 14
+
+abbrev pub decreases-arith : goal.decreases-arith
+decreases-arith l = l.left * 16 + 13
+
+abbrev pub decreases-lists : goal.decreases-lists
+decreases-lists l = l.left * 16 + 13
+
+abbrev pub decreases-cases : goal.decreases-cases
+decreases-cases l = l.left * 16 + 13
+
+abbrev pub decreases-phrases : goal.decreases-phrases
+decreases-phrases l = l.left * 16 + 12
+
+abbrev pub decreases-whens : goal.decreases-whens
+decreases-whens l = l.left * 16 + 12
+
+abbrev pub decreases-when : goal.decreases-when
+decreases-when l = l.left * 16 + 11
+
+abbrev pub decreases-phrase : goal.decreases-phrase
+decreases-phrase l = l.left * 16 + 10
+
+abbrev pub decreases-stmts : goal.decreases-stmts
+decreases-stmts l = l.left * 16 + 9
+
+abbrev pub decreases-add_stmts : goal.decreases-add_stmts
+decreases-add_stmts l = l.left * 16 + 8
