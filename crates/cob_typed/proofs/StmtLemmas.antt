@@ -25,21 +25,11 @@ use Rattle.cob_typed.specs.Statements.{Numbered, found_on, typed_arith, typed_ve
 use Rattle.cob_typed.specs.StatementSteps.{typed_tail, typed_phrases, typed_lists, typed_when}
 use Rattle.cob_typed.proofs.FoundLemmas.{found_append, found_noted}
 
-pub twice : {A B C : Type 0} (f : B → C) (g : A → B) (o : Option A) → option_map f (option_map g o) ≡ option_map (λ a. f (g a)) o
-twice f g None = refl
-twice f g (Some a) = refl
-
 pub stmt_is : (x : declared_stmt.Stmt) → tree_view.plain_stmt x ≡ tree.MkStmt (out-Stmt x).line (tree_view.plain_verb (out-Stmt x).verb)
 stmt_is x = fold_out-Stmt _ _ _ _ _ _ _ _ x
 
 pub when_is_of : (x : declared_when.When) → tree_view.plain_when x ≡ tree.MkWhen (map tree_view.plain_sel (out-When x).choices) (tree_list (out-When x).body)
 when_is_of x = fold_out-When _ _ _ _ _ _ _ _ x
-
-pub tail_is : (x : declared_tail.Tail) → tree_view.plain_tail x ≡ tree.MkTail (tree_phrase (out-Tail x).size) (tree_phrase (out-Tail x).not_size) (out-Tail x).ended
-tail_is x =
-    fold_out-Tail _ _ _ _ _ _ _ _ x
-    ∙ ap (λ a. tree.MkTail (tree.phrase_of a) _ (out-Tail x).ended) (twice _ _ (out-Tail x).size)
-    ∙ ap (λ b. tree.MkTail (tree_phrase (out-Tail x).size) (tree.phrase_of b) (out-Tail x).ended) (twice _ _ (out-Tail x).not_size)
 
 -- what is judged on a line, and then the rest
 pub judged_found : (line : ℕ) (old mid new : List Finding) (b : Broken) (xs : List (Rule × ℕ)) → mid ≡ noted line old b → new ≡ found_behind mid xs → new ≡ found_behind old (found_on line b ++ xs)
@@ -63,24 +53,24 @@ module _ (s : Scope) (line n : ℕ) (v : tree.Verb) (old new : List Finding) whe
 
   pub work_found : (j : Judged Worked) (t : tree.Tail) (w : Worked) (mid : List Finding) → w ≡ j.value → mid ≡ noted line old j.broken → new ≡ found_behind mid (typed_tail s n w t).found
       → typed_verb s line n v ≡ typed_arith s line n j t → new ≡ found_behind old (typed_verb s line n v).found
-  work_found j t w mid made first rest is = arith_found s line n j t w old mid new made first rest ∙ sym (ap (λ x. found_behind old x.found) is)
+  work_found j t w mid made first rest is = arith_found s line n j t w old mid new made first rest ∙ sym (ap (λ (x : Numbered Act). found_behind old x.found) is)
 
   rest_found : (b : Broken) (mid : List Finding) (xs : List (Rule × ℕ)) → mid ≡ noted line old b → new ≡ found_behind mid xs → (typed_verb s line n v).found ≡ found_on line b ++ xs → new ≡ found_behind old (typed_verb s line n v).found
   rest_found b mid xs first rest is = judged_found line old mid new b xs first rest ∙ sym (ap (found_behind old) is)
 
-  pub if_found : (test : Cond) (yes : tree.Stmts) (no : tree.Phrase) (mid : List Finding) → typed_verb s line n v ≡ typed_verb s line n (tree.if_ test yes no false) → mid ≡ noted line old (walk_cond s test).broken
-      → new ≡ found_behind mid (typed_lists s n yes no).found → new ≡ found_behind old (typed_verb s line n v).found
-  if_found test yes no mid is first rest = rest_found (walk_cond s test).broken mid (typed_lists s n yes no).found first rest (ap (λ x. x.found) is)
+  pub if_found : (test : Cond) (first_list : tree.Stmts) (other : tree.Phrase) (mid : List Finding) → typed_verb s line n v ≡ typed_verb s line n (tree.if_ test first_list other false) → mid ≡ noted line old (walk_cond s test).broken
+      → new ≡ found_behind mid (typed_lists s n first_list other).found → new ≡ found_behind old (typed_verb s line n v).found
+  if_found test first_list other mid is first rest = rest_found (walk_cond s test).broken mid (typed_lists s n first_list other).found first rest (ap (λ (x : Numbered Act). x.found) is)
 
   pub inline_found : (turns : Option tree.Loop) (body : tree.Stmts) (mid : List Finding) → typed_verb s line n v ≡ typed_verb s line n (tree.perform_inline turns body) → mid ≡ noted line old (turns_of s turns).broken
       → new ≡ found_behind mid (typed_stmts s n body).found → new ≡ found_behind old (typed_verb s line n v).found
   inline_found turns body mid is first rest =
       rest_found (turns_of s turns).broken mid (typed_stmts s n body).found first rest
-          (ap (λ x. x.found) is ∙ ap (λ xs. found_on line (turns_of s turns).broken ++ xs) (append-nil (typed_stmts s n body).found))
+          (ap (λ (x : Numbered Act). x.found) is ∙ ap (λ xs. found_on line (turns_of s turns).broken ++ xs) (append-nil (typed_stmts s n body).found))
 
   pub read_found : (file : List ℕ) (into : Option Ref) (end fine : tree.Phrase) (mid : List Finding) → typed_verb s line n v ≡ typed_verb s line n (tree.read file into end fine false) → mid ≡ noted line old (read_parts s file into).broken
       → new ≡ found_behind mid (typed_phrases s n end fine).found → new ≡ found_behind old (typed_verb s line n v).found
-  read_found file into end fine mid is first rest = rest_found (read_parts s file into).broken mid (typed_phrases s n end fine).found first rest (ap (λ x. x.found) is)
+  read_found file into end fine mid is first rest = rest_found (read_parts s file into).broken mid (typed_phrases s n end fine).found first rest (ap (λ (x : Numbered Act). x.found) is)
 
 pub read_value : (s : Scope) (line n : ℕ) (v : tree.Verb) (file : List ℕ) (into : Option Ref) (end fine : tree.Phrase) (a : Act) (f : ℕ) (i : Option ℕ) (p : Phrase) (q : Stmts) →
     typed_verb s line n v ≡ typed_verb s line n (tree.read file into end fine false) → a ≡ read f i p q → f ≡ (read_parts s file into).value.0 → i ≡ (read_parts s file into).value.1
@@ -89,7 +79,7 @@ read_value s line n v file into end fine a f i p q is made file_is into_is end_i
     made ∙ ap (λ x. read x i p q) file_is ∙ ap (λ x. read (read_parts s file into).value.0 x p q) into_is
     ∙ ap (λ x. read (read_parts s file into).value.0 (read_parts s file into).value.1 x q) end_is
     ∙ ap (λ x. read (read_parts s file into).value.0 (read_parts s file into).value.1 (typed_phrases s n end fine).value.0 x) fine_is
-    ∙ sym (ap (λ x. x.value) is)
+    ∙ sym (ap (λ (x : Numbered Act). x.value) is)
 
 pub choice_found : (s : Scope) (line n : ℕ) (looked : Looked) (x : tree.When) (choices : List tree.Sel) (body : tree.Stmts) (old mid new : List Finding) → x ≡ tree.MkWhen choices body
     → mid ≡ noted line old (each_of (selection s looked) choices).broken → new ≡ found_behind mid (typed_stmts s n body).found → new ≡ found_behind old (typed_when s line n looked x).found

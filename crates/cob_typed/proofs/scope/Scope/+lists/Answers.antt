@@ -1,13 +1,18 @@
-use Rattle.std.proofs.Common.{◌≡◌, ◌∙◌, ◌+◌, sym, ap, map, rules}
+use Rattle.std.proofs.Common.{◌≡◌, ◌∙◌, ◌+◌, sym, ap, map, option_map, rules}
+use Rattle.cob_tree.specs.ExprView.{plain_expr}
+use Rattle.cob_tree.specs.CondView.{plain_cond}
+use Rattle.cob_tree.specs.Stmt as tree
 use Rattle.cob_tree.specs.StmtView as tree_view
 use Rattle.cob_program.specs.Act.{stmts_of}
 use Rattle.cob_program.specs.ActView.{plain_stmt, plain_when}
-use Rattle.cob_typed.specs.Lists.{found_behind}
-use Rattle.cob_typed.specs.Statements.{typed_stmts, typed_whens}
+use Rattle.cob_typed.specs.Lists.{found_behind, tree_list, tree_phrase, plain_phrase, plain_stmts}
+use Rattle.cob_typed.specs.Statements.{typed_stmts, typed_whens, move_act, show_act, range_act, open_act, close_act}
 use Rattle.cob_typed.specs.Typing.{joined}
+use Rattle.cob_typed.specs.Arithmetic.{add_to, add_giving, subtract_from, subtract_giving, multiply_by, multiply_giving, divide_into, divide_giving, compute}
+use Rattle.cob_typed.specs.Workings.{plain_worked}
 use Rattle.cob_typed.proofs.EachLemmas.{map_more}
 use Rattle.cob_typed.proofs.ListLemmas.{stmts_from, whens_from, stmts_step, stmts_end, whens_step, whens_end, stmt_value, stmt_next, stmt_found, when_value, when_next, when_found, whens_behind, whens_none, joined_none}
-use Rattle.cob_typed.proofs.StmtLemmas.{only_found, work_found, if_found, inline_found}
+use Rattle.cob_typed.proofs.StmtLemmas.{when_is_of, only_found, work_found, if_found, inline_found, read_found, read_value, choice_found}
 use Rattle.cob_typed.proofs.scope.Scope.+lists.Goals as goal
 
 pub add_stmts-loop-statement-preserved : goal.add_stmts-loop-statement-preserved
@@ -81,69 +86,79 @@ whens-returns-clause-found t c =
     sym (ap (λ ys. found_behind l.findings.items (typed_whens c.args.self.now c.args.line l.next c.args.looked ys).found) (whens_end c.args.whens.now l.when-index c.loop-when-test.false)) ∙ l.invariant.found
 
 pub verb-returns-in_ok-move_act-in-Move-clause-found : goal.verb-returns-in_ok-move_act-in-Move-clause-found
-verb-returns-in_ok-move_act-in-Move-clause-found t c = only_found c.args.self.now c.args.line c.args.next.now (tree_view.plain_verb c.args.verb.now) c.args.findings.now.items _ _ c.in_ok-move_act-in-Move.ensures.noted (search rules)
+verb-returns-in_ok-move_act-in-Move-clause-found t c =
+    only_found c.args.self.now c.args.line c.args.next.now (tree_view.plain_verb c.args.verb.now) c.args.findings.now.items _ (move_act c.args.self.now c.in-Move.from c.in-Move.to).broken (search rules) (search rules)
 
 pub verb-returns-in_ok-show_act-in-Display-clause-found : goal.verb-returns-in_ok-show_act-in-Display-clause-found
-verb-returns-in_ok-show_act-in-Display-clause-found t c = only_found c.args.self.now c.args.line c.args.next.now (tree_view.plain_verb c.args.verb.now) c.args.findings.now.items _ _ c.in_ok-show_act-in-Display.ensures.noted (search rules)
+verb-returns-in_ok-show_act-in-Display-clause-found t c =
+    only_found c.args.self.now c.args.line c.args.next.now (tree_view.plain_verb c.args.verb.now) c.args.findings.now.items _ (show_act c.args.self.now c.in-Display.operands).broken (search rules) (search rules)
 
 pub verb-returns-in_ok-range_act-in-PerformRange-clause-found : goal.verb-returns-in_ok-range_act-in-PerformRange-clause-found
-verb-returns-in_ok-range_act-in-PerformRange-clause-found t c = only_found c.args.self.now c.args.line c.args.next.now (tree_view.plain_verb c.args.verb.now) c.args.findings.now.items _ _ c.in_ok-range_act-in-PerformRange.ensures.noted (search rules)
+verb-returns-in_ok-range_act-in-PerformRange-clause-found t c =
+    only_found c.args.self.now c.args.line c.args.next.now (tree_view.plain_verb c.args.verb.now) c.args.findings.now.items _ (range_act c.args.self.now c.in-PerformRange.first c.in-PerformRange.thru (option_map tree_view.plain_loop c.in-PerformRange.turns)).broken (search rules) (search rules)
 
 pub verb-returns-in_ok-open_act-in-Open-clause-found : goal.verb-returns-in_ok-open_act-in-Open-clause-found
-verb-returns-in_ok-open_act-in-Open-clause-found t c = only_found c.args.self.now c.args.line c.args.next.now (tree_view.plain_verb c.args.verb.now) c.args.findings.now.items _ _ c.in_ok-open_act-in-Open.ensures.noted (search rules)
+verb-returns-in_ok-open_act-in-Open-clause-found t c =
+    only_found c.args.self.now c.args.line c.args.next.now (tree_view.plain_verb c.args.verb.now) c.args.findings.now.items _ (open_act c.args.self.now c.in-Open.opens).broken (search rules) (search rules)
 
 pub verb-returns-in_ok-close_act-in-Close-clause-found : goal.verb-returns-in_ok-close_act-in-Close-clause-found
-verb-returns-in_ok-close_act-in-Close-clause-found t c = only_found c.args.self.now c.args.line c.args.next.now (tree_view.plain_verb c.args.verb.now) c.args.findings.now.items _ _ c.in_ok-close_act-in-Close.ensures.noted (search rules)
+verb-returns-in_ok-close_act-in-Close-clause-found t c =
+    only_found c.args.self.now c.args.line c.args.next.now (tree_view.plain_verb c.args.verb.now) c.args.findings.now.items _ (close_act c.args.self.now c.in-Close.names).broken (search rules) (search rules)
 
 pub verb-returns-in_ok-arith-in-AddTo-clause-found : goal.verb-returns-in_ok-arith-in-AddTo-clause-found
 verb-returns-in_ok-arith-in-AddTo-clause-found t c =
-    work_found c.args.self.now c.args.line c.args.next.now (tree_view.plain_verb c.args.verb.now) c.args.findings.now.items _ _ _ _ _ c.in_ok-worked-in-AddTo.ensures.value c.in_ok-worked-in-AddTo.ensures.noted c.in_ok-arith-in-AddTo.ensures.found (search rules)
+    work_found c.args.self.now c.args.line c.args.next.now (tree_view.plain_verb c.args.verb.now) c.args.findings.now.items _ (add_to c.args.self.now c.in-AddTo.addends c.in-AddTo.to) (tree_view.plain_tail c.in-AddTo.tail) (plain_worked c.in_ok-worked-in-AddTo.worked) c.add_to.new.findings.items (search rules) (search rules) c.in_ok-arith-in-AddTo.ensures.found (search rules)
 
 pub verb-returns-in_ok-arith-in-AddGiving-clause-found : goal.verb-returns-in_ok-arith-in-AddGiving-clause-found
 verb-returns-in_ok-arith-in-AddGiving-clause-found t c =
-    work_found c.args.self.now c.args.line c.args.next.now (tree_view.plain_verb c.args.verb.now) c.args.findings.now.items _ _ _ _ _ c.in_ok-worked-in-AddGiving.ensures.value c.in_ok-worked-in-AddGiving.ensures.noted c.in_ok-arith-in-AddGiving.ensures.found (search rules)
+    work_found c.args.self.now c.args.line c.args.next.now (tree_view.plain_verb c.args.verb.now) c.args.findings.now.items _ (add_giving c.args.self.now c.in-AddGiving.addends c.in-AddGiving.to c.in-AddGiving.giving) (tree_view.plain_tail c.in-AddGiving.tail) (plain_worked c.in_ok-worked-in-AddGiving.worked) c.add_giving.new.findings.items (search rules) (search rules) c.in_ok-arith-in-AddGiving.ensures.found (search rules)
 
 pub verb-returns-in_ok-arith-in-SubtractFrom-clause-found : goal.verb-returns-in_ok-arith-in-SubtractFrom-clause-found
 verb-returns-in_ok-arith-in-SubtractFrom-clause-found t c =
-    work_found c.args.self.now c.args.line c.args.next.now (tree_view.plain_verb c.args.verb.now) c.args.findings.now.items _ _ _ _ _ c.in_ok-worked-in-SubtractFrom.ensures.value c.in_ok-worked-in-SubtractFrom.ensures.noted c.in_ok-arith-in-SubtractFrom.ensures.found (search rules)
+    work_found c.args.self.now c.args.line c.args.next.now (tree_view.plain_verb c.args.verb.now) c.args.findings.now.items _ (subtract_from c.args.self.now c.in-SubtractFrom.less c.in-SubtractFrom.from) (tree_view.plain_tail c.in-SubtractFrom.tail) (plain_worked c.in_ok-worked-in-SubtractFrom.worked) c.subtract_from.new.findings.items (search rules) (search rules) c.in_ok-arith-in-SubtractFrom.ensures.found (search rules)
 
 pub verb-returns-in_ok-arith-in-SubtractGiving-clause-found : goal.verb-returns-in_ok-arith-in-SubtractGiving-clause-found
 verb-returns-in_ok-arith-in-SubtractGiving-clause-found t c =
-    work_found c.args.self.now c.args.line c.args.next.now (tree_view.plain_verb c.args.verb.now) c.args.findings.now.items _ _ _ _ _ c.in_ok-worked-in-SubtractGiving.ensures.value c.in_ok-worked-in-SubtractGiving.ensures.noted c.in_ok-arith-in-SubtractGiving.ensures.found (search rules)
+    work_found c.args.self.now c.args.line c.args.next.now (tree_view.plain_verb c.args.verb.now) c.args.findings.now.items _ (subtract_giving c.args.self.now c.in-SubtractGiving.less c.in-SubtractGiving.from c.in-SubtractGiving.giving) (tree_view.plain_tail c.in-SubtractGiving.tail) (plain_worked c.in_ok-worked-in-SubtractGiving.worked) c.subtract_giving.new.findings.items (search rules) (search rules) c.in_ok-arith-in-SubtractGiving.ensures.found (search rules)
 
 pub verb-returns-in_ok-arith-in-MultiplyBy-clause-found : goal.verb-returns-in_ok-arith-in-MultiplyBy-clause-found
 verb-returns-in_ok-arith-in-MultiplyBy-clause-found t c =
-    work_found c.args.self.now c.args.line c.args.next.now (tree_view.plain_verb c.args.verb.now) c.args.findings.now.items _ _ _ _ _ c.in_ok-worked-in-MultiplyBy.ensures.value c.in_ok-worked-in-MultiplyBy.ensures.noted c.in_ok-arith-in-MultiplyBy.ensures.found (search rules)
+    work_found c.args.self.now c.args.line c.args.next.now (tree_view.plain_verb c.args.verb.now) c.args.findings.now.items _ (multiply_by c.args.self.now c.in-MultiplyBy.factor c.in-MultiplyBy.by) (tree_view.plain_tail c.in-MultiplyBy.tail) (plain_worked c.in_ok-worked-in-MultiplyBy.worked) c.multiply_by.new.findings.items (search rules) (search rules) c.in_ok-arith-in-MultiplyBy.ensures.found (search rules)
 
 pub verb-returns-in_ok-arith-in-MultiplyGiving-clause-found : goal.verb-returns-in_ok-arith-in-MultiplyGiving-clause-found
 verb-returns-in_ok-arith-in-MultiplyGiving-clause-found t c =
-    work_found c.args.self.now c.args.line c.args.next.now (tree_view.plain_verb c.args.verb.now) c.args.findings.now.items _ _ _ _ _ c.in_ok-worked-in-MultiplyGiving.ensures.value c.in_ok-worked-in-MultiplyGiving.ensures.noted c.in_ok-arith-in-MultiplyGiving.ensures.found (search rules)
+    work_found c.args.self.now c.args.line c.args.next.now (tree_view.plain_verb c.args.verb.now) c.args.findings.now.items _ (multiply_giving c.args.self.now c.in-MultiplyGiving.factor c.in-MultiplyGiving.by c.in-MultiplyGiving.giving) (tree_view.plain_tail c.in-MultiplyGiving.tail) (plain_worked c.in_ok-worked-in-MultiplyGiving.worked) c.multiply_giving.new.findings.items (search rules) (search rules) c.in_ok-arith-in-MultiplyGiving.ensures.found (search rules)
 
 pub verb-returns-in_ok-arith-in-DivideInto-clause-found : goal.verb-returns-in_ok-arith-in-DivideInto-clause-found
 verb-returns-in_ok-arith-in-DivideInto-clause-found t c =
-    work_found c.args.self.now c.args.line c.args.next.now (tree_view.plain_verb c.args.verb.now) c.args.findings.now.items _ _ _ _ _ c.in_ok-worked-in-DivideInto.ensures.value c.in_ok-worked-in-DivideInto.ensures.noted c.in_ok-arith-in-DivideInto.ensures.found (search rules)
+    work_found c.args.self.now c.args.line c.args.next.now (tree_view.plain_verb c.args.verb.now) c.args.findings.now.items _ (divide_into c.args.self.now c.in-DivideInto.divisor c.in-DivideInto.into) (tree_view.plain_tail c.in-DivideInto.tail) (plain_worked c.in_ok-worked-in-DivideInto.worked) c.divide_into.new.findings.items (search rules) (search rules) c.in_ok-arith-in-DivideInto.ensures.found (search rules)
 
 pub verb-returns-in_ok-arith-in-DivideGiving-clause-found : goal.verb-returns-in_ok-arith-in-DivideGiving-clause-found
 verb-returns-in_ok-arith-in-DivideGiving-clause-found t c =
-    work_found c.args.self.now c.args.line c.args.next.now (tree_view.plain_verb c.args.verb.now) c.args.findings.now.items _ _ _ _ _ c.in_ok-worked-in-DivideGiving.ensures.value c.in_ok-worked-in-DivideGiving.ensures.noted c.in_ok-arith-in-DivideGiving.ensures.found (search rules)
+    work_found c.args.self.now c.args.line c.args.next.now (tree_view.plain_verb c.args.verb.now) c.args.findings.now.items _ (divide_giving c.args.self.now c.in-DivideGiving.first c.in-DivideGiving.way c.in-DivideGiving.second c.in-DivideGiving.giving c.in-DivideGiving.remainder) (tree_view.plain_tail c.in-DivideGiving.tail) (plain_worked c.in_ok-worked-in-DivideGiving.worked) c.divide_giving.new.findings.items (search rules) (search rules) c.in_ok-arith-in-DivideGiving.ensures.found (search rules)
 
 pub verb-returns-in_ok-arith-in-Compute-clause-found : goal.verb-returns-in_ok-arith-in-Compute-clause-found
 verb-returns-in_ok-arith-in-Compute-clause-found t c =
-    work_found c.args.self.now c.args.line c.args.next.now (tree_view.plain_verb c.args.verb.now) c.args.findings.now.items _ _ _ _ _ c.in_ok-worked-in-Compute.ensures.value c.in_ok-worked-in-Compute.ensures.noted c.in_ok-arith-in-Compute.ensures.found (search rules)
+    work_found c.args.self.now c.args.line c.args.next.now (tree_view.plain_verb c.args.verb.now) c.args.findings.now.items _ (compute c.args.self.now c.in-Compute.to (plain_expr c.in-Compute.value)) (tree_view.plain_tail c.in-Compute.tail) (plain_worked c.in_ok-worked-in-Compute.worked) c.compute.new.findings.items (search rules) (search rules) c.in_ok-arith-in-Compute.ensures.found (search rules)
 
 pub verb-returns-in_ok-yes-in-If-clause-found : goal.verb-returns-in_ok-yes-in-If-clause-found
 verb-returns-in_ok-yes-in-If-clause-found t c =
-    if_found c.args.self.now c.args.line c.args.next.now (tree_view.plain_verb c.args.verb.now) c.args.findings.now.items _ _ _ _ _ (search rules) c.in_ok-test-in-If.ensures.noted c.in_ok-yes-in-If.ensures.found
+    if_found c.args.self.now c.args.line c.args.next.now (tree_view.plain_verb c.args.verb.now) c.args.findings.now.items _ (plain_cond c.in-If.test) (tree_list c.in-If.yes) (tree_phrase c.in-If.other) c.condition.new.findings.items (search rules) (search rules) (search rules)
 
 pub verb-returns-in_ok-body-in-PerformInline-clause-found : goal.verb-returns-in_ok-body-in-PerformInline-clause-found
 verb-returns-in_ok-body-in-PerformInline-clause-found t c =
-    inline_found c.args.self.now c.args.line c.args.next.now (tree_view.plain_verb c.args.verb.now) c.args.findings.now.items _ _ _ _ (search rules) c.in_ok-turns-in-PerformInline.ensures.noted c.in_ok-body-in-PerformInline.ensures.found
+    inline_found c.args.self.now c.args.line c.args.next.now (tree_view.plain_verb c.args.verb.now) c.args.findings.now.items _ (option_map tree_view.plain_loop c.in-PerformInline.turns) (tree_list c.in-PerformInline.body) c.turns.new.findings.items (search rules) (search rules) (search rules)
 
 pub verb-returns-in_ok-end-in-Read-clause-found : goal.verb-returns-in_ok-end-in-Read-clause-found
-verb-returns-in_ok-end-in-Read-clause-found t c = ?
+verb-returns-in_ok-end-in-Read-clause-found t c =
+    read_found c.args.self.now c.args.line c.args.next.now (tree_view.plain_verb c.args.verb.now) c.args.findings.now.items _ c.in-Read.file c.in-Read.into (tree_phrase c.in-Read.end) (tree_phrase c.in-Read.not_end) c.read_parts.new.findings.items (search rules) (search rules) c.in_ok-end-in-Read.ensures.found
 
 pub verb-returns-in_ok-end-in-Read-clause-value : goal.verb-returns-in_ok-end-in-Read-clause-value
-verb-returns-in_ok-end-in-Read-clause-value t c = ?
+verb-returns-in_ok-end-in-Read-clause-value t c =
+    read_value c.args.self.now c.args.line c.args.next.now (tree_view.plain_verb c.args.verb.now) c.in-Read.file c.in-Read.into (tree_phrase c.in-Read.end) (tree_phrase c.in-Read.not_end) _ c.in_ok-file-in-Read.file c.in_ok-file-in-Read.into (plain_phrase c.in_ok-end-in-Read.end) (plain_stmts c.in_ok-end-in-Read.fine)
+        (search rules) c.read_of.ensures (search rules) (search rules) c.in_ok-end-in-Read.ensures.first c.in_ok-end-in-Read.ensures.second
 
 pub when-returns-clause-found : goal.when-returns-clause-found
-when-returns-clause-found t c = ?
+when-returns-clause-found t c =
+    choice_found c.args.self.now c.args.line c.args.next.now c.args.looked (tree_view.plain_when c.args.when.now) (map tree_view.plain_sel c.get.result.now) (tree.stmts_of (map tree_view.plain_stmt c.deref.result.now)) c.args.findings.now.items c.choices.new.findings.items _
+        (rw (when_is_of c.args.when.now) (search rules)) c.in_ok-tests.ensures.noted c.in_ok-body.ensures.found
