@@ -1,12 +1,15 @@
 -- Statements before their lists, and with them.
-use Rattle.std.proofs.Common.{◌≡◌, ℕ, false, List, [], ◌++◌, append-nil, map, Option, Some, None, option_map, refl, sym, ap, ◌∙◌}
+use Rattle.std.proofs.Common.{◌≡◌, ℕ, Bool, false, List, [], ◌++◌, append-nil, map, Option, Some, None, Vec, option_map, refl, sym, ap, ◌∙◌}
+use Rattle.std.specs.declared.alloc.Global.{Global}
 use Rattle.cob_tree.specs.declared.stmt.Stmt as declared_stmt
 use Rattle.cob_tree.specs.declared.stmt.Stmt.{out-Stmt}
 use Rattle.cob_tree.specs.declared.stmt.Tail as declared_tail
 use Rattle.cob_tree.specs.declared.stmt.Tail.{out-Tail}
 use Rattle.cob_tree.specs.declared.stmt.When as declared_when
 use Rattle.cob_tree.specs.declared.stmt.When.{out-When}
-use Rattle.cob_tree.specs.declared.stmt.Verb.TheFolds.{fold_out-Stmt, fold_out-Tail, fold_out-When}
+use Rattle.cob_tree.specs.declared.stmt.Verb.TheOpen as layer
+use Rattle.cob_tree.specs.declared.stmt.Verb.TheViews.{roll-Verb}
+use Rattle.cob_tree.specs.declared.stmt.Verb.TheFolds.{fold-roll-Verb, fold_out-Stmt, fold_out-Tail, fold_out-When}
 use Rattle.cob_tree.specs.Stmt as tree
 use Rattle.cob_tree.specs.StmtView as tree_view
 use Rattle.cob_tree.specs.Cond.{Cond}
@@ -30,6 +33,13 @@ stmt_is x = fold_out-Stmt _ _ _ _ _ _ _ _ x
 
 pub when_is_of : (x : declared_when.When) → tree_view.plain_when x ≡ tree.MkWhen (map tree_view.plain_sel (out-When x).choices) (tree_list (out-When x).body)
 when_is_of x = fold_out-When _ _ _ _ _ _ _ _ x
+
+pub read_is : (file : List ℕ) (into : Option Ref) (end not_end : Option (Vec declared_stmt.Stmt Global)) (ended : Bool) →
+    tree_view.plain_verb (roll-Verb (layer.Read file into end not_end ended)) ≡ tree.read file into (tree_phrase end) (tree_phrase not_end) ended
+read_is file into None None ended = fold-roll-Verb _ _ _ _ _ _ _ _ (layer.Read file into None None ended)
+read_is file into None (Some y) ended = fold-roll-Verb _ _ _ _ _ _ _ _ (layer.Read file into None (Some y) ended)
+read_is file into (Some x) None ended = fold-roll-Verb _ _ _ _ _ _ _ _ (layer.Read file into (Some x) None ended)
+read_is file into (Some x) (Some y) ended = fold-roll-Verb _ _ _ _ _ _ _ _ (layer.Read file into (Some x) (Some y) ended)
 
 -- what is judged on a line, and then the rest
 pub judged_found : (line : ℕ) (old mid new : List Finding) (b : Broken) (xs : List (Rule × ℕ)) → mid ≡ noted line old b → new ≡ found_behind mid xs → new ≡ found_behind old (found_on line b ++ xs)

@@ -15,7 +15,7 @@ use Rattle.cob_typed.specs.Arithmetic.{add_to, add_giving, subtract_from, subtra
 use Rattle.cob_typed.specs.Workings.{plain_worked}
 use Rattle.cob_typed.proofs.EachLemmas.{map_more}
 use Rattle.cob_typed.proofs.ListLemmas.{stmts_from, whens_from, stmts_step, stmts_end, whens_step, whens_end, stmt_value, stmt_next, stmt_found, when_value, when_next, when_found, whens_behind, whens_none, joined_none}
-use Rattle.cob_typed.proofs.StmtLemmas.{when_is_of, only_found, work_found, if_found, inline_found, read_found, read_value, choice_found}
+use Rattle.cob_typed.proofs.StmtLemmas.{when_is_of, only_found, work_found, if_found, inline_found, read_is, read_found, read_value, choice_found}
 use Rattle.cob_typed.proofs.scope.Scope.+lists.Goals as goal
 
 pub add_stmts-loop-statement-preserved : goal.add_stmts-loop-statement-preserved
@@ -170,14 +170,14 @@ verb-returns-in_ok-body-in-PerformInline-clause-found t c =
 
 pub verb-returns-in_ok-end-in-Read-clause-found : goal.verb-returns-in_ok-end-in-Read-clause-found
 verb-returns-in_ok-end-in-Read-clause-found t c =
-    let is = ap tree_view.plain_verb (c.in-Read.is ∙ sym (rolls-Read c.in-Read.file c.in-Read.into c.in-Read.end c.in-Read.not_end c.in-Read.ended)) ∙ fold-roll-Verb _ _ _ _ _ _ _ _ (layer.Read c.in-Read.file c.in-Read.into c.in-Read.end c.in-Read.not_end c.in-Read.ended) in
-    read_found c.args.self.now c.args.line c.args.next.now (tree_view.plain_verb c.args.verb.now) c.args.findings.now.items _ c.in-Read.file c.in-Read.into (tree_phrase c.in-Read.end) (tree_phrase c.in-Read.not_end) c.read_parts.new.findings.items (ap (typed_verb c.args.self.now c.args.line c.args.next.now) is ∙ search rules) (search rules) c.in_ok-end-in-Read.ensures.found
+    let is = ap tree_view.plain_verb (c.in-Read.is ∙ sym (rolls-Read c.in-Read.file c.in-Read.into c.in-Read.end c.in-Read.not_end c.in-Read.ended)) ∙ read_is c.in-Read.file c.in-Read.into c.in-Read.end c.in-Read.not_end c.in-Read.ended in
+    read_found c.args.self.now c.args.line c.args.next.now (tree_view.plain_verb c.args.verb.now) c.args.findings.now.items _ c.in-Read.file c.in-Read.into (tree_phrase c.in-Read.end) (tree_phrase c.in-Read.not_end) c.read_parts.new.findings.items (ap (typed_verb c.args.self.now c.args.line c.args.next.now) is) (search rules) c.in_ok-end-in-Read.ensures.found
 
 pub verb-returns-in_ok-end-in-Read-clause-value : goal.verb-returns-in_ok-end-in-Read-clause-value
 verb-returns-in_ok-end-in-Read-clause-value t c =
-    let is = ap tree_view.plain_verb (c.in-Read.is ∙ sym (rolls-Read c.in-Read.file c.in-Read.into c.in-Read.end c.in-Read.not_end c.in-Read.ended)) ∙ fold-roll-Verb _ _ _ _ _ _ _ _ (layer.Read c.in-Read.file c.in-Read.into c.in-Read.end c.in-Read.not_end c.in-Read.ended) in
+    let is = ap tree_view.plain_verb (c.in-Read.is ∙ sym (rolls-Read c.in-Read.file c.in-Read.into c.in-Read.end c.in-Read.not_end c.in-Read.ended)) ∙ read_is c.in-Read.file c.in-Read.into c.in-Read.end c.in-Read.not_end c.in-Read.ended in
     read_value c.args.self.now c.args.line c.args.next.now (tree_view.plain_verb c.args.verb.now) c.in-Read.file c.in-Read.into (tree_phrase c.in-Read.end) (tree_phrase c.in-Read.not_end) _ c.in_ok-file-in-Read.file c.in_ok-file-in-Read.into (plain_phrase c.in_ok-end-in-Read.end) (plain_stmts c.in_ok-end-in-Read.fine)
-        (ap (typed_verb c.args.self.now c.args.line c.args.next.now) is ∙ search rules) c.read_of.ensures (search rules) (search rules) c.in_ok-end-in-Read.ensures.first c.in_ok-end-in-Read.ensures.second
+        (ap (typed_verb c.args.self.now c.args.line c.args.next.now) is) c.read_of.ensures (search rules) (search rules) c.in_ok-end-in-Read.ensures.first c.in_ok-end-in-Read.ensures.second
 
 pub when-returns-clause-found : goal.when-returns-clause-found
 when-returns-clause-found t c =
