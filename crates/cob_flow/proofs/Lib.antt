@@ -1,23 +1,10 @@
-mod Examples
-mod ListingLemmas
-mod ReachLemmas
-mod LeastLemmas
-mod BoolLemmas
-mod NestLemmas
-mod FirstLemmas
-mod CoverLemmas
-mod Fronts
-mod Lengths
-pub mod InGraphs
-mod Relation
-mod Settling
-mod Ways
-mod Conditions
-mod SizeErrors
-mod Statements
-mod Choosing
+mod CellLemmas
+mod Cuts
+mod Exact
+mod FlowLemmas
+mod Growth
+mod LayLemmas
 mod Loops
-mod FileCalls
-mod ReadSteps
-mod EachAct
-pub mod Simulated
+mod PlaceLemmas
+mod SizeLemmas
+mod SizeLoops

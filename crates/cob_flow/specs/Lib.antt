@@ -1,11 +1,5 @@
-pub mod Laid
-pub mod Places
-pub mod Nodes
-pub mod Copies
-pub mod Graphs
-pub mod Nesting
-pub mod Walks
-pub mod Listing
-pub mod Reaching
-pub mod Broken
-pub mod Covering
+pub mod Views
+pub mod Steps
+pub mod Sizes
+pub mod Tables
+pub mod Growing

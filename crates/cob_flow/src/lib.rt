@@ -1,17 +1,17 @@
-//! The control graph of a program: what a step may be, from where to where; and how PERFORMs nest.
+//! The code that builds a program's control graph.
 #![tactic(auto)]
 
-mod calls;
-mod distinct;
-mod end;
-mod graph;
-mod laws;
-mod nesting;
-mod reach;
+mod cells;
+mod copies;
+mod counting;
+mod flow;
+mod laying;
+mod numbers;
+mod places;
+mod statements;
+mod within;
 #[cfg(test)]
 mod tests;
 
-pub use end::FlowEnd;
-pub use graph::{Edge, Graph, Node};
-pub use laws::{graphs_are_as_laid, runs_are_ways};
-pub use nesting::nested;
+pub use cob_graph::{Edge, FlowEnd, Graph, Node, nested};
+pub use flow::graph_of;

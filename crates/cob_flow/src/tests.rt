@@ -1,25 +1,15 @@
-//! Programs of paragraphs that perform and go.
-use crate::{FlowEnd, nested};
-use cob_data::{Layout, Rule};
-use cob_program::{Act, Body, Logic, Para, Program, Stmt, Sum, Test, Turns, When};
+//! Graphs of small programs.
+
+use crate::cells::cells_of;
+use crate::flow::graph_in;
+use cob_graph::{Edge, Graph, Node};
+use cob_data::{Layout, Sender};
+use cob_program::{Act, Body, Para, Program, Stmt, Sum, Turns};
 use cob_tree::Many;
 use std::alloc::{AllocError, Global};
 use std::test::Fail;
 
-/// Where it stands, its line, and the range that it performs, or where it goes.
-type Deed = (u32, u32, u32, Option<u32>);
-
-fn done(first: u32, last: Option<u32>) -> Act {
-    match last {
-        None => Act::Go(first),
-        Some(last) => Act::Perform {
-            body: Body::Range { first, last },
-            turns: Turns::Once,
-        },
-    }
-}
-
-fn layout(alloc: Global) -> Layout {
+fn no_data(alloc: Global) -> Layout {
     Layout {
         items: Many::of(Vec::new(alloc)),
         flags: Many::of(Vec::new(alloc)),
@@ -28,188 +18,98 @@ fn layout(alloc: Global) -> Layout {
     }
 }
 
-fn para(alloc: Global, place: u32, deeds: &[Deed]) -> Result<Para, AllocError> {
-    let mut body = Vec::new(alloc);
-    for deed in deeds {
-        let (at, line, first, last) = *deed;
-        if at == place {
-            body.push(Stmt::of(line, line, done(first, last)))?;
-        }
+fn program_of(alloc: Global, bodies: Vec<Vec<Stmt>>) -> Result<Program, AllocError> {
+    let mut paras = Vec::new(alloc);
+    for body in bodies {
+        paras.push(Para {
+            name: None,
+            line: 0,
+            body: Many::of(body),
+        })?;
     }
-    Ok(Para {
-        name: None,
-        line: 1,
-        body: Many::of(body),
+    Ok(Program {
+        layout: no_data(alloc),
+        paras: Many::of(paras),
+        statements: 9,
     })
 }
 
-/// The answer to a program of some paragraphs.
-fn told(alloc: Global, count: u32, deeds: &[Deed]) -> Result<Result<(), FlowEnd>, AllocError> {
-    let mut paras = Vec::new(alloc);
-    for place in 0..count {
-        paras.push(para(alloc, place, deeds)?)?;
-    }
-    let program = Program {
-        layout: layout(alloc),
-        paras: Many::of(paras),
-        statements: 99,
-    };
-    Ok(nested(alloc, &program))
-}
-
-fn refused(rule: Rule, line: u32) -> Result<(), FlowEnd> {
-    Err(FlowEnd::Outside { rule, line })
-}
-
-#[test]
-fn what_nests_is_kept(rt: HostRuntime) -> Result<(), Fail> {
-    let alloc = rt.alloc();
-    let apart = [(0, 10, 1, Some(2)), (1, 20, 3, Some(3))];
-    assert_eq!(rt; told(alloc, 4, &apart)?, Ok(()));
-    let within = [(0, 10, 1, Some(3)), (1, 20, 2, Some(2))];
-    assert_eq!(rt; told(alloc, 4, &within)?, Ok(()));
-    let inside = [(0, 10, 1, Some(2)), (1, 20, 2, None)];
-    assert_eq!(rt; told(alloc, 3, &inside)?, Ok(()));
-    Ok(())
-}
-
-#[test]
-fn cycles_are_refused(rt: HostRuntime) -> Result<(), Fail> {
-    let alloc = rt.alloc();
-    let by_itself = [(0, 10, 1, Some(1)), (1, 20, 1, Some(1))];
-    assert_eq!(rt; told(alloc, 2, &by_itself)?, refused(Rule::N1, 20));
-    let in_turn = [
-        (0, 10, 1, Some(1)),
-        (1, 20, 2, Some(2)),
-        (2, 30, 1, Some(1)),
-    ];
-    assert_eq!(rt; told(alloc, 3, &in_turn)?, refused(Rule::N1, 20));
-    Ok(())
-}
-
-#[test]
-fn crossing_ranges_are_refused(rt: HostRuntime) -> Result<(), Fail> {
-    let alloc = rt.alloc();
-    let crossing = [(0, 10, 1, Some(2)), (1, 20, 2, Some(3))];
-    assert_eq!(rt; told(alloc, 4, &crossing)?, refused(Rule::N2, 20));
-    let same_exit = [(0, 10, 1, Some(2)), (1, 20, 2, Some(2))];
-    assert_eq!(rt; told(alloc, 3, &same_exit)?, refused(Rule::N2, 20));
-    let far = [
-        (0, 10, 1, Some(2)),
-        (1, 20, 4, Some(4)),
-        (4, 30, 2, Some(2)),
-    ];
-    assert_eq!(rt; told(alloc, 5, &far)?, refused(Rule::N2, 30));
-    Ok(())
-}
-
-#[test]
-fn jumps_outside_and_reversed_ranges_are_refused(rt: HostRuntime) -> Result<(), Fail> {
-    let alloc = rt.alloc();
-    let outside = [(0, 10, 1, Some(1)), (1, 20, 2, None)];
-    assert_eq!(rt; told(alloc, 3, &outside)?, refused(Rule::N3, 20));
-    let reversed = [(0, 10, 2, Some(1))];
-    assert_eq!(rt; told(alloc, 3, &reversed)?, refused(Rule::N4, 10));
-    let earlier_rule = [(0, 10, 1, Some(1)), (1, 20, 2, None), (2, 30, 2, Some(2))];
-    assert_eq!(rt; told(alloc, 3, &earlier_rule)?, refused(Rule::N1, 30));
-    Ok(())
-}
-
-fn one(alloc: Global, line: u32, act: Act) -> Result<Vec<Stmt>, AllocError> {
-    let mut list = Vec::new(alloc);
-    list.push(Stmt::of(line, line, act))?;
-    Ok(list)
-}
-
-fn whens(alloc: Global, body: Vec<Stmt>) -> Result<Vec<When>, AllocError> {
-    let mut whens = Vec::new(alloc);
-    whens.push(When {
-        tests: Many::of(Vec::new(alloc)),
-        body,
-    })?;
-    Ok(whens)
-}
-
-fn arith(alloc: Global, size: Option<Vec<Stmt>>, fine: Vec<Stmt>) -> Act {
+// ADD nothing to nothing.
+fn add(alloc: Global) -> Act {
     Act::Arith {
         common: Sum::of(Vec::new(alloc)),
         targets: Many::of(Vec::new(alloc)),
         remainder: None,
-        size,
-        fine,
+        size: None,
+        fine: Vec::new(alloc),
     }
 }
 
-fn read(end: Option<Vec<Stmt>>, fine: Vec<Stmt>) -> Act {
-    Act::Read {
-        file: 0,
-        into: None,
-        end,
-        fine,
+fn perform(first: u32, last: u32, turns: Turns) -> Act {
+    Act::Perform {
+        body: Body::Range { first, last },
+        turns,
     }
 }
 
-/// A statement with a list in one of its places.
-fn around(alloc: Global, way: u32, list: Vec<Stmt>) -> Result<Act, AllocError> {
-    let test = Logic::test(Test::Numeric(0));
-    let none = Vec::new(alloc);
-    match way {
-        0 => Ok(Act::If {
-            test,
-            yes: list,
-            no: none,
-        }),
-        1 => Ok(Act::If {
-            test,
-            yes: none,
-            no: list,
-        }),
-        2 => Ok(Act::Evaluate {
-            whens: whens(alloc, list)?,
-            other: none,
-        }),
-        3 => Ok(Act::Evaluate {
-            whens: whens(alloc, none)?,
-            other: list,
-        }),
-        4 => Ok(arith(alloc, Some(list), none)),
-        5 => Ok(arith(alloc, None, list)),
-        6 => Ok(read(Some(list), none)),
-        7 => Ok(read(None, list)),
-        _ => Ok(Act::Perform {
-            body: Body::Inline(list),
-            turns: Turns::Once,
-        }),
-    }
+fn shown_edge(alloc: Global, edge: &Edge) -> Result<String, AllocError> {
+    let Edge { from, to, action } = *edge;
+    format!(in alloc; "{from} {action:?} {to}")
 }
 
-/// The answer to a program of one paragraph, with a reversed range in a list of its statement.
-fn told_inside(alloc: Global, way: u32) -> Result<Result<(), FlowEnd>, AllocError> {
-    let act = around(alloc, way, one(alloc, 40, done(2, Some(1)))?)?;
-    let body = Many::of(one(alloc, 39, act)?);
-    let mut paras = Vec::new(alloc);
-    paras.push(Para {
-        name: None,
-        line: 0,
-        body,
-    })?;
-    let program = Program {
-        layout: layout(alloc),
-        paras: Many::of(paras),
-        statements: 2,
-    };
-    Ok(nested(alloc, &program))
+fn shown_node(alloc: Global, node: &Node) -> Result<String, AllocError> {
+    let statement = node.statement;
+    let sites = node.sites.get().len();
+    let starts = node.starts;
+    format!(in alloc; "{statement} {sites} {starts}")
+}
+
+fn shown(alloc: Global, graph: &Graph) -> Result<String, AllocError> {
+    let mut text = String::new(alloc);
+    for node in graph.nodes.get() {
+        text.push_str(shown_node(alloc, node)?.as_str())?;
+        text.push_str(", ")?;
+    }
+    for edge in graph.edges.get() {
+        text.push_str(shown_edge(alloc, edge)?.as_str())?;
+        text.push_str("; ")?;
+    }
+    Ok(text)
 }
 
 #[test]
-fn each_list_of_a_statement_is_looked_into(rt: HostRuntime) -> Result<(), Fail> {
+fn a_program_without_data_has_no_cells(rt: HostRuntime) -> Result<(), Fail> {
     let alloc = rt.alloc();
-    for way in 0..9 {
-        assert_eq!(rt;
-            told_inside(alloc, way)?,
-            refused(Rule::N4, 40),
-            "in list {way}"
-        );
-    }
+    let body = vec![in alloc; Stmt::of(1, 7, Act::Stop)]?;
+    let program = program_of(alloc, vec![in alloc; body]?)?;
+    assert_eq!(rt; cells_of(alloc, &program)?.len(), 0);
+    Ok(())
+}
+
+#[test]
+fn two_statements_have_three_nodes(rt: HostRuntime) -> Result<(), Fail> {
+    let alloc = rt.alloc();
+    let body = vec![in alloc; Stmt::of(1, 7, add(alloc)), Stmt::of(2, 8, Act::Stop)]?;
+    let program = program_of(alloc, vec![in alloc; body]?)?;
+    let graph = graph_in(alloc, &program)?;
+    assert_eq!(rt;
+        shown(alloc, &graph)?.as_str(),
+        "1 0 true, 2 0 true, 0 0 false, 1 Done 2; 2 Skip 3; "
+    );
+    Ok(())
+}
+
+#[test]
+fn a_performed_range_is_copied(rt: HostRuntime) -> Result<(), Fail> {
+    let alloc = rt.alloc();
+    let turns = Turns::Times(Sender::Zero);
+    let one = vec![in alloc; Stmt::of(1, 7, perform(2, 2, turns)), Stmt::of(2, 8, Act::Stop)]?;
+    let two = vec![in alloc; Stmt::of(3, 9, Act::Show(Many::of(Vec::new(alloc))))]?;
+    let program = program_of(alloc, vec![in alloc; Vec::new(alloc), one, two]?)?;
+    let graph = graph_in(alloc, &program)?;
+    assert_eq!(rt;
+        shown(alloc, &graph)?.as_str(),
+        "1 0 true, 1 0 true, 3 1 true, 1 0 true, 2 0 true, 3 0 true, 0 0 false, 1 SetCount 2; 2 True(0) 3; 2 False(0) 5; 3 Show 4; 4 Down 2; 5 Skip 7; 6 Show 7; "
+    );
     Ok(())
 }

@@ -1,5 +1,0 @@
-use Rattle.cob_flow.proofs.CoverLemmas.{added_one}
-use Rattle.cob_flow.proofs.distinct.add.Goals as goal
-
-pub returns : goal.returns
-returns c = added_one c.args.calls.now.items c.push.new.self.items c.args.call c.in_ok-push.ensures.items

@@ -1,0 +1,40 @@
+use Rattle.cob_flow.proofs.laying.Laying.+lists.Given as goal
+
+abbrev pub decreases-lay_list : goal.decreases-lay_list
+decreases-lay_list l = l.left
+
+abbrev pub decreases-lay_stmt : goal.decreases-lay_stmt
+decreases-lay_stmt l = l.left
+
+abbrev pub decreases-lay_phrase : goal.decreases-lay_phrase
+decreases-lay_phrase l = l.left
+
+abbrev pub decreases-lay_act : goal.decreases-lay_act
+decreases-lay_act l = l.left
+
+abbrev pub decreases-lay_arith : goal.decreases-lay_arith
+decreases-lay_arith l = l.left
+
+abbrev pub decreases-lay_if : goal.decreases-lay_if
+decreases-lay_if l = l.left
+
+abbrev pub decreases-lay_evaluate : goal.decreases-lay_evaluate
+decreases-lay_evaluate l = l.left
+
+abbrev pub decreases-lay_whens : goal.decreases-lay_whens
+decreases-lay_whens l = l.left
+
+abbrev pub decreases-lay_read : goal.decreases-lay_read
+decreases-lay_read l = l.left
+
+abbrev pub decreases-lay_perform : goal.decreases-lay_perform
+decreases-lay_perform l = l.left
+
+abbrev pub decreases-lay_body : goal.decreases-lay_body
+decreases-lay_body l = l.left
+
+abbrev pub decreases-lay_copy : goal.decreases-lay_copy
+decreases-lay_copy l = l.left
+
+abbrev pub decreases-lay_paras : goal.decreases-lay_paras
+decreases-lay_paras l = l.left

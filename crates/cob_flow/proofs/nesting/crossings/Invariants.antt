@@ -1,7 +1,0 @@
-use Rattle.std.proofs.Common.{◌≡◌, map}
-use Rattle.cob_flow.specs.Listing.{plain_call}
-use Rattle.cob_flow.specs.Broken.{least_below, crossing_at}
-use Rattle.cob_flow.proofs.nesting.crossings.Given as goal
-
-abbrev pub invariant-loop-place : goal.invariant-loop-place
-invariant-loop-place l = l.least ≡ least_below (crossing_at (map plain_call l.calls) l.outer) l.place

@@ -1,0 +1,8 @@
+use Rattle.cob_program.specs.ActView.{plain_program}
+use Rattle.cob_graph.proofs.FirstLemmas.{answers}
+use Rattle.cob_graph.proofs.nesting.nested.Goals as goal
+
+pub returns-clause-outside : goal.returns-clause-outside
+returns-clause-outside c =
+    (answers (plain_program c.args.program.now) c.in-Ok.found c.deref.result.now c.in-Ok-distinct.calls.items c.deref-3.result.now c.deref-4.result.now c.first_broken.result c.answer.result
+    c.in-Ok.ensures c.deref.ensures.value c.deref-4.ensures.value c.deref-3.ensures.value c.in-Ok-distinct.ensures c.first_broken.ensures c.answer.ensures).outside

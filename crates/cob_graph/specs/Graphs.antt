@@ -1,0 +1,148 @@
+-- The graph of a program: the main copy of its paragraphs, with the copies that PERFORMs lay, and the final node.
+use Rattle.std.specs.Prelude.{◌≡◌, ◌≤◌, ◌<◌, nat_le, min, ℕ, zero, suc, ◌+◌, ◌-◌, if◌then◌else◌, Bool, true, false, List, [], ◌∷◌, ◌++◌, length, map, Option, Some, None}
+use Rattle.cob_tree.specs.declared.form.Form.{Form}
+use Rattle.cob_tree.specs.declared.form.Form.TheVariants as form
+use Rattle.cob_data.specs.declared.end.Which.{Which}
+use Rattle.cob_data.specs.declared.end.Which.TheVariants.{Cells, Nodes}
+use Rattle.cob_data.specs.declared.layout.Item.{Item}
+use Rattle.cob_program.specs.Act.{Turns, times, Stmt, MkStmt, Stmts, no_stmts, more_stmts, Phrase, left_out, given, Act, arith, if_, evaluate, perform, read, Whens, no_whens, more_whens, MkWhen, Body, range, inline, Para, Program}
+use Rattle.cob_runs.specs.declared.action.Action.{Action}
+use Rattle.cob_runs.specs.declared.action.Cell.{Cell}
+use Rattle.cob_graph.specs.declared.graph.Node.{Node}
+use Rattle.cob_graph.specs.declared.graph.Edge.{Edge}
+use Rattle.cob_graph.specs.declared.graph.Graph.{Graph}
+use Rattle.cob_graph.specs.Laid.{LaidParas, paras_size}
+use Rattle.cob_graph.specs.Places.{first_of_para}
+use Rattle.cob_graph.specs.Copies.{AreLaidParas}
+use Rattle.cob_graph.specs.Nodes.{Noded, Copied, paras_nodes}
+
+-- ---- nodes and edges
+
+abbrev pub last_para : Program → ℕ
+last_para p = length p.paras - 1
+
+abbrev pub final_of : LaidParas → ℕ
+final_of ps = 1 + paras_size ps
+
+abbrev pub main_copy : Program → LaidParas → Copied
+main_copy p ps = record { layout = p.layout; sites = []; para = λ n. first_of_para n ps 1 (final_of ps); final = final_of ps }
+
+abbrev pub final_node : Noded
+final_node = record { statement = 0; sites = []; starts = false; out = [] }
+
+abbrev pub all_nodes : Program → LaidParas → List Noded
+all_nodes p ps = paras_nodes (main_copy p ps) ps 1 (final_of ps) ++ final_node ∷ []
+
+abbrev pub as_node : Noded → Node
+as_node n = record { statement = n.statement; sites = n.sites; starts = n.starts }
+
+abbrev pub edges_from : ℕ → List (Action × ℕ) → List Edge
+edges_from from [] = []
+edges_from from (x ∷ xs) = record { from = from; to = x.1; action = x.0 } ∷ edges_from from xs
+
+-- the edges of nodes with these numbers from one on
+abbrev pub edges_of : ℕ → List Noded → List Edge
+edges_of at [] = []
+edges_of at (n ∷ ns) = edges_from at n.out ++ edges_of (suc at) ns
+
+-- ---- cells
+
+abbrev pub cell : Option ℕ → ℕ → ℕ → Bool → Cell
+cell item digits scale signed = record { item = item; digits = digits; scale = scale; signed = signed }
+
+-- a number, or a text of at most 18 bytes
+abbrev pub cell_of : ℕ → Form → List Cell
+cell_of place (form.Number digits scale signed kept) = cell (Some place) digits scale signed ∷ []
+cell_of place (form.Text n) = if nat_le n 18 then cell (Some place) n 0 false ∷ [] else []
+cell_of place _ = []
+
+abbrev pub if_named : {A : Type 0} → Option A → List Cell → List Cell
+if_named None cs = []
+if_named (Some n) cs = cs
+
+-- those of the items from a place on
+abbrev pub item_cells : ℕ → List Item → List Cell
+item_cells place [] = []
+item_cells place (i ∷ items) = if_named i.name (cell_of place i.form) ++ item_cells (suc place) items
+
+-- a PERFORM with TIMES has a counter of 18 digits with a sign
+abbrev pub counter : Cell
+counter = cell None 18 0 true
+
+abbrev pub counters_of : Turns → List Cell
+counters_of (times x) = counter ∷ []
+counters_of _ = []
+
+abbrev mutual
+  pub counters : Stmts → List Cell
+  counters no_stmts = []
+  counters (more_stmts (MkStmt number line a) ss) = counters_in a ++ counters ss
+
+  pub phrase_counters : Phrase → List Cell
+  phrase_counters left_out = []
+  phrase_counters (given ss) = counters ss
+
+  -- in the order of the statements' numbers
+  pub counters_in : Act → List Cell
+  counters_in (arith s targets remainder size fine) = phrase_counters size ++ counters fine
+  counters_in (if_ t held other) = counters held ++ counters other
+  counters_in (evaluate ws other) = whens_counters ws ++ counters other
+  counters_in (perform body turns) = counters_of turns ++ body_counters body
+  counters_in (read f into end fine) = phrase_counters end ++ counters fine
+  counters_in _ = []
+
+  pub whens_counters : Whens → List Cell
+  whens_counters no_whens = []
+  whens_counters (more_whens (MkWhen ts ss) ws) = counters ss ++ whens_counters ws
+
+  pub body_counters : Body → List Cell
+  body_counters (range first last) = []
+  body_counters (inline ss) = counters ss
+
+abbrev pub para_counters : List Para → List Cell
+para_counters [] = []
+para_counters (x ∷ xs) = counters x.body ++ para_counters xs
+
+abbrev pub cells_of : Program → List Cell
+cells_of p = item_cells 0 p.layout.items ++ para_counters p.paras
+
+-- ---- graphs
+
+-- the paragraphs with their copies written in
+abbrev pub IsMainCopy : Program → LaidParas → Type 0
+IsMainCopy p ps = AreLaidParas p 0 (last_para p) 0 (length p.paras) ps
+
+pub record IsGraph (p : Program) (g : Graph) : Type 0 where
+  pub copies : LaidParas
+  pub laid : IsMainCopy p copies
+  pub nodes : g.nodes ≡ map as_node (all_nodes p copies)
+  pub edges : g.edges ≡ edges_of 1 (all_nodes p copies)
+  pub cells : g.cells ≡ cells_of p
+
+-- how many nodes the program's graph has
+pub record HasNodes (p : Program) (count : ℕ) : Type 0 where
+  pub copies : LaidParas
+  pub laid : IsMainCopy p copies
+  pub counted : count ≡ final_of copies
+
+-- ---- limits
+
+-- a greater count of nodes is told as this
+abbrev pub most_told : ℕ
+most_told = 1000000000
+
+pub record HasTooManyCells (p : Program) (count : ℕ) : Type 0 where
+  pub counted : count ≡ length (cells_of p)
+  pub over : 512 < count
+
+pub record HasTooManyNodes (p : Program) (count : ℕ) : Type 0 where
+  pub cells : length (cells_of p) ≤ 512
+  pub nodes : ℕ
+  pub counted : HasNodes p nodes
+  pub over : 4096 < nodes
+  pub told : count ≡ min nodes most_told
+
+abbrev pub IsOver : Program → Which → ℕ → Type 0
+IsOver p Cells count = HasTooManyCells p count
+IsOver p Nodes count = HasTooManyNodes p count
+IsOver p _ count = ⊥

@@ -1,0 +1,11 @@
+pub mod Laid
+pub mod Places
+pub mod Nodes
+pub mod Copies
+pub mod Graphs
+pub mod Nesting
+pub mod Walks
+pub mod Listing
+pub mod Reaching
+pub mod Broken
+pub mod Covering

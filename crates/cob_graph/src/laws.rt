@@ -1,0 +1,16 @@
+//! What holds of each program's graph.
+ghost use Rattle.cob_graph.specs.Walks.{EdgesAreLaid, NodesAreLaid, Simulation};
+
+/// So many steps of a run are a way through the graph from its first node, with the same storage, files and shown text.
+/// While the run goes on the way has left as many nodes at which a step begins, and at most as many once it is over:
+/// then it stands at the final node, has come there by an edge on which a statement meets the status that ends the run,
+/// or stands at a node of the statement that meets the fault, on one of its edges.
+pub fn runs_are_ways()
+    ensures { Simulation }
+{}
+
+/// The nodes and edges of a graph are those of the program with its copies written in.
+pub fn graphs_are_as_laid()
+    ensures nodes { NodesAreLaid }
+    ensures edges { EdgesAreLaid }
+{}

@@ -1,0 +1,17 @@
+//! The control graph of a program: what a step may be, from where to where; and how PERFORMs nest.
+#![tactic(auto)]
+
+mod calls;
+mod distinct;
+mod end;
+mod graph;
+mod laws;
+mod nesting;
+mod reach;
+#[cfg(test)]
+mod tests;
+
+pub use end::FlowEnd;
+pub use graph::{Edge, Graph, Node};
+pub use laws::{graphs_are_as_laid, runs_are_ways};
+pub use nesting::nested;
