@@ -1,0 +1,2 @@
+mod TreeCauses
+mod OneAnswer

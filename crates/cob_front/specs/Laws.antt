@@ -1,0 +1,10 @@
+-- What follows of sources: each has one answer.
+use Rattle.std.specs.Prelude.{◌≡◌, ℕ, List}
+use Rattle.cob_program.specs.Act.{Program}
+use Rattle.cob_front.specs.declared.end.FrontEnd.{FrontEnd}
+use Rattle.cob_front.specs.Source.{IsSource, IsCause}
+
+pub record OneAnswer (bytes : List ℕ) : Type 0 where
+  pub one_program : (p q : Program) → IsSource bytes p → IsSource bytes q → p ≡ q
+  pub one_cause : (d e : FrontEnd) → IsCause bytes d → IsCause bytes e → d ≡ e
+  pub not_both : (p : Program) (e : FrontEnd) → IsSource bytes p → IsCause bytes e → ⊥

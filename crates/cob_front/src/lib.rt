@@ -1,0 +1,13 @@
+//! From a source's bytes to its program: the text, the tokens, the tree, the layout of the data and the statements with
+//! their names resolved; or the first reason for which the source is no program of the profile.
+#![tactic(auto)]
+
+mod end;
+mod laws;
+mod phases;
+#[cfg(test)]
+mod tests;
+
+pub use end::FrontEnd;
+pub use laws::one_answer;
+pub use phases::program_in;

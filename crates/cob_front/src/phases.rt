@@ -1,0 +1,84 @@
+ghost use Rattle.std.specs.Prelude.{◌≡◌, ◌≤◌, ◌^◌, length, IfOk};
+ghost use Rattle.cob_tree.specs.PrintStmt.{print_tree};
+ghost use Rattle.cob_tree.specs.StmtView.{plain_tree};
+ghost use Rattle.cob_data.specs.Layouts.{HasLayout, layout};
+ghost use Rattle.cob_program.specs.Act.{Program as PlainProgram};
+ghost use Rattle.cob_front.specs.declared.end.FrontEnd.{FrontEnd as End};
+ghost use Rattle.cob_front.specs.Source.{StandsFor, IsTreeCause, IsCause, IsTypedTree, IsSource, IsProgram, IsProgramOf, Answers, IsRefused, IsAccepted};
+
+use crate::end::FrontEnd;
+use cob_data::{DataEnd, Layout, layout_of};
+use cob_names::layouts_have_few_places;
+use cob_parse_expr::ParseEnd;
+use cob_parse_proc::program_of;
+use cob_program::Program;
+use cob_scan::{ScanEnd, tokens_in};
+use cob_tree::Tree;
+use cob_typed::{TypedEnd, typed_of};
+use std::alloc::Global;
+
+const MOST_BYTES: usize = 1_048_576;
+
+/// The tree of a source.
+fn tree_in(alloc: Global, bytes: &[u8]) -> Result<Tree, FrontEnd>
+    ensures answer { Answers (StandsFor bytes.now) (IsCause bytes.now) result }
+    ensures few { IfOk result (λ tree. length (print_tree (plain_tree tree)) ≤ 2 ^ 27) }
+{
+    if bytes.len() > MOST_BYTES {
+        return Err(FrontEnd::TooLong);
+    }
+    let tokens = match tokens_in(alloc, bytes) {
+        Ok(tokens) => tokens,
+        Err(ScanEnd::BadLine { line, column }) => return Err(FrontEnd::BadLine { line, column }),
+        Err(ScanEnd::BadToken { line, column }) => return Err(FrontEnd::BadToken { line, column }),
+        Err(ScanEnd::Memory) => return Err(FrontEnd::Memory),
+    };
+    match program_of(alloc, &tokens) {
+        Ok(tree) => Ok(tree),
+        Err(ParseEnd::Syntax { line }) => Err(FrontEnd::Syntax { line }),
+        Err(ParseEnd::Deep { count }) => Err(FrontEnd::Nesting { count }),
+        Err(ParseEnd::Memory) => Err(FrontEnd::Memory),
+    }
+}
+
+/// The program of a tree with its layout.
+fn statements_in(alloc: Global, tree: &Tree, data: &Layout) -> Result<Program, FrontEnd>
+    requires has { HasLayout tree.now }
+    requires is { data.now ≡ layout tree.now }
+    requires few { length (print_tree (plain_tree tree.now)) ≤ 2 ^ 27 }
+    ensures { Answers (IsProgramOf tree.now) (IsTreeCause tree.now) result }
+{
+    layouts_have_few_places();
+    match typed_of(alloc, tree, data) {
+        Ok(program) => Ok(program),
+        Err(TypedEnd::Outside { rule, line }) => Err(FrontEnd::Outside { rule, line }),
+        Err(TypedEnd::Memory) => Err(FrontEnd::Memory),
+    }
+}
+
+/// The program of a tree.
+fn typed_in(alloc: Global, tree: &Tree) -> Result<Program, FrontEnd>
+    requires { length (print_tree (plain_tree tree.now)) ≤ 2 ^ 27 }
+    ensures { Answers (IsProgramOf tree.now) (IsTreeCause tree.now) result }
+{
+    match layout_of(alloc, tree) {
+        Ok(data) => statements_in(alloc, tree, &data),
+        Err(DataEnd::Outside { rule, line }) => Err(FrontEnd::Outside { rule, line }),
+        Err(DataEnd::Limit { which, count }) => Err(FrontEnd::Limit { which, count }),
+        Err(DataEnd::Memory) => Err(FrontEnd::Memory),
+    }
+}
+
+/// The program of a source: its rules on data and on statements are kept, and no limit on data is exceeded. Or the first
+/// reason why it isn't one, in the order of the variants of [`FrontEnd`]; rules and limits on data come before rules on
+/// statements.
+pub fn program_in(alloc: Global, bytes: &[u8]) -> Result<Program, FrontEnd>
+    ensures answer { Answers (IsProgram bytes.now) (IsCause bytes.now) result }
+    ensures refused { (end : End) → IsCause bytes.now end → IsRefused result end }
+    ensures accepted { (program : PlainProgram) → IsSource bytes.now program → IsAccepted result }
+{
+    match tree_in(alloc, bytes) {
+        Ok(tree) => typed_in(alloc, &tree),
+        Err(end) => Err(end),
+    }
+}
