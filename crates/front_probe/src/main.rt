@@ -1,84 +1,42 @@
-//! Prints the first refusal of the source that its word names, as `cobsound` will, or `accepted`.
+//! Prints the first refusal of each source that a word names, as `cobsound` will, or `accepted` with the number of its
+//! statements.
 #![tactic(auto)]
 
-use cob_lex::{LexEnd, tokens_of};
-use cob_lines::{TextEnd, text_of};
-use cob_parse_expr::ParseEnd;
-use cob_parse_proc::program_of;
-use cob_tree::Token;
-use std::alloc::Global;
+use cob_data::Which;
+use cob_front::{FrontEnd, program_in};
 use std::rt::Files;
 use std::{env, fs, io};
 
-/// Why a source isn't accepted.
-#[derive(Clone, Copy, Debug)]
-enum Refusal {
-    TooLong,
-    BadLine { line: u32, column: u32 },
-    BadToken { line: u32, column: u32 },
-    Syntax { line: u32 },
-    Nesting { count: u32 },
-    Memory,
-}
-
-impl From<TextEnd> for Refusal {
-    fn from(end: TextEnd) -> Refusal {
-        match end {
-            TextEnd::BadLine { line, column } => Refusal::BadLine { line, column },
-            TextEnd::Memory => Refusal::Memory,
-        }
+fn word_of(which: Which) -> &'static str {
+    match which {
+        Which::Nesting => "nesting",
+        Which::Items => "items",
+        Which::Storage => "storage",
+        Which::Files => "files",
+        Which::Cells => "cells",
+        Which::Nodes => "nodes",
     }
 }
 
-impl From<LexEnd> for Refusal {
-    fn from(end: LexEnd) -> Refusal {
-        match end {
-            LexEnd::BadToken { line, column } => Refusal::BadToken { line, column },
-            LexEnd::Memory => Refusal::Memory,
-        }
-    }
-}
-
-impl From<ParseEnd> for Refusal {
-    fn from(end: ParseEnd) -> Refusal {
-        match end {
-            ParseEnd::Syntax { line } => Refusal::Syntax { line },
-            ParseEnd::Deep { count } => Refusal::Nesting { count },
-            ParseEnd::Memory => Refusal::Memory,
-        }
-    }
-}
-
-// The text isn't kept once its tokens stand.
-fn tokens_in(alloc: Global, bytes: &[u8]) -> Result<Vec<Token>, Refusal> {
-    if bytes.len() > 1_048_576 {
-        return Err(Refusal::TooLong);
-    }
-    let text = text_of(alloc, bytes)?;
-    Ok(tokens_of(alloc, &text)?)
-}
-
-fn read(alloc: Global, bytes: &[u8]) -> Result<(), Refusal> {
-    let tokens = tokens_in(alloc, bytes)?;
-    program_of(alloc, &tokens)?;
-    Ok(())
-}
-
-fn report(rt: &impl Print, answer: Result<(), Refusal>) -> io::Result<()> {
-    match answer {
-        Ok(()) => println!(rt; "accepted"),
-        Err(Refusal::TooLong) => println!(rt; "E5 source too long"),
-        Err(Refusal::BadLine { line, column }) => println!(rt; "E6 line {line} column {column}"),
-        Err(Refusal::BadToken { line, column }) => println!(rt; "E7 line {line} column {column}"),
-        Err(Refusal::Syntax { line }) => println!(rt; "E8 line {line}"),
-        Err(Refusal::Nesting { count }) => println!(rt; "E10 nesting {count}"),
-        Err(Refusal::Memory) => println!(rt; "E19 memory"),
+fn refuse(rt: &impl Print, end: FrontEnd) -> io::Result<()> {
+    match end {
+        FrontEnd::TooLong => println!(rt; "E5 source too long"),
+        FrontEnd::BadLine { line, column } => println!(rt; "E6 line {line} column {column}"),
+        FrontEnd::BadToken { line, column } => println!(rt; "E7 line {line} column {column}"),
+        FrontEnd::Syntax { line } => println!(rt; "E8 line {line}"),
+        FrontEnd::Nesting { count } => println!(rt; "E10 nesting {count}"),
+        FrontEnd::Outside { rule, line } => println!(rt; "E9 {rule:?} line {line}"),
+        FrontEnd::Limit { which, count } => println!(rt; "E10 {} {count}", word_of(which)),
+        FrontEnd::Memory => println!(rt; "E19 memory"),
     }
 }
 
 fn probe(rt: &(impl Files + Print + AllocGlobal), path: &str) -> io::Result<()> {
     let bytes = fs::read(rt, path)?;
-    report(rt, read(rt.alloc(), bytes.as_slice()))
+    match program_in(rt.alloc(), bytes.as_slice()) {
+        Ok(program) => println!(rt; "accepted {}", program.statements),
+        Err(end) => refuse(rt, end),
+    }
 }
 
 fn main(rt: HostRuntime) -> io::Result<()> {
