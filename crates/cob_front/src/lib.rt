@@ -6,6 +6,8 @@ mod end;
 mod laws;
 mod phases;
 #[cfg(test)]
+mod payroll;
+#[cfg(test)]
 mod tests;
 
 pub use end::FrontEnd;

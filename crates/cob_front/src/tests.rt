@@ -1,5 +1,6 @@
+use super::payroll::LINES;
 use super::{FrontEnd, program_in};
-use cob_program::Program;
+use cob_program::{Para, Program};
 use std::alloc::{AllocError, Global};
 use std::test::Fail;
 
@@ -58,5 +59,37 @@ fn a_source_may_be_too_long(rt: HostRuntime) -> Result<(), Fail> {
     let alloc = rt.alloc();
     let bytes = Vec::from_elem(alloc, b' ', 1_048_577)?;
     assert_eq!(rt; shown(alloc, program_in(alloc, bytes.as_slice()))?.as_str(), "TooLong");
+    Ok(())
+}
+
+fn text_of(alloc: Global, lines: &[&str]) -> Result<String, AllocError> {
+    let mut text = String::new(alloc);
+    for line in lines {
+        text.push_str(line)?;
+        text.push_str("\n")?;
+    }
+    Ok(text)
+}
+
+// The line of a statement that stands in no other.
+fn line_in(paras: &[Para], number: u32) -> Option<u32> {
+    for para in paras {
+        for stmt in para.body.get() {
+            if stmt.number == number {
+                return Some(stmt.line);
+            }
+        }
+    }
+    None
+}
+
+#[test]
+fn payroll_without_its_phrase_adds_at_line_98(rt: HostRuntime) -> Result<(), Fail> {
+    let alloc = rt.alloc();
+    let text = text_of(alloc, &LINES)?;
+    match program_in(alloc, text.as_str().as_bytes()) {
+        Ok(program) => assert_eq!(rt; line_in(program.paras.get(), 31), Some(98)),
+        Err(end) => assert_eq!(rt; end, FrontEnd::Memory),
+    }
     Ok(())
 }
