@@ -43,7 +43,6 @@ pub whens_none : (xs : List When) → whens_behind xs no_whens ≡ whens_of xs
 whens_none [] = refl
 whens_none (x ∷ xs) = ap (more_whens x) (whens_none xs)
 
-
 -- one element typed, and then the rest
 pub two_found : (findings mid whole : List Finding) (xs ys : List (Rule × ℕ)) → mid ≡ found_behind findings xs → found_behind findings (xs ++ ys) ≡ whole → found_behind mid ys ≡ whole
 two_found findings mid whole xs ys made so_far = ap (λ fs. found_behind fs ys) made ∙ sym (found_append findings xs ys) ∙ so_far

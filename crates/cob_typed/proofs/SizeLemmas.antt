@@ -78,9 +78,9 @@ cap_product a zero = omega arith
 cap_product a (suc b) =
     ⊎_elim (λ (low : a < 10 ^ 37). let e : min a (10 ^ 37) ≡ a = omega (arith, low) in ap (λ x. min (x * suc b) (10 ^ 37)) e)
     (λ (high : 10 ^ 37 ≤ a).
-        let e : min a (10 ^ 37) ≡ 10 ^ 37 = omega (arith, high) in
-        let p = le-mul_of_pos_right {m = suc b} a (omega arith) in
-        ap (λ x. min (x * suc b) (10 ^ 37)) e ∙ omega (arith, p, high))
+    let e : min a (10 ^ 37) ≡ 10 ^ 37 = omega (arith, high) in
+    let p = le-mul_of_pos_right {m = suc b} a (omega arith) in
+    ap (λ x. min (x * suc b) (10 ^ 37)) e ∙ omega (arith, p, high))
     (cases_lt a (10 ^ 37))
 
 pub capped_sum : (a b : Bound) → if_small (sum_bound (capped a) b) ≡ if_small (sum_bound a b)

@@ -76,7 +76,7 @@ module _ (s : Scope) (line n : ℕ) (v : tree.Verb) (old new : List Finding) whe
       → new ≡ found_behind mid (typed_stmts s n body).found → new ≡ found_behind old (typed_verb s line n v).found
   inline_found turns body mid is first rest =
       rest_found (turns_of s turns).broken mid (typed_stmts s n body).found first rest
-          (ap (λ (x : Numbered Act). x.found) is ∙ ap (λ xs. found_on line (turns_of s turns).broken ++ xs) (append-nil (typed_stmts s n body).found))
+      (ap (λ (x : Numbered Act). x.found) is ∙ ap (λ xs. found_on line (turns_of s turns).broken ++ xs) (append-nil (typed_stmts s n body).found))
 
   pub read_found : (file : List ℕ) (into : Option Ref) (end fine : tree.Phrase) (mid : List Finding) → typed_verb s line n v ≡ typed_verb s line n (tree.read file into end fine false) → mid ≡ noted line old (read_parts s file into).broken
       → new ≡ found_behind mid (typed_phrases s n end fine).found → new ≡ found_behind old (typed_verb s line n v).found

@@ -102,8 +102,8 @@ module _ (n d above below : Bound) (scale : ℕ) where
   pub no_quotient : n ≡ capped above → d ≡ capped below → None ≡ if_small (quotient_at n d scale) → Answer false
   no_quotient na db none =
       ⊎_elim (λ (low : above.most < 10 ^ 37).
-          let q : is_small quotient ≡ false = none_if (is_small quotient) quotient (sym (none ∙ ap if_small (exact na db low))) in
-          sym (ap (λ b. (b && is_small (product_bound below quotient)) && is_small (sum_bound above (product_bound below quotient))) q))
+      let q : is_small quotient ≡ false = none_if (is_small quotient) quotient (sym (none ∙ ap if_small (exact na db low))) in
+      sym (ap (λ b. (b && is_small (product_bound below quotient)) && is_small (sum_bound above (product_bound below quotient))) q))
       (λ (high : 10 ^ 37 ≤ above.most). no_sum (great_sum above (product_bound below quotient) high)) (cases_lt above.most (10 ^ 37))
 
   -- the product with the divisor
@@ -115,21 +115,21 @@ module _ (n d above below : Bound) (scale : ℕ) where
   pub no_product : n ≡ capped above → d ≡ capped below → (q : Bound) → Some q ≡ if_small (quotient_at n d scale) → None ≡ if_small (product_bound d q) → Answer false
   no_product na db q some none =
       ⊎_elim (λ (low : above.most < 10 ^ 37).
-          let p : is_small (product_bound below quotient) ≡ false = none_if (is_small (product_bound below quotient)) (product_bound below quotient) (sym (none ∙ product_is na db low q some)) in
-          sym (ap (λ b. (is_small quotient && b) && is_small (sum_bound above (product_bound below quotient))) p ∙ ap (λ b. b && is_small (sum_bound above (product_bound below quotient))) (and_false (is_small quotient))))
+      let p : is_small (product_bound below quotient) ≡ false = none_if (is_small (product_bound below quotient)) (product_bound below quotient) (sym (none ∙ product_is na db low q some)) in
+      sym (ap (λ b. (is_small quotient && b) && is_small (sum_bound above (product_bound below quotient))) p ∙ ap (λ b. b && is_small (sum_bound above (product_bound below quotient))) (and_false (is_small quotient))))
       (λ (high : 10 ^ 37 ≤ above.most). no_sum (great_sum above (product_bound below quotient) high)) (cases_lt above.most (10 ^ 37))
 
   pub all_known : n ≡ capped above → d ≡ capped below → (q p : Bound) (r : Option declared_size.Size) → Some q ≡ if_small (quotient_at n d scale) → Some p ≡ if_small (product_bound d q) →
       option_map plain_size r ≡ if_small (sum_bound n p) → Answer (is_some r)
   all_known na db q p r some product is =
       ⊎_elim (λ (low : above.most < 10 ^ 37).
-          let l = some_if (is_small (quotient_at n d scale)) (quotient_at n d scale) q (sym some) in
-          let small_q : is_small quotient ≡ true = ap is_small (sym (exact na db low)) ∙ l.0 in
-          let m = some_if (is_small (product_bound below quotient)) (product_bound below quotient) p (sym (product ∙ product_is na db low q some)) in
-          small_some r (sum_bound n p) is ∙ ap (λ x. is_small (sum_bound x p)) (na ∙ same_capped above low) ∙ ap (λ x. is_small (sum_bound above x)) (sym m.1)
-          ∙ sym (ap (λ b. (b && is_small (product_bound below quotient)) && is_small (sum_bound above (product_bound below quotient))) small_q
-            ∙ ap (λ b. b && is_small (sum_bound above (product_bound below quotient))) m.0))
+      let l = some_if (is_small (quotient_at n d scale)) (quotient_at n d scale) q (sym some) in
+      let small_q : is_small quotient ≡ true = ap is_small (sym (exact na db low)) ∙ l.0 in
+      let m = some_if (is_small (product_bound below quotient)) (product_bound below quotient) p (sym (product ∙ product_is na db low q some)) in
+      small_some r (sum_bound n p) is ∙ ap (λ x. is_small (sum_bound x p)) (na ∙ same_capped above low) ∙ ap (λ x. is_small (sum_bound above x)) (sym m.1)
+      ∙ sym (ap (λ b. (b && is_small (product_bound below quotient)) && is_small (sum_bound above (product_bound below quotient))) small_q
+      ∙ ap (λ b. b && is_small (sum_bound above (product_bound below quotient))) m.0))
       (λ (high : 10 ^ 37 ≤ above.most).
-          small_some r (sum_bound n p) is ∙ ap (λ x. is_small (sum_bound x p)) na ∙ great_sum (capped above) p (omega (arith, high))
-          ∙ no_sum (great_sum above (product_bound below quotient) high))
+      small_some r (sum_bound n p) is ∙ ap (λ x. is_small (sum_bound x p)) na ∙ great_sum (capped above) p (omega (arith, high))
+      ∙ no_sum (great_sum above (product_bound below quotient) high))
       (cases_lt above.most (10 ^ 37))

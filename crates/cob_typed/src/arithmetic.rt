@@ -259,7 +259,12 @@ impl<'a> Scope<'a> {
         ensures noted { OnOk result (findings.new.items ≡ noted line findings.old.items (worked self.now how (plain_sum common) receivers.now).broken) }
     {
         let targets = self.targets(findings, line, how, receivers)?;
-        demand(findings, line, Rule::N5, self.are_small_results(&common, &targets))?;
+        demand(
+            findings,
+            line,
+            Rule::N5,
+            self.are_small_results(&common, &targets),
+        )?;
         Ok(Worked {
             common,
             targets,
@@ -397,7 +402,12 @@ impl<'a> Scope<'a> {
         let place = self.the_item(findings, line, receiver)?;
         let fits = is_amount(self.form(place)) && one_receiver(giving);
         demand(findings, line, Rule::Q3, fits)?;
-        demand(findings, line, Rule::N5, self.are_small_remainders(n, d, targets))?;
+        demand(
+            findings,
+            line,
+            Rule::N5,
+            self.are_small_remainders(n, d, targets),
+        )?;
         Ok(place)
     }
 

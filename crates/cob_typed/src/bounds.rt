@@ -88,7 +88,10 @@ impl Size {
     {
         let joint = self.scale.max(other.scale);
         let most = raised(self.most, u64::from(joint - self.scale));
-        small(most + raised(other.most, u64::from(joint - other.scale)), joint)
+        small(
+            most + raised(other.most, u64::from(joint - other.scale)),
+            joint,
+        )
     }
 
     /// The bound of a product, where it is small.
@@ -172,13 +175,7 @@ fn quotient_of(factors: &[Factor]) -> Option<(&[Factor], &Factor)>
 {
     match factors.split_last() {
         None => None,
-        Some((last, above)) => {
-            if last.over {
-                Some((above, last))
-            } else {
-                None
-            }
-        }
+        Some((last, above)) => { if last.over { Some((above, last)) } else { None } }
     }
 }
 

@@ -280,7 +280,9 @@ impl<'a> Scope<'a> {
                 note(findings, line, Rule::Q7)?;
                 Ok(Logic::test(Test::Always))
             }
-            (Looked::Truth, Sel::Range(low, high)) => self.range_of_truth(findings, line, low, high),
+            (Looked::Truth, Sel::Range(low, high)) => self.range_of_truth(
+                findings, line, low, high,
+            ),
             (Looked::Truth, Sel::Cond(cond)) => self.condition(findings, line, cond),
             (Looked::Item(_), Sel::Any) => Ok(Logic::test(Test::Always)),
             (Looked::Item(place), Sel::Range(low, high)) => {

@@ -345,8 +345,15 @@ impl<'a> Scope<'a> {
                 tail,
             } => {
                 let rest = remainder.as_ref();
-                let worked =
-                    self.divide_giving(findings, line, first, *way, second, giving.get(), rest)?;
+                let worked = self.divide_giving(
+                    findings,
+                    line,
+                    first,
+                    *way,
+                    second,
+                    giving.get(),
+                    rest,
+                )?;
                 Ok(self.arith(findings, next, worked, tail, left)?)
             }
             Verb::Compute { to, value, tail } => {
@@ -354,7 +361,10 @@ impl<'a> Scope<'a> {
                 Ok(self.arith(findings, next, worked, tail, left)?)
             }
             Verb::If {
-                test, yes, other, ..
+                test,
+                yes,
+                other,
+                ..
             } => {
                 let test = self.condition(findings, line, test)?;
                 let (yes, no) = self.lists(findings, next, yes, other, left)?;

@@ -69,10 +69,7 @@ fn add_place<'a>(
 }
 
 /// The paragraphs of each name. More paragraphs than numbers count as want of memory.
-fn places_of(
-    alloc: Global,
-    paragraphs: &[Paragraph],
-) -> Result<IndexMap<&[u8], Found>, AllocError>
+fn places_of(alloc: Global, paragraphs: &[Paragraph]) -> Result<IndexMap<&[u8], Found>, AllocError>
     ensures { IfOk result (λ places. HasParas places (map (λ p. p.name) paragraphs.now)) }
 {
     let mut places = IndexMap::new(alloc);

@@ -109,7 +109,12 @@ impl<'a> Scope<'a> {
         ensures noted { OnOk result (findings.new.items ≡ noted line findings.old.items (receiver self.now value.now to.now).broken) }
     {
         let place = self.the_item(findings, line, to)?;
-        demand(findings, line, Rule::Q2, self.may_move(value, self.form(place)))?;
+        demand(
+            findings,
+            line,
+            Rule::Q2,
+            self.may_move(value, self.form(place)),
+        )?;
         Ok(place)
     }
 
@@ -371,7 +376,12 @@ impl<'a> Scope<'a> {
         match written {
             None => Ok(value),
             Some(place) => {
-                demand(findings, line, Rule::Q2, self.may_move(&value, self.form(place)))?;
+                demand(
+                    findings,
+                    line,
+                    Rule::Q2,
+                    self.may_move(&value, self.form(place)),
+                )?;
                 Ok(value)
             }
         }
@@ -426,12 +436,7 @@ impl<'a> Scope<'a> {
         Ok(value)
     }
 
-    fn varied(
-        &self,
-        findings: &mut Vec<Finding>,
-        line: u32,
-        item: &Ref,
-    ) -> Result<u32, AllocError>
+    fn varied(&self, findings: &mut Vec<Finding>, line: u32, item: &Ref) -> Result<u32, AllocError>
         ensures value { IfOk result (λ place. place ≡ (varied self.now item.now).value) }
         ensures noted { OnOk result (findings.new.items ≡ noted line findings.old.items (varied self.now item.now).broken) }
     {
@@ -496,11 +501,13 @@ impl<'a> Scope<'a> {
         match given {
             None => Ok(Turns::Once),
             Some(Loop::Times(count)) => self.turns_times(findings, line, count),
-            Some(Loop::Until {
-                test,
-                varying,
-                until,
-            }) => {
+            Some(
+                Loop::Until {
+                    test,
+                    varying,
+                    until,
+                },
+            ) => {
                 let logic = self.condition(findings, line, until)?;
                 Ok(self.turns_until(findings, line, *test, varying.as_ref(), logic)?)
             }

@@ -18,9 +18,10 @@ returns-in-Some-clause-accepted c = λ t is kept.
     outside_accepted c.args.layout.now t c.args.typed is c.in-Some.rule c.in-Some.line (c.in-Some.ensures ∙ ap (λ fs. first_broken (lines_in fs) typing_rules) c.deref.ensures.value) kept
 
 pub returns-in-Ok-clause-answer : goal.returns-in-Ok-clause-answer
-returns-in-Ok-clause-answer c = λ t is.
-    (typed_answer c.args.layout.now t c.args.typed is (c.in-None.ensures ∙ ap (λ fs. first_broken (lines_in fs) typing_rules) c.deref.ensures.value),
-    program_is c.args.layout.now t c.args.typed is c.in-Ok.program c.in-Ok.ensures.layout c.in-Ok.ensures.paras c.in-Ok.ensures.statements)
+returns-in-Ok-clause-answer c = λ t is. (
+  typed_answer c.args.layout.now t c.args.typed is (c.in-None.ensures ∙ ap (λ fs. first_broken (lines_in fs) typing_rules) c.deref.ensures.value),
+  program_is c.args.layout.now t c.args.typed is c.in-Ok.program c.in-Ok.ensures.layout c.in-Ok.ensures.paras c.in-Ok.ensures.statements,
+)
 
 pub returns-in-Ok-clause-outside : goal.returns-in-Ok-clause-outside
 returns-in-Ok-clause-outside c = λ t is rule line broken.

@@ -177,9 +177,9 @@ pub verb-returns-in_ok-end-in-Read-clause-value : goal.verb-returns-in_ok-end-in
 verb-returns-in_ok-end-in-Read-clause-value t c =
     let is = ap tree_view.plain_verb (c.in-Read.is ∙ sym (rolls-Read c.in-Read.file c.in-Read.into c.in-Read.end c.in-Read.not_end c.in-Read.ended)) ∙ read_is c.in-Read.file c.in-Read.into c.in-Read.end c.in-Read.not_end c.in-Read.ended in
     read_value c.args.self.now c.args.line c.args.next.now (tree_view.plain_verb c.args.verb.now) c.in-Read.file c.in-Read.into (tree_phrase c.in-Read.end) (tree_phrase c.in-Read.not_end) _ c.in_ok-file-in-Read.file c.in_ok-file-in-Read.into (plain_phrase c.in_ok-end-in-Read.end) (plain_stmts c.in_ok-end-in-Read.fine)
-        (ap (typed_verb c.args.self.now c.args.line c.args.next.now) is) c.read_of.ensures (search rules) (search rules) c.in_ok-end-in-Read.ensures.first c.in_ok-end-in-Read.ensures.second
+    (ap (typed_verb c.args.self.now c.args.line c.args.next.now) is) c.read_of.ensures (search rules) (search rules) c.in_ok-end-in-Read.ensures.first c.in_ok-end-in-Read.ensures.second
 
 pub when-returns-clause-found : goal.when-returns-clause-found
 when-returns-clause-found t c =
     choice_found c.args.self.now c.args.line c.args.next.now c.args.looked (tree_view.plain_when c.args.when.now) (map tree_view.plain_sel c.get.result.now) (tree.stmts_of (map tree_view.plain_stmt c.deref.result.now)) c.args.findings.now.items c.choices.new.findings.items _
-        (rw (when_is_of c.args.when.now) (search rules)) c.in_ok-tests.ensures.noted c.in_ok-body.ensures.found
+    (rw (when_is_of c.args.when.now) (search rules)) c.in_ok-tests.ensures.noted c.in_ok-body.ensures.found
