@@ -1,6 +1,6 @@
 -- The answer, from what was found.
-use Rattle.std.proofs.Common.{◌≡◌, ℕ, ◌-◌, inl, inr, List, [], ◌∷◌, ◌++◌, map, Option, Some, None, Result, Ok, Err, refl, sym, ap, ◌∙◌, subst}
-use Rattle.rule_order.specs.Order.{AreKept, IsFirstBroken, or_first, least, first_broken}
+use Rattle.std.proofs.Common.{◌≡◌, ℕ, ◌-◌, inl, List, [], ◌∷◌, ◌++◌, map, Option, Some, None, Err, refl, sym, ap, ◌∙◌}
+use Rattle.rule_order.specs.Order.{or_first, least, first_broken}
 use Rattle.rule_order.proofs.OrderLemmas.{first_is, kept_is, is_first, is_kept}
 use Rattle.cob_tree.specs.declared.tree.Tree as declared_tree
 use Rattle.cob_tree.specs.declared.tree.Paragraph.{Paragraph}
@@ -19,7 +19,7 @@ use Rattle.cob_typed.specs.declared.end.TypedEnd.{TypedEnd}
 use Rattle.cob_typed.specs.declared.end.TypedEnd.TheVariants as typed_end
 use Rattle.cob_typed.specs.Lists.{found_behind}
 use Rattle.cob_typed.specs.Typing.{typed_all, typed, clashes, lines_of, scope_of, typing_rules, IsTyped, IsOutside}
-use Rattle.cob_typed.specs.Answer.{IsAnswer, IsRefused, IsAccepted, lines_in, AreTyped}
+use Rattle.cob_typed.specs.Answer.{IsRefused, IsAccepted, lines_in, AreTyped}
 use Rattle.cob_typed.proofs.ParaLemmas.{lines_are, same_names}
 
 some_is_none : {A : Type 0} (a : A) → Some a ≡ None → ⊥

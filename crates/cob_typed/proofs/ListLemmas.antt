@@ -1,5 +1,5 @@
 -- Steps of the loops over statements, WHENs, sentences and paragraphs.
-use Rattle.std.proofs.Common.{◌≡◌, ℕ, ◌+◌, ◌<◌, ◌≤◌, List, [], ◌∷◌, ◌++◌, append_assoc, append-nil, length, get_or, drop, map, Option, Some, None, refl, sym, ap, ◌∙◌}
+use Rattle.std.proofs.Common.{◌≡◌, ℕ, ◌+◌, ◌<◌, ◌≤◌, List, [], ◌∷◌, ◌++◌, append_assoc, append-nil, length, get_or, drop, map, refl, sym, ap, ◌∙◌}
 use Rattle.std.proofs.lemmas.List.{drop_all}
 use Rattle.cob_tree.specs.declared.stmt.Stmt as declared_stmt
 use Rattle.cob_tree.specs.declared.stmt.When as declared_when
@@ -11,7 +11,7 @@ use Rattle.cob_typed.specs.declared.finding.Finding.{Finding}
 use Rattle.cob_typed.specs.declared.selections.Looked.{Looked}
 use Rattle.cob_typed.specs.Scope.{Scope}
 use Rattle.cob_typed.specs.Lists.{found_behind}
-use Rattle.cob_typed.specs.Statements.{Numbered, typed_choices, typed_stmt, typed_stmts, typed_whens}
+use Rattle.cob_typed.specs.Statements.{typed_choices, typed_stmt, typed_stmts, typed_whens}
 use Rattle.cob_typed.specs.StatementSteps.{typed_when, typed_para}
 use Rattle.cob_typed.specs.Typing.{joined, typed_sentences, typed_paras}
 use Rattle.cob_typed.proofs.Loops.{item_step}

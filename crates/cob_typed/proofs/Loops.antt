@@ -1,5 +1,5 @@
 -- Steps of the loops over the parts of an expression: what is left gives the whole.
-use Rattle.std.proofs.Common.{ℕ, ◌+◌, ◌≡◌, ◌<◌, ◌≤◌, ◌==◌, Bool, false, if◌then◌else◌, Option, None, List, [], ◌∷◌, ◌++◌, length, map, drop, get_or, refl, sym, ap, ◌∙◌, rules, arith}
+use Rattle.std.proofs.Common.{ℕ, ◌+◌, ◌≡◌, ◌<◌, ◌≤◌, ◌==◌, Bool, false, if◌then◌else◌, None, List, [], ◌∷◌, ◌++◌, length, map, drop, get_or, refl, sym, ap, ◌∙◌, rules}
 use Rattle.std.proofs.lemmas.List.{drop_more, drop_all, map_push, append_assoc}
 use Rattle.cob_tree.specs.declared.expr.Sign.{Sign}
 use Rattle.cob_tree.specs.declared.expr.Scaling.{Scaling}

@@ -1,5 +1,5 @@
 -- Names of paragraphs: their places, and which of them stand before.
-use Rattle.std.proofs.Common.{◌≡◌, ℕ, ◌+◌, ◌<◌, ◌≤◌, zero, suc, Bool, true, false, not, ◌||◌, cond, if◌then◌else◌, List, [], ◌∷◌, ◌++◌, append_assoc, append-nil, ◌==◌, map, length, length-take, get_or, take, drop, take-suc, drop-cons, bytes_eq, Option, Some, None, refl, sym, ap, subst, ◌∙◌, arith}
+use Rattle.std.proofs.Common.{◌≡◌, ℕ, ◌+◌, ◌<◌, ◌≤◌, suc, Bool, true, false, not, ◌||◌, cond, if◌then◌else◌, List, [], ◌∷◌, ◌++◌, append_assoc, append-nil, ◌==◌, map, length, length-take, get_or, take, drop, take-suc, bytes_eq, Some, refl, sym, ap, subst, ◌∙◌, arith}
 use Rattle.std.specs.List.{list_any}
 use Rattle.std.specs.Borrow.{Bor}
 use Rattle.std.specs.Cmp.Lexicographic.{bytes_decides, nat_list_eq_equiv}
@@ -7,17 +7,15 @@ use Rattle.std.proofs.lemmas.List.Folds.{list_any-append}
 use Rattle.indexmap.specs.IndexSet.{insert_key}
 use Rattle.rule_order.specs.Order.{line_if}
 use Rattle.cob_tree.specs.declared.tree.Paragraph.{Paragraph}
-use Rattle.cob_tree.specs.Stmt as tree
 use Rattle.cob_tree.specs.StmtView.{plain_paragraph}
 use Rattle.cob_data.specs.declared.end.Rule.{Rule}
 use Rattle.cob_data.specs.declared.end.Rule.TheVariants.{Q11}
 use Rattle.cob_names.specs.declared.found.Found.{Found}
-use Rattle.cob_names.specs.declared.found.Found.TheVariants as found
 use Rattle.cob_names.specs.Search.{found_and}
 use Rattle.cob_typed.specs.declared.finding.Finding.{Finding}
 use Rattle.cob_typed.specs.Judged.{finding, noted, unless}
 use Rattle.cob_typed.specs.Scope.{place_if, found_in, paras_from}
-use Rattle.cob_typed.specs.Paras.{found_or_nothing, para_in, HasParas}
+use Rattle.cob_typed.specs.Paras.{found_or_nothing, para_in}
 use Rattle.indexmap.specs.IndexMap.{IndexMap, get_by}
 use Rattle.cob_typed.specs.Lists.{found_behind}
 use Rattle.cob_typed.specs.Typing.{clashes, is_known, lines_among, rule_number}

@@ -1,11 +1,8 @@
 -- What a name means, and the places that have it.
-use Rattle.std.proofs.Common.{ℕ, zero, suc, ◌+◌, ◌≡◌, ◌<◌, ◌≤◌, Bool, true, false, List, [], ◌∷◌, ◌++◌, length, slice_get, Option, Some, None, refl, sym, ap, ◌∙◌, subst, arith, ⊎_elim}
+use Rattle.std.proofs.Common.{ℕ, zero, suc, ◌≡◌, ◌<◌, ◌≤◌, Bool, true, false, List, [], ◌∷◌, ◌++◌, length, slice_get, Option, None, refl, sym, ap, ◌∙◌, subst, arith, ⊎_elim}
 use Rattle.std.proofs.lemmas.Bool.{cases_lt}
 use Rattle.std.proofs.lemmas.List.{append-nil}
 use Rattle.cob_tree.specs.declared.operand.Ref.{Ref}
-use Rattle.cob_data.specs.declared.layout.Flag.{Flag}
-use Rattle.cob_data.specs.declared.layout.FileDecl.{FileDecl}
-use Rattle.cob_data.specs.declared.layout.Layout.{Layout}
 use Rattle.cob_names.specs.declared.found.Found.{Found}
 use Rattle.cob_names.specs.declared.found.Found.TheVariants as found
 use Rattle.cob_names.specs.Names.{IsFound, NamesItem, NamesFlag, NamesFile, NamesRecord, names_item, names_flag_at, names_file_at, names_record}

@@ -1,10 +1,10 @@
 -- Bounds that are held up to a limit.
-use Rattle.std.proofs.Common.{◌≡◌, ℕ, ◌+◌, ◌-◌, ◌*◌, ◌/◌, ◌^◌, ◌<◌, ◌≤◌, zero, suc, min, max, Bool, true, false, ◌&&◌, Option, Some, None, refl, sym, ap, ◌∙◌, subst, arith, ⊎_elim}
+use Rattle.std.proofs.Common.{◌≡◌, ℕ, ◌+◌, ◌-◌, ◌*◌, ◌^◌, ◌<◌, ◌≤◌, zero, suc, min, max, Bool, true, false, ◌&&◌, Some, None, refl, sym, ap, ◌∙◌, arith, ⊎_elim}
 use Rattle.std.specs.Prelude.{nat_le, is_some}
 use Rattle.std.proofs.lemmas.Bool.{cases_lt}
 use Rattle.std.proofs.lemmas.Bool.Decides.{nat_tests}
 use Rattle.std.proofs.Math.Nat.{pow-le-pow_right, le-mul_of_pos_right, mul_comm}
-use Rattle.cob_program.specs.Bounds.{Bound, of_digits, sum_bound, product_bound, is_small}
+use Rattle.cob_program.specs.Bounds.{Bound, of_digits, sum_bound, product_bound}
 use Rattle.cob_typed.specs.Sizes.{capped, bound_if, if_small}
 
 abbrev pub bound : ℕ → ℕ → Bound

@@ -1,5 +1,5 @@
 -- Steps of the loops over the parts of a sum, and the quotient that is a sum's last operation.
-use Rattle.std.proofs.Common.{◌≡◌, ℕ, ◌+◌, ◌<◌, ◌≤◌, Bool, true, false, ◌&&◌, List, [], ◌∷◌, ◌++◌, length, get_or, drop, map, Option, Some, None, if◌then◌else◌, refl, sym, ap, ◌∙◌, subst, arith}
+use Rattle.std.proofs.Common.{◌≡◌, ℕ, ◌+◌, ◌<◌, ◌≤◌, Bool, true, false, List, [], ◌∷◌, ◌++◌, length, get_or, drop, map, Option, Some, None, if◌then◌else◌, refl, sym, ap, ◌∙◌, arith}
 use Rattle.std.proofs.lemmas.List.{drop_all}
 use Rattle.cob_program.specs.declared.sum.Sum as declared_sum
 use Rattle.cob_program.specs.declared.sum.Sum.{out-Sum}
@@ -11,8 +11,8 @@ use Rattle.cob_program.specs.declared.sum.Atom.TheFolds.{fold_out-Sum, fold_out-
 use Rattle.cob_program.specs.Sum.{MkSum, Parts, no_parts, more_parts, parts_of, Part, MkPart, Factors, no_factors, more_factors, factors_of, Factor, MkFactor, Atom}
 use Rattle.cob_program.specs.Values.{Root, behind_factor, root_in, root_of}
 use Rattle.cob_program.specs.SumView.{plain_sum, plain_part, plain_factor, plain_atom}
-use Rattle.cob_program.specs.Bounds.{Bound, sum_bound, factor_bound, is_small, atom_most, part_most, is_small_atom, is_small_part, is_small_product, is_small_sum_from, product_most_from, sum_most_from}
-use Rattle.cob_typed.specs.Sizes.{root_with, bound_if, if_small, small_atom, small_part, small_product, small_sum_from}
+use Rattle.cob_program.specs.Bounds.{Bound, sum_bound, factor_bound, is_small, atom_most, part_most, is_small_atom, is_small_part}
+use Rattle.cob_typed.specs.Sizes.{root_with, if_small, small_atom, small_part, small_product, small_sum_from}
 use Rattle.cob_typed.proofs.Loops.{item_step}
 use Rattle.cob_typed.proofs.SizeLemmas.{some_if, none_if}
 

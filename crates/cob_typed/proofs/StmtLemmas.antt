@@ -1,15 +1,13 @@
 -- Statements before their lists, and with them.
-use Rattle.std.proofs.Common.{◌≡◌, ℕ, Bool, false, List, [], ◌++◌, append-nil, map, Option, Some, None, Vec, option_map, refl, sym, ap, ◌∙◌}
+use Rattle.std.proofs.Common.{◌≡◌, ℕ, Bool, false, List, ◌++◌, append-nil, map, Option, Some, None, Vec, sym, ap, ◌∙◌}
 use Rattle.std.specs.declared.alloc.Global.{Global}
 use Rattle.cob_tree.specs.declared.stmt.Stmt as declared_stmt
 use Rattle.cob_tree.specs.declared.stmt.Stmt.{out-Stmt}
-use Rattle.cob_tree.specs.declared.stmt.Tail as declared_tail
-use Rattle.cob_tree.specs.declared.stmt.Tail.{out-Tail}
 use Rattle.cob_tree.specs.declared.stmt.When as declared_when
 use Rattle.cob_tree.specs.declared.stmt.When.{out-When}
 use Rattle.cob_tree.specs.declared.stmt.Verb.TheOpen as layer
 use Rattle.cob_tree.specs.declared.stmt.Verb.TheViews.{roll-Verb}
-use Rattle.cob_tree.specs.declared.stmt.Verb.TheFolds.{fold-roll-Verb, fold_out-Stmt, fold_out-Tail, fold_out-When}
+use Rattle.cob_tree.specs.declared.stmt.Verb.TheFolds.{fold-roll-Verb, fold_out-Stmt, fold_out-When}
 use Rattle.cob_tree.specs.Stmt as tree
 use Rattle.cob_tree.specs.StmtView as tree_view
 use Rattle.cob_tree.specs.Cond.{Cond}

@@ -1,5 +1,5 @@
 -- What a condition is as a value behind WHEN.
-use Rattle.std.proofs.Common.{◌≡◌, ◌==◌, Bool, true, false, List, [], ◌∷◌, length, map, Option, Some, None, if◌then◌else◌, refl, sym, ap, ◌∙◌, arith, rules}
+use Rattle.std.proofs.Common.{◌≡◌, ◌==◌, Bool, true, false, List, [], ◌∷◌, length, map, Option, Some, None, refl, sym, ap, ◌∙◌, rules}
 use Rattle.cob_tree.specs.declared.cond.Cond as declared_cond
 use Rattle.cob_tree.specs.declared.cond.Cond.{out-Cond}
 use Rattle.cob_tree.specs.declared.cond.Conj as declared_conj

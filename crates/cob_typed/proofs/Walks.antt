@@ -1,5 +1,5 @@
 -- Steps of the loops over the parts of a condition; conditions of one part.
-use Rattle.std.proofs.Common.{ℕ, ◌≡◌, List, [], ◌∷◌, ◌++◌, ◌+◌, ◌<◌, ◌≤◌, drop, get_or, length, length-append, map, refl, sym, ap, ◌∙◌, arith, rules}
+use Rattle.std.proofs.Common.{ℕ, ◌≡◌, List, [], ◌∷◌, ◌++◌, ◌+◌, ◌<◌, ◌≤◌, drop, get_or, length, length-append, map, refl, sym, ap, arith}
 use Rattle.std.proofs.lemmas.List.{drop_all}
 use Rattle.cob_tree.specs.declared.cond.Conj as declared_conj
 use Rattle.cob_tree.specs.declared.cond.Neg as declared_neg
@@ -8,7 +8,7 @@ use Rattle.cob_tree.specs.CondView.{plain_conj, plain_neg}
 use Rattle.cob_typed.proofs.Loops.{item_step}
 use Rattle.cob_program.specs.declared.logic.Logic as declared_logic
 use Rattle.cob_program.specs.LogicView.{plain_logic}
-use Rattle.cob_program.specs.Logic.{Logic, any_of, all_of, logics_of}
+use Rattle.cob_program.specs.Logic.{any_of, all_of, logics_of}
 use Rattle.cob_typed.specs.Conditions.{any_or_one, all_or_one}
 
 alone : {A : Type 0} (xs ys : List A) (x : A) → xs ≡ ys ++ x ∷ [] → length xs ≡ 1 → xs ≡ x ∷ []

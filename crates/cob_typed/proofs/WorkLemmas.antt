@@ -1,9 +1,9 @@
 -- Sums of operands, and how great results can be.
-use Rattle.std.proofs.Common.{◌≡◌, ℕ, ◌+◌, ◌-◌, ◌*◌, ◌^◌, ◌<◌, ◌≤◌, min, max, Bool, true, false, ◌&&◌, List, [], ◌∷◌, ◌++◌, map, Option, Some, None, refl, sym, ap, ◌∙◌, subst, arith, ⊎_elim}
+use Rattle.std.proofs.Common.{◌≡◌, ℕ, ◌-◌, ◌^◌, ◌<◌, ◌≤◌, Bool, true, false, ◌&&◌, List, [], ◌∷◌, ◌++◌, map, Option, Some, None, refl, sym, ap, ◌∙◌, arith, ⊎_elim}
 use Rattle.std.specs.Prelude.{is_some, option_map}
 use Rattle.std.proofs.lemmas.Bool.{cases_lt}
 use Rattle.std.proofs.Math.Nat.{le-mul_of_pos_right}
-use Rattle.cob_program.specs.Sum.{Sum, MkSum, Part, Parts, parts_of, no_parts, more_parts, Atom}
+use Rattle.cob_program.specs.Sum.{Sum, MkSum, Part, parts_of, no_parts, more_parts, Atom}
 use Rattle.cob_program.specs.Bounds.{Bound, joint, sum_bound, product_bound, is_small, is_small_sum}
 use Rattle.cob_typed.specs.declared.bounds.Size as declared_size
 use Rattle.cob_typed.specs.Scope.{Scope}

@@ -1,8 +1,6 @@
 -- The answer to a tree and its layout.
 use Rattle.std.specs.Prelude.{◌≡◌, ℕ, ◌⊎◌, ◌==◌, ◌-◌, ◌++◌, List, [], ◌∷◌, map, Result, Ok, Err}
 use Rattle.rule_order.specs.Order.{line_if}
-use Rattle.cob_tree.specs.declared.tree.Tree as declared_tree
-use Rattle.cob_tree.specs.StmtView.{plain_tree}
 use Rattle.cob_tree.specs.Stmt as tree
 use Rattle.cob_data.specs.declared.end.Rule.{Rule}
 use Rattle.cob_data.specs.declared.layout.Layout.{Layout}

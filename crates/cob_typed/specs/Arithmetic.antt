@@ -1,5 +1,5 @@
 -- Arithmetic statements: what is worked out once, and what becomes of each receiver.
-use Rattle.std.specs.Prelude.{ℕ, ◌-◌, ◌+◌, ◌*◌, ◌/◌, ◌^◌, ◌&&◌, ◌||◌, nat_le, if◌then◌else◌, Bool, true, false, List, [], ◌∷◌, ◌++◌, map, Option, Some, None}
+use Rattle.std.specs.Prelude.{ℕ, ◌-◌, ◌+◌, ◌*◌, ◌/◌, ◌^◌, ◌&&◌, nat_le, if◌then◌else◌, Bool, true, false, List, [], ◌∷◌, Option, Some, None}
 use Rattle.dec_num.specs.declared.types.Mode.{Mode}
 use Rattle.dec_num.specs.declared.types.Mode.TheVariants.{Trunc, Round}
 use Rattle.cob_tree.specs.declared.form.Form.{Form}
@@ -14,9 +14,9 @@ use Rattle.cob_data.specs.declared.end.Rule.TheVariants.{Q3, N5}
 use Rattle.cob_program.specs.declared.act.Target.{Target}
 use Rattle.cob_program.specs.declared.act.How.{How}
 use Rattle.cob_program.specs.declared.act.How.TheVariants as how
-use Rattle.cob_program.specs.Sum.{Sum, MkSum, Parts, no_parts, more_parts, Part, MkPart, Factors, no_factors, more_factors, Factor, MkFactor, Atom}
-use Rattle.cob_program.specs.Bounds.{Bound, form_bound, sum_bound, product_bound, is_small, sum_most, atom_most, is_small_sum, is_small_atom, is_small_stored}
-use Rattle.cob_typed.specs.Judged.{Judged, sound, breaks, demand, demanded, beside, each_of, if_there, seen_as, ◌>>=◌}
+use Rattle.cob_program.specs.Sum.{Sum, MkSum, Parts, no_parts, more_parts, Part, MkPart, no_factors, more_factors, MkFactor, Atom}
+use Rattle.cob_program.specs.Bounds.{Bound, form_bound, sum_bound, product_bound, is_small, sum_most, atom_most, is_small_sum, is_small_stored}
+use Rattle.cob_typed.specs.Judged.{Judged, sound, demand, demanded, beside, each_of, if_there, ◌>>=◌}
 use Rattle.cob_typed.specs.Scope.{Scope, the_item, form_at}
 use Rattle.cob_typed.specs.Kinds.{is_number_form, is_amount}
 use Rattle.cob_typed.specs.Sums.{numeric_operand, whole_sum}

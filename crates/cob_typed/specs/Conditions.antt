@@ -1,6 +1,6 @@
 -- Conditions with their names resolved and their abbreviations written out (ISO 1989:1985, "Conditional
 -- expressions" and "Abbreviated combined relation conditions").
-use Rattle.std.specs.Prelude.{ℕ, ◌&&◌, ◌||◌, not, if◌then◌else◌, Bool, true, false, List, [], ◌∷◌, ◌++◌, map, slice_get, Option, Some, None}
+use Rattle.std.specs.Prelude.{ℕ, ◌||◌, if◌then◌else◌, Bool, true, false, List, [], ◌∷◌, slice_get, Option, Some, None}
 use Rattle.cob_tree.specs.declared.token.Rel.{Rel}
 use Rattle.cob_tree.specs.declared.token.Rel.TheVariants as rel
 use Rattle.cob_tree.specs.declared.operand.Opnd.{Opnd}
@@ -12,7 +12,7 @@ use Rattle.cob_tree.specs.Expr.{Expr}
 use Rattle.cob_tree.specs.Cond.{Cond, MkCond, Conjs, no_conjs, more_conjs, Conj, MkConj, Negs, no_negs, more_negs, Neg, MkNeg, Simple}
 use Rattle.cob_tree.specs.Cond as cond
 use Rattle.cob_data.specs.declared.end.Rule.{Rule}
-use Rattle.cob_data.specs.declared.end.Rule.TheVariants.{Q1, Q4, Q5, Q6, N5}
+use Rattle.cob_data.specs.declared.end.Rule.TheVariants.{Q4, Q5, Q6, N5}
 use Rattle.cob_data.specs.declared.layout.Flag.{Flag}
 use Rattle.cob_data.specs.declared.layout.Sender.{Sender}
 use Rattle.cob_data.specs.declared.layout.Sender.TheVariants as sender
@@ -24,7 +24,7 @@ use Rattle.cob_typed.specs.declared.kinds.Side.TheVariants as side
 use Rattle.cob_typed.specs.declared.kinds.Comparison.{Comparison}
 use Rattle.cob_typed.specs.declared.kinds.Comparison.TheVariants as way
 use Rattle.cob_typed.specs.Judged.{Broken, one, both, Judged, sound, breaks, demand, demanded, beside, seen_as, ◌>>=◌}
-use Rattle.cob_typed.specs.Scope.{Scope, flag_named, item_named, is_there, means_something, exactly_one, one_of_kind, the_item, form_at}
+use Rattle.cob_typed.specs.Scope.{Scope, flag_named, item_named, is_there, means_something, one_of_kind, the_item, form_at}
 use Rattle.cob_typed.specs.Kinds.{is_number, is_testable, side_of, comparison}
 use Rattle.cob_typed.specs.Sums.{operand, zero_literal, atom_of, sum_of, lone, whole_sum, has_item, reference}
 

@@ -1,6 +1,6 @@
 -- Which values may be moved where, and which may be compared (ISO 1989:1985, "The MOVE statement" and "Comparison of
 -- operands").
-use Rattle.std.specs.Prelude.{ℕ, ◌==◌, ◌&&◌, ◌||◌, nat_le, not, Bool, true, false, List, [], ◌∷◌, length, Option, Some, None}
+use Rattle.std.specs.Prelude.{ℕ, ◌==◌, ◌&&◌, ◌||◌, nat_le, not, Bool, true, false, length}
 use Rattle.std.specs.List.{list_all}
 use Rattle.cob_tree.specs.declared.form.Form.{Form}
 use Rattle.cob_tree.specs.declared.form.Form.TheVariants as form

@@ -1,5 +1,5 @@
 -- What stands behind WHEN (ISO 1989:1985, "The EVALUATE statement").
-use Rattle.std.specs.Prelude.{ℕ, ◌&&◌, Bool, true, false, List, [], ◌∷◌, Option, Some, None}
+use Rattle.std.specs.Prelude.{ℕ, ◌&&◌, Bool, true, false, [], ◌∷◌, Option, Some, None}
 use Rattle.cob_tree.specs.declared.operand.Opnd.{Opnd}
 use Rattle.cob_tree.specs.declared.stmt.Subject.{Subject}
 use Rattle.cob_tree.specs.declared.stmt.Subject.TheVariants as subject

@@ -1,5 +1,5 @@
 -- Bounds as the code holds them: what isn't below 10^37 counts as 10^37.
-use Rattle.std.specs.Prelude.{ℕ, ◌+◌, ◌-◌, ◌*◌, ◌/◌, ◌^◌, ◌&&◌, min, nat_le, if◌then◌else◌, Bool, true, false, List, map, Option, Some, None}
+use Rattle.std.specs.Prelude.{ℕ, ◌^◌, min, if◌then◌else◌, Bool, true, false, List, map, Option, Some, None}
 use Rattle.cob_typed.specs.declared.bounds.Size as declared_size
 use Rattle.std.specs.Borrow.{Bor}
 use Rattle.cob_program.specs.declared.sum.Factor as declared_factor

@@ -1,8 +1,7 @@
 -- What one function of the code types: parts of what statements are typed by.
-use Rattle.std.specs.Prelude.{ℕ, List, [], ◌∷◌, Some}
+use Rattle.std.specs.Prelude.{ℕ, List, ◌∷◌, Some}
 use Rattle.cob_tree.specs.Stmt as tree
-use Rattle.cob_program.specs.Logic.{Logic}
-use Rattle.cob_program.specs.Act.{Stmts, Phrase, Whens, When, MkWhen, Act, arith, evaluate, Para}
+use Rattle.cob_program.specs.Act.{Stmts, Phrase, When, MkWhen, Act, arith, evaluate, Para}
 use Rattle.cob_typed.specs.declared.selections.Looked.{Looked}
 use Rattle.cob_typed.specs.Scope.{Scope}
 use Rattle.cob_typed.specs.Statements.{Numbered, numbered, ◌>>>◌, stmts_if, typed_choices, typed_stmts, typed_phrase, typed_whens}

@@ -1,7 +1,6 @@
 -- Statements with their names resolved and numbered in the order of the source, and the rules that each breaks.
-use Rattle.std.specs.Prelude.{ℕ, zero, suc, ◌+◌, ◌<◌, ◌&&◌, ◌||◌, not, nat_lt, Bool, true, false, List, [], ◌∷◌, ◌++◌, map, slice_get, Option, Some, None, unwrap_or}
+use Rattle.std.specs.Prelude.{ℕ, suc, ◌+◌, ◌&&◌, not, nat_lt, Bool, true, false, List, [], ◌∷◌, ◌++◌, map, slice_get, Option, Some, None, unwrap_or}
 use Rattle.cob_tree.specs.declared.operand.Opnd.{Opnd}
-use Rattle.cob_tree.specs.declared.operand.Recv.{Recv}
 use Rattle.cob_tree.specs.declared.operand.Ref.{Ref}
 use Rattle.cob_tree.specs.declared.stmt.Mode.{Mode}
 use Rattle.cob_tree.specs.declared.stmt.Mode.TheVariants as mode
@@ -20,8 +19,8 @@ use Rattle.cob_data.specs.declared.layout.Sender.{Sender}
 use Rattle.cob_data.specs.declared.layout.Sender.TheVariants as sender
 use Rattle.cob_program.specs.declared.act.Opening.{Opening}
 use Rattle.cob_program.specs.Logic.{Logic}
-use Rattle.cob_program.specs.Act.{Turns, once, times, until, varying, Stmt, MkStmt, Stmts, no_stmts, more_stmts, Phrase, left_out, given, Act, move, arith, if_, evaluate, perform, go, nothing, stop, open_files, close_files, read, write, show, Whens, no_whens, more_whens, When, MkWhen, Body, range, inline}
-use Rattle.cob_typed.specs.Judged.{Broken, kept, one, both, Judged, sound, breaks, demand, beside, each_of, if_there, seen_as, ◌>>=◌}
+use Rattle.cob_program.specs.Act.{Turns, once, times, until, varying, Stmt, MkStmt, Stmts, no_stmts, more_stmts, Phrase, left_out, given, Act, move, arith, if_, evaluate, perform, go, nothing, stop, open_files, close_files, read, write, show, Whens, no_whens, more_whens, MkWhen, range, inline}
+use Rattle.cob_typed.specs.Judged.{Broken, kept, one, both, Judged, sound, demand, each_of, if_there, seen_as, ◌>>=◌}
 use Rattle.cob_typed.specs.Scope.{Scope, the_item, the_para, one_of_kind, means_something, flag_named, file_named, record_named, plain_name, form_at}
 use Rattle.cob_typed.specs.Kinds.{may_move, is_number, is_number_form, is_whole}
 use Rattle.cob_typed.specs.Sums.{operand}

@@ -1,10 +1,8 @@
 -- Expressions as sums.
-use Rattle.std.specs.Prelude.{ℕ, ◌||◌, if◌then◌else◌, Bool, true, false, List, [], ◌∷◌, ◌++◌, map, Option, Some, None}
+use Rattle.std.specs.Prelude.{◌||◌, if◌then◌else◌, Bool, true, false, List, [], ◌∷◌, Option, Some, None}
 use Rattle.cob_tree.specs.declared.token.Num.{Num}
 use Rattle.cob_tree.specs.declared.operand.Opnd.{Opnd}
 use Rattle.cob_tree.specs.declared.operand.Opnd.TheVariants as opnd
-use Rattle.cob_tree.specs.declared.operand.Const.{Const}
-use Rattle.cob_tree.specs.declared.operand.Const.TheVariants as const
 use Rattle.cob_tree.specs.declared.expr.Sign.{Sign}
 use Rattle.cob_tree.specs.declared.expr.Sign.TheVariants as sign
 use Rattle.cob_tree.specs.declared.expr.Scaling.{Scaling}
@@ -18,7 +16,7 @@ use Rattle.cob_data.specs.declared.layout.Sender.TheVariants as sender
 use Rattle.cob_data.specs.Entries.{sender_of}
 use Rattle.cob_program.specs.Sum.{Sum, MkSum, Part, MkPart, parts_of, Factor, MkFactor, factors_of, Atom, item, number, group}
 use Rattle.cob_typed.specs.Judged.{Broken, kept, one, both, Judged, sound, demand, seen_as, ◌>>=◌}
-use Rattle.cob_typed.specs.Scope.{Scope, the_item, form_at}
+use Rattle.cob_typed.specs.Scope.{Scope, the_item}
 use Rattle.cob_typed.specs.Kinds.{is_number}
 
 -- ---- operands

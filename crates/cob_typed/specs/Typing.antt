@@ -1,5 +1,5 @@
 -- A tree as a program of the profile, and what is answered where it is none.
-use Rattle.std.specs.Prelude.{◌≡◌, ℕ, ◌-◌, ◌==◌, ◌⊎◌, if◌then◌else◌, Bool, true, false, List, [], ◌∷◌, ◌++◌, map, Option, Some, None, Result, Ok, Err}
+use Rattle.std.specs.Prelude.{ℕ, ◌-◌, ◌==◌, if◌then◌else◌, Bool, true, false, List, [], ◌∷◌, ◌++◌, map, Some, None}
 use Rattle.std.specs.Str.{bytes_eq}
 use Rattle.cob_tree.specs.Stmt as tree
 use Rattle.cob_data.specs.declared.end.Rule.{Rule}
@@ -9,8 +9,6 @@ use Rattle.rule_order.specs.Order.{IsFirstBroken, AreKept, line_if}
 use Rattle.cob_program.specs.Act.{Stmts, no_stmts, more_stmts, Para, Program}
 use Rattle.cob_typed.specs.Scope.{Scope}
 use Rattle.cob_typed.specs.Statements.{Numbered, numbered, ◌>>>◌, typed_stmts}
-use Rattle.cob_typed.specs.declared.end.TypedEnd.{TypedEnd}
-use Rattle.cob_typed.specs.declared.end.TypedEnd.TheVariants as typed_end
 
 abbrev pub scope_of : Layout → tree.Tree → Scope
 scope_of l t = record { layout = l; paras = map (λ p. p.name) t.paragraphs }

@@ -1,4 +1,4 @@
-use Rattle.std.proofs.Common.{◌≡◌, ◌-◌, ◌∙◌, ap, arith}
+use Rattle.std.proofs.Common.{◌-◌, ◌∙◌, ap, arith}
 use Rattle.cob_typed.proofs.SizeLemmas.{bound, one_power, capped_digits, capped_many}
 use Rattle.cob_typed.proofs.bounds.of_digits.Goals as goal
 

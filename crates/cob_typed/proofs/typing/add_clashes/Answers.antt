@@ -1,4 +1,4 @@
-use Rattle.std.proofs.Common.{◌≡◌, ◌∷◌, ◌∙◌, ◌+◌, [], not, if◌then◌else◌, sym, ap, map, take, drop}
+use Rattle.std.proofs.Common.{◌∷◌, ◌∙◌, ◌+◌, [], not, if◌then◌else◌, sym, ap, map, take, drop}
 use Rattle.cob_data.specs.declared.end.Rule.TheVariants.{Q11}
 use Rattle.cob_tree.specs.StmtView.{plain_paragraph}
 use Rattle.cob_typed.specs.Lists.{found_behind}

@@ -1,4 +1,4 @@
-use Rattle.std.proofs.Common.{◌≡◌, ◌∙◌, ap, refl, inr}
+use Rattle.std.proofs.Common.{◌∙◌, ap}
 use Rattle.rule_order.specs.Order.{first_broken}
 use Rattle.cob_typed.specs.Typing.{typing_rules}
 use Rattle.cob_typed.specs.Answer.{lines_in}

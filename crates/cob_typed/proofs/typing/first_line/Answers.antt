@@ -1,8 +1,7 @@
-use Rattle.std.proofs.Common.{◌≡◌, ◌==◌, ◌∙◌, ◌+◌, sym, ap, drop}
+use Rattle.std.proofs.Common.{◌∙◌, sym, ap}
 use Rattle.std.proofs.lemmas.List.{drop_all}
-use Rattle.rule_order.specs.Order.{lesser, least, line_if}
-use Rattle.rule_order.proofs.OrderLemmas.{noted_step, lesser_none}
-use Rattle.cob_typed.specs.Typing.{rule_number}
+use Rattle.rule_order.specs.Order.{lesser, least}
+use Rattle.rule_order.proofs.OrderLemmas.{lesser_none}
 use Rattle.cob_typed.specs.Answer.{lines_in}
 use Rattle.cob_typed.proofs.typing.first_line.Goals as goal
 

@@ -1,4 +1,4 @@
-use Rattle.std.proofs.Common.{◌≡◌, ◌∙◌, ◌+◌, sym, ap, map, take, bytes_eq, if◌then◌else◌}
+use Rattle.std.proofs.Common.{◌∙◌, ◌+◌, sym, ap, map, take, bytes_eq, if◌then◌else◌}
 use Rattle.cob_names.specs.Search.{found_and}
 use Rattle.cob_typed.specs.Scope.{found_in, paras_from}
 use Rattle.cob_typed.specs.Paras.{para_in}

@@ -1,4 +1,4 @@
-use Rattle.std.proofs.Common.{◌≡◌, ◌∙◌, ◌+◌, sym, ap, map, option_map, rules}
+use Rattle.std.proofs.Common.{◌∙◌, ◌+◌, sym, ap, map, option_map, rules}
 use Rattle.cob_tree.specs.declared.stmt.Verb.TheOpen as layer
 use Rattle.cob_tree.specs.declared.stmt.Verb.TheFolds.{fold-roll-Verb}
 use Rattle.cob_tree.specs.declared.stmt.Verb.TheVariants.{rolls-Move, rolls-Display, rolls-PerformRange, rolls-Open, rolls-Close, rolls-AddTo, rolls-AddGiving, rolls-SubtractFrom, rolls-SubtractGiving, rolls-MultiplyBy, rolls-MultiplyGiving, rolls-DivideInto, rolls-DivideGiving, rolls-Compute, rolls-If, rolls-PerformInline, rolls-Read}

@@ -1,6 +1,4 @@
-use Rattle.std.proofs.Common.{◌≡◌, ◌+◌, ◌*◌, ◌++◌, map, drop}
-use Rattle.cob_tree.specs.Stmt as tree
-use Rattle.cob_tree.specs.StmtView as tree_view
+use Rattle.std.proofs.Common.{◌≡◌, ◌+◌, ◌*◌, map}
 use Rattle.cob_program.specs.Act.{stmts_of}
 use Rattle.cob_program.specs.ActView.{plain_stmt, plain_when}
 use Rattle.cob_typed.specs.Lists.{found_behind}

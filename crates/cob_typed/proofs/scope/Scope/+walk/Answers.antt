@@ -1,4 +1,4 @@
-use Rattle.std.proofs.Common.{◌≡◌, ◌++◌, ◌∙◌, ◌+◌, ap, sym, map, option_map}
+use Rattle.std.proofs.Common.{◌++◌, ◌∙◌, ◌+◌, ap, sym, map, option_map}
 use Rattle.std.proofs.lemmas.List.{append-nil}
 use Rattle.cob_tree.specs.CondView.{plain_conj, plain_neg}
 use Rattle.cob_program.specs.LogicView.{plain_logic}

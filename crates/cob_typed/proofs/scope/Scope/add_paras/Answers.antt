@@ -1,4 +1,4 @@
-use Rattle.std.proofs.Common.{◌≡◌, ◌∙◌, ◌+◌, ◌++◌, append-nil, sym, ap, map, drop}
+use Rattle.std.proofs.Common.{◌∙◌, ◌+◌, ◌++◌, append-nil, sym, ap, map, drop}
 use Rattle.std.proofs.lemmas.List.{drop_all}
 use Rattle.cob_tree.specs.StmtView.{plain_paragraph}
 use Rattle.cob_program.specs.ActView.{plain_para}

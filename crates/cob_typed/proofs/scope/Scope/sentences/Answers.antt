@@ -1,4 +1,4 @@
-use Rattle.std.proofs.Common.{◌≡◌, ◌∙◌, ◌+◌, sym, ap, map, drop}
+use Rattle.std.proofs.Common.{◌∙◌, ◌+◌, sym, ap, map, drop}
 use Rattle.std.proofs.lemmas.List.{drop_all}
 use Rattle.cob_tree.specs.StmtView.{plain_sentence}
 use Rattle.cob_program.specs.Act.{stmts_of}

@@ -1,4 +1,4 @@
-use Rattle.std.proofs.Common.{◌≡◌, ◌++◌, map, drop}
+use Rattle.std.proofs.Common.{◌≡◌, map, drop}
 use Rattle.cob_tree.specs.StmtView.{plain_sentence}
 use Rattle.cob_program.specs.Act.{stmts_of}
 use Rattle.cob_program.specs.ActView.{plain_stmt}

@@ -1,6 +1,5 @@
-use Rattle.std.proofs.Common.{◌∙◌, rules, map}
+use Rattle.std.proofs.Common.{◌∙◌, rules}
 use Rattle.std.specs.Option.{option_copied}
-use Rattle.cob_program.specs.SumView.{plain_part}
 use Rattle.cob_typed.specs.Judged.{each_of, if_there}
 use Rattle.cob_typed.specs.Sums.{numeric_operand}
 use Rattle.cob_typed.proofs.WorkLemmas.{summed_is}
