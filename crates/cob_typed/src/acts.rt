@@ -1,0 +1,125 @@
+//! Statements put together, where contracts see them as plain data.
+ghost use Rattle.std.specs.Prelude.{◌≡◌, map, option_map};
+ghost use Rattle.cob_program.specs.Act.{move, arith, if_, evaluate, perform, go, nothing, stop, open_files, close_files, read, write, show, MkWhen, range, inline};
+ghost use Rattle.cob_program.specs.ActView.{plain_act, plain_when, plain_body, plain_turns};
+ghost use Rattle.cob_program.specs.LogicView.{plain_logic};
+ghost use Rattle.cob_program.specs.SumView.{plain_sum};
+ghost use Rattle.cob_typed.specs.Lists.{plain_stmts, plain_phrase, plain_whens};
+
+use crate::arithmetic::Worked;
+use cob_data::Sender;
+use cob_program::{Act, Body, Logic, Opening, Stmt, Turns, When};
+use cob_tree::Many;
+
+pub fn move_of(from: Sender, to: Vec<u32>) -> Act
+    ensures { plain_act result ≡ move from to.items }
+{
+    Act::Move {
+        from,
+        to: Many::of(to),
+    }
+}
+
+pub fn arith_of(worked: Worked, size: Option<Vec<Stmt>>, fine: Vec<Stmt>) -> Act
+    ensures { plain_act result ≡ arith (plain_sum worked.common) worked.targets.items worked.remainder (plain_phrase size) (plain_stmts fine) }
+{
+    Act::Arith {
+        common: worked.common,
+        targets: Many::of(worked.targets),
+        remainder: worked.remainder,
+        size,
+        fine,
+    }
+}
+
+pub fn if_of(test: Logic, yes: Vec<Stmt>, no: Vec<Stmt>) -> Act
+    ensures { plain_act result ≡ if_ (plain_logic test) (plain_stmts yes) (plain_stmts no) }
+{
+    Act::If { test, yes, no }
+}
+
+pub fn evaluate_of(whens: Vec<When>, other: Vec<Stmt>) -> Act
+    ensures { plain_act result ≡ evaluate (plain_whens whens) (plain_stmts other) }
+{
+    Act::Evaluate { whens, other }
+}
+
+pub fn when_of(tests: Vec<Logic>, body: Vec<Stmt>) -> When
+    ensures { plain_when result ≡ MkWhen (map plain_logic tests.items) (plain_stmts body) }
+{
+    When {
+        tests: Many::of(tests),
+        body,
+    }
+}
+
+pub fn range_of(first: u32, last: u32) -> Body
+    ensures { plain_body result ≡ range first last }
+{
+    Body::Range { first, last }
+}
+
+pub fn inline_of(body: Vec<Stmt>) -> Body
+    ensures { plain_body result ≡ inline (plain_stmts body) }
+{
+    Body::Inline(body)
+}
+
+pub fn perform_of(body: Body, turns: Turns) -> Act
+    ensures { plain_act result ≡ perform (plain_body body) (plain_turns turns) }
+{
+    Act::Perform { body, turns }
+}
+
+pub fn go_of(place: u32) -> Act
+    ensures { plain_act result ≡ go place }
+{
+    Act::Go(place)
+}
+
+pub fn nothing() -> Act
+    ensures { plain_act result ≡ nothing }
+{
+    Act::Nothing
+}
+
+pub fn stop() -> Act
+    ensures { plain_act result ≡ stop }
+{
+    Act::Stop
+}
+
+pub fn open_of(files: Vec<Opening>) -> Act
+    ensures { plain_act result ≡ open_files files.items }
+{
+    Act::OpenFiles(Many::of(files))
+}
+
+pub fn close_of(files: Vec<u32>) -> Act
+    ensures { plain_act result ≡ close_files files.items }
+{
+    Act::CloseFiles(Many::of(files))
+}
+
+pub fn read_of(file: u32, into: Option<u32>, end: Option<Vec<Stmt>>, fine: Vec<Stmt>) -> Act
+    ensures { plain_act result ≡ read file into (plain_phrase end) (plain_stmts fine) }
+{
+    Act::Read {
+        file,
+        into,
+        end,
+        fine,
+    }
+}
+
+pub fn write_of(rec: u32, from: Option<Sender>) -> Act
+    ensures { plain_act result ≡ write rec from }
+{
+    Act::Write { rec, from }
+}
+
+pub fn show_of(values: Vec<Sender>) -> Act
+    ensures { plain_act result ≡ show values.items }
+{
+    Act::Show(Many::of(values))
+}
