@@ -31,14 +31,6 @@ const MOST_NODES: u64 = 4096;
 /// How deep calls are nested at most while nodes are laid.
 const DEPTH: u32 = 40_000;
 
-impl From<AllocError> for FlowEnd {
-    ghost from_gives = { λ _ e. e ≡ end.Memory };
-
-    fn from(_failed: AllocError) -> FlowEnd {
-        FlowEnd::Memory
-    }
-}
-
 /// The nodes and edges of a program with so many paragraphs and nodes.
 fn lay_all(
     alloc: Global,
@@ -93,7 +85,12 @@ fn graph_with(
             count,
         });
     }
-    let (nodes, edges) = lay_all(alloc, program, table, paras, exact(count)?)?;
+    let Ok(last) = exact(count) else {
+        return Err(FlowEnd::Memory);
+    };
+    let Ok((nodes, edges)) = lay_all(alloc, program, table, paras, last) else {
+        return Err(FlowEnd::Memory);
+    };
     Ok(Graph {
         nodes,
         edges,
@@ -115,7 +112,9 @@ fn laid(
     ensures limit { (which : Which) (count : ℕ) → result ≡ Err (end.Limit which count) → IsOver (plain_program program.now) which count }
     ensures inside { (rule : Rule) (line : ℕ) → result ≡ Err (end.Outside rule line) → ⊥ }
 {
-    let table = table_of(alloc, program)?;
+    let Ok(table) = table_of(alloc, program) else {
+        return Err(FlowEnd::Memory);
+    };
     if range_fits(program, &table, 0, paras.saturating_sub(1), 0, paras) {
         graph_with(alloc, program, cells, &table, paras)
     } else {
@@ -139,7 +138,9 @@ pub fn graph_in(alloc: Global, program: &Program) -> Result<Graph, FlowEnd>
     ensures limit { (which : Which) (count : ℕ) → result ≡ Err (end.Limit which count) → IsOver (plain_program program.now) which count }
     ensures inside { (rule : Rule) (line : ℕ) → result ≡ Err (end.Outside rule line) → ⊥ }
 {
-    let cells = cells_of(alloc, program)?;
+    let Ok(cells) = cells_of(alloc, program) else {
+        return Err(FlowEnd::Memory);
+    };
     let count = cells.len() as u64;
     if count > MOST_CELLS {
         return Err(FlowEnd::Limit {
@@ -147,7 +148,9 @@ pub fn graph_in(alloc: Global, program: &Program) -> Result<Graph, FlowEnd>
             count,
         });
     }
-    let paras = count_paras(program)?;
+    let Ok(paras) = count_paras(program) else {
+        return Err(FlowEnd::Memory);
+    };
     laid(alloc, program, cells, paras)
 }
 
