@@ -8,3 +8,4 @@ mod Loops
 mod PlaceLemmas
 mod SizeLemmas
 mod SizeLoops
+mod WhenLemmas

@@ -85,8 +85,14 @@ impl<'a> Within<'a> {
     {
         match body {
             Body::Range { first, last } => self.first_of_copy(*first, *last, at, next),
-            Body::Inline(list) => Ok(first_of_list(list, at, next)),
+            Body::Inline(list) => Ok(self.first_of_own(list, at, next)),
         }
+    }
+
+    fn first_of_own(&self, list: &[Stmt], at: u32, next: u32) -> u32
+        ensures { result ≡ first_of_list (lay_list (plan self.now) (copies_of self.now) (plain_stmts list.now)) at next }
+    {
+        first_of_list(list, at, next)
     }
 
     fn first_of_copy(
