@@ -1,11 +1,40 @@
 -- Where an EVALUATE's WHENs begin.
 use Rattle.std.specs.Prelude.{Result, Ok, Err, IfOk}
-use Rattle.std.proofs.Common.{ℕ, ◌+◌, ◌≡◌, List, refl, sym, ap, ◌∙◌}
+use Rattle.std.proofs.Common.{ℕ, ◌+◌, ◌-◌, ◌≡◌, ◌≤◌, List, [], ◌∷◌, length, take, drop, get_or, map, refl, sym, ap, ◌∙◌, arith}
+use Rattle.std.proofs.lemmas.List.{take_all}
+use Rattle.cob_program.specs.declared.act.Stmt as declared_stmt
+use Rattle.cob_program.specs.declared.act.When as declared_when
+use Rattle.cob_program.specs.declared.act.Act.TheViews.{out-When}
+use Rattle.cob_program.specs.declared.act.Act.TheFolds.{fold_out-When}
+use Rattle.cob_program.specs.declared.logic.Logic as declared_logic
+use Rattle.cob_program.specs.LogicView.{plain_logic}
+use Rattle.cob_program.specs.ActView.{plain_when}
+use Rattle.cob_flow.specs.Views.{plain_stmts, plain_whens}
 use Rattle.cob_program.specs.Logic.{Logic, logics_of}
 use Rattle.cob_program.specs.Act.{Program, Stmts, When, MkWhen, Whens, more_whens}
 use Rattle.cob_graph.specs.Laid.{LaidParas, tests_among, list_size}
 use Rattle.cob_graph.specs.Places.{first_of_list, first_of_any, first_of_whens}
 use Rattle.cob_flow.specs.Tables.{lay_list, lay_whens}
+
+-- the first element, and the others as a pattern has them
+head_cut : {A : Type 0} (xs : List A) (x : A) → 1 ≤ length xs → x ≡ get_or xs 0 x → xs ≡ x ∷ take (length xs - 1) (drop 1 xs)
+head_cut [] x some is = absurd (omega (arith, some))
+head_cut (y ∷ ys) x some is =
+    ap (λ z. z ∷ ys) (sym is) ∙ ap (λ zs. x ∷ zs) (sym (take_all (length (y ∷ ys) - 1) ys (omega arith)))
+
+pub whens_cut : (xs : List declared_when.When) (x : declared_when.When) → 1 ≤ length xs → x ≡ get_or xs 0 x →
+    plain_whens xs ≡ more_whens (plain_when x) (plain_whens (take (length xs - 1) (drop 1 xs)))
+whens_cut xs x some is = ap plain_whens (head_cut xs x some is)
+
+when_view : (w : declared_when.When) → plain_when w ≡ MkWhen (map plain_logic (out-When w).tests) (plain_stmts (out-When w).body.items)
+when_view w = fold_out-When _ _ _ _ _ _ _ _ w
+
+-- a WHEN by its parts
+pub when_is : (w : declared_when.When) (ts : List declared_logic.Logic) (xs : List declared_stmt.Stmt) →
+    ts ≡ (out-When w).tests → xs ≡ (out-When w).body.items → plain_when w ≡ MkWhen (map plain_logic ts) (plain_stmts xs)
+when_is w ts xs tests body =
+    when_view w ∙ ap (λ us. MkWhen (map plain_logic us) (plain_stmts (out-When w).body.items)) (sym tests)
+    ∙ ap (λ ys. MkWhen (map plain_logic ts) (plain_stmts ys)) (sym body)
 
 -- what follows of a value where there is one
 pub if_ok : {T E : Type 0} {A B : T → Type 0} (r : Result T E) → ((x : T) → A x → B x) → IfOk r A → IfOk r B
@@ -26,12 +55,12 @@ module _ (p : Program) (k : ℕ → ℕ → LaidParas) where
 
   pub first_whens : {E : Type 0} (r : Result ℕ E) (whens rest : Whens) (w : When) (ts : List Logic) (ss : Stmts)
       (at tests nodes list_at rest_at yes_ no_ other next : ℕ) →
+      no_ ≡ first_of_whens (lay_whens p k rest) rest_at other next →
       IfOk r (λ n. n ≡ first_of_any (logics_of ts) at yes_ no_) → whens ≡ more_whens w rest → w ≡ MkWhen ts ss →
       tests ≡ tests_among (logics_of ts) → list_at ≡ at + tests → nodes ≡ list_size (lay_list p k ss) →
       rest_at ≡ list_at + nodes → yes_ ≡ first_of_list (lay_list p k ss) list_at next →
-      no_ ≡ first_of_whens (lay_whens p k rest) rest_at other next →
       IfOk r (λ n. n ≡ first_of_whens (lay_whens p k whens) at other next)
-  first_whens r whens rest w ts ss at tests nodes list_at rest_at yes_ no_ other next found cut is et el en er ey eo =
+  first_whens r whens rest w ts ss at tests nodes list_at rest_at yes_ no_ other next eo found cut is et el en er ey =
       if_ok r
         (λ n its. its
           ∙ first_when ts ss rest at list_at rest_at yes_ no_ other next (el ∙ ap (λ m. at + m) et) (er ∙ ap (λ m. list_at + m) en) ey eo
