@@ -3,6 +3,7 @@ mod Cuts
 mod Exact
 mod FlowLemmas
 mod Growth
+mod Heads
 mod LayLemmas
 mod Loops
 mod PlaceLemmas

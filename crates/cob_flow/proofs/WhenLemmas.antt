@@ -1,7 +1,6 @@
 -- Where an EVALUATE's WHENs begin.
 use Rattle.std.specs.Prelude.{Result, Ok, Err, IfOk}
-use Rattle.std.proofs.Common.{ℕ, ◌+◌, ◌-◌, ◌≡◌, ◌≤◌, List, [], ◌∷◌, length, take, drop, get_or, map, refl, sym, ap, ◌∙◌, arith}
-use Rattle.std.proofs.lemmas.List.{take_all}
+use Rattle.std.proofs.Common.{ℕ, ◌+◌, ◌≡◌, List, map, sym, ap, ◌∙◌}
 use Rattle.cob_program.specs.declared.act.Stmt as declared_stmt
 use Rattle.cob_program.specs.declared.act.When as declared_when
 use Rattle.cob_program.specs.declared.act.Act.TheViews.{out-When}
@@ -9,22 +8,12 @@ use Rattle.cob_program.specs.declared.act.Act.TheFolds.{fold_out-When}
 use Rattle.cob_program.specs.declared.logic.Logic as declared_logic
 use Rattle.cob_program.specs.LogicView.{plain_logic}
 use Rattle.cob_program.specs.ActView.{plain_when}
-use Rattle.cob_flow.specs.Views.{plain_stmts, plain_whens}
+use Rattle.cob_flow.specs.Views.{plain_stmts}
 use Rattle.cob_program.specs.Logic.{Logic, logics_of}
 use Rattle.cob_program.specs.Act.{Program, Stmts, When, MkWhen, Whens, more_whens}
 use Rattle.cob_graph.specs.Laid.{LaidParas, tests_among, list_size}
 use Rattle.cob_graph.specs.Places.{first_of_list, first_of_any, first_of_whens}
 use Rattle.cob_flow.specs.Tables.{lay_list, lay_whens}
-
--- the first element, and the others as a pattern has them
-head_cut : {A : Type 0} (xs : List A) (x : A) → 1 ≤ length xs → x ≡ get_or xs 0 x → xs ≡ x ∷ take (length xs - 1) (drop 1 xs)
-head_cut [] x some is = absurd (omega (arith, some))
-head_cut (y ∷ ys) x some is =
-    ap (λ z. z ∷ ys) (sym is) ∙ ap (λ zs. x ∷ zs) (sym (take_all (length (y ∷ ys) - 1) ys (omega arith)))
-
-pub whens_cut : (xs : List declared_when.When) (x : declared_when.When) → 1 ≤ length xs → x ≡ get_or xs 0 x →
-    plain_whens xs ≡ more_whens (plain_when x) (plain_whens (take (length xs - 1) (drop 1 xs)))
-whens_cut xs x some is = ap plain_whens (head_cut xs x some is)
 
 when_view : (w : declared_when.When) → plain_when w ≡ MkWhen (map plain_logic (out-When w).tests) (plain_stmts (out-When w).body.items)
 when_view w = fold_out-When _ _ _ _ _ _ _ _ w

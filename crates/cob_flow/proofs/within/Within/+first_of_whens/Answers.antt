@@ -1,4 +1,4 @@
-use Rattle.std.proofs.Common.{◌≡◌, ap, ◌∙◌, ◌-◌, length, take, drop, sym, rules, map, min}
+use Rattle.std.proofs.Common.{◌≡◌, ap, ◌∙◌, sym, map, min}
 use Rattle.cob_program.specs.Act.{MkWhen}
 use Rattle.cob_program.specs.Logic.{logics_of}
 use Rattle.cob_program.specs.ActView.{plain_when}
@@ -10,7 +10,8 @@ use Rattle.cob_flow.specs.Views.{plain_stmts, plain_whens, plain_logics}
 use Rattle.cob_flow.specs.Tables.{lay_list}
 use Rattle.cob_flow.specs.Growing.{plan, copies_of}
 use Rattle.cob_flow.proofs.Cuts.{whole}
-use Rattle.cob_flow.proofs.WhenLemmas.{whens_cut, when_is, first_whens}
+use Rattle.cob_flow.proofs.Heads.{others, whens_cut}
+use Rattle.cob_flow.proofs.WhenLemmas.{when_is, first_whens}
 use Rattle.cob_flow.proofs.within.Within.+first_of_whens.Goals as goal
 
 pub returns-in_ok-no-in-len1-up : goal.returns-in_ok-no-in-len1-up
@@ -23,7 +24,7 @@ returns-in_ok-no-in-len1-up t c =
     let list_at = c.in_ok-list_at-in-len1-up.list_at in
     let tests = c.get-in-len1-up.result.now in
     let list = c.deref.result.now in
-    first_whens p k c.first_of_any.result (plain_whens whens) (plain_whens (take (length whens - 1) (drop 1 whens))) (plain_when c.when-item.result) (map plain_logic tests) (plain_stmts list) c.args.at
+    first_whens p k c.first_of_any.result (plain_whens whens) (plain_whens (others whens)) (plain_when c.when-item.result) (map plain_logic tests) (plain_stmts list) c.args.at
       c.in_ok-exact-in-len1-up.field-0 c.in_ok-list_nodes-in-len1-up.field-0 list_at c.in_ok-rest_at-in-len1-up.rest_at
       c.first_of_list-yes.result c.in_ok-no-in-len1-up.no c.args.other c.args.next
       c.in_ok-no-in-len1-up.ensures c.first_of_any.ensures (whens_cut whens c.when-item.result c.in-len1-up.len_at_least c.when-item.is) (when_is c.when-item.result tests list c.get-in-len1-up.ensures c.deref.ensures.value)
