@@ -6,6 +6,7 @@ ghost use Rattle.cob_program.specs.ActView.{plain_program};
 ghost use Rattle.cob_graph.specs.declared.end.FlowEnd.TheVariants as end;
 ghost use Rattle.cob_graph.specs.Nesting.{IsNested};
 ghost use Rattle.cob_graph.specs.Graphs.{final_of, all_nodes, as_node, edges_of, cells_of, IsGraph, IsOver};
+ghost use Rattle.cob_flow.specs.Limits.{IsWithinLimits};
 ghost use Rattle.cob_flow.specs.Sizes.{range_fits};
 ghost use Rattle.cob_flow.specs.Tables.{is_in, main_paras, IsTable};
 
@@ -75,6 +76,7 @@ fn graph_with(
     requires cells { cells.items ≡ cells_of (plain_program program.now) }
     requires few { length cells.items ≤ 512 }
     ensures graph { IfOk result (λ g. IsGraph (plain_program program.now) g) }
+    ensures within { IfOk result (λ g. IsWithinLimits g) }
     ensures limit { (which : Which) (count : ℕ) → result ≡ Err (end.Limit which count) → IsOver (plain_program program.now) which count }
     ensures inside { (rule : Rule) (line : ℕ) → result ≡ Err (end.Outside rule line) → ⊥ }
 {
@@ -109,6 +111,7 @@ fn laid(
     requires cells { cells.items ≡ cells_of (plain_program program.now) }
     requires few { length cells.items ≤ 512 }
     ensures graph { IfOk result (λ g. IsGraph (plain_program program.now) g) }
+    ensures within { IfOk result (λ g. IsWithinLimits g) }
     ensures limit { (which : Which) (count : ℕ) → result ≡ Err (end.Limit which count) → IsOver (plain_program program.now) which count }
     ensures inside { (rule : Rule) (line : ℕ) → result ≡ Err (end.Outside rule line) → ⊥ }
 {
@@ -135,6 +138,7 @@ fn count_paras(program: &Program) -> Result<u32, AllocError>
 /// The graph of a program, where each performed range can be copied.
 pub fn graph_in(alloc: Global, program: &Program) -> Result<Graph, FlowEnd>
     ensures graph { IfOk result (λ g. IsGraph (plain_program program.now) g) }
+    ensures within { IfOk result (λ g. IsWithinLimits g) }
     ensures limit { (which : Which) (count : ℕ) → result ≡ Err (end.Limit which count) → IsOver (plain_program program.now) which count }
     ensures inside { (rule : Rule) (line : ℕ) → result ≡ Err (end.Outside rule line) → ⊥ }
 {
@@ -154,11 +158,12 @@ pub fn graph_in(alloc: Global, program: &Program) -> Result<Graph, FlowEnd>
     laid(alloc, program, cells, paras)
 }
 
-/// The control graph of a program whose PERFORMs nest. A GO TO to no paragraph at all counts as want of memory, and so
+/// The control graph of a program whose PERFORMs nest, where cells and nodes are within the limits. A GO TO to no paragraph at all counts as want of memory, and so
 /// do calls that would be nested too deep for the stack.
 pub fn graph_of(alloc: Global, program: &Program) -> Result<Graph, FlowEnd>
     requires { IsNested (plain_program program.now) }
     ensures graph { IfOk result (λ g. IsGraph (plain_program program.now) g) }
+    ensures within { IfOk result (λ g. IsWithinLimits g) }
     ensures limit { (which : Which) (count : ℕ) → result ≡ Err (end.Limit which count) → IsOver (plain_program program.now) which count }
     ensures inside { (rule : Rule) (line : ℕ) → result ≡ Err (end.Outside rule line) → ⊥ }
 {
