@@ -135,8 +135,10 @@ fn count_paras(program: &Program) -> Result<u32, AllocError>
     }
 }
 
-/// The graph of a program, where each performed range can be copied.
-pub fn graph_in(alloc: Global, program: &Program) -> Result<Graph, FlowEnd>
+/// The control graph of a program whose PERFORMs nest, where its cells and nodes are within the limits. A GO TO to no
+/// paragraph at all counts as want of memory, and so do calls that would be nested too deep for the stack.
+pub fn graph_of(alloc: Global, program: &Program) -> Result<Graph, FlowEnd>
+    requires { IsNested (plain_program program.now) }
     ensures graph { IfOk result (λ g. IsGraph (plain_program program.now) g) }
     ensures within { IfOk result (λ g. IsWithinLimits g) }
     ensures limit { (which : Which) (count : ℕ) → result ≡ Err (end.Limit which count) → IsOver (plain_program program.now) which count }
@@ -156,16 +158,4 @@ pub fn graph_in(alloc: Global, program: &Program) -> Result<Graph, FlowEnd>
         return Err(FlowEnd::Memory);
     };
     laid(alloc, program, cells, paras)
-}
-
-/// The control graph of a program whose PERFORMs nest, where cells and nodes are within the limits. A GO TO to no paragraph at all counts as want of memory, and so
-/// do calls that would be nested too deep for the stack.
-pub fn graph_of(alloc: Global, program: &Program) -> Result<Graph, FlowEnd>
-    requires { IsNested (plain_program program.now) }
-    ensures graph { IfOk result (λ g. IsGraph (plain_program program.now) g) }
-    ensures within { IfOk result (λ g. IsWithinLimits g) }
-    ensures limit { (which : Which) (count : ℕ) → result ≡ Err (end.Limit which count) → IsOver (plain_program program.now) which count }
-    ensures inside { (rule : Rule) (line : ℕ) → result ≡ Err (end.Outside rule line) → ⊥ }
-{
-    graph_in(alloc, program)
 }
