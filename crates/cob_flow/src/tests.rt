@@ -279,22 +279,41 @@ fn evaluate_tries_each_when(rt: HostRuntime) -> Result<(), Fail> {
 }
 
 #[test]
-fn if_and_size_error_have_two_lists(rt: HostRuntime) -> Result<(), Fail> {
+fn size_errors_have_a_list(rt: HostRuntime) -> Result<(), Fail> {
     let alloc = rt.alloc();
     let failed = vec![in alloc; act(2, Act::Nothing)]?;
     let sum = add(alloc, Some(failed), vec![in alloc; act(3, show(alloc))]?);
-    let held = Logic::contrary(Box::new(alloc, test(0))?);
-    let choice = Act::If {
-        test: Logic::all(vec![in alloc; held, test(1)]?),
-        yes: vec![in alloc; act(5, Act::Nothing)]?,
-        no: vec![in alloc; act(6, Act::Stop)]?,
-    };
-    let body = vec![in alloc; act(1, sum), act(4, choice)]?;
+    let body = vec![in alloc; act(1, sum), act(4, Act::Stop)]?;
     let graph = graph(alloc, &program_of(alloc, vec![in alloc; body]?)?)?;
-    assert_eq!(rt; nodes(alloc, &graph)?.as_str(), "1* 2* 3* 4* 4 5* 6* 0 ");
+    assert_eq!(rt; nodes(alloc, &graph)?.as_str(), "1* 2* 3* 4* 0 ");
     assert_eq!(rt;
         edges(alloc, &graph)?.as_str(),
-        "1 Done 3; 1 Size 2; 2 Skip 4; 3 Show 4; 4 True(0) 7; 4 False(0) 5; 5 True(1) 6; 5 False(1) 7; 6 Skip 8; 7 Skip 8; "
+        "1 Done 3; 1 Size 2; 2 Skip 4; 3 Show 4; 4 Skip 5; "
+    );
+    Ok(())
+}
+
+/// IF the first doesn't hold and the second does.
+fn choice(alloc: Global, yes: Vec<Stmt>, no: Vec<Stmt>) -> Result<Act, AllocError> {
+    let contrary = Logic::contrary(Box::new(alloc, test(0))?);
+    Ok(Act::If {
+        test: Logic::all(vec![in alloc; contrary, test(1)]?),
+        yes,
+        no,
+    })
+}
+
+#[test]
+fn if_has_two_lists(rt: HostRuntime) -> Result<(), Fail> {
+    let alloc = rt.alloc();
+    let yes = vec![in alloc; act(2, Act::Nothing)]?;
+    let choice = choice(alloc, yes, vec![in alloc; act(3, show(alloc))]?)?;
+    let body = vec![in alloc; act(1, choice), act(4, Act::Stop)]?;
+    let graph = graph(alloc, &program_of(alloc, vec![in alloc; body]?)?)?;
+    assert_eq!(rt; nodes(alloc, &graph)?.as_str(), "1* 1 2* 3* 4* 0 ");
+    assert_eq!(rt;
+        edges(alloc, &graph)?.as_str(),
+        "1 True(0) 4; 1 False(0) 2; 2 True(1) 3; 2 False(1) 4; 3 Skip 5; 4 Show 5; 5 Skip 6; "
     );
     Ok(())
 }
