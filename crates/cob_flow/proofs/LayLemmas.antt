@@ -137,7 +137,7 @@ module _ (c : Copied) where
         ∙ ap (λ n. grown old (loop_before c number turns body at next ++ body_nodes c number body n behind ++ loop_behind c number turns body at next)) e
         ∙ ap (λ n. grown old (loop_before c number turns body at next ++ body_nodes c number body (body_at turns at) n ++ loop_behind c number turns body at next)) f
 
-    abbrev inner_copy : List ℕ → ℕ → LaidParas → ℕ → ℕ → Copied
+    abbrev pub inner_copy : List ℕ → ℕ → LaidParas → ℕ → ℕ → Copied
     inner_copy all first ps at next = record { layout = c.layout; sites = all; para = λ n. first_of_para (n - first) ps at next; final = c.final }
 
     pub copy_laid : (old new : Seen) (ps qs : LaidParas) (all : List ℕ) (first at next : ℕ) → all ≡ c.sites ++ number ∷ [] → ps ≡ qs →

@@ -2,33 +2,26 @@
 use Rattle.std.specs.Prelude.{Result, OnOk}
 use Rattle.std.proofs.Common.{ℕ, ◌+◌, ◌-◌, ◌≡◌, ◌<◌, ◌≤◌, Bool, true, false, arith, List, [], ◌∷◌, ◌++◌, refl, sym, ap, ◌∙◌, add-one, Option, Some, None}
 use Rattle.cob_data.specs.declared.layout.Sender.{Sender}
-use Rattle.cob_program.specs.declared.act.Stmt as declared_stmt
 use Rattle.cob_program.specs.declared.act.Turns as declared_turns
 use Rattle.cob_program.specs.declared.act.Turns.TheVariants as variant
 use Rattle.cob_program.specs.declared.logic.Logic as declared_logic
 use Rattle.cob_program.specs.LogicView.{plain_logic}
-use Rattle.cob_program.specs.declared.act.Act.TheViews.{out-Stmt}
-use Rattle.cob_program.specs.declared.act.Act.TheFolds.{fold_out-Stmt}
-use Rattle.cob_program.specs.Act.{Program, Stmt, MkStmt, Stmts, more_stmts, Phrase, given, Act, When, MkWhen, Whens, more_whens, Turns, varying}
-use Rattle.cob_program.specs.ActView.{plain_stmt, plain_act, plain_turns}
+use Rattle.cob_program.specs.Act.{Program, Stmt, Stmts, more_stmts, Phrase, given, When, MkWhen, Whens, more_whens, Turns, varying}
+use Rattle.cob_program.specs.ActView.{plain_turns}
 use Rattle.cob_program.specs.Logic.{Logic, logics_of}
 use Rattle.cob_runs.specs.Steps.{body_at}
 use Rattle.cob_runs.specs.declared.action.Action.TheVariants as action
 use Rattle.cob_flow.specs.declared.counting.Entry.{Entry}
-use Rattle.cob_graph.specs.Laid.{LaidParas, LaidBody, no_laid_paras, copy, size, list_size, body_size, tests_in, tests_among}
+use Rattle.cob_graph.specs.Laid.{LaidList, LaidPhrase, LaidWhens, LaidParas, LaidBody, no_laid_paras, computing, deciding, choosing, performing, reading, copy, one_if, size, list_size, phrase_size, whens_size, body_size, tests_in, tests_among}
 use Rattle.cob_graph.specs.Places as places
 use Rattle.cob_graph.specs.Places.{first_of_list, first_of_paras, first_of_body, first_of_whens, body_next}
-use Rattle.cob_graph.specs.Nodes.{Copied, node, size_edges, logic_nodes, any_nodes, loop_behind, nodes, list_nodes, whens_nodes, body_nodes, paras_nodes, act_nodes}
-use Rattle.cob_flow.specs.Tables.{lay_stmt, lay_list, lay_phrase, lay_act, lay_whens, lay_paras, copy_in, rest_in}
+use Rattle.cob_graph.specs.Nodes.{Copied, node, size_edges, logic_nodes, any_nodes, end_to, read_nodes, loop_before, loop_behind, nodes, list_nodes, phrase_nodes, whens_nodes, body_nodes, paras_nodes, act_nodes}
+use Rattle.cob_flow.specs.Tables.{lay_stmt, lay_list, lay_phrase, lay_whens, lay_paras, copy_in, rest_in}
 use Rattle.cob_flow.specs.Growing.{Seen, grown}
 use Rattle.cob_flow.proofs.Growth.{on_ok, grown_more, grown_none}
-use Rattle.cob_flow.proofs.LayLemmas.{list_more, paras_more, whens_more}
+use Rattle.cob_flow.proofs.LayLemmas.{list_more, paras_more, whens_more, arith_laid, if_laid, evaluate_laid, read_laid, perform_laid, inner_copy, copy_laid}
 use Rattle.cob_flow.proofs.PlaceLemmas.{paras_step, paras_end}
 use Rattle.cob_flow.proofs.SizeLemmas.{copy_behind, copy_is}
-
--- a statement by its parts
-pub stmt_is : (s : declared_stmt.Stmt) → plain_stmt s ≡ MkStmt (out-Stmt s).number (out-Stmt s).line (plain_act (out-Stmt s).act)
-stmt_is s = fold_out-Stmt _ _ _ _ _ _ _ _ s
 
 pub varying_is : (u : declared_turns.Turns) (after : Bool) (item : ℕ) (start by : Sender) (t : declared_logic.Logic) →
     u ≡ variant.Varying after item start by t → after ≡ true → plain_turns u ≡ varying true item start by (plain_logic t)
@@ -87,17 +80,6 @@ module _ (c : Copied) (p : Program) (k : ℕ → ℕ → LaidParas) where
           ∙ ap (λ ss. grown old (list_nodes c (lay_list p k ss) at next)) (sym cut))
         laid
 
-  -- one statement, by what it does
-  pub stmt_ok : {T E : Type 0} (r : Result T E) (old new : Seen) (s : Stmt) (number line at next : ℕ) (a : Act) → s ≡ MkStmt number line a →
-      OnOk r (new ≡ grown old (act_nodes c number (lay_act p k a) at next)) → OnOk r (new ≡ grown old (nodes c (lay_stmt p k s) at next))
-  stmt_ok r old new s number line at next a is laid =
-      on_ok r (λ all. all ∙ ap (λ t. grown old (nodes c (lay_stmt p k t) at next)) (sym is)) laid
-
-  pub act_ok : {T E : Type 0} (r : Result T E) (old new : Seen) (a b : Act) (number at next : ℕ) → a ≡ b →
-      OnOk r (new ≡ grown old (act_nodes c number (lay_act p k b) at next)) → OnOk r (new ≡ grown old (act_nodes c number (lay_act p k a) at next))
-  act_ok r old new a b number at next is laid =
-      on_ok r (λ all. all ∙ ap (λ x. grown old (act_nodes c number (lay_act p k x) at next)) (sym is)) laid
-
   pub whens_ok : {T E : Type 0} (r : Result T E) (old one two new : Seen) (whens rest : Whens) (w : When) (ts : List Logic) (ss : Stmts)
       (number k_ at tests nodes more list_at rest_at held failed other next : ℕ) →
       OnOk r (new ≡ grown two (whens_nodes c number (lay_whens p k rest) more rest_at other next)) →
@@ -113,6 +95,59 @@ module _ (c : Copied) (p : Program) (k : ℕ → ℕ → LaidParas) where
           ∙ ap (λ x. grown old (whens_nodes c number (lay_whens p k (more_whens x rest)) k_ at other next)) (sym is)
           ∙ ap (λ ws. grown old (whens_nodes c number (lay_whens p k ws) k_ at other next)) (sym cut))
         laid
+
+  -- ---- statements with lists
+
+  pub arith_ok : {T E : Type 0} (r : Result T E) (old one two new : Seen) (number : ℕ) (x : LaidPhrase) (b : LaidList) (at size_at n fine_at to next : ℕ) →
+      OnOk r (new ≡ grown two (list_nodes c b fine_at next)) → size_at ≡ at + 1 → n ≡ phrase_size x → fine_at ≡ size_at + n → to ≡ first_of_list b fine_at next →
+      one ≡ grown old (node c number true ((action.Done, to) ∷ size_edges c number x size_at next) ∷ []) → two ≡ grown one (phrase_nodes c x size_at next) →
+      OnOk r (new ≡ grown old (act_nodes c number (computing x b) at next))
+  arith_ok r old one two new number x b at size_at n fine_at to next laid es en ef et sum phrase =
+      on_ok r (λ all. arith_laid c number old one two new x b at size_at fine_at to next es (ef ∙ ap (λ m. size_at + m) en) et sum phrase all) laid
+
+  pub test_ok : {T E : Type 0} (r : Result T E) (old one two new : Seen) (number : ℕ) (t : Logic) (a b : LaidList) (at tests held_at n other_at held failed next : ℕ) →
+      OnOk r (new ≡ grown two (list_nodes c b other_at next)) → tests ≡ tests_in t → held_at ≡ at + tests → n ≡ list_size a → other_at ≡ held_at + n →
+      held ≡ first_of_list a held_at next → failed ≡ first_of_list b other_at next →
+      one ≡ grown old (logic_nodes c number true t 0 at held failed) → two ≡ grown one (list_nodes c a held_at next) →
+      OnOk r (new ≡ grown old (act_nodes c number (deciding t a b) at next))
+  test_ok r old one two new number t a b at tests held_at n other_at held failed next laid et eh en eo first_held first_other front list =
+      on_ok r
+        (λ all. if_laid c number old one two new t a b at held_at other_at held failed next (eh ∙ ap (λ m. at + m) et) (eo ∙ ap (λ m. held_at + m) en)
+            first_held first_other front list all)
+        laid
+
+  pub evaluate_ok : {T E : Type 0} (r : Result T E) (old one two new : Seen) (number : ℕ) (ws : LaidWhens) (b : LaidList) (at whens_at n other_at to_other to next : ℕ) →
+      OnOk r (new ≡ grown two (list_nodes c b other_at next)) → whens_at ≡ at + 1 → n ≡ whens_size ws → other_at ≡ whens_at + n →
+      to_other ≡ first_of_list b other_at next → to ≡ first_of_whens ws whens_at to_other next →
+      one ≡ grown old (node c number true ((action.Skip, to) ∷ []) ∷ []) → two ≡ grown one (whens_nodes c number ws 0 whens_at to_other next) →
+      OnOk r (new ≡ grown old (act_nodes c number (choosing ws b) at next))
+  evaluate_ok r old one two new number ws b at whens_at n other_at to_other to next laid ew en eo eb et front whens =
+      on_ok r (λ all. evaluate_laid c number old one two new ws b at whens_at other_at to_other to next ew (eo ∙ ap (λ m. whens_at + m) en) eb et front whens all) laid
+
+  pub read_ok : {T E : Type 0} (r : Result T E) (old one two new : Seen) (number file : ℕ) (into : Bool) (x : LaidPhrase) (b : LaidList)
+      (at behind m end_at n fine_at to_end to_fine next : ℕ) →
+      OnOk r (new ≡ grown two (list_nodes c b fine_at next)) → behind ≡ at + 1 → m ≡ one_if into → end_at ≡ behind + m → n ≡ phrase_size x → fine_at ≡ end_at + n →
+      to_end ≡ end_to c number x file end_at next → to_fine ≡ first_of_list b fine_at next →
+      one ≡ grown old (read_nodes c number file into at to_end to_fine next) → two ≡ grown one (phrase_nodes c x end_at next) →
+      OnOk r (new ≡ grown old (act_nodes c number (reading file into x b) at next))
+  read_ok r old one two new number file into x b at behind m end_at n fine_at to_end to_fine next laid eb em ee en ef ends fines front phrase =
+      on_ok r
+        (λ all. read_laid c number old one two new file into x b at end_at fine_at to_end to_fine next
+            (ee ∙ ap (λ i. i + m) eb ∙ ap (λ i. at + 1 + i) em) (ef ∙ ap (λ i. end_at + i) en) ends fines front phrase all)
+        laid
+
+  pub perform_ok : {T E : Type 0} (r : Result T E) (old one two new : Seen) (number : ℕ) (turns : Turns) (body : LaidBody) (at begin behind next : ℕ) →
+      OnOk r (new ≡ grown two (loop_behind c number turns body at next)) → begin ≡ places.body_at turns at → behind ≡ body_next turns at body next →
+      one ≡ grown old (loop_before c number turns body at next) → two ≡ grown one (body_nodes c number body begin behind) →
+      OnOk r (new ≡ grown old (act_nodes c number (performing body turns) at next))
+  perform_ok r old one two new number turns body at begin behind next laid eb en front inner =
+      on_ok r (λ all. perform_laid c number old one two new turns body at begin behind next eb en front inner all) laid
+
+  pub copy_ok : {T E : Type 0} (r : Result T E) (old new : Seen) (number : ℕ) (ps qs : LaidParas) (all : List ℕ) (first at next : ℕ) →
+      OnOk r (new ≡ grown old (paras_nodes (inner_copy c number all first qs at next) qs at next)) → all ≡ c.sites ++ number ∷ [] → ps ≡ qs →
+      OnOk r (new ≡ grown old (body_nodes c number (copy first ps) at next))
+  copy_ok r old new number ps qs all first at next laid sites same =
+      on_ok r (λ whole. copy_laid c number old new ps qs all first at next sites same whole) laid
 
   -- ---- paragraphs
 
