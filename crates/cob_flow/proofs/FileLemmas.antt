@@ -1,5 +1,5 @@
 -- The file of a record: the first whose records have it.
-use Rattle.std.proofs.Common.{ℕ, ◌+◌, ◌≡◌, ◌<◌, ◌==◌, Bool, true, false, List, length, drop, get_or, sym, ap, ◌∙◌, if◌then◌else◌, Option, Some, None}
+use Rattle.std.proofs.Common.{ℕ, ◌+◌, ◌≡◌, ◌<◌, ◌==◌, true, false, List, length, drop, get_or, sym, ap, ◌∙◌, if◌then◌else◌, Option, Some}
 use Rattle.std.specs.Option.{option_map_or}
 use Rattle.std.specs.List.{list_any}
 use Rattle.cob_data.specs.declared.layout.Layout.{Layout}
@@ -10,11 +10,13 @@ use Rattle.cob_flow.proofs.Loops.{item_step}
 abbrev or_zero : Option ℕ → ℕ
 or_zero o = option_map_or (λ f. f) o 0
 
-module _ (l : Layout) (fs : List FileDecl) (i place record_place : ℕ) (f : FileDecl) (within : i < length fs) (is : f ≡ get_or fs i f) where
+module _ (l : Layout) (fs : List FileDecl) (i place record_place : ℕ) (f : FileDecl)
+    (within : i < length fs) (is : f ≡ get_or fs i f) where
   abbrev later : Option ℕ
   later = file_from l (place + 1) (drop (i + 1) fs) record_place
 
-  cut : file_from l place (drop i fs) record_place ≡ (if list_any (λ r. r == record_place) f.records then Some place else later)
+  cut : file_from l place (drop i fs) record_place
+      ≡ (if list_any (λ r. r == record_place) f.records then Some place else later)
   cut = ap (λ gs. file_from l place gs record_place) (item_step fs i f within is)
 
   pub file_here : (whole : ℕ) → list_any (λ r. r == record_place) f.records ≡ true →
