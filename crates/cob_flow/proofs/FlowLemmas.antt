@@ -26,7 +26,7 @@ use Rattle.cob_flow.proofs.SizeLemmas.{table_sizes, table_laid, alike_paras, lai
 pub main_laid : (p : Program) (es : List Entry) (paras : ℕ) → IsTable p es → paras ≡ length p.paras → range_fits (is_in es) 0 (paras - 1) p 0 (paras - 0) ≡ true → IsMainCopy p (main_paras p es)
 main_laid p es paras h is fits =
     laid_paras p (is_in es) (copy_in p es) (table_laid p es h) 0 (last_para p) (length p.paras) 0
-      (subst (λ n. range_fits (is_in es) 0 (n - 1) p 0 n ≡ true) is (subst (λ n. range_fits (is_in es) 0 (paras - 1) p 0 n ≡ true) (sub-zero paras) fits))
+    (subst (λ n. range_fits (is_in es) 0 (n - 1) p 0 n ≡ true) is (subst (λ n. range_fits (is_in es) 0 (paras - 1) p 0 n ≡ true) (sub-zero paras) fits))
 
 module _ (p : Program) (es : List Entry) (paras sum count : ℕ) (h : IsTable p es) (is : paras ≡ length p.paras)
     (summed : sum ≡ min (range_size (size_in es) p 0 (paras - 0)) most_told) (counted : count ≡ min (1 + sum) most_told) where

@@ -40,7 +40,7 @@ module _ (p : Program) (k : ℕ → ℕ → LaidParas) where
       ∙ ap (λ n. first_of_any (logics_of ts) at (first_of_list (lay_list p k ss) list_at next) n) h
       ∙ ap (λ n. first_of_any (logics_of ts) at (first_of_list (lay_list p k ss) list_at next) (first_of_whens (lay_whens p k rest) n other next)) f
       ∙ ap (λ n. first_of_any (logics_of ts) at (first_of_list (lay_list p k ss) n next)
-          (first_of_whens (lay_whens p k rest) (n + list_size (lay_list p k ss)) other next)) e
+      (first_of_whens (lay_whens p k rest) (n + list_size (lay_list p k ss)) other next)) e
 
   pub first_whens : {E : Type 0} (r : Result ℕ E) (whens rest : Whens) (w : When) (ts : List Logic) (ss : Stmts)
       (at tests nodes list_at rest_at yes_ no_ other next : ℕ) →
@@ -51,8 +51,8 @@ module _ (p : Program) (k : ℕ → ℕ → LaidParas) where
       IfOk r (λ n. n ≡ first_of_whens (lay_whens p k whens) at other next)
   first_whens r whens rest w ts ss at tests nodes list_at rest_at yes_ no_ other next eo found cut is et el en er ey =
       if_ok r
-        (λ n its. its
-          ∙ first_when ts ss rest at list_at rest_at yes_ no_ other next (el ∙ ap (λ m. at + m) et) (er ∙ ap (λ m. list_at + m) en) ey eo
-          ∙ ap (λ x. first_of_whens (lay_whens p k (more_whens x rest)) at other next) (sym is)
-          ∙ ap (λ ws. first_of_whens (lay_whens p k ws) at other next) (sym cut))
-        found
+      (λ n its. its
+      ∙ first_when ts ss rest at list_at rest_at yes_ no_ other next (el ∙ ap (λ m. at + m) et) (er ∙ ap (λ m. list_at + m) en) ey eo
+      ∙ ap (λ x. first_of_whens (lay_whens p k (more_whens x rest)) at other next) (sym is)
+      ∙ ap (λ ws. first_of_whens (lay_whens p k ws) at other next) (sym cut))
+      found

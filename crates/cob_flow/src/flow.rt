@@ -12,14 +12,13 @@ ghost use Rattle.cob_flow.specs.Tables.{is_in, main_paras, IsTable};
 
 use crate::cells::cells_of;
 use crate::counting::{Entry, plus, range_fits, range_size, table_of};
-use cob_graph::FlowEnd;
-use cob_graph::{Edge, Graph, Node};
 use crate::laying::Laying;
 use crate::numbers::exact;
 use crate::within::Within;
 use cob_data::Which;
-use cob_runs::Cell;
+use cob_graph::{Edge, FlowEnd, Graph, Node};
 use cob_program::Program;
+use cob_runs::Cell;
 use cob_tree::Many;
 use std::alloc::{AllocError, Global};
 
@@ -101,12 +100,7 @@ fn graph_with(
 }
 
 /// The graph with these cells.
-fn laid(
-    alloc: Global,
-    program: &Program,
-    cells: Vec<Cell>,
-    paras: u32,
-) -> Result<Graph, FlowEnd>
+fn laid(alloc: Global, program: &Program, cells: Vec<Cell>, paras: u32) -> Result<Graph, FlowEnd>
     requires paras { paras ≡ length (plain_program program.now).paras }
     requires cells { cells.items ≡ cells_of (plain_program program.now) }
     requires few { length cells.items ≤ 512 }

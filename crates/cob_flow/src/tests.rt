@@ -224,8 +224,14 @@ fn bare_read(alloc: Global, status: Option<u32>) -> Result<String, Fail> {
 #[test]
 fn file_status_lets_it_go_on(rt: HostRuntime) -> Result<(), Fail> {
     let alloc = rt.alloc();
-    assert_eq!(rt; bare_read(alloc, Some(0))?.as_str(), "1 Take 2; 1 AtEnd 2; 1 Bad(0) 2; 2 Skip 3; ");
-    assert_eq!(rt; bare_read(alloc, None)?.as_str(), "1 Take 2; 1 AtEnd 3; 1 Bad(0) 3; 2 Skip 3; ");
+    assert_eq!(rt;
+        bare_read(alloc, Some(0))?.as_str(),
+        "1 Take 2; 1 AtEnd 2; 1 Bad(0) 2; 2 Skip 3; "
+    );
+    assert_eq!(rt;
+        bare_read(alloc, None)?.as_str(),
+        "1 Take 2; 1 AtEnd 3; 1 Bad(0) 3; 2 Skip 3; "
+    );
     Ok(())
 }
 
@@ -321,9 +327,15 @@ fn if_has_two_lists(rt: HostRuntime) -> Result<(), Fail> {
 #[test]
 fn each_file_has_its_node(rt: HostRuntime) -> Result<(), Fail> {
     let alloc = rt.alloc();
-    let input = Opening { file: 0, output: false };
+    let input = Opening {
+        file: 0,
+        output: false,
+    };
     let opened = Act::OpenFiles(Many::of(vec![in alloc; input, input]?));
-    let written = Act::Write { rec: 0, from: Some(Sender::Zero) };
+    let written = Act::Write {
+        rec: 0,
+        from: Some(Sender::Zero),
+    };
     let closed = Act::CloseFiles(Many::of(vec![in alloc; 0]?));
     let body = vec![in alloc; act(1, opened), act(2, written), act(3, closed)]?;
     let graph = graph(alloc, &program_of(alloc, vec![in alloc; body]?)?)?;
