@@ -1,5 +1,5 @@
 -- Numbers that are cut at a bound.
-use Rattle.std.proofs.Common.{ℕ, ◌+◌, ◌≡◌, ◌<◌, min, refl, sym, ◌∙◌, arith}
+use Rattle.std.proofs.Common.{ℕ, ◌+◌, ◌≡◌, ◌<◌, ◌≤◌, min, refl, sym, ◌∙◌, arith}
 
 -- ---- numbers that are the same up to a bound
 
@@ -29,3 +29,6 @@ counted_all cap sum count n m = λ a b c. omega arith
 
 pub counted_more : (cap count n k : ℕ) → count ≡ min n cap → k < count → k < n
 counted_more cap count n k = λ a b. omega arith
+
+pub counted_most : (cap count n k : ℕ) → count ≡ min n cap → k < cap → count ≤ k → n ≤ k
+counted_most cap count n k = λ a b c. omega arith

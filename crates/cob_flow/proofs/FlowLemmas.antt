@@ -1,9 +1,10 @@
 -- The whole graph, from what is laid of the main copy.
-use Rattle.std.proofs.Common.{ℕ, suc, ◌+◌, ◌-◌, ◌≡◌, ◌<◌, ◌≤◌, min, Bool, true, List, [], ◌∷◌, ◌++◌, length, map, Result, Err, refl, sym, ap, ◌∙◌, subst}
+use Rattle.std.proofs.Common.{ℕ, suc, ◌+◌, ◌-◌, ◌≡◌, ◌<◌, ◌≤◌, min, Bool, true, List, [], ◌∷◌, ◌++◌, length, map, Result, Err, refl, sym, ap, ◌∙◌, subst, arith}
 use Rattle.std.proofs.Math.Nat.{sub-zero}
 use Rattle.cob_data.specs.declared.end.Which.{Which}
 use Rattle.cob_data.specs.declared.end.Which.TheVariants.{Cells, Nodes}
 use Rattle.cob_program.specs.Act.{Program}
+use Rattle.cob_graph.specs.declared.end.FlowEnd.{FlowEnd}
 use Rattle.cob_graph.specs.declared.end.FlowEnd.TheVariants as end
 use Rattle.cob_runs.specs.declared.action.Cell.{Cell}
 use Rattle.cob_flow.specs.declared.counting.Entry.{Entry}
@@ -17,13 +18,15 @@ use Rattle.cob_flow.specs.Tables.{lay_paras, copy_in, is_in, size_in, main_paras
 use mathlib.Core.Path.{fun_ext}
 use Rattle.cob_flow.specs.Growing.{Seen, grown}
 use Rattle.cob_flow.proofs.Growth.{grown_more}
-use Rattle.cob_flow.proofs.Cuts.{counted_all, counted_more}
+use Rattle.cob_graph.proofs.InGraphs.{final_is}
+use Rattle.cob_flow.specs.Limits.{IsWithinLimits}
+use Rattle.cob_flow.proofs.Cuts.{counted_all, counted_more, counted_most}
 use Rattle.cob_flow.proofs.SizeLemmas.{table_sizes, table_laid, alike_paras, laid_paras}
 
 pub main_laid : (p : Program) (es : List Entry) (paras : ℕ) → IsTable p es → paras ≡ length p.paras → range_fits (is_in es) 0 (paras - 1) p 0 (paras - 0) ≡ true → IsMainCopy p (main_paras p es)
 main_laid p es paras h is fits =
     laid_paras p (is_in es) (copy_in p es) (table_laid p es h) 0 (last_para p) (length p.paras) 0
-      (subst (λ n. range_fits (is_in es) 0 (n - 1) p 0 n ≡ true) is (subst (λ n. range_fits (is_in es) 0 (paras - 1) p 0 n ≡ true) (sub-zero paras) fits))
+    (subst (λ n. range_fits (is_in es) 0 (n - 1) p 0 n ≡ true) is (subst (λ n. range_fits (is_in es) 0 (paras - 1) p 0 n ≡ true) (sub-zero paras) fits))
 
 module _ (p : Program) (es : List Entry) (paras sum count : ℕ) (h : IsTable p es) (is : paras ≡ length p.paras)
     (summed : sum ≡ min (range_size (size_in es) p 0 (paras - 0)) most_told) (counted : count ≡ min (1 + sum) most_told) where
@@ -90,14 +93,25 @@ module _ (p : Program) (es : List Entry) (paras nodes : ℕ) (is : paras ≡ len
 
 -- ---- limits
 
-pub over_nodes : {T : Type 0} (p : Program) (told : ℕ) → HasTooManyNodes p told → (which : Which) (count : ℕ) → Err {T = T} (end.Limit Nodes told) ≡ Err (end.Limit which count) → IsOver p which count
-over_nodes p told over which count same =
-    let one : Nodes ≡ which = cc in
-    let two : told ≡ count = cc in
-    subst (λ w. IsOver p w count) one (subst (λ n. HasTooManyNodes p n) two over)
+module _ {T : Type 0} (p : Program) (told_ : ℕ) (r : Result T FlowEnd) where
+  pub over_nodes : HasTooManyNodes p told_ → r ≡ Err (end.Limit Nodes told_) → (which : Which) (count : ℕ) → r ≡ Err (end.Limit which count) → IsOver p which count
+  over_nodes over is which count same =
+      let one : Nodes ≡ which = cc in
+      let two : told_ ≡ count = cc in
+      subst (λ w. IsOver p w count) one (subst (λ n. HasTooManyNodes p n) two over)
 
-pub over_cells : {T : Type 0} (p : Program) (told : ℕ) → HasTooManyCells p told → (which : Which) (count : ℕ) → Err {T = T} (end.Limit Cells told) ≡ Err (end.Limit which count) → IsOver p which count
-over_cells p told over which count same =
-    let one : Cells ≡ which = cc in
-    let two : told ≡ count = cc in
-    subst (λ w. IsOver p w count) one (subst (λ n. HasTooManyCells p n) two over)
+  pub over_cells : HasTooManyCells p told_ → r ≡ Err (end.Limit Cells told_) → (which : Which) (count : ℕ) → r ≡ Err (end.Limit which count) → IsOver p which count
+  over_cells over is which count same =
+      let one : Cells ≡ which = cc in
+      let two : told_ ≡ count = cc in
+      subst (λ w. IsOver p w count) one (subst (λ n. HasTooManyCells p n) two over)
+
+-- a graph that isn't over them
+pub in_limits : (p : Program) (es : List Entry) (g : Graph) (told_ : ℕ) → IsMainCopy p (main_paras p es) →
+    g.nodes ≡ map as_node (all_nodes p (main_paras p es)) → g.edges ≡ edges_of 1 (all_nodes p (main_paras p es)) → g.cells ≡ cells_of p →
+    told_ ≡ min (final_of (main_paras p es)) most_told → told_ ≤ 4096 → length (cells_of p) ≤ 512 → IsWithinLimits g
+in_limits p es g told_ laid nodes edges cells counted fits few = record {
+  cells = subst (λ n. n ≤ 512) (ap (λ cs. length cs) (sym cells)) few;
+  nodes = subst (λ n. n ≤ 4096) (final_is p g (record { copies = main_paras p es; laid = laid; nodes = nodes; edges = edges; cells = cells }))
+      (counted_most most_told told_ (final_of (main_paras p es)) 4096 counted (omega arith) fits);
+}

@@ -1,10 +1,14 @@
 mod CellLemmas
 mod Cuts
 mod Exact
+mod FileLemmas
 mod FlowLemmas
 mod Growth
+mod Heads
 mod LayLemmas
+mod ListLemmas
 mod Loops
 mod PlaceLemmas
 mod SizeLemmas
 mod SizeLoops
+mod WhenLemmas

@@ -76,8 +76,8 @@ pub no_copy : (p : Program) (es : List Entry) (first last : ℕ) → is_in es fi
 no_copy p [] first last = λ h. refl
 no_copy p (e ∷ es) first last =
     tests (is_for e first last)
-      (λ b. is_some (if b then Some e.size else told_size es first last) ≡ false → (if b then lay_paras p (copy_in p es) first (suc last - first) else copy_in p es first last) ≡ no_laid_paras)
-      (λ yes_ h. absurd (cc)) (λ no_ h. no_copy p es first last h)
+    (λ b. is_some (if b then Some e.size else told_size es first last) ≡ false → (if b then lay_paras p (copy_in p es) first (suc last - first) else copy_in p es first last) ≡ no_laid_paras)
+    (λ yes_ h. absurd (cc)) (λ no_ h. no_copy p es first last h)
 
 pub copy_first : (p : Program) (es : List Entry) (first last end at next told : ℕ) → end ≡ last + 1 →
     ((copies : ℕ → ℕ → LaidParas) → told ≡ first_of_paras (lay_paras p copies first (end - first)) at next) → is_in es first last ≡ true →
@@ -85,9 +85,9 @@ pub copy_first : (p : Program) (es : List Entry) (first last end at next told : 
 copy_first p [] first last end at next told is firsts = λ h. absurd (cc)
 copy_first p (e ∷ es) first last end at next told is firsts =
     tests (is_for e first last)
-      (λ b. is_some (if b then Some e.size else told_size es first last) ≡ true → told ≡ first_of_paras (if b then lay_paras p (copy_in p es) first (suc last - first) else copy_in p es first last) at next)
-      (λ yes_ h. firsts (copy_in p es) ∙ ap (λ n. first_of_paras (lay_paras p (copy_in p es) first (n - first)) at next) (is ∙ add-one last))
-      (λ no_ h. copy_first p es first last end at next told is firsts h)
+    (λ b. is_some (if b then Some e.size else told_size es first last) ≡ true → told ≡ first_of_paras (if b then lay_paras p (copy_in p es) first (suc last - first) else copy_in p es first last) at next)
+    (λ yes_ h. firsts (copy_in p es) ∙ ap (λ n. first_of_paras (lay_paras p (copy_in p es) first (n - first)) at next) (is ∙ add-one last))
+    (λ no_ h. copy_first p es first last end at next told is firsts h)
 
 pub list_full : (p : Program) (copies : ℕ → ℕ → LaidParas) (xs : List declared_stmt.Stmt) (at next : ℕ) → 0 < length xs → at ≡ first_of_list (lay_list p copies (plain_stmts xs)) at next
 list_full p copies [] at next h = absurd (omega arith)

@@ -30,13 +30,13 @@ module _ (p : Program) (cap : ℕ) (g : ℕ → ℕ → ℕ) (copies : ℕ → �
     alike_act (move x places) = refl
     alike_act (arith s targets remainder x fine) =
         alike_sum cap (1 + list_size_if g x) (1 + phrase_size (lay_phrase p copies x)) (stmts_size g fine) (list_size (lay_list p copies fine))
-          (alike_more cap 1 (list_size_if g x) (phrase_size (lay_phrase p copies x)) (alike_phrase x)) (alike_list fine)
+        (alike_more cap 1 (list_size_if g x) (phrase_size (lay_phrase p copies x)) (alike_phrase x)) (alike_list fine)
     alike_act (if_ t held other) =
         alike_sum cap (tests_in t + stmts_size g held) (tests_in t + list_size (lay_list p copies held)) (stmts_size g other) (list_size (lay_list p copies other))
-          (alike_more cap (tests_in t) (stmts_size g held) (list_size (lay_list p copies held)) (alike_list held)) (alike_list other)
+        (alike_more cap (tests_in t) (stmts_size g held) (list_size (lay_list p copies held)) (alike_list held)) (alike_list other)
     alike_act (evaluate ws other) =
         alike_sum cap (1 + stmt_whens_size g ws) (1 + whens_size (lay_whens p copies ws)) (stmts_size g other) (list_size (lay_list p copies other))
-          (alike_more cap 1 (stmt_whens_size g ws) (whens_size (lay_whens p copies ws)) (alike_whens ws)) (alike_list other)
+        (alike_more cap 1 (stmt_whens_size g ws) (whens_size (lay_whens p copies ws)) (alike_whens ws)) (alike_list other)
     alike_act (perform body turns) = alike_more cap (loop_nodes turns) (stmt_body_size g body) (body_size (lay_body p copies body)) (alike_body body)
     alike_act (go to) = refl
     alike_act nothing = refl
@@ -45,7 +45,7 @@ module _ (p : Program) (cap : ℕ) (g : ℕ → ℕ → ℕ) (copies : ℕ → �
     alike_act (close_files fs) = refl
     alike_act (read f into x fine) =
         alike_sum cap (1 + one_if (is_some into) + list_size_if g x) (1 + one_if (is_some into) + phrase_size (lay_phrase p copies x)) (stmts_size g fine) (list_size (lay_list p copies fine))
-          (alike_more cap (1 + one_if (is_some into)) (list_size_if g x) (phrase_size (lay_phrase p copies x)) (alike_phrase x)) (alike_list fine)
+        (alike_more cap (1 + one_if (is_some into)) (list_size_if g x) (phrase_size (lay_phrase p copies x)) (alike_phrase x)) (alike_list fine)
     alike_act (write r from) = refl
     alike_act (show xs) = refl
 
@@ -53,7 +53,7 @@ module _ (p : Program) (cap : ℕ) (g : ℕ → ℕ → ℕ) (copies : ℕ → �
     alike_whens no_whens = refl
     alike_whens (more_whens (MkWhen ts ss) ws) =
         alike_sum cap (tests_among (logics_of ts) + stmts_size g ss) (tests_among (logics_of ts) + list_size (lay_list p copies ss)) (stmt_whens_size g ws) (whens_size (lay_whens p copies ws))
-          (alike_more cap (tests_among (logics_of ts)) (stmts_size g ss) (list_size (lay_list p copies ss)) (alike_list ss)) (alike_whens ws)
+        (alike_more cap (tests_among (logics_of ts)) (stmts_size g ss) (list_size (lay_list p copies ss)) (alike_list ss)) (alike_whens ws)
 
     pub alike_body : (b : Body) → Alike cap (stmt_body_size g b) (body_size (lay_body p copies b))
     alike_body (range first last) = same first last
@@ -63,7 +63,7 @@ module _ (p : Program) (cap : ℕ) (g : ℕ → ℕ → ℕ) (copies : ℕ → �
   alike_paras zero from = refl
   alike_paras (suc n) from =
       alike_sum cap (stmts_size g (body_at p from)) (list_size (lay_list p copies (body_at p from))) (range_size g p (suc from) n) (paras_size (lay_paras p copies (suc from) n))
-        (alike_list (body_at p from)) (alike_paras n (suc from))
+      (alike_list (body_at p from)) (alike_paras n (suc from))
 
 -- ---- what fits is laid
 
@@ -134,8 +134,8 @@ entry_fits p es e h = (and_parts (range_fits (is_in es) e.first e.last p e.first
 entry_told : (p : Program) (es : List Entry) (e : Entry) → IsTable p (e ∷ es) → e.size ≡ min (range_size (size_in es) p e.first (suc e.last - e.first)) most_told
 entry_told p es e h =
     eqb-true e.size (min (range_size (size_in es) p e.first (suc e.last - e.first)) most_told)
-      (and_parts (range_fits (is_in es) e.first e.last p e.first (suc e.last - e.first)) (e.size == min (range_size (size_in es) p e.first (suc e.last - e.first)) most_told)
-        (and_parts (is_entry p es e) (is_table p es) h).0).1
+    (and_parts (range_fits (is_in es) e.first e.last p e.first (suc e.last - e.first)) (e.size == min (range_size (size_in es) p e.first (suc e.last - e.first)) most_told)
+    (and_parts (is_entry p es e) (is_table p es) h).0).1
 
 pub others : (p : Program) (es : List Entry) (e : Entry) → IsTable p (e ∷ es) → IsTable p es
 others p es e h = (and_parts (is_entry p es e) (is_table p es) h).1
@@ -144,22 +144,22 @@ pub table_sizes : (p : Program) (es : List Entry) → IsTable p es → (first la
 table_sizes p [] h first last = refl
 table_sizes p (e ∷ es) h first last =
     entry_cases (is_for e first last)
-      (λ b. Alike most_told (option_map_or (λ n. n) (if b then Some e.size else told_size es first last) 0)
-          (paras_size (if b then lay_paras p (copy_in p es) first (suc last - first) else copy_in p es first last)))
-      (λ yes_. its_own e first last (λ f l. Alike most_told e.size (paras_size (lay_paras p (copy_in p es) f (suc l - f)))) yes_
-          (twice_cut e.size (range_size (size_in es) p e.first (suc e.last - e.first)) most_told (entry_told p es e h)
-            ∙ alike_paras p most_told (size_in es) (copy_in p es) (table_sizes p es (others p es e h)) (suc e.last - e.first) e.first))
-      (λ no_. table_sizes p es (others p es e h) first last)
+    (λ b. Alike most_told (option_map_or (λ n. n) (if b then Some e.size else told_size es first last) 0)
+    (paras_size (if b then lay_paras p (copy_in p es) first (suc last - first) else copy_in p es first last)))
+    (λ yes_. its_own e first last (λ f l. Alike most_told e.size (paras_size (lay_paras p (copy_in p es) f (suc l - f)))) yes_
+    (twice_cut e.size (range_size (size_in es) p e.first (suc e.last - e.first)) most_told (entry_told p es e h)
+    ∙ alike_paras p most_told (size_in es) (copy_in p es) (table_sizes p es (others p es e h)) (suc e.last - e.first) e.first))
+    (λ no_. table_sizes p es (others p es e h) first last)
 
 pub table_laid : (p : Program) (es : List Entry) → IsTable p es → (first last : ℕ) → is_in es first last ≡ true → AreLaidParas p first last first (suc last - first) (copy_in p es first last)
 table_laid p [] h first last = λ it. absurd (cc)
 table_laid p (e ∷ es) h first last =
     entry_cases (is_for e first last)
-      (λ b. is_some (if b then Some e.size else told_size es first last) ≡ true →
-          AreLaidParas p first last first (suc last - first) (if b then lay_paras p (copy_in p es) first (suc last - first) else copy_in p es first last))
-      (λ yes_ it. its_own e first last (λ f l. AreLaidParas p f l f (suc l - f) (lay_paras p (copy_in p es) f (suc l - f))) yes_
-          (laid_paras p (is_in es) (copy_in p es) (table_laid p es (others p es e h)) e.first e.last (suc e.last - e.first) e.first (entry_fits p es e h)))
-      (λ no_ it. table_laid p es (others p es e h) first last it)
+    (λ b. is_some (if b then Some e.size else told_size es first last) ≡ true →
+    AreLaidParas p first last first (suc last - first) (if b then lay_paras p (copy_in p es) first (suc last - first) else copy_in p es first last))
+    (λ yes_ it. its_own e first last (λ f l. AreLaidParas p f l f (suc l - f) (lay_paras p (copy_in p es) f (suc l - f))) yes_
+    (laid_paras p (is_in es) (copy_in p es) (table_laid p es (others p es e h)) e.first e.last (suc e.last - e.first) e.first (entry_fits p es e h)))
+    (λ no_ it. table_laid p es (others p es e h) first last it)
 
 -- one more entry
 pub one_more : (p : Program) (es : List Entry) (e : Entry) (end : ℕ) → end ≡ e.last + 1 → range_fits (is_in es) e.first e.last p e.first (end - e.first) ≡ true →
@@ -167,11 +167,11 @@ pub one_more : (p : Program) (es : List Entry) (e : Entry) (end : ℕ) → end �
 one_more p es e end is fits told rest =
     let till : end ≡ suc e.last = is ∙ add-one e.last in
     and_from (is_entry p es e) (is_table p es)
-      (and_from (range_fits (is_in es) e.first e.last p e.first (suc e.last - e.first)) (e.size == min (range_size (size_in es) p e.first (suc e.last - e.first)) most_told)
-        (subst (λ n. range_fits (is_in es) e.first e.last p e.first (n - e.first) ≡ true) till fits)
-        (eq-eqb e.size (min (range_size (size_in es) p e.first (suc e.last - e.first)) most_told)
-          (told ∙ ap (λ n. min (range_size (size_in es) p e.first (n - e.first)) most_told) till)))
-      rest
+    (and_from (range_fits (is_in es) e.first e.last p e.first (suc e.last - e.first)) (e.size == min (range_size (size_in es) p e.first (suc e.last - e.first)) most_told)
+    (subst (λ n. range_fits (is_in es) e.first e.last p e.first (n - e.first) ≡ true) till fits)
+    (eq-eqb e.size (min (range_size (size_in es) p e.first (suc e.last - e.first)) most_told)
+    (told ∙ ap (λ n. min (range_size (size_in es) p e.first (n - e.first)) most_told) till)))
+    rest
 
 -- ---- the copy of a range, by the table behind its entry
 
@@ -183,12 +183,12 @@ pub copy_is : (p : Program) (es : List Entry) (first last : ℕ) → copy_in p e
 copy_is p [] first last = refl
 copy_is p (e ∷ es) first last =
     entry_cases (is_for e first last)
-      (λ b. (if b then lay_paras p (copy_in p es) first (suc last - first) else copy_in p es first last) ≡ copy_behind p first last (if b then Some es else rest_in es first last))
-      (λ yes_. refl) (λ no_. copy_is p es first last)
+    (λ b. (if b then lay_paras p (copy_in p es) first (suc last - first) else copy_in p es first last) ≡ copy_behind p first last (if b then Some es else rest_in es first last))
+    (λ yes_. refl) (λ no_. copy_is p es first last)
 
 pub rest_is_table : (p : Program) (es rest : List Entry) (first last : ℕ) → IsTable p es → rest_in es first last ≡ Some rest → IsTable p rest
 rest_is_table p [] rest first last h = λ it. absurd (cc)
 rest_is_table p (e ∷ es) rest first last h =
     entry_cases (is_for e first last) (λ b. (if b then Some es else rest_in es first last) ≡ Some rest → IsTable p rest)
-      (λ yes_ it. subst (λ xs. IsTable p xs) (some_is es rest it) (others p es e h))
-      (λ no_ it. rest_is_table p es rest first last (others p es e h) it)
+    (λ yes_ it. subst (λ xs. IsTable p xs) (some_is es rest it) (others p es e h))
+    (λ no_ it. rest_is_table p es rest first last (others p es e h) it)

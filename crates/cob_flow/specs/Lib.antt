@@ -3,3 +3,4 @@ pub mod Steps
 pub mod Sizes
 pub mod Tables
 pub mod Growing
+pub mod Limits

@@ -7,8 +7,8 @@ ghost use Rattle.cob_flow.specs.Steps.{stmt_counters, when_counters};
 ghost use Rattle.cob_graph.specs.Graphs.{cell, cell_of, if_named, item_cells, counters_of, counters, counters_in, whens_counters, body_counters, para_counters, cells_of};
 
 use cob_data::Item;
-use cob_runs::Cell;
 use cob_program::{Act, Body, Para, Program, Stmt, Turns, When};
+use cob_runs::Cell;
 use cob_tree::Form;
 use std::alloc::{AllocError, Global};
 
@@ -131,7 +131,9 @@ fn add_act(cells: &mut Vec<Cell>, act: &Act) -> Result<(), AllocError>
 {
     match act {
         Act::Arith {
-            size: None, fine, ..
+            size: None,
+            fine,
+            ..
         } => add_stmts(cells, fine),
         Act::Arith {
             size: Some(list),
@@ -154,7 +156,9 @@ fn add_act(cells: &mut Vec<Cell>, act: &Act) -> Result<(), AllocError>
             add_body(cells, body)
         }
         Act::Read {
-            end: None, fine, ..
+            end: None,
+            fine,
+            ..
         } => add_stmts(cells, fine),
         Act::Read {
             end: Some(list),

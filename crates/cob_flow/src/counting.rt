@@ -1,7 +1,6 @@
 //! How many nodes the statements of a program have. A table tells the number for each performed range, in the order
 //! in which they are known, so that nested copies take no more work than what performs them.
 ghost use Rattle.std.specs.Prelude.{◌≡◌, ◌+◌, ◌-◌, min, IfOk, OnOk};
-
 ghost use Rattle.cob_program.specs.ActView.{plain_act, plain_body, plain_stmt, plain_when, plain_turns, plain_program};
 ghost use Rattle.cob_program.specs.LogicView.{plain_logic};
 ghost use Rattle.cob_runs.specs.Steps.{body_at};
@@ -137,7 +136,9 @@ fn act_size(table: &[Entry], act: &Act) -> u64
 {
     match act {
         Act::Arith {
-            size: None, fine, ..
+            size: None,
+            fine,
+            ..
         } => plus(1, stmts_size(table, fine)),
         Act::Arith {
             size: Some(list),
@@ -167,10 +168,7 @@ fn act_size(table: &[Entry], act: &Act) -> u64
             fine,
             ..
         } => plus(
-            plus(
-                plus(1, one_if(into.is_some())),
-                stmts_size(table, list),
-            ),
+            plus(plus(1, one_if(into.is_some())), stmts_size(table, list)),
             stmts_size(table, fine),
         ),
         Act::Write { from, .. } => plus(1, one_if(from.is_some())),
@@ -262,11 +260,11 @@ fn act_fits(table: &[Entry], lo: u32, hi: u32, act: &Act) -> bool
             ..
         } => stmts_fit(table, lo, hi, list) && stmts_fit(table, lo, hi, fine),
         Act::Arith {
-            size: None, fine, ..
+            size: None,
+            fine,
+            ..
         } => stmts_fit(table, lo, hi, fine),
-        Act::If { yes, no, .. } => {
-            stmts_fit(table, lo, hi, yes) && stmts_fit(table, lo, hi, no)
-        }
+        Act::If { yes, no, .. } => { stmts_fit(table, lo, hi, yes) && stmts_fit(table, lo, hi, no) }
         Act::Evaluate { whens, other } => {
             whens_fit(table, lo, hi, whens) && stmts_fit(table, lo, hi, other)
         }
@@ -278,7 +276,9 @@ fn act_fits(table: &[Entry], lo: u32, hi: u32, act: &Act) -> bool
             ..
         } => stmts_fit(table, lo, hi, list) && stmts_fit(table, lo, hi, fine),
         Act::Read {
-            end: None, fine, ..
+            end: None,
+            fine,
+            ..
         } => stmts_fit(table, lo, hi, fine),
         _ => true,
     }
@@ -314,14 +314,7 @@ fn body_fits(table: &[Entry], lo: u32, hi: u32, body: &Body) -> bool
 }
 
 /// Whether the paragraphs from one up to, but not including, another, make a copy whose GO TOs go from `lo` to `hi`.
-pub fn range_fits(
-    program: &Program,
-    table: &[Entry],
-    lo: u32,
-    hi: u32,
-    from: u32,
-    end: u32,
-) -> bool
+pub fn range_fits(program: &Program, table: &[Entry], lo: u32, hi: u32, from: u32, end: u32) -> bool
     ensures { result ≡ range_fits (is_in table.now) lo hi (plain_program program.now) from (end - from) }
 {
     for place in from..end {
@@ -378,11 +371,7 @@ struct Range {
     last: u32,
 }
 
-fn add_once(
-    program: &Program,
-    table: &mut Vec<Entry>,
-    ranges: &[Range],
-) -> Result<(), AllocError>
+fn add_once(program: &Program, table: &mut Vec<Entry>, ranges: &[Range]) -> Result<(), AllocError>
     ensures { OnOk result (IsTable (plain_program program.now) table.old.items → IsTable (plain_program program.now) table.new.items) }
 {
     for range in ranges {
@@ -391,11 +380,7 @@ fn add_once(
     Ok(())
 }
 
-fn add_all(
-    program: &Program,
-    table: &mut Vec<Entry>,
-    ranges: &[Range],
-) -> Result<(), AllocError>
+fn add_all(program: &Program, table: &mut Vec<Entry>, ranges: &[Range]) -> Result<(), AllocError>
     ensures { OnOk result (IsTable (plain_program program.now) table.old.items → IsTable (plain_program program.now) table.new.items) }
 {
     for _ in 0..ranges.len() {
@@ -422,10 +407,14 @@ fn ranges_in(ranges: &mut Vec<Range>, list: &[Stmt]) -> Result<(), AllocError> {
 fn ranges_of(ranges: &mut Vec<Range>, act: &Act) -> Result<(), AllocError> {
     match act {
         Act::Arith {
-            size: None, fine, ..
+            size: None,
+            fine,
+            ..
         }
         | Act::Read {
-            end: None, fine, ..
+            end: None,
+            fine,
+            ..
         } => ranges_in(ranges, fine),
         Act::Arith {
             size: Some(list),

@@ -6,19 +6,19 @@ ghost use Rattle.cob_program.specs.ActView.{plain_program};
 ghost use Rattle.cob_graph.specs.declared.end.FlowEnd.TheVariants as end;
 ghost use Rattle.cob_graph.specs.Nesting.{IsNested};
 ghost use Rattle.cob_graph.specs.Graphs.{final_of, all_nodes, as_node, edges_of, cells_of, IsGraph, IsOver};
+ghost use Rattle.cob_flow.specs.Limits.{IsWithinLimits};
 ghost use Rattle.cob_flow.specs.Sizes.{range_fits};
 ghost use Rattle.cob_flow.specs.Tables.{is_in, main_paras, IsTable};
 
 use crate::cells::cells_of;
 use crate::counting::{Entry, plus, range_fits, range_size, table_of};
-use cob_graph::FlowEnd;
-use cob_graph::{Edge, Graph, Node};
 use crate::laying::Laying;
 use crate::numbers::exact;
 use crate::within::Within;
 use cob_data::Which;
-use cob_runs::Cell;
+use cob_graph::{Edge, FlowEnd, Graph, Node};
 use cob_program::Program;
+use cob_runs::Cell;
 use cob_tree::Many;
 use std::alloc::{AllocError, Global};
 
@@ -30,14 +30,6 @@ const MOST_NODES: u64 = 4096;
 
 /// How deep calls are nested at most while nodes are laid.
 const DEPTH: u32 = 40_000;
-
-impl From<AllocError> for FlowEnd {
-    ghost from_gives = { λ _ e. e ≡ end.Memory };
-
-    fn from(_failed: AllocError) -> FlowEnd {
-        FlowEnd::Memory
-    }
-}
 
 /// The nodes and edges of a program with so many paragraphs and nodes.
 fn lay_all(
@@ -83,6 +75,7 @@ fn graph_with(
     requires cells { cells.items ≡ cells_of (plain_program program.now) }
     requires few { length cells.items ≤ 512 }
     ensures graph { IfOk result (λ g. IsGraph (plain_program program.now) g) }
+    ensures within { IfOk result (λ g. IsWithinLimits g) }
     ensures limit { (which : Which) (count : ℕ) → result ≡ Err (end.Limit which count) → IsOver (plain_program program.now) which count }
     ensures inside { (rule : Rule) (line : ℕ) → result ≡ Err (end.Outside rule line) → ⊥ }
 {
@@ -93,7 +86,12 @@ fn graph_with(
             count,
         });
     }
-    let (nodes, edges) = lay_all(alloc, program, table, paras, exact(count)?)?;
+    let Ok(last) = exact(count) else {
+        return Err(FlowEnd::Memory);
+    };
+    let Ok((nodes, edges)) = lay_all(alloc, program, table, paras, last) else {
+        return Err(FlowEnd::Memory);
+    };
     Ok(Graph {
         nodes,
         edges,
@@ -102,20 +100,18 @@ fn graph_with(
 }
 
 /// The graph with these cells.
-fn laid(
-    alloc: Global,
-    program: &Program,
-    cells: Vec<Cell>,
-    paras: u32,
-) -> Result<Graph, FlowEnd>
+fn laid(alloc: Global, program: &Program, cells: Vec<Cell>, paras: u32) -> Result<Graph, FlowEnd>
     requires paras { paras ≡ length (plain_program program.now).paras }
     requires cells { cells.items ≡ cells_of (plain_program program.now) }
     requires few { length cells.items ≤ 512 }
     ensures graph { IfOk result (λ g. IsGraph (plain_program program.now) g) }
+    ensures within { IfOk result (λ g. IsWithinLimits g) }
     ensures limit { (which : Which) (count : ℕ) → result ≡ Err (end.Limit which count) → IsOver (plain_program program.now) which count }
     ensures inside { (rule : Rule) (line : ℕ) → result ≡ Err (end.Outside rule line) → ⊥ }
 {
-    let table = table_of(alloc, program)?;
+    let Ok(table) = table_of(alloc, program) else {
+        return Err(FlowEnd::Memory);
+    };
     if range_fits(program, &table, 0, paras.saturating_sub(1), 0, paras) {
         graph_with(alloc, program, cells, &table, paras)
     } else {
@@ -133,13 +129,18 @@ fn count_paras(program: &Program) -> Result<u32, AllocError>
     }
 }
 
-/// The graph of a program, where each performed range can be copied.
-pub fn graph_in(alloc: Global, program: &Program) -> Result<Graph, FlowEnd>
+/// The control graph of a program whose PERFORMs nest, where its cells and nodes are within the limits. A GO TO to no
+/// paragraph at all counts as want of memory, and so do calls that would be nested too deep for the stack.
+pub fn graph_of(alloc: Global, program: &Program) -> Result<Graph, FlowEnd>
+    requires { IsNested (plain_program program.now) }
     ensures graph { IfOk result (λ g. IsGraph (plain_program program.now) g) }
+    ensures within { IfOk result (λ g. IsWithinLimits g) }
     ensures limit { (which : Which) (count : ℕ) → result ≡ Err (end.Limit which count) → IsOver (plain_program program.now) which count }
     ensures inside { (rule : Rule) (line : ℕ) → result ≡ Err (end.Outside rule line) → ⊥ }
 {
-    let cells = cells_of(alloc, program)?;
+    let Ok(cells) = cells_of(alloc, program) else {
+        return Err(FlowEnd::Memory);
+    };
     let count = cells.len() as u64;
     if count > MOST_CELLS {
         return Err(FlowEnd::Limit {
@@ -147,17 +148,8 @@ pub fn graph_in(alloc: Global, program: &Program) -> Result<Graph, FlowEnd>
             count,
         });
     }
-    let paras = count_paras(program)?;
+    let Ok(paras) = count_paras(program) else {
+        return Err(FlowEnd::Memory);
+    };
     laid(alloc, program, cells, paras)
-}
-
-/// The control graph of a program whose PERFORMs nest. A GO TO to no paragraph at all counts as want of memory, and so
-/// do calls that would be nested too deep for the stack.
-pub fn graph_of(alloc: Global, program: &Program) -> Result<Graph, FlowEnd>
-    requires { IsNested (plain_program program.now) }
-    ensures graph { IfOk result (λ g. IsGraph (plain_program program.now) g) }
-    ensures limit { (which : Which) (count : ℕ) → result ≡ Err (end.Limit which count) → IsOver (plain_program program.now) which count }
-    ensures inside { (rule : Rule) (line : ℕ) → result ≡ Err (end.Outside rule line) → ⊥ }
-{
-    graph_in(alloc, program)
 }

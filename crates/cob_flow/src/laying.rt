@@ -6,14 +6,13 @@ ghost use Rattle.cob_graph.specs.Nodes.{node, test_edges, logic_nodes, all_nodes
 ghost use Rattle.cob_graph.specs.Graphs.{edges_from, final_node};
 ghost use Rattle.cob_flow.specs.Growing.{grown, copied_of};
 
-
 use crate::counting::tests_in;
-use cob_graph::{Edge, Node};
 use crate::numbers::{exact, less, sum_of};
 use crate::places::{first_of_all, first_of_any};
 use crate::within::Within;
-use cob_runs::Action;
+use cob_graph::{Edge, Node};
 use cob_program::{Logic, Test};
+use cob_runs::Action;
 use cob_tree::Many;
 use std::alloc::{AllocError, Global};
 use std::marker::Model;
@@ -53,11 +52,7 @@ fn number_of(place: usize) -> Result<u32, AllocError>
     }
 }
 
-fn add_edges(
-    edges: &mut Vec<Edge>,
-    from: u32,
-    out: &[(Action, u32)],
-) -> Result<(), AllocError>
+fn add_edges(edges: &mut Vec<Edge>, from: u32, out: &[(Action, u32)]) -> Result<(), AllocError>
     ensures { OnOk result (edges.new.items ≡ edges.old.items ++ edges_from from out.now) }
 {
     for (action, to) in out {

@@ -9,9 +9,9 @@ mod laying;
 mod numbers;
 mod places;
 mod statements;
-mod within;
 #[cfg(test)]
 mod tests;
+mod within;
 
 pub use cob_graph::{Edge, FlowEnd, Graph, Node, nested};
 pub use flow::graph_of;

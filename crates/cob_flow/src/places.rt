@@ -11,7 +11,9 @@ ghost use Rattle.cob_graph.specs.Nodes.{bad_to, end_to};
 ghost use Rattle.cob_flow.specs.Tables.{lay_stmt, lay_list, lay_phrase, lay_whens, lay_body, lay_paras};
 ghost use Rattle.cob_flow.specs.Growing.{plan, copies_of, copied_of};
 
-use crate::counting::{body_at, body_size, is_in, stmt_size, stmts_size, tests_among, tests_in, whens_size};
+use crate::counting::{
+    body_at, body_size, is_in, stmt_size, stmts_size, tests_among, tests_in, whens_size,
+};
 use crate::numbers::{exact, less, sum_of};
 use crate::within::Within;
 use cob_data::Layout;
@@ -85,17 +87,17 @@ impl<'a> Within<'a> {
     {
         match body {
             Body::Range { first, last } => self.first_of_copy(*first, *last, at, next),
-            Body::Inline(list) => Ok(first_of_list(list, at, next)),
+            Body::Inline(list) => Ok(self.first_of_own(list, at, next)),
         }
     }
 
-    fn first_of_copy(
-        &self,
-        first: u32,
-        last: u32,
-        at: u32,
-        next: u32,
-    ) -> Result<u32, AllocError>
+    fn first_of_own(&self, list: &[Stmt], at: u32, next: u32) -> u32
+        ensures { result ≡ first_of_list (lay_list (plan self.now) (copies_of self.now) (plain_stmts list.now)) at next }
+    {
+        first_of_list(list, at, next)
+    }
+
+    fn first_of_copy(&self, first: u32, last: u32, at: u32, next: u32) -> Result<u32, AllocError>
         ensures { IfOk result (λ n. n ≡ first_of_paras (copies_of self.now first last) at next) }
     {
         if is_in(self.table, first, last) {
@@ -261,9 +263,12 @@ pub fn inner_at(turns: &Turns, at: u32) -> Result<u32, AllocError>
             sum_of(at, 1)
         }
         Turns::Times(_) => sum_of(at, 2),
-        Turns::Until { after: false, test } | Turns::Varying { after: false, test, .. } => {
-            sum_of(sum_of(at, 1)?, exact(tests_in(test))?)
-        }
+        Turns::Until { after: false, test }
+        | Turns::Varying {
+            after: false,
+            test,
+            ..
+        } => { sum_of(sum_of(at, 1)?, exact(tests_in(test))?) }
     }
 }
 
@@ -273,9 +278,8 @@ pub fn tests_at(turns: &Turns, at: u32, size: u32) -> Result<u32, AllocError>
 {
     match turns {
         Turns::Once => Ok(at),
-        Turns::Times(_)
-        | Turns::Until { after: false, .. }
-        | Turns::Varying { after: false, .. } => sum_of(at, 1),
+        Turns::Times(_) | Turns::Until { after: false, .. } | Turns::Varying { after: false, .. } =>
+            sum_of(at, 1),
         Turns::Until { after: true, .. } | Turns::Varying { after: true, .. } => {
             sum_of(sum_of(at, 1)?, size)
         }
@@ -290,10 +294,14 @@ pub fn augment_at(turns: &Turns, at: u32, size: u32) -> Result<u32, AllocError>
         Turns::Once | Turns::Until { .. } => Ok(at),
         Turns::Times(_) => sum_of(sum_of(at, 2)?, size),
         Turns::Varying {
-            after: false, test, ..
+            after: false,
+            test,
+            ..
         } => sum_of(sum_of(sum_of(at, 1)?, exact(tests_in(test))?)?, size),
         Turns::Varying {
-            after: true, test, ..
+            after: true,
+            test,
+            ..
         } => sum_of(sum_of(sum_of(at, 1)?, size)?, exact(tests_in(test))?),
     }
 }

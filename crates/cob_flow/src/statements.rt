@@ -20,8 +20,8 @@ use crate::numbers::{exact, less, sum_of};
 use crate::places::{body_next, first_of_list, first_of_range, inner_at};
 use crate::within::Within;
 use cob_data::Layout;
-use cob_runs::Action;
 use cob_program::{Act, Body, Logic, Opening, Stmt, Turns, When};
+use cob_runs::Action;
 use std::alloc::AllocError;
 
 /// The file of a record, 0 where it is none's.
@@ -191,7 +191,12 @@ impl Laying {
             None => self.lay_one(within, number, Action::Done, fine),
             Some(list) => {
                 let failed = first_of_list(list, size_at, next);
-                self.add(within, number, true, &[(Action::Done, fine), (Action::Size, failed)])
+                self.add(
+                    within,
+                    number,
+                    true,
+                    &[(Action::Done, fine), (Action::Size, failed)],
+                )
             }
         }
     }
@@ -239,7 +244,9 @@ impl Laying {
                 self.lay_logic(within, number, true, test, fork, left)
             }
             Turns::Varying {
-                after: false, test, ..
+                after: false,
+                test,
+                ..
             } => {
                 self.lay_one(within, number, Action::Assign, begin)?;
                 let fork = Fork {
@@ -285,7 +292,9 @@ impl Laying {
                 self.lay_logic(within, number, true, test, fork, left)
             }
             Turns::Varying {
-                after: true, test, ..
+                after: true,
+                test,
+                ..
             } => {
                 let tests_at = sum_of(begin, size)?;
                 let tests = exact(tests_in(test))?;
@@ -380,7 +389,15 @@ impl Laying {
             Act::Go(to) => self.lay_one(within, number, Action::Skip, within.para_node(*to)?),
             Act::Stop => self.lay_one(within, number, Action::Skip, within.final_node),
             Act::OpenFiles(files) => self.lay_opens(within, number, true, files.get(), 0, at, next),
-            Act::CloseFiles(files) => self.lay_closes(within, number, true, files.get(), 0, at, next),
+            Act::CloseFiles(files) => self.lay_closes(
+                within,
+                number,
+                true,
+                files.get(),
+                0,
+                at,
+                next,
+            ),
             Act::Write { rec, from } => {
                 let file = file_of(&within.program.layout, *rec)?;
                 self.lay_write(within, number, file, from.is_some(), at, next)

@@ -8,7 +8,7 @@ pub add_stmts-loop-stmt-preserved : goal.add_stmts-loop-stmt-preserved
 add_stmts-loop-stmt-preserved t c =
     let l = c.loop-stmt in
     added _ _ _ (counters (stmts_from c.args.list.now (l.stmt-index + 1))) _ _ c.in_ok-add_stmt.ensures
-      (counters_step c.args.list.now l.stmt-index c.stmt-item.result c.loop-stmt-test.true c.stmt-item.is) l.invariant
+    (counters_step c.args.list.now l.stmt-index c.stmt-item.result c.loop-stmt-test.true c.stmt-item.is) l.invariant
 
 pub add_stmts-returns : goal.add_stmts-returns
 add_stmts-returns t c =
@@ -19,7 +19,7 @@ pub add_whens-loop-when-preserved : goal.add_whens-loop-when-preserved
 add_whens-loop-when-preserved t c =
     let l = c.loop-when in
     added _ _ _ (whens_counters (whens_from c.args.whens.now (l.when-index + 1))) _ _ c.in_ok-add_when.ensures
-      (whens_counters_step c.args.whens.now l.when-index c.when-item.result c.loop-when-test.true c.when-item.is) l.invariant
+    (whens_counters_step c.args.whens.now l.when-index c.when-item.result c.loop-when-test.true c.when-item.is) l.invariant
 
 pub add_whens-returns : goal.add_whens-returns
 add_whens-returns t c =

@@ -1,4 +1,15 @@
+use Rattle.std.proofs.Common.{◌≡◌, ◌-◌}
+use Rattle.cob_graph.specs.Nodes.{paras_nodes}
+use Rattle.cob_flow.specs.Tables.{lay_paras}
+use Rattle.cob_flow.specs.Growing.{grown, plan, copies_of, paras_of, copied_of}
 use Rattle.cob_flow.proofs.laying.Laying.+lists.Given as goal
+
+-- what is laid, and what is left of the paragraphs behind it, is the whole
+abbrev pub invariant-lay_paras-loop-place : goal.invariant-lay_paras-loop-place
+invariant-lay_paras-loop-place l =
+    grown l.self (paras_nodes (copied_of l.within)
+    (lay_paras (plan l.within) (copies_of l.within) l.place (l.within.end - l.place)) l.at l.within.next)
+    ≡ grown l.initial.self (paras_nodes (copied_of l.within) (paras_of l.within) l.within.at l.within.next)
 
 abbrev pub decreases-lay_list : goal.decreases-lay_list
 decreases-lay_list l = l.left
