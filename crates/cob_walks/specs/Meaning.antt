@@ -1,5 +1,5 @@
 -- What each part of an edge does to storage and counters, and the fault that it meets.
-use Rattle.std.specs.Prelude.{◌≡◌, ℕ, zero, suc, ◌-◌, ◌==◌, ◌||◌, if◌then◌else◌, Bool, true, false, not, List, [], ◌∷◌, length, slice_get, slice_set, Option, Some, None, Ok, ℤ, pos, ◌-ℤ◌, unsigned_abs}
+use Rattle.std.specs.Prelude.{◌≡◌, ℕ, zero, suc, ◌-◌, ◌==◌, ◌||◌, ◌⊎◌, if◌then◌else◌, Bool, true, false, not, List, [], ◌∷◌, length, slice_get, slice_set, Option, Some, None, Ok, ℤ, pos, ◌-ℤ◌, unsigned_abs}
 use Rattle.std.specs.Option.{option_map, option_map_or}
 use Rattle.dec_num.specs.declared.types.Mode.{Mode}
 use Rattle.dec_num.specs.declared.types.Scaled.{Scaled}
@@ -174,8 +174,7 @@ module _ (l : Layout) where
     PassesAll [] m n = n ≡ m
     PassesAll (x ∷ xs) m n = (next : Moment) × Passes handled x m next × PassesAll xs next n
 
-    -- a part meets the fault, behind those that are passed
-    pub data Meets : List Part → Moment → Kind → Type 0 where
-      here : {xs : List Part} {m : Moment} {fault : Kind} (x : Part) → Faults handled x m fault → Meets (x ∷ xs) m fault
-      later : {xs : List Part} {m : Moment} {fault : Kind} (x : Part) (next : Moment) → Passes handled x m next
-          → Meets xs next fault → Meets (x ∷ xs) m fault
+    -- a part meets the fault, or is passed and one behind it does
+    abbrev pub Meets : List Part → Moment → Kind → Type 0
+    Meets [] m fault = ⊥
+    Meets (x ∷ xs) m fault = Faults handled x m fault ⊎ ((next : Moment) × Passes handled x m next × Meets xs next fault)
