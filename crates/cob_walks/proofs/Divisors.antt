@@ -214,10 +214,6 @@ true_head : (b c : Bool) → not (not (if b then false else false) || c) ≡ fal
 true_head true c = refl
 true_head false c = refl
 
-always_or : (b : Bool) → true ≡ list_all (λ (c : Bool). c) (if b then true ∷ [] else [])
-always_or true = refl
-always_or false = refl
-
 -- some receiver divides by u, or all are fine by d
 any_divides : (u d : Bool) (t : Target) (ts : List Target) → (u ≡ true → d ≡ true) →
     not (list_any (λ x. not (if is_under x.how then u else d)) (t ∷ ts))

@@ -1,3 +1,4 @@
 mod Passing
 mod Booleans
 mod Divisors
+mod Moving

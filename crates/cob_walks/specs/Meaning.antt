@@ -88,6 +88,25 @@ is_positive _ = false
 abbrev pub divides_by : (ℕ → Scaled) → Atom → Bool
 divides_by worth_ a = option_map_or (λ v. not (unsigned_abs v.units == 0)) (atom_value worth_ a) false
 
+-- the fault where a receiver doesn't hold it
+abbrev pub misfit_of : Amount → Kind
+misfit_of (moved x) = kind.Truncation
+misfit_of _ = kind.Size
+
+-- A remainder is left alone where the quotient doesn't fit.
+abbrev pub is_left_alone : Moment → Amount → Bool
+is_left_alone m (remaining s scale) = m.by_zero || m.failed
+is_left_alone m _ = m.by_zero
+
+-- ---- areas that change
+
+-- what stood in an area, or other bytes of its length
+abbrev pub changed_in : Option (List ℕ) → ℕ → ℕ → List ℕ → List ℕ
+changed_in None offset count storage = storage
+changed_in (Some bytes) offset count storage = if length bytes == count then written storage offset bytes else storage
+
+-- ---- parts
+
 module _ (l : Layout) where
   -- the exact value, where no divisor is 0
   abbrev pub amount : Moment → Amount → Option Fraction
@@ -100,26 +119,10 @@ module _ (l : Layout) where
   abbrev pub stored_bytes : Moment → ℕ → Mode → Amount → Option (List ℕ)
   stored_bytes m place mode a = amount m a >>= stored mode (form_at l place)
 
-  abbrev pub misfit_of : Amount → Kind
-  misfit_of (moved x) = kind.Truncation
-  misfit_of _ = kind.Size
-
-  -- A remainder is left alone where the quotient doesn't fit.
-  abbrev pub is_left_alone : Moment → Amount → Bool
-  is_left_alone m (remaining s scale) = m.by_zero || m.failed
-  is_left_alone m _ = m.by_zero
-
   -- what doesn't fit leaves the receiver as it is
   abbrev pub stored_or_kept : Moment → ℕ → Option (List ℕ) → Moment
   stored_or_kept m place None = with_failure m
   stored_or_kept m place (Some bytes) = with_storage m (filled_at l m.storage place bytes)
-
-  -- ---- areas that change
-
-  -- what stood in an area, or other bytes of its length
-  abbrev pub changed_in : Option (List ℕ) → ℕ → ℕ → List ℕ → List ℕ
-  changed_in None offset count storage = storage
-  changed_in (Some bytes) offset count storage = if length bytes == count then written storage offset bytes else storage
 
   -- ---- passing a part
 
