@@ -2,3 +2,4 @@ mod Passing
 mod Booleans
 mod Divisors
 mod Moving
+mod Arithmetic

@@ -119,10 +119,13 @@ own_reads _ place = read place ∷ []
 abbrev pub divides : List Atom → List Part
 divides atoms = map (λ a. divide a) atoms
 
+abbrev pub target_parts : Sum → Target → List Part
+target_parts s t = own_reads t.how t.item ++ store t.item t.mode (computed s t.how) ∷ []
+
 -- each receiver in turn
-abbrev pub target_parts : Sum → List Target → List Part
-target_parts s [] = []
-target_parts s (t ∷ ts) = own_reads t.how t.item ++ (store t.item t.mode (computed s t.how) ∷ target_parts s ts)
+abbrev pub targets_parts : Sum → List Target → List Part
+targets_parts s [] = []
+targets_parts s (t ∷ ts) = target_parts s t ++ targets_parts s ts
 
 -- VARYING goes on as by ADD
 abbrev pub augment_parts : ℕ → Sender → List Part
@@ -139,7 +142,7 @@ module _ (l : Layout) where
 
   abbrev pub arith_parts : Sum → List Target → Option ℕ → List Part
   arith_parts s targets remainder =
-      item_reads (items_in s) ++ (divides (divisors_of s targets) ++ (target_parts s targets ++ remainder_parts s targets remainder))
+      item_reads (items_in s) ++ (divides (divisors_of s targets) ++ (targets_parts s targets ++ remainder_parts s targets remainder))
 
   -- ---- MOVE
 
