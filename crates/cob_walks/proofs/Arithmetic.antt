@@ -297,3 +297,134 @@ module _ (l : Layout) (w : ℕ → Scaled) (s : Sum) where
   remainder_same false (t ∷ []) None now x e f = (refl, e)
   remainder_same false (t ∷ []) (Some place) now x e f = (refl, received_same now place _ x e f)
   remainder_same false (t ∷ u ∷ ts) remainder now x e f = (refl, e)
+
+-- ---- the whole
+
+module _ (l : Layout) (handled : Bool) where
+  -- what is passed, and how much has failed
+  abbrev pub ArithSo : Moment → List Part → Result Receiving Kind → Type 0
+  ArithSo m xs (Ok x) =
+      (last : Moment) × PassesAll l handled xs m last × (last.storage ≡ x.storage) × (last.counts ≡ m.counts)
+      × (last.failed ≡ x.failed)
+  ArithSo m xs (Err fault) = Meets l handled xs m fault
+
+  arith_behind : (xs ys : List Part) (m k : Moment) (r : Result Receiving Kind) → PassesAll l handled xs m k →
+      k.counts ≡ m.counts → ArithSo k ys r → ArithSo m (xs ++ ys) r
+  arith_behind xs ys m k (Ok x) h e g = (g.0, passes_on l handled xs ys m k g.0 h g.1, g.2, g.3 ∙ e, g.4)
+  arith_behind xs ys m k (Err fault) h e g = meets_behind l handled xs ys m k fault h g
+
+module _ (l : Layout) (counts : List (Option ℤ)) (storage : List ℕ) (s : Sum) (ts : List Target) (remainder : Option ℕ) where
+  done_on : (handled : Bool) (xs ys : List Part) (own : Scaled) (r : Result Receiving Kind)
+      (f : Receiving → Result Receiving Kind) → DoneSo l handled counts storage xs storage own false r →
+      ((x : Receiving) (v : Scaled) → r ≡ Ok x → DoneSo l handled counts storage ys x.storage v x.failed (f x)) →
+      DoneSo l handled counts storage (xs ++ ys) storage own false (r >>= f)
+  done_on handled xs ys own (Ok x) f h g =
+      done_behind l handled counts storage s xs ys storage x.storage own h.0 false x.failed (f x) h.1 (g x h.0 refl)
+  done_on handled xs ys own (Err fault) f h g =
+      meets_front l handled xs ys (moment storage counts storage own false) fault h
+
+  unfailed : (handled : Bool) (x : Receiving) →
+      receive_all l handled (worth l storage) s (receiving storage false) ts ≡ Ok x → IsUnfailed l counts storage s handled x.failed
+  unfailed true x e = tt
+  unfailed false x e = plain_all l (worth l storage) s ts (receiving storage false) x e refl
+
+  as_arith : (handled : Bool) (xs : List Part) (own : Scaled) (r : Result Receiving Kind) →
+      DoneSo l handled counts storage xs storage own false r → ArithSo l handled (moment storage counts storage own false) xs r
+  as_arith handled xs own (Ok x) h = (moment x.storage counts storage h.0 x.failed, h.1, refl, refl, refl)
+  as_arith handled xs own (Err fault) h = h
+
+  receivers_then : (handled : Bool) (own : Scaled) →
+      ArithSo l handled (moment storage counts storage own false) (targets_parts s ts ++ remainder_parts l s ts remainder)
+      (receive_all l handled (worth l storage) s (receiving storage false) ts
+      >>= λ r. remainder_received l handled r.failed (worth l storage) s ts remainder r.storage)
+  receivers_then handled own =
+      as_arith handled (targets_parts s ts ++ remainder_parts l s ts remainder) own
+      (receive_all l handled (worth l storage) s (receiving storage false) ts
+      >>= λ r. remainder_received l handled r.failed (worth l storage) s ts remainder r.storage)
+      (done_on handled (targets_parts s ts) (remainder_parts l s ts remainder) own
+      (receive_all l handled (worth l storage) s (receiving storage false) ts)
+      (λ r. remainder_received l handled r.failed (worth l storage) s ts remainder r.storage)
+      (targets_step l handled counts storage s ts (receiving storage false) own)
+      (λ x v e. remainder_step l counts storage s handled x.failed ts remainder x.storage v (unfailed handled x e)))
+
+  abbrev rest : List Part
+  rest = targets_parts s ts ++ remainder_parts l s ts remainder
+
+  abbrev all : List Part
+  all = divides (divisors_of s ts) ++ rest
+
+  divisors_pass : (own : Scaled) (z : Bool) → has_zero_divisor (worth l storage) s ts ≡ z →
+      list_all (divides_by (worth l storage)) (divisors_of s ts) ≡ not z
+  divisors_pass own z e = sym (divisors_are (worth l storage) s ts) ∙ ap not e
+
+  by_divisors : (handled : Bool) (own : Scaled) (z : Bool) → has_zero_divisor (worth l storage) s ts ≡ z →
+      ArithSo l handled (moment storage counts storage own false) all (after_divisors l handled storage s ts remainder z)
+  by_divisors false own false e =
+      arith_behind l false (divides (divisors_of s ts)) rest (moment storage counts storage own false)
+      (moment storage counts storage own false) _
+      (subst (λ b. DividesSo l (divides (divisors_of s ts)) (moment storage counts storage own false) b) (divisors_pass own false e)
+      (divisors_count l (divisors_of s ts) (moment storage counts storage own false)))
+      refl (receivers_then false own)
+  by_divisors true own false e =
+      arith_behind l true (divides (divisors_of s ts)) rest (moment storage counts storage own false)
+      (moment storage counts storage own false) _
+      (subst (λ b. PassesAll l true (divides (divisors_of s ts)) (moment storage counts storage own false)
+      (if b then moment storage counts storage own false else divided_by_zero (moment storage counts storage own false)))
+      (divisors_pass own false e) (divisors_handled l (divisors_of s ts) (moment storage counts storage own false)))
+      refl (receivers_then true own)
+  by_divisors false own true e =
+      meets_front l false (divides (divisors_of s ts)) rest (moment storage counts storage own false) kind.Zero
+      (subst (λ b. DividesSo l (divides (divisors_of s ts)) (moment storage counts storage own false) b) (divisors_pass own true e)
+      (divisors_count l (divisors_of s ts) (moment storage counts storage own false)))
+  by_divisors true own true e =
+      arith_behind l true (divides (divisors_of s ts)) rest (moment storage counts storage own false)
+      (divided_by_zero (moment storage counts storage own false)) (Ok (receiving storage true))
+      (subst (λ b. PassesAll l true (divides (divisors_of s ts)) (moment storage counts storage own false)
+      (if b then moment storage counts storage own false else divided_by_zero (moment storage counts storage own false)))
+      (divisors_pass own true e) (divisors_handled l (divisors_of s ts) (moment storage counts storage own false)))
+      refl
+      (divided_by_zero (moment storage counts storage own false),
+      all_kept l counts storage s (moment storage counts storage own false) ts remainder, refl, refl, refl)
+
+  by_reads : (handled : Bool) (own : Scaled) (b : Bool) →
+      ReadsSo l handled storage counts storage false (item_reads (items_in s)) own b →
+      ArithSo l handled (moment storage counts storage own false) (item_reads (items_in s) ++ all)
+      (if b then after_divisors l handled storage s ts remainder (has_zero_divisor (worth l storage) s ts) else Err kind.Class)
+  by_reads handled own true h =
+      arith_behind l handled (item_reads (items_in s)) all (moment storage counts storage own false)
+      (moment storage counts storage h.0 false) _ h.1 refl
+      (by_divisors handled h.0 (has_zero_divisor (worth l storage) s ts) refl)
+  by_reads handled own false h =
+      meets_front l handled (item_reads (items_in s)) all (moment storage counts storage own false) kind.Class h
+
+  -- an arithmetic statement passes its parts, or one of them meets its fault
+  pub arith_does : (handled : Bool) (own : Scaled) →
+      ArithSo l handled (moment storage counts storage own false) (arith_parts l s ts remainder)
+      (after_arithmetic l handled storage s ts remainder)
+  arith_does handled own =
+      by_reads handled own (are_numeric l storage (items_in s))
+      (items_read l handled storage counts storage false (items_in s) own)
+
+  divisors_same : (z : Bool) (x : Receiving) → after_divisors l true storage s ts remainder z ≡ Ok x → x.failed ≡ false →
+      after_divisors l false storage s ts remainder z ≡ Ok x
+  divisors_same true x e f = absurd (cc)
+  divisors_same false x e f =
+      let w = worth l storage in
+      let h = bind_ok (receive_all l true w s (receiving storage false) ts) (λ r. remainder_received l true r.failed w s ts remainder r.storage) x e in
+      let g = remainder_same l w s h.0.failed ts remainder h.0.storage x h.2 f in
+      ap (λ (r : Result Receiving Kind). r >>= λ r. remainder_received l false r.failed w s ts remainder r.storage)
+      (all_same l w s ts (receiving storage false) h.0 h.1 g.0)
+      ∙ g.1
+
+  numeric_same : (b z : Bool) (x : Receiving) →
+      (if b then after_divisors l true storage s ts remainder z else Err kind.Class) ≡ Ok x → x.failed ≡ false →
+      (if b then after_divisors l false storage s ts remainder z else Err kind.Class) ≡ Ok x
+  numeric_same true z x e f = divisors_same z x e f
+  numeric_same false z x e f = absurd (cc)
+
+  -- where nothing fails, the phrase makes no difference
+  pub arith_same : (phrase : Bool) (x : Receiving) → after_arithmetic l phrase storage s ts remainder ≡ Ok x → x.failed ≡ false →
+      after_arithmetic l false storage s ts remainder ≡ Ok x
+  arith_same false x e f = e
+  arith_same true x e f =
+      numeric_same (are_numeric l storage (items_in s)) (has_zero_divisor (worth l storage) s ts) x e f
