@@ -3,3 +3,7 @@ mod Booleans
 mod Divisors
 mod Moving
 mod Arithmetic
+mod Testing
+mod Filing
+mod Counting
+pub mod EachEdge

@@ -52,7 +52,7 @@ module _ (l : Layout) (handled : Bool) where
     ReadsSo xs own true = (v : Scaled) × PassesAll l handled xs (moment storage counts first own failed) (moment storage counts first v failed)
     ReadsSo xs own false = Meets l handled xs (moment storage counts first own failed) kind.Class
 
-    reads_on : (xs ys : List Part) (own : Scaled) (a b : Bool) → ReadsSo xs own a → ((v : Scaled) → ReadsSo ys v b) →
+    pub reads_on : (xs ys : List Part) (own : Scaled) (a b : Bool) → ReadsSo xs own a → ((v : Scaled) → ReadsSo ys v b) →
         ReadsSo (xs ++ ys) own (a && b)
     reads_on xs ys own true true h f = ((f h.0).0, passes_on xs ys _ _ _ h.1 (f h.0).1)
     reads_on xs ys own true false h f = meets_behind xs ys _ _ kind.Class h.1 (f h.0)

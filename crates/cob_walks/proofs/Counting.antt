@@ -1,0 +1,203 @@
+-- Counters of TIMES, and the augmenting of VARYING.
+use Rattle.std.proofs.Common.{◌≡◌, ℕ, zero, suc, Bool, true, false, not, List, [], ◌∷◌, ◌++◌, ◌⊎◌, inl, inr, Option, Some, None, Result, Ok, Err, ℤ, pos, negsuc, refl, sym, ap, subst, ◌∙◌}
+use Rattle.std.specs.Prelude.{if◌then◌else◌, is_some, slice_get, ◌-ℤ◌}
+use Rattle.std.specs.Option.{option_map, option_map_or}
+use Rattle.std.proofs.lemmas.Bool.{false≢true}
+use Rattle.dec_num.specs.declared.types.Mode.TheVariants.{Trunc}
+use Rattle.dec_num.specs.declared.types.Scaled.{Scaled}
+use Rattle.dec_num.specs.Scaled.{value_of}
+use Rattle.cob_tree.specs.declared.fault.Kind.{Kind}
+use Rattle.cob_tree.specs.declared.fault.Kind.TheVariants as kind
+use Rattle.cob_data.specs.declared.layout.Layout.{Layout}
+use Rattle.cob_data.specs.declared.layout.Sender.{Sender}
+use Rattle.cob_program.specs.Values as value
+use Rattle.cob_program.specs.Values.{whole_number, plus}
+use Rattle.cob_program.specs.Logic.{Test}
+use Rattle.cob_program.specs.Act.{Program}
+use Rattle.cob_runs.specs.Contents.{form_at, filled_at, number_at, stored}
+use Rattle.cob_runs.specs.Faults.{◌>>=◌, or_fault}
+use Rattle.cob_runs.specs.Files.{Choice}
+use Rattle.cob_runs.specs.Moves.{number_of, after_move}
+use Rattle.cob_runs.specs.Deciding.{test_holds}
+use Rattle.cob_runs.specs.State.{World, with_storage}
+use Rattle.cob_runs.specs.Acts.{move, count_of, set_count, count_down, augment}
+use Rattle.cob_runs.specs.Acts as act
+use Rattle.cob_runs.specs.Steps.{is_left}
+use Rattle.cob_runs.specs.Effects.{Effect, taken, taken_if, met}
+use Rattle.cob_walks.specs.Parts as part
+use Rattle.cob_walks.specs.Parts.{Part, number_reads, augment_parts, move_parts, test_reads}
+use Rattle.cob_walks.specs.Meaning.{Moment, beginning, count_in, is_positive, stored_bytes, PassesAll, Meets}
+use Rattle.cob_walks.proofs.Passing.{moment, passes_on, meets_behind, meets_front, ReadsSo, sender_read, item_read}
+use Rattle.cob_walks.proofs.Moving.{LeavesSo, move_does}
+use Rattle.cob_walks.proofs.Testing.{TestsSo, test_does}
+use Rattle.cob_walks.proofs.Filing.{EdgeSo}
+
+module _ (l : Layout) (w : World) where
+  abbrev at : Scaled → Moment
+  at own = moment w.storage w.counts w.storage own false
+
+  abbrev start : Scaled
+  start = whole_number (pos 0)
+
+  -- ---- MOVE
+
+  moved_edge : (xs : List Part) (r : Result (List ℕ) Kind) → LeavesSo l w.counts xs w.storage start r →
+      EdgeSo l false xs w (met (r >>= λ storage. Ok (with_storage w storage)))
+  moved_edge xs (Ok now) h = (moment now w.counts w.storage h.0 false, h.1, refl, refl, refl)
+  moved_edge xs (Err fault) h = h
+
+  pub move_edge : (x : Sender) (places : List ℕ) → EdgeSo l false (move_parts l x places) w (met (move l x places w))
+  move_edge x places =
+      moved_edge (move_parts l x places) (after_move l w.storage x places) (move_does l w.counts x w.storage start places)
+
+  -- ---- counters
+
+  set_by : (statement : ℕ) (x : Sender) (o : Option Scaled) → number_of l w.storage x ≡ o →
+      ReadsSo l false w.storage w.counts w.storage false (number_reads x) start (is_some o) →
+      EdgeSo l false (number_reads x ++ part.set_count statement x ∷ []) w
+      (met (or_fault kind.Class o >>= λ n. Ok (act.with_count l statement n.units w)))
+  set_by statement x (Some v) e h =
+      (moment_set,
+      passes_on l false (number_reads x) (part.set_count statement x ∷ []) (at start) (at h.0) moment_set h.1
+      (moment_set, (v, e, refl), refl),
+      refl, refl, refl)
+    where
+      moment_set : Moment
+      moment_set = moment w.storage (act.with_count l statement v.units w).counts w.storage h.0 false
+  set_by statement x None e h = meets_front l false (number_reads x) (part.set_count statement x ∷ []) (at start) kind.Class h
+
+  pub set_edge : (statement : ℕ) (x : Sender) →
+      EdgeSo l false (number_reads x ++ part.set_count statement x ∷ []) w (met (set_count l statement x w))
+  set_edge statement x =
+      set_by statement x (number_of l w.storage x) refl (sender_read l false w.storage w.counts w.storage false x start)
+
+  down_by : (statement : ℕ) (o : Option ℤ) → count_in w.counts statement ≡ o → is_some o ≡ true →
+      EdgeSo l false (part.read_count statement ∷ part.count_down statement ∷ []) w
+      (taken (option_map_or (λ n. act.with_count l statement (n -ℤ pos 1) w) o w))
+  down_by statement (Some v) e f =
+      (last, (at (whole_number v), (v, e, refl), (last, refl, refl)), refl, refl, refl)
+    where
+      last : Moment
+      last = moment w.storage (act.with_count l statement (v -ℤ pos 1) w).counts w.storage (whole_number v) false
+  down_by statement None e f = absurd (false≢true f)
+
+  pub down_edge : (statement : ℕ) → is_some (count_in w.counts statement) ≡ true →
+      EdgeSo l false (part.read_count statement ∷ part.count_down statement ∷ []) w (taken (count_down l statement w))
+  down_edge statement f = down_by statement (count_in w.counts statement) refl f
+
+  counted_by : (statement : ℕ) (v : ℤ) (wanted b : Bool) → count_in w.counts statement ≡ Some v → is_positive v ≡ b →
+      EdgeSo l false (part.read_count statement ∷ part.guard_count statement wanted ∷ []) w
+      (taken_if (if wanted then b else not b) w)
+  counted_by statement v true true e f =
+      (at (whole_number v), (at (whole_number v), (v, e, refl), (at (whole_number v), (v, e, f, refl), refl)), refl, refl, refl)
+  counted_by statement v true false e f = tt
+  counted_by statement v false true e f = tt
+  counted_by statement v false false e f =
+      (at (whole_number v), (at (whole_number v), (v, e, refl), (at (whole_number v), (v, e, f, refl), refl)), refl, refl, refl)
+
+  left_is : (p : Program) (c : Choice) (v : ℤ) → is_positive v ≡ is_left p c (Some v)
+  left_is p c (pos zero) = refl
+  left_is p c (pos (suc n)) = refl
+  left_is p c (negsuc n) = refl
+
+  left_by : (p : Program) (c : Choice) (statement : ℕ) (wanted : Bool) (o : Option ℤ) → count_in w.counts statement ≡ o →
+      is_some o ≡ true →
+      EdgeSo l false (part.read_count statement ∷ part.guard_count statement wanted ∷ []) w
+      (taken_if (if wanted then is_left p c o else not (is_left p c o)) w)
+  left_by p c statement wanted (Some v) e f = counted_by statement v wanted (is_left p c (Some v)) e (left_is p c v)
+  left_by p c statement wanted None e f = absurd (false≢true f)
+
+  pub left_edge : (p : Program) (c : Choice) (statement : ℕ) (wanted : Bool) → is_some (count_in w.counts statement) ≡ true →
+      EdgeSo l false (part.read_count statement ∷ part.guard_count statement wanted ∷ []) w
+      (taken_if (if wanted then is_left p c (count_of l statement w) else not (is_left p c (count_of l statement w))) w)
+  left_edge p c statement wanted f = left_by p c statement wanted (count_in w.counts statement) refl f
+
+  -- ---- conditions
+
+  tested_by : (t : Test) (wanted : Bool) (r : Result Bool Kind) → test_holds l w.storage t ≡ r →
+      TestsSo l w.storage w.counts (test_reads l t) start r →
+      EdgeSo l false (test_reads l t ++ part.guard t wanted ∷ []) w (r >>= λ b. taken_if (if wanted then b else not b) w)
+  tested_by t true (Ok true) e h =
+      (at h.0,
+      passes_on l false (test_reads l t) (part.guard t true ∷ []) (at start) (at h.0) (at h.0) h.1
+      (at h.0, (e, refl), refl),
+      refl, refl, refl)
+  tested_by t true (Ok false) e h = tt
+  tested_by t false (Ok true) e h = tt
+  tested_by t false (Ok false) e h =
+      (at h.0,
+      passes_on l false (test_reads l t) (part.guard t false ∷ []) (at start) (at h.0) (at h.0) h.1
+      (at h.0, (e, refl), refl),
+      refl, refl, refl)
+  tested_by t wanted (Err fault) e h = meets_front l false (test_reads l t) (part.guard t wanted ∷ []) (at start) fault h
+
+  pub test_edge : (t : Test) (wanted : Bool) →
+      EdgeSo l false (test_reads l t ++ part.guard t wanted ∷ []) w
+      (test_holds l w.storage t >>= λ b. taken_if (if wanted then b else not b) w)
+  test_edge t wanted =
+      tested_by t wanted (test_holds l w.storage t) refl (test_does l w.storage w.counts t start)
+
+  -- ---- the augmenting of VARYING
+
+  sum_stored : (place : ℕ) (by : Sender) (v own : Scaled) → number_of l w.storage by ≡ Some v →
+      stored_bytes l (at own) place Trunc (part.augmented by) ≡ stored Trunc (form_at l place) (value_of (plus own v))
+  sum_stored place by v own e =
+      ap (λ (o : Option Scaled). value.◌>>=◌ (option_map (λ u. value_of (plus own u)) o) (λ u. stored Trunc (form_at l place) u)) e
+
+  abbrev AugmentsSo : List Part → Scaled → Result World Kind → Type 0
+  AugmentsSo xs own (Ok v) =
+      (last : Moment) × PassesAll l false xs (at own) last × (last.storage ≡ v.storage) × (last.counts ≡ v.counts)
+      × (last.failed ≡ false)
+  AugmentsSo xs own (Err fault) = Meets l false xs (at own) fault
+
+  store_augmented : (place : ℕ) (by : Sender) (own : Scaled) (o : Option (List ℕ)) →
+      stored_bytes l (at own) place Trunc (part.augmented by) ≡ o →
+      AugmentsSo (part.store place Trunc (part.augmented by) ∷ []) own
+      (or_fault kind.Size o >>= λ bytes. Ok (with_storage w (filled_at l w.storage place bytes)))
+  store_augmented place by own (Some bytes) e =
+      (moment (filled_at l w.storage place bytes) w.counts w.storage own false,
+      (moment (filled_at l w.storage place bytes) w.counts w.storage own false, (bytes, e, refl), refl), refl, refl, refl)
+  store_augmented place by own None e = inl (e, refl)
+
+  augments_behind : (x : Part) (xs : List Part) (own v : Scaled) (r : Result World Kind) →
+      PassesAll l false (x ∷ []) (at own) (at v) → AugmentsSo xs v r → AugmentsSo (x ∷ xs) own r
+  augments_behind x xs own v (Ok u) h g =
+      (g.0, passes_on l false (x ∷ []) xs (at own) (at v) g.0 h g.1, g.2, g.3, g.4)
+  augments_behind x xs own v (Err fault) h g = meets_behind l false (x ∷ []) xs (at own) (at v) fault h g
+
+  read_augmented : (place : ℕ) (by : Sender) (v own : Scaled) → number_of l w.storage by ≡ Some v → (o : Option Scaled) →
+      number_at l w.storage place ≡ o →
+      AugmentsSo (part.read place ∷ part.store place Trunc (part.augmented by) ∷ []) own
+      (or_fault kind.Class o >>= λ u. or_fault kind.Size (stored Trunc (form_at l place) (value_of (plus u v))) >>= λ bytes.
+      Ok (with_storage w (filled_at l w.storage place bytes)))
+  read_augmented place by v own e (Some u) f =
+      augments_behind (part.read place) (part.store place Trunc (part.augmented by) ∷ []) own u _ (at u, (u, f, refl), refl)
+      (store_augmented place by u (stored Trunc (form_at l place) (value_of (plus u v))) (sum_stored place by v u e))
+  read_augmented place by v own e None f = inl (refl, f, refl)
+
+  abbrev own_parts : ℕ → Sender → List Part
+  own_parts place by = part.read place ∷ part.store place Trunc (part.augmented by) ∷ []
+
+  augment_by : (place : ℕ) (by : Sender) (o : Option Scaled) → number_of l w.storage by ≡ o →
+      ReadsSo l false w.storage w.counts w.storage false (number_reads by) start (is_some o) →
+      EdgeSo l false (augment_parts place by) w
+      (met (or_fault kind.Class o >>= λ v. or_fault kind.Class (number_at l w.storage place) >>= λ u.
+      or_fault kind.Size (stored Trunc (form_at l place) (value_of (plus u v))) >>= λ bytes.
+      Ok (with_storage w (filled_at l w.storage place bytes))))
+  augment_by place by (Some v) e h =
+      behind (or_fault kind.Class (number_at l w.storage place) >>= λ u.
+      or_fault kind.Size (stored Trunc (form_at l place) (value_of (plus u v))) >>= λ bytes.
+      Ok (with_storage w (filled_at l w.storage place bytes)))
+      (read_augmented place by v h.0 e (number_at l w.storage place) refl)
+    where
+      behind : (r : Result World Kind) → AugmentsSo (own_parts place by) h.0 r → EdgeSo l false (augment_parts place by) w (met r)
+      behind (Ok u) g =
+          (g.0, passes_on l false (number_reads by) (own_parts place by) (at start) (at h.0) g.0 h.1 g.1, g.2, g.3, g.4)
+      behind (Err fault) g = meets_behind l false (number_reads by) (own_parts place by) (at start) (at h.0) fault h.1 g
+  augment_by place by None e h =
+      meets_front l false (number_reads by) (part.read place ∷ part.store place Trunc (part.augmented by) ∷ []) (at start)
+      kind.Class h
+
+  pub augment_edge : (place : ℕ) (by : Sender) → EdgeSo l false (augment_parts place by) w (met (augment l place by w))
+  augment_edge place by =
+      augment_by place by (number_of l w.storage by) refl (sender_read l false w.storage w.counts w.storage false by start)
