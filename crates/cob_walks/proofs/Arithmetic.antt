@@ -298,6 +298,14 @@ module _ (l : Layout) (w : ℕ → Scaled) (s : Sum) where
   remainder_same false (t ∷ []) (Some place) now x e f = (refl, received_same now place _ x e f)
   remainder_same false (t ∷ u ∷ ts) remainder now x e f = (refl, e)
 
+  plain_remainder : (failed : Bool) (ts : List Target) (remainder : Option ℕ) (now : List ℕ) (x : Receiving) →
+      remainder_received l false failed w s ts remainder now ≡ Ok x → failed ≡ false → x.failed ≡ false
+  plain_remainder true ts remainder now x e f = absurd (false≢true (sym f))
+  plain_remainder false [] remainder now x e f = cc
+  plain_remainder false (t ∷ []) None now x e f = cc
+  plain_remainder false (t ∷ []) (Some place) now x e f = plain_received now place _ x e
+  plain_remainder false (t ∷ u ∷ ts) remainder now x e f = cc
+
 -- ---- the whole
 
 module _ (l : Layout) (handled : Bool) where
@@ -428,3 +436,20 @@ module _ (l : Layout) (counts : List (Option ℤ)) (storage : List ℕ) (s : Sum
   arith_same false x e f = e
   arith_same true x e f =
       numeric_same (are_numeric l storage (items_in s)) (has_zero_divisor (worth l storage) s ts) x e f
+
+  divisors_unfailed : (z : Bool) (x : Receiving) → after_divisors l false storage s ts remainder z ≡ Ok x → x.failed ≡ false
+  divisors_unfailed true x e = absurd (cc)
+  divisors_unfailed false x e =
+      let w = worth l storage in
+      let h = bind_ok (receive_all l false w s (receiving storage false) ts) (λ r. remainder_received l false r.failed w s ts remainder r.storage) x e in
+      plain_remainder l w s h.0.failed ts remainder h.0.storage x h.2
+      (plain_all l w s ts (receiving storage false) h.0 h.1 refl)
+
+  numeric_unfailed : (b z : Bool) (x : Receiving) →
+      (if b then after_divisors l false storage s ts remainder z else Err kind.Class) ≡ Ok x → x.failed ≡ false
+  numeric_unfailed true z x e = divisors_unfailed z x e
+  numeric_unfailed false z x e = absurd (cc)
+
+  -- without the phrase nothing fails but by a fault
+  pub arith_unfailed : (x : Receiving) → after_arithmetic l false storage s ts remainder ≡ Ok x → x.failed ≡ false
+  arith_unfailed x e = numeric_unfailed (are_numeric l storage (items_in s)) (has_zero_divisor (worth l storage) s ts) x e

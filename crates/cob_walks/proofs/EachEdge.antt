@@ -20,12 +20,12 @@ use Rattle.cob_runs.specs.Files.{Choice}
 use Rattle.cob_runs.specs.State.{World, with_storage}
 use Rattle.cob_runs.specs.Acts.{compute, into_if, is_fine, decl_at, file_from, open_one, close_one, take_one, write_one, move_if}
 use Rattle.cob_runs.specs.Steps.{is_given}
-use Rattle.cob_runs.specs.Effects.{Effect, taken, taken_if, not_taken, met, assigned, computed, decided, tested, counted, by_status, opened, closed, wrote, file_call, ended_with, bad_read, called_bad, read_with, effect_of, effect, act_at, tests_in_act}
-use Rattle.cob_walks.specs.Parts.{Part, is_handled, file_call_parts, from_parts, arith_parts, test_parts, assign_parts, compute_parts, condition_parts, count_parts, call_parts, read_parts, bad_parts, parts_of}
+use Rattle.cob_runs.specs.Effects.{Effect, taken, taken_if, not_taken, met, assigned, computed, decided, tested, counted, by_status, opened, closed, wrote, file_call, ended_with, bad_read, called_bad, read_with, shown, effect_of, effect, act_at, tests_in_act}
+use Rattle.cob_walks.specs.Parts.{Part, has_phrase, is_handled, is_times, file_call_parts, from_parts, arith_parts, test_parts, assign_parts, compute_parts, condition_parts, count_parts, call_parts, read_parts, bad_parts, parts_of}
 use Rattle.cob_walks.specs.Meaning.{Moment, beginning, count_in, PassesAll, Meets}
 use Rattle.cob_walks.specs.Edges.{Leads, IsCounted, fault_edge, PartsArePassed, FaultsAreMet}
 use Rattle.cob_walks.proofs.Passing.{moment}
-use Rattle.cob_walks.proofs.Arithmetic.{ArithSo, arith_does, arith_same, bind_ok}
+use Rattle.cob_walks.proofs.Arithmetic.{ArithSo, arith_does, arith_same, arith_unfailed, bind_ok}
 use Rattle.cob_walks.proofs.Filing.{EdgeSo, if_taken, opened_does, closed_does, taken_does, into_does, wrote_does}
 use Rattle.cob_walks.proofs.Counting.{move_edge, set_edge, down_edge, left_edge, test_edge, augment_edge}
 
@@ -66,12 +66,11 @@ module _ (p : Program) (statement : ℕ) (c : Choice) (w : World) where
 
   -- whether the counter of TIMES is a number, where the edge reads it
   abbrev Counted : Act → Type 0
-  Counted (perform body (times x)) = is_some (count_in w.counts statement) ≡ true
-  Counted a = Unit {0}
+  Counted a = is_times a ≡ true → is_some (count_in w.counts statement) ≡ true
 
   tested_edge : (wanted : Bool) (k : ℕ) (a : Act) → Counted a →
       Does (condition_parts p statement wanted k a) (tested p statement c w wanted k a)
-  tested_edge wanted k (perform body (times x)) h = left_edge p.layout w p c statement wanted h
+  tested_edge wanted k (perform body (times x)) h = left_edge p.layout w p c statement wanted (h refl)
   tested_edge wanted k (perform body once) h = test_edges wanted (slice_get (tests_in_act (perform body once)) k)
   tested_edge wanted k (perform body (until after t)) h =
       test_edges wanted (slice_get (tests_in_act (perform body (until after t))) k)
@@ -169,3 +168,239 @@ module _ (p : Program) (statement : ℕ) (c : Choice) (w : World) where
   bad_edge k (close_files fs) = call_edge false k (close_files fs)
   bad_edge k (write r from) = call_edge false k (write r from)
   bad_edge k (act.show xs) = call_edge false k (act.show xs)
+
+  -- ---- arithmetic
+
+  taken_is : (b : Bool) (u v : World) → taken_if b u ≡ Ok (Some v) → (b ≡ true) × (u ≡ v)
+  taken_is true u v e = (refl, cc)
+  taken_is false u v e = absurd (cc)
+
+  if_ok : {A : Type 0} (b : Bool) (u : World) (fault : Kind) → taken_if b u ≡ Err fault → A
+  if_ok true u fault e = absurd (cc)
+  if_ok false u fault e = absurd (cc)
+
+  met_is : (r : Result World Kind) (fault : Kind) → met r ≡ Err fault → r ≡ Err fault
+  met_is (Ok v) fault e = absurd (cc)
+  met_is (Err kind) fault e = cc
+
+  same_ok : {A : Type 0} (a b : A) → ◌≡◌ {A = Result A Kind} (Ok a) (Ok b) → a ≡ b
+  same_ok a b e = cc
+
+  not_is : (b : Bool) → not b ≡ true → b ≡ false
+  not_is true e = absurd (false≢true e)
+  not_is false e = refl
+
+  module _ (s : Sum) (targets : List Target) (remainder : Option ℕ) where
+    abbrev arithmetic : Bool → Result Receiving Kind
+    arithmetic phrase = after_arithmetic p.layout phrase w.storage s targets remainder
+
+    -- what an arithmetic statement leaves
+    arith_passed : (handled : Bool) (x : Receiving) (v : World) → arithmetic handled ≡ Ok x → x.failed ≡ handled →
+        with_storage w x.storage ≡ v → EdgeSo p.layout handled (arith_parts p.layout s targets remainder) w (taken v)
+    arith_passed handled x v e f g =
+        let h = subst (λ (r : Result Receiving Kind). ArithSo p.layout handled (beginning w) (arith_parts p.layout s targets remainder) r)
+            e (arith_does p.layout w.counts w.storage s targets remainder handled (whole_number (pos 0))) in
+        (h.0, h.1, h.2 ∙ ap (λ (u : World). u.storage) g, h.3 ∙ ap (λ (u : World). u.counts) g, h.4 ∙ f)
+
+    computed_as : (failed phrase : Bool) (v : World) →
+        (compute p.layout phrase s targets remainder w >>= λ x. taken_if (if failed then x.1 else not x.1) x.0) ≡ Ok (Some v) →
+        (x : Receiving) × (arithmetic phrase ≡ Ok x) × ((if failed then x.failed else not x.failed) ≡ true)
+        × (with_storage w x.storage ≡ v)
+    computed_as failed phrase v e =
+        let h = bind_ok (compute p.layout phrase s targets remainder w) (λ x. taken_if (if failed then x.1 else not x.1) x.0) (Some v) e in
+        let g = bind_ok (arithmetic phrase) (λ r. Ok (with_storage w r.storage, r.failed)) h.0 h.1 in
+        let same = same_ok (with_storage w g.0.storage, g.0.failed) h.0 g.2 in
+        let t = taken_is (if failed then h.0.1 else not h.0.1) h.0.0 v h.2 in
+        (g.0, g.1, ap (λ (x : World × Bool). if failed then x.1 else not x.1) same ∙ t.0, ap (λ (x : World × Bool). x.0) same ∙ t.1)
+
+    done_passed : (phrase : Bool) (v : World) →
+        (compute p.layout phrase s targets remainder w >>= λ x. taken_if (if false then x.1 else not x.1) x.0) ≡ Ok (Some v) →
+        EdgeSo p.layout false (arith_parts p.layout s targets remainder) w (taken v)
+    done_passed phrase v e =
+        let h = computed_as false phrase v e in
+        arith_passed false h.0 v
+        (arith_same p.layout w.counts w.storage s targets remainder phrase h.0 h.1 (not_is h.0.failed h.2)) (not_is h.0.failed h.2) h.3
+
+    size_passed : (phrase : Bool) (v : World) →
+        (compute p.layout phrase s targets remainder w >>= λ x. taken_if (if true then x.1 else not x.1) x.0) ≡ Ok (Some v) →
+        EdgeSo p.layout phrase (arith_parts p.layout s targets remainder) w (taken v)
+    size_passed true v e = let h = computed_as true true v e in arith_passed true h.0 v h.1 h.2 h.3
+    size_passed false v e =
+        let h = computed_as true false v e in
+        absurd (false≢true (sym (arith_unfailed p.layout w.counts w.storage s targets remainder h.0 h.1) ∙ h.2))
+
+    behind_fault : {A B : Type 0} (r : Result A Kind) (f : A → Result B Kind) (fault : Kind) →
+        ((a : A) → f a ≡ Err fault → ⊥) → (r >>= f) ≡ Err fault → r ≡ Err fault
+    behind_fault (Ok a) f fault h e = absurd (h a e)
+    behind_fault (Err kind) f fault h e = cc
+
+    -- its fault
+    arith_met : (failed phrase : Bool) (fault : Kind) →
+        (compute p.layout phrase s targets remainder w >>= λ x. taken_if (if failed then x.1 else not x.1) x.0) ≡ Err fault →
+        Meets p.layout phrase (arith_parts p.layout s targets remainder) (beginning w) fault
+    arith_met failed phrase fault e =
+        let h = behind_fault (compute p.layout phrase s targets remainder w)
+            (λ x. taken_if (if failed then x.1 else not x.1) x.0) fault
+            (λ x k. if_ok (if failed then x.1 else not x.1) x.0 fault k) e in
+        let g = behind_fault (arithmetic phrase) (λ r. Ok (with_storage w r.storage, r.failed)) fault (λ r k. cc) h in
+        subst (λ (r : Result Receiving Kind). ArithSo p.layout phrase (beginning w) (arith_parts p.layout s targets remainder) r)
+        g (arith_does p.layout w.counts w.storage s targets remainder phrase (whole_number (pos 0)))
+
+  -- the edges behind arithmetic statements, and the one behind the augmenting of VARYING
+
+  computed_passed : (failed : Bool) (a : Act) (v : World) → computed p statement c w failed a ≡ Ok (Some v) →
+      EdgeSo p.layout (failed && has_phrase a) (compute_parts p statement a) w (taken v)
+  computed_passed false (arith s targets remainder size fine) v e = done_passed s targets remainder (is_given size) v e
+  computed_passed true (arith s targets remainder size fine) v e = size_passed s targets remainder (is_given size) v e
+  computed_passed false (perform body (varying after place start by t)) v e =
+      subst (λ (r : Effect). Does (compute_parts p statement (perform body (varying after place start by t))) r) e
+      (augment_edge p.layout w place by)
+  computed_passed true (perform body (varying after place start by t)) v e = absurd (cc)
+  computed_passed true (perform body once) v e = absurd (cc)
+  computed_passed true (perform body (times x)) v e = absurd (cc)
+  computed_passed true (perform body (until after t)) v e = absurd (cc)
+  computed_passed false (perform body once) v e = absurd (cc)
+  computed_passed false (perform body (times x)) v e = absurd (cc)
+  computed_passed false (perform body (until after t)) v e = absurd (cc)
+  computed_passed failed (act.move x places) v e = absurd (cc)
+  computed_passed failed (if_ t held other) v e = absurd (cc)
+  computed_passed failed (evaluate ws other) v e = absurd (cc)
+  computed_passed failed (go para) v e = absurd (cc)
+  computed_passed failed nothing v e = absurd (cc)
+  computed_passed failed stop v e = absurd (cc)
+  computed_passed failed (open_files os) v e = absurd (cc)
+  computed_passed failed (close_files fs) v e = absurd (cc)
+  computed_passed failed (act.read f into end fine) v e = absurd (cc)
+  computed_passed failed (write r from) v e = absurd (cc)
+  computed_passed failed (act.show xs) v e = absurd (cc)
+
+  computed_met : (failed : Bool) (a : Act) (fault : Kind) → computed p statement c w failed a ≡ Err fault →
+      Meets p.layout (has_phrase a) (compute_parts p statement a) (beginning w) fault
+  computed_met failed (arith s targets remainder size fine) fault e = arith_met s targets remainder failed (is_given size) fault e
+  computed_met false (perform body (varying after place start by t)) fault e =
+      subst (λ (r : Effect). Does (compute_parts p statement (perform body (varying after place start by t))) r) e
+      (augment_edge p.layout w place by)
+  computed_met true (perform body (varying after place start by t)) fault e = absurd (cc)
+  computed_met true (perform body once) fault e = absurd (cc)
+  computed_met true (perform body (times x)) fault e = absurd (cc)
+  computed_met true (perform body (until after t)) fault e = absurd (cc)
+  computed_met false (perform body once) fault e = absurd (cc)
+  computed_met false (perform body (times x)) fault e = absurd (cc)
+  computed_met false (perform body (until after t)) fault e = absurd (cc)
+  computed_met failed (act.move x places) fault e = absurd (cc)
+  computed_met failed (if_ t held other) fault e = absurd (cc)
+  computed_met failed (evaluate ws other) fault e = absurd (cc)
+  computed_met failed (go para) fault e = absurd (cc)
+  computed_met failed nothing fault e = absurd (cc)
+  computed_met failed stop fault e = absurd (cc)
+  computed_met failed (open_files os) fault e = absurd (cc)
+  computed_met failed (close_files fs) fault e = absurd (cc)
+  computed_met failed (act.read f into end fine) fault e = absurd (cc)
+  computed_met failed (write r from) fault e = absurd (cc)
+  computed_met failed (act.show xs) fault e = absurd (cc)
+
+  show_edge : (a : Act) → Does [] (shown p statement c w a)
+  show_edge (act.show xs) = (beginning w, refl, refl, refl, refl)
+  show_edge (perform body turns) = tt
+  show_edge (act.move x places) = tt
+  show_edge (arith s targets remainder size fine) = tt
+  show_edge (if_ t held other) = tt
+  show_edge (evaluate ws other) = tt
+  show_edge (go para) = tt
+  show_edge nothing = tt
+  show_edge stop = tt
+  show_edge (open_files os) = tt
+  show_edge (close_files fs) = tt
+  show_edge (act.read f into end fine) = tt
+  show_edge (write r from) = tt
+
+  -- ---- each edge
+
+  passed : (a : Act) (x : Action) (v : World) → IsCounted statement a x w → effect_of p statement c w x a ≡ Ok (Some v) →
+      EdgeSo p.layout (is_handled a x) (parts_of p statement a x) w (taken v)
+  passed a action.Skip v h e = subst (λ (r : Effect). Does [] r) e stays
+  passed a action.Assign v h e = subst (λ (r : Effect). Does (assign_parts p statement a) r) e (assign_edge a)
+  passed a action.Done v h e = computed_passed false a v e
+  passed a action.Size v h e = computed_passed true a v e
+  passed a (action.True k) v h e = subst (λ (r : Effect). Does (condition_parts p statement true k a) r) e (tested_edge true k a h)
+  passed a (action.False k) v h e = subst (λ (r : Effect). Does (condition_parts p statement false k a) r) e (tested_edge false k a h)
+  passed a action.SetCount v h e = subst (λ (r : Effect). Does (count_parts p statement a) r) e (count_edge a)
+  passed a action.Down v h e =
+      subst (λ (r : Effect). Does (parts_of p statement a action.Down) r) e (down_edge p.layout w statement (h refl))
+  passed a (action.Open k) v h e = subst (λ (r : Effect). Does (call_parts p statement true k a) r) e (call_edge true k a)
+  passed a (action.Close k) v h e = subst (λ (r : Effect). Does (call_parts p statement true k a) r) e (call_edge true k a)
+  passed a action.Take v h e = subst (λ (r : Effect). Does (read_parts p statement a) r) e (read_edge 0 a)
+  passed a action.AtEnd v h e = subst (λ (r : Effect). Does (read_parts p statement a) r) e (read_edge 10 a)
+  passed a (action.Bad k) v h e = subst (λ (r : Effect). Does (bad_parts p statement k a) r) e (bad_edge k a)
+  passed a action.Write v h e = subst (λ (r : Effect). Does (call_parts p statement true 0 a) r) e (call_edge true 0 a)
+  passed a action.Show v h e = subst (λ (r : Effect). Does [] r) e (show_edge a)
+
+  abbrev MeetsAt : Act → Action → Kind → Type 0
+  MeetsAt a x fault =
+      Meets p.layout (is_handled a (fault_edge a x)) (parts_of p statement a (fault_edge a x)) (beginning w) fault
+
+  times_fine : (wanted : Bool) (k : ℕ) (a : Act) (fault : Kind) → is_times a ≡ true →
+      tested p statement c w wanted k a ≡ Err fault → ⊥
+  times_fine wanted k (perform body (times x)) fault h e = if_ok _ w fault e
+  times_fine wanted k (perform body once) fault h e = false≢true h
+  times_fine wanted k (perform body (until after t)) fault h e = false≢true h
+  times_fine wanted k (perform body (varying after place start by t)) fault h e = false≢true h
+  times_fine wanted k (act.move x places) fault h e = false≢true h
+  times_fine wanted k (arith s targets remainder size fine) fault h e = false≢true h
+  times_fine wanted k (if_ t held other) fault h e = false≢true h
+  times_fine wanted k (evaluate ws other) fault h e = false≢true h
+  times_fine wanted k (go para) fault h e = false≢true h
+  times_fine wanted k nothing fault h e = false≢true h
+  times_fine wanted k stop fault h e = false≢true h
+  times_fine wanted k (open_files os) fault h e = false≢true h
+  times_fine wanted k (close_files fs) fault h e = false≢true h
+  times_fine wanted k (act.read f into end fine) fault h e = false≢true h
+  times_fine wanted k (write r from) fault h e = false≢true h
+  times_fine wanted k (act.show xs) fault h e = false≢true h
+
+  tested_met : (wanted : Bool) (k : ℕ) (a : Act) (fault : Kind) (b : Bool) → is_times a ≡ b →
+      tested p statement c w wanted k a ≡ Err fault →
+      Meets p.layout false (condition_parts p statement wanted k a) (beginning w) fault
+  tested_met wanted k a fault true f e = absurd (times_fine wanted k a fault f e)
+  tested_met wanted k a fault false f e =
+      subst (λ (r : Effect). Does (condition_parts p statement wanted k a) r) e
+      (tested_edge wanted k a (λ g. absurd (false≢true (sym f ∙ g))))
+
+  done_met : (a : Act) (fault : Kind) (b : Bool) → has_phrase a ≡ b →
+      Meets p.layout (has_phrase a) (compute_parts p statement a) (beginning w) fault →
+      Meets p.layout (is_handled a (if b then action.Size else action.Done))
+      (parts_of p statement a (if b then action.Size else action.Done)) (beginning w) fault
+  done_met a fault true e h = h
+  done_met a fault false e h = subst (λ b. Meets p.layout b (compute_parts p statement a) (beginning w) fault) e h
+
+  met_at : (a : Act) (x : Action) (fault : Kind) → effect_of p statement c w x a ≡ Err fault → MeetsAt a x fault
+  met_at a action.Skip fault e = absurd (cc)
+  met_at a action.Assign fault e = subst (λ (r : Effect). Does (assign_parts p statement a) r) e (assign_edge a)
+  met_at a action.Done fault e = done_met a fault (has_phrase a) refl (computed_met false a fault e)
+  met_at a action.Size fault e = computed_met true a fault e
+  met_at a (action.True k) fault e = tested_met true k a fault (is_times a) refl e
+  met_at a (action.False k) fault e = tested_met false k a fault (is_times a) refl e
+  met_at a action.SetCount fault e = subst (λ (r : Effect). Does (count_parts p statement a) r) e (count_edge a)
+  met_at a action.Down fault e = absurd (cc)
+  met_at a (action.Open k) fault e = subst (λ (r : Effect). Does (call_parts p statement true k a) r) e (call_edge true k a)
+  met_at a (action.Close k) fault e = subst (λ (r : Effect). Does (call_parts p statement true k a) r) e (call_edge true k a)
+  met_at a action.Take fault e = subst (λ (r : Effect). Does (read_parts p statement a) r) e (read_edge 0 a)
+  met_at a action.AtEnd fault e = subst (λ (r : Effect). Does (read_parts p statement a) r) e (read_edge 10 a)
+  met_at a (action.Bad k) fault e = subst (λ (r : Effect). Does (bad_parts p statement k a) r) e (bad_edge k a)
+  met_at a action.Write fault e = subst (λ (r : Effect). Does (call_parts p statement true 0 a) r) e (call_edge true 0 a)
+  met_at a action.Show fault e = subst (λ (r : Effect). Does [] r) e (show_edge a)
+
+  -- the statement with the number
+  by_act : (a : Act) (x : Action) (r : Effect) → act_at p statement ≡ Some a → effect p statement c w x ≡ r →
+      effect_of p statement c w x a ≡ r
+  by_act a x r its e =
+      sym (ap (λ (o : Option Act). option_map_or (effect_of p statement c w x) o not_taken) its) ∙ e
+
+pub parts_are_passed : PartsArePassed
+parts_are_passed p statement c a x w v its h e =
+    let g = passed p statement c w a x v h (by_act p statement c w a x (taken v) its e) in
+    record { last = g.0; way = g.1; storage = g.2; counts = g.3; fails = g.4 }
+
+pub faults_are_met : FaultsAreMet
+faults_are_met p statement c a x w fault its e =
+    met_at p statement c w a x fault (by_act p statement c w a x (Err fault) its e)

@@ -1,14 +1,13 @@
 -- That the parts of an edge do what the edge does.
-use Rattle.std.specs.Prelude.{◌≡◌, if◌then◌else◌, ℕ, Bool, true, false, List, Option, Some, None, is_some, Ok, Err}
+use Rattle.std.specs.Prelude.{◌≡◌, if◌then◌else◌, ℕ, true, Some, is_some, Ok, Err}
 use Rattle.cob_tree.specs.declared.fault.Kind.{Kind}
-use Rattle.cob_program.specs.Act.{times, Act, arith, perform, Program}
+use Rattle.cob_program.specs.Act.{Act, Program}
 use Rattle.cob_runs.specs.declared.action.Action.{Action}
 use Rattle.cob_runs.specs.declared.action.Action.TheVariants as action
 use Rattle.cob_runs.specs.Files.{Choice}
 use Rattle.cob_runs.specs.State.{World}
-use Rattle.cob_runs.specs.Steps.{is_given}
 use Rattle.cob_runs.specs.Effects.{effect, act_at}
-use Rattle.cob_walks.specs.Parts.{parts_of, is_handled}
+use Rattle.cob_walks.specs.Parts.{parts_of, has_phrase, is_handled, reads_count}
 use Rattle.cob_walks.specs.Meaning.{Moment, beginning, count_in, PassesAll, Meets}
 
 -- ---- what is passed
@@ -22,12 +21,9 @@ pub record Leads (p : Program) (statement : ℕ) (a : Act) (x : Action) (w v : W
   pub counts : last.counts ≡ v.counts
   pub fails : last.failed ≡ is_handled a x
 
--- The counter of TIMES is a number where its test stands and where it goes down: on each way the loop has set it.
+-- The counter of TIMES is a number where its test stands and where it goes down, since the loop has set it on each way.
 abbrev pub IsCounted : ℕ → Act → Action → World → Type 0
-IsCounted statement a action.Down w = is_some (count_in w.counts statement) ≡ true
-IsCounted statement (perform body (times x)) (action.True k) w = is_some (count_in w.counts statement) ≡ true
-IsCounted statement (perform body (times x)) (action.False k) w = is_some (count_in w.counts statement) ≡ true
-IsCounted statement a x w = Unit {0}
+IsCounted statement a x w = reads_count a x ≡ true → is_some (count_in w.counts statement) ≡ true
 
 -- where an edge is taken, its parts are passed
 abbrev pub PartsArePassed : Type 0
@@ -40,7 +36,7 @@ PartsArePassed = (p : Program) (statement : ℕ) (c : Choice) (a : Act) (x : Act
 -- The edge on whose parts a statement's fault is met: where it has ON SIZE ERROR, the one to its list, since a receiver
 -- that isn't numeric may follow one that keeps its value.
 abbrev pub fault_edge : Act → Action → Action
-fault_edge (arith s targets remainder size fine) x = if is_given size then action.Size else x
+fault_edge a action.Done = if has_phrase a then action.Size else action.Done
 fault_edge a x = x
 
 -- where a statement meets a fault, one of the parts does

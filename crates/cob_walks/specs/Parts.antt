@@ -284,7 +284,24 @@ module _ (p : Program) (statement : ℕ) where
   parts_of a action.Write = call_parts true 0 a
   parts_of a action.Show = []
 
+-- ---- kinds of edges
+
+abbrev pub has_phrase : Act → Bool
+has_phrase (arith s targets remainder size fine) = is_given size
+has_phrase _ = false
+
 -- whether an edge goes to the list of ON SIZE ERROR
 abbrev pub is_handled : Act → Action → Bool
-is_handled (arith s targets remainder size fine) action.Size = is_given size
-is_handled a x = false
+is_handled a action.Size = has_phrase a
+is_handled a _ = false
+
+abbrev pub is_times : Act → Bool
+is_times (perform body (times x)) = true
+is_times _ = false
+
+-- whether an edge reads the counter of its statement
+abbrev pub reads_count : Act → Action → Bool
+reads_count a action.Down = true
+reads_count a (action.True k) = is_times a
+reads_count a (action.False k) = is_times a
+reads_count a _ = false
