@@ -1,6 +1,6 @@
 -- Arithmetic statements: operands are read, divisors count, each receiver in turn is read and stored, then a remainder.
-use Rattle.std.proofs.Common.{◌≡◌, ℕ, Bool, true, false, ◌&&◌, ◌||◌, not, List, [], ◌∷◌, ◌++◌, ◌⊎◌, inl, inr, Option, Some, None, Result, Ok, Err, ℤ, refl, sym, ap, subst, ◌∙◌}
-use Rattle.std.specs.Prelude.{if◌then◌else◌, is_some}
+use Rattle.std.proofs.Common.{◌≡◌, ℕ, Bool, true, false, ◌||◌, not, List, [], ◌∷◌, ◌++◌, inl, Option, Some, None, Result, Ok, Err, ℤ, refl, sym, ap, subst, ◌∙◌}
+use Rattle.std.specs.Prelude.{if◌then◌else◌}
 use Rattle.std.specs.List.{list_all}
 use Rattle.std.proofs.lemmas.Bool.{false≢true}
 use Rattle.dec_num.specs.declared.types.Mode.{Mode}
@@ -24,56 +24,65 @@ use Rattle.cob_walks.specs.Parts.{Part, Amount, item_reads, own_reads, divides, 
 use Rattle.cob_walks.specs.Meaning.{Moment, divided_by_zero, divides_by, is_left_alone, misfit_of, stored_bytes, stored_or_kept, PassesAll, Meets}
 use Rattle.cob_walks.proofs.Booleans.{or_true, or_false}
 use Rattle.cob_walks.proofs.Divisors.{divisors_are}
-use Rattle.cob_walks.proofs.Passing.{moment, passes_on, meets_behind, meets_front, ReadsSo, items_read, DividesSo, divisors_count, divisors_handled}
+use Rattle.cob_walks.proofs.Passing.{fine_moment, passes_on, meets_behind, meets_front, ReadsSo, items_read, DividesSo, divisors_count, divisors_handled}
 
 module _ (l : Layout) (handled : Bool) (counts : List (Option ℤ)) (first : List ℕ) where
   -- what is passed where a receiver gets its value, or keeps it
   abbrev pub StepsSo : List Part → List ℕ → Scaled → Bool → Result Receiving Kind → Type 0
   StepsSo xs now own failed (Ok x) =
-      (v : Scaled) × PassesAll l handled xs (moment now counts first own failed)
-      (moment x.storage counts first v (failed || x.failed))
-  StepsSo xs now own failed (Err fault) = Meets l handled xs (moment now counts first own failed) fault
+      (v : Scaled) × PassesAll l handled xs (fine_moment now counts first own failed)
+      (fine_moment x.storage counts first v (failed || x.failed))
+  StepsSo xs now own failed (Err fault) = Meets l handled xs (fine_moment now counts first own failed) fault
 
   -- what is passed behind which so much has failed
   abbrev pub DoneSo : List Part → List ℕ → Scaled → Bool → Result Receiving Kind → Type 0
   DoneSo xs now own failed (Ok x) =
-      (v : Scaled) × PassesAll l handled xs (moment now counts first own failed) (moment x.storage counts first v x.failed)
-  DoneSo xs now own failed (Err fault) = Meets l handled xs (moment now counts first own failed) fault
+      (v : Scaled) × PassesAll l handled xs (fine_moment now counts first own failed) (fine_moment x.storage counts first v x.failed)
+  DoneSo xs now own failed (Err fault) = Meets l handled xs (fine_moment now counts first own failed) fault
 
 -- ---- a store
 
 module _ (l : Layout) (counts : List (Option ℤ)) (first : List ℕ) (place : ℕ) (mode : Mode) (a : Amount)
     (is : misfit_of a ≡ kind.Size) (now : List ℕ) (own : Scaled) (failed : Bool) where
-  same_flag : (storage : List ℕ) → moment storage counts first own (failed || false) ≡ moment storage counts first own failed
-  same_flag storage = ap (λ b. moment storage counts first own b) (or_false failed)
+  same_flag : (storage : List ℕ) → fine_moment storage counts first own (failed || false) ≡ fine_moment storage counts first own failed
+  same_flag storage = ap (λ b. fine_moment storage counts first own b) (or_false failed)
 
   kept_alone : (b : Bool) (m n : Moment) → b ≡ false → n ≡ (if b then m else n)
   kept_alone false m n e = refl
   kept_alone true m n e = absurd (false≢true (sym e))
 
   pub store_step : (handled : Bool) (o : Option (List ℕ)) →
-      is_left_alone (moment now counts first own failed) a ≡ false →
-      stored_bytes l (moment now counts first own failed) place mode a ≡ o →
+      is_left_alone (fine_moment now counts first own failed) a ≡ false →
+      stored_bytes l (fine_moment now counts first own failed) place mode a ≡ o →
       StepsSo l handled counts first (part.store place mode a ∷ []) now own failed (received l handled now place o)
-  store_step true (Some bytes) alone e =
-      (own,
-      (moment (filled_at l now place bytes) counts first own (failed || false),
+  store_step true (Some bytes) alone e = (
+    own,
+    (
+      fine_moment (filled_at l now place bytes) counts first own (failed || false),
       same_flag (filled_at l now place bytes)
-      ∙ (ap (λ (o : Option (List ℕ)). stored_or_kept l (moment now counts first own failed) place o) (sym e)
-      ∙ kept_alone (is_left_alone (moment now counts first own failed) a) _ _ alone),
-      refl))
-  store_step true None alone e =
-      (own,
-      (moment now counts first own (failed || true),
-      ap (λ b. moment now counts first own b) (or_true failed)
-      ∙ (ap (λ (o : Option (List ℕ)). stored_or_kept l (moment now counts first own failed) place o) (sym e)
-      ∙ kept_alone (is_left_alone (moment now counts first own failed) a) _ _ alone),
-      refl))
-  store_step false (Some bytes) alone e =
-      (own,
-      (moment (filled_at l now place bytes) counts first own (failed || false),
+          ∙ (ap (λ (o : Option (List ℕ)). stored_or_kept l (fine_moment now counts first own failed) place o) (sym e)
+          ∙ kept_alone (is_left_alone (fine_moment now counts first own failed) a) _ _ alone),
+      refl,
+    ),
+  )
+  store_step true None alone e = (
+    own,
+    (
+      fine_moment now counts first own (failed || true),
+      ap (λ b. fine_moment now counts first own b) (or_true failed)
+          ∙ (ap (λ (o : Option (List ℕ)). stored_or_kept l (fine_moment now counts first own failed) place o) (sym e)
+          ∙ kept_alone (is_left_alone (fine_moment now counts first own failed) a) _ _ alone),
+      refl,
+    ),
+  )
+  store_step false (Some bytes) alone e = (
+    own,
+    (
+      fine_moment (filled_at l now place bytes) counts first own (failed || false),
       (bytes, e, same_flag (filled_at l now place bytes)),
-      refl))
+      refl,
+    ),
+  )
   store_step false None alone e = inl (e, sym is)
 
 module _ (l : Layout) (handled : Bool) (counts : List (Option ℤ)) (first : List ℕ) (s : Sum) where
@@ -81,13 +90,13 @@ module _ (l : Layout) (handled : Bool) (counts : List (Option ℤ)) (first : Lis
 
   abbrev OwnSo : How → List Part → List ℕ → Scaled → Bool → Result Scaled Kind → Type 0
   OwnSo h xs now own failed (Ok v) =
-      (u : Scaled) × PassesAll l handled xs (moment now counts first own failed) (moment now counts first u failed)
+      (u : Scaled) × PassesAll l handled xs (fine_moment now counts first own failed) (fine_moment now counts first u failed)
       × (result (worth l first) s h u ≡ result (worth l first) s h v)
-  OwnSo h xs now own failed (Err fault) = Meets l handled xs (moment now counts first own failed) fault
+  OwnSo h xs now own failed (Err fault) = Meets l handled xs (fine_moment now counts first own failed) fault
 
   own_read : (h : How) (place : ℕ) (now : List ℕ) (own : Scaled) (failed : Bool) (o : Option Scaled) →
       number_at l now place ≡ o → OwnSo h (part.read place ∷ []) now own failed (or_fault kind.Class o)
-  own_read h place now own failed (Some v) e = (v, (moment now counts first v failed, (v, e, refl), refl), refl)
+  own_read h place now own failed (Some v) e = (v, (fine_moment now counts first v failed, (v, e, refl), refl), refl)
   own_read h place now own failed None e = inl (refl, e, refl)
 
   own_step : (h : How) (place : ℕ) (now : List ℕ) (own : Scaled) (failed : Bool) →
@@ -99,13 +108,15 @@ module _ (l : Layout) (handled : Bool) (counts : List (Option ℤ)) (first : Lis
   own_step how.Under place now own failed = own_read how.Under place now own failed (number_at l now place) refl
 
   steps_behind : (xs ys : List Part) (now : List ℕ) (own v : Scaled) (failed : Bool) (r : Result Receiving Kind) →
-      PassesAll l handled xs (moment now counts first own failed) (moment now counts first v failed) →
+      PassesAll l handled xs (fine_moment now counts first own failed) (fine_moment now counts first v failed) →
       StepsSo l handled counts first ys now v failed r → StepsSo l handled counts first (xs ++ ys) now own failed r
-  steps_behind xs ys now own v failed (Ok x) h g =
-      (g.0, passes_on l handled xs ys (moment now counts first own failed) (moment now counts first v failed)
-      (moment x.storage counts first g.0 (failed || x.failed)) h g.1)
+  steps_behind xs ys now own v failed (Ok x) h g = (
+    g.0,
+    passes_on l handled xs ys (fine_moment now counts first own failed) (fine_moment now counts first v failed)
+        (fine_moment x.storage counts first g.0 (failed || x.failed)) h g.1,
+  )
   steps_behind xs ys now own v failed (Err fault) h g =
-      meets_behind l handled xs ys (moment now counts first own failed) (moment now counts first v failed) fault h g
+      meets_behind l handled xs ys (fine_moment now counts first own failed) (fine_moment now counts first v failed) fault h g
 
   own_on : (t : Target) (now : List ℕ) (own : Scaled) (failed : Bool) (r : Result Scaled Kind) →
       OwnSo t.how (own_reads t.how t.item) now own failed r →
@@ -119,7 +130,7 @@ module _ (l : Layout) (handled : Bool) (counts : List (Option ℤ)) (first : Lis
       (ap (λ (o : Option Fraction). value.◌>>=◌ o (λ x. stored t.mode (form_at l t.item) x)) h.2))
   own_on t now own failed (Err fault) h =
       meets_front l handled (own_reads t.how t.item) (part.store t.item t.mode (part.computed s t.how) ∷ [])
-      (moment now counts first own failed) fault h
+      (fine_moment now counts first own failed) fault h
 
   target_step : (t : Target) (now : List ℕ) (own : Scaled) (failed : Bool) →
       StepsSo l handled counts first (target_parts s t) now own failed (receive l handled (worth l first) s now t)
@@ -129,13 +140,15 @@ module _ (l : Layout) (handled : Bool) (counts : List (Option ℤ)) (first : Lis
   -- ---- all receivers
 
   done_behind : (xs ys : List Part) (now behind : List ℕ) (own v : Scaled) (failed flag : Bool) (r : Result Receiving Kind) →
-      PassesAll l handled xs (moment now counts first own failed) (moment behind counts first v flag) →
+      PassesAll l handled xs (fine_moment now counts first own failed) (fine_moment behind counts first v flag) →
       DoneSo l handled counts first ys behind v flag r → DoneSo l handled counts first (xs ++ ys) now own failed r
-  done_behind xs ys now behind own v failed flag (Ok x) h g =
-      (g.0, passes_on l handled xs ys (moment now counts first own failed) (moment behind counts first v flag)
-      (moment x.storage counts first g.0 x.failed) h g.1)
+  done_behind xs ys now behind own v failed flag (Ok x) h g = (
+    g.0,
+    passes_on l handled xs ys (fine_moment now counts first own failed) (fine_moment behind counts first v flag)
+        (fine_moment x.storage counts first g.0 x.failed) h g.1,
+  )
   done_behind xs ys now behind own v failed flag (Err fault) h g =
-      meets_behind l handled xs ys (moment now counts first own failed) (moment behind counts first v flag) fault h g
+      meets_behind l handled xs ys (fine_moment now counts first own failed) (fine_moment behind counts first v flag) fault h g
 
   steps_on : (xs ys : List Part) (now : List ℕ) (own : Scaled) (failed : Bool) (r : Result Receiving Kind)
       (f : Receiving → Result Receiving Kind) → StepsSo l handled counts first xs now own failed r →
@@ -144,7 +157,7 @@ module _ (l : Layout) (handled : Bool) (counts : List (Option ℤ)) (first : Lis
   steps_on xs ys now own failed (Ok x) f h g =
       done_behind xs ys now x.storage own h.0 failed (failed || x.failed) (f x) h.1 (g x h.0)
   steps_on xs ys now own failed (Err fault) f h g =
-      meets_front l handled xs ys (moment now counts first own failed) fault h
+      meets_front l handled xs ys (fine_moment now counts first own failed) fault h
 
   targets_step : (ts : List Target) (so_far : Receiving) (own : Scaled) →
       DoneSo l handled counts first (targets_parts s ts) so_far.storage own so_far.failed
@@ -178,7 +191,7 @@ module _ (l : Layout) (counts : List (Option ℤ)) (first : List ℕ) (s : Sum) 
       (received l handled now place (stored_result l handled Trunc place (remainder_of (worth l first) (scale_of (form_at l t.item)) (root_of s))))
       (store_step l counts first place Trunc (part.remaining s (scale_of (form_at l t.item))) refl now own false handled
       (stored_result l handled Trunc place (remainder_of (worth l first) (scale_of (form_at l t.item)) (root_of s))) refl refl)
-  remainder_step true true (t ∷ []) (Some place) now own h = (own, (moment now counts first own true, refl, refl))
+  remainder_step true true (t ∷ []) (Some place) now own h = (own, (fine_moment now counts first own true, refl, refl))
   remainder_step false true (t ∷ []) (Some place) now own h = absurd (false≢true (sym h))
   remainder_step handled true [] remainder now own h = (own, refl)
   remainder_step handled false [] remainder now own h = (own, refl)
@@ -284,7 +297,7 @@ module _ (l : Layout) (w : ℕ → Scaled) (s : Sum) where
   all_same (t ∷ ts) so_far x e f =
       let h = bind_ok (receive l true w s so_far.storage t) (λ r. receive_all l true w s (receiving r.storage (so_far.failed || r.failed)) ts) x e in
       let none = first_unfailed so_far.failed h.0.failed
-          (λ g. false≢true (sym f ∙ stays ts (receiving h.0.storage (so_far.failed || h.0.failed)) x h.2 g)) in
+      (λ g. false≢true (sym f ∙ stays ts (receiving h.0.storage (so_far.failed || h.0.failed)) x h.2 g)) in
       ap (λ (r : Result Receiving Kind). r >>= λ r. receive_all l false w s (receiving r.storage (so_far.failed || r.failed)) ts)
       (receive_same so_far.storage t h.0 h.1 none.1)
       ∙ all_same ts (receiving h.0.storage (so_far.failed || h.0.failed)) x h.2 f
@@ -329,7 +342,7 @@ module _ (l : Layout) (counts : List (Option ℤ)) (storage : List ℕ) (s : Sum
   done_on handled xs ys own (Ok x) f h g =
       done_behind l handled counts storage s xs ys storage x.storage own h.0 false x.failed (f x) h.1 (g x h.0 refl)
   done_on handled xs ys own (Err fault) f h g =
-      meets_front l handled xs ys (moment storage counts storage own false) fault h
+      meets_front l handled xs ys (fine_moment storage counts storage own false) fault h
 
   unfailed : (handled : Bool) (x : Receiving) →
       receive_all l handled (worth l storage) s (receiving storage false) ts ≡ Ok x → IsUnfailed l counts storage s handled x.failed
@@ -337,12 +350,12 @@ module _ (l : Layout) (counts : List (Option ℤ)) (storage : List ℕ) (s : Sum
   unfailed false x e = plain_all l (worth l storage) s ts (receiving storage false) x e refl
 
   as_arith : (handled : Bool) (xs : List Part) (own : Scaled) (r : Result Receiving Kind) →
-      DoneSo l handled counts storage xs storage own false r → ArithSo l handled (moment storage counts storage own false) xs r
-  as_arith handled xs own (Ok x) h = (moment x.storage counts storage h.0 x.failed, h.1, refl, refl, refl)
+      DoneSo l handled counts storage xs storage own false r → ArithSo l handled (fine_moment storage counts storage own false) xs r
+  as_arith handled xs own (Ok x) h = (fine_moment x.storage counts storage h.0 x.failed, h.1, refl, refl, refl)
   as_arith handled xs own (Err fault) h = h
 
   receivers_then : (handled : Bool) (own : Scaled) →
-      ArithSo l handled (moment storage counts storage own false) (targets_parts s ts ++ remainder_parts l s ts remainder)
+      ArithSo l handled (fine_moment storage counts storage own false) (targets_parts s ts ++ remainder_parts l s ts remainder)
       (receive_all l handled (worth l storage) s (receiving storage false) ts
       >>= λ r. remainder_received l handled r.failed (worth l storage) s ts remainder r.storage)
   receivers_then handled own =
@@ -366,48 +379,52 @@ module _ (l : Layout) (counts : List (Option ℤ)) (storage : List ℕ) (s : Sum
   divisors_pass own z e = sym (divisors_are (worth l storage) s ts) ∙ ap not e
 
   by_divisors : (handled : Bool) (own : Scaled) (z : Bool) → has_zero_divisor (worth l storage) s ts ≡ z →
-      ArithSo l handled (moment storage counts storage own false) all (after_divisors l handled storage s ts remainder z)
+      ArithSo l handled (fine_moment storage counts storage own false) all (after_divisors l handled storage s ts remainder z)
   by_divisors false own false e =
-      arith_behind l false (divides (divisors_of s ts)) rest (moment storage counts storage own false)
-      (moment storage counts storage own false) _
-      (subst (λ b. DividesSo l (divides (divisors_of s ts)) (moment storage counts storage own false) b) (divisors_pass own false e)
-      (divisors_count l (divisors_of s ts) (moment storage counts storage own false)))
+      arith_behind l false (divides (divisors_of s ts)) rest (fine_moment storage counts storage own false)
+      (fine_moment storage counts storage own false) _
+      (subst (λ b. DividesSo l (divides (divisors_of s ts)) (fine_moment storage counts storage own false) b) (divisors_pass own false e)
+      (divisors_count l (divisors_of s ts) (fine_moment storage counts storage own false)))
       refl (receivers_then false own)
   by_divisors true own false e =
-      arith_behind l true (divides (divisors_of s ts)) rest (moment storage counts storage own false)
-      (moment storage counts storage own false) _
-      (subst (λ b. PassesAll l true (divides (divisors_of s ts)) (moment storage counts storage own false)
-      (if b then moment storage counts storage own false else divided_by_zero (moment storage counts storage own false)))
-      (divisors_pass own false e) (divisors_handled l (divisors_of s ts) (moment storage counts storage own false)))
+      arith_behind l true (divides (divisors_of s ts)) rest (fine_moment storage counts storage own false)
+      (fine_moment storage counts storage own false) _
+      (subst (λ b. PassesAll l true (divides (divisors_of s ts)) (fine_moment storage counts storage own false)
+      (if b then fine_moment storage counts storage own false else divided_by_zero (fine_moment storage counts storage own false)))
+      (divisors_pass own false e) (divisors_handled l (divisors_of s ts) (fine_moment storage counts storage own false)))
       refl (receivers_then true own)
   by_divisors false own true e =
-      meets_front l false (divides (divisors_of s ts)) rest (moment storage counts storage own false) kind.Zero
-      (subst (λ b. DividesSo l (divides (divisors_of s ts)) (moment storage counts storage own false) b) (divisors_pass own true e)
-      (divisors_count l (divisors_of s ts) (moment storage counts storage own false)))
+      meets_front l false (divides (divisors_of s ts)) rest (fine_moment storage counts storage own false) kind.Zero
+      (subst (λ b. DividesSo l (divides (divisors_of s ts)) (fine_moment storage counts storage own false) b) (divisors_pass own true e)
+      (divisors_count l (divisors_of s ts) (fine_moment storage counts storage own false)))
   by_divisors true own true e =
-      arith_behind l true (divides (divisors_of s ts)) rest (moment storage counts storage own false)
-      (divided_by_zero (moment storage counts storage own false)) (Ok (receiving storage true))
-      (subst (λ b. PassesAll l true (divides (divisors_of s ts)) (moment storage counts storage own false)
-      (if b then moment storage counts storage own false else divided_by_zero (moment storage counts storage own false)))
-      (divisors_pass own true e) (divisors_handled l (divisors_of s ts) (moment storage counts storage own false)))
-      refl
-      (divided_by_zero (moment storage counts storage own false),
-      all_kept l counts storage s (moment storage counts storage own false) ts remainder, refl, refl, refl)
+      arith_behind l true (divides (divisors_of s ts)) rest (fine_moment storage counts storage own false)
+      (divided_by_zero (fine_moment storage counts storage own false)) (Ok (receiving storage true))
+      (subst (λ b. PassesAll l true (divides (divisors_of s ts)) (fine_moment storage counts storage own false)
+      (if b then fine_moment storage counts storage own false else divided_by_zero (fine_moment storage counts storage own false)))
+      (divisors_pass own true e) (divisors_handled l (divisors_of s ts) (fine_moment storage counts storage own false)))
+      refl (
+        divided_by_zero (fine_moment storage counts storage own false),
+        all_kept l counts storage s (fine_moment storage counts storage own false) ts remainder,
+        refl,
+        refl,
+        refl,
+      )
 
   by_reads : (handled : Bool) (own : Scaled) (b : Bool) →
       ReadsSo l handled storage counts storage false (item_reads (items_in s)) own b →
-      ArithSo l handled (moment storage counts storage own false) (item_reads (items_in s) ++ all)
+      ArithSo l handled (fine_moment storage counts storage own false) (item_reads (items_in s) ++ all)
       (if b then after_divisors l handled storage s ts remainder (has_zero_divisor (worth l storage) s ts) else Err kind.Class)
   by_reads handled own true h =
-      arith_behind l handled (item_reads (items_in s)) all (moment storage counts storage own false)
-      (moment storage counts storage h.0 false) _ h.1 refl
+      arith_behind l handled (item_reads (items_in s)) all (fine_moment storage counts storage own false)
+      (fine_moment storage counts storage h.0 false) _ h.1 refl
       (by_divisors handled h.0 (has_zero_divisor (worth l storage) s ts) refl)
   by_reads handled own false h =
-      meets_front l handled (item_reads (items_in s)) all (moment storage counts storage own false) kind.Class h
+      meets_front l handled (item_reads (items_in s)) all (fine_moment storage counts storage own false) kind.Class h
 
   -- an arithmetic statement passes its parts, or one of them meets its fault
   pub arith_does : (handled : Bool) (own : Scaled) →
-      ArithSo l handled (moment storage counts storage own false) (arith_parts l s ts remainder)
+      ArithSo l handled (fine_moment storage counts storage own false) (arith_parts l s ts remainder)
       (after_arithmetic l handled storage s ts remainder)
   arith_does handled own =
       by_reads handled own (are_numeric l storage (items_in s))

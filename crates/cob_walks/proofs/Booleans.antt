@@ -1,5 +1,5 @@
 -- Tests joined.
-use Rattle.std.proofs.Common.{◌≡◌, ℕ, Bool, true, false, ◌&&◌, ◌||◌, not, refl, sym}
+use Rattle.std.proofs.Common.{◌≡◌, Bool, true, false, ◌&&◌, ◌||◌, refl}
 
 pub or_false : (a : Bool) → (a || false) ≡ a
 or_false true = refl

@@ -1,6 +1,6 @@
 -- Counters of TIMES, and the augmenting of VARYING.
-use Rattle.std.proofs.Common.{◌≡◌, ℕ, zero, suc, Bool, true, false, not, List, [], ◌∷◌, ◌++◌, ◌⊎◌, inl, inr, Option, Some, None, Result, Ok, Err, ℤ, pos, negsuc, refl, sym, ap, subst, ◌∙◌}
-use Rattle.std.specs.Prelude.{if◌then◌else◌, is_some, slice_get, ◌-ℤ◌}
+use Rattle.std.proofs.Common.{◌≡◌, ℕ, zero, suc, Bool, true, false, not, List, [], ◌∷◌, ◌++◌, inl, Option, Some, None, Result, Ok, Err, ℤ, pos, negsuc, refl, ap}
+use Rattle.std.specs.Prelude.{if◌then◌else◌, is_some, ◌-ℤ◌}
 use Rattle.std.specs.Option.{option_map, option_map_or}
 use Rattle.std.proofs.lemmas.Bool.{false≢true}
 use Rattle.dec_num.specs.declared.types.Mode.TheVariants.{Trunc}
@@ -23,18 +23,18 @@ use Rattle.cob_runs.specs.State.{World, with_storage}
 use Rattle.cob_runs.specs.Acts.{move, count_of, set_count, count_down, augment}
 use Rattle.cob_runs.specs.Acts as act
 use Rattle.cob_runs.specs.Steps.{is_left}
-use Rattle.cob_runs.specs.Effects.{Effect, taken, taken_if, met}
+use Rattle.cob_runs.specs.Effects.{taken, taken_if, met}
 use Rattle.cob_walks.specs.Parts as part
 use Rattle.cob_walks.specs.Parts.{Part, number_reads, augment_parts, move_parts, test_reads}
-use Rattle.cob_walks.specs.Meaning.{Moment, beginning, count_in, is_positive, stored_bytes, PassesAll, Meets}
-use Rattle.cob_walks.proofs.Passing.{moment, passes_on, meets_behind, meets_front, ReadsSo, sender_read, item_read}
+use Rattle.cob_walks.specs.Meaning.{Moment, count_in, is_positive, stored_bytes, PassesAll, Meets}
+use Rattle.cob_walks.proofs.Passing.{fine_moment, passes_on, meets_behind, meets_front, ReadsSo, sender_read}
 use Rattle.cob_walks.proofs.Moving.{LeavesSo, move_does}
 use Rattle.cob_walks.proofs.Testing.{TestsSo, test_does}
 use Rattle.cob_walks.proofs.Filing.{EdgeSo}
 
 module _ (l : Layout) (w : World) where
   abbrev at : Scaled → Moment
-  at own = moment w.storage w.counts w.storage own false
+  at own = fine_moment w.storage w.counts w.storage own false
 
   abbrev start : Scaled
   start = whole_number (pos 0)
@@ -43,7 +43,7 @@ module _ (l : Layout) (w : World) where
 
   moved_edge : (xs : List Part) (r : Result (List ℕ) Kind) → LeavesSo l w.counts xs w.storage start r →
       EdgeSo l false xs w (met (r >>= λ storage. Ok (with_storage w storage)))
-  moved_edge xs (Ok now) h = (moment now w.counts w.storage h.0 false, h.1, refl, refl, refl)
+  moved_edge xs (Ok now) h = (fine_moment now w.counts w.storage h.0 false, h.1, refl, refl, refl)
   moved_edge xs (Err fault) h = h
 
   pub move_edge : (x : Sender) (places : List ℕ) → EdgeSo l false (move_parts l x places) w (met (move l x places w))
@@ -56,14 +56,17 @@ module _ (l : Layout) (w : World) where
       ReadsSo l false w.storage w.counts w.storage false (number_reads x) start (is_some o) →
       EdgeSo l false (number_reads x ++ part.set_count statement x ∷ []) w
       (met (or_fault kind.Class o >>= λ n. Ok (act.with_count l statement n.units w)))
-  set_by statement x (Some v) e h =
-      (moment_set,
-      passes_on l false (number_reads x) (part.set_count statement x ∷ []) (at start) (at h.0) moment_set h.1
-      (moment_set, (v, e, refl), refl),
-      refl, refl, refl)
+  set_by statement x (Some v) e h = (
+    moment_set,
+    passes_on l false (number_reads x) (part.set_count statement x ∷ []) (at start) (at h.0) moment_set h.1
+        (moment_set, (v, e, refl), refl),
+    refl,
+    refl,
+    refl,
+  )
     where
       moment_set : Moment
-      moment_set = moment w.storage (act.with_count l statement v.units w).counts w.storage h.0 false
+      moment_set = fine_moment w.storage (act.with_count l statement v.units w).counts w.storage h.0 false
   set_by statement x None e h = meets_front l false (number_reads x) (part.set_count statement x ∷ []) (at start) kind.Class h
 
   pub set_edge : (statement : ℕ) (x : Sender) →
@@ -78,7 +81,7 @@ module _ (l : Layout) (w : World) where
       (last, (at (whole_number v), (v, e, refl), (last, refl, refl)), refl, refl, refl)
     where
       last : Moment
-      last = moment w.storage (act.with_count l statement (v -ℤ pos 1) w).counts w.storage (whole_number v) false
+      last = fine_moment w.storage (act.with_count l statement (v -ℤ pos 1) w).counts w.storage (whole_number v) false
   down_by statement None e f = absurd (false≢true f)
 
   pub down_edge : (statement : ℕ) → is_some (count_in w.counts statement) ≡ true →
@@ -117,18 +120,24 @@ module _ (l : Layout) (w : World) where
   tested_by : (t : Test) (wanted : Bool) (r : Result Bool Kind) → test_holds l w.storage t ≡ r →
       TestsSo l w.storage w.counts (test_reads l t) start r →
       EdgeSo l false (test_reads l t ++ part.guard t wanted ∷ []) w (r >>= λ b. taken_if (if wanted then b else not b) w)
-  tested_by t true (Ok true) e h =
-      (at h.0,
-      passes_on l false (test_reads l t) (part.guard t true ∷ []) (at start) (at h.0) (at h.0) h.1
-      (at h.0, (e, refl), refl),
-      refl, refl, refl)
+  tested_by t true (Ok true) e h = (
+    at h.0,
+    passes_on l false (test_reads l t) (part.guard t true ∷ []) (at start) (at h.0) (at h.0) h.1
+        (at h.0, (e, refl), refl),
+    refl,
+    refl,
+    refl,
+  )
   tested_by t true (Ok false) e h = tt
   tested_by t false (Ok true) e h = tt
-  tested_by t false (Ok false) e h =
-      (at h.0,
-      passes_on l false (test_reads l t) (part.guard t false ∷ []) (at start) (at h.0) (at h.0) h.1
-      (at h.0, (e, refl), refl),
-      refl, refl, refl)
+  tested_by t false (Ok false) e h = (
+    at h.0,
+    passes_on l false (test_reads l t) (part.guard t false ∷ []) (at start) (at h.0) (at h.0) h.1
+        (at h.0, (e, refl), refl),
+    refl,
+    refl,
+    refl,
+  )
   tested_by t wanted (Err fault) e h = meets_front l false (test_reads l t) (part.guard t wanted ∷ []) (at start) fault h
 
   pub test_edge : (t : Test) (wanted : Bool) →
@@ -154,9 +163,13 @@ module _ (l : Layout) (w : World) where
       stored_bytes l (at own) place Trunc (part.augmented by) ≡ o →
       AugmentsSo (part.store place Trunc (part.augmented by) ∷ []) own
       (or_fault kind.Size o >>= λ bytes. Ok (with_storage w (filled_at l w.storage place bytes)))
-  store_augmented place by own (Some bytes) e =
-      (moment (filled_at l w.storage place bytes) w.counts w.storage own false,
-      (moment (filled_at l w.storage place bytes) w.counts w.storage own false, (bytes, e, refl), refl), refl, refl, refl)
+  store_augmented place by own (Some bytes) e = (
+    fine_moment (filled_at l w.storage place bytes) w.counts w.storage own false,
+    (fine_moment (filled_at l w.storage place bytes) w.counts w.storage own false, (bytes, e, refl), refl),
+    refl,
+    refl,
+    refl,
+  )
   store_augmented place by own None e = inl (e, refl)
 
   augments_behind : (x : Part) (xs : List Part) (own v : Scaled) (r : Result World Kind) →

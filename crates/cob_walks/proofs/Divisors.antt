@@ -12,7 +12,7 @@ use Rattle.cob_program.specs.declared.act.How.{How}
 use Rattle.cob_program.specs.declared.act.How.TheVariants as how
 use Rattle.cob_program.specs.Sum as sum
 use Rattle.cob_program.specs.Sum.{Sum, MkSum, no_parts, more_parts, MkPart, Factors, no_factors, more_factors, Factor, MkFactor, Atom, item, number, group}
-use Rattle.cob_program.specs.Values.{◌>>=◌, whole_number, negated, plus, product, quotient, with_factor, sum_value, sum_from, part_value, product_from, atom_value, Root, root_in, root_of, behind_factor, exact_quotient, stored_from, stored_value}
+use Rattle.cob_program.specs.Values.{◌>>=◌, whole_number, negated, plus, product, quotient, sum_value, sum_from, part_value, product_from, atom_value, Root, root_in, behind_factor, exact_quotient, stored_from, stored_value}
 use Rattle.cob_runs.specs.Computing.{result, has_zero_divisor}
 use Rattle.cob_walks.specs.Parts.{divisors_in, divisors_in_parts, divisors_in_factors, divisors_in_atom, is_under, divisors_of}
 use Rattle.cob_walks.specs.Meaning.{divides_by}

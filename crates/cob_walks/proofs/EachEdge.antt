@@ -1,6 +1,6 @@
 -- Each edge passes its parts where it is taken, and one of them meets the fault where its statement does.
-use Rattle.std.proofs.Common.{◌≡◌, ℕ, Bool, true, false, not, List, [], ◌∷◌, ◌++◌, Option, Some, None, Result, Ok, Err, ℤ, pos, refl, sym, ap, subst, ◌∙◌}
-use Rattle.std.specs.Prelude.{if◌then◌else◌, is_some, slice_get, ◌&&◌, ◌==◌}
+use Rattle.std.proofs.Common.{◌≡◌, ℕ, Bool, true, false, not, List, [], ◌∷◌, Option, Some, None, Result, Ok, Err, pos, refl, sym, ap, subst, ◌∙◌}
+use Rattle.std.specs.Prelude.{if◌then◌else◌, is_some, slice_get, ◌&&◌}
 use Rattle.std.specs.Option.{option_map, option_map_or}
 use Rattle.std.proofs.lemmas.Bool.{false≢true}
 use Rattle.cob_tree.specs.declared.fault.Kind.{Kind}
@@ -18,13 +18,12 @@ use Rattle.cob_runs.specs.Faults.{◌>>=◌}
 use Rattle.cob_runs.specs.Computing.{Receiving, after_arithmetic}
 use Rattle.cob_runs.specs.Files.{Choice}
 use Rattle.cob_runs.specs.State.{World, with_storage}
-use Rattle.cob_runs.specs.Acts.{compute, into_if, is_fine, decl_at, file_from, open_one, close_one, take_one, write_one, move_if}
+use Rattle.cob_runs.specs.Acts.{compute, into_if, file_from, move_if}
 use Rattle.cob_runs.specs.Steps.{is_given}
-use Rattle.cob_runs.specs.Effects.{Effect, taken, taken_if, not_taken, met, assigned, computed, decided, tested, counted, by_status, opened, closed, wrote, file_call, ended_with, bad_read, called_bad, read_with, shown, effect_of, effect, act_at, tests_in_act}
+use Rattle.cob_runs.specs.Effects.{Effect, taken, taken_if, not_taken, met, assigned, computed, decided, tested, counted, opened, closed, wrote, file_call, called_bad, read_with, shown, effect_of, effect, act_at, tests_in_act}
 use Rattle.cob_walks.specs.Parts.{Part, has_phrase, is_handled, is_times, file_call_parts, from_parts, arith_parts, test_parts, assign_parts, compute_parts, condition_parts, count_parts, call_parts, read_parts, bad_parts, parts_of}
-use Rattle.cob_walks.specs.Meaning.{Moment, beginning, count_in, PassesAll, Meets}
-use Rattle.cob_walks.specs.Edges.{Leads, IsCounted, fault_edge, PartsArePassed, FaultsAreMet}
-use Rattle.cob_walks.proofs.Passing.{moment}
+use Rattle.cob_walks.specs.Meaning.{beginning, count_in, Meets}
+use Rattle.cob_walks.specs.Edges.{IsCounted, fault_edge, PartsArePassed, FaultsAreMet}
 use Rattle.cob_walks.proofs.Arithmetic.{ArithSo, arith_does, arith_same, arith_unfailed, bind_ok}
 use Rattle.cob_walks.proofs.Filing.{EdgeSo, if_taken, opened_does, closed_does, taken_does, into_does, wrote_does}
 use Rattle.cob_walks.proofs.Counting.{move_edge, set_edge, down_edge, left_edge, test_edge, augment_edge}
@@ -199,7 +198,7 @@ module _ (p : Program) (statement : ℕ) (c : Choice) (w : World) where
         with_storage w x.storage ≡ v → EdgeSo p.layout handled (arith_parts p.layout s targets remainder) w (taken v)
     arith_passed handled x v e f g =
         let h = subst (λ (r : Result Receiving Kind). ArithSo p.layout handled (beginning w) (arith_parts p.layout s targets remainder) r)
-            e (arith_does p.layout w.counts w.storage s targets remainder handled (whole_number (pos 0))) in
+        e (arith_does p.layout w.counts w.storage s targets remainder handled (whole_number (pos 0))) in
         (h.0, h.1, h.2 ∙ ap (λ (u : World). u.storage) g, h.3 ∙ ap (λ (u : World). u.counts) g, h.4 ∙ f)
 
     computed_as : (failed phrase : Bool) (v : World) →
@@ -240,8 +239,8 @@ module _ (p : Program) (statement : ℕ) (c : Choice) (w : World) where
         Meets p.layout phrase (arith_parts p.layout s targets remainder) (beginning w) fault
     arith_met failed phrase fault e =
         let h = behind_fault (compute p.layout phrase s targets remainder w)
-            (λ x. taken_if (if failed then x.1 else not x.1) x.0) fault
-            (λ x k. if_ok (if failed then x.1 else not x.1) x.0 fault k) e in
+        (λ x. taken_if (if failed then x.1 else not x.1) x.0) fault
+        (λ x k. if_ok (if failed then x.1 else not x.1) x.0 fault k) e in
         let g = behind_fault (arithmetic phrase) (λ r. Ok (with_storage w r.storage, r.failed)) fault (λ r k. cc) h in
         subst (λ (r : Result Receiving Kind). ArithSo p.layout phrase (beginning w) (arith_parts p.layout s targets remainder) r)
         g (arith_does p.layout w.counts w.storage s targets remainder phrase (whole_number (pos 0)))

@@ -1,6 +1,6 @@
 -- MOVE, the setting of VARYING and FROM: the sender is read once, then each receiver gets a value or bytes.
-use Rattle.std.proofs.Common.{◌≡◌, ℕ, Bool, true, false, ◌&&◌, ◌||◌, not, List, [], ◌∷◌, ◌++◌, length, take, replicate, min, ◌⊎◌, inl, inr, Option, Some, None, Result, Ok, Err, ℤ, refl, sym, ap, subst, ◌∙◌, arith}
-use Rattle.std.specs.Prelude.{if◌then◌else◌, is_some, ◌==◌, nat_eq}
+use Rattle.std.proofs.Common.{◌≡◌, ℕ, Bool, true, false, ◌||◌, not, List, [], ◌∷◌, ◌++◌, length, replicate, inl, Option, Some, None, Result, Ok, Err, ℤ, refl, sym, ap, subst, ◌∙◌, arith}
+use Rattle.std.specs.Prelude.{if◌then◌else◌, is_some, ◌==◌}
 use Rattle.std.specs.List.{list_any}
 use Rattle.std.specs.Option.{option_map, option_map_or}
 use Rattle.std.proofs.lemmas.Bool.{false≢true}
@@ -20,12 +20,12 @@ use Rattle.cob_data.specs.declared.layout.Sender.TheVariants as sender
 use Rattle.cob_program.specs.Values as value
 use Rattle.cob_runs.specs.Contents.{written, fitted, item_at, form_at, length_at, bytes_at, filled_at, number_in, stored}
 use Rattle.cob_runs.specs.Faults.{◌>>=◌, or_fault}
-use Rattle.cob_runs.specs.Moves.{takes_number, is_group_sender, as_digits, item_text, number_of, text_of, raw_text, moved_number, moved_text, moved_amount, moved, moved_to, after_move}
+use Rattle.cob_runs.specs.Moves.{is_group_sender, as_digits, item_text, number_of, text_of, raw_text, moved_number, moved_text, moved_amount, moved, moved_to, after_move}
 use Rattle.cob_runs.specs.Deciding.{is_number_form}
 use Rattle.cob_walks.specs.Parts as part
 use Rattle.cob_walks.specs.Parts.{Part, number_reads, is_number_item, gets_value, is_read_for, item_bytes, receiver_parts, receivers_parts, move_parts}
-use Rattle.cob_walks.specs.Meaning.{Moment, with_storage, changed_in, stored_bytes, PassesAll, Meets}
-use Rattle.cob_walks.proofs.Passing.{moment, passes_on, meets_behind, meets_front, ReadsSo, sender_read}
+use Rattle.cob_walks.specs.Meaning.{Moment, changed_in, stored_bytes, PassesAll, Meets}
+use Rattle.cob_walks.proofs.Passing.{fine_moment, passes_on, meets_behind, meets_front, ReadsSo, sender_read}
 use Rattle.cob_walks.proofs.Booleans.{or_true}
 
 -- ---- bytes
@@ -167,17 +167,17 @@ module _ (l : Layout) where
 
   module _ (counts : List (Option ℤ)) (first : List ℕ) (own : Scaled) where
     at : List ℕ → Moment
-    at now = moment now counts first own false
+    at now = fine_moment now counts first own false
 
     abbrev pub MovesSo : List Part → List ℕ → Result (List ℕ) Kind → Type 0
     MovesSo xs now (Ok storage) =
-        PassesAll l false xs (moment now counts first own false) (moment storage counts first own false)
-    MovesSo xs now (Err fault) = Meets l false xs (moment now counts first own false) fault
+        PassesAll l false xs (fine_moment now counts first own false) (fine_moment storage counts first own false)
+    MovesSo xs now (Err fault) = Meets l false xs (fine_moment now counts first own false) fault
 
     abbrev ReceivesSo : List Part → List ℕ → ℕ → Result (List ℕ) Kind → Type 0
     ReceivesSo xs now place (Ok bytes) =
-        PassesAll l false xs (moment now counts first own false) (moment (filled_at l now place bytes) counts first own false)
-    ReceivesSo xs now place (Err fault) = Meets l false xs (moment now counts first own false) fault
+        PassesAll l false xs (fine_moment now counts first own false) (fine_moment (filled_at l now place bytes) counts first own false)
+    ReceivesSo xs now place (Err fault) = Meets l false xs (fine_moment now counts first own false) fault
 
     moves_on : (xs ys : List Part) (now : List ℕ) (place : ℕ) (r : Result (List ℕ) Kind)
         (f : List ℕ → Result (List ℕ) Kind) → ReceivesSo xs now place r →
@@ -187,43 +187,46 @@ module _ (l : Layout) where
       where
         behind_ok : (r : Result (List ℕ) Kind) → MovesSo ys (filled_at l now place bytes) r → MovesSo (xs ++ ys) now r
         behind_ok (Ok storage) k =
-            passes_on l false xs ys (moment now counts first own false)
-            (moment (filled_at l now place bytes) counts first own false) (moment storage counts first own false) h k
+            passes_on l false xs ys (fine_moment now counts first own false)
+            (fine_moment (filled_at l now place bytes) counts first own false) (fine_moment storage counts first own false) h k
         behind_ok (Err fault) k =
-            meets_behind l false xs ys (moment now counts first own false)
-            (moment (filled_at l now place bytes) counts first own false) fault h k
-    moves_on xs ys now place (Err fault) f h g = meets_front l false xs ys (moment now counts first own false) fault h
+            meets_behind l false xs ys (fine_moment now counts first own false)
+            (fine_moment (filled_at l now place bytes) counts first own false) fault h k
+    moves_on xs ys now place (Err fault) f h g = meets_front l false xs ys (fine_moment now counts first own false) fault h
 
     item_changes : (o : Option Item) (now bytes : List ℕ) →
         PassesAll l false (option_map_or (λ i. part.bytes_in i.offset i.length ∷ []) o [])
-        (moment now counts first own false)
-        (moment (option_map_or (λ i. written now i.offset (fitted (option_map_or (λ j. j.length) o 0) bytes)) o now) counts first own false)
+        (fine_moment now counts first own false)
+        (fine_moment (option_map_or (λ i. written now i.offset (fitted (option_map_or (λ j. j.length) o 0) bytes)) o now) counts first own false)
     item_changes None now bytes = refl
-    item_changes (Some i) now bytes =
-        (moment (written now i.offset (fitted i.length bytes)) counts first own false,
-        (Some (fitted i.length bytes),
-        ap (λ (s : List ℕ). moment s counts first own false)
-        (sym (changed now i.offset i.length (fitted i.length bytes) (length_fitted i.length bytes)))),
-        refl)
+    item_changes (Some i) now bytes = (
+      fine_moment (written now i.offset (fitted i.length bytes)) counts first own false,
+      (
+        Some (fitted i.length bytes),
+        ap (λ (s : List ℕ). fine_moment s counts first own false)
+            (sym (changed now i.offset i.length (fitted i.length bytes) (length_fitted i.length bytes))),
+      ),
+      refl,
+    )
 
     -- an item gets so many bytes as it has
     pub bytes_change : (place : ℕ) (now bytes : List ℕ) →
-        PassesAll l false (item_bytes l place) (moment now counts first own false)
-        (moment (filled_at l now place (fitted (length_at l place) bytes)) counts first own false)
+        PassesAll l false (item_bytes l place) (fine_moment now counts first own false)
+        (fine_moment (filled_at l now place (fitted (length_at l place) bytes)) counts first own false)
     bytes_change place now bytes = item_changes (item_at l place) now bytes
 
     module _ (x : Sender) where
       stored_is : (place : ℕ) (now : List ℕ) (v : Scaled) → number_of l first x ≡ Some v →
-          stored_bytes l (moment now counts first own false) place Trunc (part.moved x)
+          stored_bytes l (fine_moment now counts first own false) place Trunc (part.moved x)
           ≡ stored Trunc (form_at l place) (value_of v)
       stored_is place now v e =
           ap (λ (o : Option Scaled). value.◌>>=◌ (option_map value_of o) (λ u. stored Trunc (form_at l place) u)) e
 
       value_stored : (place : ℕ) (now : List ℕ) (o : Option (List ℕ)) →
-          stored_bytes l (moment now counts first own false) place Trunc (part.moved x) ≡ o →
+          stored_bytes l (fine_moment now counts first own false) place Trunc (part.moved x) ≡ o →
           ReceivesSo (part.store place Trunc (part.moved x) ∷ []) now place (or_fault kind.Truncation o)
       value_stored place now (Some bytes) e =
-          (moment (filled_at l now place bytes) counts first own false, (bytes, e, refl), refl)
+          (fine_moment (filled_at l now place bytes) counts first own false, (bytes, e, refl), refl)
       value_stored place now None e = inl (e, refl)
 
       -- a receiver, where the sender is read if it has to be
@@ -234,9 +237,9 @@ module _ (l : Layout) where
       receiver_does place now true e h =
           let n = some_of (number_of l first x) (h (gets_reads (form_at l place) x e)) in
           let f : moved l first (form_at l place) (length_at l place) x
-              ≡ or_fault kind.Truncation (stored Trunc (form_at l place) (value_of n.0)) =
-              gets_number first (form_at l place) (length_at l place) x e
-              ∙ ap (λ (o : Option Scaled). or_fault kind.Class o >>= λ v. or_fault kind.Truncation (stored Trunc (form_at l place) (value_of v))) n.1 in
+          ≡ or_fault kind.Truncation (stored Trunc (form_at l place) (value_of n.0)) =
+          gets_number first (form_at l place) (length_at l place) x e
+          ∙ ap (λ (o : Option Scaled). or_fault kind.Class o >>= λ v. or_fault kind.Truncation (stored Trunc (form_at l place) (value_of v))) n.1 in
           subst (λ (r : Result (List ℕ) Kind). ReceivesSo (part.store place Trunc (part.moved x) ∷ []) now place r) (sym f)
           (value_stored place now (stored Trunc (form_at l place) (value_of n.0)) (stored_is place now n.0 n.1))
       receiver_does place now false e h =
@@ -271,7 +274,7 @@ module _ (l : Layout) where
               (gets_none first (form_at l place) (length_at l place) x f e)
           none_first k false f g =
               let b = gets_bytes first (form_at l place) (length_at l place) x (reads_not (form_at l place) x f)
-                  (λ y. absurd (false≢true (sym f ∙ y))) in
+              (λ y. absurd (false≢true (sym f ∙ y))) in
               ap (λ (r : Result (List ℕ) Kind). r >>= λ bytes. moved_to l first (filled_at l now place bytes) x places) b.1
               ∙ k (filled_at l now place (fitted (length_at l place) b.0)) g
 
@@ -281,18 +284,20 @@ module _ (l : Layout) (counts : List (Option ℤ)) where
   -- storage behind parts that begin with it, whatever was read last
   abbrev pub LeavesSo : List Part → List ℕ → Scaled → Result (List ℕ) Kind → Type 0
   LeavesSo xs storage own (Ok now) =
-      (v : Scaled) × PassesAll l false xs (moment storage counts storage own false) (moment now counts storage v false)
-  LeavesSo xs storage own (Err fault) = Meets l false xs (moment storage counts storage own false) fault
+      (v : Scaled) × PassesAll l false xs (fine_moment storage counts storage own false) (fine_moment now counts storage v false)
+  LeavesSo xs storage own (Err fault) = Meets l false xs (fine_moment storage counts storage own false) fault
 
   module _ (x : Sender) (storage : List ℕ) (own : Scaled) where
     behind_read : (xs ys : List Part) (v : Scaled) (r : Result (List ℕ) Kind) →
-        PassesAll l false xs (moment storage counts storage own false) (moment storage counts storage v false) →
+        PassesAll l false xs (fine_moment storage counts storage own false) (fine_moment storage counts storage v false) →
         MovesSo l counts storage v ys storage r → LeavesSo (xs ++ ys) storage own r
-    behind_read xs ys v (Ok now) h g =
-        (v, passes_on l false xs ys (moment storage counts storage own false) (moment storage counts storage v false)
-        (moment now counts storage v false) h g)
+    behind_read xs ys v (Ok now) h g = (
+      v,
+      passes_on l false xs ys (fine_moment storage counts storage own false) (fine_moment storage counts storage v false)
+          (fine_moment now counts storage v false) h g,
+    )
     behind_read xs ys v (Err fault) h g =
-        meets_behind l false xs ys (moment storage counts storage own false) (moment storage counts storage v false) fault h g
+        meets_behind l false xs ys (fine_moment storage counts storage own false) (fine_moment storage counts storage v false) fault h g
 
     read_first : (places : List ℕ) → list_any (needs l counts storage own x) places ≡ true → (n : Option Scaled) →
         number_of l storage x ≡ n →
@@ -304,7 +309,7 @@ module _ (l : Layout) (counts : List (Option ℤ)) where
     read_first places e None f h =
         subst (λ (r : Result (List ℕ) Kind). LeavesSo (number_reads x ++ receivers_parts l x places) storage own r)
         (sym (none_read l counts storage own x places storage f e))
-        (meets_front l false (number_reads x) (receivers_parts l x places) (moment storage counts storage own false) kind.Class h)
+        (meets_front l false (number_reads x) (receivers_parts l x places) (fine_moment storage counts storage own false) kind.Class h)
 
     move_by : (places : List ℕ) (b : Bool) → list_any (needs l counts storage own x) places ≡ b →
         LeavesSo ((if b then number_reads x else []) ++ receivers_parts l x places) storage own (after_move l storage x places)

@@ -1,9 +1,7 @@
 -- Lists of parts one behind the other, reads and divisors.
-use Rattle.std.proofs.Common.{◌≡◌, ℕ, Bool, true, false, not, List, [], ◌∷◌, ◌++◌, length, ◌⊎◌, inl, inr, Option, Some, None, ℤ, refl, sym, ap, subst, ◌∙◌}
+use Rattle.std.proofs.Common.{◌≡◌, ℕ, Bool, true, false, List, [], ◌∷◌, ◌++◌, length, inl, inr, Option, Some, None, ℤ, refl, sym, ap, subst}
 use Rattle.std.specs.Prelude.{if◌then◌else◌, is_some, ◌&&◌}
 use Rattle.std.specs.List.{list_all}
-use Rattle.std.specs.Option.{option_map_or}
-use Rattle.std.proofs.lemmas.Bool.{false≢true}
 use Rattle.dec_num.specs.declared.types.Scaled.{Scaled}
 use Rattle.cob_tree.specs.declared.fault.Kind.{Kind}
 use Rattle.cob_tree.specs.declared.fault.Kind.TheVariants as kind
@@ -17,11 +15,11 @@ use Rattle.cob_runs.specs.Moves.{number_of}
 use Rattle.cob_runs.specs.Computing.{are_numeric, worth}
 use Rattle.cob_walks.specs.Parts as part
 use Rattle.cob_walks.specs.Parts.{Part, item_reads, number_reads, divides}
-use Rattle.cob_walks.specs.Meaning.{Moment, with_own, divided_by_zero, divides_by, Passes, PassesAll, Faults, Meets}
+use Rattle.cob_walks.specs.Meaning.{Moment, divided_by_zero, divides_by, PassesAll, Meets}
 
--- before a divisor is 0
-abbrev pub moment : List ℕ → List (Option ℤ) → List ℕ → Scaled → Bool → Moment
-moment storage counts first own failed = record {
+-- where no divisor was 0
+abbrev pub fine_moment : List ℕ → List (Option ℤ) → List ℕ → Scaled → Bool → Moment
+fine_moment storage counts first own failed = record {
   storage = storage;
   counts = counts;
   first = first;
@@ -49,8 +47,8 @@ module _ (l : Layout) (handled : Bool) where
 
   module _ (storage : List ℕ) (counts : List (Option ℤ)) (first : List ℕ) (failed : Bool) where
     abbrev pub ReadsSo : List Part → Scaled → Bool → Type 0
-    ReadsSo xs own true = (v : Scaled) × PassesAll l handled xs (moment storage counts first own failed) (moment storage counts first v failed)
-    ReadsSo xs own false = Meets l handled xs (moment storage counts first own failed) kind.Class
+    ReadsSo xs own true = (v : Scaled) × PassesAll l handled xs (fine_moment storage counts first own failed) (fine_moment storage counts first v failed)
+    ReadsSo xs own false = Meets l handled xs (fine_moment storage counts first own failed) kind.Class
 
     pub reads_on : (xs ys : List Part) (own : Scaled) (a b : Bool) → ReadsSo xs own a → ((v : Scaled) → ReadsSo ys v b) →
         ReadsSo (xs ++ ys) own (a && b)
@@ -60,7 +58,7 @@ module _ (l : Layout) (handled : Bool) where
 
     pub item_read : (place : ℕ) (own : Scaled) (n : Option Scaled) → number_at l storage place ≡ n →
         ReadsSo (part.read place ∷ []) own (is_some n)
-    item_read place own (Some v) e = (v, (moment storage counts first v failed, (v, e, refl), refl))
+    item_read place own (Some v) e = (v, (fine_moment storage counts first v failed, (v, e, refl), refl))
     item_read place own None e = inl (refl, e, refl)
 
     pub items_read : (places : List ℕ) (own : Scaled) → ReadsSo (item_reads places) own (are_numeric l storage places)

@@ -1,5 +1,5 @@
 -- Conditions: what a test reads and divides by, before it is decided.
-use Rattle.std.proofs.Common.{◌≡◌, ℕ, Bool, true, false, ◌&&◌, ◌||◌, not, List, [], ◌∷◌, ◌++◌, ◌⊎◌, inl, inr, Option, Some, None, Result, Ok, Err, ℤ, refl, sym, ap, subst, ◌∙◌}
+use Rattle.std.proofs.Common.{◌≡◌, ℕ, Bool, true, false, ◌&&◌, ◌||◌, List, [], ◌∷◌, ◌++◌, Option, Some, None, Result, Ok, Err, ℤ, refl, sym, ap, subst, ◌∙◌}
 use Rattle.std.specs.Prelude.{if◌then◌else◌, is_some}
 use Rattle.std.specs.List.{list_all}
 use Rattle.std.proofs.lemmas.Bool.{false≢true}
@@ -22,13 +22,12 @@ use Rattle.cob_runs.specs.Contents.{form_at}
 use Rattle.cob_runs.specs.Faults.{◌>>=◌, or_fault}
 use Rattle.cob_runs.specs.Moves.{number_of, text_of}
 use Rattle.cob_runs.specs.Computing.{items_in, are_numeric, worth}
-use Rattle.cob_runs.specs.Deciding.{decided, compared_numbers, side_length, compared_texts, is_number_form, is_number_end, compared_values, compared, in_pair, in_some, test_holds}
-use Rattle.cob_walks.specs.Parts as part
+use Rattle.cob_runs.specs.Deciding.{decided, side_length, compared_texts, is_number_form, is_number_end, compared_values, compared, in_pair, in_some, test_holds}
 use Rattle.cob_walks.specs.Parts.{Part, item_reads, number_reads, is_number_item, text_reads, end_reads, member_reads, divisors_in, divides, compare_parts, test_reads}
-use Rattle.cob_walks.specs.Meaning.{Moment, divides_by, PassesAll, Meets}
+use Rattle.cob_walks.specs.Meaning.{divides_by, PassesAll, Meets}
 use Rattle.cob_walks.proofs.Booleans.{and_assoc}
 use Rattle.cob_walks.proofs.Divisors.{sum_counts}
-use Rattle.cob_walks.proofs.Passing.{moment, passes_on, meets_behind, meets_front, ReadsSo, reads_on, items_read, sender_read, DividesSo, divisors_count}
+use Rattle.cob_walks.proofs.Passing.{fine_moment, passes_on, meets_behind, meets_front, ReadsSo, reads_on, items_read, sender_read, DividesSo, divisors_count}
 use Rattle.cob_walks.proofs.Moving.{text_given, text_missing}
 
 -- ---- what is there, and what is decided
@@ -47,10 +46,11 @@ there None = refl
 
 both_there : {A : Type 0} (a b : Bool) (o p : Option A) (f : A → A → Bool) → ThereSo a o → ThereSo b p →
     DecidedSo (a && b) (or_fault kind.Class o >>= λ x. or_fault kind.Class p >>= λ y. Ok (f x y))
-both_there true true o p f h g =
-    (f h.0 g.0,
-    ap (λ q. or_fault kind.Class q >>= λ x. or_fault kind.Class p >>= λ y. Ok (f x y)) h.1
-    ∙ ap (λ q. or_fault kind.Class q >>= λ y. Ok (f h.0 y)) g.1)
+both_there true true o p f h g = (
+  f h.0 g.0,
+  ap (λ q. or_fault kind.Class q >>= λ x. or_fault kind.Class p >>= λ y. Ok (f x y)) h.1
+      ∙ ap (λ q. or_fault kind.Class q >>= λ y. Ok (f h.0 y)) g.1,
+)
 both_there true false o p f h g =
     ap (λ q. or_fault kind.Class q >>= λ x. or_fault kind.Class p >>= λ y. Ok (f x y)) h.1
     ∙ ap (λ q. or_fault kind.Class q >>= λ y. Ok (f h.0 y)) g
@@ -147,8 +147,8 @@ module _ (l : Layout) (storage : List ℕ) (counts : List (Option ℤ)) where
   -- a test is decided behind its parts, or one of them meets its fault
   abbrev pub TestsSo : List Part → Scaled → Result Bool Kind → Type 0
   TestsSo xs own (Ok b) =
-      (v : Scaled) × PassesAll l false xs (moment storage counts storage own false) (moment storage counts storage v false)
-  TestsSo xs own (Err fault) = Meets l false xs (moment storage counts storage own false) fault
+      (v : Scaled) × PassesAll l false xs (fine_moment storage counts storage own false) (fine_moment storage counts storage v false)
+  TestsSo xs own (Err fault) = Meets l false xs (fine_moment storage counts storage own false) fault
 
   by_text : (x : Sender) (own : Scaled) (b : Bool) →
       ReadsSo l false storage counts storage false (if b then number_reads x else []) own
@@ -174,16 +174,18 @@ module _ (l : Layout) (storage : List ℕ) (counts : List (Option ℤ)) where
   by_reads xs own false r h g = subst (λ (q : Result Bool Kind). TestsSo xs own q) (sym g) h
 
   tests_behind : (xs ys : List Part) (own v : Scaled) (r : Result Bool Kind) →
-      PassesAll l false xs (moment storage counts storage own false) (moment storage counts storage v false) →
+      PassesAll l false xs (fine_moment storage counts storage own false) (fine_moment storage counts storage v false) →
       TestsSo ys v r → TestsSo (xs ++ ys) own r
-  tests_behind xs ys own v (Ok b) h g =
-      (g.0, passes_on l false xs ys (moment storage counts storage own false) (moment storage counts storage v false)
-      (moment storage counts storage g.0 false) h g.1)
+  tests_behind xs ys own v (Ok b) h g = (
+    g.0,
+    passes_on l false xs ys (fine_moment storage counts storage own false) (fine_moment storage counts storage v false)
+        (fine_moment storage counts storage g.0 false) h g.1,
+  )
   tests_behind xs ys own v (Err fault) h g =
-      meets_behind l false xs ys (moment storage counts storage own false) (moment storage counts storage v false) fault h g
+      meets_behind l false xs ys (fine_moment storage counts storage own false) (fine_moment storage counts storage v false) fault h g
 
   by_values : (xs : List Part) (own : Scaled) (r : Rel) (o p : Option Scaled) →
-      DividesSo l xs (moment storage counts storage own false) (is_some o && is_some p) → TestsSo xs own (decided l storage r o p)
+      DividesSo l xs (fine_moment storage counts storage own false) (is_some o && is_some p) → TestsSo xs own (decided l storage r o p)
   by_values xs own r (Some a) (Some b) h = (own, h)
   by_values xs own r (Some a) None h = h
   by_values xs own r None p h = h
@@ -200,8 +202,8 @@ module _ (l : Layout) (storage : List ℕ) (counts : List (Option ℤ)) where
       (decided l storage r (sum_value (worth l storage) a) (sum_value (worth l storage) b))
   values_tested a r b own =
       by_values (divides (divisors_in a ++ divisors_in b)) own r (sum_value (worth l storage) a) (sum_value (worth l storage) b)
-      (subst (λ c. DividesSo l (divides (divisors_in a ++ divisors_in b)) (moment storage counts storage own false) c)
-      (divisors_counted a b) (divisors_count l (divisors_in a ++ divisors_in b) (moment storage counts storage own false)))
+      (subst (λ c. DividesSo l (divides (divisors_in a ++ divisors_in b)) (fine_moment storage counts storage own false) c)
+      (divisors_counted a b) (divisors_count l (divisors_in a ++ divisors_in b) (fine_moment storage counts storage own false)))
 
   by_numbers : (a : Sum) (r : Rel) (b : Sum) (own : Scaled) (c d : Bool) →
       ReadsSo l false storage counts storage false (item_reads (items_in a)) own c →
@@ -216,10 +218,10 @@ module _ (l : Layout) (storage : List ℕ) (counts : List (Option ℤ)) where
       tests_behind (item_reads (items_in a)) (item_reads (items_in b) ++ divides (divisors_in a ++ divisors_in b)) own h.0
       (Err kind.Class) h.1
       (meets_front l false (item_reads (items_in b)) (divides (divisors_in a ++ divisors_in b))
-      (moment storage counts storage h.0 false) kind.Class (g h.0))
+      (fine_moment storage counts storage h.0 false) kind.Class (g h.0))
   by_numbers a r b own false d h g =
       meets_front l false (item_reads (items_in a)) (item_reads (items_in b) ++ divides (divisors_in a ++ divisors_in b))
-      (moment storage counts storage own false) kind.Class h
+      (fine_moment storage counts storage own false) kind.Class h
 
   pub test_does : (t : Test) (own : Scaled) → TestsSo (test_reads l t) own (test_holds l storage t)
   test_does (numbers a r b) own =

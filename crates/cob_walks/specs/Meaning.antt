@@ -1,5 +1,5 @@
 -- What each part of an edge does to storage and counters, and the fault that it meets.
-use Rattle.std.specs.Prelude.{◌≡◌, ℕ, zero, suc, ◌-◌, ◌==◌, ◌||◌, ◌⊎◌, if◌then◌else◌, Bool, true, false, not, List, [], ◌∷◌, length, slice_get, slice_set, Option, Some, None, Ok, ℤ, pos, ◌-ℤ◌, unsigned_abs}
+use Rattle.std.specs.Prelude.{◌≡◌, ℕ, suc, ◌-◌, ◌==◌, ◌||◌, ◌⊎◌, if◌then◌else◌, Bool, true, false, not, List, [], ◌∷◌, length, slice_get, slice_set, Option, Some, None, Ok, ℤ, pos, ◌-ℤ◌, unsigned_abs}
 use Rattle.std.specs.Option.{option_map, option_map_or}
 use Rattle.dec_num.specs.declared.types.Mode.{Mode}
 use Rattle.dec_num.specs.declared.types.Scaled.{Scaled}
@@ -8,10 +8,8 @@ use Rattle.dec_num.specs.Scaled.{value_of}
 use Rattle.cob_tree.specs.declared.fault.Kind.{Kind}
 use Rattle.cob_tree.specs.declared.fault.Kind.TheVariants as kind
 use Rattle.cob_data.specs.declared.layout.Layout.{Layout}
-use Rattle.cob_data.specs.declared.layout.Sender.{Sender}
 use Rattle.cob_program.specs.Sum.{Atom}
 use Rattle.cob_program.specs.Values.{◌>>=◌, whole_number, plus, atom_value, root_of}
-use Rattle.cob_program.specs.Logic.{Test}
 use Rattle.cob_runs.specs.Contents.{written, form_at, filled_at, number_at, stored}
 use Rattle.cob_runs.specs.Moves.{number_of}
 use Rattle.cob_runs.specs.Computing.{worth, result, remainder_of}
@@ -33,44 +31,37 @@ pub record Moment : Type 0 where
   pub by_zero : Bool
   pub failed : Bool
 
+abbrev pub moment : List ℕ → List (Option ℤ) → List ℕ → Scaled → Bool → Bool → Moment
+moment storage counts first own by_zero failed = record {
+  storage = storage;
+  counts = counts;
+  first = first;
+  own = own;
+  by_zero = by_zero;
+  failed = failed;
+}
+
 -- where an edge begins
 abbrev pub beginning : World → Moment
-beginning w = record {
-  storage = w.storage;
-  counts = w.counts;
-  first = w.storage;
-  own = whole_number (pos 0);
-  by_zero = false;
-  failed = false;
-}
+beginning w = moment w.storage w.counts w.storage (whole_number (pos 0)) false false
 
 abbrev pub with_storage : Moment → List ℕ → Moment
-with_storage m storage = record {
-  storage = storage; counts = m.counts; first = m.first; own = m.own; by_zero = m.by_zero; failed = m.failed;
-}
+with_storage m storage = moment storage m.counts m.first m.own m.by_zero m.failed
 
 abbrev pub with_own : Moment → Scaled → Moment
-with_own m own = record {
-  storage = m.storage; counts = m.counts; first = m.first; own = own; by_zero = m.by_zero; failed = m.failed;
-}
+with_own m own = moment m.storage m.counts m.first own m.by_zero m.failed
 
 abbrev pub with_count : Moment → ℕ → ℤ → Moment
-with_count m statement n = record {
-  storage = m.storage; counts = slice_set m.counts (statement - 1) (Some n); first = m.first; own = m.own;
-  by_zero = m.by_zero; failed = m.failed;
-}
-
--- a divisor is 0, so that every receiver keeps its value
-abbrev pub divided_by_zero : Moment → Moment
-divided_by_zero m = record {
-  storage = m.storage; counts = m.counts; first = m.first; own = m.own; by_zero = true; failed = true;
-}
+with_count m statement n =
+    moment m.storage (slice_set m.counts (statement - 1) (Some n)) m.first m.own m.by_zero m.failed
 
 -- a receiver keeps its value
 abbrev pub with_failure : Moment → Moment
-with_failure m = record {
-  storage = m.storage; counts = m.counts; first = m.first; own = m.own; by_zero = m.by_zero; failed = true;
-}
+with_failure m = moment m.storage m.counts m.first m.own m.by_zero true
+
+-- a divisor is 0, so that every receiver keeps its value
+abbrev pub divided_by_zero : Moment → Moment
+divided_by_zero m = moment m.storage m.counts m.first m.own true true
 
 -- ---- counters
 
