@@ -1,3 +1,4 @@
+mod Examples
 mod Passing
 mod Booleans
 mod Divisors
