@@ -1,7 +1,7 @@
--- Each edge passes its parts where it is taken, and one of them meets the fault where its statement does.
-use Rattle.std.proofs.Common.{◌≡◌, ℕ, Bool, true, false, not, List, [], ◌∷◌, Option, Some, None, Result, Ok, Err, pos, refl, sym, ap, subst, ◌∙◌}
-use Rattle.std.specs.Prelude.{if◌then◌else◌, is_some, slice_get, ◌&&◌}
-use Rattle.std.specs.Option.{option_map, option_map_or}
+-- Edges that leave the counters as they are: what they pass, and the fault that one of their parts meets.
+use Rattle.std.proofs.Common.{◌≡◌, ℕ, Bool, true, false, not, List, [], ◌∷◌, Option, Some, None, Result, Ok, Err, ℤ, pos, refl, sym, ap, subst, ◌∙◌}
+use Rattle.std.specs.Prelude.{if◌then◌else◌, slice_get, ◌&&◌}
+use Rattle.std.specs.Option.{option_map}
 use Rattle.std.proofs.lemmas.Bool.{false≢true}
 use Rattle.cob_tree.specs.declared.fault.Kind.{Kind}
 use Rattle.cob_data.specs.declared.layout.Sender.{Sender}
@@ -12,64 +12,57 @@ use Rattle.cob_program.specs.Values.{whole_number}
 use Rattle.cob_program.specs.Logic.{Test}
 use Rattle.cob_program.specs.Act.{Turns, once, times, until, varying, Stmts, Phrase, left_out, given, Act, arith, if_, evaluate, perform, go, nothing, stop, open_files, close_files, write, Body, Program}
 use Rattle.cob_program.specs.Act as act
-use Rattle.cob_runs.specs.declared.action.Action.{Action}
-use Rattle.cob_runs.specs.declared.action.Action.TheVariants as action
 use Rattle.cob_runs.specs.Faults.{◌>>=◌}
 use Rattle.cob_runs.specs.Computing.{Receiving, after_arithmetic}
 use Rattle.cob_runs.specs.Files.{Choice}
 use Rattle.cob_runs.specs.State.{World, with_storage}
 use Rattle.cob_runs.specs.Acts.{compute, into_if, file_from, move_if}
 use Rattle.cob_runs.specs.Steps.{is_given}
-use Rattle.cob_runs.specs.Effects.{Effect, taken, taken_if, not_taken, met, assigned, computed, decided, tested, counted, opened, closed, wrote, file_call, called_bad, read_with, shown, effect_of, effect, act_at, tests_in_act}
-use Rattle.cob_walks.specs.Parts.{Part, has_phrase, is_handled, is_times, file_call_parts, from_parts, arith_parts, test_parts, assign_parts, compute_parts, condition_parts, count_parts, call_parts, read_parts, bad_parts, parts_of}
-use Rattle.cob_walks.specs.Meaning.{beginning, count_in, Meets}
-use Rattle.cob_walks.specs.Edges.{IsCounted, fault_edge, PartsArePassed, FaultsAreMet}
+use Rattle.cob_runs.specs.Effects.{Effect, taken, taken_if, met, assigned, computed, decided, tested, opened, closed, wrote, file_call, called_bad, read_with, shown, tests_in_act}
+use Rattle.cob_walks.specs.Parts.{Part, has_phrase, is_times, file_call_parts, from_parts, arith_parts, test_parts, assign_parts, compute_parts, condition_parts, call_parts, read_parts, bad_parts}
+use Rattle.cob_walks.specs.Meaning.{beginning, Meets}
 use Rattle.cob_walks.proofs.Arithmetic.{ArithSo, arith_does, arith_same, arith_unfailed, bind_ok}
 use Rattle.cob_walks.proofs.Filing.{EdgeSo, if_taken, opened_does, closed_does, taken_does, into_does, wrote_does}
-use Rattle.cob_walks.proofs.Counting.{move_edge, set_edge, down_edge, left_edge, test_edge, augment_edge}
+use Rattle.cob_walks.proofs.PlainEdges.{move_edge, test_edge, augment_edge}
 
-module _ (p : Program) (statement : ℕ) (c : Choice) (w : World) where
-  abbrev Does : List Part → Effect → Type 0
-  Does xs r = EdgeSo p.layout false xs w r
+module _ (p : Program) (statement : ℕ) (c : Choice) (w : World) (counts : List (Option ℤ)) where
+  abbrev pub Does : List Part → Effect → Type 0
+  Does xs r = EdgeSo p.layout counts false xs w r
 
-  stays : Does [] (taken w)
-  stays = (beginning w, refl, refl, refl, refl)
+  pub stays : Does [] (taken w)
+  stays = (beginning w.storage counts, refl, refl, refl, refl, refl)
 
   -- ---- edges without ON SIZE ERROR
 
   from_edge : (r : ℕ) (from : Option Sender) → Does (from_parts p.layout r from) (met (move_if p.layout from r w))
   from_edge r None = stays
-  from_edge r (Some x) = move_edge p.layout w x (r ∷ [])
+  from_edge r (Some x) = move_edge p.layout counts w x (r ∷ [])
 
-  assign_edge : (a : Act) → Does (assign_parts p statement a) (assigned p statement c w a)
-  assign_edge (act.move x places) = move_edge p.layout w x places
+  pub assign_edge : (a : Act) → Does (assign_parts p statement a) (assigned p statement c w a)
+  assign_edge (act.move x places) = move_edge p.layout counts w x places
   assign_edge (arith s targets remainder size fine) = tt
   assign_edge (if_ t held other) = tt
   assign_edge (evaluate ws other) = tt
   assign_edge (perform body once) = tt
   assign_edge (perform body (times x)) = tt
   assign_edge (perform body (until after t)) = tt
-  assign_edge (perform body (varying after place start by t)) = move_edge p.layout w start (place ∷ [])
+  assign_edge (perform body (varying after place start by t)) = move_edge p.layout counts w start (place ∷ [])
   assign_edge (go para) = tt
   assign_edge nothing = tt
   assign_edge stop = tt
   assign_edge (open_files os) = tt
   assign_edge (close_files fs) = tt
-  assign_edge (act.read f into end fine) = if_taken p.layout w true _ (into_if p.layout f into w) (λ e. into_does p.layout w f into)
+  assign_edge (act.read f into end fine) = if_taken p.layout counts w true _ (into_if p.layout f into w) (λ e. into_does p.layout counts w f into)
   assign_edge (write r from) = from_edge r from
   assign_edge (act.show xs) = tt
 
   test_edges : (wanted : Bool) (t : Option Test) → Does (test_parts p.layout wanted t) (decided p statement c w wanted t)
   test_edges wanted None = tt
-  test_edges wanted (Some t) = test_edge p.layout w t wanted
+  test_edges wanted (Some t) = test_edge p.layout counts w t wanted
 
-  -- whether the counter of TIMES is a number, where the edge reads it
-  abbrev Counted : Act → Type 0
-  Counted a = is_times a ≡ true → is_some (count_in w.counts statement) ≡ true
-
-  tested_edge : (wanted : Bool) (k : ℕ) (a : Act) → Counted a →
+  pub tested_edge : (wanted : Bool) (k : ℕ) (a : Act) → is_times a ≡ false →
       Does (condition_parts p statement wanted k a) (tested p statement c w wanted k a)
-  tested_edge wanted k (perform body (times x)) h = left_edge p.layout w p c statement wanted (h refl)
+  tested_edge wanted k (perform body (times x)) h = absurd (false≢true (sym h))
   tested_edge wanted k (perform body once) h = test_edges wanted (slice_get (tests_in_act (perform body once)) k)
   tested_edge wanted k (perform body (until after t)) h =
       test_edges wanted (slice_get (tests_in_act (perform body (until after t))) k)
@@ -90,40 +83,22 @@ module _ (p : Program) (statement : ℕ) (c : Choice) (w : World) where
   tested_edge wanted k (write r from) h = test_edges wanted (slice_get (tests_in_act (write r from)) k)
   tested_edge wanted k (act.show xs) h = test_edges wanted (slice_get (tests_in_act (act.show xs)) k)
 
-  count_edge : (a : Act) → Does (count_parts p statement a) (counted p statement c w a)
-  count_edge (perform body (times x)) = set_edge p.layout w statement x
-  count_edge (perform body once) = tt
-  count_edge (perform body (until after t)) = tt
-  count_edge (perform body (varying after place start by t)) = tt
-  count_edge (act.move x places) = tt
-  count_edge (arith s targets remainder size fine) = tt
-  count_edge (if_ t held other) = tt
-  count_edge (evaluate ws other) = tt
-  count_edge (go para) = tt
-  count_edge nothing = tt
-  count_edge stop = tt
-  count_edge (open_files os) = tt
-  count_edge (close_files fs) = tt
-  count_edge (act.read f into end fine) = tt
-  count_edge (write r from) = tt
-  count_edge (act.show xs) = tt
-
   -- ---- files
 
   open_edge : (fine : Bool) (o : Option Opening) →
       Does (file_call_parts p.layout false (option_map (λ x. x.file) o)) (opened p statement c w fine o)
   open_edge fine None = tt
-  open_edge fine (Some o) = if_taken p.layout w _ _ _ (λ e. opened_does p.layout w o)
+  open_edge fine (Some o) = if_taken p.layout counts w _ _ _ (λ e. opened_does p.layout counts w o)
 
   close_edge : (fine : Bool) (f : Option ℕ) → Does (file_call_parts p.layout false f) (closed p statement c w fine f)
   close_edge fine None = tt
-  close_edge fine (Some f) = if_taken p.layout w _ _ _ (λ e. closed_does p.layout w f)
+  close_edge fine (Some f) = if_taken p.layout counts w _ _ _ (λ e. closed_does p.layout counts w f)
 
   write_edge : (fine : Bool) (r : ℕ) (f : Option ℕ) → Does (file_call_parts p.layout fine f) (wrote p statement c w fine r f)
   write_edge fine r None = tt
-  write_edge fine r (Some f) = if_taken p.layout w _ _ _ (λ e. wrote_does p.layout w fine c f r e)
+  write_edge fine r (Some f) = if_taken p.layout counts w _ _ _ (λ e. wrote_does p.layout counts w fine c f r e)
 
-  call_edge : (fine : Bool) (k : ℕ) (a : Act) → Does (call_parts p statement fine k a) (file_call p statement c w fine k a)
+  pub call_edge : (fine : Bool) (k : ℕ) (a : Act) → Does (call_parts p statement fine k a) (file_call p statement c w fine k a)
   call_edge fine k (open_files os) = open_edge fine (slice_get os k)
   call_edge fine k (close_files fs) = close_edge fine (slice_get fs k)
   call_edge fine k (write r from) = write_edge fine r (file_from p.layout 0 p.layout.files r)
@@ -138,8 +113,8 @@ module _ (p : Program) (statement : ℕ) (c : Choice) (w : World) where
   call_edge fine k (act.read f into end other) = tt
   call_edge fine k (act.show xs) = tt
 
-  read_edge : (status : ℕ) (a : Act) → Does (read_parts p statement a) (read_with p statement c w status a)
-  read_edge status (act.read f into end fine) = if_taken p.layout w _ _ _ (λ e. taken_does p.layout w c f)
+  pub read_edge : (status : ℕ) (a : Act) → Does (read_parts p statement a) (read_with p statement c w status a)
+  read_edge status (act.read f into end fine) = if_taken p.layout counts w _ _ _ (λ e. taken_does p.layout counts w c f)
   read_edge status (act.move x places) = tt
   read_edge status (arith s targets remainder size fine) = tt
   read_edge status (if_ t held other) = tt
@@ -153,8 +128,8 @@ module _ (p : Program) (statement : ℕ) (c : Choice) (w : World) where
   read_edge status (write r from) = tt
   read_edge status (act.show xs) = tt
 
-  bad_edge : (k : ℕ) (a : Act) → Does (bad_parts p statement k a) (called_bad p statement c w k a)
-  bad_edge k (act.read f into end fine) = if_taken p.layout w _ _ _ (λ e. taken_does p.layout w c f)
+  pub bad_edge : (k : ℕ) (a : Act) → Does (bad_parts p statement k a) (called_bad p statement c w k a)
+  bad_edge k (act.read f into end fine) = if_taken p.layout counts w _ _ _ (λ e. taken_does p.layout counts w c f)
   bad_edge k (act.move x places) = call_edge false k (act.move x places)
   bad_edge k (arith s targets remainder size fine) = call_edge false k (arith s targets remainder size fine)
   bad_edge k (if_ t held other) = call_edge false k (if_ t held other)
@@ -174,7 +149,7 @@ module _ (p : Program) (statement : ℕ) (c : Choice) (w : World) where
   taken_is true u v e = (refl, cc)
   taken_is false u v e = absurd (cc)
 
-  if_ok : {A : Type 0} (b : Bool) (u : World) (fault : Kind) → taken_if b u ≡ Err fault → A
+  pub if_ok : {A : Type 0} (b : Bool) (u : World) (fault : Kind) → taken_if b u ≡ Err fault → A
   if_ok true u fault e = absurd (cc)
   if_ok false u fault e = absurd (cc)
 
@@ -195,11 +170,11 @@ module _ (p : Program) (statement : ℕ) (c : Choice) (w : World) where
 
     -- what an arithmetic statement leaves
     arith_passed : (handled : Bool) (x : Receiving) (v : World) → arithmetic handled ≡ Ok x → x.failed ≡ handled →
-        with_storage w x.storage ≡ v → EdgeSo p.layout handled (arith_parts p.layout s targets remainder) w (taken v)
+        with_storage w x.storage ≡ v → EdgeSo p.layout counts handled (arith_parts p.layout s targets remainder) w (taken v)
     arith_passed handled x v e f g =
-        let h = subst (λ (r : Result Receiving Kind). ArithSo p.layout handled (beginning w) (arith_parts p.layout s targets remainder) r)
-        e (arith_does p.layout w.counts w.storage s targets remainder handled (whole_number (pos 0))) in
-        (h.0, h.1, h.2 ∙ ap (λ (u : World). u.storage) g, h.3 ∙ ap (λ (u : World). u.counts) g, h.4 ∙ f)
+        let h = subst (λ (r : Result Receiving Kind). ArithSo p.layout handled (beginning w.storage counts) (arith_parts p.layout s targets remainder) r)
+        e (arith_does p.layout counts w.storage s targets remainder handled (whole_number (pos 0))) in
+        (h.0, h.1, h.2 ∙ ap (λ (u : World). u.storage) g, h.3, sym (ap (λ (u : World). u.counts) g), h.4 ∙ f)
 
     computed_as : (failed phrase : Bool) (v : World) →
         (compute p.layout phrase s targets remainder w >>= λ x. taken_if (if failed then x.1 else not x.1) x.0) ≡ Ok (Some v) →
@@ -214,19 +189,19 @@ module _ (p : Program) (statement : ℕ) (c : Choice) (w : World) where
 
     done_passed : (phrase : Bool) (v : World) →
         (compute p.layout phrase s targets remainder w >>= λ x. taken_if (if false then x.1 else not x.1) x.0) ≡ Ok (Some v) →
-        EdgeSo p.layout false (arith_parts p.layout s targets remainder) w (taken v)
+        EdgeSo p.layout counts false (arith_parts p.layout s targets remainder) w (taken v)
     done_passed phrase v e =
         let h = computed_as false phrase v e in
         arith_passed false h.0 v
-        (arith_same p.layout w.counts w.storage s targets remainder phrase h.0 h.1 (not_is h.0.failed h.2)) (not_is h.0.failed h.2) h.3
+        (arith_same p.layout counts w.storage s targets remainder phrase h.0 h.1 (not_is h.0.failed h.2)) (not_is h.0.failed h.2) h.3
 
     size_passed : (phrase : Bool) (v : World) →
         (compute p.layout phrase s targets remainder w >>= λ x. taken_if (if true then x.1 else not x.1) x.0) ≡ Ok (Some v) →
-        EdgeSo p.layout phrase (arith_parts p.layout s targets remainder) w (taken v)
+        EdgeSo p.layout counts phrase (arith_parts p.layout s targets remainder) w (taken v)
     size_passed true v e = let h = computed_as true true v e in arith_passed true h.0 v h.1 h.2 h.3
     size_passed false v e =
         let h = computed_as true false v e in
-        absurd (false≢true (sym (arith_unfailed p.layout w.counts w.storage s targets remainder h.0 h.1) ∙ h.2))
+        absurd (false≢true (sym (arith_unfailed p.layout counts w.storage s targets remainder h.0 h.1) ∙ h.2))
 
     behind_fault : {A B : Type 0} (r : Result A Kind) (f : A → Result B Kind) (fault : Kind) →
         ((a : A) → f a ≡ Err fault → ⊥) → (r >>= f) ≡ Err fault → r ≡ Err fault
@@ -236,24 +211,24 @@ module _ (p : Program) (statement : ℕ) (c : Choice) (w : World) where
     -- its fault
     arith_met : (failed phrase : Bool) (fault : Kind) →
         (compute p.layout phrase s targets remainder w >>= λ x. taken_if (if failed then x.1 else not x.1) x.0) ≡ Err fault →
-        Meets p.layout phrase (arith_parts p.layout s targets remainder) (beginning w) fault
+        Meets p.layout phrase (arith_parts p.layout s targets remainder) (beginning w.storage counts) fault
     arith_met failed phrase fault e =
         let h = behind_fault (compute p.layout phrase s targets remainder w)
         (λ x. taken_if (if failed then x.1 else not x.1) x.0) fault
         (λ x k. if_ok (if failed then x.1 else not x.1) x.0 fault k) e in
         let g = behind_fault (arithmetic phrase) (λ r. Ok (with_storage w r.storage, r.failed)) fault (λ r k. cc) h in
-        subst (λ (r : Result Receiving Kind). ArithSo p.layout phrase (beginning w) (arith_parts p.layout s targets remainder) r)
-        g (arith_does p.layout w.counts w.storage s targets remainder phrase (whole_number (pos 0)))
+        subst (λ (r : Result Receiving Kind). ArithSo p.layout phrase (beginning w.storage counts) (arith_parts p.layout s targets remainder) r)
+        g (arith_does p.layout counts w.storage s targets remainder phrase (whole_number (pos 0)))
 
   -- the edges behind arithmetic statements, and the one behind the augmenting of VARYING
 
-  computed_passed : (failed : Bool) (a : Act) (v : World) → computed p statement c w failed a ≡ Ok (Some v) →
-      EdgeSo p.layout (failed && has_phrase a) (compute_parts p statement a) w (taken v)
+  pub computed_passed : (failed : Bool) (a : Act) (v : World) → computed p statement c w failed a ≡ Ok (Some v) →
+      EdgeSo p.layout counts (failed && has_phrase a) (compute_parts p statement a) w (taken v)
   computed_passed false (arith s targets remainder size fine) v e = done_passed s targets remainder (is_given size) v e
   computed_passed true (arith s targets remainder size fine) v e = size_passed s targets remainder (is_given size) v e
   computed_passed false (perform body (varying after place start by t)) v e =
       subst (λ (r : Effect). Does (compute_parts p statement (perform body (varying after place start by t))) r) e
-      (augment_edge p.layout w place by)
+      (augment_edge p.layout counts w place by)
   computed_passed true (perform body (varying after place start by t)) v e = absurd (cc)
   computed_passed true (perform body once) v e = absurd (cc)
   computed_passed true (perform body (times x)) v e = absurd (cc)
@@ -273,12 +248,12 @@ module _ (p : Program) (statement : ℕ) (c : Choice) (w : World) where
   computed_passed failed (write r from) v e = absurd (cc)
   computed_passed failed (act.show xs) v e = absurd (cc)
 
-  computed_met : (failed : Bool) (a : Act) (fault : Kind) → computed p statement c w failed a ≡ Err fault →
-      Meets p.layout (has_phrase a) (compute_parts p statement a) (beginning w) fault
+  pub computed_met : (failed : Bool) (a : Act) (fault : Kind) → computed p statement c w failed a ≡ Err fault →
+      Meets p.layout (has_phrase a) (compute_parts p statement a) (beginning w.storage counts) fault
   computed_met failed (arith s targets remainder size fine) fault e = arith_met s targets remainder failed (is_given size) fault e
   computed_met false (perform body (varying after place start by t)) fault e =
       subst (λ (r : Effect). Does (compute_parts p statement (perform body (varying after place start by t))) r) e
-      (augment_edge p.layout w place by)
+      (augment_edge p.layout counts w place by)
   computed_met true (perform body (varying after place start by t)) fault e = absurd (cc)
   computed_met true (perform body once) fault e = absurd (cc)
   computed_met true (perform body (times x)) fault e = absurd (cc)
@@ -298,8 +273,8 @@ module _ (p : Program) (statement : ℕ) (c : Choice) (w : World) where
   computed_met failed (write r from) fault e = absurd (cc)
   computed_met failed (act.show xs) fault e = absurd (cc)
 
-  show_edge : (a : Act) → Does [] (shown p statement c w a)
-  show_edge (act.show xs) = (beginning w, refl, refl, refl, refl)
+  pub show_edge : (a : Act) → Does [] (shown p statement c w a)
+  show_edge (act.show xs) = (beginning w.storage counts, refl, refl, refl, refl, refl)
   show_edge (perform body turns) = tt
   show_edge (act.move x places) = tt
   show_edge (arith s targets remainder size fine) = tt
@@ -312,94 +287,3 @@ module _ (p : Program) (statement : ℕ) (c : Choice) (w : World) where
   show_edge (close_files fs) = tt
   show_edge (act.read f into end fine) = tt
   show_edge (write r from) = tt
-
-  -- ---- each edge
-
-  passed : (a : Act) (x : Action) (v : World) → IsCounted statement a x w → effect_of p statement c w x a ≡ Ok (Some v) →
-      EdgeSo p.layout (is_handled a x) (parts_of p statement a x) w (taken v)
-  passed a action.Skip v h e = subst (λ (r : Effect). Does [] r) e stays
-  passed a action.Assign v h e = subst (λ (r : Effect). Does (assign_parts p statement a) r) e (assign_edge a)
-  passed a action.Done v h e = computed_passed false a v e
-  passed a action.Size v h e = computed_passed true a v e
-  passed a (action.True k) v h e = subst (λ (r : Effect). Does (condition_parts p statement true k a) r) e (tested_edge true k a h)
-  passed a (action.False k) v h e = subst (λ (r : Effect). Does (condition_parts p statement false k a) r) e (tested_edge false k a h)
-  passed a action.SetCount v h e = subst (λ (r : Effect). Does (count_parts p statement a) r) e (count_edge a)
-  passed a action.Down v h e =
-      subst (λ (r : Effect). Does (parts_of p statement a action.Down) r) e (down_edge p.layout w statement (h refl))
-  passed a (action.Open k) v h e = subst (λ (r : Effect). Does (call_parts p statement true k a) r) e (call_edge true k a)
-  passed a (action.Close k) v h e = subst (λ (r : Effect). Does (call_parts p statement true k a) r) e (call_edge true k a)
-  passed a action.Take v h e = subst (λ (r : Effect). Does (read_parts p statement a) r) e (read_edge 0 a)
-  passed a action.AtEnd v h e = subst (λ (r : Effect). Does (read_parts p statement a) r) e (read_edge 10 a)
-  passed a (action.Bad k) v h e = subst (λ (r : Effect). Does (bad_parts p statement k a) r) e (bad_edge k a)
-  passed a action.Write v h e = subst (λ (r : Effect). Does (call_parts p statement true 0 a) r) e (call_edge true 0 a)
-  passed a action.Show v h e = subst (λ (r : Effect). Does [] r) e (show_edge a)
-
-  abbrev MeetsAt : Act → Action → Kind → Type 0
-  MeetsAt a x fault =
-      Meets p.layout (is_handled a (fault_edge a x)) (parts_of p statement a (fault_edge a x)) (beginning w) fault
-
-  times_fine : (wanted : Bool) (k : ℕ) (a : Act) (fault : Kind) → is_times a ≡ true →
-      tested p statement c w wanted k a ≡ Err fault → ⊥
-  times_fine wanted k (perform body (times x)) fault h e = if_ok _ w fault e
-  times_fine wanted k (perform body once) fault h e = false≢true h
-  times_fine wanted k (perform body (until after t)) fault h e = false≢true h
-  times_fine wanted k (perform body (varying after place start by t)) fault h e = false≢true h
-  times_fine wanted k (act.move x places) fault h e = false≢true h
-  times_fine wanted k (arith s targets remainder size fine) fault h e = false≢true h
-  times_fine wanted k (if_ t held other) fault h e = false≢true h
-  times_fine wanted k (evaluate ws other) fault h e = false≢true h
-  times_fine wanted k (go para) fault h e = false≢true h
-  times_fine wanted k nothing fault h e = false≢true h
-  times_fine wanted k stop fault h e = false≢true h
-  times_fine wanted k (open_files os) fault h e = false≢true h
-  times_fine wanted k (close_files fs) fault h e = false≢true h
-  times_fine wanted k (act.read f into end fine) fault h e = false≢true h
-  times_fine wanted k (write r from) fault h e = false≢true h
-  times_fine wanted k (act.show xs) fault h e = false≢true h
-
-  tested_met : (wanted : Bool) (k : ℕ) (a : Act) (fault : Kind) (b : Bool) → is_times a ≡ b →
-      tested p statement c w wanted k a ≡ Err fault →
-      Meets p.layout false (condition_parts p statement wanted k a) (beginning w) fault
-  tested_met wanted k a fault true f e = absurd (times_fine wanted k a fault f e)
-  tested_met wanted k a fault false f e =
-      subst (λ (r : Effect). Does (condition_parts p statement wanted k a) r) e
-      (tested_edge wanted k a (λ g. absurd (false≢true (sym f ∙ g))))
-
-  done_met : (a : Act) (fault : Kind) (b : Bool) → has_phrase a ≡ b →
-      Meets p.layout (has_phrase a) (compute_parts p statement a) (beginning w) fault →
-      Meets p.layout (is_handled a (if b then action.Size else action.Done))
-      (parts_of p statement a (if b then action.Size else action.Done)) (beginning w) fault
-  done_met a fault true e h = h
-  done_met a fault false e h = subst (λ b. Meets p.layout b (compute_parts p statement a) (beginning w) fault) e h
-
-  met_at : (a : Act) (x : Action) (fault : Kind) → effect_of p statement c w x a ≡ Err fault → MeetsAt a x fault
-  met_at a action.Skip fault e = absurd (cc)
-  met_at a action.Assign fault e = subst (λ (r : Effect). Does (assign_parts p statement a) r) e (assign_edge a)
-  met_at a action.Done fault e = done_met a fault (has_phrase a) refl (computed_met false a fault e)
-  met_at a action.Size fault e = computed_met true a fault e
-  met_at a (action.True k) fault e = tested_met true k a fault (is_times a) refl e
-  met_at a (action.False k) fault e = tested_met false k a fault (is_times a) refl e
-  met_at a action.SetCount fault e = subst (λ (r : Effect). Does (count_parts p statement a) r) e (count_edge a)
-  met_at a action.Down fault e = absurd (cc)
-  met_at a (action.Open k) fault e = subst (λ (r : Effect). Does (call_parts p statement true k a) r) e (call_edge true k a)
-  met_at a (action.Close k) fault e = subst (λ (r : Effect). Does (call_parts p statement true k a) r) e (call_edge true k a)
-  met_at a action.Take fault e = subst (λ (r : Effect). Does (read_parts p statement a) r) e (read_edge 0 a)
-  met_at a action.AtEnd fault e = subst (λ (r : Effect). Does (read_parts p statement a) r) e (read_edge 10 a)
-  met_at a (action.Bad k) fault e = subst (λ (r : Effect). Does (bad_parts p statement k a) r) e (bad_edge k a)
-  met_at a action.Write fault e = subst (λ (r : Effect). Does (call_parts p statement true 0 a) r) e (call_edge true 0 a)
-  met_at a action.Show fault e = subst (λ (r : Effect). Does [] r) e (show_edge a)
-
-  -- the statement with the number
-  by_act : (a : Act) (x : Action) (r : Effect) → act_at p statement ≡ Some a → effect p statement c w x ≡ r →
-      effect_of p statement c w x a ≡ r
-  by_act a x r its e =
-      sym (ap (λ (o : Option Act). option_map_or (effect_of p statement c w x) o not_taken) its) ∙ e
-
-pub parts_are_passed : PartsArePassed
-parts_are_passed p statement c a x w v its h e =
-    let g = passed p statement c w a x v h (by_act p statement c w a x (taken v) its e) in
-    record { last = g.0; way = g.1; storage = g.2; counts = g.3; fails = g.4 }
-
-pub faults_are_met : FaultsAreMet
-faults_are_met p statement c a x w fault its e =
-    met_at p statement c w a x fault (by_act p statement c w a x (Err fault) its e)

@@ -1,5 +1,5 @@
 -- The parts of some statements' edges, worked out.
-use Rattle.std.specs.Prelude.{◌≡◌, ℕ, Bool, true, false, List, [], ◌∷◌, Option, Some, None}
+use Rattle.std.specs.Prelude.{◌≡◌, ℕ, true, false, List, [], ◌∷◌, Some, None}
 use Rattle.std.proofs.Common.{refl}
 use Rattle.dec_num.specs.declared.types.Mode.TheVariants.{Trunc, Round}
 use Rattle.cob_tree.specs.declared.form.Form.{Form}
@@ -10,11 +10,10 @@ use Rattle.cob_tree.specs.declared.token.Rel.TheVariants as rel
 use Rattle.cob_data.specs.declared.layout.FileDecl.{FileDecl}
 use Rattle.cob_data.specs.declared.layout.Item.{Item}
 use Rattle.cob_data.specs.declared.layout.Pair.{Pair}
-use Rattle.cob_data.specs.declared.layout.Sender.{Sender}
 use Rattle.cob_data.specs.declared.layout.Sender.TheVariants as sender
 use Rattle.cob_program.specs.declared.act.How.TheVariants as how
 use Rattle.cob_program.specs.Sum.{Sum, MkSum, no_parts, more_parts, MkPart, Atom, no_factors, more_factors, MkFactor, item, number, group}
-use Rattle.cob_program.specs.Logic.{Test, numbers, member, numeric, test}
+use Rattle.cob_program.specs.Logic.{numbers, member, numeric, test}
 use Rattle.cob_program.specs.Act.{times, varying, no_stmts, left_out, given, Act, arith, if_, perform, open_files, write, range, Program}
 use Rattle.cob_program.specs.Act as act
 use Rattle.cob_runs.specs.declared.action.Action.{Action}

@@ -1,5 +1,5 @@
 -- Files: FILE STATUS is set, and a record area is filled or undefined.
-use Rattle.std.proofs.Common.{◌≡◌, ℕ, Bool, true, false, not, List, [], ◌∷◌, Option, Some, None, Ok, Err, pos, refl, sym, ap}
+use Rattle.std.proofs.Common.{◌≡◌, ℕ, Bool, true, false, not, List, [], ◌∷◌, Option, Some, None, Ok, Err, ℤ, pos, refl, sym, ap}
 use Rattle.std.specs.Prelude.{if◌then◌else◌, slice_get}
 use Rattle.std.specs.Option.{option_map_or}
 use Rattle.std.proofs.lemmas.Bool.{false≢true}
@@ -19,24 +19,24 @@ use Rattle.cob_walks.specs.Meaning.{Moment, beginning, changed_in, PassesAll, Me
 use Rattle.cob_walks.proofs.Passing.{fine_moment, passes_on}
 use Rattle.cob_walks.proofs.Moving.{length_fitted, changed, bytes_change}
 
--- an edge passes its parts, isn't taken, or one of its parts meets its fault
-abbrev pub EdgeSo : Layout → Bool → List Part → World → Effect → Type 0
-EdgeSo l handled xs w (Ok (Some v)) =
-    (last : Moment) × PassesAll l handled xs (beginning w) last × (last.storage ≡ v.storage) × (last.counts ≡ v.counts)
-    × (last.failed ≡ handled)
-EdgeSo l handled xs w (Ok None) = Unit {0}
-EdgeSo l handled xs w (Err fault) = Meets l handled xs (beginning w) fault
+-- an edge passes its parts and leaves the counters, isn't taken, or one of its parts meets its fault
+abbrev pub EdgeSo : Layout → List (Option ℤ) → Bool → List Part → World → Effect → Type 0
+EdgeSo l counts handled xs w (Ok (Some v)) =
+    (last : Moment) × PassesAll l handled xs (beginning w.storage counts) last × (last.storage ≡ v.storage)
+    × (last.counts ≡ counts) × (v.counts ≡ w.counts) × (last.failed ≡ handled)
+EdgeSo l counts handled xs w (Ok None) = Unit {0}
+EdgeSo l counts handled xs w (Err fault) = Meets l handled xs (beginning w.storage counts) fault
 
-module _ (l : Layout) (w : World) where
+module _ (l : Layout) (counts : List (Option ℤ)) (w : World) where
   abbrev at : List ℕ → Moment
-  at storage = fine_moment storage w.counts w.storage (whole_number (pos 0)) false
+  at storage = fine_moment storage counts w.storage (whole_number (pos 0)) false
 
   -- parts that leave a world's storage
   abbrev pub ChangesSo : List Part → World → Type 0
   ChangesSo xs v = PassesAll l false xs (at w.storage) (at v.storage) × (v.counts ≡ w.counts)
 
-  pub if_taken : (b : Bool) (xs : List Part) (v : World) → (b ≡ true → ChangesSo xs v) → EdgeSo l false xs w (taken_if b v)
-  if_taken true xs v h = let g = h refl in (at v.storage, g.0, refl, sym g.1, refl)
+  pub if_taken : (b : Bool) (xs : List Part) (v : World) → (b ≡ true → ChangesSo xs v) → EdgeSo l counts false xs w (taken_if b v)
+  if_taken true xs v h = let g = h refl in (at v.storage, g.0, refl, refl, g.1, refl)
   if_taken false xs v h = tt
 
   -- ---- areas
@@ -136,7 +136,7 @@ module _ (l : Layout) (w : World) where
       PassesAll l false (into_parts l (Some place)) (at w.storage) (at (into_from l d place w.storage))
   into_by None place = item_idle (item_at l place) (λ i. i.length) w.storage
   into_by (Some d) place =
-      bytes_change l w.counts w.storage (whole_number (pos 0)) place w.storage (area w.storage d.offset d.length)
+      bytes_change l counts w.storage (whole_number (pos 0)) place w.storage (area w.storage d.offset d.length)
 
   pub into_does : (f : ℕ) (into : Option ℕ) → ChangesSo (into_parts l into) (into_if l f into w)
   into_does f None = (refl, refl)

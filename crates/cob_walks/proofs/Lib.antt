@@ -6,5 +6,7 @@ mod Moving
 mod Arithmetic
 mod Testing
 mod Filing
+mod PlainEdges
 mod Counting
-pub mod EachEdge
+mod EachEdge
+pub mod AllEdges

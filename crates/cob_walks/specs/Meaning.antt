@@ -14,7 +14,6 @@ use Rattle.cob_runs.specs.Contents.{written, form_at, filled_at, number_at, stor
 use Rattle.cob_runs.specs.Moves.{number_of}
 use Rattle.cob_runs.specs.Computing.{worth, result, remainder_of}
 use Rattle.cob_runs.specs.Deciding.{test_holds}
-use Rattle.cob_runs.specs.State.{World}
 use Rattle.cob_walks.specs.Parts.{Amount, moved, computed, remaining, augmented, Part, read, unread, divide, store, bytes_in, guard, read_count, set_count, count_down, guard_count}
 
 -- ---- moments
@@ -42,8 +41,8 @@ moment storage counts first own by_zero failed = record {
 }
 
 -- where an edge begins
-abbrev pub beginning : World → Moment
-beginning w = moment w.storage w.counts w.storage (whole_number (pos 0)) false false
+abbrev pub beginning : List ℕ → List (Option ℤ) → Moment
+beginning storage counts = moment storage counts storage (whole_number (pos 0)) false false
 
 abbrev pub with_storage : Moment → List ℕ → Moment
 with_storage m storage = moment storage m.counts m.first m.own m.by_zero m.failed

@@ -1,9 +1,11 @@
 //! What holds of the parts of each edge.
-ghost use Rattle.cob_walks.specs.Edges.{FaultsAreMet, PartsArePassed};
+ghost use Rattle.cob_walks.specs.Edges.{FaultsAreMet, PartsArePassed, PartsArePassedBeside};
 
-/// Where an edge is taken, its parts are passed in turn and leave storage and counters as the edge does. Where its
-/// statement meets a fault, one of the parts meets it, behind others that are passed.
+/// Where an edge is taken, its parts are passed in turn and leave storage and counters as the edge does, also with
+/// counters that stand for those that no loop has set. Where its statement meets a fault, one of the parts meets it,
+/// behind others that are passed.
 pub fn parts_do_what_edges_do()
     ensures passed { PartsArePassed }
+    ensures beside { PartsArePassedBeside }
     ensures met { FaultsAreMet }
 {}
