@@ -79,7 +79,8 @@ module _ (Stand : Standing) (p : Program) (statement : ℕ) (c : Choice) (w : Wo
       Passed false (condition_parts p statement wanted k a) (tested p statement c w wanted k a)
   by_times wanted k a true e h = times_edge wanted k a (h e) e
   by_times wanted k a false e h =
-      plain (condition_parts p statement wanted k a) (tested p statement c w wanted k a) (tested_edge p statement c w counts wanted k a e)
+      plain (condition_parts p statement wanted k a) (tested p statement c w wanted k a)
+      (tested_edge p statement c w counts wanted k a e)
 
   abbrev Stands : Act → Action → Type 0
   Stands a x = reads_count a x ≡ true → StandsAt Stand p.layout counts w statement
@@ -94,7 +95,8 @@ module _ (Stand : Standing) (p : Program) (statement : ℕ) (c : Choice) (w : Wo
   edge_passed : (a : Act) (x : Action) (v : World) → Stands a x → effect_of p statement c w x a ≡ Ok (Some v) →
       Passed (is_handled a x) (parts_of p statement a x) (taken v)
   edge_passed a action.Skip v h e = as_plain [] _ (taken v) e (stays p statement c w counts)
-  edge_passed a action.Assign v h e = as_plain (assign_parts p statement a) _ (taken v) e (assign_edge p statement c w counts a)
+  edge_passed a action.Assign v h e = as_plain (assign_parts p statement a) _ (taken v) e
+      (assign_edge p statement c w counts a)
   edge_passed a action.Done v h e =
       counters_stay Stand p.layout counts w false (compute_parts p statement a) (taken v) same
       (computed_passed p statement c w counts false a v e)
@@ -107,14 +109,18 @@ module _ (Stand : Standing) (p : Program) (statement : ℕ) (c : Choice) (w : Wo
       as_passed (condition_parts p statement false k a) _ (taken v) e (by_times false k a (is_times a) refl h)
   edge_passed a action.SetCount v h e = as_passed (count_parts p statement a) _ (taken v) e (count_edge a)
   edge_passed a action.Down v h e =
-      as_passed (parts_of p statement a action.Down) _ (taken v) e (down_edge Stand p.layout counts w statement sets (h refl))
+      as_passed (parts_of p statement a action.Down) _ (taken v) e (down_edge Stand p.layout counts w statement sets
+      (h refl))
   edge_passed a (action.Open k) v h e =
       as_plain (call_parts p statement true k a) _ (taken v) e (call_edge p statement c w counts true k a)
   edge_passed a (action.Close k) v h e =
       as_plain (call_parts p statement true k a) _ (taken v) e (call_edge p statement c w counts true k a)
-  edge_passed a action.Take v h e = as_plain (read_parts p statement a) _ (taken v) e (read_edge p statement c w counts 0 a)
-  edge_passed a action.AtEnd v h e = as_plain (read_parts p statement a) _ (taken v) e (read_edge p statement c w counts 10 a)
-  edge_passed a (action.Bad k) v h e = as_plain (bad_parts p statement k a) _ (taken v) e (bad_edge p statement c w counts k a)
+  edge_passed a action.Take v h e = as_plain (read_parts p statement a) _ (taken v) e
+      (read_edge p statement c w counts 0 a)
+  edge_passed a action.AtEnd v h e = as_plain (read_parts p statement a) _ (taken v) e
+      (read_edge p statement c w counts 10 a)
+  edge_passed a (action.Bad k) v h e = as_plain (bad_parts p statement k a) _ (taken v) e
+      (bad_edge p statement c w counts k a)
   edge_passed a action.Write v h e =
       as_plain (call_parts p statement true 0 a) _ (taken v) e (call_edge p statement c w counts true 0 a)
   edge_passed a action.Show v h e = as_plain [] _ (taken v) e (show_edge p statement c w counts a)
@@ -151,7 +157,8 @@ parts_are_passed_beside p statement c a x w v counts its h s e =
 module _ (p : Program) (statement : ℕ) (c : Choice) (w : World) (counts : List (Option ℤ)) where
   abbrev MeetsAt : Act → Action → Kind → Type 0
   MeetsAt a x fault =
-      Meets p.layout (is_handled a (fault_edge a x)) (parts_of p statement a (fault_edge a x)) (beginning w.storage counts) fault
+      Meets p.layout (is_handled a (fault_edge a x)) (parts_of p statement a (fault_edge a x))
+      (beginning w.storage counts) fault
 
   times_fine : (wanted : Bool) (k : ℕ) (a : Act) (fault : Kind) → is_times a ≡ true →
       tested p statement c w wanted k a ≡ Err fault → ⊥
@@ -199,7 +206,8 @@ module _ (p : Program) (statement : ℕ) (c : Choice) (w : World) (counts : List
   met_at : (a : Act) (x : Action) (fault : Kind) → effect_of p statement c w x a ≡ Err fault → MeetsAt a x fault
   met_at a action.Skip fault e = absurd (cc)
   met_at a action.Assign fault e = as_met (assign_parts p statement a) _ fault e (assign_edge p statement c w counts a)
-  met_at a action.Done fault e = done_met a fault (has_phrase a) refl (computed_met p statement c w counts false a fault e)
+  met_at a action.Done fault e = done_met a fault (has_phrase a) refl
+      (computed_met p statement c w counts false a fault e)
   met_at a action.Size fault e = computed_met p statement c w counts true a fault e
   met_at a (action.True k) fault e = tested_met true k a fault (is_times a) refl e
   met_at a (action.False k) fault e = tested_met false k a fault (is_times a) refl e
@@ -207,12 +215,15 @@ module _ (p : Program) (statement : ℕ) (c : Choice) (w : World) (counts : List
       subst (λ (r : Effect). CountsSo Anyhow p.layout counts false (count_parts p statement a) w r) e
       (count_edge Anyhow p statement c w counts tt (λ n. tt) a)
   met_at a action.Down fault e = absurd (cc)
-  met_at a (action.Open k) fault e = as_met (call_parts p statement true k a) _ fault e (call_edge p statement c w counts true k a)
-  met_at a (action.Close k) fault e = as_met (call_parts p statement true k a) _ fault e (call_edge p statement c w counts true k a)
+  met_at a (action.Open k) fault e = as_met (call_parts p statement true k a) _ fault e
+      (call_edge p statement c w counts true k a)
+  met_at a (action.Close k) fault e = as_met (call_parts p statement true k a) _ fault e
+      (call_edge p statement c w counts true k a)
   met_at a action.Take fault e = as_met (read_parts p statement a) _ fault e (read_edge p statement c w counts 0 a)
   met_at a action.AtEnd fault e = as_met (read_parts p statement a) _ fault e (read_edge p statement c w counts 10 a)
   met_at a (action.Bad k) fault e = as_met (bad_parts p statement k a) _ fault e (bad_edge p statement c w counts k a)
-  met_at a action.Write fault e = as_met (call_parts p statement true 0 a) _ fault e (call_edge p statement c w counts true 0 a)
+  met_at a action.Write fault e = as_met (call_parts p statement true 0 a) _ fault e
+      (call_edge p statement c w counts true 0 a)
   met_at a action.Show fault e = as_met [] _ fault e (show_edge p statement c w counts a)
 
 pub faults_are_met : FaultsAreMet

@@ -37,14 +37,16 @@ module _ (l : Layout) (handled : Bool) (counts : List (Option ℤ)) (first : Lis
   -- what is passed behind which so much has failed
   abbrev pub DoneSo : List Part → List ℕ → Scaled → Bool → Result Receiving Kind → Type 0
   DoneSo xs now own failed (Ok x) =
-      (v : Scaled) × PassesAll l handled xs (fine_moment now counts first own failed) (fine_moment x.storage counts first v x.failed)
+      (v : Scaled) × PassesAll l handled xs (fine_moment now counts first own failed)
+      (fine_moment x.storage counts first v x.failed)
   DoneSo xs now own failed (Err fault) = Meets l handled xs (fine_moment now counts first own failed) fault
 
 -- ---- a store
 
 module _ (l : Layout) (counts : List (Option ℤ)) (first : List ℕ) (place : ℕ) (mode : Mode) (a : Amount)
     (is : misfit_of a ≡ kind.Size) (now : List ℕ) (own : Scaled) (failed : Bool) where
-  same_flag : (storage : List ℕ) → fine_moment storage counts first own (failed || false) ≡ fine_moment storage counts first own failed
+  same_flag : (storage : List ℕ) → fine_moment storage counts first own
+      (failed || false) ≡ fine_moment storage counts first own failed
   same_flag storage = ap (λ b. fine_moment storage counts first own b) (or_false failed)
 
   kept_alone : (b : Bool) (m n : Moment) → b ≡ false → n ≡ (if b then m else n)
@@ -90,7 +92,8 @@ module _ (l : Layout) (handled : Bool) (counts : List (Option ℤ)) (first : Lis
 
   abbrev OwnSo : How → List Part → List ℕ → Scaled → Bool → Result Scaled Kind → Type 0
   OwnSo h xs now own failed (Ok v) =
-      (u : Scaled) × PassesAll l handled xs (fine_moment now counts first own failed) (fine_moment now counts first u failed)
+      (u : Scaled) × PassesAll l handled xs (fine_moment now counts first own failed)
+      (fine_moment now counts first u failed)
       × (result (worth l first) s h u ≡ result (worth l first) s h v)
   OwnSo h xs now own failed (Err fault) = Meets l handled xs (fine_moment now counts first own failed) fault
 
@@ -116,12 +119,14 @@ module _ (l : Layout) (handled : Bool) (counts : List (Option ℤ)) (first : Lis
         (fine_moment x.storage counts first g.0 (failed || x.failed)) h g.1,
   )
   steps_behind xs ys now own v failed (Err fault) h g =
-      meets_behind l handled xs ys (fine_moment now counts first own failed) (fine_moment now counts first v failed) fault h g
+      meets_behind l handled xs ys (fine_moment now counts first own failed)
+      (fine_moment now counts first v failed) fault h g
 
   own_on : (t : Target) (now : List ℕ) (own : Scaled) (failed : Bool) (r : Result Scaled Kind) →
       OwnSo t.how (own_reads t.how t.item) now own failed r →
       StepsSo l handled counts first (target_parts s t) now own failed
-      (r >>= λ v. received l handled now t.item (stored_result l handled t.mode t.item (result (worth l first) s t.how v)))
+      (r >>= λ v. received l handled now t.item (stored_result l handled t.mode t.item (result
+      (worth l first) s t.how v)))
   own_on t now own failed (Ok v) h =
       steps_behind (own_reads t.how t.item) (part.store t.item t.mode (part.computed s t.how) ∷ []) now own h.0 failed
       (received l handled now t.item (stored_result l handled t.mode t.item (result (worth l first) s t.how v))) h.1
@@ -139,7 +144,8 @@ module _ (l : Layout) (handled : Bool) (counts : List (Option ℤ)) (first : Lis
 
   -- ---- all receivers
 
-  done_behind : (xs ys : List Part) (now behind : List ℕ) (own v : Scaled) (failed flag : Bool) (r : Result Receiving Kind) →
+  done_behind : (xs ys : List Part) (now behind : List ℕ) (own v : Scaled) (failed flag : Bool)
+      (r : Result Receiving Kind) →
       PassesAll l handled xs (fine_moment now counts first own failed) (fine_moment behind counts first v flag) →
       DoneSo l handled counts first ys behind v flag r → DoneSo l handled counts first (xs ++ ys) now own failed r
   done_behind xs ys now behind own v failed flag (Ok x) h g = (
@@ -148,7 +154,8 @@ module _ (l : Layout) (handled : Bool) (counts : List (Option ℤ)) (first : Lis
         (fine_moment x.storage counts first g.0 x.failed) h g.1,
   )
   done_behind xs ys now behind own v failed flag (Err fault) h g =
-      meets_behind l handled xs ys (fine_moment now counts first own failed) (fine_moment behind counts first v flag) fault h g
+      meets_behind l handled xs ys (fine_moment now counts first own failed)
+      (fine_moment behind counts first v flag) fault h g
 
   steps_on : (xs ys : List Part) (now : List ℕ) (own : Scaled) (failed : Bool) (r : Result Receiving Kind)
       (f : Receiving → Result Receiving Kind) → StepsSo l handled counts first xs now own failed r →
@@ -188,9 +195,11 @@ module _ (l : Layout) (counts : List (Option ℤ)) (first : List ℕ) (s : Sum) 
       (remainder_received l handled failed (worth l first) s ts remainder now)
   remainder_step handled false (t ∷ []) (Some place) now own h =
       from_step handled (remainder_parts l s (t ∷ []) (Some place)) now own
-      (received l handled now place (stored_result l handled Trunc place (remainder_of (worth l first) (scale_of (form_at l t.item)) (root_of s))))
+      (received l handled now place (stored_result l handled Trunc place (remainder_of (worth l first) (scale_of
+      (form_at l t.item)) (root_of s))))
       (store_step l counts first place Trunc (part.remaining s (scale_of (form_at l t.item))) refl now own false handled
-      (stored_result l handled Trunc place (remainder_of (worth l first) (scale_of (form_at l t.item)) (root_of s))) refl refl)
+      (stored_result l handled Trunc place (remainder_of (worth l first) (scale_of (form_at l t.item))
+      (root_of s))) refl refl)
   remainder_step true true (t ∷ []) (Some place) now own h = (own, (fine_moment now counts first own true, refl, refl))
   remainder_step false true (t ∷ []) (Some place) now own h = absurd (false≢true (sym h))
   remainder_step handled true [] remainder now own h = (own, refl)
@@ -214,9 +223,11 @@ module _ (l : Layout) (counts : List (Option ℤ)) (first : List ℕ) (s : Sum) 
     targets_kept : (ts : List Target) → PassesAll l true (targets_parts s ts) (divided_by_zero m) (divided_by_zero m)
     targets_kept [] = refl
     targets_kept (t ∷ ts) =
-        passes_on l true (target_parts s t) (targets_parts s ts) (divided_by_zero m) (divided_by_zero m) (divided_by_zero m)
+        passes_on l true (target_parts s t) (targets_parts s ts) (divided_by_zero m) (divided_by_zero m)
+        (divided_by_zero m)
         (passes_on l true (own_reads t.how t.item) (part.store t.item t.mode (part.computed s t.how) ∷ [])
-        (divided_by_zero m) (divided_by_zero m) (divided_by_zero m) (own_kept t.how t.item) (divided_by_zero m, refl, refl))
+        (divided_by_zero m) (divided_by_zero m) (divided_by_zero m) (own_kept t.how t.item)
+        (divided_by_zero m, refl, refl))
         (targets_kept ts)
 
     remainder_kept : (ts : List Target) (remainder : Option ℕ) →
@@ -227,7 +238,8 @@ module _ (l : Layout) (counts : List (Option ℤ)) (first : List ℕ) (s : Sum) 
     remainder_kept (t ∷ u ∷ ts) remainder = refl
 
     pub all_kept : (ts : List Target) (remainder : Option ℕ) →
-        PassesAll l true (targets_parts s ts ++ remainder_parts l s ts remainder) (divided_by_zero m) (divided_by_zero m)
+        PassesAll l true (targets_parts s ts ++ remainder_parts l s ts remainder) (divided_by_zero m)
+        (divided_by_zero m)
     all_kept ts remainder =
         passes_on l true (targets_parts s ts) (remainder_parts l s ts remainder) (divided_by_zero m) (divided_by_zero m)
         (divided_by_zero m) (targets_kept ts) (remainder_kept ts remainder)
@@ -247,14 +259,17 @@ module _ (l : Layout) (w : ℕ → Scaled) (s : Sum) where
 
   plain_receive : (now : List ℕ) (t : Target) (x : Receiving) → receive l false w s now t ≡ Ok x → x.failed ≡ false
   plain_receive now t x e =
-      let h = bind_ok (own_worth l false t.how now t.item) (λ own. received l false now t.item (stored_result l false t.mode t.item (result w s t.how own))) x e in
+      let h = bind_ok (own_worth l false t.how now t.item) (λ own. received l false now t.item
+      (stored_result l false t.mode t.item (result w s t.how own))) x e in
       plain_received now t.item (stored_result l false t.mode t.item (result w s t.how h.0)) x h.2
 
-  pub plain_all : (ts : List Target) (so_far x : Receiving) → receive_all l false w s so_far ts ≡ Ok x → so_far.failed ≡ false →
+  pub plain_all : (ts : List Target) (so_far x : Receiving) → receive_all l false w s so_far ts ≡ Ok x →
+      so_far.failed ≡ false →
       x.failed ≡ false
   plain_all [] so_far x e f = cc
   plain_all (t ∷ ts) so_far x e f =
-      let h = bind_ok (receive l false w s so_far.storage t) (λ r. receive_all l false w s (receiving r.storage (so_far.failed || r.failed)) ts) x e in
+      let h = bind_ok (receive l false w s so_far.storage t) (λ r. receive_all l false w s (receiving r.storage
+      (so_far.failed || r.failed)) ts) x e in
       plain_all ts (receiving h.0.storage (so_far.failed || h.0.failed)) x h.2
       (ap (λ b. b || h.0.failed) f ∙ plain_receive so_far.storage t h.0 h.1)
 
@@ -263,7 +278,8 @@ module _ (l : Layout) (w : ℕ → Scaled) (s : Sum) where
       x.failed ≡ true
   stays [] so_far x e f = cc
   stays (t ∷ ts) so_far x e f =
-      let h = bind_ok (receive l true w s so_far.storage t) (λ r. receive_all l true w s (receiving r.storage (so_far.failed || r.failed)) ts) x e in
+      let h = bind_ok (receive l true w s so_far.storage t) (λ r. receive_all l true w s (receiving r.storage
+      (so_far.failed || r.failed)) ts) x e in
       stays ts (receiving h.0.storage (so_far.failed || h.0.failed)) x h.2 (ap (λ b. b || h.0.failed) f)
 
   own_same : (h : How) (now : List ℕ) (place : ℕ) → own_worth l true h now place ≡ own_worth l false h now place
@@ -273,7 +289,8 @@ module _ (l : Layout) (w : ℕ → Scaled) (s : Sum) where
   own_same how.Times now place = refl
   own_same how.Under now place = refl
 
-  received_same : (now : List ℕ) (place : ℕ) (o : Option (List ℕ)) (x : Receiving) → received l true now place o ≡ Ok x →
+  received_same : (now : List ℕ) (place : ℕ) (o : Option (List ℕ)) (x : Receiving) →
+      received l true now place o ≡ Ok x →
       x.failed ≡ false → received l false now place o ≡ Ok x
   received_same now place None x e f = absurd (cc)
   received_same now place (Some bytes) x e f = e
@@ -281,8 +298,10 @@ module _ (l : Layout) (w : ℕ → Scaled) (s : Sum) where
   receive_same : (now : List ℕ) (t : Target) (x : Receiving) → receive l true w s now t ≡ Ok x → x.failed ≡ false →
       receive l false w s now t ≡ Ok x
   receive_same now t x e f =
-      let h = bind_ok (own_worth l true t.how now t.item) (λ own. received l true now t.item (stored_result l true t.mode t.item (result w s t.how own))) x e in
-      ap (λ (r : Result Scaled Kind). r >>= λ own. received l false now t.item (stored_result l false t.mode t.item (result w s t.how own))) (sym (own_same t.how now t.item) ∙ h.1)
+      let h = bind_ok (own_worth l true t.how now t.item) (λ own. received l true now t.item
+      (stored_result l true t.mode t.item (result w s t.how own))) x e in
+      ap (λ (r : Result Scaled Kind). r >>= λ own. received l false now t.item (stored_result l false t.mode t.item
+      (result w s t.how own))) (sym (own_same t.how now t.item) ∙ h.1)
       ∙ received_same now t.item (stored_result l false t.mode t.item (result w s t.how h.0)) x h.2 f
 
   first_unfailed : (a b : Bool) → ((a || b) ≡ true → ⊥) → (a ≡ false) × (b ≡ false)
@@ -291,14 +310,17 @@ module _ (l : Layout) (w : ℕ → Scaled) (s : Sum) where
   first_unfailed false false h = (refl, refl)
 
   -- where nothing fails, the phrase makes no difference
-  pub all_same : (ts : List Target) (so_far x : Receiving) → receive_all l true w s so_far ts ≡ Ok x → x.failed ≡ false →
+  pub all_same : (ts : List Target) (so_far x : Receiving) → receive_all l true w s so_far ts ≡ Ok x →
+      x.failed ≡ false →
       receive_all l false w s so_far ts ≡ Ok x
   all_same [] so_far x e f = e
   all_same (t ∷ ts) so_far x e f =
-      let h = bind_ok (receive l true w s so_far.storage t) (λ r. receive_all l true w s (receiving r.storage (so_far.failed || r.failed)) ts) x e in
+      let h = bind_ok (receive l true w s so_far.storage t) (λ r. receive_all l true w s (receiving r.storage
+      (so_far.failed || r.failed)) ts) x e in
       let none = first_unfailed so_far.failed h.0.failed
       (λ g. false≢true (sym f ∙ stays ts (receiving h.0.storage (so_far.failed || h.0.failed)) x h.2 g)) in
-      ap (λ (r : Result Receiving Kind). r >>= λ r. receive_all l false w s (receiving r.storage (so_far.failed || r.failed)) ts)
+      ap (λ (r : Result Receiving Kind). r >>= λ r. receive_all l false w s (receiving r.storage
+      (so_far.failed || r.failed)) ts)
       (receive_same so_far.storage t h.0 h.1 none.1)
       ∙ all_same ts (receiving h.0.storage (so_far.failed || h.0.failed)) x h.2 f
 
@@ -334,7 +356,8 @@ module _ (l : Layout) (handled : Bool) where
   arith_behind xs ys m k (Ok x) h e g = (g.0, passes_on l handled xs ys m k g.0 h g.1, g.2, g.3 ∙ e, g.4)
   arith_behind xs ys m k (Err fault) h e g = meets_behind l handled xs ys m k fault h g
 
-module _ (l : Layout) (counts : List (Option ℤ)) (storage : List ℕ) (s : Sum) (ts : List Target) (remainder : Option ℕ) where
+module _ (l : Layout) (counts : List (Option ℤ)) (storage : List ℕ) (s : Sum) (ts : List Target)
+    (remainder : Option ℕ) where
   done_on : (handled : Bool) (xs ys : List Part) (own : Scaled) (r : Result Receiving Kind)
       (f : Receiving → Result Receiving Kind) → DoneSo l handled counts storage xs storage own false r →
       ((x : Receiving) (v : Scaled) → r ≡ Ok x → DoneSo l handled counts storage ys x.storage v x.failed (f x)) →
@@ -345,17 +368,20 @@ module _ (l : Layout) (counts : List (Option ℤ)) (storage : List ℕ) (s : Sum
       meets_front l handled xs ys (fine_moment storage counts storage own false) fault h
 
   unfailed : (handled : Bool) (x : Receiving) →
-      receive_all l handled (worth l storage) s (receiving storage false) ts ≡ Ok x → IsUnfailed l counts storage s handled x.failed
+      receive_all l handled (worth l storage) s (receiving storage false) ts ≡ Ok x →
+      IsUnfailed l counts storage s handled x.failed
   unfailed true x e = tt
   unfailed false x e = plain_all l (worth l storage) s ts (receiving storage false) x e refl
 
   as_arith : (handled : Bool) (xs : List Part) (own : Scaled) (r : Result Receiving Kind) →
-      DoneSo l handled counts storage xs storage own false r → ArithSo l handled (fine_moment storage counts storage own false) xs r
+      DoneSo l handled counts storage xs storage own false r → ArithSo l handled
+      (fine_moment storage counts storage own false) xs r
   as_arith handled xs own (Ok x) h = (fine_moment x.storage counts storage h.0 x.failed, h.1, refl, refl, refl)
   as_arith handled xs own (Err fault) h = h
 
   receivers_then : (handled : Bool) (own : Scaled) →
-      ArithSo l handled (fine_moment storage counts storage own false) (targets_parts s ts ++ remainder_parts l s ts remainder)
+      ArithSo l handled (fine_moment storage counts storage own false)
+      (targets_parts s ts ++ remainder_parts l s ts remainder)
       (receive_all l handled (worth l storage) s (receiving storage false) ts
       >>= λ r. remainder_received l handled r.failed (worth l storage) s ts remainder r.storage)
   receivers_then handled own =
@@ -379,29 +405,35 @@ module _ (l : Layout) (counts : List (Option ℤ)) (storage : List ℕ) (s : Sum
   divisors_pass own z e = sym (divisors_are (worth l storage) s ts) ∙ ap not e
 
   by_divisors : (handled : Bool) (own : Scaled) (z : Bool) → has_zero_divisor (worth l storage) s ts ≡ z →
-      ArithSo l handled (fine_moment storage counts storage own false) all (after_divisors l handled storage s ts remainder z)
+      ArithSo l handled (fine_moment storage counts storage own false) all
+      (after_divisors l handled storage s ts remainder z)
   by_divisors false own false e =
       arith_behind l false (divides (divisors_of s ts)) rest (fine_moment storage counts storage own false)
       (fine_moment storage counts storage own false) _
-      (subst (λ b. DividesSo l (divides (divisors_of s ts)) (fine_moment storage counts storage own false) b) (divisors_pass own false e)
+      (subst (λ b. DividesSo l (divides (divisors_of s ts)) (fine_moment storage counts storage own false) b)
+      (divisors_pass own false e)
       (divisors_count l (divisors_of s ts) (fine_moment storage counts storage own false)))
       refl (receivers_then false own)
   by_divisors true own false e =
       arith_behind l true (divides (divisors_of s ts)) rest (fine_moment storage counts storage own false)
       (fine_moment storage counts storage own false) _
       (subst (λ b. PassesAll l true (divides (divisors_of s ts)) (fine_moment storage counts storage own false)
-      (if b then fine_moment storage counts storage own false else divided_by_zero (fine_moment storage counts storage own false)))
-      (divisors_pass own false e) (divisors_handled l (divisors_of s ts) (fine_moment storage counts storage own false)))
+      (if b then fine_moment storage counts storage own false else divided_by_zero
+      (fine_moment storage counts storage own false)))
+      (divisors_pass own false e) (divisors_handled l (divisors_of s ts)
+      (fine_moment storage counts storage own false)))
       refl (receivers_then true own)
   by_divisors false own true e =
       meets_front l false (divides (divisors_of s ts)) rest (fine_moment storage counts storage own false) kind.Zero
-      (subst (λ b. DividesSo l (divides (divisors_of s ts)) (fine_moment storage counts storage own false) b) (divisors_pass own true e)
+      (subst (λ b. DividesSo l (divides (divisors_of s ts)) (fine_moment storage counts storage own false) b)
+      (divisors_pass own true e)
       (divisors_count l (divisors_of s ts) (fine_moment storage counts storage own false)))
   by_divisors true own true e =
       arith_behind l true (divides (divisors_of s ts)) rest (fine_moment storage counts storage own false)
       (divided_by_zero (fine_moment storage counts storage own false)) (Ok (receiving storage true))
       (subst (λ b. PassesAll l true (divides (divisors_of s ts)) (fine_moment storage counts storage own false)
-      (if b then fine_moment storage counts storage own false else divided_by_zero (fine_moment storage counts storage own false)))
+      (if b then fine_moment storage counts storage own false else divided_by_zero
+      (fine_moment storage counts storage own false)))
       (divisors_pass own true e) (divisors_handled l (divisors_of s ts) (fine_moment storage counts storage own false)))
       refl (
         divided_by_zero (fine_moment storage counts storage own false),
@@ -414,7 +446,8 @@ module _ (l : Layout) (counts : List (Option ℤ)) (storage : List ℕ) (s : Sum
   by_reads : (handled : Bool) (own : Scaled) (b : Bool) →
       ReadsSo l handled storage counts storage false (item_reads (items_in s)) own b →
       ArithSo l handled (fine_moment storage counts storage own false) (item_reads (items_in s) ++ all)
-      (if b then after_divisors l handled storage s ts remainder (has_zero_divisor (worth l storage) s ts) else Err kind.Class)
+      (if b then after_divisors l handled storage s ts remainder (has_zero_divisor
+      (worth l storage) s ts) else Err kind.Class)
   by_reads handled own true h =
       arith_behind l handled (item_reads (items_in s)) all (fine_moment storage counts storage own false)
       (fine_moment storage counts storage h.0 false) _ h.1 refl
@@ -430,12 +463,14 @@ module _ (l : Layout) (counts : List (Option ℤ)) (storage : List ℕ) (s : Sum
       by_reads handled own (are_numeric l storage (items_in s))
       (items_read l handled storage counts storage false (items_in s) own)
 
-  divisors_same : (z : Bool) (x : Receiving) → after_divisors l true storage s ts remainder z ≡ Ok x → x.failed ≡ false →
+  divisors_same : (z : Bool) (x : Receiving) → after_divisors l true storage s ts remainder z ≡ Ok x →
+      x.failed ≡ false →
       after_divisors l false storage s ts remainder z ≡ Ok x
   divisors_same true x e f = absurd (cc)
   divisors_same false x e f =
       let w = worth l storage in
-      let h = bind_ok (receive_all l true w s (receiving storage false) ts) (λ r. remainder_received l true r.failed w s ts remainder r.storage) x e in
+      let h = bind_ok (receive_all l true w s (receiving storage false) ts)
+      (λ r. remainder_received l true r.failed w s ts remainder r.storage) x e in
       let g = remainder_same l w s h.0.failed ts remainder h.0.storage x h.2 f in
       ap (λ (r : Result Receiving Kind). r >>= λ r. remainder_received l false r.failed w s ts remainder r.storage)
       (all_same l w s ts (receiving storage false) h.0 h.1 g.0)
@@ -448,17 +483,20 @@ module _ (l : Layout) (counts : List (Option ℤ)) (storage : List ℕ) (s : Sum
   numeric_same false z x e f = absurd (cc)
 
   -- where nothing fails, the phrase makes no difference
-  pub arith_same : (phrase : Bool) (x : Receiving) → after_arithmetic l phrase storage s ts remainder ≡ Ok x → x.failed ≡ false →
+  pub arith_same : (phrase : Bool) (x : Receiving) → after_arithmetic l phrase storage s ts remainder ≡ Ok x →
+      x.failed ≡ false →
       after_arithmetic l false storage s ts remainder ≡ Ok x
   arith_same false x e f = e
   arith_same true x e f =
       numeric_same (are_numeric l storage (items_in s)) (has_zero_divisor (worth l storage) s ts) x e f
 
-  divisors_unfailed : (z : Bool) (x : Receiving) → after_divisors l false storage s ts remainder z ≡ Ok x → x.failed ≡ false
+  divisors_unfailed : (z : Bool) (x : Receiving) → after_divisors l false storage s ts remainder z ≡ Ok x →
+      x.failed ≡ false
   divisors_unfailed true x e = absurd (cc)
   divisors_unfailed false x e =
       let w = worth l storage in
-      let h = bind_ok (receive_all l false w s (receiving storage false) ts) (λ r. remainder_received l false r.failed w s ts remainder r.storage) x e in
+      let h = bind_ok (receive_all l false w s (receiving storage false) ts)
+      (λ r. remainder_received l false r.failed w s ts remainder r.storage) x e in
       plain_remainder l w s h.0.failed ts remainder h.0.storage x h.2
       (plain_all l w s ts (receiving storage false) h.0 h.1 refl)
 
@@ -469,4 +507,5 @@ module _ (l : Layout) (counts : List (Option ℤ)) (storage : List ℕ) (s : Sum
 
   -- without the phrase nothing fails but by a fault
   pub arith_unfailed : (x : Receiving) → after_arithmetic l false storage s ts remainder ≡ Ok x → x.failed ≡ false
-  arith_unfailed x e = numeric_unfailed (are_numeric l storage (items_in s)) (has_zero_divisor (worth l storage) s ts) x e
+  arith_unfailed x e = numeric_unfailed (are_numeric l storage (items_in s)) (has_zero_divisor
+      (worth l storage) s ts) x e

@@ -80,7 +80,8 @@ module _ (Stand : Standing) (l : Layout) (counts : List (Option ℤ)) (w : World
 
   pub set_edge : (statement : ℕ) (x : Sender) →
       ((n : ℤ) → Stand (slice_set w.counts (statement - 1) (Some n)) (slice_set counts (statement - 1) (Some n))) →
-      CountsSo Stand l counts false (number_reads x ++ part.set_count statement x ∷ []) w (met (set_count l statement x w))
+      CountsSo Stand l counts false (number_reads x ++ part.set_count statement x ∷ []) w (met
+      (set_count l statement x w))
   set_edge statement x s =
       set_by statement x (number_of l w.storage x) refl s (sender_read l false w.storage counts w.storage false x start)
 
@@ -99,26 +100,32 @@ module _ (Stand : Standing) (l : Layout) (counts : List (Option ℤ)) (w : World
       (last, (at (whole_number n), (n, e, refl), (last, refl, refl)), sym f, s, refl)
     where
       last : Moment
-      last = fine_moment w.storage (slice_set counts (statement - 1) (Some (n -ℤ pos 1))) w.storage (whole_number n) false
+      last = fine_moment w.storage (slice_set counts (statement - 1) (Some (n -ℤ pos 1))) w.storage
+          (whole_number n) false
 
   down_by : (statement : ℕ) →
       ((n : ℤ) → Stand (slice_set w.counts (statement - 1) (Some n)) (slice_set counts (statement - 1) (Some n))) →
       (h : StandsAt statement) → (o : Option ℤ) → count_in w.counts statement ≡ o →
       CountsSo Stand l counts false (part.read_count statement ∷ part.count_down statement ∷ []) w
       (taken (option_map_or (λ n. act.with_count l statement (n -ℤ pos 1) w) o w))
-  down_by statement s h (Some v) e = down_on statement h.0 (act.with_count l statement (v -ℤ pos 1) w) h.1 refl (same h.2)
+  down_by statement s h (Some v) e = down_on statement h.0 (act.with_count l statement (v -ℤ pos 1) w) h.1 refl
+      (same h.2)
     where
-      same : (count_in w.counts statement ≡ Some h.0) ⊎ ((count_in w.counts statement ≡ None) × (is_positive h.0 ≡ false)
+      same : (count_in w.counts statement ≡ Some h.0) ⊎ ((count_in w.counts statement ≡ None) ×
+          (is_positive h.0 ≡ false)
           × Stand w.counts (slice_set counts (statement - 1) (Some (h.0 -ℤ pos 1)))) →
-          Stand (slice_set w.counts (statement - 1) (Some (v -ℤ pos 1))) (slice_set counts (statement - 1) (Some (h.0 -ℤ pos 1)))
+          Stand (slice_set w.counts (statement - 1) (Some (v -ℤ pos 1))) (slice_set counts (statement - 1) (Some
+          (h.0 -ℤ pos 1)))
       same (inl f) =
           let g : v ≡ h.0 = cc in
-          subst (λ (n : ℤ). Stand (slice_set w.counts (statement - 1) (Some (v -ℤ pos 1))) (slice_set counts (statement - 1) (Some (n -ℤ pos 1)))) g
+          subst (λ (n : ℤ). Stand (slice_set w.counts (statement - 1) (Some (v -ℤ pos 1))) (slice_set counts
+          (statement - 1) (Some (n -ℤ pos 1)))) g
           (s (v -ℤ pos 1))
       same (inr f) = let g = f.0 in absurd (cc)
   down_by statement s h None e = down_on statement h.0 w h.1 refl (less h.2)
     where
-      less : (count_in w.counts statement ≡ Some h.0) ⊎ ((count_in w.counts statement ≡ None) × (is_positive h.0 ≡ false)
+      less : (count_in w.counts statement ≡ Some h.0) ⊎ ((count_in w.counts statement ≡ None) ×
+          (is_positive h.0 ≡ false)
           × Stand w.counts (slice_set counts (statement - 1) (Some (h.0 -ℤ pos 1)))) →
           Stand w.counts (slice_set counts (statement - 1) (Some (h.0 -ℤ pos 1)))
       less (inl f) = absurd (cc)
@@ -127,7 +134,8 @@ module _ (Stand : Standing) (l : Layout) (counts : List (Option ℤ)) (w : World
   pub down_edge : (statement : ℕ) →
       ((n : ℤ) → Stand (slice_set w.counts (statement - 1) (Some n)) (slice_set counts (statement - 1) (Some n))) →
       StandsAt statement →
-      CountsSo Stand l counts false (part.read_count statement ∷ part.count_down statement ∷ []) w (taken (count_down l statement w))
+      CountsSo Stand l counts false (part.read_count statement ∷ part.count_down statement ∷ []) w (taken
+      (count_down l statement w))
   down_edge statement s h = down_by statement s h (count_in w.counts statement) refl
 
   -- ---- the test of TIMES
@@ -136,12 +144,38 @@ module _ (Stand : Standing) (l : Layout) (counts : List (Option ℤ)) (w : World
       is_positive n ≡ b →
       CountsSo Stand l counts false (part.read_count statement ∷ part.guard_count statement wanted ∷ []) w
       (taken_if (if wanted then b else not b) w)
-  counted_by statement n true true s e f =
-      (at (whole_number n), (at (whole_number n), (n, e, refl), (at (whole_number n), (n, e, f, refl), refl)), refl, s, refl)
+  counted_by statement n true true s e f = (
+    at (whole_number n),
+    (
+      at (whole_number n),
+      (n, e, refl),
+      (
+        at (whole_number n),
+        (n, e, f, refl),
+        refl,
+      ),
+    ),
+    refl,
+    s,
+    refl,
+  )
   counted_by statement n true false s e f = tt
   counted_by statement n false true s e f = tt
-  counted_by statement n false false s e f =
-      (at (whole_number n), (at (whole_number n), (n, e, refl), (at (whole_number n), (n, e, f, refl), refl)), refl, s, refl)
+  counted_by statement n false false s e f = (
+    at (whole_number n),
+    (
+      at (whole_number n),
+      (n, e, refl),
+      (
+        at (whole_number n),
+        (n, e, f, refl),
+        refl,
+      ),
+    ),
+    refl,
+    s,
+    refl,
+  )
 
   left_is : (p : Program) (c : Choice) (n : ℤ) → is_positive n ≡ is_left p c (Some n)
   left_is p c (pos zero) = refl
@@ -152,13 +186,15 @@ module _ (Stand : Standing) (l : Layout) (counts : List (Option ℤ)) (w : World
       is_positive h.0 ≡ is_left p c (count_in w.counts statement)
   positive_is p c statement h = by_cases h.2
     where
-      by_cases : (count_in w.counts statement ≡ Some h.0) ⊎ ((count_in w.counts statement ≡ None) × (is_positive h.0 ≡ false)
+      by_cases : (count_in w.counts statement ≡ Some h.0) ⊎ ((count_in w.counts statement ≡ None) ×
+          (is_positive h.0 ≡ false)
           × Stand w.counts (slice_set counts (statement - 1) (Some (h.0 -ℤ pos 1)))) →
           is_positive h.0 ≡ is_left p c (count_in w.counts statement)
       by_cases (inl f) = left_is p c h.0 ∙ ap (is_left p c) (sym f)
       by_cases (inr f) = f.1 ∙ ap (is_left p c) (sym f.0)
 
-  pub left_edge : (p : Program) (c : Choice) (statement : ℕ) (wanted : Bool) → Stand w.counts counts → StandsAt statement →
+  pub left_edge : (p : Program) (c : Choice) (statement : ℕ) (wanted : Bool) → Stand w.counts counts →
+      StandsAt statement →
       CountsSo Stand l counts false (part.read_count statement ∷ part.guard_count statement wanted ∷ []) w
       (taken_if (if wanted then is_left p c (count_of l statement w) else not (is_left p c (count_of l statement w))) w)
   left_edge p c statement wanted s h =

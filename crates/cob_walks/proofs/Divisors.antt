@@ -62,9 +62,11 @@ module _ (w : ℕ → Scaled) where
   -- the divisors of the first factor, and of the others
   pub split_factor : (over minus : Bool) (atom : Atom) (fs : Factors) →
       all_divide (divisors_in_factors (more_factors (MkFactor over minus atom) fs))
-      ≡ ((all_divide (divisors_in_atom atom) && all_divide (if over then atom ∷ [] else [])) && all_divide (divisors_in_factors fs))
+      ≡ ((all_divide (divisors_in_atom atom) && all_divide (if over then atom ∷ [] else [])) && all_divide
+      (divisors_in_factors fs))
   split_factor over minus atom fs =
-      list_all-append (divides_by w) (divisors_in_atom atom ++ (if over then atom ∷ [] else [])) (divisors_in_factors fs)
+      list_all-append (divides_by w) (divisors_in_atom atom ++ (if over then atom ∷ [] else []))
+      (divisors_in_factors fs)
       ∙ ap (λ c. c && all_divide (divisors_in_factors fs))
       (list_all-append (divides_by w) (divisors_in_atom atom) (if over then atom ∷ [] else []))
 
@@ -83,15 +85,18 @@ module _ (w : ℕ → Scaled) where
     parts_count (more_parts (MkPart minus fs) ps) a =
         some_on (part_value w (MkPart minus fs)) (λ b. sum_from w (plus a b) ps) (all_divide (divisors_in_parts ps))
         (λ b. parts_count ps (plus a b))
-        ∙ (ap (λ c. c && all_divide (divisors_in_parts ps)) (part_counts minus fs _ (factors_count fs (whole_number (pos 1))))
+        ∙ (ap (λ c. c && all_divide (divisors_in_parts ps)) (part_counts minus fs _ (factors_count fs (whole_number
+        (pos 1))))
         ∙ sym (list_all-append (divides_by w) (divisors_in_factors fs) (divisors_in_parts ps)))
 
-    pub factors_count : (fs : Factors) (a : Scaled) → is_some (product_from w a fs) ≡ all_divide (divisors_in_factors fs)
+    pub factors_count : (fs : Factors) (a : Scaled) → is_some (product_from w a fs) ≡ all_divide
+        (divisors_in_factors fs)
     factors_count no_factors a = refl
     factors_count (more_factors (MkFactor false minus atom) fs) a =
         some_on (atom_value w atom) (λ b. product_from w (product a (negated minus b)) fs)
         (all_divide (divisors_in_factors fs)) (λ b. factors_count fs (product a (negated minus b)))
-        ∙ (ap (λ c. c && all_divide (divisors_in_factors fs)) (atom_counts atom ∙ sym (and-true (all_divide (divisors_in_atom atom))))
+        ∙ (ap (λ c. c && all_divide (divisors_in_factors fs)) (atom_counts atom ∙ sym (and-true (all_divide
+        (divisors_in_atom atom))))
         ∙ sym (split_factor false minus atom fs))
     factors_count (more_factors (MkFactor true minus atom) fs) a =
         over_on (atom_value w atom) (λ b. quotient a (negated minus b) >>= λ c. product_from w c fs)
@@ -100,7 +105,8 @@ module _ (w : ℕ → Scaled) where
         (λ c. factors_count fs c)
         ∙ ap (λ c. c && all_divide (divisors_in_factors fs)) (quotient_counts a b minus))
         ∙ (ap (λ c. (c && divides_by w atom) && all_divide (divisors_in_factors fs)) (atom_counts atom)
-        ∙ (ap (λ c. (all_divide (divisors_in_atom atom) && c) && all_divide (divisors_in_factors fs)) (sym (and-true (divides_by w atom)))
+        ∙ (ap (λ c. (all_divide (divisors_in_atom atom) && c) && all_divide (divisors_in_factors fs)) (sym (and-true
+        (divides_by w atom)))
         ∙ sym (split_factor true minus atom fs)))
 
     pub atom_counts : (a : Atom) → is_some (atom_value w a) ≡ all_divide (divisors_in_atom a)
@@ -149,21 +155,24 @@ module _ (w : ℕ → Scaled) where
   whole_counts s =
       some_on (sum_value w s) (λ v. Some _) true (λ v. refl) ∙ (and-true (is_some (sum_value w s)) ∙ sum_counts s)
 
-  root_stored : (s : Sum) (fs : Factors) (o : Option Root) → all_divide (divisors_in s) ≡ all_divide (divisors_in_factors fs) →
+  root_stored : (s : Sum) (fs : Factors) (o : Option Root) → all_divide (divisors_in s) ≡ all_divide
+      (divisors_in_factors fs) →
       RootCounts fs o → is_some (stored_from w s o) ≡ all_divide (divisors_in s)
   root_stored s fs None e h = whole_counts s
   root_stored s fs (Some r) e h =
       some_on (product_from w (whole_number (pos 1)) r.above)
       (λ n. atom_value w r.below >>= λ d. exact_quotient n (negated r.minus d))
       (all_divide (divisors_in_atom r.below) && divides_by w r.below) (λ n. below_counts r n)
-      ∙ (ap (λ c. c && (all_divide (divisors_in_atom r.below) && divides_by w r.below)) (factors_count r.above (whole_number (pos 1)))
+      ∙ (ap (λ c. c && (all_divide (divisors_in_atom r.below) && divides_by w r.below)) (factors_count r.above
+      (whole_number (pos 1)))
       ∙ (sym h ∙ sym e))
 
   stored_counts : (s : Sum) → is_some (stored_value w s) ≡ all_divide (divisors_in s)
   stored_counts (MkSum no_parts) = refl
   stored_counts (MkSum (more_parts (MkPart false fs) no_parts)) =
       root_stored (MkSum (more_parts (MkPart false fs) no_parts)) fs (root_in fs)
-      (list_all-append (divides_by w) (divisors_in_factors fs) [] ∙ and-true (all_divide (divisors_in_factors fs))) (root_counts fs)
+      (list_all-append (divides_by w) (divisors_in_factors fs) [] ∙ and-true (all_divide (divisors_in_factors fs)))
+      (root_counts fs)
   stored_counts (MkSum (more_parts (MkPart true fs) ps)) = whole_counts (MkSum (more_parts (MkPart true fs) ps))
   stored_counts (MkSum (more_parts (MkPart false fs) (more_parts q qs))) =
       whole_counts (MkSum (more_parts (MkPart false fs) (more_parts q qs)))
@@ -219,20 +228,23 @@ any_divides : (u d : Bool) (t : Target) (ts : List Target) → (u ≡ true → d
     not (list_any (λ x. not (if is_under x.how then u else d)) (t ∷ ts))
     ≡ (d && (if list_any (λ x. is_under x.how) (t ∷ ts) then u else true))
 any_divides true true t ts h =
-    ap not (any_same (λ (x : Target). not (if is_under x.how then true else true)) (λ x. false) (t ∷ ts) (λ x. not_if_same (is_under x.how)) ∙ none_any (t ∷ ts))
+    ap not (any_same (λ (x : Target). not (if is_under x.how then true else true)) (λ x. false) (t ∷ ts)
+    (λ x. not_if_same (is_under x.how)) ∙ none_any (t ∷ ts))
     ∙ if_always (list_any (λ x. is_under x.how) (t ∷ ts))
   where
     if_always : (b : Bool) → true ≡ (if b then true else true)
     if_always true = refl
     if_always false = refl
 any_divides false true t ts h =
-    ap not (any_same (λ (x : Target). not (if is_under x.how then false else true)) (λ x. is_under x.how) (t ∷ ts) (λ x. not_if (is_under x.how)))
+    ap not (any_same (λ (x : Target). not (if is_under x.how then false else true)) (λ x. is_under x.how) (t ∷ ts)
+    (λ x. not_if (is_under x.how)))
     ∙ not_is (list_any (λ x. is_under x.how) (t ∷ ts))
   where
     not_is : (b : Bool) → not b ≡ (if b then false else true)
     not_is true = refl
     not_is false = refl
-any_divides false false t ts h = true_head (is_under t.how) (list_any (λ x. not (if is_under x.how then false else false)) ts)
+any_divides false false t ts h = true_head (is_under t.how) (list_any (λ x. not
+    (if is_under x.how then false else false)) ts)
 any_divides true false t ts h = absurd (false≢true (h refl))
 
 if_list : (w : ℕ → Scaled) (s : Sum) (b : Bool) →
@@ -250,5 +262,7 @@ divisors_are w s (t ∷ ts) =
     (λ x. ap not (result_counts w s x.how (whole_number (pos 0)))))
     ∙ (any_divides (divides_by w (group s)) (list_all (divides_by w) (divisors_in s)) t ts
     (under_is w s (sum_value w s) refl (sum_counts w s))
-    ∙ (ap (λ c. list_all (divides_by w) (divisors_in s) && c) (sym (if_list w s (list_any (λ x. is_under x.how) (t ∷ ts))))
-    ∙ sym (list_all-append (divides_by w) (divisors_in s) (if list_any (λ x. is_under x.how) (t ∷ ts) then group s ∷ [] else []))))
+    ∙ (ap (λ c. list_all (divides_by w) (divisors_in s) && c) (sym (if_list w s (list_any (λ x. is_under x.how)
+    (t ∷ ts))))
+    ∙ sym (list_all-append (divides_by w) (divisors_in s) (if list_any (λ x. is_under x.how)
+    (t ∷ ts) then group s ∷ [] else []))))

@@ -52,11 +52,13 @@ module _ (p : Program) (statement : ℕ) (c : Choice) (w : World) (counts : List
   assign_edge stop = tt
   assign_edge (open_files os) = tt
   assign_edge (close_files fs) = tt
-  assign_edge (act.read f into end fine) = if_taken p.layout counts w true _ (into_if p.layout f into w) (λ e. into_does p.layout counts w f into)
+  assign_edge (act.read f into end fine) = if_taken p.layout counts w true _ (into_if p.layout f into w)
+      (λ e. into_does p.layout counts w f into)
   assign_edge (write r from) = from_edge r from
   assign_edge (act.show xs) = tt
 
-  test_edges : (wanted : Bool) (t : Option Test) → Does (test_parts p.layout wanted t) (decided p statement c w wanted t)
+  test_edges : (wanted : Bool) (t : Option Test) → Does (test_parts p.layout wanted t)
+      (decided p statement c w wanted t)
   test_edges wanted None = tt
   test_edges wanted (Some t) = test_edge p.layout counts w t wanted
 
@@ -94,11 +96,13 @@ module _ (p : Program) (statement : ℕ) (c : Choice) (w : World) (counts : List
   close_edge fine None = tt
   close_edge fine (Some f) = if_taken p.layout counts w _ _ _ (λ e. closed_does p.layout counts w f)
 
-  write_edge : (fine : Bool) (r : ℕ) (f : Option ℕ) → Does (file_call_parts p.layout fine f) (wrote p statement c w fine r f)
+  write_edge : (fine : Bool) (r : ℕ) (f : Option ℕ) → Does (file_call_parts p.layout fine f)
+      (wrote p statement c w fine r f)
   write_edge fine r None = tt
   write_edge fine r (Some f) = if_taken p.layout counts w _ _ _ (λ e. wrote_does p.layout counts w fine c f r e)
 
-  pub call_edge : (fine : Bool) (k : ℕ) (a : Act) → Does (call_parts p statement fine k a) (file_call p statement c w fine k a)
+  pub call_edge : (fine : Bool) (k : ℕ) (a : Act) → Does (call_parts p statement fine k a)
+      (file_call p statement c w fine k a)
   call_edge fine k (open_files os) = open_edge fine (slice_get os k)
   call_edge fine k (close_files fs) = close_edge fine (slice_get fs k)
   call_edge fine k (write r from) = write_edge fine r (file_from p.layout 0 p.layout.files r)
@@ -170,33 +174,45 @@ module _ (p : Program) (statement : ℕ) (c : Choice) (w : World) (counts : List
 
     -- what an arithmetic statement leaves
     arith_passed : (handled : Bool) (x : Receiving) (v : World) → arithmetic handled ≡ Ok x → x.failed ≡ handled →
-        with_storage w x.storage ≡ v → EdgeSo p.layout counts handled (arith_parts p.layout s targets remainder) w (taken v)
+        with_storage w x.storage ≡ v → EdgeSo p.layout counts handled (arith_parts p.layout s targets remainder) w
+        (taken v)
     arith_passed handled x v e f g =
-        let h = subst (λ (r : Result Receiving Kind). ArithSo p.layout handled (beginning w.storage counts) (arith_parts p.layout s targets remainder) r)
+        let h = subst (λ (r : Result Receiving Kind). ArithSo p.layout handled (beginning w.storage counts)
+        (arith_parts p.layout s targets remainder) r)
         e (arith_does p.layout counts w.storage s targets remainder handled (whole_number (pos 0))) in
         (h.0, h.1, h.2 ∙ ap (λ (u : World). u.storage) g, h.3, sym (ap (λ (u : World). u.counts) g), h.4 ∙ f)
 
     computed_as : (failed phrase : Bool) (v : World) →
-        (compute p.layout phrase s targets remainder w >>= λ x. taken_if (if failed then x.1 else not x.1) x.0) ≡ Ok (Some v) →
+        (compute p.layout phrase s targets remainder w >>= λ x. taken_if (if failed then x.1 else not x.1) x.0) ≡ Ok
+        (Some v) →
         (x : Receiving) × (arithmetic phrase ≡ Ok x) × ((if failed then x.failed else not x.failed) ≡ true)
         × (with_storage w x.storage ≡ v)
     computed_as failed phrase v e =
-        let h = bind_ok (compute p.layout phrase s targets remainder w) (λ x. taken_if (if failed then x.1 else not x.1) x.0) (Some v) e in
+        let h = bind_ok (compute p.layout phrase s targets remainder w) (λ x. taken_if
+        (if failed then x.1 else not x.1) x.0) (Some v) e in
         let g = bind_ok (arithmetic phrase) (λ r. Ok (with_storage w r.storage, r.failed)) h.0 h.1 in
         let same = same_ok (with_storage w g.0.storage, g.0.failed) h.0 g.2 in
-        let t = taken_is (if failed then h.0.1 else not h.0.1) h.0.0 v h.2 in
-        (g.0, g.1, ap (λ (x : World × Bool). if failed then x.1 else not x.1) same ∙ t.0, ap (λ (x : World × Bool). x.0) same ∙ t.1)
+        let t = taken_is (if failed then h.0.1 else not h.0.1) h.0.0 v h.2 in (
+          g.0,
+          g.1,
+          ap (λ (x : World × Bool). if failed then x.1 else not x.1) same ∙ t.0,
+          ap (λ (x : World
+              × Bool). x.0) same ∙ t.1,
+        )
 
     done_passed : (phrase : Bool) (v : World) →
-        (compute p.layout phrase s targets remainder w >>= λ x. taken_if (if false then x.1 else not x.1) x.0) ≡ Ok (Some v) →
+        (compute p.layout phrase s targets remainder w >>= λ x. taken_if (if false then x.1 else not x.1) x.0) ≡ Ok
+        (Some v) →
         EdgeSo p.layout counts false (arith_parts p.layout s targets remainder) w (taken v)
     done_passed phrase v e =
         let h = computed_as false phrase v e in
         arith_passed false h.0 v
-        (arith_same p.layout counts w.storage s targets remainder phrase h.0 h.1 (not_is h.0.failed h.2)) (not_is h.0.failed h.2) h.3
+        (arith_same p.layout counts w.storage s targets remainder phrase h.0 h.1 (not_is h.0.failed h.2))
+        (not_is h.0.failed h.2) h.3
 
     size_passed : (phrase : Bool) (v : World) →
-        (compute p.layout phrase s targets remainder w >>= λ x. taken_if (if true then x.1 else not x.1) x.0) ≡ Ok (Some v) →
+        (compute p.layout phrase s targets remainder w >>= λ x. taken_if (if true then x.1 else not x.1) x.0) ≡ Ok
+        (Some v) →
         EdgeSo p.layout counts phrase (arith_parts p.layout s targets remainder) w (taken v)
     size_passed true v e = let h = computed_as true true v e in arith_passed true h.0 v h.1 h.2 h.3
     size_passed false v e =
@@ -210,14 +226,16 @@ module _ (p : Program) (statement : ℕ) (c : Choice) (w : World) (counts : List
 
     -- its fault
     arith_met : (failed phrase : Bool) (fault : Kind) →
-        (compute p.layout phrase s targets remainder w >>= λ x. taken_if (if failed then x.1 else not x.1) x.0) ≡ Err fault →
+        (compute p.layout phrase s targets remainder w >>= λ x. taken_if
+        (if failed then x.1 else not x.1) x.0) ≡ Err fault →
         Meets p.layout phrase (arith_parts p.layout s targets remainder) (beginning w.storage counts) fault
     arith_met failed phrase fault e =
         let h = behind_fault (compute p.layout phrase s targets remainder w)
         (λ x. taken_if (if failed then x.1 else not x.1) x.0) fault
         (λ x k. if_ok (if failed then x.1 else not x.1) x.0 fault k) e in
         let g = behind_fault (arithmetic phrase) (λ r. Ok (with_storage w r.storage, r.failed)) fault (λ r k. cc) h in
-        subst (λ (r : Result Receiving Kind). ArithSo p.layout phrase (beginning w.storage counts) (arith_parts p.layout s targets remainder) r)
+        subst (λ (r : Result Receiving Kind). ArithSo p.layout phrase (beginning w.storage counts)
+        (arith_parts p.layout s targets remainder) r)
         g (arith_does p.layout counts w.storage s targets remainder phrase (whole_number (pos 0)))
 
   -- the edges behind arithmetic statements, and the one behind the augmenting of VARYING
@@ -250,7 +268,8 @@ module _ (p : Program) (statement : ℕ) (c : Choice) (w : World) (counts : List
 
   pub computed_met : (failed : Bool) (a : Act) (fault : Kind) → computed p statement c w failed a ≡ Err fault →
       Meets p.layout (has_phrase a) (compute_parts p statement a) (beginning w.storage counts) fault
-  computed_met failed (arith s targets remainder size fine) fault e = arith_met s targets remainder failed (is_given size) fault e
+  computed_met failed (arith s targets remainder size fine) fault e = arith_met s targets remainder failed
+      (is_given size) fault e
   computed_met false (perform body (varying after place start by t)) fault e =
       subst (λ (r : Effect). Does (compute_parts p statement (perform body (varying after place start by t))) r) e
       (augment_edge p.layout counts w place by)

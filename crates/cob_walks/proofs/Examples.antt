@@ -61,11 +61,13 @@ alone a = MkSum (more_parts (MkPart false (more_factors (MkFactor false false a)
 
 abbrev over : Atom → Atom → Sum
 over a b =
-    MkSum (more_parts (MkPart false (more_factors (MkFactor false false a) (more_factors (MkFactor true false b) no_factors))) no_parts)
+    MkSum (more_parts (MkPart false (more_factors (MkFactor false false a) (more_factors
+    (MkFactor true false b) no_factors))) no_parts)
 
 -- ADD A TO A B: A is read as operand, and at its turn
 added : parts (arith (alone (item 1)) (record { item = 1; how = how.Plus; mode = Trunc } ∷ record { item = 2; how = how.Plus; mode = Round } ∷ []) None left_out no_stmts) action.Done
-    ≡ read 1 ∷ read 1 ∷ store 1 Trunc (computed (alone (item 1)) how.Plus) ∷ read 2 ∷ store 2 Round (computed (alone (item 1)) how.Plus) ∷ []
+    ≡ read 1 ∷ read 1 ∷ store 1 Trunc (computed (alone (item 1)) how.Plus) ∷ read 2 ∷ store 2 Round (computed (alone
+    (item 1)) how.Plus) ∷ []
 added = refl
 
 -- DIVIDE A INTO B: the sum is the divisor
@@ -74,13 +76,16 @@ divided : parts (arith (alone (item 1)) (record { item = 2; how = how.Under; mod
 divided = refl
 
 -- DIVIDE A BY 7 GIVING B ROUNDED REMAINDER A, with ON SIZE ERROR
-remained : parts (arith (over (item 1) (number (numeral (55 ∷ [])))) (record { item = 2; how = how.Whole; mode = Round } ∷ []) (Some 1) (given no_stmts) no_stmts) action.Size
-    ≡ read 1 ∷ divide (number (numeral (55 ∷ []))) ∷ store 2 Round (computed (over (item 1) (number (numeral (55 ∷ [])))) how.Whole)
+remained : parts (arith (over (item 1) (number (numeral (55 ∷ []))))
+    (record { item = 2; how = how.Whole; mode = Round } ∷ []) (Some 1) (given no_stmts) no_stmts) action.Size
+    ≡ read 1 ∷ divide (number (numeral (55 ∷ []))) ∷ store 2 Round (computed (over (item 1) (number (numeral
+    (55 ∷ [])))) how.Whole)
     ∷ store 1 Trunc (remaining (over (item 1) (number (numeral (55 ∷ [])))) 1) ∷ []
 remained = refl
 
 -- COMPUTE A = A / (A / B): what stands in a divisor comes first
-nested : parts (arith (over (item 1) (group (over (item 1) (item 2)))) (record { item = 1; how = how.Whole; mode = Trunc } ∷ []) None left_out no_stmts) action.Done
+nested : parts (arith (over (item 1) (group (over (item 1) (item 2))))
+    (record { item = 1; how = how.Whole; mode = Trunc } ∷ []) None left_out no_stmts) action.Done
     ≡ read 1 ∷ read 1 ∷ read 2 ∷ divide (item 2) ∷ divide (group (over (item 1) (item 2)))
     ∷ store 1 Trunc (computed (over (item 1) (group (over (item 1) (item 2)))) how.Whole) ∷ []
 nested = refl
@@ -101,7 +106,8 @@ to_group_moved : parts (act.move (sender.Item 1) (0 ∷ [])) action.Assign ≡ b
 to_group_moved = refl
 
 -- MOVE T TO A: T is read; MOVE '12' TO A: nothing is; MOVE '1X' TO A: that is no number
-text_read : parts (act.move (sender.Item 3) (1 ∷ [])) action.Assign ≡ read 3 ∷ store 1 Trunc (moved (sender.Item 3)) ∷ []
+text_read : parts (act.move (sender.Item 3) (1 ∷ [])) action.Assign ≡ read 3 ∷ store 1 Trunc (moved
+    (sender.Item 3)) ∷ []
 text_read = refl
 
 literal_stored : parts (act.move (sender.Text (49 ∷ 50 ∷ [])) (1 ∷ [])) action.Assign
@@ -113,15 +119,18 @@ no_number : parts (act.move (sender.Text (49 ∷ 88 ∷ [])) (1 ∷ [])) action.
 no_number = refl
 
 -- IF A / B > 0, on its way for false
-compared : parts (if_ (test (numbers (over (item 1) (item 2)) rel.Greater (alone (number (numeral (48 ∷ [])))))) no_stmts no_stmts) (action.False 0)
-    ≡ read 1 ∷ read 2 ∷ divide (item 2) ∷ guard (numbers (over (item 1) (item 2)) rel.Greater (alone (number (numeral (48 ∷ []))))) false ∷ []
+compared : parts (if_ (test (numbers (over (item 1) (item 2)) rel.Greater (alone (number (numeral
+    (48 ∷ [])))))) no_stmts no_stmts) (action.False 0)
+    ≡ read 1 ∷ read 2 ∷ divide (item 2) ∷ guard (numbers (over (item 1) (item 2)) rel.Greater (alone (number (numeral
+    (48 ∷ []))))) false ∷ []
 compared = refl
 
 abbrev pair : List ℕ → List ℕ → Pair
 pair a b = record { low = sender.Number (numeral a); high = sender.Number (numeral b) }
 
 -- a condition-name of A with two ranges: A is read once; A NUMERIC: it isn't read
-of_ranges : parts (if_ (test (member 1 (pair (49 ∷ []) (50 ∷ []) ∷ pair (55 ∷ []) (57 ∷ []) ∷ []))) no_stmts no_stmts) (action.True 0)
+of_ranges : parts (if_ (test (member 1 (pair (49 ∷ []) (50 ∷ []) ∷ pair (55 ∷ []) (57 ∷ []) ∷ []))) no_stmts no_stmts)
+    (action.True 0)
     ≡ read 1 ∷ guard (member 1 (pair (49 ∷ []) (50 ∷ []) ∷ pair (55 ∷ []) (57 ∷ []) ∷ [])) true ∷ []
 of_ranges = refl
 
@@ -139,11 +148,13 @@ down : parts (perform (range 0 0) (times (sender.Item 1))) action.Down ≡ read_
 down = refl
 
 -- PERFORM .. VARYING A FROM 1 BY B
-begun : parts (perform (range 0 0) (varying false 1 (sender.Number (numeral (49 ∷ []))) (sender.Item 2) (test (numeric 1)))) action.Assign
+begun : parts (perform (range 0 0) (varying false 1 (sender.Number (numeral (49 ∷ []))) (sender.Item 2) (test
+    (numeric 1)))) action.Assign
     ≡ store 1 Trunc (moved (sender.Number (numeral (49 ∷ [])))) ∷ []
 begun = refl
 
-augments : parts (perform (range 0 0) (varying false 1 (sender.Number (numeral (49 ∷ []))) (sender.Item 2) (test (numeric 1)))) action.Done
+augments : parts (perform (range 0 0) (varying false 1 (sender.Number (numeral (49 ∷ []))) (sender.Item 2) (test
+    (numeric 1)))) action.Done
     ≡ read 2 ∷ read 1 ∷ store 1 Trunc (augmented (sender.Item 2)) ∷ []
 augments = refl
 

@@ -35,7 +35,8 @@ module _ (l : Layout) (counts : List (Option ℤ)) (w : World) where
   abbrev pub ChangesSo : List Part → World → Type 0
   ChangesSo xs v = PassesAll l false xs (at w.storage) (at v.storage) × (v.counts ≡ w.counts)
 
-  pub if_taken : (b : Bool) (xs : List Part) (v : World) → (b ≡ true → ChangesSo xs v) → EdgeSo l counts false xs w (taken_if b v)
+  pub if_taken : (b : Bool) (xs : List Part) (v : World) → (b ≡ true → ChangesSo xs v) → EdgeSo l counts false xs w
+      (taken_if b v)
   if_taken true xs v h = let g = h refl in (at v.storage, g.0, refl, refl, g.1, refl)
   if_taken false xs v h = tt
 
@@ -162,7 +163,8 @@ module _ (l : Layout) (counts : List (Option ℤ)) (w : World) where
   area_idle false d s = refl
 
   wrote_on : (fine : Bool) (c : Choice) (place rec_ : ℕ) (d : Option FileDecl) (f : Option File) →
-      (if fine then is_fine (write_on l c place rec_ d f w).1 else not (is_fine (write_on l c place rec_ d f w).1)) ≡ true →
+      (if fine then is_fine (write_on l c place rec_ d f w).1 else not (is_fine
+      (write_on l c place rec_ d f w).1)) ≡ true →
       ChangesSo (file_parts l fine d) (write_on l c place rec_ d f w).0
   wrote_on fine c place rec_ None None e = (refl, refl)
   wrote_on fine c place rec_ None (Some f) e = (refl, refl)
@@ -175,7 +177,8 @@ module _ (l : Layout) (counts : List (Option ℤ)) (w : World) where
       let x = after_write (fitted d.length (bytes_at l w.storage rec_)) f in
       let v = (with_file l place d x w).0 in (
         passes_on l false (status_parts l d.status) (if fine then part.bytes_in d.offset d.length ∷ [] else [])
-            (at w.storage) (at v.storage) (at (undefined_if l (is_fine x.1) c d v).storage) (status_set d.status x.1 w.storage)
+            (at w.storage) (at v.storage) (at (undefined_if l (is_fine x.1) c d v).storage)
+            (status_set d.status x.1 w.storage)
             (area_if fine (is_fine x.1) c d v e),
         undefined_counts (is_fine x.1) c d v,
       )

@@ -32,7 +32,12 @@ use Rattle.cob_walks.proofs.Booleans.{or_true}
 
 pub length_fitted : (n : ℕ) (bytes : List ℕ) → length (fitted n bytes) ≡ n
 length_fitted n bytes =
-    length-take-le n (bytes ++ replicate n 32) (omega (arith, length-append bytes (replicate n 32), length-replicate {A = ℕ} n 32))
+    length-take-le n (bytes ++ replicate n 32) (omega (
+      arith,
+      length-append bytes
+          (replicate n 32),
+      length-replicate {A = ℕ} n 32,
+    ))
 
 same_eq : (a b : ℕ) → a ≡ b → (a == b) ≡ true
 same_eq a b e = grind (arith, nat_tests)
@@ -40,7 +45,8 @@ same_eq a b e = grind (arith, nat_tests)
 -- an area that gets bytes of its length
 pub changed : (storage : List ℕ) (offset count : ℕ) (bytes : List ℕ) → length bytes ≡ count →
     changed_in (Some bytes) offset count storage ≡ written storage offset bytes
-changed storage offset count bytes e = ap (λ b. if b then written storage offset bytes else storage) (same_eq (length bytes) count e)
+changed storage offset count bytes e = ap (λ b. if b then written storage offset bytes else storage) (same_eq
+    (length bytes) count e)
 
 mapped : {A B : Type 0} (f : A → B) (o : Option A) → is_some o ≡ true → (b : B) × (option_map f o ≡ Some b)
 mapped f (Some a) e = (f a, refl)
@@ -112,10 +118,12 @@ module _ (l : Layout) where
         item_text l s f bytes ≡ None
     item_missing form.Group bytes h e = absurd (false≢true h)
     item_missing (form.Text n) bytes h e = absurd (false≢true h)
-    item_missing (form.Number digits scale signed kept) bytes h e = ap (λ (o : Option Scaled). option_map (as_digits digits) o) e
+    item_missing (form.Number digits scale signed kept) bytes h e = ap (λ (o : Option Scaled). option_map
+        (as_digits digits) o) e
     item_missing (form.Edited picture digits scale) bytes h e = absurd (false≢true h)
 
-    pub text_missing : (n : ℕ) (x : Sender) → is_number_item l x ≡ true → number_of l s x ≡ None → text_of l s n x ≡ None
+    pub text_missing : (n : ℕ) (x : Sender) → is_number_item l x ≡ true → number_of l s x ≡ None →
+        text_of l s n x ≡ None
     text_missing n (sender.Item place) h e = item_missing (form_at l place) (bytes_at l s place) h e
     text_missing n (sender.Number x) h e = absurd (false≢true h)
     text_missing n (sender.Text text) h e = absurd (false≢true h)
@@ -153,7 +161,8 @@ module _ (l : Layout) where
     number_missing : (f : Form) (n : ℕ) (x : Sender) → gets_value l f x ≡ true → number_of l s x ≡ None →
         moved l s f n x ≡ Err kind.Class
     number_missing f n x g e =
-        gets_number f n x g ∙ ap (λ o. or_fault kind.Class o >>= λ v. or_fault kind.Truncation (stored Trunc f (value_of v))) e
+        gets_number f n x g ∙ ap (λ o. or_fault kind.Class o >>= λ v. or_fault kind.Truncation (stored Trunc f
+        (value_of v))) e
 
     gets_none : (f : Form) (n : ℕ) (x : Sender) → is_read_for l f x ≡ true → number_of l s x ≡ None →
         moved l s f n x ≡ Err kind.Class
@@ -176,7 +185,8 @@ module _ (l : Layout) where
 
     abbrev ReceivesSo : List Part → List ℕ → ℕ → Result (List ℕ) Kind → Type 0
     ReceivesSo xs now place (Ok bytes) =
-        PassesAll l false xs (fine_moment now counts first own false) (fine_moment (filled_at l now place bytes) counts first own false)
+        PassesAll l false xs (fine_moment now counts first own false) (fine_moment
+        (filled_at l now place bytes) counts first own false)
     ReceivesSo xs now place (Err fault) = Meets l false xs (fine_moment now counts first own false) fault
 
     moves_on : (xs ys : List Part) (now : List ℕ) (place : ℕ) (r : Result (List ℕ) Kind)
@@ -188,16 +198,19 @@ module _ (l : Layout) where
         behind_ok : (r : Result (List ℕ) Kind) → MovesSo ys (filled_at l now place bytes) r → MovesSo (xs ++ ys) now r
         behind_ok (Ok storage) k =
             passes_on l false xs ys (fine_moment now counts first own false)
-            (fine_moment (filled_at l now place bytes) counts first own false) (fine_moment storage counts first own false) h k
+            (fine_moment (filled_at l now place bytes) counts first own false)
+            (fine_moment storage counts first own false) h k
         behind_ok (Err fault) k =
             meets_behind l false xs ys (fine_moment now counts first own false)
             (fine_moment (filled_at l now place bytes) counts first own false) fault h k
-    moves_on xs ys now place (Err fault) f h g = meets_front l false xs ys (fine_moment now counts first own false) fault h
+    moves_on xs ys now place (Err fault) f h g = meets_front l false xs ys
+        (fine_moment now counts first own false) fault h
 
     item_changes : (o : Option Item) (now bytes : List ℕ) →
         PassesAll l false (option_map_or (λ i. part.bytes_in i.offset i.length ∷ []) o [])
         (fine_moment now counts first own false)
-        (fine_moment (option_map_or (λ i. written now i.offset (fitted (option_map_or (λ j. j.length) o 0) bytes)) o now) counts first own false)
+        (fine_moment (option_map_or (λ i. written now i.offset (fitted (option_map_or
+        (λ j. j.length) o 0) bytes)) o now) counts first own false)
     item_changes None now bytes = refl
     item_changes (Some i) now bytes = (
       fine_moment (written now i.offset (fitted i.length bytes)) counts first own false,
@@ -239,8 +252,10 @@ module _ (l : Layout) where
           let f : moved l first (form_at l place) (length_at l place) x
           ≡ or_fault kind.Truncation (stored Trunc (form_at l place) (value_of n.0)) =
           gets_number first (form_at l place) (length_at l place) x e
-          ∙ ap (λ (o : Option Scaled). or_fault kind.Class o >>= λ v. or_fault kind.Truncation (stored Trunc (form_at l place) (value_of v))) n.1 in
-          subst (λ (r : Result (List ℕ) Kind). ReceivesSo (part.store place Trunc (part.moved x) ∷ []) now place r) (sym f)
+          ∙ ap (λ (o : Option Scaled). or_fault kind.Class o >>= λ v. or_fault kind.Truncation (stored Trunc
+          (form_at l place) (value_of v))) n.1 in
+          subst (λ (r : Result (List ℕ) Kind). ReceivesSo (part.store place Trunc (part.moved x) ∷ []) now place r)
+          (sym f)
           (value_stored place now (stored Trunc (form_at l place) (value_of n.0)) (stored_is place now n.0 n.1))
       receiver_does place now false e h =
           let b = gets_bytes first (form_at l place) (length_at l place) x e h in
@@ -259,14 +274,16 @@ module _ (l : Layout) where
           (λ bytes. moved_to l first (filled_at l now place bytes) x places)
           (receiver_does place now (gets_value l (form_at l place) x) refl
           (λ e. h (ap (λ b. b || list_any needs places) e)))
-          (λ bytes. receivers_do places (filled_at l now place bytes) (λ e. h (ap (λ b. needs place || b) e ∙ or_true (needs place))))
+          (λ bytes. receivers_do places (filled_at l now place bytes) (λ e. h (ap (λ b. needs place || b) e ∙ or_true
+          (needs place))))
 
       none_read : (places now : List ℕ) → number_of l first x ≡ None → list_any needs places ≡ true →
           moved_to l first now x places ≡ Err kind.Class
       none_read [] now e h = absurd (false≢true h)
       none_read (place ∷ places) now e h = none_first (λ behind g. none_read places behind e g) (needs place) refl h
         where
-          none_first : ((behind : List ℕ) → list_any needs places ≡ true → moved_to l first behind x places ≡ Err kind.Class) →
+          none_first : ((behind : List ℕ) → list_any needs places ≡ true →
+              moved_to l first behind x places ≡ Err kind.Class) →
               (b : Bool) → needs place ≡ b → (b || list_any needs places) ≡ true →
               moved_to l first now x (place ∷ places) ≡ Err kind.Class
           none_first k true f g =
@@ -275,7 +292,8 @@ module _ (l : Layout) where
           none_first k false f g =
               let b = gets_bytes first (form_at l place) (length_at l place) x (reads_not (form_at l place) x f)
               (λ y. absurd (false≢true (sym f ∙ y))) in
-              ap (λ (r : Result (List ℕ) Kind). r >>= λ bytes. moved_to l first (filled_at l now place bytes) x places) b.1
+              ap (λ (r : Result (List ℕ) Kind). r >>= λ bytes. moved_to l first
+              (filled_at l now place bytes) x places) b.1
               ∙ k (filled_at l now place (fitted (length_at l place) b.0)) g
 
 -- ---- the whole
@@ -284,20 +302,24 @@ module _ (l : Layout) (counts : List (Option ℤ)) where
   -- storage behind parts that begin with it, whatever was read last
   abbrev pub LeavesSo : List Part → List ℕ → Scaled → Result (List ℕ) Kind → Type 0
   LeavesSo xs storage own (Ok now) =
-      (v : Scaled) × PassesAll l false xs (fine_moment storage counts storage own false) (fine_moment now counts storage v false)
+      (v : Scaled) × PassesAll l false xs (fine_moment storage counts storage own false)
+      (fine_moment now counts storage v false)
   LeavesSo xs storage own (Err fault) = Meets l false xs (fine_moment storage counts storage own false) fault
 
   module _ (x : Sender) (storage : List ℕ) (own : Scaled) where
     behind_read : (xs ys : List Part) (v : Scaled) (r : Result (List ℕ) Kind) →
-        PassesAll l false xs (fine_moment storage counts storage own false) (fine_moment storage counts storage v false) →
+        PassesAll l false xs (fine_moment storage counts storage own false)
+        (fine_moment storage counts storage v false) →
         MovesSo l counts storage v ys storage r → LeavesSo (xs ++ ys) storage own r
     behind_read xs ys v (Ok now) h g = (
       v,
-      passes_on l false xs ys (fine_moment storage counts storage own false) (fine_moment storage counts storage v false)
+      passes_on l false xs ys (fine_moment storage counts storage own false)
+          (fine_moment storage counts storage v false)
           (fine_moment now counts storage v false) h g,
     )
     behind_read xs ys v (Err fault) h g =
-        meets_behind l false xs ys (fine_moment storage counts storage own false) (fine_moment storage counts storage v false) fault h g
+        meets_behind l false xs ys (fine_moment storage counts storage own false)
+        (fine_moment storage counts storage v false) fault h g
 
     read_first : (places : List ℕ) → list_any (needs l counts storage own x) places ≡ true → (n : Option Scaled) →
         number_of l storage x ≡ n →
@@ -309,10 +331,12 @@ module _ (l : Layout) (counts : List (Option ℤ)) where
     read_first places e None f h =
         subst (λ (r : Result (List ℕ) Kind). LeavesSo (number_reads x ++ receivers_parts l x places) storage own r)
         (sym (none_read l counts storage own x places storage f e))
-        (meets_front l false (number_reads x) (receivers_parts l x places) (fine_moment storage counts storage own false) kind.Class h)
+        (meets_front l false (number_reads x) (receivers_parts l x places)
+        (fine_moment storage counts storage own false) kind.Class h)
 
     move_by : (places : List ℕ) (b : Bool) → list_any (needs l counts storage own x) places ≡ b →
-        LeavesSo ((if b then number_reads x else []) ++ receivers_parts l x places) storage own (after_move l storage x places)
+        LeavesSo ((if b then number_reads x else []) ++ receivers_parts l x places) storage own
+        (after_move l storage x places)
     move_by places true e =
         read_first places e (number_of l storage x) refl (sender_read l false storage counts storage false x own)
     move_by places false e =

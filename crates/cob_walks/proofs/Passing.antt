@@ -47,10 +47,12 @@ module _ (l : Layout) (handled : Bool) where
 
   module _ (storage : List ℕ) (counts : List (Option ℤ)) (first : List ℕ) (failed : Bool) where
     abbrev pub ReadsSo : List Part → Scaled → Bool → Type 0
-    ReadsSo xs own true = (v : Scaled) × PassesAll l handled xs (fine_moment storage counts first own failed) (fine_moment storage counts first v failed)
+    ReadsSo xs own true = (v : Scaled) × PassesAll l handled xs (fine_moment storage counts first own failed)
+        (fine_moment storage counts first v failed)
     ReadsSo xs own false = Meets l handled xs (fine_moment storage counts first own failed) kind.Class
 
-    pub reads_on : (xs ys : List Part) (own : Scaled) (a b : Bool) → ReadsSo xs own a → ((v : Scaled) → ReadsSo ys v b) →
+    pub reads_on : (xs ys : List Part) (own : Scaled) (a b : Bool) → ReadsSo xs own a → ((v : Scaled) →
+        ReadsSo ys v b) →
         ReadsSo (xs ++ ys) own (a && b)
     reads_on xs ys own true true h f = ((f h.0).0, passes_on xs ys _ _ _ h.1 (f h.0).1)
     reads_on xs ys own true false h f = meets_behind xs ys _ _ kind.Class h.1 (f h.0)
@@ -98,14 +100,17 @@ module _ (l : Layout) where
       DividesSo (divides atoms) m (list_all (divides_by (worth l m.first)) atoms)
   divisors_count [] m = refl
   divisors_count (a ∷ atoms) m =
-      divides_on a (divides atoms) m (divides_by (worth l m.first) a) (list_all (divides_by (worth l m.first)) atoms) refl
+      divides_on a (divides atoms) m (divides_by (worth l m.first) a) (list_all (divides_by
+      (worth l m.first)) atoms) refl
       (divisors_count atoms m)
 
-  zero_on : (m : Moment) (b : Bool) → divided_by_zero m ≡ (if b then divided_by_zero m else divided_by_zero (divided_by_zero m))
+  zero_on : (m : Moment) (b : Bool) → divided_by_zero m ≡ (if b then divided_by_zero m else divided_by_zero
+      (divided_by_zero m))
   zero_on m true = refl
   zero_on m false = refl
 
-  zero_stays : (atoms : List Atom) (m : Moment) → PassesAll l true (divides atoms) (divided_by_zero m) (divided_by_zero m)
+  zero_stays : (atoms : List Atom) (m : Moment) → PassesAll l true (divides atoms) (divided_by_zero m)
+      (divided_by_zero m)
   zero_stays [] m = refl
   zero_stays (a ∷ atoms) m = (divided_by_zero m, zero_on m (divides_by (worth l m.first) a), zero_stays atoms m)
 
@@ -118,7 +123,8 @@ module _ (l : Layout) where
 
   -- with ON SIZE ERROR each is passed
   pub divisors_handled : (atoms : List Atom) (m : Moment) →
-      PassesAll l true (divides atoms) m (if list_all (divides_by (worth l m.first)) atoms then m else divided_by_zero m)
+      PassesAll l true (divides atoms) m (if list_all (divides_by
+      (worth l m.first)) atoms then m else divided_by_zero m)
   divisors_handled [] m = refl
   divisors_handled (a ∷ atoms) m =
       divide_handled a atoms m (divides_by (worth l m.first) a) (list_all (divides_by (worth l m.first)) atoms) refl

@@ -41,7 +41,8 @@ module _ (l : Layout) (counts : List (Option ℤ)) (w : World) where
   moved_edge xs (Ok now) h = (fine_moment now counts w.storage h.0 false, h.1, refl, refl, refl, refl)
   moved_edge xs (Err fault) h = h
 
-  pub move_edge : (x : Sender) (places : List ℕ) → EdgeSo l counts false (move_parts l x places) w (met (move l x places w))
+  pub move_edge : (x : Sender) (places : List ℕ) → EdgeSo l counts false (move_parts l x places) w (met
+      (move l x places w))
   move_edge x places =
       moved_edge (move_parts l x places) (after_move l w.storage x places) (move_does l counts x w.storage start places)
 
@@ -49,7 +50,8 @@ module _ (l : Layout) (counts : List (Option ℤ)) (w : World) where
 
   tested_by : (t : Test) (wanted : Bool) (r : Result Bool Kind) → test_holds l w.storage t ≡ r →
       TestsSo l w.storage counts (test_reads l t) start r →
-      EdgeSo l counts false (test_reads l t ++ part.guard t wanted ∷ []) w (r >>= λ b. taken_if (if wanted then b else not b) w)
+      EdgeSo l counts false (test_reads l t ++ part.guard t wanted ∷ []) w (r >>= λ b. taken_if
+      (if wanted then b else not b) w)
   tested_by t true (Ok true) e h = (
     at h.0,
     passes_on l false (test_reads l t) (part.guard t true ∷ []) (at start) (at h.0) (at h.0) h.1
@@ -70,7 +72,8 @@ module _ (l : Layout) (counts : List (Option ℤ)) (w : World) where
     refl,
     refl,
   )
-  tested_by t wanted (Err fault) e h = meets_front l false (test_reads l t) (part.guard t wanted ∷ []) (at start) fault h
+  tested_by t wanted (Err fault) e h = meets_front l false (test_reads l t) (part.guard t wanted ∷ [])
+      (at start) fault h
 
   pub test_edge : (t : Test) (wanted : Bool) →
       EdgeSo l counts false (test_reads l t ++ part.guard t wanted ∷ []) w
@@ -83,7 +86,8 @@ module _ (l : Layout) (counts : List (Option ℤ)) (w : World) where
   sum_stored : (place : ℕ) (by : Sender) (v own : Scaled) → number_of l w.storage by ≡ Some v →
       stored_bytes l (at own) place Trunc (part.augmented by) ≡ stored Trunc (form_at l place) (value_of (plus own v))
   sum_stored place by v own e =
-      ap (λ (o : Option Scaled). value.◌>>=◌ (option_map (λ u. value_of (plus own u)) o) (λ u. stored Trunc (form_at l place) u)) e
+      ap (λ (o : Option Scaled). value.◌>>=◌ (option_map (λ u. value_of (plus own u)) o) (λ u. stored Trunc
+      (form_at l place) u)) e
 
   abbrev AugmentsSo : List Part → Scaled → Result World Kind → Type 0
   AugmentsSo xs own (Ok v) =
@@ -111,13 +115,19 @@ module _ (l : Layout) (counts : List (Option ℤ)) (w : World) where
       (g.0, passes_on l false (x ∷ []) xs (at own) (at v) g.0 h g.1, g.2, g.3, g.4, g.5)
   augments_behind x xs own v (Err fault) h g = meets_behind l false (x ∷ []) xs (at own) (at v) fault h g
 
-  read_augmented : (place : ℕ) (by : Sender) (v own : Scaled) → number_of l w.storage by ≡ Some v → (o : Option Scaled) →
+  read_augmented : (place : ℕ) (by : Sender) (v own : Scaled) → number_of l w.storage by ≡ Some v →
+      (o : Option Scaled) →
       number_at l w.storage place ≡ o →
       AugmentsSo (part.read place ∷ part.store place Trunc (part.augmented by) ∷ []) own
-      (or_fault kind.Class o >>= λ u. or_fault kind.Size (stored Trunc (form_at l place) (value_of (plus u v))) >>= λ bytes.
+      (or_fault kind.Class o >>= λ u. or_fault kind.Size (stored Trunc (form_at l place) (value_of
+      (plus u v))) >>= λ bytes.
       Ok (with_storage w (filled_at l w.storage place bytes)))
   read_augmented place by v own e (Some u) f =
-      augments_behind (part.read place) (part.store place Trunc (part.augmented by) ∷ []) own u _ (at u, (u, f, refl), refl)
+      augments_behind (part.read place) (part.store place Trunc (part.augmented by) ∷ []) own u _ (
+        at u,
+        (u, f, refl),
+        refl,
+      )
       (store_augmented place by u (stored Trunc (form_at l place) (value_of (plus u v))) (sum_stored place by v u e))
   read_augmented place by v own e None f = inl (refl, f, refl)
 
@@ -136,14 +146,24 @@ module _ (l : Layout) (counts : List (Option ℤ)) (w : World) where
       Ok (with_storage w (filled_at l w.storage place bytes)))
       (read_augmented place by v h.0 e (number_at l w.storage place) refl)
     where
-      behind : (r : Result World Kind) → AugmentsSo (own_parts place by) h.0 r → EdgeSo l counts false (augment_parts place by) w (met r)
-      behind (Ok u) g =
-          (g.0, passes_on l false (number_reads by) (own_parts place by) (at start) (at h.0) g.0 h.1 g.1, g.2, g.3, g.4, g.5)
+      behind : (r : Result World Kind) → AugmentsSo (own_parts place by) h.0 r → EdgeSo l counts false
+          (augment_parts place by) w (met r)
+      behind (Ok u) g = (
+        g.0,
+        passes_on l false (number_reads by) (own_parts place by) (at start)
+            (at h.0) g.0 h.1 g.1,
+        g.2,
+        g.3,
+        g.4,
+        g.5,
+      )
       behind (Err fault) g = meets_behind l false (number_reads by) (own_parts place by) (at start) (at h.0) fault h.1 g
   augment_by place by None e h =
-      meets_front l false (number_reads by) (part.read place ∷ part.store place Trunc (part.augmented by) ∷ []) (at start)
+      meets_front l false (number_reads by) (part.read place ∷ part.store place Trunc (part.augmented by) ∷ [])
+      (at start)
       kind.Class h
 
-  pub augment_edge : (place : ℕ) (by : Sender) → EdgeSo l counts false (augment_parts place by) w (met (augment l place by w))
+  pub augment_edge : (place : ℕ) (by : Sender) → EdgeSo l counts false (augment_parts place by) w (met
+      (augment l place by w))
   augment_edge place by =
       augment_by place by (number_of l w.storage by) refl (sender_read l false w.storage counts w.storage false by start)

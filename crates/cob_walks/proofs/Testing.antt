@@ -79,7 +79,8 @@ module _ (l : Layout) (storage : List ℕ) where
   text_there : (n : ℕ) (x : Sender) → ThereSo (readable x) (text_of l storage n x)
   text_there n x = text_by n x (is_number_item l x) refl (number_of l storage x) refl
 
-  texts_decided : (a : Sender) (r : Rel) (b : Sender) → DecidedSo (readable a && readable b) (compared_texts l storage a r b)
+  texts_decided : (a : Sender) (r : Rel) (b : Sender) → DecidedSo (readable a && readable b)
+      (compared_texts l storage a r b)
   texts_decided a r b =
       both_there (readable a) (readable b) (text_of l storage (side_length l storage b 1) a)
       (text_of l storage (side_length l storage a 1) b) _ (text_there _ a) (text_there _ b)
@@ -92,7 +93,8 @@ module _ (l : Layout) (storage : List ℕ) where
 
   number_readable : (x : Sender) → is_number_end l storage x ≡ true → is_some (number_of l storage x) ≡ readable x
   number_readable (sender.Item place) e =
-      ap (λ b. if b then is_some (number_of l storage (sender.Item place)) else true) (sym (form_same (form_at l place) ∙ e))
+      ap (λ b. if b then is_some (number_of l storage (sender.Item place)) else true) (sym (form_same
+      (form_at l place) ∙ e))
   number_readable (sender.Number n) e = refl
   number_readable (sender.Text text) e = absurd (false≢true e)
   number_readable (sender.Fill byte) e = absurd (false≢true e)
@@ -105,18 +107,22 @@ module _ (l : Layout) (storage : List ℕ) where
   values_decided : (a b : Bool) (x : Sender) (r : Rel) (y : Sender) → is_number_end l storage x ≡ a →
       is_number_end l storage y ≡ b → DecidedSo (readable x && readable y) (compared_values l storage (a && b) x r y)
   values_decided true true x r y e f =
-      both_there (readable x) (readable y) (number_of l storage x) (number_of l storage y) _ (number_there x e) (number_there y f)
+      both_there (readable x) (readable y) (number_of l storage x) (number_of l storage y) _ (number_there x e)
+      (number_there y f)
   values_decided true false x r y e f = texts_decided x r y
   values_decided false b x r y e f = texts_decided x r y
 
-  compared_decided : (x : Sender) (r : Rel) (y : Sender) → DecidedSo (readable x && readable y) (compared l storage x r y)
+  compared_decided : (x : Sender) (r : Rel) (y : Sender) → DecidedSo (readable x && readable y)
+      (compared l storage x r y)
   compared_decided x r y = values_decided (is_number_end l storage x) (is_number_end l storage y) x r y refl refl
 
   pair_decided : (x : Sender) (p : Pair) →
       DecidedSo ((readable x && readable p.low) && (readable x && readable p.high)) (in_pair l storage x p)
   pair_decided x p =
-      both_decided (readable x && readable p.low) (readable x && readable p.high) (compared l storage x rel.AtLeast p.low)
-      (compared l storage x rel.AtMost p.high) _ (compared_decided x rel.AtLeast p.low) (compared_decided x rel.AtMost p.high)
+      both_decided (readable x && readable p.low) (readable x && readable p.high)
+      (compared l storage x rel.AtLeast p.low)
+      (compared l storage x rel.AtMost p.high) _ (compared_decided x rel.AtLeast p.low)
+      (compared_decided x rel.AtMost p.high)
 
   abbrev ends_readable : List Pair → Bool
   ends_readable [] = true
@@ -126,7 +132,8 @@ module _ (l : Layout) (storage : List ℕ) where
   ends_split true low high ends e = and_assoc low high ends
   ends_split false low high ends e = absurd (false≢true e)
 
-  ends_decided : (x : Sender) (ps : List Pair) → readable x ≡ true → DecidedSo (ends_readable ps) (in_some l storage x ps)
+  ends_decided : (x : Sender) (ps : List Pair) → readable x ≡ true → DecidedSo (ends_readable ps)
+      (in_some l storage x ps)
   ends_decided x [] e = (false, refl)
   ends_decided x (p ∷ ps) e =
       subst (λ b. DecidedSo b (in_some l storage x (p ∷ ps)))
@@ -139,7 +146,8 @@ module _ (l : Layout) (storage : List ℕ) where
   some_decided x p ps true e = ends_decided x (p ∷ ps) e
   some_decided x p ps false e =
       ap (λ (r : Result Bool Kind). r >>= λ here. in_some l storage x ps >>= λ others. Ok (here || others))
-      (subst (λ b. DecidedSo ((b && readable p.low) && (b && readable p.high)) (in_pair l storage x p)) e (pair_decided x p))
+      (subst (λ b. DecidedSo ((b && readable p.low) && (b && readable p.high)) (in_pair l storage x p)) e
+      (pair_decided x p))
 
 -- ---- tests
 
@@ -147,7 +155,8 @@ module _ (l : Layout) (storage : List ℕ) (counts : List (Option ℤ)) where
   -- a test is decided behind its parts, or one of them meets its fault
   abbrev pub TestsSo : List Part → Scaled → Result Bool Kind → Type 0
   TestsSo xs own (Ok b) =
-      (v : Scaled) × PassesAll l false xs (fine_moment storage counts storage own false) (fine_moment storage counts storage v false)
+      (v : Scaled) × PassesAll l false xs (fine_moment storage counts storage own false)
+      (fine_moment storage counts storage v false)
   TestsSo xs own (Err fault) = Meets l false xs (fine_moment storage counts storage own false) fault
 
   by_text : (x : Sender) (own : Scaled) (b : Bool) →
@@ -156,7 +165,8 @@ module _ (l : Layout) (storage : List ℕ) (counts : List (Option ℤ)) where
   by_text x own true = sender_read l false storage counts storage false x own
   by_text x own false = (own, refl)
 
-  text_read : (x : Sender) (own : Scaled) → ReadsSo l false storage counts storage false (text_reads l x) own (readable l storage x)
+  text_read : (x : Sender) (own : Scaled) → ReadsSo l false storage counts storage false (text_reads l x) own
+      (readable l storage x)
   text_read x own = by_text x own (is_number_item l x)
 
   ends_read : (ps : List Pair) (own : Scaled) →
@@ -165,7 +175,8 @@ module _ (l : Layout) (storage : List ℕ) (counts : List (Option ℤ)) where
   ends_read (p ∷ ps) own =
       reads_on l false storage counts storage false (text_reads l p.low) (text_reads l p.high ++ end_reads l ps) own
       (readable l storage p.low) (readable l storage p.high && ends_readable l storage ps) (text_read p.low own)
-      (λ v. reads_on l false storage counts storage false (text_reads l p.high) (end_reads l ps) v (readable l storage p.high)
+      (λ v. reads_on l false storage counts storage false (text_reads l p.high) (end_reads l ps) v
+      (readable l storage p.high)
       (ends_readable l storage ps) (text_read p.high v) (λ u. ends_read ps u))
 
   by_reads : (xs : List Part) (own : Scaled) (b : Bool) (r : Result Bool Kind) →
@@ -182,10 +193,12 @@ module _ (l : Layout) (storage : List ℕ) (counts : List (Option ℤ)) where
         (fine_moment storage counts storage g.0 false) h g.1,
   )
   tests_behind xs ys own v (Err fault) h g =
-      meets_behind l false xs ys (fine_moment storage counts storage own false) (fine_moment storage counts storage v false) fault h g
+      meets_behind l false xs ys (fine_moment storage counts storage own false)
+      (fine_moment storage counts storage v false) fault h g
 
   by_values : (xs : List Part) (own : Scaled) (r : Rel) (o p : Option Scaled) →
-      DividesSo l xs (fine_moment storage counts storage own false) (is_some o && is_some p) → TestsSo xs own (decided l storage r o p)
+      DividesSo l xs (fine_moment storage counts storage own false) (is_some o && is_some p) → TestsSo xs own
+      (decided l storage r o p)
   by_values xs own r (Some a) (Some b) h = (own, h)
   by_values xs own r (Some a) None h = h
   by_values xs own r None p h = h
@@ -201,26 +214,33 @@ module _ (l : Layout) (storage : List ℕ) (counts : List (Option ℤ)) where
       TestsSo (divides (divisors_in a ++ divisors_in b)) own
       (decided l storage r (sum_value (worth l storage) a) (sum_value (worth l storage) b))
   values_tested a r b own =
-      by_values (divides (divisors_in a ++ divisors_in b)) own r (sum_value (worth l storage) a) (sum_value (worth l storage) b)
-      (subst (λ c. DividesSo l (divides (divisors_in a ++ divisors_in b)) (fine_moment storage counts storage own false) c)
-      (divisors_counted a b) (divisors_count l (divisors_in a ++ divisors_in b) (fine_moment storage counts storage own false)))
+      by_values (divides (divisors_in a ++ divisors_in b)) own r (sum_value (worth l storage) a) (sum_value
+      (worth l storage) b)
+      (subst (λ c. DividesSo l (divides (divisors_in a ++ divisors_in b))
+      (fine_moment storage counts storage own false) c)
+      (divisors_counted a b) (divisors_count l (divisors_in a ++ divisors_in b)
+      (fine_moment storage counts storage own false)))
 
   by_numbers : (a : Sum) (r : Rel) (b : Sum) (own : Scaled) (c d : Bool) →
       ReadsSo l false storage counts storage false (item_reads (items_in a)) own c →
       ((v : Scaled) → ReadsSo l false storage counts storage false (item_reads (items_in b)) v d) →
       TestsSo (compare_parts a b) own
-      (if c && d then decided l storage r (sum_value (worth l storage) a) (sum_value (worth l storage) b) else Err kind.Class)
+      (if c && d then decided l storage r (sum_value (worth l storage) a) (sum_value
+      (worth l storage) b) else Err kind.Class)
   by_numbers a r b own true true h g =
-      tests_behind (item_reads (items_in a)) (item_reads (items_in b) ++ divides (divisors_in a ++ divisors_in b)) own h.0 _ h.1
+      tests_behind (item_reads (items_in a)) (item_reads (items_in b) ++ divides
+      (divisors_in a ++ divisors_in b)) own h.0 _ h.1
       (tests_behind (item_reads (items_in b)) (divides (divisors_in a ++ divisors_in b)) h.0 (g h.0).0 _ (g h.0).1
       (values_tested a r b (g h.0).0))
   by_numbers a r b own true false h g =
-      tests_behind (item_reads (items_in a)) (item_reads (items_in b) ++ divides (divisors_in a ++ divisors_in b)) own h.0
+      tests_behind (item_reads (items_in a)) (item_reads (items_in b) ++ divides
+      (divisors_in a ++ divisors_in b)) own h.0
       (Err kind.Class) h.1
       (meets_front l false (item_reads (items_in b)) (divides (divisors_in a ++ divisors_in b))
       (fine_moment storage counts storage h.0 false) kind.Class (g h.0))
   by_numbers a r b own false d h g =
-      meets_front l false (item_reads (items_in a)) (item_reads (items_in b) ++ divides (divisors_in a ++ divisors_in b))
+      meets_front l false (item_reads (items_in a)) (item_reads (items_in b) ++ divides
+      (divisors_in a ++ divisors_in b))
       (fine_moment storage counts storage own false) kind.Class h
 
   pub test_does : (t : Test) (own : Scaled) → TestsSo (test_reads l t) own (test_holds l storage t)
@@ -229,13 +249,15 @@ module _ (l : Layout) (storage : List ℕ) (counts : List (Option ℤ)) where
       (items_read l false storage counts storage false (items_in a) own)
       (λ v. items_read l false storage counts storage false (items_in b) v)
   test_does (texts a r b) own =
-      by_reads (text_reads l a ++ text_reads l b) own (readable l storage a && readable l storage b) (compared_texts l storage a r b)
+      by_reads (text_reads l a ++ text_reads l b) own (readable l storage a && readable l storage b)
+      (compared_texts l storage a r b)
       (reads_on l false storage counts storage false (text_reads l a) (text_reads l b) own (readable l storage a)
       (readable l storage b) (text_read a own) (λ v. text_read b v))
       (texts_decided l storage a r b)
   test_does (member place []) own = (own, refl)
   test_does (member place (p ∷ ps)) own =
-      by_reads (member_reads l place (p ∷ ps)) own (readable l storage (sender.Item place) && ends_readable l storage (p ∷ ps))
+      by_reads (member_reads l place (p ∷ ps)) own (readable l storage (sender.Item place) && ends_readable l storage
+      (p ∷ ps))
       (in_some l storage (sender.Item place) (p ∷ ps))
       (reads_on l false storage counts storage false (text_reads l (sender.Item place)) (end_reads l (p ∷ ps)) own
       (readable l storage (sender.Item place)) (ends_readable l storage (p ∷ ps)) (text_read (sender.Item place) own)

@@ -49,7 +49,8 @@ StandFor _ _ = ⊥
 abbrev pub HasCount : ℕ → Act → Action → World → Type 0
 HasCount statement a x w = reads_count a x ≡ true → statement - 1 < length w.counts
 
-pub record LeadsBeside (p : Program) (statement : ℕ) (a : Act) (x : Action) (counts : List (Option ℤ)) (w v : World) : Type 0 where
+pub record LeadsBeside (p : Program) (statement : ℕ) (a : Act) (x : Action) (counts : List (Option ℤ))
+    (w v : World) : Type 0 where
   pub later : List (Option ℤ)
   pub leads : Leads p statement a x w.storage counts v.storage later
   pub stand : StandFor v.counts later
@@ -73,4 +74,5 @@ fault_edge a x = x
 abbrev pub FaultsAreMet : Type 0
 FaultsAreMet = (p : Program) (statement : ℕ) (c : Choice) (a : Act) (x : Action) (w : World) (counts : List (Option ℤ))
     (fault : Kind) → act_at p statement ≡ Some a → effect p statement c w x ≡ Err fault →
-    Meets p.layout (is_handled a (fault_edge a x)) (parts_of p statement a (fault_edge a x)) (beginning w.storage counts) fault
+    Meets p.layout (is_handled a (fault_edge a x)) (parts_of p statement a (fault_edge a x))
+    (beginning w.storage counts) fault

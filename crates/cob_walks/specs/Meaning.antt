@@ -126,9 +126,11 @@ module _ (l : Layout) where
   Divides false a m n = (divides_by (worth l m.first) a ≡ true) × (n ≡ m)
 
   abbrev pub Stores : Bool → ℕ → Mode → Amount → Moment → Moment → Type 0
-  Stores true place mode a m n = n ≡ (if is_left_alone m a then m else stored_or_kept m place (stored_bytes m place mode a))
+  Stores true place mode a m n = n ≡ (if is_left_alone m a then m else stored_or_kept m place
+      (stored_bytes m place mode a))
   Stores false place mode a m n =
-      (held : List ℕ) × (stored_bytes m place mode a ≡ Some held) × (n ≡ with_storage m (filled_at l m.storage place held))
+      (held : List ℕ) × (stored_bytes m place mode a ≡ Some held) × (n ≡ with_storage m
+      (filled_at l m.storage place held))
 
   -- A part is passed from one moment to the next. An edge to the list of ON SIZE ERROR is told by the first argument:
   -- there a divisor may be 0, and a receiver may keep its value.
@@ -170,4 +172,5 @@ module _ (l : Layout) where
     -- a part meets the fault, or is passed and one behind it does
     abbrev pub Meets : List Part → Moment → Kind → Type 0
     Meets [] m fault = ⊥
-    Meets (x ∷ xs) m fault = Faults handled x m fault ⊎ ((next : Moment) × Passes handled x m next × Meets xs next fault)
+    Meets (x ∷ xs) m fault = Faults handled x m fault ⊎ ((next : Moment) × Passes handled x m next
+        × Meets xs next fault)
