@@ -79,7 +79,7 @@ abbrev mutual
   pub divisors_in_factors : Factors → List Atom
   divisors_in_factors no_factors = []
   divisors_in_factors (more_factors (MkFactor over minus a) fs) =
-      divisors_in_atom a ++ (if over then [] else a ∷ []) ++ divisors_in_factors fs
+      divisors_in_atom a ++ (if over then a ∷ [] else []) ++ divisors_in_factors fs
 
   pub divisors_in_atom : Atom → List Atom
   divisors_in_atom (item place) = []
