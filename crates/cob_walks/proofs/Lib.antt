@@ -1,4 +1,5 @@
 mod Examples
+pub mod Frames
 mod Passing
 mod Booleans
 mod Divisors

@@ -4,4 +4,4 @@
 
 mod laws;
 
-pub use laws::parts_do_what_edges_do;
+pub use laws::{parts_change_their_bytes_alone, parts_do_what_edges_do};
