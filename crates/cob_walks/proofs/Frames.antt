@@ -1,5 +1,5 @@
 -- Bytes that are written leave all areas apart from them.
-use Rattle.std.proofs.Common.{◌≡◌, ◌≤◌, ℕ, ◌+◌, ◌-◌, Bool, true, false, List, [], ◌∷◌, ◌++◌, length, take, drop, ◌⊎◌, inl, inr, Option, Some, None, refl, sym, ap, subst, ◌∙◌, append_assoc, arith, length-append, length-drop}
+use Rattle.std.proofs.Common.{◌≡◌, ◌≤◌, ℕ, ◌+◌, Bool, true, false, List, ◌++◌, length, take, drop, inl, inr, Option, Some, None, refl, sym, ap, subst, ◌∙◌, append_assoc, arith, length-append, length-drop}
 use Rattle.std.specs.Prelude.{if◌then◌else◌, ◌==◌}
 use Rattle.std.specs.Option.{option_map_or}
 use Rattle.std.proofs.lemmas.Bool.Decides.{nat_tests}
@@ -7,10 +7,8 @@ use Rattle.std.proofs.lemmas.List.{length-take-le, take-append-le, drop-append-l
 use Rattle.std.proofs.lemmas.Slice.{drop-append-drop}
 use Rattle.std.proofs.Math.Seq.{drop-append_seam}
 use Rattle.cob_data.specs.declared.layout.Item.{Item}
-use Rattle.cob_data.specs.declared.layout.Layout.{Layout}
-use Rattle.cob_runs.specs.Contents.{area, written, item_at, filled_at}
-use Rattle.cob_walks.specs.Meaning.{changed_in}
-use Rattle.cob_walks.specs.Ranges.{AreApart, ChangesWithin, RangesChangeAlone, GetsItsBytes, ItemsChangeAlone}
+use Rattle.cob_runs.specs.Contents.{area, written, filled_at}
+use Rattle.cob_walks.specs.Ranges.{AreApart, ChangesWithin, RangesChangeAlone, ItemsChangeAlone}
 
 front_area : (xs ys : List ℕ) (from many : ℕ) → from + many ≤ length xs → area (xs ++ ys) from many ≡ area xs from many
 front_area xs ys from many h =
@@ -85,7 +83,7 @@ ranges_change_alone (Some bytes) offset count storage h =
 pub items_change_alone : ItemsChangeAlone
 items_change_alone l storage place i bytes at same within =
     let fill : filled_at l storage place bytes ≡ written storage i.offset bytes =
-        ap (λ (o : Option Item). option_map_or (λ j. written storage j.offset bytes) o storage) at in
+    ap (λ (o : Option Item). option_map_or (λ j. written storage j.offset bytes) o storage) at in
     let inside : i.offset + length bytes ≤ length storage = omega (arith, same) in
     record {
       changes = subst (λ (s : List ℕ). ChangesWithin i.offset i.length storage s) (sym fill)

@@ -1,5 +1,6 @@
 mod Examples
 pub mod Frames
+pub mod Chains
 mod Passing
 mod Booleans
 mod Divisors
