@@ -21,8 +21,10 @@ module _ (l : Layout) (handled : Bool) where
   meets_split (x ∷ xs) ys m fault (inl h) = inl (inl h)
   meets_split (x ∷ xs) ys m fault (inr h) = behind (meets_split xs ys h.0 fault h.2)
     where
-      behind : Meets l handled xs h.0 fault ⊎ ((k : Moment) × PassesAll l handled xs h.0 k × Meets l handled ys k fault) →
-          Meets l handled (x ∷ xs) m fault ⊎ ((k : Moment) × PassesAll l handled (x ∷ xs) m k × Meets l handled ys k fault)
+      behind : Meets l handled xs h.0 fault ⊎ ((k : Moment) × PassesAll l handled xs h.0 k
+          × Meets l handled ys k fault) →
+          Meets l handled (x ∷ xs) m fault ⊎ ((k : Moment) × PassesAll l handled (x ∷ xs) m k
+          × Meets l handled ys k fault)
       behind (inl g) = inl (inr (h.0, h.1, g))
       behind (inr g) = inr (g.0, (h.0, h.1, g.1), g.2)
 

@@ -1,6 +1,7 @@
 -- The parts of some statements' edges, worked out.
 use Rattle.std.specs.Prelude.{◌≡◌, ℕ, true, false, List, [], ◌∷◌, Some, None}
 use Rattle.std.proofs.Common.{refl}
+use Rattle.dec_num.specs.declared.types.Mode.{Mode}
 use Rattle.dec_num.specs.declared.types.Mode.TheVariants.{Trunc, Round}
 use Rattle.cob_tree.specs.declared.form.Form.{Form}
 use Rattle.cob_tree.specs.declared.form.Form.TheVariants as form
@@ -11,6 +12,8 @@ use Rattle.cob_data.specs.declared.layout.FileDecl.{FileDecl}
 use Rattle.cob_data.specs.declared.layout.Item.{Item}
 use Rattle.cob_data.specs.declared.layout.Pair.{Pair}
 use Rattle.cob_data.specs.declared.layout.Sender.TheVariants as sender
+use Rattle.cob_program.specs.declared.act.Target.{Target}
+use Rattle.cob_program.specs.declared.act.How.{How}
 use Rattle.cob_program.specs.declared.act.How.TheVariants as how
 use Rattle.cob_program.specs.Sum.{Sum, MkSum, no_parts, more_parts, MkPart, Atom, no_factors, more_factors, MkFactor, item, number, group}
 use Rattle.cob_program.specs.Logic.{numbers, member, numeric, test}
@@ -64,20 +67,24 @@ over a b =
     MkSum (more_parts (MkPart false (more_factors (MkFactor false false a) (more_factors
     (MkFactor true false b) no_factors))) no_parts)
 
+abbrev target : ℕ → How → Mode → Target
+target place h mode = record { item = place; how = h; mode = mode }
+
 -- ADD A TO A B: A is read as operand, and at its turn
-added : parts (arith (alone (item 1)) (record { item = 1; how = how.Plus; mode = Trunc } ∷ record { item = 2; how = how.Plus; mode = Round } ∷ []) None left_out no_stmts) action.Done
-    ≡ read 1 ∷ read 1 ∷ store 1 Trunc (computed (alone (item 1)) how.Plus) ∷ read 2 ∷ store 2 Round (computed (alone
-    (item 1)) how.Plus) ∷ []
+added : parts (arith (alone (item 1)) (target 1 how.Plus Trunc ∷ target 2 how.Plus Round ∷ []) None left_out no_stmts)
+    action.Done
+    ≡ read 1 ∷ read 1 ∷ store 1 Trunc (computed (alone (item 1)) how.Plus) ∷ read 2
+    ∷ store 2 Round (computed (alone (item 1)) how.Plus) ∷ []
 added = refl
 
 -- DIVIDE A INTO B: the sum is the divisor
-divided : parts (arith (alone (item 1)) (record { item = 2; how = how.Under; mode = Trunc } ∷ []) None left_out no_stmts) action.Done
+divided : parts (arith (alone (item 1)) (target 2 how.Under Trunc ∷ []) None left_out no_stmts) action.Done
     ≡ read 1 ∷ divide (group (alone (item 1))) ∷ read 2 ∷ store 2 Trunc (computed (alone (item 1)) how.Under) ∷ []
 divided = refl
 
 -- DIVIDE A BY 7 GIVING B ROUNDED REMAINDER A, with ON SIZE ERROR
 remained : parts (arith (over (item 1) (number (numeral (55 ∷ []))))
-    (record { item = 2; how = how.Whole; mode = Round } ∷ []) (Some 1) (given no_stmts) no_stmts) action.Size
+    (target 2 how.Whole Round ∷ []) (Some 1) (given no_stmts) no_stmts) action.Size
     ≡ read 1 ∷ divide (number (numeral (55 ∷ []))) ∷ store 2 Round (computed (over (item 1) (number (numeral
     (55 ∷ [])))) how.Whole)
     ∷ store 1 Trunc (remaining (over (item 1) (number (numeral (55 ∷ [])))) 1) ∷ []
@@ -85,7 +92,7 @@ remained = refl
 
 -- COMPUTE A = A / (A / B): what stands in a divisor comes first
 nested : parts (arith (over (item 1) (group (over (item 1) (item 2))))
-    (record { item = 1; how = how.Whole; mode = Trunc } ∷ []) None left_out no_stmts) action.Done
+    (target 1 how.Whole Trunc ∷ []) None left_out no_stmts) action.Done
     ≡ read 1 ∷ read 1 ∷ read 2 ∷ divide (item 2) ∷ divide (group (over (item 1) (item 2)))
     ∷ store 1 Trunc (computed (over (item 1) (group (over (item 1) (item 2)))) how.Whole) ∷ []
 nested = refl

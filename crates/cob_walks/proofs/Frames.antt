@@ -30,14 +30,18 @@ module _ (storage : List ℕ) (offset : ℕ) (bytes : List ℕ) (within : offset
 
   before_it : (from many : ℕ) → from + many ≤ offset → area (written storage offset bytes) from many ≡ area storage from many
   before_it from many h =
-      ap (λ (s : List ℕ). area s from many) (append_assoc (take offset storage) bytes (drop (offset + length bytes) storage))
-      ∙ (front_area (take offset storage) (bytes ++ drop (offset + length bytes) storage) from many (omega (arith, front_length))
+      ap (λ (s : List ℕ). area s from many) (append_assoc (take offset storage) bytes (drop
+      (offset + length bytes) storage))
+      ∙ (front_area (take offset storage) (bytes ++ drop (offset + length bytes) storage) from many (omega
+      (arith, front_length))
       ∙ (sym (front_area (take offset storage) (drop offset storage) from many (omega (arith, front_length)))
       ∙ ap (λ (s : List ℕ). area s from many) (take-append-drop offset storage)))
 
-  behind_it : (from many : ℕ) → offset + length bytes ≤ from → area (written storage offset bytes) from many ≡ area storage from many
+  behind_it : (from many : ℕ) → offset + length bytes ≤ from → area
+      (written storage offset bytes) from many ≡ area storage from many
   behind_it from many h =
-      ap (take many) (drop-append-drop (offset + length bytes) storage (take offset storage ++ bytes) from h until_length)
+      ap (take many) (drop-append-drop (offset + length bytes) storage
+      (take offset storage ++ bytes) from h until_length)
 
   pub apart_from_it : (from many : ℕ) → AreApart offset (length bytes) from many →
       area (written storage offset bytes) from many ≡ area storage from many
@@ -56,7 +60,8 @@ module _ (storage : List ℕ) (offset : ℕ) (bytes : List ℕ) (within : offset
 
   pub written_held : area (written storage offset bytes) offset (length bytes) ≡ bytes
   written_held =
-      ap (λ (s : List ℕ). area s offset (length bytes)) (append_assoc (take offset storage) bytes (drop (offset + length bytes) storage))
+      ap (λ (s : List ℕ). area s offset (length bytes)) (append_assoc (take offset storage) bytes (drop
+      (offset + length bytes) storage))
       ∙ (ap (take (length bytes)) behind_front
       ∙ take_at bytes (drop (offset + length bytes) storage) (length bytes) refl)
 

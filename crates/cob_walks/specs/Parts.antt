@@ -1,5 +1,5 @@
--- The parts of what each edge of the graph does: sending operands are read first, then divisors count, then each receiver
--- in turn is read and stored (ISO 1989:1985, "Procedure division").
+-- The parts of what each edge of the graph does: sending operands are read first, then divisors count, then each
+-- receiver in turn is read and stored (ISO 1989:1985, "Procedure division").
 use Rattle.std.specs.Prelude.{ℕ, ◌&&◌, if◌then◌else◌, Bool, true, false, List, [], ◌∷◌, ◌++◌, map, length, not, slice_get, Option, Some, None, is_some}
 use Rattle.std.specs.List.{list_any}
 use Rattle.std.specs.Option.{option_map, option_map_or}
@@ -177,7 +177,8 @@ module _ (l : Layout) where
   -- the sender is read once
   abbrev pub move_parts : Sender → List ℕ → List Part
   move_parts x places =
-      (if list_any (λ place. is_read_for (form_at l place) x) places then number_reads x else []) ++ receivers_parts x places
+      (if list_any (λ place. is_read_for (form_at l place) x) places then number_reads x else [])
+      ++ receivers_parts x places
 
   -- ---- conditions
 
