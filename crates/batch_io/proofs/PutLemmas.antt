@@ -1,5 +1,5 @@
 -- How bytes are put to the end of a file, piece after piece.
-use Rattle.std.proofs.Common.{◌≡◌, ◌≢◌, ℕ, ◌+◌, ◌-◌, ◌<◌, ◌≤◌, cond, List, [], ◌∷◌, ◌++◌, None, Some, Option, IsSome, refl, sym, ap, ◌∙◌, append_assoc, append-nil, length, take, drop, length-take, length-drop, subst, arith}
+use Rattle.std.proofs.Common.{◌≡◌, ◌≢◌, ℕ, ◌+◌, ◌-◌, ◌<◌, ◌≤◌, cond, List, [], ◌∷◌, ◌++◌, None, Some, Option, IsSome, Result, Ok, refl, sym, ap, ◌∙◌, append_assoc, append-nil, length, take, drop, length-take, length-drop, subst, arith}
 use Rattle.std.specs.Prelude.{unwrap_or, option_map}
 use Rattle.std.specs.Cmp.Lexicographic.{slice_cmp}
 use Rattle.std.specs.Ordering.{nat_cmp, eq_by_cmp}
@@ -8,10 +8,12 @@ use Rattle.std.proofs.lemmas.Cmp.{nat_list_cmp_total}
 use Rattle.std.proofs.lemmas.Bool.{false_from_ne_true}
 use Rattle.std.proofs.lemmas.List.{take_rest}
 use Rattle.std.proofs.Math.Seq.{take-add}
-use Rattle.batch_io.specs.FilesState.{Contents, FilesState, Told, KeepsIds, bytes_at, known_bytes, known_handle}
-use Rattle.batch_io.specs.FilesCalls.{with_piece}
+use Rattle.batch_io.specs.declared.ends.MakeEnd.{MakeEnd}
+use Rattle.batch_io.specs.FilesState.{Contents, FilesState, Told, Writing, bytes_at, known_handle}
+use Rattle.batch_io.specs.FilesCalls.{Writes, with_piece}
 use Rattle.batch_io.specs.Wholes.{Grows, with_bytes}
 use Rattle.batch_io.proofs.EntriesLemmas.{is_same, same_contents, same_name, shadowed}
+use Rattle.batch_io.proofs.WholeLemmas.{piece_fits}
 
 module _ (m : Contents) (name : List ℕ) where
   -- of two insertions at one name the later counts
@@ -78,28 +80,34 @@ known-more (Some old) None id front piece some bytes handle = absurd (cc bytes)
 known-more (Some old) (Some mid) id front piece some bytes handle =
     ap (λ m. Some m) (with_bytes-more old id mid front piece some (cc bytes) (cc handle))
 
--- something is left to put
-pub piece_there : (bytes : List ℕ) (done : ℕ) → done < length bytes → 0 < length (take (length bytes - done) (drop done bytes))
-piece_there bytes done left = simp (length-take, length-drop) (omega arith)
+-- the first `done` of the bytes stand at the end of the id's file, and no call failed
+pub record PutSoFar (old new : FilesState) (id : ℕ) (bytes : List ℕ) (done : ℕ) : Type 0 where
+  pub within : done ≤ length bytes
+  pub grown : Grows old new id (take done bytes)
+  pub reading : new.reading ≡ old.reading
+  pub writing : new.writing ≡ old.writing
+  pub purpose : (other : ℕ) → new.purpose other ≡ old.purpose other
+  pub handle : (other : ℕ) → IsSome (old.purpose other) → known_handle new other ≡ known_handle old other
 
--- a write of what is left put more of the bytes
-pub put_more : (a b c : FilesState) (id : ℕ) (bytes : List ℕ) (done count : ℕ)
-    → Grows a b id (take done bytes) → known_handle b id ≡ known_handle a id
-    → 0 < count → done + count ≤ length bytes
-    → known_bytes c ≡ option_map (with_piece id (take count (take (length bytes - done) (drop done bytes)))) b.told
-    → Grows a c id (take (done + count) bytes)
-put_more a b c id bytes done count before handle some within call =
-    let size : length (take count (drop done bytes)) ≡ count = simp (length-take, length-drop) (omega arith) in
-    call
-    ∙ ap (λ rest. option_map (with_piece id (take count rest)) b.told) (take_rest bytes done)
-    ∙ known-more a.told b.told id (take done bytes) (take count (drop done bytes)) (omega (arith, size)) before handle
-    ∙ ap (λ put. option_map (with_bytes id put) a.told) (sym (take-add done count bytes))
-
-pub KeepsIds-nothing : (s : FilesState) → KeepsIds s s
-KeepsIds-nothing s = record { purpose = λ _. refl; handle = λ _ _. refl }
-
-pub KeepsIds-more : (a b c : FilesState) → KeepsIds a b → KeepsIds b c → KeepsIds a c
-KeepsIds-more a b c first second = record {
-  purpose = λ id. second.purpose id ∙ first.purpose id;
-  handle = λ id is_open. second.handle id (subst (λ p. IsSome p) (sym (first.purpose id)) is_open) ∙ first.handle id is_open;
-}
+-- a write of what is left puts more of the bytes
+pub put_more : (a b c : FilesState) (id : ℕ) (bytes : List ℕ) (done count : ℕ) (result : Result ℕ MakeEnd)
+    → Writes b c id (take (length bytes - done) (drop done bytes)) result → result ≡ Ok count
+    → PutSoFar a b id bytes done → a.purpose id ≡ Some Writing → done < length bytes → PutSoFar a c id bytes (done + count)
+put_more a b c id bytes done count result written is_ok before created left =
+    let rest = take (length bytes - done) (drop done bytes) in
+    let call : Writes b c id rest (Ok count) = subst (λ r. Writes b c id rest r) is_ok written in
+    let some : 0 < count = call.progress (simp (length-take, length-drop) (omega arith)) in
+    let size : length (take count (drop done bytes)) ≡ count =
+        let fits = piece_fits bytes done count before.within call.count in simp (length-take, length-drop) (omega arith) in
+    let is_open : IsSome (a.purpose id) = subst (λ purpose. IsSome purpose) (sym created) refl in
+    record {
+      within = piece_fits bytes done count before.within call.count;
+      grown = call.appended
+          ∙ ap (λ front. option_map (with_piece id (take count front)) b.told) (take_rest bytes done)
+          ∙ known-more a.told b.told id (take done bytes) (take count (drop done bytes)) (omega (arith, size)) before.grown (before.handle id is_open)
+          ∙ ap (λ put. option_map (with_bytes id put) a.told) (sym (take-add done count bytes));
+      reading = call.reading ∙ before.reading;
+      writing = call.writing.kept refl ∙ before.writing;
+      purpose = λ other. call.ids.purpose other ∙ before.purpose other;
+      handle = λ other is_open. call.ids.handle other (subst (λ purpose. IsSome purpose) (sym (before.purpose other)) is_open) ∙ before.handle other is_open;
+    }

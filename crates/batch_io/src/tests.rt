@@ -1,6 +1,6 @@
 use crate::{
     Failed, FileEnd, Files, MakeEnd, MemFiles, MemSink, OpenEnd, RealFiles, Sink, StdSink,
-    read_file, read_whole, show_whole,
+    put_whole, read_file, read_whole, show_whole,
 };
 use std::alloc::{AllocError, Global};
 use std::test::Fail;
@@ -90,6 +90,40 @@ fn reads_on_from_the_place(rt: HostRuntime) -> Result<(), Fail> {
     let rest = read_whole(alloc, &mut files, id, 9)?;
     assert_eq!(rt; rest.as_slice(), b"llo".as_slice());
     files.close(id)?;
+    Ok(())
+}
+
+// Makes a file B of two texts. How the second one was put, and what B holds then.
+fn put_two<'a>(
+    files: &'a mut MemFiles,
+    first: &[u8],
+    second: &[u8],
+) -> Result<(Option<MakeEnd>, Option<&'a [u8]>), MakeEnd> {
+    let id = files.create("B")?;
+    put_whole(files, id, first)?;
+    let end = put_whole(files, id, second).err();
+    Ok((end, files.bytes("B")))
+}
+
+#[test]
+fn puts_bytes_behind_what_a_file_holds(rt: HostRuntime) -> Result<(), Fail> {
+    let alloc = rt.alloc();
+    // Two texts, the call that fails, how the second ends, and what the file holds then.
+    const CASES: [(&[u8], &[u8], u64, Option<MakeEnd>, &[u8]); 6] = [
+        (b"one ", b"two", 0, None, b"one two"),
+        (b"one ", b"two", 3, Some(MakeEnd::Failed), b"one "),
+        (b"one ", b"two", 4, None, b"one two"),
+        (b"", b"two", 2, Some(MakeEnd::Failed), b""),
+        (b"", b"two", 3, None, b"two"),
+        (b"one ", b"", 3, None, b"one "),
+    ];
+    for (first, second, failing, end, held) in CASES {
+        let mut files = one_file(alloc, &[failing])?;
+        let put = put_two(&mut files, first, second)?;
+        assert_eq!(rt; put.0, end, "call {failing} fails");
+        assert_eq!(rt; put.1 == Some(held), true, "call {failing} fails");
+        assert_eq!(rt; files.bytes("A") == Some(b"hello".as_slice()), true);
+    }
     Ok(())
 }
 

@@ -42,9 +42,9 @@ pub fn put_whole<F: Files>(files: &mut F, id: u32, bytes: &[u8]) -> Result<(), M
     requires created { (F.state files.old).purpose id ≡ Some Writing }
     ensures { PutsWhole (F.state files.old) (F.state files.new) id bytes.now result }
 {
-    let mut done = 0;
-    while done < bytes.len() {
-        done += files.write(id, &bytes[done..])?;
+    let mut put = 0;
+    while put < bytes.len() {
+        put += files.write(id, &bytes[put..])?;
     }
     Ok(())
 }
