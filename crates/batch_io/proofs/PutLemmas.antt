@@ -9,7 +9,7 @@ use Rattle.std.proofs.lemmas.Bool.{false_from_ne_true}
 use Rattle.std.proofs.lemmas.List.{take_rest}
 use Rattle.std.proofs.Math.Seq.{take-add}
 use Rattle.batch_io.specs.declared.ends.MakeEnd.{MakeEnd}
-use Rattle.batch_io.specs.FilesState.{Contents, FilesState, Told, Writing, bytes_at, known_handle}
+use Rattle.batch_io.specs.FilesState.{Contents, FilesState, Told, Writing, KeepsIds, bytes_at}
 use Rattle.batch_io.specs.FilesCalls.{Writes, with_piece}
 use Rattle.batch_io.specs.Wholes.{Grows, with_bytes}
 use Rattle.batch_io.proofs.EntriesLemmas.{is_same, same_contents, same_name, shadowed}
@@ -54,12 +54,14 @@ module _ (told : Told) (id : ℕ) where
   with_bytes-own (byte ∷ bytes) = bytes-insert told.bytes (told.handle id).name _
 
   -- every other name is as it was
-  pub with_bytes-other : (bytes other : List ℕ) → other ≢ (told.handle id).name → get (with_bytes id bytes told) other ≡ get told.bytes other
+  pub with_bytes-other : (bytes other : List ℕ) → other ≢ (told.handle id).name
+      → get (with_bytes id bytes told) other ≡ get told.bytes other
   with_bytes-other [] other apart = refl
   with_bytes-other (byte ∷ bytes) other apart = get-insert_other told.bytes (told.handle id).name _ other apart
 
   -- a piece behind what was put before
-  with_bytes-more : (mid : Told) (front piece : List ℕ) → 0 < length piece → mid.bytes ≡ with_bytes id front told → mid.handle id ≡ told.handle id
+  with_bytes-more : (mid : Told) (front piece : List ℕ) → 0 < length piece
+      → mid.bytes ≡ with_bytes id front told → mid.handle id ≡ told.handle id
       → with_piece id piece mid ≡ with_bytes id (front ++ piece) told
   with_bytes-more mid [] piece some bytes handle =
       ap (λ h. insert mid.bytes h.name (bytes_at mid.bytes h.name ++ piece)) handle
@@ -80,34 +82,40 @@ known-more (Some old) None id front piece some bytes handle = absurd (cc bytes)
 known-more (Some old) (Some mid) id front piece some bytes handle =
     ap (λ m. Some m) (with_bytes-more old id mid front piece some (cc bytes) (cc handle))
 
+KeepsIds-more : (a b c : FilesState) → KeepsIds a b → KeepsIds b c → KeepsIds a c
+KeepsIds-more a b c first second = record {
+  purpose = λ id. second.purpose id ∙ first.purpose id;
+  handle = λ id is_open.
+      second.handle id (subst (λ purpose. IsSome purpose) (sym (first.purpose id)) is_open) ∙ first.handle id is_open;
+}
+
 -- the first `done` of the bytes stand at the end of the id's file, and no call failed
 pub record PutSoFar (old new : FilesState) (id : ℕ) (bytes : List ℕ) (done : ℕ) : Type 0 where
   pub within : done ≤ length bytes
   pub grown : Grows old new id (take done bytes)
   pub reading : new.reading ≡ old.reading
   pub writing : new.writing ≡ old.writing
-  pub purpose : (other : ℕ) → new.purpose other ≡ old.purpose other
-  pub handle : (other : ℕ) → IsSome (old.purpose other) → known_handle new other ≡ known_handle old other
+  pub ids : KeepsIds old new
 
 -- a write of what is left puts more of the bytes
 pub put_more : (a b c : FilesState) (id : ℕ) (bytes : List ℕ) (done count : ℕ) (result : Result ℕ MakeEnd)
     → Writes b c id (take (length bytes - done) (drop done bytes)) result → result ≡ Ok count
-    → PutSoFar a b id bytes done → a.purpose id ≡ Some Writing → done < length bytes → PutSoFar a c id bytes (done + count)
+    → PutSoFar a b id bytes done → a.purpose id ≡ Some Writing → done < length bytes
+    → PutSoFar a c id bytes (done + count)
 put_more a b c id bytes done count result written is_ok before created left =
     let rest = take (length bytes - done) (drop done bytes) in
     let call : Writes b c id rest (Ok count) = subst (λ r. Writes b c id rest r) is_ok written in
+    let fits = piece_fits bytes done count before.within call.count in
     let some : 0 < count = call.progress (simp (length-take, length-drop) (omega arith)) in
-    let size : length (take count (drop done bytes)) ≡ count =
-        let fits = piece_fits bytes done count before.within call.count in simp (length-take, length-drop) (omega arith) in
-    let is_open : IsSome (a.purpose id) = subst (λ purpose. IsSome purpose) (sym created) refl in
+    let size : length (take count (drop done bytes)) ≡ count = simp (length-take, length-drop) (omega arith) in
+    let handle = before.ids.handle id (subst (λ purpose. IsSome purpose) (sym created) refl) in
     record {
-      within = piece_fits bytes done count before.within call.count;
+      within = fits;
       grown = call.appended
           ∙ ap (λ front. option_map (with_piece id (take count front)) b.told) (take_rest bytes done)
-          ∙ known-more a.told b.told id (take done bytes) (take count (drop done bytes)) (omega (arith, size)) before.grown (before.handle id is_open)
-          ∙ ap (λ put. option_map (with_bytes id put) a.told) (sym (take-add done count bytes));
+          ∙ known-more a.told b.told id (take done bytes) (take count (drop done bytes)) (omega (arith, size)) before.grown handle
+          ∙ ap (λ front. option_map (with_bytes id front) a.told) (sym (take-add done count bytes));
       reading = call.reading ∙ before.reading;
       writing = call.writing.kept refl ∙ before.writing;
-      purpose = λ other. call.ids.purpose other ∙ before.purpose other;
-      handle = λ other is_open. call.ids.handle other (subst (λ purpose. IsSome purpose) (sym (before.purpose other)) is_open) ∙ before.handle other is_open;
+      ids = KeepsIds-more a b c before.ids call.ids;
     }
