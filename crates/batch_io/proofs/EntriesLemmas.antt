@@ -30,10 +30,10 @@ is_name a b = eq_by_cmp (slice_cmp nat_cmp) a b
 abbrev found : List ℕ → List Entry → Option (List ℕ)
 found = find (slice_cmp nat_cmp)
 
-same_name : (a b : List ℕ) → is_name a b ≡ true → a ≡ b
+pub same_name : (a b : List ℕ) → is_name a b ≡ true → a ≡ b
 same_name a b h = (bytes_eq-Decides a b).0 (sym (is_eq-slice_cmp a b) ∙ h)
 
-is_same : (a b : List ℕ) → a ≡ b → is_name a b ≡ true
+pub is_same : (a b : List ℕ) → a ≡ b → is_name a b ≡ true
 is_same a b e = is_eq-slice_cmp a b ∙ (bytes_eq-Decides a b).1 e
 
 -- what the code's test of the two names in the other order says
@@ -65,7 +65,7 @@ found-first q (e ∷ es) (suc i) within here apart =
     ap (λ b. cond b (Some e.1) (found q es)) (apart 0 (omega arith)) ∙ found-first q es i (omega arith) here (λ k h. apart (suc k) (omega arith))
 
 -- a test that is repeated
-shadowed : {A : Type 0} (b : Bool) (x y z : A) → cond b x z ≡ cond b x (cond b y z)
+pub shadowed : {A : Type 0} (b : Bool) (x y z : A) → cond b x z ≡ cond b x (cond b y z)
 shadowed true x y z = refl
 shadowed false x y z = refl
 
@@ -90,7 +90,7 @@ found-set name bytes q (e ∷ es) (suc i) within here apart =
     let no = apart 0 (omega arith) in
     cc)
 
-same_contents : (m n : Contents) → ((q : List ℕ) → get m q ≡ get n q) → m ≡ n
+pub same_contents : (m n : Contents) → ((q : List ℕ) → get m q ≡ get n q) → m ≡ n
 same_contents m n same = same_map nat_list_cmp_total (slice_cmp-IsAntisymmetric nat_cmp-IsAntisymmetric) m n same
 
 module _ (es : List Entry) (name : List ℕ) where

@@ -1,5 +1,5 @@
 -- What the calls on whole files and whole texts do.
-use Rattle.std.specs.Prelude.{◌≡◌, ◌≢◌, ◌↔◌, ℕ, ◌+◌, ◌<◌, ◌≤◌, List, [], take, length, None, Some, IfSome, IsSomeAnd, Result, Ok, Err, IfOk, OnOk, OnErr, Vec}
+use Rattle.std.specs.Prelude.{◌≡◌, ◌≢◌, ◌↔◌, ℕ, ◌+◌, ◌<◌, ◌≤◌, List, [], ◌∷◌, take, length, None, Some, IfSome, IsSomeAnd, Result, Ok, Err, IfOk, OnOk, OnErr, option_map, Vec}
 use Rattle.std.specs.declared.alloc.Global.{Global}
 use Rattle.std.specs.FinMap.{get}
 use Rattle.std.specs.Io.KnownBytes.{append_known}
@@ -10,7 +10,8 @@ use Rattle.batch_io.specs.declared.ends.FileEnd.{FileEnd}
 use Rattle.batch_io.specs.declared.ends.ReadEnd.TheVariants as reads
 use Rattle.batch_io.specs.declared.ends.FileEnd.TheVariants as file
 use Rattle.batch_io.specs.Faults.{Counts, read_failed, file_failed, make_failed}
-use Rattle.batch_io.specs.FilesState.{FilesState, known_bytes, known_rest, Gives, KeepsIds, KeepsOthers}
+use Rattle.batch_io.specs.FilesState.{Contents, FilesState, Told, known_bytes, known_rest, Gives, KeepsIds, KeepsOthers}
+use Rattle.batch_io.specs.FilesCalls.{with_piece}
 use Rattle.batch_io.specs.SinkState.{SinkState}
 
 -- the bytes that the call read from the id, whatever it answers
@@ -53,6 +54,23 @@ pub record ReadsFile (old new : FilesState) (name : List ℕ) (limit : ℕ) (res
   pub ok : IfOk result (λ v. (length v.items ≤ limit) × IfSome (known_bytes old) (λ contents. get contents name ≡ Some v.items))
   pub absent : result ≡ Err file.Absent → IfSome (known_bytes old) (λ contents. get contents name ≡ None)
   pub long : result ≡ Err file.Long → IfSome (known_bytes old) (λ contents. IsSomeAnd (get contents name) (λ bytes. limit < length bytes))
+  pub ids : KeepsIds old new
+
+-- the bytes stand at the end of the id's file, and every other name is as it was. No bytes change nothing
+abbrev pub with_bytes : ℕ → List ℕ → Told → Contents
+with_bytes id [] told = told.bytes
+with_bytes id (byte ∷ bytes) told = with_piece id (byte ∷ bytes) told
+
+-- the id's file grew by these bytes, and every other name is as it was
+abbrev pub Grows : FilesState → FilesState → ℕ → List ℕ → Type 0
+Grows old new id bytes = known_bytes new ≡ option_map (with_bytes id bytes) old.told
+
+-- all of the bytes, or where that fails a prefix of them, stand at the end of the id's file
+pub record PutsWhole (old new : FilesState) (id : ℕ) (bytes : List ℕ) (result : Result Unit MakeEnd) : Type 0 where
+  pub writing : Counts (make_failed result) old.writing new.writing
+  pub reading : new.reading ≡ old.reading
+  pub ok : OnOk result (Grows old new id bytes)
+  pub err : OnErr result ((n : ℕ) × (n ≤ length bytes) × Grows old new id (take n bytes))
   pub ids : KeepsIds old new
 
 pub record ShowsWhole (old new : SinkState) (bytes : List ℕ) (result : Result Unit MakeEnd) : Type 0 where

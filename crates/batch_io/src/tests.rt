@@ -1,6 +1,6 @@
 use crate::{
     Failed, FileEnd, Files, MakeEnd, MemFiles, MemSink, OpenEnd, RealFiles, Sink, StdSink,
-    read_file, read_whole, show_whole,
+    put_whole, read_file, read_whole, show_whole,
 };
 use std::alloc::{AllocError, Global};
 use std::test::Fail;
@@ -90,6 +90,108 @@ fn reads_on_from_the_place(rt: HostRuntime) -> Result<(), Fail> {
     let rest = read_whole(alloc, &mut files, id, 9)?;
     assert_eq!(rt; rest.as_slice(), b"llo".as_slice());
     files.close(id)?;
+    Ok(())
+}
+
+// Files that take at most three bytes in a write.
+#[derive(Drop)]
+struct Sips {
+    files: MemFiles,
+}
+
+impl Files for Sips {
+    ghost use Rattle.batch_io.specs.Memory.{mem_files};
+
+    ghost state = { λ sips. mem_files sips.files };
+
+    fn open(&mut self, name: &str) -> Result<u32, OpenEnd> {
+        self.files.open(name)
+    }
+
+    fn create(&mut self, name: &str) -> Result<u32, MakeEnd> {
+        self.files.create(name)
+    }
+
+    fn read(&mut self, id: u32, buf: &mut [u8]) -> Result<usize, Failed> {
+        self.files.read(id, buf)
+    }
+
+    fn write(&mut self, id: u32, piece: &[u8]) -> Result<usize, MakeEnd> {
+        let count = piece.len().min(3);
+        self.files.write(id, &piece[..count])
+    }
+
+    fn close(&mut self, id: u32) -> Result<(), Failed> {
+        self.files.close(id)
+    }
+}
+
+// Makes a file B of two texts, and says how the second one was put.
+fn put_two<F: Files>(
+    files: &mut F,
+    first: &[u8],
+    second: &[u8],
+) -> Result<Option<MakeEnd>, MakeEnd> {
+    let id = files.create("B")?;
+    put_whole(files, id, first)?;
+    Ok(put_whole(files, id, second).err())
+}
+
+#[test]
+fn puts_bytes_behind_what_a_file_holds(rt: HostRuntime) -> Result<(), Fail> {
+    let alloc = rt.alloc();
+    // Two texts, the call that fails, how the second ends, and what the file holds then.
+    const CASES: [(&[u8], &[u8], u64, Option<MakeEnd>, &[u8]); 6] = [
+        (b"one ", b"two", 0, None, b"one two"),
+        (b"one ", b"two", 3, Some(MakeEnd::Failed), b"one "),
+        (b"one ", b"two", 4, None, b"one two"),
+        (b"", b"two", 2, Some(MakeEnd::Failed), b""),
+        (b"", b"two", 3, None, b"two"),
+        (b"one ", b"", 3, None, b"one "),
+    ];
+    for (first, second, failing, end, held) in CASES {
+        let mut files = one_file(alloc, &[failing])?;
+        assert_eq!(rt;
+            put_two(&mut files, first, second)?,
+            end,
+            "call {failing} fails"
+        );
+        assert_eq!(rt;
+            files.bytes("B") == Some(held),
+            true,
+            "call {failing} fails"
+        );
+        assert_eq!(rt; files.bytes("A") == Some(b"hello".as_slice()), true);
+    }
+    Ok(())
+}
+
+#[test]
+fn puts_bytes_in_short_writes(rt: HostRuntime) -> Result<(), Fail> {
+    let alloc = rt.alloc();
+    // The call that fails, how the second text ends, and what the file holds then.
+    const CASES: [(u64, Option<MakeEnd>, &[u8]); 5] = [
+        (0, None, b"one and two"),
+        (4, Some(MakeEnd::Failed), b"one "),
+        (5, Some(MakeEnd::Failed), b"one and"),
+        (6, Some(MakeEnd::Failed), b"one and tw"),
+        (7, None, b"one and two"),
+    ];
+    for (failing, end, held) in CASES {
+        let mut sips = Sips {
+            files: one_file(alloc, &[failing])?,
+        };
+        assert_eq!(rt;
+            put_two(&mut sips, b"one ", b"and two")?,
+            end,
+            "call {failing} fails"
+        );
+        assert_eq!(rt;
+            sips.files.bytes("B") == Some(held),
+            true,
+            "call {failing} fails"
+        );
+    }
     Ok(())
 }
 

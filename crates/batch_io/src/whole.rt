@@ -1,7 +1,7 @@
 //! Whole files and whole texts.
 ghost use Rattle.std.specs.Prelude.{◌≡◌, ℕ, ◌-◌, ◌^◌, ◌<◌, Some};
-ghost use Rattle.batch_io.specs.FilesState.{Reading};
-ghost use Rattle.batch_io.specs.Wholes.{ReadsWhole, ReadsToClose, ReadsFile, ShowsWhole, end_after};
+ghost use Rattle.batch_io.specs.FilesState.{Reading, Writing};
+ghost use Rattle.batch_io.specs.Wholes.{ReadsWhole, ReadsToClose, ReadsFile, PutsWhole, ShowsWhole, end_after};
 
 use crate::ends::{Failed, FileEnd, MakeEnd, OpenEnd, ReadEnd};
 use crate::outside::{Files, Sink};
@@ -35,6 +35,18 @@ pub fn read_whole<F: Files>(
         }
         bytes.extend_from_slice(&piece[..count])?;
     }
+}
+
+/// Writes all of `bytes` to the end of the id's file. A refused put leaves a prefix of them there.
+pub fn put_whole<F: Files>(files: &mut F, id: u32, bytes: &[u8]) -> Result<(), MakeEnd>
+    requires created { (F.state files.old).purpose id ≡ Some Writing }
+    ensures { PutsWhole (F.state files.old) (F.state files.new) id bytes.now result }
+{
+    let mut put = 0;
+    while put < bytes.len() {
+        put += files.write(id, &bytes[put..])?;
+    }
+    Ok(())
 }
 
 /// Writes all of `bytes` to the sink. A refused show leaves a prefix of them there.
