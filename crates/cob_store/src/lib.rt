@@ -1,0 +1,9 @@
+//! What items hold while a program runs: numbers and texts read and stored, MOVE, DISPLAY, and storage at the beginning
+//! (ISO 1989:1985, "Procedure division").
+#![tactic(auto)]
+
+mod items;
+mod numbers;
+
+pub use items::{bytes_at, form_at};
+pub use numbers::number_at;
