@@ -1,6 +1,6 @@
 ghost use Rattle.std.specs.Prelude.{◌≡◌, ◌≤◌, length, IfSome};
 ghost use Rattle.cob_program.specs.Bounds.{IsWithin, form_bound};
-ghost use Rattle.cob_runs.specs.Contents.{form_at, scale_of, number_in, number_at};
+ghost use Rattle.cob_runs.specs.Contents.{form_at, scale_of, scaled_by, number_in, number_at};
 ghost use Rattle.cob_store.specs.Sound.{HasSoundItems, IsSoundForm, IsShort};
 
 use crate::items::{area, item_at};
@@ -18,6 +18,15 @@ fn scale_of(form: &Form) -> u32
     }
 }
 
+fn scaled(units: i64, scale: u32) -> Scaled
+    ensures { result ≡ scaled_by scale units }
+{
+    Scaled {
+        units: i128::from(units),
+        scale,
+    }
+}
+
 // The number that the bytes of an item of this form are read as, if they are numeric.
 pub(crate) fn number_in(form: &Form, bytes: &[u8]) -> Option<Scaled>
     requires sound { IsSoundForm form.now (length bytes.now) }
@@ -28,10 +37,7 @@ pub(crate) fn number_in(form: &Form, bytes: &[u8]) -> Option<Scaled>
     let scale = scale_of(form);
     match form {
         Form::Number { .. } | Form::Text { .. } => match value(form, bytes) {
-            Some(units) => Some(Scaled {
-                units: i128::from(units),
-                scale,
-            }),
+            Some(units) => Some(scaled(units, scale)),
             None => None,
         },
         Form::Group | Form::Edited { .. } => None,
