@@ -4,6 +4,8 @@
 
 mod items;
 mod numbers;
+mod stores;
 
 pub use items::{bytes_at, form_at};
 pub use numbers::number_at;
+pub use stores::{store_at, store_units};

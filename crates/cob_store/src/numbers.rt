@@ -9,7 +9,7 @@ use cob_tree::Form;
 use dec_num::Scaled;
 use num_bytes::value;
 
-fn scale_of(form: &Form) -> u32
+pub(crate) fn scale_of(form: &Form) -> u32
     ensures { result ≡ scale_of form.now }
 {
     match form {
