@@ -1,15 +1,17 @@
-ghost use Rattle.std.specs.Prelude.{◌≡◌, ◌≤◌, length, IfSome};
-ghost use Rattle.cob_program.specs.Bounds.{IsWithin, form_bound};
+ghost use Rattle.std.specs.Prelude.{◌≡◌, ◌≤◌, length, pos, IfSome};
+ghost use Rattle.cob_program.specs.Bounds.{IsWithin, form_bound, literal_bound};
+ghost use Rattle.cob_program.specs.Values.{negated, numeral, literal};
 ghost use Rattle.cob_runs.specs.Contents.{form_at, scale_of, scaled_by, number_in, number_at};
-ghost use Rattle.cob_store.specs.Sound.{HasSoundItems, IsSoundForm, IsShort};
+ghost use Rattle.cob_items.specs.Sound.{HasSoundItems, IsSoundForm, IsShort, IsSoundLiteral};
 
 use crate::items::{area, item_at};
 use cob_data::Layout;
-use cob_tree::Form;
+use cob_tree::{Form, Num};
 use dec_num::Scaled;
 use num_bytes::value;
 
-pub(crate) fn scale_of(form: &Form) -> u32
+/// How many decimals an item of this form has.
+pub fn scale_of(form: &Form) -> u32
     ensures { result ≡ scale_of form.now }
 {
     match form {
@@ -27,8 +29,8 @@ fn scaled(units: i64, scale: u32) -> Scaled
     }
 }
 
-// The number that the bytes of an item of this form are read as, if they are numeric.
-pub(crate) fn number_in(form: &Form, bytes: &[u8]) -> Option<Scaled>
+/// The number that the bytes of an item of this form are read as, if they are numeric.
+pub fn number_in(form: &Form, bytes: &[u8]) -> Option<Scaled>
     requires sound { IsSoundForm form.now (length bytes.now) }
     requires short { IsShort form.now }
     ensures value { result ≡ number_in form.now bytes.now }
@@ -56,5 +58,39 @@ pub fn number_at(layout: &Layout, storage: &[u8], place: u32) -> Option<Scaled>
     match item_at(layout, place) {
         Some(item) => number_in(&item.form, area(storage, item.offset, item.length)),
         None => None,
+    }
+}
+
+// The number that digits write, of which each counts as 9 at most.
+fn numeral(digits: &[u8]) -> u64
+    requires { length digits.now ≤ 18 }
+    ensures { result ≡ numeral 0 digits.now }
+{
+    let mut size = 0;
+    for digit in digits {
+        size = size * 10 + u64::from(digit.saturating_sub(b'0').min(9));
+    }
+    size
+}
+
+fn negated(minus: bool, size: u64) -> i128
+    ensures { result ≡ (negated minus (record { units = pos size; scale = 0 })).units }
+{
+    if minus {
+        -i128::from(size)
+    } else {
+        i128::from(size)
+    }
+}
+
+/// The number that a literal of at most 18 digits writes (ISO 1989:1985, "Literals").
+pub fn literal(number: &Num) -> Scaled
+    requires { IsSoundLiteral number.now }
+    ensures value { result ≡ literal number.now }
+    ensures bound { IsWithin result (literal_bound number.now) }
+{
+    Scaled {
+        units: negated(number.sign == b'-', numeral(number.digits.get())),
+        scale: number.scale,
     }
 }

@@ -1,6 +1,6 @@
 use Rattle.std.proofs.Common.{rules, sym, ◌∙◌}
-use Rattle.cob_store.proofs.ReadBound.{read_within}
-use Rattle.cob_store.proofs.numbers.number_in.Goals as goal
+use Rattle.cob_items.proofs.ReadBound.{read_within}
+use Rattle.cob_items.proofs.numbers.number_in.Goals as goal
 
 pub returns-in-Some-clause-bound : goal.returns-in-Some-clause-bound
 returns-in-Some-clause-bound c =

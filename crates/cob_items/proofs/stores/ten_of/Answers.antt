@@ -1,7 +1,7 @@
 use Rattle.std.proofs.Common.{arith}
 use Rattle.dec_num.proofs.Powers.{ten_monotone}
-use Rattle.cob_store.proofs.Parts.{few_digits}
-use Rattle.cob_store.proofs.stores.ten_of.Goals as goal
+use Rattle.cob_items.proofs.Parts.{few_digits}
+use Rattle.cob_items.proofs.stores.ten_of.Goals as goal
 
 pub returns-in-Some-clause-bound : goal.returns-in-Some-clause-bound
 returns-in-Some-clause-bound c =

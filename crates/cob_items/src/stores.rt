@@ -5,8 +5,8 @@ ghost use Rattle.dec_num.specs.Scaled.{value_of};
 ghost use Rattle.cob_program.specs.Bounds.{IsSmall};
 ghost use Rattle.cob_runs.specs.Contents.{form_at, length_at, digits_of, scale_of, bytes_of, if_held, stored, filled_at, fitted, written};
 ghost use Rattle.cob_runs.specs.Moves.{takes_number};
-ghost use Rattle.cob_store.specs.Sound.{HasSoundItems, IsSoundForm};
-ghost use Rattle.cob_store.specs.Storing.{filled_if};
+ghost use Rattle.cob_items.specs.Sound.{HasSoundItems, IsSoundForm};
+ghost use Rattle.cob_items.specs.Storing.{filled_if};
 
 use crate::items::{form_at, item_at};
 use crate::numbers::scale_of;
@@ -15,7 +15,8 @@ use cob_tree::Form;
 use dec_num::{Fit, Mode, Scaled, fit, pow10};
 use num_bytes::{edit, put};
 
-fn digits_of(form: &Form) -> u32
+/// How many digits an item of this form has.
+pub fn digits_of(form: &Form) -> u32
     ensures { result ≡ digits_of form.now }
 {
     match form {
@@ -45,6 +46,20 @@ fn write_units(form: &Form, units: i64, bytes: &mut [u8])
         Form::Number { digits, .. } => put(form, size_of(units, *digits), bytes),
         Form::Edited { digits, .. } => edit(form, size_of(units, *digits), bytes),
         Form::Group | Form::Text { .. } => {}
+    }
+}
+
+/// Puts the bytes into the item at a place; they are as many as its own.
+pub fn fill_bytes(layout: &Layout, storage: &mut [u8], place: u32, bytes: &[u8])
+    requires sound { HasSoundItems layout.now }
+    requires whole { length storage.old ≡ layout.now.storage }
+    requires length { length bytes.now ≡ length_at layout.now place }
+    ensures { storage.new ≡ filled_at layout.now storage.old place bytes.now }
+{
+    if let Some(item) = item_at(layout, place) {
+        let from = item.offset as usize;
+        let to = from + item.length as usize;
+        storage[from..to].copy_from_slice(bytes);
     }
 }
 

@@ -9,7 +9,7 @@ use Rattle.std.specs.Option.{option_map_or}
 use Rattle.cob_data.specs.declared.layout.Item.{Item}
 use Rattle.cob_data.specs.declared.layout.Layout.{Layout}
 use Rattle.cob_runs.specs.Contents.{written, digits_of, item_at, form_at, filled_at}
-use Rattle.cob_store.specs.Sound.{IsSoundForm}
+use Rattle.cob_items.specs.Sound.{IsSoundForm}
 
 pub put_mid-written : (xs ys : List ℕ) (a k : ℕ) → length ys ≡ k → put_mid a k xs ys ≡ written xs a ys
 put_mid-written xs ys a k whole =

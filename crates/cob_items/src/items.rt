@@ -1,16 +1,16 @@
 ghost use Rattle.std.specs.Prelude.{◌≡◌, ◌≤◌, ◌<◌, ◌+◌, length, IfSome};
 ghost use Rattle.std.specs.Option.{option_copied};
 ghost use Rattle.cob_runs.specs.Contents.{area, item_at, form_at, bytes_at};
-ghost use Rattle.cob_store.specs.Sound.{HasSoundItems, IsSoundItem, IsSoundForm};
+ghost use Rattle.cob_items.specs.Sound.{HasSoundItems, IsSoundItem, IsSoundForm};
 
 use cob_data::{Item, Layout};
 use cob_tree::Form;
 
-// The item at the place, if there is one.
-pub(crate) fn item_at(layout: &Layout, place: u32) -> Option<&Item>
+/// The item at a place, if there is one.
+pub fn item_at(layout: &Layout, place: u32) -> Option<&Item>
     requires { HasSoundItems layout.now }
     ensures value { option_copied result ≡ item_at layout.now place }
-    ensures sound { IfSome result (λ i. IsSoundItem layout.now.storage i.now) }
+    ensures sound { IfSome result (λ i. IsSoundItem layout.now i.now) }
 {
     layout.items.get().get(place as usize)
 }

@@ -1,7 +1,7 @@
 use Rattle.std.proofs.Common.{arith, rules, sym, ◌∙◌}
 use Rattle.cob_runs.specs.Contents.{bytes_of, filled_at, form_at}
-use Rattle.cob_store.proofs.Parts.{put_mid-written, part-filled}
-use Rattle.cob_store.proofs.stores.fill_units.Goals as goal
+use Rattle.cob_items.proofs.Parts.{put_mid-written, part-filled}
+use Rattle.cob_items.proofs.stores.fill_units.Goals as goal
 
 pub returns-in-Some : goal.returns-in-Some
 returns-in-Some c =

@@ -18,9 +18,9 @@ use Rattle.cob_tree.specs.declared.form.Usage.TheVariants.{Display, Leading, Tra
 use Rattle.num_bytes.specs.Digits.{digits_in, number_of, signed_number}
 use Rattle.num_bytes.specs.Reading.{both, front, last, unsigned_value, signed_digit, overpunched_value, separate_sign, leading_value, trailing_value, is_own, twos_complement, binary_width, binary_value, packed_sign, packed_digits, packed_value, number_value, contents_value, HasNumber}
 use Rattle.dec_num.specs.declared.types.Scaled.{Scaled}
-use Rattle.cob_program.specs.Bounds.{IsWithin, form_bound}
+use Rattle.cob_program.specs.Bounds.{Bound, IsWithin, form_bound}
 use Rattle.cob_runs.specs.Contents.{scale_of, scaled_by}
-use Rattle.cob_store.specs.Sound.{IsSoundForm}
+use Rattle.cob_items.specs.Sound.{IsSoundForm}
 
 -- ---- numbers with a sign
 
@@ -133,7 +133,7 @@ display_below digits false bs z some whole is = whole_below (digits_in bs) digit
 display_below digits true bs z some whole is =
     let front_short : length (front bs) ≤ digits - 1 = omega (arith, length-take (length bs - 1) bs) in
     let below = punched_below (digits_in (front bs)) (signed_digit (last bs)) (digits - 1) z
-        (λ ds read. digits_below (front bs) ds (digits - 1) read front_short) (λ d e. last_small (last bs) d e) is in
+    (λ ds read. digits_below (front bs) ds (digits - 1) read front_short) (λ d e. last_small (last bs) d e) is in
     let count : digits - 1 + 1 ≡ digits = omega arith in
     omega (arith, below, ap (λ k. 10 ^ k) count)
 
@@ -169,4 +169,10 @@ pub read_within : (f : Form) (bs : List ℕ) (z : ℤ) (v : Scaled) → IsSoundF
 read_within f bs z v sound is same = record {
   most = omega (arith, read_below f bs z sound is, ap (λ (w : Scaled). unsigned_abs w.units) same);
   scale = ap (λ (w : Scaled). w.scale) same ∙ bound_scale f bs z is;
+}
+
+pub within_same : (v w : Scaled) (b : Bound) → IsWithin w b → v ≡ w → IsWithin v b
+within_same v w b within same = record {
+  most = omega (arith, within.most, ap (λ (x : Scaled). unsigned_abs x.units) same);
+  scale = ap (λ (x : Scaled). x.scale) same ∙ within.scale;
 }
