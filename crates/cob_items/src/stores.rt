@@ -3,12 +3,12 @@ ghost use Rattle.dec_num.specs.Exact.{near};
 ghost use Rattle.dec_num.specs.Fit.{MatchFit};
 ghost use Rattle.dec_num.specs.Scaled.{value_of};
 ghost use Rattle.cob_program.specs.Bounds.{IsSmall};
-ghost use Rattle.cob_runs.specs.Contents.{form_at, length_at, digits_of, scale_of, bytes_of, if_held, stored, filled_at, fitted, written};
+ghost use Rattle.cob_runs.specs.Contents.{form_at, length_at, digits_of, scale_of, bytes_of, if_held, stored, filled_at};
 ghost use Rattle.cob_runs.specs.Moves.{takes_number};
 ghost use Rattle.cob_items.specs.Sound.{HasSoundItems, IsSoundForm};
 ghost use Rattle.cob_items.specs.Storing.{filled_if};
 
-use crate::items::{form_at, item_at};
+use crate::items::item_at;
 use crate::numbers::scale_of;
 use cob_data::Layout;
 use cob_tree::Form;

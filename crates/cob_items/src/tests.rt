@@ -14,17 +14,17 @@ use std::alloc::{AllocError, Global};
 use std::test::Fail;
 
 // Storage of one item.
-fn alone(alloc: Global, form: Form, length: u32) -> Result<Layout, AllocError>
-    requires { IsSoundForm form length }
+fn alone(alloc: Global, form: Form, bytes: u32) -> Result<Layout, AllocError>
+    requires { IsSoundForm form bytes }
     ensures sound { IfOk result HasSoundItems }
     ensures items { IfOk result (λ l. length l.items ≡ 1) }
-    ensures storage { IfOk result (λ l. l.storage ≡ length) }
+    ensures storage { IfOk result (λ l. l.storage ≡ bytes) }
     ensures form { IfOk result (λ l. form_at l 0 ≡ form) }
 {
     let item = Item {
         name: None,
         offset: 0,
-        length,
+        length: bytes,
         form,
         parent: None,
         line: 7,
@@ -34,7 +34,7 @@ fn alone(alloc: Global, form: Form, length: u32) -> Result<Layout, AllocError>
         items: Many::of(vec![in alloc; item]?),
         flags: Many::of(Vec::new(alloc)),
         files: Many::of(Vec::new(alloc)),
-        storage: length,
+        storage: bytes,
     })
 }
 
