@@ -34,8 +34,9 @@ fn size_of(units: i64, digits: u32) -> i64
     units.unsigned_abs() as i64
 }
 
-// Writes the number into the bytes of an item of this form.
-fn write_units(form: &Form, units: i64, bytes: &mut [u8])
+/// Writes the number of so many units into the bytes of an item of this form, whose digits hold it. An item without a
+/// sign gets the absolute value.
+pub fn write_units(form: &Form, units: i64, bytes: &mut [u8])
     requires takes { IsTrue (takes_number form.now) }
     requires sound { IsSoundForm form.now (length bytes.old) }
     requires held { unsigned_abs units < 10 ^ digits_of form.now }

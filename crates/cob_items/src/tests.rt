@@ -5,7 +5,7 @@ ghost use Rattle.cob_items.specs.Sound.{HasSoundItems, IsSoundForm};
 
 use super::{
     bytes_at, digits_of, fill_bytes, form_at, item_at, literal, number_at, number_in, scale_of,
-    store_at, store_units,
+    store_at, store_units, write_units,
 };
 use cob_data::{Item, Layout};
 use cob_tree::{Bytes, Form, Many, Num, Usage};
@@ -106,6 +106,8 @@ fn stores(rt: HostRuntime) -> Result<(), Fail> {
     assert!(rt; !store_units(&layout, &mut storage, 0, -1000));
     assert!(rt; store_units(&layout, &mut storage, 0, -5));
     assert_eq!(rt; storage.as_slice(), b"005".as_slice());
+    write_units(&display(2, 0, true), -12, &mut storage[1..]);
+    assert_eq!(rt; storage.as_slice(), b"01K".as_slice());
     Ok(())
 }
 
