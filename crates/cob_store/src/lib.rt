@@ -1,13 +1,12 @@
-// A library with one function.
+//! What becomes of storage while a program runs, but for arithmetic: MOVE, what DISPLAY shows, and storage at the beginning
+//! (ISO 1989:1985, "Procedure division").
 #![tactic(auto)]
 
-ghost use Rattle.std.specs.Prelude.{◌≡◌};
-ghost use Rattle.cob_store.specs.Echo.{echo_of};
+mod end;
+mod moves;
+mod senders;
+mod texts;
+mod writes;
 
-// The `ensures` clause is the contract: what `echo` returns is `echo_of` of its argument, a definition
-// in `specs/Echo.antt`, which a caller's clause can cite too.
-pub fn echo(x: usize) -> usize
-    ensures { result ≡ echo_of x }
-{
-    x
-}
+pub use end::MoveEnd;
+pub use moves::after_move;
