@@ -1,5 +1,6 @@
-ghost use Rattle.std.specs.Prelude.{◌≡◌, length, MatchResult, IfOk, Ok};
+ghost use Rattle.std.specs.Prelude.{◌≡◌, length, MatchResult, IfOk, Ok, [], ◌∷◌, ◌++◌};
 ghost use Rattle.std.specs.List.{All};
+ghost use Rattle.std.specs.Result.{OnOk};
 ghost use Rattle.cob_runs.specs.Contents.{form_at, length_at};
 ghost use Rattle.cob_runs.specs.Moves.{moved, after_move};
 ghost use Rattle.cob_items.specs.Sound.{HasSoundItems, IsSoundForm, CanMove};
@@ -53,6 +54,13 @@ fn moved(alloc: Global, layout: &Layout, storage: &[u8], sender: &Sender, place:
     }
 }
 
+fn push(values: &mut Vec<Many<u8>>, bytes: Many<u8>) -> Result<(), AllocError>
+    ensures { OnOk result (values.new.items ≡ values.old.items ++ bytes ∷ []) }
+{
+    values.push(bytes)?;
+    Ok(())
+}
+
 // What each item gets.
 fn moved_all(alloc: Global, layout: &Layout, storage: &[u8], sender: &Sender, to: &[u32]) -> Result<Vec<Many<u8>>, MoveEnd>
     requires sound { HasSoundItems layout.now }
@@ -66,7 +74,7 @@ fn moved_all(alloc: Global, layout: &Layout, storage: &[u8], sender: &Sender, to
     let mut values = Vec::with_capacity(alloc, 1)?;
     for place in to {
         let bytes = moved(alloc, layout, storage, sender, *place)?;
-        values.push(bytes)?;
+        push(&mut values, bytes)?;
     }
     Ok(values)
 }
