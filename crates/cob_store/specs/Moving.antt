@@ -1,5 +1,5 @@
 -- What a MOVE relies on, and why one ends.
-use Rattle.std.specs.Prelude.{◌≡◌, ℕ, length, List, [], ◌∷◌, Option, Some, Result, Ok, Err}
+use Rattle.std.specs.Prelude.{◌≡◌, ℕ, length, List, [], ◌∷◌, ◌++◌, Option, Some, Result, Ok, Err}
 use Rattle.std.specs.List.{AllZip}
 use Rattle.std.specs.Option.{option_map}
 use Rattle.cob_tree.specs.declared.fault.Kind.{Kind}
@@ -52,6 +52,11 @@ abbrev pub all_filled : Layout → List ℕ → List ℕ → List (List ℕ) →
 all_filled l now [] values = now
 all_filled l now (place ∷ places) [] = now
 all_filled l now (place ∷ places) (bytes ∷ values) = all_filled l (filled_at l now place bytes) places values
+
+-- what is moved first, and more
+abbrev pub behind : List (List ℕ) → Result (List (List ℕ)) Kind → Result (List (List ℕ)) Kind
+behind values (Ok more) = Ok (values ++ more)
+behind values (Err kind) = Err kind
 
 abbrev pub AreAsLong : Layout → List ℕ → List (List ℕ) → Type 0
 AreAsLong l places values = AllZip (λ place bytes. length bytes ≡ length_at l place) places values

@@ -5,8 +5,10 @@
 mod end;
 mod moves;
 mod senders;
+mod shows;
 mod texts;
 mod writes;
 
 pub use end::MoveEnd;
 pub use moves::after_move;
+pub use shows::line_of;

@@ -86,8 +86,8 @@ fn fill_all(layout: &Layout, storage: &mut [u8], to: &[u32], values: &[Many<u8>]
     requires lengths { AreAsLong layout.now to.now values.now }
     ensures { storage.new ≡ all_filled layout.now storage.old to.now values.now }
 {
-    for (at, place) in to.iter().enumerate() {
-        fill_bytes(layout, storage, *place, values[at].get());
+    for (at, bytes) in values.iter().enumerate() {
+        fill_bytes(layout, storage, to[at], bytes.get());
     }
 }
 
