@@ -2,6 +2,7 @@
 //! (ISO 1989:1985, "Procedure division").
 #![tactic(auto)]
 
+mod begin;
 mod end;
 mod moves;
 mod senders;
@@ -9,6 +10,7 @@ mod shows;
 mod texts;
 mod writes;
 
+pub use begin::{is_over, start};
 pub use end::MoveEnd;
 pub use moves::after_move;
 pub use shows::line_of;

@@ -1,4 +1,4 @@
-ghost use Rattle.std.specs.Prelude.{◌≡◌, length, MatchResult, IfOk, Ok, [], ◌∷◌, ◌++◌};
+ghost use Rattle.std.specs.Prelude.{◌≡◌, length, replicate, MatchResult, IfOk, Ok, [], ◌∷◌, ◌++◌};
 ghost use Rattle.std.specs.List.{All};
 ghost use Rattle.std.specs.Result.{OnOk};
 ghost use Rattle.cob_runs.specs.Contents.{form_at, length_at};
@@ -13,15 +13,21 @@ use cob_items::{fill_bytes, item_at};
 use cob_tree::Many;
 use std::alloc::{AllocError, Global};
 
-// So many bytes.
-fn room(alloc: Global, count: usize) -> Result<Vec<u8>, AllocError>
-    ensures { IfOk result (λ bytes. length bytes.items ≡ count) }
+// So many spaces.
+pub(crate) fn room(alloc: Global, count: usize) -> Result<Vec<u8>, AllocError>
+    ensures { IfOk result (λ bytes. bytes.items ≡ replicate count 32) }
 {
     vec![in alloc; b' '; count]
 }
 
 // What the item gets from the sender.
-fn moved_in(alloc: Global, layout: &Layout, storage: &[u8], sender: &Sender, item: &Item) -> Result<Many<u8>, MoveEnd>
+pub(crate) fn moved_in(
+    alloc: Global,
+    layout: &Layout,
+    storage: &[u8],
+    sender: &Sender,
+    item: &Item,
+) -> Result<Many<u8>, MoveEnd>
     requires sound { HasSoundItems layout.now }
     requires whole { IsWhole layout.now storage.now sender.now }
     requires able { CanMove layout.now sender.now item.now.form }
@@ -39,7 +45,13 @@ fn moved_in(alloc: Global, layout: &Layout, storage: &[u8], sender: &Sender, ite
 }
 
 // What the item at a place gets from the sender.
-fn moved(alloc: Global, layout: &Layout, storage: &[u8], sender: &Sender, place: u32) -> Result<Many<u8>, MoveEnd>
+fn moved(
+    alloc: Global,
+    layout: &Layout,
+    storage: &[u8],
+    sender: &Sender,
+    place: u32,
+) -> Result<Many<u8>, MoveEnd>
     requires sound { HasSoundItems layout.now }
     requires whole { IsWhole layout.now storage.now sender.now }
     requires able { CanMove layout.now sender.now (form_at layout.now place) }
@@ -62,7 +74,13 @@ fn push(values: &mut Vec<Many<u8>>, bytes: Many<u8>) -> Result<(), AllocError>
 }
 
 // What each item gets.
-fn moved_all(alloc: Global, layout: &Layout, storage: &[u8], sender: &Sender, to: &[u32]) -> Result<Vec<Many<u8>>, MoveEnd>
+fn moved_all(
+    alloc: Global,
+    layout: &Layout,
+    storage: &[u8],
+    sender: &Sender,
+    to: &[u32],
+) -> Result<Vec<Many<u8>>, MoveEnd>
     requires sound { HasSoundItems layout.now }
     requires whole { IsWhole layout.now storage.now sender.now }
     requires able { All (λ place. CanMove layout.now sender.now (form_at layout.now place)) to.now }
@@ -93,7 +111,13 @@ fn fill_all(layout: &Layout, storage: &mut [u8], to: &[u32], values: &[Many<u8>]
 
 /// Moves the sender to each of the items, from left to right; the sender is what it was at first, and where the MOVE
 /// ends in an error, storage is, too (ISO 1989:1985, "The MOVE statement").
-pub fn after_move(alloc: Global, layout: &Layout, storage: &mut [u8], sender: &Sender, to: &[u32]) -> Result<(), MoveEnd>
+pub fn after_move(
+    alloc: Global,
+    layout: &Layout,
+    storage: &mut [u8],
+    sender: &Sender,
+    to: &[u32],
+) -> Result<(), MoveEnd>
     requires sound { HasSoundItems layout.now }
     requires whole { length storage.old ≡ layout.now.storage }
     requires able { All (λ place. CanMove layout.now sender.now (form_at layout.now place)) to.now }

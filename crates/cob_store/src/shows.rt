@@ -37,7 +37,12 @@ fn push_pointed(line: &mut Vec<u8>, digits: &[u8], scale: u32) -> Result<(), All
 }
 
 // Appends a numeric item's number.
-fn push_number(line: &mut Vec<u8>, digits: u32, scale: u32, number: Scaled) -> Result<(), AllocError>
+fn push_number(
+    line: &mut Vec<u8>,
+    digits: u32,
+    scale: u32,
+    number: Scaled,
+) -> Result<(), AllocError>
     requires some_digits { 1 ≤ digits }
     requires at_most_18 { digits ≤ 18 }
     requires held { unsigned_abs number.units < 10 ^ digits }
@@ -76,7 +81,12 @@ fn push_contents(line: &mut Vec<u8>, form: &Form, bytes: &[u8]) -> Result<(), Al
 }
 
 // Appends what the item at a place shows.
-fn push_item(line: &mut Vec<u8>, layout: &Layout, storage: &[u8], place: u32) -> Result<(), AllocError>
+fn push_item(
+    line: &mut Vec<u8>,
+    layout: &Layout,
+    storage: &[u8],
+    place: u32,
+) -> Result<(), AllocError>
     requires sound { HasSoundItems layout.now }
     requires whole { length storage.now ≡ layout.now.storage }
     ensures { OnOk result (line.new.items
@@ -97,7 +107,12 @@ fn push_byte(line: &mut Vec<u8>, byte: u8) -> Result<(), AllocError>
 }
 
 // Appends what a sender shows.
-fn push_sender(line: &mut Vec<u8>, layout: &Layout, storage: &[u8], sender: &Sender) -> Result<(), AllocError>
+fn push_sender(
+    line: &mut Vec<u8>,
+    layout: &Layout,
+    storage: &[u8],
+    sender: &Sender,
+) -> Result<(), AllocError>
     requires sound { HasSoundItems layout.now }
     requires whole { length storage.now ≡ layout.now.storage }
     ensures { OnOk result (line.new.items ≡ line.old.items ++ shown_sender layout.now storage.now sender.now) }
@@ -112,7 +127,12 @@ fn push_sender(line: &mut Vec<u8>, layout: &Layout, storage: &[u8], sender: &Sen
 }
 
 /// The line that DISPLAY shows (ISO 1989:1985, "The DISPLAY statement").
-pub fn line_of(alloc: Global, layout: &Layout, storage: &[u8], senders: &[Sender]) -> Result<Vec<u8>, AllocError>
+pub fn line_of(
+    alloc: Global,
+    layout: &Layout,
+    storage: &[u8],
+    senders: &[Sender],
+) -> Result<Vec<u8>, AllocError>
     requires sound { HasSoundItems layout.now }
     requires whole { length storage.now ≡ layout.now.storage }
     ensures { IfOk result (λ line. line.items ≡ line_of layout.now storage.now senders.now) }

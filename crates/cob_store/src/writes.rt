@@ -73,7 +73,12 @@ fn write_raw(layout: &Layout, storage: &[u8], sender: &Sender, bytes: &mut [u8])
 }
 
 // Writes a sender's text.
-fn write_text_of(layout: &Layout, storage: &[u8], sender: &Sender, bytes: &mut [u8]) -> Result<(), Kind>
+fn write_text_of(
+    layout: &Layout,
+    storage: &[u8],
+    sender: &Sender,
+    bytes: &mut [u8],
+) -> Result<(), Kind>
     requires sound { HasSoundItems layout.now }
     requires whole { IsWhole layout.now storage.now sender.now }
     ensures { Writes (moved_text layout.now storage.now (length bytes.old)
@@ -107,7 +112,13 @@ fn write_value(form: &Form, value: Scaled, bytes: &mut [u8]) -> Result<(), Kind>
 }
 
 // Writes a sender's number.
-fn write_number(layout: &Layout, storage: &[u8], sender: &Sender, form: &Form, bytes: &mut [u8]) -> Result<(), Kind>
+fn write_number(
+    layout: &Layout,
+    storage: &[u8],
+    sender: &Sender,
+    form: &Form,
+    bytes: &mut [u8],
+) -> Result<(), Kind>
     requires sound { HasSoundItems layout.now }
     requires whole { IsWhole layout.now storage.now sender.now }
     requires countable { IsCountable layout.now sender.now }
@@ -122,7 +133,13 @@ fn write_number(layout: &Layout, storage: &[u8], sender: &Sender, form: &Form, b
 }
 
 // Writes what a numeric or edited item gets.
-fn write_amount(layout: &Layout, storage: &[u8], sender: &Sender, form: &Form, bytes: &mut [u8]) -> Result<(), Kind>
+fn write_amount(
+    layout: &Layout,
+    storage: &[u8],
+    sender: &Sender,
+    form: &Form,
+    bytes: &mut [u8],
+) -> Result<(), Kind>
     requires sound { HasSoundItems layout.now }
     requires whole { IsWhole layout.now storage.now sender.now }
     requires countable { IsCountable layout.now sender.now }
@@ -142,7 +159,13 @@ fn write_amount(layout: &Layout, storage: &[u8], sender: &Sender, form: &Form, b
 // ---- all forms
 
 /// Writes what an item of this form gets from the sender (ISO 1989:1985, "The MOVE statement").
-pub fn write_moved(layout: &Layout, storage: &[u8], sender: &Sender, form: &Form, bytes: &mut [u8]) -> Result<(), Kind>
+pub fn write_moved(
+    layout: &Layout,
+    storage: &[u8],
+    sender: &Sender,
+    form: &Form,
+    bytes: &mut [u8],
+) -> Result<(), Kind>
     requires sound { HasSoundItems layout.now }
     requires whole { IsWhole layout.now storage.now sender.now }
     requires able { CanMove layout.now sender.now form.now }
