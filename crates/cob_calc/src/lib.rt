@@ -1,0 +1,5 @@
+//! Sums, arithmetic statements and conditions as they are worked out at run time (ISO 1989:1985, "Arithmetic
+//! statements" and "Conditional expressions"). Each call's contract is its definition.
+#![tactic(auto)]
+
+mod numbers;
