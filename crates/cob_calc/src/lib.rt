@@ -2,4 +2,5 @@
 //! statements" and "Conditional expressions"). Each call's contract is its definition.
 #![tactic(auto)]
 
+mod contents;
 mod numbers;
