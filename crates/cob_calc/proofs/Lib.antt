@@ -1,1 +1,5 @@
 pub mod NumberLemmas
+pub mod Within
+pub mod Bounded
+pub mod SumLoops
+pub mod SumLemmas

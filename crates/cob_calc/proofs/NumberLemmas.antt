@@ -136,6 +136,9 @@ numeral_room i n c h k = omega (arith, digit_low c, ten-add i 1)
 
 pub ruleset numerals = (numeral_step, numeral_end, numeral_room, ten_monotone)
 
-pub ruleset literals = (literal_digits, literal_small)
+pub literal_is_small : (n : Num) (v : Scaled) → is_small (literal_bound n) ≡ true → v ≡ literal n → IsSmall v
+literal_is_small n v e is = subst IsSmall (sym is) (small_of (literal n) (literal_bound n) (literal_within n) e)
+
+pub ruleset literals = (literal_digits, literal_small, literal_is_small)
 
 pub ruleset quotients = (no_quotient, quotient_is, zero_quotient, zero_divisor, no_overflow)

@@ -4,3 +4,4 @@
 
 mod contents;
 mod numbers;
+mod sums;

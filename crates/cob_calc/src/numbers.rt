@@ -106,7 +106,8 @@ fn numeral(digits: &[u8]) -> i128
 #[tactic(auto, using(crate::proofs::NumberLemmas::literals))]
 pub fn literal(number: &Num) -> Scaled
     requires { is_small (literal_bound number.now) ≡ true }
-    ensures { result ≡ literal number.now }
+    ensures value { result ≡ literal number.now }
+    ensures small { IsSmall result }
 {
     negated(number.sign == b'-', scaled(numeral(number.digits.get()), number.scale))
 }
