@@ -1,5 +1,5 @@
 -- No item is worth more than its picture says.
-use Rattle.std.proofs.Common.{◌≡◌, ℕ, ◌+◌, ◌-◌, ◌*◌, ◌^◌, ◌<◌, ◌≤◌, ◌&&◌, ◌==◌, zero, suc, nat_lt, ℤ, pos, negsuc, Bool, true, false, List, [], ◌∷◌, ◌++◌, length, take, drop, map, if◌then◌else◌, Option, Some, None, refl, sym, ap, subst, ◌∙◌, arith}
+use Rattle.std.proofs.Common.{◌≡◌, ℕ, ◌+◌, ◌-◌, ◌*◌, ◌/◌, ◌%◌, ◌^◌, ◌<◌, ◌≤◌, ◌&&◌, ◌==◌, zero, suc, nat_lt, ℤ, pos, negsuc, Bool, true, false, List, [], ◌∷◌, ◌++◌, length, take, drop, map, if◌then◌else◌, Option, Some, None, refl, sym, ap, subst, ◌∙◌, arith}
 use Rattle.std.specs.Prelude.{unsigned_abs, unwrap_or, nat_le, IfSome, slice_get, slice_index}
 use Rattle.std.specs.List.{list_all}
 use Rattle.std.specs.Char.{is_ascii_digit}
@@ -8,11 +8,11 @@ use Rattle.std.specs.Int.Digits.{AllBelowBase}
 use Rattle.std.proofs.lemmas.Int.{ints}
 use Rattle.std.proofs.lemmas.Bool.{and_parts, ltb-true}
 use Rattle.std.proofs.lemmas.Bool.Decides.{nat_tests}
-use Rattle.std.proofs.lemmas.Int.Digits.{number_lt}
+use Rattle.std.proofs.lemmas.Int.Digits.{number_lt, number_push}
 use Rattle.std.proofs.lemmas.List.{length-append, length-take-le, length-drop, length-map}
 use Rattle.std.proofs.lemmas.List.Folds.{list_all-append}
 use Rattle.dec_num.specs.declared.types.Scaled.{Scaled}
-use Rattle.dec_num.proofs.Powers.{ten_positive}
+use Rattle.dec_num.proofs.Powers.{ten_positive, ten-add}
 use Rattle.cob_tree.specs.declared.form.Form.{Form}
 use Rattle.cob_tree.specs.declared.form.Form.TheVariants as form
 use Rattle.cob_tree.specs.declared.form.Usage.{Usage}
@@ -55,37 +55,97 @@ unsigned_below digits bs count = go (list_all is_ascii_digit bs) refl
     go true e = rw (← count) (text_below bs e)
     go false e = tt
 
-digit_size : (b : ℕ) → IfSome (signed_digit b) (λ d. d.1 < 10)
-digit_size b = ?
+choice : (P : Option (Bool × ℕ) → Type 0) (b : Bool) (x y : Option (Bool × ℕ)) → (b ≡ true → P x) → P y → P (if b then x else y)
+choice P true x y h k = h refl
+choice P false x y h k = k
+
+abbrev IsSmallDigit : Option (Bool × ℕ) → Type 0
+IsSmallDigit o = IfSome o (λ d. d.1 < 10)
+
+at_most : (b m : ℕ) → nat_le b m ≡ true → b ≤ m
+at_most b m e = grind (arith, nat_tests)
+
+within : (low b high : ℕ) → (nat_le low b && nat_le b high) ≡ true → b ≤ high
+within low b high e = at_most b high (and_parts (nat_le low b) (nat_le b high) e).1
+
+digit_size : (b : ℕ) → IsSmallDigit (signed_digit b)
+digit_size b =
+    choice IsSmallDigit (nat_le 48 b && nat_le b 57) _ _ (λ e. omega (arith, within 48 b 57 e))
+    (choice IsSmallDigit (b == 123) _ _ (λ e. omega arith)
+    (choice IsSmallDigit (nat_le 65 b && nat_le b 73) _ _ (λ e. omega (arith, within 65 b 73 e))
+    (choice IsSmallDigit (b == 125) _ _ (λ e. omega arith)
+    (choice IsSmallDigit (nat_le 74 b && nat_le b 82) _ _ (λ e. omega (arith, within 74 b 82 e)) tt))))
 
 pushed_below : (bs : List ℕ) (d : ℕ) → list_all is_ascii_digit bs ≡ true → d < 10 → number_of (map (λ b. b - 48) bs ++ d ∷ []) < 10 ^ (length bs + 1)
-pushed_below bs d e small = ?
+pushed_below bs d e small = omega (arith, number_push 10 (map (λ b. b - 48) bs) d, text_below bs e, small, ten-add (length bs) 1)
+
+length-front : (bs : List ℕ) → length (front bs) ≡ length bs - 1
+length-front bs = length-take-le (length bs - 1) bs (omega arith)
 
 overpunched_below : (digits : ℕ) (bs : List ℕ) → length bs ≡ digits → 1 ≤ digits → HasDigits digits (overpunched_value bs)
-overpunched_below digits bs count some = ?
+overpunched_below digits bs count some = go (list_all is_ascii_digit (front bs)) refl (signed_digit (last bs)) (digit_size (last bs))
+  where
+    all : length (front bs) + 1 ≡ digits
+    all = omega (arith, length-front bs, count)
+
+    go : (b : Bool) → list_all is_ascii_digit (front bs) ≡ b → (o : Option (Bool × ℕ)) → IsSmallDigit o →
+        HasDigits digits (both (λ ds d. signed_number d.0 (number_of (ds ++ d.1 ∷ []))) (if b then Some (map (λ b. b - 48) (front bs)) else None) o)
+    go false e o h = tt
+    go true e None h = tt
+    go true e (Some d) h = rw (signed_size d.0 (number_of (map (λ b. b - 48) (front bs) ++ d.1 ∷ [])), ← all) (pushed_below (front bs) d.1 e h)
 
 separate_below : (digits : ℕ) (sign : Option Bool) (bs : List ℕ) → length bs ≡ digits → HasDigits digits (both (λ minus ds. signed_number minus (number_of ds)) sign (digits_in bs))
-separate_below digits sign bs count = ?
+separate_below digits sign bs count = go sign (list_all is_ascii_digit bs) refl
+  where
+    go : (o : Option Bool) (b : Bool) → list_all is_ascii_digit bs ≡ b → HasDigits digits (both (λ minus ds. signed_number minus (number_of ds)) o (if b then Some (map (λ b. b - 48) bs) else None))
+    go None b e = tt
+    go (Some minus) false e = tt
+    go (Some minus) true e = rw (signed_size minus (number_of (map (λ b. b - 48) bs)), ← count) (text_below bs e)
 
 -- ---- BINARY and PACKED-DECIMAL
 
 own_below : (digits : ℕ) (signed : Bool) (z : ℤ) → is_own digits signed z ≡ true → unsigned_abs z < 10 ^ digits
-own_below digits signed (pos n) e = ?
-own_below digits signed (negsuc n) e = ?
+own_below digits signed (pos n) e = ltb-true n (10 ^ digits) e
+own_below digits signed (negsuc n) e = omega (arith, ltb-true (n + 1) (10 ^ digits) (and_parts signed (nat_lt (n + 1) (10 ^ digits)) e).1)
+
+if_own : (digits : ℕ) (signed : Bool) (z : ℤ) → HasDigits digits (if is_own digits signed z then Some z else None)
+if_own digits signed z = go (is_own digits signed z) refl
+  where
+    go : (b : Bool) → is_own digits signed z ≡ b → HasDigits digits (if b then Some z else None)
+    go true e = own_below digits signed z e
+    go false e = tt
 
 binary_below : (digits : ℕ) (signed : Bool) (bs : List ℕ) → HasDigits digits (binary_value digits signed bs)
-binary_below digits signed bs = ?
+binary_below digits signed bs = if_own digits signed (twos_complement (binary_width digits) bs)
+
+-- the digits before the sign
+packed_front : (digits : ℕ) (bs : List ℕ) → length bs ≡ digits / 2 + 1 → HasNoSpare digits bs → list_all (λ h. nat_lt h 10) (packed_digits bs) ≡ true → number_of (packed_digits bs) < 10 ^ digits
+packed_front digits bs count spare all =
+    let parts = and_parts (list_all (λ h. nat_lt h 10) (half_bytes (front bs))) (nat_lt (last bs / 16) 10 && true) (sym (list_all-append (λ h. nat_lt h 10) (half_bytes (front bs)) (last bs / 16 ∷ [])) ∙ all) in
+    let some : Some (number_of (half_bytes (front bs))) ≡ (if list_all (λ h. nat_lt h 10) (half_bytes (front bs)) then Some (number_of (half_bytes (front bs))) else None) =
+        ap (λ b. if b then Some (number_of (half_bytes (front bs))) else None) (sym parts.0) in
+    let has = packed_number digits bs (number_of (half_bytes (front bs))) (last bs / 16) count spare some refl (ltb-true (last bs / 16) 10 (and_parts (nat_lt (last bs / 16) 10) true parts.1).0) in
+    rw (← has.number) has.below
 
 packed_below : (digits : ℕ) (signed : Bool) (bs : List ℕ) → HasNumber digits Packed (length bs) → HasDigits digits (packed_value digits signed bs)
-packed_below digits signed bs has = ?
+packed_below digits signed bs has =
+    go (list_all (λ h. h == 0) (take (length (packed_digits bs) - digits) (packed_digits bs))) refl (list_all (λ h. nat_lt h 10) (packed_digits bs)) refl (packed_sign signed (last bs % 16))
+  where
+    go : (b : Bool) → list_all (λ h. h == 0) (take (length (packed_digits bs) - digits) (packed_digits bs)) ≡ b → (d : Bool) → list_all (λ h. nat_lt h 10) (packed_digits bs) ≡ d → (sign : Option Bool) →
+        HasDigits digits (if b && d then option_map (λ minus. signed_number minus (number_of (packed_digits bs))) sign else None)
+    go false e d f sign = tt
+    go true e false f sign = tt
+    go true e true f None = tt
+    go true e true f (Some minus) =
+        rw (signed_size minus (number_of (packed_digits bs))) (packed_front digits bs has.whole (record { zeros = e }) f)
 
 -- ---- each form
 
 number_below : (digits : ℕ) (signed : Bool) (kept : Usage) (bs : List ℕ) → HasNumber digits kept (length bs) → HasDigits digits (number_value digits signed kept bs)
 number_below digits false Display bs has = unsigned_below digits bs has.whole
 number_below digits true Display bs has = overpunched_below digits bs has.whole has.some_digits
-number_below digits signed Leading bs has = ?
-number_below digits signed Trailing bs has = ?
+number_below digits signed Leading bs has = separate_below digits (separate_sign (slice_index bs 0)) (drop 1 bs) (omega (arith, length-drop 1 bs, has.whole))
+number_below digits signed Trailing bs has = separate_below digits (separate_sign (last bs)) (front bs) (omega (arith, length-front bs, has.whole))
 number_below digits signed Binary bs has = binary_below digits signed bs
 number_below digits signed Packed bs has = packed_below digits signed bs has
 
