@@ -3,3 +3,4 @@ pub mod Within
 pub mod Bounded
 pub mod SumLoops
 pub mod SumLemmas
+pub mod ExactLemmas

@@ -1,3 +1,4 @@
 pub mod Sound
 pub mod Contents
 pub mod Working
+pub mod Exact

@@ -3,5 +3,6 @@
 #![tactic(auto)]
 
 mod contents;
+mod exact;
 mod numbers;
 mod sums;
