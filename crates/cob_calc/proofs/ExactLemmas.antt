@@ -12,6 +12,8 @@ use Rattle.dec_num.specs.Exact.{Fraction, rounded, with_sign_of, near, near_size
 use Rattle.dec_num.proofs.Powers.{ten_positive, ten_monotone, ten-add, ten_split}
 use Rattle.dec_num.proofs.Signed.{neg_ℤ_times}
 use Rattle.dec_num.proofs.Near.{rounded_common}
+use Rattle.cob_program.specs.Values.{exact_quotient}
+use Rattle.cob_calc.proofs.NumberLemmas.{not_zero}
 use Rattle.cob_calc.specs.Exact.{held, units_held, fraction_of, IsSmallExact, IsSmallQuotient}
 use Rattle.cob_calc.specs.declared.exact.Exact.TheVariants as exact
 
@@ -75,6 +77,16 @@ near_shift mode n d k i j up e =
     let r = ratio_of n d in
     rw (ratio_times n d (10 ^ i) (10 ^ j) (ten_positive j))
     (sign_times r.top (10 ^ i) _ (ten_positive i) ∙ ap (with_sign_of r.top) (size_shift mode r.top r.bottom k i j up e))
+
+-- ---- an exact quotient
+
+pub exact_is : (n d : Scaled) → d.units ≢ pos 0 → exact_quotient n d ≡ Some (fraction_of (exact.Quotient n d))
+exact_is n d h = rw (not_zero d.units h) refl
+
+pub no_exact : (n d : Scaled) → d.units ≡ pos 0 → exact_quotient n d ≡ None
+no_exact n d e = rw e refl
+
+pub ruleset quotients = (exact_is, no_exact)
 
 -- ---- what the calls need
 

@@ -4,3 +4,4 @@ pub mod Bounded
 pub mod SumLoops
 pub mod SumLemmas
 pub mod ExactLemmas
+pub mod RootLemmas

@@ -1,4 +1,6 @@
-ghost use Rattle.std.specs.Prelude.{◌≡◌, ◌+◌, ◌<◌, ◌≤◌, ◌^◌, pos, ◌-ℤ◌, unsigned_abs};
+ghost use Rattle.std.specs.Prelude.{◌≡◌, ◌+◌, ◌<◌, ◌≤◌, ◌^◌, pos, ◌-ℤ◌, unsigned_abs, IfSome, option_map};
+ghost use Rattle.cob_program.specs.Values.{exact_quotient};
+ghost use Rattle.cob_program.specs.Bounds.{IsSmall};
 ghost use Rattle.cob_calc.specs.Exact.{fraction_of, IsSmallExact, held, units_held};
 
 use crate::numbers::scaled;
@@ -36,6 +38,21 @@ fn decimals(top: Scaled, bottom: Scaled, scale: u32) -> i32
 }
 
 impl Exact {
+    /// A quotient that stays exact; nothing where the divisor is 0.
+    #[tactic(auto, using(crate::proofs::ExactLemmas::quotients))]
+    pub fn quotient(top: Scaled, bottom: Scaled) -> Option<Exact>
+        requires top { IsSmall top }
+        requires bottom { IsSmall bottom }
+        ensures value { option_map fraction_of result ≡ exact_quotient top bottom }
+        ensures small { IfSome result IsSmallExact }
+    {
+        if bottom.units == 0 {
+            None
+        } else {
+            Some(Exact::Quotient { top, bottom })
+        }
+    }
+
     /// The value in units of a receiver's scale, cut or rounded; nothing where the receiver has fewer digits.
     #[tactic(auto, using(crate::proofs::ExactLemmas::storing))]
     pub fn units(self, digits: u32, scale: u32, mode: Mode) -> Option<i64>

@@ -5,4 +5,5 @@
 mod contents;
 mod exact;
 mod numbers;
+mod stored;
 mod sums;

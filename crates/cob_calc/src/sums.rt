@@ -84,7 +84,7 @@ impl<'a> Contents<'a> {
     }
 
     #[cycle(sum)]
-    fn parts(&self, parts: &[Part]) -> Option<Scaled>
+    pub fn parts(&self, parts: &[Part]) -> Option<Scaled>
         requires sound { IsSound self.now }
         requires small { is_small_sum_from (bound_at self.now.layout) (exactly 0) (parts_of (map plain_part parts.now)) ≡ true }
         ensures value { result ≡ sum_from (amount_at self.now) (whole_number (pos 0)) (parts_of (map plain_part parts.now)) }
