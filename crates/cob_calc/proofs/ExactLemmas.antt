@@ -14,7 +14,7 @@ use Rattle.dec_num.proofs.Signed.{neg_ℤ_times}
 use Rattle.dec_num.proofs.Near.{rounded_common}
 use Rattle.cob_program.specs.Values.{exact_quotient}
 use Rattle.cob_calc.proofs.NumberLemmas.{not_zero}
-use Rattle.cob_calc.specs.Exact.{held, units_held, fraction_of, IsSmallExact, IsSmallQuotient}
+use Rattle.cob_calc.specs.Exact.{quotient_if, held, units_held, fraction_of, IsSmallExact, IsSmallQuotient}
 use Rattle.cob_calc.specs.declared.exact.Exact.TheVariants as exact
 
 -- ---- units that digits hold
@@ -86,7 +86,13 @@ exact_is n d h = rw (not_zero d.units h) refl
 pub no_exact : (n d : Scaled) → d.units ≡ pos 0 → exact_quotient n d ≡ None
 no_exact n d e = rw e refl
 
-pub ruleset quotients = (exact_is, no_exact)
+pub quotient_is_there : (n d : Scaled) → d.units ≢ pos 0 → quotient_if n d ≡ Some (exact.Quotient n d)
+quotient_is_there n d h = rw (not_zero d.units h) refl
+
+pub no_quotient_there : (n d : Scaled) → d.units ≡ pos 0 → quotient_if n d ≡ None
+no_quotient_there n d e = rw e refl
+
+pub ruleset quotients = (exact_is, no_exact, quotient_is_there, no_quotient_there)
 
 -- ---- what the calls need
 

@@ -1,7 +1,7 @@
 ghost use Rattle.std.specs.Prelude.{◌≡◌, ◌+◌, ◌<◌, ◌≤◌, ◌^◌, pos, ◌-ℤ◌, unsigned_abs, IfSome, option_map};
 ghost use Rattle.cob_program.specs.Values.{exact_quotient};
 ghost use Rattle.cob_program.specs.Bounds.{IsSmall};
-ghost use Rattle.cob_calc.specs.Exact.{fraction_of, IsSmallExact, held, units_held};
+ghost use Rattle.cob_calc.specs.Exact.{fraction_of, IsSmallExact, quotient_if, held, units_held};
 
 use crate::numbers::scaled;
 use dec_num::{Fit, Mode, Quot, Scaled, fit, quot};
@@ -44,6 +44,7 @@ impl Exact {
         requires top { IsSmall top }
         requires bottom { IsSmall bottom }
         ensures value { option_map fraction_of result ≡ exact_quotient top bottom }
+        ensures exact { result ≡ quotient_if top bottom }
         ensures small { IfSome result IsSmallExact }
     {
         if bottom.units == 0 {

@@ -5,7 +5,7 @@ ghost use Rattle.cob_program.specs.SumView.{plain_sum, plain_part, plain_factor}
 ghost use Rattle.cob_program.specs.Values.{root_in, root_of, stored_value};
 ghost use Rattle.cob_program.specs.Bounds.{is_small_stored};
 ghost use Rattle.cob_calc.specs.Contents.{IsSound, amount_at, bound_at};
-ghost use Rattle.cob_calc.specs.Exact.{plain_root, root_with, root_value, is_small_quotient, fraction_of, IsSmallExact};
+ghost use Rattle.cob_calc.specs.Exact.{plain_root, root_with, root_value, exact_root, exact_value, is_small_quotient, fraction_of, IsSmallExact};
 
 use crate::contents::Contents;
 use crate::exact::Exact;
@@ -55,6 +55,7 @@ impl<'a> Contents<'a> {
         requires sound { IsSound self.now }
         requires small { is_small_quotient (bound_at self.now.layout) (root_with (factors_of (map plain_factor above.now)) (plain_factor below.now)) ≡ true }
         ensures value { option_map fraction_of result ≡ root_value (amount_at self.now) (root_with (factors_of (map plain_factor above.now)) (plain_factor below.now)) }
+        ensures exact { result ≡ exact_root (amount_at self.now) (root_with (factors_of (map plain_factor above.now)) (plain_factor below.now)) }
         ensures small { IfSome result IsSmallExact }
     {
         match self.product(above) {
@@ -70,6 +71,7 @@ impl<'a> Contents<'a> {
         requires sound { IsSound self.now }
         requires small { is_small_stored (bound_at self.now.layout) (MkSum (parts_of (map plain_part parts.now))) ≡ true }
         ensures value { option_map fraction_of result ≡ stored_value (amount_at self.now) (MkSum (parts_of (map plain_part parts.now))) }
+        ensures exact { result ≡ exact_value (amount_at self.now) (MkSum (parts_of (map plain_part parts.now))) }
         ensures small { IfSome result IsSmallExact }
     {
         match quotient_in(parts) {
@@ -86,6 +88,7 @@ impl<'a> Contents<'a> {
         requires sound { IsSound self.now }
         requires small { is_small_stored (bound_at self.now.layout) (plain_sum sum.now) ≡ true }
         ensures value { option_map fraction_of result ≡ stored_value (amount_at self.now) (plain_sum sum.now) }
+        ensures exact { result ≡ exact_value (amount_at self.now) (plain_sum sum.now) }
         ensures small { IfSome result IsSmallExact }
     {
         self.stored_parts(&sum.parts)
