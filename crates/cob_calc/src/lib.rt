@@ -5,5 +5,6 @@
 mod contents;
 mod exact;
 mod numbers;
+mod operands;
 mod stored;
 mod sums;
