@@ -4,4 +4,5 @@ pub mod Bounded
 pub mod SumLoops
 pub mod SumLemmas
 pub mod ExactLemmas
+pub mod RestLemmas
 pub mod RootLemmas

@@ -2,3 +2,4 @@ pub mod Sound
 pub mod Contents
 pub mod Working
 pub mod Exact
+pub mod Receiving

@@ -27,8 +27,8 @@ fn held(units: i128, digits: u32) -> Option<i64>
     }
 }
 
-// How many decimals a quotient needs beyond those of its units.
-fn decimals(top: Scaled, bottom: Scaled, scale: u32) -> i32
+/// How many decimals a quotient needs beyond those of its units.
+pub fn decimals(top: Scaled, bottom: Scaled, scale: u32) -> i32
     requires top { top.scale ≤ 37 }
     requires bottom { bottom.scale ≤ 37 }
     requires scale { scale ≤ 18 }

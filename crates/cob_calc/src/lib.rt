@@ -8,3 +8,4 @@ mod numbers;
 mod operands;
 mod stored;
 mod sums;
+mod worked;

@@ -1,0 +1,89 @@
+-- What the receivers of an arithmetic statement get, worked out before the first of them changes.
+use Rattle.std.specs.Prelude.{◌≡◌, ℕ, ◌^◌, ◌-◌, ◌≤◌, ◌||◌, ◌&&◌, not, Bool, true, false, List, [], ◌∷◌, Option, Some, None, is_some, pos, unsigned_abs, IfSome}
+use Rattle.std.specs.Option.{option_map}
+use Rattle.dec_num.specs.declared.types.Scaled.{Scaled}
+use Rattle.dec_num.specs.declared.types.Mode.TheVariants.{Trunc}
+use Rattle.dec_num.specs.Exact.{Fraction, near}
+use Rattle.dec_num.specs.Scaled.{value_of}
+use Rattle.cob_data.specs.declared.layout.Layout.{Layout}
+use Rattle.cob_program.specs.declared.act.Target.{Target}
+use Rattle.cob_program.specs.declared.act.How.{How}
+use Rattle.cob_program.specs.declared.act.How.TheVariants as how
+use Rattle.cob_program.specs.Values.{negated, plus, product, ◌>>=◌, exact_quotient}
+use Rattle.cob_program.specs.Bounds.{IsWithin, IsSmall}
+use Rattle.cob_runs.specs.Computing.{cut_quotient}
+use Rattle.cob_calc.specs.declared.exact.Exact.{Exact}
+use Rattle.cob_calc.specs.declared.exact.Exact.TheVariants as exact
+use Rattle.cob_calc.specs.declared.worked.Worked.{Worked}
+use Rattle.cob_calc.specs.Contents.{bound_at}
+use Rattle.cob_calc.specs.Exact.{fraction_of, IsSmallQuotient, IsSmallExact}
+
+-- the exact result for a receiver that is worth so much itself; nothing where a divisor is 0
+abbrev pub result_of : Worked → How → Scaled → Option Fraction
+result_of w how.Whole own = option_map fraction_of w.whole
+result_of w how.Plus own = w.value >>= λ v. Some (value_of (plus own v))
+result_of w how.Minus own = w.value >>= λ v. Some (value_of (plus own (negated true v)))
+result_of w how.Times own = w.value >>= λ v. Some (value_of (product own v))
+result_of w how.Under own = w.value >>= λ v. exact_quotient own v
+
+abbrev pub is_whole : How → Bool
+is_whole how.Whole = true
+is_whole _ = false
+
+-- whether a receiver gets the whole, and whether one gets something else
+abbrev pub some_whole : List Target → Bool
+some_whole [] = false
+some_whole (t ∷ ts) = is_whole t.how || some_whole ts
+
+abbrev pub some_part : List Target → Bool
+some_part [] = false
+some_part (t ∷ ts) = not (is_whole t.how) || some_part ts
+
+-- ---- room
+
+pub record IsSmallSum (a b : Scaled) : Type 0 where
+  pub left : IsSmall a
+  pub right : IsSmall b
+  pub sum : IsSmall (plus a b)
+
+pub record AreSmall (a b : Scaled) : Type 0 where
+  pub left : IsSmall a
+  pub right : IsSmall b
+
+-- the result can be worked out
+abbrev pub CanWork : Worked → How → Scaled → Type 0
+CanWork w how.Whole own = IfSome w.whole IsSmallExact
+CanWork w how.Plus own = IfSome w.value (IsSmallSum own)
+CanWork w how.Minus own = IfSome w.value (λ v. IsSmallSum own (negated true v) × IsSmall v)
+CanWork w how.Times own = IfSome w.value (λ v. IsSmall (product own v))
+CanWork w how.Under own = IfSome w.value (AreSmall own)
+
+-- whatever the receiver is worth within its picture
+abbrev pub HasRoomFor : Layout → Worked → Target → Type 0
+HasRoomFor l w t = (own : Scaled) → IsWithin own (bound_at l t.item) → CanWork w t.how own
+
+-- ---- remainders
+
+abbrev pub cut_at : ℕ → Scaled → Scaled → Scaled
+cut_at scale n d = cut_quotient scale (fraction_of (exact.Quotient n d))
+
+-- the remainder of a quotient that is cut at a scale
+abbrev pub rest_at : ℕ → Scaled → Scaled → Scaled
+rest_at scale n d = plus n (negated true (product d (cut_at scale n d)))
+
+abbrev pub rest_of : ℕ → Option Exact → Option Scaled
+rest_of scale (Some (exact.Quotient n d)) = Some (rest_at scale n d)
+rest_of scale (Some (exact.Number v)) = None
+rest_of scale None = None
+
+pub record IsSmallRest (scale : ℕ) (n d : Scaled) : Type 0 where
+  pub parts : IsSmallQuotient n d
+  pub point : scale ≤ 18
+  pub cut : unsigned_abs (near Trunc (fraction_of (exact.Quotient n d)) (pos scale)) ≤ 10 ^ 37 - 1
+  pub product : IsSmall (product d (cut_at scale n d))
+  pub rest : IsSmall (rest_at scale n d)
+
+abbrev pub HasSmallRest : ℕ → Option Exact → Type 0
+HasSmallRest scale (Some (exact.Quotient n d)) = IsSmallRest scale n d
+HasSmallRest scale (Some (exact.Number v)) = Unit {0}
+HasSmallRest scale None = Unit {0}
