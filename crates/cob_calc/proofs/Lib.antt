@@ -4,5 +4,6 @@ pub mod Bounded
 pub mod SumLoops
 pub mod SumLemmas
 pub mod ExactLemmas
+pub mod WorkLemmas
 pub mod RestLemmas
 pub mod RootLemmas

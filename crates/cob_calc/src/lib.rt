@@ -9,3 +9,4 @@ mod operands;
 mod stored;
 mod sums;
 mod worked;
+mod working;
