@@ -1,0 +1,2 @@
+pub mod ReadBound
+pub mod Parts
