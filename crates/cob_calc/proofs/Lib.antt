@@ -5,5 +5,6 @@ pub mod SumLoops
 pub mod SumLemmas
 pub mod ExactLemmas
 pub mod WorkLemmas
+pub mod Agreement
 pub mod RestLemmas
 pub mod RootLemmas

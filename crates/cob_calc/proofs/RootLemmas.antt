@@ -25,7 +25,7 @@ one_part [] x one is = absurd (omega (arith, one))
 one_part (y ∷ []) x one is = ap (λ z. z ∷ []) is
 one_part (y ∷ z ∷ xs) x one is = absurd (omega (arith, one))
 
-root_more : (f g : Factor) (gs : Factors) → root_in (more_factors f (more_factors g gs)) ≡ behind_factor f (root_in (more_factors g gs))
+pub root_more : (f g : Factor) (gs : Factors) → root_in (more_factors f (more_factors g gs)) ≡ behind_factor f (root_in (more_factors g gs))
 root_more (MkFactor true m a) g gs = refl
 root_more (MkFactor false m a) g gs = refl
 

@@ -4,6 +4,7 @@
 
 mod contents;
 mod exact;
+mod laws;
 mod numbers;
 mod operands;
 mod stored;
