@@ -28,15 +28,6 @@ use Rattle.cob_calc.proofs.Within as within
 use Rattle.cob_calc.proofs.ExactLemmas.{near_shift}
 use Rattle.cob_calc.proofs.SumLemmas.{small_sum_bound}
 
--- ---- items
-
-few : (a b : ℕ) → a ≤ b → nat_le a b ≡ true
-few a b h = grind (arith, nat_tests)
-
-pub digits_are_small : (digits scale : ℕ) → digits ≤ 18 → scale ≤ digits → is_small (of_digits digits scale) ≡ true
-digits_are_small digits scale h k =
-    rw (few (10 ^ digits - 1) (10 ^ 37 - 1) (omega (arith, ten_monotone digits 18 h)), few scale 37 (omega arith)) refl
-
 -- ---- results
 
 module _ (c : Contents) (s : Sum) (held : IsBounded c) where

@@ -1,4 +1,3 @@
-pub mod Sound
 pub mod Contents
 pub mod Working
 pub mod Exact

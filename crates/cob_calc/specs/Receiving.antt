@@ -1,5 +1,5 @@
 -- What the receivers of an arithmetic statement get, worked out before the first of them changes.
-use Rattle.std.specs.Prelude.{◌≡◌, ℕ, ◌^◌, ◌-◌, ◌≤◌, ◌||◌, ◌&&◌, not, Bool, true, false, List, [], ◌∷◌, Option, Some, None, is_some, pos, unsigned_abs, IfSome}
+use Rattle.std.specs.Prelude.{◌≡◌, ℕ, ◌^◌, ◌-◌, ◌≤◌, ◌||◌, ◌&&◌, not, Bool, true, false, List, [], ◌∷◌, Option, Some, None, is_some, pos, unsigned_abs, IfSome, IsTrue, Result, Ok, Err}
 use Rattle.std.specs.Option.{option_map}
 use Rattle.dec_num.specs.declared.types.Scaled.{Scaled}
 use Rattle.dec_num.specs.declared.types.Mode.TheVariants.{Trunc}
@@ -11,7 +11,12 @@ use Rattle.cob_program.specs.declared.act.How.{How}
 use Rattle.cob_program.specs.declared.act.How.TheVariants as how
 use Rattle.cob_program.specs.Values.{negated, plus, product, ◌>>=◌, exact_quotient}
 use Rattle.cob_program.specs.Bounds.{IsWithin, IsSmall}
-use Rattle.cob_runs.specs.Computing.{cut_quotient}
+use Rattle.cob_tree.specs.declared.fault.Kind.{Kind}
+use Rattle.cob_tree.specs.declared.fault.Kind.TheVariants as kind
+use Rattle.cob_runs.specs.Contents.{form_at}
+use Rattle.cob_runs.specs.Faults as fault
+use Rattle.cob_runs.specs.Moves.{takes_number}
+use Rattle.cob_runs.specs.Computing.{cut_quotient, Receiving, receiving, received, own_worth, stored_result}
 use Rattle.cob_calc.specs.declared.exact.Exact.{Exact}
 use Rattle.cob_calc.specs.declared.exact.Exact.TheVariants as exact
 use Rattle.cob_calc.specs.declared.worked.Worked.{Worked}
@@ -87,3 +92,34 @@ abbrev pub HasSmallRest : ℕ → Option Exact → Type 0
 HasSmallRest scale (Some (exact.Quotient n d)) = IsSmallRest scale n d
 HasSmallRest scale (Some (exact.Number v)) = Unit {0}
 HasSmallRest scale None = Unit {0}
+
+-- ---- one receiver after the other
+
+-- Storage behind a part of a statement, and whether there is a size error that its phrase handles. Of storage behind a
+-- fault nothing is said.
+abbrev pub IsReceived : Result Bool Kind → List ℕ → Result Receiving Kind → Type 0
+IsReceived (Ok failed) storage r = r ≡ Ok (receiving storage failed)
+IsReceived (Err kind) storage r = r ≡ Err kind
+
+-- what comes of a receiver that holds its result or not
+abbrev pub kept_result : Bool → Bool → Result Bool Kind
+kept_result phrase true = Ok false
+kept_result true false = Ok true
+kept_result false false = Err kind.Size
+
+module _ (l : Layout) (phrase : Bool) (w : Worked) where
+  abbrev pub receive_by : List ℕ → Target → Result Receiving Kind
+  receive_by now t = fault.◌>>=◌ (own_worth l phrase t.how now t.item) (λ own. received l phrase now t.item (stored_result l phrase t.mode t.item (result_of w t.how own)))
+
+  abbrev pub receive_all_by : Receiving → List Target → Result Receiving Kind
+  receive_all_by so_far [] = Ok so_far
+  receive_all_by so_far (t ∷ ts) = fault.◌>>=◌ (receive_by so_far.storage t) (λ r. receive_all_by (receiving r.storage (so_far.failed || r.failed)) ts)
+
+-- a receiver takes a number, and has a result that can be worked out
+pub record CanReceive (l : Layout) (w : Worked) (t : Target) : Type 0 where
+  pub takes : IsTrue (takes_number (form_at l t.item))
+  pub room : HasRoomFor l w t
+
+abbrev pub CanReceiveAll : Layout → Worked → List Target → Type 0
+CanReceiveAll l w [] = Unit {0}
+CanReceiveAll l w (t ∷ ts) = CanReceive l w t × CanReceiveAll l w ts

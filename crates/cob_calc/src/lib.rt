@@ -7,6 +7,7 @@ mod exact;
 mod laws;
 mod numbers;
 mod operands;
+mod receivers;
 mod stored;
 mod sums;
 mod worked;
