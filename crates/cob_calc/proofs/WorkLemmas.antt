@@ -1,5 +1,11 @@
 -- What is worked out for the receivers of a statement.
-use Rattle.std.proofs.Common.{◌≡◌, ℕ, ◌||◌, ◌&&◌, not, Bool, true, false, List, [], ◌∷◌, refl, sym}
+use Rattle.std.proofs.Common.{◌≡◌, ℕ, ◌||◌, ◌&&◌, not, Bool, true, false, List, [], ◌∷◌, Option, Some, None, refl, sym}
+use Rattle.std.specs.Prelude.{is_some}
+use Rattle.cob_data.specs.declared.layout.Layout.{Layout}
+use Rattle.cob_program.specs.Values.{root_of}
+use Rattle.cob_runs.specs.Contents.{form_at}
+use Rattle.cob_runs.specs.Moves.{takes_number}
+use Rattle.cob_calc.specs.Contents.{bound_at}
 use Rattle.cob_program.specs.declared.act.Target.{Target}
 use Rattle.cob_program.specs.declared.act.How.{How}
 use Rattle.cob_program.specs.declared.act.How.TheVariants as how
@@ -7,7 +13,7 @@ use Rattle.cob_program.specs.Sum.{Sum}
 use Rattle.cob_program.specs.Bounds.{Bound, sum_bound, product_bound, is_small, sum_most, is_small_sum, is_small_stored}
 use Rattle.cob_program.proofs.Steps.{both}
 use Rattle.cob_calc.specs.Receiving.{is_whole, some_whole, some_part}
-use Rattle.cob_calc.specs.Arithmetic.{is_small_result, are_small_results}
+use Rattle.cob_calc.specs.Arithmetic.{is_small_result, are_small_results, are_small_rests, is_sound_remainder}
 
 module _ (bound : ℕ → Bound) (s : Sum) where
   small_whole : (place : ℕ) (h : How) → is_whole h ≡ true → is_small_result bound s place h ≡ true → is_small_stored bound s ≡ true
@@ -49,3 +55,9 @@ either_small bound s ts true e h w = h refl
 either_small bound s ts false e h w = whole_is_small bound s ts e w
 
 pub ruleset wanting = (either_small, sum_is_small)
+
+pub rest_is_small : (l : Layout) (s : Sum) (ts : List Target) (remainder : Option ℕ) → is_sound_remainder l s ts remainder ≡ true → is_some remainder ≡ true → is_small_stored (bound_at l) s ≡ true
+rest_is_small l s ts None e h = absurd cc
+rest_is_small l s ts (Some place) e h =
+    let rests = are_small_rests (bound_at l) l (root_of s) ts in
+    (both (is_small_stored (bound_at l) s) rests (both (takes_number (form_at l place)) (is_small_stored (bound_at l) s && rests) e).1).0

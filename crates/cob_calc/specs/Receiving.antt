@@ -1,5 +1,6 @@
 -- What the receivers of an arithmetic statement get, worked out before the first of them changes.
 use Rattle.std.specs.Prelude.{◌≡◌, ℕ, ◌^◌, ◌-◌, ◌≤◌, ◌||◌, ◌&&◌, not, Bool, true, false, List, [], ◌∷◌, Option, Some, None, is_some, pos, unsigned_abs, IfSome, IsTrue, Result, Ok, Err}
+use Rattle.std.specs.List.{list_any}
 use Rattle.std.specs.Option.{option_map}
 use Rattle.dec_num.specs.declared.types.Scaled.{Scaled}
 use Rattle.dec_num.specs.declared.types.Mode.TheVariants.{Trunc}
@@ -9,19 +10,20 @@ use Rattle.cob_data.specs.declared.layout.Layout.{Layout}
 use Rattle.cob_program.specs.declared.act.Target.{Target}
 use Rattle.cob_program.specs.declared.act.How.{How}
 use Rattle.cob_program.specs.declared.act.How.TheVariants as how
-use Rattle.cob_program.specs.Values.{negated, plus, product, ◌>>=◌, exact_quotient}
+use Rattle.cob_program.specs.Sum.{Sum}
+use Rattle.cob_program.specs.Values.{whole_number, negated, plus, product, ◌>>=◌, sum_value, exact_quotient}
 use Rattle.cob_program.specs.Bounds.{IsWithin, IsSmall}
 use Rattle.cob_tree.specs.declared.fault.Kind.{Kind}
 use Rattle.cob_tree.specs.declared.fault.Kind.TheVariants as kind
-use Rattle.cob_runs.specs.Contents.{form_at}
+use Rattle.cob_runs.specs.Contents.{form_at, scale_of}
 use Rattle.cob_runs.specs.Faults as fault
 use Rattle.cob_runs.specs.Moves.{takes_number}
-use Rattle.cob_runs.specs.Computing.{cut_quotient, Receiving, receiving, received, own_worth, stored_result}
+use Rattle.cob_runs.specs.Computing.{cut_quotient, Receiving, receiving, received, own_worth, stored_result, are_numeric, items_in}
 use Rattle.cob_calc.specs.declared.exact.Exact.{Exact}
 use Rattle.cob_calc.specs.declared.exact.Exact.TheVariants as exact
 use Rattle.cob_calc.specs.declared.worked.Worked.{Worked}
-use Rattle.cob_calc.specs.Contents.{bound_at}
-use Rattle.cob_calc.specs.Exact.{fraction_of, IsSmallQuotient, IsSmallExact}
+use Rattle.cob_calc.specs.Contents.{Contents, amount_at, bound_at}
+use Rattle.cob_calc.specs.Exact.{fraction_of, exact_value, IsSmallQuotient, IsSmallExact}
 
 -- the exact result for a receiver that is worth so much itself; nothing where a divisor is 0
 abbrev pub result_of : Worked → How → Scaled → Option Fraction
@@ -123,3 +125,49 @@ pub record CanReceive (l : Layout) (w : Worked) (t : Target) : Type 0 where
 abbrev pub CanReceiveAll : Layout → Worked → List Target → Type 0
 CanReceiveAll l w [] = Unit {0}
 CanReceiveAll l w (t ∷ ts) = CanReceive l w t × CanReceiveAll l w ts
+
+-- ---- the whole statement
+
+abbrev pub rest_value : ℕ → Option Exact → Option Fraction
+rest_value scale x = rest_of scale x >>= λ v. Some (value_of v)
+
+abbrev pub lacks_result : Worked → List Target → Bool
+lacks_result w ts = list_any (λ t. not (is_some (result_of w t.how (whole_number (pos 0))))) ts
+
+module _ (l : Layout) (phrase : Bool) (w : Worked) where
+  -- a remainder is left alone where the quotient doesn't fit
+  abbrev pub remainder_by : Bool → List Target → Option ℕ → List ℕ → Result Receiving Kind
+  remainder_by false (t ∷ []) (Some place) now =
+      received l phrase now place (stored_result l phrase Trunc place (rest_value (scale_of (form_at l t.item)) w.whole))
+  remainder_by failed ts remainder now = Ok (receiving now failed)
+
+-- a zero divisor is a size error of all receivers, or a fault
+abbrev pub zero_result : Bool → Result Bool Kind
+zero_result true = Ok true
+zero_result false = Err kind.Zero
+
+module _ (l : Layout) (phrase : Bool) (w : Worked) where
+  abbrev pub zero_received : Bool → List ℕ → Result Receiving Kind
+  zero_received true storage = Ok (receiving storage true)
+  zero_received false storage = Err kind.Zero
+
+  abbrev pub receive_unless : Bool → List ℕ → List Target → Option ℕ → Result Receiving Kind
+  receive_unless true storage ts remainder = zero_received phrase storage
+  receive_unless false storage ts remainder =
+      fault.◌>>=◌ (receive_all_by l phrase w (receiving storage false) ts) (λ r. remainder_by l phrase w r.failed ts remainder r.storage)
+
+-- a remainder's receiver takes a number, and the rest can be worked out
+abbrev pub CanGiveRest : Layout → Worked → List Target → Option ℕ → Type 0
+CanGiveRest l w (t ∷ []) (Some place) = IsTrue (takes_number (form_at l place)) × HasSmallRest (scale_of (form_at l t.item)) w.whole
+CanGiveRest l w ts remainder = Unit {0}
+
+-- what the operands give
+pub record IsWorked (c : Contents) (s : Sum) (ts : List Target) (remainder : Option ℕ) (w : Worked) : Type 0 where
+  pub numeric : are_numeric c.layout c.storage (items_in s) ≡ true
+  pub whole : (is_some remainder || some_whole ts) ≡ true → w.whole ≡ exact_value (amount_at c) s
+  pub value : some_part ts ≡ true → w.value ≡ sum_value (amount_at c) s
+  pub small : IfSome w.whole IsSmallExact
+
+abbrev pub AreWorked : Contents → Sum → List Target → Option ℕ → Option Worked → Type 0
+AreWorked c s ts remainder None = are_numeric c.layout c.storage (items_in s) ≡ false
+AreWorked c s ts remainder (Some w) = IsWorked c s ts remainder w

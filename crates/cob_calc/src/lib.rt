@@ -2,6 +2,7 @@
 //! statements" and "Conditional expressions"). Each call's contract is its definition.
 #![tactic(auto)]
 
+mod arithmetic;
 mod contents;
 mod exact;
 mod laws;

@@ -70,7 +70,8 @@ fn cut(top: Scaled, bottom: Scaled, scale: u32) -> Scaled
 #[tactic(auto, using(crate::proofs::RestLemmas::small_negated))]
 fn rest(top: Scaled, bottom: Scaled, scale: u32) -> Scaled
     requires { IsSmallRest scale top bottom }
-    ensures { result ≡ rest_at scale top bottom }
+    ensures value { result ≡ rest_at scale top bottom }
+    ensures small { IsSmall result }
 {
     let back = product(bottom, cut(top, bottom, scale));
     plus(top, negated(true, back))
@@ -123,7 +124,8 @@ impl Worked {
     /// What is left of the dividend, where the quotient is cut at a scale; nothing where there is no quotient.
     pub fn remainder(&self, scale: u32) -> Option<Scaled>
         requires { HasSmallRest scale self.now.whole }
-        ensures { result ≡ rest_of scale self.now.whole }
+        ensures value { result ≡ rest_of scale self.now.whole }
+        ensures small { IfSome result IsSmall }
     {
         match self.whole {
             Some(Exact::Quotient { top, bottom }) => Some(rest(top, bottom, scale)),

@@ -1,12 +1,12 @@
 //! An arithmetic statement's sum, worked out for its receivers.
-ghost use Rattle.std.specs.Prelude.{◌≡◌, ◌||◌, true, IfSome};
+ghost use Rattle.std.specs.Prelude.{◌≡◌, ◌||◌, true, is_some, IfSome};
 ghost use Rattle.cob_program.specs.SumView.{plain_sum};
 ghost use Rattle.cob_program.specs.Values.{sum_value};
 ghost use Rattle.cob_program.specs.Bounds.{is_small_sum, is_small_stored};
 ghost use Rattle.cob_calc.specs.Contents.{IsSound, amount_at, bound_at};
 ghost use Rattle.cob_calc.specs.Exact.{exact_value, IsSmallExact};
-ghost use Rattle.cob_calc.specs.Receiving.{some_whole, some_part};
-ghost use Rattle.cob_calc.specs.Arithmetic.{are_small_results};
+ghost use Rattle.cob_calc.specs.Receiving.{some_whole, some_part, AreWorked};
+ghost use Rattle.cob_calc.specs.Arithmetic.{are_small_results, CanCompute};
 
 use crate::contents::Contents;
 use crate::exact::Exact;
@@ -15,10 +15,13 @@ use cob_program::{Sum, Target};
 use dec_num::Scaled;
 
 // Whether a receiver gets the whole, or a remainder asks for it.
-fn wants_whole(remainder: bool, targets: &[Target]) -> bool
-    ensures { result ≡ (remainder || some_whole targets.now) }
+fn wants_whole(remainder: Option<u32>, targets: &[Target]) -> bool
+    ensures { result ≡ (is_some remainder || some_whole targets.now) }
 {
-    if remainder { true } else { some_whole(targets) }
+    match remainder {
+        Some(_) => true,
+        None => some_whole(targets),
+    }
 }
 
 impl<'a> Contents<'a> {
@@ -39,18 +42,32 @@ impl<'a> Contents<'a> {
         if wanted { self.sum(common) } else { None }
     }
 
-    /// What the receivers of a statement get.
+    // what the receivers of a statement get
     #[tactic(auto, using(crate::proofs::WorkLemmas::wanting))]
-    pub fn worked(&self, common: &Sum, targets: &[Target], remainder: bool) -> Worked
+    fn worked(&self, common: &Sum, targets: &[Target], remainder: Option<u32>) -> Worked
         requires sound { IsSound self.now }
         requires results { are_small_results (bound_at self.now.layout) (plain_sum common.now) targets.now ≡ true }
-        requires rest { remainder ≡ true → is_small_stored (bound_at self.now.layout) (plain_sum common.now) ≡ true }
-        ensures whole { (remainder || some_whole targets.now) ≡ true → result.whole ≡ exact_value (amount_at self.now) (plain_sum common.now) }
+        requires rest { is_some remainder ≡ true → is_small_stored (bound_at self.now.layout) (plain_sum common.now) ≡ true }
+        ensures whole { (is_some remainder || some_whole targets.now) ≡ true → result.whole ≡ exact_value (amount_at self.now) (plain_sum common.now) }
         ensures value { some_part targets.now ≡ true → result.value ≡ sum_value (amount_at self.now) (plain_sum common.now) }
         ensures small { IfSome result.whole IsSmallExact }
     {
         let whole = self.whole_if(wants_whole(remainder, targets), common);
         let value = self.value_if(some_part(targets), common);
         Worked { whole, value }
+    }
+
+    /// What the receivers of a statement get; nothing where an operand isn't numeric.
+    #[tactic(auto, using(crate::proofs::WorkLemmas::rest_is_small))]
+    pub fn operands(&self, common: &Sum, targets: &[Target], remainder: Option<u32>) -> Option<Worked>
+        requires sound { IsSound self.now }
+        requires can { CanCompute self.now.layout (plain_sum common.now) targets.now remainder }
+        ensures { AreWorked self.now (plain_sum common.now) targets.now remainder result }
+    {
+        if self.are_operands_numeric(common) {
+            Some(self.worked(common, targets, remainder))
+        } else {
+            None
+        }
     }
 }

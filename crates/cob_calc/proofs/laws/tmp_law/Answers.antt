@@ -1,5 +1,5 @@
 use Rattle.std.proofs.Common.{refl, ◌≡◌}
-use Rattle.cob_calc.proofs.RoomLemmas.{has_small_rest, can_work}
+use Rattle.cob_calc.proofs.StatementLemmas.{served_result}
 use Rattle.cob_calc.proofs.laws.tmp_law.Goals as goal
 
 pub returns : goal.returns
