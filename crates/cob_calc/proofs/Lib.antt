@@ -5,6 +5,7 @@ pub mod SumLoops
 pub mod SumLemmas
 pub mod ExactLemmas
 pub mod WorkLemmas
+pub mod TextLemmas
 pub mod StatementLemmas
 pub mod ReceiverLemmas
 pub mod RoomLemmas

@@ -3,3 +3,4 @@ pub mod Working
 pub mod Exact
 pub mod Receiving
 pub mod Arithmetic
+pub mod Comparing

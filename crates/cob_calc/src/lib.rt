@@ -3,6 +3,7 @@
 #![tactic(auto)]
 
 mod arithmetic;
+mod comparing;
 mod contents;
 mod exact;
 mod laws;
@@ -11,5 +12,6 @@ mod operands;
 mod receivers;
 mod stored;
 mod sums;
+mod texts;
 mod worked;
 mod working;
