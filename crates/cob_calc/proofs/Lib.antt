@@ -5,6 +5,8 @@ pub mod SumLoops
 pub mod SumLemmas
 pub mod ExactLemmas
 pub mod WorkLemmas
+pub mod SideLemmas
+pub mod CompareLemmas
 pub mod TextLemmas
 pub mod StatementLemmas
 pub mod ReceiverLemmas

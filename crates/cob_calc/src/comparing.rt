@@ -1,10 +1,11 @@
 //! Comparisons of numbers (ISO 1989:1985, "Comparison of numeric operands").
 ghost use Rattle.std.specs.Prelude.{◌≡◌, ◌-ℤ◌, true};
 ghost use Rattle.cob_program.specs.SumView.{plain_sum};
+ghost use Rattle.cob_program.specs.Values.{sum_value};
 ghost use Rattle.cob_program.specs.Bounds.{is_small_sides};
 ghost use Rattle.cob_runs.specs.Computing.{items_in};
-ghost use Rattle.cob_runs.specs.Deciding.{holds, order_of, number_order, compared_numbers};
-ghost use Rattle.cob_calc.specs.Contents.{IsSound, bound_at};
+ghost use Rattle.cob_runs.specs.Deciding.{holds, order_of, number_order, decided, compared_numbers};
+ghost use Rattle.cob_calc.specs.Contents.{IsSound, amount_at, bound_at};
 ghost use Rattle.cob_calc.specs.Arithmetic.{are_numbers};
 ghost use Rattle.cob_calc.specs.Comparing.{plain_order, CanCompare};
 
@@ -52,8 +53,23 @@ pub fn number_order(a: Scaled, b: Scaled) -> Ordering
 }
 
 impl<'a> Contents<'a> {
-    // both sides are read before a divisor counts
-    fn compare_sums(&self, left: &Sum, rel: Rel, right: &Sum) -> Result<bool, Kind>
+    // the two sides, whose items are numeric
+    fn decide(&self, left: &Sum, rel: Rel, right: &Sum) -> Result<bool, Kind>
+        requires sound { IsSound self.now }
+        requires small { is_small_sides (bound_at self.now.layout) (plain_sum left.now) (plain_sum right.now) ≡ true }
+        ensures { result ≡ decided self.now.layout self.now.storage rel (sum_value (amount_at self.now) (plain_sum left.now)) (sum_value (amount_at self.now) (plain_sum right.now)) }
+    {
+        match self.sum(left) {
+            None => Err(Kind::Zero),
+            Some(a) => match self.sum(right) {
+                None => Err(Kind::Zero),
+                Some(b) => Ok(holds(rel, number_order(a, b))),
+            },
+        }
+    }
+
+    /// Compares two sums. Both sides are read before a divisor counts.
+    pub fn compare_sums(&self, left: &Sum, rel: Rel, right: &Sum) -> Result<bool, Kind>
         requires sound { IsSound self.now }
         requires left { are_numbers self.now.layout (items_in (plain_sum left.now)) ≡ true }
         requires right { are_numbers self.now.layout (items_in (plain_sum right.now)) ≡ true }
@@ -66,12 +82,6 @@ impl<'a> Contents<'a> {
         if !self.are_operands_numeric(right) {
             return Err(Kind::Class);
         }
-        match self.sum(left) {
-            None => Err(Kind::Zero),
-            Some(a) => match self.sum(right) {
-                None => Err(Kind::Zero),
-                Some(b) => Ok(holds(rel, number_order(a, b))),
-            },
-        }
+        self.decide(left, rel, right)
     }
 }

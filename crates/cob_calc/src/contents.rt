@@ -60,13 +60,13 @@ impl<'a> Contents<'a> {
         Contents { layout, storage }
     }
 
-    fn item(&self, place: u32) -> Option<&'a Item>
+    pub fn item(&self, place: u32) -> Option<&'a Item>
         ensures { option_copied result ≡ item_at self.now.layout place }
     {
         self.layout.items.get().get(place as usize)
     }
 
-    fn bytes(&self, item: &Item) -> &'a [u8]
+    pub fn bytes(&self, item: &Item) -> &'a [u8]
         requires { item.now.offset + item.now.length ≤ length self.now.storage }
         ensures { result.now ≡ area self.now.storage item.now.offset item.now.length }
     {

@@ -8,8 +8,3 @@ ghost use Rattle.cob_calc.specs.Exact.{exact_value, fraction_of};
 pub fn exact_values_are_stored()
     ensures { (worth : ℕ → Scaled) (s : Sum) → option_map fraction_of (exact_value worth s) ≡ stored_value worth s }
 {}
-
-/// A law: tmp.
-pub fn tmp_law()
-    ensures { (scale : ℕ) → scale ≡ scale }
-{}
