@@ -82,7 +82,7 @@ fn receive(layout: &Layout, phrase: bool, storage: &mut [u8], worked: &Worked, t
 /// Does an arithmetic statement: its operands are read first, then divisors count, then each receiver gets its result in
 /// turn, and the last one the remainder. Answers whether there is a size error that the phrase handles. Of storage behind
 /// a fault nothing is said.
-pub fn arithmetic(layout: &Layout, phrase: bool, storage: &mut [u8], common: &Sum, targets: &[Target], remainder: Option<u32>) -> Result<bool, Kind>
+pub fn compute(layout: &Layout, phrase: bool, storage: &mut [u8], common: &Sum, targets: &[Target], remainder: Option<u32>) -> Result<bool, Kind>
     requires sound { HasSoundItems layout.now }
     requires whole { length storage.old ≡ layout.now.storage }
     requires can { CanCompute layout.now (plain_sum common.now) targets.now remainder }

@@ -18,10 +18,8 @@ mod texts;
 mod worked;
 mod working;
 
-pub use arithmetic::arithmetic;
+pub use arithmetic::compute;
 pub use contents::Contents;
 pub use exact::Exact;
 pub use laws::exact_values_are_stored;
 
-#[cfg(test)]
-mod tests;

@@ -3,7 +3,7 @@ use Rattle.cob_program.specs.SumView.{plain_sum}
 use Rattle.cob_calc.specs.Contents.{contents}
 use Rattle.cob_calc.specs.Receiving.{IsReceived, IsWorked}
 use Rattle.cob_calc.proofs.StatementLemmas.{statement_is, receivers_can, rest_can}
-use Rattle.cob_calc.proofs.arithmetic.arithmetic.Goals as goal
+use Rattle.cob_calc.proofs.arithmetic.compute.Goals as goal
 
 pub receive-requires-clause-receivers : goal.receive-requires-clause-receivers
 receive-requires-clause-receivers c =
