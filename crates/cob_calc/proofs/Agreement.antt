@@ -1,17 +1,13 @@
 -- What a sum is worth rests on its items alone.
-use Rattle.std.proofs.Common.{◌≡◌, ℕ, ◌==◌, ◌&&◌, Bool, true, false, List, [], ◌∷◌, ◌++◌, Option, Some, None, if◌then◌else◌, ℤ, pos, refl, sym, ap, subst, ◌∙◌}
+use Rattle.std.proofs.Common.{◌≡◌, ℕ, ◌==◌, Bool, true, false, List, [], ◌∷◌, ◌++◌, Option, Some, None, if◌then◌else◌, ℤ, pos, refl, sym, ap, subst, ◌∙◌}
 use Rattle.std.specs.Prelude.{unsigned_abs, IfSome, is_some, unwrap_or}
 use Rattle.std.specs.Option.{option_map}
-use Rattle.std.specs.List.{list_all}
 use Rattle.dec_num.specs.declared.types.Scaled.{Scaled}
-use Rattle.cob_program.specs.Sum.{Sum, MkSum, Parts, no_parts, more_parts, Part, MkPart, Factors, no_factors, more_factors, Factor, MkFactor, Atom, item, number, group}
-use Rattle.cob_program.specs.Values.{whole_number, negated, plus, literal, with_factor, ◌>>=◌, sum_value, sum_from, part_value, product_from, atom_value, Root, behind_factor, root_in, root_of, exact_quotient, stored_from, stored_value, product}
-use Rattle.cob_program.specs.declared.act.How.{How}
-use Rattle.cob_program.specs.declared.act.How.TheVariants as how
+use Rattle.cob_program.specs.Sum.{Sum, MkSum, Parts, no_parts, more_parts, MkPart, Factors, no_factors, more_factors, MkFactor, Atom, item, number, group}
+use Rattle.cob_program.specs.Values.{whole_number, negated, plus, with_factor, ◌>>=◌, sum_value, sum_from, part_value, product_from, atom_value, Root, behind_factor, root_in, root_of, exact_quotient, stored_from, stored_value, product}
 use Rattle.cob_program.proofs.Steps.{both}
 use Rattle.cob_tree.specs.declared.form.Form.{Form}
 use Rattle.cob_tree.specs.declared.form.Form.TheVariants as form
-use Rattle.cob_data.specs.declared.layout.Layout.{Layout}
 use Rattle.num_bytes.specs.Reading.{contents_value}
 use Rattle.cob_runs.specs.Contents.{form_at, bytes_at, scaled_by, number_in, number_at}
 use Rattle.cob_runs.specs.Computing.{items_in, items_in_parts, items_in_factors, items_in_atom, are_numeric, worth, cut_quotient, remainder_of}

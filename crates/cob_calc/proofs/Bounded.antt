@@ -1,6 +1,6 @@
 -- No item is worth more than its picture says.
-use Rattle.std.proofs.Common.{◌≡◌, ℕ, ◌+◌, ◌-◌, ◌*◌, ◌^◌, ◌<◌, ◌≤◌, ◌&&◌, ℤ, pos, true, List, length, drop, Option, Some, None, refl, subst, arith}
-use Rattle.std.specs.Prelude.{unsigned_abs, unwrap_or, nat_le, IfSome, IsTrue, slice_get}
+use Rattle.std.proofs.Common.{◌≡◌, ℕ, ◌+◌, ◌-◌, ◌^◌, ◌≤◌, ℤ, pos, true, List, length, drop, Option, Some, None, refl, subst, arith}
+use Rattle.std.specs.Prelude.{unwrap_or, nat_le, IsTrue, slice_get}
 use Rattle.std.proofs.lemmas.Bool.Decides.{nat_tests}
 use Rattle.std.proofs.lemmas.Option.{slice_get_within, get_or_from_slice_get}
 use Rattle.std.proofs.lemmas.List.{length-take-le, length-drop}
@@ -10,8 +10,8 @@ use Rattle.cob_tree.specs.declared.form.Form.TheVariants as form
 use Rattle.cob_data.specs.declared.layout.Item.{Item}
 use Rattle.cob_data.specs.declared.layout.Layout.{Layout}
 use Rattle.num_bytes.specs.Reading.{contents_value}
-use Rattle.cob_program.specs.Bounds.{Bound, of_digits, form_bound, is_small, IsWithin}
-use Rattle.cob_runs.specs.Contents.{area, form_at, bytes_at, scaled_by}
+use Rattle.cob_program.specs.Bounds.{of_digits, form_bound, is_small, IsWithin}
+use Rattle.cob_runs.specs.Contents.{area, form_at, scaled_by}
 use Rattle.cob_runs.specs.Moves.{takes_number}
 use Rattle.cob_items.specs.Sound.{IsSoundForm, IsSoundItem, HasSoundItems}
 use Rattle.cob_items.proofs.ReadBound.{read_within}

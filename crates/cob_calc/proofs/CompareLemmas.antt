@@ -1,11 +1,10 @@
 -- Comparisons of sums.
-use Rattle.std.proofs.Common.{◌≡◌, ℕ, ◌-◌, ◌*◌, ◌^◌, ◌<◌, ◌≤◌, ◌&&◌, max, Bool, true, false, Option, Some, None, Ok, Err, if◌then◌else◌, refl, sym, ap, subst, ◌∙◌, arith}
-use Rattle.std.specs.Prelude.{unsigned_abs, nat_le, Result}
+use Rattle.std.proofs.Common.{◌≡◌, ℕ, ◌-◌, ◌*◌, ◌^◌, ◌<◌, ◌≤◌, ◌&&◌, true, Some, Err, if◌then◌else◌, refl, sym, ap, subst, ◌∙◌, arith}
+use Rattle.std.specs.Prelude.{unsigned_abs, nat_le}
 use Rattle.std.proofs.lemmas.Bool.Decides.{nat_tests}
 use Rattle.dec_num.specs.declared.types.Scaled.{Scaled}
 use Rattle.dec_num.specs.Scaled.{units_at, joint_scale}
 use Rattle.dec_num.proofs.Bounds.{size_of_units_at}
-use Rattle.cob_tree.specs.declared.fault.Kind.{Kind}
 use Rattle.cob_tree.specs.declared.fault.Kind.TheVariants as kind
 use Rattle.cob_tree.specs.declared.token.Rel.{Rel}
 use Rattle.cob_program.specs.Sum.{Sum}
@@ -13,7 +12,7 @@ use Rattle.cob_program.specs.Values.{sum_value}
 use Rattle.cob_program.specs.Bounds.{Bound, joint, at_scale, is_small, sum_most, is_small_sum, is_small_sides, IsWithin}
 use Rattle.cob_program.proofs.Steps.{both}
 use Rattle.cob_runs.specs.Computing.{items_in, are_numeric, worth}
-use Rattle.cob_runs.specs.Deciding.{holds, number_order, decided, compared_numbers}
+use Rattle.cob_runs.specs.Deciding.{decided, compared_numbers}
 use Rattle.cob_calc.specs.Contents.{Contents, IsSound, amount_at, bound_at}
 use Rattle.cob_calc.specs.Arithmetic.{are_numbers}
 use Rattle.cob_calc.specs.Comparing.{CanCompare}

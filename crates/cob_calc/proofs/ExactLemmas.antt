@@ -1,20 +1,20 @@
 -- Exact values at a receiver's scale.
-use Rattle.std.proofs.Common.{◌≡◌, ℕ, ◌+◌, ◌-◌, ◌*◌, ◌^◌, ◌<◌, ◌≤◌, zero, suc, nat_lt, ℤ, pos, negsuc, neg_ℤ, Bool, true, false, if◌then◌else◌, Option, Some, None, inl, inr, refl, sym, ap, subst, ◌∙◌, arith}
-use Rattle.std.specs.Prelude.{unsigned_abs, ◌-ℤ◌, ◌*ℤ◌, ◌≢◌, ◌<ℤ◌, ◌≤ℤ◌}
+use Rattle.std.proofs.Common.{◌≡◌, ℕ, ◌+◌, ◌-◌, ◌*◌, ◌^◌, ◌<◌, ◌≤◌, suc, nat_lt, ℤ, pos, negsuc, neg_ℤ, true, false, Option, Some, None, inl, inr, refl, sym, ap, subst, ◌∙◌, arith}
+use Rattle.std.specs.Prelude.{unsigned_abs, ◌-ℤ◌, ◌*ℤ◌, ◌≢◌}
 use Rattle.std.proofs.lemmas.Int.{ints, unsigned_abs-mul}
-use Rattle.std.proofs.lemmas.Bool.{cases_lt, lt-ltb, le-leb}
+use Rattle.std.proofs.lemmas.Bool.{cases_lt, lt-ltb}
 use Rattle.std.proofs.lemmas.Bool.Decides.{nat_tests}
 use Rattle.std.proofs.Math.IntN.{negsuc-*ℤ-pos}
 use Rattle.std.proofs.lemmas.Nat.{mul-le}
 use Rattle.dec_num.specs.declared.types.Mode.{Mode}
 use Rattle.dec_num.specs.declared.types.Scaled.{Scaled}
-use Rattle.dec_num.specs.Exact.{Fraction, rounded, with_sign_of, near, near_size, ratio_of}
+use Rattle.dec_num.specs.Exact.{with_sign_of, near, near_size, ratio_of}
 use Rattle.dec_num.proofs.Powers.{ten_positive, ten_monotone, ten-add, ten_split}
 use Rattle.dec_num.proofs.Signed.{neg_ℤ_times}
 use Rattle.dec_num.proofs.Near.{rounded_common}
 use Rattle.cob_program.specs.Values.{exact_quotient}
 use Rattle.cob_calc.proofs.NumberLemmas.{not_zero}
-use Rattle.cob_calc.specs.Exact.{quotient_if, held, units_held, fraction_of, IsSmallExact, IsSmallQuotient}
+use Rattle.cob_calc.specs.Exact.{quotient_if, held, units_held, fraction_of}
 use Rattle.cob_calc.specs.declared.exact.Exact.TheVariants as exact
 
 -- ---- units that digits hold
@@ -67,7 +67,7 @@ size_shift mode t b k i j up e =
       | inr high ↦
           let up_is : up ≡ pos (k + i - j) = omega (arith, ints, e, high) in
           let size : unsigned_abs (t *ℤ pos (10 ^ i)) * 10 ^ k ≡ unsigned_abs t * 10 ^ (k + i - j) * 10 ^ j =
-              omega (arith, ap (λ x. x * 10 ^ k) (unsigned_abs-mul t (pos (10 ^ i))), ap (λ x. unsigned_abs t * x) (ten-add k i), ap (λ x. unsigned_abs t * x) (ten_split j (k + i) high)) in
+          omega (arith, ap (λ x. x * 10 ^ k) (unsigned_abs-mul t (pos (10 ^ i))), ap (λ x. unsigned_abs t * x) (ten-add k i), ap (λ x. unsigned_abs t * x) (ten_split j (k + i) high)) in
           rw (up_is, size) (rounded_common mode (unsigned_abs t * 10 ^ (k + i - j)) b (10 ^ j) (ten_positive j))
     ]
 

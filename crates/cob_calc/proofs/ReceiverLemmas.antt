@@ -1,8 +1,7 @@
 -- What receivers get.
-use Rattle.std.proofs.Common.{◌≡◌, ℕ, ◌^◌, ◌<◌, ◌||◌, Bool, true, false, List, [], ◌∷◌, if◌then◌else◌, Option, Some, None, Ok, Err, ℤ, pos, refl, sym, ap, subst, ◌∙◌, arith}
+use Rattle.std.proofs.Common.{◌≡◌, ℕ, ◌^◌, Bool, true, false, List, if◌then◌else◌, Option, Some, None, Ok, Err, ℤ, pos, refl, sym, ap, subst, ◌∙◌, arith}
 use Rattle.std.specs.Prelude.{unsigned_abs, nat_lt, is_some, Result, IfSome}
 use Rattle.dec_num.specs.declared.types.Mode.{Mode}
-use Rattle.dec_num.specs.declared.types.Scaled.{Scaled}
 use Rattle.dec_num.specs.Exact.{Fraction, near}
 use Rattle.cob_tree.specs.declared.fault.Kind.{Kind}
 use Rattle.cob_tree.specs.declared.fault.Kind.TheVariants as kind
@@ -11,9 +10,9 @@ use Rattle.cob_data.specs.declared.layout.Layout.{Layout}
 use Rattle.cob_program.specs.declared.act.Target.{Target}
 use Rattle.cob_program.specs.declared.act.How.{How}
 use Rattle.cob_program.specs.declared.act.How.TheVariants as how
-use Rattle.cob_runs.specs.Contents.{form_at, digits_of, scale_of, number_at, scaled_by, bytes_of, if_held, stored, filled_at}
+use Rattle.cob_runs.specs.Contents.{digits_of, scale_of, number_at, scaled_by, bytes_of, if_held, stored, filled_at}
 use Rattle.cob_runs.specs.Faults.{or_fault}
-use Rattle.cob_runs.specs.Computing.{Receiving, receiving, received, own_worth, stored_result}
+use Rattle.cob_runs.specs.Computing.{receiving, received, own_worth}
 use Rattle.cob_items.specs.Storing.{filled_if}
 use Rattle.cob_calc.specs.declared.worked.Worked.{Worked}
 use Rattle.cob_calc.specs.Exact.{held, units_held, IsSmallExact}

@@ -1,27 +1,26 @@
 -- Results and remainders of a statement that keeps the rule of bounds are small.
-use Rattle.std.proofs.Common.{◌≡◌, ℕ, ◌+◌, ◌-◌, ◌*◌, ◌/◌, ◌^◌, ◌<◌, ◌≤◌, ◌==◌, ◌&&◌, not, suc, ℤ, pos, negsuc, Bool, true, false, if◌then◌else◌, Option, Some, None, inl, inr, refl, sym, ap, subst, ◌∙◌, arith}
+use Rattle.std.proofs.Common.{◌≡◌, ℕ, ◌+◌, ◌-◌, ◌*◌, ◌/◌, ◌^◌, ◌<◌, ◌≤◌, ◌==◌, ◌&&◌, not, suc, ℤ, pos, negsuc, Bool, true, false, if◌then◌else◌, Option, Some, None, refl, sym, subst, arith}
 use Rattle.std.specs.Prelude.{unsigned_abs, ◌-ℤ◌, ◌≢◌, nat_le, IfSome}
 use Rattle.std.proofs.lemmas.Int.{ints}
 use Rattle.std.proofs.lemmas.Nat.{mul-le, le-div}
-use Rattle.std.proofs.lemmas.Bool.{cases_lt}
 use Rattle.std.proofs.lemmas.Bool.Decides.{nat_tests}
 use Rattle.std.proofs.Math.Nat.{div-mul-le_self, div-div-eq-div-mul, div-le_self}
 use Rattle.dec_num.specs.declared.types.Mode.TheVariants.{Trunc}
 use Rattle.dec_num.specs.declared.types.Scaled.{Scaled}
 use Rattle.dec_num.specs.Exact.{ratio_of, near}
 use Rattle.dec_num.proofs.Near.{size_of_near, rounded_below}
-use Rattle.dec_num.proofs.Powers.{ten_positive, ten_monotone}
+use Rattle.dec_num.proofs.Powers.{ten_positive}
 use Rattle.cob_program.specs.declared.act.How.{How}
 use Rattle.cob_program.specs.declared.act.How.TheVariants as how
 use Rattle.cob_program.specs.Sum.{Sum}
 use Rattle.cob_program.specs.Values.{whole_number, negated, plus, product, ◌>>=◌, sum_value, product_from, atom_value, Root}
-use Rattle.cob_program.specs.Bounds.{Bound, of_digits, exactly, sum_bound, product_bound, is_small, sum_most, product_most_from, atom_most, is_small_sum, is_small_stored, IsWithin, IsSmall}
+use Rattle.cob_program.specs.Bounds.{Bound, exactly, sum_bound, product_bound, is_small, sum_most, product_most_from, atom_most, is_small_sum, IsWithin, IsSmall}
 use Rattle.cob_program.proofs.Steps.{both, if_some, negated_within, whole_within, plus_within, product_within, small_of}
 use Rattle.cob_calc.specs.declared.exact.Exact.{Exact}
 use Rattle.cob_calc.specs.declared.exact.Exact.TheVariants as exact
 use Rattle.cob_calc.specs.declared.worked.Worked.{Worked}
 use Rattle.cob_calc.specs.Contents.{Contents, IsBounded, amount_at, bound_at}
-use Rattle.cob_calc.specs.Exact.{fraction_of, quotient_if, exact_root, exact_from, IsSmallQuotient, IsSmallExact}
+use Rattle.cob_calc.specs.Exact.{fraction_of, quotient_if, exact_from, IsSmallQuotient, IsSmallExact}
 use Rattle.cob_calc.specs.Receiving.{is_whole, IsSmallSum, AreSmall, CanWork, cut_at, rest_at, IsSmallRest, HasSmallRest}
 use Rattle.cob_calc.specs.Arithmetic.{quotient_at, is_small_rest_at, is_small_rest, is_small_result}
 use Rattle.cob_calc.proofs.Within as within
@@ -48,17 +47,19 @@ module _ (c : Contents) (s : Sum) (held : IsBounded c) where
       let m = both (is_small_sum (bound_at c.layout) s) (is_small (sum_bound (bound_at c.layout place) (sum_most (bound_at c.layout) s))) e in
       let P : Scaled → Type 0 = λ (v : Scaled). IsSmallSum own (negated true v) × IsSmall v in
       subst (λ o. IfSome o P) (sym (value refl)) (if_some P (sum_value (amount_at c) s) (λ v ev.
-          let n = negated_within true v (sum_most (bound_at c.layout) s) (sum_most_within v ev) in
-          (record {
-            left = small_of own (bound_at c.layout place) k small;
-            right = small_of (negated true v) (sum_most (bound_at c.layout) s) n (small_sum_bound (bound_at c.layout) s m.0);
-            sum = small_of (plus own (negated true v)) _ (plus_within own (negated true v) (bound_at c.layout place) (sum_most (bound_at c.layout) s) k n) m.1;
-          }, small_of v (sum_most (bound_at c.layout) s) (sum_most_within v ev) (small_sum_bound (bound_at c.layout) s m.0))))
+      let n = negated_within true v (sum_most (bound_at c.layout) s) (sum_most_within v ev) in (
+        record {
+          left = small_of own (bound_at c.layout place) k small;
+          right = small_of (negated true v) (sum_most (bound_at c.layout) s) n (small_sum_bound (bound_at c.layout) s m.0);
+          sum = small_of (plus own (negated true v)) _ (plus_within own (negated true v) (bound_at c.layout place) (sum_most (bound_at c.layout) s) k n) m.1;
+        },
+        small_of v (sum_most (bound_at c.layout) s) (sum_most_within v ev) (small_sum_bound (bound_at c.layout) s m.0),
+      )))
   can_work w place how.Times own whole value e small k =
       let m = both (is_small_sum (bound_at c.layout) s) (is_small (product_bound (bound_at c.layout place) (sum_most (bound_at c.layout) s))) e in
       let P : Scaled → Type 0 = λ (v : Scaled). IsSmall (product own v) in
       subst (λ o. IfSome o P) (sym (value refl)) (if_some P (sum_value (amount_at c) s) (λ v ev.
-          small_of (product own v) _ (product_within own v (bound_at c.layout place) (sum_most (bound_at c.layout) s) k (sum_most_within v ev)) m.1))
+      small_of (product own v) _ (product_within own v (bound_at c.layout place) (sum_most (bound_at c.layout) s) k (sum_most_within v ev)) m.1))
   can_work w place how.Under own whole value e small k =
       subst (λ o. IfSome o (AreSmall own)) (sym (value refl)) (if_some (AreSmall own) (sum_value (amount_at c) s) (λ v ev. record {
         left = small_of own (bound_at c.layout place) k small;
@@ -111,16 +112,16 @@ cut_within : (scale : ℕ) (n d : Scaled) (a b : Bound) → IsWithin n a → IsW
 cut_within scale n d a b h k some =
     if_more (nat_le a.scale (scale + b.scale)) (a.most * 10 ^ (scale + b.scale - a.scale)) (a.most / 10 ^ (a.scale - (scale + b.scale))) (unsigned_abs (near Trunc (fraction_of (exact.Quotient n d)) (pos scale)))
     (λ e.
-        let up_is : pos (scale + b.scale - a.scale) ≡ pos (scale + d.scale) -ℤ pos n.scale = omega (arith, ints, h.scale, k.scale, at_most a.scale (scale + b.scale) e) in
-        subst (λ z. unsigned_abs z ≤ a.most * 10 ^ (scale + b.scale - a.scale)) (sym (near_shift Trunc n.units d.units scale d.scale n.scale (pos (scale + b.scale - a.scale)) up_is))
-        (cut_up n.units d.units (scale + b.scale - a.scale) a.most (some_size d.units some) h.most))
+    let up_is : pos (scale + b.scale - a.scale) ≡ pos (scale + d.scale) -ℤ pos n.scale = omega (arith, ints, h.scale, k.scale, at_most a.scale (scale + b.scale) e) in
+    subst (λ z. unsigned_abs z ≤ a.most * 10 ^ (scale + b.scale - a.scale)) (sym (near_shift Trunc n.units d.units scale d.scale n.scale (pos (scale + b.scale - a.scale)) up_is))
+    (cut_up n.units d.units (scale + b.scale - a.scale) a.most (some_size d.units some) h.most))
     (λ e.
-        let far = above a.scale (scale + b.scale) e in
-        let up_is : negsuc (a.scale - (scale + b.scale) - 1) ≡ pos (scale + d.scale) -ℤ pos n.scale = omega (arith, ints, h.scale, k.scale, far) in
-        let more : suc (a.scale - (scale + b.scale) - 1) ≡ a.scale - (scale + b.scale) = omega (arith, far) in
-        subst (λ z. unsigned_abs z ≤ a.most / 10 ^ (a.scale - (scale + b.scale))) (sym (near_shift Trunc n.units d.units scale d.scale n.scale (negsuc (a.scale - (scale + b.scale) - 1)) up_is))
-        (subst (λ m. unsigned_abs (near Trunc (ratio_of n.units d.units) (negsuc (a.scale - (scale + b.scale) - 1))) ≤ a.most / 10 ^ m) more
-        (cut_down n.units d.units (a.scale - (scale + b.scale) - 1) a.most (some_size d.units some) h.most)))
+    let far = above a.scale (scale + b.scale) e in
+    let up_is : negsuc (a.scale - (scale + b.scale) - 1) ≡ pos (scale + d.scale) -ℤ pos n.scale = omega (arith, ints, h.scale, k.scale, far) in
+    let more : suc (a.scale - (scale + b.scale) - 1) ≡ a.scale - (scale + b.scale) = omega (arith, far) in
+    subst (λ z. unsigned_abs z ≤ a.most / 10 ^ (a.scale - (scale + b.scale))) (sym (near_shift Trunc n.units d.units scale d.scale n.scale (negsuc (a.scale - (scale + b.scale) - 1)) up_is))
+    (subst (λ m. unsigned_abs (near Trunc (ratio_of n.units d.units) (negsuc (a.scale - (scale + b.scale) - 1))) ≤ a.most / 10 ^ m) more
+    (cut_down n.units d.units (a.scale - (scale + b.scale) - 1) a.most (some_size d.units some) h.most)))
 
 small_rest : (scale : ℕ) (n d : Scaled) (a b : Bound) → IsSmallQuotient n d → scale ≤ 18 → IsWithin n a → IsWithin d b → is_small_rest_at a b (quotient_at a b scale) ≡ true → IsSmallRest scale n d
 small_rest scale n d a b parts point h k e =

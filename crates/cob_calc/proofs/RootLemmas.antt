@@ -3,7 +3,7 @@ use Rattle.std.proofs.Common.{◌≡◌, subst, ℕ, Bool, true, false, List, []
 use Rattle.cob_program.specs.declared.sum.Part as declared_part
 use Rattle.cob_program.specs.declared.sum.Factor as declared_factor
 use Rattle.cob_program.specs.declared.sum.Factor.{out-Factor}
-use Rattle.cob_program.specs.Sum.{MkSum, no_parts, more_parts, Parts, parts_of, Part, MkPart, Factors, no_factors, more_factors, factors_of, Factor, MkFactor, Atom}
+use Rattle.cob_program.specs.Sum.{MkSum, more_parts, Parts, parts_of, Part, MkPart, Factors, no_factors, more_factors, factors_of, Factor, MkFactor, Atom}
 use Rattle.cob_program.specs.SumView.{plain_part, plain_factor, plain_atom}
 use Rattle.cob_program.specs.Values.{Root, behind_factor, root_in, root_of}
 use Rattle.cob_calc.specs.Exact.{root_with, is_small_quotient}

@@ -1,5 +1,5 @@
 -- Numbers of at most 18 digits.
-use Rattle.std.proofs.Common.{◌≡◌, ℕ, ◌-◌, ◌*◌, ◌^◌, ◌<◌, ◌≤◌, max, ℤ, pos, true, length, refl, arith}
+use Rattle.std.proofs.Common.{◌≡◌, ℕ, ◌-◌, ◌^◌, ◌<◌, ◌≤◌, true, length, arith}
 use Rattle.std.specs.Prelude.{unsigned_abs}
 use Rattle.std.proofs.lemmas.Nat.{mul-le}
 use Rattle.dec_num.specs.declared.types.Scaled.{Scaled}
@@ -9,7 +9,7 @@ use Rattle.dec_num.proofs.Powers.{ten_monotone, ten_positive}
 use Rattle.cob_tree.specs.declared.form.Form.{Form}
 use Rattle.cob_tree.specs.declared.form.Form.TheVariants as form
 use Rattle.cob_tree.specs.declared.token.Num.{Num}
-use Rattle.cob_program.specs.Bounds.{Bound, of_digits, form_bound, literal_bound, IsWithin}
+use Rattle.cob_program.specs.Bounds.{of_digits, form_bound, literal_bound, IsWithin}
 use Rattle.cob_items.specs.Sound.{IsSoundForm, IsSoundLiteral}
 use Rattle.cob_calc.specs.Arithmetic.{is_number_form}
 use Rattle.cob_calc.specs.Comparing.{IsShortNumber, CanCompare}

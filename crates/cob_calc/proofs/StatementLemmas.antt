@@ -1,11 +1,9 @@
 -- A whole arithmetic statement.
 use Rattle.std.proofs.Common.{◌≡◌, ℕ, ◌≤◌, ◌||◌, ◌&&◌, not, Bool, true, false, List, [], ◌∷◌, Option, Some, None, Ok, Err, if◌then◌else◌, pos, refl, sym, ap, subst, ◌∙◌, arith}
-use Rattle.std.specs.Prelude.{is_some, Result, IfSome, IsTrue, slice_get}
+use Rattle.std.specs.Prelude.{is_some, Result, IfSome, slice_get}
 use Rattle.std.specs.Option.{option_map}
-use Rattle.std.specs.List.{list_any}
 use Rattle.dec_num.specs.declared.types.Mode.TheVariants.{Trunc}
 use Rattle.dec_num.specs.declared.types.Scaled.{Scaled}
-use Rattle.dec_num.specs.Exact.{Fraction}
 use Rattle.dec_num.specs.Scaled.{value_of}
 use Rattle.cob_tree.specs.declared.fault.Kind.{Kind}
 use Rattle.cob_tree.specs.declared.fault.Kind.TheVariants as kind
@@ -23,14 +21,13 @@ use Rattle.cob_program.proofs.Steps.{both}
 use Rattle.cob_runs.specs.Contents.{form_at, scale_of}
 use Rattle.cob_runs.specs.Faults as fault
 use Rattle.cob_runs.specs.Moves.{takes_number}
-use Rattle.cob_runs.specs.Computing.{Receiving, receiving, received, own_worth, stored_result, result, worth, are_numeric, items_in, has_zero_divisor, receive, receive_all, remainder_received, after_divisors, after_arithmetic}
+use Rattle.cob_runs.specs.Computing.{Receiving, receiving, received, own_worth, stored_result, result, worth, items_in, has_zero_divisor, receive, receive_all, remainder_received, after_divisors, after_arithmetic}
 use Rattle.cob_items.specs.Sound.{HasSoundItems, IsSoundForm}
-use Rattle.cob_calc.specs.declared.exact.Exact.{Exact}
 use Rattle.cob_calc.specs.declared.worked.Worked.{Worked}
-use Rattle.cob_calc.specs.Contents.{Contents, contents, IsSound, amount_at, bound_at}
+use Rattle.cob_calc.specs.Contents.{Contents, IsSound, amount_at, bound_at}
 use Rattle.cob_calc.specs.Exact.{fraction_of, exact_value, IsSmallExact}
-use Rattle.cob_calc.specs.Receiving.{result_of, is_whole, some_whole, some_part, HasRoomFor, HasSmallRest, rest_value, IsReceived, receive_by, receive_all_by, CanReceive, CanReceiveAll, remainder_by, lacks_result, zero_received, receive_unless, CanGiveRest, IsWorked}
-use Rattle.cob_calc.specs.Arithmetic.{is_small_result, are_small_results, is_small_rest, are_small_rests, take_numbers, is_sound_remainder, are_numbers, CanCompute}
+use Rattle.cob_calc.specs.Receiving.{result_of, is_whole, some_whole, some_part, HasSmallRest, rest_value, receive_by, receive_all_by, CanReceiveAll, remainder_by, lacks_result, receive_unless, CanGiveRest, IsWorked}
+use Rattle.cob_calc.specs.Arithmetic.{is_small_result, are_small_results, is_small_rest, are_small_rests, take_numbers, CanCompute}
 use Rattle.cob_calc.proofs.Agreement.{Agree, amounts_agree, same_sum, same_exact, exact_is_stored, rest_is_remainder}
 use Rattle.cob_calc.proofs.Bounded.{bounded, sound_item, receiver_is_small}
 use Rattle.cob_calc.proofs.RoomLemmas.{can_work, has_small_rest}
@@ -53,10 +50,13 @@ module _ (f : ℕ → Scaled) (s : Sum) (w : Worked) where
 
   pub serves_all : (ts : List Target) → (some_whole ts ≡ true → w.whole ≡ exact_value f s) → (some_part ts ≡ true → w.value ≡ sum_value f s) → ServesAll ts
   serves_all [] h k = tt
-  serves_all (t ∷ ts) h k = (record {
-    whole = λ e. h (rw e refl);
-    value = λ e. k (rw e refl);
-  }, serves_all ts (λ e. h (rw (e, or_true (is_whole t.how)) refl)) (λ e. k (rw (e, or_true (not (is_whole t.how))) refl)))
+  serves_all (t ∷ ts) h k = (
+    record {
+      whole = λ e. h (rw e refl);
+      value = λ e. k (rw e refl);
+    },
+    serves_all ts (λ e. h (rw (e, or_true (is_whole t.how)) refl)) (λ e. k (rw (e, or_true (not (is_whole t.how))) refl)),
+  )
     where
       or_true : (b : Bool) → (b || true) ≡ true
       or_true true = refl
@@ -156,11 +156,13 @@ module _ (c : Contents) (s : Sum) (w : Worked) (sound : IsSound c) (small : IfSo
   can_receive_all [] e n h = tt
   can_receive_all (t ∷ ts) e n h =
       let results = both (is_small_result (bound_at c.layout) s t.item t.how) (are_small_results (bound_at c.layout) s ts) e in
-      let takes = both (takes_number (form_at c.layout t.item)) (take_numbers c.layout ts) n in
-      (record {
-        takes = takes.0;
-        room = λ own k. can_work c s (bounded c sound) w t.item t.how own (λ _. small) h.0.value results.0 (receiver_is_small c.layout t.item sound.items takes.0) k;
-      }, can_receive_all ts results.1 takes.1 h.1)
+      let takes = both (takes_number (form_at c.layout t.item)) (take_numbers c.layout ts) n in (
+        record {
+          takes = takes.0;
+          room = λ own k. can_work c s (bounded c sound) w t.item t.how own (λ _. small) h.0.value results.0 (receiver_is_small c.layout t.item sound.items takes.0) k;
+        },
+        can_receive_all ts results.1 takes.1 h.1,
+      )
 
 pub receivers_can : (c : Contents) (s : Sum) (ts : List Target) (remainder : Option ℕ) (w : Worked) → IsSound c → CanCompute c.layout s ts remainder → IsWorked c s ts remainder w → CanReceiveAll c.layout w ts
 receivers_can c s ts remainder w sound can has =
@@ -175,7 +177,9 @@ rest_can c s (t ∷ []) (Some place) w sound can has =
     let m = both (is_small_stored (bound_at c.layout) s) rests l.1 in
     let scale = scale_of (form_at c.layout t.item) in
     let n = both (is_small_rest (bound_at c.layout) scale (root_of s)) true m.1 in
-    let whole = has.whole refl in
-    (l.0, subst (HasSmallRest scale) (sym whole)
-    (has_small_rest c s (bounded c sound) scale (few_decimals c.layout t.item sound.items) (root_of s) n.0 (subst (λ o. IfSome o IsSmallExact) whole has.small)))
+    let whole = has.whole refl in (
+      l.0,
+      subst (HasSmallRest scale) (sym whole)
+          (has_small_rest c s (bounded c sound) scale (few_decimals c.layout t.item sound.items) (root_of s) n.0 (subst (λ o. IfSome o IsSmallExact) whole has.small)),
+    )
 rest_can c s (t ∷ u ∷ ts) remainder w sound can has = tt

@@ -1,6 +1,6 @@
 -- What a sum is worth, one step of the work after the other.
-use Rattle.std.proofs.Common.{◌≡◌, ℕ, ◌+◌, ◌-◌, ◌*◌, ◌^◌, ◌≤◌, ◌<◌, ◌&&◌, ◌==◌, zero, ℤ, pos, inl, inr, Bool, true, false, max, Option, Some, None, refl, sym, ap, subst, ◌∙◌, arith}
-use Rattle.std.specs.Prelude.{unsigned_abs, nat_le, ◌≢◌, IfSome, if◌then◌else◌}
+use Rattle.std.proofs.Common.{◌≡◌, ℕ, ◌+◌, ◌-◌, ◌*◌, ◌^◌, ◌≤◌, ◌<◌, ◌&&◌, ◌==◌, ℤ, pos, inl, inr, Bool, true, false, Option, Some, None, refl, sym, ap, subst, ◌∙◌, arith}
+use Rattle.std.specs.Prelude.{unsigned_abs, nat_le, ◌≢◌}
 use Rattle.std.proofs.lemmas.Int.{ints}
 use Rattle.std.proofs.lemmas.Nat.{mul-le}
 use Rattle.std.proofs.lemmas.Bool.{cases_lt}
@@ -11,9 +11,9 @@ use Rattle.dec_num.specs.Exact.{ratio_of, near}
 use Rattle.dec_num.proofs.Powers.{ten_monotone}
 use Rattle.dec_num.specs.declared.types.Scaled.{Scaled}
 use Rattle.cob_program.specs.Sum.{Sum, MkSum, Parts, no_parts, more_parts, Part, MkPart, Factors, no_factors, more_factors, Factor, MkFactor, Atom, item, number, group}
-use Rattle.cob_program.specs.Values.{whole_number, negated, plus, product, quotient_scale, quotient, literal, with_factor, ◌>>=◌, sum_value, sum_from, part_value, product_from, atom_value}
-use Rattle.cob_program.specs.Bounds.{Bound, exactly, literal_bound, sum_bound, product_bound, quotient_bound, factor_bound, is_small, sum_most, sum_most_from, part_most, product_most_from, atom_most, is_small_sum, is_small_sum_from, is_small_part, is_small_product, is_small_atom, IsWithin, IsSmall}
-use Rattle.cob_program.proofs.Steps.{some_bound, some_same, both, negated_within, literal_within, whole_within, plus_within, factor_within, small_of}
+use Rattle.cob_program.specs.Values.{whole_number, negated, plus, product, quotient_scale, quotient, with_factor, ◌>>=◌, sum_from, part_value, product_from, atom_value}
+use Rattle.cob_program.specs.Bounds.{Bound, exactly, sum_bound, product_bound, quotient_bound, factor_bound, is_small, sum_most, sum_most_from, part_most, product_most_from, atom_most, is_small_sum, is_small_sum_from, is_small_part, is_small_product, is_small_atom, IsWithin, IsSmall}
+use Rattle.cob_program.proofs.Steps.{some_bound, both, negated_within, whole_within, plus_within, factor_within, small_of}
 use Rattle.cob_calc.proofs.Within.{part_within, atom_within}
 use Rattle.cob_calc.specs.Contents.{Contents, IsSound, amount_at, bound_at}
 use Rattle.cob_calc.specs.Working.{CanDivide, CanScale, factor_value, HasRoom, HasRoomInSum}

@@ -1,5 +1,5 @@
 -- Texts of one length, byte for byte.
-use Rattle.std.proofs.Common.{◌≡◌, ℕ, zero, suc, ◌+◌, ◌-◌, ◌*◌, ◌/◌, ◌%◌, ◌^◌, ◌<◌, ◌≤◌, ◌==◌, max, nat_lt, Bool, true, false, List, [], ◌∷◌, ◌++◌, length, get_or, take, drop, replicate, if◌then◌else◌, inl, inr, refl, sym, ap, ◌∙◌, arith}
+use Rattle.std.proofs.Common.{◌≡◌, ℕ, zero, suc, ◌+◌, ◌-◌, ◌<◌, ◌≤◌, ◌==◌, nat_lt, true, false, List, ◌∷◌, ◌++◌, length, get_or, drop, replicate, if◌then◌else◌, inl, inr, refl, sym, ap, ◌∙◌, arith}
 use Rattle.std.proofs.lemmas.Bool.{cases_lt}
 use Rattle.std.proofs.lemmas.Bool.Decides.{nat_tests}
 use Rattle.std.proofs.lemmas.List.{drop_more, drop_all, get_or-take, get_or-replicate, get_or-append_right, get_or_default, length-append, length-replicate, length-take-le}
@@ -8,7 +8,7 @@ use Rattle.dec_num.proofs.Powers.{ten_positive, ten_monotone}
 use Rattle.num_bytes.specs.Digits.{digit_at, last_digits, digit_text}
 use Rattle.num_bytes.proofs.DigitLemmas.{length-digit_text}
 use Rattle.cob_runs.specs.Contents.{fitted}
-use Rattle.cob_runs.specs.Deciding.{Order, below, equal, above, bytes_order, text_order}
+use Rattle.cob_runs.specs.Deciding.{below, equal, above, bytes_order}
 
 pub length-fitted : (n : ℕ) (a : List ℕ) → length (fitted n a) ≡ n
 length-fitted n a = length-take-le n (a ++ replicate n 32) (omega (arith, length-append a (replicate n 32), length-replicate {A = ℕ} n 32))

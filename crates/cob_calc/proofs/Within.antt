@@ -1,5 +1,5 @@
 -- What a part of a sum is worth lies within its bound.
-use Rattle.std.proofs.Common.{◌≡◌, ℕ, pos, Option, Some, None, subst}
+use Rattle.std.proofs.Common.{◌≡◌, ℕ, pos, Some, subst}
 use Rattle.dec_num.specs.declared.types.Scaled.{Scaled}
 use Rattle.cob_program.specs.Sum.{Sum, MkSum, Parts, no_parts, more_parts, Part, MkPart, Factors, no_factors, more_factors, MkFactor, Atom, item, number, group}
 use Rattle.cob_program.specs.Values.{whole_number, negated, plus, literal, with_factor, ◌>>=◌, sum_value, sum_from, part_value, product_from, atom_value}

@@ -1,5 +1,5 @@
 -- Comparisons as the code makes them, and what they need.
-use Rattle.std.specs.Prelude.{◌≡◌, ◌≤◌, ◌<◌, ℕ, ◌^◌, ◌&&◌, Bool, true, false, List, [], ◌∷◌, replicate, Option, Some, None, unsigned_abs}
+use Rattle.std.specs.Prelude.{◌≡◌, ◌≤◌, ◌<◌, ℕ, ◌^◌, true, List, [], ◌∷◌, replicate, Option, Some, unsigned_abs}
 use Rattle.std.specs.declared.cmp.Ordering.{Ordering}
 use Rattle.std.specs.declared.cmp.Ordering.TheVariants.{Less, Equal, Greater}
 use Rattle.dec_num.specs.declared.types.Scaled.{Scaled}

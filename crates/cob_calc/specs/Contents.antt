@@ -1,5 +1,5 @@
 -- Storage with its layout, and what its items are worth in sums.
-use Rattle.std.specs.Prelude.{◌≡◌, ℕ, List, length, Option, Some, None, pos, unwrap_or}
+use Rattle.std.specs.Prelude.{◌≡◌, ℕ, List, length, pos, unwrap_or}
 use Rattle.dec_num.specs.declared.types.Scaled.{Scaled}
 use Rattle.cob_tree.specs.declared.form.Form.{Form}
 use Rattle.cob_tree.specs.declared.form.Form.TheVariants as form

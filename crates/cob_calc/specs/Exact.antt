@@ -1,5 +1,5 @@
 -- Values as they are stored: exact, and then cut or rounded to a receiver's digits.
-use Rattle.std.specs.Prelude.{◌≡◌, ◌≢◌, ℕ, ◌^◌, ◌==◌, nat_lt, if◌then◌else◌, List, map, ℤ, pos, ◌*ℤ◌, unsigned_abs, Option, Some, None, ◌&&◌, Bool, true}
+use Rattle.std.specs.Prelude.{◌≢◌, ℕ, ◌^◌, ◌==◌, nat_lt, if◌then◌else◌, List, map, ℤ, pos, ◌*ℤ◌, unsigned_abs, Option, Some, None, ◌&&◌, Bool}
 use Rattle.std.specs.Borrow.{Bor}
 use Rattle.dec_num.specs.declared.types.Mode.{Mode}
 use Rattle.dec_num.specs.declared.types.Scaled.{Scaled}

@@ -30,7 +30,14 @@ fn scale_at(layout: &Layout, place: u32) -> u32
 }
 
 // Gives the remainder of a quotient that is cut at a scale.
-fn put_remainder(layout: &Layout, phrase: bool, storage: &mut [u8], worked: &Worked, scale: u32, place: u32) -> Result<bool, Kind>
+fn put_remainder(
+    layout: &Layout,
+    phrase: bool,
+    storage: &mut [u8],
+    worked: &Worked,
+    scale: u32,
+    place: u32,
+) -> Result<bool, Kind>
     requires sound { HasSoundItems layout.now }
     requires whole { length storage.old ≡ layout.now.storage }
     requires takes { IsTrue (takes_number (form_at layout.now place)) }
@@ -39,19 +46,41 @@ fn put_remainder(layout: &Layout, phrase: bool, storage: &mut [u8], worked: &Wor
 {
     match worked.remainder(scale) {
         None => put(layout, phrase, storage, place, Mode::Trunc, None),
-        Some(rest) => put(layout, phrase, storage, place, Mode::Trunc, Some(Exact::Number(rest))),
+        Some(rest) => put(
+            layout,
+            phrase,
+            storage,
+            place,
+            Mode::Trunc,
+            Some(Exact::Number(rest)),
+        ),
     }
 }
 
 // The remainder, which is left alone where the quotient doesn't fit.
-fn remainder(layout: &Layout, phrase: bool, storage: &mut [u8], worked: &Worked, failed: bool, targets: &[Target], remainder: Option<u32>) -> Result<bool, Kind>
+fn remainder(
+    layout: &Layout,
+    phrase: bool,
+    storage: &mut [u8],
+    worked: &Worked,
+    failed: bool,
+    targets: &[Target],
+    remainder: Option<u32>,
+) -> Result<bool, Kind>
     requires sound { HasSoundItems layout.now }
     requires whole { length storage.old ≡ layout.now.storage }
     requires can { CanGiveRest layout.now worked.now targets.now remainder }
     ensures { IsReceived result storage.new (remainder_by layout.now phrase worked.now failed targets.now remainder storage.old) }
 {
     match (failed, targets, remainder) {
-        (false, [target], Some(place)) => put_remainder(layout, phrase, storage, worked, scale_at(layout, target.item), place),
+        (false, [target], Some(place)) => put_remainder(
+            layout,
+            phrase,
+            storage,
+            worked,
+            scale_at(layout, target.item),
+            place,
+        ),
         _ => Ok(failed),
     }
 }
@@ -63,7 +92,14 @@ fn zero_divisor(phrase: bool) -> Result<bool, Kind>
 }
 
 // The receivers and the remainder, where no divisor is 0.
-fn receive(layout: &Layout, phrase: bool, storage: &mut [u8], worked: &Worked, targets: &[Target], place: Option<u32>) -> Result<bool, Kind>
+fn receive(
+    layout: &Layout,
+    phrase: bool,
+    storage: &mut [u8],
+    worked: &Worked,
+    targets: &[Target],
+    place: Option<u32>,
+) -> Result<bool, Kind>
     requires sound { HasSoundItems layout.now }
     requires whole { length storage.old ≡ layout.now.storage }
     requires receivers { CanReceiveAll layout.now worked.now targets.now }
@@ -82,7 +118,14 @@ fn receive(layout: &Layout, phrase: bool, storage: &mut [u8], worked: &Worked, t
 /// Does an arithmetic statement: its operands are read first, then divisors count, then each receiver gets its result in
 /// turn, and the last one the remainder. Answers whether there is a size error that the phrase handles. Of storage behind
 /// a fault nothing is said.
-pub fn compute(layout: &Layout, phrase: bool, storage: &mut [u8], common: &Sum, targets: &[Target], remainder: Option<u32>) -> Result<bool, Kind>
+pub fn compute(
+    layout: &Layout,
+    phrase: bool,
+    storage: &mut [u8],
+    common: &Sum,
+    targets: &[Target],
+    remainder: Option<u32>,
+) -> Result<bool, Kind>
     requires sound { HasSoundItems layout.now }
     requires whole { length storage.old ≡ layout.now.storage }
     requires can { CanCompute layout.now (plain_sum common.now) targets.now remainder }

@@ -20,11 +20,7 @@ pub fn negated(minus: bool, a: Scaled) -> Scaled
     requires { IsSmall a }
     ensures { result ≡ negated minus a }
 {
-    if minus {
-        scaled(-a.units, a.scale)
-    } else {
-        a
-    }
+    if minus { scaled(-a.units, a.scale) } else { a }
 }
 
 /// The sum of two numbers.
@@ -109,5 +105,8 @@ pub fn literal(number: &Num) -> Scaled
     ensures value { result ≡ literal number.now }
     ensures small { IsSmall result }
 {
-    negated(number.sign == b'-', scaled(numeral(number.digits.get()), number.scale))
+    negated(
+        number.sign == b'-',
+        scaled(numeral(number.digits.get()), number.scale),
+    )
 }

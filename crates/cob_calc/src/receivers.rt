@@ -59,7 +59,14 @@ fn kept(phrase: bool, held: bool) -> Result<bool, Kind>
 
 /// Gives a receiver its result, if there is one. Answers whether there is a size error that the phrase handles.
 
-pub fn put(layout: &Layout, phrase: bool, storage: &mut [u8], place: u32, mode: Mode, value: Option<Exact>) -> Result<bool, Kind>
+pub fn put(
+    layout: &Layout,
+    phrase: bool,
+    storage: &mut [u8],
+    place: u32,
+    mode: Mode,
+    value: Option<Exact>,
+) -> Result<bool, Kind>
     requires sound { HasSoundItems layout.now }
     requires whole { length storage.old ≡ layout.now.storage }
     requires takes { IsTrue (takes_number (form_at layout.now place)) }
@@ -74,7 +81,13 @@ pub fn put(layout: &Layout, phrase: bool, storage: &mut [u8], place: u32, mode: 
 
 // A receiver that is worth something itself.
 
-fn receive_part(layout: &Layout, phrase: bool, storage: &mut [u8], worked: &Worked, target: Target) -> Result<bool, Kind>
+fn receive_part(
+    layout: &Layout,
+    phrase: bool,
+    storage: &mut [u8],
+    worked: &Worked,
+    target: Target,
+) -> Result<bool, Kind>
     requires sound { HasSoundItems layout.now }
     requires whole { length storage.old ≡ layout.now.storage }
     requires can { CanReceive layout.now worked.now target }
@@ -91,20 +104,41 @@ fn receive_part(layout: &Layout, phrase: bool, storage: &mut [u8], worked: &Work
 }
 
 // A receiver at its turn.
-fn receive(layout: &Layout, phrase: bool, storage: &mut [u8], worked: &Worked, target: Target) -> Result<bool, Kind>
+fn receive(
+    layout: &Layout,
+    phrase: bool,
+    storage: &mut [u8],
+    worked: &Worked,
+    target: Target,
+) -> Result<bool, Kind>
     requires sound { HasSoundItems layout.now }
     requires whole { length storage.old ≡ layout.now.storage }
     requires can { CanReceive layout.now worked.now target }
     ensures { IsReceived result storage.new (receive_by layout.now phrase worked.now storage.old target) }
 {
     match target.how {
-        How::Whole => put(layout, phrase, storage, target.item, target.mode, worked.whole),
-        How::Plus | How::Minus | How::Times | How::Under => receive_part(layout, phrase, storage, worked, target),
+        How::Whole => put(
+            layout,
+            phrase,
+            storage,
+            target.item,
+            target.mode,
+            worked.whole,
+        ),
+        How::Plus | How::Minus | How::Times | How::Under => receive_part(
+            layout, phrase, storage, worked, target,
+        ),
     }
 }
 
 /// Each receiver in turn. Answers whether there is a size error that the phrase handles.
-pub fn receive_all(layout: &Layout, phrase: bool, storage: &mut [u8], worked: &Worked, targets: &[Target]) -> Result<bool, Kind>
+pub fn receive_all(
+    layout: &Layout,
+    phrase: bool,
+    storage: &mut [u8],
+    worked: &Worked,
+    targets: &[Target],
+) -> Result<bool, Kind>
     requires sound { HasSoundItems layout.now }
     requires whole { length storage.old ≡ layout.now.storage }
     requires can { CanReceiveAll layout.now worked.now targets.now }

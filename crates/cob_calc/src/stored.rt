@@ -18,13 +18,7 @@ fn quotient_of(factors: &[Factor]) -> Option<(&[Factor], &Factor)>
 {
     match factors.split_last() {
         None => None,
-        Some((last, above)) => {
-            if last.over {
-                Some((above, last))
-            } else {
-                None
-            }
-        }
+        Some((last, above)) => { if last.over { Some((above, last)) } else { None } }
     }
 }
 

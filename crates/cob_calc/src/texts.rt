@@ -63,13 +63,7 @@ impl<'a> Text<'a> {
                     b' '
                 }
             }
-            Text::Fill { byte, count } => {
-                if place < *count {
-                    *byte
-                } else {
-                    b' '
-                }
-            }
+            Text::Fill { byte, count } => { if place < *count { *byte } else { b' ' } }
         }
     }
 

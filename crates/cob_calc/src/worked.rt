@@ -59,7 +59,12 @@ fn cut(top: Scaled, bottom: Scaled, scale: u32) -> Scaled
     requires { IsSmallRest scale top bottom }
     ensures { result ≡ cut_at scale top bottom }
 {
-    match quot(top.units, bottom.units, decimals(top, bottom, scale), Mode::Trunc) {
+    match quot(
+        top.units,
+        bottom.units,
+        decimals(top, bottom, scale),
+        Mode::Trunc,
+    ) {
         Quot::Is(units) => scaled(units, scale),
         Quot::ZeroDivisor => scaled(0, scale),
         Quot::Over => scaled(0, scale),

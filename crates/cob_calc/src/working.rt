@@ -59,7 +59,12 @@ impl<'a> Contents<'a> {
 
     /// What the receivers of a statement get; nothing where an operand isn't numeric.
     #[tactic(auto, using(crate::proofs::WorkLemmas::rest_is_small))]
-    pub fn operands(&self, common: &Sum, targets: &[Target], remainder: Option<u32>) -> Option<Worked>
+    pub fn operands(
+        &self,
+        common: &Sum,
+        targets: &[Target],
+        remainder: Option<u32>,
+    ) -> Option<Worked>
         requires sound { IsSound self.now }
         requires can { CanCompute self.now.layout (plain_sum common.now) targets.now remainder }
         ensures { AreWorked self.now (plain_sum common.now) targets.now remainder result }

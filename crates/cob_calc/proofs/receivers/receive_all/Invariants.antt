@@ -1,4 +1,4 @@
-use Rattle.std.proofs.Common.{◌≡◌, ◌<◌, false, drop, length}
+use Rattle.std.proofs.Common.{◌≡◌, false, drop}
 use Rattle.cob_runs.specs.Computing.{receiving}
 use Rattle.cob_calc.specs.Receiving.{receive_all_by, CanReceiveAll}
 use Rattle.cob_calc.proofs.receivers.receive_all.Given as goal

@@ -1,13 +1,12 @@
-use Rattle.std.proofs.Common.{◌+◌, ◌∙◌, refl, sym, ap, subst, pos}
+use Rattle.std.proofs.Common.{◌+◌, ◌∙◌, sym, ap, subst}
 use Rattle.cob_program.specs.Sum.{more_factors, no_factors}
-use Rattle.cob_program.specs.Values.{whole_number, plus, product_from, sum_from}
-use Rattle.cob_program.specs.Bounds.{IsSmall}
+use Rattle.cob_program.specs.Values.{plus, product_from, sum_from}
 use Rattle.cob_program.specs.declared.sum.Factor.{out-Factor}
 use Rattle.cob_program.specs.SumView.{plain_factor, plain_part, plain_atom}
 use Rattle.cob_calc.specs.Contents.{amount_at}
 use Rattle.cob_calc.specs.Working.{HasRoom, HasRoomInSum, CanScale}
 use Rattle.cob_calc.proofs.SumLoops.{factors_from, parts_from, factor_is, factors_step, parts_step}
-use Rattle.cob_calc.proofs.SumLemmas.{can_scale, sum_room_at_first, room_at_first, next_has_room, next_has_room_in_sum, sum_room_is_small, product_ends, product_goes_on, sum_ends, sum_goes_on}
+use Rattle.cob_calc.proofs.SumLemmas.{can_scale, sum_room_at_first, room_at_first, next_has_room, next_has_room_in_sum, sum_room_is_small, product_ends, product_goes_on, sum_goes_on}
 use Rattle.cob_calc.proofs.contents.Contents.+sum.Goals as goal
 
 pub factor-with_factor-requires : goal.factor-with_factor-requires
@@ -43,9 +42,9 @@ parts-loop-part-preserved t c =
     let room = subst (HasRoomInSum c.args.self.now l.total) step l.invariant.room in
     record {
       whole = sum_goes_on (amount_at c.args.self.now) l.total c.in-Some.more c.plus-total.result (plain_part x) (parts_from xs (i + 1)) c.in-Some.ensures.value c.plus-total.ensures
-              ∙ sym (ap (sum_from (amount_at c.args.self.now) l.total) step) ∙ l.invariant.whole;
+          ∙ sym (ap (sum_from (amount_at c.args.self.now) l.total) step) ∙ l.invariant.whole;
       room = subst (λ a. HasRoomInSum c.args.self.now a (parts_from xs (i + 1))) (sym c.plus-total.ensures)
-             (next_has_room_in_sum c.args.self.now l.total c.in-Some.more (plain_part x) (parts_from xs (i + 1)) c.requires.sound room c.in-Some.ensures.value);
+          (next_has_room_in_sum c.args.self.now l.total c.in-Some.more (plain_part x) (parts_from xs (i + 1)) c.requires.sound room c.in-Some.ensures.value);
     }
 
 pub product-loop-factor-init : goal.product-loop-factor-init
@@ -73,6 +72,6 @@ product-loop-factor-preserved t c =
     let room = subst (HasRoom c.args.self.now l.value) step l.invariant.room in
     record {
       whole = product_goes_on (amount_at c.args.self.now) l.value c.in-Some.next (plain_factor x) (factors_from xs (i + 1)) c.in-Some.ensures
-              ∙ sym (ap (product_from (amount_at c.args.self.now) l.value) step) ∙ l.invariant.whole;
+          ∙ sym (ap (product_from (amount_at c.args.self.now) l.value) step) ∙ l.invariant.whole;
       room = next_has_room c.args.self.now l.value c.in-Some.next (plain_factor x) (factors_from xs (i + 1)) c.requires.sound room c.in-Some.ensures;
     }
