@@ -1,0 +1,16 @@
+pub mod NumberLemmas
+pub mod Within
+pub mod Bounded
+pub mod SumLoops
+pub mod SumLemmas
+pub mod ExactLemmas
+pub mod WorkLemmas
+pub mod SideLemmas
+pub mod CompareLemmas
+pub mod TextLemmas
+pub mod StatementLemmas
+pub mod ReceiverLemmas
+pub mod RoomLemmas
+pub mod Agreement
+pub mod RestLemmas
+pub mod RootLemmas
