@@ -42,14 +42,14 @@ fn tree_in(alloc: Global, bytes: &[u8]) -> Result<Tree, FrontEnd>
 }
 
 /// The program of a tree with its layout.
-fn statements_in(alloc: Global, tree: &Tree, data: &Layout) -> Result<Program, FrontEnd>
+fn statements_in(alloc: Global, tree: &Tree, laid: &Layout) -> Result<Program, FrontEnd>
     requires has { HasLayout tree.now }
-    requires is { data.now ≡ layout tree.now }
+    requires is { laid.now ≡ layout tree.now }
     requires few { length (print_tree (plain_tree tree.now)) ≤ 2 ^ 27 }
     ensures { Answers (IsProgramOf tree.now) (IsTreeCause tree.now) result }
 {
     layouts_have_few_places();
-    match typed_of(alloc, tree, data) {
+    match typed_of(alloc, tree, laid) {
         Ok(program) => Ok(program),
         Err(TypedEnd::Outside { rule, line }) => Err(FrontEnd::Outside { rule, line }),
         Err(TypedEnd::Memory) => Err(FrontEnd::Memory),
@@ -62,7 +62,7 @@ fn typed_in(alloc: Global, tree: &Tree) -> Result<Program, FrontEnd>
     ensures { Answers (IsProgramOf tree.now) (IsTreeCause tree.now) result }
 {
     match layout_of(alloc, tree) {
-        Ok(data) => statements_in(alloc, tree, &data),
+        Ok(laid) => statements_in(alloc, tree, &laid),
         Err(DataEnd::Outside { rule, line }) => Err(FrontEnd::Outside { rule, line }),
         Err(DataEnd::Limit { which, count }) => Err(FrontEnd::Limit { which, count }),
         Err(DataEnd::Memory) => Err(FrontEnd::Memory),
