@@ -1,8 +1,10 @@
 //! From a source's bytes to its program: the text, the tokens, the tree, the layout of the data and the statements with
-//! their names resolved; or the first reason for which the source is no program of the profile.
+//! their names resolved, and to its control graph; or the first reason for which the source is no program of the
+//! profile.
 #![tactic(auto)]
 
 mod end;
+mod graphs;
 mod laws;
 mod phases;
 #[cfg(test)]
@@ -11,5 +13,6 @@ mod payroll;
 mod tests;
 
 pub use end::FrontEnd;
+pub use graphs::graph_in;
 pub use laws::one_answer;
 pub use phases::program_in;
