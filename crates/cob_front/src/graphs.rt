@@ -15,7 +15,7 @@ use std::alloc::Global;
 // The graph of a program whose PERFORMs nest.
 fn laid_out(alloc: Global, program: &Program) -> Result<Graph, FrontEnd>
     requires { IsNested (plain_program program.now) }
-    ensures { Answers (IsGraph (plain_program program.now)) (IsControlCause (plain_program program.now)) result }
+    ensures answer { Answers (IsGraph (plain_program program.now)) (IsControlCause (plain_program program.now)) result }
     ensures inside { (rule : Rule) (line : ℕ) → result ≡ Err (front.Outside rule line) → ⊥ }
 {
     match graph_of(alloc, program) {

@@ -1,5 +1,5 @@
 use super::payroll::LINES;
-use super::{FrontEnd, program_in};
+use super::{FrontEnd, graph_in, program_in};
 use cob_program::{Para, Program};
 use std::alloc::{AllocError, Global};
 use std::test::Fail;
@@ -91,5 +91,106 @@ fn payroll_without_its_phrase_adds_at_line_98(rt: HostRuntime) -> Result<(), Fai
         Ok(program) => assert_eq!(rt; line_in(program.paras.get(), 31), Some(98)),
         Err(end) => assert_eq!(rt; end, FrontEnd::Memory),
     }
+    Ok(())
+}
+
+const BEFORE_LINE_6: &str =
+    "       IDENTIFICATION DIVISION.\n       PROGRAM-ID. T.\n       DATA DIVISION.\n       WORKING-STORAGE SECTION.\n       PROCEDURE DIVISION.\n";
+
+// How many nodes the source's graph has, or why it has none.
+fn counted(alloc: Global, source: &[u8]) -> Result<String, AllocError> {
+    match program_in(alloc, source) {
+        Ok(program) => match graph_in(alloc, &program) {
+            Ok(graph) => format!(in alloc; "{} nodes", graph.nodes.get().len()),
+            Err(end) => format!(in alloc; "{end:?}"),
+        },
+        Err(end) => format!(in alloc; "{end:?}"),
+    }
+}
+
+#[test]
+fn graphs_have_nodes_or_a_cause(rt: HostRuntime) -> Result<(), Fail> {
+    let alloc = rt.alloc();
+    for (lines, wanted) in [
+        ("       STOP RUN.\n", "2 nodes"),
+        (
+            "       A.\n       PERFORM B.\n       STOP RUN.\n       B.\n       PERFORM A.\n",
+            "Outside { rule: N1, line: 7 }",
+        ),
+        (
+            "       A.\n       PERFORM B THRU C.\n       STOP RUN.\n       B.\n       PERFORM C.\n       C.\n       EXIT.\n",
+            "Outside { rule: N2, line: 10 }",
+        ),
+        (
+            "       PERFORM B.\n       STOP RUN.\n       B.\n       GO TO C.\n       C.\n       STOP RUN.\n",
+            "Outside { rule: N3, line: 9 }",
+        ),
+        (
+            "       A.\n       PERFORM C THRU B.\n       STOP RUN.\n       B.\n       EXIT.\n       C.\n       EXIT.\n",
+            "Outside { rule: N4, line: 7 }",
+        ),
+    ] {
+        let source = format!(in alloc; "{BEFORE_LINE_6}{lines}")?;
+        assert_eq!(rt; counted(alloc, source.as_str().as_bytes())?.as_str(), wanted);
+    }
+    Ok(())
+}
+
+// The name of a paragraph by its number.
+fn paragraph(alloc: Global, number: u32) -> Result<String, AllocError> {
+    let zeros = match number {
+        0..10 => "000",
+        10..100 => "00",
+        100..1000 => "0",
+        _ => "",
+    };
+    format!(in alloc; "P-{zeros}{number}")
+}
+
+// A program whose loop runs so many paragraphs, of six nodes each.
+fn trial(alloc: Global, count: u32) -> Result<String, AllocError> {
+    let last = paragraph(alloc, count)?;
+    let mut text = format!(in alloc; "{BEFORE}       PROCEDURE DIVISION.\n       PERFORM P-0001 THRU {last} 100 TIMES.\n       STOP RUN.\n")?;
+    for number in 1..=count {
+        let name = paragraph(alloc, number)?;
+        let lines = format!(in alloc; "       {name}.\n           ADD 1 TO N.\n           IF N > 9 MOVE 0 TO N END-IF.\n")?;
+        text.push_str(lines.as_str())?;
+    }
+    Ok(text)
+}
+
+#[test]
+fn trials_have_six_nodes_a_paragraph_and_five(rt: HostRuntime) -> Result<(), Fail> {
+    let alloc = rt.alloc();
+    for (count, wanted) in [
+        (2, "17 nodes"),
+        (681, "4091 nodes"),
+        (682, "Limit { which: Nodes, count: 4097 }"),
+    ] {
+        let source = trial(alloc, count)?;
+        assert_eq!(rt; counted(alloc, source.as_str().as_bytes())?.as_str(), wanted);
+    }
+    Ok(())
+}
+
+// A chain of paragraphs, each of which performs the next one twice.
+fn doubling(alloc: Global, count: u32) -> Result<String, AllocError> {
+    let mut text = format!(in alloc; "{BEFORE_LINE_6}       PERFORM P-0001.\n       STOP RUN.\n")?;
+    for number in 1..count {
+        let name = paragraph(alloc, number)?;
+        let next = paragraph(alloc, number + 1)?;
+        let lines = format!(in alloc; "       {name}.\n           PERFORM {next}.\n           PERFORM {next}.\n")?;
+        text.push_str(lines.as_str())?;
+    }
+    let name = paragraph(alloc, count)?;
+    text.push_str(format!(in alloc; "       {name}.\n           EXIT.\n")?.as_str())?;
+    Ok(text)
+}
+
+#[test]
+fn copies_without_number_are_refused_at_once(rt: HostRuntime) -> Result<(), Fail> {
+    let alloc = rt.alloc();
+    let source = doubling(alloc, 40)?;
+    assert_eq!(rt; counted(alloc, source.as_str().as_bytes())?.as_str(), "Limit { which: Nodes, count: 1000000000 }");
     Ok(())
 }
