@@ -20,11 +20,14 @@ when_first (MkWhen ts ss) ws = refl
 
 pub counters_step : (xs : List declared_stmt.Stmt) (i : ℕ) (x : declared_stmt.Stmt) → i < length xs → x ≡ get_or xs i x →
     counters (stmts_from xs i) ≡ stmt_counters (plain_stmt x) ++ counters (stmts_from xs (i + 1))
-counters_step xs i x within is = ap counters (stmt_step xs i x within is) ∙ stmt_first (plain_stmt x) (stmts_from xs (i + 1))
+counters_step xs i x within is = ap counters (stmt_step xs i x within is)
+    ∙ stmt_first (plain_stmt x) (stmts_from xs (i + 1))
 
-pub whens_counters_step : (xs : List declared_when.When) (i : ℕ) (x : declared_when.When) → i < length xs → x ≡ get_or xs i x →
+pub whens_counters_step : (xs : List declared_when.When) (i : ℕ) (x : declared_when.When) → i < length xs →
+    x ≡ get_or xs i x →
     whens_counters (whens_from xs i) ≡ when_counters (plain_when x) ++ whens_counters (whens_from xs (i + 1))
-whens_counters_step xs i x within is = ap whens_counters (when_step xs i x within is) ∙ when_first (plain_when x) (whens_from xs (i + 1))
+whens_counters_step xs i x within is = ap whens_counters (when_step xs i x within is)
+    ∙ when_first (plain_when x) (whens_from xs (i + 1))
 
 pub items_step : (xs : List Item) (i place next : ℕ) (x : Item) → i < length xs → x ≡ get_or xs i x → next ≡ place + 1 →
     item_cells place (drop i xs) ≡ if_named x.name (cell_of place x.form) ++ item_cells next (drop (i + 1) xs)
@@ -32,6 +35,8 @@ items_step xs i place next x within is following =
     ap (item_cells place) (item_step xs i x within is)
     ∙ ap (λ n. if_named x.name (cell_of place x.form) ++ item_cells n (drop (i + 1) xs)) (sym (following ∙ add-one place))
 
-pub para_counters_step : (xs : List declared_para.Para) (i : ℕ) (x : declared_para.Para) → i < length xs → x ≡ get_or xs i x →
-    para_counters (plain_paras (drop i xs)) ≡ counters (plain_stmts x.body) ++ para_counters (plain_paras (drop (i + 1) xs))
+pub para_counters_step : (xs : List declared_para.Para) (i : ℕ) (x : declared_para.Para) → i < length xs →
+    x ≡ get_or xs i x →
+    para_counters (plain_paras (drop i xs)) ≡ counters (plain_stmts x.body) ++ para_counters
+    (plain_paras (drop (i + 1) xs))
 para_counters_step xs i x within is = ap (λ ys. para_counters (plain_paras ys)) (item_step xs i x within is)

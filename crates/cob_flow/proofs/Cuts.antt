@@ -24,7 +24,8 @@ uncut cap n told a b = λ w x y z. omega arith
 pub whole : (cap n told a : ℕ) → n ≡ told → told ≡ min a cap → n < cap → n ≡ a
 whole cap n told a = λ w x z. omega arith
 
-pub counted_all : (cap sum count n m : ℕ) → sum ≡ min n cap → count ≡ min (1 + sum) cap → min n cap ≡ min m cap → count ≡ min (1 + m) cap
+pub counted_all : (cap sum count n m : ℕ) → sum ≡ min n cap → count ≡ min (1 + sum) cap → min n cap ≡ min m cap →
+    count ≡ min (1 + m) cap
 counted_all cap sum count n m = λ a b c. omega arith
 
 pub counted_more : (cap count n k : ℕ) → count ≡ min n cap → k < count → k < n

@@ -11,13 +11,21 @@ use Rattle.cob_flow.proofs.SizeLemmas.{table_sizes, alike_stmt, alike_list, alik
 
 module _ (p : Program) (es : List Entry) (h : IsTable p es) (n told : ℕ) (is : n ≡ told) (below : n < most_told) where
   pub exact_stmt : (s : Stmt) → told ≡ min (stmt_size (size_in es) s) most_told → n ≡ size (lay_stmt p (copy_in p es) s)
-  exact_stmt s e = uncut most_told n told (stmt_size (size_in es) s) (size (lay_stmt p (copy_in p es) s)) is e (alike_stmt p most_told (size_in es) (copy_in p es) (table_sizes p es h) s) below
+  exact_stmt s e = uncut most_told n told (stmt_size (size_in es) s) (size (lay_stmt p (copy_in p es) s)) is e
+      (alike_stmt p most_told (size_in es) (copy_in p es) (table_sizes p es h) s) below
 
-  pub exact_list : (ss : Stmts) → told ≡ min (stmts_size (size_in es) ss) most_told → n ≡ list_size (lay_list p (copy_in p es) ss)
-  exact_list ss e = uncut most_told n told (stmts_size (size_in es) ss) (list_size (lay_list p (copy_in p es) ss)) is e (alike_list p most_told (size_in es) (copy_in p es) (table_sizes p es h) ss) below
+  pub exact_list : (ss : Stmts) → told ≡ min (stmts_size (size_in es) ss) most_told →
+      n ≡ list_size (lay_list p (copy_in p es) ss)
+  exact_list ss e = uncut most_told n told (stmts_size (size_in es) ss) (list_size (lay_list p (copy_in p es) ss)) is
+      e (alike_list p most_told (size_in es) (copy_in p es) (table_sizes p es h) ss) below
 
-  pub exact_whens : (ws : Whens) → told ≡ min (stmt_whens_size (size_in es) ws) most_told → n ≡ whens_size (lay_whens p (copy_in p es) ws)
-  exact_whens ws e = uncut most_told n told (stmt_whens_size (size_in es) ws) (whens_size (lay_whens p (copy_in p es) ws)) is e (alike_whens p most_told (size_in es) (copy_in p es) (table_sizes p es h) ws) below
+  pub exact_whens : (ws : Whens) → told ≡ min (stmt_whens_size (size_in es) ws) most_told →
+      n ≡ whens_size (lay_whens p (copy_in p es) ws)
+  exact_whens ws e = uncut most_told n told (stmt_whens_size (size_in es) ws)
+      (whens_size (lay_whens p (copy_in p es) ws)) is e
+      (alike_whens p most_told (size_in es) (copy_in p es) (table_sizes p es h) ws) below
 
-  pub exact_body : (b : Body) → told ≡ min (stmt_body_size (size_in es) b) most_told → n ≡ body_size (lay_body p (copy_in p es) b)
-  exact_body b e = uncut most_told n told (stmt_body_size (size_in es) b) (body_size (lay_body p (copy_in p es) b)) is e (alike_body p most_told (size_in es) (copy_in p es) (table_sizes p es h) b) below
+  pub exact_body : (b : Body) → told ≡ min (stmt_body_size (size_in es) b) most_told →
+      n ≡ body_size (lay_body p (copy_in p es) b)
+  exact_body b e = uncut most_told n told (stmt_body_size (size_in es) b) (body_size (lay_body p (copy_in p es) b)) is
+      e (alike_body p most_told (size_in es) (copy_in p es) (table_sizes p es h) b) below

@@ -23,13 +23,16 @@ use Rattle.cob_flow.specs.Limits.{IsWithinLimits}
 use Rattle.cob_flow.proofs.Cuts.{counted_all, counted_more, counted_most}
 use Rattle.cob_flow.proofs.SizeLemmas.{table_sizes, table_laid, alike_paras, laid_paras}
 
-pub main_laid : (p : Program) (es : List Entry) (paras : ℕ) → IsTable p es → paras ≡ length p.paras → range_fits (is_in es) 0 (paras - 1) p 0 (paras - 0) ≡ true → IsMainCopy p (main_paras p es)
+pub main_laid : (p : Program) (es : List Entry) (paras : ℕ) → IsTable p es → paras ≡ length p.paras →
+    range_fits (is_in es) 0 (paras - 1) p 0 (paras - 0) ≡ true → IsMainCopy p (main_paras p es)
 main_laid p es paras h is fits =
     laid_paras p (is_in es) (copy_in p es) (table_laid p es h) 0 (last_para p) (length p.paras) 0
-    (subst (λ n. range_fits (is_in es) 0 (n - 1) p 0 n ≡ true) is (subst (λ n. range_fits (is_in es) 0 (paras - 1) p 0 n ≡ true) (sub-zero paras) fits))
+    (subst (λ n. range_fits (is_in es) 0 (n - 1) p 0 n ≡ true) is
+    (subst (λ n. range_fits (is_in es) 0 (paras - 1) p 0 n ≡ true) (sub-zero paras) fits))
 
 module _ (p : Program) (es : List Entry) (paras sum count : ℕ) (h : IsTable p es) (is : paras ≡ length p.paras)
-    (summed : sum ≡ min (range_size (size_in es) p 0 (paras - 0)) most_told) (counted : count ≡ min (1 + sum) most_told) where
+    (summed : sum ≡ min (range_size (size_in es) p 0 (paras - 0)) most_told)
+    (counted : count ≡ min (1 + sum) most_told) where
   told : count ≡ min (final_of (main_paras p es)) most_told
   told = counted_all most_told sum count (range_size (size_in es) p 0 (length p.paras)) (paras_size (main_paras p es))
       (summed ∙ ap (λ n. min (range_size (size_in es) p 0 n) most_told) (sub-zero paras ∙ is)) counted
@@ -38,7 +41,8 @@ module _ (p : Program) (es : List Entry) (paras sum count : ℕ) (h : IsTable p 
   pub all_told : count ≡ min (final_of (main_paras p es)) most_told
   all_told = told
 
-  pub too_many : length (cells_of p) ≤ 512 → range_fits (is_in es) 0 (paras - 1) p 0 (paras - 0) ≡ true → 4096 < count → HasTooManyNodes p count
+  pub too_many : length (cells_of p) ≤ 512 → range_fits (is_in es) 0 (paras - 1) p 0 (paras - 0) ≡ true →
+      4096 < count → HasTooManyNodes p count
   too_many few fits over = record {
     cells = few;
     nodes = final_of (main_paras p es);
@@ -47,14 +51,23 @@ module _ (p : Program) (es : List Entry) (paras sum count : ℕ) (h : IsTable p 
     told = told;
   }
 
-pub is_graph : (p : Program) (es : List Entry) (paras : ℕ) (g : Graph) → IsTable p es → paras ≡ length p.paras → range_fits (is_in es) 0 (paras - 1) p 0 (paras - 0) ≡ true →
-    g.nodes ≡ map as_node (all_nodes p (main_paras p es)) → g.edges ≡ edges_of 1 (all_nodes p (main_paras p es)) → g.cells ≡ cells_of p → IsGraph p g
+pub is_graph : (p : Program) (es : List Entry) (paras : ℕ) (g : Graph) → IsTable p es → paras ≡ length p.paras →
+    range_fits (is_in es) 0 (paras - 1) p 0 (paras - 0) ≡ true →
+    g.nodes ≡ map as_node (all_nodes p (main_paras p es)) → g.edges ≡ edges_of 1 (all_nodes p (main_paras p es)) →
+    g.cells ≡ cells_of p → IsGraph p g
 is_graph p es paras g h is fits nodes edges cells =
-    record { copies = main_paras p es; laid = main_laid p es paras h is fits; nodes = nodes; edges = edges; cells = cells }
+    record {
+      copies = main_paras p es;
+      laid = main_laid p es paras h is fits;
+      nodes = nodes;
+      edges = edges;
+      cells = cells;
+    }
 
 -- ---- the main copy
 
-module _ (p : Program) (es : List Entry) (paras nodes : ℕ) (is : paras ≡ length p.paras) (final : nodes ≡ final_of (main_paras p es)) where
+module _ (p : Program) (es : List Entry) (paras nodes : ℕ) (is : paras ≡ length p.paras)
+    (final : nodes ≡ final_of (main_paras p es)) where
   abbrev here_of : (ℕ → ℕ) → ℕ → Copied
   here_of f n = record { layout = p.layout; sites = []; para = f; final = n }
 
@@ -68,7 +81,8 @@ module _ (p : Program) (es : List Entry) (paras nodes : ℕ) (is : paras ≡ len
   paras_are : laid_from ≡ main_paras p es
   paras_are = ap (λ n. lay_paras p (copy_in p es) 0 n) (sub-zero paras ∙ is)
 
-  places_are : (n : ℕ) → first_of_para (n - 0) laid_from 1 nodes ≡ first_of_para n (main_paras p es) 1 (final_of (main_paras p es))
+  places_are : (n : ℕ) → first_of_para (n - 0) laid_from 1 nodes ≡ first_of_para n (main_paras p es) 1
+      (final_of (main_paras p es))
   places_are n =
       ap (λ k. first_of_para k laid_from 1 nodes) (sub-zero n) ∙ ap (λ ps. first_of_para n ps 1 nodes) paras_are
       ∙ ap (λ k. first_of_para n (main_paras p es) 1 k) final
@@ -84,8 +98,12 @@ module _ (p : Program) (es : List Entry) (paras nodes : ℕ) (is : paras ≡ len
       ∙ ap (λ ps. paras_nodes (main_copy p (main_paras p es)) ps 1 nodes ++ final_node ∷ []) paras_are
       ∙ ap (λ k. paras_nodes (main_copy p (main_paras p es)) (main_paras p es) 1 k ++ final_node ∷ []) final
 
-  pub whole : (none laid all : Seen) → none ≡ record { nodes = []; edges = [] } → laid ≡ grown none (paras_nodes laid_in laid_from 1 nodes) → all ≡ grown laid (final_node ∷ []) →
-      all ≡ record { nodes = map as_node (all_nodes p (main_paras p es)); edges = edges_of 1 (all_nodes p (main_paras p es)) }
+  pub whole : (none laid all : Seen) → none ≡ record { nodes = []; edges = [] } →
+      laid ≡ grown none (paras_nodes laid_in laid_from 1 nodes) → all ≡ grown laid (final_node ∷ []) →
+      all ≡ record {
+        nodes = map as_node (all_nodes p (main_paras p es));
+        edges = edges_of 1 (all_nodes p (main_paras p es));
+      }
   whole none laid all empty one two =
       grown_more none laid all (paras_nodes laid_in laid_from 1 nodes) (final_node ∷ []) one two
       ∙ ap (λ s. grown s (paras_nodes laid_in laid_from 1 nodes ++ final_node ∷ [])) empty
@@ -94,13 +112,15 @@ module _ (p : Program) (es : List Entry) (paras nodes : ℕ) (is : paras ≡ len
 -- ---- limits
 
 module _ {T : Type 0} (p : Program) (told_ : ℕ) (r : Result T FlowEnd) where
-  pub over_nodes : HasTooManyNodes p told_ → r ≡ Err (end.Limit Nodes told_) → (which : Which) (count : ℕ) → r ≡ Err (end.Limit which count) → IsOver p which count
+  pub over_nodes : HasTooManyNodes p told_ → r ≡ Err (end.Limit Nodes told_) → (which : Which) (count : ℕ) →
+      r ≡ Err (end.Limit which count) → IsOver p which count
   over_nodes over is which count same =
       let one : Nodes ≡ which = cc in
       let two : told_ ≡ count = cc in
       subst (λ w. IsOver p w count) one (subst (λ n. HasTooManyNodes p n) two over)
 
-  pub over_cells : HasTooManyCells p told_ → r ≡ Err (end.Limit Cells told_) → (which : Which) (count : ℕ) → r ≡ Err (end.Limit which count) → IsOver p which count
+  pub over_cells : HasTooManyCells p told_ → r ≡ Err (end.Limit Cells told_) → (which : Which) (count : ℕ) →
+      r ≡ Err (end.Limit which count) → IsOver p which count
   over_cells over is which count same =
       let one : Cells ≡ which = cc in
       let two : told_ ≡ count = cc in
@@ -108,10 +128,17 @@ module _ {T : Type 0} (p : Program) (told_ : ℕ) (r : Result T FlowEnd) where
 
 -- a graph that isn't over them
 pub in_limits : (p : Program) (es : List Entry) (g : Graph) (told_ : ℕ) → IsMainCopy p (main_paras p es) →
-    g.nodes ≡ map as_node (all_nodes p (main_paras p es)) → g.edges ≡ edges_of 1 (all_nodes p (main_paras p es)) → g.cells ≡ cells_of p →
+    g.nodes ≡ map as_node (all_nodes p (main_paras p es)) → g.edges ≡ edges_of 1 (all_nodes p (main_paras p es)) →
+    g.cells ≡ cells_of p →
     told_ ≡ min (final_of (main_paras p es)) most_told → told_ ≤ 4096 → length (cells_of p) ≤ 512 → IsWithinLimits g
 in_limits p es g told_ laid nodes edges cells counted fits few = record {
   cells = subst (λ n. n ≤ 512) (ap (λ cs. length cs) (sym cells)) few;
-  nodes = subst (λ n. n ≤ 4096) (final_is p g (record { copies = main_paras p es; laid = laid; nodes = nodes; edges = edges; cells = cells }))
+  nodes = subst (λ n. n ≤ 4096) (final_is p g (record {
+    copies = main_paras p es;
+    laid = laid;
+    nodes = nodes;
+    edges = edges;
+    cells = cells;
+  }))
       (counted_most most_told told_ (final_of (main_paras p es)) 4096 counted (omega arith) fits);
 }

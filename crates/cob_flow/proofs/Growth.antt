@@ -28,10 +28,12 @@ pub grown_twice : (s : Seen) (xs ys : List Noded) → grown (grown s xs) ys ≡ 
 grown_twice s xs ys = same_seen (grown (grown s xs) ys) (grown s (xs ++ ys))
     (append_assoc s.nodes (map as_node xs) (map as_node ys) ∙ ap (λ ns. s.nodes ++ ns) (sym (map-append as_node xs ys)))
     (append_assoc s.edges (edges_of (suc (length s.nodes)) xs) (edges_of (suc (length (s.nodes ++ map as_node xs))) ys)
-    ∙ ap (λ es. s.edges ++ es) (ap (λ n. edges_of (suc (length s.nodes)) xs ++ edges_of n ys) (behind s xs) ∙ sym (edges_on (suc (length s.nodes)) xs ys)))
+    ∙ ap (λ es. s.edges ++ es) (ap (λ n. edges_of (suc (length s.nodes)) xs ++ edges_of n ys) (behind s xs)
+    ∙ sym (edges_on (suc (length s.nodes)) xs ys)))
 
 -- two lots behind one another
-pub grown_more : (old mid new : Seen) (xs ys : List Noded) → mid ≡ grown old xs → new ≡ grown mid ys → new ≡ grown old (xs ++ ys)
+pub grown_more : (old mid new : Seen) (xs ys : List Noded) → mid ≡ grown old xs → new ≡ grown mid ys →
+    new ≡ grown old (xs ++ ys)
 grown_more old mid new xs ys one two = two ∙ ap (λ s. grown s ys) one ∙ grown_twice old xs ys
 
 pub grown_none : (s : Seen) → s ≡ grown s []

@@ -11,7 +11,8 @@ use Rattle.cob_program.specs.Act.{Stmts, no_stmts, more_stmts, Whens, no_whens, 
 use Rattle.cob_program.specs.ActView.{plain_stmt, plain_when, plain_para}
 use Rattle.cob_flow.specs.Views.{plain_stmts, plain_whens, plain_logics, plain_paras}
 
-pub item_step : {A : Type 0} (xs : List A) (i : ℕ) (x : A) → i < length xs → x ≡ get_or xs i x → drop i xs ≡ x ∷ drop (i + 1) xs
+pub item_step : {A : Type 0} (xs : List A) (i : ℕ) (x : A) → i < length xs → x ≡ get_or xs i x →
+    drop i xs ≡ x ∷ drop (i + 1) xs
 item_step xs i x within is = drop_more xs i x within ∙ ap (λ y. y ∷ drop (i + 1) xs) (sym is)
 
 abbrev pub stmts_from : List declared_stmt.Stmt → ℕ → Stmts
@@ -23,26 +24,30 @@ whens_from xs i = plain_whens (drop i xs)
 abbrev pub logics_from : List declared_logic.Logic → ℕ → Logics
 logics_from xs i = plain_logics (drop i xs)
 
-pub stmt_step : (xs : List declared_stmt.Stmt) (i : ℕ) (x : declared_stmt.Stmt) → i < length xs → x ≡ get_or xs i x → stmts_from xs i ≡ more_stmts (plain_stmt x) (stmts_from xs (i + 1))
+pub stmt_step : (xs : List declared_stmt.Stmt) (i : ℕ) (x : declared_stmt.Stmt) → i < length xs → x ≡ get_or xs i x →
+    stmts_from xs i ≡ more_stmts (plain_stmt x) (stmts_from xs (i + 1))
 stmt_step xs i x within is = ap plain_stmts (item_step xs i x within is)
 
 pub stmts_end : (xs : List declared_stmt.Stmt) (i : ℕ) → length xs ≤ i → stmts_from xs i ≡ no_stmts
 stmts_end xs i past = ap plain_stmts (drop_all i xs past)
 
-pub when_step : (xs : List declared_when.When) (i : ℕ) (x : declared_when.When) → i < length xs → x ≡ get_or xs i x → whens_from xs i ≡ more_whens (plain_when x) (whens_from xs (i + 1))
+pub when_step : (xs : List declared_when.When) (i : ℕ) (x : declared_when.When) → i < length xs → x ≡ get_or xs i x →
+    whens_from xs i ≡ more_whens (plain_when x) (whens_from xs (i + 1))
 when_step xs i x within is = ap plain_whens (item_step xs i x within is)
 
 pub whens_end : (xs : List declared_when.When) (i : ℕ) → length xs ≤ i → whens_from xs i ≡ no_whens
 whens_end xs i past = ap plain_whens (drop_all i xs past)
 
-pub logic_step : (xs : List declared_logic.Logic) (i : ℕ) (x : declared_logic.Logic) → i < length xs → x ≡ get_or xs i x → logics_from xs i ≡ more_logics (plain_logic x) (logics_from xs (i + 1))
+pub logic_step : (xs : List declared_logic.Logic) (i : ℕ) (x : declared_logic.Logic) → i < length xs →
+    x ≡ get_or xs i x → logics_from xs i ≡ more_logics (plain_logic x) (logics_from xs (i + 1))
 logic_step xs i x within is = ap plain_logics (item_step xs i x within is)
 
 pub logics_end : (xs : List declared_logic.Logic) (i : ℕ) → length xs ≤ i → logics_from xs i ≡ no_logics
 logics_end xs i past = ap plain_logics (drop_all i xs past)
 
 -- what was added and what is left to be added, with one more added
-pub added : {A : Type 0} (old new here rest all left : List A) → new ≡ old ++ here → left ≡ here ++ rest → old ++ left ≡ all → new ++ rest ≡ all
+pub added : {A : Type 0} (old new here rest all left : List A) → new ≡ old ++ here → left ≡ here ++ rest →
+    old ++ left ≡ all → new ++ rest ≡ all
 added old new here rest all left grown cut whole =
     ap (λ xs. xs ++ rest) grown ∙ append_assoc old here rest ∙ ap (λ xs. old ++ xs) (sym cut) ∙ whole
 

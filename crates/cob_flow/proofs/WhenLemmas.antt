@@ -15,7 +15,8 @@ use Rattle.cob_graph.specs.Laid.{LaidParas, tests_among, list_size}
 use Rattle.cob_graph.specs.Places.{first_of_list, first_of_any, first_of_whens}
 use Rattle.cob_flow.specs.Tables.{lay_list, lay_whens}
 
-when_view : (w : declared_when.When) → plain_when w ≡ MkWhen (map plain_logic (out-When w).tests) (plain_stmts (out-When w).body.items)
+when_view : (w : declared_when.When) → plain_when w ≡ MkWhen (map plain_logic (out-When w).tests)
+    (plain_stmts (out-When w).body.items)
 when_view w = fold_out-When _ _ _ _ _ _ _ _ w
 
 -- a WHEN by its parts
@@ -34,11 +35,13 @@ module _ (p : Program) (k : ℕ → ℕ → LaidParas) where
   first_when : (ts : List Logic) (ss : Stmts) (rest : Whens) (at list_at rest_at yes_ no_ other next : ℕ) →
       list_at ≡ at + tests_among (logics_of ts) → rest_at ≡ list_at + list_size (lay_list p k ss) →
       yes_ ≡ first_of_list (lay_list p k ss) list_at next → no_ ≡ first_of_whens (lay_whens p k rest) rest_at other next →
-      first_of_any (logics_of ts) at yes_ no_ ≡ first_of_whens (lay_whens p k (more_whens (MkWhen ts ss) rest)) at other next
+      first_of_any (logics_of ts) at yes_ no_ ≡ first_of_whens (lay_whens p k (more_whens (MkWhen ts ss) rest)) at
+      other next
   first_when ts ss rest at list_at rest_at yes_ no_ other next e f g h =
       ap (λ n. first_of_any (logics_of ts) at n no_) g
       ∙ ap (λ n. first_of_any (logics_of ts) at (first_of_list (lay_list p k ss) list_at next) n) h
-      ∙ ap (λ n. first_of_any (logics_of ts) at (first_of_list (lay_list p k ss) list_at next) (first_of_whens (lay_whens p k rest) n other next)) f
+      ∙ ap (λ n. first_of_any (logics_of ts) at (first_of_list (lay_list p k ss) list_at next)
+      (first_of_whens (lay_whens p k rest) n other next)) f
       ∙ ap (λ n. first_of_any (logics_of ts) at (first_of_list (lay_list p k ss) n next)
       (first_of_whens (lay_whens p k rest) (n + list_size (lay_list p k ss)) other next)) e
 
@@ -52,7 +55,8 @@ module _ (p : Program) (k : ℕ → ℕ → LaidParas) where
   first_whens r whens rest w ts ss at tests nodes list_at rest_at yes_ no_ other next eo found cut is et el en er ey =
       if_ok r
       (λ n its. its
-      ∙ first_when ts ss rest at list_at rest_at yes_ no_ other next (el ∙ ap (λ m. at + m) et) (er ∙ ap (λ m. list_at + m) en) ey eo
+      ∙ first_when ts ss rest at list_at rest_at yes_ no_ other next (el ∙ ap (λ m. at + m) et) (er
+      ∙ ap (λ m. list_at + m) en) ey eo
       ∙ ap (λ x. first_of_whens (lay_whens p k (more_whens x rest)) at other next) (sym is)
       ∙ ap (λ ws. first_of_whens (lay_whens p k ws) at other next) (sym cut))
       found

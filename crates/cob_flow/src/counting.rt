@@ -336,7 +336,8 @@ fn add_range(
     end: u32,
 ) -> Result<(), AllocError>
     requires { end ≡ last + 1 }
-    ensures { OnOk result (IsTable (plain_program program.now) table.old.items → IsTable (plain_program program.now) table.new.items) }
+    ensures { OnOk result (IsTable (plain_program program.now) table.old.items →
+        IsTable (plain_program program.now) table.new.items) }
 {
     if !range_fits(program, table, first, last, first, end) {
         return Ok(());
@@ -353,7 +354,8 @@ fn add_new(
     first: u32,
     last: u32,
 ) -> Result<(), AllocError>
-    ensures { OnOk result (IsTable (plain_program program.now) table.old.items → IsTable (plain_program program.now) table.new.items) }
+    ensures { OnOk result (IsTable (plain_program program.now) table.old.items →
+        IsTable (plain_program program.now) table.new.items) }
 {
     if is_in(table, first, last) {
         return Ok(());
@@ -372,7 +374,8 @@ struct Range {
 }
 
 fn add_once(program: &Program, table: &mut Vec<Entry>, ranges: &[Range]) -> Result<(), AllocError>
-    ensures { OnOk result (IsTable (plain_program program.now) table.old.items → IsTable (plain_program program.now) table.new.items) }
+    ensures { OnOk result (IsTable (plain_program program.now) table.old.items →
+        IsTable (plain_program program.now) table.new.items) }
 {
     for range in ranges {
         add_new(program, table, range.first, range.last)?;
@@ -381,7 +384,8 @@ fn add_once(program: &Program, table: &mut Vec<Entry>, ranges: &[Range]) -> Resu
 }
 
 fn add_all(program: &Program, table: &mut Vec<Entry>, ranges: &[Range]) -> Result<(), AllocError>
-    ensures { OnOk result (IsTable (plain_program program.now) table.old.items → IsTable (plain_program program.now) table.new.items) }
+    ensures { OnOk result (IsTable (plain_program program.now) table.old.items →
+        IsTable (plain_program program.now) table.new.items) }
 {
     for _ in 0..ranges.len() {
         let before = table.len();

@@ -42,8 +42,10 @@ fn lay_all(
     requires table { IsTable (plain_program program.now) table.now }
     requires paras { paras ≡ length (plain_program program.now).paras }
     requires nodes { nodes ≡ final_of (main_paras (plain_program program.now) table.now) }
-    ensures nodes { IfOk result (λ parts. parts.0 ≡ map as_node (all_nodes (plain_program program.now) (main_paras (plain_program program.now) table.now))) }
-    ensures edges { IfOk result (λ parts. parts.1 ≡ edges_of 1 (all_nodes (plain_program program.now) (main_paras (plain_program program.now) table.now))) }
+    ensures nodes { IfOk result (λ parts. parts.0 ≡ map as_node
+        (all_nodes (plain_program program.now) (main_paras (plain_program program.now) table.now))) }
+    ensures edges { IfOk result (λ parts. parts.1 ≡ edges_of 1
+        (all_nodes (plain_program program.now) (main_paras (plain_program program.now) table.now))) }
 {
     let mut laying = Laying::new(alloc);
     let main = Within {
@@ -76,7 +78,8 @@ fn graph_with(
     requires few { length cells.items ≤ 512 }
     ensures graph { IfOk result (λ g. IsGraph (plain_program program.now) g) }
     ensures within { IfOk result (λ g. IsWithinLimits g) }
-    ensures limit { (which : Which) (count : ℕ) → result ≡ Err (end.Limit which count) → IsOver (plain_program program.now) which count }
+    ensures limit { (which : Which) (count : ℕ) → result ≡ Err (end.Limit which count) →
+        IsOver (plain_program program.now) which count }
     ensures inside { (rule : Rule) (line : ℕ) → result ≡ Err (end.Outside rule line) → ⊥ }
 {
     let count = plus(1, range_size(program, table, 0, paras));
@@ -106,7 +109,8 @@ fn laid(alloc: Global, program: &Program, cells: Vec<Cell>, paras: u32) -> Resul
     requires few { length cells.items ≤ 512 }
     ensures graph { IfOk result (λ g. IsGraph (plain_program program.now) g) }
     ensures within { IfOk result (λ g. IsWithinLimits g) }
-    ensures limit { (which : Which) (count : ℕ) → result ≡ Err (end.Limit which count) → IsOver (plain_program program.now) which count }
+    ensures limit { (which : Which) (count : ℕ) → result ≡ Err (end.Limit which count) →
+        IsOver (plain_program program.now) which count }
     ensures inside { (rule : Rule) (line : ℕ) → result ≡ Err (end.Outside rule line) → ⊥ }
 {
     let Ok(table) = table_of(alloc, program) else {
@@ -135,7 +139,8 @@ pub fn graph_of(alloc: Global, program: &Program) -> Result<Graph, FlowEnd>
     requires { IsNested (plain_program program.now) }
     ensures graph { IfOk result (λ g. IsGraph (plain_program program.now) g) }
     ensures within { IfOk result (λ g. IsWithinLimits g) }
-    ensures limit { (which : Which) (count : ℕ) → result ≡ Err (end.Limit which count) → IsOver (plain_program program.now) which count }
+    ensures limit { (which : Which) (count : ℕ) → result ≡ Err (end.Limit which count) →
+        IsOver (plain_program program.now) which count }
     ensures inside { (rule : Rule) (line : ℕ) → result ≡ Err (end.Outside rule line) → ⊥ }
 {
     let Ok(cells) = cells_of(alloc, program) else {

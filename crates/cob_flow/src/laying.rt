@@ -134,7 +134,9 @@ impl Laying {
         test: &Test,
         fork: Fork,
     ) -> Result<(), AllocError>
-        ensures { OnOk result (self.new ≡ grown self.old (node (copied_of within.now) statement starts (test_edges (copied_of within.now) statement (plain_test test.now) fork.k fork.yes fork.no) ∷ [])) }
+        ensures { OnOk result (self.new ≡ grown self.old
+            (node (copied_of within.now) statement starts
+            (test_edges (copied_of within.now) statement (plain_test test.now) fork.k fork.yes fork.no) ∷ [])) }
     {
         match test {
             Test::Always => self.add(within, statement, starts, &[(Action::Skip, fork.yes)]),
@@ -163,7 +165,9 @@ impl Laying {
         fork: Fork,
         left: u32,
     ) -> Result<(), AllocError>
-        ensures { OnOk result (self.new ≡ grown self.old (logic_nodes (copied_of within.now) statement starts (plain_logic logic.now) fork.k fork.at fork.yes fork.no)) }
+        ensures { OnOk result (self.new ≡ grown self.old
+            (logic_nodes (copied_of within.now) statement starts (plain_logic logic.now) fork.k fork.at fork.yes
+            fork.no)) }
     {
         let left = less(left)?;
         match logic {
@@ -193,7 +197,9 @@ impl Laying {
         fork: Fork,
         left: u32,
     ) -> Result<(), AllocError>
-        ensures { OnOk result (self.new ≡ grown self.old (all_nodes (copied_of within.now) statement starts (plain_logics parts.now) fork.k fork.at fork.yes fork.no)) }
+        ensures { OnOk result (self.new ≡ grown self.old
+            (all_nodes (copied_of within.now) statement starts (plain_logics parts.now) fork.k fork.at fork.yes
+            fork.no)) }
     {
         match parts {
             [] => Ok(()),
@@ -218,7 +224,9 @@ impl Laying {
         fork: Fork,
         left: u32,
     ) -> Result<(), AllocError>
-        ensures { OnOk result (self.new ≡ grown self.old (any_nodes (copied_of within.now) statement starts (plain_logics parts.now) fork.k fork.at fork.yes fork.no)) }
+        ensures { OnOk result (self.new ≡ grown self.old
+            (any_nodes (copied_of within.now) statement starts (plain_logics parts.now) fork.k fork.at fork.yes
+            fork.no)) }
     {
         match parts {
             [] => Ok(()),
@@ -236,7 +244,12 @@ impl Laying {
 impl Fork {
     /// Behind so many simple conditions.
     fn behind(self, tests: u32) -> Result<Fork, AllocError>
-        ensures { IfOk result (λ f. f ≡ record { k = self.k + tests; at = self.at + tests; yes = self.yes; no = self.no }) }
+        ensures { IfOk result (λ f. f ≡ record {
+          k = self.k + tests;
+          at = self.at + tests;
+          yes = self.yes;
+          no = self.no;
+        }) }
     {
         Ok(Fork {
             k: sum_of(self.k, tests)?,

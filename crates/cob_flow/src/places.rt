@@ -33,7 +33,8 @@ impl<'a> Within<'a> {
 
     /// The nodes of statements.
     pub fn list_nodes(&self, list: &[Stmt]) -> Result<u32, AllocError>
-        ensures { IfOk result (λ n. n ≡ list_size (lay_list (plan self.now) (copies_of self.now) (plain_stmts list.now))) }
+        ensures { IfOk result (λ n. n ≡ list_size (lay_list (plan self.now) (copies_of self.now)
+            (plain_stmts list.now))) }
     {
         let nodes = exact(stmts_size(self.table, list))?;
         Ok(nodes)
@@ -41,7 +42,8 @@ impl<'a> Within<'a> {
 
     /// The nodes of statements that may be left out.
     pub fn phrase_nodes(&self, phrase: &Option<Vec<Stmt>>) -> Result<u32, AllocError>
-        ensures { IfOk result (λ n. n ≡ phrase_size (lay_phrase (plan self.now) (copies_of self.now) (plain_phrase phrase.now))) }
+        ensures { IfOk result (λ n. n ≡ phrase_size (lay_phrase (plan self.now) (copies_of self.now)
+            (plain_phrase phrase.now))) }
     {
         match phrase {
             None => Ok(0),
@@ -51,7 +53,8 @@ impl<'a> Within<'a> {
 
     /// The nodes of WHENs.
     pub fn whens_nodes(&self, whens: &[When]) -> Result<u32, AllocError>
-        ensures { IfOk result (λ n. n ≡ whens_size (lay_whens (plan self.now) (copies_of self.now) (plain_whens whens.now))) }
+        ensures { IfOk result (λ n. n ≡ whens_size (lay_whens (plan self.now) (copies_of self.now)
+            (plain_whens whens.now))) }
     {
         let nodes = exact(whens_size(self.table, whens))?;
         Ok(nodes)
@@ -83,7 +86,8 @@ impl<'a> Within<'a> {
 
     /// The first node of what a PERFORM does.
     pub fn first_of_body(&self, body: &Body, at: u32, next: u32) -> Result<u32, AllocError>
-        ensures { IfOk result (λ n. n ≡ first_of_body (lay_body (plan self.now) (copies_of self.now) (plain_body body.now)) at next) }
+        ensures { IfOk result (λ n. n ≡ first_of_body
+            (lay_body (plan self.now) (copies_of self.now) (plain_body body.now)) at next) }
     {
         match body {
             Body::Range { first, last } => self.first_of_copy(*first, *last, at, next),
@@ -117,7 +121,8 @@ impl<'a> Within<'a> {
         next: u32,
         left: u32,
     ) -> Result<u32, AllocError>
-        ensures { IfOk result (λ n. n ≡ first_of_whens (lay_whens (plan self.now) (copies_of self.now) (plain_whens whens.now)) at other next) }
+        ensures { IfOk result (λ n. n ≡ first_of_whens
+            (lay_whens (plan self.now) (copies_of self.now) (plain_whens whens.now)) at other next) }
     {
         match whens {
             [] => Ok(other),
@@ -145,7 +150,8 @@ impl<'a> Within<'a> {
 
     /// Where the end of a file goes.
     pub fn end_to(&self, end: &Option<Vec<Stmt>>, file: u32, at: u32, next: u32) -> u32
-        ensures { result ≡ end_to (copied_of self.now) 0 (lay_phrase (plan self.now) (copies_of self.now) (plain_phrase end.now)) file at next }
+        ensures { result ≡ end_to (copied_of self.now) 0
+            (lay_phrase (plan self.now) (copies_of self.now) (plain_phrase end.now)) file at next }
     {
         match end {
             None => self.bad_to(file, next),
@@ -166,7 +172,8 @@ fn has_status(layout: &Layout, file: u32) -> bool
 
 /// The first node of a list of statements.
 pub fn first_of_list(list: &[Stmt], at: u32, next: u32) -> u32
-    ensures { (p : act.Program) (copies : ℕ → ℕ → LaidParas) → result ≡ first_of_list (lay_list p copies (plain_stmts list.now)) at next }
+    ensures { (p : act.Program) (copies : ℕ → ℕ → LaidParas) →
+        result ≡ first_of_list (lay_list p copies (plain_stmts list.now)) at next }
 {
     match list {
         [] => next,
@@ -176,7 +183,8 @@ pub fn first_of_list(list: &[Stmt], at: u32, next: u32) -> u32
 
 /// The first node of paragraphs from one up to, but not including, another.
 pub fn first_of_range(program: &Program, from: u32, end: u32, at: u32, next: u32) -> u32
-    ensures { (copies : ℕ → ℕ → LaidParas) → result ≡ first_of_paras (lay_paras (plain_program program.now) copies from (end - from)) at next }
+    ensures { (copies : ℕ → ℕ → LaidParas) → result ≡ first_of_paras
+        (lay_paras (plain_program program.now) copies from (end - from)) at next }
 {
     for place in from..end {
         if !body_at(program, place).is_empty() {
@@ -274,7 +282,8 @@ pub fn inner_at(turns: &Turns, at: u32) -> Result<u32, AllocError>
 
 /// The first test node of a loop whose body has so many nodes.
 pub fn tests_at(turns: &Turns, at: u32, size: u32) -> Result<u32, AllocError>
-    ensures { (body : LaidBody) → size ≡ body_size body → IfOk result (λ n. n ≡ tests_at (plain_turns turns.now) at body) }
+    ensures { (body : LaidBody) → size ≡ body_size body →
+        IfOk result (λ n. n ≡ tests_at (plain_turns turns.now) at body) }
 {
     match turns {
         Turns::Once => Ok(at),
@@ -288,7 +297,8 @@ pub fn tests_at(turns: &Turns, at: u32, size: u32) -> Result<u32, AllocError>
 
 /// The node that augments, or counts down.
 pub fn augment_at(turns: &Turns, at: u32, size: u32) -> Result<u32, AllocError>
-    ensures { (body : LaidBody) → size ≡ body_size body → IfOk result (λ n. n ≡ augment_at (plain_turns turns.now) at body) }
+    ensures { (body : LaidBody) → size ≡ body_size body →
+        IfOk result (λ n. n ≡ augment_at (plain_turns turns.now) at body) }
 {
     match turns {
         Turns::Once | Turns::Until { .. } => Ok(at),
@@ -308,7 +318,8 @@ pub fn augment_at(turns: &Turns, at: u32, size: u32) -> Result<u32, AllocError>
 
 /// Where the body of a loop goes on.
 pub fn body_next(turns: &Turns, at: u32, size: u32, next: u32) -> Result<u32, AllocError>
-    ensures { (body : LaidBody) → size ≡ body_size body → IfOk result (λ n. n ≡ body_next (plain_turns turns.now) at body next) }
+    ensures { (body : LaidBody) → size ≡ body_size body →
+        IfOk result (λ n. n ≡ body_next (plain_turns turns.now) at body next) }
 {
     match turns {
         Turns::Once => Ok(next),

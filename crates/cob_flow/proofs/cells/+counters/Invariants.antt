@@ -4,7 +4,9 @@ use Rattle.cob_flow.proofs.Loops.{stmts_from, whens_from}
 use Rattle.cob_flow.proofs.cells.+counters.Given as goal
 
 abbrev pub invariant-add_stmts-loop-stmt : goal.invariant-add_stmts-loop-stmt
-invariant-add_stmts-loop-stmt l = l.cells.items ++ counters (stmts_from l.list l.stmt-index) ≡ l.initial.cells.items ++ counters (stmts_from l.list 0)
+invariant-add_stmts-loop-stmt l = l.cells.items ++ counters
+    (stmts_from l.list l.stmt-index) ≡ l.initial.cells.items ++ counters (stmts_from l.list 0)
 
 abbrev pub invariant-add_whens-loop-when : goal.invariant-add_whens-loop-when
-invariant-add_whens-loop-when l = l.cells.items ++ whens_counters (whens_from l.whens l.when-index) ≡ l.initial.cells.items ++ whens_counters (whens_from l.whens 0)
+invariant-add_whens-loop-when l = l.cells.items ++ whens_counters
+    (whens_from l.whens l.when-index) ≡ l.initial.cells.items ++ whens_counters (whens_from l.whens 0)

@@ -9,9 +9,11 @@ pub loop-item-preserved : goal.loop-item-preserved
 loop-item-preserved c =
     let l = c.loop-item in
     added _ _ _ (item_cells c.in_ok-place.place (drop (l.item-index + 1) c.args.items.now)) _ _ c.in_ok-add_item.ensures
-    (items_step c.args.items.now l.item-index l.place c.in_ok-place.place c.item-item.result c.loop-item-test.true c.item-item.is c.in_ok-place.ensures) l.invariant
+    (items_step c.args.items.now l.item-index l.place c.in_ok-place.place c.item-item.result c.loop-item-test.true
+    c.item-item.is c.in_ok-place.ensures) l.invariant
 
 pub returns : goal.returns
 returns c =
     let l = c.loop-item in
-    nothing_left _ _ (item_cells l.place (drop l.item-index c.args.items.now)) (ap (item_cells l.place) (drop_all l.item-index c.args.items.now c.loop-item-test.false)) l.invariant
+    nothing_left _ _ (item_cells l.place (drop l.item-index c.args.items.now))
+    (ap (item_cells l.place) (drop_all l.item-index c.args.items.now c.loop-item-test.false)) l.invariant

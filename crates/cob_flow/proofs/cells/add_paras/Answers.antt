@@ -9,10 +9,13 @@ use Rattle.cob_flow.proofs.cells.add_paras.Goals as goal
 pub loop-para-preserved : goal.loop-para-preserved
 loop-para-preserved c =
     let l = c.loop-para in
-    added _ _ _ (para_counters (plain_paras (drop (l.para-index + 1) c.args.paras.now))) _ _ (c.in_ok-add_stmts.ensures ∙ ap (λ xs. l.cells.items ++ counters (plain_stmts xs)) c.get.ensures)
+    added _ _ _ (para_counters (plain_paras (drop (l.para-index + 1) c.args.paras.now))) _ _
+    (c.in_ok-add_stmts.ensures ∙ ap (λ xs. l.cells.items ++ counters (plain_stmts xs)) c.get.ensures)
     (para_counters_step c.args.paras.now l.para-index c.para-item.result c.loop-para-test.true c.para-item.is) l.invariant
 
 pub returns : goal.returns
 returns c =
     let l = c.loop-para in
-    nothing_left _ _ (para_counters (plain_paras (drop l.para-index c.args.paras.now))) (ap (λ xs. para_counters (plain_paras xs)) (drop_all l.para-index c.args.paras.now c.loop-para-test.false)) l.invariant
+    nothing_left _ _ (para_counters (plain_paras (drop l.para-index c.args.paras.now)))
+    (ap (λ xs. para_counters (plain_paras xs)) (drop_all l.para-index c.args.paras.now c.loop-para-test.false))
+    l.invariant

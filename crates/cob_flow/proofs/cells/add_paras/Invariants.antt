@@ -4,4 +4,5 @@ use Rattle.cob_graph.specs.Graphs.{para_counters}
 use Rattle.cob_flow.proofs.cells.add_paras.Given as goal
 
 abbrev pub invariant-loop-para : goal.invariant-loop-para
-invariant-loop-para l = l.cells.items ++ para_counters (plain_paras (drop l.para-index l.paras)) ≡ l.initial.cells.items ++ para_counters (plain_paras l.initial.paras)
+invariant-loop-para l = l.cells.items ++ para_counters
+    (plain_paras (drop l.para-index l.paras)) ≡ l.initial.cells.items ++ para_counters (plain_paras l.initial.paras)

@@ -5,4 +5,5 @@ use Rattle.cob_flow.proofs.Loops.{logics_from}
 use Rattle.cob_flow.proofs.counting.+tests.Given as goal
 
 abbrev pub invariant-tests_among-loop-part : goal.invariant-tests_among-loop-part
-invariant-tests_among-loop-part l = min (l.sum + tests_among (logics_from l.parts l.part-index)) most_told ≡ min (tests_among (logics_from l.parts 0)) most_told
+invariant-tests_among-loop-part l = min (l.sum + tests_among (logics_from l.parts l.part-index))
+    most_told ≡ min (tests_among (logics_from l.parts 0)) most_told

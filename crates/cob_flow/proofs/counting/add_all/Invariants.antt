@@ -3,4 +3,5 @@ use Rattle.cob_flow.specs.Tables.{IsTable}
 use Rattle.cob_flow.proofs.counting.add_all.Given as goal
 
 abbrev pub invariant-loop : goal.invariant-loop
-invariant-loop l = IsTable (plain_program l.program) l.initial.table.items → IsTable (plain_program l.program) l.table.items
+invariant-loop l = IsTable (plain_program l.program) l.initial.table.items →
+    IsTable (plain_program l.program) l.table.items

@@ -15,5 +15,7 @@ loop-place-preserved c =
     let place = c.loop-place.place in
     let end = c.args.end in
     let fits : c.stmts_fit.result ≡ true = search rules in
-    accepted (stmts_fit k lo hi (body_at p place)) (range_fits k lo hi p place (end - place)) (range_fits k lo hi p (place + 1) (end - (place + 1))) _
-    (sym (c.stmts_fit.ensures ∙ ap (stmts_fit k lo hi) c.body_at.ensures) ∙ fits) (range_fits_step k lo hi p place end c.loop-place-test.true) c.loop-place.invariant
+    accepted (stmts_fit k lo hi (body_at p place)) (range_fits k lo hi p place (end - place))
+    (range_fits k lo hi p (place + 1) (end - (place + 1))) _
+    (sym (c.stmts_fit.ensures ∙ ap (stmts_fit k lo hi) c.body_at.ensures) ∙ fits)
+    (range_fits_step k lo hi p place end c.loop-place-test.true) c.loop-place.invariant

@@ -13,5 +13,7 @@ loop-place-preserved c =
     let g = size_in c.args.table.now in
     let place = c.loop-place.place in
     let end = c.args.end in
-    summed most_told _ _ _ (stmts_size g (body_at p place)) (range_size g p place (end - place)) (range_size g p (place + 1) (end - (place + 1))) _ c.plus-sum.ensures
-    (c.stmts_size.ensures ∙ ap (λ ss. min (stmts_size g ss) most_told) c.body_at.ensures) (range_size_step g p place end c.loop-place-test.true) c.loop-place.invariant
+    summed most_told _ _ _ (stmts_size g (body_at p place)) (range_size g p place (end - place))
+    (range_size g p (place + 1) (end - (place + 1))) _ c.plus-sum.ensures
+    (c.stmts_size.ensures ∙ ap (λ ss. min (stmts_size g ss) most_told) c.body_at.ensures)
+    (range_size_step g p place end c.loop-place-test.true) c.loop-place.invariant

@@ -24,13 +24,19 @@ returns-in_ok-no-in-len1-up t c =
     let list_at = c.in_ok-list_at-in-len1-up.list_at in
     let tests = c.get-in-len1-up.result.now in
     let list = c.deref.result.now in
-    first_whens p k c.first_of_any.result (plain_whens whens) (plain_whens (others whens)) (plain_when c.when-item.result) (map plain_logic tests) (plain_stmts list) c.args.at
+    first_whens p k c.first_of_any.result (plain_whens whens) (plain_whens (others whens))
+    (plain_when c.when-item.result) (map plain_logic tests) (plain_stmts list) c.args.at
     c.in_ok-exact-in-len1-up.field-0 c.in_ok-list_nodes-in-len1-up.field-0 list_at c.in_ok-rest_at-in-len1-up.rest_at
     c.first_of_list-yes.result c.in_ok-no-in-len1-up.no c.args.other c.args.next
-    c.in_ok-no-in-len1-up.ensures c.first_of_any.ensures (whens_cut whens c.when-item.result c.in-len1-up.len_at_least c.when-item.is) (when_is c.when-item.result tests list c.get-in-len1-up.ensures c.deref.ensures.value)
-    (whole most_told c.in_ok-exact-in-len1-up.field-0 c.tests_among.result (tests_among (logics_of (map plain_logic tests))) told.told
-    (c.tests_among.ensures ∙ ap (λ ts. min (tests_among (plain_logics ts)) most_told) (c.get.ensures ∙ sym c.get-in-len1-up.ensures)) told.below)
+    c.in_ok-no-in-len1-up.ensures c.first_of_any.ensures
+    (whens_cut whens c.when-item.result c.in-len1-up.len_at_least c.when-item.is)
+    (when_is c.when-item.result tests list c.get-in-len1-up.ensures c.deref.ensures.value)
+    (whole most_told c.in_ok-exact-in-len1-up.field-0 c.tests_among.result
+    (tests_among (logics_of (map plain_logic tests))) told.told
+    (c.tests_among.ensures ∙ ap (λ ts. min (tests_among (plain_logics ts)) most_told) (c.get.ensures
+    ∙ sym c.get-in-len1-up.ensures)) told.below)
     c.in_ok-list_at-in-len1-up.ensures
     c.in_ok-list_nodes-in-len1-up.ensures
     c.in_ok-rest_at-in-len1-up.ensures
-    (c.first_of_list-yes.ensures p k ∙ ap (λ xs. first_of_list (lay_list p k (plain_stmts xs)) list_at c.args.next) (c.deref-in-len1-up.ensures.value ∙ sym c.deref.ensures.value))
+    (c.first_of_list-yes.ensures p k ∙ ap (λ xs. first_of_list (lay_list p k (plain_stmts xs)) list_at c.args.next)
+    (c.deref-in-len1-up.ensures.value ∙ sym c.deref.ensures.value))

@@ -10,5 +10,7 @@ pub returns-in-Some : goal.returns-in-Some
 returns-in-Some c =
     let w = c.args.self.now in
     c.first_of_list.ensures (plan w) (copies_of w)
-    ∙ ap (λ xs. first_of_list (lay_list (plan w) (copies_of w) (plain_stmts xs)) c.args.at c.args.next) c.deref.ensures.value
-    ∙ ap (λ o. end_to (copied_of w) 0 (lay_phrase (plan w) (copies_of w) (plain_phrase o)) c.args.file c.args.at c.args.next) (sym c.in-Some.is)
+    ∙ ap (λ xs. first_of_list (lay_list (plan w) (copies_of w) (plain_stmts xs)) c.args.at c.args.next)
+    c.deref.ensures.value
+    ∙ ap (λ o. end_to (copied_of w) 0 (lay_phrase (plan w) (copies_of w) (plain_phrase o)) c.args.file c.args.at
+    c.args.next) (sym c.in-Some.is)

@@ -8,10 +8,12 @@ use Rattle.cob_flow.proofs.within.Within.first_of_copy.Goals as goal
 pub returns-in_ok-end : goal.returns-in_ok-end
 returns-in_ok-end c =
     let w = c.args.self.now in
-    copy_first (plan w) w.table.now c.args.first c.args.last c.in_ok-end.end c.args.at c.args.next c.first_of_range.result c.in_ok-end.ensures
+    copy_first (plan w) w.table.now c.args.first c.args.last c.in_ok-end.end c.args.at c.args.next
+    c.first_of_range.result c.in_ok-end.ensures
     (λ copies. c.first_of_range.ensures copies) (sym c.is_in.ensures ∙ c.if-is_in.true)
 
 pub returns-else-is_in : goal.returns-else-is_in
 returns-else-is_in c =
     let w = c.args.self.now in
-    ap (λ ps. first_of_paras ps c.args.at c.args.next) (sym (no_copy (plan w) w.table.now c.args.first c.args.last (sym c.is_in.ensures ∙ c.if-is_in.false)))
+    ap (λ ps. first_of_paras ps c.args.at c.args.next)
+    (sym (no_copy (plan w) w.table.now c.args.first c.args.last (sym c.is_in.ensures ∙ c.if-is_in.false)))

@@ -6,4 +6,5 @@ use Rattle.cob_flow.proofs.within.Within.para_node.Given as goal
 
 abbrev pub invariant-loop-from : goal.invariant-loop-from
 invariant-loop-from l =
-    first_of_para l.skip (lay_paras (plan l.self) (copies_of l.self) l.from (l.self.end - l.from)) l.at l.self.next ≡ (copied_of l.self).para l.place
+    first_of_para l.skip (lay_paras (plan l.self) (copies_of l.self) l.from (l.self.end - l.from)) l.at
+    l.self.next ≡ (copied_of l.self).para l.place

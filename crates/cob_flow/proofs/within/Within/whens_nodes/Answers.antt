@@ -10,4 +10,5 @@ pub returns : goal.returns
 returns c =
     let w = c.args.self.now in
     let known : IsTable (plan w) w.table.now = search rules in
-    exact_whens (plan w) w.table.now known c.in_ok-nodes.nodes _ c.in_ok-nodes.ensures.told c.in_ok-nodes.ensures.below (plain_whens c.args.whens.now) c.whens_size.ensures
+    exact_whens (plan w) w.table.now known c.in_ok-nodes.nodes _ c.in_ok-nodes.ensures.told
+    c.in_ok-nodes.ensures.below (plain_whens c.args.whens.now) c.whens_size.ensures
