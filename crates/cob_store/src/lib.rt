@@ -7,6 +7,8 @@ mod end;
 mod moves;
 mod senders;
 mod shows;
+#[cfg(test)]
+mod tests;
 mod texts;
 mod writes;
 
