@@ -31,7 +31,8 @@ long_at l (q ∷ qs) (w ∷ ws) long (suc k) p v lt is here = long_at l qs ws lo
 first_left : {A : Type 0} (xs : List A) (k : ℕ) (d x : A) → k < length xs → x ≡ get_or xs k d → drop k xs ≡ x ∷ drop (k + 1) xs
 first_left xs k d x lt is = let next : suc k ≡ k + 1 = omega arith in drop-cons xs k d lt ∙ (ap (λ y. y ∷ drop (suc k) xs) (sym is) ∙ ap (λ n. x ∷ drop n xs) next)
 
-long_next : (l : Layout) (ps : List ℕ) (vs : List (List ℕ)) (k p : ℕ) (v : List ℕ) → k < length ps → p ≡ get_or ps k 0 → AreAsLong l (take k ps) vs →
+long_next : (l : Layout) (ps : List ℕ) (vs : List (List ℕ)) (k p : ℕ) (v : List ℕ) → k < length ps →
+    p ≡ get_or ps k 0 → AreAsLong l (take k ps) vs →
     length v ≡ length_at l p → AreAsLong l (take (suc k) ps) (vs ++ v ∷ [])
 long_next l [] vs k p v lt is long here = absurd (omega arith)
 long_next l (q ∷ qs) [] zero p v lt is long here = (here ∙ ap (length_at l) is, tt)
@@ -39,14 +40,16 @@ long_next l (q ∷ qs) (w ∷ ws) zero p v lt is long here = absurd long
 long_next l (q ∷ qs) [] (suc k) p v lt is long here = absurd long
 long_next l (q ∷ qs) (w ∷ ws) (suc k) p v lt is long here = (long.0, long_next l qs ws k p v (omega arith) is long.1 here)
 
-pub long_more : (l : Layout) (ps : List ℕ) (vs : List (List ℕ)) (k p : ℕ) (v : List ℕ) → k < length ps → p ≡ get_or ps k 0 → AreAsLong l (take k ps) vs →
+pub long_more : (l : Layout) (ps : List ℕ) (vs : List (List ℕ)) (k p : ℕ) (v : List ℕ) → k < length ps →
+    p ≡ get_or ps k 0 → AreAsLong l (take k ps) vs →
     length v ≡ length_at l p → AreAsLong l (take (k + 1) ps) (vs ++ v ∷ [])
 long_more l ps vs k p v lt is long here =
     let next : suc k ≡ k + 1 = omega arith in subst (λ n. AreAsLong l (take n ps) (vs ++ v ∷ [])) next (long_next l ps vs k p v lt is long here)
 
 -- ---- filling
 
-pub fill_step : (l : Layout) (now next : List ℕ) (ps : List ℕ) (vs : List (List ℕ)) (k p : ℕ) (v : List ℕ) → k < length ps → k < length vs →
+pub fill_step : (l : Layout) (now next : List ℕ) (ps : List ℕ) (vs : List (List ℕ)) (k p : ℕ) (v : List ℕ) →
+    k < length ps → k < length vs →
     p ≡ get_or ps k 0 → v ≡ get_or vs k v → next ≡ filled_at l now p v →
     all_filled l next (drop (k + 1) ps) (drop (k + 1) vs) ≡ all_filled l now (drop k ps) (drop k vs)
 fill_step l now next ps vs k p v lt more is here filled =
@@ -54,7 +57,8 @@ fill_step l now next ps vs k p v lt more is here filled =
     ∙ sym (ap (λ qs. all_filled l now qs (drop k vs)) (first_left ps k 0 p lt is)
     ∙ ap (λ ws. all_filled l now (p ∷ drop (k + 1) ps) ws) (first_left vs k v v more here))
 
-pub fill_end : (l : Layout) (now : List ℕ) (ps : List ℕ) (vs : List (List ℕ)) (k : ℕ) → length ps ≤ k → all_filled l now (drop k ps) (drop k vs) ≡ now
+pub fill_end : (l : Layout) (now : List ℕ) (ps : List ℕ) (vs : List (List ℕ)) (k : ℕ) → length ps ≤ k →
+    all_filled l now (drop k ps) (drop k vs) ≡ now
 fill_end l now ps vs k all = ap (λ qs. all_filled l now qs (drop k vs)) (drop_all k ps all)
 
 -- ---- moving
@@ -108,7 +112,8 @@ moved_to-filled l s x [] now vs is = refl
 moved_to-filled l s x (p ∷ ps) now vs is =
     some_filled l s x p ps now vs (λ later ws e. moved_to-filled l s x ps later ws e) (moved l s (form_at l p) (length_at l p) x) is
 
-more_fault : (m : Result (List (List ℕ)) Kind) (v : List ℕ) (kind : Kind) → (m >>= λ more. Ok (v ∷ more)) ≡ Err kind → m ≡ Err kind
+more_fault : (m : Result (List (List ℕ)) Kind) (v : List ℕ) (kind : Kind) →
+    (m >>= λ more. Ok (v ∷ more)) ≡ Err kind → m ≡ Err kind
 more_fault (Ok more) v kind e = absurd (cc)
 more_fault (Err other) v kind e = e
 

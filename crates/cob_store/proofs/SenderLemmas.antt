@@ -1,5 +1,5 @@
 -- What sound layouts say of a sender.
-use Rattle.std.proofs.Common.{◌≡◌, ℕ, ◌^◌, ◌-◌, ◌<◌, ◌≤◌, Bool, ap, zero, suc, List, [], ◌∷◌, Option, Some, None, arith, unsigned_abs}
+use Rattle.std.proofs.Common.{◌≡◌, ℕ, ◌^◌, ◌-◌, ◌<◌, Bool, ap, zero, suc, List, [], ◌∷◌, Option, Some, None, arith, unsigned_abs}
 use Rattle.std.specs.Prelude.{IfSome, slice_get}
 use Rattle.std.specs.List.{All}
 use Rattle.std.specs.Option.{option_map_or}
@@ -20,7 +20,8 @@ found_at P [] place all = tt
 found_at P (x ∷ xs) zero all = All-head P x xs all
 found_at P (x ∷ xs) (suc place) all = found_at P xs place (All-tail P x xs all)
 
-form_found : (l : Layout) (o : Option Item) → IfSome o (IsSoundItem l) → IsSoundForm (option_map_or (λ (i : Item). i.form) o Group) (option_map_or (λ (i : Item). i.length) o 0)
+form_found : (l : Layout) (o : Option Item) → IfSome o (IsSoundItem l) →
+    IsSoundForm (option_map_or (λ (i : Item). i.form) o Group) (option_map_or (λ (i : Item). i.length) o 0)
 form_found l None sound = tt
 form_found l (Some i) sound = sound.form
 
@@ -43,7 +44,8 @@ small_within (Edited picture digits scale) bytes v sound short within = record {
   scale = omega (arith, within.scale, sound.decimals, sound.at_most_18);
 }
 
-pub all_small_within : (f : Form) (bytes : ℕ) (o : Option Scaled) → IsSoundForm f bytes → IsShort f → IfSome o (λ v. IsWithin v (form_bound f)) → IfSome o IsSmall
+pub all_small_within : (f : Form) (bytes : ℕ) (o : Option Scaled) → IsSoundForm f bytes → IsShort f →
+    IfSome o (λ v. IsWithin v (form_bound f)) → IfSome o IsSmall
 all_small_within f bytes None sound short within = tt
 all_small_within f bytes (Some v) sound short within = small_within f bytes v sound short within
 

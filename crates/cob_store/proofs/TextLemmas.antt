@@ -1,7 +1,7 @@
 -- Texts that are cut or filled up.
-use Rattle.std.proofs.Common.{◌≡◌, ℕ, ◌+◌, ◌-◌, ◌<◌, ◌≤◌, min, List, [], ◌++◌, length, take, drop, replicate, refl, ap, ◌∙◌, sym, ⊎_elim, arith}
+use Rattle.std.proofs.Common.{◌≡◌, ℕ, ◌+◌, ◌-◌, ◌≤◌, min, List, ◌++◌, length, take, drop, replicate, ap, ◌∙◌, sym, ⊎_elim, arith}
 use Rattle.std.proofs.lemmas.Bool.{cases_lt}
-use Rattle.std.proofs.lemmas.List.{take_all, take_at, take-append-le, take-replicate, drop_all, append-nil, append_assoc, length-append, length-drop, length-replicate, length-take}
+use Rattle.std.proofs.lemmas.List.{take_all, take_at, take-append-le, take-replicate, drop_all, append-nil, length-append, length-drop, length-replicate, length-take}
 use Rattle.std.proofs.Math.Seq.{take-append-add}
 use borrow.Rule.Slice.PartMut.{put_mid}
 use Rattle.cob_runs.specs.Contents.{fitted}

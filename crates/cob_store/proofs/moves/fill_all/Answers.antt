@@ -1,6 +1,4 @@
 use Rattle.std.proofs.Common.{arith, refl, rules, sym, ap, ◌∙◌, length}
-use Rattle.std.proofs.lemmas.Grind.{common_steps}
-use Rattle.cob_runs.specs.Contents.{length_at}
 use Rattle.cob_store.proofs.MoveLemmas.{fill_step, fill_end, long_at, long_count}
 use Rattle.cob_store.proofs.moves.fill_all.Goals as goal
 
