@@ -1,22 +1,22 @@
 -- What contents read as lies within what the digits of their form can write.
-use Rattle.std.proofs.Common.{◌≡◌, ◌==◌, ℕ, ◌+◌, ◌-◌, ◌*◌, ◌^◌, ◌%◌, ◌<◌, ◌≤◌, zero, suc, nat_lt, Bool, true, false, ◌&&◌, if◌then◌else◌, List, [], ◌∷◌, ◌++◌, map, length, take, drop, refl, ap, ◌∙◌, sym, arith, Option, Some, None, ℤ, pos, negsuc, neg_ℤ, unsigned_abs}
-use Rattle.std.proofs.lemmas.Bool.{and_parts, eqb-true, ltb-true, leb-true}
+use Rattle.std.proofs.Common.{◌≡◌, ◌==◌, ℕ, ◌+◌, ◌-◌, ◌*◌, ◌^◌, ◌%◌, ◌<◌, ◌≤◌, zero, suc, nat_lt, Bool, true, false, ◌&&◌, if◌then◌else◌, List, [], ◌∷◌, ◌++◌, map, length, take, drop, refl, ap, ◌∙◌, sym, arith, Option, Some, None, ℤ, pos, negsuc, unsigned_abs}
+use Rattle.std.proofs.lemmas.Bool.{and_parts, eqb-true, ltb-true}
 use Rattle.std.proofs.lemmas.Bool.Decides.{nat_tests}
 use Rattle.std.proofs.lemmas.Option.{cond_some, same_Some}
 use Rattle.std.proofs.lemmas.List.{take-append-drop, length-take, length-drop}
 use Rattle.std.proofs.lemmas.Grind.{pow_more}
-use Rattle.std.proofs.lemmas.Int.Digits.{number_lt, number_push, number_after_append}
+use Rattle.std.proofs.lemmas.Int.Digits.{number_lt, number_push}
 use Rattle.std.specs.List.{list_all}
 use Rattle.std.specs.Option.{option_map}
 use Rattle.std.specs.Char.{is_ascii_digit}
 use Rattle.std.specs.Int.Digits.{number_from_digits_after, AllBelowBase}
-use Rattle.dec_num.proofs.Powers.{ten_monotone, ten_positive}
+use Rattle.dec_num.proofs.Powers.{ten_monotone}
 use Rattle.cob_tree.specs.declared.form.Form.{Form}
 use Rattle.cob_tree.specs.declared.form.Form.TheVariants.{Group, Text, Number, Edited}
 use Rattle.cob_tree.specs.declared.form.Usage.{Usage}
 use Rattle.cob_tree.specs.declared.form.Usage.TheVariants.{Display, Leading, Trailing, Binary, Packed}
 use Rattle.num_bytes.specs.Digits.{digits_in, number_of, signed_number}
-use Rattle.num_bytes.specs.Reading.{both, front, last, unsigned_value, signed_digit, overpunched_value, separate_sign, leading_value, trailing_value, is_own, twos_complement, binary_width, binary_value, packed_sign, packed_digits, packed_value, number_value, contents_value, HasNumber}
+use Rattle.num_bytes.specs.Reading.{both, front, last, signed_digit, is_own, twos_complement, binary_width, packed_sign, packed_digits, packed_value, number_value, contents_value, HasNumber}
 use Rattle.dec_num.specs.declared.types.Scaled.{Scaled}
 use Rattle.cob_program.specs.Bounds.{Bound, IsWithin, form_bound}
 use Rattle.cob_runs.specs.Contents.{scale_of, scaled_by}

@@ -1,5 +1,5 @@
 -- What every layout keeps that the rules on data allow: each item lies within storage, and its bytes are those of its form.
-use Rattle.std.specs.Prelude.{◌≡◌, ◌≤◌, ℕ, ◌+◌, length, List, Option, IfSome, IsTrue}
+use Rattle.std.specs.Prelude.{◌≡◌, ◌≤◌, ℕ, ◌+◌, length, List, IfSome, IsTrue}
 use Rattle.std.specs.List.{All}
 use Rattle.cob_tree.specs.declared.form.Form.{Form}
 use Rattle.cob_tree.specs.declared.form.Form.TheVariants as form

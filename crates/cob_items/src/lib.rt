@@ -10,4 +10,4 @@ mod tests;
 
 pub use items::{bytes_at, form_at, item_at};
 pub use numbers::{literal, number_at, number_in, scale_of};
-pub use stores::{digits_of, fill_bytes, store_at, store_units};
+pub use stores::{digits_of, fill_bytes, store_at, store_units, write_units};

@@ -3,12 +3,12 @@ ghost use Rattle.dec_num.specs.Exact.{near};
 ghost use Rattle.dec_num.specs.Fit.{MatchFit};
 ghost use Rattle.dec_num.specs.Scaled.{value_of};
 ghost use Rattle.cob_program.specs.Bounds.{IsSmall};
-ghost use Rattle.cob_runs.specs.Contents.{form_at, length_at, digits_of, scale_of, bytes_of, if_held, stored, filled_at, fitted, written};
+ghost use Rattle.cob_runs.specs.Contents.{form_at, length_at, digits_of, scale_of, bytes_of, if_held, stored, filled_at};
 ghost use Rattle.cob_runs.specs.Moves.{takes_number};
 ghost use Rattle.cob_items.specs.Sound.{HasSoundItems, IsSoundForm};
 ghost use Rattle.cob_items.specs.Storing.{filled_if};
 
-use crate::items::{form_at, item_at};
+use crate::items::item_at;
 use crate::numbers::scale_of;
 use cob_data::Layout;
 use cob_tree::Form;
@@ -34,8 +34,9 @@ fn size_of(units: i64, digits: u32) -> i64
     units.unsigned_abs() as i64
 }
 
-// Writes the number into the bytes of an item of this form.
-fn write_units(form: &Form, units: i64, bytes: &mut [u8])
+/// Writes the number of so many units into the bytes of an item of this form, whose digits hold it. An item without a
+/// sign gets the absolute value.
+pub fn write_units(form: &Form, units: i64, bytes: &mut [u8])
     requires takes { IsTrue (takes_number form.now) }
     requires sound { IsSoundForm form.now (length bytes.old) }
     requires held { unsigned_abs units < 10 ^ digits_of form.now }

@@ -5,7 +5,7 @@ ghost use Rattle.cob_items.specs.Sound.{HasSoundItems, IsSoundForm};
 
 use super::{
     bytes_at, digits_of, fill_bytes, form_at, item_at, literal, number_at, number_in, scale_of,
-    store_at, store_units,
+    store_at, store_units, write_units,
 };
 use cob_data::{Item, Layout};
 use cob_tree::{Bytes, Form, Many, Num, Usage};
@@ -14,17 +14,17 @@ use std::alloc::{AllocError, Global};
 use std::test::Fail;
 
 // Storage of one item.
-fn alone(alloc: Global, form: Form, length: u32) -> Result<Layout, AllocError>
-    requires { IsSoundForm form length }
+fn alone(alloc: Global, form: Form, bytes: u32) -> Result<Layout, AllocError>
+    requires { IsSoundForm form bytes }
     ensures sound { IfOk result HasSoundItems }
     ensures items { IfOk result (λ l. length l.items ≡ 1) }
-    ensures storage { IfOk result (λ l. l.storage ≡ length) }
+    ensures storage { IfOk result (λ l. l.storage ≡ bytes) }
     ensures form { IfOk result (λ l. form_at l 0 ≡ form) }
 {
     let item = Item {
         name: None,
         offset: 0,
-        length,
+        length: bytes,
         form,
         parent: None,
         line: 7,
@@ -34,7 +34,7 @@ fn alone(alloc: Global, form: Form, length: u32) -> Result<Layout, AllocError>
         items: Many::of(vec![in alloc; item]?),
         flags: Many::of(Vec::new(alloc)),
         files: Many::of(Vec::new(alloc)),
-        storage: length,
+        storage: bytes,
     })
 }
 
@@ -106,6 +106,8 @@ fn stores(rt: HostRuntime) -> Result<(), Fail> {
     assert!(rt; !store_units(&layout, &mut storage, 0, -1000));
     assert!(rt; store_units(&layout, &mut storage, 0, -5));
     assert_eq!(rt; storage.as_slice(), b"005".as_slice());
+    write_units(&display(2, 0, true), -12, &mut storage[1..]);
+    assert_eq!(rt; storage.as_slice(), b"01K".as_slice());
     Ok(())
 }
 

@@ -1,6 +1,6 @@
-use Rattle.std.proofs.Common.{arith, rules, sym, ◌∙◌}
-use Rattle.cob_runs.specs.Contents.{bytes_of, filled_at, form_at}
-use Rattle.cob_items.proofs.Parts.{put_mid-written, part-filled}
+use Rattle.std.proofs.Common.{rules}
+use Rattle.cob_runs.specs.Contents.{bytes_of}
+use Rattle.cob_items.proofs.Parts.{part-filled}
 use Rattle.cob_items.proofs.stores.fill_units.Goals as goal
 
 pub returns-in-Some : goal.returns-in-Some

@@ -1,0 +1,90 @@
+ghost use Rattle.std.specs.Prelude.{◌≡◌, ◌↔◌, [], length, false, IfOk};
+ghost use Rattle.std.specs.Result.{OnOk};
+ghost use Rattle.cob_runs.specs.Moves.{moved};
+ghost use Rattle.cob_runs.specs.Runs.{with_value, with_constant, with_values, first_storage};
+ghost use Rattle.cob_items.specs.Sound.{HasSoundItems, IsSoundItem, IsConstant, CanMove};
+
+use crate::end::MoveEnd;
+use crate::moves::{moved_in, room};
+use cob_data::{Item, Layout, Sender};
+use cob_meaning::Outcome;
+use cob_program::Program;
+use std::alloc::{AllocError, Global};
+
+// Puts the constant of an item's VALUE.
+fn put_constant(
+    alloc: Global,
+    layout: &Layout,
+    item: &Item,
+    constant: &Sender,
+    storage: &mut [u8],
+) -> Result<(), AllocError>
+    requires sound { HasSoundItems layout.now }
+    requires item { IsSoundItem layout.now item.now }
+    requires whole { length storage.old ≡ layout.now.storage }
+    requires constant { IsConstant constant.now }
+    requires able { CanMove layout.now constant.now item.now.form }
+    ensures { OnOk result (storage.new
+        ≡ with_value item.now (moved layout.now [] item.now.form item.now.length constant.now) storage.old) }
+{
+    match moved_in(alloc, layout, &[], constant, item) {
+        Ok(bytes) => {
+            let from = item.offset as usize;
+            let to = from + item.length as usize;
+            storage[from..to].copy_from_slice(bytes.get());
+            Ok(())
+        }
+        Err(MoveEnd::Fault(_)) => Ok(()),
+        Err(MoveEnd::Memory) => Err(AllocError),
+    }
+}
+
+// Puts an item's VALUE, where it has one.
+fn put_value(
+    alloc: Global,
+    layout: &Layout,
+    item: &Item,
+    storage: &mut [u8],
+) -> Result<(), AllocError>
+    requires sound { HasSoundItems layout.now }
+    requires item { IsSoundItem layout.now item.now }
+    requires whole { length storage.old ≡ layout.now.storage }
+    ensures { OnOk result (storage.new ≡ with_constant layout.now item.now item.now.value storage.old) }
+{
+    match &item.value {
+        Some(constant) => put_constant(alloc, layout, item, constant, storage),
+        None => Ok(()),
+    }
+}
+
+// Puts each VALUE, in the order of the items.
+fn put_values(alloc: Global, layout: &Layout, storage: &mut [u8]) -> Result<(), AllocError>
+    requires sound { HasSoundItems layout.now }
+    requires whole { length storage.old ≡ layout.now.storage }
+    ensures { OnOk result (storage.new ≡ with_values layout.now layout.now.items storage.old) }
+{
+    for item in layout.items.get() {
+        put_value(alloc, layout, item, storage)?;
+    }
+    Ok(())
+}
+
+/// Storage at the beginning of a run: each VALUE, and spaces elsewhere (ISO 1989:1985, "VALUE clause").
+pub fn start(alloc: Global, program: &Program) -> Result<Vec<u8>, AllocError>
+    requires { HasSoundItems program.now.layout }
+    ensures { IfOk result (λ storage. storage.items ≡ first_storage program.now.layout []) }
+{
+    let mut storage = room(alloc, program.layout.storage as usize)?;
+    put_values(alloc, &program.layout, storage.as_mut_slice())?;
+    Ok(storage)
+}
+
+/// Whether a run is over.
+pub fn is_over(outcome: &Outcome) -> bool
+    ensures { (result ≡ false) ↔ (outcome.now ≡ Outcome.Going) }
+{
+    match outcome {
+        Outcome::Going => false,
+        Outcome::Ended | Outcome::IoStop { .. } | Outcome::Fault { .. } => true,
+    }
+}

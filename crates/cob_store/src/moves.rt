@@ -1,0 +1,131 @@
+ghost use Rattle.std.specs.Prelude.{◌≡◌, length, replicate, MatchResult, IfOk, Ok, [], ◌∷◌, ◌++◌};
+ghost use Rattle.std.specs.List.{All};
+ghost use Rattle.std.specs.Result.{OnOk};
+ghost use Rattle.cob_runs.specs.Contents.{form_at, length_at};
+ghost use Rattle.cob_runs.specs.Moves.{moved, after_move};
+ghost use Rattle.cob_items.specs.Sound.{HasSoundItems, IsSoundForm, CanMove};
+ghost use Rattle.cob_store.specs.Moving.{IsWhole, IsCause, all_moved, all_filled, AreAsLong};
+
+use crate::end::MoveEnd;
+use crate::writes::write_moved;
+use cob_data::{Item, Layout, Sender};
+use cob_items::{fill_bytes, item_at};
+use cob_tree::Many;
+use std::alloc::{AllocError, Global};
+
+// So many spaces.
+pub(crate) fn room(alloc: Global, count: usize) -> Result<Vec<u8>, AllocError>
+    ensures { IfOk result (λ bytes. bytes.items ≡ replicate count 32) }
+{
+    vec![in alloc; b' '; count]
+}
+
+// What the item gets from the sender.
+pub(crate) fn moved_in(
+    alloc: Global,
+    layout: &Layout,
+    storage: &[u8],
+    sender: &Sender,
+    item: &Item,
+) -> Result<Many<u8>, MoveEnd>
+    requires sound { HasSoundItems layout.now }
+    requires whole { IsWhole layout.now storage.now sender.now }
+    requires able { CanMove layout.now sender.now item.now.form }
+    requires form { IsSoundForm item.now.form item.now.length }
+    ensures value { MatchResult result
+        (λ bytes. moved layout.now storage.now item.now.form item.now.length sender.now ≡ Ok bytes)
+        (IsCause (moved layout.now storage.now item.now.form item.now.length sender.now)) }
+    ensures length { IfOk result (λ bytes. length bytes ≡ item.now.length) }
+{
+    let mut bytes = room(alloc, item.length as usize)?;
+    match write_moved(layout, storage, sender, &item.form, bytes.as_mut_slice()) {
+        Ok(()) => Ok(Many::of(bytes)),
+        Err(kind) => Err(MoveEnd::Fault(kind)),
+    }
+}
+
+// What the item at a place gets from the sender.
+fn moved(
+    alloc: Global,
+    layout: &Layout,
+    storage: &[u8],
+    sender: &Sender,
+    place: u32,
+) -> Result<Many<u8>, MoveEnd>
+    requires sound { HasSoundItems layout.now }
+    requires whole { IsWhole layout.now storage.now sender.now }
+    requires able { CanMove layout.now sender.now (form_at layout.now place) }
+    ensures value { MatchResult result
+        (λ bytes. moved layout.now storage.now (form_at layout.now place) (length_at layout.now place) sender.now ≡ Ok bytes)
+        (IsCause (moved layout.now storage.now (form_at layout.now place) (length_at layout.now place) sender.now)) }
+    ensures length { IfOk result (λ bytes. length bytes ≡ length_at layout.now place) }
+{
+    match item_at(layout, place) {
+        Some(item) => moved_in(alloc, layout, storage, sender, item),
+        None => Ok(Many::of(Vec::new(alloc))),
+    }
+}
+
+fn push(values: &mut Vec<Many<u8>>, bytes: Many<u8>) -> Result<(), AllocError>
+    ensures { OnOk result (values.new.items ≡ values.old.items ++ bytes ∷ []) }
+{
+    values.push(bytes)?;
+    Ok(())
+}
+
+// What each item gets.
+fn moved_all(
+    alloc: Global,
+    layout: &Layout,
+    storage: &[u8],
+    sender: &Sender,
+    to: &[u32],
+) -> Result<Vec<Many<u8>>, MoveEnd>
+    requires sound { HasSoundItems layout.now }
+    requires whole { IsWhole layout.now storage.now sender.now }
+    requires able { All (λ place. CanMove layout.now sender.now (form_at layout.now place)) to.now }
+    ensures value { MatchResult result
+        (λ values. all_moved layout.now storage.now sender.now to.now ≡ Ok values.items)
+        (IsCause (all_moved layout.now storage.now sender.now to.now)) }
+    ensures lengths { IfOk result (λ values. AreAsLong layout.now to.now values.items) }
+{
+    let mut values = Vec::with_capacity(alloc, 1)?;
+    for place in to {
+        let bytes = moved(alloc, layout, storage, sender, *place)?;
+        push(&mut values, bytes)?;
+    }
+    Ok(values)
+}
+
+// Puts its bytes into each item, from left to right.
+fn fill_all(layout: &Layout, storage: &mut [u8], to: &[u32], values: &[Many<u8>])
+    requires sound { HasSoundItems layout.now }
+    requires whole { length storage.old ≡ layout.now.storage }
+    requires lengths { AreAsLong layout.now to.now values.now }
+    ensures { storage.new ≡ all_filled layout.now storage.old to.now values.now }
+{
+    for (at, bytes) in values.iter().enumerate() {
+        fill_bytes(layout, storage, to[at], bytes.get());
+    }
+}
+
+/// Moves the sender to each of the items, from left to right; the sender is what it was at first, and where the MOVE
+/// ends in an error, storage is, too (ISO 1989:1985, "The MOVE statement").
+pub fn after_move(
+    alloc: Global,
+    layout: &Layout,
+    storage: &mut [u8],
+    sender: &Sender,
+    to: &[u32],
+) -> Result<(), MoveEnd>
+    requires sound { HasSoundItems layout.now }
+    requires whole { length storage.old ≡ layout.now.storage }
+    requires able { All (λ place. CanMove layout.now sender.now (form_at layout.now place)) to.now }
+    ensures { MatchResult result
+        (λ _. after_move layout.now storage.old sender.now to.now ≡ Ok storage.new)
+        (λ end. IsCause (after_move layout.now storage.old sender.now to.now) end × (storage.new ≡ storage.old)) }
+{
+    let values = moved_all(alloc, layout, storage, sender, to)?;
+    fill_all(layout, storage, to, &values);
+    Ok(())
+}
