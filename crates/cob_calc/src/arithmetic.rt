@@ -42,7 +42,8 @@ fn put_remainder(
     requires whole { length storage.old ≡ layout.now.storage }
     requires takes { IsTrue (takes_number (form_at layout.now place)) }
     requires small { HasSmallRest scale worked.now.whole }
-    ensures { IsReceived result storage.new (received layout.now phrase storage.old place (stored_result layout.now phrase Mode.Trunc place (rest_value scale worked.now.whole))) }
+    ensures { IsReceived result storage.new (received layout.now phrase storage.old place
+        (stored_result layout.now phrase Mode.Trunc place (rest_value scale worked.now.whole))) }
 {
     match worked.remainder(scale) {
         None => put(layout, phrase, storage, place, Mode::Trunc, None),
@@ -70,7 +71,8 @@ fn remainder(
     requires sound { HasSoundItems layout.now }
     requires whole { length storage.old ≡ layout.now.storage }
     requires can { CanGiveRest layout.now worked.now targets.now remainder }
-    ensures { IsReceived result storage.new (remainder_by layout.now phrase worked.now failed targets.now remainder storage.old) }
+    ensures { IsReceived result storage.new
+        (remainder_by layout.now phrase worked.now failed targets.now remainder storage.old) }
 {
     match (failed, targets, remainder) {
         (false, [target], Some(place)) => put_remainder(
@@ -104,7 +106,8 @@ fn receive(
     requires whole { length storage.old ≡ layout.now.storage }
     requires receivers { CanReceiveAll layout.now worked.now targets.now }
     requires rest { CanGiveRest layout.now worked.now targets.now place }
-    ensures { IsReceived result storage.new (receive_unless layout.now phrase worked.now (lacks_result worked.now targets.now) storage.old targets.now place) }
+    ensures { IsReceived result storage.new (receive_unless layout.now phrase worked.now
+        (lacks_result worked.now targets.now) storage.old targets.now place) }
 {
     if worked.has_zero_divisor(targets) {
         return zero_divisor(phrase);
@@ -129,7 +132,8 @@ pub fn compute(
     requires sound { HasSoundItems layout.now }
     requires whole { length storage.old ≡ layout.now.storage }
     requires can { CanCompute layout.now (plain_sum common.now) targets.now remainder }
-    ensures { IsReceived result storage.new (after_arithmetic layout.now phrase storage.old (plain_sum common.now) targets.now remainder) }
+    ensures { IsReceived result storage.new (after_arithmetic layout.now phrase storage.old
+        (plain_sum common.now) targets.now remainder) }
 {
     match Contents::of(layout, storage).operands(common, targets, remainder) {
         None => Err(Kind::Class),

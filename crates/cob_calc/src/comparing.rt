@@ -57,7 +57,8 @@ impl<'a> Contents<'a> {
     fn decide(&self, left: &Sum, rel: Rel, right: &Sum) -> Result<bool, Kind>
         requires sound { IsSound self.now }
         requires small { is_small_sides (bound_at self.now.layout) (plain_sum left.now) (plain_sum right.now) ≡ true }
-        ensures { result ≡ decided self.now.layout self.now.storage rel (sum_value (amount_at self.now) (plain_sum left.now)) (sum_value (amount_at self.now) (plain_sum right.now)) }
+        ensures { result ≡ decided self.now.layout self.now.storage rel (sum_value (amount_at self.now)
+            (plain_sum left.now)) (sum_value (amount_at self.now) (plain_sum right.now)) }
     {
         match self.sum(left) {
             None => Err(Kind::Zero),
@@ -74,7 +75,8 @@ impl<'a> Contents<'a> {
         requires left { are_numbers self.now.layout (items_in (plain_sum left.now)) ≡ true }
         requires right { are_numbers self.now.layout (items_in (plain_sum right.now)) ≡ true }
         requires small { is_small_sides (bound_at self.now.layout) (plain_sum left.now) (plain_sum right.now) ≡ true }
-        ensures { result ≡ compared_numbers self.now.layout self.now.storage (plain_sum left.now) rel (plain_sum right.now) }
+        ensures { result ≡ compared_numbers self.now.layout self.now.storage (plain_sum left.now) rel
+            (plain_sum right.now) }
     {
         if !self.are_operands_numeric(left) {
             return Err(Kind::Class);

@@ -24,7 +24,8 @@ impl<'a> Contents<'a> {
     #[cycle(operands)]
     fn are_factors_numeric(&self, factors: &[Factor]) -> bool
         requires { IsSound self.now }
-        ensures { result ≡ are_numeric self.now.layout self.now.storage (items_in_factors (factors_of (map plain_factor factors.now))) }
+        ensures { result ≡ are_numeric self.now.layout self.now.storage (items_in_factors (factors_of
+            (map plain_factor factors.now))) }
     {
         for factor in factors {
             if !self.is_numeric_atom(&factor.atom) {
@@ -37,7 +38,8 @@ impl<'a> Contents<'a> {
     #[cycle(operands)]
     fn are_parts_numeric(&self, parts: &[Part]) -> bool
         requires { IsSound self.now }
-        ensures { result ≡ are_numeric self.now.layout self.now.storage (items_in_parts (parts_of (map plain_part parts.now))) }
+        ensures { result ≡ are_numeric self.now.layout self.now.storage (items_in_parts (parts_of
+            (map plain_part parts.now))) }
     {
         for part in parts {
             if !self.are_factors_numeric(&part.factors) {

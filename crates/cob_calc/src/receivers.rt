@@ -22,7 +22,8 @@ fn units_in(layout: &Layout, place: u32, value: Exact, mode: Mode) -> Option<i64
     requires sound { HasSoundItems layout.now }
     requires takes { IsTrue (takes_number (form_at layout.now place)) }
     requires small { IsSmallExact value }
-    ensures { result ≡ units_held (digits_of (form_at layout.now place)) (scale_of (form_at layout.now place)) mode (fraction_of value) }
+    ensures { result ≡ units_held (digits_of (form_at layout.now place)) (scale_of
+        (form_at layout.now place)) mode (fraction_of value) }
 {
     match item_at(layout, place) {
         None => None,
@@ -37,7 +38,8 @@ fn store(layout: &Layout, storage: &mut [u8], place: u32, value: Exact, mode: Mo
     requires takes { IsTrue (takes_number (form_at layout.now place)) }
     requires small { IsSmallExact value }
     ensures held { result ≡ is_some (stored mode (form_at layout.now place) (fraction_of value)) }
-    ensures storage { storage.new ≡ filled_if layout.now storage.old place (stored mode (form_at layout.now place) (fraction_of value)) }
+    ensures storage { storage.new ≡ filled_if layout.now storage.old place (stored mode
+        (form_at layout.now place) (fraction_of value)) }
 {
     match units_in(layout, place, value, mode) {
         None => false,
@@ -71,7 +73,8 @@ pub fn put(
     requires whole { length storage.old ≡ layout.now.storage }
     requires takes { IsTrue (takes_number (form_at layout.now place)) }
     requires small { IfSome value IsSmallExact }
-    ensures { IsReceived result storage.new (received layout.now phrase storage.old place (stored_result layout.now phrase mode place (option_map fraction_of value))) }
+    ensures { IsReceived result storage.new (received layout.now phrase storage.old place
+        (stored_result layout.now phrase mode place (option_map fraction_of value))) }
 {
     match value {
         None => kept(phrase, false),
@@ -142,7 +145,8 @@ pub fn receive_all(
     requires sound { HasSoundItems layout.now }
     requires whole { length storage.old ≡ layout.now.storage }
     requires can { CanReceiveAll layout.now worked.now targets.now }
-    ensures { IsReceived result storage.new (receive_all_by layout.now phrase worked.now (receiving storage.old false) targets.now) }
+    ensures { IsReceived result storage.new (receive_all_by layout.now phrase worked.now
+        (receiving storage.old false) targets.now) }
 {
     let mut failed = false;
     for target in targets {

@@ -146,7 +146,8 @@ impl<'a> Contents<'a> {
 
     fn item_text(&self, place: u32) -> Option<Text<'a>>
         requires { IsSound self.now }
-        ensures value { option_map plain_text result ≡ contents_text (form_at self.now.layout place) (bytes_at self.now.layout self.now.storage place) }
+        ensures value { option_map plain_text result
+            ≡ contents_text (form_at self.now.layout place) (bytes_at self.now.layout self.now.storage place) }
         ensures short { IfSome result IsShortText }
     {
         match self.item(place) {

@@ -47,9 +47,13 @@ impl<'a> Contents<'a> {
     // a quotient that stays exact; nothing where a divisor is 0
     fn quotient(&self, above: &[Factor], below: &Factor) -> Option<Exact>
         requires sound { IsSound self.now }
-        requires small { is_small_quotient (bound_at self.now.layout) (root_with (factors_of (map plain_factor above.now)) (plain_factor below.now)) ≡ true }
-        ensures value { option_map fraction_of result ≡ root_value (amount_at self.now) (root_with (factors_of (map plain_factor above.now)) (plain_factor below.now)) }
-        ensures exact { result ≡ exact_root (amount_at self.now) (root_with (factors_of (map plain_factor above.now)) (plain_factor below.now)) }
+        requires small { is_small_quotient (bound_at self.now.layout) (root_with (factors_of
+            (map plain_factor above.now)) (plain_factor below.now)) ≡ true }
+        ensures value { option_map fraction_of result
+            ≡ root_value (amount_at self.now) (root_with (factors_of (map plain_factor above.now))
+            (plain_factor below.now)) }
+        ensures exact { result ≡ exact_root (amount_at self.now) (root_with (factors_of
+            (map plain_factor above.now)) (plain_factor below.now)) }
         ensures small { IfSome result IsSmallExact }
     {
         match self.product(above) {
@@ -63,8 +67,10 @@ impl<'a> Contents<'a> {
 
     fn stored_parts(&self, parts: &[Part]) -> Option<Exact>
         requires sound { IsSound self.now }
-        requires small { is_small_stored (bound_at self.now.layout) (MkSum (parts_of (map plain_part parts.now))) ≡ true }
-        ensures value { option_map fraction_of result ≡ stored_value (amount_at self.now) (MkSum (parts_of (map plain_part parts.now))) }
+        requires small { is_small_stored (bound_at self.now.layout) (MkSum (parts_of
+            (map plain_part parts.now))) ≡ true }
+        ensures value { option_map fraction_of result
+            ≡ stored_value (amount_at self.now) (MkSum (parts_of (map plain_part parts.now))) }
         ensures exact { result ≡ exact_value (amount_at self.now) (MkSum (parts_of (map plain_part parts.now))) }
         ensures small { IfSome result IsSmallExact }
     {

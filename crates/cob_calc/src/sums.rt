@@ -56,8 +56,10 @@ impl<'a> Contents<'a> {
     #[cycle(sum)]
     pub fn product(&self, factors: &[Factor]) -> Option<Scaled>
         requires sound { IsSound self.now }
-        requires small { is_small_product (bound_at self.now.layout) (exactly 1) (factors_of (map plain_factor factors.now)) ≡ true }
-        ensures value { result ≡ product_from (amount_at self.now) (whole_number (pos 1)) (factors_of (map plain_factor factors.now)) }
+        requires small { is_small_product (bound_at self.now.layout) (exactly 1) (factors_of
+            (map plain_factor factors.now)) ≡ true }
+        ensures value { result ≡ product_from (amount_at self.now) (whole_number (pos 1)) (factors_of
+            (map plain_factor factors.now)) }
         ensures small { IfSome result IsSmall }
     {
         let mut value = scaled(1, 0);
@@ -86,8 +88,10 @@ impl<'a> Contents<'a> {
     #[cycle(sum)]
     pub fn parts(&self, parts: &[Part]) -> Option<Scaled>
         requires sound { IsSound self.now }
-        requires small { is_small_sum_from (bound_at self.now.layout) (exactly 0) (parts_of (map plain_part parts.now)) ≡ true }
-        ensures value { result ≡ sum_from (amount_at self.now) (whole_number (pos 0)) (parts_of (map plain_part parts.now)) }
+        requires small { is_small_sum_from (bound_at self.now.layout) (exactly 0) (parts_of
+            (map plain_part parts.now)) ≡ true }
+        ensures value { result ≡ sum_from (amount_at self.now) (whole_number (pos 0)) (parts_of
+            (map plain_part parts.now)) }
         ensures small { IfSome result IsSmall }
     {
         let mut total = scaled(0, 0);

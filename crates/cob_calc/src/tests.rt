@@ -71,14 +71,17 @@ fn number(alloc: Global, digits: &[u8], scale: u32) -> Result<Atom, AllocError>
 }
 
 fn part(alloc: Global, minus: bool, atom: Atom) -> Result<Part, AllocError>
-    ensures { IfOk result (λ p. plain_part p ≡ MkPart minus (more_factors (MkFactor false false (plain_atom atom)) no_factors)) }
+    ensures { IfOk result (λ p. plain_part p
+        ≡ MkPart minus (more_factors (MkFactor false false (plain_atom atom)) no_factors)) }
 {
     Ok(Part::of(minus, vec![in alloc; Factor::of(false, false, atom)]?))
 }
 
 // a or a - b
 fn difference(alloc: Global, a: Atom, b: Atom) -> Result<Sum, AllocError>
-    ensures { IfOk result (λ s. plain_sum s ≡ MkSum (more_parts (MkPart false (more_factors (MkFactor false false (plain_atom a)) no_factors)) (more_parts (MkPart true (more_factors (MkFactor false false (plain_atom b)) no_factors)) no_parts))) }
+    ensures { IfOk result (λ s. plain_sum s
+        ≡ MkSum (more_parts (MkPart false (more_factors (MkFactor false false (plain_atom a)) no_factors))
+        (more_parts (MkPart true (more_factors (MkFactor false false (plain_atom b)) no_factors)) no_parts))) }
 {
     let first = part(alloc, false, a)?;
     let second = part(alloc, true, b)?;
@@ -86,7 +89,9 @@ fn difference(alloc: Global, a: Atom, b: Atom) -> Result<Sum, AllocError>
 }
 
 fn quotient(alloc: Global, a: Atom, b: Atom) -> Result<Sum, AllocError>
-    ensures { IfOk result (λ s. plain_sum s ≡ MkSum (more_parts (MkPart false (more_factors (MkFactor false false (plain_atom a)) (more_factors (MkFactor true false (plain_atom b)) no_factors))) no_parts)) }
+    ensures { IfOk result (λ s. plain_sum s
+        ≡ MkSum (more_parts (MkPart false (more_factors (MkFactor false false (plain_atom a)) (more_factors
+        (MkFactor true false (plain_atom b)) no_factors))) no_parts)) }
 {
     let factors = vec![in alloc; Factor::of(false, false, a), Factor::of(true, false, b)]?;
     Ok(Sum::of(vec![in alloc; Part::of(false, factors)]?))
@@ -118,7 +123,9 @@ fn divides_with_a_remainder(rt: HostRuntime) -> Result<(), Fail> {
 }
 
 fn alone(alloc: Global, a: Atom) -> Result<Sum, AllocError>
-    ensures { IfOk result (λ s. plain_sum s ≡ MkSum (more_parts (MkPart false (more_factors (MkFactor false false (plain_atom a)) no_factors)) no_parts)) }
+    ensures { IfOk result (λ s. plain_sum s
+        ≡ MkSum (more_parts (MkPart false (more_factors (MkFactor false false
+        (plain_atom a)) no_factors)) no_parts)) }
 {
     Ok(Sum::of(vec![in alloc; part(alloc, false, a)?]?))
 }
@@ -262,7 +269,8 @@ fn compares_numbers_and_texts(rt: HostRuntime) -> Result<(), Fail> {
 }
 
 fn either(alloc: Global, first: Logic, second: Logic) -> Result<Logic, AllocError>
-    ensures { IfOk result (λ l. plain_logic l ≡ any_of (more_logics (plain_logic first) (more_logics (plain_logic second) no_logics))) }
+    ensures { IfOk result (λ l. plain_logic l
+        ≡ any_of (more_logics (plain_logic first) (more_logics (plain_logic second) no_logics))) }
 {
     Ok(Logic::any(vec![in alloc; first, second]?))
 }

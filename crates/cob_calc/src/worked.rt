@@ -100,7 +100,8 @@ impl Worked {
 
     /// Whether a divisor is 0.
     pub fn has_zero_divisor(&self, targets: &[Target]) -> bool
-        ensures { result ≡ list_any (λ t. not (is_some (result_of self.now t.how (whole_number (pos 0))))) targets.now }
+        ensures { result ≡ list_any (λ t. not (is_some (result_of self.now t.how (whole_number
+            (pos 0))))) targets.now }
     {
         for target in targets {
             if self.lacks(target.how) {

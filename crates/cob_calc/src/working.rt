@@ -47,9 +47,12 @@ impl<'a> Contents<'a> {
     fn worked(&self, common: &Sum, targets: &[Target], remainder: Option<u32>) -> Worked
         requires sound { IsSound self.now }
         requires results { are_small_results (bound_at self.now.layout) (plain_sum common.now) targets.now ≡ true }
-        requires rest { is_some remainder ≡ true → is_small_stored (bound_at self.now.layout) (plain_sum common.now) ≡ true }
-        ensures whole { (is_some remainder || some_whole targets.now) ≡ true → result.whole ≡ exact_value (amount_at self.now) (plain_sum common.now) }
-        ensures value { some_part targets.now ≡ true → result.value ≡ sum_value (amount_at self.now) (plain_sum common.now) }
+        requires rest { is_some remainder
+            ≡ true → is_small_stored (bound_at self.now.layout) (plain_sum common.now) ≡ true }
+        ensures whole { (is_some remainder || some_whole targets.now) ≡ true → result.whole
+            ≡ exact_value (amount_at self.now) (plain_sum common.now) }
+        ensures value { some_part targets.now ≡ true → result.value
+            ≡ sum_value (amount_at self.now) (plain_sum common.now) }
         ensures small { IfSome result.whole IsSmallExact }
     {
         let whole = self.whole_if(wants_whole(remainder, targets), common);
