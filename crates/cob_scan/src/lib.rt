@@ -1,8 +1,8 @@
 //! From a source's bytes to its canonical tokens: the reference format, and then the words (ISO 1989:1985, "Reference
 //! format" and "Character-strings and separators").
 #![tactic(auto)]
-ghost use Rattle.std.specs.Prelude.{◌≡◌, ◌≤◌, ◌^◌, length, IfOk, MatchResult};
-ghost use Rattle.cob_scan.specs.declared.ScanEnd.TheVariants as scan;
+
+ghost use Rattle.std.specs.Prelude.{◌≡◌, ◌≤◌, ◌^◌, length, IfOk};
 ghost use Rattle.cob_scan.specs.Scan.{IsScanned};
 
 use cob_lex::{LexEnd, tokens_of};
@@ -10,6 +10,7 @@ use cob_lines::{TextEnd, text_of};
 use cob_tree::Token;
 use std::alloc::Global;
 
+pub mod laws;
 #[cfg(test)]
 mod tests;
 
@@ -24,9 +25,6 @@ pub enum ScanEnd {
     Memory,
 }
 
-// More tokens than any tree may have; the text of a source has fewer characters.
-const MOST_TOKENS: usize = 134_217_728;
-
 /// The canonical tokens of a source of at most 1,048,576 bytes.
 pub fn tokens_in(alloc: Global, bytes: &[u8]) -> Result<Vec<Token>, ScanEnd>
     requires { length bytes.now ≤ 1048576 }
@@ -39,19 +37,8 @@ pub fn tokens_in(alloc: Global, bytes: &[u8]) -> Result<Vec<Token>, ScanEnd>
         Err(TextEnd::Memory) => return Err(ScanEnd::Memory),
     };
     match tokens_of(alloc, &text) {
-        Ok(tokens) => few(tokens),
+        Ok(tokens) => Ok(tokens),
         Err(LexEnd::BadToken { line, column }) => Err(ScanEnd::BadToken { line, column }),
         Err(LexEnd::Memory) => Err(ScanEnd::Memory),
-    }
-}
-
-fn few(tokens: Vec<Token>) -> Result<Vec<Token>, ScanEnd>
-    ensures same { MatchResult result (λ same. same ≡ tokens) (λ end. end ≡ scan.Memory) }
-    ensures few { IfOk result (λ tokens. length tokens.items ≤ 2 ^ 27) }
-{
-    if tokens.as_slice().len() <= MOST_TOKENS {
-        Ok(tokens)
-    } else {
-        Err(ScanEnd::Memory)
     }
 }

@@ -6,7 +6,10 @@ use std::test::Fail;
 fn shown(alloc: Global, scanned: Result<Vec<Token>, ScanEnd>) -> Result<String, AllocError> {
     match scanned {
         Ok(tokens) => {
-            let stops = tokens.iter().filter(|token| matches!(token.tok, Tok::Stop)).count();
+            let stops = tokens
+                .iter()
+                .filter(|token| matches!(token.tok, Tok::Stop))
+                .count();
             format!(in alloc; "{} tokens, {stops} of them points", tokens.len())
         }
         Err(end) => format!(in alloc; "{end:?}"),
@@ -25,7 +28,10 @@ fn a_source_gives_its_tokens_or_the_first_bad_place(rt: HostRuntime) -> Result<(
             "BadToken { line: 1, column: 12 }",
         ),
     ] {
-        assert_eq!(rt; shown(alloc, tokens_in(alloc, source.as_bytes()))?.as_str(), wanted);
+        assert_eq!(rt;
+            shown(alloc, tokens_in(alloc, source.as_bytes()))?.as_str(),
+            wanted
+        );
     }
     Ok(())
 }

@@ -1,0 +1,3 @@
+pub mod Most
+pub mod TextLengths
+pub mod TokenCounts
