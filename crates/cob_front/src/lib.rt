@@ -6,9 +6,9 @@
 mod end;
 mod graphs;
 mod laws;
-mod phases;
 #[cfg(test)]
 mod payroll;
+mod phases;
 #[cfg(test)]
 mod tests;
 

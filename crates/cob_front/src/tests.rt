@@ -7,10 +7,7 @@ use std::test::Fail;
 const BEFORE: &str =
     "       IDENTIFICATION DIVISION.\n       PROGRAM-ID. T.\n       DATA DIVISION.\n       WORKING-STORAGE SECTION.\n       77 N PIC 9(3) VALUE 998.\n";
 
-fn shown(
-    alloc: Global,
-    answer: Result<Program, FrontEnd>,
-) -> Result<String, AllocError> {
+fn shown(alloc: Global, answer: Result<Program, FrontEnd>) -> Result<String, AllocError> {
     match answer {
         Ok(program) => format!(in alloc; "{} statements", program.statements),
         Err(end) => format!(in alloc; "{end:?}"),
@@ -58,7 +55,10 @@ fn each_answer_has_its_cause(rt: HostRuntime) -> Result<(), Fail> {
 fn a_source_may_be_too_long(rt: HostRuntime) -> Result<(), Fail> {
     let alloc = rt.alloc();
     let bytes = Vec::from_elem(alloc, b' ', 1_048_577)?;
-    assert_eq!(rt; shown(alloc, program_in(alloc, bytes.as_slice()))?.as_str(), "TooLong");
+    assert_eq!(rt;
+        shown(alloc, program_in(alloc, bytes.as_slice()))?.as_str(),
+        "TooLong"
+    );
     Ok(())
 }
 
@@ -131,7 +131,10 @@ fn graphs_have_nodes_or_a_cause(rt: HostRuntime) -> Result<(), Fail> {
         ),
     ] {
         let source = format!(in alloc; "{BEFORE_LINE_6}{lines}")?;
-        assert_eq!(rt; counted(alloc, source.as_str().as_bytes())?.as_str(), wanted);
+        assert_eq!(rt;
+            counted(alloc, source.as_str().as_bytes())?.as_str(),
+            wanted
+        );
     }
     Ok(())
 }
@@ -150,10 +153,14 @@ fn paragraph(alloc: Global, number: u32) -> Result<String, AllocError> {
 // A program whose loop runs so many paragraphs, of six nodes each.
 fn trial(alloc: Global, count: u32) -> Result<String, AllocError> {
     let last = paragraph(alloc, count)?;
-    let mut text = format!(in alloc; "{BEFORE}       PROCEDURE DIVISION.\n       PERFORM P-0001 THRU {last} 100 TIMES.\n       STOP RUN.\n")?;
+    let mut text = format!(in alloc;
+        "{BEFORE}       PROCEDURE DIVISION.\n       PERFORM P-0001 THRU {last} 100 TIMES.\n       STOP RUN.\n"
+    )?;
     for number in 1..=count {
         let name = paragraph(alloc, number)?;
-        let lines = format!(in alloc; "       {name}.\n           ADD 1 TO N.\n           IF N > 9 MOVE 0 TO N END-IF.\n")?;
+        let lines = format!(in alloc;
+            "       {name}.\n           ADD 1 TO N.\n           IF N > 9 MOVE 0 TO N END-IF.\n"
+        )?;
         text.push_str(lines.as_str())?;
     }
     Ok(text)
@@ -168,7 +175,10 @@ fn trials_have_six_nodes_a_paragraph_and_five(rt: HostRuntime) -> Result<(), Fai
         (682, "Limit { which: Nodes, count: 4097 }"),
     ] {
         let source = trial(alloc, count)?;
-        assert_eq!(rt; counted(alloc, source.as_str().as_bytes())?.as_str(), wanted);
+        assert_eq!(rt;
+            counted(alloc, source.as_str().as_bytes())?.as_str(),
+            wanted
+        );
     }
     Ok(())
 }
@@ -179,7 +189,9 @@ fn doubling(alloc: Global, count: u32) -> Result<String, AllocError> {
     for number in 1..count {
         let name = paragraph(alloc, number)?;
         let next = paragraph(alloc, number + 1)?;
-        let lines = format!(in alloc; "       {name}.\n           PERFORM {next}.\n           PERFORM {next}.\n")?;
+        let lines = format!(in alloc;
+            "       {name}.\n           PERFORM {next}.\n           PERFORM {next}.\n"
+        )?;
         text.push_str(lines.as_str())?;
     }
     let name = paragraph(alloc, count)?;
@@ -191,6 +203,9 @@ fn doubling(alloc: Global, count: u32) -> Result<String, AllocError> {
 fn copies_without_number_are_refused_at_once(rt: HostRuntime) -> Result<(), Fail> {
     let alloc = rt.alloc();
     let source = doubling(alloc, 40)?;
-    assert_eq!(rt; counted(alloc, source.as_str().as_bytes())?.as_str(), "Limit { which: Nodes, count: 1000000000 }");
+    assert_eq!(rt;
+        counted(alloc, source.as_str().as_bytes())?.as_str(),
+        "Limit { which: Nodes, count: 1000000000 }"
+    );
     Ok(())
 }
