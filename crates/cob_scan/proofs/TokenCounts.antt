@@ -24,18 +24,22 @@ piece_few : (start : ℕ) (m : Mark) (n : ℕ) (shape : Option Shape) → length
 piece_few start m n None = omega arith
 piece_few start m n (Some shape) = omega arith
 
-prefixed_few : (n : ℕ) (ps : List Piece) (r : Result (List Piece) lex.Place) → length ps ≤ 1 → Most n r → Most (n + 1) (prefixed ps r)
+prefixed_few : (n : ℕ) (ps : List Piece) (r : Result (List Piece) lex.Place) → length ps ≤ 1 → Most n r
+    → Most (n + 1) (prefixed ps r)
 prefixed_few n ps (Ok qs) h most = omega (arith, length-append ps qs)
 prefixed_few n ps (Err refused) h most = tt
 
-begun_few : (n start : ℕ) (m : Mark) (found : Option Cut) (next : Cut → Result (List Piece) lex.Place) → ((c : Cut) → Most n (next c)) → Most (n + 1) (begun start m found next)
+begun_few : (n start : ℕ) (m : Mark) (found : Option Cut) (next : Cut → Result (List Piece) lex.Place)
+    → ((c : Cut) → Most n (next c)) → Most (n + 1) (begun start m found next)
 begun_few n start m None next most = tt
-begun_few n start m (Some c) next most = prefixed_few n (piece_list start m c.length c.shape) (next c) (piece_few start m c.length c.shape) (most c)
+begun_few n start m (Some c) next most =
+    prefixed_few n (piece_list start m c.length c.shape) (next c) (piece_few start m c.length c.shape) (most c)
 
 read_few : (start : ℕ) (s : State) (n : ℕ) (text : List Mark) → Most (length text) (read start s n text)
 unfolding read
 read_few start s n [] = omega arith
-read_few start s (suc n) (m ∷ ms) = most_more (length ms) (length (m ∷ ms)) (read (start + 1) s n ms) (omega arith) (read_few (start + 1) s n ms)
+read_few start s (suc n) (m ∷ ms) =
+    most_more (length ms) (length (m ∷ ms)) (read (start + 1) s n ms) (omega arith) (read_few (start + 1) s n ms)
 read_few start s zero (m ∷ ms) =
     let next = λ (c : Cut). read (start + 1) (after s c (m ∷ ms)) (c.length - 1) ms in
     let found = cut s (m ∷ ms) in
@@ -93,10 +97,15 @@ lexed_few n (Ok tokens) most = most
 lexed_few n (Err place) most = tt
 
 joined_few : (n : ℕ) (r : Result (List Mark) text.Place) → Most n r → HasMost n (joined r)
-joined_few n (Ok marks) most = lexed_few n (canonical_tokens marks) (most_more (length marks) n (canonical_tokens marks) most (tokens_few marks))
+joined_few n (Ok marks) most =
+    let tokens = canonical_tokens marks in
+    lexed_few n tokens (most_more (length marks) n tokens most (tokens_few marks))
 joined_few n (Err place) most = tt
 
-pub few_tokens : (bytes : List ℕ) (tokens : List Token) → length bytes ≤ 1048576 → scan_of bytes ≡ Tokens tokens → length tokens ≤ 2 ^ 27
+pub few_tokens : (bytes : List ℕ) (tokens : List Token) → length bytes ≤ 1048576 → scan_of bytes ≡ Tokens tokens
+    → length tokens ≤ 2 ^ 27
 few_tokens bytes tokens h e =
-    let most : length tokens ≤ 66 * (length bytes + 1) = subst (HasMost (66 * (length bytes + 1))) e (joined_few (66 * (length bytes + 1)) (source_text bytes) (text_few bytes)) in
+    let n = 66 * (length bytes + 1) in
+    let scanned : HasMost n (scan_of bytes) = joined_few n (source_text bytes) (text_few bytes) in
+    let most : length tokens ≤ n = subst (HasMost n) e scanned in
     omega arith

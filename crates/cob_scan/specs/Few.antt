@@ -6,4 +6,5 @@ use Rattle.cob_scan.specs.Scan.{Tokens, scan_of}
 -- a source of at most 1,048,576 bytes has at most 2^27 tokens
 abbrev pub HasFewTokens : Type 0
 HasFewTokens =
-    (bytes : List ℕ) (tokens : List Token) → length bytes ≤ 1048576 → scan_of bytes ≡ Tokens tokens → length tokens ≤ 2 ^ 27
+    (bytes : List ℕ) (tokens : List Token) → length bytes ≤ 1048576 → scan_of bytes ≡ Tokens tokens
+    → length tokens ≤ 2 ^ 27
