@@ -1,2 +1,4 @@
 mod TreeCauses
 mod OneAnswer
+mod Short
+mod Answering

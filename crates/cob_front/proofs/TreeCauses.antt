@@ -11,7 +11,7 @@ use Rattle.cob_data.specs.declared.end.Which.{Which}
 use Rattle.cob_data.specs.declared.end.Which.TheVariants as which
 use Rattle.cob_data.specs.declared.end.DataEnd.TheVariants as data_end
 use Rattle.cob_data.specs.Rules.{data_rules, broken_lines, facts_of, count_of, IsFirstExceeded, IsWithinLimits}
-use Rattle.cob_data.specs.Layouts as data
+use Rattle.cob_data.specs.Layouts as layouts
 use Rattle.cob_data.specs.Layouts.{HasLayout, layout}
 use Rattle.cob_program.specs.Act.{Program}
 use Rattle.cob_typed.specs.Typing.{IsTyped, IsOutside, typed, lines_of, typing_rules}
@@ -21,13 +21,13 @@ use Rattle.cob_front.specs.Source.{IsTypedTree, IsTreeCause, program_of}
 
 -- ---- the first broken rule
 
-broken_once : {R : Type 0} (lines : R → List ℕ) (table : List R) (r s : R) (m n : ℕ) → IsFirstBroken lines table r m → IsFirstBroken lines table s n → (r, m) ≡ (s, n)
+broken_once : {R : Type 0} (lines : R → List ℕ) (table : List R) (r s : R) (m n : ℕ) → IsFirstBroken lines table r m → IsFirstBroken lines table s n → ◌≡◌ {A = R × ℕ} (r, m) (s, n)
 broken_once lines table r s m n h k = same_Some (r, m) (s, n) (sym (is_first lines table r m h) ∙ is_first lines table s n k)
 
 kept_or_broken : {R : Type 0} (lines : R → List ℕ) (table : List R) (r : R) (n : ℕ) → AreKept lines table → IsFirstBroken lines table r n → ⊥
 kept_or_broken lines table r n kept broken = let none_is = sym (is_kept lines table kept) ∙ is_first lines table r n broken in cc
 
-outside_once : (r s : Rule) (m n : ℕ) → (r, m) ≡ (s, n) → end.Outside r m ≡ end.Outside s n
+outside_once : (r s : Rule) (m n : ℕ) → ◌≡◌ {A = Rule × ℕ} (r, m) (s, n) → end.Outside r m ≡ end.Outside s n
 outside_once r s m n e = ap (λ (x : Rule × ℕ). end.Outside x.0 x.1) e
 
 -- ---- the first limit that is exceeded
@@ -66,9 +66,9 @@ exceeded_once t which.Files which.Nodes h k = absurd k
 -- ---- causes
 
 pub typed_or_cause : (t : declared_tree.Tree) (e : FrontEnd) → IsTypedTree t → IsTreeCause t e → ⊥
-typed_or_cause t (end.Outside rule line) h (inl k) = kept_or_broken (broken_lines t) data_rules rule line h.data.kept k
+typed_or_cause t (end.Outside rule line) h (inl k) = kept_or_broken (broken_lines t) data_rules rule line h.has_layout.kept k
 typed_or_cause t (end.Outside rule line) h (inr k) = kept_or_broken (lines_of (layout t) (plain_tree t)) typing_rules rule line h.rules k.1
-typed_or_cause t (end.Limit w count) h k = within_or_exceeded t w h.data.within k.1
+typed_or_cause t (end.Limit w count) h k = within_or_exceeded t w h.has_layout.within k.1
 typed_or_cause t end.TooLong h k = k
 typed_or_cause t (end.BadLine line column) h k = k
 typed_or_cause t (end.BadToken line column) h k = k
@@ -137,8 +137,8 @@ abbrev like : declared_tree.Tree → declared_tree.Tree
 like t = back (plain_tree t)
 
 abbrev CauseIn : Tree → FrontEnd → Type 0
-CauseIn p (end.Outside rule line) = data.IsCause (back p) (data_end.Outside rule line) ⊎ (HasLayout (back p) × IsOutside (layout (back p)) p rule line)
-CauseIn p (end.Limit which count) = data.IsCause (back p) (data_end.Limit which count)
+CauseIn p (end.Outside rule line) = layouts.IsCause (back p) (data_end.Outside rule line) ⊎ (HasLayout (back p) × IsOutside (layout (back p)) p rule line)
+CauseIn p (end.Limit which count) = layouts.IsCause (back p) (data_end.Limit which count)
 CauseIn p _ = ⊥
 
 layout_in : (t : declared_tree.Tree) → HasLayout t → HasLayout (like t)
@@ -187,8 +187,8 @@ TypedIn p = HasLayout (back p) × IsTyped (layout (back p)) p
 
 pub typed_of_same : (a b : declared_tree.Tree) → plain_tree a ≡ plain_tree b → IsTypedTree a → IsTypedTree b
 typed_of_same a b same h =
-    let there : TypedIn (plain_tree b) = subst TypedIn same (layout_in a h.data, h.rules) in
-    record { data = layout_out b there.0; rules = there.1 }
+    let there : TypedIn (plain_tree b) = subst TypedIn same (layout_in a h.has_layout, h.rules) in
+    record { has_layout = layout_out b there.0; rules = there.1 }
 
 pub program_of_same : (a b : declared_tree.Tree) → plain_tree a ≡ plain_tree b → program_of a ≡ program_of b
 program_of_same a b same = ap (λ p. typed (layout (back p)) p) same

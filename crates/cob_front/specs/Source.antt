@@ -8,7 +8,7 @@ use Rattle.cob_scan.specs.Scan.{BadLineAt, BadTokenAt, Tokens, scan_of}
 use Rattle.cob_parse_proc.specs.Parsing.{IsTree, IsWrong, IsDeep}
 use Rattle.cob_data.specs.declared.layout.Layout.{Layout}
 use Rattle.cob_data.specs.declared.end.DataEnd.TheVariants as data_end
-use Rattle.cob_data.specs.Layouts as data
+use Rattle.cob_data.specs.Layouts as layouts
 use Rattle.cob_data.specs.Layouts.{HasLayout, layout}
 use Rattle.cob_program.specs.declared.program.Program as declared_program
 use Rattle.cob_program.specs.Act.{Program}
@@ -34,7 +34,7 @@ pub record StandsFor (bytes : List ℕ) (t : Tree) : Type 0 where
 -- Each rule on data and on statements is kept, and no limit on data is exceeded. The layout and the program follow from
 -- the tree.
 pub record IsTypedTree (t : Tree) : Type 0 where
-  pub data : HasLayout t
+  pub has_layout : HasLayout t
   pub rules : IsTyped (layout t) (plain_tree t)
 
 abbrev pub program_of : Tree → Program
@@ -53,8 +53,8 @@ pub record IsSource (bytes : List ℕ) (p : Program) : Type 0 where
 -- rule on statements
 abbrev pub IsTreeCause : Tree → FrontEnd → Type 0
 IsTreeCause t (end.Outside rule line) =
-    data.IsCause t (data_end.Outside rule line) ⊎ (HasLayout t × IsOutside (layout t) (plain_tree t) rule line)
-IsTreeCause t (end.Limit which count) = data.IsCause t (data_end.Limit which count)
+    layouts.IsCause t (data_end.Outside rule line) ⊎ (HasLayout t × IsOutside (layout t) (plain_tree t) rule line)
+IsTreeCause t (end.Limit which count) = layouts.IsCause t (data_end.Limit which count)
 IsTreeCause t _ = ⊥
 
 pub record HasCause (bytes : List ℕ) (e : FrontEnd) : Type 0 where

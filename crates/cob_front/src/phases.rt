@@ -69,6 +69,16 @@ fn typed_in(alloc: Global, tree: &Tree) -> Result<Program, FrontEnd>
     }
 }
 
+// The answer to a source.
+fn answered(alloc: Global, bytes: &[u8]) -> Result<Program, FrontEnd>
+    ensures { Answers (IsProgram bytes.now) (IsCause bytes.now) result }
+{
+    match tree_in(alloc, bytes) {
+        Ok(tree) => typed_in(alloc, &tree),
+        Err(end) => Err(end),
+    }
+}
+
 /// The program of a source: its rules on data and on statements are kept, and no limit on data is exceeded. Or the first
 /// reason why it isn't one, in the order of the variants of [`FrontEnd`]; rules and limits on data come before rules on
 /// statements.
@@ -77,8 +87,5 @@ pub fn program_in(alloc: Global, bytes: &[u8]) -> Result<Program, FrontEnd>
     ensures refused { (end : End) → IsCause bytes.now end → IsRefused result end }
     ensures accepted { (program : PlainProgram) → IsSource bytes.now program → IsAccepted result }
 {
-    match tree_in(alloc, bytes) {
-        Ok(tree) => typed_in(alloc, &tree),
-        Err(end) => Err(end),
-    }
+    answered(alloc, bytes)
 }
