@@ -1,0 +1,4 @@
+pub mod Pairs
+pub mod Forms
+pub mod Areas
+pub mod Soundness
