@@ -79,9 +79,9 @@ first_holds true name d ds e named count any =
     let others : list_any (may_hold_status name) ds ≡ false = none_holds name ds (omega (arith, one)) in
     let here : (is_status_holder d || false) ≡ true = rw (e, others) at any in
     at (is_status_holder d) here where
-  at : (y : Bool) → (y || false) ≡ true → y ≡ true
-  at true h = refl
-  at false h = cc
+      at : (y : Bool) → (y || false) ≡ true → y ≡ true
+      at true h = refl
+      at false h = cc
 
 place_found : (l : Layout) (name : List ℕ) (ds : List Description) (ss : List Spot) (i : ℕ) (P : ℕ → Type 0) → ((k : ℕ) → length_in (laid_items ds ss) k ≡ 2 → P (i + k)) →
     length ds ≡ length ss → AllPairs (λ d s. IsSoundItem l (item_at d s)) ds ss → count_by (is_named name) ds ≡ 1 → list_any (may_hold_status name) ds ≡ true →
@@ -97,10 +97,10 @@ place_found l name (d ∷ ds) (s ∷ ss) i P show e sound count any =
     (λ other. place_found l name ds ss (i + 1) P
     (λ k h. let same : i + suc k ≡ i + 1 + k = omega arith in subst P same (show (suc k) h))
     (omega (arith, e)) sound.1 (omega (arith, counted name false d ds 1 other count)) (rw other at any)) where
-  at : (x : Bool) → is_named name d ≡ x → (is_named name d ≡ true → P i) → (is_named name d ≡ false → IfSome (position_from (is_named name) (i + 1) ds) P) →
-      IfSome (cond x (Some i) (position_from (is_named name) (i + 1) ds)) P
-  at true e here there = here e
-  at false e here there = there e
+      at : (x : Bool) → is_named name d ≡ x → (is_named name d ≡ true → P i) → (is_named name d ≡ false → IfSome (position_from (is_named name) (i + 1) ds) P) →
+          IfSome (cond x (Some i) (position_from (is_named name) (i + 1) ds)) P
+      at true e here there = here e
+      at false e here there = there e
 
 status_found : (l : Layout) (ds : List Description) (ss : List Spot) (o : Option (List ℕ)) → length ds ≡ length ss → AllPairs (λ d s. IsSoundItem l (item_at d s)) ds ss →
     is_wrong_status ds o ≡ false → IfSome (status_place ds o) (λ place. length_in (laid_items ds ss) place ≡ 2)
