@@ -1,9 +1,8 @@
 -- The layout of a tree is sound.
-use Rattle.std.proofs.Common.{◌≡◌, ℕ, ◌+◌, ◌≤◌, zero, suc, Bool, true, false, not, cond, eqb, ◌&&◌, ◌||◌, List, [], ◌∷◌, ◌++◌, map, length, slice_get, count_by, Option, Some, None, IfSome, refl, ap, ◌∙◌, sym, subst, arith}
+use Rattle.std.proofs.Common.{◌≡◌, ℕ, ◌+◌, suc, Bool, true, false, cond, eqb, ◌&&◌, ◌||◌, List, [], ◌∷◌, ◌++◌, map, length, slice_get, count_by, Option, Some, None, IfSome, refl, ap, ◌∙◌, sym, subst, arith}
 use Rattle.std.specs.List.{All, AllByRecursion, list_any, position_from}
 use Rattle.std.specs.Option.{option_map_or}
-use Rattle.std.proofs.lemmas.Bool.{not-false, and_parts, and_left, or_cases, or_parts, eqb-true, false≢true}
-use Rattle.std.proofs.lemmas.Bool.Decides.{nat_tests}
+use Rattle.std.proofs.lemmas.Bool.{not-false, and_parts, eqb-true}
 use Rattle.std.proofs.lemmas.List.Sums.{sum_by-cons}
 use Rattle.std.proofs.lemmas.List.Elements.{All-nil, All-cons}
 use Rattle.rule_order.specs.Order.{line_if}
@@ -17,7 +16,7 @@ use Rattle.cob_data.specs.declared.description.Description.{Description}
 use Rattle.cob_data.specs.declared.description.Spot.{Spot}
 use Rattle.cob_data.specs.declared.end.Rule.{Rule}
 use Rattle.cob_data.specs.declared.end.Rule.TheVariants.{L1, L2, L3, L5, L11}
-use Rattle.cob_data.specs.Entries.{all_entries, items_of}
+use Rattle.cob_data.specs.Entries.{all_entries}
 use Rattle.cob_data.specs.Spots.{all_spots}
 use Rattle.cob_data.specs.Files.{is_named, is_two_bytes, is_status_holder, may_hold_status, is_status_item, is_wrong_status, status_of, breaks_status}
 use Rattle.cob_data.specs.Rules.{Facts, facts_of, item_breaks, item_lines, condition_lines, select_breaks, select_lines, fd_lines, end_lines, lines_in}
@@ -79,9 +78,9 @@ first_holds true name d ds e named count any =
     let others : list_any (may_hold_status name) ds ≡ false = none_holds name ds (omega (arith, one)) in
     let here : (is_status_holder d || false) ≡ true = rw (e, others) at any in
     at (is_status_holder d) here where
-  at : (y : Bool) → (y || false) ≡ true → y ≡ true
-  at true h = refl
-  at false h = cc
+      at : (y : Bool) → (y || false) ≡ true → y ≡ true
+      at true h = refl
+      at false h = cc
 
 place_found : (l : Layout) (name : List ℕ) (ds : List Description) (ss : List Spot) (i : ℕ) (P : ℕ → Type 0) → ((k : ℕ) → length_in (laid_items ds ss) k ≡ 2 → P (i + k)) →
     length ds ≡ length ss → AllPairs (λ d s. IsSoundItem l (item_at d s)) ds ss → count_by (is_named name) ds ≡ 1 → list_any (may_hold_status name) ds ≡ true →
@@ -97,10 +96,10 @@ place_found l name (d ∷ ds) (s ∷ ss) i P show e sound count any =
     (λ other. place_found l name ds ss (i + 1) P
     (λ k h. let same : i + suc k ≡ i + 1 + k = omega arith in subst P same (show (suc k) h))
     (omega (arith, e)) sound.1 (omega (arith, counted name false d ds 1 other count)) (rw other at any)) where
-  at : (x : Bool) → is_named name d ≡ x → (is_named name d ≡ true → P i) → (is_named name d ≡ false → IfSome (position_from (is_named name) (i + 1) ds) P) →
-      IfSome (cond x (Some i) (position_from (is_named name) (i + 1) ds)) P
-  at true e here there = here e
-  at false e here there = there e
+      at : (x : Bool) → is_named name d ≡ x → (is_named name d ≡ true → P i) → (is_named name d ≡ false → IfSome (position_from (is_named name) (i + 1) ds) P) →
+          IfSome (cond x (Some i) (position_from (is_named name) (i + 1) ds)) P
+      at true e here there = here e
+      at false e here there = there e
 
 status_found : (l : Layout) (ds : List Description) (ss : List Spot) (o : Option (List ℕ)) → length ds ≡ length ss → AllPairs (λ d s. IsSoundItem l (item_at d s)) ds ss →
     is_wrong_status ds o ≡ false → IfSome (status_place ds o) (λ place. length_in (laid_items ds ss) place ≡ 2)
