@@ -1,14 +1,12 @@
 -- The record area of a file ends within storage: its records lie at the top, where none starts before an earlier one.
-use Rattle.std.proofs.Common.{◌≡◌, ℕ, ◌+◌, ◌<◌, ◌≤◌, max, Bool, true, false, not, cond, eqb, leb, ltb, ◌&&◌, ◌||◌, List, [], ◌∷◌, ◌++◌, length, Option, Some, None, IfSome, refl, ap, ◌∙◌, sym, subst, arith}
+use Rattle.std.proofs.Common.{◌≡◌, ℕ, ◌+◌, ◌≤◌, max, Bool, true, false, not, cond, eqb, leb, ltb, ◌&&◌, ◌||◌, List, [], ◌∷◌, ◌++◌, length, Option, Some, None, IfSome, refl, sym, subst, arith}
 use Rattle.std.specs.List.{AllByRecursion, fold}
 use Rattle.std.proofs.lemmas.Bool.Decides.{nat_tests}
 use Rattle.cob_data.specs.declared.description.Description.{Description}
 use Rattle.cob_data.specs.declared.description.Spot.{Spot}
 use Rattle.cob_data.specs.declared.end.Rule.TheVariants.{L1}
-use Rattle.cob_data.specs.Entries.{same_area}
-use Rattle.cob_data.specs.Lengths.{Forest, bare, item, depth, is_deeper, deeper, behind, forest, size, item_bytes}
+use Rattle.cob_data.specs.Lengths.{Forest, bare, item, depth, is_deeper, deeper, behind, forest, size}
 use Rattle.cob_data.specs.Spots.{Neighbour, lies_on, start_at, spot, spots, above_parts, end_behind, lies_on_last, nothing_above, all_spots, storage_of}
-use Rattle.cob_data.specs.ItemRules.{begins_record, is_under_01}
 use Rattle.cob_data.specs.Files.{is_record_of, longest}
 use Rattle.cob_data.specs.Rules.{item_breaks}
 use Rattle.cob_data.specs.Layouts.{area_start}

@@ -1,16 +1,14 @@
 -- The form and the value of an entry, and that the item has the bytes of this form.
-use Rattle.std.proofs.Common.{◌≡◌, ℕ, ◌+◌, ◌≤◌, Bool, true, false, not, cond, ◌&&◌, ◌||◌, List, [], ◌∷◌, map, length, Option, Some, None, is_some, IfSome, refl, ap, ◌∙◌, sym, subst, arith}
-use Rattle.std.specs.Prelude.{IsTrue}
+use Rattle.std.proofs.Common.{◌≡◌, ℕ, ◌+◌, ◌≤◌, Bool, true, false, cond, List, [], ◌∷◌, map, Option, Some, None, is_some, IfSome, refl, ◌∙◌, sym, subst}
 use Rattle.std.specs.List.{AllByRecursion, find}
 use Rattle.std.specs.Option.{option_and_then}
-use Rattle.std.proofs.lemmas.Bool.{not-false, or_parts, and_parts}
+use Rattle.std.proofs.lemmas.Bool.{not-false, and_parts}
 use Rattle.cob_tree.specs.declared.form.Form.{Form}
 use Rattle.cob_tree.specs.declared.form.Form.TheVariants.{Group, Text, Number, Edited}
 use Rattle.cob_tree.specs.declared.form.Usage.{Usage}
 use Rattle.cob_tree.specs.declared.front.Clause.{Clause}
 use Rattle.cob_tree.specs.declared.front.Clause.TheVariants as clause
 use Rattle.cob_tree.specs.declared.front.Range.{Range}
-use Rattle.cob_tree.specs.declared.front.Entry.{Entry}
 use Rattle.cob_tree.specs.declared.operand.Const.{Const}
 use Rattle.cob_tree.specs.declared.operand.Const.TheVariants as const
 use Rattle.cob_tree.specs.Pictures.{IsAllowed, AreDigits, HasPlaces}
@@ -23,13 +21,12 @@ use Rattle.cob_data.specs.declared.description.Span.{Span}
 use Rattle.cob_data.specs.declared.description.Description.{Description}
 use Rattle.cob_data.specs.declared.description.Spot.{Spot}
 use Rattle.cob_data.specs.declared.end.Rule.TheVariants.{L2, L3, L5}
-use Rattle.cob_data.specs.Entries.{Placed, is_picture, is_redefines, is_usage, is_sign, is_value, text_in, usage_in, spans_in, span_of, sender_of, kept_as, form_kept_as, form_or_group, pictured_form, form_bytes, description, descriptions, is_condition}
+use Rattle.cob_data.specs.Entries.{Placed, is_picture, is_usage, is_sign, is_value, text_in, usage_in, spans_in, span_of, sender_of, kept_as, form_kept_as, form_or_group, pictured_form, form_bytes, description, descriptions, is_condition}
 use Rattle.cob_data.specs.Values.{has_category, has_room, holds, holds_alone}
 use Rattle.cob_data.specs.ItemRules.{breaks_parts, breaks_pictures, breaks_values, may_begin_with, is_formless}
 use Rattle.cob_data.specs.Rules.{item_breaks}
 use Rattle.cob_data.specs.Layouts.{first_low, item_at}
-use Rattle.cob_runs.specs.Moves.{takes_number}
-use Rattle.cob_items.specs.Sound.{IsSoundForm, IsSoundNumber, IsSoundPicture, IsSoundLiteral, IsCountable, CanMove, IsConstant, IsSoundItem}
+use Rattle.cob_items.specs.Sound.{IsSoundForm, IsSoundLiteral, CanMove, IsConstant, IsSoundItem}
 use Rattle.cob_sound.specs.Layouts.{IsShortConst, IsShortRange, IsShortClause, IsShortEntry}
 use Rattle.cob_sound.proofs.Pairs.{HasOwnBytes}
 

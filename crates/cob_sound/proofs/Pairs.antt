@@ -1,6 +1,5 @@
 -- Items with the places where they lie.
-use Rattle.std.proofs.Common.{◌≡◌, ℕ, ◌+◌, Bool, true, false, not, cond, List, [], ◌∷◌, ◌++◌, length, length-append, Option, Some, None, refl, ap, ◌∙◌, sym, subst, arith}
-use Rattle.std.specs.List.{AllByRecursion}
+use Rattle.std.proofs.Common.{◌≡◌, ℕ, ◌+◌, Bool, true, false, not, List, [], ◌∷◌, ◌++◌, length, Option, Some, None, refl, subst, arith}
 use Rattle.rule_order.specs.Order.{line_if}
 use Rattle.cob_data.specs.declared.description.Description.{Description}
 use Rattle.cob_data.specs.declared.description.Spot.{Spot}

@@ -1,9 +1,8 @@
 -- The layout of a tree is sound.
-use Rattle.std.proofs.Common.{◌≡◌, ℕ, ◌+◌, ◌≤◌, zero, suc, Bool, true, false, not, cond, eqb, ◌&&◌, ◌||◌, List, [], ◌∷◌, ◌++◌, map, length, slice_get, count_by, Option, Some, None, IfSome, refl, ap, ◌∙◌, sym, subst, arith}
+use Rattle.std.proofs.Common.{◌≡◌, ℕ, ◌+◌, suc, Bool, true, false, cond, eqb, ◌&&◌, ◌||◌, List, [], ◌∷◌, ◌++◌, map, length, slice_get, count_by, Option, Some, None, IfSome, refl, ap, ◌∙◌, sym, subst, arith}
 use Rattle.std.specs.List.{All, AllByRecursion, list_any, position_from}
 use Rattle.std.specs.Option.{option_map_or}
-use Rattle.std.proofs.lemmas.Bool.{not-false, and_parts, and_left, or_cases, or_parts, eqb-true, false≢true}
-use Rattle.std.proofs.lemmas.Bool.Decides.{nat_tests}
+use Rattle.std.proofs.lemmas.Bool.{not-false, and_parts, eqb-true}
 use Rattle.std.proofs.lemmas.List.Sums.{sum_by-cons}
 use Rattle.std.proofs.lemmas.List.Elements.{All-nil, All-cons}
 use Rattle.rule_order.specs.Order.{line_if}
@@ -17,7 +16,7 @@ use Rattle.cob_data.specs.declared.description.Description.{Description}
 use Rattle.cob_data.specs.declared.description.Spot.{Spot}
 use Rattle.cob_data.specs.declared.end.Rule.{Rule}
 use Rattle.cob_data.specs.declared.end.Rule.TheVariants.{L1, L2, L3, L5, L11}
-use Rattle.cob_data.specs.Entries.{all_entries, items_of}
+use Rattle.cob_data.specs.Entries.{all_entries}
 use Rattle.cob_data.specs.Spots.{all_spots}
 use Rattle.cob_data.specs.Files.{is_named, is_two_bytes, is_status_holder, may_hold_status, is_status_item, is_wrong_status, status_of, breaks_status}
 use Rattle.cob_data.specs.Rules.{Facts, facts_of, item_breaks, item_lines, condition_lines, select_breaks, select_lines, fd_lines, end_lines, lines_in}

@@ -1,5 +1,5 @@
 -- What holds of the layout of each tree.
-use Rattle.std.specs.Prelude.{IfSome, List}
+use Rattle.std.specs.Prelude.{IfSome}
 use Rattle.std.specs.List.{AllByRecursion}
 use Rattle.cob_tree.specs.declared.operand.Const.{Const}
 use Rattle.cob_tree.specs.declared.operand.Const.TheVariants as const

@@ -1,0 +1,4 @@
+pub mod Numbers
+pub mod Conditions
+pub mod Files
+pub mod Typed
