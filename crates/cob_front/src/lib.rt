@@ -14,5 +14,5 @@ mod tests;
 
 pub use end::FrontEnd;
 pub use graphs::graph_in;
-pub use laws::one_answer;
+pub use laws::{one_answer, runs_of_sources_are_ways};
 pub use phases::program_in;
