@@ -6,7 +6,7 @@ use Rattle.cob_program.specs.Act.{Program}
 use Rattle.cob_graph.specs.declared.graph.Graph.{Graph}
 use Rattle.cob_graph.specs.Graphs.{IsGraph}
 use Rattle.cob_graph.specs.Walks.{IsWhole, IsSimulated}
-use Rattle.cob_graph.proofs.Simulated.{simulation}
+use Rattle.cob_graph.proofs.Simulated.{simulates}
 use Rattle.cob_whole.proofs.Typed.{are_whole}
 use Rattle.cob_front.specs.Source.{IsSource}
 
@@ -14,4 +14,4 @@ is_whole : (bytes : List ℕ) (p : Program) → IsSource bytes p → IsWhole p
 is_whole bytes p is = subst IsWhole (sym is.program) (are_whole (layout is.tree) (plain_tree is.tree) is.stands.parsed.shaped is.keeps.rules)
 
 pub runs_are_ways : (bytes : List ℕ) (p : Program) (g : Graph) → IsSource bytes p → IsGraph p g → IsSimulated p g
-runs_are_ways bytes p g is graph = simulation p g (is_whole bytes p is) graph
+runs_are_ways bytes p g is graph = simulates p g (is_whole bytes p is) graph
