@@ -121,6 +121,9 @@ def of_the_profile():
     for number, line in enumerate((ROOT / "tests/cases/profile.jsonl").open(), 1):
         case = json.loads(line)
         yield f"profile.jsonl {number}", case["source"].encode("latin-1"), (case["refused"] or f"accepted {case['statements']}",)
+    for number, line in enumerate((ROOT / "tests/cases/rules.jsonl").open(), 1):
+        case = json.loads(line)
+        yield f"rules.jsonl {number}", case["source"].encode("latin-1"), (case["refused"],)
     for name, statements in (("payroll", 50), ("listing", 7)):
         yield name, (ROOT / f"samples/{name}.cob").read_bytes(), (f"accepted {statements}",)
 
