@@ -27,7 +27,7 @@ use Rattle.cob_data.specs.ItemRules.{breaks_parts, breaks_pictures, breaks_value
 use Rattle.cob_data.specs.Rules.{item_breaks}
 use Rattle.cob_data.specs.Layouts.{first_low, item_at}
 use Rattle.cob_items.specs.Sound.{IsSoundForm, IsSoundLiteral, CanMove, IsConstant, IsSoundItem}
-use Rattle.cob_sound.specs.Layouts.{IsShortConst, IsShortRange, IsShortClause, IsShortEntry}
+use Rattle.cob_sound.proofs.ShortValues.{IsShortConst, IsShortRange, IsShortClause, IsShortPlaced}
 use Rattle.cob_sound.proofs.Pairs.{HasOwnBytes}
 
 -- ---- forms of pictures
@@ -64,7 +64,7 @@ abbrev pub IsShortSender : Sender → Type 0
 IsShortSender (sender.Number n) = IsSoundLiteral n
 IsShortSender _ = Unit {0}
 
-short_sender : (c : Const) → IsShortConst c → IsShortSender (sender_of c)
+pub short_sender : (c : Const) → IsShortConst c → IsShortSender (sender_of c)
 short_sender (const.Number n) short = short
 short_sender (const.Text text) short = tt
 short_sender const.Zero short = tt
@@ -103,7 +103,7 @@ pub record IsFromEntry (d : Description) : Type 0 where
   pub whole : d.bytes ≡ form_bytes d.form
   pub short : IfSome (option_and_then first_low d.value) IsShortSender
 
-is_from_entry : (p : Placed) → IsShortEntry p → IsFromEntry (description p)
+is_from_entry : (p : Placed) → IsShortPlaced p → IsFromEntry (description p)
 is_from_entry p short =
     let clauses = p.entry.clauses in
     let usage = kept_as (usage_in (find is_usage clauses)) (usage_in (find is_sign clauses)) in
@@ -115,7 +115,7 @@ is_from_entry p short =
       short = short_value (find is_value clauses) (find_short is_value clauses short);
     }
 
-pub are_from_entries : (ps : List Placed) → AllByRecursion IsShortEntry ps → AllByRecursion IsFromEntry (descriptions ps)
+pub are_from_entries : (ps : List Placed) → AllByRecursion IsShortPlaced ps → AllByRecursion IsFromEntry (descriptions ps)
 are_from_entries [] short = tt
 are_from_entries (p ∷ ps) short = at (is_condition p.entry) p (descriptions ps) (is_from_entry p short.0) (are_from_entries ps short.1) where
   at : (x : Bool) (p : Placed) (ds : List Description) → IsFromEntry (description p) → AllByRecursion IsFromEntry ds →
@@ -154,7 +154,7 @@ form_is_sound d s false true g p from own parts pictures =
 -- ---- what items begin with
 
 -- a constant of the item's category can be moved to it
-low_is_sound : (l : Layout) (f : Form) (x : Sender) → has_category f x ≡ true → IsShortSender x → IsConstant x × CanMove l x f
+pub low_is_sound : (l : Layout) (f : Form) (x : Sender) → has_category f x ≡ true → IsShortSender x → IsConstant x × CanMove l x f
 low_is_sound l Group x has short = absurd (cc)
 low_is_sound l (Edited picture digits scale) x has short = absurd (cc)
 low_is_sound l (Text n) (sender.Item place) has short = absurd (cc)

@@ -15,15 +15,20 @@ use Rattle.cob_data.specs.declared.layout.Layout.{Layout}
 use Rattle.cob_data.specs.declared.description.Description.{Description}
 use Rattle.cob_data.specs.declared.description.Spot.{Spot}
 use Rattle.cob_data.specs.declared.end.Rule.{Rule}
-use Rattle.cob_data.specs.declared.end.Rule.TheVariants.{L1, L2, L3, L5, L11}
+use Rattle.cob_data.specs.declared.end.Rule.TheVariants.{L1, L2, L3, L5, L7, L11}
 use Rattle.cob_data.specs.Entries.{all_entries}
 use Rattle.cob_data.specs.Spots.{all_spots}
 use Rattle.cob_data.specs.Files.{is_named, is_two_bytes, is_status_holder, may_hold_status, is_status_item, is_wrong_status, status_of, breaks_status}
 use Rattle.cob_data.specs.Rules.{Facts, facts_of, item_breaks, item_lines, condition_lines, select_breaks, select_lines, fd_lines, end_lines, lines_in}
 use Rattle.cob_data.specs.Layouts.{item_at, laid_items, status_place, file_of, fd_place, layout_in, layout, HasLayout}
 use Rattle.cob_data.proofs.AnswerLemmas.{seated}
-use Rattle.cob_items.specs.Sound.{IsSoundForm, IsSoundItem, IsSoundFile, HasSoundItems}
-use Rattle.cob_sound.specs.Layouts.{HasShortValues}
+use Rattle.cob_items.specs.Sound.{IsSoundForm, IsSoundItem, IsSoundFile}
+use Rattle.cob_tree.specs.PrintFront.{print_front}
+use Rattle.cob_tree.specs.StmtView.{plain_tree}
+use Rattle.cob_sound.specs.Numerals.{HasShortNumerals}
+use Rattle.cob_sound.specs.Layouts.{IsSoundLayout}
+use Rattle.cob_sound.proofs.ShortValues.{short_left, short_values}
+use Rattle.cob_sound.proofs.Flags.{flags_sound, short_conditions}
 use Rattle.cob_sound.proofs.Pairs.{AllPairs, HasOwnBytes, rule_kept, have_own_bytes}
 use Rattle.cob_sound.proofs.Forms.{IsFromEntry, are_from_entries, item_is_sound}
 use Rattle.cob_sound.proofs.Areas.{IsIn, all_in, area_in}
@@ -143,19 +148,29 @@ items_kept : (a b c d e : List ℕ) → a ++ b ++ c ++ d ++ e ≡ [] → a ≡ [
 items_kept a b c d e none =
     (nothing_in_both a b (nothing_in_both (a ++ b) c (nothing_in_both (a ++ b ++ c) d (nothing_in_both (a ++ b ++ c ++ d) e none).0).0).0).0
 
+conditions_kept : (a b c d e : List ℕ) → a ++ b ++ c ++ d ++ e ≡ [] → b ≡ []
+conditions_kept a b c d e none =
+    (nothing_in_both a b (nothing_in_both (a ++ b) c (nothing_in_both (a ++ b ++ c) d (nothing_in_both (a ++ b ++ c ++ d) e none).0).0).0).1
+
 selects_kept : (a b c d e : List ℕ) → a ++ b ++ c ++ d ++ e ≡ [] → c ≡ []
 selects_kept a b c d e none =
     (nothing_in_both (a ++ b) c (nothing_in_both (a ++ b ++ c) d (nothing_in_both (a ++ b ++ c ++ d) e none).0).0).1
 
-pub are_sound : (t : Tree) → HasLayout t → HasShortValues t → HasSoundItems (layout t)
-are_sound t has short =
+pub are_sound : (t : Tree) → HasLayout t → HasShortNumerals (plain_tree t) → IsSoundLayout (layout t)
+are_sound t has numerals =
     let f = facts_of t in
     let rules = has.kept in
+    let short = short_values t.front (short_left (print_front t.front) _ numerals) in
     let kept : (rule : Rule) → lines_in f rule ≡ [] → AllPairs (λ d s. item_breaks rule d s ≡ false) f.items f.spots =
     λ rule none. rule_kept rule f.items f.spots (items_kept (item_lines rule f.items f.spots) (condition_lines rule f f.conditions) (select_lines rule f [] f.selects) (fd_lines rule f [] f.fds) (end_lines rule f.program f.end) none) in
+    let named : (rule : Rule) → lines_in f rule ≡ [] → condition_lines rule f f.conditions ≡ [] =
+    λ rule none. conditions_kept (item_lines rule f.items f.spots) (condition_lines rule f f.conditions) (select_lines rule f [] f.selects) (fd_lines rule f [] f.fds) (end_lines rule f.program f.end) none in
     let sound = items_sound (layout t) f.items f.spots (are_from_entries (all_entries t.front) short) (have_own_bytes f.items) (kept L2 rules.1.0) (kept L3 rules.1.1.0) (kept L5 rules.1.1.1.1.0) (all_in f.items) in
     let files = selects_kept (item_lines L11 f.items f.spots) (condition_lines L11 f f.conditions) (select_lines L11 f [] f.selects) (fd_lines L11 f [] f.fds) (end_lines L11 f.program f.end) (rules.1.1.1.1.1.1.1.1.1.1.0) in
     record {
-      items = all_sound (layout t) f.items f.spots sound;
-      files = files_sound f refl (kept L1 rules.0) sound [] f.selects files;
+      items = record {
+        items = all_sound (layout t) f.items f.spots sound;
+        files = files_sound f refl (kept L1 rules.0) sound [] f.selects files;
+      };
+      flags = flags_sound f f.conditions (named L1 rules.0) (named L7 rules.1.1.1.1.1.1.0) (short_conditions 0 None (all_entries t.front) short);
     }

@@ -1,38 +1,27 @@
 -- What holds of the layout of each tree.
-use Rattle.std.specs.Prelude.{IfSome}
-use Rattle.std.specs.List.{AllByRecursion}
-use Rattle.cob_tree.specs.declared.operand.Const.{Const}
-use Rattle.cob_tree.specs.declared.operand.Const.TheVariants as const
-use Rattle.cob_tree.specs.declared.front.Clause.{Clause}
-use Rattle.cob_tree.specs.declared.front.Clause.TheVariants as clause
-use Rattle.cob_tree.specs.declared.front.Range.{Range}
+use Rattle.std.specs.List.{All}
 use Rattle.cob_tree.specs.declared.tree.Tree.{Tree}
-use Rattle.cob_data.specs.Entries.{Placed, all_entries}
+use Rattle.cob_tree.specs.StmtView.{plain_tree}
+use Rattle.cob_data.specs.declared.layout.Flag.{Flag}
+use Rattle.cob_data.specs.declared.layout.Layout.{Layout}
 use Rattle.cob_data.specs.Layouts.{HasLayout, layout}
-use Rattle.cob_items.specs.Sound.{IsSoundLiteral, HasSoundItems}
+use Rattle.cob_typed.specs.Statements.{first_value}
+use Rattle.cob_runs.specs.Contents.{form_at}
+use Rattle.cob_items.specs.Sound.{HasSoundItems, CanMove}
+use Rattle.cob_calc.specs.Comparing.{AreSoundPairs}
+use Rattle.cob_sound.specs.Numerals.{HasShortNumerals}
 
--- ---- numerals of at most 18 digits
+-- the item can be compared with the values of its condition-name, and SET can move the first of them to it
+pub record IsSoundFlag (l : Layout) (f : Flag) : Type 0 where
+  pub ranges : AreSoundPairs f.ranges
+  pub first : CanMove l (first_value f.ranges) (form_at l f.item)
 
-abbrev pub IsShortConst : Const → Type 0
-IsShortConst (const.Number n) = IsSoundLiteral n
-IsShortConst _ = Unit {0}
+abbrev pub HasSoundFlags : Layout → Type 0
+HasSoundFlags l = All (IsSoundFlag l) l.flags
 
-pub record IsShortRange (r : Range) : Type 0 where
-  pub low : IsShortConst r.low
-  pub high : IfSome r.high IsShortConst
-
-abbrev pub IsShortClause : Clause → Type 0
-IsShortClause (clause.Value ranges) = AllByRecursion IsShortRange ranges
-IsShortClause _ = Unit {0}
-
-abbrev pub IsShortEntry : Placed → Type 0
-IsShortEntry p = AllByRecursion IsShortClause p.entry.clauses
-
--- each numeral of a VALUE has at most 18 digits
-abbrev pub HasShortValues : Tree → Type 0
-HasShortValues t = AllByRecursion IsShortEntry (all_entries t.front)
-
--- ---- the law
+pub record IsSoundLayout (l : Layout) : Type 0 where
+  pub items : HasSoundItems l
+  pub flags : HasSoundFlags l
 
 abbrev pub Soundness : Type 0
-Soundness = (t : Tree) → HasLayout t → HasShortValues t → HasSoundItems (layout t)
+Soundness = (t : Tree) → HasLayout t → HasShortNumerals (plain_tree t) → IsSoundLayout (layout t)
