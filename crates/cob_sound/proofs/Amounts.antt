@@ -1,6 +1,6 @@
 -- The operands of sums are numbers.
-use Rattle.std.proofs.Common.{◌≡◌, ℕ, ◌≤◌, Bool, true, false, List, [], ◌∷◌, ◌++◌, slice_get, Option, Some, None, refl, ap, ◌∙◌, sym, arith}
-use Rattle.std.specs.List.{AllByRecursion, list_all}
+use Rattle.std.proofs.Common.{◌≡◌, ℕ, Bool, true, false, List, [], ◌∷◌, ◌++◌, slice_get, Option, Some, None, refl, ap, ◌∙◌, sym, arith}
+use Rattle.std.specs.List.{AllByRecursion}
 use Rattle.std.specs.Option.{option_map_or}
 use Rattle.std.proofs.lemmas.Bool.{and_from}
 use Rattle.cob_tree.specs.declared.form.Form.{Form}
@@ -12,14 +12,14 @@ use Rattle.cob_data.specs.declared.end.Rule.TheVariants.{Q3}
 use Rattle.cob_data.specs.declared.layout.Item.{Item}
 use Rattle.cob_data.specs.declared.layout.Sender.{Sender}
 use Rattle.cob_data.specs.declared.layout.Sender.TheVariants as sender
-use Rattle.cob_program.specs.Sum.{Sum, MkSum, Parts, no_parts, more_parts, Part, MkPart, parts_of, Factor, MkFactor, factors_of, Atom, item, number, group}
+use Rattle.cob_program.specs.Sum.{Part, MkPart, parts_of, Factor, MkFactor, factors_of}
 use Rattle.cob_runs.specs.Contents.{form_at}
 use Rattle.cob_runs.specs.Computing.{items_in, items_in_parts, items_in_factors, items_in_atom}
 use Rattle.cob_calc.specs.Arithmetic.{is_number_form, are_numbers}
 use Rattle.cob_typed.specs.Scope.{Scope}
 use Rattle.cob_typed.specs.Scope as scope
 use Rattle.cob_typed.specs.Kinds as kinds
-use Rattle.cob_typed.specs.Sums.{operand, atom_of, numeric_operand, is_minus, is_subtracted, is_divided_by, sum_of, parts_in, part_of, factors_in, factor_of, atom_in, bare, whole_sum}
+use Rattle.cob_typed.specs.Sums.{operand, atom_of, numeric_operand, is_subtracted, is_divided_by, sum_of, parts_in, part_of, factors_in, factor_of, atom_in, bare, whole_sum}
 use Rattle.cob_sound.proofs.ShortValues.{all_append}
 use Rattle.cob_sound.proofs.Keeping.{IsKept, met}
 

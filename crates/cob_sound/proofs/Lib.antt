@@ -11,3 +11,5 @@ pub mod Receivers
 pub mod Decisions
 pub mod Senders
 pub mod Ability
+pub mod Choices
+pub mod Actions

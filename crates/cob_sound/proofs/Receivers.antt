@@ -1,5 +1,5 @@
 -- Arithmetic statements: what typing asks is what working them out needs.
-use Rattle.std.proofs.Common.{◌≡◌, ℕ, ◌+◌, ◌*◌, ◌≤◌, Bool, true, false, ◌&&◌, List, [], ◌∷◌, ◌++◌, Option, Some, None, refl, ap, ◌∙◌, sym, arith}
+use Rattle.std.proofs.Common.{◌≡◌, ℕ, ◌+◌, ◌*◌, Bool, true, false, ◌&&◌, List, [], ◌∷◌, ◌++◌, Option, Some, None, refl, ap, ◌∙◌, sym, arith}
 use Rattle.std.specs.List.{AllByRecursion}
 use Rattle.std.proofs.lemmas.Bool.{and_parts, and_from}
 use Rattle.std.proofs.Math.Path.{fun_ext}
@@ -15,7 +15,7 @@ use Rattle.cob_data.specs.declared.end.Rule.TheVariants.{Q3, N5}
 use Rattle.cob_program.specs.declared.act.Target.{Target}
 use Rattle.cob_program.specs.declared.act.How.{How}
 use Rattle.cob_program.specs.declared.act.How.TheVariants as how
-use Rattle.cob_program.specs.Sum.{Sum, MkSum, Parts, no_parts, more_parts, Atom}
+use Rattle.cob_program.specs.Sum.{Sum, MkSum, Parts, no_parts, Atom}
 use Rattle.cob_program.specs.Values.{root_of}
 use Rattle.cob_program.specs.Bounds.{Bound, exactly, form_bound, product_bound, sum_bound, is_small, atom_most, is_small_stored}
 use Rattle.cob_runs.specs.Contents.{form_at, scale_of}
@@ -24,7 +24,7 @@ use Rattle.cob_runs.specs.Computing.{items_in, items_in_parts, items_in_atom}
 use Rattle.cob_calc.specs.Contents.{bound_at}
 use Rattle.cob_calc.specs.Arithmetic as calc
 use Rattle.cob_calc.specs.Arithmetic.{take_numbers, is_small_rest_at, is_small_rest, are_small_rests, is_sound_remainder, CanCompute}
-use Rattle.cob_typed.specs.Judged.{Judged, each_of, if_there, beside, demanded}
+use Rattle.cob_typed.specs.Judged.{each_of, if_there}
 use Rattle.cob_typed.specs.Scope.{Scope, the_item}
 use Rattle.cob_typed.specs.Scope as scope
 use Rattle.cob_typed.specs.Kinds as kinds
