@@ -36,7 +36,7 @@ use Rattle.cob_sound.proofs.Forms.{IsShortSender, short_sender, low_is_sound}
 
 -- ---- values are short
 
-sound_end : (x : Sender) → IsShortSender x → IsSoundEnd x
+pub sound_end : (x : Sender) → IsShortSender x → IsSoundEnd x
 sound_end (sender.Number n) short = short
 sound_end (sender.Item place) short = tt
 sound_end (sender.Text text) short = tt

@@ -5,3 +5,11 @@ pub mod Areas
 pub mod Flags
 pub mod Soundness
 pub mod Examples
+pub mod Keeping
+pub mod Amounts
+pub mod Receivers
+pub mod Decisions
+pub mod Senders
+pub mod Ability
+pub mod Choices
+pub mod Actions

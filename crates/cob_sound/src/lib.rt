@@ -4,4 +4,4 @@
 
 mod laws;
 
-pub use laws::layouts_are_sound;
+pub use laws::{layouts_are_sound, typed_statements_can_be_done};

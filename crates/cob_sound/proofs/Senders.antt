@@ -1,0 +1,81 @@
+-- Values that are moved or counted.
+use Rattle.std.proofs.Common.{◌≡◌, ℕ, ◌≤◌, true, not, ◌&&◌, ◌||◌, List, length, ap, ◌∙◌, sym, subst}
+use Rattle.std.specs.Prelude.{nat_le}
+use Rattle.std.specs.List.{list_all}
+use Rattle.std.proofs.lemmas.Bool.{and_parts, leb-true}
+use Rattle.cob_tree.specs.declared.form.Form.{Form}
+use Rattle.cob_tree.specs.declared.form.Form.TheVariants.{Group, Text, Number, Edited}
+use Rattle.cob_tree.specs.declared.operand.Opnd.{Opnd}
+use Rattle.cob_tree.specs.declared.operand.Opnd.TheVariants as opnd
+use Rattle.cob_tree.specs.PrintExpr.{print_opnd}
+use Rattle.cob_data.specs.declared.layout.Sender.{Sender}
+use Rattle.cob_data.specs.declared.layout.Sender.TheVariants as sender
+use Rattle.cob_runs.specs.Contents.{form_at}
+use Rattle.cob_runs.specs.Moves.{takes_number}
+use Rattle.cob_items.specs.Sound.{IsShort, IsCountable, CanMove}
+use Rattle.cob_calc.specs.Arithmetic.{is_number_form}
+use Rattle.cob_typed.specs.Scope.{Scope}
+use Rattle.cob_typed.specs.Scope as scope
+use Rattle.cob_typed.specs.Kinds.{is_amount, is_digit, may_move_item, may_move, is_number, is_whole_form, is_whole}
+use Rattle.cob_typed.specs.Sums.{operand}
+use Rattle.cob_sound.specs.Numerals.{AreShort}
+use Rattle.cob_sound.proofs.ShortValues.{short_const}
+use Rattle.cob_sound.proofs.Forms.{IsShortSender, short_sender}
+use Rattle.cob_sound.proofs.Amounts.{same_form, number_item}
+
+number_short : (f : Form) → is_number_form f ≡ true → IsShort f
+number_short Group is = tt
+number_short (Text n) is = absurd (cc)
+number_short (Number digits scale signed usage) is = tt
+number_short (Edited picture digits scale) is = tt
+
+whole_short : (f : Form) → is_whole_form f ≡ true → IsShort f
+whole_short Group is = tt
+whole_short (Text n) is = absurd (cc)
+whole_short (Number digits scale signed usage) is = tt
+whole_short (Edited picture digits scale) is = tt
+
+-- text that isn't short is moved to no number
+moved_short : (f to : Form) → takes_number to ≡ true → may_move_item f to ≡ true → IsShort f
+moved_short Group to takes may = tt
+moved_short (Number digits scale signed usage) to takes may = tt
+moved_short (Edited picture digits scale) to takes may = tt
+moved_short (Text n) Group takes may = absurd (cc)
+moved_short (Text n) (Text m) takes may = absurd (cc)
+moved_short (Text n) (Number digits scale signed usage) takes may = leb-true n 18 may
+moved_short (Text n) (Edited picture digits scale) takes may = leb-true n 18 may
+
+short_text : (bytes : List ℕ) (to : Form) → takes_number to ≡ true → (not (is_amount to) || (nat_le (length bytes) 18 && list_all is_digit bytes)) ≡ true → length bytes ≤ 18
+short_text bytes Group takes may = absurd (cc)
+short_text bytes (Text m) takes may = absurd (cc)
+short_text bytes (Number digits scale signed usage) takes may = leb-true (length bytes) 18 (and_parts (nat_le (length bytes) 18) (list_all is_digit bytes) may).0
+short_text bytes (Edited picture digits scale) takes may = leb-true (length bytes) 18 (and_parts (nat_le (length bytes) 18) (list_all is_digit bytes) may).0
+
+module _ (s : Scope) where
+  pub short_operand : (d : ℕ) (o : Opnd) → AreShort (print_opnd d o) → IsShortSender (operand s o).value
+  short_operand d (opnd.Ref r) short = tt
+  short_operand d (opnd.Const c) short = short_sender c (short_const d c short)
+
+  pub countable_number : (x : Sender) → IsShortSender x → is_number s x ≡ true → IsCountable s.layout x
+  countable_number (sender.Item place) short is = number_short (form_at s.layout place) (number_item s place is)
+  countable_number (sender.Number n) short is = short
+  countable_number (sender.Text text) short is = absurd (cc)
+  countable_number (sender.Fill byte) short is = tt
+  countable_number sender.Zero short is = tt
+
+  pub countable_whole : (x : Sender) → IsShortSender x → is_whole s x ≡ true → IsCountable s.layout x
+  countable_whole (sender.Item place) short is = subst IsShort (same_form s place) (whole_short (scope.form_at s place) is)
+  countable_whole (sender.Number n) short is = short
+  countable_whole (sender.Text text) short is = absurd (cc)
+  countable_whole (sender.Fill byte) short is = tt
+  countable_whole sender.Zero short is = tt
+
+  moved_countable : (x : Sender) (to : Form) → IsShortSender x → takes_number to ≡ true → may_move s x to ≡ true → IsCountable s.layout x
+  moved_countable (sender.Item place) to short takes may = subst IsShort (same_form s place) (moved_short (scope.form_at s place) to takes may)
+  moved_countable (sender.Number n) to short takes may = short
+  moved_countable (sender.Text text) to short takes may = short_text text to takes may
+  moved_countable (sender.Fill byte) to short takes may = tt
+  moved_countable sender.Zero to short takes may = tt
+
+  pub can_move : (x : Sender) (place : ℕ) → IsShortSender x → may_move s x (scope.form_at s place) ≡ true → CanMove s.layout x (form_at s.layout place)
+  can_move x place short may takes = moved_countable x (form_at s.layout place) short takes (ap (may_move s x) (sym (same_form s place)) ∙ may)
