@@ -42,7 +42,8 @@ module _ (s : Scope) (flags : HasSoundFlags s.layout) where
   l = s.layout
 
   mutual
-    can_stmts : (d n : ℕ) (ss : tree.Stmts) → AreShort (print_stmts d ss) → IsSilent (typed_stmts s n ss).found → CanDo l (typed_stmts s n ss).value
+    can_stmts : (d n : ℕ) (ss : tree.Stmts) → AreShort (print_stmts d ss) → IsSilent (typed_stmts s n ss).found →
+        CanDo l (typed_stmts s n ss).value
     can_stmts d n tree.no_stmts short silent = tt
     can_stmts d n (tree.more_stmts (tree.MkStmt line v) ss) short silent =
         let x = typed_verb s line (suc n) v in
@@ -52,12 +53,15 @@ module _ (s : Scope) (flags : HasSoundFlags s.layout) where
           can_stmts d x.next ss (short_right (print_stmt d (tree.MkStmt line v)) (print_stmts d ss) short) (silent_left later.found [] (silent_right (x.found ++ []) (later.found ++ []) silent)),
         )
 
-    can_phrase : (d n : ℕ) (words : List Keyword) (x : tree.Phrase) → AreShort (print_phrase d words x) → IsSilent (typed_phrase s n x).found → CanDoPhrase l (typed_phrase s n x).value
+    can_phrase : (d n : ℕ) (words : List Keyword) (x : tree.Phrase) → AreShort (print_phrase d words x) →
+        IsSilent (typed_phrase s n x).found → CanDoPhrase l (typed_phrase s n x).value
     can_phrase d n words tree.left_out short silent = tt
     can_phrase d n words (tree.given ss) short silent =
         can_stmts d n ss (short_right (keys d words) (print_stmts d ss) short) (silent_left (typed_stmts s n ss).found [] silent)
 
-    can_arith : (d line n : ℕ) (end : Keyword) (w : Judged Worked) (x : tree.Tail) → (IsKept w.broken → CanWork s w.value) → AreShort (print_tail d end x) → IsSilent (typed_arith s line n w x).found → CanDoAct l (typed_arith s line n w x).value
+    can_arith : (d line n : ℕ) (end : Keyword) (w : Judged Worked) (x : tree.Tail) → (IsKept w.broken → CanWork s w.value) →
+        AreShort (print_tail d end x) → IsSilent (typed_arith s line n w x).found →
+        CanDoAct l (typed_arith s line n w x).value
     can_arith d line n end w (tree.MkTail size not_size ended) can short silent =
         let a = typed_phrase s n size in
         let b = typed_phrase s a.next not_size in
@@ -68,7 +72,8 @@ module _ (s : Scope) (flags : HasSoundFlags s.layout) where
           can_if l b.value (can_phrase d a.next not_size_words not_size (short_left (print_phrase d not_size_words not_size) (word_if d ended end) behind_) (silent_left b.found [] (silent_right a.found (b.found ++ []) both_))),
         )
 
-    can_whens : (d line n : ℕ) (subject : Looked) (ws : tree.Whens) → AreShort (print_whens d ws) → IsSilent (typed_whens s line n subject ws).found → CanDoWhens l (typed_whens s line n subject ws).value
+    can_whens : (d line n : ℕ) (subject : Looked) (ws : tree.Whens) → AreShort (print_whens d ws) →
+        IsSilent (typed_whens s line n subject ws).found → CanDoWhens l (typed_whens s line n subject ws).value
     can_whens d line n subject tree.no_whens short silent = tt
     can_whens d line n subject (tree.more_whens (tree.MkWhen choices body) ws) short silent =
         let tests = each_of (selection s subject) choices in
@@ -83,7 +88,8 @@ module _ (s : Scope) (flags : HasSoundFlags s.layout) where
               (silent_left later.found [] (silent_right x.found (later.found ++ []) rest)),
         )
 
-    can_verb : (d line n : ℕ) (v : tree.Verb) → AreShort (print_verb d v) → IsSilent (typed_verb s line n v).found → CanDoAct l (typed_verb s line n v).value
+    can_verb : (d line n : ℕ) (v : tree.Verb) → AreShort (print_verb d v) → IsSilent (typed_verb s line n v).found →
+        CanDoAct l (typed_verb s line n v).value
     can_verb d line n (tree.move from to) short silent =
         let is = kept_on line (move_act s from to).broken silent in
         able_moves s flags (operand s from).value to (short_operand s d from (short_left (print_opnd d from) (key d word.To ∷ print_refs d to) short)) is.1.0
@@ -176,7 +182,8 @@ module _ (s : Scope) (flags : HasSoundFlags s.layout) where
         let given_ = short_left from_ (word_if d ended word.EndWrite) (short_right (print_ref d rec_) (from_ ++ word_if d ended word.EndWrite) short) in
         able_write s flags d (means_something s rec_) (record_named s rec_) from given_ is.0 is.1.0
 
-  can_sentences : (n : ℕ) (ss : List tree.Stmts) → AreShort (each print_sentence ss) → IsSilent (typed_sentences s n ss).found → CanDo l (typed_sentences s n ss).value
+  can_sentences : (n : ℕ) (ss : List tree.Stmts) → AreShort (each print_sentence ss) →
+      IsSilent (typed_sentences s n ss).found → CanDo l (typed_sentences s n ss).value
   can_sentences n [] short silent = tt
   can_sentences n (ss ∷ more) short silent =
       let x = typed_stmts s n ss in
@@ -185,7 +192,8 @@ module _ (s : Scope) (flags : HasSoundFlags s.layout) where
       can_joined l x.value y.value (can_stmts 0 n ss (short_left (print_stmts 0 ss) (stop 0 ∷ []) here) (silent_left x.found (y.found ++ []) silent))
       (can_sentences x.next more (short_right (print_sentence ss) (each print_sentence more) short) (silent_left y.found [] (silent_right x.found (y.found ++ []) silent)))
 
-  can_paras : (n : ℕ) (ps : List tree.Paragraph) → AreShort (each print_paragraph ps) → IsSilent (typed_paras s n ps).found → CanDoParas l (typed_paras s n ps).value
+  can_paras : (n : ℕ) (ps : List tree.Paragraph) → AreShort (each print_paragraph ps) →
+      IsSilent (typed_paras s n ps).found → CanDoParas l (typed_paras s n ps).value
   can_paras n [] short silent = tt
   can_paras n (p ∷ ps) short silent =
       let x = typed_sentences s n p.sentences in

@@ -34,7 +34,8 @@ use Rattle.cob_sound.proofs.Decisions.{found_at, able_cond}
 module _ (s : Scope) (flags : HasSoundFlags s.layout) where
   -- ---- MOVE, SET, WRITE
 
-  pub able_moves : (x : Sender) (to : List Ref) → IsShortSender x → IsKept (each_of (receiver s x) to).broken → AllByRecursion (CanMoveTo s.layout x) (each_of (receiver s x) to).value
+  pub able_moves : (x : Sender) (to : List Ref) → IsShortSender x → IsKept (each_of (receiver s x) to).broken →
+      AllByRecursion (CanMoveTo s.layout x) (each_of (receiver s x) to).value
   able_moves x [] short is = tt
   able_moves x (r ∷ rs) short is =
       let place = (the_item s r).value in
@@ -46,9 +47,11 @@ module _ (s : Scope) (flags : HasSoundFlags s.layout) where
 
   pub able_set : (o : Option ℕ) → CanDoAct s.layout (set_if s o)
   able_set None = tt
-  able_set (Some place) = able_flag (slice_get s.layout.flags place) (found_at (IsSoundFlag s.layout) s.layout.flags place flags)
+  able_set (Some place) =
+      able_flag (slice_get s.layout.flags place) (found_at (IsSoundFlag s.layout) s.layout.flags place flags)
 
-  pub able_write : (d : ℕ) (something : Bool) (f : Found) (from : Option Opnd) → AreShort (behind d (word.From ∷ []) (print_opnd d) from) → IsKept (one_of_kind Q9 something f).broken →
+  pub able_write : (d : ℕ) (something : Bool) (f : Found) (from : Option Opnd) →
+      AreShort (behind d (word.From ∷ []) (print_opnd d) from) → IsKept (one_of_kind Q9 something f).broken →
       IsKept (if_there (from_of s (one_of_kind Q9 something f).value) from).broken →
       IfSome (if_there (from_of s (one_of_kind Q9 something f).value) from).value (λ x. CanMoveTo s.layout x (unwrap_or (one_of_kind Q9 something f).value 0))
   able_write d something f None short named is = tt
@@ -61,12 +64,14 @@ module _ (s : Scope) (flags : HasSoundFlags s.layout) where
 
   -- ---- loops
 
-  able_number : (d : ℕ) (o : Opnd) → AreShort (print_opnd d o) → IsKept (number_operand s o).broken → IsCountable s.layout (number_operand s o).value
+  able_number : (d : ℕ) (o : Opnd) → AreShort (print_opnd d o) → IsKept (number_operand s o).broken →
+      IsCountable s.layout (number_operand s o).value
   able_number d o short is =
       let x = (operand s o).value in
       countable_number s x (short_operand s d o short) (met Q10 (is_number s x) (omega arith) is.1)
 
-  able_varying : (d : ℕ) (v : Varying) → AreShort (print_varying d v) → IsKept (varied s v.item).broken → IsKept (number_operand s v.from).broken → IsKept (number_operand s v.by).broken →
+  able_varying : (d : ℕ) (v : Varying) → AreShort (print_varying d v) → IsKept (varied s v.item).broken →
+      IsKept (number_operand s v.from).broken → IsKept (number_operand s v.by).broken →
       CanVary s.layout (varied s v.item).value (number_operand s v.from).value (number_operand s v.by).value
   able_varying d v short item from by_ =
       let place = (the_item s v.item).value in
@@ -77,7 +82,8 @@ module _ (s : Scope) (flags : HasSoundFlags s.layout) where
         by_ = able_number d v.by (short_right (print_opnd d v.from) (key d word.By ∷ print_opnd d v.by) behind_item.1).1 by_;
       }
 
-  pub able_turns : (d : ℕ) (o : Option Loop) → AreShort (print_if (print_loop d) o) → IsKept (turns_of s o).broken → CanTurn s.layout (turns_of s o).value
+  pub able_turns : (d : ℕ) (o : Option Loop) → AreShort (print_if (print_loop d) o) → IsKept (turns_of s o).broken →
+      CanTurn s.layout (turns_of s o).value
   able_turns d None short is = tt
   able_turns d (Some (times o)) short is =
       let x = (operand s o).value in

@@ -51,7 +51,8 @@ module _ (s : Scope) where
 
   pub are_all : (places : List ℕ) → AreNumbers places → are_numbers s.layout places ≡ true
   are_all [] all = refl
-  are_all (place ∷ places) all = and_from (is_number_form (form_at s.layout place)) (are_numbers s.layout places) all.0 (are_all places all.1)
+  are_all (place ∷ places) all =
+      and_from (is_number_form (form_at s.layout place)) (are_numbers s.layout places) all.0 (are_all places all.1)
 
   pub both_numbers : (xs ys : List ℕ) → AreNumbers xs → AreNumbers ys → AreNumbers (xs ++ ys)
   both_numbers xs ys first second = all_append IsNumber xs ys first second
@@ -65,8 +66,10 @@ module _ (s : Scope) where
   atom_numbers (sender.Fill byte) is = tt
   atom_numbers sender.Zero is = tt
 
-  pub operand_numbers : (o : Opnd) → IsKept (numeric_operand s o).broken → AreNumbers (items_in_atom (numeric_operand s o).value)
-  operand_numbers o is = atom_numbers (operand s o).value (met Q3 (kinds.is_number s (operand s o).value) (omega arith) is.1)
+  pub operand_numbers : (o : Opnd) → IsKept (numeric_operand s o).broken →
+      AreNumbers (items_in_atom (numeric_operand s o).value)
+  operand_numbers o is =
+      atom_numbers (operand s o).value (met Q3 (kinds.is_number s (operand s o).value) (omega arith) is.1)
 
   -- ---- expressions
 
@@ -78,28 +81,35 @@ module _ (s : Scope) where
 
   factors_numbers : (fs : List Factor) → AllByRecursion FactorNumbers fs → AreNumbers (items_in_factors (factors_of fs))
   factors_numbers [] all = tt
-  factors_numbers (MkFactor over minus a ∷ fs) all = both_numbers (items_in_atom a) (items_in_factors (factors_of fs)) all.0 (factors_numbers fs all.1)
+  factors_numbers (MkFactor over minus a ∷ fs) all =
+      both_numbers (items_in_atom a) (items_in_factors (factors_of fs)) all.0 (factors_numbers fs all.1)
 
   parts_numbers : (ps : List Part) → AllByRecursion PartNumbers ps → AreNumbers (items_in_parts (parts_of ps))
   parts_numbers [] all = tt
-  parts_numbers (MkPart minus fs ∷ ps) all = both_numbers (items_in_factors fs) (items_in_parts (parts_of ps)) all.0 (parts_numbers ps all.1)
+  parts_numbers (MkPart minus fs ∷ ps) all =
+      both_numbers (items_in_factors fs) (items_in_parts (parts_of ps)) all.0 (parts_numbers ps all.1)
 
   mutual
     pub sum_numbers : (e : Expr) → IsKept (sum_of s e).broken → AreNumbers (items_in (sum_of s e).value)
-    sum_numbers (MkExpr t ts) is = parts_numbers ((part_of s false t).value ∷ (parts_in s ts).value) (part_numbers false t is.0, parts_in_numbers ts is.1.0)
+    sum_numbers (MkExpr t ts) is =
+        parts_numbers ((part_of s false t).value ∷ (parts_in s ts).value) (part_numbers false t is.0, parts_in_numbers ts is.1.0)
 
     parts_in_numbers : (ts : Terms) → IsKept (parts_in s ts).broken → AllByRecursion PartNumbers (parts_in s ts).value
     parts_in_numbers no_terms is = tt
-    parts_in_numbers (more_terms plus_minus t ts) is = (part_numbers (is_subtracted plus_minus) t is.0, parts_in_numbers ts is.1.0)
+    parts_in_numbers (more_terms plus_minus t ts) is =
+        (part_numbers (is_subtracted plus_minus) t is.0, parts_in_numbers ts is.1.0)
 
     part_numbers : (minus : Bool) (t : Term) → IsKept (part_of s minus t).broken → PartNumbers (part_of s minus t).value
-    part_numbers minus (MkTerm f fs) is = factors_numbers ((factor_of s false f).value ∷ (factors_in s fs).value) (factor_numbers false f is.0, factors_in_numbers fs is.1.0)
+    part_numbers minus (MkTerm f fs) is =
+        factors_numbers ((factor_of s false f).value ∷ (factors_in s fs).value) (factor_numbers false f is.0, factors_in_numbers fs is.1.0)
 
-    factors_in_numbers : (fs : Facts) → IsKept (factors_in s fs).broken → AllByRecursion FactorNumbers (factors_in s fs).value
+    factors_in_numbers : (fs : Facts) → IsKept (factors_in s fs).broken →
+        AllByRecursion FactorNumbers (factors_in s fs).value
     factors_in_numbers no_facts is = tt
     factors_in_numbers (more_facts by f fs) is = (factor_numbers (is_divided_by by) f is.0, factors_in_numbers fs is.1.0)
 
-    factor_numbers : (over : Bool) (f : Fact) → IsKept (factor_of s over f).broken → FactorNumbers (factor_of s over f).value
+    factor_numbers : (over : Bool) (f : Fact) → IsKept (factor_of s over f).broken →
+        FactorNumbers (factor_of s over f).value
     factor_numbers over (MkFact sign_ p) is = primary_numbers p is
 
     primary_numbers : (p : Primary) → IsKept (atom_in s p).broken → AreNumbers (items_in_atom (atom_in s p).value)

@@ -45,10 +45,12 @@ short_if false o short = tt
 
 mutual
   short_lone : (d : ℕ) (e : Expr) → AreShort (print_expr d e) → IfSome (lone e) IsShortOpnd
-  short_lone d (MkExpr t ts) short = short_if (none_added ts) (lone_term t) (short_term d t (short_left (print_term d t) (print_terms d ts) short))
+  short_lone d (MkExpr t ts) short =
+      short_if (none_added ts) (lone_term t) (short_term d t (short_left (print_term d t) (print_terms d ts) short))
 
   short_term : (d : ℕ) (t : Term) → AreShort (print_term d t) → IfSome (lone_term t) IsShortOpnd
-  short_term d (MkTerm f fs) short = short_if (none_multiplied fs) (lone_fact f) (short_fact d f (short_left (print_fact d f) (print_facts d fs) short))
+  short_term d (MkTerm f fs) short =
+      short_if (none_multiplied fs) (lone_fact f) (short_fact d f (short_left (print_fact d f) (print_facts d fs) short))
 
   short_fact : (d : ℕ) (f : Fact) → AreShort (print_fact d f) → IfSome (lone_fact f) IsShortOpnd
   short_fact d (MkFact None p) short = short_primary d p short
@@ -56,7 +58,8 @@ mutual
 
   short_primary : (d : ℕ) (p : Primary) → AreShort (print_primary d p) → IfSome (lone_primary p) IsShortOpnd
   short_primary d (expr.operand o) short = short_opnd d o short
-  short_primary d (expr.group e) short = short_lone (suc d) e (short_left (print_expr (suc d) e) (close_mark (suc d) ∷ []) short.1)
+  short_primary d (expr.group e) short =
+      short_lone (suc d) e (short_left (print_expr (suc d) e) (close_mark (suc d) ∷ []) short.1)
 
 -- ---- values
 
@@ -80,7 +83,8 @@ module _ (s : Scope) (flags : HasSoundFlags s.layout) where
   value_end e None short = tt
   value_end e (Some o) short = operand_end o short
 
-  able_value : (place : ℕ) (c : Cond) (d : ℕ) (v : Value) → IsShortValue d v → IsKept (choice_of_item s place c v).broken → Able s flags (choice_of_item s place c v).value
+  able_value : (place : ℕ) (c : Cond) (d : ℕ) (v : Value) → IsShortValue d v → IsKept (choice_of_item s place c v).broken →
+      Able s flags (choice_of_item s place c v).value
   able_value place c d (plain_value e) short is = at (lone e) (short_lone d e short) where
     at : (o : Option Opnd) → IfSome o IsShortOpnd → CanTest s.layout (value_test s place e o).value
     at None few = tt
@@ -88,7 +92,8 @@ module _ (s : Scope) (flags : HasSoundFlags s.layout) where
   able_value place c d (denied_value e) short is = tt
   able_value place c d no_value short is = able_cond s flags c is.0
 
-  able_choice : (d : ℕ) (subject : Looked) (x : Sel) → AreShort (print_sel d x) → IsKept (selection s subject x).broken → Able s flags (selection s subject x).value
+  able_choice : (d : ℕ) (subject : Looked) (x : Sel) → AreShort (print_sel d x) → IsKept (selection s subject x).broken →
+      Able s flags (selection s subject x).value
   able_choice d looked.Truth any short is = tt
   able_choice d looked.Truth (range low high) short is = tt
   able_choice d looked.Truth (choice c) short is = able_cond s flags c is
@@ -99,7 +104,9 @@ module _ (s : Scope) (flags : HasSoundFlags s.layout) where
       ((value_end low (lone low) first, value_end high (lone high) second), tt)
   able_choice d (looked.Item place) (choice c) short is = able_value place c d (value_in c) (short_value d c short) is
 
-  pub able_choices : (d : ℕ) (subject : Looked) (xs : List Sel) → AreShort (each (print_choice d) xs) → IsKept (each_of (selection s subject) xs).broken → AllByRecursion (Able s flags) (each_of (selection s subject) xs).value
+  pub able_choices : (d : ℕ) (subject : Looked) (xs : List Sel) → AreShort (each (print_choice d) xs) →
+      IsKept (each_of (selection s subject) xs).broken →
+      AllByRecursion (Able s flags) (each_of (selection s subject) xs).value
   able_choices d subject [] short is = tt
   able_choices d subject (x ∷ xs) short is =
       let here = short_left (print_choice d x) (each (print_choice d) xs) short in

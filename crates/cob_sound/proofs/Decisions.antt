@@ -109,39 +109,46 @@ module _ (s : Scope) (flags : HasSoundFlags s.layout) where
   same_bounds : bound_at s ≡ contents.bound_at s.layout
   same_bounds = fun_ext (λ place. ap form_bound (same_form s place))
 
-  able_numbers : (a b : Sum) (r : Rel) → AreNumbers s (items_in a) → AreNumbers s (items_in b) → IsKept (number_test s a r b).broken → AbleTest (number_test s a r b).value
+  able_numbers : (a b : Sum) (r : Rel) → AreNumbers s (items_in a) → AreNumbers s (items_in b) →
+      IsKept (number_test s a r b).broken → AbleTest (number_test s a r b).value
   able_numbers a b r first second is = (
     are_all s (items_in a) first,
     (are_all s (items_in b) second, ap (λ bound. is_small_sides bound a b) (sym same_bounds) ∙ met N5 (is_small_sides (bound_at s) a b) (omega arith) is),
   )
 
   atom_alone : (x : Sender) → is_number s x ≡ true → AreNumbers s (items_in (one_atom (atom_of x)))
-  atom_alone x is = both_numbers s (items_in_atom (atom_of x) ++ []) [] (both_numbers s (items_in_atom (atom_of x)) [] (atom_numbers s x is) tt) tt
+  atom_alone x is =
+      both_numbers s (items_in_atom (atom_of x) ++ []) [] (both_numbers s (items_in_atom (atom_of x)) [] (atom_numbers s x is) tt) tt
 
-  side_numbers : (a : Operand) → is_number_side (side_kind s a) ≡ true → IsKept (sum_of_side s a).broken → AreNumbers s (items_in (sum_of_side s a).value)
+  side_numbers : (a : Operand) → is_number_side (side_kind s a) ≡ true → IsKept (sum_of_side s a).broken →
+      AreNumbers s (items_in (sum_of_side s a).value)
   side_numbers (alone x) is kept_ = atom_alone x (side_number s x is)
   side_numbers (worked_out e) is kept_ = whole_numbers s e kept_
 
-  able_compared : (a b : Operand) (r : Rel) (w : Comparison) → comparison (side_kind s a) (side_kind s b) ≡ w → IsKept (compared s a r b w).broken → AbleTest (compared s a r b w).value
+  able_compared : (a b : Operand) (r : Rel) (w : Comparison) → comparison (side_kind s a) (side_kind s b) ≡ w →
+      IsKept (compared s a r b w).broken → AbleTest (compared s a r b w).value
   able_compared a b r way.ByValue e is =
       able_numbers (sum_of_side s a).value (sum_of_side s b).value r (side_numbers a (left_number (side_kind s a) (side_kind s b) e) is.0)
       (side_numbers b (right_number (side_kind s a) (side_kind s b) e) is.1.0) is.1.1
   able_compared a b r way.ByBytes e is = tt
   able_compared a b r way.NotAtAll e is = tt
 
-  able_relation : (left : Expr) (not_ : Bool) (r : Rel) (right : Expr) → IsKept (relation_logic s left not_ r right).broken → Able (relation_logic s left not_ r right).value
+  able_relation : (left : Expr) (not_ : Bool) (r : Rel) (right : Expr) →
+      IsKept (relation_logic s left not_ r right).broken → Able (relation_logic s left not_ r right).value
   able_relation left not_ r right is =
       let a = (lone_side s left (lone left)).value in
       let b = (lone_side s right (lone right)).value in
       able_denied not_ (test (relation_test s left r right).value)
       (able_compared a b r (comparison (side_kind s a) (side_kind s b)) refl is.1.1.1)
 
-  able_sign : (asked : SignTest) (e : Expr) (o : Option Opnd) → IsKept (signed_test s asked e o).broken → AbleTest (signed_test s asked e o).value
+  able_sign : (asked : SignTest) (e : Expr) (o : Option Opnd) → IsKept (signed_test s asked e o).broken →
+      AbleTest (signed_test s asked e o).value
   able_sign asked e (Some o) is =
       let x = (operand s o).value in
       let number = met Q5 (is_number s x) (omega arith) is.1.0 in
       able_numbers (one_atom (atom_of x)) zero_sum (sign_relation asked) (atom_alone x number) tt is.1.1
-  able_sign asked e None is = able_numbers (whole_sum s e).value zero_sum (sign_relation asked) (whole_numbers s e is.0) tt is.1
+  able_sign asked e None is =
+      able_numbers (whole_sum s e).value zero_sum (sign_relation asked) (whole_numbers s e is.0) tt is.1
 
   able_numeric : (e : Expr) (o : Option Opnd) → AbleTest (numeric_test s e o).value
   able_numeric e (Some (opnd.Ref r)) = tt
@@ -156,20 +163,23 @@ module _ (s : Scope) (flags : HasSoundFlags s.layout) where
 
   able_member : (o : Option ℕ) → AbleTest (member_if s o)
   able_member None = tt
-  able_member (Some place) = able_flag (slice_get s.layout.flags place) (found_at (IsSoundFlag s.layout) s.layout.flags place flags)
+  able_member (Some place) =
+      able_flag (slice_get s.layout.flags place) (found_at (IsSoundFlag s.layout) s.layout.flags place flags)
 
   -- ---- abbreviations
 
   abbrev IsAble : Walked → Type 0
   IsAble w = IsKept w.logic.broken → Able w.logic.value
 
-  able_from : (denied : Bool) (k : Carry) (not_ : Bool) (r : Rel) (right : Expr) → IsAble (abbreviated_from s denied k not_ r right)
+  able_from : (denied : Bool) (k : Carry) (not_ : Bool) (r : Rel) (right : Expr) →
+      IsAble (abbreviated_from s denied k not_ r right)
   able_from denied k not_ r right = at (denied || k.denied) where
     at : (x : Bool) → IsAble (if x then unrelated s right else related s false k.subject not_ r right)
     at true is = tt
     at false is = able_relation k.subject not_ r right is
 
-  able_behind : (denied : Bool) (carry : Option Carry) (not_ : Bool) (r : Rel) (right : Expr) → IsAble (abbreviated_behind s denied carry not_ r right)
+  able_behind : (denied : Bool) (carry : Option Carry) (not_ : Bool) (r : Rel) (right : Expr) →
+      IsAble (abbreviated_behind s denied carry not_ r right)
   able_behind denied None not_ r right is = tt
   able_behind denied (Some k) not_ r right is = able_from denied k not_ r right is
 
@@ -184,7 +194,8 @@ module _ (s : Scope) (flags : HasSoundFlags s.layout) where
     at true known = able_from denied k k.not k.rel e known
     at false known = able_member _
 
-  able_alone : (denied : Bool) (carry : Option Carry) (e : Expr) (o : Option Opnd) → IsAble (expression_alone s denied carry e o)
+  able_alone : (denied : Bool) (carry : Option Carry) (e : Expr) (o : Option Opnd) →
+      IsAble (expression_alone s denied carry e o)
   able_alone denied carry e (Some (opnd.Ref r)) is = able_name denied carry e r is
   able_alone denied carry e (Some (opnd.Const c)) is = able_value denied carry e is
   able_alone denied carry e None is = able_value denied carry e is
@@ -214,12 +225,15 @@ module _ (s : Scope) (flags : HasSoundFlags s.layout) where
     able_negs carry (more_negs n ns) is = (able_neg carry n is.0, able_negs (walk_neg s carry n).carry ns is.1.0)
 
     able_neg : (carry : Option Carry) (n : Neg) → IsAble (walk_neg s carry n)
-    able_neg carry (MkNeg denied simple) is = able_denied denied (walk_simple s denied carry simple).logic.value (able_simple denied carry simple is)
+    able_neg carry (MkNeg denied simple) is =
+        able_denied denied (walk_simple s denied carry simple).logic.value (able_simple denied carry simple is)
 
     able_simple : (denied : Bool) (carry : Option Carry) (x : Simple) → IsAble (walk_simple s denied carry x)
     able_simple denied carry (cond.parenthesised c) is = able_cond c is
     able_simple denied carry (cond.relation left not_ r right) is = able_relation left not_ r right is
     able_simple denied carry (cond.abbreviated not_ r right) is = able_behind denied carry not_ r right is
-    able_simple denied carry (cond.numeric value not_) is = able_denied not_ (test (numeric_test s value (lone value)).value) (able_numeric value (lone value))
-    able_simple denied carry (cond.sign value not_ asked) is = able_denied not_ (test (signed_test s asked value (lone value)).value) (able_sign asked value (lone value) is)
+    able_simple denied carry (cond.numeric value not_) is =
+        able_denied not_ (test (numeric_test s value (lone value)).value) (able_numeric value (lone value))
+    able_simple denied carry (cond.sign value not_ asked) is =
+        able_denied not_ (test (signed_test s asked value (lone value)).value) (able_sign asked value (lone value) is)
     able_simple denied carry (cond.alone e) is = able_alone denied carry e (lone e) is

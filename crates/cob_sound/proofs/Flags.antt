@@ -43,7 +43,8 @@ sound_end (sender.Text text) short = tt
 sound_end (sender.Fill byte) short = tt
 sound_end sender.Zero short = tt
 
-short_high : (low : Sender) (o : Option Const) → IsShortSender low → IfSome o IsShortConst → IsShortSender (unwrap_or (sender_if o) low)
+short_high : (low : Sender) (o : Option Const) → IsShortSender low → IfSome o IsShortConst →
+    IsShortSender (unwrap_or (sender_if o) low)
 short_high low None first second = first
 short_high low (Some c) first second = short_sender c second
 
@@ -78,12 +79,15 @@ only_short (clause.PackedDecimal ∷ cs) short = tt
 only_short (clause.LeadingSeparate ∷ cs) short = tt
 only_short (clause.TrailingSeparate ∷ cs) short = tt
 
-pub short_conditions : (n : ℕ) (last : Option Area) (ps : List Placed) → AllByRecursion IsShortPlaced ps → AllByRecursion IsShortCondition (conditions n last ps)
+pub short_conditions : (n : ℕ) (last : Option Area) (ps : List Placed) → AllByRecursion IsShortPlaced ps →
+    AllByRecursion IsShortCondition (conditions n last ps)
 short_conditions n last [] short = tt
 short_conditions n last (p ∷ ps) short =
     at (is_condition p.entry) n last p ps (only_short p.entry.clauses short.0) (short_conditions n last ps short.1) (short_conditions (n + 1) (Some p.area) ps short.1) where
-      at : (x : Bool) (n : ℕ) (last : Option Area) (p : Placed) (ps : List Placed) → IfSome (only_values p.entry.clauses) AreShortSpans →
-          AllByRecursion IsShortCondition (conditions n last ps) → AllByRecursion IsShortCondition (conditions (n + 1) (Some p.area) ps) →
+      at : (x : Bool) (n : ℕ) (last : Option Area) (p : Placed) (ps : List Placed) →
+          IfSome (only_values p.entry.clauses) AreShortSpans →
+          AllByRecursion IsShortCondition (conditions n last ps) →
+          AllByRecursion IsShortCondition (conditions (n + 1) (Some p.area) ps) →
           AllByRecursion IsShortCondition (cond x (condition p.entry (owner_in p.area n last) ∷ conditions n last ps) (conditions (n + 1) (Some p.area) ps))
       at true n last p ps here beside later = (here, beside)
       at false n last p ps here beside later = later
@@ -97,7 +101,8 @@ sound_pairs (s ∷ ss) short =
 
 -- ---- the first value is of the item's category
 
-first_category : (f : Form) (low : Sender) (high : Option Sender) → is_range_of f low high ≡ true → has_category f low ≡ true
+first_category : (f : Form) (low : Sender) (high : Option Sender) → is_range_of f low high ≡ true →
+    has_category f low ≡ true
 first_category f low None e = e
 first_category f low (Some high) e =
     (and_parts (has_category f low) (has_category f high) (and_parts (has_category f low && has_category f high) (at_most low high) e).0).0
@@ -108,17 +113,20 @@ no_category x e = cc
 abbrev form_in : List Item → ℕ → Form
 form_in items place = option_map_or (λ i. i.form) (slice_get items place) Group
 
-none_elementary : (ds : List Description) (place : ℕ) (x : Sender) → has_category (elementary_form (slice_get ds place) None) x ≡ true → ⊥
+none_elementary : (ds : List Description) (place : ℕ) (x : Sender) →
+    has_category (elementary_form (slice_get ds place) None) x ≡ true → ⊥
 none_elementary [] place x e = no_category x e
 none_elementary (d ∷ ds) zero x e = no_category x e
 none_elementary (d ∷ ds) (suc place) x e = none_elementary ds place x e
 
-held_alone : (l : Layout) (d : Description) (group : Bool) (x : Sender) → has_category (cond group Group d.form) x ≡ true → IsShortSender x → CanMove l x d.form
+held_alone : (l : Layout) (d : Description) (group : Bool) (x : Sender) → has_category (cond group Group d.form) x ≡ true →
+    IsShortSender x → CanMove l x d.form
 held_alone l d true x h short = absurd (no_category x h)
 held_alone l d false x h short = (low_is_sound l d.form x h short).1
 
 -- the form that the rules on condition-names see is that of the layout, or a group's
-same_form : (l : Layout) (ds : List Description) (ss : List Spot) (place : ℕ) (x : Sender) → has_category (rules.form_at ds ss place) x ≡ true → IsShortSender x →
+same_form : (l : Layout) (ds : List Description) (ss : List Spot) (place : ℕ) (x : Sender) →
+    has_category (rules.form_at ds ss place) x ≡ true → IsShortSender x →
     CanMove l x (form_in (laid_items ds ss) place)
 same_form l [] ss place x has short = absurd (no_category x has)
 same_form l (d ∷ ds) [] place x has short = absurd (none_elementary (d ∷ ds) place x has)
@@ -126,7 +134,8 @@ same_form l (d ∷ ds) (s ∷ ss) zero x has short = held_alone l d s.group x ha
 same_form l (d ∷ ds) (s ∷ ss) (suc place) x has short = same_form l ds ss place x has short
 
 first_sound : (l : Layout) (ds : List Description) (ss : List Spot) (place : ℕ) (value : Option (List Span)) →
-    are_values_of (rules.form_at ds ss place) value ≡ true → IfSome value AreShortSpans → CanMove l (first_value (map pair_of (unwrap_or value []))) (form_in (laid_items ds ss) place)
+    are_values_of (rules.form_at ds ss place) value ≡ true → IfSome value AreShortSpans →
+    CanMove l (first_value (map pair_of (unwrap_or value []))) (form_in (laid_items ds ss) place)
 first_sound l ds ss place None e short = absurd (cc)
 first_sound l ds ss place (Some []) e short = λ takes. tt
 first_sound l ds ss place (Some (s ∷ more)) e short =
@@ -138,7 +147,8 @@ pairs_of None short = tt
 pairs_of (Some ss) short = sound_pairs ss short
 
 module _ (f : Facts) where
-  flag_sound : (c : Condition) (owner : Option ℕ) → c.owner ≡ owner → condition_breaks L1 f c ≡ false → condition_breaks L7 f c ≡ false → IsShortCondition c →
+  flag_sound : (c : Condition) (owner : Option ℕ) → c.owner ≡ owner → condition_breaks L1 f c ≡ false →
+      condition_breaks L7 f c ≡ false → IsShortCondition c →
       IsSoundFlag (layout_in f) (flag_of c)
   flag_sound c None e stray breaks short = let h : is_none c.owner ≡ false = stray in let g : is_none {T = ℕ} None ≡ false = rw e at h in absurd (cc)
   flag_sound c (Some place) e stray breaks short =
@@ -154,7 +164,8 @@ module _ (f : Facts) where
   line_kept true line others e = absurd (cc)
   line_kept false line others e = (refl, e)
 
-  pub flags_sound : (cs : List Condition) → condition_lines L1 f cs ≡ [] → condition_lines L7 f cs ≡ [] → AllByRecursion IsShortCondition cs → All (IsSoundFlag (layout_in f)) (map flag_of cs)
+  pub flags_sound : (cs : List Condition) → condition_lines L1 f cs ≡ [] → condition_lines L7 f cs ≡ [] →
+      AllByRecursion IsShortCondition cs → All (IsSoundFlag (layout_in f)) (map flag_of cs)
   flags_sound [] first second short = All-nil (IsSoundFlag (layout_in f))
   flags_sound (c ∷ cs) first second short =
       let a = line_kept (condition_breaks L1 f c) c.line (condition_lines L1 f cs) first in

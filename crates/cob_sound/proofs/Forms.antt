@@ -45,7 +45,8 @@ kept_formed (Text n) usage allowed = tt
 kept_formed (Number digits scale signed kept) usage allowed = allowed
 kept_formed (Edited picture digits scale) usage allowed = allowed
 
-found_formed : (text : List ℕ) (o : Option Form) (usage : Usage) → picture_form text ≡ o → IsFormed (form_kept_as usage (form_or_group o))
+found_formed : (text : List ℕ) (o : Option Form) (usage : Usage) → picture_form text ≡ o →
+    IsFormed (form_kept_as usage (form_or_group o))
 found_formed text None usage e = tt
 found_formed text (Some f) usage e = kept_formed f usage (picture_is_allowed text f e)
 
@@ -73,10 +74,12 @@ short_sender const.Quote short = tt
 short_sender const.HighValue short = tt
 short_sender const.LowValue short = tt
 
-find_short : (test : Clause → Bool) (cs : List Clause) → AllByRecursion IsShortClause cs → IfSome (find test cs) IsShortClause
+find_short : (test : Clause → Bool) (cs : List Clause) → AllByRecursion IsShortClause cs →
+    IfSome (find test cs) IsShortClause
 find_short test [] short = tt
 find_short test (c ∷ cs) short = at (test c) c (find test cs) short.0 (find_short test cs short.1) where
-  at : (x : Bool) (c : Clause) (o : Option Clause) → IsShortClause c → IfSome o IsShortClause → IfSome (cond x (Some c) o) IsShortClause
+  at : (x : Bool) (c : Clause) (o : Option Clause) → IsShortClause c → IfSome o IsShortClause →
+      IfSome (cond x (Some c) o) IsShortClause
   at true c o here there = here
   at false c o here there = there
 
@@ -141,7 +144,8 @@ sound_of (Edited picture digits scale) formed form = record {
 }
 
 -- with parts it has no picture, and without them an allowed one
-form_is_sound : (d : Description) (s : Spot) (group pictured : Bool) → s.group ≡ group → d.pictured ≡ pictured → IsFromEntry d → HasOwnBytes d s →
+form_is_sound : (d : Description) (s : Spot) (group pictured : Bool) → s.group ≡ group → d.pictured ≡ pictured →
+    IsFromEntry d → HasOwnBytes d s →
     breaks_parts d s ≡ false → breaks_pictures d ≡ false → IsSoundForm d.form s.length
 form_is_sound d s true true g p from own parts pictures = let h = rw (g, p) at parts in absurd (cc)
 form_is_sound d s true false g p from own parts pictures = rw (from.unpictured p) tt
@@ -154,7 +158,8 @@ form_is_sound d s false true g p from own parts pictures =
 -- ---- what items begin with
 
 -- a constant of the item's category can be moved to it
-pub low_is_sound : (l : Layout) (f : Form) (x : Sender) → has_category f x ≡ true → IsShortSender x → IsConstant x × CanMove l x f
+pub low_is_sound : (l : Layout) (f : Form) (x : Sender) → has_category f x ≡ true → IsShortSender x →
+    IsConstant x × CanMove l x f
 low_is_sound l Group x has short = absurd (cc)
 low_is_sound l (Edited picture digits scale) x has short = absurd (cc)
 low_is_sound l (Text n) (sender.Item place) has short = absurd (cc)
@@ -168,24 +173,29 @@ low_is_sound l (Number digits scale signed usage) (sender.Text text) has short =
 low_is_sound l (Number digits scale signed usage) (sender.Fill byte) has short = absurd (cc)
 low_is_sound l (Number digits scale signed usage) sender.Zero has short = (tt, λ takes. tt)
 
-alone_has_category : (f : Form) (low : Sender) (high : Option Sender) → holds_alone f low high ≡ true → has_category f low ≡ true
+alone_has_category : (f : Form) (low : Sender) (high : Option Sender) → holds_alone f low high ≡ true →
+    has_category f low ≡ true
 alone_has_category f low None h = (and_parts (has_category f low) (has_room f low) h).0
 alone_has_category f low (Some high) h = absurd (cc)
 
-values_are_sound : (l : Layout) (f : Form) (values : List Span) → holds f values ≡ true → IfSome (first_low values) IsShortSender →
+values_are_sound : (l : Layout) (f : Form) (values : List Span) → holds f values ≡ true →
+    IfSome (first_low values) IsShortSender →
     IfSome (first_low values) (λ x. IsConstant x × CanMove l x f)
 values_are_sound l f [] h short = tt
 values_are_sound l f (s ∷ []) h short = low_is_sound l f s.low (alone_has_category f s.low s.high h) short
 values_are_sound l f (s ∷ t ∷ ss) h short = absurd (cc)
 
-value_is_sound : (l : Layout) (d : Description) (s : Spot) (value : Option (List Span)) → d.value ≡ value → breaks_values d s ≡ false →
-    IfSome (option_and_then first_low value) IsShortSender → IfSome (option_and_then first_low value) (λ x. IsConstant x × CanMove l x d.form)
+value_is_sound : (l : Layout) (d : Description) (s : Spot) (value : Option (List Span)) → d.value ≡ value →
+    breaks_values d s ≡ false →
+    IfSome (option_and_then first_low value) IsShortSender →
+    IfSome (option_and_then first_low value) (λ x. IsConstant x × CanMove l x d.form)
 value_is_sound l d s None e kept short = tt
 value_is_sound l d s (Some values) e kept short =
     let may : may_begin_with d s values ≡ true = not-false (may_begin_with d s values) (rw e at kept) in
     values_are_sound l d.form values (and_parts _ (holds d.form values) may).1 short
 
-pub item_is_sound : (l : Layout) (d : Description) (s : Spot) → IsFromEntry d → HasOwnBytes d s → item_breaks L2 d s ≡ false → item_breaks L3 d s ≡ false → item_breaks L5 d s ≡ false →
+pub item_is_sound : (l : Layout) (d : Description) (s : Spot) → IsFromEntry d → HasOwnBytes d s →
+    item_breaks L2 d s ≡ false → item_breaks L3 d s ≡ false → item_breaks L5 d s ≡ false →
     s.start + s.length ≤ l.storage → IsSoundItem l (item_at d s)
 item_is_sound l d s from own parts pictures values within = record {
   within = within;

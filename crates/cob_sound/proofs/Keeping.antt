@@ -29,11 +29,13 @@ none_right rule (x ∷ xs) ys none =
     let parts = line_none (eqb (rule_number x.0) (rule_number rule)) x.1 (lines_among rule (xs ++ ys)) none in
     none_right rule xs ys parts.1
 
-all_left : (rs : List Rule) (xs ys : List (Rule × ℕ)) → AreKept (λ r. lines_among r (xs ++ ys)) rs → AreKept (λ r. lines_among r xs) rs
+all_left : (rs : List Rule) (xs ys : List (Rule × ℕ)) → AreKept (λ r. lines_among r (xs ++ ys)) rs →
+    AreKept (λ r. lines_among r xs) rs
 all_left [] xs ys none = tt
 all_left (r ∷ rs) xs ys none = (none_left r xs ys none.0, all_left rs xs ys none.1)
 
-all_right : (rs : List Rule) (xs ys : List (Rule × ℕ)) → AreKept (λ r. lines_among r (xs ++ ys)) rs → AreKept (λ r. lines_among r ys) rs
+all_right : (rs : List Rule) (xs ys : List (Rule × ℕ)) → AreKept (λ r. lines_among r (xs ++ ys)) rs →
+    AreKept (λ r. lines_among r ys) rs
 all_right [] xs ys none = tt
 all_right (r ∷ rs) xs ys none = (none_right r xs ys none.0, all_right rs xs ys none.1)
 

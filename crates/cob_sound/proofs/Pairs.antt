@@ -16,12 +16,14 @@ AllPairs P [] ss = Unit {0}
 AllPairs P (d ∷ ds) [] = Unit {0}
 AllPairs P (d ∷ ds) (s ∷ ss) = P d s × AllPairs P ds ss
 
-pub pairs_append : (P : Description → Spot → Type 0) (ds es : List Description) (ss ts : List Spot) → length ds ≡ length ss →
+pub pairs_append : (P : Description → Spot → Type 0) (ds es : List Description) (ss ts : List Spot) →
+    length ds ≡ length ss →
     AllPairs P ds ss → AllPairs P es ts → AllPairs P (ds ++ es) (ss ++ ts)
 pairs_append P [] es [] ts e first second = second
 pairs_append P [] es (s ∷ ss) ts e first second = absurd (omega (arith, e))
 pairs_append P (d ∷ ds) es [] ts e first second = absurd (omega (arith, e))
-pairs_append P (d ∷ ds) es (s ∷ ss) ts e first second = (first.0, pairs_append P ds es ss ts (omega (arith, e)) first.1 second)
+pairs_append P (d ∷ ds) es (s ∷ ss) ts e first second =
+    (first.0, pairs_append P ds es ss ts (omega (arith, e)) first.1 second)
 
 -- ---- rules that are kept
 
@@ -29,7 +31,8 @@ line_kept : (x : Bool) (line : ℕ) (others : List ℕ) → line_if x line other
 line_kept true line others e = absurd (cc)
 line_kept false line others e = (refl, e)
 
-pub rule_kept : (rule : Rule) (ds : List Description) (ss : List Spot) → item_lines rule ds ss ≡ [] → AllPairs (λ d s. item_breaks rule d s ≡ false) ds ss
+pub rule_kept : (rule : Rule) (ds : List Description) (ss : List Spot) → item_lines rule ds ss ≡ [] →
+    AllPairs (λ d s. item_breaks rule d s ≡ false) ds ss
 rule_kept rule [] ss kept = tt
 rule_kept rule (d ∷ ds) [] kept = tt
 rule_kept rule (d ∷ ds) (s ∷ ss) kept =
@@ -46,7 +49,8 @@ own_bytes : (d : Description) (b : Forest) → not (is_bare b) ≡ false → ite
 own_bytes d bare e = refl
 own_bytes d (item x b r) e = absurd (cc)
 
-bytes_in : (above : Above) (place next : ℕ) (last : Option Neighbour) (f : Forest) → AllPairs HasOwnBytes (flat f) (spots above place next last f)
+bytes_in : (above : Above) (place next : ℕ) (last : Option Neighbour) (f : Forest) →
+    AllPairs HasOwnBytes (flat f) (spots above place next last f)
 bytes_in above place next last bare = tt
 bytes_in above place next last (item d b r) =
     let s = spot above next last d b in (
@@ -58,4 +62,5 @@ bytes_in above place next last (item d b r) =
     )
 
 pub have_own_bytes : (ds : List Description) → AllPairs HasOwnBytes ds (all_spots ds)
-have_own_bytes ds = subst (λ xs. AllPairs HasOwnBytes xs (all_spots ds)) (flat_forest ds) (bytes_in nothing_above 0 0 None (forest ds))
+have_own_bytes ds =
+    subst (λ xs. AllPairs HasOwnBytes xs (all_spots ds)) (flat_forest ds) (bytes_in nothing_above 0 0 None (forest ds))

@@ -76,28 +76,34 @@ module _ (s : Scope) where
   pub same_bounds : typed.bound_at s ≡ bound_at s.layout
   same_bounds = fun_ext (λ place. ap form_bound (same_form s place))
 
-  result_same : (common : Sum) (t : Target) (h : How) → typed.is_small_result s common t h ≡ calc.is_small_result (typed.bound_at s) common t.item h
+  result_same : (common : Sum) (t : Target) (h : How) →
+      typed.is_small_result s common t h ≡ calc.is_small_result (typed.bound_at s) common t.item h
   result_same common t how.Whole = refl
   result_same common t how.Plus = refl
   result_same common t how.Minus = refl
   result_same common t how.Times = refl
   result_same common t how.Under = refl
 
-  results_same : (common : Sum) (ts : List Target) → typed.are_small_results s common ts ≡ calc.are_small_results (typed.bound_at s) common ts
+  results_same : (common : Sum) (ts : List Target) →
+      typed.are_small_results s common ts ≡ calc.are_small_results (typed.bound_at s) common ts
   results_same common [] = refl
   results_same common (t ∷ ts) = rw (result_same common t t.how, results_same common ts) refl
 
-  results_small : (common : Sum) (ts : List Target) → typed.are_small_results s common ts ≡ true → calc.are_small_results (bound_at s.layout) common ts ≡ true
-  results_small common ts is = ap (λ b. calc.are_small_results b common ts) (sym same_bounds) ∙ sym (results_same common ts) ∙ is
+  results_small : (common : Sum) (ts : List Target) → typed.are_small_results s common ts ≡ true →
+      calc.are_small_results (bound_at s.layout) common ts ≡ true
+  results_small common ts is =
+      ap (λ b. calc.are_small_results b common ts) (sym same_bounds) ∙ sym (results_same common ts) ∙ is
 
   -- ---- receivers
 
-  target_takes : (h : How) (r : Recv) → IsKept (target s h r).broken → takes_number (form_at s.layout (target s h r).value.item) ≡ true
+  target_takes : (h : How) (r : Recv) → IsKept (target s h r).broken →
+      takes_number (form_at s.layout (target s h r).value.item) ≡ true
   target_takes h r is =
       let place = (the_item s r.item).value in
       ap takes_number (sym (same_form s place)) ∙ received_takes h (scope.form_at s place) (met Q3 (may_receive h (scope.form_at s place)) (omega arith) is.1)
 
-  targets_take : (h : How) (rs : List Recv) → IsKept (each_of (target s h) rs).broken → take_numbers s.layout (each_of (target s h) rs).value ≡ true
+  targets_take : (h : How) (rs : List Recv) → IsKept (each_of (target s h) rs).broken →
+      take_numbers s.layout (each_of (target s h) rs).value ≡ true
   targets_take h [] is = refl
   targets_take h (r ∷ rs) is =
       and_from (takes_number (form_at s.layout (target s h r).value.item)) (take_numbers s.layout (each_of (target s h) rs).value) (target_takes h r is.0) (targets_take h rs is.1)
@@ -105,7 +111,8 @@ module _ (s : Scope) where
   abbrev pub CanWork : Worked → Type 0
   CanWork w = CanCompute s.layout w.common w.targets w.remainder
 
-  worked_can : (h : How) (common : Sum) (rs : List Recv) → AreNumbers s (items_in common) → IsKept (worked s h common rs).broken → CanWork (worked s h common rs).value
+  worked_can : (h : How) (common : Sum) (rs : List Recv) → AreNumbers s (items_in common) →
+      IsKept (worked s h common rs).broken → CanWork (worked s h common rs).value
   worked_can h common rs numbers is =
       let ts = (each_of (target s h) rs).value in
       record {
@@ -120,19 +127,22 @@ module _ (s : Scope) where
   abbrev AtomNumbers : Atom → Type 0
   AtomNumbers a = AreNumbers s (items_in_atom a)
 
-  each_numbers : (os : List Opnd) → IsKept (each_of (numeric_operand s) os).broken → AllByRecursion AtomNumbers (each_of (numeric_operand s) os).value
+  each_numbers : (os : List Opnd) → IsKept (each_of (numeric_operand s) os).broken →
+      AllByRecursion AtomNumbers (each_of (numeric_operand s) os).value
   each_numbers [] is = tt
   each_numbers (o ∷ os) is = (operand_numbers s o is.0, each_numbers os is.1)
 
   with_nothing : (xs ys : List ℕ) → AreNumbers s xs → AreNumbers s ys → AreNumbers s ((xs ++ []) ++ ys)
   with_nothing xs ys first second = both_numbers s (xs ++ []) ys (both_numbers s xs [] first tt) second
 
-  parts_numbers : (minus : Bool) (as_ : List Atom) (rest : Parts) → AllByRecursion AtomNumbers as_ → AreNumbers s (items_in_parts rest) → AreNumbers s (items_in_parts (parts_with minus as_ rest))
+  parts_numbers : (minus : Bool) (as_ : List Atom) (rest : Parts) → AllByRecursion AtomNumbers as_ →
+      AreNumbers s (items_in_parts rest) → AreNumbers s (items_in_parts (parts_with minus as_ rest))
   parts_numbers minus [] rest all others = others
   parts_numbers minus (a ∷ as_) rest all others =
       with_nothing (items_in_atom a) (items_in_parts (parts_with minus as_ rest)) all.0 (parts_numbers minus as_ rest all.1 others)
 
-  one_numbers : (o : Option Opnd) → IsKept (if_there (numeric_operand s) o).broken → AreNumbers s (items_in_parts (part_if (if_there (numeric_operand s) o).value))
+  one_numbers : (o : Option Opnd) → IsKept (if_there (numeric_operand s) o).broken →
+      AreNumbers s (items_in_parts (part_if (if_there (numeric_operand s) o).value))
   one_numbers None is = tt
   one_numbers (Some o) is = with_nothing (items_in_atom (numeric_operand s o).value) [] (operand_numbers s o is) tt
 
@@ -161,20 +171,24 @@ module _ (s : Scope) where
       rest_same a b t ∙ ap (λ x. is_small_rest_at x b (calc.quotient_at x b scale)) (sym (once a)) in
       rw (here, rests_same n d ts) refl
 
-  rests_small : (n d : Atom) (ts : List Target) → typed.are_small_remainders s (atom_most (typed.bound_at s) n) (atom_most (typed.bound_at s) d) ts ≡ true →
+  rests_small : (n d : Atom) (ts : List Target) →
+      typed.are_small_remainders s (atom_most (typed.bound_at s) n) (atom_most (typed.bound_at s) d) ts ≡ true →
       are_small_rests (bound_at s.layout) s.layout (root_of (one_by_other true n d)) ts ≡ true
   rests_small n d ts is =
       ap (λ b. are_small_rests b s.layout (root_of (one_by_other true n d)) ts) (sym same_bounds) ∙ sym (rests_same n d ts) ∙ is
 
   -- one receiver alone gets the whole quotient
-  one_small : (common : Sum) (rs : List Recv) → one_receiver rs ≡ true → calc.are_small_results (bound_at s.layout) common (each_of (target s how.Whole) rs).value ≡ true →
+  one_small : (common : Sum) (rs : List Recv) → one_receiver rs ≡ true →
+      calc.are_small_results (bound_at s.layout) common (each_of (target s how.Whole) rs).value ≡ true →
       is_small_stored (bound_at s.layout) common ≡ true
   one_small common [] one results = absurd (cc)
   one_small common (r ∷ []) one results = (and_parts (is_small_stored (bound_at s.layout) common) true results).0
   one_small common (r ∷ q ∷ rs) one results = absurd (cc)
 
-  divided_can : (n d : Atom) (giving : List Recv) (remainder : Option Ref) → AtomNumbers n → AtomNumbers d → IsKept (divided s n d giving remainder).broken → CanWork (divided s n d giving remainder).value
-  divided_can n d giving None first second is = worked_can how.Whole (one_by_other true n d) giving (two_numbers true n d first second) is.0
+  divided_can : (n d : Atom) (giving : List Recv) (remainder : Option Ref) → AtomNumbers n → AtomNumbers d →
+      IsKept (divided s n d giving remainder).broken → CanWork (divided s n d giving remainder).value
+  divided_can n d giving None first second is =
+      worked_can how.Whole (one_by_other true n d) giving (two_numbers true n d first second) is.0
   divided_can n d giving (Some r) first second is =
       let common = one_by_other true n d in
       let w = worked_can how.Whole common giving (two_numbers true n d first second) is.0 in
@@ -192,50 +206,59 @@ module _ (s : Scope) where
 
   -- ---- statements
 
-  pub add_to_can : (addends : List Opnd) (to : List Recv) → IsKept (add_to s addends to).broken → CanWork (add_to s addends to).value
+  pub add_to_can : (addends : List Opnd) (to : List Recv) → IsKept (add_to s addends to).broken →
+      CanWork (add_to s addends to).value
   add_to_can addends to is =
       let as_ = (each_of (numeric_operand s) addends).value in
       worked_can how.Plus (sum_with as_ no_parts) to (parts_numbers false as_ no_parts (each_numbers addends is.0) tt) is.1
 
-  pub add_giving_can : (addends : List Opnd) (to : Option Opnd) (giving : List Recv) → IsKept (add_giving s addends to giving).broken → CanWork (add_giving s addends to giving).value
+  pub add_giving_can : (addends : List Opnd) (to : Option Opnd) (giving : List Recv) →
+      IsKept (add_giving s addends to giving).broken → CanWork (add_giving s addends to giving).value
   add_giving_can addends to giving is =
       let as_ = (each_of (numeric_operand s) addends).value in
       let rest = part_if (if_there (numeric_operand s) to).value in
       worked_can how.Whole (sum_with as_ rest) giving (parts_numbers false as_ rest (each_numbers addends is.0) (one_numbers to is.1.0)) is.1.1
 
-  pub subtract_from_can : (less : List Opnd) (from : List Recv) → IsKept (subtract_from s less from).broken → CanWork (subtract_from s less from).value
+  pub subtract_from_can : (less : List Opnd) (from : List Recv) → IsKept (subtract_from s less from).broken →
+      CanWork (subtract_from s less from).value
   subtract_from_can less from is =
       let as_ = (each_of (numeric_operand s) less).value in
       worked_can how.Minus (sum_with as_ no_parts) from (parts_numbers false as_ no_parts (each_numbers less is.0) tt) is.1
 
-  pub subtract_giving_can : (less : List Opnd) (from : Opnd) (giving : List Recv) → IsKept (subtract_giving s less from giving).broken → CanWork (subtract_giving s less from giving).value
+  pub subtract_giving_can : (less : List Opnd) (from : Opnd) (giving : List Recv) →
+      IsKept (subtract_giving s less from giving).broken → CanWork (subtract_giving s less from giving).value
   subtract_giving_can less from giving is =
       let as_ = (each_of (numeric_operand s) less).value in
       let rest = part_if (Some (numeric_operand s from).value) in
       worked_can how.Whole (MkSum (parts_with true as_ rest)) giving (parts_numbers true as_ rest (each_numbers less is.0) (one_numbers (Some from) is.1.0)) is.1.1
 
-  pub multiply_by_can : (factor : Opnd) (by : List Recv) → IsKept (multiply_by s factor by).broken → CanWork (multiply_by s factor by).value
+  pub multiply_by_can : (factor : Opnd) (by : List Recv) → IsKept (multiply_by s factor by).broken →
+      CanWork (multiply_by s factor by).value
   multiply_by_can factor by is =
       let a = (numeric_operand s factor).value in
       worked_can how.Times (sum_with (a ∷ []) no_parts) by (parts_numbers false (a ∷ []) no_parts (operand_numbers s factor is.0, tt) tt) is.1
 
-  pub multiply_giving_can : (factor by : Opnd) (giving : List Recv) → IsKept (multiply_giving s factor by giving).broken → CanWork (multiply_giving s factor by giving).value
+  pub multiply_giving_can : (factor by : Opnd) (giving : List Recv) → IsKept (multiply_giving s factor by giving).broken →
+      CanWork (multiply_giving s factor by giving).value
   multiply_giving_can factor by giving is =
       let a = (numeric_operand s factor).value in
       let b = (numeric_operand s by).value in
       worked_can how.Whole (one_by_other false a b) giving (two_numbers false a b (operand_numbers s factor is.0) (operand_numbers s by is.1.0)) is.1.1
 
-  pub divide_into_can : (divisor : Opnd) (into : List Recv) → IsKept (divide_into s divisor into).broken → CanWork (divide_into s divisor into).value
+  pub divide_into_can : (divisor : Opnd) (into : List Recv) → IsKept (divide_into s divisor into).broken →
+      CanWork (divide_into s divisor into).value
   divide_into_can divisor into is =
       let a = (numeric_operand s divisor).value in
       worked_can how.Under (sum_with (a ∷ []) no_parts) into (parts_numbers false (a ∷ []) no_parts (operand_numbers s divisor is.0, tt) tt) is.1
 
-  pub divide_giving_can : (first : Opnd) (by : Way) (second : Opnd) (giving : List Recv) (remainder : Option Ref) → IsKept (divide_giving s first by second giving remainder).broken →
+  pub divide_giving_can : (first : Opnd) (by : Way) (second : Opnd) (giving : List Recv) (remainder : Option Ref) →
+      IsKept (divide_giving s first by second giving remainder).broken →
       CanWork (divide_giving s first by second giving remainder).value
   divide_giving_can first way.Into second giving remainder is =
       divided_can (numeric_operand s second).value (numeric_operand s first).value giving remainder (operand_numbers s second is.1.0) (operand_numbers s first is.0) is.1.1
   divide_giving_can first way.By second giving remainder is =
       divided_can (numeric_operand s first).value (numeric_operand s second).value giving remainder (operand_numbers s first is.0) (operand_numbers s second is.1.0) is.1.1
 
-  pub compute_can : (to : List Recv) (value : Expr) → IsKept (compute s to value).broken → CanWork (compute s to value).value
+  pub compute_can : (to : List Recv) (value : Expr) → IsKept (compute s to value).broken →
+      CanWork (compute s to value).value
   compute_can to value is = worked_can how.Whole (whole_sum s value).value to (whole_numbers s value is.0) is.1

@@ -45,11 +45,14 @@ moved_short (Text n) (Text m) takes may = absurd (cc)
 moved_short (Text n) (Number digits scale signed usage) takes may = leb-true n 18 may
 moved_short (Text n) (Edited picture digits scale) takes may = leb-true n 18 may
 
-short_text : (bytes : List ℕ) (to : Form) → takes_number to ≡ true → (not (is_amount to) || (nat_le (length bytes) 18 && list_all is_digit bytes)) ≡ true → length bytes ≤ 18
+short_text : (bytes : List ℕ) (to : Form) → takes_number to ≡ true →
+    (not (is_amount to) || (nat_le (length bytes) 18 && list_all is_digit bytes)) ≡ true → length bytes ≤ 18
 short_text bytes Group takes may = absurd (cc)
 short_text bytes (Text m) takes may = absurd (cc)
-short_text bytes (Number digits scale signed usage) takes may = leb-true (length bytes) 18 (and_parts (nat_le (length bytes) 18) (list_all is_digit bytes) may).0
-short_text bytes (Edited picture digits scale) takes may = leb-true (length bytes) 18 (and_parts (nat_le (length bytes) 18) (list_all is_digit bytes) may).0
+short_text bytes (Number digits scale signed usage) takes may =
+    leb-true (length bytes) 18 (and_parts (nat_le (length bytes) 18) (list_all is_digit bytes) may).0
+short_text bytes (Edited picture digits scale) takes may =
+    leb-true (length bytes) 18 (and_parts (nat_le (length bytes) 18) (list_all is_digit bytes) may).0
 
 module _ (s : Scope) where
   pub short_operand : (d : ℕ) (o : Opnd) → AreShort (print_opnd d o) → IsShortSender (operand s o).value
@@ -70,12 +73,16 @@ module _ (s : Scope) where
   countable_whole (sender.Fill byte) short is = tt
   countable_whole sender.Zero short is = tt
 
-  moved_countable : (x : Sender) (to : Form) → IsShortSender x → takes_number to ≡ true → may_move s x to ≡ true → IsCountable s.layout x
-  moved_countable (sender.Item place) to short takes may = subst IsShort (same_form s place) (moved_short (scope.form_at s place) to takes may)
+  moved_countable : (x : Sender) (to : Form) → IsShortSender x → takes_number to ≡ true → may_move s x to ≡ true →
+      IsCountable s.layout x
+  moved_countable (sender.Item place) to short takes may =
+      subst IsShort (same_form s place) (moved_short (scope.form_at s place) to takes may)
   moved_countable (sender.Number n) to short takes may = short
   moved_countable (sender.Text text) to short takes may = short_text text to takes may
   moved_countable (sender.Fill byte) to short takes may = tt
   moved_countable sender.Zero to short takes may = tt
 
-  pub can_move : (x : Sender) (place : ℕ) → IsShortSender x → may_move s x (scope.form_at s place) ≡ true → CanMove s.layout x (form_at s.layout place)
-  can_move x place short may takes = moved_countable x (form_at s.layout place) short takes (ap (may_move s x) (sym (same_form s place)) ∙ may)
+  pub can_move : (x : Sender) (place : ℕ) → IsShortSender x → may_move s x (scope.form_at s place) ≡ true →
+      CanMove s.layout x (form_at s.layout place)
+  can_move x place short may takes =
+      moved_countable x (form_at s.layout place) short takes (ap (may_move s x) (sym (same_form s place)) ∙ may)

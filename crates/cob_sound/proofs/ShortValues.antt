@@ -30,7 +30,8 @@ pub all_right : {X : Type 0} (P : X → Type 0) (xs ys : List X) → AllByRecurs
 all_right P [] ys p = p
 all_right P (x ∷ xs) ys p = all_right P xs ys p.1
 
-pub all_append : {X : Type 0} (P : X → Type 0) (xs ys : List X) → AllByRecursion P xs → AllByRecursion P ys → AllByRecursion P (xs ++ ys)
+pub all_append : {X : Type 0} (P : X → Type 0) (xs ys : List X) → AllByRecursion P xs → AllByRecursion P ys →
+    AllByRecursion P (xs ++ ys)
 all_append P [] ys p q = q
 all_append P (x ∷ xs) ys p q = (p.0, all_append P xs ys p.1 q)
 
@@ -105,7 +106,8 @@ short_entry e short =
     short_clauses e.clauses (short_left (each print_clause e.clauses) (stop 0 ∷ [])
     (short_right (print_if print_described e.name) (each print_clause e.clauses ++ stop 0 ∷ []) short.1))
 
-short_entries : (here : Area) (es : List Entry) → AreShort (each print_entry es) → AllByRecursion IsShortPlaced (placed here es)
+short_entries : (here : Area) (es : List Entry) → AreShort (each print_entry es) →
+    AllByRecursion IsShortPlaced (placed here es)
 short_entries here [] short = tt
 short_entries here (e ∷ es) short =
     (short_entry e (short_left (print_entry e) (each print_entry es) short), short_entries here es (short_right (print_entry e) (each print_entry es) short))
@@ -120,15 +122,20 @@ short_files n (f ∷ fs) short =
     all_append IsShortPlaced (placed (area.File n) f.entries) (file_entries (n + 1) fs) (short_entries (area.File n) f.entries entries.1)
     (short_files (n + 1) fs (short_right (print_fd f) (each print_fd fs) short))
 
-short_file_section : (o : Option (List Fd)) → AreShort (print_if print_files o) → AllByRecursion IsShortPlaced (file_entries 0 (list_if o))
+short_file_section : (o : Option (List Fd)) → AreShort (print_if print_files o) →
+    AllByRecursion IsShortPlaced (file_entries 0 (list_if o))
 short_file_section None short = tt
-short_file_section (Some fs) short = short_files 0 fs (short_right (heading (word.File ∷ word.Section ∷ [])) (each print_fd fs) short)
+short_file_section (Some fs) short =
+    short_files 0 fs (short_right (heading (word.File ∷ word.Section ∷ [])) (each print_fd fs) short)
 
-short_storage : (o : Option (List Entry)) → AreShort (print_if print_storage o) → AllByRecursion IsShortPlaced (placed area.Storage (list_if o))
+short_storage : (o : Option (List Entry)) → AreShort (print_if print_storage o) →
+    AllByRecursion IsShortPlaced (placed area.Storage (list_if o))
 short_storage None short = tt
-short_storage (Some es) short = short_entries area.Storage es (short_right (heading (word.WorkingStorage ∷ word.Section ∷ [])) (each print_entry es) short)
+short_storage (Some es) short =
+    short_entries area.Storage es (short_right (heading (word.WorkingStorage ∷ word.Section ∷ [])) (each print_entry es) short)
 
-short_data : (o : Option Data) → AreShort (print_if print_data o) → AllByRecursion IsShortPlaced (file_entries 0 (fds_in o) ++ placed area.Storage (entries_in o))
+short_data : (o : Option Data) → AreShort (print_if print_data o) →
+    AllByRecursion IsShortPlaced (file_entries 0 (fds_in o) ++ placed area.Storage (entries_in o))
 short_data None short = tt
 short_data (Some d) short =
     let both = short_right (heading (word.Data ∷ word.Division ∷ [])) (print_if print_files d.files ++ print_if print_storage d.storage) short in

@@ -35,8 +35,10 @@ use Rattle.cob_sound.proofs.Areas.{IsIn, all_in, area_in}
 
 -- ---- items
 
-items_sound : (l : Layout) (ds : List Description) (ss : List Spot) → AllByRecursion IsFromEntry ds → AllPairs HasOwnBytes ds ss →
-    AllPairs (λ d s. item_breaks L2 d s ≡ false) ds ss → AllPairs (λ d s. item_breaks L3 d s ≡ false) ds ss → AllPairs (λ d s. item_breaks L5 d s ≡ false) ds ss →
+items_sound : (l : Layout) (ds : List Description) (ss : List Spot) → AllByRecursion IsFromEntry ds →
+    AllPairs HasOwnBytes ds ss →
+    AllPairs (λ d s. item_breaks L2 d s ≡ false) ds ss → AllPairs (λ d s. item_breaks L3 d s ≡ false) ds ss →
+    AllPairs (λ d s. item_breaks L5 d s ≡ false) ds ss →
     AllByRecursion (IsIn l.storage) ss → AllPairs (λ d s. IsSoundItem l (item_at d s)) ds ss
 items_sound l [] ss from own parts pictures values ends = tt
 items_sound l (d ∷ ds) [] from own parts pictures values ends = tt
@@ -45,10 +47,12 @@ items_sound l (d ∷ ds) (s ∷ ss) from own parts pictures values ends = (
   items_sound l ds ss from.1 own.1 parts.1 pictures.1 values.1 ends.1,
 )
 
-all_sound : (l : Layout) (ds : List Description) (ss : List Spot) → AllPairs (λ d s. IsSoundItem l (item_at d s)) ds ss → All (IsSoundItem l) (laid_items ds ss)
+all_sound : (l : Layout) (ds : List Description) (ss : List Spot) → AllPairs (λ d s. IsSoundItem l (item_at d s)) ds ss →
+    All (IsSoundItem l) (laid_items ds ss)
 all_sound l [] ss sound = All-nil (IsSoundItem l)
 all_sound l (d ∷ ds) [] sound = All-nil (IsSoundItem l)
-all_sound l (d ∷ ds) (s ∷ ss) sound = All-cons (IsSoundItem l) (item_at d s) (laid_items ds ss) sound.0 (all_sound l ds ss sound.1)
+all_sound l (d ∷ ds) (s ∷ ss) sound =
+    All-cons (IsSoundItem l) (item_at d s) (laid_items ds ss) sound.0 (all_sound l ds ss sound.1)
 
 -- ---- FILE STATUS
 
@@ -62,11 +66,14 @@ two_bytes (Edited picture digits scale) bytes sound two = absurd (cc)
 abbrev length_in : List Item → ℕ → ℕ
 length_in items place = option_map_or (λ i. i.length) (slice_get items place) 0
 
-counted : (name : List ℕ) (x : Bool) (d : Description) (ds : List Description) (n : ℕ) → is_named name d ≡ x → count_by (is_named name) (d ∷ ds) ≡ n →
+counted : (name : List ℕ) (x : Bool) (d : Description) (ds : List Description) (n : ℕ) → is_named name d ≡ x →
+    count_by (is_named name) (d ∷ ds) ≡ n →
     cond x 1 0 + count_by (is_named name) ds ≡ n
-counted name x d ds n e count = ap (λ y. cond y 1 0 + count_by (is_named name) ds) (sym e) ∙ sym (sum_by-cons (λ y. cond (is_named name y) 1 0) d ds) ∙ count
+counted name x d ds n e count =
+    ap (λ y. cond y 1 0 + count_by (is_named name) ds) (sym e) ∙ sym (sum_by-cons (λ y. cond (is_named name y) 1 0) d ds) ∙ count
 
-none_holds : (name : List ℕ) (ds : List Description) → count_by (is_named name) ds ≡ 0 → list_any (may_hold_status name) ds ≡ false
+none_holds : (name : List ℕ) (ds : List Description) → count_by (is_named name) ds ≡ 0 →
+    list_any (may_hold_status name) ds ≡ false
 none_holds name [] none = refl
 none_holds name (d ∷ ds) none = at (is_named name d) (is_status_holder d) name ds (counted name (is_named name d) d ds 0 refl none) (none_holds name ds) where
   at : (x y : Bool) (name : List ℕ) (ds : List Description) → cond x 1 0 + count_by (is_named name) ds ≡ 0 →
@@ -75,7 +82,8 @@ none_holds name (d ∷ ds) none = at (is_named name d) (is_status_holder d) name
   at false y name ds none others = others (omega (arith, none))
 
 -- the first item of the name holds a status, where it is the only one and one of the name does
-first_holds : (x : Bool) (name : List ℕ) (d : Description) (ds : List Description) → is_named name d ≡ x → x ≡ true → count_by (is_named name) (d ∷ ds) ≡ 1 →
+first_holds : (x : Bool) (name : List ℕ) (d : Description) (ds : List Description) → is_named name d ≡ x → x ≡ true →
+    count_by (is_named name) (d ∷ ds) ≡ 1 →
     list_any (may_hold_status name) (d ∷ ds) ≡ true → is_status_holder d ≡ true
 first_holds false name d ds e named count any = absurd (cc)
 first_holds true name d ds e named count any =
@@ -87,8 +95,10 @@ first_holds true name d ds e named count any =
       at true h = refl
       at false h = cc
 
-place_found : (l : Layout) (name : List ℕ) (ds : List Description) (ss : List Spot) (i : ℕ) (P : ℕ → Type 0) → ((k : ℕ) → length_in (laid_items ds ss) k ≡ 2 → P (i + k)) →
-    length ds ≡ length ss → AllPairs (λ d s. IsSoundItem l (item_at d s)) ds ss → count_by (is_named name) ds ≡ 1 → list_any (may_hold_status name) ds ≡ true →
+place_found : (l : Layout) (name : List ℕ) (ds : List Description) (ss : List Spot) (i : ℕ) (P : ℕ → Type 0) →
+    ((k : ℕ) → length_in (laid_items ds ss) k ≡ 2 → P (i + k)) →
+    length ds ≡ length ss → AllPairs (λ d s. IsSoundItem l (item_at d s)) ds ss → count_by (is_named name) ds ≡ 1 →
+    list_any (may_hold_status name) ds ≡ true →
     IfSome (position_from (is_named name) i ds) P
 place_found l name [] ss i P show e sound count any = tt
 place_found l name (d ∷ ds) [] i P show e sound count any = absurd (omega (arith, e))
@@ -101,12 +111,14 @@ place_found l name (d ∷ ds) (s ∷ ss) i P show e sound count any =
     (λ other. place_found l name ds ss (i + 1) P
     (λ k h. let same : i + suc k ≡ i + 1 + k = omega arith in subst P same (show (suc k) h))
     (omega (arith, e)) sound.1 (omega (arith, counted name false d ds 1 other count)) (rw other at any)) where
-      at : (x : Bool) → is_named name d ≡ x → (is_named name d ≡ true → P i) → (is_named name d ≡ false → IfSome (position_from (is_named name) (i + 1) ds) P) →
+      at : (x : Bool) → is_named name d ≡ x → (is_named name d ≡ true → P i) →
+          (is_named name d ≡ false → IfSome (position_from (is_named name) (i + 1) ds) P) →
           IfSome (cond x (Some i) (position_from (is_named name) (i + 1) ds)) P
       at true e here there = here e
       at false e here there = there e
 
-status_found : (l : Layout) (ds : List Description) (ss : List Spot) (o : Option (List ℕ)) → length ds ≡ length ss → AllPairs (λ d s. IsSoundItem l (item_at d s)) ds ss →
+status_found : (l : Layout) (ds : List Description) (ss : List Spot) (o : Option (List ℕ)) → length ds ≡ length ss →
+    AllPairs (λ d s. IsSoundItem l (item_at d s)) ds ss →
     is_wrong_status ds o ≡ false → IfSome (status_place ds o) (λ place. length_in (laid_items ds ss) place ≡ 2)
 status_found l ds ss None e sound right = tt
 status_found l ds ss (Some name) e sound right =
@@ -132,7 +144,8 @@ module _ (f : Facts) (laid : f.spots ≡ all_spots f.items) (levels : AllPairs (
     status = status_found (layout_in f) f.items f.spots (status_of s) same_length sound right;
   }
 
-  files_sound : (before ss : List Select) → select_lines L11 f before ss ≡ [] → All (IsSoundFile (layout_in f)) (map (file_of f) ss)
+  files_sound : (before ss : List Select) → select_lines L11 f before ss ≡ [] →
+      All (IsSoundFile (layout_in f)) (map (file_of f) ss)
   files_sound before [] kept = All-nil (IsSoundFile (layout_in f))
   files_sound before (s ∷ ss) kept =
       let both = line_kept (select_breaks L11 f before s) s.line (select_lines L11 f (before ++ s ∷ []) ss) kept in
