@@ -1,0 +1,8 @@
+//! What a run of a program works on, and what each statement does to it (ISO 1989:1985, "Procedure division" and
+//! "Sequential I-O").
+#![tactic(auto)]
+
+mod areas;
+mod files;
+
+pub use files::{File, FileMode, Taken};
