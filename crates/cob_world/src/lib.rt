@@ -4,5 +4,7 @@
 
 mod areas;
 mod files;
+mod world;
 
 pub use files::{File, FileMode, Taken};
+pub use world::World;

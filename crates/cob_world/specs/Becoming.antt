@@ -1,0 +1,20 @@
+-- What becomes of a world, and why a statement ends.
+use Rattle.std.specs.Prelude.{◌≡◌, Result, Ok, Err}
+use Rattle.cob_tree.specs.declared.fault.Kind.{Kind}
+use Rattle.cob_store.specs.declared.end.MoveEnd.{MoveEnd}
+use Rattle.cob_store.specs.declared.end.MoveEnd.TheVariants as end
+
+-- A fault leaves things as they were. Where memory runs out nothing is said.
+abbrev pub Leaves : {A W : Type 0} → Result A Kind → MoveEnd → W → W → Type 0
+Leaves wanted (end.Fault kind) old now = (wanted ≡ Err kind) × (now ≡ old)
+Leaves wanted end.Memory old now = Unit {0}
+
+-- things are as they are wanted, or there is a fault
+abbrev pub Becomes : {A W : Type 0} → Result W Kind → Result A MoveEnd → W → W → Type 0
+Becomes wanted (Ok _) old now = wanted ≡ Ok now
+Becomes wanted (Err x) old now = Leaves wanted x old now
+
+-- the same, where memory isn't taken
+abbrev pub BecomesBy : {A W : Type 0} → Result W Kind → Result A Kind → W → W → Type 0
+BecomesBy wanted (Ok _) old now = wanted ≡ Ok now
+BecomesBy wanted (Err kind) old now = (wanted ≡ Err kind) × (now ≡ old)
