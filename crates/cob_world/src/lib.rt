@@ -3,7 +3,9 @@
 #![tactic(auto)]
 
 mod areas;
+mod counts;
 mod files;
+mod statuses;
 mod world;
 
 pub use files::{File, FileMode, Taken};
