@@ -3,6 +3,7 @@
 #![tactic(auto)]
 
 mod areas;
+mod calls;
 mod counts;
 mod files;
 mod statuses;

@@ -1,30 +1,32 @@
 //! Statuses of files, and record areas (ISO 1989:1985, "I-O status" and "Record area").
-ghost use Rattle.std.specs.Prelude.{◌≡◌, ◌≤◌, ◌<◌, ◌+◌, ◌^◌, ◌==◌, length, IfSome, IfOk};
+ghost use Rattle.std.specs.Prelude.{◌≡◌, ◌≤◌, ◌+◌, ◌==◌, length, IfSome, IfOk};
 ghost use Rattle.std.specs.List.{list_any};
 ghost use Rattle.cob_runs.specs.Contents.{area, fitted, length_at};
 ghost use Rattle.std.specs.Result.{OnOk};
 ghost use Rattle.std.specs.Option.{option_copied};
 ghost use Rattle.cob_runs.specs.Files.{status_bytes, with_status, chosen_in, record_in};
-ghost use Rattle.cob_runs.specs.Acts.{decl_at, has_status, found_in, into_from, file_from};
+ghost use Rattle.cob_runs.specs.Acts.{is_fine, decl_at, has_status, found_in, into_from, file_from};
+ghost use Rattle.cob_world.specs.Becoming.{undefined_by};
 ghost use Rattle.cob_items.specs.Sound.{HasSoundItems, IsSoundFile};
 
 use crate::areas::{fitted, write_at};
+use crate::files::Taken;
 use cob_data::{FileDecl, Layout};
 use cob_items::{fill_bytes, item_at};
 use cob_tree::Bytes;
 use std::alloc::{AllocError, Global};
 
 /// The file at a place, if there is one.
-pub fn decl_at(layout: &Layout, place: u32) -> Option<&FileDecl>
+pub fn decl_at(layout: &Layout, place: usize) -> Option<&FileDecl>
     requires { HasSoundItems layout.now }
     ensures value { option_copied result ≡ decl_at layout.now place }
     ensures sound { IfSome result (λ d. IsSoundFile layout.now d.now) }
 {
-    layout.files.get().get(place as usize)
+    layout.files.get().get(place)
 }
 
 /// Whether the file at a place has FILE STATUS.
-pub fn has_status(layout: &Layout, place: u32) -> bool
+pub fn has_status(layout: &Layout, place: usize) -> bool
     requires { HasSoundItems layout.now }
     ensures { result ≡ has_status layout.now place }
 {
@@ -55,7 +57,7 @@ pub fn put_status(layout: &Layout, decl: &FileDecl, status: u8, storage: &mut [u
 }
 
 /// Puts what may stand in a record area that a statement leaves undefined: nothing new, or bytes of its length.
-pub fn choose(choice: &Option<Bytes>, decl: &FileDecl, storage: &mut [u8])
+fn choose(choice: &Option<Bytes>, decl: &FileDecl, storage: &mut [u8])
     requires { decl.now.offset + decl.now.length ≤ length storage.old }
     ensures { storage.new ≡ chosen_in choice.now decl.now storage.old }
 {
@@ -84,7 +86,7 @@ fn put_record(
 }
 
 /// Puts a record that was read into the record area, which is undefined where there is none.
-pub fn put_found(
+fn put_found(
     alloc: Global,
     layout: &Layout,
     choice: &Option<Bytes>,
@@ -104,11 +106,59 @@ pub fn put_found(
     }
 }
 
+/// Puts what a READ found: its status, and then its record.
+pub fn put_taken(
+    alloc: Global,
+    layout: &Layout,
+    choice: &Option<Bytes>,
+    decl: &FileDecl,
+    taken: Taken,
+    storage: &mut [u8],
+) -> Result<u8, AllocError>
+    requires sound { HasSoundItems layout.now }
+    requires whole { length storage.old ≡ layout.now.storage }
+    requires file { IsSoundFile layout.now decl.now }
+    ensures status { IfOk result (λ status. status ≡ taken.status) }
+    ensures value { OnOk result (storage.new
+        ≡ found_in layout.now choice.now decl.now taken.found (with_status layout.now decl.now taken.status storage.old)) }
+{
+    put_status(layout, decl, taken.status, storage);
+    put_found(alloc, layout, choice, decl, &taken.found, storage)?;
+    Ok(taken.status)
+}
+
+/// Puts the status of a WRITE; where all went well the record area is undefined.
+pub fn put_written(
+    layout: &Layout,
+    choice: &Option<Bytes>,
+    decl: &FileDecl,
+    status: u8,
+    storage: &mut [u8],
+)
+    requires sound { HasSoundItems layout.now }
+    requires whole { length storage.old ≡ layout.now.storage }
+    requires file { IsSoundFile layout.now decl.now }
+    ensures { storage.new
+        ≡ undefined_by (is_fine status) choice.now decl.now (with_status layout.now decl.now status storage.old) }
+{
+    put_status(layout, decl, status, storage);
+    if is_fine(status) {
+        choose(choice, decl, storage);
+    }
+}
+
+/// Whether a status says that all went well.
+pub fn is_fine(status: u8) -> bool
+    ensures { result ≡ is_fine status }
+{
+    status == 0
+}
+
 /// INTO gets the record area as a group.
 pub fn put_into(
     alloc: Global,
     layout: &Layout,
-    file: u32,
+    file: usize,
     place: u32,
     storage: &mut [u8],
 ) -> Result<(), AllocError>
@@ -168,13 +218,12 @@ fn is_record(rec: u32, records: &[u32]) -> bool
 }
 
 /// The file whose record an item is.
-pub fn file_of(layout: &Layout, rec: u32) -> Option<u32>
-    requires { length layout.now.files < 2 ^ 32 }
+pub fn file_of(layout: &Layout, rec: u32) -> Option<usize>
     ensures { result ≡ file_from layout.now 0 layout.now.files rec }
 {
     for (at, decl) in layout.files.get().iter().enumerate() {
         if is_record(rec, decl.records.get()) {
-            return Some(at as u32);
+            return Some(at);
         }
     }
     None
