@@ -3,11 +3,14 @@
 #![tactic(auto)]
 
 mod areas;
+mod begin;
 mod calls;
 mod counts;
 mod files;
 mod statuses;
 mod world;
 
+pub use begin::Contents;
 pub use files::{File, FileMode, Taken};
+pub use statuses::{file_of, has_status, is_fine};
 pub use world::World;

@@ -1,11 +1,11 @@
 //! What a run works on.
-ghost use Rattle.std.specs.Prelude.{◌≡◌, length, slice_get, slice_set, Ok, None, [], ◌∷◌, MatchResult};
+ghost use Rattle.std.specs.Prelude.{◌≡◌, length, Ok, IfSome, MatchResult};
 ghost use Rattle.std.specs.List.{All};
 ghost use Rattle.std.specs.Result.{OnOk};
 ghost use Rattle.std.specs.Option.{option_map_or};
 ghost use Rattle.cob_program.specs.SumView.{plain_sum};
 ghost use Rattle.cob_runs.specs.Contents.{form_at};
-ghost use Rattle.cob_runs.specs.Acts.{move, compute, show, set_varied};
+ghost use Rattle.cob_runs.specs.Acts.{move, compute, show, move_if, set_varied};
 ghost use Rattle.cob_runs.specs.State.{World};
 ghost use Rattle.cob_items.specs.Sound.{HasSoundItems, CanMove};
 ghost use Rattle.cob_calc.specs.Arithmetic.{CanCompute};
@@ -56,6 +56,26 @@ impl World {
         ensures kept { length self.new.storage ≡ length self.old.storage }
     {
         after_move(alloc, layout, self.storage.as_mut_slice(), sender, to)
+    }
+
+    /// FROM, where there is one, is moved to the record.
+    pub fn move_if(
+        &mut self,
+        alloc: Global,
+        layout: &Layout,
+        from: &Option<Sender>,
+        rec: u32,
+    ) -> Result<(), MoveEnd>
+        requires sound { HasSoundItems layout.now }
+        requires whole { length self.old.storage ≡ layout.now.storage }
+        requires able { IfSome from.now (λ x. CanMove layout.now x (form_at layout.now rec)) }
+        ensures value { Becomes (move_if layout.now from.now rec self.old) result self.old self.new }
+        ensures kept { length self.new.storage ≡ length self.old.storage }
+    {
+        match from {
+            None => Ok(()),
+            Some(sender) => self.move_to(alloc, layout, sender, &[rec]),
+        }
     }
 
     /// The value with which VARYING begins.
