@@ -1,6 +1,6 @@
 //! Files, and what calls on them do (ISO 1989:1985, "Sequential I-O").
 ghost use Rattle.std.specs.Prelude.{◌≡◌, slice_get, IfOk};
-ghost use Rattle.std.specs.Option.{option_map};
+ghost use Rattle.std.specs.Option.{option_map, option_copied};
 ghost use Rattle.cob_runs.specs.Files.{file, closed, opened_new, opened, after_close, taken, taken_from, record_at, after_read, grown, after_write};
 
 use cob_tree::Bytes;
@@ -52,7 +52,17 @@ impl File {
         }
     }
 
-    /// OPEN OUTPUT empties the file or makes it; OPEN INPUT wants it to be there.
+    /// Its records, if it is there.
+    pub fn records(&self) -> Option<&[Bytes]>
+        ensures { option_copied result ≡ self.now.content }
+    {
+        match &self.records {
+            None => None,
+            Some(records) => Some(records.as_slice()),
+        }
+    }
+
+    // OPEN OUTPUT empties the file or makes it; OPEN INPUT wants it to be there.
     fn open_new(&mut self, alloc: Global, output: bool) -> u8
         ensures { (self.new, result) ≡ opened_new output self.old.content }
     {

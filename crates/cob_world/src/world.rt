@@ -1,8 +1,8 @@
 //! What a run works on.
-ghost use Rattle.std.specs.Prelude.{◌≡◌, length, Ok, IfSome, MatchResult};
+ghost use Rattle.std.specs.Prelude.{◌≡◌, length, slice_get, Ok, IfSome, MatchResult};
 ghost use Rattle.std.specs.List.{All};
 ghost use Rattle.std.specs.Result.{OnOk};
-ghost use Rattle.std.specs.Option.{option_map_or};
+ghost use Rattle.std.specs.Option.{option_copied};
 ghost use Rattle.cob_program.specs.SumView.{plain_sum};
 ghost use Rattle.cob_runs.specs.Contents.{form_at};
 ghost use Rattle.cob_runs.specs.Acts.{move, compute, show, move_if, set_varied};
@@ -41,6 +41,27 @@ impl Model for World {
 }
 
 impl World {
+    /// The bytes of all items.
+    pub fn storage(&self) -> &[u8]
+        ensures { result.now ≡ self.now.storage }
+    {
+        self.storage.as_slice()
+    }
+
+    /// The text that was shown.
+    pub fn shown(&self) -> &[u8]
+        ensures { result.now ≡ self.now.shown }
+    {
+        self.shown.as_slice()
+    }
+
+    /// The file at a place.
+    pub fn file(&self, place: usize) -> Option<&File>
+        ensures { option_copied result ≡ slice_get self.now.files place }
+    {
+        self.files.as_slice().get(place)
+    }
+
     /// MOVE (ISO 1989:1985, "The MOVE statement").
     pub fn move_to(
         &mut self,
