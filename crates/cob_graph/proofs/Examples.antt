@@ -195,7 +195,7 @@ abbrev listing : Option ℕ → Program
 listing status = with_file status (stmt1 1 (open_files (record { file = 0; output = false } ∷ []))
     (stmt1 2 (show (sender.Item 1 ∷ [])) (stmt1 3 (read 0 None (given (say 4 101 (stmt1 5 stop no_stmts))) (stmt1 6 (show (sender.Item 0 ∷ [])) no_stmts)) no_stmts)))
 
-abbrev told : Option (List (List ℕ)) → Program → ℕ → State
+abbrev told : Option (List ℕ) → Program → ℕ → State
 told content p n = run p (content ∷ []) [] [] n
 
 an_absent_file : (told None (listing None) 1).outcome ≡ IoStop 35 1
@@ -207,7 +207,7 @@ its_status = refl
 an_empty_file : (told (Some []) (listing None) 4).world.shown ≡ 32 ∷ 32 ∷ 10 ∷ 101 ∷ 10 ∷ []
 an_empty_file = refl
 
-a_record : (told (Some ((65 ∷ 66 ∷ []) ∷ [])) (listing None) 4).world.shown ≡ 32 ∷ 32 ∷ 10 ∷ 65 ∷ 66 ∷ 10 ∷ []
+a_record : (told (Some (65 ∷ 66 ∷ [])) (listing None) 4).world.shown ≡ 32 ∷ 32 ∷ 10 ∷ 65 ∷ 66 ∷ 10 ∷ []
 a_record = refl
 
 -- ---- graphs

@@ -9,8 +9,9 @@ use Rattle.cob_meaning.specs.declared.straight.Outcome.{Outcome}
 use Rattle.cob_meaning.specs.declared.straight.Outcome.TheVariants.{Going, Ended, IoStop, Fault}
 use Rattle.cob_runs.specs.Acts.{file_from}
 use Rattle.cob_runs.specs.Files.{Choice}
-use Rattle.cob_runs.specs.State.{World, State}
-use Rattle.cob_runs.specs.Effects.{effect, status, act_at}
+use Rattle.cob_runs.specs.State.{World, Doing, State}
+use Rattle.cob_runs.specs.Steps.{number_of}
+use Rattle.cob_runs.specs.Effects.{effect, status, is_handled, act_at}
 use Rattle.cob_runs.specs.Runs.{Contents, first_world, run, choice_at}
 use Rattle.cob_graph.specs.declared.graph.Node.{Node}
 use Rattle.cob_graph.specs.declared.graph.Edge.{Edge}
@@ -85,6 +86,11 @@ node_at ns (suc n) = slice_get ns n
 abbrev pub edge : ℕ → Action → ℕ → Edge
 edge from action to = record { from = from; to = to; action = action }
 
+-- the number of the statement to which what is to be done next belongs
+abbrev pub next_statement : Program → List Doing → ℕ
+next_statement p [] = 0
+next_statement p (d ∷ ds) = number_of p None d
+
 -- the last node
 abbrev pub final_in : Graph → ℕ
 final_in g = length g.nodes
@@ -95,12 +101,13 @@ passed k x = k + one_if x.starts
 
 module _ (p : Program) (g : Graph) (contents : Contents) (first : List ℕ) (choices : List Choice) where
   -- A way from node 1 has left so many nodes at which a step begins, and stands at a node with a world. What is left
-  -- undefined is chosen as in the step to which the node belongs.
+  -- undefined is chosen as in the step to which the node belongs. No status on it ends the run.
   pub data Comes : ℕ → ℕ → World → Type 0 where
     at_first : Comes 0 1 (first_world p contents first)
     onward : {k n : ℕ} {w v : World} (x : Node) (a : Action) (m : ℕ) → Comes k n w → node_at g.nodes n ≡ Some x
         → Contains g.edges (edge n a m)
         → effect p x.statement (choice_at p contents first choices (passed k x - 1)) w a ≡ Ok (Some v)
+        → is_handled p x.statement a ≡ true
         → Comes (passed k x) m v
 
   -- a way to a node with this world, which has left at most so many
@@ -123,7 +130,7 @@ module _ (p : Program) (g : Graph) (contents : Contents) (first : List ℕ) (cho
     pub out : Contains g.edges (edge node action to)
     pub meets : effect p statement (choice_at p contents first choices (passed left at - 1)) w action ≡ Err kind
 
-  -- a way to the final node by an edge of the statement on whose file this status is met
+  -- a way to the final node by an edge of the statement on whose file this status is met, which nothing handles
   pub record ComesByStatus (n : ℕ) (status_ : ℕ) (statement : ℕ) (w : World) : Type 0 where
     pub left : ℕ
     pub node : ℕ
@@ -138,20 +145,26 @@ module _ (p : Program) (g : Graph) (contents : Contents) (first : List ℕ) (cho
     pub leads : effect p statement (choice_at p contents first choices (passed left at - 1)) before action ≡ Ok (Some w)
     pub meets :
         status p statement (choice_at p contents first choices (passed left at - 1)) before action ≡ Some status_
+    pub unhandled : is_handled p statement action ≡ false
 
-  -- what a run that goes on after n steps shows: a way that left n nodes at which a step begins
-  pub record ComesExactly (n : ℕ) (w : World) : Type 0 where
+  -- what a run that goes on after n steps shows: a way that left n nodes at which a step begins, to another of them,
+  -- which belongs to the statement that is to be done next
+  pub record ComesExactly (n : ℕ) (s : State) : Type 0 where
     pub node : ℕ
-    pub way : Comes n node w
+    pub at : Node
+    pub way : Comes n node s.world
+    pub stands : node_at g.nodes node ≡ Some at
+    pub begins : at.starts ≡ true
+    pub its : at.statement ≡ next_statement p s.control
 
-  abbrev pub ShowsBy : Outcome → ℕ → World → Type 0
-  ShowsBy Going n w = ComesExactly n w
-  ShowsBy Ended n w = ComesWithin n (final_in g) w
-  ShowsBy (IoStop status_ statement) n w = ComesByStatus n status_ statement w
-  ShowsBy (Fault kind statement) n w = ComesToFault n kind statement w
+  abbrev pub ShowsBy : Outcome → ℕ → State → Type 0
+  ShowsBy Going n s = ComesExactly n s
+  ShowsBy Ended n s = ComesWithin n (final_in g) s.world
+  ShowsBy (IoStop status_ statement) n s = ComesByStatus n status_ statement s.world
+  ShowsBy (Fault kind statement) n s = ComesToFault n kind statement s.world
 
   abbrev pub Shows : ℕ → State → Type 0
-  Shows n s = ShowsBy s.outcome n s.world
+  Shows n s = ShowsBy s.outcome n s
 
 -- Each run of so many steps is a way through the graph, with the same storage, files, shown text and outcome.
 abbrev pub IsSimulated : Program → Graph → Type 0

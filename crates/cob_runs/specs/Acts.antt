@@ -95,7 +95,7 @@ module _ (l : Layout) where
       (with_storage (with_files w (slice_set w.files place t.file)) (found_in c d t.found (with_status l d t.status w.storage)), t.status)
 
   abbrev pub take_on : Choice → ℕ → Option FileDecl → Option File → World → World × ℕ
-  take_on c place (Some d) (Some f) w = taken_world c place d (after_read f) w
+  take_on c place (Some d) (Some f) w = taken_world c place d (after_read d.length f) w
   take_on c place d f w = (w, 0)
 
   -- READ without INTO

@@ -1,6 +1,6 @@
 -- What each edge of the graph does to what a run works on: its part of its node's statement.
 use Rattle.std.specs.Prelude.{ℕ, zero, suc, ◌+◌, ◌-◌, ◌==◌, nat_lt, ◌&&◌, if◌then◌else◌, Bool, true, false, not, List, [], ◌∷◌, ◌++◌, slice_get, Option, Some, None, is_some, Result, Ok, Err}
-use Rattle.std.specs.Option.{option_map_or}
+use Rattle.std.specs.Option.{option_map, option_map_or}
 use Rattle.cob_tree.specs.declared.fault.Kind.{Kind}
 use Rattle.cob_data.specs.declared.layout.Sender.{Sender}
 use Rattle.cob_program.specs.declared.act.Opening.{Opening}
@@ -218,3 +218,27 @@ module _ (p : Program) (number : ℕ) (c : Choice) (w : World) where
 
   abbrev pub status : Action → Option ℕ
   status x = option_map_or (status_of x) (act_at p number) None
+
+-- ---- whether the run goes on behind an edge
+
+module _ (p : Program) (number : ℕ) where
+  abbrev pub handled_in : Option ℕ → Bool
+  handled_in None = true
+  handled_in (Some file) = has_status p.layout file
+
+  abbrev pub handled_by : ℕ → Act → Bool
+  handled_by k (open_files os) = handled_in (option_map (λ o. o.file) (slice_get os k))
+  handled_by k (close_files fs) = handled_in (slice_get fs k)
+  handled_by k (read f into end fine) = has_status p.layout f
+  handled_by k (write r from) = handled_in (file_from p.layout 0 p.layout.files r)
+  handled_by k _ = true
+
+  abbrev pub end_handled : Act → Bool
+  end_handled (read f into end fine) = if is_given end then true else has_status p.layout f
+  end_handled _ = true
+
+  -- A status that neither FILE STATUS nor AT END handles ends the run.
+  abbrev pub is_handled : Action → Bool
+  is_handled action.AtEnd = option_map_or end_handled (act_at p number) true
+  is_handled (action.Bad k) = option_map_or (handled_by k) (act_at p number) true
+  is_handled _ = true

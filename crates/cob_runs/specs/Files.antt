@@ -1,5 +1,5 @@
 -- Files, and what statements do with them (ISO 1989:1985, "Sequential I-O").
-use Rattle.std.specs.Prelude.{ℕ, ◌+◌, ◌/◌, ◌%◌, ◌==◌, if◌then◌else◌, Bool, true, false, List, [], ◌∷◌, ◌++◌, length, map, slice_get, slice_set, Option, Some, None, ℤ}
+use Rattle.std.specs.Prelude.{ℕ, ◌+◌, ◌/◌, ◌%◌, ◌==◌, nat_le, if◌then◌else◌, Bool, true, false, List, [], ◌∷◌, ◌++◌, length, Option, Some, None, ℤ}
 use Rattle.std.specs.Option.{option_map, option_map_or}
 use Rattle.cob_data.specs.declared.layout.FileDecl.{FileDecl}
 use Rattle.cob_data.specs.declared.layout.Layout.{Layout}
@@ -12,21 +12,22 @@ pub data Mode : Type 0 where
   reading : Bool → Mode
   writing : Mode
 
--- What a file holds, if it is there: its records. Its mode, and how many records were read.
+-- What a file holds, if it is there: the bytes of its records, one behind the other. Its mode, and how many bytes were
+-- read.
 pub record File : Type 0 where
-  pub content : Option (List (List ℕ))
+  pub content : Option (List ℕ)
   pub mode : Mode
   pub place : ℕ
 
-abbrev pub file : Option (List (List ℕ)) → Mode → ℕ → File
+abbrev pub file : Option (List ℕ) → Mode → ℕ → File
 file content mode place = record { content = content; mode = mode; place = place }
 
 -- ---- what a call does, and its status
 
-abbrev pub opened_new : Bool → Option (List (List ℕ)) → File × ℕ
+abbrev pub opened_new : Bool → Option (List ℕ) → File × ℕ
 opened_new true content = (file (Some []) writing 0, 0)
 opened_new false None = (file None closed 0, 35)
-opened_new false (Some rs) = (file (Some rs) (reading false) 0, 0)
+opened_new false (Some bytes) = (file (Some bytes) (reading false) 0, 0)
 
 abbrev pub opened_in : Bool → Mode → File → File × ℕ
 opened_in output closed f = opened_new output f.content
@@ -53,30 +54,35 @@ pub record Taken : Type 0 where
 abbrev pub taken : File → Option (List ℕ) → ℕ → Taken
 taken f found status = record { file = f; found = found; status = status }
 
-abbrev pub taken_from : File → Option (List ℕ) → Taken
-taken_from f (Some r) = taken (file f.content (reading false) (f.place + 1)) (Some r) 0
-taken_from f None = taken (file f.content (reading true) f.place) None 10
+-- the bytes of a file that is there
+abbrev pub bytes_in : File → List ℕ
+bytes_in f = option_map_or (λ bytes. bytes) f.content []
 
-abbrev pub record_at : File → Option (List ℕ)
-record_at f = option_map_or (λ rs. slice_get rs f.place) f.content None
+-- The record from a place on, of so many bytes. Fewer bytes are none: the end of the file is ragged there.
+abbrev pub record_from : ℕ → ℕ → List ℕ → Option (List ℕ)
+record_from size place bytes = if nat_le (place + size) (length bytes) then Some (area bytes place size) else None
 
-abbrev pub read_in : Mode → File → Taken
-read_in closed f = taken f None 47
-read_in writing f = taken f None 47
-read_in (reading true) f = taken f None 46
-read_in (reading false) f = taken_from f (record_at f)
+module _ (size : ℕ) where
+  abbrev pub taken_from : File → Option (List ℕ) → Taken
+  taken_from f (Some r) = taken (file f.content (reading false) (f.place + size)) (Some r) 0
+  taken_from f None = taken (file f.content (reading true) f.place) None 10
 
-abbrev pub after_read : File → Taken
-after_read f = read_in f.mode f
+  abbrev pub record_at : File → Option (List ℕ)
+  record_at f = record_from size f.place (bytes_in f)
 
-abbrev pub grown : List ℕ → Option (List (List ℕ)) → Option (List (List ℕ))
-grown r None = Some (r ∷ [])
-grown r (Some rs) = Some (rs ++ r ∷ [])
+  abbrev pub read_in : Mode → File → Taken
+  read_in closed f = taken f None 47
+  read_in writing f = taken f None 47
+  read_in (reading true) f = taken f None 46
+  read_in (reading false) f = taken_from f (record_at f)
+
+  abbrev pub after_read : File → Taken
+  after_read f = read_in f.mode f
 
 abbrev pub written_in : Mode → List ℕ → File → File × ℕ
 written_in closed r f = (f, 48)
 written_in (reading ended) r f = (f, 48)
-written_in writing r f = (file (grown r f.content) writing f.place, 0)
+written_in writing r f = (file (Some (bytes_in f ++ r)) writing f.place, 0)
 
 abbrev pub after_write : List ℕ → File → File × ℕ
 after_write r f = written_in f.mode r f

@@ -1,6 +1,6 @@
 -- Whole runs of a program.
-use Rattle.std.specs.Prelude.{◌≡◌, ℕ, zero, suc, ◌-◌, List, [], ◌∷◌, length, map, replicate, slice_get, Option, Some, None, Result, Ok, Err}
-use Rattle.std.specs.Option.{option_map, option_map_or}
+use Rattle.std.specs.Prelude.{◌≡◌, ℕ, zero, suc, ◌-◌, List, [], ◌∷◌, length, replicate, slice_get, Option, Some, None, Result, Ok, Err}
+use Rattle.std.specs.Option.{option_map_or}
 use Rattle.cob_tree.specs.declared.fault.Kind.{Kind}
 use Rattle.cob_data.specs.declared.layout.FileDecl.{FileDecl}
 use Rattle.cob_data.specs.declared.layout.Item.{Item}
@@ -34,16 +34,16 @@ with_values l (i ∷ items) storage = with_values l items (with_constant l i i.v
 abbrev pub first_storage : Layout → List ℕ → List ℕ
 first_storage l first = with_values l l.items (fitted l.storage first)
 
--- what each file holds: nothing where it is absent, else records of its length
+-- what each file holds: nothing where it is absent, else any bytes
 abbrev pub Contents : Type 0
-Contents = List (Option (List (List ℕ)))
+Contents = List (Option (List ℕ))
 
-abbrev pub content_at : Contents → ℕ → Option (List (List ℕ))
+abbrev pub content_at : Contents → ℕ → Option (List ℕ)
 content_at contents n = option_map_or (λ c. c) (slice_get contents n) None
 
 abbrev pub first_files : Contents → ℕ → List FileDecl → List File
 first_files contents n [] = []
-first_files contents n (d ∷ ds) = file (option_map (map (fitted d.length)) (content_at contents n)) closed 0 ∷ first_files contents (suc n) ds
+first_files contents n (d ∷ ds) = file (content_at contents n) closed 0 ∷ first_files contents (suc n) ds
 
 abbrev pub first_world : Program → Contents → List ℕ → World
 first_world p contents first = record {

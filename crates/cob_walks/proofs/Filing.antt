@@ -123,10 +123,10 @@ module _ (l : Layout) (counts : List (Option ℤ)) (w : World) where
   )
   taken_on c place (Some d) (Some f) = (
     passes_on l false (status_parts l d.status) (part.bytes_in d.offset d.length ∷ []) (at w.storage)
-        (at (with_status l d (after_read f).status w.storage))
-        (at (found_in l c d (after_read f).found (with_status l d (after_read f).status w.storage)))
-        (status_set d.status (after_read f).status w.storage)
-        (area_found d c (after_read f).found (with_status l d (after_read f).status w.storage)),
+        (at (with_status l d (after_read d.length f).status w.storage))
+        (at (found_in l c d (after_read d.length f).found (with_status l d (after_read d.length f).status w.storage)))
+        (status_set d.status (after_read d.length f).status w.storage)
+        (area_found d c (after_read d.length f).found (with_status l d (after_read d.length f).status w.storage)),
     refl,
   )
 
