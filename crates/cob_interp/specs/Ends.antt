@@ -14,9 +14,8 @@ use Rattle.cob_runs.specs.State.{World, State}
 use Rattle.cob_runs.specs.Acts.{has_status, open_one}
 use Rattle.cob_runs.specs.Steps.{outcome_of}
 use Rattle.cob_runs.specs.Effects.{act_at}
-use Rattle.cob_runs.specs.Runs.{Contents}
+use Rattle.cob_runs.specs.Runs.{Contents, run}
 use Rattle.cob_graph.specs.Walks.{next_statement}
-use Rattle.cob_ways.specs.Ways.{after, IsOverAfter}
 use Rattle.cob_interp.specs.declared.ends.Ended.{Ended}
 use Rattle.cob_interp.specs.declared.ends.RunEnd.{RunEnd}
 use Rattle.cob_interp.specs.declared.ends.RunEnd.TheVariants as end
@@ -85,49 +84,51 @@ module _ (p : Program) where
 
   -- ---- ends
 
-  module _ (contents : Contents) (budget : ℕ) where
+  module _ (contents : Contents) where
     abbrev pub state_after : ℕ → State
-    state_after n = after p contents [] n
+    state_after n = run p contents [] [] n
 
     -- so many steps were begun freely
     abbrev pub AreFree : ℕ → Type 0
     AreFree n = (m : ℕ) → m < n → IsFree (state_after m)
 
-    -- the run is over after so many steps, with this outcome
-    pub record EndsAfter (n : ℕ) (o : Outcome) : Type 0 where
-      pub within : n ≤ budget
-      pub outcome : (state_after n).outcome ≡ o
-      pub before : (m : ℕ) → m < n → (state_after m).outcome ≡ Going
-      pub free : AreFree n
+    module _ (budget : ℕ) where
+      -- the run is over after so many steps, with this outcome
+      pub record EndsAfter (n : ℕ) (o : Outcome) : Type 0 where
+        pub within : n ≤ budget
+        pub outcome : (state_after n).outcome ≡ o
+        pub before : (m : ℕ) → m < n → (state_after m).outcome ≡ Going
+        pub free : AreFree n
 
-    pub record IsSpent : Type 0 where
-      pub outcome : (state_after budget).outcome ≡ Going
-      pub free : AreFree budget
+      -- it goes on behind the budget
+      pub record IsSpent : Type 0 where
+        pub outcome : (state_after budget).outcome ≡ Going
+        pub free : AreFree budget
 
-    -- the step behind so many is stopped
-    pub record IsStopped (n : ℕ) (Stops : ℕ → World → Type 0) : Type 0 where
-      pub within : n < budget
-      pub outcome : (state_after n).outcome ≡ Going
-      pub free : AreFree n
-      pub stops : Stops (next_statement p (state_after n).control) (state_after n).world
+      -- the step behind so many is stopped
+      pub record IsStopped (n : ℕ) (Stops : ℕ → World → Type 0) : Type 0 where
+        pub within : n < budget
+        pub outcome : (state_after n).outcome ≡ Going
+        pub free : AreFree n
+        pub stops : Stops (next_statement p (state_after n).control) (state_after n).world
 
-    -- the file ends within a record, and has so many bytes
-    pub record IsCutAt (file count statement : ℕ) (w : World) : Type 0 where
-      pub cut : meets_cut statement w file ≡ true
-      pub counted : count ≡ option_map_or (λ f. length (bytes_in f)) (slice_get w.files file) 0
+      -- the file ends within a record, and has so many bytes
+      pub record IsCutAt (file count statement : ℕ) (w : World) : Type 0 where
+        pub cut : meets_cut statement w file ≡ true
+        pub counted : count ≡ option_map_or (λ f. length (bytes_in f)) (slice_get w.files file) 0
 
-    pub record IsLongAt (count statement : ℕ) (w : World) : Type 0 where
-      pub long : meets_too_long statement w ≡ true
-      pub counted : count ≡ file_limit + 1
+      pub record IsLongAt (count statement : ℕ) (w : World) : Type 0 where
+        pub long : meets_too_long statement w ≡ true
+        pub counted : count ≡ file_limit + 1
 
-    -- what each answer says. Faults of the outside and want of memory have clauses of their own.
-    abbrev pub IsEnd : Result Ended RunEnd → ℕ → Type 0
-    IsEnd (Ok e) n = (e.steps ≡ n) × EndsAfter n outcome.Ended
-    IsEnd (Err (end.StepsSpent count)) n = (count ≡ budget) × ((n ≡ budget) × IsSpent)
-    IsEnd (Err (end.IoStop status statement)) n = EndsAfter n (IoStop status statement)
-    IsEnd (Err (end.Fault kind statement step)) n = (step ≡ n) × EndsAfter n (Fault kind statement)
-    IsEnd (Err (end.Ragged file count)) n = IsStopped n (IsCutAt file count)
-    IsEnd (Err (end.Long count)) n = IsStopped n (IsLongAt count)
-    IsEnd (Err end.ReadFault) n = ⊥
-    IsEnd (Err end.WriteFault) n = ⊥
-    IsEnd (Err end.Memory) n = ⊥
+      -- What each answer says, behind so many steps. Faults of the outside and want of memory have clauses of their own.
+      abbrev pub IsEnd : Result Ended RunEnd → ℕ → Type 0
+      IsEnd (Ok e) n = (e.steps ≡ n) × EndsAfter n outcome.Ended
+      IsEnd (Err (end.StepsSpent count)) n = (count ≡ budget) × ((n ≡ budget) × IsSpent)
+      IsEnd (Err (end.IoStop status statement)) n = EndsAfter n (IoStop status statement)
+      IsEnd (Err (end.Fault kind statement step)) n = (step ≡ n) × EndsAfter n (Fault kind statement)
+      IsEnd (Err (end.Ragged file count)) n = IsStopped n (IsCutAt file count)
+      IsEnd (Err (end.Long count)) n = IsStopped n (IsLongAt count)
+      IsEnd (Err end.ReadFault) n = ⊥
+      IsEnd (Err end.WriteFault) n = ⊥
+      IsEnd (Err end.Memory) n = ⊥

@@ -1,0 +1,121 @@
+-- What a run does to the outside's files and sink.
+use Rattle.std.specs.Prelude.{◌≡◌, ◌≤◌, ◌<◌, ◌⊎◌, ℕ, suc, Bool, true, false, List, [], ◌∷◌, ◌++◌, take, length, map, slice_get, Contains, Option, Some, None, IfSome, Result, Ok, Err}
+use Rattle.std.specs.Io.KnownBytes.{append_known}
+use Rattle.std.specs.FinMap.{get}
+use Rattle.batch_io.specs.Faults.{Rose}
+use Rattle.batch_io.specs.FilesState.{Contents, FilesState, KeepsIds, known_bytes}
+use Rattle.batch_io.specs.SinkState.{SinkState}
+use Rattle.cob_program.specs.Act.{Program}
+use Rattle.cob_runs.specs.Files.{File, Mode, writing, bytes_in}
+use Rattle.cob_runs.specs.State.{World}
+use Rattle.cob_graph.specs.declared.graph.Graph.{Graph}
+use Rattle.cob_graph.specs.Walks.{Comes}
+use Rattle.cob_interp.specs.declared.ends.Ended.{Ended}
+use Rattle.cob_interp.specs.declared.ends.RunEnd.{RunEnd}
+use Rattle.cob_interp.specs.declared.ends.RunEnd.TheVariants as end
+use Rattle.cob_interp.specs.Ends.{told_files, AreFree, IsEnd, state_after}
+use Rattle.cob_interp.specs.Told.{seen, AreSynced, KeepsNames, Holds}
+
+-- ---- while it runs
+
+-- the files and the sink as a call finds them
+pub record Outside : Type 0 where
+  pub files : FilesState
+  pub sink : SinkState
+
+abbrev pub outside : FilesState → SinkState → Outside
+outside files sink = record { files = files; sink = sink }
+
+-- no fault was told so far, ids are as they were, and the sink gained this text
+pub record IsWell (old new : Outside) (text : List ℕ) : Type 0 where
+  pub reading : new.files.reading ≡ old.files.reading
+  pub writing : new.files.writing ≡ old.files.writing
+  pub faults : new.sink.faults ≡ old.sink.faults
+  pub ids : KeepsIds old.files new.files
+  pub gained : new.sink.told ≡ append_known old.sink.told text
+
+module _ (p : Program) (g : Graph) (paths : List (List ℕ)) where
+  -- The way that the run has come stands in what is kept: so many steps were begun, all of them freely.
+  pub record StandsIn (first told : Contents) (text : List ℕ) (w : World) (steps node : ℕ) : Type 0 where
+    pub way : Comes p g (told_files first paths) [] [] steps node (seen told paths text w)
+    pub synced : AreSynced told paths w.files
+    pub others : KeepsNames first told paths
+    pub free : AreFree p (told_files first paths) steps
+
+  -- the same, where contents are told
+  abbrev pub StandsIf : Option Contents → Option Contents → List ℕ → World → ℕ → ℕ → Type 0
+  StandsIf (Some first) (Some told) text w steps node = StandsIn first told text w steps node
+  StandsIf (Some first) None text w steps node = ⊥
+  StandsIf None told text w steps node = Unit {0}
+
+  pub record Stands (old new : Outside) (w : World) (steps node : ℕ) : Type 0 where
+    pub text : List ℕ
+    pub well : IsWell old new text
+    pub told : StandsIf (known_bytes old.files) (known_bytes new.files) text w steps node
+
+  -- ---- behind it
+
+  module _ (budget : ℕ) where
+    -- the answer is the run's, and the outside's files and sink hold what it has written and shown
+    pub record EndsRun (first told : Contents) (sink_before sink_after : SinkState) (result : Result Ended RunEnd) : Type 0 where
+      pub steps : ℕ
+      pub answer : IsEnd p (told_files first paths) budget result steps
+      pub holds : Holds first told paths (state_after p (told_files first paths) steps).world.files
+      pub shows : sink_after.told ≡ append_known sink_before.told (state_after p (told_files first paths) steps).world.shown
+
+    abbrev pub EndsRunIf : Option Contents → Option Contents → SinkState → SinkState → Result Ended RunEnd → Type 0
+    EndsRunIf (Some first) (Some told) sink_before sink_after result = EndsRun first told sink_before sink_after result
+    EndsRunIf (Some first) None sink_before sink_after result = ⊥
+    EndsRunIf None told sink_before sink_after result = Unit {0}
+
+    -- the run's own end: no fault of the outside was met
+    pub record EndsWell (old new : Outside) (result : Result Ended RunEnd) : Type 0 where
+      pub reading : new.files.reading ≡ old.files.reading
+      pub writing : new.files.writing ≡ old.files.writing
+      pub faults : new.sink.faults ≡ old.sink.faults
+      pub run : EndsRunIf (known_bytes old.files) (known_bytes new.files) old.sink new.sink result
+
+    -- what the file at a place holds where the run was broken off: what it held behind so many steps or behind one more,
+    -- or, where it is being written, a front of that
+    pub record HoldsPart (contents : List (Option (List ℕ))) (steps place : ℕ) (now : Option (List ℕ)) : Type 0 where
+      pub step : ℕ
+      pub near : (step ≡ steps) ⊎ (step ≡ suc steps)
+      pub front : IfSome (slice_get (state_after p contents step).world.files place)
+          (λ f. (now ≡ f.content) ⊎ ((f.mode ≡ writing) × ((n : ℕ) × (now ≡ Some (take n (bytes_in f))))))
+
+    -- the run was broken off behind so many steps
+    pub record BreaksOff (first told : Contents) (sink_before sink_after : SinkState) : Type 0 where
+      pub steps : ℕ
+      pub within : steps ≤ budget
+      pub free : AreFree p (told_files first paths) steps
+      pub files : (place : ℕ) (path : List ℕ) → slice_get paths place ≡ Some path → HoldsPart (told_files first paths) steps place (get told path)
+      pub others : KeepsNames first told paths
+      pub shows : (step : ℕ) × ((step ≡ steps) ⊎ (step ≡ suc steps)) × ((n : ℕ) × (sink_after.told ≡ append_known sink_before.told
+          (take n (state_after p (told_files first paths) step).world.shown)))
+
+    abbrev pub BreaksOffIf : Option Contents → Option Contents → SinkState → SinkState → Type 0
+    BreaksOffIf (Some first) (Some told) sink_before sink_after = BreaksOff first told sink_before sink_after
+    BreaksOffIf (Some first) None sink_before sink_after = ⊥
+    BreaksOffIf None told sink_before sink_after = Unit {0}
+
+    -- a fault of the outside, which its count shows, or want of memory
+    pub record IsRefused (old new : Outside) (cause : Type 0) : Type 0 where
+      pub because : cause
+      pub broken : BreaksOffIf (known_bytes old.files) (known_bytes new.files) old.sink new.sink
+
+    abbrev pub RoseReading : Outside → Outside → Type 0
+    RoseReading old new = Rose old.files.reading new.files.reading
+
+    abbrev pub RoseWriting : Outside → Outside → Type 0
+    RoseWriting old new = Rose old.files.writing new.files.writing ⊎ Rose old.sink.faults new.sink.faults
+
+    -- an input file is too long
+    abbrev pub IsTooLong : Option Contents → ℕ → Type 0
+    IsTooLong known count = IfSome known (λ first. (n : ℕ) × IsEnd p (told_files first paths) budget (Err (end.Long count)) n)
+
+    abbrev pub Runs : Outside → Outside → Result Ended RunEnd → Type 0
+    Runs old new (Err end.ReadFault) = IsRefused old new (RoseReading old new)
+    Runs old new (Err end.WriteFault) = IsRefused old new (RoseWriting old new)
+    Runs old new (Err end.Memory) = IsRefused old new (Unit {0})
+    Runs old new (Err (end.Long count)) = IsRefused old new (IsTooLong (known_bytes old.files) count)
+    Runs old new result = EndsWell old new result
