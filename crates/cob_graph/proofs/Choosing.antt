@@ -90,6 +90,6 @@ module _ (s : Setting) (h : Here s) (hs : List (Here s)) (ds : List Doing) (numb
       (listed s h hs ds other b (at + 1 + whens_size xs) next x.whole.1 x.laid.1
       (back all (at + 1) (whens_size xs) ns ms (length-whens h.c number xs 0 (at + 1) other_at next) x.stand.1) st)
       ws xs 0 (at + 1) x.whole.0 x.laid.0 (behind [] (tests_in_whens ws) 0 refl) (front all (at + 1) ns ms x.stand.1)
-      (leaves s h.c number k true _ at action.Skip (first_of_whens xs (at + 1) other_at next) w w way x.stand.0
+      (leaves s h.c number k true _ at action.Skip refl (first_of_whens xs (at + 1) other_at next) w w way x.stand.0
       (0, omega arith, refl)
       (by_act s number (choice s k) w action.Skip act (taken w) x.its refl))

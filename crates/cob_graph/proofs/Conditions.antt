@@ -82,12 +82,12 @@ module _ (s : Setting) (c : Copied) (number k : ℕ) (w : World) where
       (answer >>= λ h. taken_if (if wanted then h else not h) w)) →
       (r : Result Bool Kind) → answer ≡ r → Decides tr fa r
   two_ways b n i tr fa act answer way is its f (Ok true) e =
-      leaves s c number k b ((action.True i, tr) ∷ (action.False i, fa) ∷ []) n (action.True i) tr w w way is
+      leaves s c number k b ((action.True i, tr) ∷ (action.False i, fa) ∷ []) n (action.True i) refl tr w w way is
       (0, omega arith, refl)
       (by_act s number (choice s k) w (action.True i) act (taken w) its
       (f true ∙ ap (λ r. r >>= λ h. taken_if (if true then h else not h) w) e))
   two_ways b n i tr fa act answer way is its f (Ok false) e =
-      leaves s c number k b ((action.True i, tr) ∷ (action.False i, fa) ∷ []) n (action.False i) fa w w way is
+      leaves s c number k b ((action.True i, tr) ∷ (action.False i, fa) ∷ []) n (action.False i) refl fa w w way is
       (1, omega arith, refl)
       (by_act s number (choice s k) w (action.False i) act (taken w) its
       (f false ∙ ap (λ r. r >>= λ h. taken_if (if false then h else not h) w) e))
@@ -104,7 +104,7 @@ module _ (s : Setting) (c : Copied) (number k : ℕ) (w : World) where
         IsNode s c number b (test_edges c number t i tr fa) at → Way s (so_far k b) at w →
         Decides tr fa (test_holds s.p.layout w.storage t)
     test_decides b always i at tr fa e is way =
-        leaves s c number k b ((action.Skip, tr) ∷ []) at action.Skip tr w w way is (0, omega arith, refl)
+        leaves s c number k b ((action.Skip, tr) ∷ []) at action.Skip refl tr w w way is (0, omega arith, refl)
         (by_act s number (choice s k) w action.Skip act (taken w) its refl)
     test_decides b (numbers x r y) i at tr fa e is way =
         two_ways b at i tr fa act (test_holds s.p.layout w.storage (numbers x r y)) way is its

@@ -35,26 +35,26 @@ module _ (s : Setting) where
     act_leads : (a : Act) (x : LaidAct) → ActAt s h number a x at next →
         Leads s k number w (done s.p (choice s k) number a w ds)
     act_leads (move v places) x y =
-        one_way s h.c number k at w (move v places) _ action.Assign next ds way y.its
+        one_way s h.c number k at w (move v places) _ action.Assign refl next ds way y.its
         (as_laid (move v places) x moving y y.laid).0 (0, omega arith, refl)
         (among s h hs _ _ st) (acts.move s.p.layout v places w) refl _ refl
     act_leads (show xs) x y =
-        one_way s h.c number k at w (show xs) _ action.Show next ds way y.its (as_laid (show xs) x showing y y.laid).0
+        one_way s h.c number k at w (show xs) _ action.Show refl next ds way y.its (as_laid (show xs) x showing y y.laid).0
         (0, omega arith, refl)
         (among s h hs _ _ st) (Ok (acts.show s.p.layout xs w)) refl _ refl
     act_leads nothing x y =
-        one_way s h.c number k at w nothing _ action.Skip next ds way y.its (as_laid nothing x skipping y y.laid).0
+        one_way s h.c number k at w nothing _ action.Skip refl next ds way y.its (as_laid nothing x skipping y y.laid).0
         (0, omega arith, refl)
         (among s h hs _ _ st) (Ok w) refl _ refl
     act_leads (go to) x y =
-        one_way s h.c number k at w (go to) _ action.Skip (h.c.para to) (gone_to to ds) way y.its
+        one_way s h.c number k at w (go to) _ action.Skip refl (h.c.para to) (gone_to to ds) way y.its
         (as_laid (go to) x (going to) y y.laid.0).0 (0, omega arith, refl)
         (gone s ds h hs next to st y.laid.1 y.laid.2) (Ok w) refl _ refl
     act_leads stop x y = record {
       left = suc k;
       within = omega arith;
       way = subst (λ (n : ℕ). Way s (suc k) n w) h.final
-          (leaves s h.c number k true _ at action.Skip h.c.final w w way (as_laid stop x ending y y.laid).0
+          (leaves s h.c number k true _ at action.Skip refl h.c.final w w way (as_laid stop x ending y y.laid).0
           (0, omega arith, refl) (by_act s number (choice s k) w action.Skip stop (taken w) y.its refl));
     }
     act_leads (open_files os) x y =

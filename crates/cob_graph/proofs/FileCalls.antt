@@ -1,7 +1,7 @@
 -- Where statements on files lead.
 use Rattle.std.proofs.Common.{◌≡◌, ℕ, suc, ◌+◌, ◌≤◌, Bool, true, false, not, List, [], ◌∷◌, length, Option, Some, None, is_some, Result, Ok, Err, refl, ap, subst, ◌∙◌, arith}
 use Rattle.std.specs.Prelude.{slice_get, if◌then◌else◌}
-use Rattle.std.specs.Option.{option_map_or}
+use Rattle.std.specs.Option.{option_map, option_map_or}
 use Rattle.std.proofs.lemmas.Bool.{false≢true}
 use Rattle.cob_tree.specs.declared.fault.Kind.{Kind}
 use Rattle.cob_data.specs.declared.layout.Sender.{Sender}
@@ -15,13 +15,13 @@ use Rattle.cob_runs.specs.Faults.{◌>>=◌}
 use Rattle.cob_runs.specs.State.{World, Doing, state}
 use Rattle.cob_runs.specs.Acts.{has_status, is_fine, open_one, close_one, write_one, file_from, move_if}
 use Rattle.cob_runs.specs.Steps.{outcome_of, unless_over, each_from, written_by}
-use Rattle.cob_runs.specs.Effects.{effect_of, met, taken, taken_if, act_at, by_status, status_of, status_in}
+use Rattle.cob_runs.specs.Effects.{effect_of, met, taken, taken_if, act_at, by_status, status_of, status_in, is_handled, handled_by, handled_in}
 use Rattle.cob_runs.specs.Effects as effect
 use Rattle.cob_graph.specs.Nodes.{bad_to, open_nodes, close_nodes, write_nodes, write_edges}
 use Rattle.cob_graph.specs.Walks.{final_in}
 use Rattle.cob_graph.proofs.Fronts.{Runs}
 use Rattle.cob_graph.proofs.Relation.{Setting, choice, Way, Within, Stops, Stand, Here, Stands, among, Comes_by}
-use Rattle.cob_graph.proofs.Ways.{so_far, IsNode, leaves, meets, stops, by_act, status_by_act}
+use Rattle.cob_graph.proofs.Ways.{so_far, IsNode, leaves, meets, stops, by_act, status_by_act, bad_by_act}
 use Rattle.cob_graph.proofs.Statements.{Leads}
 
 module _ (s : Setting) (h : Here s) (number k : ℕ) where
@@ -33,11 +33,11 @@ module _ (s : Setting) (h : Here s) (number k : ℕ) where
   Called m v (Fault kind statement) = ⊥
 
   pub bad_lands : (has : Bool) (file m status : ℕ) (v : World) → has_status h.c.layout file ≡ has →
-      Way s (suc k) (bad_to h.c number file m) v →
-      (bad_to h.c number file m ≡ final_in s.g → Stops s (suc k) status number v) →
+      (has ≡ true → Way s (suc k) (bad_to h.c number file m) v) →
+      (has ≡ false → bad_to h.c number file m ≡ final_in s.g → Stops s (suc k) status number v) →
       Called m v (if has then Going else IoStop status number)
-  bad_lands true file m status v e way stop = subst (λ (b : Bool). Way s (suc k) (if b then m else h.c.final) v) e way
-  bad_lands false file m status v e way stop = stop (ap (λ (b : Bool). if b then m else h.c.final) e ∙ h.final)
+  bad_lands true file m status v e way stop = subst (λ (b : Bool). Way s (suc k) (if b then m else h.c.final) v) e (way refl)
+  bad_lands false file m status v e way stop = stop refl (ap (λ (b : Bool). if b then m else h.c.final) e ∙ h.final)
 
   pub same_status : (file : ℕ) → has_status h.c.layout file ≡ has_status s.p.layout file
   same_status file = ap (λ l. has_status l file) h.layout
@@ -50,19 +50,22 @@ module _ (s : Setting) (h : Here s) (number k : ℕ) where
       (does : effect_of s.p number (choice s k) w good act ≡ by_status s.p number (choice s k) w true x)
       (fails : effect_of s.p number (choice s k) w (action.Bad i) act ≡ by_status s.p number (choice s k) w false x)
       (tells : status_of s.p number (choice s k) w (action.Bad i) act ≡ Some x.1)
+      (on : is_handled s.p number good ≡ true)
+      (handles : handled_by s.p number i act ≡ has_status s.p.layout file)
     where
       called_by : (fine : Bool) → is_fine x.1 ≡ fine →
           Called m x.0 (if fine then Going else (if has_status s.p.layout file then Going else IoStop x.1 number))
-      called_by true e = leaves s h.c number k b _ n good m w x.0 way is (0, omega arith, refl)
+      called_by true e = leaves s h.c number k b _ n good on m w x.0 way is (0, omega arith, refl)
           (by_act s number (choice s k) w good act (taken x.0) its (does ∙ ap (λ f. taken_if f x.0) e))
       called_by false e =
           let to = bad_to h.c number file m in
           let does_so = by_act s number (choice s k) w (action.Bad i) act (taken x.0) its
           (fails ∙ ap (λ f. taken_if (not f) x.0) e) in
+          let told = bad_by_act s number i act (has_status s.p.layout file) its handles in
           bad_lands (has_status s.p.layout file) file m x.1 x.0 (same_status file)
-          (leaves s h.c number k b _ n (action.Bad i) to w x.0 way is (1, omega arith, refl) does_so)
-          (stops s h.c number k b _ n (action.Bad i) to w x.0 x.1 way is (1, omega arith, refl) does_so
-          (status_by_act s number (choice s k) w (action.Bad i) act (Some x.1) its tells))
+          (λ has. leaves s h.c number k b _ n (action.Bad i) (told ∙ has) to w x.0 way is (1, omega arith, refl) does_so)
+          (λ has. stops s h.c number k b _ n (action.Bad i) (told ∙ has) to w x.0 x.1 way is (1, omega arith, refl)
+          does_so (status_by_act s number (choice s k) w (action.Bad i) act (Some x.1) its tells))
 
       called : Called m x.0 (outcome_of number (has_status s.p.layout file) x.1)
       called = called_by (is_fine x.1) refl
@@ -97,7 +100,8 @@ module _ (s : Setting) (h : Here s) (number k : ℕ) where
         (called b at o.file i next (action.Open i) w (open_files all) x way ns.0 its
         (ap (effect.opened s.p number (choice s k) w true) r.0)
         (ap (effect.opened s.p number (choice s k) w false) r.0)
-        (ap (λ (y : Option Opening). status_in s.p number (choice s k) w y (λ o. open_one s.p.layout o w)) r.0))
+        (ap (λ (y : Option Opening). status_in s.p number (choice s k) w y (λ o. open_one s.p.layout o w)) r.0) refl
+        (ap (λ (y : Option Opening). handled_in s.p number (option_map (λ o. o.file) y)) r.0))
         (λ d. landed Going x.0 d)
     opens all (o ∷ o2 ∷ os) b i at w its l r ns way =
         let x = open_one s.p.layout o w in
@@ -106,7 +110,8 @@ module _ (s : Setting) (h : Here s) (number k : ℕ) where
         (called b at o.file i (at + 1) (action.Open i) w (open_files all) x way ns.0 its
         (ap (effect.opened s.p number (choice s k) w true) r.0)
         (ap (effect.opened s.p number (choice s k) w false) r.0)
-        (ap (λ (y : Option Opening). status_in s.p number (choice s k) w y (λ o. open_one s.p.layout o w)) r.0))
+        (ap (λ (y : Option Opening). status_in s.p number (choice s k) w y (λ o. open_one s.p.layout o w)) r.0) refl
+        (ap (λ (y : Option Opening). handled_in s.p number (option_map (λ o. o.file) y)) r.0))
         (λ d. opens all (o2 ∷ os) false (i + 1) (at + 1) x.0 its (omega arith) r.1 ns.1 d)
 
     pub closes : (all fs : List ℕ) (b : Bool) (i at : ℕ) (w : World) → act_at s.p number ≡ Some (close_files all) →
@@ -121,7 +126,8 @@ module _ (s : Setting) (h : Here s) (number k : ℕ) where
         (called b at f i next (action.Close i) w (close_files all) x way ns.0 its
         (ap (effect.closed s.p number (choice s k) w true) r.0)
         (ap (effect.closed s.p number (choice s k) w false) r.0)
-        (ap (λ (y : Option ℕ). status_in s.p number (choice s k) w y (λ f. close_one s.p.layout f w)) r.0))
+        (ap (λ (y : Option ℕ). status_in s.p number (choice s k) w y (λ f. close_one s.p.layout f w)) r.0) refl
+        (ap (handled_in s.p number) r.0))
         (λ d. landed Going x.0 d)
     closes all (f ∷ g ∷ fs) b i at w its l r ns way =
         let x = close_one s.p.layout f w in
@@ -130,7 +136,8 @@ module _ (s : Setting) (h : Here s) (number k : ℕ) where
         (called b at f i (at + 1) (action.Close i) w (close_files all) x way ns.0 its
         (ap (effect.closed s.p number (choice s k) w true) r.0)
         (ap (effect.closed s.p number (choice s k) w false) r.0)
-        (ap (λ (y : Option ℕ). status_in s.p number (choice s k) w y (λ f. close_one s.p.layout f w)) r.0))
+        (ap (λ (y : Option ℕ). status_in s.p number (choice s k) w y (λ f. close_one s.p.layout f w)) r.0) refl
+        (ap (handled_in s.p number) r.0))
         (λ d. closes all (g ∷ fs) false (i + 1) (at + 1) x.0 its (omega arith) r.1 ns.1 d)
 
     -- ---- WRITE
@@ -148,7 +155,7 @@ module _ (s : Setting) (h : Here s) (number k : ℕ) where
           (ap (effect.wrote s.p number (choice s k) v true r) found)
           (ap (effect.wrote s.p number (choice s k) v false r) found)
           (ap (λ (y : Option ℕ). status_in s.p number (choice s k) v y (λ f. write_one s.p.layout (choice s k) f r v))
-          found))
+          found) refl (ap (handled_in s.p number) found))
 
       writes_moved : (at : ℕ) (w : World) → IsNode s h.c number true ((action.Assign, at + 1) ∷ []) at →
           IsNode s h.c number false (write_edges h.c number f next) (at + 1) → Way s k at w →
@@ -158,7 +165,7 @@ module _ (s : Setting) (h : Here s) (number k : ℕ) where
           (outcome_of number (has_status s.p.layout f) (write_one s.p.layout (choice s k) f r v).1)))
       writes_moved at w is then_is way (Ok v) e =
           writes false (at + 1) v then_is
-          (leaves s h.c number k true _ at action.Assign (at + 1) w v way is (0, omega arith, refl)
+          (leaves s h.c number k true _ at action.Assign refl (at + 1) w v way is (0, omega arith, refl)
           (by_act s number (choice s k) w action.Assign (write r from) (taken v) its (ap met e)))
       writes_moved at w is then_is way (Err kind) e =
           meets s h.c number k true _ at action.Assign (at + 1) w kind way is (0, omega arith, refl)

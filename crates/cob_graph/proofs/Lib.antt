@@ -17,6 +17,7 @@ mod SizeErrors
 mod Statements
 mod Choosing
 mod Loops
+mod Beginnings
 mod FileCalls
 mod ReadSteps
 mod EachAct

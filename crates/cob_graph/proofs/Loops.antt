@@ -40,7 +40,7 @@ length-before c n (varying true i from by t) x at next = omega arith
 
 module _ (s : Setting) (h : Here s) (number : ℕ) (body : Body) (turns : Turns) (x : LaidBody) (at next : ℕ)
     (y : ActAt s h number (perform body turns) (performing x turns) at next) where
-  before : Stand s at (loop_before h.c number turns x at next)
+  pub before : Stand s at (loop_before h.c number turns x at next)
   before = front (node_at (all_nodes s.p s.is.copies)) at (loop_before h.c number turns x at next)
       (body_nodes h.c number x (body_at turns at) (body_next turns at x next))
       (front (node_at (all_nodes s.p s.is.copies)) at
@@ -56,7 +56,7 @@ module _ (s : Setting) (h : Here s) (number : ℕ) (body : Body) (turns : Turns)
       moved all (at + length ns) (body_at turns at) ms (length-before h.c number turns x at next)
       (back all at (length ns) ns ms refl (front all at (ns ++ ms) (loop_behind h.c number turns x at next) y.stand))
 
-  after : Stand s (body_at turns at + body_size x) (loop_behind h.c number turns x at next)
+  pub after : Stand s (body_at turns at + body_size x) (loop_behind h.c number turns x at next)
   after =
       let all = node_at (all_nodes s.p s.is.copies) in
       let ns = loop_before h.c number turns x at next in
@@ -100,34 +100,34 @@ module _ (s : Setting) (h : Here s) (hs : List (Here s)) (ds : List Doing) (numb
       ActAt s h number (perform body turns) (performing x turns) at next → Way s k at w →
       Stands s ds (h ∷ hs) next → Leads s k number w (loop_begun s.p (choice s k) number body turns w ds)
   loop_leads body once x at next y way st =
-      one_way s h.c number k at w (perform body once) _ action.Skip (first_of_body x (at + 1) next) (body_of body ∷ ds)
+      one_way s h.c number k at w (perform body once) _ action.Skip refl (first_of_body x (at + 1) next) (body_of body ∷ ds)
       way y.its (before s h number body once x at next y).0
       (0, omega arith, refl) (body_there s h number body once x at next y hs ds st) (Ok w) refl (Ok w) refl
   loop_leads body (times v) x at next y way st =
-      one_way s h.c number k at w (perform body (times v)) _ action.SetCount (at + 1)
+      one_way s h.c number k at w (perform body (times v)) _ action.SetCount refl (at + 1)
       (testing number body (times v) ∷ ds) way y.its (before s h number body (times v) x at next y).0
       (0, omega arith, refl) (among s h hs _ _ (test_there s h number body (times v) x at next y hs ds tt st))
       (set_count s.p.layout number v w) refl _ refl
   loop_leads body (until false t) x at next y way st =
-      one_way s h.c number k at w (perform body (until false t)) _ action.Skip (at + 1)
+      one_way s h.c number k at w (perform body (until false t)) _ action.Skip refl (at + 1)
       (testing number body (until false t) ∷ ds) way y.its (before s h number body (until false t) x at next y).0
       (0, omega arith, refl) (among s h hs _ _ (test_there s h number body (until false t) x at next y hs ds tt st))
       (Ok w) refl (Ok w) refl
   loop_leads body (until true t) x at next y way st =
-      one_way s h.c number k at w (perform body (until true t)) _ action.Skip
+      one_way s h.c number k at w (perform body (until true t)) _ action.Skip refl
       (first_of_body x (at + 1) (tests_at (until true t) at x))
       (body_of body ∷ testing number body (until true t) ∷ ds)
       way y.its (before s h number body (until true t) x at next y).0 (0, omega arith, refl)
       (body_there s h number body (until true t) x at next y hs (testing number body (until true t) ∷ ds)
       (test_there s h number body (until true t) x at next y hs ds tt st)) (Ok w) refl (Ok w) refl
   loop_leads body (varying false i from by t) x at next y way st =
-      one_way s h.c number k at w (perform body (varying false i from by t)) _ action.Assign (at + 1)
+      one_way s h.c number k at w (perform body (varying false i from by t)) _ action.Assign refl (at + 1)
       (testing number body (varying false i from by t) ∷ ds)
       way y.its (before s h number body (varying false i from by t) x at next y).0 (0, omega arith, refl)
       (among s h hs _ _ (test_there s h number body (varying false i from by t) x at next y hs ds tt st))
       (set_varied s.p.layout i from w) refl _ refl
   loop_leads body (varying true i from by t) x at next y way st =
-      one_way s h.c number k at w (perform body (varying true i from by t)) _ action.Assign
+      one_way s h.c number k at w (perform body (varying true i from by t)) _ action.Assign refl
       (first_of_body x (at + 1) (tests_at (varying true i from by t) at x))
       (body_of body ∷ testing number body (varying true i from by t) ∷ ds) way y.its
       (before s h number body (varying true i from by t) x at next y).0 (0, omega arith, refl)
@@ -223,17 +223,17 @@ module _ (s : Setting) (h : Here s) (hs : List (Here s)) (ds : List Doing) (numb
   augment_leads body once x at next y t way st = absurd t
   augment_leads body (until a u) x at next y t way st = absurd t
   augment_leads body (times v) x at next y t way st =
-      one_way s h.c number k (augment_at (times v) at x) w (perform body (times v)) _ action.Down (at + 1) ds way y.its
+      one_way s h.c number k (augment_at (times v) at x) w (perform body (times v)) _ action.Down refl (at + 1) ds way y.its
       (after s h number body (times v) x at next y).0
       (0, omega arith, refl) (among s h hs _ _ st) (Ok (count_down s.p.layout number w)) refl _ refl
   augment_leads body (varying false i from by u) x at next y t way st =
       one_way s h.c number k (augment_at (varying false i from by u) at x) w (perform body (varying false i from by u))
-      _ action.Done (at + 1) ds way y.its
+      _ action.Done refl (at + 1) ds way y.its
       (after s h number body (varying false i from by u) x at next y).0 (0, omega arith, refl)
       (among s h hs _ _ st) (augment s.p.layout i by w) refl _ refl
   augment_leads body (varying true i from by u) x at next y t way st =
       let turns = varying true i from by u in
-      one_way s h.c number k (augment_at turns at x) w (perform body turns) _ action.Done
+      one_way s h.c number k (augment_at turns at x) w (perform body turns) _ action.Done refl
       (first_of_body x (at + 1) (tests_at turns at x)) (body_of body ∷ ds) way y.its
       (back (node_at (all_nodes s.p s.is.copies)) (tests_at turns at x) (tests_in u)
       (logic_nodes h.c number true u 0 (tests_at turns at x) next (augment_at turns at x)) _

@@ -17,7 +17,7 @@ use Rattle.cob_graph.specs.Walks.{IsWholePhrase, node_at, final_in}
 use Rattle.cob_graph.proofs.Fronts.{front, back, moved}
 use Rattle.cob_graph.proofs.Lengths.{length-read, length-phrase}
 use Rattle.cob_graph.proofs.Relation.{Setting, choice, Way, Stops, Stand, Here, ActAt, Stands, Comes_by}
-use Rattle.cob_graph.proofs.Ways.{IsNode, leaves, stops, by_act, status_by_act}
+use Rattle.cob_graph.proofs.Ways.{IsNode, leaves, stops, by_act, status_by_act, bad_by_act, end_by_act}
 use Rattle.cob_graph.proofs.Statements.{Leads, listed}
 use Rattle.cob_graph.proofs.FileCalls.{bad_lands, same_status, landed}
 
@@ -74,12 +74,12 @@ module _ (s : Setting) (h : Here s) (hs : List (Here s)) (ds : List Doing) (numb
       Stand s at (read_nodes h.c number f (is_some into2) at end_at fine_at next) → is_fine found.1 ≡ true →
       Way s (suc k) fine_at (into_if s.p.layout f into2 found.0)
   fine_moved None same ns e =
-      leaves s h.c number k true _ at action.Take fine_at w found.0 way ns.0 (0, omega arith, refl)
+      leaves s h.c number k true _ at action.Take refl fine_at w found.0 way ns.0 (0, omega arith, refl)
       (by_act s number (choice s k) w action.Take (read f into end fine) (taken found.0) y.its
       (ap (λ c. taken_if c found.0) e))
   fine_moved (Some place) same ns e =
-      leaves s h.c number k false _ (at + 1) action.Assign fine_at found.0 (into_if s.p.layout f (Some place) found.0)
-      (leaves s h.c number k true _ at action.Take (at + 1) w found.0 way ns.0 (0, omega arith, refl)
+      leaves s h.c number k false _ (at + 1) action.Assign refl fine_at found.0 (into_if s.p.layout f (Some place) found.0)
+      (leaves s h.c number k true _ at action.Take refl (at + 1) w found.0 way ns.0 (0, omega arith, refl)
       (by_act s number (choice s k) w action.Take (read f into end fine) (taken found.0) y.its
       (ap (λ c. taken_if c found.0) e)))
       ns.1.0 (0, omega arith, refl)
@@ -89,8 +89,10 @@ module _ (s : Setting) (h : Here s) (hs : List (Here s)) (ds : List Doing) (numb
 
   -- ---- none was found
 
-  unhandled : (status : ℕ) → is_fine status ≡ false → Way s (suc k) (bad_to h.c number f next) found.0 →
-      (bad_to h.c number f next ≡ final_in s.g → Stops s (suc k) status number found.0) →
+  unhandled : (status : ℕ) → is_fine status ≡ false →
+      (has_status s.p.layout f ≡ true → Way s (suc k) (bad_to h.c number f next) found.0) →
+      (has_status s.p.layout f ≡ false → bad_to h.c number f next ≡ final_in s.g →
+      Stops s (suc k) status number found.0) →
       Comes_by s (outcome_of number (has_status s.p.layout f) status) (suc k) found.0 ds
   unhandled status e onwards stop =
       subst (λ c. Comes_by s (if c then Going else (if has_status s.p.layout f then Going else IoStop status number))
@@ -102,8 +104,10 @@ module _ (s : Setting) (h : Here s) (hs : List (Here s)) (ds : List Doing) (numb
   at_end : (status : ℕ) → is_fine status ≡ false → (end2 : Phrase) (a2 : LaidPhrase) → IsWholePhrase s.p end2 →
       IsLaidPhrase s.p h.lo h.hi end2 a2 →
       Stand s (at + 1 + one_if (is_some into)) (phrase_nodes h.c a2 (at + 1 + one_if (is_some into)) next) →
-      Way s (suc k) (end_to h.c number a2 f (at + 1 + one_if (is_some into)) next) found.0 →
-      (end_to h.c number a2 f (at + 1 + one_if (is_some into)) next ≡ final_in s.g →
+      ((if is_given end2 then true else has_status s.p.layout f) ≡ true →
+      Way s (suc k) (end_to h.c number a2 f (at + 1 + one_if (is_some into)) next) found.0) →
+      ((if is_given end2 then true else has_status s.p.layout f) ≡ false →
+      end_to h.c number a2 f (at + 1 + one_if (is_some into)) next ≡ final_in s.g →
       Stops s (suc k) status number found.0) →
       Leads s k number w (Ok (if true && is_given end2 then going found.0 (rest (list_of end2) ∷ ds) else state found.0
       ds (outcome_of number (has_status s.p.layout f) status)))
@@ -111,7 +115,7 @@ module _ (s : Setting) (h : Here s) (hs : List (Here s)) (ds : List Doing) (numb
   at_end status e (given ss) (a_phrase xs) whole laid ns onwards stop =
       record {
         node = first_of_list xs (at + 1 + one_if (is_some into)) next;
-        way = onwards;
+        way = onwards refl;
         standing = listed s h hs
             ds ss xs (at + 1 + one_if (is_some into)) next whole laid ns st;
       }
@@ -131,19 +135,23 @@ module _ (s : Setting) (h : Here s) (hs : List (Here s)) (ds : List Doing) (numb
       let n = first_node (is_some into) own in
       let does_so = by_act s number (choice s k) w action.AtEnd (read f into end fine) (taken found.0) y.its
       (ap (λ c. taken_if c found.0) t) in
+      let told = end_by_act s number (read f into end fine) y.its in
       at_end found.1 e end a y.whole.0 y.laid.2 end_list
-      (leaves s h.c number k true _ at action.AtEnd end_at w found.0 way n.1 (1, omega arith, refl) does_so)
-      (stops s h.c number k true _ at action.AtEnd end_at w found.0 found.1 way n.1 (1, omega arith, refl) does_so
-      (status_by_act s number (choice s k) w action.AtEnd (read f into end fine) (Some found.1) y.its refl))
+      (λ handled. leaves s h.c number k true _ at action.AtEnd (told ∙ handled) end_at w found.0 way n.1
+      (1, omega arith, refl) does_so)
+      (λ handled. stops s h.c number k true _ at action.AtEnd (told ∙ handled) end_at w found.0 found.1 way n.1
+      (1, omega arith, refl) does_so (status_by_act s number (choice s k) w action.AtEnd (read f into end fine) (Some found.1) y.its refl))
   none_found false t e =
       let n = first_node (is_some into) own in
       let to = bad_to h.c number f next in
       let does_so = by_act s number (choice s k) w (action.Bad 0) (read f into end fine) (taken found.0) y.its
       (ap (λ c. taken_if (not c && not (found.1 == 10)) found.0) e ∙ ap (λ c. taken_if (true && not c) found.0) t) in
+      let told = bad_by_act s number 0 (read f into end fine) (has_status s.p.layout f) y.its refl in
       unhandled found.1 e
-      (leaves s h.c number k true _ at (action.Bad 0) to w found.0 way n.1 (2, omega arith, refl) does_so)
-      (stops s h.c number k true _ at (action.Bad 0) to w found.0 found.1 way n.1 (2, omega arith, refl) does_so
-      (status_by_act s number (choice s k) w (action.Bad 0) (read f into end fine) (Some found.1) y.its refl))
+      (λ has. leaves s h.c number k true _ at (action.Bad 0) (told ∙ has) to w found.0 way n.1 (2, omega arith, refl)
+      does_so)
+      (λ has. stops s h.c number k true _ at (action.Bad 0) (told ∙ has) to w found.0 found.1 way n.1
+      (2, omega arith, refl) does_so (status_by_act s number (choice s k) w (action.Bad 0) (read f into end fine) (Some found.1) y.its refl))
 
   -- ---- both
 

@@ -13,18 +13,20 @@ use Rattle.cob_graph.specs.Laid.{no_laid, more_laid, LaidParas, no_laid_paras, m
 use Rattle.cob_graph.specs.Places.{first_of_paras}
 use Rattle.cob_graph.specs.Nodes.{list_nodes, paras_nodes}
 use Rattle.cob_graph.specs.Copies.{AreLaid, AreLaidParas}
-use Rattle.cob_graph.specs.Graphs.{all_nodes, final_of, final_node, last_para, main_copy}
-use Rattle.cob_graph.specs.Walks.{node_at, at_first, Shows, Simulation}
+use Rattle.cob_graph.specs.Graphs.{all_nodes, as_node, final_of, final_node, last_para, main_copy}
+use Rattle.cob_graph.specs.Walks.{node_at, at_first, ComesExactly, Shows, Simulation}
 use Rattle.cob_graph.proofs.Fronts.{front, back, whole}
-use Rattle.cob_graph.proofs.InGraphs.{final_is}
+use Rattle.cob_graph.proofs.InGraphs.{final_is, node_there}
 use Rattle.cob_graph.proofs.Lengths.{length-list}
-use Rattle.cob_graph.proofs.Relation.{Setting, choice, Way, Within, Stand, Here, Stands, Standing, Comes_by}
+use Rattle.cob_graph.proofs.Relation.{Setting, choice, Way, Within, Stand, Here, Stands, Standing, Goes, Comes_by}
 use Rattle.cob_graph.proofs.Settling.{IsReady, settled_ready, settling, part, whole_in}
 use Rattle.cob_graph.proofs.Statements.{Leads}
 use Rattle.cob_graph.proofs.EachAct.{front_leads}
+use Rattle.cob_graph.proofs.Beginnings.{ready_steps}
 
 abbrev IsReadyIf : Outcome → List Doing → Type 0
-IsReadyIf Going ds = IsReady ds
+IsReadyIf Going [] = ⊥
+IsReadyIf Going (d ∷ ds) = IsReady (d ∷ ds)
 IsReadyIf _ ds = Unit {0}
 
 -- paragraphs begin at their first number, where all their nodes end at what follows
@@ -34,7 +36,7 @@ starts_at (more_laid_paras no_laid ps) at next e = starts_at ps (at + 0) next (o
 starts_at (more_laid_paras (more_laid x xs) ps) at next e = refl
 
 module _ (s : Setting) where
-  -- what a state shows, and that its front is something to do
+  -- what a state shows, and that its front is something to do where it goes on
   abbrev Holds : ℕ → State → Type 0
   Holds k t = Comes_by s t.outcome k t.world t.control × IsReadyIf t.outcome t.control
 
@@ -65,7 +67,7 @@ module _ (s : Setting) where
 
   step_holds : (o : Outcome) (k : ℕ) (w : World) (ds : List Doing) → Holds k (state w ds o) →
       Holds (suc k) (step s.p (choice s k) (state w ds o))
-  step_holds Going k w [] h = (later k w (at_final h.0.standing.copies k h.0.node w h.0.standing.stands h.0.way), tt)
+  step_holds Going k w [] h = absurd h.1
   step_holds Going k w (d ∷ ds) h =
       led (going w (d ∷ ds)) k (number_of s.p (choice s k) d) (front_done s.p (choice s k) d w ds)
       (front_leads s d ds h.0.standing.copies k h.0.node w h.0.standing.stands h.1 h.0.way)
@@ -86,6 +88,7 @@ module _ (s : Setting) where
           out = x.out;
           leads = x.leads;
           meets = x.meets;
+          unhandled = x.unhandled;
         },
         tt,
       )
@@ -226,12 +229,26 @@ module _ (s : Setting) where
       let t = run s.p s.contents s.first s.choices n in
       step_holds t.outcome n t.world t.control (run_holds n)
 
-  shown : (o : Outcome) (k : ℕ) (w : World) (ds : List Doing) → Comes_by s o k w ds →
+  going_on : (k : ℕ) (w : World) (ds : List Doing) → Goes s k w ds → IsReadyIf Going ds →
+      ComesExactly s.p s.g s.contents s.first s.choices k (going w ds)
+  going_on k w [] g r = absurd r
+  going_on k w (d ∷ ds) g r =
+      let x = ready_steps s d ds g.standing.copies g.node g.standing.stands r in
+      record {
+        node = g.node;
+        at = as_node x.at;
+        way = g.way;
+        stands = node_there s.p s.g s.is g.node x.at x.stands;
+        begins = x.begins;
+        its = x.its;
+      }
+
+  shown : (o : Outcome) (k : ℕ) (w : World) (ds : List Doing) → Holds k (state w ds o) →
       Shows s.p s.g s.contents s.first s.choices k (state w ds o)
-  shown Going k w ds g = record { node = g.node; way = g.way }
-  shown Ended k w ds g = g
-  shown (IoStop status statement) k w ds g = g
-  shown (Fault kind statement) k w ds g = g
+  shown Going k w ds h = going_on k w ds h.0 h.1
+  shown Ended k w ds h = h.0
+  shown (IoStop status statement) k w ds h = h.0
+  shown (Fault kind statement) k w ds h = h.0
 
 pub simulates : Simulation
 simulates p g whole is contents first choices n =
@@ -246,4 +263,4 @@ simulates p g whole is contents first choices n =
           whole;
     } in
     let t = run p contents first choices n in
-    shown s t.outcome n t.world t.control (run_holds s n).0
+    shown s t.outcome n t.world t.control (run_holds s n)

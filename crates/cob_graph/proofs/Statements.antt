@@ -14,7 +14,7 @@ use Rattle.cob_runs.specs.Deciding.{logic_holds}
 use Rattle.cob_runs.specs.State.{World, Doing, rest, State, going}
 use Rattle.cob_runs.specs.Acts.{compute}
 use Rattle.cob_runs.specs.Steps.{is_given, list_of}
-use Rattle.cob_runs.specs.Effects.{effect_of, met, taken, taken_if, act_at, tests_of}
+use Rattle.cob_runs.specs.Effects.{effect_of, met, taken, taken_if, act_at, tests_of, is_handled}
 use Rattle.cob_graph.specs.Laid.{LaidList, LaidPhrase, no_phrase, a_phrase, computing, deciding, tests_in, phrase_size, list_size}
 use Rattle.cob_graph.specs.Places.{first_of_list}
 use Rattle.cob_graph.specs.Nodes.{Copied, list_nodes, phrase_nodes, logic_nodes}
@@ -46,18 +46,18 @@ module _ (s : Setting) where
       }
 
   -- an edge that is taken unless it meets a fault
-  pub one_way : (c : Copied) (number k at : ℕ) (w : World) (act : Act) (out : List (Action × ℕ)) (a : Action) (m : ℕ)
-      (ds : List Doing) → Way s k at w →
+  pub one_way : (c : Copied) (number k at : ℕ) (w : World) (act : Act) (out : List (Action × ℕ)) (a : Action) →
+      is_handled s.p number a ≡ true → (m : ℕ) (ds : List Doing) → Way s k at w →
       act_at s.p number ≡ Some act → IsNode s c number true out at → Contains out (a, m) → Standing s ds m →
       (part : Result World Kind) → effect_of s.p number (choice s k) w a act ≡ met part → (r : Result World Kind) →
       part ≡ r → Leads k number w (r >>= λ v. Ok (going v ds))
-  one_way c number k at w act out a m ds way its is there stand part e (Ok v) f = record {
+  one_way c number k at w act out a on m ds way its is there stand part e (Ok v) f = record {
     node = m;
-    way = leaves s c number k true out at a m w v way is there
+    way = leaves s c number k true out at a on m w v way is there
         (by_act s number (choice s k) w a act (taken v) its (e ∙ ap met f));
     standing = stand;
   }
-  one_way c number k at w act out a m ds way its is there stand part e (Err kind) f =
+  one_way c number k at w act out a on m ds way its is there stand part e (Err kind) f =
       meets s c number k true out at a m w kind way is there
       (by_act s number (choice s k) w a act (Err kind) its (e ∙ ap met f))
 
@@ -105,7 +105,7 @@ module _ (s : Setting) where
         (false≢true (sym (no_size_error s.p.layout sum ts remainder w x e) ∙ f))
     size_leads sum ts remainder (given ss) fine (a_phrase xs) b y stand whole laid x e f = record {
       node = first_of_list xs (at + 1) next;
-      way = leaves s h.c number k true _ at action.Size (first_of_list xs (at + 1) next) w x.0 way y.stand.0
+      way = leaves s h.c number k true _ at action.Size refl (first_of_list xs (at + 1) next) w x.0 way y.stand.0
           (1, omega arith, refl)
           (by_act s number (choice s k) w action.Size (arithmetic sum ts remainder (given ss) fine) (taken x.0) y.its
           (ap (λ r. r >>= λ (z : World × Bool). taken_if (if true then z.1 else not z.1) z.0) e ∙ ap
@@ -127,7 +127,7 @@ module _ (s : Setting) where
           y.whole.0 y.laid.0 x e f
       failed_leads x e false f = record {
         node = first_of_list b (at + 1 + phrase_size a) next;
-        way = leaves s h.c number k true _ at action.Done (first_of_list b (at + 1 + phrase_size a) next) w x.0 way
+        way = leaves s h.c number k true _ at action.Done refl (first_of_list b (at + 1 + phrase_size a) next) w x.0 way
             y.stand.0 (0, omega arith, refl)
             (by_act s number (choice s k) w action.Done (arithmetic sum ts remainder size fine) (taken x.0) y.its
             (ap (λ r. r >>= λ (z : World × Bool). taken_if (if false then z.1 else not z.1) z.0) e ∙ ap

@@ -5,14 +5,15 @@ use Rattle.std.specs.Option.{option_map_or}
 use Rattle.cob_tree.specs.declared.fault.Kind.{Kind}
 use Rattle.cob_program.specs.Act.{Act}
 use Rattle.cob_runs.specs.declared.action.Action.{Action}
+use Rattle.cob_runs.specs.declared.action.Action.TheVariants as action
 use Rattle.cob_runs.specs.Files.{Choice}
 use Rattle.cob_runs.specs.State.{World}
-use Rattle.cob_runs.specs.Effects.{Effect, effect, effect_of, not_taken, act_at, status, status_of}
+use Rattle.cob_runs.specs.Effects.{Effect, effect, effect_of, not_taken, act_at, status, status_of, is_handled, handled_by, end_handled}
 use Rattle.cob_graph.specs.declared.graph.Node.{Node}
 use Rattle.cob_graph.specs.Laid.{one_if}
 use Rattle.cob_graph.specs.Nodes.{Copied, node}
 use Rattle.cob_graph.specs.Graphs.{all_nodes, as_node}
-use Rattle.cob_graph.specs.Walks.{node_at, edge, final_in, passed, onward}
+use Rattle.cob_graph.specs.Walks.{node_at, final_in, passed, onward}
 use Rattle.cob_graph.proofs.InGraphs.{node_there, edge_there}
 use Rattle.cob_graph.proofs.Relation.{Setting, choice, Way, Meets, Stops}
 
@@ -32,16 +33,16 @@ module _ (s : Setting) where
   abbrev pub IsNode : Copied → ℕ → Bool → List (Action × ℕ) → ℕ → Type 0
   IsNode c number b out n = node_at (all_nodes s.p s.is.copies) n ≡ Some (node c number b out)
 
-  pub leaves : (c : Copied) (number k : ℕ) (b : Bool) (out : List (Action × ℕ)) (n : ℕ) (a : Action) (m : ℕ)
-      (w v : World) → Way s (so_far k b) n w →
+  pub leaves : (c : Copied) (number k : ℕ) (b : Bool) (out : List (Action × ℕ)) (n : ℕ) (a : Action) →
+      is_handled s.p number a ≡ true → (m : ℕ) (w v : World) → Way s (so_far k b) n w →
       IsNode c number b out n → Contains out (a, m) → effect s.p number (choice s k) w a ≡ Ok (Some v) →
       Way s (suc k) m v
-  leaves c number k b out n a m w v way is there e =
+  leaves c number k b out n a on m w v way is there e =
       let x = as_node (node c number b out) in
       subst (λ (i : ℕ). Way s i m v) (passes k b x refl)
       (onward x a m way (node_there s.p s.g s.is n (node c number b out) is)
       (edge_there s.p s.g s.is n (node c number b out) a m is there)
-      (ap (λ (d : Choice). effect s.p number d w a) (same_choice k b x refl) ∙ e))
+      (ap (λ (d : Choice). effect s.p number d w a) (same_choice k b x refl) ∙ e) on)
 
   pub meets : (c : Copied) (number k : ℕ) (b : Bool) (out : List (Action × ℕ)) (n : ℕ) (a : Action) (m : ℕ) (w : World)
       (kind : Kind) → Way s (so_far k b) n w →
@@ -63,12 +64,12 @@ module _ (s : Setting) where
         meets = ap (λ (d : Choice). effect s.p number d w a) (same_choice k b x refl) ∙ e;
       }
 
-  -- the edge of a status, where it goes to the final node
-  pub stops : (c : Copied) (number k : ℕ) (b : Bool) (out : List (Action × ℕ)) (n : ℕ) (a : Action) (m : ℕ)
-      (w v : World) (met : ℕ) → Way s (so_far k b) n w →
+  -- the edge of a status that nothing handles, where it goes to the final node
+  pub stops : (c : Copied) (number k : ℕ) (b : Bool) (out : List (Action × ℕ)) (n : ℕ) (a : Action) →
+      is_handled s.p number a ≡ false → (m : ℕ) (w v : World) (met : ℕ) → Way s (so_far k b) n w →
       IsNode c number b out n → Contains out (a, m) → effect s.p number (choice s k) w a ≡ Ok (Some v) →
       status s.p number (choice s k) w a ≡ Some met → m ≡ final_in s.g → Stops s (suc k) met number v
-  stops c number k b out n a m w v met way is there e f final =
+  stops c number k b out n a off m w v met way is there e f final =
       let x = as_node (node c number b out) in
       let same = same_choice k b x refl in
       record {
@@ -85,6 +86,7 @@ module _ (s : Setting) where
             (subst (λ (i : ℕ). Contains out (a, i)) final there);
         leads = ap (λ (d : Choice). effect s.p number d w a) same ∙ e;
         meets = ap (λ (d : Choice). status s.p number d w a) same ∙ f;
+        unhandled = off;
       }
 
   -- an edge does its part of the statement with the number
@@ -99,3 +101,12 @@ module _ (s : Setting) where
       act_at s.p number ≡ Some act → status_of s.p number c w a act ≡ r → status s.p number c w a ≡ r
   status_by_act number c w a act r its e =
       ap (λ (o : Option Act). option_map_or (status_of s.p number c w a) o None) its ∙ e
+
+  -- whether its status is handled is told by its part, too
+  pub bad_by_act : (number k : ℕ) (act : Act) (r : Bool) → act_at s.p number ≡ Some act →
+      handled_by s.p number k act ≡ r → is_handled s.p number (action.Bad k) ≡ r
+  bad_by_act number k act r its e = ap (λ (o : Option Act). option_map_or (handled_by s.p number k) o true) its ∙ e
+
+  pub end_by_act : (number : ℕ) (act : Act) → act_at s.p number ≡ Some act →
+      is_handled s.p number action.AtEnd ≡ end_handled s.p number act
+  end_by_act number act its = ap (λ (o : Option Act). option_map_or (end_handled s.p number) o true) its

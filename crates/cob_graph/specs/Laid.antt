@@ -1,9 +1,6 @@
 -- A program with the copies that its PERFORMs lay written into it.
-use Rattle.std.specs.Prelude.{ℕ, ◌+◌, zero, suc, Bool, true, false, List, [], ◌∷◌, Option, Some, None}
-use Rattle.cob_data.specs.declared.layout.Sender.{Sender}
+use Rattle.std.specs.Prelude.{ℕ, ◌+◌, suc, Bool, true, false, List, [], ◌∷◌}
 use Rattle.cob_program.specs.declared.act.Opening.{Opening}
-use Rattle.cob_program.specs.declared.act.Target.{Target}
-use Rattle.cob_program.specs.Sum.{Sum}
 use Rattle.cob_program.specs.Logic.{Logic, all_of, any_of, not_, test, Logics, no_logics, more_logics, logics_of}
 use Rattle.cob_program.specs.Act.{Turns, once, times, until, varying}
 

@@ -1,8 +1,8 @@
 -- Where control goes: the first node of what follows, by the number at which it begins and what follows that.
-use Rattle.std.specs.Prelude.{ℕ, ◌+◌, ◌-◌, zero, suc, Bool, true, false, List, [], ◌∷◌}
+use Rattle.std.specs.Prelude.{ℕ, ◌+◌, zero, suc, true, false}
 use Rattle.cob_program.specs.Logic.{Logic, all_of, any_of, not_, test, Logics, no_logics, more_logics, logics_of}
 use Rattle.cob_program.specs.Act.{Turns, once, times, until, varying}
-use Rattle.cob_graph.specs.Laid.{Laid, LaidList, no_laid, more_laid, LaidPhrase, no_phrase, a_phrase, LaidWhens, no_laid_whens, more_laid_whens, LaidBody, own_list, copy, LaidParas, no_laid_paras, more_laid_paras, tests_in, tests_among, list_size, body_size}
+use Rattle.cob_graph.specs.Laid.{LaidList, no_laid, more_laid, LaidWhens, no_laid_whens, more_laid_whens, LaidBody, own_list, copy, LaidParas, no_laid_paras, more_laid_paras, tests_in, tests_among, list_size, body_size}
 
 -- an empty list's first node is what follows
 abbrev pub first_of_list : LaidList → ℕ → ℕ → ℕ

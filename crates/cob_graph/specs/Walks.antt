@@ -1,5 +1,5 @@
 -- Ways through a program's graph, and that they show what its runs do.
-use Rattle.std.specs.Prelude.{◌≡◌, ◌≤◌, ◌↔◌, ℕ, zero, suc, ◌+◌, ◌-◌, true, List, [], ◌∷◌, length, slice_get, Contains, Option, Some, None, is_some, Ok, Err}
+use Rattle.std.specs.Prelude.{◌≡◌, ◌≤◌, ◌↔◌, ℕ, zero, suc, ◌+◌, ◌-◌, true, false, List, [], ◌∷◌, length, slice_get, Contains, Option, Some, None, is_some, Ok, Err}
 use Rattle.std.specs.Option.{option_map}
 use Rattle.cob_tree.specs.declared.fault.Kind.{Kind}
 use Rattle.cob_program.specs.Logic.{Logic, all_of, any_of, not_, test, Logics, no_logics, more_logics}
