@@ -84,7 +84,8 @@ module _ (p : Program) where
     one_whens lo hi (more_whens (MkWhen ts ss) ws) (more_laid_whens us as_ xs) no_laid_whens h k = absurd k
     one_whens lo hi (more_whens w ws) no_laid_whens ys h k = absurd h
 
-    one_body : (lo hi : ℕ) (body : Body) (x y : LaidBody) → IsLaidBody p lo hi body x → IsLaidBody p lo hi body y → x ≡ y
+    one_body : (lo hi : ℕ) (body : Body) (x y : LaidBody) → IsLaidBody p lo hi body x → IsLaidBody p lo hi body y →
+        x ≡ y
     one_body lo hi (inline ss) (own_list xs) (own_list ys) h k = ap own_list (one_list lo hi ss xs ys h k)
     one_body lo hi (range first last) (copy m xs) (copy n ys) h k =
         ap (λ (i : ℕ). copy i xs) (sym h.0 ∙ k.0)

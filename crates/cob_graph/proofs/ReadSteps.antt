@@ -79,7 +79,8 @@ module _ (s : Setting) (h : Here s) (hs : List (Here s)) (ds : List Doing) (numb
       (ap (λ c. taken_if c found.0) e))
   fine_moved (Some place) same ns e =
       leaves s h.c number k false _ (at + 1) action.Assign refl fine_at found.0
-      (into_if s.p.layout f (Some place) found.0) (leaves s h.c number k true _ at action.Take refl (at + 1) w found.0 way ns.0 (0, omega arith, refl)
+      (into_if s.p.layout f (Some place) found.0)
+      (leaves s h.c number k true _ at action.Take refl (at + 1) w found.0 way ns.0 (0, omega arith, refl)
       (by_act s number (choice s k) w action.Take (read f into end fine) (taken found.0) y.its
       (ap (λ c. taken_if c found.0) e)))
       ns.1.0 (0, omega arith, refl)
