@@ -39,8 +39,8 @@ module _ (s : Setting) where
         (as_laid (move v places) x moving y y.laid).0 (0, omega arith, refl)
         (among s h hs _ _ st) (acts.move s.p.layout v places w) refl _ refl
     act_leads (show xs) x y =
-        one_way s h.c number k at w (show xs) _ action.Show refl next ds way y.its (as_laid (show xs) x showing y y.laid).0
-        (0, omega arith, refl)
+        one_way s h.c number k at w (show xs) _ action.Show refl next ds way y.its
+        (as_laid (show xs) x showing y y.laid).0 (0, omega arith, refl)
         (among s h hs _ _ st) (Ok (acts.show s.p.layout xs w)) refl _ refl
     act_leads nothing x y =
         one_way s h.c number k at w nothing _ action.Skip refl next ds way y.its (as_laid nothing x skipping y y.laid).0

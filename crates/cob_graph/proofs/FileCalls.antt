@@ -36,7 +36,8 @@ module _ (s : Setting) (h : Here s) (number k : ℕ) where
       (has ≡ true → Way s (suc k) (bad_to h.c number file m) v) →
       (has ≡ false → bad_to h.c number file m ≡ final_in s.g → Stops s (suc k) status number v) →
       Called m v (if has then Going else IoStop status number)
-  bad_lands true file m status v e way stop = subst (λ (b : Bool). Way s (suc k) (if b then m else h.c.final) v) e (way refl)
+  bad_lands true file m status v e way stop = subst (λ (b : Bool). Way s (suc k) (if b then m else h.c.final) v) e
+      (way refl)
   bad_lands false file m status v e way stop = stop refl (ap (λ (b : Bool). if b then m else h.c.final) e ∙ h.final)
 
   pub same_status : (file : ℕ) → has_status h.c.layout file ≡ has_status s.p.layout file
@@ -63,7 +64,8 @@ module _ (s : Setting) (h : Here s) (number k : ℕ) where
           (fails ∙ ap (λ f. taken_if (not f) x.0) e) in
           let told = bad_by_act s number i act (has_status s.p.layout file) its handles in
           bad_lands (has_status s.p.layout file) file m x.1 x.0 (same_status file)
-          (λ has. leaves s h.c number k b _ n (action.Bad i) (told ∙ has) to w x.0 way is (1, omega arith, refl) does_so)
+          (λ has. leaves s h.c number k b _ n (action.Bad i) (told ∙ has) to w x.0 way is (1, omega arith, refl)
+          does_so)
           (λ has. stops s h.c number k b _ n (action.Bad i) (told ∙ has) to w x.0 x.1 way is (1, omega arith, refl)
           does_so (status_by_act s number (choice s k) w (action.Bad i) act (Some x.1) its tells))
 

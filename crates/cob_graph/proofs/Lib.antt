@@ -22,3 +22,4 @@ mod FileCalls
 mod ReadSteps
 mod EachAct
 pub mod Simulated
+pub mod OneCopy

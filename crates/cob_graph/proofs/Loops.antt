@@ -100,8 +100,8 @@ module _ (s : Setting) (h : Here s) (hs : List (Here s)) (ds : List Doing) (numb
       ActAt s h number (perform body turns) (performing x turns) at next → Way s k at w →
       Stands s ds (h ∷ hs) next → Leads s k number w (loop_begun s.p (choice s k) number body turns w ds)
   loop_leads body once x at next y way st =
-      one_way s h.c number k at w (perform body once) _ action.Skip refl (first_of_body x (at + 1) next) (body_of body ∷ ds)
-      way y.its (before s h number body once x at next y).0
+      one_way s h.c number k at w (perform body once) _ action.Skip refl (first_of_body x (at + 1) next)
+      (body_of body ∷ ds) way y.its (before s h number body once x at next y).0
       (0, omega arith, refl) (body_there s h number body once x at next y hs ds st) (Ok w) refl (Ok w) refl
   loop_leads body (times v) x at next y way st =
       one_way s h.c number k at w (perform body (times v)) _ action.SetCount refl (at + 1)
@@ -223,8 +223,8 @@ module _ (s : Setting) (h : Here s) (hs : List (Here s)) (ds : List Doing) (numb
   augment_leads body once x at next y t way st = absurd t
   augment_leads body (until a u) x at next y t way st = absurd t
   augment_leads body (times v) x at next y t way st =
-      one_way s h.c number k (augment_at (times v) at x) w (perform body (times v)) _ action.Down refl (at + 1) ds way y.its
-      (after s h number body (times v) x at next y).0
+      one_way s h.c number k (augment_at (times v) at x) w (perform body (times v)) _ action.Down refl (at + 1) ds way
+      y.its (after s h number body (times v) x at next y).0
       (0, omega arith, refl) (among s h hs _ _ st) (Ok (count_down s.p.layout number w)) refl _ refl
   augment_leads body (varying false i from by u) x at next y t way st =
       one_way s h.c number k (augment_at (varying false i from by u) at x) w (perform body (varying false i from by u))

@@ -78,7 +78,8 @@ module _ (s : Setting) (h : Here s) (hs : List (Here s)) (ds : List Doing) (numb
       (by_act s number (choice s k) w action.Take (read f into end fine) (taken found.0) y.its
       (ap (λ c. taken_if c found.0) e))
   fine_moved (Some place) same ns e =
-      leaves s h.c number k false _ (at + 1) action.Assign refl fine_at found.0 (into_if s.p.layout f (Some place) found.0)
+      leaves s h.c number k false _ (at + 1) action.Assign refl fine_at found.0
+      (into_if s.p.layout f (Some place) found.0)
       (leaves s h.c number k true _ at action.Take refl (at + 1) w found.0 way ns.0 (0, omega arith, refl)
       (by_act s number (choice s k) w action.Take (read f into end fine) (taken found.0) y.its
       (ap (λ c. taken_if c found.0) e)))
@@ -140,7 +141,8 @@ module _ (s : Setting) (h : Here s) (hs : List (Here s)) (ds : List Doing) (numb
       (λ handled. leaves s h.c number k true _ at action.AtEnd (told ∙ handled) end_at w found.0 way n.1
       (1, omega arith, refl) does_so)
       (λ handled. stops s h.c number k true _ at action.AtEnd (told ∙ handled) end_at w found.0 found.1 way n.1
-      (1, omega arith, refl) does_so (status_by_act s number (choice s k) w action.AtEnd (read f into end fine) (Some found.1) y.its refl))
+      (1, omega arith, refl) does_so
+      (status_by_act s number (choice s k) w action.AtEnd (read f into end fine) (Some found.1) y.its refl))
   none_found false t e =
       let n = first_node (is_some into) own in
       let to = bad_to h.c number f next in
@@ -151,7 +153,8 @@ module _ (s : Setting) (h : Here s) (hs : List (Here s)) (ds : List Doing) (numb
       (λ has. leaves s h.c number k true _ at (action.Bad 0) (told ∙ has) to w found.0 way n.1 (2, omega arith, refl)
       does_so)
       (λ has. stops s h.c number k true _ at (action.Bad 0) (told ∙ has) to w found.0 found.1 way n.1
-      (2, omega arith, refl) does_so (status_by_act s number (choice s k) w (action.Bad 0) (read f into end fine) (Some found.1) y.its refl))
+      (2, omega arith, refl) does_so
+      (status_by_act s number (choice s k) w (action.Bad 0) (read f into end fine) (Some found.1) y.its refl))
 
   -- ---- both
 

@@ -125,6 +125,20 @@ pub record HasNodes (p : Program) (count : ℕ) : Type 0 where
   pub laid : IsMainCopy p copies
   pub counted : count ≡ final_of copies
 
+-- ---- one of each
+
+-- PERFORMs say which copies they lay: a program has one main copy at most,
+abbrev pub OneMainCopy : Type 0
+OneMainCopy = (p : Program) (a b : LaidParas) → IsMainCopy p a → IsMainCopy p b → a ≡ b
+
+-- one count of nodes,
+abbrev pub OneCount : Type 0
+OneCount = (p : Program) (m n : ℕ) → HasNodes p m → HasNodes p n → m ≡ n
+
+-- and one graph
+abbrev pub OneGraph : Type 0
+OneGraph = (p : Program) (g h : Graph) → IsGraph p g → IsGraph p h → g ≡ h
+
 -- ---- limits
 
 -- a greater count of nodes is told as this

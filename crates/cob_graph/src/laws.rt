@@ -1,4 +1,5 @@
 //! What holds of each program's graph.
+ghost use Rattle.cob_graph.specs.Graphs.{OneCount, OneGraph, OneMainCopy};
 ghost use Rattle.cob_graph.specs.Walks.{EdgesAreLaid, NodesAreLaid, Simulation};
 
 /// So many steps of a run are a way through the graph from its first node, with the same storage, files and shown text.
@@ -15,4 +16,11 @@ pub fn runs_are_ways()
 pub fn graphs_are_as_laid()
     ensures nodes { NodesAreLaid }
     ensures edges { EdgesAreLaid }
+{}
+
+/// A program has one main copy at most, one count of nodes and one graph.
+pub fn graphs_are_one()
+    ensures copy { OneMainCopy }
+    ensures count { OneCount }
+    ensures graph { OneGraph }
 {}

@@ -13,5 +13,5 @@ mod tests;
 
 pub use end::FlowEnd;
 pub use graph::{Edge, Graph, Node};
-pub use laws::{graphs_are_as_laid, runs_are_ways};
+pub use laws::{graphs_are_as_laid, graphs_are_one, runs_are_ways};
 pub use nesting::nested;
