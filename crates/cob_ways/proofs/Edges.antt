@@ -30,7 +30,8 @@ rival_of (x ∷ xs) a b m r (suc k, l, e) = rival_of xs a b m r.1 (k, omega (ari
 of_fork : (out : List (Action × ℕ)) (a b : Action) (m n : ℕ) → IsFork out → Contains out (a, m) → Contains out (b, n) →
     SameOrRivals a b m n
 of_fork [] a b m n f (k, l, e) h = absurd (omega (arith, l))
-of_fork (x ∷ xs) a b m n f (zero, l, e) (zero, l2, e2) = inl (ap (λ (y : Action × ℕ). y.0) (sym e ∙ e2), ap (λ (y : Action × ℕ). y.1) (sym e ∙ e2))
+of_fork (x ∷ xs) a b m n f (zero, l, e) (zero, l2, e2) =
+    let same = sym e ∙ e2 in inl (ap (λ (y : Action × ℕ). y.0) same, ap (λ (y : Action × ℕ). y.1) same)
 of_fork (x ∷ xs) a b m n f (zero, l, e) (suc k, l2, e2) =
     inr (subst (λ (y : Action × ℕ). Rivals y.0 b) e (rival_of xs x.0 b n f.0 (k, omega (arith, l2), e2)))
 of_fork (x ∷ xs) a b m n f (suc k, l, e) (zero, l2, e2) =

@@ -22,7 +22,8 @@ module _ (s : Setting) where
     over : (t : Spot) → Reached s t → (x : Over s t) → at.outcome ≡ (end s t x).outcome → at.world ≡ (end s t x).world
         → (end s t x).count ≤ n → Shown n at
 
-  shown : (n : ℕ) (o : Outcome) (at : State) → at.outcome ≡ o → ShowsBy s.p s.g s.contents s.first [] o n at → Shown n at
+  shown : (n : ℕ) (o : Outcome) (at : State) → at.outcome ≡ o → ShowsBy s.p s.g s.contents s.first [] o n at →
+      Shown n at
   shown n Going at e h =
       goes e (spot n h.node at.world) (reached s h.way)
       (record { at = h.at; stands = h.stands; begins = h.begins }) refl refl h.its

@@ -55,4 +55,5 @@ module _ (p : Program) (g : Graph) (contents : Contents) (first : List ℕ) wher
 
 abbrev pub Telling : Type 0
 Telling =
-    (p : Program) (g : Graph) → IsWhole p → IsGraph p g → (contents : Contents) (first : List ℕ) → WaysTell p g contents first
+    (p : Program) (g : Graph) → IsWhole p → IsGraph p g → (contents : Contents) (first : List ℕ) →
+    WaysTell p g contents first
