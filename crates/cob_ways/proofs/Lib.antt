@@ -1,0 +1,6 @@
+mod Apart
+mod Forks
+mod Edges
+mod Spots
+mod Endings
+pub mod Told
