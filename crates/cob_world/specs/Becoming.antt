@@ -1,5 +1,5 @@
 -- What becomes of a world, and why a statement ends.
-use Rattle.std.specs.Prelude.{◌≡◌, ℕ, Bool, true, false, List, Result, Ok, Err}
+use Rattle.std.specs.Prelude.{◌≡◌, ℕ, Bool, true, false, List, [], Result, Ok, Err}
 use Rattle.dec_num.specs.declared.types.Mode.TheVariants.{Trunc}
 use Rattle.dec_num.specs.declared.types.Scaled.{Scaled}
 use Rattle.dec_num.specs.Scaled.{value_of}
@@ -32,6 +32,10 @@ BecomesBy wanted (Err kind) old now = (wanted ≡ Err kind) × (now ≡ old)
 -- a value in the item at a place, whose digits hold it
 abbrev pub put : Layout → ℕ → Scaled → World → Result World Kind
 put l place v w = or_fault kind.Size (stored Trunc (form_at l place) (value_of v)) >>= λ bytes. Ok (with_storage w (filled_at l w.storage place bytes))
+
+-- nothing shown
+abbrev pub without_shown : World → World
+without_shown w = record { storage = w.storage; counts = w.counts; files = w.files; shown = [] }
 
 -- a record area that is undefined, if so
 abbrev pub undefined_by : Bool → Choice → FileDecl → List ℕ → List ℕ

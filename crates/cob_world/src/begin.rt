@@ -1,86 +1,34 @@
 //! What a run works on at its beginning.
-ghost use Rattle.std.specs.Prelude.{◌≡◌, ◌++◌, ◌∷◌, [], length, map, slice_get, replicate, None, IfOk};
-ghost use Rattle.std.specs.Option.{option_map, option_map_or};
+ghost use Rattle.std.specs.Prelude.{◌≡◌, [], map, IfOk};
+ghost use Rattle.std.specs.Option.{option_map};
 ghost use Rattle.cob_program.specs.ActView.{plain_program};
-ghost use Rattle.cob_runs.specs.Contents.{fitted};
-ghost use Rattle.cob_runs.specs.Files.{file, closed};
-ghost use Rattle.cob_runs.specs.Runs.{content_at, first_files, first_world};
+ghost use Rattle.cob_runs.specs.Runs.{first_files, first_world};
 ghost use Rattle.cob_items.specs.Sound.{HasSoundItems};
 
-use crate::areas::fitted;
 use crate::files::File;
 use crate::world::World;
 use cob_data::FileDecl;
 use cob_program::Program;
 use cob_store::start;
-use cob_tree::{Bytes, Many};
 use std::alloc::{AllocError, Global};
 
-/// What each file holds: its records, or nothing where it isn't there.
-pub type Contents = Many<Option<Many<Bytes>>>;
+/// What each file holds, in the order of their SELECT entries: its bytes, or nothing where it isn't there. Of a file
+/// behind the last one there is nothing.
+pub type Contents = Vec<Option<Vec<u8>>>;
 
-// A record as long as the file's.
-fn record_of(alloc: Global, decl: &FileDecl, bytes: &Bytes) -> Result<Bytes, AllocError>
-    ensures { IfOk result (λ r. r ≡ fitted decl.now.length bytes.now) }
-{
-    let text = fitted(alloc, bytes.get(), decl.length)?;
-    Bytes::of(alloc, text.as_slice())
-}
-
-fn records_of(
-    alloc: Global,
-    decl: &FileDecl,
-    records: &[Bytes],
-) -> Result<Vec<Bytes>, AllocError>
-    ensures { IfOk result (λ all. all.items ≡ map (fitted decl.now.length) records.now) }
-{
-    let mut all = Vec::with_capacity(alloc, records.len())?;
-    for bytes in records {
-        all.push(record_of(alloc, decl, bytes)?)?;
-    }
-    Ok(all)
-}
-
-// A closed file that holds these records.
-fn file_with(
-    alloc: Global,
-    decl: &FileDecl,
-    content: &Option<Many<Bytes>>,
-) -> Result<File, AllocError>
-    ensures { IfOk result (λ f. f ≡ file (option_map (map (fitted decl.now.length)) content.now) closed 0) }
-{
-    match content {
-        None => Ok(File::closed(None)),
-        Some(records) => Ok(File::closed(Some(records_of(alloc, decl, records.get())?))),
-    }
-}
-
-// The file at a place as it is at the beginning.
-fn first_file(
-    alloc: Global,
-    contents: &Contents,
-    at: usize,
-    decl: &FileDecl,
-) -> Result<File, AllocError>
-    ensures { IfOk result (λ f.
-        f ≡ file (option_map (map (fitted decl.now.length)) (content_at contents.now at)) closed 0) }
-{
-    match contents.get().get(at) {
-        None => file_with(alloc, decl, &None),
-        Some(content) => file_with(alloc, decl, content),
-    }
-}
-
+// The closed files with their contents.
 fn first_files(
     alloc: Global,
-    contents: &Contents,
+    contents: Contents,
     decls: &[FileDecl],
 ) -> Result<Vec<File>, AllocError>
-    ensures { IfOk result (λ files. files.items ≡ first_files contents.now 0 decls.now) }
+    ensures { IfOk result (λ files. files.items
+        ≡ first_files (map (option_map (λ v. v.items)) contents.items) 0 decls.now) }
 {
-    let mut files = Vec::new(alloc);
-    for (at, decl) in decls.iter().enumerate() {
-        files.push(first_file(alloc, contents, at, decl)?)?;
+    let mut files = Vec::with_capacity(alloc, decls.len())?;
+    let mut contents = contents.into_iter();
+    for _ in decls {
+        files.push(File::closed(contents.next().flatten()))?;
     }
     Ok(files)
 }
@@ -90,10 +38,11 @@ impl World {
     pub fn first(
         alloc: Global,
         program: &Program,
-        contents: &Contents,
+        contents: Contents,
     ) -> Result<World, AllocError>
         requires { HasSoundItems program.now.layout }
-        ensures { IfOk result (λ w. w ≡ first_world (plain_program program.now) contents.now []) }
+        ensures { IfOk result (λ w. w
+            ≡ first_world (plain_program program.now) (map (option_map (λ v. v.items)) contents.items) []) }
     {
         let storage = start(alloc, program)?;
         let counts = vec![in alloc; None; program.statements as usize]?;

@@ -1,9 +1,12 @@
 //! Files, and what calls on them do (ISO 1989:1985, "Sequential I-O").
-ghost use Rattle.std.specs.Prelude.{◌≡◌, slice_get, IfOk};
+ghost use Rattle.std.specs.Prelude.{◌≡◌, ◌≤◌, ◌+◌, ◌++◌, length, nat_le, if◌then◌else◌, IfSome, IfOk};
 ghost use Rattle.std.specs.Option.{option_map, option_copied};
-ghost use Rattle.cob_runs.specs.Files.{file, closed, opened_new, opened, after_close, taken, taken_from, record_at, after_read, grown, after_write};
+ghost use Rattle.cob_runs.specs.Contents.{fitted};
+ghost use Rattle.cob_runs.specs.Files.{file, closed, opened_new, opened, after_close, bytes_in, taken, taken_from, record_at, after_read, after_write};
+ghost use Rattle.cob_world.specs.Calling.{bytes_of, end_from, as_found};
+ghost use Rattle.cob_world.specs.Views.{plain_mode};
 
-use cob_tree::Bytes;
+use crate::areas::append_text;
 use std::alloc::{AllocError, Global};
 use std::marker::Model;
 
@@ -15,10 +18,10 @@ pub enum FileMode {
     Writing,
 }
 
-/// A file: its records if it is there, its mode, and how many records were read.
+/// A file: its bytes if it is there, which are its records, one behind the other; its mode; and how many bytes were read.
 #[derive(Drop)]
 pub struct File {
-    records: Option<Vec<Bytes>>,
+    content: Option<Vec<u8>>,
     mode: FileMode,
     place: usize,
 }
@@ -30,36 +33,60 @@ impl Model for File {
 
     ghost Value = { File };
 
-    ghost view = { λ f. file (option_map (λ v. v.items) f.records) (plain_mode f.mode) f.place };
+    ghost view = { λ f. file (option_map (λ v. v.items) f.content) (plain_mode f.mode) f.place };
 }
 
-/// What a READ finds: a record if there is one, and the status.
-#[derive(Drop)]
+/// What a READ finds: the place of a record among the file's bytes if there is one, and the status.
+#[derive(Clone, Copy, Debug, Drop, PartialEq, Eq)]
 pub struct Taken {
-    pub found: Option<Bytes>,
+    pub found: Option<usize>,
     pub status: u8,
 }
 
 impl File {
-    /// A closed file with these records, if it is there.
-    pub fn closed(records: Option<Vec<Bytes>>) -> File
-        ensures { result ≡ file (option_map (λ v. v.items) records) closed 0 }
+    /// A closed file with these bytes, if it is there.
+    pub fn closed(content: Option<Vec<u8>>) -> File
+        ensures { result ≡ file (option_map (λ v. v.items) content) closed 0 }
     {
         File {
-            records,
+            content,
             mode: FileMode::Closed,
             place: 0,
         }
     }
 
-    /// Its records, if it is there.
-    pub fn records(&self) -> Option<&[Bytes]>
+    /// Its bytes, if it is there.
+    pub fn bytes(&self) -> Option<&[u8]>
         ensures { option_copied result ≡ self.now.content }
     {
-        match &self.records {
+        match &self.content {
             None => None,
-            Some(records) => Some(records.as_slice()),
+            Some(bytes) => Some(bytes.as_slice()),
         }
+    }
+
+    /// Its bytes; none if it isn't there.
+    pub fn all(&self) -> &[u8]
+        ensures { result.now ≡ bytes_in self.now }
+    {
+        match &self.content {
+            None => &[],
+            Some(bytes) => bytes.as_slice(),
+        }
+    }
+
+    /// Its mode.
+    pub fn mode(&self) -> FileMode
+        ensures { plain_mode result ≡ self.now.mode }
+    {
+        self.mode
+    }
+
+    /// Puts other bytes in place of its own. Its mode and its place stay.
+    pub fn refill(&mut self, content: Option<Vec<u8>>)
+        ensures { self.new ≡ file (option_map (λ v. v.items) content) self.old.mode self.old.place }
+    {
+        self.content = content;
     }
 
     // OPEN OUTPUT empties the file or makes it; OPEN INPUT wants it to be there.
@@ -68,11 +95,11 @@ impl File {
     {
         self.place = 0;
         if output {
-            self.records = Some(Vec::new(alloc));
+            self.content = Some(Vec::new(alloc));
             self.mode = FileMode::Writing;
             return 0;
         }
-        match &self.records {
+        match &self.content {
             None => {
                 self.mode = FileMode::Closed;
                 35
@@ -108,55 +135,62 @@ impl File {
         }
     }
 
-    /// READ: the next record if the file is read and has one, and the status (ISO 1989:1985, "The READ statement").
-    pub fn take(&mut self, alloc: Global) -> Result<Taken, AllocError>
-        ensures { IfOk result (λ t. taken self.new t.found t.status ≡ after_read self.old) }
+    // where the next record ends, if all of it is there
+    fn next_end(&self, size: u32) -> Option<usize>
+        ensures { result ≡ end_from size self.now.place (length (bytes_in self.now)) }
     {
-        match self.mode {
-            FileMode::Closed | FileMode::Writing => Ok(none_taken(47)),
-            FileMode::Reading { ended: true } => Ok(none_taken(46)),
-            FileMode::Reading { ended: false } => self.take_next(alloc),
-        }
-    }
-
-    // the record behind those that were read
-    fn next(&self, alloc: Global) -> Result<Option<Bytes>, AllocError>
-        ensures { IfOk result (λ found. found ≡ record_at self.now) }
-    {
-        match &self.records {
-            None => Ok(None),
-            Some(records) => record_at(alloc, records.as_slice(), self.place),
+        match self.place.checked_add(size as usize) {
+            None => None,
+            Some(end) => end_within(end, self.all().len()),
         }
     }
 
     // the next record, or else the end is met
-    fn take_next(&mut self, alloc: Global) -> Result<Taken, AllocError>
-        ensures { IfOk result (λ t. taken self.new t.found t.status ≡ taken_from self.old (record_at self.old)) }
+    fn take_next(&mut self, size: u32) -> Taken
+        ensures value { taken self.new (as_found size (bytes_in self.old) result.found) result.status
+            ≡ taken_from size self.old (record_at size self.old) }
+        ensures within { IfSome result.found (λ place. place + size ≤ length (bytes_in self.old)) }
     {
-        match self.next(alloc)? {
-            Some(record) => {
-                self.mode = FileMode::Reading { ended: false };
-                self.place += 1;
-                Ok(Taken {
-                    found: Some(record),
-                    status: 0,
-                })
-            }
+        match self.next_end(size) {
             None => {
                 self.mode = FileMode::Reading { ended: true };
-                Ok(none_taken(10))
+                none_taken(10)
+            }
+            Some(end) => {
+                let place = self.place;
+                self.mode = FileMode::Reading { ended: false };
+                self.place = end;
+                Taken {
+                    found: Some(place),
+                    status: 0,
+                }
             }
         }
     }
 
-    /// WRITE, and its status (ISO 1989:1985, "The WRITE statement").
-    pub fn write(&mut self, alloc: Global, bytes: Bytes) -> Result<u8, AllocError>
-        ensures { IfOk result (λ status. (self.new, status) ≡ after_write bytes self.old) }
+    /// READ of a record of so many bytes, if the file is read and has one, and the status (ISO 1989:1985, "The READ
+    /// statement").
+    pub fn take(&mut self, size: u32) -> Taken
+        ensures value { taken self.new (as_found size (bytes_in self.old) result.found) result.status
+            ≡ after_read size self.old }
+        ensures within { IfSome result.found (λ place. place + size ≤ length (bytes_in self.old)) }
+    {
+        match self.mode {
+            FileMode::Closed | FileMode::Writing => none_taken(47),
+            FileMode::Reading { ended: true } => none_taken(46),
+            FileMode::Reading { ended: false } => self.take_next(size),
+        }
+    }
+
+    /// WRITE of a record of so many bytes, cut on the right or filled with spaces there, and the status (ISO 1989:1985,
+    /// "The WRITE statement").
+    pub fn write(&mut self, alloc: Global, record: &[u8], size: u32) -> Result<u8, AllocError>
+        ensures { IfOk result (λ status. (self.new, status) ≡ after_write (fitted size record.now) self.old) }
     {
         match self.mode {
             FileMode::Closed | FileMode::Reading { .. } => Ok(48),
             FileMode::Writing => {
-                self.records = Some(grown(alloc, bytes, self.records.take())?);
+                self.content = Some(grown(alloc, self.content.take(), record, size)?);
                 Ok(0)
             }
         }
@@ -173,28 +207,26 @@ fn none_taken(status: u8) -> Taken
     }
 }
 
-// The record at a place, if there is one.
-fn record_at(alloc: Global, records: &[Bytes], place: usize) -> Result<Option<Bytes>, AllocError>
-    ensures { IfOk result (λ found. found ≡ slice_get records.now place) }
+// A place that isn't past so many bytes.
+fn end_within(end: usize, count: usize) -> Option<usize>
+    ensures { result ≡ (if nat_le end count then Some end else None) }
 {
-    match records.get(place) {
-        None => Ok(None),
-        Some(record) => Ok(Some(Bytes::of(alloc, record.get())?)),
-    }
+    if end <= count { Some(end) } else { None }
 }
 
-// Records with one more behind them.
+// Bytes with one record more behind them.
 fn grown(
     alloc: Global,
-    bytes: Bytes,
-    records: Option<Vec<Bytes>>,
-) -> Result<Vec<Bytes>, AllocError>
-    ensures { IfOk result (λ all. Some all.items ≡ grown bytes (option_map (λ v. v.items) records)) }
+    content: Option<Vec<u8>>,
+    record: &[u8],
+    size: u32,
+) -> Result<Vec<u8>, AllocError>
+    ensures { IfOk result (λ all. all.items ≡ bytes_of (option_map (λ v. v.items) content) ++ fitted size record.now) }
 {
-    let mut all = match records {
-        None => Vec::with_capacity(alloc, 1)?,
-        Some(records) => records,
+    let mut all = match content {
+        None => Vec::new(alloc),
+        Some(bytes) => bytes,
     };
-    all.push(bytes)?;
+    append_text(&mut all, record, size)?;
     Ok(all)
 }

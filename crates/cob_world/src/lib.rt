@@ -6,6 +6,7 @@ mod areas;
 mod begin;
 mod calls;
 mod counts;
+mod decide;
 mod files;
 mod statuses;
 mod world;

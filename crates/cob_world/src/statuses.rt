@@ -1,20 +1,18 @@
 //! Statuses of files, and record areas (ISO 1989:1985, "I-O status" and "Record area").
-ghost use Rattle.std.specs.Prelude.{◌≡◌, ◌≤◌, ◌+◌, ◌==◌, length, IfSome, IfOk};
+ghost use Rattle.std.specs.Prelude.{◌≡◌, ◌≤◌, ◌+◌, ◌==◌, length, IfSome};
 ghost use Rattle.std.specs.List.{list_any};
-ghost use Rattle.cob_runs.specs.Contents.{area, fitted, length_at};
-ghost use Rattle.std.specs.Result.{OnOk};
 ghost use Rattle.std.specs.Option.{option_copied};
+ghost use Rattle.cob_runs.specs.Contents.{area};
 ghost use Rattle.cob_runs.specs.Files.{status_bytes, with_status, chosen_in, record_in};
 ghost use Rattle.cob_runs.specs.Acts.{is_fine, decl_at, has_status, found_in, into_from, file_from};
-ghost use Rattle.cob_world.specs.Becoming.{undefined_by};
 ghost use Rattle.cob_items.specs.Sound.{HasSoundItems, IsSoundFile};
+ghost use Rattle.cob_world.specs.Becoming.{undefined_by};
+ghost use Rattle.cob_world.specs.Calling.{as_found};
 
-use crate::areas::{fitted, write_at};
-use crate::files::Taken;
+use crate::areas::{copy_area, write_at, write_text};
 use cob_data::{FileDecl, Layout};
 use cob_items::{fill_bytes, item_at};
 use cob_tree::Bytes;
-use std::alloc::{AllocError, Global};
 
 /// The file at a place, if there is one.
 pub fn decl_at(layout: &Layout, place: usize) -> Option<&FileDecl>
@@ -56,7 +54,7 @@ pub fn put_status(layout: &Layout, decl: &FileDecl, status: u8, storage: &mut [u
     }
 }
 
-/// Puts what may stand in a record area that a statement leaves undefined: nothing new, or bytes of its length.
+// Puts what may stand in a record area that a statement leaves undefined: nothing new, or bytes of its length.
 fn choose(choice: &Option<Bytes>, decl: &FileDecl, storage: &mut [u8])
     requires { decl.now.offset + decl.now.length ≤ length storage.old }
     ensures { storage.new ≡ chosen_in choice.now decl.now storage.old }
@@ -71,60 +69,40 @@ fn choose(choice: &Option<Bytes>, decl: &FileDecl, storage: &mut [u8])
     }
 }
 
-fn put_record(
-    alloc: Global,
-    decl: &FileDecl,
-    bytes: &Bytes,
-    storage: &mut [u8],
-) -> Result<(), AllocError>
+// Puts a record into the record area.
+fn put_record(decl: &FileDecl, record: &[u8], storage: &mut [u8])
     requires { decl.now.offset + decl.now.length ≤ length storage.old }
-    ensures { OnOk result (storage.new ≡ record_in decl.now bytes.now storage.old) }
+    ensures { storage.new ≡ record_in decl.now record.now storage.old }
 {
-    let all = fitted(alloc, bytes.get(), decl.length)?;
-    write_at(storage, decl.offset, all.as_slice());
-    Ok(())
+    write_text(storage, decl.offset, decl.length, record);
 }
 
-/// Puts a record that was read into the record area, which is undefined where there is none.
-fn put_found(
-    alloc: Global,
+// The record that stands at a place of a file's bytes.
+fn record_at(bytes: &[u8], place: usize, size: u32) -> &[u8]
+    requires { place + size ≤ length bytes.now }
+    ensures { result.now ≡ area bytes.now place size }
+{
+    &bytes[place..place + size as usize]
+}
+
+/// Puts a record that was read into the record area, which is undefined where there is none. The record is given by its
+/// place among the file's bytes.
+pub fn put_found(
     layout: &Layout,
     choice: &Option<Bytes>,
     decl: &FileDecl,
-    found: &Option<Bytes>,
+    bytes: &[u8],
+    found: Option<usize>,
     storage: &mut [u8],
-) -> Result<(), AllocError>
-    requires { decl.now.offset + decl.now.length ≤ length storage.old }
-    ensures { OnOk result (storage.new ≡ found_in layout.now choice.now decl.now found.now storage.old) }
+)
+    requires area { decl.now.offset + decl.now.length ≤ length storage.old }
+    requires found { IfSome found (λ place. place + decl.now.length ≤ length bytes.now) }
+    ensures { storage.new ≡ found_in layout.now choice.now decl.now (as_found decl.now.length bytes.now found) storage.old }
 {
     match found {
-        None => {
-            choose(choice, decl, storage);
-            Ok(())
-        }
-        Some(record) => put_record(alloc, decl, record, storage),
+        None => choose(choice, decl, storage),
+        Some(place) => put_record(decl, record_at(bytes, place, decl.length), storage),
     }
-}
-
-/// Puts what a READ found: its status, and then its record.
-pub fn put_taken(
-    alloc: Global,
-    layout: &Layout,
-    choice: &Option<Bytes>,
-    decl: &FileDecl,
-    taken: Taken,
-    storage: &mut [u8],
-) -> Result<u8, AllocError>
-    requires sound { HasSoundItems layout.now }
-    requires whole { length storage.old ≡ layout.now.storage }
-    requires file { IsSoundFile layout.now decl.now }
-    ensures status { IfOk result (λ status. status ≡ taken.status) }
-    ensures value { OnOk result (storage.new
-        ≡ found_in layout.now choice.now decl.now taken.found (with_status layout.now decl.now taken.status storage.old)) }
-{
-    put_status(layout, decl, taken.status, storage);
-    put_found(alloc, layout, choice, decl, &taken.found, storage)?;
-    Ok(taken.status)
 }
 
 /// Puts the status of a WRITE; where all went well the record area is undefined.
@@ -155,60 +133,18 @@ pub fn is_fine(status: u8) -> bool
 }
 
 /// INTO gets the record area as a group.
-pub fn put_into(
-    alloc: Global,
-    layout: &Layout,
-    file: usize,
-    place: u32,
-    storage: &mut [u8],
-) -> Result<(), AllocError>
+pub fn put_into(layout: &Layout, file: usize, place: u32, storage: &mut [u8])
     requires sound { HasSoundItems layout.now }
     requires whole { length storage.old ≡ layout.now.storage }
-    ensures { OnOk result (storage.new ≡ into_from layout.now (decl_at layout.now file) place storage.old) }
+    ensures { storage.new ≡ into_from layout.now (decl_at layout.now file) place storage.old }
 {
     match decl_at(layout, file) {
-        None => Ok(()),
-        Some(decl) => {
-            let bytes = sent(alloc, layout, decl, place, storage)?;
-            fill_bytes(layout, storage, place, bytes.as_slice());
-            Ok(())
-        }
+        None => {}
+        Some(decl) => match item_at(layout, place) {
+            None => {}
+            Some(item) => copy_area(storage, decl.offset, decl.length, item.offset, item.length),
+        },
     }
-}
-
-fn length_at(layout: &Layout, place: u32) -> u32
-    requires { HasSoundItems layout.now }
-    ensures { result ≡ length_at layout.now place }
-{
-    match item_at(layout, place) {
-        None => 0,
-        Some(item) => item.length,
-    }
-}
-
-fn area(storage: &[u8], offset: u32, count: u32) -> &[u8]
-    requires { offset + count ≤ length storage.now }
-    ensures { result.now ≡ area storage.now offset count }
-{
-    let from = offset as usize;
-    &storage[from..from + count as usize]
-}
-
-// The record area, as long as the item at a place.
-fn sent(
-    alloc: Global,
-    layout: &Layout,
-    decl: &FileDecl,
-    place: u32,
-    storage: &[u8],
-) -> Result<Vec<u8>, AllocError>
-    requires sound { HasSoundItems layout.now }
-    requires within { decl.now.offset + decl.now.length ≤ length storage.now }
-    ensures value { IfOk result (λ bytes. bytes.items
-        ≡ fitted (length_at layout.now place) (area storage.now decl.now.offset decl.now.length)) }
-    ensures long { IfOk result (λ bytes. length bytes.items ≡ length_at layout.now place) }
-{
-    fitted(alloc, area(storage, decl.offset, decl.length), length_at(layout, place))
 }
 
 fn is_record(rec: u32, records: &[u32]) -> bool

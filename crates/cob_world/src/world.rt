@@ -2,20 +2,22 @@
 ghost use Rattle.std.specs.Prelude.{◌≡◌, length, slice_get, Ok, IfSome, MatchResult};
 ghost use Rattle.std.specs.List.{All};
 ghost use Rattle.std.specs.Result.{OnOk};
-ghost use Rattle.std.specs.Option.{option_copied};
+ghost use Rattle.std.specs.Option.{option_map, option_copied};
 ghost use Rattle.cob_program.specs.SumView.{plain_sum};
 ghost use Rattle.cob_runs.specs.Contents.{form_at};
 ghost use Rattle.cob_runs.specs.Acts.{move, compute, show, move_if, set_varied};
-ghost use Rattle.cob_runs.specs.State.{World};
+ghost use Rattle.cob_runs.specs.State.{World, with_storage};
 ghost use Rattle.cob_items.specs.Sound.{HasSoundItems, CanMove};
 ghost use Rattle.cob_calc.specs.Arithmetic.{CanCompute};
-ghost use Rattle.cob_world.specs.Becoming.{Becomes, Leaves};
+ghost use Rattle.cob_world.specs.Becoming.{Becomes, Leaves, without_shown};
+ghost use Rattle.cob_world.specs.Views.{plain_mode};
 
-use crate::files::File;
+use crate::files::{File, FileMode};
 use cob_calc::compute;
 use cob_data::{Layout, Sender};
 use cob_program::{Sum, Target};
 use cob_store::{MoveEnd, after_move, line_of};
+use cob_tree::Kind;
 use std::alloc::{AllocError, Global};
 use std::marker::Model;
 
@@ -29,7 +31,7 @@ pub struct World {
 }
 
 impl Model for World {
-    ghost use Rattle.cob_runs.specs.State.{World};
+    ghost use Rattle.cob_runs.specs.State.{World, with_storage};
 
     ghost Value = { World };
 
@@ -55,11 +57,29 @@ impl World {
         self.shown.as_slice()
     }
 
+    /// Forgets the text that was shown.
+    pub fn clear_shown(&mut self)
+        ensures value { self.new ≡ without_shown self.old }
+        ensures kept { length self.new.storage ≡ length self.old.storage }
+    {
+        self.shown.clear();
+    }
+
     /// The file at a place.
     pub fn file(&self, place: usize) -> Option<&File>
         ensures { option_copied result ≡ slice_get self.now.files place }
     {
         self.files.as_slice().get(place)
+    }
+
+    /// The mode of the file at a place.
+    pub fn file_mode(&self, place: usize) -> Option<FileMode>
+        ensures { option_map plain_mode result ≡ option_map (λ f. f.mode) (slice_get self.now.files place) }
+    {
+        match self.file(place) {
+            None => None,
+            Some(file) => Some(file.mode()),
+        }
     }
 
     /// MOVE (ISO 1989:1985, "The MOVE statement").
@@ -116,7 +136,38 @@ impl World {
         self.move_to(alloc, layout, start, &[item])
     }
 
-    /// An arithmetic statement; answers whether there is a size error that the phrase handles.
+    /// An arithmetic statement; answers whether there is a size error that the phrase handles. Of storage behind a fault
+    /// nothing is said but its length.
+    pub fn compute_in_place(
+        &mut self,
+        layout: &Layout,
+        phrase: bool,
+        common: &Sum,
+        targets: &[Target],
+        remainder: Option<u32>,
+    ) -> Result<bool, Kind>
+        requires sound { HasSoundItems layout.now }
+        requires whole { length self.old.storage ≡ layout.now.storage }
+        requires can { CanCompute layout.now (plain_sum common.now) targets.now remainder }
+        ensures value { MatchResult result
+            (λ failed. compute layout.now phrase (plain_sum common.now) targets.now remainder self.old
+                ≡ Ok (self.new, failed))
+            (λ kind. compute layout.now phrase (plain_sum common.now) targets.now remainder self.old ≡ Err kind) }
+        ensures others { self.new ≡ with_storage self.old self.new.storage }
+        ensures kept { length self.new.storage ≡ length self.old.storage }
+    {
+        let storage = self.storage.as_mut_slice();
+        compute(layout, phrase, storage, common, targets, remainder)
+    }
+
+    fn put_storage(&mut self, storage: Vec<u8>)
+        ensures { self.new ≡ with_storage self.old storage.items }
+    {
+        self.storage = storage;
+    }
+
+    /// An arithmetic statement, whose fault leaves all as it was; answers whether there is a size error that the phrase
+    /// handles.
     pub fn compute(
         &mut self,
         alloc: Global,
@@ -136,13 +187,13 @@ impl World {
                 end self.old self.new) }
         ensures kept { length self.new.storage ≡ length self.old.storage }
     {
-        let mut storage = Vec::from_slice(alloc, self.storage.as_slice())?;
-        match compute(layout, phrase, storage.as_mut_slice(), common, targets, remainder) {
-            Ok(failed) => {
-                self.storage = storage;
-                Ok(failed)
+        let storage = Vec::from_slice(alloc, self.storage.as_slice())?;
+        match self.compute_in_place(layout, phrase, common, targets, remainder) {
+            Ok(failed) => Ok(failed),
+            Err(kind) => {
+                self.put_storage(storage);
+                Err(MoveEnd::Fault(kind))
             }
-            Err(kind) => Err(MoveEnd::Fault(kind)),
         }
     }
 
