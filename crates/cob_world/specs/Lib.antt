@@ -1,0 +1,4 @@
+pub mod Views
+pub mod Becoming
+pub mod Needs
+pub mod Calling

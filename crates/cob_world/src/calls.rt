@@ -1,0 +1,319 @@
+//! What OPEN, CLOSE, READ and WRITE do to a world (ISO 1989:1985, "Sequential I-O").
+ghost use Rattle.std.specs.Prelude.{◌≡◌, length, IfOk};
+ghost use Rattle.std.specs.Option.{option_map};
+ghost use Rattle.std.specs.Result.{OnOk};
+ghost use Rattle.cob_runs.specs.Files.{opened, after_close, with_status};
+ghost use Rattle.cob_runs.specs.State.{with_storage, with_files};
+ghost use Rattle.cob_runs.specs.Acts.{open_one, close_one, take_one, into_if, read_one, write_one};
+ghost use Rattle.cob_items.specs.Sound.{HasSoundItems, IsSoundFile};
+ghost use Rattle.cob_world.specs.Calling.{called, read_by, written_by, acted, refilled};
+
+use crate::files::File;
+use crate::statuses::{decl_at, is_fine, put_found, put_into, put_status, put_written};
+use crate::world::World;
+use cob_data::{FileDecl, Layout};
+use cob_items::bytes_at;
+use cob_program::Opening;
+use cob_tree::Bytes;
+use std::alloc::{AllocError, Global};
+
+// ---- on the file at a place, if there is one
+
+fn open_at(files: &mut [File], alloc: Global, output: bool, at: usize) -> Option<u8>
+    ensures { (files.new, result) ≡ called (opened output) at files.old }
+{
+    if at >= files.len() {
+        return None;
+    }
+    Some(files[at].open(alloc, output))
+}
+
+fn close_at(files: &mut [File], at: usize) -> Option<u8>
+    ensures { (files.new, result) ≡ called after_close at files.old }
+{
+    if at >= files.len() {
+        return None;
+    }
+    Some(files[at].close())
+}
+
+fn refill_at(files: &mut [File], content: Option<Vec<u8>>, at: usize)
+    ensures { files.new ≡ refilled at (option_map (λ v. v.items) content) files.old }
+{
+    if at < files.len() {
+        files[at].refill(content);
+    }
+}
+
+// ---- on a file and storage
+
+fn read_from(
+    layout: &Layout,
+    choice: &Option<Bytes>,
+    decl: &FileDecl,
+    file: &mut File,
+    storage: &mut [u8],
+) -> u8
+    requires sound { HasSoundItems layout.now }
+    requires whole { length storage.old ≡ layout.now.storage }
+    requires file { IsSoundFile layout.now decl.now }
+    ensures { (file.new, storage.new, result) ≡ read_by layout.now choice.now decl.now storage.old file.old }
+{
+    let taken = file.take(decl.length);
+    put_status(layout, decl, taken.status, storage);
+    put_found(layout, choice, decl, file.all(), taken.found, storage);
+    taken.status
+}
+
+fn read_at(
+    layout: &Layout,
+    choice: &Option<Bytes>,
+    decl: &FileDecl,
+    files: &mut [File],
+    at: usize,
+    storage: &mut [u8],
+) -> Option<u8>
+    requires sound { HasSoundItems layout.now }
+    requires whole { length storage.old ≡ layout.now.storage }
+    requires file { IsSoundFile layout.now decl.now }
+    ensures { (files.new, storage.new, result)
+        ≡ acted (read_by layout.now choice.now decl.now) at files.old storage.old }
+{
+    if at >= files.len() {
+        return None;
+    }
+    Some(read_from(layout, choice, decl, &mut files[at], storage))
+}
+
+fn write_from(
+    alloc: Global,
+    layout: &Layout,
+    choice: &Option<Bytes>,
+    decl: &FileDecl,
+    rec: u32,
+    file: &mut File,
+    storage: &mut [u8],
+) -> Result<u8, AllocError>
+    requires sound { HasSoundItems layout.now }
+    requires whole { length storage.old ≡ layout.now.storage }
+    requires file { IsSoundFile layout.now decl.now }
+    ensures { IfOk result (λ status. (file.new, storage.new, status)
+        ≡ written_by layout.now choice.now decl.now rec storage.old file.old) }
+{
+    let status = file.write(alloc, bytes_at(layout, storage, rec), decl.length)?;
+    put_written(layout, choice, decl, status, storage);
+    Ok(status)
+}
+
+fn write_at(
+    alloc: Global,
+    layout: &Layout,
+    choice: &Option<Bytes>,
+    decl: &FileDecl,
+    rec: u32,
+    files: &mut [File],
+    at: usize,
+    storage: &mut [u8],
+) -> Result<Option<u8>, AllocError>
+    requires sound { HasSoundItems layout.now }
+    requires whole { length storage.old ≡ layout.now.storage }
+    requires file { IsSoundFile layout.now decl.now }
+    ensures { IfOk result (λ status. (files.new, storage.new, status)
+        ≡ acted (written_by layout.now choice.now decl.now rec) at files.old storage.old) }
+{
+    if at >= files.len() {
+        return Ok(None);
+    }
+    let file = &mut files[at];
+    Ok(Some(write_from(alloc, layout, choice, decl, rec, file, storage)?))
+}
+
+impl World {
+    fn put_status(&mut self, layout: &Layout, decl: &FileDecl, status: u8)
+        requires sound { HasSoundItems layout.now }
+        requires whole { length self.old.storage ≡ layout.now.storage }
+        requires file { IsSoundFile layout.now decl.now }
+        ensures value { self.new ≡ with_storage self.old (with_status layout.now decl.now status self.old.storage) }
+        ensures kept { length self.new.storage ≡ length self.old.storage }
+    {
+        put_status(layout, decl, status, self.storage.as_mut_slice());
+    }
+
+    fn open_file(&mut self, alloc: Global, output: bool, at: usize) -> Option<u8>
+        ensures files { (self.new.files, result) ≡ called (opened output) at self.old.files }
+        ensures world { self.new ≡ with_files self.old self.new.files }
+    {
+        open_at(self.files.as_mut_slice(), alloc, output, at)
+    }
+
+    fn close_file(&mut self, at: usize) -> Option<u8>
+        ensures files { (self.new.files, result) ≡ called after_close at self.old.files }
+        ensures world { self.new ≡ with_files self.old self.new.files }
+    {
+        close_at(self.files.as_mut_slice(), at)
+    }
+
+    /// Puts other bytes in place of those of the file at a place, if there is one. Its mode and its place stay.
+    pub fn set_content(&mut self, at: usize, content: Option<Vec<u8>>)
+        ensures value { self.new ≡ with_files self.old
+            (refilled at (option_map (λ v. v.items) content) self.old.files) }
+        ensures kept { length self.new.storage ≡ length self.old.storage }
+    {
+        refill_at(self.files.as_mut_slice(), content, at);
+    }
+
+    /// OPEN of one file, and its status.
+    pub fn open_one(&mut self, alloc: Global, layout: &Layout, opening: Opening) -> u8
+        requires sound { HasSoundItems layout.now }
+        requires whole { length self.old.storage ≡ layout.now.storage }
+        ensures value { (self.new, result) ≡ open_one layout.now opening self.old }
+        ensures kept { length self.new.storage ≡ length self.old.storage }
+    {
+        let at = opening.file as usize;
+        match decl_at(layout, at) {
+            None => 0,
+            Some(decl) => match self.open_file(alloc, opening.output, at) {
+                None => 0,
+                Some(status) => {
+                    self.put_status(layout, decl, status);
+                    status
+                }
+            },
+        }
+    }
+
+    /// CLOSE of one file, and its status.
+    pub fn close_one(&mut self, layout: &Layout, place: u32) -> u8
+        requires sound { HasSoundItems layout.now }
+        requires whole { length self.old.storage ≡ layout.now.storage }
+        ensures value { (self.new, result) ≡ close_one layout.now place self.old }
+        ensures kept { length self.new.storage ≡ length self.old.storage }
+    {
+        let at = place as usize;
+        match decl_at(layout, at) {
+            None => 0,
+            Some(decl) => match self.close_file(at) {
+                None => 0,
+                Some(status) => {
+                    self.put_status(layout, decl, status);
+                    status
+                }
+            },
+        }
+    }
+
+    // a READ from the file at a place, if there is one
+    fn read_file(
+        &mut self,
+        layout: &Layout,
+        choice: &Option<Bytes>,
+        decl: &FileDecl,
+        at: usize,
+    ) -> Option<u8>
+        requires sound { HasSoundItems layout.now }
+        requires whole { length self.old.storage ≡ layout.now.storage }
+        requires file { IsSoundFile layout.now decl.now }
+        ensures value { (self.new.files, self.new.storage, result)
+            ≡ acted (read_by layout.now choice.now decl.now) at self.old.files self.old.storage }
+        ensures world { self.new ≡ with_storage (with_files self.old self.new.files) self.new.storage }
+        ensures kept { length self.new.storage ≡ length self.old.storage }
+    {
+        let files = self.files.as_mut_slice();
+        read_at(layout, choice, decl, files, at, self.storage.as_mut_slice())
+    }
+
+    /// READ without INTO, and its status.
+    pub fn take_one(&mut self, layout: &Layout, choice: &Option<Bytes>, place: u32) -> u8
+        requires sound { HasSoundItems layout.now }
+        requires whole { length self.old.storage ≡ layout.now.storage }
+        ensures value { (self.new, result) ≡ take_one layout.now choice.now place self.old }
+        ensures kept { length self.new.storage ≡ length self.old.storage }
+    {
+        let at = place as usize;
+        match decl_at(layout, at) {
+            None => 0,
+            Some(decl) => match self.read_file(layout, choice, decl, at) {
+                None => 0,
+                Some(status) => status,
+            },
+        }
+    }
+
+    /// INTO of a READ, where there is one: it gets the record area as a group.
+    pub fn into_if(&mut self, layout: &Layout, file: u32, into: Option<u32>)
+        requires sound { HasSoundItems layout.now }
+        requires whole { length self.old.storage ≡ layout.now.storage }
+        ensures value { self.new ≡ into_if layout.now file into self.old }
+        ensures kept { length self.new.storage ≡ length self.old.storage }
+    {
+        if let Some(place) = into {
+            put_into(layout, file as usize, place, self.storage.as_mut_slice());
+        }
+    }
+
+    /// READ, and its status (ISO 1989:1985, "The READ statement").
+    pub fn read_one(
+        &mut self,
+        layout: &Layout,
+        choice: &Option<Bytes>,
+        place: u32,
+        into: Option<u32>,
+    ) -> u8
+        requires sound { HasSoundItems layout.now }
+        requires whole { length self.old.storage ≡ layout.now.storage }
+        ensures value { (self.new, result) ≡ read_one layout.now choice.now place into self.old }
+        ensures kept { length self.new.storage ≡ length self.old.storage }
+    {
+        let status = self.take_one(layout, choice, place);
+        if is_fine(status) {
+            self.into_if(layout, place, into);
+        }
+        status
+    }
+
+    // a WRITE to the file at a place, if there is one
+    fn write_file(
+        &mut self,
+        alloc: Global,
+        layout: &Layout,
+        choice: &Option<Bytes>,
+        decl: &FileDecl,
+        at: usize,
+        rec: u32,
+    ) -> Result<Option<u8>, AllocError>
+        requires sound { HasSoundItems layout.now }
+        requires whole { length self.old.storage ≡ layout.now.storage }
+        requires file { IsSoundFile layout.now decl.now }
+        ensures value { IfOk result (λ status. (self.new.files, self.new.storage, status)
+            ≡ acted (written_by layout.now choice.now decl.now rec) at self.old.files self.old.storage) }
+        ensures world { self.new ≡ with_storage (with_files self.old self.new.files) self.new.storage }
+        ensures kept { length self.new.storage ≡ length self.old.storage }
+    {
+        let files = self.files.as_mut_slice();
+        let storage = self.storage.as_mut_slice();
+        write_at(alloc, layout, choice, decl, rec, files, at, storage)
+    }
+
+    /// WRITE, and its status (ISO 1989:1985, "The WRITE statement").
+    pub fn write_one(
+        &mut self,
+        alloc: Global,
+        layout: &Layout,
+        choice: &Option<Bytes>,
+        place: usize,
+        rec: u32,
+    ) -> Result<u8, AllocError>
+        requires sound { HasSoundItems layout.now }
+        requires whole { length self.old.storage ≡ layout.now.storage }
+        ensures value { IfOk result (λ status. (self.new, status) ≡ write_one layout.now choice.now place rec self.old) }
+        ensures kept { length self.new.storage ≡ length self.old.storage }
+    {
+        match decl_at(layout, place) {
+            None => Ok(0),
+            Some(decl) => match self.write_file(alloc, layout, choice, decl, place, rec)? {
+                None => Ok(0),
+                Some(status) => Ok(status),
+            },
+        }
+    }
+}

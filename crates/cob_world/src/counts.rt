@@ -1,0 +1,149 @@
+//! The counts of loops, and what VARYING adds (ISO 1989:1985, "The PERFORM statement").
+ghost use Rattle.std.specs.Prelude.{◌≡◌, length, Ok, true, IfSome};
+ghost use Rattle.std.specs.Result.{OnOk};
+ghost use Rattle.cob_program.specs.Bounds.{IsSmall};
+ghost use Rattle.cob_program.specs.Values.{plus};
+ghost use Rattle.cob_runs.specs.Contents.{form_at, number_at};
+ghost use Rattle.cob_runs.specs.Moves.{number_of};
+ghost use Rattle.cob_runs.specs.Acts.{count_of, with_count, set_count, count_down, augment};
+ghost use Rattle.cob_items.specs.Sound.{HasSoundItems};
+ghost use Rattle.cob_calc.specs.Arithmetic.{is_number_form};
+ghost use Rattle.cob_calc.specs.Comparing.{IsShortNumber};
+ghost use Rattle.cob_world.specs.Becoming.{BecomesBy, put};
+ghost use Rattle.cob_world.specs.Needs.{IsNumber};
+
+use crate::world::World;
+use cob_calc::Contents;
+use cob_data::{Layout, Sender};
+use cob_items::store_at;
+use cob_tree::Kind;
+use dec_num::{Mode, Scaled, add};
+use std::alloc::AllocError;
+
+// The number of an operand, if it is numeric.
+#[tactic(auto, using(crate::proofs::NumberLemmas::is_number_here))]
+fn number_of(layout: &Layout, storage: &[u8], operand: &Sender) -> Option<Scaled>
+    requires sound { HasSoundItems layout.now }
+    requires whole { length storage.now ≡ layout.now.storage }
+    requires number { IsNumber layout.now operand.now }
+    ensures value { result ≡ number_of layout.now storage.now operand.now }
+    ensures short { IfSome result IsShortNumber }
+{
+    Contents::of(layout, storage).number(operand)
+}
+
+// The number that a numeric item holds, if it is numeric.
+#[tactic(auto, using(crate::proofs::NumberLemmas::item_is_number))]
+fn number_at(layout: &Layout, storage: &[u8], item: u32) -> Option<Scaled>
+    requires sound { HasSoundItems layout.now }
+    requires whole { length storage.now ≡ layout.now.storage }
+    requires number { is_number_form (form_at layout.now item) ≡ true }
+    ensures value { result ≡ number_at layout.now storage.now item }
+    ensures short { IfSome result IsShortNumber }
+{
+    number_of(layout, storage, &Sender::Item(item))
+}
+
+#[tactic(auto, using(crate::proofs::NumberLemmas::short_sums))]
+fn sum(own: Scaled, step: Scaled) -> Scaled
+    requires own { IsShortNumber own }
+    requires step { IsShortNumber step }
+    ensures value { result ≡ plus own step }
+    ensures small { IsSmall result }
+{
+    add(own, step)
+}
+
+impl World {
+    /// The count of a PERFORM with TIMES, by its statement's number, if it has one.
+    pub fn count_of(&self, layout: &Layout, statement: u32) -> Option<i64>
+        ensures { result ≡ count_of layout.now statement self.now }
+    {
+        match self.counts.as_slice().get(statement.saturating_sub(1) as usize) {
+            None => None,
+            Some(count) => *count,
+        }
+    }
+
+    fn put_count(&mut self, layout: &Layout, statement: u32, count: i64)
+        ensures value { self.new ≡ with_count layout.now statement count self.old }
+    {
+        let at = statement.saturating_sub(1) as usize;
+        if at < self.counts.as_slice().len() {
+            self.counts[at] = Some(count);
+        }
+    }
+
+    /// Sets the count of a PERFORM with TIMES.
+    pub fn set_count(
+        &mut self,
+        layout: &Layout,
+        statement: u32,
+        operand: &Sender,
+    ) -> Result<(), Kind>
+        requires sound { HasSoundItems layout.now }
+        requires whole { length self.old.storage ≡ layout.now.storage }
+        requires number { IsNumber layout.now operand.now }
+        ensures value { BecomesBy (set_count layout.now statement operand.now self.old) result self.old self.new }
+        ensures kept { length self.new.storage ≡ length self.old.storage }
+    {
+        match number_of(layout, self.storage.as_slice(), operand) {
+            None => Err(Kind::Class),
+            Some(number) => {
+                self.put_count(layout, statement, number.units as i64);
+                Ok(())
+            }
+        }
+    }
+
+    /// One turn fewer is left. No run is so long that the count leaves its range.
+    pub fn count_down(&mut self, layout: &Layout, statement: u32) -> Result<(), AllocError>
+        ensures value { OnOk result (self.new ≡ count_down layout.now statement self.old) }
+        ensures kept { length self.new.storage ≡ length self.old.storage }
+    {
+        match self.count_of(layout, statement) {
+            None => Ok(()),
+            Some(count) => match count.checked_sub(1) {
+                None => Err(AllocError),
+                Some(less) => {
+                    self.put_count(layout, statement, less);
+                    Ok(())
+                }
+            },
+        }
+    }
+
+    /// What VARYING adds, as by ADD.
+    pub fn augment(&mut self, layout: &Layout, item: u32, by: &Sender) -> Result<(), Kind>
+        requires sound { HasSoundItems layout.now }
+        requires whole { length self.old.storage ≡ layout.now.storage }
+        requires item { is_number_form (form_at layout.now item) ≡ true }
+        requires number { IsNumber layout.now by.now }
+        ensures value { BecomesBy (augment layout.now item by.now self.old) result self.old self.new }
+        ensures kept { length self.new.storage ≡ length self.old.storage }
+    {
+        match number_of(layout, self.storage.as_slice(), by) {
+            None => Err(Kind::Class),
+            Some(step) => match number_at(layout, self.storage.as_slice(), item) {
+                None => Err(Kind::Class),
+                Some(own) => self.put(layout, item, sum(own, step)),
+            },
+        }
+    }
+
+    #[tactic(auto, using(crate::proofs::NumberLemmas::number_takes_number))]
+    fn put(&mut self, layout: &Layout, item: u32, value: Scaled) -> Result<(), Kind>
+        requires sound { HasSoundItems layout.now }
+        requires whole { length self.old.storage ≡ layout.now.storage }
+        requires item { is_number_form (form_at layout.now item) ≡ true }
+        requires small { IsSmall value }
+        ensures value { BecomesBy (put layout.now item value self.old) result self.old self.new }
+        ensures kept { length self.new.storage ≡ length self.old.storage }
+    {
+        if store_at(layout, self.storage.as_mut_slice(), item, value, Mode::Trunc) {
+            Ok(())
+        } else {
+            Err(Kind::Size)
+        }
+    }
+}
