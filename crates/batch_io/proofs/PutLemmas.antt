@@ -1,17 +1,18 @@
 -- How bytes are put to the end of a file, piece after piece.
-use Rattle.std.proofs.Common.{◌≡◌, ◌≢◌, ℕ, ◌+◌, ◌-◌, ◌<◌, ◌≤◌, cond, List, [], ◌∷◌, ◌++◌, None, Some, Option, IsSome, Result, Ok, refl, sym, ap, ◌∙◌, append_assoc, append-nil, length, take, drop, length-take, length-drop, subst, arith}
-use Rattle.std.specs.Prelude.{unwrap_or, option_map}
+use Rattle.std.proofs.Common.{◌≡◌, ◌≢◌, ℕ, ◌+◌, ◌-◌, ◌<◌, ◌≤◌, cond, List, [], ◌∷◌, ◌++◌, None, Some, Option, IsSome, Result, Ok, Err, inr, refl, sym, ap, ◌∙◌, append_assoc, append-nil, length, take, drop, length-take, length-drop, subst, arith}
+use Rattle.std.specs.Prelude.{◌⊎◌, unwrap_or, option_map, OnErr}
 use Rattle.std.specs.Cmp.Lexicographic.{slice_cmp}
 use Rattle.std.specs.Ordering.{nat_cmp, eq_by_cmp}
 use Rattle.std.specs.FinMap.{get, insert, get-insert}
 use Rattle.std.proofs.lemmas.Cmp.{nat_list_cmp_total}
 use Rattle.std.proofs.lemmas.Bool.{false_from_ne_true}
 use Rattle.std.proofs.lemmas.List.{take_rest}
+use Rattle.std.proofs.lemmas.Result.{on_ok_weaker}
 use Rattle.std.proofs.Math.Seq.{take-add}
 use Rattle.batch_io.specs.declared.ends.MakeEnd.{MakeEnd}
-use Rattle.batch_io.specs.FilesState.{Contents, FilesState, Told, Writing, KeepsIds, bytes_at}
-use Rattle.batch_io.specs.FilesCalls.{Writes, with_piece}
-use Rattle.batch_io.specs.Wholes.{Grows, with_bytes}
+use Rattle.batch_io.specs.FilesState.{Contents, FilesState, Told, Handle, Writing, KeepsIds, bytes_at, known_bytes}
+use Rattle.batch_io.specs.FilesCalls.{Creates, Writes, with_piece}
+use Rattle.batch_io.specs.Wholes.{Grows, Holds, PutsToClose, PutsFile, with_bytes}
 use Rattle.batch_io.proofs.EntriesLemmas.{is_same, same_contents, same_name, shadowed}
 use Rattle.batch_io.proofs.WholeLemmas.{piece_fits}
 
@@ -119,3 +120,52 @@ put_more a b c id bytes done count result written is_ok before created left =
       writing = call.writing.kept refl ∙ before.writing;
       ids = KeepsIds-more a b c before.ids call.ids;
     }
+
+-- ---- a file that is made anew
+
+abbrev at_start : List ℕ → Handle
+at_start name = record { name = name; place = 0 }
+
+module _ (id : ℕ) (name bytes : List ℕ) where
+  -- what is put into an empty file is all that it holds
+  with_bytes-empty : (old : Contents) (mid : Told) → mid.bytes ≡ insert old name [] → (mid.handle id).name ≡ name
+      → with_bytes id bytes mid ≡ insert old name bytes
+  with_bytes-empty old mid emptied named = elim bytes as (λ put. with_bytes id put mid ≡ insert old name put) [
+    | [] ↦ emptied
+    | byte ∷ more ↦
+        ap (λ at. insert mid.bytes at (bytes_at mid.bytes at ++ (byte ∷ more))) named
+        ∙ ap (λ m. insert m name (bytes_at m name ++ (byte ∷ more))) emptied
+        ∙ insert-twice old name [] _
+        ∙ ap (λ held. insert old name (held ++ (byte ∷ more))) (bytes-insert old name [])
+  ]
+
+  known-put : (old mid : Option Told)
+      → option_map (λ told. told.bytes) mid ≡ option_map (λ contents. insert contents name []) (option_map (λ told. told.bytes) old)
+      → option_map (λ told. told.handle id) mid ≡ option_map (λ _. at_start name) old
+      → option_map (with_bytes id bytes) mid ≡ option_map (λ contents. insert contents name bytes) (option_map (λ told. told.bytes) old)
+  known-put None None emptied handle = refl
+  known-put None (Some mid) emptied handle = absurd (cc emptied)
+  known-put (Some old) None emptied handle = absurd (cc emptied)
+  known-put (Some old) (Some mid) emptied handle =
+      let begins : mid.handle id ≡ at_start name = cc handle in
+      ap (λ m. Some m) (with_bytes-empty old.bytes mid (cc emptied) (ap (λ (h : Handle). h.name) begins))
+
+module _ (old mid new : FilesState) (id : ℕ) (name bytes : List ℕ) (created : Creates old mid name (Ok id)) where
+  holds : (put : List ℕ) → Grows mid new id put → Holds old new name put
+  holds put grown = grown ∙ known-put id name put old.told mid.told created.emptied created.ids.handle
+
+  refused_holds : (result : Result Unit MakeEnd)
+      → OnErr result ((n : ℕ) × (n ≤ length bytes) × Grows mid new id (take n bytes))
+      → OnErr result ((known_bytes new ≡ known_bytes old) ⊎ ((n : ℕ) × (n ≤ length bytes) × Holds old new name (take n bytes)))
+  refused_holds (Ok done) front = tt
+  refused_holds (Err end) (n, within, grown) = inr (n, within, holds (take n bytes) grown)
+
+  -- a file that was created, filled and closed
+  pub puts_file : (result : Result Unit MakeEnd) → PutsToClose mid new id bytes result → PutsFile old new name bytes result
+  puts_file result put = record {
+    writing = search arith;
+    reading = put.reading ∙ created.reading;
+    ok = on_ok_weaker result (holds bytes) put.ok;
+    err = refused_holds result put.err;
+    ids = search arith;
+  }

@@ -1,7 +1,7 @@
 -- What the calls on whole files and whole texts do.
-use Rattle.std.specs.Prelude.{◌≡◌, ◌≢◌, ◌↔◌, ℕ, ◌+◌, ◌<◌, ◌≤◌, List, [], ◌∷◌, take, length, None, Some, IfSome, IsSomeAnd, Result, Ok, Err, IfOk, OnOk, OnErr, option_map, Vec}
+use Rattle.std.specs.Prelude.{◌≡◌, ◌≢◌, ◌↔◌, ◌⊎◌, ℕ, ◌+◌, ◌<◌, ◌≤◌, List, [], ◌∷◌, take, length, None, Some, IfSome, IsSomeAnd, Result, Ok, Err, IfOk, OnOk, OnErr, option_map, Vec}
 use Rattle.std.specs.declared.alloc.Global.{Global}
-use Rattle.std.specs.FinMap.{get}
+use Rattle.std.specs.FinMap.{get, insert}
 use Rattle.std.specs.Io.KnownBytes.{append_known}
 use Rattle.batch_io.specs.declared.ends.Failed.{Failed}
 use Rattle.batch_io.specs.declared.ends.MakeEnd.{MakeEnd}
@@ -71,6 +71,27 @@ pub record PutsWhole (old new : FilesState) (id : ℕ) (bytes : List ℕ) (resul
   pub reading : new.reading ≡ old.reading
   pub ok : OnOk result (Grows old new id bytes)
   pub err : OnErr result ((n : ℕ) × (n ≤ length bytes) × Grows old new id (take n bytes))
+  pub ids : KeepsIds old new
+
+-- an open file to whose end the bytes, or a prefix of them, are put, and that is closed
+pub record PutsToClose (old new : FilesState) (id : ℕ) (bytes : List ℕ) (result : Result Unit MakeEnd) : Type 0 where
+  pub writing : Counts (make_failed result) old.writing new.writing
+  pub reading : new.reading ≡ old.reading
+  pub ok : OnOk result (Grows old new id bytes)
+  pub err : OnErr result ((n : ℕ) × (n ≤ length bytes) × Grows old new id (take n bytes))
+  pub closed : new.purpose id ≡ None
+  pub others : KeepsOthers old new id
+
+-- the name has these bytes, and every other name is as it was
+abbrev pub Holds : FilesState → FilesState → List ℕ → List ℕ → Type 0
+Holds old new name bytes = known_bytes new ≡ option_map (λ contents. insert contents name bytes) (known_bytes old)
+
+-- a file that is made by its name, holds the bytes, and is closed again
+pub record PutsFile (old new : FilesState) (name bytes : List ℕ) (result : Result Unit MakeEnd) : Type 0 where
+  pub writing : Counts (make_failed result) old.writing new.writing
+  pub reading : new.reading ≡ old.reading
+  pub ok : OnOk result (Holds old new name bytes)
+  pub err : OnErr result ((known_bytes new ≡ known_bytes old) ⊎ ((n : ℕ) × (n ≤ length bytes) × Holds old new name (take n bytes)))
   pub ids : KeepsIds old new
 
 pub record ShowsWhole (old new : SinkState) (bytes : List ℕ) (result : Result Unit MakeEnd) : Type 0 where

@@ -1,6 +1,6 @@
 use crate::{
     Failed, FileEnd, Files, MakeEnd, MemFiles, MemSink, OpenEnd, RealFiles, Sink, StdSink,
-    put_whole, read_file, read_whole, show_whole,
+    put_file, put_whole, read_file, read_whole, show_whole,
 };
 use std::alloc::{AllocError, Global};
 use std::test::Fail;
@@ -191,6 +191,36 @@ fn puts_bytes_in_short_writes(rt: HostRuntime) -> Result<(), Fail> {
             true,
             "call {failing} fails"
         );
+    }
+    Ok(())
+}
+
+#[test]
+fn puts_a_file_by_its_name(rt: HostRuntime) -> Result<(), Fail> {
+    let alloc = rt.alloc();
+    // The name, the bytes, the call that fails, how it ends, and what A and B hold then.
+    const CASES: [(&str, &[u8], u64, Option<MakeEnd>, &[u8], Option<&[u8]>); 7] = [
+        ("B", b"text", 0, None, b"hello", Some(b"text")),
+        ("A", b"hi", 0, None, b"hi", None),
+        ("A", b"", 0, None, b"", None),
+        ("A", b"hi", 1, Some(MakeEnd::Failed), b"hello", None),
+        ("A", b"hi", 2, Some(MakeEnd::Failed), b"", None),
+        ("B", b"hi", 3, Some(MakeEnd::Failed), b"hello", Some(b"hi")),
+        ("B", b"hi", 4, None, b"hello", Some(b"hi")),
+    ];
+    for (name, bytes, failing, end, first, second) in CASES {
+        let mut files = one_file(alloc, &[failing])?;
+        assert_eq!(rt;
+            put_file(&mut files, name, bytes).err(),
+            end,
+            "call {failing} fails"
+        );
+        assert_eq!(rt;
+            files.bytes("A") == Some(first),
+            true,
+            "call {failing} fails"
+        );
+        assert_eq!(rt; files.bytes("B") == second, true, "call {failing} fails");
     }
     Ok(())
 }

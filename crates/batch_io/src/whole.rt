@@ -1,7 +1,7 @@
 //! Whole files and whole texts.
 ghost use Rattle.std.specs.Prelude.{◌≡◌, ℕ, ◌-◌, ◌^◌, ◌<◌, Some};
 ghost use Rattle.batch_io.specs.FilesState.{Reading, Writing};
-ghost use Rattle.batch_io.specs.Wholes.{ReadsWhole, ReadsToClose, ReadsFile, PutsWhole, ShowsWhole, end_after};
+ghost use Rattle.batch_io.specs.Wholes.{ReadsWhole, ReadsToClose, ReadsFile, PutsWhole, PutsToClose, PutsFile, ShowsWhole, end_after};
 
 use crate::ends::{Failed, FileEnd, MakeEnd, OpenEnd, ReadEnd};
 use crate::outside::{Files, Sink};
@@ -105,4 +105,25 @@ pub fn read_file<F: Files>(
         Err(OpenEnd::Memory) => return Err(FileEnd::Memory),
     };
     read_and_close(alloc, files, id, limit)
+}
+
+// Writes all of `bytes` to the end of the id's file, and closes it.
+fn put_and_close<F: Files>(files: &mut F, id: u32, bytes: &[u8]) -> Result<(), MakeEnd>
+    requires created { (F.state files.old).purpose id ≡ Some Writing }
+    ensures { PutsToClose (F.state files.old) (F.state files.new) id bytes.now result }
+{
+    let put = put_whole(files, id, bytes);
+    match files.close(id) {
+        Ok(()) => put,
+        Err(Failed) => Err(MakeEnd::Failed),
+    }
+}
+
+/// Makes the file of this name with exactly these bytes, whatever it held before, and closes it. Where that is
+/// refused, the file holds what it held, or a prefix of the bytes.
+pub fn put_file<F: Files>(files: &mut F, name: &str, bytes: &[u8]) -> Result<(), MakeEnd>
+    ensures { PutsFile (F.state files.old) (F.state files.new) name.now bytes.now result }
+{
+    let id = files.create(name)?;
+    put_and_close(files, id, bytes)
 }
