@@ -2,3 +2,4 @@ pub mod Views
 pub mod Becoming
 pub mod Needs
 pub mod Calling
+pub mod Doing
