@@ -1,3 +1,4 @@
-pub mod TextLemmas
-pub mod NumberLemmas
+pub mod ContentLemmas
 pub mod FileLemmas
+pub mod NumberLemmas
+pub mod TextLemmas

@@ -35,7 +35,6 @@ module _ (s : List ℕ) (from count at wanted kept : ℕ) (is : kept ≡ min cou
   whole_long : length whole_part ≡ wanted
   whole_long = omega (arith, length-append (take kept (drop from s)) (replicate (wanted - kept) 32), kept_long, length-replicate {A = ℕ} (wanted - kept) 32)
 
-
   -- a part of storage that is copied to another place, and spaces behind it
   pub copied : (t zs : List ℕ) → at + wanted ≤ length s → t ≡ paste s at (drop from s) (from + kept - from) → zs ≡ replicate (wanted - kept) 32 →
       put_mid (at + kept) (at + wanted - (at + kept)) t zs ≡ written s at (fitted wanted (area s from count))
@@ -45,14 +44,14 @@ module _ (s : List ℕ) (from count at wanted kept : ℕ) (is : kept ≡ min cou
       let as_ : t ≡ head ++ drop (at + kept) s = after ∙ ap (λ n. take at s ++ take n (drop from s) ++ drop (at + n) s) (omega arith) in
       let many : length zs ≡ wanted - kept = ap length spaces ∙ length-replicate {A = ℕ} (wanted - kept) 32 in
       let rest : drop (at + kept + length zs) t ≡ drop (at + length whole_part) s =
-          sym (drop-drop (length zs) (at + kept) t)
-          ∙ (ap (λ xs. drop (length zs) (drop (at + kept) xs)) as_
-          ∙ (ap (drop (length zs)) (drop_at head (drop (at + kept) s) (at + kept) long)
-          ∙ (drop-drop (length zs) (at + kept) s ∙ ap (λ n. drop n s) (omega (arith, whole_long))))) in
+      sym (drop-drop (length zs) (at + kept) t)
+      ∙ (ap (λ xs. drop (length zs) (drop (at + kept) xs)) as_
+      ∙ (ap (drop (length zs)) (drop_at head (drop (at + kept) s) (at + kept) long)
+      ∙ (drop-drop (length zs) (at + kept) s ∙ ap (λ n. drop n s) (omega (arith, whole_long))))) in
       let begin : take (at + kept) t ++ zs ≡ take at s ++ whole_part =
-          ap (λ xs. take (at + kept) xs ++ zs) as_
-          ∙ (ap (λ xs. xs ++ zs) (take_at head (drop (at + kept) s) (at + kept) long)
-          ∙ (ap (λ xs. head ++ xs) spaces ∙ append_assoc (take at s) (take kept (drop from s)) (replicate (wanted - kept) 32))) in
+      ap (λ xs. take (at + kept) xs ++ zs) as_
+      ∙ (ap (λ xs. xs ++ zs) (take_at head (drop (at + kept) s) (at + kept) long)
+      ∙ (ap (λ xs. head ++ xs) spaces ∙ append_assoc (take at s) (take kept (drop from s)) (replicate (wanted - kept) 32))) in
       put_mid-written t zs (at + kept) (at + wanted - (at + kept)) (omega (arith, many))
       ∙ (ap (λ xs. xs ++ drop (at + kept + length zs) t) begin
       ∙ (ap (λ xs. take at s ++ whole_part ++ xs) rest

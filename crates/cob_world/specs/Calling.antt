@@ -20,10 +20,11 @@ called act at files = called_on act at files (slice_get files at)
 
 -- a file and storage behind a READ, and its status
 abbrev pub read_by : Layout → Choice → FileDecl → List ℕ → File → File × List ℕ × ℕ
-read_by l c d storage f =
-    ((after_read d.length f).file,
-    found_in l c d (after_read d.length f).found (with_status l d (after_read d.length f).status storage),
-    (after_read d.length f).status)
+read_by l c d storage f = (
+  (after_read d.length f).file,
+  found_in l c d (after_read d.length f).found (with_status l d (after_read d.length f).status storage),
+  (after_read d.length f).status,
+)
 
 -- the same of a WRITE
 abbrev pub written_by : Layout → Choice → FileDecl → ℕ → List ℕ → File → File × List ℕ × ℕ

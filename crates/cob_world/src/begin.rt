@@ -1,8 +1,8 @@
 //! What a run works on at its beginning.
-ghost use Rattle.std.specs.Prelude.{◌≡◌, [], map, IfOk};
+ghost use Rattle.std.specs.Prelude.{◌≡◌, ◌+◌, [], length, map, drop, IfOk};
 ghost use Rattle.std.specs.Option.{option_map};
 ghost use Rattle.cob_program.specs.ActView.{plain_program};
-ghost use Rattle.cob_runs.specs.Runs.{first_files, first_world};
+ghost use Rattle.cob_runs.specs.Runs.{content_at, first_files, first_world};
 ghost use Rattle.cob_items.specs.Sound.{HasSoundItems};
 
 use crate::files::File;
@@ -16,19 +16,31 @@ use std::alloc::{AllocError, Global};
 /// behind the last one there is nothing.
 pub type Contents = Vec<Option<Vec<u8>>>;
 
-// The closed files with their contents.
+// Takes away what is there of the file at a place.
+fn content_at(contents: &mut [Option<Vec<u8>>], at: usize) -> Option<Vec<u8>>
+    ensures value { option_map (λ v. v.items) result
+        ≡ content_at (map (option_map (λ v. v.items)) contents.old) at }
+    ensures rest { drop (at + 1) contents.new ≡ drop (at + 1) contents.old }
+{
+    if at < contents.len() {
+        contents[at].take()
+    } else {
+        None
+    }
+}
+
+// The closed files, to which the contents go.
 fn first_files(
     alloc: Global,
-    contents: Contents,
+    contents: &mut [Option<Vec<u8>>],
     decls: &[FileDecl],
 ) -> Result<Vec<File>, AllocError>
     ensures { IfOk result (λ files. files.items
-        ≡ first_files (map (option_map (λ v. v.items)) contents.items) 0 decls.now) }
+        ≡ first_files (map (option_map (λ v. v.items)) contents.old) 0 decls.now) }
 {
     let mut files = Vec::with_capacity(alloc, decls.len())?;
-    let mut contents = contents.into_iter();
-    for _ in decls {
-        files.push(File::closed(contents.next().flatten()))?;
+    for at in 0..decls.len() {
+        files.push(File::closed(content_at(contents, at)))?;
     }
     Ok(files)
 }
@@ -38,15 +50,20 @@ impl World {
     pub fn first(
         alloc: Global,
         program: &Program,
-        contents: Contents,
+        mut contents: Contents,
     ) -> Result<World, AllocError>
         requires { HasSoundItems program.now.layout }
-        ensures { IfOk result (λ w. w
+        ensures value { IfOk result (λ w. w
             ≡ first_world (plain_program program.now) (map (option_map (λ v. v.items)) contents.items) []) }
+        ensures whole { IfOk result (λ w. length w.storage ≡ program.now.layout.storage) }
     {
         let storage = start(alloc, program)?;
+        // It is as long as the layout says, which its clause doesn't tell.
+        if storage.as_slice().len() != program.layout.storage as usize {
+            return Err(AllocError);
+        }
         let counts = vec![in alloc; None; program.statements as usize]?;
-        let files = first_files(alloc, contents, program.layout.files.get())?;
+        let files = first_files(alloc, contents.as_mut_slice(), program.layout.files.get())?;
         Ok(World {
             storage,
             counts,

@@ -59,7 +59,11 @@ impl World {
     pub fn count_of(&self, layout: &Layout, statement: u32) -> Option<i64>
         ensures { result ≡ count_of layout.now statement self.now }
     {
-        match self.counts.as_slice().get(statement.saturating_sub(1) as usize) {
+        match self
+            .counts
+            .as_slice()
+            .get(statement.saturating_sub(1) as usize)
+        {
             None => None,
             Some(count) => *count,
         }
@@ -140,7 +144,13 @@ impl World {
         ensures value { BecomesBy (put layout.now item value self.old) result self.old self.new }
         ensures kept { length self.new.storage ≡ length self.old.storage }
     {
-        if store_at(layout, self.storage.as_mut_slice(), item, value, Mode::Trunc) {
+        if store_at(
+            layout,
+            self.storage.as_mut_slice(),
+            item,
+            value,
+            Mode::Trunc,
+        ) {
             Ok(())
         } else {
             Err(Kind::Size)

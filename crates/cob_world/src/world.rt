@@ -36,10 +36,11 @@ impl Model for World {
     ghost Value = { World };
 
     ghost view = { λ w. record {
-        storage = w.storage.items;
-        counts = w.counts.items;
-        files = w.files.items;
-        shown = w.shown.items } };
+      storage = w.storage.items;
+      counts = w.counts.items;
+      files = w.files.items;
+      shown = w.shown.items;
+    } };
 }
 
 impl World {
@@ -151,7 +152,7 @@ impl World {
         requires can { CanCompute layout.now (plain_sum common.now) targets.now remainder }
         ensures value { MatchResult result
             (λ failed. compute layout.now phrase (plain_sum common.now) targets.now remainder self.old
-                ≡ Ok (self.new, failed))
+            ≡ Ok (self.new, failed))
             (λ kind. compute layout.now phrase (plain_sum common.now) targets.now remainder self.old ≡ Err kind) }
         ensures others { self.new ≡ with_storage self.old self.new.storage }
         ensures kept { length self.new.storage ≡ length self.old.storage }
@@ -182,9 +183,9 @@ impl World {
         requires can { CanCompute layout.now (plain_sum common.now) targets.now remainder }
         ensures value { MatchResult result
             (λ failed. compute layout.now phrase (plain_sum common.now) targets.now remainder self.old
-                ≡ Ok (self.new, failed))
+            ≡ Ok (self.new, failed))
             (λ end. Leaves (compute layout.now phrase (plain_sum common.now) targets.now remainder self.old)
-                end self.old self.new) }
+            end self.old self.new) }
         ensures kept { length self.new.storage ≡ length self.old.storage }
     {
         let storage = Vec::from_slice(alloc, self.storage.as_slice())?;
