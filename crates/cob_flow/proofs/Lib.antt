@@ -6,6 +6,7 @@ mod FlowLemmas
 mod Growth
 mod Heads
 mod LayLemmas
+mod LimitLemmas
 mod ListLemmas
 mod Loops
 mod PlaceLemmas

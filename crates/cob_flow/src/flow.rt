@@ -1,5 +1,5 @@
 //! The graph of a program.
-ghost use Rattle.std.specs.Prelude.{◌≡◌, ◌≤◌, ◌-◌, ℕ, length, map, true, IfOk};
+ghost use Rattle.std.specs.Prelude.{◌≡◌, ◌≤◌, ◌⊎◌, ◌-◌, ℕ, length, map, true, IfOk};
 ghost use Rattle.cob_data.specs.declared.end.Which.{Which};
 ghost use Rattle.cob_data.specs.declared.end.Rule.{Rule};
 ghost use Rattle.cob_program.specs.ActView.{plain_program};
@@ -133,10 +133,8 @@ fn count_paras(program: &Program) -> Result<u32, AllocError>
     }
 }
 
-/// The control graph of a program whose PERFORMs nest, where its cells and nodes are within the limits. A GO TO to no
-/// paragraph at all counts as want of memory, and so do calls that would be nested too deep for the stack.
-pub fn graph_of(alloc: Global, program: &Program) -> Result<Graph, FlowEnd>
-    requires { IsNested (plain_program program.now) }
+/// The graph where its cells and nodes are within the limits, or else a limit that it is over.
+fn graph_or_limit(alloc: Global, program: &Program) -> Result<Graph, FlowEnd>
     ensures graph { IfOk result (λ g. IsGraph (plain_program program.now) g) }
     ensures within { IfOk result (λ g. IsWithinLimits g) }
     ensures limit { (which : Which) (count : ℕ) → result ≡ Err (end.Limit which count) →
@@ -157,4 +155,19 @@ pub fn graph_of(alloc: Global, program: &Program) -> Result<Graph, FlowEnd>
         return Err(FlowEnd::Memory);
     };
     laid(alloc, program, cells, paras)
+}
+
+/// The control graph of a program whose PERFORMs nest, where its cells and nodes are within the limits. A GO TO to no
+/// paragraph at all counts as want of memory, and so do calls that would be nested too deep for the stack.
+pub fn graph_of(alloc: Global, program: &Program) -> Result<Graph, FlowEnd>
+    requires { IsNested (plain_program program.now) }
+    ensures graph { IfOk result (λ g. IsGraph (plain_program program.now) g) }
+    ensures within { IfOk result (λ g. IsWithinLimits g) }
+    ensures limit { (which : Which) (count : ℕ) → result ≡ Err (end.Limit which count) →
+        IsOver (plain_program program.now) which count }
+    ensures exact { (which : Which) (count : ℕ) → IsOver (plain_program program.now) which count
+        → (result ≡ Err (end.Limit which count)) ⊎ (result ≡ Err end.Memory) }
+    ensures inside { (rule : Rule) (line : ℕ) → result ≡ Err (end.Outside rule line) → ⊥ }
+{
+    graph_or_limit(alloc, program)
 }

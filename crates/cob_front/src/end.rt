@@ -1,7 +1,4 @@
-use cob_data::{DataEnd, Rule, Which};
-use cob_parse_expr::ParseEnd;
-use cob_scan::ScanEnd;
-use cob_typed::TypedEnd;
+use cob_data::{Rule, Which};
 
 /// Why a source is no program.
 #[derive(Clone, Copy, Debug, PartialEq, Eq)]

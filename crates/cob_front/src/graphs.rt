@@ -1,8 +1,10 @@
 ghost use Rattle.std.specs.Prelude.{◌≡◌, ℕ, Err};
 ghost use Rattle.cob_data.specs.declared.end.Rule.{Rule};
+ghost use Rattle.cob_data.specs.declared.end.Which.{Which};
 ghost use Rattle.cob_program.specs.ActView.{plain_program};
 ghost use Rattle.cob_graph.specs.Nesting.{IsNested, IsOutside};
-ghost use Rattle.cob_graph.specs.Graphs.{IsGraph};
+ghost use Rattle.cob_graph.specs.Graphs.{IsGraph, IsOver};
+ghost use Rattle.cob_front.specs.declared.end.FrontEnd.{FrontEnd as End};
 ghost use Rattle.cob_front.specs.declared.end.FrontEnd.TheVariants as front;
 ghost use Rattle.cob_front.specs.Source.{Answers, IsRefused};
 ghost use Rattle.cob_front.specs.Control.{IsControlCause};
@@ -17,6 +19,8 @@ fn laid_out(alloc: Global, program: &Program) -> Result<Graph, FrontEnd>
     requires { IsNested (plain_program program.now) }
     ensures answer { Answers (IsGraph (plain_program program.now)) (IsControlCause (plain_program program.now)) result }
     ensures inside { (rule : Rule) (line : ℕ) → result ≡ Err (front.Outside rule line) → ⊥ }
+    ensures limits { (which : Which) (count : ℕ) → IsOver (plain_program program.now) which count
+        → IsRefused result (front.Limit which count) }
 {
     match graph_of(alloc, program) {
         Ok(graph) => Ok(graph),
@@ -29,7 +33,9 @@ fn laid_out(alloc: Global, program: &Program) -> Result<Graph, FrontEnd>
 /// line; or else the count of cells, or of nodes, that exceeds its limit.
 pub fn graph_in(alloc: Global, program: &Program) -> Result<Graph, FrontEnd>
     ensures answer { Answers (IsGraph (plain_program program.now)) (IsControlCause (plain_program program.now)) result }
-    ensures outside { (rule : Rule) (line : ℕ) → IsOutside (plain_program program.now) rule line → IsRefused result (front.Outside rule line) }
+    ensures outside { (rule : Rule) (line : ℕ) → IsOutside (plain_program program.now) rule line
+        → IsRefused result (front.Outside rule line) }
+    ensures refused { (end : End) → IsControlCause (plain_program program.now) end → IsRefused result end }
 {
     match nested(alloc, program) {
         Ok(()) => laid_out(alloc, program),
