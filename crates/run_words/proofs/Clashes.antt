@@ -30,7 +30,7 @@ clash_refused words files file end e h = refused (unless_clash words files (clas
 -- ---- a file that doesn't
 
 module _ (words : List (List ℕ)) (files : List FileDecl) (i : ℕ) (file : FileDecl) (paths new : List (String Global)) (path : String Global)
-  (within : i < length files) (is : file ≡ get_or files i file) (text : string_bytes path ≡ path_of words file) (push : new ≡ paths ++ path ∷ []) where
+    (within : i < length files) (is : file ≡ get_or files i file) (text : string_bytes path ≡ path_of words file) (push : new ≡ paths ++ path ∷ []) where
   pushed : texts new ≡ texts paths ++ path_of words file ∷ []
   pushed = ap texts push ∙ map-append string_bytes paths (path ∷ []) ∙ ap (λ (t : List ℕ). texts paths ++ t ∷ []) text
 
@@ -44,7 +44,7 @@ module _ (words : List (List ℕ)) (files : List FileDecl) (i : ℕ) (file : Fil
   pub clash_more : stands_in (texts paths) (path_of words file) ≡ false → clash words (texts paths) (drop i files) ≡ clash words [] files → clash words (texts new) (drop (i + 1) files) ≡ clash words [] files
   clash_more new_path so_far =
       let further : clash words (texts paths) (file ∷ drop (i + 1) files) ≡ clash words (texts paths ++ path_of words file ∷ []) (drop (i + 1) files) =
-          ap (λ (b : Bool). cond b (Some file) (clash words (texts paths ++ path_of words file ∷ []) (drop (i + 1) files))) new_path in
+      ap (λ (b : Bool). cond b (Some file) (clash words (texts paths ++ path_of words file ∷ []) (drop (i + 1) files))) new_path in
       let split : drop i files ≡ file ∷ drop (i + 1) files = drop_more files i file within ∙ ap (λ (f : FileDecl). f ∷ drop (i + 1) files) (sym is) in
       ap (λ (ps : List (List ℕ)). clash words ps (drop (i + 1) files)) pushed ∙ sym further ∙ ap (clash words (texts paths)) (sym split) ∙ so_far
 
@@ -70,18 +70,21 @@ new_first : (earlier : List (List ℕ)) (path : List ℕ) (paths : List (List �
 new_first earlier path paths e are other (zero, within, at) there = let first : stands_in earlier other ≡ false = subst (λ (p : List ℕ). stands_in earlier p ≡ false) at e in absurd cc
 new_first earlier path paths e are other (suc k, within, at) there = are other (k, omega arith, at) (stands_more earlier path other there)
 
+-- what is known of a file where it doesn't clash
+by_place : (words earlier : List (List ℕ)) (file : FileDecl) (files : List FileDecl) (b : Bool) → stands_in earlier (path_of words file) ≡ b → cond b (Some file) (clash words (earlier ++ path_of words file ∷ []) files) ≡ None →
+    (clash words (earlier ++ path_of words file ∷ []) files ≡ None → AreNew (earlier ++ path_of words file ∷ []) (map (path_of words) files) × AreDistinct (map (path_of words) files)) →
+    AreNew earlier (path_of words file ∷ map (path_of words) files) × AreDistinct (path_of words file ∷ map (path_of words) files)
+by_place words earlier file files true there found behind = absurd cc
+by_place words earlier file files false there none behind =
+    let rest = behind none in (
+      new_first earlier (path_of words file) (map (path_of words) files) there rest.0,
+      (λ h. rest.0 (path_of words file) h (stands_last earlier (path_of words file)), rest.1),
+    )
+
 no_clash : (words earlier : List (List ℕ)) (files : List FileDecl) → clash words earlier files ≡ None → AreNew earlier (map (path_of words) files) × AreDistinct (map (path_of words) files)
 no_clash words earlier [] e = (λ path h there. absurd (omega (arith, h.1)), tt)
-no_clash words earlier (file ∷ files) e = by_place (stands_in earlier (path_of words file)) refl e where
-  by_place : (b : Bool) → stands_in earlier (path_of words file) ≡ b → cond b (Some file) (clash words (earlier ++ path_of words file ∷ []) files) ≡ None →
-      AreNew earlier (path_of words file ∷ map (path_of words) files) × AreDistinct (path_of words file ∷ map (path_of words) files)
-  by_place true there found = absurd cc
-  by_place false there none =
-      let rest = no_clash words (earlier ++ path_of words file ∷ []) files none in
-      (
-        new_first earlier (path_of words file) (map (path_of words) files) there rest.0,
-        (λ h. rest.0 (path_of words file) h (stands_last earlier (path_of words file)), rest.1)
-      )
+no_clash words earlier (file ∷ files) e =
+    by_place words earlier file files (stands_in earlier (path_of words file)) refl e (λ none. no_clash words (earlier ++ path_of words file ∷ []) files none)
 
 pub are_distinct : (words : List (List ℕ)) (files : List FileDecl) (found : Option FileDecl) (r : Result (Vec (String Global) Global) PathsEnd) → clash words [] files ≡ found → AnswersPaths (unless_clash words files found) r →
     IfOk r (λ paths. AreDistinct (texts paths.items))

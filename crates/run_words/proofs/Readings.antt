@@ -1,12 +1,12 @@
 -- What words say, with `--steps N` and without.
 use Rattle.std.proofs.Common.{◌≡◌, ℕ, ◌+◌, ◌-◌, ◌<◌, ◌≤◌, Bool, true, false, MatchBool, List, [], ◌∷◌, ◌++◌, append-nil, length, get_or, take, drop, refl, sym, ap, subst, ◌∙◌, inl, inr, arith, Option, None, Some, Result, Ok, Err, IfOk, String, Global, string_bytes}
-use Rattle.std.proofs.lemmas.List.{drop_all}
+use Rattle.std.proofs.lemmas.List.{drop_all, take_rest}
 use Rattle.std.specs.List.{AllByRecursion}
 use Rattle.std.specs.Str.Parse.{digits_value}
 use Rattle.run_words.specs.declared.words.RunWords.{RunWords}
 use Rattle.run_words.specs.Words.{Run, IsPlain, ArePlain, IsCount, IsRun, IsWithoutSteps, IsWithSteps, Answers, command_word, steps_word, usual_steps, plain_words, plain_run, texts}
 use Rattle.run_words.specs.Steps.{IsOther, LackSteps, StandsFirst, IsSaid}
-use Rattle.run_words.proofs.Places.{all_front, all_back, texts_split, texts_from}
+use Rattle.run_words.proofs.Places.{all_front, all_back, texts_from}
 
 tail_same : (x y : List ℕ) (xs ys : List (List ℕ)) → x ∷ xs ≡ y ∷ ys → xs ≡ ys
 tail_same x y xs ys e = cc
@@ -45,13 +45,13 @@ run_alone words r said = record {
 
 pub alone_run : (words : List (List ℕ)) (r : Run) → LackSteps words → IsRun (command_word ∷ words) r → IsSaid words usual_steps r
 alone_run words r lack run = elim run.form [
-    inl alone ↦
-        let same : words ≡ plain_words r = tail_same command_word command_word words (plain_words r) alone.0 in
-        record { all_plain = subst ArePlain (sym same) run.plain; words_are = same; steps_are = alone.1 }
+  | inl alone ↦
+      let same : words ≡ plain_words r = tail_same command_word command_word words (plain_words r) alone.0 in
+      record { all_plain = subst ArePlain (sym same) run.plain; words_are = same; steps_are = alone.1 }
   | inr given ↦
-        let same : words ≡ given.before ++ (steps_word ∷ given.count ∷ given.after) = tail_same command_word command_word words (given.before ++ (steps_word ∷ given.count ∷ given.after)) given.words_are in
-        absurd (lack_there given.before (given.count ∷ given.after) (subst LackSteps same lack))
-  ]
+      let same : words ≡ given.before ++ (steps_word ∷ given.count ∷ given.after) = tail_same command_word command_word words (given.before ++ (steps_word ∷ given.count ∷ given.after)) given.words_are in
+      absurd (lack_there given.before (given.count ∷ given.after) (subst LackSteps same lack))
+]
 
 -- ---- words with `--steps N`
 
@@ -65,21 +65,21 @@ record Behind (front rest : List (List ℕ)) (r : Run) : Type 0 where
 
 behind : (front rest : List (List ℕ)) (r : Run) → LackSteps front → IsRun (command_word ∷ (front ++ (steps_word ∷ rest))) r → Behind front rest r
 behind front rest r lack run = elim run.form [
-    inl alone ↦
-        let same : front ++ (steps_word ∷ rest) ≡ plain_words r = tail_same command_word command_word (front ++ (steps_word ∷ rest)) (plain_words r) alone.0 in
-        absurd (lack_there front rest (subst LackSteps (sym same) (plain_lack (plain_words r) run.plain)))
+  | inl alone ↦
+      let same : front ++ (steps_word ∷ rest) ≡ plain_words r = tail_same command_word command_word (front ++ (steps_word ∷ rest)) (plain_words r) alone.0 in
+      absurd (lack_there front rest (subst LackSteps (sym same) (plain_lack (plain_words r) run.plain)))
   | inr given ↦
-        let before_lack : LackSteps given.before = all_front IsOther given.before given.after (subst LackSteps (sym given.plain_are) (plain_lack (plain_words r) run.plain)) in
-        let whole = tail_same command_word command_word (front ++ (steps_word ∷ rest)) (given.before ++ (steps_word ∷ given.count ∷ given.after)) given.words_are in
-        let same = split_same steps_word front rest given.before (given.count ∷ given.after) lack before_lack whole in
-        record {
-          count = given.count;
-          after = given.after;
-          rest_is = same.1;
-          plain_are = ap (λ (ws : List (List ℕ)). ws ++ given.after) same.0 ∙ given.plain_are;
-          is_count = given.is_count;
-        }
-  ]
+      let before_lack : LackSteps given.before = all_front IsOther given.before given.after (subst LackSteps (sym given.plain_are) (plain_lack (plain_words r) run.plain)) in
+      let whole = tail_same command_word command_word (front ++ (steps_word ∷ rest)) (given.before ++ (steps_word ∷ given.count ∷ given.after)) given.words_are in
+      let same = split_same steps_word front rest given.before (given.count ∷ given.after) lack before_lack whole in
+      record {
+        count = given.count;
+        after = given.after;
+        rest_is = same.1;
+        plain_are = ap (λ (ws : List (List ℕ)). ws ++ given.after) same.0 ∙ given.plain_are;
+        is_count = given.is_count;
+      }
+]
 
 pub run_with : (front after : List (List ℕ)) (count : List ℕ) (steps : ℕ) (r : Run) → IsCount count steps → IsSaid (front ++ after) steps r → IsRun (command_word ∷ (front ++ (steps_word ∷ count ∷ after))) r
 run_with front after count steps r is_count said = record {
@@ -114,22 +114,22 @@ same_run a b e k =
     let s : a.source ≡ b.source = cc in
     let ns : a.names ≡ b.names = cc in
     made s k ns where
-  build : List ℕ → ℕ → List (List ℕ) → Run
-  build source steps names = record { source = source; steps = steps; names = names }
+      build : List ℕ → ℕ → List (List ℕ) → Run
+      build source steps names = record { source = source; steps = steps; names = names }
 
-  made : a.source ≡ b.source → a.steps ≡ b.steps → a.names ≡ b.names → a ≡ b
-  made s k ns = ap (λ (x : List ℕ). build x a.steps a.names) s ∙ ap (λ (n : ℕ). build b.source n a.names) k ∙ ap (λ (x : List (List ℕ)). build b.source b.steps x) ns
+      made : a.source ≡ b.source → a.steps ≡ b.steps → a.names ≡ b.names → a ≡ b
+      made s k ns = ap (λ (x : List ℕ). build x a.steps a.names) s ∙ ap (λ (n : ℕ). build b.source n a.names) k ∙ ap (λ (x : List (List ℕ)). build b.source b.steps x) ns
 
 pub one_reading : (words : List (List ℕ)) (a b : Run) → IsRun words a → IsRun words b → a ≡ b
 one_reading words a b as_a as_b = elim as_a.form [
-    inl alone ↦
-        let said = alone_run (plain_words a) b (plain_lack (plain_words a) as_a.plain) (subst (λ (ws : List (List ℕ)). IsRun ws b) alone.0 as_b) in
-        same_run a b said.words_are (alone.1 ∙ sym said.steps_are)
+  | inl alone ↦
+      let said = alone_run (plain_words a) b (plain_lack (plain_words a) as_a.plain) (subst (λ (ws : List (List ℕ)). IsRun ws b) alone.0 as_b) in
+      same_run a b said.words_are (alone.1 ∙ sym said.steps_are)
   | inr given ↦
-        let lack : LackSteps given.before = all_front IsOther given.before given.after (subst LackSteps (sym given.plain_are) (plain_lack (plain_words a) as_a.plain)) in
-        let said = with_run given.before given.after given.count a.steps b lack given.is_count (subst (λ (ws : List (List ℕ)). IsRun ws b) given.words_are as_b) in
-        same_run a b (sym given.plain_are ∙ said.words_are) (sym said.steps_are)
-  ]
+      let lack : LackSteps given.before = all_front IsOther given.before given.after (subst LackSteps (sym given.plain_are) (plain_lack (plain_words a) as_a.plain)) in
+      let said = with_run given.before given.after given.count a.steps b lack given.is_count (subst (λ (ws : List (List ℕ)). IsRun ws b) given.words_are as_b) in
+      same_run a b (sym given.plain_are ∙ said.words_are) (sym said.steps_are)
+]
 
 -- ---- what is answered
 
@@ -185,32 +185,19 @@ module _ (words : List (String Global)) (place : ℕ) (first : StandsFirst words
 
 -- ---- the command's word
 
-run_starts : (words : List (List ℕ)) (r : Run) → IsRun words r → (rest : List (List ℕ)) × (words ≡ command_word ∷ rest)
-run_starts words r run = elim run.form [
-    inl alone ↦ (plain_words r, alone.0)
-  | inr given ↦ (given.before ++ (steps_word ∷ given.count ∷ given.after), given.words_are)
-  ]
-
-pub no_words : (words : List (String Global)) → length words ≡ 0 → (r : Run) → IsRun (texts words) r → ⊥
-no_words [] e r run = let starts = run_starts [] r run in let nothing : [] ≡ command_word ∷ starts.0 = starts.1 in absurd cc
-no_words (word ∷ words) e r run = absurd (omega arith)
-
-pub command_first : (words : List (String Global)) (word : String Global) (text : List ℕ) → 0 < length words → word ≡ get_or words 0 word → text ≡ string_bytes word → texts words ≡ text ∷ texts (drop 1 words)
-command_first words word text within is e = texts_from words 0 word text within is e
-
-pub no_command : (words : List (String Global)) (word : String Global) (text : List ℕ) → 0 < length words → word ≡ get_or words 0 word → text ≡ string_bytes word → (text ≡ command_word → ⊥) → (r : Run) → IsRun (texts words) r → ⊥
-no_command words word text within is e other r run =
-    let starts = run_starts (texts words) r run in
-    let both : text ∷ texts (drop 1 words) ≡ command_word ∷ starts.0 = sym (command_first words word text within is e) ∙ starts.1 in
-    let same : text ≡ command_word = cc in
-    other same
+pub command_first : (words : List (String Global)) (word : String Global) (text : List ℕ) → 0 < length words → word ≡ get_or words 0 word → text ≡ string_bytes word → text ≡ command_word →
+    texts words ≡ command_word ∷ texts (take (length words - 1) (drop 1 words))
+command_first words word text within is e command =
+    texts_from words 0 word text within is e
+    ∙ ap (λ (ws : List (String Global)). text ∷ texts ws) (sym (take_rest words 1))
+    ∙ ap (λ (w : List ℕ). w ∷ texts (take (length words - 1) (drop 1 words))) command
 
 -- ---- plain words in two rows
 
-pub not_said : {X : Type 0} (b : Bool) (before after : List (List ℕ)) (steps : ℕ) → b ≡ false → MatchBool b X (ArePlain after → ⊥) → (r : Run) → IsSaid (before ++ after) steps r → ⊥
-not_said false before after steps e h r said = h (all_back IsPlain before after said.all_plain)
-not_said true before after steps e h r said = absurd cc
+pub not_said : (X : Type 0) (b : Bool) (before after : List (List ℕ)) (steps : ℕ) → b ≡ false → MatchBool b X (ArePlain after → ⊥) → (r : Run) → IsSaid (before ++ after) steps r → ⊥
+not_said X false before after steps e h r said = h (all_back IsPlain before after said.all_plain)
+not_said X true before after steps e h r said = absurd cc
 
 -- no word stands behind the last
-pub with_none : (words : List (String Global)) (n : ℕ) → length words ≤ n → texts words ++ texts (drop n words) ≡ texts words
-with_none words n past = ap (λ (ws : List (String Global)). texts words ++ texts ws) (drop_all n words past) ∙ append-nil (texts words)
+pub with_none : (words : List (String Global)) (n : ℕ) → length words ≤ n → texts words ++ texts (take (length words - n) (drop n words)) ≡ texts words
+with_none words n past = ap (λ (ws : List (String Global)). texts words ++ texts ws) (take_rest words n ∙ drop_all n words past) ∙ append-nil (texts words)

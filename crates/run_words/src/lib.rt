@@ -3,6 +3,8 @@
 
 mod named;
 mod paths;
+#[cfg(test)]
+mod tests;
 mod words;
 
 pub use paths::{PathsEnd, paths_of};

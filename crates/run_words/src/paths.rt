@@ -94,7 +94,11 @@ fn stands_in(paths: &[String], path: &str) -> bool
 }
 
 // The paths of the files, unless two are equal.
-fn distinct_paths(alloc: Global, files: &[FileDecl], words: &[&str]) -> Result<Vec<String>, PathsEnd>
+fn distinct_paths(
+    alloc: Global,
+    files: &[FileDecl],
+    words: &[&str],
+) -> Result<Vec<String>, PathsEnd>
     ensures { AnswersPaths (unless_clash (lent_texts words.now) files.now (clash (lent_texts words.now) [] files.now)) result }
 {
     let mut paths = Vec::new(alloc);

@@ -133,10 +133,7 @@ fn behind_command<'a>(
 }
 
 /// What the words say, the command `run` first. None where they aren't of its form.
-pub fn run_words<'a>(
-    alloc: Global,
-    words: &'a [String],
-) -> Result<Option<RunWords<'a>>, AllocError>
+pub fn run_words<'a>(alloc: Global, words: &'a [String]) -> Result<Option<RunWords<'a>>, AllocError>
     ensures { IfOk result (Answers (IsRun (texts words.now))) }
 {
     if words.is_empty() {
