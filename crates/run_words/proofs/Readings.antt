@@ -4,7 +4,7 @@ use Rattle.std.proofs.lemmas.List.{drop_all, take_rest}
 use Rattle.std.specs.List.{AllByRecursion}
 use Rattle.std.specs.Str.Parse.{digits_value}
 use Rattle.run_words.specs.declared.words.RunWords.{RunWords}
-use Rattle.run_words.specs.Words.{Run, IsPlain, ArePlain, IsCount, IsRun, IsWithoutSteps, IsWithSteps, Answers, command_word, steps_word, usual_steps, plain_words, plain_run, texts}
+use Rattle.run_words.specs.Words.{Run, IsPlain, ArePlain, IsCount, IsRun, Answers, command_word, steps_word, usual_steps, plain_words, plain_run, texts}
 use Rattle.run_words.specs.Steps.{IsOther, LackSteps, StandsFirst, IsSaid}
 use Rattle.run_words.proofs.Places.{all_front, all_back, texts_from}
 

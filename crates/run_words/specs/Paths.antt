@@ -1,5 +1,5 @@
 -- The paths of files, by words `NAME=PATH`. A NAME is compared with external names without regard to capitals.
-use Rattle.std.specs.Prelude.{◌≡◌, ℕ, Bool, true, false, not, ◌||◌, nat_lt, ◌==◌, if◌then◌else◌, List, [], ◌∷◌, ◌++◌, map, length, Contains, find, Option, None, Some, is_none, unwrap_or, Result, Ok, Err, Vec, String, string_bytes}
+use Rattle.std.specs.Prelude.{◌≡◌, ℕ, Bool, true, false, ◌||◌, nat_lt, ◌==◌, if◌then◌else◌, List, [], ◌∷◌, ◌++◌, map, length, Contains, find, Option, None, Some, is_none, unwrap_or, Result, Ok, Err, Vec, String, string_bytes}
 use Rattle.std.specs.declared.alloc.Global.{Global}
 use Rattle.std.specs.List.{list_any, position_or_len, before_first, after_first}
 use Rattle.std.specs.Str.{str_eq_ignore_ascii_case}
@@ -27,14 +27,14 @@ abbrev pub has_name : List ℕ → Option (List ℕ × List ℕ) → Bool
 has_name name None = false
 has_name name (Some parts) = str_eq_ignore_ascii_case parts.0 name
 
--- the word gives a path to this name
-abbrev pub names : List ℕ → List ℕ → Bool
-names name word = has_name name (split_at_equals word)
+-- the word has this NAME
+abbrev pub is_named_by : List ℕ → List ℕ → Bool
+is_named_by name word = has_name name (split_at_equals word)
 
 -- a word is refused that has no equals sign, whose NAME is no file's, or whose NAME an earlier word has
 abbrev pub refuses_parts : List FileDecl → List (List ℕ) → Option (List ℕ × List ℕ) → Bool
 refuses_parts files earlier None = true
-refuses_parts files earlier (Some parts) = is_none (file_named parts.0 files) || list_any (names parts.0) earlier
+refuses_parts files earlier (Some parts) = is_none (file_named parts.0 files) || list_any (is_named_by parts.0) earlier
 
 abbrev pub is_refused : List FileDecl → List (List ℕ) → List ℕ → Bool
 is_refused files earlier word = refuses_parts files earlier (split_at_equals word)
@@ -47,18 +47,19 @@ first_refused files earlier (word ∷ words) =
 
 -- ---- paths
 
+-- the path in a word, and else this name
+abbrev pub path_in : List ℕ → Option (List ℕ × List ℕ) → List ℕ
+path_in external None = external
+path_in external (Some parts) = parts.1
+
+abbrev pub given_or : List ℕ → Option (List ℕ) → List ℕ
+given_or external None = external
+given_or external (Some word) = path_in external (split_at_equals word)
+
 module _ (words : List (List ℕ)) where
   -- the word that gives the file's path
   abbrev pub word_of : FileDecl → Option (List ℕ)
-  word_of file = find (names file.external) words
-
-  abbrev pub path_in : List ℕ → Option (List ℕ × List ℕ) → List ℕ
-  path_in external None = external
-  path_in external (Some parts) = parts.1
-
-  abbrev pub given_or : List ℕ → Option (List ℕ) → List ℕ
-  given_or external None = external
-  given_or external (Some word) = path_in external (split_at_equals word)
+  word_of file = find (is_named_by file.external) words
 
   -- the path that a word gives, or else the external name
   abbrev pub path_of : FileDecl → List ℕ

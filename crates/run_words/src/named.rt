@@ -2,7 +2,7 @@ ghost use Rattle.std.specs.Prelude.{◌≡◌, [], IsTrue, MatchOption, None, So
 ghost use Rattle.std.specs.List.{list_any};
 ghost use Rattle.std.specs.Str.{str_eq_ignore_ascii_case};
 ghost use Rattle.run_words.specs.Words.{lent_texts};
-ghost use Rattle.run_words.specs.Paths.{split_at_equals, file_named, names, is_refused, first_refused, word_of};
+ghost use Rattle.run_words.specs.Paths.{split_at_equals, file_named, is_named_by, is_refused, first_refused};
 
 use cob_data::FileDecl;
 
@@ -30,9 +30,9 @@ fn is_file(name: &str, files: &[FileDecl]) -> bool
     false
 }
 
-// Whether the word gives a path to this name.
-fn names(name: &[u8], word: &str) -> bool
-    ensures { result ≡ names name.now word.now }
+// Whether the word has this NAME.
+fn is_named_by(name: &[u8], word: &str) -> bool
+    ensures { result ≡ is_named_by name.now word.now }
 {
     match split_at_equals(word) {
         Some((given, _)) => is_same_name(given, name),
@@ -40,12 +40,12 @@ fn names(name: &[u8], word: &str) -> bool
     }
 }
 
-/// The first of the words that gives a path to this name.
+/// The first of the words that has this NAME.
 pub fn word_of<'a>(name: &[u8], words: &[&'a str]) -> Option<&'a str>
-    ensures { MatchOption result (find (names name.now) (lent_texts words.now) ≡ None) (λ word. find (names name.now) (lent_texts words.now) ≡ Some word.now) }
+    ensures { MatchOption result (find (is_named_by name.now) (lent_texts words.now) ≡ None) (λ word. find (is_named_by name.now) (lent_texts words.now) ≡ Some word.now) }
 {
     for place in 0..words.len() {
-        if names(name, words[place]) {
+        if is_named_by(name, words[place]) {
             return Some(words[place]);
         }
     }
@@ -53,10 +53,10 @@ pub fn word_of<'a>(name: &[u8], words: &[&'a str]) -> Option<&'a str>
 }
 
 fn is_given(name: &str, words: &[&str]) -> bool
-    ensures { result ≡ list_any (names name.now) (lent_texts words.now) }
+    ensures { result ≡ list_any (is_named_by name.now) (lent_texts words.now) }
 {
     for place in 0..words.len() {
-        if names(name.as_bytes(), words[place]) {
+        if is_named_by(name.as_bytes(), words[place]) {
             return true;
         }
     }

@@ -35,7 +35,7 @@ impl<T: Drop> From<AllocFailed<T>> for PathsEnd {
     }
 }
 
-// A name as text. The names of a source are; others are told as want of memory.
+// An external name as text. A source has no name that isn't UTF-8: one would be told as want of memory.
 fn text_of(alloc: Global, name: &[u8]) -> Result<String, PathsEnd>
     ensures text { IfOk result (λ text. string_bytes text ≡ name.now) }
     ensures end { IfErr result (λ end. end ≡ Memory) }

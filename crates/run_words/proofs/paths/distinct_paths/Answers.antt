@@ -1,4 +1,4 @@
-use Rattle.std.proofs.Common.{◌≡◌, ℕ, Bool, true, false, List, String, Global, sym, ap, ◌∙◌}
+use Rattle.std.proofs.Common.{◌≡◌, ℕ, true, false, List, String, Global, sym, ap, ◌∙◌}
 use Rattle.cob_data.specs.Names.{stands_in}
 use Rattle.run_words.specs.Words.{texts, lent_texts}
 use Rattle.run_words.specs.Paths.{path_of}
