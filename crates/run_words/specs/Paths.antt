@@ -15,7 +15,8 @@ is_equals_sign byte = byte == 61
 -- the NAME and the PATH of a word: what stands before its first equals sign, and what stands behind
 abbrev pub split_at_equals : List ℕ → Option (List ℕ × List ℕ)
 split_at_equals word =
-    if nat_lt (position_or_len is_equals_sign word) (length word) then Some (before_first is_equals_sign word, after_first is_equals_sign word) else None
+    if nat_lt (position_or_len is_equals_sign word) (length word) then Some
+    (before_first is_equals_sign word, after_first is_equals_sign word) else None
 
 -- ---- words on files
 

@@ -1,4 +1,4 @@
-ghost use Rattle.std.specs.Prelude.{◌≡◌, [], IsTrue, MatchOption, None, Some, find, is_some};
+ghost use Rattle.std.specs.Prelude.{◌≡◌, [], MatchOption, None, Some, find, is_some};
 ghost use Rattle.std.specs.List.{list_any};
 ghost use Rattle.std.specs.Str.{str_eq_ignore_ascii_case};
 ghost use Rattle.run_words.specs.Words.{lent_texts};
@@ -8,7 +8,9 @@ use cob_data::FileDecl;
 
 /// The NAME and the path of a word.
 pub fn split_at_equals(word: &str) -> Option<(&str, &str)>
-    ensures { MatchOption result (split_at_equals word.now ≡ None) (λ parts. split_at_equals word.now ≡ Some (parts.0.now, parts.1.now)) }
+    ensures { MatchOption result
+        (split_at_equals word.now ≡ None)
+        (λ parts. split_at_equals word.now ≡ Some (parts.0.now, parts.1.now)) }
 {
     word.split_once('=')
 }
@@ -42,7 +44,9 @@ fn is_named_by(name: &[u8], word: &str) -> bool
 
 /// The first of the words that has this NAME.
 pub fn word_of<'a>(name: &[u8], words: &[&'a str]) -> Option<&'a str>
-    ensures { MatchOption result (find (is_named_by name.now) (lent_texts words.now) ≡ None) (λ word. find (is_named_by name.now) (lent_texts words.now) ≡ Some word.now) }
+    ensures { MatchOption result
+        (find (is_named_by name.now) (lent_texts words.now) ≡ None)
+        (λ word. find (is_named_by name.now) (lent_texts words.now) ≡ Some word.now) }
 {
     for place in 0..words.len() {
         if is_named_by(name, words[place]) {

@@ -99,7 +99,8 @@ fn distinct_paths(
     files: &[FileDecl],
     words: &[&str],
 ) -> Result<Vec<String>, PathsEnd>
-    ensures { AnswersPaths (unless_clash (lent_texts words.now) files.now (clash (lent_texts words.now) [] files.now)) result }
+    ensures { AnswersPaths
+        (unless_clash (lent_texts words.now) files.now (clash (lent_texts words.now) [] files.now)) result }
 {
     let mut paths = Vec::new(alloc);
     for file in files {

@@ -5,4 +5,5 @@ use Rattle.run_words.proofs.named.first_refused.Given as goal
 
 abbrev pub invariant-loop-place : goal.invariant-loop-place
 invariant-loop-place l =
-    first_refused l.files (lent_texts (take l.place l.words)) (lent_texts (drop l.place l.words)) ≡ first_refused l.files [] (lent_texts l.words)
+    first_refused l.files (lent_texts (take l.place l.words)) (lent_texts (drop l.place l.words)) ≡ first_refused
+    l.files [] (lent_texts l.words)

@@ -6,4 +6,5 @@ use Rattle.run_words.proofs.paths.paths_of.Goals as goal
 
 pub returns-clause-distinct : goal.returns-clause-distinct
 returns-clause-distinct c =
-    are_distinct (lent_texts c.args.names.now) c.args.files.now (clash (lent_texts c.args.names.now) [] c.args.files.now) c.distinct_paths.result refl c.distinct_paths.ensures
+    are_distinct (lent_texts c.args.names.now) c.args.files.now
+    (clash (lent_texts c.args.names.now) [] c.args.files.now) c.distinct_paths.result refl c.distinct_paths.ensures

@@ -10,6 +10,9 @@ returns-then-eq c =
       within = c.loop-place-test.true;
       before = c.loop-place.invariant;
       split =
-          subst (λ (word : List ℕ). texts c.args.words.now ≡ texts (take c.loop-place.place c.args.words.now) ++ (word ∷ texts (drop (c.loop-place.place + 1) c.args.words.now))) same
-          (texts_split c.args.words.now c.loop-place.place c.index-words-place.result c.as_str.result.now c.loop-place-test.true c.index-words-place.is c.as_str.ensures.value);
+          subst (λ (word : List ℕ). texts c.args.words.now ≡ texts
+          (take c.loop-place.place c.args.words.now) ++ (word ∷ texts
+          (drop (c.loop-place.place + 1) c.args.words.now))) same
+          (texts_split c.args.words.now c.loop-place.place c.index-words-place.result c.as_str.result.now
+          c.loop-place-test.true c.index-words-place.is c.as_str.ensures.value);
     }
