@@ -1,0 +1,4 @@
+mod Places
+mod Readings
+mod Counts
+mod Clashes
