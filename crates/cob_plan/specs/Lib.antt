@@ -1,2 +1,2 @@
-pub mod Plan
-pub mod Doing
+pub mod Views
+pub mod Listing

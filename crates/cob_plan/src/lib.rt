@@ -1,12 +1,9 @@
 //! A program's control graph as the interpreter keeps it, and what each node does to what a run works on.
 #![tactic(auto)]
 
-mod does;
-mod plan;
-mod spot;
+mod listing;
 mod statement;
+mod tests_of;
 
-pub use does::{DoEnd, do_op};
-pub use plan::Plan;
-pub use spot::{Op, Spot};
+pub use listing::statements_of;
 pub use statement::Statement;
