@@ -1,1 +1,3 @@
 mod Loops
+mod Sound
+mod Spotted

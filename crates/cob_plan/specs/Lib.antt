@@ -1,2 +1,4 @@
 pub mod Views
 pub mod Listing
+pub mod Plan
+pub mod Spots

@@ -1,11 +1,15 @@
 //! The statements of a program, each before those of its own lists.
 ghost use Rattle.std.specs.Prelude.{◌≡◌, ◌++◌, [], ◌∷◌, IfOk, OnOk};
 ghost use Rattle.cob_program.specs.ActView.{plain_stmt, plain_act, plain_when, plain_body, plain_program};
+ghost use Rattle.std.specs.List.{All};
+ghost use Rattle.cob_graph.specs.Walks.{IsWhole};
+ghost use Rattle.cob_world.specs.Doing.{CanDoProgram};
+ghost use Rattle.cob_plan.specs.Plan.{IsStatement};
 ghost use Rattle.cob_plan.specs.Views.{plain_stmts, plain_whens, plain_paras};
 ghost use Rattle.cob_plan.specs.Listing.{plain_statement, plain_statements, listed_one, listed_stmt, listed, listed_in, listed_when, listed_whens, listed_body, listed_paras};
 
 use crate::statement::Statement;
-use crate::tests_of::tests_of;
+use crate::conditions::tests_of;
 use cob_program::{Act, Body, Para, Program, Stmt, When};
 use std::alloc::{AllocError, Global};
 
@@ -167,7 +171,10 @@ pub fn statements_of<'a>(
     alloc: Global,
     program: &'a Program,
 ) -> Result<Vec<Statement<'a>>, AllocError>
-    ensures { IfOk result (λ all. plain_statements all.items ≡ listed_paras (plain_program program.now).paras) }
+    requires whole { IsWhole (plain_program program.now) }
+    requires able { CanDoProgram (plain_program program.now) }
+    ensures listed { IfOk result (λ all. plain_statements all.items ≡ listed_paras (plain_program program.now).paras) }
+    ensures each { IfOk result (λ all. All (IsStatement (plain_program program.now)) all.items) }
 {
     let mut statements = Vec::new(alloc);
     add_paras(alloc, &mut statements, program.paras.get())?;

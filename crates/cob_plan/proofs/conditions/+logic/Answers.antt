@@ -1,7 +1,7 @@
 use Rattle.std.proofs.Common.{◌+◌}
 use Rattle.cob_runs.specs.Effects.{tests_among}
 use Rattle.cob_plan.proofs.Loops.{logics_from, logics_step, logics_end, added, nothing_left}
-use Rattle.cob_plan.proofs.tests_of.+logic.Goals as goal
+use Rattle.cob_plan.proofs.conditions.+logic.Goals as goal
 
 pub add_logics-loop-part-preserved : goal.add_logics-loop-part-preserved
 add_logics-loop-part-preserved t c =
