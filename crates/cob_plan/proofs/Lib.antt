@@ -1,3 +1,6 @@
+mod ActViews
 mod Loops
 mod Sound
 mod Spotted
+mod TestLemmas
+mod WayLemmas
