@@ -60,15 +60,15 @@ last_or_before (y ∷ xs) x zero s h = inl h
 last_or_before (y ∷ xs) x (suc i) s h =
     elim (last_or_before xs x i s h) [ inl e ↦ inl e | inr e ↦ inr (ap suc e.0, e.1) ]
 
-pub spot_more : (g : Graph) (spots : List Spot) (count number : ℕ) (s : Spot) → AreFirst g count spots →
-    IsSpot g number s → number ≡ count + 1 → AreFirst g (count + 1) (spots ++ s ∷ [])
-spot_more g spots count number s first is counted = record {
-    each = λ i x h. elim (last_or_before spots s i x h) [
+pub spot_more : (g : Graph) (spots more : List Spot) (count number : ℕ) (s : Spot) → AreFirst g count spots →
+    IsSpot g number s → number ≡ count + 1 → more ≡ spots ++ s ∷ [] → AreFirst g (count + 1) more
+spot_more g spots more count number s first is counted grown = record {
+    each = λ i x h. elim (last_or_before spots s i x (ap (λ xs. slice_get xs i) (sym grown) ∙ h)) [
         inl e ↦ first.each i x e
       | inr e ↦ subst (λ y. IsSpot g (suc i) y) e.1 (subst (λ n. IsSpot g n s)
           (counted ∙ add-one count ∙ ap suc (sym first.all ∙ sym e.0)) is)
       ];
-    all = omega (arith, length-append spots (s ∷ []), first.all);
+    all = omega (arith, length-append spots (s ∷ []), first.all, ap length grown);
   }
 
 pub all_spots : (g : Graph) (spots : List Spot) (count : ℕ) → length g.nodes ≤ count → count ≤ length g.nodes →

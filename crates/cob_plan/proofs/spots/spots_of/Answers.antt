@@ -23,8 +23,8 @@ loop-node-preserved c =
     c.in_ok-spot_of.ensures.node.1 c.out_of-out.ensures.leave all c.in_ok-spot_of.ensures.edges in
     let behind : l.place + length out ≤ length g.edges =
     omega (arith, ap length c.get-edges.ensures, c.out_of-out.ensures.within) in
-    (counted, behind, subst (λ xs. AreFirst g (l.node-index + 1) xs) (sym c.in_ok-push.ensures.items)
-    (spot_more g l.spots.items l.node-index c.in_ok-number.number spot l.invariant.2 here counted))
+    (counted, behind, spot_more g l.spots.items c.push.new.self.items l.node-index c.in_ok-number.number spot l.invariant.2
+    here counted c.in_ok-push.ensures.items)
 
 pub returns : goal.returns
 returns c =
