@@ -1,5 +1,5 @@
 -- Statements without lists of statements, and loops.
-use Rattle.std.proofs.Common.{ℕ, Bool, true, false, List, [], ◌∷◌, ◌++◌, slice_get, Option, Some, None, unwrap_or, IfSome, arith}
+use Rattle.std.proofs.Common.{◌≡◌, ℕ, Bool, true, false, List, [], ◌∷◌, ◌++◌, slice_get, Option, Some, None, unwrap_or, IfSome, arith}
 use Rattle.std.specs.List.{AllByRecursion}
 use Rattle.cob_tree.specs.declared.operand.Opnd.{Opnd}
 use Rattle.cob_tree.specs.declared.operand.Ref.{Ref}
@@ -13,7 +13,6 @@ use Rattle.cob_tree.specs.PrintStmt.{print_place, print_varying, print_loop}
 use Rattle.cob_data.specs.declared.end.Rule.TheVariants.{Q2, Q9, Q10}
 use Rattle.cob_data.specs.declared.layout.Flag.{Flag}
 use Rattle.cob_data.specs.declared.layout.Sender.{Sender}
-use Rattle.cob_items.specs.Sound.{IsCountable}
 use Rattle.cob_names.specs.declared.found.Found.{Found}
 use Rattle.cob_names.specs.declared.found.Found.TheVariants as found
 use Rattle.cob_typed.specs.Judged.{each_of, if_there}
@@ -23,12 +22,13 @@ use Rattle.cob_typed.specs.Sums.{operand}
 use Rattle.cob_typed.specs.Statements.{receiver, set_flag, set_if, from_of, number_operand, varied, turns_of}
 use Rattle.cob_sound.specs.Numerals.{AreShort}
 use Rattle.cob_sound.specs.Layouts.{IsSoundFlag, HasSoundFlags}
-use Rattle.cob_sound.specs.Doing.{CanMoveTo, CanVary, CanTurn, CanDoAct}
+use Rattle.cob_world.specs.Needs.{IsNumber}
+use Rattle.cob_world.specs.Doing.{CanMoveTo, CanVary, CanTurn, CanDoAct}
 use Rattle.cob_sound.proofs.ShortValues.{short_left, short_right}
 use Rattle.cob_sound.proofs.Forms.{IsShortSender}
 use Rattle.cob_sound.proofs.Keeping.{IsKept, met}
 use Rattle.cob_sound.proofs.Amounts.{number_item}
-use Rattle.cob_sound.proofs.Senders.{short_operand, countable_number, countable_whole, can_move}
+use Rattle.cob_sound.proofs.Senders.{short_operand, countable_number, is_number_operand, whole_number, can_move}
 use Rattle.cob_sound.proofs.Decisions.{found_at, able_cond}
 
 module _ (s : Scope) (flags : HasSoundFlags s.layout) where
@@ -64,11 +64,18 @@ module _ (s : Scope) (flags : HasSoundFlags s.layout) where
 
   -- ---- loops
 
+  -- an operand of VARYING is a number, whose literal has at most 18 digits
+  number_kept : (o : Opnd) → IsKept (number_operand s o).broken → is_number s (operand s o).value ≡ true
+  number_kept o is = met Q10 (is_number s (operand s o).value) (omega arith) is.1
+
   able_number : (d : ℕ) (o : Opnd) → AreShort (print_opnd d o) → IsKept (number_operand s o).broken →
-      IsCountable s.layout (number_operand s o).value
-  able_number d o short is =
-      let x = (operand s o).value in
-      countable_number s x (short_operand s d o short) (met Q10 (is_number s x) (omega arith) is.1)
+      IsNumber s.layout (number_operand s o).value
+  able_number d o short is = is_number_operand s (operand s o).value (short_operand s d o short) (number_kept o is)
+
+  able_start : (d : ℕ) (o : Opnd) (place : ℕ) → AreShort (print_opnd d o) → IsKept (number_operand s o).broken →
+      CanMoveTo s.layout (number_operand s o).value place
+  able_start d o place short is takes =
+      countable_number s (operand s o).value (short_operand s d o short) (number_kept o is)
 
   able_varying : (d : ℕ) (v : Varying) → AreShort (print_varying d v) → IsKept (varied s v.item).broken →
       IsKept (number_operand s v.from).broken → IsKept (number_operand s v.by).broken →
@@ -78,7 +85,7 @@ module _ (s : Scope) (flags : HasSoundFlags s.layout) where
       let behind_item = short_right (print_ref d v.item) (key d word.From ∷ (print_opnd d v.from ++ key d word.By ∷ print_opnd d v.by)) short in
       record {
         item = number_item s place (met Q10 (is_number_form (form_at s place)) (omega arith) item.1);
-        start_ = able_number d v.from (short_left (print_opnd d v.from) (key d word.By ∷ print_opnd d v.by) behind_item.1) from;
+        start_ = able_start d v.from place (short_left (print_opnd d v.from) (key d word.By ∷ print_opnd d v.by) behind_item.1) from;
         by_ = able_number d v.by (short_right (print_opnd d v.from) (key d word.By ∷ print_opnd d v.by) behind_item.1).1 by_;
       }
 
@@ -87,7 +94,8 @@ module _ (s : Scope) (flags : HasSoundFlags s.layout) where
   able_turns d None short is = tt
   able_turns d (Some (times o)) short is =
       let x = (operand s o).value in
-      countable_whole s x (short_operand s d o (short_left (print_opnd d o) (key d word.Times ∷ []) short)) (met Q10 (is_whole s x) (omega arith) is.1)
+      is_number_operand s x (short_operand s d o (short_left (print_opnd d o) (key d word.Times ∷ []) short))
+      (whole_number s x (met Q10 (is_whole s x) (omega arith) is.1))
   able_turns d (Some (until at None c)) short is = able_cond s flags c is.0
   able_turns d (Some (until at (Some v) c)) short is =
       let test = behind d (word.Test ∷ []) (print_place d) at in
