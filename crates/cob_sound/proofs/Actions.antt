@@ -39,7 +39,8 @@ module _ (s : Scope) (flags : HasSoundFlags s.layout) where
   able_moves x [] short is = tt
   able_moves x (r ∷ rs) short is =
       let place = (the_item s r).value in
-      (can_move s x place short (met Q2 (may_move s x (form_at s place)) (omega arith) is.0.1), able_moves x rs short is.1)
+      let may = met Q2 (may_move s x (form_at s place)) (omega arith) is.0.1 in
+      (can_move s x place short may, able_moves x rs short is.1)
 
   able_flag : (o : Option Flag) → IfSome o (IsSoundFlag s.layout) → CanDoAct s.layout (set_flag o)
   able_flag None sound = tt
@@ -53,7 +54,8 @@ module _ (s : Scope) (flags : HasSoundFlags s.layout) where
   pub able_write : (d : ℕ) (something : Bool) (f : Found) (from : Option Opnd) →
       AreShort (behind d (word.From ∷ []) (print_opnd d) from) → IsKept (one_of_kind Q9 something f).broken →
       IsKept (if_there (from_of s (one_of_kind Q9 something f).value) from).broken →
-      IfSome (if_there (from_of s (one_of_kind Q9 something f).value) from).value (λ x. CanMoveTo s.layout x (unwrap_or (one_of_kind Q9 something f).value 0))
+      IfSome (if_there (from_of s (one_of_kind Q9 something f).value) from).value
+      (λ x. CanMoveTo s.layout x (unwrap_or (one_of_kind Q9 something f).value 0))
   able_write d something f None short named is = tt
   able_write d something (found.One place) (Some o) short named is =
       let x = (operand s o).value in
@@ -82,11 +84,13 @@ module _ (s : Scope) (flags : HasSoundFlags s.layout) where
       CanVary s.layout (varied s v.item).value (number_operand s v.from).value (number_operand s v.by).value
   able_varying d v short item from by_ =
       let place = (the_item s v.item).value in
-      let behind_item = short_right (print_ref d v.item) (key d word.From ∷ (print_opnd d v.from ++ key d word.By ∷ print_opnd d v.by)) short in
+      let from_ = print_opnd d v.from in
+      let last = key d word.By ∷ print_opnd d v.by in
+      let rest = short_right (print_ref d v.item) (key d word.From ∷ (from_ ++ last)) short in
       record {
         item = number_item s place (met Q10 (is_number_form (form_at s place)) (omega arith) item.1);
-        start_ = able_start d v.from place (short_left (print_opnd d v.from) (key d word.By ∷ print_opnd d v.by) behind_item.1) from;
-        by_ = able_number d v.by (short_right (print_opnd d v.from) (key d word.By ∷ print_opnd d v.by) behind_item.1).1 by_;
+        start_ = able_start d v.from place (short_left from_ last rest.1) from;
+        by_ = able_number d v.by (short_right from_ last rest.1).1 by_;
       }
 
   pub able_turns : (d : ℕ) (o : Option Loop) → AreShort (print_if (print_loop d) o) → IsKept (turns_of s o).broken →
