@@ -34,7 +34,8 @@ ScansShort (BadLineAt line column) = Unit {0}
 ScansShort (BadTokenAt line column) = Unit {0}
 ScansShort (Tokens ts) = AreShortTokens ts
 
-lexed_short : (marks : List Mark) (r : Result (List Token) lex.Place) → canonical_tokens marks ≡ r → ScansShort (lexed r)
+lexed_short : (marks : List Mark) (r : Result (List Token) lex.Place) → canonical_tokens marks ≡ r →
+    ScansShort (lexed r)
 lexed_short marks (Ok ts) is = short_tokens marks ts is
 lexed_short marks (Err place) is = tt
 
