@@ -20,7 +20,7 @@ use Rattle.cob_typed.specs.Statements.{found_on, stmts_if, move_act, write_act, 
 use Rattle.cob_typed.specs.Typing.{scope_of, joined, typed_sentences, typed_paras, typed, clashes, IsTyped}
 use Rattle.cob_sound.specs.Numerals.{AreShort, HasShortNumerals}
 use Rattle.cob_sound.specs.Layouts.{HasSoundFlags}
-use Rattle.cob_sound.specs.Doing.{CanDo, CanDoPhrase, CanDoAct, CanDoWhens, CanDoParas, CanDoProgram}
+use Rattle.cob_world.specs.Doing.{CanDo, CanDoPhrase, CanDoAct, CanDoWhens, CanDoParas, CanDoProgram}
 use Rattle.cob_sound.proofs.ShortValues.{short_left, short_right}
 use Rattle.cob_sound.proofs.Keeping.{IsKept, IsSilent, silent_left, silent_right, kept_on}
 use Rattle.cob_sound.proofs.Receivers.{CanWork, add_to_can, add_giving_can, subtract_from_can, subtract_giving_can, multiply_by_can, multiply_giving_can, divide_into_can, divide_giving_can, compute_can}

@@ -1,5 +1,5 @@
 -- Values that are moved or counted.
-use Rattle.std.proofs.Common.{◌≡◌, ℕ, ◌≤◌, true, not, ◌&&◌, ◌||◌, List, length, ap, ◌∙◌, sym, subst}
+use Rattle.std.proofs.Common.{◌≡◌, ℕ, ◌≤◌, true, not, ◌&&◌, ◌||◌, List, [], length, refl, ap, ◌∙◌, sym, subst}
 use Rattle.std.specs.Prelude.{nat_le}
 use Rattle.std.specs.List.{list_all}
 use Rattle.std.proofs.lemmas.Bool.{and_parts, leb-true}
@@ -8,14 +8,20 @@ use Rattle.cob_tree.specs.declared.form.Form.TheVariants.{Group, Text, Number, E
 use Rattle.cob_tree.specs.declared.operand.Opnd.{Opnd}
 use Rattle.cob_tree.specs.declared.operand.Opnd.TheVariants as opnd
 use Rattle.cob_tree.specs.PrintExpr.{print_opnd}
+use Rattle.cob_data.specs.declared.layout.Layout.{Layout}
 use Rattle.cob_data.specs.declared.layout.Sender.{Sender}
 use Rattle.cob_data.specs.declared.layout.Sender.TheVariants as sender
 use Rattle.cob_runs.specs.Contents.{form_at}
+use Rattle.cob_runs.specs.Deciding.{is_number_end}
+use Rattle.cob_runs.specs.Deciding as deciding
 use Rattle.cob_runs.specs.Moves.{takes_number}
 use Rattle.cob_items.specs.Sound.{IsShort, IsCountable, CanMove}
 use Rattle.cob_calc.specs.Arithmetic.{is_number_form}
+use Rattle.cob_calc.specs.Comparing.{IsSoundEnd}
+use Rattle.cob_world.specs.Needs.{IsNumber}
 use Rattle.cob_typed.specs.Scope.{Scope}
 use Rattle.cob_typed.specs.Scope as scope
+use Rattle.cob_typed.specs.Kinds as kinds
 use Rattle.cob_typed.specs.Kinds.{is_amount, is_digit, may_move_item, may_move, is_number, is_whole_form, is_whole}
 use Rattle.cob_typed.specs.Sums.{operand}
 use Rattle.cob_sound.specs.Numerals.{AreShort}
@@ -29,11 +35,17 @@ number_short (Text n) is = absurd (cc)
 number_short (Number digits scale signed usage) is = tt
 number_short (Edited picture digits scale) is = tt
 
-whole_short : (f : Form) → is_whole_form f ≡ true → IsShort f
-whole_short Group is = tt
-whole_short (Text n) is = absurd (cc)
-whole_short (Number digits scale signed usage) is = tt
-whole_short (Edited picture digits scale) is = tt
+whole_form : (f : Form) → is_whole_form f ≡ true → kinds.is_number_form f ≡ true
+whole_form Group is = absurd (cc)
+whole_form (Text n) is = absurd (cc)
+whole_form (Number digits scale signed usage) is = refl
+whole_form (Edited picture digits scale) is = absurd (cc)
+
+form_counts : (l : Layout) (f : Form) → is_number_form f ≡ true → deciding.is_number_form l [] f ≡ true
+form_counts l Group is = absurd (cc)
+form_counts l (Text n) is = absurd (cc)
+form_counts l (Number digits scale signed usage) is = refl
+form_counts l (Edited picture digits scale) is = absurd (cc)
 
 -- text that isn't short is moved to no number
 moved_short : (f to : Form) → takes_number to ≡ true → may_move_item f to ≡ true → IsShort f
@@ -66,12 +78,29 @@ module _ (s : Scope) where
   countable_number (sender.Fill byte) short is = tt
   countable_number sender.Zero short is = tt
 
-  pub countable_whole : (x : Sender) → IsShortSender x → is_whole s x ≡ true → IsCountable s.layout x
-  countable_whole (sender.Item place) short is = subst IsShort (same_form s place) (whole_short (scope.form_at s place) is)
-  countable_whole (sender.Number n) short is = short
-  countable_whole (sender.Text text) short is = absurd (cc)
-  countable_whole (sender.Fill byte) short is = tt
-  countable_whole sender.Zero short is = tt
+  counts : (x : Sender) → is_number s x ≡ true → is_number_end s.layout [] x ≡ true
+  counts (sender.Item place) is = form_counts s.layout (form_at s.layout place) (number_item s place is)
+  counts (sender.Number n) is = refl
+  counts (sender.Text text) is = absurd (cc)
+  counts (sender.Fill byte) is = absurd (cc)
+  counts sender.Zero is = refl
+
+  sound_end : (x : Sender) → IsShortSender x → IsSoundEnd x
+  sound_end (sender.Item place) short = tt
+  sound_end (sender.Number n) short = short
+  sound_end (sender.Text text) short = tt
+  sound_end (sender.Fill byte) short = tt
+  sound_end sender.Zero short = tt
+
+  pub is_number_operand : (x : Sender) → IsShortSender x → is_number s x ≡ true → IsNumber s.layout x
+  is_number_operand x short is = record { number = counts x is; literal = sound_end x short }
+
+  pub whole_number : (x : Sender) → is_whole s x ≡ true → is_number s x ≡ true
+  whole_number (sender.Item place) is = whole_form (scope.form_at s place) is
+  whole_number (sender.Number n) is = refl
+  whole_number (sender.Text text) is = absurd (cc)
+  whole_number (sender.Fill byte) is = absurd (cc)
+  whole_number sender.Zero is = refl
 
   moved_countable : (x : Sender) (to : Form) → IsShortSender x → takes_number to ≡ true → may_move s x to ≡ true →
       IsCountable s.layout x
