@@ -7,7 +7,8 @@ use Rattle.cob_data.specs.declared.end.Which.{Which}
 use Rattle.cob_data.specs.declared.end.Which.TheVariants as which
 use Rattle.cob_program.specs.Act.{Program}
 use Rattle.cob_graph.specs.Nesting.{IsBroken, IsNested, IsOutside}
-use Rattle.cob_graph.specs.Graphs.{HasNodes, HasTooManyNodes, IsOver, most_told}
+use Rattle.cob_graph.specs.Graphs.{IsOver, most_told}
+use Rattle.cob_graph.proofs.OneCopy.{one_count}
 use Rattle.cob_front.specs.declared.end.FrontEnd.{FrontEnd}
 use Rattle.cob_front.specs.declared.end.FrontEnd.TheVariants as end
 use Rattle.cob_front.specs.Control.{IsControlCause}
@@ -88,53 +89,52 @@ one_outside p r s m n h k =
     let t = turn_of p r m h.broken in
     let u = turn_of p s n k.broken in
     let same : r ≡ s =
-        t.1 ∙ ap rule_of (not_before p t.0 u.0 m n (subst (λ (x : Rule). IsOutside p x m) t.1 h) (subst (λ (x : Rule). IsOutside p x n) u.1 k)) ∙ sym u.1 in
+    t.1 ∙ ap rule_of (not_before p t.0 u.0 m n (subst (λ (x : Rule). IsOutside p x m) t.1 h) (subst (λ (x : Rule). IsOutside p x n) u.1 k)) ∙ sym u.1 in
     let line : m ≡ n = one_line p s m n (subst (λ (x : Rule). IsOutside p x m) same h) k in
     ap (λ (x : Rule). end.Outside x m) same ∙ ap (λ (x : ℕ). end.Outside s x) line
 
 -- ---- the limits
 
-module _ (one_count : (p : Program) (m n : ℕ) → HasNodes p m → HasNodes p n → m ≡ n) where
-  one_over : (p : Program) (v w : Which) (m n : ℕ) → IsOver p v m → IsOver p w n → end.Limit v m ≡ end.Limit w n
-  one_over p which.Cells which.Cells m n h k = ap (end.Limit which.Cells) (h.counted ∙ sym k.counted)
-  one_over p which.Nodes which.Nodes m n h k =
-      let same = one_count p h.nodes k.nodes h.counted k.counted in
-      ap (end.Limit which.Nodes) (h.told ∙ ap (λ (x : ℕ). min x most_told) same ∙ sym k.told)
-  one_over p which.Cells which.Nodes m n h k = absurd (omega (arith, h.counted, h.over, k.cells))
-  one_over p which.Nodes which.Cells m n h k = absurd (omega (arith, k.counted, k.over, h.cells))
-  one_over p which.Nesting w m n h k = absurd h
-  one_over p which.Items w m n h k = absurd h
-  one_over p which.Storage w m n h k = absurd h
-  one_over p which.Files w m n h k = absurd h
-  one_over p which.Cells which.Nesting m n h k = absurd k
-  one_over p which.Cells which.Items m n h k = absurd k
-  one_over p which.Cells which.Storage m n h k = absurd k
-  one_over p which.Cells which.Files m n h k = absurd k
-  one_over p which.Nodes which.Nesting m n h k = absurd k
-  one_over p which.Nodes which.Items m n h k = absurd k
-  one_over p which.Nodes which.Storage m n h k = absurd k
-  one_over p which.Nodes which.Files m n h k = absurd k
+one_over : (p : Program) (v w : Which) (m n : ℕ) → IsOver p v m → IsOver p w n → end.Limit v m ≡ end.Limit w n
+one_over p which.Cells which.Cells m n h k = ap (end.Limit which.Cells) (h.counted ∙ sym k.counted)
+one_over p which.Nodes which.Nodes m n h k =
+    let same = one_count p h.nodes k.nodes h.counted k.counted in
+    ap (end.Limit which.Nodes) (h.told ∙ ap (λ (x : ℕ). min x most_told) same ∙ sym k.told)
+one_over p which.Cells which.Nodes m n h k = absurd (omega (arith, h.counted, h.over, k.cells))
+one_over p which.Nodes which.Cells m n h k = absurd (omega (arith, k.counted, k.over, h.cells))
+one_over p which.Nesting w m n h k = absurd h
+one_over p which.Items w m n h k = absurd h
+one_over p which.Storage w m n h k = absurd h
+one_over p which.Files w m n h k = absurd h
+one_over p which.Cells which.Nesting m n h k = absurd k
+one_over p which.Cells which.Items m n h k = absurd k
+one_over p which.Cells which.Storage m n h k = absurd k
+one_over p which.Cells which.Files m n h k = absurd k
+one_over p which.Nodes which.Nesting m n h k = absurd k
+one_over p which.Nodes which.Items m n h k = absurd k
+one_over p which.Nodes which.Storage m n h k = absurd k
+one_over p which.Nodes which.Files m n h k = absurd k
 
-  pub one_control_cause : (p : Program) (d e : FrontEnd) → IsControlCause p d → IsControlCause p e → d ≡ e
-  one_control_cause p (end.Outside r m) (end.Outside s n) h k = one_outside p r s m n h k
-  one_control_cause p (end.Limit v m) (end.Limit w n) h k = one_over p v w m n h.1 k.1
-  one_control_cause p (end.Outside r m) (end.Limit w n) h k = absurd (k.0.kept r m h.broken)
-  one_control_cause p (end.Limit v m) (end.Outside s n) h k = absurd (h.0.kept s n k.broken)
-  one_control_cause p end.TooLong e h k = absurd h
-  one_control_cause p (end.BadLine a b) e h k = absurd h
-  one_control_cause p (end.BadToken a b) e h k = absurd h
-  one_control_cause p (end.Syntax a) e h k = absurd h
-  one_control_cause p (end.Nesting a) e h k = absurd h
-  one_control_cause p end.Memory e h k = absurd h
-  one_control_cause p (end.Outside r m) end.TooLong h k = absurd k
-  one_control_cause p (end.Outside r m) (end.BadLine a b) h k = absurd k
-  one_control_cause p (end.Outside r m) (end.BadToken a b) h k = absurd k
-  one_control_cause p (end.Outside r m) (end.Syntax a) h k = absurd k
-  one_control_cause p (end.Outside r m) (end.Nesting a) h k = absurd k
-  one_control_cause p (end.Outside r m) end.Memory h k = absurd k
-  one_control_cause p (end.Limit v m) end.TooLong h k = absurd k
-  one_control_cause p (end.Limit v m) (end.BadLine a b) h k = absurd k
-  one_control_cause p (end.Limit v m) (end.BadToken a b) h k = absurd k
-  one_control_cause p (end.Limit v m) (end.Syntax a) h k = absurd k
-  one_control_cause p (end.Limit v m) (end.Nesting a) h k = absurd k
-  one_control_cause p (end.Limit v m) end.Memory h k = absurd k
+pub one_control_cause : (p : Program) (d e : FrontEnd) → IsControlCause p d → IsControlCause p e → d ≡ e
+one_control_cause p (end.Outside r m) (end.Outside s n) h k = one_outside p r s m n h k
+one_control_cause p (end.Limit v m) (end.Limit w n) h k = one_over p v w m n h.1 k.1
+one_control_cause p (end.Outside r m) (end.Limit w n) h k = absurd (k.0.kept r m h.broken)
+one_control_cause p (end.Limit v m) (end.Outside s n) h k = absurd (h.0.kept s n k.broken)
+one_control_cause p end.TooLong e h k = absurd h
+one_control_cause p (end.BadLine a b) e h k = absurd h
+one_control_cause p (end.BadToken a b) e h k = absurd h
+one_control_cause p (end.Syntax a) e h k = absurd h
+one_control_cause p (end.Nesting a) e h k = absurd h
+one_control_cause p end.Memory e h k = absurd h
+one_control_cause p (end.Outside r m) end.TooLong h k = absurd k
+one_control_cause p (end.Outside r m) (end.BadLine a b) h k = absurd k
+one_control_cause p (end.Outside r m) (end.BadToken a b) h k = absurd k
+one_control_cause p (end.Outside r m) (end.Syntax a) h k = absurd k
+one_control_cause p (end.Outside r m) (end.Nesting a) h k = absurd k
+one_control_cause p (end.Outside r m) end.Memory h k = absurd k
+one_control_cause p (end.Limit v m) end.TooLong h k = absurd k
+one_control_cause p (end.Limit v m) (end.BadLine a b) h k = absurd k
+one_control_cause p (end.Limit v m) (end.BadToken a b) h k = absurd k
+one_control_cause p (end.Limit v m) (end.Syntax a) h k = absurd k
+one_control_cause p (end.Limit v m) (end.Nesting a) h k = absurd k
+one_control_cause p (end.Limit v m) end.Memory h k = absurd k

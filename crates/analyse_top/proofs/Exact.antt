@@ -7,8 +7,6 @@ use Rattle.straight_source.proofs.Whole.{counts}
 use Rattle.straight_claims.specs.Claims.{AreClaimsLines}
 use Rattle.straight_claims.proofs.Certificates.{one_certificate, read_or_refused as claims_or_refused}
 use Rattle.cob_tree.specs.declared.token.Token.{Token}
-use Rattle.cob_program.specs.Act.{Program}
-use Rattle.cob_graph.specs.Graphs.{HasNodes}
 use Rattle.cob_front.specs.Laws.{OneAnswer}
 use Rattle.analyse_top.specs.Profile.{IsWritten}
 use Rattle.analyse_top.specs.Answer.{Answer, Answers}
@@ -34,9 +32,9 @@ one_behind contents certificate bytes tokens source a b wrote =
     (λ x y. one_certificate cells count x y (few_cells source wrote.is_source) (few_nodes source wrote.is_source))
     a b
 
-module _ (law : (bytes : List ℕ) → OneAnswer bytes) (one_count : (p : Program) (m n : ℕ) → HasNodes p m → HasNodes p n → m ≡ n) where
+module _ (law : (bytes : List ℕ) → OneAnswer bytes) where
   same_answer : (contents : Contents) (words : List (List ℕ)) (a b : Answer) → Answers (Some contents) words a → Answers (Some contents) words b → a ≡ b
-  same_answer contents = one_answer contents (one_ending law one_count) (one_behind contents)
+  same_answer contents = one_answer contents (one_ending law) (one_behind contents)
 
   pub is_exact : (call : Call) → Concludes call → IsExact call
   is_exact call concludes contents answer known is = elim concludes.ends [

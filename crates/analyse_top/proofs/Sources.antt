@@ -8,7 +8,6 @@ use Rattle.std.proofs.lemmas.List.FromFn.{length-range_with_len}
 use Rattle.cob_tree.specs.declared.token.Token.{Token}
 use Rattle.cob_program.specs.Act as act
 use Rattle.cob_scan.specs.Scan.{Scan, BadLineAt, BadTokenAt, Tokens}
-use Rattle.cob_graph.specs.Graphs.{HasNodes}
 use Rattle.cob_front.specs.declared.end.FrontEnd.{FrontEnd}
 use Rattle.cob_front.specs.Control.{IsControlCause}
 use Rattle.cob_front.specs.Laws.{OneAnswer}
@@ -62,14 +61,14 @@ one_writing bytes ts us s t h k =
 
 -- ---- causes
 
-module _ (law : (bytes : List ℕ) → OneAnswer bytes) (one_count : (p : act.Program) (m n : ℕ) → HasNodes p m → HasNodes p n → m ≡ n) (bytes : List ℕ) where
+module _ (law : (bytes : List ℕ) → OneAnswer bytes) (bytes : List ℕ) where
   one_cause : (d e : FrontEnd) → IsProfileCause bytes d → IsProfileCause bytes e → d ≡ e
   one_cause d e (inl h) (inl k) = (law bytes).one_cause d e h k
   one_cause d e (inl h) (inr (q, is, k)) = absurd ((law bytes).not_both q d is h)
   one_cause d e (inr (p, is, h)) (inl k) = absurd ((law bytes).not_both p e is k)
   one_cause d e (inr (p, is, h)) (inr (q, also, k)) =
       let same : p ≡ q = (law bytes).one_program p q is also in
-      one_control_cause one_count q d e (subst (λ (x : act.Program). IsControlCause x d) same h) k
+      one_control_cause q d e (subst (λ (x : act.Program). IsControlCause x d) same h) k
 
   none_in_profile : (e : FrontEnd) → IsOfProfile bytes → IsProfileCause bytes e → ⊥
   none_in_profile e h (inl k) = (law bytes).not_both h.program e h.is_source k

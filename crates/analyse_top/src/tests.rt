@@ -79,14 +79,7 @@ const CHECKS: [(&str, &str, &str, &str, u8, &str); 24] = [
         0,
         "clean\n",
     ),
-    (
-        "ADD 1 TO N.",
-        "ADD 1\n\n       .",
-        "",
-        "",
-        2,
-        "E8 line 9\n",
-    ),
+    ("ADD 1 TO N.", "ADD 1\n\n       .", "", "", 2, "E8 line 9\n"),
     ("       STOP RUN.\n", "\n\n", "", "", 2, "E20 line 7\n"),
     (
         "       IDENTIFICATION",

@@ -9,7 +9,7 @@ use crate::answer::{Answer, Stop};
 use crate::check::check;
 use crate::text::answer_text;
 use batch_io::{Files, MakeEnd, Sink, show_whole};
-use cob_front::FrontEnd;
+use cob_front::{FrontEnd, one_answer};
 use std::alloc::Global;
 
 const READ_FAULT: u8 = 5;
@@ -33,6 +33,7 @@ pub fn cobsound<F: Files, O: Sink>(
     ensures clean { CleanIsSafe (call (texts words.now.items)
         (F.state files.old) (F.state files.new) (O.state out.old) (O.state out.new) result) }
 {
+    one_answer();
     conclude(alloc, words, files, out)
 }
 
