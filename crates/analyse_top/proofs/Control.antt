@@ -84,12 +84,14 @@ not_before p fourth first m n h k = absurd (h.first_rule rule.N1 n (0, omega ari
 not_before p fourth second m n h k = absurd (h.first_rule rule.N2 n (1, omega arith, refl) k.broken)
 not_before p fourth third m n h k = absurd (h.first_rule rule.N3 n (2, omega arith, refl) k.broken)
 
-one_outside : (p : Program) (r s : Rule) (m n : ℕ) → IsOutside p r m → IsOutside p s n → end.Outside r m ≡ end.Outside s n
+one_outside : (p : Program) (r s : Rule) (m n : ℕ) → IsOutside p r m → IsOutside p s n
+    → end.Outside r m ≡ end.Outside s n
 one_outside p r s m n h k =
     let t = turn_of p r m h.broken in
     let u = turn_of p s n k.broken in
-    let same : r ≡ s =
-    t.1 ∙ ap rule_of (not_before p t.0 u.0 m n (subst (λ (x : Rule). IsOutside p x m) t.1 h) (subst (λ (x : Rule). IsOutside p x n) u.1 k)) ∙ sym u.1 in
+    let here = subst (λ (x : Rule). IsOutside p x m) t.1 h in
+    let there = subst (λ (x : Rule). IsOutside p x n) u.1 k in
+    let same : r ≡ s = t.1 ∙ ap rule_of (not_before p t.0 u.0 m n here there) ∙ sym u.1 in
     let line : m ≡ n = one_line p s m n (subst (λ (x : Rule). IsOutside p x m) same h) k in
     ap (λ (x : Rule). end.Outside x m) same ∙ ap (λ (x : ℕ). end.Outside s x) line
 

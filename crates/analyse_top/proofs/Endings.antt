@@ -68,7 +68,8 @@ module _ (source certificate bytes : List ℕ) (fits : length bytes ≤ source_l
 
 -- ---- a source that isn't read
 
-pub unread_why : (bytes : List ℕ) (cause : FrontEnd) → IsProfileCause bytes cause ⊎ (cause ≡ end.Memory) → IsUnread bytes (unread_for cause)
+pub unread_why : (bytes : List ℕ) (cause : FrontEnd) → IsProfileCause bytes cause ⊎ (cause ≡ end.Memory)
+    → IsUnread bytes (unread_for cause)
 unread_why bytes end.TooLong (inl is) = is
 unread_why bytes (end.BadLine line column) (inl is) = is
 unread_why bytes (end.BadToken line column) (inl is) = is
@@ -80,20 +81,25 @@ unread_why bytes end.Memory (inl is) = tt
 unread_why bytes cause (inr memory) = rw memory tt
 
 module _ (source certificate bytes : List ℕ) where
-  refusal_known : (known : Option Contents) (answer : Answer) (why : Unread) → IfSome known (λ contents. get contents source ≡ Some bytes) → IsUnread bytes why
-      → answer_to why ≡ Ok answer → IfSome known (λ contents. AnswersCheck contents source certificate answer)
+  refusal_known : (known : Option Contents) (answer : Answer) (why : Unread)
+      → IfSome known (λ contents. get contents source ≡ Some bytes) → IsUnread bytes why → answer_to why ≡ Ok answer
+      → IfSome known (λ contents. AnswersCheck contents source certificate answer)
   refusal_known None answer why held is e = tt
   refusal_known (Some contents) answer (unread.Refused cause) held is e =
       let same : Refused cause ≡ answer = cc in
-      subst (λ (a : Answer). AnswersCheck contents source certificate a) same (inl (at_held (get contents source) bytes (λ bs. IsProfileCause bs cause) held is))
+      subst (λ (a : Answer). AnswersCheck contents source certificate a) same
+      (inl (at_held (get contents source) bytes (λ bs. IsProfileCause bs cause) held is))
   refusal_known (Some contents) answer (unread.NotYet line) held is e =
       let same : NotYet line ≡ answer = cc in
-      subst (λ (a : Answer). AnswersCheck contents source certificate a) same (inl (at_held (get contents source) bytes (λ bs. IsNotStraight bs line) held is))
+      subst (λ (a : Answer). AnswersCheck contents source certificate a) same
+      (inl (at_held (get contents source) bytes (λ bs. IsNotStraight bs line) held is))
   refusal_known (Some contents) answer unread.Memory held is e = absurd (cc e)
 
-  pub answers_unread : (result : Result code.Answer Stop) (why : Unread) (seen : List ℕ) (known : Option Contents) → IfSome known (λ contents. get contents source ≡ Some bytes)
+  pub answers_unread : (result : Result code.Answer Stop) (why : Unread) (seen : List ℕ) (known : Option Contents)
+      → IfSome known (λ contents. get contents source ≡ Some bytes)
       → seen ≡ bytes → IsUnread seen why → plain_result result ≡ answer_to why
-      → IfOk result (λ answer. IfSome known (λ contents. AnswersCheck contents source certificate (plain_answer answer)))
+      → IfOk result (λ answer.
+      IfSome known (λ contents. AnswersCheck contents source certificate (plain_answer answer)))
   answers_unread (Err stop) why seen known held same is e = tt
   answers_unread (Ok answer) why seen known held same is e =
       refusal_known known (plain_answer answer) why held (subst (λ (bs : List ℕ). IsUnread bs why) same is) (sym e)

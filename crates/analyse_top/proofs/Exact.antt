@@ -21,7 +21,8 @@ few_cells source is = omega (arith, (counts source).1, is.most)
 few_nodes : (source : Source) → IsSource source → length (program_of source).acts + 1 < 2 ^ 32
 few_nodes source is = omega (arith, (counts source).0, is.most_acts)
 
-one_behind : (contents : Contents) (certificate bytes : List ℕ) (tokens : List Token) (source : Source) (a b : Answer) → IsWritten bytes tokens source
+one_behind : (contents : Contents) (certificate bytes : List ℕ) (tokens : List Token) (source : Source) (a b : Answer)
+    → IsWritten bytes tokens source
     → Behind contents certificate tokens source a → Behind contents certificate tokens source b → a ≡ b
 one_behind contents certificate bytes tokens source a b wrote =
     let cells = length (program_of source).digits in
@@ -33,7 +34,8 @@ one_behind contents certificate bytes tokens source a b wrote =
     a b
 
 module _ (law : (bytes : List ℕ) → OneAnswer bytes) where
-  same_answer : (contents : Contents) (words : List (List ℕ)) (a b : Answer) → Answers (Some contents) words a → Answers (Some contents) words b → a ≡ b
+  same_answer : (contents : Contents) (words : List (List ℕ)) (a b : Answer)
+      → Answers (Some contents) words a → Answers (Some contents) words b → a ≡ b
   same_answer contents = one_answer contents (one_ending law) (one_behind contents)
 
   pub is_exact : (call : Call) → Concludes call → IsExact call

@@ -95,13 +95,15 @@ module _ (contents : Contents) (certificate : List ℕ) (program : Program) (lin
 
 -- ---- the source, and the command
 
-held_bytes : (held : Option (List ℕ)) (P : List ℕ → Type 0) → IsSomeAnd held P → (bytes : List ℕ) × (held ≡ Some bytes) × P bytes
+held_bytes : (held : Option (List ℕ)) (P : List ℕ → Type 0) → IsSomeAnd held P
+    → (bytes : List ℕ) × (held ≡ Some bytes) × P bytes
 held_bytes None P h = absurd h
 held_bytes (Some bytes) P h = (bytes, refl, h)
 
 module _ (contents : Contents) where
   abbrev pub Behind : List ℕ → List Token → Source → Answer → Type 0
-  Behind certificate tokens source answer = AnswersProgram contents certificate (program_of source) (statement_lines tokens source) answer
+  Behind certificate tokens source answer =
+      AnswersProgram contents certificate (program_of source) (statement_lines tokens source) answer
 
   -- what the source's end leads to
   abbrev Leads : List ℕ → Ending → Answer → Type 0
@@ -118,9 +120,11 @@ module _ (contents : Contents) where
     leads : Leads certificate ending answer
 
   abbrev SourceMeans : List ℕ → List ℕ → Answer → Type 0
-  SourceMeans name certificate answer = ((get contents name ≡ None) × (answer ≡ Absent name)) ⊎ Holds name certificate answer
+  SourceMeans name certificate answer =
+      ((get contents name ≡ None) × (answer ≡ Absent name)) ⊎ Holds name certificate answer
 
-  refusal_means : (name certificate : List ℕ) (answer : Answer) → AnswersSource contents name answer → SourceMeans name certificate answer
+  refusal_means : (name certificate : List ℕ) (answer : Answer) → AnswersSource contents name answer
+      → SourceMeans name certificate answer
   refusal_means name certificate (Absent other) h = inl (h.0, ap Absent h.1)
   refusal_means name certificate (Refused cause) h =
       let w = held_bytes (get contents name) (λ bytes. IsProfileCause bytes cause) h in
@@ -133,32 +137,47 @@ module _ (contents : Contents) where
   refusal_means name certificate (NotInductive edge gap) h = absurd h
   refusal_means name certificate (Report alarms) h = absurd h
 
-  check_means : (name certificate : List ℕ) (answer : Answer) → AnswersCheck contents name certificate answer → SourceMeans name certificate answer
+  check_means : (name certificate : List ℕ) (answer : Answer) → AnswersCheck contents name certificate answer
+      → SourceMeans name certificate answer
   check_means name certificate answer (inl refusal) = refusal_means name certificate answer refusal
   check_means name certificate answer (inr (tokens, source, holds, behind)) =
-      inr (record { bytes = holds.bytes; held = holds.held; ending = written tokens source; ends = holds.written; leads = behind })
+      inr (record {
+        bytes = holds.bytes;
+        held = holds.held;
+        ending = written tokens source;
+        ends = holds.written;
+        leads = behind;
+      })
 
   module _ (one_ending : (bytes : List ℕ) (a b : Ending) → EndsIn bytes a → EndsIn bytes b → a ≡ b)
-      (one_behind : (certificate bytes : List ℕ) (tokens : List Token) (source : Source) (a b : Answer) → IsWritten bytes tokens source → Behind certificate tokens source a → Behind certificate tokens source b → a ≡ b) where
-    one_lead : (certificate bytes : List ℕ) (x : Ending) (a b : Answer) → EndsIn bytes x → Leads certificate x a → Leads certificate x b → a ≡ b
+      (one_behind : (certificate bytes : List ℕ) (tokens : List Token) (source : Source) (a b : Answer)
+      → IsWritten bytes tokens source → Behind certificate tokens source a → Behind certificate tokens source b → a ≡ b) where
+    one_lead : (certificate bytes : List ℕ) (x : Ending) (a b : Answer)
+        → EndsIn bytes x → Leads certificate x a → Leads certificate x b → a ≡ b
     one_lead certificate bytes (refused cause) a b ends h k = h ∙ sym k
     one_lead certificate bytes (stopped line) a b ends h k = h ∙ sym k
-    one_lead certificate bytes (written tokens source) a b ends h k = one_behind certificate bytes tokens source a b ends h k
+    one_lead certificate bytes (written tokens source) a b ends h k =
+        one_behind certificate bytes tokens source a b ends h k
 
     one_held : (name certificate : List ℕ) (a b : Answer) → Holds name certificate a → Holds name certificate b → a ≡ b
     one_held name certificate a b h k =
         let same : h.bytes ≡ k.bytes = same_Some h.bytes k.bytes (sym h.held ∙ k.held) in
-        let ending : h.ending ≡ k.ending = one_ending k.bytes h.ending k.ending (subst (λ (bs : List ℕ). EndsIn bs h.ending) same h.ends) k.ends in
-        one_lead certificate k.bytes k.ending a b k.ends (subst (λ (x : Ending). Leads certificate x a) ending h.leads) k.leads
+        let there = subst (λ (bs : List ℕ). EndsIn bs h.ending) same h.ends in
+        let ending : h.ending ≡ k.ending = one_ending k.bytes h.ending k.ending there k.ends in
+        let leads = subst (λ (x : Ending). Leads certificate x a) ending h.leads in
+        one_lead certificate k.bytes k.ending a b k.ends leads k.leads
 
-    one_source_meaning : (name certificate : List ℕ) (a b : Answer) → SourceMeans name certificate a → SourceMeans name certificate b → a ≡ b
+    one_source_meaning : (name certificate : List ℕ) (a b : Answer)
+        → SourceMeans name certificate a → SourceMeans name certificate b → a ≡ b
     one_source_meaning name certificate a b (inl (none, e)) (inl (none', f)) = e ∙ sym f
     one_source_meaning name certificate a b (inl (none, e)) (inr k) = let apart = sym none ∙ k.held in cc
     one_source_meaning name certificate a b (inr h) (inl (none, f)) = let apart = sym none ∙ h.held in cc
     one_source_meaning name certificate a b (inr h) (inr k) = one_held name certificate a b h k
 
-    one_for_check : (name certificate : List ℕ) (a b : Answer) → AnswersCheck contents name certificate a → AnswersCheck contents name certificate b → a ≡ b
-    one_for_check name certificate a b h k = one_source_meaning name certificate a b (check_means name certificate a h) (check_means name certificate b k)
+    one_for_check : (name certificate : List ℕ) (a b : Answer)
+        → AnswersCheck contents name certificate a → AnswersCheck contents name certificate b → a ≡ b
+    one_for_check name certificate a b h k =
+        one_source_meaning name certificate a b (check_means name certificate a h) (check_means name certificate b k)
 
     one_command : (words : List (List ℕ)) (name certificate name' certificate' : List ℕ) → IsCheck words name certificate → IsCheck words name' certificate' → (name ≡ name') × (certificate ≡ certificate')
     one_command words name certificate name' certificate' is is' =

@@ -48,15 +48,19 @@ one_stop bytes m n h k =
     let same : h.tokens ≡ k.tokens = same_tokens h.tokens k.tokens (sym h.read ∙ k.read) in
     one_refusal k.tokens m n (subst (λ (ts : List Token). StopsAtLine ts m) same h.stops) k.stops
 
-stopped_or_written : (bytes : List ℕ) (line : ℕ) (tokens : List Token) (source : Source) → IsNotStraight bytes line → IsWritten bytes tokens source → ⊥
+stopped_or_written : (bytes : List ℕ) (line : ℕ) (tokens : List Token) (source : Source)
+    → IsNotStraight bytes line → IsWritten bytes tokens source → ⊥
 stopped_or_written bytes line tokens source h k =
     let same : h.tokens ≡ tokens = same_tokens h.tokens tokens (sym h.read ∙ k.read) in
-    read_or_refused tokens line (source, k.is_source, k.tokens_are) (subst (λ (ts : List Token). StopsAtLine ts line) same h.stops)
+    read_or_refused tokens line (source, k.is_source, k.tokens_are)
+    (subst (λ (ts : List Token). StopsAtLine ts line) same h.stops)
 
-one_writing : (bytes : List ℕ) (ts us : List Token) (s t : Source) → IsWritten bytes ts s → IsWritten bytes us t → written ts s ≡ written us t
+one_writing : (bytes : List ℕ) (ts us : List Token) (s t : Source)
+    → IsWritten bytes ts s → IsWritten bytes us t → written ts s ≡ written us t
 one_writing bytes ts us s t h k =
     let tokens : ts ≡ us = same_tokens ts us (sym h.read ∙ k.read) in
-    let source : s ≡ t = same_source s t h.is_source k.is_source (sym h.tokens_are ∙ ap toks tokens ∙ k.tokens_are) in
+    let source : s ≡ t =
+    same_source s t h.is_source k.is_source (sym h.tokens_are ∙ ap toks tokens ∙ k.tokens_are) in
     ap (λ (x : List Token). written x s) tokens ∙ ap (λ (x : Source). written us x) source
 
 -- ---- causes

@@ -112,21 +112,24 @@ pub record HoldsSource (contents : Contents) (name : List ℕ) (tokens : List To
   pub written : IsWritten bytes tokens source
 
 -- the file holds these claims of the program, an interval for each cell at each node
-pub record HoldsClaims (contents : Contents) (name : List ℕ) (program : Program) (nodes : List (List Claim)) : Type 0 where
+pub record HoldsClaims (contents : Contents) (name : List ℕ) (program : Program) (nodes : List (List Claim))
+    : Type 0 where
   pub shape : FitsProgram program nodes
   pub held : get contents name ≡ Some (text_of (claims_lines (length program.digits) nodes))
   pub fits : length (text_of (claims_lines (length program.digits) nodes)) ≤ certificate_limit
 
 -- the file holds bytes of at most this length that fail at this line
 abbrev pub HoldsBad : Contents → List ℕ → ℕ → (List Line → Type 0) → ℕ → Type 0
-HoldsBad contents name limit texts line = IsSomeAnd (get contents name) (λ bytes. (length bytes ≤ limit) × FirstBad texts bytes line)
+HoldsBad contents name limit texts line =
+    IsSomeAnd (get contents name) (λ bytes. (length bytes ≤ limit) × FirstBad texts bytes line)
 
 abbrev pub HoldsLong : Contents → List ℕ → ℕ → Type 0
 HoldsLong contents name limit = IsSomeAnd (get contents name) (λ bytes. limit < length bytes)
 
 -- an alarm has the line of its statement
 abbrev pub alarm_at : List ℕ → Open → Alarm
-alarm_at lines pair = record { kind = pair.kind; statement = pair.statement; line = slice_index lines (pair.statement - 1) }
+alarm_at lines pair =
+    record { kind = pair.kind; statement = pair.statement; line = slice_index lines (pair.statement - 1) }
 
 abbrev pub alarms_of : Program → List ℕ → List (List Claim) → List Alarm
 alarms_of program lines nodes = map (alarm_at lines) (open_pairs program nodes)
@@ -145,24 +148,30 @@ AnswersSource contents source (Report alarms) = ⊥
 
 -- a refusal of the certificate, or what it shows of the program whose statements stand on these lines
 abbrev pub AnswersProgram : Contents → List ℕ → Program → List ℕ → Answer → Type 0
-AnswersProgram contents certificate program lines (Absent name) = (get contents certificate ≡ None) × (name ≡ certificate)
+AnswersProgram contents certificate program lines (Absent name) =
+    (get contents certificate ≡ None) × (name ≡ certificate)
 AnswersProgram contents certificate program lines CertificateLong = HoldsLong contents certificate certificate_limit
 AnswersProgram contents certificate program lines (NotYet line) =
-    HoldsBad contents certificate certificate_limit (AreClaimsLines (length program.digits) (length program.acts + 1)) line
+    HoldsBad contents certificate certificate_limit
+    (AreClaimsLines (length program.digits) (length program.acts + 1)) line
 AnswersProgram contents certificate program lines (NotInductive edge gap) =
-    (nodes : List (List Claim)) × HoldsClaims contents certificate program nodes × (slice_get (leaks program nodes) 0 ≡ Some (leak edge gap))
+    (nodes : List (List Claim)) × HoldsClaims contents certificate program nodes
+    × (slice_get (leaks program nodes) 0 ≡ Some (leak edge gap))
 AnswersProgram contents certificate program lines (Report alarms) =
-    (nodes : List (List Claim)) × HoldsClaims contents certificate program nodes × (leaks program nodes ≡ []) × (alarms ≡ alarms_of program lines nodes)
+    (nodes : List (List Claim)) × HoldsClaims contents certificate program nodes
+    × (leaks program nodes ≡ []) × (alarms ≡ alarms_of program lines nodes)
 AnswersProgram contents certificate program lines (Usage word) = ⊥
 AnswersProgram contents certificate program lines (Refused cause) = ⊥
 
 abbrev pub AnswersCheck : Contents → List ℕ → List ℕ → Answer → Type 0
 AnswersCheck contents source certificate answer =
     AnswersSource contents source answer
-    ⊎ ((tokens : List Token) × (s : Source) × HoldsSource contents source tokens s × AnswersProgram contents certificate (program_of s) (statement_lines tokens s) answer)
+    ⊎ ((tokens : List Token) × (s : Source) × HoldsSource contents source tokens s
+    × AnswersProgram contents certificate (program_of s) (statement_lines tokens s) answer)
 
 -- The answer to these words, where the files' contents are known; a command's form shows in the words alone.
 abbrev pub Answers : Option Contents → List (List ℕ) → Answer → Type 0
 Answers known words answer =
     (((source certificate : List ℕ) → IsCheck words source certificate → ⊥) × (answer ≡ Usage (first_word words)))
-    ⊎ ((source : List ℕ) × (certificate : List ℕ) × IsCheck words source certificate × IfSome known (λ contents. AnswersCheck contents source certificate answer))
+    ⊎ ((source : List ℕ) × (certificate : List ℕ) × IsCheck words source certificate
+    × IfSome known (λ contents. AnswersCheck contents source certificate answer))

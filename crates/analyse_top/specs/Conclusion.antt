@@ -52,7 +52,8 @@ call words files_before files_after out_before out_after status = record {
 pub record EndsBy (call : Call) (answer : Answer) : Type 0 where
   pub is_answer : Answers (known_bytes call.files_before) call.words answer
   pub reading : call.files_after.reading ≡ call.files_before.reading
-  pub shows : Shows call.out_before call.out_after (answer_text answer) (status_of answer) (status_unwritten answer) call.status
+  pub shows : Shows call.out_before call.out_after
+      (answer_text answer) (status_of answer) (status_unwritten answer) call.status
 
 -- a read fault, which its count shows
 pub record EndsByReadFault (call : Call) : Type 0 where
@@ -82,8 +83,10 @@ pub record Concludes (call : Call) : Type 0 where
 -- Where the contents are known, each answer is given exactly where it is the answer, unless a read failed or
 -- memory ran out.
 abbrev pub IsExact : Call → Type 0
-IsExact call = (contents : Contents) (answer : Answer) → known_bytes call.files_before ≡ Some contents → Answers (Some contents) call.words answer →
-    EndsBy call answer ⊎ EndsByReadFault call ⊎ EndsByMemory call
+IsExact call =
+    (contents : Contents) (answer : Answer) → known_bytes call.files_before ≡ Some contents
+    → Answers (Some contents) call.words answer
+    → EndsBy call answer ⊎ EndsByReadFault call ⊎ EndsByMemory call
 
 -- The headline: where `check` answers 0, SOURCE is a program of the profile, its canonical tokens are those of a source
 -- of the form, and whatever the number of steps, its run meets no size error, no truncation and no other fault.
@@ -97,4 +100,6 @@ pub record IsClean (contents : Contents) (words : List (List ℕ)) : Type 0 wher
   pub safe : MeetsNoFault (program_of source)
 
 abbrev pub CleanIsSafe : Call → Type 0
-CleanIsSafe call = (contents : Contents) → known_bytes call.files_before ≡ Some contents → call.status ≡ 0 → IsClean contents call.words
+CleanIsSafe call =
+    (contents : Contents) → known_bytes call.files_before ≡ Some contents → call.status ≡ 0
+    → IsClean contents call.words

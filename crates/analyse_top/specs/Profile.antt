@@ -22,7 +22,8 @@ pub record IsOfProfile (bytes : List ℕ) : Type 0 where
 
 -- why the bytes aren't: they are no source of a program, or this program has no graph within the limits
 abbrev pub IsProfileCause : List ℕ → FrontEnd → Type 0
-IsProfileCause bytes cause = IsCause bytes cause ⊎ ((program : Program) × IsSource bytes program × IsControlCause program cause)
+IsProfileCause bytes cause =
+    IsCause bytes cause ⊎ ((program : Program) × IsSource bytes program × IsControlCause program cause)
 
 -- The bytes are of the profile, and their canonical tokens are those of this source of the straight-line form.
 pub record IsWritten (bytes : List ℕ) (tokens : List Token) (source : Source) : Type 0 where

@@ -54,7 +54,9 @@ pub record IsCheckable (read : StraightLines) : Type 0 where
 
 -- the bytes write this program, on these lines
 abbrev pub Writes : List ℕ → StraightLines → Type 0
-Writes bytes read = (tokens : List Token) × (source : Source) × IsWritten bytes tokens source × (plain read.program ≡ program_of source) × (read.lines.items ≡ statement_lines tokens source)
+Writes bytes read =
+    (tokens : List Token) × (source : Source) × IsWritten bytes tokens source
+    × (plain read.program ≡ program_of source) × (read.lines.items ≡ statement_lines tokens source)
 
 -- why the bytes aren't read, or want of memory
 abbrev pub IsUnread : List ℕ → Unread → Type 0
@@ -93,18 +95,24 @@ HasLine lines pair = (1 ≤ pair.statement) × (pair.statement ≤ length lines)
 
 -- the answer that says what the checker says
 abbrev pub AnswersChecked : List ℕ → Result (Vec Open Global) CheckEnd → Result Answer Stop → Type 0
-AnswersChecked lines (Ok pairs) result = MatchResult result (λ answer. answer ≡ Report (map (alarm_at lines) pairs.items)) (λ stop. stop ≡ Memory)
+AnswersChecked lines (Ok pairs) result =
+    MatchResult result (λ answer. answer ≡ Report (map (alarm_at lines) pairs.items)) (λ stop. stop ≡ Memory)
 AnswersChecked lines (Err (check.NotInductive layer edge gap)) result = result ≡ Ok (NotInductive edge gap)
 AnswersChecked lines (Err check.Memory) result = result ≡ Err Memory
 AnswersChecked lines (Err (check.Shape what found wanted)) result = ⊥
 
 -- the answer to a certificate of these bytes
 abbrev pub AnswersBytes : List ℕ → Program → List ℕ → Answer → Type 0
-AnswersBytes bytes program lines (NotYet line) = FirstBad (AreClaimsLines (length program.digits) (length program.acts + 1)) bytes line
+AnswersBytes bytes program lines (NotYet line) =
+    FirstBad (AreClaimsLines (length program.digits) (length program.acts + 1)) bytes line
 AnswersBytes bytes program lines (NotInductive edge gap) =
-    (nodes : List (List Claim)) × FitsProgram program nodes × (bytes ≡ text_of (claims_lines (length program.digits) nodes)) × (slice_get (leaks program nodes) 0 ≡ Some (leak edge gap))
+    (nodes : List (List Claim)) × FitsProgram program nodes
+    × (bytes ≡ text_of (claims_lines (length program.digits) nodes))
+    × (slice_get (leaks program nodes) 0 ≡ Some (leak edge gap))
 AnswersBytes bytes program lines (Report alarms) =
-    (nodes : List (List Claim)) × FitsProgram program nodes × (bytes ≡ text_of (claims_lines (length program.digits) nodes)) × (leaks program nodes ≡ []) × (alarms ≡ alarms_of program lines nodes)
+    (nodes : List (List Claim)) × FitsProgram program nodes
+    × (bytes ≡ text_of (claims_lines (length program.digits) nodes))
+    × (leaks program nodes ≡ []) × (alarms ≡ alarms_of program lines nodes)
 AnswersBytes bytes program lines (Usage word) = ⊥
 AnswersBytes bytes program lines (Absent name) = ⊥
 AnswersBytes bytes program lines (Refused cause) = ⊥

@@ -24,12 +24,15 @@ kind_text kind.Zero = codes "ZERO"
 kind_text kind.Class = codes "CLASS"
 
 abbrev pub alarm_text : Alarm → List ℕ
-alarm_text alarm = kind_text alarm.kind ++ codes " statement " ++ decimal alarm.statement ++ codes " line " ++ decimal alarm.line ++ line_end
+alarm_text alarm =
+    kind_text alarm.kind ++ codes " statement " ++ decimal alarm.statement
+    ++ codes " line " ++ decimal alarm.line ++ line_end
 
 -- `clean`, or a line for each alarm and their number
 abbrev pub report_text : List Alarm → List ℕ
 report_text [] = codes "clean" ++ line_end
-report_text (alarm ∷ alarms) = flat_map alarm_text (alarm ∷ alarms) ++ codes "alarms " ++ decimal (length (alarm ∷ alarms)) ++ line_end
+report_text (alarm ∷ alarms) =
+    flat_map alarm_text (alarm ∷ alarms) ++ codes "alarms " ++ decimal (length (alarm ∷ alarms)) ++ line_end
 
 abbrev pub bound_text : Option ℤ → List ℕ
 bound_text None = codes "none"
@@ -42,7 +45,8 @@ abbrev pub ends_text : ℤ → ℤ → List ℕ
 ends_text reached claimed = codes " reached " ++ signed_decimal reached ++ codes " claimed " ++ signed_decimal claimed
 
 abbrev pub place_text : ℕ → ℕ → ℕ → List ℕ
-place_text pack row column = codes " pack " ++ decimal pack ++ codes " row " ++ decimal row ++ codes " column " ++ decimal column
+place_text pack row column =
+    codes " pack " ++ decimal pack ++ codes " row " ++ decimal row ++ codes " column " ++ decimal column
 
 abbrev pub difference_text : Option ℤ → ℤ → List ℕ
 difference_text reached claimed = codes " reached " ++ bound_text reached ++ codes " claimed " ++ signed_decimal claimed

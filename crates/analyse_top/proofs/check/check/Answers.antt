@@ -10,5 +10,6 @@ returns-in-Ok-read_straight-clause-answer g c =
 
 pub returns-clause-answer : goal.returns-clause-answer
 returns-clause-answer g c =
-    answers_unread c.args.source.now c.args.certificate.now c.in-Ok.bytes.items c.answer_to.result c.in-Err.end c.deref.result.now
-    (known_bytes (g.F.Files.state c.args.files.now)) c.in-Ok.ensures.ok.1 c.deref.ensures.value c.in-Err.ensures.reads c.answer_to.ensures
+    answers_unread c.args.source.now c.args.certificate.now c.in-Ok.bytes.items c.answer_to.result c.in-Err.end
+    c.deref.result.now (known_bytes (g.F.Files.state c.args.files.now)) c.in-Ok.ensures.ok.1 c.deref.ensures.value
+    c.in-Err.ensures.reads c.answer_to.ensures
