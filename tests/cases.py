@@ -18,12 +18,51 @@ def answer(words, folder):
     return done.returncode, done.stdout.decode("latin-1")
 
 
+def cases_of(name):
+    """The cases of a file, each with its name."""
+    for number, line in enumerate((ROOT / "tests/cases" / name).open(), 1):
+        yield f"{name} {number}", json.loads(line)
+
+
 def listed():
-    """The reference cases: a source, a certificate, the status and the output."""
-    for name in ("thin.jsonl", "straight.jsonl"):
-        for number, line in enumerate((ROOT / "tests/cases" / name).open(), 1):
-            case = json.loads(line)
-            yield f"{name} {number}", case["source"], case["certificate"], case["status"], case["out"]
+    """The reference cases: a source, a certificate, the status and the output. They were worked out for sources of the
+    straight-line form alone; changed.jsonl has those whose source is refused before its form is looked at, with the
+    reason."""
+    changed = {case["case"]: case for _, case in cases_of("changed.jsonl")}
+    for file in ("thin.jsonl", "straight.jsonl"):
+        for name, case in cases_of(file):
+            wanted = changed.get(name, case)
+            yield name, case["source"], case["certificate"], wanted["status"], wanted["out"]
+
+
+def refused_sources():
+    """The refused sources of the grammar's, the profile's and the rules' cases: `check` refuses them likewise."""
+    for file in ("grammar.jsonl", "profile.jsonl", "rules.jsonl"):
+        for name, case in cases_of(file):
+            if case["refused"]:
+                status = 9 if case["refused"].startswith("E10") else 2
+                yield f"check {name}", case["source"], CERTIFICATE, status, case["refused"] + "\n"
+
+
+def of_the_graph():
+    """Programs whose graph is refused. Each paragraph of the first performs the next one twice."""
+    def numbered(number):
+        return f"       P-{number:04}.\n"
+
+    before = SAMPLE[: SAMPLE.index("       ADD")]
+    doubling = "".join(numbered(i) + 2 * f"           PERFORM P-{i + 1:04}.\n" for i in range(1, 40))
+    nodes = before + "       PERFORM P-0001.\n       STOP RUN.\n" + doubling + numbered(40) + "           EXIT.\n"
+    yield "nodes without number", nodes, CERTIFICATE, 9, "E10 nodes 1000000000\n"
+    counters = 512 * "       PERFORM 1 TIMES CONTINUE END-PERFORM.\n"
+    yield "513 cells", before + counters, CERTIFICATE, 9, "E10 cells 513\n"
+    rules = {
+        "A.\n       PERFORM B.\n       B.\n       PERFORM A.": "N1 line 8",
+        "PERFORM B THRU C.\n       STOP RUN.\n       B.\n       PERFORM C.\n       C.\n       EXIT.": "N2 line 10",
+        "PERFORM B.\n       STOP RUN.\n       B.\n       GO TO C.\n       C.\n       STOP RUN.": "N3 line 10",
+        "PERFORM C THRU B.\n       STOP RUN.\n       B.\n       EXIT.\n       C.\n       EXIT.": "N4 line 7",
+    }
+    for lines, rule in rules.items():
+        yield rule, f"{before}       {lines}\n", CERTIFICATE, 2, f"E9 {rule}\n"
 
 
 def of_the_sample():
@@ -69,21 +108,21 @@ def over_tokens():
     joined = two.replace(" VALUE 998.\n       PROCEDURE DIVISION.\n       ADD", " VALUE 998. PROCEDURE DIVISION. ADD")
     yield "one line for three", joined, CERTIFICATE, 1, alarm.format(5)
     refused = {
-        "a reserved word as item": (SAMPLE.replace("77 N", "77 SIZE"), "E20 line 5"),
-        "a reserved word as program": (SAMPLE.replace("T.", "PROGRAM.", 1), "E20 line 2"),
-        "an undeclared name": (SAMPLE.replace("TO N.", "TO\n       M."), "E20 line 8"),
-        "a name declared twice": (SAMPLE.replace("       77", "       77 n PIC 9(1) VALUE 0.\n       77"), "E20 line 6"),
+        "a reserved word as item": (SAMPLE.replace("77 N", "77 SIZE"), "E8 line 5"),
+        "a reserved word as program": (SAMPLE.replace("T.", "PROGRAM.", 1), "E8 line 2"),
+        "an undeclared name": (SAMPLE.replace("TO N.", "TO\n       M."), "E9 Q1 line 7"),
+        "a name declared twice": (SAMPLE.replace("       77", "       77 n PIC 9(1) VALUE 0.\n       77"), "E9 Q1 line 8"),
         "a signed VALUE": (SAMPLE.replace("998", "+998"), "E20 line 5"),
-        "a VALUE with a point": (SAMPLE.replace("998", "99.8"), "E20 line 5"),
-        "a VALUE too large": (SAMPLE.replace("VALUE 998", "VALUE\n       1000"), "E20 line 6"),
+        "a VALUE with a point": (SAMPLE.replace("998", "99.8"), "E9 L5 line 5"),
+        "a VALUE too large": (SAMPLE.replace("VALUE 998", "VALUE\n       1000"), "E9 L5 line 5"),
         "a count with a leading zero": (SAMPLE.replace("9(3)", "9(03)"), "E20 line 5"),
         "another level": (SAMPLE.replace("77", "01"), "E20 line 5"),
         "no point": (SAMPLE.replace("TO N.", "TO N"), "E20 line 8"),
         "a statement behind STOP RUN": (SAMPLE + "\n       STOP RUN.\n", "E20 line 10"),
         "nothing behind": (SAMPLE.replace("       STOP RUN.\n", "\n      * nothing\n"), "E20 line 7"),
-        "no point at the end": (SAMPLE.replace("RUN.", "RUN"), "E20 line 8"),
-        "an empty source": ("", "E20 line 1"),
-        "comments alone": ("\n      * nothing\n", "E20 line 1"),
+        "no point at the end": (SAMPLE.replace("RUN.", "RUN"), "E8 line 8"),
+        "an empty source": ("", "E8 line 1"),
+        "comments alone": ("\n      * nothing\n", "E8 line 1"),
         "a tab": ("\t" + SAMPLE[1:], "E6 line 1 column 1"),
         "an indicator": (SAMPLE.replace("       ADD", "      XADD"), "E6 line 7 column 7"),
         "a byte": (SAMPLE.replace("ADD 1", "ADD\x7f1"), "E6 line 7 column 11"),
@@ -111,19 +150,16 @@ def probe():
 def of_the_grammar():
     """Sources and the first words of the answer. Where the grammar refuses nothing, a later rule may."""
     later = ("accepted ", "E9 ", "E10 items ", "E10 storage ", "E10 files ")
-    for number, line in enumerate((ROOT / "tests/cases/grammar.jsonl").open(), 1):
-        case = json.loads(line)
-        yield f"grammar.jsonl {number}", case["source"].encode("latin-1"), (case["refused"],) if case["refused"] else later
+    for name, case in cases_of("grammar.jsonl"):
+        yield name, case["source"].encode("latin-1"), (case["refused"],) if case["refused"] else later
 
 
 def of_the_profile():
     """Sources and what is answered: the first broken rule, the first limit, or the number of statements."""
-    for number, line in enumerate((ROOT / "tests/cases/profile.jsonl").open(), 1):
-        case = json.loads(line)
-        yield f"profile.jsonl {number}", case["source"].encode("latin-1"), (case["refused"] or f"accepted {case['statements']}",)
-    for number, line in enumerate((ROOT / "tests/cases/rules.jsonl").open(), 1):
-        case = json.loads(line)
-        yield f"rules.jsonl {number}", case["source"].encode("latin-1"), (case["refused"],)
+    for name, case in cases_of("profile.jsonl"):
+        yield name, case["source"].encode("latin-1"), (case["refused"] or f"accepted {case['statements']}",)
+    for name, case in cases_of("rules.jsonl"):
+        yield name, case["source"].encode("latin-1"), (case["refused"],)
     for name, statements in (("payroll", 50), ("listing", 7)):
         yield name, (ROOT / f"samples/{name}.cob").read_bytes(), (f"accepted {statements}",)
 
@@ -148,7 +184,7 @@ def main():
         passed, failed = refusals(folder)
     with tempfile.TemporaryDirectory() as folder:
         source, certificate = pathlib.Path(folder, "S"), pathlib.Path(folder, "C")
-        for name, text, claims, status, out in [*listed(), *of_the_sample(), *over_tokens()]:
+        for name, text, claims, status, out in [*listed(), *refused_sources(), *of_the_graph(), *of_the_sample(), *over_tokens()]:
             source.write_bytes(text.encode("latin-1"))
             certificate.write_bytes(claims.encode("latin-1"))
             found = answer(["check", "S", "C"], folder)

@@ -6,21 +6,31 @@ use Rattle.cob_meaning.specs.Run.{MeetsNoFault}
 use Rattle.cert_check.specs.Inductive.{open_pairs}
 use Rattle.cert_check.proofs.Runs.{faults_open, none_open}
 use Rattle.cob_tree.specs.declared.token.Token.{Token}
+use Rattle.cob_front.specs.declared.end.FrontEnd.{FrontEnd}
+use Rattle.cob_front.specs.declared.end.FrontEnd.TheVariants as end
 use Rattle.straight_source.specs.Source.{Source, program_of, statement_lines}
 use Rattle.straight_source.proofs.Whole.{source_valid}
-use Rattle.analyse_top.specs.Answer.{Answer, Usage, Absent, SourceLong, BadLine, BadToken, NotYet, CertificateLong, NotInductive, Report, Answers, AnswersProgram, HoldsSource, alarm_at, status_of, status_unwritten}
+use Rattle.analyse_top.specs.Answer.{Answer, Usage, Absent, Refused, NotYet, CertificateLong, NotInductive, Report, Answers, AnswersProgram, HoldsSource, alarm_at, refusal_status, status_of, status_unwritten}
 use Rattle.analyse_top.specs.Conclusion.{Call, Concludes, CleanIsSafe, IsClean, EndsBy}
 
 none_left : (lines : List ℕ) (pairs : List Open) → [] ≡ map (alarm_at lines) pairs → pairs ≡ []
 none_left lines [] e = refl
 none_left lines (pair ∷ pairs) e = cc
 
+refusal_not_zero : (cause : FrontEnd) → refusal_status cause ≡ 0 → ⊥
+refusal_not_zero end.TooLong e = omega arith
+refusal_not_zero (end.BadLine line column) e = omega arith
+refusal_not_zero (end.BadToken line column) e = omega arith
+refusal_not_zero (end.Syntax line) e = omega arith
+refusal_not_zero (end.Nesting count) e = omega arith
+refusal_not_zero (end.Outside rule line) e = omega arith
+refusal_not_zero (end.Limit which count) e = omega arith
+refusal_not_zero end.Memory e = omega arith
+
 zero_report : (answer : Answer) → status_of answer ≡ 0 → answer ≡ Report []
 zero_report (Usage word) e = absurd (omega arith)
 zero_report (Absent name) e = absurd (omega arith)
-zero_report SourceLong e = absurd (omega arith)
-zero_report (BadLine line column) e = absurd (omega arith)
-zero_report (BadToken line column) e = absurd (omega arith)
+zero_report (Refused cause) e = absurd (refusal_not_zero cause e)
 zero_report (NotYet line) e = absurd (omega arith)
 zero_report CertificateLong e = absurd (omega arith)
 zero_report (NotInductive edge gap) e = absurd (omega arith)
@@ -30,9 +40,7 @@ zero_report (Report (alarm ∷ alarms)) e = absurd (omega arith)
 never_zero : (answer : Answer) → status_unwritten answer ≡ 0 → ⊥
 never_zero (Usage word) e = omega arith
 never_zero (Absent name) e = omega arith
-never_zero SourceLong e = omega arith
-never_zero (BadLine line column) e = omega arith
-never_zero (BadToken line column) e = omega arith
+never_zero (Refused cause) e = refusal_not_zero cause e
 never_zero (NotYet line) e = omega arith
 never_zero CertificateLong e = omega arith
 never_zero (NotInductive edge gap) e = omega arith

@@ -1,5 +1,5 @@
 -- From what the parts did to how the call ends.
-use Rattle.std.proofs.Common.{◌≡◌, ℕ, ◌≤◌, false, List, length, refl, sym, ap, ◌∙◌, subst, inl, inr, Result, Ok, Err, arith}
+use Rattle.std.proofs.Common.{◌≡◌, ℕ, ◌≤◌, false, List, length, ◌⊎◌, refl, sym, ap, ◌∙◌, subst, inl, inr, Result, Ok, Err, arith}
 use Rattle.std.specs.Prelude.{IfOk, IfSome, Option, Some, None}
 use Rattle.std.specs.FinMap.{get}
 use Rattle.cob_meaning.specs.Program.{Program, plain}
@@ -8,12 +8,19 @@ use Rattle.straight_source.specs.declared.read.StraightLines.{StraightLines}
 use Rattle.std.proofs.lemmas.List.{take_all}
 use Rattle.std.specs.Io.KnownBytes.{append_known}
 use Rattle.batch_io.specs.FilesState.{Contents, known_bytes}
+use Rattle.cob_front.specs.declared.end.FrontEnd.{FrontEnd}
+use Rattle.cob_front.specs.declared.end.FrontEnd.TheVariants as end
 use Rattle.analyse_top.specs.declared.answer.Stop.{Stop}
 use Rattle.analyse_top.specs.declared.answer.Answer as code
-use Rattle.analyse_top.specs.Answer.{Answer, Answers, AnswersCheck, AnswersProgram, IsCheck, source_limit, answer_text}
-use Rattle.analyse_top.specs.Conclusion.{Call, Concludes, EndsBy, EndsByMemory, Gains, GainsFront, memory_text}
-use Rattle.analyse_top.specs.Steps.{Reads, ShowsAnswer, ShowsRefusal, Writes}
-use Rattle.analyse_top.specs.View.{plain_answer}
+use Rattle.analyse_top.specs.declared.source.Unread.{Unread}
+use Rattle.analyse_top.specs.declared.source.Unread.TheVariants as unread
+use Rattle.analyse_top.specs.Profile.{IsProfileCause, IsNotStraight}
+use Rattle.analyse_top.specs.Answer.{Answer, Refused, NotYet, Answers, AnswersCheck, AnswersProgram, IsCheck, source_limit, answer_text}
+use Rattle.analyse_top.specs.Text.{memory_line}
+use Rattle.analyse_top.specs.Conclusion.{Call, Concludes, EndsBy, EndsByMemory, Gains, GainsFront}
+use Rattle.analyse_top.specs.Steps.{Reads, ShowsAnswer, ShowsRefusal, Writes, IsUnread, unread_for, answer_to}
+use Rattle.analyse_top.specs.View.{plain_answer, plain_result}
+use Rattle.analyse_top.proofs.Found.{at_held}
 
 module _ (call : Call) (reads : Reads call.files_before call.files_after false) where
   ends_in : (answer : Answer) → EndsBy call answer → Concludes call
@@ -25,15 +32,15 @@ module _ (call : Call) (reads : Reads call.files_before call.files_after false) 
   pub concludes_by_answer : (answer : Answer) → Answers (known_bytes call.files_before) call.words answer → ShowsAnswer call.out_before call.out_after answer call.status → Concludes call
   concludes_by_answer answer is (inl shows) = ends_in answer (record { is_answer = is; reading = reads.reading.kept refl; shows = shows })
   concludes_by_answer answer is (inr (eight, inl front)) = ends_out_of_memory (record { status = eight; shows = (answer_text answer, inr (inr (answer, is, refl)), front) })
-  concludes_by_answer answer is (inr (eight, inr front)) = ends_out_of_memory (record { status = eight; shows = (memory_text, inl refl, front) })
+  concludes_by_answer answer is (inr (eight, inr front)) = ends_out_of_memory (record { status = eight; shows = (memory_line, inl refl, front) })
 
-  whole_front : Gains call.out_before call.out_after memory_text → GainsFront call.out_before call.out_after memory_text
-  whole_front gains = (length memory_text, omega arith, gains ∙ ap (append_known call.out_before.told) (sym (take_all (length memory_text) memory_text (omega arith))))
+  whole_front : Gains call.out_before call.out_after memory_line → GainsFront call.out_before call.out_after memory_line
+  whole_front gains = (length memory_line, omega arith, gains ∙ ap (append_known call.out_before.told) (sym (take_all (length memory_line) memory_line (omega arith))))
 
-  pub concludes_by_memory : ShowsRefusal call.out_before call.out_after memory_text 8 call.status → Concludes call
-  concludes_by_memory (inl (inl (eight, gains, kept))) = ends_out_of_memory (record { status = eight; shows = (memory_text, inl refl, whole_front gains) })
-  concludes_by_memory (inl (inr (eight, front, rose))) = ends_out_of_memory (record { status = eight; shows = (memory_text, inl refl, front) })
-  concludes_by_memory (inr (eight, front)) = ends_out_of_memory (record { status = eight; shows = (memory_text, inl refl, front) })
+  pub concludes_by_memory : ShowsRefusal call.out_before call.out_after memory_line 8 call.status → Concludes call
+  concludes_by_memory (inl (inl (eight, gains, kept))) = ends_out_of_memory (record { status = eight; shows = (memory_line, inl refl, whole_front gains) })
+  concludes_by_memory (inl (inr (eight, front, rose))) = ends_out_of_memory (record { status = eight; shows = (memory_line, inl refl, front) })
+  concludes_by_memory (inr (eight, front)) = ends_out_of_memory (record { status = eight; shows = (memory_line, inl refl, front) })
 
 pub answers_check : (result : Result code.Answer Stop) (known : Option Contents) (words : List (List ℕ)) (source certificate : List ℕ) → IsCheck words source certificate →
     IfOk result (λ answer. IfSome known (λ contents. AnswersCheck contents source certificate (plain_answer answer))) → IfOk result (λ answer. Answers known words (plain_answer answer))
@@ -58,3 +65,41 @@ module _ (source certificate bytes : List ℕ) (fits : length bytes ≤ source_l
   answers_read (Ok answer) read seen known after held s w k h =
       let P : Option Contents → Type 0 = λ known. IfSome known (λ contents. AnswersProgram contents certificate (plain read.program) read.lines.items (plain_answer answer)) in
       read_known known read (plain_answer answer) held (subst (λ (bs : List ℕ). Writes bs read) s w) (subst P k h)
+
+-- ---- a source that isn't read
+
+pub unread_why : (bytes : List ℕ) (cause : FrontEnd) → IsProfileCause bytes cause ⊎ (cause ≡ end.Memory)
+    → IsUnread bytes (unread_for cause)
+unread_why bytes end.TooLong (inl is) = is
+unread_why bytes (end.BadLine line column) (inl is) = is
+unread_why bytes (end.BadToken line column) (inl is) = is
+unread_why bytes (end.Syntax line) (inl is) = is
+unread_why bytes (end.Nesting count) (inl is) = is
+unread_why bytes (end.Outside rule line) (inl is) = is
+unread_why bytes (end.Limit which count) (inl is) = is
+unread_why bytes end.Memory (inl is) = tt
+unread_why bytes cause (inr memory) = rw memory tt
+
+module _ (source certificate bytes : List ℕ) where
+  refusal_known : (known : Option Contents) (answer : Answer) (why : Unread)
+      → IfSome known (λ contents. get contents source ≡ Some bytes) → IsUnread bytes why → answer_to why ≡ Ok answer
+      → IfSome known (λ contents. AnswersCheck contents source certificate answer)
+  refusal_known None answer why held is e = tt
+  refusal_known (Some contents) answer (unread.Refused cause) held is e =
+      let same : Refused cause ≡ answer = cc in
+      subst (λ (a : Answer). AnswersCheck contents source certificate a) same
+      (inl (at_held (get contents source) bytes (λ bs. IsProfileCause bs cause) held is))
+  refusal_known (Some contents) answer (unread.NotYet line) held is e =
+      let same : NotYet line ≡ answer = cc in
+      subst (λ (a : Answer). AnswersCheck contents source certificate a) same
+      (inl (at_held (get contents source) bytes (λ bs. IsNotStraight bs line) held is))
+  refusal_known (Some contents) answer unread.Memory held is e = absurd (cc e)
+
+  pub answers_unread : (result : Result code.Answer Stop) (why : Unread) (seen : List ℕ) (known : Option Contents)
+      → IfSome known (λ contents. get contents source ≡ Some bytes)
+      → seen ≡ bytes → IsUnread seen why → plain_result result ≡ answer_to why
+      → IfOk result (λ answer.
+      IfSome known (λ contents. AnswersCheck contents source certificate (plain_answer answer)))
+  answers_unread (Err stop) why seen known held same is e = tt
+  answers_unread (Ok answer) why seen known held same is e =
+      refusal_known known (plain_answer answer) why held (subst (λ (bs : List ℕ). IsUnread bs why) same is) (sym e)

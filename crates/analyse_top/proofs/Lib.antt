@@ -3,6 +3,7 @@ pub mod Endings
 pub mod Words
 pub mod Clean
 pub mod Found
+pub mod Control
 pub mod Sources
 pub mod OneAnswer
 pub mod Exact

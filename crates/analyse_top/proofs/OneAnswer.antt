@@ -1,6 +1,6 @@
 -- Words and contents have one answer.
-use Rattle.std.proofs.Common.{◌≡◌, ℕ, ◌+◌, ◌≤◌, List, [], length, get_or, Some, ◌⊎◌, refl, sym, ap, ◌∙◌, subst, inl, inr}
-use Rattle.std.specs.Prelude.{slice_get}
+use Rattle.std.proofs.Common.{◌≡◌, ℕ, ◌+◌, ◌≤◌, List, [], length, get_or, Option, Some, None, ◌⊎◌, refl, sym, ap, ◌∙◌, subst, inl, inr}
+use Rattle.std.specs.Prelude.{slice_get, IsSomeAnd}
 use Rattle.std.specs.FinMap.{get}
 use Rattle.std.proofs.lemmas.Option.{same_Some}
 use Rattle.batch_io.specs.FilesState.{Contents}
@@ -11,11 +11,13 @@ use Rattle.cert_text.specs.declared.cert.Claim.{Claim}
 use Rattle.cert_check.specs.declared.ends.Gap.{Gap}
 use Rattle.cert_check.specs.declared.ends.Leak.{Leak}
 use Rattle.cert_check.specs.Inductive.{FitsProgram, leak, leaks}
-use Rattle.straight_source.specs.Source.{program_of, statement_lines}
+use Rattle.cob_tree.specs.declared.token.Token.{Token}
+use Rattle.straight_source.specs.Source.{Source, program_of, statement_lines}
 use Rattle.straight_claims.specs.Claims.{AreClaimsLines, claims_lines}
-use Rattle.analyse_top.specs.Answer.{Answer, Usage, Absent, SourceLong, BadLine, BadToken, NotYet, CertificateLong, NotInductive, Report, Answers, AnswersCheck, AnswersSource, AnswersProgram, IsCheck, HoldsClaims, RefusesBytes, alarms_of, source_limit, certificate_limit}
+use Rattle.analyse_top.specs.Answer.{Answer, Usage, Absent, Refused, NotYet, CertificateLong, NotInductive, Report, Answers, AnswersCheck, AnswersSource, AnswersProgram, IsCheck, HoldsClaims, alarms_of, certificate_limit}
+use Rattle.analyse_top.specs.Profile.{IsProfileCause, IsWritten, IsNotStraight}
 use Rattle.analyse_top.proofs.Found.{Found, Missing, Long, Bad, Good, Finds, at_held, one_found}
-use Rattle.analyse_top.proofs.Sources.{Writing, Wrote, one_refused, written_or_refused, one_written}
+use Rattle.analyse_top.proofs.Sources.{Ending, refused, stopped, written, EndsIn}
 
 -- ---- the certificate
 
@@ -33,10 +35,10 @@ module _ (contents : Contents) (certificate : List ℕ) (program : Program) (lin
   AreClaims bytes nodes = FitsProgram program nodes × (bytes ≡ claims_text nodes)
 
   module _ (one_line : (bytes : List ℕ) (m n : ℕ) → FirstBad claims_texts bytes m → FirstBad claims_texts bytes n → m ≡ n)
-      (refused : (nodes : List (List Claim)) (line : ℕ) → FitsProgram program nodes → FirstBad claims_texts (claims_text nodes) line → ⊥)
+      (never_both : (nodes : List (List Claim)) (line : ℕ) → FitsProgram program nodes → FirstBad claims_texts (claims_text nodes) line → ⊥)
       (one_value : (a b : List (List Claim)) → FitsProgram program a → FitsProgram program b → claims_text a ≡ claims_text b → a ≡ b) where
     claims_or_bad : (bytes : List ℕ) (nodes : List (List Claim)) (line : ℕ) → AreClaims bytes nodes → FirstBad claims_texts bytes line → ⊥
-    claims_or_bad bytes nodes line (fits, e) bad = refused nodes line fits (subst (λ (bytes : List ℕ). FirstBad claims_texts bytes line) e bad)
+    claims_or_bad bytes nodes line (fits, e) bad = never_both nodes line fits (subst (λ (bytes : List ℕ). FirstBad claims_texts bytes line) e bad)
 
     one_claims : (bytes : List ℕ) (a b : List (List Claim)) → AreClaims bytes a → AreClaims bytes b → a ≡ b
     one_claims bytes a b (fits, e) (fits', f) = one_value a b fits fits' (sym e ∙ f)
@@ -68,9 +70,7 @@ module _ (contents : Contents) (certificate : List ℕ) (program : Program) (lin
     means (NotInductive edge gap) (nodes, holds, first) = (Good nodes, held nodes holds, inl (edge, gap, first, refl))
     means (Report alarms) (nodes, holds, none, are) = (Good nodes, held nodes holds, inr (none, ap Report are))
     means (Usage word) h = absurd h
-    means SourceLong h = absurd h
-    means (BadLine line column) h = absurd h
-    means (BadToken line column) h = absurd h
+    means (Refused cause) h = absurd h
 
     one_checked : (nodes : List (List Claim)) (a b : Answer) → Checked nodes a → Checked nodes b → a ≡ b
     one_checked nodes a b (inl (edge, gap, first, e)) (inl (edge', gap', first', f)) =
@@ -95,54 +95,89 @@ module _ (contents : Contents) (certificate : List ℕ) (program : Program) (lin
 
 -- ---- the source, and the command
 
+held_bytes : (held : Option (List ℕ)) (P : List ℕ → Type 0) → IsSomeAnd held P
+    → (bytes : List ℕ) × (held ≡ Some bytes) × P bytes
+held_bytes None P h = absurd h
+held_bytes (Some bytes) P h = (bytes, refl, h)
+
 module _ (contents : Contents) where
-  abbrev FoundSource : Type 0
-  FoundSource = Found Answer Writing
+  abbrev pub Behind : List ℕ → List Token → Source → Answer → Type 0
+  Behind certificate tokens source answer =
+      AnswersProgram contents certificate (program_of source) (statement_lines tokens source) answer
 
-  abbrev FindsSource : List ℕ → FoundSource → Type 0
-  FindsSource name = Finds (get contents name) source_limit RefusesBytes Wrote one_refused written_or_refused one_written
+  -- what the source's end leads to
+  abbrev Leads : List ℕ → Ending → Answer → Type 0
+  Leads certificate (refused cause) answer = answer ≡ Refused cause
+  Leads certificate (stopped line) answer = answer ≡ NotYet line
+  Leads certificate (written tokens source) answer = Behind certificate tokens source answer
 
-  abbrev pub Behind : List ℕ → Writing → Answer → Type 0
-  Behind certificate x answer = AnswersProgram contents certificate (program_of x.1) (statement_lines x.0 x.1) answer
+  -- the file's bytes lead to the answer
+  record Holds (name certificate : List ℕ) (answer : Answer) : Type 0 where
+    bytes : List ℕ
+    held : get contents name ≡ Some bytes
+    ending : Ending
+    ends : EndsIn bytes ending
+    leads : Leads certificate ending answer
 
-  module _ (one_behind : (certificate bytes : List ℕ) (x : Writing) (a b : Answer) → Wrote bytes x → Behind certificate x a → Behind certificate x b → a ≡ b) where
-    abbrev SourceMeans : List ℕ → List ℕ → FoundSource → Answer → Type 0
-    SourceMeans name certificate Missing answer = answer ≡ Absent name
-    SourceMeans name certificate Long answer = answer ≡ SourceLong
-    SourceMeans name certificate (Bad refusal) answer = answer ≡ refusal
-    SourceMeans name certificate (Good x) answer = (bytes : List ℕ) × Wrote bytes x × Behind certificate x answer
+  abbrev SourceMeans : List ℕ → List ℕ → Answer → Type 0
+  SourceMeans name certificate answer =
+      ((get contents name ≡ None) × (answer ≡ Absent name)) ⊎ Holds name certificate answer
 
-    refusal_means : (name certificate : List ℕ) (answer : Answer) → AnswersSource contents name answer → (found : FoundSource) × FindsSource name found × SourceMeans name certificate found answer
-    refusal_means name certificate (Absent other) h = (Missing, h.0, ap Absent h.1)
-    refusal_means name certificate SourceLong h = (Long, h, refl)
-    refusal_means name certificate (BadLine line column) h = (Bad (BadLine line column), h, refl)
-    refusal_means name certificate (BadToken line column) h = (Bad (BadToken line column), h, refl)
-    refusal_means name certificate (NotYet line) h = (Bad (NotYet line), h, refl)
-    refusal_means name certificate (Usage word) h = absurd h
-    refusal_means name certificate CertificateLong h = absurd h
-    refusal_means name certificate (NotInductive edge gap) h = absurd h
-    refusal_means name certificate (Report alarms) h = absurd h
+  refusal_means : (name certificate : List ℕ) (answer : Answer) → AnswersSource contents name answer
+      → SourceMeans name certificate answer
+  refusal_means name certificate (Absent other) h = inl (h.0, ap Absent h.1)
+  refusal_means name certificate (Refused cause) h =
+      let w = held_bytes (get contents name) (λ bytes. IsProfileCause bytes cause) h in
+      inr (record { bytes = w.0; held = w.1; ending = refused cause; ends = w.2; leads = refl })
+  refusal_means name certificate (NotYet line) h =
+      let w = held_bytes (get contents name) (λ bytes. IsNotStraight bytes line) h in
+      inr (record { bytes = w.0; held = w.1; ending = stopped line; ends = w.2; leads = refl })
+  refusal_means name certificate (Usage word) h = absurd h
+  refusal_means name certificate CertificateLong h = absurd h
+  refusal_means name certificate (NotInductive edge gap) h = absurd h
+  refusal_means name certificate (Report alarms) h = absurd h
 
-    check_means : (name certificate : List ℕ) (answer : Answer) → AnswersCheck contents name certificate answer → (found : FoundSource) × FindsSource name found × SourceMeans name certificate found answer
-    check_means name certificate answer (inl refusal) = refusal_means name certificate answer refusal
-    check_means name certificate answer (inr (tokens, source, holds, behind)) = (
-      Good (tokens, source),
-      at_held (get contents name) holds.bytes (λ bytes. (length bytes ≤ source_limit) × Wrote bytes (tokens, source)) holds.held (holds.fits, holds.written),
-      (holds.bytes, holds.written, behind),
-    )
+  check_means : (name certificate : List ℕ) (answer : Answer) → AnswersCheck contents name certificate answer
+      → SourceMeans name certificate answer
+  check_means name certificate answer (inl refusal) = refusal_means name certificate answer refusal
+  check_means name certificate answer (inr (tokens, source, holds, behind)) =
+      inr (record {
+        bytes = holds.bytes;
+        held = holds.held;
+        ending = written tokens source;
+        ends = holds.written;
+        leads = behind;
+      })
 
-    one_source_meaning : (name certificate : List ℕ) (found : FoundSource) (a b : Answer) → SourceMeans name certificate found a → SourceMeans name certificate found b → a ≡ b
-    one_source_meaning name certificate Missing a b h k = h ∙ sym k
-    one_source_meaning name certificate Long a b h k = h ∙ sym k
-    one_source_meaning name certificate (Bad refusal) a b h k = h ∙ sym k
-    one_source_meaning name certificate (Good x) a b h k = one_behind certificate h.0 x a b h.1 h.2 k.2
+  module _ (one_ending : (bytes : List ℕ) (a b : Ending) → EndsIn bytes a → EndsIn bytes b → a ≡ b)
+      (one_behind : (certificate bytes : List ℕ) (tokens : List Token) (source : Source) (a b : Answer)
+      → IsWritten bytes tokens source → Behind certificate tokens source a → Behind certificate tokens source b → a ≡ b) where
+    one_lead : (certificate bytes : List ℕ) (x : Ending) (a b : Answer)
+        → EndsIn bytes x → Leads certificate x a → Leads certificate x b → a ≡ b
+    one_lead certificate bytes (refused cause) a b ends h k = h ∙ sym k
+    one_lead certificate bytes (stopped line) a b ends h k = h ∙ sym k
+    one_lead certificate bytes (written tokens source) a b ends h k =
+        one_behind certificate bytes tokens source a b ends h k
 
-    one_for_check : (name certificate : List ℕ) (a b : Answer) → AnswersCheck contents name certificate a → AnswersCheck contents name certificate b → a ≡ b
+    one_held : (name certificate : List ℕ) (a b : Answer) → Holds name certificate a → Holds name certificate b → a ≡ b
+    one_held name certificate a b h k =
+        let same : h.bytes ≡ k.bytes = same_Some h.bytes k.bytes (sym h.held ∙ k.held) in
+        let there = subst (λ (bs : List ℕ). EndsIn bs h.ending) same h.ends in
+        let ending : h.ending ≡ k.ending = one_ending k.bytes h.ending k.ending there k.ends in
+        let leads = subst (λ (x : Ending). Leads certificate x a) ending h.leads in
+        one_lead certificate k.bytes k.ending a b k.ends leads k.leads
+
+    one_source_meaning : (name certificate : List ℕ) (a b : Answer)
+        → SourceMeans name certificate a → SourceMeans name certificate b → a ≡ b
+    one_source_meaning name certificate a b (inl (none, e)) (inl (none', f)) = e ∙ sym f
+    one_source_meaning name certificate a b (inl (none, e)) (inr k) = let apart = sym none ∙ k.held in cc
+    one_source_meaning name certificate a b (inr h) (inl (none, f)) = let apart = sym none ∙ h.held in cc
+    one_source_meaning name certificate a b (inr h) (inr k) = one_held name certificate a b h k
+
+    one_for_check : (name certificate : List ℕ) (a b : Answer)
+        → AnswersCheck contents name certificate a → AnswersCheck contents name certificate b → a ≡ b
     one_for_check name certificate a b h k =
-        let x = check_means name certificate a h in
-        let y = check_means name certificate b k in
-        one_source_meaning name certificate y.0 a b
-        (subst (λ found. SourceMeans name certificate found a) (one_found (get contents name) source_limit RefusesBytes Wrote one_refused written_or_refused one_written x.0 y.0 x.1 y.1) x.2) y.2
+        one_source_meaning name certificate a b (check_means name certificate a h) (check_means name certificate b k)
 
     one_command : (words : List (List ℕ)) (name certificate name' certificate' : List ℕ) → IsCheck words name certificate → IsCheck words name' certificate' → (name ≡ name') × (certificate ≡ certificate')
     one_command words name certificate name' certificate' is is' =

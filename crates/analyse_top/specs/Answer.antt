@@ -11,12 +11,13 @@ use Rattle.cert_text.specs.declared.cert.Claim.{Claim}
 use Rattle.cert_check.specs.declared.ends.Gap.{Gap}
 use Rattle.cert_check.specs.Inductive.{FitsProgram, leak, leaks, open_pairs}
 use Rattle.cob_tree.specs.declared.token.Token.{Token}
-use Rattle.straight_source.specs.Source.{Source, IsSource, toks, source_tokens, program_of, statement_lines}
-use Rattle.straight_source.specs.Reading.{StopsAtLine}
+use Rattle.cob_front.specs.declared.end.FrontEnd.{FrontEnd}
+use Rattle.cob_front.specs.declared.end.FrontEnd.TheVariants as end
+use Rattle.straight_source.specs.Source.{Source, program_of, statement_lines}
 use Rattle.straight_claims.specs.Claims.{AreClaimsLines, claims_lines}
 use Rattle.analyse_top.specs.declared.answer.Alarm.{Alarm}
-use Rattle.analyse_top.specs.Text.{line_end, report_text, gap_text, place_line}
-use Rattle.analyse_top.specs.Front.{Tokens, BadLineAt, BadTokenAt, front_of}
+use Rattle.analyse_top.specs.Text.{line_end, at_line, report_text, gap_text, refusal_text}
+use Rattle.analyse_top.specs.Profile.{IsProfileCause, IsWritten, IsNotStraight}
 
 -- ---- answers, their texts and statuses
 
@@ -25,11 +26,8 @@ pub data Answer : Type 0 where
   Usage : List ℕ → Answer
   -- there is no file of this name
   Absent : List ℕ → Answer
-  SourceLong : Answer
-  -- the line and the column of the first place that the reference format refuses
-  BadLine : ℕ → ℕ → Answer
-  -- those of the first token that doesn't begin or end rightly
-  BadToken : ℕ → ℕ → Answer
+  -- the source isn't of the profile, for this cause
+  Refused : FrontEnd → Answer
   -- the first line that isn't of the straight-line form, of the source or of the certificate
   NotYet : ℕ → Answer
   CertificateLong : Answer
@@ -45,20 +43,26 @@ usage_text (byte ∷ word) = codes "E1 usage " ++ (byte ∷ word) ++ line_end
 abbrev pub answer_text : Answer → List ℕ
 answer_text (Usage word) = usage_text word
 answer_text (Absent name) = codes "E2 absent " ++ name ++ line_end
-answer_text SourceLong = codes "E5 source too long" ++ line_end
-answer_text (BadLine line column) = place_line (codes "E6") line column
-answer_text (BadToken line column) = place_line (codes "E7") line column
-answer_text (NotYet line) = codes "E20 line " ++ decimal line ++ line_end
+answer_text (Refused cause) = refusal_text cause
+answer_text (NotYet line) = at_line (codes "E20") line
 answer_text CertificateLong = codes "E11 certificate too long" ++ line_end
 answer_text (NotInductive edge gap) = codes "E14 layer 1 edge " ++ decimal edge ++ gap_text gap ++ line_end
 answer_text (Report alarms) = report_text alarms
 
+abbrev pub refusal_status : FrontEnd → ℕ
+refusal_status end.TooLong = 2
+refusal_status (end.BadLine line column) = 2
+refusal_status (end.BadToken line column) = 2
+refusal_status (end.Syntax line) = 2
+refusal_status (end.Nesting count) = 9
+refusal_status (end.Outside rule line) = 2
+refusal_status (end.Limit which count) = 9
+refusal_status end.Memory = 8
+
 abbrev pub status_of : Answer → ℕ
 status_of (Usage word) = 4
 status_of (Absent name) = 7
-status_of SourceLong = 2
-status_of (BadLine line column) = 2
-status_of (BadToken line column) = 2
+status_of (Refused cause) = refusal_status cause
 status_of (NotYet line) = 2
 status_of CertificateLong = 3
 status_of (NotInductive edge gap) = 3
@@ -70,9 +74,7 @@ abbrev pub status_unwritten : Answer → ℕ
 status_unwritten (Report alarms) = 6
 status_unwritten (Usage word) = status_of (Usage word)
 status_unwritten (Absent name) = status_of (Absent name)
-status_unwritten SourceLong = status_of SourceLong
-status_unwritten (BadLine line column) = status_of (BadLine line column)
-status_unwritten (BadToken line column) = status_of (BadToken line column)
+status_unwritten (Refused cause) = status_of (Refused cause)
 status_unwritten (NotYet line) = status_of (NotYet line)
 status_unwritten CertificateLong = status_of CertificateLong
 status_unwritten (NotInductive edge gap) = status_of (NotInductive edge gap)
@@ -102,13 +104,7 @@ source_limit = 1048576
 abbrev pub certificate_limit : ℕ
 certificate_limit = 67108864
 
--- the bytes have these canonical tokens, which are those of this source of the form
-pub record IsWritten (bytes : List ℕ) (tokens : List Token) (source : Source) : Type 0 where
-  pub read : front_of bytes ≡ Tokens tokens
-  pub is_source : IsSource source
-  pub tokens_are : toks tokens ≡ source_tokens source
-
--- the file holds bytes that write this source of the form
+-- the file holds bytes of the profile that write this source of the form
 pub record HoldsSource (contents : Contents) (name : List ℕ) (tokens : List Token) (source : Source) : Type 0 where
   pub bytes : List ℕ
   pub held : get contents name ≡ Some bytes
@@ -116,51 +112,35 @@ pub record HoldsSource (contents : Contents) (name : List ℕ) (tokens : List To
   pub written : IsWritten bytes tokens source
 
 -- the file holds these claims of the program, an interval for each cell at each node
-pub record HoldsClaims (contents : Contents) (name : List ℕ) (program : Program) (nodes : List (List Claim)) : Type 0 where
+pub record HoldsClaims (contents : Contents) (name : List ℕ) (program : Program) (nodes : List (List Claim))
+    : Type 0 where
   pub shape : FitsProgram program nodes
   pub held : get contents name ≡ Some (text_of (claims_lines (length program.digits) nodes))
   pub fits : length (text_of (claims_lines (length program.digits) nodes)) ≤ certificate_limit
 
 -- the file holds bytes of at most this length that fail at this line
 abbrev pub HoldsBad : Contents → List ℕ → ℕ → (List Line → Type 0) → ℕ → Type 0
-HoldsBad contents name limit texts line = IsSomeAnd (get contents name) (λ bytes. (length bytes ≤ limit) × FirstBad texts bytes line)
+HoldsBad contents name limit texts line =
+    IsSomeAnd (get contents name) (λ bytes. (length bytes ≤ limit) × FirstBad texts bytes line)
 
 abbrev pub HoldsLong : Contents → List ℕ → ℕ → Type 0
 HoldsLong contents name limit = IsSomeAnd (get contents name) (λ bytes. limit < length bytes)
 
 -- an alarm has the line of its statement
 abbrev pub alarm_at : List ℕ → Open → Alarm
-alarm_at lines pair = record { kind = pair.kind; statement = pair.statement; line = slice_index lines (pair.statement - 1) }
+alarm_at lines pair =
+    record { kind = pair.kind; statement = pair.statement; line = slice_index lines (pair.statement - 1) }
 
 abbrev pub alarms_of : Program → List ℕ → List (List Claim) → List Alarm
 alarms_of program lines nodes = map (alarm_at lines) (open_pairs program nodes)
 
 -- ---- the answer to `check SOURCE CERT`
 
--- a refusal of the source's bytes: a place that the reference format refuses, one at which no token begins or
--- ends rightly, or else the line of the first token with which no source of the form goes on
-abbrev pub RefusesBytes : List ℕ → Answer → Type 0
-RefusesBytes bytes (BadLine line column) = front_of bytes ≡ BadLineAt line column
-RefusesBytes bytes (BadToken line column) = front_of bytes ≡ BadTokenAt line column
-RefusesBytes bytes (NotYet line) = (tokens : List Token) × (front_of bytes ≡ Tokens tokens) × StopsAtLine tokens line
-RefusesBytes bytes (Usage word) = ⊥
-RefusesBytes bytes (Absent name) = ⊥
-RefusesBytes bytes SourceLong = ⊥
-RefusesBytes bytes CertificateLong = ⊥
-RefusesBytes bytes (NotInductive edge gap) = ⊥
-RefusesBytes bytes (Report alarms) = ⊥
-
--- the file holds bytes within the limit that are refused so
-abbrev pub HoldsRefused : Contents → List ℕ → Answer → Type 0
-HoldsRefused contents name answer = IsSomeAnd (get contents name) (λ bytes. (length bytes ≤ source_limit) × RefusesBytes bytes answer)
-
 -- a refusal of the source
 abbrev pub AnswersSource : Contents → List ℕ → Answer → Type 0
 AnswersSource contents source (Absent name) = (get contents source ≡ None) × (name ≡ source)
-AnswersSource contents source SourceLong = HoldsLong contents source source_limit
-AnswersSource contents source (BadLine line column) = HoldsRefused contents source (BadLine line column)
-AnswersSource contents source (BadToken line column) = HoldsRefused contents source (BadToken line column)
-AnswersSource contents source (NotYet line) = HoldsRefused contents source (NotYet line)
+AnswersSource contents source (Refused cause) = IsSomeAnd (get contents source) (λ bytes. IsProfileCause bytes cause)
+AnswersSource contents source (NotYet line) = IsSomeAnd (get contents source) (λ bytes. IsNotStraight bytes line)
 AnswersSource contents source (Usage word) = ⊥
 AnswersSource contents source CertificateLong = ⊥
 AnswersSource contents source (NotInductive edge gap) = ⊥
@@ -168,26 +148,30 @@ AnswersSource contents source (Report alarms) = ⊥
 
 -- a refusal of the certificate, or what it shows of the program whose statements stand on these lines
 abbrev pub AnswersProgram : Contents → List ℕ → Program → List ℕ → Answer → Type 0
-AnswersProgram contents certificate program lines (Absent name) = (get contents certificate ≡ None) × (name ≡ certificate)
+AnswersProgram contents certificate program lines (Absent name) =
+    (get contents certificate ≡ None) × (name ≡ certificate)
 AnswersProgram contents certificate program lines CertificateLong = HoldsLong contents certificate certificate_limit
 AnswersProgram contents certificate program lines (NotYet line) =
-    HoldsBad contents certificate certificate_limit (AreClaimsLines (length program.digits) (length program.acts + 1)) line
+    HoldsBad contents certificate certificate_limit
+    (AreClaimsLines (length program.digits) (length program.acts + 1)) line
 AnswersProgram contents certificate program lines (NotInductive edge gap) =
-    (nodes : List (List Claim)) × HoldsClaims contents certificate program nodes × (slice_get (leaks program nodes) 0 ≡ Some (leak edge gap))
+    (nodes : List (List Claim)) × HoldsClaims contents certificate program nodes
+    × (slice_get (leaks program nodes) 0 ≡ Some (leak edge gap))
 AnswersProgram contents certificate program lines (Report alarms) =
-    (nodes : List (List Claim)) × HoldsClaims contents certificate program nodes × (leaks program nodes ≡ []) × (alarms ≡ alarms_of program lines nodes)
+    (nodes : List (List Claim)) × HoldsClaims contents certificate program nodes
+    × (leaks program nodes ≡ []) × (alarms ≡ alarms_of program lines nodes)
 AnswersProgram contents certificate program lines (Usage word) = ⊥
-AnswersProgram contents certificate program lines SourceLong = ⊥
-AnswersProgram contents certificate program lines (BadLine line column) = ⊥
-AnswersProgram contents certificate program lines (BadToken line column) = ⊥
+AnswersProgram contents certificate program lines (Refused cause) = ⊥
 
 abbrev pub AnswersCheck : Contents → List ℕ → List ℕ → Answer → Type 0
 AnswersCheck contents source certificate answer =
     AnswersSource contents source answer
-    ⊎ ((tokens : List Token) × (s : Source) × HoldsSource contents source tokens s × AnswersProgram contents certificate (program_of s) (statement_lines tokens s) answer)
+    ⊎ ((tokens : List Token) × (s : Source) × HoldsSource contents source tokens s
+    × AnswersProgram contents certificate (program_of s) (statement_lines tokens s) answer)
 
 -- The answer to these words, where the files' contents are known; a command's form shows in the words alone.
 abbrev pub Answers : Option Contents → List (List ℕ) → Answer → Type 0
 Answers known words answer =
     (((source certificate : List ℕ) → IsCheck words source certificate → ⊥) × (answer ≡ Usage (first_word words)))
-    ⊎ ((source : List ℕ) × (certificate : List ℕ) × IsCheck words source certificate × IfSome known (λ contents. AnswersCheck contents source certificate answer))
+    ⊎ ((source : List ℕ) × (certificate : List ℕ) × IsCheck words source certificate
+    × IfSome known (λ contents. AnswersCheck contents source certificate answer))

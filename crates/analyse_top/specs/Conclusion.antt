@@ -7,14 +7,11 @@ use Rattle.batch_io.specs.SinkState.{SinkState}
 use Rattle.cob_meaning.specs.Run.{MeetsNoFault}
 use Rattle.cob_tree.specs.declared.token.Token.{Token}
 use Rattle.straight_source.specs.Source.{Source, program_of}
-use Rattle.analyse_top.specs.Text.{line_end}
+use Rattle.analyse_top.specs.Text.{line_end, memory_line}
 use Rattle.analyse_top.specs.Answer.{Answer, Answers, IsCheck, HoldsSource, answer_text, status_of, status_unwritten}
 
 abbrev pub read_fault_text : List ℕ
 read_fault_text = codes "E3 read" ++ line_end
-
-abbrev pub memory_text : List ℕ
-memory_text = codes "E19 memory" ++ line_end
 
 -- ---- what a sink gains
 
@@ -55,7 +52,8 @@ call words files_before files_after out_before out_after status = record {
 pub record EndsBy (call : Call) (answer : Answer) : Type 0 where
   pub is_answer : Answers (known_bytes call.files_before) call.words answer
   pub reading : call.files_after.reading ≡ call.files_before.reading
-  pub shows : Shows call.out_before call.out_after (answer_text answer) (status_of answer) (status_unwritten answer) call.status
+  pub shows : Shows call.out_before call.out_after
+      (answer_text answer) (status_of answer) (status_unwritten answer) call.status
 
 -- a read fault, which its count shows
 pub record EndsByReadFault (call : Call) : Type 0 where
@@ -65,7 +63,7 @@ pub record EndsByReadFault (call : Call) : Type 0 where
 -- the texts that may stand in part in the sink where memory ran out
 abbrev pub MayBeShown : Call → List ℕ → Type 0
 MayBeShown call text =
-    (text ≡ memory_text)
+    (text ≡ memory_line)
     ⊎ ((Rose call.files_before.reading call.files_after.reading) × (text ≡ read_fault_text))
     ⊎ ((answer : Answer) × Answers (known_bytes call.files_before) call.words answer × (text ≡ answer_text answer))
 
@@ -85,11 +83,13 @@ pub record Concludes (call : Call) : Type 0 where
 -- Where the contents are known, each answer is given exactly where it is the answer, unless a read failed or
 -- memory ran out.
 abbrev pub IsExact : Call → Type 0
-IsExact call = (contents : Contents) (answer : Answer) → known_bytes call.files_before ≡ Some contents → Answers (Some contents) call.words answer →
-    EndsBy call answer ⊎ EndsByReadFault call ⊎ EndsByMemory call
+IsExact call =
+    (contents : Contents) (answer : Answer) → known_bytes call.files_before ≡ Some contents
+    → Answers (Some contents) call.words answer
+    → EndsBy call answer ⊎ EndsByReadFault call ⊎ EndsByMemory call
 
--- The headline: where `check` answers 0, the canonical tokens of SOURCE are those of a source of the form, and whatever the number of
--- steps, its run meets no size error, no truncation and no other fault.
+-- The headline: where `check` answers 0, SOURCE is a program of the profile, its canonical tokens are those of a source
+-- of the form, and whatever the number of steps, its run meets no size error, no truncation and no other fault.
 pub record IsClean (contents : Contents) (words : List (List ℕ)) : Type 0 where
   pub name : List ℕ
   pub certificate : List ℕ
@@ -100,4 +100,6 @@ pub record IsClean (contents : Contents) (words : List (List ℕ)) : Type 0 wher
   pub safe : MeetsNoFault (program_of source)
 
 abbrev pub CleanIsSafe : Call → Type 0
-CleanIsSafe call = (contents : Contents) → known_bytes call.files_before ≡ Some contents → call.status ≡ 0 → IsClean contents call.words
+CleanIsSafe call =
+    (contents : Contents) → known_bytes call.files_before ≡ Some contents → call.status ≡ 0
+    → IsClean contents call.words

@@ -1,5 +1,5 @@
 pub mod Text
-pub mod Front
+pub mod Profile
 pub mod Answer
 pub mod Conclusion
 pub mod View

@@ -1,5 +1,5 @@
 -- What the parts of the program's call do.
-use Rattle.std.specs.Prelude.{◌≡◌, ℕ, ◌+◌, ◌≤◌, ◌⊎◌, Bool, true, false, List, [], map, length, slice_get, Some, Result, Ok, Err, IfOk, MatchResult, Vec, String, string_bytes}
+use Rattle.std.specs.Prelude.{◌≡◌, ℕ, ◌+◌, ◌≤◌, ◌⊎◌, Bool, true, false, List, [], map, length, slice_get, Some, Result, Ok, Err, MatchResult, Vec, String, string_bytes}
 use Rattle.text_lines.specs.Lines.{text_of}
 use Rattle.text_lines.specs.Viable.{FirstBad}
 use Rattle.cob_tree.specs.declared.fault.Open.{Open}
@@ -11,14 +11,17 @@ use Rattle.cert_check.specs.Inductive.{FitsProgram, leak, leaks}
 use Rattle.straight_claims.specs.Claims.{AreClaimsLines, claims_lines}
 use Rattle.cob_tree.specs.declared.token.Token.{Token}
 use Rattle.cob_meaning.specs.Program.{plain, IsValid}
+use Rattle.cob_front.specs.declared.end.FrontEnd.{FrontEnd}
+use Rattle.cob_front.specs.declared.end.FrontEnd.TheVariants as end
 use Rattle.straight_source.specs.declared.read.StraightLines.{StraightLines}
 use Rattle.straight_source.specs.Source.{Source, program_of, statement_lines}
-use Rattle.analyse_top.specs.declared.front.FrontEnd.{FrontEnd}
-use Rattle.analyse_top.specs.declared.front.FrontEnd.TheVariants as front
-use Rattle.analyse_top.specs.Front.{Tokens, front_of}
-use Rattle.analyse_top.specs.Answer.{Answer, Usage, Absent, SourceLong, BadLine, BadToken, NotYet, CertificateLong, NotInductive, Report, IsWritten, RefusesBytes, alarm_at, alarms_of, answer_text, status_of, status_unwritten}
+use Rattle.analyse_top.specs.declared.source.Unread.{Unread}
+use Rattle.analyse_top.specs.declared.source.Unread.TheVariants as unread
+use Rattle.analyse_top.specs.Profile.{IsProfileCause, IsWritten, IsNotStraight}
+use Rattle.analyse_top.specs.Answer.{Answer, Usage, Absent, Refused, NotYet, CertificateLong, NotInductive, Report, alarm_at, alarms_of, answer_text, status_of, status_unwritten}
 use Rattle.batch_io.specs.SinkState.{SinkState}
-use Rattle.analyse_top.specs.Conclusion.{Shows, GainsFront, memory_text}
+use Rattle.analyse_top.specs.Text.{memory_line}
+use Rattle.analyse_top.specs.Conclusion.{Shows, GainsFront}
 use Rattle.std.specs.declared.alloc.Global.{Global}
 use Rattle.batch_io.specs.Faults.{Counts}
 use Rattle.batch_io.specs.FilesState.{FilesState, KeepsIds, known_bytes}
@@ -51,22 +54,32 @@ pub record IsCheckable (read : StraightLines) : Type 0 where
 
 -- the bytes write this program, on these lines
 abbrev pub Writes : List ℕ → StraightLines → Type 0
-Writes bytes read = (tokens : List Token) × (source : Source) × IsWritten bytes tokens source × (plain read.program ≡ program_of source) × (read.lines.items ≡ statement_lines tokens source)
+Writes bytes read =
+    (tokens : List Token) × (source : Source) × IsWritten bytes tokens source
+    × (plain read.program ≡ program_of source) × (read.lines.items ≡ statement_lines tokens source)
+
+-- why the bytes aren't read, or want of memory
+abbrev pub IsUnread : List ℕ → Unread → Type 0
+IsUnread bytes (unread.Refused cause) = IsProfileCause bytes cause
+IsUnread bytes (unread.NotYet line) = IsNotStraight bytes line
+IsUnread bytes unread.Memory = Unit {0}
+
+-- want of memory stands by itself
+abbrev pub unread_for : FrontEnd → Unread
+unread_for end.TooLong = unread.Refused end.TooLong
+unread_for (end.BadLine line column) = unread.Refused (end.BadLine line column)
+unread_for (end.BadToken line column) = unread.Refused (end.BadToken line column)
+unread_for (end.Syntax line) = unread.Refused (end.Syntax line)
+unread_for (end.Nesting count) = unread.Refused (end.Nesting count)
+unread_for (end.Outside rule line) = unread.Refused (end.Outside rule line)
+unread_for (end.Limit which count) = unread.Refused (end.Limit which count)
+unread_for end.Memory = unread.Memory
 
 -- the answer that says why a source isn't read
-abbrev pub answer_to : FrontEnd → Result Answer Stop
-answer_to (front.BadLine line column) = Ok (BadLine line column)
-answer_to (front.BadToken line column) = Ok (BadToken line column)
-answer_to (front.NotYet line) = Ok (NotYet line)
-answer_to front.Memory = Err Memory
-
-abbrev pub RefusesFront : List ℕ → FrontEnd → Type 0
-RefusesFront bytes end = IfOk (answer_to end) (RefusesBytes bytes)
-
--- the tokens of the bytes, or why there are none
-abbrev pub GivesTokens : List ℕ → Result (Vec Token Global) FrontEnd → Type 0
-GivesTokens bytes (Ok tokens) = front_of bytes ≡ Tokens tokens.items
-GivesTokens bytes (Err end) = RefusesFront bytes end
+abbrev pub answer_to : Unread → Result Answer Stop
+answer_to (unread.Refused cause) = Ok (Refused cause)
+answer_to (unread.NotYet line) = Ok (NotYet line)
+answer_to unread.Memory = Err Memory
 
 -- ---- between the checker and the answer
 
@@ -82,24 +95,28 @@ HasLine lines pair = (1 ≤ pair.statement) × (pair.statement ≤ length lines)
 
 -- the answer that says what the checker says
 abbrev pub AnswersChecked : List ℕ → Result (Vec Open Global) CheckEnd → Result Answer Stop → Type 0
-AnswersChecked lines (Ok pairs) result = MatchResult result (λ answer. answer ≡ Report (map (alarm_at lines) pairs.items)) (λ stop. stop ≡ Memory)
+AnswersChecked lines (Ok pairs) result =
+    MatchResult result (λ answer. answer ≡ Report (map (alarm_at lines) pairs.items)) (λ stop. stop ≡ Memory)
 AnswersChecked lines (Err (check.NotInductive layer edge gap)) result = result ≡ Ok (NotInductive edge gap)
 AnswersChecked lines (Err check.Memory) result = result ≡ Err Memory
 AnswersChecked lines (Err (check.Shape what found wanted)) result = ⊥
 
 -- the answer to a certificate of these bytes
 abbrev pub AnswersBytes : List ℕ → Program → List ℕ → Answer → Type 0
-AnswersBytes bytes program lines (NotYet line) = FirstBad (AreClaimsLines (length program.digits) (length program.acts + 1)) bytes line
+AnswersBytes bytes program lines (NotYet line) =
+    FirstBad (AreClaimsLines (length program.digits) (length program.acts + 1)) bytes line
 AnswersBytes bytes program lines (NotInductive edge gap) =
-    (nodes : List (List Claim)) × FitsProgram program nodes × (bytes ≡ text_of (claims_lines (length program.digits) nodes)) × (slice_get (leaks program nodes) 0 ≡ Some (leak edge gap))
+    (nodes : List (List Claim)) × FitsProgram program nodes
+    × (bytes ≡ text_of (claims_lines (length program.digits) nodes))
+    × (slice_get (leaks program nodes) 0 ≡ Some (leak edge gap))
 AnswersBytes bytes program lines (Report alarms) =
-    (nodes : List (List Claim)) × FitsProgram program nodes × (bytes ≡ text_of (claims_lines (length program.digits) nodes)) × (leaks program nodes ≡ []) × (alarms ≡ alarms_of program lines nodes)
+    (nodes : List (List Claim)) × FitsProgram program nodes
+    × (bytes ≡ text_of (claims_lines (length program.digits) nodes))
+    × (leaks program nodes ≡ []) × (alarms ≡ alarms_of program lines nodes)
 AnswersBytes bytes program lines (Usage word) = ⊥
 AnswersBytes bytes program lines (Absent name) = ⊥
-AnswersBytes bytes program lines SourceLong = ⊥
+AnswersBytes bytes program lines (Refused cause) = ⊥
 AnswersBytes bytes program lines CertificateLong = ⊥
-AnswersBytes bytes program lines (BadLine line column) = ⊥
-AnswersBytes bytes program lines (BadToken line column) = ⊥
 
 -- ---- what is shown
 
@@ -111,4 +128,4 @@ ShowsRefusal old new line own status = Shows old new line own own status ⊎ ((s
 abbrev pub ShowsAnswer : SinkState → SinkState → Answer → ℕ → Type 0
 ShowsAnswer old new answer status =
     Shows old new (answer_text answer) (status_of answer) (status_unwritten answer) status
-    ⊎ ((status ≡ 8) × (GainsFront old new (answer_text answer) ⊎ GainsFront old new memory_text))
+    ⊎ ((status ≡ 8) × (GainsFront old new (answer_text answer) ⊎ GainsFront old new memory_line))

@@ -3,14 +3,12 @@ use Rattle.std.specs.Prelude.{Result, Ok, Err}
 use Rattle.analyse_top.specs.declared.answer.Stop.{Stop}
 use Rattle.analyse_top.specs.declared.answer.Answer.TheVariants as code
 use Rattle.analyse_top.specs.declared.answer.Answer as declared
-use Rattle.analyse_top.specs.Answer.{Answer, Usage, Absent, SourceLong, BadLine, BadToken, NotYet, CertificateLong, NotInductive, Report}
+use Rattle.analyse_top.specs.Answer.{Answer, Usage, Absent, Refused, NotYet, CertificateLong, NotInductive, Report}
 
 abbrev pub plain_answer : declared.Answer → Answer
 plain_answer (code.Usage word) = Usage word.now
 plain_answer (code.Absent name) = Absent name.now
-plain_answer code.SourceLong = SourceLong
-plain_answer (code.BadLine line column) = BadLine line column
-plain_answer (code.BadToken line column) = BadToken line column
+plain_answer (code.Refused cause) = Refused cause
 plain_answer (code.NotYet line) = NotYet line
 plain_answer code.CertificateLong = CertificateLong
 plain_answer (code.NotInductive edge gap) = NotInductive edge gap

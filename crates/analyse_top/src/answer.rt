@@ -2,6 +2,7 @@ ghost use Rattle.std.specs.Prelude.{◌≡◌};
 ghost use Rattle.analyse_top.specs.declared.answer.Stop.TheVariants.{Memory};
 
 use cert_check::Gap;
+use cob_front::FrontEnd;
 use cob_tree::Kind;
 use std::alloc::AllocError;
 
@@ -20,12 +21,9 @@ pub enum Answer<'a> {
     Usage(&'a str),
     /// There is no file of this name.
     Absent(&'a str),
-    SourceLong,
-    /// The line and the column of the first place that the reference format refuses.
-    BadLine(u32, u32),
-    /// The line and the column of the first token that doesn't begin or end rightly.
-    BadToken(u32, u32),
-    /// The first line that isn't of the straight-line form.
+    /// The source isn't of the profile.
+    Refused(FrontEnd),
+    /// The first line that isn't of the straight-line form, of the source or of the certificate.
     NotYet(u32),
     CertificateLong,
     /// The first edge at which the certificate isn't inductive, and the first place there.

@@ -6,9 +6,10 @@ ghost use Rattle.analyse_top.specs.Steps.{Reads, stopped_by_fault, IsCheckable, 
 ghost use Rattle.analyse_top.specs.View.{plain_answer, plain_result};
 
 use crate::answer::{Alarm, Answer, Stop};
-use crate::front::{FrontEnd, read_front};
+use crate::source::{Unread, read_straight};
 use batch_io::{FileEnd, Files, read_file};
 use cert_check::{CheckEnd, check_straight};
+use cob_front::FrontEnd;
 use cob_tree::Open;
 use std::alloc::{AllocError, Global};
 use straight_claims::{ClaimsEnd, read_claims};
@@ -32,25 +33,24 @@ pub fn check<'a, F: Files>(
     let bytes = match read_file(alloc, files, source, SOURCE_LIMIT) {
         Ok(bytes) => bytes,
         Err(FileEnd::Absent) => return Ok(Answer::Absent(source)),
-        Err(FileEnd::Long) => return Ok(Answer::SourceLong),
+        Err(FileEnd::Long) => return Ok(Answer::Refused(FrontEnd::TooLong)),
         Err(FileEnd::Failed) => return Err(Stop::ReadFault),
         Err(FileEnd::Memory) => return Err(Stop::Memory),
     };
-    match read_front(alloc, &bytes) {
+    match read_straight(alloc, &bytes) {
         Ok(read) => check_program(alloc, &read, certificate, files),
         Err(end) => answer_to(end),
     }
 }
 
 // The answer to a source that isn't read.
-fn answer_to<'a>(end: FrontEnd) -> Result<Answer<'a>, Stop>
+fn answer_to<'a>(end: Unread) -> Result<Answer<'a>, Stop>
     ensures { plain_result result ≡ answer_to end }
 {
     match end {
-        FrontEnd::BadLine { line, column } => Ok(Answer::BadLine(line, column)),
-        FrontEnd::BadToken { line, column } => Ok(Answer::BadToken(line, column)),
-        FrontEnd::NotYet { line } => Ok(Answer::NotYet(line)),
-        FrontEnd::Memory => Err(Stop::Memory),
+        Unread::Refused(cause) => Ok(Answer::Refused(cause)),
+        Unread::NotYet { line } => Ok(Answer::NotYet(line)),
+        Unread::Memory => Err(Stop::Memory),
     }
 }
 

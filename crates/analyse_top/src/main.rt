@@ -3,7 +3,7 @@
 
 mod answer;
 mod check;
-mod front;
+mod source;
 mod text;
 mod top;
 

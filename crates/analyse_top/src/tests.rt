@@ -10,7 +10,7 @@ const CERTIFICATE: &str =
     "COBSOUND 1\ncells 1\nnodes 3\npacks 0\nnode 1\nc 1 998 998\nnode 2\nc 1 999 999\nnode 3\nc 1 999 999\nend\n";
 
 // A text in the sample, the text in its place, likewise in its certificate, and what `check` answers.
-const CHECKS: [(&str, &str, &str, &str, u8, &str); 20] = [
+const CHECKS: [(&str, &str, &str, &str, u8, &str); 24] = [
     ("", "", "", "", 0, "clean\n"),
     (
         "ADD 1",
@@ -44,7 +44,7 @@ const CHECKS: [(&str, &str, &str, &str, u8, &str); 20] = [
         3,
         "E14 layer 1 edge 0 cell 1 low reached 997 claimed 998\n",
     ),
-    ("TO N", "TO M", "", "", 2, "E20 line 7\n"),
+    ("TO N", "TO M", "", "", 2, "E9 Q1 line 7\n"),
     ("STOP RUN.\n", "STOP RUN.", "", "", 0, "clean\n"),
     (
         "       ADD 1 TO N.\n",
@@ -68,9 +68,9 @@ const CHECKS: [(&str, &str, &str, &str, u8, &str); 20] = [
         "",
         "",
         2,
-        "E20 line 2\n",
+        "E8 line 2\n",
     ),
-    ("77 N", "77 MOVE", "", "", 2, "E20 line 5\n"),
+    ("77 N", "77 MOVE", "", "", 2, "E8 line 5\n"),
     (
         "PIC 9(3) VALUE",
         "PICTURE IS 9(3) VALUE IS",
@@ -79,14 +79,7 @@ const CHECKS: [(&str, &str, &str, &str, u8, &str); 20] = [
         0,
         "clean\n",
     ),
-    (
-        "ADD 1 TO N.",
-        "ADD 1\n\n       .",
-        "",
-        "",
-        2,
-        "E20 line 9\n",
-    ),
+    ("ADD 1 TO N.", "ADD 1\n\n       .", "", "", 2, "E8 line 9\n"),
     ("       STOP RUN.\n", "\n\n", "", "", 2, "E20 line 7\n"),
     (
         "       IDENTIFICATION",
@@ -120,6 +113,24 @@ const CHECKS: [(&str, &str, &str, &str, u8, &str); 20] = [
         2,
         "E7 line 7 column 12\n",
     ),
+    ("998", "9999", "", "", 2, "E9 L5 line 5\n"),
+    (
+        "STOP RUN.\n",
+        "STOP RUN.\n       A.\n       PERFORM A.\n",
+        "",
+        "",
+        2,
+        "E9 N1 line 10\n",
+    ),
+    (
+        "ADD 1 TO N.\n",
+        "COMPUTE N =\n       ((((((((((((((((((((((((((((((((\n       ((((((((((((((((((((((((((((((((1.\n",
+        "",
+        "",
+        9,
+        "E10 nesting 65\n",
+    ),
+    ("ADD 1 TO N", "CONTINUE", "", "", 2, "E20 line 7\n"),
     (
         "",
         "",

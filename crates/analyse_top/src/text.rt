@@ -1,10 +1,12 @@
 ghost use Rattle.std.specs.Prelude.{◌≡◌, ◌++◌, codes, decimal, OnOk, IfOk, length, vec_len};
-ghost use Rattle.analyse_top.specs.Text.{line_end, alarm_text, bound_text, gap_text, kind_text, report_text, ends_text, cell_text, difference_text, place_text, place_line};
+ghost use Rattle.analyse_top.specs.Text.{line_end, alarm_text, at_line, bound_text, gap_text, kind_text, over_line, refusal_text, report_text, rule_text, ends_text, cell_text, difference_text, place_text, place_line, which_text};
 ghost use Rattle.analyse_top.specs.View.{plain_answer};
 ghost use Rattle.analyse_top.specs.Answer.{answer_text, usage_text};
 
 use crate::answer::{Alarm, Answer};
 use cert_check::Gap;
+use cob_data::{Rule, Which};
+use cob_front::FrontEnd;
 use cob_tree::Kind;
 use itoa::{Buffer, Integer};
 use std::alloc::{AllocError, Global};
@@ -169,10 +171,11 @@ fn push_usage(text: &mut Vec<u8>, word: &str) -> Result<(), AllocError>
     push_word(text, b"E1 usage ", word)
 }
 
-fn push_line(text: &mut Vec<u8>, line: u32) -> Result<(), AllocError>
-    ensures { OnOk result (text.new.items ≡ text.old.items ++ (codes "E20 line " ++ decimal line ++ line_end)) }
+fn push_line(text: &mut Vec<u8>, code: &[u8], line: u32) -> Result<(), AllocError>
+    ensures { OnOk result (text.new.items ≡ text.old.items ++ at_line code.now line) }
 {
-    text.extend_from_slice(b"E20 line ")?;
+    text.extend_from_slice(code)?;
+    text.extend_from_slice(b" line ")?;
     push_number(text, line)?;
     text.extend_from_slice(b"\n")
 }
@@ -193,6 +196,86 @@ fn push_place_line(
     text.extend_from_slice(b"\n")
 }
 
+fn rule_text(rule: Rule) -> &'static [u8]
+    ensures { result.now ≡ rule_text rule }
+{
+    match rule {
+        Rule::L1 => b"L1",
+        Rule::L2 => b"L2",
+        Rule::L3 => b"L3",
+        Rule::L4 => b"L4",
+        Rule::L5 => b"L5",
+        Rule::L6 => b"L6",
+        Rule::L7 => b"L7",
+        Rule::L8 => b"L8",
+        Rule::L9 => b"L9",
+        Rule::L10 => b"L10",
+        Rule::L11 => b"L11",
+        Rule::L12 => b"L12",
+        Rule::Q1 => b"Q1",
+        Rule::Q2 => b"Q2",
+        Rule::Q3 => b"Q3",
+        Rule::Q4 => b"Q4",
+        Rule::Q5 => b"Q5",
+        Rule::Q6 => b"Q6",
+        Rule::Q7 => b"Q7",
+        Rule::Q8 => b"Q8",
+        Rule::Q9 => b"Q9",
+        Rule::Q10 => b"Q10",
+        Rule::Q11 => b"Q11",
+        Rule::N5 => b"N5",
+        Rule::N1 => b"N1",
+        Rule::N2 => b"N2",
+        Rule::N3 => b"N3",
+        Rule::N4 => b"N4",
+    }
+}
+
+fn which_text(which: Which) -> &'static [u8]
+    ensures { result.now ≡ which_text which }
+{
+    match which {
+        Which::Nesting => b"nesting",
+        Which::Items => b"items",
+        Which::Storage => b"storage",
+        Which::Files => b"files",
+        Which::Cells => b"cells",
+        Which::Nodes => b"nodes",
+    }
+}
+
+fn push_broken(text: &mut Vec<u8>, rule: Rule, line: u32) -> Result<(), AllocError>
+    ensures { OnOk result (text.new.items ≡ text.old.items ++ at_line (codes "E9 " ++ rule_text rule) line) }
+{
+    text.extend_from_slice(b"E9 ")?;
+    push_line(text, rule_text(rule), line)
+}
+
+fn push_over(text: &mut Vec<u8>, which: Which, count: u64) -> Result<(), AllocError>
+    ensures { OnOk result (text.new.items ≡ text.old.items ++ over_line which count) }
+{
+    text.extend_from_slice(b"E10 ")?;
+    text.extend_from_slice(which_text(which))?;
+    text.extend_from_slice(b" ")?;
+    push_number(text, count)?;
+    text.extend_from_slice(b"\n")
+}
+
+fn push_refusal(text: &mut Vec<u8>, cause: FrontEnd) -> Result<(), AllocError>
+    ensures { OnOk result (text.new.items ≡ text.old.items ++ refusal_text cause) }
+{
+    match cause {
+        FrontEnd::TooLong => text.extend_from_slice(b"E5 source too long\n"),
+        FrontEnd::BadLine { line, column } => push_place_line(text, b"E6", line, column),
+        FrontEnd::BadToken { line, column } => push_place_line(text, b"E7", line, column),
+        FrontEnd::Syntax { line } => push_line(text, b"E8", line),
+        FrontEnd::Nesting { count } => push_over(text, Which::Nesting, u64::from(count)),
+        FrontEnd::Outside { rule, line } => push_broken(text, rule, line),
+        FrontEnd::Limit { which, count } => push_over(text, which, count),
+        FrontEnd::Memory => text.extend_from_slice(b"E19 memory\n"),
+    }
+}
+
 fn push_leak(text: &mut Vec<u8>, edge: u32, gap: &Gap) -> Result<(), AllocError>
     ensures { OnOk result
         (text.new.items ≡ text.old.items ++ (codes "E14 layer 1 edge " ++ decimal edge ++ gap_text gap.now ++ line_end)) }
@@ -209,10 +292,8 @@ fn push_answer(text: &mut Vec<u8>, answer: &Answer) -> Result<(), AllocError>
     match answer {
         Answer::Usage(word) => push_usage(text, word),
         Answer::Absent(name) => push_word(text, b"E2 absent ", name),
-        Answer::SourceLong => text.extend_from_slice(b"E5 source too long\n"),
-        Answer::BadLine(line, column) => push_place_line(text, b"E6", *line, *column),
-        Answer::BadToken(line, column) => push_place_line(text, b"E7", *line, *column),
-        Answer::NotYet(line) => push_line(text, *line),
+        Answer::Refused(cause) => push_refusal(text, *cause),
+        Answer::NotYet(line) => push_line(text, b"E20", *line),
         Answer::CertificateLong => text.extend_from_slice(b"E11 certificate too long\n"),
         Answer::NotInductive(edge, gap) => push_leak(text, *edge, gap),
         Answer::Report(alarms) => push_report(text, alarms),

@@ -1,6 +1,6 @@
 ghost use Rattle.std.specs.Prelude.{◌≡◌, ◌↔◌, IsTrue, IfOk};
 ghost use Rattle.batch_io.specs.FilesState.{known_bytes};
-ghost use Rattle.analyse_top.specs.Answer.{Answers, IsPlain, status_of, status_unwritten};
+ghost use Rattle.analyse_top.specs.Answer.{Answers, IsPlain, refusal_status, status_of, status_unwritten};
 ghost use Rattle.analyse_top.specs.Conclusion.{Concludes, IsExact, CleanIsSafe, call};
 ghost use Rattle.analyse_top.specs.Steps.{Reads, stopped_by_fault, texts, ShowsAnswer, ShowsRefusal};
 ghost use Rattle.analyse_top.specs.View.{plain_answer};
@@ -9,6 +9,7 @@ use crate::answer::{Answer, Stop};
 use crate::check::check;
 use crate::text::answer_text;
 use batch_io::{Files, MakeEnd, Sink, show_whole};
+use cob_front::{FrontEnd, one_answer};
 use std::alloc::Global;
 
 const READ_FAULT: u8 = 5;
@@ -32,6 +33,7 @@ pub fn cobsound<F: Files, O: Sink>(
     ensures clean { CleanIsSafe (call (texts words.now.items)
         (F.state files.old) (F.state files.new) (O.state out.old) (O.state out.new) result) }
 {
+    one_answer();
     conclude(alloc, words, files, out)
 }
 
@@ -99,14 +101,28 @@ fn show_answer<O: Sink>(alloc: Global, answer: &Answer, out: &mut O) -> u8
     }
 }
 
+fn refusal_status(cause: FrontEnd) -> u8
+    ensures { result ≡ refusal_status cause }
+{
+    match cause {
+        FrontEnd::Nesting { .. } | FrontEnd::Limit { .. } => 9,
+        FrontEnd::Memory => OUT_OF_MEMORY,
+        FrontEnd::TooLong
+        | FrontEnd::BadLine { .. }
+        | FrontEnd::BadToken { .. }
+        | FrontEnd::Syntax { .. }
+        | FrontEnd::Outside { .. } => 2,
+    }
+}
+
 fn status_of(answer: &Answer) -> u8
     ensures { result ≡ status_of (plain_answer answer.now) }
 {
     match answer {
         Answer::Report(alarms) if alarms.is_empty() => 0,
         Answer::Report(_) => 1,
-        Answer::SourceLong | Answer::BadLine(_, _) | Answer::BadToken(_, _) | Answer::NotYet(_) =>
-            2,
+        Answer::Refused(cause) => refusal_status(*cause),
+        Answer::NotYet(_) => 2,
         Answer::CertificateLong | Answer::NotInductive(_, _) => 3,
         Answer::Usage(_) => 4,
         Answer::Absent(_) => 7,
