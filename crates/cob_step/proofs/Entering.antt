@@ -1,12 +1,17 @@
 -- Paragraphs that are entered, one after another.
-use Rattle.std.proofs.Common.{ℕ, zero, suc, ◌+◌, ◌-◌, ◌≡◌, ◌<◌, ◌≤◌, ◌==◌, Bool, true, false, List, [], ◌∷◌, length, refl, sym, ap, ◌∙◌, arith, Option, Some, None, slice_get}
+use Rattle.std.proofs.Common.{ℕ, zero, suc, ◌+◌, ◌-◌, ◌≡◌, ◌<◌, ◌≤◌, ◌==◌, Bool, true, false, List, [], ◌∷◌, length, refl, sym, ap, ◌∙◌, arith, Option, Some, None, slice_get, map}
 use Rattle.std.specs.Option.{option_map_or}
 use Rattle.std.proofs.lemmas.Bool.{eqb-true}
+use Rattle.std.proofs.lemmas.List.{length-map, length-reverse}
 use Rattle.cob_program.specs.declared.act.Stmt as declared_stmt
 use Rattle.cob_program.specs.Act.{Program, Para, Stmts, no_stmts}
-use Rattle.cob_runs.specs.State.{Doing, rest, paras}
-use Rattle.cob_runs.specs.Steps.{body_at, begun, entered}
-use Rattle.cob_step.specs.Views.{plain_stmts}
+use Rattle.cob_meaning.specs.declared.straight.Outcome.TheVariants.{Going, Ended}
+use Rattle.cob_runs.specs.Files.{Choice}
+use Rattle.cob_runs.specs.State.{World, Doing, rest, paras, state}
+use Rattle.cob_runs.specs.Steps.{body_at, begun, entered, settled_on}
+use Rattle.cob_step.specs.declared.control.Todo.{Todo}
+use Rattle.cob_step.specs.declared.control.Control.{Control}
+use Rattle.cob_step.specs.Views.{plain_stmts, plain_doing, plain_control}
 
 pub begun_full : (xs : List declared_stmt.Stmt) (front otherwise : List Doing) → (length xs == 0) ≡ false →
     begun (plain_stmts xs) front otherwise ≡ rest (plain_stmts xs) ∷ front
@@ -61,3 +66,29 @@ module _ (p : Program) (ds behind : List Doing) where
       some_left first last within
       ∙ ap (λ ss. begun ss (paras (suc first) last ∷ ds) (entered p (suc last - (first + 1)) (first + 1) last ds behind)) (sym its)
       ∙ begun_empty xs _ _ none
+
+-- ---- whether anything is left
+
+pub nothing_left : (p : Program) (c : Choice) (w : World) (ds : List Doing) → length ds ≡ 0 →
+    settled_on p c w ds ≡ state w ds Ended
+nothing_left p c w [] none = refl
+nothing_left p c w (d ∷ ds) none = absurd (omega (arith, none))
+
+pub something_left : (p : Program) (c : Choice) (w : World) (ds : List Doing) → 0 < length ds →
+    settled_on p c w ds ≡ state w ds Going
+something_left p c w [] some = absurd (omega (arith, some))
+something_left p c w (d ∷ ds) some = refl
+
+pub as_many : (c : Control) → length (plain_control c) ≡ length c.items.items
+as_many c = length-reverse (map plain_doing c.items.items) ∙ length-map c.items.items plain_doing
+
+some_length : (xs : List Todo) → (length xs == 0) ≡ false → 0 < length xs
+some_length [] some = absurd (cc)
+some_length (x ∷ xs) some = omega arith
+
+pub is_empty : (c : Control) (xs : List Todo) → xs ≡ c.items.items → (length xs == 0) ≡ true → length (plain_control c) ≡ 0
+is_empty c xs its none = as_many c ∙ ap length (sym its) ∙ eqb-true (length xs) 0 none
+
+pub is_not_empty : (c : Control) (xs : List Todo) → xs ≡ c.items.items → (length xs == 0) ≡ false →
+    0 < length (plain_control c)
+is_not_empty c xs its some = omega (arith, some_length xs some, as_many c, ap length its)

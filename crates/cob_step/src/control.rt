@@ -1,14 +1,16 @@
 //! What a run has still to do.
-ghost use Rattle.std.specs.Prelude.{◌≡◌, ◌<◌, ◌^◌, ◌-◌, ◌∷◌, [], suc, true, List, IfOk, IfSome, MatchOption};
+ghost use Rattle.std.specs.Prelude.{◌≡◌, ◌<◌, ◌^◌, ◌-◌, ◌∷◌, [], suc, true, length, List, IfOk, IfSome, MatchOption};
 ghost use Rattle.std.specs.Option.{option_map_or};
 ghost use Rattle.std.specs.Result.{OnOk};
 ghost use Rattle.cob_program.specs.Act as act;
 ghost use Rattle.cob_program.specs.ActView.{plain_program};
-ghost use Rattle.cob_runs.specs.State.{Doing, rest, paras};
-ghost use Rattle.cob_runs.specs.Steps.{body_at, entered, settled, gone_to};
+ghost use Rattle.cob_runs.specs.Files.{Choice};
+ghost use Rattle.cob_runs.specs.State.{World, Doing, rest, paras, state};
+ghost use Rattle.cob_runs.specs.Steps.{body_at, entered, settled, settled_on, gone_to, number_of};
 ghost use Rattle.cob_step.specs.Views.{plain_stmts, plain_doing, plain_control};
 ghost use Rattle.cob_step.specs.Settling.{Begins};
 
+use cob_meaning::Outcome;
 use cob_program::{Body, Program, Stmt, Turns};
 use std::alloc::{AllocError, Global};
 
@@ -31,6 +33,19 @@ pub enum Todo<'a> {
         body: &'a Body,
         turns: &'a Turns,
     },
+}
+
+impl Todo<'_> {
+    /// The number of the statement to which it belongs, 0 where there is none.
+    pub fn number(&self) -> u32
+        ensures { (p : act.Program) (c : Choice) → result ≡ number_of p c (plain_doing self.now) }
+    {
+        match self {
+            Todo::Rest([stmt, ..]) => stmt.number,
+            Todo::Rest([]) | Todo::Paras { .. } => 0,
+            Todo::Testing { number, .. } | Todo::Augmenting { number, .. } => *number,
+        }
+    }
 }
 
 /// What is still to be done, the front last.
@@ -76,6 +91,29 @@ impl<'a> Control<'a> {
         }
     }
 
+    /// All paragraphs of a program, where there is something to do in them.
+    pub fn of(alloc: Global, program: &'a Program) -> Result<Control<'a>, AllocError>
+        ensures { IfOk result (λ control. plain_control control ≡ settled (plain_program program.now)
+            (rest (body_at (plain_program program.now) 0)
+            ∷ paras 1 (length (plain_program program.now).paras - 1) ∷ [])) }
+    {
+        let mut control = Control::new(alloc);
+        control.push(Todo::Paras {
+            first: 1,
+            last: program.paras.get().len().saturating_sub(1),
+        })?;
+        control.push(Todo::Rest(body_at(program, 0)))?;
+        control.settle(program)?;
+        Ok(control)
+    }
+
+    /// Forgets all of it.
+    pub fn clear(&mut self)
+        ensures { plain_control self.new ≡ [] }
+    {
+        self.items.clear();
+    }
+
     /// Something to do first.
     pub fn push(&mut self, todo: Todo<'a>) -> Result<(), AllocError>
         ensures { OnOk result (plain_control self.new ≡ plain_doing todo.entry ∷ plain_control self.old) }
@@ -92,15 +130,21 @@ impl<'a> Control<'a> {
         self.items.pop()
     }
 
-    /// Whether nothing is left to be done.
-    pub fn is_empty(&self) -> bool
+    /// The outcome of a run that has this still to do and goes on: where it is nothing, the run has ended.
+    pub fn outcome(&self) -> Outcome
+        ensures { (p : act.Program) (c : Choice) (w : World) → settled_on p c w (plain_control self.now)
+            ≡ state w (plain_control self.now) result }
     {
-        self.items.as_slice().is_empty()
+        if self.items.as_slice().is_empty() {
+            Outcome::Ended
+        } else {
+            Outcome::Going
+        }
     }
 
     // Puts what something to do begins with in front; answers whether there is anything in it.
     fn start(&mut self, program: &'a Program, todo: Todo<'a>) -> Result<bool, AllocError>
-        ensures { IfOk result (λ begun. Begins (plain_program program.entry.now) begun (plain_doing todo.entry)
+        ensures { IfOk result (λ begun. Begins (plain_program program.now) begun (plain_doing todo.entry)
             (plain_control self.old) (plain_control self.new)) }
     {
         match todo {
@@ -121,7 +165,7 @@ impl<'a> Control<'a> {
     }
 
     fn start_list(&mut self, list: &'a [Stmt]) -> Result<bool, AllocError>
-        ensures { IfOk result (λ begun. (p : act.Program) → Begins p begun (rest (plain_stmts list.entry.now))
+        ensures { IfOk result (λ begun. (p : act.Program) → Begins p begun (rest (plain_stmts list.now))
             (plain_control self.old) (plain_control self.new)) }
     {
         if list.is_empty() {
@@ -138,7 +182,7 @@ impl<'a> Control<'a> {
         first: usize,
         last: usize,
     ) -> Result<bool, AllocError>
-        ensures { IfOk result (λ begun. Begins (plain_program program.entry.now) begun (paras first last)
+        ensures { IfOk result (λ begun. Begins (plain_program program.now) begun (paras first last)
             (plain_control self.old) (plain_control self.new)) }
     {
         match first_entered(program, first, last) {
@@ -157,7 +201,7 @@ impl<'a> Control<'a> {
     /// Drops what is done already, so that the front is something to do.
     pub fn settle(&mut self, program: &'a Program) -> Result<(), AllocError>
         ensures { OnOk result (plain_control self.new
-            ≡ settled (plain_program program.entry.now) (plain_control self.old)) }
+            ≡ settled (plain_program program.now) (plain_control self.old)) }
     {
         while let Some(todo) = self.pop() {
             if self.start(program, todo)? {
