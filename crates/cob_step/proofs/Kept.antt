@@ -1,7 +1,8 @@
 -- What is still to be done can be done, after each step too.
-use Rattle.std.proofs.Common.{◌≡◌, ℕ, zero, suc, ◌-◌, ◌==◌, ◌&&◌, if◌then◌else◌, Bool, true, false, List, [], ◌∷◌, length, map, refl, Option, Some, None, slice_get, Result, Ok, Err, ℤ}
+use Rattle.std.proofs.Common.{◌≡◌, ℕ, zero, suc, ◌-◌, ◌==◌, ◌&&◌, if◌then◌else◌, Bool, true, false, List, [], ◌∷◌, length, map, refl, sym, subst, ◌∙◌, Option, Some, None, slice_get, Result, Ok, Err, ℤ}
 use Rattle.std.specs.List.{AllByRecursion, All}
 use Rattle.std.specs.Option.{option_map_or}
+use Rattle.std.specs.Result.{OnOk}
 use Rattle.cob_tree.specs.declared.fault.Kind.{Kind}
 use Rattle.cob_data.specs.declared.layout.Layout.{Layout}
 use Rattle.cob_data.specs.declared.layout.Sender.{Sender}
@@ -18,7 +19,7 @@ use Rattle.cob_runs.specs.Acts.{move, compute, has_status, is_fine, read_one, wr
 use Rattle.cob_runs.specs.Steps.{body_at, begun, entered, settled, gone_to, body_of, list_of, is_given, outcome_of, behind_read, ended_by, chosen, loop_begun, goes_on, turn, tested, augmented, written_by, done, first_done, front_done, settled_on, settle, settled_state, faulty_or, number_of, step_on, step_in, step}
 use Rattle.cob_calc.specs.Comparing.{CanDecide, CanDecideAll}
 use Rattle.cob_world.specs.Doing.{CanDo, CanDoPhrase, CanDoAct, CanDoWhens, CanDoBody, CanDoParas, CanDoProgram, CanTurn}
-use Rattle.cob_step.specs.Ready.{CanDoNext, CanDoAll}
+use Rattle.cob_step.specs.Ready.{CanDoNext, CanDoAll, IsReady}
 
 -- ---- conditions
 
@@ -93,7 +94,7 @@ module _ (p : Program) (able : CanDoProgram p) where
   -- ---- statements
 
   module _ (c : Choice) where
-    abbrev CanGoOn : State → Type 0
+    abbrev pub CanGoOn : State → Type 0
     CanGoOn s = CanDoAll p.layout s.control
 
     either_list : (x : Bool) (body : Stmts) (r : Result Stmts Kind) → CanDo p.layout body → Holds (CanDo p.layout) r →
@@ -232,3 +233,12 @@ module _ (p : Program) (able : CanDoProgram p) where
     pub can_step_on : (s : State) (ds : List Doing) → CanGoOn s → CanDoAll p.layout ds → CanGoOn (step_on p c s ds)
     can_step_on s [] h x = tt
     can_step_on s (d ∷ ds) h (a, as_) = can_go_behind s (number_of p c d) (front_done p c d s.world ds) h (can_do_front d s.world ds a as_)
+
+    -- what a step makes of a run can be done too
+    pub can_step : (s t : State) → CanGoOn s → t ≡ step_on p c s s.control → CanGoOn t
+    can_step s t h e = let P : State → Type 0 = λ x. CanGoOn x in subst P (sym e) (can_step_on s s.control h h)
+
+    pub step_is_ready : {T E : Type 0} (r : Result T E) (s t : State) → IsReady p s →
+        length t.world.storage ≡ length s.world.storage → OnOk r (t ≡ step_on p c s s.control) → OnOk r (IsReady p t)
+    step_is_ready (Ok x) s t h kept e = record { able = can_step s t h.able e; whole = kept ∙ h.whole }
+    step_is_ready (Err x) s t h kept e = tt

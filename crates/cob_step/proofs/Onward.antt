@@ -1,12 +1,16 @@
 -- What comes of a statement's part, and of what is done behind it.
 use Rattle.std.proofs.Common.{◌≡◌, ap, ◌∙◌, sym, refl, Bool, true, false, List, ◌∷◌, [], Result, Ok, Err}
+use Rattle.std.specs.Result.{OnOk}
 use Rattle.cob_tree.specs.declared.fault.Kind.{Kind}
 use Rattle.cob_meaning.specs.declared.straight.Outcome.{Outcome}
-use Rattle.cob_meaning.specs.declared.straight.Outcome.TheVariants.{Going}
+use Rattle.cob_meaning.specs.declared.straight.Outcome.TheVariants.{Going, Fault}
 use Rattle.cob_store.specs.declared.end.MoveEnd.{MoveEnd}
 use Rattle.cob_store.specs.declared.end.MoveEnd.TheVariants as end
 use Rattle.cob_runs.specs.Faults.{◌>>=◌}
+use Rattle.cob_program.specs.Act.{Program}
+use Rattle.cob_runs.specs.Files.{Choice}
 use Rattle.cob_runs.specs.State.{World, Doing, State, state, going}
+use Rattle.cob_runs.specs.Steps.{front_done, number_of, faulty_or, settled_state, step_on, step_in, step}
 use Rattle.cob_world.specs.Becoming.{Becomes, Leaves}
 
 -- what is done behind a part that went well, and behind one that met a fault
@@ -32,3 +36,26 @@ pub leaves : {A B W V : Type 0} (r : Result A Kind) (next : A → Result B Kind)
     (v ≡ w → t ≡ s) → Leaves r x w v → Leaves (r >>= next) x s t
 leaves r next (end.Fault kind) w v s t same (e, is) = (broken r kind next e, same is)
 leaves r next end.Memory w v s t same h = tt
+
+-- where there is a result, one state is another
+pub onto : {T E : Type 0} (r : Result T E) (t a b : State) → a ≡ b → OnOk r (t ≡ a) → OnOk r (t ≡ b)
+onto (Ok x) t a b e h = h ∙ e
+onto (Err x) t a b e h = tt
+
+-- ---- a step
+
+module _ (p : Program) (c : Choice) (s : State) (d : Doing) (ds : List Doing) (front : s.control ≡ d ∷ ds) where
+  front_is : step_on p c s s.control ≡ faulty_or p c s (number_of p c d) (front_done p c d s.world ds)
+  front_is = ap (λ es. step_on p c s es) front
+
+  pub step_done : (next : State) → front_done p c d s.world ds ≡ Ok next →
+      step_on p c s s.control ≡ settled_state p c next
+  step_done next e = front_is ∙ ap (λ r. faulty_or p c s (number_of p c d) r) e
+
+  pub step_broken : (kind : Kind) → front_done p c d s.world ds ≡ Err kind →
+      step_on p c s s.control ≡ state s.world (d ∷ ds) (Fault kind (number_of p c d))
+  step_broken kind e = front_is ∙ ap (λ r. faulty_or p c s (number_of p c d) r) e
+      ∙ ap (λ es. state s.world es (Fault kind (number_of p c d))) front
+
+pub step_is : (p : Program) (c : Choice) (s : State) → s.outcome ≡ Going → step_on p c s s.control ≡ step p c s
+step_is p c s going_ = ap (λ o. step_in p c o s) (sym going_)

@@ -1,10 +1,9 @@
 //! OPEN, CLOSE, READ and WRITE, and what a status does to a run (ISO 1989:1985, "Sequential I-O").
-ghost use Rattle.std.specs.Prelude.{◌≡◌, ℕ, length, IfSome};
+ghost use Rattle.std.specs.Prelude.{◌≡◌, length, IfSome};
 ghost use Rattle.std.specs.Result.{OnOk};
 ghost use Rattle.cob_program.specs.Act as act;
 ghost use Rattle.cob_program.specs.ActView.{plain_program};
 ghost use Rattle.cob_runs.specs.Contents.{form_at};
-ghost use Rattle.cob_runs.specs.Files.{Choice};
 ghost use Rattle.cob_runs.specs.Acts.{open_one, close_one};
 ghost use Rattle.cob_runs.specs.Steps.{outcome_of, each_from, behind_read, done};
 ghost use Rattle.cob_items.specs.Sound.{HasSoundItems, CanMove};
@@ -91,8 +90,8 @@ impl<'a> Run<'a> {
     ) -> Result<(), MoveEnd>
         requires sound { HasSoundItems program.now.layout }
         requires whole { length self.old.world.storage ≡ program.now.layout.storage }
-        ensures done { (c : Choice) → Becomes
-            (done (plain_program program.now) c number (act.open_files files.now) self.old.world
+        ensures done { Becomes
+            (done (plain_program program.now) None number (act.open_files files.now) self.old.world
                 (plain_control self.old.control))
             result (plain_run self.old) (plain_run self.new) }
         ensures kept { length self.new.world.storage ≡ length self.old.world.storage }
@@ -109,8 +108,8 @@ impl<'a> Run<'a> {
     ) -> Result<(), MoveEnd>
         requires sound { HasSoundItems program.now.layout }
         requires whole { length self.old.world.storage ≡ program.now.layout.storage }
-        ensures done { (c : Choice) → Becomes
-            (done (plain_program program.now) c number (act.close_files files.now) self.old.world
+        ensures done { Becomes
+            (done (plain_program program.now) None number (act.close_files files.now) self.old.world
                 (plain_control self.old.control))
             result (plain_run self.old) (plain_run self.new) }
         ensures kept { length self.new.world.storage ≡ length self.old.world.storage }

@@ -8,5 +8,7 @@ mod loops;
 mod run;
 mod selecting;
 mod statements;
+#[cfg(test)]
+mod tests;
 
 pub use run::{Run, begin, step};

@@ -181,8 +181,8 @@ impl<'a> Run<'a> {
         requires whole { length self.old.world.storage ≡ program.now.layout.storage }
         requires able { CanTurn program.now.layout (plain_turns turns.now) }
         requires going { self.old.outcome ≡ Outcome.Going }
-        ensures done { (c : Choice) → Becomes
-            (loop_begun (plain_program program.now) c number (plain_body body.now) (plain_turns turns.now)
+        ensures done { Becomes
+            (loop_begun (plain_program program.now) None number (plain_body body.now) (plain_turns turns.now)
                 self.old.world (plain_control self.old.control))
             result (plain_run self.old) (plain_run self.new) }
         ensures kept { length self.new.world.storage ≡ length self.old.world.storage }
@@ -219,8 +219,8 @@ impl<'a> Run<'a> {
         requires number { IsNumber program.now.layout count.now }
         requires turns { plain_turns turns.now ≡ act.times count.now }
         requires going { self.old.outcome ≡ Outcome.Going }
-        ensures done { (c : Choice) → Becomes
-            (loop_begun (plain_program program.now) c number (plain_body body.now) (plain_turns turns.now)
+        ensures done { Becomes
+            (loop_begun (plain_program program.now) None number (plain_body body.now) (plain_turns turns.now)
                 self.old.world (plain_control self.old.control))
             result (plain_run self.old) (plain_run self.new) }
         ensures kept { length self.new.world.storage ≡ length self.old.world.storage }

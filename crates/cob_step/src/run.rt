@@ -1,7 +1,8 @@
 //! A run, from its beginning and step by step.
-ghost use Rattle.std.specs.Prelude.{◌≡◌, [], length, map, IfOk};
+ghost use Rattle.std.specs.Prelude.{◌≡◌, ◌∷◌, [], length, map, IfOk};
 ghost use Rattle.std.specs.Option.{option_map};
 ghost use Rattle.std.specs.Result.{OnOk};
+ghost use Rattle.cob_program.specs.Act as act;
 ghost use Rattle.cob_program.specs.ActView.{plain_program};
 ghost use Rattle.cob_runs.specs.Files.{Choice};
 ghost use Rattle.cob_runs.specs.Runs.{begin};
@@ -10,7 +11,7 @@ ghost use Rattle.cob_runs.specs.Steps.{step, step_on, settled_state, front_done,
 ghost use Rattle.cob_items.specs.Sound.{HasSoundItems};
 ghost use Rattle.cob_world.specs.Becoming.{Becomes};
 ghost use Rattle.cob_world.specs.Doing.{CanDoProgram};
-ghost use Rattle.cob_step.specs.Ready.{CanDoNext, CanDoAll, IsReady};
+ghost use Rattle.cob_step.specs.Ready.{CanDoNext, IsReady};
 ghost use Rattle.cob_step.specs.Views.{plain_doing, plain_control, plain_run};
 
 use crate::control::{Control, Todo};
@@ -97,7 +98,7 @@ impl<'a> Run<'a> {
         requires going { self.old.outcome ≡ Outcome.Going }
         ensures done { OnOk result (plain_run self.new
             ≡ step_on (plain_program program.now) choice.now (plain_run self.old) (plain_control self.old.control)) }
-        ensures kept { OnOk result (length self.new.world.storage ≡ length self.old.world.storage) }
+        ensures kept { length self.new.world.storage ≡ length self.old.world.storage }
     {
         match self.control.pop() {
             None => {
@@ -114,7 +115,10 @@ impl<'a> Run<'a> {
 
     // A step that met a fault changes nothing but the outcome.
     fn fail(&mut self, front: Todo<'a>, kind: Kind) -> Result<(), AllocError>
-        ensures { OnOk result (self.new.world ≡ self.old.world) }
+        ensures done { (p : act.Program) (c : Choice) → OnOk result (plain_run self.new
+            ≡ state self.old.world (plain_doing front.entry ∷ plain_control self.old.control)
+                (Outcome.Fault kind (number_of p c (plain_doing front.entry)))) }
+        ensures kept { self.new.world ≡ self.old.world }
     {
         let statement = front.number();
         self.control.push(front)?;
@@ -123,8 +127,9 @@ impl<'a> Run<'a> {
     }
 
     fn settle(&mut self, program: &'a Program) -> Result<(), AllocError>
-        ensures { (c : Choice) → OnOk result (plain_run self.new
+        ensures done { (c : Choice) → OnOk result (plain_run self.new
             ≡ settled_state (plain_program program.now) c (plain_run self.old)) }
+        ensures kept { self.new.world ≡ self.old.world }
     {
         match self.outcome {
             Outcome::Going => {

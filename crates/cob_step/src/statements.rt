@@ -1,19 +1,18 @@
-//! Statements, each with what is done behind it.
-ghost use Rattle.std.specs.Prelude.{◌≡◌, ℕ, [], length, IfSome, if◌then◌else◌};
-ghost use Rattle.std.specs.List.{All};
+//! Statements, each with what is done behind it. A clause says `None` or 0 where it doesn't matter what is chosen, or
+//! which number the statement has.
+ghost use Rattle.std.specs.Prelude.{◌≡◌, [], length, if◌then◌else◌};
+ghost use Rattle.std.specs.List.{AllByRecursion};
 ghost use Rattle.cob_program.specs.Act as act;
 ghost use Rattle.cob_program.specs.ActView.{plain_program, plain_act};
 ghost use Rattle.cob_program.specs.LogicView.{plain_logic};
 ghost use Rattle.cob_program.specs.SumView.{plain_sum};
-ghost use Rattle.cob_runs.specs.Contents.{form_at};
-ghost use Rattle.cob_runs.specs.Files.{Choice};
-ghost use Rattle.cob_runs.specs.State.{rest};
-ghost use Rattle.cob_runs.specs.Steps.{list_of, is_given, done, front_done};
-ghost use Rattle.cob_items.specs.Sound.{HasSoundItems, CanMove};
+ghost use Rattle.cob_runs.specs.State.{rest, state, going};
+ghost use Rattle.cob_runs.specs.Steps.{list_of, is_given, gone_to, done, front_done};
+ghost use Rattle.cob_items.specs.Sound.{HasSoundItems};
 ghost use Rattle.cob_calc.specs.Arithmetic.{CanCompute};
 ghost use Rattle.cob_calc.specs.Comparing.{CanDecide};
 ghost use Rattle.cob_world.specs.Becoming.{Becomes};
-ghost use Rattle.cob_world.specs.Doing.{CanDo, CanDoAct, CanDoWhens};
+ghost use Rattle.cob_world.specs.Doing.{CanMoveTo, CanDo, CanDoAct, CanDoWhens};
 ghost use Rattle.cob_step.specs.Views.{plain_stmts, plain_phrase, plain_whens, plain_control, plain_run};
 
 use crate::control::Todo;
@@ -148,10 +147,10 @@ impl<'a> Run<'a> {
     ) -> Result<(), MoveEnd>
         requires sound { HasSoundItems program.now.layout }
         requires whole { length self.old.world.storage ≡ program.now.layout.storage }
-        requires able { All (λ place. CanMove program.now.layout from.now (form_at program.now.layout place)) to.now }
+        requires able { AllByRecursion (CanMoveTo program.now.layout from.now) to.now }
         requires going { self.old.outcome ≡ Outcome.Going }
-        ensures done { (c : Choice) (number : ℕ) → Becomes
-            (done (plain_program program.now) c number (act.move from.now to.now) self.old.world
+        ensures done { Becomes
+            (done (plain_program program.now) None 0 (act.move from.now to.now) self.old.world
                 (plain_control self.old.control))
             result (plain_run self.old) (plain_run self.new) }
         ensures kept { length self.new.world.storage ≡ length self.old.world.storage }
@@ -173,8 +172,8 @@ impl<'a> Run<'a> {
         requires whole { length self.old.world.storage ≡ program.now.layout.storage }
         requires able { CanCompute program.now.layout (plain_sum common.now) targets.now remainder }
         requires going { self.old.outcome ≡ Outcome.Going }
-        ensures done { (c : Choice) (number : ℕ) → Becomes
-            (done (plain_program program.now) c number
+        ensures done { Becomes
+            (done (plain_program program.now) None 0
                 (act.arith (plain_sum common.now) targets.now remainder (plain_phrase size.now) (plain_stmts fine.now))
                 self.old.world (plain_control self.old.control))
             result (plain_run self.old) (plain_run self.new) }
@@ -199,8 +198,8 @@ impl<'a> Run<'a> {
         requires whole { length self.old.world.storage ≡ program.now.layout.storage }
         requires able { CanDecide program.now.layout (plain_logic test.now) }
         requires going { self.old.outcome ≡ Outcome.Going }
-        ensures done { (c : Choice) (number : ℕ) → Becomes
-            (done (plain_program program.now) c number
+        ensures done { Becomes
+            (done (plain_program program.now) None 0
                 (act.if_ (plain_logic test.now) (plain_stmts held.now) (plain_stmts other.now))
                 self.old.world (plain_control self.old.control))
             result (plain_run self.old) (plain_run self.new) }
@@ -223,8 +222,8 @@ impl<'a> Run<'a> {
         requires whole { length self.old.world.storage ≡ program.now.layout.storage }
         requires able { CanDoWhens program.now.layout (plain_whens whens.now) }
         requires going { self.old.outcome ≡ Outcome.Going }
-        ensures done { (c : Choice) (number : ℕ) → Becomes
-            (done (plain_program program.now) c number
+        ensures done { Becomes
+            (done (plain_program program.now) None 0
                 (act.evaluate (plain_whens whens.now) (plain_stmts other.now))
                 self.old.world (plain_control self.old.control))
             result (plain_run self.old) (plain_run self.new) }
@@ -238,8 +237,7 @@ impl<'a> Run<'a> {
 
     fn do_go(&mut self, place: u32) -> Result<(), MoveEnd>
         requires going { self.old.outcome ≡ Outcome.Going }
-        ensures done { (p : act.Program) (c : Choice) (number : ℕ) → Becomes
-            (done p c number (act.go place) self.old.world (plain_control self.old.control))
+        ensures done { Becomes (Ok (going self.old.world (gone_to place (plain_control self.old.control))))
             result (plain_run self.old) (plain_run self.new) }
         ensures kept { self.new.world ≡ self.old.world }
     {
@@ -247,8 +245,7 @@ impl<'a> Run<'a> {
     }
 
     fn do_stop(&mut self) -> Result<(), MoveEnd>
-        ensures done { (p : act.Program) (c : Choice) (number : ℕ) → Becomes
-            (done p c number act.stop self.old.world (plain_control self.old.control))
+        ensures done { Becomes (Ok (state self.old.world [] Outcome.Ended))
             result (plain_run self.old) (plain_run self.new) }
         ensures kept { self.new.world ≡ self.old.world }
     {
@@ -266,8 +263,8 @@ impl<'a> Run<'a> {
         requires sound { HasSoundItems program.now.layout }
         requires whole { length self.old.world.storage ≡ program.now.layout.storage }
         requires going { self.old.outcome ≡ Outcome.Going }
-        ensures done { (c : Choice) (number : ℕ) → Becomes
-            (done (plain_program program.now) c number (act.show senders.now) self.old.world
+        ensures done { Becomes
+            (done (plain_program program.now) None 0 (act.show senders.now) self.old.world
                 (plain_control self.old.control))
             result (plain_run self.old) (plain_run self.new) }
         ensures kept { length self.new.world.storage ≡ length self.old.world.storage }

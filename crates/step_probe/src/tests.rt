@@ -69,7 +69,7 @@ fn loops_are_done_as_often_as_they_say(rt: HostRuntime) -> Result<(), Fail> {
             "Ended: 0034\n",
         ),
         (
-            "       77 I PIC 9.\n       PROCEDURE DIVISION.\n           PERFORM VARYING I FROM 1 BY 2 UNTIL I > 5 DISPLAY I END-PERFORM.\n           DISPLAY I.\n",
+            "       77 I PIC 9.\n       PROCEDURE DIVISION.\n           PERFORM VARYING I FROM 1 BY 2 UNTIL I > 5\n               DISPLAY I END-PERFORM.\n           DISPLAY I.\n",
             "Ended: 1\n3\n5\n7\n",
         ),
         (
@@ -77,7 +77,7 @@ fn loops_are_done_as_often_as_they_say(rt: HostRuntime) -> Result<(), Fail> {
             "Ended: 1\n3\n5\n5\n",
         ),
         (
-            "       77 N PIC 9 VALUE 7.\n       PROCEDURE DIVISION.\n           PERFORM UNTIL N > 5 DISPLAY 'BEFORE' END-PERFORM.\n           PERFORM WITH TEST AFTER UNTIL N > 5 DISPLAY 'AFTER' END-PERFORM.\n",
+            "       77 N PIC 9 VALUE 7.\n       PROCEDURE DIVISION.\n           PERFORM UNTIL N > 5\n               DISPLAY 'BEFORE' END-PERFORM.\n           PERFORM WITH TEST AFTER UNTIL N > 5\n               DISPLAY 'AFTER' END-PERFORM.\n",
             "Ended: AFTER\n",
         ),
     ] {

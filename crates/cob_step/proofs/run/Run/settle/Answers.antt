@@ -4,8 +4,8 @@ use Rattle.cob_runs.specs.Steps.{settled_on, settle}
 use Rattle.cob_step.specs.Views.{plain_control}
 use Rattle.cob_step.proofs.run.Run.settle.Goals as goal
 
-pub returns-in_ok-settle-in-Going : goal.returns-in_ok-settle-in-Going
-returns-in_ok-settle-in-Going c = λ ch.
+pub returns-in_ok-settle-in-Going-clause-done : goal.returns-in_ok-settle-in-Going-clause-done
+returns-in_ok-settle-in-Going-clause-done c = λ ch.
     let p = plain_program c.args.program.now in
     let w = c.args.self.now.world in
     sym (c.outcome-self.ensures p ch w)
