@@ -33,7 +33,8 @@ module _ (p : Program) (ds behind : List Doing) where
   pub entered_none : (n first last : ℕ) → length p.paras ≤ first → entered p n first last ds behind ≡ behind
   entered_none zero first last past = refl
   entered_none (suc n) first last past =
-      ap (λ ss. begun ss (paras (suc first) last ∷ ds) (entered p n (suc first) last ds behind)) (none_there p.paras first past)
+      ap (λ ss. begun ss (paras (suc first) last ∷ ds) (entered p n (suc first) last ds behind))
+      (none_there p.paras first past)
       ∙ entered_none n (suc first) last (omega arith)
 
   -- where the last one was passed
@@ -42,12 +43,14 @@ module _ (p : Program) (ds behind : List Doing) where
       let none : suc last - first ≡ 0 = omega arith in ap (λ n. entered p n first last ds behind) none
 
   some_left : (first last : ℕ) → first ≤ last → entered p (suc last - first) first last ds behind
-      ≡ begun (body_at p first) (paras (suc first) last ∷ ds) (entered p (suc last - (first + 1)) (first + 1) last ds behind)
+      ≡ begun (body_at p first) (paras (suc first) last ∷ ds)
+      (entered p (suc last - (first + 1)) (first + 1) last ds behind)
   some_left first last within =
       let left : suc last - first ≡ suc (suc last - (first + 1)) = omega arith in
       let next : suc first ≡ first + 1 = omega arith in
       ap (λ n. entered p n first last ds behind) left
-      ∙ ap (λ n. begun (body_at p first) (paras (suc first) last ∷ ds) (entered p (suc last - (first + 1)) n last ds behind)) next
+      ∙ ap (λ n. begun (body_at p first) (paras (suc first) last ∷ ds)
+      (entered p (suc last - (first + 1)) n last ds behind)) next
 
   -- one with statements
   pub entered_full : (xs : List declared_stmt.Stmt) (first last : ℕ) → first ≤ last →
@@ -55,7 +58,8 @@ module _ (p : Program) (ds behind : List Doing) where
       entered p (suc last - first) first last ds behind ≡ rest (body_at p first) ∷ paras (suc first) last ∷ ds
   entered_full xs first last within its full =
       some_left first last within
-      ∙ ap (λ ss. begun ss (paras (suc first) last ∷ ds) (entered p (suc last - (first + 1)) (first + 1) last ds behind)) (sym its)
+      ∙ ap (λ ss. begun ss (paras (suc first) last ∷ ds) (entered p (suc last - (first + 1))
+      (first + 1) last ds behind)) (sym its)
       ∙ begun_full xs _ _ full ∙ ap (λ ss. rest ss ∷ paras (suc first) last ∷ ds) its
 
   -- an empty one is passed over
@@ -64,7 +68,8 @@ module _ (p : Program) (ds behind : List Doing) where
       entered p (suc last - first) first last ds behind ≡ entered p (suc last - (first + 1)) (first + 1) last ds behind
   entered_empty xs first last within its none =
       some_left first last within
-      ∙ ap (λ ss. begun ss (paras (suc first) last ∷ ds) (entered p (suc last - (first + 1)) (first + 1) last ds behind)) (sym its)
+      ∙ ap (λ ss. begun ss (paras (suc first) last ∷ ds) (entered p (suc last - (first + 1))
+      (first + 1) last ds behind)) (sym its)
       ∙ begun_empty xs _ _ none
 
 -- ---- whether anything is left
@@ -86,7 +91,8 @@ some_length : (xs : List Todo) → (length xs == 0) ≡ false → 0 < length xs
 some_length [] some = absurd (cc)
 some_length (x ∷ xs) some = omega arith
 
-pub is_empty : (c : Control) (xs : List Todo) → xs ≡ c.items.items → (length xs == 0) ≡ true → length (plain_control c) ≡ 0
+pub is_empty : (c : Control) (xs : List Todo) → xs ≡ c.items.items → (length xs == 0) ≡ true →
+    length (plain_control c) ≡ 0
 is_empty c xs its none = as_many c ∙ ap length (sym its) ∙ eqb-true (length xs) 0 none
 
 pub is_not_empty : (c : Control) (xs : List Todo) → xs ≡ c.items.items → (length xs == 0) ≡ false →

@@ -49,7 +49,8 @@ onward_from Q r next on = onward (λ a. Unit {0}) Q r next (anything r) (λ a h.
 -- ---- what comes next
 
 module _ (p : Program) (able : CanDoProgram p) where
-  can_para : (xs : List Para) (n : ℕ) → CanDoParas p.layout xs → CanDo p.layout (option_map_or (λ x. x.body) (slice_get xs n) no_stmts)
+  can_para : (xs : List Para) (n : ℕ) → CanDoParas p.layout xs →
+      CanDo p.layout (option_map_or (λ x. x.body) (slice_get xs n) no_stmts)
   can_para [] n h = tt
   can_para (x ∷ xs) zero (h, hs) = h
   can_para (x ∷ xs) (suc n) (h, hs) = can_para xs n hs
@@ -66,7 +67,8 @@ module _ (p : Program) (able : CanDoProgram p) where
       CanDoAll p.layout (entered p n first q ds behind)
   can_enter zero first q ds behind d b = b
   can_enter (suc n) first q ds behind d b =
-      can_begin (body_at p first) (paras (suc first) q ∷ ds) (entered p n (suc first) q ds behind) (can_body first) (tt, d)
+      can_begin (body_at p first) (paras (suc first) q ∷ ds) (entered p n (suc first) q ds behind) (can_body first)
+      (tt, d)
       (can_enter n (suc first) q ds behind d b)
 
   pub can_settle : (ds : List Doing) → CanDoAll p.layout ds → CanDoAll p.layout (settled p ds)
@@ -106,10 +108,12 @@ module _ (p : Program) (able : CanDoProgram p) where
         Holds (CanDo p.layout) (chosen p c w ws other)
     can_choose w no_whens other h o = o
     can_choose w (more_whens (MkWhen tests body) ws) other (t, b, hs) o =
-        onward_from (CanDo p.layout) (some_holds p.layout w.storage (logics_of tests)) (λ x. if x then Ok body else chosen p c w ws other)
+        onward_from (CanDo p.layout) (some_holds p.layout w.storage (logics_of tests))
+        (λ x. if x then Ok body else chosen p c w ws other)
         (λ x. either_list x body (chosen p c w ws other) b (can_choose w ws other hs o))
 
-    can_begin_loop : (number : ℕ) (body : Body) (turns : Turns) (w : World) (ds : List Doing) → CanDoBody p.layout body →
+    can_begin_loop : (number : ℕ) (body : Body) (turns : Turns) (w : World) (ds : List Doing) →
+        CanDoBody p.layout body →
         CanTurn p.layout turns → CanDoAll p.layout ds → Holds CanGoOn (loop_begun p c number body turns w ds)
     can_begin_loop number body once w ds b t h = (can_body_of body b, h)
     can_begin_loop number body (times x) w ds b t h = onward_from CanGoOn (set_count p.layout number x w)
@@ -135,7 +139,8 @@ module _ (p : Program) (able : CanDoProgram p) where
     can_test : (number : ℕ) (body : Body) (turns : Turns) (w : World) (ds : List Doing) → CanDoBody p.layout body →
         CanTurn p.layout turns → CanDoAll p.layout ds → Holds CanGoOn (tested p c number body turns w ds)
     can_test number body turns w ds b t h =
-        onward_from CanGoOn (goes_on p c number turns w) (λ x. Ok (going w (if x then turn p c number body turns ds else ds)))
+        onward_from CanGoOn (goes_on p c number turns w) (λ x. Ok
+        (going w (if x then turn p c number body turns ds else ds)))
         (λ x. either x)
       where
         either : (x : Bool) → CanDoAll p.layout (if x then turn p c number body turns ds else ds)
@@ -150,14 +155,16 @@ module _ (p : Program) (able : CanDoProgram p) where
     can_augment number body (varying false item start by x) w ds b t h =
         onward_from CanGoOn (augment p.layout item by w) (λ v. Ok (going v ds)) (λ v. h)
     can_augment number body (varying true item start by x) w ds b t h =
-        onward_from CanGoOn (augment p.layout item by w) (λ v. Ok (going v (body_of body ∷ ds))) (λ v. (can_body_of body b, h))
+        onward_from CanGoOn (augment p.layout item by w) (λ v. Ok (going v (body_of body ∷ ds)))
+        (λ v. (can_body_of body b, h))
 
     can_go_behind_read : (number : ℕ) (has : Bool) (end : Phrase) (fine : Stmts) (ds : List Doing) (x : World × ℕ) →
         CanDoPhrase p.layout end → CanDo p.layout fine → CanDoAll p.layout ds →
         CanGoOn (behind_read number has end fine ds x)
     can_go_behind_read number has end fine ds x e f h = first (is_fine x.1)
       where
-        second : (b : Bool) → CanGoOn (if b then going x.0 (rest (list_of end) ∷ ds) else state x.0 ds (outcome_of number has x.1))
+        second : (b : Bool) → CanGoOn (if b then going x.0 (rest (list_of end) ∷ ds) else state x.0 ds
+            (outcome_of number has x.1))
         second true = (can_list_of end e, h)
         second false = h
 
@@ -171,7 +178,8 @@ module _ (p : Program) (able : CanDoProgram p) where
         CanDoAll p.layout ds → Holds CanGoOn (written_by p c number r f from w ds)
     can_write number r None from w ds h = h
     can_write number r (Some f) from w ds h = onward_from CanGoOn (move_if p.layout from r w)
-        (λ v. Ok (state (write_one p.layout c f r v).0 ds (outcome_of number (has_status p.layout f) (write_one p.layout c f r v).1)))
+        (λ v. Ok (state (write_one p.layout c f r v).0 ds (outcome_of number (has_status p.layout f)
+        (write_one p.layout c f r v).1)))
         (λ v. h)
 
     can_do : (number : ℕ) (a : Act) (w : World) (ds : List Doing) → CanDoAct p.layout a → CanDoAll p.layout ds →
@@ -186,7 +194,8 @@ module _ (p : Program) (able : CanDoProgram p) where
         either true = can_list_of size b
         either false = f
     can_do number (if_ t held other) w ds (t_, a, b) h =
-        onward_from CanGoOn (logic_holds p.layout w.storage t) (λ x. Ok (going w (rest (if x then held else other) ∷ ds)))
+        onward_from CanGoOn (logic_holds p.layout w.storage t)
+        (λ x. Ok (going w (rest (if x then held else other) ∷ ds)))
         (λ x. (either x, h))
       where
         either : (x : Bool) → CanDo p.layout (if x then held else other)
@@ -209,7 +218,8 @@ module _ (p : Program) (able : CanDoProgram p) where
     can_do_front : (d : Doing) (w : World) (ds : List Doing) → CanDoNext p.layout d → CanDoAll p.layout ds →
         Holds CanGoOn (front_done p c d w ds)
     can_do_front (rest no_stmts) w ds a h = h
-    can_do_front (rest (more_stmts (MkStmt number line a) ss)) w ds (x, xs) h = can_do number a w (rest ss ∷ ds) x (xs, h)
+    can_do_front (rest (more_stmts (MkStmt number line a) ss)) w ds (x, xs) h = can_do number a w (rest ss ∷ ds) x
+        (xs, h)
     can_do_front (paras first q) w ds a h = h
     can_do_front (testing number body turns) w ds (b, t) h = can_test number body turns w ds b t h
     can_do_front (augmenting number body turns) w ds (b, t) h = can_augment number body turns w ds b t h
@@ -226,13 +236,15 @@ module _ (p : Program) (able : CanDoProgram p) where
     can_settle_with w ds (IoStop status statement) h = h
     can_settle_with w ds (Fault kind statement) h = h
 
-    can_go_behind : (s : State) (number : ℕ) (r : Result State Kind) → CanGoOn s → Holds CanGoOn r → CanGoOn (faulty_or p c s number r)
+    can_go_behind : (s : State) (number : ℕ) (r : Result State Kind) → CanGoOn s → Holds CanGoOn r →
+        CanGoOn (faulty_or p c s number r)
     can_go_behind s number (Ok next) h x = can_settle_with next.world next.control next.outcome x
     can_go_behind s number (Err kind) h x = h
 
     pub can_step_on : (s : State) (ds : List Doing) → CanGoOn s → CanDoAll p.layout ds → CanGoOn (step_on p c s ds)
     can_step_on s [] h x = tt
-    can_step_on s (d ∷ ds) h (a, as_) = can_go_behind s (number_of p c d) (front_done p c d s.world ds) h (can_do_front d s.world ds a as_)
+    can_step_on s (d ∷ ds) h (a, as_) = can_go_behind s (number_of p c d) (front_done p c d s.world ds) h
+        (can_do_front d s.world ds a as_)
 
     -- what a step makes of a run can be done too
     pub can_step : (s t : State) → CanGoOn s → t ≡ step_on p c s s.control → CanGoOn t

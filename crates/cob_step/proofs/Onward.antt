@@ -17,7 +17,8 @@ use Rattle.cob_world.specs.Becoming.{Becomes, Leaves}
 pub behind : {A B : Type 0} (r : Result A Kind) (a : A) (next : A → Result B Kind) → r ≡ Ok a → (r >>= next) ≡ next a
 behind r a next e = ap (λ x. x >>= next) e
 
-pub broken : {A B : Type 0} (r : Result A Kind) (kind : Kind) (next : A → Result B Kind) → r ≡ Err kind → (r >>= next) ≡ Err kind
+pub broken : {A B : Type 0} (r : Result A Kind) (kind : Kind) (next : A → Result B Kind) → r ≡ Err kind →
+    (r >>= next) ≡ Err kind
 broken r kind next e = ap (λ x. x >>= next) e
 
 -- a run that goes on

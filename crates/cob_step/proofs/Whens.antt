@@ -41,7 +41,8 @@ whens_step xs i x within is = ap plain_whens (drop_more xs i x within ∙ ap (λ
 pub whens_end : (xs : List declared_when.When) (i : ℕ) → length xs ≤ i → plain_whens (drop i xs) ≡ no_whens
 whens_end xs i past = ap plain_whens (drop_all i xs past)
 
-pub can_first : (l : Layout) (w : When) (ws : Whens) → CanDoWhens l (more_whens w ws) → CanDoWhens l (more_whens w no_whens)
+pub can_first : (l : Layout) (w : When) (ws : Whens) → CanDoWhens l (more_whens w ws) →
+    CanDoWhens l (more_whens w no_whens)
 can_first l (MkWhen tests body) ws (t, b, hs) = (t, b, tt)
 
 pub can_others : (l : Layout) (w : When) (ws : Whens) → CanDoWhens l (more_whens w ws) → CanDoWhens l ws

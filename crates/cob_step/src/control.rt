@@ -20,7 +20,10 @@ pub enum Todo<'a> {
     /// The statements left of a list.
     Rest(&'a [Stmt]),
     /// The paragraphs from one to another, by their places from 0.
-    Paras { first: usize, last: usize },
+    Paras {
+        first: usize,
+        last: usize,
+    },
     /// The test of a loop, with its statement's number.
     Testing {
         number: u32,
@@ -66,7 +69,8 @@ fn body_at(program: &Program, place: usize) -> &[Stmt]
 
 // The first paragraph with statements, from one to another.
 fn first_entered(program: &Program, first: usize, last: usize) -> Option<usize>
-    ensures value { (ds behind : List Doing) → entered (plain_program program.now) (suc last - first) first last ds behind
+    ensures value { (ds behind : List Doing) → entered (plain_program program.now)
+        (suc last - first) first last ds behind
         ≡ option_map_or (λ at. rest (body_at (plain_program program.now) at) ∷ paras (suc at) last ∷ ds) result behind }
     ensures fits { IfSome result (λ at. suc at < 2 ^ 64) }
 {
@@ -176,12 +180,7 @@ impl<'a> Control<'a> {
     }
 
     // Begins paragraphs.
-    fn enter(
-        &mut self,
-        program: &'a Program,
-        first: usize,
-        last: usize,
-    ) -> Result<bool, AllocError>
+    fn enter(&mut self, program: &'a Program, first: usize, last: usize) -> Result<bool, AllocError>
         ensures { IfOk result (λ begun. Begins (plain_program program.now) begun (paras first last)
             (plain_control self.old) (plain_control self.new)) }
     {

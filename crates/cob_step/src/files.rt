@@ -92,7 +92,7 @@ impl<'a> Run<'a> {
         requires whole { length self.old.world.storage ≡ program.now.layout.storage }
         ensures done { Becomes
             (done (plain_program program.now) None number (act.open_files files.now) self.old.world
-                (plain_control self.old.control))
+            (plain_control self.old.control))
             result (plain_run self.old) (plain_run self.new) }
         ensures kept { length self.new.world.storage ≡ length self.old.world.storage }
     {
@@ -110,7 +110,7 @@ impl<'a> Run<'a> {
         requires whole { length self.old.world.storage ≡ program.now.layout.storage }
         ensures done { Becomes
             (done (plain_program program.now) None number (act.close_files files.now) self.old.world
-                (plain_control self.old.control))
+            (plain_control self.old.control))
             result (plain_run self.old) (plain_run self.new) }
         ensures kept { length self.new.world.storage ≡ length self.old.world.storage }
     {
@@ -133,8 +133,8 @@ impl<'a> Run<'a> {
         requires going { self.old.outcome ≡ Outcome.Going }
         ensures done { Becomes
             (done (plain_program program.now) choice.now number
-                (act.read file into (plain_phrase end.now) (plain_stmts fine.now))
-                self.old.world (plain_control self.old.control))
+            (act.read file into (plain_phrase end.now) (plain_stmts fine.now))
+            self.old.world (plain_control self.old.control))
             result (plain_run self.old) (plain_run self.new) }
         ensures kept { length self.new.world.storage ≡ length self.old.world.storage }
     {
@@ -155,7 +155,7 @@ impl<'a> Run<'a> {
         requires going { self.old.outcome ≡ Outcome.Going }
         ensures done { OnOk result (plain_run self.new
             ≡ behind_read number has (plain_phrase end.now) (plain_stmts fine.now) (plain_control self.old.control)
-                (self.old.world, status)) }
+            (self.old.world, status)) }
         ensures kept { self.new.world ≡ self.old.world }
     {
         if is_fine(status) {
@@ -185,7 +185,7 @@ impl<'a> Run<'a> {
         requires going { self.old.outcome ≡ Outcome.Going }
         ensures done { Becomes
             (done (plain_program program.now) choice.now number (act.write rec from.now) self.old.world
-                (plain_control self.old.control))
+            (plain_control self.old.control))
             result (plain_run self.old) (plain_run self.new) }
         ensures kept { length self.new.world.storage ≡ length self.old.world.storage }
     {
@@ -193,7 +193,9 @@ impl<'a> Run<'a> {
             None => Ok(()),
             Some(file) => {
                 self.world.move_if(alloc, &program.layout, from, rec)?;
-                let status = self.world.write_one(alloc, &program.layout, choice, file, rec)?;
+                let status = self
+                    .world
+                    .write_one(alloc, &program.layout, choice, file, rec)?;
                 self.outcome = outcome_of(number, has_status(&program.layout, file), status);
                 Ok(())
             }

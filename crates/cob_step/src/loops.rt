@@ -61,12 +61,7 @@ fn goes_on(program: &Program, world: &World, number: u32, turns: &Turns) -> Resu
 }
 
 impl<'a> Control<'a> {
-    fn push_test(
-        &mut self,
-        number: u32,
-        body: &'a Body,
-        turns: &'a Turns,
-    ) -> Result<(), AllocError>
+    fn push_test(&mut self, number: u32, body: &'a Body, turns: &'a Turns) -> Result<(), AllocError>
         ensures { OnOk result (plain_control self.new
             ≡ testing number (plain_body body.now) (plain_turns turns.now) ∷ plain_control self.old) }
     {
@@ -103,7 +98,7 @@ impl<'a> Control<'a> {
     ) -> Result<(), AllocError>
         ensures { OnOk result (plain_control self.new ≡ (if after
             then body_of (plain_body body.now)
-                ∷ testing number (plain_body body.now) (plain_turns turns.now) ∷ plain_control self.old
+            ∷ testing number (plain_body body.now) (plain_turns turns.now) ∷ plain_control self.old
             else testing number (plain_body body.now) (plain_turns turns.now) ∷ plain_control self.old)) }
     {
         self.push_test(number, body, turns)?;
@@ -119,12 +114,7 @@ impl<'a> Control<'a> {
     }
 
     // What a loop does where it goes on.
-    fn push_turn(
-        &mut self,
-        number: u32,
-        body: &'a Body,
-        turns: &'a Turns,
-    ) -> Result<(), AllocError>
+    fn push_turn(&mut self, number: u32, body: &'a Body, turns: &'a Turns) -> Result<(), AllocError>
         ensures { (p : act.Program) (c : Choice) → OnOk result (plain_control self.new
             ≡ turn p c number (plain_body body.now) (plain_turns turns.now) (plain_control self.old)) }
     {
@@ -183,7 +173,7 @@ impl<'a> Run<'a> {
         requires going { self.old.outcome ≡ Outcome.Going }
         ensures done { Becomes
             (loop_begun (plain_program program.now) None number (plain_body body.now) (plain_turns turns.now)
-                self.old.world (plain_control self.old.control))
+            self.old.world (plain_control self.old.control))
             result (plain_run self.old) (plain_run self.new) }
         ensures kept { length self.new.world.storage ≡ length self.old.world.storage }
     {
@@ -221,7 +211,7 @@ impl<'a> Run<'a> {
         requires going { self.old.outcome ≡ Outcome.Going }
         ensures done { Becomes
             (loop_begun (plain_program program.now) None number (plain_body body.now) (plain_turns turns.now)
-                self.old.world (plain_control self.old.control))
+            self.old.world (plain_control self.old.control))
             result (plain_run self.old) (plain_run self.new) }
         ensures kept { length self.new.world.storage ≡ length self.old.world.storage }
     {
@@ -245,7 +235,7 @@ impl<'a> Run<'a> {
         requires going { self.old.outcome ≡ Outcome.Going }
         ensures done { (c : Choice) → Becomes
             (tested (plain_program program.now) c number (plain_body body.now) (plain_turns turns.now)
-                self.old.world (plain_control self.old.control))
+            self.old.world (plain_control self.old.control))
             result (plain_run self.old) (plain_run self.new) }
         ensures kept { self.new.world ≡ self.old.world }
     {
@@ -270,7 +260,7 @@ impl<'a> Run<'a> {
         requires going { self.old.outcome ≡ Outcome.Going }
         ensures done { (c : Choice) → Becomes
             (augmented (plain_program program.now) c number (plain_body body.now) (plain_turns turns.now)
-                self.old.world (plain_control self.old.control))
+            self.old.world (plain_control self.old.control))
             result (plain_run self.old) (plain_run self.new) }
         ensures kept { length self.new.world.storage ≡ length self.old.world.storage }
     {

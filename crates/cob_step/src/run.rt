@@ -117,7 +117,7 @@ impl<'a> Run<'a> {
     fn fail(&mut self, front: Todo<'a>, kind: Kind) -> Result<(), AllocError>
         ensures done { (p : act.Program) (c : Choice) → OnOk result (plain_run self.new
             ≡ state self.old.world (plain_doing front.entry ∷ plain_control self.old.control)
-                (Outcome.Fault kind (number_of p c (plain_doing front.entry)))) }
+            (Outcome.Fault kind (number_of p c (plain_doing front.entry)))) }
         ensures kept { self.new.world ≡ self.old.world }
     {
         let statement = front.number();
@@ -154,7 +154,7 @@ impl<'a> Run<'a> {
         requires going { self.old.outcome ≡ Outcome.Going }
         ensures done { Becomes
             (front_done (plain_program program.now) choice.now (plain_doing front.entry) self.old.world
-                (plain_control self.old.control))
+            (plain_control self.old.control))
             result (plain_run self.old) (plain_run self.new) }
         ensures kept { length self.new.world.storage ≡ length self.old.world.storage }
     {

@@ -41,9 +41,9 @@ pub fn chosen<'a>(
     requires able { CanDoWhens program.now.layout (plain_whens whens.now) }
     ensures { MatchResult result
         (λ list. (c : Choice) → chosen (plain_program program.now) c world.now (plain_whens whens.now)
-            (plain_stmts other.now) ≡ Ok (plain_stmts list.now))
+        (plain_stmts other.now) ≡ Ok (plain_stmts list.now))
         (λ kind. (c : Choice) → chosen (plain_program program.now) c world.now (plain_whens whens.now)
-            (plain_stmts other.now) ≡ Err kind) }
+        (plain_stmts other.now) ≡ Err kind) }
 {
     for when in whens {
         match when_holds(program, world, when) {

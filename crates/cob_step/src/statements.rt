@@ -63,7 +63,7 @@ impl<'a> Run<'a> {
         requires going { self.old.outcome ≡ Outcome.Going }
         ensures done { Becomes
             (front_done (plain_program program.now) choice.now (rest (plain_stmts list.now)) self.old.world
-                (plain_control self.old.control))
+            (plain_control self.old.control))
             result (plain_run self.old) (plain_run self.new) }
         ensures kept { length self.new.world.storage ≡ length self.old.world.storage }
     {
@@ -96,7 +96,7 @@ impl<'a> Run<'a> {
         requires going { self.old.outcome ≡ Outcome.Going }
         ensures done { Becomes
             (done (plain_program program.now) choice.now number (plain_act act.now) self.old.world
-                (plain_control self.old.control))
+            (plain_control self.old.control))
             result (plain_run self.old) (plain_run self.new) }
         ensures kept { length self.new.world.storage ≡ length self.old.world.storage }
     {
@@ -151,7 +151,7 @@ impl<'a> Run<'a> {
         requires going { self.old.outcome ≡ Outcome.Going }
         ensures done { Becomes
             (done (plain_program program.now) None 0 (act.move from.now to.now) self.old.world
-                (plain_control self.old.control))
+            (plain_control self.old.control))
             result (plain_run self.old) (plain_run self.new) }
         ensures kept { length self.new.world.storage ≡ length self.old.world.storage }
     {
@@ -174,8 +174,8 @@ impl<'a> Run<'a> {
         requires going { self.old.outcome ≡ Outcome.Going }
         ensures done { Becomes
             (done (plain_program program.now) None 0
-                (act.arith (plain_sum common.now) targets.now remainder (plain_phrase size.now) (plain_stmts fine.now))
-                self.old.world (plain_control self.old.control))
+            (act.arith (plain_sum common.now) targets.now remainder (plain_phrase size.now) (plain_stmts fine.now))
+            self.old.world (plain_control self.old.control))
             result (plain_run self.old) (plain_run self.new) }
         ensures kept { length self.new.world.storage ≡ length self.old.world.storage }
     {
@@ -183,7 +183,8 @@ impl<'a> Run<'a> {
         let failed = self
             .world
             .compute(alloc, &program.layout, phrase, common, targets, remainder)?;
-        self.control.push(Todo::Rest(list_behind(failed, size, fine)))?;
+        self.control
+            .push(Todo::Rest(list_behind(failed, size, fine)))?;
         Ok(())
     }
 
@@ -200,8 +201,8 @@ impl<'a> Run<'a> {
         requires going { self.old.outcome ≡ Outcome.Going }
         ensures done { Becomes
             (done (plain_program program.now) None 0
-                (act.if_ (plain_logic test.now) (plain_stmts held.now) (plain_stmts other.now))
-                self.old.world (plain_control self.old.control))
+            (act.if_ (plain_logic test.now) (plain_stmts held.now) (plain_stmts other.now))
+            self.old.world (plain_control self.old.control))
             result (plain_run self.old) (plain_run self.new) }
         ensures kept { self.new.world ≡ self.old.world }
     {
@@ -224,8 +225,8 @@ impl<'a> Run<'a> {
         requires going { self.old.outcome ≡ Outcome.Going }
         ensures done { Becomes
             (done (plain_program program.now) None 0
-                (act.evaluate (plain_whens whens.now) (plain_stmts other.now))
-                self.old.world (plain_control self.old.control))
+            (act.evaluate (plain_whens whens.now) (plain_stmts other.now))
+            self.old.world (plain_control self.old.control))
             result (plain_run self.old) (plain_run self.new) }
         ensures kept { self.new.world ≡ self.old.world }
     {
@@ -265,7 +266,7 @@ impl<'a> Run<'a> {
         requires going { self.old.outcome ≡ Outcome.Going }
         ensures done { Becomes
             (done (plain_program program.now) None 0 (act.show senders.now) self.old.world
-                (plain_control self.old.control))
+            (plain_control self.old.control))
             result (plain_run self.old) (plain_run self.new) }
         ensures kept { length self.new.world.storage ≡ length self.old.world.storage }
     {

@@ -17,7 +17,7 @@ returns-clause-begun c =
     sym (c.outcome-outcome.ensures p None w)
     ∙ ap (λ (v : World). settled_on p None v ds) c.in_ok-world.ensures.value
     ∙ ap (λ es. settled_on p None (first_world p (map (option_map (λ v. v.items)) c.args.contents.items) []) es)
-      c.in_ok-control.ensures
+    c.in_ok-control.ensures
 
 pub returns-clause-ready : goal.returns-clause-ready
 returns-clause-ready c =
@@ -25,7 +25,7 @@ returns-clause-ready c =
     let P : List Doing → Type 0 = λ ds. CanDoAll p.layout ds in
     record {
       able = subst P (sym c.in_ok-control.ensures)
-        (can_settle p c.requires.able (rest (body_at p 0) ∷ paras 1 (length p.paras - 1) ∷ [])
-        (can_body p c.requires.able 0, (tt, tt)));
+          (can_settle p c.requires.able (rest (body_at p 0) ∷ paras 1 (length p.paras - 1) ∷ [])
+          (can_body p c.requires.able 0, (tt, tt)));
       whole = c.in_ok-world.ensures.whole;
     }

@@ -9,10 +9,11 @@ pub returns-in-Going-clause-done : goal.returns-in-Going-clause-done
 returns-in-Going-clause-done c =
     let p = plain_program c.args.program.now in
     let s = plain_run c.args.run.now in
-    onto c.go_on.result (plain_run c.go_on.new.self) (step_on p c.args.choice.now s s.control) (step p c.args.choice.now s)
-      (step_is p c.args.choice.now s c.in-Going.is) c.go_on.ensures.done
+    onto c.go_on.result (plain_run c.go_on.new.self) (step_on p c.args.choice.now s s.control)
+    (step p c.args.choice.now s)
+    (step_is p c.args.choice.now s c.in-Going.is) c.go_on.ensures.done
 
 pub returns-in-Going-clause-ready : goal.returns-in-Going-clause-ready
 returns-in-Going-clause-ready c =
     step_is_ready (plain_program c.args.program.now) c.requires.able c.args.choice.now c.go_on.result
-      (plain_run c.args.run.now) (plain_run c.go_on.new.self) c.requires.ready c.go_on.ensures.kept c.go_on.ensures.done
+    (plain_run c.args.run.now) (plain_run c.go_on.new.self) c.requires.ready c.go_on.ensures.kept c.go_on.ensures.done

@@ -15,9 +15,9 @@ returns-in-Err c = λ ch.
     let i = c.loop-when.when-index in
     sym (c.loop-when.invariant.0 ch)
     ∙ ap (λ xs. chosen p ch v xs o)
-      (whens_step c.args.whens.now i c.when-item.result c.loop-when-test.true c.when-item.is)
+    (whens_step c.args.whens.now i c.when-item.result c.loop-when-test.true c.when-item.is)
     ∙ chosen_broken p ch v o (plain_when c.when-item.result) (plain_whens (drop (i + 1) c.args.whens.now)) c.in-Err.kind
-      (sym c.when_holds.ensures ∙ c.in-Err.is)
+    (sym c.when_holds.ensures ∙ c.in-Err.is)
 
 pub returns-in-Ok-true : goal.returns-in-Ok-true
 returns-in-Ok-true c = λ ch.
@@ -27,9 +27,9 @@ returns-in-Ok-true c = λ ch.
     let i = c.loop-when.when-index in
     sym (c.loop-when.invariant.0 ch)
     ∙ ap (λ xs. chosen p ch v xs o)
-      (whens_step c.args.whens.now i c.when-item.result c.loop-when-test.true c.when-item.is)
+    (whens_step c.args.whens.now i c.when-item.result c.loop-when-test.true c.when-item.is)
     ∙ chosen_here p ch v o (plain_when c.when-item.result) (plain_whens (drop (i + 1) c.args.whens.now))
-      (sym c.when_holds.ensures ∙ c.in-Ok-true.is ∙ ap Ok c.in-Ok-true.field-0-test)
+    (sym c.when_holds.ensures ∙ c.in-Ok-true.is ∙ ap Ok c.in-Ok-true.field-0-test)
     ∙ ap Ok (sym c.list_in.ensures)
 
 pub loop-when-preserved : goal.loop-when-preserved
@@ -40,17 +40,19 @@ loop-when-preserved c =
     let i = c.loop-when.when-index in
     let step = whens_step c.args.whens.now i c.when-item.result c.loop-when-test.true c.when-item.is in
     let behind = plain_whens (drop (i + 1) c.args.whens.now) in
-    let P : Whens → Type 0 = λ ws. CanDoWhens c.args.program.now.layout ws in
-    (λ ch. sym (chosen_later p ch v o (plain_when c.when-item.result) behind
-      (sym c.when_holds.ensures ∙ c.in-Ok-false.is ∙ ap Ok c.in-Ok-false.field-0-test))
-    ∙ ap (λ xs. chosen p ch v xs o) (sym step) ∙ c.loop-when.invariant.0 ch,
-    can_others c.args.program.now.layout (plain_when c.when-item.result) behind (subst P step c.loop-when.invariant.1))
+    let P : Whens → Type 0 = λ ws. CanDoWhens c.args.program.now.layout ws in (
+      λ ch. sym (chosen_later p ch v o (plain_when c.when-item.result) behind
+          (sym c.when_holds.ensures ∙ c.in-Ok-false.is ∙ ap Ok c.in-Ok-false.field-0-test))
+          ∙ ap (λ xs. chosen p ch v xs o) (sym step) ∙ c.loop-when.invariant.0 ch,
+      can_others c.args.program.now.layout (plain_when c.when-item.result) behind
+          (subst P step c.loop-when.invariant.1),
+    )
 
 pub returns : goal.returns
 returns c = λ ch.
     sym (c.loop-when.invariant.0 ch)
     ∙ ap (λ xs. chosen (plain_program c.args.program.now) ch c.args.world.now xs (plain_stmts c.args.other.now))
-      (whens_end c.args.whens.now c.loop-when.when-index c.loop-when-test.false)
+    (whens_end c.args.whens.now c.loop-when.when-index c.loop-when-test.false)
 
 pub when_holds-requires : goal.when_holds-requires
 when_holds-requires c =
@@ -61,5 +63,5 @@ when_holds-requires c =
       sound = c.requires.sound;
       whole = c.requires.whole;
       able = can_first c.args.program.now.layout (plain_when c.when-item.result)
-        (plain_whens (drop (i + 1) c.args.whens.now)) (subst P step c.loop-when.invariant.1);
+          (plain_whens (drop (i + 1) c.args.whens.now)) (subst P step c.loop-when.invariant.1);
     }

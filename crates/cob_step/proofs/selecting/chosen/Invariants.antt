@@ -8,6 +8,7 @@ use Rattle.cob_step.proofs.selecting.chosen.Given as goal
 
 abbrev pub invariant-loop-when : goal.invariant-loop-when
 invariant-loop-when l =
-    ((c : Choice) → chosen (plain_program l.program) c l.world (plain_whens (drop l.when-index l.whens)) (plain_stmts l.other)
+    ((c : Choice) → chosen (plain_program l.program) c l.world (plain_whens (drop l.when-index l.whens))
+    (plain_stmts l.other)
     ≡ chosen (plain_program l.program) c l.world (plain_whens l.whens) (plain_stmts l.other))
     × CanDoWhens l.program.layout (plain_whens (drop l.when-index l.whens))

@@ -15,6 +15,6 @@ returns-in_ok-push_turn-in-Ok-true-clause-done c = λ ch.
     let body = plain_body c.args.body.now in
     let turns = plain_turns c.args.turns.now in
     behind (goes_on p ch n turns w) true (λ b. Ok (going w (if b then turn p ch n body turns ds else ds)))
-      (sym (c.goes_on.ensures ch) ∙ c.in-Ok-true.is ∙ ap Ok c.in-Ok-true.field-0-test)
+    (sym (c.goes_on.ensures ch) ∙ c.in-Ok-true.is ∙ ap Ok c.in-Ok-true.field-0-test)
     ∙ ap Ok (goes w (turn p ch n body turns ds) (plain_control c.push_turn.new.self) c.args.self.now.outcome
-      (sym (c.in_ok-push_turn-in-Ok-true.ensures p ch)) c.requires.going)
+    (sym (c.in_ok-push_turn-in-Ok-true.ensures p ch)) c.requires.going)
