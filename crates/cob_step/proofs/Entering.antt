@@ -1,10 +1,10 @@
 -- Paragraphs that are entered, one after another.
-use Rattle.std.proofs.Common.{ℕ, zero, suc, ◌+◌, ◌-◌, ◌≡◌, ◌<◌, ◌≤◌, ◌==◌, Bool, true, false, List, [], ◌∷◌, length, refl, sym, ap, ◌∙◌, arith, Option, Some, None, slice_get, map}
+use Rattle.std.proofs.Common.{ℕ, zero, suc, ◌+◌, ◌-◌, ◌≡◌, ◌<◌, ◌≤◌, ◌==◌, true, false, List, [], ◌∷◌, length, refl, sym, ap, ◌∙◌, arith, slice_get, map}
 use Rattle.std.specs.Option.{option_map_or}
 use Rattle.std.proofs.lemmas.Bool.{eqb-true}
 use Rattle.std.proofs.lemmas.List.{length-map, length-reverse}
 use Rattle.cob_program.specs.declared.act.Stmt as declared_stmt
-use Rattle.cob_program.specs.Act.{Program, Para, Stmts, no_stmts}
+use Rattle.cob_program.specs.Act.{Program, Para, no_stmts}
 use Rattle.cob_meaning.specs.declared.straight.Outcome.TheVariants.{Going, Ended}
 use Rattle.cob_runs.specs.Files.{Choice}
 use Rattle.cob_runs.specs.State.{World, Doing, rest, paras, state}

@@ -1,6 +1,6 @@
 -- What is still to be done can be done, after each step too.
-use Rattle.std.proofs.Common.{◌≡◌, ℕ, zero, suc, ◌-◌, ◌==◌, ◌&&◌, if◌then◌else◌, Bool, true, false, List, [], ◌∷◌, length, map, refl, sym, subst, ◌∙◌, Option, Some, None, slice_get, Result, Ok, Err, ℤ}
-use Rattle.std.specs.List.{AllByRecursion, All}
+use Rattle.std.proofs.Common.{◌≡◌, ℕ, zero, suc, ◌-◌, ◌==◌, ◌&&◌, if◌then◌else◌, Bool, true, false, List, [], ◌∷◌, length, sym, subst, ◌∙◌, Option, Some, None, slice_get, Result, Ok, Err}
+use Rattle.std.specs.List.{AllByRecursion}
 use Rattle.std.specs.Option.{option_map_or}
 use Rattle.std.specs.Result.{OnOk}
 use Rattle.cob_tree.specs.declared.fault.Kind.{Kind}
@@ -16,7 +16,7 @@ use Rattle.cob_runs.specs.Files.{Choice}
 use Rattle.cob_runs.specs.Deciding.{some_holds, logic_holds}
 use Rattle.cob_runs.specs.State.{World, Doing, rest, paras, testing, augmenting, State, state, going}
 use Rattle.cob_runs.specs.Acts.{move, compute, has_status, is_fine, read_one, write_one, file_from, move_if, set_count, set_varied, augment}
-use Rattle.cob_runs.specs.Steps.{body_at, begun, entered, settled, gone_to, body_of, list_of, is_given, outcome_of, behind_read, ended_by, chosen, loop_begun, goes_on, turn, tested, augmented, written_by, done, first_done, front_done, settled_on, settle, settled_state, faulty_or, number_of, step_on, step_in, step}
+use Rattle.cob_runs.specs.Steps.{body_at, begun, entered, settled, gone_to, body_of, list_of, is_given, outcome_of, behind_read, chosen, loop_begun, goes_on, turn, tested, augmented, written_by, done, front_done, settled_on, settle, faulty_or, number_of, step_on}
 use Rattle.cob_calc.specs.Comparing.{CanDecide, CanDecideAll}
 use Rattle.cob_world.specs.Doing.{CanDo, CanDoPhrase, CanDoAct, CanDoWhens, CanDoBody, CanDoParas, CanDoProgram, CanTurn}
 use Rattle.cob_step.specs.Ready.{CanDoNext, CanDoAll, IsReady}

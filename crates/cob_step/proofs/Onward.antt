@@ -1,5 +1,5 @@
 -- What comes of a statement's part, and of what is done behind it.
-use Rattle.std.proofs.Common.{◌≡◌, ap, ◌∙◌, sym, refl, Bool, true, false, List, ◌∷◌, [], Result, Ok, Err}
+use Rattle.std.proofs.Common.{◌≡◌, ap, ◌∙◌, sym, refl, List, ◌∷◌, Result, Ok, Err}
 use Rattle.std.specs.Result.{OnOk}
 use Rattle.cob_tree.specs.declared.fault.Kind.{Kind}
 use Rattle.cob_meaning.specs.declared.straight.Outcome.{Outcome}

@@ -1,5 +1,5 @@
 -- The WHENs of an EVALUATE, one after another.
-use Rattle.std.proofs.Common.{ℕ, ◌+◌, ◌≡◌, ◌<◌, ◌≤◌, Bool, true, false, List, ◌∷◌, length, map, drop, get_or, sym, ap, ◌∙◌, subst, if◌then◌else◌, Ok, Err}
+use Rattle.std.proofs.Common.{ℕ, ◌+◌, ◌≡◌, ◌<◌, ◌≤◌, true, false, List, ◌∷◌, length, map, drop, get_or, sym, ap, ◌∙◌, subst, if◌then◌else◌, Ok, Err}
 use Rattle.std.proofs.lemmas.List.{drop_more, drop_all}
 use Rattle.cob_tree.specs.declared.fault.Kind.{Kind}
 use Rattle.cob_data.specs.declared.layout.Layout.{Layout}

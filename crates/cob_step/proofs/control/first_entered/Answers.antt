@@ -1,4 +1,4 @@
-use Rattle.std.proofs.Common.{◌≡◌, ◌-◌, ◌≤◌, ◌==◌, suc, List, length, map, sym, ◌∙◌, true, false, rules, arith}
+use Rattle.std.proofs.Common.{◌≤◌, length, map, sym, ◌∙◌, rules, arith}
 use Rattle.std.proofs.lemmas.List.{length-map}
 use Rattle.cob_program.specs.ActView.{plain_program, plain_para}
 use Rattle.cob_step.proofs.Entering.{entered_none, entered_past, entered_full, entered_empty}

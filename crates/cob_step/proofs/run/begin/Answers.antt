@@ -3,7 +3,7 @@ use Rattle.std.specs.Option.{option_map}
 use Rattle.cob_program.specs.ActView.{plain_program}
 use Rattle.cob_runs.specs.Runs.{first_world}
 use Rattle.cob_runs.specs.State.{World, Doing, rest, paras}
-use Rattle.cob_runs.specs.Steps.{body_at, settled, settled_on}
+use Rattle.cob_runs.specs.Steps.{body_at, settled_on}
 use Rattle.cob_step.specs.Ready.{CanDoAll}
 use Rattle.cob_step.specs.Views.{plain_control}
 use Rattle.cob_step.proofs.Kept.{can_body, can_settle}

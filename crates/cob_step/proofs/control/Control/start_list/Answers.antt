@@ -1,5 +1,4 @@
-use Rattle.std.proofs.Common.{◌≡◌, ◌∙◌, sym, refl, length, ◌==◌, true, false}
-use Rattle.cob_step.specs.Views.{plain_stmts, plain_control}
+use Rattle.std.proofs.Common.{◌∙◌, sym, refl}
 use Rattle.cob_step.proofs.Entering.{begun_full, begun_empty}
 use Rattle.cob_step.proofs.control.Control.start_list.Goals as goal
 
