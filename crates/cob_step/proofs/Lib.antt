@@ -1,0 +1,4 @@
+mod Entering
+mod Onward
+mod Kept
+mod Whens

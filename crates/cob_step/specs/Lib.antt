@@ -1,0 +1,4 @@
+pub mod Views
+pub mod Settling
+pub mod Ready
+pub mod Choosing
