@@ -1,6 +1,0 @@
-mod ActViews
-mod Loops
-mod Sound
-mod Spotted
-mod TestLemmas
-mod WayLemmas
