@@ -34,9 +34,11 @@ module _ (told : Contents) where
   abbrev pub IsSynced : List ℕ → File → Type 0
   IsSynced path f = IsSyncedIn f.mode path f.content
 
+  -- each file has its path
   abbrev pub AreSynced : List (List ℕ) → List File → Type 0
-  AreSynced [] fs = Unit {0}
-  AreSynced (path ∷ paths) [] = Unit {0}
+  AreSynced [] [] = Unit {0}
+  AreSynced [] (f ∷ fs) = ⊥
+  AreSynced (path ∷ paths) [] = ⊥
   AreSynced (path ∷ paths) (f ∷ fs) = IsSynced path f × AreSynced paths fs
 
 -- names that are no paths of the program's hold what they held

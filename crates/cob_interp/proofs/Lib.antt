@@ -1,0 +1,4 @@
+pub mod SeenFiles
+pub mod OneFile
+pub mod Calls
+pub mod Following

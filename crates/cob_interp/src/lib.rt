@@ -1,0 +1,6 @@
+//! Runs a program on the outside's files.
+#![tactic(auto)]
+
+mod ends;
+
+pub use ends::{Ended, RunEnd};
