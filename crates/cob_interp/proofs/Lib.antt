@@ -2,3 +2,5 @@ pub mod SeenFiles
 pub mod OneFile
 pub mod Calls
 pub mod Following
+pub mod Passing
+pub mod Onward

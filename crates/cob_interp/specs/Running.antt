@@ -9,12 +9,14 @@ use Rattle.cob_program.specs.Act.{Program}
 use Rattle.cob_runs.specs.Files.{File, Mode, writing, bytes_in}
 use Rattle.cob_runs.specs.State.{World}
 use Rattle.cob_graph.specs.declared.graph.Graph.{Graph}
-use Rattle.cob_graph.specs.Walks.{Comes}
+use Rattle.cob_graph.specs.declared.graph.Node.{Node}
+use Rattle.cob_graph.specs.Walks.{node_at, passed}
+use Rattle.cob_ways.specs.Telling.{Way, WaysTell}
 use Rattle.cob_interp.specs.declared.ends.Ended.{Ended}
 use Rattle.cob_interp.specs.declared.ends.RunEnd.{RunEnd}
 use Rattle.cob_interp.specs.declared.ends.RunEnd.TheVariants as end
 use Rattle.cob_interp.specs.Ends.{told_files, AreFree, IsEnd, state_after}
-use Rattle.cob_interp.specs.Told.{seen, AreSynced, KeepsNames, Holds}
+use Rattle.cob_interp.specs.Told.{seen, seen_files, AreSynced, KeepsNames, Holds}
 
 -- ---- while it runs
 
@@ -35,27 +37,54 @@ pub record IsWell (old new : Outside) (text : List ℕ) : Type 0 where
   pub gained : new.sink.told ≡ append_known old.sink.told text
 
 module _ (p : Program) (g : Graph) (paths : List (List ℕ)) where
-  -- The way that the run has come stands in what is kept: so many steps were begun, all of them freely.
-  pub record StandsIn (first told : Contents) (text : List ℕ) (w : World) (steps node : ℕ) : Type 0 where
-    pub way : Comes p g (told_files first paths) [] [] steps node (seen told paths text w)
+  -- The way that the run has come stands in what is kept: it has left so many nodes at which a step begins. So many
+  -- steps were begun, all of them freely.
+  pub record StandsIn (first told : Contents) (text : List ℕ) (w : World) (left begun node : ℕ) : Type 0 where
+    pub tells : WaysTell p g (told_files first paths) []
+    pub way : Way p g (told_files first paths) [] left node (seen told paths text w)
     pub synced : AreSynced told paths w.files
     pub others : KeepsNames first told paths
-    pub free : AreFree p (told_files first paths) steps
+    pub free : AreFree p (told_files first paths) begun
 
   -- the same, where contents are told
-  abbrev pub StandsIf : Option Contents → Option Contents → List ℕ → World → ℕ → ℕ → Type 0
-  StandsIf (Some first) (Some told) text w steps node = StandsIn first told text w steps node
-  StandsIf (Some first) None text w steps node = ⊥
-  StandsIf None told text w steps node = Unit {0}
+  abbrev pub StandsIf : Option Contents → Option Contents → List ℕ → World → ℕ → ℕ → ℕ → Type 0
+  StandsIf (Some first) (Some told) text w left begun node = StandsIn first told text w left begun node
+  StandsIf (Some first) None text w left begun node = ⊥
+  StandsIf None told text w left begun node = Unit {0}
 
-  pub record Stands (old new : Outside) (w : World) (steps node : ℕ) : Type 0 where
+  pub record Stands (start now : Outside) (w : World) (left begun node : ℕ) : Type 0 where
     pub text : List ℕ
-    pub well : IsWell old new text
-    pub told : StandsIf (known_bytes old.files) (known_bytes new.files) text w steps node
+    pub well : IsWell start now text
+    pub told : StandsIf (known_bytes start.files) (known_bytes now.files) text w left begun node
+
+  -- at a node of the step with a number, counted from 1
+  pub record IsUnderway (start now : Outside) (w : World) (step node : ℕ) : Type 0 where
+    pub left : ℕ
+    pub stands : Stands start now w left step node
+    pub counts : (x : Node) → node_at g.nodes node ≡ Some x → step ≡ passed left x
 
   -- ---- behind it
 
   module _ (budget : ℕ) where
+    -- the run's own end stands in what is kept
+    pub record RestsIn (first told : Contents) (text : List ℕ) (w : World) (result : Result Ended RunEnd) : Type 0 where
+      pub steps : ℕ
+      pub answer : IsEnd p (told_files first paths) budget result steps
+      pub files : (state_after p (told_files first paths) steps).world.files ≡ seen_files told paths w.files
+      pub shown : (state_after p (told_files first paths) steps).world.shown ≡ text ++ w.shown
+      pub synced : AreSynced told paths w.files
+      pub others : KeepsNames first told paths
+
+    abbrev pub RestsIf : Option Contents → Option Contents → List ℕ → World → Result Ended RunEnd → Type 0
+    RestsIf (Some first) (Some told) text w result = RestsIn first told text w result
+    RestsIf (Some first) None text w result = ⊥
+    RestsIf None told text w result = Unit {0}
+
+    pub record Rests (start now : Outside) (w : World) (result : Result Ended RunEnd) : Type 0 where
+      pub text : List ℕ
+      pub well : IsWell start now text
+      pub told : RestsIf (known_bytes start.files) (known_bytes now.files) text w result
+
     -- the answer is the run's, and the outside's files and sink hold what it has written and shown
     pub record EndsRun (first told : Contents) (sink_before sink_after : SinkState) (result : Result Ended RunEnd) : Type 0 where
       pub steps : ℕ
@@ -98,11 +127,6 @@ module _ (p : Program) (g : Graph) (paths : List (List ℕ)) where
     BreaksOffIf (Some first) None sink_before sink_after = ⊥
     BreaksOffIf None told sink_before sink_after = Unit {0}
 
-    -- a fault of the outside, which its count shows, or want of memory
-    pub record IsRefused (old new : Outside) (cause : Type 0) : Type 0 where
-      pub because : cause
-      pub broken : BreaksOffIf (known_bytes old.files) (known_bytes new.files) old.sink new.sink
-
     abbrev pub RoseReading : Outside → Outside → Type 0
     RoseReading old new = Rose old.files.reading new.files.reading
 
@@ -113,9 +137,19 @@ module _ (p : Program) (g : Graph) (paths : List (List ℕ)) where
     abbrev pub IsTooLong : Option Contents → ℕ → Type 0
     IsTooLong known count = IfSome known (λ first. (n : ℕ) × IsEnd p (told_files first paths) budget (Err (end.Long count)) n)
 
+    -- Why the run was refused: a fault of the outside, which its count shows, or an input file that is too long. Of
+    -- want of memory nothing is said. Any other answer is the run's own end.
+    abbrev pub EndsBy : (Outside → Outside → Result Ended RunEnd → Type 0) → Outside → Outside → Result Ended RunEnd → Type 0
+    EndsBy own old new (Err end.ReadFault) = RoseReading old new
+    EndsBy own old new (Err end.WriteFault) = RoseWriting old new
+    EndsBy own old new (Err end.Memory) = Unit {0}
+    EndsBy own old new (Err (end.Long count)) = IsTooLong (known_bytes old.files) count
+    EndsBy own old new result = own old new result
+
+    -- while the world is kept
+    abbrev pub Halts : Outside → Outside → World → Result Ended RunEnd → Type 0
+    Halts start now w result = EndsBy (λ old new r. Rests old new w r) start now result
+
+    -- behind the run
     abbrev pub Runs : Outside → Outside → Result Ended RunEnd → Type 0
-    Runs old new (Err end.ReadFault) = IsRefused old new (RoseReading old new)
-    Runs old new (Err end.WriteFault) = IsRefused old new (RoseWriting old new)
-    Runs old new (Err end.Memory) = IsRefused old new (Unit {0})
-    Runs old new (Err (end.Long count)) = IsRefused old new (IsTooLong (known_bytes old.files) count)
-    Runs old new result = EndsWell old new result
+    Runs old new result = EndsBy EndsWell old new result
