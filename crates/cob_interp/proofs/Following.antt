@@ -28,6 +28,7 @@ use Rattle.cob_runs.specs.State.{World, with_storage, with_counts, with_shown}
 use Rattle.cob_runs.specs.Acts.{augment, is_fine, count_of, with_count, count_down, take_one, write_one, into_if, file_from, open_one, close_one}
 use Rattle.cob_runs.specs.Steps.{is_left, is_given}
 use Rattle.cob_runs.specs.Effects.{Effect, computed, tested, decided, counted, taken, not_taken, taken_if, met, effect_of, by_status, ended_with, bad_read, tests_in_act, status_of, status_in, status_by, shown, wrote, file_call, read_with}
+use Rattle.cob_interp.specs.Doing.{IsPlain}
 use Rattle.cob_interp.specs.Told.{seen, seen_files, AreSynced, AreDistinct}
 use Rattle.cob_interp.proofs.Calls.{CallFollows, take_one_follows, write_one_follows}
 
@@ -66,11 +67,6 @@ module _ (now : Contents) (paths : List (List ℕ)) (text : List ℕ) where
     bad_read_follows = by_test (λ n. not (is_fine n) && not (n == 10))
 
 -- ---- statements but OPEN and CLOSE
-
-abbrev pub IsPlain : Act → Type 0
-IsPlain (open_files os) = ⊥
-IsPlain (close_files fs) = ⊥
-IsPlain _ = Unit {0}
 
 module _ (p : Program) (number : ℕ) (told : Contents) (paths : List (List ℕ)) (text : List ℕ) (apart : AreDistinct paths)
     (w : World) (s : AreSynced told paths w.files) where

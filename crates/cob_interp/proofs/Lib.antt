@@ -4,3 +4,5 @@ pub mod Calls
 pub mod Following
 pub mod Passing
 pub mod Onward
+pub mod PutLemmas
+pub mod NodeLemmas

@@ -4,7 +4,7 @@ use Rattle.std.specs.Option.{option_map_or}
 use Rattle.std.specs.FinMap.{get}
 use Rattle.batch_io.specs.FilesState.{Contents}
 use Rattle.cob_runs.specs.Files.{File, file, Mode, closed, reading, writing, opened, opened_new, after_close, Taken, after_read, taken_from, record_at, after_write, bytes_in}
-use Rattle.cob_interp.specs.Told.{seen_in, seen_file, IsSyncedIn, IsSynced}
+use Rattle.cob_interp.specs.Told.{seen_file, IsSyncedIn, IsSynced, IsReadyToOpenIn, IsReadyToCloseIn, IsReadyToOpen, IsReadyToClose}
 
 -- a call's outcome on the file as it is seen, beside that on the file as it is kept
 pub record FileFollows (now : Contents) (path : List ℕ) (kept seen_ : File × ℕ) : Type 0 where
@@ -52,25 +52,6 @@ module _ (told : Contents) (path : List ℕ) where
 -- ---- OPEN and CLOSE, for which the outside's file is made ready first
 
 module _ (told now : Contents) (path : List ℕ) where
-  -- a closed file that is opened for writing is told empty, and one that is opened for reading is kept as it is told
-  abbrev pub IsReadyToOpenIn : Bool → Mode → Option (List ℕ) → Type 0
-  IsReadyToOpenIn true closed content = get now path ≡ Some []
-  IsReadyToOpenIn false closed content = (get now path ≡ get told path) × (content ≡ get told path)
-  IsReadyToOpenIn output (reading ended) content = get now path ≡ get told path
-  IsReadyToOpenIn output writing content = get now path ≡ get told path
-
-  -- a file that was written is told
-  abbrev pub IsReadyToCloseIn : Mode → Option (List ℕ) → Type 0
-  IsReadyToCloseIn closed content = get now path ≡ get told path
-  IsReadyToCloseIn (reading ended) content = get now path ≡ get told path
-  IsReadyToCloseIn writing content = get now path ≡ content
-
-  abbrev pub IsReadyToOpen : Bool → File → Type 0
-  IsReadyToOpen output f = IsReadyToOpenIn output f.mode f.content
-
-  abbrev pub IsReadyToClose : File → Type 0
-  IsReadyToClose f = IsReadyToCloseIn f.mode f.content
-
   open_content : (content other : Option (List ℕ)) → get now path ≡ content → content ≡ other
       → FileFollows now path (opened_new false content) (opened_new false other)
   open_content None None e f =
@@ -79,7 +60,7 @@ module _ (told now : Contents) (path : List ℕ) where
   open_content (Some bytes) None e f = cc
   open_content (Some bytes) (Some bytes_) e f = record { status = refl; file = cc; synced = e }
 
-  open_by_mode : (output : Bool) (content : Option (List ℕ)) (m : Mode) (place : ℕ) → IsReadyToOpenIn output m content
+  open_by_mode : (output : Bool) (content : Option (List ℕ)) (m : Mode) (place : ℕ) → IsReadyToOpenIn told now path output m content
       → IsSyncedIn told m path content
       → FileFollows now path (opened output (file content m place)) (opened output (seen_file told path (file content m place)))
   open_by_mode true content closed place ready s =
@@ -91,11 +72,11 @@ module _ (told now : Contents) (path : List ℕ) where
   open_by_mode output content writing place ready s =
       record { status = refl; file = refl; synced = (ready ∙ s.0, s.1) }
 
-  pub open_follows : (output : Bool) (f : File) → IsReadyToOpen output f → IsSynced told path f
+  pub open_follows : (output : Bool) (f : File) → IsReadyToOpen told now path output f → IsSynced told path f
       → FileFollows now path (opened output f) (opened output (seen_file told path f))
   open_follows output f ready s = open_by_mode output f.content f.mode f.place ready s
 
-  close_by_mode : (content : Option (List ℕ)) (m : Mode) (place : ℕ) → IsReadyToCloseIn m content
+  close_by_mode : (content : Option (List ℕ)) (m : Mode) (place : ℕ) → IsReadyToCloseIn told now path m content
       → IsSyncedIn told m path content
       → FileFollows now path (after_close (file content m place)) (after_close (seen_file told path (file content m place)))
   close_by_mode content closed place ready s =
@@ -105,6 +86,6 @@ module _ (told now : Contents) (path : List ℕ) where
   close_by_mode content writing place ready s =
       record { status = refl; file = ap (λ (c : Option (List ℕ)). file c closed 0) (sym ready); synced = tt }
 
-  pub close_follows : (f : File) → IsReadyToClose f → IsSynced told path f
+  pub close_follows : (f : File) → IsReadyToClose told now path f → IsSynced told path f
       → FileFollows now path (after_close f) (after_close (seen_file told path f))
   close_follows f ready s = close_by_mode f.content f.mode f.place ready s

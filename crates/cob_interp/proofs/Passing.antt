@@ -24,7 +24,7 @@ append_twice : (told : Option (List ℕ)) (text more : List ℕ)
 append_twice None text more = refl
 append_twice (Some bytes) text more = ap Some (append_assoc bytes text more)
 
-append_none : (told : Option (List ℕ)) → told ≡ append_known told []
+pub append_none : (told : Option (List ℕ)) → told ≡ append_known told []
 append_none None = refl
 append_none (Some bytes) = ap Some (sym (append-nil bytes))
 

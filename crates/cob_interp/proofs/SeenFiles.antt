@@ -9,7 +9,7 @@ use Rattle.std.proofs.lemmas.Bool.{false_from_ne_true}
 use Rattle.batch_io.specs.FilesState.{Contents}
 use Rattle.batch_io.proofs.EntriesLemmas.{is_same, same_name}
 use Rattle.cob_runs.specs.Files.{File, file, Mode, closed, reading, writing}
-use Rattle.cob_interp.specs.Told.{seen_in, seen_file, seen_files, IsSyncedIn, IsSynced, AreSynced, AreDistinct}
+use Rattle.cob_interp.specs.Told.{seen_in, seen_file, seen_files, IsSyncedIn, IsSynced, AreSynced, AreDistinct, AgreeBut}
 
 -- ---- contents that agree
 
@@ -17,10 +17,6 @@ module _ (told now : Contents) where
   abbrev pub Agree : List (List ℕ) → Type 0
   Agree [] = Unit {0}
   Agree (path ∷ paths) = (get now path ≡ get told path) × Agree paths
-
-  -- at each name but one
-  abbrev pub AgreeBut : List ℕ → Type 0
-  AgreeBut path = (name : List ℕ) → name ≢ path → get now name ≡ get told name
 
 pub agree_everywhere : (told : Contents) (paths : List (List ℕ)) → Agree told told paths
 agree_everywhere told [] = tt

@@ -36,6 +36,12 @@ pub record IsWell (old new : Outside) (text : List ℕ) : Type 0 where
   pub ids : KeepsIds old.files new.files
   pub gained : new.sink.told ≡ append_known old.sink.told text
 
+abbrev pub RoseReading : Outside → Outside → Type 0
+RoseReading old new = Rose old.files.reading new.files.reading
+
+abbrev pub RoseWriting : Outside → Outside → Type 0
+RoseWriting old new = Rose old.files.writing new.files.writing ⊎ Rose old.sink.faults new.sink.faults
+
 module _ (p : Program) (g : Graph) (paths : List (List ℕ)) where
   -- The way that the run has come stands in what is kept: it has left so many nodes at which a step begins. So many
   -- steps were begun, all of them freely.
@@ -127,12 +133,6 @@ module _ (p : Program) (g : Graph) (paths : List (List ℕ)) where
     BreaksOffIf (Some first) None sink_before sink_after = ⊥
     BreaksOffIf None told sink_before sink_after = Unit {0}
 
-    abbrev pub RoseReading : Outside → Outside → Type 0
-    RoseReading old new = Rose old.files.reading new.files.reading
-
-    abbrev pub RoseWriting : Outside → Outside → Type 0
-    RoseWriting old new = Rose old.files.writing new.files.writing ⊎ Rose old.sink.faults new.sink.faults
-
     -- an input file is too long
     abbrev pub IsTooLong : Option Contents → ℕ → Type 0
     IsTooLong known count = IfSome known (λ first. (n : ℕ) × IsEnd p (told_files first paths) budget (Err (end.Long count)) n)
@@ -149,6 +149,11 @@ module _ (p : Program) (g : Graph) (paths : List (List ℕ)) where
     -- while the world is kept
     abbrev pub Halts : Outside → Outside → World → Result Ended RunEnd → Type 0
     Halts start now w result = EndsBy (λ old new r. Rests old new w r) start now result
+
+    -- what a call answers that does a node's part: the next node, where all goes on to stand, or why the run halts
+    abbrev pub Arrives : Outside → Outside → World → ℕ → Result ℕ RunEnd → Type 0
+    Arrives start now w step (Ok node) = Stands start now w step step node
+    Arrives start now w step (Err e) = Halts start now w (Err e)
 
     -- behind the run
     abbrev pub Runs : Outside → Outside → Result Ended RunEnd → Type 0

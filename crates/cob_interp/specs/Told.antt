@@ -1,6 +1,6 @@
 -- How the world of a program's run stands in what the interpreter keeps: a world of its own, the outside's files, and the
 -- text that was already shown.
-use Rattle.std.specs.Prelude.{◌≡◌, ◌≢◌, ℕ, Bool, List, [], ◌∷◌, ◌++◌, length, map, slice_get, Contains, Option, Some, None}
+use Rattle.std.specs.Prelude.{◌≡◌, ◌≢◌, ℕ, Bool, true, false, List, [], ◌∷◌, ◌++◌, length, map, slice_get, Contains, Option, Some, None}
 use Rattle.std.specs.FinMap.{get}
 use Rattle.batch_io.specs.FilesState.{Contents}
 use Rattle.cob_runs.specs.Files.{File, file, Mode, closed, reading, writing}
@@ -54,3 +54,30 @@ AreDistinct (path ∷ paths) = (Contains paths path → ⊥) × AreDistinct path
 pub record Holds (old new : Contents) (paths : List (List ℕ)) (files : List File) : Type 0 where
   pub its : map (get new) paths ≡ map (λ f. f.content) files
   pub others : KeepsNames old new paths
+
+-- ---- where the outside's files are made ready for OPEN and CLOSE
+
+module _ (told now : Contents) where
+  -- each name but one holds what it held
+  abbrev pub AgreeBut : List ℕ → Type 0
+  AgreeBut path = (name : List ℕ) → name ≢ path → get now name ≡ get told name
+
+  module _ (path : List ℕ) where
+    -- a closed file that is opened for writing is told empty, and one that is opened for reading is kept as it is told
+    abbrev pub IsReadyToOpenIn : Bool → Mode → Option (List ℕ) → Type 0
+    IsReadyToOpenIn true closed content = get now path ≡ Some []
+    IsReadyToOpenIn false closed content = (get now path ≡ get told path) × (content ≡ get told path)
+    IsReadyToOpenIn output (reading ended) content = get now path ≡ get told path
+    IsReadyToOpenIn output writing content = get now path ≡ get told path
+
+    -- a file that was written is told
+    abbrev pub IsReadyToCloseIn : Mode → Option (List ℕ) → Type 0
+    IsReadyToCloseIn closed content = get now path ≡ get told path
+    IsReadyToCloseIn (reading ended) content = get now path ≡ get told path
+    IsReadyToCloseIn writing content = get now path ≡ content
+
+    abbrev pub IsReadyToOpen : Bool → File → Type 0
+    IsReadyToOpen output f = IsReadyToOpenIn output f.mode f.content
+
+    abbrev pub IsReadyToClose : File → Type 0
+    IsReadyToClose f = IsReadyToCloseIn f.mode f.content

@@ -2,5 +2,9 @@
 #![tactic(auto)]
 
 mod ends;
+mod nodes;
+mod outside;
+mod parts;
+mod setting;
 
 pub use ends::{Ended, RunEnd};

@@ -1,0 +1,41 @@
+-- What doing the part of a node comes to.
+use Rattle.std.specs.Prelude.{◌≡◌, ◌≤◌, ℕ, Result, Ok, Err}
+use Rattle.cob_plan.specs.declared.does.DoEnd.{DoEnd}
+use Rattle.cob_plan.specs.declared.does.DoEnd.TheVariants as does
+use Rattle.cob_plan.specs.Doing.{Does}
+use Rattle.cob_interp.specs.declared.setting.Place.{Place}
+use Rattle.cob_program.specs.Act.{Act, open_files, close_files}
+use Rattle.cob_runs.specs.State.{World}
+use Rattle.cob_interp.specs.declared.ends.RunEnd.{RunEnd}
+use Rattle.cob_interp.specs.declared.ends.RunEnd.TheVariants as end
+use Rattle.cob_interp.specs.declared.setting.Setting.{Setting}
+use Rattle.cob_interp.specs.Running.{Outside, IsUnderway, Arrives}
+use Rattle.cob_interp.specs.Setting.{program_of, paths_of}
+
+-- statements but OPEN and CLOSE
+abbrev pub IsPlain : Act → Type 0
+IsPlain (open_files os) = ⊥
+IsPlain (close_files fs) = ⊥
+IsPlain _ = Unit {0}
+
+-- how the run ends where a node's part isn't done
+abbrev pub halted : ℕ → ℕ → DoEnd → RunEnd
+halted statement step (does.Fault kind) = end.Fault kind statement step
+halted statement step (does.Stop status) = end.IoStop status statement
+halted statement step does.Memory = end.Memory
+
+abbrev pub answered : ℕ → ℕ → Result ℕ DoEnd → Result ℕ RunEnd
+answered statement step (Ok node) = Ok node
+answered statement step (Err e) = Err (halted statement step e)
+
+-- a node's part is done, or why not is told
+pub record DoesPart (s : Setting) (x : Place) (step : ℕ) (w v : World) (result : Result ℕ RunEnd) : Type 0 where
+  pub outcome : Result ℕ DoEnd
+  pub does : Does (program_of s) x.statement.now.number x.spot.op w v outcome
+  pub told : result ≡ answered x.statement.now.number step outcome
+
+-- from a node on in a step that is underway
+abbrev pub Leads : Setting → ℕ → ℕ → ℕ → Outside → Outside → World → World → Result ℕ RunEnd → Type 0
+Leads s budget step node old new w v result =
+    (start : Outside) → step ≤ budget → IsUnderway (program_of s) s.graph.now (paths_of s) start old w step node
+    → Arrives (program_of s) s.graph.now (paths_of s) budget start new v step result

@@ -1,0 +1,65 @@
+//! What is done at a node of a step.
+ghost use Rattle.std.specs.Prelude.{◌≡◌, ℕ, length};
+ghost use Rattle.cob_program.specs.ActView.{plain_act};
+ghost use Rattle.cob_interp.specs.Running.{Outside};
+ghost use Rattle.cob_interp.specs.Setting.{IsReady, IsPlace, IsPlaced};
+ghost use Rattle.cob_interp.specs.Doing.{IsPlain, halted, DoesPart, Leads};
+
+use crate::ends::RunEnd;
+use crate::setting::{Place, Setting};
+use cob_plan::{DoEnd, do_op};
+use cob_world::World;
+use std::alloc::Global;
+
+fn halt_of(end: DoEnd, statement: u32, step: u64) -> RunEnd
+    ensures { result ≡ halted statement step end }
+{
+    match end {
+        DoEnd::Fault(kind) => RunEnd::Fault {
+            kind,
+            statement,
+            step,
+        },
+        DoEnd::Stop(status) => RunEnd::IoStop { status, statement },
+        DoEnd::Memory => RunEnd::Memory,
+    }
+}
+
+/// Does the part of a node, where no file has to be made ready for it. Answers the next node.
+fn do_part(
+    alloc: Global,
+    setting: &Setting,
+    place: &Place,
+    world: &mut World,
+    step: u64,
+) -> Result<u32, RunEnd>
+    requires ready { IsReady setting.now }
+    requires whole { length world.old.storage ≡ setting.now.program.now.layout.storage }
+    requires place { IsPlaced setting.now place.now }
+    ensures kept { length world.new.storage ≡ length world.old.storage }
+    ensures does { DoesPart setting.now place.now step world.old world.new result }
+{
+    match do_op(alloc, setting.program, place.statement, &place.spot.op, world) {
+        Ok(node) => Ok(node),
+        Err(end) => Err(halt_of(end, place.statement.number, step)),
+    }
+}
+
+/// Does the part of a node whose statement is neither OPEN nor CLOSE.
+pub fn do_plain(
+    alloc: Global,
+    setting: &Setting,
+    place: &Place,
+    world: &mut World,
+    step: u64,
+) -> Result<u32, RunEnd>
+    requires ready { IsReady setting.now }
+    requires whole { length world.old.storage ≡ setting.now.program.now.layout.storage }
+    requires place { IsPlaced setting.now place.now }
+    requires plain { IsPlain (plain_act place.now.statement.now.act.now) }
+    ensures kept { length world.new.storage ≡ length world.old.storage }
+    ensures leads { (now : Outside) (node budget : ℕ) → IsPlace setting.now node place.now
+        → Leads setting.now budget step node now now world.old world.new result }
+{
+    do_part(alloc, setting, place, world, step)
+}
