@@ -6,3 +6,5 @@ pub mod Passing
 pub mod Onward
 pub mod PutLemmas
 pub mod NodeLemmas
+pub mod CallsLead
+pub mod CloseLemmas

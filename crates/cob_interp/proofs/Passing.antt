@@ -8,7 +8,10 @@ use Rattle.cob_runs.specs.State.{World}
 use Rattle.cob_graph.specs.declared.graph.Graph.{Graph}
 use Rattle.cob_interp.specs.declared.ends.Ended.{Ended}
 use Rattle.cob_interp.specs.declared.ends.RunEnd.{RunEnd}
-use Rattle.cob_interp.specs.Running.{Outside, IsWell, StandsIn, StandsIf, Stands, RestsIn, RestsIf, Rests}
+use Rattle.batch_io.specs.SinkState.{SinkState}
+use Rattle.cob_interp.specs.Told.{AgreeBut}
+use Rattle.cob_interp.specs.Readying.{AreWell, Keeps, Readies}
+use Rattle.cob_interp.specs.Running.{outside, Outside, IsWell, StandsIn, StandsIf, Stands, RestsIn, RestsIf, Rests}
 
 pub ids_stay : (a : FilesState) → KeepsIds a a
 ids_stay a = record { purpose = λ id. refl; handle = λ id some. refl }
@@ -116,3 +119,42 @@ module _ (p : Program) (g : Graph) (paths : List (List ℕ)) where
       stays None b t = tt
       stays (Some first) None t = absurd t
       stays (Some first) (Some told) t = f first told s.text t
+
+-- ---- where a file was made ready
+
+readied_well : (old new : FilesState) (sink : SinkState) → AreWell old new → IsWell (outside old sink) (outside new sink) []
+readied_well old new sink well = record {
+      reading = well.reading;
+      writing = well.writing;
+      faults = refl;
+      ids = well.ids;
+      gained = append_none sink.told;
+    }
+
+module _ (p : Program) (g : Graph) (paths : List (List ℕ)) (start : Outside) (sink : SinkState) (old new : FilesState)
+    (path : List ℕ) (IsIt : Contents → Contents → Type 0) (ready : Readies old new path IsIt) (w v : World) (left begun node : ℕ) where
+  pub stands_readied : (left_ begun_ node_ : ℕ)
+      → ((first told now : Contents) (text : List ℕ) → known_bytes old ≡ Some told → AgreeBut told now path → IsIt told now
+      → StandsIn p g paths first told text w left begun node → StandsIn p g paths first now text v left_ begun_ node_)
+      → Stands p g paths start (outside old sink) w left begun node → Stands p g paths start (outside new sink) v left_ begun_ node_
+  stands_readied left_ begun_ node_ f s =
+      stands_behind p g paths start (outside old sink) (outside new sink) w v [] left begun node left_ begun_ node_
+      (readied_well old new sink ready.well)
+      (λ first told text e st. let k = ready.known told e in
+        subst (λ (c : Option Contents). StandsIf p g paths (Some first) c (text ++ []) v left_ begun_ node_) (sym k.is)
+        (subst (λ (t : List ℕ). StandsIn p g paths first k.now t v left_ begun_ node_) (sym (append-nil text))
+        (f first told k.now text e k.others k.it st)))
+      s
+
+  pub rests_readied : (budget : ℕ) (result : Result Ended RunEnd)
+      → ((first told now : Contents) (text : List ℕ) → known_bytes old ≡ Some told → AgreeBut told now path → IsIt told now
+      → StandsIn p g paths first told text w left begun node → RestsIn p g paths budget first now text v result)
+      → Stands p g paths start (outside old sink) w left begun node → Rests p g paths budget start (outside new sink) v result
+  rests_readied budget result f s =
+      rests_behind p g paths budget start (outside old sink) (outside new sink) w v [] left begun node result
+      (readied_well old new sink ready.well)
+      (λ first told text e st. let k = ready.known told e in
+        subst (λ (c : Option Contents). RestsIf p g paths budget (Some first) c (text ++ []) v result) (sym k.is)
+        (subst (λ (t : List ℕ). RestsIn p g paths budget first k.now t v result) (sym (append-nil text))
+        (f first told k.now text e k.others k.it st)))
+      s

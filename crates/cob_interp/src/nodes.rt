@@ -1,13 +1,17 @@
 //! What is done at a node of a step.
 ghost use Rattle.std.specs.Prelude.{◌≡◌, ℕ, length};
+ghost use Rattle.batch_io.specs.SinkState.{SinkState};
+ghost use Rattle.cob_program.specs.Act.{open_files, close_files};
 ghost use Rattle.cob_program.specs.ActView.{plain_act};
-ghost use Rattle.cob_interp.specs.Running.{Outside};
+ghost use Rattle.cob_interp.specs.Running.{Outside, outside};
 ghost use Rattle.cob_interp.specs.Setting.{IsReady, IsPlace, IsPlaced};
 ghost use Rattle.cob_interp.specs.Doing.{IsPlain, halted, DoesPart, Leads};
 
 use crate::ends::RunEnd;
+use crate::outside::ready_to_close;
 use crate::setting::{Place, Setting};
-use cob_plan::{DoEnd, do_op};
+use batch_io::Files;
+use cob_plan::{DoEnd, Op, do_op};
 use cob_world::World;
 use std::alloc::Global;
 
@@ -62,4 +66,35 @@ pub fn do_plain(
         → Leads setting.now budget step node now now world.old world.new result }
 {
     do_part(alloc, setting, place, world, step)
+}
+
+/// Does the part of a node whose statement is a CLOSE of these files.
+pub fn do_close<F: Files>(
+    alloc: Global,
+    setting: &Setting,
+    files: &mut F,
+    place: &Place,
+    closed: &[u32],
+    world: &mut World,
+    step: u64,
+) -> Result<u32, RunEnd>
+    requires ready { IsReady setting.now }
+    requires whole { length world.old.storage ≡ setting.now.program.now.layout.storage }
+    requires place { IsPlaced setting.now place.now }
+    requires its { plain_act place.now.statement.now.act.now ≡ close_files closed.now }
+    ensures kept { length world.new.storage ≡ length world.old.storage }
+    ensures leads { (sink : SinkState) (node budget : ℕ) → IsPlace setting.now node place.now
+        → Leads setting.now budget step node (outside (F.state files.old) sink) (outside (F.state files.new) sink)
+            world.old world.new result }
+{
+    let Op::Close { file, .. } = place.spot.op else {
+        return Err(RunEnd::Memory);
+    };
+    match closed.get(file as usize) {
+        None => Err(RunEnd::Memory),
+        Some(at) => {
+            ready_to_close(setting, files, world, *at)?;
+            do_part(alloc, setting, place, world, step)
+        }
+    }
 }

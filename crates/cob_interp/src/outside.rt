@@ -1,16 +1,14 @@
 //! How what a run keeps is put outside, and loaded from there.
 ghost use Rattle.std.specs.Prelude.{◌≡◌, ◌<◌, MatchResult, Some, IfSome, length, slice_get, false};
-ghost use Rattle.batch_io.specs.SinkState.{SinkState};
-ghost use Rattle.cob_runs.specs.State.{World};
-ghost use Rattle.cob_interp.specs.Running.{outside};
-ghost use Rattle.cob_interp.specs.Readying.{IsRefusal, Puts, Reads, IsRefusedToLoad};
-ghost use Rattle.cob_interp.specs.Setting.{IsReady};
+ghost use Rattle.std.specs.Option.{option_map};
+ghost use Rattle.cob_interp.specs.Readying.{IsRefusal, Puts, Reads, IsRefusedToLoad, Readies, ReadyToClose};
+ghost use Rattle.cob_interp.specs.Told.{IsReadyToClose};
 
 use crate::ends::RunEnd;
 use crate::setting::Setting;
 use batch_io::{FileEnd, Files, MakeEnd, put_file, read_file};
 use cob_program::Opening;
-use cob_world::{FileMode, World};
+use cob_world::{File, FileMode, World};
 use std::alloc::Global;
 
 /// The most bytes that an input file may have.
@@ -18,9 +16,9 @@ const FILE_LIMIT: usize = 67_108_864;
 
 /// Makes the file of this name with these bytes.
 pub fn put<F: Files>(files: &mut F, name: &str, bytes: &[u8]) -> Result<(), RunEnd>
-    ensures { (sink : SinkState) → MatchResult result
-        (λ _. Puts (outside (F.state files.old) sink) (outside (F.state files.new) sink) name.now bytes.now)
-        (λ e. IsRefusal (outside (F.state files.old) sink) (outside (F.state files.new) sink) e) }
+    ensures { MatchResult result
+        (λ _. Puts (F.state files.old) (F.state files.new) name.now bytes.now)
+        (λ e. IsRefusal (F.state files.old) (F.state files.new) e) }
 {
     match put_file(files, name, bytes) {
         Ok(()) => Ok(()),
@@ -35,9 +33,10 @@ fn load<F: Files>(
     files: &mut F,
     name: &str,
 ) -> Result<Option<Vec<u8>>, RunEnd>
-    ensures { (sink : SinkState) → MatchResult result
-        (λ content. Reads (outside (F.state files.old) sink) (outside (F.state files.new) sink) name.now content)
-        (λ e. IsRefusedToLoad (outside (F.state files.old) sink) (outside (F.state files.new) sink) name.now e) }
+    ensures { MatchResult result
+        (λ content. Reads (F.state files.old) (F.state files.new) name.now
+            (option_map (λ v. v.items) content))
+        (λ e. IsRefusedToLoad (F.state files.old) (F.state files.new) name.now e) }
 {
     match read_file(alloc, files, name, FILE_LIMIT) {
         Ok(bytes) => Ok(Some(bytes)),
@@ -45,5 +44,44 @@ fn load<F: Files>(
         Err(FileEnd::Failed) => Err(RunEnd::ReadFault),
         Err(FileEnd::Long) => Err(RunEnd::Long(FILE_LIMIT as u64 + 1)),
         Err(FileEnd::Memory) => Err(RunEnd::Memory),
+    }
+}
+
+/// Puts a file that is being written.
+fn put_written<F: Files>(files: &mut F, path: &str, file: &File) -> Result<(), RunEnd>
+    ensures { MatchResult result
+        (λ _. Readies (F.state files.old) (F.state files.new) path.now
+            (λ told now. IsReadyToClose told now path.now file.now))
+        (λ e. IsRefusal (F.state files.old) (F.state files.new) e) }
+{
+    match file.mode() {
+        FileMode::Writing => match file.bytes() {
+            None => Err(RunEnd::Memory),
+            Some(bytes) => {
+                put(files, path, bytes)?;
+                Ok(())
+            }
+        },
+        FileMode::Closed | FileMode::Reading { .. } => Ok(()),
+    }
+}
+
+/// Before a CLOSE of the file at a place: puts it, where it is being written.
+pub fn ready_to_close<F: Files>(
+    setting: &Setting,
+    files: &mut F,
+    world: &World,
+    place: u32,
+) -> Result<(), RunEnd>
+    ensures { MatchResult result
+        (λ _. ReadyToClose setting.now world.now place (F.state files.old) (F.state files.new))
+        (λ e. IsRefusal (F.state files.old) (F.state files.new) e) }
+{
+    match (setting.path(place), world.file(place as usize)) {
+        (Some(path), Some(file)) => {
+            put_written(files, path, file)?;
+            Ok(())
+        }
+        _ => Err(RunEnd::Memory),
     }
 }

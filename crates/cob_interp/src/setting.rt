@@ -3,6 +3,7 @@ ghost use Rattle.std.specs.Prelude.{◌≡◌, ◌==◌, ℕ, false, Some, None,
 ghost use Rattle.cob_graph.specs.declared.graph.Node.{Node};
 ghost use Rattle.cob_graph.specs.Walks.{node_at, final_in};
 ghost use Rattle.cob_interp.specs.Setting.{IsReady, IsPlace};
+ghost use Rattle.cob_interp.specs.Readying.{IsPath};
 
 use cob_graph::Graph;
 use cob_plan::{Plan, Spot, Statement};
@@ -50,5 +51,14 @@ impl<'b> Setting<'b> {
         let spot = self.plan.spot(node)?;
         let statement = self.plan.statement(spot.statement)?;
         Some(Place { spot, statement })
+    }
+
+    /// The path of the file at a place.
+    pub fn path(&self, place: u32) -> Option<&str>
+        ensures { IfSome result (λ path. IsPath self.now place path.now) }
+    {
+        let _decl = self.program.layout.files.get().get(place as usize)?;
+        let path = self.paths.get(place as usize)?;
+        Some(path.as_str())
     }
 }
