@@ -82,7 +82,7 @@ module _ (p : Program) (number : ℕ) (told now : Contents) (paths : List (List 
 
   module _ (k : ℕ) (os : List Opening) (o : Opening) (its : act_at p number ≡ Some (open_files os)) (at : slice_get os k ≡ Some o)
       (follows : CallFollows now paths text (open_one p.layout o w) (open_one p.layout o (seen told paths text w))) where
-    open_effect : (v : World) (fine : Bool)
+    pub open_effect : (v : World) (fine : Bool)
         → opened p number None v fine (slice_get os k) ≡ by_status p number None v fine (open_one p.layout o v)
     open_effect v fine = rw at refl
 

@@ -8,3 +8,6 @@ pub mod PutLemmas
 pub mod NodeLemmas
 pub mod CallsLead
 pub mod CloseLemmas
+pub mod OpenLemmas
+pub mod Openings
+pub mod OpeningLemmas

@@ -122,7 +122,7 @@ module _ (p : Program) (g : Graph) (paths : List (List ℕ)) where
 
 -- ---- where a file was made ready
 
-readied_well : (old new : FilesState) (sink : SinkState) → AreWell old new → IsWell (outside old sink) (outside new sink) []
+pub readied_well : (old new : FilesState) (sink : SinkState) → AreWell old new → IsWell (outside old sink) (outside new sink) []
 readied_well old new sink well = record {
       reading = well.reading;
       writing = well.writing;

@@ -1,5 +1,11 @@
 -- What doing the part of a node comes to.
-use Rattle.std.specs.Prelude.{◌≡◌, ◌≤◌, ℕ, Result, Ok, Err}
+use Rattle.std.specs.Prelude.{◌≡◌, ◌≤◌, ◌<◌, ◌+◌, ℕ, List, drop, Some, Result, Ok, Err}
+use Rattle.cob_program.specs.declared.act.Opening.{Opening}
+use Rattle.cob_runs.specs.Effects.{act_at}
+use Rattle.cob_graph.specs.declared.graph.Node.{Node}
+use Rattle.cob_graph.specs.Walks.{node_at, passed}
+use Rattle.cob_plan.specs.declared.spot.Op.{Op}
+use Rattle.cob_plan.specs.declared.spot.Op.TheVariants as op
 use Rattle.cob_plan.specs.declared.does.DoEnd.{DoEnd}
 use Rattle.cob_plan.specs.declared.does.DoEnd.TheVariants as does
 use Rattle.cob_plan.specs.Doing.{Does}
@@ -9,7 +15,7 @@ use Rattle.cob_runs.specs.State.{World}
 use Rattle.cob_interp.specs.declared.ends.RunEnd.{RunEnd}
 use Rattle.cob_interp.specs.declared.ends.RunEnd.TheVariants as end
 use Rattle.cob_interp.specs.declared.setting.Setting.{Setting}
-use Rattle.cob_interp.specs.Running.{Outside, IsUnderway, Arrives}
+use Rattle.cob_interp.specs.Running.{Outside, IsUnderway, Arrives, Opens, ArrivesOpening}
 use Rattle.cob_interp.specs.Setting.{program_of, paths_of}
 
 -- statements but OPEN and CLOSE
@@ -39,3 +45,16 @@ abbrev pub Leads : Setting → ℕ → ℕ → ℕ → Outside → Outside → W
 Leads s budget step node old new w v result =
     (start : Outside) → step ≤ budget → IsUnderway (program_of s) s.graph.now (paths_of s) start old w step node
     → Arrives (program_of s) s.graph.now (paths_of s) budget start new v step result
+
+-- from a node on at which the next file of an OPEN is opened
+abbrev pub LeadsOpening : Setting → ℕ → ℕ → ℕ → ℕ → List Opening → ℕ → Outside → Outside → World → World → Result ℕ RunEnd → Type 0
+LeadsOpening s budget steps node number os k old new w v result =
+    (start : Outside) (left : ℕ) → steps < budget → act_at (program_of s) number ≡ Some (open_files os)
+    → ((x : Node) → node_at s.graph.now.nodes node ≡ Some x → steps + 1 ≡ passed left x)
+    → Opens (program_of s) s.graph.now (paths_of s) start old w left steps node number os (drop k os)
+    → ArrivesOpening (program_of s) s.graph.now (paths_of s) budget start new v steps number os (drop (k + 1) os) result
+
+-- the operation opens the file of this number
+abbrev pub IsOpenOf : Op → ℕ → Type 0
+IsOpenOf (op.Open file fine bad) number = file ≡ number
+IsOpenOf _ number = ⊥

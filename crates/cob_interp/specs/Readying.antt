@@ -6,7 +6,8 @@ use Rattle.batch_io.specs.Faults.{Rose}
 use Rattle.cob_data.specs.declared.layout.FileDecl.{FileDecl}
 use Rattle.cob_program.specs.declared.act.Opening.{Opening}
 use Rattle.cob_runs.specs.Files.{File, Mode, closed, reading, writing}
-use Rattle.cob_runs.specs.State.{World}
+use Rattle.cob_runs.specs.State.{World, with_files}
+use Rattle.cob_world.specs.Calling.{refilled}
 use Rattle.cob_runs.specs.Acts.{decl_at}
 use Rattle.cob_interp.specs.declared.ends.RunEnd.{RunEnd}
 use Rattle.cob_interp.specs.declared.ends.RunEnd.TheVariants as end
@@ -76,6 +77,12 @@ pub record ReadyToClose (s : Setting) (w : World) (place : ℕ) (old new : Files
   pub is : IsPath s place path
   pub has : slice_get w.files place ≡ Some file
   pub ready : Readies old new path (λ told now. IsReadyToClose told now path file)
+
+-- the bytes of the name were read into the file at a place
+pub record LoadsInto (old new : FilesState) (path : List ℕ) (place : ℕ) (w v : World) : Type 0 where
+  pub content : Option (List ℕ)
+  pub reads : Reads old new path content
+  pub world : v ≡ with_files w (refilled place content w.files)
 
 pub record ReadyToOpen (s : Setting) (w v : World) (o : Opening) (old new : FilesState) : Type 0 where
   pub path : List ℕ

@@ -1,5 +1,5 @@
 -- What a run does to the outside's files and sink.
-use Rattle.std.specs.Prelude.{◌≡◌, ◌≤◌, ◌<◌, ◌⊎◌, ℕ, suc, Bool, true, false, List, [], ◌∷◌, ◌++◌, take, length, map, slice_get, Contains, Option, Some, None, IfSome, Result, Ok, Err}
+use Rattle.std.specs.Prelude.{◌≡◌, ◌≤◌, ◌<◌, ◌⊎◌, ℕ, suc, ◌+◌, Bool, true, false, List, [], ◌∷◌, ◌++◌, take, length, map, slice_get, Contains, Option, Some, None, IfSome, Result, Ok, Err}
 use Rattle.std.specs.Io.KnownBytes.{append_known}
 use Rattle.std.specs.FinMap.{get}
 use Rattle.batch_io.specs.Faults.{Rose}
@@ -11,11 +11,12 @@ use Rattle.cob_runs.specs.State.{World}
 use Rattle.cob_graph.specs.declared.graph.Graph.{Graph}
 use Rattle.cob_graph.specs.declared.graph.Node.{Node}
 use Rattle.cob_graph.specs.Walks.{node_at, passed}
-use Rattle.cob_ways.specs.Telling.{Way, WaysTell}
+use Rattle.cob_program.specs.declared.act.Opening.{Opening}
+use Rattle.cob_ways.specs.Telling.{Way, WaysTell, GoesOnAfter}
 use Rattle.cob_interp.specs.declared.ends.Ended.{Ended}
 use Rattle.cob_interp.specs.declared.ends.RunEnd.{RunEnd}
 use Rattle.cob_interp.specs.declared.ends.RunEnd.TheVariants as end
-use Rattle.cob_interp.specs.Ends.{told_files, AreFree, IsEnd, state_after}
+use Rattle.cob_interp.specs.Ends.{told_files, meets_long, AreFree, IsEnd, state_after}
 use Rattle.cob_interp.specs.Told.{seen, seen_files, AreSynced, KeepsNames, Holds}
 
 -- ---- while it runs
@@ -36,6 +37,12 @@ pub record IsWell (old new : Outside) (text : List ℕ) : Type 0 where
   pub ids : KeepsIds old.files new.files
   pub gained : new.sink.told ≡ append_known old.sink.told text
 
+-- a fact of the first contents and of those behind them, where contents are told
+abbrev pub IfTold : (Contents → Contents → Type 0) → Option Contents → Option Contents → Type 0
+IfTold IsIt (Some first) (Some told) = IsIt first told
+IfTold IsIt (Some first) None = ⊥
+IfTold IsIt None told = Unit {0}
+
 abbrev pub RoseReading : Outside → Outside → Type 0
 RoseReading old new = Rose old.files.reading new.files.reading
 
@@ -52,11 +59,8 @@ module _ (p : Program) (g : Graph) (paths : List (List ℕ)) where
     pub others : KeepsNames first told paths
     pub free : AreFree p (told_files first paths) begun
 
-  -- the same, where contents are told
   abbrev pub StandsIf : Option Contents → Option Contents → List ℕ → World → ℕ → ℕ → ℕ → Type 0
-  StandsIf (Some first) (Some told) text w left begun node = StandsIn first told text w left begun node
-  StandsIf (Some first) None text w left begun node = ⊥
-  StandsIf None told text w left begun node = Unit {0}
+  StandsIf a b text w left begun node = IfTold (λ first told. StandsIn first told text w left begun node) a b
 
   pub record Stands (start now : Outside) (w : World) (left begun node : ℕ) : Type 0 where
     pub text : List ℕ
@@ -68,6 +72,22 @@ module _ (p : Program) (g : Graph) (paths : List (List ℕ)) where
     pub left : ℕ
     pub stands : Stands start now w left step node
     pub counts : (x : Node) → node_at g.nodes node ≡ Some x → step ≡ passed left x
+
+  -- ---- in an OPEN
+
+  -- So many steps were begun freely, and then an OPEN with these files, of which so many are left to be opened. Whether one
+  -- that is too long is met is to be seen of those.
+  pub record OpensIn (first told : Contents) (text : List ℕ) (w : World) (left steps node number : ℕ) (os rest : List Opening) : Type 0
+      where
+    pub stands : StandsIn first told text w left steps node
+    pub begin : World
+    pub begins : GoesOnAfter p g (told_files first paths) [] steps number begin
+    pub same : meets_long p number os begin ≡ meets_long p number rest (seen told paths text w)
+
+  pub record Opens (start now : Outside) (w : World) (left steps node number : ℕ) (os rest : List Opening) : Type 0 where
+    pub text : List ℕ
+    pub well : IsWell start now text
+    pub told : IfTold (λ first told. OpensIn first told text w left steps node number os rest) (known_bytes start.files) (known_bytes now.files)
 
   -- ---- behind it
 
@@ -82,9 +102,7 @@ module _ (p : Program) (g : Graph) (paths : List (List ℕ)) where
       pub others : KeepsNames first told paths
 
     abbrev pub RestsIf : Option Contents → Option Contents → List ℕ → World → Result Ended RunEnd → Type 0
-    RestsIf (Some first) (Some told) text w result = RestsIn first told text w result
-    RestsIf (Some first) None text w result = ⊥
-    RestsIf None told text w result = Unit {0}
+    RestsIf a b text w result = IfTold (λ first told. RestsIn first told text w result) a b
 
     pub record Rests (start now : Outside) (w : World) (result : Result Ended RunEnd) : Type 0 where
       pub text : List ℕ
@@ -99,9 +117,7 @@ module _ (p : Program) (g : Graph) (paths : List (List ℕ)) where
       pub shows : sink_after.told ≡ append_known sink_before.told (state_after p (told_files first paths) steps).world.shown
 
     abbrev pub EndsRunIf : Option Contents → Option Contents → SinkState → SinkState → Result Ended RunEnd → Type 0
-    EndsRunIf (Some first) (Some told) sink_before sink_after result = EndsRun first told sink_before sink_after result
-    EndsRunIf (Some first) None sink_before sink_after result = ⊥
-    EndsRunIf None told sink_before sink_after result = Unit {0}
+    EndsRunIf a b sink_before sink_after result = IfTold (λ first told. EndsRun first told sink_before sink_after result) a b
 
     -- the run's own end: no fault of the outside was met
     pub record EndsWell (old new : Outside) (result : Result Ended RunEnd) : Type 0 where
@@ -129,9 +145,7 @@ module _ (p : Program) (g : Graph) (paths : List (List ℕ)) where
           (take n (state_after p (told_files first paths) step).world.shown)))
 
     abbrev pub BreaksOffIf : Option Contents → Option Contents → SinkState → SinkState → Type 0
-    BreaksOffIf (Some first) (Some told) sink_before sink_after = BreaksOff first told sink_before sink_after
-    BreaksOffIf (Some first) None sink_before sink_after = ⊥
-    BreaksOffIf None told sink_before sink_after = Unit {0}
+    BreaksOffIf a b sink_before sink_after = IfTold (λ first told. BreaksOff first told sink_before sink_after) a b
 
     -- an input file is too long
     abbrev pub IsTooLong : Option Contents → ℕ → Type 0
@@ -149,6 +163,11 @@ module _ (p : Program) (g : Graph) (paths : List (List ℕ)) where
     -- while the world is kept
     abbrev pub Halts : Outside → Outside → World → Result Ended RunEnd → Type 0
     Halts start now w result = EndsBy (λ old new r. Rests old new w r) start now result
+
+    -- what a call answers that opens a file in an OPEN
+    abbrev pub ArrivesOpening : Outside → Outside → World → ℕ → ℕ → List Opening → List Opening → Result ℕ RunEnd → Type 0
+    ArrivesOpening start now w steps number os rest (Ok node) = Opens start now w (steps + 1) steps node number os rest
+    ArrivesOpening start now w steps number os rest (Err e) = Halts start now w (Err e)
 
     -- what a call answers that does a node's part: the next node, where all goes on to stand, or why the run halts
     abbrev pub Arrives : Outside → Outside → World → ℕ → Result ℕ RunEnd → Type 0

@@ -3,6 +3,7 @@
 
 mod ends;
 mod nodes;
+mod opens;
 mod outside;
 mod parts;
 mod setting;

@@ -1,5 +1,5 @@
 //! What is done at a node of a step.
-ghost use Rattle.std.specs.Prelude.{◌≡◌, ℕ, length};
+ghost use Rattle.std.specs.Prelude.{◌≡◌, ℕ, length, slice_get};
 ghost use Rattle.batch_io.specs.SinkState.{SinkState};
 ghost use Rattle.cob_program.specs.Act.{open_files, close_files};
 ghost use Rattle.cob_program.specs.ActView.{plain_act};
@@ -30,7 +30,7 @@ fn halt_of(end: DoEnd, statement: u32, step: u64) -> RunEnd
 }
 
 /// Does the part of a node, where no file has to be made ready for it. Answers the next node.
-fn do_part(
+pub fn do_part(
     alloc: Global,
     setting: &Setting,
     place: &Place,
@@ -68,6 +68,12 @@ pub fn do_plain(
     do_part(alloc, setting, place, world, step)
 }
 
+fn file_in(files: &[u32], number: u32) -> Option<u32>
+    ensures { result ≡ slice_get files.now number }
+{
+    files.get(number as usize).copied()
+}
+
 /// Does the part of a node whose statement is a CLOSE of these files.
 pub fn do_close<F: Files>(
     alloc: Global,
@@ -90,10 +96,10 @@ pub fn do_close<F: Files>(
     let Op::Close { file, .. } = place.spot.op else {
         return Err(RunEnd::Memory);
     };
-    match closed.get(file as usize) {
+    match file_in(closed, file) {
         None => Err(RunEnd::Memory),
         Some(at) => {
-            ready_to_close(setting, files, world, *at)?;
+            ready_to_close(setting, files, world, at)?;
             do_part(alloc, setting, place, world, step)
         }
     }

@@ -1,8 +1,10 @@
 //! How what a run keeps is put outside, and loaded from there.
 ghost use Rattle.std.specs.Prelude.{◌≡◌, ◌<◌, MatchResult, Some, IfSome, length, slice_get, false};
 ghost use Rattle.std.specs.Option.{option_map};
-ghost use Rattle.cob_interp.specs.Readying.{IsRefusal, Puts, Reads, IsRefusedToLoad, Readies, ReadyToClose};
+ghost use Rattle.cob_interp.specs.Readying.{IsRefusal, Puts, Reads, IsRefusedToLoad, Readies, ReadyToClose, LoadsInto, ReadyToOpen, IsRefusedToOpen};
+ghost use Rattle.cob_interp.specs.Ends.{is_closed};
 ghost use Rattle.cob_interp.specs.Told.{IsReadyToClose};
+ghost use Rattle.cob_world.specs.Views.{plain_mode};
 
 use crate::ends::RunEnd;
 use crate::setting::Setting;
@@ -84,4 +86,58 @@ pub fn ready_to_close<F: Files>(
         }
         _ => Err(RunEnd::Memory),
     }
+}
+
+fn is_closed(mode: FileMode) -> bool
+    ensures { result ≡ is_closed (plain_mode mode) }
+{
+    matches!(mode, FileMode::Closed)
+}
+
+/// Reads the bytes of this name into the file at a place.
+fn load_content<F: Files>(
+    alloc: Global,
+    files: &mut F,
+    world: &mut World,
+    path: &str,
+    place: u32,
+) -> Result<(), RunEnd>
+    ensures kept { length world.new.storage ≡ length world.old.storage }
+    ensures loads { MatchResult result
+        (λ _. LoadsInto (F.state files.old) (F.state files.new) path.now place world.old world.new)
+        (λ e. IsRefusedToLoad (F.state files.old) (F.state files.new) path.now e) }
+{
+    let content = load(alloc, files, path)?;
+    world.set_content(place as usize, content);
+    Ok(())
+}
+
+/// Before an OPEN of a file: where it's closed, it is made empty for writing, or read whole for reading.
+pub fn ready_to_open<F: Files>(
+    alloc: Global,
+    setting: &Setting,
+    files: &mut F,
+    world: &mut World,
+    opening: Opening,
+) -> Result<(), RunEnd>
+    ensures kept { length world.new.storage ≡ length world.old.storage }
+    ensures ready { MatchResult result
+        (λ _. ReadyToOpen setting.now world.old world.new opening (F.state files.old) (F.state files.new))
+        (λ e. IsRefusedToOpen setting.now world.old opening (F.state files.old) (F.state files.new) e) }
+{
+    let Some(path) = setting.path(opening.file) else {
+        return Err(RunEnd::Memory);
+    };
+    let Some(mode) = world.file_mode(opening.file as usize) else {
+        return Err(RunEnd::Memory);
+    };
+    if !is_closed(mode) {
+        return Ok(());
+    }
+    if opening.output {
+        put(files, path, &[])?;
+        return Ok(());
+    }
+    load_content(alloc, files, world, path, opening.file)?;
+    Ok(())
 }

@@ -19,6 +19,7 @@ pub struct Setting<'a> {
 }
 
 /// A node with its statement.
+#[derive(Drop)]
 pub struct Place<'a, 'b> {
     pub spot: Spot,
     pub statement: &'a Statement<'b>,
