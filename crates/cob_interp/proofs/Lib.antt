@@ -11,3 +11,5 @@ pub mod CloseLemmas
 pub mod OpenLemmas
 pub mod Openings
 pub mod OpeningLemmas
+pub mod StepLemmas
+pub mod CallLemmas

@@ -30,7 +30,7 @@ use Rattle.cob_interp.specs.Ends.{told_files, file_is_long, meets_long, long_by,
 use Rattle.cob_interp.specs.Running.{Outside, outside, IsWell, IfTold, StandsIn, Stands, OpensIn, Opens, RestsIn, Rests, IsTooLong, ArrivesOpening}
 use Rattle.cob_interp.specs.Setting.{program_of, paths_of, IsPlace}
 use Rattle.cob_interp.specs.Readying.{Keeps, Readies, ReadyToOpen, IsLongHere, IsRefusal, IsRefusedToOpen}
-use Rattle.cob_interp.specs.Doing.{answered, DoesPart, LeadsOpening}
+use Rattle.cob_interp.specs.Doing.{answered, DoesPart, IsOpenOf, LeadsOpening}
 use Rattle.cob_interp.proofs.Passing.{well_passes, readied_well}
 use Rattle.cob_interp.proofs.Calls.{open_one_follows}
 use Rattle.cob_interp.proofs.Onward.{goes_where, goes_over, stopped_by, one_more}
@@ -266,3 +266,17 @@ refused_opening s budget steps node number sink old mid w v k os o at (end.Ragge
 refused_opening s budget steps node number sink old mid w v k os o at (end.StepsSpent count) r start left within its counts opens = absurd r
 refused_opening s budget steps node number sink old mid w v k os o at (end.IoStop status_ statement) r start left within its counts opens = absurd r
 refused_opening s budget steps node number sink old mid w v k os o at (end.Fault kind statement step) r start left within its counts opens = absurd r
+
+pub open_of : (o : Op) (number : ℕ) → IsOpenOf o number → (fine : ℕ) × (bad : ℕ) × (o ≡ op.Open number fine bad)
+open_of (op.Open k fine bad) number is = (fine, bad, ap (λ (n : ℕ). op.Open n fine bad) is)
+open_of (op.Skip to) number is = absurd is
+open_of (op.Assign to) number is = absurd is
+open_of (op.Show to) number is = absurd is
+open_of (op.SetCount to) number is = absurd is
+open_of (op.CountDown to) number is = absurd is
+open_of (op.Compute fine size) number is = absurd is
+open_of (op.Test k held other) number is = absurd is
+open_of (op.Close k fine bad) number is = absurd is
+open_of (op.Read found end_ bad) number is = absurd is
+open_of (op.Write fine bad) number is = absurd is
+open_of op.Final number is = absurd is

@@ -7,5 +7,6 @@ mod opens;
 mod outside;
 mod parts;
 mod setting;
+mod steps;
 
 pub use ends::{Ended, RunEnd};
