@@ -53,3 +53,5 @@ plain_other nothing is = tt
 plain_other stop is = tt
 plain_other (write r from) is = tt
 plain_other (show xs) is = tt
+
+pub ruleset calls = (is_close, plain_read, plain_other)

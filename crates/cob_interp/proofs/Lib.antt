@@ -13,3 +13,4 @@ pub mod Openings
 pub mod OpeningLemmas
 pub mod StepLemmas
 pub mod CallLemmas
+pub mod Beginnings

@@ -238,45 +238,45 @@ module _ (s : Setting) (budget steps step node : ℕ) (sink : SinkState) (old mi
 
 -- ---- a refusal
 
-long_told : (p : Program) (g : Graph) (paths : List (List ℕ)) (budget : ℕ) (a b : Option Contents) (text : List ℕ) (w : World)
-    (left steps node number count : ℕ) (os rest : List Opening) → act_at p number ≡ Some (open_files os) → steps < budget → count ≡ 67108865
-    → ((told : Contents) → b ≡ Some told → AreSynced told paths w.files → meets_long p number rest (seen told paths text w) ≡ true)
-    → IfTold (λ first told. OpensIn p g paths first told text w left steps node number os rest) a b → IsTooLong p paths budget a count
-long_told p g paths budget None b text w left steps node number count os rest its within counted long t = tt
-long_told p g paths budget (Some first) None text w left steps node number count os rest its within counted long t = absurd t
-long_told p g paths budget (Some first) (Some told) text w left steps node number count os rest its within counted long t =
-    (steps, opens_long p g paths first told text w left steps node number os rest its t budget count within counted
+long_told : (p : Program) (g : Graph) (paths : List (List ℕ)) (budget : ℕ) (a b : Option Contents) (text_ : List ℕ) (w : World)
+    (left steps node number_ count : ℕ) (os rest : List Opening) → act_at p number_ ≡ Some (open_files os) → steps < budget → count ≡ 67108865
+    → ((told : Contents) → b ≡ Some told → AreSynced told paths w.files → meets_long p number_ rest (seen told paths text_ w) ≡ true)
+    → IfTold (λ first told. OpensIn p g paths first told text_ w left steps node number_ os rest) a b → IsTooLong p g paths budget a count
+long_told p g paths budget None b text_ w left steps node number_ count os rest its within counted long t = tt
+long_told p g paths budget (Some first) None text_ w left steps node number_ count os rest its within counted long t = absurd t
+long_told p g paths budget (Some first) (Some told) text_ w left steps node number_ count os rest its within counted long t =
+    (steps, opens_long p g paths first told text_ w left steps node number_ os rest its t budget count within counted
     (long told refl t.stands.synced))
 
-pub refused_opening : (s : Setting) (budget steps node number : ℕ) (sink : SinkState) (old mid : FilesState) (w v : World) (k : ℕ)
+pub refused_opening : (s : Setting) (budget steps node number_ : ℕ) (sink : SinkState) (old mid : FilesState) (w v : World) (k : ℕ)
     (os : List Opening) (o : Opening) → slice_get os k ≡ Some o → (e : RunEnd) → IsRefusedToOpen s w o old mid e
-    → LeadsOpening s budget steps node number os k (outside old sink) (outside mid sink) w v (Err e)
-refused_opening s budget steps node number sink old mid w v k os o at (end.Long count) r start left within its counts opens =
-    long_told (program_of s) s.graph.now (paths_of s) budget (known_bytes start.files) (known_bytes old) opens.text w left steps node number count
+    → LeadsOpening s budget steps node number_ os k (outside old sink) (outside mid sink) w v (Err e)
+refused_opening s budget steps node number_ sink old mid w v k os o at (end.Long count) r start left within its counts opens =
+    long_told (program_of s) s.graph.now (paths_of s) budget (known_bytes start.files) (known_bytes old) opens.text w left steps node number_ count
     os (drop k os) its within r.counted
-    (λ told e synced. ap (λ (x : List Opening). meets_long (program_of s) number x (seen told (paths_of s) opens.text w)) (drop_at os k o at)
-      ∙ meets_this (program_of s) number k os o its at (seen told (paths_of s) opens.text w) (drop (k + 1) os) (r.long told opens.text e synced))
+    (λ told e synced. ap (λ (x : List Opening). meets_long (program_of s) number_ x (seen told (paths_of s) opens.text w)) (drop_at os k o at)
+      ∙ meets_this (program_of s) number_ k os o its at (seen told (paths_of s) opens.text w) (drop (k + 1) os) (r.long told opens.text e synced))
     opens.told
-refused_opening s budget steps node number sink old mid w v k os o at end.ReadFault r start left within its counts opens =
+refused_opening s budget steps node number_ sink old mid w v k os o at end.ReadFault r start left within its counts opens =
     refused_halts s budget start sink old mid v opens.text end.ReadFault opens.well r
-refused_opening s budget steps node number sink old mid w v k os o at end.WriteFault r start left within its counts opens =
+refused_opening s budget steps node number_ sink old mid w v k os o at end.WriteFault r start left within its counts opens =
     refused_halts s budget start sink old mid v opens.text end.WriteFault opens.well r
-refused_opening s budget steps node number sink old mid w v k os o at end.Memory r start left within its counts opens = tt
-refused_opening s budget steps node number sink old mid w v k os o at (end.Ragged file count) r start left within its counts opens = absurd r
-refused_opening s budget steps node number sink old mid w v k os o at (end.StepsSpent count) r start left within its counts opens = absurd r
-refused_opening s budget steps node number sink old mid w v k os o at (end.IoStop status_ statement) r start left within its counts opens = absurd r
-refused_opening s budget steps node number sink old mid w v k os o at (end.Fault kind statement step) r start left within its counts opens = absurd r
+refused_opening s budget steps node number_ sink old mid w v k os o at end.Memory r start left within its counts opens = tt
+refused_opening s budget steps node number_ sink old mid w v k os o at (end.Ragged file count) r start left within its counts opens = absurd r
+refused_opening s budget steps node number_ sink old mid w v k os o at (end.StepsSpent count) r start left within its counts opens = absurd r
+refused_opening s budget steps node number_ sink old mid w v k os o at (end.IoStop status_ statement) r start left within its counts opens = absurd r
+refused_opening s budget steps node number_ sink old mid w v k os o at (end.Fault kind statement step) r start left within its counts opens = absurd r
 
-pub open_of : (o : Op) (number : ℕ) → IsOpenOf o number → (fine : ℕ) × (bad : ℕ) × (o ≡ op.Open number fine bad)
-open_of (op.Open k fine bad) number is = (fine, bad, ap (λ (n : ℕ). op.Open n fine bad) is)
-open_of (op.Skip to) number is = absurd is
-open_of (op.Assign to) number is = absurd is
-open_of (op.Show to) number is = absurd is
-open_of (op.SetCount to) number is = absurd is
-open_of (op.CountDown to) number is = absurd is
-open_of (op.Compute fine size) number is = absurd is
-open_of (op.Test k held other) number is = absurd is
-open_of (op.Close k fine bad) number is = absurd is
-open_of (op.Read found end_ bad) number is = absurd is
-open_of (op.Write fine bad) number is = absurd is
-open_of op.Final number is = absurd is
+pub open_of : (o : Op) (number_ : ℕ) → IsOpenOf o number_ → (fine : ℕ) × (bad : ℕ) × (o ≡ op.Open number_ fine bad)
+open_of (op.Open k fine bad) number_ is = (fine, bad, ap (λ (n : ℕ). op.Open n fine bad) is)
+open_of (op.Skip to) number_ is = absurd is
+open_of (op.Assign to) number_ is = absurd is
+open_of (op.Show to) number_ is = absurd is
+open_of (op.SetCount to) number_ is = absurd is
+open_of (op.CountDown to) number_ is = absurd is
+open_of (op.Compute fine size) number_ is = absurd is
+open_of (op.Test k held other) number_ is = absurd is
+open_of (op.Close k fine bad) number_ is = absurd is
+open_of (op.Read found end_ bad) number_ is = absurd is
+open_of (op.Write fine bad) number_ is = absurd is
+open_of op.Final number_ is = absurd is

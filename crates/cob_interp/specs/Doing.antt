@@ -1,5 +1,5 @@
 -- What doing the part of a node comes to.
-use Rattle.std.specs.Prelude.{◌≡◌, ◌≤◌, ◌<◌, ◌+◌, ℕ, List, drop, Some, Result, Ok, Err}
+use Rattle.std.specs.Prelude.{◌≡◌, ◌≤◌, ◌<◌, ◌+◌, ℕ, true, List, drop, Some, Result, Ok, Err}
 use Rattle.cob_program.specs.declared.act.Opening.{Opening}
 use Rattle.cob_runs.specs.Effects.{act_at}
 use Rattle.cob_graph.specs.declared.graph.Node.{Node}
@@ -53,6 +53,14 @@ LeadsOpening s budget steps node number os k old new w v result =
     → ((x : Node) → node_at s.graph.now.nodes node ≡ Some x → steps + 1 ≡ passed left x)
     → Opens (program_of s) s.graph.now (paths_of s) start old w left steps node number os (drop k os)
     → ArrivesOpening (program_of s) s.graph.now (paths_of s) budget start new v steps number os (drop (k + 1) os) result
+
+-- from the first node of an OPEN on
+abbrev pub LeadsOver : Setting → ℕ → ℕ → ℕ → ℕ → List Opening → Outside → Outside → World → World → Result ℕ RunEnd → Type 0
+LeadsOver s budget steps node number os old new w v result =
+    (start : Outside) → steps < budget → act_at (program_of s) number ≡ Some (open_files os)
+    → ((x : Node) → node_at s.graph.now.nodes node ≡ Some x → x.starts ≡ true)
+    → Opens (program_of s) s.graph.now (paths_of s) start old w steps steps node number os os
+    → Arrives (program_of s) s.graph.now (paths_of s) budget start new v (steps + 1) result
 
 -- the operation opens the file of this number
 abbrev pub IsOpenOf : Op → ℕ → Type 0

@@ -3,7 +3,7 @@ ghost use Rattle.std.specs.Prelude.{◌≡◌, ◌+◌, ℕ, true, length, slice
 ghost use Rattle.batch_io.specs.SinkState.{SinkState};
 ghost use Rattle.cob_interp.specs.Running.{outside};
 ghost use Rattle.cob_interp.specs.Setting.{IsReady};
-ghost use Rattle.cob_interp.specs.Doing.{IsOpenOf, LeadsOpening};
+ghost use Rattle.cob_interp.specs.Doing.{IsOpenOf, LeadsOpening, LeadsOver};
 
 use crate::ends::RunEnd;
 use crate::nodes::do_part;
@@ -61,4 +61,32 @@ fn do_open<F: Files>(
     };
     ready_to_open(alloc, setting, files, world, opening)?;
     do_part(alloc, setting, &place, world, step)
+}
+
+/// Opens the files of an OPEN, from its first node on. Answers the node behind it.
+pub fn open_all<F: Files>(
+    alloc: Global,
+    setting: &Setting,
+    files: &mut F,
+    world: &mut World,
+    node: u32,
+    statement: u32,
+    openings: &[Opening],
+    step: u64,
+) -> Result<u32, RunEnd>
+    requires ready { IsReady setting.now }
+    requires whole { length world.old.storage ≡ setting.now.program.now.layout.storage }
+    ensures kept { length world.new.storage ≡ length world.old.storage }
+    ensures leads { (sink : SinkState) (budget steps : ℕ) → step ≡ steps + 1
+        → LeadsOver setting.now budget steps node statement openings.now
+            (outside (F.state files.old) sink) (outside (F.state files.new) sink) world.old world.new result }
+{
+    let mut at = do_open(alloc, setting, files, world, node, statement, openings, 0, step)?;
+    for number in 1..openings.len() {
+        if setting.rests_at(at) {
+            return Err(RunEnd::Memory);
+        }
+        at = do_open(alloc, setting, files, world, at, statement, openings, number, step)?;
+    }
+    Ok(at)
 }

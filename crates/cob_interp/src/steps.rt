@@ -13,8 +13,8 @@ use batch_io::Files;
 use cob_world::World;
 use std::alloc::Global;
 
-#[tactic(auto, using(crate::proofs::CallLemmas::is_close, crate::proofs::CallLemmas::plain_read, crate::proofs::CallLemmas::plain_other))]
 /// Does the part of a node of a step that is underway, but not of an OPEN. Answers the next node.
+#[tactic(auto, using(crate::proofs::CallLemmas::calls))]
 fn do_node<F: Files>(
     alloc: Global,
     setting: &Setting,
