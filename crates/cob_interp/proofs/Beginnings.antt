@@ -97,34 +97,34 @@ module _ (s : Setting) (start now : Outside) (w : World) (steps node : ℕ) (x :
       → Stands (program_of s) s.graph.now (paths_of s) start now w steps steps node
       → IsUnderway (program_of s) s.graph.now (paths_of s) start now w (steps + 1) node
   begins a its free stands = record {
-        left = steps;
-        stands = stands_on (program_of s) s.graph.now (paths_of s) start now w w steps steps node steps (steps + 1) node
-            (λ first told text st. begins_freely (program_of s) s.graph.now (paths_of s) first told text w steps node st 0 x at starts
-              (λ file_. ap (λ (o : Option Act). option_map_or (λ b. cut_by (program_of s) b (seen told (paths_of s) text w) file_) o false) its
-                ∙ uncut_act (program_of s) told (paths_of s) text w st.synced a free file_)
-              (ap (λ (o : Option Act). option_map_or (λ b. long_by (program_of s) x.statement b (seen told (paths_of s) text w)) o false) its
-                ∙ short_act (program_of s) told (paths_of s) text w st.synced x.statement a free))
-            stands;
-        counts = λ y there. let same : x ≡ y = cc in subst (λ (z : Node). steps + 1 ≡ passed steps z) same (passes_one steps x starts);
-      }
+    left = steps;
+    stands = stands_on (program_of s) s.graph.now (paths_of s) start now w w steps steps node steps (steps + 1) node
+        (λ first told text st. begins_freely (program_of s) s.graph.now (paths_of s) first told text w steps node st 0 x at starts
+        (λ file_. ap (λ (o : Option Act). option_map_or (λ b. cut_by (program_of s) b (seen told (paths_of s) text w) file_) o false) its
+        ∙ uncut_act (program_of s) told (paths_of s) text w st.synced a free file_)
+        (ap (λ (o : Option Act). option_map_or (λ b. long_by (program_of s) x.statement b (seen told (paths_of s) text w)) o false) its
+        ∙ short_act (program_of s) told (paths_of s) text w st.synced x.statement a free))
+        stands;
+    counts = λ y there. let same : x ≡ y = cc in subst (λ (z : Node). steps + 1 ≡ passed steps z) same (passes_one steps x starts);
+  }
 
   -- an OPEN begins with all its files
   pub begins_opening : (os : List Opening)
       → Stands (program_of s) s.graph.now (paths_of s) start now w steps steps node
       → Opens (program_of s) s.graph.now (paths_of s) start now w steps steps node x.statement os os
   begins_opening os stands = record {
-        text = stands.text;
-        well = stands.well;
-        told = opening (known_bytes start.files) (known_bytes now.files) stands.told;
-      } where
+    text = stands.text;
+    well = stands.well;
+    told = opening (known_bytes start.files) (known_bytes now.files) stands.told;
+  } where
     opening : (a b : Option Contents)
         → IfTold (λ first told. StandsIn (program_of s) s.graph.now (paths_of s) first told stands.text w steps steps node) a b
         → IfTold (λ first told. OpensIn (program_of s) s.graph.now (paths_of s) first told stands.text w steps steps node x.statement os os) a b
     opening None b t = tt
     opening (Some first) None t = absurd t
     opening (Some first) (Some told) t = record {
-          stands = t;
-          begin = seen told (paths_of s) stands.text w;
-          begins = goes_on (program_of s) s.graph.now (paths_of s) first told stands.text w steps node t 0 x at starts;
-          same = refl;
-        }
+      stands = t;
+      begin = seen told (paths_of s) stands.text w;
+      begins = goes_on (program_of s) s.graph.now (paths_of s) first told stands.text w steps node t 0 x at starts;
+      same = refl;
+    }

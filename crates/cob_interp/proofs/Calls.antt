@@ -53,7 +53,7 @@ module _ (l : Layout) (told now : Contents) (paths : List (List ℕ)) (text : Li
       let same : g ≡ f = cc in
       let there : sees.0 ≡ path = cc in
       let h_is : h ≡ seen_file told path f =
-          cc in
+      cc in
       rw (same, h_is) (called act place d f path but at follows)
 
   act_follows : (act : File → File × ℕ) (place : ℕ) (d : FileDecl) (f : File) (path : List ℕ) (decl : Option FileDecl)
@@ -110,10 +110,10 @@ module _ (l : Layout) (told : Contents) (paths : List (List ℕ)) (text : List �
   wrote : (d : FileDecl) (kept seen_ : World × ℕ) → CallFollows told paths text kept seen_
       → CallFollows told paths text (written_world l None d kept) (written_world l None d seen_)
   wrote d kept seen_ follows = record {
-        status = follows.status;
-        world = undefined_none (is_fine seen_.1) d seen_.0 ∙ follows.world ∙ ap (seen told paths text) (sym (undefined_none (is_fine kept.1) d kept.0));
-        synced = subst (λ (v : World). AreSynced told paths v.files) (sym (undefined_none (is_fine kept.1) d kept.0)) follows.synced;
-      }
+    status = follows.status;
+    world = undefined_none (is_fine seen_.1) d seen_.0 ∙ follows.world ∙ ap (seen told paths text) (sym (undefined_none (is_fine kept.1) d kept.0));
+    synced = subst (λ (v : World). AreSynced told paths v.files) (sym (undefined_none (is_fine kept.1) d kept.0)) follows.synced;
+  }
 
   wrote_on : (place rec_ : ℕ) (decl : Option FileDecl) (o other : Option File) → SeenAt told paths place o other
       → CallFollows told paths text (write_on l None place rec_ decl o w) (write_on l None place rec_ decl other (seen told paths text w))

@@ -55,11 +55,11 @@ module _ (p : Program) (number : ℕ) (told now : Contents) (paths : List (List 
         → status_of p number None (seen told paths text w) a b ≡ status_of p number None w a b
         → EdgeFollows a
     by_call a fine e f same = record {
-          effect_ = rw (effect_by_act p number w a b its, effect_by_act p number (seen told paths text w) a b its, e, f)
-              (by_status_follows now paths text p number w (seen told paths text w) kept seen_ follows fine);
-          status_ = status_by_act p number (seen told paths text w) a b its ∙ same ∙ sym (status_by_act p number w a b its);
-          sound = λ kind f_. by_status_sound p number w fine kept kind (sym e ∙ sym (effect_by_act p number w a b its) ∙ f_);
-        }
+      effect_ = rw (effect_by_act p number w a b its, effect_by_act p number (seen told paths text w) a b its, e, f)
+          (by_status_follows now paths text p number w (seen told paths text w) kept seen_ follows fine);
+      status_ = status_by_act p number (seen told paths text w) a b its ∙ same ∙ sym (status_by_act p number w a b its);
+      sound = λ kind f_. by_status_sound p number w fine kept kind (sym e ∙ sym (effect_by_act p number w a b its) ∙ f_);
+    }
 
   module _ (k : ℕ) (fs : List ℕ) (file : ℕ) (its : act_at p number ≡ Some (close_files fs)) (at : slice_get fs k ≡ Some file)
       (follows : CallFollows now paths text (close_one p.layout file w) (close_one p.layout file (seen told paths text w))) where
@@ -73,12 +73,12 @@ module _ (p : Program) (number : ℕ) (told now : Contents) (paths : List (List 
 
     pub close_edge : (a : Action) (m fine bad : ℕ) → Contains (op_edges (op.Close k fine bad)) (a, m) → EdgeFollows a
     close_edge a m fine bad c = elim (one_of_two _ _ _ c) [
-          inl e ↦ subst EdgeFollows (sym (ap (λ (x : Action × ℕ). x.0) e))
-              (by_call _ _ follows (close_files fs) its (action.Close k) true (close_effect w true) (close_effect (seen told paths text w) true) refl)
-        | inr e ↦ subst EdgeFollows (sym (ap (λ (x : Action × ℕ). x.0) e))
-              (by_call _ _ follows (close_files fs) its (action.Bad k) false (close_effect w false) (close_effect (seen told paths text w) false)
-              (close_status (seen told paths text w) ∙ ap Some follows.status ∙ sym (close_status w)))
-        ]
+      | inl e ↦ subst EdgeFollows (sym (ap (λ (x : Action × ℕ). x.0) e))
+          (by_call _ _ follows (close_files fs) its (action.Close k) true (close_effect w true) (close_effect (seen told paths text w) true) refl)
+      | inr e ↦ subst EdgeFollows (sym (ap (λ (x : Action × ℕ). x.0) e))
+          (by_call _ _ follows (close_files fs) its (action.Bad k) false (close_effect w false) (close_effect (seen told paths text w) false)
+          (close_status (seen told paths text w) ∙ ap Some follows.status ∙ sym (close_status w)))
+    ]
 
   module _ (k : ℕ) (os : List Opening) (o : Opening) (its : act_at p number ≡ Some (open_files os)) (at : slice_get os k ≡ Some o)
       (follows : CallFollows now paths text (open_one p.layout o w) (open_one p.layout o (seen told paths text w))) where
@@ -92,9 +92,9 @@ module _ (p : Program) (number : ℕ) (told now : Contents) (paths : List (List 
 
     pub open_edge : (a : Action) (m fine bad : ℕ) → Contains (op_edges (op.Open k fine bad)) (a, m) → EdgeFollows a
     open_edge a m fine bad c = elim (one_of_two _ _ _ c) [
-          inl e ↦ subst EdgeFollows (sym (ap (λ (x : Action × ℕ). x.0) e))
-              (by_call _ _ follows (open_files os) its (action.Open k) true (open_effect w true) (open_effect (seen told paths text w) true) refl)
-        | inr e ↦ subst EdgeFollows (sym (ap (λ (x : Action × ℕ). x.0) e))
-              (by_call _ _ follows (open_files os) its (action.Bad k) false (open_effect w false) (open_effect (seen told paths text w) false)
-              (open_status (seen told paths text w) ∙ ap Some follows.status ∙ sym (open_status w)))
-        ]
+      | inl e ↦ subst EdgeFollows (sym (ap (λ (x : Action × ℕ). x.0) e))
+          (by_call _ _ follows (open_files os) its (action.Open k) true (open_effect w true) (open_effect (seen told paths text w) true) refl)
+      | inr e ↦ subst EdgeFollows (sym (ap (λ (x : Action × ℕ). x.0) e))
+          (by_call _ _ follows (open_files os) its (action.Bad k) false (open_effect w false) (open_effect (seen told paths text w) false)
+          (open_status (seen told paths text w) ∙ ap Some follows.status ∙ sym (open_status w)))
+    ]

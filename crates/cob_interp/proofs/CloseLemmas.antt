@@ -59,7 +59,7 @@ pub own_synced : (told : Contents) (paths : List (List ℕ)) (fs : List File) (p
     → AreSynced told paths fs → slice_get paths place ≡ Some path → slice_get fs place ≡ Some f → IsSynced told path f
 own_synced told paths fs place path f s at has =
     let sees : SeenAt told paths place (Some f) (slice_get (seen_files told paths fs) place) =
-        subst (λ (o : Option File). SeenAt told paths place o (slice_get (seen_files told paths fs) place)) has (seen_at told paths fs place s) in
+    subst (λ (o : Option File). SeenAt told paths place o (slice_get (seen_files told paths fs) place)) has (seen_at told paths fs place s) in
     let same : sees.0 ≡ path = cc in
     subst (λ (x : List ℕ). IsSynced told x f) same sees.3
 
@@ -90,33 +90,33 @@ module _ (s : Setting) (budget : ℕ) (x : Place) (step node : ℕ) (sink : Sink
   leads_by (Ok to) done start within u =
       stands_readied (program_of s) s.graph.now (paths_of s) start sink old new ready.path _ ready.ready w v u.left step node step step to
       (λ first told now text e but it st.
-        let follows = edge_follows first told now text u.left but it st done.action to done.out in
-        let on = goes_where now (paths_of s) text _ _ v follows.effect_
-            (subst (λ (n : ℕ). effect (program_of s) n None w done.action ≡ Ok (Some v)) own done.does) in
-        subst (λ (n : ℕ). StandsIn (program_of s) s.graph.now (paths_of s) first now text v n step to) (sym (u.counts is.spot.node is.spot.stands))
-        (goes_over (program_of s) s.graph.now (paths_of s) first told now text w v u.left step step node to is.spot.node done.action st is.spot.stands
-        (is.spot.edges done.action to done.out) on.0
-        (subst (λ (n : ℕ). is_handled (program_of s) n done.action ≡ true) own done.goes_on) on.1
-        (others_keep first told now (paths_of s) file ready.path ready.is.path_ but st.others) st.free))
+      let follows = edge_follows first told now text u.left but it st done.action to done.out in
+      let on = goes_where now (paths_of s) text _ _ v follows.effect_
+      (subst (λ (n : ℕ). effect (program_of s) n None w done.action ≡ Ok (Some v)) own done.does) in
+      subst (λ (n : ℕ). StandsIn (program_of s) s.graph.now (paths_of s) first now text v n step to) (sym (u.counts is.spot.node is.spot.stands))
+      (goes_over (program_of s) s.graph.now (paths_of s) first told now text w v u.left step step node to is.spot.node done.action st is.spot.stands
+      (is.spot.edges done.action to done.out) on.0
+      (subst (λ (n : ℕ). is_handled (program_of s) n done.action ≡ true) own done.goes_on) on.1
+      (others_keep first told now (paths_of s) file ready.path ready.is.path_ but st.others) st.free))
       u.stands
   leads_by (Err (does.Fault kind)) done start within u =
       rests_readied (program_of s) s.graph.now (paths_of s) start sink old new ready.path _ ready.ready w v u.left step node budget _
       (λ first told now text e but it st.
-        let follows = edge_follows first told now text u.left but it st done.0.action done.0.to done.0.out in
-        absurd (follows.sound kind (subst (λ (n : ℕ). effect (program_of s) n None w done.0.action ≡ Err kind) own done.0.meets)))
+      let follows = edge_follows first told now text u.left but it st done.action done.to done.out in
+      absurd (follows.sound kind (subst (λ (n : ℕ). effect (program_of s) n None w done.action ≡ Err kind) own done.meets)))
       u.stands
   leads_by (Err (does.Stop status_)) done start within u =
       rests_readied (program_of s) s.graph.now (paths_of s) start sink old new ready.path _ ready.ready w v u.left step node budget _
       (λ first told now text e but it st.
-        let follows = edge_follows first told now text u.left but it st done.action done.to done.out in
-        let on = goes_where now (paths_of s) text _ _ v follows.effect_
-            (subst (λ (n : ℕ). effect (program_of s) n None w done.action ≡ Ok (Some v)) own done.does) in
-        subst (λ (n : ℕ). RestsIn (program_of s) s.graph.now (paths_of s) budget first now text v (Err (end.IoStop status_ n))) (sym own)
-        (stopped_by (program_of s) s.graph.now (paths_of s) first told now text w v u.left step node done.to is.spot.node done.action status_
-        step st is.spot.stands (u.counts is.spot.node is.spot.stands) (is.spot.edges done.action done.to done.out) on.0
-        (follows.status_ ∙ subst (λ (n : ℕ). status (program_of s) n None w done.action ≡ Some status_) own done.gives)
-        (subst (λ (n : ℕ). is_handled (program_of s) n done.action ≡ false) own done.stops) on.1
-        (others_keep first told now (paths_of s) file ready.path ready.is.path_ but st.others) st.free budget within))
+      let follows = edge_follows first told now text u.left but it st done.action done.to done.out in
+      let on = goes_where now (paths_of s) text _ _ v follows.effect_
+      (subst (λ (n : ℕ). effect (program_of s) n None w done.action ≡ Ok (Some v)) own done.does) in
+      subst (λ (n : ℕ). RestsIn (program_of s) s.graph.now (paths_of s) budget first now text v (Err (end.IoStop status_ n))) (sym own)
+      (stopped_by (program_of s) s.graph.now (paths_of s) first told now text w v u.left step node done.to is.spot.node done.action status_
+      step st is.spot.stands (u.counts is.spot.node is.spot.stands) (is.spot.edges done.action done.to done.out) on.0
+      (follows.status_ ∙ subst (λ (n : ℕ). status (program_of s) n None w done.action ≡ Some status_) own done.gives)
+      (subst (λ (n : ℕ). is_handled (program_of s) n done.action ≡ false) own done.stops) on.1
+      (others_keep first told now (paths_of s) file ready.path ready.is.path_ but st.others) st.free budget within))
       u.stands
   leads_by (Err does.Memory) done start within u = tt
 

@@ -52,19 +52,19 @@ module _ (now : Contents) (paths : List (List ℕ)) (text : List ℕ) where
   -- ---- a call on a file, by its status
 
   module _ (p : Program) (number : ℕ) (w u : World) (kept seen_ : World × ℕ) (follows : CallFollows now paths text kept seen_)
-      where
-    by_test : (test : ℕ → Bool) → Follows now paths text (taken_if (test kept.1) kept.0) (taken_if (test seen_.1) seen_.0)
-    by_test test = rw follows.status (taken_follows (test kept.1) kept.0 seen_.0 follows.world follows.synced)
+    where
+      by_test : (test : ℕ → Bool) → Follows now paths text (taken_if (test kept.1) kept.0) (taken_if (test seen_.1) seen_.0)
+      by_test test = rw follows.status (taken_follows (test kept.1) kept.0 seen_.0 follows.world follows.synced)
 
-    pub by_status_follows : (fine : Bool) → Follows now paths text (by_status p number None w fine kept) (by_status p number None u fine seen_)
-    by_status_follows true = by_test is_fine
-    by_status_follows false = by_test (λ n. not (is_fine n))
+      pub by_status_follows : (fine : Bool) → Follows now paths text (by_status p number None w fine kept) (by_status p number None u fine seen_)
+      by_status_follows true = by_test is_fine
+      by_status_follows false = by_test (λ n. not (is_fine n))
 
-    ended_follows : (status : ℕ) → Follows now paths text (ended_with p number None w status kept) (ended_with p number None u status seen_)
-    ended_follows status = by_test (λ n. n == status)
+      ended_follows : (status : ℕ) → Follows now paths text (ended_with p number None w status kept) (ended_with p number None u status seen_)
+      ended_follows status = by_test (λ n. n == status)
 
-    bad_read_follows : Follows now paths text (bad_read p number None w kept) (bad_read p number None u seen_)
-    bad_read_follows = by_test (λ n. not (is_fine n) && not (n == 10))
+      bad_read_follows : Follows now paths text (bad_read p number None w kept) (bad_read p number None u seen_)
+      bad_read_follows = by_test (λ n. not (is_fine n) && not (n == 10))
 
 -- ---- statements but OPEN and CLOSE
 
@@ -238,9 +238,11 @@ module _ (p : Program) (number : ℕ) (told : Contents) (paths : List (List ℕ)
   -- ---- DISPLAY
 
   shown_follows : (b : Act) → Follows told paths text (shown p number None w b) (shown p number None as_seen b)
-  shown_follows (act.show xs) =
-      (ap (λ (t : List ℕ). taken (record { storage = w.storage; counts = w.counts; files = seen_files told paths w.files; shown = t }))
-      (append_assoc text w.shown (line_of p.layout w.storage xs)), s)
+  shown_follows (act.show xs) = (
+    ap (λ (t : List ℕ). taken (record { storage = w.storage; counts = w.counts; files = seen_files told paths w.files; shown = t }))
+        (append_assoc text w.shown (line_of p.layout w.storage xs)),
+    s,
+  )
   shown_follows (perform body turns) = refl
   shown_follows (arith sum targets remainder size fine) = refl
   shown_follows (act.move x places) = refl

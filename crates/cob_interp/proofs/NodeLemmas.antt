@@ -6,7 +6,7 @@ use Rattle.cob_tree.specs.declared.fault.Kind.{Kind}
 use Rattle.cob_plan.specs.declared.does.DoEnd.{DoEnd}
 use Rattle.cob_plan.specs.declared.does.DoEnd.TheVariants as does
 use Rattle.cob_plan.specs.Plan.{IsSpot, IsStatement}
-use Rattle.cob_plan.specs.Doing.{Does, GoesTo, MeetsFault, IsLeft, StopsBy}
+use Rattle.cob_plan.specs.Doing.{Does, GoesTo, MeetsFault, StopsBy}
 use Rattle.cob_program.specs.ActView.{plain_act}
 use Rattle.cob_runs.specs.declared.action.Action.{Action}
 use Rattle.cob_runs.specs.State.{World}
@@ -43,11 +43,11 @@ module _ (s : Setting) (budget : ℕ) (x : Place) (step node : ℕ) (now : Outsi
   leads_by (Err (does.Fault kind)) done start within u =
       rests_on (program_of s) s.graph.now (paths_of s) budget start now w v u.left step node _
       (λ first told text st. subst (λ (n : ℕ). RestsIn (program_of s) s.graph.now (paths_of s) budget first told text v (Err (end.Fault kind n step))) (sym own)
-      (plain_faults (program_of s) s.graph.now (paths_of s) first told text apart w v u.left step node done.0.to is.spot.node
-      done.0.action (plain_act x.statement.now.act.now) st is.spot.stands (u.counts is.spot.node is.spot.stands) its plain
-      (is.spot.edges done.0.action done.0.to done.0.out) budget within kind
-      (subst (λ (n : ℕ). effect (program_of s) n None w done.0.action ≡ Err kind) own done.0.meets)
-      done.1.files done.1.shown))
+      (plain_faults (program_of s) s.graph.now (paths_of s) first told text apart w v u.left step node done.to is.spot.node
+      done.action (plain_act x.statement.now.act.now) st is.spot.stands (u.counts is.spot.node is.spot.stands) its plain
+      (is.spot.edges done.action done.to done.out) budget within kind
+      (subst (λ (n : ℕ). effect (program_of s) n None w done.action ≡ Err kind) own done.meets)
+      (ap (λ (z : World). z.files) done.others) (ap (λ (z : World). z.shown) done.others)))
       u.stands
   leads_by (Err (does.Stop status_)) done start within u =
       rests_on (program_of s) s.graph.now (paths_of s) budget start now w v u.left step node _

@@ -64,12 +64,12 @@ module _ (p : Program) (g : Graph) (paths : List (List ℕ)) where
       → AreFree p (told_files first paths) begun_
       → StandsIn p g paths first now text v (passed left x) begun_ m
   goes_over first told now text w v left begun begun_ n m x a s at out does handled synced others free = record {
-        tells = s.tells;
-        way = onward x a m s.way at out does handled;
-        synced = synced;
-        others = others;
-        free = free;
-      }
+    tells = s.tells;
+    way = onward x a m s.way at out does handled;
+    synced = synced;
+    others = others;
+    free = free;
+  }
 
   -- the edge is taken with a status that nothing handles
   pub stopped_by : (first told now : Contents) (text : List ℕ) (w v : World) (left step n m : ℕ) (x : Node) (a : Action) (status_ : ℕ)
@@ -84,7 +84,7 @@ module _ (p : Program) (g : Graph) (paths : List (List ℕ)) where
   stopped_by first told now text w v left step n m x a status_ begun s at counts out does gives unhandled synced others free budget within =
       let over = s.tells.stops left n (seen told paths text w) (seen now paths text v) x a m status_ s.way at out does gives unhandled in
       let over_ : IsOverAfter p g (told_files first paths) [] step (IoStop status_ x.statement) (seen now paths text v) =
-          subst (λ (k : ℕ). IsOverAfter p g (told_files first paths) [] k (IoStop status_ x.statement) (seen now paths text v)) (sym counts) over in
+      subst (λ (k : ℕ). IsOverAfter p g (told_files first paths) [] k (IoStop status_ x.statement) (seen now paths text v)) (sym counts) over in
       record {
         steps = step;
         answer = record { within = within; outcome = over_.outcome; before = over_.before; free = free };
@@ -120,9 +120,9 @@ module _ (p : Program) (g : Graph) (paths : List (List ℕ)) where
           → RestsIn p g paths budget first told text v (Err (end.Fault kind x.statement step))
       plain_faults kind meets files shown =
           let over = s.tells.faults left n (seen told paths text w) x a m kind s.way at out
-              (faults_where told paths text _ _ kind follows meets) in
+          (faults_where told paths text _ _ kind follows meets) in
           let over_ : IsOverAfter p g (told_files first paths) [] step (Fault kind x.statement) (seen told paths text w) =
-              subst (λ (k : ℕ). IsOverAfter p g (told_files first paths) [] k (Fault kind x.statement) (seen told paths text w)) (sym counts) over in
+          subst (λ (k : ℕ). IsOverAfter p g (told_files first paths) [] k (Fault kind x.statement) (seen told paths text w)) (sym counts) over in
           record {
             steps = step;
             answer = (refl, record { within = within; outcome = over_.outcome; before = over_.before; free = s.free });
@@ -149,7 +149,7 @@ module _ (p : Program) (g : Graph) (paths : List (List ℕ)) where
         → RestsIn p g paths budget first told text w (Ok e)
     ends_well last within e counted =
         let over = s.tells.ends steps (seen told paths text w)
-            (subst (λ (k : ℕ). Way p g (told_files first paths) [] steps k (seen told paths text w)) last s.way) in
+        (subst (λ (k : ℕ). Way p g (told_files first paths) [] steps k (seen told paths text w)) last s.way) in
         record {
           steps = steps;
           answer = (counted, record { within = within; outcome = over.outcome; before = over.before; free = s.free });
@@ -165,43 +165,49 @@ module _ (p : Program) (g : Graph) (paths : List (List ℕ)) where
 
       pub spends : steps ≡ budget → RestsIn p g paths budget first told text w (Err (end.StepsSpent budget))
       spends spent = record {
-            steps = steps;
-            answer = (refl, (spent, record {
-                outcome = subst (λ (k : ℕ). (state_after p (told_files first paths) k).outcome ≡ Going) spent goes_on.outcome;
-                free = subst (AreFree p (told_files first paths)) spent s.free;
-              }));
-            files = ap (λ (u : World). u.files) goes_on.world;
-            shown = ap (λ (u : World). u.shown) goes_on.world;
-            synced = s.synced;
-            others = s.others;
-          }
+        steps = steps;
+        answer = (
+          refl,
+          (
+            spent,
+            record {
+              outcome = subst (λ (k : ℕ). (state_after p (told_files first paths) k).outcome ≡ Going) spent goes_on.outcome;
+              free = subst (AreFree p (told_files first paths)) spent s.free;
+            },
+          ),
+        );
+        files = ap (λ (u : World). u.files) goes_on.world;
+        shown = ap (λ (u : World). u.shown) goes_on.world;
+        synced = s.synced;
+        others = s.others;
+      }
 
       -- the next statement is a READ at a ragged end
       pub is_ragged : steps < budget → (file count : ℕ) → IsCutAt p (told_files first paths) budget file count x.statement (seen told paths text w)
           → RestsIn p g paths budget first told text w (Err (end.Ragged file count))
       is_ragged within file count cut = record {
-            steps = steps;
-            answer = record {
-              within = within;
-              outcome = goes_on.outcome;
-              free = s.free;
-              stops = rw (goes_on.next, goes_on.world) cut;
-            };
-            files = ap (λ (u : World). u.files) goes_on.world;
-            shown = ap (λ (u : World). u.shown) goes_on.world;
-            synced = s.synced;
-            others = s.others;
-          }
+        steps = steps;
+        answer = record {
+          within = within;
+          outcome = goes_on.outcome;
+          free = s.free;
+          stops = rw (goes_on.next, goes_on.world) cut;
+        };
+        files = ap (λ (u : World). u.files) goes_on.world;
+        shown = ap (λ (u : World). u.shown) goes_on.world;
+        synced = s.synced;
+        others = s.others;
+      }
 
       -- nothing stops the step that begins here
       pub begins_freely : ((file : ℕ) → meets_cut p x.statement (seen told paths text w) file ≡ false)
           → meets_too_long p x.statement (seen told paths text w) ≡ false
           → StandsIn p g paths first told text w steps (steps + 1) n
       begins_freely uncut short = record {
-            tells = s.tells;
-            way = s.way;
-            synced = s.synced;
-            others = s.others;
-            free = one_more p (told_files first paths) steps s.free
-                (record { uncut = rw (goes_on.next, goes_on.world) uncut; short = rw (goes_on.next, goes_on.world) short });
-          }
+        tells = s.tells;
+        way = s.way;
+        synced = s.synced;
+        others = s.others;
+        free = one_more p (told_files first paths) steps s.free
+            (record { uncut = rw (goes_on.next, goes_on.world) uncut; short = rw (goes_on.next, goes_on.world) short });
+      }

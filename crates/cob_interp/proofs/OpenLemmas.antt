@@ -33,7 +33,7 @@ seen_file_at : (told : Contents) (paths : List (List ℕ)) (fs : List File) (pla
     → slice_get (seen_files told paths fs) place ≡ Some (seen_file told path f)
 seen_file_at told paths fs place path f s at has =
     let sees : SeenAt told paths place (Some f) (slice_get (seen_files told paths fs) place) =
-        subst (λ (o : Option File). SeenAt told paths place o (slice_get (seen_files told paths fs) place)) has (seen_at told paths fs place s) in
+    subst (λ (o : Option File). SeenAt told paths place o (slice_get (seen_files told paths fs) place)) has (seen_at told paths fs place s) in
     let same : sees.0 ≡ path = cc in
     sees.2 ∙ ap (λ (x : List ℕ). Some (seen_file told x f)) same
 
@@ -85,43 +85,43 @@ module _ (s : Setting) (w : World) (o : Opening) (path : List ℕ) (is : IsPath 
     (has : slice_get w.files o.file ≡ Some f) where
   pub output_ready : (old new : FilesState) → f.mode ≡ closed → o.output ≡ true → Puts old new path [] → ReadyToOpen s w w o old new
   output_ready old new mode output puts = record {
-        path = path;
-        file = f;
-        is = is;
-        has = has;
-        ready = record {
-          well = puts.well;
-          known = λ told e.
-              let k = puts.known told e in
-              record { now = k.now; is = k.is; others = k.others; it = rw (mode, output) k.it };
-        };
-        same = λ told text e synced. (refl, synced, rw output refl);
-      }
+    path = path;
+    file = f;
+    is = is;
+    has = has;
+    ready = record {
+      well = puts.well;
+      known = λ told e.
+          let k = puts.known told e in
+          record { now = k.now; is = k.is; others = k.others; it = rw (mode, output) k.it };
+    };
+    same = λ told text e synced. (refl, synced, rw output refl);
+  }
 
   not_long_open : (told : Contents) (text : List ℕ) → (m : Mode) → f.mode ≡ m → (m ≡ closed → ⊥) → AreSynced told (paths_of s) w.files
       → file_is_long (program_of s) o (seen told (paths_of s) text w) ≡ false
   not_long_open told text m mode open_ synced =
       rw (seen_file_at told (paths_of s) w.files o.file path f synced is.path_ has) (not_long o.output m mode open_) where
-    not_long : (b : Bool) (m : Mode) → f.mode ≡ m → (m ≡ closed → ⊥) → (not b && is_long (seen_file told path f)) ≡ false
-    not_long true m e n = refl
-    not_long false closed e n = absurd (n refl)
-    not_long false (reading ended) e n = rw e refl
-    not_long false writing e n = rw e refl
+        not_long : (b : Bool) (m : Mode) → f.mode ≡ m → (m ≡ closed → ⊥) → (not b && is_long (seen_file told path f)) ≡ false
+        not_long true m e n = refl
+        not_long false closed e n = absurd (n refl)
+        not_long false (reading ended) e n = rw e refl
+        not_long false writing e n = rw e refl
 
   -- the file is open: its status will tell
   pub open_ready : (old : FilesState) → (f.mode ≡ closed → ⊥) → ReadyToOpen s w w o old old
   open_ready old open_ = record {
-        path = path;
-        file = f;
-        is = is;
-        has = has;
-        ready = record {
-          well = record { reading = refl; writing = refl; ids = ids_stay old };
-          known = λ told e.
-              record { now = told; is = e; others = λ name apart. refl; it = agrees told o.output f.mode open_ };
-        };
-        same = λ told text e synced. (refl, synced, not_long_open told text f.mode refl open_ synced);
-      } where
+    path = path;
+    file = f;
+    is = is;
+    has = has;
+    ready = record {
+      well = record { reading = refl; writing = refl; ids = ids_stay old };
+      known = λ told e.
+          record { now = told; is = e; others = λ name apart. refl; it = agrees told o.output f.mode open_ };
+    };
+    same = λ told text e synced. (refl, synced, not_long_open told text f.mode refl open_ synced);
+  } where
     agrees : (told : Contents) (b : Bool) (m : Mode) → (m ≡ closed → ⊥) → IsReadyToOpenIn told told path b m f.content
     agrees told b closed n = absurd (n refl)
     agrees told b (reading ended) n = refl
@@ -139,9 +139,9 @@ module _ (s : Setting) (w : World) (o : Opening) (path : List ℕ) (is : IsPath 
         let content = loads.content in
         let g = file content f.mode f.place in
         let files_ : v.files ≡ slice_set w.files o.file g =
-            ap (λ (u : World). u.files) loads.world ∙ refilled_is w.files o.file f content has in
+        ap (λ (u : World). u.files) loads.world ∙ refilled_is w.files o.file f content has in
         let world_ : v ≡ with_files w (slice_set w.files o.file g) =
-            loads.world ∙ ap (with_files w) (refilled_is w.files o.file f content has) in
+        loads.world ∙ ap (with_files w) (refilled_is w.files o.file f content has) in
         record {
           path = path;
           file = g;
@@ -157,19 +157,20 @@ module _ (s : Setting) (w : World) (o : Opening) (path : List ℕ) (is : IsPath 
             };
           };
           same = λ told text e synced.
-              let r = refilled_seen told f mode_ content (paths_of s) w.files o.file synced has in
-              (ap (seen told (paths_of s) text) world_
-              ∙ ap (λ (fs : List File). record { storage = w.storage; counts = w.counts; files = fs; shown = text ++ w.shown }) r.0,
-              subst (λ (fs : List File). AreSynced told (paths_of s) fs) (sym files_) r.1,
-              seen_length told text content (loads.reads.is told e) synced ∙ short_is_not_long content loads.reads.short);
+              let r = refilled_seen told f mode_ content (paths_of s) w.files o.file synced has in (
+                ap (seen told (paths_of s) text) world_
+                    ∙ ap (λ (fs : List File). record { storage = w.storage; counts = w.counts; files = fs; shown = text ++ w.shown }) r.0,
+                subst (λ (fs : List File). AreSynced told (paths_of s) fs) (sym files_) r.1,
+                seen_length told text content (loads.reads.is told e) synced ∙ short_is_not_long content loads.reads.short,
+              );
         }
 
     pub long_here : (count : ℕ) → IsLongNamed old new path count → IsLongHere s w o old new count
     long_here count long = record {
-          well = long.well;
-          counted = long.counted;
-          long = λ told text e synced. seen_length told text (get told path) refl synced ∙ long_is_long (get told path) (long.long told e);
-        }
+      well = long.well;
+      counted = long.counted;
+      long = λ told text e synced. seen_length told text (get told path) refl synced ∙ long_is_long (get told path) (long.long told e);
+    }
 
 -- why the load was refused
 pub refused_load : (s : Setting) (w : World) (o : Opening) (path : List ℕ) (is : IsPath s o.file path) (f : File)

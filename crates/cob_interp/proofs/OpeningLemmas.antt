@@ -53,7 +53,7 @@ told_readied : (P Q : Contents → Contents → Type 0) (a : Option Contents) (o
 told_readied P Q a old new path IsIt ready f t =
     told_on P Q a (known_bytes old) (known_bytes new)
     (λ first told e h. let k = ready.known told e in
-      subst (IfTold Q (Some first)) (sym k.is) (f first told k.now e k.others k.it h))
+    subst (IfTold Q (Some first)) (sym k.is) (f first told k.now e k.others k.it h))
     t
 
 module _ (p : Program) (g : Graph) (paths : List (List ℕ)) (first told : Contents) (text : List ℕ) (w : World)
@@ -67,20 +67,20 @@ module _ (p : Program) (g : Graph) (paths : List (List ℕ)) (first told : Conte
   pub opens_freely : meets_long p number rest (seen told paths text w) ≡ false → AreFree p (told_files first paths) (steps + 1)
   opens_freely short =
       one_more p (told_files first paths) steps s.stands.free (record {
-          uncut = λ file. rw (s.begins.next, s.begins.world)
-              (ap (λ (a : Option Act). option_map_or (λ b. cut_by p b s.begin file) a false) its);
-          short = begins_with ∙ s.same ∙ short;
-        })
+        uncut = λ file. rw (s.begins.next, s.begins.world)
+            (ap (λ (a : Option Act). option_map_or (λ b. cut_by p b s.begin file) a false) its);
+        short = begins_with ∙ s.same ∙ short;
+      })
 
   -- and where one is met it stops the step
   pub opens_long : (budget count : ℕ) → steps < budget → count ≡ 67108865 → meets_long p number rest (seen told paths text w) ≡ true
       → IsEnd p (told_files first paths) budget (Err (end.Long count)) steps
   opens_long budget count within counted long = record {
-        within = within;
-        outcome = s.begins.outcome;
-        free = s.stands.free;
-        stops = record { long = begins_with ∙ s.same ∙ long; counted = counted };
-      }
+    within = within;
+    outcome = s.begins.outcome;
+    free = s.stands.free;
+    stops = record { long = begins_with ∙ s.same ∙ long; counted = counted };
+  }
 
 -- the OPEN is done
 pub opened_all : (s : Setting) (start now : Outside) (w : World) (steps node number : ℕ) (os : List Opening)
@@ -88,22 +88,22 @@ pub opened_all : (s : Setting) (start now : Outside) (w : World) (steps node num
     → Opens (program_of s) s.graph.now (paths_of s) start now w (steps + 1) steps node number os []
     → Stands (program_of s) s.graph.now (paths_of s) start now w (steps + 1) (steps + 1) node
 opened_all s start now w steps node number os its opens = record {
-      text = opens.text;
-      well = opens.well;
-      told = all (known_bytes start.files) (known_bytes now.files) opens.told;
-    } where
+  text = opens.text;
+  well = opens.well;
+  told = all (known_bytes start.files) (known_bytes now.files) opens.told;
+} where
   all : (a b : Option Contents)
       → IfTold (λ first told. OpensIn (program_of s) s.graph.now (paths_of s) first told opens.text w (steps + 1) steps node number os []) a b
       → IfTold (λ first told. StandsIn (program_of s) s.graph.now (paths_of s) first told opens.text w (steps + 1) (steps + 1) node) a b
   all None b t = tt
   all (Some first) None t = absurd t
   all (Some first) (Some told) t = record {
-        tells = t.stands.tells;
-        way = t.stands.way;
-        synced = t.stands.synced;
-        others = t.stands.others;
-        free = opens_freely (program_of s) s.graph.now (paths_of s) first told opens.text w (steps + 1) steps node number os [] its t refl;
-      }
+    tells = t.stands.tells;
+    way = t.stands.way;
+    synced = t.stands.synced;
+    others = t.stands.others;
+    free = opens_freely (program_of s) s.graph.now (paths_of s) first told opens.text w (steps + 1) steps node number os [] its t refl;
+  }
 
 -- ---- one file
 
@@ -151,9 +151,11 @@ module _ (s : Setting) (budget steps step node : ℕ) (sink : SinkState) (old mi
           → (effect (program_of s) number None seen_before a ≡ Ok (Some (seen now (paths_of s) text v))) × AreSynced now (paths_of s) v.files
       goes_seen does =
           let on = goes_where now (paths_of s) text _ _ v edge_follows.effect_
-              (subst (λ (n : ℕ). effect (program_of s) n None u a ≡ Ok (Some v)) own does) in
-          (subst (λ (z : World). effect (program_of s) number None z a ≡ Ok (Some (seen now (paths_of s) text v)))
-          (ready.same told text e t.stands.synced).0 on.0, on.1)
+          (subst (λ (n : ℕ). effect (program_of s) n None u a ≡ Ok (Some v)) own does) in (
+            subst (λ (z : World). effect (program_of s) number None z a ≡ Ok (Some (seen now (paths_of s) text v)))
+                (ready.same told text e t.stands.synced).0 on.0,
+            on.1,
+          )
 
       others_ : KeepsNames first now (paths_of s)
       others_ = others_keep first told now (paths_of s) o.file ready.path ready.is.path_ but t.stands.others
@@ -185,10 +187,10 @@ module _ (s : Setting) (budget steps step node : ℕ) (sink : SinkState) (old mi
           let unhandled = subst (λ (n : ℕ). is_handled (program_of s) n a ≡ false) own unhandled_ in
           let on = goes_seen does in
           let short : meets_long (program_of s) number (drop k os) seen_before ≡ false =
-              ap (λ (r : List Opening). meets_long (program_of s) number r seen_before) (drop_at os k o at)
-              ∙ meets_none (program_of s) number k os o its at seen_before (seen now (paths_of s) text v) (drop (k + 1) os)
-              (ready.same told text e t.stands.synced).2 _
-              (stops_edge (program_of s) number k os o its at seen_before (seen now (paths_of s) text v) a m fine bad out_ on.0 unhandled) in
+          ap (λ (r : List Opening). meets_long (program_of s) number r seen_before) (drop_at os k o at)
+          ∙ meets_none (program_of s) number k os o its at seen_before (seen now (paths_of s) text v) (drop (k + 1) os)
+          (ready.same told text e t.stands.synced).2 _
+          (stops_edge (program_of s) number k os o its at seen_before (seen now (paths_of s) text v) a m fine bad out_ on.0 unhandled) in
           let free = opens_freely (program_of s) s.graph.now (paths_of s) first told text w left steps node number os (drop k os) its t short in
           subst (λ (n : ℕ). RestsIn (program_of s) s.graph.now (paths_of s) budget first now text v (Err (end.IoStop status_ n))) (sym own)
           (stopped_by (program_of s) s.graph.now (paths_of s) first told now text w v left step node m is.spot.node a status_ steps t.stands
@@ -202,31 +204,31 @@ module _ (s : Setting) (budget steps step node : ℕ) (sink : SinkState) (old mi
         → ArrivesOpening (program_of s) s.graph.now (paths_of s) budget start (outside mid sink) v steps number os (drop (k + 1) os)
         (answered x.statement.now.number step outcome)
     arrives (Ok to) done = record {
-          text = text;
-          well = well_;
-          told = told_readied Before
-              (λ first told. OpensIn (program_of s) s.graph.now (paths_of s) first told text v (steps + 1) steps to number os (drop (k + 1) os))
-              (known_bytes start.files) old mid ready.path _ ready.ready
-              (λ first told now e but it t. goes_opening first told now e but it t done.action to done.out done.does done.goes_on) opens.told;
-        }
+      text = text;
+      well = well_;
+      told = told_readied Before
+          (λ first told. OpensIn (program_of s) s.graph.now (paths_of s) first told text v (steps + 1) steps to number os (drop (k + 1) os))
+          (known_bytes start.files) old mid ready.path _ ready.ready
+          (λ first told now e but it t. goes_opening first told now e but it t done.action to done.out done.does done.goes_on) opens.told;
+    }
     arrives (Err (does.Fault kind)) done = record {
-          text = text;
-          well = well_;
-          told = told_readied Before
-              (λ first told. RestsIn (program_of s) s.graph.now (paths_of s) budget first told text v (Err (end.Fault kind x.statement.now.number step)))
-              (known_bytes start.files) old mid ready.path _ ready.ready
-              (λ first told now e but it t. absurd ((edge_follows first told now e but it t done.0.action done.0.to done.0.out).sound kind
-                (subst (λ (n : ℕ). effect (program_of s) n None u done.0.action ≡ Err kind) own done.0.meets))) opens.told;
-        }
+      text = text;
+      well = well_;
+      told = told_readied Before
+          (λ first told. RestsIn (program_of s) s.graph.now (paths_of s) budget first told text v (Err (end.Fault kind x.statement.now.number step)))
+          (known_bytes start.files) old mid ready.path _ ready.ready
+          (λ first told now e but it t. absurd ((edge_follows first told now e but it t done.action done.to done.out).sound kind
+          (subst (λ (n : ℕ). effect (program_of s) n None u done.action ≡ Err kind) own done.meets))) opens.told;
+    }
     arrives (Err (does.Stop status_)) done = record {
-          text = text;
-          well = well_;
-          told = told_readied Before
-              (λ first told. RestsIn (program_of s) s.graph.now (paths_of s) budget first told text v (Err (end.IoStop status_ x.statement.now.number)))
-              (known_bytes start.files) old mid ready.path _ ready.ready
-              (λ first told now e but it t. stops_opening first told now e but it t done.action done.to done.out status_ done.does done.gives done.stops)
-              opens.told;
-        }
+      text = text;
+      well = well_;
+      told = told_readied Before
+          (λ first told. RestsIn (program_of s) s.graph.now (paths_of s) budget first told text v (Err (end.IoStop status_ x.statement.now.number)))
+          (known_bytes start.files) old mid ready.path _ ready.ready
+          (λ first told now e but it t. stops_opening first told now e but it t done.action done.to done.out status_ done.does done.gives done.stops)
+          opens.told;
+    }
     arrives (Err does.Memory) done = tt
 
   pub open_leads : (number_ : ℕ) → x.spot.statement ≡ number_ → (result : Result ℕ RunEnd) → DoesPart s x step u v result
@@ -244,9 +246,11 @@ long_told : (p : Program) (g : Graph) (paths : List (List ℕ)) (budget : ℕ) (
     → IfTold (λ first told. OpensIn p g paths first told text_ w left steps node number_ os rest) a b → IsTooLong p g paths budget a count
 long_told p g paths budget None b text_ w left steps node number_ count os rest its within counted long t = tt
 long_told p g paths budget (Some first) None text_ w left steps node number_ count os rest its within counted long t = absurd t
-long_told p g paths budget (Some first) (Some told) text_ w left steps node number_ count os rest its within counted long t =
-    (steps, opens_long p g paths first told text_ w left steps node number_ os rest its t budget count within counted
-    (long told refl t.stands.synced))
+long_told p g paths budget (Some first) (Some told) text_ w left steps node number_ count os rest its within counted long t = (
+  steps,
+  opens_long p g paths first told text_ w left steps node number_ os rest its t budget count within counted
+      (long told refl t.stands.synced),
+)
 
 pub refused_opening : (s : Setting) (budget steps node number_ : ℕ) (sink : SinkState) (old mid : FilesState) (w v : World) (k : ℕ)
     (os : List Opening) (o : Opening) → slice_get os k ≡ Some o → (e : RunEnd) → IsRefusedToOpen s w o old mid e
@@ -255,7 +259,7 @@ refused_opening s budget steps node number_ sink old mid w v k os o at (end.Long
     long_told (program_of s) s.graph.now (paths_of s) budget (known_bytes start.files) (known_bytes old) opens.text w left steps node number_ count
     os (drop k os) its within r.counted
     (λ told e synced. ap (λ (x : List Opening). meets_long (program_of s) number_ x (seen told (paths_of s) opens.text w)) (drop_at os k o at)
-      ∙ meets_this (program_of s) number_ k os o its at (seen told (paths_of s) opens.text w) (drop (k + 1) os) (r.long told opens.text e synced))
+    ∙ meets_this (program_of s) number_ k os o its at (seen told (paths_of s) opens.text w) (drop (k + 1) os) (r.long told opens.text e synced))
     opens.told
 refused_opening s budget steps node number_ sink old mid w v k os o at end.ReadFault r start left within its counts opens =
     refused_halts s budget start sink old mid v opens.text end.ReadFault opens.well r

@@ -64,40 +64,40 @@ module _ (p : Program) (number k : ℕ) (os : List Opening) (o : Opening) (its :
     pub goes_edge : (a : Action) (m fine bad : ℕ) → Contains (op_edges (op.Open k fine bad)) (a, m)
         → effect p number None z a ≡ Ok (Some u) → is_handled p number a ≡ true → Edge Going
     goes_edge a m fine bad c does handled = elim (one_of_two _ _ _ c) [
-          inl e ↦
-            let same : a ≡ action.Open k = ap (λ (x : Action × ℕ). x.0) e in
-            let t = taken_test _ _ u (sym (effect_as (action.Open k) true refl) ∙ subst (λ (x : Action). effect p number None z x ≡ Ok (Some u)) same does) in
-            record {
-              world = t.1;
-              outcome = going_where true (has_status p.layout o.file) (open_one p.layout o z).1 t.0 (inl refl);
-            }
-        | inr e ↦
-            let same : a ≡ action.Bad k = ap (λ (x : Action × ℕ). x.0) e in
-            let t = taken_test _ _ u (sym (effect_as (action.Bad k) false refl) ∙ subst (λ (x : Action). effect p number None z x ≡ Ok (Some u)) same does) in
-            record {
-              world = t.1;
-              outcome = going_where false (has_status p.layout o.file) (open_one p.layout o z).1 (not_true _ t.0)
-                  (inr (sym handled_as ∙ subst (λ (x : Action). is_handled p number x ≡ true) same handled));
-            }
-        ]
+      | inl e ↦
+          let same : a ≡ action.Open k = ap (λ (x : Action × ℕ). x.0) e in
+          let t = taken_test _ _ u (sym (effect_as (action.Open k) true refl) ∙ subst (λ (x : Action). effect p number None z x ≡ Ok (Some u)) same does) in
+          record {
+            world = t.1;
+            outcome = going_where true (has_status p.layout o.file) (open_one p.layout o z).1 t.0 (inl refl);
+          }
+      | inr e ↦
+          let same : a ≡ action.Bad k = ap (λ (x : Action × ℕ). x.0) e in
+          let t = taken_test _ _ u (sym (effect_as (action.Bad k) false refl) ∙ subst (λ (x : Action). effect p number None z x ≡ Ok (Some u)) same does) in
+          record {
+            world = t.1;
+            outcome = going_where false (has_status p.layout o.file) (open_one p.layout o z).1 (not_true _ t.0)
+                (inr (sym handled_as ∙ subst (λ (x : Action). is_handled p number x ≡ true) same handled));
+          }
+    ]
 
     pub stops_edge : (a : Action) (m fine bad : ℕ) → Contains (op_edges (op.Open k fine bad)) (a, m)
         → effect p number None z a ≡ Ok (Some u) → is_handled p number a ≡ false
         → Edge (IoStop (open_one p.layout o z).1 number)
     stops_edge a m fine bad c does handled = elim (one_of_two _ _ _ c) [
-          inl e ↦
-            let same : a ≡ action.Open k = ap (λ (x : Action × ℕ). x.0) e in
-            let h : true ≡ false = subst (λ (x : Action). is_handled p number x ≡ false) same handled in
-            cc
-        | inr e ↦
-            let same : a ≡ action.Bad k = ap (λ (x : Action × ℕ). x.0) e in
-            let t = taken_test _ _ u (sym (effect_as (action.Bad k) false refl) ∙ subst (λ (x : Action). effect p number None z x ≡ Ok (Some u)) same does) in
-            record {
-              world = t.1;
-              outcome = stopping_where (has_status p.layout o.file) (open_one p.layout o z).1 (not_true _ t.0)
-                  (sym handled_as ∙ subst (λ (x : Action). is_handled p number x ≡ false) same handled);
-            }
-        ]
+      | inl e ↦
+          let same : a ≡ action.Open k = ap (λ (x : Action × ℕ). x.0) e in
+          let h : true ≡ false = subst (λ (x : Action). is_handled p number x ≡ false) same handled in
+          cc
+      | inr e ↦
+          let same : a ≡ action.Bad k = ap (λ (x : Action × ℕ). x.0) e in
+          let t = taken_test _ _ u (sym (effect_as (action.Bad k) false refl) ∙ subst (λ (x : Action). effect p number None z x ≡ Ok (Some u)) same does) in
+          record {
+            world = t.1;
+            outcome = stopping_where (has_status p.layout o.file) (open_one p.layout o z).1 (not_true _ t.0)
+                (sym handled_as ∙ subst (λ (x : Action). is_handled p number x ≡ false) same handled);
+          }
+    ]
 
     module _ (rest : List Opening) (short : file_is_long p o z ≡ false) where
       pub meets_on : Edge Going → meets_long p number (o ∷ rest) z ≡ meets_long p number rest u

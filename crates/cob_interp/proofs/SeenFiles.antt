@@ -36,9 +36,10 @@ contains_at (q ∷ paths) (suc i) path e = contains_more q path paths (contains_
 agree_apart : (told now : Contents) (path : List ℕ) (paths : List (List ℕ)) → AgreeBut told now path
     → (Contains paths path → ⊥) → Agree told now paths
 agree_apart told now path [] but apart = tt
-agree_apart told now path (q ∷ paths) but apart =
-    (but q (λ e. apart (contains_first q path paths e)),
-    agree_apart told now path paths but (λ c. apart (contains_more q path paths c)))
+agree_apart told now path (q ∷ paths) but apart = (
+  but q (λ e. apart (contains_first q path paths e)),
+  agree_apart told now path paths but (λ c. apart (contains_more q path paths c)),
+)
 
 pub insert_agrees : (told : Contents) (path bytes : List ℕ) → AgreeBut told (insert told path bytes) path
 insert_agrees told path bytes name apart =
@@ -118,10 +119,11 @@ module _ (told now : Contents) (path : List ℕ) (but : AgreeBut told now path) 
   synced_set [] fs i apart s at own = cc
   synced_set (q ∷ paths) [] i apart s at own = absurd s
   synced_set (q ∷ paths) (f ∷ fs) zero apart s at own =
-      let same : q ≡ path = cc in
-      (subst (λ (x : List ℕ). IsSynced now x g) (sym same) own,
-      all_synced_same told now paths fs
-      (agree_apart told now path paths but (λ c. apart.0 (subst (Contains paths) (sym same) c))) s.1)
+      let same : q ≡ path = cc in (
+        subst (λ (x : List ℕ). IsSynced now x g) (sym same) own,
+        all_synced_same told now paths fs
+            (agree_apart told now path paths but (λ c. apart.0 (subst (Contains paths) (sym same) c))) s.1,
+      )
   synced_set (q ∷ paths) (f ∷ fs) (suc i) apart s at own =
       let other = but q (λ e. apart.0 (subst (Contains paths) (sym e) (contains_at paths i path at))) in
       (synced_same told now q other f.mode f.content s.0, synced_set paths fs i apart.1 s.1 at own)

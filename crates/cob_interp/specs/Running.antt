@@ -78,11 +78,11 @@ module _ (p : Program) (g : Graph) (paths : List (List ℕ)) where
   -- So many steps were begun freely, and then an OPEN with these files, of which so many are left to be opened. Whether one
   -- that is too long is met is to be seen of those.
   pub record OpensIn (first told : Contents) (text : List ℕ) (w : World) (left steps node number : ℕ) (os rest : List Opening) : Type 0
-      where
-    pub stands : StandsIn first told text w left steps node
-    pub begin : World
-    pub begins : GoesOnAfter p g (told_files first paths) [] steps number begin
-    pub same : meets_long p number os begin ≡ meets_long p number rest (seen told paths text w)
+    where
+      pub stands : StandsIn first told text w left steps node
+      pub begin : World
+      pub begins : GoesOnAfter p g (told_files first paths) [] steps number begin
+      pub same : meets_long p number os begin ≡ meets_long p number rest (seen told paths text w)
 
   pub record Opens (start now : Outside) (w : World) (left steps node number : ℕ) (os rest : List Opening) : Type 0 where
     pub text : List ℕ

@@ -14,13 +14,19 @@ pub enum RunEnd {
     /// A file couldn't be made, written or closed, or text couldn't be shown.
     WriteFault,
     /// A READ met fewer bytes than a record at the end of the file of this place. `length` is the file's, in bytes.
-    Ragged { file: u32, length: u64 },
+    Ragged {
+        file: u32,
+        length: u64,
+    },
     /// An input file has more bytes than are read: so many at least.
     Long(u64),
     /// The run goes on behind so many steps.
     StepsSpent(u64),
     /// A status that nothing handles.
-    IoStop { status: u8, statement: u32 },
+    IoStop {
+        status: u8,
+        statement: u32,
+    },
     /// A fault, in the step of this number, counted from 1.
     Fault {
         kind: Kind,

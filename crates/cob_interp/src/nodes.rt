@@ -43,7 +43,13 @@ pub fn do_part(
     ensures kept { length world.new.storage ≡ length world.old.storage }
     ensures does { DoesPart setting.now place.now step world.old world.new result }
 {
-    match do_op(alloc, setting.program, place.statement, &place.spot.op, world) {
+    match do_op(
+        alloc,
+        setting.program,
+        place.statement,
+        &place.spot.op,
+        world,
+    ) {
         Ok(node) => Ok(node),
         Err(end) => Err(halt_of(end, place.statement.number, step)),
     }
@@ -91,7 +97,7 @@ pub fn do_close<F: Files>(
     ensures kept { length world.new.storage ≡ length world.old.storage }
     ensures leads { (sink : SinkState) (node budget : ℕ) → IsPlace setting.now node place.now
         → Leads setting.now budget step node (outside (F.state files.old) sink) (outside (F.state files.new) sink)
-            world.old world.new result }
+        world.old world.new result }
 {
     let Op::Close { file, .. } = place.spot.op else {
         return Err(RunEnd::Memory);

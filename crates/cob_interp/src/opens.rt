@@ -48,7 +48,7 @@ fn do_open<F: Files>(
     ensures kept { length world.new.storage ≡ length world.old.storage }
     ensures leads { (sink : SinkState) (budget steps : ℕ) → step ≡ steps + 1
         → LeadsOpening setting.now budget steps node statement openings.now number
-            (outside (F.state files.old) sink) (outside (F.state files.new) sink) world.old world.new result }
+        (outside (F.state files.old) sink) (outside (F.state files.new) sink) world.old world.new result }
 {
     let Some(place) = setting.place(node) else {
         return Err(RunEnd::Memory);
@@ -79,14 +79,18 @@ pub fn open_all<F: Files>(
     ensures kept { length world.new.storage ≡ length world.old.storage }
     ensures leads { (sink : SinkState) (budget steps : ℕ) → step ≡ steps + 1
         → LeadsOver setting.now budget steps node statement openings.now
-            (outside (F.state files.old) sink) (outside (F.state files.new) sink) world.old world.new result }
+        (outside (F.state files.old) sink) (outside (F.state files.new) sink) world.old world.new result }
 {
-    let mut at = do_open(alloc, setting, files, world, node, statement, openings, 0, step)?;
+    let mut at = do_open(
+        alloc, setting, files, world, node, statement, openings, 0, step,
+    )?;
     for number in 1..openings.len() {
         if setting.rests_at(at) {
             return Err(RunEnd::Memory);
         }
-        at = do_open(alloc, setting, files, world, at, statement, openings, number, step)?;
+        at = do_open(
+            alloc, setting, files, world, at, statement, openings, number, step,
+        )?;
     }
     Ok(at)
 }

@@ -30,14 +30,10 @@ pub fn put<F: Files>(files: &mut F, name: &str, bytes: &[u8]) -> Result<(), RunE
 }
 
 /// The bytes of the file of this name, nothing where it isn't there.
-fn load<F: Files>(
-    alloc: Global,
-    files: &mut F,
-    name: &str,
-) -> Result<Option<Vec<u8>>, RunEnd>
+fn load<F: Files>(alloc: Global, files: &mut F, name: &str) -> Result<Option<Vec<u8>>, RunEnd>
     ensures { MatchResult result
         (λ content. Reads (F.state files.old) (F.state files.new) name.now
-            (option_map (λ v. v.items) content))
+        (option_map (λ v. v.items) content))
         (λ e. IsRefusedToLoad (F.state files.old) (F.state files.new) name.now e) }
 {
     match read_file(alloc, files, name, FILE_LIMIT) {
@@ -53,7 +49,7 @@ fn load<F: Files>(
 fn put_written<F: Files>(files: &mut F, path: &str, file: &File) -> Result<(), RunEnd>
     ensures { MatchResult result
         (λ _. Readies (F.state files.old) (F.state files.new) path.now
-            (λ told now. IsReadyToClose told now path.now file.now))
+        (λ told now. IsReadyToClose told now path.now file.now))
         (λ e. IsRefusal (F.state files.old) (F.state files.new) e) }
 {
     match file.mode() {

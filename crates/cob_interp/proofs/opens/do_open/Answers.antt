@@ -8,7 +8,7 @@ returns-in_err-ready_to_open-clause-leads g c =
     let p = err_from_is_err_and c.from_residual.result c.from_residual.ensures.1 in
     rw (p.1, p.2)
     (λ sink budget steps counted. refused_opening c.args.setting.now budget steps c.args.node c.args.statement sink _ _ _ _ c.args.number
-      c.args.openings.now _ (sym c.in-Some-opening_in.ensures) _ c.in_err-ready_to_open.ensures.ready)
+    c.args.openings.now _ (sym c.in-Some-opening_in.ensures) _ c.in_err-ready_to_open.ensures.ready)
 
 pub returns-clause-leads : goal.returns-clause-leads
 returns-clause-leads g c sink budget steps counted =

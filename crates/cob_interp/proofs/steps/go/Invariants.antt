@@ -6,10 +6,10 @@ use Rattle.cob_interp.proofs.steps.go.Given as goal
 
 abbrev pub invariant-loop : goal.invariant-loop
 invariant-loop g l = record {
-      kept : length l.world.storage ≡ length l.initial.world.storage;
-      underway : (sink : SinkState) (start : Outside)
-          → IsUnderway (program_of l.setting) l.setting.graph.now (paths_of l.setting) start (outside (g.F.Files.state l.initial.files) sink)
-          l.initial.world l.step l.node
-          → IsUnderway (program_of l.setting) l.setting.graph.now (paths_of l.setting) start (outside (g.F.Files.state l.files) sink)
-          l.world l.step l.at
-    }
+  kept : length l.world.storage ≡ length l.initial.world.storage;
+  underway : (sink : SinkState) (start : Outside)
+      → IsUnderway (program_of l.setting) l.setting.graph.now (paths_of l.setting) start (outside (g.F.Files.state l.initial.files) sink)
+      l.initial.world l.step l.node
+      → IsUnderway (program_of l.setting) l.setting.graph.now (paths_of l.setting) start (outside (g.F.Files.state l.files) sink)
+      l.world l.step l.at;
+}
