@@ -3,8 +3,8 @@ use Rattle.std.proofs.Common.{◌≡◌, ℕ, ◌≤◌, true, false, List, Opti
 use Rattle.std.specs.Prelude.{Contains}
 use Rattle.batch_io.specs.FilesState.{Contents}
 use Rattle.cob_tree.specs.declared.fault.Kind.{Kind}
-use Rattle.cob_plan.specs.declared.does.DoEnd.{DoEnd}
-use Rattle.cob_plan.specs.declared.does.DoEnd.TheVariants as does
+use Rattle.cob_plan.specs.declared.end.DoEnd.{DoEnd}
+use Rattle.cob_plan.specs.declared.end.DoEnd.TheVariants as does
 use Rattle.cob_plan.specs.Plan.{IsSpot, IsStatement}
 use Rattle.cob_plan.specs.Doing.{Does, GoesTo, MeetsFault, StopsBy}
 use Rattle.cob_program.specs.ActView.{plain_act}

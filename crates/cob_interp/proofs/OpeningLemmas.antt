@@ -7,8 +7,8 @@ use Rattle.batch_io.specs.SinkState.{SinkState}
 use Rattle.cob_meaning.specs.declared.straight.Outcome.TheVariants.{Going, IoStop}
 use Rattle.cob_plan.specs.declared.spot.Op.{Op}
 use Rattle.cob_plan.specs.declared.spot.Op.TheVariants as op
-use Rattle.cob_plan.specs.declared.does.DoEnd.{DoEnd}
-use Rattle.cob_plan.specs.declared.does.DoEnd.TheVariants as does
+use Rattle.cob_plan.specs.declared.end.DoEnd.{DoEnd}
+use Rattle.cob_plan.specs.declared.end.DoEnd.TheVariants as does
 use Rattle.cob_plan.specs.Plan.{op_edges}
 use Rattle.cob_plan.specs.Doing.{Does}
 use Rattle.cob_program.specs.declared.act.Opening.{Opening}

@@ -6,8 +6,8 @@ use Rattle.cob_graph.specs.declared.graph.Node.{Node}
 use Rattle.cob_graph.specs.Walks.{node_at, passed}
 use Rattle.cob_plan.specs.declared.spot.Op.{Op}
 use Rattle.cob_plan.specs.declared.spot.Op.TheVariants as op
-use Rattle.cob_plan.specs.declared.does.DoEnd.{DoEnd}
-use Rattle.cob_plan.specs.declared.does.DoEnd.TheVariants as does
+use Rattle.cob_plan.specs.declared.end.DoEnd.{DoEnd}
+use Rattle.cob_plan.specs.declared.end.DoEnd.TheVariants as does
 use Rattle.cob_plan.specs.Doing.{Does}
 use Rattle.cob_interp.specs.declared.setting.Place.{Place}
 use Rattle.cob_program.specs.Act.{Act, open_files, close_files}
