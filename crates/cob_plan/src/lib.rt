@@ -14,6 +14,8 @@ mod plan;
 mod spot;
 mod spots;
 mod statement;
+#[cfg(test)]
+mod tests;
 mod ways;
 
 pub use does::do_op;
