@@ -1,10 +1,8 @@
 -- A program's graph as the interpreter keeps it: what each node does, and where it leads.
-use Rattle.std.specs.Prelude.{◌≡◌, ◌≤◌, ℕ, suc, List, [], ◌∷◌, length, map, slice_get, Contains, Option, Some, None}
-use Rattle.std.specs.List.{All, AllByRecursion}
-use Rattle.cob_data.specs.declared.layout.Layout.{Layout}
+use Rattle.std.specs.Prelude.{◌≡◌, ℕ, suc, List, [], ◌∷◌, length, slice_get, Contains, Option, Some, None}
+use Rattle.std.specs.List.{AllByRecursion}
 use Rattle.cob_program.specs.Act.{Program}
 use Rattle.cob_program.specs.ActView.{plain_act}
-use Rattle.cob_program.specs.LogicView.{plain_test}
 use Rattle.cob_runs.specs.declared.action.Action.{Action}
 use Rattle.cob_runs.specs.declared.action.Action.TheVariants as action
 use Rattle.cob_runs.specs.Effects.{act_at, tests_in_act}
@@ -17,6 +15,7 @@ use Rattle.cob_plan.specs.declared.spot.Op.{Op}
 use Rattle.cob_plan.specs.declared.spot.Op.TheVariants as op
 use Rattle.cob_plan.specs.declared.spot.Spot.{Spot}
 use Rattle.cob_plan.specs.declared.statement.Statement.{Statement}
+use Rattle.cob_plan.specs.Listing.{plain_tests}
 
 -- the ways on from a node
 abbrev pub compute_edges : ℕ → Option ℕ → List (Action × ℕ)
@@ -54,5 +53,5 @@ pub record AreSpots (g : Graph) (spots : List Spot) : Type 0 where
 pub record IsStatement (p : Program) (s : Statement) : Type 0 where
   pub its : act_at p s.number ≡ Some (plain_act s.act.now)
   pub able : CanDoAct p.layout (plain_act s.act.now)
-  pub tests : map (λ t. plain_test t.now) s.tests.items ≡ tests_in_act (plain_act s.act.now)
+  pub tests : plain_tests s.tests.items ≡ tests_in_act (plain_act s.act.now)
   pub testable : AllByRecursion (CanTest p.layout) (tests_in_act (plain_act s.act.now))
