@@ -1,7 +1,13 @@
+//! Sources are run, and what they show is compared.
+ghost use Rattle.cob_program.specs.ActView.{plain_program};
+ghost use Rattle.cob_items.specs.Sound.{HasSoundItems};
+ghost use Rattle.cob_world.specs.Doing.{CanDoProgram};
+
 use super::payroll::LINES;
 use cob_front::program_in;
 use cob_meaning::Outcome;
 use cob_program::Program;
+use cob_ready::sources_can_be_run;
 use cob_step::{Run, begin, step};
 use std::alloc::{AllocError, Global};
 use std::str;
@@ -22,7 +28,10 @@ fn run_for<'a>(
     program: &'a Program,
     contents: Vec<Option<Vec<u8>>>,
     steps: u32,
-) -> Result<Run<'a>, AllocError> {
+) -> Result<Run<'a>, AllocError>
+    requires sound { HasSoundItems program.now.layout }
+    requires able { CanDoProgram (plain_program program.now) }
+{
     let mut run = begin(alloc, program, contents)?;
     for _ in 0..steps {
         step(alloc, program, &None, &mut run)?;
@@ -48,6 +57,7 @@ fn after(
     file: usize,
     steps: u32,
 ) -> Result<String, AllocError> {
+    sources_can_be_run();
     match program_in(alloc, source.as_bytes()) {
         Err(end) => format!(in alloc; "{end:?}"),
         Ok(program) => told(alloc, &run_for(alloc, &program, contents, steps)?, file),
