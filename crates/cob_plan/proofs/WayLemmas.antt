@@ -37,8 +37,8 @@ module _ (p : Program) (number : ℕ) (a : Act) (its : act_at p number ≡ Some 
   status_is : (x : Action) → status p number None old x ≡ status_of p number None old x a
   status_is x = ap (λ found. option_map_or (status_of p number None old x) found None) its
 
-module _ (p : Program) (number : ℕ) (a : Act) (o : Op) (x : Action) (old now : World) (to : ℕ) (l : Leads p number a o
-    x to) where
+module _ (p : Program) (number : ℕ) (a : Act) (o : Op) (x : Action) (old now : World) (to : ℕ)
+    (l : Leads p number a o x to) where
   pub goes : effect_of p number None old x a ≡ Ok (Some now) → Does p number o old now (Ok to)
   goes met = record {
       action = x;
@@ -61,8 +61,8 @@ module _ (p : Program) (number : ℕ) (a : Act) (o : Op) (x : Action) (old now :
 -- ---- calls on files
 
 -- the way of a status that is met
-module _ (p : Program) (number k : ℕ) (a : Act) (o : Op) (old now : World) (to status_ : ℕ) (its : act_at p number ≡
-    Some a)
+module _ (p : Program) (number k : ℕ) (a : Act) (o : Op) (old now : World) (to status_ : ℕ)
+    (its : act_at p number ≡ Some a)
     (out : Contains (op_edges o) (action.Bad k, to)) (leads : called_bad p number None old k a ≡ Ok (Some now))
     (gives : status_by p number None old k a ≡ Some status_) where
   handled_is : is_handled p number (action.Bad k) ≡ handled_by p number k a
