@@ -5,10 +5,10 @@ use Rattle.cob_program.specs.declared.act.Stmt as declared_stmt
 use Rattle.cob_program.specs.declared.act.When as declared_when
 use Rattle.cob_program.specs.declared.logic.Logic as declared_logic
 use Rattle.cob_program.specs.declared.program.Para as declared_para
-use Rattle.cob_program.specs.Logic.{Logic, Logics}
+use Rattle.cob_program.specs.Logic.{Logic, Logics, no_logics, more_logics}
 use Rattle.cob_program.specs.LogicView.{plain_logic}
-use Rattle.cob_program.specs.Act.{Stmts, When, MkWhen, Whens, more_whens}
-use Rattle.cob_program.specs.ActView.{plain_stmt, plain_when}
+use Rattle.cob_program.specs.Act.{Stmts, no_stmts, more_stmts, When, MkWhen, Whens, no_whens, more_whens}
+use Rattle.cob_program.specs.ActView.{plain_stmt, plain_when, plain_para}
 use Rattle.cob_runs.specs.Effects.{tests_of, tests_among, tests_in_list, tests_in_whens}
 use Rattle.cob_plan.specs.Views.{plain_stmts, plain_whens, plain_logics, plain_paras}
 use Rattle.cob_plan.specs.Listing.{tests_in_when, listed, listed_stmt, listed_when, listed_whens, listed_paras}
@@ -54,8 +54,7 @@ listed_paras_step xs i x within is = ap (λ ys. listed_paras (plain_paras ys)) (
 -- ---- conditions
 
 pub logics_step : (xs : List declared_logic.Logic) (i : ℕ) (x : declared_logic.Logic) → i < length xs →
-    x ≡ get_or xs i x →
-    tests_among (logics_from xs i) ≡ tests_of (plain_logic x) ++ tests_among (logics_from xs (i + 1))
+    x ≡ get_or xs i x → tests_among (logics_from xs i) ≡ tests_of (plain_logic x) ++ tests_among (logics_from xs (i + 1))
 logics_step xs i x within is = ap (λ ys. tests_among (plain_logics ys)) (item_step xs i x within is)
 
 pub logics_end : (xs : List declared_logic.Logic) (i : ℕ) → length xs ≤ i → tests_among (logics_from xs i) ≡ []
@@ -66,8 +65,7 @@ pub logic_list_step : (xs : List declared_logic.Logic) (i : ℕ) (x : declared_l
     tests_in_list (logic_list_from xs i) ≡ tests_of (plain_logic x) ++ tests_in_list (logic_list_from xs (i + 1))
 logic_list_step xs i x within is = ap (λ ys. tests_in_list (map plain_logic ys)) (item_step xs i x within is)
 
-pub logic_list_end : (xs : List declared_logic.Logic) (i : ℕ) → length xs ≤ i →
-    tests_in_list (logic_list_from xs i) ≡ []
+pub logic_list_end : (xs : List declared_logic.Logic) (i : ℕ) → length xs ≤ i → tests_in_list (logic_list_from xs i) ≡ []
 logic_list_end xs i past = ap (λ ys. tests_in_list (map plain_logic ys)) (drop_all i xs past)
 
 first_when : (w : When) (ws : Whens) → tests_in_whens (more_whens w ws) ≡ tests_in_when w ++ tests_in_whens ws
@@ -91,3 +89,7 @@ added old new here rest all left grown cut whole =
 
 pub nothing_left : {A : Type 0} (old all left : List A) → left ≡ [] → old ++ left ≡ all → old ≡ all
 nothing_left old all left none whole = sym (append-nil old) ∙ ap (λ xs. old ++ xs) (sym none) ∙ whole
+
+-- two things were added
+pub added_both : {A : Type 0} (old mid new a b : List A) → mid ≡ old ++ a → new ≡ mid ++ b → new ≡ old ++ (a ++ b)
+added_both old mid new a b first second = second ∙ ap (λ xs. xs ++ b) first ∙ append_assoc old a b

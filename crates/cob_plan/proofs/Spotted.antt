@@ -77,8 +77,7 @@ all_spots g spots count past within first = record { each = first.each; all = om
 
 -- ---- a node that is looked up
 
-pub spot_there : (g : Graph) (spots : List Spot) (r : Option Spot) (i n : ℕ) → AreSpots g spots →
-    r ≡ slice_get spots i →
+pub spot_there : (g : Graph) (spots : List Spot) (r : Option Spot) (i n : ℕ) → AreSpots g spots → r ≡ slice_get spots i →
     n ≡ suc i → IfSome r (λ s. IsSpot g n s)
 spot_there g spots None i n are is counted = tt
 spot_there g spots (Some s) i n are is counted =

@@ -1,5 +1,5 @@
 -- Simple conditions of a statement.
-use Rattle.std.proofs.Common.{◌≡◌, ℕ, Bool, false, List, refl, sym, ap, ◌∙◌, Option, Some, None}
+use Rattle.std.proofs.Common.{◌≡◌, ℕ, Bool, true, false, List, refl, sym, ap, ◌∙◌, Option, Some, None}
 use Rattle.std.specs.Prelude.{slice_get}
 use Rattle.std.specs.Borrow.{Bor}
 use Rattle.std.specs.Option.{option_map, option_copied}
@@ -12,8 +12,7 @@ use Rattle.cob_runs.specs.Effects.{tests_in_act, decided, tested}
 use Rattle.cob_plan.specs.Listing.{plain_tests}
 use Rattle.cob_plan.specs.Doing.{is_times}
 
-pub found_test : (r : Option (Bor declared_test.Test)) (x : Bor declared_test.Test) (tests : List (Bor
-    declared_test.Test))
+pub found_test : (r : Option (Bor declared_test.Test)) (x : Bor declared_test.Test) (tests : List (Bor declared_test.Test))
     (all : List Test) (place : ℕ) → option_map plain_test (option_copied r) ≡ slice_get (plain_tests tests) place →
     r ≡ Some x → plain_tests tests ≡ all → slice_get all place ≡ Some (plain_test x.now)
 found_test r x tests all place found is same =

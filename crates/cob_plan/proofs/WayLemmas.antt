@@ -1,20 +1,22 @@
 -- Which way is taken: from what a part of a statement comes to.
-use Rattle.std.proofs.Common.{◌≡◌, ℕ, ◌==◌, ◌&&◌, true, false, not, List, [], ◌∷◌, refl, ap, ◌∙◌, arith, Some, None, Ok, Err}
+use Rattle.std.proofs.Common.{◌≡◌, ℕ, ◌==◌, ◌&&◌, Bool, true, false, not, List, [], ◌∷◌, refl, sym, ap, ◌∙◌, subst, arith, Option, Some, None, Result, Ok, Err}
 use Rattle.std.specs.Prelude.{Contains}
 use Rattle.std.specs.Option.{option_map_or}
+use Rattle.cob_tree.specs.declared.fault.Kind.{Kind}
 use Rattle.cob_program.specs.Act.{Act, Program}
 use Rattle.cob_runs.specs.declared.action.Action.{Action}
 use Rattle.cob_runs.specs.declared.action.Action.TheVariants as action
 use Rattle.cob_runs.specs.Acts.{is_fine}
 use Rattle.cob_runs.specs.State.{World}
-use Rattle.cob_runs.specs.Effects.{not_taken, taken_if, act_at, effect_of, effect, status, status_of, status_by, is_handled, handled_by, end_handled, called_bad}
+use Rattle.cob_runs.specs.Effects.{Effect, not_taken, taken_if, act_at, effect_of, effect, status, status_of, status_by, is_handled, handled_by, end_handled, file_call, called_bad, read_with}
 use Rattle.cob_plan.specs.declared.spot.Op.{Op}
 use Rattle.cob_plan.specs.declared.spot.Op.TheVariants as op
 use Rattle.cob_plan.specs.declared.end.DoEnd.{DoEnd}
 use Rattle.cob_plan.specs.declared.end.DoEnd.TheVariants as end
+use Rattle.cob_plan.specs.declared.called.Called.{Called}
 use Rattle.cob_plan.specs.declared.called.Taken.{Taken}
 use Rattle.cob_plan.specs.Plan.{op_edges}
-use Rattle.cob_plan.specs.Doing.{Does, EndsBy, IsTaking}
+use Rattle.cob_plan.specs.Doing.{Does, GoesTo, EndsBy, Meets, Forks, Calls, IsCall, IsTaking}
 use Rattle.cob_plan.specs.Leading.{Leads}
 
 -- ---- ways among a node's
@@ -37,8 +39,7 @@ module _ (p : Program) (number : ℕ) (a : Act) (its : act_at p number ≡ Some 
   status_is : (x : Action) → status p number None old x ≡ status_of p number None old x a
   status_is x = ap (λ found. option_map_or (status_of p number None old x) found None) its
 
-module _ (p : Program) (number : ℕ) (a : Act) (o : Op) (x : Action) (old now : World) (to : ℕ) (l : Leads p number a o
-    x to) where
+module _ (p : Program) (number : ℕ) (a : Act) (o : Op) (x : Action) (old now : World) (to : ℕ) (l : Leads p number a o x to) where
   pub goes : effect_of p number None old x a ≡ Ok (Some now) → Does p number o old now (Ok to)
   goes met = record {
       action = x;
@@ -61,8 +62,7 @@ module _ (p : Program) (number : ℕ) (a : Act) (o : Op) (x : Action) (old now :
 -- ---- calls on files
 
 -- the way of a status that is met
-module _ (p : Program) (number k : ℕ) (a : Act) (o : Op) (old now : World) (to status_ : ℕ) (its : act_at p number ≡
-    Some a)
+module _ (p : Program) (number k : ℕ) (a : Act) (o : Op) (old now : World) (to status_ : ℕ) (its : act_at p number ≡ Some a)
     (out : Contains (op_edges o) (action.Bad k, to)) (leads : called_bad p number None old k a ≡ Ok (Some now))
     (gives : status_by p number None old k a ≡ Some status_) where
   handled_is : is_handled p number (action.Bad k) ≡ handled_by p number k a

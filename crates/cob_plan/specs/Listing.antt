@@ -1,11 +1,11 @@
 -- The statements of a program in the order of their numbers, each with its simple conditions.
-use Rattle.std.specs.Prelude.{ℕ, List, [], ◌∷◌, ◌++◌, map}
+use Rattle.std.specs.Prelude.{◌≡◌, ℕ, List, [], ◌∷◌, ◌++◌, map}
 use Rattle.std.specs.Borrow.{Bor}
 use Rattle.cob_program.specs.declared.logic.Test as declared_test
 use Rattle.cob_program.specs.LogicView.{plain_test}
 use Rattle.cob_program.specs.Logic.{Test}
 use Rattle.cob_program.specs.ActView.{plain_act}
-use Rattle.cob_program.specs.Act.{Stmt, MkStmt, Stmts, no_stmts, more_stmts, Phrase, left_out, given, Act, arith, if_, evaluate, perform, read, Whens, no_whens, more_whens, When, MkWhen, Body, range, inline, Para}
+use Rattle.cob_program.specs.Act.{Stmt, MkStmt, Stmts, no_stmts, more_stmts, Phrase, left_out, given, Act, arith, if_, evaluate, perform, read, Whens, no_whens, more_whens, When, MkWhen, Body, range, inline, Para, Program}
 use Rattle.cob_runs.specs.Effects.{tests_in_list, tests_in_act}
 use Rattle.cob_plan.specs.declared.statement.Statement.{Statement}
 

@@ -1,5 +1,5 @@
 -- A graph's nodes, read one after another.
-use Rattle.std.specs.Prelude.{◌≡◌, ℕ, suc, List, length, slice_get, Some}
+use Rattle.std.specs.Prelude.{◌≡◌, ℕ, suc, List, length, slice_get, Contains, Option, Some}
 use Rattle.std.specs.List.{All}
 use Rattle.cob_runs.specs.declared.action.Action.{Action}
 use Rattle.cob_graph.specs.declared.graph.Edge.{Edge}

@@ -6,8 +6,9 @@ use Rattle.cob_program.specs.declared.act.Stmt as declared_stmt
 use Rattle.cob_program.specs.declared.act.When as declared_when
 use Rattle.cob_program.specs.declared.program.Para as declared_para
 use Rattle.cob_program.specs.declared.logic.Logic as declared_logic
-use Rattle.cob_program.specs.Logic.{Logics, logics_of}
-use Rattle.cob_program.specs.LogicView.{plain_logic}
+use Rattle.cob_program.specs.declared.logic.Test as declared_test
+use Rattle.cob_program.specs.Logic.{Test, Logics, logics_of}
+use Rattle.cob_program.specs.LogicView.{plain_logic, plain_test}
 use Rattle.cob_program.specs.Act.{Stmts, stmts_of, Phrase, phrase_of, Whens, whens_of, Para}
 use Rattle.cob_program.specs.ActView.{plain_stmt, plain_when, plain_para}
 

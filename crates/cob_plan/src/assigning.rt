@@ -9,6 +9,7 @@ ghost use Rattle.cob_runs.specs.Acts.{move, set_varied, into_if, move_if, set_co
 ghost use Rattle.cob_runs.specs.Effects.{met, taken, assigned, counted, shown};
 ghost use Rattle.cob_items.specs.Sound.{HasSoundItems};
 ghost use Rattle.cob_world.specs.Becoming.{Becomes, BecomesBy};
+ghost use Rattle.cob_world.specs.Needs.{IsNumber};
 ghost use Rattle.cob_world.specs.Doing.{CanMoveTo, CanTurn, CanDoAct};
 ghost use Rattle.cob_plan.specs.Doing.{Meets};
 
@@ -139,8 +140,8 @@ pub fn assign(
     requires sound { HasSoundItems program.now.layout }
     requires whole { length world.old.storage ≡ program.now.layout.storage }
     requires able { CanDoAct program.now.layout (plain_act act.now) }
-    ensures value { (number : ℕ) → Meets
-        (assigned (plain_program program.now) number None world.old (plain_act act.now)) world.old world.new result }
+    ensures value { (number : ℕ) → Meets (assigned (plain_program program.now) number None world.old (plain_act act.now))
+        world.old world.new result }
     ensures kept { length world.new.storage ≡ length world.old.storage }
 {
     let layout = &program.layout;

@@ -11,8 +11,7 @@ use std::alloc::{AllocError, Global};
 
 #[cycle(logic)]
 fn add_logic<'a>(tests: &mut Vec<&'a Test>, logic: &'a Logic) -> Result<(), AllocError>
-    ensures { OnOk result (plain_tests tests.new.items
-        ≡ plain_tests tests.old.items ++ tests_of (plain_logic logic.now)) }
+    ensures { OnOk result (plain_tests tests.new.items ≡ plain_tests tests.old.items ++ tests_of (plain_logic logic.now)) }
 {
     match logic {
         Logic::All(parts) | Logic::Any(parts) => add_logics(tests, parts),
@@ -23,8 +22,7 @@ fn add_logic<'a>(tests: &mut Vec<&'a Test>, logic: &'a Logic) -> Result<(), Allo
 
 #[cycle(logic)]
 fn add_logics<'a>(tests: &mut Vec<&'a Test>, parts: &'a [Logic]) -> Result<(), AllocError>
-    ensures { OnOk result (plain_tests tests.new.items
-        ≡ plain_tests tests.old.items ++ tests_among (plain_logics parts.now)) }
+    ensures { OnOk result (plain_tests tests.new.items ≡ plain_tests tests.old.items ++ tests_among (plain_logics parts.now)) }
 {
     for part in parts {
         add_logic(tests, part)?;
@@ -40,8 +38,7 @@ fn add_test<'a>(tests: &mut Vec<&'a Test>, test: &'a Test) -> Result<(), AllocEr
 }
 
 fn add_list<'a>(tests: &mut Vec<&'a Test>, list: &'a [Logic]) -> Result<(), AllocError>
-    ensures { OnOk result (plain_tests tests.new.items
-        ≡ plain_tests tests.old.items ++ tests_in_list (map plain_logic list.now)) }
+    ensures { OnOk result (plain_tests tests.new.items ≡ plain_tests tests.old.items ++ tests_in_list (map plain_logic list.now)) }
 {
     for logic in list {
         add_logic(tests, logic)?;
@@ -50,15 +47,13 @@ fn add_list<'a>(tests: &mut Vec<&'a Test>, list: &'a [Logic]) -> Result<(), Allo
 }
 
 fn add_when<'a>(tests: &mut Vec<&'a Test>, when: &'a When) -> Result<(), AllocError>
-    ensures { OnOk result (plain_tests tests.new.items
-        ≡ plain_tests tests.old.items ++ tests_in_when (plain_when when.now)) }
+    ensures { OnOk result (plain_tests tests.new.items ≡ plain_tests tests.old.items ++ tests_in_when (plain_when when.now)) }
 {
     add_list(tests, when.tests.get())
 }
 
 fn add_whens<'a>(tests: &mut Vec<&'a Test>, whens: &'a [When]) -> Result<(), AllocError>
-    ensures { OnOk result (plain_tests tests.new.items
-        ≡ plain_tests tests.old.items ++ tests_in_whens (plain_whens whens.now)) }
+    ensures { OnOk result (plain_tests tests.new.items ≡ plain_tests tests.old.items ++ tests_in_whens (plain_whens whens.now)) }
 {
     for when in whens {
         add_when(tests, when)?;
@@ -67,8 +62,7 @@ fn add_whens<'a>(tests: &mut Vec<&'a Test>, whens: &'a [When]) -> Result<(), All
 }
 
 fn add_turns<'a>(tests: &mut Vec<&'a Test>, turns: &'a Turns) -> Result<(), AllocError>
-    ensures { OnOk result (plain_tests tests.new.items
-        ≡ plain_tests tests.old.items ++ tests_in_turns (plain_turns turns.now)) }
+    ensures { OnOk result (plain_tests tests.new.items ≡ plain_tests tests.old.items ++ tests_in_turns (plain_turns turns.now)) }
 {
     match turns {
         Turns::Until { test, .. } | Turns::Varying { test, .. } => add_logic(tests, test),
@@ -77,8 +71,7 @@ fn add_turns<'a>(tests: &mut Vec<&'a Test>, turns: &'a Turns) -> Result<(), Allo
 }
 
 fn add_act<'a>(tests: &mut Vec<&'a Test>, act: &'a Act) -> Result<(), AllocError>
-    ensures { OnOk result (plain_tests tests.new.items
-        ≡ plain_tests tests.old.items ++ tests_in_act (plain_act act.now)) }
+    ensures { OnOk result (plain_tests tests.new.items ≡ plain_tests tests.old.items ++ tests_in_act (plain_act act.now)) }
 {
     match act {
         Act::If { test, .. } => add_logic(tests, test),

@@ -97,8 +97,7 @@ fn do_compute(
     requires sound { HasSoundItems program.now.layout }
     requires whole { length world.old.storage ≡ program.now.layout.storage }
     requires its { IsStatement (plain_program program.now) statement.now }
-    ensures value { Does (plain_program program.now) statement.now.number (op.Compute fine size)
-        world.old world.new result }
+    ensures value { Does (plain_program program.now) statement.now.number (op.Compute fine size) world.old world.new result }
     ensures kept { length world.new.storage ≡ length world.old.storage }
 {
     let outcome = compute(program, statement.act, world);
@@ -119,8 +118,7 @@ fn do_test(
     requires sound { HasSoundItems program.now.layout }
     requires whole { length world.now.storage ≡ program.now.layout.storage }
     requires its { IsStatement (plain_program program.now) statement.now }
-    ensures { Does (plain_program program.now) statement.now.number (op.Test place held other)
-        world.now world.now result }
+    ensures { Does (plain_program program.now) statement.now.number (op.Test place held other) world.now world.now result }
 {
     forked(test(program, statement, place, world), held, other)
 }
@@ -137,8 +135,7 @@ fn do_open(
     requires sound { HasSoundItems program.now.layout }
     requires whole { length world.old.storage ≡ program.now.layout.storage }
     requires its { IsStatement (plain_program program.now) statement.now }
-    ensures value { Does (plain_program program.now) statement.now.number (op.Open file fine bad)
-        world.old world.new result }
+    ensures value { Does (plain_program program.now) statement.now.number (op.Open file fine bad) world.old world.new result }
     ensures kept { length world.new.storage ≡ length world.old.storage }
 {
     called(open(alloc, program, statement.act, file, world), fine, bad)
@@ -155,8 +152,7 @@ fn do_close(
     requires sound { HasSoundItems program.now.layout }
     requires whole { length world.old.storage ≡ program.now.layout.storage }
     requires its { IsStatement (plain_program program.now) statement.now }
-    ensures value { Does (plain_program program.now) statement.now.number (op.Close file fine bad)
-        world.old world.new result }
+    ensures value { Does (plain_program program.now) statement.now.number (op.Close file fine bad) world.old world.new result }
     ensures kept { length world.new.storage ≡ length world.old.storage }
 {
     called(close(program, statement.act, file, world), fine, bad)
@@ -173,8 +169,7 @@ fn do_read(
     requires sound { HasSoundItems program.now.layout }
     requires whole { length world.old.storage ≡ program.now.layout.storage }
     requires its { IsStatement (plain_program program.now) statement.now }
-    ensures value { Does (plain_program program.now) statement.now.number (op.Read found end bad)
-        world.old world.new result }
+    ensures value { Does (plain_program program.now) statement.now.number (op.Read found end bad) world.old world.new result }
     ensures kept { length world.new.storage ≡ length world.old.storage }
 {
     taken(read(program, statement.act, world), found, end, bad)
@@ -191,8 +186,7 @@ fn do_write(
     requires sound { HasSoundItems program.now.layout }
     requires whole { length world.old.storage ≡ program.now.layout.storage }
     requires its { IsStatement (plain_program program.now) statement.now }
-    ensures value { Does (plain_program program.now) statement.now.number (op.Write fine bad)
-        world.old world.new result }
+    ensures value { Does (plain_program program.now) statement.now.number (op.Write fine bad) world.old world.new result }
     ensures kept { length world.new.storage ≡ length world.old.storage }
 {
     called(write(alloc, program, statement.act, world), fine, bad)

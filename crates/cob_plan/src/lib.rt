@@ -14,8 +14,6 @@ mod plan;
 mod spot;
 mod spots;
 mod statement;
-#[cfg(test)]
-mod tests;
 mod ways;
 
 pub use does::do_op;

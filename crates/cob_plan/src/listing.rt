@@ -167,23 +167,16 @@ fn add_paras<'a>(
 }
 
 /// The statements of a program, each before those of its own lists.
-pub fn list_of<'a>(alloc: Global, program: &'a Program) -> Result<Vec<Statement<'a>>, AllocError>
-    ensures { IfOk result (λ all. plain_statements all.items ≡ listed_paras (plain_program program.now).paras) }
-{
-    let mut statements = Vec::new(alloc);
-    add_paras(alloc, &mut statements, program.paras.get())?;
-    Ok(statements)
-}
-
-/// The same of a program whose statements can be done.
 pub fn statements_of<'a>(
     alloc: Global,
     program: &'a Program,
 ) -> Result<Vec<Statement<'a>>, AllocError>
     requires whole { IsWhole (plain_program program.now) }
     requires able { CanDoProgram (plain_program program.now) }
-    ensures { IfOk result (λ all. All (IsStatement (plain_program program.now)) all.items) }
+    ensures listed { IfOk result (λ all. plain_statements all.items ≡ listed_paras (plain_program program.now).paras) }
+    ensures each { IfOk result (λ all. All (IsStatement (plain_program program.now)) all.items) }
 {
-    let statements = list_of(alloc, program)?;
+    let mut statements = Vec::new(alloc);
+    add_paras(alloc, &mut statements, program.paras.get())?;
     Ok(statements)
 }

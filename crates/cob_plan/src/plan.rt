@@ -45,8 +45,7 @@ impl<'a> Plan<'a> {
 
     /// The node with a number, which counts from 1.
     pub fn spot(&self, number: u32) -> Option<Spot>
-        ensures { (g : declared_graph.Graph) → AreSpots g self.now.spots.items
-            → IfSome result (λ s. IsSpot g number s) }
+        ensures { (g : declared_graph.Graph) → AreSpots g self.now.spots.items → IfSome result (λ s. IsSpot g number s) }
     {
         if number == 0 {
             return None;

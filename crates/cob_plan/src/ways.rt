@@ -4,7 +4,7 @@ ghost use Rattle.cob_program.specs.Act as act;
 ghost use Rattle.cob_runs.specs.declared.action.Action.{Action};
 ghost use Rattle.cob_runs.specs.declared.action.Action.TheVariants as action;
 ghost use Rattle.cob_runs.specs.State.{World};
-ghost use Rattle.cob_runs.specs.Effects.{Effect, act_at, effect_of, file_call};
+ghost use Rattle.cob_runs.specs.Effects.{Effect, act_at, effect_of, file_call, is_handled};
 ghost use Rattle.cob_plan.specs.declared.spot.Op.{Op};
 ghost use Rattle.cob_plan.specs.declared.spot.Op.TheVariants as op;
 ghost use Rattle.cob_plan.specs.Plan.{op_edges};
@@ -43,8 +43,7 @@ pub fn forked(outcome: Result<bool, DoEnd>, first: u32, second: u32) -> Result<u
 
 /// What a part comes to where there is no second way on.
 pub fn alone(outcome: Result<bool, DoEnd>) -> Result<(), DoEnd>
-    ensures { (first second : Effect) (old now : World) → Forks first second old now outcome
-        → Meets first old now result }
+    ensures { (first second : Effect) (old now : World) → Forks first second old now outcome → Meets first old now result }
 {
     match outcome {
         Ok(true) => Ok(()),

@@ -10,7 +10,6 @@ pub returns-in-Perform-clause-value : goal.returns-in-Perform-clause-value
 returns-in-Perform-clause-value c =
     let p = c.in-Perform in
     let w = c.args.world.now in
-    subst (λ (a : Act). Meets (counted (plain_program c.args.program.now) c.args.number None w a) w
-    c.count_turns.new.world
+    subst (λ (a : Act). Meets (counted (plain_program c.args.program.now) c.args.number None w a) w c.count_turns.new.world
     c.count_turns.result)
     (sym (perform_is c.args.act.now p.body p.turns p.is)) (c.count_turns.ensures.value (plain_body p.body))

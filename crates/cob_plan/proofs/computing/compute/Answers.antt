@@ -15,8 +15,7 @@ returns-in-Perform-clause-value c = λ number.
     let p = plain_program c.args.program.now in
     let w = c.args.world.now in
     subst
-    (λ (a : Act). Forks (computed p number None w false a) (computed p number None w true a) w
-    c.augment_turns.new.world c.augment_turns.result)
+    (λ (a : Act). Forks (computed p number None w false a) (computed p number None w true a) w c.augment_turns.new.world c.augment_turns.result)
     (sym (perform_is c.args.act.now x.body x.turns x.is)) (c.augment_turns.ensures.value number (plain_body x.body))
 
 pub returns-in-Arith-clause-value : goal.returns-in-Arith-clause-value
@@ -26,8 +25,7 @@ returns-in-Arith-clause-value c = λ number.
     let w = c.args.world.now in
     let phrase = c.is_given-phrase.result in
     subst
-    (λ (a : Act). Forks (computed p number None w false a) (computed p number None w true a) w c.compute_all.new.world
-    c.compute_all.result)
+    (λ (a : Act). Forks (computed p number None w false a) (computed p number None w true a) w c.compute_all.new.world c.compute_all.result)
     (sym (arith_is c.args.act.now x.common x.targets x.remainder x.size x.fine x.is))
     (subst
     (λ (given : Bool). Forks (without_error (acts.compute p.layout given (plain_sum x.common) x.targets x.remainder w))

@@ -9,7 +9,6 @@ pub returns-clause-value : goal.returns-clause-value
 returns-clause-value c =
     let p = plain_program c.args.program.now in
     let s = c.args.statement.now in
-    c.led.ensures p s.number (plain_act s.act.now) (op.Assign c.args.to) action.Assign c.args.world.now
-    c.assign.new.world
+    c.led.ensures p s.number (plain_act s.act.now) (op.Assign c.args.to) action.Assign c.args.world.now c.assign.new.world
     (record { its = c.requires.its.its; out = only (action.Assign, c.args.to) []; handled = refl })
     (c.assign.ensures.value s.number)

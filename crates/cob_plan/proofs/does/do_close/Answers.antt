@@ -12,7 +12,6 @@ returns-clause-value c =
     let s = c.args.statement.now in
     let fine : Action × ℕ = (action.Close c.args.file, c.args.fine) in
     let bad : Action × ℕ = (action.Bad c.args.file, c.args.bad) in
-    c.called.ensures p s.number c.args.file (plain_act s.act.now) (op.Close c.args.file c.args.fine c.args.bad)
-    (action.Close c.args.file) c.args.world.now c.close.new.world
+    c.called.ensures p s.number c.args.file (plain_act s.act.now) (op.Close c.args.file c.args.fine c.args.bad) (action.Close c.args.file) c.args.world.now c.close.new.world
     (record { its = c.requires.its.its; out = only fine (bad ∷ []); handled = refl }) (second fine bad []) refl
     (c.close.ensures.value s.number)

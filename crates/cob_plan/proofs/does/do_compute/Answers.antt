@@ -19,8 +19,7 @@ returns-in-None-clause-value c =
     (sym c.in-None.is)
     (c.led.ensures p s.number a (op.Compute c.args.fine None) action.Done w c.compute-outcome.new.world
     (record { its = c.requires.its.its; out = only (action.Done, c.args.fine) []; handled = refl })
-    (c.alone.ensures (computed p s.number None w false a) (computed p s.number None w true a) w
-    c.compute-outcome.new.world
+    (c.alone.ensures (computed p s.number None w false a) (computed p s.number None w true a) w c.compute-outcome.new.world
     (c.compute-outcome.ensures.value s.number)))
 
 pub returns-in-Some-clause-value : goal.returns-in-Some-clause-value
@@ -33,8 +32,7 @@ returns-in-Some-clause-value c =
     (λ (o : Option ℕ). Does p s.number (op.Compute c.args.fine o) c.args.world.now c.compute-outcome.new.world
     c.forked.result)
     (sym c.in-Some.is)
-    (c.forked.ensures p s.number (plain_act s.act.now) (op.Compute c.args.fine (Some c.in-Some.size)) action.Done
-    action.Size
+    (c.forked.ensures p s.number (plain_act s.act.now) (op.Compute c.args.fine (Some c.in-Some.size)) action.Done action.Size
     c.args.world.now c.compute-outcome.new.world
     (record { its = c.requires.its.its; out = only fine (size ∷ []); handled = refl })
     (record { its = c.requires.its.its; out = second fine size []; handled = refl })

@@ -12,7 +12,6 @@ returns-clause-value c =
     let s = c.args.statement.now in
     let fine : Action × ℕ = (action.Open c.args.file, c.args.fine) in
     let bad : Action × ℕ = (action.Bad c.args.file, c.args.bad) in
-    c.called.ensures p s.number c.args.file (plain_act s.act.now) (op.Open c.args.file c.args.fine c.args.bad)
-    (action.Open c.args.file) c.args.world.now c.open.new.world
+    c.called.ensures p s.number c.args.file (plain_act s.act.now) (op.Open c.args.file c.args.fine c.args.bad) (action.Open c.args.file) c.args.world.now c.open.new.world
     (record { its = c.requires.its.its; out = only fine (bad ∷ []); handled = refl }) (second fine bad []) refl
     (c.open.ensures.value s.number)

@@ -9,7 +9,6 @@ pub returns-clause-value : goal.returns-clause-value
 returns-clause-value c =
     let p = plain_program c.args.program.now in
     let s = c.args.statement.now in
-    c.led.ensures p s.number (plain_act s.act.now) (op.SetCount c.args.to) action.SetCount c.args.world.now
-    c.set_count.new.world
+    c.led.ensures p s.number (plain_act s.act.now) (op.SetCount c.args.to) action.SetCount c.args.world.now c.set_count.new.world
     (record { its = c.requires.its.its; out = only (action.SetCount, c.args.to) []; handled = refl })
     c.set_count.ensures.value

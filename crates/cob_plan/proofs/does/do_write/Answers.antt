@@ -12,7 +12,6 @@ returns-clause-value c =
     let s = c.args.statement.now in
     let fine : Action × ℕ = (action.Write, c.args.fine) in
     let bad : Action × ℕ = (action.Bad 0, c.args.bad) in
-    c.called.ensures p s.number 0 (plain_act s.act.now) (op.Write c.args.fine c.args.bad) (action.Write)
-    c.args.world.now c.write.new.world
+    c.called.ensures p s.number 0 (plain_act s.act.now) (op.Write c.args.fine c.args.bad) (action.Write) c.args.world.now c.write.new.world
     (record { its = c.requires.its.its; out = only fine (bad ∷ []); handled = refl }) (second fine bad []) refl
     (c.write.ensures.value s.number)

@@ -10,13 +10,11 @@ returns-then-is_fine c = λ p number a old now its h.
 
 pub returns-then-taken : goal.returns-then-taken
 returns-then-taken c = λ p number a old now its h.
-    goes_end p number a old now its c.args.taken h c.args.found c.args.end c.args.bad c.if-taken-eq10.true
-    c.if-taken.true
+    goes_end p number a old now its c.args.taken h c.args.found c.args.end c.args.bad c.if-taken-eq10.true c.if-taken.true
 
 pub returns-else-taken : goal.returns-else-taken
 returns-else-taken c = λ p number a old now its h.
-    stops_end p number a old now its c.args.taken h c.args.found c.args.end c.args.bad c.if-taken-eq10.true
-    c.if-taken.false
+    stops_end p number a old now its c.args.taken h c.args.found c.args.end c.args.bad c.if-taken-eq10.true c.if-taken.false
 
 pub returns-then-taken-2 : goal.returns-then-taken-2
 returns-then-taken-2 c = λ p number a old now its h.
