@@ -64,10 +64,10 @@ fn paragraphs_are_done_up_to_stop_run(rt: HostRuntime) -> Result<(), Fail> {
     let mut run = begin(alloc, &program, Vec::new(alloc))?;
     step(alloc, &program, &None, &mut run)?;
     assert_eq!(rt; run.outcome(), Outcome::Going);
-    assert_eq!(rt; run.world().shown(), b"A\n");
+    assert_eq!(rt; run.world().shown(), b"A\n".as_slice());
     step(alloc, &program, &None, &mut run)?;
     assert_eq!(rt; run.outcome(), Outcome::Ended);
     step(alloc, &program, &None, &mut run)?;
-    assert_eq!(rt; run.world().shown(), b"A\n");
+    assert_eq!(rt; run.world().shown(), b"A\n".as_slice());
     Ok(())
 }
