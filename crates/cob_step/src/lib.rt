@@ -8,7 +8,5 @@ mod loops;
 mod run;
 mod selecting;
 mod statements;
-#[cfg(test)]
-mod tests;
 
 pub use run::{Run, begin, step};
