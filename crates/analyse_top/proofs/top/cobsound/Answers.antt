@@ -5,6 +5,6 @@ use Rattle.analyse_top.proofs.top.cobsound.Goals as goal
 pub returns : goal.returns
 returns g c = record {
   concludes = c.conclude.ensures;
-  exact = is_exact ? _ c.conclude.ensures;
+  exact = is_exact c.one_answer.ensures _ c.conclude.ensures;
   clean = clean_is_safe _ c.conclude.ensures;
 }
