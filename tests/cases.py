@@ -1,5 +1,6 @@
 """Runs the launcher on the reference cases and on what the README promises, and compares."""
 
+import itertools
 import json
 import os
 import pathlib
@@ -42,6 +43,23 @@ def refused_sources():
             if case["refused"]:
                 status = 9 if case["refused"].startswith("E10") else 2
                 yield f"check {name}", case["source"], CERTIFICATE, status, case["refused"] + "\n"
+
+
+def of_the_layout():
+    """Programs that exceed a limit on data by one."""
+    entry = "       77 N PIC 9(3) VALUE 998.\n"
+    items = "".join(f"       77 N-{i} PIC 9.\n" for i in range(513))
+    yield "513 items", SAMPLE.replace(entry, items).replace("TO N", "TO N-0"), CERTIFICATE, 9, "E10 items 513\n"
+    room = entry + "       77 M PIC X(1048574).\n"
+    yield "a byte too many", SAMPLE.replace(entry, room), CERTIFICATE, 9, "E10 storage 1048577\n"
+    selects = "".join(f"           SELECT F-{i} ASSIGN TO G-{i}.\n" for i in range(17))
+    entries = "".join(f"       FD F-{i}.\n       01 R-{i} PIC X.\n" for i in range(17))
+    environment = "       ENVIRONMENT DIVISION.\n       INPUT-OUTPUT SECTION.\n       FILE-CONTROL.\n"
+    data = "       DATA DIVISION.\n"
+    files = SAMPLE.replace(data, f"{environment}{selects}{data}       FILE SECTION.\n{entries}")
+    yield "17 files", files, CERTIFICATE, 9, "E10 files 17\n"
+    tree = SAMPLE.replace("ADD 1 TO N.", "COMPUTE N =\n" + 8 * ("       " + 8 * "(" + "\n") + "       1.")
+    yield "65 open", tree, CERTIFICATE, 9, "E10 nesting 65\n"
 
 
 def of_the_graph():
@@ -184,7 +202,8 @@ def main():
         passed, failed = refusals(folder)
     with tempfile.TemporaryDirectory() as folder:
         source, certificate = pathlib.Path(folder, "S"), pathlib.Path(folder, "C")
-        for name, text, claims, status, out in [*listed(), *refused_sources(), *of_the_graph(), *of_the_sample(), *over_tokens()]:
+        parts = [listed(), refused_sources(), of_the_layout(), of_the_graph(), of_the_sample(), over_tokens()]
+        for name, text, claims, status, out in itertools.chain(*parts):
             source.write_bytes(text.encode("latin-1"))
             certificate.write_bytes(claims.encode("latin-1"))
             found = answer(["check", "S", "C"], folder)
