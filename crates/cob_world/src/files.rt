@@ -82,6 +82,13 @@ impl File {
         self.mode
     }
 
+    /// How many of its bytes were read.
+    pub fn place(&self) -> usize
+        ensures { result ≡ self.now.place }
+    {
+        self.place
+    }
+
     /// Puts other bytes in place of its own. Its mode and its place stay.
     pub fn refill(&mut self, content: Option<Vec<u8>>)
         ensures { self.new ≡ file (option_map (λ v. v.items) content) self.old.mode self.old.place }

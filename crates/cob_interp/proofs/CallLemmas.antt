@@ -1,0 +1,57 @@
+-- Statements by how they call files.
+use Rattle.std.proofs.Common.{◌≡◌, ℕ, List, sym, ap, refl}
+use Rattle.std.specs.Borrow.{Bor}
+use Rattle.cob_program.specs.declared.act.Opening.{Opening}
+use Rattle.cob_program.specs.Act.{Act, move, arith, if_, evaluate, perform, go, nothing, stop, open_files, close_files, read, write, show}
+use Rattle.cob_interp.specs.declared.parts.Call.{Call}
+use Rattle.cob_interp.specs.declared.parts.Call.TheVariants as call
+use Rattle.cob_interp.specs.Setting.{IsCall, IsOpen, IsClose, IsRead, IsOther}
+use Rattle.cob_interp.specs.Doing.{IsPlain}
+
+module _ (fs : Bor (List ℕ)) where
+  pub is_close : (a : Act) → IsCall a (call.Close fs) → a ≡ close_files fs.now
+  is_close (close_files xs) is = ap close_files (sym is)
+  is_close (open_files os) is = absurd is
+  is_close (read f into end fine) is = absurd is
+  is_close (move x places) is = absurd is
+  is_close (arith sum targets remainder size fine) is = absurd is
+  is_close (if_ t held other) is = absurd is
+  is_close (evaluate ws other) is = absurd is
+  is_close (perform body turns) is = absurd is
+  is_close (go para) is = absurd is
+  is_close nothing is = absurd is
+  is_close stop is = absurd is
+  is_close (write r from) is = absurd is
+  is_close (show xs) is = absurd is
+
+pub plain_read : (a : Act) (file : ℕ) → IsCall a (call.Read file) → IsPlain a
+plain_read (open_files os) file is = absurd is
+plain_read (close_files xs) file is = absurd is
+plain_read (read f into end fine) file is = tt
+plain_read (move x places) file is = tt
+plain_read (arith sum targets remainder size fine) file is = tt
+plain_read (if_ t held other) file is = tt
+plain_read (evaluate ws other) file is = tt
+plain_read (perform body turns) file is = tt
+plain_read (go para) file is = tt
+plain_read nothing file is = tt
+plain_read stop file is = tt
+plain_read (write r from) file is = tt
+plain_read (show xs) file is = tt
+
+pub plain_other : (a : Act) → IsCall a call.Other → IsPlain a
+plain_other (open_files os) is = absurd is
+plain_other (close_files xs) is = absurd is
+plain_other (read f into end fine) is = tt
+plain_other (move x places) is = tt
+plain_other (arith sum targets remainder size fine) is = tt
+plain_other (if_ t held other) is = tt
+plain_other (evaluate ws other) is = tt
+plain_other (perform body turns) is = tt
+plain_other (go para) is = tt
+plain_other nothing is = tt
+plain_other stop is = tt
+plain_other (write r from) is = tt
+plain_other (show xs) is = tt
+
+pub ruleset calls = (is_close, plain_read, plain_other)

@@ -1,0 +1,17 @@
+pub mod SeenFiles
+pub mod OneFile
+pub mod Calls
+pub mod Following
+pub mod Passing
+pub mod Onward
+pub mod PutLemmas
+pub mod NodeLemmas
+pub mod CallsLead
+pub mod CloseLemmas
+pub mod OpenLemmas
+pub mod Openings
+pub mod OpeningLemmas
+pub mod StepLemmas
+pub mod CallLemmas
+pub mod Beginnings
+pub mod OneEndLemmas

@@ -1,0 +1,134 @@
+-- How a program's run on told files ends within a budget of steps.
+use Rattle.std.specs.Prelude.{◌≡◌, ◌≤◌, ◌<◌, ◌⊎◌, ◌==◌, ◌&&◌, nat_lt, not, ℕ, ◌+◌, if◌then◌else◌, Bool, true, false, List, [], ◌∷◌, length, map, slice_get, Option, Some, None, Result, Ok, Err}
+use Rattle.std.specs.Option.{option_map_or}
+use Rattle.std.specs.FinMap.{get}
+use Rattle.batch_io.specs.FilesState as outside
+use Rattle.cob_data.specs.declared.layout.FileDecl.{FileDecl}
+use Rattle.cob_program.specs.declared.act.Opening.{Opening}
+use Rattle.cob_program.specs.Act.{Act, open_files, read, Program}
+use Rattle.cob_meaning.specs.declared.straight.Outcome.{Outcome}
+use Rattle.cob_meaning.specs.declared.straight.Outcome.TheVariants.{Going, Fault, IoStop}
+use Rattle.cob_meaning.specs.declared.straight.Outcome.TheVariants as outcome
+use Rattle.cob_runs.specs.Files.{File, Mode, closed, bytes_in, after_read}
+use Rattle.cob_runs.specs.State.{World, State}
+use Rattle.cob_runs.specs.Acts.{has_status, open_one}
+use Rattle.cob_runs.specs.Steps.{outcome_of}
+use Rattle.cob_runs.specs.Effects.{act_at}
+use Rattle.cob_runs.specs.Runs.{Contents, run}
+use Rattle.cob_graph.specs.Walks.{next_statement}
+use Rattle.cob_interp.specs.declared.ends.Ended.{Ended}
+use Rattle.cob_interp.specs.declared.ends.RunEnd.{RunEnd}
+use Rattle.cob_interp.specs.declared.ends.RunEnd.TheVariants as end
+
+-- what the files of a program hold where each has the path at its place
+abbrev pub told_files : outside.Contents → List (List ℕ) → Contents
+told_files told paths = map (get told) paths
+
+-- ---- files that end within a record, and files that are too long to be read
+
+-- a READ of the file would end at status 10, with bytes left that make no record
+abbrev pub is_cut : FileDecl → File → Bool
+is_cut d f = (after_read d.length f).status == 10 && nat_lt f.place (length (bytes_in f))
+
+abbrev pub cut_file : Option FileDecl → Option File → Bool
+cut_file (Some d) (Some f) = is_cut d f
+cut_file d f = false
+
+-- an input file is read whole, if it has at most so many bytes
+abbrev pub file_limit : ℕ
+file_limit = 67108864
+
+abbrev pub is_closed : Mode → Bool
+is_closed closed = true
+is_closed _ = false
+
+abbrev pub is_long : File → Bool
+is_long f = is_closed f.mode && nat_lt file_limit (length (bytes_in f))
+
+module _ (p : Program) where
+  abbrev pub file_is_long : Opening → World → Bool
+  file_is_long o w = not o.output && option_map_or is_long (slice_get w.files o.file) false
+
+  abbrev pub unless_over : Outcome → Bool → Bool
+  unless_over Going b = b
+  unless_over o b = false
+
+  -- Whether one of the files is too long, where they are opened in turn until one ends the run.
+  abbrev pub meets_long : ℕ → List Opening → World → Bool
+  meets_long number [] w = false
+  meets_long number (o ∷ os) w =
+      if file_is_long o w then true
+      else unless_over (outcome_of number (has_status p.layout o.file) (open_one p.layout o w).1)
+      (meets_long number os (open_one p.layout o w).0)
+
+  abbrev pub cut_by : Act → World → ℕ → Bool
+  cut_by (read f into end fine) w file = f == file && cut_file (slice_get p.layout.files f) (slice_get w.files f)
+  cut_by _ w file = false
+
+  -- the next statement is a READ that meets the file's ragged end
+  abbrev pub meets_cut : ℕ → World → ℕ → Bool
+  meets_cut statement w file = option_map_or (λ a. cut_by a w file) (act_at p statement) false
+
+  abbrev pub long_by : ℕ → Act → World → Bool
+  long_by number (open_files os) w = meets_long number os w
+  long_by number _ w = false
+
+  -- the next statement is an OPEN that meets a file that's too long
+  abbrev pub meets_too_long : ℕ → World → Bool
+  meets_too_long statement w = option_map_or (λ a. long_by statement a w) (act_at p statement) false
+
+  -- the run goes on, and neither stops the next step
+  pub record IsFree (s : State) : Type 0 where
+    pub uncut : (file : ℕ) → meets_cut (next_statement p s.control) s.world file ≡ false
+    pub short : meets_too_long (next_statement p s.control) s.world ≡ false
+
+  -- ---- ends
+
+  module _ (contents : Contents) where
+    abbrev pub state_after : ℕ → State
+    state_after n = run p contents [] [] n
+
+    -- so many steps were begun freely
+    abbrev pub AreFree : ℕ → Type 0
+    AreFree n = (m : ℕ) → m < n → IsFree (state_after m)
+
+    module _ (budget : ℕ) where
+      -- the run is over after so many steps, with this outcome
+      pub record EndsAfter (n : ℕ) (o : Outcome) : Type 0 where
+        pub within : n ≤ budget
+        pub outcome : (state_after n).outcome ≡ o
+        pub before : (m : ℕ) → m < n → (state_after m).outcome ≡ Going
+        pub free : AreFree n
+
+      -- it goes on behind the budget
+      pub record IsSpent : Type 0 where
+        pub outcome : (state_after budget).outcome ≡ Going
+        pub free : AreFree budget
+
+      -- the step behind so many is stopped
+      pub record IsStopped (n : ℕ) (Stops : ℕ → World → Type 0) : Type 0 where
+        pub within : n < budget
+        pub outcome : (state_after n).outcome ≡ Going
+        pub free : AreFree n
+        pub stops : Stops (next_statement p (state_after n).control) (state_after n).world
+
+      -- the file ends within a record, and has so many bytes
+      pub record IsCutAt (file count statement : ℕ) (w : World) : Type 0 where
+        pub cut : meets_cut statement w file ≡ true
+        pub counted : count ≡ option_map_or (λ f. length (bytes_in f)) (slice_get w.files file) 0
+
+      pub record IsLongAt (count statement : ℕ) (w : World) : Type 0 where
+        pub long : meets_too_long statement w ≡ true
+        pub counted : count ≡ file_limit + 1
+
+      -- What each answer says, behind so many steps. Faults of the outside and want of memory have clauses of their own.
+      abbrev pub IsEnd : Result Ended RunEnd → ℕ → Type 0
+      IsEnd (Ok e) n = (e.steps ≡ n) × EndsAfter n outcome.Ended
+      IsEnd (Err (end.StepsSpent count)) n = (count ≡ budget) × ((n ≡ budget) × IsSpent)
+      IsEnd (Err (end.IoStop status statement)) n = EndsAfter n (IoStop status statement)
+      IsEnd (Err (end.Fault kind statement step)) n = (step ≡ n) × EndsAfter n (Fault kind statement)
+      IsEnd (Err (end.Ragged file count)) n = IsStopped n (IsCutAt file count)
+      IsEnd (Err (end.Long count)) n = IsStopped n (IsLongAt count)
+      IsEnd (Err end.ReadFault) n = ⊥
+      IsEnd (Err end.WriteFault) n = ⊥
+      IsEnd (Err end.Memory) n = ⊥

@@ -1,0 +1,9 @@
+pub mod Ends
+pub mod Told
+pub mod Touching
+pub mod Running
+pub mod Walking
+pub mod Setting
+pub mod Readying
+pub mod Doing
+pub mod OneEnd

@@ -1,0 +1,212 @@
+-- What a run does to the outside's files and sink.
+use Rattle.std.specs.Prelude.{◌≡◌, ◌≤◌, ◌<◌, ◌⊎◌, ℕ, ◌+◌, Bool, true, false, List, [], ◌∷◌, ◌++◌, take, length, map, slice_get, Contains, Option, Some, None, IfSome, Result, Ok, Err}
+use Rattle.std.specs.Option.{option_map_or}
+use Rattle.std.specs.Io.KnownBytes.{append_known}
+use Rattle.std.specs.FinMap.{get}
+use Rattle.batch_io.specs.Faults.{Rose}
+use Rattle.batch_io.specs.FilesState.{Contents, FilesState, KeepsIds, known_bytes}
+use Rattle.batch_io.specs.SinkState.{SinkState}
+use Rattle.cob_program.specs.Act.{Program}
+use Rattle.cob_runs.specs.Files.{File}
+use Rattle.cob_runs.specs.State.{World, State}
+use Rattle.cob_runs.specs.Effects.{act_at}
+use Rattle.cob_graph.specs.declared.graph.Graph.{Graph}
+use Rattle.cob_graph.specs.declared.graph.Node.{Node}
+use Rattle.cob_graph.specs.Walks.{node_at, next_statement, passed}
+use Rattle.cob_program.specs.declared.act.Opening.{Opening}
+use Rattle.cob_ways.specs.Telling.{Way, WaysTell, GoesOnAfter}
+use Rattle.cob_interp.specs.declared.ends.Ended.{Ended}
+use Rattle.cob_interp.specs.declared.ends.Ending.{Ending}
+use Rattle.cob_interp.specs.declared.ends.RunEnd.{RunEnd}
+use Rattle.cob_interp.specs.declared.ends.RunEnd.TheVariants as end
+use Rattle.cob_interp.specs.Ends.{told_files, meets_long, AreFree, IsEnd, state_after}
+use Rattle.cob_interp.specs.Told.{seen, seen_files, AreSynced, KeepsNames, Holds}
+use Rattle.cob_interp.specs.Touching.{IsPartOf, makes_by}
+
+-- ---- while it runs
+
+-- the files and the sink as a call finds them
+pub record Outside : Type 0 where
+  pub files : FilesState
+  pub sink : SinkState
+
+abbrev pub outside : FilesState → SinkState → Outside
+outside files sink = record { files = files; sink = sink }
+
+-- no fault was told so far, ids are as they were, and the sink gained this text
+pub record IsWell (old new : Outside) (text : List ℕ) : Type 0 where
+  pub reading : new.files.reading ≡ old.files.reading
+  pub writing : new.files.writing ≡ old.files.writing
+  pub faults : new.sink.faults ≡ old.sink.faults
+  pub ids : KeepsIds old.files new.files
+  pub gained : new.sink.told ≡ append_known old.sink.told text
+
+-- a fact of the first contents and of those behind them, where contents are told
+abbrev pub IfTold : (Contents → Contents → Type 0) → Option Contents → Option Contents → Type 0
+IfTold IsIt (Some first) (Some told) = IsIt first told
+IfTold IsIt (Some first) None = ⊥
+IfTold IsIt None told = Unit {0}
+
+abbrev pub RoseReading : Outside → Outside → Type 0
+RoseReading old new = Rose old.files.reading new.files.reading
+
+abbrev pub RoseWriting : Outside → Outside → Type 0
+RoseWriting old new = Rose old.files.writing new.files.writing ⊎ Rose old.sink.faults new.sink.faults
+
+-- the next statement opens the file at a place for output
+abbrev pub makes_next : Program → State → ℕ → Bool
+makes_next p s place = option_map_or (λ a. makes_by a place) (act_at p (next_statement p s.control)) false
+
+module _ (p : Program) (g : Graph) (paths : List (List ℕ)) where
+  -- The way that the run has come stands in what is kept: it has left so many nodes at which a step begins. So many
+  -- steps were begun, all of them freely.
+  pub record StandsIn (first told : Contents) (text : List ℕ) (w : World) (left begun node : ℕ) : Type 0 where
+    pub tells : WaysTell p g (told_files first paths) []
+    pub way : Way p g (told_files first paths) [] left node (seen told paths text w)
+    pub synced : AreSynced told paths w.files
+    pub others : KeepsNames first told paths
+    pub free : AreFree p (told_files first paths) begun
+
+  abbrev pub StandsIf : Option Contents → Option Contents → List ℕ → World → ℕ → ℕ → ℕ → Type 0
+  StandsIf a b text w left begun node = IfTold (λ first told. StandsIn first told text w left begun node) a b
+
+  pub record Stands (start now : Outside) (w : World) (left begun node : ℕ) : Type 0 where
+    pub text : List ℕ
+    pub well : IsWell start now text
+    pub told : StandsIf (known_bytes start.files) (known_bytes now.files) text w left begun node
+
+  -- at a node of the step with a number, counted from 1
+  pub record IsUnderway (start now : Outside) (w : World) (step node : ℕ) : Type 0 where
+    pub left : ℕ
+    pub stands : Stands start now w left step node
+    pub counts : (x : Node) → node_at g.nodes node ≡ Some x → step ≡ passed left x
+
+  -- ---- in an OPEN
+
+  -- So many steps were begun freely, and then an OPEN with these files, of which so many are left to be opened. Whether one
+  -- that is too long is met is to be seen of those.
+  pub record OpensIn (first told : Contents) (text : List ℕ) (w : World) (left steps node number : ℕ) (os rest : List Opening) : Type 0
+    where
+      pub stands : StandsIn first told text w left steps node
+      pub begin : World
+      pub begins : GoesOnAfter p g (told_files first paths) [] steps number begin
+      pub same : meets_long p number os begin ≡ meets_long p number rest (seen told paths text w)
+
+  pub record Opens (start now : Outside) (w : World) (left steps node number : ℕ) (os rest : List Opening) : Type 0 where
+    pub text : List ℕ
+    pub well : IsWell start now text
+    pub told : IfTold (λ first told. OpensIn first told text w left steps node number os rest) (known_bytes start.files) (known_bytes now.files)
+
+  -- ---- behind it
+
+  module _ (budget : ℕ) where
+    -- the run's own end stands in what is kept
+    pub record RestsIn (first told : Contents) (text : List ℕ) (w : World) (result : Result Ended RunEnd) : Type 0 where
+      pub steps : ℕ
+      pub answer : IsEnd p (told_files first paths) budget result steps
+      pub files : (state_after p (told_files first paths) steps).world.files ≡ seen_files told paths w.files
+      pub shown : (state_after p (told_files first paths) steps).world.shown ≡ text ++ w.shown
+      pub synced : AreSynced told paths w.files
+      pub others : KeepsNames first told paths
+
+    abbrev pub RestsIf : Option Contents → Option Contents → List ℕ → World → Result Ended RunEnd → Type 0
+    RestsIf a b text w result = IfTold (λ first told. RestsIn first told text w result) a b
+
+    pub record Rests (start now : Outside) (w : World) (result : Result Ended RunEnd) : Type 0 where
+      pub text : List ℕ
+      pub well : IsWell start now text
+      pub told : RestsIf (known_bytes start.files) (known_bytes now.files) text w result
+
+    -- the answer is the run's, and the outside's files and sink hold what it has written and shown
+    pub record EndsRun (first told : Contents) (sink_before sink_after : SinkState) (result : Result Ended RunEnd) : Type 0 where
+      pub steps : ℕ
+      pub answer : IsEnd p (told_files first paths) budget result steps
+      pub holds : Holds first told paths (state_after p (told_files first paths) steps).world.files
+      pub shows : sink_after.told ≡ append_known sink_before.told (state_after p (told_files first paths) steps).world.shown
+
+    abbrev pub EndsRunIf : Option Contents → Option Contents → SinkState → SinkState → Result Ended RunEnd → Type 0
+    EndsRunIf a b sink_before sink_after result = IfTold (λ first told. EndsRun first told sink_before sink_after result) a b
+
+    -- the run's own end: no fault of the outside was met
+    pub record EndsWell (old new : Outside) (result : Result Ended RunEnd) : Type 0 where
+      pub reading : new.files.reading ≡ old.files.reading
+      pub writing : new.files.writing ≡ old.files.writing
+      pub faults : new.sink.faults ≡ old.sink.faults
+      pub run : EndsRunIf (known_bytes old.files) (known_bytes new.files) old.sink new.sink result
+
+    -- The run was broken off behind so many steps, or in the next one: each file holds what it holds there, or a part of
+    -- it; what is shown is a front of what is shown there.
+    pub record BreaksOff (first told : Contents) (sink_before sink_after : SinkState) : Type 0 where
+      pub steps : ℕ
+      pub within : steps ≤ budget
+      pub free : AreFree p (told_files first paths) steps
+      pub files : (place : ℕ) (path : List ℕ) (f : File) → slice_get paths place ≡ Some path
+          → slice_get (state_after p (told_files first paths) steps).world.files place ≡ Some f
+          → IsPartOf (makes_next p (state_after p (told_files first paths) steps) place) f f.content (get told path)
+      pub others : KeepsNames first told paths
+      pub shows : (n : ℕ) × (sink_after.told ≡ append_known sink_before.told
+          (take n (state_after p (told_files first paths) steps).world.shown))
+
+    abbrev pub IsBroken : Outside → Outside → Type 0
+    IsBroken start now = IfTold (λ first told. BreaksOff first told start.sink now.sink) (known_bytes start.files) (known_bytes now.files)
+
+    -- a refusal by the outside, for want of memory, or of a file that's too long
+    abbrev pub IfRefused : Result Ended RunEnd → Type 0 → Type 0
+    IfRefused (Err end.ReadFault) P = P
+    IfRefused (Err end.WriteFault) P = P
+    IfRefused (Err end.Memory) P = P
+    IfRefused (Err (end.Long count)) P = P
+    IfRefused result P = Unit {0}
+
+    -- an input file is too long
+    abbrev pub IsTooLong : Option Contents → ℕ → Type 0
+    IsTooLong known count = IfSome known (λ first. (n : ℕ) × IsEnd p (told_files first paths) budget (Err (end.Long count)) n)
+
+    -- Why the run was refused: a fault of the outside, which its count shows, or an input file that is too long. Of
+    -- want of memory nothing is said. Any other answer is the run's own end.
+    abbrev pub EndsBy : (Outside → Outside → Result Ended RunEnd → Type 0) → Outside → Outside → Result Ended RunEnd → Type 0
+    EndsBy own old new (Err end.ReadFault) = RoseReading old new
+    EndsBy own old new (Err end.WriteFault) = RoseWriting old new
+    EndsBy own old new (Err end.Memory) = Unit {0}
+    EndsBy own old new (Err (end.Long count)) = IsTooLong (known_bytes old.files) count
+    EndsBy own old new result = own old new result
+
+    -- while the world is kept
+    abbrev pub Halts : Outside → Outside → World → Result Ended RunEnd → Type 0
+    Halts start now w result = EndsBy (λ old new r. Rests old new w r) start now result
+
+    -- what a call answers that opens a file in an OPEN
+    abbrev pub ArrivesOpening : Outside → Outside → World → ℕ → ℕ → List Opening → List Opening → Result ℕ RunEnd → Type 0
+    ArrivesOpening start now w steps number os rest (Ok node) = Opens start now w (steps + 1) steps node number os rest
+    ArrivesOpening start now w steps number os rest (Err e) = Halts start now w (Err e)
+
+    -- what a call answers that does a node's part: the next node, where all goes on to stand, or why the run halts
+    abbrev pub Arrives : Outside → Outside → World → ℕ → Result ℕ RunEnd → Type 0
+    Arrives start now w step (Ok node) = Stands start now w step step node
+    Arrives start now w step (Err e) = Halts start now w (Err e)
+
+    -- at a node at which a step begins, or at the last one, wherever the run might be broken off now
+    pub record IsAt (start now : Outside) (w : World) (steps node : ℕ) : Type 0 where
+      pub stands : Stands start now w steps steps node
+      pub part : IsBroken start now
+
+    -- the run goes on at a node, or halts
+    abbrev pub GoesOn : Outside → Outside → World → ℕ → Result ℕ RunEnd → Type 0
+    GoesOn start now w step (Ok node) = IsAt start now w step node
+    GoesOn start now w step (Err e) = Halts start now w (Err e) × IfRefused (Err e) (IsBroken start now)
+
+    pub record HaltsOff (start now : Outside) (w : World) (result : Result Ended RunEnd) : Type 0 where
+      pub halts : Halts start now w result
+      pub part : IfRefused result (IsBroken start now)
+
+    -- behind the run: how it ended; and what is left where it was refused
+    pub record Runs (old new : Outside) (result : Result Ended RunEnd) : Type 0 where
+      pub ends : EndsBy EndsWell old new result
+      pub part : IfRefused result (IsBroken old new)
+
+-- ---- the sink
+
+-- Whether the sink refused text: then that is why the run was refused, and else it told no fault.
+pub record TellsOfSink (old new : SinkState) (e : Ending) : Type 0 where
+  pub kept : e.sink_refused ≡ false → new.faults ≡ old.faults
+  pub refused : e.sink_refused ≡ true → ((e.end ≡ Err end.WriteFault) × Rose old.faults new.faults) ⊎ (e.end ≡ Err end.Memory)

@@ -1,0 +1,67 @@
+-- What holds of what a run is of.
+use Rattle.std.specs.Prelude.{◌≡◌, ℕ, true, List, map, Option, Some, String, string_bytes}
+use Rattle.std.specs.declared.alloc.Global.{Global}
+use Rattle.std.specs.List.{All}
+use Rattle.cob_program.specs.declared.act.Opening.{Opening}
+use Rattle.cob_program.specs.Act.{Act, open_files, close_files, read, Program}
+use Rattle.cob_program.specs.ActView.{plain_program}
+use Rattle.cob_items.specs.Sound.{HasSoundItems}
+use Rattle.cob_plan.specs.Plan.{AreSpots, IsSpot, IsStatement}
+use Rattle.cob_interp.specs.declared.parts.Call.{Call}
+use Rattle.cob_interp.specs.declared.parts.Call.TheVariants as call
+use Rattle.cob_interp.specs.declared.setting.Setting.{Setting}
+use Rattle.cob_interp.specs.declared.setting.Place.{Place}
+use Rattle.cob_interp.specs.Told.{AreDistinct}
+
+abbrev pub texts : List (String Global) → List (List ℕ)
+texts words = map string_bytes words
+
+abbrev pub program_of : Setting → Program
+program_of s = plain_program s.program.now
+
+abbrev pub paths_of : Setting → List (List ℕ)
+paths_of s = texts s.paths.now
+
+pub record IsReady (s : Setting) : Type 0 where
+  pub spots : AreSpots s.graph.now s.plan.spots.items
+  pub statements : All (IsStatement (program_of s)) s.plan.statements.items
+  pub sound : HasSoundItems s.program.now.layout
+  pub distinct : AreDistinct (paths_of s)
+
+-- a node, and its statement
+pub record IsPlace (s : Setting) (node : ℕ) (x : Place) : Type 0 where
+  pub spot : IsSpot s.graph.now node x.spot
+  pub statement : IsStatement (program_of s) x.statement.now
+  pub number : x.statement.now.number ≡ x.spot.statement
+
+-- a node at which a step begins, and its statement
+pub record StartsAt (s : Setting) (node : ℕ) (x : Place) : Type 0 where
+  pub is : IsPlace s node x
+  pub starts : x.spot.starts ≡ true
+
+-- of some node
+abbrev pub IsPlaced : Setting → Place → Type 0
+IsPlaced s x = IsStatement (program_of s) x.statement.now
+
+abbrev pub IsOpen : Call → List Opening → Type 0
+IsOpen (call.Open os) openings = os.now ≡ openings
+IsOpen _ openings = ⊥
+
+abbrev pub IsClose : Call → List ℕ → Type 0
+IsClose (call.Close fs) files = fs.now ≡ files
+IsClose _ files = ⊥
+
+abbrev pub IsRead : Call → ℕ → Type 0
+IsRead (call.Read f) file = f ≡ file
+IsRead _ file = ⊥
+
+abbrev pub IsOther : Call → Type 0
+IsOther call.Other = Unit {0}
+IsOther _ = ⊥
+
+-- how a statement calls files
+abbrev pub IsCall : Act → Call → Type 0
+IsCall (open_files os) c = IsOpen c os
+IsCall (close_files fs) c = IsClose c fs
+IsCall (read f into end fine) c = IsRead c f
+IsCall _ c = IsOther c

@@ -1,0 +1,83 @@
+-- How the world of a program's run stands in what the interpreter keeps: a world of its own, the outside's files, and the
+-- text that was already shown.
+use Rattle.std.specs.Prelude.{◌≡◌, ◌≢◌, ℕ, Bool, true, false, List, [], ◌∷◌, ◌++◌, length, map, slice_get, Contains, Option, Some, None}
+use Rattle.std.specs.FinMap.{get}
+use Rattle.batch_io.specs.FilesState.{Contents}
+use Rattle.cob_runs.specs.Files.{File, file, Mode, closed, reading, writing}
+use Rattle.cob_runs.specs.State.{World}
+
+module _ (told : Contents) where
+  -- a closed file holds what is told under its path; an open one is kept
+  abbrev pub seen_in : Mode → List ℕ → File → File
+  seen_in closed path f = file (get told path) closed f.place
+  seen_in (reading ended) path f = f
+  seen_in writing path f = f
+
+  abbrev pub seen_file : List ℕ → File → File
+  seen_file path f = seen_in f.mode path f
+
+  abbrev pub seen_files : List (List ℕ) → List File → List File
+  seen_files [] fs = fs
+  seen_files (path ∷ paths) [] = []
+  seen_files (path ∷ paths) (f ∷ fs) = seen_file path f ∷ seen_files paths fs
+
+  -- the world that the run works on, where this text was shown already
+  abbrev pub seen : List (List ℕ) → List ℕ → World → World
+  seen paths text w = record { storage = w.storage; counts = w.counts; files = seen_files paths w.files; shown = text ++ w.shown }
+
+  -- An open file is told too: all of it where it is read, and nothing yet where it is written.
+  abbrev pub IsSyncedIn : Mode → List ℕ → Option (List ℕ) → Type 0
+  IsSyncedIn closed path content = Unit {0}
+  IsSyncedIn (reading ended) path content = get told path ≡ content
+  IsSyncedIn writing path content = (get told path ≡ Some []) × ((bytes : List ℕ) × (content ≡ Some bytes))
+
+  abbrev pub IsSynced : List ℕ → File → Type 0
+  IsSynced path f = IsSyncedIn f.mode path f.content
+
+  -- each file has its path
+  abbrev pub AreSynced : List (List ℕ) → List File → Type 0
+  AreSynced [] [] = Unit {0}
+  AreSynced [] (f ∷ fs) = ⊥
+  AreSynced (path ∷ paths) [] = ⊥
+  AreSynced (path ∷ paths) (f ∷ fs) = IsSynced path f × AreSynced paths fs
+
+-- names that are no paths of the program's hold what they held
+abbrev pub KeepsNames : Contents → Contents → List (List ℕ) → Type 0
+KeepsNames old new paths = (name : List ℕ) → (Contains paths name → ⊥) → get new name ≡ get old name
+
+-- no two paths are equal
+abbrev pub AreDistinct : List (List ℕ) → Type 0
+AreDistinct [] = Unit {0}
+AreDistinct (path ∷ paths) = (Contains paths path → ⊥) × AreDistinct paths
+
+-- the files hold this behind the run
+pub record Holds (old new : Contents) (paths : List (List ℕ)) (files : List File) : Type 0 where
+  pub its : map (get new) paths ≡ map (λ f. f.content) files
+  pub others : KeepsNames old new paths
+
+-- ---- where the outside's files are made ready for OPEN and CLOSE
+
+module _ (told now : Contents) where
+  -- each name but one holds what it held
+  abbrev pub AgreeBut : List ℕ → Type 0
+  AgreeBut path = (name : List ℕ) → name ≢ path → get now name ≡ get told name
+
+  module _ (path : List ℕ) where
+    -- a closed file that is opened for writing is told empty, and one that is opened for reading is kept as it is told
+    abbrev pub IsReadyToOpenIn : Bool → Mode → Option (List ℕ) → Type 0
+    IsReadyToOpenIn true closed content = get now path ≡ Some []
+    IsReadyToOpenIn false closed content = (get now path ≡ get told path) × (content ≡ get told path)
+    IsReadyToOpenIn output (reading ended) content = get now path ≡ get told path
+    IsReadyToOpenIn output writing content = get now path ≡ get told path
+
+    -- a file that was written is told
+    abbrev pub IsReadyToCloseIn : Mode → Option (List ℕ) → Type 0
+    IsReadyToCloseIn closed content = get now path ≡ get told path
+    IsReadyToCloseIn (reading ended) content = get now path ≡ get told path
+    IsReadyToCloseIn writing content = get now path ≡ content
+
+    abbrev pub IsReadyToOpen : Bool → File → Type 0
+    IsReadyToOpen output f = IsReadyToOpenIn output f.mode f.content
+
+    abbrev pub IsReadyToClose : File → Type 0
+    IsReadyToClose f = IsReadyToCloseIn f.mode f.content

@@ -1,0 +1,90 @@
+-- What a statement that isn't done, or a call within it, leaves of the outside's files.
+use Rattle.std.specs.Prelude.{◌≡◌, ℕ, ◌==◌, ◌&&◌, ◌⊎◌, Bool, true, false, List, [], ◌∷◌, take, slice_get, Option, Some, IfSome}
+use Rattle.std.specs.List.{list_any}
+use Rattle.std.specs.FinMap.{get}
+use Rattle.batch_io.specs.FilesState.{Contents, FilesState, KeepsIds, known_bytes}
+use Rattle.cob_program.specs.declared.act.Opening.{Opening}
+use Rattle.cob_program.specs.Act.{Act, open_files}
+use Rattle.cob_runs.specs.Files.{File, closed, writing, bytes_in}
+use Rattle.cob_runs.specs.State.{World}
+use Rattle.cob_interp.specs.Told.{AgreeBut, KeepsNames}
+
+-- ---- what is told of a file
+
+-- of one that is being written a front
+abbrev pub IsFront : File → Option (List ℕ) → Type 0
+IsFront f now = (f.mode ≡ writing) × ((n : ℕ) × (now ≡ Some (take n (bytes_in f))))
+
+-- a closed one that is opened for output is empty already
+abbrev pub IsEmptied : Bool → File → Option (List ℕ) → Type 0
+IsEmptied makes f now = (makes ≡ true) × ((f.mode ≡ closed) × (now ≡ Some []))
+
+-- This; or, where the file is being written, a front of it; or, where it is closed and opened for output, nothing yet.
+abbrev pub IsPartOf : Bool → File → Option (List ℕ) → Option (List ℕ) → Type 0
+IsPartOf makes f whole now = (now ≡ whole) ⊎ (IsFront f now ⊎ IsEmptied makes f now)
+
+-- ---- the files that an OPEN makes anew
+
+abbrev pub makes_in : List Opening → ℕ → Bool
+makes_in os place = list_any (λ o. o.output && (o.file == place)) os
+
+abbrev pub makes_by : Act → ℕ → Bool
+makes_by (open_files os) place = makes_in os place
+makes_by _ place = false
+
+abbrev pub makes_none : ℕ → Bool
+makes_none place = false
+
+-- ---- one name
+
+-- The name holds what it held, or a front of these bytes; all other names hold what they held.
+pub record IsPutIn (name bytes : List ℕ) (told : Contents) (known : Option Contents) : Type 0 where
+  pub now : Contents
+  pub is : known ≡ Some now
+  pub others : AgreeBut told now name
+  pub it : (get now name ≡ get told name) ⊎ ((n : ℕ) × (get now name ≡ Some (take n bytes)))
+
+pub record PutsPart (old new : FilesState) (name bytes : List ℕ) : Type 0 where
+  pub ids : KeepsIds old new
+  pub known : (told : Contents) → known_bytes old ≡ Some told → IsPutIn name bytes told (known_bytes new)
+
+-- the name holds a part of the file
+pub record TouchesOneIn (path : List ℕ) (makes : Bool) (f : File) (told : Contents) (known : Option Contents) : Type 0 where
+  pub now : Contents
+  pub is : known ≡ Some now
+  pub others : AgreeBut told now path
+  pub it : IsPartOf makes f (get told path) (get now path)
+
+pub record TouchesOne (old new : FilesState) (path : List ℕ) (makes : Bool) (f : File) : Type 0 where
+  pub ids : KeepsIds old new
+  pub known : (told : Contents) → known_bytes old ≡ Some told → TouchesOneIn path makes f told (known_bytes new)
+
+-- ---- all names
+
+module _ (paths : List (List ℕ)) (makes : ℕ → Bool) (w : World) where
+  -- each path holds what it held or a part of its file in this world; all other names hold what they held
+  pub record TouchesIn (told now : Contents) : Type 0 where
+    pub its : (place : ℕ) (path : List ℕ) (f : File) → slice_get paths place ≡ Some path → slice_get w.files place ≡ Some f
+        → IsPartOf (makes place) f (get told path) (get now path)
+    pub others : KeepsNames told now paths
+
+  pub record IsTouched (told : Contents) (known : Option Contents) : Type 0 where
+    pub now : Contents
+    pub is : known ≡ Some now
+    pub touches : TouchesIn told now
+
+  -- whatever the call answers
+  pub record Touches (old new : FilesState) : Type 0 where
+    pub ids : KeepsIds old new
+    pub known : (told : Contents) → known_bytes old ≡ Some told → IsTouched told (known_bytes new)
+
+-- ---- how files change within a statement
+
+-- a CLOSE leaves each file as it was, or closed
+abbrev pub ClosesOnly : World → World → Type 0
+ClosesOnly old new = (place : ℕ) (f : File) → slice_get new.files place ≡ Some f → (slice_get old.files place ≡ Some f) ⊎ (f.mode ≡ closed)
+
+-- an OPEN closes none
+abbrev pub OpensOnly : World → World → Type 0
+OpensOnly old new = (place : ℕ) (f : File) → slice_get new.files place ≡ Some f → f.mode ≡ closed
+    → IfSome (slice_get old.files place) (λ e. e.mode ≡ closed)

@@ -1,0 +1,17 @@
+//! Runs a program on the outside's files.
+#![tactic(auto)]
+
+mod ends;
+mod laws;
+mod nodes;
+mod opens;
+mod outside;
+mod parts;
+mod run;
+mod setting;
+mod steps;
+mod walk;
+
+pub use ends::{Ended, Ending, RunEnd};
+pub use laws::one_end;
+pub use run::{run, run_to_ending};

@@ -1,0 +1,115 @@
+//! What is done at a node of a step.
+ghost use Rattle.std.specs.Prelude.{◌≡◌, ℕ, IfOk, length, slice_get};
+ghost use Rattle.batch_io.specs.SinkState.{SinkState};
+ghost use Rattle.cob_program.specs.Act.{open_files, close_files};
+ghost use Rattle.cob_program.specs.ActView.{plain_act};
+ghost use Rattle.cob_interp.specs.Running.{Outside, outside};
+ghost use Rattle.cob_interp.specs.Setting.{IsReady, IsPlace, IsPlaced, paths_of};
+ghost use Rattle.cob_interp.specs.Touching.{Touches, ClosesOnly, makes_none};
+ghost use Rattle.cob_interp.specs.Doing.{IsPlain, halted, DoesPart, Leads};
+
+use crate::ends::RunEnd;
+use crate::outside::ready_to_close;
+use crate::setting::{Place, Setting};
+use batch_io::Files;
+use cob_plan::{DoEnd, Op, do_op};
+use cob_world::World;
+use std::alloc::Global;
+
+fn halt_of(end: DoEnd, statement: u32, step: u64) -> RunEnd
+    ensures { result ≡ halted statement step end }
+{
+    match end {
+        DoEnd::Fault(kind) => RunEnd::Fault {
+            kind,
+            statement,
+            step,
+        },
+        DoEnd::Stop(status) => RunEnd::IoStop { status, statement },
+        DoEnd::Memory => RunEnd::Memory,
+    }
+}
+
+/// Does the part of a node, where no file has to be made ready for it. Answers the next node.
+pub fn do_part(
+    alloc: Global,
+    setting: &Setting,
+    place: &Place,
+    world: &mut World,
+    step: u64,
+) -> Result<u32, RunEnd>
+    requires ready { IsReady setting.now }
+    requires whole { length world.old.storage ≡ setting.now.program.now.layout.storage }
+    requires place { IsPlaced setting.now place.now }
+    ensures kept { length world.new.storage ≡ length world.old.storage }
+    ensures does { DoesPart setting.now place.now step world.old world.new result }
+{
+    match do_op(
+        alloc,
+        setting.program,
+        place.statement,
+        &place.spot.op,
+        world,
+    ) {
+        Ok(node) => Ok(node),
+        Err(end) => Err(halt_of(end, place.statement.number, step)),
+    }
+}
+
+/// Does the part of a node whose statement is neither OPEN nor CLOSE.
+pub fn do_plain(
+    alloc: Global,
+    setting: &Setting,
+    place: &Place,
+    world: &mut World,
+    step: u64,
+) -> Result<u32, RunEnd>
+    requires ready { IsReady setting.now }
+    requires whole { length world.old.storage ≡ setting.now.program.now.layout.storage }
+    requires place { IsPlaced setting.now place.now }
+    requires plain { IsPlain (plain_act place.now.statement.now.act.now) }
+    ensures kept { length world.new.storage ≡ length world.old.storage }
+    ensures leads { (now : Outside) (node budget : ℕ) → IsPlace setting.now node place.now
+        → Leads setting.now budget step node now now world.old world.new result }
+{
+    do_part(alloc, setting, place, world, step)
+}
+
+fn file_in(files: &[u32], number: u32) -> Option<u32>
+    ensures { result ≡ slice_get files.now number }
+{
+    files.get(number as usize).copied()
+}
+
+/// Does the part of a node whose statement is a CLOSE of these files.
+pub fn do_close<F: Files>(
+    alloc: Global,
+    setting: &Setting,
+    files: &mut F,
+    place: &Place,
+    closed: &[u32],
+    world: &mut World,
+    step: u64,
+) -> Result<u32, RunEnd>
+    requires ready { IsReady setting.now }
+    requires whole { length world.old.storage ≡ setting.now.program.now.layout.storage }
+    requires place { IsPlaced setting.now place.now }
+    requires its { plain_act place.now.statement.now.act.now ≡ close_files closed.now }
+    ensures kept { length world.new.storage ≡ length world.old.storage }
+    ensures leads { (sink : SinkState) (node budget : ℕ) → IsPlace setting.now node place.now
+        → Leads setting.now budget step node (outside (F.state files.old) sink) (outside (F.state files.new) sink)
+        world.old world.new result }
+    ensures touches { Touches (paths_of setting.now) makes_none world.old (F.state files.old) (F.state files.new) }
+    ensures closes { IfOk result (λ _. ClosesOnly world.old world.new) }
+{
+    let Op::Close { file, .. } = place.spot.op else {
+        return Err(RunEnd::Memory);
+    };
+    match file_in(closed, file) {
+        None => Err(RunEnd::Memory),
+        Some(at) => {
+            ready_to_close(setting, files, world, at)?;
+            do_part(alloc, setting, place, world, step)
+        }
+    }
+}

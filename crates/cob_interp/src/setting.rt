@@ -1,0 +1,74 @@
+//! A program that is run, with its plan and the paths of its files.
+ghost use Rattle.std.specs.Prelude.{◌≡◌, ◌==◌, ℕ, false, Some, None, IfSome};
+ghost use Rattle.cob_graph.specs.declared.graph.Node.{Node};
+ghost use Rattle.cob_graph.specs.Walks.{node_at, final_in};
+ghost use Rattle.cob_interp.specs.Setting.{IsReady, IsPlace, StartsAt};
+ghost use Rattle.cob_interp.specs.Readying.{IsPath};
+
+use cob_graph::Graph;
+use cob_plan::{Plan, Spot, Statement};
+use cob_program::Program;
+
+/// A program, its graph, what is done at each node, and the path of each file in the order of their SELECT entries.
+#[derive(Drop)]
+pub struct Setting<'a> {
+    pub program: &'a Program,
+    pub graph: &'a Graph,
+    pub plan: Plan<'a>,
+    pub paths: &'a [String],
+}
+
+/// A node with its statement.
+#[derive(Drop)]
+pub struct Place<'a, 'b> {
+    pub spot: Spot,
+    pub statement: &'a Statement<'b>,
+}
+
+impl<'b> Setting<'b> {
+    /// Whether a node is the last one.
+    pub fn is_final(&self, node: u32) -> bool
+        ensures { result ≡ (node == final_in self.now.graph.now) }
+    {
+        node as usize == self.graph.nodes.get().len()
+    }
+
+    /// Whether no step goes on at a node: one begins there, or the run has ended, or there is no such node.
+    pub fn rests_at(&self, node: u32) -> bool
+        requires { IsReady self.now }
+        ensures { result ≡ false → (x : Node) → node_at self.now.graph.now.nodes node ≡ Some x → x.starts ≡ false }
+    {
+        match self.plan.spot(node) {
+            None => true,
+            Some(spot) => spot.starts || self.is_final(node),
+        }
+    }
+
+    /// A node that isn't the last one, with its statement.
+    pub fn place(&self, node: u32) -> Option<Place<'_, 'b>>
+        requires { IsReady self.now }
+        ensures { IfSome result (λ x. IsPlace self.now node x) }
+    {
+        let spot = self.plan.spot(node)?;
+        let statement = self.plan.statement(spot.statement)?;
+        Some(Place { spot, statement })
+    }
+
+    /// A node at which a step begins, with its statement.
+    pub fn start(&self, node: u32) -> Option<Place<'_, 'b>>
+        requires { IsReady self.now }
+        ensures { IfSome result (λ x. StartsAt self.now node x) }
+    {
+        let place = self.place(node)?;
+        if place.spot.starts { Some(place) } else { None }
+    }
+
+    /// The path of the file at a place.
+    pub fn path(&self, place: u32) -> Option<&str>
+        ensures { IfSome result (λ path. IsPath self.now place path.now) }
+    {
+        let _decl = self.program.layout.files.get().get(place as usize)?;
+        let path = self.paths.get(place as usize)?;
+        Some(path.as_str())
+    }
+}

@@ -1,0 +1,186 @@
+//! A step of the run: all that its statement does, from the node at which it begins to the next such node.
+ghost use Rattle.std.specs.Prelude.{◌≡◌, ◌+◌, ◌<◌, ℕ, MatchResult, IfOk, false, length, slice_get};
+ghost use Rattle.batch_io.specs.SinkState.{SinkState};
+ghost use Rattle.cob_data.specs.declared.layout.FileDecl as declared;
+ghost use Rattle.cob_program.specs.ActView.{plain_act};
+ghost use Rattle.cob_runs.specs.Acts.{decl_at};
+ghost use Rattle.cob_interp.specs.Ends.{is_cut, cut_file};
+ghost use Rattle.cob_interp.specs.Running.{Outside, outside, Stands, Arrives};
+ghost use Rattle.cob_interp.specs.Setting.{IsReady, StartsAt, program_of, paths_of};
+ghost use Rattle.cob_interp.specs.Touching.{Touches, ClosesOnly, makes_by, makes_none};
+ghost use Rattle.cob_interp.specs.Doing.{IsRaggedAt, Leads};
+
+use crate::ends::RunEnd;
+use crate::nodes::{do_close, do_plain};
+use crate::opens::open_all;
+use crate::parts::{Call, call_of};
+use crate::setting::{Place, Setting};
+use batch_io::Files;
+use cob_world::{File, FileMode, World};
+use std::alloc::Global;
+
+/// Does the part of a node of a step that is underway, of a statement that is neither OPEN nor CLOSE. Answers the next
+/// node.
+#[tactic(auto, using(crate::proofs::CallLemmas::calls))]
+fn do_node(
+    alloc: Global,
+    setting: &Setting,
+    world: &mut World,
+    node: u32,
+    step: u64,
+) -> Result<u32, RunEnd>
+    requires ready { IsReady setting.now }
+    requires whole { length world.old.storage ≡ setting.now.program.now.layout.storage }
+    ensures kept { length world.new.storage ≡ length world.old.storage }
+    ensures leads { (now : Outside) (budget : ℕ) → Leads setting.now budget step node now now world.old world.new result }
+{
+    let Some(place) = setting.place(node) else {
+        return Err(RunEnd::Memory);
+    };
+    match call_of(place.statement.act) {
+        Call::Open(_) | Call::Close(_) => Err(RunEnd::Memory),
+        Call::Read(_) => do_plain(alloc, setting, &place, world, step),
+        Call::Other => do_plain(alloc, setting, &place, world, step),
+    }
+}
+
+/// Goes on in a step that is underway, of a statement that is neither OPEN nor CLOSE, until another begins or the run
+/// has ended. Answers the node.
+fn go(
+    alloc: Global,
+    setting: &Setting,
+    world: &mut World,
+    node: u32,
+    step: u64,
+) -> Result<u32, RunEnd>
+    requires ready { IsReady setting.now }
+    requires whole { length world.old.storage ≡ setting.now.program.now.layout.storage }
+    ensures kept { length world.new.storage ≡ length world.old.storage }
+    ensures leads { (now : Outside) (budget : ℕ) → Leads setting.now budget step node now now world.old world.new result }
+{
+    let mut at = node;
+    for _ in 0..setting.plan.spots.len() {
+        at = do_node(alloc, setting, world, at, step)?;
+        if setting.rests_at(at) {
+            return Ok(at);
+        }
+    }
+    Err(RunEnd::Memory)
+}
+
+/// Closes the next file of a CLOSE that is underway. Answers the next node.
+#[tactic(auto, using(crate::proofs::CallLemmas::calls))]
+fn close_next<F: Files>(
+    alloc: Global,
+    setting: &Setting,
+    files: &mut F,
+    world: &mut World,
+    node: u32,
+    step: u64,
+) -> Result<u32, RunEnd>
+    requires ready { IsReady setting.now }
+    requires whole { length world.old.storage ≡ setting.now.program.now.layout.storage }
+    ensures kept { length world.new.storage ≡ length world.old.storage }
+    ensures leads { (sink : SinkState) (budget : ℕ) → Leads setting.now budget step node
+        (outside (F.state files.old) sink) (outside (F.state files.new) sink) world.old world.new result }
+    ensures touches { Touches (paths_of setting.now) makes_none world.old (F.state files.old) (F.state files.new) }
+    ensures closes { IfOk result (λ _. ClosesOnly world.old world.new) }
+{
+    let Some(place) = setting.place(node) else {
+        return Err(RunEnd::Memory);
+    };
+    match call_of(place.statement.act) {
+        Call::Close(closed) => do_close(alloc, setting, files, &place, closed, world, step),
+        Call::Open(_) | Call::Read(_) | Call::Other => Err(RunEnd::Memory),
+    }
+}
+
+/// Closes the files of a CLOSE, from its first node on. Answers the node behind it.
+fn close_all<F: Files>(
+    alloc: Global,
+    setting: &Setting,
+    files: &mut F,
+    world: &mut World,
+    node: u32,
+    step: u64,
+) -> Result<u32, RunEnd>
+    requires ready { IsReady setting.now }
+    requires whole { length world.old.storage ≡ setting.now.program.now.layout.storage }
+    ensures kept { length world.new.storage ≡ length world.old.storage }
+    ensures leads { (sink : SinkState) (budget : ℕ) → Leads setting.now budget step node
+        (outside (F.state files.old) sink) (outside (F.state files.new) sink) world.old world.new result }
+    ensures touches { Touches (paths_of setting.now) makes_none world.old (F.state files.old) (F.state files.new) }
+{
+    let mut at = node;
+    for _ in 0..setting.plan.spots.len() {
+        at = close_next(alloc, setting, files, world, at, step)?;
+        if setting.rests_at(at) {
+            return Ok(at);
+        }
+    }
+    Err(RunEnd::Memory)
+}
+
+/// Whether a READ of so many bytes would meet fewer of them at the end of the file.
+fn is_cut(file: &File, size: u32) -> bool
+    ensures { (d : declared.FileDecl) → d.length ≡ size → result ≡ is_cut d file.now }
+{
+    let length = file.all().len();
+    let place = file.place();
+    file.mode() == (FileMode::Reading { ended: false })
+        && place < length
+        && length - place < size as usize
+}
+
+/// Refuses a READ that would meet a ragged end.
+fn check_cut(setting: &Setting, world: &World, file: u32) -> Result<(), RunEnd>
+    ensures { MatchResult result
+        (λ _. cut_file (decl_at setting.now.program.now.layout file) (slice_get world.now.files file) ≡ false)
+        (λ e. IsRaggedAt setting.now world.now file e) }
+{
+    match (
+        setting.program.layout.files.get().get(file as usize),
+        world.file(file as usize),
+    ) {
+        (Some(decl), Some(found)) if is_cut(found, decl.length) => Err(RunEnd::Ragged {
+            file,
+            length: found.all().len() as u64,
+        }),
+        _ => Ok(()),
+    }
+}
+
+/// Takes a step from a node at which it begins. Answers the node behind it.
+pub fn take_step<F: Files>(
+    alloc: Global,
+    setting: &Setting,
+    files: &mut F,
+    world: &mut World,
+    place: &Place,
+    node: u32,
+    step: u64,
+) -> Result<u32, RunEnd>
+    requires ready { IsReady setting.now }
+    requires whole { length world.old.storage ≡ setting.now.program.now.layout.storage }
+    requires starts { StartsAt setting.now node place.now }
+    ensures kept { length world.new.storage ≡ length world.old.storage }
+    ensures takes { (sink : SinkState) (budget steps : ℕ) (start : Outside) → step ≡ steps + 1 → steps < budget
+        → Stands (program_of setting.now) setting.now.graph.now (paths_of setting.now) start
+        (outside (F.state files.old) sink) world.old steps steps node
+        → Arrives (program_of setting.now) setting.now.graph.now (paths_of setting.now) budget start
+        (outside (F.state files.new) sink) world.new step result }
+    ensures touches { Touches (paths_of setting.now) (makes_by (plain_act place.now.statement.now.act.now)) world.old
+        (F.state files.old) (F.state files.new) }
+{
+    match call_of(place.statement.act) {
+        Call::Open(openings) => open_all(
+            alloc, setting, files, world, node, place.spot.statement, openings, step,
+        ),
+        Call::Close(_) => close_all(alloc, setting, files, world, node, step),
+        Call::Read(file) => {
+            check_cut(setting, world, file)?;
+            go(alloc, setting, world, node, step)
+        }
+        Call::Other => go(alloc, setting, world, node, step),
+    }
+}

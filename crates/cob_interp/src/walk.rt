@@ -1,0 +1,113 @@
+//! A run from its first node to its end.
+ghost use Rattle.std.specs.Prelude.{◌≡◌, ℕ, MatchResult, length};
+ghost use Rattle.batch_io.specs.FilesState.{KeepsIds};
+ghost use Rattle.batch_io.specs.Wholes.{ShowsWhole};
+ghost use Rattle.cob_world.specs.Becoming.{without_shown};
+ghost use Rattle.cob_interp.specs.Running.{Outside, outside, IsAt, HaltsOff};
+ghost use Rattle.cob_interp.specs.Setting.{IsReady, program_of, paths_of};
+ghost use Rattle.cob_interp.specs.Walking.{as_result, TellsBySink};
+
+use crate::ends::{Ended, RunEnd};
+use crate::parts::{Call, call_of};
+use crate::setting::{Place, Setting};
+use crate::steps::take_step;
+use batch_io::{Files, MakeEnd, Sink, show_whole};
+use cob_world::World;
+use std::alloc::Global;
+
+/// The most bytes of shown text that wait.
+const SHOWN_LIMIT: usize = 8192;
+
+/// Why a run halts: its end, or that the sink refused its text.
+#[derive(Clone, Copy, Debug, PartialEq, Eq)]
+pub enum Halt {
+    End(RunEnd),
+    Sink(MakeEnd),
+}
+
+/// Shows the text that waits.
+pub fn flush<O: Sink>(world: &mut World, out: &mut O) -> Result<(), MakeEnd>
+    ensures kept { length world.new.storage ≡ length world.old.storage }
+    ensures shows { ShowsWhole (O.state out.old) (O.state out.new) world.old.shown result }
+    ensures world { MatchResult result (λ _. world.new ≡ without_shown world.old) (λ _. world.new ≡ world.old) }
+{
+    show_whole(out, world.shown())?;
+    world.clear_shown();
+    Ok(())
+}
+
+/// Whether text that waits is shown before a statement: much of it, or any before a statement that calls the outside.
+fn is_flushed_before(place: &Place, world: &World) -> bool {
+    let calls = match call_of(place.statement.act) {
+        Call::Open(_) | Call::Close(_) => true,
+        Call::Read(_) | Call::Other => false,
+    };
+    calls || world.shown().len() > SHOWN_LIMIT
+}
+
+/// Shows text that waits, where that's due, and takes a step. Answers the node behind it.
+fn go_on<F: Files, O: Sink>(
+    alloc: Global,
+    setting: &Setting,
+    files: &mut F,
+    world: &mut World,
+    out: &mut O,
+    node: u32,
+    step: u64,
+) -> Result<u32, Halt> {
+    let Some(place) = setting.start(node) else {
+        return Err(Halt::End(RunEnd::Memory));
+    };
+    if is_flushed_before(&place, world)
+        && let Err(end) = flush(world, out)
+    {
+        return Err(Halt::Sink(end));
+    }
+    match take_step(alloc, setting, files, world, &place, node, step) {
+        Ok(next) => Ok(next),
+        Err(end) => Err(Halt::End(end)),
+    }
+}
+
+/// The end of a run whose budget is spent at a node.
+fn end_at(setting: &Setting, node: u32, budget: u64) -> Result<Ended, RunEnd> {
+    if setting.is_final(node) {
+        return Ok(Ended { steps: budget });
+    }
+    match setting.start(node) {
+        Some(_) => Err(RunEnd::StepsSpent(budget)),
+        None => Err(RunEnd::Memory),
+    }
+}
+
+/// Runs from the first node until the run ends or the budget of steps is spent.
+pub fn walk<F: Files, O: Sink>(
+    alloc: Global,
+    setting: &Setting,
+    files: &mut F,
+    world: &mut World,
+    out: &mut O,
+    budget: u64,
+) -> Result<Ended, Halt>
+    requires ready { IsReady setting.now }
+    requires whole { length world.old.storage ≡ setting.now.program.now.layout.storage }
+    ensures halts { (start : Outside)
+        → IsAt (program_of setting.now) setting.now.graph.now (paths_of setting.now) budget start
+        (outside (F.state files.old) (O.state out.old)) world.old 0 1
+        → HaltsOff (program_of setting.now) setting.now.graph.now (paths_of setting.now) budget start
+        (outside (F.state files.new) (O.state out.new)) world.new (as_result result) }
+    ensures sink { TellsBySink (O.state out.old) (O.state out.new) result }
+    ensures ids { KeepsIds (F.state files.old) (F.state files.new) }
+{
+    let mut node = 1;
+    for steps in 0..budget {
+        if setting.is_final(node) {
+            return Ok(Ended { steps });
+        }
+        node = go_on(alloc, setting, files, world, out, node, steps + 1)?;
+    }
+    match end_at(setting, node, budget) {
+        Ok(ended) => Ok(ended),
+        Err(end) => Err(Halt::End(end)),
+    }
+}

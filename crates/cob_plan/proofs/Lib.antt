@@ -1,0 +1,6 @@
+mod ActViews
+mod Loops
+mod Sound
+mod Spotted
+mod TestLemmas
+mod WayLemmas

@@ -1,0 +1,18 @@
+use Rattle.std.proofs.Common.{◌≡◌, true, false, Option, None, sym, subst}
+use Rattle.std.specs.Prelude.{slice_get}
+use Rattle.cob_program.specs.Logic.{Test}
+use Rattle.cob_program.specs.ActView.{plain_act, plain_program}
+use Rattle.cob_runs.specs.Effects.{decided, tests_in_act}
+use Rattle.cob_plan.specs.Doing.{Forks}
+use Rattle.cob_plan.proofs.TestLemmas.{found_test}
+use Rattle.cob_plan.proofs.deciding.decide_at.Goals as goal
+
+pub returns-in-Some : goal.returns-in-Some
+returns-in-Some c = λ number.
+    let p = plain_program c.args.program.now in
+    let w = c.args.world.now in
+    let s = c.args.statement.now in
+    let is = found_test c.test_at.result c.in-Some.test s.tests.items (tests_in_act (plain_act s.act.now)) c.args.place
+    c.test_at.ensures c.in-Some.is c.requires.its.tests in
+    subst (λ (o : Option Test). Forks (decided p number None w true o) (decided p number None w false o) w w c.decide.result)
+    (sym is) (c.decide.ensures number)

@@ -1,0 +1,118 @@
+//! Simple conditions, and whether turns are left.
+ghost use Rattle.std.specs.Prelude.{◌≡◌, ℕ, length, slice_get, Some, None, true, false};
+ghost use Rattle.std.specs.Option.{option_map, option_copied};
+ghost use Rattle.cob_program.specs.Act as act;
+ghost use Rattle.cob_program.specs.ActView.{plain_act, plain_turns, plain_program};
+ghost use Rattle.cob_program.specs.LogicView.{plain_test};
+ghost use Rattle.cob_runs.specs.Acts.{count_of};
+ghost use Rattle.cob_runs.specs.Steps.{is_left};
+ghost use Rattle.cob_runs.specs.Effects.{decided, tested, tests_in_act};
+ghost use Rattle.cob_items.specs.Sound.{HasSoundItems};
+ghost use Rattle.cob_calc.specs.Comparing.{CanTest};
+ghost use Rattle.cob_plan.specs.Listing.{plain_tests};
+ghost use Rattle.cob_plan.specs.Plan.{IsStatement};
+ghost use Rattle.cob_plan.specs.Doing.{Forks, is_times};
+
+use crate::end::DoEnd;
+use crate::statement::Statement;
+use cob_program::{Act, Program, Test, Turns};
+use cob_world::World;
+
+fn test_at<'b>(statement: &'b Statement, place: u32) -> Option<&'b Test>
+    ensures { option_map plain_test (option_copied result) ≡ slice_get (plain_tests statement.now.tests.items) place }
+{
+    match statement.tests.as_slice().get(place as usize) {
+        None => None,
+        Some(test) => Some(*test),
+    }
+}
+
+fn decide(program: &Program, test: &Test, world: &World) -> Result<bool, DoEnd>
+    requires sound { HasSoundItems program.now.layout }
+    requires whole { length world.now.storage ≡ program.now.layout.storage }
+    requires able { CanTest program.now.layout (plain_test test.now) }
+    ensures { (number : ℕ) → Forks
+        (decided (plain_program program.now) number None world.now true (Some (plain_test test.now)))
+        (decided (plain_program program.now) number None world.now false (Some (plain_test test.now)))
+        world.now world.now result }
+{
+    match world.test(&program.layout, test) {
+        Ok(holds) => Ok(holds),
+        Err(kind) => Err(DoEnd::Fault(kind)),
+    }
+}
+
+// The simple condition at a place among those of the statement.
+fn decide_at(
+    program: &Program,
+    statement: &Statement,
+    place: u32,
+    world: &World,
+) -> Result<bool, DoEnd>
+    requires sound { HasSoundItems program.now.layout }
+    requires whole { length world.now.storage ≡ program.now.layout.storage }
+    requires its { IsStatement (plain_program program.now) statement.now }
+    ensures { (number : ℕ) → Forks
+        (decided (plain_program program.now) number None world.now true
+            (slice_get (tests_in_act (plain_act statement.now.act.now)) place))
+        (decided (plain_program program.now) number None world.now false
+            (slice_get (tests_in_act (plain_act statement.now.act.now)) place))
+        world.now world.now result }
+{
+    match test_at(statement, place) {
+        None => Err(DoEnd::Memory),
+        Some(test) => decide(program, test, world),
+    }
+}
+
+// Whether turns are left.
+fn is_left(program: &Program, number: u32, world: &World) -> bool
+    ensures { result ≡ is_left (plain_program program.now) None (count_of program.now.layout number world.now) }
+{
+    match world.count_of(&program.layout, number) {
+        None => false,
+        Some(count) => count > 0,
+    }
+}
+
+fn is_times(act: &Act) -> bool
+    ensures { result ≡ is_times (plain_act act.now) }
+{
+    match act {
+        Act::Perform { turns, .. } => are_times(turns),
+        _ => false,
+    }
+}
+
+fn are_times(turns: &Turns) -> bool
+    ensures { (body : act.Body) → result ≡ is_times (act.perform body (plain_turns turns.now)) }
+{
+    match turns {
+        Turns::Times(_) => true,
+        _ => false,
+    }
+}
+
+/// Whether turns of a loop with TIMES are left, or else whether the simple condition at a place holds.
+pub fn test(
+    program: &Program,
+    statement: &Statement,
+    place: u32,
+    world: &World,
+) -> Result<bool, DoEnd>
+    requires sound { HasSoundItems program.now.layout }
+    requires whole { length world.now.storage ≡ program.now.layout.storage }
+    requires its { IsStatement (plain_program program.now) statement.now }
+    ensures { Forks
+        (tested (plain_program program.now) statement.now.number None world.now true place
+            (plain_act statement.now.act.now))
+        (tested (plain_program program.now) statement.now.number None world.now false place
+            (plain_act statement.now.act.now))
+        world.now world.now result }
+{
+    if is_times(statement.act) {
+        Ok(is_left(program, statement.number, world))
+    } else {
+        decide_at(program, statement, place, world)
+    }
+}

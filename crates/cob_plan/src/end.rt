@@ -1,0 +1,23 @@
+use cob_store::MoveEnd;
+use cob_tree::Kind;
+use std::alloc::AllocError;
+
+/// Why a statement doesn't go on: it meets a fault, nothing handles a status, or memory ran out.
+#[derive(Clone, Copy, Debug, PartialEq, Eq)]
+pub enum DoEnd {
+    Fault(Kind),
+    Stop(u8),
+    /// Also where a node isn't one of its statement.
+    Memory,
+}
+
+impl From<AllocError> for DoEnd {
+    ghost use Rattle.cob_plan.specs.declared.end.DoEnd.{DoEnd};
+    ghost use Rattle.std.specs.Prelude.{◌≡◌};
+
+    ghost from_gives = { λ failed end. end ≡ DoEnd.Memory };
+
+    fn from(_: AllocError) -> DoEnd {
+        DoEnd::Memory
+    }
+}
