@@ -43,3 +43,14 @@ returns-clause-opens g c =
         (sym (c.in-Some.ensures.number ∙ c.if-place-statement.false)) c.requires.its in
     opens_behind _ _ _ _ c.in_ok-ready_to_open.ensures.opens
     (open_part c.args.setting.now c.in-Some.place c.args.step _ _ c.args.openings.now c.args.number o.0 o.1 o.2 its _ c.do_part.ensures.does)
+
+pub returns-in_default-clause-touches : goal.returns-in_default-clause-touches
+returns-in_default-clause-touches g c = makes_stay (paths_of c.args.setting.now) (makes_in c.args.openings.now) c.args.world.now _
+
+pub returns-then-place-statement-clause-touches : goal.returns-then-place-statement-clause-touches
+returns-then-place-statement-clause-touches g c =
+    makes_stay (paths_of c.args.setting.now) (makes_in c.args.openings.now) c.args.world.now _
+
+pub returns-in_default-opening_in-clause-touches : goal.returns-in_default-opening_in-clause-touches
+returns-in_default-opening_in-clause-touches g c =
+    makes_stay (paths_of c.args.setting.now) (makes_in c.args.openings.now) c.args.world.now _

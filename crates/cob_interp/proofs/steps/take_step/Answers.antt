@@ -22,3 +22,15 @@ pub returns-in-Close-clause-touches : goal.returns-in-Close-clause-touches
 returns-in-Close-clause-touches g c =
     none_touches (paths_of c.args.setting.now) (makes_by (plain_act c.args.place.now.statement.now.act.now)) c.args.world.now _ _
     c.close_all.ensures.touches
+
+pub returns-in_err-check_cut-in-Read-clause-touches : goal.returns-in_err-check_cut-in-Read-clause-touches
+returns-in_err-check_cut-in-Read-clause-touches g c =
+    touches_stay (paths_of c.args.setting.now) (makes_by (plain_act c.args.place.now.statement.now.act.now)) c.args.world.now _
+
+pub returns-in_ok-check_cut-in-Read-clause-touches : goal.returns-in_ok-check_cut-in-Read-clause-touches
+returns-in_ok-check_cut-in-Read-clause-touches g c =
+    touches_stay (paths_of c.args.setting.now) (makes_by (plain_act c.args.place.now.statement.now.act.now)) c.args.world.now _
+
+pub returns-in-Other-clause-touches : goal.returns-in-Other-clause-touches
+returns-in-Other-clause-touches g c =
+    touches_stay (paths_of c.args.setting.now) (makes_by (plain_act c.args.place.now.statement.now.act.now)) c.args.world.now _
