@@ -67,7 +67,8 @@ set_at (x ∷ fs) zero (suc p) e g f has at = inl at
 set_at (x ∷ fs) (suc place) zero e g f has at = inl at
 set_at (x ∷ fs) (suc place) (suc p) e g f has at = set_at fs place p e g f has at
 
-module _ (w v : World) (place : ℕ) (e g : File) (has : slice_get w.files place ≡ Some e) (files_ : v.files ≡ slice_set w.files place g) where
+module _ (w v : World) (place : ℕ) (e g : File) (has : slice_get w.files place ≡ Some e)
+    (files_ : v.files ≡ slice_set w.files place g) where
   set_in : (p : ℕ) (f : File) → slice_get w.files p ≡ Some f
       → (slice_get v.files p ≡ Some f) ⊎ ((e ≡ f) × (slice_get v.files p ≡ Some g))
   set_in p f at =
@@ -92,7 +93,8 @@ module _ (w v : World) (place : ℕ) (e g : File) (has : slice_get w.files place
 
 -- ---- calls
 
-closed_by_mode : (content : Option (List ℕ)) (m : Mode) (place : ℕ) → (after_close (file content m place)).0.mode ≡ closed
+closed_by_mode : (content : Option (List ℕ)) (m : Mode) (place : ℕ)
+    → (after_close (file content m place)).0.mode ≡ closed
 closed_by_mode content closed place = refl
 closed_by_mode content (reading ended) place = refl
 closed_by_mode content writing place = refl
@@ -109,7 +111,8 @@ module _ (l : Layout) (w : World) where
   closes_on place None o has = closes_stay w
   closes_on place (Some d) None has = closes_stay w
   closes_on place (Some d) (Some f) has =
-      set_closes w (with_file l place d (after_close f) w).0 place f (after_close f).0 has refl (closed_by_mode f.content f.mode f.place)
+      set_closes w (with_file l place d (after_close f) w).0 place f (after_close f).0 has refl
+      (closed_by_mode f.content f.mode f.place)
 
   pub close_one_closes : (place : ℕ) → ClosesOnly w (close_one l place w).0
   close_one_closes place = closes_on place (decl_at l place) (slice_get w.files place) refl
@@ -119,18 +122,23 @@ module _ (l : Layout) (w : World) where
   opens_on output place None o has = opens_stay w
   opens_on output place (Some d) None has = opens_stay w
   opens_on output place (Some d) (Some f) has =
-      set_opens w (with_file l place d (opened output f) w).0 place f (opened output f).0 has refl (open_by_mode output f.content f.mode f.place)
+      set_opens w (with_file l place d (opened output f) w).0 place f (opened output f).0 has refl
+      (open_by_mode output f.content f.mode f.place)
 
   pub open_one_opens : (o : Opening) → OpensOnly w (open_one l o w).0
   open_one_opens o = opens_on o.output o.file (decl_at l o.file) (slice_get w.files o.file) refl
 
 -- other bytes
-pub refilled_opens : (w v : World) (place : ℕ) (content : Option (List ℕ)) → v ≡ with_files w (refilled place content w.files) → OpensOnly w v
-refilled_opens w v place content is = subst (λ (u : World). OpensOnly w u) (sym is) (by_file (slice_get w.files place) refl) where
-  by_file : (o : Option File) → slice_get w.files place ≡ o → OpensOnly w (with_files w (refilled_on place content w.files o))
-  by_file None has = opens_stay w
-  by_file (Some f) has =
-      set_opens w (with_files w (slice_set w.files place (file content f.mode f.place))) place f (file content f.mode f.place) has refl (λ shut. shut)
+pub refilled_opens : (w v : World) (place : ℕ) (content : Option (List ℕ))
+    → v ≡ with_files w (refilled place content w.files) → OpensOnly w v
+refilled_opens w v place content is =
+    subst (λ (u : World). OpensOnly w u) (sym is) (by_file (slice_get w.files place) refl) where
+      by_file : (o : Option File) → slice_get w.files place ≡ o
+          → OpensOnly w (with_files w (refilled_on place content w.files o))
+      by_file None has = opens_stay w
+      by_file (Some f) has =
+          set_opens w (with_files w (slice_set w.files place (file content f.mode f.place))) place f
+          (file content f.mode f.place) has refl (λ shut. shut)
 
 -- ---- edges
 
@@ -141,7 +149,8 @@ taken_is : (b : Bool) (u v : World) → taken_if b u ≡ Ok (Some v) → u ≡ v
 taken_is true u v e = cc
 taken_is false u v e = cc
 
-by_status_is : (p : Program) (number : ℕ) (w v : World) (fine : Bool) (x : World × ℕ) → effects.by_status p number None w fine x ≡ Ok (Some v)
+by_status_is : (p : Program) (number : ℕ) (w v : World) (fine : Bool) (x : World × ℕ)
+    → effects.by_status p number None w fine x ≡ Ok (Some v)
     → x.0 ≡ v
 by_status_is p number w v fine x e = taken_is (if fine then is_fine x.1 else not (is_fine x.1)) x.0 v e
 
@@ -157,7 +166,8 @@ module _ (p : Program) (number k : ℕ) (w v : World) where
     closed_so : (fine : Bool) (o : Option ℕ) → effects.closed p number None w fine o ≡ Ok (Some v) → ClosesOnly w v
     closed_so fine None e = absurd (not_going v e)
     closed_so fine (Some file_) e =
-        subst (λ (u : World). ClosesOnly w u) (by_status_is p number w v fine (close_one p.layout file_ w) e) (close_one_closes p.layout w file_)
+        subst (λ (u : World). ClosesOnly w u) (by_status_is p number w v fine (close_one p.layout file_ w) e)
+        (close_one_closes p.layout w file_)
 
     pub close_edge_closes : (fine bad : ℕ) (a : Action) (m : ℕ) → Contains (op_edges (op.Close k fine bad)) (a, m)
         → effect p number None w a ≡ Ok (Some v) → ClosesOnly w v
@@ -170,7 +180,8 @@ module _ (p : Program) (number k : ℕ) (w v : World) where
     opened_so : (fine : Bool) (o : Option Opening) → effects.opened p number None w fine o ≡ Ok (Some v) → OpensOnly w v
     opened_so fine None e = absurd (not_going v e)
     opened_so fine (Some o) e =
-        subst (λ (u : World). OpensOnly w u) (by_status_is p number w v fine (open_one p.layout o w) e) (open_one_opens p.layout w o)
+        subst (λ (u : World). OpensOnly w u) (by_status_is p number w v fine (open_one p.layout o w) e)
+        (open_one_opens p.layout w o)
 
     pub open_edge_opens : (fine bad : ℕ) (a : Action) (m : ℕ) → Contains (op_edges (op.Open k fine bad)) (a, m)
         → effect p number None w a ≡ Ok (Some v) → OpensOnly w v
@@ -184,13 +195,16 @@ module _ (p : Program) (number k : ℕ) (w v : World) where
 module _ (s : Setting) (x : Place) (step : ℕ) (w v : World) where
   -- what each way on leaves holds where the node's part is done
   where_done : (IsIt : Type 0) (o : Op) → x.spot.op ≡ o
-      → ((a : Action) (m : ℕ) → Contains (op_edges o) (a, m) → effect (program_of s) x.statement.now.number None w a ≡ Ok (Some v) → IsIt)
+      → ((a : Action) (m : ℕ) → Contains (op_edges o) (a, m)
+      → effect (program_of s) x.statement.now.number None w a ≡ Ok (Some v) → IsIt)
       → (result : Result ℕ RunEnd) → DoesPart s x step w v result → IfOk result (λ _. IsIt)
-  where_done IsIt o is each result d = subst (λ (r : Result ℕ RunEnd). IfOk r (λ _. IsIt)) (sym d.told) (by_outcome d.outcome d.does) where
-    by_outcome : (outcome : Result ℕ DoEnd) → Does (program_of s) x.statement.now.number x.spot.op w v outcome
-        → IfOk (answered x.statement.now.number step outcome) (λ _. IsIt)
-    by_outcome (Ok to) done = each done.action to (subst (λ (y : Op). Contains (op_edges y) (done.action, to)) is done.out) done.does
-    by_outcome (Err e) done = tt
+  where_done IsIt o is each result d =
+      subst (λ (r : Result ℕ RunEnd). IfOk r (λ _. IsIt)) (sym d.told) (by_outcome d.outcome d.does) where
+        by_outcome : (outcome : Result ℕ DoEnd) → Does (program_of s) x.statement.now.number x.spot.op w v outcome
+            → IfOk (answered x.statement.now.number step outcome) (λ _. IsIt)
+        by_outcome (Ok to) done =
+            each done.action to (subst (λ (y : Op). Contains (op_edges y) (done.action, to)) is done.out) done.does
+        by_outcome (Err e) done = tt
 
   pub close_part : (fs : List ℕ) (k fine bad : ℕ) → x.spot.op ≡ op.Close k fine bad
       → act_at (program_of s) x.statement.now.number ≡ Some (close_files fs)
@@ -207,6 +221,7 @@ module _ (s : Setting) (x : Place) (step : ℕ) (w v : World) where
       (open_edge_opens (program_of s) x.statement.now.number k w v os its fine bad) result d
 
 -- behind other changes
-pub opens_behind : (w u v : World) (result : Result ℕ RunEnd) → OpensOnly w u → IfOk result (λ _. OpensOnly u v) → IfOk result (λ _. OpensOnly w v)
+pub opens_behind : (w u v : World) (result : Result ℕ RunEnd) → OpensOnly w u → IfOk result (λ _. OpensOnly u v)
+    → IfOk result (λ _. OpensOnly w v)
 opens_behind w u v (Ok to) first then_ = opens_pass w u v first then_
 opens_behind w u v (Err e) first then_ = tt

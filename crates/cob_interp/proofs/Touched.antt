@@ -34,7 +34,8 @@ module _ (old new : FilesState) (name bytes : List ℕ) where
     it = inr (n, insert_gets told name (take n bytes));
   }
 
-  pub puts_part : (result : Result (Unit {0}) MakeEnd) → PutsFile old new name bytes result → PutsPart old new name bytes
+  pub puts_part : (result : Result (Unit {0}) MakeEnd) → PutsFile old new name bytes result
+      → PutsPart old new name bytes
   puts_part (Ok u) p = record {
     ids = p.ids;
     known = held_part (length bytes) (subst (λ (x : List ℕ). Holds old new name x) (sym (take-length bytes)) p.ok);
@@ -55,7 +56,8 @@ untouched_one a path makes f = record {
   known = λ told is. record { now = told; is = is; others = λ other apart. refl; it = inl refl };
 }
 
-module _ (old new : FilesState) (path bytes : List ℕ) (f : File) (mode_ : f.mode ≡ writing) (content_ : f.content ≡ Some bytes) where
+module _ (old new : FilesState) (path bytes : List ℕ) (f : File) (mode_ : f.mode ≡ writing)
+    (content_ : f.content ≡ Some bytes) where
   part_by_put : (a b : Option (List ℕ)) → (b ≡ a) ⊎ ((n : ℕ) × (b ≡ Some (take n bytes))) → IsPartOf false f a b
   part_by_put a b (inl same) = inl same
   part_by_put a b (inr front) =
@@ -87,11 +89,13 @@ apart_or_same (x ∷ xs) (suc i) (suc j) path q apart at there = elim (apart_or_
 ]
 
 -- what holds of the one name that may have changed, and of what stays, holds of all
-module _ (Is : ℕ → File → Option (List ℕ) → Option (List ℕ) → Type 0) (stays : (p : ℕ) (g : File) (a : Option (List ℕ)) → Is p g a a)
-    (paths : List (List ℕ)) (fs : List File) (place : ℕ) (path : List ℕ) (f : File) (apart : AreDistinct paths)
-    (at : slice_get paths place ≡ Some path) (has : slice_get fs place ≡ Some f) (told now : Contents) (but : AgreeBut told now path)
+module _ (Is : ℕ → File → Option (List ℕ) → Option (List ℕ) → Type 0)
+    (stays : (p : ℕ) (g : File) (a : Option (List ℕ)) → Is p g a a) (paths : List (List ℕ)) (fs : List File)
+    (place : ℕ) (path : List ℕ) (f : File) (apart : AreDistinct paths) (at : slice_get paths place ≡ Some path)
+    (has : slice_get fs place ≡ Some f) (told now : Contents) (but : AgreeBut told now path)
     (own : Is place f (get told path) (get now path)) where
-  all_by_one : (p : ℕ) (q : List ℕ) (g : File) → slice_get paths p ≡ Some q → slice_get fs p ≡ Some g → Is p g (get told q) (get now q)
+  all_by_one : (p : ℕ) (q : List ℕ) (g : File) → slice_get paths p ≡ Some q → slice_get fs p ≡ Some g
+      → Is p g (get told q) (get now q)
   all_by_one p q g at_ has_ = elim (apart_or_same paths place p path q apart at at_) [
     | inl here ↦
         let at_here : slice_get paths p ≡ Some path = subst (λ (n : ℕ). slice_get paths n ≡ Some path) here at in
@@ -104,8 +108,9 @@ module _ (Is : ℕ → File → Option (List ℕ) → Option (List ℕ) → Type
     | inr differ ↦ subst (λ (c : Option (List ℕ)). Is p g (get told q) c) (sym (but q differ)) (stays p g (get told q))
   ]
 
-module _ (paths : List (List ℕ)) (makes : ℕ → Bool) (w : World) (old new : FilesState) (place : ℕ) (path : List ℕ) (f : File)
-    (apart : AreDistinct paths) (at : slice_get paths place ≡ Some path) (has : slice_get w.files place ≡ Some f) where
+module _ (paths : List (List ℕ)) (makes : ℕ → Bool) (w : World) (old new : FilesState) (place : ℕ) (path : List ℕ)
+    (f : File) (apart : AreDistinct paths) (at : slice_get paths place ≡ Some path)
+    (has : slice_get w.files place ≡ Some f) where
   pub touches_by_one : TouchesOne old new path (makes place) f → Touches paths makes w old new
   touches_by_one one = record {
     ids = one.ids;
@@ -115,20 +120,24 @@ module _ (paths : List (List ℕ)) (makes : ℕ → Bool) (w : World) (old new :
           now = k.now;
           is = k.is;
           touches = record {
-            its = all_by_one (λ (p : ℕ) (g : File) (a b : Option (List ℕ)). IsPartOf (makes p) g a b) (λ p g a. inl refl)
+            its = all_by_one (λ (p : ℕ) (g : File) (a b : Option (List ℕ)). IsPartOf (makes p) g a b)
+                (λ p g a. inl refl)
                 paths w.files place path f apart at has told k.now k.others k.it;
             others = others_keep told told k.now paths place path at k.others (λ name none. refl);
           };
         };
   }
 
-  empty_part : f.mode ≡ closed → makes place ≡ true → (a b : Option (List ℕ)) → (b ≡ a) ⊎ ((n : ℕ) × (b ≡ Some (take n [])))
+  take_none : (n : ℕ) → take {A = ℕ} n [] ≡ []
+  take_none zero = refl
+  take_none (suc n) = refl
+
+  empty_part : f.mode ≡ closed → makes place ≡ true → (a b : Option (List ℕ))
+      → (b ≡ a) ⊎ ((n : ℕ) × (b ≡ Some (take n [])))
       → (b ≡ a) ⊎ IsEmptied (makes place) f b
   empty_part mode_ made a b (inl same) = inl same
-  empty_part mode_ made a b (inr front) = inr (made, (mode_, front.1 ∙ ap (λ (x : List ℕ). Some x) (take_none front.0))) where
-    take_none : (n : ℕ) → take {A = ℕ} n [] ≡ []
-    take_none zero = refl
-    take_none (suc n) = refl
+  empty_part mode_ made a b (inr front) =
+      inr (made, (mode_, front.1 ∙ ap (λ (x : List ℕ). Some x) (take_none front.0)))
 
   -- a closed file that is opened for output is put empty
   pub makes_by_put : f.mode ≡ closed → makes place ≡ true → PutsPart old new path [] → Makes paths makes w old new
@@ -139,8 +148,10 @@ module _ (paths : List (List ℕ)) (makes : ℕ → Bool) (w : World) (old new :
         record {
           now = k.now;
           is = k.is;
-          its = all_by_one (λ (p : ℕ) (g : File) (a b : Option (List ℕ)). (b ≡ a) ⊎ IsEmptied (makes p) g b) (λ p g a. inl refl)
-              paths w.files place path f apart at has told k.now k.others (empty_part mode_ made (get told path) (get k.now path) k.it);
+          its = all_by_one (λ (p : ℕ) (g : File) (a b : Option (List ℕ)). (b ≡ a) ⊎ IsEmptied (makes p) g b)
+              (λ p g a. inl refl)
+              paths w.files place path f apart at has told k.now k.others
+              (empty_part mode_ made (get told path) (get k.now path) k.it);
           others = others_keep told told k.now paths place path at k.others (λ name none. refl);
         };
   }
@@ -148,7 +159,8 @@ module _ (paths : List (List ℕ)) (makes : ℕ → Bool) (w : World) (old new :
 -- ---- where the contents stay
 
 module _ (paths : List (List ℕ)) (makes : ℕ → Bool) (w : World) where
-  pub makes_same : (old new : FilesState) → KeepsIds old new → known_bytes new ≡ known_bytes old → Makes paths makes w old new
+  pub makes_same : (old new : FilesState) → KeepsIds old new → known_bytes new ≡ known_bytes old
+      → Makes paths makes w old new
   makes_same old new ids same = record {
     ids = ids;
     known = λ told is. record {
@@ -185,7 +197,8 @@ module _ (paths : List (List ℕ)) (makes : ℕ → Bool) (w : World) where
           now = k.now;
           is = k.is;
           touches = record {
-            its = λ place path f at has. made_part (makes place) f (get told path) (get k.now path) (k.its place path f at has);
+            its = λ place path f at has. made_part (makes place) f (get told path) (get k.now path)
+                (k.its place path f at has);
             others = k.others;
           };
         };
@@ -193,9 +206,10 @@ module _ (paths : List (List ℕ)) (makes : ℕ → Bool) (w : World) where
 
 -- ---- where more is made
 
-module _ (paths : List (List ℕ)) (makes more : ℕ → Bool) (w : World) (under : (place : ℕ) → makes place ≡ true → more place ≡ true)
-    (old new : FilesState) where
-  more_part : (place : ℕ) (f : File) (a b : Option (List ℕ)) → IsPartOf (makes place) f a b → IsPartOf (more place) f a b
+module _ (paths : List (List ℕ)) (makes more : ℕ → Bool) (w : World)
+    (under : (place : ℕ) → makes place ≡ true → more place ≡ true) (old new : FilesState) where
+  more_part : (place : ℕ) (f : File) (a b : Option (List ℕ)) → IsPartOf (makes place) f a b
+      → IsPartOf (more place) f a b
   more_part place f a b (inl same) = inl same
   more_part place f a b (inr (inl front)) = inr (inl front)
   more_part place f a b (inr (inr emptied)) = inr (inr (under place emptied.0, emptied.1))
@@ -209,13 +223,15 @@ module _ (paths : List (List ℕ)) (makes more : ℕ → Bool) (w : World) (unde
           now = k.now;
           is = k.is;
           touches = record {
-            its = λ place path f at has. more_part place f (get told path) (get k.now path) (k.touches.its place path f at has);
+            its = λ place path f at has. more_part place f (get told path) (get k.now path)
+                (k.touches.its place path f at has);
             others = k.touches.others;
           };
         };
   }
 
-  more_made : (place : ℕ) (f : File) (a b : Option (List ℕ)) → (b ≡ a) ⊎ IsEmptied (makes place) f b → (b ≡ a) ⊎ IsEmptied (more place) f b
+  more_made : (place : ℕ) (f : File) (a b : Option (List ℕ)) → (b ≡ a) ⊎ IsEmptied (makes place) f b
+      → (b ≡ a) ⊎ IsEmptied (more place) f b
   more_made place f a b (inl same) = inl same
   more_made place f a b (inr emptied) = inr (under place emptied.0, emptied.1)
 
@@ -258,9 +274,11 @@ any_at test (x ∷ os) zero o at e =
 any_at test (x ∷ os) (suc k) o at e = or_right (test x) (list_any test os) (any_at test os k o at e)
 
 -- one of its files is
-pub makes_one : (os : List Opening) (k : ℕ) (o : Opening) → slice_get os k ≡ Some o → (place : ℕ) → makes_in (o ∷ []) place ≡ true
+pub makes_one : (os : List Opening) (k : ℕ) (o : Opening) → slice_get os k ≡ Some o → (place : ℕ)
+    → makes_in (o ∷ []) place ≡ true
     → makes_in os place ≡ true
-makes_one os k o at place e = any_at (λ x. x.output && (x.file == place)) os k o at (or_false (o.output && (o.file == place)) e)
+makes_one os k o at place e =
+    any_at (λ x. x.output && (x.file == place)) os k o at (or_false (o.output && (o.file == place)) e)
 
 pub makes_own : (o : Opening) → o.output ≡ true → makes_in (o ∷ []) o.file ≡ true
 makes_own o output = rw (output, eq-eqb o.file o.file refl) refl
@@ -271,7 +289,8 @@ module _ (paths : List (List ℕ)) (w v : World) (a b c : FilesState) where
   closed_writing : (m : Mode) → m ≡ closed → m ≡ writing → ⊥
   closed_writing m shut open_ = let e : closed ≡ writing = sym shut ∙ open_ in cc
 
-  part_on : (f g : File) (x y z : Option (List ℕ)) → (g ≡ f) ⊎ (g.mode ≡ closed) → IsPartOf false f x y → IsPartOf false g y z
+  part_on : (f g : File) (x y z : Option (List ℕ)) → (g ≡ f) ⊎ (g.mode ≡ closed) → IsPartOf false f x y
+      → IsPartOf false g y z
       → IsPartOf false f x z
   part_on f g x y z how first (inl same) = subst (λ (o : Option (List ℕ)). IsPartOf false f x o) (sym same) first
   part_on f g x y z (inl is) first (inr (inl front)) = inr (inl (subst (λ (h : File). IsFront h z) is front))
@@ -279,7 +298,8 @@ module _ (paths : List (List ℕ)) (w v : World) (a b c : FilesState) where
   part_on f g x y z how first (inr (inr emptied)) = absurd (false≢true emptied.0)
 
   -- in a CLOSE
-  pub touches_on : Touches paths makes_none w a b → ClosesOnly w v → Touches paths makes_none v b c → Touches paths makes_none w a c
+  pub touches_on : Touches paths makes_none w a b → ClosesOnly w v → Touches paths makes_none v b c
+      → Touches paths makes_none w a c
   touches_on t only u = record {
     ids = ids_pass a b c t.ids u.ids;
     known = λ told is.
@@ -298,14 +318,16 @@ module _ (paths : List (List ℕ)) (w v : World) (a b c : FilesState) where
         };
   }
 
-  made_on : (make : Bool) (f g : File) (x y z : Option (List ℕ)) → (g.mode ≡ closed → f.mode ≡ closed) → (y ≡ x) ⊎ IsEmptied make f y
+  made_on : (make : Bool) (f g : File) (x y z : Option (List ℕ)) → (g.mode ≡ closed → f.mode ≡ closed)
+      → (y ≡ x) ⊎ IsEmptied make f y
       → (z ≡ y) ⊎ IsEmptied make g z → (z ≡ x) ⊎ IsEmptied make f z
   made_on make f g x y z still (inl same) (inl same_) = inl (same_ ∙ same)
   made_on make f g x y z still (inr emptied) (inl same_) = inr (emptied.0, (emptied.1.0, same_ ∙ emptied.1.1))
   made_on make f g x y z still first (inr emptied) = inr (emptied.0, (still emptied.1.0, emptied.1.1))
 
   -- in an OPEN
-  pub makes_on : (makes : ℕ → Bool) → Makes paths makes w a b → OpensOnly w v → Makes paths makes v b c → Makes paths makes w a c
+  pub makes_on : (makes : ℕ → Bool) → Makes paths makes w a b → OpensOnly w v → Makes paths makes v b c
+      → Makes paths makes w a c
   makes_on makes m only n = record {
     ids = ids_pass a b c m.ids n.ids;
     known = λ told is.
@@ -316,7 +338,8 @@ module _ (paths : List (List ℕ)) (w v : World) (a b c : FilesState) where
           is = k.is;
           its = λ place path f at has.
               let g = only.each place f has in
-              made_on (makes place) f g.0 (get told path) (get h.now path) (get k.now path) g.2 (h.its place path f at has)
+              made_on (makes place) f g.0 (get told path) (get h.now path) (get k.now path) g.2
+              (h.its place path f at has)
               (k.its place path g.0 at g.1);
           others = λ name none. k.others name none ∙ h.others name none;
         };
@@ -325,13 +348,16 @@ module _ (paths : List (List ℕ)) (w v : World) (a b c : FilesState) where
 -- ---- a step
 
 -- of an OPEN
-pub opening_touches : (paths : List (List ℕ)) (w : World) (old new : FilesState) (os : List Opening) (a : Act) → a ≡ open_files os
+pub opening_touches : (paths : List (List ℕ)) (w : World) (old new : FilesState) (os : List Opening) (a : Act)
+    → a ≡ open_files os
     → Makes paths (makes_in os) w old new → Touches paths (makes_by a) w old new
 opening_touches paths w old new os a is m =
-    touches_more paths (makes_in os) (makes_by a) w (λ place made. subst (λ (b : Act). makes_by b place ≡ true) (sym is) made) old new
+    touches_more paths (makes_in os) (makes_by a) w
+    (λ place made. subst (λ (b : Act). makes_by b place ≡ true) (sym is) made) old new
     (makes_touch paths (makes_in os) w old new m)
 
 -- where no file is made anew
-pub none_touches : (paths : List (List ℕ)) (makes : ℕ → Bool) (w : World) (old new : FilesState) → Touches paths makes_none w old new
+pub none_touches : (paths : List (List ℕ)) (makes : ℕ → Bool) (w : World) (old new : FilesState)
+    → Touches paths makes_none w old new
     → Touches paths makes w old new
 none_touches paths makes w old new t = touches_more paths makes_none makes w (under_none makes) old new t

@@ -49,7 +49,8 @@ pub record PutsPart (old new : FilesState) (name bytes : List ℕ) : Type 0 wher
   pub known : (told : Contents) → known_bytes old ≡ Some told → IsPutIn name bytes told (known_bytes new)
 
 -- the name holds a part of the file
-pub record TouchesOneIn (path : List ℕ) (makes : Bool) (f : File) (told : Contents) (known : Option Contents) : Type 0 where
+pub record TouchesOneIn (path : List ℕ) (makes : Bool) (f : File) (told : Contents)
+    (known : Option Contents) : Type 0 where
   pub now : Contents
   pub is : known ≡ Some now
   pub others : AgreeBut told now path
@@ -64,7 +65,8 @@ pub record TouchesOne (old new : FilesState) (path : List ℕ) (makes : Bool) (f
 module _ (paths : List (List ℕ)) (makes : ℕ → Bool) (w : World) where
   -- each path holds what it held or a part of its file in this world; all other names hold what they held
   pub record TouchesIn (told now : Contents) : Type 0 where
-    pub its : (place : ℕ) (path : List ℕ) (f : File) → slice_get paths place ≡ Some path → slice_get w.files place ≡ Some f
+    pub its : (place : ℕ) (path : List ℕ) (f : File) → slice_get paths place ≡ Some path
+        → slice_get w.files place ≡ Some f
         → IsPartOf (makes place) f (get told path) (get now path)
     pub others : KeepsNames told now paths
 
@@ -83,7 +85,8 @@ module _ (paths : List (List ℕ)) (makes : ℕ → Bool) (w : World) where
   pub record IsMade (told : Contents) (known : Option Contents) : Type 0 where
     pub now : Contents
     pub is : known ≡ Some now
-    pub its : (place : ℕ) (path : List ℕ) (f : File) → slice_get paths place ≡ Some path → slice_get w.files place ≡ Some f
+    pub its : (place : ℕ) (path : List ℕ) (f : File) → slice_get paths place ≡ Some path
+        → slice_get w.files place ≡ Some f
         → (get now path ≡ get told path) ⊎ IsEmptied (makes place) f (get now path)
     pub others : KeepsNames told now paths
 

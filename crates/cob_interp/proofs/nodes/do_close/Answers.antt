@@ -21,5 +21,5 @@ returns-in-None-clause-touches g c = touches_stay (paths_of c.args.setting.now) 
 
 pub returns-in_ok-ready_to_close-in-Some-clause-closes : goal.returns-in_ok-ready_to_close-in-Some-clause-closes
 returns-in_ok-ready_to_close-in-Some-clause-closes g c =
-    close_part c.args.setting.now c.args.place.now c.args.step _ _ c.args.closed.now c.in-Close.file c.in-Close.fine c.in-Close.bad
-    c.in-Close.is (c.requires.place.its ∙ ap Some c.requires.its) _ c.do_part.ensures.does
+    close_part c.args.setting.now c.args.place.now c.args.step _ _ c.args.closed.now c.in-Close.file c.in-Close.fine
+    c.in-Close.bad c.in-Close.is (c.requires.place.its ∙ ap Some c.requires.its) _ c.do_part.ensures.does

@@ -26,26 +26,28 @@ returns-clause-leads g c sink budget steps counted =
 
 pub returns-in_err-ready_to_open-clause-touches : goal.returns-in_err-ready_to_open-clause-touches
 returns-in_err-ready_to_open-clause-touches g c =
-    makes_more (paths_of c.args.setting.now) (makes_in (c.in-Some-opening_in.opening ∷ [])) (makes_in c.args.openings.now) c.args.world.now
-    (makes_one c.args.openings.now c.args.number c.in-Some-opening_in.opening (sym c.in-Some-opening_in.ensures)) _ _
-    c.in_err-ready_to_open.ensures.touches
+    makes_more (paths_of c.args.setting.now) (makes_in (c.in-Some-opening_in.opening ∷ []))
+    (makes_in c.args.openings.now) c.args.world.now (makes_one c.args.openings.now c.args.number c.in-Some-opening_in.opening
+    (sym c.in-Some-opening_in.ensures)) _ _ c.in_err-ready_to_open.ensures.touches
 
 pub returns-clause-touches : goal.returns-clause-touches
 returns-clause-touches g c =
-    makes_more (paths_of c.args.setting.now) (makes_in (c.in-Some-opening_in.opening ∷ [])) (makes_in c.args.openings.now) c.args.world.now
-    (makes_one c.args.openings.now c.args.number c.in-Some-opening_in.opening (sym c.in-Some-opening_in.ensures)) _ _
-    c.in_ok-ready_to_open.ensures.touches
+    makes_more (paths_of c.args.setting.now) (makes_in (c.in-Some-opening_in.opening ∷ []))
+    (makes_in c.args.openings.now) c.args.world.now (makes_one c.args.openings.now c.args.number c.in-Some-opening_in.opening
+    (sym c.in-Some-opening_in.ensures)) _ _ c.in_ok-ready_to_open.ensures.touches
 
 pub returns-clause-opens : goal.returns-clause-opens
 returns-clause-opens g c =
     let o = open_of c.in-Some.place.spot.op c.args.number (c.is_open_of.ensures c.if-not-is_open_of.false) in
     let its = subst (λ (n : ℕ). act_at (program_of c.args.setting.now) n ≡ Some (open_files c.args.openings.now))
-        (sym (c.in-Some.ensures.number ∙ c.if-place-statement.false)) c.requires.its in
+    (sym (c.in-Some.ensures.number ∙ c.if-place-statement.false)) c.requires.its in
     opens_behind _ _ _ _ c.in_ok-ready_to_open.ensures.opens
-    (open_part c.args.setting.now c.in-Some.place c.args.step _ _ c.args.openings.now c.args.number o.0 o.1 o.2 its _ c.do_part.ensures.does)
+    (open_part c.args.setting.now c.in-Some.place c.args.step _ _ c.args.openings.now c.args.number o.0 o.1 o.2 its _
+    c.do_part.ensures.does)
 
 pub returns-in_default-clause-touches : goal.returns-in_default-clause-touches
-returns-in_default-clause-touches g c = makes_stay (paths_of c.args.setting.now) (makes_in c.args.openings.now) c.args.world.now _
+returns-in_default-clause-touches g c =
+    makes_stay (paths_of c.args.setting.now) (makes_in c.args.openings.now) c.args.world.now _
 
 pub returns-then-place-statement-clause-touches : goal.returns-then-place-statement-clause-touches
 returns-then-place-statement-clause-touches g c =

@@ -14,7 +14,7 @@ pub loop-number-preserved : goal.loop-number-preserved
 loop-number-preserved g c = record {
   kept = c.in_ok-at-2.ensures.kept ∙ c.loop-number.invariant.kept;
   opens = ?;
-  touches = makes_on (paths_of c.args.setting.now) _ _ _ _ _ (makes_in c.args.openings.now) c.loop-number.invariant.touches
-      c.loop-number.invariant.only c.in_ok-at-2.ensures.touches;
+  touches = makes_on (paths_of c.args.setting.now) _ _ _ _ _ (makes_in c.args.openings.now)
+      c.loop-number.invariant.touches c.loop-number.invariant.only c.in_ok-at-2.ensures.touches;
   only = opens_pass _ _ _ c.loop-number.invariant.only c.in_ok-at-2.ensures.opens;
 }

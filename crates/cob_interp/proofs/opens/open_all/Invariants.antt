@@ -20,6 +20,7 @@ invariant-loop-number g l = record {
       l.fn.world steps steps l.node l.statement l.openings l.openings
       → Opens (program_of l.setting) l.setting.graph.now (paths_of l.setting) start (outside (g.F.Files.state l.files) sink)
       l.world (steps + 1) steps l.at l.statement l.openings (drop l.number l.openings);
-  touches : Makes (paths_of l.setting) (makes_in l.openings) l.fn.world (g.F.Files.state l.fn.files) (g.F.Files.state l.files);
+  touches : Makes (paths_of l.setting) (makes_in l.openings) l.fn.world (g.F.Files.state l.fn.files)
+      (g.F.Files.state l.files);
   only : OpensOnly l.fn.world l.world;
 }

@@ -17,13 +17,13 @@ returns-in-Closed g c = record {
 
 pub returns-in_err-put-in-Some-clause-touches : goal.returns-in_err-put-in-Some-clause-touches
 returns-in_err-put-in-Some-clause-touches g c =
-    written_touches _ _ c.args.path.now c.in-Some.bytes.now c.args.file.now (sym c.mode.ensures ∙ ap plain_mode c.in-Writing.is)
-    (sym c.in-Some.ensures) c.in_err-put-in-Some.ensures.part
+    written_touches _ _ c.args.path.now c.in-Some.bytes.now c.args.file.now
+    (sym c.mode.ensures ∙ ap plain_mode c.in-Writing.is) (sym c.in-Some.ensures) c.in_err-put-in-Some.ensures.part
 
 pub returns-in_ok-put-in-Some-clause-touches : goal.returns-in_ok-put-in-Some-clause-touches
 returns-in_ok-put-in-Some-clause-touches g c =
-    written_touches _ _ c.args.path.now c.in-Some.bytes.now c.args.file.now (sym c.mode.ensures ∙ ap plain_mode c.in-Writing.is)
-    (sym c.in-Some.ensures) c.in_ok-put-in-Some.ensures.part
+    written_touches _ _ c.args.path.now c.in-Some.bytes.now c.args.file.now
+    (sym c.mode.ensures ∙ ap plain_mode c.in-Writing.is) (sym c.in-Some.ensures) c.in_ok-put-in-Some.ensures.part
 
 pub returns-in-None-clause-touches : goal.returns-in-None-clause-touches
 returns-in-None-clause-touches g c = untouched_one _ c.args.path.now false c.args.file.now

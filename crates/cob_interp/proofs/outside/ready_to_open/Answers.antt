@@ -37,7 +37,8 @@ returns-in_err-load_content-clause-readies g c =
     c.if-opening.false _ c.in_err-load_content.ensures.loads)
 
 pub returns-in_default-clause-touches : goal.returns-in_default-clause-touches
-returns-in_default-clause-touches g c = makes_stay (paths_of c.args.setting.now) (makes_in (c.args.opening ∷ [])) c.args.world.now _
+returns-in_default-clause-touches g c =
+    makes_stay (paths_of c.args.setting.now) (makes_in (c.args.opening ∷ [])) c.args.world.now _
 
 pub returns-in_default-file_mode-clause-touches : goal.returns-in_default-file_mode-clause-touches
 returns-in_default-file_mode-clause-touches g c =
@@ -50,25 +51,25 @@ returns-then-not-is_closed-clause-touches g c =
 pub returns-in_err-put-clause-touches : goal.returns-in_err-put-clause-touches
 returns-in_err-put-clause-touches g c =
     let h = has_file c.in-Some-file_mode.mode _ c.in-Some-file_mode.ensures in
-    makes_by_put (paths_of c.args.setting.now) (makes_in (c.args.opening ∷ [])) c.args.world.now _ _ c.args.opening.file c.in-Some.path.now h.0
-    c.requires.ready.distinct c.in-Some.ensures.path_ h.1
+    makes_by_put (paths_of c.args.setting.now) (makes_in (c.args.opening ∷ [])) c.args.world.now _ _ c.args.opening.file
+    c.in-Some.path.now h.0 c.requires.ready.distinct c.in-Some.ensures.path_ h.1
     (is_closed_true c.in-Some-file_mode.mode h.0.mode h.2 (sym c.is_closed.ensures ∙ c.if-not-is_closed.false))
     (makes_own c.args.opening c.if-opening.true) c.in_err-put.ensures.part
 
 pub returns-then-opening-clause-touches : goal.returns-then-opening-clause-touches
 returns-then-opening-clause-touches g c =
     let h = has_file c.in-Some-file_mode.mode _ c.in-Some-file_mode.ensures in
-    makes_by_put (paths_of c.args.setting.now) (makes_in (c.args.opening ∷ [])) c.args.world.now _ _ c.args.opening.file c.in-Some.path.now h.0
-    c.requires.ready.distinct c.in-Some.ensures.path_ h.1
+    makes_by_put (paths_of c.args.setting.now) (makes_in (c.args.opening ∷ [])) c.args.world.now _ _ c.args.opening.file
+    c.in-Some.path.now h.0 c.requires.ready.distinct c.in-Some.ensures.path_ h.1
     (is_closed_true c.in-Some-file_mode.mode h.0.mode h.2 (sym c.is_closed.ensures ∙ c.if-not-is_closed.false))
     (makes_own c.args.opening c.if-opening.true) c.in_ok-put.ensures.part
 
 pub returns-in_err-load_content-clause-touches : goal.returns-in_err-load_content-clause-touches
 returns-in_err-load_content-clause-touches g c =
-    makes_same (paths_of c.args.setting.now) (makes_in (c.args.opening ∷ [])) c.args.world.now _ _ c.in_err-load_content.ensures.ids
-    c.in_err-load_content.ensures.same
+    makes_same (paths_of c.args.setting.now) (makes_in (c.args.opening ∷ [])) c.args.world.now _ _
+    c.in_err-load_content.ensures.ids c.in_err-load_content.ensures.same
 
 pub returns-clause-touches : goal.returns-clause-touches
 returns-clause-touches g c =
-    makes_same (paths_of c.args.setting.now) (makes_in (c.args.opening ∷ [])) c.args.world.now _ _ c.in_ok-load_content.ensures.ids
-    c.in_ok-load_content.ensures.same
+    makes_same (paths_of c.args.setting.now) (makes_in (c.args.opening ∷ [])) c.args.world.now _ _
+    c.in_ok-load_content.ensures.ids c.in_ok-load_content.ensures.same

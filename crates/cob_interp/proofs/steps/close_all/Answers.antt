@@ -17,14 +17,17 @@ pub loop-preserved : goal.loop-preserved
 loop-preserved g c = record {
   kept = c.in_ok-at.ensures.kept ∙ c.loop.invariant.kept;
   underway = ?;
-  touches = touches_on (paths_of c.args.setting.now) _ _ _ _ _ c.loop.invariant.touches c.loop.invariant.only c.in_ok-at.ensures.touches;
+  touches = touches_on (paths_of c.args.setting.now) _ _ _ _ _ c.loop.invariant.touches c.loop.invariant.only
+      c.in_ok-at.ensures.touches;
   only = closes_pass _ _ _ c.loop.invariant.only c.in_ok-at.ensures.closes;
 }
 
 pub returns-in_err-at-clause-touches : goal.returns-in_err-at-clause-touches
 returns-in_err-at-clause-touches g c =
-    touches_on (paths_of c.args.setting.now) _ _ _ _ _ c.loop.invariant.touches c.loop.invariant.only c.in_err-at.ensures.touches
+    touches_on (paths_of c.args.setting.now) _ _ _ _ _ c.loop.invariant.touches c.loop.invariant.only
+    c.in_err-at.ensures.touches
 
 pub returns-then-rests_at-clause-touches : goal.returns-then-rests_at-clause-touches
 returns-then-rests_at-clause-touches g c =
-    touches_on (paths_of c.args.setting.now) _ _ _ _ _ c.loop.invariant.touches c.loop.invariant.only c.in_ok-at.ensures.touches
+    touches_on (paths_of c.args.setting.now) _ _ _ _ _ c.loop.invariant.touches c.loop.invariant.only
+    c.in_ok-at.ensures.touches
