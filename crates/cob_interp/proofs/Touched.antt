@@ -1,5 +1,5 @@
 -- What is left outside of a file that is put, and of all files.
-use Rattle.std.proofs.Common.{◌≡◌, ◌≢◌, ℕ, zero, suc, Bool, true, false, ◌||◌, ◌&&◌, ◌==◌, List, [], ◌∷◌, take, length, Option, Some, None, Result, Ok, Err, ◌⊎◌, inl, inr, refl, sym, ap, subst, ◌∙◌}
+use Rattle.std.proofs.Common.{◌≡◌, ◌≢◌, ℕ, zero, suc, Bool, true, false, ◌||◌, ◌&&◌, ◌==◌, List, [], ◌∷◌, take, length, Option, Some, Result, Ok, Err, ◌⊎◌, inl, inr, refl, sym, ap, subst, ◌∙◌}
 use Rattle.std.specs.Prelude.{Contains, slice_get, option_map}
 use Rattle.std.specs.Option.{option_map_or}
 use Rattle.std.specs.List.{list_any}
@@ -14,7 +14,7 @@ use Rattle.cob_program.specs.Act.{Act, open_files}
 use Rattle.cob_runs.specs.Files.{File, Mode, closed, writing, bytes_in}
 use Rattle.cob_runs.specs.State.{World}
 use Rattle.cob_interp.specs.Told.{AreDistinct, AgreeBut}
-use Rattle.cob_interp.specs.Touching.{IsFront, IsEmptied, IsPartOf, makes_in, makes_by, makes_none, IsPutIn, PutsPart, TouchesOne, TouchesIn, Touches, Makes, ClosesOnly, OpensOnly}
+use Rattle.cob_interp.specs.Touching.{IsFront, IsEmptied, IsPartOf, makes_in, makes_by, makes_none, IsPutIn, PutsPart, TouchesOne, Touches, Makes, ClosesOnly, OpensOnly}
 use Rattle.cob_interp.proofs.SeenFiles.{contains_at, insert_agrees, insert_gets}
 use Rattle.cob_interp.proofs.Passing.{ids_stay, ids_pass}
 use Rattle.cob_interp.proofs.CallsLead.{others_keep}
