@@ -15,3 +15,5 @@ pub mod StepLemmas
 pub mod CallLemmas
 pub mod Beginnings
 pub mod OneEndLemmas
+pub mod Touched
+pub mod Closings

@@ -1,0 +1,36 @@
+use Rattle.std.proofs.Common.{refl, ◌∙◌, arith}
+use Rattle.cob_interp.specs.Setting.{paths_of}
+use Rattle.cob_interp.specs.Touching.{makes_none}
+use Rattle.cob_interp.proofs.StepLemmas.{goes_on_underway}
+use Rattle.cob_interp.proofs.Touched.{touches_stay, touches_on}
+use Rattle.cob_interp.proofs.Closings.{closes_stay, closes_pass}
+use Rattle.cob_interp.proofs.steps.close_all.Goals as goal
+
+pub loop-init : goal.loop-init
+loop-init g c = record {
+  kept = refl;
+  underway = λ sink start underway. underway;
+  touches = touches_stay (paths_of c.args.setting.now) makes_none c.args.world.now _;
+  only = closes_stay _;
+}
+
+pub loop-preserved : goal.loop-preserved
+loop-preserved g c = record {
+  kept = c.in_ok-at.ensures.kept ∙ c.loop.invariant.kept;
+  underway = λ sink start underway. goes_on_underway c.args.setting.now start _ _ c.args.step _
+      (c.rests_at.ensures c.if-rests_at.false)
+      (c.in_ok-at.ensures.leads sink c.args.step start (omega arith) (c.loop.invariant.underway sink start underway));
+  touches = touches_on (paths_of c.args.setting.now) _ _ _ _ _ c.loop.invariant.touches c.loop.invariant.only
+      c.in_ok-at.ensures.touches;
+  only = closes_pass _ _ _ c.loop.invariant.only c.in_ok-at.ensures.closes;
+}
+
+pub returns-in_err-at-clause-touches : goal.returns-in_err-at-clause-touches
+returns-in_err-at-clause-touches g c =
+    touches_on (paths_of c.args.setting.now) _ _ _ _ _ c.loop.invariant.touches c.loop.invariant.only
+    c.in_err-at.ensures.touches
+
+pub returns-then-rests_at-clause-touches : goal.returns-then-rests_at-clause-touches
+returns-then-rests_at-clause-touches g c =
+    touches_on (paths_of c.args.setting.now) _ _ _ _ _ c.loop.invariant.touches c.loop.invariant.only
+    c.in_ok-at.ensures.touches
