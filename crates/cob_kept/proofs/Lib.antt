@@ -1,0 +1,3 @@
+mod FileCalls
+mod Edges
+pub mod Kept
