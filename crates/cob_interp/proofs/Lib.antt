@@ -17,3 +17,4 @@ pub mod Beginnings
 pub mod OneEndLemmas
 pub mod Touched
 pub mod Closings
+pub mod Unmade

@@ -14,6 +14,7 @@ use Rattle.cob_graph.specs.declared.graph.Graph.{Graph}
 use Rattle.cob_graph.specs.declared.graph.Node.{Node}
 use Rattle.cob_graph.specs.Walks.{node_at, next_statement, passed}
 use Rattle.cob_program.specs.declared.act.Opening.{Opening}
+use Rattle.cob_kept.specs.Keeping.{NeverMakes}
 use Rattle.cob_ways.specs.Telling.{Way, WaysTell, GoesOnAfter}
 use Rattle.cob_interp.specs.declared.ends.Ended.{Ended}
 use Rattle.cob_interp.specs.declared.ends.Ending.{Ending}
@@ -203,6 +204,14 @@ module _ (p : Program) (g : Graph) (paths : List (List ℕ)) where
     pub record Runs (old new : Outside) (result : Result Ended RunEnd) : Type 0 where
       pub ends : EndsBy EndsWell old new result
       pub part : IfRefused result (IsBroken old new)
+
+-- ---- files that are never made
+
+-- paths of files that no statement opens for output hold what they held
+abbrev pub KeepsUnmade : Program → List (List ℕ) → Contents → Contents → Type 0
+KeepsUnmade p paths first told =
+    (place : ℕ) (path : List ℕ) → slice_get paths place ≡ Some path → place < length p.layout.files
+    → NeverMakes p place → get told path ≡ get first path
 
 -- ---- the sink
 
