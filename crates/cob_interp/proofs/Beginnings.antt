@@ -2,10 +2,11 @@
 use Rattle.std.proofs.Common.{◌≡◌, ℕ, ◌+◌, ◌<◌, ◌==◌, ◌&&◌, true, false, Bool, List, Option, Some, None, refl, sym, ap, subst, ◌∙◌, arith}
 use Rattle.std.specs.Prelude.{slice_get, nat_lt, length}
 use Rattle.std.specs.Option.{option_map_or}
+use Rattle.std.proofs.lemmas.Bool.{false≢true}
 use Rattle.batch_io.specs.FilesState.{Contents, known_bytes}
 use Rattle.cob_data.specs.declared.layout.FileDecl.{FileDecl}
 use Rattle.cob_program.specs.declared.act.Opening.{Opening}
-use Rattle.cob_program.specs.Act.{Act, move, arith, if_, evaluate, perform, go, nothing, stop, open_files, close_files, read, write, show, Program}
+use Rattle.cob_program.specs.Act.{Act, move, arith as arithmetic, if_, evaluate, perform, go, nothing, stop, open_files, close_files, read, write, show, Program}
 use Rattle.cob_runs.specs.Files.{File, file, Mode, closed, reading, writing, bytes_in}
 use Rattle.cob_runs.specs.State.{World}
 use Rattle.cob_runs.specs.Effects.{act_at}
@@ -43,6 +44,29 @@ pub cut_seen : (decl : Option FileDecl) (told : Contents) (paths : List (List �
     → cut_file decl (slice_get (seen_files told paths fs) place) ≡ cut_file decl (slice_get fs place)
 cut_seen decl told paths fs place s = cut_at decl told paths place _ _ (seen_at told paths fs place s)
 
+-- and so is the length of a file with such an end
+counted_by_mode : (d : FileDecl) (told : Contents) (path : List ℕ) (content : Option (List ℕ)) (m : Mode) (place : ℕ)
+    → is_cut d (file content m place) ≡ true → bytes_in (seen_file told path (file content m place)) ≡ bytes_in (file content m place)
+counted_by_mode d told path content closed place cut = absurd (false≢true cut)
+counted_by_mode d told path content (reading ended) place cut = refl
+counted_by_mode d told path content writing place cut = refl
+
+abbrev pub length_of : Option File → ℕ
+length_of o = option_map_or (λ f. length (bytes_in f)) o 0
+
+counted_at : (decl : Option FileDecl) (told : Contents) (paths : List (List ℕ)) (place : ℕ) (o other : Option File) → SeenAt told paths place o other
+    → cut_file decl o ≡ true → length_of other ≡ length_of o
+counted_at None told paths place o other sees cut = absurd (false≢true cut)
+counted_at (Some d) told paths place None other sees cut = absurd (false≢true cut)
+counted_at (Some d) told paths place (Some f) None sees cut = cc
+counted_at (Some d) told paths place (Some f) (Some g) sees cut =
+    let same : g ≡ seen_file told sees.0 f = cc in
+    ap (λ (h : File). length (bytes_in h)) same ∙ ap length (counted_by_mode d told sees.0 f.content f.mode f.place cut)
+
+pub counted_seen : (decl : Option FileDecl) (told : Contents) (paths : List (List ℕ)) (fs : List File) (place : ℕ) → AreSynced told paths fs
+    → cut_file decl (slice_get fs place) ≡ true → length_of (slice_get (seen_files told paths fs) place) ≡ length_of (slice_get fs place)
+counted_seen decl told paths fs place s = counted_at decl told paths place _ _ (seen_at told paths fs place s)
+
 -- ---- statements that nothing stops
 
 and_false : (a b : Bool) → b ≡ false → (a && b) ≡ false
@@ -62,7 +86,7 @@ module _ (p : Program) (told : Contents) (paths : List (List ℕ)) (text : List 
       and_false (f == file_) _ (cut_seen (slice_get p.layout.files f) told paths w.files f s ∙ free)
   uncut_act (close_files xs) free file_ = refl
   uncut_act (move x places) free file_ = refl
-  uncut_act (arith sum targets remainder size fine) free file_ = refl
+  uncut_act (arithmetic sum targets remainder size fine) free file_ = refl
   uncut_act (if_ t held other) free file_ = refl
   uncut_act (evaluate ws other) free file_ = refl
   uncut_act (perform body turns) free file_ = refl
@@ -77,7 +101,7 @@ module _ (p : Program) (told : Contents) (paths : List (List ℕ)) (text : List 
   short_act number (read f into end fine) free = refl
   short_act number (close_files xs) free = refl
   short_act number (move x places) free = refl
-  short_act number (arith sum targets remainder size fine) free = refl
+  short_act number (arithmetic sum targets remainder size fine) free = refl
   short_act number (if_ t held other) free = refl
   short_act number (evaluate ws other) free = refl
   short_act number (perform body turns) free = refl
@@ -87,7 +111,7 @@ module _ (p : Program) (told : Contents) (paths : List (List ℕ)) (text : List 
   short_act number (write r from) free = refl
   short_act number (show xs) free = refl
 
-passes_one : (steps : ℕ) (x : Node) → x.starts ≡ true → steps + 1 ≡ passed steps x
+pub passes_one : (steps : ℕ) (x : Node) → x.starts ≡ true → steps + 1 ≡ passed steps x
 passes_one steps x e = let f : one_if x.starts ≡ 1 = ap one_if e in omega (arith, f)
 
 module _ (s : Setting) (start now : Outside) (w : World) (steps node : ℕ) (x : Node) (at : node_at s.graph.now.nodes node ≡ Some x)

@@ -8,6 +8,22 @@ use Rattle.cob_interp.specs.declared.parts.Call.TheVariants as call
 use Rattle.cob_interp.specs.Setting.{IsCall, IsOpen, IsClose, IsRead, IsOther}
 use Rattle.cob_interp.specs.Doing.{IsPlain}
 
+module _ (os : Bor (List Opening)) where
+  pub is_open : (a : Act) → IsCall a (call.Open os) → a ≡ open_files os.now
+  is_open (open_files xs) is = ap open_files (sym is)
+  is_open (close_files xs) is = absurd is
+  is_open (read f into end fine) is = absurd is
+  is_open (move x places) is = absurd is
+  is_open (arith sum targets remainder size fine) is = absurd is
+  is_open (if_ t held other) is = absurd is
+  is_open (evaluate ws other) is = absurd is
+  is_open (perform body turns) is = absurd is
+  is_open (go para) is = absurd is
+  is_open nothing is = absurd is
+  is_open stop is = absurd is
+  is_open (write r from) is = absurd is
+  is_open (show xs) is = absurd is
+
 module _ (fs : Bor (List ℕ)) where
   pub is_close : (a : Act) → IsCall a (call.Close fs) → a ≡ close_files fs.now
   is_close (close_files xs) is = ap close_files (sym is)

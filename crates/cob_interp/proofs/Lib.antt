@@ -14,4 +14,5 @@ pub mod OpeningLemmas
 pub mod StepLemmas
 pub mod CallLemmas
 pub mod Beginnings
+pub mod Taking
 pub mod OneEndLemmas

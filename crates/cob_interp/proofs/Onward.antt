@@ -160,7 +160,7 @@ module _ (p : Program) (g : Graph) (paths : List (List ℕ)) where
         }
 
     module _ (x : Node) (at : node_at g.nodes n ≡ Some x) (starts : x.starts ≡ true) where
-      goes_on : GoesOnAfter p g (told_files first paths) [] steps x.statement (seen told paths text w)
+      pub goes_on : GoesOnAfter p g (told_files first paths) [] steps x.statement (seen told paths text w)
       goes_on = s.tells.goes_on steps n (seen told paths text w) x s.way at starts
 
       pub spends : steps ≡ budget → RestsIn p g paths budget first told text w (Err (end.StepsSpent budget))

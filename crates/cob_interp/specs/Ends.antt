@@ -9,7 +9,7 @@ use Rattle.cob_program.specs.Act.{Act, open_files, read, Program}
 use Rattle.cob_meaning.specs.declared.straight.Outcome.{Outcome}
 use Rattle.cob_meaning.specs.declared.straight.Outcome.TheVariants.{Going, Fault, IoStop}
 use Rattle.cob_meaning.specs.declared.straight.Outcome.TheVariants as outcome
-use Rattle.cob_runs.specs.Files.{File, Mode, closed, bytes_in, after_read}
+use Rattle.cob_runs.specs.Files.{File, Mode, closed, reading, bytes_in, after_read}
 use Rattle.cob_runs.specs.State.{World, State}
 use Rattle.cob_runs.specs.Acts.{has_status, open_one}
 use Rattle.cob_runs.specs.Steps.{outcome_of}
@@ -25,6 +25,11 @@ abbrev pub told_files : outside.Contents → List (List ℕ) → Contents
 told_files told paths = map (get told) paths
 
 -- ---- files that end within a record, and files that are too long to be read
+
+-- it is read, and its end wasn't met
+abbrev pub reads_on : Mode → Bool
+reads_on (reading false) = true
+reads_on _ = false
 
 -- a READ of the file would end at status 10, with bytes left that make no record
 abbrev pub is_cut : FileDecl → File → Bool
