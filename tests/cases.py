@@ -156,50 +156,114 @@ def over_tokens():
     yield "27 items", many, CERTIFICATE, 2, "E20 line 31\n"
 
 
-def probe():
-    """The program that tells the first refusal of a source; built where it is missing."""
-    crate = ROOT / "crates/front_probe"
-    program = crate / "out/front_probe"
-    if not program.exists():
-        subprocess.run(["rt", "run"], cwd=crate, stdout=subprocess.DEVNULL, stderr=subprocess.DEVNULL)
-    return program
+def in_the_grammar(answer):
+    return not answer.startswith(("E6 ", "E7 ", "E8 ", "E10 nesting "))
 
 
-def of_the_grammar():
-    """Sources and the first words of the answer. Where the grammar refuses nothing, a later rule may."""
-    later = ("accepted ", "E9 ", "E10 items ", "E10 storage ", "E10 files ")
+def in_the_profile(answer):
+    """None of the rules on data and statements is broken, and none of the limits on data."""
+    rules = ("E9 L", "E9 Q", "E9 N5 ")
+    return in_the_grammar(answer) and not answer.startswith((*rules, "E10 items ", "E10 storage ", "E10 files "))
+
+
+def ran_one_step():
+    """Sources that are run for one step, with the refusal or what is wanted of the first line of the answer. Where
+    nothing is refused up to a rule, a later one may be, and the run ends as it may."""
     for name, case in cases_of("grammar.jsonl"):
-        yield name, case["source"].encode("latin-1"), (case["refused"],) if case["refused"] else later
-
-
-def of_the_profile():
-    """Sources and what is answered: the first broken rule, the first limit, or the number of statements."""
+        yield name, case["source"].encode("latin-1"), case["refused"] or in_the_grammar
     for name, case in cases_of("profile.jsonl"):
-        yield name, case["source"].encode("latin-1"), (case["refused"] or f"accepted {case['statements']}",)
+        yield name, case["source"].encode("latin-1"), case["refused"] or in_the_profile
     for name, case in cases_of("rules.jsonl"):
-        yield name, case["source"].encode("latin-1"), (case["refused"],)
-    for name, statements in (("payroll", 50), ("listing", 7)):
-        yield name, (ROOT / f"samples/{name}.cob").read_bytes(), (f"accepted {statements}",)
+        yield name, case["source"].encode("latin-1"), case["refused"]
+    for name in ("payroll", "listing"):
+        yield name, (ROOT / f"samples/{name}.cob").read_bytes(), in_the_profile
 
 
-def refusals(folder):
-    """How many of the grammar's cases are answered as they must be, and how many aren't."""
-    program, source = probe(), pathlib.Path(folder, "S")
+def is_answered(wanted, status, out):
+    """A refusal is the whole answer, with its status."""
+    if callable(wanted):
+        return wanted(out)
+    return (status, out) == (9 if wanted.startswith("E10") else 2, wanted + "\n")
+
+
+def one_step_of_each():
+    """How many of the sources are answered as they must be, and how many aren't."""
     passed = failed = 0
-    for name, text, wanted in [*of_the_grammar(), *of_the_profile()]:
-        source.write_bytes(text)
-        found = subprocess.run([program, "S"], cwd=folder, capture_output=True).stdout.decode("latin-1").strip()
-        if found.startswith(wanted) if len(wanted) > 1 else found == wanted[0]:
+    for name, text, wanted in ran_one_step():
+        with tempfile.TemporaryDirectory() as folder:
+            pathlib.Path(folder, "S").write_bytes(text)
+            status, out = answer(["run", "S", "--steps", "1"], folder)
+        if is_answered(wanted, status, out):
             passed += 1
         else:
             failed += 1
-            print(f"{name}: {found} in place of {wanted}")
+            print(f"run {name}: {(status, out)} in place of {wanted}")
+    return passed, failed
+
+
+PAYIN = bytes.fromhex("483230323430313331202020" "44303030343200455c02000c" "543030303031202020202020")
+
+PAYOUT = b"00042  45.5       965.00" b"TOTAL GROSS       965.00"
+
+LISTING = (ROOT / "samples/listing.cob").read_text("latin-1")
+
+WITH_STATUS = (
+    LISTING.replace("TO INP.", "TO INP\n           FILE STATUS IS S.")
+    .replace("       77 E", "       77 S PIC XX.\n       77 E")
+    .replace("OPEN INPUT F.", "OPEN INPUT F.\n           DISPLAY S.\n           STOP RUN.")
+)
+
+
+def runs():
+    """Programs that are run on real files: the words behind the source, the files, the answer, and the files behind it."""
+    payroll = (ROOT / "samples/payroll.cob").read_text("latin-1")
+    shown = "RUN DATE 20240131\nDETAILS 00001 BAD 00000\n"
+    yield "payroll", payroll, [], {"PAYIN": PAYIN}, 0, shown, {"PAYIN": PAYIN, "PAYOUT": PAYOUT}
+    named = ["payin=in", "PAYOUT=out"]
+    yield "payroll with paths", payroll, named, {"in": PAYIN, "out": b"old"}, 0, shown, {"in": PAYIN, "out": PAYOUT}
+    listing = ["INP=f"]
+    yield "an empty file", LISTING, listing, {"f": b""}, 0, "", {"f": b""}
+    ragged = "A" * 80 + "\nE15 INP length 81\n"
+    yield "a ragged end", LISTING, listing, {"f": 81 * b"A"}, 12, ragged, {"f": 81 * b"A"}
+    yield "an absent file", LISTING, listing, {}, 11, "E17 status 35 statement 1\n", {}
+    yield "an absent file with a status", WITH_STATUS, listing, {}, 0, "35\n", {}
+    yield "a folder", LISTING, ["INP=."], {}, 5, "E3 read\n", {}
+    yield "no such folder", payroll, ["PAYOUT=no/out"], {"PAYIN": PAYIN}, 6, "E4 write\n", {"PAYIN": PAYIN}
+    two = SAMPLE.replace("ADD 1", "ADD 2")
+    yield "a size error", two, [], {}, 1, "E18 SIZE statement 1 step 1\n", {}
+    yield "no step too many", SAMPLE, ["--steps", "2"], {}, 0, "", {}
+    yield "a step too many", SAMPLE, ["--steps", "1"], {}, 10, "E16 steps 1\n", {}
+    yield "a NAME of no file", SAMPLE, ["INP=f"], {}, 4, "E1 usage INP=f\n", {}
+    yield "no equals sign", LISTING, ["INP"], {}, 4, "E1 usage INP\n", {}
+    yield "a NAME twice", LISTING, ["INP=a", "inp=b"], {}, 4, "E1 usage inp=b\n", {}
+    yield "a path twice", payroll, ["PAYOUT=PAYIN"], {"PAYIN": PAYIN}, 4, "E1 usage PAYOUT=PAYIN\n", {"PAYIN": PAYIN}
+    yield "no step", SAMPLE, ["--steps", "0"], {}, 4, "E1 usage run\n", {}
+    yield "an unknown option", SAMPLE, ["--step"], {}, 4, "E1 usage run\n", {}
+
+
+def files_in(folder):
+    return {path.name: path.read_bytes() for path in pathlib.Path(folder).iterdir()}
+
+
+def runs_on_files():
+    passed = failed = 0
+    for name, source, words, files, status, out, behind in runs():
+        with tempfile.TemporaryDirectory() as folder, tempfile.NamedTemporaryFile(suffix=".cob") as text:
+            text.write(source.encode("latin-1"))
+            text.flush()
+            for file, content in files.items():
+                pathlib.Path(folder, file).write_bytes(content)
+            found = (*answer(["run", text.name, *words], folder), files_in(folder))
+        if found == (status, out, behind):
+            passed += 1
+        else:
+            failed += 1
+            print(f"run, {name}: {found} in place of {(status, out, behind)}")
     return passed, failed
 
 
 def main():
-    with tempfile.TemporaryDirectory() as folder:
-        passed, failed = refusals(folder)
+    passed, failed = map(sum, zip(one_step_of_each(), runs_on_files()))
     with tempfile.TemporaryDirectory() as folder:
         source, certificate = pathlib.Path(folder, "S"), pathlib.Path(folder, "C")
         parts = [listed(), refused_sources(), of_the_layout(), of_the_graph(), of_the_sample(), over_tokens()]

@@ -16,3 +16,5 @@ pub mod CallLemmas
 pub mod Beginnings
 pub mod Taking
 pub mod OneEndLemmas
+pub mod Touched
+pub mod Closings

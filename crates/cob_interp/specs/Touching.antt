@@ -1,5 +1,5 @@
 -- What a statement that isn't done, or a call within it, leaves of the outside's files.
-use Rattle.std.specs.Prelude.{◌≡◌, ℕ, ◌==◌, ◌&&◌, ◌⊎◌, Bool, true, false, List, [], ◌∷◌, take, slice_get, Option, Some, IfSome}
+use Rattle.std.specs.Prelude.{◌≡◌, ℕ, ◌==◌, ◌&&◌, ◌⊎◌, Bool, true, false, List, [], take, slice_get, Option, Some}
 use Rattle.std.specs.List.{list_any}
 use Rattle.std.specs.FinMap.{get}
 use Rattle.batch_io.specs.FilesState.{Contents, FilesState, KeepsIds, known_bytes}
@@ -49,7 +49,8 @@ pub record PutsPart (old new : FilesState) (name bytes : List ℕ) : Type 0 wher
   pub known : (told : Contents) → known_bytes old ≡ Some told → IsPutIn name bytes told (known_bytes new)
 
 -- the name holds a part of the file
-pub record TouchesOneIn (path : List ℕ) (makes : Bool) (f : File) (told : Contents) (known : Option Contents) : Type 0 where
+pub record TouchesOneIn (path : List ℕ) (makes : Bool) (f : File) (told : Contents)
+    (known : Option Contents) : Type 0 where
   pub now : Contents
   pub is : known ≡ Some now
   pub others : AgreeBut told now path
@@ -64,7 +65,8 @@ pub record TouchesOne (old new : FilesState) (path : List ℕ) (makes : Bool) (f
 module _ (paths : List (List ℕ)) (makes : ℕ → Bool) (w : World) where
   -- each path holds what it held or a part of its file in this world; all other names hold what they held
   pub record TouchesIn (told now : Contents) : Type 0 where
-    pub its : (place : ℕ) (path : List ℕ) (f : File) → slice_get paths place ≡ Some path → slice_get w.files place ≡ Some f
+    pub its : (place : ℕ) (path : List ℕ) (f : File) → slice_get paths place ≡ Some path
+        → slice_get w.files place ≡ Some f
         → IsPartOf (makes place) f (get told path) (get now path)
     pub others : KeepsNames told now paths
 
@@ -78,13 +80,28 @@ module _ (paths : List (List ℕ)) (makes : ℕ → Bool) (w : World) where
     pub ids : KeepsIds old new
     pub known : (told : Contents) → known_bytes old ≡ Some told → IsTouched told (known_bytes new)
 
+  -- In an OPEN each path holds what it held, or nothing yet where its file is closed and opened for output; all other
+  -- names hold what they held.
+  pub record IsMade (told : Contents) (known : Option Contents) : Type 0 where
+    pub now : Contents
+    pub is : known ≡ Some now
+    pub its : (place : ℕ) (path : List ℕ) (f : File) → slice_get paths place ≡ Some path
+        → slice_get w.files place ≡ Some f
+        → (get now path ≡ get told path) ⊎ IsEmptied (makes place) f (get now path)
+    pub others : KeepsNames told now paths
+
+  pub record Makes (old new : FilesState) : Type 0 where
+    pub ids : KeepsIds old new
+    pub known : (told : Contents) → known_bytes old ≡ Some told → IsMade told (known_bytes new)
+
 -- ---- how files change within a statement
 
 -- a CLOSE leaves each file as it was, or closed
-abbrev pub ClosesOnly : World → World → Type 0
-ClosesOnly old new = (place : ℕ) (f : File) → slice_get new.files place ≡ Some f → (slice_get old.files place ≡ Some f) ⊎ (f.mode ≡ closed)
+pub record ClosesOnly (old new : World) : Type 0 where
+  pub each : (place : ℕ) (f : File) → slice_get old.files place ≡ Some f
+      → (g : File) × (slice_get new.files place ≡ Some g) × ((g ≡ f) ⊎ (g.mode ≡ closed))
 
 -- an OPEN closes none
-abbrev pub OpensOnly : World → World → Type 0
-OpensOnly old new = (place : ℕ) (f : File) → slice_get new.files place ≡ Some f → f.mode ≡ closed
-    → IfSome (slice_get old.files place) (λ e. e.mode ≡ closed)
+pub record OpensOnly (old new : World) : Type 0 where
+  pub each : (place : ℕ) (f : File) → slice_get old.files place ≡ Some f
+      → (g : File) × (slice_get new.files place ≡ Some g) × (g.mode ≡ closed → f.mode ≡ closed)

@@ -1,9 +1,11 @@
 //! OPEN (ISO 1989:1985, "The OPEN statement"). Whether a file is too long is told of those that are opened alone.
-ghost use Rattle.std.specs.Prelude.{◌≡◌, ◌+◌, ℕ, true, IfOk, length, slice_get};
+ghost use Rattle.std.specs.Prelude.{◌≡◌, ◌+◌, ℕ, true, Some, IfOk, length, slice_get};
 ghost use Rattle.batch_io.specs.SinkState.{SinkState};
+ghost use Rattle.cob_program.specs.Act.{open_files};
+ghost use Rattle.cob_runs.specs.Effects.{act_at};
 ghost use Rattle.cob_interp.specs.Running.{outside};
-ghost use Rattle.cob_interp.specs.Setting.{IsReady, paths_of};
-ghost use Rattle.cob_interp.specs.Touching.{Touches, OpensOnly, makes_in};
+ghost use Rattle.cob_interp.specs.Setting.{IsReady, program_of, paths_of};
+ghost use Rattle.cob_interp.specs.Touching.{Makes, OpensOnly, makes_in};
 ghost use Rattle.cob_interp.specs.Doing.{IsOpenOf, LeadsOpening, LeadsOver};
 
 use crate::ends::RunEnd;
@@ -46,11 +48,12 @@ fn do_open<F: Files>(
 ) -> Result<u32, RunEnd>
     requires ready { IsReady setting.now }
     requires whole { length world.old.storage ≡ setting.now.program.now.layout.storage }
+    requires its { act_at (program_of setting.now) statement ≡ Some (open_files openings.now) }
     ensures kept { length world.new.storage ≡ length world.old.storage }
     ensures leads { (sink : SinkState) (budget steps : ℕ) → step ≡ steps + 1
         → LeadsOpening setting.now budget steps node statement openings.now number
         (outside (F.state files.old) sink) (outside (F.state files.new) sink) world.old world.new result }
-    ensures touches { Touches (paths_of setting.now) (makes_in openings.now) world.old
+    ensures touches { Makes (paths_of setting.now) (makes_in openings.now) world.old
         (F.state files.old) (F.state files.new) }
     ensures opens { IfOk result (λ _. OpensOnly world.old world.new) }
 {
@@ -80,11 +83,12 @@ pub fn open_all<F: Files>(
 ) -> Result<u32, RunEnd>
     requires ready { IsReady setting.now }
     requires whole { length world.old.storage ≡ setting.now.program.now.layout.storage }
+    requires its { act_at (program_of setting.now) statement ≡ Some (open_files openings.now) }
     ensures kept { length world.new.storage ≡ length world.old.storage }
     ensures leads { (sink : SinkState) (budget steps : ℕ) → step ≡ steps + 1
         → LeadsOver setting.now budget steps node statement openings.now
         (outside (F.state files.old) sink) (outside (F.state files.new) sink) world.old world.new result }
-    ensures touches { Touches (paths_of setting.now) (makes_in openings.now) world.old
+    ensures touches { Makes (paths_of setting.now) (makes_in openings.now) world.old
         (F.state files.old) (F.state files.new) }
 {
     let mut at = do_open(

@@ -5,7 +5,7 @@ ghost use Rattle.batch_io.specs.FilesState.{KeepsIds, known_bytes};
 ghost use Rattle.cob_interp.specs.Readying.{IsRefusal, Puts, Reads, IsRefusedToLoad, Readies, ReadyToClose, LoadsInto, ReadyToOpen, IsRefusedToOpen};
 ghost use Rattle.cob_interp.specs.Ends.{is_closed};
 ghost use Rattle.cob_interp.specs.Told.{IsReadyToClose};
-ghost use Rattle.cob_interp.specs.Touching.{PutsPart, TouchesOne, Touches, OpensOnly, makes_in, makes_none};
+ghost use Rattle.cob_interp.specs.Touching.{PutsPart, TouchesOne, Touches, Makes, OpensOnly, makes_in, makes_none};
 ghost use Rattle.cob_interp.specs.Setting.{IsReady, paths_of};
 ghost use Rattle.cob_world.specs.Views.{plain_mode};
 
@@ -133,7 +133,7 @@ pub fn ready_to_open<F: Files>(
     ensures readies { MatchResult result
         (λ _. ReadyToOpen setting.now world.old world.new opening (F.state files.old) (F.state files.new))
         (λ e. IsRefusedToOpen setting.now world.old opening (F.state files.old) (F.state files.new) e) }
-    ensures touches { Touches (paths_of setting.now) (makes_in (opening ∷ [])) world.old
+    ensures touches { Makes (paths_of setting.now) (makes_in (opening ∷ [])) world.old
         (F.state files.old) (F.state files.new) }
     ensures opens { OpensOnly world.old world.new }
 {

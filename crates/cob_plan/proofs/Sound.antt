@@ -76,9 +76,10 @@ module _ (p : Program) where
   mutual
     list_sound : (ss : Stmts) → AreWhole p ss → CanDo l ss → AreListed (listed ss)
     list_sound no_stmts w h = tt
-    list_sound (more_stmts (MkStmt n line a) ss) w h =
-        (record { its = w.0; able = h.0; tests = refl; testable = able_act l a h.0 },
-        two (listed_in a) (listed ss) (act_sound a w.1 h.0) (list_sound ss w.2 h.1))
+    list_sound (more_stmts (MkStmt n line a) ss) w h = (
+      record { its = w.0; able = h.0; tests = refl; testable = able_act l a h.0 },
+      two (listed_in a) (listed ss) (act_sound a w.1 h.0) (list_sound ss w.2 h.1),
+    )
 
     phrase_sound : (x : Phrase) → IsWholePhrase p x → CanDoPhrase l x → AreListed (listed_phrase x)
     phrase_sound left_out w h = tt

@@ -44,13 +44,13 @@ pub is_spot : (g : Graph) (count number : ℕ) (node : Node) (s : Spot) (out : L
     s.statement ≡ node.statement → s.starts ≡ node.starts → Leave number out →
     All (Contains g.edges) out → op_edges s.op ≡ map way out → IsSpot g number s
 is_spot g count number node s out within is counted statement starts leave all ways = record {
-    node = node;
-    stands = ap (node_at g.nodes) (counted ∙ add-one count) ∙ slice_get-get_or g.nodes count node within
-        ∙ ap (λ x. Some x) (sym is);
-    statement = statement;
-    starts = starts;
-    edges = ways_out g.edges out number s.op leave all ways;
-  }
+  node = node;
+  stands = ap (node_at g.nodes) (counted ∙ add-one count) ∙ slice_get-get_or g.nodes count node within
+      ∙ ap (λ x. Some x) (sym is);
+  statement = statement;
+  starts = starts;
+  edges = ways_out g.edges out number s.op leave all ways;
+}
 
 last_or_before : (xs : List Spot) (x : Spot) (i : ℕ) (s : Spot) → slice_get (xs ++ x ∷ []) i ≡ Some s →
     (slice_get xs i ≡ Some s) ⊎ ((i ≡ length xs) × (x ≡ s))
@@ -63,13 +63,13 @@ last_or_before (y ∷ xs) x (suc i) s h =
 pub spot_more : (g : Graph) (spots more : List Spot) (count number : ℕ) (s : Spot) → AreFirst g count spots →
     IsSpot g number s → number ≡ count + 1 → more ≡ spots ++ s ∷ [] → AreFirst g (count + 1) more
 spot_more g spots more count number s first is counted grown = record {
-    each = λ i x h. elim (last_or_before spots s i x (ap (λ xs. slice_get xs i) (sym grown) ∙ h)) [
-        inl e ↦ first.each i x e
-      | inr e ↦ subst (λ y. IsSpot g (suc i) y) e.1 (subst (λ n. IsSpot g n s)
-          (counted ∙ add-one count ∙ ap suc (sym first.all ∙ sym e.0)) is)
-      ];
-    all = omega (arith, length-append spots (s ∷ []), first.all, ap length grown);
-  }
+  each = λ i x h. elim (last_or_before spots s i x (ap (λ xs. slice_get xs i) (sym grown) ∙ h)) [
+    | inl e ↦ first.each i x e
+    | inr e ↦ subst (λ y. IsSpot g (suc i) y) e.1 (subst (λ n. IsSpot g n s)
+        (counted ∙ add-one count ∙ ap suc (sym first.all ∙ sym e.0)) is)
+  ];
+  all = omega (arith, length-append spots (s ∷ []), first.all, ap length grown);
+}
 
 pub all_spots : (g : Graph) (spots : List Spot) (count : ℕ) → length g.nodes ≤ count → count ≤ length g.nodes →
     AreFirst g count spots → AreSpots g spots

@@ -42,20 +42,20 @@ module _ (p : Program) (number : ℕ) (a : Act) (its : act_at p number ≡ Some 
 module _ (p : Program) (number : ℕ) (a : Act) (o : Op) (x : Action) (old now : World) (to : ℕ) (l : Leads p number a o x to) where
   pub goes : effect_of p number None old x a ≡ Ok (Some now) → Does p number o old now (Ok to)
   goes met = record {
-      action = x;
-      out = l.out;
-      does = effect_is p number a l.its old x ∙ met;
-      goes_on = l.handled;
-    }
+    action = x;
+    out = l.out;
+    does = effect_is p number a l.its old x ∙ met;
+    goes_on = l.handled;
+  }
 
   pub fails : (e : DoEnd) → EndsBy (effect_of p number None old x a) old now e → Does p number o old now (Err e)
   fails (end.Fault kind) h = record {
-      action = x;
-      to = to;
-      out = l.out;
-      meets = effect_is p number a l.its old x ∙ h.0;
-      others = h.1;
-    }
+    action = x;
+    to = to;
+    out = l.out;
+    meets = effect_is p number a l.its old x ∙ h.0;
+    others = h.1;
+  }
   fails (end.Stop status_) h = absurd h
   fails end.Memory h = tt
 
@@ -70,21 +70,21 @@ module _ (p : Program) (number k : ℕ) (a : Act) (o : Op) (old now : World) (to
 
   pub goes_bad : handled_by p number k a ≡ true → Does p number o old now (Ok to)
   goes_bad handled = record {
-      action = action.Bad k;
-      out = out;
-      does = effect_is p number a its old (action.Bad k) ∙ leads;
-      goes_on = handled_is ∙ handled;
-    }
+    action = action.Bad k;
+    out = out;
+    does = effect_is p number a its old (action.Bad k) ∙ leads;
+    goes_on = handled_is ∙ handled;
+  }
 
   pub stops_bad : handled_by p number k a ≡ false → Does p number o old now (Err (end.Stop status_))
   stops_bad not_handled = record {
-      action = action.Bad k;
-      to = to;
-      out = out;
-      does = effect_is p number a its old (action.Bad k) ∙ leads;
-      gives = status_is p number a its old (action.Bad k) ∙ gives;
-      stops = handled_is ∙ not_handled;
-    }
+    action = action.Bad k;
+    to = to;
+    out = out;
+    does = effect_is p number a its old (action.Bad k) ∙ leads;
+    gives = status_is p number a its old (action.Bad k) ∙ gives;
+    stops = handled_is ∙ not_handled;
+  }
 
 -- ---- READ
 
@@ -95,11 +95,11 @@ module _ (p : Program) (number : ℕ) (a : Act) (old now : World) (its : act_at 
 
   pub goes_found : is_fine t.status ≡ true → Does p number here old now (Ok found)
   goes_found fine = record {
-      action = action.Take;
-      out = only (action.Take, found) ((action.AtEnd, at_end) ∷ (action.Bad 0, bad) ∷ []);
-      does = effect_is p number a its old action.Take ∙ h.found ∙ ap (λ b. taken_if b now) fine;
-      goes_on = refl;
-    }
+    action = action.Take;
+    out = only (action.Take, found) ((action.AtEnd, at_end) ∷ (action.Bad 0, bad) ∷ []);
+    does = effect_is p number a its old action.Take ∙ h.found ∙ ap (λ b. taken_if b now) fine;
+    goes_on = refl;
+  }
 
   end_is : is_handled p number action.AtEnd ≡ end_handled p number a
   end_is = ap (λ x. option_map_or (end_handled p number) x true) its
@@ -109,21 +109,21 @@ module _ (p : Program) (number : ℕ) (a : Act) (old now : World) (its : act_at 
 
   pub goes_end : t.status ≡ 10 → t.end_handled ≡ true → Does p number here old now (Ok at_end)
   goes_end ten handled = record {
-      action = action.AtEnd;
-      out = second (action.Take, found) (action.AtEnd, at_end) ((action.Bad 0, bad) ∷ []);
-      does = ends ten;
-      goes_on = end_is ∙ h.end ∙ handled;
-    }
+    action = action.AtEnd;
+    out = second (action.Take, found) (action.AtEnd, at_end) ((action.Bad 0, bad) ∷ []);
+    does = ends ten;
+    goes_on = end_is ∙ h.end ∙ handled;
+  }
 
   pub stops_end : t.status ≡ 10 → t.end_handled ≡ false → Does p number here old now (Err (end.Stop 10))
   stops_end ten not_handled = record {
-      action = action.AtEnd;
-      to = at_end;
-      out = second (action.Take, found) (action.AtEnd, at_end) ((action.Bad 0, bad) ∷ []);
-      does = ends ten;
-      gives = status_is p number a its old action.AtEnd ∙ h.gives ∙ ap (λ n. Some n) ten;
-      stops = end_is ∙ h.end ∙ not_handled;
-    }
+    action = action.AtEnd;
+    to = at_end;
+    out = second (action.Take, found) (action.AtEnd, at_end) ((action.Bad 0, bad) ∷ []);
+    does = ends ten;
+    gives = status_is p number a its old action.AtEnd ∙ h.gives ∙ ap (λ n. Some n) ten;
+    stops = end_is ∙ h.end ∙ not_handled;
+  }
 
   module _ (not_fine : is_fine t.status ≡ false) (not_ten : (t.status == 10) ≡ false) where
     leads_bad : called_bad p number None old 0 a ≡ Ok (Some now)

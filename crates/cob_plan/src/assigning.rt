@@ -115,12 +115,7 @@ fn begin_turns(
     }
 }
 
-fn move_into(
-    layout: &Layout,
-    file: u32,
-    into: Option<u32>,
-    world: &mut World,
-) -> Result<(), DoEnd>
+fn move_into(layout: &Layout, file: u32, into: Option<u32>, world: &mut World) -> Result<(), DoEnd>
     requires sound { HasSoundItems layout.now }
     requires whole { length world.old.storage ≡ layout.now.storage }
     ensures value { Meets (taken (into_if layout.now file into world.old)) world.old world.new result }
@@ -131,12 +126,7 @@ fn move_into(
 }
 
 /// What a statement moves: a MOVE all, a loop with VARYING its start, READ into INTO, WRITE from FROM.
-pub fn assign(
-    alloc: Global,
-    program: &Program,
-    act: &Act,
-    world: &mut World,
-) -> Result<(), DoEnd>
+pub fn assign(alloc: Global, program: &Program, act: &Act, world: &mut World) -> Result<(), DoEnd>
     requires sound { HasSoundItems program.now.layout }
     requires whole { length world.old.storage ≡ program.now.layout.storage }
     requires able { CanDoAct program.now.layout (plain_act act.now) }
@@ -176,12 +166,7 @@ fn count_turns(
 }
 
 /// Sets the count of a loop with TIMES.
-pub fn set_count(
-    program: &Program,
-    number: u32,
-    act: &Act,
-    world: &mut World,
-) -> Result<(), DoEnd>
+pub fn set_count(program: &Program, number: u32, act: &Act, world: &mut World) -> Result<(), DoEnd>
     requires sound { HasSoundItems program.now.layout }
     requires whole { length world.old.storage ≡ program.now.layout.storage }
     requires able { CanDoAct program.now.layout (plain_act act.now) }
@@ -222,12 +207,7 @@ fn show_all(
 }
 
 /// DISPLAY.
-pub fn show(
-    alloc: Global,
-    program: &Program,
-    act: &Act,
-    world: &mut World,
-) -> Result<(), DoEnd>
+pub fn show(alloc: Global, program: &Program, act: &Act, world: &mut World) -> Result<(), DoEnd>
     requires sound { HasSoundItems program.now.layout }
     requires whole { length world.old.storage ≡ program.now.layout.storage }
     ensures value { (number : ℕ) → Meets (shown (plain_program program.now) number None world.old (plain_act act.now))

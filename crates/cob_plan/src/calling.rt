@@ -92,12 +92,7 @@ fn close_at(
 }
 
 /// CLOSE of the file at a place of the statement.
-pub fn close(
-    program: &Program,
-    act: &Act,
-    place: u32,
-    world: &mut World,
-) -> Result<Called, DoEnd>
+pub fn close(program: &Program, act: &Act, place: u32, world: &mut World) -> Result<Called, DoEnd>
     requires sound { HasSoundItems program.now.layout }
     requires whole { length world.old.storage ≡ program.now.layout.storage }
     ensures value { (number : ℕ) → Calls (λ called. IsCall (plain_program program.now) number place
@@ -151,12 +146,7 @@ pub fn write(
     }
 }
 
-fn take(
-    program: &Program,
-    file: u32,
-    end: &Option<Vec<Stmt>>,
-    world: &mut World,
-) -> Taken
+fn take(program: &Program, file: u32, end: &Option<Vec<Stmt>>, world: &mut World) -> Taken
     requires sound { HasSoundItems program.now.layout }
     requires whole { length world.old.storage ≡ program.now.layout.storage }
     ensures value { (number : ℕ) (into : Option ℕ) (fine : act.Stmts) → IsTaking (plain_program program.now) number 0

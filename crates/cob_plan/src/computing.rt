@@ -53,12 +53,7 @@ fn compute_all(
     }
 }
 
-fn augment_item(
-    layout: &Layout,
-    item: u32,
-    by: &Sender,
-    world: &mut World,
-) -> Result<bool, DoEnd>
+fn augment_item(layout: &Layout, item: u32, by: &Sender, world: &mut World) -> Result<bool, DoEnd>
     requires sound { HasSoundItems layout.now }
     requires whole { length world.old.storage ≡ layout.now.storage }
     requires item { is_number_form (form_at layout.now item) ≡ true }
@@ -72,11 +67,7 @@ fn augment_item(
     }
 }
 
-fn augment_turns(
-    program: &Program,
-    turns: &Turns,
-    world: &mut World,
-) -> Result<bool, DoEnd>
+fn augment_turns(program: &Program, turns: &Turns, world: &mut World) -> Result<bool, DoEnd>
     requires sound { HasSoundItems program.now.layout }
     requires whole { length world.old.storage ≡ program.now.layout.storage }
     requires able { CanTurn program.now.layout (plain_turns turns.now) }
@@ -112,7 +103,14 @@ pub fn compute(program: &Program, act: &Act, world: &mut World) -> Result<bool, 
             ..
         } => {
             let phrase = is_given(size);
-            compute_all(&program.layout, phrase, common, targets.get(), *remainder, world)
+            compute_all(
+                &program.layout,
+                phrase,
+                common,
+                targets.get(),
+                *remainder,
+                world,
+            )
         }
         Act::Perform { turns, .. } => augment_turns(program, turns, world),
         _ => Err(DoEnd::Memory),

@@ -54,9 +54,9 @@ fn decide_at(
     requires its { IsStatement (plain_program program.now) statement.now }
     ensures { (number : ℕ) → Forks
         (decided (plain_program program.now) number None world.now true
-            (slice_get (tests_in_act (plain_act statement.now.act.now)) place))
+        (slice_get (tests_in_act (plain_act statement.now.act.now)) place))
         (decided (plain_program program.now) number None world.now false
-            (slice_get (tests_in_act (plain_act statement.now.act.now)) place))
+        (slice_get (tests_in_act (plain_act statement.now.act.now)) place))
         world.now world.now result }
 {
     match test_at(statement, place) {
@@ -105,9 +105,9 @@ pub fn test(
     requires its { IsStatement (plain_program program.now) statement.now }
     ensures { Forks
         (tested (plain_program program.now) statement.now.number None world.now true place
-            (plain_act statement.now.act.now))
+        (plain_act statement.now.act.now))
         (tested (plain_program program.now) statement.now.number None world.now false place
-            (plain_act statement.now.act.now))
+        (plain_act statement.now.act.now))
         world.now world.now result }
 {
     if is_times(statement.act) {

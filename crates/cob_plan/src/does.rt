@@ -69,7 +69,10 @@ fn do_set_count(
     ensures value { Does (plain_program program.now) statement.now.number (op.SetCount to) world.old world.new result }
     ensures kept { length world.new.storage ≡ length world.old.storage }
 {
-    led(set_count(program, statement.number, statement.act, world), to)
+    led(
+        set_count(program, statement.number, statement.act, world),
+        to,
+    )
 }
 
 fn do_count_down(

@@ -8,8 +8,8 @@ ghost use Rattle.cob_plan.specs.Plan.{IsStatement};
 ghost use Rattle.cob_plan.specs.Views.{plain_stmts, plain_whens, plain_paras};
 ghost use Rattle.cob_plan.specs.Listing.{plain_statement, plain_statements, listed_one, listed_stmt, listed, listed_in, listed_when, listed_whens, listed_body, listed_paras};
 
-use crate::statement::Statement;
 use crate::conditions::tests_of;
+use crate::statement::Statement;
 use cob_program::{Act, Body, Para, Program, Stmt, When};
 use std::alloc::{AllocError, Global};
 

@@ -87,7 +87,11 @@ fn way_of_take(taken: Taken, found: u32, end: u32, bad: u32) -> Result<u32, DoEn
     if is_fine(taken.status) {
         Ok(found)
     } else if taken.status == 10 {
-        if taken.end_handled { Ok(end) } else { Err(DoEnd::Stop(10)) }
+        if taken.end_handled {
+            Ok(end)
+        } else {
+            Err(DoEnd::Stop(10))
+        }
     } else if taken.handled {
         Ok(bad)
     } else {

@@ -1,5 +1,9 @@
-use Rattle.std.proofs.Common.{sym}
+use Rattle.std.proofs.Common.{sym, Some, ap, ◌∙◌}
+use Rattle.cob_interp.specs.Setting.{paths_of}
+use Rattle.cob_interp.specs.Touching.{makes_none}
 use Rattle.cob_interp.proofs.CloseLemmas.{close_leads}
+use Rattle.cob_interp.proofs.Touched.{touches_stay}
+use Rattle.cob_interp.proofs.Closings.{close_part}
 use Rattle.cob_interp.proofs.nodes.do_close.Goals as goal
 
 pub returns-in_ok-ready_to_close-in-Some-clause-leads : goal.returns-in_ok-ready_to_close-in-Some-clause-leads
@@ -7,3 +11,14 @@ returns-in_ok-ready_to_close-in-Some-clause-leads g c sink node budget is =
     close_leads c.args.setting.now budget c.args.place.now c.args.step node sink _ _ _ _ c.requires.ready.distinct is
     c.in-Close.file c.in-Close.fine c.in-Close.bad c.in-Some.at c.args.closed.now c.in-Close.is c.requires.its
     (sym c.in-Some.ensures) c.in_ok-ready_to_close-in-Some.ensures.readies _ c.do_part.ensures.does
+
+pub returns-in_default-clause-touches : goal.returns-in_default-clause-touches
+returns-in_default-clause-touches g c = touches_stay (paths_of c.args.setting.now) makes_none c.args.world.now _
+
+pub returns-in-None-clause-touches : goal.returns-in-None-clause-touches
+returns-in-None-clause-touches g c = touches_stay (paths_of c.args.setting.now) makes_none c.args.world.now _
+
+pub returns-in_ok-ready_to_close-in-Some-clause-closes : goal.returns-in_ok-ready_to_close-in-Some-clause-closes
+returns-in_ok-ready_to_close-in-Some-clause-closes g c =
+    close_part c.args.setting.now c.args.place.now c.args.step _ _ c.args.closed.now c.in-Close.file c.in-Close.fine
+    c.in-Close.bad c.in-Close.is (c.requires.place.its ∙ ap Some c.requires.its) _ c.do_part.ensures.does

@@ -6,6 +6,7 @@ use Rattle.cob_graph.specs.declared.graph.Node.{Node}
 use Rattle.cob_graph.specs.Walks.{node_at}
 use Rattle.cob_interp.specs.Running.{Outside, outside, Opens}
 use Rattle.cob_interp.specs.Setting.{program_of, paths_of}
+use Rattle.cob_interp.specs.Touching.{Makes, OpensOnly, makes_in}
 use Rattle.cob_interp.proofs.opens.open_all.Given as goal
 
 -- the first files were opened, and the others are left
@@ -19,4 +20,7 @@ invariant-loop-number g l = record {
       l.fn.world steps steps l.node l.statement l.openings l.openings
       → Opens (program_of l.setting) l.setting.graph.now (paths_of l.setting) start (outside (g.F.Files.state l.files) sink)
       l.world (steps + 1) steps l.at l.statement l.openings (drop l.number l.openings);
+  touches : Makes (paths_of l.setting) (makes_in l.openings) l.fn.world (g.F.Files.state l.fn.files)
+      (g.F.Files.state l.files);
+  only : OpensOnly l.fn.world l.world;
 }

@@ -2,6 +2,7 @@ use Rattle.std.proofs.Common.{◌≡◌, length}
 use Rattle.batch_io.specs.SinkState.{SinkState}
 use Rattle.cob_interp.specs.Running.{Outside, outside, IsUnderway}
 use Rattle.cob_interp.specs.Setting.{program_of, paths_of}
+use Rattle.cob_interp.specs.Touching.{Touches, ClosesOnly, makes_none}
 use Rattle.cob_interp.proofs.steps.close_all.Given as goal
 
 -- the first files were closed
@@ -13,4 +14,6 @@ invariant-loop g l = record {
       l.fn.world l.step l.node
       → IsUnderway (program_of l.setting) l.setting.graph.now (paths_of l.setting) start (outside (g.F.Files.state l.files) sink)
       l.world l.step l.at;
+  touches : Touches (paths_of l.setting) makes_none l.fn.world (g.F.Files.state l.fn.files) (g.F.Files.state l.files);
+  only : ClosesOnly l.fn.world l.world;
 }

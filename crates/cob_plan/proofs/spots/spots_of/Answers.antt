@@ -22,9 +22,12 @@ loop-node-preserved c =
     is_spot g l.node-index c.in_ok-number.number node spot out within is counted c.in_ok-spot_of.ensures.node.0
     c.in_ok-spot_of.ensures.node.1 c.out_of-out.ensures.leave all c.in_ok-spot_of.ensures.edges in
     let behind : l.place + length out ≤ length g.edges =
-    omega (arith, ap length c.get-edges.ensures, c.out_of-out.ensures.within) in
-    (counted, behind, spot_more g l.spots.items c.push.new.self.items l.node-index c.in_ok-number.number spot l.invariant.2
-    here counted c.in_ok-push.ensures.items)
+    omega (arith, ap length c.get-edges.ensures, c.out_of-out.ensures.within) in (
+      counted,
+      behind,
+      spot_more g l.spots.items c.push.new.self.items l.node-index c.in_ok-number.number spot l.invariant.2
+          here counted c.in_ok-push.ensures.items,
+    )
 
 pub returns : goal.returns
 returns c =

@@ -1,0 +1,226 @@
+-- How the files change where they are opened and closed.
+use Rattle.std.proofs.Common.{◌≡◌, ℕ, zero, suc, Bool, true, false, not, if◌then◌else◌, List, [], ◌∷◌, Option, Some, None, Result, Ok, Err, ◌⊎◌, inl, inr, refl, sym, ap, subst, ◌∙◌}
+use Rattle.std.specs.Prelude.{Contains, slice_get, slice_set, IfOk}
+use Rattle.cob_data.specs.declared.layout.FileDecl.{FileDecl}
+use Rattle.cob_data.specs.declared.layout.Layout.{Layout}
+use Rattle.cob_plan.specs.declared.spot.Op.{Op}
+use Rattle.cob_plan.specs.declared.spot.Op.TheVariants as op
+use Rattle.cob_plan.specs.declared.end.DoEnd.{DoEnd}
+use Rattle.cob_plan.specs.Plan.{op_edges}
+use Rattle.cob_plan.specs.Doing.{Does}
+use Rattle.cob_program.specs.declared.act.Opening.{Opening}
+use Rattle.cob_program.specs.Act.{Act, open_files, close_files, Program}
+use Rattle.cob_runs.specs.declared.action.Action.{Action}
+use Rattle.cob_runs.specs.declared.action.Action.TheVariants as action
+use Rattle.cob_runs.specs.Files.{File, file, Mode, closed, reading, writing, opened, after_close}
+use Rattle.cob_runs.specs.State.{World, with_files}
+use Rattle.cob_runs.specs.Acts.{is_fine, decl_at, with_file, file_act, open_one, close_one}
+use Rattle.cob_runs.specs.Effects.{effect, act_at, taken_if, not_taken}
+use Rattle.cob_runs.specs.Effects as effects
+use Rattle.cob_world.specs.Calling.{refilled, refilled_on}
+use Rattle.cob_interp.specs.declared.ends.RunEnd.{RunEnd}
+use Rattle.cob_interp.specs.declared.setting.Setting.{Setting}
+use Rattle.cob_interp.specs.declared.setting.Place.{Place}
+use Rattle.cob_interp.specs.Setting.{program_of}
+use Rattle.cob_interp.specs.Doing.{answered, DoesPart}
+use Rattle.cob_interp.specs.Touching.{ClosesOnly, OpensOnly}
+use Rattle.cob_interp.proofs.Onward.{effect_by_act}
+use Rattle.cob_interp.proofs.CallsLead.{one_of_two}
+
+-- ---- none or several changes
+
+pub closes_stay : (w : World) → ClosesOnly w w
+closes_stay w = record { each = λ place f has. (f, has, inl refl) }
+
+pub opens_stay : (w : World) → OpensOnly w w
+opens_stay w = record { each = λ place f has. (f, has, λ shut. shut) }
+
+closed_on : (f g h : File) → (g ≡ f) ⊎ (g.mode ≡ closed) → (h ≡ g) ⊎ (h.mode ≡ closed) → (h ≡ f) ⊎ (h.mode ≡ closed)
+closed_on f g h (inl same) (inl same_) = inl (same_ ∙ same)
+closed_on f g h (inr shut) (inl same_) = inr (ap (λ (x : File). x.mode) same_ ∙ shut)
+closed_on f g h how (inr shut) = inr shut
+
+pub closes_pass : (w v u : World) → ClosesOnly w v → ClosesOnly v u → ClosesOnly w u
+closes_pass w v u first then_ = record {
+  each = λ place f has.
+      let g = first.each place f has in
+      let h = then_.each place g.0 g.1 in
+      (h.0, h.1, closed_on f g.0 h.0 g.2 h.2);
+}
+
+pub opens_pass : (w v u : World) → OpensOnly w v → OpensOnly v u → OpensOnly w u
+opens_pass w v u first then_ = record {
+  each = λ place f has.
+      let g = first.each place f has in
+      let h = then_.each place g.0 g.1 in
+      (h.0, h.1, λ shut. g.2 (h.2 shut));
+}
+
+-- ---- one file is new
+
+set_at : (fs : List File) (place p : ℕ) (e g f : File) → slice_get fs place ≡ Some e → slice_get fs p ≡ Some f
+    → (slice_get (slice_set fs place g) p ≡ Some f) ⊎ ((e ≡ f) × (slice_get (slice_set fs place g) p ≡ Some g))
+set_at [] place p e g f has at = cc
+set_at (x ∷ fs) zero zero e g f has at = let same : e ≡ f = cc in inr (same, refl)
+set_at (x ∷ fs) zero (suc p) e g f has at = inl at
+set_at (x ∷ fs) (suc place) zero e g f has at = inl at
+set_at (x ∷ fs) (suc place) (suc p) e g f has at = set_at fs place p e g f has at
+
+module _ (w v : World) (place : ℕ) (e g : File) (has : slice_get w.files place ≡ Some e)
+    (files_ : v.files ≡ slice_set w.files place g) where
+  set_in : (p : ℕ) (f : File) → slice_get w.files p ≡ Some f
+      → (slice_get v.files p ≡ Some f) ⊎ ((e ≡ f) × (slice_get v.files p ≡ Some g))
+  set_in p f at =
+      subst (λ (fs : List File). (slice_get fs p ≡ Some f) ⊎ ((e ≡ f) × (slice_get fs p ≡ Some g))) (sym files_)
+      (set_at w.files place p e g f has at)
+
+  pub set_closes : g.mode ≡ closed → ClosesOnly w v
+  set_closes shut = record {
+    each = λ p f at. elim (set_in p f at) [
+      | inl same ↦ (f, same, inl refl)
+      | inr new ↦ (g, new.1, inr shut)
+    ];
+  }
+
+  pub set_opens : (g.mode ≡ closed → e.mode ≡ closed) → OpensOnly w v
+  set_opens still = record {
+    each = λ p f at. elim (set_in p f at) [
+      | inl same ↦ (f, same, λ shut. shut)
+      | inr new ↦ (g, new.1, λ shut. subst (λ (x : File). x.mode ≡ closed) new.0 (still shut))
+    ];
+  }
+
+-- ---- calls
+
+closed_by_mode : (content : Option (List ℕ)) (m : Mode) (place : ℕ)
+    → (after_close (file content m place)).0.mode ≡ closed
+closed_by_mode content closed place = refl
+closed_by_mode content (reading ended) place = refl
+closed_by_mode content writing place = refl
+
+open_by_mode : (output : Bool) (content : Option (List ℕ)) (m : Mode) (place : ℕ)
+    → (opened output (file content m place)).0.mode ≡ closed → m ≡ closed
+open_by_mode output content closed place shut = refl
+open_by_mode output content (reading ended) place shut = shut
+open_by_mode output content writing place shut = shut
+
+module _ (l : Layout) (w : World) where
+  closes_on : (place : ℕ) (d : Option FileDecl) (o : Option File) → slice_get w.files place ≡ o
+      → ClosesOnly w (file_act l after_close place d o w).0
+  closes_on place None o has = closes_stay w
+  closes_on place (Some d) None has = closes_stay w
+  closes_on place (Some d) (Some f) has =
+      set_closes w (with_file l place d (after_close f) w).0 place f (after_close f).0 has refl
+      (closed_by_mode f.content f.mode f.place)
+
+  pub close_one_closes : (place : ℕ) → ClosesOnly w (close_one l place w).0
+  close_one_closes place = closes_on place (decl_at l place) (slice_get w.files place) refl
+
+  opens_on : (output : Bool) (place : ℕ) (d : Option FileDecl) (o : Option File) → slice_get w.files place ≡ o
+      → OpensOnly w (file_act l (opened output) place d o w).0
+  opens_on output place None o has = opens_stay w
+  opens_on output place (Some d) None has = opens_stay w
+  opens_on output place (Some d) (Some f) has =
+      set_opens w (with_file l place d (opened output f) w).0 place f (opened output f).0 has refl
+      (open_by_mode output f.content f.mode f.place)
+
+  pub open_one_opens : (o : Opening) → OpensOnly w (open_one l o w).0
+  open_one_opens o = opens_on o.output o.file (decl_at l o.file) (slice_get w.files o.file) refl
+
+-- other bytes
+pub refilled_opens : (w v : World) (place : ℕ) (content : Option (List ℕ))
+    → v ≡ with_files w (refilled place content w.files) → OpensOnly w v
+refilled_opens w v place content is =
+    subst (λ (u : World). OpensOnly w u) (sym is) (by_file (slice_get w.files place) refl) where
+      by_file : (o : Option File) → slice_get w.files place ≡ o
+          → OpensOnly w (with_files w (refilled_on place content w.files o))
+      by_file None has = opens_stay w
+      by_file (Some f) has =
+          set_opens w (with_files w (slice_set w.files place (file content f.mode f.place))) place f
+          (file content f.mode f.place) has refl (λ shut. shut)
+
+-- ---- edges
+
+not_going : (v : World) → not_taken ≡ Ok (Some v) → ⊥
+not_going v e = cc
+
+taken_is : (b : Bool) (u v : World) → taken_if b u ≡ Ok (Some v) → u ≡ v
+taken_is true u v e = cc
+taken_is false u v e = cc
+
+by_status_is : (p : Program) (number : ℕ) (w v : World) (fine : Bool) (x : World × ℕ)
+    → effects.by_status p number None w fine x ≡ Ok (Some v)
+    → x.0 ≡ v
+by_status_is p number w v fine x e = taken_is (if fine then is_fine x.1 else not (is_fine x.1)) x.0 v e
+
+module _ (p : Program) (number k : ℕ) (w v : World) where
+  -- what an edge does, by its statement's act
+  does_by_act : (b : Act) → act_at p number ≡ Some b → (x : Action × ℕ) (a : Action) (m : ℕ) → (a, m) ≡ x
+      → effect p number None w a ≡ Ok (Some v) → effects.effect_of p number None w x.0 b ≡ Ok (Some v)
+  does_by_act b its x a m is does =
+      sym (effect_by_act p number w x.0 b its)
+      ∙ subst (λ (y : Action × ℕ). effect p number None w y.0 ≡ Ok (Some v)) is does
+
+  module _ (fs : List ℕ) (its : act_at p number ≡ Some (close_files fs)) where
+    closed_so : (fine : Bool) (o : Option ℕ) → effects.closed p number None w fine o ≡ Ok (Some v) → ClosesOnly w v
+    closed_so fine None e = absurd (not_going v e)
+    closed_so fine (Some file_) e =
+        subst (λ (u : World). ClosesOnly w u) (by_status_is p number w v fine (close_one p.layout file_ w) e)
+        (close_one_closes p.layout w file_)
+
+    pub close_edge_closes : (fine bad : ℕ) (a : Action) (m : ℕ) → Contains (op_edges (op.Close k fine bad)) (a, m)
+        → effect p number None w a ≡ Ok (Some v) → ClosesOnly w v
+    close_edge_closes fine bad a m out does = elim (one_of_two _ _ _ out) [
+      | inl is ↦ closed_so true (slice_get fs k) (does_by_act (close_files fs) its (action.Close k, fine) a m is does)
+      | inr is ↦ closed_so false (slice_get fs k) (does_by_act (close_files fs) its (action.Bad k, bad) a m is does)
+    ]
+
+  module _ (os : List Opening) (its : act_at p number ≡ Some (open_files os)) where
+    opened_so : (fine : Bool) (o : Option Opening) → effects.opened p number None w fine o ≡ Ok (Some v) → OpensOnly w v
+    opened_so fine None e = absurd (not_going v e)
+    opened_so fine (Some o) e =
+        subst (λ (u : World). OpensOnly w u) (by_status_is p number w v fine (open_one p.layout o w) e)
+        (open_one_opens p.layout w o)
+
+    pub open_edge_opens : (fine bad : ℕ) (a : Action) (m : ℕ) → Contains (op_edges (op.Open k fine bad)) (a, m)
+        → effect p number None w a ≡ Ok (Some v) → OpensOnly w v
+    open_edge_opens fine bad a m out does = elim (one_of_two _ _ _ out) [
+      | inl is ↦ opened_so true (slice_get os k) (does_by_act (open_files os) its (action.Open k, fine) a m is does)
+      | inr is ↦ opened_so false (slice_get os k) (does_by_act (open_files os) its (action.Bad k, bad) a m is does)
+    ]
+
+-- ---- the part of a node
+
+module _ (s : Setting) (x : Place) (step : ℕ) (w v : World) where
+  -- what each way on leaves holds where the node's part is done
+  where_done : (IsIt : Type 0) (o : Op) → x.spot.op ≡ o
+      → ((a : Action) (m : ℕ) → Contains (op_edges o) (a, m)
+      → effect (program_of s) x.statement.now.number None w a ≡ Ok (Some v) → IsIt)
+      → (result : Result ℕ RunEnd) → DoesPart s x step w v result → IfOk result (λ _. IsIt)
+  where_done IsIt o is each result d =
+      subst (λ (r : Result ℕ RunEnd). IfOk r (λ _. IsIt)) (sym d.told) (by_outcome d.outcome d.does) where
+        by_outcome : (outcome : Result ℕ DoEnd) → Does (program_of s) x.statement.now.number x.spot.op w v outcome
+            → IfOk (answered x.statement.now.number step outcome) (λ _. IsIt)
+        by_outcome (Ok to) done =
+            each done.action to (subst (λ (y : Op). Contains (op_edges y) (done.action, to)) is done.out) done.does
+        by_outcome (Err e) done = tt
+
+  pub close_part : (fs : List ℕ) (k fine bad : ℕ) → x.spot.op ≡ op.Close k fine bad
+      → act_at (program_of s) x.statement.now.number ≡ Some (close_files fs)
+      → (result : Result ℕ RunEnd) → DoesPart s x step w v result → IfOk result (λ _. ClosesOnly w v)
+  close_part fs k fine bad is its result d =
+      where_done (ClosesOnly w v) (op.Close k fine bad) is
+      (close_edge_closes (program_of s) x.statement.now.number k w v fs its fine bad) result d
+
+  pub open_part : (os : List Opening) (k fine bad : ℕ) → x.spot.op ≡ op.Open k fine bad
+      → act_at (program_of s) x.statement.now.number ≡ Some (open_files os)
+      → (result : Result ℕ RunEnd) → DoesPart s x step w v result → IfOk result (λ _. OpensOnly w v)
+  open_part os k fine bad is its result d =
+      where_done (OpensOnly w v) (op.Open k fine bad) is
+      (open_edge_opens (program_of s) x.statement.now.number k w v os its fine bad) result d
+
+-- behind other changes
+pub opens_behind : (w u v : World) (result : Result ℕ RunEnd) → OpensOnly w u → IfOk result (λ _. OpensOnly u v)
+    → IfOk result (λ _. OpensOnly w v)
+opens_behind w u v (Ok to) first then_ = opens_pass w u v first then_
+opens_behind w u v (Err e) first then_ = tt
