@@ -15,3 +15,8 @@ pub mod StepLemmas
 pub mod CallLemmas
 pub mod Beginnings
 pub mod OneEndLemmas
+pub mod Breaking
+pub mod Flushing
+pub mod Putting
+pub mod Finishing
+pub mod Starting
