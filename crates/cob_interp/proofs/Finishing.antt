@@ -1,5 +1,7 @@
 -- How a run goes on from step to step, and ends.
 use Rattle.std.proofs.Common.{◌≡◌, ℕ, ◌+◌, ◌≤◌, ◌<◌, Bool, true, false, List, [], ◌++◌, length, map, take, ◌⊎◌, inl, inr, Option, Some, None, Result, Ok, Err, refl, sym, ap, subst, ◌∙◌, append-nil, arith}
+use Rattle.std.specs.Prelude.{string_bytes}
+use Rattle.std.proofs.lemmas.List.{length-map}
 use Rattle.std.specs.FinMap.{get}
 use Rattle.std.specs.Io.KnownBytes.{append_known}
 use Rattle.batch_io.specs.FilesState.{Contents, FilesState, known_bytes}
@@ -268,6 +270,9 @@ pub budget_spent : (s : Setting) (budget node : ℕ) (x : Place) → StartsAt s 
 budget_spent s budget node x starts start now w here =
     spends_here (program_of s) s.graph.now (paths_of s) budget start now w budget node here starts.is.spot.node starts.is.spot.stands
     (sym starts.is.spot.starts ∙ starts.starts) refl
+
+pub paths_count : (s : Setting) → length (paths_of s) ≤ length s.paths.now
+paths_count s = let e = length-map s.paths.now string_bytes in omega (arith, e)
 
 -- ---- the sink
 

@@ -1,5 +1,5 @@
 -- Where a run begins.
-use Rattle.std.proofs.Common.{◌≡◌, ℕ, zero, suc, ◌+◌, ◌-◌, ◌≤◌, List, [], ◌∷◌, length, map, inl, Option, Some, None, refl, sym, ap, subst, ◌∙◌, arith}
+use Rattle.std.proofs.Common.{◌≡◌, ℕ, zero, suc, ◌+◌, ◌-◌, ◌≤◌, List, [], ◌∷◌, length, map, inl, Option, Some, None, Err, refl, sym, ap, subst, ◌∙◌, arith}
 use Rattle.std.specs.Prelude.{slice_get}
 use Rattle.std.specs.FinMap.{get}
 use Rattle.batch_io.specs.FilesState.{Contents, known_bytes}
@@ -16,10 +16,11 @@ use Rattle.cob_graph.specs.declared.graph.Graph.{Graph}
 use Rattle.cob_graph.specs.Graphs.{IsGraph}
 use Rattle.cob_graph.specs.Walks.{IsWhole, at_first}
 use Rattle.cob_ways.specs.Telling.{Way, Telling}
+use Rattle.cob_interp.specs.declared.ends.RunEnd.TheVariants as end
 use Rattle.cob_interp.specs.Ends.{told_files, AreFree, state_after}
 use Rattle.cob_interp.specs.Told.{seen, seen_files, AreSynced}
 use Rattle.cob_interp.specs.Touching.{IsPartOf, makes_none}
-use Rattle.cob_interp.specs.Running.{Outside, IfTold, makes_next, StandsIn, StandsIf, BreaksOff, IsBroken, IsAt}
+use Rattle.cob_interp.specs.Running.{Outside, IfTold, makes_next, StandsIn, StandsIf, BreaksOff, IsBroken, IsAt, Runs}
 use Rattle.cob_interp.proofs.Passing.{append_none, well_stays}
 use Rattle.cob_interp.proofs.Breaking.{part_seen}
 
@@ -113,7 +114,7 @@ module _ (p : Program) (g : Graph) (paths : List (List ℕ)) (same : length path
     }
 
     -- at the first node, with nothing told but what was
-    pub begins_run : IsAt p g paths budget start start (first_world p [] []) 0 1
+    begins_run : IsAt p g paths budget start start (first_world p [] []) 0 1
     begins_run = record {
       stands = record { text = []; well = well_stays start; told = stands (known_bytes start.files) };
       part = breaks (known_bytes start.files);
@@ -125,3 +126,13 @@ module _ (p : Program) (g : Graph) (paths : List (List ℕ)) (same : length path
       breaks : (known : Option Contents) → IfTold (λ first told. BreaksOff p g paths budget first told start.sink start.sink) known known
       breaks None = tt
       breaks (Some told) = breaks_first told
+
+    pub begins_with : {X : Type 0} (f : X → Option (List ℕ)) (items : List X) (w : World) → items ≡ [] → w ≡ first_world p (map f items) []
+        → IsAt p g paths budget start start w 0 1
+    begins_with {X} f items w none is =
+        subst (λ (v : World). IsAt p g paths budget start start v 0 1)
+        (sym (is ∙ ap (λ (xs : List X). first_world p (map f xs) []) none)) begins_run
+
+    -- where memory runs out before the run
+    pub refused_first : Runs p g paths budget start start (Err end.Memory)
+    refused_first = record { ends = tt; part = begins_run.part }

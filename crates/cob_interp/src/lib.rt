@@ -7,11 +7,11 @@ mod nodes;
 mod opens;
 mod outside;
 mod parts;
-mod run;
+mod runs;
 mod setting;
 mod steps;
 mod walk;
 
 pub use ends::{Ended, Ending, RunEnd};
 pub use laws::one_end;
-pub use run::{run, run_to_ending};
+pub use runs::{run, run_to_ending};

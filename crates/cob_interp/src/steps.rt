@@ -174,7 +174,14 @@ pub fn take_step<F: Files>(
 {
     match call_of(place.statement.act) {
         Call::Open(openings) => open_all(
-            alloc, setting, files, world, node, place.spot.statement, openings, step,
+            alloc,
+            setting,
+            files,
+            world,
+            node,
+            place.spot.statement,
+            openings,
+            step,
         ),
         Call::Close(_) => close_all(alloc, setting, files, world, node, step),
         Call::Read(file) => {
