@@ -1,5 +1,5 @@
 -- Where a run may be broken off.
-use Rattle.std.proofs.Common.{◌≡◌, ℕ, ◌+◌, ◌≤◌, Bool, true, false, List, [], ◌++◌, ◌⊎◌, inl, inr, Option, Some, None, Result, Ok, Err, length, take, refl, sym, ap, subst, ◌∙◌, arith}
+use Rattle.std.proofs.Common.{◌≡◌, ℕ, ◌+◌, ◌≤◌, Bool, true, false, List, ◌++◌, inl, inr, Option, Some, None, Result, length, take, refl, sym, ap, subst, ◌∙◌}
 use Rattle.std.specs.Prelude.{slice_get}
 use Rattle.std.specs.Option.{option_map_or}
 use Rattle.std.specs.FinMap.{get}
@@ -18,7 +18,7 @@ use Rattle.cob_interp.specs.declared.ends.Ended.{Ended}
 use Rattle.cob_interp.specs.declared.ends.RunEnd.{RunEnd}
 use Rattle.cob_interp.specs.Ends.{told_files, AreFree, state_after}
 use Rattle.cob_interp.specs.Told.{seen, seen_file, seen_files, IsSyncedIn, IsSynced, AreSynced, KeepsNames}
-use Rattle.cob_interp.specs.Touching.{IsPartOf, makes_by, makes_none, TouchesIn, IsTouched, Touches}
+use Rattle.cob_interp.specs.Touching.{IsPartOf, makes_by, makes_none, TouchesIn, Touches}
 use Rattle.cob_interp.specs.Running.{Outside, IfTold, makes_next, StandsIn, Stands, RestsIn, Rests, BreaksOff, IsBroken}
 use Rattle.cob_interp.proofs.SeenFiles.{SeenAt, seen_at}
 use Rattle.cob_interp.proofs.Passing.{ids_stay, ids_pass, append_twice}
@@ -37,7 +37,8 @@ told_on P Q (Some first) (Some told) c t f = f first told refl t
 module _ (told now : Contents) (path : List ℕ) (makes : Bool) where
   part_by_mode : (content : Option (List ℕ)) (m : Mode) (place : ℕ) → IsSyncedIn told m path content
       → IsPartOf makes (file content m place) (get told path) (get now path)
-      → IsPartOf makes (seen_file told path (file content m place)) (seen_file told path (file content m place)).content (get now path)
+      → IsPartOf makes (seen_file told path (file content m place)) (seen_file told path (file content m place)).content
+      (get now path)
   part_by_mode content closed place s (inl same) = inl same
   part_by_mode content closed place s (inr (inl front)) = let e = front.0 in cc
   part_by_mode content closed place s (inr (inr empty)) = inr (inr (empty.0, (refl, empty.1.1)))
@@ -53,12 +54,14 @@ module _ (told now : Contents) (path : List ℕ) (makes : Bool) where
       → IsPartOf makes (seen_file told path f) (seen_file told path f).content (get now path)
   seen_part f s part = part_by_mode f.content f.mode f.place s part
 
-part_of_any : (makes : Bool) (f : File) (whole now : Option (List ℕ)) → IsPartOf false f whole now → IsPartOf makes f whole now
+part_of_any : (makes : Bool) (f : File) (whole now : Option (List ℕ)) → IsPartOf false f whole now
+    → IsPartOf makes f whole now
 part_of_any makes f whole now (inl same) = inl same
 part_of_any makes f whole now (inr (inl front)) = inr (inl front)
 part_of_any makes f whole now (inr (inr empty)) = let e = empty.0 in cc
 
-part_passes : (makes : Bool) (f : File) (old mid new : Option (List ℕ)) → IsPartOf makes f old mid → IsPartOf makes f mid new
+part_passes : (makes : Bool) (f : File) (old mid new : Option (List ℕ)) → IsPartOf makes f old mid
+    → IsPartOf makes f mid new
     → IsPartOf makes f old new
 part_passes makes f old mid new (inl same) (inl again) = inl (again ∙ same)
 part_passes makes f old mid new (inr (inl front)) (inl again) =
@@ -79,7 +82,8 @@ module _ (paths : List (List ℕ)) (makes : ℕ → Bool) (w : World) where
     };
   }
 
-  pub touches_pass : (a b c : FilesState) → Touches paths makes w a b → Touches paths makes w b c → Touches paths makes w a c
+  pub touches_pass : (a b c : FilesState) → Touches paths makes w a b → Touches paths makes w b c
+      → Touches paths makes w a c
   touches_pass a b c h k = record {
     ids = ids_pass a b c h.ids k.ids;
     known = λ told e.
@@ -90,7 +94,8 @@ module _ (paths : List (List ℕ)) (makes : ℕ → Bool) (w : World) where
           is = u.is;
           touches = record {
             its = λ place path f at has.
-                part_passes (makes place) f (get told path) (get t.now path) (get u.now path) (t.touches.its place path f at has)
+                part_passes (makes place) f (get told path) (get t.now path) (get u.now path)
+                (t.touches.its place path f at has)
                 (u.touches.its place path f at has);
             others = λ name none. u.touches.others name none ∙ t.touches.others name none;
           };
@@ -99,26 +104,30 @@ module _ (paths : List (List ℕ)) (makes : ℕ → Bool) (w : World) where
 
   -- what the run sees of the file at a place holds a part of it
   part_at : (told now : Contents) → AreSynced told paths w.files → TouchesIn paths makes w told now
-      → (place : ℕ) (path : List ℕ) (o : Option File) (g : File) → slice_get paths place ≡ Some path → slice_get w.files place ≡ o
+      → (place : ℕ) (path : List ℕ) (o : Option File) (g : File) → slice_get paths place ≡ Some path
+      → slice_get w.files place ≡ o
       → SeenAt told paths place o (Some g) → IsPartOf (makes place) g g.content (get now path)
   part_at told now s t place path None g at has sees = cc
   part_at told now s t place path (Some f) g at has sees =
       let same : sees.0 ≡ path = cc in
       let is : g ≡ seen_file told path f = subst (λ (q : List ℕ). g ≡ seen_file told q f) same cc in
       subst (λ (x : File). IsPartOf (makes place) x x.content (get now path)) (sym is)
-      (seen_part told now path (makes place) f (subst (λ (q : List ℕ). IsSynced told q f) same sees.3) (t.its place path f at has))
+      (seen_part told now path (makes place) f (subst (λ (q : List ℕ). IsSynced told q f) same sees.3)
+      (t.its place path f at has))
 
   pub part_seen : (told now : Contents) → AreSynced told paths w.files → TouchesIn paths makes w told now
       → (place : ℕ) (path : List ℕ) (g : File) → slice_get paths place ≡ Some path
       → slice_get (seen_files told paths w.files) place ≡ Some g → IsPartOf (makes place) g g.content (get now path)
   part_seen told now s t place path g at has =
       part_at told now s t place path (slice_get w.files place) g at refl
-      (subst (λ (o : Option File). SeenAt told paths place (slice_get w.files place) o) has (seen_at told paths w.files place s))
+      (subst (λ (o : Option File). SeenAt told paths place (slice_get w.files place) o) has
+      (seen_at told paths w.files place s))
 
 -- ---- the run
 
 module _ (p : Program) (g : Graph) (paths : List (List ℕ)) (budget : ℕ) where
-  module _ (first told now : Contents) (text : List ℕ) (w : World) (steps : ℕ) (makes : ℕ → Bool) (before after : SinkState) (k : ℕ) where
+  module _ (first told now : Contents) (text : List ℕ) (w : World) (steps : ℕ) (makes : ℕ → Bool)
+      (before after : SinkState) (k : ℕ) where
     -- behind so many steps, or in the next one
     breaks_off : steps ≤ budget → AreFree p (told_files first paths) steps
         → (state_after p (told_files first paths) steps).world.files ≡ seen_files told paths w.files
@@ -139,7 +148,8 @@ module _ (p : Program) (g : Graph) (paths : List (List ℕ)) (budget : ℕ) wher
       others = λ name none. touches.others name none ∙ others name none;
       shows = (
         length text + k,
-        gained ∙ ap (append_known before.told) (sym (ap (take (length text + k)) shown ∙ take-append-add text w.shown k)),
+        gained ∙ ap (append_known before.told)
+            (sym (ap (take (length text + k)) shown ∙ take-append-add text w.shown k)),
       );
     }
 
@@ -158,7 +168,8 @@ module _ (p : Program) (g : Graph) (paths : List (List ℕ)) (budget : ℕ) wher
       let makes : (place : ℕ) → makes_by a place ≡ makes_next p (state_after p (told_files first paths) steps) place =
       λ place. sym (ap (λ (n : ℕ). option_map_or (λ b. makes_by b place) (act_at p n) false) on.next
       ∙ ap (λ (o : Option Act). option_map_or (λ b. makes_by b place) o false) its) in
-      subst (λ (c : Option Contents). IfTold (λ f_ n. BreaksOff p g paths budget f_ n start.sink now.sink) (Some first) c) (sym t.is)
+      subst (λ (c : Option Contents). IfTold (λ f_ n. BreaksOff p g paths budget f_ n start.sink now.sink)
+      (Some first) c) (sym t.is)
       (breaks_off first told t.now s.text w steps (makes_by a) start.sink now.sink k within st.free
       (ap (λ (u : World). u.files) on.world) (ap (λ (u : World). u.shown) on.world) st.synced st.others
       (λ place f whole other part. subst (λ (b : Bool). IsPartOf b f whole other) (makes place) part) t.touches
@@ -176,8 +187,10 @@ module _ (p : Program) (g : Graph) (paths : List (List ℕ)) (budget : ℕ) wher
       (λ first told e st.
       let t = touches.known told e in
       let there = one_end.stands p (told_files first paths) budget r st.steps st.answer in
-      subst (λ (c : Option Contents). IfTold (λ f_ n. BreaksOff p g paths budget f_ n start.sink now.sink) (Some first) c) (sym t.is)
-      (breaks_off first told t.now s.text w st.steps makes_none start.sink now.sink k there.within there.free st.files st.shown
+      subst (λ (c : Option Contents). IfTold (λ f_ n. BreaksOff p g paths budget f_ n start.sink now.sink)
+      (Some first) c) (sym t.is)
+      (breaks_off first told t.now s.text w st.steps makes_none start.sink now.sink k there.within there.free st.files
+      st.shown
       st.synced st.others
       (λ place f whole other part.
       part_of_any (makes_next p (state_after p (told_files first paths) st.steps) place) f whole other part) t.touches

@@ -1,8 +1,7 @@
 -- How a run goes on from step to step, and ends.
-use Rattle.std.proofs.Common.{◌≡◌, ℕ, ◌+◌, ◌≤◌, ◌<◌, Bool, true, false, List, [], ◌++◌, length, map, take, ◌⊎◌, inl, inr, Option, Some, None, Result, Ok, Err, refl, sym, ap, subst, ◌∙◌, append-nil, arith}
+use Rattle.std.proofs.Common.{◌≡◌, ℕ, ◌+◌, ◌≤◌, ◌<◌, true, false, List, [], ◌++◌, length, map, inl, inr, Option, Some, Result, Ok, Err, refl, sym, ap, subst, ◌∙◌, append-nil, arith}
 use Rattle.std.specs.Prelude.{string_bytes}
 use Rattle.std.proofs.lemmas.List.{length-map}
-use Rattle.std.specs.FinMap.{get}
 use Rattle.std.specs.Io.KnownBytes.{append_known}
 use Rattle.batch_io.specs.FilesState.{Contents, FilesState, known_bytes}
 use Rattle.batch_io.specs.SinkState.{SinkState}
@@ -28,7 +27,7 @@ use Rattle.cob_interp.specs.Setting.{program_of, paths_of, StartsAt}
 use Rattle.cob_interp.specs.Touching.{makes_by, makes_none, Touches}
 use Rattle.cob_interp.specs.Readying.{IsRefusal}
 use Rattle.cob_interp.specs.Running.{Outside, outside, IsWell, IfTold, Stands, RestsIn, Rests, EndsRun, EndsWell, IsBroken, IfRefused, EndsBy, Halts, Arrives, IsAt, GoesOn, HaltsOff, Runs, TellsOfSink}
-use Rattle.cob_interp.specs.Walking.{by_sink, as_result, IsSinkRefusal, TellsBySink, Flushes, MayFlush, Refuses, IsPutTo, PutsTo, is_refused, IsOwnEnd}
+use Rattle.cob_interp.specs.Walking.{by_sink, as_result, IsSinkRefusal, TellsBySink, Flushes, MayFlush, Refuses, PutsTo, is_refused, IsOwnEnd}
 use Rattle.cob_interp.proofs.Passing.{append_none, rests_on}
 use Rattle.cob_interp.proofs.Onward.{ends_well, spends}
 use Rattle.cob_interp.proofs.CloseLemmas.{rose_on}
@@ -52,16 +51,21 @@ module _ (p : Program) (g : Graph) (paths : List (List ℕ)) (budget : ℕ) wher
 
   module _ (own : Outside → Outside → Result Ended RunEnd → Type 0) (start : Outside) where
     -- the sink refuses text
-    sink_ends : (mid now : Outside) (text : List ℕ) (e : MakeEnd) → IsWell start mid text → IsSinkRefusal mid.sink now.sink e
+    sink_ends : (mid now : Outside) (text : List ℕ) (e : MakeEnd) → IsWell start mid text
+        → IsSinkRefusal mid.sink now.sink e
         → EndsBy p g paths budget own start now (Err (by_sink e))
-    sink_ends mid now text make.Failed well why = inr (rose_on start.sink.faults mid.sink.faults now.sink.faults well.faults why)
+    sink_ends mid now text make.Failed well why =
+        inr (rose_on start.sink.faults mid.sink.faults now.sink.faults well.faults why)
     sink_ends mid now text make.Memory well why = tt
 
     -- a file is refused
-    file_ends : (old new : FilesState) (sink : SinkState) (text : List ℕ) (e : RunEnd) → IsWell start (outside old sink) text
+    file_ends : (old new : FilesState) (sink : SinkState) (text : List ℕ) (e : RunEnd)
+        → IsWell start (outside old sink) text
         → IsRefusal old new e → EndsBy p g paths budget own start (outside new sink) (Err e)
-    file_ends old new sink text end.ReadFault well r = rose_on start.files.reading old.reading new.reading well.reading r
-    file_ends old new sink text end.WriteFault well r = inl (rose_on start.files.writing old.writing new.writing well.writing r)
+    file_ends old new sink text end.ReadFault well r =
+        rose_on start.files.reading old.reading new.reading well.reading r
+    file_ends old new sink text end.WriteFault well r =
+        inl (rose_on start.files.writing old.writing new.writing well.writing r)
     file_ends old new sink text end.Memory well r = tt
     file_ends old new sink text (end.Long count) well r = absurd r
     file_ends old new sink text (end.Ragged file count) well r = absurd r
@@ -71,46 +75,58 @@ module _ (p : Program) (g : Graph) (paths : List (List ℕ)) (budget : ℕ) wher
 
   -- ---- a step
 
-  module _ (start : Outside) (steps node : ℕ) (x : Node) (a : Act) (within : steps ≤ budget) (at : node_at g.nodes node ≡ Some x)
+  module _ (start : Outside) (steps node : ℕ) (x : Node) (a : Act) (within : steps ≤ budget)
+      (at : node_at g.nodes node ≡ Some x)
       (starts : x.starts ≡ true) (its : act_at p x.statement ≡ Some a) where
-    refused_before : (files : FilesState) (old new : SinkState) (w v : World) (step : ℕ) (e : MakeEnd) → Refuses old new w v e
+    refused_before : (files : FilesState) (old new : SinkState) (w v : World) (step : ℕ) (e : MakeEnd)
+        → Refuses old new w v e
         → IsAt p g paths budget start (outside files old) w steps node
         → GoesOn p g paths budget start (outside files new) v step (Err (by_sink e))
     refused_before files old new w v step e refuses here = (
-      sink_ends (λ old_ new_ r. Rests p g paths budget old_ new_ v r) start (outside files old) (outside files new) here.stands.text e
+      sink_ends (λ old_ new_ r. Rests p g paths budget old_ new_ v r) start (outside files old)
+          (outside files new) here.stands.text e
           here.stands.well refuses.why,
       if_refused (Err (by_sink e)) (IsBroken p g paths budget start (outside files new))
-          (broken_here p g paths budget start (outside files old) (outside files new) w steps node x a refuses.front.0 within at starts its
+          (broken_here p g paths budget start (outside files old)
+          (outside files new) w steps node x a refuses.front.0 within at starts its
           (touches_none paths (makes_by a) w files) refuses.front.1 here.stands),
     )
 
-    goes_by : (old new : FilesState) (sink : SinkState) (w v : World) (step : ℕ) (r : Result ℕ RunEnd) → Touches paths (makes_by a) w old new
-        → Stands p g paths start (outside old sink) w steps steps node → Arrives p g paths budget start (outside new sink) v step r
+    goes_by : (old new : FilesState) (sink : SinkState) (w v : World) (step : ℕ) (r : Result ℕ RunEnd)
+        → Touches paths (makes_by a) w old new
+        → Stands p g paths start (outside old sink) w steps steps node
+        → Arrives p g paths budget start (outside new sink) v step r
         → GoesOn p g paths budget start (outside new sink) v step r
     goes_by old new sink w v step (Ok next) touches stands arrives = record {
       stands = arrives;
-      part = broken_here p g paths budget start (outside old sink) (outside new sink) w steps node x a 0 within at starts its touches
+      part = broken_here p g paths budget start (outside old sink)
+          (outside new sink) w steps node x a 0 within at starts its touches
           (append_none sink.told) stands;
     }
     goes_by old new sink w v step (Err e) touches stands arrives = (
       arrives,
       if_refused (Err e) (IsBroken p g paths budget start (outside new sink))
-          (broken_here p g paths budget start (outside old sink) (outside new sink) w steps node x a 0 within at starts its touches
+          (broken_here p g paths budget start (outside old sink)
+          (outside new sink) w steps node x a 0 within at starts its touches
           (append_none sink.told) stands),
     )
 
-  pub halts_off : (start now : Outside) (w : World) (step : ℕ) (e : Halt) → GoesOn p g paths budget start now w step (as_result {A = ℕ} (Err e))
+  pub halts_off : (start now : Outside) (w : World) (step : ℕ) (e : Halt) → GoesOn p g paths budget start now w step
+      (as_result {A = ℕ} (Err e))
       → HaltsOff p g paths budget start now w (as_result {A = Ended} (Err e))
   halts_off start now w step (halt.End e) goes = record { halts = goes.0; part = goes.1 }
   halts_off start now w step (halt.Sink e) goes = record { halts = goes.0; part = goes.1 }
 
   -- ---- at a node at which a step begins, and at the last one
 
-  module _ (start now : Outside) (w : World) (steps node : ℕ) (here : IsAt p g paths budget start now w steps node) where
-    pub ends_here : node ≡ final_in g → steps ≤ budget → (e : Ended) → e.steps ≡ steps → HaltsOff p g paths budget start now w (Ok e)
+  module _ (start now : Outside) (w : World) (steps node : ℕ)
+      (here : IsAt p g paths budget start now w steps node) where
+    pub ends_here : node ≡ final_in g → steps ≤ budget → (e : Ended) → e.steps ≡ steps
+        → HaltsOff p g paths budget start now w (Ok e)
     ends_here last within e counted = record {
       halts = rests_on p g paths budget start now w w steps steps node (Ok e)
-          (λ first told text st. ends_well p g paths first told text w steps node st budget last within e counted) here.stands;
+          (λ first told text st. ends_well p g paths first told text w steps node st budget last within e counted)
+          here.stands;
       part = tt;
     }
 
@@ -127,7 +143,8 @@ module _ (p : Program) (g : Graph) (paths : List (List ℕ)) (budget : ℕ) wher
 
   -- ---- behind the run
 
-  own_rests : (start now : Outside) (w : World) (r : Result Ended RunEnd) → IsOwnEnd r → Halts p g paths budget start now w r
+  own_rests : (start now : Outside) (w : World) (r : Result Ended RunEnd) → IsOwnEnd r
+      → Halts p g paths budget start now w r
       → Rests p g paths budget start now w r
   own_rests start now w (Ok e) own h = h
   own_rests start now w (Err end.ReadFault) own h = cc
@@ -152,7 +169,8 @@ module _ (p : Program) (g : Graph) (paths : List (List ℕ)) (budget : ℕ) wher
   own_ends start now (Err (end.Fault kind statement step)) own h = h
 
   -- nothing waits, and all files are put
-  rests_put : (start : Outside) (old new : FilesState) (sink : SinkState) (w : World) (count : ℕ) (r : Result Ended RunEnd) → w.shown ≡ []
+  rests_put : (start : Outside) (old new : FilesState) (sink : SinkState) (w : World) (count : ℕ)
+      (r : Result Ended RunEnd) → w.shown ≡ []
       → length paths ≤ count → PutsTo paths w count old new → Rests p g paths budget start (outside old sink) w r
       → EndsWell p g paths budget start (outside new sink) r
   rests_put start old new sink w count r none all puts s = record {
@@ -164,7 +182,8 @@ module _ (p : Program) (g : Graph) (paths : List (List ℕ)) (budget : ℕ) wher
         (known_bytes start.files) (known_bytes old) (known_bytes new) s.told
         (λ first told e st.
         let k = puts.known told e in
-        subst (λ (c : Option Contents). IfTold (λ f n. EndsRun p g paths budget f n start.sink sink r) (Some first) c) (sym k.is)
+        subst (λ (c : Option Contents). IfTold (λ f n. EndsRun p g paths budget f n start.sink sink r) (Some first) c)
+        (sym k.is)
         (record {
           steps = st.steps;
           answer = st.answer;
@@ -179,36 +198,43 @@ module _ (p : Program) (g : Graph) (paths : List (List ℕ)) (budget : ℕ) wher
         }));
   }
 
-  module _ (start : Outside) (files : FilesState) (old new : SinkState) (w v : World) (r : Result Ended RunEnd) (own : IsOwnEnd r)
+  module _ (start : Outside) (files : FilesState) (old new : SinkState) (w v : World) (r : Result Ended RunEnd)
+      (own : IsOwnEnd r)
       (off : HaltsOff p g paths budget start (outside files old) w r) where
     rests : Rests p g paths budget start (outside files old) w r
     rests = own_rests start (outside files old) w r own off.halts
 
     -- the sink refuses the text that waits
-    pub text_refused : (e : MakeEnd) → Refuses old new w v e → Runs p g paths budget start (outside files new) (Err (by_sink e))
+    pub text_refused : (e : MakeEnd) → Refuses old new w v e → Runs p g paths budget start (outside files new)
+        (Err (by_sink e))
     text_refused e refuses = record {
-      ends = sink_ends (EndsWell p g paths budget) start (outside files old) (outside files new) rests.text e rests.well refuses.why;
+      ends = sink_ends (EndsWell p g paths budget) start (outside files old)
+          (outside files new) rests.text e rests.well refuses.why;
       part = if_refused (Err (by_sink e)) (IsBroken p g paths budget start (outside files new))
           (rests_break p g paths budget start (outside files old) (outside files new) w r refuses.front.0
           (touches_none paths makes_none w files) refuses.front.1 rests);
     }
 
-    module _ (flushes : Flushes old new w v) (behind : FilesState) (touches : Touches paths makes_none v files behind) where
+    module _ (flushes : Flushes old new w v) (behind : FilesState)
+        (touches : Touches paths makes_none v files behind) where
       shown : Rests p g paths budget start (outside files new) v r
       shown = subst (λ (u : World). Rests p g paths budget start (outside files new) u r) (sym flushes.world)
           (rests_flushed p g paths start files old new w budget r flushes.gains rests)
 
       broken : IsBroken p g paths budget start (outside behind new)
-      broken = rests_break p g paths budget start (outside files new) (outside behind new) v r 0 touches (append_none new.told) shown
+      broken = rests_break p g paths budget start (outside files new) (outside behind new) v r 0 touches
+          (append_none new.told) shown
 
       -- a file is refused
-      pub file_refused : (e : RunEnd) → IsRefusal files behind e → Runs p g paths budget start (outside behind new) (Err e)
+      pub file_refused : (e : RunEnd) → IsRefusal files behind e → Runs p g paths budget start (outside behind new)
+          (Err e)
       file_refused e refusal = record {
         ends = file_ends (EndsWell p g paths budget) start files behind new shown.text e shown.well refusal;
         part = if_refused (Err e) (IsBroken p g paths budget start (outside behind new)) broken;
       }
 
-      pub finished : (count : ℕ) → length paths ≤ count → PutsTo paths v count files behind → Runs p g paths budget start (outside behind new) r
+      pub finished : (count : ℕ) → length paths ≤ count → PutsTo paths v count files behind
+          → Runs p g paths budget start (outside behind new) r
       finished count all puts = record {
         ends = own_ends start (outside behind new) r own
             (rests_put start files behind new v count r (ap (λ (u : World). u.shown) flushes.world) all puts shown);
@@ -216,7 +242,8 @@ module _ (p : Program) (g : Graph) (paths : List (List ℕ)) (budget : ℕ) wher
       }
 
   -- it halted by a refusal
-  pub refused_runs : (start now : Outside) (w : World) (e : RunEnd) → is_refused e ≡ true → HaltsOff p g paths budget start now w (Err e)
+  pub refused_runs : (start now : Outside) (w : World) (e : RunEnd) → is_refused e ≡ true
+      → HaltsOff p g paths budget start now w (Err e)
       → Runs p g paths budget start now (Err e)
   refused_runs start now w end.ReadFault is off = record { ends = off.halts; part = off.part }
   refused_runs start now w end.WriteFault is off = record { ends = off.halts; part = off.part }
@@ -231,13 +258,15 @@ refused_by : (e : MakeEnd) → is_refused (by_sink e) ≡ true
 refused_by make.Failed = refl
 refused_by make.Memory = refl
 
-pub sink_runs : (p : Program) (g : Graph) (paths : List (List ℕ)) (budget : ℕ) (start now : Outside) (w : World) (e : MakeEnd)
+pub sink_runs : (p : Program) (g : Graph) (paths : List (List ℕ)) (budget : ℕ) (start now : Outside) (w : World)
+    (e : MakeEnd)
     → HaltsOff p g paths budget start now w (Err (by_sink e)) → Runs p g paths budget start now (Err (by_sink e))
 sink_runs p g paths budget start now w e off = refused_runs p g paths budget start now w (by_sink e) (refused_by e) off
 
 -- ---- a step of a setting
 
-module _ (s : Setting) (budget steps node : ℕ) (x : Place) (starts : StartsAt s node x) (within : steps < budget) (start : Outside)
+module _ (s : Setting) (budget steps node : ℕ) (x : Place) (starts : StartsAt s node x) (within : steps < budget)
+    (start : Outside)
     (files : FilesState) (old new : SinkState) (w v : World)
     (here : IsAt (program_of s) s.graph.now (paths_of s) budget start (outside files old) w steps node) where
   its_act : act_at (program_of s) starts.is.spot.node.statement ≡ Some (plain_act x.statement.now.act.now)
@@ -250,7 +279,8 @@ module _ (s : Setting) (budget steps node : ℕ) (x : Place) (starts : StartsAt 
   pub flush_refused : (step : ℕ) (e : MakeEnd) → Refuses old new w v e
       → GoesOn (program_of s) s.graph.now (paths_of s) budget start (outside files new) v step (Err (by_sink e))
   flush_refused step e refuses =
-      refused_before (program_of s) s.graph.now (paths_of s) budget start steps node starts.is.spot.node (plain_act x.statement.now.act.now)
+      refused_before (program_of s) s.graph.now (paths_of s) budget start steps node starts.is.spot.node
+      (plain_act x.statement.now.act.now)
       (omega (arith, within)) starts.is.spot.stands its_start its_act files old new w v step e refuses here
 
   pub step_taken : MayFlush old new w v → (behind : FilesState) (u : World) (step : ℕ) (r : Result ℕ RunEnd)
@@ -259,16 +289,20 @@ module _ (s : Setting) (budget steps node : ℕ) (x : Place) (starts : StartsAt 
       → Arrives (program_of s) s.graph.now (paths_of s) budget start (outside behind new) u step r)
       → GoesOn (program_of s) s.graph.now (paths_of s) budget start (outside behind new) u step r
   step_taken may behind u step r touches takes =
-      let stands = stands_shown (program_of s) s.graph.now (paths_of s) start files old new w v steps steps node may here.stands in
-      goes_by (program_of s) s.graph.now (paths_of s) budget start steps node starts.is.spot.node (plain_act x.statement.now.act.now)
-      (omega (arith, within)) starts.is.spot.stands its_start its_act files behind new v u step r touches stands (takes stands)
+      let stands = stands_shown (program_of s) s.graph.now
+      (paths_of s) start files old new w v steps steps node may here.stands in
+      goes_by (program_of s) s.graph.now (paths_of s) budget start steps node starts.is.spot.node
+      (plain_act x.statement.now.act.now)
+      (omega (arith, within)) starts.is.spot.stands its_start its_act files behind new v u step r touches stands
+      (takes stands)
 
 -- the budget is spent
 pub budget_spent : (s : Setting) (budget node : ℕ) (x : Place) → StartsAt s node x → (start now : Outside) (w : World)
     → IsAt (program_of s) s.graph.now (paths_of s) budget start now w budget node
     → HaltsOff (program_of s) s.graph.now (paths_of s) budget start now w (Err (end.StepsSpent budget))
 budget_spent s budget node x starts start now w here =
-    spends_here (program_of s) s.graph.now (paths_of s) budget start now w budget node here starts.is.spot.node starts.is.spot.stands
+    spends_here (program_of s) s.graph.now
+    (paths_of s) budget start now w budget node here starts.is.spot.node starts.is.spot.stands
     (sym starts.is.spot.starts ∙ starts.starts) refl
 
 pub paths_count : (s : Setting) → length (paths_of s) ≤ length s.paths.now
@@ -283,7 +317,8 @@ tells_on old mid new (halt.Sink make.Failed) same tells = rose_on old.faults mid
 tells_on old mid new (halt.Sink make.Memory) same tells = tt
 
 module _ (old new : SinkState) (e : Ending) where
-  pub tells_refused : (why : MakeEnd) → e.end ≡ Err (by_sink why) → e.sink_refused ≡ true → IsSinkRefusal old new why → TellsOfSink old new e
+  pub tells_refused : (why : MakeEnd) → e.end ≡ Err (by_sink why) → e.sink_refused ≡ true → IsSinkRefusal old new why
+      → TellsOfSink old new e
   tells_refused make.Failed is refused rose = record { kept = λ not. absurd cc; refused = λ _. inl (is, rose) }
   tells_refused make.Memory is refused rose = record { kept = λ not. absurd cc; refused = λ _. inr is }
 

@@ -1,7 +1,6 @@
 -- Text that waits is shown.
-use Rattle.std.proofs.Common.{◌≡◌, ℕ, List, [], ◌++◌, ◌⊎◌, inl, inr, Option, Some, None, Result, Ok, Err, refl, sym, ap, subst, ◌∙◌, append-nil}
+use Rattle.std.proofs.Common.{◌≡◌, ℕ, List, [], ◌++◌, inl, inr, Option, Some, Result, Ok, Err, refl, sym, ap, subst, ◌∙◌, append-nil}
 use Rattle.std.specs.Prelude.{MatchResult}
-use Rattle.std.specs.Io.KnownBytes.{append_known}
 use Rattle.batch_io.specs.FilesState.{Contents, FilesState, known_bytes}
 use Rattle.batch_io.specs.SinkState.{SinkState}
 use Rattle.batch_io.specs.Wholes.{ShowsWhole}
@@ -14,23 +13,26 @@ use Rattle.cob_graph.specs.declared.graph.Graph.{Graph}
 use Rattle.cob_ways.specs.Telling.{Way}
 use Rattle.cob_interp.specs.declared.ends.Ended.{Ended}
 use Rattle.cob_interp.specs.declared.ends.RunEnd.{RunEnd}
-use Rattle.cob_interp.specs.Ends.{told_files, state_after}
+use Rattle.cob_interp.specs.Ends.{told_files}
 use Rattle.cob_interp.specs.Told.{seen, seen_files}
-use Rattle.cob_interp.specs.Running.{Outside, outside, IsWell, IfTold, StandsIn, StandsIf, Stands, RestsIn, Rests}
+use Rattle.cob_interp.specs.Running.{Outside, outside, IsWell, IfTold, StandsIf, Stands, RestsIn, Rests}
 use Rattle.cob_interp.specs.Walking.{IsSinkRefusal, Gains, Flushes, MayFlush, Refuses}
 use Rattle.cob_interp.proofs.Passing.{ids_stay, well_passes, stands_behind}
 use Rattle.cob_interp.proofs.Breaking.{told_on}
 
 -- ---- what the sink does
 
-pub flushes : (old new : SinkState) (w : World) → ShowsWhole old new w.shown (Ok tt) → Flushes old new w (without_shown w)
+pub flushes : (old new : SinkState) (w : World) → ShowsWhole old new w.shown (Ok tt)
+    → Flushes old new w (without_shown w)
 flushes old new w s = record { gains = record { faults = s.faults.kept refl; told = s.ok }; world = refl }
 
-refused_why : (old new : SinkState) (text : List ℕ) (e : MakeEnd) → ShowsWhole old new text (Err e) → IsSinkRefusal old new e
+refused_why : (old new : SinkState) (text : List ℕ) (e : MakeEnd) → ShowsWhole old new text (Err e)
+    → IsSinkRefusal old new e
 refused_why old new text make.Failed s = s.faults.rose refl
 refused_why old new text make.Memory s = tt
 
-pub refuses : (old new : SinkState) (w : World) (e : MakeEnd) → ShowsWhole old new w.shown (Err e) → Refuses old new w w e
+pub refuses : (old new : SinkState) (w : World) (e : MakeEnd) → ShowsWhole old new w.shown (Err e)
+    → Refuses old new w w e
 refuses old new w e s = record {
   front = (s.err.0, s.err.2);
   why = refused_why old new w.shown e s;
@@ -57,20 +59,30 @@ flushed_well files old new text gains =
 flushed_seen : (told : Contents) (paths : List (List ℕ)) (text : List ℕ) (w : World)
     → seen told paths text w ≡ seen told paths (text ++ w.shown) (without_shown w)
 flushed_seen told paths text w =
-    ap (λ (t : List ℕ). record { storage = w.storage; counts = w.counts; files = seen_files told paths w.files; shown = t })
+    ap (λ (t : List ℕ). record {
+      storage = w.storage;
+      counts = w.counts;
+      files = seen_files told paths w.files;
+      shown = t;
+    })
     (sym (append-nil (text ++ w.shown)))
 
-module _ (p : Program) (g : Graph) (paths : List (List ℕ)) (start : Outside) (files : FilesState) (old new : SinkState) (w : World) where
-  stands_flushed : (left begun node : ℕ) → Gains old new w.shown → Stands p g paths start (outside files old) w left begun node
+module _ (p : Program) (g : Graph) (paths : List (List ℕ)) (start : Outside) (files : FilesState) (old new : SinkState)
+    (w : World) where
+  stands_flushed : (left begun node : ℕ) → Gains old new w.shown
+      → Stands p g paths start (outside files old) w left begun node
       → Stands p g paths start (outside files new) (without_shown w) left begun node
   stands_flushed left begun node gains s =
-      stands_behind p g paths start (outside files old) (outside files new) w (without_shown w) w.shown left begun node left begun node
+      stands_behind p g paths start (outside files old) (outside files new) w
+      (without_shown w) w.shown left begun node left begun node
       (flushed_well files old new w.shown gains)
       (λ first told text e st.
-      subst (λ (c : Option Contents). StandsIf p g paths (Some first) c (text ++ w.shown) (without_shown w) left begun node) (sym e)
+      subst (λ (c : Option Contents). StandsIf p g paths (Some first) c (text ++ w.shown)
+      (without_shown w) left begun node) (sym e)
       (record {
         tells = st.tells;
-        way = subst (λ (z : World). Way p g (told_files first paths) [] left node z) (flushed_seen told paths text w) st.way;
+        way = subst (λ (z : World). Way p g (told_files first paths) [] left node z)
+            (flushed_seen told paths text w) st.way;
         synced = st.synced;
         others = st.others;
         free = st.free;
@@ -78,7 +90,8 @@ module _ (p : Program) (g : Graph) (paths : List (List ℕ)) (start : Outside) (
       s
 
   pub stands_shown : (v : World) (left begun node : ℕ) → MayFlush old new w v
-      → Stands p g paths start (outside files old) w left begun node → Stands p g paths start (outside files new) v left begun node
+      → Stands p g paths start (outside files old) w left begun node
+      → Stands p g paths start (outside files new) v left begun node
   stands_shown v left begun node (inl f) s =
       subst (λ (u : World). Stands p g paths start (outside files new) u left begun node) (sym f.world)
       (stands_flushed left begun node f.gains s)
@@ -87,16 +100,19 @@ module _ (p : Program) (g : Graph) (paths : List (List ℕ)) (start : Outside) (
       (subst (λ (sink : SinkState). Stands p g paths start (outside files sink) w left begun node) (sym same.0) s)
 
   -- behind the run's own end
-  pub rests_flushed : (budget : ℕ) (r : Result Ended RunEnd) → Gains old new w.shown → Rests p g paths budget start (outside files old) w r
+  pub rests_flushed : (budget : ℕ) (r : Result Ended RunEnd) → Gains old new w.shown
+      → Rests p g paths budget start (outside files old) w r
       → Rests p g paths budget start (outside files new) (without_shown w) r
   rests_flushed budget r gains s = record {
     text = s.text ++ w.shown;
-    well = well_passes start (outside files old) (outside files new) s.text w.shown s.well (flushed_well files old new w.shown gains);
+    well = well_passes start (outside files old) (outside files new) s.text w.shown s.well
+        (flushed_well files old new w.shown gains);
     told = told_on (λ first told. RestsIn p g paths budget first told s.text w r)
         (λ first told. RestsIn p g paths budget first told (s.text ++ w.shown) (without_shown w) r)
         (known_bytes start.files) (known_bytes files) (known_bytes files) s.told
         (λ first told e st.
-        subst (λ (c : Option Contents). IfTold (λ f n. RestsIn p g paths budget f n (s.text ++ w.shown) (without_shown w) r) (Some first) c) (sym e)
+        subst (λ (c : Option Contents). IfTold
+        (λ f n. RestsIn p g paths budget f n (s.text ++ w.shown) (without_shown w) r) (Some first) c) (sym e)
         (record {
           steps = st.steps;
           answer = st.answer;

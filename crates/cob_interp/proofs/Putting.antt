@@ -1,5 +1,5 @@
 -- Files that are still being written are put, one behind the other.
-use Rattle.std.proofs.Common.{◌≡◌, ℕ, zero, suc, ◌+◌, ◌≤◌, ◌<◌, List, [], ◌∷◌, length, map, ◌⊎◌, inl, inr, Option, Some, None, Result, Ok, Err, refl, sym, ap, subst, ◌∙◌, arith}
+use Rattle.std.proofs.Common.{◌≡◌, ℕ, zero, suc, ◌+◌, ◌≤◌, ◌<◌, List, [], ◌∷◌, length, map, ◌⊎◌, inl, inr, Option, Some, refl, ap, subst, ◌∙◌, arith}
 use Rattle.std.specs.Prelude.{Contains, slice_get}
 use Rattle.std.specs.FinMap.{get}
 use Rattle.std.proofs.lemmas.Bool.{cases_order}
@@ -9,7 +9,7 @@ use Rattle.cob_runs.specs.Files.{File, file, Mode, closed, reading, writing}
 use Rattle.cob_runs.specs.State.{World}
 use Rattle.cob_interp.specs.declared.ends.RunEnd.{RunEnd}
 use Rattle.cob_interp.specs.declared.ends.RunEnd.TheVariants as end
-use Rattle.cob_interp.specs.Told.{seen_file, seen_files, IsSyncedIn, IsSynced, AreSynced, AreDistinct, AgreeBut, IsReadyToCloseIn, IsReadyToClose}
+use Rattle.cob_interp.specs.Told.{seen_file, seen_files, IsSyncedIn, IsSynced, AreSynced, AreDistinct, IsReadyToCloseIn, IsReadyToClose}
 use Rattle.cob_interp.specs.Readying.{AreWell, Keeps, Readies, IsRefusal}
 use Rattle.cob_interp.specs.Walking.{IsPutTo, PutsTo}
 use Rattle.cob_interp.proofs.SeenFiles.{contains_at}
@@ -39,7 +39,8 @@ refused_on a b c (end.Fault kind statement step) well r = absurd r
 -- ---- places of paths
 
 -- a path has one place
-one_place : (paths : List (List ℕ)) (i j : ℕ) (path : List ℕ) → AreDistinct paths → slice_get paths i ≡ Some path → slice_get paths j ≡ Some path
+one_place : (paths : List (List ℕ)) (i j : ℕ) (path : List ℕ) → AreDistinct paths → slice_get paths i ≡ Some path
+    → slice_get paths j ≡ Some path
     → i ≡ j
 one_place [] i j path apart at other = cc
 one_place (q ∷ paths) zero zero path apart at other = refl
@@ -54,24 +55,28 @@ one_place (q ∷ paths) (suc i) (suc j) path apart at other = ap suc (one_place 
 -- ---- a file
 
 module _ (told mid now : Contents) (path : List ℕ) where
-  later_in : (m : Mode) (content : Option (List ℕ)) → get now path ≡ get mid path → IsReadyToCloseIn told mid path m content
+  later_in : (m : Mode) (content : Option (List ℕ)) → get now path ≡ get mid path
+      → IsReadyToCloseIn told mid path m content
       → IsReadyToCloseIn told now path m content
   later_in closed content same ready = same ∙ ready
   later_in (reading ended) content same ready = same ∙ ready
   later_in writing content same ready = same ∙ ready
 
   -- it stays told where its name holds what it held
-  stays_ready : (f : File) → get now path ≡ get mid path → IsReadyToClose told mid path f → IsReadyToClose told now path f
+  stays_ready : (f : File) → get now path ≡ get mid path → IsReadyToClose told mid path f
+      → IsReadyToClose told now path f
   stays_ready f same ready = later_in f.mode f.content same ready
 
-  earlier_in : (m : Mode) (content : Option (List ℕ)) → get mid path ≡ get told path → IsReadyToCloseIn mid now path m content
+  earlier_in : (m : Mode) (content : Option (List ℕ)) → get mid path ≡ get told path
+      → IsReadyToCloseIn mid now path m content
       → IsReadyToCloseIn told now path m content
   earlier_in closed content same ready = ready ∙ same
   earlier_in (reading ended) content same ready = ready ∙ same
   earlier_in writing content same ready = ready
 
   -- the same, where it was as before until it was put
-  becomes_ready : (f : File) → get mid path ≡ get told path → IsReadyToClose mid now path f → IsReadyToClose told now path f
+  becomes_ready : (f : File) → get mid path ≡ get told path → IsReadyToClose mid now path f
+      → IsReadyToClose told now path f
   becomes_ready f same ready = earlier_in f.mode f.content same ready
 
 module _ (told now : Contents) (path : List ℕ) where
@@ -82,7 +87,8 @@ module _ (told now : Contents) (path : List ℕ) where
   content_by_mode content writing place s ready = ready
 
   -- its name holds what the run sees
-  content_told : (f : File) → IsSynced told path f → IsReadyToClose told now path f → get now path ≡ (seen_file told path f).content
+  content_told : (f : File) → IsSynced told path f → IsReadyToClose told now path f
+      → get now path ≡ (seen_file told path f).content
   content_told f s ready = content_by_mode f.content f.mode f.place s ready
 
 -- ---- all files
@@ -101,13 +107,15 @@ puts_none paths w a = record {
 
 module _ (paths : List (List ℕ)) (apart : AreDistinct paths) (w : World) (count : ℕ) (path : List ℕ) (f : File)
     (at : slice_get paths count ≡ Some path) (has : slice_get w.files count ≡ Some f) (b c : FilesState) where
-  apart_from : (place : ℕ) (other : List ℕ) → slice_get paths place ≡ Some other → (place ≡ count → ⊥) → other ≡ path → ⊥
+  apart_from : (place : ℕ) (other : List ℕ) → slice_get paths place ≡ Some other → (place ≡ count → ⊥) → other ≡ path
+      → ⊥
   apart_from place other at_ not same =
       not (one_place paths place count path apart (subst (λ (q : List ℕ). slice_get paths place ≡ Some q) same at_) at)
 
   module _ (told : Contents) (known : Option Contents) (k : IsPutTo paths w count told known)
       (r : Keeps k.now (known_bytes c) path (λ now. IsReadyToClose k.now now path f)) where
-    next_done : (place : ℕ) (other : List ℕ) (o : File) → slice_get paths place ≡ Some other → slice_get w.files place ≡ Some o
+    next_done : (place : ℕ) (other : List ℕ) (o : File) → slice_get paths place ≡ Some other
+        → slice_get w.files place ≡ Some o
         → (place ≡ count) ⊎ ((place < count) ⊎ (count < place)) → place < count + 1 → IsReadyToClose told r.now other o
     next_done place other o at_ has_ (inl this) below =
         let there = subst (λ (n : ℕ). slice_get paths n ≡ Some other) this at_ in
@@ -118,7 +126,8 @@ module _ (paths : List (List ℕ)) (apart : AreDistinct paths) (w : World) (coun
         (subst (λ (x : File). IsReadyToClose told r.now path x) its
         (becomes_ready told k.now r.now path f (k.left count path (omega arith) at) r.it))
     next_done place other o at_ has_ (inr (inl l)) below =
-        stays_ready told k.now r.now other o (r.others other (apart_from place other at_ (λ e. omega (arith, e, l)))) (k.done place other o l at_ has_)
+        stays_ready told k.now r.now other o (r.others other (apart_from place other at_ (λ e. omega (arith, e, l))))
+        (k.done place other o l at_ has_)
     next_done place other o at_ has_ (inr (inr l)) below = absurd (omega (arith, l, below))
 
     next_put : IsPutTo paths w (count + 1) told (known_bytes c)
@@ -127,12 +136,14 @@ module _ (paths : List (List ℕ)) (apart : AreDistinct paths) (w : World) (coun
       is = r.is;
       done = λ place other o below at_ has_. next_done place other o at_ has_ (cases_order place count) below;
       left = λ place other above at_.
-          r.others other (apart_from place other at_ (λ e. omega (arith, e, above))) ∙ k.left place other (omega (arith, above)) at_;
+          r.others other (apart_from place other at_ (λ e. omega (arith, e, above))) ∙ k.left place other
+          (omega (arith, above)) at_;
       others = others_keep told k.now r.now paths count path at r.others k.others;
     }
 
   -- one more
-  pub puts_next : (a : FilesState) → Readies b c path (λ told now. IsReadyToClose told now path f) → PutsTo paths w count a b
+  pub puts_next : (a : FilesState) → Readies b c path (λ told now. IsReadyToClose told now path f)
+      → PutsTo paths w count a b
       → PutsTo paths w (count + 1) a c
   puts_next a ready h = record {
     well = well_passes a b c h.well ready.well;

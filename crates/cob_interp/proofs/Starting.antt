@@ -1,5 +1,5 @@
 -- Where a run begins.
-use Rattle.std.proofs.Common.{◌≡◌, ℕ, zero, suc, ◌+◌, ◌-◌, ◌≤◌, List, [], ◌∷◌, length, map, inl, Option, Some, None, Err, refl, sym, ap, subst, ◌∙◌, arith}
+use Rattle.std.proofs.Common.{◌≡◌, ℕ, zero, suc, ◌+◌, ◌-◌, List, [], ◌∷◌, length, map, inl, Option, Some, None, Err, refl, sym, ap, subst, ◌∙◌, arith}
 use Rattle.std.specs.Prelude.{slice_get}
 use Rattle.std.specs.FinMap.{get}
 use Rattle.batch_io.specs.FilesState.{Contents, known_bytes}
@@ -7,7 +7,7 @@ use Rattle.cob_data.specs.declared.layout.FileDecl.{FileDecl}
 use Rattle.cob_program.specs.Act.{Program}
 use Rattle.cob_meaning.specs.declared.straight.Outcome.{Outcome}
 use Rattle.cob_meaning.specs.declared.straight.Outcome.TheVariants.{Going, Ended, IoStop, Fault}
-use Rattle.cob_runs.specs.Files.{File, file, closed, Choice}
+use Rattle.cob_runs.specs.Files.{File, Choice}
 use Rattle.cob_runs.specs.State.{World, Doing, rest, paras}
 use Rattle.cob_runs.specs.Steps.{body_at, settled, settled_on, settle}
 use Rattle.cob_runs.specs.Runs.{content_at, first_files, first_world}
@@ -19,8 +19,7 @@ use Rattle.cob_ways.specs.Telling.{Way, Telling}
 use Rattle.cob_interp.specs.declared.ends.RunEnd.TheVariants as end
 use Rattle.cob_interp.specs.Ends.{told_files, AreFree, state_after}
 use Rattle.cob_interp.specs.Told.{seen, seen_files, AreSynced}
-use Rattle.cob_interp.specs.Touching.{IsPartOf, makes_none}
-use Rattle.cob_interp.specs.Running.{Outside, IfTold, makes_next, StandsIn, StandsIf, BreaksOff, IsBroken, IsAt, Runs}
+use Rattle.cob_interp.specs.Running.{Outside, IfTold, makes_next, StandsIn, StandsIf, BreaksOff, IsAt, Runs}
 use Rattle.cob_interp.proofs.Passing.{append_none, well_stays}
 use Rattle.cob_interp.proofs.Breaking.{part_seen}
 
@@ -36,7 +35,8 @@ next_place : (n i : ℕ) → n + suc i ≡ suc n + i
 next_place n i = omega arith
 
 -- the run sees them closed, with what is told
-first_seen : (told : Contents) (contents : runs.Contents) (paths : List (List ℕ)) (ds : List FileDecl) (n : ℕ) → length paths ≡ length ds
+first_seen : (told : Contents) (contents : runs.Contents) (paths : List (List ℕ)) (ds : List FileDecl) (n : ℕ)
+    → length paths ≡ length ds
     → ((i : ℕ) (path : List ℕ) → slice_get paths i ≡ Some path → content_at contents (n + i) ≡ get told path)
     → first_files contents n ds ≡ seen_files told paths (first_files [] n ds)
 first_seen told contents [] [] n same each = refl
@@ -70,7 +70,8 @@ module _ (p : Program) (c : Choice) where
   settle_world w ds (Fault kind statement) = refl
 
 module _ (p : Program) (g : Graph) (paths : List (List ℕ)) (same : length paths ≡ length p.layout.files) where
-  first_as_seen : (told : Contents) → first_world p (told_files told paths) [] ≡ seen told paths [] (first_world p [] [])
+  first_as_seen : (told : Contents) → first_world p (told_files told paths) [] ≡ seen told paths []
+      (first_world p [] [])
   first_as_seen told =
       ap (λ (fs : List File). record {
         storage = (first_world p [] []).storage;
@@ -79,7 +80,8 @@ module _ (p : Program) (g : Graph) (paths : List (List ℕ)) (same : length path
         shown = [];
       })
       (first_seen told (told_files told paths) paths p.layout.files 0 same
-      (λ i path at. subst (λ (k : ℕ). content_at (told_files told paths) k ≡ get told path) (omega arith) (told_at told paths i path at)))
+      (λ i path at. subst (λ (k : ℕ). content_at (told_files told paths) k ≡ get told path) (omega arith)
+      (told_at told paths i path at)))
 
   none_begun : (contents : runs.Contents) → AreFree p contents 0
   none_begun contents m below = absurd (omega (arith, below))
@@ -94,9 +96,11 @@ module _ (p : Program) (g : Graph) (paths : List (List ℕ)) (same : length path
       free = none_begun (told_files told paths);
     }
 
-    begin_world : (told : Contents) → (state_after p (told_files told paths) 0).world ≡ seen told paths [] (first_world p [] [])
+    begin_world : (told : Contents) → (state_after p (told_files told paths) 0).world ≡ seen told paths []
+        (first_world p [] [])
     begin_world told =
-        settle_world p None (first_world p (told_files told paths) []) (rest (body_at p 0) ∷ paras 1 (length p.paras - 1) ∷ []) Going
+        settle_world p None (first_world p (told_files told paths) [])
+        (rest (body_at p 0) ∷ paras 1 (length p.paras - 1) ∷ []) Going
         ∙ first_as_seen told
 
     breaks_first : (told : Contents) → BreaksOff p g paths budget told told start.sink start.sink
@@ -105,7 +109,8 @@ module _ (p : Program) (g : Graph) (paths : List (List ℕ)) (same : length path
       within = omega arith;
       free = none_begun (told_files told paths);
       files = λ place path f at has.
-          part_seen paths (λ n. makes_next p (state_after p (told_files told paths) 0) n) (first_world p [] []) told told
+          part_seen paths (λ n. makes_next p (state_after p (told_files told paths) 0) n)
+          (first_world p [] []) told told
           (first_synced told paths p.layout.files 0 same)
           (record { its = λ n q x at_ has_. inl refl; others = λ name none. refl }) place path f at
           (subst (λ (w : World). slice_get w.files place ≡ Some f) (begin_world told) has);
@@ -123,11 +128,13 @@ module _ (p : Program) (g : Graph) (paths : List (List ℕ)) (same : length path
       stands None = tt
       stands (Some told) = stands_first told
 
-      breaks : (known : Option Contents) → IfTold (λ first told. BreaksOff p g paths budget first told start.sink start.sink) known known
+      breaks : (known : Option Contents)
+          → IfTold (λ first told. BreaksOff p g paths budget first told start.sink start.sink) known known
       breaks None = tt
       breaks (Some told) = breaks_first told
 
-    pub begins_with : {X : Type 0} (f : X → Option (List ℕ)) (items : List X) (w : World) → items ≡ [] → w ≡ first_world p (map f items) []
+    pub begins_with : {X : Type 0} (f : X → Option (List ℕ)) (items : List X) (w : World) → items ≡ []
+        → w ≡ first_world p (map f items) []
         → IsAt p g paths budget start start w 0 1
     begins_with {X} f items w none is =
         subst (λ (v : World). IsAt p g paths budget start start v 0 1)

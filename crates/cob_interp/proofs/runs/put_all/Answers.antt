@@ -12,14 +12,17 @@ loop-place-init g c = record {
 
 pub returns-in_err-put_at-clause-touches : goal.returns-in_err-put_at-clause-touches
 returns-in_err-put_at-clause-touches g c =
-    touches_pass (paths_of c.args.setting.now) makes_none c.args.world.now _ _ _ c.loop-place.invariant.touches c.in_err-put_at.ensures.touches
+    touches_pass (paths_of c.args.setting.now) makes_none c.args.world.now _ _ _ c.loop-place.invariant.touches
+    c.in_err-put_at.ensures.touches
 
 pub loop-place-preserved : goal.loop-place-preserved
 loop-place-preserved g c =
     let r = c.in_ok-put_at.ensures.readies in
     record {
-      puts = puts_next (paths_of c.args.setting.now) c.requires.ready.distinct c.args.world.now c.loop-place.place r.path r.file r.is.path_ r.has
+      puts = puts_next (paths_of c.args.setting.now) c.requires.ready.distinct c.args.world.now c.loop-place.place
+          r.path r.file r.is.path_ r.has
           _ _ _ r.ready c.loop-place.invariant.puts;
-      touches = touches_pass (paths_of c.args.setting.now) makes_none c.args.world.now _ _ _ c.loop-place.invariant.touches
+      touches = touches_pass
+          (paths_of c.args.setting.now) makes_none c.args.world.now _ _ _ c.loop-place.invariant.touches
           c.in_ok-put_at.ensures.touches;
     }
