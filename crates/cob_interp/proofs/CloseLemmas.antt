@@ -33,7 +33,7 @@ use Rattle.cob_interp.proofs.CallsLead.{EdgeFollows, close_edge, others_keep}
 
 -- ---- a refusal
 
-rose_on : (a b c : ℕ) → b ≡ a → Rose b c → Rose a c
+pub rose_on : (a b c : ℕ) → b ≡ a → Rose b c → Rose a c
 rose_on a b c e r = subst (λ (n : ℕ). Rose n c) e r
 
 pub refused_halts : (s : Setting) (budget : ℕ) (start : Outside) (sink : SinkState) (old new : FilesState) (v : World) (text : List ℕ) (e : RunEnd)

@@ -18,3 +18,8 @@ pub mod Taking
 pub mod OneEndLemmas
 pub mod Touched
 pub mod Closings
+pub mod Breaking
+pub mod Flushing
+pub mod Putting
+pub mod Finishing
+pub mod Starting

@@ -69,16 +69,16 @@ module _ (p : Program) (contents : Contents) (budget : ℕ) where
   -- ---- where an end stands
 
   -- the run is over, or goes on and is at its budget or not free
-  record Stands (n : ℕ) : Type 0 where
-    within : n ≤ budget
-    before : (m : ℕ) → m < n → (state_after p contents m).outcome ≡ Going
-    free : AreFree p contents n
-    stops : (state_after p contents n).outcome ≡ Going → IsFree p (state_after p contents n) → n ≡ budget
+  pub record Stands (n : ℕ) : Type 0 where
+    pub within : n ≤ budget
+    pub before : (m : ℕ) → m < n → (state_after p contents m).outcome ≡ Going
+    pub free : AreFree p contents n
+    pub stops : (state_after p contents n).outcome ≡ Going → IsFree p (state_after p contents n) → n ≡ budget
 
   cut_unfree : (b : Bool) → b ≡ true → b ≡ false → ⊥
   cut_unfree b e f = false≢true (sym f ∙ e)
 
-  stands : (a : Result Ended RunEnd) (n : ℕ) → IsEnd p contents budget a n → Stands n
+  pub stands : (a : Result Ended RunEnd) (n : ℕ) → IsEnd p contents budget a n → Stands n
   stands (Ok e) n x = let y = x.1 in record { within = y.within; before = y.before; free = y.free; stops = λ g f. absurd (cc) }
   stands (Err (end.IoStop status statement)) n y = record { within = y.within; before = y.before; free = y.free; stops = λ g f. absurd (cc) }
   stands (Err (end.Fault kind statement step)) n x = let y = x.1 in record { within = y.within; before = y.before; free = y.free; stops = λ g f. absurd (cc) }

@@ -22,7 +22,7 @@ ids_pass a b c h k = record {
   handle = λ id some. k.handle id (subst IsSome (sym (h.purpose id)) some) ∙ h.handle id some;
 }
 
-append_twice : (told : Option (List ℕ)) (text more : List ℕ)
+pub append_twice : (told : Option (List ℕ)) (text more : List ℕ)
     → append_known (append_known told text) more ≡ append_known told (text ++ more)
 append_twice None text more = refl
 append_twice (Some bytes) text more = ap Some (append_assoc bytes text more)
