@@ -30,7 +30,8 @@ cut_by_mode d told path content closed place = refl
 cut_by_mode d told path content (reading ended) place = refl
 cut_by_mode d told path content writing place = refl
 
-cut_at : (decl : Option FileDecl) (told : Contents) (paths : List (List ℕ)) (place : ℕ) (o other : Option File) → SeenAt told paths place o other
+cut_at : (decl : Option FileDecl) (told : Contents) (paths : List (List ℕ)) (place : ℕ) (o other : Option File)
+    → SeenAt told paths place o other
     → cut_file decl other ≡ cut_file decl o
 cut_at None told paths place o other sees = refl
 cut_at (Some d) told paths place None None sees = refl
@@ -40,13 +41,15 @@ cut_at (Some d) told paths place (Some f) (Some g) sees =
     let same : g ≡ seen_file told sees.0 f = cc in
     ap (is_cut d) same ∙ cut_by_mode d told sees.0 f.content f.mode f.place
 
-pub cut_seen : (decl : Option FileDecl) (told : Contents) (paths : List (List ℕ)) (fs : List File) (place : ℕ) → AreSynced told paths fs
+pub cut_seen : (decl : Option FileDecl) (told : Contents) (paths : List (List ℕ)) (fs : List File) (place : ℕ)
+    → AreSynced told paths fs
     → cut_file decl (slice_get (seen_files told paths fs) place) ≡ cut_file decl (slice_get fs place)
 cut_seen decl told paths fs place s = cut_at decl told paths place _ _ (seen_at told paths fs place s)
 
 -- and so is the length of a file with such an end
 counted_by_mode : (d : FileDecl) (told : Contents) (path : List ℕ) (content : Option (List ℕ)) (m : Mode) (place : ℕ)
-    → is_cut d (file content m place) ≡ true → bytes_in (seen_file told path (file content m place)) ≡ bytes_in (file content m place)
+    → is_cut d (file content m place) ≡ true → bytes_in (seen_file told path (file content m place))
+    ≡ bytes_in (file content m place)
 counted_by_mode d told path content closed place cut = absurd (false≢true cut)
 counted_by_mode d told path content (reading ended) place cut = refl
 counted_by_mode d told path content writing place cut = refl
@@ -54,7 +57,8 @@ counted_by_mode d told path content writing place cut = refl
 abbrev pub length_of : Option File → ℕ
 length_of o = option_map_or (λ f. length (bytes_in f)) o 0
 
-counted_at : (decl : Option FileDecl) (told : Contents) (paths : List (List ℕ)) (place : ℕ) (o other : Option File) → SeenAt told paths place o other
+counted_at : (decl : Option FileDecl) (told : Contents) (paths : List (List ℕ)) (place : ℕ) (o other : Option File)
+    → SeenAt told paths place o other
     → cut_file decl o ≡ true → length_of other ≡ length_of o
 counted_at None told paths place o other sees cut = absurd (false≢true cut)
 counted_at (Some d) told paths place None other sees cut = absurd (false≢true cut)
@@ -63,8 +67,10 @@ counted_at (Some d) told paths place (Some f) (Some g) sees cut =
     let same : g ≡ seen_file told sees.0 f = cc in
     ap (λ (h : File). length (bytes_in h)) same ∙ ap length (counted_by_mode d told sees.0 f.content f.mode f.place cut)
 
-pub counted_seen : (decl : Option FileDecl) (told : Contents) (paths : List (List ℕ)) (fs : List File) (place : ℕ) → AreSynced told paths fs
-    → cut_file decl (slice_get fs place) ≡ true → length_of (slice_get (seen_files told paths fs) place) ≡ length_of (slice_get fs place)
+pub counted_seen : (decl : Option FileDecl) (told : Contents) (paths : List (List ℕ)) (fs : List File) (place : ℕ)
+    → AreSynced told paths fs
+    → cut_file decl (slice_get fs place) ≡ true → length_of (slice_get (seen_files told paths fs) place)
+    ≡ length_of (slice_get fs place)
 counted_seen decl told paths fs place s = counted_at decl told paths place _ _ (seen_at told paths fs place s)
 
 -- ---- statements that nothing stops
@@ -79,7 +85,8 @@ IsFreeAct p (open_files os) w = ⊥
 IsFreeAct p (read f into end fine) w = cut_file (slice_get p.layout.files f) (slice_get w.files f) ≡ false
 IsFreeAct p _ w = Unit {0}
 
-module _ (p : Program) (told : Contents) (paths : List (List ℕ)) (text : List ℕ) (w : World) (s : AreSynced told paths w.files) where
+module _ (p : Program) (told : Contents) (paths : List (List ℕ)) (text : List ℕ) (w : World)
+    (s : AreSynced told paths w.files) where
   uncut_act : (a : Act) → IsFreeAct p a w → (file_ : ℕ) → cut_by p a (seen told paths text w) file_ ≡ false
   uncut_act (open_files os) free file_ = absurd free
   uncut_act (read f into end fine) free file_ =
@@ -114,7 +121,8 @@ module _ (p : Program) (told : Contents) (paths : List (List ℕ)) (text : List 
 pub passes_one : (steps : ℕ) (x : Node) → x.starts ≡ true → steps + 1 ≡ passed steps x
 passes_one steps x e = let f : one_if x.starts ≡ 1 = ap one_if e in omega (arith, f)
 
-module _ (s : Setting) (start now : Outside) (w : World) (steps node : ℕ) (x : Node) (at : node_at s.graph.now.nodes node ≡ Some x)
+module _ (s : Setting) (start now : Outside) (w : World) (steps node : ℕ) (x : Node)
+    (at : node_at s.graph.now.nodes node ≡ Some x)
     (starts : x.starts ≡ true) where
   -- the step is underway at its first node
   pub begins : (a : Act) → act_at (program_of s) x.statement ≡ Some a → IsFreeAct (program_of s) a w
@@ -123,13 +131,17 @@ module _ (s : Setting) (start now : Outside) (w : World) (steps node : ℕ) (x :
   begins a its free stands = record {
     left = steps;
     stands = stands_on (program_of s) s.graph.now (paths_of s) start now w w steps steps node steps (steps + 1) node
-        (λ first told text st. begins_freely (program_of s) s.graph.now (paths_of s) first told text w steps node st 0 x at starts
-        (λ file_. ap (λ (o : Option Act). option_map_or (λ b. cut_by (program_of s) b (seen told (paths_of s) text w) file_) o false) its
+        (λ first told text st. begins_freely (program_of s) s.graph.now (paths_of s) first told text w steps node st 0 x
+        at starts
+        (λ file_. ap (λ (o : Option Act). option_map_or (λ b. cut_by (program_of s) b (seen told (paths_of s) text w)
+        file_) o false) its
         ∙ uncut_act (program_of s) told (paths_of s) text w st.synced a free file_)
-        (ap (λ (o : Option Act). option_map_or (λ b. long_by (program_of s) x.statement b (seen told (paths_of s) text w)) o false) its
+        (ap (λ (o : Option Act). option_map_or (λ b. long_by (program_of s) x.statement b
+        (seen told (paths_of s) text w)) o false) its
         ∙ short_act (program_of s) told (paths_of s) text w st.synced x.statement a free))
         stands;
-    counts = λ y there. let same : x ≡ y = cc in subst (λ (z : Node). steps + 1 ≡ passed steps z) same (passes_one steps x starts);
+    counts = λ y there. let same : x ≡ y = cc in subst (λ (z : Node). steps + 1 ≡ passed steps z) same
+        (passes_one steps x starts);
   }
 
   -- an OPEN begins with all its files
@@ -142,8 +154,10 @@ module _ (s : Setting) (start now : Outside) (w : World) (steps node : ℕ) (x :
     told = opening (known_bytes start.files) (known_bytes now.files) stands.told;
   } where
     opening : (a b : Option Contents)
-        → IfTold (λ first told. StandsIn (program_of s) s.graph.now (paths_of s) first told stands.text w steps steps node) a b
-        → IfTold (λ first told. OpensIn (program_of s) s.graph.now (paths_of s) first told stands.text w steps steps node x.statement os os) a b
+        → IfTold (λ first told. StandsIn (program_of s) s.graph.now (paths_of s) first told stands.text w steps steps
+        node) a b
+        → IfTold (λ first told. OpensIn (program_of s) s.graph.now (paths_of s) first told stands.text w steps steps
+        node x.statement os os) a b
     opening None b t = tt
     opening (Some first) None t = absurd t
     opening (Some first) (Some told) t = record {

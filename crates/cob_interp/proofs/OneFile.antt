@@ -27,7 +27,8 @@ module _ (told : Contents) (path : List ℕ) where
   read_record size f (Some r) s = record { status = refl; found = refl; file = refl; synced = s }
 
   read_by_mode : (size : ℕ) (content : Option (List ℕ)) (m : Mode) (place : ℕ) → IsSyncedIn told m path content
-      → ReadFollows told path (after_read size (file content m place)) (after_read size (seen_file told path (file content m place)))
+      → ReadFollows told path (after_read size (file content m place))
+      (after_read size (seen_file told path (file content m place)))
   read_by_mode size content closed place s = record { status = refl; found = refl; file = refl; synced = s }
   read_by_mode size content (reading true) place s = record { status = refl; found = refl; file = refl; synced = s }
   read_by_mode size content (reading false) place s =
@@ -39,7 +40,8 @@ module _ (told : Contents) (path : List ℕ) where
   read_follows size f s = read_by_mode size f.content f.mode f.place s
 
   write_by_mode : (r : List ℕ) (content : Option (List ℕ)) (m : Mode) (place : ℕ) → IsSyncedIn told m path content
-      → FileFollows told path (after_write r (file content m place)) (after_write r (seen_file told path (file content m place)))
+      → FileFollows told path (after_write r (file content m place))
+      (after_write r (seen_file told path (file content m place)))
   write_by_mode r content closed place s = record { status = refl; file = refl; synced = s }
   write_by_mode r content (reading ended) place s = record { status = refl; file = refl; synced = s }
   write_by_mode r content writing place s =
@@ -60,9 +62,11 @@ module _ (told now : Contents) (path : List ℕ) where
   open_content (Some bytes) None e f = cc
   open_content (Some bytes) (Some bytes_) e f = record { status = refl; file = cc; synced = e }
 
-  open_by_mode : (output : Bool) (content : Option (List ℕ)) (m : Mode) (place : ℕ) → IsReadyToOpenIn told now path output m content
+  open_by_mode : (output : Bool) (content : Option (List ℕ)) (m : Mode) (place : ℕ)
+      → IsReadyToOpenIn told now path output m content
       → IsSyncedIn told m path content
-      → FileFollows now path (opened output (file content m place)) (opened output (seen_file told path (file content m place)))
+      → FileFollows now path (opened output (file content m place))
+      (opened output (seen_file told path (file content m place)))
   open_by_mode true content closed place ready s =
       record { status = refl; file = refl; synced = (ready, ([], refl)) }
   open_by_mode false content closed place ready s =
@@ -78,7 +82,8 @@ module _ (told now : Contents) (path : List ℕ) where
 
   close_by_mode : (content : Option (List ℕ)) (m : Mode) (place : ℕ) → IsReadyToCloseIn told now path m content
       → IsSyncedIn told m path content
-      → FileFollows now path (after_close (file content m place)) (after_close (seen_file told path (file content m place)))
+      → FileFollows now path (after_close (file content m place))
+      (after_close (seen_file told path (file content m place)))
   close_by_mode content closed place ready s =
       record { status = refl; file = ap (λ (c : Option (List ℕ)). file c closed place) (sym ready); synced = tt }
   close_by_mode content (reading ended) place ready s =

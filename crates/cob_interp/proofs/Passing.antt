@@ -32,7 +32,14 @@ append_none None = refl
 append_none (Some bytes) = ap Some (sym (append-nil bytes))
 
 pub well_stays : (a : Outside) → IsWell a a []
-well_stays a = record { reading = refl; writing = refl; faults = refl; ids = ids_stay a.files; gained = append_none a.sink.told }
+well_stays a = record {
+  reading = refl;
+  writing = refl;
+  faults = refl;
+  ids = ids_stay a.files;
+  gained = append_none
+      a.sink.told;
+}
 
 pub well_passes : (a b c : Outside) (text more : List ℕ) → IsWell a b text → IsWell b c more → IsWell a c (text ++ more)
 well_passes a b c text more h k = record {
@@ -40,7 +47,8 @@ well_passes a b c text more h k = record {
   writing = k.writing ∙ h.writing;
   faults = k.faults ∙ h.faults;
   ids = ids_pass a.files b.files c.files h.ids k.ids;
-  gained = k.gained ∙ ap (λ (told : Option (List ℕ)). append_known told more) h.gained ∙ append_twice a.sink.told text more;
+  gained = k.gained ∙ ap (λ (told : Option (List ℕ)). append_known told more) h.gained ∙ append_twice a.sink.told text
+      more;
 }
 
 module _ (p : Program) (g : Graph) (paths : List (List ℕ)) where
@@ -83,7 +91,8 @@ module _ (p : Program) (g : Graph) (paths : List (List ℕ)) where
   }
 
   module _ (budget : ℕ) where
-    rested : (a b c : Option Contents) (text text_ : List ℕ) (w v : World) (left begun node : ℕ) (result : Result Ended RunEnd)
+    rested : (a b c : Option Contents) (text text_ : List ℕ) (w v : World) (left begun node : ℕ)
+        (result : Result Ended RunEnd)
         → ((first told : Contents) → b ≡ Some told → StandsIn p g paths first told text w left begun node
         → RestsIf p g paths budget (Some first) c text_ v result)
         → StandsIf p g paths a b text w left begun node → RestsIf p g paths budget a c text_ v result
@@ -122,7 +131,8 @@ module _ (p : Program) (g : Graph) (paths : List (List ℕ)) where
 
 -- ---- where a file was made ready
 
-pub readied_well : (old new : FilesState) (sink : SinkState) → AreWell old new → IsWell (outside old sink) (outside new sink) []
+pub readied_well : (old new : FilesState) (sink : SinkState) → AreWell old new
+    → IsWell (outside old sink) (outside new sink) []
 readied_well old new sink well = record {
   reading = well.reading;
   writing = well.writing;
@@ -132,11 +142,14 @@ readied_well old new sink well = record {
 }
 
 module _ (p : Program) (g : Graph) (paths : List (List ℕ)) (start : Outside) (sink : SinkState) (old new : FilesState)
-    (path : List ℕ) (IsIt : Contents → Contents → Type 0) (ready : Readies old new path IsIt) (w v : World) (left begun node : ℕ) where
+    (path : List ℕ) (IsIt : Contents → Contents → Type 0) (ready : Readies old new path IsIt) (w v : World)
+    (left begun node : ℕ) where
   pub stands_readied : (left_ begun_ node_ : ℕ)
-      → ((first told now : Contents) (text : List ℕ) → known_bytes old ≡ Some told → AgreeBut told now path → IsIt told now
+      → ((first told now : Contents) (text : List ℕ) → known_bytes old ≡ Some told → AgreeBut told now path
+      → IsIt told now
       → StandsIn p g paths first told text w left begun node → StandsIn p g paths first now text v left_ begun_ node_)
-      → Stands p g paths start (outside old sink) w left begun node → Stands p g paths start (outside new sink) v left_ begun_ node_
+      → Stands p g paths start (outside old sink) w left begun node
+      → Stands p g paths start (outside new sink) v left_ begun_ node_
   stands_readied left_ begun_ node_ f s =
       stands_behind p g paths start (outside old sink) (outside new sink) w v [] left begun node left_ begun_ node_
       (readied_well old new sink ready.well)
@@ -147,9 +160,11 @@ module _ (p : Program) (g : Graph) (paths : List (List ℕ)) (start : Outside) (
       s
 
   pub rests_readied : (budget : ℕ) (result : Result Ended RunEnd)
-      → ((first told now : Contents) (text : List ℕ) → known_bytes old ≡ Some told → AgreeBut told now path → IsIt told now
+      → ((first told now : Contents) (text : List ℕ) → known_bytes old ≡ Some told → AgreeBut told now path
+      → IsIt told now
       → StandsIn p g paths first told text w left begun node → RestsIn p g paths budget first now text v result)
-      → Stands p g paths start (outside old sink) w left begun node → Rests p g paths budget start (outside new sink) v result
+      → Stands p g paths start (outside old sink) w left begun node
+      → Rests p g paths budget start (outside new sink) v result
   rests_readied budget result f s =
       rests_behind p g paths budget start (outside old sink) (outside new sink) w v [] left begun node result
       (readied_well old new sink ready.well)

@@ -32,7 +32,8 @@ both_true : (a b : Bool) → a ≡ true → b ≡ true → (a && b) ≡ true
 both_true a b e f = rw (e, f) refl
 
 module _ (p : Program) (w : World) (file : ℕ) where
-  cut_read : (a : Act) → IsCall a (call.Read file) → cut_file (slice_get p.layout.files file) (slice_get w.files file) ≡ true
+  cut_read : (a : Act) → IsCall a (call.Read file)
+      → cut_file (slice_get p.layout.files file) (slice_get w.files file) ≡ true
       → cut_by p a w file ≡ true
   cut_read (read f into end_ fine) is cut =
       subst (λ (n : ℕ). (n == file && cut_file (slice_get p.layout.files n) (slice_get w.files n)) ≡ true) is
@@ -50,7 +51,8 @@ module _ (p : Program) (w : World) (file : ℕ) where
   cut_read (write r from) is cut = absurd is
   cut_read (show xs) is cut = absurd is
 
-  pub free_read : (a : Act) → IsCall a (call.Read file) → cut_file (slice_get p.layout.files file) (slice_get w.files file) ≡ false
+  pub free_read : (a : Act) → IsCall a (call.Read file)
+      → cut_file (slice_get p.layout.files file) (slice_get w.files file) ≡ false
       → IsFreeAct p a w
   free_read (read f into end_ fine) is uncut =
       subst (λ (n : ℕ). cut_file (slice_get p.layout.files n) (slice_get w.files n) ≡ false) is uncut
@@ -103,7 +105,8 @@ module _ (s : Setting) (node : ℕ) (x : Place) (is : StartsAt s node x) where
       let same : is.is.spot.node ≡ y = cc in
       subst (λ (z : Node). z.starts ≡ true) same starts
 
-  module _ (budget steps step : ℕ) (counted : step ≡ steps + 1) (within : steps < budget) (start old : Outside) (w : World)
+  module _ (budget steps step : ℕ) (counted : step ≡ steps + 1) (within : steps < budget) (start old : Outside)
+      (w : World)
       (stands : Stands (program_of s) s.graph.now (paths_of s) start old w steps steps node) where
     -- a statement that nothing stops
     pub step_begins : (new : Outside) (v : World) (result : Result ℕ RunEnd) → IsFreeAct (program_of s) act_ w
@@ -115,37 +118,46 @@ module _ (s : Setting) (node : ℕ) (x : Place) (is : StartsAt s node x) where
         (begins s start old w steps node is.is.spot.node is.is.spot.stands starts act_ its free stands))
 
     -- an OPEN
-    pub opening_begins : (new : Outside) (v : World) (result : Result ℕ RunEnd) (os : List Opening) → act_ ≡ open_files os
+    pub opening_begins : (new : Outside) (v : World) (result : Result ℕ RunEnd) (os : List Opening)
+        → act_ ≡ open_files os
         → LeadsOver s budget steps node x.spot.statement os old new w v result
         → Arrives (program_of s) s.graph.now (paths_of s) budget start new v step result
     opening_begins new v result os opens leads =
         subst (λ (n : ℕ). Arrives (program_of s) s.graph.now (paths_of s) budget start new v n result) (sym counted)
         (leads start within
-        (subst (λ (n : ℕ). act_at (program_of s) n ≡ Some (open_files os)) (sym is.is.spot.statement) (its ∙ ap Some opens))
+        (subst (λ (n : ℕ). act_at (program_of s) n ≡ Some (open_files os)) (sym is.is.spot.statement)
+        (its ∙ ap Some opens))
         starts_each
-        (subst (λ (n : ℕ). Opens (program_of s) s.graph.now (paths_of s) start old w steps steps node n os os) (sym is.is.spot.statement)
+        (subst (λ (n : ℕ). Opens (program_of s) s.graph.now (paths_of s) start old w steps steps node n os os)
+        (sym is.is.spot.statement)
         (begins_opening s start old w steps node is.is.spot.node is.is.spot.stands starts os stands)))
 
     -- a READ at a ragged end
     cut_in : (file count : ℕ) → IsCall act_ (call.Read file)
         → count ≡ option_map_or (λ f. length (bytes_in f)) (slice_get w.files file) 0
         → cut_file (slice_get s.program.now.layout.files file) (slice_get w.files file) ≡ true
-        → (first told : Contents) (text : List ℕ) → StandsIn (program_of s) s.graph.now (paths_of s) first told text w steps steps node
+        → (first told : Contents) (text : List ℕ) → StandsIn (program_of s) s.graph.now (paths_of s) first told text w
+        steps steps node
         → RestsIn (program_of s) s.graph.now (paths_of s) budget first told text w (Err (end.Ragged file count))
     cut_in file count reads counted_ cut first told text st =
-        is_ragged (program_of s) s.graph.now (paths_of s) first told text w steps node st budget is.is.spot.node is.is.spot.stands starts within
+        is_ragged (program_of s) s.graph.now (paths_of s) first told text w steps node st budget is.is.spot.node
+        is.is.spot.stands starts within
         file count (record {
-          cut = ap (λ (o : Option Act). option_map_or (λ a. cut_by (program_of s) a (seen told (paths_of s) text w) file) o false) its
+          cut = ap (λ (o : Option Act). option_map_or (λ a. cut_by (program_of s) a (seen told (paths_of s) text w)
+              file) o false) its
               ∙ cut_read (program_of s) (seen told (paths_of s) text w) file act_ reads
               (cut_seen (slice_get s.program.now.layout.files file) told (paths_of s) w.files file st.synced ∙ cut);
-          counted = counted_ ∙ sym (counted_seen (slice_get s.program.now.layout.files file) told (paths_of s) w.files file st.synced cut);
+          counted = counted_ ∙ sym (counted_seen (slice_get s.program.now.layout.files file) told
+              (paths_of s) w.files file st.synced cut);
         })
 
     pub ragged_arrives : (file : ℕ) → IsCall act_ (call.Read file) → (e : RunEnd) → IsRaggedAt s w file e
         → Arrives (program_of s) s.graph.now (paths_of s) budget start old w step (Err e)
     ragged_arrives file reads (end.Ragged place count) is_ =
-        subst (λ (n : ℕ). Arrives (program_of s) s.graph.now (paths_of s) budget start old w step (Err (end.Ragged n count))) (sym is_.0)
-        (rests_on (program_of s) s.graph.now (paths_of s) budget start old w w steps steps node (Err (end.Ragged file count))
+        subst (λ (n : ℕ). Arrives (program_of s) s.graph.now (paths_of s) budget start old w step
+        (Err (end.Ragged n count))) (sym is_.0)
+        (rests_on (program_of s) s.graph.now (paths_of s) budget start old w w steps steps node
+        (Err (end.Ragged file count))
         (cut_in file count reads is_.1.0 is_.1.1) stands)
     ragged_arrives file reads end.ReadFault is_ = absurd is_
     ragged_arrives file reads end.WriteFault is_ = absurd is_

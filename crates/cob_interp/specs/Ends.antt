@@ -126,7 +126,8 @@ module _ (p : Program) where
         pub long : meets_too_long statement w ≡ true
         pub counted : count ≡ file_limit + 1
 
-      -- What each answer says, behind so many steps. Faults of the outside and want of memory have clauses of their own.
+      -- What each answer says, behind so many steps. Faults of the outside and want of memory have clauses of their
+      -- own.
       abbrev pub IsEnd : Result Ended RunEnd → ℕ → Type 0
       IsEnd (Ok e) n = (e.steps ≡ n) × EndsAfter n outcome.Ended
       IsEnd (Err (end.StepsSpent count)) n = (count ≡ budget) × ((n ≡ budget) × IsSpent)

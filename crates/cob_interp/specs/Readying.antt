@@ -58,7 +58,8 @@ pub record Reads (old new : FilesState) (name : List ℕ) (content : Option (Lis
 pub record IsLongNamed (old new : FilesState) (name : List ℕ) (count : ℕ) : Type 0 where
   pub well : AreWell old new
   pub counted : count ≡ file_limit + 1
-  pub long : (told : Contents) → known_bytes old ≡ Some told → IsSomeAnd (get told name) (λ bytes. file_limit < length bytes)
+  pub long : (told : Contents) → known_bytes old ≡ Some told
+      → IsSomeAnd (get told name) (λ bytes. file_limit < length bytes)
 
 abbrev pub IsRefusedToLoad : FilesState → FilesState → List ℕ → RunEnd → Type 0
 IsRefusedToLoad old new name (end.Long count) = IsLongNamed old new name count

@@ -33,7 +33,8 @@ fn do_node(
     requires ready { IsReady setting.now }
     requires whole { length world.old.storage ≡ setting.now.program.now.layout.storage }
     ensures kept { length world.new.storage ≡ length world.old.storage }
-    ensures leads { (now : Outside) (budget : ℕ) → Leads setting.now budget step node now now world.old world.new result }
+    ensures leads { (now : Outside) (budget : ℕ)
+        → Leads setting.now budget step node now now world.old world.new result }
 {
     let Some(place) = setting.place(node) else {
         return Err(RunEnd::Memory);
@@ -57,7 +58,8 @@ fn go(
     requires ready { IsReady setting.now }
     requires whole { length world.old.storage ≡ setting.now.program.now.layout.storage }
     ensures kept { length world.new.storage ≡ length world.old.storage }
-    ensures leads { (now : Outside) (budget : ℕ) → Leads setting.now budget step node now now world.old world.new result }
+    ensures leads { (now : Outside) (budget : ℕ)
+        → Leads setting.now budget step node now now world.old world.new result }
 {
     let mut at = node;
     for _ in 0..setting.plan.spots.len() {

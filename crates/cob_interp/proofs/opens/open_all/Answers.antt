@@ -33,7 +33,8 @@ pub returns-in_err-at-clause-leads : goal.returns-in_err-at-clause-leads
 returns-in_err-at-clause-leads g c =
     let p = err_from_is_err_and c.from_residual.result c.from_residual.ensures.1 in
     rw (p.1, p.2)
-    (λ sink budget steps counted start within its starts opens. c.in_err-at.ensures.leads sink budget steps counted start steps within its
+    (λ sink budget steps counted start within its starts opens. c.in_err-at.ensures.leads sink budget steps counted
+    start steps within its
     (λ x at. passes_one steps x (starts x at)) opens)
 
 pub returns-in_err-at-2-clause-leads : goal.returns-in_err-at-2-clause-leads
@@ -47,10 +48,13 @@ returns-in_err-at-2-clause-leads g c =
 
 pub returns-clause-leads : goal.returns-clause-leads
 returns-clause-leads g c = λ sink budget steps counted start within its starts opens.
-    opened_all c.args.setting.now start (outside (g.F.Files.state c.loop-number.files) sink) c.loop-number.world steps c.loop-number.at
+    opened_all c.args.setting.now start (outside (g.F.Files.state c.loop-number.files) sink) c.loop-number.world steps
+    c.loop-number.at
     c.args.statement c.args.openings.now its
-    (subst (λ (rest : List Opening). Opens (program_of c.args.setting.now) c.args.setting.now.graph.now (paths_of c.args.setting.now) start
-    (outside (g.F.Files.state c.loop-number.files) sink) c.loop-number.world (steps + 1) steps c.loop-number.at c.args.statement
+    (subst (λ (rest : List Opening). Opens (program_of c.args.setting.now) c.args.setting.now.graph.now
+    (paths_of c.args.setting.now) start
+    (outside (g.F.Files.state c.loop-number.files) sink) c.loop-number.world (steps + 1) steps c.loop-number.at
+    c.args.statement
     c.args.openings.now rest)
     (drop_all c.loop-number.number c.args.openings.now c.loop-number-test.false)
     (c.loop-number.invariant.opens sink budget steps counted start within its starts opens))

@@ -41,4 +41,5 @@ pub returns-in_err-at-clause-leads : goal.returns-in_err-at-clause-leads
 returns-in_err-at-clause-leads g c =
     let p = err_from_is_err_and c.from_residual.result c.from_residual.ensures.1 in
     rw (p.1, p.2)
-    (λ sink budget start within u. c.in_err-at.ensures.leads sink budget start within (c.loop.invariant.underway sink start u))
+    (λ sink budget start within u. c.in_err-at.ensures.leads sink budget start within
+    (c.loop.invariant.underway sink start u))
