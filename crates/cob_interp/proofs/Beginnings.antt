@@ -1,6 +1,6 @@
 -- How a step begins.
-use Rattle.std.proofs.Common.{◌≡◌, ℕ, ◌+◌, ◌<◌, ◌==◌, ◌&&◌, true, false, Bool, List, Option, Some, None, refl, sym, ap, subst, ◌∙◌, arith}
-use Rattle.std.specs.Prelude.{slice_get, nat_lt, length}
+use Rattle.std.proofs.Common.{◌≡◌, ℕ, ◌+◌, ◌==◌, ◌&&◌, true, false, Bool, List, Option, Some, None, refl, ap, subst, ◌∙◌, arith}
+use Rattle.std.specs.Prelude.{slice_get, length}
 use Rattle.std.specs.Option.{option_map_or}
 use Rattle.std.proofs.lemmas.Bool.{false≢true}
 use Rattle.batch_io.specs.FilesState.{Contents, known_bytes}
@@ -15,7 +15,7 @@ use Rattle.cob_graph.specs.Laid.{one_if}
 use Rattle.cob_graph.specs.Walks.{node_at, passed}
 use Rattle.cob_interp.specs.declared.setting.Setting.{Setting}
 use Rattle.cob_interp.specs.Told.{seen, seen_files, seen_file, AreSynced}
-use Rattle.cob_interp.specs.Ends.{is_cut, cut_file, cut_by, meets_cut, long_by, meets_too_long, meets_long}
+use Rattle.cob_interp.specs.Ends.{is_cut, cut_file, cut_by, long_by}
 use Rattle.cob_interp.specs.Running.{Outside, StandsIn, Stands, IsUnderway, OpensIn, Opens, IfTold}
 use Rattle.cob_interp.specs.Setting.{program_of, paths_of}
 use Rattle.cob_interp.proofs.SeenFiles.{SeenAt, seen_at}

@@ -1,17 +1,17 @@
 -- What a call on a file does to the world as the run sees it.
-use Rattle.std.proofs.Common.{◌≡◌, ℕ, Bool, true, false, if◌then◌else◌, List, [], ◌∷◌, ◌++◌, Option, Some, None, refl, sym, ap, subst, ◌∙◌}
+use Rattle.std.proofs.Common.{◌≡◌, ℕ, Bool, true, false, List, Option, Some, None, refl, sym, ap, subst, ◌∙◌}
 use Rattle.std.specs.Prelude.{slice_get, slice_set}
 use Rattle.batch_io.specs.FilesState.{Contents}
 use Rattle.cob_data.specs.declared.layout.FileDecl.{FileDecl}
 use Rattle.cob_data.specs.declared.layout.Layout.{Layout}
 use Rattle.cob_program.specs.declared.act.Opening.{Opening}
 use Rattle.cob_runs.specs.Contents.{fitted, bytes_at}
-use Rattle.cob_runs.specs.Files.{File, file, Mode, closed, reading, writing, Taken, opened, after_close, after_read, after_write, with_status, record_in}
+use Rattle.cob_runs.specs.Files.{File, opened, after_close, after_read, after_write, with_status}
 use Rattle.cob_runs.specs.State.{World, with_storage, with_files}
-use Rattle.cob_runs.specs.Acts.{is_fine, decl_at, with_file, file_act, open_one, close_one, found_in, taken_world, take_on, take_one, undefined_if, written_world, write_on, write_one}
+use Rattle.cob_runs.specs.Acts.{is_fine, decl_at, with_file, file_act, open_one, close_one, take_on, take_one, undefined_if, written_world, write_on, write_one}
 use Rattle.cob_interp.specs.Told.{seen_file, seen_files, seen, IsSynced, AreSynced, AreDistinct, AgreeBut, IsReadyToOpen, IsReadyToClose}
 use Rattle.cob_interp.proofs.SeenFiles.{SeenAt, seen_at, seen_set, synced_set}
-use Rattle.cob_interp.proofs.OneFile.{FileFollows, ReadFollows, read_follows, write_follows, open_follows, close_follows}
+use Rattle.cob_interp.proofs.OneFile.{FileFollows, read_follows, write_follows, open_follows, close_follows}
 
 -- a call's outcome on the world as it is seen, beside that on the world as it is kept
 pub record CallFollows (now : Contents) (paths : List (List ℕ)) (text : List ℕ) (kept seen_ : World × ℕ) : Type 0 where

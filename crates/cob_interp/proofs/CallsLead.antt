@@ -1,7 +1,6 @@
 -- What comes of an edge that calls a file, behind which the outside's files may be others.
-use Rattle.std.proofs.Common.{◌≡◌, ℕ, ◌≤◌, ◌<◌, zero, suc, Bool, true, false, not, if◌then◌else◌, List, [], ◌∷◌, ◌⊎◌, inl, inr, Option, Some, None, Result, Ok, Err, refl, sym, ap, subst, ◌∙◌, arith}
+use Rattle.std.proofs.Common.{◌≡◌, ℕ, zero, suc, Bool, true, false, not, List, [], ◌∷◌, ◌⊎◌, inl, inr, Some, None, Err, refl, sym, ap, subst, ◌∙◌, arith}
 use Rattle.std.specs.Prelude.{Contains, slice_get}
-use Rattle.std.specs.FinMap.{get}
 use Rattle.batch_io.specs.FilesState.{Contents}
 use Rattle.cob_tree.specs.declared.fault.Kind.{Kind}
 use Rattle.cob_program.specs.declared.act.Opening.{Opening}
@@ -10,10 +9,10 @@ use Rattle.cob_runs.specs.declared.action.Action.{Action}
 use Rattle.cob_runs.specs.declared.action.Action.TheVariants as action
 use Rattle.cob_runs.specs.State.{World}
 use Rattle.cob_runs.specs.Acts.{is_fine, open_one, close_one}
-use Rattle.cob_runs.specs.Effects.{Effect, effect, effect_of, status, status_of, status_in, is_handled, act_at, by_status, taken_if, opened, closed}
+use Rattle.cob_runs.specs.Effects.{effect, effect_of, status, status_of, status_in, act_at, by_status, taken_if, opened, closed}
 use Rattle.cob_plan.specs.declared.spot.Op.TheVariants as op
 use Rattle.cob_plan.specs.Plan.{op_edges}
-use Rattle.cob_interp.specs.Told.{seen, AreSynced, AreDistinct, AgreeBut, KeepsNames}
+use Rattle.cob_interp.specs.Told.{seen, AgreeBut, KeepsNames}
 use Rattle.cob_interp.proofs.SeenFiles.{contains_at}
 use Rattle.cob_interp.proofs.Calls.{CallFollows}
 use Rattle.cob_interp.proofs.Following.{Follows, by_status_follows}

@@ -1,14 +1,14 @@
 -- What comes of a CLOSE, and of a refusal.
-use Rattle.std.proofs.Common.{◌≡◌, ℕ, ◌≤◌, ◌<◌, true, false, List, [], ◌∷◌, ◌⊎◌, inl, inr, Option, Some, None, Result, Ok, Err, refl, sym, ap, subst, ◌∙◌, min, ◌+◌, ◌-◌, ◌^◌}
+use Rattle.std.proofs.Common.{◌≡◌, ℕ, true, false, List, inl, Option, Some, None, Result, Ok, Err, sym, ap, subst, ◌∙◌}
 use Rattle.std.specs.Prelude.{Contains, slice_get}
 use Rattle.batch_io.specs.Faults.{Rose}
-use Rattle.batch_io.specs.FilesState.{Contents, FilesState, known_bytes}
+use Rattle.batch_io.specs.FilesState.{Contents, FilesState}
 use Rattle.batch_io.specs.SinkState.{SinkState}
 use Rattle.cob_plan.specs.declared.spot.Op.{Op}
 use Rattle.cob_plan.specs.declared.spot.Op.TheVariants as op
 use Rattle.cob_plan.specs.declared.end.DoEnd.{DoEnd}
 use Rattle.cob_plan.specs.declared.end.DoEnd.TheVariants as does
-use Rattle.cob_plan.specs.Plan.{IsSpot, IsStatement, op_edges}
+use Rattle.cob_plan.specs.Plan.{op_edges}
 use Rattle.cob_plan.specs.Doing.{Does}
 use Rattle.cob_program.specs.Act.{close_files}
 use Rattle.cob_program.specs.ActView.{plain_act}
@@ -20,8 +20,8 @@ use Rattle.cob_interp.specs.declared.ends.RunEnd.{RunEnd}
 use Rattle.cob_interp.specs.declared.ends.RunEnd.TheVariants as end
 use Rattle.cob_interp.specs.declared.setting.Setting.{Setting}
 use Rattle.cob_interp.specs.declared.setting.Place.{Place}
-use Rattle.cob_interp.specs.Told.{seen, seen_files, AreSynced, IsSynced, AreDistinct, AgreeBut, IsReadyToClose}
-use Rattle.cob_interp.specs.Running.{Outside, outside, IsWell, Stands, IsUnderway, Halts, Arrives, StandsIn, RestsIn}
+use Rattle.cob_interp.specs.Told.{seen_files, AreSynced, IsSynced, AreDistinct, AgreeBut, IsReadyToClose}
+use Rattle.cob_interp.specs.Running.{Outside, outside, IsWell, Halts, StandsIn, RestsIn}
 use Rattle.cob_interp.specs.Setting.{program_of, paths_of, IsPlace}
 use Rattle.cob_interp.specs.Readying.{IsRefusal, ReadyToClose}
 use Rattle.cob_interp.specs.Doing.{answered, Leads, DoesPart}

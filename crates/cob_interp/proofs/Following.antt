@@ -1,13 +1,11 @@
 -- What an edge does to the world as the run sees it, beside what it does to the world as it is kept.
-use Rattle.std.proofs.Common.{◌≡◌, ℕ, ◌==◌, ◌&&◌, Bool, true, false, not, if◌then◌else◌, List, [], ◌∷◌, ◌++◌, Option, Some, None, Result, Ok, Err, ℤ, pos, ◌-ℤ◌, refl, sym, ap, subst, ◌∙◌, append_assoc}
+use Rattle.std.proofs.Common.{◌≡◌, ℕ, ◌==◌, ◌&&◌, Bool, true, false, not, if◌then◌else◌, List, [], ◌∷◌, Option, Some, None, Result, Ok, Err, ℤ, pos, ◌-ℤ◌, refl, ap, append_assoc}
 use Rattle.std.specs.Prelude.{slice_get}
 use Rattle.std.specs.Option.{option_map_or}
 use Rattle.batch_io.specs.FilesState.{Contents}
 use Rattle.cob_tree.specs.declared.fault.Kind.{Kind}
 use Rattle.cob_tree.specs.declared.fault.Kind.TheVariants as kind
 use Rattle.cob_data.specs.declared.layout.Sender.{Sender}
-use Rattle.cob_data.specs.declared.layout.FileDecl.{FileDecl}
-use Rattle.cob_program.specs.declared.act.Opening.{Opening}
 use Rattle.cob_program.specs.Logic.{Test}
 use Rattle.cob_program.specs.Act.{Turns, once, times, until, varying, Act, arith, if_, evaluate, perform, go, nothing, stop, open_files, close_files, read, write, Body, Program}
 use Rattle.cob_program.specs.Act as act
@@ -23,11 +21,10 @@ use Rattle.dec_num.specs.Scaled.{value_of}
 use Rattle.cob_program.specs.Values.{plus}
 use Rattle.cob_runs.specs.Deciding.{test_holds}
 use Rattle.cob_runs.specs.Showing.{line_of}
-use Rattle.cob_runs.specs.Files.{File, Choice}
-use Rattle.cob_runs.specs.State.{World, with_storage, with_counts, with_shown}
-use Rattle.cob_runs.specs.Acts.{augment, is_fine, count_of, with_count, count_down, take_one, write_one, into_if, file_from, open_one, close_one}
+use Rattle.cob_runs.specs.State.{World, with_storage}
+use Rattle.cob_runs.specs.Acts.{augment, is_fine, count_of, with_count, write_one, into_if, file_from}
 use Rattle.cob_runs.specs.Steps.{is_left, is_given}
-use Rattle.cob_runs.specs.Effects.{Effect, computed, tested, decided, counted, taken, not_taken, taken_if, met, effect_of, by_status, ended_with, bad_read, tests_in_act, status_of, status_in, status_by, shown, wrote, file_call, read_with}
+use Rattle.cob_runs.specs.Effects.{Effect, computed, tested, decided, counted, taken, taken_if, met, effect_of, by_status, ended_with, bad_read, tests_in_act, status_of, status_in, status_by, shown, wrote, file_call, read_with}
 use Rattle.cob_interp.specs.Doing.{IsPlain}
 use Rattle.cob_interp.specs.Told.{seen, seen_files, AreSynced, AreDistinct}
 use Rattle.cob_interp.proofs.Calls.{CallFollows, take_one_follows, write_one_follows}

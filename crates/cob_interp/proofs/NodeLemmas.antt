@@ -1,14 +1,9 @@
 -- What doing the part of a node comes to.
-use Rattle.std.proofs.Common.{◌≡◌, ℕ, ◌≤◌, true, false, List, Option, Some, None, Result, Ok, Err, refl, sym, ap, subst, ◌∙◌}
-use Rattle.std.specs.Prelude.{Contains}
-use Rattle.batch_io.specs.FilesState.{Contents}
-use Rattle.cob_tree.specs.declared.fault.Kind.{Kind}
+use Rattle.std.proofs.Common.{◌≡◌, ℕ, true, false, Some, None, Result, Ok, Err, sym, ap, subst, ◌∙◌}
 use Rattle.cob_plan.specs.declared.end.DoEnd.{DoEnd}
 use Rattle.cob_plan.specs.declared.end.DoEnd.TheVariants as does
-use Rattle.cob_plan.specs.Plan.{IsSpot, IsStatement}
-use Rattle.cob_plan.specs.Doing.{Does, GoesTo, MeetsFault, StopsBy}
+use Rattle.cob_plan.specs.Doing.{Does}
 use Rattle.cob_program.specs.ActView.{plain_act}
-use Rattle.cob_runs.specs.declared.action.Action.{Action}
 use Rattle.cob_runs.specs.State.{World}
 use Rattle.cob_runs.specs.Effects.{effect, status, is_handled, act_at}
 use Rattle.cob_interp.specs.declared.ends.RunEnd.{RunEnd}
@@ -16,9 +11,9 @@ use Rattle.cob_interp.specs.declared.ends.RunEnd.TheVariants as end
 use Rattle.cob_interp.specs.declared.setting.Setting.{Setting}
 use Rattle.cob_interp.specs.declared.setting.Place.{Place}
 use Rattle.cob_interp.specs.Told.{AreDistinct}
-use Rattle.cob_interp.specs.Running.{Outside, IsUnderway, RestsIn}
+use Rattle.cob_interp.specs.Running.{Outside, RestsIn}
 use Rattle.cob_interp.specs.Setting.{program_of, paths_of, IsPlace}
-use Rattle.cob_interp.specs.Doing.{IsPlain, answered, halted, Leads, DoesPart}
+use Rattle.cob_interp.specs.Doing.{IsPlain, answered, Leads, DoesPart}
 use Rattle.cob_interp.proofs.Passing.{stands_on, rests_on}
 use Rattle.cob_interp.proofs.Onward.{plain_goes, plain_faults, plain_stops}
 

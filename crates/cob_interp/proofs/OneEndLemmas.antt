@@ -1,25 +1,24 @@
 -- A run on told files has one end within a budget.
-use Rattle.std.proofs.Common.{◌≡◌, ◌≢◌, ◌<◌, ◌≤◌, ◌⊎◌, ℕ, zero, suc, ◌+◌, Bool, true, false, List, length, Option, Some, None, Result, Ok, Err, inl, inr, eqb-true, refl, sym, ap, subst, ◌∙◌, arith}
+use Rattle.std.proofs.Common.{◌≡◌, ◌≢◌, ◌<◌, ◌≤◌, ◌⊎◌, ℕ, zero, suc, ◌+◌, Bool, true, false, length, Option, Some, None, Result, Ok, Err, inl, inr, eqb-true, refl, sym, ap, subst, ◌∙◌, arith}
 use Rattle.std.specs.Prelude.{◌==◌, ◌&&◌, if◌then◌else◌, slice_get}
 use Rattle.std.specs.Option.{option_map_or}
 use Rattle.std.proofs.lemmas.Bool.{false≢true, eq-eqb}
 use Rattle.std.proofs.lemmas.Bool.{cases_order}
 use Rattle.std.proofs.lemmas.Bool.Decides.{eqb_tells}
-use Rattle.cob_data.specs.declared.layout.FileDecl.{FileDecl}
 use Rattle.cob_program.specs.Act.{Act, move, arith as arithmetic, if_, evaluate, perform, go, nothing, stop, open_files, close_files, read, write, show, Program}
 use Rattle.cob_meaning.specs.declared.straight.Outcome.{Outcome}
 use Rattle.cob_meaning.specs.declared.straight.Outcome.TheVariants.{Going, Fault, IoStop}
 use Rattle.cob_meaning.specs.declared.straight.Outcome.TheVariants as outcome
-use Rattle.cob_runs.specs.Files.{File, bytes_in}
+use Rattle.cob_runs.specs.Files.{bytes_in}
 use Rattle.cob_runs.specs.State.{World, State}
 use Rattle.cob_runs.specs.Steps.{step, step_in}
 use Rattle.cob_runs.specs.Effects.{act_at}
-use Rattle.cob_runs.specs.Runs.{Contents, run}
+use Rattle.cob_runs.specs.Runs.{Contents}
 use Rattle.cob_graph.specs.Walks.{next_statement}
 use Rattle.cob_interp.specs.declared.ends.Ended.{Ended}
 use Rattle.cob_interp.specs.declared.ends.RunEnd.{RunEnd}
 use Rattle.cob_interp.specs.declared.ends.RunEnd.TheVariants as end
-use Rattle.cob_interp.specs.Ends.{cut_by, cut_file, long_by, meets_cut, meets_too_long, file_limit, IsFree, state_after, AreFree, IsEnd}
+use Rattle.cob_interp.specs.Ends.{cut_by, long_by, file_limit, IsFree, state_after, AreFree, IsEnd}
 use Rattle.cob_interp.specs.OneEnd.{OneEnd}
 
 -- ---- the end that a state tells behind so many steps

@@ -1,26 +1,23 @@
 -- How the run goes on from a node, and how it ends there, where the outside's files stay as they are.
-use Rattle.std.proofs.Common.{◌≡◌, ℕ, suc, ◌+◌, ◌<◌, ◌≤◌, Bool, true, false, List, [], ◌∷◌, ◌++◌, Option, Some, None, Result, Ok, Err, refl, sym, ap, subst, ◌∙◌, below_more, arith}
-use Rattle.std.specs.Prelude.{Contains, slice_get}
+use Rattle.std.proofs.Common.{◌≡◌, ℕ, ◌+◌, ◌<◌, ◌≤◌, true, false, List, [], ◌++◌, Option, Some, None, Ok, Err, refl, sym, ap, subst, ◌∙◌, below_more}
+use Rattle.std.specs.Prelude.{Contains}
 use Rattle.std.specs.Option.{option_map_or}
 use Rattle.batch_io.specs.FilesState.{Contents}
 use Rattle.cob_tree.specs.declared.fault.Kind.{Kind}
-use Rattle.cob_meaning.specs.declared.straight.Outcome.{Outcome}
 use Rattle.cob_meaning.specs.declared.straight.Outcome.TheVariants.{Going, Fault, IoStop}
-use Rattle.cob_meaning.specs.declared.straight.Outcome.TheVariants as outcome
 use Rattle.cob_program.specs.Act.{Act, Program}
 use Rattle.cob_runs.specs.declared.action.Action.{Action}
 use Rattle.cob_runs.specs.State.{World}
 use Rattle.cob_runs.specs.Effects.{Effect, effect, effect_of, status, status_of, not_taken, is_handled, act_at}
 use Rattle.cob_graph.specs.declared.graph.Graph.{Graph}
 use Rattle.cob_graph.specs.declared.graph.Node.{Node}
-use Rattle.cob_graph.specs.Walks.{node_at, edge, passed, onward, final_in, next_statement}
-use Rattle.cob_ways.specs.Telling.{Way, WaysTell, IsOverAfter, GoesOnAfter}
+use Rattle.cob_graph.specs.Walks.{node_at, edge, passed, onward, final_in}
+use Rattle.cob_ways.specs.Telling.{Way, IsOverAfter, GoesOnAfter}
 use Rattle.cob_interp.specs.declared.ends.Ended.{Ended}
-use Rattle.cob_interp.specs.declared.ends.RunEnd.{RunEnd}
 use Rattle.cob_interp.specs.declared.ends.RunEnd.TheVariants as end
 use Rattle.cob_interp.specs.Doing.{IsPlain}
 use Rattle.cob_interp.specs.Told.{seen, seen_files, AreSynced, AreDistinct, KeepsNames}
-use Rattle.cob_interp.specs.Ends.{told_files, meets_cut, meets_too_long, IsFree, AreFree, EndsAfter, IsEnd, IsStopped, IsCutAt, state_after}
+use Rattle.cob_interp.specs.Ends.{told_files, meets_cut, meets_too_long, IsFree, AreFree, IsCutAt, state_after}
 use Rattle.cob_interp.specs.Running.{StandsIn, RestsIn}
 use Rattle.cob_interp.proofs.Following.{Follows, plain_follows, plain_status}
 

@@ -1,12 +1,12 @@
 -- What comes of the outside's files where a file is to be opened.
-use Rattle.std.proofs.Common.{◌≡◌, ℕ, zero, suc, ◌≤◌, ◌<◌, Bool, true, false, not, ◌&&◌, List, [], ◌∷◌, ◌++◌, length, ◌⊎◌, inl, inr, Option, Some, None, refl, sym, ap, subst, ◌∙◌, arith}
-use Rattle.std.specs.Prelude.{slice_get, slice_set, nat_lt, IfSome, IsSomeAnd}
+use Rattle.std.proofs.Common.{◌≡◌, ℕ, zero, suc, ◌<◌, Bool, true, false, not, ◌&&◌, List, [], ◌∷◌, ◌++◌, length, Option, Some, None, refl, sym, ap, subst, ◌∙◌, arith}
+use Rattle.std.specs.Prelude.{slice_get, slice_set, nat_lt, IsSomeAnd}
 use Rattle.std.specs.Option.{option_map, option_map_or}
 use Rattle.std.specs.FinMap.{get}
 use Rattle.std.proofs.lemmas.Bool.Decides.{nat_tests}
-use Rattle.batch_io.specs.FilesState.{Contents, FilesState, known_bytes}
+use Rattle.batch_io.specs.FilesState.{Contents, FilesState}
 use Rattle.cob_program.specs.declared.act.Opening.{Opening}
-use Rattle.cob_runs.specs.Files.{File, file, Mode, closed, reading, writing, bytes_in}
+use Rattle.cob_runs.specs.Files.{File, file, Mode, closed, reading, writing}
 use Rattle.cob_runs.specs.State.{World, with_files}
 use Rattle.cob_world.specs.declared.files.FileMode.{FileMode}
 use Rattle.cob_world.specs.declared.files.FileMode.TheVariants as mode
@@ -15,10 +15,10 @@ use Rattle.cob_world.specs.Calling.{refilled, refilled_on}
 use Rattle.cob_interp.specs.declared.ends.RunEnd.{RunEnd}
 use Rattle.cob_interp.specs.declared.ends.RunEnd.TheVariants as end
 use Rattle.cob_interp.specs.declared.setting.Setting.{Setting}
-use Rattle.cob_interp.specs.Told.{seen, seen_in, seen_file, seen_files, IsSyncedIn, AreSynced, IsReadyToOpenIn, IsReadyToOpen}
+use Rattle.cob_interp.specs.Told.{seen, seen_file, seen_files, IsSyncedIn, AreSynced, IsReadyToOpenIn}
 use Rattle.cob_interp.specs.Ends.{file_limit, is_closed, is_long, file_is_long}
 use Rattle.cob_interp.specs.Setting.{program_of, paths_of}
-use Rattle.cob_interp.specs.Readying.{Puts, Reads, IsShort, IsPath, LoadsInto, ReadyToOpen, IsLongNamed, IsLongHere, IsRefusedToLoad, IsRefusedToOpen}
+use Rattle.cob_interp.specs.Readying.{Puts, IsShort, IsPath, LoadsInto, ReadyToOpen, IsLongNamed, IsLongHere, IsRefusedToLoad, IsRefusedToOpen}
 use Rattle.cob_interp.proofs.SeenFiles.{SeenAt, seen_at}
 use Rattle.cob_interp.proofs.Passing.{ids_stay}
 

@@ -1,10 +1,9 @@
 -- What comes of an OPEN.
-use Rattle.std.proofs.Common.{◌≡◌, ℕ, ◌+◌, ◌≤◌, ◌<◌, true, false, List, [], ◌∷◌, ◌++◌, drop, ◌⊎◌, inl, inr, Option, Some, None, Result, Ok, Err, refl, sym, ap, subst, ◌∙◌, append-nil, arith}
+use Rattle.std.proofs.Common.{◌≡◌, ℕ, ◌+◌, ◌<◌, true, false, List, [], drop, Option, Some, None, Result, Ok, Err, refl, sym, ap, subst, ◌∙◌, append-nil, arith}
 use Rattle.std.specs.Prelude.{Contains, slice_get}
 use Rattle.std.specs.Option.{option_map_or}
 use Rattle.batch_io.specs.FilesState.{Contents, FilesState, known_bytes}
 use Rattle.batch_io.specs.SinkState.{SinkState}
-use Rattle.cob_meaning.specs.declared.straight.Outcome.TheVariants.{Going, IoStop}
 use Rattle.cob_plan.specs.declared.spot.Op.{Op}
 use Rattle.cob_plan.specs.declared.spot.Op.TheVariants as op
 use Rattle.cob_plan.specs.declared.end.DoEnd.{DoEnd}
@@ -19,17 +18,15 @@ use Rattle.cob_runs.specs.Effects.{effect, status, is_handled, act_at}
 use Rattle.cob_graph.specs.declared.graph.Graph.{Graph}
 use Rattle.cob_graph.specs.declared.graph.Node.{Node}
 use Rattle.cob_graph.specs.Walks.{node_at, passed, next_statement}
-use Rattle.cob_ways.specs.Telling.{GoesOnAfter}
-use Rattle.cob_interp.specs.declared.ends.Ended.{Ended}
 use Rattle.cob_interp.specs.declared.ends.RunEnd.{RunEnd}
 use Rattle.cob_interp.specs.declared.ends.RunEnd.TheVariants as end
 use Rattle.cob_interp.specs.declared.setting.Setting.{Setting}
 use Rattle.cob_interp.specs.declared.setting.Place.{Place}
 use Rattle.cob_interp.specs.Told.{seen, AreSynced, AreDistinct, AgreeBut, KeepsNames, IsReadyToOpen}
-use Rattle.cob_interp.specs.Ends.{told_files, file_is_long, meets_long, long_by, meets_cut, cut_by, meets_too_long, AreFree, IsFree, IsEnd, state_after}
-use Rattle.cob_interp.specs.Running.{Outside, outside, IsWell, IfTold, StandsIn, Stands, OpensIn, Opens, RestsIn, Rests, IsTooLong, ArrivesOpening}
+use Rattle.cob_interp.specs.Ends.{told_files, meets_long, long_by, cut_by, meets_too_long, AreFree, IsEnd, state_after}
+use Rattle.cob_interp.specs.Running.{Outside, outside, IsWell, IfTold, StandsIn, Stands, OpensIn, Opens, RestsIn, IsTooLong, ArrivesOpening}
 use Rattle.cob_interp.specs.Setting.{program_of, paths_of, IsPlace}
-use Rattle.cob_interp.specs.Readying.{Keeps, Readies, ReadyToOpen, IsLongHere, IsRefusal, IsRefusedToOpen}
+use Rattle.cob_interp.specs.Readying.{Readies, ReadyToOpen, IsRefusedToOpen}
 use Rattle.cob_interp.specs.Doing.{answered, DoesPart, IsOpenOf, LeadsOpening}
 use Rattle.cob_interp.proofs.Passing.{well_passes, readied_well}
 use Rattle.cob_interp.proofs.Calls.{open_one_follows}

@@ -1,5 +1,5 @@
 -- Whether an OPEN meets a file that's too long, where one file after the other is opened.
-use Rattle.std.proofs.Common.{◌≡◌, ℕ, zero, suc, ◌+◌, Bool, true, false, not, if◌then◌else◌, List, [], ◌∷◌, drop, ◌⊎◌, inl, inr, Option, Some, None, Result, Ok, Err, refl, sym, ap, subst, ◌∙◌, add-one}
+use Rattle.std.proofs.Common.{◌≡◌, ℕ, zero, suc, ◌+◌, Bool, true, false, not, List, [], ◌∷◌, drop, ◌⊎◌, inl, inr, Option, Some, None, Ok, refl, sym, ap, subst, ◌∙◌, add-one}
 use Rattle.std.specs.Prelude.{Contains, slice_get}
 use Rattle.std.specs.Option.{option_map, option_map_or}
 use Rattle.cob_meaning.specs.declared.straight.Outcome.{Outcome}
@@ -14,8 +14,8 @@ use Rattle.cob_runs.specs.State.{World}
 use Rattle.cob_runs.specs.Acts.{is_fine, has_status, open_one}
 use Rattle.cob_runs.specs.Steps.{outcome_of}
 use Rattle.cob_runs.specs.Effects.{effect, effect_of, by_status, taken_if, opened, is_handled, handled_in, handled_by, act_at}
-use Rattle.cob_interp.specs.Ends.{file_is_long, unless_over, meets_long}
-use Rattle.cob_interp.proofs.CallsLead.{one_of_two, open_effect}
+use Rattle.cob_interp.specs.Ends.{file_is_long, meets_long}
+use Rattle.cob_interp.proofs.CallsLead.{one_of_two}
 use Rattle.cob_interp.proofs.Onward.{effect_by_act}
 
 pub drop_at : (os : List Opening) (k : ℕ) (o : Opening) → slice_get os k ≡ Some o → drop k os ≡ o ∷ drop (k + 1) os

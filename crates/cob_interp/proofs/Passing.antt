@@ -1,8 +1,8 @@
 -- What stands goes on standing.
-use Rattle.std.proofs.Common.{◌≡◌, ℕ, List, [], ◌∷◌, ◌++◌, Option, Some, None, Result, refl, sym, ap, subst, ◌∙◌, append_assoc, append-nil}
-use Rattle.std.specs.Prelude.{IsSome, option_map}
+use Rattle.std.proofs.Common.{◌≡◌, ℕ, List, [], ◌++◌, Option, Some, None, Result, refl, sym, ap, subst, ◌∙◌, append_assoc, append-nil}
+use Rattle.std.specs.Prelude.{IsSome}
 use Rattle.std.specs.Io.KnownBytes.{append_known}
-use Rattle.batch_io.specs.FilesState.{Contents, FilesState, KeepsIds, known_bytes, known_handle}
+use Rattle.batch_io.specs.FilesState.{Contents, FilesState, KeepsIds, known_bytes}
 use Rattle.cob_program.specs.Act.{Program}
 use Rattle.cob_runs.specs.State.{World}
 use Rattle.cob_graph.specs.declared.graph.Graph.{Graph}
@@ -10,7 +10,7 @@ use Rattle.cob_interp.specs.declared.ends.Ended.{Ended}
 use Rattle.cob_interp.specs.declared.ends.RunEnd.{RunEnd}
 use Rattle.batch_io.specs.SinkState.{SinkState}
 use Rattle.cob_interp.specs.Told.{AgreeBut}
-use Rattle.cob_interp.specs.Readying.{AreWell, Keeps, Readies}
+use Rattle.cob_interp.specs.Readying.{AreWell, Readies}
 use Rattle.cob_interp.specs.Running.{outside, Outside, IsWell, StandsIn, StandsIf, Stands, RestsIn, RestsIf, Rests}
 
 pub ids_stay : (a : FilesState) → KeepsIds a a

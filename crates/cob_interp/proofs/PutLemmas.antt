@@ -1,8 +1,8 @@
 -- What is told where a file was put.
 use Rattle.std.proofs.Common.{◌≡◌, ℕ, Bool, List, Option, Some, ◌⊎◌, inl, inr, refl, sym, ap, subst, ◌∙◌}
 use Rattle.std.specs.Prelude.{option_map}
-use Rattle.std.specs.FinMap.{get, insert}
-use Rattle.batch_io.specs.FilesState.{Contents, FilesState, KeepsIds, known_bytes}
+use Rattle.std.specs.FinMap.{insert}
+use Rattle.batch_io.specs.FilesState.{Contents, FilesState, KeepsIds}
 use Rattle.batch_io.specs.Wholes.{Holds}
 use Rattle.cob_interp.specs.Readying.{Puts, Readies}
 use Rattle.cob_runs.specs.Files.{File, Mode, closed, reading, writing}

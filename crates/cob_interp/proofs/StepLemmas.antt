@@ -1,5 +1,5 @@
 -- How a step goes on.
-use Rattle.std.proofs.Common.{◌≡◌, ℕ, ◌+◌, false, true, Bool, Some, refl, ap, arith}
+use Rattle.std.proofs.Common.{◌≡◌, ℕ, false, Some, ap, arith}
 use Rattle.cob_graph.specs.declared.graph.Node.{Node}
 use Rattle.cob_graph.specs.Laid.{one_if}
 use Rattle.cob_graph.specs.Walks.{node_at, passed}

@@ -1,5 +1,5 @@
 -- What a step comes to from the node at which it begins.
-use Rattle.std.proofs.Common.{◌≡◌, ℕ, ◌+◌, ◌<◌, ◌≤◌, ◌==◌, ◌&&◌, Bool, true, false, List, Option, Some, None, Result, Ok, Err, refl, sym, ap, subst, ◌∙◌, arith}
+use Rattle.std.proofs.Common.{◌≡◌, ℕ, ◌+◌, ◌<◌, ◌==◌, ◌&&◌, Bool, true, false, List, Option, Some, Result, Err, refl, sym, ap, subst, ◌∙◌, arith}
 use Rattle.std.specs.Prelude.{slice_get, length}
 use Rattle.std.specs.Option.{option_map_or}
 use Rattle.std.proofs.lemmas.Bool.{eq-eqb}
@@ -18,9 +18,9 @@ use Rattle.cob_interp.specs.declared.parts.Call.TheVariants as call
 use Rattle.cob_interp.specs.declared.setting.Setting.{Setting}
 use Rattle.cob_interp.specs.declared.setting.Place.{Place}
 use Rattle.cob_interp.specs.Told.{seen}
-use Rattle.cob_interp.specs.Ends.{told_files, cut_file, cut_by, IsCutAt}
+use Rattle.cob_interp.specs.Ends.{cut_file, cut_by}
 use Rattle.cob_interp.specs.Running.{Outside, StandsIn, Stands, IsUnderway, Opens, RestsIn, Arrives}
-use Rattle.cob_interp.specs.Setting.{program_of, paths_of, IsPlace, StartsAt, IsCall}
+use Rattle.cob_interp.specs.Setting.{program_of, paths_of, StartsAt, IsCall}
 use Rattle.cob_interp.specs.Doing.{IsRaggedAt, Leads, LeadsOver}
 use Rattle.cob_interp.proofs.Passing.{rests_on}
 use Rattle.cob_interp.proofs.Onward.{is_ragged}

@@ -1,11 +1,11 @@
 -- How the outside's files are made ready for OPEN and CLOSE.
-use Rattle.std.specs.Prelude.{◌≡◌, ◌<◌, ◌+◌, ℕ, Bool, true, false, List, [], slice_get, Option, Some, IsSomeAnd, IfSome, length, ◌≤◌, Result, Ok, Err}
+use Rattle.std.specs.Prelude.{◌≡◌, ◌<◌, ◌+◌, ℕ, true, false, List, slice_get, Option, Some, IsSomeAnd, IfSome, length, ◌≤◌}
 use Rattle.std.specs.FinMap.{get}
 use Rattle.batch_io.specs.FilesState.{Contents, FilesState, KeepsIds, known_bytes}
 use Rattle.batch_io.specs.Faults.{Rose}
 use Rattle.cob_data.specs.declared.layout.FileDecl.{FileDecl}
 use Rattle.cob_program.specs.declared.act.Opening.{Opening}
-use Rattle.cob_runs.specs.Files.{File, Mode, closed, reading, writing}
+use Rattle.cob_runs.specs.Files.{File}
 use Rattle.cob_runs.specs.State.{World, with_files}
 use Rattle.cob_world.specs.Calling.{refilled}
 use Rattle.cob_runs.specs.Acts.{decl_at}

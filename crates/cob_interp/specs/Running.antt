@@ -1,5 +1,5 @@
 -- What a run does to the outside's files and sink.
-use Rattle.std.specs.Prelude.{◌≡◌, ◌≤◌, ◌<◌, ◌⊎◌, ℕ, ◌+◌, Bool, true, false, List, [], ◌∷◌, ◌++◌, take, length, map, slice_get, Contains, Option, Some, None, IfSome, Result, Ok, Err}
+use Rattle.std.specs.Prelude.{◌≡◌, ◌≤◌, ◌⊎◌, ℕ, ◌+◌, Bool, true, false, List, [], ◌++◌, take, slice_get, Option, Some, None, IfSome, Result, Ok, Err}
 use Rattle.std.specs.Option.{option_map_or}
 use Rattle.std.specs.Io.KnownBytes.{append_known}
 use Rattle.std.specs.FinMap.{get}
@@ -155,7 +155,8 @@ module _ (p : Program) (g : Graph) (paths : List (List ℕ)) where
 
     abbrev pub IsBroken : Outside → Outside → Type 0
     IsBroken start now =
-        IfTold (λ first told. BreaksOff first told start.sink now.sink) (known_bytes start.files) (known_bytes now.files)
+        IfTold (λ first told. BreaksOff first told start.sink now.sink) (known_bytes start.files)
+        (known_bytes now.files)
 
     -- a refusal by the outside, for want of memory, or of a file that's too long
     abbrev pub IfRefused : Result Ended RunEnd → Type 0 → Type 0

@@ -1,6 +1,6 @@
 -- How the world of a program's run stands in what the interpreter keeps: a world of its own, the outside's files, and
 -- the text that was already shown.
-use Rattle.std.specs.Prelude.{◌≡◌, ◌≢◌, ℕ, Bool, true, false, List, [], ◌∷◌, ◌++◌, length, map, slice_get, Contains, Option, Some, None}
+use Rattle.std.specs.Prelude.{◌≡◌, ◌≢◌, ℕ, Bool, true, false, List, [], ◌∷◌, ◌++◌, map, Contains, Option, Some}
 use Rattle.std.specs.FinMap.{get}
 use Rattle.batch_io.specs.FilesState.{Contents}
 use Rattle.cob_runs.specs.Files.{File, file, Mode, closed, reading, writing}

@@ -1,4 +1,3 @@
-use Rattle.cob_interp.specs.Setting.{program_of, paths_of}
 use Rattle.cob_interp.proofs.NodeLemmas.{plain_leads}
 use Rattle.cob_interp.proofs.nodes.do_plain.Goals as goal
 

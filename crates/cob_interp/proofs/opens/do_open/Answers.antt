@@ -1,4 +1,4 @@
-use Rattle.std.proofs.Common.{sym, ap, ◌∙◌}
+use Rattle.std.proofs.Common.{sym, ◌∙◌}
 use Rattle.std.proofs.lemmas.Result.{err_from_is_err_and}
 use Rattle.cob_interp.proofs.OpeningLemmas.{open_leads, open_of, refused_opening}
 use Rattle.std.proofs.Common.{◌≡◌, ℕ, [], ◌∷◌, Some, subst}

@@ -1,4 +1,4 @@
-use Rattle.std.proofs.Common.{◌∙◌, ◌+◌, List, drop, subst, arith}
+use Rattle.std.proofs.Common.{◌∙◌, ◌+◌, List, subst}
 use Rattle.std.proofs.lemmas.List.{drop_all}
 use Rattle.std.proofs.lemmas.Result.{err_from_is_err_and}
 use Rattle.cob_program.specs.declared.act.Opening.{Opening}

@@ -1,4 +1,4 @@
-use Rattle.std.proofs.Common.{refl, ap, sym, ◌∙◌}
+use Rattle.std.proofs.Common.{sym, ◌∙◌}
 use Rattle.std.proofs.lemmas.Result.{err_from_is_err_and}
 use Rattle.cob_interp.proofs.OpenLemmas.{has_file, output_ready, open_ready, loaded_ready, refused_load, is_closed_true, is_closed_false}
 use Rattle.std.proofs.Common.{[], ◌∷◌}
