@@ -1,11 +1,10 @@
 -- Statements by how they call files.
-use Rattle.std.proofs.Common.{◌≡◌, ℕ, List, sym, ap, refl}
+use Rattle.std.proofs.Common.{◌≡◌, ℕ, List, sym, ap}
 use Rattle.std.specs.Borrow.{Bor}
 use Rattle.cob_program.specs.declared.act.Opening.{Opening}
 use Rattle.cob_program.specs.Act.{Act, move, arith, if_, evaluate, perform, go, nothing, stop, open_files, close_files, read, write, show}
-use Rattle.cob_interp.specs.declared.parts.Call.{Call}
 use Rattle.cob_interp.specs.declared.parts.Call.TheVariants as call
-use Rattle.cob_interp.specs.Setting.{IsCall, IsOpen, IsClose, IsRead, IsOther}
+use Rattle.cob_interp.specs.Setting.{IsCall}
 use Rattle.cob_interp.specs.Doing.{IsPlain}
 
 module _ (os : Bor (List Opening)) where

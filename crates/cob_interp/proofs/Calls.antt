@@ -1,17 +1,17 @@
 -- What a call on a file does to the world as the run sees it.
-use Rattle.std.proofs.Common.{◌≡◌, ℕ, Bool, true, false, if◌then◌else◌, List, [], ◌∷◌, ◌++◌, Option, Some, None, refl, sym, ap, subst, ◌∙◌}
+use Rattle.std.proofs.Common.{◌≡◌, ℕ, Bool, true, false, List, Option, Some, None, refl, sym, ap, subst, ◌∙◌}
 use Rattle.std.specs.Prelude.{slice_get, slice_set}
 use Rattle.batch_io.specs.FilesState.{Contents}
 use Rattle.cob_data.specs.declared.layout.FileDecl.{FileDecl}
 use Rattle.cob_data.specs.declared.layout.Layout.{Layout}
 use Rattle.cob_program.specs.declared.act.Opening.{Opening}
 use Rattle.cob_runs.specs.Contents.{fitted, bytes_at}
-use Rattle.cob_runs.specs.Files.{File, file, Mode, closed, reading, writing, Taken, opened, after_close, after_read, after_write, with_status, record_in}
+use Rattle.cob_runs.specs.Files.{File, opened, after_close, after_read, after_write, with_status}
 use Rattle.cob_runs.specs.State.{World, with_storage, with_files}
-use Rattle.cob_runs.specs.Acts.{is_fine, decl_at, with_file, file_act, open_one, close_one, found_in, taken_world, take_on, take_one, undefined_if, written_world, write_on, write_one}
+use Rattle.cob_runs.specs.Acts.{is_fine, decl_at, with_file, file_act, open_one, close_one, take_on, take_one, undefined_if, written_world, write_on, write_one}
 use Rattle.cob_interp.specs.Told.{seen_file, seen_files, seen, IsSynced, AreSynced, AreDistinct, AgreeBut, IsReadyToOpen, IsReadyToClose}
 use Rattle.cob_interp.proofs.SeenFiles.{SeenAt, seen_at, seen_set, synced_set}
-use Rattle.cob_interp.proofs.OneFile.{FileFollows, ReadFollows, read_follows, write_follows, open_follows, close_follows}
+use Rattle.cob_interp.proofs.OneFile.{FileFollows, read_follows, write_follows, open_follows, close_follows}
 
 -- a call's outcome on the world as it is seen, beside that on the world as it is kept
 pub record CallFollows (now : Contents) (paths : List (List ℕ)) (text : List ℕ) (kept seen_ : World × ℕ) : Type 0 where
@@ -19,14 +19,18 @@ pub record CallFollows (now : Contents) (paths : List (List ℕ)) (text : List �
   pub world : seen_.0 ≡ seen now paths text kept.0
   pub synced : AreSynced now paths kept.0.files
 
-module _ (l : Layout) (told now : Contents) (paths : List (List ℕ)) (text : List ℕ) (apart : AreDistinct paths) (w : World)
+module _ (l : Layout) (told now : Contents) (paths : List (List ℕ)) (text : List ℕ) (apart : AreDistinct paths)
+    (w : World)
     (s : AreSynced told paths w.files) where
   -- the file at a place is new, and so is storage
-  changed : (place : ℕ) (path : List ℕ) (g h : File) (storage storage_ : List ℕ) (status status_ : ℕ) → AgreeBut told now path
+  changed : (place : ℕ) (path : List ℕ) (g h : File) (storage storage_ : List ℕ) (status status_ : ℕ)
+      → AgreeBut told now path
       → slice_get paths place ≡ Some path → h ≡ seen_file now path g → IsSynced now path g → storage_ ≡ storage
       → status_ ≡ status
-      → CallFollows now paths text (with_storage (with_files w (slice_set w.files place g)) storage, status)
-      (with_storage (with_files (seen told paths text w) (slice_set (seen_files told paths w.files) place h)) storage_, status_)
+      → CallFollows now paths text (with_storage (with_files w (slice_set w.files place g)) storage, status) (
+        with_storage (with_files (seen told paths text w) (slice_set (seen_files told paths w.files) place h)) storage_,
+        status_,
+      )
   changed place path g h storage storage_ status status_ but at file_ own stored same =
       let set = seen_set told now path but g paths w.files place apart s at in
       record {
@@ -46,7 +50,8 @@ module _ (l : Layout) (told now : Contents) (paths : List (List ℕ)) (text : Li
   file_called : (act : File → File × ℕ) (place : ℕ) (d : FileDecl) (f : File) (path : List ℕ) (o other : Option File)
       → AgreeBut told now path → slice_get paths place ≡ Some path
       → FileFollows now path (act f) (act (seen_file told path f)) → o ≡ Some f → SeenAt told paths place o other
-      → CallFollows now paths text (file_act l act place (Some d) o w) (file_act l act place (Some d) other (seen told paths text w))
+      → CallFollows now paths text (file_act l act place (Some d) o w) (file_act l act place (Some d) other
+      (seen told paths text w))
   file_called act place d f path None other but at follows is sees = cc
   file_called act place d f path (Some g) None but at follows is sees = cc
   file_called act place d f path (Some g) (Some h) but at follows is sees =
@@ -77,7 +82,8 @@ module _ (l : Layout) (told now : Contents) (paths : List (List ℕ)) (text : Li
       → IsReadyToClose told now path f → IsSynced told path f
       → CallFollows now paths text (close_one l place w) (close_one l place (seen told paths text w))
   close_one_follows place d f path but at declared is ready own =
-      act_follows after_close place d f path (decl_at l place) but at declared is (close_follows told now path f ready own)
+      act_follows after_close place d f path (decl_at l place) but at declared is
+      (close_follows told now path f ready own)
 
 -- ---- READ and WRITE, behind which the outside's files are as before
 
@@ -87,7 +93,8 @@ module _ (l : Layout) (told : Contents) (paths : List (List ℕ)) (text : List �
   unchanged = record { status = refl; world = refl; synced = s }
 
   read_on : (place : ℕ) (decl : Option FileDecl) (o other : Option File) → SeenAt told paths place o other
-      → CallFollows told paths text (take_on l None place decl o w) (take_on l None place decl other (seen told paths text w))
+      → CallFollows told paths text (take_on l None place decl o w) (take_on l None place decl other
+      (seen told paths text w))
   read_on place None o other sees = unchanged
   read_on place (Some d) None None sees = unchanged
   read_on place (Some d) None (Some h) sees = cc
@@ -95,7 +102,8 @@ module _ (l : Layout) (told : Contents) (paths : List (List ℕ)) (text : List �
   read_on place (Some d) (Some f) (Some h) sees =
       let h_is : h ≡ seen_file told sees.0 f = cc in
       let follows = read_follows told sees.0 d.length f sees.3 in
-      rw h_is (changed l told told paths text apart w s place sees.0 (after_read d.length f).file _ _ _ (after_read d.length f).status _
+      rw h_is (changed l told told paths text apart w s place sees.0 (after_read d.length f).file _ _ _
+      (after_read d.length f).status _
       (λ name e. refl) sees.1 follows.file follows.synced
       (rw (follows.found, follows.status) refl) follows.status)
 
@@ -111,12 +119,15 @@ module _ (l : Layout) (told : Contents) (paths : List (List ℕ)) (text : List �
       → CallFollows told paths text (written_world l None d kept) (written_world l None d seen_)
   wrote d kept seen_ follows = record {
     status = follows.status;
-    world = undefined_none (is_fine seen_.1) d seen_.0 ∙ follows.world ∙ ap (seen told paths text) (sym (undefined_none (is_fine kept.1) d kept.0));
-    synced = subst (λ (v : World). AreSynced told paths v.files) (sym (undefined_none (is_fine kept.1) d kept.0)) follows.synced;
+    world = undefined_none (is_fine seen_.1) d seen_.0 ∙ follows.world ∙ ap (seen told paths text)
+        (sym (undefined_none (is_fine kept.1) d kept.0));
+    synced = subst (λ (v : World). AreSynced told paths v.files) (sym (undefined_none (is_fine kept.1) d kept.0))
+        follows.synced;
   }
 
   wrote_on : (place rec_ : ℕ) (decl : Option FileDecl) (o other : Option File) → SeenAt told paths place o other
-      → CallFollows told paths text (write_on l None place rec_ decl o w) (write_on l None place rec_ decl other (seen told paths text w))
+      → CallFollows told paths text (write_on l None place rec_ decl o w) (write_on l None place rec_ decl other
+      (seen told paths text w))
   wrote_on place rec_ None o other sees = unchanged
   wrote_on place rec_ (Some d) None None sees = unchanged
   wrote_on place rec_ (Some d) None (Some h) sees = cc
@@ -129,5 +140,6 @@ module _ (l : Layout) (told : Contents) (paths : List (List ℕ)) (text : List �
       (λ name e. refl) sees.1 follows))
 
   pub write_one_follows : (place rec_ : ℕ)
-      → CallFollows told paths text (write_one l None place rec_ w) (write_one l None place rec_ (seen told paths text w))
+      → CallFollows told paths text (write_one l None place rec_ w) (write_one l None place rec_
+      (seen told paths text w))
   write_one_follows place rec_ = wrote_on place rec_ (decl_at l place) _ _ (seen_at told paths w.files place s)

@@ -1,13 +1,11 @@
 -- What an edge does to the world as the run sees it, beside what it does to the world as it is kept.
-use Rattle.std.proofs.Common.{◌≡◌, ℕ, ◌==◌, ◌&&◌, Bool, true, false, not, if◌then◌else◌, List, [], ◌∷◌, ◌++◌, Option, Some, None, Result, Ok, Err, ℤ, pos, ◌-ℤ◌, refl, sym, ap, subst, ◌∙◌, append_assoc}
+use Rattle.std.proofs.Common.{◌≡◌, ℕ, ◌==◌, ◌&&◌, Bool, true, false, not, if◌then◌else◌, List, [], ◌∷◌, Option, Some, None, Result, Ok, Err, ℤ, pos, ◌-ℤ◌, refl, ap, append_assoc}
 use Rattle.std.specs.Prelude.{slice_get}
 use Rattle.std.specs.Option.{option_map_or}
 use Rattle.batch_io.specs.FilesState.{Contents}
 use Rattle.cob_tree.specs.declared.fault.Kind.{Kind}
 use Rattle.cob_tree.specs.declared.fault.Kind.TheVariants as kind
 use Rattle.cob_data.specs.declared.layout.Sender.{Sender}
-use Rattle.cob_data.specs.declared.layout.FileDecl.{FileDecl}
-use Rattle.cob_program.specs.declared.act.Opening.{Opening}
 use Rattle.cob_program.specs.Logic.{Test}
 use Rattle.cob_program.specs.Act.{Turns, once, times, until, varying, Act, arith, if_, evaluate, perform, go, nothing, stop, open_files, close_files, read, write, Body, Program}
 use Rattle.cob_program.specs.Act as act
@@ -23,11 +21,10 @@ use Rattle.dec_num.specs.Scaled.{value_of}
 use Rattle.cob_program.specs.Values.{plus}
 use Rattle.cob_runs.specs.Deciding.{test_holds}
 use Rattle.cob_runs.specs.Showing.{line_of}
-use Rattle.cob_runs.specs.Files.{File, Choice}
-use Rattle.cob_runs.specs.State.{World, with_storage, with_counts, with_shown}
-use Rattle.cob_runs.specs.Acts.{augment, is_fine, count_of, with_count, count_down, take_one, write_one, into_if, file_from, open_one, close_one}
+use Rattle.cob_runs.specs.State.{World, with_storage}
+use Rattle.cob_runs.specs.Acts.{augment, is_fine, count_of, with_count, write_one, into_if, file_from}
 use Rattle.cob_runs.specs.Steps.{is_left, is_given}
-use Rattle.cob_runs.specs.Effects.{Effect, computed, tested, decided, counted, taken, not_taken, taken_if, met, effect_of, by_status, ended_with, bad_read, tests_in_act, status_of, status_in, status_by, shown, wrote, file_call, read_with}
+use Rattle.cob_runs.specs.Effects.{Effect, computed, tested, decided, counted, taken, taken_if, met, effect_of, by_status, ended_with, bad_read, tests_in_act, status_of, status_in, status_by, shown, wrote, file_call, read_with}
 use Rattle.cob_interp.specs.Doing.{IsPlain}
 use Rattle.cob_interp.specs.Told.{seen, seen_files, AreSynced, AreDistinct}
 use Rattle.cob_interp.proofs.Calls.{CallFollows, take_one_follows, write_one_follows}
@@ -51,16 +48,20 @@ module _ (now : Contents) (paths : List (List ℕ)) (text : List ℕ) where
 
   -- ---- a call on a file, by its status
 
-  module _ (p : Program) (number : ℕ) (w u : World) (kept seen_ : World × ℕ) (follows : CallFollows now paths text kept seen_)
+  module _ (p : Program) (number : ℕ) (w u : World) (kept seen_ : World × ℕ)
+      (follows : CallFollows now paths text kept seen_)
     where
-      by_test : (test : ℕ → Bool) → Follows now paths text (taken_if (test kept.1) kept.0) (taken_if (test seen_.1) seen_.0)
+      by_test : (test : ℕ → Bool) → Follows now paths text (taken_if (test kept.1) kept.0)
+          (taken_if (test seen_.1) seen_.0)
       by_test test = rw follows.status (taken_follows (test kept.1) kept.0 seen_.0 follows.world follows.synced)
 
-      pub by_status_follows : (fine : Bool) → Follows now paths text (by_status p number None w fine kept) (by_status p number None u fine seen_)
+      pub by_status_follows : (fine : Bool) → Follows now paths text (by_status p number None w fine kept)
+          (by_status p number None u fine seen_)
       by_status_follows true = by_test is_fine
       by_status_follows false = by_test (λ n. not (is_fine n))
 
-      ended_follows : (status : ℕ) → Follows now paths text (ended_with p number None w status kept) (ended_with p number None u status seen_)
+      ended_follows : (status : ℕ) → Follows now paths text (ended_with p number None w status kept)
+          (ended_with p number None u status seen_)
       ended_follows status = by_test (λ n. n == status)
 
       bad_read_follows : Follows now paths text (bad_read p number None w kept) (bad_read p number None u seen_)
@@ -68,7 +69,8 @@ module _ (now : Contents) (paths : List (List ℕ)) (text : List ℕ) where
 
 -- ---- statements but OPEN and CLOSE
 
-module _ (p : Program) (number : ℕ) (told : Contents) (paths : List (List ℕ)) (text : List ℕ) (apart : AreDistinct paths)
+module _ (p : Program) (number : ℕ) (told : Contents) (paths : List (List ℕ)) (text : List ℕ)
+    (apart : AreDistinct paths)
     (w : World) (s : AreSynced told paths w.files) where
   abbrev as_seen : World
   as_seen = seen told paths text w
@@ -77,12 +79,14 @@ module _ (p : Program) (number : ℕ) (told : Contents) (paths : List (List ℕ)
   FollowsBy a b = Follows told paths text (effect_of p number None w a b) (effect_of p number None as_seen a b)
 
   stored_follows : (r : Result (List ℕ) Kind)
-      → Follows told paths text (met (r >>= λ storage. Ok (with_storage w storage))) (met (r >>= λ storage. Ok (with_storage as_seen storage)))
+      → Follows told paths text (met (r >>= λ storage. Ok (with_storage w storage)))
+      (met (r >>= λ storage. Ok (with_storage as_seen storage)))
   stored_follows (Ok storage) = (refl, s)
   stored_follows (Err kind) = refl
 
   ended_storage : (r : Result (List ℕ) Kind) (put : List ℕ → List ℕ)
-      → Follows told paths text (met (r >>= λ bytes. Ok (with_storage w (put bytes)))) (met (r >>= λ bytes. Ok (with_storage as_seen (put bytes))))
+      → Follows told paths text (met (r >>= λ bytes. Ok (with_storage w (put bytes))))
+      (met (r >>= λ bytes. Ok (with_storage as_seen (put bytes))))
   ended_storage (Ok bytes) put = (refl, s)
   ended_storage (Err kind) put = refl
 
@@ -96,7 +100,8 @@ module _ (p : Program) (number : ℕ) (told : Contents) (paths : List (List ℕ)
   assigned_turns body (until after t) = refl
   assigned_turns body (varying after item start by t) = stored_follows (after_move p.layout w.storage start (item ∷ []))
 
-  into_follows : (f : ℕ) (into : Option ℕ) → Follows told paths text (taken (into_if p.layout f into w)) (taken (into_if p.layout f into as_seen))
+  into_follows : (f : ℕ) (into : Option ℕ) → Follows told paths text (taken (into_if p.layout f into w))
+      (taken (into_if p.layout f into as_seen))
   into_follows f None = (refl, s)
   into_follows f (Some place) = (refl, s)
 
@@ -129,21 +134,26 @@ module _ (p : Program) (number : ℕ) (told : Contents) (paths : List (List ℕ)
   computed_by failed (Err kind) = refl
 
   augmented_by : (r t : Result Scaled Kind) (item : ℕ) → Follows told paths text
-      (met (r >>= λ v. t >>= λ own. or_fault kind.Size (stored Trunc (form_at p.layout item) (value_of (plus own v))) >>= λ bytes.
+      (met (r >>= λ v. t >>= λ own. or_fault kind.Size (stored Trunc (form_at p.layout item) (value_of (plus own v)))
+      >>= λ bytes.
       Ok (with_storage w (filled_at p.layout w.storage item bytes))))
-      (met (r >>= λ v. t >>= λ own. or_fault kind.Size (stored Trunc (form_at p.layout item) (value_of (plus own v))) >>= λ bytes.
+      (met (r >>= λ v. t >>= λ own. or_fault kind.Size (stored Trunc (form_at p.layout item) (value_of (plus own v)))
+      >>= λ bytes.
       Ok (with_storage as_seen (filled_at p.layout w.storage item bytes))))
   augmented_by (Err kind) t item = refl
   augmented_by (Ok v) (Err kind) item = refl
   augmented_by (Ok v) (Ok own) item =
-      ended_storage (or_fault kind.Size (stored Trunc (form_at p.layout item) (value_of (plus own v)))) (filled_at p.layout w.storage item)
+      ended_storage (or_fault kind.Size (stored Trunc (form_at p.layout item) (value_of (plus own v))))
+      (filled_at p.layout w.storage item)
 
   augmented : (item : ℕ) (by : Sender)
       → Follows told paths text (met (augment p.layout item by w)) (met (augment p.layout item by as_seen))
-  augmented item by = augmented_by (or_fault kind.Class (number_of p.layout w.storage by)) (or_fault kind.Class (number_at p.layout w.storage item)) item
+  augmented item by = augmented_by (or_fault kind.Class (number_of p.layout w.storage by))
+      (or_fault kind.Class (number_at p.layout w.storage item)) item
 
   computed_turns : (failed : Bool) (body : Body) (turns : Turns) → Follows told paths text
-      (computed p number None w failed (perform body turns)) (computed p number None as_seen failed (perform body turns))
+      (computed p number None w failed (perform body turns)) (computed p number None as_seen failed
+      (perform body turns))
   computed_turns true body turns = refl
   computed_turns false body once = refl
   computed_turns false body (times x) = refl
@@ -175,19 +185,23 @@ module _ (p : Program) (number : ℕ) (told : Contents) (paths : List (List ℕ)
       (λ b. taken_follows told paths text (if wanted then b else not b) w as_seen refl s)
 
   tested_turns : (wanted : Bool) (k : ℕ) (body : Body) (turns : Turns) → Follows told paths text
-      (tested p number None w wanted k (perform body turns)) (tested p number None as_seen wanted k (perform body turns))
+      (tested p number None w wanted k (perform body turns)) (tested p number None as_seen wanted k
+      (perform body turns))
   tested_turns wanted k body (times x) =
-      taken_follows told paths text (if wanted then is_left p None (count_of p.layout number w) else not (is_left p None (count_of p.layout number w)))
+      taken_follows told paths text (if wanted then is_left p None (count_of p.layout number w) else not
+      (is_left p None (count_of p.layout number w)))
       w as_seen refl s
   tested_turns wanted k body once = decided_by wanted (slice_get (tests_in_act (perform body once)) k)
-  tested_turns wanted k body (until after t) = decided_by wanted (slice_get (tests_in_act (perform body (until after t))) k)
+  tested_turns wanted k body (until after t) = decided_by wanted
+      (slice_get (tests_in_act (perform body (until after t))) k)
   tested_turns wanted k body (varying after item start by t) =
       decided_by wanted (slice_get (tests_in_act (perform body (varying after item start by t))) k)
 
   tested_follows : (wanted : Bool) (k : ℕ) (b : Act) → Follows told paths text
       (tested p number None w wanted k b) (tested p number None as_seen wanted k b)
   tested_follows wanted k (perform body turns) = tested_turns wanted k body turns
-  tested_follows wanted k (arith sum targets remainder size fine) = decided_by wanted (slice_get (tests_in_act (arith sum targets remainder size fine)) k)
+  tested_follows wanted k (arith sum targets remainder size fine) = decided_by wanted
+      (slice_get (tests_in_act (arith sum targets remainder size fine)) k)
   tested_follows wanted k (act.move x places) = decided_by wanted (slice_get (tests_in_act (act.move x places)) k)
   tested_follows wanted k (if_ t held other) = decided_by wanted (slice_get (tests_in_act (if_ t held other)) k)
   tested_follows wanted k (evaluate ws other) = decided_by wanted (slice_get (tests_in_act (evaluate ws other)) k)
@@ -203,7 +217,8 @@ module _ (p : Program) (number : ℕ) (told : Contents) (paths : List (List ℕ)
   -- ---- TIMES
 
   counted_by : (r : Result Scaled Kind) → Follows told paths text
-      (met (r >>= λ n. Ok (with_count p.layout number n.units w))) (met (r >>= λ n. Ok (with_count p.layout number n.units as_seen)))
+      (met (r >>= λ n. Ok (with_count p.layout number n.units w)))
+      (met (r >>= λ n. Ok (with_count p.layout number n.units as_seen)))
   counted_by (Ok n) = (refl, s)
   counted_by (Err kind) = refl
 
@@ -239,7 +254,12 @@ module _ (p : Program) (number : ℕ) (told : Contents) (paths : List (List ℕ)
 
   shown_follows : (b : Act) → Follows told paths text (shown p number None w b) (shown p number None as_seen b)
   shown_follows (act.show xs) = (
-    ap (λ (t : List ℕ). taken (record { storage = w.storage; counts = w.counts; files = seen_files told paths w.files; shown = t }))
+    ap (λ (t : List ℕ). taken (record {
+      storage = w.storage;
+      counts = w.counts;
+      files = seen_files told paths w.files;
+      shown = t;
+    }))
         (append_assoc text w.shown (line_of p.layout w.storage xs)),
     s,
   )
@@ -262,7 +282,8 @@ module _ (p : Program) (number : ℕ) (told : Contents) (paths : List (List ℕ)
       (wrote p number None w fine r file) (wrote p number None as_seen fine r file)
   wrote_by fine r None = refl
   wrote_by fine r (Some f) =
-      by_status_follows told paths text p number w as_seen _ _ (write_one_follows p.layout told paths text apart w s f r) fine
+      by_status_follows told paths text p number w as_seen _ _ (write_one_follows p.layout told paths text apart w s f
+      r) fine
 
   call_follows : (fine : Bool) (k : ℕ) (b : Act) → IsPlain b → Follows told paths text
       (file_call p number None w fine k b) (file_call p number None as_seen fine k b)
@@ -283,7 +304,8 @@ module _ (p : Program) (number : ℕ) (told : Contents) (paths : List (List ℕ)
   read_with_follows : (status : ℕ) (b : Act) → Follows told paths text
       (read_with p number None w status b) (read_with p number None as_seen status b)
   read_with_follows status (read f into end fine) =
-      ended_follows told paths text p number w as_seen _ _ (take_one_follows p.layout told paths text apart w s f) status
+      ended_follows told paths text p number w as_seen _ _ (take_one_follows p.layout told paths text apart w s f)
+      status
   read_with_follows status (write r from) = refl
   read_with_follows status (open_files os) = refl
   read_with_follows status (close_files fs) = refl

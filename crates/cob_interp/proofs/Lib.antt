@@ -14,7 +14,13 @@ pub mod OpeningLemmas
 pub mod StepLemmas
 pub mod CallLemmas
 pub mod Beginnings
+pub mod Taking
 pub mod OneEndLemmas
 pub mod Touched
 pub mod Closings
 pub mod Unmade
+pub mod Breaking
+pub mod Flushing
+pub mod Putting
+pub mod Finishing
+pub mod Starting

@@ -1,14 +1,9 @@
 -- What doing the part of a node comes to.
-use Rattle.std.proofs.Common.{◌≡◌, ℕ, ◌≤◌, true, false, List, Option, Some, None, Result, Ok, Err, refl, sym, ap, subst, ◌∙◌}
-use Rattle.std.specs.Prelude.{Contains}
-use Rattle.batch_io.specs.FilesState.{Contents}
-use Rattle.cob_tree.specs.declared.fault.Kind.{Kind}
+use Rattle.std.proofs.Common.{◌≡◌, ℕ, true, false, Some, None, Result, Ok, Err, sym, ap, subst, ◌∙◌}
 use Rattle.cob_plan.specs.declared.end.DoEnd.{DoEnd}
 use Rattle.cob_plan.specs.declared.end.DoEnd.TheVariants as does
-use Rattle.cob_plan.specs.Plan.{IsSpot, IsStatement}
-use Rattle.cob_plan.specs.Doing.{Does, GoesTo, MeetsFault, StopsBy}
+use Rattle.cob_plan.specs.Doing.{Does}
 use Rattle.cob_program.specs.ActView.{plain_act}
-use Rattle.cob_runs.specs.declared.action.Action.{Action}
 use Rattle.cob_runs.specs.State.{World}
 use Rattle.cob_runs.specs.Effects.{effect, status, is_handled, act_at}
 use Rattle.cob_interp.specs.declared.ends.RunEnd.{RunEnd}
@@ -16,13 +11,14 @@ use Rattle.cob_interp.specs.declared.ends.RunEnd.TheVariants as end
 use Rattle.cob_interp.specs.declared.setting.Setting.{Setting}
 use Rattle.cob_interp.specs.declared.setting.Place.{Place}
 use Rattle.cob_interp.specs.Told.{AreDistinct}
-use Rattle.cob_interp.specs.Running.{Outside, IsUnderway, RestsIn}
+use Rattle.cob_interp.specs.Running.{Outside, RestsIn}
 use Rattle.cob_interp.specs.Setting.{program_of, paths_of, IsPlace}
-use Rattle.cob_interp.specs.Doing.{IsPlain, answered, halted, Leads, DoesPart}
+use Rattle.cob_interp.specs.Doing.{IsPlain, answered, Leads, DoesPart}
 use Rattle.cob_interp.proofs.Passing.{stands_on, rests_on}
 use Rattle.cob_interp.proofs.Onward.{plain_goes, plain_faults, plain_stops}
 
-module _ (s : Setting) (budget : ℕ) (x : Place) (step node : ℕ) (now : Outside) (w v : World) (apart : AreDistinct (paths_of s))
+module _ (s : Setting) (budget : ℕ) (x : Place) (step node : ℕ) (now : Outside) (w v : World)
+    (apart : AreDistinct (paths_of s))
     (is : IsPlace s node x) (plain : IsPlain (plain_act x.statement.now.act.now)) where
   own : x.statement.now.number ≡ is.spot.node.statement
   own = is.number ∙ is.spot.statement
@@ -34,7 +30,8 @@ module _ (s : Setting) (budget : ℕ) (x : Place) (step node : ℕ) (now : Outsi
       → Leads s budget step node now now w v (answered x.statement.now.number step outcome)
   leads_by (Ok to) done start within u =
       stands_on (program_of s) s.graph.now (paths_of s) start now w v u.left step node step step to
-      (λ first told text st. plain_goes (program_of s) s.graph.now (paths_of s) first told text apart w v u.left step node to is.spot.node
+      (λ first told text st. plain_goes (program_of s) s.graph.now (paths_of s) first told text apart w v u.left step
+      node to is.spot.node
       done.action (plain_act x.statement.now.act.now) st is.spot.stands (u.counts is.spot.node is.spot.stands) its plain
       (is.spot.edges done.action to done.out)
       (subst (λ (n : ℕ). effect (program_of s) n None w done.action ≡ Ok (Some v)) own done.does)
@@ -42,8 +39,10 @@ module _ (s : Setting) (budget : ℕ) (x : Place) (step node : ℕ) (now : Outsi
       u.stands
   leads_by (Err (does.Fault kind)) done start within u =
       rests_on (program_of s) s.graph.now (paths_of s) budget start now w v u.left step node _
-      (λ first told text st. subst (λ (n : ℕ). RestsIn (program_of s) s.graph.now (paths_of s) budget first told text v (Err (end.Fault kind n step))) (sym own)
-      (plain_faults (program_of s) s.graph.now (paths_of s) first told text apart w v u.left step node done.to is.spot.node
+      (λ first told text st. subst (λ (n : ℕ). RestsIn (program_of s) s.graph.now (paths_of s) budget first told text v
+      (Err (end.Fault kind n step))) (sym own)
+      (plain_faults (program_of s) s.graph.now (paths_of s) first told text apart w v u.left step node done.to
+      is.spot.node
       done.action (plain_act x.statement.now.act.now) st is.spot.stands (u.counts is.spot.node is.spot.stands) its plain
       (is.spot.edges done.action done.to done.out) budget within kind
       (subst (λ (n : ℕ). effect (program_of s) n None w done.action ≡ Err kind) own done.meets)
@@ -51,8 +50,10 @@ module _ (s : Setting) (budget : ℕ) (x : Place) (step node : ℕ) (now : Outsi
       u.stands
   leads_by (Err (does.Stop status_)) done start within u =
       rests_on (program_of s) s.graph.now (paths_of s) budget start now w v u.left step node _
-      (λ first told text st. subst (λ (n : ℕ). RestsIn (program_of s) s.graph.now (paths_of s) budget first told text v (Err (end.IoStop status_ n))) (sym own)
-      (plain_stops (program_of s) s.graph.now (paths_of s) first told text apart w v u.left step node done.to is.spot.node
+      (λ first told text st. subst (λ (n : ℕ). RestsIn (program_of s) s.graph.now (paths_of s) budget first told text v
+      (Err (end.IoStop status_ n))) (sym own)
+      (plain_stops (program_of s) s.graph.now (paths_of s) first told text apart w v u.left step node done.to
+      is.spot.node
       done.action (plain_act x.statement.now.act.now) st is.spot.stands (u.counts is.spot.node is.spot.stands) its plain
       (is.spot.edges done.action done.to done.out) budget within status_
       (subst (λ (n : ℕ). effect (program_of s) n None w done.action ≡ Ok (Some v)) own done.does)
@@ -61,5 +62,6 @@ module _ (s : Setting) (budget : ℕ) (x : Place) (step node : ℕ) (now : Outsi
       u.stands
   leads_by (Err does.Memory) done start within u = tt
 
-  pub plain_leads : (result : Result ℕ RunEnd) → DoesPart s x step w v result → Leads s budget step node now now w v result
+  pub plain_leads : (result : Result ℕ RunEnd) → DoesPart s x step w v result
+      → Leads s budget step node now now w v result
   plain_leads result d = subst (Leads s budget step node now now w v) (sym d.told) (leads_by d.outcome d.does)

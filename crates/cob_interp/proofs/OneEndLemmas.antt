@@ -1,25 +1,24 @@
 -- A run on told files has one end within a budget.
-use Rattle.std.proofs.Common.{◌≡◌, ◌≢◌, ◌<◌, ◌≤◌, ◌⊎◌, ℕ, zero, suc, ◌+◌, Bool, true, false, List, length, Option, Some, None, Result, Ok, Err, inl, inr, eqb-true, refl, sym, ap, subst, ◌∙◌, arith}
+use Rattle.std.proofs.Common.{◌≡◌, ◌≢◌, ◌<◌, ◌≤◌, ◌⊎◌, ℕ, zero, suc, ◌+◌, Bool, true, false, length, Option, Some, None, Result, Ok, Err, inl, inr, eqb-true, refl, sym, ap, subst, ◌∙◌, arith}
 use Rattle.std.specs.Prelude.{◌==◌, ◌&&◌, if◌then◌else◌, slice_get}
 use Rattle.std.specs.Option.{option_map_or}
 use Rattle.std.proofs.lemmas.Bool.{false≢true, eq-eqb}
 use Rattle.std.proofs.lemmas.Bool.{cases_order}
 use Rattle.std.proofs.lemmas.Bool.Decides.{eqb_tells}
-use Rattle.cob_data.specs.declared.layout.FileDecl.{FileDecl}
 use Rattle.cob_program.specs.Act.{Act, move, arith as arithmetic, if_, evaluate, perform, go, nothing, stop, open_files, close_files, read, write, show, Program}
 use Rattle.cob_meaning.specs.declared.straight.Outcome.{Outcome}
 use Rattle.cob_meaning.specs.declared.straight.Outcome.TheVariants.{Going, Fault, IoStop}
 use Rattle.cob_meaning.specs.declared.straight.Outcome.TheVariants as outcome
-use Rattle.cob_runs.specs.Files.{File, bytes_in}
+use Rattle.cob_runs.specs.Files.{bytes_in}
 use Rattle.cob_runs.specs.State.{World, State}
 use Rattle.cob_runs.specs.Steps.{step, step_in}
 use Rattle.cob_runs.specs.Effects.{act_at}
-use Rattle.cob_runs.specs.Runs.{Contents, run}
+use Rattle.cob_runs.specs.Runs.{Contents}
 use Rattle.cob_graph.specs.Walks.{next_statement}
 use Rattle.cob_interp.specs.declared.ends.Ended.{Ended}
 use Rattle.cob_interp.specs.declared.ends.RunEnd.{RunEnd}
 use Rattle.cob_interp.specs.declared.ends.RunEnd.TheVariants as end
-use Rattle.cob_interp.specs.Ends.{cut_by, cut_file, long_by, meets_cut, meets_too_long, file_limit, IsFree, state_after, AreFree, IsEnd}
+use Rattle.cob_interp.specs.Ends.{cut_by, long_by, file_limit, IsFree, state_after, AreFree, IsEnd}
 use Rattle.cob_interp.specs.OneEnd.{OneEnd}
 
 -- ---- the end that a state tells behind so many steps
@@ -58,7 +57,8 @@ module _ (p : Program) (contents : Contents) (budget : ℕ) where
   earlier : (n m : ℕ) → n ≤ m → (state_after p contents m).outcome ≡ Going → (state_after p contents n).outcome ≡ Going
   earlier n zero l e =
       let f : 0 ≡ n = omega (arith, l) in subst (λ (i : ℕ). (state_after p contents i).outcome ≡ Going) f e
-  earlier n (suc m) l e = by (λ k. earlier n m k (let s = state_after p contents m in went_on s.outcome s refl e)) (cases_order n (suc m))
+  earlier n (suc m) l e = by (λ k. earlier n m k (let s = state_after p contents m in went_on s.outcome s refl e))
+      (cases_order n (suc m))
     where
       by : (n ≤ m → (state_after p contents n).outcome ≡ Going) → (n ≡ suc m) ⊎ ((n < suc m) ⊎ (suc m < n)) →
           (state_after p contents n).outcome ≡ Going
@@ -69,19 +69,31 @@ module _ (p : Program) (contents : Contents) (budget : ℕ) where
   -- ---- where an end stands
 
   -- the run is over, or goes on and is at its budget or not free
-  record Stands (n : ℕ) : Type 0 where
-    within : n ≤ budget
-    before : (m : ℕ) → m < n → (state_after p contents m).outcome ≡ Going
-    free : AreFree p contents n
-    stops : (state_after p contents n).outcome ≡ Going → IsFree p (state_after p contents n) → n ≡ budget
+  pub record Stands (n : ℕ) : Type 0 where
+    pub within : n ≤ budget
+    pub before : (m : ℕ) → m < n → (state_after p contents m).outcome ≡ Going
+    pub free : AreFree p contents n
+    pub stops : (state_after p contents n).outcome ≡ Going → IsFree p (state_after p contents n) → n ≡ budget
 
   cut_unfree : (b : Bool) → b ≡ true → b ≡ false → ⊥
   cut_unfree b e f = false≢true (sym f ∙ e)
 
-  stands : (a : Result Ended RunEnd) (n : ℕ) → IsEnd p contents budget a n → Stands n
-  stands (Ok e) n x = let y = x.1 in record { within = y.within; before = y.before; free = y.free; stops = λ g f. absurd (cc) }
-  stands (Err (end.IoStop status statement)) n y = record { within = y.within; before = y.before; free = y.free; stops = λ g f. absurd (cc) }
-  stands (Err (end.Fault kind statement step)) n x = let y = x.1 in record { within = y.within; before = y.before; free = y.free; stops = λ g f. absurd (cc) }
+  pub stands : (a : Result Ended RunEnd) (n : ℕ) → IsEnd p contents budget a n → Stands n
+  stands (Ok e) n x = let y = x.1 in record {
+    within = y.within;
+    before = y.before;
+    free = y.free;
+    stops = λ g f. absurd
+        (cc);
+  }
+  stands (Err (end.IoStop status statement)) n y = record {
+    within = y.within;
+    before = y.before;
+    free = y.free;
+    stops = λ g f. absurd (cc);
+  }
+  stands (Err (end.Fault kind statement step)) n x = let y = x.1 in
+      record { within = y.within; before = y.before; free = y.free; stops = λ g f. absurd (cc) }
   stands (Err (end.StepsSpent count)) n x =
       let e = x.1.0 in record {
         within = omega (arith, e);
@@ -128,7 +140,8 @@ module _ (p : Program) (contents : Contents) (budget : ℕ) where
 
   spent : (n : ℕ) (s : State) → n ≡ budget → Err (end.StepsSpent budget) ≡ going_end n s
   spent n s e = sym (ap (λ b. if b then Err (end.StepsSpent budget)
-      else option_map_or (act_end s.world) (act_at p (next_statement p s.control)) (Err end.Memory)) (eq-eqb n budget e))
+      else option_map_or (act_end s.world) (act_at p (next_statement p s.control)) (Err end.Memory))
+      (eq-eqb n budget e))
 
   stopped : (n : ℕ) (s : State) (r : Result Ended RunEnd) → n < budget →
       option_map_or (act_end s.world) (act_at p (next_statement p s.control)) (Err end.Memory) ≡ r → r ≡ going_end n s
@@ -143,8 +156,10 @@ module _ (p : Program) (contents : Contents) (budget : ℕ) where
   both true b e = refl
   both false b e = e
 
-  cut_act : (w : World) (file : ℕ) (a : Act) → cut_by p a w file ≡ true → act_end w a ≡ Err (end.Ragged file (size_in w file))
-  cut_act w file (read f into at_end fine) e = ap (λ (i : ℕ). Err (end.Ragged i (size_in w i))) (eqb-true f file (both _ _ e))
+  cut_act : (w : World) (file : ℕ) (a : Act) → cut_by p a w file ≡ true → act_end w a ≡ Err (end.Ragged file
+      (size_in w file))
+  cut_act w file (read f into at_end fine) e = ap (λ (i : ℕ). Err (end.Ragged i (size_in w i)))
+      (eqb-true f file (both _ _ e))
   cut_act w file (move x places) e = absurd (false≢true e)
   cut_act w file (arithmetic s targets remainder size fine) e = absurd (false≢true e)
   cut_act w file (if_ t held other) e = absurd (false≢true e)
@@ -163,7 +178,8 @@ module _ (p : Program) (contents : Contents) (budget : ℕ) where
   cut_at w file None e = absurd (false≢true e)
   cut_at w file (Some a) e = cut_act w file a e
 
-  long_act : (w : World) (statement : ℕ) (a : Act) → long_by p statement a w ≡ true → act_end w a ≡ Err (end.Long (file_limit + 1))
+  long_act : (w : World) (statement : ℕ) (a : Act) → long_by p statement a w ≡ true → act_end w a ≡ Err (end.Long
+      (file_limit + 1))
   long_act w statement (open_files os) e = refl
   long_act w statement (read f into at_end fine) e = absurd (false≢true e)
   long_act w statement (move x places) e = absurd (false≢true e)
@@ -186,7 +202,8 @@ module _ (p : Program) (contents : Contents) (budget : ℕ) where
   is_end : (a : Result Ended RunEnd) (n : ℕ) → IsEnd p contents budget a n → a ≡ end_at n
   is_end (Ok e) n x =
       ap (λ (i : ℕ). Ok (record { steps = i })) x.0 ∙ is_over _ outcome.Ended n (state_after p contents n) x.1.outcome
-  is_end (Err (end.IoStop status statement)) n y = is_over _ (IoStop status statement) n (state_after p contents n) y.outcome
+  is_end (Err (end.IoStop status statement)) n y = is_over _ (IoStop status statement) n (state_after p contents n)
+      y.outcome
   is_end (Err (end.Fault kind statement step)) n x =
       ap (λ (i : ℕ). Err (end.Fault kind statement i)) x.0
       ∙ is_over _ (Fault kind statement) n (state_after p contents n) x.1.outcome
@@ -212,5 +229,6 @@ module _ (p : Program) (contents : Contents) (budget : ℕ) where
 pub one_end_holds : OneEnd
 one_end_holds p contents budget a b n m x y =
     is_end p contents budget a n x
-    ∙ ap (end_at p contents budget) (same_place p contents budget n m (stands p contents budget a n x) (stands p contents budget b m y))
+    ∙ ap (end_at p contents budget) (same_place p contents budget n m (stands p contents budget a n x)
+    (stands p contents budget b m y))
     ∙ sym (is_end p contents budget b m y)

@@ -1,6 +1,5 @@
 -- What a call on a file does to it as the run sees it.
-use Rattle.std.proofs.Common.{◌≡◌, ℕ, ◌+◌, Bool, true, false, if◌then◌else◌, List, [], ◌∷◌, ◌++◌, Option, Some, None, refl, sym, ap, subst, ◌∙◌}
-use Rattle.std.specs.Option.{option_map_or}
+use Rattle.std.proofs.Common.{◌≡◌, ℕ, Bool, true, false, List, [], ◌++◌, Option, Some, None, refl, sym, ap, ◌∙◌}
 use Rattle.std.specs.FinMap.{get}
 use Rattle.batch_io.specs.FilesState.{Contents}
 use Rattle.cob_runs.specs.Files.{File, file, Mode, closed, reading, writing, opened, opened_new, after_close, Taken, after_read, taken_from, record_at, after_write, bytes_in}
@@ -27,7 +26,8 @@ module _ (told : Contents) (path : List ℕ) where
   read_record size f (Some r) s = record { status = refl; found = refl; file = refl; synced = s }
 
   read_by_mode : (size : ℕ) (content : Option (List ℕ)) (m : Mode) (place : ℕ) → IsSyncedIn told m path content
-      → ReadFollows told path (after_read size (file content m place)) (after_read size (seen_file told path (file content m place)))
+      → ReadFollows told path (after_read size (file content m place))
+      (after_read size (seen_file told path (file content m place)))
   read_by_mode size content closed place s = record { status = refl; found = refl; file = refl; synced = s }
   read_by_mode size content (reading true) place s = record { status = refl; found = refl; file = refl; synced = s }
   read_by_mode size content (reading false) place s =
@@ -39,7 +39,8 @@ module _ (told : Contents) (path : List ℕ) where
   read_follows size f s = read_by_mode size f.content f.mode f.place s
 
   write_by_mode : (r : List ℕ) (content : Option (List ℕ)) (m : Mode) (place : ℕ) → IsSyncedIn told m path content
-      → FileFollows told path (after_write r (file content m place)) (after_write r (seen_file told path (file content m place)))
+      → FileFollows told path (after_write r (file content m place))
+      (after_write r (seen_file told path (file content m place)))
   write_by_mode r content closed place s = record { status = refl; file = refl; synced = s }
   write_by_mode r content (reading ended) place s = record { status = refl; file = refl; synced = s }
   write_by_mode r content writing place s =
@@ -60,9 +61,11 @@ module _ (told now : Contents) (path : List ℕ) where
   open_content (Some bytes) None e f = cc
   open_content (Some bytes) (Some bytes_) e f = record { status = refl; file = cc; synced = e }
 
-  open_by_mode : (output : Bool) (content : Option (List ℕ)) (m : Mode) (place : ℕ) → IsReadyToOpenIn told now path output m content
+  open_by_mode : (output : Bool) (content : Option (List ℕ)) (m : Mode) (place : ℕ)
+      → IsReadyToOpenIn told now path output m content
       → IsSyncedIn told m path content
-      → FileFollows now path (opened output (file content m place)) (opened output (seen_file told path (file content m place)))
+      → FileFollows now path (opened output (file content m place))
+      (opened output (seen_file told path (file content m place)))
   open_by_mode true content closed place ready s =
       record { status = refl; file = refl; synced = (ready, ([], refl)) }
   open_by_mode false content closed place ready s =
@@ -78,7 +81,8 @@ module _ (told now : Contents) (path : List ℕ) where
 
   close_by_mode : (content : Option (List ℕ)) (m : Mode) (place : ℕ) → IsReadyToCloseIn told now path m content
       → IsSyncedIn told m path content
-      → FileFollows now path (after_close (file content m place)) (after_close (seen_file told path (file content m place)))
+      → FileFollows now path (after_close (file content m place))
+      (after_close (seen_file told path (file content m place)))
   close_by_mode content closed place ready s =
       record { status = refl; file = ap (λ (c : Option (List ℕ)). file c closed place) (sym ready); synced = tt }
   close_by_mode content (reading ended) place ready s =

@@ -1,26 +1,23 @@
 -- How the run goes on from a node, and how it ends there, where the outside's files stay as they are.
-use Rattle.std.proofs.Common.{◌≡◌, ℕ, suc, ◌+◌, ◌<◌, ◌≤◌, Bool, true, false, List, [], ◌∷◌, ◌++◌, Option, Some, None, Result, Ok, Err, refl, sym, ap, subst, ◌∙◌, below_more, arith}
-use Rattle.std.specs.Prelude.{Contains, slice_get}
+use Rattle.std.proofs.Common.{◌≡◌, ℕ, ◌+◌, ◌<◌, ◌≤◌, true, false, List, [], ◌++◌, Option, Some, None, Ok, Err, refl, sym, ap, subst, ◌∙◌, below_more}
+use Rattle.std.specs.Prelude.{Contains}
 use Rattle.std.specs.Option.{option_map_or}
 use Rattle.batch_io.specs.FilesState.{Contents}
 use Rattle.cob_tree.specs.declared.fault.Kind.{Kind}
-use Rattle.cob_meaning.specs.declared.straight.Outcome.{Outcome}
 use Rattle.cob_meaning.specs.declared.straight.Outcome.TheVariants.{Going, Fault, IoStop}
-use Rattle.cob_meaning.specs.declared.straight.Outcome.TheVariants as outcome
 use Rattle.cob_program.specs.Act.{Act, Program}
 use Rattle.cob_runs.specs.declared.action.Action.{Action}
 use Rattle.cob_runs.specs.State.{World}
 use Rattle.cob_runs.specs.Effects.{Effect, effect, effect_of, status, status_of, not_taken, is_handled, act_at}
 use Rattle.cob_graph.specs.declared.graph.Graph.{Graph}
 use Rattle.cob_graph.specs.declared.graph.Node.{Node}
-use Rattle.cob_graph.specs.Walks.{node_at, edge, passed, onward, final_in, next_statement}
-use Rattle.cob_ways.specs.Telling.{Way, WaysTell, IsOverAfter, GoesOnAfter}
+use Rattle.cob_graph.specs.Walks.{node_at, edge, passed, onward, final_in}
+use Rattle.cob_ways.specs.Telling.{Way, IsOverAfter, GoesOnAfter}
 use Rattle.cob_interp.specs.declared.ends.Ended.{Ended}
-use Rattle.cob_interp.specs.declared.ends.RunEnd.{RunEnd}
 use Rattle.cob_interp.specs.declared.ends.RunEnd.TheVariants as end
 use Rattle.cob_interp.specs.Doing.{IsPlain}
 use Rattle.cob_interp.specs.Told.{seen, seen_files, AreSynced, AreDistinct, KeepsNames}
-use Rattle.cob_interp.specs.Ends.{told_files, meets_cut, meets_too_long, IsFree, AreFree, EndsAfter, IsEnd, IsStopped, IsCutAt, state_after}
+use Rattle.cob_interp.specs.Ends.{told_files, meets_cut, meets_too_long, IsFree, AreFree, IsCutAt, state_after}
 use Rattle.cob_interp.specs.Running.{StandsIn, RestsIn}
 use Rattle.cob_interp.proofs.Following.{Follows, plain_follows, plain_status}
 
@@ -49,7 +46,8 @@ module _ (p : Program) where
       → status p number None w a ≡ status_of p number None w a b
   status_by_act number w a b its = ap (λ (o : Option Act). option_map_or (status_of p number None w a) o None) its
 
-pub one_more : (p : Program) (contents : List (Option (List ℕ))) (n : ℕ) → AreFree p contents n → IsFree p (state_after p contents n)
+pub one_more : (p : Program) (contents : List (Option (List ℕ))) (n : ℕ) → AreFree p contents n
+    → IsFree p (state_after p contents n)
     → AreFree p contents (n + 1)
 one_more p contents n free this = below_more (λ (m : ℕ). IsFree p (state_after p contents m)) n free this
 
@@ -57,7 +55,8 @@ one_more p contents n free this = below_more (λ (m : ℕ). IsFree p (state_afte
 
 module _ (p : Program) (g : Graph) (paths : List (List ℕ)) where
   -- The edge is taken in the world as it is seen, and leads to another with what is told now.
-  pub goes_over : (first told now : Contents) (text : List ℕ) (w v : World) (left begun begun_ n m : ℕ) (x : Node) (a : Action)
+  pub goes_over : (first told now : Contents) (text : List ℕ) (w v : World) (left begun begun_ n m : ℕ) (x : Node)
+      (a : Action)
       → StandsIn p g paths first told text w left begun n → node_at g.nodes n ≡ Some x → Contains g.edges (edge n a m)
       → effect p x.statement None (seen told paths text w) a ≡ Ok (Some (seen now paths text v))
       → is_handled p x.statement a ≡ true → AreSynced now paths v.files → KeepsNames first now paths
@@ -72,8 +71,10 @@ module _ (p : Program) (g : Graph) (paths : List (List ℕ)) where
   }
 
   -- the edge is taken with a status that nothing handles
-  pub stopped_by : (first told now : Contents) (text : List ℕ) (w v : World) (left step n m : ℕ) (x : Node) (a : Action) (status_ : ℕ)
-      → (begun : ℕ) → StandsIn p g paths first told text w left begun n → node_at g.nodes n ≡ Some x → step ≡ passed left x
+  pub stopped_by : (first told now : Contents) (text : List ℕ) (w v : World) (left step n m : ℕ) (x : Node) (a : Action)
+      (status_ : ℕ)
+      → (begun : ℕ) → StandsIn p g paths first told text w left begun n → node_at g.nodes n ≡ Some x
+      → step ≡ passed left x
       → Contains g.edges (edge n a m)
       → effect p x.statement None (seen told paths text w) a ≡ Ok (Some (seen now paths text v))
       → status p x.statement None (seen told paths text w) a ≡ Some status_
@@ -81,10 +82,14 @@ module _ (p : Program) (g : Graph) (paths : List (List ℕ)) where
       → AreFree p (told_files first paths) step
       → (budget : ℕ) → step ≤ budget
       → RestsIn p g paths budget first now text v (Err (end.IoStop status_ x.statement))
-  stopped_by first told now text w v left step n m x a status_ begun s at counts out does gives unhandled synced others free budget within =
-      let over = s.tells.stops left n (seen told paths text w) (seen now paths text v) x a m status_ s.way at out does gives unhandled in
-      let over_ : IsOverAfter p g (told_files first paths) [] step (IoStop status_ x.statement) (seen now paths text v) =
-      subst (λ (k : ℕ). IsOverAfter p g (told_files first paths) [] k (IoStop status_ x.statement) (seen now paths text v)) (sym counts) over in
+  stopped_by first told now text w v left step n m x a status_ begun s at counts out does gives unhandled synced others
+      free budget within =
+      let over = s.tells.stops left n (seen told paths text w) (seen now paths text v) x a m status_ s.way at out does
+      gives unhandled in
+      let over_ : IsOverAfter p g (told_files first paths) [] step (IoStop status_ x.statement)
+      (seen now paths text v) =
+      subst (λ (k : ℕ). IsOverAfter p g (told_files first paths) [] k (IoStop status_ x.statement)
+      (seen now paths text v)) (sym counts) over in
       record {
         steps = step;
         answer = record { within = within; outcome = over_.outcome; before = over_.before; free = free };
@@ -94,11 +99,13 @@ module _ (p : Program) (g : Graph) (paths : List (List ℕ)) where
         others = others;
       }
 
-  module _ (first told : Contents) (text : List ℕ) (apart : AreDistinct paths) (w v : World) (left step n m : ℕ) (x : Node) (a : Action)
+  module _ (first told : Contents) (text : List ℕ) (apart : AreDistinct paths) (w v : World) (left step n m : ℕ)
+      (x : Node) (a : Action)
       (b : Act) (s : StandsIn p g paths first told text w left step n) (at : node_at g.nodes n ≡ Some x)
       (counts : step ≡ passed left x) (its : act_at p x.statement ≡ Some b) (plain : IsPlain b)
       (out : Contains g.edges (edge n a m)) where
-    follows : Follows told paths text (effect p x.statement None w a) (effect p x.statement None (seen told paths text w) a)
+    follows : Follows told paths text (effect p x.statement None w a) (effect p x.statement None
+        (seen told paths text w) a)
     follows = rw (effect_by_act p x.statement w a b its, effect_by_act p x.statement (seen told paths text w) a b its)
         (plain_follows p x.statement told paths text apart w s.synced a b plain)
 
@@ -116,13 +123,16 @@ module _ (p : Program) (g : Graph) (paths : List (List ℕ)) where
 
     module _ (budget : ℕ) (within : step ≤ budget) where
       -- the step meets a fault, and files and what is shown stay
-      pub plain_faults : (kind : Kind) → effect p x.statement None w a ≡ Err kind → v.files ≡ w.files → v.shown ≡ w.shown
+      pub plain_faults : (kind : Kind) → effect p x.statement None w a ≡ Err kind → v.files ≡ w.files
+          → v.shown ≡ w.shown
           → RestsIn p g paths budget first told text v (Err (end.Fault kind x.statement step))
       plain_faults kind meets files shown =
           let over = s.tells.faults left n (seen told paths text w) x a m kind s.way at out
           (faults_where told paths text _ _ kind follows meets) in
-          let over_ : IsOverAfter p g (told_files first paths) [] step (Fault kind x.statement) (seen told paths text w) =
-          subst (λ (k : ℕ). IsOverAfter p g (told_files first paths) [] k (Fault kind x.statement) (seen told paths text w)) (sym counts) over in
+          let over_ : IsOverAfter p g (told_files first paths) [] step (Fault kind x.statement)
+          (seen told paths text w) =
+          subst (λ (k : ℕ). IsOverAfter p g (told_files first paths) [] k (Fault kind x.statement)
+          (seen told paths text w)) (sym counts) over in
           record {
             steps = step;
             answer = (refl, record { within = within; outcome = over_.outcome; before = over_.before; free = s.free });
@@ -138,12 +148,14 @@ module _ (p : Program) (g : Graph) (paths : List (List ℕ)) where
           → RestsIn p g paths budget first told text v (Err (end.IoStop status_ x.statement))
       plain_stops status_ does gives unhandled =
           let on = goes_where told paths text _ _ v follows does in
-          stopped_by first told told text w v left step n m x a status_ step s at counts out on.0 (same_status ∙ gives) unhandled on.1
+          stopped_by first told told text w v left step n m x a status_ step s at counts out on.0
+          (same_status ∙ gives) unhandled on.1
           s.others s.free budget within
 
   -- ---- at a node at which a step begins, and behind the last one
 
-  module _ (first told : Contents) (text : List ℕ) (w : World) (steps n : ℕ) (s : StandsIn p g paths first told text w steps steps n)
+  module _ (first told : Contents) (text : List ℕ) (w : World) (steps n : ℕ)
+      (s : StandsIn p g paths first told text w steps steps n)
       (budget : ℕ) where
     pub ends_well : n ≡ final_in g → steps ≤ budget → (e : Ended) → e.steps ≡ steps
         → RestsIn p g paths budget first told text w (Ok e)
@@ -160,7 +172,7 @@ module _ (p : Program) (g : Graph) (paths : List (List ℕ)) where
         }
 
     module _ (x : Node) (at : node_at g.nodes n ≡ Some x) (starts : x.starts ≡ true) where
-      goes_on : GoesOnAfter p g (told_files first paths) [] steps x.statement (seen told paths text w)
+      pub goes_on : GoesOnAfter p g (told_files first paths) [] steps x.statement (seen told paths text w)
       goes_on = s.tells.goes_on steps n (seen told paths text w) x s.way at starts
 
       pub spends : steps ≡ budget → RestsIn p g paths budget first told text w (Err (end.StepsSpent budget))
@@ -171,7 +183,8 @@ module _ (p : Program) (g : Graph) (paths : List (List ℕ)) where
           (
             spent,
             record {
-              outcome = subst (λ (k : ℕ). (state_after p (told_files first paths) k).outcome ≡ Going) spent goes_on.outcome;
+              outcome = subst (λ (k : ℕ). (state_after p (told_files first paths) k).outcome ≡ Going) spent
+                  goes_on.outcome;
               free = subst (AreFree p (told_files first paths)) spent s.free;
             },
           ),
@@ -183,7 +196,8 @@ module _ (p : Program) (g : Graph) (paths : List (List ℕ)) where
       }
 
       -- the next statement is a READ at a ragged end
-      pub is_ragged : steps < budget → (file count : ℕ) → IsCutAt p (told_files first paths) budget file count x.statement (seen told paths text w)
+      pub is_ragged : steps < budget → (file count : ℕ)
+          → IsCutAt p (told_files first paths) budget file count x.statement (seen told paths text w)
           → RestsIn p g paths budget first told text w (Err (end.Ragged file count))
       is_ragged within file count cut = record {
         steps = steps;

@@ -1,12 +1,12 @@
 -- What comes of the outside's files where a file is to be opened.
-use Rattle.std.proofs.Common.{◌≡◌, ℕ, zero, suc, ◌≤◌, ◌<◌, Bool, true, false, not, ◌&&◌, List, [], ◌∷◌, ◌++◌, length, ◌⊎◌, inl, inr, Option, Some, None, refl, sym, ap, subst, ◌∙◌, arith}
-use Rattle.std.specs.Prelude.{slice_get, slice_set, nat_lt, IfSome, IsSomeAnd}
+use Rattle.std.proofs.Common.{◌≡◌, ℕ, zero, suc, ◌<◌, Bool, true, false, not, ◌&&◌, List, [], ◌∷◌, ◌++◌, length, Option, Some, None, refl, sym, ap, subst, ◌∙◌, arith}
+use Rattle.std.specs.Prelude.{slice_get, slice_set, nat_lt, IsSomeAnd}
 use Rattle.std.specs.Option.{option_map, option_map_or}
 use Rattle.std.specs.FinMap.{get}
 use Rattle.std.proofs.lemmas.Bool.Decides.{nat_tests}
-use Rattle.batch_io.specs.FilesState.{Contents, FilesState, known_bytes}
+use Rattle.batch_io.specs.FilesState.{Contents, FilesState}
 use Rattle.cob_program.specs.declared.act.Opening.{Opening}
-use Rattle.cob_runs.specs.Files.{File, file, Mode, closed, reading, writing, bytes_in}
+use Rattle.cob_runs.specs.Files.{File, file, Mode, closed, reading, writing}
 use Rattle.cob_runs.specs.State.{World, with_files}
 use Rattle.cob_world.specs.declared.files.FileMode.{FileMode}
 use Rattle.cob_world.specs.declared.files.FileMode.TheVariants as mode
@@ -15,10 +15,10 @@ use Rattle.cob_world.specs.Calling.{refilled, refilled_on}
 use Rattle.cob_interp.specs.declared.ends.RunEnd.{RunEnd}
 use Rattle.cob_interp.specs.declared.ends.RunEnd.TheVariants as end
 use Rattle.cob_interp.specs.declared.setting.Setting.{Setting}
-use Rattle.cob_interp.specs.Told.{seen, seen_in, seen_file, seen_files, IsSyncedIn, AreSynced, IsReadyToOpenIn, IsReadyToOpen}
+use Rattle.cob_interp.specs.Told.{seen, seen_file, seen_files, IsSyncedIn, AreSynced, IsReadyToOpenIn}
 use Rattle.cob_interp.specs.Ends.{file_limit, is_closed, is_long, file_is_long}
 use Rattle.cob_interp.specs.Setting.{program_of, paths_of}
-use Rattle.cob_interp.specs.Readying.{Puts, Reads, IsShort, IsPath, LoadsInto, ReadyToOpen, IsLongNamed, IsLongHere, IsRefusedToLoad, IsRefusedToOpen}
+use Rattle.cob_interp.specs.Readying.{Puts, IsShort, IsPath, LoadsInto, ReadyToOpen, IsLongNamed, IsLongHere, IsRefusedToLoad, IsRefusedToOpen}
 use Rattle.cob_interp.proofs.SeenFiles.{SeenAt, seen_at}
 use Rattle.cob_interp.proofs.Passing.{ids_stay}
 
@@ -33,7 +33,8 @@ seen_file_at : (told : Contents) (paths : List (List ℕ)) (fs : List File) (pla
     → slice_get (seen_files told paths fs) place ≡ Some (seen_file told path f)
 seen_file_at told paths fs place path f s at has =
     let sees : SeenAt told paths place (Some f) (slice_get (seen_files told paths fs) place) =
-    subst (λ (o : Option File). SeenAt told paths place o (slice_get (seen_files told paths fs) place)) has (seen_at told paths fs place s) in
+    subst (λ (o : Option File). SeenAt told paths place o (slice_get (seen_files told paths fs) place)) has
+    (seen_at told paths fs place s) in
     let same : sees.0 ≡ path = cc in
     sees.2 ∙ ap (λ (x : List ℕ). Some (seen_file told x f)) same
 
@@ -46,7 +47,8 @@ module _ (told : Contents) (f : File) (is_closed_ : f.mode ≡ closed) (content 
   synced_closed : (path : List ℕ) → IsSyncedIn told f.mode path content
   synced_closed path = rw is_closed_ tt
 
-  refilled_seen : (paths : List (List ℕ)) (fs : List File) (place : ℕ) → AreSynced told paths fs → slice_get fs place ≡ Some f
+  refilled_seen : (paths : List (List ℕ)) (fs : List File) (place : ℕ) → AreSynced told paths fs
+      → slice_get fs place ≡ Some f
       → (seen_files told paths (slice_set fs place (file content f.mode f.place)) ≡ seen_files told paths fs)
       × AreSynced told paths (slice_set fs place (file content f.mode f.place))
   refilled_seen paths [] place s has = cc
@@ -60,7 +62,8 @@ module _ (told : Contents) (f : File) (is_closed_ : f.mode ≡ closed) (content 
       let r = refilled_seen paths fs place s.1 has in
       (ap (λ (gs : List File). seen_file told path x ∷ gs) r.0, (s.0, r.1))
 
-get_set : (fs : List File) (place : ℕ) (f g : File) → slice_get fs place ≡ Some f → slice_get (slice_set fs place g) place ≡ Some g
+get_set : (fs : List File) (place : ℕ) (f g : File) → slice_get fs place ≡ Some f
+    → slice_get (slice_set fs place g) place ≡ Some g
 get_set [] place f g has = cc
 get_set (x ∷ fs) zero f g has = refl
 get_set (x ∷ fs) (suc place) f g has = get_set fs place f g has
@@ -83,7 +86,8 @@ long_is_long (Some bytes) long = grind (arith, nat_tests)
 
 module _ (s : Setting) (w : World) (o : Opening) (path : List ℕ) (is : IsPath s o.file path) (f : File)
     (has : slice_get w.files o.file ≡ Some f) where
-  pub output_ready : (old new : FilesState) → f.mode ≡ closed → o.output ≡ true → Puts old new path [] → ReadyToOpen s w w o old new
+  pub output_ready : (old new : FilesState) → f.mode ≡ closed → o.output ≡ true → Puts old new path []
+      → ReadyToOpen s w w o old new
   output_ready old new mode output puts = record {
     path = path;
     file = f;
@@ -98,11 +102,14 @@ module _ (s : Setting) (w : World) (o : Opening) (path : List ℕ) (is : IsPath 
     same = λ told text e synced. (refl, synced, rw output refl);
   }
 
-  not_long_open : (told : Contents) (text : List ℕ) → (m : Mode) → f.mode ≡ m → (m ≡ closed → ⊥) → AreSynced told (paths_of s) w.files
+  not_long_open : (told : Contents) (text : List ℕ) → (m : Mode) → f.mode ≡ m → (m ≡ closed → ⊥)
+      → AreSynced told (paths_of s) w.files
       → file_is_long (program_of s) o (seen told (paths_of s) text w) ≡ false
   not_long_open told text m mode open_ synced =
-      rw (seen_file_at told (paths_of s) w.files o.file path f synced is.path_ has) (not_long o.output m mode open_) where
-        not_long : (b : Bool) (m : Mode) → f.mode ≡ m → (m ≡ closed → ⊥) → (not b && is_long (seen_file told path f)) ≡ false
+      rw (seen_file_at told (paths_of s) w.files o.file path f synced is.path_ has)
+      (not_long o.output m mode open_) where
+        not_long : (b : Bool) (m : Mode) → f.mode ≡ m → (m ≡ closed → ⊥)
+            → (not b && is_long (seen_file told path f)) ≡ false
         not_long true m e n = refl
         not_long false closed e n = absurd (n refl)
         not_long false (reading ended) e n = rw e refl
@@ -128,8 +135,10 @@ module _ (s : Setting) (w : World) (o : Opening) (path : List ℕ) (is : IsPath 
     agrees told b writing n = refl
 
   module _ (old new : FilesState) (mode_ : f.mode ≡ closed) (input : o.output ≡ false) where
-    seen_length : (told : Contents) (text : List ℕ) (content : Option (List ℕ)) → get told path ≡ content → AreSynced told (paths_of s) w.files
-        → file_is_long (program_of s) o (seen told (paths_of s) text w) ≡ nat_lt file_limit (length (option_map_or (λ bytes. bytes) content []))
+    seen_length : (told : Contents) (text : List ℕ) (content : Option (List ℕ)) → get told path ≡ content
+        → AreSynced told (paths_of s) w.files
+        → file_is_long (program_of s) o (seen told (paths_of s) text w) ≡ nat_lt file_limit (length
+        (option_map_or (λ bytes. bytes) content []))
     seen_length told text content holds synced =
         rw (seen_file_at told (paths_of s) w.files o.file path f synced is.path_ has, input, mode_)
         (ap (λ (c : Option (List ℕ)). nat_lt file_limit (length (option_map_or (λ bytes. bytes) c []))) holds)
@@ -159,9 +168,16 @@ module _ (s : Setting) (w : World) (o : Opening) (path : List ℕ) (is : IsPath 
           same = λ told text e synced.
               let r = refilled_seen told f mode_ content (paths_of s) w.files o.file synced has in (
                 ap (seen told (paths_of s) text) world_
-                    ∙ ap (λ (fs : List File). record { storage = w.storage; counts = w.counts; files = fs; shown = text ++ w.shown }) r.0,
+                    ∙ ap (λ (fs : List File). record {
+                      storage = w.storage;
+                      counts = w.counts;
+                      files = fs;
+                      shown = text
+                          ++ w.shown;
+                    }) r.0,
                 subst (λ (fs : List File). AreSynced told (paths_of s) fs) (sym files_) r.1,
-                seen_length told text content (loads.reads.is told e) synced ∙ short_is_not_long content loads.reads.short,
+                seen_length told text content (loads.reads.is told e) synced ∙ short_is_not_long content
+                    loads.reads.short,
               );
         }
 
@@ -169,14 +185,16 @@ module _ (s : Setting) (w : World) (o : Opening) (path : List ℕ) (is : IsPath 
     long_here count long = record {
       well = long.well;
       counted = long.counted;
-      long = λ told text e synced. seen_length told text (get told path) refl synced ∙ long_is_long (get told path) (long.long told e);
+      long = λ told text e synced. seen_length told text (get told path) refl synced ∙ long_is_long (get told path)
+          (long.long told e);
     }
 
 -- why the load was refused
 pub refused_load : (s : Setting) (w : World) (o : Opening) (path : List ℕ) (is : IsPath s o.file path) (f : File)
     (has : slice_get w.files o.file ≡ Some f) (old new : FilesState) → f.mode ≡ closed → o.output ≡ false → (e : RunEnd)
     → IsRefusedToLoad old new path e → IsRefusedToOpen s w o old new e
-refused_load s w o path is f has old new mode_ input (end.Long count) r = long_here s w o path is f has old new mode_ input count r
+refused_load s w o path is f has old new mode_ input (end.Long count) r = long_here s w o path is f has old new mode_
+    input count r
 refused_load s w o path is f has old new mode_ input end.ReadFault r = r
 refused_load s w o path is f has old new mode_ input end.WriteFault r = r
 refused_load s w o path is f has old new mode_ input end.Memory r = r

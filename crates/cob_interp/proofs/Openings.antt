@@ -1,5 +1,5 @@
 -- Whether an OPEN meets a file that's too long, where one file after the other is opened.
-use Rattle.std.proofs.Common.{◌≡◌, ℕ, zero, suc, ◌+◌, Bool, true, false, not, if◌then◌else◌, List, [], ◌∷◌, drop, ◌⊎◌, inl, inr, Option, Some, None, Result, Ok, Err, refl, sym, ap, subst, ◌∙◌, add-one}
+use Rattle.std.proofs.Common.{◌≡◌, ℕ, zero, suc, ◌+◌, Bool, true, false, not, List, [], ◌∷◌, drop, ◌⊎◌, inl, inr, Option, Some, None, Ok, refl, sym, ap, subst, ◌∙◌, add-one}
 use Rattle.std.specs.Prelude.{Contains, slice_get}
 use Rattle.std.specs.Option.{option_map, option_map_or}
 use Rattle.cob_meaning.specs.declared.straight.Outcome.{Outcome}
@@ -14,8 +14,8 @@ use Rattle.cob_runs.specs.State.{World}
 use Rattle.cob_runs.specs.Acts.{is_fine, has_status, open_one}
 use Rattle.cob_runs.specs.Steps.{outcome_of}
 use Rattle.cob_runs.specs.Effects.{effect, effect_of, by_status, taken_if, opened, is_handled, handled_in, handled_by, act_at}
-use Rattle.cob_interp.specs.Ends.{file_is_long, unless_over, meets_long}
-use Rattle.cob_interp.proofs.CallsLead.{one_of_two, open_effect}
+use Rattle.cob_interp.specs.Ends.{file_is_long, meets_long}
+use Rattle.cob_interp.proofs.CallsLead.{one_of_two}
 use Rattle.cob_interp.proofs.Onward.{effect_by_act}
 
 pub drop_at : (os : List Opening) (k : ℕ) (o : Opening) → slice_get os k ≡ Some o → drop k os ≡ o ∷ drop (k + 1) os
@@ -40,7 +40,8 @@ module _ (p : Program) (number k : ℕ) (os : List Opening) (o : Opening) (its :
       ap (λ (a : Option Act). option_map_or (handled_by p number k) a true) its
       ∙ ap (λ (x : Option Opening). handled_in p number (option_map (λ y. y.file) x)) at
 
-  effect_as : (a : Action) (fine : Bool) → effect_of p number None z a (open_files os) ≡ opened p number None z fine (slice_get os k)
+  effect_as : (a : Action) (fine : Bool) → effect_of p number None z a (open_files os) ≡ opened p number None z fine
+      (slice_get os k)
       → effect p number None z a ≡ by_status p number None z fine (open_one p.layout o z)
   effect_as a fine e =
       effect_by_act p number z a (open_files os) its ∙ e ∙ ap (λ (x : Option Opening). opened p number None z fine x) at
@@ -58,7 +59,8 @@ module _ (p : Program) (number k : ℕ) (os : List Opening) (o : Opening) (its :
     going_where false false status e (inl h) = cc
     going_where false false status e (inr h) = cc
 
-    stopping_where : (has : Bool) (status : ℕ) → is_fine status ≡ false → has ≡ false → outcome_of number has status ≡ IoStop status number
+    stopping_where : (has : Bool) (status : ℕ) → is_fine status ≡ false → has ≡ false
+        → outcome_of number has status ≡ IoStop status number
     stopping_where has status e h = rw (e, h) refl
 
     pub goes_edge : (a : Action) (m fine bad : ℕ) → Contains (op_edges (op.Open k fine bad)) (a, m)
@@ -66,14 +68,16 @@ module _ (p : Program) (number k : ℕ) (os : List Opening) (o : Opening) (its :
     goes_edge a m fine bad c does handled = elim (one_of_two _ _ _ c) [
       | inl e ↦
           let same : a ≡ action.Open k = ap (λ (x : Action × ℕ). x.0) e in
-          let t = taken_test _ _ u (sym (effect_as (action.Open k) true refl) ∙ subst (λ (x : Action). effect p number None z x ≡ Ok (Some u)) same does) in
+          let t = taken_test _ _ u (sym (effect_as (action.Open k) true refl) ∙ subst
+          (λ (x : Action). effect p number None z x ≡ Ok (Some u)) same does) in
           record {
             world = t.1;
             outcome = going_where true (has_status p.layout o.file) (open_one p.layout o z).1 t.0 (inl refl);
           }
       | inr e ↦
           let same : a ≡ action.Bad k = ap (λ (x : Action × ℕ). x.0) e in
-          let t = taken_test _ _ u (sym (effect_as (action.Bad k) false refl) ∙ subst (λ (x : Action). effect p number None z x ≡ Ok (Some u)) same does) in
+          let t = taken_test _ _ u (sym (effect_as (action.Bad k) false refl) ∙ subst
+          (λ (x : Action). effect p number None z x ≡ Ok (Some u)) same does) in
           record {
             world = t.1;
             outcome = going_where false (has_status p.layout o.file) (open_one p.layout o z).1 (not_true _ t.0)
@@ -91,7 +95,8 @@ module _ (p : Program) (number k : ℕ) (os : List Opening) (o : Opening) (its :
           cc
       | inr e ↦
           let same : a ≡ action.Bad k = ap (λ (x : Action × ℕ). x.0) e in
-          let t = taken_test _ _ u (sym (effect_as (action.Bad k) false refl) ∙ subst (λ (x : Action). effect p number None z x ≡ Ok (Some u)) same does) in
+          let t = taken_test _ _ u (sym (effect_as (action.Bad k) false refl) ∙ subst
+          (λ (x : Action). effect p number None z x ≡ Ok (Some u)) same does) in
           record {
             world = t.1;
             outcome = stopping_where (has_status p.layout o.file) (open_one p.layout o z).1 (not_true _ t.0)

@@ -1,8 +1,8 @@
 -- What stands goes on standing.
-use Rattle.std.proofs.Common.{◌≡◌, ℕ, List, [], ◌∷◌, ◌++◌, Option, Some, None, Result, refl, sym, ap, subst, ◌∙◌, append_assoc, append-nil}
-use Rattle.std.specs.Prelude.{IsSome, option_map}
+use Rattle.std.proofs.Common.{◌≡◌, ℕ, List, [], ◌++◌, Option, Some, None, Result, refl, sym, ap, subst, ◌∙◌, append_assoc, append-nil}
+use Rattle.std.specs.Prelude.{IsSome}
 use Rattle.std.specs.Io.KnownBytes.{append_known}
-use Rattle.batch_io.specs.FilesState.{Contents, FilesState, KeepsIds, known_bytes, known_handle}
+use Rattle.batch_io.specs.FilesState.{Contents, FilesState, KeepsIds, known_bytes}
 use Rattle.cob_program.specs.Act.{Program}
 use Rattle.cob_runs.specs.State.{World}
 use Rattle.cob_graph.specs.declared.graph.Graph.{Graph}
@@ -10,7 +10,7 @@ use Rattle.cob_interp.specs.declared.ends.Ended.{Ended}
 use Rattle.cob_interp.specs.declared.ends.RunEnd.{RunEnd}
 use Rattle.batch_io.specs.SinkState.{SinkState}
 use Rattle.cob_interp.specs.Told.{AgreeBut}
-use Rattle.cob_interp.specs.Readying.{AreWell, Keeps, Readies}
+use Rattle.cob_interp.specs.Readying.{AreWell, Readies}
 use Rattle.cob_interp.specs.Running.{outside, Outside, IsWell, StandsIn, StandsIf, Stands, RestsIn, RestsIf, Rests}
 
 pub ids_stay : (a : FilesState) → KeepsIds a a
@@ -22,7 +22,7 @@ ids_pass a b c h k = record {
   handle = λ id some. k.handle id (subst IsSome (sym (h.purpose id)) some) ∙ h.handle id some;
 }
 
-append_twice : (told : Option (List ℕ)) (text more : List ℕ)
+pub append_twice : (told : Option (List ℕ)) (text more : List ℕ)
     → append_known (append_known told text) more ≡ append_known told (text ++ more)
 append_twice None text more = refl
 append_twice (Some bytes) text more = ap Some (append_assoc bytes text more)
@@ -32,7 +32,14 @@ append_none None = refl
 append_none (Some bytes) = ap Some (sym (append-nil bytes))
 
 pub well_stays : (a : Outside) → IsWell a a []
-well_stays a = record { reading = refl; writing = refl; faults = refl; ids = ids_stay a.files; gained = append_none a.sink.told }
+well_stays a = record {
+  reading = refl;
+  writing = refl;
+  faults = refl;
+  ids = ids_stay a.files;
+  gained = append_none
+      a.sink.told;
+}
 
 pub well_passes : (a b c : Outside) (text more : List ℕ) → IsWell a b text → IsWell b c more → IsWell a c (text ++ more)
 well_passes a b c text more h k = record {
@@ -40,7 +47,8 @@ well_passes a b c text more h k = record {
   writing = k.writing ∙ h.writing;
   faults = k.faults ∙ h.faults;
   ids = ids_pass a.files b.files c.files h.ids k.ids;
-  gained = k.gained ∙ ap (λ (told : Option (List ℕ)). append_known told more) h.gained ∙ append_twice a.sink.told text more;
+  gained = k.gained ∙ ap (λ (told : Option (List ℕ)). append_known told more) h.gained ∙ append_twice a.sink.told text
+      more;
 }
 
 module _ (p : Program) (g : Graph) (paths : List (List ℕ)) where
@@ -83,7 +91,8 @@ module _ (p : Program) (g : Graph) (paths : List (List ℕ)) where
   }
 
   module _ (budget : ℕ) where
-    rested : (a b c : Option Contents) (text text_ : List ℕ) (w v : World) (left begun node : ℕ) (result : Result Ended RunEnd)
+    rested : (a b c : Option Contents) (text text_ : List ℕ) (w v : World) (left begun node : ℕ)
+        (result : Result Ended RunEnd)
         → ((first told : Contents) → b ≡ Some told → StandsIn p g paths first told text w left begun node
         → RestsIf p g paths budget (Some first) c text_ v result)
         → StandsIf p g paths a b text w left begun node → RestsIf p g paths budget a c text_ v result
@@ -122,7 +131,8 @@ module _ (p : Program) (g : Graph) (paths : List (List ℕ)) where
 
 -- ---- where a file was made ready
 
-pub readied_well : (old new : FilesState) (sink : SinkState) → AreWell old new → IsWell (outside old sink) (outside new sink) []
+pub readied_well : (old new : FilesState) (sink : SinkState) → AreWell old new
+    → IsWell (outside old sink) (outside new sink) []
 readied_well old new sink well = record {
   reading = well.reading;
   writing = well.writing;
@@ -132,11 +142,14 @@ readied_well old new sink well = record {
 }
 
 module _ (p : Program) (g : Graph) (paths : List (List ℕ)) (start : Outside) (sink : SinkState) (old new : FilesState)
-    (path : List ℕ) (IsIt : Contents → Contents → Type 0) (ready : Readies old new path IsIt) (w v : World) (left begun node : ℕ) where
+    (path : List ℕ) (IsIt : Contents → Contents → Type 0) (ready : Readies old new path IsIt) (w v : World)
+    (left begun node : ℕ) where
   pub stands_readied : (left_ begun_ node_ : ℕ)
-      → ((first told now : Contents) (text : List ℕ) → known_bytes old ≡ Some told → AgreeBut told now path → IsIt told now
+      → ((first told now : Contents) (text : List ℕ) → known_bytes old ≡ Some told → AgreeBut told now path
+      → IsIt told now
       → StandsIn p g paths first told text w left begun node → StandsIn p g paths first now text v left_ begun_ node_)
-      → Stands p g paths start (outside old sink) w left begun node → Stands p g paths start (outside new sink) v left_ begun_ node_
+      → Stands p g paths start (outside old sink) w left begun node
+      → Stands p g paths start (outside new sink) v left_ begun_ node_
   stands_readied left_ begun_ node_ f s =
       stands_behind p g paths start (outside old sink) (outside new sink) w v [] left begun node left_ begun_ node_
       (readied_well old new sink ready.well)
@@ -147,9 +160,11 @@ module _ (p : Program) (g : Graph) (paths : List (List ℕ)) (start : Outside) (
       s
 
   pub rests_readied : (budget : ℕ) (result : Result Ended RunEnd)
-      → ((first told now : Contents) (text : List ℕ) → known_bytes old ≡ Some told → AgreeBut told now path → IsIt told now
+      → ((first told now : Contents) (text : List ℕ) → known_bytes old ≡ Some told → AgreeBut told now path
+      → IsIt told now
       → StandsIn p g paths first told text w left begun node → RestsIn p g paths budget first now text v result)
-      → Stands p g paths start (outside old sink) w left begun node → Rests p g paths budget start (outside new sink) v result
+      → Stands p g paths start (outside old sink) w left begun node
+      → Rests p g paths budget start (outside new sink) v result
   rests_readied budget result f s =
       rests_behind p g paths budget start (outside old sink) (outside new sink) w v [] left begun node result
       (readied_well old new sink ready.well)

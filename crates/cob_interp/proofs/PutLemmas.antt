@@ -1,8 +1,8 @@
 -- What is told where a file was put.
 use Rattle.std.proofs.Common.{◌≡◌, ℕ, Bool, List, Option, Some, ◌⊎◌, inl, inr, refl, sym, ap, subst, ◌∙◌}
 use Rattle.std.specs.Prelude.{option_map}
-use Rattle.std.specs.FinMap.{get, insert}
-use Rattle.batch_io.specs.FilesState.{Contents, FilesState, KeepsIds, known_bytes}
+use Rattle.std.specs.FinMap.{insert}
+use Rattle.batch_io.specs.FilesState.{Contents, FilesState, KeepsIds}
 use Rattle.batch_io.specs.Wholes.{Holds}
 use Rattle.cob_interp.specs.Readying.{Puts, Readies}
 use Rattle.cob_runs.specs.Files.{File, Mode, closed, reading, writing}
@@ -60,11 +60,13 @@ kept_ready old path f not = record {
   };
 }
 
-apart_from_writing : (m : FileMode) (n : Mode) → plain_mode m ≡ n → (m ≡ mode.Closed) ⊎ ((b : Bool) × (m ≡ mode.Reading b))
+apart_from_writing : (m : FileMode) (n : Mode) → plain_mode m ≡ n → (m ≡ mode.Closed) ⊎ ((b : Bool) ×
+    (m ≡ mode.Reading b))
     → n ≡ writing → ⊥
 apart_from_writing m n seen_ (inl e) w = let f : closed ≡ writing = sym (ap plain_mode e) ∙ seen_ ∙ w in cc
 apart_from_writing m n seen_ (inr e) w = let f : reading e.0 ≡ writing = sym (ap plain_mode e.1) ∙ seen_ ∙ w in cc
 
 pub other_ready : (old : FilesState) (path : List ℕ) (f : File) (m : FileMode) → plain_mode m ≡ f.mode
-    → (m ≡ mode.Closed) ⊎ ((b : Bool) × (m ≡ mode.Reading b)) → Readies old old path (λ told now. IsReadyToClose told now path f)
+    → (m ≡ mode.Closed) ⊎ ((b : Bool) × (m ≡ mode.Reading b)) → Readies old old path (λ told now. IsReadyToClose told
+    now path f)
 other_ready old path f m seen_ is = kept_ready old path f (apart_from_writing m f.mode seen_ is)

@@ -1,8 +1,6 @@
 -- The files as the run sees them, where one of them changes.
-use Rattle.std.proofs.Common.{◌≡◌, ◌≢◌, ℕ, zero, suc, ◌<◌, Bool, true, false, cond, List, [], ◌∷◌, length, Option, Some, None, refl, sym, ap, subst, ◌∙◌, zero-lt-suc, suc-le-suc, arith}
+use Rattle.std.proofs.Common.{◌≡◌, ℕ, zero, suc, cond, List, [], ◌∷◌, Option, Some, None, refl, sym, ap, subst, ◌∙◌, zero-lt-suc, suc-le-suc}
 use Rattle.std.specs.Prelude.{Contains, slice_get, slice_set}
-use Rattle.std.specs.Cmp.Lexicographic.{slice_cmp}
-use Rattle.std.specs.Ordering.{nat_cmp, eq_by_cmp}
 use Rattle.std.specs.FinMap.{get, insert, get-insert}
 use Rattle.std.proofs.lemmas.Cmp.{nat_list_cmp_total}
 use Rattle.std.proofs.lemmas.Bool.{false_from_ne_true}
@@ -59,7 +57,8 @@ module _ (told now : Contents) (path : List ℕ) (agree : get now path ≡ get t
   seen_in_same (reading ended) f = refl
   seen_in_same writing f = refl
 
-  pub synced_same : (m : Mode) (content : Option (List ℕ)) → IsSyncedIn told m path content → IsSyncedIn now m path content
+  pub synced_same : (m : Mode) (content : Option (List ℕ)) → IsSyncedIn told m path content
+      → IsSyncedIn now m path content
   synced_same closed content s = tt
   synced_same (reading ended) content s = agree ∙ s
   synced_same writing content s = (agree ∙ s.0, s.1)
@@ -105,7 +104,8 @@ module _ (told now : Contents) (path : List ℕ) (but : AgreeBut told now path) 
   seen_set (q ∷ paths) [] i apart s at = absurd s
   seen_set (q ∷ paths) (f ∷ fs) zero apart s at =
       let same : q ≡ path = cc in
-      let es = seen_same told now paths fs (agree_apart told now path paths but (λ c. apart.0 (subst (Contains paths) (sym same) c))) in
+      let es = seen_same told now paths fs (agree_apart told now path paths but
+      (λ c. apart.0 (subst (Contains paths) (sym same) c))) in
       let e : seen_file now q g ≡ seen_file now path g = ap (λ (x : List ℕ). seen_file now x g) same in
       cc
   seen_set (q ∷ paths) (f ∷ fs) (suc i) apart s at =

@@ -1,23 +1,12 @@
 -- How a step goes on.
-use Rattle.std.proofs.Common.{◌≡◌, ℕ, ◌+◌, false, true, Bool, Some, refl, sym, ap, ◌∙◌, arith}
-use Rattle.cob_graph.specs.declared.graph.Graph.{Graph}
+use Rattle.std.proofs.Common.{◌≡◌, ℕ, false, Some, ap, arith}
 use Rattle.cob_graph.specs.declared.graph.Node.{Node}
 use Rattle.cob_graph.specs.Laid.{one_if}
 use Rattle.cob_graph.specs.Walks.{node_at, passed}
 use Rattle.cob_runs.specs.State.{World}
-use Rattle.cob_plan.specs.declared.spot.Spot.{Spot}
-use Rattle.cob_plan.specs.Plan.{IsSpot}
 use Rattle.cob_interp.specs.declared.setting.Setting.{Setting}
 use Rattle.cob_interp.specs.Running.{Outside, IsUnderway, Stands}
 use Rattle.cob_interp.specs.Setting.{program_of, paths_of}
-
--- no step begins at a node whose spot begins none
-pub none_begins : (g : Graph) (n : ℕ) (s : Spot) → IsSpot g n s → s.starts ≡ false
-    → (x : Node) → node_at g.nodes n ≡ Some x → x.starts ≡ false
-none_begins g n s is none x at =
-    let there = is.stands in
-    let same : is.node ≡ x = cc in
-    sym (ap (λ (y : Node). y.starts) same) ∙ sym is.starts ∙ none
 
 pub passes_on : (step : ℕ) (x : Node) → x.starts ≡ false → step ≡ passed step x
 passes_on step x e = let f : one_if x.starts ≡ 0 = ap one_if e in omega (arith, f)

@@ -51,7 +51,8 @@ Leads s budget step node old new w v result =
     → Arrives (program_of s) s.graph.now (paths_of s) budget start new v step result
 
 -- from a node on at which the next file of an OPEN is opened
-abbrev pub LeadsOpening : Setting → ℕ → ℕ → ℕ → ℕ → List Opening → ℕ → Outside → Outside → World → World → Result ℕ RunEnd → Type 0
+abbrev pub LeadsOpening : Setting → ℕ → ℕ → ℕ → ℕ → List Opening → ℕ → Outside → Outside → World → World
+    → Result ℕ RunEnd → Type 0
 LeadsOpening s budget steps node number os k old new w v result =
     (start : Outside) (left : ℕ) → steps < budget → act_at (program_of s) number ≡ Some (open_files os)
     → ((x : Node) → node_at s.graph.now.nodes node ≡ Some x → steps + 1 ≡ passed left x)
@@ -59,7 +60,8 @@ LeadsOpening s budget steps node number os k old new w v result =
     → ArrivesOpening (program_of s) s.graph.now (paths_of s) budget start new v steps number os (drop (k + 1) os) result
 
 -- from the first node of an OPEN on
-abbrev pub LeadsOver : Setting → ℕ → ℕ → ℕ → ℕ → List Opening → Outside → Outside → World → World → Result ℕ RunEnd → Type 0
+abbrev pub LeadsOver : Setting → ℕ → ℕ → ℕ → ℕ → List Opening → Outside → Outside → World → World → Result ℕ RunEnd
+    → Type 0
 LeadsOver s budget steps node number os old new w v result =
     (start : Outside) → steps < budget → act_at (program_of s) number ≡ Some (open_files os)
     → ((x : Node) → node_at s.graph.now.nodes node ≡ Some x → x.starts ≡ true)

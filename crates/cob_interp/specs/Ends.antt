@@ -1,5 +1,5 @@
 -- How a program's run on told files ends within a budget of steps.
-use Rattle.std.specs.Prelude.{◌≡◌, ◌≤◌, ◌<◌, ◌⊎◌, ◌==◌, ◌&&◌, nat_lt, not, ℕ, ◌+◌, if◌then◌else◌, Bool, true, false, List, [], ◌∷◌, length, map, slice_get, Option, Some, None, Result, Ok, Err}
+use Rattle.std.specs.Prelude.{◌≡◌, ◌≤◌, ◌<◌, ◌==◌, ◌&&◌, nat_lt, not, ℕ, ◌+◌, if◌then◌else◌, Bool, true, false, List, [], ◌∷◌, length, map, slice_get, Option, Some, Result, Ok, Err}
 use Rattle.std.specs.Option.{option_map_or}
 use Rattle.std.specs.FinMap.{get}
 use Rattle.batch_io.specs.FilesState as outside
@@ -9,7 +9,7 @@ use Rattle.cob_program.specs.Act.{Act, open_files, read, Program}
 use Rattle.cob_meaning.specs.declared.straight.Outcome.{Outcome}
 use Rattle.cob_meaning.specs.declared.straight.Outcome.TheVariants.{Going, Fault, IoStop}
 use Rattle.cob_meaning.specs.declared.straight.Outcome.TheVariants as outcome
-use Rattle.cob_runs.specs.Files.{File, Mode, closed, bytes_in, after_read}
+use Rattle.cob_runs.specs.Files.{File, Mode, closed, reading, bytes_in, after_read}
 use Rattle.cob_runs.specs.State.{World, State}
 use Rattle.cob_runs.specs.Acts.{has_status, open_one}
 use Rattle.cob_runs.specs.Steps.{outcome_of}
@@ -25,6 +25,11 @@ abbrev pub told_files : outside.Contents → List (List ℕ) → Contents
 told_files told paths = map (get told) paths
 
 -- ---- files that end within a record, and files that are too long to be read
+
+-- it is read, and its end wasn't met
+abbrev pub reads_on : Mode → Bool
+reads_on (reading false) = true
+reads_on _ = false
 
 -- a READ of the file would end at status 10, with bytes left that make no record
 abbrev pub is_cut : FileDecl → File → Bool
@@ -121,7 +126,8 @@ module _ (p : Program) where
         pub long : meets_too_long statement w ≡ true
         pub counted : count ≡ file_limit + 1
 
-      -- What each answer says, behind so many steps. Faults of the outside and want of memory have clauses of their own.
+      -- What each answer says, behind so many steps. Faults of the outside and want of memory have clauses of their
+      -- own.
       abbrev pub IsEnd : Result Ended RunEnd → ℕ → Type 0
       IsEnd (Ok e) n = (e.steps ≡ n) × EndsAfter n outcome.Ended
       IsEnd (Err (end.StepsSpent count)) n = (count ≡ budget) × ((n ≡ budget) × IsSpent)

@@ -1,11 +1,11 @@
 -- How the outside's files are made ready for OPEN and CLOSE.
-use Rattle.std.specs.Prelude.{◌≡◌, ◌<◌, ◌+◌, ℕ, Bool, true, false, List, [], slice_get, Option, Some, IsSomeAnd, IfSome, length, ◌≤◌, Result, Ok, Err}
+use Rattle.std.specs.Prelude.{◌≡◌, ◌<◌, ◌+◌, ℕ, true, false, List, slice_get, Option, Some, IsSomeAnd, IfSome, length, ◌≤◌}
 use Rattle.std.specs.FinMap.{get}
 use Rattle.batch_io.specs.FilesState.{Contents, FilesState, KeepsIds, known_bytes}
 use Rattle.batch_io.specs.Faults.{Rose}
 use Rattle.cob_data.specs.declared.layout.FileDecl.{FileDecl}
 use Rattle.cob_program.specs.declared.act.Opening.{Opening}
-use Rattle.cob_runs.specs.Files.{File, Mode, closed, reading, writing}
+use Rattle.cob_runs.specs.Files.{File}
 use Rattle.cob_runs.specs.State.{World, with_files}
 use Rattle.cob_world.specs.Calling.{refilled}
 use Rattle.cob_runs.specs.Acts.{decl_at}
@@ -58,7 +58,8 @@ pub record Reads (old new : FilesState) (name : List ℕ) (content : Option (Lis
 pub record IsLongNamed (old new : FilesState) (name : List ℕ) (count : ℕ) : Type 0 where
   pub well : AreWell old new
   pub counted : count ≡ file_limit + 1
-  pub long : (told : Contents) → known_bytes old ≡ Some told → IsSomeAnd (get told name) (λ bytes. file_limit < length bytes)
+  pub long : (told : Contents) → known_bytes old ≡ Some told
+      → IsSomeAnd (get told name) (λ bytes. file_limit < length bytes)
 
 abbrev pub IsRefusedToLoad : FilesState → FilesState → List ℕ → RunEnd → Type 0
 IsRefusedToLoad old new name (end.Long count) = IsLongNamed old new name count

@@ -1,5 +1,5 @@
 -- What a run does to the outside's files and sink.
-use Rattle.std.specs.Prelude.{◌≡◌, ◌≤◌, ◌<◌, ◌⊎◌, ℕ, ◌+◌, Bool, true, false, List, [], ◌∷◌, ◌++◌, take, length, map, slice_get, Contains, Option, Some, None, IfSome, Result, Ok, Err}
+use Rattle.std.specs.Prelude.{◌≡◌, ◌≤◌, ◌⊎◌, ℕ, ◌+◌, Bool, true, false, List, [], ◌++◌, take, slice_get, Option, Some, None, IfSome, Result, Ok, Err}
 use Rattle.std.specs.Option.{option_map_or}
 use Rattle.std.specs.Io.KnownBytes.{append_known}
 use Rattle.std.specs.FinMap.{get}
@@ -84,19 +84,22 @@ module _ (p : Program) (g : Graph) (paths : List (List ℕ)) where
 
   -- ---- in an OPEN
 
-  -- So many steps were begun freely, and then an OPEN with these files, of which so many are left to be opened. Whether one
-  -- that is too long is met is to be seen of those.
-  pub record OpensIn (first told : Contents) (text : List ℕ) (w : World) (left steps node number : ℕ) (os rest : List Opening) : Type 0
+  -- So many steps were begun freely, and then an OPEN with these files, of which so many are left to be opened. Whether
+  -- one that is too long is met is to be seen of those.
+  pub record OpensIn (first told : Contents) (text : List ℕ) (w : World) (left steps node number : ℕ)
+      (os rest : List Opening) : Type 0
     where
       pub stands : StandsIn first told text w left steps node
       pub begin : World
       pub begins : GoesOnAfter p g (told_files first paths) [] steps number begin
       pub same : meets_long p number os begin ≡ meets_long p number rest (seen told paths text w)
 
-  pub record Opens (start now : Outside) (w : World) (left steps node number : ℕ) (os rest : List Opening) : Type 0 where
+  pub record Opens (start now : Outside) (w : World) (left steps node number : ℕ)
+      (os rest : List Opening) : Type 0 where
     pub text : List ℕ
     pub well : IsWell start now text
-    pub told : IfTold (λ first told. OpensIn first told text w left steps node number os rest) (known_bytes start.files) (known_bytes now.files)
+    pub told : IfTold (λ first told. OpensIn first told text w left steps node number os rest)
+        (known_bytes start.files) (known_bytes now.files)
 
   -- ---- behind it
 
@@ -119,14 +122,17 @@ module _ (p : Program) (g : Graph) (paths : List (List ℕ)) where
       pub told : RestsIf (known_bytes start.files) (known_bytes now.files) text w result
 
     -- the answer is the run's, and the outside's files and sink hold what it has written and shown
-    pub record EndsRun (first told : Contents) (sink_before sink_after : SinkState) (result : Result Ended RunEnd) : Type 0 where
+    pub record EndsRun (first told : Contents) (sink_before sink_after : SinkState)
+        (result : Result Ended RunEnd) : Type 0 where
       pub steps : ℕ
       pub answer : IsEnd p (told_files first paths) budget result steps
       pub holds : Holds first told paths (state_after p (told_files first paths) steps).world.files
-      pub shows : sink_after.told ≡ append_known sink_before.told (state_after p (told_files first paths) steps).world.shown
+      pub shows : sink_after.told ≡ append_known sink_before.told
+          (state_after p (told_files first paths) steps).world.shown
 
     abbrev pub EndsRunIf : Option Contents → Option Contents → SinkState → SinkState → Result Ended RunEnd → Type 0
-    EndsRunIf a b sink_before sink_after result = IfTold (λ first told. EndsRun first told sink_before sink_after result) a b
+    EndsRunIf a b sink_before sink_after result =
+        IfTold (λ first told. EndsRun first told sink_before sink_after result) a b
 
     -- the run's own end: no fault of the outside was met
     pub record EndsWell (old new : Outside) (result : Result Ended RunEnd) : Type 0 where
@@ -135,8 +141,8 @@ module _ (p : Program) (g : Graph) (paths : List (List ℕ)) where
       pub faults : new.sink.faults ≡ old.sink.faults
       pub run : EndsRunIf (known_bytes old.files) (known_bytes new.files) old.sink new.sink result
 
-    -- The run was broken off behind so many steps, or in the next one: each file holds what it holds there, or a part of
-    -- it; what is shown is a front of what is shown there.
+    -- The run was broken off behind so many steps, or in the next one: each file holds what it holds there, or a part
+    -- of it; what is shown is a front of what is shown there.
     pub record BreaksOff (first told : Contents) (sink_before sink_after : SinkState) : Type 0 where
       pub steps : ℕ
       pub within : steps ≤ budget
@@ -149,7 +155,9 @@ module _ (p : Program) (g : Graph) (paths : List (List ℕ)) where
           (take n (state_after p (told_files first paths) steps).world.shown))
 
     abbrev pub IsBroken : Outside → Outside → Type 0
-    IsBroken start now = IfTold (λ first told. BreaksOff first told start.sink now.sink) (known_bytes start.files) (known_bytes now.files)
+    IsBroken start now =
+        IfTold (λ first told. BreaksOff first told start.sink now.sink) (known_bytes start.files)
+        (known_bytes now.files)
 
     -- a refusal by the outside, for want of memory, or of a file that's too long
     abbrev pub IfRefused : Result Ended RunEnd → Type 0 → Type 0
@@ -161,11 +169,13 @@ module _ (p : Program) (g : Graph) (paths : List (List ℕ)) where
 
     -- an input file is too long
     abbrev pub IsTooLong : Option Contents → ℕ → Type 0
-    IsTooLong known count = IfSome known (λ first. (n : ℕ) × IsEnd p (told_files first paths) budget (Err (end.Long count)) n)
+    IsTooLong known count =
+        IfSome known (λ first. (n : ℕ) × IsEnd p (told_files first paths) budget (Err (end.Long count)) n)
 
     -- Why the run was refused: a fault of the outside, which its count shows, or an input file that is too long. Of
     -- want of memory nothing is said. Any other answer is the run's own end.
-    abbrev pub EndsBy : (Outside → Outside → Result Ended RunEnd → Type 0) → Outside → Outside → Result Ended RunEnd → Type 0
+    abbrev pub EndsBy : (Outside → Outside → Result Ended RunEnd → Type 0) → Outside → Outside → Result Ended RunEnd
+        → Type 0
     EndsBy own old new (Err end.ReadFault) = RoseReading old new
     EndsBy own old new (Err end.WriteFault) = RoseWriting old new
     EndsBy own old new (Err end.Memory) = Unit {0}
@@ -177,7 +187,8 @@ module _ (p : Program) (g : Graph) (paths : List (List ℕ)) where
     Halts start now w result = EndsBy (λ old new r. Rests old new w r) start now result
 
     -- what a call answers that opens a file in an OPEN
-    abbrev pub ArrivesOpening : Outside → Outside → World → ℕ → ℕ → List Opening → List Opening → Result ℕ RunEnd → Type 0
+    abbrev pub ArrivesOpening : Outside → Outside → World → ℕ → ℕ → List Opening → List Opening → Result ℕ RunEnd
+        → Type 0
     ArrivesOpening start now w steps number os rest (Ok node) = Opens start now w (steps + 1) steps node number os rest
     ArrivesOpening start now w steps number os rest (Err e) = Halts start now w (Err e)
 
@@ -218,4 +229,5 @@ KeepsUnmade p paths first told =
 -- Whether the sink refused text: then that is why the run was refused, and else it told no fault.
 pub record TellsOfSink (old new : SinkState) (e : Ending) : Type 0 where
   pub kept : e.sink_refused ≡ false → new.faults ≡ old.faults
-  pub refused : e.sink_refused ≡ true → ((e.end ≡ Err end.WriteFault) × Rose old.faults new.faults) ⊎ (e.end ≡ Err end.Memory)
+  pub refused : e.sink_refused ≡ true
+      → ((e.end ≡ Err end.WriteFault) × Rose old.faults new.faults) ⊎ (e.end ≡ Err end.Memory)

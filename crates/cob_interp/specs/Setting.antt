@@ -1,5 +1,5 @@
 -- What holds of what a run is of.
-use Rattle.std.specs.Prelude.{◌≡◌, ℕ, true, List, map, Option, Some, String, string_bytes}
+use Rattle.std.specs.Prelude.{◌≡◌, ℕ, true, List, map, String, string_bytes}
 use Rattle.std.specs.declared.alloc.Global.{Global}
 use Rattle.std.specs.List.{All}
 use Rattle.cob_program.specs.declared.act.Opening.{Opening}

@@ -1,6 +1,6 @@
--- How the world of a program's run stands in what the interpreter keeps: a world of its own, the outside's files, and the
--- text that was already shown.
-use Rattle.std.specs.Prelude.{◌≡◌, ◌≢◌, ℕ, Bool, true, false, List, [], ◌∷◌, ◌++◌, length, map, slice_get, Contains, Option, Some, None}
+-- How the world of a program's run stands in what the interpreter keeps: a world of its own, the outside's files, and
+-- the text that was already shown.
+use Rattle.std.specs.Prelude.{◌≡◌, ◌≢◌, ℕ, Bool, true, false, List, [], ◌∷◌, ◌++◌, map, Contains, Option, Some}
 use Rattle.std.specs.FinMap.{get}
 use Rattle.batch_io.specs.FilesState.{Contents}
 use Rattle.cob_runs.specs.Files.{File, file, Mode, closed, reading, writing}
@@ -23,7 +23,8 @@ module _ (told : Contents) where
 
   -- the world that the run works on, where this text was shown already
   abbrev pub seen : List (List ℕ) → List ℕ → World → World
-  seen paths text w = record { storage = w.storage; counts = w.counts; files = seen_files paths w.files; shown = text ++ w.shown }
+  seen paths text w =
+      record { storage = w.storage; counts = w.counts; files = seen_files paths w.files; shown = text ++ w.shown }
 
   -- An open file is told too: all of it where it is read, and nothing yet where it is written.
   abbrev pub IsSyncedIn : Mode → List ℕ → Option (List ℕ) → Type 0

@@ -1,28 +1,95 @@
--- Why a run halts.
-use Rattle.std.specs.Prelude.{◌≡◌, Result, Ok, Err}
+-- Why a run halts, and what becomes of text and files that wait.
+use Rattle.std.specs.Prelude.{◌≡◌, ◌≤◌, ◌<◌, ◌⊎◌, ℕ, Bool, true, false, List, take, slice_get, Option, Some, Result, Ok, Err}
+use Rattle.std.specs.FinMap.{get}
+use Rattle.std.specs.Io.KnownBytes.{append_known}
 use Rattle.batch_io.specs.Faults.{Rose}
+use Rattle.batch_io.specs.FilesState.{Contents, FilesState, known_bytes}
 use Rattle.batch_io.specs.SinkState.{SinkState}
 use Rattle.batch_io.specs.declared.ends.MakeEnd.{MakeEnd}
 use Rattle.batch_io.specs.declared.ends.MakeEnd.TheVariants as make
+use Rattle.cob_runs.specs.Files.{File}
+use Rattle.cob_runs.specs.State.{World}
+use Rattle.cob_world.specs.Becoming.{without_shown}
 use Rattle.cob_interp.specs.declared.ends.Ended.{Ended}
 use Rattle.cob_interp.specs.declared.ends.RunEnd.{RunEnd}
 use Rattle.cob_interp.specs.declared.ends.RunEnd.TheVariants as end
 use Rattle.cob_interp.specs.declared.walk.Halt.{Halt}
 use Rattle.cob_interp.specs.declared.walk.Halt.TheVariants as halt
+use Rattle.cob_interp.specs.Readying.{AreWell}
+use Rattle.cob_interp.specs.Told.{KeepsNames, IsReadyToClose}
 
 -- the sink's refusal as the run's
 abbrev pub by_sink : MakeEnd → RunEnd
 by_sink make.Failed = end.WriteFault
 by_sink make.Memory = end.Memory
 
-abbrev pub as_result : Result Ended Halt → Result Ended RunEnd
-as_result (Ok e) = Ok e
+abbrev pub as_result : {A : Type 0} → Result A Halt → Result A RunEnd
+as_result (Ok a) = Ok a
 as_result (Err (halt.End e)) = Err e
 as_result (Err (halt.Sink e)) = Err (by_sink e)
 
+-- why the sink refused text
+abbrev pub IsSinkRefusal : SinkState → SinkState → MakeEnd → Type 0
+IsSinkRefusal old new make.Failed = Rose old.faults new.faults
+IsSinkRefusal old new make.Memory = Unit {0}
+
 -- a fault of the sink is told where it refused text, and else none
 abbrev pub TellsBySink : {A : Type 0} → SinkState → SinkState → Result A Halt → Type 0
-TellsBySink old new (Err (halt.Sink make.Failed)) = Rose old.faults new.faults
-TellsBySink old new (Err (halt.Sink make.Memory)) = Unit {0}
+TellsBySink old new (Err (halt.Sink e)) = IsSinkRefusal old new e
 TellsBySink old new (Err (halt.End e)) = new.faults ≡ old.faults
 TellsBySink old new (Ok a) = new.faults ≡ old.faults
+
+-- ---- text that waits
+
+-- the sink took this text
+pub record Gains (old new : SinkState) (text : List ℕ) : Type 0 where
+  pub faults : new.faults ≡ old.faults
+  pub told : new.told ≡ append_known old.told text
+
+-- all of it was shown
+pub record Flushes (old new : SinkState) (w v : World) : Type 0 where
+  pub gains : Gains old new w.shown
+  pub world : v ≡ without_shown w
+
+-- all of it was shown, or it goes on waiting
+abbrev pub MayFlush : SinkState → SinkState → World → World → Type 0
+MayFlush old new w v = Flushes old new w v ⊎ ((new ≡ old) × (v ≡ w))
+
+-- the sink took a front of it and refused the rest, and it all goes on waiting
+pub record Refuses (old new : SinkState) (w v : World) (e : MakeEnd) : Type 0 where
+  pub front : (n : ℕ) × (new.told ≡ append_known old.told (take n w.shown))
+  pub why : IsSinkRefusal old new e
+  pub world : v ≡ w
+
+-- ---- files that wait
+
+-- The files at the first places are told, so many of them, and at the others what was told.
+pub record IsPutTo (paths : List (List ℕ)) (w : World) (count : ℕ) (told : Contents)
+    (known : Option Contents) : Type 0 where
+  pub now : Contents
+  pub is : known ≡ Some now
+  pub done : (place : ℕ) (path : List ℕ) (f : File) → place < count → slice_get paths place ≡ Some path
+      → slice_get w.files place ≡ Some f
+      → IsReadyToClose told now path f
+  pub left : (place : ℕ) (path : List ℕ) → count ≤ place → slice_get paths place ≡ Some path
+      → get now path ≡ get told path
+  pub others : KeepsNames told now paths
+
+pub record PutsTo (paths : List (List ℕ)) (w : World) (count : ℕ) (old new : FilesState) : Type 0 where
+  pub well : AreWell old new
+  pub known : (told : Contents) → known_bytes old ≡ Some told → IsPutTo paths w count told (known_bytes new)
+
+-- ---- ends
+
+-- the outside or memory failed, or a file is too long
+abbrev pub is_refused : RunEnd → Bool
+is_refused end.ReadFault = true
+is_refused end.WriteFault = true
+is_refused end.Memory = true
+is_refused (end.Long count) = true
+is_refused _ = false
+
+-- the run's own
+abbrev pub IsOwnEnd : Result Ended RunEnd → Type 0
+IsOwnEnd (Ok e) = Unit {0}
+IsOwnEnd (Err e) = is_refused e ≡ false

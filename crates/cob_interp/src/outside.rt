@@ -2,7 +2,8 @@
 ghost use Rattle.std.specs.Prelude.{◌≡◌, MatchResult, [], ◌∷◌, length, false};
 ghost use Rattle.std.specs.Option.{option_map};
 ghost use Rattle.batch_io.specs.FilesState.{KeepsIds, known_bytes};
-ghost use Rattle.cob_interp.specs.Readying.{IsRefusal, Puts, Reads, IsRefusedToLoad, Readies, ReadyToClose, LoadsInto, ReadyToOpen, IsRefusedToOpen};
+ghost use Rattle.cob_interp.specs.Readying.{IsRefusal, Puts, Reads, IsRefusedToLoad, Readies, ReadyToClose};
+ghost use Rattle.cob_interp.specs.Readying.{LoadsInto, ReadyToOpen, IsRefusedToOpen};
 ghost use Rattle.cob_interp.specs.Ends.{is_closed};
 ghost use Rattle.cob_interp.specs.Told.{IsReadyToClose};
 ghost use Rattle.cob_interp.specs.Touching.{PutsPart, TouchesOne, Touches, Makes, OpensOnly, makes_in, makes_none};

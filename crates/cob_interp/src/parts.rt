@@ -4,7 +4,8 @@ ghost use Rattle.cob_interp.specs.Setting.{IsCall};
 
 use cob_program::{Act, Opening};
 
-/// Statements apart by how they call the outside's files: OPEN and CLOSE with their files, READ with its file, and others.
+/// Statements apart by how they call the outside's files: OPEN and CLOSE with their files, READ with its file, and
+/// others.
 #[derive(Clone, Copy)]
 pub enum Call<'a> {
     Open(&'a [Opening]),

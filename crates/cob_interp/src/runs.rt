@@ -1,14 +1,18 @@
 //! A program is run on the outside's files.
-ghost use Rattle.std.specs.Prelude.{◌≡◌, length};
+ghost use Rattle.std.specs.Prelude.{◌≡◌, ℕ, true, false, MatchResult, length};
 ghost use Rattle.batch_io.specs.FilesState.{KeepsIds};
+ghost use Rattle.batch_io.specs.SinkState.{SinkState};
 ghost use Rattle.cob_graph.specs.Graphs.{IsGraph};
 ghost use Rattle.cob_graph.specs.Walks.{IsWhole};
 ghost use Rattle.cob_items.specs.Sound.{HasSoundItems};
 ghost use Rattle.cob_program.specs.ActView.{plain_program};
 ghost use Rattle.cob_world.specs.Doing.{CanDoProgram};
-ghost use Rattle.cob_interp.specs.Running.{outside, Runs, TellsOfSink};
-ghost use Rattle.cob_interp.specs.Setting.{texts};
+ghost use Rattle.cob_interp.specs.Readying.{ReadyToClose, IsRefusal};
+ghost use Rattle.cob_interp.specs.Running.{Outside, outside, HaltsOff, Runs, TellsOfSink};
+ghost use Rattle.cob_interp.specs.Setting.{IsReady, program_of, paths_of, texts};
 ghost use Rattle.cob_interp.specs.Told.{AreDistinct};
+ghost use Rattle.cob_interp.specs.Touching.{Touches, makes_none};
+ghost use Rattle.cob_interp.specs.Walking.{by_sink, as_result, TellsBySink, PutsTo, is_refused, IsOwnEnd};
 
 use crate::ends::{Ended, Ending, RunEnd};
 use crate::outside::ready_to_close;
@@ -22,16 +26,45 @@ use cob_ways::ways_tell_of_runs;
 use cob_world::World;
 use std::alloc::Global;
 
+/// Puts the file at a place, where it is still being written.
+fn put_at<F: Files>(
+    setting: &Setting,
+    files: &mut F,
+    world: &World,
+    place: usize,
+) -> Result<(), RunEnd>
+    requires ready { IsReady setting.now }
+    ensures readies { MatchResult result
+        (λ _. ReadyToClose setting.now world.now place (F.state files.old) (F.state files.new))
+        (λ end. IsRefusal (F.state files.old) (F.state files.new) end) }
+    ensures touches { Touches (paths_of setting.now) makes_none world.now (F.state files.old) (F.state files.new) }
+{
+    match u32::try_from(place) {
+        Err(_) => Err(RunEnd::Memory),
+        Ok(place) => ready_to_close(setting, files, world, place),
+    }
+}
+
 /// Puts each file that is still being written.
-fn put_all<F: Files>(setting: &Setting, files: &mut F, world: &World) -> Result<(), RunEnd> {
-    for place in 0..setting.paths.len() as u32 {
-        ready_to_close(setting, files, world, place)?;
+fn put_all<F: Files>(setting: &Setting, files: &mut F, world: &World) -> Result<(), RunEnd>
+    requires ready { IsReady setting.now }
+    ensures puts { MatchResult result
+        (λ _. PutsTo (paths_of setting.now) world.now (length setting.now.paths.now)
+        (F.state files.old) (F.state files.new))
+        (λ end. IsRefusal (F.state files.old) (F.state files.new) end) }
+    ensures touches { Touches (paths_of setting.now) makes_none world.now (F.state files.old) (F.state files.new) }
+{
+    for place in 0..setting.paths.len() {
+        put_at(setting, files, world, place)?;
     }
     Ok(())
 }
 
-/// The refusal of a sink as the run's.
-fn refused_by_sink(end: MakeEnd) -> Ending {
+/// A refusal of the sink as the run's.
+fn refused_by_sink(end: MakeEnd) -> Ending
+    ensures end { result.end ≡ Err (by_sink end) }
+    ensures refused { result.sink_refused ≡ true }
+{
     Ending {
         end: Err(match end {
             MakeEnd::Failed => RunEnd::WriteFault,
@@ -48,19 +81,42 @@ fn finish<F: Files, O: Sink>(
     world: &mut World,
     out: &mut O,
     end: Result<Ended, RunEnd>,
-) -> Ending {
-    if let Err(refusal) = flush(world, out) {
-        return refused_by_sink(refusal);
+) -> Ending
+    requires ready { IsReady setting.now }
+    requires own { IsOwnEnd end }
+    ensures runs { (budget : ℕ) (start : Outside)
+        → HaltsOff (program_of setting.now) setting.now.graph.now (paths_of setting.now) budget start
+        (outside (F.state files.old) (O.state out.old)) world.old end
+        → Runs (program_of setting.now) setting.now.graph.now (paths_of setting.now) budget start
+        (outside (F.state files.new) (O.state out.new)) result.end }
+    ensures sink { TellsOfSink (O.state out.old) (O.state out.new) result }
+    ensures ids { KeepsIds (F.state files.old) (F.state files.new) }
+{
+    match flush(world, out) {
+        Err(refusal) => refused_by_sink(refusal),
+        Ok(()) => match put_all(setting, files, world) {
+            Err(refusal) => Ending {
+                end: Err(refusal),
+                sink_refused: false,
+            },
+            Ok(()) => Ending {
+                end,
+                sink_refused: false,
+            },
+        },
     }
-    match put_all(setting, files, world) {
-        Ok(()) => Ending {
-            end,
-            sink_refused: false,
-        },
-        Err(refusal) => Ending {
-            end: Err(refusal),
-            sink_refused: false,
-        },
+}
+
+/// Whether the outside or memory failed, or a file is too long.
+fn is_refused(end: RunEnd) -> bool
+    ensures { result ≡ is_refused end }
+{
+    match end {
+        RunEnd::ReadFault | RunEnd::WriteFault | RunEnd::Long(_) | RunEnd::Memory => true,
+        RunEnd::Ragged { .. }
+        | RunEnd::StepsSpent(_)
+        | RunEnd::IoStop { .. }
+        | RunEnd::Fault { .. } => false,
     }
 }
 
@@ -71,20 +127,30 @@ fn ending_of<F: Files, O: Sink>(
     world: &mut World,
     out: &mut O,
     halted: Result<Ended, Halt>,
-) -> Ending {
+) -> Ending
+    requires ready { IsReady setting.now }
+    ensures runs { (budget : ℕ) (start : Outside)
+        → HaltsOff (program_of setting.now) setting.now.graph.now (paths_of setting.now) budget start
+        (outside (F.state files.old) (O.state out.old)) world.old (as_result halted)
+        → Runs (program_of setting.now) setting.now.graph.now (paths_of setting.now) budget start
+        (outside (F.state files.new) (O.state out.new)) result.end }
+    ensures sink { (first : SinkState) → TellsBySink first (O.state out.old) halted
+        → TellsOfSink first (O.state out.new) result }
+    ensures ids { KeepsIds (F.state files.old) (F.state files.new) }
+{
     match halted {
-        Err(Halt::Sink(refusal)) => refused_by_sink(refusal),
-        Err(
-            Halt::End(
-                end
-                @ (RunEnd::ReadFault | RunEnd::WriteFault | RunEnd::Long(_) | RunEnd::Memory),
-            ),
-        ) => Ending {
-            end: Err(end),
-            sink_refused: false,
-        },
-        Err(Halt::End(end)) => finish(setting, files, world, out, Err(end)),
         Ok(ended) => finish(setting, files, world, out, Ok(ended)),
+        Err(Halt::Sink(refusal)) => refused_by_sink(refusal),
+        Err(Halt::End(end)) => {
+            if is_refused(end) {
+                Ending {
+                    end: Err(end),
+                    sink_refused: false,
+                }
+            } else {
+                finish(setting, files, world, out, Err(end))
+            }
+        }
     }
 }
 

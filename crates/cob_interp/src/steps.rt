@@ -4,7 +4,8 @@ ghost use Rattle.batch_io.specs.SinkState.{SinkState};
 ghost use Rattle.cob_data.specs.declared.layout.FileDecl as declared;
 ghost use Rattle.cob_program.specs.ActView.{plain_act};
 ghost use Rattle.cob_runs.specs.Acts.{decl_at};
-ghost use Rattle.cob_interp.specs.Ends.{is_cut, cut_file};
+ghost use Rattle.cob_world.specs.Views.{plain_mode};
+ghost use Rattle.cob_interp.specs.Ends.{is_cut, cut_file, reads_on};
 ghost use Rattle.cob_interp.specs.Running.{Outside, outside, Stands, Arrives};
 ghost use Rattle.cob_interp.specs.Setting.{IsReady, StartsAt, program_of, paths_of};
 ghost use Rattle.cob_interp.specs.Touching.{Touches, ClosesOnly, makes_by, makes_none};
@@ -32,7 +33,8 @@ fn do_node(
     requires ready { IsReady setting.now }
     requires whole { length world.old.storage ≡ setting.now.program.now.layout.storage }
     ensures kept { length world.new.storage ≡ length world.old.storage }
-    ensures leads { (now : Outside) (budget : ℕ) → Leads setting.now budget step node now now world.old world.new result }
+    ensures leads { (now : Outside) (budget : ℕ)
+        → Leads setting.now budget step node now now world.old world.new result }
 {
     let Some(place) = setting.place(node) else {
         return Err(RunEnd::Memory);
@@ -56,7 +58,8 @@ fn go(
     requires ready { IsReady setting.now }
     requires whole { length world.old.storage ≡ setting.now.program.now.layout.storage }
     ensures kept { length world.new.storage ≡ length world.old.storage }
-    ensures leads { (now : Outside) (budget : ℕ) → Leads setting.now budget step node now now world.old world.new result }
+    ensures leads { (now : Outside) (budget : ℕ)
+        → Leads setting.now budget step node now now world.old world.new result }
 {
     let mut at = node;
     for _ in 0..setting.plan.spots.len() {
@@ -121,15 +124,19 @@ fn close_all<F: Files>(
     Err(RunEnd::Memory)
 }
 
+fn reads_on(mode: FileMode) -> bool
+    ensures { result ≡ reads_on (plain_mode mode) }
+{
+    matches!(mode, FileMode::Reading { ended: false })
+}
+
 /// Whether a READ of so many bytes would meet fewer of them at the end of the file.
 fn is_cut(file: &File, size: u32) -> bool
     ensures { (d : declared.FileDecl) → d.length ≡ size → result ≡ is_cut d file.now }
 {
     let length = file.all().len();
     let place = file.place();
-    file.mode() == (FileMode::Reading { ended: false })
-        && place < length
-        && length - place < size as usize
+    reads_on(file.mode()) && place < length && length - place < size as usize
 }
 
 /// Refuses a READ that would meet a ragged end.
@@ -138,16 +145,19 @@ fn check_cut(setting: &Setting, world: &World, file: u32) -> Result<(), RunEnd>
         (λ _. cut_file (decl_at setting.now.program.now.layout file) (slice_get world.now.files file) ≡ false)
         (λ e. IsRaggedAt setting.now world.now file e) }
 {
-    match (
-        setting.program.layout.files.get().get(file as usize),
-        world.file(file as usize),
-    ) {
-        (Some(decl), Some(found)) if is_cut(found, decl.length) => Err(RunEnd::Ragged {
+    let Some(decl) = setting.program.layout.files.get().get(file as usize) else {
+        return Ok(());
+    };
+    let Some(found) = world.file(file as usize) else {
+        return Ok(());
+    };
+    if is_cut(found, decl.length) {
+        return Err(RunEnd::Ragged {
             file,
             length: found.all().len() as u64,
-        }),
-        _ => Ok(()),
+        });
     }
+    Ok(())
 }
 
 /// Takes a step from a node at which it begins. Answers the node behind it.
@@ -174,7 +184,14 @@ pub fn take_step<F: Files>(
 {
     match call_of(place.statement.act) {
         Call::Open(openings) => open_all(
-            alloc, setting, files, world, node, place.spot.statement, openings, step,
+            alloc,
+            setting,
+            files,
+            world,
+            node,
+            place.spot.statement,
+            openings,
+            step,
         ),
         Call::Close(_) => close_all(alloc, setting, files, world, node, step),
         Call::Read(file) => {

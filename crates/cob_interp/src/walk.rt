@@ -1,11 +1,10 @@
 //! A run from its first node to its end.
-ghost use Rattle.std.specs.Prelude.{◌≡◌, ℕ, MatchResult, length};
+ghost use Rattle.std.specs.Prelude.{◌≡◌, ◌+◌, ◌<◌, ℕ, MatchResult, length};
 ghost use Rattle.batch_io.specs.FilesState.{KeepsIds};
-ghost use Rattle.batch_io.specs.Wholes.{ShowsWhole};
-ghost use Rattle.cob_world.specs.Becoming.{without_shown};
-ghost use Rattle.cob_interp.specs.Running.{Outside, outside, IsAt, HaltsOff};
+ghost use Rattle.cob_runs.specs.State.{World};
+ghost use Rattle.cob_interp.specs.Running.{Outside, outside, IsAt, GoesOn, HaltsOff};
 ghost use Rattle.cob_interp.specs.Setting.{IsReady, program_of, paths_of};
-ghost use Rattle.cob_interp.specs.Walking.{as_result, TellsBySink};
+ghost use Rattle.cob_interp.specs.Walking.{as_result, TellsBySink, Flushes, MayFlush, Refuses};
 
 use crate::ends::{Ended, RunEnd};
 use crate::parts::{Call, call_of};
@@ -28,8 +27,9 @@ pub enum Halt {
 /// Shows the text that waits.
 pub fn flush<O: Sink>(world: &mut World, out: &mut O) -> Result<(), MakeEnd>
     ensures kept { length world.new.storage ≡ length world.old.storage }
-    ensures shows { ShowsWhole (O.state out.old) (O.state out.new) world.old.shown result }
-    ensures world { MatchResult result (λ _. world.new ≡ without_shown world.old) (λ _. world.new ≡ world.old) }
+    ensures flushes { MatchResult result
+        (λ _. Flushes (O.state out.old) (O.state out.new) world.old world.new)
+        (λ end. Refuses (O.state out.old) (O.state out.new) world.old world.new end) }
 {
     show_whole(out, world.shown())?;
     world.clear_shown();
@@ -45,6 +45,20 @@ fn is_flushed_before(place: &Place, world: &World) -> bool {
     calls || world.shown().len() > SHOWN_LIMIT
 }
 
+/// Shows the text that waits, where that's due before a statement.
+fn flush_before<O: Sink>(place: &Place, world: &mut World, out: &mut O) -> Result<(), MakeEnd>
+    ensures kept { length world.new.storage ≡ length world.old.storage }
+    ensures flushes { MatchResult result
+        (λ _. MayFlush (O.state out.old) (O.state out.new) world.old world.new)
+        (λ end. Refuses (O.state out.old) (O.state out.new) world.old world.new end) }
+{
+    if is_flushed_before(place, world) {
+        flush(world, out)
+    } else {
+        Ok(())
+    }
+}
+
 /// Shows text that waits, where that's due, and takes a step. Answers the node behind it.
 fn go_on<F: Files, O: Sink>(
     alloc: Global,
@@ -54,23 +68,37 @@ fn go_on<F: Files, O: Sink>(
     out: &mut O,
     node: u32,
     step: u64,
-) -> Result<u32, Halt> {
+) -> Result<u32, Halt>
+    requires ready { IsReady setting.now }
+    requires whole { length world.old.storage ≡ setting.now.program.now.layout.storage }
+    ensures kept { length world.new.storage ≡ length world.old.storage }
+    ensures goes { (budget steps : ℕ) (start : Outside) → step ≡ steps + 1 → steps < budget
+        → IsAt (program_of setting.now) setting.now.graph.now (paths_of setting.now) budget start
+        (outside (F.state files.old) (O.state out.old)) world.old steps node
+        → GoesOn (program_of setting.now) setting.now.graph.now (paths_of setting.now) budget start
+        (outside (F.state files.new) (O.state out.new)) world.new step (as_result result) }
+    ensures sink { TellsBySink (O.state out.old) (O.state out.new) result }
+    ensures ids { KeepsIds (F.state files.old) (F.state files.new) }
+{
     let Some(place) = setting.start(node) else {
         return Err(Halt::End(RunEnd::Memory));
     };
-    if is_flushed_before(&place, world)
-        && let Err(end) = flush(world, out)
-    {
-        return Err(Halt::Sink(end));
-    }
-    match take_step(alloc, setting, files, world, &place, node, step) {
-        Ok(next) => Ok(next),
-        Err(end) => Err(Halt::End(end)),
+    match flush_before(&place, world, out) {
+        Err(end) => Err(Halt::Sink(end)),
+        Ok(()) => match take_step(alloc, setting, files, world, &place, node, step) {
+            Err(end) => Err(Halt::End(end)),
+            Ok(next) => Ok(next),
+        },
     }
 }
 
 /// The end of a run whose budget is spent at a node.
-fn end_at(setting: &Setting, node: u32, budget: u64) -> Result<Ended, RunEnd> {
+fn end_at(setting: &Setting, node: u32, budget: u64) -> Result<Ended, RunEnd>
+    requires { IsReady setting.now }
+    ensures { (start now : Outside) (w : World)
+        → IsAt (program_of setting.now) setting.now.graph.now (paths_of setting.now) budget start now w budget node
+        → HaltsOff (program_of setting.now) setting.now.graph.now (paths_of setting.now) budget start now w result }
+{
     if setting.is_final(node) {
         return Ok(Ended { steps: budget });
     }

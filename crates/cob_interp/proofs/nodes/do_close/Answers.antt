@@ -1,8 +1,7 @@
-use Rattle.std.proofs.Common.{sym}
-use Rattle.cob_interp.proofs.CloseLemmas.{close_leads}
-use Rattle.std.proofs.Common.{Some, ap, ◌∙◌}
+use Rattle.std.proofs.Common.{sym, Some, ap, ◌∙◌}
 use Rattle.cob_interp.specs.Setting.{paths_of}
 use Rattle.cob_interp.specs.Touching.{makes_none}
+use Rattle.cob_interp.proofs.CloseLemmas.{close_leads}
 use Rattle.cob_interp.proofs.Touched.{touches_stay}
 use Rattle.cob_interp.proofs.Closings.{close_part}
 use Rattle.cob_interp.proofs.nodes.do_close.Goals as goal

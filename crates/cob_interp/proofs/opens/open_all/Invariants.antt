@@ -16,9 +16,11 @@ invariant-loop-number g l = record {
   opens : (sink : SinkState) (budget steps : ℕ) → l.step ≡ steps + 1 → (start : Outside) → steps < budget
       → act_at (program_of l.setting) l.statement ≡ Some (open_files l.openings)
       → ((x : Node) → node_at l.setting.graph.now.nodes l.node ≡ Some x → x.starts ≡ true)
-      → Opens (program_of l.setting) l.setting.graph.now (paths_of l.setting) start (outside (g.F.Files.state l.fn.files) sink)
+      → Opens (program_of l.setting) l.setting.graph.now (paths_of l.setting) start
+      (outside (g.F.Files.state l.fn.files) sink)
       l.fn.world steps steps l.node l.statement l.openings l.openings
-      → Opens (program_of l.setting) l.setting.graph.now (paths_of l.setting) start (outside (g.F.Files.state l.files) sink)
+      → Opens (program_of l.setting) l.setting.graph.now (paths_of l.setting) start
+      (outside (g.F.Files.state l.files) sink)
       l.world (steps + 1) steps l.at l.statement l.openings (drop l.number l.openings);
   touches : Makes (paths_of l.setting) (makes_in l.openings) l.fn.world (g.F.Files.state l.fn.files)
       (g.F.Files.state l.files);

@@ -6,7 +6,8 @@ use Rattle.cob_interp.proofs.outside.put_written.Goals as goal
 
 pub returns-in_ok-put-in-Some-clause-readies : goal.returns-in_ok-put-in-Some-clause-readies
 returns-in_ok-put-in-Some-clause-readies g c =
-    put_ready _ _ c.args.path.now c.args.file.now c.in-Some.bytes.now (sym c.mode.ensures ∙ ap plain_mode c.in-Writing.is) (sym c.in-Some.ensures)
+    put_ready _ _ c.args.path.now c.args.file.now c.in-Some.bytes.now
+    (sym c.mode.ensures ∙ ap plain_mode c.in-Writing.is) (sym c.in-Some.ensures)
     c.in_ok-put-in-Some.ensures.puts
 
 pub returns-in-Closed : goal.returns-in-Closed

@@ -1,4 +1,5 @@
-use Rattle.std.proofs.Common.{refl, ◌∙◌, arith}
+use Rattle.std.proofs.Common.{◌∙◌, arith, refl}
+use Rattle.std.proofs.lemmas.Result.{err_from_is_err_and}
 use Rattle.cob_interp.specs.Setting.{paths_of}
 use Rattle.cob_interp.specs.Touching.{makes_none}
 use Rattle.cob_interp.proofs.StepLemmas.{goes_on_underway}
@@ -34,3 +35,10 @@ pub returns-then-rests_at-clause-touches : goal.returns-then-rests_at-clause-tou
 returns-then-rests_at-clause-touches g c =
     touches_on (paths_of c.args.setting.now) _ _ _ _ _ c.loop.invariant.touches c.loop.invariant.only
     c.in_ok-at.ensures.touches
+
+pub returns-in_err-at-clause-leads : goal.returns-in_err-at-clause-leads
+returns-in_err-at-clause-leads g c =
+    let p = err_from_is_err_and c.from_residual.result c.from_residual.ensures.1 in
+    rw (p.1, p.2)
+    (λ sink budget start within u. c.in_err-at.ensures.leads sink budget start within
+    (c.loop.invariant.underway sink start u))

@@ -10,9 +10,11 @@ abbrev pub invariant-loop : goal.invariant-loop
 invariant-loop g l = record {
   kept : length l.world.storage ≡ length l.fn.world.storage;
   underway : (sink : SinkState) (start : Outside)
-      → IsUnderway (program_of l.setting) l.setting.graph.now (paths_of l.setting) start (outside (g.F.Files.state l.fn.files) sink)
+      → IsUnderway (program_of l.setting) l.setting.graph.now (paths_of l.setting) start
+      (outside (g.F.Files.state l.fn.files) sink)
       l.fn.world l.step l.node
-      → IsUnderway (program_of l.setting) l.setting.graph.now (paths_of l.setting) start (outside (g.F.Files.state l.files) sink)
+      → IsUnderway (program_of l.setting) l.setting.graph.now (paths_of l.setting) start
+      (outside (g.F.Files.state l.files) sink)
       l.world l.step l.at;
   touches : Touches (paths_of l.setting) makes_none l.fn.world (g.F.Files.state l.fn.files) (g.F.Files.state l.files);
   only : ClosesOnly l.fn.world l.world;

@@ -14,3 +14,6 @@ returns-in-Open g c = record {
   touches = touches_stay (paths_of c.args.setting.now) makes_none c.args.world.now _;
   closes = tt;
 }
+
+pub returns-in-Close-clause-leads : goal.returns-in-Close-clause-leads
+returns-in-Close-clause-leads g c = λ sink budget. c.do_close.ensures.leads sink c.args.node budget c.in-Some.ensures
