@@ -7,6 +7,7 @@ use Rattle.std.proofs.lemmas.List.{length-map}
 use Rattle.std.proofs.lemmas.List.FromFn.{length-range_with_len}
 use Rattle.cob_tree.specs.declared.token.Token.{Token}
 use Rattle.cob_program.specs.Act as act
+use Rattle.cob_program.specs.ActView.{plain_program}
 use Rattle.cob_scan.specs.Scan.{Scan, BadLineAt, BadTokenAt, Tokens}
 use Rattle.cob_front.specs.declared.end.FrontEnd.{FrontEnd}
 use Rattle.cob_front.specs.Control.{IsControlCause}
@@ -17,8 +18,9 @@ use Rattle.straight_source.specs.declared.read.StraightLines.{StraightLines}
 use Rattle.cob_meaning.specs.Program.{Program}
 use Rattle.straight_source.proofs.Whole.{counts, one_refusal, read_or_refused}
 use Rattle.straight_source.proofs.One.{same_source}
+use Rattle.analyse_top.specs.declared.source.Laid.{Laid}
 use Rattle.analyse_top.specs.Profile.{IsOfProfile, IsProfileCause, IsWritten, IsNotStraight}
-use Rattle.analyse_top.specs.Steps.{IsCheckable}
+use Rattle.analyse_top.specs.Steps.{IsLaid, IsCheckable}
 use Rattle.analyse_top.proofs.Control.{one_control_cause}
 
 -- what bytes end in
@@ -66,7 +68,7 @@ one_writing bytes ts us s t h k =
 -- ---- causes
 
 module _ (law : (bytes : List ℕ) → OneAnswer bytes) (bytes : List ℕ) where
-  one_cause : (d e : FrontEnd) → IsProfileCause bytes d → IsProfileCause bytes e → d ≡ e
+  pub one_cause : (d e : FrontEnd) → IsProfileCause bytes d → IsProfileCause bytes e → d ≡ e
   one_cause d e (inl h) (inl k) = (law bytes).one_cause d e h k
   one_cause d e (inl h) (inr (q, is, k)) = absurd ((law bytes).not_both q d is h)
   one_cause d e (inr (p, is, h)) (inl k) = absurd ((law bytes).not_both p e is k)
@@ -74,7 +76,7 @@ module _ (law : (bytes : List ℕ) → OneAnswer bytes) (bytes : List ℕ) where
       let same : p ≡ q = (law bytes).one_program p q is also in
       one_control_cause q d e (subst (λ (x : act.Program). IsControlCause x d) same h) k
 
-  none_in_profile : (e : FrontEnd) → IsOfProfile bytes → IsProfileCause bytes e → ⊥
+  pub none_in_profile : (e : FrontEnd) → IsOfProfile bytes → IsProfileCause bytes e → ⊥
   none_in_profile e h (inl k) = (law bytes).not_both h.program e h.is_source k
   none_in_profile e h (inr (q, is, k)) =
       let same : q ≡ h.program = (law bytes).one_program q h.program is h.is_source in
@@ -92,6 +94,15 @@ module _ (law : (bytes : List ℕ) → OneAnswer bytes) (bytes : List ℕ) where
   one_ending (written ts s) (written us t) h k = one_writing bytes ts us s t h k
 
 -- ---- what the checker needs
+
+pub of_profile : (bytes : List ℕ) (laid : Laid) → IsLaid bytes laid → IsOfProfile bytes
+of_profile bytes laid h = record {
+  program = plain_program laid.program;
+  is_source = h.is_source;
+  graph = laid.graph;
+  is_graph = h.is_graph;
+  within = h.within;
+}
 
 pub checkable : (tokens : List Token) (read : StraightLines) (source : Source) → IsReading tokens read source → IsCheckable read
 checkable tokens read source h =

@@ -44,4 +44,6 @@ fn main(rt: HostRuntime) -> ExitCode {
 }
 
 #[cfg(test)]
+mod payroll;
+#[cfg(test)]
 mod tests;

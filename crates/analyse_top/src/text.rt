@@ -346,12 +346,7 @@ fn push_stop(text: &mut Vec<u8>, status: u8, statement: u32) -> Result<(), Alloc
     text.extend_from_slice(b"\n")
 }
 
-fn push_fault(
-    text: &mut Vec<u8>,
-    kind: Kind,
-    statement: u32,
-    step: u64,
-) -> Result<(), AllocError>
+fn push_fault(text: &mut Vec<u8>, kind: Kind, statement: u32, step: u64) -> Result<(), AllocError>
     ensures { OnOk result (text.new.items ≡ text.old.items ++ fault_line kind statement step) }
 {
     text.extend_from_slice(b"E18 ")?;

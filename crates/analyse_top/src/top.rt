@@ -51,12 +51,7 @@ fn conclude<F: Files, O: Sink>(alloc: Global, words: &Vec<String>, files: &mut F
 }
 
 // Runs what the words ask for.
-fn conclude_run<F: Files, O: Sink>(
-    alloc: Global,
-    said: &RunWords,
-    files: &mut F,
-    out: &mut O,
-) -> u8
+fn conclude_run<F: Files, O: Sink>(alloc: Global, said: &RunWords, files: &mut F, out: &mut O) -> u8
     ensures { (words : List (List ℕ)) → IsRun words (plain_run said.now)
         → Concludes (call words (F.state files.old) (F.state files.new) (O.state out.old) (O.state out.new) result) }
 {

@@ -5,6 +5,6 @@ use Rattle.analyse_top.proofs.top.cobsound.Goals as goal
 pub returns : goal.returns
 returns g c = record {
   concludes = c.conclude.ensures;
-  exact = is_exact c.one_answer.ensures _ c.conclude.ensures;
+  exact = is_exact c.one_answer.ensures c.one_reading.ensures c.graphs_are_one.ensures.graph c.one_end.ensures _ c.conclude.ensures;
   clean = clean_is_safe _ c.conclude.ensures;
 }
