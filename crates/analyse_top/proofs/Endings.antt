@@ -51,7 +51,7 @@ module _ (call : Call) where
 
     ends_for_memory : ShowsRefusal call.out_before call.out_after memory_line 8 call.status → EndsWithoutRun call
     ends_for_memory (inl (inl (eight, gains, kept))) =
-        ends_out_of_memory (record { status = eight; shows = (memory_line, inl refl, whole_front _ _ memory_line gains) })
+        ends_out_of_memory (record { status = eight; shows = (memory_line, inl refl, whole_front call.out_before call.out_after memory_line gains) })
     ends_for_memory (inl (inr (eight, front, rose))) = ends_out_of_memory (record { status = eight; shows = (memory_line, inl refl, front) })
     ends_for_memory (inr (eight, front)) = ends_out_of_memory (record { status = eight; shows = (memory_line, inl refl, front) })
 

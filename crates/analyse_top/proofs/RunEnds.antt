@@ -1,5 +1,5 @@
 -- Where the end of a run stands, and runs behind files that were only read.
-use Rattle.std.proofs.Common.{◌≡◌, ℕ, List, Option, Some, None, Result, Ok, Err, ◌⊎◌, inl, inr, refl, sym, ap, ◌∙◌, subst}
+use Rattle.std.proofs.Common.{◌≡◌, ℕ, false, List, Option, Some, None, Result, Ok, Err, ◌⊎◌, inl, inr, refl, sym, ap, ◌∙◌, subst}
 use Rattle.std.specs.Prelude.{IfSome}
 use Rattle.batch_io.specs.Faults.{Rose}
 use Rattle.batch_io.specs.FilesState.{Contents, FilesState, known_bytes}

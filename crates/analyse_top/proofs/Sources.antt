@@ -7,7 +7,6 @@ use Rattle.std.proofs.lemmas.List.{length-map}
 use Rattle.std.proofs.lemmas.List.FromFn.{length-range_with_len}
 use Rattle.cob_tree.specs.declared.token.Token.{Token}
 use Rattle.cob_program.specs.Act as act
-use Rattle.cob_program.specs.ActView.{plain_program}
 use Rattle.cob_scan.specs.Scan.{Scan, BadLineAt, BadTokenAt, Tokens}
 use Rattle.cob_front.specs.declared.end.FrontEnd.{FrontEnd}
 use Rattle.cob_front.specs.Control.{IsControlCause}
@@ -18,9 +17,8 @@ use Rattle.straight_source.specs.declared.read.StraightLines.{StraightLines}
 use Rattle.cob_meaning.specs.Program.{Program}
 use Rattle.straight_source.proofs.Whole.{counts, one_refusal, read_or_refused}
 use Rattle.straight_source.proofs.One.{same_source}
-use Rattle.analyse_top.specs.declared.source.Laid.{Laid}
 use Rattle.analyse_top.specs.Profile.{IsOfProfile, IsProfileCause, IsWritten, IsNotStraight}
-use Rattle.analyse_top.specs.Steps.{IsLaid, IsCheckable}
+use Rattle.analyse_top.specs.Steps.{IsCheckable}
 use Rattle.analyse_top.proofs.Control.{one_control_cause}
 
 -- what bytes end in
@@ -94,15 +92,6 @@ module _ (law : (bytes : List ℕ) → OneAnswer bytes) (bytes : List ℕ) where
   one_ending (written ts s) (written us t) h k = one_writing bytes ts us s t h k
 
 -- ---- what the checker needs
-
-pub of_profile : (bytes : List ℕ) (laid : Laid) → IsLaid bytes laid → IsOfProfile bytes
-of_profile bytes laid h = record {
-  program = plain_program laid.program;
-  is_source = h.is_source;
-  graph = laid.graph;
-  is_graph = h.is_graph;
-  within = h.within;
-}
 
 pub checkable : (tokens : List Token) (read : StraightLines) (source : Source) → IsReading tokens read source → IsCheckable read
 checkable tokens read source h =

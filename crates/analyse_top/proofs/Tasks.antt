@@ -22,7 +22,6 @@ use Rattle.analyse_top.specs.Answer.{Answer, Usage, Absent, Refused, NotYet, Cer
 use Rattle.analyse_top.specs.Steps.{Reads, refused_by_fault, stopped_by_fault, unread_for, answer_to, IsLaid, IsReady, IsTask, IsNoTask}
 use Rattle.analyse_top.specs.View.{plain_answer, plain_result, plain_task}
 use Rattle.analyse_top.proofs.Found.{at_held}
-use Rattle.analyse_top.proofs.Sources.{of_profile}
 
 -- ---- paths
 
@@ -53,7 +52,16 @@ module _ (bytes : List ℕ) (r : Run) (laid : Laid) (is : IsLaid bytes laid) (fi
   }
 
   pub blames_word : (word : List ℕ) → paths_of files (lent_texts names) ≡ Err word → BlamesWord bytes r.names word
-  blames_word word e = record { profile = of_profile bytes laid is; blamed = paths_same ∙ e }
+  blames_word word e = record {
+    profile = record {
+      program = plain_program laid.program;
+      is_source = is.is_source;
+      graph = laid.graph;
+      is_graph = is.is_graph;
+      within = is.within;
+    };
+    blamed = paths_same ∙ e;
+  }
 
 -- ---- causes
 
@@ -79,30 +87,42 @@ abbrev pub ComesOf : List ℕ → Run → Found → Type 0
 ComesOf bytes r found =
     MatchResult found (IsTask bytes r) (λ instead. IsNoTask bytes r.names (plain_result instead))
 
-module _ (known : Option Contents) (r : Run) (bytes : List ℕ)
-    (held : IfSome known (λ contents. get contents r.source ≡ Some bytes)) where
-  known_answer : (k : Option Contents) → IfSome k (λ contents. get contents r.source ≡ Some bytes)
-      → (answer : Answer) → IsNoTask bytes r.names (Ok answer) → IfSome k (λ contents. AnswersRun contents r answer)
-  known_answer None there answer h = tt
-  known_answer (Some contents) there (Refused cause) h =
-      at_held (get contents r.source) bytes (λ bs. IsProfileCause bs cause) there h
-  known_answer (Some contents) there (Usage word) h =
-      at_held (get contents r.source) bytes (λ bs. BlamesWord bs r.names word) there h
-  known_answer (Some contents) there (Absent name) h = absurd h
-  known_answer (Some contents) there (NotYet line) h = absurd h
-  known_answer (Some contents) there CertificateLong h = absurd h
-  known_answer (Some contents) there (NotInductive edge gap) h = absurd h
-  known_answer (Some contents) there (Report alarms) h = absurd h
+module _ (r : Run) (bytes : List ℕ) where
+  known_answer : (known : Option Contents) → IfSome known (λ contents. get contents r.source ≡ Some bytes)
+      → (answer : Answer) → IsNoTask bytes r.names (Ok answer) → IfSome known (λ contents. AnswersRun contents r answer)
+  known_answer None held answer h = tt
+  known_answer (Some contents) held (Refused cause) h =
+      at_held (get contents r.source) bytes (λ bs. IsProfileCause bs cause) held h
+  known_answer (Some contents) held (Usage word) h =
+      at_held (get contents r.source) bytes (λ bs. BlamesWord bs r.names word) held h
+  known_answer (Some contents) held (Absent name) h = absurd h
+  known_answer (Some contents) held (NotYet line) h = absurd h
+  known_answer (Some contents) held CertificateLong h = absurd h
+  known_answer (Some contents) held (NotInductive edge gap) h = absurd h
+  known_answer (Some contents) held (Report alarms) h = absurd h
 
-  pub found_answer : (found : Found) → ComesOf bytes r found
-      → IfErr found (λ instead. IfOk instead (λ answer. IfSome known (λ contents. AnswersRun contents r (plain_answer answer))))
-  found_answer (Ok t) h = tt
-  found_answer (Err (Ok answer)) h = known_answer known held (plain_answer answer) h
-  found_answer (Err (Err stop)) h = tt
+  module _ (known : Option Contents) (held : IfSome known (λ contents. get contents r.source ≡ Some bytes)) where
+    answer_of : (found : Found) → ComesOf bytes r found
+        → IfErr found (λ instead. IfOk instead (λ answer. IfSome known (λ contents. AnswersRun contents r (plain_answer answer))))
+    answer_of (Ok t) h = tt
+    answer_of (Err (Ok answer)) h = known_answer known held (plain_answer answer) h
+    answer_of (Err (Err stop)) h = tt
 
-  pub found_task : (found : Found) → ComesOf bytes r found → IfOk found (λ t. HoldsTask known r (plain_task t))
-  found_task (Ok t) h = record { bytes = bytes; held = held; makes = h.makes }
-  found_task (Err instead) h = tt
+    task_of : (found : Found) → ComesOf bytes r found → IfOk found (λ t. HoldsTask known r (plain_task t))
+    task_of (Ok t) h = record { bytes = bytes; held = held; makes = h.makes }
+    task_of (Err instead) h = tt
+
+    -- as the code sees the bytes
+    module _ (seen : List ℕ) (same : seen ≡ bytes) (found : Found) (comes : ComesOf seen r found) where
+      its : ComesOf bytes r found
+      its = subst (λ (bs : List ℕ). ComesOf bs r found) same comes
+
+      pub found_answer : IfErr found
+          (λ instead. IfOk instead (λ answer. IfSome known (λ contents. AnswersRun contents r (plain_answer answer))))
+      found_answer = answer_of found its
+
+      pub found_task : IfOk found (λ t. HoldsTask known r (plain_task t))
+      found_task = task_of found its
 
 pub found_ready : (found : Found) (bytes : List ℕ) (r : Run) → ComesOf bytes r found → IfOk found IsReady
 found_ready (Ok t) bytes r h = h.ready
