@@ -22,7 +22,9 @@ check_words words command source certificate name target l e f g is n t p q = re
 }
 
 check_differs : (xs ys : List (List ℕ)) → codes "check" ∷ xs ≡ codes "run" ∷ ys → ⊥
-check_differs xs ys e = let f : 5 ≡ 3 = ap (λ (ws : List (List ℕ)). length (get_or ws 0 [])) e in absurd (omega arith)
+check_differs xs ys e =
+    let f : ◌≡◌ {A = ℕ} 5 3 = ap (λ (ws : List (List ℕ)). length (get_or ws 0 [])) e in
+    absurd (omega arith)
 
 -- words aren't those of both commands
 pub check_or_run : (words : List (List ℕ)) (source certificate : List ℕ) (r : Run)

@@ -36,16 +36,16 @@ pub fn cobsound<F: Files, O: Sink>(
     one_reading();
     graphs_are_one();
     one_end();
-    conclude(alloc, words, files, out)
+    conclude(alloc, words.as_slice(), files, out)
 }
 
 // The same, by what it does alone.
-fn conclude<F: Files, O: Sink>(alloc: Global, words: &Vec<String>, files: &mut F, out: &mut O) -> u8
-    ensures { Concludes (call (texts words.now.items) (F.state files.old) (F.state files.new) (O.state out.old) (O.state out.new) result) }
+fn conclude<F: Files, O: Sink>(alloc: Global, words: &[String], files: &mut F, out: &mut O) -> u8
+    ensures { Concludes (call (texts words.now) (F.state files.old) (F.state files.new) (O.state out.old) (O.state out.new) result) }
 {
-    match run_words(alloc, words.as_slice()) {
+    match run_words(alloc, words) {
         Ok(Some(said)) => conclude_run(alloc, &said, files, out),
-        Ok(None) => conclude_other(alloc, words.as_slice(), files, out),
+        Ok(None) => conclude_other(alloc, words, files, out),
         Err(_) => show_found(alloc, Err(Stop::Memory), out),
     }
 }

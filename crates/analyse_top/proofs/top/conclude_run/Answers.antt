@@ -12,10 +12,14 @@ pub returns-in-Ok : goal.returns-in-Ok
 returns-in-Ok g c =
     let t = plain_task c.in-Ok.task in
     let known = known_bytes (g.F.Files.state c.args.files.now) in
-    λ words said. inr (t, c.run.ensures.0, asks_for known words (plain_run c.args.said.now) t said c.in-Ok.ensures.holds,
-    runs_behind t (g.F.Files.state c.args.files.now) (g.F.Files.state c.task_for.new.files) (g.O.Sink.state c.args.out.now)
-    (outside (g.F.Files.state c.run.new.files) (g.O.Sink.state c.run.new.out)) c.run.ensures.0 c.run.result
-    c.in-Ok.ensures.reads c.run.ensures.1)
+    λ words said. inr (
+      t,
+      c.run.ensures.0,
+      asks_for known words (plain_run c.args.said.now) t said c.in-Ok.ensures.holds,
+      runs_behind t (g.F.Files.state c.args.files.now) (g.F.Files.state c.task_for.new.files) (g.O.Sink.state c.args.out.now)
+          (outside (g.F.Files.state c.run.new.files) (g.O.Sink.state c.run.new.out)) c.run.ensures.0 c.run.result
+          c.in-Ok.ensures.reads c.run.ensures.1,
+    )
 
 pub returns-in-Err : goal.returns-in-Err
 returns-in-Err g c =
