@@ -11,7 +11,8 @@ use Rattle.cob_front.specs.declared.end.FrontEnd.TheVariants as end
 use Rattle.straight_source.specs.Source.{Source, program_of, statement_lines}
 use Rattle.straight_source.proofs.Whole.{source_valid}
 use Rattle.analyse_top.specs.Answer.{Answer, Usage, Absent, Refused, NotYet, CertificateLong, NotInductive, Report, Answers, AnswersProgram, HoldsSource, alarm_at, refusal_status, status_of, status_unwritten}
-use Rattle.analyse_top.specs.Conclusion.{Call, Concludes, CleanIsSafe, IsClean, EndsBy}
+use Rattle.analyse_top.specs.Conclusion.{Call, Concludes, CleanIsSafe, IsClean, EndsBy, EndsWithoutRun}
+use Rattle.analyse_top.proofs.Words.{check_or_run}
 
 none_left : (lines : List ℕ) (pairs : List Open) → [] ≡ map (alarm_at lines) pairs → pairs ≡ []
 none_left lines [] e = refl
@@ -54,9 +55,10 @@ program_safe source contents name certificate tokens holds (nodes, claims, induc
     (none_left _ _ none)
 
 clean_answer : (contents : Contents) (words : List (List ℕ)) → Answers (Some contents) words (Report []) → IsClean contents words
-clean_answer contents words (inl (no_check, usage)) = cc
-clean_answer contents words (inr (name, certificate, checked, inl refused)) = absurd refused
-clean_answer contents words (inr (name, certificate, checked, inr (tokens, source, held, answers))) = record {
+clean_answer contents words (inl (none, usage)) = cc
+clean_answer contents words (inr (inr (r, said, answers))) = absurd answers
+clean_answer contents words (inr (inl (name, certificate, checked, inl refused))) = absurd refused
+clean_answer contents words (inr (inl (name, certificate, checked, inr (tokens, source, held, answers)))) = record {
   name = name;
   certificate = certificate;
   checked = checked;
@@ -66,8 +68,9 @@ clean_answer contents words (inr (name, certificate, checked, inr (tokens, sourc
   safe = program_safe source contents name certificate tokens held answers;
 }
 
-pub clean_is_safe : (call : Call) → Concludes call → CleanIsSafe call
-clean_is_safe call concludes contents known zero = elim concludes.ends [
+clean_without_run : (call : Call) (contents : Contents) → EndsWithoutRun call → known_bytes call.files_before ≡ Some contents
+    → call.status ≡ 0 → IsClean contents call.words
+clean_without_run call contents without known zero = elim without.ends [
   | inl (answer, ends) ↦ by_answer answer ends
   | inr (inl fault) ↦ elim fault.shows [ inl whole ↦ absurd (omega (arith, whole.0)) | inr front ↦ absurd (omega (arith, front.0)) ]
   | inr (inr memory) ↦ absurd (omega (arith, memory.status))
@@ -80,3 +83,9 @@ clean_is_safe call concludes contents known zero = elim concludes.ends [
           clean_answer contents call.words (subst (λ (k : Option Contents). Answers k call.words (Report [])) known (subst (λ (a : Answer). Answers (known_bytes call.files_before) call.words a) report ends.is_answer))
       | inr front ↦ absurd (never_zero answer (sym front.0 ∙ zero))
     ]
+
+pub clean_is_safe : (call : Call) → Concludes call → CleanIsSafe call
+clean_is_safe call concludes contents source certificate check known zero = elim concludes [
+  | inl without ↦ clean_without_run call contents without known zero
+  | inr (t, result, asks, runs) ↦ absurd (check_or_run call.words source certificate asks.run check asks.said)
+]

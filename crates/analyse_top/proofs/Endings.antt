@@ -1,51 +1,103 @@
 -- From what the parts did to how the call ends.
-use Rattle.std.proofs.Common.{◌≡◌, ℕ, ◌≤◌, false, List, length, ◌⊎◌, refl, sym, ap, ◌∙◌, subst, inl, inr, Result, Ok, Err, arith}
+use Rattle.std.proofs.Common.{◌≡◌, ℕ, ◌≤◌, true, false, List, length, ◌⊎◌, refl, sym, ap, ◌∙◌, subst, inl, inr, Result, Ok, Err, arith}
 use Rattle.std.specs.Prelude.{IfOk, IfSome, Option, Some, None}
 use Rattle.std.specs.FinMap.{get}
 use Rattle.cob_meaning.specs.Program.{Program, plain}
 use Rattle.straight_source.specs.Source.{program_of}
 use Rattle.straight_source.specs.declared.read.StraightLines.{StraightLines}
+use Rattle.std.proofs.lemmas.Bool.{false≢true}
 use Rattle.std.proofs.lemmas.List.{take_all}
 use Rattle.std.specs.Io.KnownBytes.{append_known}
-use Rattle.batch_io.specs.FilesState.{Contents, known_bytes}
+use Rattle.batch_io.specs.Faults.{Rose}
+use Rattle.batch_io.specs.FilesState.{Contents, FilesState, known_bytes}
+use Rattle.batch_io.specs.SinkState.{SinkState}
 use Rattle.cob_front.specs.declared.end.FrontEnd.{FrontEnd}
 use Rattle.cob_front.specs.declared.end.FrontEnd.TheVariants as end
+use Rattle.cob_interp.proofs.Passing.{ids_stay}
+use Rattle.run_words.specs.Words.{Run, IsRun}
 use Rattle.analyse_top.specs.declared.answer.Stop.{Stop}
+use Rattle.analyse_top.specs.declared.answer.Stop.TheVariants as stop
 use Rattle.analyse_top.specs.declared.answer.Answer as code
 use Rattle.analyse_top.specs.declared.source.Unread.{Unread}
 use Rattle.analyse_top.specs.declared.source.Unread.TheVariants as unread
 use Rattle.analyse_top.specs.Profile.{IsProfileCause, IsNotStraight}
-use Rattle.analyse_top.specs.Answer.{Answer, Refused, NotYet, Answers, AnswersCheck, AnswersProgram, IsCheck, source_limit, answer_text}
-use Rattle.analyse_top.specs.Text.{memory_line}
-use Rattle.analyse_top.specs.Conclusion.{Call, Concludes, EndsBy, EndsByMemory, Gains, GainsFront}
-use Rattle.analyse_top.specs.Steps.{Reads, ShowsAnswer, ShowsRefusal, Writes, IsUnread, unread_for, answer_to}
+use Rattle.analyse_top.specs.Answer.{Answer, Refused, NotYet, Answers, AnswersCheck, AnswersProgram, AnswersRun, IsCheck, source_limit, answer_text}
+use Rattle.analyse_top.specs.Text.{memory_line, read_fault_line}
+use Rattle.analyse_top.specs.Showing.{Gains, GainsFront, ShowsRefusal}
+use Rattle.analyse_top.specs.Conclusion.{Call, EndsBy, EndsByMemory, EndsWithoutRun}
+use Rattle.analyse_top.specs.Steps.{Reads, stopped_by_fault, ShowsAnswer, ShowsFound, Writes, IsUnread, unread_for, answer_to}
 use Rattle.analyse_top.specs.View.{plain_answer, plain_result}
 use Rattle.analyse_top.proofs.Found.{at_held}
 
-module _ (call : Call) (reads : Reads call.files_before call.files_after false) where
-  ends_in : (answer : Answer) → EndsBy call answer → Concludes call
-  ends_in answer ends = record { contents = reads.contents; ids = reads.ids; writing = reads.writing; ends = inl (answer, ends) }
+-- ---- a call that runs nothing
 
-  ends_out_of_memory : EndsByMemory call → Concludes call
-  ends_out_of_memory ends = record { contents = reads.contents; ids = reads.ids; writing = reads.writing; ends = inr (inr ends) }
+whole_front : (old new : SinkState) (text : List ℕ) → Gains old new text → GainsFront old new text
+whole_front old new text gains =
+    (length text, omega arith, gains ∙ ap (append_known old.told) (sym (take_all (length text) text (omega arith))))
 
-  pub concludes_by_answer : (answer : Answer) → Answers (known_bytes call.files_before) call.words answer → ShowsAnswer call.out_before call.out_after answer call.status → Concludes call
-  concludes_by_answer answer is (inl shows) = ends_in answer (record { is_answer = is; reading = reads.reading.kept refl; shows = shows })
-  concludes_by_answer answer is (inr (eight, inl front)) = ends_out_of_memory (record { status = eight; shows = (answer_text answer, inr (inr (answer, is, refl)), front) })
-  concludes_by_answer answer is (inr (eight, inr front)) = ends_out_of_memory (record { status = eight; shows = (memory_line, inl refl, front) })
+module _ (call : Call) where
+  module _ (reads : Reads call.files_before call.files_after false) where
+    ends_in : (answer : Answer) → EndsBy call answer → EndsWithoutRun call
+    ends_in answer ends = record { contents = reads.contents; ids = reads.ids; writing = reads.writing; ends = inl (answer, ends) }
 
-  whole_front : Gains call.out_before call.out_after memory_line → GainsFront call.out_before call.out_after memory_line
-  whole_front gains = (length memory_line, omega arith, gains ∙ ap (append_known call.out_before.told) (sym (take_all (length memory_line) memory_line (omega arith))))
+    ends_out_of_memory : EndsByMemory call → EndsWithoutRun call
+    ends_out_of_memory ends = record { contents = reads.contents; ids = reads.ids; writing = reads.writing; ends = inr (inr ends) }
 
-  pub concludes_by_memory : ShowsRefusal call.out_before call.out_after memory_line 8 call.status → Concludes call
-  concludes_by_memory (inl (inl (eight, gains, kept))) = ends_out_of_memory (record { status = eight; shows = (memory_line, inl refl, whole_front gains) })
-  concludes_by_memory (inl (inr (eight, front, rose))) = ends_out_of_memory (record { status = eight; shows = (memory_line, inl refl, front) })
-  concludes_by_memory (inr (eight, front)) = ends_out_of_memory (record { status = eight; shows = (memory_line, inl refl, front) })
+    ends_by_answer : (answer : Answer) → Answers (known_bytes call.files_before) call.words answer
+        → ShowsAnswer call.out_before call.out_after answer call.status → EndsWithoutRun call
+    ends_by_answer answer is (inl shows) = ends_in answer (record { is_answer = is; reading = reads.reading.kept refl; shows = shows })
+    ends_by_answer answer is (inr (eight, inl front)) = ends_out_of_memory (record { status = eight; shows = (answer_text answer, inr (inr (answer, is, refl)), front) })
+    ends_by_answer answer is (inr (eight, inr front)) = ends_out_of_memory (record { status = eight; shows = (memory_line, inl refl, front) })
+
+    ends_for_memory : ShowsRefusal call.out_before call.out_after memory_line 8 call.status → EndsWithoutRun call
+    ends_for_memory (inl (inl (eight, gains, kept))) =
+        ends_out_of_memory (record { status = eight; shows = (memory_line, inl refl, whole_front call.out_before call.out_after memory_line gains) })
+    ends_for_memory (inl (inr (eight, front, rose))) = ends_out_of_memory (record { status = eight; shows = (memory_line, inl refl, front) })
+    ends_for_memory (inr (eight, front)) = ends_out_of_memory (record { status = eight; shows = (memory_line, inl refl, front) })
+
+  module _ (reads : Reads call.files_before call.files_after true) where
+    rose : Rose call.files_before.reading call.files_after.reading
+    rose = reads.reading.rose refl
+
+    ends_by_read_fault : ShowsRefusal call.out_before call.out_after read_fault_line 5 call.status → EndsWithoutRun call
+    ends_by_read_fault (inl shows) = record {
+      contents = reads.contents;
+      ids = reads.ids;
+      writing = reads.writing;
+      ends = inr (inl (record { rose = rose; shows = shows }));
+    }
+    ends_by_read_fault (inr (eight, front)) = record {
+      contents = reads.contents;
+      ids = reads.ids;
+      writing = reads.writing;
+      ends = inr (inr (record { status = eight; shows = (read_fault_line, inr (inl (rose, refl)), front) }));
+    }
+
+  pub ends_found : (found : Result code.Answer Stop) → Reads call.files_before call.files_after (stopped_by_fault found)
+      → IfOk found (λ answer. Answers (known_bytes call.files_before) call.words (plain_answer answer))
+      → ShowsFound call.out_before call.out_after (plain_result found) call.status → EndsWithoutRun call
+  ends_found (Ok answer) reads is shows = ends_by_answer reads (plain_answer answer) is shows
+  ends_found (Err stop.ReadFault) reads is shows = ends_by_read_fault reads shows
+  ends_found (Err stop.Memory) reads is shows = ends_for_memory reads shows
+
+pub reads_nothing : (files : FilesState) → Reads files files false
+reads_nothing files = record {
+  contents = refl;
+  ids = ids_stay files;
+  writing = refl;
+  reading = record { later = omega arith; rose = λ b. absurd (false≢true b); kept = λ e. refl };
+}
 
 pub answers_check : (result : Result code.Answer Stop) (known : Option Contents) (words : List (List ℕ)) (source certificate : List ℕ) → IsCheck words source certificate →
     IfOk result (λ answer. IfSome known (λ contents. AnswersCheck contents source certificate (plain_answer answer))) → IfOk result (λ answer. Answers known words (plain_answer answer))
-answers_check (Ok answer) known words source certificate is h = inr (source, certificate, is, h)
+answers_check (Ok answer) known words source certificate is h = inr (inl (source, certificate, is, h))
 answers_check (Err stop) known words source certificate is h = tt
+
+pub answers_run : (result : Result code.Answer Stop) (known : Option Contents) (words : List (List ℕ)) (r : Run) → IsRun words r
+    → IfOk result (λ answer. IfSome known (λ contents. AnswersRun contents r (plain_answer answer)))
+    → IfOk result (λ answer. Answers known words (plain_answer answer))
+answers_run (Ok answer) known words r said h = inr (inr (r, said, h))
+answers_run (Err stop) known words r said h = tt
 
 -- ---- a source that is read
 

@@ -1,17 +1,27 @@
--- Each answer is given exactly where it is the answer.
-use Rattle.std.proofs.Common.{◌≡◌, ℕ, ◌+◌, ◌^◌, ◌<◌, List, length, Option, Some, subst, inl, inr, arith}
-use Rattle.batch_io.specs.FilesState.{Contents}
+-- Each answer is given exactly where it is the answer, and what is asked for is run to its own end.
+use Rattle.std.proofs.Common.{◌≡◌, ℕ, ◌+◌, ◌^◌, ◌<◌, ◌⊎◌, List, length, Option, Some, Result, subst, inl, inr, arith}
+use Rattle.batch_io.specs.FilesState.{Contents, known_bytes}
 use Rattle.text_lines.proofs.Texts.{one_bad}
 use Rattle.straight_source.specs.Source.{Source, IsSource, program_of, statement_lines}
 use Rattle.straight_source.proofs.Whole.{counts}
 use Rattle.straight_claims.specs.Claims.{AreClaimsLines}
 use Rattle.straight_claims.proofs.Certificates.{one_certificate, read_or_refused as claims_or_refused}
 use Rattle.cob_tree.specs.declared.token.Token.{Token}
+use Rattle.cob_graph.specs.Graphs.{OneGraph}
 use Rattle.cob_front.specs.Laws.{OneAnswer}
+use Rattle.cob_interp.specs.declared.ends.Ended.{Ended}
+use Rattle.cob_interp.specs.declared.ends.RunEnd.{RunEnd}
+use Rattle.cob_interp.specs.Ends.{told_files, IsEnd}
+use Rattle.cob_interp.specs.OneEnd.{OneEnd}
+use Rattle.cob_interp.specs.Running.{outside}
+use Rattle.run_words.specs.Words.{OneReading}
 use Rattle.analyse_top.specs.Profile.{IsWritten}
 use Rattle.analyse_top.specs.Answer.{Answer, Answers}
-use Rattle.analyse_top.specs.Conclusion.{Call, Concludes, IsExact, EndsBy}
+use Rattle.analyse_top.specs.Runs.{Task, AsksFor}
+use Rattle.analyse_top.specs.Conclusion.{Call, Concludes, IsExact, AnswersExactly, RunsExactly, FailsToRun, EndsBy, EndsByMemory, EndsByReadFault, EndsByRun, EndsWithoutRun}
+use Rattle.analyse_top.proofs.Asked.{one_for_run, asked_once, answered_or_asked}
 use Rattle.analyse_top.proofs.OneAnswer.{Behind, one_for_program, one_answer}
+use Rattle.analyse_top.proofs.RunEnds.{IsRefusal, EndsSomewhere, refused_or_ends}
 use Rattle.analyse_top.proofs.Sources.{one_ending}
 
 -- a source of the form has few enough items and statements for their numbers
@@ -33,15 +43,69 @@ one_behind contents certificate bytes tokens source a b wrote =
     (λ x y. one_certificate cells count x y (few_cells source wrote.is_source) (few_nodes source wrote.is_source))
     a b
 
-module _ (law : (bytes : List ℕ) → OneAnswer bytes) where
+module _ (law : (bytes : List ℕ) → OneAnswer bytes) (one_reading : OneReading) (graphs : OneGraph) (one_end : OneEnd) where
   same_answer : (contents : Contents) (words : List (List ℕ)) (a b : Answer)
       → Answers (Some contents) words a → Answers (Some contents) words b → a ≡ b
-  same_answer contents = one_answer contents (one_ending law) (one_behind contents)
+  same_answer contents =
+      one_answer contents (one_ending law) (one_behind contents) one_reading (λ r. one_for_run r law graphs contents)
 
-  pub is_exact : (call : Call) → Concludes call → IsExact call
-  is_exact call concludes contents answer known is = elim concludes.ends [
+  -- ---- answers
+
+  answers_without_run : (call : Call) (contents : Contents) (answer : Answer) → known_bytes call.files_before ≡ Some contents
+      → Answers (Some contents) call.words answer → EndsWithoutRun call
+      → EndsBy call answer ⊎ EndsByReadFault call ⊎ EndsByMemory call
+  answers_without_run call contents answer known is without = elim without.ends [
     | inl (other, ends) ↦
         let here = subst (λ (k : Option Contents). Answers k call.words other) known ends.is_answer in
         inl (subst (EndsBy call) (same_answer contents call.words other answer here is) ends)
     | inr fault ↦ inr fault
   ]
+
+  answers_exactly : (call : Call) → Concludes call → AnswersExactly call
+  answers_exactly call concludes contents answer known is = elim concludes [
+    | inl without ↦ answers_without_run call contents answer known is without
+    | inr (t, result, asks, runs) ↦
+        let here = subst (λ (k : Option Contents). AsksFor k call.words t) known asks in
+        absurd (answered_or_asked law graphs one_reading contents call.words answer t is here)
+  ]
+
+  -- ---- runs
+
+  module _ (call : Call) (contents : Contents) (t : Task) (result : Result Ended RunEnd) (steps : ℕ)
+      (known : known_bytes call.files_before ≡ Some contents) (asks : AsksFor (Some contents) call.words t)
+      (is_end : IsEnd t.program (told_files contents t.paths) t.steps result steps) where
+    no_run : EndsWithoutRun call → EndsByRun call t result ⊎ FailsToRun call t
+    no_run without = elim without.ends [
+      | inl (answer, ends) ↦
+          let here = subst (λ (k : Option Contents). Answers k call.words answer) known ends.is_answer in
+          absurd (answered_or_asked law graphs one_reading contents call.words answer t here asks)
+      | inr (inl fault) ↦ inr (inl fault)
+      | inr (inr memory) ↦ inr (inr (inl memory))
+    ]
+
+    by_end : (other : Result Ended RunEnd) → EndsByRun call t other
+        → IsRefusal t.program t.graph t.paths t.steps other ⊎ EndsSomewhere t.program t.graph t.paths t.steps contents other
+        → EndsByRun call t result ⊎ FailsToRun call t
+    by_end other runs (inl (inl e)) = inr (inr (inr (inl (subst (EndsByRun call t) e runs))))
+    by_end other runs (inl (inr (inl e))) = inr (inr (inr (inr (inl (subst (EndsByRun call t) e runs)))))
+    by_end other runs (inl (inr (inr e))) = inr (inr (inr (inr (inr (subst (EndsByRun call t) e runs)))))
+    by_end other runs (inr (n, there)) =
+        inl (subst (EndsByRun call t)
+        (one_end t.program (told_files contents t.paths) t.steps other result n steps there is_end) runs)
+
+    this_run : (other : Result Ended RunEnd) → EndsByRun call t other → EndsByRun call t result ⊎ FailsToRun call t
+    this_run other runs =
+        by_end other runs (refused_or_ends t.program t.graph t.paths t.steps
+        (outside call.files_before call.out_before) (outside call.files_after runs.middle) contents known other runs.runs)
+
+  runs_exactly : (call : Call) → Concludes call → RunsExactly call
+  runs_exactly call concludes contents t result steps known asks is_end = elim concludes [
+    | inl without ↦ no_run call contents t result steps known asks is_end without
+    | inr (u, other, asked, runs) ↦
+        let here = subst (λ (k : Option Contents). AsksFor k call.words u) known asked in
+        let same = asked_once law graphs one_reading contents call.words u t here asks in
+        this_run call contents t result steps known asks is_end other (subst (λ (x : Task). EndsByRun call x other) same runs)
+  ]
+
+  pub is_exact : (call : Call) → Concludes call → IsExact call
+  is_exact call concludes = record { answers = answers_exactly call concludes; runs = runs_exactly call concludes }

@@ -13,6 +13,11 @@ pub data Found (B X : Type 0) : Type 0 where
 pub at_held : (held : Option (List ℕ)) (bytes : List ℕ) (P : List ℕ → Type 0) → held ≡ Some bytes → P bytes → IsSomeAnd held P
 at_held held bytes P e h = subst (λ (o : Option (List ℕ)). IsSomeAnd o P) (sym e) h
 
+pub held_bytes : (held : Option (List ℕ)) (P : List ℕ → Type 0) → IsSomeAnd held P
+    → (bytes : List ℕ) × (held ≡ Some bytes) × P bytes
+held_bytes None P h = absurd h
+held_bytes (Some bytes) P h = (bytes, refl, h)
+
 no_some : (P : List ℕ → Type 0) (held : Option (List ℕ)) → held ≡ None → IsSomeAnd held P → ⊥
 no_some P None e h = h
 no_some P (Some bytes) e h = cc

@@ -1,9 +1,12 @@
 pub mod Pairs
-pub mod Endings
 pub mod Words
-pub mod Clean
 pub mod Found
+pub mod Endings
+pub mod RunEnds
+pub mod Clean
 pub mod Control
 pub mod Sources
+pub mod Tasks
+pub mod Asked
 pub mod OneAnswer
 pub mod Exact

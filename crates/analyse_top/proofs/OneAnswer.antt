@@ -1,6 +1,6 @@
 -- Words and contents have one answer.
 use Rattle.std.proofs.Common.{◌≡◌, ℕ, ◌+◌, ◌≤◌, List, [], length, get_or, Option, Some, None, ◌⊎◌, refl, sym, ap, ◌∙◌, subst, inl, inr}
-use Rattle.std.specs.Prelude.{slice_get, IsSomeAnd}
+use Rattle.std.specs.Prelude.{slice_get}
 use Rattle.std.specs.FinMap.{get}
 use Rattle.std.proofs.lemmas.Option.{same_Some}
 use Rattle.batch_io.specs.FilesState.{Contents}
@@ -14,10 +14,12 @@ use Rattle.cert_check.specs.Inductive.{FitsProgram, leak, leaks}
 use Rattle.cob_tree.specs.declared.token.Token.{Token}
 use Rattle.straight_source.specs.Source.{Source, program_of, statement_lines}
 use Rattle.straight_claims.specs.Claims.{AreClaimsLines, claims_lines}
-use Rattle.analyse_top.specs.Answer.{Answer, Usage, Absent, Refused, NotYet, CertificateLong, NotInductive, Report, Answers, AnswersCheck, AnswersSource, AnswersProgram, IsCheck, HoldsClaims, alarms_of, certificate_limit}
+use Rattle.run_words.specs.Words.{Run, OneReading}
+use Rattle.analyse_top.specs.Answer.{Answer, Usage, Absent, Refused, NotYet, CertificateLong, NotInductive, Report, Answers, AnswersCheck, AnswersRun, AnswersSource, AnswersProgram, IsCheck, HoldsClaims, alarms_of, certificate_limit}
 use Rattle.analyse_top.specs.Profile.{IsProfileCause, IsWritten, IsNotStraight}
-use Rattle.analyse_top.proofs.Found.{Found, Missing, Long, Bad, Good, Finds, at_held, one_found}
+use Rattle.analyse_top.proofs.Found.{Found, Missing, Long, Bad, Good, Finds, at_held, held_bytes, one_found}
 use Rattle.analyse_top.proofs.Sources.{Ending, refused, stopped, written, EndsIn}
+use Rattle.analyse_top.proofs.Words.{check_or_run}
 
 -- ---- the certificate
 
@@ -94,11 +96,6 @@ module _ (contents : Contents) (certificate : List ℕ) (program : Program) (lin
         (subst (λ found. Means found a) (one_found (get contents certificate) certificate_limit (FirstBad claims_texts) AreClaims one_line claims_or_bad one_claims x.0 y.0 x.1 y.1) x.2) y.2
 
 -- ---- the source, and the command
-
-held_bytes : (held : Option (List ℕ)) (P : List ℕ → Type 0) → IsSomeAnd held P
-    → (bytes : List ℕ) × (held ≡ Some bytes) × P bytes
-held_bytes None P h = absurd h
-held_bytes (Some bytes) P h = (bytes, refl, h)
 
 module _ (contents : Contents) where
   abbrev pub Behind : List ℕ → List Token → Source → Answer → Type 0
@@ -184,10 +181,17 @@ module _ (contents : Contents) where
         let e = sym is.words_are ∙ is'.words_are in
         (ap (λ ws. get_or ws 1 []) e, ap (λ ws. get_or ws 2 []) e)
 
-    pub one_answer : (words : List (List ℕ)) (a b : Answer) → Answers (Some contents) words a → Answers (Some contents) words b → a ≡ b
-    one_answer words a b (inl (apart, e)) (inl (apart', f)) = e ∙ sym f
-    one_answer words a b (inl (apart, e)) (inr (name, certificate, is, h)) = absurd (apart name certificate is)
-    one_answer words a b (inr (name, certificate, is, h)) (inl (apart, e)) = absurd (apart name certificate is)
-    one_answer words a b (inr (name, certificate, is, h)) (inr (name', certificate', is', k)) =
-        let same = one_command words name certificate name' certificate' is is' in
-        one_for_check name certificate a b h (subst (λ (c : List ℕ). AnswersCheck contents name c b) (sym same.1) (subst (λ (n : List ℕ). AnswersCheck contents n certificate' b) (sym same.0) k))
+    module _ (one_reading : OneReading) (one_for_run : (r : Run) (a b : Answer) → AnswersRun contents r a → AnswersRun contents r b → a ≡ b) where
+      pub one_answer : (words : List (List ℕ)) (a b : Answer) → Answers (Some contents) words a → Answers (Some contents) words b → a ≡ b
+      one_answer words a b (inl (none, e)) (inl (none', f)) = e ∙ sym f
+      one_answer words a b (inl (none, e)) (inr (inl (name, certificate, is, h))) = absurd (none.no_check name certificate is)
+      one_answer words a b (inl (none, e)) (inr (inr (r, said, h))) = absurd (none.no_run r said)
+      one_answer words a b (inr (inl (name, certificate, is, h))) (inl (none, e)) = absurd (none.no_check name certificate is)
+      one_answer words a b (inr (inr (r, said, h))) (inl (none, e)) = absurd (none.no_run r said)
+      one_answer words a b (inr (inl (name, certificate, is, h))) (inr (inr (r, said, k))) = absurd (check_or_run words name certificate r is said)
+      one_answer words a b (inr (inr (r, said, h))) (inr (inl (name, certificate, is, k))) = absurd (check_or_run words name certificate r is said)
+      one_answer words a b (inr (inl (name, certificate, is, h))) (inr (inl (name', certificate', is', k))) =
+          let same = one_command words name certificate name' certificate' is is' in
+          one_for_check name certificate a b h (subst (λ (c : List ℕ). AnswersCheck contents name c b) (sym same.1) (subst (λ (n : List ℕ). AnswersCheck contents n certificate' b) (sym same.0) k))
+      one_answer words a b (inr (inr (r, said, h))) (inr (inr (s, also, k))) =
+          one_for_run r a b h (subst (λ (x : Run). AnswersRun contents x b) (one_reading words s r also said) k)

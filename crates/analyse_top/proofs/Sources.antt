@@ -66,7 +66,7 @@ one_writing bytes ts us s t h k =
 -- ---- causes
 
 module _ (law : (bytes : List ℕ) → OneAnswer bytes) (bytes : List ℕ) where
-  one_cause : (d e : FrontEnd) → IsProfileCause bytes d → IsProfileCause bytes e → d ≡ e
+  pub one_cause : (d e : FrontEnd) → IsProfileCause bytes d → IsProfileCause bytes e → d ≡ e
   one_cause d e (inl h) (inl k) = (law bytes).one_cause d e h k
   one_cause d e (inl h) (inr (q, is, k)) = absurd ((law bytes).not_both q d is h)
   one_cause d e (inr (p, is, h)) (inl k) = absurd ((law bytes).not_both p e is k)
@@ -74,7 +74,7 @@ module _ (law : (bytes : List ℕ) → OneAnswer bytes) (bytes : List ℕ) where
       let same : p ≡ q = (law bytes).one_program p q is also in
       one_control_cause q d e (subst (λ (x : act.Program). IsControlCause x d) same h) k
 
-  none_in_profile : (e : FrontEnd) → IsOfProfile bytes → IsProfileCause bytes e → ⊥
+  pub none_in_profile : (e : FrontEnd) → IsOfProfile bytes → IsProfileCause bytes e → ⊥
   none_in_profile e h (inl k) = (law bytes).not_both h.program e h.is_source k
   none_in_profile e h (inr (q, is, k)) =
       let same : q ≡ h.program = (law bytes).one_program q h.program is h.is_source in

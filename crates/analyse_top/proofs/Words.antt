@@ -1,8 +1,8 @@
 -- The words of a command.
-use Rattle.std.proofs.Common.{◌≡◌, ℕ, List, [], ◌∷◌, length, get_or, refl, ◌∙◌, arith, String, Global, string_bytes}
+use Rattle.std.proofs.Common.{◌≡◌, ℕ, List, [], ◌∷◌, length, get_or, refl, sym, ap, ◌∙◌, inl, inr, arith, String, Global, string_bytes}
 use Rattle.std.specs.Prelude.{codes}
-use Rattle.analyse_top.specs.Answer.{IsCheck, IsPlain}
-use Rattle.analyse_top.specs.Steps.{texts}
+use Rattle.run_words.specs.Words.{IsPlain, Run, IsRun, texts}
+use Rattle.analyse_top.specs.Answer.{IsCheck}
 
 three_words : (words : List (String Global)) (a b c : String Global) → length words ≡ 3 → a ≡ get_or words 0 a → b ≡ get_or words 1 b → c ≡ get_or words 2 c →
     texts words ≡ string_bytes a ∷ string_bytes b ∷ string_bytes c ∷ []
@@ -20,3 +20,16 @@ check_words words command source certificate name target l e f g is n t p q = re
   plain_source = p;
   plain_certificate = q;
 }
+
+check_differs : (xs ys : List (List ℕ)) → codes "check" ∷ xs ≡ codes "run" ∷ ys → ⊥
+check_differs xs ys e =
+    let f : ◌≡◌ {A = ℕ} 5 3 = ap (λ (ws : List (List ℕ)). length (get_or ws 0 [])) e in
+    absurd (omega arith)
+
+-- words aren't those of both commands
+pub check_or_run : (words : List (List ℕ)) (source certificate : List ℕ) (r : Run)
+    → IsCheck words source certificate → IsRun words r → ⊥
+check_or_run words source certificate r check run = elim run.form [
+  | inl form ↦ check_differs _ _ (sym check.words_are ∙ form.0)
+  | inr form ↦ check_differs _ _ (sym check.words_are ∙ form.words_are)
+]

@@ -1,5 +1,5 @@
--- What `check` answers: for the words of the command and the contents of the files one answer, with its text and
--- its status.
+-- What the commands answer where nothing is run: for the words of the command and the contents of the files one answer,
+-- with its text and its status.
 use Rattle.std.specs.Prelude.{◌≡◌, ℕ, ◌+◌, ◌-◌, ◌<◌, ◌≤◌, ◌⊎◌, List, [], ◌∷◌, ◌++◌, map, length, slice_get, slice_index, codes, decimal, Option, None, Some, IfSome, IsSomeAnd}
 use Rattle.std.specs.FinMap.{get}
 use Rattle.batch_io.specs.FilesState.{Contents}
@@ -15,14 +15,17 @@ use Rattle.cob_front.specs.declared.end.FrontEnd.{FrontEnd}
 use Rattle.cob_front.specs.declared.end.FrontEnd.TheVariants as end
 use Rattle.straight_source.specs.Source.{Source, program_of, statement_lines}
 use Rattle.straight_claims.specs.Claims.{AreClaimsLines, claims_lines}
+use Rattle.run_words.specs.Words.{IsPlain, Run, IsRun}
 use Rattle.analyse_top.specs.declared.answer.Alarm.{Alarm}
 use Rattle.analyse_top.specs.Text.{line_end, at_line, report_text, gap_text, refusal_text}
 use Rattle.analyse_top.specs.Profile.{IsProfileCause, IsWritten, IsNotStraight}
+use Rattle.analyse_top.specs.Runs.{BlamesWord}
 
 -- ---- answers, their texts and statuses
 
 pub data Answer : Type 0 where
-  -- the words are no command; the first of them, or empty
+  -- The words are no command; the first of them, or empty. Or words on files are refused; the one to blame, or a file's
+  -- external name.
   Usage : List ℕ → Answer
   -- there is no file of this name
   Absent : List ℕ → Answer
@@ -81,16 +84,16 @@ status_unwritten (NotInductive edge gap) = status_of (NotInductive edge gap)
 
 -- ---- the words
 
--- A word that isn't the name of an option: it is a lone hyphen, or begins otherwise.
-abbrev pub IsPlain : List ℕ → Type 0
-IsPlain [] = Unit {0}
-IsPlain (byte ∷ word) = (byte ≡ 45) → (word ≡ [])
-
 -- `check SOURCE CERT`
 pub record IsCheck (words : List (List ℕ)) (source certificate : List ℕ) : Type 0 where
   pub words_are : words ≡ codes "check" ∷ source ∷ certificate ∷ []
   pub plain_source : IsPlain source
   pub plain_certificate : IsPlain certificate
+
+-- neither of the two commands
+pub record IsNoCommand (words : List (List ℕ)) : Type 0 where
+  pub no_check : (source certificate : List ℕ) → IsCheck words source certificate → ⊥
+  pub no_run : (r : Run) → IsRun words r → ⊥
 
 abbrev pub first_word : List (List ℕ) → List ℕ
 first_word [] = []
@@ -169,9 +172,22 @@ AnswersCheck contents source certificate answer =
     ⊎ ((tokens : List Token) × (s : Source) × HoldsSource contents source tokens s
     × AnswersProgram contents certificate (program_of s) (statement_lines tokens s) answer)
 
+-- ---- the answer to `run` where nothing is run
+
+-- a refusal of the source, or of the words on files
+abbrev pub AnswersRun : Contents → Run → Answer → Type 0
+AnswersRun contents r (Absent name) = (get contents r.source ≡ None) × (name ≡ r.source)
+AnswersRun contents r (Refused cause) = IsSomeAnd (get contents r.source) (λ bytes. IsProfileCause bytes cause)
+AnswersRun contents r (Usage word) = IsSomeAnd (get contents r.source) (λ bytes. BlamesWord bytes r.names word)
+AnswersRun contents r (NotYet line) = ⊥
+AnswersRun contents r CertificateLong = ⊥
+AnswersRun contents r (NotInductive edge gap) = ⊥
+AnswersRun contents r (Report alarms) = ⊥
+
 -- The answer to these words, where the files' contents are known; a command's form shows in the words alone.
 abbrev pub Answers : Option Contents → List (List ℕ) → Answer → Type 0
 Answers known words answer =
-    (((source certificate : List ℕ) → IsCheck words source certificate → ⊥) × (answer ≡ Usage (first_word words)))
+    (IsNoCommand words × (answer ≡ Usage (first_word words)))
     ⊎ ((source : List ℕ) × (certificate : List ℕ) × IsCheck words source certificate
     × IfSome known (λ contents. AnswersCheck contents source certificate answer))
+    ⊎ ((r : Run) × IsRun words r × IfSome known (λ contents. AnswersRun contents r answer))

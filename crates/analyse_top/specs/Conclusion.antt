@@ -1,34 +1,22 @@
 -- How a call of the program ends: its status, what it shows, and what it leaves.
-use Rattle.std.specs.Prelude.{◌≡◌, ℕ, ◌≤◌, ◌⊎◌, List, ◌++◌, take, length, codes, Some}
-use Rattle.std.specs.Io.KnownBytes.{append_known}
+use Rattle.std.specs.Prelude.{◌≡◌, ℕ, ◌⊎◌, List, Option, Some, Result, Err}
 use Rattle.batch_io.specs.Faults.{Rose}
 use Rattle.batch_io.specs.FilesState.{FilesState, Contents, KeepsIds, known_bytes}
 use Rattle.batch_io.specs.SinkState.{SinkState}
 use Rattle.cob_meaning.specs.Run.{MeetsNoFault}
 use Rattle.cob_tree.specs.declared.token.Token.{Token}
 use Rattle.straight_source.specs.Source.{Source, program_of}
-use Rattle.analyse_top.specs.Text.{line_end, memory_line}
+use Rattle.cob_interp.specs.declared.ends.Ended.{Ended}
+use Rattle.cob_interp.specs.declared.ends.RunEnd.{RunEnd}
+use Rattle.cob_interp.specs.declared.ends.RunEnd.TheVariants as end
+use Rattle.cob_interp.specs.Ends.{told_files, IsEnd}
+use Rattle.cob_interp.specs.Running.{outside}
+use Rattle.analyse_top.specs.Text.{memory_line, read_fault_line}
+use Rattle.analyse_top.specs.Showing.{GainsFront, Shows}
 use Rattle.analyse_top.specs.Answer.{Answer, Answers, IsCheck, HoldsSource, answer_text, status_of, status_unwritten}
+use Rattle.analyse_top.specs.Runs.{Task, AsksFor, RunsTo}
 
-abbrev pub read_fault_text : List ℕ
-read_fault_text = codes "E3 read" ++ line_end
-
--- ---- what a sink gains
-
-abbrev pub Gains : SinkState → SinkState → List ℕ → Type 0
-Gains old new text = new.told ≡ append_known old.told text
-
-abbrev pub GainsFront : SinkState → SinkState → List ℕ → Type 0
-GainsFront old new text = (n : ℕ) × (n ≤ length text) × Gains old new (take n text)
-
--- The text is shown whole with this status, or a write of it failed: then a front of it is shown, and the status
--- is the other.
-abbrev pub Shows : SinkState → SinkState → List ℕ → ℕ → ℕ → ℕ → Type 0
-Shows old new text whole failed status =
-    ((status ≡ whole) × Gains old new text × (new.faults ≡ old.faults))
-    ⊎ ((status ≡ failed) × GainsFront old new text × Rose old.faults new.faults)
-
--- ---- the three ways to end
+-- ---- the ways to end
 
 pub record Call : Type 0 where
   pub words : List (List ℕ)
@@ -58,13 +46,13 @@ pub record EndsBy (call : Call) (answer : Answer) : Type 0 where
 -- a read fault, which its count shows
 pub record EndsByReadFault (call : Call) : Type 0 where
   pub rose : Rose call.files_before.reading call.files_after.reading
-  pub shows : Shows call.out_before call.out_after read_fault_text 5 5 call.status
+  pub shows : Shows call.out_before call.out_after read_fault_line 5 5 call.status
 
 -- the texts that may stand in part in the sink where memory ran out
 abbrev pub MayBeShown : Call → List ℕ → Type 0
 MayBeShown call text =
     (text ≡ memory_line)
-    ⊎ ((Rose call.files_before.reading call.files_after.reading) × (text ≡ read_fault_text))
+    ⊎ ((Rose call.files_before.reading call.files_after.reading) × (text ≡ read_fault_line))
     ⊎ ((answer : Answer) × Answers (known_bytes call.files_before) call.words answer × (text ≡ answer_text answer))
 
 pub record EndsByMemory (call : Call) : Type 0 where
@@ -72,21 +60,51 @@ pub record EndsByMemory (call : Call) : Type 0 where
   pub shows : (text : List ℕ) × MayBeShown call text × GainsFront call.out_before call.out_after text
 
 -- No file is changed, and every open id is as it was.
-pub record Concludes (call : Call) : Type 0 where
+pub record EndsWithoutRun (call : Call) : Type 0 where
   pub contents : known_bytes call.files_after ≡ known_bytes call.files_before
   pub ids : KeepsIds call.files_before call.files_after
   pub writing : call.files_after.writing ≡ call.files_before.writing
   pub ends : ((answer : Answer) × EndsBy call answer) ⊎ EndsByReadFault call ⊎ EndsByMemory call
 
+-- a run of the task came to this result
+abbrev pub EndsByRun : Call → Task → Result Ended RunEnd → Type 0
+EndsByRun call t result =
+    RunsTo t (outside call.files_before call.out_before) (outside call.files_after call.out_after) result call.status
+
+-- The task that the words ask for is run, or no file is changed.
+abbrev pub Concludes : Call → Type 0
+Concludes call =
+    EndsWithoutRun call
+    ⊎ ((t : Task) × (result : Result Ended RunEnd)
+    × AsksFor (known_bytes call.files_before) call.words t × EndsByRun call t result)
+
 -- ---- what follows
 
--- Where the contents are known, each answer is given exactly where it is the answer, unless a read failed or
--- memory ran out.
-abbrev pub IsExact : Call → Type 0
-IsExact call =
+-- each answer is given exactly where it is the answer, unless a read failed or memory ran out
+abbrev pub AnswersExactly : Call → Type 0
+AnswersExactly call =
     (contents : Contents) (answer : Answer) → known_bytes call.files_before ≡ Some contents
     → Answers (Some contents) call.words answer
     → EndsBy call answer ⊎ EndsByReadFault call ⊎ EndsByMemory call
+
+-- the outside or memory failed before the run, or in it
+abbrev pub FailsToRun : Call → Task → Type 0
+FailsToRun call t =
+    EndsByReadFault call ⊎ EndsByMemory call
+    ⊎ EndsByRun call t (Err end.ReadFault) ⊎ EndsByRun call t (Err end.WriteFault) ⊎ EndsByRun call t (Err end.Memory)
+
+-- What is asked for is run, and the run comes to its own end behind so many steps, unless the outside or memory failed.
+abbrev pub RunsExactly : Call → Type 0
+RunsExactly call =
+    (contents : Contents) (t : Task) (result : Result Ended RunEnd) (steps : ℕ)
+    → known_bytes call.files_before ≡ Some contents → AsksFor (Some contents) call.words t
+    → IsEnd t.program (told_files contents t.paths) t.steps result steps
+    → EndsByRun call t result ⊎ FailsToRun call t
+
+-- where the contents are known
+pub record IsExact (call : Call) : Type 0 where
+  pub answers : AnswersExactly call
+  pub runs : RunsExactly call
 
 -- The headline: where `check` answers 0, SOURCE is a program of the profile, its canonical tokens are those of a source
 -- of the form, and whatever the number of steps, its run meets no size error, no truncation and no other fault.
@@ -101,5 +119,6 @@ pub record IsClean (contents : Contents) (words : List (List ℕ)) : Type 0 wher
 
 abbrev pub CleanIsSafe : Call → Type 0
 CleanIsSafe call =
-    (contents : Contents) → known_bytes call.files_before ≡ Some contents → call.status ≡ 0
+    (contents : Contents) (source certificate : List ℕ) → IsCheck call.words source certificate
+    → known_bytes call.files_before ≡ Some contents → call.status ≡ 0
     → IsClean contents call.words

@@ -1,40 +1,52 @@
 -- What the parts of the program's call do.
-use Rattle.std.specs.Prelude.{◌≡◌, ℕ, ◌+◌, ◌≤◌, ◌⊎◌, Bool, true, false, List, [], map, length, slice_get, Some, Result, Ok, Err, MatchResult, Vec, String, string_bytes}
+use Rattle.std.specs.Prelude.{◌≡◌, ℕ, ◌+◌, ◌≤◌, ◌⊎◌, Bool, true, false, List, [], map, length, slice_get, Some, Result, Ok, Err, MatchResult, Vec}
+use Rattle.std.specs.declared.alloc.Global.{Global}
 use Rattle.text_lines.specs.Lines.{text_of}
 use Rattle.text_lines.specs.Viable.{FirstBad}
+use Rattle.batch_io.specs.Faults.{Counts}
+use Rattle.batch_io.specs.FilesState.{FilesState, KeepsIds, known_bytes}
+use Rattle.batch_io.specs.SinkState.{SinkState}
 use Rattle.cob_tree.specs.declared.fault.Open.{Open}
-use Rattle.cob_meaning.specs.Program.{Program}
+use Rattle.cob_tree.specs.declared.token.Token.{Token}
+use Rattle.cob_meaning.specs.Program.{Program, plain, IsValid}
 use Rattle.cert_text.specs.declared.cert.Claim.{Claim}
 use Rattle.cert_check.specs.declared.ends.CheckEnd.{CheckEnd}
 use Rattle.cert_check.specs.declared.ends.CheckEnd.TheVariants as check
 use Rattle.cert_check.specs.Inductive.{FitsProgram, leak, leaks}
 use Rattle.straight_claims.specs.Claims.{AreClaimsLines, claims_lines}
-use Rattle.cob_tree.specs.declared.token.Token.{Token}
-use Rattle.cob_meaning.specs.Program.{plain, IsValid}
-use Rattle.cob_front.specs.declared.end.FrontEnd.{FrontEnd}
-use Rattle.cob_front.specs.declared.end.FrontEnd.TheVariants as end
 use Rattle.straight_source.specs.declared.read.StraightLines.{StraightLines}
 use Rattle.straight_source.specs.Source.{Source, program_of, statement_lines}
-use Rattle.analyse_top.specs.declared.source.Unread.{Unread}
-use Rattle.analyse_top.specs.declared.source.Unread.TheVariants as unread
-use Rattle.analyse_top.specs.Profile.{IsProfileCause, IsWritten, IsNotStraight}
-use Rattle.analyse_top.specs.Answer.{Answer, Usage, Absent, Refused, NotYet, CertificateLong, NotInductive, Report, alarm_at, alarms_of, answer_text, status_of, status_unwritten}
-use Rattle.batch_io.specs.SinkState.{SinkState}
-use Rattle.analyse_top.specs.Text.{memory_line}
-use Rattle.analyse_top.specs.Conclusion.{Shows, GainsFront}
-use Rattle.std.specs.declared.alloc.Global.{Global}
-use Rattle.batch_io.specs.Faults.{Counts}
-use Rattle.batch_io.specs.FilesState.{FilesState, KeepsIds, known_bytes}
+use Rattle.cob_program.specs.ActView.{plain_program}
+use Rattle.cob_graph.specs.Graphs.{IsGraph}
+use Rattle.cob_front.specs.declared.end.FrontEnd.{FrontEnd}
+use Rattle.cob_front.specs.declared.end.FrontEnd.TheVariants as end
+use Rattle.cob_front.specs.Source.{IsSource}
+use Rattle.cob_front.specs.Control.{IsControlCause}
+use Rattle.cob_ready.specs.Readiness.{CanBeRun}
+use Rattle.run_words.specs.Words.{Run, texts}
+use Rattle.run_words.specs.Paths.{AreDistinct}
 use Rattle.analyse_top.specs.declared.answer.Stop.{Stop}
 use Rattle.analyse_top.specs.declared.answer.Stop.TheVariants.{ReadFault, Memory}
-
-abbrev pub texts : List (String Global) → List (List ℕ)
-texts words = map string_bytes words
+use Rattle.analyse_top.specs.declared.run.Task as code_task
+use Rattle.analyse_top.specs.declared.source.Laid.{Laid}
+use Rattle.analyse_top.specs.declared.source.Unread.{Unread}
+use Rattle.analyse_top.specs.declared.source.Unread.TheVariants as unread
+use Rattle.analyse_top.specs.Text.{memory_line, read_fault_line}
+use Rattle.analyse_top.specs.Showing.{GainsFront, Shows, ShowsRefusal}
+use Rattle.analyse_top.specs.Profile.{IsProfileCause, IsWritten, IsNotStraight}
+use Rattle.analyse_top.specs.Runs.{Makes, BlamesWord}
+use Rattle.analyse_top.specs.Answer.{Answer, Usage, Absent, Refused, NotYet, CertificateLong, NotInductive, Report, alarm_at, alarms_of, answer_text, status_of, status_unwritten}
+use Rattle.analyse_top.specs.View.{plain_task}
 
 abbrev pub stopped_by_fault : {X : Type 0} → Result X Stop → Bool
 stopped_by_fault (Ok x) = false
 stopped_by_fault (Err ReadFault) = true
 stopped_by_fault (Err Memory) = false
+
+-- of what was to be done instead
+abbrev pub refused_by_fault : {X A : Type 0} → Result X (Result A Stop) → Bool
+refused_by_fault (Ok x) = false
+refused_by_fault (Err found) = stopped_by_fault found
 
 -- Files are read and left as they were; the reading count rises where a read fault is told, and else stays.
 pub record Reads (old new : FilesState) (failed : Bool) : Type 0 where
@@ -44,6 +56,12 @@ pub record Reads (old new : FilesState) (failed : Bool) : Type 0 where
   pub reading : Counts failed old.reading new.reading
 
 -- ---- reading the source
+
+-- a program of the profile of which the bytes are a source, and its graph
+pub record IsLaid (bytes : List ℕ) (laid : Laid) : Type 0 where
+  pub is_source : IsSource bytes (plain_program laid.program)
+  pub is_graph : IsGraph (plain_program laid.program) laid.graph
+  pub within : (cause : FrontEnd) → IsControlCause (plain_program laid.program) cause → ⊥
 
 -- a program and its lines, as the checker takes them
 pub record IsCheckable (read : StraightLines) : Type 0 where
@@ -80,6 +98,31 @@ abbrev pub answer_to : Unread → Result Answer Stop
 answer_to (unread.Refused cause) = Ok (Refused cause)
 answer_to (unread.NotYet line) = Ok (NotYet line)
 answer_to unread.Memory = Err Memory
+
+-- ---- what is run
+
+-- what the interpreter asks for
+pub record IsReady (t : code_task.Task) : Type 0 where
+  pub graph : IsGraph (plain_program t.laid.program) t.laid.graph
+  pub can : CanBeRun (plain_program t.laid.program)
+  pub count : length t.paths.items ≡ length t.laid.program.layout.files
+  pub distinct : AreDistinct (texts t.paths.items)
+
+-- the task that the bytes make, ready to be run
+pub record IsTask (bytes : List ℕ) (r : Run) (t : code_task.Task) : Type 0 where
+  pub makes : Makes bytes r (plain_task t)
+  pub ready : IsReady t
+
+-- why the bytes make none, or want of memory
+abbrev pub IsNoTask : List ℕ → List (List ℕ) → Result Answer Stop → Type 0
+IsNoTask bytes names (Ok (Refused cause)) = IsProfileCause bytes cause
+IsNoTask bytes names (Ok (Usage word)) = BlamesWord bytes names word
+IsNoTask bytes names (Ok (Absent name)) = ⊥
+IsNoTask bytes names (Ok (NotYet line)) = ⊥
+IsNoTask bytes names (Ok CertificateLong) = ⊥
+IsNoTask bytes names (Ok (NotInductive edge gap)) = ⊥
+IsNoTask bytes names (Ok (Report alarms)) = ⊥
+IsNoTask bytes names (Err stop) = stop ≡ Memory
 
 -- ---- between the checker and the answer
 
@@ -120,12 +163,14 @@ AnswersBytes bytes program lines CertificateLong = ⊥
 
 -- ---- what is shown
 
--- a refusal's line: its status, or 8 where memory ran out
-abbrev pub ShowsRefusal : SinkState → SinkState → List ℕ → ℕ → ℕ → Type 0
-ShowsRefusal old new line own status = Shows old new line own own status ⊎ ((status ≡ 8) × GainsFront old new line)
-
 -- an answer: its status, or 8 where memory ran out
 abbrev pub ShowsAnswer : SinkState → SinkState → Answer → ℕ → Type 0
 ShowsAnswer old new answer status =
     Shows old new (answer_text answer) (status_of answer) (status_unwritten answer) status
     ⊎ ((status ≡ 8) × (GainsFront old new (answer_text answer) ⊎ GainsFront old new memory_line))
+
+-- what is found: an answer, or why there is none
+abbrev pub ShowsFound : SinkState → SinkState → Result Answer Stop → ℕ → Type 0
+ShowsFound old new (Ok answer) status = ShowsAnswer old new answer status
+ShowsFound old new (Err ReadFault) status = ShowsRefusal old new read_fault_line 5 status
+ShowsFound old new (Err Memory) status = ShowsRefusal old new memory_line 8 status

@@ -1,13 +1,18 @@
 -- What is printed.
-use Rattle.std.specs.Prelude.{ℕ, ℤ, List, [], ◌∷◌, ◌++◌, length, codes, decimal, Option, None, Some}
+use Rattle.std.specs.Prelude.{ℕ, ℤ, List, [], ◌∷◌, ◌++◌, length, slice_get, codes, decimal, Option, None, Some}
 use Rattle.std.specs.Fmt.{signed_decimal}
 use Rattle.std.specs.List.{flat_map}
+use Rattle.std.specs.Option.{option_map_or}
 use Rattle.cob_data.specs.declared.end.Rule.{Rule}
 use Rattle.cob_data.specs.declared.end.Rule.TheVariants as rule
 use Rattle.cob_data.specs.declared.end.Which.{Which}
 use Rattle.cob_data.specs.declared.end.Which.TheVariants as which
 use Rattle.cob_front.specs.declared.end.FrontEnd.{FrontEnd}
 use Rattle.cob_front.specs.declared.end.FrontEnd.TheVariants as end
+use Rattle.cob_data.specs.declared.layout.FileDecl.{FileDecl}
+use Rattle.cob_interp.specs.declared.ends.RunEnd.{RunEnd}
+use Rattle.cob_interp.specs.declared.ends.RunEnd.TheVariants as run
+use Rattle.cob_runs.specs.Files.{status_bytes}
 use Rattle.cob_tree.specs.declared.fault.Kind.{Kind}
 use Rattle.cob_tree.specs.declared.fault.Kind.TheVariants as kind
 use Rattle.cert_check.specs.declared.ends.Gap.{Gap}
@@ -122,3 +127,42 @@ refusal_text (end.Nesting count) = over_line which.Nesting count
 refusal_text (end.Outside rule line) = at_line (codes "E9 " ++ rule_text rule) line
 refusal_text (end.Limit which count) = over_line which count
 refusal_text end.Memory = memory_line
+
+-- ---- why a run didn't come to its end
+
+abbrev pub read_fault_line : List ℕ
+read_fault_line = codes "E3 read" ++ line_end
+
+abbrev pub write_fault_line : List ℕ
+write_fault_line = codes "E4 write" ++ line_end
+
+-- the external name of the file at a place
+abbrev pub external_at : List FileDecl → ℕ → List ℕ
+external_at files place = option_map_or (λ d. d.external) (slice_get files place) []
+
+abbrev pub ragged_line : List ℕ → ℕ → List ℕ
+ragged_line name count = codes "E15 " ++ name ++ codes " length " ++ decimal count ++ line_end
+
+-- words before a number
+abbrev pub number_line : List ℕ → ℕ → List ℕ
+number_line words number = words ++ decimal number ++ line_end
+
+-- the status by its two digits
+abbrev pub stop_line : ℕ → ℕ → List ℕ
+stop_line status statement = codes "E17 status " ++ status_bytes status ++ codes " statement " ++ decimal statement ++ line_end
+
+abbrev pub fault_line : Kind → ℕ → ℕ → List ℕ
+fault_line kind statement step =
+    codes "E18 " ++ kind_text kind ++ codes " statement " ++ decimal statement
+    ++ codes " step " ++ decimal step ++ line_end
+
+-- of a program with these files
+abbrev pub run_text : List FileDecl → RunEnd → List ℕ
+run_text files run.ReadFault = read_fault_line
+run_text files run.WriteFault = write_fault_line
+run_text files (run.Ragged file count) = ragged_line (external_at files file) count
+run_text files (run.Long count) = number_line (codes "E10 file-bytes ") count
+run_text files (run.StepsSpent count) = number_line (codes "E16 steps ") count
+run_text files (run.IoStop status statement) = stop_line status statement
+run_text files (run.Fault kind statement step) = fault_line kind statement step
+run_text files run.Memory = memory_line

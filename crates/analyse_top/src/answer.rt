@@ -14,11 +14,13 @@ pub struct Alarm {
     pub line: u32,
 }
 
-/// What `check` answers. Names are the command's own words.
+/// What the commands answer where nothing is run. Names are the command's own words.
 #[derive(Drop)]
 pub enum Answer<'a> {
     /// The words are no command; the first of them, or empty.
     Usage(&'a str),
+    /// The words on files are refused, for this word or for a file's external name.
+    NoPaths(String),
     /// There is no file of this name.
     Absent(&'a str),
     /// The source isn't of the profile.

@@ -15,7 +15,8 @@ use std::alloc::{AllocError, Global};
 use straight_claims::{ClaimsEnd, read_claims};
 use straight_source::StraightLines;
 
-const SOURCE_LIMIT: usize = 1_048_576;
+/// The most bytes of a source.
+pub const SOURCE_LIMIT: usize = 1_048_576;
 
 const CERTIFICATE_LIMIT: usize = 67_108_864;
 
@@ -43,8 +44,8 @@ pub fn check<'a, F: Files>(
     }
 }
 
-// The answer to a source that isn't read.
-fn answer_to<'a>(end: Unread) -> Result<Answer<'a>, Stop>
+/// The answer to a source that isn't read.
+pub fn answer_to<'a>(end: Unread) -> Result<Answer<'a>, Stop>
     ensures { plain_result result ≡ answer_to end }
 {
     match end {

@@ -1,8 +1,10 @@
-//! Cobsound: a sound size-error analyser for COBOL-85 batch programs.
+//! Cobsound: a sound size-error analyser for COBOL-85 batch programs, which also runs them.
 #![tactic(auto)]
 
 mod answer;
 mod check;
+mod run;
+mod show;
 mod source;
 mod text;
 mod top;
@@ -24,7 +26,7 @@ fn words_of(rt: &HostRuntime, alloc: Global) -> Result<Vec<String>, u8> {
     args.skip(1).collect(alloc).map_err(|_| OUT_OF_MEMORY)
 }
 
-fn run(rt: &HostRuntime) -> u8 {
+fn status(rt: &HostRuntime) -> u8 {
     let alloc = rt.alloc();
     match words_of(rt, alloc) {
         Ok(words) => cobsound(
@@ -38,8 +40,10 @@ fn run(rt: &HostRuntime) -> u8 {
 }
 
 fn main(rt: HostRuntime) -> ExitCode {
-    ExitCode::from(run(&rt))
+    ExitCode::from(status(&rt))
 }
 
+#[cfg(test)]
+mod payroll;
 #[cfg(test)]
 mod tests;

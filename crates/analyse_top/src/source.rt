@@ -3,9 +3,10 @@ ghost use Rattle.cob_program.specs.ActView.{plain_program};
 ghost use Rattle.cob_front.specs.Source.{IsSource, Answers};
 ghost use Rattle.cob_scan.specs.Scan.{Tokens, scan_of};
 ghost use Rattle.analyse_top.specs.Profile.{IsOfProfile, IsProfileCause};
-ghost use Rattle.analyse_top.specs.Steps.{IsCheckable, Writes, IsUnread, unread_for};
+ghost use Rattle.analyse_top.specs.Steps.{IsLaid, IsCheckable, Writes, IsUnread, unread_for};
 
 use cob_front::{FrontEnd, graph_in, program_in};
+use cob_graph::Graph;
 use cob_program::Program;
 use cob_scan::{ScanEnd, tokens_in};
 use cob_tree::Token;
@@ -22,13 +23,30 @@ pub enum Unread {
     Memory,
 }
 
-// Finds that a source's program has a graph within the limits.
-fn graph_within(alloc: Global, bytes: &[u8], program: &Program) -> Result<(), FrontEnd>
-    requires { IsSource bytes.now (plain_program program.now) }
-    ensures { Answers (λ _. IsOfProfile bytes.now) (IsProfileCause bytes.now) result }
+/// A program of the profile, and its graph.
+#[derive(Drop)]
+pub struct Laid {
+    pub program: Program,
+    pub graph: Graph,
+}
+
+// A source's program with its graph.
+fn with_graph(alloc: Global, bytes: &[u8], program: Program) -> Result<Laid, FrontEnd>
+    requires { IsSource bytes.now (plain_program program) }
+    ensures { Answers (IsLaid bytes.now) (IsProfileCause bytes.now) result }
 {
-    match graph_in(alloc, program) {
-        Ok(_) => Ok(()),
+    match graph_in(alloc, &program) {
+        Ok(graph) => Ok(Laid { program, graph }),
+        Err(broken) => Err(broken),
+    }
+}
+
+/// The program of a source of the profile, with its graph.
+pub fn laid_in(alloc: Global, bytes: &[u8]) -> Result<Laid, FrontEnd>
+    ensures { Answers (IsLaid bytes.now) (IsProfileCause bytes.now) result }
+{
+    match program_in(alloc, bytes) {
+        Ok(program) => with_graph(alloc, bytes, program),
         Err(cause) => Err(cause),
     }
 }
@@ -37,8 +55,8 @@ fn graph_within(alloc: Global, bytes: &[u8], program: &Program) -> Result<(), Fr
 fn in_profile(alloc: Global, bytes: &[u8]) -> Result<(), FrontEnd>
     ensures { Answers (λ _. IsOfProfile bytes.now) (IsProfileCause bytes.now) result }
 {
-    match program_in(alloc, bytes) {
-        Ok(program) => graph_within(alloc, bytes, &program),
+    match laid_in(alloc, bytes) {
+        Ok(_) => Ok(()),
         Err(cause) => Err(cause),
     }
 }
@@ -74,8 +92,8 @@ fn straight_lines(alloc: Global, bytes: &[u8]) -> Result<StraightLines, Unread>
     }
 }
 
-// Want of memory stands by itself.
-fn unread_for(cause: FrontEnd) -> Unread
+/// Want of memory stands by itself.
+pub fn unread_for(cause: FrontEnd) -> Unread
     ensures { result ≡ unread_for cause }
 {
     match cause {

@@ -1,3 +1,4 @@
+use super::payroll::LINES;
 use super::top::cobsound;
 use batch_io::{MemFiles, MemSink};
 use std::alloc::{AllocError, Global};
@@ -155,6 +156,118 @@ const WORDS: [(&[&str], u8, &str); 9] = [
     (&["check", "S", "C"], 0, "clean\n"),
 ];
 
+const BEFORE: &str =
+    "       IDENTIFICATION DIVISION.\n       PROGRAM-ID. T.\n       DATA DIVISION.\n       WORKING-STORAGE SECTION.\n";
+
+// Words, the lines of data, those of the procedure, and what the words answer where T is the program of these lines.
+const RUNS: [(&str, &str, &str, u8, &str); 11] = [
+    (
+        "run T",
+        "       77 N PIC 9(3) VALUE 998.\n",
+        "       ADD 2 TO N.\n       STOP RUN.\n",
+        1,
+        "E18 SIZE statement 1 step 1\n",
+    ),
+    (
+        "run T",
+        "       77 M PIC 9(2)V99.\n",
+        "       MOVE 12.349 TO M.\n       DISPLAY M.\n",
+        0,
+        "12.34\n",
+    ),
+    (
+        "run T",
+        "       77 N PIC 9.\n",
+        "       MOVE -5 TO N.\n       DISPLAY N.\n",
+        0,
+        "5\n",
+    ),
+    (
+        "run T",
+        "       77 Q PIC 9V9.\n       77 R PIC 9V9.\n",
+        "       DIVIDE 20 BY 7 GIVING Q ROUNDED REMAINDER R.\n       DISPLAY Q ' ' R.\n",
+        0,
+        "2.9 0.4\n",
+    ),
+    (
+        "run T",
+        "       77 X PIC 9.\n       77 Y PIC 9V9 VALUE 0.4.\n",
+        "       COMPUTE X = Y - 0.5.\n       DISPLAY X.\n",
+        0,
+        "0\n",
+    ),
+    (
+        "run T",
+        "       77 X PIC 9.\n       77 Y PIC 9V9 VALUE 0.\n",
+        "       COMPUTE X = Y - 1.5.\n       DISPLAY X.\n",
+        0,
+        "1\n",
+    ),
+    (
+        "run T",
+        "       77 A PIC 9 VALUE 8.\n       77 B PIC 9.\n",
+        "       COMPUTE A B = A + 1.\n       DISPLAY A B.\n",
+        0,
+        "99\n",
+    ),
+    (
+        "run T",
+        "",
+        "       A.\n       PERFORM B.\n       STOP RUN.\n       B.\n       PERFORM A.\n",
+        2,
+        "E9 N1 line 7\n",
+    ),
+    (
+        "run T",
+        "",
+        "       PERFORM B.\n       STOP RUN.\n       B.\n       GO TO C.\n       C.\n       STOP RUN.\n",
+        2,
+        "E9 N3 line 9\n",
+    ),
+    (
+        "run T",
+        "",
+        "       DISPLAY \"ABC\n      -    \"D\".\n",
+        0,
+        "ABC                                                     D\n",
+    ),
+    (
+        "run T --steps 5",
+        "",
+        "       A.\n       GO TO A.\n",
+        10,
+        "E16 steps 5\n",
+    ),
+];
+
+const LISTING: &str =
+    "       IDENTIFICATION DIVISION.\n       PROGRAM-ID. G.\n       ENVIRONMENT DIVISION.\n       INPUT-OUTPUT SECTION.\n       FILE-CONTROL.\n           SELECT F ASSIGN TO INP.\n       DATA DIVISION.\n       FILE SECTION.\n       FD F.\n       01 REC PIC X(80).\n       WORKING-STORAGE SECTION.\n       77 E PIC X VALUE 'N'.\n       PROCEDURE DIVISION.\n           OPEN INPUT F.\n           PERFORM UNTIL E = 'Y'\n               READ F AT END MOVE 'Y' TO E\n                   NOT AT END DISPLAY REC\n               END-READ\n           END-PERFORM.\n           CLOSE F.\n           STOP RUN.\n";
+
+// The length of the listed file if it is there, whether the listing has FILE STATUS, and what `run` answers.
+const LISTINGS: [(Option<usize>, bool, u8, &str); 4] = [
+    (Some(0), false, 0, ""),
+    (
+        Some(81),
+        false,
+        12,
+        "AAAAAAAAAAAAAAAAAAAAAAAAAAAAAAAAAAAAAAAAAAAAAAAAAAAAAAAAAAAAAAAAAAAAAAAAAAAAAAAA\nE15 INP length 81\n",
+    ),
+    (None, false, 11, "E17 status 35 statement 1\n"),
+    (None, true, 0, "35\n"),
+];
+
+// Words that are refused where T is a program without files and G is the listing, and the refusal.
+const RUN_WORDS: [(&str, &str); 5] = [
+    ("run", "E1 usage run\n"),
+    ("run T --steps 0", "E1 usage run\n"),
+    ("run T X=Y", "E1 usage X=Y\n"),
+    ("run G INP=a INP=b", "E1 usage INP=b\n"),
+    ("run T -x", "E1 usage run\n"),
+];
+
+// A head, a detail and a trailer of 12 bytes each.
+const PAY_IN: &[u8] = b"H20240131   D00042\x00\x45\x5c\x02\x00\x0cT00001      ";
+
 fn owned(alloc: Global, texts: &[&str]) -> Result<Vec<String>, AllocError> {
     let mut words = Vec::new(alloc);
     for text in texts {
@@ -258,5 +371,173 @@ fn a_failing_write_has_its_status(rt: HostRuntime) -> Result<(), Fail> {
         assert_eq!(rt; cobsound(alloc, &words, &mut files, &mut sink), status);
         assert_eq!(rt; sink.bytes(), b"".as_slice());
     }
+    Ok(())
+}
+
+fn split(alloc: Global, line: &str) -> Result<Vec<String>, AllocError> {
+    let mut words = Vec::new(alloc);
+    for word in line.split(' ') {
+        words.push(word.to_string(alloc)?)?;
+    }
+    Ok(words)
+}
+
+// One more file of this name.
+fn add_file(
+    alloc: Global,
+    files: &mut Vec<(String, Vec<u8>)>,
+    name: &str,
+    bytes: &[u8],
+) -> Result<(), AllocError> {
+    let name = name.to_string(alloc)?;
+    files.push((name, Vec::from_slice(alloc, bytes)?))?;
+    Ok(())
+}
+
+fn program(alloc: Global, data: &str, procedure: &str) -> Result<String, AllocError> {
+    format!(in alloc; "{BEFORE}{data}       PROCEDURE DIVISION.\n{procedure}")
+}
+
+// The listing, which may show the status of its OPEN and end.
+fn listing(alloc: Global, has_status: bool) -> Result<String, AllocError> {
+    if !has_status {
+        return LISTING.to_string(alloc);
+    }
+    let selected = LISTING.replace(alloc, "INP.", "INP FILE STATUS IS S.")?;
+    let described = selected
+        .as_str()
+        .replace(alloc, "'N'.\n", "'N'.\n       77 S PIC XX.\n")?;
+    described.as_str().replace(
+        alloc,
+        "OPEN INPUT F.\n",
+        "OPEN INPUT F.\n           DISPLAY S.\n           STOP RUN.\n",
+    )
+}
+
+#[test]
+fn runs_end_as_listed(rt: HostRuntime) -> Result<(), Fail> {
+    let alloc = rt.alloc();
+    for (line, data, procedure, status, out) in RUNS {
+        let words = split(alloc, line)?;
+        let source = program(alloc, data, procedure)?;
+        let mut held = Vec::new(alloc);
+        add_file(alloc, &mut held, "T", source.as_bytes())?;
+        let mut files = MemFiles::new(alloc, held, Vec::new(alloc));
+        let mut sink = MemSink::new(alloc, Vec::new(alloc));
+        assert_eq!(rt;
+            cobsound(alloc, &words, &mut files, &mut sink),
+            status,
+            "{out}"
+        );
+        assert_eq!(rt; sink.bytes(), out.as_bytes(), "{out}");
+    }
+    Ok(())
+}
+
+#[test]
+fn what_is_no_source_is_not_run(rt: HostRuntime) -> Result<(), Fail> {
+    let alloc = rt.alloc();
+    let words = split(alloc, "run T")?;
+    for (source, out) in [
+        ("", "E8 line 1\n"),
+        ("\t      IDENTIFICATION DIVISION.\n", "E6 line 1 column 1\n"),
+    ] {
+        let mut held = Vec::new(alloc);
+        add_file(alloc, &mut held, "T", source.as_bytes())?;
+        let mut files = MemFiles::new(alloc, held, Vec::new(alloc));
+        let mut sink = MemSink::new(alloc, Vec::new(alloc));
+        assert_eq!(rt; cobsound(alloc, &words, &mut files, &mut sink), 2, "{out}");
+        assert_eq!(rt; sink.bytes(), out.as_bytes(), "{out}");
+    }
+    Ok(())
+}
+
+#[test]
+fn a_file_is_listed(rt: HostRuntime) -> Result<(), Fail> {
+    let alloc = rt.alloc();
+    let words = split(alloc, "run G INP=f")?;
+    for (length, has_status, status, out) in LISTINGS {
+        let source = listing(alloc, has_status)?;
+        let mut held = Vec::new(alloc);
+        add_file(alloc, &mut held, "G", source.as_bytes())?;
+        if let Some(length) = length {
+            let bytes = Vec::from_elem(alloc, b'A', length)?;
+            add_file(alloc, &mut held, "f", bytes.as_slice())?;
+        }
+        let mut files = MemFiles::new(alloc, held, Vec::new(alloc));
+        let mut sink = MemSink::new(alloc, Vec::new(alloc));
+        assert_eq!(rt;
+            cobsound(alloc, &words, &mut files, &mut sink),
+            status,
+            "{out}"
+        );
+        assert_eq!(rt; sink.bytes(), out.as_bytes(), "{out}");
+    }
+    Ok(())
+}
+
+#[test]
+fn words_of_a_run_are_refused(rt: HostRuntime) -> Result<(), Fail> {
+    let alloc = rt.alloc();
+    for (line, out) in RUN_WORDS {
+        let words = split(alloc, line)?;
+        let source = program(alloc, "", "       STOP RUN.\n")?;
+        let mut held = Vec::new(alloc);
+        add_file(alloc, &mut held, "T", source.as_bytes())?;
+        add_file(alloc, &mut held, "G", LISTING.as_bytes())?;
+        let mut files = MemFiles::new(alloc, held, Vec::new(alloc));
+        let mut sink = MemSink::new(alloc, Vec::new(alloc));
+        assert_eq!(rt; cobsound(alloc, &words, &mut files, &mut sink), 4, "{line}");
+        assert_eq!(rt; sink.bytes(), out.as_bytes(), "{line}");
+    }
+    Ok(())
+}
+
+// A text that the sink refuses ends the run, and nothing is written behind it.
+#[test]
+fn refused_text_ends_a_run(rt: HostRuntime) -> Result<(), Fail> {
+    let alloc = rt.alloc();
+    let words = split(alloc, "run T")?;
+    let source = program(alloc, "", "       DISPLAY 'A'.\n")?;
+    let mut held = Vec::new(alloc);
+    add_file(alloc, &mut held, "T", source.as_bytes())?;
+    let mut files = MemFiles::new(alloc, held, Vec::new(alloc));
+    let mut failing = Vec::new(alloc);
+    failing.push(1u64)?;
+    let mut sink = MemSink::new(alloc, failing);
+    assert_eq!(rt; cobsound(alloc, &words, &mut files, &mut sink), 6);
+    assert_eq!(rt; sink.bytes(), b"".as_slice());
+    Ok(())
+}
+
+fn text_of(alloc: Global, lines: &[&str]) -> Result<String, AllocError> {
+    let mut text = String::new(alloc);
+    for line in lines {
+        text.push_str(line)?;
+        text.push_str("\n")?;
+    }
+    Ok(text)
+}
+
+#[test]
+fn payroll_pays_one_employee(rt: HostRuntime) -> Result<(), Fail> {
+    let alloc = rt.alloc();
+    let words = split(alloc, "run PAY")?;
+    let source = text_of(alloc, &LINES)?;
+    let mut held = Vec::new(alloc);
+    add_file(alloc, &mut held, "PAY", source.as_bytes())?;
+    add_file(alloc, &mut held, "PAYIN", PAY_IN)?;
+    let mut files = MemFiles::new(alloc, held, Vec::new(alloc));
+    let mut sink = MemSink::new(alloc, Vec::new(alloc));
+    assert_eq!(rt; cobsound(alloc, &words, &mut files, &mut sink), 0);
+    assert_eq!(rt;
+        sink.bytes(),
+        b"RUN DATE 20240131\nDETAILS 00001 BAD 00000\n".as_slice()
+    );
+    let written = files.bytes("PAYOUT").unwrap_or(&[]);
+    assert_eq!(rt;
+        written,
+        b"00042  45.5       965.00TOTAL GROSS       965.00".as_slice()
+    );
     Ok(())
 }

@@ -1,25 +1,24 @@
-ghost use Rattle.std.specs.Prelude.{◌≡◌, ◌↔◌, IsTrue, IfOk};
+ghost use Rattle.std.specs.Prelude.{◌≡◌, ℕ, List, IfOk};
 ghost use Rattle.batch_io.specs.FilesState.{known_bytes};
-ghost use Rattle.analyse_top.specs.Answer.{Answers, IsPlain, refusal_status, status_of, status_unwritten};
+ghost use Rattle.run_words.specs.Words.{IsRun, Run, plain_run, texts};
+ghost use Rattle.analyse_top.specs.Answer.{Answers};
 ghost use Rattle.analyse_top.specs.Conclusion.{Concludes, IsExact, CleanIsSafe, call};
-ghost use Rattle.analyse_top.specs.Steps.{Reads, stopped_by_fault, texts, ShowsAnswer, ShowsRefusal};
+ghost use Rattle.analyse_top.specs.Steps.{Reads, stopped_by_fault};
 ghost use Rattle.analyse_top.specs.View.{plain_answer};
 
 use crate::answer::{Answer, Stop};
 use crate::check::check;
-use crate::text::answer_text;
-use batch_io::{Files, MakeEnd, Sink, show_whole};
-use cob_front::{FrontEnd, one_answer};
+use crate::run::{run, task_for};
+use crate::show::show_found;
+use batch_io::{Files, Sink};
+use cob_front::one_answer;
+use cob_graph::graphs_are_one;
+use cob_interp::one_end;
+use run_words::{RunWords, is_plain, one_reading, run_words};
 use std::alloc::Global;
 
-const READ_FAULT: u8 = 5;
-
-const WRITE_FAULT: u8 = 6;
-
-const OUT_OF_MEMORY: u8 = 8;
-
-/// Runs the command that the words name, without the program's own name. It shows its report, or the one line
-/// of a refusal, in `out`, and gives the process's status.
+/// Runs the command that the words name, without the program's own name. It shows its report, the text that a run
+/// shows, or the one line of a refusal, in `out`, and gives the process's status.
 pub fn cobsound<F: Files, O: Sink>(
     alloc: Global,
     words: &Vec<String>,
@@ -34,33 +33,55 @@ pub fn cobsound<F: Files, O: Sink>(
         (F.state files.old) (F.state files.new) (O.state out.old) (O.state out.new) result) }
 {
     one_answer();
-    conclude(alloc, words, files, out)
+    one_reading();
+    graphs_are_one();
+    one_end();
+    conclude(alloc, words.as_slice(), files, out)
 }
 
 // The same, by what it does alone.
-fn conclude<F: Files, O: Sink>(alloc: Global, words: &Vec<String>, files: &mut F, out: &mut O) -> u8
-    ensures { Concludes (call (texts words.now.items) (F.state files.old) (F.state files.new) (O.state out.old) (O.state out.new) result) }
+fn conclude<F: Files, O: Sink>(alloc: Global, words: &[String], files: &mut F, out: &mut O) -> u8
+    ensures { Concludes (call (texts words.now) (F.state files.old) (F.state files.new) (O.state out.old) (O.state out.new) result) }
 {
-    match answer(alloc, words.as_slice(), files) {
-        Ok(answer) => show_answer(alloc, &answer, out),
-        Err(Stop::ReadFault) => show_line(out, b"E3 read\n", READ_FAULT),
-        Err(Stop::Memory) => show_line(out, b"E19 memory\n", OUT_OF_MEMORY),
+    match run_words(alloc, words) {
+        Ok(Some(said)) => conclude_run(alloc, &said, files, out),
+        Ok(None) => conclude_other(alloc, words, files, out),
+        Err(_) => show_found(alloc, Err(Stop::Memory), out),
     }
 }
 
-// A word that isn't the name of an option.
-fn is_plain(word: &str) -> bool
-    ensures { IsTrue result ↔ IsPlain word.now }
+// Runs what the words ask for.
+fn conclude_run<F: Files, O: Sink>(alloc: Global, said: &RunWords, files: &mut F, out: &mut O) -> u8
+    ensures { (words : List (List ℕ)) → IsRun words (plain_run said.now)
+        → Concludes (call words (F.state files.old) (F.state files.new) (O.state out.old) (O.state out.new) result) }
 {
-    !word.starts_with('-') || word == "-"
+    match task_for(alloc, said, files) {
+        Ok(task) => run(alloc, &task, files, out),
+        Err(found) => show_found(alloc, found, out),
+    }
 }
 
-// The answer to the words.
+// Answers words that aren't those of a run.
+fn conclude_other<F: Files, O: Sink>(
+    alloc: Global,
+    words: &[String],
+    files: &mut F,
+    out: &mut O,
+) -> u8
+    requires { (r : Run) → IsRun (texts words.now) r → ⊥ }
+    ensures { Concludes (call (texts words.now) (F.state files.old) (F.state files.new) (O.state out.old) (O.state out.new) result) }
+{
+    let found = answer(alloc, words, files);
+    show_found(alloc, found, out)
+}
+
+// The answer to words that aren't those of a run.
 fn answer<'a, F: Files>(
     alloc: Global,
     words: &'a [String],
     files: &mut F,
 ) -> Result<Answer<'a>, Stop>
+    requires { (r : Run) → IsRun (texts words.now) r → ⊥ }
     ensures reads { Reads (F.state files.old) (F.state files.new) (stopped_by_fault result) }
     ensures answer { IfOk result (λ answer. Answers (known_bytes (F.state files.old)) (texts words.now) (plain_answer answer)) }
 {
@@ -75,66 +96,4 @@ fn answer<'a, F: Files>(
         [] => "",
         [first, ..] => first.as_str(),
     }))
-}
-
-// Shows a refusal's line. The status stays where it can't be written, unless memory runs out.
-fn show_line<O: Sink>(out: &mut O, line: &[u8], status: u8) -> u8
-    ensures { ShowsRefusal (O.state out.old) (O.state out.new) line.now status result }
-{
-    match show_whole(out, line) {
-        Ok(()) | Err(MakeEnd::Failed) => status,
-        Err(MakeEnd::Memory) => OUT_OF_MEMORY,
-    }
-}
-
-// Shows an answer, and gives its status.
-fn show_answer<O: Sink>(alloc: Global, answer: &Answer, out: &mut O) -> u8
-    ensures { ShowsAnswer (O.state out.old) (O.state out.new) (plain_answer answer.now) result }
-{
-    match answer_text(alloc, answer) {
-        Ok(text) => match show_whole(out, &text) {
-            Ok(()) => status_of(answer),
-            Err(MakeEnd::Failed) => status_unwritten(answer),
-            Err(MakeEnd::Memory) => OUT_OF_MEMORY,
-        },
-        Err(_) => show_line(out, b"E19 memory\n", OUT_OF_MEMORY),
-    }
-}
-
-fn refusal_status(cause: FrontEnd) -> u8
-    ensures { result ≡ refusal_status cause }
-{
-    match cause {
-        FrontEnd::Nesting { .. } | FrontEnd::Limit { .. } => 9,
-        FrontEnd::Memory => OUT_OF_MEMORY,
-        FrontEnd::TooLong
-        | FrontEnd::BadLine { .. }
-        | FrontEnd::BadToken { .. }
-        | FrontEnd::Syntax { .. }
-        | FrontEnd::Outside { .. } => 2,
-    }
-}
-
-fn status_of(answer: &Answer) -> u8
-    ensures { result ≡ status_of (plain_answer answer.now) }
-{
-    match answer {
-        Answer::Report(alarms) if alarms.is_empty() => 0,
-        Answer::Report(_) => 1,
-        Answer::Refused(cause) => refusal_status(*cause),
-        Answer::NotYet(_) => 2,
-        Answer::CertificateLong | Answer::NotInductive(_, _) => 3,
-        Answer::Usage(_) => 4,
-        Answer::Absent(_) => 7,
-    }
-}
-
-// The status where the answer's text can't be written.
-fn status_unwritten(answer: &Answer) -> u8
-    ensures { result ≡ status_unwritten (plain_answer answer.now) }
-{
-    match answer {
-        Answer::Report(_) => WRITE_FAULT,
-        _ => status_of(answer),
-    }
 }

@@ -1,15 +1,20 @@
-use Rattle.std.proofs.Common.{List, String, Global, subst}
-use Rattle.batch_io.specs.FilesState.{known_bytes}
-use Rattle.analyse_top.specs.Answer.{Answers}
-use Rattle.analyse_top.specs.Steps.{texts}
-use Rattle.analyse_top.specs.View.{plain_answer}
-use Rattle.analyse_top.proofs.Endings.{concludes_by_answer, concludes_by_memory}
+use Rattle.std.proofs.Common.{Err, inl}
+use Rattle.run_words.specs.Words.{texts}
+use Rattle.analyse_top.specs.declared.answer.Stop.TheVariants.{Memory}
+use Rattle.analyse_top.specs.Conclusion.{call}
+use Rattle.analyse_top.proofs.Endings.{ends_found, reads_nothing}
 use Rattle.analyse_top.proofs.top.conclude.Goals as goal
 
-pub returns-in-Ok : goal.returns-in-Ok
-returns-in-Ok g c =
-    let is = subst (λ (words : List (String Global)). Answers (known_bytes (g.F.Files.state c.args.files.now)) (texts words) (plain_answer c.in-Ok.answer)) c.as_slice.ensures.value c.in-Ok.ensures.answer in
-    concludes_by_answer _ c.in-Ok.ensures.reads _ is c.show_answer.ensures
+pub returns-in-Ok-Some : goal.returns-in-Ok-Some
+returns-in-Ok-Some g c =
+    c.conclude_run.ensures (texts c.args.words.now) (rw c.in-Ok-Some.field-0-is at c.in-Ok-Some.ensures)
 
-pub returns-in-Err-Memory : goal.returns-in-Err-Memory
-returns-in-Err-Memory g c = concludes_by_memory _ (rw c.in-Err-Memory.field-0-is at c.in-Err-Memory.ensures.reads) c.show_line-in-Err-Memory.ensures
+pub conclude_other-requires : goal.conclude_other-requires
+conclude_other-requires g c = rw c.in-Ok-None.field-0-is at c.in-Ok-None.ensures
+
+pub returns-in-Err : goal.returns-in-Err
+returns-in-Err g c =
+    let files = g.F.Files.state c.args.files.now in
+    inl (ends_found
+    (call (texts c.args.words.now) files files (g.O.Sink.state c.args.out.now) (g.O.Sink.state c.show_found.new.out) c.show_found.result)
+    (Err Memory) (reads_nothing files) tt c.show_found.ensures)

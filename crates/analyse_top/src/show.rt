@@ -1,0 +1,131 @@
+//! What is found, and how a run ended, is shown. Each gives the process's status.
+ghost use Rattle.std.specs.Prelude.{◌≡◌};
+ghost use Rattle.analyse_top.specs.Answer.{refusal_status, status_of, status_unwritten};
+ghost use Rattle.analyse_top.specs.Runs.{ShowsEnd, TellsEnd, run_status};
+ghost use Rattle.analyse_top.specs.Showing.{ShowsRefusal};
+ghost use Rattle.analyse_top.specs.Steps.{ShowsAnswer, ShowsFound};
+ghost use Rattle.analyse_top.specs.View.{plain_answer, plain_result};
+
+use crate::answer::{Answer, Stop};
+use crate::text::{answer_text, run_text};
+use batch_io::{MakeEnd, Sink, show_whole};
+use cob_data::FileDecl;
+use cob_front::FrontEnd;
+use cob_interp::{Ending, RunEnd};
+use std::alloc::Global;
+
+const READ_FAULT: u8 = 5;
+
+const WRITE_FAULT: u8 = 6;
+
+const OUT_OF_MEMORY: u8 = 8;
+
+/// Shows an answer, or the line that says why there is none.
+pub fn show_found<O: Sink>(alloc: Global, found: Result<Answer, Stop>, out: &mut O) -> u8
+    ensures { ShowsFound (O.state out.old) (O.state out.new) (plain_result found.entry) result }
+{
+    match found {
+        Ok(answer) => show_answer(alloc, &answer, out),
+        Err(Stop::ReadFault) => show_line(out, b"E3 read\n", READ_FAULT),
+        Err(Stop::Memory) => show_line(out, b"E19 memory\n", OUT_OF_MEMORY),
+    }
+}
+
+// Shows a refusal's line. The status stays where it can't be written, unless memory runs out.
+fn show_line<O: Sink>(out: &mut O, line: &[u8], status: u8) -> u8
+    ensures { ShowsRefusal (O.state out.old) (O.state out.new) line.now status result }
+{
+    match show_whole(out, line) {
+        Ok(()) | Err(MakeEnd::Failed) => status,
+        Err(MakeEnd::Memory) => OUT_OF_MEMORY,
+    }
+}
+
+// Shows an answer, and gives its status.
+fn show_answer<O: Sink>(alloc: Global, answer: &Answer, out: &mut O) -> u8
+    ensures { ShowsAnswer (O.state out.old) (O.state out.new) (plain_answer answer.now) result }
+{
+    match answer_text(alloc, answer) {
+        Ok(text) => match show_whole(out, &text) {
+            Ok(()) => status_of(answer),
+            Err(MakeEnd::Failed) => status_unwritten(answer),
+            Err(MakeEnd::Memory) => OUT_OF_MEMORY,
+        },
+        Err(_) => show_line(out, b"E19 memory\n", OUT_OF_MEMORY),
+    }
+}
+
+fn refusal_status(cause: FrontEnd) -> u8
+    ensures { result ≡ refusal_status cause }
+{
+    match cause {
+        FrontEnd::Nesting { .. } | FrontEnd::Limit { .. } => 9,
+        FrontEnd::Memory => OUT_OF_MEMORY,
+        FrontEnd::TooLong
+        | FrontEnd::BadLine { .. }
+        | FrontEnd::BadToken { .. }
+        | FrontEnd::Syntax { .. }
+        | FrontEnd::Outside { .. } => 2,
+    }
+}
+
+fn status_of(answer: &Answer) -> u8
+    ensures { result ≡ status_of (plain_answer answer.now) }
+{
+    match answer {
+        Answer::Report(alarms) if alarms.is_empty() => 0,
+        Answer::Report(_) => 1,
+        Answer::Refused(cause) => refusal_status(*cause),
+        Answer::NotYet(_) => 2,
+        Answer::CertificateLong | Answer::NotInductive(_, _) => 3,
+        Answer::Usage(_) | Answer::NoPaths(_) => 4,
+        Answer::Absent(_) => 7,
+    }
+}
+
+// The status where the answer's text can't be written.
+fn status_unwritten(answer: &Answer) -> u8
+    ensures { result ≡ status_unwritten (plain_answer answer.now) }
+{
+    match answer {
+        Answer::Report(_) => WRITE_FAULT,
+        _ => status_of(answer),
+    }
+}
+
+fn run_status(end: RunEnd) -> u8
+    ensures { result ≡ run_status end }
+{
+    match end {
+        RunEnd::Fault { .. } => 1,
+        RunEnd::ReadFault => READ_FAULT,
+        RunEnd::WriteFault => WRITE_FAULT,
+        RunEnd::Memory => OUT_OF_MEMORY,
+        RunEnd::Long(_) => 9,
+        RunEnd::StepsSpent(_) => 10,
+        RunEnd::IoStop { .. } => 11,
+        RunEnd::Ragged { .. } => 12,
+    }
+}
+
+// Shows the line that says why a run of a program with these files didn't come to its end.
+fn show_run_end<O: Sink>(alloc: Global, files: &[FileDecl], end: RunEnd, out: &mut O) -> u8
+    ensures { ShowsEnd files.now (O.state out.old) (O.state out.new) end result }
+{
+    match run_text(alloc, files, end) {
+        Ok(text) => show_line(out, &text, run_status(end)),
+        Err(_) => show_line(out, b"E19 memory\n", OUT_OF_MEMORY),
+    }
+}
+
+/// Tells how a run of a program with these files ended: by nothing where it came to its end, or where the sink refused
+/// its text, and else by a line.
+pub fn show_end<O: Sink>(alloc: Global, files: &[FileDecl], ending: Ending, out: &mut O) -> u8
+    ensures { TellsEnd files.now (O.state out.old) (O.state out.new) ending.end ending.sink_refused result }
+{
+    match (ending.end, ending.sink_refused) {
+        (Ok(_), _) => 0,
+        (Err(end), true) => run_status(end),
+        (Err(end), false) => show_run_end(alloc, files, end, out),
+    }
+}
