@@ -1,6 +1,6 @@
 //! A program is run on the outside's files.
 ghost use Rattle.std.specs.Prelude.{◌≡◌, ℕ, true, false, MatchResult, length};
-ghost use Rattle.batch_io.specs.FilesState.{KeepsIds};
+ghost use Rattle.batch_io.specs.FilesState.{KeepsIds, known_bytes};
 ghost use Rattle.batch_io.specs.SinkState.{SinkState};
 ghost use Rattle.cob_graph.specs.Graphs.{IsGraph};
 ghost use Rattle.cob_graph.specs.Walks.{IsWhole};
@@ -8,7 +8,7 @@ ghost use Rattle.cob_items.specs.Sound.{HasSoundItems};
 ghost use Rattle.cob_program.specs.ActView.{plain_program};
 ghost use Rattle.cob_world.specs.Doing.{CanDoProgram};
 ghost use Rattle.cob_interp.specs.Readying.{ReadyToClose, IsRefusal};
-ghost use Rattle.cob_interp.specs.Running.{Outside, outside, HaltsOff, Runs, TellsOfSink};
+ghost use Rattle.cob_interp.specs.Running.{Outside, outside, HaltsOff, IfTold, KeepsUnmade, Runs, TellsOfSink};
 ghost use Rattle.cob_interp.specs.Setting.{IsReady, program_of, paths_of, texts};
 ghost use Rattle.cob_interp.specs.Told.{AreDistinct};
 ghost use Rattle.cob_interp.specs.Touching.{Touches, makes_none};
@@ -154,8 +154,8 @@ fn ending_of<F: Files, O: Sink>(
     }
 }
 
-/// Runs a program as `run` does, and tells whether the sink refused its text.
-pub fn run_to_ending<F: Files, O: Sink>(
+/// The same, but for what is said of files that are never made.
+fn run_through<F: Files, O: Sink>(
     alloc: Global,
     program: &Program,
     graph: &Graph,
@@ -198,6 +198,32 @@ pub fn run_to_ending<F: Files, O: Sink>(
     ending_of(&setting, files, &mut world, out, halted)
 }
 
+/// Runs a program as `run` does, and tells whether the sink refused its text.
+pub fn run_to_ending<F: Files, O: Sink>(
+    alloc: Global,
+    program: &Program,
+    graph: &Graph,
+    files: &mut F,
+    paths: &[String],
+    out: &mut O,
+    budget: u64,
+) -> Ending
+    requires graph { IsGraph (plain_program program.now) graph.now }
+    requires whole { IsWhole (plain_program program.now) }
+    requires sound { HasSoundItems program.now.layout }
+    requires able { CanDoProgram (plain_program program.now) }
+    requires paths { length paths.now ≡ length program.now.layout.files }
+    requires distinct { AreDistinct (texts paths.now) }
+    ensures runs { Runs (plain_program program.now) graph.now (texts paths.now) budget
+        (outside (F.state files.old) (O.state out.old)) (outside (F.state files.new) (O.state out.new)) result.end }
+    ensures sink { TellsOfSink (O.state out.old) (O.state out.new) result }
+    ensures ids { KeepsIds (F.state files.old) (F.state files.new) }
+    ensures unmade { IfTold (λ first told. KeepsUnmade (plain_program program.now) (texts paths.now) first told)
+        (known_bytes (F.state files.old)) (known_bytes (F.state files.new)) }
+{
+    run_through(alloc, program, graph, files, paths, out, budget)
+}
+
 /// Runs a program on the outside's files, at most so many steps (ISO 1989:1985, "Nucleus" and "Sequential I-O"; what a
 /// record area holds where the standard leaves it undefined stays, and storage without a VALUE begins with spaces).
 /// Each file's path stands at its place in the order of the SELECT entries. An input file is read whole when it is
@@ -220,6 +246,8 @@ pub fn run<F: Files, O: Sink>(
     ensures runs { Runs (plain_program program.now) graph.now (texts paths.now) budget
         (outside (F.state files.old) (O.state out.old)) (outside (F.state files.new) (O.state out.new)) result }
     ensures ids { KeepsIds (F.state files.old) (F.state files.new) }
+    ensures unmade { IfTold (λ first told. KeepsUnmade (plain_program program.now) (texts paths.now) first told)
+        (known_bytes (F.state files.old)) (known_bytes (F.state files.new)) }
 {
     run_to_ending(alloc, program, graph, files, paths, out, budget).end
 }

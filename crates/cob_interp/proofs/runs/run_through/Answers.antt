@@ -1,0 +1,30 @@
+use Rattle.std.proofs.Common.{◌∙◌}
+use Rattle.std.specs.Prelude.{string_bytes}
+use Rattle.std.proofs.lemmas.List.{length-map}
+use Rattle.cob_program.specs.ActView.{plain_program}
+use Rattle.cob_interp.specs.Running.{outside}
+use Rattle.cob_interp.specs.Setting.{texts}
+use Rattle.cob_interp.proofs.Starting.{begins_with, refused_first}
+use Rattle.cob_interp.proofs.runs.run_through.Goals as goal
+
+pub returns-in_default-clause-runs : goal.returns-in_default-clause-runs
+returns-in_default-clause-runs g c =
+    refused_first (plain_program c.args.program.now) c.args.graph.now (texts c.args.paths.now)
+    (length-map c.args.paths.now string_bytes ∙ c.requires.paths) c.ways_tell_of_runs.ensures c.requires.whole
+    c.requires.graph c.args.budget _
+
+pub returns-in_default-first-clause-runs : goal.returns-in_default-first-clause-runs
+returns-in_default-first-clause-runs g c =
+    refused_first (plain_program c.args.program.now) c.args.graph.now (texts c.args.paths.now)
+    (length-map c.args.paths.now string_bytes ∙ c.requires.paths) c.ways_tell_of_runs.ensures c.requires.whole
+    c.requires.graph c.args.budget _
+
+pub returns-clause-runs : goal.returns-clause-runs
+returns-clause-runs g c =
+    let start = outside (g.F.Files.state c.args.files.now) (g.O.Sink.state c.args.out.now) in
+    c.ending_of.ensures.runs c.args.budget start
+    (c.walk-halted.ensures.halts start
+    (begins_with (plain_program c.args.program.now) c.args.graph.now (texts c.args.paths.now)
+    (length-map c.args.paths.now string_bytes ∙ c.requires.paths) c.ways_tell_of_runs.ensures c.requires.whole
+    c.requires.graph c.args.budget start
+    _ c.new.result.items c.in-Ok-first.world c.new.ensures.items c.in-Ok-first.ensures.value))
