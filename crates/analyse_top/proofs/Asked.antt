@@ -1,6 +1,6 @@
 -- What `run` is asked for is one thing: a source that isn't there, a refusal of it, words on files that are refused, or
 -- one task.
-use Rattle.std.proofs.Common.{◌≡◌, ℕ, List, Option, Some, None, Ok, Err, inl, inr, refl, sym, ap, ◌∙◌, subst}
+use Rattle.std.proofs.Common.{◌≡◌, ℕ, List, Option, Some, None, inl, inr, refl, sym, ap, ◌∙◌, subst}
 use Rattle.std.specs.FinMap.{get}
 use Rattle.std.proofs.lemmas.Option.{same_Some}
 use Rattle.batch_io.specs.FilesState.{Contents}
@@ -10,7 +10,7 @@ use Rattle.cob_graph.specs.Graphs.{IsGraph, OneGraph}
 use Rattle.cob_front.specs.declared.end.FrontEnd.{FrontEnd}
 use Rattle.cob_front.specs.Source.{IsSource}
 use Rattle.cob_front.specs.Laws.{OneAnswer}
-use Rattle.run_words.specs.Words.{Run, IsRun, OneReading}
+use Rattle.run_words.specs.Words.{Run, OneReading}
 use Rattle.run_words.specs.Paths.{paths_of}
 use Rattle.analyse_top.specs.Profile.{IsOfProfile, IsProfileCause}
 use Rattle.analyse_top.specs.Runs.{Task, task, Makes, HoldsTask, AsksFor, BlamesWord}
@@ -43,12 +43,15 @@ module _ (r : Run) where
 
     one_word : (bytes : List ℕ) (v w : List ℕ) → BlamesWord bytes r.names v → BlamesWord bytes r.names w → v ≡ w
     one_word bytes v w h k =
-        let e = sym h.blamed ∙ one_pathing bytes h.profile.program k.profile.program h.profile.is_source k.profile.is_source ∙ k.blamed in
+        let same =
+        one_pathing bytes h.profile.program k.profile.program h.profile.is_source k.profile.is_source in
+        let e = sym h.blamed ∙ same ∙ k.blamed in
         cc
 
     word_or_task : (bytes : List ℕ) (w : List ℕ) (t : Task) → BlamesWord bytes r.names w → Makes bytes r t → ⊥
     word_or_task bytes w t h k =
-        let e = sym h.blamed ∙ one_pathing bytes h.profile.program t.program h.profile.is_source k.is_source ∙ k.paths_are in
+        let same = one_pathing bytes h.profile.program t.program h.profile.is_source k.is_source in
+        let e = sym h.blamed ∙ same ∙ k.paths_are in
         cc
 
     one_task : (bytes : List ℕ) (t u : Task) → Makes bytes r t → Makes bytes r u → t ≡ u
@@ -137,10 +140,12 @@ module _ (law : (bytes : List ℕ) → OneAnswer bytes) (graphs : OneGraph) (one
   pub asked_once : (t u : Task) → AsksFor (Some contents) words t → AsksFor (Some contents) words u → t ≡ u
   asked_once t u h k =
       let same : h.run ≡ k.run = one_reading words h.run k.run h.said k.said in
-      one_held_task k.run law graphs contents t u (subst (λ (r : Run). HoldsTask (Some contents) r t) same h.holds) k.holds
+      let holds = subst (λ (r : Run). HoldsTask (Some contents) r t) same h.holds in
+      one_held_task k.run law graphs contents t u holds k.holds
 
   -- words that ask for a task have no answer
-  pub answered_or_asked : (a : Answer) (t : Task) → Answers (Some contents) words a → AsksFor (Some contents) words t → ⊥
+  pub answered_or_asked : (a : Answer) (t : Task) → Answers (Some contents) words a
+      → AsksFor (Some contents) words t → ⊥
   answered_or_asked a t (inl (none, e)) k = none.no_run k.run k.said
   answered_or_asked a t (inr (inl (name, certificate, is, h))) k = check_or_run words name certificate k.run is k.said
   answered_or_asked a t (inr (inr (r, said, h))) k =

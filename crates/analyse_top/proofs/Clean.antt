@@ -68,7 +68,8 @@ clean_answer contents words (inr (inl (name, certificate, checked, inr (tokens, 
   safe = program_safe source contents name certificate tokens held answers;
 }
 
-clean_without_run : (call : Call) (contents : Contents) → EndsWithoutRun call → known_bytes call.files_before ≡ Some contents
+clean_without_run : (call : Call) (contents : Contents) → EndsWithoutRun call
+    → known_bytes call.files_before ≡ Some contents
     → call.status ≡ 0 → IsClean contents call.words
 clean_without_run call contents without known zero = elim without.ends [
   | inl (answer, ends) ↦ by_answer answer ends

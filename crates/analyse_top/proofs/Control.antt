@@ -1,12 +1,11 @@
 -- A program has at most one cause for which it has no graph within the limits.
-use Rattle.std.proofs.Common.{◌≡◌, ℕ, ◌+◌, ◌≤◌, ◌<◌, min, List, [], ◌∷◌, length, refl, sym, ap, ◌∙◌, subst, arith}
-use Rattle.std.specs.List.{Contains}
+use Rattle.std.proofs.Common.{◌≡◌, ℕ, ◌≤◌, min, refl, sym, ap, ◌∙◌, subst, arith}
 use Rattle.cob_data.specs.declared.end.Rule.{Rule}
 use Rattle.cob_data.specs.declared.end.Rule.TheVariants as rule
 use Rattle.cob_data.specs.declared.end.Which.{Which}
 use Rattle.cob_data.specs.declared.end.Which.TheVariants as which
 use Rattle.cob_program.specs.Act.{Program}
-use Rattle.cob_graph.specs.Nesting.{IsBroken, IsNested, IsOutside}
+use Rattle.cob_graph.specs.Nesting.{IsBroken, IsOutside}
 use Rattle.cob_graph.specs.Graphs.{IsOver, most_told}
 use Rattle.cob_graph.proofs.OneCopy.{one_count}
 use Rattle.cob_front.specs.declared.end.FrontEnd.{FrontEnd}

@@ -24,7 +24,7 @@ use Rattle.analyse_top.specs.Profile.{IsProfileCause, IsNotStraight}
 use Rattle.analyse_top.specs.Answer.{Answer, Refused, NotYet, Answers, AnswersCheck, AnswersProgram, AnswersRun, IsCheck, source_limit, answer_text}
 use Rattle.analyse_top.specs.Text.{memory_line, read_fault_line}
 use Rattle.analyse_top.specs.Showing.{Gains, GainsFront, ShowsRefusal}
-use Rattle.analyse_top.specs.Conclusion.{Call, EndsBy, EndsByMemory, EndsWithoutRun}
+use Rattle.analyse_top.specs.Conclusion.{Call, EndsBy, EndsByMemory, EndsWithoutRun, MayBeShown}
 use Rattle.analyse_top.specs.Steps.{Reads, stopped_by_fault, ShowsAnswer, ShowsFound, Writes, IsUnread, unread_for, answer_to}
 use Rattle.analyse_top.specs.View.{plain_answer, plain_result}
 use Rattle.analyse_top.proofs.Found.{at_held}
@@ -38,22 +38,36 @@ whole_front old new text gains =
 module _ (call : Call) where
   module _ (reads : Reads call.files_before call.files_after false) where
     ends_in : (answer : Answer) → EndsBy call answer → EndsWithoutRun call
-    ends_in answer ends = record { contents = reads.contents; ids = reads.ids; writing = reads.writing; ends = inl (answer, ends) }
+    ends_in answer ends = record {
+      contents = reads.contents;
+      ids = reads.ids;
+      writing = reads.writing;
+      ends = inl (answer, ends);
+    }
 
-    ends_out_of_memory : EndsByMemory call → EndsWithoutRun call
-    ends_out_of_memory ends = record { contents = reads.contents; ids = reads.ids; writing = reads.writing; ends = inr (inr ends) }
+    ends_out_of_memory : (text : List ℕ) → MayBeShown call text → call.status ≡ 8
+        → GainsFront call.out_before call.out_after text → EndsWithoutRun call
+    ends_out_of_memory text may eight front = record {
+      contents = reads.contents;
+      ids = reads.ids;
+      writing = reads.writing;
+      ends = inr (inr (record { status = eight; shows = (text, may, front) }));
+    }
 
     ends_by_answer : (answer : Answer) → Answers (known_bytes call.files_before) call.words answer
         → ShowsAnswer call.out_before call.out_after answer call.status → EndsWithoutRun call
-    ends_by_answer answer is (inl shows) = ends_in answer (record { is_answer = is; reading = reads.reading.kept refl; shows = shows })
-    ends_by_answer answer is (inr (eight, inl front)) = ends_out_of_memory (record { status = eight; shows = (answer_text answer, inr (inr (answer, is, refl)), front) })
-    ends_by_answer answer is (inr (eight, inr front)) = ends_out_of_memory (record { status = eight; shows = (memory_line, inl refl, front) })
+    ends_by_answer answer is (inl shows) =
+        ends_in answer (record { is_answer = is; reading = reads.reading.kept refl; shows = shows })
+    ends_by_answer answer is (inr (eight, inl front)) =
+        ends_out_of_memory (answer_text answer) (inr (inr (answer, is, refl))) eight front
+    ends_by_answer answer is (inr (eight, inr front)) = ends_out_of_memory memory_line (inl refl) eight front
 
     ends_for_memory : ShowsRefusal call.out_before call.out_after memory_line 8 call.status → EndsWithoutRun call
     ends_for_memory (inl (inl (eight, gains, kept))) =
-        ends_out_of_memory (record { status = eight; shows = (memory_line, inl refl, whole_front call.out_before call.out_after memory_line gains) })
-    ends_for_memory (inl (inr (eight, front, rose))) = ends_out_of_memory (record { status = eight; shows = (memory_line, inl refl, front) })
-    ends_for_memory (inr (eight, front)) = ends_out_of_memory (record { status = eight; shows = (memory_line, inl refl, front) })
+        ends_out_of_memory memory_line (inl refl) eight
+        (whole_front call.out_before call.out_after memory_line gains)
+    ends_for_memory (inl (inr (eight, front, rose))) = ends_out_of_memory memory_line (inl refl) eight front
+    ends_for_memory (inr (eight, front)) = ends_out_of_memory memory_line (inl refl) eight front
 
   module _ (reads : Reads call.files_before call.files_after true) where
     rose : Rose call.files_before.reading call.files_after.reading
@@ -93,7 +107,8 @@ pub answers_check : (result : Result code.Answer Stop) (known : Option Contents)
 answers_check (Ok answer) known words source certificate is h = inr (inl (source, certificate, is, h))
 answers_check (Err stop) known words source certificate is h = tt
 
-pub answers_run : (result : Result code.Answer Stop) (known : Option Contents) (words : List (List ℕ)) (r : Run) → IsRun words r
+pub answers_run : (result : Result code.Answer Stop) (known : Option Contents) (words : List (List ℕ)) (r : Run)
+    → IsRun words r
     → IfOk result (λ answer. IfSome known (λ contents. AnswersRun contents r (plain_answer answer)))
     → IfOk result (λ answer. Answers known words (plain_answer answer))
 answers_run (Ok answer) known words r said h = inr (inr (r, said, h))

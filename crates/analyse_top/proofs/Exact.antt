@@ -43,7 +43,8 @@ one_behind contents certificate bytes tokens source a b wrote =
     (λ x y. one_certificate cells count x y (few_cells source wrote.is_source) (few_nodes source wrote.is_source))
     a b
 
-module _ (law : (bytes : List ℕ) → OneAnswer bytes) (one_reading : OneReading) (graphs : OneGraph) (one_end : OneEnd) where
+module _ (law : (bytes : List ℕ) → OneAnswer bytes) (one_reading : OneReading) (graphs : OneGraph)
+    (one_end : OneEnd) where
   same_answer : (contents : Contents) (words : List (List ℕ)) (a b : Answer)
       → Answers (Some contents) words a → Answers (Some contents) words b → a ≡ b
   same_answer contents =
@@ -51,7 +52,8 @@ module _ (law : (bytes : List ℕ) → OneAnswer bytes) (one_reading : OneReadin
 
   -- ---- answers
 
-  answers_without_run : (call : Call) (contents : Contents) (answer : Answer) → known_bytes call.files_before ≡ Some contents
+  answers_without_run : (call : Call) (contents : Contents) (answer : Answer)
+      → known_bytes call.files_before ≡ Some contents
       → Answers (Some contents) call.words answer → EndsWithoutRun call
       → EndsBy call answer ⊎ EndsByReadFault call ⊎ EndsByMemory call
   answers_without_run call contents answer known is without = elim without.ends [
@@ -84,7 +86,8 @@ module _ (law : (bytes : List ℕ) → OneAnswer bytes) (one_reading : OneReadin
     ]
 
     by_end : (other : Result Ended RunEnd) → EndsByRun call t other
-        → IsRefusal t.program t.graph t.paths t.steps other ⊎ EndsSomewhere t.program t.graph t.paths t.steps contents other
+        → IsRefusal t.program t.graph t.paths t.steps other
+        ⊎ EndsSomewhere t.program t.graph t.paths t.steps contents other
         → EndsByRun call t result ⊎ FailsToRun call t
     by_end other runs (inl (inl e)) = inr (inr (inr (inl (subst (EndsByRun call t) e runs))))
     by_end other runs (inl (inr (inl e))) = inr (inr (inr (inr (inl (subst (EndsByRun call t) e runs)))))
@@ -95,8 +98,10 @@ module _ (law : (bytes : List ℕ) → OneAnswer bytes) (one_reading : OneReadin
 
     this_run : (other : Result Ended RunEnd) → EndsByRun call t other → EndsByRun call t result ⊎ FailsToRun call t
     this_run other runs =
-        by_end other runs (refused_or_ends t.program t.graph t.paths t.steps
-        (outside call.files_before call.out_before) (outside call.files_after runs.middle) contents known other runs.runs)
+        let before = outside call.files_before call.out_before in
+        let after = outside call.files_after runs.middle in
+        by_end other runs
+        (refused_or_ends t.program t.graph t.paths t.steps before after contents known other runs.runs)
 
   runs_exactly : (call : Call) → Concludes call → RunsExactly call
   runs_exactly call concludes contents t result steps known asks is_end = elim concludes [
@@ -104,7 +109,8 @@ module _ (law : (bytes : List ℕ) → OneAnswer bytes) (one_reading : OneReadin
     | inr (u, other, asked, runs) ↦
         let here = subst (λ (k : Option Contents). AsksFor k call.words u) known asked in
         let same = asked_once law graphs one_reading contents call.words u t here asks in
-        this_run call contents t result steps known asks is_end other (subst (λ (x : Task). EndsByRun call x other) same runs)
+        this_run call contents t result steps known asks is_end other
+        (subst (λ (x : Task). EndsByRun call x other) same runs)
   ]
 
   pub is_exact : (call : Call) → Concludes call → IsExact call

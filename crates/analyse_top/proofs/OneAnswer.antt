@@ -1,5 +1,5 @@
 -- Words and contents have one answer.
-use Rattle.std.proofs.Common.{◌≡◌, ℕ, ◌+◌, ◌≤◌, List, [], length, get_or, Option, Some, None, ◌⊎◌, refl, sym, ap, ◌∙◌, subst, inl, inr}
+use Rattle.std.proofs.Common.{◌≡◌, ℕ, ◌+◌, ◌≤◌, List, [], length, get_or, Some, None, ◌⊎◌, refl, sym, ap, ◌∙◌, subst, inl, inr}
 use Rattle.std.specs.Prelude.{slice_get}
 use Rattle.std.specs.FinMap.{get}
 use Rattle.std.proofs.lemmas.Option.{same_Some}
@@ -181,17 +181,25 @@ module _ (contents : Contents) where
         let e = sym is.words_are ∙ is'.words_are in
         (ap (λ ws. get_or ws 1 []) e, ap (λ ws. get_or ws 2 []) e)
 
-    module _ (one_reading : OneReading) (one_for_run : (r : Run) (a b : Answer) → AnswersRun contents r a → AnswersRun contents r b → a ≡ b) where
-      pub one_answer : (words : List (List ℕ)) (a b : Answer) → Answers (Some contents) words a → Answers (Some contents) words b → a ≡ b
+    module _ (one_reading : OneReading)
+        (one_for_run : (r : Run) (a b : Answer) → AnswersRun contents r a → AnswersRun contents r b → a ≡ b) where
+      pub one_answer : (words : List (List ℕ)) (a b : Answer)
+          → Answers (Some contents) words a → Answers (Some contents) words b → a ≡ b
       one_answer words a b (inl (none, e)) (inl (none', f)) = e ∙ sym f
-      one_answer words a b (inl (none, e)) (inr (inl (name, certificate, is, h))) = absurd (none.no_check name certificate is)
+      one_answer words a b (inl (none, e)) (inr (inl (name, certificate, is, h))) =
+          absurd (none.no_check name certificate is)
       one_answer words a b (inl (none, e)) (inr (inr (r, said, h))) = absurd (none.no_run r said)
-      one_answer words a b (inr (inl (name, certificate, is, h))) (inl (none, e)) = absurd (none.no_check name certificate is)
+      one_answer words a b (inr (inl (name, certificate, is, h))) (inl (none, e)) =
+          absurd (none.no_check name certificate is)
       one_answer words a b (inr (inr (r, said, h))) (inl (none, e)) = absurd (none.no_run r said)
-      one_answer words a b (inr (inl (name, certificate, is, h))) (inr (inr (r, said, k))) = absurd (check_or_run words name certificate r is said)
-      one_answer words a b (inr (inr (r, said, h))) (inr (inl (name, certificate, is, k))) = absurd (check_or_run words name certificate r is said)
+      one_answer words a b (inr (inl (name, certificate, is, h))) (inr (inr (r, said, k))) =
+          absurd (check_or_run words name certificate r is said)
+      one_answer words a b (inr (inr (r, said, h))) (inr (inl (name, certificate, is, k))) =
+          absurd (check_or_run words name certificate r is said)
       one_answer words a b (inr (inl (name, certificate, is, h))) (inr (inl (name', certificate', is', k))) =
           let same = one_command words name certificate name' certificate' is is' in
-          one_for_check name certificate a b h (subst (λ (c : List ℕ). AnswersCheck contents name c b) (sym same.1) (subst (λ (n : List ℕ). AnswersCheck contents n certificate' b) (sym same.0) k))
+          let there = subst (λ (n : List ℕ). AnswersCheck contents n certificate' b) (sym same.0) k in
+          one_for_check name certificate a b h
+          (subst (λ (c : List ℕ). AnswersCheck contents name c b) (sym same.1) there)
       one_answer words a b (inr (inr (r, said, h))) (inr (inr (s, also, k))) =
           one_for_run r a b h (subst (λ (x : Run). AnswersRun contents x b) (one_reading words s r also said) k)

@@ -1,6 +1,5 @@
 -- Where the end of a run stands, and runs behind files that were only read.
-use Rattle.std.proofs.Common.{◌≡◌, ℕ, false, List, Option, Some, None, Result, Ok, Err, ◌⊎◌, inl, inr, refl, sym, ap, ◌∙◌, subst}
-use Rattle.std.specs.Prelude.{IfSome}
+use Rattle.std.proofs.Common.{◌≡◌, ℕ, false, List, Option, Some, None, Result, Ok, Err, ◌⊎◌, inl, inr, refl, ◌∙◌, subst}
 use Rattle.batch_io.specs.Faults.{Rose}
 use Rattle.batch_io.specs.FilesState.{Contents, FilesState, known_bytes}
 use Rattle.batch_io.specs.SinkState.{SinkState}
@@ -10,7 +9,7 @@ use Rattle.cob_interp.specs.declared.ends.Ended.{Ended}
 use Rattle.cob_interp.specs.declared.ends.RunEnd.{RunEnd}
 use Rattle.cob_interp.specs.declared.ends.RunEnd.TheVariants as end
 use Rattle.cob_interp.specs.Ends.{told_files, IsEnd}
-use Rattle.cob_interp.specs.Running.{Outside, outside, IfTold, EndsRun, EndsRunIf, EndsWell, EndsBy, BreaksOff, IsBroken, IfRefused, IsTooLong, Runs}
+use Rattle.cob_interp.specs.Running.{Outside, outside, IfTold, EndsRunIf, EndsWell, EndsBy, BreaksOff, IsBroken, IfRefused, IsTooLong, Runs}
 use Rattle.cob_interp.proofs.Passing.{ids_pass}
 use Rattle.run_words.specs.Words.{Run, IsRun}
 use Rattle.analyse_top.specs.Runs.{Task, HoldsTask, AsksFor, RunsTo}
@@ -35,7 +34,8 @@ module _ (p : Program) (g : Graph) (paths : List (List ℕ)) (budget : ℕ) wher
 
   module _ (old new : Outside) (first : Contents) (known : known_bytes old.files ≡ Some first) where
     own_end : (result : Result Ended RunEnd) → EndsWell p g paths budget old new result → EndsSomewhere first result
-    own_end result h = told_end (known_bytes old.files) (known_bytes new.files) old.sink new.sink first result known h.run
+    own_end result h =
+        told_end (known_bytes old.files) (known_bytes new.files) old.sink new.sink first result known h.run
 
     comes_to : (result : Result Ended RunEnd) → EndsBy p g paths budget (EndsWell p g paths budget) old new result
         → IsRefusal result ⊎ EndsSomewhere first result
@@ -60,10 +60,11 @@ module _ (p : Program) (g : Graph) (paths : List (List ℕ)) (budget : ℕ) wher
     same_reading : middle.reading ≡ before.reading
     same_reading = reads.reading.kept refl
 
-    broken_on : IsBroken p g paths budget (outside middle sink) new → IsBroken p g paths budget (outside before sink) new
+    broken_on : IsBroken p g paths budget (outside middle sink) new
+        → IsBroken p g paths budget (outside before sink) new
     broken_on h =
-        subst (λ (k : Option Contents). IfTold (λ first told. BreaksOff p g paths budget first told sink new.sink) k (known_bytes new.files))
-        reads.contents h
+        let broken = λ (first told : Contents). BreaksOff p g paths budget first told sink new.sink in
+        subst (λ (k : Option Contents). IfTold broken k (known_bytes new.files)) reads.contents h
 
     well_on : (result : Result Ended RunEnd) → EndsWell p g paths budget (outside middle sink) new result
         → EndsWell p g paths budget (outside before sink) new result
@@ -82,7 +83,8 @@ module _ (p : Program) (g : Graph) (paths : List (List ℕ)) (budget : ℕ) wher
     ends_on (Err end.WriteFault) (inl h) = inl (subst (λ (n : ℕ). Rose n new.files.writing) reads.writing h)
     ends_on (Err end.WriteFault) (inr h) = inr h
     ends_on (Err end.Memory) h = tt
-    ends_on (Err (end.Long count)) h = subst (λ (k : Option Contents). IsTooLong p g paths budget k count) reads.contents h
+    ends_on (Err (end.Long count)) h =
+        subst (λ (k : Option Contents). IsTooLong p g paths budget k count) reads.contents h
     ends_on (Ok e) h = well_on (Ok e) h
     ends_on (Err (end.Ragged file count)) h = well_on (Err (end.Ragged file count)) h
     ends_on (Err (end.StepsSpent count)) h = well_on (Err (end.StepsSpent count)) h
@@ -107,8 +109,8 @@ module _ (p : Program) (g : Graph) (paths : List (List ℕ)) (budget : ℕ) wher
     runs_on result h = record { ends = ends_on result h.ends; part = refused_on result h.part }
 
 -- a task's run behind files that were only read
-pub runs_behind : (t : Task) (before middle : FilesState) (sink : SinkState) (new : Outside) (result : Result Ended RunEnd)
-    (status : ℕ) → Reads before middle false → RunsTo t (outside middle sink) new result status
+pub runs_behind : (t : Task) (before middle : FilesState) (sink : SinkState) (new : Outside)
+    (result : Result Ended RunEnd) (status : ℕ) → Reads before middle false → RunsTo t (outside middle sink) new result status
     → RunsTo t (outside before sink) new result status
 runs_behind t before middle sink new result status reads h = record {
   middle = h.middle;
@@ -119,6 +121,7 @@ runs_behind t before middle sink new result status reads h = record {
   told = h.told;
 }
 
-pub asks_for : (known : Option Contents) (words : List (List ℕ)) (r : Run) (t : Task) → IsRun words r → HoldsTask known r t
+pub asks_for : (known : Option Contents) (words : List (List ℕ)) (r : Run) (t : Task)
+    → IsRun words r → HoldsTask known r t
     → AsksFor known words t
 asks_for known words r t said holds = record { run = r; said = said; holds = holds }

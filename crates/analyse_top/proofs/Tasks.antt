@@ -1,5 +1,5 @@
 -- From a source's bytes and the words on files to a task, or to what is answered in its place.
-use Rattle.std.proofs.Common.{◌≡◌, ◌⊎◌, ℕ, Bool, true, false, List, length, Result, Ok, Err, inl, inr, refl, sym, ap, ◌∙◌, subst, Vec, String, Global}
+use Rattle.std.proofs.Common.{◌≡◌, ◌⊎◌, ℕ, false, List, length, Result, Ok, Err, inl, inr, refl, sym, ap, ◌∙◌, subst, Vec, String, Global}
 use Rattle.std.specs.Prelude.{IfErr, IfOk, IfSome, MatchResult, Option, Some, None}
 use Rattle.std.specs.Borrow.{Bor}
 use Rattle.std.specs.FinMap.{get}
@@ -13,26 +13,27 @@ use Rattle.run_words.specs.Words.{Run, texts, lent_texts}
 use Rattle.run_words.specs.Paths.{AreDistinct, paths_of}
 use Rattle.analyse_top.specs.declared.answer.Answer as code
 use Rattle.analyse_top.specs.declared.answer.Stop.{Stop}
-use Rattle.analyse_top.specs.declared.answer.Stop.TheVariants.{Memory}
 use Rattle.analyse_top.specs.declared.run.Task.{Task}
 use Rattle.analyse_top.specs.declared.source.Laid.{Laid}
 use Rattle.analyse_top.specs.Profile.{IsProfileCause}
 use Rattle.analyse_top.specs.Runs.{BlamesWord, HoldsTask}
 use Rattle.analyse_top.specs.Answer.{Answer, Usage, Absent, Refused, NotYet, CertificateLong, NotInductive, Report, AnswersRun}
-use Rattle.analyse_top.specs.Steps.{Reads, refused_by_fault, stopped_by_fault, unread_for, answer_to, IsLaid, IsReady, IsTask, IsNoTask}
+use Rattle.analyse_top.specs.Steps.{Reads, refused_by_fault, unread_for, answer_to, IsLaid, IsReady, IsTask, IsNoTask}
 use Rattle.analyse_top.specs.View.{plain_answer, plain_result, plain_task}
 use Rattle.analyse_top.proofs.Found.{at_held}
 
 -- ---- paths
 
-module _ (bytes : List ℕ) (r : Run) (laid : Laid) (is : IsLaid bytes laid) (files : List FileDecl) (names : List (Bor (List ℕ)))
+module _ (bytes : List ℕ) (r : Run) (laid : Laid) (is : IsLaid bytes laid)
+    (files : List FileDecl) (names : List (Bor (List ℕ)))
     (its_files : files ≡ laid.program.layout.files) (its_names : lent_texts names ≡ r.names) where
   paths_same : paths_of laid.program.layout.files r.names ≡ paths_of files (lent_texts names)
   paths_same =
       ap (λ (ns : List (List ℕ)). paths_of laid.program.layout.files ns) (sym its_names)
       ∙ ap (λ (fs : List FileDecl). paths_of fs (lent_texts names)) (sym its_files)
 
-  pub is_task : (paths : Vec (String Global) Global) → Readiness → paths_of files (lent_texts names) ≡ Ok (texts paths.items)
+  pub is_task : (paths : Vec (String Global) Global) → Readiness
+      → paths_of files (lent_texts names) ≡ Ok (texts paths.items)
       → length paths.items ≡ length files → AreDistinct (texts paths.items)
       → IsTask bytes r (record { laid = laid; paths = paths; steps = r.steps })
   is_task paths readiness are count distinct = record {
@@ -103,7 +104,8 @@ module _ (r : Run) (bytes : List ℕ) where
 
   module _ (known : Option Contents) (held : IfSome known (λ contents. get contents r.source ≡ Some bytes)) where
     answer_of : (found : Found) → ComesOf bytes r found
-        → IfErr found (λ instead. IfOk instead (λ answer. IfSome known (λ contents. AnswersRun contents r (plain_answer answer))))
+        → IfErr found
+        (λ instead. IfOk instead (λ answer. IfSome known (λ contents. AnswersRun contents r (plain_answer answer))))
     answer_of (Ok t) h = tt
     answer_of (Err (Ok answer)) h = known_answer known held (plain_answer answer) h
     answer_of (Err (Err stop)) h = tt
@@ -133,6 +135,7 @@ no_fault (Ok t) bytes r h = refl
 no_fault (Err (Ok answer)) bytes r h = refl
 no_fault (Err (Err stop)) bytes r h = rw h refl
 
-pub found_reads : (found : Found) (bytes : List ℕ) (r : Run) (old new : FilesState) → ComesOf bytes r found → Reads old new false
+pub found_reads : (found : Found) (bytes : List ℕ) (r : Run) (old new : FilesState)
+    → ComesOf bytes r found → Reads old new false
     → Reads old new (refused_by_fault found)
 found_reads found bytes r old new h reads = subst (Reads old new) (sym (no_fault found bytes r h)) reads

@@ -149,7 +149,8 @@ number_line words number = words ++ decimal number ++ line_end
 
 -- the status by its two digits
 abbrev pub stop_line : ℕ → ℕ → List ℕ
-stop_line status statement = codes "E17 status " ++ status_bytes status ++ codes " statement " ++ decimal statement ++ line_end
+stop_line status statement =
+    codes "E17 status " ++ status_bytes status ++ codes " statement " ++ decimal statement ++ line_end
 
 abbrev pub fault_line : Kind → ℕ → ℕ → List ℕ
 fault_line kind statement step =

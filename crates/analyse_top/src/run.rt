@@ -75,7 +75,8 @@ pub fn task_for<'a, F: Files>(
     files: &mut F,
 ) -> Result<Task, Result<Answer<'a>, Stop>>
     ensures reads { Reads (F.state files.old) (F.state files.new) (refused_by_fault result) }
-    ensures holds { IfOk result (λ task. HoldsTask (known_bytes (F.state files.old)) (plain_run said.now) (plain_task task)) }
+    ensures holds { IfOk result (λ task.
+        HoldsTask (known_bytes (F.state files.old)) (plain_run said.now) (plain_task task)) }
     ensures ready { IfOk result IsReady }
     ensures answer { IfErr result (λ found. IfOk found (λ answer. IfSome (known_bytes (F.state files.old)) (λ contents.
         AnswersRun contents (plain_run said.now) (plain_answer answer)))) }

@@ -41,7 +41,8 @@ pub fn cobsound<F: Files, O: Sink>(
 
 // The same, by what it does alone.
 fn conclude<F: Files, O: Sink>(alloc: Global, words: &[String], files: &mut F, out: &mut O) -> u8
-    ensures { Concludes (call (texts words.now) (F.state files.old) (F.state files.new) (O.state out.old) (O.state out.new) result) }
+    ensures { Concludes (call (texts words.now)
+        (F.state files.old) (F.state files.new) (O.state out.old) (O.state out.new) result) }
 {
     match run_words(alloc, words) {
         Ok(Some(said)) => conclude_run(alloc, &said, files, out),
@@ -69,7 +70,8 @@ fn conclude_other<F: Files, O: Sink>(
     out: &mut O,
 ) -> u8
     requires { (r : Run) → IsRun (texts words.now) r → ⊥ }
-    ensures { Concludes (call (texts words.now) (F.state files.old) (F.state files.new) (O.state out.old) (O.state out.new) result) }
+    ensures { Concludes (call (texts words.now)
+        (F.state files.old) (F.state files.new) (O.state out.old) (O.state out.new) result) }
 {
     let found = answer(alloc, words, files);
     show_found(alloc, found, out)

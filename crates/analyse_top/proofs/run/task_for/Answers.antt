@@ -12,13 +12,16 @@ returns-clause-reads g c =
 
 pub returns-clause-holds : goal.returns-clause-holds
 returns-clause-holds g c =
-    found_task (plain_run c.args.said.now) c.in-Ok.bytes.items (known_bytes (g.F.Files.state c.args.files.now)) c.in-Ok.ensures.ok.1
+    let known = known_bytes (g.F.Files.state c.args.files.now) in
+    found_task (plain_run c.args.said.now) c.in-Ok.bytes.items known c.in-Ok.ensures.ok.1
     c.deref.result.now c.deref.ensures.value c.task_in.result c.task_in.ensures
 
 pub returns-clause-ready : goal.returns-clause-ready
-returns-clause-ready g c = found_ready c.task_in.result c.deref.result.now (plain_run c.args.said.now) c.task_in.ensures
+returns-clause-ready g c =
+    found_ready c.task_in.result c.deref.result.now (plain_run c.args.said.now) c.task_in.ensures
 
 pub returns-clause-answer : goal.returns-clause-answer
 returns-clause-answer g c =
-    found_answer (plain_run c.args.said.now) c.in-Ok.bytes.items (known_bytes (g.F.Files.state c.args.files.now)) c.in-Ok.ensures.ok.1
+    let known = known_bytes (g.F.Files.state c.args.files.now) in
+    found_answer (plain_run c.args.said.now) c.in-Ok.bytes.items known c.in-Ok.ensures.ok.1
     c.deref.result.now c.deref.ensures.value c.task_in.result c.task_in.ensures

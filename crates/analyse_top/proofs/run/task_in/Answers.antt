@@ -6,5 +6,6 @@ use Rattle.analyse_top.proofs.run.task_in.Goals as goal
 
 pub returns-in-Err : goal.returns-in-Err
 returns-in-Err c =
-    subst (IsNoTask c.args.bytes.now (plain_run c.args.said.now).names) (sym (c.answer_to.ensures ∙ ap answer_to c.unread_for.ensures))
-    (no_task c.args.bytes.now (plain_run c.args.said.now).names c.in-Err.cause c.in-Err.ensures)
+    let names = (plain_run c.args.said.now).names in
+    subst (IsNoTask c.args.bytes.now names) (sym (c.answer_to.ensures ∙ ap answer_to c.unread_for.ensures))
+    (no_task c.args.bytes.now names c.in-Err.cause c.in-Err.ensures)

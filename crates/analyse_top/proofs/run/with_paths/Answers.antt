@@ -5,12 +5,13 @@ use Rattle.analyse_top.proofs.run.with_paths.Goals as goal
 
 pub returns-in-Ok : goal.returns-in-Ok
 returns-in-Ok c =
-    is_task c.args.bytes.now (plain_run c.args.said.now) c.args.laid c.requires c.get.result.now c.deref.result.now c.get.ensures
-    (ap lent_texts c.deref.ensures.value) c.in-Ok.paths c.sources_can_be_run.ensures c.in-Ok.ensures.paths c.in-Ok.ensures.count
-    c.in-Ok.ensures.distinct
+    let given = c.in-Ok.ensures in
+    is_task c.args.bytes.now (plain_run c.args.said.now) c.args.laid c.requires
+    c.get.result.now c.deref.result.now c.get.ensures (ap lent_texts c.deref.ensures.value)
+    c.in-Ok.paths c.sources_can_be_run.ensures given.paths given.count given.distinct
 
 pub returns-in-Err-Refused : goal.returns-in-Err-Refused
 returns-in-Err-Refused c =
-    blames_word c.args.bytes.now (plain_run c.args.said.now) c.args.laid c.requires c.get.result.now c.deref.result.now c.get.ensures
-    (ap lent_texts c.deref.ensures.value) (string_bytes c.in-Err-Refused.word)
-    (rw c.in-Err-Refused.field-0-is at c.in-Err-Refused.ensures.paths)
+    blames_word c.args.bytes.now (plain_run c.args.said.now) c.args.laid c.requires
+    c.get.result.now c.deref.result.now c.get.ensures (ap lent_texts c.deref.ensures.value)
+    (string_bytes c.in-Err-Refused.word) (rw c.in-Err-Refused.field-0-is at c.in-Err-Refused.ensures.paths)

@@ -15,6 +15,7 @@ returns g c =
     subst (λ (words : List (String Global)). Concludes (by words)) c.as_slice.ensures.value c.conclude.ensures in
     record {
       concludes = concludes;
-      exact = is_exact c.one_answer.ensures c.one_reading.ensures c.graphs_are_one.ensures.graph c.one_end.ensures this concludes;
+      exact = is_exact c.one_answer.ensures c.one_reading.ensures c.graphs_are_one.ensures.graph c.one_end.ensures
+          this concludes;
       clean = clean_is_safe this concludes;
     }

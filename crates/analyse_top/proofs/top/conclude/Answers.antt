@@ -16,5 +16,6 @@ pub returns-in-Err : goal.returns-in-Err
 returns-in-Err g c =
     let files = g.F.Files.state c.args.files.now in
     inl (ends_found
-    (call (texts c.args.words.now) files files (g.O.Sink.state c.args.out.now) (g.O.Sink.state c.show_found.new.out) c.show_found.result)
+    (call (texts c.args.words.now) files files
+    (g.O.Sink.state c.args.out.now) (g.O.Sink.state c.show_found.new.out) c.show_found.result)
     (Err Memory) (reads_nothing files) tt c.show_found.ensures)

@@ -11,21 +11,23 @@ use Rattle.analyse_top.proofs.top.conclude_run.Goals as goal
 pub returns-in-Ok : goal.returns-in-Ok
 returns-in-Ok g c =
     let t = plain_task c.in-Ok.task in
-    let known = known_bytes (g.F.Files.state c.args.files.now) in
+    let files = g.F.Files.state c.args.files.now in
+    let middle = g.F.Files.state c.task_for.new.files in
+    let after = outside (g.F.Files.state c.run.new.files) (g.O.Sink.state c.run.new.out) in
     λ words said. inr (
       t,
       c.run.ensures.0,
-      asks_for known words (plain_run c.args.said.now) t said c.in-Ok.ensures.holds,
-      runs_behind t (g.F.Files.state c.args.files.now) (g.F.Files.state c.task_for.new.files) (g.O.Sink.state c.args.out.now)
-          (outside (g.F.Files.state c.run.new.files) (g.O.Sink.state c.run.new.out)) c.run.ensures.0 c.run.result
+      asks_for (known_bytes files) words (plain_run c.args.said.now) t said c.in-Ok.ensures.holds,
+      runs_behind t files middle (g.O.Sink.state c.args.out.now) after c.run.ensures.0 c.run.result
           c.in-Ok.ensures.reads c.run.ensures.1,
     )
 
 pub returns-in-Err : goal.returns-in-Err
 returns-in-Err g c =
-    let known = known_bytes (g.F.Files.state c.args.files.now) in
+    let files = g.F.Files.state c.args.files.now in
+    let r = plain_run c.args.said.now in
     λ words said. inl (ends_found
-    (call words (g.F.Files.state c.args.files.now) (g.F.Files.state c.task_for.new.files)
+    (call words files (g.F.Files.state c.task_for.new.files)
     (g.O.Sink.state c.args.out.now) (g.O.Sink.state c.show_found.new.out) c.show_found.result)
     c.in-Err.found c.in-Err.ensures.reads
-    (answers_run c.in-Err.found known words (plain_run c.args.said.now) said c.in-Err.ensures.answer) c.show_found.ensures)
+    (answers_run c.in-Err.found (known_bytes files) words r said c.in-Err.ensures.answer) c.show_found.ensures)
