@@ -1,6 +1,9 @@
 use super::payroll::LINES;
+use super::run::task_for;
 use super::top::cobsound;
 use batch_io::{MemFiles, MemSink};
+use cob_interp::{Ended, RunEnd, run};
+use run_words::run_words;
 use std::alloc::{AllocError, Global};
 use std::test::Fail;
 
@@ -539,5 +542,44 @@ fn payroll_pays_one_employee(rt: HostRuntime) -> Result<(), Fail> {
         written,
         b"00042  45.5       965.00TOTAL GROSS       965.00".as_slice()
     );
+    Ok(())
+}
+
+// Runs what the words ask for by the interpreter's own call.
+fn run_alone(
+    alloc: Global,
+    words: &[String],
+    files: &mut MemFiles,
+    sink: &mut MemSink,
+) -> Result<Ended, RunEnd> {
+    let Ok(Some(said)) = run_words(alloc, words) else {
+        return Err(RunEnd::Memory);
+    };
+    match task_for(alloc, &said, files) {
+        Ok(task) => run(
+            alloc,
+            &task.laid.program,
+            &task.laid.graph,
+            files,
+            &task.paths,
+            sink,
+            task.steps,
+        ),
+        Err(_) => Err(RunEnd::Memory),
+    }
+}
+
+#[test]
+fn the_interpreter_answers_its_steps(rt: HostRuntime) -> Result<(), Fail> {
+    let alloc = rt.alloc();
+    let words = split(alloc, "run T")?;
+    let source = program(alloc, "", "       DISPLAY 'A'.\n       STOP RUN.\n")?;
+    let mut held = Vec::new(alloc);
+    add_file(alloc, &mut held, "T", source.as_bytes())?;
+    let mut files = MemFiles::new(alloc, held, Vec::new(alloc));
+    let mut sink = MemSink::new(alloc, Vec::new(alloc));
+    let end = run_alone(alloc, words.as_slice(), &mut files, &mut sink);
+    assert_eq!(rt; end, Ok(Ended { steps: 2 }));
+    assert_eq!(rt; sink.bytes(), b"A\n".as_slice());
     Ok(())
 }
