@@ -9,7 +9,7 @@ use Rattle.cob_interp.specs.declared.ends.Ended.{Ended}
 use Rattle.cob_interp.specs.declared.ends.RunEnd.{RunEnd}
 use Rattle.cob_interp.specs.declared.ends.RunEnd.TheVariants as end
 use Rattle.cob_interp.specs.Ends.{told_files, IsEnd}
-use Rattle.cob_interp.specs.Running.{Outside, outside, IfTold, EndsRunIf, EndsWell, EndsBy, BreaksOff, IsBroken, IfRefused, IsTooLong, Runs}
+use Rattle.cob_interp.specs.Running.{Outside, outside, IfTold, EndsRunIf, EndsWell, EndsBy, BreaksOff, IsBroken, IfRefused, IsTooLong, KeepsUnmade, Runs}
 use Rattle.cob_interp.proofs.Passing.{ids_pass}
 use Rattle.run_words.specs.Words.{Run, IsRun}
 use Rattle.analyse_top.specs.Runs.{Task, HoldsTask, AsksFor, RunsTo}
@@ -117,6 +117,9 @@ runs_behind t before middle sink new result status reads h = record {
   refused = h.refused;
   runs = runs_on t.program t.graph t.paths t.steps before middle sink (outside new.files h.middle) reads result h.runs;
   ids = ids_pass before middle new.files reads.ids h.ids;
+  unmade = subst
+      (λ (k : Option Contents). IfTold (λ first told. KeepsUnmade t.program t.paths first told) k (known_bytes new.files))
+      reads.contents h.unmade;
   sink = h.sink;
   told = h.told;
 }

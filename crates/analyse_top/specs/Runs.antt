@@ -1,7 +1,7 @@
 -- What `run` is asked for, what a run of it does, and how its end is told.
 use Rattle.std.specs.Prelude.{◌≡◌, ◌⊎◌, ℕ, Bool, true, false, List, Option, Some, IfSome, Result, Ok, Err}
 use Rattle.std.specs.FinMap.{get}
-use Rattle.batch_io.specs.FilesState.{Contents, KeepsIds}
+use Rattle.batch_io.specs.FilesState.{Contents, KeepsIds, known_bytes}
 use Rattle.batch_io.specs.SinkState.{SinkState}
 use Rattle.cob_data.specs.declared.layout.FileDecl.{FileDecl}
 use Rattle.cob_program.specs.Act.{Program}
@@ -13,7 +13,7 @@ use Rattle.cob_front.specs.Control.{IsControlCause}
 use Rattle.cob_interp.specs.declared.ends.Ended.{Ended}
 use Rattle.cob_interp.specs.declared.ends.RunEnd.{RunEnd}
 use Rattle.cob_interp.specs.declared.ends.RunEnd.TheVariants as end
-use Rattle.cob_interp.specs.Running.{Outside, outside, Runs, TellsOfSink}
+use Rattle.cob_interp.specs.Running.{Outside, outside, IfTold, KeepsUnmade, Runs, TellsOfSink}
 use Rattle.run_words.specs.Words.{Run, IsRun}
 use Rattle.run_words.specs.Paths.{paths_of}
 use Rattle.analyse_top.specs.Text.{memory_line, run_text}
@@ -89,5 +89,7 @@ pub record RunsTo (t : Task) (old new : Outside) (result : Result Ended RunEnd) 
   pub refused : Bool
   pub runs : Runs t.program t.graph t.paths t.steps old (outside new.files middle) result
   pub ids : KeepsIds old.files new.files
+  -- paths of files that no statement opens for output hold what they held
+  pub unmade : IfTold (λ first told. KeepsUnmade t.program t.paths first told) (known_bytes old.files) (known_bytes new.files)
   pub sink : TellsOfSink old.sink middle (record { end = result; sink_refused = refused })
   pub told : TellsEnd t.program.layout.files middle new.sink result refused status
