@@ -1,5 +1,5 @@
 -- Comparisons of sums.
-use Rattle.std.proofs.Common.{◌≡◌, ℕ, ◌-◌, ◌*◌, ◌^◌, ◌<◌, ◌≤◌, ◌&&◌, true, Some, Err, if◌then◌else◌, refl, sym, ap, subst, ◌∙◌, arith}
+use Rattle.std.proofs.Common.{◌≡◌, ℕ, ◌-◌, ◌*◌, ◌^◌, ◌<◌, ◌≤◌, ◌&&◌, Bool, true, false, List, Some, Result, Ok, Err, if◌then◌else◌, refl, sym, ap, subst, ◌∙◌, arith}
 use Rattle.std.specs.Prelude.{unsigned_abs, nat_le}
 use Rattle.std.proofs.lemmas.Bool.Decides.{nat_tests}
 use Rattle.dec_num.specs.declared.types.Scaled.{Scaled}
@@ -12,7 +12,14 @@ use Rattle.cob_program.specs.Values.{sum_value}
 use Rattle.cob_program.specs.Bounds.{Bound, joint, at_scale, is_small, sum_most, is_small_sum, is_small_sides, IsWithin}
 use Rattle.cob_program.proofs.Steps.{both}
 use Rattle.cob_runs.specs.Computing.{items_in, are_numeric, worth}
-use Rattle.cob_runs.specs.Deciding.{decided, compared_numbers}
+use Rattle.cob_tree.specs.declared.fault.Kind.{Kind}
+use Rattle.cob_tree.specs.declared.token.Rel.TheVariants as rel
+use Rattle.cob_data.specs.declared.layout.Layout.{Layout}
+use Rattle.cob_data.specs.declared.layout.Pair.{Pair}
+use Rattle.cob_data.specs.declared.layout.Sender.{Sender}
+use Rattle.cob_runs.specs.Faults.{◌>>=◌, or_fault}
+use Rattle.cob_runs.specs.Moves.{number_of, text_of}
+use Rattle.cob_runs.specs.Deciding.{Order, below, equal, above, holds, number_order, text_order, side_length, is_number_end, compared_values, compared, in_pair, decided, compared_numbers}
 use Rattle.cob_calc.specs.Contents.{Contents, IsSound, amount_at, bound_at}
 use Rattle.cob_calc.specs.Arithmetic.{are_numbers}
 use Rattle.cob_calc.specs.Comparing.{CanCompare}
@@ -67,3 +74,26 @@ compared_as c a r b na nb ea eb =
   where
     both_read : (are_numeric c.layout c.storage (items_in a) && are_numeric c.layout c.storage (items_in b)) ≡ true
     both_read = rw (ea, eb) refl
+
+-- ---- ranges of one value
+
+by_order : (o : Order) → holds rel.Equal o ≡ (holds rel.AtLeast o && holds rel.AtMost o)
+by_order below = refl
+by_order equal = refl
+by_order above = refl
+
+by_values : {A : Type 0} (a b : Result A Kind) (order : A → A → Order) →
+    (a >>= λ x. b >>= λ y. Ok (holds rel.Equal (order x y))) ≡
+    ((a >>= λ x. b >>= λ y. Ok (holds rel.AtLeast (order x y))) >>= λ from. (a >>= λ x. b >>= λ y. Ok (holds rel.AtMost (order x y))) >>= λ to. Ok (from && to))
+by_values (Err kind) b order = refl
+by_values (Ok x) (Err kind) order = refl
+by_values (Ok x) (Ok y) order = ap Ok (by_order (order x y))
+
+module _ (l : Layout) (storage : List ℕ) (x y : Sender) where
+  by_kinds : (numbers : Bool) → compared_values l storage numbers x rel.Equal y ≡
+      (compared_values l storage numbers x rel.AtLeast y >>= λ from. compared_values l storage numbers x rel.AtMost y >>= λ to. Ok (from && to))
+  by_kinds true = by_values (or_fault kind.Class (number_of l storage x)) (or_fault kind.Class (number_of l storage y)) number_order
+  by_kinds false = by_values (or_fault kind.Class (text_of l storage (side_length l storage y 1) x)) (or_fault kind.Class (text_of l storage (side_length l storage x 1) y)) text_order
+
+  pub in_one : (p : Pair) → p.low ≡ y → p.high ≡ y → compared l storage x rel.Equal y ≡ in_pair l storage x p
+  in_one p low high = rw (low, high) (by_kinds (is_number_end l storage x && is_number_end l storage y))

@@ -14,3 +14,4 @@ pub mod RoomLemmas
 pub mod Agreement
 pub mod RestLemmas
 pub mod RootLemmas
+pub mod OperandLemmas

@@ -4,3 +4,4 @@ pub mod Exact
 pub mod Receiving
 pub mod Arithmetic
 pub mod Comparing
+pub mod Operand

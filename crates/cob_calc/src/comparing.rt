@@ -60,9 +60,9 @@ impl<'a> Contents<'a> {
         ensures { result ≡ decided self.now.layout self.now.storage rel (sum_value (amount_at self.now)
             (plain_sum left.now)) (sum_value (amount_at self.now) (plain_sum right.now)) }
     {
-        match self.sum(left) {
+        match self.total(left) {
             None => Err(Kind::Zero),
-            Some(a) => match self.sum(right) {
+            Some(a) => match self.total(right) {
                 None => Err(Kind::Zero),
                 Some(b) => Ok(holds(rel, number_order(a, b))),
             },
@@ -78,10 +78,10 @@ impl<'a> Contents<'a> {
         ensures { result ≡ compared_numbers self.now.layout self.now.storage (plain_sum left.now) rel
             (plain_sum right.now) }
     {
-        if !self.are_operands_numeric(left) {
+        if !self.is_sum_numeric(left) {
             return Err(Kind::Class);
         }
-        if !self.are_operands_numeric(right) {
+        if !self.is_sum_numeric(right) {
             return Err(Kind::Class);
         }
         self.decide(left, rel, right)

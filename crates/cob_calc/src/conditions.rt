@@ -18,9 +18,9 @@ impl<'a> Contents<'a> {
         requires { IsSound self.now }
         ensures { result ≡ compared_texts self.now.layout self.now.storage left.now rel right.now }
     {
-        match self.text(left, self.side_length(right, 1)) {
+        match self.text(left, right) {
             None => Err(Kind::Class),
-            Some(a) => match self.text(right, self.side_length(left, 1)) {
+            Some(a) => match self.text(right, left) {
                 None => Err(Kind::Class),
                 Some(b) => Ok(holds(rel, a.order(&b))),
             },
@@ -61,6 +61,7 @@ impl<'a> Contents<'a> {
         self.compare_numbers(left, rel, right)
     }
 
+    // a text alone is compared once
     fn in_pair(&self, side: &Sender, pair: &Pair) -> Result<bool, Kind>
         requires sound { IsSound self.now }
         requires side { IsSoundEnd side.now }
@@ -68,6 +69,9 @@ impl<'a> Contents<'a> {
         requires high { IsSoundEnd pair.now.high }
         ensures { result ≡ in_pair self.now.layout self.now.storage side.now pair.now }
     {
+        if is_one_text(pair) {
+            return self.compare(side, Rel::Equal, &pair.low);
+        }
         match self.compare(side, Rel::AtLeast, &pair.low) {
             Err(kind) => Err(kind),
             Ok(from) => match self.compare(side, Rel::AtMost, &pair.high) {
@@ -158,6 +162,16 @@ impl<'a> Contents<'a> {
             }
         }
         Ok(false)
+    }
+}
+
+// Whether a range is a text alone.
+fn is_one_text(pair: &Pair) -> bool
+    ensures { result ≡ true → pair.now.low ≡ pair.now.high }
+{
+    match (&pair.low, &pair.high) {
+        (Sender::Text(low), Sender::Text(high)) => low.get() == high.get(),
+        _ => false,
     }
 }
 

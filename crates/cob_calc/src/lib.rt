@@ -9,6 +9,7 @@ mod contents;
 mod exact;
 mod laws;
 mod numbers;
+mod operand;
 mod operands;
 mod receivers;
 mod sides;

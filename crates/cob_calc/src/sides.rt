@@ -156,18 +156,25 @@ impl<'a> Contents<'a> {
         }
     }
 
-    /// A side as text, which a figurative constant fills; nothing where a numeric item isn't numeric.
-    pub fn text<'b>(&'b self, side: &'b Sender, count: usize) -> Option<Text<'b>>
+    /// A side as text beside another, whose length a figurative constant takes; nothing where a numeric item isn't numeric.
+    pub fn text<'b>(&'b self, side: &'b Sender, other: &Sender) -> Option<Text<'b>>
         requires { IsSound self.now }
-        ensures value { option_map plain_text result ≡ text_of self.now.layout self.now.storage count side.now }
+        ensures value { option_map plain_text result ≡ text_of self.now.layout self.now.storage
+            (side_length self.now.layout self.now.storage other.now 1) side.now }
         ensures short { IfSome result IsShortText }
     {
         match side {
             Sender::Item(place) => self.item_text(*place),
             Sender::Number(number) => Some(Text::Bytes(number.digits.get())),
             Sender::Text(text) => Some(Text::Bytes(text.get())),
-            Sender::Fill(byte) => Some(Text::Fill { byte: *byte, count }),
-            Sender::Zero => Some(Text::Fill { byte: b'0', count }),
+            Sender::Fill(byte) => Some(Text::Fill {
+                byte: *byte,
+                count: self.side_length(other, 1),
+            }),
+            Sender::Zero => Some(Text::Fill {
+                byte: b'0',
+                count: self.side_length(other, 1),
+            }),
         }
     }
 }

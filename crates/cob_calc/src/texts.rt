@@ -32,6 +32,32 @@ fn digit(size: u64, place: u32) -> u8
     48 + (size / weight(place) % 10) as u8
 }
 
+// the byte at a place, and a space behind the end
+fn byte_at(bytes: &[u8], place: usize) -> u8
+    ensures { result ≡ slice_index_or bytes.now place 32 }
+{
+    match bytes.get(place) {
+        Some(byte) => *byte,
+        None => b' ',
+    }
+}
+
+#[tactic(auto, using(crate::proofs::TextLemmas::orders))]
+fn bytes_order(a: &[u8], b: &[u8]) -> Ordering
+    ensures { plain_order result ≡ text_order a.now b.now }
+{
+    for place in 0..a.len().max(b.len()) {
+        let (left, right) = (byte_at(a, place), byte_at(b, place));
+        if left < right {
+            return Ordering::Less;
+        }
+        if right < left {
+            return Ordering::Greater;
+        }
+    }
+    Ordering::Equal
+}
+
 impl<'a> Text<'a> {
     /// How many bytes it has.
     #[tactic(auto, using(crate::proofs::TextLemmas::digits))]
@@ -52,10 +78,7 @@ impl<'a> Text<'a> {
         ensures { result ≡ slice_index_or (plain_text self.now) place 32 }
     {
         match self {
-            Text::Bytes(bytes) => match bytes.get(place) {
-                Some(byte) => *byte,
-                None => b' ',
-            },
+            Text::Bytes(bytes) => byte_at(bytes, place),
             Text::Digits { count, size } => {
                 if place < *count as usize {
                     digit(*size, *count - 1 - place as u32)
@@ -67,10 +90,9 @@ impl<'a> Text<'a> {
         }
     }
 
-    /// The order of two texts. The shorter one counts as followed by spaces, and the first byte that differs decides
-    /// (ISO 1989:1985, "Comparison of nonnumeric operands").
+    // by each place
     #[tactic(auto, using(crate::proofs::TextLemmas::orders))]
-    pub fn order(&self, other: &Text) -> Ordering
+    fn order_by_places(&self, other: &Text) -> Ordering
         requires left { IsShortText self.now }
         requires right { IsShortText other.now }
         ensures { plain_order result ≡ text_order (plain_text self.now) (plain_text other.now) }
@@ -85,5 +107,18 @@ impl<'a> Text<'a> {
             }
         }
         Ordering::Equal
+    }
+
+    /// The order of two texts. The shorter one counts as followed by spaces, and the first byte that differs decides
+    /// (ISO 1989:1985, "Comparison of nonnumeric operands").
+    pub fn order(&self, other: &Text) -> Ordering
+        requires left { IsShortText self.now }
+        requires right { IsShortText other.now }
+        ensures { plain_order result ≡ text_order (plain_text self.now) (plain_text other.now) }
+    {
+        match (self, other) {
+            (Text::Bytes(left), Text::Bytes(right)) => bytes_order(left, right),
+            _ => self.order_by_places(other),
+        }
     }
 }

@@ -39,7 +39,7 @@ impl<'a> Contents<'a> {
         requires small { wanted ≡ true → is_small_sum (bound_at self.now.layout) (plain_sum common.now) ≡ true }
         ensures { wanted ≡ true → result ≡ sum_value (amount_at self.now) (plain_sum common.now) }
     {
-        if wanted { self.sum(common) } else { None }
+        if wanted { self.total(common) } else { None }
     }
 
     // what the receivers of a statement get
@@ -72,7 +72,7 @@ impl<'a> Contents<'a> {
         requires can { CanCompute self.now.layout (plain_sum common.now) targets.now remainder }
         ensures { AreWorked self.now (plain_sum common.now) targets.now remainder result }
     {
-        if self.are_operands_numeric(common) {
+        if self.is_sum_numeric(common) {
             Some(self.worked(common, targets, remainder))
         } else {
             None

@@ -7,9 +7,9 @@ ghost use Rattle.cob_runs.specs.Acts.{decl_at};
 ghost use Rattle.cob_world.specs.Views.{plain_mode};
 ghost use Rattle.cob_interp.specs.Ends.{is_cut, cut_file, reads_on};
 ghost use Rattle.cob_interp.specs.Running.{Outside, outside, Stands, Arrives};
-ghost use Rattle.cob_interp.specs.Setting.{IsReady, StartsAt, program_of, paths_of};
+ghost use Rattle.cob_interp.specs.Setting.{IsReady, IsPlace, StartsAt, program_of, paths_of};
 ghost use Rattle.cob_interp.specs.Touching.{Touches, ClosesOnly, makes_by, makes_none};
-ghost use Rattle.cob_interp.specs.Doing.{IsRaggedAt, Leads};
+ghost use Rattle.cob_interp.specs.Doing.{IsPlain, IsRaggedAt, Leads};
 
 use crate::ends::RunEnd;
 use crate::nodes::{do_close, do_plain};
@@ -48,7 +48,7 @@ fn do_node(
 
 /// Goes on in a step that is underway, of a statement that is neither OPEN nor CLOSE, until another begins or the run
 /// has ended. Answers the node.
-fn go(
+fn go_through(
     alloc: Global,
     setting: &Setting,
     world: &mut World,
@@ -69,6 +69,31 @@ fn go(
         }
     }
     Err(RunEnd::Memory)
+}
+
+/// Does all of a step from the place at which it begins, of a statement that is neither OPEN nor CLOSE. Answers the node
+/// behind it.
+fn go(
+    alloc: Global,
+    setting: &Setting,
+    world: &mut World,
+    place: &Place,
+    node: u32,
+    step: u64,
+) -> Result<u32, RunEnd>
+    requires ready { IsReady setting.now }
+    requires whole { length world.old.storage ≡ setting.now.program.now.layout.storage }
+    requires place { IsPlace setting.now node place.now }
+    requires plain { IsPlain (plain_act place.now.statement.now.act.now) }
+    ensures kept { length world.new.storage ≡ length world.old.storage }
+    ensures leads { (now : Outside) (budget : ℕ)
+        → Leads setting.now budget step node now now world.old world.new result }
+{
+    let next = do_plain(alloc, setting, place, world, step)?;
+    if setting.rests_at(next) {
+        return Ok(next);
+    }
+    go_through(alloc, setting, world, next, step)
 }
 
 /// Closes the next file of a CLOSE that is underway. Answers the next node.
@@ -161,6 +186,7 @@ fn check_cut(setting: &Setting, world: &World, file: u32) -> Result<(), RunEnd>
 }
 
 /// Takes a step from a node at which it begins. Answers the node behind it.
+#[tactic(auto, using(crate::proofs::CallLemmas::calls))]
 pub fn take_step<F: Files>(
     alloc: Global,
     setting: &Setting,
@@ -196,8 +222,8 @@ pub fn take_step<F: Files>(
         Call::Close(_) => close_all(alloc, setting, files, world, node, step),
         Call::Read(file) => {
             check_cut(setting, world, file)?;
-            go(alloc, setting, world, node, step)
+            go(alloc, setting, world, place, node, step)
         }
-        Call::Other => go(alloc, setting, world, node, step),
+        Call::Other => go(alloc, setting, world, place, node, step),
     }
 }

@@ -1,4 +1,4 @@
-ghost use Rattle.std.specs.Prelude.{◌≡◌, length, replicate, MatchResult, IfOk, Ok, [], ◌∷◌, ◌++◌};
+ghost use Rattle.std.specs.Prelude.{◌≡◌, ◌≤◌, length, replicate, MatchResult, IfOk, Ok, [], ◌∷◌, ◌++◌};
 ghost use Rattle.std.specs.List.{All};
 ghost use Rattle.std.specs.Result.{OnOk};
 ghost use Rattle.cob_runs.specs.Contents.{form_at, length_at};
@@ -109,9 +109,8 @@ fn fill_all(layout: &Layout, storage: &mut [u8], to: &[u32], values: &[Many<u8>]
     }
 }
 
-/// Moves the sender to each of the items, from left to right; the sender is what it was at first, and where the MOVE
-/// ends in an error, storage is, too (ISO 1989:1985, "The MOVE statement").
-pub fn after_move(
+// Moves to each item by way of memory for all that they get.
+fn move_to_all(
     alloc: Global,
     layout: &Layout,
     storage: &mut [u8],
@@ -128,4 +127,88 @@ pub fn after_move(
     let values = moved_all(alloc, layout, storage, sender, to)?;
     fill_all(layout, storage, to, &values);
     Ok(())
+}
+
+// The most bytes of an item that needs no memory to be moved to.
+const SHORT: usize = 64;
+
+// Moves to the item at a place, which has few bytes.
+fn move_to_short(
+    layout: &Layout,
+    storage: &mut [u8],
+    sender: &Sender,
+    item: &Item,
+    place: u32,
+) -> Result<(), MoveEnd>
+    requires sound { HasSoundItems layout.now }
+    requires whole { length storage.old ≡ layout.now.storage }
+    requires able { CanMove layout.now sender.now item.now.form }
+    requires form { IsSoundForm item.now.form item.now.length }
+    requires short { item.now.length ≤ 64 }
+    requires its_form { form_at layout.now place ≡ item.now.form }
+    requires its_length { length_at layout.now place ≡ item.now.length }
+    ensures { MatchResult result
+        (λ _. after_move layout.now storage.old sender.now (place ∷ []) ≡ Ok storage.new)
+        (λ end. IsCause (after_move layout.now storage.old sender.now (place ∷ [])) end
+        × (storage.new ≡ storage.old)) }
+{
+    let mut room = [b' '; SHORT];
+    let bytes = &mut room[..item.length as usize];
+    match write_moved(layout, storage, sender, &item.form, bytes) {
+        Ok(()) => {
+            fill_bytes(layout, storage, place, bytes);
+            Ok(())
+        }
+        Err(kind) => Err(MoveEnd::Fault(kind)),
+    }
+}
+
+// Moves to the item at a place.
+fn move_to_one(
+    alloc: Global,
+    layout: &Layout,
+    storage: &mut [u8],
+    sender: &Sender,
+    place: u32,
+) -> Result<(), MoveEnd>
+    requires sound { HasSoundItems layout.now }
+    requires whole { length storage.old ≡ layout.now.storage }
+    requires able { CanMove layout.now sender.now (form_at layout.now place) }
+    ensures { MatchResult result
+        (λ _. after_move layout.now storage.old sender.now (place ∷ []) ≡ Ok storage.new)
+        (λ end. IsCause (after_move layout.now storage.old sender.now (place ∷ [])) end
+        × (storage.new ≡ storage.old)) }
+{
+    match item_at(layout, place) {
+        Some(item) => {
+            if item.length as usize <= SHORT {
+                move_to_short(layout, storage, sender, item, place)
+            } else {
+                move_to_all(alloc, layout, storage, sender, &[place])
+            }
+        }
+        None => move_to_all(alloc, layout, storage, sender, &[place]),
+    }
+}
+
+/// Moves the sender to each of the items, from left to right; the sender is what it was at first, and where the MOVE
+/// ends in an error, storage is, too (ISO 1989:1985, "The MOVE statement").
+pub fn after_move(
+    alloc: Global,
+    layout: &Layout,
+    storage: &mut [u8],
+    sender: &Sender,
+    to: &[u32],
+) -> Result<(), MoveEnd>
+    requires sound { HasSoundItems layout.now }
+    requires whole { length storage.old ≡ layout.now.storage }
+    requires able { All (λ place. CanMove layout.now sender.now (form_at layout.now place)) to.now }
+    ensures { MatchResult result
+        (λ _. after_move layout.now storage.old sender.now to.now ≡ Ok storage.new)
+        (λ end. IsCause (after_move layout.now storage.old sender.now to.now) end × (storage.new ≡ storage.old)) }
+{
+    match to {
+        [place] => move_to_one(alloc, layout, storage, sender, *place),
+        _ => move_to_all(alloc, layout, storage, sender, to),
+    }
 }

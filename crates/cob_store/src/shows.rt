@@ -126,6 +126,9 @@ fn push_sender(
     }
 }
 
+// Room for most lines.
+const SHOWN: usize = 80;
+
 /// The line that DISPLAY shows (ISO 1989:1985, "The DISPLAY statement").
 pub fn line_of(
     alloc: Global,
@@ -137,7 +140,7 @@ pub fn line_of(
     requires whole { length storage.now ≡ layout.now.storage }
     ensures { IfOk result (λ line. line.items ≡ line_of layout.now storage.now senders.now) }
 {
-    let mut line = Vec::new(alloc);
+    let mut line = Vec::with_capacity(alloc, SHOWN)?;
     for sender in senders {
         push_sender(&mut line, layout, storage, sender)?;
     }

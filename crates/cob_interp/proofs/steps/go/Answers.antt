@@ -1,19 +1,20 @@
-use Rattle.std.proofs.Common.{◌∙◌, arith}
+use Rattle.std.proofs.Common.{arith}
 use Rattle.std.proofs.lemmas.Result.{err_from_is_err_and}
 use Rattle.cob_interp.proofs.StepLemmas.{goes_on_underway}
 use Rattle.cob_interp.proofs.steps.go.Goals as goal
 
-pub returns-in_err-at-clause-leads : goal.returns-in_err-at-clause-leads
-returns-in_err-at-clause-leads c =
+pub returns-in_err-next-clause-leads : goal.returns-in_err-next-clause-leads
+returns-in_err-next-clause-leads c =
     let p = err_from_is_err_and c.from_residual.result c.from_residual.ensures.1 in
-    rw (p.1, p.2)
-    (λ now budget start within u. c.in_err-at.ensures.leads now budget start within
-    (c.loop.invariant.underway now start u))
+    rw (p.1, p.2) (λ now budget. c.do_plain.ensures.leads now c.args.node budget c.requires.place)
 
-pub loop-preserved : goal.loop-preserved
-loop-preserved c = record {
-  kept = c.do_node.ensures.kept ∙ c.loop.invariant.kept;
-  underway = λ now start u. goes_on_underway c.args.setting.now start now _ c.args.step _
-      (c.rests_at.ensures c.if-rests_at.false)
-      (c.in_ok-at.ensures.leads now c.args.step start (omega arith) (c.loop.invariant.underway now start u));
-}
+pub returns-then-rests_at-clause-leads : goal.returns-then-rests_at-clause-leads
+returns-then-rests_at-clause-leads c =
+    λ now budget. c.in_ok-next.ensures.leads now c.args.node budget c.requires.place
+
+pub returns-in_ok-next-clause-leads : goal.returns-in_ok-next-clause-leads
+returns-in_ok-next-clause-leads c = λ now budget start within u.
+    c.go_through.ensures.leads now budget start within
+    (goes_on_underway c.args.setting.now start now _ c.args.step _
+    (c.rests_at.ensures c.if-rests_at.false)
+    (c.in_ok-next.ensures.leads now c.args.node c.args.step c.requires.place start (omega arith) u))

@@ -7,4 +7,4 @@ pub returns : goal.returns
 returns c =
     c.decide.ensures
     ∙ sym (compared_as c.args.self.now (plain_sum c.args.left.now) c.args.rel (plain_sum c.args.right.now) c.requires.left c.requires.right
-    (sym c.if-not-are_operands_numeric.ensures) (sym c.if-not-are_operands_numeric-2.ensures))
+    (sym c.if-not-is_sum_numeric.ensures) (sym c.if-not-is_sum_numeric-2.ensures))

@@ -4,4 +4,4 @@ use Rattle.cob_calc.proofs.contents.Contents.decide.Goals as goal
 
 pub number_order-requires : goal.number_order-requires
 number_order-requires c =
-    sides_compare c.args.self.now (plain_sum c.args.left.now) (plain_sum c.args.right.now) _ _ c.requires.sound c.requires.small c.in-Some.ensures.value c.in-Some-sum.ensures.value
+    sides_compare c.args.self.now (plain_sum c.args.left.now) (plain_sum c.args.right.now) _ _ c.requires.sound c.requires.small c.in-Some.ensures.value c.in-Some-total.ensures.value

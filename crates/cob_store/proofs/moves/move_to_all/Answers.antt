@@ -1,7 +1,7 @@
 use Rattle.std.proofs.Common.{refl, rules, ◌∙◌, ap, Ok}
 use Rattle.std.proofs.lemmas.Result.{err_from_is_err_and}
 use Rattle.cob_store.proofs.MoveLemmas.{moved_to-filled, moved_to-cause}
-use Rattle.cob_store.proofs.moves.after_move.Goals as goal
+use Rattle.cob_store.proofs.moves.move_to_all.Goals as goal
 
 pub returns-in_err-values : goal.returns-in_err-values
 returns-in_err-values c =

@@ -1,7 +1,7 @@
 use Rattle.std.proofs.Common.{◌≡◌, length}
 use Rattle.cob_interp.specs.Running.{Outside, IsUnderway}
 use Rattle.cob_interp.specs.Setting.{program_of, paths_of}
-use Rattle.cob_interp.proofs.steps.go.Given as goal
+use Rattle.cob_interp.proofs.steps.go_through.Given as goal
 
 abbrev pub invariant-loop : goal.invariant-loop
 invariant-loop l = record {
