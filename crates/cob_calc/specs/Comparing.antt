@@ -35,6 +35,11 @@ pub record CanCompare (a b : Scaled) : Type 0 where
   pub left : unsigned_abs (units_at a (joint_scale a b)) < 10 ^ 37
   pub right : unsigned_abs (units_at b (joint_scale a b)) < 10 ^ 37
 
+-- where both are there, they can be compared
+abbrev pub AreComparable : Option Scaled → Option Scaled → Type 0
+AreComparable (Some a) (Some b) = CanCompare a b
+AreComparable _ _ = Unit {0}
+
 -- the bytes of a side of a comparison
 abbrev pub plain_text : Text → List ℕ
 plain_text (text.Bytes b) = b.now

@@ -168,6 +168,10 @@ pub record IsWorked (c : Contents) (s : Sum) (ts : List Target) (remainder : Opt
   pub value : some_part ts ≡ true → w.value ≡ sum_value (amount_at c) s
   pub small : IfSome w.whole IsSmallExact
 
+-- a value, and no whole
+abbrev pub without_whole : Option Scaled → Worked
+without_whole v = record { whole = None; value = v }
+
 abbrev pub AreWorked : Contents → Sum → List Target → Option ℕ → Option Worked → Type 0
 AreWorked c s ts remainder None = are_numeric c.layout c.storage (items_in s) ≡ false
 AreWorked c s ts remainder (Some w) = IsWorked c s ts remainder w

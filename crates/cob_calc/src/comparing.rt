@@ -1,13 +1,12 @@
 //! Comparisons of numbers (ISO 1989:1985, "Comparison of numeric operands").
 ghost use Rattle.std.specs.Prelude.{◌≡◌, ◌-ℤ◌, true};
 ghost use Rattle.cob_program.specs.SumView.{plain_sum};
-ghost use Rattle.cob_program.specs.Values.{sum_value};
 ghost use Rattle.cob_program.specs.Bounds.{is_small_sides};
 ghost use Rattle.cob_runs.specs.Computing.{items_in};
 ghost use Rattle.cob_runs.specs.Deciding.{holds, order_of, number_order, decided, compared_numbers};
-ghost use Rattle.cob_calc.specs.Contents.{IsSound, amount_at, bound_at};
+ghost use Rattle.cob_calc.specs.Contents.{IsSound, bound_at};
 ghost use Rattle.cob_calc.specs.Arithmetic.{are_numbers};
-ghost use Rattle.cob_calc.specs.Comparing.{plain_order, CanCompare};
+ghost use Rattle.cob_calc.specs.Comparing.{plain_order, CanCompare, AreComparable};
 
 use crate::contents::Contents;
 use cob_program::Sum;
@@ -53,16 +52,14 @@ pub fn number_order(a: Scaled, b: Scaled) -> Ordering
 }
 
 impl<'a> Contents<'a> {
-    // the two sides, whose items are numeric
-    fn decide(&self, left: &Sum, rel: Rel, right: &Sum) -> Result<bool, Kind>
-        requires sound { IsSound self.now }
-        requires small { is_small_sides (bound_at self.now.layout) (plain_sum left.now) (plain_sum right.now) ≡ true }
-        ensures { result ≡ decided self.now.layout self.now.storage rel (sum_value (amount_at self.now)
-            (plain_sum left.now)) (sum_value (amount_at self.now) (plain_sum right.now)) }
+    // two sides whose items are numeric
+    fn decide(&self, left: Option<Scaled>, rel: Rel, right: Option<Scaled>) -> Result<bool, Kind>
+        requires { AreComparable left right }
+        ensures { result ≡ decided self.now.layout self.now.storage rel left right }
     {
-        match self.total(left) {
+        match left {
             None => Err(Kind::Zero),
-            Some(a) => match self.total(right) {
+            Some(a) => match right {
                 None => Err(Kind::Zero),
                 Some(b) => Ok(holds(rel, number_order(a, b))),
             },
@@ -78,12 +75,12 @@ impl<'a> Contents<'a> {
         ensures { result ≡ compared_numbers self.now.layout self.now.storage (plain_sum left.now) rel
             (plain_sum right.now) }
     {
-        if !self.is_sum_numeric(left) {
-            return Err(Kind::Class);
+        match self.total(left) {
+            None => Err(Kind::Class),
+            Some(a) => match self.total(right) {
+                None => Err(Kind::Class),
+                Some(b) => self.decide(a, rel, b),
+            },
         }
-        if !self.is_sum_numeric(right) {
-            return Err(Kind::Class);
-        }
-        self.decide(left, rel, right)
     }
 }

@@ -1,12 +1,12 @@
 //! Sums that are no more than one operand.
-ghost use Rattle.std.specs.Prelude.{◌≡◌, true, false, map, IfSome};
+ghost use Rattle.std.specs.Prelude.{◌≡◌, true, false, map, option_map, IfSome, Some};
 ghost use Rattle.cob_program.specs.Sum.{MkSum, MkPart, MkFactor, parts_of, factors_of};
 ghost use Rattle.cob_program.specs.SumView.{plain_sum, plain_part, plain_factor, plain_atom};
-ghost use Rattle.cob_program.specs.Values.{sum_value};
-ghost use Rattle.cob_program.specs.Bounds.{is_small_sum, IsSmall};
-ghost use Rattle.cob_runs.specs.Computing.{are_numeric, items_in};
-ghost use Rattle.cob_calc.specs.Contents.{IsSound, amount_at, bound_at};
-ghost use Rattle.cob_calc.specs.Operand.{plain_operand, only_factor, only};
+ghost use Rattle.cob_program.specs.Bounds.{is_small_sum};
+ghost use Rattle.cob_runs.specs.Computing.{items_in};
+ghost use Rattle.cob_calc.specs.Contents.{IsSound, bound_at};
+ghost use Rattle.cob_calc.specs.Arithmetic.{are_numbers};
+ghost use Rattle.cob_calc.specs.Operand.{plain_operand, only_factor, only, read_sum};
 
 use crate::contents::Contents;
 use crate::numbers::literal;
@@ -78,30 +78,34 @@ fn operand_of(sum: &Sum) -> Option<Operand<'_>>
     operand_of_parts(&sum.parts)
 }
 
-impl<'a> Contents<'a> {
-    /// Whether each item of a sum can be read as a number.
-    pub fn is_sum_numeric(&self, sum: &Sum) -> bool
-        requires { IsSound self.now }
-        ensures { result ≡ are_numeric self.now.layout self.now.storage (items_in (plain_sum sum.now)) }
-    {
-        match operand_of(sum) {
-            Some(Operand::Item(place)) => self.is_numeric(place),
-            Some(Operand::Number(_)) => true,
-            None => self.are_operands_numeric(sum),
-        }
+fn read(number: Option<Scaled>) -> Option<Option<Scaled>>
+    ensures { result ≡ option_map Some number }
+{
+    match number {
+        None => None,
+        Some(number) => Some(Some(number)),
     }
+}
 
-    /// What a sum is worth; nothing where a divisor in it is 0.
-    pub fn total(&self, sum: &Sum) -> Option<Scaled>
+impl<'a> Contents<'a> {
+    /// What a sum is worth where each of its items can be read as a number, with nothing inside where a divisor in it
+    /// is 0; nothing where an item can't be read so.
+    pub fn total(&self, sum: &Sum) -> Option<Option<Scaled>>
         requires sound { IsSound self.now }
+        requires numbers { are_numbers self.now.layout (items_in (plain_sum sum.now)) ≡ true }
         requires small { is_small_sum (bound_at self.now.layout) (plain_sum sum.now) ≡ true }
-        ensures value { result ≡ sum_value (amount_at self.now) (plain_sum sum.now) }
-        ensures small { IfSome result IsSmall }
+        ensures { result ≡ read_sum self.now (plain_sum sum.now) }
     {
         match operand_of(sum) {
-            Some(Operand::Item(place)) => Some(self.item_value(place)),
-            Some(Operand::Number(number)) => Some(literal(number)),
-            None => self.sum(sum),
+            Some(Operand::Item(place)) => read(self.item_number(place)),
+            Some(Operand::Number(number)) => Some(Some(literal(number))),
+            None => {
+                if self.are_operands_numeric(sum) {
+                    Some(self.sum(sum))
+                } else {
+                    None
+                }
+            }
         }
     }
 }

@@ -101,7 +101,8 @@ impl<'a> Contents<'a> {
         }
     }
 
-    fn item_number(&self, place: u32) -> Option<Scaled>
+    /// The number of an item that is one, if it is numeric.
+    pub fn item_number(&self, place: u32) -> Option<Scaled>
         requires sound { IsSound self.now }
         requires number { is_number_end self.now.layout self.now.storage (Sender.Item place) ≡ true }
         ensures value { result ≡ number_at self.now.layout self.now.storage place }

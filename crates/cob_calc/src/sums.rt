@@ -15,7 +15,7 @@ use dec_num::Scaled;
 impl<'a> Contents<'a> {
     // what an item is worth, where its picture is small
     #[tactic(auto, using(crate::proofs::SumLemmas::amount_small))]
-    pub fn item_value(&self, place: u32) -> Scaled
+    fn item_value(&self, place: u32) -> Scaled
         requires sound { IsSound self.now }
         requires small { is_small (bound_at self.now.layout place) ≡ true }
         ensures value { result ≡ amount_at self.now place }

@@ -1,11 +1,11 @@
 //! An arithmetic statement's sum, worked out for its receivers.
-ghost use Rattle.std.specs.Prelude.{◌≡◌, ◌||◌, true, is_some, IfSome};
+ghost use Rattle.std.specs.Prelude.{◌≡◌, ◌||◌, true, is_some, option_map, IfSome};
 ghost use Rattle.cob_program.specs.SumView.{plain_sum};
 ghost use Rattle.cob_program.specs.Values.{sum_value};
 ghost use Rattle.cob_program.specs.Bounds.{is_small_sum, is_small_stored};
 ghost use Rattle.cob_calc.specs.Contents.{IsSound, amount_at, bound_at};
 ghost use Rattle.cob_calc.specs.Exact.{exact_value, IsSmallExact};
-ghost use Rattle.cob_calc.specs.Receiving.{some_whole, some_part, AreWorked};
+ghost use Rattle.cob_calc.specs.Receiving.{some_whole, some_part, without_whole, AreWorked};
 ghost use Rattle.cob_calc.specs.Arithmetic.{are_small_results, CanCompute};
 
 use crate::contents::Contents;
@@ -24,6 +24,16 @@ fn wants_whole(remainder: Option<u32>, targets: &[Target]) -> bool
     }
 }
 
+// what receivers get that ask for no whole
+fn worked_part(value: Option<Option<Scaled>>) -> Option<Worked>
+    ensures { result ≡ option_map without_whole value }
+{
+    match value {
+        None => None,
+        Some(value) => Some(Worked { whole: None, value }),
+    }
+}
+
 impl<'a> Contents<'a> {
     fn whole_if(&self, wanted: bool, common: &Sum) -> Option<Exact>
         requires sound { IsSound self.now }
@@ -39,7 +49,7 @@ impl<'a> Contents<'a> {
         requires small { wanted ≡ true → is_small_sum (bound_at self.now.layout) (plain_sum common.now) ≡ true }
         ensures { wanted ≡ true → result ≡ sum_value (amount_at self.now) (plain_sum common.now) }
     {
-        if wanted { self.total(common) } else { None }
+        if wanted { self.sum(common) } else { None }
     }
 
     // what the receivers of a statement get
@@ -61,7 +71,7 @@ impl<'a> Contents<'a> {
     }
 
     /// What the receivers of a statement get; nothing where an operand isn't numeric.
-    #[tactic(auto, using(crate::proofs::WorkLemmas::rest_is_small))]
+    #[tactic(auto, using(crate::proofs::WorkLemmas::rest_is_small, crate::proofs::WorkLemmas::sum_is_small))]
     pub fn operands(
         &self,
         common: &Sum,
@@ -72,7 +82,10 @@ impl<'a> Contents<'a> {
         requires can { CanCompute self.now.layout (plain_sum common.now) targets.now remainder }
         ensures { AreWorked self.now (plain_sum common.now) targets.now remainder result }
     {
-        if self.is_sum_numeric(common) {
+        if some_part(targets) && !wants_whole(remainder, targets) {
+            return worked_part(self.total(common));
+        }
+        if self.are_operands_numeric(common) {
             Some(self.worked(common, targets, remainder))
         } else {
             None

@@ -72,16 +72,6 @@ part_passes makes f old mid new part (inr other) = inr other
 -- ---- all files
 
 module _ (paths : List (List ℕ)) (makes : ℕ → Bool) (w : World) where
-  pub touches_none : (a : FilesState) → Touches paths makes w a a
-  touches_none a = record {
-    ids = ids_stay a;
-    known = λ told e. record {
-      now = told;
-      is = e;
-      touches = record { its = λ place path f at has. inl refl; others = λ name none. refl };
-    };
-  }
-
   pub touches_pass : (a b c : FilesState) → Touches paths makes w a b → Touches paths makes w b c
       → Touches paths makes w a c
   touches_pass a b c h k = record {

@@ -31,7 +31,8 @@ use Rattle.cob_interp.specs.Walking.{by_sink, as_result, IsSinkRefusal, TellsByS
 use Rattle.cob_interp.proofs.Passing.{append_none, rests_on}
 use Rattle.cob_interp.proofs.Onward.{ends_well, spends}
 use Rattle.cob_interp.proofs.CloseLemmas.{rose_on}
-use Rattle.cob_interp.proofs.Breaking.{told_on, touches_none, broken_here, rests_break}
+use Rattle.cob_interp.proofs.Touched.{touches_stay}
+use Rattle.cob_interp.proofs.Breaking.{told_on, broken_here, rests_break}
 use Rattle.cob_interp.proofs.Flushing.{stands_shown, rests_flushed}
 use Rattle.cob_interp.proofs.Putting.{contents_told, all_done}
 
@@ -89,7 +90,7 @@ module _ (p : Program) (g : Graph) (paths : List (List ℕ)) (budget : ℕ) wher
       if_refused (Err (by_sink e)) (IsBroken p g paths budget start (outside files new))
           (broken_here p g paths budget start (outside files old)
           (outside files new) w steps node x a refuses.front.0 within at starts its
-          (touches_none paths (makes_by a) w files) refuses.front.1 here.stands),
+          (touches_stay paths (makes_by a) w files) refuses.front.1 here.stands),
     )
 
     goes_by : (old new : FilesState) (sink : SinkState) (w v : World) (step : ℕ) (r : Result ℕ RunEnd)
@@ -212,7 +213,7 @@ module _ (p : Program) (g : Graph) (paths : List (List ℕ)) (budget : ℕ) wher
           (outside files new) rests.text e rests.well refuses.why;
       part = if_refused (Err (by_sink e)) (IsBroken p g paths budget start (outside files new))
           (rests_break p g paths budget start (outside files old) (outside files new) w r refuses.front.0
-          (touches_none paths makes_none w files) refuses.front.1 rests);
+          (touches_stay paths makes_none w files) refuses.front.1 rests);
     }
 
     module _ (flushes : Flushes old new w v) (behind : FilesState)

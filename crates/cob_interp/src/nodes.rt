@@ -31,6 +31,7 @@ fn halt_of(end: DoEnd, statement: u32, step: u64) -> RunEnd
 }
 
 /// Does the part of a node, where no file has to be made ready for it. Answers the next node.
+#[inline(never)]
 pub fn do_part(
     alloc: Global,
     setting: &Setting,

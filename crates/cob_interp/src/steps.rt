@@ -48,6 +48,7 @@ fn do_node(
 
 /// Goes on in a step that is underway, of a statement that is neither OPEN nor CLOSE, until another begins or the run
 /// has ended. Answers the node.
+#[inline(never)]
 fn go_through(
     alloc: Global,
     setting: &Setting,
@@ -73,6 +74,7 @@ fn go_through(
 
 /// Does all of a step from the place at which it begins, of a statement that is neither OPEN nor CLOSE. Answers the node
 /// behind it.
+#[inline(always)]
 fn go(
     alloc: Global,
     setting: &Setting,

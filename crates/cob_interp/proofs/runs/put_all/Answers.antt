@@ -1,13 +1,14 @@
 use Rattle.cob_interp.specs.Setting.{paths_of}
 use Rattle.cob_interp.specs.Touching.{makes_none}
-use Rattle.cob_interp.proofs.Breaking.{touches_none, touches_pass}
+use Rattle.cob_interp.proofs.Touched.{touches_stay}
+use Rattle.cob_interp.proofs.Breaking.{touches_pass}
 use Rattle.cob_interp.proofs.Putting.{puts_none, puts_next}
 use Rattle.cob_interp.proofs.runs.put_all.Goals as goal
 
 pub loop-place-init : goal.loop-place-init
 loop-place-init g c = record {
   puts = puts_none (paths_of c.args.setting.now) c.args.world.now _;
-  touches = touches_none (paths_of c.args.setting.now) makes_none c.args.world.now _;
+  touches = touches_stay (paths_of c.args.setting.now) makes_none c.args.world.now _;
 }
 
 pub returns-in_err-put_at-clause-touches : goal.returns-in_err-put_at-clause-touches
