@@ -21,7 +21,7 @@ use Rattle.cob_interp.specs.Told.{seen, seen_file, seen_files, IsSyncedIn, IsSyn
 use Rattle.cob_interp.specs.Touching.{IsPartOf, makes_by, makes_none, TouchesIn, Touches}
 use Rattle.cob_interp.specs.Running.{Outside, IfTold, makes_next, StandsIn, Stands, RestsIn, Rests, BreaksOff, IsBroken}
 use Rattle.cob_interp.proofs.SeenFiles.{SeenAt, seen_at}
-use Rattle.cob_interp.proofs.Passing.{ids_stay, ids_pass, append_twice}
+use Rattle.cob_interp.proofs.Passing.{ids_pass, append_twice}
 use Rattle.cob_interp.proofs.OneEndLemmas as one_end
 
 -- ---- contents that are told

@@ -6,14 +6,14 @@ use Rattle.cob_interp.proofs.steps.go.Goals as goal
 pub returns-in_err-next-clause-leads : goal.returns-in_err-next-clause-leads
 returns-in_err-next-clause-leads c =
     let p = err_from_is_err_and c.from_residual.result c.from_residual.ensures.1 in
-    rw (p.1, p.2) (λ now budget. c.do_plain.ensures.leads now c.args.node budget c.requires.place)
+    rw (p.1, p.2) (λ now budget. c.in_err-next.ensures.leads now c.args.node budget c.requires.place)
 
 pub returns-then-rests_at-clause-leads : goal.returns-then-rests_at-clause-leads
 returns-then-rests_at-clause-leads c =
     λ now budget. c.in_ok-next.ensures.leads now c.args.node budget c.requires.place
 
-pub returns-in_ok-next-clause-leads : goal.returns-in_ok-next-clause-leads
-returns-in_ok-next-clause-leads c = λ now budget start within u.
+pub returns-clause-leads : goal.returns-clause-leads
+returns-clause-leads c = λ now budget start within u.
     c.go_through.ensures.leads now budget start within
     (goes_on_underway c.args.setting.now start now _ c.args.step _
     (c.rests_at.ensures c.if-rests_at.false)
