@@ -153,18 +153,6 @@ fn items_that_overlap_are_moved_as_through_a_copy(rt: HostRuntime) -> Result<(),
 }
 
 #[test]
-fn an_item_of_many_bytes_is_moved_to(rt: HostRuntime) -> Result<(), Fail> {
-    let (first, second) = (Form::Text { length: 2 }, Form::Text { length: 70 });
-    let layout = pair(rt.alloc(), first, 2, second, 2, 70)?;
-    let mut storage = [b'?'; 72];
-    let text = Sender::Text(Bytes::of(rt.alloc(), b"xy")?);
-    after_move(rt.alloc(), &layout, &mut storage, &text, &[1])?;
-    assert_eq!(rt; &storage[..6], b"??xy  ".as_slice());
-    assert_eq!(rt; &storage[68..], b"    ".as_slice());
-    Ok(())
-}
-
-#[test]
 fn contents_are_read_as_numbers(rt: HostRuntime) -> Result<(), Fail> {
     let layout = pair(
         rt.alloc(),
