@@ -46,6 +46,7 @@ impl<'a> Contents<'a> {
     }
 
     // two numbers by their values, else by their bytes
+    #[inline(always)]
     fn compare(&self, left: &Sender, rel: Rel, right: &Sender) -> Result<bool, Kind>
         requires sound { IsSound self.now }
         requires left { IsSoundEnd left.now }

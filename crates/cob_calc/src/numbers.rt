@@ -86,8 +86,32 @@ pub fn with_factor(over: bool, a: Scaled, b: Scaled) -> Option<Scaled>
 }
 
 // The number that digits write.
-#[tactic(auto, using(crate::proofs::NumberLemmas::numerals))]
 fn numeral(digits: &[u8]) -> i128
+    requires { length digits.now ≤ 37 }
+    ensures { result ≡ pos (numeral 0 digits.now) }
+{
+    if digits.len() <= 18 {
+        short_numeral(digits) as i128
+    } else {
+        long_numeral(digits)
+    }
+}
+
+// the same of few digits
+#[tactic(auto, using(crate::proofs::NumberLemmas::numerals))]
+fn short_numeral(digits: &[u8]) -> u64
+    requires { length digits.now ≤ 18 }
+    ensures { result ≡ numeral 0 digits.now }
+{
+    let mut value = 0;
+    for digit in digits {
+        value = 10 * value + u64::from(digit.saturating_sub(48).min(9));
+    }
+    value
+}
+
+#[tactic(auto, using(crate::proofs::NumberLemmas::numerals))]
+fn long_numeral(digits: &[u8]) -> i128
     requires { length digits.now ≤ 37 }
     ensures { result ≡ pos (numeral 0 digits.now) }
 {

@@ -78,6 +78,7 @@ fn operand_of(sum: &Sum) -> Option<Operand<'_>>
     operand_of_parts(&sum.parts)
 }
 
+#[inline(always)]
 fn read(number: Option<Scaled>) -> Option<Option<Scaled>>
     ensures { result ≡ option_map Some number }
 {
@@ -90,6 +91,7 @@ fn read(number: Option<Scaled>) -> Option<Option<Scaled>>
 impl<'a> Contents<'a> {
     /// What a sum is worth where each of its items can be read as a number, with nothing inside where a divisor in it
     /// is 0; nothing where an item can't be read so.
+    #[inline(always)]
     pub fn total(&self, sum: &Sum) -> Option<Option<Scaled>>
         requires sound { IsSound self.now }
         requires numbers { are_numbers self.now.layout (items_in (plain_sum sum.now)) ≡ true }

@@ -61,6 +61,7 @@ fn kept(phrase: bool, held: bool) -> Result<bool, Kind>
 
 /// Gives a receiver its result, if there is one. Answers whether there is a size error that the phrase handles.
 
+#[inline(always)]
 pub fn put(
     layout: &Layout,
     phrase: bool,

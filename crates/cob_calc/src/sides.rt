@@ -39,6 +39,7 @@ fn form_length(form: &Form, length: u32) -> u32
 
 // The number that a numeric item of this form holds, if it is numeric.
 #[tactic(auto, using(crate::proofs::SideLemmas::numbers))]
+#[inline(always)]
 fn number_of(form: &Form, bytes: &[u8]) -> Option<Scaled>
     requires sound { IsSoundForm form.now (length bytes.now) }
     requires number { is_number_form form.now ≡ true }
@@ -102,6 +103,7 @@ impl<'a> Contents<'a> {
     }
 
     /// The number of an item that is one, if it is numeric.
+    #[inline(always)]
     pub fn item_number(&self, place: u32) -> Option<Scaled>
         requires sound { IsSound self.now }
         requires number { is_number_end self.now.layout self.now.storage (Sender.Item place) ≡ true }
@@ -158,6 +160,7 @@ impl<'a> Contents<'a> {
     }
 
     /// A side as text beside another, whose length a figurative constant takes; nothing where a numeric item isn't numeric.
+    #[inline(always)]
     pub fn text<'b>(&'b self, side: &'b Sender, other: &Sender) -> Option<Text<'b>>
         requires { IsSound self.now }
         ensures value { option_map plain_text result ≡ text_of self.now.layout self.now.storage

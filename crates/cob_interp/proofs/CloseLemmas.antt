@@ -70,7 +70,7 @@ own_synced told paths fs place path f s at has =
 
 module _ (s : Setting) (budget : ℕ) (x : Place) (step node : ℕ) (sink : SinkState) (old new : FilesState) (w v : World)
     (apart : AreDistinct (paths_of s)) (is : IsPlace s node x) (k fine bad file : ℕ) (fs : List ℕ)
-    (op_is : x.spot.op ≡ op.Close k fine bad) (its : plain_act x.statement.now.act.now ≡ close_files fs)
+    (op_is : x.spot.now.op ≡ op.Close k fine bad) (its : plain_act x.statement.now.act.now ≡ close_files fs)
     (at : slice_get fs k ≡ Some file) (ready : ReadyToClose s w file old new) where
   own : x.statement.now.number ≡ is.spot.node.statement
   own = is.number ∙ is.spot.statement
@@ -81,7 +81,7 @@ module _ (s : Setting) (budget : ℕ) (x : Place) (step node : ℕ) (sink : Sink
   edge_follows : (first told now : Contents) (text : List ℕ) (left : ℕ) → AgreeBut told now ready.path
       → IsReadyToClose told now ready.path ready.file
       → StandsIn (program_of s) s.graph.now (paths_of s) first told text w left step node
-      → (a : Action) (m : ℕ) → Contains (op_edges x.spot.op) (a, m)
+      → (a : Action) (m : ℕ) → Contains (op_edges x.spot.now.op) (a, m)
       → EdgeFollows (program_of s) is.spot.node.statement told now (paths_of s) text w a
   edge_follows first told now text left but it st a m out =
       close_edge (program_of s) is.spot.node.statement told now (paths_of s) text w k fs file act_is at
@@ -91,7 +91,7 @@ module _ (s : Setting) (budget : ℕ) (x : Place) (step node : ℕ) (sink : Sink
       (own_synced told (paths_of s) w.files file ready.path ready.file st.synced ready.is.path_ ready.has))
       a m fine bad (subst (λ (o : Op). Contains (op_edges o) (a, m)) op_is out)
 
-  leads_by : (outcome : Result ℕ DoEnd) → Does (program_of s) x.statement.now.number x.spot.op w v outcome
+  leads_by : (outcome : Result ℕ DoEnd) → Does (program_of s) x.statement.now.number x.spot.now.op w v outcome
       → Leads s budget step node (outside old sink) (outside new sink) w v
       (answered x.statement.now.number step outcome)
   leads_by (Ok to) done start within u =

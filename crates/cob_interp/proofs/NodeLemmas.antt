@@ -26,7 +26,7 @@ module _ (s : Setting) (budget : ℕ) (x : Place) (step node : ℕ) (now : Outsi
   its : act_at (program_of s) is.spot.node.statement ≡ Some (plain_act x.statement.now.act.now)
   its = subst (λ (n : ℕ). act_at (program_of s) n ≡ Some (plain_act x.statement.now.act.now)) own is.statement.its
 
-  leads_by : (outcome : Result ℕ DoEnd) → Does (program_of s) x.statement.now.number x.spot.op w v outcome
+  leads_by : (outcome : Result ℕ DoEnd) → Does (program_of s) x.statement.now.number x.spot.now.op w v outcome
       → Leads s budget step node now now w v (answered x.statement.now.number step outcome)
   leads_by (Ok to) done start within u =
       stands_on (program_of s) s.graph.now (paths_of s) start now w v u.left step node step step to

@@ -114,7 +114,7 @@ opened_all s start now w steps node number os its opens = record {
 module _ (s : Setting) (budget steps step node : ℕ) (sink : SinkState) (old mid : FilesState) (w u v : World)
     (apart : AreDistinct (paths_of s))
     (x : Place) (is : IsPlace s node x) (k fine bad : ℕ) (os : List Opening) (o : Opening)
-    (op_is : x.spot.op ≡ op.Open k fine bad)
+    (op_is : x.spot.now.op ≡ op.Open k fine bad)
     (at : slice_get os k ≡ Some o) (ready : ReadyToOpen s w u o old mid) (counted : step ≡ steps + 1) where
   abbrev number : ℕ
   number = is.spot.node.statement
@@ -141,7 +141,7 @@ module _ (s : Setting) (budget steps step node : ℕ) (sink : SinkState) (old mi
 
     module _ (first told now : Contents) (e : known_bytes old ≡ Some told) (but : AgreeBut told now ready.path)
         (it : IsReadyToOpen told now ready.path o.output ready.file) (t : Before first told) (a : Action) (m : ℕ)
-        (out : Contains (op_edges x.spot.op) (a, m)) where
+        (out : Contains (op_edges x.spot.now.op) (a, m)) where
       abbrev seen_before : World
       seen_before = seen told (paths_of s) text w
 
@@ -223,7 +223,7 @@ module _ (s : Setting) (budget steps step node : ℕ) (sink : SinkState) (old mi
           unhandled on.1 others_
           (subst (AreFree (program_of s) (told_files first (paths_of s))) (sym counted) free) budget (omega arith))
 
-    arrives : (outcome : Result ℕ DoEnd) → Does (program_of s) x.statement.now.number x.spot.op u v outcome
+    arrives : (outcome : Result ℕ DoEnd) → Does (program_of s) x.statement.now.number x.spot.now.op u v outcome
         → ArrivesOpening (program_of s) s.graph.now (paths_of s) budget start (outside mid sink) v steps number os
         (drop (k + 1) os)
         (answered x.statement.now.number step outcome)
@@ -261,7 +261,7 @@ module _ (s : Setting) (budget steps step node : ℕ) (sink : SinkState) (old mi
     }
     arrives (Err does.Memory) done = tt
 
-  pub open_leads : (number_ : ℕ) → x.spot.statement ≡ number_ → (result : Result ℕ RunEnd)
+  pub open_leads : (number_ : ℕ) → x.spot.now.statement ≡ number_ → (result : Result ℕ RunEnd)
       → DoesPart s x step u v result
       → LeadsOpening s budget steps node number_ os k (outside old sink) (outside mid sink) w v result
   open_leads number_ same result d =

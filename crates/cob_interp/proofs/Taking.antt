@@ -120,7 +120,7 @@ module _ (s : Setting) (node : ℕ) (x : Place) (is : StartsAt s node x) where
     -- an OPEN
     pub opening_begins : (new : Outside) (v : World) (result : Result ℕ RunEnd) (os : List Opening)
         → act_ ≡ open_files os
-        → LeadsOver s budget steps node x.spot.statement os old new w v result
+        → LeadsOver s budget steps node x.spot.now.statement os old new w v result
         → Arrives (program_of s) s.graph.now (paths_of s) budget start new v step result
     opening_begins new v result os opens leads =
         subst (λ (n : ℕ). Arrives (program_of s) s.graph.now (paths_of s) budget start new v n result) (sym counted)

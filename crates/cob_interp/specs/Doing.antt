@@ -41,7 +41,7 @@ answered statement step (Err e) = Err (halted statement step e)
 -- a node's part is done, or why not is told
 pub record DoesPart (s : Setting) (x : Place) (step : ℕ) (w v : World) (result : Result ℕ RunEnd) : Type 0 where
   pub outcome : Result ℕ DoEnd
-  pub does : Does (program_of s) x.statement.now.number x.spot.op w v outcome
+  pub does : Does (program_of s) x.statement.now.number x.spot.now.op w v outcome
   pub told : result ≡ answered x.statement.now.number step outcome
 
 -- from a node on in a step that is underway

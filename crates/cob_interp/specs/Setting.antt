@@ -30,14 +30,14 @@ pub record IsReady (s : Setting) : Type 0 where
 
 -- a node, and its statement
 pub record IsPlace (s : Setting) (node : ℕ) (x : Place) : Type 0 where
-  pub spot : IsSpot s.graph.now node x.spot
+  pub spot : IsSpot s.graph.now node x.spot.now
   pub statement : IsStatement (program_of s) x.statement.now
-  pub number : x.statement.now.number ≡ x.spot.statement
+  pub number : x.statement.now.number ≡ x.spot.now.statement
 
 -- a node at which a step begins, and its statement
 pub record StartsAt (s : Setting) (node : ℕ) (x : Place) : Type 0 where
   pub is : IsPlace s node x
-  pub starts : x.spot.starts ≡ true
+  pub starts : x.spot.now.starts ≡ true
 
 -- of some node
 abbrev pub IsPlaced : Setting → Place → Type 0

@@ -31,7 +31,7 @@ fn halt_of(end: DoEnd, statement: u32, step: u64) -> RunEnd
 }
 
 /// Does the part of a node, where no file has to be made ready for it. Answers the next node.
-#[inline(never)]
+#[inline(always)]
 pub fn do_part(
     alloc: Global,
     setting: &Setting,
@@ -58,6 +58,7 @@ pub fn do_part(
 }
 
 /// Does the part of a node whose statement is neither OPEN nor CLOSE.
+#[inline(always)]
 pub fn do_plain(
     alloc: Global,
     setting: &Setting,

@@ -21,7 +21,7 @@ pub struct Setting<'a> {
 /// A node with its statement.
 #[derive(Drop)]
 pub struct Place<'a, 'b> {
-    pub spot: Spot,
+    pub spot: &'a Spot,
     pub statement: &'a Statement<'b>,
 }
 

@@ -30,6 +30,7 @@ fn scaled(units: i64, scale: u32) -> Scaled
 }
 
 /// The number that the bytes of an item of this form are read as, if they are numeric.
+#[inline(always)]
 pub fn number_in(form: &Form, bytes: &[u8]) -> Option<Scaled>
     requires sound { IsSoundForm form.now (length bytes.now) }
     requires short { IsShort form.now }
@@ -48,6 +49,7 @@ pub fn number_in(form: &Form, bytes: &[u8]) -> Option<Scaled>
 
 /// The number that the item at a place holds, if its contents are numeric; a text is read as a whole number, and has at
 /// most 18 bytes (ISO 1989:1985, "Class condition").
+#[inline(always)]
 pub fn number_at(layout: &Layout, storage: &[u8], place: u32) -> Option<Scaled>
     requires sound { HasSoundItems layout.now }
     requires whole { length storage.now ≡ layout.now.storage }

@@ -1,6 +1,8 @@
 -- Nodes of a graph, read one after another.
 use Rattle.std.proofs.Common.{◌≡◌, ◌<◌, ◌≤◌, ℕ, zero, suc, ◌+◌, List, [], ◌∷◌, ◌++◌, length, map, take, drop, get_or, refl, sym, ap, ◌∙◌, subst, add-one, length-append, arith, ◌⊎◌, inl, inr}
 use Rattle.std.specs.Prelude.{slice_get, Contains, Option, Some, None, IfSome}
+use Rattle.std.specs.Borrow.{Bor}
+use Rattle.std.specs.Option.{option_copied}
 use Rattle.std.specs.List.{All}
 use Rattle.std.proofs.lemmas.List.Elements.{All-contains, All-map, All-take, All-drop, All-same, All-contains_itself}
 use Rattle.std.proofs.lemmas.Option.{slice_get-get_or}
@@ -77,8 +79,8 @@ all_spots g spots count past within first = record { each = first.each; all = om
 
 -- ---- a node that is looked up
 
-pub spot_there : (g : Graph) (spots : List Spot) (r : Option Spot) (i n : ℕ) → AreSpots g spots → r ≡ slice_get spots i →
-    n ≡ suc i → IfSome r (λ s. IsSpot g n s)
+pub spot_there : (g : Graph) (spots : List Spot) (r : Option (Bor Spot)) (i n : ℕ) → AreSpots g spots → option_copied r ≡ slice_get spots i →
+    n ≡ suc i → IfSome r (λ s. IsSpot g n s.now)
 spot_there g spots None i n are is counted = tt
 spot_there g spots (Some s) i n are is counted =
-    subst (λ m. IsSpot g m s) (sym counted) (are.each i s (sym is))
+    subst (λ m. IsSpot g m s.now) (sym counted) (are.each i s.now (sym is))

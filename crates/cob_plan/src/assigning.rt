@@ -191,23 +191,18 @@ pub fn count_down(layout: &Layout, number: u32, world: &mut World) -> Result<(),
 
 // ---- shown text
 
-fn show_all(
-    alloc: Global,
-    layout: &Layout,
-    senders: &[Sender],
-    world: &mut World,
-) -> Result<(), DoEnd>
+fn show_all(layout: &Layout, senders: &[Sender], world: &mut World) -> Result<(), DoEnd>
     requires sound { HasSoundItems layout.now }
     requires whole { length world.old.storage ≡ layout.now.storage }
     ensures value { Meets (taken (show layout.now senders.now world.old)) world.old world.new result }
     ensures kept { length world.new.storage ≡ length world.old.storage }
 {
-    world.show(alloc, layout, senders)?;
+    world.show(layout, senders)?;
     Ok(())
 }
 
 /// DISPLAY.
-pub fn show(alloc: Global, program: &Program, act: &Act, world: &mut World) -> Result<(), DoEnd>
+pub fn show(program: &Program, act: &Act, world: &mut World) -> Result<(), DoEnd>
     requires sound { HasSoundItems program.now.layout }
     requires whole { length world.old.storage ≡ program.now.layout.storage }
     ensures value { (number : ℕ) → Meets (shown (plain_program program.now) number None world.old (plain_act act.now))
@@ -215,7 +210,7 @@ pub fn show(alloc: Global, program: &Program, act: &Act, world: &mut World) -> R
     ensures kept { length world.new.storage ≡ length world.old.storage }
 {
     match act {
-        Act::Show(senders) => show_all(alloc, &program.layout, senders.get(), world),
+        Act::Show(senders) => show_all(&program.layout, senders.get(), world),
         _ => Err(DoEnd::Memory),
     }
 }

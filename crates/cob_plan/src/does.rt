@@ -25,6 +25,7 @@ fn do_skip(program: &Program, statement: &Statement, to: u32, world: &World) -> 
     led(Ok(()), to)
 }
 
+#[inline(never)]
 fn do_assign(
     alloc: Global,
     program: &Program,
@@ -41,8 +42,8 @@ fn do_assign(
     led(assign(alloc, program, statement.act, world), to)
 }
 
+#[inline(never)]
 fn do_show(
-    alloc: Global,
     program: &Program,
     statement: &Statement,
     to: u32,
@@ -54,9 +55,10 @@ fn do_show(
     ensures value { Does (plain_program program.now) statement.now.number (op.Show to) world.old world.new result }
     ensures kept { length world.new.storage ≡ length world.old.storage }
 {
-    led(show(alloc, program, statement.act, world), to)
+    led(show(program, statement.act, world), to)
 }
 
+#[inline(never)]
 fn do_set_count(
     program: &Program,
     statement: &Statement,
@@ -75,6 +77,7 @@ fn do_set_count(
     )
 }
 
+#[inline(never)]
 fn do_count_down(
     program: &Program,
     statement: &Statement,
@@ -90,6 +93,7 @@ fn do_count_down(
     led(count_down(&program.layout, statement.number, world), to)
 }
 
+#[inline(never)]
 fn do_compute(
     program: &Program,
     statement: &Statement,
@@ -110,6 +114,7 @@ fn do_compute(
     }
 }
 
+#[inline(never)]
 fn do_test(
     program: &Program,
     statement: &Statement,
@@ -126,6 +131,7 @@ fn do_test(
     forked(test(program, statement, place, world), held, other)
 }
 
+#[inline(never)]
 fn do_open(
     alloc: Global,
     program: &Program,
@@ -144,6 +150,7 @@ fn do_open(
     called(open(alloc, program, statement.act, file, world), fine, bad)
 }
 
+#[inline(never)]
 fn do_close(
     program: &Program,
     statement: &Statement,
@@ -161,6 +168,7 @@ fn do_close(
     called(close(program, statement.act, file, world), fine, bad)
 }
 
+#[inline(never)]
 fn do_read(
     program: &Program,
     statement: &Statement,
@@ -178,6 +186,7 @@ fn do_read(
     taken(read(program, statement.act, world), found, end, bad)
 }
 
+#[inline(never)]
 fn do_write(
     alloc: Global,
     program: &Program,
@@ -197,6 +206,7 @@ fn do_write(
 
 /// Does a node's part of its statement, and tells the number of the node to which that leads. A fault changes storage
 /// alone. A node that isn't one of the statement's ends as if memory ran out, and so does the final node.
+#[inline(always)]
 pub fn do_op(
     alloc: Global,
     program: &Program,
@@ -213,7 +223,7 @@ pub fn do_op(
     match *op {
         Op::Skip { to } => do_skip(program, statement, to, world),
         Op::Assign { to } => do_assign(alloc, program, statement, to, world),
-        Op::Show { to } => do_show(alloc, program, statement, to, world),
+        Op::Show { to } => do_show(program, statement, to, world),
         Op::SetCount { to } => do_set_count(program, statement, to, world),
         Op::CountDown { to } => do_count_down(program, statement, to, world),
         Op::Compute { fine, size } => do_compute(program, statement, fine, size, world),

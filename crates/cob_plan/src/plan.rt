@@ -1,6 +1,7 @@
 //! A program and its graph as the interpreter walks them.
 ghost use Rattle.std.specs.Prelude.{◌≡◌, slice_get, IfSome, IfOk};
 ghost use Rattle.std.specs.List.{All};
+ghost use Rattle.std.specs.Option.{option_copied};
 ghost use Rattle.cob_program.specs.Act as act;
 ghost use Rattle.cob_program.specs.ActView.{plain_program};
 ghost use Rattle.cob_graph.specs.declared.graph.Graph as declared_graph;
@@ -23,10 +24,10 @@ pub struct Plan<'a> {
     pub statements: Vec<Statement<'a>>,
 }
 
-fn spot_at(spots: &[Spot], place: usize) -> Option<Spot>
-    ensures { result ≡ slice_get spots.now place }
+fn spot_at(spots: &[Spot], place: usize) -> Option<&Spot>
+    ensures { option_copied result ≡ slice_get spots.now place }
 {
-    spots.get(place).copied()
+    spots.get(place)
 }
 
 impl<'a> Plan<'a> {
@@ -44,8 +45,8 @@ impl<'a> Plan<'a> {
     }
 
     /// The node with a number, which counts from 1.
-    pub fn spot(&self, number: u32) -> Option<Spot>
-        ensures { (g : declared_graph.Graph) → AreSpots g self.now.spots.items → IfSome result (λ s. IsSpot g number s) }
+    pub fn spot(&self, number: u32) -> Option<&Spot>
+        ensures { (g : declared_graph.Graph) → AreSpots g self.now.spots.items → IfSome result (λ s. IsSpot g number s.now) }
     {
         if number == 0 {
             return None;

@@ -134,7 +134,7 @@ impl<'a> Run<'a> {
             Act::Write { rec, from } => {
                 self.do_write(alloc, program, choice, number, *rec, from)
             }
-            Act::Show(senders) => self.do_show(alloc, program, senders.get()),
+            Act::Show(senders) => self.do_show(program, senders.get()),
         }
     }
 
@@ -255,12 +255,7 @@ impl<'a> Run<'a> {
         Ok(())
     }
 
-    fn do_show(
-        &mut self,
-        alloc: Global,
-        program: &'a Program,
-        senders: &[Sender],
-    ) -> Result<(), MoveEnd>
+    fn do_show(&mut self, program: &'a Program, senders: &[Sender]) -> Result<(), MoveEnd>
         requires sound { HasSoundItems program.now.layout }
         requires whole { length self.old.world.storage ≡ program.now.layout.storage }
         requires going { self.old.outcome ≡ Outcome.Going }
@@ -270,6 +265,6 @@ impl<'a> Run<'a> {
             result (plain_run self.old) (plain_run self.new) }
         ensures kept { length self.new.world.storage ≡ length self.old.world.storage }
     {
-        Ok(self.world.show(alloc, &program.layout, senders)?)
+        Ok(self.world.show(&program.layout, senders)?)
     }
 }

@@ -1,13 +1,21 @@
 -- All receivers of a MOVE, one after another.
-use Rattle.std.proofs.Common.{◌≡◌, ℕ, ◌+◌, ◌<◌, ◌≤◌, zero, suc, List, [], ◌∷◌, ◌++◌, length, get_or, take, drop, refl, ap, ◌∙◌, sym, subst, arith, Result, Ok, Err}
+use Rattle.std.proofs.Common.{◌≡◌, ℕ, ◌+◌, ◌<◌, ◌≤◌, zero, suc, List, [], ◌∷◌, ◌++◌, length, get_or, take, drop, Bool, true, false, Option, Some, None, refl, ap, ◌∙◌, sym, subst, arith, Result, Ok, Err}
 use Rattle.std.proofs.lemmas.List.{append_assoc, append-nil, drop_all}
 use Rattle.std.proofs.Math.Seq.{drop-cons}
+use Rattle.std.specs.Prelude.{is_some, IsTrue}
+use Rattle.dec_num.specs.declared.types.Mode.TheVariants.{Trunc}
+use Rattle.dec_num.specs.declared.types.Scaled.{Scaled}
+use Rattle.dec_num.specs.Scaled.{value_of}
 use Rattle.cob_tree.specs.declared.fault.Kind.{Kind}
+use Rattle.cob_tree.specs.declared.fault.Kind.TheVariants as kind
+use Rattle.cob_tree.specs.declared.form.Form.{Form}
+use Rattle.cob_tree.specs.declared.form.Form.TheVariants as form
+use Rattle.cob_items.specs.Storing.{filled_if}
 use Rattle.cob_data.specs.declared.layout.Layout.{Layout}
 use Rattle.cob_data.specs.declared.layout.Sender.{Sender}
-use Rattle.cob_runs.specs.Contents.{form_at, length_at, filled_at}
-use Rattle.cob_runs.specs.Faults.{◌>>=◌}
-use Rattle.cob_runs.specs.Moves.{moved, moved_to}
+use Rattle.cob_runs.specs.Contents.{form_at, length_at, stored, filled_at}
+use Rattle.cob_runs.specs.Faults.{◌>>=◌, or_fault}
+use Rattle.cob_runs.specs.Moves.{takes_number, number_of, is_group_sender, moved_number, moved_amount, moved, moved_to}
 use Rattle.cob_store.specs.declared.end.MoveEnd.{MoveEnd}
 use Rattle.cob_store.specs.declared.end.MoveEnd.TheVariants as end
 use Rattle.cob_store.specs.Moving.{IsCause, all_moved, all_filled, behind, AreAsLong}
@@ -134,3 +142,43 @@ pub moved_to-cause : (l : Layout) (s : List ℕ) (x : Sender) (ps : List ℕ) (n
     IsCause (moved_to l s now x ps) e
 moved_to-cause l s x ps now (end.Fault kind) is = moved_to-fault l s x ps now kind is
 moved_to-cause l s x ps now end.Memory is = tt
+
+-- ---- one receiver that takes a number
+
+fits_number : (l : Layout) (s : List ℕ) (x : Sender) (f : Form) (n : ℕ) → IsTrue (takes_number f) → is_group_sender l s x ≡ false → moved l s f n x ≡ moved_number l s f x
+fits_number l s x form.Group n takes single = absurd cc
+fits_number l s x (form.Text k) n takes single = absurd cc
+fits_number l s x (form.Number digits scale signed kept) n takes single = ap (λ g. moved_amount l s g (form.Number digits scale signed kept) n x) single
+fits_number l s x (form.Edited picture digits scale) n takes single = ap (λ g. moved_amount l s g (form.Edited picture digits scale) n x) single
+
+module _ (l : Layout) (s : List ℕ) (x : Sender) (p : ℕ) (takes : IsTrue (takes_number (form_at l p))) (single : is_group_sender l s x ≡ false) where
+  moved_by : (o : Option Scaled) → o ≡ number_of l s x
+      → moved_to l s s x (p ∷ []) ≡ (or_fault kind.Class o >>= λ v. or_fault kind.Truncation (stored Trunc (form_at l p) (value_of v)) >>= λ bytes. Ok (filled_at l s p bytes))
+  moved_by o is =
+      ap (λ r. r >>= λ bytes. Ok (filled_at l s p bytes)) (fits_number l s x (form_at l p) (length_at l p) takes single
+      ∙ ap (λ q. or_fault kind.Class q >>= λ v. or_fault kind.Truncation (stored Trunc (form_at l p) (value_of v))) (sym is))
+      ∙ bind_twice o
+    where
+      bind_twice : (q : Option Scaled) → ((or_fault kind.Class q >>= λ v. or_fault kind.Truncation (stored Trunc (form_at l p) (value_of v))) >>= λ bytes. Ok (filled_at l s p bytes))
+          ≡ (or_fault kind.Class q >>= λ v. or_fault kind.Truncation (stored Trunc (form_at l p) (value_of v)) >>= λ bytes. Ok (filled_at l s p bytes))
+      bind_twice None = refl
+      bind_twice (Some v) = refl
+
+  pub unread_amount : None ≡ number_of l s x → moved_to l s s x (p ∷ []) ≡ Err kind.Class
+  unread_amount e = moved_by None e
+
+  -- what a store that is held or not leaves
+  abbrev IsMovedSo : Bool → List ℕ → Result (List ℕ) Kind → Type 0
+  IsMovedSo true now r = r ≡ Ok now
+  IsMovedSo false now r = (r ≡ Err kind.Truncation) × (now ≡ s)
+
+  by_stored : (held : Bool) (now : List ℕ) (r : Option (List ℕ)) → held ≡ is_some r → now ≡ filled_if l s p r
+      → IsMovedSo held now (or_fault kind.Truncation r >>= λ bytes. Ok (filled_at l s p bytes))
+  by_stored true now None is filled = absurd cc
+  by_stored true now (Some bytes) is filled = ap Ok (sym filled)
+  by_stored false now None is filled = (refl, filled)
+  by_stored false now (Some bytes) is filled = absurd cc
+
+  pub moved_so : (v : Scaled) (held : Bool) (now : List ℕ) → Some v ≡ number_of l s x → held ≡ is_some (stored Trunc (form_at l p) (value_of v))
+      → now ≡ filled_if l s p (stored Trunc (form_at l p) (value_of v)) → IsMovedSo held now (moved_to l s s x (p ∷ []))
+  moved_so v held now e is filled = subst (IsMovedSo held now) (sym (moved_by (Some v) e)) (by_stored held now (stored Trunc (form_at l p) (value_of v)) is filled)

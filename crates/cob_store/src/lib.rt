@@ -15,4 +15,4 @@ mod writes;
 pub use begin::{is_over, start};
 pub use end::MoveEnd;
 pub use moves::after_move;
-pub use shows::line_of;
+pub use shows::push_line;

@@ -1,16 +1,18 @@
-ghost use Rattle.std.specs.Prelude.{◌≡◌, ◌≤◌, length, replicate, MatchResult, IfOk, Ok, [], ◌∷◌, ◌++◌};
+ghost use Rattle.std.specs.Prelude.{◌≡◌, ◌≤◌, length, replicate, MatchResult, IfOk, IsTrue, Ok, false, [], ◌∷◌, ◌++◌};
 ghost use Rattle.std.specs.List.{All};
 ghost use Rattle.std.specs.Result.{OnOk};
 ghost use Rattle.cob_runs.specs.Contents.{form_at, length_at};
-ghost use Rattle.cob_runs.specs.Moves.{moved, after_move};
+ghost use Rattle.cob_runs.specs.Moves.{takes_number, is_group_sender, moved, after_move};
 ghost use Rattle.cob_items.specs.Sound.{HasSoundItems, IsSoundForm, CanMove};
 ghost use Rattle.cob_store.specs.Moving.{IsWhole, IsCause, all_moved, all_filled, AreAsLong};
 
 use crate::end::MoveEnd;
+use crate::senders::{is_group_sender, number_of};
 use crate::writes::write_moved;
 use cob_data::{Item, Layout, Sender};
-use cob_items::{fill_bytes, item_at};
-use cob_tree::Many;
+use cob_items::{fill_bytes, item_at, store_at};
+use cob_tree::{Form, Kind, Many};
+use dec_num::Mode;
 use std::alloc::{AllocError, Global};
 
 // So many spaces.
@@ -163,6 +165,44 @@ fn move_to_short(
     }
 }
 
+// Moves the sender's number to the numeric or edited item at a place.
+fn move_amount(
+    layout: &Layout,
+    storage: &mut [u8],
+    sender: &Sender,
+    place: u32,
+) -> Result<(), MoveEnd>
+    requires sound { HasSoundItems layout.now }
+    requires whole { length storage.old ≡ layout.now.storage }
+    requires able { CanMove layout.now sender.now (form_at layout.now place) }
+    requires takes { IsTrue (takes_number (form_at layout.now place)) }
+    requires single { is_group_sender layout.now storage.old sender.now ≡ false }
+    ensures { MatchResult result
+        (λ _. after_move layout.now storage.old sender.now (place ∷ []) ≡ Ok storage.new)
+        (λ end. IsCause (after_move layout.now storage.old sender.now (place ∷ [])) end
+        × (storage.new ≡ storage.old)) }
+{
+    match number_of(layout, storage, sender) {
+        None => Err(MoveEnd::Fault(Kind::Class)),
+        Some(value) => {
+            if store_at(layout, storage, place, value, Mode::Trunc) {
+                Ok(())
+            } else {
+                Err(MoveEnd::Fault(Kind::Truncation))
+            }
+        }
+    }
+}
+
+fn is_amount(form: &Form) -> bool
+    ensures { result ≡ takes_number form.now }
+{
+    match form {
+        Form::Number { .. } | Form::Edited { .. } => true,
+        Form::Group | Form::Text { .. } => false,
+    }
+}
+
 // Moves to the item at a place.
 fn move_to_one(
     alloc: Global,
@@ -181,7 +221,9 @@ fn move_to_one(
 {
     match item_at(layout, place) {
         Some(item) => {
-            if item.length as usize <= SHORT {
+            if is_amount(&item.form) && !is_group_sender(layout, storage, sender) {
+                move_amount(layout, storage, sender, place)
+            } else if item.length as usize <= SHORT {
                 move_to_short(layout, storage, sender, item, place)
             } else {
                 move_to_all(alloc, layout, storage, sender, &[place])

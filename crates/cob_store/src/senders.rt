@@ -12,6 +12,7 @@ use cob_tree::Form;
 use dec_num::Scaled;
 
 /// The number that a sender is read as, if it is numeric.
+#[inline(always)]
 pub fn number_of(layout: &Layout, storage: &[u8], sender: &Sender) -> Option<Scaled>
     requires sound { HasSoundItems layout.now }
     requires whole { IsWhole layout.now storage.now sender.now }

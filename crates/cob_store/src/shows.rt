@@ -126,24 +126,20 @@ fn push_sender(
     }
 }
 
-// Room for most lines.
-const SHOWN: usize = 80;
-
-/// The line that DISPLAY shows (ISO 1989:1985, "The DISPLAY statement").
-pub fn line_of(
-    alloc: Global,
+/// Appends the line that DISPLAY shows (ISO 1989:1985, "The DISPLAY statement").
+pub fn push_line(
+    shown: &mut Vec<u8>,
     layout: &Layout,
     storage: &[u8],
     senders: &[Sender],
-) -> Result<Vec<u8>, AllocError>
+) -> Result<(), AllocError>
     requires sound { HasSoundItems layout.now }
     requires whole { length storage.now ≡ layout.now.storage }
-    ensures { IfOk result (λ line. line.items ≡ line_of layout.now storage.now senders.now) }
+    ensures { OnOk result (shown.new.items ≡ shown.old.items ++ line_of layout.now storage.now senders.now) }
 {
-    let mut line = Vec::with_capacity(alloc, SHOWN)?;
     for sender in senders {
-        push_sender(&mut line, layout, storage, sender)?;
+        push_sender(shown, layout, storage, sender)?;
     }
-    line.push(b'\n')?;
-    Ok(line)
+    shown.push(b'\n')?;
+    Ok(())
 }

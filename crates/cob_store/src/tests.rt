@@ -4,7 +4,7 @@ ghost use Rattle.cob_data.specs.declared.layout.Layout.{Layout};
 ghost use Rattle.cob_runs.specs.Contents.{form_at};
 ghost use Rattle.cob_items.specs.Sound.{HasSoundItems, IsSoundForm, IsConstant, IsCountable};
 
-use super::{MoveEnd, after_move, is_over, line_of, start};
+use super::{MoveEnd, after_move, is_over, push_line, start};
 use cob_data::{Item, Layout, Sender};
 use cob_meaning::Outcome;
 use cob_program::Program;
@@ -90,7 +90,8 @@ fn decimals_are_cut(rt: HostRuntime) -> Result<(), Fail> {
     move_to(rt.alloc(), &layout, &mut storage, &sender)?;
     assert_eq!(rt; storage.as_slice(), b"1234".as_slice());
     let shown = vec![in rt.alloc(); Sender::Item(0)]?;
-    let line = line_of(rt.alloc(), &layout, &storage, &shown)?;
+    let mut line = Vec::new(rt.alloc());
+    push_line(&mut line, &layout, &storage, &shown)?;
     assert_eq!(rt; line.as_slice(), b"12.34\n".as_slice());
     Ok(())
 }
@@ -167,7 +168,8 @@ fn contents_are_read_as_numbers(rt: HostRuntime) -> Result<(), Fail> {
     assert_eq!(rt; ended, Err(MoveEnd::Fault(Kind::Class)));
     assert_eq!(rt; storage.as_slice(), b"4 12}".as_slice());
     let shown = vec![in rt.alloc(); Sender::Item(1), Sender::Fill(b' '), Sender::Item(0)]?;
-    let line = line_of(rt.alloc(), &layout, &storage, &shown)?;
+    let mut line = Vec::new(rt.alloc());
+    push_line(&mut line, &layout, &storage, &shown)?;
     assert_eq!(rt; line.as_slice(), b"-12.0 4 \n".as_slice());
     storage[1] = b'2';
     after_move(rt.alloc(), &layout, &mut storage, &Sender::Item(0), &[1])?;
@@ -182,7 +184,8 @@ fn literals_are_shown_as_written(rt: HostRuntime) -> Result<(), Fail> {
     let minus = number(rt.alloc(), b'-', b"7", 0)?;
     let text = Sender::Text(Bytes::of(rt.alloc(), b" A")?);
     let shown = vec![in rt.alloc(); plus, minus, text, Sender::Zero]?;
-    let line = line_of(rt.alloc(), &layout, b"?", &shown)?;
+    let mut line = Vec::new(rt.alloc());
+    push_line(&mut line, &layout, b"?", &shown)?;
     assert_eq!(rt; line.as_slice(), b"0.5-7 A0\n".as_slice());
     Ok(())
 }

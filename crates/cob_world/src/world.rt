@@ -16,7 +16,7 @@ use crate::files::{File, FileMode};
 use cob_calc::compute;
 use cob_data::{Layout, Sender};
 use cob_program::{Sum, Target};
-use cob_store::{MoveEnd, after_move, line_of};
+use cob_store::{MoveEnd, after_move, push_line};
 use cob_tree::Kind;
 use std::alloc::{AllocError, Global};
 use std::marker::Model;
@@ -199,18 +199,12 @@ impl World {
     }
 
     /// DISPLAY (ISO 1989:1985, "The DISPLAY statement").
-    pub fn show(
-        &mut self,
-        alloc: Global,
-        layout: &Layout,
-        senders: &[Sender],
-    ) -> Result<(), AllocError>
+    pub fn show(&mut self, layout: &Layout, senders: &[Sender]) -> Result<(), AllocError>
         requires sound { HasSoundItems layout.now }
         requires whole { length self.old.storage ≡ layout.now.storage }
         ensures value { OnOk result (self.new ≡ show layout.now senders.now self.old) }
         ensures kept { length self.new.storage ≡ length self.old.storage }
     {
-        let line = line_of(alloc, layout, self.storage.as_slice(), senders)?;
-        self.shown.extend_from_slice(line.as_slice())
+        push_line(&mut self.shown, layout, self.storage.as_slice(), senders)
     }
 }

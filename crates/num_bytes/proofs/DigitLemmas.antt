@@ -7,7 +7,7 @@ use Rattle.std.proofs.lemmas.Grind.{pow_more}
 use Rattle.std.proofs.Math.Nat.{div-div-eq-div-mul}
 use Rattle.std.specs.List.{list_all}
 use Rattle.dec_num.proofs.Powers.{ten_monotone}
-use Rattle.num_bytes.specs.Digits.{number_of, last_digits, digit_text}
+use Rattle.num_bytes.specs.Digits.{number_of, digit_at, last_digits, digit_text}
 
 pub number_more : (bs : List ℕ) (i n x : ℕ) → i < length bs → n ≡ number_of (map (λ b. b - 48) (take i bs)) → x ≡ get_or bs i 0 - 48 →
     n * 10 + x ≡ number_of (map (λ b. b - 48) (take (i + 1) bs))
@@ -56,3 +56,9 @@ length-digit_text (suc n) v = ap suc (length-digit_text n v)
 
 pub digits_counted : (ys : List ℕ) (k n v : ℕ) → ys ≡ digit_text (last_digits k v) → length ys ≡ n → ys ≡ digit_text (last_digits n v)
 digits_counted ys k n v is count = is ∙ ap (λ j. digit_text (last_digits j v)) (sym (length-digit_text k v) ∙ (sym (ap length is) ∙ count))
+
+-- the digit at a place, from the right
+pub digit_text_at : (n v i d : ℕ) → i < n → get_or (digit_text (last_digits n v)) i d ≡ 48 + digit_at (n - 1 - i) v
+digit_text_at zero v i d h = absurd (omega arith)
+digit_text_at (suc n) v zero d h = ap (λ k. 48 + digit_at k v) (omega arith)
+digit_text_at (suc n) v (suc i) d h = digit_text_at n v i d (omega arith) ∙ ap (λ k. 48 + digit_at k v) (omega arith)

@@ -90,6 +90,7 @@ pub fn is_numeric(form: &Form, bytes: &[u8]) -> bool
 
 /// Writes the number, which is in units of the form's scale, into the item. The form is `Number`, of 1 to 18
 /// digits, its digits and sign hold the number, and the bytes are the item's.
+#[inline(always)]
 pub fn put(form: &Form, value: i64, bytes: &mut [u8])
     requires { CanHold form.now value (length bytes.old) }
     ensures written { bytes.new ≡ contents_bytes form.now value }

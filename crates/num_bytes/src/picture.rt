@@ -1,9 +1,9 @@
 ghost use Rattle.std.specs.Prelude.{◌≡◌, ℕ, ◌==◌, ◌&&◌, ◌+◌, ◌<◌, ◌≤◌, if◌then◌else◌, length};
 ghost use Rattle.cob_tree.specs.Pictures.{is_place, place_count};
-ghost use Rattle.num_bytes.specs.Digits.{digit_at};
+ghost use Rattle.num_bytes.specs.Digits.{digit_at, digit_text, last_digits};
 ghost use Rattle.num_bytes.specs.Editing.{CanEdit, all_suppressed, begins_suppressed, edit_bytes, edited, edited_bytes, shown, still_suppressed};
 
-use crate::digits::ten;
+use crate::digits::write_digits;
 use cob_tree::Form;
 
 // Whether the symbol is the place of a digit.
@@ -37,12 +37,14 @@ fn shown_byte(on: bool, symbol: u8, digit: u8) -> u8
     }
 }
 
-// The digit of a number at the place of this weight.
-fn digit_of(number: u64, weight: u32) -> u8
-    requires { weight ≤ 18 }
+// The digit at the place of this weight among the last digits of a number.
+#[tactic(auto, using(crate::proofs::DigitLemmas::digit_text_at))]
+fn digit_in(digits: &[u8], number: u64, weight: u32) -> u8
+    requires within { weight < length digits.now }
+    requires written { digits.now ≡ digit_text (last_digits (length digits.now) number) }
     ensures { result ≡ digit_at weight number }
 {
-    (number / ten(weight) % 10) as u8
+    digits[digits.len() - 1 - weight as usize] - b'0'
 }
 
 // How many places of digits the picture has.
@@ -75,20 +77,34 @@ fn is_all_suppressed(picture: &[u8]) -> bool
     picture.iter().all(|symbol| *symbol != b'9')
 }
 
-// Writes the number through the picture, from left to right.
-fn write_edited(picture: &[u8], number: u64, bytes: &mut [u8])
+// Writes the number of these digits through the picture, from left to right.
+fn write_symbols(picture: &[u8], number: u64, digits: &[u8], bytes: &mut [u8])
     requires places { place_count picture.now ≤ 18 }
     requires whole { length bytes.old ≡ length picture.now }
+    requires count { length digits.now ≡ place_count picture.now + 1 }
+    requires written { digits.now ≡ digit_text (last_digits (length digits.now) number) }
     ensures { bytes.new ≡ edited (begins_suppressed picture.now) picture.now number }
 {
     let mut suppressed = picture.first() == Some(&b'Z');
     let mut places = place_count_of(picture);
     for (at, symbol) in picture.iter().enumerate() {
         places = places_behind(*symbol, places);
-        let digit = digit_of(number, places);
+        let digit = digit_in(digits, number, places);
         suppressed = stays_suppressed(suppressed, *symbol, digit);
         bytes[at] = shown_byte(suppressed, *symbol, digit);
     }
+}
+
+// Writes the number through the picture.
+fn write_edited(picture: &[u8], number: u64, bytes: &mut [u8])
+    requires places { place_count picture.now ≤ 18 }
+    requires whole { length bytes.old ≡ length picture.now }
+    ensures { bytes.new ≡ edited (begins_suppressed picture.now) picture.now number }
+{
+    let mut room = [b'0'; 19];
+    let digits = &mut room[..place_count_of(picture) as usize + 1];
+    write_digits(number, digits);
+    write_symbols(picture, number, digits, bytes);
 }
 
 fn write_through(picture: &[u8], number: u64, bytes: &mut [u8])

@@ -1,6 +1,6 @@
 use Rattle.std.proofs.Common.{◌≡◌, ◌^◌, ◌<◌, drop}
 use Rattle.cob_program.specs.Values.{numeral}
-use Rattle.cob_calc.proofs.numbers.numeral.Given as goal
+use Rattle.cob_calc.proofs.numbers.long_numeral.Given as goal
 
 abbrev pub invariant-loop-digit : goal.invariant-loop-digit
 invariant-loop-digit l = record {

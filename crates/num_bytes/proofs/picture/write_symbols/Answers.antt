@@ -1,6 +1,6 @@
 use Rattle.std.proofs.Common.{arith, ◌∙◌}
 use Rattle.num_bytes.proofs.EditLemmas.{place_count-drop, places_step, edited_step}
-use Rattle.num_bytes.proofs.picture.write_edited.Goals as goal
+use Rattle.num_bytes.proofs.picture.write_symbols.Goals as goal
 
 pub places_behind-places-requires : goal.places_behind-places-requires
 places_behind-places-requires c =
@@ -16,7 +16,7 @@ loop-at-preserved c =
       places = left;
       written =
           edited_step c.args.picture.now c.loop-at.bytes c.loop-at.at c.places_behind-places.result c.args.number c.shown_byte.result
-          c.digit_of-digit.result c.loop-at.suppressed c.stays_suppressed-suppressed.result c.loop-at-test.true (omega arith) left
-          c.digit_of-digit.ensures c.stays_suppressed-suppressed.ensures c.shown_byte.ensures
+          c.digit_in-digit.result c.loop-at.suppressed c.stays_suppressed-suppressed.result c.loop-at-test.true (omega arith) left
+          c.digit_in-digit.ensures c.stays_suppressed-suppressed.ensures c.shown_byte.ensures
           ∙ c.loop-at.invariant.written;
     }
