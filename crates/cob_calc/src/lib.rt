@@ -23,6 +23,3 @@ pub use arithmetic::compute;
 pub use contents::Contents;
 pub use exact::Exact;
 pub use laws::exact_values_are_stored;
-
-#[cfg(test)]
-mod tests;

@@ -9,8 +9,6 @@ mod laying;
 mod numbers;
 mod places;
 mod statements;
-#[cfg(test)]
-mod tests;
 mod within;
 
 pub use cob_graph::{Edge, FlowEnd, Graph, Node, nested};

@@ -6,11 +6,7 @@
 mod end;
 mod graphs;
 mod laws;
-#[cfg(test)]
-mod payroll;
 mod phases;
-#[cfg(test)]
-mod tests;
 
 pub use end::FrontEnd;
 pub use graphs::graph_in;

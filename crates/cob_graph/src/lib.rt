@@ -8,8 +8,6 @@ mod graph;
 mod laws;
 mod nesting;
 mod reach;
-#[cfg(test)]
-mod tests;
 
 pub use end::FlowEnd;
 pub use graph::{Edge, Graph, Node};

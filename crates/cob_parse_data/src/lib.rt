@@ -11,8 +11,6 @@ mod head;
 mod laws;
 mod parse;
 mod select;
-#[cfg(test)]
-mod tests;
 mod word;
 
 pub use cob_parse_expr::ParseEnd;

@@ -23,6 +23,3 @@ pub use lexeme::{Lexeme, Symbol, lexemes};
 pub use operand::{const_at, name_at, opnd_in, ref_in};
 pub use parse::{cond_of, expr_of};
 pub use simple::one_alone;
-
-#[cfg(test)]
-mod tests;

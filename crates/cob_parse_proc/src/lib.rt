@@ -7,8 +7,6 @@ mod outer;
 mod parse;
 mod sentence;
 mod statement;
-#[cfg(test)]
-mod tests;
 mod token;
 mod tree;
 mod verb;

@@ -19,6 +19,3 @@ pub use head::{Head, head_in};
 pub use laws::{choices_are_read, heads_are_read, more_room_agrees, too_deep_is_told};
 pub use select::choices_in;
 pub use word::{Begin, Start, Word};
-
-#[cfg(test)]
-mod tests;

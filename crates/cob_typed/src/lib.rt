@@ -24,6 +24,3 @@ mod verbs;
 
 pub use end::TypedEnd;
 pub use typing::typed_of;
-
-#[cfg(test)]
-mod tests;

@@ -1,4 +1,4 @@
-use crate::program_of;
+use cob_parse_proc::program_of;
 use cob_parse_expr::ParseEnd;
 use cob_tree::{Bytes, Name, Num, Rel, Stmt, Tok, Token, Verb};
 use std::alloc::{AllocError, Global};

@@ -2,7 +2,7 @@
 ghost use Rattle.std.specs.Prelude.{IsTrue};
 ghost use Rattle.cob_names.specs.Search.{HasFewPlaces};
 
-use crate::{TypedEnd, typed_of};
+use cob_typed::{TypedEnd, typed_of};
 use cob_data::{Flag, Item, Layout, Sender};
 use cob_program::{Act, Atom, How, Logic, Program, Stmt, Sum, Target, Test};
 use cob_tree::{

@@ -1,5 +1,5 @@
 //! Divisions, their trees printed back, and refused ones with their lines. Tokens stand between single spaces.
-use crate::{ParseEnd, front_of};
+use cob_parse_data::{ParseEnd, front_of};
 use cob_tree::{
     Bytes, Clause, Config, Const, Data, Described, Entry, Env, External, Fd, FdClause, Front, Io,
     Label, Name, Num, Range, SelClause, Select, Tok, Token,

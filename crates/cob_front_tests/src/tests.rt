@@ -1,5 +1,5 @@
 use super::payroll::LINES;
-use super::{FrontEnd, graph_in, program_in};
+use cob_front::{FrontEnd, graph_in, program_in};
 use cob_program::{Para, Program};
 use std::alloc::{AllocError, Global};
 use std::test::Fail;

@@ -10,7 +10,7 @@ ghost use Rattle.cob_program.specs.LogicView.{plain_logic};
 ghost use Rattle.cob_runs.specs.Contents.{form_at};
 ghost use Rattle.cob_items.specs.Sound.{HasSoundItems};
 
-use super::{Contents, compute, exact_values_are_stored};
+use cob_calc::{Contents, compute, exact_values_are_stored};
 use cob_data::{Item, Layout, Pair, Sender};
 use cob_program::{Atom, Factor, How, Logic, Part, Sum, Target, Test};
 use cob_tree::{Bytes, Form, Kind, Many, Num, Rel, Usage};

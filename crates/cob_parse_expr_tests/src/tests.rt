@@ -1,4 +1,4 @@
-use crate::{ParseEnd, cond_of, expr_of};
+use cob_parse_expr::{ParseEnd, cond_of, expr_of};
 use cob_tree::{
     Cond, Conj, Expr, Fact, Name, Neg, Opnd, Primary, Rel, Scaling, Sign, SignTest, Simple, Term,
     Tok, Token,

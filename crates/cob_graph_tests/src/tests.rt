@@ -1,5 +1,5 @@
 //! Programs of paragraphs that perform and go.
-use crate::{FlowEnd, nested};
+use cob_graph::{FlowEnd, nested};
 use cob_data::{Layout, Rule};
 use cob_program::{Act, Body, Logic, Para, Program, Stmt, Sum, Test, Turns, When};
 use cob_tree::Many;
