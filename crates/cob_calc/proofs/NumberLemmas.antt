@@ -30,7 +30,7 @@ other_side x y m h s = omega (arith, ints)
 other_left : (x y : ℤ) (m : ℕ) → unsigned_abs y ≤ m → unsigned_abs (x +ℤ y) ≤ m → unsigned_abs x ≤ 2 * m
 other_left x y m h s = omega (arith, ints)
 
-units_own : (a : Scaled) (j : ℕ) → j ≡ a.scale → units_at a j ≡ a.units
+pub units_own : (a : Scaled) (j : ℕ) → j ≡ a.scale → units_at a j ≡ a.units
 units_own a j e = rw e (own_units a)
 
 -- Where both are small and their sum is, each is below the limit at the greater scale: one of them is there already.

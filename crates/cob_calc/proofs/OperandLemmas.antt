@@ -1,6 +1,7 @@
 -- What a sum of one operand is worth.
-use Rattle.std.proofs.Common.{◌≡◌, ℕ, ◌+◌, ◌-◌, ◌&&◌, ◌||◌, pos, Bool, true, false, List, Option, Some, None, Err, if◌then◌else◌, refl, sym, ap, subst, ◌∙◌, arith}
+use Rattle.std.proofs.Common.{◌≡◌, ℕ, ◌+◌, ◌||◌, pos, Bool, true, false, List, Option, Some, None, Err, if◌then◌else◌, refl, sym, ap, subst, ◌∙◌, arith}
 use Rattle.std.specs.Prelude.{◌+ℤ◌, ◌*ℤ◌, is_some, option_map}
+use Rattle.std.proofs.Math.Bool.{and-true}
 use Rattle.std.proofs.lemmas.Int.{ints}
 use Rattle.dec_num.specs.declared.types.Scaled.{Scaled}
 use Rattle.dec_num.specs.Scaled.{units_at, joint_scale}
@@ -23,19 +24,16 @@ use Rattle.cob_calc.specs.Operand.{only, read_sum}
 use Rattle.cob_calc.specs.Receiving.{some_whole, without_whole, AreWorked}
 use Rattle.cob_calc.proofs.Agreement.{Agree, amounts_agree}
 use Rattle.cob_calc.proofs.CompareLemmas.{sides_compare, compared_as}
-use Rattle.cob_calc.proofs.NumberLemmas.{scaled_is}
+use Rattle.cob_calc.proofs.NumberLemmas.{scaled_is, units_own}
 
 one_times : (v : Scaled) → product (whole_number (pos 1)) v ≡ v
 one_times v = sym (scaled_is v (pos 1 *ℤ v.units) (0 + v.scale) (omega arith) (omega (arith, ints)))
-
-own_units : (v : Scaled) (j : ℕ) → j ≡ v.scale → v.units ≡ units_at v j
-own_units v j e = let none : j - v.scale ≡ 0 = omega (arith, e) in rw none (omega (arith, ints))
 
 none_plus : (v : Scaled) → plus (whole_number (pos 0)) v ≡ v
 none_plus v =
     let j = joint_scale (whole_number (pos 0)) v in
     let top : j ≡ v.scale = omega arith in
-    let own : v.units ≡ units_at v j = own_units v j top in
+    let own : v.units ≡ units_at v j = sym (units_own v j top) in
     let zero_units : units_at (whole_number (pos 0)) j ≡ pos 0 = omega (arith, ints) in
     sym (scaled_is v (units_at (whole_number (pos 0)) j +ℤ units_at v j) j (sym top) (own ∙ omega (arith, ints, zero_units)))
 
@@ -47,14 +45,10 @@ through (Some v) = ap Some (ap (plus (whole_number (pos 0))) (one_times v) ∙ n
 pub only_value : (worth : ℕ → Scaled) (s : Sum) (a : Atom) → s ≡ only a → atom_value worth a ≡ sum_value worth s
 only_value worth s a is = rw is (sym (through (atom_value worth a)))
 
-and_true : (b : Bool) → b ≡ (b && true)
-and_true true = refl
-and_true false = refl
-
 -- ---- what is read of a sum
 
 numeric_item : (l : Layout) (storage : List ℕ) (s : Sum) (place : ℕ) → s ≡ only (item place) → is_some (number_at l storage place) ≡ are_numeric l storage (items_in s)
-numeric_item l storage s place is = rw is (and_true (is_some (number_at l storage place)))
+numeric_item l storage s place is = rw is (sym (and-true (is_some (number_at l storage place))))
 
 read_when : (c : Contents) (s : Sum) → are_numeric c.layout c.storage (items_in s) ≡ true → Some (sum_value (amount_at c) s) ≡ read_sum c s
 read_when c s e = rw e refl

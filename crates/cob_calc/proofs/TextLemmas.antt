@@ -1,12 +1,12 @@
 -- Texts of one length, byte for byte.
-use Rattle.std.proofs.Common.{◌≡◌, ℕ, zero, suc, ◌+◌, ◌-◌, ◌<◌, ◌≤◌, ◌==◌, nat_lt, true, false, List, ◌∷◌, ◌++◌, length, get_or, drop, replicate, if◌then◌else◌, inl, inr, refl, sym, ap, ◌∙◌, arith}
+use Rattle.std.proofs.Common.{◌≡◌, ℕ, ◌+◌, ◌-◌, ◌<◌, ◌≤◌, ◌==◌, nat_lt, true, false, List, ◌∷◌, ◌++◌, length, get_or, drop, replicate, if◌then◌else◌, inl, inr, refl, sym, ap, ◌∙◌, arith}
 use Rattle.std.proofs.lemmas.Bool.{cases_lt}
 use Rattle.std.proofs.lemmas.Bool.Decides.{nat_tests}
 use Rattle.std.proofs.lemmas.List.{drop_more, drop_all, get_or-take, get_or-replicate, get_or-append_right, get_or_default, length-append, length-replicate, length-take-le}
 use Rattle.std.proofs.Math.ListN.{get_or-append, get_or-eq_default}
 use Rattle.dec_num.proofs.Powers.{ten_positive, ten_monotone}
 use Rattle.num_bytes.specs.Digits.{digit_at, last_digits, digit_text}
-use Rattle.num_bytes.proofs.DigitLemmas.{length-digit_text}
+use Rattle.num_bytes.proofs.DigitLemmas.{length-digit_text, digit_text_at}
 use Rattle.cob_runs.specs.Contents.{fitted}
 use Rattle.cob_runs.specs.Deciding.{below, equal, above, bytes_order}
 
@@ -57,14 +57,12 @@ pub ruleset orders = (order_less, order_greater, order_goes_on, order_ends)
 
 -- ---- digits
 
-pub digit_text_at : (n v i : ℕ) → i < n → get_or (digit_text (last_digits n v)) i 32 ≡ 48 + digit_at (n - 1 - i) v
-digit_text_at zero v i h = absurd (omega arith)
-digit_text_at (suc n) v zero h = ap (λ k. 48 + digit_at k v) (omega arith)
-digit_text_at (suc n) v (suc i) h = digit_text_at n v i (omega arith) ∙ ap (λ k. 48 + digit_at k v) (omega arith)
+pub digit_or_space : (n v i : ℕ) → i < n → get_or (digit_text (last_digits n v)) i 32 ≡ 48 + digit_at (n - 1 - i) v
+digit_or_space n v i h = digit_text_at n v i 32 h
 
 pub digit_text_past : (n v i : ℕ) → n ≤ i → get_or (digit_text (last_digits n v)) i 32 ≡ 32
 digit_text_past n v i h = get_or-eq_default (digit_text (last_digits n v)) 32 (omega (arith, length-digit_text n v))
 
-pub ruleset digits = (length-digit_text, digit_text_at, digit_text_past)
+pub ruleset digits = (length-digit_text, digit_or_space, digit_text_past)
 
 pub ruleset weights = (ten_positive, ten_monotone)

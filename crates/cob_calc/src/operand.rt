@@ -92,7 +92,7 @@ impl<'a> Contents<'a> {
     /// What a sum is worth where each of its items can be read as a number, with nothing inside where a divisor in it
     /// is 0; nothing where an item can't be read so.
     #[inline(always)]
-    pub fn total(&self, sum: &Sum) -> Option<Option<Scaled>>
+    pub(crate) fn total(&self, sum: &Sum) -> Option<Option<Scaled>>
         requires sound { IsSound self.now }
         requires numbers { are_numbers self.now.layout (items_in (plain_sum sum.now)) ≡ true }
         requires small { is_small_sum (bound_at self.now.layout) (plain_sum sum.now) ≡ true }

@@ -60,7 +60,6 @@ fn kept(phrase: bool, held: bool) -> Result<bool, Kind>
 }
 
 /// Gives a receiver its result, if there is one. Answers whether there is a size error that the phrase handles.
-
 #[inline(always)]
 pub fn put(
     layout: &Layout,
@@ -84,7 +83,6 @@ pub fn put(
 }
 
 // A receiver that is worth something itself.
-
 fn receive_part(
     layout: &Layout,
     phrase: bool,

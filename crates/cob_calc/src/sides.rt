@@ -104,7 +104,7 @@ impl<'a> Contents<'a> {
 
     /// The number of an item that is one, if it is numeric.
     #[inline(always)]
-    pub fn item_number(&self, place: u32) -> Option<Scaled>
+    pub(crate) fn item_number(&self, place: u32) -> Option<Scaled>
         requires sound { IsSound self.now }
         requires number { is_number_end self.now.layout self.now.storage (Sender.Item place) ≡ true }
         ensures value { result ≡ number_at self.now.layout self.now.storage place }

@@ -1,6 +1,6 @@
 //! Graphs of small programs, written by hand.
-use cob_flow::graph_of;
 use cob_data::{FileDecl, Item, Layout, Sender, Which};
+use cob_flow::graph_of;
 use cob_graph::{Edge, FlowEnd, Graph, Node, nested};
 use cob_program::{Act, Body, Logic, Opening, Para, Program, Stmt, Sum, Test, Turns, When};
 use cob_tree::{Form, Many, Name};

@@ -1,6 +1,6 @@
 //! Programs of paragraphs that perform and go.
-use cob_graph::{FlowEnd, nested};
 use cob_data::{Layout, Rule};
+use cob_graph::{FlowEnd, nested};
 use cob_program::{Act, Body, Logic, Para, Program, Stmt, Sum, Test, Turns, When};
 use cob_tree::Many;
 use std::alloc::{AllocError, Global};

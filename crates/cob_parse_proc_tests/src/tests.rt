@@ -1,5 +1,5 @@
-use cob_parse_proc::program_of;
 use cob_parse_expr::ParseEnd;
+use cob_parse_proc::program_of;
 use cob_tree::{Bytes, Name, Num, Rel, Stmt, Tok, Token, Verb};
 use std::alloc::{AllocError, Global};
 use std::test::Fail;

@@ -1,5 +1,5 @@
-use cob_parse_verb::{Arithmetic, Head, Start, choices_in, head_in};
 use cob_parse_expr::{Halt, Lexeme, lexemes};
+use cob_parse_verb::{Arithmetic, Head, Start, choices_in, head_in};
 use cob_tree::{
     Bytes, Cond, Const, Expr, Loop, Mode, Name, Num, Opens, Opnd, Place, Primary, Recv, Ref, Rel,
     Sel, Simple, Subject, Tail, Tok, Token, Verb, Way,

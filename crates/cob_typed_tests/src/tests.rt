@@ -2,7 +2,6 @@
 ghost use Rattle.std.specs.Prelude.{IsTrue};
 ghost use Rattle.cob_names.specs.Search.{HasFewPlaces};
 
-use cob_typed::{TypedEnd, typed_of};
 use cob_data::{Flag, Item, Layout, Sender};
 use cob_program::{Act, Atom, How, Logic, Program, Stmt, Sum, Target, Test};
 use cob_tree::{
@@ -10,6 +9,7 @@ use cob_tree::{
     Primary, Recv, Ref, Rel, Scaling, Sel, Sentence, Sign, Simple, Subject, Tail, Term, Tree,
     Usage, Verb, Way, When,
 };
+use cob_typed::{TypedEnd, typed_of};
 use dec_num::Mode;
 use std::alloc::{AllocError, Global};
 use std::test::Fail;
