@@ -2,7 +2,6 @@
 ghost use Rattle.std.specs.Prelude.{◌≡◌, ◌≤◌, false, length, None, Some, IfOk};
 ghost use Rattle.cob_tree.specs.declared.form.Form.{Form};
 ghost use Rattle.cob_tree.specs.declared.form.Usage.{Usage};
-ghost use Rattle.cob_data.specs.declared.layout.Sender.{Sender};
 ghost use Rattle.cob_program.specs.Sum.{number, MkSum, MkPart, MkFactor, no_parts, more_parts, no_factors, more_factors};
 ghost use Rattle.cob_program.specs.SumView.{plain_sum};
 ghost use Rattle.cob_runs.specs.Contents.{form_at};
