@@ -6,8 +6,6 @@
 mod ends;
 mod interval;
 mod straight;
-#[cfg(test)]
-mod tests;
 
 pub use ends::{CheckEnd, Gap, Shape};
 pub use straight::check_straight;

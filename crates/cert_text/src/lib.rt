@@ -14,5 +14,3 @@ pub use laws::{one_place, one_spelling};
 pub use printing::print;
 pub use reading::read;
 
-#[cfg(test)]
-mod tests;

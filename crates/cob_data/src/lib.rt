@@ -17,8 +17,6 @@ mod read;
 mod rules;
 mod slice;
 mod spots;
-#[cfg(test)]
-mod tests;
 mod top;
 mod values;
 

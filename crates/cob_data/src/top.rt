@@ -18,11 +18,7 @@ use crate::end::DataEnd;
 use crate::layout::{Item, Layout};
 use crate::names::names_of;
 use crate::read::facts_of;
-#[cfg(test)]
-use crate::read::{entries_in, fds_in};
 use crate::rules::{Known, refusal_in};
-#[cfg(test)]
-use cob_tree::Fd;
 use cob_tree::Tree;
 use std::alloc::{AllocError, AllocFailed, Global};
 
@@ -90,35 +86,4 @@ pub fn overlaps(a: &Item, b: &Item) -> bool
     ensures { IsTrue result ↔ Meet a.now b.now }
 {
     u64::from(a.offset.max(b.offset)) < end_of(a).min(end_of(b))
-}
-
-/// The number of entries of the files, where it is small.
-#[cfg(test)]
-fn count_entries(fds: &[Fd]) -> Option<usize>
-    ensures { IfSome result (λ n. (n ≡ length (file_entries 0 fds.now)) × (n ≤ 2 ^ 26)) }
-{
-    let mut total: usize = 0;
-    for place in 0..fds.len() {
-        let fd = &fds[place];
-        let entries = fd.entries.get();
-        if entries.len() > (1 << 26) - total {
-            return None;
-        }
-        total += entries.len();
-    }
-    Some(total)
-}
-
-/// The layout of a tree of few entries.
-#[cfg(test)]
-pub fn checked_layout(alloc: Global, tree: &Tree) -> Option<Result<Layout, DataEnd>> {
-    let fds = fds_in(&tree.front.data);
-    let entries = entries_in(&tree.front.data);
-    if fds.len() > 1 << 26 || entries.len() > 1 << 26 {
-        return None;
-    }
-    match count_entries(fds) {
-        None => None,
-        Some(_) => Some(laid_out(alloc, tree)),
-    }
 }

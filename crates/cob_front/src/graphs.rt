@@ -10,7 +10,7 @@ ghost use Rattle.cob_front.specs.Source.{Answers, IsRefused};
 ghost use Rattle.cob_front.specs.Control.{IsControlCause};
 
 use crate::end::FrontEnd;
-use cob_flow::{FlowEnd, Graph, graph_of, nested};
+use cob_graph_build::{FlowEnd, Graph, graph_of, nested};
 use cob_program::Program;
 use std::alloc::Global;
 

@@ -5,8 +5,6 @@
 mod items;
 mod numbers;
 mod stores;
-#[cfg(test)]
-mod tests;
 
 pub use items::{bytes_at, form_at, item_at};
 pub use numbers::{literal, number_at, number_in, scale_of};

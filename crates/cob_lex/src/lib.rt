@@ -11,8 +11,6 @@ mod laws;
 mod mark;
 mod piece;
 mod row;
-#[cfg(test)]
-mod tests;
 mod token;
 mod word;
 

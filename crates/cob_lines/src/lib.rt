@@ -12,8 +12,6 @@ mod join;
 mod line;
 mod literal;
 mod refusal;
-#[cfg(test)]
-mod tests;
 
 use join::joined;
 use refusal::{Place, earlier, first_bad};

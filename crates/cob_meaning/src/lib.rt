@@ -5,8 +5,6 @@
 
 mod run;
 mod straight;
-#[cfg(test)]
-mod tests;
 
 pub use run::outcome_after;
 pub use straight::{Outcome, Simple, Straight};

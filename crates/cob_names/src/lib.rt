@@ -9,8 +9,6 @@ mod names;
 mod qualifiers;
 mod table;
 mod tables;
-#[cfg(test)]
-mod tests;
 
 pub use found::Found;
 pub use names::{Names, layouts_have_few_places, one_answer};

@@ -17,5 +17,3 @@ pub use logic::{Logic, Test};
 pub use program::{Para, Program};
 pub use sum::{Atom, Factor, Part, Sum};
 
-#[cfg(test)]
-mod tests;

@@ -11,8 +11,6 @@ use cob_tree::Token;
 use std::alloc::Global;
 
 pub mod laws;
-#[cfg(test)]
-mod tests;
 
 /// Why a source has no canonical tokens.
 #[derive(Clone, Copy, Debug, PartialEq, Eq)]

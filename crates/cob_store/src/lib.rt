@@ -7,8 +7,6 @@ mod end;
 mod moves;
 mod senders;
 mod shows;
-#[cfg(test)]
-mod tests;
 mod texts;
 mod writes;
 

@@ -5,7 +5,7 @@ ghost use Rattle.cob_tree.specs.Keywords.{text_of, keyword_among, keyword_of, Is
 /// A reserved word: one that stands in the grammar, or that is rewritten or dropped before the grammar is
 /// read. Some are own to this reader, as `ID`, `COMP-3` and `RECORDING`; some only stand for two words of the
 /// language, as `RECORD-SIZE` and `END-PROGRAM`.
-#[derive(Clone, Copy)]
+#[derive(Clone, Copy, Debug, PartialEq, Eq)]
 pub enum Keyword {
     Access,
     Add,

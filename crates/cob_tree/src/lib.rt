@@ -15,8 +15,6 @@ mod operand;
 mod picture;
 mod stmt;
 mod symbol;
-#[cfg(test)]
-mod tests;
 mod token;
 mod tree;
 

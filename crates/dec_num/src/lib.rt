@@ -18,5 +18,3 @@ pub use scaled::{add, align, mul, sub};
 pub use tens::pow10;
 pub use types::{Fit, Mode, Quot, Scaled};
 
-#[cfg(test)]
-mod tests;

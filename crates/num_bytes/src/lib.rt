@@ -7,8 +7,6 @@ mod contents;
 mod digits;
 mod packed;
 mod picture;
-#[cfg(test)]
-mod tests;
 mod zoned;
 
 pub use contents::{is_numeric, put, value};

@@ -3,8 +3,6 @@
 
 mod named;
 mod paths;
-#[cfg(test)]
-mod tests;
 mod words;
 
 pub use paths::{PathsEnd, paths_of};

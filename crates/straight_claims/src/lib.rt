@@ -6,8 +6,6 @@ mod laws;
 mod line;
 mod lines;
 mod read;
-#[cfg(test)]
-mod tests;
 
 pub use ends::ClaimsEnd;
 pub use laws::{one_certificate, read_or_refused};

@@ -1,7 +1,0 @@
-use Rattle.cob_program.specs.ActView.{plain_program}
-use Rattle.cob_flow.specs.Tables.{IsTable}
-use Rattle.cob_flow.proofs.counting.add_all.Given as goal
-
-abbrev pub invariant-loop : goal.invariant-loop
-invariant-loop l = IsTable (plain_program l.program) l.initial.table.items →
-    IsTable (plain_program l.program) l.table.items

@@ -1,6 +1,0 @@
-use Rattle.std.proofs.Common.{◌≡◌, drop}
-use Rattle.cob_flow.specs.Tables.{told_size}
-use Rattle.cob_flow.proofs.counting.told_size.Given as goal
-
-abbrev pub invariant-loop-entry : goal.invariant-loop-entry
-invariant-loop-entry l = told_size (drop l.entry-index l.table) l.first l.last ≡ told_size l.initial.table l.first l.last

@@ -1,5 +1,0 @@
-use Rattle.std.proofs.Common.{length}
-use Rattle.cob_flow.proofs.laying.Laying.+lay_closes.Given as goal
-
-abbrev pub decreases-lay_closes : goal.decreases-lay_closes
-decreases-lay_closes l = length l.files.now

@@ -1,5 +1,0 @@
-use Rattle.std.proofs.Common.{length}
-use Rattle.cob_flow.proofs.laying.Laying.+lay_opens.Given as goal
-
-abbrev pub decreases-lay_opens : goal.decreases-lay_opens
-decreases-lay_opens l = length l.files.now

@@ -1,4 +1,0 @@
-use Rattle.cob_flow.proofs.within.Within.+first_of_whens.Given as goal
-
-abbrev pub decreases-first_of_whens : goal.decreases-first_of_whens
-decreases-first_of_whens l = l.left

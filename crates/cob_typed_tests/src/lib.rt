@@ -1,5 +1,0 @@
-//! Tests of `cob_typed` over its public calls, apart from it so that it's proved once.
-#![tactic(auto)]
-
-#[cfg(test)]
-mod tests;
