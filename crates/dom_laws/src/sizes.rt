@@ -1,5 +1,4 @@
 //! A small domain over two nodes, which shows that the laws can be met.
-ghost use Rattle.dom_laws.specs.Flow.{IsNode};
 ghost use Rattle.dom_laws.specs.Sizes.{sizes, two_nodes, bytes_count, solved};
 ghost use Rattle.dom_laws.specs.SizesLaws.{sizes_ordered, two_nodes_flow, bytes_count_means};
 
@@ -105,7 +104,7 @@ static ANY: [i128; 1] = [2];
 pub struct Solved;
 
 impl Rows for Solved {
-    ghost HasRow = { λ _. IsNode two_nodes };
+    ghost count = { λ _. 2 };
 
     ghost row_at = { λ _. solved };
 

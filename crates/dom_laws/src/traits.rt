@@ -1,4 +1,4 @@
-ghost use Rattle.std.specs.Prelude.{◌≡◌, ℕ, ◌+◌, List, ℤ, length, IsTrue, false, ◌↔◌};
+ghost use Rattle.std.specs.Prelude.{◌≡◌, ℕ, ◌+◌, ◌≤◌, List, ℤ, length, IsTrue, false, ◌↔◌};
 ghost use Rattle.dom_laws.specs.Lattice.{Lattice, IsElement, IsLattice};
 ghost use Rattle.dom_laws.specs.Flow.{Flow, IsNode, IsEdge, IsHead, IsFlow};
 ghost use Rattle.dom_laws.specs.Meaning.{Meaning, IsMeaning};
@@ -9,14 +9,15 @@ use std::sync::ledger::Ledger;
 
 /// A row for each of some nodes.
 pub trait Rows {
-    /// The nodes that have a row.
-    ghost HasRow: { Self → ℕ → Type 0 };
+    /// How many nodes have a row: those numbered from 1 up to it.
+    ghost count: { Self → ℕ };
 
     ghost row_at: { Self → ℕ → List ℤ };
 
     /// Shows the node's row.
     fn row(&self, node: u32) -> &[i128]
-        requires { HasRow self.now node }
+        requires first { 1 ≤ node }
+        requires last { node ≤ count self.now }
         ensures { result.now ≡ row_at self.now node };
 }
 

@@ -1,5 +1,5 @@
 -- What a store holds, and when it has the shape of a system.
-use Rattle.std.specs.Prelude.{◌≡◌, ℕ, ◌-◌, ◌≤◌, List, [], ℤ, length, slice_index_or}
+use Rattle.std.specs.Prelude.{◌≡◌, ℕ, ◌-◌, List, [], ℤ, length, slice_index_or}
 use Rattle.dom_laws.specs.Lattice.{Lattice}
 use Rattle.dom_laws.specs.Flow.{Flow}
 
@@ -11,10 +11,6 @@ pub record Stored : Type 0 where
 -- the row of a node
 abbrev pub row_at : List (List ℤ) → ℕ → List ℤ
 row_at rows node = slice_index_or rows (node - 1) []
-
-pub record HasRow (rows : List (List ℤ)) (node : ℕ) : Type 0 where
-  pub first : 1 ≤ node
-  pub last : node ≤ length rows
 
 pub record HasShape (l : Lattice) (f : Flow) (store : Stored) : Type 0 where
   pub words : store.words ≡ l.width

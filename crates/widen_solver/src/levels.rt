@@ -3,11 +3,9 @@ ghost use Rattle.std.specs.Prelude.{◌≡◌, ℕ, ◌^◌, ◌<◌, ◌+ℤ◌
 ghost use Rattle.std.specs.Int.{int_min};
 ghost use Rattle.dom_laws.specs.Flow.{IsNode, IsEdge, IsInductive};
 ghost use Rattle.dom_laws.specs.Sizes.{word};
-ghost use Rattle.widen_solver.specs.Stored.{row_at};
 ghost use Rattle.widen_solver.specs.Levels.{IsLevel, levels, threshold_above, graph, graph_over, is_graph, arc_at};
 ghost use Rattle.widen_solver.specs.LevelsLaws.{Fits, levels_ordered, graph_flows, graph_over_flows};
 
-use super::store::Store;
 use dom_laws::{Domain, Rows, Steps, System};
 use std::cell::Cell;
 use std::sync::ledger::Ledger;
@@ -137,24 +135,24 @@ impl System for Graph {
 
 /// The graph once more, over rows that its edges keep: an edge adds what they have at its source.
 #[derive(Drop)]
-pub struct Over<'a> {
+pub struct Over<'a, R: Rows> {
     pub base: &'a Graph,
-    pub facts: &'a Store,
-    ghost rows: { length facts.now.rows ≡ base.now.nodes },
-    ghost inductive: { IsInductive levels (graph base.now.nodes base.now.arcs.now) (row_at facts.now.rows) },
+    pub facts: &'a R,
+    ghost rows: { R.count facts.now ≡ base.now.nodes },
+    ghost inductive: { IsInductive levels (graph base.now.nodes base.now.arcs.now) (R.row_at facts.now) },
 }
 
-impl<'a> Over<'a> {
+impl<'a, R: Rows> Over<'a, R> {
     fn fact(&self, node: u32) -> i128
         requires { IsNode (graph self.now.base.now.nodes self.now.base.now.arcs.now) node }
-        ensures value { result ≡ word (row_at self.now.facts.now.rows node) }
+        ensures value { result ≡ word (R.row_at self.now.facts.now node) }
         ensures level { IsLevel result }
     {
         self.facts.row(node)[0]
     }
 }
 
-impl<'a> Domain for Over<'a> {
+impl<'a, R: Rows> Domain for Over<'a, R> {
     ghost lattice = { λ _. levels };
 
     fn words(&self) -> usize {
@@ -184,8 +182,8 @@ impl<'a> Domain for Over<'a> {
     ghost ordered = { λ _. levels_ordered };
 }
 
-impl<'a> System for Over<'a> {
-    ghost flow = { λ s. graph_over s.base.now.nodes s.base.now.arcs.now (row_at s.facts.now.rows) };
+impl<'a, R: Rows> System for Over<'a, R> {
+    ghost flow = { λ s. graph_over s.base.now.nodes s.base.now.arcs.now (R.row_at s.facts.now) };
 
     fn nodes(&self) -> u32 {
         self.base.nodes()
@@ -220,5 +218,5 @@ impl<'a> System for Over<'a> {
         out[0] = raised(from[0], self.fact(arc.0), arc.3);
     }
 
-    ghost flows = { λ s. graph_over_flows s.base.now.nodes s.base.now.arcs.now (row_at s.facts.now.rows) s.base.now.well_formed s.inductive };
+    ghost flows = { λ s. graph_over_flows s.base.now.nodes s.base.now.arcs.now (R.row_at s.facts.now) s.base.now.well_formed s.inductive };
 }

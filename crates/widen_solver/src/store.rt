@@ -1,6 +1,6 @@
 ghost use Rattle.std.specs.Prelude.{◌≡◌, ℕ, ◌+◌, ◌*◌, ◌^◌, ◌<◌, ◌≤◌, List, [], length, slice_index_or, vec_len, IsOk, IfOk};
 ghost use Rattle.dom_laws.specs.Flow.{IsInductive, IsDominated};
-ghost use Rattle.widen_solver.specs.Stored.{Stored, row_at, HasRow, HasShape};
+ghost use Rattle.widen_solver.specs.Stored.{Stored, row_at, HasShape};
 ghost use Rattle.widen_solver.specs.Solving.{step_bound};
 
 use super::row::Row;
@@ -45,7 +45,7 @@ impl Store {
 }
 
 impl Rows for Store {
-    ghost HasRow = { λ store. HasRow store.rows };
+    ghost count = { λ store. length store.rows };
 
     ghost row_at = { λ store. row_at store.rows };
 
