@@ -3,3 +3,4 @@ pub mod Flow
 pub mod Meaning
 pub mod Sizes
 pub mod SizesLaws
+pub mod Walking

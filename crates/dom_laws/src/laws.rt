@@ -2,7 +2,7 @@
 ghost use Rattle.std.specs.Prelude.{ℕ, ◌≤◌, List, ℤ};
 ghost use Rattle.cob_tree.specs.declared.fault.Kind.{Kind};
 ghost use Rattle.dom_laws.specs.Lattice.{IsElement, CanGrow};
-ghost use Rattle.dom_laws.specs.Flow.{IsInductive};
+ghost use Rattle.dom_laws.specs.Flow.{IsNode, IsInductive, HeadsAreFixed, IsDominated};
 ghost use Rattle.dom_laws.specs.Meaning.{Storage, ReachesIn, IsGranted};
 
 use super::traits::{Domain, Layer, Rows};
@@ -29,4 +29,14 @@ pub fn clears_no_fault<L: Layer, R: Rows>(layer: &L, rows: &R)
     ensures { let m = L.meaning layer.now in
         (n node : ℕ) (s : Storage) (kind : Kind) → ReachesIn (L.flow layer.now) m.runs n node s
         → m.Clears node (R.row_at rows.now node) kind → ¬ m.runs.Meets node kind s }
+{}
+
+/// What an inductive assignment whose heads widening leaves clears, rows clear that lie below all of these.
+pub fn nothing_is_missed<L: Layer, R: Rows>(layer: &L, rows: &R)
+    requires inductive { IsInductive (L.lattice layer.now) (L.flow layer.now) (R.row_at rows.now) }
+    requires dominated { IsDominated (L.lattice layer.now) (L.flow layer.now) (R.row_at rows.now) }
+    ensures { let l = L.lattice layer.now in let f = L.flow layer.now in let m = L.meaning layer.now in
+        (others : ℕ → List ℤ) → IsInductive l f others → HeadsAreFixed l f others
+        → (node : ℕ) (kind : Kind) → IsNode f node → m.Clears node (others node) kind
+        → m.Clears node (R.row_at rows.now node) kind }
 {}

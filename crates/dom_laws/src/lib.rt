@@ -8,7 +8,7 @@ mod sizes;
 mod traits;
 
 pub use counter::Steps;
-pub use laws::{clears_no_fault, growth_is_bounded, stands_where_reached};
+pub use laws::{clears_no_fault, growth_is_bounded, nothing_is_missed, stands_where_reached};
 pub use traits::{Domain, Layer, Rows, System};
 
 #[cfg(test)]
