@@ -7,7 +7,7 @@ use Rattle.batch_io.specs.FilesState.{Contents}
 use Rattle.cob_program.specs.Act.{Program}
 use Rattle.cob_graph.specs.declared.graph.Graph.{Graph}
 use Rattle.cob_graph.specs.Graphs.{IsGraph, OneGraph}
-use Rattle.cob_front.specs.declared.end.FrontEnd.{FrontEnd}
+use Rattle.cob_front.specs.declared.refusal.Refusal.{Refusal}
 use Rattle.cob_front.specs.Source.{IsSource}
 use Rattle.cob_front.specs.Laws.{OneAnswer}
 use Rattle.run_words.specs.Words.{Run, OneReading}
@@ -21,7 +21,7 @@ use Rattle.analyse_top.proofs.Words.{check_or_run}
 
 -- what bytes come to
 data Coming : Type 0 where
-  refused : FrontEnd → Coming
+  refused : Refusal → Coming
   blamed : List ℕ → Coming
   asked : Task → Coming
 

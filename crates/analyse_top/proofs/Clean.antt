@@ -6,8 +6,8 @@ use Rattle.cob_meaning.specs.Run.{MeetsNoFault}
 use Rattle.cert_check.specs.Inductive.{open_pairs}
 use Rattle.cert_check.proofs.Runs.{faults_open, none_open}
 use Rattle.cob_tree.specs.declared.token.Token.{Token}
-use Rattle.cob_front.specs.declared.end.FrontEnd.{FrontEnd}
-use Rattle.cob_front.specs.declared.end.FrontEnd.TheVariants as end
+use Rattle.cob_front.specs.declared.refusal.Refusal.{Refusal}
+use Rattle.cob_front.specs.declared.refusal.Refusal.TheVariants as end
 use Rattle.straight_source.specs.Source.{Source, program_of, statement_lines}
 use Rattle.straight_source.proofs.Whole.{source_valid}
 use Rattle.analyse_top.specs.Answer.{Answer, Usage, Absent, Refused, NotYet, CertificateLong, NotInductive, Report, Answers, AnswersProgram, HoldsSource, alarm_at, refusal_status, status_of, status_unwritten}
@@ -18,7 +18,7 @@ none_left : (lines : List ℕ) (pairs : List Open) → [] ≡ map (alarm_at line
 none_left lines [] e = refl
 none_left lines (pair ∷ pairs) e = cc
 
-refusal_not_zero : (cause : FrontEnd) → refusal_status cause ≡ 0 → ⊥
+refusal_not_zero : (cause : Refusal) → refusal_status cause ≡ 0 → ⊥
 refusal_not_zero end.TooLong e = omega arith
 refusal_not_zero (end.BadLine line column) e = omega arith
 refusal_not_zero (end.BadToken line column) e = omega arith

@@ -8,8 +8,8 @@ use Rattle.cob_program.specs.Act.{Program}
 use Rattle.cob_graph.specs.Nesting.{IsBroken, IsOutside}
 use Rattle.cob_graph.specs.Graphs.{IsOver, most_told}
 use Rattle.cob_graph.proofs.OneCopy.{one_count}
-use Rattle.cob_front.specs.declared.end.FrontEnd.{FrontEnd}
-use Rattle.cob_front.specs.declared.end.FrontEnd.TheVariants as end
+use Rattle.cob_front.specs.declared.refusal.Refusal.{Refusal}
+use Rattle.cob_front.specs.declared.refusal.Refusal.TheVariants as end
 use Rattle.cob_front.specs.Control.{IsControlCause}
 
 -- ---- the first broken rule
@@ -116,7 +116,7 @@ one_over p which.Nodes which.Items m n h k = absurd k
 one_over p which.Nodes which.Storage m n h k = absurd k
 one_over p which.Nodes which.Files m n h k = absurd k
 
-pub one_control_cause : (p : Program) (d e : FrontEnd) → IsControlCause p d → IsControlCause p e → d ≡ e
+pub one_control_cause : (p : Program) (d e : Refusal) → IsControlCause p d → IsControlCause p e → d ≡ e
 one_control_cause p (end.Outside r m) (end.Outside s n) h k = one_outside p r s m n h k
 one_control_cause p (end.Limit v m) (end.Limit w n) h k = one_over p v w m n h.1 k.1
 one_control_cause p (end.Outside r m) (end.Limit w n) h k = absurd (k.0.kept r m h.broken)

@@ -11,8 +11,8 @@ use Rattle.std.specs.Io.KnownBytes.{append_known}
 use Rattle.batch_io.specs.Faults.{Rose}
 use Rattle.batch_io.specs.FilesState.{Contents, FilesState, known_bytes}
 use Rattle.batch_io.specs.SinkState.{SinkState}
-use Rattle.cob_front.specs.declared.end.FrontEnd.{FrontEnd}
-use Rattle.cob_front.specs.declared.end.FrontEnd.TheVariants as end
+use Rattle.cob_front.specs.declared.refusal.Refusal.{Refusal}
+use Rattle.cob_front.specs.declared.refusal.Refusal.TheVariants as end
 use Rattle.cob_interp.proofs.Passing.{ids_stay}
 use Rattle.run_words.specs.Words.{Run, IsRun}
 use Rattle.analyse_top.specs.declared.answer.Stop.{Stop}
@@ -21,13 +21,14 @@ use Rattle.analyse_top.specs.declared.answer.Answer as code
 use Rattle.analyse_top.specs.declared.source.Unread.{Unread}
 use Rattle.analyse_top.specs.declared.source.Unread.TheVariants as unread
 use Rattle.analyse_top.specs.Profile.{IsProfileCause, IsNotStraight}
-use Rattle.analyse_top.specs.Answer.{Answer, Refused, NotYet, Answers, AnswersCheck, AnswersProgram, AnswersRun, IsCheck, source_limit, answer_text}
+use Rattle.analyse_top.specs.Answer.{Answer, Refused, NotYet, Answers, AnswersCheck, AnswersProgram, AnswersRun, IsCheck, answer_text}
 use Rattle.analyse_top.specs.Text.{memory_line, read_fault_line}
 use Rattle.analyse_top.specs.Showing.{Gains, GainsFront, ShowsRefusal}
 use Rattle.analyse_top.specs.Conclusion.{Call, EndsBy, EndsByMemory, EndsWithoutRun, MayBeShown}
 use Rattle.analyse_top.specs.Steps.{Reads, stopped_by_fault, ShowsAnswer, ShowsFound, Writes, IsUnread, unread_for, answer_to}
 use Rattle.analyse_top.specs.View.{plain_answer, plain_result}
 use Rattle.analyse_top.proofs.Found.{at_held}
+use Rattle.cob_lines.specs.Text.{source_limit}
 
 -- ---- a call that runs nothing
 
@@ -135,7 +136,7 @@ module _ (source certificate bytes : List ℕ) (fits : length bytes ≤ source_l
 
 -- ---- a source that isn't read
 
-pub unread_why : (bytes : List ℕ) (cause : FrontEnd) → IsProfileCause bytes cause ⊎ (cause ≡ end.Memory)
+pub unread_why : (bytes : List ℕ) (cause : Refusal) → IsProfileCause bytes cause ⊎ (cause ≡ end.Memory)
     → IsUnread bytes (unread_for cause)
 unread_why bytes end.TooLong (inl is) = is
 unread_why bytes (end.BadLine line column) (inl is) = is

@@ -8,7 +8,7 @@ use Rattle.std.proofs.lemmas.List.FromFn.{length-range_with_len}
 use Rattle.cob_tree.specs.declared.token.Token.{Token}
 use Rattle.cob_program.specs.Act as act
 use Rattle.cob_scan.specs.Scan.{Scan, BadLineAt, BadTokenAt, Tokens}
-use Rattle.cob_front.specs.declared.end.FrontEnd.{FrontEnd}
+use Rattle.cob_front.specs.declared.refusal.Refusal.{Refusal}
 use Rattle.cob_front.specs.Control.{IsControlCause}
 use Rattle.cob_front.specs.Laws.{OneAnswer}
 use Rattle.straight_source.specs.Source.{Source, toks, lines, tokens_before}
@@ -23,7 +23,7 @@ use Rattle.analyse_top.proofs.Control.{one_control_cause}
 
 -- what bytes end in
 pub data Ending : Type 0 where
-  refused : FrontEnd → Ending
+  refused : Refusal → Ending
   stopped : ℕ → Ending
   written : List Token → Source → Ending
 
@@ -66,7 +66,7 @@ one_writing bytes ts us s t h k =
 -- ---- causes
 
 module _ (law : (bytes : List ℕ) → OneAnswer bytes) (bytes : List ℕ) where
-  pub one_cause : (d e : FrontEnd) → IsProfileCause bytes d → IsProfileCause bytes e → d ≡ e
+  pub one_cause : (d e : Refusal) → IsProfileCause bytes d → IsProfileCause bytes e → d ≡ e
   one_cause d e (inl h) (inl k) = (law bytes).one_cause d e h k
   one_cause d e (inl h) (inr (q, is, k)) = absurd ((law bytes).not_both q d is h)
   one_cause d e (inr (p, is, h)) (inl k) = absurd ((law bytes).not_both p e is k)
@@ -74,7 +74,7 @@ module _ (law : (bytes : List ℕ) → OneAnswer bytes) (bytes : List ℕ) where
       let same : p ≡ q = (law bytes).one_program p q is also in
       one_control_cause q d e (subst (λ (x : act.Program). IsControlCause x d) same h) k
 
-  pub none_in_profile : (e : FrontEnd) → IsOfProfile bytes → IsProfileCause bytes e → ⊥
+  pub none_in_profile : (e : Refusal) → IsOfProfile bytes → IsProfileCause bytes e → ⊥
   none_in_profile e h (inl k) = (law bytes).not_both h.program e h.is_source k
   none_in_profile e h (inr (q, is, k)) =
       let same : q ≡ h.program = (law bytes).one_program q h.program is h.is_source in

@@ -6,9 +6,9 @@ use Rattle.std.specs.FinMap.{get}
 use Rattle.batch_io.specs.FilesState.{Contents, FilesState}
 use Rattle.cob_data.specs.declared.layout.FileDecl.{FileDecl}
 use Rattle.cob_program.specs.ActView.{plain_program}
-use Rattle.cob_ready.specs.Readiness.{Readiness}
-use Rattle.cob_front.specs.declared.end.FrontEnd.{FrontEnd}
-use Rattle.cob_front.specs.declared.end.FrontEnd.TheVariants as end
+use Rattle.cob_well_formed.specs.Sources.{SourcesCanBeRun}
+use Rattle.cob_front.specs.declared.refusal.Refusal.{Refusal}
+use Rattle.cob_front.specs.declared.refusal.Refusal.TheVariants as end
 use Rattle.run_words.specs.Words.{Run, texts, lent_texts}
 use Rattle.run_words.specs.Paths.{AreDistinct, paths_of}
 use Rattle.analyse_top.specs.declared.answer.Answer as code
@@ -32,7 +32,7 @@ module _ (bytes : List ℕ) (r : Run) (laid : Laid) (is : IsLaid bytes laid)
       ap (λ (ns : List (List ℕ)). paths_of laid.program.layout.files ns) (sym its_names)
       ∙ ap (λ (fs : List FileDecl). paths_of fs (lent_texts names)) (sym its_files)
 
-  pub is_task : (paths : Vec (String Global) Global) → Readiness
+  pub is_task : (paths : Vec (String Global) Global) → SourcesCanBeRun
       → paths_of files (lent_texts names) ≡ Ok (texts paths.items)
       → length paths.items ≡ length files → AreDistinct (texts paths.items)
       → IsTask bytes r (record { laid = laid; paths = paths; steps = r.steps })
@@ -66,7 +66,7 @@ module _ (bytes : List ℕ) (r : Run) (laid : Laid) (is : IsLaid bytes laid)
 
 -- ---- causes
 
-pub no_task : (bytes : List ℕ) (names : List (List ℕ)) (cause : FrontEnd)
+pub no_task : (bytes : List ℕ) (names : List (List ℕ)) (cause : Refusal)
     → IsProfileCause bytes cause ⊎ (cause ≡ end.Memory) → IsNoTask bytes names (answer_to (unread_for cause))
 no_task bytes names end.TooLong (inl is) = is
 no_task bytes names (end.BadLine line column) (inl is) = is

@@ -11,8 +11,8 @@ use Rattle.cert_text.specs.declared.cert.Claim.{Claim}
 use Rattle.cert_check.specs.declared.ends.Gap.{Gap}
 use Rattle.cert_check.specs.Inductive.{FitsProgram, leak, leaks, open_pairs}
 use Rattle.cob_tree.specs.declared.token.Token.{Token}
-use Rattle.cob_front.specs.declared.end.FrontEnd.{FrontEnd}
-use Rattle.cob_front.specs.declared.end.FrontEnd.TheVariants as end
+use Rattle.cob_front.specs.declared.refusal.Refusal.{Refusal}
+use Rattle.cob_front.specs.declared.refusal.Refusal.TheVariants as end
 use Rattle.straight_source.specs.Source.{Source, program_of, statement_lines}
 use Rattle.straight_claims.specs.Claims.{AreClaimsLines, claims_lines}
 use Rattle.run_words.specs.Words.{IsPlain, Run, IsRun}
@@ -20,6 +20,7 @@ use Rattle.analyse_top.specs.declared.answer.Alarm.{Alarm}
 use Rattle.analyse_top.specs.Text.{line_end, at_line, report_text, gap_text, refusal_text}
 use Rattle.analyse_top.specs.Profile.{IsProfileCause, IsWritten, IsNotStraight}
 use Rattle.analyse_top.specs.Runs.{BlamesWord}
+use Rattle.cob_lines.specs.Text.{source_limit}
 
 -- ---- answers, their texts and statuses
 
@@ -30,7 +31,7 @@ pub data Answer : Type 0 where
   -- there is no file of this name
   Absent : List ℕ → Answer
   -- the source isn't of the profile, for this cause
-  Refused : FrontEnd → Answer
+  Refused : Refusal → Answer
   -- the first line that isn't of the straight-line form, of the source or of the certificate
   NotYet : ℕ → Answer
   CertificateLong : Answer
@@ -52,7 +53,7 @@ answer_text CertificateLong = codes "E11 certificate too long" ++ line_end
 answer_text (NotInductive edge gap) = codes "E14 layer 1 edge " ++ decimal edge ++ gap_text gap ++ line_end
 answer_text (Report alarms) = report_text alarms
 
-abbrev pub refusal_status : FrontEnd → ℕ
+abbrev pub refusal_status : Refusal → ℕ
 refusal_status end.TooLong = 2
 refusal_status (end.BadLine line column) = 2
 refusal_status (end.BadToken line column) = 2
@@ -100,9 +101,6 @@ first_word [] = []
 first_word (word ∷ words) = word
 
 -- ---- the causes
-
-abbrev pub source_limit : ℕ
-source_limit = 1048576
 
 abbrev pub certificate_limit : ℕ
 certificate_limit = 67108864

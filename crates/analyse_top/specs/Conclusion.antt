@@ -101,7 +101,7 @@ RunsExactly call =
     → IsEnd t.program (told_files contents t.paths) t.steps result steps
     → EndsByRun call t result ⊎ FailsToRun call t
 
--- where the contents are known
+-- Where the contents are known, answers and runs are exact.
 pub record IsExact (call : Call) : Type 0 where
   pub answers : AnswersExactly call
   pub runs : RunsExactly call

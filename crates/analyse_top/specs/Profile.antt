@@ -5,7 +5,7 @@ use Rattle.cob_program.specs.Act.{Program}
 use Rattle.cob_graph.specs.declared.graph.Graph.{Graph}
 use Rattle.cob_graph.specs.Graphs.{IsGraph}
 use Rattle.cob_scan.specs.Scan.{Tokens, scan_of}
-use Rattle.cob_front.specs.declared.end.FrontEnd.{FrontEnd}
+use Rattle.cob_front.specs.declared.refusal.Refusal.{Refusal}
 use Rattle.cob_front.specs.Source.{IsSource, IsCause}
 use Rattle.cob_front.specs.Control.{IsControlCause}
 use Rattle.straight_source.specs.Source.{Source, toks, source_tokens}
@@ -18,10 +18,10 @@ pub record IsOfProfile (bytes : List ℕ) : Type 0 where
   pub is_source : IsSource bytes program
   pub graph : Graph
   pub is_graph : IsGraph program graph
-  pub within : (cause : FrontEnd) → IsControlCause program cause → ⊥
+  pub within : (cause : Refusal) → IsControlCause program cause → ⊥
 
 -- why the bytes aren't: they are no source of a program, or this program has no graph within the limits
-abbrev pub IsProfileCause : List ℕ → FrontEnd → Type 0
+abbrev pub IsProfileCause : List ℕ → Refusal → Type 0
 IsProfileCause bytes cause =
     IsCause bytes cause ⊎ ((program : Program) × IsSource bytes program × IsControlCause program cause)
 

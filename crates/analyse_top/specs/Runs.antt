@@ -7,7 +7,7 @@ use Rattle.cob_data.specs.declared.layout.FileDecl.{FileDecl}
 use Rattle.cob_program.specs.Act.{Program}
 use Rattle.cob_graph.specs.declared.graph.Graph.{Graph}
 use Rattle.cob_graph.specs.Graphs.{IsGraph}
-use Rattle.cob_front.specs.declared.end.FrontEnd.{FrontEnd}
+use Rattle.cob_front.specs.declared.refusal.Refusal.{Refusal}
 use Rattle.cob_front.specs.Source.{IsSource}
 use Rattle.cob_front.specs.Control.{IsControlCause}
 use Rattle.cob_interp.specs.declared.ends.Ended.{Ended}
@@ -36,7 +36,7 @@ task program graph paths steps = record { program = program; graph = graph; path
 pub record Makes (bytes : List ℕ) (r : Run) (t : Task) : Type 0 where
   pub is_source : IsSource bytes t.program
   pub is_graph : IsGraph t.program t.graph
-  pub within : (cause : FrontEnd) → IsControlCause t.program cause → ⊥
+  pub within : (cause : Refusal) → IsControlCause t.program cause → ⊥
   pub paths_are : paths_of t.program.layout.files r.names ≡ Ok t.paths
   pub steps_are : t.steps ≡ r.steps
 
@@ -70,7 +70,7 @@ run_status (end.IoStop status statement) = 11
 run_status (end.Fault kind statement step) = 1
 run_status end.Memory = 8
 
--- by its line, or by that of want of memory where the line can't be made
+-- The end is told by its line, or by that of want of memory where the line can't be made.
 abbrev pub ShowsEnd : List FileDecl → SinkState → SinkState → RunEnd → ℕ → Type 0
 ShowsEnd files old new e status =
     ShowsRefusal old new (run_text files e) (run_status e) status ⊎ ((status ≡ 8) × GainsFront old new memory_line)

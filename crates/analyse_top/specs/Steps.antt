@@ -18,11 +18,11 @@ use Rattle.straight_source.specs.declared.read.StraightLines.{StraightLines}
 use Rattle.straight_source.specs.Source.{Source, program_of, statement_lines}
 use Rattle.cob_program.specs.ActView.{plain_program}
 use Rattle.cob_graph.specs.Graphs.{IsGraph}
-use Rattle.cob_front.specs.declared.end.FrontEnd.{FrontEnd}
-use Rattle.cob_front.specs.declared.end.FrontEnd.TheVariants as end
+use Rattle.cob_front.specs.declared.refusal.Refusal.{Refusal}
+use Rattle.cob_front.specs.declared.refusal.Refusal.TheVariants as end
 use Rattle.cob_front.specs.Source.{IsSource}
 use Rattle.cob_front.specs.Control.{IsControlCause}
-use Rattle.cob_ready.specs.Readiness.{CanBeRun}
+use Rattle.cob_well_formed.specs.Sources.{CanBeRun}
 use Rattle.run_words.specs.Words.{Run, texts}
 use Rattle.run_words.specs.Paths.{AreDistinct}
 use Rattle.analyse_top.specs.declared.answer.Stop.{Stop}
@@ -43,7 +43,7 @@ stopped_by_fault (Ok x) = false
 stopped_by_fault (Err ReadFault) = true
 stopped_by_fault (Err Memory) = false
 
--- of what was to be done instead
+-- A fault refuses what was to be done in place of an answer.
 abbrev pub refused_by_fault : {X A : Type 0} → Result X (Result A Stop) → Bool
 refused_by_fault (Ok x) = false
 refused_by_fault (Err found) = stopped_by_fault found
@@ -61,7 +61,7 @@ pub record Reads (old new : FilesState) (failed : Bool) : Type 0 where
 pub record IsLaid (bytes : List ℕ) (laid : Laid) : Type 0 where
   pub is_source : IsSource bytes (plain_program laid.program)
   pub is_graph : IsGraph (plain_program laid.program) laid.graph
-  pub within : (cause : FrontEnd) → IsControlCause (plain_program laid.program) cause → ⊥
+  pub within : (cause : Refusal) → IsControlCause (plain_program laid.program) cause → ⊥
 
 -- a program and its lines, as the checker takes them
 pub record IsCheckable (read : StraightLines) : Type 0 where
@@ -83,7 +83,7 @@ IsUnread bytes (unread.NotYet line) = IsNotStraight bytes line
 IsUnread bytes unread.Memory = Unit {0}
 
 -- want of memory stands by itself
-abbrev pub unread_for : FrontEnd → Unread
+abbrev pub unread_for : Refusal → Unread
 unread_for end.TooLong = unread.Refused end.TooLong
 unread_for (end.BadLine line column) = unread.Refused (end.BadLine line column)
 unread_for (end.BadToken line column) = unread.Refused (end.BadToken line column)

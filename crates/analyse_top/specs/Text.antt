@@ -7,8 +7,8 @@ use Rattle.cob_data.specs.declared.end.Rule.{Rule}
 use Rattle.cob_data.specs.declared.end.Rule.TheVariants as rule
 use Rattle.cob_data.specs.declared.end.Which.{Which}
 use Rattle.cob_data.specs.declared.end.Which.TheVariants as which
-use Rattle.cob_front.specs.declared.end.FrontEnd.{FrontEnd}
-use Rattle.cob_front.specs.declared.end.FrontEnd.TheVariants as end
+use Rattle.cob_front.specs.declared.refusal.Refusal.{Refusal}
+use Rattle.cob_front.specs.declared.refusal.Refusal.TheVariants as end
 use Rattle.cob_data.specs.declared.layout.FileDecl.{FileDecl}
 use Rattle.cob_interp.specs.declared.ends.RunEnd.{RunEnd}
 use Rattle.cob_interp.specs.declared.ends.RunEnd.TheVariants as run
@@ -67,7 +67,7 @@ gap_text (gap.Diff pack row column reached claimed) = place_text pack row column
 abbrev pub place_line : List ℕ → ℕ → ℕ → List ℕ
 place_line code line column = code ++ codes " line " ++ decimal line ++ codes " column " ++ decimal column ++ line_end
 
--- that of a refusal at a line
+-- The text of a refusal at a line.
 abbrev pub at_line : List ℕ → ℕ → List ℕ
 at_line code line = code ++ codes " line " ++ decimal line ++ line_end
 
@@ -111,14 +111,14 @@ which_text which.Files = codes "files"
 which_text which.Cells = codes "cells"
 which_text which.Nodes = codes "nodes"
 
--- so many are more than the limit
+-- The line of a count above its limit.
 abbrev pub over_line : Which → ℕ → List ℕ
 over_line which count = codes "E10 " ++ which_text which ++ codes " " ++ decimal count ++ line_end
 
 abbrev pub memory_line : List ℕ
 memory_line = codes "E19 memory" ++ line_end
 
-abbrev pub refusal_text : FrontEnd → List ℕ
+abbrev pub refusal_text : Refusal → List ℕ
 refusal_text end.TooLong = codes "E5 source too long" ++ line_end
 refusal_text (end.BadLine line column) = place_line (codes "E6") line column
 refusal_text (end.BadToken line column) = place_line (codes "E7") line column
@@ -157,7 +157,7 @@ fault_line kind statement step =
     codes "E18 " ++ kind_text kind ++ codes " statement " ++ decimal statement
     ++ codes " step " ++ decimal step ++ line_end
 
--- of a program with these files
+-- How a run of a program with these files ended, as a line.
 abbrev pub run_text : List FileDecl → RunEnd → List ℕ
 run_text files run.ReadFault = read_fault_line
 run_text files run.WriteFault = write_fault_line

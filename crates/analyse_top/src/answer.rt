@@ -1,8 +1,9 @@
+//! Answers of the program where nothing is run: reports and refusals, with the faults that stop the way to one.
 ghost use Rattle.std.specs.Prelude.{◌≡◌};
 ghost use Rattle.analyse_top.specs.declared.answer.Stop.TheVariants.{Memory};
 
 use cert_check::Gap;
-use cob_front::FrontEnd;
+use cob_front::Refusal;
 use cob_tree::Kind;
 use std::alloc::AllocError;
 
@@ -24,7 +25,7 @@ pub enum Answer<'a> {
     /// There is no file of this name.
     Absent(&'a str),
     /// The source isn't of the profile.
-    Refused(FrontEnd),
+    Refused(Refusal),
     /// The first line that isn't of the straight-line form, of the source or of the certificate.
     NotYet(u32),
     CertificateLong,

@@ -1,3 +1,4 @@
+//! `check`: the answer to a source and a certificate.
 ghost use Rattle.std.specs.Prelude.{◌≡◌, ◌≤◌, All, map, length, IfOk, IfSome, MatchResult};
 ghost use Rattle.batch_io.specs.FilesState.{known_bytes};
 ghost use Rattle.cob_meaning.specs.Program.{plain};
@@ -9,14 +10,12 @@ use crate::answer::{Alarm, Answer, Stop};
 use crate::source::{Unread, read_straight};
 use batch_io::{FileEnd, Files, read_file};
 use cert_check::{CheckEnd, check_straight};
-use cob_front::FrontEnd;
+use cob_front::Refusal;
+use cob_lines::SOURCE_LIMIT;
 use cob_tree::Open;
 use std::alloc::{AllocError, Global};
 use straight_claims::{ClaimsEnd, read_claims};
 use straight_source::StraightLines;
-
-/// The most bytes of a source.
-pub const SOURCE_LIMIT: usize = 1_048_576;
 
 const CERTIFICATE_LIMIT: usize = 67_108_864;
 
@@ -34,7 +33,7 @@ pub fn check<'a, F: Files>(
     let bytes = match read_file(alloc, files, source, SOURCE_LIMIT) {
         Ok(bytes) => bytes,
         Err(FileEnd::Absent) => return Ok(Answer::Absent(source)),
-        Err(FileEnd::Long) => return Ok(Answer::Refused(FrontEnd::TooLong)),
+        Err(FileEnd::Long) => return Ok(Answer::Refused(Refusal::TooLong)),
         Err(FileEnd::Failed) => return Err(Stop::ReadFault),
         Err(FileEnd::Memory) => return Err(Stop::Memory),
     };

@@ -44,6 +44,4 @@ fn main(rt: HostRuntime) -> ExitCode {
 }
 
 #[cfg(test)]
-mod payroll;
-#[cfg(test)]
 mod tests;

@@ -11,13 +11,14 @@ ghost use Rattle.analyse_top.specs.Steps.{Reads, refused_by_fault, IsLaid, IsRea
 ghost use Rattle.analyse_top.specs.View.{plain_answer, plain_result, plain_task};
 
 use crate::answer::{Answer, Stop};
-use crate::check::{SOURCE_LIMIT, answer_to};
+use crate::check::answer_to;
 use crate::show::show_end;
 use crate::source::{Laid, laid_in, unread_for};
 use batch_io::{FileEnd, Files, Sink, read_file};
-use cob_front::FrontEnd;
+use cob_front::Refusal;
 use cob_interp::run_to_ending;
-use cob_ready::sources_can_be_run;
+use cob_lines::SOURCE_LIMIT;
+use cob_well_formed::sources_can_be_run;
 use run_words::{PathsEnd, RunWords, paths_of};
 use std::alloc::Global;
 
@@ -84,7 +85,7 @@ pub fn task_for<'a, F: Files>(
     let bytes = match read_file(alloc, files, said.source, SOURCE_LIMIT) {
         Ok(bytes) => bytes,
         Err(FileEnd::Absent) => return Err(Ok(Answer::Absent(said.source))),
-        Err(FileEnd::Long) => return Err(Ok(Answer::Refused(FrontEnd::TooLong))),
+        Err(FileEnd::Long) => return Err(Ok(Answer::Refused(Refusal::TooLong))),
         Err(FileEnd::Failed) => return Err(Err(Stop::ReadFault)),
         Err(FileEnd::Memory) => return Err(Err(Stop::Memory)),
     };

@@ -10,7 +10,7 @@ use crate::answer::{Answer, Stop};
 use crate::text::{answer_text, run_text};
 use batch_io::{MakeEnd, Sink, show_whole};
 use cob_data::FileDecl;
-use cob_front::FrontEnd;
+use cob_front::Refusal;
 use cob_interp::{Ending, RunEnd};
 use std::alloc::Global;
 
@@ -55,17 +55,17 @@ fn show_answer<O: Sink>(alloc: Global, answer: &Answer, out: &mut O) -> u8
     }
 }
 
-fn refusal_status(cause: FrontEnd) -> u8
+fn refusal_status(cause: Refusal) -> u8
     ensures { result ≡ refusal_status cause }
 {
     match cause {
-        FrontEnd::Nesting { .. } | FrontEnd::Limit { .. } => 9,
-        FrontEnd::Memory => OUT_OF_MEMORY,
-        FrontEnd::TooLong
-        | FrontEnd::BadLine { .. }
-        | FrontEnd::BadToken { .. }
-        | FrontEnd::Syntax { .. }
-        | FrontEnd::Outside { .. } => 2,
+        Refusal::Nesting { .. } | Refusal::Limit { .. } => 9,
+        Refusal::Memory => OUT_OF_MEMORY,
+        Refusal::TooLong
+        | Refusal::BadLine { .. }
+        | Refusal::BadToken { .. }
+        | Refusal::Syntax { .. }
+        | Refusal::Outside { .. } => 2,
     }
 }
 

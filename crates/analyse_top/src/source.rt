@@ -1,11 +1,13 @@
+//! A source from its file: its program and graph, and its lines where it is of the straight-line form.
 ghost use Rattle.std.specs.Prelude.{◌≡◌, ◌≤◌, length, IfOk, MatchResult};
 ghost use Rattle.cob_program.specs.ActView.{plain_program};
 ghost use Rattle.cob_front.specs.Source.{IsSource, Answers};
 ghost use Rattle.cob_scan.specs.Scan.{Tokens, scan_of};
 ghost use Rattle.analyse_top.specs.Profile.{IsOfProfile, IsProfileCause};
 ghost use Rattle.analyse_top.specs.Steps.{IsLaid, IsCheckable, Writes, IsUnread, unread_for};
+ghost use Rattle.cob_lines.specs.Text.{source_limit};
 
-use cob_front::{FrontEnd, graph_in, program_in};
+use cob_front::{Refusal, graph_in, program_in};
 use cob_graph::Graph;
 use cob_program::Program;
 use cob_scan::{ScanEnd, tokens_in};
@@ -17,7 +19,7 @@ use straight_source::{SourceEnd, StraightLines, read_source};
 #[derive(Clone, Copy, Debug)]
 pub enum Unread {
     /// It isn't of the profile.
-    Refused(FrontEnd),
+    Refused(Refusal),
     /// The line of the first token with which no source of the straight-line form goes on.
     NotYet { line: u32 },
     Memory,
@@ -31,7 +33,7 @@ pub struct Laid {
 }
 
 // A source's program with its graph.
-fn with_graph(alloc: Global, bytes: &[u8], program: Program) -> Result<Laid, FrontEnd>
+fn with_graph(alloc: Global, bytes: &[u8], program: Program) -> Result<Laid, Refusal>
     requires { IsSource bytes.now (plain_program program) }
     ensures { Answers (IsLaid bytes.now) (IsProfileCause bytes.now) result }
 {
@@ -42,7 +44,7 @@ fn with_graph(alloc: Global, bytes: &[u8], program: Program) -> Result<Laid, Fro
 }
 
 /// The program of a source of the profile, with its graph.
-pub fn laid_in(alloc: Global, bytes: &[u8]) -> Result<Laid, FrontEnd>
+pub fn laid_in(alloc: Global, bytes: &[u8]) -> Result<Laid, Refusal>
     ensures { Answers (IsLaid bytes.now) (IsProfileCause bytes.now) result }
 {
     match program_in(alloc, bytes) {
@@ -52,7 +54,7 @@ pub fn laid_in(alloc: Global, bytes: &[u8]) -> Result<Laid, FrontEnd>
 }
 
 // Finds that the bytes are of the profile.
-fn in_profile(alloc: Global, bytes: &[u8]) -> Result<(), FrontEnd>
+fn in_profile(alloc: Global, bytes: &[u8]) -> Result<(), Refusal>
     ensures { Answers (λ _. IsOfProfile bytes.now) (IsProfileCause bytes.now) result }
 {
     match laid_in(alloc, bytes) {
@@ -63,7 +65,7 @@ fn in_profile(alloc: Global, bytes: &[u8]) -> Result<(), FrontEnd>
 
 // The canonical tokens of a source of the profile.
 fn profile_tokens(alloc: Global, bytes: &[u8]) -> Result<Vec<Token>, AllocError>
-    requires fits { length bytes.now ≤ 1048576 }
+    requires fits { length bytes.now ≤ source_limit }
     requires profile { IsOfProfile bytes.now }
     ensures { IfOk result (λ tokens. scan_of bytes.now ≡ Tokens tokens.items) }
 {
@@ -76,7 +78,7 @@ fn profile_tokens(alloc: Global, bytes: &[u8]) -> Result<Vec<Token>, AllocError>
 
 // Reads a source of the profile as one of the straight-line form.
 fn straight_lines(alloc: Global, bytes: &[u8]) -> Result<StraightLines, Unread>
-    requires fits { length bytes.now ≤ 1048576 }
+    requires fits { length bytes.now ≤ source_limit }
     requires profile { IsOfProfile bytes.now }
     ensures reads { MatchResult result (Writes bytes.now) (IsUnread bytes.now) }
     ensures checkable { IfOk result IsCheckable }
@@ -93,11 +95,11 @@ fn straight_lines(alloc: Global, bytes: &[u8]) -> Result<StraightLines, Unread>
 }
 
 /// Want of memory stands by itself.
-pub fn unread_for(cause: FrontEnd) -> Unread
+pub fn unread_for(cause: Refusal) -> Unread
     ensures { result ≡ unread_for cause }
 {
     match cause {
-        FrontEnd::Memory => Unread::Memory,
+        Refusal::Memory => Unread::Memory,
         cause => Unread::Refused(cause),
     }
 }
@@ -105,7 +107,7 @@ pub fn unread_for(cause: FrontEnd) -> Unread
 /// Reads a source of at most 1,048,576 bytes: first as one of the profile, through its graph, and then as one of the
 /// straight-line form.
 pub fn read_straight(alloc: Global, bytes: &[u8]) -> Result<StraightLines, Unread>
-    requires { length bytes.now ≤ 1048576 }
+    requires { length bytes.now ≤ source_limit }
     ensures reads { MatchResult result (Writes bytes.now) (IsUnread bytes.now) }
     ensures checkable { IfOk result IsCheckable }
 {

@@ -1,3 +1,4 @@
+//! The text of answers: reports, refusals and the lines that tell how a run ended.
 ghost use Rattle.std.specs.Prelude.{◌≡◌, ◌++◌, codes, decimal, OnOk, IfOk, length, vec_len};
 ghost use Rattle.analyse_top.specs.Text.{line_end, alarm_text, at_line, bound_text, gap_text, kind_text, over_line, refusal_text, report_text, rule_text, ends_text, cell_text, difference_text, place_text, place_line, which_text, external_at, fault_line, number_line, ragged_line, run_text, stop_line};
 ghost use Rattle.analyse_top.specs.View.{plain_answer};
@@ -6,7 +7,7 @@ ghost use Rattle.analyse_top.specs.Answer.{answer_text, usage_text};
 use crate::answer::{Alarm, Answer};
 use cert_check::Gap;
 use cob_data::{FileDecl, Rule, Which};
-use cob_front::FrontEnd;
+use cob_front::Refusal;
 use cob_interp::RunEnd;
 use cob_tree::Kind;
 use itoa::{Buffer, Integer};
@@ -262,18 +263,18 @@ fn push_over(text: &mut Vec<u8>, which: Which, count: u64) -> Result<(), AllocEr
     text.extend_from_slice(b"\n")
 }
 
-fn push_refusal(text: &mut Vec<u8>, cause: FrontEnd) -> Result<(), AllocError>
+fn push_refusal(text: &mut Vec<u8>, cause: Refusal) -> Result<(), AllocError>
     ensures { OnOk result (text.new.items ≡ text.old.items ++ refusal_text cause) }
 {
     match cause {
-        FrontEnd::TooLong => text.extend_from_slice(b"E5 source too long\n"),
-        FrontEnd::BadLine { line, column } => push_place_line(text, b"E6", line, column),
-        FrontEnd::BadToken { line, column } => push_place_line(text, b"E7", line, column),
-        FrontEnd::Syntax { line } => push_line(text, b"E8", line),
-        FrontEnd::Nesting { count } => push_over(text, Which::Nesting, u64::from(count)),
-        FrontEnd::Outside { rule, line } => push_broken(text, rule, line),
-        FrontEnd::Limit { which, count } => push_over(text, which, count),
-        FrontEnd::Memory => text.extend_from_slice(b"E19 memory\n"),
+        Refusal::TooLong => text.extend_from_slice(b"E5 source too long\n"),
+        Refusal::BadLine { line, column } => push_place_line(text, b"E6", line, column),
+        Refusal::BadToken { line, column } => push_place_line(text, b"E7", line, column),
+        Refusal::Syntax { line } => push_line(text, b"E8", line),
+        Refusal::Nesting { count } => push_over(text, Which::Nesting, u64::from(count)),
+        Refusal::Outside { rule, line } => push_broken(text, rule, line),
+        Refusal::Limit { which, count } => push_over(text, which, count),
+        Refusal::Memory => text.extend_from_slice(b"E19 memory\n"),
     }
 }
 

@@ -1,3 +1,4 @@
+//! The top call: the command that the words name, from words to the status.
 ghost use Rattle.std.specs.Prelude.{◌≡◌, ℕ, List, IfOk};
 ghost use Rattle.batch_io.specs.FilesState.{known_bytes};
 ghost use Rattle.run_words.specs.Words.{IsRun, Run, plain_run, texts};
@@ -12,7 +13,7 @@ use crate::run::{run, task_for};
 use crate::show::show_found;
 use batch_io::{Files, Sink};
 use cob_front::one_answer;
-use cob_graph::graphs_are_one;
+use cob_graph_laws::graphs_are_one;
 use cob_interp::one_end;
 use run_words::{RunWords, is_plain, one_reading, run_words};
 use std::alloc::Global;
@@ -39,7 +40,7 @@ pub fn cobsound<F: Files, O: Sink>(
     conclude(alloc, words.as_slice(), files, out)
 }
 
-// The same, by what it does alone.
+// Runs the command that the words name; what it promises is what it does alone.
 fn conclude<F: Files, O: Sink>(alloc: Global, words: &[String], files: &mut F, out: &mut O) -> u8
     ensures { Concludes (call (texts words.now)
         (F.state files.old) (F.state files.new) (O.state out.old) (O.state out.new) result) }

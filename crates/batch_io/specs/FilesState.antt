@@ -26,7 +26,7 @@ pub record Told : Type 0 where
 
 pub record FilesState : Type 0 where
   pub told : Option Told
-  -- which ids are open, and what for
+  -- for what an id is open, if it is
   pub purpose : ℕ → Option Purpose
   -- faults of open, of read, and of close of an id opened for reading
   pub reading : ℕ

@@ -22,7 +22,7 @@ entry_of file = (string_bytes file.0, file.1.items)
 abbrev pub entries_of : List File → List (List ℕ × List ℕ)
 entries_of files = map entry_of files
 
--- of two files of one name the first counts
+-- What stands under each name; of two files of one name the first counts.
 abbrev pub contents_of : List File → Contents
 contents_of files = from_entries (entries_of files)
 
@@ -66,7 +66,7 @@ mem_files m = record {
 abbrev pub files_calls : MemFiles → FailingCalls
 files_calls m = m.calls
 
--- these files, no id open, no fault and no call so far
+-- an object that holds these files, with no id open, no fault and no call so far
 pub record StartsFiles (files : List File) (failing : List ℕ) (result : MemFiles) : Type 0 where
   pub bytes : known_bytes (mem_files result) ≡ Some (contents_of files)
   pub purpose : (id : ℕ) → (mem_files result).purpose id ≡ None

@@ -1,3 +1,4 @@
+//! Pseudorandom divisions and values to be fitted.
 ghost use Rattle.std.specs.Prelude.{◌<◌, ◌≤◌, ◌^◌, ◌≤ℤ◌, pos, neg_ℤ, unsigned_abs};
 
 use dec_num::{Mode, Scaled, pow10};

@@ -2,8 +2,8 @@
 //! how many microseconds the rules on nesting and the graph took instead.
 #![tactic(auto)]
 
-use cob_graph_build::{graph_of, nested};
 use cob_front::program_in;
+use cob_graph_build::{graph_of, nested};
 use cob_program::Program;
 use std::rt::Clock;
 use std::time::Instant;

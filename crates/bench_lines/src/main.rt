@@ -1,9 +1,10 @@
+//! Counts the characters and the tokens of a source, for the scripts that time them.
 // Says how long the text of each source is that its arguments name, and how many tokens it has where `--tokens`
 // stands before its name. bench/lines measures it.
 #![tactic(auto)]
 
 use cob_lex::{LexEnd, tokens_of};
-use cob_lines::{Mark, TextEnd, text_of};
+use cob_lines::{Mark, SOURCE_LIMIT, TextEnd, text_of};
 use std::rt::Files;
 use std::{env, fs, io};
 
@@ -24,7 +25,7 @@ fn report(
     with_tokens: bool,
 ) -> io::Result<()> {
     let bytes = fs::read(rt, path)?;
-    if bytes.len() > 1_048_576 {
+    if bytes.len() > SOURCE_LIMIT {
         return println!(rt; "too long");
     }
     match text_of(rt.alloc(), bytes.as_slice()) {

@@ -1,3 +1,4 @@
+//! Pseudorandom matrices.
 ghost use Rattle.std.specs.Prelude.{◌≡◌, ◌+◌, ◌<◌, ◌^◌, ◌≤ℤ◌, ◌<ℤ◌, pos, neg_ℤ};
 ghost use Rattle.diff_bounds.specs.Matrix.{IsMatrix};
 

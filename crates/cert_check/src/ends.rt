@@ -1,3 +1,4 @@
+//! How a check ends that lists no pairs: a wrong shape, or the first gap.
 ghost use Rattle.std.specs.Prelude.{◌≡◌};
 ghost use Rattle.cert_check.specs.declared.ends.CheckEnd.TheVariants.{Memory};
 

@@ -1,3 +1,4 @@
+//! Intervals of unsigned items, and the transfer of an addition on them.
 ghost use Rattle.std.specs.Prelude.{◌≡◌, ◌≤◌, ◌-◌, ◌^◌, pos, ◌+ℤ◌, unsigned_abs, ◌<◌};
 ghost use Rattle.cert_check.specs.Element.{met, own, is_held, interval};
 

@@ -1,3 +1,4 @@
+//! The check of a straight-line program's certificate: the first leak, or the open pairs.
 ghost use Rattle.std.specs.Prelude.{◌≡◌, ◌≤◌, ◌<◌, ◌+◌, ◌-◌, map, length, vec_len, [], ◌∷◌, ◌++◌, All, IfOk, OnOk, IfSome, option_map, slice_get, slice_index, unsigned_abs, ◌^◌};
 ghost use Rattle.cert_check.specs.Element.{met, own, claimed, source_of, result_of, after, post, interval, IsSmall, AreDigits, IsStore};
 ghost use Rattle.cert_check.specs.Inductive.{Checks, FitsProgram, AreNodes, kind_of, plain_nodes, element_gaps, node_gaps, cell_gaps, open_kind, leaks, leaks_from, entry_leaks, pairs_from, pair_of, open_pairs};
@@ -141,7 +142,7 @@ fn node_gap(cells: &[Interval], claims: &[Claim]) -> Option<Gap>
     None
 }
 
-// The same for an element that may not be reached.
+// The first gap of an element that may not be reached.
 fn element_gap(element: Option<Vec<Interval>>, claims: &[Claim]) -> Option<Gap>
     requires { IfSome element (λ v. vec_len v ≡ length claims.now) }
     ensures { result ≡ slice_get (element_gaps (option_map (λ v. v.items) element) claims.now) 0 }

@@ -32,11 +32,11 @@ claims_fit cells last (c ∷ cs) = claim_fits cells last c && claims_fit cells c
 abbrev pub key_of : Bound → Key
 key_of b = record { pack = b.pack; row = b.row; column = b.column }
 
--- before every bound
+-- a key that comes before that of every bound
 abbrev pub no_key : Key
 no_key = record { pack = 0; row = 0; column = 0 }
 
--- by pack, then by row, then by column
+-- The order of bounds: by pack, then by row, then by column.
 abbrev pub is_before : Key → Key → Bool
 is_before a b =
     nat_lt a.pack b.pack

@@ -156,7 +156,7 @@ end_read d zs =
     then Some (record (node_closed d) { stage = stages.Ended })
     else None
 
--- of the words that one number follows
+-- The step of a word that one number follows.
 abbrev pub one_step : Parts → Word → ℕ → Option Parts
 one_step d words.Title n = title_read d n
 one_step d words.Cells n = cells_read d n
@@ -181,7 +181,7 @@ step d words.Claim zs = claim_among zs ▷ claim_read d
 step d words.Bound zs = bound_among zs ▷ bound_read d
 step d words.End zs = end_read d zs
 
--- one more line of bytes
+-- what the parts are with one more line of bytes, where it may stand there
 unfoldable pub line_read : Parts → List ℕ → Option Parts
 line_read d line = word_at line ▷ (λ w. numbers_at 8 w.1 ▷ (λ zs. step d w.0 zs))
 

@@ -46,7 +46,7 @@ abbrev pub after_space : List ℕ → Option (ℤ × List ℕ)
 after_space [] = None
 after_space (b ∷ bs) = if b == 32 then signed_at bs else None
 
--- at most so many numbers up to the end
+-- The numbers of a line up to its end, at most so many.
 abbrev pub numbers_at : ℕ → List ℕ → Option (List ℤ)
 numbers_at most [] = Some []
 numbers_at zero (b ∷ bs) = None

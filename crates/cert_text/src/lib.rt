@@ -13,4 +13,3 @@ pub use cert::{Bound, Cert, CertEnd, Claim, Element};
 pub use laws::{one_place, one_spelling};
 pub use printing::print;
 pub use reading::read;
-

@@ -1,3 +1,4 @@
+//! Classes joined.
 use super::{Class, class_join};
 
 const JOINS: [(Class, Class, Class); 4] = [

@@ -13,15 +13,15 @@ use Rattle.num_bytes.specs.Reading.{contents_value}
 use Rattle.cob_program.specs.Bounds.{of_digits, form_bound, is_small, IsWithin}
 use Rattle.cob_runs.specs.Contents.{area, form_at, scaled_by}
 use Rattle.cob_runs.specs.Moves.{takes_number}
-use Rattle.cob_items.specs.Sound.{IsSoundForm, IsSoundItem, HasSoundItems}
+use Rattle.cob_items.specs.WellFormed.{IsWellFormedForm, IsWellFormedItem, HasWellFormedItems}
 use Rattle.cob_items.proofs.ReadBound.{read_within}
-use Rattle.cob_calc.specs.Contents.{Contents, IsSound, amount, amount_at, bound_at, IsBounded}
+use Rattle.cob_calc.specs.Contents.{Contents, IsWellFormed, amount, amount_at, bound_at, IsBounded}
 
 number_within : (digits scale : ℕ) (z : Option ℤ) → ((x : ℤ) → z ≡ Some x → IsWithin (scaled_by scale x) (of_digits digits scale)) → IsWithin (scaled_by scale (unwrap_or z (pos 0))) (of_digits digits scale)
 number_within digits scale None h = record { most = omega arith; scale = refl }
 number_within digits scale (Some x) h = h x refl
 
-amount_within : (f : Form) (bs : List ℕ) → IsSoundForm f (length bs) → IsWithin (amount f bs) (form_bound f)
+amount_within : (f : Form) (bs : List ℕ) → IsWellFormedForm f (length bs) → IsWithin (amount f bs) (form_bound f)
 amount_within form.Group bs h = record { most = omega arith; scale = refl }
 amount_within (form.Text n) bs h = record { most = omega arith; scale = refl }
 amount_within (form.Number digits scale signed kept) bs h =
@@ -33,11 +33,11 @@ length-area : (storage : List ℕ) (offset count : ℕ) → offset + count ≤ l
 length-area storage offset count h = length-take-le count (drop offset storage) (omega (arith, length-drop offset storage))
 
 -- the item at a place
-pub sound_item : (l : Layout) (place : ℕ) (i : Item) → HasSoundItems l → slice_get l.items place ≡ Some i → IsSoundItem l i
+pub sound_item : (l : Layout) (place : ℕ) (i : Item) → HasWellFormedItems l → slice_get l.items place ≡ Some i → IsWellFormedItem l i
 sound_item l place i sound e =
-    subst (IsSoundItem l) (get_or_from_slice_get l.items place i i e) (sound.items place i (slice_get_within l.items place i e))
+    subst (IsWellFormedItem l) (get_or_from_slice_get l.items place i i e) (sound.items place i (slice_get_within l.items place i e))
 
-pub bounded : (c : Contents) → IsSound c → IsBounded c
+pub bounded : (c : Contents) → IsWellFormed c → IsBounded c
 bounded c sound place = go (slice_get c.layout.items place) refl
   where
     go : (o : Option Item) → slice_get c.layout.items place ≡ o → IsWithin (amount_at c place) (bound_at c.layout place)
@@ -56,14 +56,14 @@ digits_are_small : (digits scale : ℕ) → digits ≤ 18 → scale ≤ digits �
 digits_are_small digits scale h k =
     rw (few (10 ^ digits - 1) (10 ^ 37 - 1) (omega (arith, ten_monotone digits 18 h)), few scale 37 (omega arith)) refl
 
-form_is_small : (f : Form) (bytes : ℕ) → IsSoundForm f bytes → IsTrue (takes_number f) → is_small (form_bound f) ≡ true
+form_is_small : (f : Form) (bytes : ℕ) → IsWellFormedForm f bytes → IsTrue (takes_number f) → is_small (form_bound f) ≡ true
 form_is_small form.Group bytes h t = absurd cc
 form_is_small (form.Text n) bytes h t = absurd cc
 form_is_small (form.Number digits scale signed kept) bytes h t = digits_are_small digits scale h.number.at_most_18 h.decimals
 form_is_small (form.Edited picture digits scale) bytes h t = digits_are_small digits scale h.at_most_18 h.decimals
 
 -- what takes a number is small
-pub receiver_is_small : (l : Layout) (place : ℕ) → HasSoundItems l → IsTrue (takes_number (form_at l place)) → is_small (bound_at l place) ≡ true
+pub receiver_is_small : (l : Layout) (place : ℕ) → HasWellFormedItems l → IsTrue (takes_number (form_at l place)) → is_small (bound_at l place) ≡ true
 receiver_is_small l place sound = go (slice_get l.items place) refl
   where
     go : (o : Option Item) → slice_get l.items place ≡ o → IsTrue (takes_number (form_at l place)) → is_small (bound_at l place) ≡ true

@@ -20,7 +20,7 @@ use Rattle.cob_data.specs.declared.layout.Sender.{Sender}
 use Rattle.cob_runs.specs.Faults.{◌>>=◌, or_fault}
 use Rattle.cob_runs.specs.Moves.{number_of, text_of}
 use Rattle.cob_runs.specs.Deciding.{Order, below, equal, above, holds, number_order, text_order, side_length, is_number_end, compared_values, compared, in_pair, decided, compared_numbers}
-use Rattle.cob_calc.specs.Contents.{Contents, IsSound, amount_at, bound_at}
+use Rattle.cob_calc.specs.Contents.{Contents, IsWellFormed, amount_at, bound_at}
 use Rattle.cob_calc.specs.Arithmetic.{are_numbers}
 use Rattle.cob_calc.specs.Comparing.{CanCompare}
 use Rattle.cob_calc.proofs.Agreement.{amounts_agree, same_sum}
@@ -48,7 +48,7 @@ bounds_compare v w a b h k ea eb =
       right = subst (λ j. unsigned_abs (units_at w j) < 10 ^ 37) same (side_within w b (joint a b) k eb);
     }
 
-pub sides_compare : (c : Contents) (a b : Sum) (v w : Scaled) → IsSound c → is_small_sides (bound_at c.layout) a b ≡ true → Some v ≡ sum_value (amount_at c) a → Some w ≡ sum_value (amount_at c) b → CanCompare v w
+pub sides_compare : (c : Contents) (a b : Sum) (v w : Scaled) → IsWellFormed c → is_small_sides (bound_at c.layout) a b ≡ true → Some v ≡ sum_value (amount_at c) a → Some w ≡ sum_value (amount_at c) b → CanCompare v w
 sides_compare c a b v w sound e ev ew =
     let bound = bound_at c.layout in
     let j = joint (sum_most bound a) (sum_most bound b) in

@@ -17,7 +17,7 @@ use Rattle.cob_runs.specs.Contents.{number_at}
 use Rattle.cob_runs.specs.Computing.{are_numeric, items_in, worth}
 use Rattle.cob_runs.specs.Deciding.{decided, compared_numbers}
 use Rattle.cob_calc.specs.declared.worked.Worked.{Worked}
-use Rattle.cob_calc.specs.Contents.{Contents, IsSound, amount_at, bound_at}
+use Rattle.cob_calc.specs.Contents.{Contents, IsWellFormed, amount_at, bound_at}
 use Rattle.cob_calc.specs.Arithmetic.{are_numbers}
 use Rattle.cob_calc.specs.Comparing.{AreComparable}
 use Rattle.cob_calc.specs.Operand.{only, read_sum}
@@ -115,10 +115,10 @@ module _ (c : Contents) (a b : Sum) (r : Rel) where
       let y = reads_so c b (Some w) f in
       ap (λ z. decided c.layout c.storage r z w) x.1 ∙ (ap (decided c.layout c.storage r (sum_value (amount_at c) a)) y.1 ∙ sym (compared_as c a r b na nb x.0 y.0))
 
-  comparable : (v w : Option Scaled) → IsSound c → is_small_sides (bound_at c.layout) a b ≡ true → v ≡ sum_value (amount_at c) a → w ≡ sum_value (amount_at c) b → AreComparable v w
+  comparable : (v w : Option Scaled) → IsWellFormed c → is_small_sides (bound_at c.layout) a b ≡ true → v ≡ sum_value (amount_at c) a → w ≡ sum_value (amount_at c) b → AreComparable v w
   comparable None w sound small e f = tt
   comparable (Some v) None sound small e f = tt
   comparable (Some v) (Some w) sound small e f = sides_compare c a b v w sound small e f
 
-  pub read_compare : (v w : Option Scaled) → IsSound c → is_small_sides (bound_at c.layout) a b ≡ true → Some v ≡ read_sum c a → Some w ≡ read_sum c b → AreComparable v w
+  pub read_compare : (v w : Option Scaled) → IsWellFormed c → is_small_sides (bound_at c.layout) a b ≡ true → Some v ≡ read_sum c a → Some w ≡ read_sum c b → AreComparable v w
   read_compare v w sound small e f = comparable v w sound small (reads_so c a (Some v) e).1 (reads_so c b (Some w) f).1

@@ -10,20 +10,20 @@ use Rattle.cob_tree.specs.declared.form.Form.{Form}
 use Rattle.cob_tree.specs.declared.form.Form.TheVariants as form
 use Rattle.cob_tree.specs.declared.token.Num.{Num}
 use Rattle.cob_program.specs.Bounds.{of_digits, form_bound, literal_bound, IsWithin}
-use Rattle.cob_items.specs.Sound.{IsSoundForm, IsSoundLiteral}
+use Rattle.cob_items.specs.WellFormed.{IsWellFormedForm, IsShortLiteral}
 use Rattle.cob_calc.specs.Arithmetic.{is_number_form}
 use Rattle.cob_calc.specs.Comparing.{IsShortNumber, CanCompare}
 
 short_digits : (v : Scaled) (digits scale : ℕ) → digits ≤ 18 → scale ≤ 18 → IsWithin v (of_digits digits scale) → IsShortNumber v
 short_digits v digits scale h k w = record { most = omega (arith, w.most, ten_monotone digits 18 h, ten_positive digits); scale = omega (arith, w.scale, k) }
 
-pub short_number : (f : Form) (bytes : ℕ) (v : Scaled) → IsSoundForm f bytes → is_number_form f ≡ true → IsWithin v (form_bound f) → IsShortNumber v
+pub short_number : (f : Form) (bytes : ℕ) (v : Scaled) → IsWellFormedForm f bytes → is_number_form f ≡ true → IsWithin v (form_bound f) → IsShortNumber v
 short_number form.Group bytes v h n w = absurd cc
 short_number (form.Text k) bytes v h n w = absurd cc
 short_number (form.Number digits scale signed kept) bytes v h n w = short_digits v digits scale h.number.at_most_18 (omega (arith, h.decimals, h.number.at_most_18)) w
 short_number (form.Edited picture digits scale) bytes v h n w = absurd cc
 
-pub short_literal : (n : Num) (v : Scaled) → IsSoundLiteral n → IsWithin v (literal_bound n) → IsShortNumber v
+pub short_literal : (n : Num) (v : Scaled) → IsShortLiteral n → IsWithin v (literal_bound n) → IsShortNumber v
 short_literal n v h w = short_digits v (length n.digits) n.scale h.digits h.decimals w
 
 pub ruleset numbers = (short_number, short_literal)

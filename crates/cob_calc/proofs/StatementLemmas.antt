@@ -22,9 +22,9 @@ use Rattle.cob_runs.specs.Contents.{form_at, scale_of}
 use Rattle.cob_runs.specs.Faults as fault
 use Rattle.cob_runs.specs.Moves.{takes_number}
 use Rattle.cob_runs.specs.Computing.{Receiving, receiving, received, own_worth, stored_result, result, worth, items_in, has_zero_divisor, receive, receive_all, remainder_received, after_divisors, after_arithmetic}
-use Rattle.cob_items.specs.Sound.{HasSoundItems, IsSoundForm}
+use Rattle.cob_items.specs.WellFormed.{HasWellFormedItems, IsWellFormedForm}
 use Rattle.cob_calc.specs.declared.worked.Worked.{Worked}
-use Rattle.cob_calc.specs.Contents.{Contents, IsSound, amount_at, bound_at}
+use Rattle.cob_calc.specs.Contents.{Contents, IsWellFormed, amount_at, bound_at}
 use Rattle.cob_calc.specs.Exact.{fraction_of, exact_value, IsSmallExact}
 use Rattle.cob_calc.specs.Receiving.{result_of, is_whole, some_whole, some_part, HasSmallRest, rest_value, receive_by, receive_all_by, CanReceiveAll, remainder_by, lacks_result, receive_unless, CanGiveRest, IsWorked}
 use Rattle.cob_calc.specs.Arithmetic.{is_small_result, are_small_results, is_small_rest, are_small_rests, take_numbers, CanCompute}
@@ -138,20 +138,20 @@ statement_is c phrase s ts remainder w can has =
 
 -- ---- what the receivers need
 
-scale_is_few : (f : Form) (bytes : ℕ) → IsSoundForm f bytes → scale_of f ≤ 18
+scale_is_few : (f : Form) (bytes : ℕ) → IsWellFormedForm f bytes → scale_of f ≤ 18
 scale_is_few form.Group bytes h = omega arith
 scale_is_few (form.Text n) bytes h = omega arith
 scale_is_few (form.Number digits scale signed kept) bytes h = omega (arith, h.decimals, h.number.at_most_18)
 scale_is_few (form.Edited picture digits scale) bytes h = omega (arith, h.decimals, h.at_most_18)
 
-few_decimals : (l : Layout) (place : ℕ) → HasSoundItems l → scale_of (form_at l place) ≤ 18
+few_decimals : (l : Layout) (place : ℕ) → HasWellFormedItems l → scale_of (form_at l place) ≤ 18
 few_decimals l place sound = go (slice_get l.items place) refl
   where
     go : (o : Option Item) → slice_get l.items place ≡ o → scale_of (form_at l place) ≤ 18
     go None e = rw e (omega arith)
     go (Some i) e = rw e (scale_is_few i.form i.length (sound_item l place i sound e).form)
 
-module _ (c : Contents) (s : Sum) (w : Worked) (sound : IsSound c) (small : IfSome w.whole IsSmallExact) where
+module _ (c : Contents) (s : Sum) (w : Worked) (sound : IsWellFormed c) (small : IfSome w.whole IsSmallExact) where
   can_receive_all : (ts : List Target) → are_small_results (bound_at c.layout) s ts ≡ true → take_numbers c.layout ts ≡ true → ServesAll (amount_at c) s w ts → CanReceiveAll c.layout w ts
   can_receive_all [] e n h = tt
   can_receive_all (t ∷ ts) e n h =
@@ -164,11 +164,11 @@ module _ (c : Contents) (s : Sum) (w : Worked) (sound : IsSound c) (small : IfSo
         can_receive_all ts results.1 takes.1 h.1,
       )
 
-pub receivers_can : (c : Contents) (s : Sum) (ts : List Target) (remainder : Option ℕ) (w : Worked) → IsSound c → CanCompute c.layout s ts remainder → IsWorked c s ts remainder w → CanReceiveAll c.layout w ts
+pub receivers_can : (c : Contents) (s : Sum) (ts : List Target) (remainder : Option ℕ) (w : Worked) → IsWellFormed c → CanCompute c.layout s ts remainder → IsWorked c s ts remainder w → CanReceiveAll c.layout w ts
 receivers_can c s ts remainder w sound can has =
     can_receive_all c s w sound has.small ts can.results can.receivers (serves_all (amount_at c) s w ts (λ e. has.whole (or_right (is_some remainder) (some_whole ts) e)) has.value)
 
-pub rest_can : (c : Contents) (s : Sum) (ts : List Target) (remainder : Option ℕ) (w : Worked) → IsSound c → CanCompute c.layout s ts remainder → IsWorked c s ts remainder w → CanGiveRest c.layout w ts remainder
+pub rest_can : (c : Contents) (s : Sum) (ts : List Target) (remainder : Option ℕ) (w : Worked) → IsWellFormed c → CanCompute c.layout s ts remainder → IsWorked c s ts remainder w → CanGiveRest c.layout w ts remainder
 rest_can c s [] remainder w sound can has = tt
 rest_can c s (t ∷ []) None w sound can has = tt
 rest_can c s (t ∷ []) (Some place) w sound can has =

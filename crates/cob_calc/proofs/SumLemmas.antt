@@ -15,7 +15,7 @@ use Rattle.cob_program.specs.Values.{whole_number, negated, plus, product, quoti
 use Rattle.cob_program.specs.Bounds.{Bound, exactly, sum_bound, product_bound, quotient_bound, factor_bound, is_small, sum_most, sum_most_from, part_most, product_most_from, atom_most, is_small_sum, is_small_sum_from, is_small_part, is_small_product, is_small_atom, IsWithin, IsSmall}
 use Rattle.cob_program.proofs.Steps.{some_bound, both, negated_within, whole_within, plus_within, factor_within, small_of}
 use Rattle.cob_calc.proofs.Within.{part_within, atom_within}
-use Rattle.cob_calc.specs.Contents.{Contents, IsSound, amount_at, bound_at}
+use Rattle.cob_calc.specs.Contents.{Contents, IsWellFormed, amount_at, bound_at}
 use Rattle.cob_calc.specs.Working.{CanDivide, CanScale, factor_value, HasRoom, HasRoomInSum}
 use Rattle.cob_calc.proofs.NumberLemmas.{not_zero}
 use Rattle.cob_calc.proofs.Bounded.{bounded}
@@ -98,7 +98,7 @@ atom_has_room c a over minus atom fs h =
     let next = factor_bound over h.most (atom_most (bound_at c.layout) atom) in
     (both (is_small_atom (bound_at c.layout) atom) (is_small next && is_small_product (bound_at c.layout) next fs) h.factors).0
 
-pub next_has_room : (c : Contents) (a b : Scaled) (f : Factor) (fs : Factors) → IsSound c → HasRoom c a (more_factors f fs) → Some b ≡ factor_value (amount_at c) a f → HasRoom c b fs
+pub next_has_room : (c : Contents) (a b : Scaled) (f : Factor) (fs : Factors) → IsWellFormed c → HasRoom c a (more_factors f fs) → Some b ≡ factor_value (amount_at c) a f → HasRoom c b fs
 next_has_room c a b (MkFactor over minus atom) fs sound h some =
     let bound = bound_at c.layout in
     let next = factor_bound over h.most (atom_most bound atom) in
@@ -127,7 +127,7 @@ part_has_room c a p ps h =
     let next = sum_bound h.most (part_most (bound_at c.layout) p) in
     (both (is_small_part (bound_at c.layout) p) (is_small next && is_small_sum_from (bound_at c.layout) next ps) h.parts).0
 
-pub next_has_room_in_sum : (c : Contents) (a b : Scaled) (p : Part) (ps : Parts) → IsSound c → HasRoomInSum c a (more_parts p ps) → Some b ≡ part_value (amount_at c) p → HasRoomInSum c (plus a b) ps
+pub next_has_room_in_sum : (c : Contents) (a b : Scaled) (p : Part) (ps : Parts) → IsWellFormed c → HasRoomInSum c a (more_parts p ps) → Some b ≡ part_value (amount_at c) p → HasRoomInSum c (plus a b) ps
 next_has_room_in_sum c a b p ps sound h some =
     let bound = bound_at c.layout in
     let next = sum_bound h.most (part_most bound p) in
@@ -142,7 +142,7 @@ next_has_room_in_sum c a b p ps sound h some =
 
 -- ---- small results
 
-pub amount_small : (c : Contents) (place : ℕ) (v : Scaled) → IsSound c → is_small (bound_at c.layout place) ≡ true → v ≡ amount_at c place → IsSmall v
+pub amount_small : (c : Contents) (place : ℕ) (v : Scaled) → IsWellFormed c → is_small (bound_at c.layout place) ≡ true → v ≡ amount_at c place → IsSmall v
 amount_small c place v sound e is = subst IsSmall (sym is) (small_of (amount_at c place) (bound_at c.layout place) (bounded c sound place) e)
 
 -- ---- a factor can be worked out
@@ -184,7 +184,7 @@ can_scale_by : (over : Bool) (v w : Scaled) (a b : Bound) → IsWithin v a → I
 can_scale_by false v w a b h k sa sb s = small_of (product v w) (product_bound a b) (factor_within false v w (product v w) a b h k refl) s
 can_scale_by true v w a b h k sa sb s = can_divide v w a b h k sa sb s
 
-pub can_scale : (c : Contents) (a by : Scaled) (over minus : Bool) (atom : Atom) (fs : Factors) → IsSound c → HasRoom c a (more_factors (MkFactor over minus atom) fs) → Some by ≡ atom_value (amount_at c) atom → CanScale over a (negated minus by)
+pub can_scale : (c : Contents) (a by : Scaled) (over minus : Bool) (atom : Atom) (fs : Factors) → IsWellFormed c → HasRoom c a (more_factors (MkFactor over minus atom) fs) → Some by ≡ atom_value (amount_at c) atom → CanScale over a (negated minus by)
 can_scale c a by over minus atom fs sound h some =
     let bound = bound_at c.layout in
     let next = factor_bound over h.most (atom_most bound atom) in

@@ -18,7 +18,7 @@ use Rattle.cob_program.specs.Bounds.{is_small_sides}
 use Rattle.cob_program.specs.Logic.{Test, numbers, texts, member, numeric, always, Logic, all_of, any_of, not_, test, Logics, no_logics, more_logics}
 use Rattle.cob_runs.specs.Computing.{items_in}
 use Rattle.cob_runs.specs.Deciding.{Order, below, equal, above}
-use Rattle.cob_items.specs.Sound.{IsSoundLiteral}
+use Rattle.cob_items.specs.WellFormed.{IsShortLiteral}
 use Rattle.cob_calc.specs.declared.texts.Text.{Text}
 use Rattle.cob_calc.specs.declared.texts.Text.TheVariants as text
 use Rattle.cob_calc.specs.Contents.{bound_at}
@@ -35,7 +35,7 @@ pub record CanCompare (a b : Scaled) : Type 0 where
   pub left : unsigned_abs (units_at a (joint_scale a b)) < 10 ^ 37
   pub right : unsigned_abs (units_at b (joint_scale a b)) < 10 ^ 37
 
--- where both are there, they can be compared
+-- Two amounts can be compared where both are there.
 abbrev pub AreComparable : Option Scaled → Option Scaled → Type 0
 AreComparable (Some a) (Some b) = CanCompare a b
 AreComparable _ _ = Unit {0}
@@ -67,19 +67,19 @@ contents_text f bytes = Some bytes
 
 -- ---- what typing gives of conditions
 
-abbrev pub IsSoundEnd : Sender → Type 0
-IsSoundEnd (sender.Number n) = IsSoundLiteral n
-IsSoundEnd _ = Unit {0}
+abbrev pub IsShortEnd : Sender → Type 0
+IsShortEnd (sender.Number n) = IsShortLiteral n
+IsShortEnd _ = Unit {0}
 
-abbrev pub AreSoundPairs : List Pair → Type 0
-AreSoundPairs [] = Unit {0}
-AreSoundPairs (p ∷ ps) = (IsSoundEnd p.low × IsSoundEnd p.high) × AreSoundPairs ps
+abbrev pub AreShortPairs : List Pair → Type 0
+AreShortPairs [] = Unit {0}
+AreShortPairs (p ∷ ps) = (IsShortEnd p.low × IsShortEnd p.high) × AreShortPairs ps
 
 abbrev pub CanTest : Layout → Test → Type 0
 CanTest l (numbers a r b) =
     (are_numbers l (items_in a) ≡ true) × ((are_numbers l (items_in b) ≡ true) × (is_small_sides (bound_at l) a b ≡ true))
 CanTest l (texts a r b) = Unit {0}
-CanTest l (member place ps) = AreSoundPairs ps
+CanTest l (member place ps) = AreShortPairs ps
 CanTest l (numeric place) = Unit {0}
 CanTest l always = Unit {0}
 

@@ -7,7 +7,7 @@ use Rattle.cob_data.specs.declared.layout.Layout.{Layout}
 use Rattle.num_bytes.specs.Reading.{contents_value}
 use Rattle.cob_program.specs.Bounds.{Bound, form_bound, IsWithin}
 use Rattle.cob_runs.specs.Contents.{scaled_by, scale_of, form_at, bytes_at}
-use Rattle.cob_items.specs.Sound.{HasSoundItems}
+use Rattle.cob_items.specs.WellFormed.{HasWellFormedItems}
 
 pub record Contents : Type 0 where
   pub layout : Layout
@@ -16,8 +16,8 @@ pub record Contents : Type 0 where
 abbrev pub contents : Layout → List ℕ → Contents
 contents layout storage = record { layout = layout; storage = storage }
 
-pub record IsSound (c : Contents) : Type 0 where
-  pub items : HasSoundItems c.layout
+pub record IsWellFormed (c : Contents) : Type 0 where
+  pub items : HasWellFormedItems c.layout
   pub whole : length c.storage ≡ c.layout.storage
 
 -- what a numeric item is worth, 0 where its contents are no number; other items are worth 0

@@ -33,7 +33,7 @@ pub record HasRoom (c : Contents) (a : Scaled) (fs : Factors) : Type 0 where
   pub small : is_small most ≡ true
   pub factors : is_small_product (bound_at c.layout) most fs ≡ true
 
--- the same of products that are added
+-- There is room for each product that is added.
 pub record HasRoomInSum (c : Contents) (a : Scaled) (ps : Parts) : Type 0 where
   pub most : Bound
   pub within : IsWithin a most

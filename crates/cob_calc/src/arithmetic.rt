@@ -5,7 +5,7 @@ ghost use Rattle.cob_runs.specs.Contents.{form_at, scale_of};
 ghost use Rattle.cob_runs.specs.Moves.{takes_number};
 ghost use Rattle.cob_runs.specs.Computing.{received, stored_result, after_arithmetic};
 ghost use Rattle.dec_num.specs.declared.types.Mode.{Mode};
-ghost use Rattle.cob_items.specs.Sound.{HasSoundItems};
+ghost use Rattle.cob_items.specs.WellFormed.{HasWellFormedItems};
 ghost use Rattle.cob_calc.specs.Receiving.{rest_value, HasSmallRest, IsReceived, CanReceiveAll, remainder_by, lacks_result, zero_result, receive_unless, CanGiveRest};
 ghost use Rattle.cob_calc.specs.Arithmetic.{CanCompute};
 
@@ -20,7 +20,7 @@ use cob_tree::Kind;
 use dec_num::Mode;
 
 fn scale_at(layout: &Layout, place: u32) -> u32
-    requires { HasSoundItems layout.now }
+    requires { HasWellFormedItems layout.now }
     ensures { result ≡ scale_of (form_at layout.now place) }
 {
     match item_at(layout, place) {
@@ -38,7 +38,7 @@ fn put_remainder(
     scale: u32,
     place: u32,
 ) -> Result<bool, Kind>
-    requires sound { HasSoundItems layout.now }
+    requires sound { HasWellFormedItems layout.now }
     requires whole { length storage.old ≡ layout.now.storage }
     requires takes { IsTrue (takes_number (form_at layout.now place)) }
     requires small { HasSmallRest scale worked.now.whole }
@@ -68,7 +68,7 @@ fn remainder(
     targets: &[Target],
     remainder: Option<u32>,
 ) -> Result<bool, Kind>
-    requires sound { HasSoundItems layout.now }
+    requires sound { HasWellFormedItems layout.now }
     requires whole { length storage.old ≡ layout.now.storage }
     requires can { CanGiveRest layout.now worked.now targets.now remainder }
     ensures { IsReceived result storage.new
@@ -102,7 +102,7 @@ fn receive(
     targets: &[Target],
     place: Option<u32>,
 ) -> Result<bool, Kind>
-    requires sound { HasSoundItems layout.now }
+    requires sound { HasWellFormedItems layout.now }
     requires whole { length storage.old ≡ layout.now.storage }
     requires receivers { CanReceiveAll layout.now worked.now targets.now }
     requires rest { CanGiveRest layout.now worked.now targets.now place }
@@ -129,7 +129,7 @@ pub fn compute(
     targets: &[Target],
     remainder: Option<u32>,
 ) -> Result<bool, Kind>
-    requires sound { HasSoundItems layout.now }
+    requires sound { HasWellFormedItems layout.now }
     requires whole { length storage.old ≡ layout.now.storage }
     requires can { CanCompute layout.now (plain_sum common.now) targets.now remainder }
     ensures { IsReceived result storage.new (after_arithmetic layout.now phrase storage.old

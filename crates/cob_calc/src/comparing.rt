@@ -4,7 +4,7 @@ ghost use Rattle.cob_program.specs.SumView.{plain_sum};
 ghost use Rattle.cob_program.specs.Bounds.{is_small_sides};
 ghost use Rattle.cob_runs.specs.Computing.{items_in};
 ghost use Rattle.cob_runs.specs.Deciding.{holds, order_of, number_order, decided, compared_numbers};
-ghost use Rattle.cob_calc.specs.Contents.{IsSound, bound_at};
+ghost use Rattle.cob_calc.specs.Contents.{IsWellFormed, bound_at};
 ghost use Rattle.cob_calc.specs.Arithmetic.{are_numbers};
 ghost use Rattle.cob_calc.specs.Comparing.{plain_order, CanCompare, AreComparable};
 
@@ -68,7 +68,7 @@ impl<'a> Contents<'a> {
 
     /// Compares two sums. Both sides are read before a divisor counts.
     pub fn compare_sums(&self, left: &Sum, rel: Rel, right: &Sum) -> Result<bool, Kind>
-        requires sound { IsSound self.now }
+        requires sound { IsWellFormed self.now }
         requires left { are_numbers self.now.layout (items_in (plain_sum left.now)) ≡ true }
         requires right { are_numbers self.now.layout (items_in (plain_sum right.now)) ≡ true }
         requires small { is_small_sides (bound_at self.now.layout) (plain_sum left.now) (plain_sum right.now) ≡ true }

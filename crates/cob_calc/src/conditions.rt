@@ -4,8 +4,8 @@ ghost use Rattle.cob_data.specs.declared.layout.Sender.{Sender};
 ghost use Rattle.cob_program.specs.Logic.{logics_of};
 ghost use Rattle.cob_program.specs.LogicView.{plain_test, plain_logic};
 ghost use Rattle.cob_runs.specs.Deciding.{is_number_end, compared_texts, compared_values, compared, in_pair, in_some, test_holds, logic_holds, all_hold, some_holds};
-ghost use Rattle.cob_calc.specs.Contents.{IsSound};
-ghost use Rattle.cob_calc.specs.Comparing.{IsSoundEnd, AreSoundPairs, CanTest, CanDecide, CanDecideAll};
+ghost use Rattle.cob_calc.specs.Contents.{IsWellFormed};
+ghost use Rattle.cob_calc.specs.Comparing.{IsShortEnd, AreShortPairs, CanTest, CanDecide, CanDecideAll};
 
 use crate::comparing::{holds, number_order};
 use crate::contents::Contents;
@@ -15,7 +15,7 @@ use cob_tree::{Kind, Rel};
 
 impl<'a> Contents<'a> {
     fn compare_texts(&self, left: &Sender, rel: Rel, right: &Sender) -> Result<bool, Kind>
-        requires { IsSound self.now }
+        requires { IsWellFormed self.now }
         ensures { result ≡ compared_texts self.now.layout self.now.storage left.now rel right.now }
     {
         match self.text(left, right) {
@@ -29,11 +29,11 @@ impl<'a> Contents<'a> {
 
     #[tactic(auto, using(crate::proofs::SideLemmas::short_compare))]
     fn compare_numbers(&self, left: &Sender, rel: Rel, right: &Sender) -> Result<bool, Kind>
-        requires sound { IsSound self.now }
+        requires sound { IsWellFormed self.now }
         requires left { is_number_end self.now.layout self.now.storage left.now ≡ true }
         requires right { is_number_end self.now.layout self.now.storage right.now ≡ true }
-        requires left_literal { IsSoundEnd left.now }
-        requires right_literal { IsSoundEnd right.now }
+        requires left_literal { IsShortEnd left.now }
+        requires right_literal { IsShortEnd right.now }
         ensures { result ≡ compared_values self.now.layout self.now.storage true left.now rel right.now }
     {
         match self.number(left) {
@@ -48,9 +48,9 @@ impl<'a> Contents<'a> {
     // two numbers by their values, else by their bytes
     #[inline(always)]
     fn compare(&self, left: &Sender, rel: Rel, right: &Sender) -> Result<bool, Kind>
-        requires sound { IsSound self.now }
-        requires left { IsSoundEnd left.now }
-        requires right { IsSoundEnd right.now }
+        requires sound { IsWellFormed self.now }
+        requires left { IsShortEnd left.now }
+        requires right { IsShortEnd right.now }
         ensures { result ≡ compared self.now.layout self.now.storage left.now rel right.now }
     {
         if !self.is_number_end(left) {
@@ -64,10 +64,10 @@ impl<'a> Contents<'a> {
 
     // a text alone is compared once
     fn in_pair(&self, side: &Sender, pair: &Pair) -> Result<bool, Kind>
-        requires sound { IsSound self.now }
-        requires side { IsSoundEnd side.now }
-        requires low { IsSoundEnd pair.now.low }
-        requires high { IsSoundEnd pair.now.high }
+        requires sound { IsWellFormed self.now }
+        requires side { IsShortEnd side.now }
+        requires low { IsShortEnd pair.now.low }
+        requires high { IsShortEnd pair.now.high }
         ensures { result ≡ in_pair self.now.layout self.now.storage side.now pair.now }
     {
         if is_one_text(pair) {
@@ -84,9 +84,9 @@ impl<'a> Contents<'a> {
 
     // an item that is a number is read, whatever the ends are
     fn in_some(&self, side: &Sender, pairs: &[Pair]) -> Result<bool, Kind>
-        requires sound { IsSound self.now }
-        requires side { IsSoundEnd side.now }
-        requires pairs { AreSoundPairs pairs.now }
+        requires sound { IsWellFormed self.now }
+        requires side { IsShortEnd side.now }
+        requires pairs { AreShortPairs pairs.now }
         ensures { result ≡ in_some self.now.layout self.now.storage side.now pairs.now }
     {
         let mut found = false;
@@ -101,7 +101,7 @@ impl<'a> Contents<'a> {
 
     /// Whether a simple condition holds.
     pub fn test(&self, test: &Test) -> Result<bool, Kind>
-        requires sound { IsSound self.now }
+        requires sound { IsWellFormed self.now }
         requires can { CanTest self.now.layout (plain_test test.now) }
         ensures { result ≡ test_holds self.now.layout self.now.storage (plain_test test.now) }
     {
@@ -117,7 +117,7 @@ impl<'a> Contents<'a> {
     /// Whether a condition holds. It is decided from left to right.
     #[cycle(decide)]
     pub fn holds(&self, condition: &Logic) -> Result<bool, Kind>
-        requires sound { IsSound self.now }
+        requires sound { IsWellFormed self.now }
         requires can { CanDecide self.now.layout (plain_logic condition.now) }
         ensures { result ≡ logic_holds self.now.layout self.now.storage (plain_logic condition.now) }
     {
@@ -134,7 +134,7 @@ impl<'a> Contents<'a> {
 
     #[cycle(decide)]
     fn all_hold(&self, parts: &[Logic]) -> Result<bool, Kind>
-        requires sound { IsSound self.now }
+        requires sound { IsWellFormed self.now }
         requires can { CanDecideAll self.now.layout (logics_of (map plain_logic parts.now)) }
         ensures { result ≡ all_hold self.now.layout self.now.storage (logics_of (map plain_logic parts.now)) }
     {
@@ -151,7 +151,7 @@ impl<'a> Contents<'a> {
     /// Whether one of some conditions holds. They are decided from left to right, until one does.
     #[cycle(decide)]
     pub fn some_holds(&self, parts: &[Logic]) -> Result<bool, Kind>
-        requires sound { IsSound self.now }
+        requires sound { IsWellFormed self.now }
         requires can { CanDecideAll self.now.layout (logics_of (map plain_logic parts.now)) }
         ensures { result ≡ some_holds self.now.layout self.now.storage (logics_of (map plain_logic parts.now)) }
     {

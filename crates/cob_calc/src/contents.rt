@@ -1,9 +1,10 @@
+//! What items hold while sums are worked out: their amounts, where they are numeric.
 ghost use Rattle.std.specs.Prelude.{◌≡◌, ◌+◌, ◌≤◌, is_some, length};
 ghost use Rattle.std.specs.Option.{option_copied};
 ghost use Rattle.num_bytes.specs.Reading.{contents_value};
 ghost use Rattle.cob_runs.specs.Contents.{area, item_at, number_at};
-ghost use Rattle.cob_items.specs.Sound.{IsSoundForm};
-ghost use Rattle.cob_calc.specs.Contents.{contents, IsSound, amount, amount_at};
+ghost use Rattle.cob_items.specs.WellFormed.{IsWellFormedForm};
+ghost use Rattle.cob_calc.specs.Contents.{contents, IsWellFormed, amount, amount_at};
 
 use crate::numbers::scaled;
 use cob_data::{Item, Layout};
@@ -28,7 +29,7 @@ impl<'a> Model for Contents<'a> {
 
 // What a numeric item is worth, 0 where its contents are no number.
 fn amount(form: &Form, bytes: &[u8]) -> Scaled
-    requires { IsSoundForm form.now (length bytes.now) }
+    requires { IsWellFormedForm form.now (length bytes.now) }
     ensures { result ≡ amount form.now bytes.now }
 {
     match form {
@@ -43,7 +44,7 @@ fn amount(form: &Form, bytes: &[u8]) -> Scaled
 
 // Whether contents can be read as a number.
 fn is_number(form: &Form, bytes: &[u8]) -> bool
-    requires { IsSoundForm form.now (length bytes.now) }
+    requires { IsWellFormedForm form.now (length bytes.now) }
     ensures { result ≡ is_some (contents_value form.now bytes.now) }
 {
     match form {
@@ -76,7 +77,7 @@ impl<'a> Contents<'a> {
 
     /// What an item is worth in a sum.
     pub fn amount(&self, place: u32) -> Scaled
-        requires { IsSound self.now }
+        requires { IsWellFormed self.now }
         ensures { result ≡ amount_at self.now place }
     {
         match self.item(place) {
@@ -87,7 +88,7 @@ impl<'a> Contents<'a> {
 
     /// Whether an item can be read as a number.
     pub fn is_numeric(&self, place: u32) -> bool
-        requires { IsSound self.now }
+        requires { IsWellFormed self.now }
         ensures { result ≡ is_some (number_at self.now.layout self.now.storage place) }
     {
         match self.item(place) {

@@ -1,3 +1,4 @@
+//! Exact values: a decimal, or a quotient that stays exact until it is stored.
 ghost use Rattle.std.specs.Prelude.{◌≡◌, ◌+◌, ◌<◌, ◌≤◌, ◌^◌, pos, ◌-ℤ◌, unsigned_abs, IfSome, option_map};
 ghost use Rattle.cob_program.specs.Values.{exact_quotient};
 ghost use Rattle.cob_program.specs.Bounds.{IsSmall};

@@ -1,3 +1,4 @@
+//! That what is worked out exactly is what the definition stores.
 ghost use Rattle.std.specs.Prelude.{◌≡◌, ℕ, option_map};
 ghost use Rattle.dec_num.specs.declared.types.Scaled.{Scaled};
 ghost use Rattle.cob_program.specs.Sum.{Sum};

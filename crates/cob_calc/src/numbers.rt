@@ -97,7 +97,7 @@ fn numeral(digits: &[u8]) -> i128
     }
 }
 
-// the same of few digits
+// A numeral of few digits.
 #[tactic(auto, using(crate::proofs::NumberLemmas::numerals))]
 fn short_numeral(digits: &[u8]) -> u64
     requires { length digits.now ≤ 18 }

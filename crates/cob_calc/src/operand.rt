@@ -4,7 +4,7 @@ ghost use Rattle.cob_program.specs.Sum.{MkSum, MkPart, MkFactor, parts_of, facto
 ghost use Rattle.cob_program.specs.SumView.{plain_sum, plain_part, plain_factor, plain_atom};
 ghost use Rattle.cob_program.specs.Bounds.{is_small_sum};
 ghost use Rattle.cob_runs.specs.Computing.{items_in};
-ghost use Rattle.cob_calc.specs.Contents.{IsSound, bound_at};
+ghost use Rattle.cob_calc.specs.Contents.{IsWellFormed, bound_at};
 ghost use Rattle.cob_calc.specs.Arithmetic.{are_numbers};
 ghost use Rattle.cob_calc.specs.Operand.{plain_operand, only_factor, only, read_sum};
 
@@ -93,7 +93,7 @@ impl<'a> Contents<'a> {
     /// is 0; nothing where an item can't be read so.
     #[inline(always)]
     pub(crate) fn total(&self, sum: &Sum) -> Option<Option<Scaled>>
-        requires sound { IsSound self.now }
+        requires sound { IsWellFormed self.now }
         requires numbers { are_numbers self.now.layout (items_in (plain_sum sum.now)) ≡ true }
         requires small { is_small_sum (bound_at self.now.layout) (plain_sum sum.now) ≡ true }
         ensures { result ≡ read_sum self.now (plain_sum sum.now) }

@@ -3,7 +3,7 @@ ghost use Rattle.std.specs.Prelude.{◌≡◌, map};
 ghost use Rattle.cob_program.specs.Sum.{parts_of, factors_of};
 ghost use Rattle.cob_program.specs.SumView.{plain_sum, plain_part, plain_factor, plain_atom};
 ghost use Rattle.cob_runs.specs.Computing.{are_numeric, items_in, items_in_parts, items_in_factors, items_in_atom};
-ghost use Rattle.cob_calc.specs.Contents.{IsSound};
+ghost use Rattle.cob_calc.specs.Contents.{IsWellFormed};
 
 use crate::contents::Contents;
 use cob_program::{Atom, Factor, Part, Sum};
@@ -11,7 +11,7 @@ use cob_program::{Atom, Factor, Part, Sum};
 impl<'a> Contents<'a> {
     #[cycle(operands)]
     fn is_numeric_atom(&self, atom: &Atom) -> bool
-        requires { IsSound self.now }
+        requires { IsWellFormed self.now }
         ensures { result ≡ are_numeric self.now.layout self.now.storage (items_in_atom (plain_atom atom.now)) }
     {
         match atom {
@@ -23,7 +23,7 @@ impl<'a> Contents<'a> {
 
     #[cycle(operands)]
     fn are_factors_numeric(&self, factors: &[Factor]) -> bool
-        requires { IsSound self.now }
+        requires { IsWellFormed self.now }
         ensures { result ≡ are_numeric self.now.layout self.now.storage (items_in_factors (factors_of
             (map plain_factor factors.now))) }
     {
@@ -37,7 +37,7 @@ impl<'a> Contents<'a> {
 
     #[cycle(operands)]
     fn are_parts_numeric(&self, parts: &[Part]) -> bool
-        requires { IsSound self.now }
+        requires { IsWellFormed self.now }
         ensures { result ≡ are_numeric self.now.layout self.now.storage (items_in_parts (parts_of
             (map plain_part parts.now))) }
     {
@@ -52,7 +52,7 @@ impl<'a> Contents<'a> {
     /// Whether each item of a sum can be read as a number.
     #[cycle(operands)]
     pub fn are_operands_numeric(&self, sum: &Sum) -> bool
-        requires { IsSound self.now }
+        requires { IsWellFormed self.now }
         ensures { result ≡ are_numeric self.now.layout self.now.storage (items_in (plain_sum sum.now)) }
     {
         self.are_parts_numeric(&sum.parts)

@@ -4,7 +4,7 @@ ghost use Rattle.std.specs.Prelude.{◌≡◌, ◌||◌, length, false, is_some,
 ghost use Rattle.cob_runs.specs.Contents.{form_at, digits_of, scale_of, stored};
 ghost use Rattle.cob_runs.specs.Moves.{takes_number};
 ghost use Rattle.cob_runs.specs.Computing.{receiving, received, stored_result};
-ghost use Rattle.cob_items.specs.Sound.{HasSoundItems};
+ghost use Rattle.cob_items.specs.WellFormed.{HasWellFormedItems};
 ghost use Rattle.cob_items.specs.Storing.{filled_if};
 ghost use Rattle.cob_calc.specs.Exact.{fraction_of, units_held, IsSmallExact};
 ghost use Rattle.cob_calc.specs.Receiving.{is_whole, IsReceived, kept_result, receive_by, receive_all_by, CanReceive, CanReceiveAll};
@@ -19,7 +19,7 @@ use dec_num::Mode;
 
 // A value in units of the item's scale, where its digits hold them.
 fn units_in(layout: &Layout, place: u32, value: Exact, mode: Mode) -> Option<i64>
-    requires sound { HasSoundItems layout.now }
+    requires sound { HasWellFormedItems layout.now }
     requires takes { IsTrue (takes_number (form_at layout.now place)) }
     requires small { IsSmallExact value }
     ensures { result ≡ units_held (digits_of (form_at layout.now place)) (scale_of
@@ -33,7 +33,7 @@ fn units_in(layout: &Layout, place: u32, value: Exact, mode: Mode) -> Option<i64
 
 // Stores a value, where the item's digits hold it. Answers whether they do.
 fn store(layout: &Layout, storage: &mut [u8], place: u32, value: Exact, mode: Mode) -> bool
-    requires sound { HasSoundItems layout.now }
+    requires sound { HasWellFormedItems layout.now }
     requires whole { length storage.old ≡ layout.now.storage }
     requires takes { IsTrue (takes_number (form_at layout.now place)) }
     requires small { IsSmallExact value }
@@ -69,7 +69,7 @@ pub fn put(
     mode: Mode,
     value: Option<Exact>,
 ) -> Result<bool, Kind>
-    requires sound { HasSoundItems layout.now }
+    requires sound { HasWellFormedItems layout.now }
     requires whole { length storage.old ≡ layout.now.storage }
     requires takes { IsTrue (takes_number (form_at layout.now place)) }
     requires small { IfSome value IsSmallExact }
@@ -90,7 +90,7 @@ fn receive_part(
     worked: &Worked,
     target: Target,
 ) -> Result<bool, Kind>
-    requires sound { HasSoundItems layout.now }
+    requires sound { HasWellFormedItems layout.now }
     requires whole { length storage.old ≡ layout.now.storage }
     requires can { CanReceive layout.now worked.now target }
     requires part { is_whole target.how ≡ false }
@@ -113,7 +113,7 @@ fn receive(
     worked: &Worked,
     target: Target,
 ) -> Result<bool, Kind>
-    requires sound { HasSoundItems layout.now }
+    requires sound { HasWellFormedItems layout.now }
     requires whole { length storage.old ≡ layout.now.storage }
     requires can { CanReceive layout.now worked.now target }
     ensures { IsReceived result storage.new (receive_by layout.now phrase worked.now storage.old target) }
@@ -141,7 +141,7 @@ pub fn receive_all(
     worked: &Worked,
     targets: &[Target],
 ) -> Result<bool, Kind>
-    requires sound { HasSoundItems layout.now }
+    requires sound { HasWellFormedItems layout.now }
     requires whole { length storage.old ≡ layout.now.storage }
     requires can { CanReceiveAll layout.now worked.now targets.now }
     ensures { IsReceived result storage.new (receive_all_by layout.now phrase worked.now

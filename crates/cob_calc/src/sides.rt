@@ -4,11 +4,11 @@ ghost use Rattle.cob_program.specs.Values.{literal};
 ghost use Rattle.cob_runs.specs.Contents.{form_at, bytes_at, number_in, number_at};
 ghost use Rattle.cob_runs.specs.Moves.{as_digits, number_of, text_of};
 ghost use Rattle.cob_runs.specs.Deciding.{side_length, is_number_end};
-ghost use Rattle.cob_items.specs.Sound.{IsSoundForm, IsSoundLiteral};
+ghost use Rattle.cob_items.specs.WellFormed.{IsWellFormedForm, IsShortLiteral};
 ghost use Rattle.cob_data.specs.declared.layout.Sender.{Sender};
-ghost use Rattle.cob_calc.specs.Contents.{IsSound};
+ghost use Rattle.cob_calc.specs.Contents.{IsWellFormed};
 ghost use Rattle.cob_calc.specs.Arithmetic.{is_number_form};
-ghost use Rattle.cob_calc.specs.Comparing.{characters, contents_text, plain_text, IsShortText, IsShortNumber, IsSoundEnd};
+ghost use Rattle.cob_calc.specs.Comparing.{characters, contents_text, plain_text, IsShortText, IsShortNumber, IsShortEnd};
 
 use crate::contents::Contents;
 use crate::numbers::scaled;
@@ -41,7 +41,7 @@ fn form_length(form: &Form, length: u32) -> u32
 #[tactic(auto, using(crate::proofs::SideLemmas::numbers))]
 #[inline(always)]
 fn number_of(form: &Form, bytes: &[u8]) -> Option<Scaled>
-    requires sound { IsSoundForm form.now (length bytes.now) }
+    requires sound { IsWellFormedForm form.now (length bytes.now) }
     requires number { is_number_form form.now ≡ true }
     ensures value { result ≡ number_in form.now bytes.now }
     ensures short { IfSome result IsShortNumber }
@@ -55,7 +55,7 @@ fn number_of(form: &Form, bytes: &[u8]) -> Option<Scaled>
 // The number of a literal.
 #[tactic(auto, using(crate::proofs::SideLemmas::short_literal))]
 fn literal_number(number: &Num) -> Scaled
-    requires { IsSoundLiteral number.now }
+    requires { IsShortLiteral number.now }
     ensures value { result ≡ literal number.now }
     ensures short { IsShortNumber result }
 {
@@ -74,7 +74,7 @@ fn digits_text<'a>(value: Scaled, count: u32) -> Text<'a>
 
 // An item's contents beside text: a numeric item's digits, if it is numeric.
 fn item_text<'a>(form: &Form, bytes: &'a [u8]) -> Option<Text<'a>>
-    requires { IsSoundForm form.now (length bytes.now) }
+    requires { IsWellFormedForm form.now (length bytes.now) }
     ensures value { option_map plain_text result ≡ contents_text form.now bytes.now }
     ensures short { IfSome result IsShortText }
 {
@@ -105,7 +105,7 @@ impl<'a> Contents<'a> {
     /// The number of an item that is one, if it is numeric.
     #[inline(always)]
     pub(crate) fn item_number(&self, place: u32) -> Option<Scaled>
-        requires sound { IsSound self.now }
+        requires sound { IsWellFormed self.now }
         requires number { is_number_end self.now.layout self.now.storage (Sender.Item place) ≡ true }
         ensures value { result ≡ number_at self.now.layout self.now.storage place }
         ensures short { IfSome result IsShortNumber }
@@ -118,9 +118,9 @@ impl<'a> Contents<'a> {
 
     /// The number of a side that is one, if it is numeric.
     pub fn number(&self, side: &Sender) -> Option<Scaled>
-        requires sound { IsSound self.now }
+        requires sound { IsWellFormed self.now }
         requires number { is_number_end self.now.layout self.now.storage side.now ≡ true }
-        requires literal { IsSoundEnd side.now }
+        requires literal { IsShortEnd side.now }
         ensures value { result ≡ number_of self.now.layout self.now.storage side.now }
         ensures short { IfSome result IsShortNumber }
     {
@@ -148,7 +148,7 @@ impl<'a> Contents<'a> {
     }
 
     fn item_text(&self, place: u32) -> Option<Text<'a>>
-        requires { IsSound self.now }
+        requires { IsWellFormed self.now }
         ensures value { option_map plain_text result
             ≡ contents_text (form_at self.now.layout place) (bytes_at self.now.layout self.now.storage place) }
         ensures short { IfSome result IsShortText }
@@ -162,7 +162,7 @@ impl<'a> Contents<'a> {
     /// A side as text beside another, whose length a figurative constant takes; nothing where a numeric item isn't numeric.
     #[inline(always)]
     pub fn text<'b>(&'b self, side: &'b Sender, other: &Sender) -> Option<Text<'b>>
-        requires { IsSound self.now }
+        requires { IsWellFormed self.now }
         ensures value { option_map plain_text result ≡ text_of self.now.layout self.now.storage
             (side_length self.now.layout self.now.storage other.now 1) side.now }
         ensures short { IfSome result IsShortText }

@@ -4,7 +4,7 @@ ghost use Rattle.cob_program.specs.Sum.{MkSum, no_parts, more_parts, parts_of, f
 ghost use Rattle.cob_program.specs.SumView.{plain_sum, plain_part, plain_factor};
 ghost use Rattle.cob_program.specs.Values.{root_in, root_of, stored_value};
 ghost use Rattle.cob_program.specs.Bounds.{is_small_stored};
-ghost use Rattle.cob_calc.specs.Contents.{IsSound, amount_at, bound_at};
+ghost use Rattle.cob_calc.specs.Contents.{IsWellFormed, amount_at, bound_at};
 ghost use Rattle.cob_calc.specs.Exact.{plain_root, root_with, root_value, exact_root, exact_value, is_small_quotient, fraction_of, IsSmallExact};
 
 use crate::contents::Contents;
@@ -46,7 +46,7 @@ fn quotient_in(parts: &[Part]) -> Option<(&[Factor], &Factor)>
 impl<'a> Contents<'a> {
     // a quotient that stays exact; nothing where a divisor is 0
     fn quotient(&self, above: &[Factor], below: &Factor) -> Option<Exact>
-        requires sound { IsSound self.now }
+        requires sound { IsWellFormed self.now }
         requires small { is_small_quotient (bound_at self.now.layout) (root_with (factors_of
             (map plain_factor above.now)) (plain_factor below.now)) ≡ true }
         ensures value { option_map fraction_of result
@@ -66,7 +66,7 @@ impl<'a> Contents<'a> {
     }
 
     fn stored_parts(&self, parts: &[Part]) -> Option<Exact>
-        requires sound { IsSound self.now }
+        requires sound { IsWellFormed self.now }
         requires small { is_small_stored (bound_at self.now.layout) (MkSum (parts_of
             (map plain_part parts.now))) ≡ true }
         ensures value { option_map fraction_of result
@@ -85,7 +85,7 @@ impl<'a> Contents<'a> {
 
     /// What is stored of a sum; nothing where a divisor is 0.
     pub fn stored(&self, sum: &Sum) -> Option<Exact>
-        requires sound { IsSound self.now }
+        requires sound { IsWellFormed self.now }
         requires small { is_small_stored (bound_at self.now.layout) (plain_sum sum.now) ≡ true }
         ensures value { option_map fraction_of result ≡ stored_value (amount_at self.now) (plain_sum sum.now) }
         ensures exact { result ≡ exact_value (amount_at self.now) (plain_sum sum.now) }

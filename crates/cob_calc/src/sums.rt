@@ -4,7 +4,7 @@ ghost use Rattle.cob_program.specs.Sum.{no_factors, more_factors, parts_of, fact
 ghost use Rattle.cob_program.specs.SumView.{plain_sum, plain_part, plain_factor, plain_atom};
 ghost use Rattle.cob_program.specs.Values.{whole_number, sum_value, sum_from, part_value, product_from, atom_value};
 ghost use Rattle.cob_program.specs.Bounds.{exactly, is_small, is_small_sum, is_small_sum_from, is_small_part, is_small_product, is_small_atom, IsSmall};
-ghost use Rattle.cob_calc.specs.Contents.{IsSound, amount_at, bound_at};
+ghost use Rattle.cob_calc.specs.Contents.{IsWellFormed, amount_at, bound_at};
 ghost use Rattle.cob_calc.specs.Working.{factor_value, HasRoom};
 
 use crate::contents::Contents;
@@ -16,7 +16,7 @@ impl<'a> Contents<'a> {
     // what an item is worth, where its picture is small
     #[tactic(auto, using(crate::proofs::SumLemmas::amount_small))]
     fn item_value(&self, place: u32) -> Scaled
-        requires sound { IsSound self.now }
+        requires sound { IsWellFormed self.now }
         requires small { is_small (bound_at self.now.layout place) ≡ true }
         ensures value { result ≡ amount_at self.now place }
         ensures small { IsSmall result }
@@ -27,7 +27,7 @@ impl<'a> Contents<'a> {
     /// What an operand is worth; nothing where a divisor in it is 0.
     #[cycle(sum)]
     pub fn atom(&self, atom: &Atom) -> Option<Scaled>
-        requires sound { IsSound self.now }
+        requires sound { IsWellFormed self.now }
         requires small { is_small_atom (bound_at self.now.layout) (plain_atom atom.now) ≡ true }
         ensures value { result ≡ atom_value (amount_at self.now) (plain_atom atom.now) }
         ensures small { IfSome result IsSmall }
@@ -42,7 +42,7 @@ impl<'a> Contents<'a> {
     // a number with one factor more
     #[cycle(sum)]
     fn factor(&self, value: Scaled, factor: &Factor) -> Option<Scaled>
-        requires sound { IsSound self.now }
+        requires sound { IsWellFormed self.now }
         requires room { HasRoom self.now value (more_factors (plain_factor factor.now) no_factors) }
         ensures { result ≡ factor_value (amount_at self.now) value (plain_factor factor.now) }
     {
@@ -55,7 +55,7 @@ impl<'a> Contents<'a> {
     /// What a product is worth.
     #[cycle(sum)]
     pub fn product(&self, factors: &[Factor]) -> Option<Scaled>
-        requires sound { IsSound self.now }
+        requires sound { IsWellFormed self.now }
         requires small { is_small_product (bound_at self.now.layout) (exactly 1) (factors_of
             (map plain_factor factors.now)) ≡ true }
         ensures value { result ≡ product_from (amount_at self.now) (whole_number (pos 1)) (factors_of
@@ -74,7 +74,7 @@ impl<'a> Contents<'a> {
 
     #[cycle(sum)]
     fn part(&self, part: &Part) -> Option<Scaled>
-        requires sound { IsSound self.now }
+        requires sound { IsWellFormed self.now }
         requires small { is_small_part (bound_at self.now.layout) (plain_part part.now) ≡ true }
         ensures value { result ≡ part_value (amount_at self.now) (plain_part part.now) }
         ensures small { IfSome result IsSmall }
@@ -87,7 +87,7 @@ impl<'a> Contents<'a> {
 
     #[cycle(sum)]
     pub fn parts(&self, parts: &[Part]) -> Option<Scaled>
-        requires sound { IsSound self.now }
+        requires sound { IsWellFormed self.now }
         requires small { is_small_sum_from (bound_at self.now.layout) (exactly 0) (parts_of
             (map plain_part parts.now)) ≡ true }
         ensures value { result ≡ sum_from (amount_at self.now) (whole_number (pos 0)) (parts_of
@@ -107,7 +107,7 @@ impl<'a> Contents<'a> {
     /// What a sum is worth; nothing where a divisor in it is 0.
     #[cycle(sum)]
     pub fn sum(&self, sum: &Sum) -> Option<Scaled>
-        requires sound { IsSound self.now }
+        requires sound { IsWellFormed self.now }
         requires small { is_small_sum (bound_at self.now.layout) (plain_sum sum.now) ≡ true }
         ensures value { result ≡ sum_value (amount_at self.now) (plain_sum sum.now) }
         ensures small { IfSome result IsSmall }

@@ -1,3 +1,4 @@
+//! What an arithmetic statement works out before it stores anything.
 ghost use Rattle.std.specs.Prelude.{◌≡◌, ◌≤◌, ◌-◌, ◌^◌, not, is_some, pos, unsigned_abs, option_map, IfSome};
 ghost use Rattle.std.specs.List.{list_any};
 ghost use Rattle.dec_num.specs.Exact.{near};

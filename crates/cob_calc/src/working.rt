@@ -3,7 +3,7 @@ ghost use Rattle.std.specs.Prelude.{◌≡◌, ◌||◌, true, is_some, option_m
 ghost use Rattle.cob_program.specs.SumView.{plain_sum};
 ghost use Rattle.cob_program.specs.Values.{sum_value};
 ghost use Rattle.cob_program.specs.Bounds.{is_small_sum, is_small_stored};
-ghost use Rattle.cob_calc.specs.Contents.{IsSound, amount_at, bound_at};
+ghost use Rattle.cob_calc.specs.Contents.{IsWellFormed, amount_at, bound_at};
 ghost use Rattle.cob_calc.specs.Exact.{exact_value, IsSmallExact};
 ghost use Rattle.cob_calc.specs.Receiving.{some_whole, some_part, without_whole, AreWorked};
 ghost use Rattle.cob_calc.specs.Arithmetic.{are_small_results, CanCompute};
@@ -36,7 +36,7 @@ fn worked_part(value: Option<Option<Scaled>>) -> Option<Worked>
 
 impl<'a> Contents<'a> {
     fn whole_if(&self, wanted: bool, common: &Sum) -> Option<Exact>
-        requires sound { IsSound self.now }
+        requires sound { IsWellFormed self.now }
         requires small { wanted ≡ true → is_small_stored (bound_at self.now.layout) (plain_sum common.now) ≡ true }
         ensures value { wanted ≡ true → result ≡ exact_value (amount_at self.now) (plain_sum common.now) }
         ensures small { IfSome result IsSmallExact }
@@ -45,7 +45,7 @@ impl<'a> Contents<'a> {
     }
 
     fn value_if(&self, wanted: bool, common: &Sum) -> Option<Scaled>
-        requires sound { IsSound self.now }
+        requires sound { IsWellFormed self.now }
         requires small { wanted ≡ true → is_small_sum (bound_at self.now.layout) (plain_sum common.now) ≡ true }
         ensures { wanted ≡ true → result ≡ sum_value (amount_at self.now) (plain_sum common.now) }
     {
@@ -55,7 +55,7 @@ impl<'a> Contents<'a> {
     // what the receivers of a statement get
     #[tactic(auto, using(crate::proofs::WorkLemmas::wanting))]
     fn worked(&self, common: &Sum, targets: &[Target], remainder: Option<u32>) -> Worked
-        requires sound { IsSound self.now }
+        requires sound { IsWellFormed self.now }
         requires results { are_small_results (bound_at self.now.layout) (plain_sum common.now) targets.now ≡ true }
         requires rest { is_some remainder
             ≡ true → is_small_stored (bound_at self.now.layout) (plain_sum common.now) ≡ true }
@@ -78,7 +78,7 @@ impl<'a> Contents<'a> {
         targets: &[Target],
         remainder: Option<u32>,
     ) -> Option<Worked>
-        requires sound { IsSound self.now }
+        requires sound { IsWellFormed self.now }
         requires can { CanCompute self.now.layout (plain_sum common.now) targets.now remainder }
         ensures { AreWorked self.now (plain_sum common.now) targets.now remainder result }
     {

@@ -1,5 +1,5 @@
 -- The answer as a function, and in words.
-use Rattle.std.proofs.Common.{◌≡◌, ℕ, ◌+◌, ◌^◌, max, min, IsTrue, ◌↔◌, ◌<◌, ◌≤◌, Bool, true, false, cond, ltb, inl, inr, List, length, Option, Some, None, Result, Ok, Err, refl, sym, ap, ◌∙◌, subst, arith}
+use Rattle.std.proofs.Common.{◌≡◌, ℕ, ◌+◌, max, min, IsTrue, ◌↔◌, ◌<◌, ◌≤◌, Bool, true, false, cond, ltb, inl, inr, List, length, Option, Some, None, Result, Ok, Err, refl, sym, ap, ◌∙◌, subst, arith}
 use Rattle.std.proofs.lemmas.Bool.Decides.{nat_tests}
 use Rattle.rule_order.specs.Order.{AreKept, IsFirstBroken, first_broken}
 use Rattle.rule_order.proofs.OrderLemmas.{first_is, kept_is, is_first, is_kept}
@@ -20,10 +20,11 @@ use Rattle.cob_data.proofs.LowLemmas.{are_low}
 use Rattle.cob_data.proofs.ReadLemmas.{descriptions_length}
 use Rattle.cob_data.specs.Lengths.{forest}
 use Rattle.cob_data.specs.Spots.{all_spots, nothing_above, storage_of}
-use Rattle.cob_data.specs.Rules.{Facts, facts_of, broken_lines, lines_in, data_rules, count_of, limit_of, IsFirstExceeded, IsWithinLimits}
+use Rattle.cob_data.specs.Rules.{Facts, facts_of, broken_lines, lines_in, data_rules, count_of, limit_of, IsFirstExceeded, IsWithinLimits, storage_limit}
 use Rattle.cob_data.specs.Layouts.{HasLayout, IsCause}
 use Rattle.cob_data.specs.Answers.{IsAnswer, IsRefused, IsAccepted, outside_or, limit_in, refusal_in, IsJudged}
 use Rattle.cob_data.proofs.SpotLemmas.{spots_length, size_forest}
+use Rattle.cob_tree.specs.Limits.{token_limit}
 
 -- ---- limits
 
@@ -52,8 +53,8 @@ cause_of t a b e is = let same : a ≡ b = cc in subst (λ (x : DataEnd). IsCaus
 limit_cause : (t : Tree) (end : DataEnd) (x y z : Bool) → AreKept (broken_lines t) data_rules → is_exceeded (facts_of t) Items ≡ x → is_exceeded (facts_of t) Storage ≡ y → is_exceeded (facts_of t) Files ≡ z →
     first_limit (facts_of t) x y z ≡ Some end → IsCause t end
 limit_cause t end true y z kept p q r e = cause_of t (Limit Items (count_of (facts_of t) Items)) end e (kept, over 512 (count_of (facts_of t) Items) p, refl)
-limit_cause t end false true z kept p q r e = cause_of t (Limit Storage (count_of (facts_of t) Storage)) end e (kept, (not_over 512 (count_of (facts_of t) Items) p, over 1048576 (count_of (facts_of t) Storage) q), refl)
-limit_cause t end false false true kept p q r e = cause_of t (Limit Files (count_of (facts_of t) Files)) end e (kept, (not_over 512 (count_of (facts_of t) Items) p, not_over 1048576 (count_of (facts_of t) Storage) q, over 16 (count_of (facts_of t) Files) r), refl)
+limit_cause t end false true z kept p q r e = cause_of t (Limit Storage (count_of (facts_of t) Storage)) end e (kept, (not_over 512 (count_of (facts_of t) Items) p, over storage_limit (count_of (facts_of t) Storage) q), refl)
+limit_cause t end false false true kept p q r e = cause_of t (Limit Files (count_of (facts_of t) Files)) end e (kept, (not_over 512 (count_of (facts_of t) Items) p, not_over storage_limit (count_of (facts_of t) Storage) q, over 16 (count_of (facts_of t) Files) r), refl)
 limit_cause t end false false false kept p q r e = absurd (cc)
 
 limits_kept : (t : Tree) (x y z : Bool) → is_exceeded (facts_of t) Items ≡ x → is_exceeded (facts_of t) Storage ≡ y → is_exceeded (facts_of t) Files ≡ z → first_limit (facts_of t) x y z ≡ None → IsWithinLimits t
@@ -62,20 +63,20 @@ limits_kept t false true z p q r e = absurd (cc)
 limits_kept t false false true p q r e = absurd (cc)
 limits_kept t false false false p q r e = record {
   items = not_over 512 (count_of (facts_of t) Items) p;
-  storage = not_over 1048576 (count_of (facts_of t) Storage) q;
+  storage = not_over storage_limit (count_of (facts_of t) Storage) q;
   files = not_over 16 (count_of (facts_of t) Files) r;
 }
 
 limit_refusal : (t : Tree) (w : Which) → IsFirstExceeded t w → limit_in (facts_of t) ≡ Some (Limit w (count_of (facts_of t) w))
 limit_refusal t Items is = rw (is_over 512 (count_of (facts_of t) Items) is) refl
-limit_refusal t Storage is = rw (is_within 512 (count_of (facts_of t) Items) is.0, is_over 1048576 (count_of (facts_of t) Storage) is.1) refl
-limit_refusal t Files is = rw (is_within 512 (count_of (facts_of t) Items) is.0, is_within 1048576 (count_of (facts_of t) Storage) is.1, is_over 16 (count_of (facts_of t) Files) is.2) refl
+limit_refusal t Storage is = rw (is_within 512 (count_of (facts_of t) Items) is.0, is_over storage_limit (count_of (facts_of t) Storage) is.1) refl
+limit_refusal t Files is = rw (is_within 512 (count_of (facts_of t) Items) is.0, is_within storage_limit (count_of (facts_of t) Storage) is.1, is_over 16 (count_of (facts_of t) Files) is.2) refl
 limit_refusal t Nesting is = absurd is
 limit_refusal t Cells is = absurd is
 limit_refusal t Nodes is = absurd is
 
 no_limit : (t : Tree) → IsWithinLimits t → limit_in (facts_of t) ≡ None
-no_limit t is = rw (is_within 512 (count_of (facts_of t) Items) is.items, is_within 1048576 (count_of (facts_of t) Storage) is.storage, is_within 16 (count_of (facts_of t) Files) is.files) refl
+no_limit t is = rw (is_within 512 (count_of (facts_of t) Items) is.items, is_within storage_limit (count_of (facts_of t) Storage) is.storage, is_within 16 (count_of (facts_of t) Files) is.files) refl
 
 -- ---- the refusal
 
@@ -130,17 +131,17 @@ accepted_is t (Err end) (inr e) has = e
 pub seated : (ds : List Description) → length ds ≡ length (all_spots ds)
 seated ds = sym (spots_length nothing_above 0 0 None (forest ds) ∙ size_forest ds)
 
-storage_at : (f : Facts) (x y z : Bool) → is_exceeded f Items ≡ x → is_exceeded f Storage ≡ y → is_exceeded f Files ≡ z → first_limit f x y z ≡ None → storage_of f.spots ≤ 1048576
+storage_at : (f : Facts) (x y z : Bool) → is_exceeded f Items ≡ x → is_exceeded f Storage ≡ y → is_exceeded f Files ≡ z → first_limit f x y z ≡ None → storage_of f.spots ≤ storage_limit
 storage_at f true y z p q r e = absurd (cc)
 storage_at f false true z p q r e = absurd (cc)
 storage_at f false false true p q r e = absurd (cc)
-storage_at f false false false p q r e = not_over 1048576 (count_of f Storage) q
+storage_at f false false false p q r e = not_over storage_limit (count_of f Storage) q
 
-storage_low_at : (f : Facts) (o : Option (Rule × ℕ)) → outside_or o (limit_in f) ≡ None → storage_of f.spots ≤ 1048576
+storage_low_at : (f : Facts) (o : Option (Rule × ℕ)) → outside_or o (limit_in f) ≡ None → storage_of f.spots ≤ storage_limit
 storage_low_at f None e = storage_at f (is_exceeded f Items) (is_exceeded f Storage) (is_exceeded f Files) refl refl refl e
 storage_low_at f (Some (rule, line)) e = absurd (cc)
 
-pub storage_low : (f : Facts) → refusal_in f ≡ None → storage_of f.spots ≤ 1048576
+pub storage_low : (f : Facts) → refusal_in f ≡ None → storage_of f.spots ≤ storage_limit
 storage_low f e = storage_low_at f (first_broken (lines_in f) data_rules) e
 
 pub seated_as : (ds : List Description) (ss : List Spot) → ss ≡ all_spots ds → length ds ≡ length ss
@@ -148,11 +149,11 @@ seated_as ds ss e = seated ds ∙ ap length (sym e)
 
 pub low_as : (f : Facts) → f.spots ≡ all_spots f.items → None ≡ refusal_in f → AreLow f.spots
 low_as f laid none =
-    let low : storage_of f.spots ≤ 1048576 = storage_low f (sym none) in
-    let same : storage_of (all_spots f.items) ≤ 1048576 = subst (λ (ss : List Spot). storage_of ss ≤ 1048576) laid low in
+    let low : storage_of f.spots ≤ storage_limit = storage_low f (sym none) in
+    let same : storage_of (all_spots f.items) ≤ storage_limit = subst (λ (ss : List Spot). storage_of ss ≤ storage_limit) laid low in
     subst (λ (ss : List Spot). AreLow ss) (sym laid) (are_low f.items same)
 
-pub few_as : (f : Facts) (t : Tree) → f ≡ facts_of t → HasFewEntries t.front → length f.items ≤ 2 ^ 27
+pub few_as : (f : Facts) (t : Tree) → f ≡ facts_of t → HasFewEntries t.front → length f.items ≤ token_limit
 few_as f t e few =
     let same : length f.items ≡ length (items_of t.front) = ap (λ (g : Facts). length g.items) e in
     omega (arith, same, descriptions_length (all_entries t.front), few.entries)

@@ -7,6 +7,7 @@ use Rattle.cob_data.specs.declared.description.Above.{Above}
 use Rattle.cob_data.specs.Lengths.{Forest, bare, item, forest, size}
 use Rattle.cob_data.specs.Spots.{Neighbour, spot, spots, above_parts, end_behind, lies_on_last, nothing_above, all_spots, storage_of}
 use Rattle.cob_data.specs.Files.{longest, largest_record, is_record_of}
+use Rattle.cob_data.specs.Rules.{storage_limit}
 use Rattle.cob_data.specs.Layouts.{area_start}
 use Rattle.cob_data.specs.Known.{AreLow}
 
@@ -34,31 +35,31 @@ above_start : (m : ℕ) (ss : List Spot) → m ≤ greatest m ss
 above_start m [] = omega arith
 above_start m (s ∷ ss) = omega (arith, above_start (max m s.end) ss)
 
-low_of : (m most : ℕ) (ss : List Spot) → AllByRecursion EndsRightly ss → greatest m ss ≤ most → most ≤ 1048576 → AreLow ss
+low_of : (m most : ℕ) (ss : List Spot) → AllByRecursion EndsRightly ss → greatest m ss ≤ most → most ≤ storage_limit → AreLow ss
 low_of m most [] ends within few = tt
 low_of m most (s ∷ ss) ends within few =
     let high = above_start (max m s.end) ss in
     let rightly : s.end ≡ s.start + s.length = ends.0 in
     (record { start = omega (arith, high, rightly); length = omega (arith, high, rightly) }, low_of (max m s.end) most ss ends.1 within few)
 
-pub are_low : (ds : List Description) → storage_of (all_spots ds) ≤ 1048576 → AreLow (all_spots ds)
-are_low ds within = low_of 0 1048576 (all_spots ds) (spots_end_rightly nothing_above 0 0 None (forest ds)) within (omega arith)
+pub are_low : (ds : List Description) → storage_of (all_spots ds) ≤ storage_limit → AreLow (all_spots ds)
+are_low ds within = low_of 0 storage_limit (all_spots ds) (spots_end_rightly nothing_above 0 0 None (forest ds)) within (omega arith)
 
-pub longest_low : (most n : ℕ) (ds : List Description) (ss : List Spot) → most ≤ 1048576 → AreLow ss → longest most n ds ss ≤ 1048576
+pub longest_low : (most n : ℕ) (ds : List Description) (ss : List Spot) → most ≤ storage_limit → AreLow ss → longest most n ds ss ≤ storage_limit
 longest_low most n [] ss few low = few
 longest_low most n (d ∷ ds) [] few low = few
 longest_low most n (d ∷ ds) (s ∷ ss) few low = longest_low (cond (is_record_of n d) (max most s.length) most) n ds ss (at (is_record_of n d) most s.length few low.0.length) low.1 where
-  at : (x : Bool) (m k : ℕ) → m ≤ 1048576 → k ≤ 1048576 → cond x (max m k) m ≤ 1048576
+  at : (x : Bool) (m k : ℕ) → m ≤ storage_limit → k ≤ storage_limit → cond x (max m k) m ≤ storage_limit
   at true m k a b = omega arith
   at false m k a b = a
 
-pub area_low : (n : ℕ) (ds : List Description) (ss : List Spot) → AreLow ss → area_start n ds ss ≤ 1048576
+pub area_low : (n : ℕ) (ds : List Description) (ss : List Spot) → AreLow ss → area_start n ds ss ≤ storage_limit
 area_low n [] ss low = omega arith
 area_low n (d ∷ ds) [] low = omega arith
 area_low n (d ∷ ds) (s ∷ ss) low = at (is_record_of n d) s.start (area_start n ds ss) low.0.start (area_low n ds ss low.1) where
-  at : (x : Bool) (m k : ℕ) → m ≤ 1048576 → k ≤ 1048576 → cond x m k ≤ 1048576
+  at : (x : Bool) (m k : ℕ) → m ≤ storage_limit → k ≤ storage_limit → cond x m k ≤ storage_limit
   at true m k a b = a
   at false m k a b = b
 
-pub record_low : (n : ℕ) (ds : List Description) (ss : List Spot) → AreLow ss → largest_record n ds ss ≤ 1048576
+pub record_low : (n : ℕ) (ds : List Description) (ss : List Spot) → AreLow ss → largest_record n ds ss ≤ storage_limit
 record_low n ds ss low = longest_low 0 n ds ss (omega arith) low

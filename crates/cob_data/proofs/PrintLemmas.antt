@@ -1,5 +1,5 @@
 -- A tree's printing has at least as many tokens as the tree has entries.
-use Rattle.std.proofs.Common.{ℕ, ◌+◌, ◌≤◌, List, [], ◌∷◌, ◌++◌, length, length-append, ◌^◌, Option, Some, None, arith}
+use Rattle.std.proofs.Common.{ℕ, ◌+◌, ◌≤◌, List, [], ◌∷◌, ◌++◌, length, length-append, Option, Some, None, arith}
 use Rattle.cob_tree.specs.declared.front.Front.{Front}
 use Rattle.cob_tree.specs.declared.front.Data.{Data}
 use Rattle.cob_tree.specs.declared.front.Fd.{Fd}
@@ -14,6 +14,7 @@ use Rattle.cob_data.specs.Entries.{placed, file_entries, fds_in, entries_in, lis
 use Rattle.cob_data.specs.declared.description.Area.TheVariants.{File}
 use Rattle.cob_data.specs.Known.{HasFewEntries}
 use Rattle.cob_data.proofs.ReadLemmas.{placed_length, front_length}
+use Rattle.cob_tree.specs.Limits.{token_limit}
 
 at_least : (a b : List Item) (n : ℕ) → n ≤ length b → n ≤ length (a ++ b)
 at_least a b n h = omega (arith, length-append a b)
@@ -64,7 +65,7 @@ front_printed f =
     (at_least (print_name_and_stop f.name) (print_if print_env f.env ++ print_if print_data f.«data») (count_in f.«data»)
     (at_least (print_if print_env f.env) (print_if print_data f.«data») (count_in f.«data») (data_if f.«data»))))
 
-pub few_entries : (t : Tree) → length (print_tree (plain_tree t)) ≤ 2 ^ 27 → HasFewEntries t.front
+pub few_entries : (t : Tree) → length (print_tree (plain_tree t)) ≤ token_limit → HasFewEntries t.front
 few_entries t few =
     let printed : count_in t.front.«data» ≤ length (print_tree (plain_tree t)) = at_front (print_front t.front) (heading (word.Procedure ∷ word.Division ∷ []) ++ (each print_sentence (plain_tree t).sentences ++ (each print_paragraph (plain_tree t).paragraphs ++ print_if print_end (plain_tree t).end))) (count_in t.front.«data») (front_printed t.front) in
     record {

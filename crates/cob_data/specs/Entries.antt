@@ -137,7 +137,7 @@ pub record Placed : Type 0 where
   pub area : Area
   pub entry : Entry
 
--- where a kind of clause stands twice, the first one counts; the grammar allows no second
+-- What an entry says. Where a kind of clause stands twice, the first one counts; the grammar allows no second.
 abbrev pub description : Placed → Description
 description p =
     let clauses = p.entry.clauses in

@@ -28,7 +28,7 @@ selects_name name selects = list_any (λ s. bytes_eq s.name name) selects
 abbrev pub describes_name : List ℕ → List Fd → Bool
 describes_name name fds = list_any (λ f. bytes_eq f.name name) fds
 
--- of two of one name the later is to blame
+-- A SELECT without its own FD; of two of one name the later is to blame.
 abbrev pub breaks_select_match : List Select → List Fd → Select → Bool
 breaks_select_match before fds s = selects_name s.name before || not (describes_name s.name fds)
 

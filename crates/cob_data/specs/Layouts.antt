@@ -40,6 +40,7 @@ item_at d s = record {
   value = option_and_then first_low d.value;
 }
 
+-- each item with its place; there are as many of these as of those
 abbrev pub laid_items : List Description → List Spot → List Item
 laid_items [] ss = []
 laid_items (d ∷ ds) [] = []
@@ -51,6 +52,8 @@ laid_items (d ∷ ds) (s ∷ ss) = item_at d s ∷ laid_items ds ss
 abbrev pub pair_of : Span → Pair
 pair_of s = record { low = s.low; high = unwrap_or s.high s.low }
 
+-- Without a name or an item it has the empty name or the first item: such a condition-name breaks a rule, and no layout is
+-- promised then.
 abbrev pub flag_of : Condition → Flag
 flag_of c = record {
   name = unwrap_or c.name [];
@@ -66,7 +69,7 @@ record_places n place [] = []
 record_places n place (d ∷ ds) =
     if is_record_of n d then place ∷ record_places n (place + 1) ds else record_places n (place + 1) ds
 
--- where the first of them starts
+-- Where the first of them starts, and 0 where the FD has none, which breaks a rule.
 abbrev pub area_start : ℕ → List Description → List Spot → ℕ
 area_start n [] ss = 0
 area_start n (d ∷ ds) [] = 0
@@ -86,7 +89,7 @@ file_at f s n = record {
   status = status_place f.items (status_of s);
 }
 
--- the place of a file's FD
+-- The place of a file's FD, and 0 where it has none, which breaks a rule.
 abbrev pub fd_place : List Fd → List ℕ → ℕ
 fd_place fds name = unwrap_or (position_from (λ f. bytes_eq f.name name) 0 fds) 0
 

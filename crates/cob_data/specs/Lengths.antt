@@ -17,12 +17,12 @@ depth d = if d.level == 77 then 1 else d.level
 abbrev pub is_deeper : ℕ → Description → Bool
 is_deeper n d = nat_lt n (depth d)
 
--- those at the beginning that are deeper
+-- the items at the beginning that are deeper
 abbrev pub deeper : ℕ → Forest → Forest
 deeper n bare = bare
 deeper n (item d below beside) = if is_deeper n d then item d below (deeper n beside) else bare
 
--- the others
+-- the items behind those
 abbrev pub behind : ℕ → Forest → Forest
 behind n bare = bare
 behind n (item d below beside) = if is_deeper n d then behind n beside else item d below beside

@@ -12,7 +12,7 @@ use Rattle.cob_data.specs.Rules.{Facts}
 abbrev pub stands_in : List (List ℕ) → List ℕ → Bool
 stands_in names name = list_any (λ n. bytes_eq n name) names
 
--- for each name whether it stands among those before it
+-- A flag for each name: whether it stands among those before it.
 abbrev pub repeats : List (List ℕ) → List (List ℕ) → List Bool
 repeats before [] = []
 repeats before (n ∷ ns) = stands_in before n ∷ repeats (before ++ n ∷ []) ns

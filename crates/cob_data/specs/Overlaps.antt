@@ -6,6 +6,6 @@ pub record IsByteOf (i : Item) (k : ℕ) : Type 0 where
   pub from : i.offset ≤ k
   pub to : k < i.offset + i.length
 
--- some byte lies in both
+-- some byte lies in both items
 abbrev pub Meet : Item → Item → Type 0
 Meet a b = (k : ℕ) × IsByteOf a k × IsByteOf b k

@@ -6,7 +6,7 @@ use Rattle.cob_data.specs.Lengths.{unless_redefining}
 use Rattle.cob_data.specs.declared.end.Rule.TheVariants.{L6}
 use Rattle.cob_data.specs.Rules.{item_lines}
 
--- directly below the item of this place
+-- an item directly below that of this place
 abbrev pub is_at : ℕ → Option ℕ → Bool
 is_at place None = false
 is_at place (Some parent) = parent == place
@@ -20,7 +20,7 @@ part_bytes place [] ss = 0
 part_bytes place (d ∷ ds) [] = 0
 part_bytes place (d ∷ ds) (s ∷ ss) = (if is_part place s then unless_redefining d s.length else 0) + part_bytes place ds ss
 
--- where the last of its parts starts
+-- The start of the last of an item's parts.
 abbrev pub last_start : ℕ → ℕ → List Spot → ℕ
 last_start place none [] = none
 last_start place none (s ∷ ss) = last_start place (if is_part place s then s.start else none) ss
@@ -41,7 +41,7 @@ start_in group place ds ss d = if is_some d.redefines then last_start place grou
 abbrev pub StartsBehind : List Description → List Spot → Description → Spot → Type 0
 StartsBehind ds ss d s = IfSome s.parent (λ place. (group : Spot) × (slice_get ss place ≡ Some group) × (s.start ≡ start_in group place ds ss d))
 
--- each item starts so
+-- each item starts where it should
 abbrev pub AreBehind : List Description → List Spot → List Description → List Spot → Type 0
 AreBehind ds ss [] [] = Unit {0}
 AreBehind ds ss [] (s ∷ more) = ⊥

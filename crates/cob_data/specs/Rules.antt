@@ -71,7 +71,7 @@ abbrev pub condition_lines : Rule → Facts → List Condition → List ℕ
 condition_lines rule f [] = []
 condition_lines rule f (c ∷ cs) = line_if (condition_breaks rule f c) c.line (condition_lines rule f cs)
 
--- those that stand before each are known at it
+-- The lines of SELECTs that break a rule; at each the ones before it are known.
 abbrev pub select_lines : Rule → Facts → List Select → List Select → List ℕ
 select_lines rule f before [] = []
 select_lines rule f before (s ∷ ss) = line_if (select_breaks rule f before s) s.line (select_lines rule f (before ++ s ∷ []) ss)
@@ -134,9 +134,13 @@ count_of f which.Storage = storage_of f.spots
 count_of f which.Files = length f.selects
 count_of f _ = 0
 
+-- the greatest number of bytes that data take
+abbrev pub storage_limit : ℕ
+storage_limit = 1048576
+
 abbrev pub limit_of : Which → ℕ
 limit_of which.Items = 512
-limit_of which.Storage = 1048576
+limit_of which.Storage = storage_limit
 limit_of which.Files = 16
 limit_of _ = 0
 

@@ -51,7 +51,7 @@ abbrev pub lies_on_last : Above → Description → Option Neighbour → Bool
 lies_on_last above d None = false
 lies_on_last above d (Some before) = lies_on above d before
 
--- it starts where that one starts, or else where all before end
+-- An item starts where the one that it lies on starts, or else where all before it end.
 abbrev pub start_at : Above → ℕ → Description → Option Neighbour → ℕ
 start_at above next d None = next
 start_at above next d (Some before) = if lies_on above d before then before.spot.start else next

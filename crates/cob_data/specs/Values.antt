@@ -20,7 +20,7 @@ whole n = take (length n.digits - n.scale) n.digits
 abbrev pub decimals : Num → List ℕ
 decimals n = drop (length n.digits - n.scale) n.digits
 
--- less than zero
+-- a numeral of less than zero
 abbrev pub is_negative : Num → Bool
 is_negative n = n.sign == 45 && not (all_zeros n.digits)
 
@@ -51,7 +51,7 @@ has_category (form.Text _) (sender.Fill byte) = true
 has_category (form.Text _) sender.Zero = true
 has_category _ _ = false
 
--- it isn't longer than the item
+-- The item has room for the constant. Where the categories differ nothing is asked.
 abbrev pub has_room : Form → Sender → Bool
 has_room (form.Number digits scale signed usage) (sender.Number n) = number_fits digits scale signed n
 has_room (form.Text bytes) (sender.Text text) = nat_le (length text) bytes
@@ -105,7 +105,7 @@ whole_length n = length n.digits - n.scale
 abbrev pub aligned : ℕ → Num → Padded
 aligned places n = record { shift = places - whole_length n; text = n.digits; fill = 48 }
 
--- without their signs, with the points below each other
+-- two numerals without their signs, with the points below each other
 abbrev pub magnitude_at_most : Num → Num → Bool
 magnitude_at_most a b =
     let places = max (whole_length a) (whole_length b) in

@@ -1,80 +1,21 @@
-ghost use Rattle.std.specs.Prelude.{◌≡◌, ◌≤◌, ◌+◌, ◌^◌, ◌++◌, ◌∷◌, [], map, unwrap_or, is_some, length, IfOk, OnOk, Option};
+//! The layout, from what the rules speak of.
+ghost use Rattle.std.specs.Prelude.{◌≡◌, ◌≤◌, ◌+◌, ◌++◌, ◌∷◌, [], map, unwrap_or, is_some, length, IfOk, OnOk, Option};
 ghost use Rattle.std.specs.Option.{option_and_then, option_copied};
 ghost use Rattle.std.specs.List.{position_from};
 ghost use Rattle.cob_data.specs.Files.{is_record_of, largest_record, is_named, external_text, status_of};
 ghost use Rattle.cob_data.specs.Layouts.{first_low, item_at, laid_items, pair_of, flag_of, record_places, area_start, status_place, file_at, fd_place, file_of, layout_in};
 ghost use Rattle.cob_data.specs.Known.{IsLow, AreLow, AreSeated};
 ghost use Rattle.cob_data.specs.Spots.{storage_of};
+ghost use Rattle.cob_data.specs.Rules.{storage_limit};
+ghost use Rattle.cob_tree.specs.Limits.{token_limit};
 
 use crate::description::{Condition, Description, Span, Spot};
 use crate::files::{external_text, is_named, is_record_of, largest_record, status_of};
-use crate::layout::{FileDecl, Flag, Item, Layout, Pair, Sender};
+use crate::layout::{FileDecl, Flag, Item, Layout, Pair, Sender, copied_name};
 use crate::limits::storage_of;
 use crate::rules::Known;
-use cob_tree::{Bytes, Fd, Form, Many, Name, Num, Select};
+use cob_tree::{Fd, Many, Name, Select};
 use std::alloc::{AllocError, Global};
-
-// ---- copies
-
-fn name_copy(alloc: Global, name: &Option<Name>) -> Result<Option<Name>, AllocError>
-    ensures { IfOk result (λ n. n ≡ name.now) }
-{
-    match name {
-        None => Ok(None),
-        Some(text) => Ok(Some(Name::of(alloc, text.get())?)),
-    }
-}
-
-fn form_copy(alloc: Global, form: &Form) -> Result<Form, AllocError>
-    ensures { IfOk result (λ f. f ≡ form.now) }
-{
-    match form {
-        Form::Group => Ok(Form::Group),
-        Form::Text { length } => Ok(Form::Text { length: *length }),
-        Form::Number {
-            digits,
-            scale,
-            signed,
-            usage,
-        } => Ok(Form::Number {
-            digits: *digits,
-            scale: *scale,
-            signed: *signed,
-            usage: *usage,
-        }),
-        Form::Edited {
-            picture,
-            digits,
-            scale,
-        } => Ok(Form::Edited {
-            picture: Bytes::of(alloc, picture.get())?,
-            digits: *digits,
-            scale: *scale,
-        }),
-    }
-}
-
-fn number_copy(alloc: Global, number: &Num) -> Result<Num, AllocError>
-    ensures { IfOk result (λ n. n ≡ number.now) }
-{
-    Ok(Num {
-        sign: number.sign,
-        digits: Bytes::of(alloc, number.digits.get())?,
-        scale: number.scale,
-    })
-}
-
-fn sender_copy(alloc: Global, constant: &Sender) -> Result<Sender, AllocError>
-    ensures { IfOk result (λ s. s ≡ constant.now) }
-{
-    match constant {
-        Sender::Item(place) => Ok(Sender::Item(*place)),
-        Sender::Number(number) => Ok(Sender::Number(number_copy(alloc, number)?)),
-        Sender::Text(text) => Ok(Sender::Text(Bytes::of(alloc, text.get())?)),
-        Sender::Fill(byte) => Ok(Sender::Fill(*byte)),
-        Sender::Zero => Ok(Sender::Zero),
-    }
-}
 
 // ---- items
 
@@ -84,7 +25,7 @@ fn first_low(alloc: Global, spans: &[Span]) -> Result<Option<Sender>, AllocError
     if spans.is_empty() {
         Ok(None)
     } else {
-        Ok(Some(sender_copy(alloc, &spans[0].low)?))
+        Ok(Some(spans[0].low.copied(alloc)?))
     }
 }
 
@@ -102,10 +43,10 @@ fn item_at(alloc: Global, item: &Description, spot: &Spot) -> Result<Item, Alloc
     ensures { IfOk result (λ i. i ≡ item_at item.now spot.now) }
 {
     Ok(Item {
-        name: name_copy(alloc, &item.name)?,
+        name: copied_name(alloc, &item.name)?,
         offset: spot.start as u32,
         length: spot.length as u32,
-        form: form_copy(alloc, &item.form)?,
+        form: item.form.copied(alloc)?,
         parent: spot.parent,
         line: item.line,
         value: value_of(alloc, &item.value)?,
@@ -118,8 +59,8 @@ fn high_of(alloc: Global, span: &Span) -> Result<Sender, AllocError>
     ensures { IfOk result (λ s. s ≡ unwrap_or span.now.high span.now.low) }
 {
     match &span.high {
-        None => Ok(sender_copy(alloc, &span.low)?),
-        Some(high) => Ok(sender_copy(alloc, high)?),
+        None => Ok(span.low.copied(alloc)?),
+        Some(high) => Ok(high.copied(alloc)?),
     }
 }
 
@@ -127,7 +68,7 @@ fn pair_of(alloc: Global, span: &Span) -> Result<Pair, AllocError>
     ensures { IfOk result (λ p. p ≡ pair_of span.now) }
 {
     Ok(Pair {
-        low: sender_copy(alloc, &span.low)?,
+        low: span.low.copied(alloc)?,
         high: high_of(alloc, span)?,
     })
 }
@@ -217,7 +158,7 @@ fn laid_items(
 // ---- files
 
 fn record_places(alloc: Global, file: u32, items: &[Description]) -> Result<Many<u32>, AllocError>
-    requires { length items.now ≤ 2 ^ 27 }
+    requires { length items.now ≤ token_limit }
     ensures { IfOk result (λ m. m ≡ record_places file 0 items.now) }
 {
     let mut places = Vec::new(alloc);
@@ -244,7 +185,7 @@ fn area_start(file: u32, items: &[Description], spots: &[Spot]) -> u64
 }
 
 fn place_of_name(name: &[u8], items: &[Description]) -> Option<u32>
-    requires { length items.now ≤ 2 ^ 27 }
+    requires { length items.now ≤ token_limit }
     ensures { result ≡ position_from (is_named name.now) 0 items.now }
 {
     for place in 0..items.len() {
@@ -256,7 +197,7 @@ fn place_of_name(name: &[u8], items: &[Description]) -> Option<u32>
 }
 
 fn status_place(items: &[Description], name: Option<&Name>) -> Option<u32>
-    requires { length items.now ≤ 2 ^ 27 }
+    requires { length items.now ≤ token_limit }
     ensures { result ≡ status_place items.now (option_copied name.entry) }
 {
     match name {
@@ -267,7 +208,7 @@ fn status_place(items: &[Description], name: Option<&Name>) -> Option<u32>
 
 /// The place of a file's FD.
 fn fd_place(fds: &[Fd], name: &[u8]) -> u32
-    requires { length fds.now ≤ 2 ^ 27 }
+    requires { length fds.now ≤ token_limit }
     ensures { result ≡ fd_place fds.now name.now }
 {
     for place in 0..fds.len() {
@@ -299,7 +240,7 @@ fn record_length(file: u32, items: &[Description], spots: &[Spot]) -> u32
 /// A file whose FD has this place.
 fn file_at(alloc: Global, known: &Known, select: &Select, file: u32) -> Result<FileDecl, AllocError>
     requires same { AreSeated known.now }
-    requires few { length known.now.items ≤ 2 ^ 27 }
+    requires few { length known.now.items ≤ token_limit }
     requires low { AreLow known.now.spots }
     ensures { IfOk result (λ f. f ≡ file_at known.now select.now file) }
 {
@@ -315,8 +256,8 @@ fn file_at(alloc: Global, known: &Known, select: &Select, file: u32) -> Result<F
 
 fn file_of(alloc: Global, known: &Known, select: &Select) -> Result<FileDecl, AllocError>
     requires same { AreSeated known.now }
-    requires few { length known.now.items ≤ 2 ^ 27 }
-    requires short { length known.now.fds ≤ 2 ^ 27 }
+    requires few { length known.now.items ≤ token_limit }
+    requires short { length known.now.fds ≤ token_limit }
     requires low { AreLow known.now.spots }
     ensures { IfOk result (λ f. f ≡ file_of known.now select.now) }
 {
@@ -326,8 +267,8 @@ fn file_of(alloc: Global, known: &Known, select: &Select) -> Result<FileDecl, Al
 
 fn files_of(alloc: Global, known: &Known) -> Result<Many<FileDecl>, AllocError>
     requires same { AreSeated known.now }
-    requires few { length known.now.items ≤ 2 ^ 27 }
-    requires short { length known.now.fds ≤ 2 ^ 27 }
+    requires few { length known.now.items ≤ token_limit }
+    requires short { length known.now.fds ≤ token_limit }
     requires low { AreLow known.now.spots }
     ensures { IfOk result (λ m. m ≡ map (file_of known.now) known.now.selects) }
 {
@@ -343,10 +284,10 @@ fn files_of(alloc: Global, known: &Known) -> Result<Many<FileDecl>, AllocError>
 /// The layout, from what the rules speak of.
 pub fn layout_in(alloc: Global, known: &Known) -> Result<Layout, AllocError>
     requires same { AreSeated known.now }
-    requires few { length known.now.items ≤ 2 ^ 27 }
-    requires short { length known.now.fds ≤ 2 ^ 27 }
+    requires few { length known.now.items ≤ token_limit }
+    requires short { length known.now.fds ≤ token_limit }
     requires low { AreLow known.now.spots }
-    requires within { storage_of known.now.spots ≤ 1048576 }
+    requires within { storage_of known.now.spots ≤ storage_limit }
     ensures { IfOk result (λ l. l ≡ layout_in known.now) }
 {
     Ok(Layout {

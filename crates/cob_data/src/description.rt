@@ -1,3 +1,4 @@
+//! What the data entries of a program say, item by item, and where each item lies.
 use crate::layout::Sender;
 use cob_tree::{Form, Many, Name, Usage};
 
@@ -16,8 +17,8 @@ pub struct Span {
 }
 
 /// What the entry of an item says. A level that isn't written as one is 0. `form` is that of the picture and the
-/// usage, and a group's where there is no allowed picture; `bytes` is what it takes. `usage` is Display, Binary or Packed, and `sign` Leading or
-/// Trailing, as they are written.
+/// usage, and a group's where there is no allowed picture; `bytes` is what it takes. `usage` is Display, Binary or
+/// Packed, and `sign` Leading or Trailing, as they are written.
 #[derive(Drop)]
 pub struct Description {
     pub area: Area,

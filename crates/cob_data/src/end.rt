@@ -1,3 +1,4 @@
+//! The rules and the limits of the profile, and why a program has no layout.
 /// A rule of the profile, by the name that is printed. L1 to L12 are on data, Q1 to Q11 and N5 on typing, N1 to N4 on
 /// nesting.
 #[derive(Clone, Copy, Debug, PartialEq, Eq)]

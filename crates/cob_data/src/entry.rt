@@ -1,9 +1,11 @@
+//! Data entries, read into descriptions of items and of condition-names.
 ghost use Rattle.std.specs.Prelude.{◌≡◌, ◌≤◌, ◌<◌, ◌+◌, ◌^◌, ◌++◌, ◌∷◌, true, false, List, is_some, length, find, map, IfOk, IfErr, OnOk};
 ghost use Rattle.std.specs.Option.{option_copied};
 ghost use Rattle.cob_data.specs.Entries.{two_digits, level_of, name_of, is_picture, is_redefines, is_usage, is_sign, is_value, text_in, usage_in, sender_of, sender_if, span_of, spans_in, kept_as, form_kept_as, form_or_group, pictured_form, form_bytes, Placed, description, only_values, condition, is_condition, owner_in, placed};
 ghost use Rattle.cob_data.specs.Reading.{IsFormed, Moves};
 ghost use Rattle.cob_tree.specs.PictureForms.{picture_form};
 ghost use Rattle.num_bytes.specs.Reading.{number_length};
+ghost use Rattle.cob_tree.specs.Limits.{token_limit};
 
 use crate::description::{Area, Condition, Description, Span};
 use crate::layout::Sender;
@@ -180,21 +182,11 @@ fn name_in(alloc: Global, clause: Option<&Clause>) -> Result<Option<Name>, Alloc
     }
 }
 
-fn number_copy(alloc: Global, number: &Num) -> Result<Num, AllocError>
-    ensures { IfOk result (λ n. n ≡ number.now) }
-{
-    Ok(Num {
-        sign: number.sign,
-        digits: Bytes::of(alloc, number.digits.get())?,
-        scale: number.scale,
-    })
-}
-
 fn sender_of(alloc: Global, constant: &Const) -> Result<Sender, AllocError>
     ensures { IfOk result (λ s. s ≡ sender_of constant.now) }
 {
     match constant {
-        Const::Number(number) => Ok(Sender::Number(number_copy(alloc, number)?)),
+        Const::Number(number) => Ok(Sender::Number(number.copied(alloc)?)),
         Const::Text(text) => Ok(Sender::Text(Bytes::of(alloc, text.get())?)),
         Const::Zero => Ok(Sender::Zero),
         Const::Space => Ok(Sender::Fill(32)),
@@ -481,7 +473,7 @@ impl Table {
 
     /// Reads the entries of an area.
     pub fn read(&mut self, alloc: Global, area: Area, entries: &[Entry]) -> Result<(), AllocError>
-        requires { length self.old.items.items + length entries.now ≤ 2 ^ 27 }
+        requires { length self.old.items.items + length entries.now ≤ token_limit }
         ensures moves { OnOk result ((later : List Placed) → Moves self.old self.new (placed area entries.now ++ later) later) }
         ensures more { OnOk result (length self.new.items.items ≤ length self.old.items.items + length entries.now) }
     {

@@ -1,3 +1,4 @@
+//! The rules on SELECT, FD and END PROGRAM.
 ghost use Rattle.std.specs.Prelude.{◌≡◌, if◌then◌else◌, max, find, length};
 ghost use Rattle.std.specs.List.{list_any, list_all};
 ghost use Rattle.std.specs.Option.{option_copied};

@@ -1,3 +1,4 @@
+//! The rules on items and on condition-names, each at one of them.
 ghost use Rattle.std.specs.Prelude.{◌≡◌, ◌≤◌, ◌<◌, not, length};
 ghost use Rattle.std.specs.List.{list_all};
 ghost use Rattle.cob_data.specs.ItemRules.{begins_record, is_under_01, breaks_levels, is_stray, breaks_parts, is_formless, breaks_pictures, is_compressed, is_numeric, is_signed, breaks_usages, may_begin_with, breaks_values, is_top, has_room, may_redefine, breaks_redefinitions, elementary_form, form_at, is_range_of, is_span_of, are_values_of, is_condition_of, breaks_conditions};

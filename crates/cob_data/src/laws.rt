@@ -1,3 +1,4 @@
+//! Laws on where items lie.
 ghost use Rattle.std.specs.Prelude.{◌≡◌, List, []};
 ghost use Rattle.cob_data.specs.declared.description.Description.{Description};
 ghost use Rattle.cob_data.specs.Spots.{all_spots};

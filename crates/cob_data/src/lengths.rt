@@ -1,6 +1,8 @@
+//! How many bytes an item takes.
 ghost use Rattle.std.specs.Prelude.{◌≡◌, ◌≤◌, ◌<◌, ◌+◌, ◌*◌, ◌^◌, length, not, nat_lt};
 ghost use Rattle.std.specs.List.{prefix_len};
 ghost use Rattle.cob_data.specs.Lengths.{depth, is_deeper, forest, item_bytes, unless_redefining};
+ghost use Rattle.cob_tree.specs.Limits.{token_limit};
 
 use crate::description::Description;
 use crate::slice::{behind, front};
@@ -42,7 +44,7 @@ fn unless_redefining(item: &Description, bytes: u64) -> u64
 
 /// The bytes of an item, from those below it.
 pub fn item_bytes(item: &Description, below: &[Description]) -> u64
-    requires { length below.now ≤ 2 ^ 27 }
+    requires { length below.now ≤ token_limit }
     ensures value { result ≡ item_bytes item.now (forest below.now) }
     ensures within { result ≤ (length below.now + 1) * 2 ^ 32 }
 {

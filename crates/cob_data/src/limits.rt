@@ -1,3 +1,4 @@
+//! What is limited: the named elementary items and the bytes of storage.
 ghost use Rattle.std.specs.Prelude.{◌≡◌, ◌≤◌, ◌+◌, ◌^◌, ◌&&◌, not, is_some, if◌then◌else◌, max, length};
 ghost use Rattle.cob_data.specs.Spots.{storage_of};
 ghost use Rattle.cob_data.specs.Rules.{count_items};

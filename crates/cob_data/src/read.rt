@@ -1,8 +1,10 @@
-ghost use Rattle.std.specs.Prelude.{◌≡◌, ◌≤◌, ◌+◌, ◌^◌, ◌++◌, List, length, IfOk, OnOk};
+//! What the rules speak of, gathered from a tree.
+ghost use Rattle.std.specs.Prelude.{◌≡◌, ◌≤◌, ◌+◌, ◌++◌, List, length, IfOk, OnOk};
 ghost use Rattle.cob_data.specs.Entries.{Placed, fds_in, entries_in, file_entries, all_entries, items_of, conditions_of};
 ghost use Rattle.cob_data.specs.Reading.{Moves};
 ghost use Rattle.cob_data.specs.Rules.{selects_in, facts_of};
 ghost use Rattle.cob_data.specs.Known.{HasFewEntries};
+ghost use Rattle.cob_tree.specs.Limits.{token_limit};
 
 use crate::description::Area;
 use crate::entry::Table;
@@ -49,8 +51,8 @@ pub fn entries_in(data: &Option<Data>) -> &[Entry]
 
 /// Reads the entries of the files.
 fn read_files(table: &mut Table, alloc: Global, fds: &[Fd]) -> Result<(), AllocError>
-    requires few { length table.old.items.items + length (file_entries 0 fds.now) ≤ 2 ^ 27 }
-    requires short { length fds.now ≤ 2 ^ 27 }
+    requires few { length table.old.items.items + length (file_entries 0 fds.now) ≤ token_limit }
+    requires short { length fds.now ≤ token_limit }
     ensures moves { OnOk result ((later : List Placed) → Moves table.old table.new (file_entries 0 fds.now ++ later) later) }
     ensures more { OnOk result (length table.new.items.items ≤ length table.old.items.items + length (file_entries 0 fds.now)) }
 {

@@ -1,4 +1,5 @@
-ghost use Rattle.std.specs.Prelude.{◌≡◌, ◌≤◌, ◌<◌, ◌^◌, [], take, length, slice_index_or};
+//! The first rule that is broken, with its first line, or the first limit that is exceeded.
+ghost use Rattle.std.specs.Prelude.{◌≡◌, ◌≤◌, ◌<◌, [], take, length, slice_index_or};
 ghost use Rattle.rule_order.specs.Order.{least, first_broken};
 ghost use Rattle.cob_data.specs.Rules.{item_breaks, condition_breaks, select_breaks, fd_breaks, end_breaks, item_lines, condition_lines, select_lines, fd_lines, end_lines, lines_in, data_rules, count_of, limit_of};
 ghost use Rattle.cob_tree.specs.declared.front.Select.{Select};
@@ -7,6 +8,7 @@ ghost use Rattle.cob_data.specs.Known.{AreSeated};
 ghost use Rattle.cob_data.specs.Names.{HasNames};
 ghost use Rattle.cob_data.specs.Files.{breaks_fd_match};
 ghost use Rattle.cob_data.specs.Answers.{limit_or, limit_in, refusal_in};
+ghost use Rattle.cob_tree.specs.Limits.{token_limit};
 
 use crate::description::{Condition, Description, Spot};
 use crate::end::{DataEnd, Rule, Which};
@@ -20,6 +22,9 @@ use crate::names::Names;
 use cob_tree::{EndProgram, Fd, Name, Select};
 use rule_order::{lesser, noted};
 use std::marker::Model;
+
+/// The most bytes that data take.
+const STORAGE_LIMIT: u64 = 1_048_576;
 
 /// The rules on data, in their order.
 const DATA_RULES: [Rule; 12] = [
@@ -193,7 +198,7 @@ impl<'a> Known<'a> {
     fn fd_line(&self, names: &Names, rule: Rule) -> Option<u32>
         requires seated { AreSeated self.now }
         requires named { HasNames names.now self.now }
-        requires few { length self.now.fds ≤ 2 ^ 27 }
+        requires few { length self.now.fds ≤ token_limit }
         ensures { result ≡ least (fd_lines rule self.now [] self.now.fds) }
     {
         let mut first = None;
@@ -209,7 +214,7 @@ impl<'a> Known<'a> {
     fn first_line(&self, names: &Names, rule: Rule) -> Option<u32>
         requires seated { AreSeated self.now }
         requires named { HasNames names.now self.now }
-        requires few { length self.now.fds ≤ 2 ^ 27 }
+        requires few { length self.now.fds ≤ token_limit }
         ensures { result ≡ least (lines_in self.now rule) }
     {
         let items = self.item_line(rule);
@@ -222,7 +227,7 @@ impl<'a> Known<'a> {
     fn first_among(&self, names: &Names, rules: &[Rule]) -> Option<(Rule, u32)>
         requires seated { AreSeated self.now }
         requires named { HasNames names.now self.now }
-        requires few { length self.now.fds ≤ 2 ^ 27 }
+        requires few { length self.now.fds ≤ token_limit }
         ensures { result ≡ first_broken (lines_in self.now) rules.now }
     {
         for place in 0..rules.len() {
@@ -239,7 +244,7 @@ impl<'a> Known<'a> {
     pub fn first_broken(&self, names: &Names) -> Option<(Rule, u32)>
         requires seated { AreSeated self.now }
         requires named { HasNames names.now self.now }
-        requires few { length self.now.fds ≤ 2 ^ 27 }
+        requires few { length self.now.fds ≤ token_limit }
         ensures { result ≡ first_broken (lines_in self.now) data_rules }
     {
         self.first_among(names, &DATA_RULES)
@@ -266,7 +271,7 @@ fn limit_of(which: Which) -> u64
 {
     match which {
         Which::Items => 512,
-        Which::Storage => 1_048_576,
+        Which::Storage => STORAGE_LIMIT,
         Which::Files => 16,
         Which::Nesting | Which::Cells | Which::Nodes => 0,
     }
@@ -298,7 +303,7 @@ fn limit_in(known: &Known) -> Option<DataEnd>
 pub fn refusal_in(known: &Known, names: &Names) -> Option<DataEnd>
     requires seated { AreSeated known.now }
     requires named { HasNames names.now known.now }
-    requires few { length known.now.fds ≤ 2 ^ 27 }
+    requires few { length known.now.fds ≤ token_limit }
     ensures { result ≡ refusal_in known.now }
 {
     match known.first_broken(names) {

@@ -1,3 +1,4 @@
+//! The front of a list, and what follows it.
 ghost use Rattle.std.specs.Prelude.{◌≡◌, ◌≤◌, ◌-◌, take, drop, length};
 
 /// What follows so many elements.

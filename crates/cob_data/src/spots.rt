@@ -1,8 +1,10 @@
+//! Where each item lies, from the beginning of all storage.
 ghost use Rattle.std.specs.Prelude.{◌≡◌, not, ◌||◌, is_some, ◌≤◌, ◌<◌, ◌+◌, ◌*◌, ◌^◌, ◌++◌, min, max, length, None, IfSome, OnOk, IfOk};
 ghost use Rattle.cob_data.specs.Entries.{same_area};
 ghost use Rattle.cob_data.specs.Lengths.{forest, item_bytes};
 ghost use Rattle.cob_data.specs.Spots.{same_name, is_file, is_record, same_level, room_behind, lies_on, lies_on_last, start_at, end_behind, area_above, is_bare, spot, above_parts, spots, nothing_above, all_spots};
 ghost use Rattle.cob_data.specs.Starts.{IsBefore};
+ghost use Rattle.cob_tree.specs.Limits.{token_limit};
 
 use crate::description::{Above, Area, Description, Spot};
 use crate::lengths::{count_deeper, depth, item_bytes};
@@ -167,7 +169,7 @@ fn spot_of(
     item: &Description,
     below: &[Description],
 ) -> Spot
-    requires few { length below.now ≤ 2 ^ 27 }
+    requires few { length below.now ≤ token_limit }
     requires room { next ≤ 2 ^ 60 }
     requires before { IsBefore last.now next }
     ensures value { result ≡ spot above.now next last.now item.now (forest below.now) }
@@ -206,7 +208,7 @@ fn push_spots(
     start: u64,
     items: &[Description],
 ) -> Result<(), AllocError>
-    requires few { length placed.old.items + length items.now ≤ 2 ^ 27 }
+    requires few { length placed.old.items + length items.now ≤ token_limit }
     requires low { start ≤ length placed.old.items * 2 ^ 32 }
     ensures { OnOk result (placed.new.items ≡ placed.old.items ++ spots above.now (length placed.old.items) start None (forest items.now)) }
 {
@@ -233,7 +235,7 @@ fn push_spots(
 
 /// Where each item lies: records follow each other from 0 on.
 pub fn all_spots(alloc: Global, items: &[Description]) -> Result<Vec<Spot>, AllocError>
-    requires { length items.now ≤ 2 ^ 27 }
+    requires { length items.now ≤ token_limit }
     ensures { IfOk result (λ v. v.items ≡ all_spots items.now) }
 {
     let mut placed = Vec::new(alloc);

@@ -1,4 +1,5 @@
-ghost use Rattle.std.specs.Prelude.{◌≡◌, ℕ, ◌≤◌, ◌^◌, length, ◌+◌, ◌↔◌, IsTrue, IfSome};
+//! The layout of a program, or why it has none.
+ghost use Rattle.std.specs.Prelude.{◌≡◌, ℕ, ◌≤◌, length, ◌+◌, ◌↔◌, IsTrue, IfSome};
 ghost use Rattle.rule_order.specs.Order.{IsFirstBroken, AreKept};
 ghost use Rattle.cob_tree.specs.StmtView.{plain_tree};
 ghost use Rattle.cob_tree.specs.PrintStmt.{print_tree};
@@ -12,6 +13,7 @@ ghost use Rattle.cob_data.specs.Known.{HasFewEntries};
 ghost use Rattle.cob_data.specs.Overlaps.{Meet};
 ghost use Rattle.cob_data.specs.Entries.{file_entries};
 ghost use Rattle.cob_data.specs.Answers.{IsAnswer, IsRefused, IsAccepted, IsJudged};
+ghost use Rattle.cob_tree.specs.Limits.{token_limit};
 
 use crate::build::layout_in;
 use crate::end::DataEnd;
@@ -40,8 +42,8 @@ impl From<AllocError> for DataEnd {
 
 fn judged(alloc: Global, known: &Known) -> Result<Layout, DataEnd>
     requires laid { known.now.spots ≡ all_spots known.now.items }
-    requires few { length known.now.items ≤ 2 ^ 27 }
-    requires short { length known.now.fds ≤ 2 ^ 27 }
+    requires few { length known.now.items ≤ token_limit }
+    requires short { length known.now.fds ≤ token_limit }
     ensures { IsJudged known.now result }
 {
     let names = names_of(alloc, known.selects, known.fds, &known.items)?;
@@ -66,7 +68,7 @@ fn laid_out(alloc: Global, tree: &Tree) -> Result<Layout, DataEnd>
 /// Records follow each other from offset 0 in the order of the source; those of one file lie on each other, and a
 /// redefinition lies on what it redefines. Where two entries clash, the line is the later one's.
 pub fn layout_of(alloc: Global, tree: &Tree) -> Result<Layout, DataEnd>
-    requires { length (print_tree (plain_tree tree.now)) ≤ 2 ^ 27 }
+    requires { length (print_tree (plain_tree tree.now)) ≤ token_limit }
     ensures answer { IsAnswer tree.now result }
     ensures outside { (rule : Rule) (line : ℕ) → IsFirstBroken (broken_lines tree.now) data_rules rule line → IsRefused result (Outside rule line) }
     ensures limit { (w : Which) → AreKept (broken_lines tree.now) data_rules → IsFirstExceeded tree.now w → IsRefused result (Limit w (count_of (facts_of tree.now) w)) }

@@ -1,3 +1,4 @@
+//! Constants: whether they fit an item, and their order.
 ghost use Rattle.std.specs.Prelude.{◌≡◌, ◌≤◌, ◌<◌, ◌+◌, ◌-◌, ◌*◌, ◌^◌, ◌&&◌, min, take, drop, length};
 ghost use Rattle.cob_data.specs.Values.{all_zeros, whole, decimals, is_negative, number_fits, value_behind, is_number, has_category, has_room, holds_alone, holds, character, at_most_from, constant_length, text_at_most, as_text, whole_length, aligned, magnitude_at_most, number_at_most, at_most};
 

@@ -39,7 +39,7 @@ file = record {
   status = Some 4;
 }
 
-abbrev program : Program
+abbrev pub program : Program
 program = record {
   layout = record {
     items = item_of 0 7 form.Group ∷ item_of 0 3 (form.Number 3 0 false usage.Display)
@@ -59,7 +59,7 @@ parts a x = parts_of program 9 a x
 abbrev numeral : List ℕ → Num
 numeral digits = record { sign = 0; digits = digits; scale = 0 }
 
-abbrev alone : Atom → Sum
+abbrev pub alone : Atom → Sum
 alone a = MkSum (more_parts (MkPart false (more_factors (MkFactor false false a) no_factors)) no_parts)
 
 abbrev over : Atom → Atom → Sum
@@ -67,7 +67,7 @@ over a b =
     MkSum (more_parts (MkPart false (more_factors (MkFactor false false a) (more_factors
     (MkFactor true false b) no_factors))) no_parts)
 
-abbrev target : ℕ → How → Mode → Target
+abbrev pub target : ℕ → How → Mode → Target
 target place h mode = record { item = place; how = h; mode = mode }
 
 -- ADD A TO A B: A is read as operand, and at its turn

@@ -1,4 +1,5 @@
 mod Examples
+mod PartExamples
 pub mod Frames
 pub mod Chains
 mod Passing

@@ -26,7 +26,7 @@ pub record Leads (p : Program) (statement : ℕ) (a : Act) (x : Action) (before 
 abbrev pub IsCounted : ℕ → Act → Action → World → Type 0
 IsCounted statement a x w = reads_count a x ≡ true → is_some (count_in w.counts statement) ≡ true
 
--- where an edge is taken, its parts are passed
+-- The parts of an edge that is taken are passed.
 abbrev pub PartsArePassed : Type 0
 PartsArePassed = (p : Program) (statement : ℕ) (c : Choice) (a : Act) (x : Action) (w v : World) →
     act_at p statement ≡ Some a → IsCounted statement a x w → effect p statement c w x ≡ Ok (Some v) →
@@ -70,7 +70,7 @@ abbrev pub fault_edge : Act → Action → Action
 fault_edge a action.Done = if has_phrase a then action.Size else action.Done
 fault_edge a x = x
 
--- where a statement meets a fault, one of the parts does, whatever the counters are
+-- One of the parts meets the fault that the statement meets, whatever the counters are.
 abbrev pub FaultsAreMet : Type 0
 FaultsAreMet = (p : Program) (statement : ℕ) (c : Choice) (a : Act) (x : Action) (w : World) (counts : List (Option ℤ))
     (fault : Kind) → act_at p statement ≡ Some a → effect p statement c w x ≡ Err fault →

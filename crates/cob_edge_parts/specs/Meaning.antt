@@ -40,7 +40,7 @@ moment storage counts first own by_zero failed = record {
   failed = failed;
 }
 
--- where an edge begins
+-- The moment at which an edge begins.
 abbrev pub beginning : List ℕ → List (Option ℤ) → Moment
 beginning storage counts = moment storage counts storage (whole_number (pos 0)) false false
 
@@ -116,7 +116,7 @@ module _ (l : Layout) where
 
   -- ---- passing a part
 
-  -- behind a divisor that is 0 receivers aren't read
+  -- Receivers aren't read behind a divisor that is 0.
   abbrev pub ReadsAt : Bool → ℕ → Moment → Moment → Type 0
   ReadsAt true place m n = n ≡ m
   ReadsAt false place m n = (v : Scaled) × (number_at l m.storage place ≡ Some v) × (n ≡ with_own m v)

@@ -52,17 +52,17 @@ pub data Part : Type 0 where
   divide : Atom → Part
   -- an item gets a value
   store : ℕ → Mode → Amount → Part
-  -- so many bytes from an offset on change to anything that the statement may put there
+  -- Bytes from an offset on, so many, change to anything that the statement may put there.
   bytes_in : ℕ → ℕ → Part
   -- a test has this outcome
   guard : Test → Bool → Part
   -- the counter of the TIMES with a number is a number
   read_count : ℕ → Part
-  -- it gets the number of a sender
+  -- the counter of a TIMES gets the number of a sender
   set_count : ℕ → Sender → Part
-  -- it gets its own number less one
+  -- the counter of a TIMES gets its own number less one
   count_down : ℕ → Part
-  -- whether it is above 0
+  -- whether the counter of a TIMES is above 0
   guard_count : ℕ → Bool → Part
 
 -- ---- divisors
@@ -90,7 +90,7 @@ abbrev pub is_under : How → Bool
 is_under how.Under = true
 is_under _ = false
 
--- and the sum itself, where it divides what receivers are worth
+-- The divisors of a sum, and the sum itself where it divides what receivers are worth.
 abbrev pub divisors_of : Sum → List Target → List Atom
 divisors_of s [] = []
 divisors_of s (t ∷ ts) = divisors_in s ++ (if list_any (λ u. is_under u.how) (t ∷ ts) then group s ∷ [] else [])
@@ -100,7 +100,7 @@ divisors_of s (t ∷ ts) = divisors_in s ++ (if list_any (λ u. is_under u.how) 
 abbrev pub item_reads : List ℕ → List Part
 item_reads places = map (λ place. read place) places
 
--- a sender as a number
+-- what is read of a sender as a number
 abbrev pub number_reads : Sender → List Part
 number_reads (sender.Item place) = read place ∷ []
 number_reads (sender.Number n) = []
@@ -108,7 +108,7 @@ number_reads (sender.Text text) = if is_some (number_in (form.Text (length text)
 number_reads (sender.Fill byte) = unread ∷ []
 number_reads sender.Zero = []
 
--- a receiver at its turn, unless it gets the whole
+-- a receiver is read at its turn, unless it gets the whole
 abbrev pub own_reads : How → ℕ → List Part
 own_reads how.Whole place = []
 own_reads _ place = read place ∷ []
@@ -130,7 +130,7 @@ targets_parts s (t ∷ ts) = target_parts s t ++ targets_parts s ts
 abbrev pub augment_parts : ℕ → Sender → List Part
 augment_parts place by = number_reads by ++ (read place ∷ store place Trunc (augmented by) ∷ [])
 
--- both sides are read before a divisor counts
+-- A comparison of two sums. The items of both are read before a divisor counts.
 abbrev pub compare_parts : Sum → Sum → List Part
 compare_parts a b = item_reads (items_in a) ++ (item_reads (items_in b) ++ divides (divisors_in a ++ divisors_in b))
 
@@ -191,7 +191,7 @@ module _ (l : Layout) where
   member_reads place [] = []
   member_reads place (p ∷ ps) = text_reads (sender.Item place) ++ end_reads (p ∷ ps)
 
-  -- before a test is decided
+  -- what is read before a test is decided
   abbrev pub test_reads : Test → List Part
   test_reads (numbers a r b) = compare_parts a b
   test_reads (texts a r b) = text_reads a ++ text_reads b
@@ -214,7 +214,7 @@ module _ (l : Layout) where
   file_parts area None = []
   file_parts area (Some d) = status_parts d.status ++ (if area then bytes_in d.offset d.length ∷ [] else [])
 
-  -- of the file that is called on, if there is one
+  -- The parts of a call on a file, if there is one.
   abbrev pub file_call_parts : Bool → Option ℕ → List Part
   file_call_parts area None = []
   file_call_parts area (Some f) = file_parts area (decl_at l f)

@@ -5,7 +5,7 @@ use Rattle.cob_data.specs.declared.layout.Layout.{Layout}
 use Rattle.cob_runs.specs.Contents.{area, item_at, filled_at}
 use Rattle.cob_edge_parts.specs.Meaning.{changed_in}
 
--- so many bytes from an offset on, and others, have none in common
+-- Two ranges of bytes, each an offset and a length, have no byte in common.
 abbrev pub AreApart : ℕ → ℕ → ℕ → ℕ → Type 0
 AreApart offset count from many = (from + many ≤ offset) ⊎ (offset + count ≤ from)
 

@@ -4,18 +4,18 @@ use Rattle.cob_tree.specs.declared.tree.Tree.{Tree}
 use Rattle.cob_program.specs.declared.program.Program as declared_program
 use Rattle.cob_program.specs.Act.{Program}
 use Rattle.cob_program.specs.ActView.{plain_program}
-use Rattle.cob_front.specs.declared.end.FrontEnd.{FrontEnd}
-use Rattle.cob_front.specs.declared.end.FrontEnd.TheVariants as end
+use Rattle.cob_front.specs.declared.refusal.Refusal.{Refusal}
+use Rattle.cob_front.specs.declared.refusal.Refusal.TheVariants as end
 use Rattle.cob_front.specs.Source.{StandsFor, IsTreeCause, IsSource, IsCause, HasCause, IsProgram, IsProgramOf, Answers, IsRefused, IsAccepted}
 use Rattle.cob_front.proofs.TreeCauses.{is_tree_end}
 use Rattle.cob_front.proofs.OneAnswer.{one_answer}
 
 abbrev Given : Type 0
-Given = Result declared_program.Program FrontEnd
+Given = Result declared_program.Program Refusal
 
 -- ---- a tree's answer is its source's
 
-cause_of_source : (bytes : List ℕ) (t : Tree) (e : FrontEnd) → StandsFor bytes t → IsTreeCause t e → IsCause bytes e
+cause_of_source : (bytes : List ℕ) (t : Tree) (e : Refusal) → StandsFor bytes t → IsTreeCause t e → IsCause bytes e
 cause_of_source bytes t (end.Outside rule line) stands is = record { tree = t; stands = stands; cause = is }
 cause_of_source bytes t (end.Limit which count) stands is = record { tree = t; stands = stands; cause = is }
 cause_of_source bytes t end.TooLong stands is = absurd is
@@ -32,7 +32,7 @@ answer_of_source bytes t (Err e) stands (inr is) = inr is
 
 -- ---- each cause, and each program, is answered
 
-pub refused_for : (bytes : List ℕ) (r : Given) (e : FrontEnd) → Answers (IsProgram bytes) (IsCause bytes) r → IsCause bytes e → IsRefused r e
+pub refused_for : (bytes : List ℕ) (r : Given) (e : Refusal) → Answers (IsProgram bytes) (IsCause bytes) r → IsCause bytes e → IsRefused r e
 refused_for bytes (Ok p) e is cause = (one_answer bytes).not_both (plain_program p) e is cause
 refused_for bytes (Err d) e (inl is) cause = inl ((one_answer bytes).one_cause d e is cause)
 refused_for bytes (Err d) e (inr is) cause = inr is

@@ -7,8 +7,8 @@ use Rattle.cob_graph.specs.declared.end.FlowEnd.{FlowEnd}
 use Rattle.cob_graph.specs.declared.end.FlowEnd.TheVariants as flow
 use Rattle.cob_graph.specs.Nesting.{IsNested, IsOutside}
 use Rattle.cob_graph.specs.Graphs.{IsOver}
-use Rattle.cob_front.specs.declared.end.FrontEnd.{FrontEnd}
-use Rattle.cob_front.specs.declared.end.FrontEnd.TheVariants as end
+use Rattle.cob_front.specs.declared.refusal.Refusal.{Refusal}
+use Rattle.cob_front.specs.declared.refusal.Refusal.TheVariants as end
 use Rattle.cob_front.specs.Source.{IsRefused}
 use Rattle.cob_front.specs.Control.{IsControlCause}
 
@@ -28,9 +28,9 @@ same_rule told rule other line l same (inr e) = let never : ⊥ = cc in absurd n
 
 module _ (p : Program) where
   -- where PERFORMs nest only limits are left
-  pub refused_inside : {T : Type 0} (r : Result T FrontEnd) → IsNested p →
+  pub refused_inside : {T : Type 0} (r : Result T Refusal) → IsNested p →
       ((w : Which) (n : ℕ) → IsOver p w n → IsRefused r (end.Limit w n)) →
-      (e : FrontEnd) → IsControlCause p e → IsRefused r e
+      (e : Refusal) → IsControlCause p e → IsRefused r e
   refused_inside r nested limits (end.Outside rule line) cause = absurd (nested.kept rule line cause.broken)
   refused_inside r nested limits (end.Limit w n) cause = limits w n cause.1
   refused_inside r nested limits end.TooLong cause = absurd cause
@@ -46,7 +46,7 @@ module _ (p : Program) where
       ((other : Rule) (l : ℕ) → told ≡ Err (flow.Outside other l) → IsOutside p other l) →
       ((other : Rule) (l : ℕ) → IsOutside p other l →
       (told ≡ Err (flow.Outside other l)) ⊎ (told ≡ Err flow.Memory)) →
-      (e : FrontEnd) → IsControlCause p e → (end.Outside rule line ≡ e) ⊎ (end.Outside rule line ≡ end.Memory)
+      (e : Refusal) → IsControlCause p e → (end.Outside rule line ≡ e) ⊎ (end.Outside rule line ≡ end.Memory)
   refused_outside told rule line same outside exact (end.Outside other l) cause =
       same_rule told rule other line l same (exact other l cause)
   refused_outside told rule line same outside exact (end.Limit w count) cause =

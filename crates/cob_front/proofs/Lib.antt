@@ -2,5 +2,4 @@ mod TreeCauses
 mod OneAnswer
 mod Short
 mod Answering
-mod Ways
 mod ControlAnswers

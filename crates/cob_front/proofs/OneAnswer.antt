@@ -5,21 +5,22 @@ use Rattle.cob_tree.specs.declared.tree.Tree as declared_tree
 use Rattle.cob_tree.specs.Symbols.{Sign, seen}
 use Rattle.cob_tree.specs.StmtView.{plain_tree}
 use Rattle.cob_scan.specs.Scan.{Scan, BadLineAt, BadTokenAt, Tokens, scan_of}
-use Rattle.cob_parse_expr.specs.Parsing.{line_at}
+use Rattle.cob_lexemes.specs.Places.{line_at}
 use Rattle.cob_parse_proc.specs.Parsing.{IsTree, IsWrong, IsDeep}
 use Rattle.cob_parse_proc.specs.Laws as parsing
 use Rattle.cob_parse_proc.proofs.OneAnswer as parsed
 use Rattle.cob_program.specs.Act.{Program}
-use Rattle.cob_front.specs.declared.end.FrontEnd.{FrontEnd}
-use Rattle.cob_front.specs.declared.end.FrontEnd.TheVariants as end
-use Rattle.cob_front.specs.Source.{StandsFor, IsTypedTree, IsTreeCause, IsSource, IsCause, HasCause, program_of, source_limit}
+use Rattle.cob_front.specs.declared.refusal.Refusal.{Refusal}
+use Rattle.cob_front.specs.declared.refusal.Refusal.TheVariants as end
+use Rattle.cob_front.specs.Source.{StandsFor, IsTypedTree, IsTreeCause, IsSource, IsCause, HasCause, program_of}
 use Rattle.cob_front.specs.Laws.{OneAnswer}
 use Rattle.cob_front.proofs.TreeCauses.{typed_or_cause, cause_once, cause_of_same, typed_of_same, program_of_same}
+use Rattle.cob_lines.specs.Text.{source_limit}
 
 -- a program, or a cause
 data Ending : Type 0 where
   made : Program → Ending
-  refused : FrontEnd → Ending
+  refused : Refusal → Ending
 
 abbrev Ends : List ℕ → Ending → Type 0
 Ends bytes (made p) = IsSource bytes p
@@ -28,7 +29,7 @@ Ends bytes (refused e) = IsCause bytes e
 -- ---- where trees, tokens and texts lead
 
 abbrev TreeLeads : declared_tree.Tree → Ending → Type 0
-TreeLeads t x = (IsTypedTree t × (x ≡ made (program_of t))) ⊎ ((e : FrontEnd) × IsTreeCause t e × (x ≡ refused e))
+TreeLeads t x = (IsTypedTree t × (x ≡ made (program_of t))) ⊎ ((e : Refusal) × IsTreeCause t e × (x ≡ refused e))
 
 data Leads (ts : List Token) (x : Ending) : Type 0 where
   wrong : (line : ℕ) → IsWrong ts line → x ≡ refused (end.Syntax line) → Leads ts x
@@ -103,10 +104,10 @@ once bytes x y h k = bytes_once bytes x y (leads_to bytes x h) (leads_to bytes y
 same_made : (p q : Program) → made p ≡ made q → p ≡ q
 same_made p q e = cc
 
-same_refused : (d e : FrontEnd) → refused d ≡ refused e → d ≡ e
+same_refused : (d e : Refusal) → refused d ≡ refused e → d ≡ e
 same_refused d e same = cc
 
-made_or_refused : (p : Program) (e : FrontEnd) → made p ≡ refused e → ⊥
+made_or_refused : (p : Program) (e : Refusal) → made p ≡ refused e → ⊥
 made_or_refused p e same = cc
 
 pub one_answer : (bytes : List ℕ) → OneAnswer bytes

@@ -15,8 +15,8 @@ use Rattle.cob_data.specs.Layouts as layouts
 use Rattle.cob_data.specs.Layouts.{HasLayout, layout}
 use Rattle.cob_program.specs.Act.{Program}
 use Rattle.cob_typed.specs.Typing.{IsTyped, IsOutside, typed, lines_of, typing_rules}
-use Rattle.cob_front.specs.declared.end.FrontEnd.{FrontEnd}
-use Rattle.cob_front.specs.declared.end.FrontEnd.TheVariants as end
+use Rattle.cob_front.specs.declared.refusal.Refusal.{Refusal}
+use Rattle.cob_front.specs.declared.refusal.Refusal.TheVariants as end
 use Rattle.cob_front.specs.Source.{IsTypedTree, IsTreeCause, program_of}
 
 -- ---- the first broken rule
@@ -65,7 +65,7 @@ exceeded_once t which.Files which.Nodes h k = absurd k
 
 -- ---- causes
 
-pub typed_or_cause : (t : declared_tree.Tree) (e : FrontEnd) → IsTypedTree t → IsTreeCause t e → ⊥
+pub typed_or_cause : (t : declared_tree.Tree) (e : Refusal) → IsTypedTree t → IsTreeCause t e → ⊥
 typed_or_cause t (end.Outside rule line) h (inl k) = kept_or_broken (broken_lines t) data_rules rule line h.has_layout.kept k
 typed_or_cause t (end.Outside rule line) h (inr k) = kept_or_broken (lines_of (layout t) (plain_tree t)) typing_rules rule line h.rules k.1
 typed_or_cause t (end.Limit w count) h k = within_or_exceeded t w h.has_layout.within k.1
@@ -92,12 +92,12 @@ limit_cause_once t v w m n h k =
     let one = exceeded_once t v w h.1 k.1 in
     ap (end.Limit v) (h.2) ∙ ap (λ x. end.Limit x (count_of (facts_of t) x)) one ∙ ap (end.Limit w) (sym k.2)
 
-abbrev IsTreeEnd : FrontEnd → Type 0
+abbrev IsTreeEnd : Refusal → Type 0
 IsTreeEnd (end.Outside rule line) = Unit {0}
 IsTreeEnd (end.Limit which count) = Unit {0}
 IsTreeEnd _ = ⊥
 
-pub is_tree_end : (t : declared_tree.Tree) (e : FrontEnd) → IsTreeCause t e → IsTreeEnd e
+pub is_tree_end : (t : declared_tree.Tree) (e : Refusal) → IsTreeCause t e → IsTreeEnd e
 is_tree_end t (end.Outside rule line) h = tt
 is_tree_end t (end.Limit which count) h = tt
 is_tree_end t end.TooLong h = h
@@ -107,7 +107,7 @@ is_tree_end t (end.Syntax line) h = h
 is_tree_end t (end.Nesting count) h = h
 is_tree_end t end.Memory h = h
 
-cause_once_at : (t : declared_tree.Tree) (d e : FrontEnd) → IsTreeEnd d → IsTreeEnd e → IsTreeCause t d → IsTreeCause t e → d ≡ e
+cause_once_at : (t : declared_tree.Tree) (d e : Refusal) → IsTreeEnd d → IsTreeEnd e → IsTreeCause t d → IsTreeCause t e → d ≡ e
 cause_once_at t (end.Outside r m) (end.Outside s n) x y h k = outside_cause_once t r s m n h k
 cause_once_at t (end.Outside r m) (end.Limit w n) x y h k = absurd (outside_limit t r m w n h k)
 cause_once_at t (end.Limit v m) (end.Outside s n) x y h k = absurd (outside_limit t s n v m k h)
@@ -125,7 +125,7 @@ cause_once_at t (end.Syntax line) e x y h k = absurd x
 cause_once_at t (end.Nesting count) e x y h k = absurd x
 cause_once_at t end.Memory e x y h k = absurd x
 
-pub cause_once : (t : declared_tree.Tree) (d e : FrontEnd) → IsTreeCause t d → IsTreeCause t e → d ≡ e
+pub cause_once : (t : declared_tree.Tree) (d e : Refusal) → IsTreeCause t d → IsTreeCause t e → d ≡ e
 cause_once t d e h k = cause_once_at t d e (is_tree_end t d h) (is_tree_end t e k) h k
 
 -- ---- what is said of a tree is said of its plain data
@@ -136,7 +136,7 @@ back p = record { front = p.front; sentences = []; paragraphs = []; end = p.end 
 abbrev like : declared_tree.Tree → declared_tree.Tree
 like t = back (plain_tree t)
 
-abbrev CauseIn : Tree → FrontEnd → Type 0
+abbrev CauseIn : Tree → Refusal → Type 0
 CauseIn p (end.Outside rule line) = layouts.IsCause (back p) (data_end.Outside rule line) ⊎ (HasLayout (back p) × IsOutside (layout (back p)) p rule line)
 CauseIn p (end.Limit which count) = layouts.IsCause (back p) (data_end.Limit which count)
 CauseIn p _ = ⊥
@@ -147,7 +147,7 @@ layout_in t h = record { kept = h.kept; within = record { items = h.within.items
 layout_out : (t : declared_tree.Tree) → HasLayout (like t) → HasLayout t
 layout_out t h = record { kept = h.kept; within = record { items = h.within.items; storage = h.within.storage; files = h.within.files } }
 
-cause_in : (t : declared_tree.Tree) (e : FrontEnd) → IsTreeCause t e → CauseIn (plain_tree t) e
+cause_in : (t : declared_tree.Tree) (e : Refusal) → IsTreeCause t e → CauseIn (plain_tree t) e
 cause_in t (end.Outside rule line) (inl h) = inl h
 cause_in t (end.Outside rule line) (inr h) = inr (layout_in t h.0, h.1)
 cause_in t (end.Limit which.Items count) h = h
@@ -163,7 +163,7 @@ cause_in t (end.Syntax line) h = h
 cause_in t (end.Nesting count) h = h
 cause_in t end.Memory h = h
 
-cause_out : (t : declared_tree.Tree) (e : FrontEnd) → CauseIn (plain_tree t) e → IsTreeCause t e
+cause_out : (t : declared_tree.Tree) (e : Refusal) → CauseIn (plain_tree t) e → IsTreeCause t e
 cause_out t (end.Outside rule line) (inl h) = inl h
 cause_out t (end.Outside rule line) (inr h) = inr (layout_out t h.0, h.1)
 cause_out t (end.Limit which.Items count) h = h
@@ -179,7 +179,7 @@ cause_out t (end.Syntax line) h = h
 cause_out t (end.Nesting count) h = h
 cause_out t end.Memory h = h
 
-pub cause_of_same : (a b : declared_tree.Tree) (e : FrontEnd) → plain_tree a ≡ plain_tree b → IsTreeCause a e → IsTreeCause b e
+pub cause_of_same : (a b : declared_tree.Tree) (e : Refusal) → plain_tree a ≡ plain_tree b → IsTreeCause a e → IsTreeCause b e
 cause_of_same a b e same h = cause_out b e (subst (λ p. CauseIn p e) same (cause_in a e h))
 
 abbrev TypedIn : Tree → Type 0

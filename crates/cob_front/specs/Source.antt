@@ -14,18 +14,16 @@ use Rattle.cob_program.specs.declared.program.Program as declared_program
 use Rattle.cob_program.specs.Act.{Program}
 use Rattle.cob_program.specs.ActView.{plain_program}
 use Rattle.cob_typed.specs.Typing.{IsTyped, IsOutside, typed}
-use Rattle.cob_front.specs.declared.end.FrontEnd.{FrontEnd}
-use Rattle.cob_front.specs.declared.end.FrontEnd.TheVariants as end
+use Rattle.cob_front.specs.declared.refusal.Refusal.{Refusal}
+use Rattle.cob_front.specs.declared.refusal.Refusal.TheVariants as end
+use Rattle.cob_lines.specs.Text.{source_limit}
 
-abbrev pub source_limit : ℕ
-source_limit = 1048576
-
--- the bytes, within the limit, have these canonical tokens
+-- the bytes are within the limit, and have these canonical tokens
 pub record HasTokens (bytes : List ℕ) (tokens : List Token) : Type 0 where
   pub fits : length bytes ≤ source_limit
   pub scanned : scan_of bytes ≡ Tokens tokens
 
--- and these are the tree's
+-- The bytes' tokens are those of the tree.
 pub record StandsFor (bytes : List ℕ) (t : Tree) : Type 0 where
   pub tokens : List Token
   pub has : HasTokens bytes tokens
@@ -51,19 +49,19 @@ pub record IsSource (bytes : List ℕ) (p : Program) : Type 0 where
 
 -- why a tree has no program: the first broken rule on data, else the first limit that is exceeded, else the first broken
 -- rule on statements
-abbrev pub IsTreeCause : Tree → FrontEnd → Type 0
+abbrev pub IsTreeCause : Tree → Refusal → Type 0
 IsTreeCause t (end.Outside rule line) =
     layouts.IsCause t (data_end.Outside rule line) ⊎ (HasLayout t × IsOutside (layout t) (plain_tree t) rule line)
 IsTreeCause t (end.Limit which count) = layouts.IsCause t (data_end.Limit which count)
 IsTreeCause t _ = ⊥
 
-pub record HasCause (bytes : List ℕ) (e : FrontEnd) : Type 0 where
+pub record HasCause (bytes : List ℕ) (e : Refusal) : Type 0 where
   pub tree : Tree
   pub stands : StandsFor bytes tree
   pub cause : IsTreeCause tree e
 
 -- why bytes are no source of a program
-abbrev pub IsCause : List ℕ → FrontEnd → Type 0
+abbrev pub IsCause : List ℕ → Refusal → Type 0
 IsCause bytes end.TooLong = source_limit < length bytes
 IsCause bytes (end.BadLine line column) = (length bytes ≤ source_limit) × (scan_of bytes ≡ BadLineAt line column)
 IsCause bytes (end.BadToken line column) = (length bytes ≤ source_limit) × (scan_of bytes ≡ BadTokenAt line column)
@@ -76,17 +74,17 @@ IsCause bytes end.Memory = ⊥
 -- ---- answers
 
 -- what is answered holds, or memory ran out
-abbrev pub Answers : {A : Type 0} → (A → Type 0) → (FrontEnd → Type 0) → Result A FrontEnd → Type 0
+abbrev pub Answers : {A : Type 0} → (A → Type 0) → (Refusal → Type 0) → Result A Refusal → Type 0
 Answers is_answer is_cause (Ok a) = is_answer a
 Answers is_answer is_cause (Err e) = is_cause e ⊎ (e ≡ end.Memory)
 
 -- refused for this reason, or for want of memory
-abbrev pub IsRefused : {A : Type 0} → Result A FrontEnd → FrontEnd → Type 0
+abbrev pub IsRefused : {A : Type 0} → Result A Refusal → Refusal → Type 0
 IsRefused (Ok a) wanted = ⊥
 IsRefused (Err e) wanted = (e ≡ wanted) ⊎ (e ≡ end.Memory)
 
 -- not refused, but for want of memory
-abbrev pub IsAccepted : {A : Type 0} → Result A FrontEnd → Type 0
+abbrev pub IsAccepted : {A : Type 0} → Result A Refusal → Type 0
 IsAccepted (Ok a) = Unit {0}
 IsAccepted (Err e) = e ≡ end.Memory
 

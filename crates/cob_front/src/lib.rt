@@ -3,12 +3,12 @@
 //! profile.
 #![tactic(auto)]
 
-mod end;
 mod graphs;
 mod laws;
 mod phases;
+mod refusal;
 
-pub use end::FrontEnd;
 pub use graphs::graph_in;
-pub use laws::{one_answer, runs_of_sources_are_ways};
+pub use laws::one_answer;
 pub use phases::program_in;
+pub use refusal::Refusal;

@@ -1,15 +1,18 @@
-ghost use Rattle.std.specs.Prelude.{◌≡◌, ◌≤◌, ◌^◌, length, IfOk};
+//! From a source's bytes to its program: tokens, tree, layout, typed program, one behind the other.
+ghost use Rattle.std.specs.Prelude.{◌≡◌, ◌≤◌, length, IfOk};
 ghost use Rattle.cob_tree.specs.PrintStmt.{print_tree};
 ghost use Rattle.cob_tree.specs.StmtView.{plain_tree};
 ghost use Rattle.cob_data.specs.Layouts.{HasLayout, layout};
 ghost use Rattle.cob_program.specs.Act.{Program as PlainProgram};
-ghost use Rattle.cob_front.specs.declared.end.FrontEnd.{FrontEnd as End};
+ghost use Rattle.cob_front.specs.declared.refusal.Refusal.{Refusal as End};
 ghost use Rattle.cob_front.specs.Source.{StandsFor, IsTreeCause, IsCause, IsTypedTree, IsSource, IsProgram, IsProgramOf, Answers, IsRefused, IsAccepted};
+ghost use Rattle.cob_tree.specs.Limits.{token_limit};
 
-use crate::end::FrontEnd;
+use crate::refusal::Refusal;
 use cob_data::{DataEnd, Layout, layout_of};
+use cob_lexemes::ParseEnd;
+use cob_lines::SOURCE_LIMIT;
 use cob_names::layouts_have_few_places;
-use cob_parse_expr::ParseEnd;
 use cob_parse_proc::program_of;
 use cob_program::Program;
 use cob_scan::{ScanEnd, tokens_in};
@@ -17,60 +20,58 @@ use cob_tree::Tree;
 use cob_typed::{TypedEnd, typed_of};
 use std::alloc::Global;
 
-const MOST_BYTES: usize = 1_048_576;
-
 /// The tree of a source.
-fn tree_in(alloc: Global, bytes: &[u8]) -> Result<Tree, FrontEnd>
+fn tree_in(alloc: Global, bytes: &[u8]) -> Result<Tree, Refusal>
     ensures answer { Answers (StandsFor bytes.now) (IsCause bytes.now) result }
-    ensures few { IfOk result (λ tree. length (print_tree (plain_tree tree)) ≤ 2 ^ 27) }
+    ensures few { IfOk result (λ tree. length (print_tree (plain_tree tree)) ≤ token_limit) }
 {
-    if bytes.len() > MOST_BYTES {
-        return Err(FrontEnd::TooLong);
+    if bytes.len() > SOURCE_LIMIT {
+        return Err(Refusal::TooLong);
     }
     let tokens = match tokens_in(alloc, bytes) {
         Ok(tokens) => tokens,
-        Err(ScanEnd::BadLine { line, column }) => return Err(FrontEnd::BadLine { line, column }),
-        Err(ScanEnd::BadToken { line, column }) => return Err(FrontEnd::BadToken { line, column }),
-        Err(ScanEnd::Memory) => return Err(FrontEnd::Memory),
+        Err(ScanEnd::BadLine { line, column }) => return Err(Refusal::BadLine { line, column }),
+        Err(ScanEnd::BadToken { line, column }) => return Err(Refusal::BadToken { line, column }),
+        Err(ScanEnd::Memory) => return Err(Refusal::Memory),
     };
     match program_of(alloc, &tokens) {
         Ok(tree) => Ok(tree),
-        Err(ParseEnd::Syntax { line }) => Err(FrontEnd::Syntax { line }),
-        Err(ParseEnd::Deep { count }) => Err(FrontEnd::Nesting { count }),
-        Err(ParseEnd::Memory) => Err(FrontEnd::Memory),
+        Err(ParseEnd::Syntax { line }) => Err(Refusal::Syntax { line }),
+        Err(ParseEnd::Deep { count }) => Err(Refusal::Nesting { count }),
+        Err(ParseEnd::Memory) => Err(Refusal::Memory),
     }
 }
 
 /// The program of a tree with its layout.
-fn statements_in(alloc: Global, tree: &Tree, laid: &Layout) -> Result<Program, FrontEnd>
+fn statements_in(alloc: Global, tree: &Tree, laid: &Layout) -> Result<Program, Refusal>
     requires has { HasLayout tree.now }
     requires is { laid.now ≡ layout tree.now }
-    requires few { length (print_tree (plain_tree tree.now)) ≤ 2 ^ 27 }
+    requires few { length (print_tree (plain_tree tree.now)) ≤ token_limit }
     ensures { Answers (IsProgramOf tree.now) (IsTreeCause tree.now) result }
 {
     layouts_have_few_places();
     match typed_of(alloc, tree, laid) {
         Ok(program) => Ok(program),
-        Err(TypedEnd::Outside { rule, line }) => Err(FrontEnd::Outside { rule, line }),
-        Err(TypedEnd::Memory) => Err(FrontEnd::Memory),
+        Err(TypedEnd::Outside { rule, line }) => Err(Refusal::Outside { rule, line }),
+        Err(TypedEnd::Memory) => Err(Refusal::Memory),
     }
 }
 
 /// The program of a tree.
-fn typed_in(alloc: Global, tree: &Tree) -> Result<Program, FrontEnd>
-    requires { length (print_tree (plain_tree tree.now)) ≤ 2 ^ 27 }
+fn typed_in(alloc: Global, tree: &Tree) -> Result<Program, Refusal>
+    requires { length (print_tree (plain_tree tree.now)) ≤ token_limit }
     ensures { Answers (IsProgramOf tree.now) (IsTreeCause tree.now) result }
 {
     match layout_of(alloc, tree) {
         Ok(laid) => statements_in(alloc, tree, &laid),
-        Err(DataEnd::Outside { rule, line }) => Err(FrontEnd::Outside { rule, line }),
-        Err(DataEnd::Limit { which, count }) => Err(FrontEnd::Limit { which, count }),
-        Err(DataEnd::Memory) => Err(FrontEnd::Memory),
+        Err(DataEnd::Outside { rule, line }) => Err(Refusal::Outside { rule, line }),
+        Err(DataEnd::Limit { which, count }) => Err(Refusal::Limit { which, count }),
+        Err(DataEnd::Memory) => Err(Refusal::Memory),
     }
 }
 
 // The answer to a source.
-fn answered(alloc: Global, bytes: &[u8]) -> Result<Program, FrontEnd>
+fn answered(alloc: Global, bytes: &[u8]) -> Result<Program, Refusal>
     ensures { Answers (IsProgram bytes.now) (IsCause bytes.now) result }
 {
     match tree_in(alloc, bytes) {
@@ -80,9 +81,9 @@ fn answered(alloc: Global, bytes: &[u8]) -> Result<Program, FrontEnd>
 }
 
 /// The program of a source: its rules on data and on statements are kept, and no limit on data is exceeded. Or the first
-/// reason why it isn't one, in the order of the variants of [`FrontEnd`]; rules and limits on data come before rules on
+/// reason why it isn't one, in the order of the variants of [`Refusal`]; rules and limits on data come before rules on
 /// statements.
-pub fn program_in(alloc: Global, bytes: &[u8]) -> Result<Program, FrontEnd>
+pub fn program_in(alloc: Global, bytes: &[u8]) -> Result<Program, Refusal>
     ensures answer { Answers (IsProgram bytes.now) (IsCause bytes.now) result }
     ensures refused { (end : End) → IsCause bytes.now end → IsRefused result end }
     ensures accepted { (program : PlainProgram) → IsSource bytes.now program → IsAccepted result }

@@ -7,8 +7,8 @@ use Rattle.cob_graph.specs.declared.calls.Call as declared_call
 use Rattle.cob_graph.specs.declared.calls.Jump as declared_jump
 use Rattle.cob_graph.specs.Nesting.{Call, Jump}
 use Rattle.cob_graph.specs.Listing.{plain_span, plain_call, plain_jump}
-use Rattle.cob_graph.specs.Reaching.{blank, call_at, through, mark, IsReached}
-use Rattle.cob_graph.specs.Broken.{least_below, line_where, blank_jump, jump_at, is_crossing, is_leaving, leaving_at, crossing_at}
+use Rattle.cob_graph.specs.Reaching.{blank, call_at, through, is_marked, IsRow}
+use Rattle.cob_graph.specs.Broken.{least_below, line_where, blank_jump, jump_at, is_crossing, is_leaving, leaving_at, cycle_at, crossing_at}
 
 noted_is : (so_far : Option ℕ) (b : Bool) (line : ℕ) → noted so_far b line ≡ lesser so_far (line_where b line)
 noted_is so_far true line = refl
@@ -33,10 +33,6 @@ pub jump_read : (xs : List declared_jump.Jump) (i : ℕ) (d : declared_jump.Jump
     plain_jump (get_or xs i d) ≡ jump_at (map plain_jump xs) i
 jump_read xs i d within = sym (get_or-map plain_jump xs i d blank_jump within)
 
-pub mark_read : (rows : List (List Bool)) (i j : ℕ) (row : List Bool) → i < length rows → row ≡ get_or rows i row →
-    get_or row j false ≡ mark rows i j
-mark_read rows i j row within is = ap (λ r. get_or r j false) (is ∙ get_or_default rows i row [] within)
-
 pub leaving_read : (cs : List declared_call.Call) (js : List declared_jump.Jump) (outer i : ℕ) (c : declared_call.Call) (j : declared_jump.Jump) (b : Bool) →
     outer < length cs → i < length js →
     b ≡ is_leaving (plain_jump (get_or js i j)) (plain_span (get_or cs outer c).span) → line_where b (get_or js i j).line ≡ leaving_at (map plain_call cs) (map plain_jump js) outer i
@@ -45,14 +41,22 @@ leaving_read cs js outer i c j b within inside told =
     ∙ ap (λ (x : Jump). line_where (is_leaving x (plain_span (get_or cs outer c).span)) x.line) (jump_read js i j inside)
     ∙ ap (λ (x : Call). line_where (is_leaving (jump_at (map plain_jump js) i) x.span) (jump_at (map plain_jump js) i).line) (call_read cs outer c within)
 
-pub crossing_read : (cs : List declared_call.Call) (rows : List (List Bool)) (outer i : ℕ) (c d : declared_call.Call) (row : List Bool) (b : Bool) →
-    IsReached (map plain_call cs) (length cs) rows → outer < length cs → i < length cs →
-    row ≡ get_or rows outer row → b ≡ (get_or row i false && is_crossing (plain_span (get_or cs i d).span) (plain_span (get_or cs outer c).span)) →
+pub crossing_read : (cs : List declared_call.Call) (row : List Bool) (outer i : ℕ) (c d : declared_call.Call) (b : Bool) →
+    IsRow (map plain_call cs) outer row → outer < length cs → i < length cs →
+    b ≡ (is_marked row i && is_crossing (plain_span (get_or cs i d).span) (plain_span (get_or cs outer c).span)) →
     line_where b (get_or cs i d).line ≡ crossing_at (map plain_call cs) outer i
-crossing_read cs rows outer i c d row b is within inside read told =
+crossing_read cs row outer i c d b is within inside told =
     let n : length (map plain_call cs) ≡ length cs = length-map cs plain_call in
     ap (λ x. line_where x (get_or cs i d).line) told
     ∙ ap (λ x. line_where (x && is_crossing (plain_span (get_or cs i d).span) (plain_span (get_or cs outer c).span)) (get_or cs i d).line)
-    (mark_read rows outer i row (omega (arith, is.count, n)) read ∙ is.marks outer i (omega (arith, n)) (omega (arith, n)) ∙ ap (λ k. through (map plain_call cs) k outer i) (sym n))
+    (is.marks i (omega (arith, n, inside)))
     ∙ ap (λ (x : Call). line_where (through (map plain_call cs) (length (map plain_call cs)) outer i && is_crossing x.span (plain_span (get_or cs outer c).span)) x.line) (call_read cs i d inside)
     ∙ ap (λ (x : Call). line_where (through (map plain_call cs) (length (map plain_call cs)) outer i && is_crossing (call_at (map plain_call cs) i).span x.span) (call_at (map plain_call cs) i).line) (call_read cs outer c within)
+
+-- the mark of the range itself
+pub cycle_read : (cs : List declared_call.Call) (row : List Bool) (i : ℕ) (c : declared_call.Call) (b : Bool) →
+    IsRow (map plain_call cs) i row → i < length cs → b ≡ is_marked row i →
+    line_where b (get_or cs i c).line ≡ cycle_at (map plain_call cs) i
+cycle_read cs row i c b is within told =
+    ap (λ x. line_where x (get_or cs i c).line) (told ∙ is.marks i (omega (arith, length-map cs plain_call, within)))
+    ∙ ap (λ (x : Call). line_where (through (map plain_call cs) (length (map plain_call cs)) i i) x.line) (call_read cs i c within)

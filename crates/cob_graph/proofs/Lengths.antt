@@ -1,12 +1,19 @@
--- There are as many nodes as the sizes say.
-use Rattle.std.proofs.Common.{◌≡◌, ℕ, suc, ◌+◌, Bool, true, false, List, [], ◌∷◌, ◌++◌, length, refl, ap, arith, length-append}
+-- There are as many nodes as the sizes say; and the number of the final node.
+use Rattle.std.proofs.Common.{◌≡◌, ℕ, suc, ◌+◌, Bool, true, false, List, [], ◌∷◌, ◌++◌, length, refl, ap, ◌∙◌, arith, length-append}
+use Rattle.std.proofs.lemmas.List.{length-map}
 use Rattle.cob_program.specs.declared.act.Opening.{Opening}
 use Rattle.cob_program.specs.Logic.{Logic, all_of, any_of, not_, test, Logics, no_logics, more_logics, logics_of}
-use Rattle.cob_program.specs.Act.{Turns, once, times, until, varying}
+use Rattle.cob_program.specs.Act.{Turns, once, times, until, varying, Program}
+use Rattle.cob_graph.specs.declared.graph.Graph.{Graph}
 use Rattle.cob_graph.specs.Laid.{Laid, MkLaid, LaidList, no_laid, more_laid, LaidPhrase, no_phrase, a_phrase, LaidAct, moving, showing, skipping, going, ending, computing, deciding, choosing, performing, opening, closing, reading, writing, LaidWhens, no_laid_whens, more_laid_whens, LaidBody, own_list, copy, LaidParas, no_laid_paras, more_laid_paras, tests_in, tests_among, one_if, how_many, loop_nodes, size, list_size, phrase_size, act_size, whens_size, body_size, paras_size}
 use Rattle.cob_graph.specs.Places.{first_of_list, first_of_paras, first_of_all, first_of_any, first_of_whens, first_of_body, body_at, body_next, tests_at, augment_at}
 use Rattle.cob_graph.specs.Nodes.{Noded, Copied, logic_nodes, all_nodes, any_nodes, open_nodes, close_nodes, read_nodes, write_nodes, end_to, loop_before, loop_behind, copied_in, nodes, list_nodes, phrase_nodes, whens_nodes, body_nodes, paras_nodes, act_nodes}
-use Rattle.cob_graph.proofs.Fronts.{joined}
+use Rattle.cob_graph.specs.Graphs as graphs
+use Rattle.cob_graph.specs.Graphs.{as_node, final_of, final_node, main_copy, IsGraph}
+use Rattle.cob_graph.specs.Lookup.{final_in}
+
+pub joined : {A : Type 0} (xs ys : List A) (m n : ℕ) → length xs ≡ m → length ys ≡ n → length (xs ++ ys) ≡ m + n
+joined xs ys m n e f = length-append xs ys ∙ omega (arith, e, f)
 
 mutual
   pub length-logic : (c : Copied) (n : ℕ) (b : Bool) (t : Logic) (k at tr fa : ℕ) →
@@ -165,3 +172,16 @@ mutual
         length-list c b (at + 1 + one_if into + phrase_size a) next,
       ))
   length-act c number (writing f from) at next = length-write c number f from at next
+
+-- the final node is the last one
+pub final_is : (p : Program) (g : Graph) (is : IsGraph p g) → final_of is.copies ≡ final_in g
+final_is p g is =
+    let ns = graphs.all_nodes p is.copies in
+    let paras = paras_nodes (main_copy p is.copies) is.copies 1 (final_of is.copies) in
+    omega (
+      arith,
+      ap length is.nodes,
+      length-map ns as_node,
+      length-append paras (final_node ∷ []),
+      length-paras (main_copy p is.copies) is.copies 1 (final_of is.copies),
+    )

@@ -1,4 +1,4 @@
-mod Examples
+pub mod Examples
 mod ListingLemmas
 mod ReachLemmas
 mod LeastLemmas
@@ -6,20 +6,5 @@ mod BoolLemmas
 mod NestLemmas
 mod FirstLemmas
 mod CoverLemmas
-mod Fronts
-mod Lengths
-pub mod InGraphs
-mod Relation
-mod Settling
-mod Ways
-mod Conditions
-mod SizeErrors
-mod Statements
-mod Choosing
-mod Loops
-mod Beginnings
-mod FileCalls
-mod ReadSteps
-mod EachAct
-pub mod Simulated
+pub mod Lengths
 pub mod OneCopy

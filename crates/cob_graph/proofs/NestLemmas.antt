@@ -94,7 +94,7 @@ module _ (cs : List Call) where
   abbrev Goes : ℕ → ℕ → ℕ → Type 0
   Goes k i j = through cs k i j ≡ true
 
-  goes_cases : (k i j : ℕ) → Goes (suc k) i j → Goes k i j ⊎ (Goes k i k × Goes k k j)
+  pub goes_cases : (k i j : ℕ) → Goes (suc k) i j → Goes k i j ⊎ (Goes k i k × Goes k k j)
   goes_cases k i j e =
       ⊎_elim (λ (h : Goes k i j). inl h) (λ (h : (through cs k i k && through cs k k j) ≡ true). inr (and_true (through cs k i k) (through cs k k j) h))
       (or_true (through cs k i j) (through cs k i k && through cs k k j) e)
@@ -106,11 +106,11 @@ module _ (cs : List Call) where
   goes_by k i j a b =
       true_or_right (through cs k i j) (through cs k i k && through cs k k j) (true_and (through cs k i k) (through cs k k j) a b)
 
-  goes_directly : (k i j : ℕ) → IsIn (call_at cs j).para (span i) → Goes k i j
+  pub goes_directly : (k i j : ℕ) → IsIn (call_at cs j).para (span i) → Goes k i j
   goes_directly zero i j h = is_in_from (call_at cs j).para (span i) h
   goes_directly (suc k) i j h = goes_more k i j (goes_directly k i j h)
 
-  goes_onward : (k m i j : ℕ) → m < k → Goes k i m → Goes k m j → Goes k i j
+  pub goes_onward : (k m i j : ℕ) → m < k → Goes k i m → Goes k m j → Goes k i j
   goes_onward zero m i j below a b = absurd (omega (arith, below))
   goes_onward (suc k) m i j below a b =
       ⊎_elim

@@ -58,7 +58,7 @@ module _ (p : Program) where
     IsLaidBody lo hi (inline ss) (copy n ps) = ⊥
     IsLaidBody lo hi (range first last) (own_list xs) = ⊥
 
-    -- so many paragraphs from one on
+    -- Copies of so many paragraphs, from one on.
     pub AreLaidParas : ℕ → ℕ → ℕ → ℕ → LaidParas → Type 0
     AreLaidParas lo hi from zero no_laid_paras = Unit {0}
     AreLaidParas lo hi from (suc n) (more_laid_paras xs ps) = AreLaid lo hi (body_at p from) xs × AreLaidParas lo hi (suc from) n ps

@@ -5,7 +5,8 @@ use Rattle.cob_tree.specs.declared.form.Form.TheVariants as form
 use Rattle.cob_data.specs.declared.end.Which.{Which}
 use Rattle.cob_data.specs.declared.end.Which.TheVariants.{Cells, Nodes}
 use Rattle.cob_data.specs.declared.layout.Item.{Item}
-use Rattle.cob_program.specs.Act.{Turns, times, MkStmt, Stmts, no_stmts, more_stmts, Phrase, left_out, given, Act, arith, if_, evaluate, perform, read, Whens, no_whens, more_whens, MkWhen, Body, range, inline, Para, Program}
+use Rattle.cob_program.specs.Act.{Turns, times, Stmt, MkStmt, Act, perform, Program}
+use Rattle.cob_program.specs.Statements.{program_statements}
 use Rattle.cob_runs.specs.declared.action.Action.{Action}
 use Rattle.cob_runs.specs.declared.action.Cell.{Cell}
 use Rattle.cob_graph.specs.declared.graph.Node.{Node}
@@ -73,38 +74,21 @@ abbrev pub counters_of : Turns → List Cell
 counters_of (times x) = counter ∷ []
 counters_of _ = []
 
-abbrev mutual
-  pub counters : Stmts → List Cell
-  counters no_stmts = []
-  counters (more_stmts (MkStmt number line a) ss) = counters_in a ++ counters ss
+-- A statement's own counter, without those of the statements of its lists.
+abbrev pub act_counters : Act → List Cell
+act_counters (perform body turns) = counters_of turns
+act_counters _ = []
 
-  pub phrase_counters : Phrase → List Cell
-  phrase_counters left_out = []
-  phrase_counters (given ss) = counters ss
+abbrev pub stmt_counters : Stmt → List Cell
+stmt_counters (MkStmt number line a) = act_counters a
 
-  -- in the order of the statements' numbers
-  pub counters_in : Act → List Cell
-  counters_in (arith s targets remainder size fine) = phrase_counters size ++ counters fine
-  counters_in (if_ t held other) = counters held ++ counters other
-  counters_in (evaluate ws other) = whens_counters ws ++ counters other
-  counters_in (perform body turns) = counters_of turns ++ body_counters body
-  counters_in (read f into end fine) = phrase_counters end ++ counters fine
-  counters_in _ = []
+abbrev pub counters : List Stmt → List Cell
+counters [] = []
+counters (s ∷ ss) = stmt_counters s ++ counters ss
 
-  pub whens_counters : Whens → List Cell
-  whens_counters no_whens = []
-  whens_counters (more_whens (MkWhen ts ss) ws) = counters ss ++ whens_counters ws
-
-  pub body_counters : Body → List Cell
-  body_counters (range first last) = []
-  body_counters (inline ss) = counters ss
-
-abbrev pub para_counters : List Para → List Cell
-para_counters [] = []
-para_counters (x ∷ xs) = counters x.body ++ para_counters xs
-
+-- those of the items, and then counters in the order of the statements' numbers
 abbrev pub cells_of : Program → List Cell
-cells_of p = item_cells 0 p.layout.items ++ para_counters p.paras
+cells_of p = item_cells 0 p.layout.items ++ counters (program_statements p)
 
 -- ---- graphs
 
@@ -135,7 +119,7 @@ OneMainCopy = (p : Program) (a b : LaidParas) → IsMainCopy p a → IsMainCopy 
 abbrev pub OneCount : Type 0
 OneCount = (p : Program) (m n : ℕ) → HasNodes p m → HasNodes p n → m ≡ n
 
--- and one graph
+-- A program has one graph.
 abbrev pub OneGraph : Type 0
 OneGraph = (p : Program) (g h : Graph) → IsGraph p g → IsGraph p h → g ≡ h
 

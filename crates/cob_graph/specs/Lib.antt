@@ -4,7 +4,8 @@ pub mod Nodes
 pub mod Copies
 pub mod Graphs
 pub mod Nesting
-pub mod Walks
+pub mod Lookup
+pub mod WellFormed
 pub mod Listing
 pub mod Reaching
 pub mod Broken

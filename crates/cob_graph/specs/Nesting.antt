@@ -2,7 +2,8 @@
 use Rattle.std.specs.Prelude.{◌≡◌, ◌≢◌, ◌≤◌, ◌<◌, ◌⊎◌, ◌+◌, ℕ, List, [], ◌∷◌, ◌++◌, Contains}
 use Rattle.cob_data.specs.declared.end.Rule.{Rule}
 use Rattle.cob_data.specs.declared.end.Rule.TheVariants.{N1, N2, N3, N4}
-use Rattle.cob_program.specs.Act.{Turns, Stmt, MkStmt, Stmts, no_stmts, more_stmts, Phrase, left_out, given, Act, arith, if_, evaluate, perform, go, read, Whens, no_whens, more_whens, MkWhen, Body, range, inline, Para, Program}
+use Rattle.cob_program.specs.Act.{Stmt, MkStmt, Act, perform, go, Body, range, inline, Para, Program}
+use Rattle.cob_program.specs.Statements.{para_statements}
 
 -- paragraphs from one to another
 pub record Span : Type 0 where
@@ -38,36 +39,26 @@ infixr 5 ◌&◌
 abbrev pub ◌&◌ : Found → Found → Found
 a & b = record { calls = a.calls ++ b.calls; jumps = a.jumps ++ b.jumps }
 
-module _ (para : ℕ) where
-  abbrev mutual
-    pub found : Stmts → Found
-    found no_stmts = nothing_found
-    found (more_stmts (MkStmt number line a) ss) = found_in line a & found ss
+-- A statement's own calls and jumps, without those of the statements of its lists.
+abbrev pub found_body : ℕ → ℕ → Body → Found
+found_body para line (range first last) = a_call line para first last
+found_body para line (inline ss) = nothing_found
 
-    pub found_phrase : Phrase → Found
-    found_phrase left_out = nothing_found
-    found_phrase (given ss) = found ss
+abbrev pub found_act : ℕ → ℕ → Act → Found
+found_act para line (perform body turns) = found_body para line body
+found_act para line (go to) = a_jump line para to
+found_act para line _ = nothing_found
 
-    pub found_in : ℕ → Act → Found
-    found_in line (arith s targets remainder size fine) = found_phrase size & found fine
-    found_in line (if_ t held other) = found held & found other
-    found_in line (evaluate ws other) = found_whens ws & found other
-    found_in line (perform body turns) = found_body line body
-    found_in line (go to) = a_jump line para to
-    found_in line (read f into end fine) = found_phrase end & found fine
-    found_in line _ = nothing_found
+abbrev pub found_at : ℕ → Stmt → Found
+found_at para (MkStmt number line a) = found_act para line a
 
-    pub found_whens : Whens → Found
-    found_whens no_whens = nothing_found
-    found_whens (more_whens (MkWhen ts ss) ws) = found ss & found_whens ws
-
-    pub found_body : ℕ → Body → Found
-    found_body line (range first last) = a_call line para first last
-    found_body line (inline ss) = found ss
+abbrev pub found : ℕ → List Stmt → Found
+found para [] = nothing_found
+found para (s ∷ ss) = found_at para s & found para ss
 
 abbrev pub found_among : ℕ → List Para → Found
 found_among para [] = nothing_found
-found_among para (x ∷ xs) = found para x.body & found_among (para + 1) xs
+found_among para (x ∷ xs) = found para (para_statements x) & found_among (para + 1) xs
 
 abbrev pub found_all : Program → Found
 found_all p = found_among 0 p.paras

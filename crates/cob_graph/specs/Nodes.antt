@@ -56,7 +56,7 @@ module _ (c : Copied) (statement : ℕ) where
 
   -- ---- files
 
-  -- where a status goes that nothing handles
+  -- The node at which a status ends up that nothing handles.
   abbrev pub bad_to : ℕ → ℕ → ℕ
   bad_to file next = if has_status c.layout file then next else c.final
 

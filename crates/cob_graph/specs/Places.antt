@@ -72,7 +72,7 @@ augment_at (until after t) at body = at
 augment_at (varying false item start by t) at body = at + 1 + tests_in t + body_size body
 augment_at (varying true item start by t) at body = at + 1 + body_size body + tests_in t
 
--- where the body goes on; a test begins with its first node, since a condition has one at least
+-- The node at which a loop goes on behind its body; a test begins with its first node, since a condition has one at least.
 abbrev pub body_next : Turns → ℕ → LaidBody → ℕ → ℕ
 body_next once at body next = next
 body_next (times x) at body next = augment_at (times x) at body

@@ -1,3 +1,4 @@
+//! Why a program has no graph.
 use cob_data::{Rule, Which};
 
 /// Why a program has no graph.

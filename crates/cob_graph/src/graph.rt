@@ -1,3 +1,4 @@
+//! Nodes, edges and graphs.
 use cob_runs::{Action, Cell};
 use cob_tree::Many;
 

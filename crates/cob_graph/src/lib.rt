@@ -5,11 +5,9 @@ mod calls;
 mod distinct;
 mod end;
 mod graph;
-mod laws;
 mod nesting;
 mod reach;
 
 pub use end::FlowEnd;
 pub use graph::{Edge, Graph, Node};
-pub use laws::{graphs_are_as_laid, graphs_are_one, runs_are_ways};
 pub use nesting::nested;

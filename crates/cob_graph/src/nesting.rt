@@ -7,18 +7,18 @@ ghost use Rattle.cob_program.specs.ActView.{plain_program};
 ghost use Rattle.cob_graph.specs.Nesting as spec;
 ghost use Rattle.cob_graph.specs.Nesting.{IsNested, IsOutside};
 ghost use Rattle.cob_graph.specs.Listing.{plain_span, plain_call, plain_jump, plain_found};
-ghost use Rattle.cob_graph.specs.Reaching.{IsReached};
+ghost use Rattle.cob_graph.specs.Reaching.{IsRow, AreHulls};
 ghost use Rattle.cob_graph.specs.Covering.{Covers};
 ghost use Rattle.cob_graph.specs.Broken.{least_below, is_crossing, is_leaving, cycle_at, crossing_at, crossings, leaving_at, leavings, reversed_at, told, IsFirst, answer_of};
 
 use crate::calls::{Call, Found, Jump, Span};
 use crate::distinct::distinct;
 use crate::end::FlowEnd;
-use crate::reach::{Row, reached};
+use crate::reach::{Hull, Row, hulls_of, reached};
 use cob_data::Rule;
 use cob_program::Program;
 use rule_order::{lesser, noted};
-use std::alloc::Global;
+use std::alloc::{AllocError, Global};
 
 impl Span {
     /// Whether they share a paragraph, unless the first is within the other and has another exit.
@@ -49,24 +49,12 @@ impl Row {
     }
 }
 
-/// The first call whose range performs itself.
-fn first_cycle(calls: &[Call], rows: &[Row]) -> Option<u32>
-    requires { IsReached (map plain_call calls.now) (length calls.now) rows.now }
-    ensures { result ≡ least_below (cycle_at (map plain_call calls.now)) (length calls.now) }
-{
-    let mut least = None;
-    for (place, call) in calls.iter().enumerate() {
-        least = noted(least, rows[place].has(place), call.line);
-    }
-    least
-}
-
-fn crossings(calls: &[Call], rows: &[Row], outer: usize) -> Option<u32>
-    requires rows { IsReached (map plain_call calls.now) (length calls.now) rows.now }
+/// The first call of those that are reached from a performed range whose range crosses that one.
+fn crossings(calls: &[Call], row: &Row, outer: usize) -> Option<u32>
+    requires row { IsRow (map plain_call calls.now) outer row.now }
     requires outer { outer < length calls.now }
     ensures { result ≡ crossings (map plain_call calls.now) outer }
 {
-    let row = &rows[outer];
     let span = calls[outer].span;
     let mut least = None;
     for (place, call) in calls.iter().enumerate() {
@@ -76,16 +64,28 @@ fn crossings(calls: &[Call], rows: &[Row], outer: usize) -> Option<u32>
     least
 }
 
-/// The first call whose range crosses a performed one that reaches it.
-fn first_crossing(calls: &[Call], rows: &[Row]) -> Option<u32>
-    requires { IsReached (map plain_call calls.now) (length calls.now) rows.now }
-    ensures { result ≡ least_below (crossings (map plain_call calls.now)) (length calls.now) }
+/// The first call whose range performs itself, and the first whose range crosses a performed one that reaches it.
+#[derive(Drop)]
+struct Reached {
+    cycle: Option<u32>,
+    crossing: Option<u32>,
+}
+
+/// Those that the rows tell, one row after another.
+fn first_reached(alloc: Global, calls: &[Call], hulls: &[Hull]) -> Result<Reached, AllocError>
+    requires { AreHulls (map plain_call calls.now) hulls.now }
+    ensures cycle { IfOk result (λ r. r.cycle ≡ least_below (cycle_at (map plain_call calls.now)) (length calls.now)) }
+    ensures crossing { IfOk result
+        (λ r. r.crossing ≡ least_below (crossings (map plain_call calls.now)) (length calls.now)) }
 {
-    let mut least = None;
+    let mut cycle = None;
+    let mut crossing = None;
     for outer in 0..calls.len() {
-        least = lesser(least, crossings(calls, rows, outer));
+        let row = reached(alloc, calls, hulls, outer)?;
+        cycle = noted(cycle, row.has(outer), calls[outer].line);
+        crossing = lesser(crossing, crossings(calls, &row, outer));
     }
-    least
+    Ok(Reached { cycle, crossing })
 }
 
 fn leavings(calls: &[Call], jumps: &[Jump], outer: usize) -> Option<u32>
@@ -140,16 +140,19 @@ fn told(
 }
 
 /// The first rule that is broken, with its first line: by calls that tell as much as all do.
-fn first_broken(calls: &[Call], jumps: &[Jump], rows: &[Row]) -> Option<(Rule, u32)>
-    requires { IsReached (map plain_call calls.now) (length calls.now) rows.now }
-    ensures { (all : List spec.Call) → Covers all (map plain_call calls.now)
-        → IsFirst (record { calls = all; jumps = map plain_jump jumps.now }) result }
+fn first_broken(
+    alloc: Global,
+    calls: &[Call],
+    jumps: &[Jump],
+) -> Result<Option<(Rule, u32)>, AllocError>
+    ensures { IfOk result (λ told. (all : List spec.Call) → Covers all (map plain_call calls.now)
+        → IsFirst (record { calls = all; jumps = map plain_jump jumps.now }) told) }
 {
-    let cycle = first_cycle(calls, rows);
-    let crossing = first_crossing(calls, rows);
+    let hulls = hulls_of(alloc, calls)?;
+    let reached = first_reached(alloc, calls, &hulls)?;
     let leaving = first_leaving(calls, jumps);
     let reversed = first_reversed(calls);
-    told(cycle, crossing, leaving, reversed)
+    Ok(told(reached.cycle, reached.crossing, leaving, reversed))
 }
 
 fn answer(broken: Option<(Rule, u32)>) -> Result<(), FlowEnd>
@@ -176,8 +179,8 @@ pub fn nested(alloc: Global, program: &Program) -> Result<(), FlowEnd>
     let Ok(calls) = distinct(alloc, &found.calls) else {
         return Err(FlowEnd::Memory);
     };
-    let Ok(rows) = reached(alloc, &calls) else {
+    let Ok(broken) = first_broken(alloc, &calls, &found.jumps) else {
         return Err(FlowEnd::Memory);
     };
-    answer(first_broken(&calls, &found.jumps, &rows))
+    answer(broken)
 }

@@ -1,7 +1,8 @@
-//! Which calls are reached from the range of which call.
-ghost use Rattle.std.specs.Prelude.{◌≡◌, ◌<◌, ◌≤◌, ℕ, false, length, map, slice_index_or, IfOk, OnOk};
+//! Which calls are reached from the range of which call: a search from each call, which looks at each range that it
+//! finds once, from the first call in it to the last, and at none that is part of the range that has its call.
+ghost use Rattle.std.specs.Prelude.{◌≡◌, ◌<◌, ◌≤◌, ℕ, false, length, map, replicate, slice_index_or, IfOk, OnOk};
 ghost use Rattle.cob_graph.specs.Listing.{plain_span, plain_call};
-ghost use Rattle.cob_graph.specs.Reaching.{is_in, calls_in, either, with_row, row_at, mark, IsReached};
+ghost use Rattle.cob_graph.specs.Reaching.{is_in, is_part, IsRow, IsHull, AreHulls, IsNoted, IsLooked, IsLookedAt};
 
 use crate::calls::{Call, Span};
 use std::alloc::{AllocError, Global};
@@ -14,7 +15,51 @@ impl Span {
     {
         self.first as usize <= para && para <= self.last as usize
     }
+
+    /// Whether all its paragraphs are in another one.
+    fn is_part(self, other: Span) -> bool
+        ensures { result ≡ is_part (plain_span self) (plain_span other) }
+    {
+        other.first <= self.first && self.last <= other.last
+    }
 }
+
+// ---- where the calls of a range stand
+
+/// Calls from a place up to, but not including, another.
+#[derive(Clone, Copy)]
+pub struct Hull {
+    from: usize,
+    end: usize,
+}
+
+/// From the first call in a range to the last.
+fn hull_of(calls: &[Call], span: Span) -> Hull
+    ensures { IsHull (map plain_call calls.now) (plain_span span) result }
+{
+    let mut from = calls.len();
+    let mut end = 0;
+    for (place, call) in calls.iter().enumerate() {
+        if span.has(call.para) {
+            from = from.min(place);
+            end = place + 1;
+        }
+    }
+    Hull { from, end }
+}
+
+/// One for the range of each call.
+pub fn hulls_of(alloc: Global, calls: &[Call]) -> Result<Vec<Hull>, AllocError>
+    ensures { IfOk result (λ hulls. AreHulls (map plain_call calls.now) hulls.items) }
+{
+    let mut hulls = Vec::new(alloc);
+    for call in calls {
+        hulls.push(hull_of(calls, call.span))?;
+    }
+    Ok(hulls)
+}
+
+// ---- the search
 
 /// A mark for each call: whether it is reached.
 #[derive(Drop)]
@@ -31,24 +76,6 @@ impl Model for Row {
 }
 
 impl Row {
-    /// The calls in a range.
-    fn of(alloc: Global, span: Span, calls: &[Call]) -> Result<Row, AllocError>
-        ensures { IfOk result (λ row. row ≡ calls_in (map plain_call calls.now) (plain_span span)) }
-    {
-        let mut marks = Vec::new(alloc);
-        for call in calls {
-            marks.push(span.has(call.para))?;
-        }
-        Ok(Row { marks })
-    }
-
-    fn copied(&self, alloc: Global) -> Result<Row, AllocError>
-        ensures { IfOk result (λ row. row ≡ self.now) }
-    {
-        let marks = self.marks.as_slice().to_vec(alloc)?;
-        Ok(Row { marks })
-    }
-
     /// Whether the call at a place is reached.
     pub fn has(&self, place: usize) -> bool
         requires { place < length self.now }
@@ -56,83 +83,105 @@ impl Row {
     {
         self.marks[place]
     }
+}
 
-    fn join(&mut self, more: &Row)
-        requires { length self.old ≡ length more.now }
-        ensures { self.new ≡ either self.old more.now }
-    {
-        join(self.marks.as_mut_slice(), more.marks.as_slice());
+/// Marks a call, which stands last of those that are to be looked at, unless it was marked before or is done with.
+fn note(
+    place: usize,
+    is_done: bool,
+    marks: &mut [bool],
+    found: &mut Vec<usize>,
+) -> Result<(), AllocError>
+    requires { place < length marks.old }
+    ensures { OnOk result (IsNoted place is_done marks.old found.old.items marks.new found.new.items) }
+{
+    if marks[place] {
+        return Ok(());
     }
+    if !is_done {
+        found.push(place)?;
+    }
+    marks[place] = true;
+    Ok(())
+}
 
-    fn join_if(&mut self, place: usize, more: &Row)
-        requires place { place < length self.old }
-        requires wide { length self.old ≡ length more.now }
-        ensures { self.new ≡ with_row place more.now self.old }
-    {
-        if self.has(place) {
-            self.join(more);
+/// Marks the calls of a range.
+fn look(
+    calls: &[Call],
+    span: Span,
+    hull: Hull,
+    marks: &mut [bool],
+    found: &mut Vec<usize>,
+) -> Result<(), AllocError>
+    requires wide { length marks.old ≡ length calls.now }
+    requires end { hull.end ≤ length calls.now }
+    ensures { OnOk result (IsLooked (map plain_call calls.now) (plain_span span) hull.from hull.end
+        marks.old found.old.items marks.new found.new.items) }
+{
+    for place in hull.from..hull.end {
+        let call = calls[place];
+        if span.has(call.para) {
+            note(place, call.span.is_part(span), marks, found)?;
         }
     }
-}
-
-fn join(marks: &mut [bool], more: &[bool])
-    requires { length marks.old ≡ length more.now }
-    ensures { marks.new ≡ either marks.old more.now }
-{
-    for (place, mark) in more.iter().enumerate() {
-        marks[place] |= *mark;
-    }
-}
-
-/// Joins what is reached from a call to each row that reaches it.
-fn join_rows(rows: &mut [Row], place: usize, more: &Row)
-    requires place { place < length more.now }
-    requires wide { (i : ℕ) → i < length rows.old → length (row_at rows.old i) ≡ length more.now }
-    ensures { rows.new ≡ map (with_row place more.now) rows.old }
-{
-    for row in rows.iter_mut() {
-        row.join_if(place, more);
-    }
-}
-
-/// Takes in the ways that go by one call more.
-fn pass(alloc: Global, rows: &mut [Row], place: usize) -> Result<(), AllocError>
-    requires place { place < length rows.old }
-    requires wide { (i : ℕ) → i < length rows.old → length (row_at rows.old i) ≡ length rows.old }
-    ensures { OnOk result (rows.new ≡ map (with_row place (row_at rows.old place)) rows.old) }
-{
-    let pivot = rows[place].copied(alloc)?;
-    join_rows(rows, place, &pivot);
     Ok(())
 }
 
-fn direct(alloc: Global, calls: &[Call]) -> Result<Vec<Row>, AllocError>
-    ensures { IfOk result
-        (λ rows. rows.items ≡ map (λ c. calls_in (map plain_call calls.now) c.span) (map plain_call calls.now)) }
+/// Marks the calls in the range of a call.
+fn look_at(
+    calls: &[Call],
+    hulls: &[Hull],
+    place: usize,
+    marks: &mut [bool],
+    found: &mut Vec<usize>,
+) -> Result<(), AllocError>
+    requires place { place < length calls.now }
+    requires wide { length marks.old ≡ length calls.now }
+    requires hulls { AreHulls (map plain_call calls.now) hulls.now }
+    ensures { OnOk result
+        (IsLookedAt (map plain_call calls.now) place marks.old found.old.items marks.new found.new.items) }
 {
-    let mut rows = Vec::new(alloc);
-    for call in calls {
-        rows.push(Row::of(alloc, call.span, calls)?)?;
-    }
-    Ok(rows)
+    look(calls, calls[place].span, hulls[place], marks, found)?;
+    Ok(())
 }
 
-/// Takes in the ways by all calls, where the rows say what is reached directly.
-fn close(alloc: Global, calls: &[Call], rows: &mut [Row]) -> Result<(), AllocError>
-    requires { IsReached (map plain_call calls.now) 0 rows.old }
-    ensures { OnOk result (IsReached (map plain_call calls.now) (length calls.now) rows.new) }
+/// Marks the calls that are reached from a call, where none is marked yet.
+fn search(
+    alloc: Global,
+    calls: &[Call],
+    hulls: &[Hull],
+    start: usize,
+    marks: &mut [bool],
+) -> Result<(), AllocError>
+    requires start { start < length calls.now }
+    requires hulls { AreHulls (map plain_call calls.now) hulls.now }
+    requires none { marks.old ≡ replicate (length calls.now) false }
+    ensures { OnOk result (IsRow (map plain_call calls.now) start marks.new) }
 {
-    for place in 0..calls.len() {
-        pass(alloc, rows, place)?;
+    let mut found = Vec::new(alloc);
+    look_at(calls, hulls, start, marks, &mut found)?;
+    for next in 0..calls.len() {
+        if next >= found.len() {
+            return Ok(());
+        }
+        let place = found[next];
+        look_at(calls, hulls, place, marks, &mut found)?;
     }
     Ok(())
 }
 
-/// A row for each call: the calls that its range has, or reaches.
-pub fn reached(alloc: Global, calls: &[Call]) -> Result<Vec<Row>, AllocError>
-    ensures { IfOk result (λ rows. IsReached (map plain_call calls.now) (length calls.now) rows.items) }
+/// The calls that the range of a call has, or reaches.
+pub fn reached(
+    alloc: Global,
+    calls: &[Call],
+    hulls: &[Hull],
+    start: usize,
+) -> Result<Row, AllocError>
+    requires start { start < length calls.now }
+    requires hulls { AreHulls (map plain_call calls.now) hulls.now }
+    ensures { IfOk result (λ row. IsRow (map plain_call calls.now) start row) }
 {
-    let mut rows = direct(alloc, calls)?;
-    close(alloc, calls, rows.as_mut_slice())?;
-    Ok(rows)
+    let mut marks = Vec::from_elem(alloc, false, calls.len())?;
+    search(alloc, calls, hulls, start, marks.as_mut_slice())?;
+    Ok(Row { marks })
 }

@@ -5,7 +5,7 @@ use Rattle.std.specs.List.{list_any}
 use Rattle.cob_data.specs.declared.layout.Layout.{Layout}
 use Rattle.cob_data.specs.declared.layout.FileDecl.{FileDecl}
 use Rattle.cob_runs.specs.Acts.{file_from}
-use Rattle.cob_graph_build.proofs.Loops.{item_step}
+use Rattle.cob_program.proofs.Loops.{item_step}
 
 abbrev or_zero : Option ℕ → ℕ
 or_zero o = option_map_or (λ f. f) o 0

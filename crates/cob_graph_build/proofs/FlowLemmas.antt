@@ -18,7 +18,7 @@ use Rattle.cob_graph_build.specs.Tables.{lay_paras, copy_in, is_in, size_in, mai
 use mathlib.Core.Path.{fun_ext}
 use Rattle.cob_graph_build.specs.Growing.{Seen, grown}
 use Rattle.cob_graph_build.proofs.Growth.{grown_more}
-use Rattle.cob_graph.proofs.InGraphs.{final_is}
+use Rattle.cob_graph.proofs.Lengths.{final_is}
 use Rattle.cob_graph_build.specs.Limits.{IsWithinLimits}
 use Rattle.cob_graph_build.proofs.Cuts.{counted_all, counted_more, counted_most}
 use Rattle.cob_graph_build.proofs.SizeLemmas.{table_sizes, table_laid, alike_paras, laid_paras}

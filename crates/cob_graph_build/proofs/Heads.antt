@@ -5,10 +5,9 @@ use Rattle.cob_program.specs.declared.act.Stmt as declared_stmt
 use Rattle.cob_program.specs.declared.act.When as declared_when
 use Rattle.cob_program.specs.declared.logic.Logic as declared_logic
 use Rattle.cob_program.specs.Logic.{Logics, more_logics}
-use Rattle.cob_program.specs.LogicView.{plain_logic}
+use Rattle.cob_program.specs.LogicView.{plain_logic, plain_logics}
 use Rattle.cob_program.specs.Act.{Stmts, more_stmts, Whens, more_whens}
-use Rattle.cob_program.specs.ActView.{plain_stmt, plain_when}
-use Rattle.cob_graph_build.specs.Views.{plain_stmts, plain_whens, plain_logics}
+use Rattle.cob_program.specs.ActView.{plain_stmt, plain_when, plain_stmts, plain_whens}
 
 abbrev pub others : {A : Type 0} → List A → List A
 others xs = take (length xs - 1) (drop 1 xs)

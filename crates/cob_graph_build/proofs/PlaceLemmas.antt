@@ -5,9 +5,10 @@ use Rattle.cob_program.specs.declared.act.Stmt as declared_stmt
 use Rattle.cob_program.specs.Act.{Program, Stmts, no_stmts, more_stmts}
 use Rattle.cob_runs.specs.Steps.{body_at}
 use Rattle.cob_graph_build.specs.declared.counting.Entry.{Entry}
-use Rattle.cob_graph_build.specs.Views.{plain_stmts}
+use Rattle.cob_program.specs.ActView.{plain_stmts}
 use Rattle.cob_graph.specs.Laid.{LaidParas, no_laid_paras, more_laid_paras, list_size}
 use Rattle.cob_graph.specs.Places.{first_of_list, first_of_paras, first_of_para}
+use Rattle.cob_graph.specs.Nodes.{Copied, list_nodes}
 use Rattle.cob_graph_build.specs.Tables.{lay_list, lay_paras, is_for, told_size, is_in, copy_in}
 
 module _ (p : Program) (copies : ℕ → ℕ → LaidParas) where
@@ -34,6 +35,12 @@ module _ (p : Program) (copies : ℕ → ℕ → LaidParas) where
   empty_is : (xs : List declared_stmt.Stmt) → (length xs == 0) ≡ true → plain_stmts xs ≡ no_stmts
   empty_is [] h = refl
   empty_is (x ∷ xs) h = absurd (omega (arith, eqb-true (length (x ∷ xs)) 0 h))
+
+  -- what follows no statements changes no node
+  pub nothing_follows : (c : Copied) (xs : List declared_stmt.Stmt) (at one two : ℕ) → (length xs == 0) ≡ true →
+      list_nodes c (lay_list p copies (plain_stmts xs)) at one ≡ list_nodes c (lay_list p copies (plain_stmts xs)) at two
+  nothing_follows c [] at one two none = refl
+  nothing_follows c (x ∷ xs) at one two none = absurd (omega (arith, eqb-true (length (x ∷ xs)) 0 none))
 
   -- a paragraph that is not empty comes first
   pub range_full : (xs : List declared_stmt.Stmt) (from end at next : ℕ) → from < end →

@@ -1,15 +1,16 @@
 -- What is counted by a table is what the nodes are.
-use Rattle.std.proofs.Common.{ℕ, zero, suc, ◌-◌, ◌≡◌, ◌==◌, ◌&&◌, min, Bool, true, false, List, [], ◌∷◌, refl, sym, ap, ◌∙◌, if◌then◌else◌, Option, Some, None, is_some, subst, add-one, ◌+◌}
+use Rattle.std.proofs.Common.{ℕ, zero, suc, ◌-◌, ◌≡◌, ◌==◌, ◌&&◌, min, Bool, true, false, List, [], ◌∷◌, ◌++◌, refl, sym, ap, ◌∙◌, if◌then◌else◌, Option, Some, None, is_some, subst, add-one, ◌+◌}
 use Rattle.std.specs.Option.{option_map_or}
 use Rattle.std.proofs.lemmas.Bool.{and_parts, and_from, leb-true, eqb-true, eq-eqb}
 use Rattle.cob_program.specs.Logic.{logics_of}
 use Rattle.cob_program.specs.Act.{Stmt, MkStmt, Stmts, no_stmts, more_stmts, Phrase, left_out, given, Act, move, arith, if_, evaluate, perform, go, nothing, stop, open_files, close_files, read, write, show, Whens, no_whens, more_whens, MkWhen, Body, range, inline, Program}
+use Rattle.cob_program.specs.Statements.{list_statements, with_inner_statements, phrase_statements, inner_statements, whens_statements, body_statements}
 use Rattle.cob_runs.specs.Steps.{body_at}
 use Rattle.cob_graph_build.specs.declared.counting.Entry.{Entry}
 use Rattle.cob_graph.specs.Laid.{LaidParas, no_laid_paras, tests_in, tests_among, loop_nodes, one_if, size, list_size, phrase_size, act_size, whens_size, body_size, paras_size}
 use Rattle.cob_graph.specs.Copies.{IsLaid, AreLaid, IsLaidPhrase, IsLaidAct, AreLaidWhens, IsLaidBody, AreLaidParas}
 use Rattle.cob_graph.specs.Graphs.{most_told}
-use Rattle.cob_graph_build.specs.Sizes.{stmt_size, stmts_size, list_size_if, stmt_act_size, when_size, stmt_whens_size, stmt_body_size, range_size, stmt_fits, stmts_fit, phrase_fits, act_fits, when_fits, whens_fit, body_fits, range_fits}
+use Rattle.cob_graph_build.specs.Sizes.{stmt_size, stmts_size, list_size_if, stmt_act_size, when_size, stmt_whens_size, stmt_body_size, range_size, stmt_fits, act_fits, body_fits, all_fit, range_fits}
 use Rattle.cob_graph_build.proofs.Cuts.{Alike, alike_sum, alike_more, twice_cut}
 use Rattle.cob_graph_build.specs.Tables.{lay_stmt, lay_list, lay_phrase, lay_act, lay_whens, lay_body, lay_paras, is_for, told_size, size_in, is_in, copy_in, rest_in, is_entry, is_table, IsTable}
 
@@ -81,57 +82,79 @@ module _ (p : Program) (cap : ℕ) (g : ℕ → ℕ → ℕ) (copies : ℕ → �
 
 -- ---- what fits is laid
 
+-- two lists that fit together
+fit_parts : (known : ℕ → ℕ → Bool) (lo hi : ℕ) (xs ys : List Stmt) → all_fit known lo hi (xs ++ ys) ≡ true →
+    (all_fit known lo hi xs ≡ true) × (all_fit known lo hi ys ≡ true)
+fit_parts known lo hi [] ys h = (refl, h)
+fit_parts known lo hi (x ∷ xs) ys h =
+    let parts = and_parts (stmt_fits known lo hi x) (all_fit known lo hi (xs ++ ys)) h in
+    let more = fit_parts known lo hi xs ys parts.1 in
+    (and_from (stmt_fits known lo hi x) (all_fit known lo hi xs) parts.0 more.0, more.1)
+
 module _ (p : Program) (known : ℕ → ℕ → Bool) (copies : ℕ → ℕ → LaidParas)
     (are : (first last : ℕ) → known first last ≡ true →
     AreLaidParas p first last first (suc last - first) (copies first last)) (lo hi : ℕ) where
-  mutual
-    pub laid_stmt : (s : Stmt) → stmt_fits known lo hi s ≡ true → IsLaid p lo hi s (lay_stmt p copies s)
-    laid_stmt (MkStmt number line a) h = (refl, laid_act a h)
+  abbrev AllFit : List Stmt → Type 0
+  AllFit ss = all_fit known lo hi ss ≡ true
 
-    pub laid_list : (ss : Stmts) → stmts_fit known lo hi ss ≡ true → AreLaid p lo hi ss (lay_list p copies ss)
+  two : (xs ys : List Stmt) → AllFit (xs ++ ys) → AllFit xs × AllFit ys
+  two xs ys h = fit_parts known lo hi xs ys h
+
+  mutual
+    laid_stmt : (s : Stmt) → AllFit (with_inner_statements s) → IsLaid p lo hi s (lay_stmt p copies s)
+    laid_stmt (MkStmt number line a) h =
+        let parts = and_parts (act_fits known lo hi a) (all_fit known lo hi (inner_statements a)) h in
+        (refl, laid_act a parts.0 parts.1)
+
+    laid_list : (ss : Stmts) → AllFit (list_statements ss) → AreLaid p lo hi ss (lay_list p copies ss)
     laid_list no_stmts h = tt
-    laid_list (more_stmts s ss) h = let parts = and_parts (stmt_fits known lo hi s) (stmts_fit known lo hi ss) h in
+    laid_list (more_stmts s ss) h = let parts = two (with_inner_statements s) (list_statements ss) h in
         (laid_stmt s parts.0, laid_list ss parts.1)
 
-    pub laid_phrase : (x : Phrase) → phrase_fits known lo hi x ≡ true → IsLaidPhrase p lo hi x (lay_phrase p copies x)
+    laid_phrase : (x : Phrase) → AllFit (phrase_statements x) → IsLaidPhrase p lo hi x (lay_phrase p copies x)
     laid_phrase left_out h = tt
     laid_phrase (given ss) h = laid_list ss h
 
-    pub laid_act : (a : Act) → act_fits known lo hi a ≡ true → IsLaidAct p lo hi a (lay_act p copies a)
-    laid_act (move x places) h = refl
-    laid_act (arith s targets remainder x fine) h = let parts =
-        and_parts (phrase_fits known lo hi x) (stmts_fit known lo hi fine) h in
+    laid_act : (a : Act) → act_fits known lo hi a ≡ true → AllFit (inner_statements a) →
+        IsLaidAct p lo hi a (lay_act p copies a)
+    laid_act (move x places) own h = refl
+    laid_act (arith s targets remainder x fine) own h =
+        let parts = two (phrase_statements x) (list_statements fine) h in
         (laid_phrase x parts.0, laid_list fine parts.1)
-    laid_act (if_ t held other) h = let parts = and_parts (stmts_fit known lo hi held) (stmts_fit known lo hi other)
-        h in (refl, laid_list held parts.0, laid_list other parts.1)
-    laid_act (evaluate ws other) h = let parts = and_parts (whens_fit known lo hi ws) (stmts_fit known lo hi other)
-        h in (laid_whens ws parts.0, laid_list other parts.1)
-    laid_act (perform body turns) h = (refl, laid_body body h)
-    laid_act (go to) h = let parts = and_parts _ _ h in (refl, leb-true lo to parts.0, leb-true to hi parts.1)
-    laid_act nothing h = refl
-    laid_act stop h = refl
-    laid_act (open_files os) h = refl
-    laid_act (close_files fs) h = refl
-    laid_act (read f into x fine) h = let parts = and_parts (phrase_fits known lo hi x) (stmts_fit known lo hi fine)
-        h in (refl, refl, laid_phrase x parts.0, laid_list fine parts.1)
-    laid_act (write r from) h = refl
-    laid_act (show xs) h = refl
+    laid_act (if_ t held other) own h =
+        let parts = two (list_statements held) (list_statements other) h in
+        (refl, laid_list held parts.0, laid_list other parts.1)
+    laid_act (evaluate ws other) own h =
+        let parts = two (whens_statements ws) (list_statements other) h in
+        (laid_whens ws parts.0, laid_list other parts.1)
+    laid_act (perform body turns) own h = (refl, laid_body body own h)
+    laid_act (go to) own h = let parts = and_parts _ _ own in (refl, leb-true lo to parts.0, leb-true to hi parts.1)
+    laid_act nothing own h = refl
+    laid_act stop own h = refl
+    laid_act (open_files os) own h = refl
+    laid_act (close_files fs) own h = refl
+    laid_act (read f into x fine) own h =
+        let parts = two (phrase_statements x) (list_statements fine) h in
+        (refl, refl, laid_phrase x parts.0, laid_list fine parts.1)
+    laid_act (write r from) own h = refl
+    laid_act (show xs) own h = refl
 
-    pub laid_whens : (ws : Whens) → whens_fit known lo hi ws ≡ true → AreLaidWhens p lo hi ws (lay_whens p copies ws)
+    laid_whens : (ws : Whens) → AllFit (whens_statements ws) → AreLaidWhens p lo hi ws (lay_whens p copies ws)
     laid_whens no_whens h = tt
-    laid_whens (more_whens (MkWhen ts ss) ws) h = let parts =
-        and_parts (stmts_fit known lo hi ss) (whens_fit known lo hi ws) h in
+    laid_whens (more_whens (MkWhen ts ss) ws) h =
+        let parts = two (list_statements ss) (whens_statements ws) h in
         (refl, laid_list ss parts.0, laid_whens ws parts.1)
 
-    pub laid_body : (b : Body) → body_fits known lo hi b ≡ true → IsLaidBody p lo hi b (lay_body p copies b)
-    laid_body (range first last) h = (refl, are first last h)
-    laid_body (inline ss) h = laid_list ss h
+    laid_body : (b : Body) → body_fits known lo hi b ≡ true → AllFit (body_statements b) →
+        IsLaidBody p lo hi b (lay_body p copies b)
+    laid_body (range first last) own h = (refl, are first last own)
+    laid_body (inline ss) own h = laid_list ss h
 
   pub laid_paras : (n from : ℕ) → range_fits known lo hi p from n ≡ true →
       AreLaidParas p lo hi from n (lay_paras p copies from n)
   laid_paras zero from h = tt
   laid_paras (suc n) from h =
-      let parts = and_parts (stmts_fit known lo hi (body_at p from)) (range_fits known lo hi p (suc from) n) h in
+      let parts = and_parts (all_fit known lo hi (list_statements (body_at p from))) (range_fits known lo hi p (suc from) n) h in
       (laid_list (body_at p from) parts.0, laid_paras n (suc from) parts.1)
 
 -- ---- tables

@@ -7,8 +7,7 @@ use Rattle.cob_program.specs.declared.act.Act.TheViews.{out-When}
 use Rattle.cob_program.specs.declared.act.Act.TheFolds.{fold_out-When}
 use Rattle.cob_program.specs.declared.logic.Logic as declared_logic
 use Rattle.cob_program.specs.LogicView.{plain_logic}
-use Rattle.cob_program.specs.ActView.{plain_when}
-use Rattle.cob_graph_build.specs.Views.{plain_stmts}
+use Rattle.cob_program.specs.ActView.{plain_when, plain_stmts}
 use Rattle.cob_program.specs.Logic.{Logic, logics_of}
 use Rattle.cob_program.specs.Act.{Program, Stmts, When, MkWhen, Whens, more_whens}
 use Rattle.cob_graph.specs.Laid.{LaidParas, tests_among, list_size}

@@ -15,7 +15,7 @@ pub record Seen : Type 0 where
   pub nodes : List Node
   pub edges : List Edge
 
--- with these nodes behind
+-- A graph with these nodes behind its own.
 abbrev pub grown : Seen → List Noded → Seen
 grown s ns = record { nodes = s.nodes ++ map as_node ns; edges = s.edges ++ edges_of (suc (length s.nodes)) ns }
 

@@ -1,5 +1,3 @@
-pub mod Views
-pub mod Steps
 pub mod Sizes
 pub mod Tables
 pub mod Growing

@@ -4,6 +4,7 @@ use Rattle.std.specs.Prelude.{ℕ, zero, suc, ◌+◌, ◌-◌, ◌==◌, ◌&&�
 use Rattle.std.specs.Option.{option_map_or}
 use Rattle.cob_program.specs.Logic.{logics_of}
 use Rattle.cob_program.specs.Act.{Stmt, MkStmt, Stmts, no_stmts, more_stmts, Phrase, left_out, given, Act, arith, if_, evaluate, perform, go, open_files, close_files, read, write, Whens, no_whens, more_whens, When, MkWhen, Body, range, inline, Program}
+use Rattle.cob_program.specs.Statements.{list_statements}
 use Rattle.cob_runs.specs.Steps.{body_at}
 use Rattle.cob_graph.specs.Laid.{tests_in, tests_among, one_if, how_many, loop_nodes}
 
@@ -42,44 +43,30 @@ module _ (of_range : ℕ → ℕ → ℕ) where
     stmt_body_size (range first last) = of_range first last
     stmt_body_size (inline ss) = stmts_size ss
 
-  -- so many paragraphs from one on
+  -- The paragraphs from one on, so many.
   abbrev pub range_size : Program → ℕ → ℕ → ℕ
   range_size p from zero = 0
   range_size p from (suc n) = stmts_size (body_at p from) + range_size p (suc from) n
 
 module _ (is_known : ℕ → ℕ → Bool) (lo hi : ℕ) where
-  abbrev mutual
-    pub stmt_fits : Stmt → Bool
-    stmt_fits (MkStmt number line a) = act_fits a
+  -- A statement's own range, without the statements of its lists.
+  abbrev pub body_fits : Body → Bool
+  body_fits (range first last) = is_known first last
+  body_fits (inline ss) = true
 
-    pub stmts_fit : Stmts → Bool
-    stmts_fit no_stmts = true
-    stmts_fit (more_stmts s ss) = stmt_fits s && stmts_fit ss
+  abbrev pub act_fits : Act → Bool
+  act_fits (perform body turns) = body_fits body
+  act_fits (go to) = nat_le lo to && nat_le to hi
+  act_fits _ = true
 
-    pub phrase_fits : Phrase → Bool
-    phrase_fits left_out = true
-    phrase_fits (given ss) = stmts_fit ss
+  abbrev pub stmt_fits : Stmt → Bool
+  stmt_fits (MkStmt number line a) = act_fits a
 
-    pub act_fits : Act → Bool
-    act_fits (arith s targets remainder size fine) = phrase_fits size && stmts_fit fine
-    act_fits (if_ t held other) = stmts_fit held && stmts_fit other
-    act_fits (evaluate ws other) = whens_fit ws && stmts_fit other
-    act_fits (perform body turns) = body_fits body
-    act_fits (go to) = nat_le lo to && nat_le to hi
-    act_fits (read f into end fine) = phrase_fits end && stmts_fit fine
-    act_fits _ = true
+  abbrev pub all_fit : List Stmt → Bool
+  all_fit [] = true
+  all_fit (s ∷ ss) = stmt_fits s && all_fit ss
 
-    pub when_fits : When → Bool
-    when_fits (MkWhen ts ss) = stmts_fit ss
-
-    pub whens_fit : Whens → Bool
-    whens_fit no_whens = true
-    whens_fit (more_whens w ws) = when_fits w && whens_fit ws
-
-    pub body_fits : Body → Bool
-    body_fits (range first last) = is_known first last
-    body_fits (inline ss) = stmts_fit ss
-
+  -- The paragraphs from one on, so many.
   abbrev pub range_fits : Program → ℕ → ℕ → Bool
   range_fits p from zero = true
-  range_fits p from (suc n) = stmts_fit (body_at p from) && range_fits p (suc from) n
+  range_fits p from (suc n) = all_fit (list_statements (body_at p from)) && range_fits p (suc from) n

@@ -47,7 +47,7 @@ module _ (p : Program) (copies : ℕ → ℕ → LaidParas) where
     lay_body (range first last) = copy first (copies first last)
     lay_body (inline ss) = own_list (lay_list ss)
 
-  -- so many paragraphs from one on
+  -- The paragraphs from one on, so many, laid.
   abbrev pub lay_paras : ℕ → ℕ → LaidParas
   lay_paras from zero = no_laid_paras
   lay_paras from (suc n) = more_laid_paras (lay_list (body_at p from)) (lay_paras (suc from) n)

@@ -1,13 +1,12 @@
 //! The cells that the analysis speaks of: items, and counters of PERFORM with TIMES.
 ghost use Rattle.std.specs.Prelude.{◌≡◌, ◌+◌, ◌++◌, ◌∷◌, [], OnOk, IfOk};
 ghost use Rattle.cob_tree.specs.declared.form.Form.TheVariants as form;
-ghost use Rattle.cob_program.specs.ActView.{plain_act, plain_body, plain_stmt, plain_when, plain_turns, plain_program};
-ghost use Rattle.cob_graph_build.specs.Views.{plain_stmts, plain_whens, plain_paras};
-ghost use Rattle.cob_graph_build.specs.Steps.{stmt_counters, when_counters};
-ghost use Rattle.cob_graph.specs.Graphs.{cell, cell_of, if_named, item_cells, counters_of, counters, counters_in, whens_counters, body_counters, para_counters, cells_of};
+ghost use Rattle.cob_program.specs.ActView.{plain_act, plain_stmt, plain_turns, plain_program};
+ghost use Rattle.cob_program.specs.Statements.{plain_references};
+ghost use Rattle.cob_graph.specs.Graphs.{cell, cell_of, if_named, item_cells, counters_of, act_counters, stmt_counters, counters, cells_of};
 
 use cob_data::Item;
-use cob_program::{Act, Body, Para, Program, Stmt, Turns, When};
+use cob_program::{Act, Program, Stmt, Turns};
 use cob_runs::Cell;
 use cob_tree::Form;
 use std::alloc::{AllocError, Global};
@@ -108,102 +107,26 @@ fn add_turns(cells: &mut Vec<Cell>, turns: &Turns) -> Result<(), AllocError>
     }
 }
 
-#[cycle(counters)]
-fn add_stmts(cells: &mut Vec<Cell>, list: &[Stmt]) -> Result<(), AllocError>
-    ensures { OnOk result (cells.new.items ≡ cells.old.items ++ counters (plain_stmts list.now)) }
+fn add_act(cells: &mut Vec<Cell>, act: &Act) -> Result<(), AllocError>
+    ensures { OnOk result (cells.new.items ≡ cells.old.items ++ act_counters (plain_act act.now)) }
 {
-    for stmt in list {
-        add_stmt(cells, stmt)?;
+    match act {
+        Act::Perform { turns, .. } => add_turns(cells, turns),
+        _ => Ok(()),
     }
-    Ok(())
 }
 
-#[cycle(counters)]
 fn add_stmt(cells: &mut Vec<Cell>, stmt: &Stmt) -> Result<(), AllocError>
     ensures { OnOk result (cells.new.items ≡ cells.old.items ++ stmt_counters (plain_stmt stmt.now)) }
 {
     add_act(cells, &stmt.act)
 }
 
-#[cycle(counters)]
-fn add_act(cells: &mut Vec<Cell>, act: &Act) -> Result<(), AllocError>
-    ensures { OnOk result (cells.new.items ≡ cells.old.items ++ counters_in (plain_act act.now)) }
+fn add_counters(cells: &mut Vec<Cell>, statements: &[&Stmt]) -> Result<(), AllocError>
+    ensures { OnOk result (cells.new.items ≡ cells.old.items ++ counters (plain_references statements.now)) }
 {
-    match act {
-        Act::Arith {
-            size: None,
-            fine,
-            ..
-        } => add_stmts(cells, fine),
-        Act::Arith {
-            size: Some(list),
-            fine,
-            ..
-        } => {
-            add_stmts(cells, list)?;
-            add_stmts(cells, fine)
-        }
-        Act::If { yes, no, .. } => {
-            add_stmts(cells, yes)?;
-            add_stmts(cells, no)
-        }
-        Act::Evaluate { whens, other } => {
-            add_whens(cells, whens)?;
-            add_stmts(cells, other)
-        }
-        Act::Perform { body, turns } => {
-            add_turns(cells, turns)?;
-            add_body(cells, body)
-        }
-        Act::Read {
-            end: None,
-            fine,
-            ..
-        } => add_stmts(cells, fine),
-        Act::Read {
-            end: Some(list),
-            fine,
-            ..
-        } => {
-            add_stmts(cells, list)?;
-            add_stmts(cells, fine)
-        }
-        _ => Ok(()),
-    }
-}
-
-#[cycle(counters)]
-fn add_whens(cells: &mut Vec<Cell>, whens: &[When]) -> Result<(), AllocError>
-    ensures { OnOk result (cells.new.items ≡ cells.old.items ++ whens_counters (plain_whens whens.now)) }
-{
-    for when in whens {
-        add_when(cells, when)?;
-    }
-    Ok(())
-}
-
-#[cycle(counters)]
-fn add_when(cells: &mut Vec<Cell>, when: &When) -> Result<(), AllocError>
-    ensures { OnOk result (cells.new.items ≡ cells.old.items ++ when_counters (plain_when when.now)) }
-{
-    add_stmts(cells, &when.body)
-}
-
-#[cycle(counters)]
-fn add_body(cells: &mut Vec<Cell>, body: &Body) -> Result<(), AllocError>
-    ensures { OnOk result (cells.new.items ≡ cells.old.items ++ body_counters (plain_body body.now)) }
-{
-    match body {
-        Body::Range { .. } => Ok(()),
-        Body::Inline(list) => add_stmts(cells, list),
-    }
-}
-
-fn add_paras(cells: &mut Vec<Cell>, paras: &[Para]) -> Result<(), AllocError>
-    ensures { OnOk result (cells.new.items ≡ cells.old.items ++ para_counters (plain_paras paras.now)) }
-{
-    for para in paras {
-        add_stmts(cells, para.body.get())?;
+    for statement in statements {
+        add_stmt(cells, statement)?;
     }
     Ok(())
 }
@@ -214,6 +137,7 @@ pub fn cells_of(alloc: Global, program: &Program) -> Result<Vec<Cell>, AllocErro
 {
     let mut cells = Vec::new(alloc);
     add_items(&mut cells, program.layout.items.get())?;
-    add_paras(&mut cells, program.paras.get())?;
+    let statements = program.statements(alloc)?;
+    add_counters(&mut cells, &statements)?;
     Ok(cells)
 }

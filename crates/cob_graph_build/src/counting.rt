@@ -1,13 +1,13 @@
 //! How many nodes the statements of a program have. A table tells the number for each performed range, in the order
 //! in which they are known, so that nested copies take no more work than what performs them.
 ghost use Rattle.std.specs.Prelude.{◌≡◌, ◌+◌, ◌-◌, min, IfOk, OnOk};
-ghost use Rattle.cob_program.specs.ActView.{plain_act, plain_body, plain_stmt, plain_when, plain_turns, plain_program};
-ghost use Rattle.cob_program.specs.LogicView.{plain_logic};
+ghost use Rattle.cob_program.specs.ActView.{plain_act, plain_body, plain_stmt, plain_when, plain_turns, plain_program, plain_stmts, plain_whens};
+ghost use Rattle.cob_program.specs.LogicView.{plain_logic, plain_logics};
+ghost use Rattle.cob_program.specs.Statements.{list_statements, plain_references};
 ghost use Rattle.cob_runs.specs.Steps.{body_at};
-ghost use Rattle.cob_graph_build.specs.Views.{plain_stmts, plain_whens, plain_logics};
 ghost use Rattle.cob_graph.specs.Laid.{tests_in, tests_among, loop_nodes, how_many, one_if};
 ghost use Rattle.cob_graph.specs.Graphs.{most_told};
-ghost use Rattle.cob_graph_build.specs.Sizes.{stmts_size, stmt_size, stmt_act_size, when_size, stmt_whens_size, stmt_body_size, range_size, stmts_fit, stmt_fits, act_fits, when_fits, whens_fit, body_fits, range_fits};
+ghost use Rattle.cob_graph_build.specs.Sizes.{stmts_size, stmt_size, stmt_act_size, when_size, stmt_whens_size, stmt_body_size, range_size, stmt_fits, act_fits, body_fits, all_fit, range_fits};
 ghost use Rattle.cob_graph_build.specs.Tables.{is_for, told_size, size_in, is_in, IsTable};
 
 use cob_program::{Act, Body, Logic, Para, Program, Stmt, Turns, When};
@@ -23,6 +23,9 @@ pub struct Entry {
 
 /// A greater count is told as this.
 pub const MOST_TOLD: u64 = 1_000_000_000;
+
+/// More steps than it takes to put the ranges of any program in the table.
+const MOST_STEPS: u64 = 1_000_000_000_000;
 
 pub fn plus(one: u64, two: u64) -> u64
     ensures { result ≡ min (one + two) most_told }
@@ -229,169 +232,166 @@ pub fn range_size(program: &Program, table: &[Entry], from: u32, end: u32) -> u6
 
 // ---- what a copy needs
 
-/// Whether each performed range is in the table, and each GO TO goes to a paragraph from `lo` to `hi`.
-#[cycle(fits)]
-fn stmts_fit(table: &[Entry], lo: u32, hi: u32, list: &[Stmt]) -> bool
-    ensures { result ≡ stmts_fit (is_in table.now) lo hi (plain_stmts list.now) }
+fn body_fits(table: &[Entry], lo: u32, hi: u32, body: &Body) -> bool
+    ensures { result ≡ body_fits (is_in table.now) lo hi (plain_body body.now) }
 {
-    for stmt in list {
-        if !stmt_fits(table, lo, hi, stmt) {
-            return false;
-        }
+    match body {
+        Body::Range { first, last } => is_in(table, *first, *last),
+        Body::Inline(_) => true,
     }
-    true
 }
 
-#[cycle(fits)]
+fn act_fits(table: &[Entry], lo: u32, hi: u32, act: &Act) -> bool
+    ensures { result ≡ act_fits (is_in table.now) lo hi (plain_act act.now) }
+{
+    match act {
+        Act::Perform { body, .. } => body_fits(table, lo, hi, body),
+        Act::Go(to) => lo <= *to && *to <= hi,
+        _ => true,
+    }
+}
+
 fn stmt_fits(table: &[Entry], lo: u32, hi: u32, stmt: &Stmt) -> bool
     ensures { result ≡ stmt_fits (is_in table.now) lo hi (plain_stmt stmt.now) }
 {
     act_fits(table, lo, hi, &stmt.act)
 }
 
-#[cycle(fits)]
-fn act_fits(table: &[Entry], lo: u32, hi: u32, act: &Act) -> bool
-    ensures { result ≡ act_fits (is_in table.now) lo hi (plain_act act.now) }
+/// Whether each performed range is in the table, and each GO TO goes to a paragraph from `lo` to `hi`.
+fn all_fit(table: &[Entry], lo: u32, hi: u32, statements: &[&Stmt]) -> bool
+    ensures { result ≡ all_fit (is_in table.now) lo hi (plain_references statements.now) }
 {
-    match act {
-        Act::Arith {
-            size: Some(list),
-            fine,
-            ..
-        } => stmts_fit(table, lo, hi, list) && stmts_fit(table, lo, hi, fine),
-        Act::Arith {
-            size: None,
-            fine,
-            ..
-        } => stmts_fit(table, lo, hi, fine),
-        Act::If { yes, no, .. } => { stmts_fit(table, lo, hi, yes) && stmts_fit(table, lo, hi, no) }
-        Act::Evaluate { whens, other } => {
-            whens_fit(table, lo, hi, whens) && stmts_fit(table, lo, hi, other)
-        }
-        Act::Perform { body, .. } => body_fits(table, lo, hi, body),
-        Act::Go(to) => lo <= *to && *to <= hi,
-        Act::Read {
-            end: Some(list),
-            fine,
-            ..
-        } => stmts_fit(table, lo, hi, list) && stmts_fit(table, lo, hi, fine),
-        Act::Read {
-            end: None,
-            fine,
-            ..
-        } => stmts_fit(table, lo, hi, fine),
-        _ => true,
-    }
-}
-
-#[cycle(fits)]
-fn whens_fit(table: &[Entry], lo: u32, hi: u32, whens: &[When]) -> bool
-    ensures { result ≡ whens_fit (is_in table.now) lo hi (plain_whens whens.now) }
-{
-    for when in whens {
-        if !when_fits(table, lo, hi, when) {
+    for statement in statements {
+        if !stmt_fits(table, lo, hi, statement) {
             return false;
         }
     }
     true
 }
 
-#[cycle(fits)]
-fn when_fits(table: &[Entry], lo: u32, hi: u32, when: &When) -> bool
-    ensures { result ≡ when_fits (is_in table.now) lo hi (plain_when when.now) }
+fn para_fits(
+    alloc: Global,
+    program: &Program,
+    table: &[Entry],
+    lo: u32,
+    hi: u32,
+    place: u32,
+) -> Result<bool, AllocError>
+    ensures { IfOk result (λ fits. fits
+        ≡ all_fit (is_in table.now) lo hi (list_statements (body_at (plain_program program.now) place))) }
 {
-    stmts_fit(table, lo, hi, &when.body)
-}
-
-#[cycle(fits)]
-fn body_fits(table: &[Entry], lo: u32, hi: u32, body: &Body) -> bool
-    ensures { result ≡ body_fits (is_in table.now) lo hi (plain_body body.now) }
-{
-    match body {
-        Body::Range { first, last } => is_in(table, *first, *last),
-        Body::Inline(list) => stmts_fit(table, lo, hi, list),
+    match program.paras.get().get(place as usize) {
+        None => Ok(true),
+        Some(para) => {
+            let statements = para.statements(alloc)?;
+            Ok(all_fit(table, lo, hi, &statements))
+        }
     }
 }
 
 /// Whether the paragraphs from one up to, but not including, another, make a copy whose GO TOs go from `lo` to `hi`.
-pub fn range_fits(program: &Program, table: &[Entry], lo: u32, hi: u32, from: u32, end: u32) -> bool
-    ensures { result ≡ range_fits (is_in table.now) lo hi (plain_program program.now) from (end - from) }
+pub fn range_fits(
+    alloc: Global,
+    program: &Program,
+    table: &[Entry],
+    lo: u32,
+    hi: u32,
+    from: u32,
+    end: u32,
+) -> Result<bool, AllocError>
+    ensures { IfOk result (λ fits. fits
+        ≡ range_fits (is_in table.now) lo hi (plain_program program.now) from (end - from)) }
 {
     for place in from..end {
-        if !stmts_fit(table, lo, hi, body_at(program, place)) {
-            return false;
+        let fits = para_fits(alloc, program, table, lo, hi, place)?;
+        if !fits {
+            return Ok(false);
         }
     }
-    true
+    Ok(true)
 }
 
 // ---- making the table
 
-/// Adds the range from a paragraph up to, but not including, another, where all that it performs is in the table.
+/// Adds the range from a paragraph up to, but not including, another, where all that it performs is in the table, and
+/// tells whether it is.
 fn add_range(
+    alloc: Global,
     program: &Program,
     table: &mut Vec<Entry>,
     first: u32,
     last: u32,
     end: u32,
-) -> Result<(), AllocError>
+) -> Result<bool, AllocError>
     requires { end ≡ last + 1 }
     ensures { OnOk result (IsTable (plain_program program.now) table.old.items →
         IsTable (plain_program program.now) table.new.items) }
 {
-    if !range_fits(program, table, first, last, first, end) {
-        return Ok(());
+    if !range_fits(alloc, program, table, first, last, first, end)? {
+        return Ok(false);
     }
     let size = range_size(program, table, first, end);
     table.insert(0, Entry { first, last, size })?;
-    Ok(())
+    Ok(true)
 }
 
-/// Adds the range if it isn't there.
-fn add_new(
-    program: &Program,
-    table: &mut Vec<Entry>,
+/// A range that a PERFORM names, and whether it is taken for the last time, behind what it performs.
+#[derive(Drop)]
+struct Range {
     first: u32,
     last: u32,
+    is_last: bool,
+}
+
+/// Adds the range if it isn't there. Where it performs what isn't there yet it is left for later, under that.
+fn take(
+    alloc: Global,
+    program: &Program,
+    table: &mut Vec<Entry>,
+    open: &mut Vec<Range>,
+    range: Range,
 ) -> Result<(), AllocError>
     ensures { OnOk result (IsTable (plain_program program.now) table.old.items →
         IsTable (plain_program program.now) table.new.items) }
 {
+    let Range {
+        first,
+        last,
+        is_last,
+    } = range;
     if is_in(table, first, last) {
         return Ok(());
     }
     match last.checked_add(1) {
         None => Ok(()),
-        Some(end) => add_range(program, table, first, last, end),
+        Some(end) => {
+            if add_range(alloc, program, table, first, last, end)? || is_last {
+                return Ok(());
+            }
+            open.push(Range {
+                first,
+                last,
+                is_last: true,
+            })?;
+            ranges_between(alloc, open, program, first, end)
+        }
     }
 }
 
-/// A range that a PERFORM names.
-#[derive(Drop)]
-struct Range {
-    first: u32,
-    last: u32,
-}
-
-fn add_once(program: &Program, table: &mut Vec<Entry>, ranges: &[Range]) -> Result<(), AllocError>
+/// Adds the ranges that are left, from the last one on, until none is. PERFORMs nest, so that there is an end to it.
+fn add_all(
+    alloc: Global,
+    program: &Program,
+    table: &mut Vec<Entry>,
+    open: &mut Vec<Range>,
+) -> Result<(), AllocError>
     ensures { OnOk result (IsTable (plain_program program.now) table.old.items →
         IsTable (plain_program program.now) table.new.items) }
 {
-    for range in ranges {
-        add_new(program, table, range.first, range.last)?;
-    }
-    Ok(())
-}
-
-fn add_all(program: &Program, table: &mut Vec<Entry>, ranges: &[Range]) -> Result<(), AllocError>
-    ensures { OnOk result (IsTable (plain_program program.now) table.old.items →
-        IsTable (plain_program program.now) table.new.items) }
-{
-    for _ in 0..ranges.len() {
-        let before = table.len();
-        add_once(program, table, ranges)?;
-        if table.len() == before {
-            return Ok(());
+    for _ in 0..MOST_STEPS {
+        match open.pop() {
+            None => return Ok(()),
+            Some(range) => take(alloc, program, table, open, range)?,
         }
     }
     Ok(())
@@ -399,73 +399,45 @@ fn add_all(program: &Program, table: &mut Vec<Entry>, ranges: &[Range]) -> Resul
 
 // ---- which ranges are performed
 
-#[cycle(ranges)]
-fn ranges_in(ranges: &mut Vec<Range>, list: &[Stmt]) -> Result<(), AllocError> {
-    for stmt in list {
-        ranges_of(ranges, &stmt.act)?;
+/// Adds the ranges that the statements of a paragraph perform.
+fn ranges_of(alloc: Global, ranges: &mut Vec<Range>, para: &Para) -> Result<(), AllocError> {
+    for statement in para.statements(alloc)?.iter() {
+        if let Act::Perform {
+            body: Body::Range { first, last },
+            ..
+        } = &statement.act
+        {
+            ranges.push(Range {
+                first: *first,
+                last: *last,
+                is_last: false,
+            })?;
+        }
     }
     Ok(())
 }
 
-#[cycle(ranges)]
-fn ranges_of(ranges: &mut Vec<Range>, act: &Act) -> Result<(), AllocError> {
-    match act {
-        Act::Arith {
-            size: None,
-            fine,
-            ..
+/// Those of the paragraphs from one up to, but not including, another.
+fn ranges_between(
+    alloc: Global,
+    ranges: &mut Vec<Range>,
+    program: &Program,
+    from: u32,
+    end: u32,
+) -> Result<(), AllocError> {
+    for place in from..end {
+        if let Some(para) = program.paras.get().get(place as usize) {
+            ranges_of(alloc, ranges, para)?;
         }
-        | Act::Read {
-            end: None,
-            fine,
-            ..
-        } => ranges_in(ranges, fine),
-        Act::Arith {
-            size: Some(list),
-            fine,
-            ..
-        }
-        | Act::Read {
-            end: Some(list),
-            fine,
-            ..
-        } => {
-            ranges_in(ranges, list)?;
-            ranges_in(ranges, fine)
-        }
-        Act::If { yes, no, .. } => {
-            ranges_in(ranges, yes)?;
-            ranges_in(ranges, no)
-        }
-        Act::Evaluate { whens, other } => {
-            for when in whens {
-                ranges_in(ranges, &when.body)?;
-            }
-            ranges_in(ranges, other)
-        }
-        Act::Perform {
-            body: Body::Range { first, last },
-            ..
-        } => {
-            ranges.push(Range {
-                first: *first,
-                last: *last,
-            })?;
-            Ok(())
-        }
-        Act::Perform {
-            body: Body::Inline(list),
-            ..
-        } => ranges_in(ranges, list),
-        _ => Ok(()),
     }
+    Ok(())
 }
 
-/// The performed ranges, those in later paragraphs first, since they tend to be performed by earlier ones.
+/// Those of all paragraphs.
 fn performed(alloc: Global, paras: &[Para]) -> Result<Vec<Range>, AllocError> {
     let mut ranges = Vec::new(alloc);
-    for para in paras.iter().rev() {
-        ranges_in(&mut ranges, para.body.get())?;
+    for para in paras {
+        ranges_of(alloc, &mut ranges, para)?;
     }
     Ok(ranges)
 }
@@ -474,8 +446,8 @@ fn performed(alloc: Global, paras: &[Para]) -> Result<Vec<Range>, AllocError> {
 pub fn table_of(alloc: Global, program: &Program) -> Result<Vec<Entry>, AllocError>
     ensures { IfOk result (λ table. IsTable (plain_program program.now) table.items) }
 {
-    let ranges = performed(alloc, program.paras.get())?;
+    let mut open = performed(alloc, program.paras.get())?;
     let mut table = Vec::new(alloc);
-    add_all(program, &mut table, &ranges)?;
+    add_all(alloc, program, &mut table, &mut open)?;
     Ok(table)
 }

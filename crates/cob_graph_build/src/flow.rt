@@ -116,10 +116,9 @@ fn laid(alloc: Global, program: &Program, cells: Vec<Cell>, paras: u32) -> Resul
     let Ok(table) = table_of(alloc, program) else {
         return Err(FlowEnd::Memory);
     };
-    if range_fits(program, &table, 0, paras.saturating_sub(1), 0, paras) {
-        graph_with(alloc, program, cells, &table, paras)
-    } else {
-        Err(FlowEnd::Memory)
+    match range_fits(alloc, program, &table, 0, paras.saturating_sub(1), 0, paras) {
+        Ok(true) => graph_with(alloc, program, cells, &table, paras),
+        _ => Err(FlowEnd::Memory),
     }
 }
 

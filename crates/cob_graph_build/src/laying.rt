@@ -1,7 +1,6 @@
 //! The nodes of a program and the edges that leave them, laid one behind another.
 ghost use Rattle.std.specs.Prelude.{◌≡◌, ◌+◌, ◌∷◌, ◌++◌, [], suc, OnOk, IfOk};
-ghost use Rattle.cob_program.specs.LogicView.{plain_logic, plain_test};
-ghost use Rattle.cob_graph_build.specs.Views.{plain_logics};
+ghost use Rattle.cob_program.specs.LogicView.{plain_logic, plain_test, plain_logics};
 ghost use Rattle.cob_graph.specs.Nodes.{node, test_edges, logic_nodes, all_nodes, any_nodes};
 ghost use Rattle.cob_graph.specs.Graphs.{edges_from, final_node};
 ghost use Rattle.cob_graph_build.specs.Growing.{grown, copied_of};

@@ -1,13 +1,12 @@
 //! Where control goes: the first node of what follows, by the number at which it begins and what follows that.
 ghost use Rattle.std.specs.Prelude.{◌≡◌, ◌+◌, ◌-◌, ℕ, IfOk};
 ghost use Rattle.cob_program.specs.Act as act;
-ghost use Rattle.cob_program.specs.ActView.{plain_stmt, plain_program, plain_body, plain_turns};
-ghost use Rattle.cob_program.specs.LogicView.{plain_logic};
+ghost use Rattle.cob_program.specs.ActView.{plain_stmt, plain_program, plain_body, plain_turns, plain_stmts, plain_phrase, plain_whens};
+ghost use Rattle.cob_program.specs.LogicView.{plain_logic, plain_logics};
 ghost use Rattle.cob_runs.specs.Acts.{has_status};
-ghost use Rattle.cob_graph_build.specs.Views.{plain_stmts, plain_phrase, plain_whens, plain_logics};
 ghost use Rattle.cob_graph.specs.Laid.{LaidParas, LaidBody, list_size, size, phrase_size, whens_size, body_size, tests_in, tests_among};
 ghost use Rattle.cob_graph.specs.Places.{first_of_list, first_of_paras, first_of_para, first_of_body, first_of_logic, first_of_all, first_of_any, first_of_whens, body_at, tests_at, augment_at, body_next};
-ghost use Rattle.cob_graph.specs.Nodes.{bad_to, end_to};
+ghost use Rattle.cob_graph.specs.Nodes.{Copied, bad_to, end_to, list_nodes};
 ghost use Rattle.cob_graph_build.specs.Tables.{lay_stmt, lay_list, lay_phrase, lay_whens, lay_body, lay_paras};
 ghost use Rattle.cob_graph_build.specs.Growing.{plan, copies_of, copied_of};
 
@@ -192,6 +191,20 @@ pub fn first_of_range(program: &Program, from: u32, end: u32, at: u32, next: u32
         }
     }
     next
+}
+
+/// Where the statements of a paragraph go on: at the first node of the paragraphs behind it, which begin at another
+/// number. Where there are no statements nothing goes on, and no node is looked for.
+pub fn node_behind(within: &Within, list: &[Stmt], from: u32, at: u32) -> u32
+    ensures { (c : Copied) (copies : ℕ → ℕ → LaidParas) (begin : ℕ) →
+        list_nodes c (lay_list (plan within.now) copies (plain_stmts list.now)) begin result
+        ≡ list_nodes c (lay_list (plan within.now) copies (plain_stmts list.now)) begin (first_of_paras
+        (lay_paras (plan within.now) copies from (within.now.end - from)) at within.now.next) }
+{
+    if list.is_empty() {
+        return at;
+    }
+    first_of_range(within.program, from, within.end, at, within.next)
 }
 
 // ---- conditions

@@ -1,9 +1,8 @@
 //! The nodes of statements, with copies of what they perform.
 ghost use Rattle.std.specs.Prelude.{◌≡◌, ◌==◌, ◌-◌, ℕ, ◌∷◌, ◌++◌, [], true, is_some, OnOk, IfOk};
-ghost use Rattle.cob_program.specs.ActView.{plain_stmt, plain_act, plain_body, plain_turns};
+ghost use Rattle.cob_program.specs.ActView.{plain_stmt, plain_act, plain_body, plain_turns, plain_stmts, plain_phrase, plain_whens};
 ghost use Rattle.cob_program.specs.LogicView.{plain_logic};
 ghost use Rattle.cob_runs.specs.declared.action.Action.TheVariants as action;
-ghost use Rattle.cob_graph_build.specs.Views.{plain_stmts, plain_phrase, plain_whens};
 ghost use Rattle.cob_graph.specs.Laid.{LaidBody, computing, deciding, choosing, performing, reading, copy, one_if, body_size};
 ghost use Rattle.cob_graph.specs.Places.{first_of_list, first_of_body, body_at, body_next};
 ghost use Rattle.cob_graph.specs.Nodes.{node, size_edges, open_nodes, close_nodes, read_nodes, write_nodes, loop_before, loop_behind, nodes, list_nodes, phrase_nodes, whens_nodes, body_nodes, paras_nodes, act_nodes};
@@ -17,7 +16,7 @@ use crate::copies::{rest_in, sites_with};
 use crate::counting::{body_at, tests_among, tests_in};
 use crate::laying::{Fork, Laying};
 use crate::numbers::{exact, less, sum_of};
-use crate::places::{body_next, first_of_list, first_of_range, inner_at};
+use crate::places::{body_next, first_of_list, inner_at, node_behind};
 use crate::within::Within;
 use cob_data::Layout;
 use cob_program::{Act, Body, Logic, Opening, Stmt, Turns, When};
@@ -656,7 +655,7 @@ impl Laying {
             let list = body_at(within.program, place);
             let nodes = within.list_nodes(list)?;
             let behind = sum_of(at, nodes)?;
-            let to = first_of_range(within.program, place + 1, within.end, behind, within.next);
+            let to = node_behind(within, list, place + 1, behind);
             self.lay_list(within, list, at, to, left)?;
             at = behind;
         }

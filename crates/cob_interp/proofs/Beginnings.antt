@@ -12,7 +12,8 @@ use Rattle.cob_runs.specs.State.{World}
 use Rattle.cob_runs.specs.Effects.{act_at}
 use Rattle.cob_graph.specs.declared.graph.Node.{Node}
 use Rattle.cob_graph.specs.Laid.{one_if}
-use Rattle.cob_graph.specs.Walks.{node_at, passed}
+use Rattle.cob_graph.specs.Lookup.{node_at}
+use Rattle.cob_graph_laws.specs.Ways.{passed}
 use Rattle.cob_interp.specs.declared.setting.Setting.{Setting}
 use Rattle.cob_interp.specs.Told.{seen, seen_files, seen_file, AreSynced}
 use Rattle.cob_interp.specs.Ends.{is_cut, cut_file, cut_by, long_by}

@@ -10,7 +10,7 @@ use Rattle.cob_runs.specs.declared.action.Action.TheVariants as action
 use Rattle.cob_runs.specs.State.{World}
 use Rattle.cob_runs.specs.Acts.{is_fine, open_one, close_one}
 use Rattle.cob_runs.specs.Effects.{effect, effect_of, status, status_of, status_in, act_at, by_status, taken_if, opened, closed}
-use Rattle.cob_plan.specs.declared.spot.Op.TheVariants as op
+use Rattle.cob_plan.specs.declared.node.Op.TheVariants as op
 use Rattle.cob_plan.specs.Plan.{op_edges}
 use Rattle.cob_interp.specs.Told.{seen, AgreeBut, KeepsNames}
 use Rattle.cob_interp.proofs.SeenFiles.{contains_at}

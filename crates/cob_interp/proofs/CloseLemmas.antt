@@ -4,8 +4,8 @@ use Rattle.std.specs.Prelude.{Contains, slice_get}
 use Rattle.batch_io.specs.Faults.{Rose}
 use Rattle.batch_io.specs.FilesState.{Contents, FilesState}
 use Rattle.batch_io.specs.SinkState.{SinkState}
-use Rattle.cob_plan.specs.declared.spot.Op.{Op}
-use Rattle.cob_plan.specs.declared.spot.Op.TheVariants as op
+use Rattle.cob_plan.specs.declared.node.Op.{Op}
+use Rattle.cob_plan.specs.declared.node.Op.TheVariants as op
 use Rattle.cob_plan.specs.declared.end.DoEnd.{DoEnd}
 use Rattle.cob_plan.specs.declared.end.DoEnd.TheVariants as does
 use Rattle.cob_plan.specs.Plan.{op_edges}
@@ -70,28 +70,28 @@ own_synced told paths fs place path f s at has =
 
 module _ (s : Setting) (budget : ℕ) (x : Place) (step node : ℕ) (sink : SinkState) (old new : FilesState) (w v : World)
     (apart : AreDistinct (paths_of s)) (is : IsPlace s node x) (k fine bad file : ℕ) (fs : List ℕ)
-    (op_is : x.spot.now.op ≡ op.Close k fine bad) (its : plain_act x.statement.now.act.now ≡ close_files fs)
+    (op_is : x.plan_node.now.op ≡ op.Close k fine bad) (its : plain_act x.statement.now.act.now ≡ close_files fs)
     (at : slice_get fs k ≡ Some file) (ready : ReadyToClose s w file old new) where
-  own : x.statement.now.number ≡ is.spot.node.statement
-  own = is.number ∙ is.spot.statement
+  own : x.statement.now.number ≡ is.plan_node.node.statement
+  own = is.number ∙ is.plan_node.statement
 
-  act_is : act_at (program_of s) is.spot.node.statement ≡ Some (close_files fs)
+  act_is : act_at (program_of s) is.plan_node.node.statement ≡ Some (close_files fs)
   act_is = subst (λ (n : ℕ). act_at (program_of s) n ≡ Some (close_files fs)) own (is.statement.its ∙ ap Some its)
 
   edge_follows : (first told now : Contents) (text : List ℕ) (left : ℕ) → AgreeBut told now ready.path
       → IsReadyToClose told now ready.path ready.file
       → StandsIn (program_of s) s.graph.now (paths_of s) first told text w left step node
-      → (a : Action) (m : ℕ) → Contains (op_edges x.spot.now.op) (a, m)
-      → EdgeFollows (program_of s) is.spot.node.statement told now (paths_of s) text w a
+      → (a : Action) (m : ℕ) → Contains (op_edges x.plan_node.now.op) (a, m)
+      → EdgeFollows (program_of s) is.plan_node.node.statement told now (paths_of s) text w a
   edge_follows first told now text left but it st a m out =
-      close_edge (program_of s) is.spot.node.statement told now (paths_of s) text w k fs file act_is at
+      close_edge (program_of s) is.plan_node.node.statement told now (paths_of s) text w k fs file act_is at
       (close_one_follows s.program.now.layout told now (paths_of s) text apart w st.synced file ready.is.decl ready.file
       ready.path but
       ready.is.path_ ready.is.declared ready.has it
       (own_synced told (paths_of s) w.files file ready.path ready.file st.synced ready.is.path_ ready.has))
       a m fine bad (subst (λ (o : Op). Contains (op_edges o) (a, m)) op_is out)
 
-  leads_by : (outcome : Result ℕ DoEnd) → Does (program_of s) x.statement.now.number x.spot.now.op w v outcome
+  leads_by : (outcome : Result ℕ DoEnd) → Does (program_of s) x.statement.now.number x.plan_node.now.op w v outcome
       → Leads s budget step node (outside old sink) (outside new sink) w v
       (answered x.statement.now.number step outcome)
   leads_by (Ok to) done start within u =
@@ -102,10 +102,10 @@ module _ (s : Setting) (budget : ℕ) (x : Place) (step node : ℕ) (sink : Sink
       let on = goes_where now (paths_of s) text _ _ v follows.effect_
       (subst (λ (n : ℕ). effect (program_of s) n None w done.action ≡ Ok (Some v)) own done.does) in
       subst (λ (n : ℕ). StandsIn (program_of s) s.graph.now (paths_of s) first now text v n step to)
-      (sym (u.counts is.spot.node is.spot.stands))
-      (goes_over (program_of s) s.graph.now (paths_of s) first told now text w v u.left step step node to is.spot.node
-      done.action st is.spot.stands
-      (is.spot.edges done.action to done.out) on.0
+      (sym (u.counts is.plan_node.node is.plan_node.stands))
+      (goes_over (program_of s) s.graph.now (paths_of s) first told now text w v u.left step step node to is.plan_node.node
+      done.action st is.plan_node.stands
+      (is.plan_node.edges done.action to done.out) on.0
       (subst (λ (n : ℕ). is_handled (program_of s) n done.action ≡ true) own done.goes_on) on.1
       (others_keep first told now (paths_of s) file ready.path ready.is.path_ but st.others) st.free))
       u.stands
@@ -126,9 +126,9 @@ module _ (s : Setting) (budget : ℕ) (x : Place) (step node : ℕ) (sink : Sink
       (subst (λ (n : ℕ). effect (program_of s) n None w done.action ≡ Ok (Some v)) own done.does) in
       subst (λ (n : ℕ). RestsIn (program_of s) s.graph.now (paths_of s) budget first now text v
       (Err (end.IoStop status_ n))) (sym own)
-      (stopped_by (program_of s) s.graph.now (paths_of s) first told now text w v u.left step node done.to is.spot.node
+      (stopped_by (program_of s) s.graph.now (paths_of s) first told now text w v u.left step node done.to is.plan_node.node
       done.action status_
-      step st is.spot.stands (u.counts is.spot.node is.spot.stands) (is.spot.edges done.action done.to done.out) on.0
+      step st is.plan_node.stands (u.counts is.plan_node.node is.plan_node.stands) (is.plan_node.edges done.action done.to done.out) on.0
       (follows.status_ ∙ subst (λ (n : ℕ). status (program_of s) n None w done.action ≡ Some status_) own done.gives)
       (subst (λ (n : ℕ). is_handled (program_of s) n done.action ≡ false) own done.stops) on.1
       (others_keep first told now (paths_of s) file ready.path ready.is.path_ but st.others) st.free budget within))

@@ -3,8 +3,8 @@ use Rattle.std.proofs.Common.{◌≡◌, ℕ, zero, suc, Bool, true, false, not,
 use Rattle.std.specs.Prelude.{Contains, slice_get, slice_set, IfOk}
 use Rattle.cob_data.specs.declared.layout.FileDecl.{FileDecl}
 use Rattle.cob_data.specs.declared.layout.Layout.{Layout}
-use Rattle.cob_plan.specs.declared.spot.Op.{Op}
-use Rattle.cob_plan.specs.declared.spot.Op.TheVariants as op
+use Rattle.cob_plan.specs.declared.node.Op.{Op}
+use Rattle.cob_plan.specs.declared.node.Op.TheVariants as op
 use Rattle.cob_plan.specs.declared.end.DoEnd.{DoEnd}
 use Rattle.cob_plan.specs.Plan.{op_edges}
 use Rattle.cob_plan.specs.Doing.{Does}
@@ -193,26 +193,26 @@ module _ (p : Program) (number k : ℕ) (w v : World) where
 
 module _ (s : Setting) (x : Place) (step : ℕ) (w v : World) where
   -- what each way on leaves holds where the node's part is done
-  where_done : (IsIt : Type 0) (o : Op) → x.spot.now.op ≡ o
+  where_done : (IsIt : Type 0) (o : Op) → x.plan_node.now.op ≡ o
       → ((a : Action) (m : ℕ) → Contains (op_edges o) (a, m)
       → effect (program_of s) x.statement.now.number None w a ≡ Ok (Some v) → IsIt)
       → (result : Result ℕ RunEnd) → DoesPart s x step w v result → IfOk result (λ _. IsIt)
   where_done IsIt o is each result d =
       subst (λ (r : Result ℕ RunEnd). IfOk r (λ _. IsIt)) (sym d.told) (by_outcome d.outcome d.does) where
-        by_outcome : (outcome : Result ℕ DoEnd) → Does (program_of s) x.statement.now.number x.spot.now.op w v outcome
+        by_outcome : (outcome : Result ℕ DoEnd) → Does (program_of s) x.statement.now.number x.plan_node.now.op w v outcome
             → IfOk (answered x.statement.now.number step outcome) (λ _. IsIt)
         by_outcome (Ok to) done =
             each done.action to (subst (λ (y : Op). Contains (op_edges y) (done.action, to)) is done.out) done.does
         by_outcome (Err e) done = tt
 
-  pub close_part : (fs : List ℕ) (k fine bad : ℕ) → x.spot.now.op ≡ op.Close k fine bad
+  pub close_part : (fs : List ℕ) (k fine bad : ℕ) → x.plan_node.now.op ≡ op.Close k fine bad
       → act_at (program_of s) x.statement.now.number ≡ Some (close_files fs)
       → (result : Result ℕ RunEnd) → DoesPart s x step w v result → IfOk result (λ _. ClosesOnly w v)
   close_part fs k fine bad is its result d =
       where_done (ClosesOnly w v) (op.Close k fine bad) is
       (close_edge_closes (program_of s) x.statement.now.number k w v fs its fine bad) result d
 
-  pub open_part : (os : List Opening) (k fine bad : ℕ) → x.spot.now.op ≡ op.Open k fine bad
+  pub open_part : (os : List Opening) (k fine bad : ℕ) → x.plan_node.now.op ≡ op.Open k fine bad
       → act_at (program_of s) x.statement.now.number ≡ Some (open_files os)
       → (result : Result ℕ RunEnd) → DoesPart s x step w v result → IfOk result (λ _. OpensOnly w v)
   open_part os k fine bad is its result d =

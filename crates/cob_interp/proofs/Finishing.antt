@@ -14,7 +14,7 @@ use Rattle.cob_runs.specs.State.{World}
 use Rattle.cob_runs.specs.Effects.{act_at}
 use Rattle.cob_graph.specs.declared.graph.Graph.{Graph}
 use Rattle.cob_graph.specs.declared.graph.Node.{Node}
-use Rattle.cob_graph.specs.Walks.{node_at, final_in}
+use Rattle.cob_graph.specs.Lookup.{node_at, final_in}
 use Rattle.cob_interp.specs.declared.ends.Ended.{Ended}
 use Rattle.cob_interp.specs.declared.ends.Ending.{Ending}
 use Rattle.cob_interp.specs.declared.ends.RunEnd.{RunEnd}
@@ -270,19 +270,19 @@ module _ (s : Setting) (budget steps node : ℕ) (x : Place) (starts : StartsAt 
     (start : Outside)
     (files : FilesState) (old new : SinkState) (w v : World)
     (here : IsAt (program_of s) s.graph.now (paths_of s) budget start (outside files old) w steps node) where
-  its_act : act_at (program_of s) starts.is.spot.node.statement ≡ Some (plain_act x.statement.now.act.now)
+  its_act : act_at (program_of s) starts.is.plan_node.node.statement ≡ Some (plain_act x.statement.now.act.now)
   its_act = subst (λ (n : ℕ). act_at (program_of s) n ≡ Some (plain_act x.statement.now.act.now))
-      (starts.is.number ∙ starts.is.spot.statement) starts.is.statement.its
+      (starts.is.number ∙ starts.is.plan_node.statement) starts.is.statement.its
 
-  its_start : starts.is.spot.node.starts ≡ true
-  its_start = sym starts.is.spot.starts ∙ starts.starts
+  its_start : starts.is.plan_node.node.starts ≡ true
+  its_start = sym starts.is.plan_node.starts ∙ starts.starts
 
   pub flush_refused : (step : ℕ) (e : MakeEnd) → Refuses old new w v e
       → GoesOn (program_of s) s.graph.now (paths_of s) budget start (outside files new) v step (Err (by_sink e))
   flush_refused step e refuses =
-      refused_before (program_of s) s.graph.now (paths_of s) budget start steps node starts.is.spot.node
+      refused_before (program_of s) s.graph.now (paths_of s) budget start steps node starts.is.plan_node.node
       (plain_act x.statement.now.act.now)
-      (omega (arith, within)) starts.is.spot.stands its_start its_act files old new w v step e refuses here
+      (omega (arith, within)) starts.is.plan_node.stands its_start its_act files old new w v step e refuses here
 
   pub step_taken : MayFlush old new w v → (behind : FilesState) (u : World) (step : ℕ) (r : Result ℕ RunEnd)
       → Touches (paths_of s) (makes_by (plain_act x.statement.now.act.now)) v files behind
@@ -292,9 +292,9 @@ module _ (s : Setting) (budget steps node : ℕ) (x : Place) (starts : StartsAt 
   step_taken may behind u step r touches takes =
       let stands = stands_shown (program_of s) s.graph.now
       (paths_of s) start files old new w v steps steps node may here.stands in
-      goes_by (program_of s) s.graph.now (paths_of s) budget start steps node starts.is.spot.node
+      goes_by (program_of s) s.graph.now (paths_of s) budget start steps node starts.is.plan_node.node
       (plain_act x.statement.now.act.now)
-      (omega (arith, within)) starts.is.spot.stands its_start its_act files behind new v u step r touches stands
+      (omega (arith, within)) starts.is.plan_node.stands its_start its_act files behind new v u step r touches stands
       (takes stands)
 
 -- the budget is spent
@@ -303,8 +303,8 @@ pub budget_spent : (s : Setting) (budget node : ℕ) (x : Place) → StartsAt s 
     → HaltsOff (program_of s) s.graph.now (paths_of s) budget start now w (Err (end.StepsSpent budget))
 budget_spent s budget node x starts start now w here =
     spends_here (program_of s) s.graph.now
-    (paths_of s) budget start now w budget node here starts.is.spot.node starts.is.spot.stands
-    (sym starts.is.spot.starts ∙ starts.starts) refl
+    (paths_of s) budget start now w budget node here starts.is.plan_node.node starts.is.plan_node.stands
+    (sym starts.is.plan_node.starts ∙ starts.starts) refl
 
 pub paths_count : (s : Setting) → length (paths_of s) ≤ length s.paths.now
 paths_count s = let e = length-map s.paths.now string_bytes in omega (arith, e)

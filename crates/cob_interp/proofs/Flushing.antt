@@ -10,7 +10,7 @@ use Rattle.cob_program.specs.Act.{Program}
 use Rattle.cob_runs.specs.State.{World}
 use Rattle.cob_world.specs.Becoming.{without_shown}
 use Rattle.cob_graph.specs.declared.graph.Graph.{Graph}
-use Rattle.cob_ways.specs.Telling.{Way}
+use Rattle.cob_graph_laws.specs.Told.{Way}
 use Rattle.cob_interp.specs.declared.ends.Ended.{Ended}
 use Rattle.cob_interp.specs.declared.ends.RunEnd.{RunEnd}
 use Rattle.cob_interp.specs.Ends.{told_files}

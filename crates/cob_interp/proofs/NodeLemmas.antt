@@ -20,20 +20,20 @@ use Rattle.cob_interp.proofs.Onward.{plain_goes, plain_faults, plain_stops}
 module _ (s : Setting) (budget : ℕ) (x : Place) (step node : ℕ) (now : Outside) (w v : World)
     (apart : AreDistinct (paths_of s))
     (is : IsPlace s node x) (plain : IsPlain (plain_act x.statement.now.act.now)) where
-  own : x.statement.now.number ≡ is.spot.node.statement
-  own = is.number ∙ is.spot.statement
+  own : x.statement.now.number ≡ is.plan_node.node.statement
+  own = is.number ∙ is.plan_node.statement
 
-  its : act_at (program_of s) is.spot.node.statement ≡ Some (plain_act x.statement.now.act.now)
+  its : act_at (program_of s) is.plan_node.node.statement ≡ Some (plain_act x.statement.now.act.now)
   its = subst (λ (n : ℕ). act_at (program_of s) n ≡ Some (plain_act x.statement.now.act.now)) own is.statement.its
 
-  leads_by : (outcome : Result ℕ DoEnd) → Does (program_of s) x.statement.now.number x.spot.now.op w v outcome
+  leads_by : (outcome : Result ℕ DoEnd) → Does (program_of s) x.statement.now.number x.plan_node.now.op w v outcome
       → Leads s budget step node now now w v (answered x.statement.now.number step outcome)
   leads_by (Ok to) done start within u =
       stands_on (program_of s) s.graph.now (paths_of s) start now w v u.left step node step step to
       (λ first told text st. plain_goes (program_of s) s.graph.now (paths_of s) first told text apart w v u.left step
-      node to is.spot.node
-      done.action (plain_act x.statement.now.act.now) st is.spot.stands (u.counts is.spot.node is.spot.stands) its plain
-      (is.spot.edges done.action to done.out)
+      node to is.plan_node.node
+      done.action (plain_act x.statement.now.act.now) st is.plan_node.stands (u.counts is.plan_node.node is.plan_node.stands) its plain
+      (is.plan_node.edges done.action to done.out)
       (subst (λ (n : ℕ). effect (program_of s) n None w done.action ≡ Ok (Some v)) own done.does)
       (subst (λ (n : ℕ). is_handled (program_of s) n done.action ≡ true) own done.goes_on))
       u.stands
@@ -42,9 +42,9 @@ module _ (s : Setting) (budget : ℕ) (x : Place) (step node : ℕ) (now : Outsi
       (λ first told text st. subst (λ (n : ℕ). RestsIn (program_of s) s.graph.now (paths_of s) budget first told text v
       (Err (end.Fault kind n step))) (sym own)
       (plain_faults (program_of s) s.graph.now (paths_of s) first told text apart w v u.left step node done.to
-      is.spot.node
-      done.action (plain_act x.statement.now.act.now) st is.spot.stands (u.counts is.spot.node is.spot.stands) its plain
-      (is.spot.edges done.action done.to done.out) budget within kind
+      is.plan_node.node
+      done.action (plain_act x.statement.now.act.now) st is.plan_node.stands (u.counts is.plan_node.node is.plan_node.stands) its plain
+      (is.plan_node.edges done.action done.to done.out) budget within kind
       (subst (λ (n : ℕ). effect (program_of s) n None w done.action ≡ Err kind) own done.meets)
       (ap (λ (z : World). z.files) done.others) (ap (λ (z : World). z.shown) done.others)))
       u.stands
@@ -53,9 +53,9 @@ module _ (s : Setting) (budget : ℕ) (x : Place) (step node : ℕ) (now : Outsi
       (λ first told text st. subst (λ (n : ℕ). RestsIn (program_of s) s.graph.now (paths_of s) budget first told text v
       (Err (end.IoStop status_ n))) (sym own)
       (plain_stops (program_of s) s.graph.now (paths_of s) first told text apart w v u.left step node done.to
-      is.spot.node
-      done.action (plain_act x.statement.now.act.now) st is.spot.stands (u.counts is.spot.node is.spot.stands) its plain
-      (is.spot.edges done.action done.to done.out) budget within status_
+      is.plan_node.node
+      done.action (plain_act x.statement.now.act.now) st is.plan_node.stands (u.counts is.plan_node.node is.plan_node.stands) its plain
+      (is.plan_node.edges done.action done.to done.out) budget within status_
       (subst (λ (n : ℕ). effect (program_of s) n None w done.action ≡ Ok (Some v)) own done.does)
       (subst (λ (n : ℕ). status (program_of s) n None w done.action ≡ Some status_) own done.gives)
       (subst (λ (n : ℕ). is_handled (program_of s) n done.action ≡ false) own done.stops)))

@@ -14,7 +14,7 @@ use Rattle.cob_runs.specs.State.{World, State}
 use Rattle.cob_runs.specs.Steps.{step, step_in}
 use Rattle.cob_runs.specs.Effects.{act_at}
 use Rattle.cob_runs.specs.Runs.{Contents}
-use Rattle.cob_graph.specs.Walks.{next_statement}
+use Rattle.cob_graph_laws.specs.Ways.{next_statement}
 use Rattle.cob_interp.specs.declared.ends.Ended.{Ended}
 use Rattle.cob_interp.specs.declared.ends.RunEnd.{RunEnd}
 use Rattle.cob_interp.specs.declared.ends.RunEnd.TheVariants as end

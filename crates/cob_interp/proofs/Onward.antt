@@ -11,8 +11,9 @@ use Rattle.cob_runs.specs.State.{World}
 use Rattle.cob_runs.specs.Effects.{Effect, effect, effect_of, status, status_of, not_taken, is_handled, act_at}
 use Rattle.cob_graph.specs.declared.graph.Graph.{Graph}
 use Rattle.cob_graph.specs.declared.graph.Node.{Node}
-use Rattle.cob_graph.specs.Walks.{node_at, edge, passed, onward, final_in}
-use Rattle.cob_ways.specs.Telling.{Way, IsOverAfter, GoesOnAfter}
+use Rattle.cob_graph.specs.Lookup.{node_at, edge, final_in}
+use Rattle.cob_graph_laws.specs.Ways.{passed, onward}
+use Rattle.cob_graph_laws.specs.Told.{Way, IsOverAfter, GoesOnAfter}
 use Rattle.cob_interp.specs.declared.ends.Ended.{Ended}
 use Rattle.cob_interp.specs.declared.ends.RunEnd.TheVariants as end
 use Rattle.cob_interp.specs.Doing.{IsPlain}

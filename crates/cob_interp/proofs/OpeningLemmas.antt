@@ -4,8 +4,8 @@ use Rattle.std.specs.Prelude.{Contains, slice_get}
 use Rattle.std.specs.Option.{option_map_or}
 use Rattle.batch_io.specs.FilesState.{Contents, FilesState, known_bytes}
 use Rattle.batch_io.specs.SinkState.{SinkState}
-use Rattle.cob_plan.specs.declared.spot.Op.{Op}
-use Rattle.cob_plan.specs.declared.spot.Op.TheVariants as op
+use Rattle.cob_plan.specs.declared.node.Op.{Op}
+use Rattle.cob_plan.specs.declared.node.Op.TheVariants as op
 use Rattle.cob_plan.specs.declared.end.DoEnd.{DoEnd}
 use Rattle.cob_plan.specs.declared.end.DoEnd.TheVariants as does
 use Rattle.cob_plan.specs.Plan.{op_edges}
@@ -17,7 +17,8 @@ use Rattle.cob_runs.specs.State.{World}
 use Rattle.cob_runs.specs.Effects.{effect, status, is_handled, act_at}
 use Rattle.cob_graph.specs.declared.graph.Graph.{Graph}
 use Rattle.cob_graph.specs.declared.graph.Node.{Node}
-use Rattle.cob_graph.specs.Walks.{node_at, passed, next_statement}
+use Rattle.cob_graph.specs.Lookup.{node_at}
+use Rattle.cob_graph_laws.specs.Ways.{passed, next_statement}
 use Rattle.cob_interp.specs.declared.ends.RunEnd.{RunEnd}
 use Rattle.cob_interp.specs.declared.ends.RunEnd.TheVariants as end
 use Rattle.cob_interp.specs.declared.setting.Setting.{Setting}
@@ -114,13 +115,13 @@ opened_all s start now w steps node number os its opens = record {
 module _ (s : Setting) (budget steps step node : ℕ) (sink : SinkState) (old mid : FilesState) (w u v : World)
     (apart : AreDistinct (paths_of s))
     (x : Place) (is : IsPlace s node x) (k fine bad : ℕ) (os : List Opening) (o : Opening)
-    (op_is : x.spot.now.op ≡ op.Open k fine bad)
+    (op_is : x.plan_node.now.op ≡ op.Open k fine bad)
     (at : slice_get os k ≡ Some o) (ready : ReadyToOpen s w u o old mid) (counted : step ≡ steps + 1) where
   abbrev number : ℕ
-  number = is.spot.node.statement
+  number = is.plan_node.node.statement
 
   own : x.statement.now.number ≡ number
-  own = is.number ∙ is.spot.statement
+  own = is.number ∙ is.plan_node.statement
 
   module _ (its : act_at (program_of s) number ≡ Some (open_files os)) (start : Outside) (left : ℕ)
       (within : steps < budget)
@@ -141,7 +142,7 @@ module _ (s : Setting) (budget steps step node : ℕ) (sink : SinkState) (old mi
 
     module _ (first told now : Contents) (e : known_bytes old ≡ Some told) (but : AgreeBut told now ready.path)
         (it : IsReadyToOpen told now ready.path o.output ready.file) (t : Before first told) (a : Action) (m : ℕ)
-        (out : Contains (op_edges x.spot.now.op) (a, m)) where
+        (out : Contains (op_edges x.plan_node.now.op) (a, m)) where
       abbrev seen_before : World
       seen_before = seen told (paths_of s) text w
 
@@ -181,10 +182,10 @@ module _ (s : Setting) (budget steps step node : ℕ) (sink : SinkState) (old mi
           let on = goes_seen does in
           record {
             stands = subst (λ (l : ℕ). StandsIn (program_of s) s.graph.now (paths_of s) first now text v l steps m)
-                (sym (counts is.spot.node is.spot.stands))
+                (sym (counts is.plan_node.node is.plan_node.stands))
                 (goes_over (program_of s) s.graph.now (paths_of s) first told now text w v left steps steps node m
-                is.spot.node a t.stands
-                is.spot.stands (is.spot.edges a m out) on.0 handled on.1 others_ t.stands.free);
+                is.plan_node.node a t.stands
+                is.plan_node.stands (is.plan_node.edges a m out) on.0 handled on.1 others_ t.stands.free);
             begin = t.begin;
             begins = t.begins;
             same = t.same ∙ ap (λ (r : List Opening). meets_long (program_of s) number r seen_before)
@@ -214,16 +215,16 @@ module _ (s : Setting) (budget steps step node : ℕ) (sink : SinkState) (old mi
           (drop k os) its t short in
           subst (λ (n : ℕ). RestsIn (program_of s) s.graph.now (paths_of s) budget first now text v
           (Err (end.IoStop status_ n))) (sym own)
-          (stopped_by (program_of s) s.graph.now (paths_of s) first told now text w v left step node m is.spot.node a
+          (stopped_by (program_of s) s.graph.now (paths_of s) first told now text w v left step node m is.plan_node.node a
           status_ steps t.stands
-          is.spot.stands (counted ∙ counts is.spot.node is.spot.stands) (is.spot.edges a m out) on.0
+          is.plan_node.stands (counted ∙ counts is.plan_node.node is.plan_node.stands) (is.plan_node.edges a m out) on.0
           (subst (λ (z : World). status (program_of s) number None z a ≡ Some status_)
           (ready.same told text e t.stands.synced).0
           (edge_follows.status_ ∙ subst (λ (n : ℕ). status (program_of s) n None u a ≡ Some status_) own gives))
           unhandled on.1 others_
           (subst (AreFree (program_of s) (told_files first (paths_of s))) (sym counted) free) budget (omega arith))
 
-    arrives : (outcome : Result ℕ DoEnd) → Does (program_of s) x.statement.now.number x.spot.now.op u v outcome
+    arrives : (outcome : Result ℕ DoEnd) → Does (program_of s) x.statement.now.number x.plan_node.now.op u v outcome
         → ArrivesOpening (program_of s) s.graph.now (paths_of s) budget start (outside mid sink) v steps number os
         (drop (k + 1) os)
         (answered x.statement.now.number step outcome)
@@ -261,12 +262,12 @@ module _ (s : Setting) (budget steps step node : ℕ) (sink : SinkState) (old mi
     }
     arrives (Err does.Memory) done = tt
 
-  pub open_leads : (number_ : ℕ) → x.spot.now.statement ≡ number_ → (result : Result ℕ RunEnd)
+  pub open_leads : (number_ : ℕ) → x.plan_node.now.statement ≡ number_ → (result : Result ℕ RunEnd)
       → DoesPart s x step u v result
       → LeadsOpening s budget steps node number_ os k (outside old sink) (outside mid sink) w v result
   open_leads number_ same result d =
       subst (λ (n : ℕ). LeadsOpening s budget steps node n os k (outside old sink) (outside mid sink) w v result)
-      (sym is.spot.statement ∙ same)
+      (sym is.plan_node.statement ∙ same)
       (subst (λ (r : Result ℕ RunEnd). LeadsOpening s budget steps node number os k (outside old sink)
       (outside mid sink) w v r) (sym d.told)
       (λ start left within its counts opens. arrives its start left within counts opens d.outcome d.does))

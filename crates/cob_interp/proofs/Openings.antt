@@ -4,7 +4,7 @@ use Rattle.std.specs.Prelude.{Contains, slice_get}
 use Rattle.std.specs.Option.{option_map, option_map_or}
 use Rattle.cob_meaning.specs.declared.straight.Outcome.{Outcome}
 use Rattle.cob_meaning.specs.declared.straight.Outcome.TheVariants.{Going, IoStop}
-use Rattle.cob_plan.specs.declared.spot.Op.TheVariants as op
+use Rattle.cob_plan.specs.declared.node.Op.TheVariants as op
 use Rattle.cob_plan.specs.Plan.{op_edges}
 use Rattle.cob_program.specs.declared.act.Opening.{Opening}
 use Rattle.cob_program.specs.Act.{Act, open_files, Program}

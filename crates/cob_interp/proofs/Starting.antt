@@ -14,8 +14,9 @@ use Rattle.cob_runs.specs.Runs.{content_at, first_files, first_world}
 use Rattle.cob_runs.specs.Runs as runs
 use Rattle.cob_graph.specs.declared.graph.Graph.{Graph}
 use Rattle.cob_graph.specs.Graphs.{IsGraph}
-use Rattle.cob_graph.specs.Walks.{IsWhole, at_first}
-use Rattle.cob_ways.specs.Telling.{Way, Telling}
+use Rattle.cob_graph.specs.WellFormed.{IsWellFormed}
+use Rattle.cob_graph_laws.specs.Ways.{at_first}
+use Rattle.cob_graph_laws.specs.Told.{Way, WaysTellOfRuns}
 use Rattle.cob_interp.specs.declared.ends.RunEnd.TheVariants as end
 use Rattle.cob_interp.specs.Ends.{told_files, AreFree, state_after}
 use Rattle.cob_interp.specs.Told.{seen, seen_files, AreSynced}
@@ -86,7 +87,7 @@ module _ (p : Program) (g : Graph) (paths : List (List ℕ)) (same : length path
   none_begun : (contents : runs.Contents) → AreFree p contents 0
   none_begun contents m below = absurd (omega (arith, below))
 
-  module _ (tells : Telling) (whole : IsWhole p) (is : IsGraph p g) (budget : ℕ) (start : Outside) where
+  module _ (tells : WaysTellOfRuns) (whole : IsWellFormed p) (is : IsGraph p g) (budget : ℕ) (start : Outside) where
     stands_first : (told : Contents) → StandsIn p g paths told told [] (first_world p [] []) 0 0 1
     stands_first told = record {
       tells = tells p g whole is (told_files told paths) [];

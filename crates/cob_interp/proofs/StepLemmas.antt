@@ -2,7 +2,8 @@
 use Rattle.std.proofs.Common.{◌≡◌, ℕ, false, Some, ap, arith}
 use Rattle.cob_graph.specs.declared.graph.Node.{Node}
 use Rattle.cob_graph.specs.Laid.{one_if}
-use Rattle.cob_graph.specs.Walks.{node_at, passed}
+use Rattle.cob_graph.specs.Lookup.{node_at}
+use Rattle.cob_graph_laws.specs.Ways.{passed}
 use Rattle.cob_runs.specs.State.{World}
 use Rattle.cob_interp.specs.declared.setting.Setting.{Setting}
 use Rattle.cob_interp.specs.Running.{Outside, IsUnderway, Stands}

@@ -11,7 +11,7 @@ use Rattle.cob_runs.specs.Files.{bytes_in}
 use Rattle.cob_runs.specs.State.{World}
 use Rattle.cob_runs.specs.Effects.{act_at}
 use Rattle.cob_graph.specs.declared.graph.Node.{Node}
-use Rattle.cob_graph.specs.Walks.{node_at}
+use Rattle.cob_graph.specs.Lookup.{node_at}
 use Rattle.cob_interp.specs.declared.ends.RunEnd.{RunEnd}
 use Rattle.cob_interp.specs.declared.ends.RunEnd.TheVariants as end
 use Rattle.cob_interp.specs.declared.parts.Call.TheVariants as call
@@ -93,16 +93,16 @@ module _ (s : Setting) (node : ℕ) (x : Place) (is : StartsAt s node x) where
   abbrev act_ : Act
   act_ = plain_act x.statement.now.act.now
 
-  its : act_at (program_of s) is.is.spot.node.statement ≡ Some act_
-  its = subst (λ (n : ℕ). act_at (program_of s) n ≡ Some act_) (is.is.number ∙ is.is.spot.statement) is.is.statement.its
+  its : act_at (program_of s) is.is.plan_node.node.statement ≡ Some act_
+  its = subst (λ (n : ℕ). act_at (program_of s) n ≡ Some act_) (is.is.number ∙ is.is.plan_node.statement) is.is.statement.its
 
-  starts : is.is.spot.node.starts ≡ true
-  starts = sym is.is.spot.starts ∙ is.starts
+  starts : is.is.plan_node.node.starts ≡ true
+  starts = sym is.is.plan_node.starts ∙ is.starts
 
   starts_each : (y : Node) → node_at s.graph.now.nodes node ≡ Some y → y.starts ≡ true
   starts_each y at =
-      let there = is.is.spot.stands in
-      let same : is.is.spot.node ≡ y = cc in
+      let there = is.is.plan_node.stands in
+      let same : is.is.plan_node.node ≡ y = cc in
       subst (λ (z : Node). z.starts ≡ true) same starts
 
   module _ (budget steps step : ℕ) (counted : step ≡ steps + 1) (within : steps < budget) (start old : Outside)
@@ -115,22 +115,22 @@ module _ (s : Setting) (node : ℕ) (x : Place) (is : StartsAt s node x) where
     step_begins new v result free leads =
         leads start (omega (arith, counted, within))
         (subst (λ (n : ℕ). IsUnderway (program_of s) s.graph.now (paths_of s) start old w n node) (sym counted)
-        (begins s start old w steps node is.is.spot.node is.is.spot.stands starts act_ its free stands))
+        (begins s start old w steps node is.is.plan_node.node is.is.plan_node.stands starts act_ its free stands))
 
     -- an OPEN
     pub opening_begins : (new : Outside) (v : World) (result : Result ℕ RunEnd) (os : List Opening)
         → act_ ≡ open_files os
-        → LeadsOver s budget steps node x.spot.now.statement os old new w v result
+        → LeadsOver s budget steps node x.plan_node.now.statement os old new w v result
         → Arrives (program_of s) s.graph.now (paths_of s) budget start new v step result
     opening_begins new v result os opens leads =
         subst (λ (n : ℕ). Arrives (program_of s) s.graph.now (paths_of s) budget start new v n result) (sym counted)
         (leads start within
-        (subst (λ (n : ℕ). act_at (program_of s) n ≡ Some (open_files os)) (sym is.is.spot.statement)
+        (subst (λ (n : ℕ). act_at (program_of s) n ≡ Some (open_files os)) (sym is.is.plan_node.statement)
         (its ∙ ap Some opens))
         starts_each
         (subst (λ (n : ℕ). Opens (program_of s) s.graph.now (paths_of s) start old w steps steps node n os os)
-        (sym is.is.spot.statement)
-        (begins_opening s start old w steps node is.is.spot.node is.is.spot.stands starts os stands)))
+        (sym is.is.plan_node.statement)
+        (begins_opening s start old w steps node is.is.plan_node.node is.is.plan_node.stands starts os stands)))
 
     -- a READ at a ragged end
     cut_in : (file count : ℕ) → IsCall act_ (call.Read file)
@@ -140,8 +140,8 @@ module _ (s : Setting) (node : ℕ) (x : Place) (is : StartsAt s node x) where
         steps steps node
         → RestsIn (program_of s) s.graph.now (paths_of s) budget first told text w (Err (end.Ragged file count))
     cut_in file count reads counted_ cut first told text st =
-        is_ragged (program_of s) s.graph.now (paths_of s) first told text w steps node st budget is.is.spot.node
-        is.is.spot.stands starts within
+        is_ragged (program_of s) s.graph.now (paths_of s) first told text w steps node st budget is.is.plan_node.node
+        is.is.plan_node.stands starts within
         file count (record {
           cut = ap (λ (o : Option Act). option_map_or (λ a. cut_by (program_of s) a (seen told (paths_of s) text w)
               file) o false) its

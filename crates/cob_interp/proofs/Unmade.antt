@@ -14,10 +14,11 @@ use Rattle.cob_runs.specs.Effects.{act_at}
 use Rattle.cob_runs.specs.Runs.{content_at}
 use Rattle.cob_graph.specs.declared.graph.Graph.{Graph}
 use Rattle.cob_graph.specs.Graphs.{IsGraph}
-use Rattle.cob_graph.specs.Walks.{IsWhole, next_statement}
-use Rattle.cob_graph.proofs.Simulated.{simulates}
-use Rattle.cob_kept.specs.Keeping.{NeverMakes, IsKept}
-use Rattle.cob_kept.proofs.Kept.{file_kept, file_stays}
+use Rattle.cob_graph.specs.WellFormed.{IsWellFormed}
+use Rattle.cob_graph_laws.specs.Ways.{next_statement}
+use Rattle.cob_graph_laws.proofs.Simulated.{simulates}
+use Rattle.cob_graph_laws.specs.Kept.{NeverMakes, IsKept}
+use Rattle.cob_graph_laws.proofs.Kept.{file_kept, file_stays}
 use Rattle.cob_interp.specs.declared.ends.Ended.{Ended}
 use Rattle.cob_interp.specs.declared.ends.RunEnd.{RunEnd}
 use Rattle.cob_interp.specs.declared.ends.RunEnd.TheVariants as end
@@ -65,7 +66,7 @@ held : (o : Option File) (content : Option (List ℕ)) → option_map (λ f. f.c
 held None content e = absurd (none-some content e)
 held (Some f) content e = (f, refl, same_Some f.content content e)
 
-module _ (p : Program) (g : Graph) (whole : IsWhole p) (is : IsGraph p g) (paths : List (List ℕ)) (budget : ℕ) where
+module _ (p : Program) (g : Graph) (whole : IsWellFormed p) (is : IsGraph p g) (paths : List (List ℕ)) (budget : ℕ) where
   module _ (first told : Contents) where
     -- ---- at one place
 

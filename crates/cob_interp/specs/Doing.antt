@@ -4,9 +4,10 @@ use Rattle.std.specs.Option.{option_map_or}
 use Rattle.cob_program.specs.declared.act.Opening.{Opening}
 use Rattle.cob_runs.specs.Effects.{act_at}
 use Rattle.cob_graph.specs.declared.graph.Node.{Node}
-use Rattle.cob_graph.specs.Walks.{node_at, passed}
-use Rattle.cob_plan.specs.declared.spot.Op.{Op}
-use Rattle.cob_plan.specs.declared.spot.Op.TheVariants as op
+use Rattle.cob_graph.specs.Lookup.{node_at}
+use Rattle.cob_graph_laws.specs.Ways.{passed}
+use Rattle.cob_plan.specs.declared.node.Op.{Op}
+use Rattle.cob_plan.specs.declared.node.Op.TheVariants as op
 use Rattle.cob_plan.specs.declared.end.DoEnd.{DoEnd}
 use Rattle.cob_plan.specs.declared.end.DoEnd.TheVariants as does
 use Rattle.cob_plan.specs.Doing.{Does}
@@ -22,7 +23,7 @@ use Rattle.cob_interp.specs.Ends.{cut_file}
 use Rattle.cob_runs.specs.Acts.{decl_at}
 use Rattle.cob_runs.specs.Files.{bytes_in}
 
--- statements but OPEN and CLOSE
+-- The statement is neither OPEN nor CLOSE.
 abbrev pub IsPlain : Act → Type 0
 IsPlain (open_files os) = ⊥
 IsPlain (close_files fs) = ⊥
@@ -38,19 +39,19 @@ abbrev pub answered : ℕ → ℕ → Result ℕ DoEnd → Result ℕ RunEnd
 answered statement step (Ok node) = Ok node
 answered statement step (Err e) = Err (halted statement step e)
 
--- a node's part is done, or why not is told
+-- A node's part is done, or it is told why not.
 pub record DoesPart (s : Setting) (x : Place) (step : ℕ) (w v : World) (result : Result ℕ RunEnd) : Type 0 where
   pub outcome : Result ℕ DoEnd
-  pub does : Does (program_of s) x.statement.now.number x.spot.now.op w v outcome
+  pub does : Does (program_of s) x.statement.now.number x.plan_node.now.op w v outcome
   pub told : result ≡ answered x.statement.now.number step outcome
 
--- from a node on in a step that is underway
+-- The run goes on from a node in a step that is underway.
 abbrev pub Leads : Setting → ℕ → ℕ → ℕ → Outside → Outside → World → World → Result ℕ RunEnd → Type 0
 Leads s budget step node old new w v result =
     (start : Outside) → step ≤ budget → IsUnderway (program_of s) s.graph.now (paths_of s) start old w step node
     → Arrives (program_of s) s.graph.now (paths_of s) budget start new v step result
 
--- from a node on at which the next file of an OPEN is opened
+-- The run goes on from a node at which the next file of an OPEN is opened.
 abbrev pub LeadsOpening : Setting → ℕ → ℕ → ℕ → ℕ → List Opening → ℕ → Outside → Outside → World → World
     → Result ℕ RunEnd → Type 0
 LeadsOpening s budget steps node number os k old new w v result =
@@ -59,7 +60,7 @@ LeadsOpening s budget steps node number os k old new w v result =
     → Opens (program_of s) s.graph.now (paths_of s) start old w left steps node number os (drop k os)
     → ArrivesOpening (program_of s) s.graph.now (paths_of s) budget start new v steps number os (drop (k + 1) os) result
 
--- from the first node of an OPEN on
+-- The run goes on from the first node of an OPEN.
 abbrev pub LeadsOver : Setting → ℕ → ℕ → ℕ → ℕ → List Opening → Outside → Outside → World → World → Result ℕ RunEnd
     → Type 0
 LeadsOver s budget steps node number os old new w v result =

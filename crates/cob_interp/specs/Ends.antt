@@ -15,7 +15,7 @@ use Rattle.cob_runs.specs.Acts.{has_status, open_one}
 use Rattle.cob_runs.specs.Steps.{outcome_of}
 use Rattle.cob_runs.specs.Effects.{act_at}
 use Rattle.cob_runs.specs.Runs.{Contents, run}
-use Rattle.cob_graph.specs.Walks.{next_statement}
+use Rattle.cob_graph_laws.specs.Ways.{next_statement}
 use Rattle.cob_interp.specs.declared.ends.Ended.{Ended}
 use Rattle.cob_interp.specs.declared.ends.RunEnd.{RunEnd}
 use Rattle.cob_interp.specs.declared.ends.RunEnd.TheVariants as end
@@ -26,7 +26,7 @@ told_files told paths = map (get told) paths
 
 -- ---- files that end within a record, and files that are too long to be read
 
--- it is read, and its end wasn't met
+-- A file in this mode is read, and its end wasn't met.
 abbrev pub reads_on : Mode → Bool
 reads_on (reading false) = true
 reads_on _ = false
@@ -82,7 +82,7 @@ module _ (p : Program) where
   abbrev pub meets_too_long : ℕ → World → Bool
   meets_too_long statement w = option_map_or (λ a. long_by statement a w) (act_at p statement) false
 
-  -- the run goes on, and neither stops the next step
+  -- The run goes on, and neither a ragged end nor a long file stops the next step.
   pub record IsFree (s : State) : Type 0 where
     pub uncut : (file : ℕ) → meets_cut (next_statement p s.control) s.world file ≡ false
     pub short : meets_too_long (next_statement p s.control) s.world ≡ false
@@ -93,7 +93,7 @@ module _ (p : Program) where
     abbrev pub state_after : ℕ → State
     state_after n = run p contents [] [] n
 
-    -- so many steps were begun freely
+    -- None of the first so many steps was refused before it began.
     abbrev pub AreFree : ℕ → Type 0
     AreFree n = (m : ℕ) → m < n → IsFree (state_after m)
 
@@ -105,7 +105,7 @@ module _ (p : Program) where
         pub before : (m : ℕ) → m < n → (state_after m).outcome ≡ Going
         pub free : AreFree n
 
-      -- it goes on behind the budget
+      -- The run goes on behind the budget.
       pub record IsSpent : Type 0 where
         pub outcome : (state_after budget).outcome ≡ Going
         pub free : AreFree budget

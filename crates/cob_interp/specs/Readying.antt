@@ -33,7 +33,7 @@ pub record Readies (old new : FilesState) (path : List ℕ) (IsIt : Contents →
   pub well : AreWell old new
   pub known : (told : Contents) → known_bytes old ≡ Some told → Keeps told (known_bytes new) path (IsIt told)
 
--- why it is refused
+-- why a call on the outside is refused
 abbrev pub IsRefusal : FilesState → FilesState → RunEnd → Type 0
 IsRefusal old new end.ReadFault = Rose old.reading new.reading
 IsRefusal old new end.WriteFault = Rose old.writing new.writing

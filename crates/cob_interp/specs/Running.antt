@@ -12,10 +12,11 @@ use Rattle.cob_runs.specs.State.{World, State}
 use Rattle.cob_runs.specs.Effects.{act_at}
 use Rattle.cob_graph.specs.declared.graph.Graph.{Graph}
 use Rattle.cob_graph.specs.declared.graph.Node.{Node}
-use Rattle.cob_graph.specs.Walks.{node_at, next_statement, passed}
+use Rattle.cob_graph.specs.Lookup.{node_at}
+use Rattle.cob_graph_laws.specs.Ways.{next_statement, passed}
 use Rattle.cob_program.specs.declared.act.Opening.{Opening}
-use Rattle.cob_kept.specs.Keeping.{NeverMakes}
-use Rattle.cob_ways.specs.Telling.{Way, WaysTell, GoesOnAfter}
+use Rattle.cob_graph_laws.specs.Kept.{NeverMakes}
+use Rattle.cob_graph_laws.specs.Told.{Way, WaysTell, GoesOnAfter}
 use Rattle.cob_interp.specs.declared.ends.Ended.{Ended}
 use Rattle.cob_interp.specs.declared.ends.Ending.{Ending}
 use Rattle.cob_interp.specs.declared.ends.RunEnd.{RunEnd}
@@ -76,13 +77,13 @@ module _ (p : Program) (g : Graph) (paths : List (List ℕ)) where
     pub well : IsWell start now text
     pub told : StandsIf (known_bytes start.files) (known_bytes now.files) text w left begun node
 
-  -- at a node of the step with a number, counted from 1
+  -- The run is at a node of the step with this number, counted from 1.
   pub record IsUnderway (start now : Outside) (w : World) (step node : ℕ) : Type 0 where
     pub left : ℕ
     pub stands : Stands start now w left step node
     pub counts : (x : Node) → node_at g.nodes node ≡ Some x → step ≡ passed left x
 
-  -- ---- in an OPEN
+  -- ---- a run that is in an OPEN
 
   -- So many steps were begun freely, and then an OPEN with these files, of which so many are left to be opened. Whether
   -- one that is too long is met is to be seen of those.
@@ -101,7 +102,7 @@ module _ (p : Program) (g : Graph) (paths : List (List ℕ)) where
     pub told : IfTold (λ first told. OpensIn first told text w left steps node number os rest)
         (known_bytes start.files) (known_bytes now.files)
 
-  -- ---- behind it
+  -- ---- a run that has ended
 
   module _ (budget : ℕ) where
     -- the run's own end stands in what is kept
@@ -182,7 +183,8 @@ module _ (p : Program) (g : Graph) (paths : List (List ℕ)) where
     EndsBy own old new (Err (end.Long count)) = IsTooLong (known_bytes old.files) count
     EndsBy own old new result = own old new result
 
-    -- while the world is kept
+    -- ---- a run that goes on or halts
+
     abbrev pub Halts : Outside → Outside → World → Result Ended RunEnd → Type 0
     Halts start now w result = EndsBy (λ old new r. Rests old new w r) start now result
 
@@ -197,7 +199,7 @@ module _ (p : Program) (g : Graph) (paths : List (List ℕ)) where
     Arrives start now w step (Ok node) = Stands start now w step step node
     Arrives start now w step (Err e) = Halts start now w (Err e)
 
-    -- at a node at which a step begins, or at the last one, wherever the run might be broken off now
+    -- The run is at a node at which a step begins, or at the last one, wherever it might be broken off now.
     pub record IsAt (start now : Outside) (w : World) (steps node : ℕ) : Type 0 where
       pub stands : Stands start now w steps steps node
       pub part : IsBroken start now
@@ -211,7 +213,7 @@ module _ (p : Program) (g : Graph) (paths : List (List ℕ)) where
       pub halts : Halts start now w result
       pub part : IfRefused result (IsBroken start now)
 
-    -- behind the run: how it ended; and what is left where it was refused
+    -- how a run ended, and what is left where it was refused
     pub record Runs (old new : Outside) (result : Result Ended RunEnd) : Type 0 where
       pub ends : EndsBy EndsWell old new result
       pub part : IfRefused result (IsBroken old new)

@@ -1,12 +1,11 @@
--- What holds of what a run is of.
+-- What holds of a program that is run, its plan and its paths.
 use Rattle.std.specs.Prelude.{◌≡◌, ℕ, true, List, map, String, string_bytes}
 use Rattle.std.specs.declared.alloc.Global.{Global}
 use Rattle.std.specs.List.{All}
 use Rattle.cob_program.specs.declared.act.Opening.{Opening}
 use Rattle.cob_program.specs.Act.{Act, open_files, close_files, read, Program}
 use Rattle.cob_program.specs.ActView.{plain_program}
-use Rattle.cob_items.specs.Sound.{HasSoundItems}
-use Rattle.cob_plan.specs.Plan.{AreSpots, IsSpot, IsStatement}
+use Rattle.cob_plan.specs.Plan.{ArePlanNodes, IsPlanNode, IsStatement}
 use Rattle.cob_interp.specs.declared.parts.Call.{Call}
 use Rattle.cob_interp.specs.declared.parts.Call.TheVariants as call
 use Rattle.cob_interp.specs.declared.setting.Setting.{Setting}
@@ -23,23 +22,22 @@ abbrev pub paths_of : Setting → List (List ℕ)
 paths_of s = texts s.paths.now
 
 pub record IsReady (s : Setting) : Type 0 where
-  pub spots : AreSpots s.graph.now s.plan.spots.items
+  pub nodes : ArePlanNodes s.graph.now s.plan.nodes.items
   pub statements : All (IsStatement (program_of s)) s.plan.statements.items
-  pub sound : HasSoundItems s.program.now.layout
   pub distinct : AreDistinct (paths_of s)
 
--- a node, and its statement
+-- A place has the plan's node with a number, and that node's statement.
 pub record IsPlace (s : Setting) (node : ℕ) (x : Place) : Type 0 where
-  pub spot : IsSpot s.graph.now node x.spot.now
+  pub plan_node : IsPlanNode s.graph.now node x.plan_node.now
   pub statement : IsStatement (program_of s) x.statement.now
-  pub number : x.statement.now.number ≡ x.spot.now.statement
+  pub number : x.statement.now.number ≡ x.plan_node.now.statement
 
--- a node at which a step begins, and its statement
+-- A place has the plan's node with a number, at which a step begins, and that node's statement.
 pub record StartsAt (s : Setting) (node : ℕ) (x : Place) : Type 0 where
   pub is : IsPlace s node x
-  pub starts : x.spot.now.starts ≡ true
+  pub starts : x.plan_node.now.starts ≡ true
 
--- of some node
+-- A place's statement is the program's, whatever its node is.
 abbrev pub IsPlaced : Setting → Place → Type 0
 IsPlaced s x = IsStatement (program_of s) x.statement.now
 

@@ -11,15 +11,15 @@ use Rattle.cob_interp.specs.Told.{AgreeBut, KeepsNames}
 
 -- ---- what is told of a file
 
--- of one that is being written a front
+-- What is told of a file that is being written is a front of its bytes.
 abbrev pub IsFront : File → Option (List ℕ) → Type 0
 IsFront f now = (f.mode ≡ writing) × ((n : ℕ) × (now ≡ Some (take n (bytes_in f))))
 
--- a closed one that is opened for output is empty already
+-- A closed file that is opened for output is told empty already.
 abbrev pub IsEmptied : Bool → File → Option (List ℕ) → Type 0
 IsEmptied makes f now = (makes ≡ true) × ((f.mode ≡ closed) × (now ≡ Some []))
 
--- This; or, where the file is being written, a front of it; or, where it is closed and opened for output, nothing yet.
+-- A file is told as these bytes; or, where it is being written, as a front of them; or, where it is closed and opened for output, nothing yet.
 abbrev pub IsPartOf : Bool → File → Option (List ℕ) → Option (List ℕ) → Type 0
 IsPartOf makes f whole now = (now ≡ whole) ⊎ (IsFront f now ⊎ IsEmptied makes f now)
 
@@ -75,7 +75,7 @@ module _ (paths : List (List ℕ)) (makes : ℕ → Bool) (w : World) where
     pub is : known ≡ Some now
     pub touches : TouchesIn told now
 
-  -- whatever the call answers
+  -- The names hold a part of their files, whatever the call answers.
   pub record Touches (old new : FilesState) : Type 0 where
     pub ids : KeepsIds old new
     pub known : (told : Contents) → known_bytes old ≡ Some told → IsTouched told (known_bytes new)
@@ -101,7 +101,7 @@ pub record ClosesOnly (old new : World) : Type 0 where
   pub each : (place : ℕ) (f : File) → slice_get old.files place ≡ Some f
       → (g : File) × (slice_get new.files place ≡ Some g) × ((g ≡ f) ⊎ (g.mode ≡ closed))
 
--- an OPEN closes none
+-- an OPEN closes no file
 pub record OpensOnly (old new : World) : Type 0 where
   pub each : (place : ℕ) (f : File) → slice_get old.files place ≡ Some f
       → (g : File) × (slice_get new.files place ≡ Some g) × (g.mode ≡ closed → f.mode ≡ closed)

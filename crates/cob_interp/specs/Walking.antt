@@ -46,16 +46,16 @@ pub record Gains (old new : SinkState) (text : List ℕ) : Type 0 where
   pub faults : new.faults ≡ old.faults
   pub told : new.told ≡ append_known old.told text
 
--- all of it was shown
+-- All text that waited was shown.
 pub record Flushes (old new : SinkState) (w v : World) : Type 0 where
   pub gains : Gains old new w.shown
   pub world : v ≡ without_shown w
 
--- all of it was shown, or it goes on waiting
+-- All text that waited was shown, or it goes on waiting.
 abbrev pub MayFlush : SinkState → SinkState → World → World → Type 0
 MayFlush old new w v = Flushes old new w v ⊎ ((new ≡ old) × (v ≡ w))
 
--- the sink took a front of it and refused the rest, and it all goes on waiting
+-- The sink took a front of the text that waited and refused the rest, and all of it goes on waiting.
 pub record Refuses (old new : SinkState) (w v : World) (e : MakeEnd) : Type 0 where
   pub front : (n : ℕ) × (new.told ≡ append_known old.told (take n w.shown))
   pub why : IsSinkRefusal old new e
@@ -89,7 +89,7 @@ is_refused end.Memory = true
 is_refused (end.Long count) = true
 is_refused _ = false
 
--- the run's own
+-- The end is the run's own: nothing refused it.
 abbrev pub IsOwnEnd : Result Ended RunEnd → Type 0
 IsOwnEnd (Ok e) = Unit {0}
 IsOwnEnd (Err e) = is_refused e ≡ false

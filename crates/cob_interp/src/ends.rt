@@ -1,3 +1,4 @@
+//! How a run ends.
 use cob_tree::Kind;
 
 /// The run came to its end after so many steps.

@@ -40,18 +40,12 @@ pub fn do_part(
     step: u64,
 ) -> Result<u32, RunEnd>
     requires ready { IsReady setting.now }
-    requires whole { length world.old.storage ≡ setting.now.program.now.layout.storage }
+    requires runs { world.old.program ≡ setting.now.program.now }
     requires place { IsPlaced setting.now place.now }
-    ensures kept { length world.new.storage ≡ length world.old.storage }
-    ensures does { DoesPart setting.now place.now step world.old world.new result }
+    ensures kept { world.new.program ≡ world.old.program }
+    ensures does { DoesPart setting.now place.now step world.old.world world.new.world result }
 {
-    match do_op(
-        alloc,
-        setting.program,
-        place.statement,
-        &place.spot.op,
-        world,
-    ) {
+    match do_op(alloc, place.statement, &place.plan_node.op, world) {
         Ok(node) => Ok(node),
         Err(end) => Err(halt_of(end, place.statement.number, step)),
     }
@@ -67,12 +61,12 @@ pub fn do_plain(
     step: u64,
 ) -> Result<u32, RunEnd>
     requires ready { IsReady setting.now }
-    requires whole { length world.old.storage ≡ setting.now.program.now.layout.storage }
+    requires runs { world.old.program ≡ setting.now.program.now }
     requires place { IsPlaced setting.now place.now }
     requires plain { IsPlain (plain_act place.now.statement.now.act.now) }
-    ensures kept { length world.new.storage ≡ length world.old.storage }
+    ensures kept { world.new.program ≡ world.old.program }
     ensures leads { (now : Outside) (node budget : ℕ) → IsPlace setting.now node place.now
-        → Leads setting.now budget step node now now world.old world.new result }
+        → Leads setting.now budget step node now now world.old.world world.new.world result }
 {
     do_part(alloc, setting, place, world, step)
 }
@@ -94,17 +88,18 @@ pub fn do_close<F: Files>(
     step: u64,
 ) -> Result<u32, RunEnd>
     requires ready { IsReady setting.now }
-    requires whole { length world.old.storage ≡ setting.now.program.now.layout.storage }
+    requires runs { world.old.program ≡ setting.now.program.now }
     requires place { IsPlaced setting.now place.now }
     requires its { plain_act place.now.statement.now.act.now ≡ close_files closed.now }
-    ensures kept { length world.new.storage ≡ length world.old.storage }
+    ensures kept { world.new.program ≡ world.old.program }
     ensures leads { (sink : SinkState) (node budget : ℕ) → IsPlace setting.now node place.now
         → Leads setting.now budget step node (outside (F.state files.old) sink) (outside (F.state files.new) sink)
-        world.old world.new result }
-    ensures touches { Touches (paths_of setting.now) makes_none world.old (F.state files.old) (F.state files.new) }
-    ensures closes { IfOk result (λ _. ClosesOnly world.old world.new) }
+        world.old.world world.new.world result }
+    ensures touches { Touches (paths_of setting.now) makes_none world.old.world (F.state files.old)
+        (F.state files.new) }
+    ensures closes { IfOk result (λ _. ClosesOnly world.old.world world.new.world) }
 {
-    let Op::Close { file, .. } = place.spot.op else {
+    let Op::Close { file, .. } = place.plan_node.op else {
         return Err(RunEnd::Memory);
     };
     match file_in(closed, file) {

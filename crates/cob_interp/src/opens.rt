@@ -47,20 +47,20 @@ fn do_open<F: Files>(
     step: u64,
 ) -> Result<u32, RunEnd>
     requires ready { IsReady setting.now }
-    requires whole { length world.old.storage ≡ setting.now.program.now.layout.storage }
+    requires runs { world.old.program ≡ setting.now.program.now }
     requires its { act_at (program_of setting.now) statement ≡ Some (open_files openings.now) }
-    ensures kept { length world.new.storage ≡ length world.old.storage }
+    ensures kept { world.new.program ≡ world.old.program }
     ensures leads { (sink : SinkState) (budget steps : ℕ) → step ≡ steps + 1
         → LeadsOpening setting.now budget steps node statement openings.now number
-        (outside (F.state files.old) sink) (outside (F.state files.new) sink) world.old world.new result }
-    ensures touches { Makes (paths_of setting.now) (makes_in openings.now) world.old
+        (outside (F.state files.old) sink) (outside (F.state files.new) sink) world.old.world world.new.world result }
+    ensures touches { Makes (paths_of setting.now) (makes_in openings.now) world.old.world
         (F.state files.old) (F.state files.new) }
-    ensures opens { IfOk result (λ _. OpensOnly world.old world.new) }
+    ensures opens { IfOk result (λ _. OpensOnly world.old.world world.new.world) }
 {
     let Some(place) = setting.place(node) else {
         return Err(RunEnd::Memory);
     };
-    if place.spot.statement != statement || !is_open_of(&place.spot.op, number) {
+    if place.plan_node.statement != statement || !is_open_of(&place.plan_node.op, number) {
         return Err(RunEnd::Memory);
     }
     let Some(opening) = opening_in(openings, number) else {
@@ -82,13 +82,13 @@ pub fn open_all<F: Files>(
     step: u64,
 ) -> Result<u32, RunEnd>
     requires ready { IsReady setting.now }
-    requires whole { length world.old.storage ≡ setting.now.program.now.layout.storage }
+    requires runs { world.old.program ≡ setting.now.program.now }
     requires its { act_at (program_of setting.now) statement ≡ Some (open_files openings.now) }
-    ensures kept { length world.new.storage ≡ length world.old.storage }
+    ensures kept { world.new.program ≡ world.old.program }
     ensures leads { (sink : SinkState) (budget steps : ℕ) → step ≡ steps + 1
         → LeadsOver setting.now budget steps node statement openings.now
-        (outside (F.state files.old) sink) (outside (F.state files.new) sink) world.old world.new result }
-    ensures touches { Makes (paths_of setting.now) (makes_in openings.now) world.old
+        (outside (F.state files.old) sink) (outside (F.state files.new) sink) world.old.world world.new.world result }
+    ensures touches { Makes (paths_of setting.now) (makes_in openings.now) world.old.world
         (F.state files.old) (F.state files.new) }
 {
     let mut at = do_open(

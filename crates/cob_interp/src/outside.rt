@@ -81,9 +81,10 @@ pub fn ready_to_close<F: Files>(
 ) -> Result<(), RunEnd>
     requires ready { IsReady setting.now }
     ensures readies { MatchResult result
-        (λ _. ReadyToClose setting.now world.now place (F.state files.old) (F.state files.new))
+        (λ _. ReadyToClose setting.now world.now.world place (F.state files.old) (F.state files.new))
         (λ e. IsRefusal (F.state files.old) (F.state files.new) e) }
-    ensures touches { Touches (paths_of setting.now) makes_none world.now (F.state files.old) (F.state files.new) }
+    ensures touches { Touches (paths_of setting.now) makes_none world.now.world (F.state files.old)
+        (F.state files.new) }
 {
     match (setting.path(place), world.file(place as usize)) {
         (Some(path), Some(file)) => {
@@ -108,13 +109,13 @@ fn load_content<F: Files>(
     path: &str,
     place: u32,
 ) -> Result<(), RunEnd>
-    ensures kept { length world.new.storage ≡ length world.old.storage }
+    ensures kept { world.new.program ≡ world.old.program }
     ensures loads { MatchResult result
-        (λ _. LoadsInto (F.state files.old) (F.state files.new) path.now place world.old world.new)
+        (λ _. LoadsInto (F.state files.old) (F.state files.new) path.now place world.old.world world.new.world)
         (λ e. IsRefusedToLoad (F.state files.old) (F.state files.new) path.now e) }
     ensures ids { KeepsIds (F.state files.old) (F.state files.new) }
     ensures same { known_bytes (F.state files.new) ≡ known_bytes (F.state files.old) }
-    ensures opens { OpensOnly world.old world.new }
+    ensures opens { OpensOnly world.old.world world.new.world }
 {
     let content = load(alloc, files, path)?;
     world.set_content(place as usize, content);
@@ -130,13 +131,13 @@ pub fn ready_to_open<F: Files>(
     opening: Opening,
 ) -> Result<(), RunEnd>
     requires ready { IsReady setting.now }
-    ensures kept { length world.new.storage ≡ length world.old.storage }
+    ensures kept { world.new.program ≡ world.old.program }
     ensures readies { MatchResult result
-        (λ _. ReadyToOpen setting.now world.old world.new opening (F.state files.old) (F.state files.new))
-        (λ e. IsRefusedToOpen setting.now world.old opening (F.state files.old) (F.state files.new) e) }
-    ensures touches { Makes (paths_of setting.now) (makes_in (opening ∷ [])) world.old
+        (λ _. ReadyToOpen setting.now world.old.world world.new.world opening (F.state files.old) (F.state files.new))
+        (λ e. IsRefusedToOpen setting.now world.old.world opening (F.state files.old) (F.state files.new) e) }
+    ensures touches { Makes (paths_of setting.now) (makes_in (opening ∷ [])) world.old.world
         (F.state files.old) (F.state files.new) }
-    ensures opens { OpensOnly world.old world.new }
+    ensures opens { OpensOnly world.old.world world.new.world }
 {
     let Some(path) = setting.path(opening.file) else {
         return Err(RunEnd::Memory);

@@ -3,8 +3,8 @@ ghost use Rattle.std.specs.Prelude.{◌≡◌, ℕ, true, false, MatchResult, le
 ghost use Rattle.batch_io.specs.FilesState.{KeepsIds, known_bytes};
 ghost use Rattle.batch_io.specs.SinkState.{SinkState};
 ghost use Rattle.cob_graph.specs.Graphs.{IsGraph};
-ghost use Rattle.cob_graph.specs.Walks.{IsWhole};
-ghost use Rattle.cob_items.specs.Sound.{HasSoundItems};
+ghost use Rattle.cob_graph.specs.WellFormed.{IsWellFormed};
+ghost use Rattle.cob_items.specs.WellFormed.{HasWellFormedItems};
 ghost use Rattle.cob_program.specs.ActView.{plain_program};
 ghost use Rattle.cob_world.specs.Doing.{CanDoProgram};
 ghost use Rattle.cob_interp.specs.Readying.{ReadyToClose, IsRefusal};
@@ -20,9 +20,9 @@ use crate::setting::Setting;
 use crate::walk::{Halt, flush, walk};
 use batch_io::{Files, MakeEnd, Sink};
 use cob_graph::Graph;
+use cob_graph_laws::ways_tell_of_runs;
 use cob_plan::Plan;
 use cob_program::Program;
-use cob_ways::ways_tell_of_runs;
 use cob_world::World;
 use std::alloc::Global;
 
@@ -35,9 +35,10 @@ fn put_at<F: Files>(
 ) -> Result<(), RunEnd>
     requires ready { IsReady setting.now }
     ensures readies { MatchResult result
-        (λ _. ReadyToClose setting.now world.now place (F.state files.old) (F.state files.new))
+        (λ _. ReadyToClose setting.now world.now.world place (F.state files.old) (F.state files.new))
         (λ end. IsRefusal (F.state files.old) (F.state files.new) end) }
-    ensures touches { Touches (paths_of setting.now) makes_none world.now (F.state files.old) (F.state files.new) }
+    ensures touches { Touches (paths_of setting.now) makes_none world.now.world (F.state files.old)
+        (F.state files.new) }
 {
     match u32::try_from(place) {
         Err(_) => Err(RunEnd::Memory),
@@ -49,10 +50,11 @@ fn put_at<F: Files>(
 fn put_all<F: Files>(setting: &Setting, files: &mut F, world: &World) -> Result<(), RunEnd>
     requires ready { IsReady setting.now }
     ensures puts { MatchResult result
-        (λ _. PutsTo (paths_of setting.now) world.now (length setting.now.paths.now)
+        (λ _. PutsTo (paths_of setting.now) world.now.world (length setting.now.paths.now)
         (F.state files.old) (F.state files.new))
         (λ end. IsRefusal (F.state files.old) (F.state files.new) end) }
-    ensures touches { Touches (paths_of setting.now) makes_none world.now (F.state files.old) (F.state files.new) }
+    ensures touches { Touches (paths_of setting.now) makes_none world.now.world (F.state files.old)
+        (F.state files.new) }
 {
     for place in 0..setting.paths.len() {
         put_at(setting, files, world, place)?;
@@ -86,7 +88,7 @@ fn finish<F: Files, O: Sink>(
     requires own { IsOwnEnd end }
     ensures runs { (budget : ℕ) (start : Outside)
         → HaltsOff (program_of setting.now) setting.now.graph.now (paths_of setting.now) budget start
-        (outside (F.state files.old) (O.state out.old)) world.old end
+        (outside (F.state files.old) (O.state out.old)) world.old.world end
         → Runs (program_of setting.now) setting.now.graph.now (paths_of setting.now) budget start
         (outside (F.state files.new) (O.state out.new)) result.end }
     ensures sink { TellsOfSink (O.state out.old) (O.state out.new) result }
@@ -131,7 +133,7 @@ fn ending_of<F: Files, O: Sink>(
     requires ready { IsReady setting.now }
     ensures runs { (budget : ℕ) (start : Outside)
         → HaltsOff (program_of setting.now) setting.now.graph.now (paths_of setting.now) budget start
-        (outside (F.state files.old) (O.state out.old)) world.old (as_result halted)
+        (outside (F.state files.old) (O.state out.old)) world.old.world (as_result halted)
         → Runs (program_of setting.now) setting.now.graph.now (paths_of setting.now) budget start
         (outside (F.state files.new) (O.state out.new)) result.end }
     ensures sink { (first : SinkState) → TellsBySink first (O.state out.old) halted
@@ -154,7 +156,7 @@ fn ending_of<F: Files, O: Sink>(
     }
 }
 
-/// The same, but for what is said of files that are never made.
+/// Runs a program as `run_to_ending` does. What is said of files that are never made follows there.
 fn run_through<F: Files, O: Sink>(
     alloc: Global,
     program: &Program,
@@ -165,8 +167,8 @@ fn run_through<F: Files, O: Sink>(
     budget: u64,
 ) -> Ending
     requires graph { IsGraph (plain_program program.now) graph.now }
-    requires whole { IsWhole (plain_program program.now) }
-    requires sound { HasSoundItems program.now.layout }
+    requires whole { IsWellFormed (plain_program program.now) }
+    requires sound { HasWellFormedItems program.now.layout }
     requires able { CanDoProgram (plain_program program.now) }
     requires paths { length paths.now ≡ length program.now.layout.files }
     requires distinct { AreDistinct (texts paths.now) }
@@ -209,8 +211,8 @@ pub fn run_to_ending<F: Files, O: Sink>(
     budget: u64,
 ) -> Ending
     requires graph { IsGraph (plain_program program.now) graph.now }
-    requires whole { IsWhole (plain_program program.now) }
-    requires sound { HasSoundItems program.now.layout }
+    requires whole { IsWellFormed (plain_program program.now) }
+    requires sound { HasWellFormedItems program.now.layout }
     requires able { CanDoProgram (plain_program program.now) }
     requires paths { length paths.now ≡ length program.now.layout.files }
     requires distinct { AreDistinct (texts paths.now) }
@@ -238,8 +240,8 @@ pub fn run<F: Files, O: Sink>(
     budget: u64,
 ) -> Result<Ended, RunEnd>
     requires graph { IsGraph (plain_program program.now) graph.now }
-    requires whole { IsWhole (plain_program program.now) }
-    requires sound { HasSoundItems program.now.layout }
+    requires whole { IsWellFormed (plain_program program.now) }
+    requires sound { HasWellFormedItems program.now.layout }
     requires able { CanDoProgram (plain_program program.now) }
     requires paths { length paths.now ≡ length program.now.layout.files }
     requires distinct { AreDistinct (texts paths.now) }

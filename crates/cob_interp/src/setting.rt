@@ -1,12 +1,12 @@
 //! A program that is run, with its plan and the paths of its files.
 ghost use Rattle.std.specs.Prelude.{◌≡◌, ◌==◌, ℕ, false, Some, None, IfSome};
 ghost use Rattle.cob_graph.specs.declared.graph.Node.{Node};
-ghost use Rattle.cob_graph.specs.Walks.{node_at, final_in};
+ghost use Rattle.cob_graph.specs.Lookup.{node_at, final_in};
 ghost use Rattle.cob_interp.specs.Setting.{IsReady, IsPlace, StartsAt};
 ghost use Rattle.cob_interp.specs.Readying.{IsPath};
 
 use cob_graph::Graph;
-use cob_plan::{Plan, Spot, Statement};
+use cob_plan::{Plan, PlanNode, Statement};
 use cob_program::Program;
 
 /// A program, its graph, what is done at each node, and the path of each file in the order of their SELECT entries.
@@ -21,7 +21,7 @@ pub struct Setting<'a> {
 /// A node with its statement.
 #[derive(Drop)]
 pub struct Place<'a, 'b> {
-    pub spot: &'a Spot,
+    pub plan_node: &'a PlanNode,
     pub statement: &'a Statement<'b>,
 }
 
@@ -38,9 +38,9 @@ impl<'b> Setting<'b> {
         requires { IsReady self.now }
         ensures { result ≡ false → (x : Node) → node_at self.now.graph.now.nodes node ≡ Some x → x.starts ≡ false }
     {
-        match self.plan.spot(node) {
+        match self.plan.node(node) {
             None => true,
-            Some(spot) => spot.starts || self.is_final(node),
+            Some(plan_node) => plan_node.starts || self.is_final(node),
         }
     }
 
@@ -49,9 +49,12 @@ impl<'b> Setting<'b> {
         requires { IsReady self.now }
         ensures { IfSome result (λ x. IsPlace self.now node x) }
     {
-        let spot = self.plan.spot(node)?;
-        let statement = self.plan.statement(spot.statement)?;
-        Some(Place { spot, statement })
+        let plan_node = self.plan.node(node)?;
+        let statement = self.plan.statement(plan_node.statement)?;
+        Some(Place {
+            plan_node,
+            statement,
+        })
     }
 
     /// A node at which a step begins, with its statement.
@@ -60,7 +63,11 @@ impl<'b> Setting<'b> {
         ensures { IfSome result (λ x. StartsAt self.now node x) }
     {
         let place = self.place(node)?;
-        if place.spot.starts { Some(place) } else { None }
+        if place.plan_node.starts {
+            Some(place)
+        } else {
+            None
+        }
     }
 
     /// The path of the file at a place.

@@ -31,10 +31,10 @@ fn do_node(
     step: u64,
 ) -> Result<u32, RunEnd>
     requires ready { IsReady setting.now }
-    requires whole { length world.old.storage ≡ setting.now.program.now.layout.storage }
-    ensures kept { length world.new.storage ≡ length world.old.storage }
+    requires runs { world.old.program ≡ setting.now.program.now }
+    ensures kept { world.new.program ≡ world.old.program }
     ensures leads { (now : Outside) (budget : ℕ)
-        → Leads setting.now budget step node now now world.old world.new result }
+        → Leads setting.now budget step node now now world.old.world world.new.world result }
 {
     let Some(place) = setting.place(node) else {
         return Err(RunEnd::Memory);
@@ -57,13 +57,13 @@ fn go_through(
     step: u64,
 ) -> Result<u32, RunEnd>
     requires ready { IsReady setting.now }
-    requires whole { length world.old.storage ≡ setting.now.program.now.layout.storage }
-    ensures kept { length world.new.storage ≡ length world.old.storage }
+    requires runs { world.old.program ≡ setting.now.program.now }
+    ensures kept { world.new.program ≡ world.old.program }
     ensures leads { (now : Outside) (budget : ℕ)
-        → Leads setting.now budget step node now now world.old world.new result }
+        → Leads setting.now budget step node now now world.old.world world.new.world result }
 {
     let mut at = node;
-    for _ in 0..setting.plan.spots.len() {
+    for _ in 0..setting.plan.nodes.len() {
         at = do_node(alloc, setting, world, at, step)?;
         if setting.rests_at(at) {
             return Ok(at);
@@ -84,12 +84,12 @@ fn go(
     step: u64,
 ) -> Result<u32, RunEnd>
     requires ready { IsReady setting.now }
-    requires whole { length world.old.storage ≡ setting.now.program.now.layout.storage }
+    requires runs { world.old.program ≡ setting.now.program.now }
     requires place { IsPlace setting.now node place.now }
     requires plain { IsPlain (plain_act place.now.statement.now.act.now) }
-    ensures kept { length world.new.storage ≡ length world.old.storage }
+    ensures kept { world.new.program ≡ world.old.program }
     ensures leads { (now : Outside) (budget : ℕ)
-        → Leads setting.now budget step node now now world.old world.new result }
+        → Leads setting.now budget step node now now world.old.world world.new.world result }
 {
     let next = do_plain(alloc, setting, place, world, step)?;
     if setting.rests_at(next) {
@@ -109,12 +109,13 @@ fn close_next<F: Files>(
     step: u64,
 ) -> Result<u32, RunEnd>
     requires ready { IsReady setting.now }
-    requires whole { length world.old.storage ≡ setting.now.program.now.layout.storage }
-    ensures kept { length world.new.storage ≡ length world.old.storage }
+    requires runs { world.old.program ≡ setting.now.program.now }
+    ensures kept { world.new.program ≡ world.old.program }
     ensures leads { (sink : SinkState) (budget : ℕ) → Leads setting.now budget step node
-        (outside (F.state files.old) sink) (outside (F.state files.new) sink) world.old world.new result }
-    ensures touches { Touches (paths_of setting.now) makes_none world.old (F.state files.old) (F.state files.new) }
-    ensures closes { IfOk result (λ _. ClosesOnly world.old world.new) }
+        (outside (F.state files.old) sink) (outside (F.state files.new) sink) world.old.world world.new.world result }
+    ensures touches { Touches (paths_of setting.now) makes_none world.old.world (F.state files.old)
+        (F.state files.new) }
+    ensures closes { IfOk result (λ _. ClosesOnly world.old.world world.new.world) }
 {
     let Some(place) = setting.place(node) else {
         return Err(RunEnd::Memory);
@@ -135,14 +136,15 @@ fn close_all<F: Files>(
     step: u64,
 ) -> Result<u32, RunEnd>
     requires ready { IsReady setting.now }
-    requires whole { length world.old.storage ≡ setting.now.program.now.layout.storage }
-    ensures kept { length world.new.storage ≡ length world.old.storage }
+    requires runs { world.old.program ≡ setting.now.program.now }
+    ensures kept { world.new.program ≡ world.old.program }
     ensures leads { (sink : SinkState) (budget : ℕ) → Leads setting.now budget step node
-        (outside (F.state files.old) sink) (outside (F.state files.new) sink) world.old world.new result }
-    ensures touches { Touches (paths_of setting.now) makes_none world.old (F.state files.old) (F.state files.new) }
+        (outside (F.state files.old) sink) (outside (F.state files.new) sink) world.old.world world.new.world result }
+    ensures touches { Touches (paths_of setting.now) makes_none world.old.world (F.state files.old)
+        (F.state files.new) }
 {
     let mut at = node;
-    for _ in 0..setting.plan.spots.len() {
+    for _ in 0..setting.plan.nodes.len() {
         at = close_next(alloc, setting, files, world, at, step)?;
         if setting.rests_at(at) {
             return Ok(at);
@@ -169,8 +171,8 @@ fn is_cut(file: &File, size: u32) -> bool
 /// Refuses a READ that would meet a ragged end.
 fn check_cut(setting: &Setting, world: &World, file: u32) -> Result<(), RunEnd>
     ensures { MatchResult result
-        (λ _. cut_file (decl_at setting.now.program.now.layout file) (slice_get world.now.files file) ≡ false)
-        (λ e. IsRaggedAt setting.now world.now file e) }
+        (λ _. cut_file (decl_at setting.now.program.now.layout file) (slice_get world.now.world.files file) ≡ false)
+        (λ e. IsRaggedAt setting.now world.now.world file e) }
 {
     let Some(decl) = setting.program.layout.files.get().get(file as usize) else {
         return Ok(());
@@ -199,15 +201,16 @@ pub fn take_step<F: Files>(
     step: u64,
 ) -> Result<u32, RunEnd>
     requires ready { IsReady setting.now }
-    requires whole { length world.old.storage ≡ setting.now.program.now.layout.storage }
+    requires runs { world.old.program ≡ setting.now.program.now }
     requires starts { StartsAt setting.now node place.now }
-    ensures kept { length world.new.storage ≡ length world.old.storage }
+    ensures kept { world.new.program ≡ world.old.program }
     ensures takes { (sink : SinkState) (budget steps : ℕ) (start : Outside) → step ≡ steps + 1 → steps < budget
         → Stands (program_of setting.now) setting.now.graph.now (paths_of setting.now) start
-        (outside (F.state files.old) sink) world.old steps steps node
+        (outside (F.state files.old) sink) world.old.world steps steps node
         → Arrives (program_of setting.now) setting.now.graph.now (paths_of setting.now) budget start
-        (outside (F.state files.new) sink) world.new step result }
-    ensures touches { Touches (paths_of setting.now) (makes_by (plain_act place.now.statement.now.act.now)) world.old
+        (outside (F.state files.new) sink) world.new.world step result }
+    ensures touches { Touches (paths_of setting.now) (makes_by (plain_act place.now.statement.now.act.now))
+        world.old.world
         (F.state files.old) (F.state files.new) }
 {
     match call_of(place.statement.act) {
@@ -217,7 +220,7 @@ pub fn take_step<F: Files>(
             files,
             world,
             node,
-            place.spot.statement,
+            place.plan_node.statement,
             openings,
             step,
         ),

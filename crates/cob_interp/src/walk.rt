@@ -1,7 +1,7 @@
 //! A run from its first node to its end.
 ghost use Rattle.std.specs.Prelude.{◌≡◌, ◌+◌, ◌<◌, ℕ, MatchResult, length};
 ghost use Rattle.batch_io.specs.FilesState.{KeepsIds};
-ghost use Rattle.cob_runs.specs.State.{World};
+ghost use Rattle.cob_runs.specs.State as state;
 ghost use Rattle.cob_interp.specs.Running.{Outside, outside, IsAt, GoesOn, HaltsOff};
 ghost use Rattle.cob_interp.specs.Setting.{IsReady, program_of, paths_of};
 ghost use Rattle.cob_interp.specs.Walking.{as_result, TellsBySink, Flushes, MayFlush, Refuses};
@@ -26,10 +26,10 @@ pub enum Halt {
 
 /// Shows the text that waits.
 pub fn flush<O: Sink>(world: &mut World, out: &mut O) -> Result<(), MakeEnd>
-    ensures kept { length world.new.storage ≡ length world.old.storage }
+    ensures kept { world.new.program ≡ world.old.program }
     ensures flushes { MatchResult result
-        (λ _. Flushes (O.state out.old) (O.state out.new) world.old world.new)
-        (λ end. Refuses (O.state out.old) (O.state out.new) world.old world.new end) }
+        (λ _. Flushes (O.state out.old) (O.state out.new) world.old.world world.new.world)
+        (λ end. Refuses (O.state out.old) (O.state out.new) world.old.world world.new.world end) }
 {
     show_whole(out, world.shown())?;
     world.clear_shown();
@@ -47,10 +47,10 @@ fn is_flushed_before(place: &Place, world: &World) -> bool {
 
 /// Shows the text that waits, where that's due before a statement.
 fn flush_before<O: Sink>(place: &Place, world: &mut World, out: &mut O) -> Result<(), MakeEnd>
-    ensures kept { length world.new.storage ≡ length world.old.storage }
+    ensures kept { world.new.program ≡ world.old.program }
     ensures flushes { MatchResult result
-        (λ _. MayFlush (O.state out.old) (O.state out.new) world.old world.new)
-        (λ end. Refuses (O.state out.old) (O.state out.new) world.old world.new end) }
+        (λ _. MayFlush (O.state out.old) (O.state out.new) world.old.world world.new.world)
+        (λ end. Refuses (O.state out.old) (O.state out.new) world.old.world world.new.world end) }
 {
     if is_flushed_before(place, world) {
         flush(world, out)
@@ -70,13 +70,13 @@ fn go_on<F: Files, O: Sink>(
     step: u64,
 ) -> Result<u32, Halt>
     requires ready { IsReady setting.now }
-    requires whole { length world.old.storage ≡ setting.now.program.now.layout.storage }
-    ensures kept { length world.new.storage ≡ length world.old.storage }
+    requires runs { world.old.program ≡ setting.now.program.now }
+    ensures kept { world.new.program ≡ world.old.program }
     ensures goes { (budget steps : ℕ) (start : Outside) → step ≡ steps + 1 → steps < budget
         → IsAt (program_of setting.now) setting.now.graph.now (paths_of setting.now) budget start
-        (outside (F.state files.old) (O.state out.old)) world.old steps node
+        (outside (F.state files.old) (O.state out.old)) world.old.world steps node
         → GoesOn (program_of setting.now) setting.now.graph.now (paths_of setting.now) budget start
-        (outside (F.state files.new) (O.state out.new)) world.new step (as_result result) }
+        (outside (F.state files.new) (O.state out.new)) world.new.world step (as_result result) }
     ensures sink { TellsBySink (O.state out.old) (O.state out.new) result }
     ensures ids { KeepsIds (F.state files.old) (F.state files.new) }
 {
@@ -95,7 +95,7 @@ fn go_on<F: Files, O: Sink>(
 /// The end of a run whose budget is spent at a node.
 fn end_at(setting: &Setting, node: u32, budget: u64) -> Result<Ended, RunEnd>
     requires { IsReady setting.now }
-    ensures { (start now : Outside) (w : World)
+    ensures { (start now : Outside) (w : state.World)
         → IsAt (program_of setting.now) setting.now.graph.now (paths_of setting.now) budget start now w budget node
         → HaltsOff (program_of setting.now) setting.now.graph.now (paths_of setting.now) budget start now w result }
 {
@@ -118,12 +118,12 @@ pub fn walk<F: Files, O: Sink>(
     budget: u64,
 ) -> Result<Ended, Halt>
     requires ready { IsReady setting.now }
-    requires whole { length world.old.storage ≡ setting.now.program.now.layout.storage }
+    requires runs { world.old.program ≡ setting.now.program.now }
     ensures halts { (start : Outside)
         → IsAt (program_of setting.now) setting.now.graph.now (paths_of setting.now) budget start
-        (outside (F.state files.old) (O.state out.old)) world.old 0 1
+        (outside (F.state files.old) (O.state out.old)) world.old.world 0 1
         → HaltsOff (program_of setting.now) setting.now.graph.now (paths_of setting.now) budget start
-        (outside (F.state files.new) (O.state out.new)) world.new (as_result result) }
+        (outside (F.state files.new) (O.state out.new)) world.new.world (as_result result) }
     ensures sink { TellsBySink (O.state out.old) (O.state out.new) result }
     ensures ids { KeepsIds (F.state files.old) (F.state files.new) }
 {

@@ -9,7 +9,7 @@ use Rattle.std.specs.Option.{option_map_or}
 use Rattle.cob_data.specs.declared.layout.Item.{Item}
 use Rattle.cob_data.specs.declared.layout.Layout.{Layout}
 use Rattle.cob_runs.specs.Contents.{written, digits_of, item_at, form_at, filled_at}
-use Rattle.cob_items.specs.Sound.{IsSoundForm}
+use Rattle.cob_items.specs.WellFormed.{IsWellFormedForm}
 
 pub put_mid-written : (xs ys : List ℕ) (a k : ℕ) → length ys ≡ k → put_mid a k xs ys ≡ written xs a ys
 put_mid-written xs ys a k whole =
@@ -17,7 +17,7 @@ put_mid-written xs ys a k whole =
     ∙ (ap (λ zs. take a xs ++ zs ++ drop (a + k) xs) (take_all k ys (omega arith))
     ∙ ap (λ n. take a xs ++ ys ++ drop (a + n) xs) (sym whole))
 
-pub few_digits : (f : Form) (bytes : ℕ) → IsSoundForm f bytes → digits_of f ≤ 18
+pub few_digits : (f : Form) (bytes : ℕ) → IsWellFormedForm f bytes → digits_of f ≤ 18
 few_digits Group bytes sound = omega arith
 few_digits (Text n) bytes sound = omega arith
 few_digits (Number digits scale signed usage) bytes sound = sound.number.at_most_18

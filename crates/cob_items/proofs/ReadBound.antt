@@ -20,7 +20,7 @@ use Rattle.num_bytes.specs.Reading.{both, front, last, signed_digit, is_own, two
 use Rattle.dec_num.specs.declared.types.Scaled.{Scaled}
 use Rattle.cob_program.specs.Bounds.{Bound, IsWithin, form_bound}
 use Rattle.cob_runs.specs.Contents.{scale_of, scaled_by}
-use Rattle.cob_items.specs.Sound.{IsSoundForm}
+use Rattle.cob_items.specs.WellFormed.{IsWellFormedForm}
 
 -- ---- numbers with a sign
 
@@ -152,7 +152,7 @@ number_below digits signed Binary bs z has is =
     omega (arith, own_below digits signed t parts.0, ap unsigned_abs parts.1)
 number_below digits signed Packed bs z has is = packed_below digits signed bs z is
 
-read_below : (f : Form) (bs : List ℕ) (z : ℤ) → IsSoundForm f (length bs) → contents_value f bs ≡ Some z → unsigned_abs z ≤ (form_bound f).most
+read_below : (f : Form) (bs : List ℕ) (z : ℤ) → IsWellFormedForm f (length bs) → contents_value f bs ≡ Some z → unsigned_abs z ≤ (form_bound f).most
 read_below Group bs z sound is = absurd (cc)
 read_below (Text n) bs z sound is = omega (arith, whole_below (digits_in bs) n z (λ ds read. digits_below bs ds n read (omega arith)) is)
 read_below (Number digits scale signed usage) bs z sound is = omega (arith, number_below digits signed usage bs z sound.number is)
@@ -164,7 +164,7 @@ bound_scale (Text n) bs z is = refl
 bound_scale (Number digits scale signed usage) bs z is = refl
 bound_scale (Edited picture digits scale) bs z is = refl
 
-pub read_within : (f : Form) (bs : List ℕ) (z : ℤ) (v : Scaled) → IsSoundForm f (length bs) → contents_value f bs ≡ Some z →
+pub read_within : (f : Form) (bs : List ℕ) (z : ℤ) (v : Scaled) → IsWellFormedForm f (length bs) → contents_value f bs ≡ Some z →
     v ≡ scaled_by (scale_of f) z → IsWithin v (form_bound f)
 read_within f bs z v sound is same = record {
   most = omega (arith, read_below f bs z sound is, ap (λ (w : Scaled). unsigned_abs w.units) same);

@@ -1,2 +1,2 @@
-pub mod Sound
+pub mod WellFormed
 pub mod Storing

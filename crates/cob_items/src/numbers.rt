@@ -1,8 +1,9 @@
+//! The numbers that items and literals hold.
 ghost use Rattle.std.specs.Prelude.{◌≡◌, ◌≤◌, length, pos, IfSome};
 ghost use Rattle.cob_program.specs.Bounds.{IsWithin, form_bound, literal_bound};
 ghost use Rattle.cob_program.specs.Values.{negated, numeral, literal};
 ghost use Rattle.cob_runs.specs.Contents.{form_at, scale_of, scaled_by, number_in, number_at};
-ghost use Rattle.cob_items.specs.Sound.{HasSoundItems, IsSoundForm, IsShort, IsSoundLiteral};
+ghost use Rattle.cob_items.specs.WellFormed.{HasWellFormedItems, IsWellFormedForm, IsShort, IsShortLiteral};
 
 use crate::items::{area, item_at};
 use cob_data::Layout;
@@ -32,7 +33,7 @@ fn scaled(units: i64, scale: u32) -> Scaled
 /// The number that the bytes of an item of this form are read as, if they are numeric.
 #[inline(always)]
 pub fn number_in(form: &Form, bytes: &[u8]) -> Option<Scaled>
-    requires sound { IsSoundForm form.now (length bytes.now) }
+    requires sound { IsWellFormedForm form.now (length bytes.now) }
     requires short { IsShort form.now }
     ensures value { result ≡ number_in form.now bytes.now }
     ensures bound { IfSome result (λ v. IsWithin v (form_bound form.now)) }
@@ -51,7 +52,7 @@ pub fn number_in(form: &Form, bytes: &[u8]) -> Option<Scaled>
 /// most 18 bytes (ISO 1989:1985, "Class condition").
 #[inline(always)]
 pub fn number_at(layout: &Layout, storage: &[u8], place: u32) -> Option<Scaled>
-    requires sound { HasSoundItems layout.now }
+    requires sound { HasWellFormedItems layout.now }
     requires whole { length storage.now ≡ layout.now.storage }
     requires short { IsShort (form_at layout.now place) }
     ensures value { result ≡ number_at layout.now storage.now place }
@@ -87,7 +88,7 @@ fn negated(minus: bool, size: u64) -> i128
 
 /// The number that a literal of at most 18 digits writes (ISO 1989:1985, "Literals").
 pub fn literal(number: &Num) -> Scaled
-    requires { IsSoundLiteral number.now }
+    requires { IsShortLiteral number.now }
     ensures value { result ≡ literal number.now }
     ensures bound { IsWithin result (literal_bound number.now) }
 {

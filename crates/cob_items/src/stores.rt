@@ -1,3 +1,4 @@
+//! Numbers stored in items, where their digits hold them.
 ghost use Rattle.std.specs.Prelude.{◌≡◌, ◌≤◌, ◌<◌, ◌+◌, ◌^◌, length, pos, unsigned_abs, is_some, IsTrue};
 ghost use Rattle.dec_num.specs.Exact.{near};
 ghost use Rattle.dec_num.specs.Fit.{MatchFit};
@@ -5,7 +6,7 @@ ghost use Rattle.dec_num.specs.Scaled.{value_of};
 ghost use Rattle.cob_program.specs.Bounds.{IsSmall};
 ghost use Rattle.cob_runs.specs.Contents.{form_at, length_at, digits_of, scale_of, bytes_of, if_held, stored, filled_at};
 ghost use Rattle.cob_runs.specs.Moves.{takes_number};
-ghost use Rattle.cob_items.specs.Sound.{HasSoundItems, IsSoundForm};
+ghost use Rattle.cob_items.specs.WellFormed.{HasWellFormedItems, IsWellFormedForm};
 ghost use Rattle.cob_items.specs.Storing.{filled_if};
 
 use crate::items::item_at;
@@ -38,7 +39,7 @@ fn size_of(units: i64, digits: u32) -> i64
 /// sign gets the absolute value.
 pub fn write_units(form: &Form, units: i64, bytes: &mut [u8])
     requires takes { IsTrue (takes_number form.now) }
-    requires sound { IsSoundForm form.now (length bytes.old) }
+    requires sound { IsWellFormedForm form.now (length bytes.old) }
     requires held { unsigned_abs units < 10 ^ digits_of form.now }
     ensures { bytes.new ≡ bytes_of form.now units }
 {
@@ -52,7 +53,7 @@ pub fn write_units(form: &Form, units: i64, bytes: &mut [u8])
 
 /// Puts the bytes into the item at a place; they are as many as its own.
 pub fn fill_bytes(layout: &Layout, storage: &mut [u8], place: u32, bytes: &[u8])
-    requires sound { HasSoundItems layout.now }
+    requires sound { HasWellFormedItems layout.now }
     requires whole { length storage.old ≡ layout.now.storage }
     requires length { length bytes.now ≡ length_at layout.now place }
     ensures { storage.new ≡ filled_at layout.now storage.old place bytes.now }
@@ -66,7 +67,7 @@ pub fn fill_bytes(layout: &Layout, storage: &mut [u8], place: u32, bytes: &[u8])
 
 // Puts the number into the item at a place.
 fn fill_units(layout: &Layout, storage: &mut [u8], place: u32, units: i64)
-    requires sound { HasSoundItems layout.now }
+    requires sound { HasWellFormedItems layout.now }
     requires whole { length storage.old ≡ layout.now.storage }
     requires takes { IsTrue (takes_number (form_at layout.now place)) }
     requires held { unsigned_abs units < 10 ^ digits_of (form_at layout.now place) }
@@ -88,7 +89,7 @@ fn limit_of(form: &Form) -> u128
 
 // The least number that the item at a place doesn't hold.
 fn ten_of(layout: &Layout, place: u32) -> u128
-    requires sound { HasSoundItems layout.now }
+    requires sound { HasWellFormedItems layout.now }
     requires takes { IsTrue (takes_number (form_at layout.now place)) }
     ensures value { result ≡ 10 ^ digits_of (form_at layout.now place) }
     ensures bound { result ≤ 10 ^ 18 }
@@ -102,7 +103,7 @@ fn ten_of(layout: &Layout, place: u32) -> u128
 /// Puts the number of so many units of the item's scale into the item at a place, where its digits hold it; otherwise
 /// storage stays as it is. An item without a sign gets the absolute value. Answers whether it is held.
 pub fn store_units(layout: &Layout, storage: &mut [u8], place: u32, units: i128) -> bool
-    requires sound { HasSoundItems layout.now }
+    requires sound { HasWellFormedItems layout.now }
     requires whole { length storage.old ≡ layout.now.storage }
     requires takes { IsTrue (takes_number (form_at layout.now place)) }
     ensures held { result ≡ is_some (if_held (form_at layout.now place) units) }
@@ -119,7 +120,7 @@ pub fn store_units(layout: &Layout, storage: &mut [u8], place: u32, units: i128)
 
 // The value in units of the item at a place, if its digits hold it.
 fn fit_in(layout: &Layout, place: u32, value: Scaled, mode: Mode) -> Fit
-    requires sound { HasSoundItems layout.now }
+    requires sound { HasWellFormedItems layout.now }
     requires takes { IsTrue (takes_number (form_at layout.now place)) }
     requires small { IsSmall value }
     ensures { MatchFit result
@@ -138,7 +139,7 @@ fn fit_in(layout: &Layout, place: u32, value: Scaled, mode: Mode) -> Fit
 /// as it is (ISO 1989:1985, "The ROUNDED phrase"). Answers whether it is held.
 #[inline(always)]
 pub fn store_at(layout: &Layout, storage: &mut [u8], place: u32, value: Scaled, mode: Mode) -> bool
-    requires sound { HasSoundItems layout.now }
+    requires sound { HasWellFormedItems layout.now }
     requires whole { length storage.old ≡ layout.now.storage }
     requires takes { IsTrue (takes_number (form_at layout.now place)) }
     requires small { IsSmall value }

@@ -102,7 +102,7 @@ token_at BehindIs free text = picture_token (take (solid_len text) text)
 unfoldable pub cut : State → List Mark → Option Cut
 cut s text = if is_gap text then Some gap else token_at s.due s.free text
 
--- where a number may have a sign: a space or `(` stands before
+-- A number may have a sign where a space or `(` stands before it.
 abbrev pub is_opening : ℕ → Bool
 is_opening ch = ch == 32 || ch == 40
 

@@ -45,7 +45,7 @@ read start s (suc n) (m ∷ ms) = read (start + 1) s n ms
 read start s zero (m ∷ ms) =
     begun start m (cut s (m ∷ ms)) (λ c. read (start + 1) (after s c (m ∷ ms)) (c.length - 1) ms)
 
--- at the beginning of a text no space stands before
+-- The state at the beginning of a text: no space stands before.
 abbrev pub beginning : State
 beginning = record { free = false; due = Nothing }
 

@@ -1,3 +1,4 @@
+//! The next raw token of a text: what is cut off, or why nothing can be.
 ghost use Rattle.std.specs.Prelude.{◌≡◌, ◌+◌, ◌-◌, ◌<◌, ◌≤◌, length, drop, take, false};
 ghost use Rattle.std.specs.Bool.{OnTrue};
 ghost use Rattle.cob_lex.specs.Marks.{ch_at, literal_len, solid_len};

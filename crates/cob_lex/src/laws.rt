@@ -1,3 +1,4 @@
+//! Laws of spelling.
 ghost use Rattle.std.specs.Prelude.{◌≡◌, List, Ok, Err};
 ghost use Rattle.cob_lines.specs.declared.Mark.{Mark};
 ghost use Rattle.cob_lex.specs.declared.piece.Piece.{Piece};

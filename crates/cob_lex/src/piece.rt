@@ -1,3 +1,4 @@
+//! Raw tokens with their places.
 ghost use Rattle.std.specs.Prelude.{◌≡◌, ◌+◌, ◌-◌, ◌<◌, ◌++◌, length, drop, OnOk};
 ghost use Rattle.cob_lex.specs.Pieces.{place_of, first, piece_list, read, beginning, raw_tokens, Gives};
 

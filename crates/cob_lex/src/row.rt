@@ -1,3 +1,4 @@
+//! The rewriting of words and relations.
 ghost use Rattle.std.specs.Prelude.{◌≡◌, ◌+◌, ◌<◌, ◌++◌, length, IfOk, OnOk, false};
 ghost use Rattle.cob_lex.specs.Rows.{fate_of, pair_of, alone, paired, row_of, row_at, head, key_at, shaped, fated, reworded, weakened, equal, comparison, compared_at, words_of, relation_or, related, is_stop, is_digit_alone, padded_one, padded, rewritten};
 

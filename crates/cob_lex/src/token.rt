@@ -1,3 +1,4 @@
+//! Canonical tokens from pieces of a text.
 ghost use Rattle.std.specs.Prelude.{◌≡◌, ◌+◌, ◌++◌, ◌∷◌, [], ◌<◌, ◌≤◌, map, length, take, drop, IfOk, IfSome, OnOk, false};
 ghost use Rattle.cob_lex.specs.Marks.{undoubled, undoubled_one, content};
 ghost use Rattle.cob_lex.specs.Words.{raised};

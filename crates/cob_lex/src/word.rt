@@ -1,3 +1,4 @@
+//! Words that the rewriting speaks of, and what a run of characters is.
 ghost use Rattle.std.specs.Prelude.{◌≡◌, ◌+◌, ◌<◌, ◌≤◌, length, drop, count_by};
 ghost use Rattle.std.specs.Bool.{OnTrue};
 ghost use Rattle.cob_lex.specs.Marks.{is_letter, is_word_character};

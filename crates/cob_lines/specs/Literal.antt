@@ -9,7 +9,7 @@ use Rattle.cob_lines.specs.declared.literal.Quote.TheVariants.{Outside, Inside, 
 abbrev pub is_quotation : ℕ → Bool
 is_quotation ch = ch == 34 || ch == 39
 
--- behind a character that stands in no literal
+-- What a character opens that stands in no literal.
 abbrev pub opened_by : Mark → Quote
 opened_by mark = if is_quotation mark.ch then Inside mark else Outside
 
@@ -19,7 +19,7 @@ quote_after Outside mark = opened_by mark
 quote_after (Inside opening) mark = if mark.ch == opening.ch then Behind opening else Inside opening
 quote_after (Behind opening) mark = if mark.ch == opening.ch then Inside opening else opened_by mark
 
--- where the end of a text stands
+-- What is open at the end of a text.
 abbrev pub quote_of : List Mark → Quote
 quote_of text = fold quote_after Outside text
 

@@ -11,6 +11,10 @@ use Rattle.cob_lines.specs.declared.refusal.Place.{Place}
 use Rattle.cob_lines.specs.Columns.{space, columns, byte_at, is_continuation, is_dropped, first_nonblank, bad_column}
 use Rattle.cob_lines.specs.Literal.{open_literal}
 
+-- the greatest number of bytes of a source
+abbrev pub source_limit : ℕ
+source_limit = 1048576
+
 -- a line of the source, with its number from 1
 abbrev pub Line : Type 0
 Line = ℕ × List ℕ
@@ -111,7 +115,7 @@ abbrev pub earlier : Place → Place → Place
 earlier p q =
     if nat_lt p.line q.line || (p.line == q.line && nat_lt p.column q.column) then p else q
 
--- of both refusals the earlier one
+-- The earlier one of both refusals counts.
 abbrev pub refused_first : Option Place → Result (List Mark) Place → Result (List Mark) Place
 refused_first None text = text
 refused_first (Some bad) (Ok text) = Err bad

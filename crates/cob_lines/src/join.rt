@@ -1,7 +1,8 @@
+//! The text of a source: lines joined to characters with their places.
 ghost use Rattle.std.specs.Prelude.{◌≡◌, ◌+◌, ◌<◌, ◌≤◌, [], ◌∷◌, ◌++◌, length, OnOk, None, Some};
 ghost use Rattle.cob_lines.specs.Columns.{columns, first_nonblank};
 ghost use Rattle.cob_lines.specs.Literal.{open_literal};
-ghost use Rattle.cob_lines.specs.Text.{numbered_lines, kept, joined, closed, with_line, with_kept, with_ordinary, with_continuation, ended, marks_from, trimmed, Gives};
+ghost use Rattle.cob_lines.specs.Text.{numbered_lines, kept, joined, closed, with_line, with_kept, with_ordinary, with_continuation, ended, marks_from, trimmed, Gives, source_limit};
 ghost use Rattle.cob_lines.specs.Run.{IsRun, Steps, text};
 
 use crate::line::{
@@ -201,7 +202,7 @@ impl Joining {
 
 /// The kept lines joined, or the first place at which they don't join.
 pub fn joined(alloc: Global, bytes: &[u8]) -> Result<Vec<Mark>, TextEnd>
-    requires { length bytes.now ≤ 1048576 }
+    requires { length bytes.now ≤ source_limit }
     ensures { Gives (joined [] (kept (numbered_lines bytes.now))) result }
 {
     let mut joining = Joining::new(alloc);

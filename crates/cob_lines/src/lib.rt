@@ -5,7 +5,7 @@
 ghost use Rattle.std.specs.Prelude.{◌≡◌, ◌≤◌, ℕ, List, length, Ok, IfOk, IfErr};
 ghost use Rattle.cob_lines.specs.declared.TextEnd.TheVariants.{Memory};
 ghost use Rattle.std.specs.List.{All};
-ghost use Rattle.cob_lines.specs.Text.{numbered_lines, source_text, IfBadLine};
+ghost use Rattle.cob_lines.specs.Text.{numbered_lines, source_text, IfBadLine, source_limit};
 ghost use Rattle.cob_lines.specs.Plain.{IsPlain, plain_text};
 
 mod join;
@@ -16,6 +16,9 @@ mod refusal;
 use join::joined;
 use refusal::{Place, earlier, first_bad};
 use std::alloc::{AllocError, AllocFailed, Global};
+
+/// The most bytes of a source.
+pub const SOURCE_LIMIT: usize = 1_048_576;
 
 /// A character of the text, with the line and the column of the source in which it stands, both
 /// counted from 1. The space that stands for a line's end is in column 73.
@@ -57,7 +60,7 @@ impl From<AllocError> for TextEnd {
 /// Own to this reader: `'` is a quotation mark like `"`, indicator `D` marks a comment, areas A and
 /// B are not told apart, and a tab in columns 1 to 7 is refused.
 pub fn text_of(alloc: Global, bytes: &[u8]) -> Result<Vec<Mark>, TextEnd>
-    requires { length bytes.now ≤ 1048576 }
+    requires { length bytes.now ≤ source_limit }
     ensures text { IfOk result (λ marks. source_text bytes.now ≡ Ok marks.items) }
     ensures bad_line { IfErr result (λ end. IfBadLine end (λ place. source_text bytes.now ≡ Err place)) }
 {

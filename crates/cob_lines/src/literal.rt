@@ -1,3 +1,4 @@
+//! Whether a literal is open, character by character.
 ghost use Rattle.std.specs.Prelude.{◌≡◌};
 ghost use Rattle.cob_lines.specs.Literal.{is_quotation, opened_by, quote_after, opening_of};
 

@@ -1,5 +1,6 @@
+//! The first bad place of a source.
 ghost use Rattle.std.specs.Prelude.{◌≡◌, ◌≤◌, length};
-ghost use Rattle.cob_lines.specs.Text.{numbered_lines, first_bad, earlier, place_of};
+ghost use Rattle.cob_lines.specs.Text.{numbered_lines, first_bad, earlier, place_of, source_limit};
 
 use crate::line::{bad_column, first_line};
 use crate::{Mark, TextEnd};
@@ -46,7 +47,7 @@ pub fn earlier(a: Place, b: Place) -> Place
 /// The first place at which a line is bad by itself.
 #[tactic(auto, using(crate::proofs::TextLemmas::first_bad_more, crate::proofs::TextLemmas::first_bad_none))]
 pub fn first_bad(bytes: &[u8]) -> Option<Place>
-    requires { length bytes.now ≤ 1048576 }
+    requires { length bytes.now ≤ source_limit }
     ensures { result ≡ first_bad (numbered_lines bytes.now) }
 {
     let mut rest = bytes;

@@ -1,3 +1,4 @@
+//! The plain slow program that runs a straight-line program.
 ghost use Rattle.std.specs.Prelude.{◌≡◌, ◌+ℤ◌, ◌≤◌, ◌<◌, ◌^◌, ◌-◌, pos, length, vec_len, slice_index, unsigned_abs, IfOk};
 ghost use Rattle.cob_meaning.specs.declared.straight.Outcome.TheVariants.{Going};
 ghost use Rattle.cob_meaning.specs.Program.{IsValid, plain};

@@ -1,3 +1,4 @@
+//! Straight-line programs, and the outcomes of runs.
 use cob_tree::Kind;
 
 /// How a run stands after some steps.

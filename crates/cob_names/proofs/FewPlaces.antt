@@ -1,5 +1,5 @@
 -- A layout that was made from a tree has few places.
-use Rattle.std.proofs.Common.{◌≡◌, ℕ, ◌+◌, ◌≤◌, ◌^◌, Bool, true, false, cond, List, [], ◌∷◌, length, Option, Some, None, Ok, refl, sym, ap, arith}
+use Rattle.std.proofs.Common.{◌≡◌, ℕ, ◌+◌, ◌≤◌, Bool, true, false, cond, List, [], ◌∷◌, length, Option, Some, None, Ok, refl, sym, ap, arith}
 use Rattle.std.proofs.lemmas.List.{length-map}
 use Rattle.cob_tree.specs.declared.tree.Tree.{Tree}
 use Rattle.cob_tree.specs.StmtView.{plain_tree}
@@ -15,6 +15,7 @@ use Rattle.cob_data.specs.Answers.{IsAnswer}
 use Rattle.cob_data.proofs.PrintLemmas.{few_entries}
 use Rattle.cob_data.proofs.ReadLemmas.{descriptions_length}
 use Rattle.cob_names.specs.Search.{HasFewPlaces}
+use Rattle.cob_tree.specs.Limits.{token_limit}
 
 items_length : (ds : List Description) (ss : List Spot) → length (laid_items ds ss) ≤ length ds
 items_length [] ss = omega arith
@@ -29,7 +30,7 @@ conditions_length n last (p ∷ ps) = by (is_condition p.entry) n last p ps (con
   by true n last p ps h k = omega (arith, h)
   by false n last p ps h k = omega (arith, k)
 
-few_in : (t : Tree) → length (print_tree (plain_tree t)) ≤ 2 ^ 27 → length (facts_of t).selects ≤ 16 → HasFewPlaces (layout t)
+few_in : (t : Tree) → length (print_tree (plain_tree t)) ≤ token_limit → length (facts_of t).selects ≤ 16 → HasFewPlaces (layout t)
 few_in t few files =
     let entries = few_entries t few in
     record {
@@ -38,5 +39,5 @@ few_in t few files =
       files = omega (arith, length-map (facts_of t).selects (file_of (facts_of t)), files);
     }
 
-pub few_places : (t : Tree) (l : Layout) → length (print_tree (plain_tree t)) ≤ 2 ^ 27 → IsAnswer t (Ok l) → HasFewPlaces l
+pub few_places : (t : Tree) (l : Layout) → length (print_tree (plain_tree t)) ≤ token_limit → IsAnswer t (Ok l) → HasFewPlaces l
 few_places t l few answer = rw (answer.1) (few_in t few answer.0.within.files)

@@ -1,3 +1,4 @@
+//! What a search for a name finds.
 ghost use Rattle.std.specs.Prelude.{◌≡◌, ◌↔◌, IsTrue};
 ghost use Rattle.cob_names.specs.declared.found.Found.TheVariants.{Several};
 ghost use Rattle.cob_names.specs.Search.{found_and};

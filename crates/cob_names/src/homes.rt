@@ -1,3 +1,4 @@
+//! The file of each record, by the record's place.
 ghost use Rattle.std.specs.Prelude.{◌≡◌, ℕ, IfOk, OnOk, if◌then◌else◌, Some};
 ghost use Rattle.cob_names.specs.Names.{is_among};
 ghost use Rattle.cob_names.specs.Homes.{home_in, HasHomes};

@@ -1,3 +1,4 @@
+//! The kinds of things that names are asked for.
 /// What a name is asked for.
 #[derive(Clone, Copy, Debug, PartialEq, Eq)]
 pub enum Kind {

@@ -1,4 +1,5 @@
-ghost use Rattle.std.specs.Prelude.{◌≡◌, ℕ, ◌+◌, ◌<◌, ◌≤◌, ◌^◌, ◌∷◌, [], Option, Some, None, List, length, slice_get, Ok, IfOk, if◌then◌else◌};
+//! The things that references name in a layout.
+ghost use Rattle.std.specs.Prelude.{◌≡◌, ℕ, ◌+◌, ◌<◌, ◌≤◌, ◌∷◌, [], Option, Some, None, List, length, slice_get, Ok, IfOk, if◌then◌else◌};
 ghost use Rattle.cob_tree.specs.declared.operand.Ref.{Ref};
 ghost use Rattle.cob_tree.specs.declared.tree.Tree.{Tree};
 ghost use Rattle.cob_tree.specs.StmtView.{plain_tree};
@@ -9,6 +10,7 @@ ghost use Rattle.cob_names.specs.declared.found.Found.{Found};
 ghost use Rattle.cob_names.specs.Names.{item_name, above, above_at, qualifies, file_above, IsFound, NamesItem, NamesFlag, NamesFile, NamesRecord, is_record, alone};
 ghost use Rattle.cob_names.specs.Tables.{IsTable};
 ghost use Rattle.cob_names.specs.Search.{name_in, count_in, fits, NamesIn, HasFewPlaces, found_and};
+ghost use Rattle.cob_tree.specs.Limits.{token_limit};
 
 use crate::found::Found;
 use crate::homes::homes_of;
@@ -211,5 +213,5 @@ pub fn one_answer()
 
 /// A layout that was made from a tree can have its names looked up.
 pub fn layouts_have_few_places()
-    ensures { (t : Tree) (l : Layout) → length (print_tree (plain_tree t)) ≤ 2 ^ 27 → IsAnswer t (Ok l) → HasFewPlaces l }
+    ensures { (t : Tree) (l : Layout) → length (print_tree (plain_tree t)) ≤ token_limit → IsAnswer t (Ok l) → HasFewPlaces l }
 {}

@@ -1,3 +1,4 @@
+//! Qualifiers, matched from an item upwards.
 ghost use Rattle.std.specs.Prelude.{◌≡◌, [], slice_get};
 ghost use Rattle.std.specs.Option.{option_copied};
 ghost use Rattle.cob_names.specs.Names.{is_named, item_name, item_parent, qualifies};

@@ -1,3 +1,4 @@
+//! Places by name, the last first.
 ghost use Rattle.std.specs.Prelude.{◌≡◌, ◌<◌, ◌^◌, ◌+◌, ℕ, List, Option, IfOk, OnOk, IsTrue, length, slice_get, if◌then◌else◌, Some};
 ghost use Rattle.std.specs.Option.{option_copied};
 ghost use Rattle.cob_names.specs.Names.{is_named};

@@ -1,3 +1,4 @@
+//! The tables of a layout's items, condition-names and files.
 ghost use Rattle.std.specs.Prelude.{◌≡◌, ◌≤◌, ◌^◌, length, slice_get, IfOk};
 ghost use Rattle.cob_names.specs.Names.{item_name};
 ghost use Rattle.cob_names.specs.Tables.{IsTable};

@@ -14,36 +14,36 @@ use Rattle.reading.proofs.Texts.{takes_nothing, next_none, next_same}
 use Rattle.reading.proofs.Dependent.{seq_syntax}
 use Rattle.reading.proofs.Deeper.{deepens_never}
 use Rattle.cob_parse_expr.specs.Alphabet.{grammar}
-use Rattle.cob_parse_data.specs.Tokens.{divisions, of, is, the}
+use Rattle.cob_lexemes.specs.Classes.{by_symbol, of, is, the}
 use Rattle.cob_parse_data.specs.Reading.{word, front_at, before_procedure_at}
 use Rattle.cob_parse_data.proofs.Parts.{then_law}
 use Rattle.cob_parse_data.proofs.ClassLaws.{one_token, begins_with, one_syntax, one_law, one_word, free_of}
 use Rattle.cob_parse_data.proofs.FrontLaw.{front_syntax, front_law, front_free}
 use Rattle.cob_parse_data.proofs.Outcomes.{to_grammar, from_grammar, never_deep}
 
-low_to : (top : ℕ) (is : List Item) → Below divisions top is → Below grammar top is
+low_to : (top : ℕ) (is : List Item) → Below by_symbol top is → Below grammar top is
 low_to top [] b = tt
 low_to top (i ∷ is) b = (b.0, low_to top is b.1)
 
-low_from : (top : ℕ) (is : List Item) → Below grammar top is → Below divisions top is
+low_from : (top : ℕ) (is : List Item) → Below grammar top is → Below by_symbol top is
 low_from top [] b = tt
 low_from top (i ∷ is) b = (b.0, low_from top is b.1)
 
-opens_to : (top : ℕ) (left : List Sign) (after : List Item) → Opens divisions top left after → Opens grammar top left after
+opens_to : (top : ℕ) (left : List Sign) (after : List Item) → Opens by_symbol top left after → Opens grammar top left after
 opens_to top [] after o = absurd o
 opens_to top (t ∷ left) [] o = absurd o
 opens_to top (t ∷ left) (i ∷ after) o = o
 
-at_to : (top : ℕ) (d : Fault) (left : List Sign) (after : List Item) → At divisions top d left after → At grammar top d left after
+at_to : (top : ℕ) (d : Fault) (left : List Sign) (after : List Item) → At by_symbol top d left after → At grammar top d left after
 at_to top (Stop n) left after a = a
 at_to top (Deep n) left after a = (a.0, opens_to top left after a.1)
 
 abbrev pub ended_syntax : {A : Type 0} → Syntax Item Symbol A → Syntax Item Cue A
 ended_syntax s = record { Good = s.Good; print = s.print; takes = takes_nothing }
 
-module _ {A : Type 0} {R : Reader Sign A} (s : Syntax Item Symbol A) (top : ℕ) (L : Law divisions R s top) (ended : (x : A) (p : Symbol) → s.takes x p ≡ false) where
-  next_here : (x : A) (rest : List Sign) → Next divisions (s.takes x) rest
-  next_here x rest = next_same divisions (takes_nothing x) (s.takes x) rest (λ p. sym (ended x p)) (next_none divisions rest)
+module _ {A : Type 0} {R : Reader Sign A} (s : Syntax Item Symbol A) (top : ℕ) (L : Law by_symbol R s top) (ended : (x : A) (p : Symbol) → s.takes x p ≡ false) where
+  next_here : (x : A) (rest : List Sign) → Next by_symbol (s.takes x) rest
+  next_here x rest = next_same by_symbol (takes_nothing x) (s.takes x) rest (λ p. sym (ended x p)) (next_none by_symbol rest)
 
   pub law_across : Law grammar R (ended_syntax s) top
   law_across = record { sound = sound; complete = complete; fails = fails; firm = firm }
@@ -65,7 +65,7 @@ abbrev pub before_procedure : Syntax Item Symbol (Front × Unit {0})
 before_procedure = seq_syntax front_syntax (one_syntax (λ (x : Unit {0}). Key key.Procedure))
 
 module _ (top : ℕ) (low : 0 < top) where
-  front_and_word : Law divisions before_procedure_at before_procedure top
+  front_and_word : Law by_symbol before_procedure_at before_procedure top
   front_and_word = then_law (front_law top low) (one_law (one_word key.Procedure) top low tt) (λ f. one_token (front_syntax.takes f)) (is (the key.Procedure)) (begins_with (one_word key.Procedure) (one_syntax (λ x. Key key.Procedure)) (λ x good. (tt, None, [], refl)))
       (λ f y good e. free_of key.Procedure (front_syntax.takes f) (front_free (Key key.Procedure) refl refl refl refl refl refl refl refl refl refl refl f good) y e)
 

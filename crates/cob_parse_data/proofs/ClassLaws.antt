@@ -1,6 +1,5 @@
 -- Which tokens are of which class.
 use Rattle.std.proofs.Common.{◌≡◌, ℕ, ◌<◌, Bool, true, false, List, [], ◌∷◌, ◌++◌, Option, Some, None, is_some, refl, sym, ap, ◌∙◌}
-use Rattle.std.proofs.lemmas.Slice.Eq.{bytes_eq-Decides}
 use Rattle.cob_tree.specs.declared.token.Num.{Num}
 use Rattle.cob_tree.specs.declared.keyword.Keyword.{Keyword}
 use Rattle.cob_tree.specs.declared.keyword.Keyword.TheVariants as key
@@ -12,22 +11,22 @@ use Rattle.cob_tree.specs.declared.front.Label.{Label}
 use Rattle.cob_tree.specs.declared.front.Label.TheVariants as label
 use Rattle.cob_tree.specs.declared.front.Described.{Described}
 use Rattle.cob_tree.specs.declared.front.Described.TheVariants as described
-use Rattle.cob_tree.specs.Keywords.{text_of}
 use Rattle.cob_tree.specs.Symbols.{Symbol, Key, Name, Number, Text, Mark, Relation, Pic, Stop, Sign}
 use Rattle.cob_tree.specs.Items.{Item, item, item_on, Fits}
 use Rattle.cob_tree.specs.PrintExpr.{const_symbol}
 use Rattle.cob_tree.specs.PrintFront.{print_label}
-use Rattle.cob_tree.proofs.KeywordLemmas.{texts-differ}
-use Rattle.cob_parse_expr.specs.Classes.{name_symbol, const_key, const_as, word_symbol}
+use Rattle.cob_lexemes.specs.Classes.{name_symbol, word_symbol, by_symbol, of, is, the, on_line, on_its_line, stop_symbol}
+use Rattle.cob_parse_expr.specs.Classes.{const_key, const_as}
+use Rattle.cob_lexemes.proofs.WordLemmas.{own_key, only_the}
 use Rattle.reading.specs.Readers.{Reader, lead}
 use Rattle.reading.specs.Printing.{Matches, begins}
 use Rattle.reading.specs.Law.{Syntax, Law}
 use Rattle.reading.proofs.Texts.{Always}
 use Rattle.reading.proofs.Lead.{Class, lead_syntax, lead_law}
 use Rattle.reading.proofs.Starts.{Begins, Starts, OneToken, starts_by_one}
-use Rattle.cob_parse_data.specs.Tokens.{divisions, of, is, same_key, found, the_key, the, on_line, on_its_line, stop_symbol, number_symbol, pic_symbol, external_symbol, label_key, label_symbol, filler_key, described_symbol}
+use Rattle.cob_parse_data.specs.Tokens.{number_symbol, pic_symbol, external_symbol, label_key, label_symbol, filler_key, described_symbol}
 
-pub one_token : (takes : Symbol → Bool) → OneToken divisions takes
+pub one_token : (takes : Symbol → Bool) → OneToken by_symbol takes
 one_token takes t mark e u = absurd cc
 
 -- ---- classes of symbols, each with how its values are spelled
@@ -37,10 +36,10 @@ pub record Spelling {K : Type 0} (class : Symbol → Option K) (spelled : K → 
   pub only : (y : Symbol) (x : K) → class y ≡ Some x → y ≡ spelled x
 
 module _ {K : Type 0} {class : Symbol → Option K} {spelled : K → Symbol} (s : Spelling class spelled) where
-  pub tokens : Class divisions (of class) Always (λ x. item 0 (spelled x))
+  pub tokens : Class by_symbol (of class) Always (λ x. item 0 (spelled x))
   tokens = record { reads = λ x t a f. ap class f.symbol ∙ s.reads x; only = λ t x e. (tt, record { symbol = s.only t.symbol x e; line = tt }) }
 
-  pub lines : Class divisions (on_its_line class) Always (λ x. item_on 0 x.0 (spelled x.1))
+  pub lines : Class by_symbol (on_its_line class) Always (λ x. item_on 0 x.0 (spelled x.1))
   lines = record { reads = λ x t a f. ap (on_line t.line) (ap class f.symbol ∙ s.reads x.1) ∙ ap (λ (l : ℕ). Some (l, x.1)) f.line; only = only }
     where
       only : (t : Sign) (x : ℕ × K) → on_its_line class t ≡ Some x → Always x × Fits (item_on 0 x.0 (spelled x.1)) t
@@ -57,26 +56,26 @@ module _ {K : Type 0} {class : Symbol → Option K} {spelled : K → Symbol} (s 
   fits_is x t e = ap (λ (y : Symbol). is_some (class y)) e ∙ ap is_some (s.reads x)
 
   -- what begins with such a token begins so
-  pub begins_with : {A : Type 0} (a : Syntax Item Symbol A) → ((x : A) → a.Good x → (k : K) × (l : Option ℕ) × (more : List Item) × (a.print x ≡ record { symbol = spelled k; line = l; depth = 0 } ∷ more)) → Begins divisions (is class) a
+  pub begins_with : {A : Type 0} (a : Syntax Item Symbol A) → ((x : A) → a.Good x → (k : K) × (l : Option ℕ) × (more : List Item) × (a.print x ≡ record { symbol = spelled k; line = l; depth = 0 } ∷ more)) → Begins by_symbol (is class) a
   begins_with a leads x text rest good spells = let w = leads x good in go w.0 w.1 w.2 text (rw⁻¹ w.3 spells)
     where
-      go : (k : K) (l : Option ℕ) (more : List Item) (text' : List Sign) → Matches divisions (record { symbol = spelled k; line = l; depth = 0 } ∷ more) text' → begins divisions (is class) (text' ++ rest) ≡ true
+      go : (k : K) (l : Option ℕ) (more : List Item) (text' : List Sign) → Matches by_symbol (record { symbol = spelled k; line = l; depth = 0 } ∷ more) text' → begins by_symbol (is class) (text' ++ rest) ≡ true
       go k l more [] m = absurd m
       go k l more (t ∷ ts) m = fits_is k t m.0.symbol
 
-pub starts_with : {A : Type 0} {set : Symbol → Bool} {R : Reader Sign A} {a : Syntax Item Symbol A} → Begins divisions set a → Starts divisions set R a
-starts_with {A} {set} begin = starts_by_one divisions set begin (one_token set)
+pub starts_with : {A : Type 0} {set : Symbol → Bool} {R : Reader Sign A} {a : Syntax Item Symbol A} → Begins by_symbol set a → Starts by_symbol set R a
+starts_with {A} {set} begin = starts_by_one by_symbol set begin (one_token set)
 
 abbrev pub one_syntax : {K : Type 0} → (K → Symbol) → Syntax Item Symbol K
 one_syntax spelled = lead_syntax Always (λ x. item 0 (spelled x))
 
-pub one_law : {K : Type 0} {class : Symbol → Option K} {spelled : K → Symbol} → Spelling class spelled → (top : ℕ) → 0 < top → K → Law divisions (lead (of class)) (one_syntax spelled) top
+pub one_law : {K : Type 0} {class : Symbol → Option K} {spelled : K → Symbol} → Spelling class spelled → (top : ℕ) → 0 < top → K → Law by_symbol (lead (of class)) (one_syntax spelled) top
 one_law s top low some = lead_law (tokens s) top (λ x a. low) some tt
 
 abbrev pub line_syntax : {K : Type 0} → (K → Symbol) → Syntax Item Symbol (ℕ × K)
 line_syntax spelled = lead_syntax Always (λ x. item_on 0 x.0 (spelled x.1))
 
-pub line_law : {K : Type 0} {class : Symbol → Option K} {spelled : K → Symbol} → Spelling class spelled → (top : ℕ) → 0 < top → K → Law divisions (lead (on_its_line class)) (line_syntax spelled) top
+pub line_law : {K : Type 0} {class : Symbol → Option K} {spelled : K → Symbol} → Spelling class spelled → (top : ℕ) → 0 < top → K → Law by_symbol (lead (on_its_line class)) (line_syntax spelled) top
 line_law s top low some = lead_law (lines s) top (λ x a. low) (0, some) tt
 
 -- ---- words
@@ -95,18 +94,8 @@ module _ {K : Type 0} {class : Keyword → Option K} {spelled : K → Keyword} (
       only_word (Pic text) x e = absurd cc
       only_word Stop x e = absurd cc
 
-same_is : (k : Keyword) → same_key k k ≡ true
-same_is k = (bytes_eq-Decides (text_of k) (text_of k)).1 refl
-
-pub only_the : (k j : Keyword) (x : Unit {0}) → the_key k j ≡ Some x → j ≡ k
-only_the k j x e = go (same_key k j) refl e
-  where
-    go : (b : Bool) → same_key k j ≡ b → found b ≡ Some x → j ≡ k
-    go true eb e0 = texts-differ j k (sym ((bytes_eq-Decides (text_of k) (text_of j)).0 eb))
-    go false eb e0 = absurd cc
-
 pub one_word : (k : Keyword) → Spelling (the k) (λ x. Key k)
-one_word k = words (λ x. ap found (same_is k)) (λ j x e. only_the k j x e)
+one_word k = words (λ x. own_key k) (λ j x e. only_the k j x e)
 
 -- one word is no other than itself
 pub is_the : (k : Keyword) (y : Symbol) → is (the k) y ≡ true → y ≡ Key k

@@ -13,7 +13,7 @@ use Rattle.reading.proofs.Seen.{View, seen_law}
 use Rattle.reading.proofs.Tail.{apart}
 use Rattle.reading.proofs.Many.{is_given, many_good, many_print, many_takes}
 use Rattle.reading.proofs.Clauses.{takes_fresh, clause_syntax, clauses_syntax, clauses_law}
-use Rattle.cob_parse_data.specs.Tokens.{divisions, of, is}
+use Rattle.cob_lexemes.specs.Classes.{by_symbol, of, is}
 use Rattle.cob_parse_data.specs.Heads.{same_kind}
 use Rattle.cob_parse_data.specs.Reading.{untagged}
 use Rattle.cob_parse_data.proofs.Parts.{onward_false}
@@ -28,7 +28,7 @@ pub record Clausal {K C : Type 0} (class : Symbol → Option K) (kind : K → �
   pub takes : C → Symbol → Bool
   pub numbered : (c : C) → number c ≡ kind (head c)
   pub printed : (c : C) → print c ≡ item 0 (Key (word (head c))) ∷ body c
-  pub law : (k : K) → Law divisions (read k) (record { Good = λ c. (head c ≡ k) × Shaped c; print = body; takes = takes }) top
+  pub law : (k : K) → Law by_symbol (read k) (record { Good = λ c. (head c ≡ k) × Shaped c; print = body; takes = takes }) top
   pub never : (c : C) → Shaped c → takes c Stop ≡ false
   pub free : (c : C) (y : Symbol) → Shaped c → is class y ≡ true → takes c y ≡ false
   pub no_stop : class Stop ≡ None
@@ -116,7 +116,7 @@ module _ {K C : Type 0} {class : Symbol → Option K} {kind : K → ℕ} {number
     good_back = λ cs good. kinds_of [] cs (subst (λ (f : C → ℕ). AreOfKinds f [] cs) same_numbers good.0) good.1;
   }
 
-  pub clause_list_law : Law divisions (seen untagged (clauses (same_kind kind) (of class) read)) clause_list top
+  pub clause_list_law : Law by_symbol (seen untagged (clauses (same_kind kind) (of class) read)) clause_list top
   clause_list_law = seen_law (clauses_law (same_kind kind) class (tokens E.spelling) top (λ k. low) Stop (λ t ts. refl) read bodies E.law (λ k c p good e. E.free c p good.1 e ∙ sym (E.never c good.1))) view
 
   -- clauses never go on with a point

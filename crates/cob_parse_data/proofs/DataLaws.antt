@@ -24,23 +24,23 @@ use Rattle.cob_tree.specs.Items as items
 use Rattle.cob_tree.specs.PrintExpr.{const_symbol, print_const}
 use Rattle.cob_tree.specs.PrintFront.{print_if, print_name, print_label, print_fd_clause, print_range, print_clause, print_described, print_entry, print_fd, print_files, print_storage, print_data}
 use Rattle.cob_tree.specs.Shaped.{fd_kind, clause_kind, ShapedFdClause, ShapedClause, ShapedEntry, ShapedFd, ShapedData}
-use Rattle.cob_parse_expr.specs.Classes.{name_symbol, const_as}
+use Rattle.cob_lexemes.specs.Classes.{name_symbol, by_symbol, of, is, the, stop_symbol}
+use Rattle.cob_parse_expr.specs.Classes.{const_as}
 use Rattle.reading.specs.Readers.{seq, stands}
 use Rattle.reading.specs.Printing.{Matches, begins}
-use Rattle.reading.specs.Law.{Syntax, Law}
+use Rattle.reading.specs.Law.{Syntax, Law, onward}
 use Rattle.reading.proofs.Texts.{Always, takes_nothing}
 use Rattle.reading.proofs.Seen.{View, seen_law}
 use Rattle.reading.proofs.Lead.{nothing_law}
 use Rattle.reading.proofs.Maybe.{maybe_syntax, maybe_law}
 use Rattle.reading.proofs.Dependent.{seq_syntax, seq_law}
 use Rattle.reading.proofs.Starts.{Begins}
-use Rattle.reading.proofs.Tail.{onward}
 use Rattle.reading.proofs.Optional.{optional_syntax}
 use Rattle.cob_parse_data.specs.declared.head.FdHead.{FdHead}
 use Rattle.cob_parse_data.specs.declared.head.FdHead.TheVariants as fd_head
 use Rattle.cob_parse_data.specs.declared.head.ClauseHead.{ClauseHead}
 use Rattle.cob_parse_data.specs.declared.head.ClauseHead.TheVariants as head
-use Rattle.cob_parse_data.specs.Tokens.{divisions, of, is, the, stop_symbol, number_symbol, described_symbol}
+use Rattle.cob_parse_data.specs.Tokens.{number_symbol, described_symbol}
 use Rattle.cob_parse_data.specs.Heads.{fd_word, fd_key, fd_symbol, fd_kind_of, fd_head_of, clause_word, clause_key, clause_symbol, clause_kind_of, clause_head_of}
 use Rattle.cob_parse_data.specs.Reading as reading
 use Rattle.cob_parse_data.specs.Reading.{stop, word, to_clause, clause_body, fd_body, first_and, entry_clauses, fd_clauses, make_range, make_entry, make_fd, make_data}
@@ -135,16 +135,16 @@ all_any : {A : Type 0} (xs : List A) → AllByRecursion Always xs
 all_any = all_always
 
 module _ (top : ℕ) (low : 0 < top) where
-  range_law : Law divisions reading.range range_syntax top
+  range_law : Law by_symbol reading.range range_syntax top
   range_law = seen_law (pair_law (one_law consts top low const.Zero) (perhaps_tail top low key.Thru (led_law top low key.Thru (one_law consts top low const.Zero)) leads) Stop (λ x good. refl) (λ x y good e. refl)) range_view
     where
       leads : Leads key.Thru (led_syntax key.Thru (one_syntax const_symbol))
       leads c good = (item 0 (const_symbol c) ∷ [], refl)
 
-  range_begins : Begins divisions (is const_as) range_syntax
+  range_begins : Begins by_symbol (is const_as) range_syntax
   range_begins = begins_with consts range_syntax (λ r good. (r.low, None, items.behind 0 (key.Thru ∷ []) (print_const 0) r.high, refl))
 
-  ranges_law : Law divisions reading.ranges (some_syntax (is const_as) range_syntax) top
+  ranges_law : Law by_symbol reading.ranges (some_syntax (is const_as) range_syntax) top
   ranges_law = some_law range_law (is const_as) Stop (λ r good. range_free Stop refl r) (λ r y good e. range_free y (no_word key.Thru const_as refl y e) r) (starts_with range_begins)
 
   -- no word but THRU and constants goes on behind ranges
@@ -247,15 +247,15 @@ module _ (top : ℕ) (low : 0 < top) where
       value (clause.Value (r ∷ rs)) e some = refl
       value _ e some = absurd cc
 
-      separate : Law divisions (word key.Separate) (one_syntax (λ x. Key key.Separate)) top
+      separate : Law by_symbol (word key.Separate) (one_syntax (λ x. Key key.Separate)) top
       separate = one_law (one_word key.Separate) top low tt
 
-      law : (k : ClauseHead) → Law divisions (clause_body k) (clause_bodies k) top
+      law : (k : ClauseHead) → Law by_symbol (clause_body k) (clause_bodies k) top
       law head.Pic = seen_law {parts = clause_text} (one_law pics top low []) (record { back = λ c good. pic c good.0; print = λ x good. refl; takes = λ x y good. refl; good = λ x good. (refl, tt); good_back = λ c good. tt })
       law head.Redefines = seen_law {parts = clause_text} (one_law names top low []) (record { back = λ c good. redefines c good.0; print = λ x good. refl; takes = λ x y good. refl; good = λ x good. (refl, tt); good_back = λ c good. tt })
-      law head.Display = seen_law {view = to_clause clause.Display} {parts = nothing_of} (nothing_law divisions top) (record { back = λ c good. display c good.0; print = λ x good. refl; takes = λ x y good. refl; good = λ x good. (refl, tt); good_back = λ c good. tt })
-      law head.Binary = seen_law {view = to_clause clause.Binary} {parts = nothing_of} (nothing_law divisions top) (record { back = λ c good. binary c good.0; print = λ x good. refl; takes = λ x y good. refl; good = λ x good. (refl, tt); good_back = λ c good. tt })
-      law head.PackedDecimal = seen_law {view = to_clause clause.PackedDecimal} {parts = nothing_of} (nothing_law divisions top) (record { back = λ c good. packed c good.0; print = λ x good. refl; takes = λ x y good. refl; good = λ x good. (refl, tt); good_back = λ c good. tt })
+      law head.Display = seen_law {view = to_clause clause.Display} {parts = nothing_of} (nothing_law by_symbol top) (record { back = λ c good. display c good.0; print = λ x good. refl; takes = λ x y good. refl; good = λ x good. (refl, tt); good_back = λ c good. tt })
+      law head.Binary = seen_law {view = to_clause clause.Binary} {parts = nothing_of} (nothing_law by_symbol top) (record { back = λ c good. binary c good.0; print = λ x good. refl; takes = λ x y good. refl; good = λ x good. (refl, tt); good_back = λ c good. tt })
+      law head.PackedDecimal = seen_law {view = to_clause clause.PackedDecimal} {parts = nothing_of} (nothing_law by_symbol top) (record { back = λ c good. packed c good.0; print = λ x good. refl; takes = λ x y good. refl; good = λ x good. (refl, tt); good_back = λ c good. tt })
       law head.Leading = seen_law {view = to_clause clause.LeadingSeparate} {parts = nothing_of} separate (record { back = λ c good. leading c good.0; print = λ x good. refl; takes = λ x y good. refl; good = λ x good. (refl, tt); good_back = λ c good. tt })
       law head.Trailing = seen_law {view = to_clause clause.TrailingSeparate} {parts = nothing_of} separate (record { back = λ c good. trailing c good.0; print = λ x good. refl; takes = λ x y good. refl; good = λ x good. (refl, tt); good_back = λ c good. tt })
       law head.Value = seen_law {parts = clause_ranges} ranges_law (record { back = λ c good. value c good.0 good.1; print = λ x good. refl; takes = λ x y good. refl; good = λ x good. (refl, tt); good_back = λ c good. (tt, all_any (clause_ranges c).1) })
@@ -277,14 +277,14 @@ module _ (top : ℕ) (low : 0 < top) where
   abbrev ends_entry : Symbol → Bool
   ends_entry y = is clause_symbol y || is stop_symbol y
 
-  entry_law : Law divisions reading.entry entry_syntax top
+  entry_law : Law by_symbol reading.entry entry_syntax top
   entry_law = seen_law (seq_law (line_law numbers top low (record { sign = 0; digits = []; scale = 0 })) (λ x p good. refl) (then_law (maybe_law (tokens describeds) top (λ x a. low) described.Filler tt (is described_symbol) tells) ended (λ x. one_token (described_part.takes x)) ends_entry begins_so free)) view
     where
-      tells : (ts : List Sign) → begins divisions (is described_symbol) ts ≡ stands (of described_symbol) ts
+      tells : (ts : List Sign) → begins by_symbol (is described_symbol) ts ≡ stands (of described_symbol) ts
       tells [] = refl
       tells (t ∷ ts) = refl
 
-      ended : Law divisions (seq entry_clauses stop) ended_list top
+      ended : Law by_symbol (seq entry_clauses stop) ended_list top
       ended = then_law (clause_list_law clause_clausal low) (one_law stops top low tt) (λ x. one_token (entry_list.takes x)) (is stop_symbol) stop_begins (λ cs y good e. ap (entry_list.takes cs) (is_stop y e) ∙ clauses_end clause_clausal low cs good)
 
       or_second : (b : Bool) → (b || true) ≡ true
@@ -294,17 +294,17 @@ module _ (top : ℕ) (low : 0 < top) where
       or_first : (a b : Bool) → a ≡ true → (a || b) ≡ true
       or_first a b e = rw e refl
 
-      begins_so : Begins divisions ends_entry ended_list
+      begins_so : Begins by_symbol ends_entry ended_list
       begins_so (cs, u) [] rest good spells = go cs spells
         where
-          go : (xs : List Clause) → Matches divisions (each print_clause xs ++ item 0 Stop ∷ []) [] → begins divisions ends_entry rest ≡ true
+          go : (xs : List Clause) → Matches by_symbol (each print_clause xs ++ item 0 Stop ∷ []) [] → begins by_symbol ends_entry rest ≡ true
           go [] m = absurd m
-          go (c ∷ xs) m = absurd (subst (λ (is' : List Item). Matches divisions ((is' ++ each print_clause xs) ++ item 0 Stop ∷ []) []) (clause_printed c) m)
+          go (c ∷ xs) m = absurd (subst (λ (is' : List Item). Matches by_symbol ((is' ++ each print_clause xs) ++ item 0 Stop ∷ []) []) (clause_printed c) m)
       begins_so (cs, u) (t ∷ text) rest good spells = go cs spells
         where
-          go : (xs : List Clause) → Matches divisions (each print_clause xs ++ item 0 Stop ∷ []) (t ∷ text) → ends_entry t.symbol ≡ true
+          go : (xs : List Clause) → Matches by_symbol (each print_clause xs ++ item 0 Stop ∷ []) (t ∷ text) → ends_entry t.symbol ≡ true
           go [] m = ap ends_entry m.0.symbol
-          go (c ∷ xs) m = let m' : Matches divisions (item 0 (Key (clause_word (clause_head_of c))) ∷ ((clause_rest c ++ each print_clause xs) ++ item 0 Stop ∷ [])) (t ∷ text) = subst (λ (is' : List Item). Matches divisions ((is' ++ each print_clause xs) ++ item 0 Stop ∷ []) (t ∷ text)) (clause_printed c) m in or_first (is clause_symbol t.symbol) (is stop_symbol t.symbol) (fits_is clause_spelling (clause_head_of c) t m'.0.symbol)
+          go (c ∷ xs) m = let m' : Matches by_symbol (item 0 (Key (clause_word (clause_head_of c))) ∷ ((clause_rest c ++ each print_clause xs) ++ item 0 Stop ∷ [])) (t ∷ text) = subst (λ (is' : List Item). Matches by_symbol ((is' ++ each print_clause xs) ++ item 0 Stop ∷ []) (t ∷ text)) (clause_printed c) m in or_first (is clause_symbol t.symbol) (is stop_symbol t.symbol) (fits_is clause_spelling (clause_head_of c) t m'.0.symbol)
 
       no_filler : (k : ClauseHead) → described_symbol (Key (clause_word k)) ≡ None
       no_filler head.Pic = refl
@@ -345,10 +345,10 @@ module _ (top : ℕ) (low : 0 < top) where
   abbrev entries_syntax : Syntax Item Symbol (List Entry)
   entries_syntax = record { Good = AllByRecursion ShapedEntry; print = each print_entry; takes = takes_entries }
 
-  entries_law : Law divisions reading.entries entries_syntax top
+  entries_law : Law by_symbol reading.entries entries_syntax top
   entries_law = law_as (list_law entry_law (is number_symbol) Stop (λ e good. refl) (λ e y good f. refl) (starts_with begin)) view
     where
-      begin : Begins divisions (is number_symbol) entry_syntax
+      begin : Begins by_symbol (is number_symbol) entry_syntax
       begin = begins_with numbers entry_syntax (λ e good. (e.level, Some e.line, print_if print_described e.name ++ (each print_clause e.clauses ++ item 0 Stop ∷ []), refl))
 
       view : View (list_syntax (is number_symbol) entry_syntax) entries_syntax (λ x. x) (λ x. x)
@@ -393,7 +393,7 @@ module _ (top : ℕ) (low : 0 < top) where
   fd_names (fd_clause.Data names) = split [] names
   fd_names _ = ([], [])
 
-  names_law : Law divisions reading.names (some_syntax (is name_symbol) (one_syntax (λ text. Name text))) top
+  names_law : Law by_symbol reading.names (some_syntax (is name_symbol) (one_syntax (λ text. Name text))) top
   names_law = some_law (one_law names top low []) (is name_symbol) Stop (λ x good. refl) (λ x y good e. refl) (starts_with (begins_with names (one_syntax (λ text. Name text)) (λ x good. (x, None, [], refl))))
 
   fd_free : (y : Symbol) → is name_symbol y ≡ false → (c : FdClause) → takes_fd_clause c y ≡ false
@@ -461,7 +461,7 @@ module _ (top : ℕ) (low : 0 < top) where
       recording (fd_clause.Recording text) e = refl
       recording _ e = absurd cc
 
-      law : (k : FdHead) → Law divisions (fd_body k) (fd_bodies k) top
+      law : (k : FdHead) → Law by_symbol (fd_body k) (fd_bodies k) top
       law fd_head.Block = seen_law {parts = fd_number} (one_law numbers top low no_number) (record { back = λ c good. block c good.0; print = λ x good. refl; takes = λ x y good. refl; good = λ x good. (refl, tt); good_back = λ c good. tt })
       law fd_head.RecordSize = seen_law {parts = fd_number} (one_law numbers top low no_number) (record { back = λ c good. record_size c good.0; print = λ x good. refl; takes = λ x y good. refl; good = λ x good. (refl, tt); good_back = λ c good. tt })
       law fd_head.Label = seen_law {parts = fd_label} (one_law labels top low label.Standard) (record { back = λ c good. labelled c good.0; print = λ x good. refl; takes = λ x y good. refl; good = λ x good. (refl, tt); good_back = λ c good. tt })
@@ -479,13 +479,13 @@ module _ (top : ℕ) (low : 0 < top) where
   abbrev records : Syntax Item Symbol (Unit {0} × List Entry)
   records = seq_syntax (one_syntax (λ (x : Unit {0}). Stop)) entries_syntax
 
-  fd_law : Law divisions reading.fd fd_syntax top
+  fd_law : Law by_symbol reading.fd fd_syntax top
   fd_law = seen_law (seq_law (line_law (one_word key.Fd) top low tt) (λ x p good. refl) (seq_law (one_law names top low []) (λ x p good. refl) ended)) view
     where
-      begin : Begins divisions (is stop_symbol) records
+      begin : Begins by_symbol (is stop_symbol) records
       begin = begins_with stops records (λ x good. (tt, None, each print_entry x.1, refl))
 
-      ended : Law divisions (seq fd_clauses (seq stop reading.entries)) (seq_syntax fd_list records) top
+      ended : Law by_symbol (seq fd_clauses (seq stop reading.entries)) (seq_syntax fd_list records) top
       ended = then_law (clause_list_law fd_clausal low) (seq_law (one_law stops top low tt) (λ x p good. refl) entries_law) (λ x. one_token (fd_list.takes x)) (is stop_symbol) begin (λ cs y good e. ap (fd_list.takes cs) (is_stop y e) ∙ clauses_end fd_clausal low cs good)
 
       parts : Fd → (ℕ × Unit {0}) × (List ℕ × (List FdClause × (Unit {0} × List Entry)))
@@ -503,10 +503,10 @@ module _ (top : ℕ) (low : 0 < top) where
   abbrev fds_syntax : Syntax Item Symbol (List Fd)
   fds_syntax = record { Good = AllByRecursion ShapedFd; print = each print_fd; takes = takes_fds }
 
-  fds_law : Law divisions reading.fds fds_syntax top
+  fds_law : Law by_symbol reading.fds fds_syntax top
   fds_law = law_as (list_law fd_law (is (the key.Fd)) Stop (λ f good. refl) (λ f y good e. free_of key.Fd (takes_entries f) refl y e) (starts_with begin)) view
     where
-      begin : Begins divisions (is (the key.Fd)) fd_syntax
+      begin : Begins by_symbol (is (the key.Fd)) fd_syntax
       begin = begins_with (one_word key.Fd) fd_syntax (λ f good. (tt, Some f.line, item 0 (Name f.name) ∷ (each print_fd_clause f.clauses ++ (item 0 Stop ∷ each print_entry f.entries)), refl))
 
       takes : (fs : List Fd) (y : Symbol) → takes_fds fs y ≡ last_takes (is (the key.Fd)) fd_syntax fs y
@@ -538,13 +538,13 @@ module _ (top : ℕ) (low : 0 < top) where
   abbrev data_parts : Data → Option (List Fd) × Option (List Entry)
   data_parts d = (d.files, d.storage)
 
-  pub data_law : Law divisions reading.data_division data_syntax top
+  pub data_law : Law by_symbol reading.data_division data_syntax top
   data_law = headed_law top low (key.Data ∷ key.Division ∷ []) (seen_law (two_law low key.File key.WorkingStorage refl files_law storage_law files_lead storage_lead (λ fs good. fds_free Stop refl refl fs) (λ fs good. fds_free (Key key.WorkingStorage) refl refl fs)) view)
     where
-      files_law : Law divisions reading.files files_syntax top
+      files_law : Law by_symbol reading.files files_syntax top
       files_law = headed_law top low (key.File ∷ key.Section ∷ []) fds_law
 
-      storage_law : Law divisions reading.storage storage_syntax top
+      storage_law : Law by_symbol reading.storage storage_syntax top
       storage_law = headed_law top low (key.WorkingStorage ∷ key.Section ∷ []) entries_law
 
       files_lead : Leads key.File files_syntax

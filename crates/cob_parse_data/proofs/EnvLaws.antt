@@ -24,7 +24,7 @@ use Rattle.reading.proofs.Dependent.{seq_syntax, seq_law}
 use Rattle.reading.proofs.Starts.{Begins}
 use Rattle.cob_parse_data.specs.declared.head.SelectHead.{SelectHead}
 use Rattle.cob_parse_data.specs.declared.head.SelectHead.TheVariants as head
-use Rattle.cob_parse_data.specs.Tokens.{divisions, is, the, stop_symbol}
+use Rattle.cob_lexemes.specs.Classes.{by_symbol, is, the, stop_symbol}
 use Rattle.cob_parse_data.specs.Heads.{select_word, select_key, select_symbol, select_kind, select_head_of}
 use Rattle.cob_parse_data.specs.Reading.{word, stop, computer, select_body, select_clauses, make_select, select, make_config, config, make_io, io, make_env, env}
 use Rattle.cob_parse_data.specs.Takes.{takes_config, takes_io, takes_env}
@@ -37,7 +37,7 @@ pub is_stop : (y : Symbol) → is stop_symbol y ≡ true → y ≡ Stop
 is_stop Stop e = refl
 is_stop _ e = absurd cc
 
-pub stop_begins : Begins divisions (is stop_symbol) (one_syntax (λ (x : Unit {0}). Stop))
+pub stop_begins : Begins by_symbol (is stop_symbol) (one_syntax (λ (x : Unit {0}). Stop))
 stop_begins = begins_with stops (one_syntax (λ x. Stop)) (λ x good. (tt, None, [], refl))
 
 -- what stands where anything may
@@ -97,10 +97,10 @@ abbrev select_bodies : SelectHead → Syntax Item Symbol SelClause
 select_bodies k = record { Good = λ c. (select_head_of c ≡ k) × Always c; print = select_rest; takes = takes_nothing }
 
 module _ (top : ℕ) (low : 0 < top) where
-  config_law : Law divisions config config_syntax top
+  config_law : Law by_symbol config config_syntax top
   config_law = headed_law top low (key.Configuration ∷ key.Section ∷ []) (seen_law (two_law low key.SourceComputer key.ObjectComputer refl (computer_law key.SourceComputer) (computer_law key.ObjectComputer) (leads key.SourceComputer) (leads key.ObjectComputer) (λ x good. refl) (λ x good. refl)) computers_view)
     where
-      computer_law : (k : Keyword) → Law divisions (computer k) (computer_syntax k) top
+      computer_law : (k : Keyword) → Law by_symbol (computer k) (computer_syntax k) top
       computer_law k = headed_law top low (k ∷ []) (named_law top low)
 
       leads : (k : Keyword) → Leads k (computer_syntax k)
@@ -154,10 +154,10 @@ module _ (top : ℕ) (low : 0 < top) where
       status (sel.Status text) e = refl
       status _ e = absurd cc
 
-      sequential : Law divisions (word key.Sequential) (one_syntax (λ x. Key key.Sequential)) top
+      sequential : Law by_symbol (word key.Sequential) (one_syntax (λ x. Key key.Sequential)) top
       sequential = one_law (one_word key.Sequential) top low tt
 
-      law : (k : SelectHead) → Law divisions (select_body k) (select_bodies k) top
+      law : (k : SelectHead) → Law by_symbol (select_body k) (select_bodies k) top
       law head.Organization = seen_law {parts = nothing_of} sequential (record { back = λ c good. organization c good.0; print = λ x good. refl; takes = λ x y good. refl; good = λ x good. (refl, tt); good_back = λ c good. tt })
       law head.Access = seen_law {parts = nothing_of} sequential (record { back = λ c good. access c good.0; print = λ x good. refl; takes = λ x y good. refl; good = λ x good. (refl, tt); good_back = λ c good. tt })
       law head.Status = seen_law {parts = status_text} (one_law names top low []) (record { back = λ c good. status c good.0; print = λ x good. refl; takes = λ x y good. refl; good = λ x good. (refl, tt); good_back = λ c good. tt })
@@ -172,10 +172,10 @@ module _ (top : ℕ) (low : 0 < top) where
   external_printed (external.Name text) = refl
   external_printed (external.Text text) = refl
 
-  select_law : Law divisions select select_syntax top
+  select_law : Law by_symbol select select_syntax top
   select_law = seen_law (seq_law (line_law (one_word key.Select) top low tt) (λ x p good. refl) (seq_law (one_law names top low []) (λ x p good. refl) (seq_law (one_law (one_word key.Assign) top low tt) (λ x p good. refl) (seq_law (one_law externals top low (external.Name [])) (λ x p good. refl) ended)))) view
     where
-      ended : Law divisions (seq select_clauses stop) (seq_syntax select_list (one_syntax (λ (x : Unit {0}). Stop))) top
+      ended : Law by_symbol (seq select_clauses stop) (seq_syntax select_list (one_syntax (λ (x : Unit {0}). Stop))) top
       ended = then_law (clause_list_law select_clausal low) (one_law stops top low tt) (λ x. one_token (select_list.takes x)) (is stop_symbol) stop_begins (λ cs y good e. ap (select_list.takes cs) (is_stop y e) ∙ clauses_end select_clausal low cs good)
 
       parts : Select → (ℕ × Unit {0}) × (List ℕ × (Unit {0} × (External × (List SelClause × Unit {0}))))
@@ -190,7 +190,7 @@ module _ (top : ℕ) (low : 0 < top) where
         good_back = λ s good. (tt, (tt, (tt, (tt, ((good, all_always s.clauses), tt)))));
       }
 
-  select_leads : Begins divisions (is (the key.Select)) select_syntax
+  select_leads : Begins by_symbol (is (the key.Select)) select_syntax
   select_leads = begins_with (one_word key.Select) select_syntax (λ s good. (tt, Some s.line, item 0 (Name s.name) ∷ item 0 (Key key.Assign) ∷ print_external s.external ∷ (each print_sel_clause s.clauses ++ item 0 Stop ∷ []), refl))
 
   -- ---- INPUT-OUTPUT SECTION
@@ -204,7 +204,7 @@ module _ (top : ℕ) (low : 0 < top) where
   abbrev io_parts : Io → List Select
   io_parts i = i.selects
 
-  io_law : Law divisions io io_syntax top
+  io_law : Law by_symbol io io_syntax top
   io_law = headed_law top low (key.InputOutput ∷ key.Section ∷ []) (headed_law top low (key.FileControl ∷ []) (seen_law (list_law select_law (is (the key.Select)) Stop (λ s good. refl) (λ s y good e. refl) (starts_with select_leads)) view))
     where
       view : View (list_syntax (is (the key.Select)) select_syntax) selects_of make_io io_parts
@@ -222,7 +222,7 @@ module _ (top : ℕ) (low : 0 < top) where
   config_free : (y : Symbol) → is (the key.SourceComputer) y ≡ false → is (the key.ObjectComputer) y ≡ false → (c : Config) → takes_config c y ≡ false
   config_free y e f c = two_free key.SourceComputer key.ObjectComputer (computer_syntax key.SourceComputer) (computer_syntax key.ObjectComputer) y e f (λ x good. refl) (λ x good. refl) (c.source, c.object) (anything c.source, anything c.object)
 
-  pub env_law : Law divisions env env_syntax top
+  pub env_law : Law by_symbol env env_syntax top
   env_law = headed_law top low (key.Environment ∷ key.Division ∷ []) (seen_law (two_law low key.Configuration key.InputOutput refl config_law io_law config_leads io_leads (λ c good. config_free Stop refl refl c) (λ c good. config_free (Key key.InputOutput) refl refl c)) view)
     where
       config_leads : Leads key.Configuration config_syntax

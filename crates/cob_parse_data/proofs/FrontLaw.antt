@@ -12,7 +12,8 @@ use Rattle.reading.specs.Readers.{seq}
 use Rattle.reading.specs.Law.{Syntax, Law}
 use Rattle.reading.proofs.Seen.{View, seen_law}
 use Rattle.reading.proofs.Dependent.{seq_syntax, seq_law}
-use Rattle.cob_parse_data.specs.Tokens.{divisions, is, the, number_symbol}
+use Rattle.cob_lexemes.specs.Classes.{by_symbol, is, the}
+use Rattle.cob_parse_data.specs.Tokens.{number_symbol}
 use Rattle.cob_parse_data.specs.Reading.{perhaps, env, data_division, make_front, front_at}
 use Rattle.cob_parse_data.specs.Takes.{takes_front}
 use Rattle.cob_parse_data.proofs.WordLaws.{headed_law, named_syntax, named_law, two_syntax, two_law, two_free}
@@ -32,10 +33,10 @@ module _ (top : ℕ) (low : 0 < top) where
   abbrev both : Syntax Item Symbol (Option Env × Option Data)
   both = two_syntax key.Environment key.Data (env_syntax top low) (data_syntax top low)
 
-  pub front_law : Law divisions front_at front_syntax top
+  pub front_law : Law by_symbol front_at front_syntax top
   front_law = headed_law top low (key.Identification ∷ key.Division ∷ []) (headed_law top low (key.ProgramId ∷ []) (seen_law (seq_law (named_law top low) (λ x p good. refl) divided) view))
     where
-      divided : Law divisions (seq (perhaps key.Environment env) (perhaps key.Data data_division)) both top
+      divided : Law by_symbol (seq (perhaps key.Environment env) (perhaps key.Data data_division)) both top
       divided = two_law low key.Environment key.Data refl (env_law top low) (data_law top low) (env_leads top low) (data_leads top low) (λ e good. env_free top low Stop refl refl refl refl refl e good) (λ e good. env_free top low (Key key.Data) refl refl refl refl refl e good)
 
       view : View (seq_syntax named_syntax both) divisions_of make_front parts

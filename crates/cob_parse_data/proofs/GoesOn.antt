@@ -22,8 +22,9 @@ use Rattle.cob_tree.specs.Shaped.{IfThere, ShapedSelect, ShapedEntry, ShapedFd, 
 use Rattle.reading.specs.Printing.{Matches}
 use Rattle.reading.proofs.Results.{ok_is}
 use Rattle.reading.proofs.Texts.{Always, matches_join}
-use Rattle.reading.proofs.Tail.{onward}
-use Rattle.cob_parse_data.specs.Tokens.{divisions, is, the, number_symbol}
+use Rattle.reading.specs.Law.{onward}
+use Rattle.cob_lexemes.specs.Classes.{by_symbol, is, the}
+use Rattle.cob_parse_data.specs.Tokens.{number_symbol}
 use Rattle.cob_parse_data.specs.Takes.{takes_perhaps, takes_no_more, takes_config, takes_io, takes_env, takes_entries, takes_fds, takes_data, takes_front}
 use Rattle.cob_parse_data.specs.Outcome.{IsFront, Begins}
 use Rattle.cob_parse_data.proofs.ClassLaws.{is_the}
@@ -186,11 +187,11 @@ pub goes_on : (f : Front) (text : List Sign) (u : Sign) → IsFront f text → t
 goes_on f text u whole e =
     let w = front_on u f whole.shaped e in
     let after = tokens_of w.more in
-    let spelled = matches_join divisions (print_front f) (w.item ∷ w.more) text (u ∷ after.0) (from_grammar (print_front f) text whole.spells) (w.fits, after.1) in
+    let spelled = matches_join by_symbol (print_front f) (w.item ∷ w.more) text (u ∷ after.0) (from_grammar (print_front f) text whole.spells) (w.fits, after.1) in
     record {
       front = w.tree;
       more = after.0;
-      whole = record { shaped = w.good; spells = to_grammar (print_front w.tree) ((text ++ u ∷ []) ++ after.0) (subst (Matches divisions (print_front w.tree)) (sym (append_assoc text (u ∷ []) after.0)) (subst (λ (is' : List Item). Matches divisions is' (text ++ u ∷ after.0)) (sym w.text) spelled)) };
+      whole = record { shaped = w.good; spells = to_grammar (print_front w.tree) ((text ++ u ∷ []) ++ after.0) (subst (Matches by_symbol (print_front w.tree)) (sym (append_assoc text (u ∷ []) after.0)) (subst (λ (is' : List Item). Matches by_symbol is' (text ++ u ∷ after.0)) (sym w.text) spelled)) };
     }
 
 pub goes_no_further : (f : Front) (text : List Sign) (u : Sign) → IsFront f text → Begins (text ++ u ∷ []) → takes_front f u.symbol ≡ true

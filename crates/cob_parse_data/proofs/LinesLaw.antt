@@ -28,7 +28,7 @@ use Rattle.cob_tree.specs.PrintFront.{heading, print_if, print_name, print_name_
 use Rattle.cob_tree.specs.Shaped.{IfThere, ShapedSelect, ShapedEntry, ShapedFd, ShapedIo, ShapedEnv, ShapedData, ShapedFront}
 use Rattle.reading.specs.Printing.{Matches}
 use Rattle.reading.proofs.Consequences.{one_tree}
-use Rattle.cob_parse_data.specs.Tokens.{divisions}
+use Rattle.cob_lexemes.specs.Classes.{by_symbol}
 use Rattle.cob_parse_data.specs.Lines.{select_without_line, io_without_lines, env_without_lines, entry_without_line, fd_without_lines, data_without_lines, without_lines}
 use Rattle.cob_parse_data.proofs.Outcomes.{law, shallow}
 
@@ -173,12 +173,12 @@ on_none : (line : Option ℕ) → IsLine (blank_line line) 0
 on_none None = tt
 on_none (Some l) = refl
 
-fits_bare : (is : List Item) → Matches divisions (map blank is) (map bare (map symbol_of_item is))
+fits_bare : (is : List Item) → Matches by_symbol (map blank is) (map bare (map symbol_of_item is))
 fits_bare [] = tt
 fits_bare (i ∷ is) = (record { symbol = refl; line = on_none i.line }, fits_bare is)
 
 pub same_but_for_lines : (f g : Front) → ShapedFront f → ShapedFront g → map (λ i. i.symbol) (print_front f) ≡ map (λ i. i.symbol) (print_front g) → without_lines f ≡ without_lines g
 same_but_for_lines f g good good' e =
     one_tree law (map bare (map symbol_of_item (print_front f))) (without_lines f) (without_lines g)
-    (subst (λ (is : List Item). Matches divisions is (map bare (map symbol_of_item (print_front f)))) (sym (front_blank f)) (fits_bare (print_front f))) (shaped f good) (shallow (without_lines f) (shaped f good))
-    (subst (λ (is : List Item). Matches divisions is (map bare (map symbol_of_item (print_front f)))) (sym (front_blank g)) (subst (λ (ys : List Symbol). Matches divisions (map blank (print_front g)) (map bare ys)) (sym e) (fits_bare (print_front g)))) (shaped g good') (shallow (without_lines g) (shaped g good'))
+    (subst (λ (is : List Item). Matches by_symbol is (map bare (map symbol_of_item (print_front f)))) (sym (front_blank f)) (fits_bare (print_front f))) (shaped f good) (shallow (without_lines f) (shaped f good))
+    (subst (λ (is : List Item). Matches by_symbol is (map bare (map symbol_of_item (print_front f)))) (sym (front_blank g)) (subst (λ (ys : List Symbol). Matches by_symbol (map blank (print_front g)) (map bare ys)) (sym e) (fits_bare (print_front g)))) (shaped g good') (shallow (without_lines g) (shaped g good'))

@@ -3,13 +3,13 @@ use Rattle.std.proofs.Common.{◌≡◌, ◌<◌, ◌≤◌, true, false, List, 
 use Rattle.std.proofs.lemmas.List.{length-map}
 use Rattle.std.specs.Result.{IsErrAnd}
 use Rattle.cob_tree.specs.Symbols.{Symbol, Sign}
-use Rattle.cob_parse_expr.specs.declared.lexeme.Lexeme.{Lexeme}
-use Rattle.cob_parse_expr.specs.declared.halt.Halt.{Halt}
-use Rattle.cob_parse_expr.specs.declared.halt.Halt.TheVariants as halt
-use Rattle.cob_parse_expr.specs.Steps.{signs, Fails, Gives}
+use Rattle.cob_lexemes.specs.declared.lexeme.Lexeme.{Lexeme}
+use Rattle.cob_lexemes.specs.declared.halt.Halt.{Halt}
+use Rattle.cob_lexemes.specs.declared.halt.Halt.TheVariants as halt
+use Rattle.cob_lexemes.specs.Steps.{signs, Fails, Gives}
 use Rattle.reading.specs.Readers.{Fault, Stop, Deep, Reader, ◌>>=◌, seen, many, no_step}
 use Rattle.reading.proofs.Turns.{Turns, turns_start, turns_on, turns_end, turns_fail}
-use Rattle.cob_parse_data.specs.Tokens.{here}
+use Rattle.cob_lexemes.specs.Classes.{here}
 
 -- at the exit of a `?`
 pub gives_wrong : {X Y : Type 0} (view : X → Y) (r : Result X Halt) (read : Result Y Fault) (h : Halt) → IsErrAnd r (λ y. y ≡ h) → Fails h read → Gives view r read

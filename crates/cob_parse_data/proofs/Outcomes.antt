@@ -15,7 +15,7 @@ use Rattle.reading.proofs.Opens.{below_wider}
 use Rattle.reading.proofs.Exact.{enough}
 use Rattle.reading.proofs.Consequences.{one_tree, longest, none_goes_on}
 use Rattle.cob_parse_expr.specs.Alphabet.{grammar}
-use Rattle.cob_parse_data.specs.Tokens.{divisions}
+use Rattle.cob_lexemes.specs.Classes.{by_symbol}
 use Rattle.cob_parse_data.specs.Reading.{front_at}
 use Rattle.cob_parse_data.specs.Outcome.{IsFront, Ends, Begins, IsRead, Stops}
 use Rattle.cob_parse_data.proofs.FrontLaw.{front_syntax, front_law}
@@ -31,41 +31,41 @@ unfolding line_for
 fits_line None = tt
 fits_line (Some l) = refl
 
-pub tokens_of : (is : List Item) → (ts : List Sign) × Matches divisions is ts
+pub tokens_of : (is : List Item) → (ts : List Sign) × Matches by_symbol is ts
 tokens_of [] = ([], tt)
 tokens_of (i ∷ is) =
     let w = tokens_of is in
     (record { symbol = i.symbol; line = line_for i.line } ∷ w.0, (record { symbol = refl; line = fits_line i.line }, w.1))
 
 -- texts are the same for both alphabets
-pub to_grammar : (is : List Item) (ts : List Sign) → Matches divisions is ts → Matches grammar is ts
+pub to_grammar : (is : List Item) (ts : List Sign) → Matches by_symbol is ts → Matches grammar is ts
 to_grammar [] [] m = tt
 to_grammar [] (t ∷ ts) m = absurd m
 to_grammar (i ∷ is) [] m = absurd m
 to_grammar (i ∷ is) (t ∷ ts) m = (m.0, to_grammar is ts m.1)
 
-pub from_grammar : (is : List Item) (ts : List Sign) → Matches grammar is ts → Matches divisions is ts
+pub from_grammar : (is : List Item) (ts : List Sign) → Matches grammar is ts → Matches by_symbol is ts
 from_grammar [] [] m = tt
 from_grammar [] (t ∷ ts) m = absurd m
 from_grammar (i ∷ is) [] m = absurd m
 from_grammar (i ∷ is) (t ∷ ts) m = (m.0, from_grammar is ts m.1)
 
-pub law : Law divisions front_at front_syntax 1
+pub law : Law by_symbol front_at front_syntax 1
 law = front_law 1 (omega arith)
 
 -- nothing is open in these divisions
-pub shallow : (f : Front) → ShapedFront f → Below divisions 1 (print_front f)
+pub shallow : (f : Front) → ShapedFront f → Below by_symbol 1 (print_front f)
 shallow f good =
-    let room = enough divisions (print_front f) in
+    let room = enough by_symbol (print_front f) in
     let text = tokens_of (print_front f) in
     let wide = front_law (suc room.0) (omega arith) in
-    let read = wide.complete f text.0 [] text.1 good (below_wider divisions room.0 (suc room.0) (print_front f) (omega arith) room.1) refl in
+    let read = wide.complete f text.0 [] text.1 good (below_wider by_symbol room.0 (suc room.0) (print_front f) (omega arith) room.1) refl in
     (law.sound (text.0 ++ []) (f, []) read).below
 
 pub never_deep : (ts : List Sign) (n : ℕ) → front_at ts ≡ Err (Deep n) → ⊥
-never_deep ts n e = let h = law.fails ts (Deep n) e in go h.left h.after h.at.1 (below_right divisions 1 h.before h.after (subst (Below divisions 1) h.text (shallow h.tree h.good)))
+never_deep ts n e = let h = law.fails ts (Deep n) e in go h.left h.after h.at.1 (below_right by_symbol 1 h.before h.after (subst (Below by_symbol 1) h.text (shallow h.tree h.good)))
   where
-    go : (left : List Sign) (after : List Item) → Opens divisions 1 left after → Below divisions 1 after → ⊥
+    go : (left : List Sign) (after : List Item) → Opens by_symbol 1 left after → Below by_symbol 1 after → ⊥
     go [] after o b = absurd o
     go (t ∷ left) [] o b = absurd o
     go (t ∷ left) (i ∷ after) o b = omega (arith, o.1, b.0)
@@ -89,7 +89,7 @@ is_read ts f rest e =
 pub stops : (ts : List Sign) (n : ℕ) → front_at ts ≡ Err (Stop n) → (left : List Sign) × (length left ≡ n) × Stops ts left
 stops ts n e = (h.left, h.at, record { none = none; read = h.read; parts = h.parts; begins = begins; no_further = no_further })
   where
-    h : Fails divisions front_syntax 1 ts (Stop n)
+    h : Fails by_symbol front_syntax 1 ts (Stop n)
     h = law.fails ts (Stop n) e
 
     none : (f : Front) (text rest : List Sign) → ts ≡ text ++ rest → IsFront f text → Ends f rest → ⊥
@@ -98,13 +98,13 @@ stops ts n e = (h.left, h.at, record { none = none; read = h.read; parts = h.par
     begins : Begins h.read
     begins =
         let after = tokens_of h.after in
-        record { front = h.tree; more = after.0; whole = record { shaped = h.good; spells = to_grammar (print_front h.tree) (h.read ++ after.0) (subst (λ (is : List Item). Matches divisions is (h.read ++ after.0)) (sym h.text) (matches_join divisions h.before h.after h.read after.0 h.spells after.1)) } }
+        record { front = h.tree; more = after.0; whole = record { shaped = h.good; spells = to_grammar (print_front h.tree) (h.read ++ after.0) (subst (λ (is : List Item). Matches by_symbol is (h.read ++ after.0)) (sym h.text) (matches_join by_symbol h.before h.after h.read after.0 h.spells after.1)) } }
 
     no_further : (u : Sign) (rest : List Sign) → h.left ≡ u ∷ rest → Begins (h.read ++ u ∷ []) → ⊥
     no_further u rest el b =
         let count : n ≡ suc (length rest) = sym h.at ∙ ap length el in
         let stop : front_at (h.read ++ u ∷ rest) ≡ Err (Stop (suc (length rest))) = ap front_at (sym (h.parts ∙ ap (λ (z : List Sign). h.read ++ z) el)) ∙ e ∙ ap (λ (k : ℕ). Err (Stop k)) count in
-        none_goes_on law h.read rest b.more u b.front stop (subst (Matches divisions (print_front b.front)) (append_assoc h.read (u ∷ []) b.more) (from_grammar (print_front b.front) ((h.read ++ u ∷ []) ++ b.more) b.whole.spells)) b.whole.shaped (shallow b.front b.whole.shaped)
+        none_goes_on law h.read rest b.more u b.front stop (subst (Matches by_symbol (print_front b.front)) (append_assoc h.read (u ∷ []) b.more) (from_grammar (print_front b.front) ((h.read ++ u ∷ []) ++ b.more) b.whole.spells)) b.whole.shaped (shallow b.front b.whole.shaped)
 
 -- ---- one answer
 
@@ -149,4 +149,4 @@ one_stop ts left left' s s' = same_end s.read left s'.read left' (sym s.parts �
 pub one_front : (f g : Front) → ShapedFront f → ShapedFront g → print_front f ≡ print_front g → f ≡ g
 one_front f g good good' e =
     let text = tokens_of (print_front f) in
-    one_tree law text.0 f g text.1 good (shallow f good) (subst (λ (is : List Item). Matches divisions is text.0) e text.1) good' (shallow g good')
+    one_tree law text.0 f g text.1 good (shallow f good) (subst (λ (is : List Item). Matches by_symbol is text.0) e text.1) good' (shallow g good')

@@ -4,14 +4,14 @@ use Rattle.std.specs.List.{AllByRecursion}
 use Rattle.cob_tree.specs.Items.{Item, each}
 use Rattle.reading.specs.Readers.{Fault, Reader, ◌>>=◌, seq, optional, here_if, many, plus}
 use Rattle.reading.specs.Printing.{Alphabet, peek, on_mark, begins, Next}
-use Rattle.reading.specs.Law.{Syntax, Law}
+use Rattle.reading.specs.Law.{Syntax, Law, onward}
 use Rattle.reading.proofs.Texts.{or_false}
 use Rattle.reading.proofs.Seen.{View, seen_law}
 use Rattle.reading.proofs.Turns.{law_along}
 use Rattle.reading.proofs.Dependent.{seq_syntax}
 use Rattle.reading.proofs.Apart.{apart_law}
 use Rattle.reading.proofs.Starts.{Begins, Starts, OneToken}
-use Rattle.reading.proofs.Tail.{apart, onward, Tail, tail_law}
+use Rattle.reading.proofs.Tail.{apart, Tail, tail_law}
 use Rattle.reading.proofs.Optional.{optional_syntax}
 use Rattle.reading.proofs.Opt.{optional_tail, opener_here}
 use Rattle.reading.proofs.Many.{is_given, many_syntax, many_tail}

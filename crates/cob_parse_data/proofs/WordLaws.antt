@@ -7,14 +7,14 @@ use Rattle.cob_tree.specs.PrintFront as print
 use Rattle.cob_tree.specs.PrintFront.{print_if, print_name_and_stop}
 use Rattle.cob_tree.specs.Shaped.{IfThere}
 use Rattle.reading.specs.Readers.{Reader, seq}
-use Rattle.reading.specs.Law.{Syntax, Law}
+use Rattle.reading.specs.Law.{Syntax, Law, onward}
 use Rattle.reading.proofs.Texts.{Always, takes_nothing}
 use Rattle.reading.proofs.Seen.{View, seen_law}
 use Rattle.reading.proofs.Dependent.{seq_syntax, seq_law}
 use Rattle.reading.proofs.Starts.{Begins}
-use Rattle.reading.proofs.Tail.{onward, Tail}
+use Rattle.reading.proofs.Tail.{Tail}
 use Rattle.reading.proofs.Optional.{optional_syntax}
-use Rattle.cob_parse_data.specs.Tokens.{divisions, is, the}
+use Rattle.cob_lexemes.specs.Classes.{by_symbol, is, the}
 use Rattle.cob_parse_data.specs.Reading.{back, front, heading, headed, led, perhaps, named}
 use Rattle.cob_parse_data.specs.Takes.{takes_perhaps}
 use Rattle.cob_parse_data.proofs.Parts.{onward_false, law_as, pair_syntax, pair_law, optional_part}
@@ -30,7 +30,7 @@ closed y = (y, tt)
 abbrev pub Leads : {A : Type 0} → Keyword → Syntax Item Symbol A → Type 0
 Leads {A} k s = (x : A) → s.Good x → (more : List Item) × (s.print x ≡ key 0 k ∷ more)
 
-pub leads_begin : {A : Type 0} (k : Keyword) (s : Syntax Item Symbol A) → Leads k s → Begins divisions (is (the k)) s
+pub leads_begin : {A : Type 0} (k : Keyword) (s : Syntax Item Symbol A) → Leads k s → Begins by_symbol (is (the k)) s
 leads_begin k s leads = begins_with (one_word k) s (λ x good. let w = leads x good in (tt, None, w.0, w.1))
 
 abbrev pub heading_syntax : List Keyword → Syntax Item Symbol (Unit {0})
@@ -46,34 +46,34 @@ abbrev pub named_syntax : Syntax Item Symbol (List ℕ)
 named_syntax = record { Good = Always; print = print_name_and_stop; takes = takes_nothing }
 
 module _ (top : ℕ) (low : 0 < top) where
-  pub heading_law : (ks : List Keyword) → Law divisions (heading ks) (heading_syntax ks) top
+  pub heading_law : (ks : List Keyword) → Law by_symbol (heading ks) (heading_syntax ks) top
   heading_law [] = one_law stops top low tt
   heading_law (k ∷ ks) = seen_law (seq_law (one_law (one_word k) top low tt) (λ x p good. refl) (heading_law ks)) view
     where
       view : View (seq_syntax (one_syntax (λ x. Key k)) (heading_syntax ks)) (heading_syntax (k ∷ ks)) back beside
       view = record { back = λ y good. refl; print = λ x good. refl; takes = λ x p good. refl; good = λ x good. tt; good_back = λ y good. (tt, tt) }
 
-  pub headed_law : {A : Type 0} {r : Reader Sign A} {s : Syntax Item Symbol A} (ks : List Keyword) → Law divisions r s top → Law divisions (headed ks r) (headed_syntax ks s) top
+  pub headed_law : {A : Type 0} {r : Reader Sign A} {s : Syntax Item Symbol A} (ks : List Keyword) → Law by_symbol r s top → Law by_symbol (headed ks r) (headed_syntax ks s) top
   headed_law {A} {r} {s} ks L = seen_law (seq_law (heading_law ks) (λ x p good. refl) L) view
     where
       view : View (seq_syntax (heading_syntax ks) s) (headed_syntax ks s) back beside
       view = record { back = λ y good. refl; print = λ x good. refl; takes = λ x p good. refl; good = λ x good. good.1; good_back = λ y good. (tt, good) }
 
-  pub led_law : {A : Type 0} {r : Reader Sign A} {s : Syntax Item Symbol A} (k : Keyword) → Law divisions r s top → Law divisions (led k r) (led_syntax k s) top
+  pub led_law : {A : Type 0} {r : Reader Sign A} {s : Syntax Item Symbol A} (k : Keyword) → Law by_symbol r s top → Law by_symbol (led k r) (led_syntax k s) top
   led_law {A} {r} {s} k L = seen_law (seq_law (one_law (one_word k) top low tt) (λ x p good. refl) L) view
     where
       view : View (seq_syntax (one_syntax (λ x. Key k)) s) (led_syntax k s) back beside
       view = record { back = λ y good. refl; print = λ x good. refl; takes = λ x p good. refl; good = λ x good. good.1; good_back = λ y good. (tt, good) }
 
-  pub named_law : Law divisions named named_syntax top
+  pub named_law : Law by_symbol named named_syntax top
   named_law = seen_law (seq_law (one_law names top low []) (λ x p good. refl) (one_law stops top low tt)) view
     where
       view : View (seq_syntax (one_syntax (λ text. Name text)) (one_syntax (λ x. Stop))) named_syntax front closed
       view = record { back = λ y good. refl; print = λ x good. refl; takes = λ x p good. refl; good = λ x good. tt; good_back = λ y good. (tt, tt) }
 
   -- what may be left out, where a word begins it
-  module _ {A : Type 0} {r : Reader Sign A} {s : Syntax Item Symbol A} (k : Keyword) (L : Law divisions r s top) (leads : Leads k s) where
-    pub perhaps_tail : Tail divisions (is (the k)) is_some (perhaps k r) (optional_syntax (is (the k)) [] s) top
+  module _ {A : Type 0} {r : Reader Sign A} {s : Syntax Item Symbol A} (k : Keyword) (L : Law by_symbol r s top) (leads : Leads k s) where
+    pub perhaps_tail : Tail by_symbol (is (the k)) is_some (perhaps k r) (optional_syntax (is (the k)) [] s) top
     perhaps_tail = optional_part (is (the k)) L (starts_with (leads_begin k s leads))
 
 module _ {A B : Type 0} (j k : Keyword) (a : Syntax Item Symbol A) (b : Syntax Item Symbol B) where
@@ -105,9 +105,9 @@ module _ {A : Type 0} (k : Keyword) (s : Syntax Item Symbol A) where
   perhaps_free y none free None good = none
   perhaps_free y none free (Some x) good = free x good
 
-module _ {A B : Type 0} {r : Reader Sign A} {r' : Reader Sign B} {a : Syntax Item Symbol A} {b : Syntax Item Symbol B} {top : ℕ} (low : 0 < top) (j k : Keyword) (differ : is (the j) (Key k) ≡ false) (LA : Law divisions r a top) (LB : Law divisions r' b top) (leads : Leads j a) (leads' : Leads k b)
+module _ {A B : Type 0} {r : Reader Sign A} {r' : Reader Sign B} {a : Syntax Item Symbol A} {b : Syntax Item Symbol B} {top : ℕ} (low : 0 < top) (j k : Keyword) (differ : is (the j) (Key k) ≡ false) (LA : Law by_symbol r a top) (LB : Law by_symbol r' b top) (leads : Leads j a) (leads' : Leads k b)
     (never : (x : A) → a.Good x → a.takes x Stop ≡ false) (free : (x : A) → a.Good x → a.takes x (Key k) ≡ false) where
-  pub two_law : Law divisions (seq (perhaps j r) (perhaps k r')) (two_syntax j k a b) top
+  pub two_law : Law by_symbol (seq (perhaps j r) (perhaps k r')) (two_syntax j k a b) top
   two_law = law_as (pair_law (perhaps_tail top low j LA leads).law (perhaps_tail top low k LB leads') Stop never_first free_first) view
     where
       never_first : (o : Option A) → (syntax j a).Good o → (syntax j a).takes o Stop ≡ false

@@ -7,8 +7,8 @@ use Rattle.cob_tree.specs.PrintFront.{print_front}
 use Rattle.cob_tree.specs.Shaped.{ShapedFront}
 use Rattle.reading.specs.Printing.{Matches, Next}
 use Rattle.cob_parse_expr.specs.Alphabet.{grammar}
-use Rattle.cob_parse_expr.specs.Parsing.{from, line_at}
-use Rattle.cob_parse_data.specs.Tokens.{divisions}
+use Rattle.cob_lexemes.specs.Places.{from, line_at}
+use Rattle.cob_lexemes.specs.Classes.{by_symbol}
 use Rattle.cob_parse_data.specs.Takes.{takes_front}
 
 -- the tokens are the text of these divisions
@@ -18,7 +18,7 @@ pub record IsFront (f : Front) (text : List Sign) : Type 0 where
 
 -- they don't go on with what stands there
 abbrev pub Ends : Front → List Sign → Type 0
-Ends f rest = Next divisions (takes_front f) rest
+Ends f rest = Next by_symbol (takes_front f) rest
 
 -- the text of some divisions begins so
 pub record Begins (read : List Sign) : Type 0 where

@@ -23,7 +23,8 @@ use Rattle.cob_tree.specs.declared.front.Clause.{Clause}
 use Rattle.cob_tree.specs.declared.front.Clause.TheVariants as clause
 use Rattle.cob_tree.specs.declared.front.Range.{Range}
 use Rattle.cob_tree.specs.Symbols.{Symbol, Sign}
-use Rattle.cob_parse_expr.specs.Classes.{name_symbol, const_as}
+use Rattle.cob_lexemes.specs.Classes.{name_symbol, of, here, the, on_its_line, stop_symbol}
+use Rattle.cob_parse_expr.specs.Classes.{const_as}
 use Rattle.reading.specs.Readers.{Reader, nothing, lead, seq, seen, many, plus, optional, here_if, maybe, clauses}
 use Rattle.cob_parse_data.specs.declared.head.SelectHead.{SelectHead}
 use Rattle.cob_parse_data.specs.declared.head.SelectHead.TheVariants as select_head
@@ -31,7 +32,7 @@ use Rattle.cob_parse_data.specs.declared.head.FdHead.{FdHead}
 use Rattle.cob_parse_data.specs.declared.head.FdHead.TheVariants as fd_head
 use Rattle.cob_parse_data.specs.declared.head.ClauseHead.{ClauseHead}
 use Rattle.cob_parse_data.specs.declared.head.ClauseHead.TheVariants as head
-use Rattle.cob_parse_data.specs.Tokens.{of, here, the, on_its_line, stop_symbol, number_symbol, pic_symbol, external_symbol, label_symbol, described_symbol}
+use Rattle.cob_parse_data.specs.Tokens.{number_symbol, pic_symbol, external_symbol, label_symbol, described_symbol}
 use Rattle.cob_parse_data.specs.Heads.{same_kind, select_kind, select_symbol, fd_kind_of, fd_symbol, clause_kind_of, clause_symbol}
 
 -- ---- words

@@ -9,8 +9,9 @@ use Rattle.cob_tree.specs.declared.front.Io.{Io}
 use Rattle.cob_tree.specs.declared.front.Data.{Data}
 use Rattle.cob_tree.specs.declared.front.Fd.{Fd}
 use Rattle.cob_tree.specs.Symbols.{Symbol}
-use Rattle.reading.proofs.Tail.{onward}
-use Rattle.cob_parse_data.specs.Tokens.{is, the, number_symbol}
+use Rattle.reading.specs.Law.{onward}
+use Rattle.cob_lexemes.specs.Classes.{is, the}
+use Rattle.cob_parse_data.specs.Tokens.{number_symbol}
 
 -- what may be left out goes on with the word that begins it
 abbrev pub takes_perhaps : {A : Type 0} → Keyword → (A → Symbol → Bool) → Option A → Symbol → Bool

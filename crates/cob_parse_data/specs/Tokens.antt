@@ -1,6 +1,5 @@
--- The classes of tokens of which the divisions before PROCEDURE are made. Here each token is its own mark.
-use Rattle.std.specs.Prelude.{ℕ, Bool, true, false, List, Option, Some, None, is_some}
-use Rattle.std.specs.Str.{bytes_eq}
+-- The classes of tokens that stand in the divisions before PROCEDURE alone.
+use Rattle.std.specs.Prelude.{ℕ, List, Option, Some, None}
 use Rattle.cob_tree.specs.declared.token.Num.{Num}
 use Rattle.cob_tree.specs.declared.keyword.Keyword.{Keyword}
 use Rattle.cob_tree.specs.declared.keyword.Keyword.TheVariants as key
@@ -10,56 +9,8 @@ use Rattle.cob_tree.specs.declared.front.Label.{Label}
 use Rattle.cob_tree.specs.declared.front.Label.TheVariants as label
 use Rattle.cob_tree.specs.declared.front.Described.{Described}
 use Rattle.cob_tree.specs.declared.front.Described.TheVariants as described
-use Rattle.cob_tree.specs.Keywords.{text_of}
-use Rattle.cob_tree.specs.Symbols.{Symbol, Key, Name, Number, Text, Pic, Stop, Sign}
-use Rattle.cob_tree.specs.Items.{Item, Fits}
-use Rattle.reading.specs.Printing.{Alphabet, Here, begins}
-use Rattle.cob_parse_expr.specs.Classes.{word_symbol}
-
--- every token is told by itself alone
-abbrev pub divisions : Alphabet Sign Item Symbol
-divisions = record { Fits = Fits; depth = λ i. i.depth; front = λ s. Here (Some s.symbol) }
-
--- a class of symbols, as one of tokens
-abbrev pub of : {K : Type 0} → (Symbol → Option K) → Sign → Option K
-of class s = class s.symbol
-
-abbrev pub is : {K : Type 0} → (Symbol → Option K) → Symbol → Bool
-is class y = is_some (class y)
-
--- whether a token of the class stands first
-abbrev pub here : {K : Type 0} → (Symbol → Option K) → List Sign → Bool
-here class ts = begins divisions (is class) ts
-
--- ---- reserved words
-
-abbrev pub same_key : Keyword → Keyword → Bool
-same_key k j = bytes_eq (text_of k) (text_of j)
-
-abbrev pub found : Bool → Option (Unit {0})
-found true = Some tt
-found false = None
-
-abbrev pub the_key : Keyword → Keyword → Option (Unit {0})
-the_key k j = found (same_key k j)
-
--- one reserved word
-abbrev pub the : Keyword → Symbol → Option (Unit {0})
-the k y = word_symbol (the_key k) y
-
--- with the line on which it stands
-abbrev pub on_line : {K : Type 0} → ℕ → Option K → Option (ℕ × K)
-on_line line None = None
-on_line line (Some x) = Some (line, x)
-
-abbrev pub on_its_line : {K : Type 0} → (Symbol → Option K) → Sign → Option (ℕ × K)
-on_its_line class s = on_line s.line (class s.symbol)
-
--- ---- other tokens
-
-abbrev pub stop_symbol : Symbol → Option (Unit {0})
-stop_symbol Stop = Some tt
-stop_symbol _ = None
+use Rattle.cob_tree.specs.Symbols.{Symbol, Key, Name, Number, Text, Pic}
+use Rattle.cob_lexemes.specs.Classes.{word_symbol}
 
 abbrev pub number_symbol : Symbol → Option Num
 number_symbol (Number n) = Some n

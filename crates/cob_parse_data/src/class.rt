@@ -1,36 +1,18 @@
-ghost use Rattle.std.specs.Prelude.{◌≡◌, ◌+◌, ◌<◌, ◌≤◌, ◌∷◌, [], ℕ, length, IfOk, IfSome, IfNone, is_some, true, false};
+//! The tokens of which the divisions before PROCEDURE are made, in front of lexemes.
+ghost use Rattle.std.specs.Prelude.{◌≡◌, ◌+◌, ◌<◌, ◌≤◌, length, IfOk, IfSome, IfNone, false};
 ghost use Rattle.std.specs.Option.{option_map};
-ghost use Rattle.cob_parse_expr.specs.Lexemes.{plain_symbol, plain_lexeme};
-ghost use Rattle.cob_parse_expr.specs.Classes.{name_symbol, const_key, const_as};
-ghost use Rattle.cob_parse_expr.specs.Steps.{signs, Leads, Lacks, Gives};
 ghost use Rattle.reading.specs.Readers.{lead, maybe};
-ghost use Rattle.cob_parse_data.specs.Tokens.{of, is, here, same_key, the, on_its_line, stop_symbol, number_symbol, pic_symbol, external_symbol, label_key, label_symbol, filler_key, described_symbol};
-ghost use Rattle.cob_parse_data.specs.Reading.{one, word, stop, line_of};
+ghost use Rattle.cob_lexemes.specs.Lexemes.{plain_symbol};
+ghost use Rattle.cob_lexemes.specs.Classes.{of, here, on_its_line};
+ghost use Rattle.cob_lexemes.specs.Steps.{signs, Leads, Lacks, Gives};
+ghost use Rattle.cob_parse_expr.specs.Classes.{const_as};
+ghost use Rattle.cob_parse_data.specs.Tokens.{number_symbol, pic_symbol, external_symbol, label_symbol, described_symbol};
+ghost use Rattle.cob_parse_data.specs.Reading.{one};
 
-use cob_parse_expr::{Halt, Lexeme, Symbol};
+use cob_lexemes::{Halt, Lexeme, Symbol, next};
+use cob_parse_expr::is_constant;
 use cob_tree::{Bytes, Described, External, Keyword, Label, Name, Num};
 use std::alloc::{AllocError, Global};
-
-fn same_key(first: Keyword, second: Keyword) -> bool
-    ensures { result ≡ same_key first second }
-{
-    first.text() == second.text()
-}
-
-fn is_word(keyword: Keyword, symbol: &Symbol) -> bool
-    ensures { result ≡ is (the keyword) (plain_symbol symbol.now) }
-{
-    match symbol {
-        Symbol::Key(other) => same_key(keyword, *other),
-        _ => false,
-    }
-}
-
-fn is_stop(symbol: &Symbol) -> bool
-    ensures { result ≡ is stop_symbol (plain_symbol symbol.now) }
-{
-    matches!(symbol, Symbol::Stop)
-}
 
 fn number(symbol: &Symbol) -> Option<&Num>
     ensures { option_map (λ n. n.now) result ≡ number_symbol (plain_symbol symbol.now) }
@@ -80,28 +62,6 @@ fn described(alloc: Global, symbol: &Symbol) -> Result<Option<Described>, AllocE
     }
 }
 
-// The first lexeme, and those behind it.
-pub fn next(lexemes: &[Lexeme]) -> Option<(&Lexeme, &[Lexeme])>
-    ensures some { IfSome result (λ x. signs lexemes.now ≡ plain_lexeme x.0.now ∷ signs x.1.now) }
-    ensures none { IfNone result (signs lexemes.now ≡ []) }
-    ensures shorter { IfSome result (λ x. length lexemes.now ≡ length x.1.now + 1) }
-{
-    match lexemes {
-        [] => None,
-        [lexeme, rest @ ..] => Some((lexeme, rest)),
-    }
-}
-
-/// Whether a reserved word stands first.
-pub fn stands(keyword: Keyword, lexemes: &[Lexeme]) -> bool
-    ensures { result ≡ here (the keyword) (signs lexemes.now) }
-{
-    match next(lexemes) {
-        Some((lexeme, _)) => is_word(keyword, &lexeme.symbol),
-        None => false,
-    }
-}
-
 /// Whether a number stands first.
 pub fn stands_number(lexemes: &[Lexeme]) -> bool
     ensures { result ≡ here number_symbol (signs lexemes.now) }
@@ -112,35 +72,6 @@ pub fn stands_number(lexemes: &[Lexeme]) -> bool
     }
 }
 
-/// Whether a name stands first.
-pub fn stands_name(lexemes: &[Lexeme]) -> bool
-    ensures { result ≡ here name_symbol (signs lexemes.now) }
-{
-    match next(lexemes) {
-        Some((lexeme, _)) => matches!(&lexeme.symbol, Symbol::Name(_)),
-        None => false,
-    }
-}
-
-fn is_figurative(keyword: Keyword) -> bool
-    ensures { result ≡ is_some (const_key keyword) }
-{
-    matches!(
-        keyword,
-        Keyword::Zero | Keyword::Space | Keyword::Quote | Keyword::HighValue | Keyword::LowValue
-    )
-}
-
-fn is_constant(symbol: &Symbol) -> bool
-    ensures { result ≡ is const_as (plain_symbol symbol.now) }
-{
-    match symbol {
-        Symbol::Number(_) | Symbol::Text(_) => true,
-        Symbol::Key(keyword) => is_figurative(*keyword),
-        _ => false,
-    }
-}
-
 /// Whether a constant stands first.
 pub fn stands_constant(lexemes: &[Lexeme]) -> bool
     ensures { result ≡ here const_as (signs lexemes.now) }
@@ -148,50 +79,6 @@ pub fn stands_constant(lexemes: &[Lexeme]) -> bool
     match next(lexemes) {
         Some((lexeme, _)) => is_constant(&lexeme.symbol),
         None => false,
-    }
-}
-
-fn behind(keyword: Keyword, lexemes: &[Lexeme]) -> Option<&[Lexeme]>
-    ensures found { IfSome result (λ rest. Leads (of (the keyword)) tt (signs lexemes.now) (signs rest.now)) }
-    ensures none { IfNone result (Lacks (of (the keyword)) (signs lexemes.now)) }
-    ensures shorter { IfSome result (λ rest. length lexemes.now ≡ length rest.now + 1) }
-{
-    match next(lexemes) {
-        Some((lexeme, rest)) if is_word(keyword, &lexeme.symbol) => Some(rest),
-        _ => None,
-    }
-}
-
-/// A reserved word.
-pub fn word(keyword: Keyword, lexemes: &[Lexeme]) -> Result<&[Lexeme], Halt>
-    ensures gives { Gives (λ rest. (tt, signs rest.now)) result (word keyword (signs lexemes.now)) }
-    ensures rest { IfOk result (λ rest. length rest.now < length lexemes.now) }
-{
-    match behind(keyword, lexemes) {
-        Some(rest) => Ok(rest),
-        None => Err(Halt::Stop(lexemes.len())),
-    }
-}
-
-fn behind_stop(lexemes: &[Lexeme]) -> Option<&[Lexeme]>
-    ensures found { IfSome result (λ rest. Leads (of stop_symbol) tt (signs lexemes.now) (signs rest.now)) }
-    ensures none { IfNone result (Lacks (of stop_symbol) (signs lexemes.now)) }
-    ensures shorter { IfSome result (λ rest. length lexemes.now ≡ length rest.now + 1) }
-{
-    match next(lexemes) {
-        Some((lexeme, rest)) if is_stop(&lexeme.symbol) => Some(rest),
-        _ => None,
-    }
-}
-
-/// The point that ends an entry.
-pub fn stop(lexemes: &[Lexeme]) -> Result<&[Lexeme], Halt>
-    ensures gives { Gives (λ rest. (tt, signs rest.now)) result (stop (signs lexemes.now)) }
-    ensures rest { IfOk result (λ rest. length rest.now < length lexemes.now) }
-{
-    match behind_stop(lexemes) {
-        Some(rest) => Ok(rest),
-        None => Err(Halt::Stop(lexemes.len())),
     }
 }
 
@@ -297,23 +184,6 @@ pub fn described_in(
             None => Ok((None, lexemes)),
             Some(described) => Ok((Some(described), rest)),
         },
-    }
-}
-
-/// The line of a reserved word.
-pub fn line_of(keyword: Keyword, lexemes: &[Lexeme]) -> Result<(u32, &[Lexeme]), Halt>
-    ensures gives { Gives (λ x. ((x.0, tt), signs x.1.now)) result (line_of keyword (signs lexemes.now)) }
-    ensures rest { IfOk result (λ x. length x.1.now < length lexemes.now) }
-{
-    match next(lexemes) {
-        None => Err(Halt::Stop(0)),
-        Some((lexeme, rest)) => {
-            if is_word(keyword, &lexeme.symbol) {
-                Ok((lexeme.line, rest))
-            } else {
-                Err(Halt::Stop(lexemes.len()))
-            }
-        }
     }
 }
 

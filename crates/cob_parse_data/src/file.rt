@@ -1,19 +1,20 @@
+//! Entries of files, and the data division.
 ghost use Rattle.std.specs.Prelude.{◌≡◌, ◌+◌, ◌<◌, ◌≤◌, ◌∷◌, [], length, IfOk, IfSome, IfNone, map};
 ghost use Rattle.cob_tree.specs.declared.keyword.Keyword.TheVariants as key;
-ghost use Rattle.cob_parse_expr.specs.Lexemes.{plain_symbol};
-ghost use Rattle.cob_parse_expr.specs.Classes.{name_symbol};
-ghost use Rattle.cob_parse_expr.specs.Steps.{signs, Leads, Lacks, Gives};
+ghost use Rattle.cob_lexemes.specs.Lexemes.{plain_symbol};
+ghost use Rattle.cob_lexemes.specs.Classes.{name_symbol, of, here};
+ghost use Rattle.cob_lexemes.specs.Steps.{signs, Leads, Lacks, Gives};
 ghost use Rattle.reading.specs.Readers.{among, fresh, many, seen};
 ghost use Rattle.cob_parse_data.specs.declared.head.FdHead.TheVariants as head;
-ghost use Rattle.cob_parse_data.specs.Tokens.{of, here};
 ghost use Rattle.cob_parse_data.specs.Heads.{same_kind, fd_symbol, fd_kind_of, fd_head_of};
 ghost use Rattle.cob_parse_data.specs.Reading.{perhaps, name, names, first_and, fd_body, fd_clauses, fd, fds, files, storage, data_division};
 
-use crate::class::{label_at, line_of, next, number_at, stands, stands_name, stop};
+use crate::class::{label_at, number_at};
 use crate::entry::entries;
 use crate::head::FdHead;
 use crate::word::heading;
-use cob_parse_expr::{Halt, Lexeme, Symbol, name_at};
+use cob_lexemes::{Halt, Lexeme, Symbol, line_of, next, stands, stands_name, stop};
+use cob_parse_expr::name_at;
 use cob_tree::{Data, Entry, Fd, FdClause, Keyword, Many, Name};
 use std::alloc::Global;
 

@@ -1,12 +1,12 @@
+//! The divisions before PROCEDURE.
 ghost use Rattle.std.specs.Prelude.{◌≡◌, ◌<◌, length, IfOk};
-ghost use Rattle.cob_parse_expr.specs.Steps.{signs, Gives};
+ghost use Rattle.cob_lexemes.specs.Steps.{signs, Gives};
 ghost use Rattle.cob_parse_data.specs.Reading.{front_at, before_procedure_at};
 
-use crate::class::word;
 use crate::env::env_part;
 use crate::file::data_part;
 use crate::word::{heading, named, title};
-use cob_parse_expr::{Halt, Lexeme};
+use cob_lexemes::{Halt, Lexeme, expect};
 use cob_tree::{Front, Keyword};
 use std::alloc::Global;
 
@@ -29,6 +29,6 @@ pub fn before_procedure_in(alloc: Global, lexemes: &[Lexeme]) -> Result<(Front, 
     ensures rest { IfOk result (λ x. length x.1.now < length lexemes.now) }
 {
     let (front, rest) = front_in(alloc, lexemes)?;
-    let rest = word(Keyword::Procedure, rest)?;
+    let rest = expect(Keyword::Procedure, rest)?;
     Ok((front, rest))
 }

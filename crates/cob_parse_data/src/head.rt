@@ -1,3 +1,4 @@
+//! The words with which clauses begin.
 ghost use Rattle.std.specs.Prelude.{◌≡◌};
 
 /// The reserved word that begins a clause of a SELECT entry.

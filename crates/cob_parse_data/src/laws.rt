@@ -1,3 +1,4 @@
+//! Laws of reading the divisions before PROCEDURE.
 ghost use Rattle.std.specs.Prelude.{◌≡◌, ◌↔◌, ◌∷◌, [], ◌++◌, true, List, map};
 ghost use Rattle.cob_tree.specs.declared.front.Front.{Front};
 ghost use Rattle.cob_tree.specs.Symbols.{Sign};

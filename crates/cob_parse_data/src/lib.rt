@@ -13,10 +13,10 @@ mod parse;
 mod select;
 mod word;
 
-pub use cob_parse_expr::ParseEnd;
 pub use front::{before_procedure_in, front_in};
 pub use head::{ClauseHead, FdHead, SelectHead};
 pub use laws::{
     one_front, one_reading, one_stop, read_or_stopped, same_but_for_lines, takes_is_going_on,
 };
 pub use parse::front_of;
+pub use word::named;

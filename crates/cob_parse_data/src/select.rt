@@ -1,15 +1,17 @@
+//! SELECT entries.
 ghost use Rattle.std.specs.Prelude.{◌≡◌, ◌+◌, ◌<◌, ◌≤◌, ◌∷◌, [], length, IfOk, IfSome, IfNone, map};
-ghost use Rattle.cob_parse_expr.specs.Lexemes.{plain_symbol};
-ghost use Rattle.cob_parse_expr.specs.Steps.{signs, Leads, Lacks, Gives};
+ghost use Rattle.cob_lexemes.specs.Lexemes.{plain_symbol};
+ghost use Rattle.cob_lexemes.specs.Steps.{signs, Leads, Lacks, Gives};
 ghost use Rattle.cob_tree.specs.declared.keyword.Keyword.TheVariants as key;
 ghost use Rattle.reading.specs.Readers.{among, fresh};
-ghost use Rattle.cob_parse_data.specs.Tokens.{of};
+ghost use Rattle.cob_lexemes.specs.Classes.{of};
 ghost use Rattle.cob_parse_data.specs.Heads.{same_kind, select_symbol, select_kind, select_head_of};
 ghost use Rattle.cob_parse_data.specs.Reading.{select_body, select_clauses, select, selects};
 
-use crate::class::{external_at, line_of, next, stands, stop, word};
+use crate::class::external_at;
 use crate::head::SelectHead;
-use cob_parse_expr::{Halt, Lexeme, Symbol, name_at};
+use cob_lexemes::{Halt, Lexeme, Symbol, expect, line_of, next, stands, stop};
+use cob_parse_expr::name_at;
 use cob_tree::{Keyword, Many, SelClause, Select};
 use std::alloc::Global;
 
@@ -83,11 +85,11 @@ fn clause_behind(
 {
     match head {
         SelectHead::Organization => {
-            let rest = word(Keyword::Sequential, lexemes)?;
+            let rest = expect(Keyword::Sequential, lexemes)?;
             Ok((SelClause::Organization, rest))
         }
         SelectHead::Access => {
-            let rest = word(Keyword::Sequential, lexemes)?;
+            let rest = expect(Keyword::Sequential, lexemes)?;
             Ok((SelClause::Access, rest))
         }
         SelectHead::Status => {
@@ -118,7 +120,7 @@ fn select(alloc: Global, lexemes: &[Lexeme]) -> Result<(Select, &[Lexeme]), Halt
 {
     let (line, rest) = line_of(Keyword::Select, lexemes)?;
     let (name, rest) = name_at(alloc, rest)?;
-    let rest = word(Keyword::Assign, rest)?;
+    let rest = expect(Keyword::Assign, rest)?;
     let (external, rest) = external_at(alloc, rest)?;
     let (clauses, rest) = clauses(alloc, rest)?;
     let rest = stop(rest)?;

@@ -1,9 +1,10 @@
+//! Titles of divisions and sections, and names.
 ghost use Rattle.std.specs.Prelude.{◌≡◌, ◌<◌, ◌≤◌, ◌∷◌, [], length, IfOk};
-ghost use Rattle.cob_parse_expr.specs.Steps.{signs, Gives};
+ghost use Rattle.cob_lexemes.specs.Steps.{signs, Gives};
 ghost use Rattle.cob_parse_data.specs.Reading.{heading, named};
 
-use crate::class::{stop, word};
-use cob_parse_expr::{Halt, Lexeme, name_at};
+use cob_lexemes::{Halt, Lexeme, expect, stop};
+use cob_parse_expr::name_at;
 use cob_tree::{Keyword, Name};
 use std::alloc::Global;
 
@@ -12,7 +13,7 @@ pub fn title(keyword: Keyword, lexemes: &[Lexeme]) -> Result<&[Lexeme], Halt>
     ensures gives { Gives (λ rest. (tt, signs rest.now)) result (heading (keyword ∷ []) (signs lexemes.now)) }
     ensures rest { IfOk result (λ rest. length rest.now < length lexemes.now) }
 {
-    let rest = word(keyword, lexemes)?;
+    let rest = expect(keyword, lexemes)?;
     stop(rest)
 }
 
@@ -21,7 +22,7 @@ pub fn heading(first: Keyword, second: Keyword, lexemes: &[Lexeme]) -> Result<&[
     ensures gives { Gives (λ rest. (tt, signs rest.now)) result (heading (first ∷ second ∷ []) (signs lexemes.now)) }
     ensures rest { IfOk result (λ rest. length rest.now < length lexemes.now) }
 {
-    let rest = word(first, lexemes)?;
+    let rest = expect(first, lexemes)?;
     title(second, rest)
 }
 

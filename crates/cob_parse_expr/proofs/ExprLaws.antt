@@ -17,13 +17,13 @@ use Rattle.cob_tree.specs.PrintExpr.{const_symbol, open_mark, close_mark, sign_c
 use Rattle.cob_tree.specs.Takes.{takes_primary, takes_fact, takes_facts, takes_term, takes_terms, takes_expr}
 use Rattle.reading.specs.Readers.{Reader, branch, stands, closed, full}
 use Rattle.reading.specs.Printing.{Matches, Below, peek_on, on_mark, Next}
-use Rattle.reading.specs.Law.{Syntax, Law}
+use Rattle.reading.specs.Law.{Syntax, Law, onward}
 use Rattle.reading.proofs.Texts.{Always, takes_nothing, or_false}
 use Rattle.reading.proofs.Dependent.{dependent_syntax, seq_syntax}
 use Rattle.reading.proofs.Lead.{lead_syntax, branch_law}
 use Rattle.reading.proofs.Seen.{View, seen_law}
 use Rattle.reading.proofs.Starts.{Begins, Starts, starts_by_one}
-use Rattle.reading.proofs.Tail.{apart, onward, tail_syntax}
+use Rattle.reading.proofs.Tail.{apart, tail_syntax}
 use Rattle.reading.proofs.Many.{is_given, many_syntax}
 use Rattle.reading.proofs.Plus.{chain_law}
 use Rattle.reading.proofs.Must.{Ends, closed_law}

@@ -1,12 +1,11 @@
 -- Any number behind something that may go on, or may not.
 use Rattle.std.proofs.Common.{◌≡◌, ℕ, suc, Bool, true, false, ◌&&◌, List, [], ◌∷◌, ◌++◌, length, Err, refl, sym, ap, ◌∙◌}
-use Rattle.reading.specs.Readers.{Stop, Reader, many}
+use Rattle.reading.specs.Readers.{Stop, Reader, many, no_step}
 use Rattle.reading.specs.Printing.{Alphabet, Matches, begins}
 use Rattle.reading.specs.Law.{Syntax, Law}
 use Rattle.reading.proofs.Texts.{next_none}
 use Rattle.reading.proofs.Starts.{Starts}
 use Rattle.reading.proofs.Tail.{Tail}
-use Rattle.reading.specs.Readers.{no_step}
 use Rattle.reading.proofs.Many.{is_given, many_syntax, many_from_tail}
 use Rattle.reading.proofs.Opt.{when, when_law}
 

@@ -1,9 +1,8 @@
 -- From what is read of lexemes to what is promised of tokens.
 use Rattle.std.proofs.Common.{◌≡◌, ℕ, zero, suc, ◌+◌, ◌-◌, ◌≤◌, List, [], ◌∷◌, ◌++◌, length, length-append, length-drop, drop, map, Option, Some, None, Result, Ok, Err, refl, sym, ap, subst, ◌∙◌, arith}
-use Rattle.std.proofs.lemmas.List.{drop-map, drop-drop, length-map}
-use Rattle.std.proofs.Math.Seq.{drop-append_seam}
+use Rattle.std.proofs.lemmas.List.{length-map}
 use Rattle.cob_tree.specs.declared.token.Token.{Token}
-use Rattle.cob_parse_expr.specs.declared.lexeme.Lexeme.{Lexeme}
+use Rattle.cob_lexemes.specs.declared.lexeme.Lexeme.{Lexeme}
 use Rattle.cob_tree.specs.Symbols.{Sign, Symbol, seen}
 use Rattle.cob_tree.specs.Items.{Item, Fits, IsLine}
 use Rattle.cob_tree.specs.Cues.{Cue}
@@ -12,12 +11,14 @@ use Rattle.reading.specs.Readers.{Fault, Stop, Deep, Reader}
 use Rattle.reading.specs.Law.{Syntax, Law, Agrees}
 use Rattle.reading.specs.Outcome.{IsRead, Stops, OpensTooDeep}
 use Rattle.reading.proofs.Consequences.{within}
-use Rattle.cob_parse_expr.specs.Lexemes.{plain_lexeme}
-use Rattle.cob_parse_expr.specs.declared.halt.Halt.{Halt}
-use Rattle.cob_parse_expr.specs.declared.halt.Halt.TheVariants as halt
-use Rattle.cob_parse_expr.specs.Steps.{signs, Fails}
-use Rattle.cob_parse_expr.specs.declared.end.ParseEnd.TheVariants as end
-use Rattle.cob_parse_expr.specs.Parsing.{from, line_at, end_at, IsWrong}
+use Rattle.cob_lexemes.specs.Lexemes.{plain_lexeme}
+use Rattle.cob_lexemes.specs.declared.halt.Halt.{Halt}
+use Rattle.cob_lexemes.specs.declared.halt.Halt.TheVariants as halt
+use Rattle.cob_lexemes.specs.Steps.{signs, Fails}
+use Rattle.cob_lexemes.specs.declared.end.ParseEnd.TheVariants as end
+use Rattle.cob_lexemes.proofs.PlaceLemmas.{rest_is}
+use Rattle.cob_lexemes.specs.Places.{from, line_at, end_at}
+use Rattle.cob_parse_expr.specs.Parsing.{IsWrong}
 use Rattle.cob_parse_expr.proofs.Outcomes.{is_read, too_deep, stops}
 
 -- each item has a token
@@ -32,20 +33,6 @@ fits_line (Some l) = refl
 
 pub spell : (i : Item) → (t : Sign) × Fits i t
 spell i = (record { symbol = i.symbol; line = line_for i.line }, record { symbol = refl; line = fits_line i.line })
-
-drop_to : (u v : List Sign) → drop (length (u ++ v) - length v) (u ++ v) ≡ v
-drop_to u v =
-    let n : length (u ++ v) - length v ≡ length u = omega (arith, length-append u v) in
-    rw n (drop-append_seam u v)
-
--- the rest of what was read is what stands at the new place
-rest_is : (tokens : List Token) (old : ℕ) (text rest : List Sign) → old ≤ length tokens → from tokens old ≡ text ++ rest → rest ≡ from tokens (length tokens - length rest)
-rest_is tokens old text rest le parts =
-    let count : length (drop old tokens) ≡ length text + length rest = sym (length-map (drop old tokens) seen) ∙ ap length parts ∙ length-append text rest in
-    let size : length (drop old tokens) ≡ length tokens - old = length-drop old tokens in
-    let there : drop (length (text ++ rest) - length rest) (from tokens old) ≡ rest = ap (drop (length (text ++ rest) - length rest)) parts ∙ drop_to text rest in
-    let steps : old + (length (text ++ rest) - length rest) ≡ length tokens - length rest = omega (arith, count, size, length-append text rest) in
-    sym there ∙ (drop-map seen (length (text ++ rest) - length rest) (drop old tokens) ∙ (ap (map seen) (drop-drop (length (text ++ rest) - length rest) old tokens) ∙ ap (λ (k : ℕ). from tokens k) steps))
 
 -- What a reader's answer, and the end that a parser makes of it, say of the tokens: for expressions and conditions
 -- alike. The reader has the room that is left under 65 where so many are open around.

@@ -11,11 +11,10 @@ use Rattle.cob_tree.specs.declared.expr.Scaling.TheVariants as scaling
 use Rattle.cob_tree.specs.declared.cond.SignTest.{SignTest}
 use Rattle.cob_tree.specs.declared.cond.SignTest.TheVariants as test
 use Rattle.cob_tree.specs.declared.token.Rel.{Rel}
-use Rattle.cob_tree.specs.Symbols.{Symbol, Key, Name, Number, Text, Mark, Relation, Sign}
-
-abbrev pub name_symbol : Symbol → Option (List ℕ)
-name_symbol (Name text) = Some text
-name_symbol _ = None
+use Rattle.cob_tree.specs.Symbols.{Symbol, Key, Number, Text, Mark, Relation, Sign}
+use Rattle.cob_lexemes.specs.Classes.{word_symbol, name_symbol}
+use Rattle.cob_parse_expr.specs.declared.class.Mark as fixed
+use Rattle.cob_parse_expr.specs.declared.class.Mark.TheVariants as mark
 
 abbrev pub name_of : Sign → Option (List ℕ)
 name_of s = name_symbol s.symbol
@@ -69,10 +68,6 @@ scaling_of s = mark_symbol scaling_mark s.symbol
 
 -- ---- words
 
-abbrev pub word_symbol : {K : Type 0} → (Keyword → Option K) → Symbol → Option K
-word_symbol class (Key k) = class k
-word_symbol class _ = None
-
 abbrev pub of_key : Keyword → Option (Unit {0})
 of_key key.Of = Some tt
 of_key _ = None
@@ -107,6 +102,22 @@ numeric_key _ = None
 
 abbrev pub numeric_of : Sign → Option (Unit {0})
 numeric_of s = word_symbol numeric_key s.symbol
+
+-- ---- a mark or a word of one class, by what it is
+
+abbrev pub mark_class : fixed.Mark → Symbol → Option (Unit {0})
+mark_class mark.Open y = mark_symbol open_mark y
+mark_class mark.Close y = mark_symbol close_mark y
+mark_class mark.Of y = word_symbol of_key y
+mark_class mark.Not y = word_symbol not_key y
+mark_class mark.And y = word_symbol and_key y
+mark_class mark.Or y = word_symbol or_key y
+mark_class mark.Numeric y = word_symbol numeric_key y
+
+abbrev pub mark_of : fixed.Mark → Sign → Option (Unit {0})
+mark_of m s = mark_class m s.symbol
+
+-- ---- what is asked for, by one of several words
 
 abbrev pub sign_test_key : Keyword → Option SignTest
 sign_test_key key.Positive = Some test.Positive

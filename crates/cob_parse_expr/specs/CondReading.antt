@@ -85,7 +85,7 @@ abbrev pub make_test : (Unit {0} × Asked) ⊎ Asked → Bool × Asked
 make_test (inl x) = (true, x.1)
 make_test (inr a) = (false, a)
 
--- with NOT or without
+-- A test, with NOT or without it.
 abbrev pub test_with : Reader Sign Expr → Reader Sign (Bool × Asked)
 test_with inner = seen make_test (choose (stands not_of) (branch not_of (λ x. asked_with inner)) (asked_with inner))
 
@@ -109,7 +109,7 @@ abbrev pub make_further : (Unit {0} × (Rel × Expr)) ⊎ Simple → Simple
 make_further (inl x) = abbreviated true x.1.0 x.1.1
 make_further (inr s) = s
 
--- behind NOT, where no relation stands
+-- What stands behind NOT, where no relation stands.
 abbrev pub further_with : Reader Sign Cond → Reader Sign Expr → Reader Sign Simple
 further_with paren inner = seen make_further (choose (stands not_of) (branch not_of (λ x. compared_with inner)) (subject_with paren inner))
 

@@ -54,7 +54,7 @@ make_value (e, Some t) = tested e t.0 t.1
 abbrev pub subject_behind : Reader Sign Expr → Fact → Reader Sign Simple
 subject_behind inner f = seen make_value (opt (expr_behind inner f) (λ e. begins grammar takes_test) (test_with inner))
 
--- behind a condition in parentheses, which may be an expression
+-- What may follow a condition in parentheses, which may be an expression.
 abbrev pub subject_after : Reader Sign Expr → Cond → Option Expr → Reader Sign Simple
 subject_after inner c None ts = Ok (parenthesised c, ts)
 subject_after inner c (Some e) ts = subject_behind inner (MkFact None (group e)) ts

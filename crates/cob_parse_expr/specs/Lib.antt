@@ -1,8 +1,6 @@
 pub mod Alphabet
 pub mod Classes
 pub mod Reading
-pub mod Steps
-pub mod Lexemes
 pub mod CondReading
 pub mod CondSteps
 pub mod Parsing

@@ -1,3 +1,4 @@
+//! What stands behind an expression in a condition: a relation, a test, or nothing.
 ghost use Rattle.std.specs.Prelude.{◌≡◌, ◌≤◌, length, IfOk, false};
 ghost use Rattle.cob_tree.specs.Cues.{NotRelates};
 ghost use Rattle.cob_tree.specs.ExprView.{plain_expr, plain_fact};
@@ -8,13 +9,12 @@ ghost use Rattle.cob_parse_expr.specs.Alphabet.{grammar};
 ghost use Rattle.cob_parse_expr.specs.Reading.{group_at};
 ghost use Rattle.cob_parse_expr.specs.CondReading.{compared_with, asked_with, test_with, tested};
 ghost use Rattle.cob_parse_expr.specs.CondSteps.{plain_asked, expr_behind, subject_behind};
-ghost use Rattle.cob_parse_expr.specs.Steps.{signs, Gives};
+ghost use Rattle.cob_lexemes.specs.Steps.{signs, Gives};
 
-use crate::class::{asks_first, behind_not, behind_numeric, relation_in, sign_test_in};
+use crate::class::{Mark, asks_first, behind, relation_in, sign_test_in};
 use crate::expr::{expr_in, factors_in, summands_in};
-use crate::halt::Halt;
-use crate::lexeme::Lexeme;
 use crate::simple::{alone, numeric, relation, sign_of};
+use cob_lexemes::{Halt, Lexeme};
 use cob_tree::{Expr, Fact, Rel, SignTest, Simple, Term};
 use std::alloc::Global;
 
@@ -50,7 +50,7 @@ fn asked_in(alloc: Global, lexemes: &[Lexeme], room: u32) -> Result<(Asked, &[Le
         let (rel, right, rest) = compared(alloc, lexemes, room)?;
         return Ok((Asked::Compared { rel, right }, rest));
     }
-    match behind_numeric(lexemes) {
+    match behind(Mark::Numeric, lexemes) {
         Some(rest) => Ok((Asked::Digits, rest)),
         None => match sign_test_in(lexemes) {
             Some((test, rest)) => Ok((Asked::Sign(test), rest)),
@@ -64,7 +64,7 @@ fn test_in(alloc: Global, lexemes: &[Lexeme], room: u32) -> Result<(bool, Asked,
     ensures gives { Gives (λ x. ((x.0, plain_asked x.1), signs x.2.now)) result (test_with (group_at room) (signs lexemes.now)) }
     ensures rest { IfOk result (λ x. length x.2.now ≤ length lexemes.now) }
 {
-    match behind_not(lexemes) {
+    match behind(Mark::Not, lexemes) {
         Some(rest) => {
             let (asked, rest) = asked_in(alloc, rest, room)?;
             Ok((true, asked, rest))
@@ -80,7 +80,7 @@ fn test_in(alloc: Global, lexemes: &[Lexeme], room: u32) -> Result<(bool, Asked,
 fn begins_test(lexemes: &[Lexeme]) -> bool
     ensures { result ≡ begins grammar takes_test (signs lexemes.now) }
 {
-    match behind_not(lexemes) {
+    match behind(Mark::Not, lexemes) {
         Some(rest) => asks_first(rest),
         None => asks_first(lexemes),
     }

@@ -1,11 +1,11 @@
-ghost use Rattle.std.specs.Prelude.{◌≡◌, ◌+◌, ◌∷◌, [], length, IfOk, IfSome, IfNone, is_some, true, false};
-ghost use Rattle.std.specs.Option.{option_map};
-ghost use Rattle.cob_parse_expr.specs.Lexemes.{plain_symbol, plain_lexeme};
-ghost use Rattle.reading.specs.Readers.{stands};
-ghost use Rattle.cob_parse_expr.specs.Classes.{name_symbol, name_of, const_key, const_as, const_of, mark_symbol, open_mark, open_of, close_mark, close_of, sign_mark, sign_of, scaling_mark, scaling_of, word_symbol, of_key, of_of, not_key, not_of, and_key, and_of, or_key, or_of, numeric_key, numeric_of, sign_test_key, sign_test_of, relation_symbol, relation_of, bare_symbol, bare_first};
-ghost use Rattle.cob_parse_expr.specs.Steps.{signs, Leads, Lacks};
+//! The tokens of which expressions and conditions are made, in front of lexemes.
+ghost use Rattle.std.specs.Prelude.{◌≡◌, ◌+◌, length, IfOk, IfSome, IfNone, is_some, false};
+ghost use Rattle.cob_lexemes.specs.Lexemes.{plain_symbol};
+ghost use Rattle.cob_lexemes.specs.Classes.{word_symbol};
+ghost use Rattle.cob_lexemes.specs.Steps.{signs, Leads, Lacks};
+ghost use Rattle.cob_parse_expr.specs.Classes.{name_of, const_key, const_as, const_of, mark_symbol, sign_mark, sign_of, scaling_mark, scaling_of, mark_class, mark_of, sign_test_key, sign_test_of, relation_symbol, relation_of, bare_symbol, bare_first};
 
-use crate::lexeme::{Lexeme, Symbol};
+use cob_lexemes::{Lexeme, Symbol, name, next};
 use cob_tree::{Bytes, Const, Keyword, Name, Rel, Scaling, Sign, SignTest};
 use std::alloc::{AllocError, Global};
 
@@ -49,46 +49,30 @@ fn sign_test(symbol: &Symbol) -> Option<SignTest>
     }
 }
 
-fn opens(symbol: &Symbol) -> bool
-    ensures { result ≡ is_some (mark_symbol open_mark (plain_symbol symbol.now)) }
-{
-    matches!(symbol, Symbol::Mark(b'('))
+/// A mark or a word that is the only one of its class.
+#[derive(Clone, Copy)]
+pub enum Mark {
+    Open,
+    Close,
+    Of,
+    Not,
+    And,
+    Or,
+    Numeric,
 }
 
-fn closes(symbol: &Symbol) -> bool
-    ensures { result ≡ is_some (mark_symbol close_mark (plain_symbol symbol.now)) }
+fn is_mark(mark: Mark, symbol: &Symbol) -> bool
+    ensures { result ≡ is_some (mark_class mark (plain_symbol symbol.now)) }
 {
-    matches!(symbol, Symbol::Mark(b')'))
-}
-
-fn is_of(symbol: &Symbol) -> bool
-    ensures { result ≡ is_some (word_symbol of_key (plain_symbol symbol.now)) }
-{
-    matches!(symbol, Symbol::Key(Keyword::Of))
-}
-
-fn is_not(symbol: &Symbol) -> bool
-    ensures { result ≡ is_some (word_symbol not_key (plain_symbol symbol.now)) }
-{
-    matches!(symbol, Symbol::Key(Keyword::Not))
-}
-
-fn is_and(symbol: &Symbol) -> bool
-    ensures { result ≡ is_some (word_symbol and_key (plain_symbol symbol.now)) }
-{
-    matches!(symbol, Symbol::Key(Keyword::And))
-}
-
-fn is_or(symbol: &Symbol) -> bool
-    ensures { result ≡ is_some (word_symbol or_key (plain_symbol symbol.now)) }
-{
-    matches!(symbol, Symbol::Key(Keyword::Or))
-}
-
-fn is_numeric(symbol: &Symbol) -> bool
-    ensures { result ≡ is_some (word_symbol numeric_key (plain_symbol symbol.now)) }
-{
-    matches!(symbol, Symbol::Key(Keyword::Numeric))
+    match mark {
+        Mark::Open => matches!(symbol, Symbol::Mark(b'(')),
+        Mark::Close => matches!(symbol, Symbol::Mark(b')')),
+        Mark::Of => matches!(symbol, Symbol::Key(Keyword::Of)),
+        Mark::Not => matches!(symbol, Symbol::Key(Keyword::Not)),
+        Mark::And => matches!(symbol, Symbol::Key(Keyword::And)),
+        Mark::Or => matches!(symbol, Symbol::Key(Keyword::Or)),
+        Mark::Numeric => matches!(symbol, Symbol::Key(Keyword::Numeric)),
+    }
 }
 
 fn asks(symbol: &Symbol) -> bool
@@ -99,15 +83,6 @@ fn asks(symbol: &Symbol) -> bool
         Symbol::Relation(_)
             | Symbol::Key(Keyword::Numeric | Keyword::Positive | Keyword::Negative | Keyword::Zero)
     )
-}
-
-fn name(symbol: &Symbol) -> Option<&Name>
-    ensures { option_map (λ name. name.now) result ≡ name_symbol (plain_symbol symbol.now) }
-{
-    match symbol {
-        Symbol::Name(name) => Some(name),
-        _ => None,
-    }
 }
 
 fn figurative(keyword: Keyword) -> Option<Const>
@@ -134,15 +109,23 @@ fn constant(alloc: Global, symbol: &Symbol) -> Result<Option<Const>, AllocError>
     }
 }
 
-// The first lexeme, and those behind it.
-fn next(lexemes: &[Lexeme]) -> Option<(&Lexeme, &[Lexeme])>
-    ensures some { IfSome result (λ x. signs lexemes.now ≡ plain_lexeme x.0.now ∷ signs x.1.now) }
-    ensures none { IfNone result (signs lexemes.now ≡ []) }
-    ensures shorter { IfSome result (λ x. length lexemes.now ≡ length x.1.now + 1) }
+fn is_figurative(keyword: Keyword) -> bool
+    ensures { result ≡ is_some (const_key keyword) }
 {
-    match lexemes {
-        [] => None,
-        [lexeme, rest @ ..] => Some((lexeme, rest)),
+    matches!(
+        keyword,
+        Keyword::Zero | Keyword::Space | Keyword::Quote | Keyword::HighValue | Keyword::LowValue
+    )
+}
+
+/// Whether a symbol is a literal or a figurative constant.
+pub fn is_constant(symbol: &Symbol) -> bool
+    ensures { result ≡ is_some (const_as (plain_symbol symbol.now)) }
+{
+    match symbol {
+        Symbol::Number(_) | Symbol::Text(_) => true,
+        Symbol::Key(keyword) => is_figurative(*keyword),
+        _ => false,
     }
 }
 
@@ -156,7 +139,7 @@ pub fn sign_in(lexemes: &[Lexeme]) -> Option<(Sign, &[Lexeme])>
     Some((sign(&lexeme.symbol)?, rest))
 }
 
-/// `*` or `/`, likewise.
+/// `*` or `/`, where one stands first, and the lexemes behind it.
 pub fn scaling_in(lexemes: &[Lexeme]) -> Option<(Scaling, &[Lexeme])>
     ensures found { IfSome result (λ x. Leads scaling_of x.0 (signs lexemes.now) (signs x.1.now)) }
     ensures none { IfNone result (Lacks scaling_of (signs lexemes.now)) }
@@ -166,7 +149,7 @@ pub fn scaling_in(lexemes: &[Lexeme]) -> Option<(Scaling, &[Lexeme])>
     Some((scaling(&lexeme.symbol)?, rest))
 }
 
-/// A relation, likewise.
+/// A relation, where one stands first, and the lexemes behind it.
 pub fn relation_in(lexemes: &[Lexeme]) -> Option<(Rel, &[Lexeme])>
     ensures found { IfSome result (λ x. Leads relation_of x.0 (signs lexemes.now) (signs x.1.now)) }
     ensures none { IfNone result (Lacks relation_of (signs lexemes.now)) }
@@ -176,7 +159,7 @@ pub fn relation_in(lexemes: &[Lexeme]) -> Option<(Rel, &[Lexeme])>
     Some((relation(&lexeme.symbol)?, rest))
 }
 
-/// POSITIVE, NEGATIVE or ZERO, likewise.
+/// POSITIVE, NEGATIVE or ZERO, where one stands first, and the lexemes behind it.
 pub fn sign_test_in(lexemes: &[Lexeme]) -> Option<(SignTest, &[Lexeme])>
     ensures found { IfSome result (λ x. Leads sign_test_of x.0 (signs lexemes.now) (signs x.1.now)) }
     ensures none { IfNone result (Lacks sign_test_of (signs lexemes.now)) }
@@ -186,7 +169,7 @@ pub fn sign_test_in(lexemes: &[Lexeme]) -> Option<(SignTest, &[Lexeme])>
     Some((sign_test(&lexeme.symbol)?, rest))
 }
 
-/// A name, likewise.
+/// A name, where one stands first, and the lexemes behind it.
 pub fn name_in(lexemes: &[Lexeme]) -> Option<(&Name, &[Lexeme])>
     ensures found { IfSome result (λ x. Leads name_of x.0.now (signs lexemes.now) (signs x.1.now)) }
     ensures none { IfNone result (Lacks name_of (signs lexemes.now)) }
@@ -196,7 +179,7 @@ pub fn name_in(lexemes: &[Lexeme]) -> Option<(&Name, &[Lexeme])>
     Some((name(&lexeme.symbol)?, rest))
 }
 
-/// A constant, likewise.
+/// A constant, where one stands first, and the lexemes behind it.
 pub fn constant_in(
     alloc: Global,
     lexemes: &[Lexeme],
@@ -214,86 +197,14 @@ pub fn constant_in(
     }
 }
 
-/// The lexemes behind `(`, where it stands first.
-pub fn behind_open(lexemes: &[Lexeme]) -> Option<&[Lexeme]>
-    ensures found { IfSome result (λ rest. Leads open_of tt (signs lexemes.now) (signs rest.now)) }
-    ensures none { IfNone result (Lacks open_of (signs lexemes.now)) }
+/// The lexemes behind a mark, where it stands first.
+pub fn behind(mark: Mark, lexemes: &[Lexeme]) -> Option<&[Lexeme]>
+    ensures found { IfSome result (λ rest. Leads (mark_of mark) tt (signs lexemes.now) (signs rest.now)) }
+    ensures none { IfNone result (Lacks (mark_of mark) (signs lexemes.now)) }
     ensures shorter { IfSome result (λ rest. length lexemes.now ≡ length rest.now + 1) }
 {
     match next(lexemes) {
-        Some((lexeme, rest)) if opens(&lexeme.symbol) => Some(rest),
-        _ => None,
-    }
-}
-
-/// The lexemes behind `)`, likewise.
-pub fn behind_close(lexemes: &[Lexeme]) -> Option<&[Lexeme]>
-    ensures found { IfSome result (λ rest. Leads close_of tt (signs lexemes.now) (signs rest.now)) }
-    ensures none { IfNone result (Lacks close_of (signs lexemes.now)) }
-    ensures shorter { IfSome result (λ rest. length lexemes.now ≡ length rest.now + 1) }
-{
-    match next(lexemes) {
-        Some((lexeme, rest)) if closes(&lexeme.symbol) => Some(rest),
-        _ => None,
-    }
-}
-
-/// The lexemes behind OF, likewise.
-pub fn behind_of(lexemes: &[Lexeme]) -> Option<&[Lexeme]>
-    ensures found { IfSome result (λ rest. Leads of_of tt (signs lexemes.now) (signs rest.now)) }
-    ensures none { IfNone result (Lacks of_of (signs lexemes.now)) }
-    ensures shorter { IfSome result (λ rest. length lexemes.now ≡ length rest.now + 1) }
-{
-    match next(lexemes) {
-        Some((lexeme, rest)) if is_of(&lexeme.symbol) => Some(rest),
-        _ => None,
-    }
-}
-
-/// The lexemes behind NOT, likewise.
-pub fn behind_not(lexemes: &[Lexeme]) -> Option<&[Lexeme]>
-    ensures found { IfSome result (λ rest. Leads not_of tt (signs lexemes.now) (signs rest.now)) }
-    ensures none { IfNone result (Lacks not_of (signs lexemes.now)) }
-    ensures shorter { IfSome result (λ rest. length lexemes.now ≡ length rest.now + 1) }
-{
-    match next(lexemes) {
-        Some((lexeme, rest)) if is_not(&lexeme.symbol) => Some(rest),
-        _ => None,
-    }
-}
-
-/// The lexemes behind AND, likewise.
-pub fn behind_and(lexemes: &[Lexeme]) -> Option<&[Lexeme]>
-    ensures found { IfSome result (λ rest. Leads and_of tt (signs lexemes.now) (signs rest.now)) }
-    ensures none { IfNone result (Lacks and_of (signs lexemes.now)) }
-    ensures shorter { IfSome result (λ rest. length lexemes.now ≡ length rest.now + 1) }
-{
-    match next(lexemes) {
-        Some((lexeme, rest)) if is_and(&lexeme.symbol) => Some(rest),
-        _ => None,
-    }
-}
-
-/// The lexemes behind OR, likewise.
-pub fn behind_or(lexemes: &[Lexeme]) -> Option<&[Lexeme]>
-    ensures found { IfSome result (λ rest. Leads or_of tt (signs lexemes.now) (signs rest.now)) }
-    ensures none { IfNone result (Lacks or_of (signs lexemes.now)) }
-    ensures shorter { IfSome result (λ rest. length lexemes.now ≡ length rest.now + 1) }
-{
-    match next(lexemes) {
-        Some((lexeme, rest)) if is_or(&lexeme.symbol) => Some(rest),
-        _ => None,
-    }
-}
-
-/// The lexemes behind NUMERIC, likewise.
-pub fn behind_numeric(lexemes: &[Lexeme]) -> Option<&[Lexeme]>
-    ensures found { IfSome result (λ rest. Leads numeric_of tt (signs lexemes.now) (signs rest.now)) }
-    ensures none { IfNone result (Lacks numeric_of (signs lexemes.now)) }
-    ensures shorter { IfSome result (λ rest. length lexemes.now ≡ length rest.now + 1) }
-{
-    match next(lexemes) {
-        Some((lexeme, rest)) if is_numeric(&lexeme.symbol) => Some(rest),
+        Some((lexeme, rest)) if is_mark(mark, &lexeme.symbol) => Some(rest),
         _ => None,
     }
 }

@@ -1,3 +1,4 @@
+//! Conditions.
 ghost use Rattle.std.specs.Prelude.{◌≡◌, ◌≤◌, length, IfOk, map};
 ghost use Rattle.cob_tree.specs.Cues.{NotRelates};
 ghost use Rattle.cob_tree.specs.CondView.{plain_cond, plain_conj, plain_neg, plain_simple};
@@ -6,14 +7,13 @@ ghost use Rattle.cob_tree.specs.Takes.{takes_simple, takes_neg, takes_conj, take
 ghost use Rattle.cob_parse_expr.specs.Reading.{group_at};
 ghost use Rattle.cob_parse_expr.specs.CondReading.{paren_at, cond_at, subject_with, further_with, neg_with, negs_with, conj_with, conjs_with};
 ghost use Rattle.cob_parse_expr.specs.CondSteps.{subject_after, negated_neg, plain_neg_at, last_neg, last_conj, unclosed};
-ghost use Rattle.cob_parse_expr.specs.Steps.{signs, behind_word, Gives};
+ghost use Rattle.cob_lexemes.specs.Steps.{signs, behind_word, Gives};
 
 use crate::asked::{compared, subject_behind};
-use crate::class::{behind_and, behind_close, behind_not, behind_open, behind_or, relation_in};
+use crate::class::{Mark, behind, relation_in};
 use crate::expr::fact_in;
-use crate::halt::Halt;
-use crate::lexeme::Lexeme;
 use crate::simple::{abbreviated, bare_relation, grouped, one_alone, parenthesised};
+use cob_lexemes::{Halt, Lexeme};
 use cob_tree::{Cond, Conj, Neg, Simple};
 use std::alloc::Global;
 
@@ -22,7 +22,7 @@ fn unclosed(takes_not: bool, lexemes: &[Lexeme]) -> usize
     ensures value { result ≡ unclosed takes_not (signs lexemes.now) }
     ensures rest { result ≤ length lexemes.now }
 {
-    match behind_not(lexemes) {
+    match behind(Mark::Not, lexemes) {
         Some(rest) if takes_not => rest.len(),
         _ => lexemes.len(),
     }
@@ -34,14 +34,14 @@ fn paren(alloc: Global, lexemes: &[Lexeme], room: u32) -> Result<(Cond, &[Lexeme
     ensures gives { Gives (λ x. (plain_cond x.0, signs x.1.now)) result (paren_at room (signs lexemes.now)) }
     ensures rest { IfOk result (λ x. length x.1.now ≤ length lexemes.now) }
 {
-    let Some(rest) = behind_open(lexemes) else {
+    let Some(rest) = behind(Mark::Open, lexemes) else {
         return Err(Halt::Stop(lexemes.len()));
     };
     if room == 0 {
         return Err(Halt::Deep(lexemes.len()));
     }
     let (cond, takes_not, rest) = cond_in(alloc, rest, room - 1)?;
-    match behind_close(rest) {
+    match behind(Mark::Close, rest) {
         None => Err(Halt::Stop(unclosed(takes_not, rest))),
         Some(rest) => Ok((cond, rest)),
     }
@@ -72,7 +72,7 @@ fn subject(alloc: Global, lexemes: &[Lexeme], room: u32) -> Result<(Simple, bool
     ensures takes { IfOk result (λ x. x.1 ≡ takes_simple (plain_simple x.0) NotRelates) }
     ensures rest { IfOk result (λ x. length x.2.now ≤ length lexemes.now) }
 {
-    match behind_open(lexemes) {
+    match behind(Mark::Open, lexemes) {
         Some(_) => {
             let (cond, rest) = paren(alloc, lexemes, room)?;
             subject_after(alloc, cond, rest, room)
@@ -91,7 +91,7 @@ fn further(alloc: Global, lexemes: &[Lexeme], room: u32) -> Result<(Simple, bool
     ensures takes { IfOk result (λ x. x.1 ≡ takes_simple (plain_simple x.0) NotRelates) }
     ensures rest { IfOk result (λ x. length x.2.now ≤ length lexemes.now) }
 {
-    match behind_not(lexemes) {
+    match behind(Mark::Not, lexemes) {
         Some(rest) => {
             let (rel, right, rest) = compared(alloc, rest, room)?;
             Ok((abbreviated(true, rel, right), false, rest))
@@ -137,7 +137,7 @@ fn neg(alloc: Global, lexemes: &[Lexeme], room: u32) -> Result<(Neg, bool, &[Lex
     ensures takes { IfOk result (λ x. x.1 ≡ takes_neg (plain_neg x.0) NotRelates) }
     ensures rest { IfOk result (λ x. length x.2.now ≤ length lexemes.now) }
 {
-    match behind_not(lexemes) {
+    match behind(Mark::Not, lexemes) {
         Some(rest) => negated(alloc, rest, room),
         None => plain(alloc, lexemes, room),
     }
@@ -158,7 +158,7 @@ fn negs(
     let mut left = lexemes;
     let mut takes_not = before;
     let mut negs = Vec::new(alloc);
-    'negs: while let Some(rest) = behind_and(left) {
+    'negs: while let Some(rest) = behind(Mark::And, left) {
         let (neg, takes, after) = neg(alloc, rest, room)?;
         negs.push(neg)?;
         takes_not = takes;
@@ -193,7 +193,7 @@ fn conjs(
     let mut left = lexemes;
     let mut takes_not = before;
     let mut conjs = Vec::new(alloc);
-    'conjs: while let Some(rest) = behind_or(left) {
+    'conjs: while let Some(rest) = behind(Mark::Or, left) {
         let (conj, takes, after) = conj(alloc, rest, room)?;
         conjs.push(conj)?;
         takes_not = takes;

@@ -1,12 +1,12 @@
+//! Expressions.
 ghost use Rattle.std.specs.Prelude.{◌≡◌, ◌≤◌, ◌<◌, length, IfOk, map};
 ghost use Rattle.cob_tree.specs.ExprView.{plain_expr, plain_term, plain_fact, plain_prim, added, multiplied};
 ghost use Rattle.cob_parse_expr.specs.Reading.{group_at, primary_with, fact_with, factors_with, term_with, summands_with, expr_with, expr_at};
-ghost use Rattle.cob_parse_expr.specs.Steps.{signs, Gives};
+ghost use Rattle.cob_lexemes.specs.Steps.{signs, Gives};
 
-use crate::class::{behind_close, behind_open, scaling_in, sign_in};
-use crate::halt::Halt;
-use crate::lexeme::Lexeme;
+use crate::class::{Mark, behind, scaling_in, sign_in};
 use crate::operand::opnd_in;
+use cob_lexemes::{Halt, Lexeme};
 use cob_tree::{Expr, Fact, Primary, Scaling, Sign, Term};
 use std::alloc::Global;
 
@@ -16,14 +16,14 @@ pub fn group(alloc: Global, lexemes: &[Lexeme], room: u32) -> Result<(Expr, &[Le
     ensures gives { Gives (λ x. (plain_expr x.0, signs x.1.now)) result (group_at room (signs lexemes.now)) }
     ensures rest { IfOk result (λ x. length x.1.now ≤ length lexemes.now) }
 {
-    let Some(rest) = behind_open(lexemes) else {
+    let Some(rest) = behind(Mark::Open, lexemes) else {
         return Err(Halt::Stop(lexemes.len()));
     };
     if room == 0 {
         return Err(Halt::Deep(lexemes.len()));
     }
     let (expr, rest) = expr_in(alloc, rest, room - 1)?;
-    match behind_close(rest) {
+    match behind(Mark::Close, rest) {
         None => Err(Halt::Stop(rest.len())),
         Some(rest) => Ok((expr, rest)),
     }
@@ -34,7 +34,7 @@ fn primary(alloc: Global, lexemes: &[Lexeme], room: u32) -> Result<(Primary, &[L
     ensures gives { Gives (λ x. (plain_prim x.0, signs x.1.now)) result (primary_with (group_at room) (signs lexemes.now)) }
     ensures rest { IfOk result (λ x. length x.1.now ≤ length lexemes.now) }
 {
-    match behind_open(lexemes) {
+    match behind(Mark::Open, lexemes) {
         Some(_) => {
             let (expr, rest) = group(alloc, lexemes, room)?;
             Ok((Primary::Expr(Box::new(alloc, expr)?), rest))

@@ -1,3 +1,4 @@
+//! Laws of reading expressions and conditions.
 ghost use Rattle.std.specs.Prelude.{ℕ, List, ◌≤◌};
 ghost use Rattle.cob_tree.specs.Symbols.{Sign};
 ghost use Rattle.cob_parse_expr.specs.Parsing.{expr_syntax, cond_syntax};

@@ -1,12 +1,12 @@
+//! References, constants and operands.
 ghost use Rattle.std.specs.Prelude.{◌≡◌, ◌≤◌, ◌<◌, length, IfOk, map};
 ghost use Rattle.reading.specs.Readers.{lead};
 ghost use Rattle.cob_parse_expr.specs.Classes.{name_of, const_of};
 ghost use Rattle.cob_parse_expr.specs.Reading.{qualifiers_at, ref_at, opnd_at};
-ghost use Rattle.cob_parse_expr.specs.Steps.{signs, Gives, behind_word};
+ghost use Rattle.cob_lexemes.specs.Steps.{signs, Gives, behind_word};
 
-use crate::class::{behind_of, constant_in, name_in};
-use crate::halt::Halt;
-use crate::lexeme::Lexeme;
+use crate::class::{Mark, behind, constant_in, name_in};
+use cob_lexemes::{Halt, Lexeme};
 use cob_tree::{Const, Many, Name, Opnd, Ref};
 use std::alloc::Global;
 
@@ -28,7 +28,7 @@ fn qualifiers(alloc: Global, lexemes: &[Lexeme]) -> Result<(Vec<Name>, &[Lexeme]
 {
     let mut left = lexemes;
     let mut names = Vec::new(alloc);
-    'names: while let Some(rest) = behind_of(left) {
+    'names: while let Some(rest) = behind(Mark::Of, left) {
         let (name, after) = name_at(alloc, rest)?;
         names.push(name)?;
         left = after;

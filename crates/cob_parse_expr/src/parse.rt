@@ -1,55 +1,21 @@
-ghost use Rattle.std.specs.Prelude.{◌≡◌, ◌≤◌, ℕ, length, drop, map, IfOk, OnErr};
-ghost use Rattle.cob_parse_expr.specs.Alphabet.{grammar};
+//! Expressions and conditions from tokens.
+ghost use Rattle.std.specs.Prelude.{◌≡◌, ◌≤◌, ℕ, length, IfOk, OnErr};
 ghost use Rattle.cob_tree.specs.ExprView.{plain_expr};
 ghost use Rattle.cob_tree.specs.CondView.{plain_cond};
-ghost use Rattle.cob_parse_expr.specs.Steps.{signs};
 ghost use Rattle.reading.specs.Outcome.{IsRead, OpensTooDeep};
-ghost use Rattle.cob_parse_expr.specs.Parsing.{expr_syntax, cond_syntax, from, line_at, end_at, IsWrong};
+ghost use Rattle.cob_lexemes.specs.Places.{from};
+ghost use Rattle.cob_parse_expr.specs.Alphabet.{grammar};
+ghost use Rattle.cob_parse_expr.specs.Parsing.{expr_syntax, cond_syntax, IsWrong};
 
 use crate::cond::cond_in;
-use crate::end::ParseEnd;
 use crate::expr::expr_in;
-use crate::halt::Halt;
-use crate::lexeme::{Lexeme, lexemes};
+use cob_lexemes::{ParseEnd, end_at, lexemes_from};
 use cob_tree::{Cond, Expr, Token};
-use std::alloc::{AllocError, Global};
-
-// The line of the first of so many tokens at the end, or of the last token, or 1.
-fn line_of(tokens: &[Token], left: usize) -> u32
-    requires { left ≤ length tokens.now }
-    ensures { result ≡ line_at tokens.now left }
-{
-    match tokens.get(tokens.len().saturating_sub(left.max(1))) {
-        None => 1,
-        Some(token) => token.line,
-    }
-}
-
-// The lexemes of the tokens from a place on.
-fn lexemes_from(alloc: Global, tokens: &[Token], place: usize) -> Result<Vec<Lexeme>, AllocError>
-    requires { place ≤ length tokens.now }
-    ensures { IfOk result (λ lexemes. signs lexemes.items ≡ from tokens.now place) }
-{
-    let (_, left) = tokens.split_at(place);
-    lexemes(alloc, left)
-}
-
-// What a parser answers where its reader halts.
-fn end_at(tokens: &[Token], halt: Halt) -> ParseEnd
-    requires { (left : ℕ) → halt ≡ Halt.Stop left → left ≤ length tokens.now }
-    ensures { result ≡ end_at tokens.now halt }
-{
-    match halt {
-        Halt::Stop(left) => ParseEnd::Syntax {
-            line: line_of(tokens, left),
-        },
-        Halt::Deep(_) => ParseEnd::Deep { count: 65 },
-        Halt::Memory => ParseEnd::Memory,
-    }
-}
+use std::alloc::Global;
 
 /// The longest expression from a place on, where so many statements and parentheses are open around. The place moves
-/// behind it, and stays where there is none.
+/// behind it, and stays where there is none. An expression that what stands behind goes on with isn't taken: in `A + )`
+/// none is read, and what is wrong stands at `)`.
 pub fn expr_of(
     alloc: Global,
     tokens: &[Token],
@@ -74,7 +40,9 @@ pub fn expr_of(
     }
 }
 
-/// The longest condition from a place on (ISO 1989:1985, "Conditional expressions"), likewise.
+/// The longest condition from a place on (ISO 1989:1985, "Conditional expressions"), where so many statements and
+/// parentheses are open around. The place moves behind it, and stays where there is none. A condition that what stands
+/// behind goes on with isn't taken: in `A = B AND )` none is read, and what is wrong stands at `)`.
 pub fn cond_of(
     alloc: Global,
     tokens: &[Token],

@@ -1,3 +1,4 @@
+//! Simple conditions, built in small functions of their own.
 ghost use Rattle.std.specs.Prelude.{◌≡◌, None, Some, IfOk, IfErr, Ok, false, true};
 ghost use Rattle.cob_tree.specs.Cues.{NotRelates};
 ghost use Rattle.cob_tree.specs.Expr.{MkFact, group};
@@ -8,9 +9,9 @@ ghost use Rattle.cob_tree.specs.CondView.{plain_cond, plain_conj, plain_neg, pla
 ghost use Rattle.cob_tree.specs.PrintExpr.{one_alone};
 ghost use Rattle.cob_tree.specs.Takes.{takes_simple, takes_neg};
 ghost use Rattle.cob_parse_expr.specs.CondSteps.{simple_alone, neg_alone, conj_alone};
-ghost use Rattle.cob_parse_expr.specs.Steps.{Gives};
+ghost use Rattle.cob_lexemes.specs.Steps.{Gives};
 
-use crate::halt::Halt;
+use cob_lexemes::Halt;
 use cob_tree::{Cond, Conj, Expr, Fact, Neg, Primary, Rel, SignTest, Simple};
 use std::alloc::Global;
 

@@ -18,7 +18,7 @@ use Rattle.cob_tree.specs.PrintStmt.{print_opnds, print_recvs, print_refs, way_w
 use Rattle.cob_tree.specs.Takes.{takes_stmts, takes_stmt, takes_phrase, takes_tail, takes_whens, takes_when, takes_verb, takes_into, unless}
 use Rattle.cob_tree.specs.Shaped.{ShapedStmts, ShapedStmt, ShapedPhrase, ShapedTail, ShapedEnd, ShapedWhens, ShapedWhen, ShapedVerb, ShapedParagraph}
 use Rattle.reading.specs.Printing.{Matches}
-use Rattle.cob_parse_data.specs.Tokens.{divisions}
+use Rattle.cob_lexemes.specs.Classes.{by_symbol}
 use Rattle.cob_parse_data.specs.Lines.{without_lines}
 use Rattle.cob_parse_data.proofs.LinesLaw.{front_blank, shaped}
 use Rattle.cob_parse_verb.specs.Heads as heads
@@ -282,12 +282,12 @@ on_line_zero : (i : Item) (o : Option ℕ) → i.line ≡ o → IsLine (blank i)
 on_line_zero i None e = subst (λ (l : Option ℕ). IsLine (blank (record { symbol = i.symbol; line = l; depth = i.depth })).line 0) (sym e) tt
 on_line_zero i (Some l) e = subst (λ (l : Option ℕ). IsLine (blank (record { symbol = i.symbol; line = l; depth = i.depth })).line 0) (sym e) refl
 
-fits_bare : (is : List Item) → Matches divisions (map blank is) (map bare (map symbol_of_item is))
+fits_bare : (is : List Item) → Matches by_symbol (map blank is) (map bare (map symbol_of_item is))
 fits_bare [] = tt
 fits_bare (i ∷ is) = (record { symbol = refl; line = on_line_zero i i.line refl }, fits_bare is)
 
 pub same_but_for_lines : (a b : Tree) → ShapedTree a → ShapedTree b → map (λ i. i.symbol) (print_tree a) ≡ map (λ i. i.symbol) (print_tree b) → tree_without a ≡ tree_without b
 same_but_for_lines a b good good' e =
     one_text (map bare (map symbol_of_item (print_tree a))) (tree_without a) (tree_without b)
-    (subst (λ (is : List Item). Matches divisions is (map bare (map symbol_of_item (print_tree a)))) (sym (tree_blank a)) (fits_bare (print_tree a))) (tree_shaped a good)
-    (subst (λ (is : List Item). Matches divisions is (map bare (map symbol_of_item (print_tree a)))) (sym (tree_blank b)) (subst (λ (ys : List Symbol). Matches divisions (map blank (print_tree b)) (map bare ys)) (sym e) (fits_bare (print_tree b)))) (tree_shaped b good')
+    (subst (λ (is : List Item). Matches by_symbol is (map bare (map symbol_of_item (print_tree a)))) (sym (tree_blank a)) (fits_bare (print_tree a))) (tree_shaped a good)
+    (subst (λ (is : List Item). Matches by_symbol is (map bare (map symbol_of_item (print_tree a)))) (sym (tree_blank b)) (subst (λ (ys : List Symbol). Matches by_symbol (map blank (print_tree b)) (map bare ys)) (sym e) (fits_bare (print_tree b)))) (tree_shaped b good')

@@ -4,12 +4,12 @@ use Rattle.std.proofs.Common.{◌≡◌, ℕ, suc, ◌≤◌, ◌⊎◌, inl, in
 use Rattle.std.proofs.lemmas.List.{append-nil}
 use Rattle.reading.specs.Readers.{left_of, Fault, Stop, Reader, left_on, missing, need, follow}
 use Rattle.reading.specs.Printing.{Ahead, Alphabet, Matches, Below, on_mark, Next}
-use Rattle.reading.specs.Law.{Syntax, Law, Read, Fails}
+use Rattle.reading.specs.Law.{Syntax, Law, Read, Fails, onward}
 use Rattle.reading.proofs.Results.{ok_is, ok_fails, fault_is}
 use Rattle.reading.proofs.Texts.{cases, matches_nothing, peek_two, next_one, next_none, next_same, next_both, next_left, next_right, next_at, at_next, below_left, below_right}
 use Rattle.reading.proofs.Consequences.{within, some_tree}
 use Rattle.reading.proofs.Follow.{Joint, Reads, FailsBehind, behind_of, reads_of, follow_law}
-use Rattle.reading.proofs.Tail.{Apart, apart, onward, Tail}
+use Rattle.reading.proofs.Tail.{Apart, apart, Tail}
 use Rattle.reading.proofs.Grows.{GoesOn, Grows}
 
 or_cases : (c d : Bool) → (c || d) ≡ true → (c ≡ true) ⊎ ((c ≡ false) × (d ≡ true))

@@ -4,13 +4,14 @@ use Rattle.std.proofs.lemmas.List.{length-map}
 use Rattle.cob_tree.specs.declared.token.Token.{Token}
 use Rattle.cob_tree.specs.Symbols.{Sign, seen}
 use Rattle.cob_tree.specs.Stmt.{Tree}
-use Rattle.cob_parse_expr.specs.declared.lexeme.Lexeme.{Lexeme}
-use Rattle.cob_parse_expr.specs.Lexemes.{plain_lexeme}
-use Rattle.cob_parse_expr.specs.declared.halt.Halt.{Halt}
-use Rattle.cob_parse_expr.specs.declared.halt.Halt.TheVariants as halt
-use Rattle.cob_parse_expr.specs.Steps.{signs, Fails}
-use Rattle.cob_parse_expr.specs.Parsing.{line_at}
-use Rattle.cob_parse_expr.proofs.StepLemmas.{fails_first}
+use Rattle.cob_lexemes.specs.declared.lexeme.Lexeme.{Lexeme}
+use Rattle.cob_lexemes.specs.Lexemes.{plain_lexeme}
+use Rattle.cob_lexemes.specs.declared.halt.Halt.{Halt}
+use Rattle.cob_lexemes.specs.declared.halt.Halt.TheVariants as halt
+use Rattle.cob_lexemes.specs.Steps.{signs, Fails}
+use Rattle.cob_lexemes.specs.declared.end.ParseEnd.TheVariants as end
+use Rattle.cob_lexemes.specs.Places.{line_at, end_at}
+use Rattle.cob_lexemes.proofs.StepLemmas.{fails_first}
 use Rattle.reading.specs.Readers.{Fault, Stop, Deep, ◌>>=◌, ended, whole}
 use Rattle.cob_parse_proc.specs.Program.{limit, tree_at}
 use Rattle.cob_parse_proc.specs.Parsing.{IsTree, IsWrong, IsDeep}
@@ -40,16 +41,25 @@ module _ (tokens : List Token) (items lexemes : List Lexeme) (shown : lexemes �
   pub program_read : (t : Tree) → whole (tree_at limit) (signs lexemes) ≡ Ok t → IsTree (map seen tokens) t
   program_read t e = tree_read tokens t (sym (ap (whole (tree_at limit)) same) ∙ e)
 
-  pub program_wrong : (h : Halt) (n at line : ℕ) → h ≡ halt.Stop n → Fails h (whole (tree_at limit) (signs lexemes)) → at ≡ line_at tokens n → at ≡ line → IsWrong tokens line
-  program_wrong h n at line is f there same_line =
-      let e : whole (tree_at limit) (signs lexemes) ≡ Err (Stop n) = subst (λ (x : Halt). Fails x (whole (tree_at limit) (signs lexemes))) is f in
+  abbrev Halts : Halt → Type 0
+  Halts h = Fails h (whole (tree_at limit) (signs lexemes))
+
+  stopped : (n line : ℕ) → whole (tree_at limit) (signs lexemes) ≡ Err (Stop n) → line_at tokens n ≡ line → IsWrong tokens line
+  stopped n line e there =
       let stop = tree_stops (map seen tokens) n (sym (ap (whole (tree_at limit)) same) ∙ e) in
-      record { left = stop.0; stops = stop.2; line_is = sym same_line ∙ there ∙ ap (line_at tokens) (sym stop.1) }
+      record { left = stop.0; stops = stop.2; line_is = sym there ∙ ap (line_at tokens) (sym stop.1) }
 
-  pub program_deep : (h : Halt) (n : ℕ) → h ≡ halt.Deep n → Fails h (whole (tree_at limit) (signs lexemes)) → IsDeep (map seen tokens)
-  program_deep h n is f = tree_deep (map seen tokens) n (sym (ap (whole (tree_at limit)) same) ∙ subst (λ (x : Halt). Fails x (whole (tree_at limit) (signs lexemes))) is f)
+  pub program_wrong : (h : Halt) (line : ℕ) → Halts h → end_at tokens h ≡ end.Syntax line → IsWrong tokens line
+  program_wrong halt.Memory line f e = absurd cc
+  program_wrong (halt.Stop n) line f e = stopped n line f cc
+  program_wrong (halt.Deep n) line f e = absurd cc
 
-  pub program_within : (h : Halt) (n : ℕ) → h ≡ halt.Stop n → Fails h (whole (tree_at limit) (signs lexemes)) → n ≤ length tokens
+  pub program_deep : (h : Halt) (count : ℕ) → Halts h → end_at tokens h ≡ end.Deep count → (count ≡ 65) × IsDeep (map seen tokens)
+  program_deep halt.Memory count f e = absurd cc
+  program_deep (halt.Stop n) count f e = absurd cc
+  program_deep (halt.Deep n) count f e = (cc, tree_deep (map seen tokens) n (sym (ap (whole (tree_at limit)) same) ∙ f))
+
+  pub program_within : (h : Halt) (n : ℕ) → h ≡ halt.Stop n → Halts h → n ≤ length tokens
   program_within h n is f =
-      let le = tree_within (map seen tokens) n (sym (ap (whole (tree_at limit)) same) ∙ subst (λ (x : Halt). Fails x (whole (tree_at limit) (signs lexemes))) is f) in
+      let le = tree_within (map seen tokens) n (sym (ap (whole (tree_at limit)) same) ∙ subst Halts is f) in
       omega (arith, le, length-map tokens seen)

@@ -6,9 +6,8 @@ use Rattle.reading.specs.Readers.{branch, seq, closed}
 use Rattle.reading.specs.Printing.{begins}
 use Rattle.reading.specs.Law.{Agrees}
 use Rattle.reading.proofs.Wider.{agree_same, agree_seen, agree_seq, agree_branch, agree_many, agree_closed}
-use Rattle.cob_parse_expr.specs.Classes.{name_symbol}
-use Rattle.cob_parse_data.specs.Tokens.{divisions, of, is, the, on_its_line, stop_symbol}
-use Rattle.cob_parse_data.specs.Tokens as tokens
+use Rattle.cob_lexemes.specs.Classes.{name_symbol, by_symbol, of, is, the, on_its_line, stop_symbol}
+use Rattle.cob_lexemes.specs.Classes as tokens
 use Rattle.cob_parse_data.specs.Reading.{back, front}
 use Rattle.cob_parse_proc.specs.Bare.{list_takes}
 use Rattle.cob_parse_proc.specs.Reading.{may_go, stmts_at}
@@ -23,7 +22,7 @@ module _ (R : Rooms) (room wide : ℕ) (le : room ≤ wide) where
   sentence_agree = agree_seen front (closed (stmts_at room) (of stop_symbol) goes) (closed (stmts_at wide) (of stop_symbol) goes) (agree_closed (stmts_at room) (stmts_at wide) (of stop_symbol) goes (statements_agree R room wide le))
 
   sentences_agree : Agrees (sentences_at room) (sentences_at wide)
-  sentences_agree = agree_many (begins divisions starts) (sentence_at room) (sentence_at wide) sentence_agree
+  sentences_agree = agree_many (begins by_symbol starts) (sentence_at room) (sentence_at wide) sentence_agree
 
   behind_agree : Agrees (behind_name room) (behind_name wide)
   behind_agree = agree_seen back (branch (of stop_symbol) (λ x. sentences_at room)) (branch (of stop_symbol) (λ x. sentences_at wide)) (agree_branch (of stop_symbol) (λ x. sentences_at room) (λ x. sentences_at wide) (λ x. sentences_agree))

@@ -21,7 +21,7 @@ use Rattle.reading.proofs.Opens.{below_wider}
 use Rattle.reading.proofs.Exact.{enough}
 use Rattle.reading.proofs.Wider.{agree_map}
 use Rattle.reading.proofs.Whole.{whole_sound, whole_complete, whole_fails, whole_none}
-use Rattle.cob_parse_data.specs.Tokens.{divisions}
+use Rattle.cob_lexemes.specs.Classes.{by_symbol}
 use Rattle.cob_parse_data.proofs.ClassLaws.{one_token}
 use Rattle.cob_parse_proc.specs.Program.{limit, tree_at}
 use Rattle.cob_parse_proc.specs.Parsing.{ShapedTree, top, IsTree, GoesOn, Stops, IsDeep}
@@ -45,23 +45,23 @@ tok_readable (tok.Relation r) = refl
 tok_readable (tok.Pic text) = refl
 tok_readable tok.Stop = refl
 
-readable : (is : List Item) (tokens : List Token) → Matches divisions is (map seen tokens) → AllByRecursion IsReadable is
+readable : (is : List Item) (tokens : List Token) → Matches by_symbol is (map seen tokens) → AllByRecursion IsReadable is
 readable [] tokens m = tt
 readable (i ∷ is) [] m = absurd m
 readable (i ∷ is) (t ∷ tokens) m = (subst (λ (y : Symbol). symbol_of (written y) ≡ y) m.0.symbol (tok_readable t.tok), readable is tokens m.1)
 
 -- ---- readers with more room
 
-pub law_at : (room limit' : ℕ) → limit' ≡ suc room → Law divisions (tree_at room) tree_syntax limit'
-law_at room limit' e = subst (Law divisions (tree_at room) tree_syntax) (sym e) (tree_law known room)
+pub law_at : (room limit' : ℕ) → limit' ≡ suc room → Law by_symbol (tree_at room) tree_syntax limit'
+law_at room limit' e = subst (Law by_symbol (tree_at room) tree_syntax) (sym e) (tree_law known room)
 
-pub law : Law divisions (tree_at limit) tree_syntax top
+pub law : Law by_symbol (tree_at limit) tree_syntax top
 law = law_at limit top refl
 
 abbrev pub wides : ℕ → Reader Sign Tree
 wides more = tree_at (limit + more)
 
-pub wide_law : (more : ℕ) → Law divisions (wides more) tree_syntax (top + more)
+pub wide_law : (more : ℕ) → Law by_symbol (wides more) tree_syntax (top + more)
 wide_law more = law_at (limit + more) (top + more) (omega arith)
 
 pub wide_agrees : (more : ℕ) (ts : List Sign) → Agree (tree_at limit ts) (wides more ts)
@@ -75,7 +75,7 @@ spell i = go i.line refl
     go None e = (record { symbol = i.symbol; line = 1 }, record { symbol = refl; line = subst (λ (l : Option ℕ). IsLine l 1) (sym e) tt })
     go (Some l) e = (record { symbol = i.symbol; line = l }, record { symbol = refl; line = subst (λ (o : Option ℕ). IsLine o l) (sym e) refl })
 
-pub spelled : (is : List Item) → (ts : List Sign) × Matches divisions is ts
+pub spelled : (is : List Item) → (ts : List Sign) × Matches by_symbol is ts
 spelled [] = ([], tt)
 spelled (i ∷ is) = let t = spell i in let w = spelled is in (t.0 ∷ w.0, (t.1, w.1))
 
@@ -94,16 +94,16 @@ still more n ts e = ⊎_elim
     (λ same. sym same ∙ e)
     (agree_map (tree_at limit ts) (wides more ts) (λ a. ended a.0 a.1) (wide_agrees more ts))
 
-none_at_all : (ts : List Sign) (n : ℕ) → whole (tree_at limit) ts ≡ Err (Stop n) → (t : Tree) → Matches divisions (print_tree t) ts → ShapedTree t → ⊥
+none_at_all : (ts : List Sign) (n : ℕ) → whole (tree_at limit) ts ≡ Err (Stop n) → (t : Tree) → Matches by_symbol (print_tree t) ts → ShapedTree t → ⊥
 none_at_all ts n e t spells good =
-    let w = enough divisions (print_tree t) in
-    ok_fails t (Stop n) (sym (whole_complete (wide_law w.0) ts t spells good (below_wider divisions w.0 (top + w.0) (print_tree t) (omega arith) w.1)) ∙ still w.0 n ts e)
+    let w = enough by_symbol (print_tree t) in
+    ok_fails t (Stop n) (sym (whole_complete (wide_law w.0) ts t spells good (below_wider by_symbol w.0 (top + w.0) (print_tree t) (omega arith) w.1)) ∙ still w.0 n ts e)
 
 no_further : (read rest : List Sign) (u : Sign) → whole (tree_at limit) (read ++ u ∷ rest) ≡ Err (Stop (suc (length rest))) → GoesOn (read ++ u ∷ []) → ⊥
 no_further read rest u e g =
     let behind = spelled g.after in
-    let whole_text : Matches divisions (print_tree g.tree) ((read ++ u ∷ []) ++ behind.0) = subst (λ (is : List Item). Matches divisions is ((read ++ u ∷ []) ++ behind.0)) (sym g.text) (matches_join divisions g.before g.after (read ++ u ∷ []) behind.0 g.spells behind.1) in
-    whole_none law wides wide_law wide_agrees (λ t. one_token (tree_syntax.takes t)) read rest behind.0 u g.tree e (subst (Matches divisions (print_tree g.tree)) (append_assoc read (u ∷ []) behind.0) whole_text) g.shaped
+    let whole_text : Matches by_symbol (print_tree g.tree) ((read ++ u ∷ []) ++ behind.0) = subst (λ (is : List Item). Matches by_symbol is ((read ++ u ∷ []) ++ behind.0)) (sym g.text) (matches_join by_symbol g.before g.after (read ++ u ∷ []) behind.0 g.spells behind.1) in
+    whole_none law wides wide_law wide_agrees (λ t. one_token (tree_syntax.takes t)) read rest behind.0 u g.tree e (subst (Matches by_symbol (print_tree g.tree)) (append_assoc read (u ∷ []) behind.0) whole_text) g.shaped
 
 pub tree_stops : (ts : List Sign) (n : ℕ) → whole (tree_at limit) ts ≡ Err (Stop n) → (left : List Sign) × (length left ≡ n) × Stops ts left
 tree_stops ts n e =
@@ -125,10 +125,10 @@ tree_stops ts n e =
 pub tree_deep : (ts : List Sign) (n : ℕ) → whole (tree_at limit) ts ≡ Err (Deep n) → IsDeep ts
 tree_deep ts n e = go f.left f.after f.parts f.text f.at
   where
-    f : Fails divisions tree_syntax top ts (Deep n)
+    f : Fails by_symbol tree_syntax top ts (Deep n)
     f = whole_fails law ts (Deep n) e
 
-    go : (left : List Sign) (after : List Item) → ts ≡ f.read ++ left → print_tree f.tree ≡ f.before ++ after → (length left ≡ n) × Opens divisions top left after → IsDeep ts
+    go : (left : List Sign) (after : List Item) → ts ≡ f.read ++ left → print_tree f.tree ≡ f.before ++ after → (length left ≡ n) × Opens by_symbol top left after → IsDeep ts
     go [] after parts text at = absurd at.1
     go (t ∷ left) [] parts text at = absurd at.1
     go (t ∷ left) (i ∷ after) parts text at = record {

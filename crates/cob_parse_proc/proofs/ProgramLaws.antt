@@ -24,8 +24,7 @@ use Rattle.reading.proofs.Tail.{Tail}
 use Rattle.reading.proofs.Many.{is_given}
 use Rattle.reading.proofs.Optional.{optional_syntax}
 use Rattle.reading.proofs.Must.{Ends, ends_by, closed_law}
-use Rattle.cob_parse_expr.specs.Classes.{name_symbol}
-use Rattle.cob_parse_data.specs.Tokens.{divisions, of, is, the, stop_symbol}
+use Rattle.cob_lexemes.specs.Classes.{name_symbol, by_symbol, of, is, the, stop_symbol}
 use Rattle.cob_parse_data.specs.Reading.{back, front, named}
 use Rattle.cob_parse_data.proofs.Parts.{then_law, pair_syntax, pair_law, list_syntax, list_law, list_tail, optional_part, onward_false}
 use Rattle.cob_parse_data.proofs.ClassLaws.{one_token, begins_with, starts_with, one_syntax, one_law, line_syntax, one_word, free_of, is_the, stops, names, lines}
@@ -47,7 +46,7 @@ use Rattle.cob_parse_proc.proofs.StmtLaws.{law_of_statements, statements_grow}
 abbrev pub sentence_syntax : Syntax Item Symbol Stmts
 sentence_syntax = record { Good = ShapedStmts; print = print_sentence; takes = takes_nothing }
 
-pub alike : Alike procedure divisions
+pub alike : Alike procedure by_symbol
 alike = record { to = λ i t f. f; back = λ i t f. f; depth = λ i. refl }
 
 pub points : Class procedure (of stop_symbol) Always (λ x. stop 0)
@@ -77,7 +76,7 @@ sentence_end K room = ends_by nots not_seconds (statements_grow K room 0 (suc ro
 pub closed_sentence : Known → (room : ℕ) → Law procedure (closed (stmts_at room) (of stop_symbol) (λ ss. may_go (list_takes ss))) sentence_pair (suc room)
 closed_sentence K room = closed_law (law_of_statements K room 0 (suc room) (omega arith)) points (λ x a. omega arith) tt tt (sentence_end K room)
 
-pub sentence_law : Known → (room : ℕ) → Law divisions (sentence_at room) sentence_syntax (suc room)
+pub sentence_law : Known → (room : ℕ) → Law by_symbol (sentence_at room) sentence_syntax (suc room)
 sentence_law K room = seen_law (law_across alike (closed_sentence K room) (λ x p. refl)) sentence_view
 
 -- what begins a statement begins a sentence
@@ -85,7 +84,7 @@ verb_starts : (v : Verb) → starts (Key (first_word v)) ≡ true
 verb_starts (move from to) = refl
 verb_starts _ = refl
 
-pub sentence_begins : Begins divisions starts sentence_syntax
+pub sentence_begins : Begins by_symbol starts sentence_syntax
 sentence_begins no_stmts text rest good spells = absurd good
 sentence_begins (more_stmts (MkStmt line v) ss) [] rest good spells = absurd spells
 sentence_begins (more_stmts (MkStmt line v) ss) (t ∷ text) rest good spells = ap starts spells.0.symbol ∙ verb_starts v
@@ -98,7 +97,7 @@ pub sentences_take : (ss : List Stmts) (y : Symbol) → starts y ≡ false → s
 sentences_take [] y e = e
 sentences_take (s ∷ ss) y e = onward_false (is_given ss) false (sentences_syntax.takes ss y) refl (sentences_take ss y e)
 
-pub sentences_law : Known → (room : ℕ) → Law divisions (sentences_at room) sentences_syntax (suc room)
+pub sentences_law : Known → (room : ℕ) → Law by_symbol (sentences_at room) sentences_syntax (suc room)
 sentences_law K room = list_law (sentence_law K room) starts Stop (λ x good. refl) (λ x p good e. refl) (starts_with sentence_begins)
 
 -- ---- paragraphs
@@ -119,16 +118,16 @@ module _ (K : Known) (room : ℕ) where
   pub behind_view : View (dependent_syntax (one_syntax (λ (x : Unit {0}). Stop)) (λ x. sentences_syntax)) behind_syntax back beside
   behind_view = record { back = λ y good. refl; print = λ x good. refl; takes = λ x p good. refl; good = λ x good. good.1; good_back = λ y good. (tt, good) }
 
-  pub behind_law : Law divisions (behind_name room) behind_syntax (suc room)
+  pub behind_law : Law by_symbol (behind_name room) behind_syntax (suc room)
   behind_law = seen_law (branch_law (classes.tokens stops) (suc room) (λ x a. low room) tt tt (λ x. sentences_at room) (λ x. sentences_syntax) (λ x a. sentences_law K room)) behind_view
 
   pub paragraph_view : View (dependent_syntax (line_syntax (λ text. Name text)) (λ x. behind_syntax)) paragraph_syntax make_paragraph paragraph_parts
   paragraph_view = record { back = λ y good. refl; print = λ x good. refl; takes = λ x p good. refl; good = λ x good. good.1; good_back = λ y good. (tt, good) }
 
-  pub paragraph_law : Law divisions (paragraph_at room) paragraph_syntax (suc room)
+  pub paragraph_law : Law by_symbol (paragraph_at room) paragraph_syntax (suc room)
   paragraph_law = seen_law (branch_law (lines names) (suc room) (λ x a. low room) (0, []) tt (λ x. behind_name room) (λ x. behind_syntax) (λ x a. behind_law)) paragraph_view
 
-pub paragraph_begins : Begins divisions (is name_symbol) paragraph_syntax
+pub paragraph_begins : Begins by_symbol (is name_symbol) paragraph_syntax
 paragraph_begins = begins_with names paragraph_syntax (λ p good. (p.name, Some p.line, stop 0 ∷ each print_sentence p.sentences, refl))
 
 -- a name begins no statement
@@ -149,10 +148,10 @@ abbrev pub parts_syntax : Syntax Item Symbol (List Stmts × List Paragraph)
 parts_syntax = pair_syntax sentences_syntax paragraphs_syntax is_given
 
 module _ (K : Known) (room : ℕ) where
-  pub paragraphs_tail : Tail divisions (is name_symbol) is_given (paragraphs_at room) paragraphs_syntax (suc room)
+  pub paragraphs_tail : Tail by_symbol (is name_symbol) is_given (paragraphs_at room) paragraphs_syntax (suc room)
   paragraphs_tail = list_tail (paragraph_law K room) (is name_symbol) Stop (λ p good. sentences_take p.sentences Stop refl) (λ p y good e. sentences_take p.sentences y (name_free y e)) (starts_with paragraph_begins)
 
-  pub parts_law : Law divisions (seq (sentences_at room) (paragraphs_at room)) parts_syntax (suc room)
+  pub parts_law : Law by_symbol (seq (sentences_at room) (paragraphs_at room)) parts_syntax (suc room)
   parts_law = pair_law (sentences_law K room) paragraphs_tail Stop (λ ss good. sentences_take ss Stop refl) (λ ss y good e. sentences_take ss y (name_free y e))
 
 paragraphs_take : (ps : List Paragraph) (y : Symbol) → starts y ≡ false → is name_symbol y ≡ false → paragraphs_syntax.takes ps y ≡ false
@@ -173,13 +172,13 @@ end_parts e = ((e.line, tt), e.name)
 end_view : View (dependent_syntax (line_syntax (λ (x : Unit {0}). Key word.EndProgram)) (λ x. named_syntax)) end_syntax make_end end_parts
 end_view = record { back = λ y good. refl; print = λ x good. refl; takes = λ x p good. refl; good = λ x good. tt; good_back = λ y good. (tt, tt) }
 
-end_law : (room : ℕ) → Law divisions end_at end_syntax (suc room)
+end_law : (room : ℕ) → Law by_symbol end_at end_syntax (suc room)
 end_law room = seen_law (branch_law (lines (one_word word.EndProgram)) (suc room) (λ x a. low room) (0, tt) tt (λ x. named) (λ x. named_syntax) (λ x a. named_law (suc room) (low room))) end_view
 
 abbrev pub ending_syntax : Syntax Item Symbol (Option EndProgram)
 ending_syntax = optional_syntax (is (the word.EndProgram)) [] end_syntax
 
-pub ending_tail : (room : ℕ) → Tail divisions (is (the word.EndProgram)) is_some ending_at ending_syntax (suc room)
+pub ending_tail : (room : ℕ) → Tail by_symbol (is (the word.EndProgram)) is_some ending_at ending_syntax (suc room)
 ending_tail room = optional_part (is (the word.EndProgram)) (end_law room) (starts_with (begins_with (one_word word.EndProgram) end_syntax (λ e good. (tt, Some e.line, print_name_and_stop e.name, refl))))
 
 -- ---- whole programs
@@ -187,7 +186,7 @@ ending_tail room = optional_part (is (the word.EndProgram)) (end_law room) (star
 abbrev pub body_syntax : Syntax Item Symbol Body
 body_syntax = pair_syntax parts_syntax ending_syntax is_some
 
-pub body_law : Known → (room : ℕ) → Law divisions (body_at room) body_syntax (suc room)
+pub body_law : Known → (room : ℕ) → Law by_symbol (body_at room) body_syntax (suc room)
 body_law K room = pair_law (parts_law K room) (ending_tail room) Stop (λ x good. parts_take x Stop refl refl) (λ x y good e. free_of word.EndProgram (parts_syntax.takes x) (parts_take x (Key word.EndProgram) refl refl) y e)
 
 abbrev pub procedure_words : List Keyword
@@ -196,7 +195,7 @@ procedure_words = word.Procedure ∷ word.Division ∷ []
 abbrev pub before_syntax : Syntax Item Symbol (Front × Unit {0})
 before_syntax = seq_syntax front_syntax (heading_syntax procedure_words)
 
-pub before_law : (room : ℕ) → Law divisions before_at before_syntax (suc room)
+pub before_law : (room : ℕ) → Law by_symbol before_at before_syntax (suc room)
 before_law room = then_law (front_law (suc room) (low room)) (heading_law (suc room) (low room) procedure_words) (λ f. one_token (front_syntax.takes f)) (is (the word.Procedure)) (begins_with (one_word word.Procedure) (heading_syntax procedure_words) (λ x good. (tt, None, print.heading (word.Division ∷ []), refl)))
     (λ f y good e. free_of word.Procedure (front_syntax.takes f) (front_free (Key word.Procedure) refl refl refl refl refl refl refl refl refl refl refl f good) y e)
 
@@ -224,5 +223,5 @@ pub tree_view : View (seq_syntax before_syntax body_syntax) tree_syntax make_tre
 tree_view = record { back = λ y good. refl; print = λ x good. print_back x; takes = λ x p good. refl; good = λ x good. (good.0.0, good.1.0.0, good.1.0.1); good_back = λ t good. ((good.0, tt), ((good.1, good.2), end_good t.end)) }
 
 -- the law of whole programs, where so many statements and parentheses may be open
-pub tree_law : Known → (room : ℕ) → Law divisions (tree_at room) tree_syntax (suc room)
+pub tree_law : Known → (room : ℕ) → Law by_symbol (tree_at room) tree_syntax (suc room)
 tree_law K room = seen_law (seq_law (before_law room) (λ x p good. refl) (body_law K room)) tree_view

@@ -7,18 +7,18 @@ use Rattle.cob_tree.specs.PrintStmt.{print_tree}
 use Rattle.reading.specs.Printing.{Matches}
 use Rattle.reading.proofs.Results.{cut_at}
 use Rattle.reading.proofs.Exact.{one_of_any}
-use Rattle.cob_parse_data.specs.Tokens.{divisions}
+use Rattle.cob_lexemes.specs.Classes.{by_symbol}
 use Rattle.cob_parse_proc.specs.Parsing.{ShapedTree, top, IsTree, GoesOn, Stops}
 use Rattle.cob_parse_proc.proofs.ProgramAnswers.{wides, wide_law, spelled}
 
 -- tokens are one tree's
-pub one_text : (ts : List Sign) (a b : Tree) → Matches divisions (print_tree a) ts → ShapedTree a → Matches divisions (print_tree b) ts → ShapedTree b → a ≡ b
+pub one_text : (ts : List Sign) (a b : Tree) → Matches by_symbol (print_tree a) ts → ShapedTree a → Matches by_symbol (print_tree b) ts → ShapedTree b → a ≡ b
 one_text ts a b spells good spells' good' = one_of_any top wides wide_law ts a b spells good spells' good'
 
 pub one_printing : (a b : Tree) → ShapedTree a → ShapedTree b → print_tree a ≡ print_tree b → a ≡ b
 one_printing a b good good' same =
     let text = spelled (print_tree a) in
-    one_text text.0 a b text.1 good (subst (λ (is : List Item). Matches divisions is text.0) same text.1) good'
+    one_text text.0 a b text.1 good (subst (λ (is : List Item). Matches by_symbol is text.0) same text.1) good'
 
 -- ---- one answer
 
@@ -30,9 +30,9 @@ record Front (before : List Item) (front : List Sign) : Type 0 where
   first : List Item
   behind : List Item
   parts : before ≡ first ++ behind
-  spells : Matches divisions first front
+  spells : Matches by_symbol first front
 
-front_items : (before : List Item) (front more : List Sign) → Matches divisions before (front ++ more) → Front before front
+front_items : (before : List Item) (front more : List Sign) → Matches by_symbol before (front ++ more) → Front before front
 front_items before [] more m = record { first = []; behind = before; parts = refl; spells = tt }
 front_items [] (t ∷ front) more m = absurd m
 front_items (i ∷ before) (t ∷ front) more m =

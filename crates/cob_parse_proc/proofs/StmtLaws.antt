@@ -22,10 +22,9 @@ use Rattle.cob_tree.specs.Takes.{takes_stmt}
 use Rattle.cob_tree.specs.Shaped.{ShapedStmts, ShapedStmt, ShapedVerb}
 use Rattle.reading.specs.Readers.{Reader, seen, plus}
 use Rattle.reading.specs.Printing.{peek_on, on_mark}
-use Rattle.reading.specs.Law.{Syntax, Law}
+use Rattle.reading.specs.Law.{Syntax, Law, onward}
 use Rattle.reading.proofs.Seen.{View, seen_law}
 use Rattle.reading.proofs.Starts.{Starts, starts_by_one}
-use Rattle.reading.proofs.Tail.{onward}
 use Rattle.reading.proofs.Many.{is_given, many_syntax}
 use Rattle.reading.proofs.Plus.{plus_syntax, plus_law}
 use Rattle.reading.proofs.Grows.{Grows, grows_seen, grows_plus, samples_one}

@@ -15,9 +15,9 @@ use Rattle.cob_tree.specs.PrintExpr.{print_ref, print_opnd, print_expr, print_re
 use Rattle.cob_tree.specs.PrintStmt.{print_opnds, print_recvs, way_word, first_word, size_words, not_size_words, print_stmts, print_stmt, print_verb, print_phrase, print_tail, print_whens, print_when}
 use Rattle.cob_tree.specs.Takes.{takes_stmts, takes_phrase, takes_tail, takes_whens, takes_when, takes_verb, unless}
 use Rattle.cob_tree.specs.Shaped.{ShapedStmts, ShapedStmt, ShapedPhrase, ShapedTail, ShapedEnd, ShapedWhens, ShapedWhen, ShapedVerb}
-use Rattle.reading.specs.Law.{Syntax}
+use Rattle.reading.specs.Law.{Syntax, onward}
 use Rattle.reading.proofs.Seen.{View}
-use Rattle.reading.proofs.Tail.{Apart, onward}
+use Rattle.reading.proofs.Tail.{Apart}
 use Rattle.reading.proofs.Many.{is_given}
 use Rattle.cob_parse_verb.specs.declared.word.Start.{Start}
 use Rattle.cob_parse_verb.specs.declared.word.Start.TheVariants as start

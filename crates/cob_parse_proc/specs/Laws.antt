@@ -19,6 +19,6 @@ pub record OneAnswer (ts : List Sign) : Type 0 where
   pub wrong_once : (u v : List Sign) → Stops ts u → Stops ts v → u ≡ v
   pub wrong_or_deep : (u : List Sign) → Stops ts u → IsDeep ts → ⊥
 
--- and those of the same symbols are equal but for the lines that they hold
+-- Trees of the same symbols are equal but for the lines that they hold.
 abbrev pub SameButForLines : Type 0
 SameButForLines = (a b : Tree) → ShapedTree a → ShapedTree b → map (λ i. i.symbol) (print_tree a) ≡ map (λ i. i.symbol) (print_tree b) → tree_without a ≡ tree_without b

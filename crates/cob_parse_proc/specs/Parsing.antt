@@ -8,8 +8,8 @@ use Rattle.cob_tree.specs.Stmt.{Tree}
 use Rattle.cob_tree.specs.PrintStmt.{print_tree}
 use Rattle.cob_tree.specs.Shaped.{ShapedFront, ShapedStmts, ShapedParagraph, Shaped}
 use Rattle.reading.specs.Printing.{Matches, Below}
-use Rattle.cob_parse_expr.specs.Parsing.{line_at}
-use Rattle.cob_parse_data.specs.Tokens.{divisions}
+use Rattle.cob_lexemes.specs.Places.{line_at}
+use Rattle.cob_lexemes.specs.Classes.{by_symbol}
 
 -- what the grammar asks of a tree beside its names
 abbrev pub ShapedTree : Tree → Type 0
@@ -23,8 +23,8 @@ top = 65
 -- be, or fewer.
 pub record IsTree (ts : List Sign) (t : Tree) : Type 0 where
   pub shaped : Shaped t
-  pub spells : Matches divisions (print_tree t) ts
-  pub below : Below divisions top (print_tree t)
+  pub spells : Matches by_symbol (print_tree t) ts
+  pub below : Below by_symbol top (print_tree t)
 
 -- some tree's text begins with the tokens
 pub record GoesOn (front : List Sign) : Type 0 where
@@ -33,19 +33,19 @@ pub record GoesOn (front : List Sign) : Type 0 where
   pub before : List Item
   pub after : List Item
   pub text : print_tree tree ≡ before ++ after
-  pub spells : Matches divisions before front
+  pub spells : Matches by_symbol before front
 
 -- No tree has these tokens, however deep. Some tree goes on behind those before what is left, with no more open than
 -- may be, and none goes on with the next.
 pub record Stops (ts left : List Sign) : Type 0 where
-  pub none : (t : Tree) → Matches divisions (print_tree t) ts → ShapedTree t → ⊥
+  pub none : (t : Tree) → Matches by_symbol (print_tree t) ts → ShapedTree t → ⊥
   pub read : List Sign
   pub parts : ts ≡ read ++ left
   pub goes_on : GoesOn read
-  pub below : Below divisions top goes_on.before
+  pub below : Below by_symbol top goes_on.before
   pub no_further : (u : Sign) (rest : List Sign) → left ≡ u ∷ rest → GoesOn (read ++ u ∷ []) → ⊥
 
--- and the line is that of the first token that is left; at the end of the tokens the last one's, or 1
+-- No program goes on, and the line is that of the first token that is left; at the end of the tokens the last one's, or 1.
 pub record IsWrong (tokens : List Token) (line : ℕ) : Type 0 where
   pub left : List Sign
   pub stops : Stops (map seen tokens) left
@@ -54,7 +54,7 @@ pub record IsWrong (tokens : List Token) (line : ℕ) : Type 0 where
 -- Some tree goes on with a token at which one more is open than may be, and no more at any token before; and none has
 -- these tokens with no more open than may be.
 pub record IsDeep (ts : List Sign) : Type 0 where
-  pub none : (t : Tree) → Matches divisions (print_tree t) ts → ShapedTree t → Below divisions top (print_tree t) → ⊥
+  pub none : (t : Tree) → Matches by_symbol (print_tree t) ts → ShapedTree t → Below by_symbol top (print_tree t) → ⊥
   pub read : List Sign
   pub next : Sign
   pub rest : List Sign
@@ -65,7 +65,7 @@ pub record IsDeep (ts : List Sign) : Type 0 where
   pub item : Item
   pub after : List Item
   pub text : print_tree tree ≡ before ++ item ∷ after
-  pub spells : Matches divisions before read
-  pub below : Below divisions top before
+  pub spells : Matches by_symbol before read
+  pub below : Below by_symbol top before
   pub fits : Fits item next
   pub depth : item.depth ≡ top

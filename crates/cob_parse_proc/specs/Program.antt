@@ -7,16 +7,15 @@ use Rattle.cob_tree.specs.Symbols.{Symbol, Key, Sign}
 use Rattle.cob_tree.specs.Stmt.{Stmts, Paragraph, Tree}
 use Rattle.reading.specs.Readers.{Reader, branch, seen, seq, many, optional, here_if, closed}
 use Rattle.reading.specs.Printing.{begins}
-use Rattle.cob_parse_expr.specs.Classes.{name_symbol, word_symbol}
-use Rattle.cob_parse_data.specs.Tokens.{divisions, of, the, on_its_line, stop_symbol}
-use Rattle.cob_parse_data.specs.Tokens as tokens
+use Rattle.cob_lexemes.specs.Classes.{name_symbol, word_symbol, by_symbol, of, the, on_its_line, stop_symbol}
+use Rattle.cob_lexemes.specs.Classes as tokens
 use Rattle.cob_parse_data.specs.Reading.{back, front, heading, named, front_at}
 use Rattle.cob_parse_verb.specs.declared.word.Start.{Start}
 use Rattle.cob_parse_verb.specs.Words.{start_key}
 use Rattle.cob_parse_proc.specs.Bare.{list_takes}
 use Rattle.cob_parse_proc.specs.Reading.{may_go, stmts_at}
 
--- so many statements and parentheses may be open at one token
+-- The most statements and parentheses that may be open at one token.
 abbrev pub limit : ℕ
 limit = 64
 
@@ -34,7 +33,7 @@ abbrev pub sentence_at : ℕ → Reader Sign Stmts
 sentence_at room = seen front (closed (stmts_at room) (of stop_symbol) (λ ss. may_go (list_takes ss)))
 
 abbrev pub sentences_at : ℕ → Reader Sign (List Stmts)
-sentences_at room = many (begins divisions starts) (sentence_at room)
+sentences_at room = many (begins by_symbol starts) (sentence_at room)
 
 abbrev pub make_paragraph : (ℕ × List ℕ) × List Stmts → Paragraph
 make_paragraph x = record { line = x.0.0; name = x.0.1; sentences = x.1 }

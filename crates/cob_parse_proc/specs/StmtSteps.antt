@@ -44,7 +44,7 @@ phrase_may (given ss) before = may (takes_stmts ss)
 abbrev pub tail_may : Tail → Bool
 tail_may (MkTail size not_size ended) = not ended && phrase_may not_size true
 
--- of a statement, behind a head that may go on with NOT or may not
+-- The verb of a statement behind its head, which may go on with NOT or may not.
 abbrev pub verb_may : Bool → Head → Verb → Bool
 verb_may takes (done v) w = takes
 verb_may takes h w = may (takes_verb w)
@@ -56,7 +56,7 @@ left_at takes (t ∷ ts) = left_on (is_some (one_word word.Not t) && takes) ts
 
 -- ---- parts of statements
 
--- where no more statements may open
+-- A list of statements where no more may open.
 abbrev pub full_at : Reader Sign Stmts
 full_at = full (here Starts)
 
@@ -68,7 +68,7 @@ list_on false inner takes ts = Err (Stop (left_at takes ts))
 abbrev pub list_at : Reader Sign Stmts → Bool → Reader Sign Stmts
 list_at inner takes ts = list_on (here Starts ts) inner takes ts
 
--- behind SIZE, ERROR has to stand
+-- ERROR has to stand behind SIZE.
 abbrev pub behind_error : Option (List Sign) → Result (Option (List Sign)) Fault
 behind_error None = Ok None
 behind_error (Some ts) = lead (one_word word.Error) ts >>= λ x. Ok (Some x.1)
@@ -181,7 +181,7 @@ module _ (inner : Reader Sign Stmts) where
   abbrev pub read_at : List ℕ → Option Ref → Reader Sign Verb
   read_at file into = seen (read_of file into) ends_at
 
-  -- behind a head, which may go on with NOT or may not
+  -- What is read behind a head, which may go on with NOT or may not.
   abbrev pub verb_at : ℕ → Bool → Head → Reader Sign Verb
   verb_at room takes (done v) ts = Ok (v, ts)
   verb_at room takes (arithmetic a) ts = arithmetic_at a ts

@@ -1,3 +1,4 @@
+//! Laws of reading programs.
 ghost use Rattle.std.specs.Prelude.{List};
 ghost use Rattle.cob_tree.specs.Symbols.{Sign};
 ghost use Rattle.cob_parse_proc.specs.Laws.{OneTree, OneAnswer, SameButForLines};

@@ -1,90 +1,27 @@
-ghost use Rattle.std.specs.Prelude.{◌≡◌, ◌≤◌, ◌<◌, ◌+◌, ◌∷◌, [], ◌&&◌, not, length, IfOk, IfSome, IfNone, is_some, false};
+//! The words of phrases, in front of lexemes.
+ghost use Rattle.std.specs.Prelude.{◌≡◌, ◌≤◌, ◌<◌, ◌&&◌, not, length, IfOk, IfSome, is_some, false};
 ghost use Rattle.std.specs.Option.{option_map};
 ghost use Rattle.cob_tree.specs.declared.keyword.Keyword.TheVariants as key;
 ghost use Rattle.cob_tree.specs.Cues.{Starts, Whens};
-ghost use Rattle.reading.specs.Readers.{lead, behind, both_behind};
-ghost use Rattle.cob_parse_expr.specs.Classes.{word_symbol};
-ghost use Rattle.cob_parse_expr.specs.Lexemes.{plain_symbol, plain_lexeme};
-ghost use Rattle.cob_parse_expr.specs.Steps.{signs, Fails, Gives};
-ghost use Rattle.cob_parse_data.specs.Tokens.{same_key, the, is};
+ghost use Rattle.reading.specs.Readers.{behind, both_behind};
+ghost use Rattle.cob_lexemes.specs.Lexemes.{plain_symbol};
+ghost use Rattle.cob_lexemes.specs.Classes.{word_symbol};
+ghost use Rattle.cob_lexemes.specs.Steps.{signs, Fails, Gives};
 ghost use Rattle.cob_parse_verb.specs.Words.{start_key};
 ghost use Rattle.cob_parse_proc.specs.Reading.{here, one_word};
 ghost use Rattle.cob_parse_proc.specs.StmtSteps.{full_at, left_at, behind_error, end_at};
 
-use cob_parse_expr::{Halt, Lexeme, Symbol};
+use cob_lexemes::{Halt, Lexeme, Symbol, behind, expect, is_word, next};
+use cob_parse_verb::start_of;
 use cob_tree::Keyword;
 
-fn same_key(first: Keyword, second: Keyword) -> bool
-    ensures { result ≡ same_key first second }
-{
-    first.text() == second.text()
-}
-
-pub fn is_word(keyword: Keyword, symbol: &Symbol) -> bool
-    ensures { result ≡ is (the keyword) (plain_symbol symbol.now) }
-{
-    match symbol {
-        Symbol::Key(other) => same_key(keyword, *other),
-        _ => false,
-    }
-}
-
-fn begins_statement(keyword: Keyword) -> bool
-    ensures { result ≡ is_some (start_key keyword) }
-{
-    matches!(
-        keyword,
-        Keyword::Move
-            | Keyword::Set
-            | Keyword::Display
-            | Keyword::Add
-            | Keyword::Subtract
-            | Keyword::Multiply
-            | Keyword::Divide
-            | Keyword::Compute
-            | Keyword::If
-            | Keyword::Evaluate
-            | Keyword::Perform
-            | Keyword::Go
-            | Keyword::Exit
-            | Keyword::Continue
-            | Keyword::Stop
-            | Keyword::Open
-            | Keyword::Close
-            | Keyword::Read
-            | Keyword::Write
-    )
-}
-
+/// Whether a symbol is the first word of a statement.
 pub fn is_start(symbol: &Symbol) -> bool
     ensures { result ≡ is_some (word_symbol start_key (plain_symbol symbol.now)) }
 {
     match symbol {
-        Symbol::Key(keyword) => begins_statement(*keyword),
+        Symbol::Key(keyword) => start_of(*keyword).is_some(),
         _ => false,
-    }
-}
-
-// The first lexeme, and those behind it.
-pub fn next(lexemes: &[Lexeme]) -> Option<(&Lexeme, &[Lexeme])>
-    ensures some { IfSome result (λ x. signs lexemes.now ≡ plain_lexeme x.0.now ∷ signs x.1.now) }
-    ensures none { IfNone result (signs lexemes.now ≡ []) }
-    ensures shorter { IfSome result (λ x. length lexemes.now ≡ length x.1.now + 1) }
-{
-    match lexemes {
-        [] => None,
-        [lexeme, rest @ ..] => Some((lexeme, rest)),
-    }
-}
-
-/// The lexemes behind a reserved word, where it stands first.
-pub fn behind(keyword: Keyword, lexemes: &[Lexeme]) -> Option<&[Lexeme]>
-    ensures cut { option_map (λ rest. signs rest.now) result ≡ behind (one_word keyword) (signs lexemes.now) }
-    ensures rest { IfSome result (λ rest. length rest.now < length lexemes.now) }
-{
-    match next(lexemes) {
-        Some((lexeme, rest)) if is_word(keyword, &lexeme.symbol) => Some(rest),
-        _ => None,
     }
 }
 
@@ -96,23 +33,6 @@ pub fn both_behind(first: Keyword, second: Keyword, lexemes: &[Lexeme]) -> Optio
     match next(lexemes) {
         Some((lexeme, rest)) if is_word(first, &lexeme.symbol) => behind(second, rest),
         _ => None,
-    }
-}
-
-/// The lexemes behind a reserved word that has to stand first.
-pub fn expect(keyword: Keyword, lexemes: &[Lexeme]) -> Result<&[Lexeme], Halt>
-    ensures gives { Gives (λ rest. (tt, signs rest.now)) result (lead (one_word keyword) (signs lexemes.now)) }
-    ensures rest { IfOk result (λ rest. length rest.now < length lexemes.now) }
-{
-    match next(lexemes) {
-        None => Err(Halt::Stop(0)),
-        Some((lexeme, rest)) => {
-            if is_word(keyword, &lexeme.symbol) {
-                Ok(rest)
-            } else {
-                Err(Halt::Stop(lexemes.len()))
-            }
-        }
     }
 }
 

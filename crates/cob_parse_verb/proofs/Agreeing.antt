@@ -12,7 +12,7 @@ use Rattle.cob_parse_expr.specs.Reading.{second, expr_at}
 use Rattle.cob_parse_expr.specs.CondReading.{cond_at}
 use Rattle.cob_parse_expr.proofs.ExprAgree.{expr_wider}
 use Rattle.cob_parse_expr.proofs.CondAgree.{cond_wider}
-use Rattle.cob_parse_verb.specs.declared.word.Word.TheVariants as word
+use Rattle.cob_parse_verb.specs.Words as word
 use Rattle.cob_parse_verb.specs.declared.word.Start.{Start}
 use Rattle.cob_parse_verb.specs.declared.word.Start.TheVariants as start
 use Rattle.cob_parse_verb.specs.Words.{the, equal_of, place_of, begin_of}

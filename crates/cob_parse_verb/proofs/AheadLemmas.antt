@@ -10,16 +10,17 @@ use Rattle.cob_tree.specs.Takes.{begins_opnd, begins_loop}
 use Rattle.reading.specs.Readers.{stands}
 use Rattle.reading.specs.Printing.{begins, on_mark, ahead, peek_on}
 use Rattle.cob_parse_expr.specs.Alphabet.{key_front, symbol_front, grammar}
-use Rattle.cob_parse_expr.specs.Classes.{name_symbol, name_of, const_as, const_of, word_symbol, of_key, of_of}
+use Rattle.cob_lexemes.specs.Classes.{name_symbol, word_symbol}
+use Rattle.cob_parse_expr.specs.Classes.{name_of, const_as, const_of, of_key, of_of}
 use Rattle.cob_parse_expr.proofs.CueLemmas.{not_cues}
 use Rattle.cob_parse_expr.proofs.ClassLaws.{told}
-use Rattle.cob_parse_verb.specs.declared.word.Word.TheVariants as word
+use Rattle.cob_parse_verb.specs.Words as word
 use Rattle.cob_parse_verb.specs.Procedure.{word_front, token_front, procedure}
 use Rattle.cob_parse_verb.specs.Turning.{follows_name}
 use Rattle.cob_parse_verb.specs.VerbSteps.{loop_stands}
 use Rattle.cob_parse_verb.specs.Words.{the_key, the, mode_key, mode_of}
 use Rattle.cob_parse_verb.proofs.ListLaws.{name_told}
-use Rattle.cob_parse_verb.proofs.WordNext.{told_stands, told_giving, told_thru, told_when}
+use Rattle.cob_parse_verb.proofs.WordNext.{told_stands, own_cue_tells}
 
 -- ---- one class
 
@@ -36,13 +37,13 @@ modes_ahead (t ∷ ts) = told Modes mode_key same refl refl refl refl refl refl 
     same _ = refl
 
 pub givings_ahead : (ts : List Sign) → begins grammar (is Givings) ts ≡ stands (the word.Giving) ts
-givings_ahead = told_stands Givings word.Giving told_giving
+givings_ahead = told_stands Givings word.Giving (own_cue_tells word.Giving)
 
 pub thrus_ahead : (ts : List Sign) → begins grammar (is Throughs) ts ≡ stands (the word.Thru) ts
-thrus_ahead = told_stands Throughs word.Thru told_thru
+thrus_ahead = told_stands Throughs word.Thru (own_cue_tells word.Thru)
 
 pub whens_ahead : (ts : List Sign) → begins grammar (is Whens) ts ≡ stands (the word.When) ts
-whens_ahead = told_stands Whens word.When told_when
+whens_ahead = told_stands Whens word.When (own_cue_tells word.When)
 
 -- ---- several
 

@@ -27,7 +27,7 @@ use Rattle.reading.proofs.Maybe.{maybe_syntax, maybe_tail}
 use Rattle.reading.proofs.Opt.{phrase_syntax, phrase_law}
 use Rattle.reading.proofs.Choose.{choose_syntax, choose_law}
 use Rattle.cob_parse_expr.specs.Alphabet.{grammar}
-use Rattle.cob_parse_expr.specs.Classes.{word_symbol}
+use Rattle.cob_lexemes.specs.Classes.{word_symbol}
 use Rattle.cob_parse_expr.specs.Parsing.{cond_syntax}
 use Rattle.cob_parse_expr.specs.CondReading.{cond_at}
 use Rattle.cob_parse_expr.proofs.CueLemmas.{only}
@@ -36,7 +36,7 @@ use Rattle.cob_parse_expr.proofs.OperandLaws.{ref_syntax, ref_law, opnd_syntax, 
 use Rattle.cob_parse_expr.proofs.ExprLaws.{some_expr, expr_never}
 use Rattle.cob_parse_expr.proofs.CondLaws.{cond_never}
 use Rattle.cob_parse_expr.proofs.ParenLaws.{law_of_conditions}
-use Rattle.cob_parse_verb.specs.declared.word.Word.TheVariants as word
+use Rattle.cob_parse_verb.specs.Words as word
 use Rattle.cob_parse_verb.specs.declared.word.Start.{Start}
 use Rattle.cob_parse_verb.specs.declared.word.Start.TheVariants as start
 use Rattle.cob_parse_verb.specs.Words.{the_key, the}
@@ -46,7 +46,7 @@ use Rattle.cob_parse_verb.specs.Lists.{refs_at}
 use Rattle.cob_parse_verb.specs.Syntaxes.{head_syntax}
 use Rattle.cob_parse_verb.specs.Reading.{make_move, move_at, make_set, set_at, make_display, make_go, make_exit, make_continue, make_stop, make_open, make_close, make_write, written_at, write_at, if_at, make_subject, evaluate_at, make_read, read_at, behind_at, head_at}
 use Rattle.cob_parse_verb.proofs.WordLaws.{the_word, begins_}
-use Rattle.cob_parse_verb.proofs.WordNext.{word_is, behind_syntax, behind_law, behind_next, word_opening, told_stands, told_into, told_from, told_end_write}
+use Rattle.cob_parse_verb.proofs.WordNext.{word_is, behind_syntax, behind_law, behind_next, word_opening, told_stands, own_cue_tells}
 use Rattle.cob_parse_verb.proofs.Across.{class_across, law_across}
 use Rattle.cob_parse_verb.proofs.ListLaws.{same_trees, opnd_never, name_syntax, name_law, names_syntax, names_law, refs_syntax, refs_law, opnds_syntax, opnds_law, files_syntax, files_law, tag_if}
 use Rattle.cob_parse_verb.proofs.TargetLaws.{opnds_never, recvs_never}
@@ -429,10 +429,10 @@ module _ (d top : ℕ) (low : d < top) (room : ℕ) (e : top ≡ suc (d + room))
   set_law = seen_law (law_across (seq_law (name_law d top low) (λ x p g. refl) (seq_law (lead_law (the_word word.To d) top (λ x a. low) tt tt) (λ x p g. refl) (lead_law (the_word word.True d) top (λ x a. low) tt tt))) (λ x g. refl)) (set_view d)
 
   written_law : Law grammar written_at (written_syntax d) top
-  written_law = phrase_law (ref_law d top low) (opnd_law d top low) (word_opening Froms word.From told_from d) (low, tt) Froms (λ x p g h. ap takes_ref (only Froms p h))
+  written_law = phrase_law (ref_law d top low) (opnd_law d top low) (word_opening Froms word.From (own_cue_tells word.From) d) (low, tt) Froms (λ x p g h. ap takes_ref (only Froms p h))
 
   write_law : Law procedure write_at (behind_word_syntax start.Write d) top
-  write_law = seen_law (law_across (tail_law written_law EndWrite (λ x p g h. ap ((written_syntax d).takes x) (only EndWrite p h)) (λ x. maybe_tail (the_word word.EndWrite d) top (λ y a. low) tt tt (is EndWrite) (told_stands EndWrite word.EndWrite told_end_write))) (λ x g. write_never d x)) (write_view d)
+  write_law = seen_law (law_across (tail_law written_law EndWrite (λ x p g h. ap ((written_syntax d).takes x) (only EndWrite p h)) (λ x. maybe_tail (the_word word.EndWrite d) top (λ y a. low) tt tt (is EndWrite) (told_stands EndWrite word.EndWrite (own_cue_tells word.EndWrite)))) (λ x g. write_never d x)) (write_view d)
 
   evaluate_law : Law procedure evaluate_at (behind_word_syntax start.Evaluate d) top
   evaluate_law = seen_law (law_across (choose_law (lead_law (the_word word.True d) top (λ x a. low) tt tt) (ref_law d top low) (tells_by_one (λ t y z. refl) first second_)) (λ x g. subject_never d x)) (evaluate_view d)
@@ -446,7 +446,7 @@ module _ (d top : ℕ) (low : d < top) (room : ℕ) (e : top ≡ suc (d + room))
       second_ r (t ∷ text) rest g m = ap (λ (y : Symbol). is_some (word_symbol (the_key word.True) y)) m.0.symbol
 
   read_law : Law procedure read_at (behind_word_syntax start.Read d) top
-  read_law = seen_law (law_across (phrase_law (name_law d top low) (ref_law d top low) (word_opening Intos word.Into told_into d) (low, tt) Intos (λ x p g h. refl)) (λ x g. read_never d x)) (read_view d)
+  read_law = seen_law (law_across (phrase_law (name_law d top low) (ref_law d top low) (word_opening Intos word.Into (own_cue_tells word.Into) d) (low, tt) Intos (λ x p g h. refl)) (λ x g. read_never d x)) (read_view d)
 
   if_law : Law procedure (if_at room) (behind_word_syntax start.If d) top
   if_law = seen_law (law_across conditions (λ c g. cond_never Loops refl refl refl refl refl refl c)) (if_view d (some_tree conditions).0)

@@ -20,7 +20,7 @@ use Rattle.cob_tree.specs.Takes.{takes_ref, takes_opnd, takes_recv, begins_opnd,
 use Rattle.cob_tree.specs.Shaped.{IsNotEmpty}
 use Rattle.reading.specs.Readers.{Fault, ◌>>=◌, Reader, lead}
 use Rattle.reading.specs.Printing.{Alphabet, on_mark, peek_on}
-use Rattle.reading.specs.Law.{Syntax, Law}
+use Rattle.reading.specs.Law.{Syntax, Law, onward}
 use Rattle.reading.proofs.Texts.{Always}
 use Rattle.reading.proofs.Consequences.{some_tree}
 use Rattle.reading.proofs.Turns.{law_along}
@@ -28,22 +28,23 @@ use Rattle.reading.proofs.Lead.{lead_syntax, lead_law, branch_law}
 use Rattle.reading.proofs.Seen.{View, seen_law}
 use Rattle.reading.proofs.Starts.{Begins, Starts, OneToken, starts_by_one}
 use Rattle.reading.proofs.Grows.{Grows, samples_one, grows_seen, grows_plus}
-use Rattle.reading.proofs.Tail.{apart, onward, tail_syntax, tail_law}
+use Rattle.reading.proofs.Tail.{apart, tail_syntax, tail_law}
 use Rattle.reading.proofs.Many.{is_given, many_syntax}
 use Rattle.reading.proofs.Maybe.{maybe_syntax, maybe_tail}
 use Rattle.reading.proofs.Plus.{plus_syntax, plus_law}
 use Rattle.cob_parse_expr.specs.Alphabet.{key_front, symbol_front, grammar}
-use Rattle.cob_parse_expr.specs.Classes.{name_symbol, name_of}
+use Rattle.cob_lexemes.specs.Classes.{name_symbol}
+use Rattle.cob_parse_expr.specs.Classes.{name_of}
 use Rattle.cob_parse_expr.specs.Reading.{here, ref_at, opnd_at}
 use Rattle.cob_parse_expr.proofs.CueLemmas.{only, not_cues, not_taken}
 use Rattle.cob_parse_expr.proofs.ClassLaws.{names, told}
 use Rattle.cob_parse_expr.proofs.OperandLaws.{ref_syntax, ref_law, opnd_syntax, opnd_law}
-use Rattle.cob_parse_verb.specs.declared.word.Word.TheVariants as word
+use Rattle.cob_parse_verb.specs.Words as word
 use Rattle.cob_parse_verb.specs.Words.{mode_key, mode_of}
 use Rattle.cob_parse_verb.specs.Listed.{takes_listed}
 use Rattle.cob_parse_verb.specs.Lists.{cons, some_at, names_at, refs_at, opnds_at, make_recv, recv_at, recvs_at, opens_at, files_at}
 use Rattle.cob_parse_verb.proofs.WordLaws.{the_word, modes}
-use Rattle.cob_parse_verb.proofs.WordNext.{told_stands, told_rounded}
+use Rattle.cob_parse_verb.proofs.WordNext.{told_stands, own_cue_tells}
 
 -- ---- any list
 
@@ -260,7 +261,7 @@ module _ (d top : ℕ) (low : d < top) where
       takes x (y ∷ xs) p = takes y xs p
 
   pub recv_law : Law grammar recv_at (recv_syntax d) top
-  recv_law = seen_law (tail_law (ref_law d top low) Rounds (λ x p g e. ap takes_ref (only Rounds p e)) (λ x. maybe_tail (the_word word.Rounded d) top (λ y a. low) tt tt (is Rounds) (told_stands Rounds word.Rounded told_rounded)))
+  recv_law = seen_law (tail_law (ref_law d top low) Rounds (λ x p g e. ap takes_ref (only Rounds p e)) (λ x. maybe_tail (the_word word.Rounded d) top (λ y a. low) tt tt (is Rounds) (told_stands Rounds word.Rounded (own_cue_tells word.Rounded))))
       (record { back = back; print = print; takes = takes; good = λ x g. tt; good_back = good_back })
     where
       back : (r : Recv) → Always r → make_recv (recv_parts r) ≡ r

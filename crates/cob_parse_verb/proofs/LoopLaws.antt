@@ -39,7 +39,7 @@ use Rattle.cob_parse_expr.proofs.Generic.{tells_by_one}
 use Rattle.cob_parse_expr.proofs.OperandLaws.{ref_law, opnd_syntax, opnd_law}
 use Rattle.cob_parse_expr.proofs.CondLaws.{cond_never}
 use Rattle.cob_parse_expr.proofs.ParenLaws.{law_of_conditions}
-use Rattle.cob_parse_verb.specs.declared.word.Word.TheVariants as word
+use Rattle.cob_parse_verb.specs.Words as word
 use Rattle.cob_parse_verb.specs.Words.{the}
 use Rattle.cob_parse_verb.specs.Turning.{times_at, varying_at, until_at, make_varied, varied_at, make_tested, tested_at, make_loop, loop_at}
 use Rattle.cob_parse_verb.proofs.WordLaws.{the_word, places}

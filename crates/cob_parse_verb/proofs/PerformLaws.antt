@@ -27,14 +27,15 @@ use Rattle.reading.proofs.Many.{many_syntax, many_law}
 use Rattle.reading.proofs.Opt.{opener_here, phrase_syntax, plain_law}
 use Rattle.reading.proofs.Choose.{choose_syntax, choose_law}
 use Rattle.cob_parse_expr.specs.Alphabet.{grammar}
-use Rattle.cob_parse_expr.specs.Classes.{name_symbol, name_of, const_as, const_of, word_symbol, of_key}
+use Rattle.cob_lexemes.specs.Classes.{name_symbol, word_symbol}
+use Rattle.cob_parse_expr.specs.Classes.{name_of, const_as, const_of, of_key}
 use Rattle.cob_parse_expr.specs.Reading.{second, qualifiers_at}
 use Rattle.cob_parse_expr.proofs.CueLemmas.{not_taken}
 use Rattle.cob_parse_expr.proofs.ClassLaws.{ofs, names, consts, of_told}
 use Rattle.cob_parse_expr.proofs.Generic.{tells_by_one, all_good}
 use Rattle.cob_parse_expr.proofs.OperandLaws.{const_syntax, const_law}
 use Rattle.cob_parse_verb.specs.Procedure.{procedure, token_front}
-use Rattle.cob_parse_verb.specs.declared.word.Word.TheVariants as word
+use Rattle.cob_parse_verb.specs.Words as word
 use Rattle.cob_parse_verb.specs.declared.word.Start.{Start}
 use Rattle.cob_parse_verb.specs.declared.word.Start.TheVariants as start
 use Rattle.cob_parse_verb.specs.Words.{the_key, the}

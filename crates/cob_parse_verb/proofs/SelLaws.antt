@@ -27,7 +27,7 @@ use Rattle.reading.proofs.Grows.{Grows, samples_one, grows_one, grows_nothing, g
 use Rattle.reading.proofs.Opt.{opt_syntax, opt_law}
 use Rattle.reading.proofs.Choose.{choose_syntax, choose_law}
 use Rattle.cob_parse_expr.specs.Alphabet.{grammar}
-use Rattle.cob_parse_expr.specs.Classes.{word_symbol}
+use Rattle.cob_lexemes.specs.Classes.{word_symbol}
 use Rattle.cob_parse_expr.specs.Reading.{second, expr_at}
 use Rattle.cob_parse_expr.specs.Parsing.{expr_syntax, cond_syntax}
 use Rattle.cob_parse_expr.proofs.CueLemmas.{only, not_taken}
@@ -35,14 +35,14 @@ use Rattle.cob_parse_expr.proofs.Generic.{tells_by_one}
 use Rattle.cob_parse_expr.proofs.ExprLaws.{law, expr_never}
 use Rattle.cob_parse_expr.proofs.CondLaws.{alone_cond, alone_is, cond_never}
 use Rattle.cob_parse_expr.proofs.ParenLaws.{law_of_conditions}
-use Rattle.cob_parse_verb.specs.declared.word.Word.TheVariants as word
+use Rattle.cob_parse_verb.specs.Words as word
 use Rattle.cob_parse_verb.specs.Words.{the_key, the}
 use Rattle.cob_parse_verb.specs.Procedure.{procedure}
 use Rattle.cob_parse_verb.specs.Listed.{takes_listed}
 use Rattle.cob_parse_verb.specs.Syntaxes.{choices_syntax}
 use Rattle.cob_parse_verb.specs.Turning.{is_alone, ranged_sel, make_sel, sel_at, choice_at, choices_at}
 use Rattle.cob_parse_verb.proofs.WordLaws.{the_word}
-use Rattle.cob_parse_verb.proofs.WordNext.{word_is, behind_syntax, behind_law, behind_starts, told_thru, told_when}
+use Rattle.cob_parse_verb.proofs.WordNext.{word_is, behind_syntax, behind_law, behind_starts, own_cue_tells}
 use Rattle.cob_parse_verb.proofs.Across.{law_across}
 use Rattle.cob_parse_verb.proofs.ListLaws.{some_law, some_grows}
 
@@ -188,7 +188,7 @@ choice_view d = record { back = λ s g. refl; print = λ x g. refl; takes = λ x
 module _ (d top : ℕ) (low : d < top) (room : ℕ) (e : top ≡ suc (d + room)) where
   pub sel_law : Law grammar (sel_at room) (sel_syntax d) top
   sel_law = seen_law (choose_law (lead_law (the_word word.Any d) top (λ x a. low) tt tt)
-      (opt_law (law_of_conditions room d top e) (behind_law d word.Thru (expr_syntax d) low (law room d top e)) is_alone (is Throughs) Throughs (λ c p g h. ap (takes_cond c) (only Throughs p h)) (behind_starts d word.Thru (expr_syntax d) (expr_at room) Throughs told_thru refl refl refl refl))
+      (opt_law (law_of_conditions room d top e) (behind_law d word.Thru (expr_syntax d) low (law room d top e)) is_alone (is Throughs) Throughs (λ c p g h. ap (takes_cond c) (only Throughs p h)) (behind_starts d word.Thru (expr_syntax d) (expr_at room) Throughs (own_cue_tells word.Thru) refl refl refl refl))
       (tells_by_one (λ t y z. refl) first second_)) (sel_view d)
     where
       first : (x : Unit {0}) (text rest : List Sign) → Always x → Matches grammar (item d (Key key.Any) ∷ []) text → stands (the word.Any) (text ++ rest) ≡ true
@@ -206,7 +206,7 @@ module _ (d top : ℕ) (low : d < top) (room : ℕ) (e : top ≡ suc (d + room))
     where
       begin : Begins grammar (is cue.Whens) (choice_syntax d)
       begin s [] rest g m = absurd m
-      begin s (t ∷ text) rest g m = told_when t (text ++ rest) ∙ word_is word.When word.When t m.0.symbol
+      begin s (t ∷ text) rest g m = (own_cue_tells word.When) t (text ++ rest) ∙ word_is word.When word.When t m.0.symbol
 
       starts : Starts grammar (is cue.Whens) (choice_at room) (choice_syntax d)
       starts = starts_by_one grammar (is cue.Whens) begin (not_taken (is cue.Whens) refl refl refl refl)
@@ -217,7 +217,7 @@ module _ (d top : ℕ) (low : d < top) (room : ℕ) (e : top ≡ suc (d + room))
     where
       begin : Begins grammar (is cue.Whens) (choice_syntax d)
       begin s [] rest g m = absurd m
-      begin s (t ∷ text) rest g m = told_when t (text ++ rest) ∙ word_is word.When word.When t m.0.symbol
+      begin s (t ∷ text) rest g m = (own_cue_tells word.When) t (text ++ rest) ∙ word_is word.When word.When t m.0.symbol
 
       when_one : OneToken grammar (is cue.Whens)
       when_one = not_taken (is cue.Whens) refl refl refl refl

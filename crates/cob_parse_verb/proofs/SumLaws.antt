@@ -29,7 +29,7 @@ use Rattle.cob_parse_expr.proofs.CueLemmas.{not_taken}
 use Rattle.cob_parse_expr.proofs.Generic.{tells_by_one}
 use Rattle.cob_parse_expr.proofs.OperandLaws.{opnd_syntax, opnd_law}
 use Rattle.cob_parse_expr.proofs.ExprLaws.{law, some_expr}
-use Rattle.cob_parse_verb.specs.declared.word.Word.TheVariants as word
+use Rattle.cob_parse_verb.specs.Words as word
 use Rattle.cob_parse_verb.specs.declared.word.Start.{Start}
 use Rattle.cob_parse_verb.specs.declared.word.Start.TheVariants as start
 use Rattle.cob_parse_verb.specs.Words.{the, equal_of}

@@ -25,13 +25,14 @@ use Rattle.reading.proofs.Seen.{View, seen_law}
 use Rattle.reading.proofs.Opt.{opt_syntax, opt_law, phrase_syntax, phrase_law}
 use Rattle.reading.proofs.Choose.{choose_syntax, choose_law}
 use Rattle.cob_parse_expr.specs.Alphabet.{grammar}
-use Rattle.cob_parse_expr.specs.Classes.{name_symbol, name_of}
+use Rattle.cob_lexemes.specs.Classes.{name_symbol}
+use Rattle.cob_parse_expr.specs.Classes.{name_of}
 use Rattle.cob_parse_expr.proofs.CueLemmas.{only}
 use Rattle.cob_parse_expr.proofs.Generic.{tells_by_one}
 use Rattle.cob_parse_expr.proofs.OperandLaws.{ref_syntax, ref_law, const_syntax, const_law}
-use Rattle.cob_parse_verb.specs.declared.word.Word.TheVariants as word
+use Rattle.cob_parse_verb.specs.Words as word
 use Rattle.cob_parse_verb.specs.Targets.{Target, receivers, giving, may_give, make_target, giving_at, target_at, given_at}
-use Rattle.cob_parse_verb.proofs.WordNext.{behind_syntax, behind_law, behind_starts, word_opening, told_giving, told_remainder}
+use Rattle.cob_parse_verb.proofs.WordNext.{behind_syntax, behind_law, behind_starts, word_opening, own_cue_tells}
 use Rattle.cob_parse_verb.proofs.ListLaws.{opnd_never, recvs_syntax, recvs_law, same_trees}
 
 -- ---- what lists never take
@@ -125,7 +126,7 @@ module _ {B : Type 0} (d : ℕ) (b : Syntax Item Cue B) where
   no_name const.LowValue = refl
 
   pub target_law : {r : Reader Sign B} {top : ℕ} → d < top → Law grammar r b top → Law grammar (target_at r) target_syntax top
-  target_law {r} {top} low L = seen_law (choose_law (opt_law (recvs_law d top low) after may_give (is Givings) Givings (λ x p g e. ap (takes_recvs x) (only Givings p e)) (behind_starts d word.Giving b r Givings told_giving refl refl refl refl))
+  target_law {r} {top} low L = seen_law (choose_law (opt_law (recvs_law d top low) after may_give (is Givings) Givings (λ x p g e. ap (takes_recvs x) (only Givings p e)) (behind_starts d word.Giving b r Givings (own_cue_tells word.Giving) refl refl refl refl))
       (seq_law (const_law d top low) (λ x p g. refl) after) (tells_by_one (λ t y z. refl) first second_)) view
     where
       after : Law grammar (giving_at r) (behind_syntax d word.Giving b) top
@@ -149,7 +150,7 @@ abbrev phrased : ℕ → Syntax Item Cue (List Recv × Option Ref)
 phrased d = phrase_syntax (recvs_syntax d) (is Remainders) Remainders (item d (Key key.Remainder) ∷ []) (ref_syntax d)
 
 pub given_law : (d top : ℕ) → d < top → Law grammar given_at (given_syntax d) top
-given_law d top low = same_trees (phrase_law (recvs_law d top low) (ref_law d top low) (word_opening Remainders word.Remainder told_remainder d) (low, tt) Remainders (λ x p g e. ap (takes_recvs x) (only Remainders p e)))
+given_law d top low = same_trees (phrase_law (recvs_law d top low) (ref_law d top low) (word_opening Remainders word.Remainder (own_cue_tells word.Remainder) d) (low, tt) Remainders (λ x p g e. ap (takes_recvs x) (only Remainders p e)))
     (record { back = λ x g. refl; print = print; takes = takes; good = λ x g. g.0; good_back = good_back })
   where
     print : (x : List Recv × Option Ref) → (phrased d).Good x → (given_syntax d).print x ≡ (phrased d).print x

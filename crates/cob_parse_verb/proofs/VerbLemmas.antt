@@ -18,12 +18,12 @@ use Rattle.cob_parse_expr.specs.Alphabet.{grammar}
 use Rattle.cob_parse_expr.specs.Classes.{name_of, const_of}
 use Rattle.cob_parse_expr.specs.Reading.{qualifiers_at, opnd_at, expr_at}
 use Rattle.cob_parse_expr.specs.CondReading.{cond_at}
-use Rattle.cob_parse_expr.specs.declared.halt.Halt.{Halt}
-use Rattle.cob_parse_expr.specs.Steps.{Leads, Lacks, Fails}
-use Rattle.cob_parse_expr.proofs.StepLemmas.{fails_first, fails_second}
+use Rattle.cob_lexemes.specs.declared.halt.Halt.{Halt}
+use Rattle.cob_lexemes.specs.Steps.{Leads, Lacks, Fails}
+use Rattle.cob_lexemes.proofs.StepLemmas.{fails_first, fails_second}
 use Rattle.cob_parse_expr.proofs.CondLemmas.{no_not}
 use Rattle.reading.proofs.Results.{ok_is}
-use Rattle.cob_parse_verb.specs.declared.word.Word.TheVariants as word
+use Rattle.cob_parse_verb.specs.Words as word
 use Rattle.cob_parse_verb.specs.Heads.{Arithmetic, add_to, add_giving, subtract_from, subtract_giving, multiply_by, multiply_giving, divide_into, divide_giving, compute, takes_arithmetic, done, takes_behind}
 use Rattle.cob_parse_verb.specs.Listed.{takes_listed}
 use Rattle.cob_parse_verb.specs.Lists.{recvs_at}
@@ -35,7 +35,7 @@ use Rattle.cob_parse_verb.specs.Turning.{turns, follows_name, through_at, Ranged
 use Rattle.cob_parse_verb.specs.VerbSteps.{Aim, all_of, one_of, aim_at, make_ranged, counted_at, sel_behind}
 use Rattle.cob_parse_verb.specs.Words.{the}
 use Rattle.cob_parse_verb.proofs.TargetLaws.{opnds_never, recvs_never}
-use Rattle.cob_parse_verb.proofs.WordNext.{told_thru}
+use Rattle.cob_parse_verb.proofs.WordNext.{own_cue_tells}
 
 -- ---- a token that may stand
 
@@ -226,13 +226,13 @@ sel_on_cond room ts [] c l e = go (one_alone c) refl
 sel_on_cond room ts (u ∷ us) c l e = go (the word.Thru u) (one_alone c) refl refl
   where
     high : (low : Expr) (x : Unit {0}) (read : Result (Expr × List Sign) Fault) → the word.Thru u ≡ Some x → one_alone c ≡ Some low → expr_at room us ≡ read → sel_at room ts ≡ sel_behind room c (u ∷ us)
-    high low x (Err f) ew eo ee = rw (l.stands, e, told_thru u us, ew, eo) (rw (ew, ee) refl)
-    high low x (Ok y) ew eo ee = rw (l.stands, e, told_thru u us, ew, eo) (rw (ew, ee, eo) refl)
+    high low x (Err f) ew eo ee = rw (l.stands, e, (own_cue_tells word.Thru) u us, ew, eo) (rw (ew, ee) refl)
+    high low x (Ok y) ew eo ee = rw (l.stands, e, (own_cue_tells word.Thru) u us, ew, eo) (rw (ew, ee, eo) refl)
 
     go : (w : Option (Unit {0})) (o : Option Expr) → the word.Thru u ≡ w → one_alone c ≡ o → sel_at room ts ≡ sel_behind room c (u ∷ us)
-    go None None ew eo = rw (l.stands, e, told_thru u us, ew, eo) refl
-    go None (Some low) ew eo = rw (l.stands, e, told_thru u us, ew, eo) refl
-    go (Some x) None ew eo = rw (l.stands, e, told_thru u us, ew, eo) refl
+    go None None ew eo = rw (l.stands, e, (own_cue_tells word.Thru) u us, ew, eo) refl
+    go None (Some low) ew eo = rw (l.stands, e, (own_cue_tells word.Thru) u us, ew, eo) refl
+    go (Some x) None ew eo = rw (l.stands, e, (own_cue_tells word.Thru) u us, ew, eo) refl
     go (Some x) (Some low) ew eo = high low x (expr_at room us) ew eo refl
 
 behind_thru : (room : ℕ) (ts rest : List Sign) (c : Cond) (low : Expr) → Leads (the word.Thru) tt ts rest → one_alone c ≡ Some low → sel_behind room c ts ≡ (expr_at room rest >>= λ x. Ok (range low x.0, x.1))

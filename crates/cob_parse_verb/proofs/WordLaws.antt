@@ -1,6 +1,5 @@
 -- The classes of the words.
-use Rattle.std.proofs.Common.{◌≡◌, ℕ, if◌then◌else◌, Bool, true, false, List, [], ◌∷◌, Option, Some, None, refl, sym, ap, subst, ◌∙◌, get_or}
-use Rattle.std.proofs.lemmas.Bool.{eqb-true}
+use Rattle.std.proofs.Common.{◌≡◌, ℕ, Option, Some, None, refl, ap, subst, ◌∙◌}
 use Rattle.cob_tree.specs.declared.keyword.Keyword.{Keyword}
 use Rattle.cob_tree.specs.declared.keyword.Keyword.TheVariants as key
 use Rattle.cob_tree.specs.declared.token.Rel.{Rel}
@@ -18,76 +17,21 @@ use Rattle.reading.proofs.Lead.{Class}
 use Rattle.reading.specs.Printing.{Here}
 use Rattle.cob_tree.specs.Cues.{key_cue}
 use Rattle.cob_parse_expr.specs.Alphabet.{key_front, grammar}
-use Rattle.cob_parse_expr.specs.Classes.{word_symbol}
-use Rattle.cob_parse_verb.specs.declared.word.Word.{Word}
-use Rattle.cob_parse_verb.specs.declared.word.Word.TheVariants as word
+use Rattle.cob_lexemes.specs.Classes.{word_symbol}
+use Rattle.cob_parse_verb.specs.Words as word
 use Rattle.cob_parse_verb.specs.declared.word.Start.{Start}
 use Rattle.cob_parse_verb.specs.declared.word.Start.TheVariants as start
 use Rattle.cob_parse_verb.specs.declared.word.Begin.{Begin}
-use Rattle.cob_parse_verb.specs.Words.{key_of, word_key, number, same, if_same, the_key, the, mode_key, mode_of, place_key, place_of, equal_rel, equal_symbol, equal_of, start_word, start_key, begin_on, begin_of}
+use Rattle.cob_lexemes.proofs.WordLemmas.{own_key, only_the}
+use Rattle.cob_parse_verb.specs.Words.{Word, key_of, the_key, the, mode_key, mode_of, place_key, place_of, equal_rel, equal_symbol, equal_of, start_word, start_key, begin_on, begin_of}
 
 -- ---- one word
 
-words : List Word
-words = word.To ∷ word.Giving ∷ word.From ∷ word.By ∷ word.Into ∷ word.Remainder ∷ word.Rounded ∷ word.True ∷ word.Run ∷ word.Input ∷ word.Output ∷ word.EndWrite ∷ word.Thru ∷ word.Times ∷ word.Test ∷ word.Before ∷ word.After ∷ word.Varying ∷ word.Until ∷ word.Any ∷ word.When ∷ []
-
-numbered : (w : Word) → get_or words (number w) word.To ≡ w
-unfolding words
-numbered word.To = refl
-numbered _ = refl
-
-pub same_is : (a b : Word) → same a b ≡ true → b ≡ a
-same_is a b e = sym (numbered b) ∙ ap (λ (n : ℕ). get_or words n word.To) (sym (eqb-true (number a) (number b) e)) ∙ numbered a
-
-abbrev spelled_so : Keyword → Option Word → Type 0
-spelled_so k None = Unit {0}
-spelled_so k (Some w) = k ≡ key_of w
-
-spelled : (k : Keyword) → spelled_so k (word_key k)
-spelled key.To = refl
-spelled key.Giving = refl
-spelled key.From = refl
-spelled key.By = refl
-spelled key.Into = refl
-spelled key.Remainder = refl
-spelled key.Rounded = refl
-spelled key.True = refl
-spelled key.Run = refl
-spelled key.Input = refl
-spelled key.Output = refl
-spelled key.EndWrite = refl
-spelled key.Thru = refl
-spelled key.Times = refl
-spelled key.Test = refl
-spelled key.Before = refl
-spelled key.After = refl
-spelled key.Varying = refl
-spelled key.Until = refl
-spelled key.Any = refl
-spelled key.When = refl
-spelled _ = tt
-
-pub only_key : (k : Keyword) (w : Word) → word_key k ≡ Some w → k ≡ key_of w
-only_key k w e = subst (spelled_so k) e (spelled k)
-
-pub own_key : (w : Word) → word_key (key_of w) ≡ Some w
-own_key word.To = refl
-own_key _ = refl
-
 own : (w : Word) → the_key w (key_of w) ≡ Some tt
-own word.To = refl
-own _ = refl
+own w = own_key (key_of w)
 
 the_only : (w : Word) (k : Keyword) (x : Unit {0}) → the_key w k ≡ Some x → k ≡ key_of w
-the_only w k x e = go (word_key k) refl e
-  where
-    on_same : (v : Word) (c : Bool) → word_key k ≡ Some v → same w v ≡ c → (if c then Some tt else None) ≡ Some x → k ≡ key_of w
-    on_same v true eo ec e0 = only_key k v eo ∙ ap key_of (same_is w v ec)
-    on_same v false eo ec e0 = absurd cc
-
-    go : (o : Option Word) → word_key k ≡ o → if_same w o ≡ Some x → k ≡ key_of w
-    go None eo e0 = absurd cc
-    go (Some v) eo e0 = on_same v (same w v) eo refl e0
+the_only w k x e = only_the (key_of w) k x e
 
 -- a class of words is one of symbols
 module _ {K : Type 0} (class : Keyword → Option K) (print : K → Keyword) (reads : (x : K) → class (print x) ≡ Some x) (only : (k : Keyword) (x : K) → class k ≡ Some x → k ≡ print x) where

@@ -14,13 +14,12 @@ use Rattle.reading.proofs.Lead.{lead_syntax, branch_law}
 use Rattle.reading.proofs.Starts.{Begins, Starts, starts_by_one}
 use Rattle.reading.proofs.Opt.{Opening, one_opening}
 use Rattle.cob_parse_expr.specs.Alphabet.{symbol_front, grammar}
-use Rattle.cob_parse_expr.specs.Classes.{word_symbol}
+use Rattle.cob_lexemes.specs.Classes.{word_symbol}
 use Rattle.cob_parse_expr.specs.Reading.{here}
 use Rattle.cob_parse_expr.proofs.CueLemmas.{not_taken}
 use Rattle.cob_parse_expr.proofs.ClassLaws.{told}
-use Rattle.cob_parse_verb.specs.declared.word.Word.{Word}
-use Rattle.cob_parse_verb.specs.declared.word.Word.TheVariants as word
-use Rattle.cob_parse_verb.specs.Words.{key_of, the_key, the}
+use Rattle.cob_parse_verb.specs.Words as word
+use Rattle.cob_parse_verb.specs.Words.{Word, key_of, the_key, the}
 use Rattle.cob_parse_verb.proofs.WordLaws.{the_word, front_word}
 
 -- a word that isn't taken ends what stands before
@@ -73,60 +72,55 @@ module _ (c : Cue) (w : Word) (tells : (t : Sign) (ts : List Sign) → here c (t
   pub word_opening : (d : ℕ) → Opening grammar (is c) (item d (Key (key_of w)) ∷ []) (behind (the w))
   word_opening d = one_opening (the_word w d) (λ x y. refl) tt (is c) told_behind
 
--- ---- the cues of some words
+-- ---- words with a cue of their own
 
-pub told_giving : (t : Sign) (ts : List Sign) → here Givings (t ∷ ts) ≡ is_some (the word.Giving t)
-told_giving = told Givings (the_key word.Giving) same refl refl refl refl refl refl refl refl refl refl
-  where
-    same : (k : Keyword) → on_mark grammar (is Givings) (key_cue k) ≡ is_some (the_key word.Giving k)
-    same key.Giving = refl
-    same _ = refl
+-- the cue of a word that is told by one that no other word has
+abbrev pub own_cue : Word → Option Cue
+own_cue word.Giving = Some Givings
+own_cue word.Remainder = Some Remainders
+own_cue word.Rounded = Some Rounds
+own_cue word.Into = Some Intos
+own_cue word.From = Some Froms
+own_cue word.Thru = Some Throughs
+own_cue word.When = Some Whens
+own_cue word.EndWrite = Some EndWrite
+own_cue _ = None
 
-pub told_remainder : (t : Sign) (ts : List Sign) → here Remainders (t ∷ ts) ≡ is_some (the word.Remainder t)
-told_remainder = told Remainders (the_key word.Remainder) same refl refl refl refl refl refl refl refl refl refl
-  where
-    same : (k : Keyword) → on_mark grammar (is Remainders) (key_cue k) ≡ is_some (the_key word.Remainder k)
-    same key.Remainder = refl
-    same _ = refl
+abbrev AtKey : Word → Keyword → Option Cue → Type 0
+AtKey w k None = Unit {0}
+AtKey w k (Some c) = on_mark grammar (is c) (key_cue k) ≡ is_some (the_key w k)
 
-pub told_rounded : (t : Sign) (ts : List Sign) → here Rounds (t ∷ ts) ≡ is_some (the word.Rounded t)
-told_rounded = told Rounds (the_key word.Rounded) same refl refl refl refl refl refl refl refl refl refl
-  where
-    same : (k : Keyword) → on_mark grammar (is Rounds) (key_cue k) ≡ is_some (the_key word.Rounded k)
-    same key.Rounded = refl
-    same _ = refl
+at_key : (w : Word) (k : Keyword) → AtKey w k (own_cue w)
+at_key word.Giving key.Giving = refl
+at_key word.Giving _ = refl
+at_key word.Remainder key.Remainder = refl
+at_key word.Remainder _ = refl
+at_key word.Rounded key.Rounded = refl
+at_key word.Rounded _ = refl
+at_key word.Into key.Into = refl
+at_key word.Into _ = refl
+at_key word.From key.From = refl
+at_key word.From _ = refl
+at_key word.Thru key.Thru = refl
+at_key word.Thru _ = refl
+at_key word.When key.When = refl
+at_key word.When _ = refl
+at_key word.EndWrite key.EndWrite = refl
+at_key word.EndWrite _ = refl
+at_key _ k = tt
 
-pub told_into : (t : Sign) (ts : List Sign) → here Intos (t ∷ ts) ≡ is_some (the word.Into t)
-told_into = told Intos (the_key word.Into) same refl refl refl refl refl refl refl refl refl refl
-  where
-    same : (k : Keyword) → on_mark grammar (is Intos) (key_cue k) ≡ is_some (the_key word.Into k)
-    same key.Into = refl
-    same _ = refl
+abbrev IsTold : Word → Option Cue → Type 0
+IsTold w None = Unit {0}
+IsTold w (Some c) = (t : Sign) (ts : List Sign) → here c (t ∷ ts) ≡ is_some (the w t)
 
-pub told_from : (t : Sign) (ts : List Sign) → here Froms (t ∷ ts) ≡ is_some (the word.From t)
-told_from = told Froms (the_key word.From) same refl refl refl refl refl refl refl refl refl refl
-  where
-    same : (k : Keyword) → on_mark grammar (is Froms) (key_cue k) ≡ is_some (the_key word.From k)
-    same key.From = refl
-    same _ = refl
-
-pub told_thru : (t : Sign) (ts : List Sign) → here Throughs (t ∷ ts) ≡ is_some (the word.Thru t)
-told_thru = told Throughs (the_key word.Thru) same refl refl refl refl refl refl refl refl refl refl
-  where
-    same : (k : Keyword) → on_mark grammar (is Throughs) (key_cue k) ≡ is_some (the_key word.Thru k)
-    same key.Thru = refl
-    same _ = refl
-
-pub told_when : (t : Sign) (ts : List Sign) → here Whens (t ∷ ts) ≡ is_some (the word.When t)
-told_when = told Whens (the_key word.When) same refl refl refl refl refl refl refl refl refl refl
-  where
-    same : (k : Keyword) → on_mark grammar (is Whens) (key_cue k) ≡ is_some (the_key word.When k)
-    same key.When = refl
-    same _ = refl
-
-pub told_end_write : (t : Sign) (ts : List Sign) → here EndWrite (t ∷ ts) ≡ is_some (the word.EndWrite t)
-told_end_write = told EndWrite (the_key word.EndWrite) same refl refl refl refl refl refl refl refl refl refl
-  where
-    same : (k : Keyword) → on_mark grammar (is EndWrite) (key_cue k) ≡ is_some (the_key word.EndWrite k)
-    same key.EndWrite = refl
-    same _ = refl
+-- such a cue tells its word
+pub own_cue_tells : (w : Word) → IsTold w (own_cue w)
+own_cue_tells word.Giving = told Givings (the_key word.Giving) (at_key word.Giving) refl refl refl refl refl refl refl refl refl refl
+own_cue_tells word.Remainder = told Remainders (the_key word.Remainder) (at_key word.Remainder) refl refl refl refl refl refl refl refl refl refl
+own_cue_tells word.Rounded = told Rounds (the_key word.Rounded) (at_key word.Rounded) refl refl refl refl refl refl refl refl refl refl
+own_cue_tells word.Into = told Intos (the_key word.Into) (at_key word.Into) refl refl refl refl refl refl refl refl refl refl
+own_cue_tells word.From = told Froms (the_key word.From) (at_key word.From) refl refl refl refl refl refl refl refl refl refl
+own_cue_tells word.Thru = told Throughs (the_key word.Thru) (at_key word.Thru) refl refl refl refl refl refl refl refl refl refl
+own_cue_tells word.When = told Whens (the_key word.When) (at_key word.When) refl refl refl refl refl refl refl refl refl refl
+own_cue_tells word.EndWrite = told EndWrite (the_key word.EndWrite) (at_key word.EndWrite) refl refl refl refl refl refl refl refl refl refl
+own_cue_tells _ = tt

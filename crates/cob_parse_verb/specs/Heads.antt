@@ -50,7 +50,7 @@ pub data Head : Type 0 where
 
 -- ---- arithmetic statements
 
--- with the phrases
+-- An arithmetic statement with its phrases.
 abbrev pub with_tail : Arithmetic → Tail → Verb
 with_tail (add_to addends to) t = verb.add_to addends to t
 with_tail (add_giving addends to giving) t = verb.add_giving addends to giving t
@@ -159,7 +159,7 @@ head_start (evaluate_head subject) = Some start.Evaluate
 head_start (perform_head turns) = Some start.Perform
 head_start (read_head file into) = Some start.Read
 
--- behind its first word; d counts the statement itself
+-- A head as it is printed behind its first word; d counts the statement itself.
 abbrev pub print_behind : ℕ → Head → List Item
 print_behind d (done v) = print_verb d v
 print_behind d (arithmetic a) = print_arithmetic d a

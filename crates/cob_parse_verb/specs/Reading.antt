@@ -11,7 +11,7 @@ use Rattle.reading.specs.Readers.{Reader, nothing, lead, follow, seq, branch, se
 use Rattle.cob_parse_expr.specs.Classes.{name_of}
 use Rattle.cob_parse_expr.specs.Reading.{ref_at, opnd_at}
 use Rattle.cob_parse_expr.specs.CondReading.{cond_at}
-use Rattle.cob_parse_verb.specs.declared.word.Word.TheVariants as word
+use Rattle.cob_parse_verb.specs.Words as word
 use Rattle.cob_parse_verb.specs.declared.word.Start.{Start}
 use Rattle.cob_parse_verb.specs.declared.word.Start.TheVariants as start
 use Rattle.cob_parse_verb.specs.declared.word.Begin.{Begin}
@@ -106,7 +106,7 @@ read_at = seen make_read (with_phrase (lead name_of) (behind (the word.Into)) re
 
 -- ---- behind the first word, and with it
 
--- where so many parentheses may still open
+-- A head behind its first word, where so many parentheses may still open.
 abbrev pub behind_at : ℕ → Start → Reader Sign Head
 behind_at room start.Move = move_at
 behind_at room start.Set = set_at

@@ -9,7 +9,7 @@ use Rattle.cob_tree.specs.Symbols.{Sign}
 use Rattle.cob_tree.specs.Expr.{Expr}
 use Rattle.reading.specs.Readers.{Reader, follow, branch, seen, choose, stands}
 use Rattle.cob_parse_expr.specs.Reading.{opnd_at, expr_at}
-use Rattle.cob_parse_verb.specs.declared.word.Word.TheVariants as word
+use Rattle.cob_parse_verb.specs.Words as word
 use Rattle.cob_parse_verb.specs.Words.{the, equal_of}
 use Rattle.cob_parse_verb.specs.Heads.{Arithmetic, add_to, add_giving, subtract_from, subtract_giving, multiply_by, multiply_giving, divide_into, divide_giving, compute}
 use Rattle.cob_parse_verb.specs.Lists.{opnds_at, recvs_at}

@@ -13,7 +13,7 @@ use Rattle.cob_parse_expr.specs.Alphabet.{grammar}
 use Rattle.reading.specs.Printing.{begins}
 use Rattle.cob_parse_expr.specs.Classes.{name_of, const_of}
 use Rattle.cob_parse_expr.specs.Reading.{ref_at}
-use Rattle.cob_parse_verb.specs.declared.word.Word.TheVariants as word
+use Rattle.cob_parse_verb.specs.Words as word
 use Rattle.cob_parse_verb.specs.Words.{the}
 use Rattle.cob_parse_verb.specs.Lists.{recvs_at}
 

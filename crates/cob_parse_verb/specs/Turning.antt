@@ -20,7 +20,7 @@ use Rattle.cob_parse_expr.specs.Alphabet.{grammar}
 use Rattle.cob_parse_expr.specs.Classes.{name_of, const_of, of_of}
 use Rattle.cob_parse_expr.specs.Reading.{second, make_ref, ref_at, opnd_at, qualifiers_at, expr_at}
 use Rattle.cob_parse_expr.specs.CondReading.{cond_at}
-use Rattle.cob_parse_verb.specs.declared.word.Word.TheVariants as word
+use Rattle.cob_parse_verb.specs.Words as word
 use Rattle.cob_parse_verb.specs.Procedure.{procedure}
 use Rattle.cob_parse_verb.specs.Words.{the, place_of}
 use Rattle.cob_parse_verb.specs.Heads.{Head, done, perform_head}
@@ -65,7 +65,7 @@ loop_at room = seen make_loop (choose (begins grammar begins_opnd) times_at (tes
 
 -- ---- PERFORM
 
--- behind a name: OF and TIMES make it an operand
+-- Whether a name behind PERFORM is an operand: OF and TIMES make it one.
 abbrev pub turns : List Sign → Bool
 turns ts = stands (the word.Times) ts || stands of_of ts
 
@@ -79,7 +79,7 @@ qualified_at = follow qualifiers_at (λ xs. lead (the word.Times))
 abbrev pub through_at : ℕ → Reader Sign (Unit {0} × (List ℕ × Option Loop))
 through_at room = branch (the word.Thru) (λ x. with_phrase (lead name_of) (here_if (begins procedure begins_loop)) (loop_at room))
 
--- behind the name of a paragraph
+-- What may stand behind the name of a paragraph.
 abbrev pub Ranged : Type 0
 Ranged = (Unit {0} × (List ℕ × Option Loop)) ⊎ Loop
 

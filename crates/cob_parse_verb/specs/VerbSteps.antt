@@ -28,7 +28,7 @@ use Rattle.cob_parse_verb.specs.declared.target.Aim as declared_aim
 use Rattle.cob_parse_verb.specs.declared.target.Aim.TheVariants as aim
 use Rattle.cob_parse_verb.specs.declared.target.Target as declared_target
 use Rattle.cob_parse_verb.specs.declared.target.Target.TheVariants as target
-use Rattle.cob_parse_verb.specs.declared.word.Word.TheVariants as word
+use Rattle.cob_parse_verb.specs.Words as word
 use Rattle.cob_parse_verb.specs.Words.{the}
 use Rattle.cob_parse_verb.specs.Heads.{Arithmetic, add_to, add_giving, subtract_from, subtract_giving, multiply_by, multiply_giving, divide_into, divide_giving, compute, Head, done, arithmetic, if_head, evaluate_head, perform_head, read_head}
 use Rattle.cob_parse_verb.specs.Lists.{recvs_at}

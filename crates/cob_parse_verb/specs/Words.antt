@@ -1,5 +1,5 @@
 -- The words that stand in statements before their lists of statements, and the classes of tokens that they are.
-use Rattle.std.specs.Prelude.{ℕ, ◌==◌, if◌then◌else◌, Bool, Option, Some, None}
+use Rattle.std.specs.Prelude.{ℕ, Option, Some, None}
 use Rattle.cob_tree.specs.declared.keyword.Keyword.{Keyword}
 use Rattle.cob_tree.specs.declared.keyword.Keyword.TheVariants as key
 use Rattle.cob_tree.specs.declared.token.Rel.{Rel}
@@ -9,122 +9,81 @@ use Rattle.cob_tree.specs.declared.stmt.Mode.TheVariants as mode
 use Rattle.cob_tree.specs.declared.stmt.Place.{Place}
 use Rattle.cob_tree.specs.declared.stmt.Place.TheVariants as place
 use Rattle.cob_tree.specs.Symbols.{Symbol, Relation, Sign}
-use Rattle.cob_parse_expr.specs.Classes.{word_symbol}
-use Rattle.cob_parse_verb.specs.declared.word.Word.{Word}
-use Rattle.cob_parse_verb.specs.declared.word.Word.TheVariants as word
+use Rattle.cob_lexemes.specs.Classes.{of, word_symbol}
+use Rattle.cob_lexemes.specs.Classes as known
 use Rattle.cob_parse_verb.specs.declared.word.Start.{Start}
 use Rattle.cob_parse_verb.specs.declared.word.Start.TheVariants as start
 use Rattle.cob_parse_verb.specs.declared.word.Begin.{Begin}
 
+-- A reserved word that stands in a statement before its lists of statements. None of them looks ahead.
+pub data Word : Type 0 where
+  To : Word
+  Giving : Word
+  From : Word
+  By : Word
+  Into : Word
+  Remainder : Word
+  Rounded : Word
+  True : Word
+  Run : Word
+  Input : Word
+  Output : Word
+  EndWrite : Word
+  Thru : Word
+  Times : Word
+  Test : Word
+  Before : Word
+  After : Word
+  Varying : Word
+  Until : Word
+  Any : Word
+  When : Word
+
 -- how a word is written
 abbrev pub key_of : Word → Keyword
-key_of word.To = key.To
-key_of word.Giving = key.Giving
-key_of word.From = key.From
-key_of word.By = key.By
-key_of word.Into = key.Into
-key_of word.Remainder = key.Remainder
-key_of word.Rounded = key.Rounded
-key_of word.True = key.True
-key_of word.Run = key.Run
-key_of word.Input = key.Input
-key_of word.Output = key.Output
-key_of word.EndWrite = key.EndWrite
-key_of word.Thru = key.Thru
-key_of word.Times = key.Times
-key_of word.Test = key.Test
-key_of word.Before = key.Before
-key_of word.After = key.After
-key_of word.Varying = key.Varying
-key_of word.Until = key.Until
-key_of word.Any = key.Any
-key_of word.When = key.When
-
-abbrev pub word_key : Keyword → Option Word
-word_key key.To = Some word.To
-word_key key.Giving = Some word.Giving
-word_key key.From = Some word.From
-word_key key.By = Some word.By
-word_key key.Into = Some word.Into
-word_key key.Remainder = Some word.Remainder
-word_key key.Rounded = Some word.Rounded
-word_key key.True = Some word.True
-word_key key.Run = Some word.Run
-word_key key.Input = Some word.Input
-word_key key.Output = Some word.Output
-word_key key.EndWrite = Some word.EndWrite
-word_key key.Thru = Some word.Thru
-word_key key.Times = Some word.Times
-word_key key.Test = Some word.Test
-word_key key.Before = Some word.Before
-word_key key.After = Some word.After
-word_key key.Varying = Some word.Varying
-word_key key.Until = Some word.Until
-word_key key.Any = Some word.Any
-word_key key.When = Some word.When
-word_key _ = None
-
-abbrev pub number : Word → ℕ
-number word.To = 0
-number word.Giving = 1
-number word.From = 2
-number word.By = 3
-number word.Into = 4
-number word.Remainder = 5
-number word.Rounded = 6
-number word.True = 7
-number word.Run = 8
-number word.Input = 9
-number word.Output = 10
-number word.EndWrite = 11
-number word.Thru = 12
-number word.Times = 13
-number word.Test = 14
-number word.Before = 15
-number word.After = 16
-number word.Varying = 17
-number word.Until = 18
-number word.Any = 19
-number word.When = 20
-
-abbrev pub same : Word → Word → Bool
-same a b = number a == number b
+key_of To = key.To
+key_of Giving = key.Giving
+key_of From = key.From
+key_of By = key.By
+key_of Into = key.Into
+key_of Remainder = key.Remainder
+key_of Rounded = key.Rounded
+key_of True = key.True
+key_of Run = key.Run
+key_of Input = key.Input
+key_of Output = key.Output
+key_of EndWrite = key.EndWrite
+key_of Thru = key.Thru
+key_of Times = key.Times
+key_of Test = key.Test
+key_of Before = key.Before
+key_of After = key.After
+key_of Varying = key.Varying
+key_of Until = key.Until
+key_of Any = key.Any
+key_of When = key.When
 
 -- this very word
-abbrev pub if_same : Word → Option Word → Option (Unit {0})
-if_same w None = None
-if_same w (Some v) = if same w v then Some tt else None
-
 abbrev pub the_key : Word → Keyword → Option (Unit {0})
-the_key w k = if_same w (word_key k)
+the_key w = known.the_key (key_of w)
 
 abbrev pub the : Word → Sign → Option (Unit {0})
-the w s = word_symbol (the_key w) s.symbol
+the w = of (known.the (key_of w))
 
 -- INPUT or OUTPUT
-abbrev pub mode_word : Word → Option Mode
-mode_word word.Input = Some mode.Input
-mode_word word.Output = Some mode.Output
-mode_word _ = None
-
--- BEFORE or AFTER
-abbrev pub place_word : Word → Option Place
-place_word word.Before = Some place.Before
-place_word word.After = Some place.After
-place_word _ = None
-
-abbrev pub if_word : {K : Type 0} → (Word → Option K) → Option Word → Option K
-if_word class None = None
-if_word class (Some w) = class w
-
 abbrev pub mode_key : Keyword → Option Mode
-mode_key k = if_word mode_word (word_key k)
+mode_key key.Input = Some mode.Input
+mode_key key.Output = Some mode.Output
+mode_key _ = None
 
 abbrev pub mode_of : Sign → Option Mode
 mode_of s = word_symbol mode_key s.symbol
 
+-- BEFORE or AFTER
 abbrev pub place_key : Keyword → Option Place
-place_key k = if_word place_word (word_key k)
+place_key key.Before = Some place.Before
+place_key key.After = Some place.After
+place_key _ = None
 
 abbrev pub place_of : Sign → Option Place
 place_of s = word_symbol place_key s.symbol

@@ -1,16 +1,17 @@
+//! What the next tokens say before they are read.
 ghost use Rattle.std.specs.Prelude.{◌≡◌};
 ghost use Rattle.cob_tree.specs.Cues.{is, Throughs, Givings, Names, Modes, Whens};
 ghost use Rattle.cob_tree.specs.Takes.{begins_opnd, begins_loop};
 ghost use Rattle.reading.specs.Printing.{begins};
 ghost use Rattle.cob_parse_expr.specs.Alphabet.{grammar};
-ghost use Rattle.cob_parse_expr.specs.Steps.{signs};
+ghost use Rattle.cob_lexemes.specs.Steps.{signs};
 ghost use Rattle.cob_parse_verb.specs.Procedure.{procedure};
 ghost use Rattle.cob_parse_verb.specs.Turning.{turns, follows_name};
 ghost use Rattle.cob_parse_verb.specs.VerbSteps.{loop_stands};
 
-use crate::token::{begins_constant, begins_mode, begins_name, begins_of, stands};
-use crate::word::Word;
-use cob_parse_expr::Lexeme;
+use crate::token::{begins_constant, begins_mode, begins_name, begins_of};
+use cob_lexemes::{Lexeme, stands};
+use cob_tree::Keyword;
 
 /// Whether another name may stand here.
 #[tactic(auto, using(crate::proofs::AheadLemmas::names_ahead))]
@@ -41,7 +42,7 @@ pub fn mode_begins(lexemes: &[Lexeme]) -> bool
 pub fn giving_begins(lexemes: &[Lexeme]) -> bool
     ensures { result ≡ begins grammar (is Givings) (signs lexemes.now) }
 {
-    stands(Word::Giving, lexemes)
+    stands(Keyword::Giving, lexemes)
 }
 
 /// Whether THRU does.
@@ -49,7 +50,7 @@ pub fn giving_begins(lexemes: &[Lexeme]) -> bool
 pub fn thru_begins(lexemes: &[Lexeme]) -> bool
     ensures { result ≡ begins grammar (is Throughs) (signs lexemes.now) }
 {
-    stands(Word::Thru, lexemes)
+    stands(Keyword::Thru, lexemes)
 }
 
 /// Whether WHEN does.
@@ -57,14 +58,16 @@ pub fn thru_begins(lexemes: &[Lexeme]) -> bool
 pub fn when_begins(lexemes: &[Lexeme]) -> bool
     ensures { result ≡ begins grammar (is Whens) (signs lexemes.now) }
 {
-    stands(Word::When, lexemes)
+    stands(Keyword::When, lexemes)
 }
 
 // Whether a word stands here with which a loop begins.
 fn loop_word_begins(lexemes: &[Lexeme]) -> bool
     ensures { result ≡ loop_stands (signs lexemes.now) }
 {
-    stands(Word::Test, lexemes) || stands(Word::Varying, lexemes) || stands(Word::Until, lexemes)
+    stands(Keyword::Test, lexemes)
+        || stands(Keyword::Varying, lexemes)
+        || stands(Keyword::Until, lexemes)
 }
 
 /// Whether what stands here may begin the loop of a PERFORM: TIMES as well, which makes a name before it an operand.
@@ -72,7 +75,7 @@ fn loop_word_begins(lexemes: &[Lexeme]) -> bool
 pub fn loop_begins(lexemes: &[Lexeme]) -> bool
     ensures { result ≡ begins procedure begins_loop (signs lexemes.now) }
 {
-    stands(Word::Times, lexemes)
+    stands(Keyword::Times, lexemes)
         || begins_name(lexemes)
         || begins_constant(lexemes)
         || loop_word_begins(lexemes)
@@ -83,12 +86,12 @@ pub fn loop_begins(lexemes: &[Lexeme]) -> bool
 pub fn name_goes_on(lexemes: &[Lexeme]) -> bool
     ensures { result ≡ begins procedure follows_name (signs lexemes.now) }
 {
-    begins_of(lexemes) || stands(Word::Thru, lexemes) || loop_begins(lexemes)
+    begins_of(lexemes) || stands(Keyword::Thru, lexemes) || loop_begins(lexemes)
 }
 
 /// Whether OF or TIMES stands here, behind a name that then is an operand.
 pub fn counts(lexemes: &[Lexeme]) -> bool
     ensures { result ≡ turns (signs lexemes.now) }
 {
-    stands(Word::Times, lexemes) || begins_of(lexemes)
+    stands(Keyword::Times, lexemes) || begins_of(lexemes)
 }

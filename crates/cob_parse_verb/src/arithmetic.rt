@@ -1,10 +1,11 @@
+//! Arithmetic statements before their tails.
 ghost use Rattle.std.specs.Prelude.{◌≡◌, ◌≤◌, length, IfOk, None, Some};
 ghost use Rattle.std.proofs.Common.{inl, inr};
 ghost use Rattle.cob_tree.specs.ExprView.{plain_expr};
 ghost use Rattle.cob_tree.specs.Stmt.{add_to, add_giving, subtract_from, subtract_giving, multiply_by, multiply_giving, divide_into, divide_giving, compute};
 ghost use Rattle.cob_tree.specs.StmtView.{plain_tail, plain_verb};
 ghost use Rattle.reading.specs.Readers.{seen};
-ghost use Rattle.cob_parse_expr.specs.Steps.{signs, Gives};
+ghost use Rattle.cob_lexemes.specs.Steps.{signs, Gives};
 ghost use Rattle.cob_parse_verb.specs.Heads.{with_tail, end_word};
 ghost use Rattle.cob_parse_verb.specs.Heads as head;
 ghost use Rattle.cob_parse_verb.specs.Sums.{make_add, add_at, make_subtract, subtract_at, make_multiply, multiply_at, make_divide, divide_at, by_part, compute_at};
@@ -13,9 +14,9 @@ ghost use Rattle.cob_parse_verb.specs.VerbSteps.{plain_arithmetic, plain_target}
 
 use crate::list::{opnds_in, recvs_in};
 use crate::target::{Aim, Target, aim_in, giving_in, giving_remainder_in, target_in};
-use crate::token::{behind, expect, expect_equal};
-use crate::word::Word;
-use cob_parse_expr::{Halt, Lexeme, expr_in, opnd_in};
+use crate::token::expect_equal;
+use cob_lexemes::{Halt, Lexeme, behind, expect};
+use cob_parse_expr::{expr_in, opnd_in};
 use cob_tree::{Expr, Keyword, Many, Opnd, Recv, Ref, Tail, Verb, Way};
 use std::alloc::Global;
 
@@ -241,7 +242,7 @@ pub fn add_in(alloc: Global, lexemes: &[Lexeme]) -> Result<(Arithmetic, &[Lexeme
     ensures rest { IfOk result (λ x. length x.1.now ≤ length lexemes.now) }
 {
     let (addends, rest) = opnds_in(alloc, lexemes)?;
-    match behind(Word::To, rest) {
+    match behind(Keyword::To, rest) {
         Some(rest) => {
             let (target, rest) = target_in(alloc, rest)?;
             Ok((added(addends, target), rest))
@@ -276,7 +277,7 @@ pub fn subtract_in(alloc: Global, lexemes: &[Lexeme]) -> Result<(Arithmetic, &[L
     ensures rest { IfOk result (λ x. length x.1.now ≤ length lexemes.now) }
 {
     let (less, rest) = opnds_in(alloc, lexemes)?;
-    let rest = expect(Word::From, rest)?;
+    let rest = expect(Keyword::From, rest)?;
     let (target, rest) = target_in(alloc, rest)?;
     Ok((subtracted(less, target), rest))
 }
@@ -303,7 +304,7 @@ pub fn multiply_in(alloc: Global, lexemes: &[Lexeme]) -> Result<(Arithmetic, &[L
     ensures rest { IfOk result (λ x. length x.1.now ≤ length lexemes.now) }
 {
     let (factor, rest) = opnd_in(alloc, lexemes)?;
-    let rest = expect(Word::By, rest)?;
+    let rest = expect(Keyword::By, rest)?;
     let (target, rest) = target_in(alloc, rest)?;
     Ok((multiplied(factor, target), rest))
 }
@@ -363,7 +364,7 @@ fn divide_by_in(
     ensures gives { Gives (λ x. (plain_arithmetic x.0, signs x.1.now)) result (seen (λ p. make_divide (first, inr p)) by_part (signs lexemes.now)) }
     ensures rest { IfOk result (λ x. length x.1.now ≤ length lexemes.now) }
 {
-    let rest = expect(Word::By, lexemes)?;
+    let rest = expect(Keyword::By, lexemes)?;
     let (second, rest) = opnd_in(alloc, rest)?;
     let (giving, remainder, rest) = giving_remainder_in(alloc, rest)?;
     Ok((divided(first, Way::By, second, giving, remainder), rest))
@@ -375,7 +376,7 @@ pub fn divide_in(alloc: Global, lexemes: &[Lexeme]) -> Result<(Arithmetic, &[Lex
     ensures rest { IfOk result (λ x. length x.1.now ≤ length lexemes.now) }
 {
     let (first, rest) = opnd_in(alloc, lexemes)?;
-    match behind(Word::Into, rest) {
+    match behind(Keyword::Into, rest) {
         Some(rest) => divide_into_in(alloc, first, rest),
         None => divide_by_in(alloc, first, rest),
     }

@@ -1,3 +1,4 @@
+//! Laws of reading statements before their own lists.
 ghost use Rattle.std.specs.Prelude.{◌≡◌, ◌≤◌, ◌+◌, ℕ, suc};
 ghost use Rattle.reading.specs.Law.{Law, Agrees, Deepens};
 ghost use Rattle.cob_parse_verb.specs.Procedure.{procedure};

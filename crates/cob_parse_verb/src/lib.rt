@@ -18,4 +18,4 @@ pub use arithmetic::Arithmetic;
 pub use head::{Head, head_in};
 pub use laws::{choices_are_read, heads_are_read, more_room_agrees, too_deep_is_told};
 pub use select::choices_in;
-pub use word::{Begin, Start, Word};
+pub use word::{Begin, Start, start_of};

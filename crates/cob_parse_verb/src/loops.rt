@@ -1,17 +1,18 @@
+//! The control of PERFORM: TIMES, UNTIL and VARYING.
 ghost use Rattle.std.specs.Prelude.{◌≡◌, ◌≤◌, ◌<◌, length, IfOk};
 ghost use Rattle.cob_tree.specs.CondView.{plain_cond};
 ghost use Rattle.cob_tree.specs.Cues.{NotRelates};
 ghost use Rattle.cob_tree.specs.Stmt.{times, until};
 ghost use Rattle.cob_tree.specs.StmtView.{plain_loop};
 ghost use Rattle.cob_tree.specs.Takes.{takes_cond, takes_loop};
-ghost use Rattle.cob_parse_expr.specs.Steps.{signs, Gives};
+ghost use Rattle.cob_lexemes.specs.Steps.{signs, Gives};
 ghost use Rattle.cob_parse_verb.specs.Turning.{times_at, varying_at, until_at, varied_at, tested_at, loop_at};
 
 use crate::ahead::operand_begins;
-use crate::token::{behind, expect, place_in};
-use crate::word::Word;
-use cob_parse_expr::{Halt, Lexeme, cond_in, opnd_in, ref_in};
-use cob_tree::{Cond, Loop, Opnd, Place, Varying};
+use crate::token::place_in;
+use cob_lexemes::{Halt, Lexeme, behind, expect};
+use cob_parse_expr::{cond_in, opnd_in, ref_in};
+use cob_tree::{Cond, Keyword, Loop, Opnd, Place, Varying};
 use std::alloc::Global;
 
 pub fn times(count: Opnd) -> Loop
@@ -36,7 +37,7 @@ fn times_in(alloc: Global, lexemes: &[Lexeme]) -> Result<(Opnd, &[Lexeme]), Halt
     ensures rest { IfOk result (λ x. length x.1.now ≤ length lexemes.now) }
 {
     let (count, rest) = opnd_in(alloc, lexemes)?;
-    let rest = expect(Word::Times, rest)?;
+    let rest = expect(Keyword::Times, rest)?;
     Ok((count, rest))
 }
 
@@ -46,9 +47,9 @@ fn varying_in(alloc: Global, lexemes: &[Lexeme]) -> Result<(Varying, &[Lexeme]),
     ensures rest { IfOk result (λ x. length x.1.now ≤ length lexemes.now) }
 {
     let (item, rest) = ref_in(alloc, lexemes)?;
-    let rest = expect(Word::From, rest)?;
+    let rest = expect(Keyword::From, rest)?;
     let (from, rest) = opnd_in(alloc, rest)?;
-    let rest = expect(Word::By, rest)?;
+    let rest = expect(Keyword::By, rest)?;
     let (by, rest) = opnd_in(alloc, rest)?;
     Ok((Varying { item, from, by }, rest))
 }
@@ -58,7 +59,7 @@ fn until_in(alloc: Global, lexemes: &[Lexeme], room: u32) -> Result<(Cond, bool,
     ensures takes { IfOk result (λ x. x.1 ≡ takes_cond (plain_cond x.0) NotRelates) }
     ensures rest { IfOk result (λ x. length x.2.now ≤ length lexemes.now) }
 {
-    let rest = expect(Word::Until, lexemes)?;
+    let rest = expect(Keyword::Until, lexemes)?;
     cond_in(alloc, rest, room)
 }
 
@@ -72,7 +73,7 @@ fn varied_in(
     ensures takes { IfOk result (λ x. x.2 ≡ takes_cond (plain_cond x.1) NotRelates) }
     ensures rest { IfOk result (λ x. length x.3.now ≤ length lexemes.now) }
 {
-    match behind(Word::Varying, lexemes) {
+    match behind(Keyword::Varying, lexemes) {
         Some(rest) => {
             let (varying, rest) = varying_in(alloc, rest)?;
             let (cond, takes_not, rest) = until_in(alloc, rest, room)?;
@@ -95,7 +96,7 @@ pub fn tested_in(
     ensures takes { IfOk result (λ x. x.1 ≡ takes_loop (plain_loop x.0) NotRelates) }
     ensures rest { IfOk result (λ x. length x.2.now ≤ length lexemes.now) }
 {
-    match behind(Word::Test, lexemes) {
+    match behind(Keyword::Test, lexemes) {
         Some(rest) => {
             let (place, rest) = place_in(rest)?;
             let (varying, cond, takes_not, rest) = varied_in(alloc, rest, room)?;

@@ -1,3 +1,4 @@
+//! PERFORM before its body.
 ghost use Rattle.std.specs.Prelude.{◌≡◌, ◌≤◌, length, IfOk, Some, None};
 ghost use Rattle.std.proofs.Common.{inl, inr};
 ghost use Rattle.std.specs.Option.{option_map};
@@ -5,7 +6,7 @@ ghost use Rattle.cob_tree.specs.Cues.{NotRelates};
 ghost use Rattle.cob_tree.specs.Stmt.{perform_range};
 ghost use Rattle.cob_tree.specs.StmtView.{plain_loop};
 ghost use Rattle.reading.specs.Readers.{seen};
-ghost use Rattle.cob_parse_expr.specs.Steps.{signs, Gives};
+ghost use Rattle.cob_lexemes.specs.Steps.{signs, Gives};
 ghost use Rattle.cob_parse_verb.specs.Heads.{done, takes_behind};
 ghost use Rattle.cob_parse_verb.specs.Turning.{through_at, ranged_at, behind_name, named_at, unnamed_at, make_perform, perform_at};
 ghost use Rattle.cob_parse_verb.specs.VerbSteps.{plain_head, make_ranged, counted_at};
@@ -13,10 +14,10 @@ ghost use Rattle.cob_parse_verb.specs.VerbSteps.{plain_head, make_ranged, counte
 use crate::ahead::{counts, loop_begins, name_goes_on};
 use crate::head::Head;
 use crate::loops::{loop_in, tested_in, times};
-use crate::token::{begins_constant, begins_name, behind, expect};
-use crate::word::Word;
-use cob_parse_expr::{Halt, Lexeme, const_at, name_at, ref_in};
-use cob_tree::{Loop, Name, Opnd, Verb};
+use crate::token::{begins_constant, begins_name};
+use cob_lexemes::{Halt, Lexeme, behind, expect};
+use cob_parse_expr::{const_at, name_at, ref_in};
+use cob_tree::{Keyword, Loop, Name, Opnd, Verb};
 use std::alloc::Global;
 
 fn range(first: Name, thru: Option<Name>, turns: Option<Loop>) -> Head
@@ -32,7 +33,7 @@ fn counted_in(alloc: Global, lexemes: &[Lexeme]) -> Result<(Head, bool, &[Lexeme
     ensures rest { IfOk result (λ x. length x.2.now ≤ length lexemes.now) }
 {
     let (item, rest) = ref_in(alloc, lexemes)?;
-    let rest = expect(Word::Times, rest)?;
+    let rest = expect(Keyword::Times, rest)?;
     Ok((Head::Perform(Some(times(Opnd::Ref(item)))), false, rest))
 }
 
@@ -47,7 +48,7 @@ fn through_in(
     ensures takes { IfOk result (λ x. x.1 ≡ takes_behind (plain_head x.0) NotRelates) }
     ensures rest { IfOk result (λ x. length x.2.now ≤ length lexemes.now) }
 {
-    let rest = expect(Word::Thru, lexemes)?;
+    let rest = expect(Keyword::Thru, lexemes)?;
     let (thru, rest) = name_at(alloc, rest)?;
     if loop_begins(rest) {
         let (turns, takes_not, rest) = loop_in(alloc, rest, room)?;
@@ -68,7 +69,7 @@ fn ranged_in(
     ensures takes { IfOk result (λ x. x.1 ≡ takes_behind (plain_head x.0) NotRelates) }
     ensures rest { IfOk result (λ x. length x.2.now ≤ length lexemes.now) }
 {
-    match behind(Word::Thru, lexemes) {
+    match behind(Keyword::Thru, lexemes) {
         Some(_) => through_in(alloc, first, lexemes, room),
         None => {
             let (turns, takes_not, rest) = loop_in(alloc, lexemes, room)?;
@@ -102,7 +103,7 @@ fn unnamed_in(alloc: Global, lexemes: &[Lexeme], room: u32) -> Result<(Head, boo
 {
     if begins_constant(lexemes) {
         let (count, rest) = const_at(alloc, lexemes)?;
-        let rest = expect(Word::Times, rest)?;
+        let rest = expect(Keyword::Times, rest)?;
         Ok((Head::Perform(Some(times(Opnd::Const(count)))), false, rest))
     } else {
         let (turns, takes_not, rest) = tested_in(alloc, lexemes, room)?;

@@ -1,3 +1,4 @@
+//! EVALUATE and its WHENs before their lists.
 ghost use Rattle.std.specs.Prelude.{◌≡◌, ◌≤◌, ◌<◌, length, map, IfOk};
 ghost use Rattle.cob_tree.specs.Cues.{is, NotRelates, Whens};
 ghost use Rattle.cob_tree.specs.CondView.{plain_cond};
@@ -5,7 +6,7 @@ ghost use Rattle.cob_tree.specs.ExprView.{plain_expr};
 ghost use Rattle.cob_tree.specs.Stmt.{any, range, choice};
 ghost use Rattle.cob_tree.specs.StmtView.{plain_sel};
 ghost use Rattle.cob_tree.specs.Takes.{takes_cond, takes_sel};
-ghost use Rattle.cob_parse_expr.specs.Steps.{signs, Gives};
+ghost use Rattle.cob_lexemes.specs.Steps.{signs, Gives};
 ghost use Rattle.cob_parse_verb.specs.Heads.{takes_behind};
 ghost use Rattle.cob_parse_verb.specs.Listed.{takes_listed};
 ghost use Rattle.cob_parse_verb.specs.Reading.{evaluate_at};
@@ -14,10 +15,9 @@ ghost use Rattle.cob_parse_verb.specs.VerbSteps.{plain_head, sel_behind};
 
 use crate::ahead::when_begins;
 use crate::head::Head;
-use crate::token::{behind, expect};
-use crate::word::Word;
-use cob_parse_expr::{Halt, Lexeme, cond_in, expr_in, one_alone, ref_in};
-use cob_tree::{Cond, Expr, Sel, Subject};
+use cob_lexemes::{Halt, Lexeme, behind, expect};
+use cob_parse_expr::{cond_in, expr_in, one_alone, ref_in};
+use cob_tree::{Cond, Expr, Keyword, Sel, Subject};
 use std::alloc::Global;
 
 fn range(low: Expr, high: Expr) -> Sel
@@ -38,7 +38,7 @@ pub fn evaluate_in(alloc: Global, lexemes: &[Lexeme]) -> Result<(Head, bool, &[L
     ensures takes { IfOk result (λ x. x.1 ≡ takes_behind (plain_head x.0) NotRelates) }
     ensures rest { IfOk result (λ x. length x.2.now ≤ length lexemes.now) }
 {
-    match behind(Word::True, lexemes) {
+    match behind(Keyword::True, lexemes) {
         Some(rest) => Ok((Head::Evaluate(Subject::True), false, rest)),
         None => {
             let (item, rest) = ref_in(alloc, lexemes)?;
@@ -60,7 +60,7 @@ fn sel_behind(
     ensures takes { IfOk result (λ x. x.1 ≡ takes_sel (plain_sel x.0) NotRelates) }
     ensures rest { IfOk result (λ x. length x.2.now ≤ length lexemes.now) }
 {
-    let Some(rest) = behind(Word::Thru, lexemes) else {
+    let Some(rest) = behind(Keyword::Thru, lexemes) else {
         return Ok((choice(cond), takes_not, lexemes));
     };
     match one_alone(cond) {
@@ -77,7 +77,7 @@ fn sel_in(alloc: Global, lexemes: &[Lexeme], room: u32) -> Result<(Sel, bool, &[
     ensures takes { IfOk result (λ x. x.1 ≡ takes_sel (plain_sel x.0) NotRelates) }
     ensures rest { IfOk result (λ x. length x.2.now ≤ length lexemes.now) }
 {
-    if let Some(rest) = behind(Word::Any, lexemes) {
+    if let Some(rest) = behind(Keyword::Any, lexemes) {
         return Ok((Sel::Any, false, rest));
     }
     let (cond, takes_not, rest) = cond_in(alloc, lexemes, room)?;
@@ -90,7 +90,7 @@ fn choice_in(alloc: Global, lexemes: &[Lexeme], room: u32) -> Result<(Sel, bool,
     ensures takes { IfOk result (λ x. x.1 ≡ takes_sel (plain_sel x.0) NotRelates) }
     ensures rest { IfOk result (λ x. length x.2.now < length lexemes.now) }
 {
-    let rest = expect(Word::When, lexemes)?;
+    let rest = expect(Keyword::When, lexemes)?;
     sel_in(alloc, rest, room)
 }
 

@@ -1,17 +1,17 @@
+//! Statements without lists of their own.
 ghost use Rattle.std.specs.Prelude.{◌≡◌, ◌≤◌, length, IfOk};
 ghost use Rattle.cob_tree.specs.Cues.{NotRelates};
 ghost use Rattle.cob_tree.specs.Stmt.{move, set, display, go, exit, continue, stop_run, open_, close, write};
-ghost use Rattle.cob_parse_expr.specs.Steps.{signs, Gives};
+ghost use Rattle.cob_lexemes.specs.Steps.{signs, Gives};
 ghost use Rattle.cob_parse_verb.specs.Heads.{done, takes_behind};
 ghost use Rattle.cob_parse_verb.specs.Reading.{move_at, set_at, display_at, go_at, stop_at, open_at, close_at, written_at, write_at, read_at};
 ghost use Rattle.cob_parse_verb.specs.VerbSteps.{plain_head};
 
 use crate::head::Head;
 use crate::list::{files_in, names_in, opnds_in, refs_in};
-use crate::token::{behind, expect};
-use crate::word::Word;
-use cob_parse_expr::{Halt, Lexeme, name_at, opnd_in, ref_in};
-use cob_tree::{Many, Name, Opens, Opnd, Ref, Verb};
+use cob_lexemes::{Halt, Lexeme, behind, expect};
+use cob_parse_expr::{name_at, opnd_in, ref_in};
+use cob_tree::{Keyword, Many, Name, Opens, Opnd, Ref, Verb};
 use std::alloc::Global;
 
 // Each statement is made in a function of its own, which says what it is seen as.
@@ -86,7 +86,7 @@ pub fn move_in(alloc: Global, lexemes: &[Lexeme]) -> Result<(Head, bool, &[Lexem
     ensures rest { IfOk result (λ x. length x.2.now ≤ length lexemes.now) }
 {
     let (from, rest) = opnd_in(alloc, lexemes)?;
-    let rest = expect(Word::To, rest)?;
+    let rest = expect(Keyword::To, rest)?;
     let (to, rest) = refs_in(alloc, rest)?;
     Ok((moved(from, Many::of(to)), false, rest))
 }
@@ -98,8 +98,8 @@ pub fn set_in(alloc: Global, lexemes: &[Lexeme]) -> Result<(Head, bool, &[Lexeme
     ensures rest { IfOk result (λ x. length x.2.now ≤ length lexemes.now) }
 {
     let (name, rest) = name_at(alloc, lexemes)?;
-    let rest = expect(Word::To, rest)?;
-    let rest = expect(Word::True, rest)?;
+    let rest = expect(Keyword::To, rest)?;
+    let rest = expect(Keyword::True, rest)?;
     Ok((set(name), false, rest))
 }
 
@@ -127,7 +127,7 @@ pub fn stop_in(lexemes: &[Lexeme]) -> Result<(Head, bool, &[Lexeme]), Halt>
     ensures takes { IfOk result (λ x. x.1 ≡ takes_behind (plain_head x.0) NotRelates) }
     ensures rest { IfOk result (λ x. length x.2.now ≤ length lexemes.now) }
 {
-    let rest = expect(Word::Run, lexemes)?;
+    let rest = expect(Keyword::Run, lexemes)?;
     Ok((stop_run(), false, rest))
 }
 
@@ -155,7 +155,7 @@ fn written_in(alloc: Global, lexemes: &[Lexeme]) -> Result<(Ref, Option<Opnd>, &
     ensures rest { IfOk result (λ x. length x.2.now ≤ length lexemes.now) }
 {
     let (item, rest) = ref_in(alloc, lexemes)?;
-    match behind(Word::From, rest) {
+    match behind(Keyword::From, rest) {
         Some(rest) => {
             let (from, rest) = opnd_in(alloc, rest)?;
             Ok((item, Some(from), rest))
@@ -170,7 +170,7 @@ pub fn write_in(alloc: Global, lexemes: &[Lexeme]) -> Result<(Head, bool, &[Lexe
     ensures rest { IfOk result (λ x. length x.2.now ≤ length lexemes.now) }
 {
     let (item, from, rest) = written_in(alloc, lexemes)?;
-    match behind(Word::EndWrite, rest) {
+    match behind(Keyword::EndWrite, rest) {
         Some(rest) => Ok((write(item, from, true), false, rest)),
         None => Ok((write(item, from, false), false, rest)),
     }
@@ -183,7 +183,7 @@ pub fn read_in(alloc: Global, lexemes: &[Lexeme]) -> Result<(Head, bool, &[Lexem
     ensures rest { IfOk result (λ x. length x.2.now ≤ length lexemes.now) }
 {
     let (file, rest) = name_at(alloc, lexemes)?;
-    match behind(Word::Into, rest) {
+    match behind(Keyword::Into, rest) {
         Some(rest) => {
             let (into, rest) = ref_in(alloc, rest)?;
             let into = Some(into);

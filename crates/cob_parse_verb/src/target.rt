@@ -1,15 +1,16 @@
+//! Where arithmetic statements put their results.
 ghost use Rattle.std.specs.Prelude.{◌≡◌, ◌≤◌, ◌&&◌, length, IfOk};
-ghost use Rattle.cob_parse_expr.specs.Steps.{signs, Gives};
+ghost use Rattle.cob_lexemes.specs.Steps.{signs, Gives};
 ghost use Rattle.cob_parse_verb.specs.Lists.{recvs_at};
 ghost use Rattle.cob_parse_verb.specs.Targets.{may_give, giving_at, target_at, given_at};
 ghost use Rattle.cob_parse_verb.specs.VerbSteps.{plain_aim, aim_if, aim_at, plain_target};
 
 use crate::ahead::giving_begins;
 use crate::list::recvs_in;
-use crate::token::{begins_name, behind, expect};
-use crate::word::Word;
-use cob_parse_expr::{Halt, Lexeme, const_at, ref_in};
-use cob_tree::{Opnd, Recv, Ref};
+use crate::token::begins_name;
+use cob_lexemes::{Halt, Lexeme, behind, expect};
+use cob_parse_expr::{const_at, ref_in};
+use cob_tree::{Keyword, Opnd, Recv, Ref};
 use std::alloc::Global;
 
 /// What stands first behind TO, FROM, BY or INTO.
@@ -70,7 +71,7 @@ pub fn giving_in(alloc: Global, lexemes: &[Lexeme]) -> Result<(Vec<Recv>, &[Lexe
     ensures gives { Gives (λ x. ((tt, x.0.items), signs x.1.now)) result (giving_at recvs_at (signs lexemes.now)) }
     ensures rest { IfOk result (λ x. length x.1.now ≤ length lexemes.now) }
 {
-    let rest = expect(Word::Giving, lexemes)?;
+    let rest = expect(Keyword::Giving, lexemes)?;
     recvs_in(alloc, rest)
 }
 
@@ -80,7 +81,7 @@ fn given_in(alloc: Global, lexemes: &[Lexeme]) -> Result<(Vec<Recv>, Option<Ref>
     ensures rest { IfOk result (λ x. length x.2.now ≤ length lexemes.now) }
 {
     let (recvs, rest) = recvs_in(alloc, lexemes)?;
-    match behind(Word::Remainder, rest) {
+    match behind(Keyword::Remainder, rest) {
         Some(rest) => {
             let (item, rest) = ref_in(alloc, rest)?;
             Ok((recvs, Some(item), rest))
@@ -97,7 +98,7 @@ pub fn giving_remainder_in(
     ensures gives { Gives (λ x. ((tt, (x.0.items, x.1)), signs x.2.now)) result (giving_at given_at (signs lexemes.now)) }
     ensures rest { IfOk result (λ x. length x.2.now ≤ length lexemes.now) }
 {
-    let rest = expect(Word::Giving, lexemes)?;
+    let rest = expect(Keyword::Giving, lexemes)?;
     given_in(alloc, rest)
 }
 

@@ -1,54 +1,24 @@
-ghost use Rattle.std.specs.Prelude.{◌≡◌, ◌+◌, ◌<◌, ◌∷◌, ◌||◌, [], length, IfOk, IfSome, IfNone, is_some, false};
+//! The tokens that stand in statements before their lists of statements, in front of lexemes.
+ghost use Rattle.std.specs.Prelude.{◌≡◌, ◌<◌, length, IfOk, is_some, false};
 ghost use Rattle.reading.specs.Readers.{lead, stands};
-ghost use Rattle.cob_parse_expr.specs.Classes.{name_symbol, name_of, const_key, const_as, const_of, word_symbol, of_key, of_of};
-ghost use Rattle.cob_parse_expr.specs.Lexemes.{plain_symbol, plain_lexeme};
-ghost use Rattle.cob_parse_expr.specs.Steps.{signs, Gives, Leads, Lacks};
-ghost use Rattle.cob_parse_verb.specs.Words.{same, the_key, the, mode_word, mode_key, mode_of, place_word, place_key, place_of, equal_symbol, equal_of, start_key, begin_on, begin_of};
+ghost use Rattle.cob_lexemes.specs.Classes.{word_symbol};
+ghost use Rattle.cob_lexemes.specs.Lexemes.{plain_symbol};
+ghost use Rattle.cob_lexemes.specs.Steps.{signs, Gives};
+ghost use Rattle.cob_parse_expr.specs.Classes.{name_of, const_of, of_key, of_of};
+ghost use Rattle.cob_parse_verb.specs.Words.{mode_key, mode_of, place_key, place_of, equal_symbol, equal_of, start_key, begin_of};
 
-use crate::word::{Begin, Start, Word, start_of, word_of};
-use cob_parse_expr::{Halt, Lexeme, Symbol};
+use crate::word::{Begin, Start, start_of};
+use cob_lexemes::{Halt, Lexeme, Symbol, is_name, next};
+use cob_parse_expr::is_constant;
 use cob_tree::{Keyword, Mode, Place, Rel};
-
-fn same(a: Word, b: Word) -> bool
-    ensures { result ≡ same a b }
-{
-    a == b
-}
-
-fn key_is(word: Word, keyword: Keyword) -> bool
-    ensures { result ≡ is_some (the_key word keyword) }
-{
-    match word_of(keyword) {
-        Some(found) => same(word, found),
-        None => false,
-    }
-}
-
-fn symbol_is(word: Word, symbol: &Symbol) -> bool
-    ensures { result ≡ is_some (word_symbol (the_key word) (plain_symbol symbol.now)) }
-{
-    match symbol {
-        Symbol::Key(keyword) => key_is(word, *keyword),
-        _ => false,
-    }
-}
-
-fn mode(word: Word) -> Option<Mode>
-    ensures { result ≡ mode_word word }
-{
-    match word {
-        Word::Input => Some(Mode::Input),
-        Word::Output => Some(Mode::Output),
-        _ => None,
-    }
-}
 
 fn key_mode(keyword: Keyword) -> Option<Mode>
     ensures { result ≡ mode_key keyword }
 {
-    match word_of(keyword) {
-        Some(word) => mode(word),
-        None => None,
+    match keyword {
+        Keyword::Input => Some(Mode::Input),
+        Keyword::Output => Some(Mode::Output),
+        _ => None,
     }
 }
 
@@ -61,22 +31,13 @@ fn symbol_mode(symbol: &Symbol) -> Option<Mode>
     }
 }
 
-fn place(word: Word) -> Option<Place>
-    ensures { result ≡ place_word word }
-{
-    match word {
-        Word::Before => Some(Place::Before),
-        Word::After => Some(Place::After),
-        _ => None,
-    }
-}
-
 fn key_place(keyword: Keyword) -> Option<Place>
     ensures { result ≡ place_key keyword }
 {
-    match word_of(keyword) {
-        Some(word) => place(word),
-        None => None,
+    match keyword {
+        Keyword::Before => Some(Place::Before),
+        Keyword::After => Some(Place::After),
+        _ => None,
     }
 }
 
@@ -104,77 +65,10 @@ fn is_equal(symbol: &Symbol) -> bool
     matches!(symbol, Symbol::Relation(Rel::Equal))
 }
 
-fn is_name(symbol: &Symbol) -> bool
-    ensures { result ≡ is_some (name_symbol (plain_symbol symbol.now)) }
-{
-    matches!(symbol, Symbol::Name(_))
-}
-
 fn is_of(symbol: &Symbol) -> bool
     ensures { result ≡ is_some (word_symbol of_key (plain_symbol symbol.now)) }
 {
     matches!(symbol, Symbol::Key(Keyword::Of))
-}
-
-fn is_figurative(keyword: Keyword) -> bool
-    ensures { result ≡ is_some (const_key keyword) }
-{
-    matches!(
-        keyword,
-        Keyword::Zero | Keyword::Space | Keyword::Quote | Keyword::HighValue | Keyword::LowValue
-    )
-}
-
-fn is_constant(symbol: &Symbol) -> bool
-    ensures { result ≡ is_some (const_as (plain_symbol symbol.now)) }
-{
-    match symbol {
-        Symbol::Number(_) | Symbol::Text(_) => true,
-        Symbol::Key(keyword) => is_figurative(*keyword),
-        _ => false,
-    }
-}
-
-// The first lexeme, and those behind it.
-fn next(lexemes: &[Lexeme]) -> Option<(&Lexeme, &[Lexeme])>
-    ensures some { IfSome result (λ x. signs lexemes.now ≡ plain_lexeme x.0.now ∷ signs x.1.now) }
-    ensures none { IfNone result (signs lexemes.now ≡ []) }
-    ensures shorter { IfSome result (λ x. length lexemes.now ≡ length x.1.now + 1) }
-{
-    match lexemes {
-        [] => None,
-        [lexeme, rest @ ..] => Some((lexeme, rest)),
-    }
-}
-
-/// The lexemes behind a word, where it stands first.
-pub fn behind(word: Word, lexemes: &[Lexeme]) -> Option<&[Lexeme]>
-    ensures found { IfSome result (λ rest. Leads (the word) tt (signs lexemes.now) (signs rest.now)) }
-    ensures none { IfNone result (Lacks (the word) (signs lexemes.now)) }
-    ensures shorter { IfSome result (λ rest. length lexemes.now ≡ length rest.now + 1) }
-{
-    match next(lexemes) {
-        Some((lexeme, rest)) if symbol_is(word, &lexeme.symbol) => Some(rest),
-        _ => None,
-    }
-}
-
-/// The lexemes behind a word that has to stand first.
-pub fn expect(word: Word, lexemes: &[Lexeme]) -> Result<&[Lexeme], Halt>
-    ensures gives { Gives (λ rest. (tt, signs rest.now)) result (lead (the word) (signs lexemes.now)) }
-    ensures rest { IfOk result (λ rest. length rest.now < length lexemes.now) }
-{
-    match behind(word, lexemes) {
-        Some(rest) => Ok(rest),
-        None => Err(Halt::Stop(lexemes.len())),
-    }
-}
-
-/// Whether a word stands first.
-pub fn stands(word: Word, lexemes: &[Lexeme]) -> bool
-    ensures { result ≡ stands (the word) (signs lexemes.now) }
-{
-    behind(word, lexemes).is_some()
 }
 
 /// The lexemes behind `=`, which has to stand first.

@@ -14,10 +14,9 @@ use Rattle.cob_program.specs.declared.act.Act.TheVariants.{rolls-Perform, rolls-
 use Rattle.cob_program.specs.declared.act.Act.TheOpen as layer
 use Rattle.cob_program.specs.declared.act.Act.TheFolds.{fold-roll-Act}
 use Rattle.cob_program.specs.declared.act.Act.{roll-Act}
-use Rattle.cob_program.specs.ActView.{plain_act, plain_body, plain_turns}
+use Rattle.cob_program.specs.ActView.{plain_act, plain_body, plain_turns, plain_stmts, plain_phrase}
 use Rattle.cob_program.specs.SumView.{plain_sum}
 use Rattle.cob_program.specs.Act.{arith, perform, open_files, close_files, read, write}
-use Rattle.cob_plan.specs.Views.{plain_stmts, plain_phrase}
 
 module _ (a : declared_act.Act) where
   pub perform_is : (body : declared_body.Body) (turns : declared_turns.Turns) → a ≡ variant.Perform body turns →

@@ -1,6 +1,6 @@
 mod ActViews
 mod Loops
 mod Sound
-mod Spotted
+mod NodeList
 mod TestLemmas
 mod WayLemmas

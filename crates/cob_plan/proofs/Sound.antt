@@ -1,17 +1,18 @@
 -- Each listed statement is found by its number, and can be done.
-use Rattle.std.proofs.Common.{◌≡◌, List, [], ◌∷◌, ◌++◌, refl, sym, subst}
+use Rattle.std.proofs.Common.{◌≡◌, List, [], ◌∷◌, ◌++◌, map, refl, sym, subst}
 use Rattle.std.specs.List.{All, AllByRecursion}
 use Rattle.std.specs.Prelude.{Some}
 use Rattle.std.proofs.lemmas.List.Elements.{All-from_recursion}
 use Rattle.cob_data.specs.declared.layout.Layout.{Layout}
 use Rattle.cob_program.specs.Logic.{Logic, all_of, any_of, not_, test, Logics, no_logics, more_logics}
-use Rattle.cob_program.specs.Act.{Turns, once, times, until, varying, MkStmt, Stmts, no_stmts, more_stmts, Phrase, left_out, given, Act, arith, if_, evaluate, perform, read, Whens, no_whens, more_whens, MkWhen, Body, range, inline, Para, Program}
+use Rattle.cob_program.specs.Act.{Turns, once, times, until, varying, Stmt, MkStmt, Stmts, no_stmts, more_stmts, Phrase, left_out, given, Act, arith, if_, evaluate, perform, read, Whens, no_whens, more_whens, MkWhen, Body, range, inline, Para, Program}
+use Rattle.cob_program.specs.Statements.{list_statements, phrase_statements, inner_statements, whens_statements, body_statements, para_statements, paras_statements, program_statements}
 use Rattle.cob_runs.specs.Effects.{act_at, tests_of, tests_among, tests_in_list, tests_in_whens, tests_in_turns, tests_in_act}
-use Rattle.cob_graph.specs.Walks.{AreWhole, IsWholePhrase, IsWholeAct, AreWholeWhens, IsWholeBody, AreWholeParas, IsWhole}
+use Rattle.cob_graph.specs.WellFormed.{AreWellFormed, IsWellFormedPhrase, IsWellFormedAct, AreWellFormedWhens, IsWellFormedBody, AreWellFormedParas, IsWellFormed}
 use Rattle.cob_calc.specs.Comparing.{CanTest, CanDecide, CanDecideAll}
 use Rattle.cob_world.specs.Doing.{CanTurn, CanDo, CanDoPhrase, CanDoAct, CanDoWhens, CanDoBody, CanDoParas, CanDoProgram}
 use Rattle.cob_plan.specs.declared.statement.Statement.{Statement}
-use Rattle.cob_plan.specs.Listing.{Listed, plain_statement, plain_statements, listed, listed_phrase, listed_in, listed_whens, listed_body, listed_paras}
+use Rattle.cob_plan.specs.Listing.{Listed, plain_statement, plain_statements, listed_at, listed}
 use Rattle.cob_plan.specs.Plan.{IsStatement}
 
 both : {A : Type 0} (P : A → Type 0) (xs ys : List A) → AllByRecursion P xs → AllByRecursion P ys →
@@ -56,67 +57,78 @@ module _ (l : Layout) where
 
 -- ---- statements
 
--- what is kept of a statement, as plain data
-record IsListed (p : Program) (x : Listed) : Type 0 where
-  its : act_at p x.number ≡ Some x.act
-  able : CanDoAct p.layout x.act
-  tests : x.tests ≡ tests_in_act x.act
-  testable : AllByRecursion (CanTest p.layout) (tests_in_act x.act)
+-- a statement that is found by its number, and can be done
+record IsDoable (p : Program) (s : Stmt) : Type 0 where
+  its : act_at p (listed_at s).number ≡ Some (listed_at s).act
+  able : CanDoAct p.layout (listed_at s).act
 
 module _ (p : Program) where
-  abbrev AreListed : List Listed → Type 0
-  AreListed xs = AllByRecursion (IsListed p) xs
+  abbrev AreDoable : List Stmt → Type 0
+  AreDoable ss = AllByRecursion (IsDoable p) ss
 
   abbrev l : Layout
   l = p.layout
 
-  two : (xs ys : List Listed) → AreListed xs → AreListed ys → AreListed (xs ++ ys)
-  two xs ys = both (IsListed p) xs ys
+  two : (xs ys : List Stmt) → AreDoable xs → AreDoable ys → AreDoable (xs ++ ys)
+  two xs ys = both (IsDoable p) xs ys
 
   mutual
-    list_sound : (ss : Stmts) → AreWhole p ss → CanDo l ss → AreListed (listed ss)
-    list_sound no_stmts w h = tt
-    list_sound (more_stmts (MkStmt n line a) ss) w h = (
-      record { its = w.0; able = h.0; tests = refl; testable = able_act l a h.0 },
-      two (listed_in a) (listed ss) (act_sound a w.1 h.0) (list_sound ss w.2 h.1),
+    list_doable : (ss : Stmts) → AreWellFormed p ss → CanDo l ss → AreDoable (list_statements ss)
+    list_doable no_stmts w h = tt
+    list_doable (more_stmts (MkStmt n line a) ss) w h = (
+      record { its = w.0; able = h.0 },
+      two (inner_statements a) (list_statements ss) (act_doable a w.1 h.0) (list_doable ss w.2 h.1),
     )
 
-    phrase_sound : (x : Phrase) → IsWholePhrase p x → CanDoPhrase l x → AreListed (listed_phrase x)
-    phrase_sound left_out w h = tt
-    phrase_sound (given ss) w h = list_sound ss w h
+    phrase_doable : (x : Phrase) → IsWellFormedPhrase p x → CanDoPhrase l x → AreDoable (phrase_statements x)
+    phrase_doable left_out w h = tt
+    phrase_doable (given ss) w h = list_doable ss w h
 
-    act_sound : (a : Act) → IsWholeAct p a → CanDoAct l a → AreListed (listed_in a)
-    act_sound (arith s targets remainder size fine) w h =
-        two (listed_phrase size) (listed fine) (phrase_sound size w.0 h.1) (list_sound fine w.1 h.2)
-    act_sound (if_ t held other) w h =
-        two (listed held) (listed other) (list_sound held w.1 h.1) (list_sound other w.2 h.2)
-    act_sound (evaluate ws other) w h =
-        two (listed_whens ws) (listed other) (whens_sound ws w.0 h.0) (list_sound other w.1 h.1)
-    act_sound (perform body turns) w h = body_sound body w.1 h.1
-    act_sound (read f into end fine) w h =
-        two (listed_phrase end) (listed fine) (phrase_sound end w.0 h.0) (list_sound fine w.1 h.1)
-    act_sound _ w h = tt
+    act_doable : (a : Act) → IsWellFormedAct p a → CanDoAct l a → AreDoable (inner_statements a)
+    act_doable (arith s targets remainder size fine) w h =
+        two (phrase_statements size) (list_statements fine) (phrase_doable size w.0 h.1) (list_doable fine w.1 h.2)
+    act_doable (if_ t held other) w h =
+        two (list_statements held) (list_statements other) (list_doable held w.1 h.1) (list_doable other w.2 h.2)
+    act_doable (evaluate ws other) w h =
+        two (whens_statements ws) (list_statements other) (whens_doable ws w.0 h.0) (list_doable other w.1 h.1)
+    act_doable (perform body turns) w h = body_doable body w.1 h.1
+    act_doable (read f into end fine) w h =
+        two (phrase_statements end) (list_statements fine) (phrase_doable end w.0 h.0) (list_doable fine w.1 h.1)
+    act_doable _ w h = tt
 
-    whens_sound : (ws : Whens) → AreWholeWhens p ws → CanDoWhens l ws → AreListed (listed_whens ws)
-    whens_sound no_whens w h = tt
-    whens_sound (more_whens (MkWhen ts ss) ws) w h =
-        two (listed ss) (listed_whens ws) (list_sound ss w.0 h.1) (whens_sound ws w.1 h.2)
+    whens_doable : (ws : Whens) → AreWellFormedWhens p ws → CanDoWhens l ws → AreDoable (whens_statements ws)
+    whens_doable no_whens w h = tt
+    whens_doable (more_whens (MkWhen ts ss) ws) w h =
+        two (list_statements ss) (whens_statements ws) (list_doable ss w.0 h.1) (whens_doable ws w.1 h.2)
 
-    body_sound : (b : Body) → IsWholeBody p b → CanDoBody l b → AreListed (listed_body b)
-    body_sound (range first last) w h = tt
-    body_sound (inline ss) w h = list_sound ss w h
+    body_doable : (b : Body) → IsWellFormedBody p b → CanDoBody l b → AreDoable (body_statements b)
+    body_doable (range first last) w h = tt
+    body_doable (inline ss) w h = list_doable ss w h
 
-  paras_sound : (xs : List Para) → AreWholeParas p xs → CanDoParas l xs → AreListed (listed_paras xs)
-  paras_sound [] w h = tt
-  paras_sound (x ∷ xs) w h =
-      two (listed x.body) (listed_paras xs) (list_sound x.body w.0 h.0) (paras_sound xs w.1 h.1)
+  paras_doable : (xs : List Para) → AreWellFormedParas p xs → CanDoParas l xs → AreDoable (paras_statements xs)
+  paras_doable [] w h = tt
+  paras_doable (x ∷ xs) w h =
+      two (para_statements x) (paras_statements xs) (list_doable x.body w.0 h.0) (paras_doable xs w.1 h.1)
 
-  all_statements : (ss : List Statement) → AreListed (plain_statements ss) → AllByRecursion (IsStatement p) ss
+  -- what is kept of a statement that can be done, as plain data
+  record IsListed (x : Listed) : Type 0 where
+    its : act_at p x.number ≡ Some x.act
+    able : CanDoAct l x.act
+    tests : x.tests ≡ tests_in_act x.act
+    testable : AllByRecursion (CanTest l) (tests_in_act x.act)
+
+  listed_of : (ss : List Stmt) → AreDoable ss → AllByRecursion IsListed (map listed_at ss)
+  listed_of [] h = tt
+  listed_of (MkStmt n line a ∷ ss) h =
+      (record { its = h.0.its; able = h.0.able; tests = refl; testable = able_act l a h.0.able }, listed_of ss h.1)
+
+  all_statements : (ss : List Statement) → AllByRecursion IsListed (plain_statements ss) → AllByRecursion (IsStatement p) ss
   all_statements [] h = tt
   all_statements (s ∷ ss) h =
       (record { its = h.0.its; able = h.0.able; tests = h.0.tests; testable = h.0.testable }, all_statements ss h.1)
 
-  pub statements_are : (ss : List Statement) → IsWhole p → CanDoProgram p → plain_statements ss ≡ listed_paras p.paras →
+  pub statements_are : (ss : List Statement) → IsWellFormed p → CanDoProgram p → plain_statements ss ≡ listed p →
       All (IsStatement p) ss
   statements_are ss w h is =
-      All-from_recursion (IsStatement p) ss (all_statements ss (subst AreListed (sym is) (paras_sound p.paras w h)))
+      All-from_recursion (IsStatement p) ss (all_statements ss
+      (subst (AllByRecursion IsListed) (sym is) (listed_of (program_statements p) (paras_doable p.paras w h))))

@@ -9,8 +9,8 @@ use Rattle.cob_runs.specs.declared.action.Action.TheVariants as action
 use Rattle.cob_runs.specs.Acts.{is_fine}
 use Rattle.cob_runs.specs.State.{World}
 use Rattle.cob_runs.specs.Effects.{Effect, not_taken, taken_if, act_at, effect_of, effect, status, status_of, status_by, is_handled, handled_by, end_handled, file_call, called_bad, read_with}
-use Rattle.cob_plan.specs.declared.spot.Op.{Op}
-use Rattle.cob_plan.specs.declared.spot.Op.TheVariants as op
+use Rattle.cob_plan.specs.declared.node.Op.{Op}
+use Rattle.cob_plan.specs.declared.node.Op.TheVariants as op
 use Rattle.cob_plan.specs.declared.end.DoEnd.{DoEnd}
 use Rattle.cob_plan.specs.declared.end.DoEnd.TheVariants as end
 use Rattle.cob_plan.specs.declared.called.Called.{Called}

@@ -7,7 +7,7 @@ use Rattle.cob_runs.specs.Acts.{is_fine}
 use Rattle.cob_runs.specs.Faults.{◌>>=◌}
 use Rattle.cob_runs.specs.State.{World, with_storage}
 use Rattle.cob_runs.specs.Effects.{Effect, taken_if, effect, status, is_handled, file_call, called_bad, read_with, status_by, handled_by, end_handled}
-use Rattle.cob_plan.specs.declared.spot.Op.{Op}
+use Rattle.cob_plan.specs.declared.node.Op.{Op}
 use Rattle.cob_plan.specs.declared.end.DoEnd.{DoEnd}
 use Rattle.cob_plan.specs.declared.end.DoEnd.TheVariants as end
 use Rattle.cob_plan.specs.declared.called.Called.{Called}
@@ -16,14 +16,14 @@ use Rattle.cob_plan.specs.Plan.{op_edges}
 
 -- An area that a statement leaves undefined keeps what stood there.
 module _ (p : Program) (number : ℕ) (o : Op) where
-  -- one of the ways on is taken, and no status on it ends the run
+  -- One of the node's ways on is taken, and no status on it ends the run.
   pub record GoesTo (old new : World) (to : ℕ) : Type 0 where
     pub action : Action
     pub out : Contains (op_edges o) (action, to)
     pub does : effect p number None old action ≡ Ok (Some new)
     pub goes_on : is_handled p number action ≡ true
 
-  -- one of the ways on meets the fault; what it changed is storage alone
+  -- One of the node's ways on meets the fault, and what it changed is storage alone.
   pub record MeetsFault (old new : World) (kind : Kind) : Type 0 where
     pub action : Action
     pub to : ℕ
@@ -31,7 +31,7 @@ module _ (p : Program) (number : ℕ) (o : Op) where
     pub meets : effect p number None old action ≡ Err kind
     pub others : new ≡ with_storage old new.storage
 
-  -- one of the ways on is taken, with a status that nothing handles
+  -- One of the node's ways on is taken, with a status that nothing handles.
   pub record StopsBy (old new : World) (status_ : ℕ) : Type 0 where
     pub action : Action
     pub to : ℕ
@@ -48,24 +48,24 @@ module _ (p : Program) (number : ℕ) (o : Op) where
 
 -- ---- a statement's part by itself
 
--- it meets this fault
+-- A statement's part ends by this fault, or for want of memory.
 abbrev pub EndsBy : Effect → World → World → DoEnd → Type 0
 EndsBy wanted old new (end.Fault kind) = (wanted ≡ Err kind) × (new ≡ with_storage old new.storage)
 EndsBy wanted old new (end.Stop status_) = ⊥
 EndsBy wanted old new end.Memory = Unit {0}
 
--- where there is one way on
+-- A statement's part with one way on takes it, or ends.
 abbrev pub Meets : {A : Type 0} → Effect → World → World → Result A DoEnd → Type 0
 Meets wanted old new (Ok _) = wanted ≡ Ok (Some new)
 Meets wanted old new (Err e) = EndsBy wanted old new e
 
--- where there are two, of which the first is taken if so
+-- A statement's part with two ways on takes the first if so, and else the second, or it ends.
 abbrev pub Forks : Effect → Effect → World → World → Result Bool DoEnd → Type 0
 Forks first second old new (Ok true) = first ≡ Ok (Some new)
 Forks first second old new (Ok false) = second ≡ Ok (Some new)
 Forks first second old new (Err e) = EndsBy first old new e
 
--- arithmetic without, and with a size error that its phrase handles
+-- arithmetic without a size error, and arithmetic with one that its phrase handles
 abbrev pub without_error : Result (World × Bool) Kind → Effect
 without_error r = r >>= λ x. taken_if (not x.1) x.0
 
@@ -78,7 +78,7 @@ Calls P (Ok c) = P c
 Calls P (Err end.Memory) = Unit {0}
 Calls P (Err _) = ⊥
 
--- a loop with TIMES
+-- The statement is a loop with TIMES.
 abbrev pub is_times : Act → Bool
 is_times (perform body (times x)) = true
 is_times _ = false

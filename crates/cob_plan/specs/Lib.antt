@@ -1,6 +1,5 @@
-pub mod Views
 pub mod Listing
 pub mod Plan
-pub mod Spots
+pub mod Nodes
 pub mod Doing
 pub mod Leading

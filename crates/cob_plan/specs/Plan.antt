@@ -8,12 +8,12 @@ use Rattle.cob_runs.specs.declared.action.Action.TheVariants as action
 use Rattle.cob_runs.specs.Effects.{act_at, tests_in_act}
 use Rattle.cob_graph.specs.declared.graph.Node.{Node}
 use Rattle.cob_graph.specs.declared.graph.Graph.{Graph}
-use Rattle.cob_graph.specs.Walks.{node_at, edge}
+use Rattle.cob_graph.specs.Lookup.{node_at, edge}
 use Rattle.cob_calc.specs.Comparing.{CanTest}
 use Rattle.cob_world.specs.Doing.{CanDoAct}
-use Rattle.cob_plan.specs.declared.spot.Op.{Op}
-use Rattle.cob_plan.specs.declared.spot.Op.TheVariants as op
-use Rattle.cob_plan.specs.declared.spot.Spot.{Spot}
+use Rattle.cob_plan.specs.declared.node.Op.{Op}
+use Rattle.cob_plan.specs.declared.node.Op.TheVariants as op
+use Rattle.cob_plan.specs.declared.node.PlanNode.{PlanNode}
 use Rattle.cob_plan.specs.declared.statement.Statement.{Statement}
 use Rattle.cob_plan.specs.Listing.{plain_tests}
 
@@ -36,20 +36,21 @@ op_edges (op.Read found end bad) = (action.Take, found) ∷ (action.AtEnd, end) 
 op_edges (op.Write fine bad) = (action.Write, fine) ∷ (action.Bad 0, bad) ∷ []
 op_edges op.Final = []
 
--- what is kept of the node with a number
-pub record IsSpot (g : Graph) (n : ℕ) (s : Spot) : Type 0 where
+-- A plan's node is the graph's node with a number, and leads where that node's edges lead.
+pub record IsPlanNode (g : Graph) (n : ℕ) (s : PlanNode) : Type 0 where
   pub node : Node
   pub stands : node_at g.nodes n ≡ Some node
   pub statement : s.statement ≡ node.statement
   pub starts : s.starts ≡ node.starts
   pub edges : (a : Action) (m : ℕ) → Contains (op_edges s.op) (a, m) → Contains g.edges (edge n a m)
 
--- of all nodes
-pub record AreSpots (g : Graph) (spots : List Spot) : Type 0 where
-  pub each : (i : ℕ) (s : Spot) → slice_get spots i ≡ Some s → IsSpot g (suc i) s
-  pub all : length spots ≡ length g.nodes
+-- A plan's nodes are those of the graph, in their order.
+pub record ArePlanNodes (g : Graph) (nodes : List PlanNode) : Type 0 where
+  pub each : (i : ℕ) (s : PlanNode) → slice_get nodes i ≡ Some s → IsPlanNode g (suc i) s
+  pub all : length nodes ≡ length g.nodes
 
--- what is kept of a statement: its number, what it does, and its simple conditions in the order of its nodes
+-- A plan's statement is the program's statement with its number; it can be done, and its simple conditions stand in the
+-- order of its nodes.
 pub record IsStatement (p : Program) (s : Statement) : Type 0 where
   pub its : act_at p s.number ≡ Some (plain_act s.act.now)
   pub able : CanDoAct p.layout (plain_act s.act.now)

@@ -1,3 +1,5 @@
+//! What calls on files answer.
+
 /// The status of a call on a file, and whether the file has FILE STATUS.
 #[derive(Clone, Copy, Debug)]
 pub struct Called {

@@ -1,9 +1,8 @@
 //! The simple conditions of statements, in the order of their nodes.
 ghost use Rattle.std.specs.Prelude.{◌≡◌, ◌++◌, ◌∷◌, [], map, IfOk, OnOk};
-ghost use Rattle.cob_program.specs.LogicView.{plain_logic, plain_test};
-ghost use Rattle.cob_program.specs.ActView.{plain_act, plain_when, plain_turns};
+ghost use Rattle.cob_program.specs.LogicView.{plain_logic, plain_test, plain_logics};
+ghost use Rattle.cob_program.specs.ActView.{plain_act, plain_when, plain_turns, plain_whens};
 ghost use Rattle.cob_runs.specs.Effects.{tests_of, tests_among, tests_in_list, tests_in_whens, tests_in_turns, tests_in_act};
-ghost use Rattle.cob_plan.specs.Views.{plain_logics, plain_whens};
 ghost use Rattle.cob_plan.specs.Listing.{plain_tests, tests_in_when};
 
 use cob_program::{Act, Logic, Test, Turns, When};

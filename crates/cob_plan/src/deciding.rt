@@ -7,7 +7,6 @@ ghost use Rattle.cob_program.specs.LogicView.{plain_test};
 ghost use Rattle.cob_runs.specs.Acts.{count_of};
 ghost use Rattle.cob_runs.specs.Steps.{is_left};
 ghost use Rattle.cob_runs.specs.Effects.{decided, tested, tests_in_act};
-ghost use Rattle.cob_items.specs.Sound.{HasSoundItems};
 ghost use Rattle.cob_calc.specs.Comparing.{CanTest};
 ghost use Rattle.cob_plan.specs.Listing.{plain_tests};
 ghost use Rattle.cob_plan.specs.Plan.{IsStatement};
@@ -15,7 +14,7 @@ ghost use Rattle.cob_plan.specs.Doing.{Forks, is_times};
 
 use crate::end::DoEnd;
 use crate::statement::Statement;
-use cob_program::{Act, Program, Test, Turns};
+use cob_program::{Act, Test, Turns};
 use cob_world::World;
 
 fn test_at<'b>(statement: &'b Statement, place: u32) -> Option<&'b Test>
@@ -27,49 +26,41 @@ fn test_at<'b>(statement: &'b Statement, place: u32) -> Option<&'b Test>
     }
 }
 
-fn decide(program: &Program, test: &Test, world: &World) -> Result<bool, DoEnd>
-    requires sound { HasSoundItems program.now.layout }
-    requires whole { length world.now.storage ≡ program.now.layout.storage }
-    requires able { CanTest program.now.layout (plain_test test.now) }
+fn decide(test: &Test, world: &World) -> Result<bool, DoEnd>
+    requires able { CanTest world.now.program.layout (plain_test test.now) }
     ensures { (number : ℕ) → Forks
-        (decided (plain_program program.now) number None world.now true (Some (plain_test test.now)))
-        (decided (plain_program program.now) number None world.now false (Some (plain_test test.now)))
-        world.now world.now result }
+        (decided (plain_program world.now.program) number None world.now.world true (Some (plain_test test.now)))
+        (decided (plain_program world.now.program) number None world.now.world false (Some (plain_test test.now)))
+        world.now.world world.now.world result }
 {
-    match world.test(&program.layout, test) {
+    match world.test(test) {
         Ok(holds) => Ok(holds),
         Err(kind) => Err(DoEnd::Fault(kind)),
     }
 }
 
 // The simple condition at a place among those of the statement.
-fn decide_at(
-    program: &Program,
-    statement: &Statement,
-    place: u32,
-    world: &World,
-) -> Result<bool, DoEnd>
-    requires sound { HasSoundItems program.now.layout }
-    requires whole { length world.now.storage ≡ program.now.layout.storage }
-    requires its { IsStatement (plain_program program.now) statement.now }
+fn decide_at(statement: &Statement, place: u32, world: &World) -> Result<bool, DoEnd>
+    requires its { IsStatement (plain_program world.now.program) statement.now }
     ensures { (number : ℕ) → Forks
-        (decided (plain_program program.now) number None world.now true
+        (decided (plain_program world.now.program) number None world.now.world true
         (slice_get (tests_in_act (plain_act statement.now.act.now)) place))
-        (decided (plain_program program.now) number None world.now false
+        (decided (plain_program world.now.program) number None world.now.world false
         (slice_get (tests_in_act (plain_act statement.now.act.now)) place))
-        world.now world.now result }
+        world.now.world world.now.world result }
 {
     match test_at(statement, place) {
         None => Err(DoEnd::Memory),
-        Some(test) => decide(program, test, world),
+        Some(test) => decide(test, world),
     }
 }
 
 // Whether turns are left.
-fn is_left(program: &Program, number: u32, world: &World) -> bool
-    ensures { result ≡ is_left (plain_program program.now) None (count_of program.now.layout number world.now) }
+fn is_left(number: u32, world: &World) -> bool
+    ensures { result ≡ is_left (plain_program world.now.program) None
+        (count_of world.now.program.layout number world.now.world) }
 {
-    match world.count_of(&program.layout, number) {
+    match world.count_of(number) {
         None => false,
         Some(count) => count > 0,
     }
@@ -94,25 +85,18 @@ fn are_times(turns: &Turns) -> bool
 }
 
 /// Whether turns of a loop with TIMES are left, or else whether the simple condition at a place holds.
-pub fn test(
-    program: &Program,
-    statement: &Statement,
-    place: u32,
-    world: &World,
-) -> Result<bool, DoEnd>
-    requires sound { HasSoundItems program.now.layout }
-    requires whole { length world.now.storage ≡ program.now.layout.storage }
-    requires its { IsStatement (plain_program program.now) statement.now }
+pub fn test(statement: &Statement, place: u32, world: &World) -> Result<bool, DoEnd>
+    requires its { IsStatement (plain_program world.now.program) statement.now }
     ensures { Forks
-        (tested (plain_program program.now) statement.now.number None world.now true place
+        (tested (plain_program world.now.program) statement.now.number None world.now.world true place
         (plain_act statement.now.act.now))
-        (tested (plain_program program.now) statement.now.number None world.now false place
+        (tested (plain_program world.now.program) statement.now.number None world.now.world false place
         (plain_act statement.now.act.now))
-        world.now world.now result }
+        world.now.world world.now.world result }
 {
     if is_times(statement.act) {
-        Ok(is_left(program, statement.number, world))
+        Ok(is_left(statement.number, world))
     } else {
-        decide_at(program, statement, place, world)
+        decide_at(statement, place, world)
     }
 }

@@ -10,14 +10,14 @@ mod deciding;
 mod does;
 mod end;
 mod listing;
+mod next_node;
+mod node;
+mod nodes;
 mod plan;
-mod spot;
-mod spots;
 mod statement;
-mod ways;
 
 pub use does::do_op;
 pub use end::DoEnd;
+pub use node::{Op, PlanNode};
 pub use plan::Plan;
-pub use spot::{Op, Spot};
 pub use statement::Statement;

@@ -1,3 +1,4 @@
+//! A plan's statement.
 use cob_program::{Act, Test};
 
 /// A statement: its number, what it does, and its simple conditions in the order of its nodes.

@@ -1,5 +1,5 @@
 -- What contracts see of statements and programs: each type's layer, with what its children are seen as in their place.
-use Rattle.std.specs.Prelude.{map, Option, Vec}
+use Rattle.std.specs.Prelude.{List, map, Option, Vec}
 use Rattle.std.specs.Option.{option_map}
 use Rattle.std.specs.declared.alloc.Global.{Global}
 use Rattle.cob_program.specs.declared.act.Stmt as declared_stmt
@@ -14,7 +14,7 @@ use Rattle.cob_program.specs.declared.program.Para as declared_para
 use Rattle.cob_program.specs.declared.program.Program as declared_program
 use Rattle.cob_program.specs.SumView.{plain_sum}
 use Rattle.cob_program.specs.LogicView.{plain_logic}
-use Rattle.cob_program.specs.Act.{Turns, once, times, until, varying, Stmt, MkStmt, Stmts, stmts_of, Phrase, phrase_of, Act, move, arith, if_, evaluate, perform, go, nothing, stop, open_files, close_files, read, write, show, whens_of, When, MkWhen, Body, range, inline, Para, Program}
+use Rattle.cob_program.specs.Act.{Turns, once, times, until, varying, Stmt, MkStmt, Stmts, stmts_of, Phrase, phrase_of, Act, move, arith, if_, evaluate, perform, go, nothing, stop, open_files, close_files, read, write, show, Whens, whens_of, When, MkWhen, Body, range, inline, Para, Program}
 
 abbrev pub plain_turns : declared_turns.Turns → Turns
 plain_turns variant.Once = once
@@ -65,8 +65,20 @@ plain_when = fold-When Act Body Stmt When act_step body_step stmt_step when_step
 abbrev pub plain_body : declared_body.Body → Body
 plain_body = fold-Body Act Body Stmt When act_step body_step stmt_step when_step
 
+abbrev pub plain_stmts : List declared_stmt.Stmt → Stmts
+plain_stmts xs = stmts_of (map plain_stmt xs)
+
+abbrev pub plain_phrase : Option (Vec declared_stmt.Stmt Global) → Phrase
+plain_phrase o = phrase_of (option_map (λ v. plain_stmts v.items) o)
+
+abbrev pub plain_whens : List declared_when.When → Whens
+plain_whens xs = whens_of (map plain_when xs)
+
 abbrev pub plain_para : declared_para.Para → Para
 plain_para p = record { name = p.name; line = p.line; body = stmts_of (map plain_stmt p.body) }
+
+abbrev pub plain_paras : List declared_para.Para → List Para
+plain_paras xs = map plain_para xs
 
 abbrev pub plain_program : declared_program.Program → Program
 plain_program p = record { layout = p.layout; paras = map plain_para p.paras; statements = p.statements }

@@ -12,7 +12,7 @@ pub record Bound : Type 0 where
   pub most : ℕ
   pub scale : ℕ
 
--- so many digits
+-- The bound of so many digits.
 abbrev pub of_digits : ℕ → ℕ → Bound
 of_digits digits scale = record { most = 10 ^ digits - 1; scale = scale }
 
@@ -100,7 +100,7 @@ module _ (bound : ℕ → Bound) where
     is_small_atom (number n) = is_small (literal_bound n)
     is_small_atom (group s) = is_small_sum s
 
-  -- of a quotient that stays exact, only what is divided and what divides
+  -- Only what is divided and what divides is bounded where a quotient stays exact.
   abbrev pub is_small_root : Sum → Option Root → Bool
   is_small_root s None = is_small_sum s
   is_small_root s (Some r) = is_small_product (exactly 1) r.above && is_small_atom r.below
@@ -155,7 +155,7 @@ module _ (P : Scaled → Type 0) (worth : ℕ → Scaled) where
     EachInAtom (number n) = P (literal n)
     EachInAtom (group s) = EachInSum s
 
-  -- of a quotient that stays exact, each of what is divided and of what divides
+  -- Each intermediate of what is divided and of what divides, where a quotient stays exact.
   abbrev pub EachInRoot : Sum → Option Root → Type 0
   EachInRoot s None = EachInSum s
   EachInRoot s (Some r) = EachInProduct (whole_number (pos 1)) r.above × EachInAtom r.below

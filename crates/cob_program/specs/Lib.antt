@@ -4,5 +4,6 @@ pub mod Logic
 pub mod LogicView
 pub mod Act
 pub mod ActView
+pub mod Statements
 pub mod Values
 pub mod Bounds

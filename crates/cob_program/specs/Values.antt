@@ -61,7 +61,7 @@ with_factor true a b = quotient a b
 
 module _ (worth : ℕ → Scaled) where
   abbrev mutual
-    -- from left to right; nothing where a divisor is 0
+    -- The value of a sum, from left to right; nothing where a divisor is 0.
     pub sum_value : Sum → Option Scaled
     sum_value (MkSum ps) = sum_from (whole_number (pos 0)) ps
 

@@ -1,3 +1,4 @@
+//! Statements and what they do.
 ghost use Rattle.std.specs.Prelude.{◌≡◌};
 ghost use Rattle.cob_program.specs.Act.{MkStmt};
 ghost use Rattle.cob_program.specs.ActView.{plain_stmt, plain_act};

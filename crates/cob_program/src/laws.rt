@@ -1,3 +1,4 @@
+//! Laws of bounds of sums.
 ghost use Rattle.std.specs.Prelude.{◌≡◌, ℕ, Bool, true, Some};
 ghost use Rattle.dec_num.specs.declared.types.Scaled.{Scaled};
 ghost use Rattle.cob_program.specs.Sum.{Sum};

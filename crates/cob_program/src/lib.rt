@@ -6,6 +6,7 @@ mod act;
 mod laws;
 mod logic;
 mod program;
+mod statements;
 mod sum;
 
 pub use act::{Act, Body, How, Opening, Stmt, Target, Turns, When};
@@ -16,4 +17,3 @@ pub use laws::{
 pub use logic::{Logic, Test};
 pub use program::{Para, Program};
 pub use sum::{Atom, Factor, Part, Sum};
-

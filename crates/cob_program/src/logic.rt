@@ -1,3 +1,4 @@
+//! Conditions written out.
 ghost use Rattle.std.specs.Prelude.{◌≡◌, map};
 ghost use Rattle.cob_program.specs.Logic.{all_of, any_of, not_, test, logics_of};
 ghost use Rattle.cob_program.specs.LogicView.{plain_logic, plain_test};

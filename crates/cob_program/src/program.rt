@@ -1,3 +1,4 @@
+//! Programs and paragraphs.
 use crate::act::Stmt;
 use cob_data::Layout;
 use cob_tree::{Many, Name};

@@ -1,3 +1,4 @@
+//! Sums, as typed expressions are kept.
 ghost use Rattle.std.specs.Prelude.{◌≡◌, map};
 ghost use Rattle.cob_program.specs.Sum.{MkSum, MkPart, MkFactor, parts_of, factors_of, item, number, group};
 ghost use Rattle.cob_program.specs.SumView.{plain_sum, plain_part, plain_factor, plain_atom};

@@ -29,7 +29,7 @@ module _ (l : Layout) where
   abbrev pub move : Sender → List ℕ → World → Result World Kind
   move x places w = after_move l w.storage x places >>= λ storage. Ok (with_storage w storage)
 
-  -- and whether there is a size error, which the phrase handles
+  -- Arithmetic, with whether there is a size error, which the phrase handles.
   abbrev pub compute : Bool → Sum → List Target → Option ℕ → World → Result (World × Bool) Kind
   compute phrase s targets remainder w =
       after_arithmetic l phrase w.storage s targets remainder >>= λ r. Ok (with_storage w r.storage, r.failed)
@@ -56,7 +56,7 @@ module _ (l : Layout) where
   abbrev pub set_varied : ℕ → Sender → World → Result World Kind
   set_varied place start w = move start (place ∷ []) w
 
-  -- and goes on as by ADD
+  -- VARYING goes on as by ADD.
   abbrev pub augment : ℕ → Sender → World → Result World Kind
   augment place by w =
       or_fault kind.Class (number_of l w.storage by) >>= λ v. or_fault kind.Class (number_at l w.storage place) >>= λ own.

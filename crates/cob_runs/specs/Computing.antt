@@ -109,7 +109,7 @@ module _ (l : Layout) (phrase : Bool) where
   receive worth s now t =
       own_worth t.how now t.item >>= λ own. received now t.item (stored_result t.mode t.item (result worth s t.how own))
 
-  -- from left to right
+  -- The receivers in turn, from left to right.
   abbrev pub receive_all : (ℕ → Scaled) → Sum → Receiving → List Target → Result Receiving Kind
   receive_all worth s so_far [] = Ok so_far
   receive_all worth s so_far (t ∷ ts) =

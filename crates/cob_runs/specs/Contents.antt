@@ -21,7 +21,7 @@ area storage offset count = take count (drop offset storage)
 abbrev pub written : List ℕ → ℕ → List ℕ → List ℕ
 written storage offset bytes = take offset storage ++ bytes ++ drop (offset + length bytes) storage
 
--- so many bytes: cut on the right, or filled with spaces there
+-- A text as so many bytes: cut on the right, or filled with spaces there.
 abbrev pub fitted : ℕ → List ℕ → List ℕ
 fitted n bytes = take n (bytes ++ replicate n 32)
 

@@ -62,7 +62,7 @@ module _ (l : Layout) (storage : List ℕ) where
   abbrev pub decided : Rel → Option Scaled → Option Scaled → Result Bool Kind
   decided r a b = or_fault kind.Zero a >>= λ x. or_fault kind.Zero b >>= λ y. Ok (holds r (number_order x y))
 
-  -- both sides are read before a divisor counts
+  -- A relation of two sums. The items of both are read before a divisor counts.
   abbrev pub compared_numbers : Sum → Rel → Sum → Result Bool Kind
   compared_numbers a r b =
       if are_numeric l storage (items_in a) && are_numeric l storage (items_in b)
@@ -128,7 +128,7 @@ module _ (l : Layout) (storage : List ℕ) where
   abbrev pub denied : Bool → Result Bool Kind
   denied b = Ok (not b)
 
-  -- from left to right, until it is decided
+  -- A condition is decided from left to right, until nothing more matters.
   abbrev mutual
     pub logic_holds : Logic → Result Bool Kind
     logic_holds (all_of ls) = all_hold ls

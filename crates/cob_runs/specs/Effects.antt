@@ -210,7 +210,7 @@ module _ (p : Program) (number : ℕ) (c : Choice) (w : World) where
   status_by k (write r from) = status_in (file_from p.layout 0 p.layout.files r) (λ f. write_one p.layout c f r w)
   status_by k _ = None
 
-  -- of the edge at the end of a file, and of one with another status
+  -- The status of the edge at the end of a file, and of one with another status.
   abbrev pub status_of : Action → Act → Option ℕ
   status_of action.AtEnd a = status_by 0 a
   status_of (action.Bad k) a = status_by k a

@@ -44,7 +44,7 @@ module _ (l : Layout) (storage : List ℕ) where
   number_of (sender.Fill byte) = None
   number_of sender.Zero = Some (whole_number (pos 0))
 
-  -- as text of so many bytes, which a figurative constant fills
+  -- A sender as text of so many bytes, which a figurative constant fills.
   abbrev pub text_of : ℕ → Sender → Option (List ℕ)
   text_of n (sender.Item place) = item_text (form_at l place) (bytes_at l storage place)
   text_of n (sender.Number x) = Some x.digits
@@ -52,7 +52,7 @@ module _ (l : Layout) (storage : List ℕ) where
   text_of n (sender.Fill byte) = Some (replicate n byte)
   text_of n sender.Zero = Some (replicate n 48)
 
-  -- the same, but for items, which give their bytes as they are
+  -- A sender as bytes: items give theirs as they are, others their text.
   abbrev pub raw_text : ℕ → Sender → Option (List ℕ)
   raw_text n (sender.Item place) = Some (bytes_at l storage place)
   raw_text n x = text_of n x

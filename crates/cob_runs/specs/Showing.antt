@@ -39,7 +39,7 @@ shown_sender l storage (sender.Text text) = text
 shown_sender l storage (sender.Fill byte) = byte ∷ []
 shown_sender l storage sender.Zero = 48 ∷ []
 
--- one behind the other, and a line's end
+-- what DISPLAY shows: its operands in turn, and a line's end
 abbrev pub line_of : Layout → List ℕ → List Sender → List ℕ
 line_of l storage [] = 10 ∷ []
 line_of l storage (x ∷ xs) = shown_sender l storage x ++ line_of l storage xs

@@ -25,7 +25,7 @@ abbrev pub begun : Stmts → List Doing → List Doing → List Doing
 begun no_stmts front otherwise = otherwise
 begun (more_stmts s ss) front otherwise = rest (more_stmts s ss) ∷ front
 
--- so many paragraphs from one on, the last of them q, in front of a list, which is given settled too
+-- The paragraphs from one on, so many, the last of them q, in front of a list, which is given settled too.
 abbrev pub entered : Program → ℕ → ℕ → ℕ → List Doing → List Doing → List Doing
 entered p zero first q ds behind = behind
 entered p (suc n) first q ds behind = begun (body_at p first) (paras (suc first) q ∷ ds) (entered p n (suc first) q ds behind)

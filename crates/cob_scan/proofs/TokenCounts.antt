@@ -1,9 +1,9 @@
 -- How many tokens a text may have: each raw token takes a character, and rewriting makes no token more.
-use Rattle.std.proofs.Common.{◌≡◌, ℕ, ◌+◌, ◌-◌, ◌*◌, ◌^◌, ◌≤◌, zero, suc, Bool, false, subst, arith, List, [], ◌∷◌, length, Option, None, Some, Result, Ok, Err}
+use Rattle.std.proofs.Common.{◌≡◌, ℕ, ◌+◌, ◌-◌, ◌*◌, ◌≤◌, zero, suc, Bool, false, subst, arith, List, [], ◌∷◌, length, Option, None, Some, Result, Ok, Err}
 use Rattle.std.proofs.lemmas.List.{length-append, length-map}
 use Rattle.cob_lines.specs.declared.Mark.{Mark}
 use Rattle.cob_lines.specs.declared.refusal.Place as text
-use Rattle.cob_lines.specs.Text.{source_text}
+use Rattle.cob_lines.specs.Text.{source_text, source_limit}
 use Rattle.cob_tree.specs.declared.token.Token.{Token}
 use Rattle.cob_lex.specs.declared.cut.Shape.{Shape}
 use Rattle.cob_lex.specs.declared.cut.State.{State}
@@ -19,6 +19,7 @@ use Rattle.cob_lex.specs.Canonical.{token, canonical, canonical_tokens}
 use Rattle.cob_scan.specs.Scan.{Scan, BadLineAt, BadTokenAt, Tokens, lexed, joined, scan_of}
 use Rattle.cob_scan.proofs.Most.{Most, most_more}
 use Rattle.cob_scan.proofs.TextLengths.{text_few}
+use Rattle.cob_tree.specs.Limits.{token_limit}
 
 piece_few : (start : ℕ) (m : Mark) (n : ℕ) (shape : Option Shape) → length (piece_list start m n shape) ≤ 1
 piece_few start m n None = omega arith
@@ -102,8 +103,8 @@ joined_few n (Ok marks) most =
     lexed_few n tokens (most_more (length marks) n tokens most (tokens_few marks))
 joined_few n (Err place) most = tt
 
-pub few_tokens : (bytes : List ℕ) (tokens : List Token) → length bytes ≤ 1048576 → scan_of bytes ≡ Tokens tokens
-    → length tokens ≤ 2 ^ 27
+pub few_tokens : (bytes : List ℕ) (tokens : List Token) → length bytes ≤ source_limit → scan_of bytes ≡ Tokens tokens
+    → length tokens ≤ token_limit
 few_tokens bytes tokens h e =
     let n = 66 * (length bytes + 1) in
     let scanned : HasMost n (scan_of bytes) = joined_few n (source_text bytes) (text_few bytes) in

@@ -29,7 +29,7 @@ joined (Err place) = BadLineAt place.line place.column
 abbrev pub scan_of : List ℕ → Scan
 scan_of bytes = joined (source_text bytes)
 
--- that is answered, or want of memory
+-- What is answered is the scan of the bytes, or want of memory.
 abbrev pub IsScanned : List ℕ → Result (Vec Token Global) ScanEnd → Type 0
 IsScanned bytes (Ok tokens) = scan_of bytes ≡ Tokens tokens.items
 IsScanned bytes (Err (end.BadLine line column)) = scan_of bytes ≡ BadLineAt line column

@@ -2,8 +2,10 @@
 //! format" and "Character-strings and separators").
 #![tactic(auto)]
 
-ghost use Rattle.std.specs.Prelude.{◌≡◌, ◌≤◌, ◌^◌, length, IfOk};
+ghost use Rattle.std.specs.Prelude.{◌≡◌, ◌≤◌, length, IfOk};
 ghost use Rattle.cob_scan.specs.Scan.{IsScanned};
+ghost use Rattle.cob_tree.specs.Limits.{token_limit};
+ghost use Rattle.cob_lines.specs.Text.{source_limit};
 
 use cob_lex::{LexEnd, tokens_of};
 use cob_lines::{TextEnd, text_of};
@@ -25,9 +27,9 @@ pub enum ScanEnd {
 
 /// The canonical tokens of a source of at most 1,048,576 bytes.
 pub fn tokens_in(alloc: Global, bytes: &[u8]) -> Result<Vec<Token>, ScanEnd>
-    requires { length bytes.now ≤ 1048576 }
+    requires { length bytes.now ≤ source_limit }
     ensures scanned { IsScanned bytes.now result }
-    ensures few { IfOk result (λ tokens. length tokens.items ≤ 2 ^ 27) }
+    ensures few { IfOk result (λ tokens. length tokens.items ≤ token_limit) }
 {
     let text = match text_of(alloc, bytes) {
         Ok(text) => text,

@@ -11,7 +11,8 @@ use Rattle.cob_runs.specs.State.{World, Doing, rest, paras, state}
 use Rattle.cob_runs.specs.Steps.{body_at, begun, entered, settled_on}
 use Rattle.cob_step.specs.declared.control.Todo.{Todo}
 use Rattle.cob_step.specs.declared.control.Control.{Control}
-use Rattle.cob_step.specs.Views.{plain_stmts, plain_doing, plain_control}
+use Rattle.cob_program.specs.ActView.{plain_stmts}
+use Rattle.cob_step.specs.Views.{plain_doing, plain_control}
 
 pub begun_full : (xs : List declared_stmt.Stmt) (front otherwise : List Doing) → (length xs == 0) ≡ false →
     begun (plain_stmts xs) front otherwise ≡ rest (plain_stmts xs) ∷ front

@@ -1,5 +1,5 @@
 -- What is still to be done can be done, after each step too.
-use Rattle.std.proofs.Common.{◌≡◌, ℕ, zero, suc, ◌-◌, ◌==◌, ◌&&◌, if◌then◌else◌, Bool, true, false, List, [], ◌∷◌, length, sym, subst, ◌∙◌, Option, Some, None, slice_get, Result, Ok, Err}
+use Rattle.std.proofs.Common.{◌≡◌, ℕ, zero, suc, ◌-◌, ◌==◌, ◌&&◌, if◌then◌else◌, Bool, true, false, List, [], ◌∷◌, sym, subst, Option, Some, None, slice_get, Result, Ok, Err}
 use Rattle.std.specs.List.{AllByRecursion}
 use Rattle.std.specs.Option.{option_map_or}
 use Rattle.std.specs.Result.{OnOk}
@@ -251,6 +251,6 @@ module _ (p : Program) (able : CanDoProgram p) where
     can_step s t h e = let P : State → Type 0 = λ x. CanGoOn x in subst P (sym e) (can_step_on s s.control h h)
 
     pub step_is_ready : {T E : Type 0} (r : Result T E) (s t : State) → IsReady p s →
-        length t.world.storage ≡ length s.world.storage → OnOk r (t ≡ step_on p c s s.control) → OnOk r (IsReady p t)
-    step_is_ready (Ok x) s t h kept e = record { able = can_step s t h.able e; whole = kept ∙ h.whole }
-    step_is_ready (Err x) s t h kept e = tt
+        OnOk r (t ≡ step_on p c s s.control) → OnOk r (IsReady p t)
+    step_is_ready (Ok x) s t h e = record { able = can_step s t h.able e }
+    step_is_ready (Err x) s t h e = tt

@@ -9,7 +9,7 @@ use Rattle.cob_program.specs.declared.act.Act.TheFolds.{fold_out-When}
 use Rattle.cob_program.specs.declared.logic.Logic as declared_logic
 use Rattle.cob_program.specs.Logic.{logics_of}
 use Rattle.cob_program.specs.LogicView.{plain_logic}
-use Rattle.cob_program.specs.ActView.{plain_when}
+use Rattle.cob_program.specs.ActView.{plain_when, plain_stmts, plain_whens}
 use Rattle.cob_program.specs.Act.{Program, Stmts, When, MkWhen, Whens, no_whens, more_whens}
 use Rattle.cob_runs.specs.Faults.{◌>>=◌}
 use Rattle.cob_runs.specs.Files.{Choice}
@@ -18,7 +18,6 @@ use Rattle.cob_runs.specs.Steps.{chosen}
 use Rattle.cob_calc.specs.Comparing.{CanDecideAll}
 use Rattle.cob_world.specs.Doing.{CanDoWhens}
 use Rattle.cob_step.specs.Choosing.{when_holds, list_in}
-use Rattle.cob_step.specs.Views.{plain_stmts, plain_whens}
 use Rattle.cob_step.proofs.Kept.{can_decide_all}
 
 module _ (p : Program) (c : Choice) (v : World) (other : Stmts) where

@@ -7,10 +7,10 @@ use Rattle.cob_program.specs.Act.{Stmts, When, MkWhen}
 use Rattle.cob_runs.specs.Deciding.{some_holds}
 use Rattle.cob_runs.specs.State.{World}
 
--- whether it matches
+-- whether a WHEN matches
 abbrev pub when_holds : Layout → World → When → Result Bool Kind
 when_holds l w (MkWhen tests body) = some_holds l w.storage (logics_of tests)
 
--- what is done there
+-- what is done where a WHEN matches
 abbrev pub list_in : When → Stmts
 list_in (MkWhen tests body) = body

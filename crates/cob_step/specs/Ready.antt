@@ -1,5 +1,5 @@
 -- What a step needs of a run, and keeps.
-use Rattle.std.specs.Prelude.{◌≡◌, List, length}
+use Rattle.std.specs.Prelude.{List}
 use Rattle.std.specs.List.{AllByRecursion}
 use Rattle.cob_data.specs.declared.layout.Layout.{Layout}
 use Rattle.cob_program.specs.Act.{Program}
@@ -16,7 +16,6 @@ module _ (l : Layout) where
   abbrev pub CanDoAll : List Doing → Type 0
   CanDoAll ds = AllByRecursion CanDoNext ds
 
--- what is still to be done can be done, and storage is as long as the layout says
+-- What is still to be done of a run can be done.
 pub record IsReady (p : Program) (s : State) : Type 0 where
   pub able : CanDoAll p.layout s.control
-  pub whole : length s.world.storage ≡ p.layout.storage

@@ -3,11 +3,11 @@ ghost use Rattle.std.specs.Prelude.{◌≡◌, ◌<◌, ◌^◌, ◌-◌, ◌∷
 ghost use Rattle.std.specs.Option.{option_map_or};
 ghost use Rattle.std.specs.Result.{OnOk};
 ghost use Rattle.cob_program.specs.Act as act;
-ghost use Rattle.cob_program.specs.ActView.{plain_program};
+ghost use Rattle.cob_program.specs.ActView.{plain_program, plain_stmts};
 ghost use Rattle.cob_runs.specs.Files.{Choice};
 ghost use Rattle.cob_runs.specs.State.{World, Doing, rest, paras, state};
 ghost use Rattle.cob_runs.specs.Steps.{body_at, entered, settled, settled_on, gone_to, number_of};
-ghost use Rattle.cob_step.specs.Views.{plain_stmts, plain_doing, plain_control};
+ghost use Rattle.cob_step.specs.Views.{plain_doing, plain_control};
 ghost use Rattle.cob_step.specs.Settling.{Begins};
 
 use cob_meaning::Outcome;

@@ -6,7 +6,6 @@ ghost use Rattle.cob_program.specs.ActView.{plain_program, plain_body, plain_tur
 ghost use Rattle.cob_runs.specs.Files.{Choice};
 ghost use Rattle.cob_runs.specs.State.{testing, augmenting};
 ghost use Rattle.cob_runs.specs.Steps.{body_of, loop_begun, is_left, turn, goes_on, tested, augmented};
-ghost use Rattle.cob_items.specs.Sound.{HasSoundItems};
 ghost use Rattle.cob_world.specs.Becoming.{Becomes};
 ghost use Rattle.cob_world.specs.Doing.{CanTurn};
 ghost use Rattle.cob_world.specs.Needs.{IsNumber};
@@ -16,7 +15,7 @@ use crate::control::{Control, Todo};
 use crate::run::Run;
 use cob_data::Sender;
 use cob_meaning::Outcome;
-use cob_program::{Body, Program, Turns};
+use cob_program::{Body, Turns};
 use cob_store::MoveEnd;
 use cob_tree::Kind;
 use cob_world::World;
@@ -46,17 +45,16 @@ fn body_of<'a>(body: &'a Body) -> Todo<'a>
 }
 
 // Whether a loop goes on.
-fn goes_on(program: &Program, world: &World, number: u32, turns: &Turns) -> Result<bool, Kind>
-    requires sound { HasSoundItems program.now.layout }
-    requires whole { length world.now.storage ≡ program.now.layout.storage }
-    requires able { CanTurn program.now.layout (plain_turns turns.now) }
-    ensures { (c : Choice) → result ≡ goes_on (plain_program program.now) c number (plain_turns turns.now) world.now }
+fn goes_on(world: &World, number: u32, turns: &Turns) -> Result<bool, Kind>
+    requires able { CanTurn world.now.program.layout (plain_turns turns.now) }
+    ensures { (c : Choice) → result ≡ goes_on (plain_program world.now.program) c number (plain_turns turns.now)
+        world.now.world }
 {
     match turns {
         Turns::Once => Ok(false),
-        Turns::Times(_) => Ok(is_left(world.count_of(&program.layout, number))),
-        Turns::Until { test, .. } => Ok(!world.holds(&program.layout, test)?),
-        Turns::Varying { test, .. } => Ok(!world.holds(&program.layout, test)?),
+        Turns::Times(_) => Ok(is_left(world.count_of(number))),
+        Turns::Until { test, .. } => Ok(!world.holds(test)?),
+        Turns::Varying { test, .. } => Ok(!world.holds(test)?),
     }
 }
 
@@ -162,24 +160,22 @@ impl<'a> Run<'a> {
     pub fn do_perform(
         &mut self,
         alloc: Global,
-        program: &'a Program,
         number: u32,
         body: &'a Body,
         turns: &'a Turns,
     ) -> Result<(), MoveEnd>
-        requires sound { HasSoundItems program.now.layout }
-        requires whole { length self.old.world.storage ≡ program.now.layout.storage }
-        requires able { CanTurn program.now.layout (plain_turns turns.now) }
+        requires able { CanTurn self.old.world.program.layout (plain_turns turns.now) }
         requires going { self.old.outcome ≡ Outcome.Going }
         ensures done { Becomes
-            (loop_begun (plain_program program.now) None number (plain_body body.now) (plain_turns turns.now)
-            self.old.world (plain_control self.old.control))
+            (loop_begun (plain_program self.old.world.program) None number (plain_body body.now)
+            (plain_turns turns.now)
+            self.old.world.world (plain_control self.old.control))
             result (plain_run self.old) (plain_run self.new) }
-        ensures kept { length self.new.world.storage ≡ length self.old.world.storage }
+        ensures kept { self.new.world.program ≡ self.old.world.program }
     {
         match turns {
             Turns::Once => Ok(self.control.push(body_of(body))?),
-            Turns::Times(count) => self.begin_times(program, number, body, turns, count),
+            Turns::Times(count) => self.begin_times(number, body, turns, count),
             Turns::Until { after, .. } => {
                 Ok(self.control.push_loop(*after, number, body, turns)?)
             }
@@ -189,7 +185,7 @@ impl<'a> Run<'a> {
                 start,
                 ..
             } => {
-                self.world.set_varied(alloc, &program.layout, *item, start)?;
+                self.world.set_varied(alloc, *item, start)?;
                 Ok(self.control.push_loop(*after, number, body, turns)?)
             }
         }
@@ -198,24 +194,22 @@ impl<'a> Run<'a> {
     // The count of turns, and then the test.
     fn begin_times(
         &mut self,
-        program: &'a Program,
         number: u32,
         body: &'a Body,
         turns: &'a Turns,
         count: &Sender,
     ) -> Result<(), MoveEnd>
-        requires sound { HasSoundItems program.now.layout }
-        requires whole { length self.old.world.storage ≡ program.now.layout.storage }
-        requires number { IsNumber program.now.layout count.now }
+        requires number { IsNumber self.old.world.program.layout count.now }
         requires turns { plain_turns turns.now ≡ act.times count.now }
         requires going { self.old.outcome ≡ Outcome.Going }
         ensures done { Becomes
-            (loop_begun (plain_program program.now) None number (plain_body body.now) (plain_turns turns.now)
-            self.old.world (plain_control self.old.control))
+            (loop_begun (plain_program self.old.world.program) None number (plain_body body.now)
+            (plain_turns turns.now)
+            self.old.world.world (plain_control self.old.control))
             result (plain_run self.old) (plain_run self.new) }
-        ensures kept { length self.new.world.storage ≡ length self.old.world.storage }
+        ensures kept { self.new.world.program ≡ self.old.world.program }
     {
-        match self.world.set_count(&program.layout, number, count) {
+        match self.world.set_count(number, count) {
             Err(kind) => Err(MoveEnd::Fault(kind)),
             Ok(()) => Ok(self.control.push_test(number, body, turns)?),
         }
@@ -224,22 +218,19 @@ impl<'a> Run<'a> {
     /// The test of a loop.
     pub fn test_loop(
         &mut self,
-        program: &'a Program,
         number: u32,
         body: &'a Body,
         turns: &'a Turns,
     ) -> Result<(), MoveEnd>
-        requires sound { HasSoundItems program.now.layout }
-        requires whole { length self.old.world.storage ≡ program.now.layout.storage }
-        requires able { CanTurn program.now.layout (plain_turns turns.now) }
+        requires able { CanTurn self.old.world.program.layout (plain_turns turns.now) }
         requires going { self.old.outcome ≡ Outcome.Going }
         ensures done { (c : Choice) → Becomes
-            (tested (plain_program program.now) c number (plain_body body.now) (plain_turns turns.now)
-            self.old.world (plain_control self.old.control))
+            (tested (plain_program self.old.world.program) c number (plain_body body.now) (plain_turns turns.now)
+            self.old.world.world (plain_control self.old.control))
             result (plain_run self.old) (plain_run self.new) }
         ensures kept { self.new.world ≡ self.old.world }
     {
-        match goes_on(program, &self.world, number, turns) {
+        match goes_on(&self.world, number, turns) {
             Err(kind) => Err(MoveEnd::Fault(kind)),
             Ok(true) => Ok(self.control.push_turn(number, body, turns)?),
             Ok(false) => Ok(()),
@@ -249,31 +240,28 @@ impl<'a> Run<'a> {
     /// What is done behind a turn of a loop.
     pub fn augment_loop(
         &mut self,
-        program: &'a Program,
         number: u32,
         body: &'a Body,
         turns: &'a Turns,
     ) -> Result<(), MoveEnd>
-        requires sound { HasSoundItems program.now.layout }
-        requires whole { length self.old.world.storage ≡ program.now.layout.storage }
-        requires able { CanTurn program.now.layout (plain_turns turns.now) }
+        requires able { CanTurn self.old.world.program.layout (plain_turns turns.now) }
         requires going { self.old.outcome ≡ Outcome.Going }
         ensures done { (c : Choice) → Becomes
-            (augmented (plain_program program.now) c number (plain_body body.now) (plain_turns turns.now)
-            self.old.world (plain_control self.old.control))
+            (augmented (plain_program self.old.world.program) c number (plain_body body.now) (plain_turns turns.now)
+            self.old.world.world (plain_control self.old.control))
             result (plain_run self.old) (plain_run self.new) }
-        ensures kept { length self.new.world.storage ≡ length self.old.world.storage }
+        ensures kept { self.new.world.program ≡ self.old.world.program }
     {
         match turns {
             Turns::Once => Ok(()),
             Turns::Until { .. } => Ok(()),
-            Turns::Times(_) => Ok(self.world.count_down(&program.layout, number)?),
+            Turns::Times(_) => Ok(self.world.count_down(number)?),
             Turns::Varying {
                 after,
                 item,
                 by,
                 ..
-            } => match self.world.augment(&program.layout, *item, by) {
+            } => match self.world.augment(*item, by) {
                 Err(kind) => Err(MoveEnd::Fault(kind)),
                 Ok(()) => Ok(self.control.push_if(*after, body_of(body))?),
             },

@@ -8,7 +8,7 @@ ghost use Rattle.cob_runs.specs.Files.{Choice};
 ghost use Rattle.cob_runs.specs.Runs.{begin};
 ghost use Rattle.cob_runs.specs.State.{state};
 ghost use Rattle.cob_runs.specs.Steps.{step, step_on, settled_state, front_done, number_of};
-ghost use Rattle.cob_items.specs.Sound.{HasSoundItems};
+ghost use Rattle.cob_items.specs.WellFormed.{HasWellFormedItems};
 ghost use Rattle.cob_world.specs.Becoming.{Becomes};
 ghost use Rattle.cob_world.specs.Doing.{CanDoProgram};
 ghost use Rattle.cob_step.specs.Ready.{CanDoNext, IsReady};
@@ -25,7 +25,7 @@ use std::alloc::{AllocError, Global};
 /// What a run works on, what it has still to do, and its outcome.
 #[derive(Drop)]
 pub struct Run<'a> {
-    pub(crate) world: World,
+    pub(crate) world: World<'a>,
     pub(crate) control: Control<'a>,
     pub(crate) outcome: Outcome,
 }
@@ -36,11 +36,12 @@ pub fn begin<'a>(
     program: &'a Program,
     contents: Contents,
 ) -> Result<Run<'a>, AllocError>
-    requires sound { HasSoundItems program.now.layout }
+    requires sound { HasWellFormedItems program.now.layout }
     requires able { CanDoProgram (plain_program program.now) }
     ensures begun { IfOk result (λ run. plain_run run
         ≡ begin (plain_program program.now) (map (option_map (λ v. v.items)) contents.items) []) }
     ensures ready { IfOk result (λ run. IsReady (plain_program program.now) (plain_run run)) }
+    ensures its { IfOk result (λ run. run.world.program ≡ program.now) }
 {
     let world = World::first(alloc, program, contents)?;
     let control = Control::of(alloc, program)?;
@@ -53,28 +54,24 @@ pub fn begin<'a>(
 }
 
 /// One step of a run. What is given stands in a record area that a statement leaves undefined, if it has the area's
-/// length. Where memory runs out nothing is said of the run.
-pub fn step<'a>(
-    alloc: Global,
-    program: &'a Program,
-    choice: &Option<Bytes>,
-    run: &mut Run<'a>,
-) -> Result<(), AllocError>
-    requires sound { HasSoundItems program.now.layout }
-    requires able { CanDoProgram (plain_program program.now) }
-    requires ready { IsReady (plain_program program.now) (plain_run run.old) }
-    ensures done { OnOk result (plain_run run.new ≡ step (plain_program program.now) choice.now (plain_run run.old)) }
-    ensures ready { OnOk result (IsReady (plain_program program.now) (plain_run run.new)) }
+/// length. Where memory runs out nothing is said of the run but its program.
+pub fn step(alloc: Global, choice: &Option<Bytes>, run: &mut Run) -> Result<(), AllocError>
+    requires able { CanDoProgram (plain_program run.old.world.program) }
+    requires ready { IsReady (plain_program run.old.world.program) (plain_run run.old) }
+    ensures done { OnOk result (plain_run run.new
+        ≡ step (plain_program run.old.world.program) choice.now (plain_run run.old)) }
+    ensures ready { OnOk result (IsReady (plain_program run.old.world.program) (plain_run run.new)) }
+    ensures kept { run.new.world.program ≡ run.old.world.program }
 {
     match run.outcome {
-        Outcome::Going => run.go_on(alloc, program, choice),
+        Outcome::Going => run.go_on(alloc, choice),
         Outcome::Ended | Outcome::IoStop { .. } | Outcome::Fault { .. } => Ok(()),
     }
 }
 
 impl<'a> Run<'a> {
     /// What the run works on.
-    pub fn world(&self) -> &World
+    pub fn world(&self) -> &World<'a>
         ensures { result.now ≡ self.now.world }
     {
         &self.world
@@ -87,26 +84,21 @@ impl<'a> Run<'a> {
         self.outcome
     }
 
-    fn go_on(
-        &mut self,
-        alloc: Global,
-        program: &'a Program,
-        choice: &Option<Bytes>,
-    ) -> Result<(), AllocError>
-        requires sound { HasSoundItems program.now.layout }
-        requires ready { IsReady (plain_program program.now) (plain_run self.old) }
+    fn go_on(&mut self, alloc: Global, choice: &Option<Bytes>) -> Result<(), AllocError>
+        requires ready { IsReady (plain_program self.old.world.program) (plain_run self.old) }
         requires going { self.old.outcome ≡ Outcome.Going }
         ensures done { OnOk result (plain_run self.new
-            ≡ step_on (plain_program program.now) choice.now (plain_run self.old) (plain_control self.old.control)) }
-        ensures kept { length self.new.world.storage ≡ length self.old.world.storage }
+            ≡ step_on (plain_program self.old.world.program) choice.now (plain_run self.old)
+            (plain_control self.old.control)) }
+        ensures kept { self.new.world.program ≡ self.old.world.program }
     {
         match self.control.pop() {
             None => {
                 self.outcome = Outcome::Ended;
                 Ok(())
             }
-            Some(front) => match self.do_front(alloc, program, choice, front) {
-                Ok(()) => self.settle(program),
+            Some(front) => match self.do_front(alloc, choice, front) {
+                Ok(()) => self.settle(),
                 Err(MoveEnd::Fault(kind)) => self.fail(front, kind),
                 Err(MoveEnd::Memory) => Err(AllocError),
             },
@@ -116,7 +108,7 @@ impl<'a> Run<'a> {
     // A step that met a fault changes nothing but the outcome.
     fn fail(&mut self, front: Todo<'a>, kind: Kind) -> Result<(), AllocError>
         ensures done { (p : act.Program) (c : Choice) → OnOk result (plain_run self.new
-            ≡ state self.old.world (plain_doing front.entry ∷ plain_control self.old.control)
+            ≡ state self.old.world.world (plain_doing front.entry ∷ plain_control self.old.control)
             (Outcome.Fault kind (number_of p c (plain_doing front.entry)))) }
         ensures kept { self.new.world ≡ self.old.world }
     {
@@ -126,14 +118,14 @@ impl<'a> Run<'a> {
         Ok(())
     }
 
-    fn settle(&mut self, program: &'a Program) -> Result<(), AllocError>
+    fn settle(&mut self) -> Result<(), AllocError>
         ensures done { (c : Choice) → OnOk result (plain_run self.new
-            ≡ settled_state (plain_program program.now) c (plain_run self.old)) }
+            ≡ settled_state (plain_program self.old.world.program) c (plain_run self.old)) }
         ensures kept { self.new.world ≡ self.old.world }
     {
         match self.outcome {
             Outcome::Going => {
-                self.control.settle(program)?;
+                self.control.settle(self.world.program())?;
                 self.outcome = self.control.outcome();
                 Ok(())
             }
@@ -144,33 +136,31 @@ impl<'a> Run<'a> {
     fn do_front(
         &mut self,
         alloc: Global,
-        program: &'a Program,
         choice: &Option<Bytes>,
         front: Todo<'a>,
     ) -> Result<(), MoveEnd>
-        requires sound { HasSoundItems program.now.layout }
-        requires whole { length self.old.world.storage ≡ program.now.layout.storage }
-        requires able { CanDoNext program.now.layout (plain_doing front) }
+        requires able { CanDoNext self.old.world.program.layout (plain_doing front) }
         requires going { self.old.outcome ≡ Outcome.Going }
         ensures done { Becomes
-            (front_done (plain_program program.now) choice.now (plain_doing front.entry) self.old.world
+            (front_done (plain_program self.old.world.program) choice.now (plain_doing front.entry)
+            self.old.world.world
             (plain_control self.old.control))
             result (plain_run self.old) (plain_run self.new) }
-        ensures kept { length self.new.world.storage ≡ length self.old.world.storage }
+        ensures kept { self.new.world.program ≡ self.old.world.program }
     {
         match front {
-            Todo::Rest(list) => self.do_list(alloc, program, choice, list),
+            Todo::Rest(list) => self.do_list(alloc, choice, list),
             Todo::Paras { .. } => Ok(()),
             Todo::Testing {
                 number,
                 body,
                 turns,
-            } => self.test_loop(program, number, body, turns),
+            } => self.test_loop(number, body, turns),
             Todo::Augmenting {
                 number,
                 body,
                 turns,
-            } => self.augment_loop(program, number, body, turns),
+            } => self.augment_loop(number, body, turns),
         }
     }
 }

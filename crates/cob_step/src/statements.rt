@@ -3,24 +3,23 @@
 ghost use Rattle.std.specs.Prelude.{◌≡◌, [], length, if◌then◌else◌};
 ghost use Rattle.std.specs.List.{AllByRecursion};
 ghost use Rattle.cob_program.specs.Act as act;
-ghost use Rattle.cob_program.specs.ActView.{plain_program, plain_act};
+ghost use Rattle.cob_program.specs.ActView.{plain_program, plain_act, plain_stmts, plain_phrase, plain_whens};
 ghost use Rattle.cob_program.specs.LogicView.{plain_logic};
 ghost use Rattle.cob_program.specs.SumView.{plain_sum};
 ghost use Rattle.cob_runs.specs.State.{rest, state, going};
 ghost use Rattle.cob_runs.specs.Steps.{list_of, is_given, gone_to, done, front_done};
-ghost use Rattle.cob_items.specs.Sound.{HasSoundItems};
 ghost use Rattle.cob_calc.specs.Arithmetic.{CanCompute};
 ghost use Rattle.cob_calc.specs.Comparing.{CanDecide};
 ghost use Rattle.cob_world.specs.Becoming.{Becomes};
 ghost use Rattle.cob_world.specs.Doing.{CanMoveTo, CanDo, CanDoAct, CanDoWhens};
-ghost use Rattle.cob_step.specs.Views.{plain_stmts, plain_phrase, plain_whens, plain_control, plain_run};
+ghost use Rattle.cob_step.specs.Views.{plain_control, plain_run};
 
 use crate::control::Todo;
 use crate::run::Run;
 use crate::selecting::chosen;
 use cob_data::Sender;
 use cob_meaning::Outcome;
-use cob_program::{Act, Logic, Program, Stmt, Sum, Target, When};
+use cob_program::{Act, Logic, Stmt, Sum, Target, When};
 use cob_store::MoveEnd;
 use cob_tree::Bytes;
 use std::alloc::Global;
@@ -53,25 +52,23 @@ impl<'a> Run<'a> {
     pub fn do_list(
         &mut self,
         alloc: Global,
-        program: &'a Program,
         choice: &Option<Bytes>,
         list: &'a [Stmt],
     ) -> Result<(), MoveEnd>
-        requires sound { HasSoundItems program.now.layout }
-        requires whole { length self.old.world.storage ≡ program.now.layout.storage }
-        requires able { CanDo program.now.layout (plain_stmts list.now) }
+        requires able { CanDo self.old.world.program.layout (plain_stmts list.now) }
         requires going { self.old.outcome ≡ Outcome.Going }
         ensures done { Becomes
-            (front_done (plain_program program.now) choice.now (rest (plain_stmts list.now)) self.old.world
+            (front_done (plain_program self.old.world.program) choice.now (rest (plain_stmts list.now))
+            self.old.world.world
             (plain_control self.old.control))
             result (plain_run self.old) (plain_run self.new) }
-        ensures kept { length self.new.world.storage ≡ length self.old.world.storage }
+        ensures kept { self.new.world.program ≡ self.old.world.program }
     {
         match list {
             [] => Ok(()),
             [stmt, rest @ ..] => {
                 self.control.push(Todo::Rest(rest))?;
-                match self.do_act(alloc, program, choice, stmt.number, &stmt.act) {
+                match self.do_act(alloc, choice, stmt.number, &stmt.act) {
                     Ok(()) => Ok(()),
                     Err(end) => {
                         let _ = self.control.pop();
@@ -85,152 +82,113 @@ impl<'a> Run<'a> {
     fn do_act(
         &mut self,
         alloc: Global,
-        program: &'a Program,
         choice: &Option<Bytes>,
         number: u32,
         act: &'a Act,
     ) -> Result<(), MoveEnd>
-        requires sound { HasSoundItems program.now.layout }
-        requires whole { length self.old.world.storage ≡ program.now.layout.storage }
-        requires able { CanDoAct program.now.layout (plain_act act.now) }
+        requires able { CanDoAct self.old.world.program.layout (plain_act act.now) }
         requires going { self.old.outcome ≡ Outcome.Going }
         ensures done { Becomes
-            (done (plain_program program.now) choice.now number (plain_act act.now) self.old.world
+            (done (plain_program self.old.world.program) choice.now number (plain_act act.now) self.old.world.world
             (plain_control self.old.control))
             result (plain_run self.old) (plain_run self.new) }
-        ensures kept { length self.new.world.storage ≡ length self.old.world.storage }
+        ensures kept { self.new.world.program ≡ self.old.world.program }
     {
         match act {
-            Act::Move { from, to } => self.do_move(alloc, program, from, to.get()),
+            Act::Move { from, to } => self.do_move(alloc, from, to.get()),
             Act::Arith {
                 common,
                 targets,
                 remainder,
                 size,
                 fine,
-            } => self.do_arithmetic(
-                alloc,
-                program,
-                common,
-                targets.get(),
-                *remainder,
-                size,
-                fine,
-            ),
-            Act::If { test, yes, no } => self.do_if(program, test, yes, no),
-            Act::Evaluate { whens, other } => self.do_evaluate(program, whens, other),
-            Act::Perform { body, turns } => self.do_perform(alloc, program, number, body, turns),
+            } => self.do_arithmetic(alloc, common, targets.get(), *remainder, size, fine),
+            Act::If { test, yes, no } => self.do_if(test, yes, no),
+            Act::Evaluate { whens, other } => self.do_evaluate(whens, other),
+            Act::Perform { body, turns } => self.do_perform(alloc, number, body, turns),
             Act::Go(place) => self.do_go(*place),
             Act::Nothing => Ok(()),
             Act::Stop => self.do_stop(),
-            Act::OpenFiles(files) => self.do_open(alloc, program, number, files.get()),
-            Act::CloseFiles(files) => self.do_close(program, number, files.get()),
+            Act::OpenFiles(files) => self.do_open(alloc, number, files.get()),
+            Act::CloseFiles(files) => self.do_close(number, files.get()),
             Act::Read {
                 file,
                 into,
                 end,
                 fine,
-            } => self.do_read(program, choice, number, *file, *into, end, fine),
-            Act::Write { rec, from } => {
-                self.do_write(alloc, program, choice, number, *rec, from)
-            }
-            Act::Show(senders) => self.do_show(program, senders.get()),
+            } => self.do_read(choice, number, *file, *into, end, fine),
+            Act::Write { rec, from } => { self.do_write(alloc, choice, number, *rec, from) }
+            Act::Show(senders) => self.do_show(senders.get()),
         }
     }
 
-    fn do_move(
-        &mut self,
-        alloc: Global,
-        program: &'a Program,
-        from: &Sender,
-        to: &[u32],
-    ) -> Result<(), MoveEnd>
-        requires sound { HasSoundItems program.now.layout }
-        requires whole { length self.old.world.storage ≡ program.now.layout.storage }
-        requires able { AllByRecursion (CanMoveTo program.now.layout from.now) to.now }
+    fn do_move(&mut self, alloc: Global, from: &Sender, to: &[u32]) -> Result<(), MoveEnd>
+        requires able { AllByRecursion (CanMoveTo self.old.world.program.layout from.now) to.now }
         requires going { self.old.outcome ≡ Outcome.Going }
         ensures done { Becomes
-            (done (plain_program program.now) None 0 (act.move from.now to.now) self.old.world
+            (done (plain_program self.old.world.program) None 0 (act.move from.now to.now) self.old.world.world
             (plain_control self.old.control))
             result (plain_run self.old) (plain_run self.new) }
-        ensures kept { length self.new.world.storage ≡ length self.old.world.storage }
+        ensures kept { self.new.world.program ≡ self.old.world.program }
     {
-        self.world.move_to(alloc, &program.layout, from, to)
+        self.world.move_to(alloc, from, to)
     }
 
     fn do_arithmetic(
         &mut self,
         alloc: Global,
-        program: &'a Program,
         common: &Sum,
         targets: &[Target],
         remainder: Option<u32>,
         size: &'a Option<Vec<Stmt>>,
         fine: &'a [Stmt],
     ) -> Result<(), MoveEnd>
-        requires sound { HasSoundItems program.now.layout }
-        requires whole { length self.old.world.storage ≡ program.now.layout.storage }
-        requires able { CanCompute program.now.layout (plain_sum common.now) targets.now remainder }
+        requires able { CanCompute self.old.world.program.layout (plain_sum common.now) targets.now remainder }
         requires going { self.old.outcome ≡ Outcome.Going }
         ensures done { Becomes
-            (done (plain_program program.now) None 0
+            (done (plain_program self.old.world.program) None 0
             (act.arith (plain_sum common.now) targets.now remainder (plain_phrase size.now) (plain_stmts fine.now))
-            self.old.world (plain_control self.old.control))
+            self.old.world.world (plain_control self.old.control))
             result (plain_run self.old) (plain_run self.new) }
-        ensures kept { length self.new.world.storage ≡ length self.old.world.storage }
+        ensures kept { self.new.world.program ≡ self.old.world.program }
     {
         let phrase = is_given(size);
         let failed = self
             .world
-            .compute(alloc, &program.layout, phrase, common, targets, remainder)?;
+            .compute(alloc, phrase, common, targets, remainder)?;
         self.control
             .push(Todo::Rest(list_behind(failed, size, fine)))?;
         Ok(())
     }
 
-    fn do_if(
-        &mut self,
-        program: &'a Program,
-        test: &Logic,
-        held: &'a [Stmt],
-        other: &'a [Stmt],
-    ) -> Result<(), MoveEnd>
-        requires sound { HasSoundItems program.now.layout }
-        requires whole { length self.old.world.storage ≡ program.now.layout.storage }
-        requires able { CanDecide program.now.layout (plain_logic test.now) }
+    fn do_if(&mut self, test: &Logic, held: &'a [Stmt], other: &'a [Stmt]) -> Result<(), MoveEnd>
+        requires able { CanDecide self.old.world.program.layout (plain_logic test.now) }
         requires going { self.old.outcome ≡ Outcome.Going }
         ensures done { Becomes
-            (done (plain_program program.now) None 0
+            (done (plain_program self.old.world.program) None 0
             (act.if_ (plain_logic test.now) (plain_stmts held.now) (plain_stmts other.now))
-            self.old.world (plain_control self.old.control))
+            self.old.world.world (plain_control self.old.control))
             result (plain_run self.old) (plain_run self.new) }
         ensures kept { self.new.world ≡ self.old.world }
     {
-        match self.world.holds(&program.layout, test) {
+        match self.world.holds(test) {
             Err(kind) => Err(MoveEnd::Fault(kind)),
             Ok(true) => Ok(self.control.push(Todo::Rest(held))?),
             Ok(false) => Ok(self.control.push(Todo::Rest(other))?),
         }
     }
 
-    fn do_evaluate(
-        &mut self,
-        program: &'a Program,
-        whens: &'a [When],
-        other: &'a [Stmt],
-    ) -> Result<(), MoveEnd>
-        requires sound { HasSoundItems program.now.layout }
-        requires whole { length self.old.world.storage ≡ program.now.layout.storage }
-        requires able { CanDoWhens program.now.layout (plain_whens whens.now) }
+    fn do_evaluate(&mut self, whens: &'a [When], other: &'a [Stmt]) -> Result<(), MoveEnd>
+        requires able { CanDoWhens self.old.world.program.layout (plain_whens whens.now) }
         requires going { self.old.outcome ≡ Outcome.Going }
         ensures done { Becomes
-            (done (plain_program program.now) None 0
+            (done (plain_program self.old.world.program) None 0
             (act.evaluate (plain_whens whens.now) (plain_stmts other.now))
-            self.old.world (plain_control self.old.control))
+            self.old.world.world (plain_control self.old.control))
             result (plain_run self.old) (plain_run self.new) }
         ensures kept { self.new.world ≡ self.old.world }
     {
-        match chosen(program, &self.world, whens, other) {
+        match chosen(&self.world, whens, other) {
             Err(kind) => Err(MoveEnd::Fault(kind)),
             Ok(list) => Ok(self.control.push(Todo::Rest(list))?),
         }
@@ -238,7 +196,7 @@ impl<'a> Run<'a> {
 
     fn do_go(&mut self, place: u32) -> Result<(), MoveEnd>
         requires going { self.old.outcome ≡ Outcome.Going }
-        ensures done { Becomes (Ok (going self.old.world (gone_to place (plain_control self.old.control))))
+        ensures done { Becomes (Ok (going self.old.world.world (gone_to place (plain_control self.old.control))))
             result (plain_run self.old) (plain_run self.new) }
         ensures kept { self.new.world ≡ self.old.world }
     {
@@ -246,7 +204,7 @@ impl<'a> Run<'a> {
     }
 
     fn do_stop(&mut self) -> Result<(), MoveEnd>
-        ensures done { Becomes (Ok (state self.old.world [] Outcome.Ended))
+        ensures done { Becomes (Ok (state self.old.world.world [] Outcome.Ended))
             result (plain_run self.old) (plain_run self.new) }
         ensures kept { self.new.world ≡ self.old.world }
     {
@@ -255,16 +213,14 @@ impl<'a> Run<'a> {
         Ok(())
     }
 
-    fn do_show(&mut self, program: &'a Program, senders: &[Sender]) -> Result<(), MoveEnd>
-        requires sound { HasSoundItems program.now.layout }
-        requires whole { length self.old.world.storage ≡ program.now.layout.storage }
+    fn do_show(&mut self, senders: &[Sender]) -> Result<(), MoveEnd>
         requires going { self.old.outcome ≡ Outcome.Going }
         ensures done { Becomes
-            (done (plain_program program.now) None 0 (act.show senders.now) self.old.world
+            (done (plain_program self.old.world.program) None 0 (act.show senders.now) self.old.world.world
             (plain_control self.old.control))
             result (plain_run self.old) (plain_run self.new) }
-        ensures kept { length self.new.world.storage ≡ length self.old.world.storage }
+        ensures kept { self.new.world.program ≡ self.old.world.program }
     {
-        Ok(self.world.show(&program.layout, senders)?)
+        Ok(self.world.show(senders)?)
     }
 }

@@ -16,9 +16,9 @@ use Rattle.cob_store.specs.declared.end.MoveEnd.{MoveEnd}
 use Rattle.cob_store.specs.declared.end.MoveEnd.TheVariants as end
 
 -- a sender that is an item lies in the whole of storage
-abbrev pub IsWhole : Layout → List ℕ → Sender → Type 0
-IsWhole l storage (sender.Item place) = length storage ≡ l.storage
-IsWhole l storage _ = Unit {0}
+abbrev pub HasLayoutLength : Layout → List ℕ → Sender → Type 0
+HasLayoutLength l storage (sender.Item place) = length storage ≡ l.storage
+HasLayoutLength l storage _ = Unit {0}
 
 -- why there is no such storage
 abbrev pub IsCause : {A : Type 0} → Result A Kind → MoveEnd → Type 0

@@ -1,8 +1,9 @@
+//! Storage at the beginning of a run, and whether a run is over.
 ghost use Rattle.std.specs.Prelude.{◌≡◌, ◌↔◌, [], length, false, IfOk};
 ghost use Rattle.std.specs.Result.{OnOk};
 ghost use Rattle.cob_runs.specs.Moves.{moved};
 ghost use Rattle.cob_runs.specs.Runs.{with_value, with_constant, with_values, first_storage};
-ghost use Rattle.cob_items.specs.Sound.{HasSoundItems, IsSoundItem, IsConstant, CanMove};
+ghost use Rattle.cob_items.specs.WellFormed.{HasWellFormedItems, IsWellFormedItem, IsConstant, CanMove};
 
 use crate::end::MoveEnd;
 use crate::moves::{moved_in, room};
@@ -19,8 +20,8 @@ fn put_constant(
     constant: &Sender,
     storage: &mut [u8],
 ) -> Result<(), AllocError>
-    requires sound { HasSoundItems layout.now }
-    requires item { IsSoundItem layout.now item.now }
+    requires sound { HasWellFormedItems layout.now }
+    requires item { IsWellFormedItem layout.now item.now }
     requires whole { length storage.old ≡ layout.now.storage }
     requires constant { IsConstant constant.now }
     requires able { CanMove layout.now constant.now item.now.form }
@@ -46,8 +47,8 @@ fn put_value(
     item: &Item,
     storage: &mut [u8],
 ) -> Result<(), AllocError>
-    requires sound { HasSoundItems layout.now }
-    requires item { IsSoundItem layout.now item.now }
+    requires sound { HasWellFormedItems layout.now }
+    requires item { IsWellFormedItem layout.now item.now }
     requires whole { length storage.old ≡ layout.now.storage }
     ensures { OnOk result (storage.new ≡ with_constant layout.now item.now item.now.value storage.old) }
 {
@@ -59,7 +60,7 @@ fn put_value(
 
 // Puts each VALUE, in the order of the items.
 fn put_values(alloc: Global, layout: &Layout, storage: &mut [u8]) -> Result<(), AllocError>
-    requires sound { HasSoundItems layout.now }
+    requires sound { HasWellFormedItems layout.now }
     requires whole { length storage.old ≡ layout.now.storage }
     ensures { OnOk result (storage.new ≡ with_values layout.now layout.now.items storage.old) }
 {
@@ -71,7 +72,7 @@ fn put_values(alloc: Global, layout: &Layout, storage: &mut [u8]) -> Result<(), 
 
 /// Storage at the beginning of a run: each VALUE, and spaces elsewhere (ISO 1989:1985, "VALUE clause").
 pub fn start(alloc: Global, program: &Program) -> Result<Vec<u8>, AllocError>
-    requires { HasSoundItems program.now.layout }
+    requires { HasWellFormedItems program.now.layout }
     ensures { IfOk result (λ storage. storage.items ≡ first_storage program.now.layout []) }
 {
     let mut storage = room(alloc, program.layout.storage as usize)?;

@@ -1,3 +1,4 @@
+//! How a MOVE ends that can't be done.
 use cob_tree::Kind;
 use std::alloc::AllocError;
 

@@ -1,10 +1,11 @@
+//! MOVE.
 ghost use Rattle.std.specs.Prelude.{◌≡◌, ◌≤◌, length, replicate, MatchResult, IfOk, IsTrue, Ok, false, [], ◌∷◌, ◌++◌};
 ghost use Rattle.std.specs.List.{All};
 ghost use Rattle.std.specs.Result.{OnOk};
 ghost use Rattle.cob_runs.specs.Contents.{form_at, length_at};
 ghost use Rattle.cob_runs.specs.Moves.{takes_number, is_group_sender, moved, after_move};
-ghost use Rattle.cob_items.specs.Sound.{HasSoundItems, IsSoundForm, CanMove};
-ghost use Rattle.cob_store.specs.Moving.{IsWhole, IsCause, all_moved, all_filled, AreAsLong};
+ghost use Rattle.cob_items.specs.WellFormed.{HasWellFormedItems, IsWellFormedForm, CanMove};
+ghost use Rattle.cob_store.specs.Moving.{HasLayoutLength, IsCause, all_moved, all_filled, AreAsLong};
 
 use crate::end::MoveEnd;
 use crate::senders::{is_group_sender, number_of};
@@ -30,10 +31,10 @@ pub(crate) fn moved_in(
     sender: &Sender,
     item: &Item,
 ) -> Result<Many<u8>, MoveEnd>
-    requires sound { HasSoundItems layout.now }
-    requires whole { IsWhole layout.now storage.now sender.now }
+    requires sound { HasWellFormedItems layout.now }
+    requires whole { HasLayoutLength layout.now storage.now sender.now }
     requires able { CanMove layout.now sender.now item.now.form }
-    requires form { IsSoundForm item.now.form item.now.length }
+    requires form { IsWellFormedForm item.now.form item.now.length }
     ensures value { MatchResult result
         (λ bytes. moved layout.now storage.now item.now.form item.now.length sender.now ≡ Ok bytes)
         (IsCause (moved layout.now storage.now item.now.form item.now.length sender.now)) }
@@ -54,8 +55,8 @@ fn moved(
     sender: &Sender,
     place: u32,
 ) -> Result<Many<u8>, MoveEnd>
-    requires sound { HasSoundItems layout.now }
-    requires whole { IsWhole layout.now storage.now sender.now }
+    requires sound { HasWellFormedItems layout.now }
+    requires whole { HasLayoutLength layout.now storage.now sender.now }
     requires able { CanMove layout.now sender.now (form_at layout.now place) }
     ensures value { MatchResult result
         (λ bytes. moved layout.now storage.now (form_at layout.now place) (length_at layout.now place) sender.now ≡ Ok bytes)
@@ -83,8 +84,8 @@ fn moved_all(
     sender: &Sender,
     to: &[u32],
 ) -> Result<Vec<Many<u8>>, MoveEnd>
-    requires sound { HasSoundItems layout.now }
-    requires whole { IsWhole layout.now storage.now sender.now }
+    requires sound { HasWellFormedItems layout.now }
+    requires whole { HasLayoutLength layout.now storage.now sender.now }
     requires able { All (λ place. CanMove layout.now sender.now (form_at layout.now place)) to.now }
     ensures value { MatchResult result
         (λ values. all_moved layout.now storage.now sender.now to.now ≡ Ok values.items)
@@ -101,7 +102,7 @@ fn moved_all(
 
 // Puts its bytes into each item, from left to right.
 fn fill_all(layout: &Layout, storage: &mut [u8], to: &[u32], values: &[Many<u8>])
-    requires sound { HasSoundItems layout.now }
+    requires sound { HasWellFormedItems layout.now }
     requires whole { length storage.old ≡ layout.now.storage }
     requires lengths { AreAsLong layout.now to.now values.now }
     ensures { storage.new ≡ all_filled layout.now storage.old to.now values.now }
@@ -119,7 +120,7 @@ fn move_to_all(
     sender: &Sender,
     to: &[u32],
 ) -> Result<(), MoveEnd>
-    requires sound { HasSoundItems layout.now }
+    requires sound { HasWellFormedItems layout.now }
     requires whole { length storage.old ≡ layout.now.storage }
     requires able { All (λ place. CanMove layout.now sender.now (form_at layout.now place)) to.now }
     ensures { MatchResult result
@@ -142,10 +143,10 @@ fn move_to_short(
     item: &Item,
     place: u32,
 ) -> Result<(), MoveEnd>
-    requires sound { HasSoundItems layout.now }
+    requires sound { HasWellFormedItems layout.now }
     requires whole { length storage.old ≡ layout.now.storage }
     requires able { CanMove layout.now sender.now item.now.form }
-    requires form { IsSoundForm item.now.form item.now.length }
+    requires form { IsWellFormedForm item.now.form item.now.length }
     requires short { item.now.length ≤ 64 }
     requires its_form { form_at layout.now place ≡ item.now.form }
     requires its_length { length_at layout.now place ≡ item.now.length }
@@ -172,7 +173,7 @@ fn move_amount(
     sender: &Sender,
     place: u32,
 ) -> Result<(), MoveEnd>
-    requires sound { HasSoundItems layout.now }
+    requires sound { HasWellFormedItems layout.now }
     requires whole { length storage.old ≡ layout.now.storage }
     requires able { CanMove layout.now sender.now (form_at layout.now place) }
     requires takes { IsTrue (takes_number (form_at layout.now place)) }
@@ -211,7 +212,7 @@ fn move_to_one(
     sender: &Sender,
     place: u32,
 ) -> Result<(), MoveEnd>
-    requires sound { HasSoundItems layout.now }
+    requires sound { HasWellFormedItems layout.now }
     requires whole { length storage.old ≡ layout.now.storage }
     requires able { CanMove layout.now sender.now (form_at layout.now place) }
     ensures { MatchResult result
@@ -242,7 +243,7 @@ pub fn after_move(
     sender: &Sender,
     to: &[u32],
 ) -> Result<(), MoveEnd>
-    requires sound { HasSoundItems layout.now }
+    requires sound { HasWellFormedItems layout.now }
     requires whole { length storage.old ≡ layout.now.storage }
     requires able { All (λ place. CanMove layout.now sender.now (form_at layout.now place)) to.now }
     ensures { MatchResult result

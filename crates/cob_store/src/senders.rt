@@ -1,10 +1,11 @@
+//! What a MOVE sends.
 ghost use Rattle.std.specs.Prelude.{◌≡◌, ◌≤◌, length, IfSome, IsTrue};
 ghost use Rattle.cob_program.specs.Bounds.{IsSmall};
 ghost use Rattle.cob_tree.specs.declared.form.Form.TheVariants as form;
 ghost use Rattle.cob_runs.specs.Contents.{number_in};
 ghost use Rattle.cob_runs.specs.Moves.{number_of, is_group, is_group_sender};
-ghost use Rattle.cob_items.specs.Sound.{HasSoundItems, IsCountable};
-ghost use Rattle.cob_store.specs.Moving.{IsWhole};
+ghost use Rattle.cob_items.specs.WellFormed.{HasWellFormedItems, IsCountable};
+ghost use Rattle.cob_store.specs.Moving.{HasLayoutLength};
 
 use cob_data::{Layout, Sender};
 use cob_items::{item_at, literal, number_at, number_in};
@@ -14,8 +15,8 @@ use dec_num::Scaled;
 /// The number that a sender is read as, if it is numeric.
 #[inline(always)]
 pub fn number_of(layout: &Layout, storage: &[u8], sender: &Sender) -> Option<Scaled>
-    requires sound { HasSoundItems layout.now }
-    requires whole { IsWhole layout.now storage.now sender.now }
+    requires sound { HasWellFormedItems layout.now }
+    requires whole { HasLayoutLength layout.now storage.now sender.now }
     requires countable { IsCountable layout.now sender.now }
     ensures value { result ≡ number_of layout.now storage.now sender.now }
     ensures small { IfSome result IsSmall }
@@ -50,7 +51,7 @@ fn is_group(form: &Form) -> bool
 
 /// Whether the sender is a group.
 pub fn is_group_sender(layout: &Layout, storage: &[u8], sender: &Sender) -> bool
-    requires { HasSoundItems layout.now }
+    requires { HasWellFormedItems layout.now }
     ensures { result ≡ is_group_sender layout.now storage.now sender.now }
 {
     match sender {

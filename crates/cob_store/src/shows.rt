@@ -1,7 +1,8 @@
+//! DISPLAY.
 ghost use Rattle.std.specs.Prelude.{◌≡◌, ◌≤◌, ◌<◌, ◌^◌, ◌++◌, ◌∷◌, ◌==◌, [], length, unsigned_abs, IfOk};
 ghost use Rattle.std.specs.Result.{OnOk};
 ghost use Rattle.cob_runs.specs.Showing.{minus_if, with_point, shown_number, shown_item, shown_sender, line_of};
-ghost use Rattle.cob_items.specs.Sound.{HasSoundItems, IsSoundForm};
+ghost use Rattle.cob_items.specs.WellFormed.{HasWellFormedItems, IsWellFormedForm};
 ghost use Rattle.cob_data.specs.declared.layout.Sender.TheVariants as sender;
 
 use crate::texts::spell;
@@ -68,7 +69,7 @@ fn push_literal(line: &mut Vec<u8>, number: &Num) -> Result<(), AllocError>
 
 // Appends what an item of this form shows.
 fn push_contents(line: &mut Vec<u8>, form: &Form, bytes: &[u8]) -> Result<(), AllocError>
-    requires { IsSoundForm form.now (length bytes.now) }
+    requires { IsWellFormedForm form.now (length bytes.now) }
     ensures { OnOk result (line.new.items ≡ line.old.items ++ shown_item form.now bytes.now) }
 {
     match form {
@@ -87,7 +88,7 @@ fn push_item(
     storage: &[u8],
     place: u32,
 ) -> Result<(), AllocError>
-    requires sound { HasSoundItems layout.now }
+    requires sound { HasWellFormedItems layout.now }
     requires whole { length storage.now ≡ layout.now.storage }
     ensures { OnOk result (line.new.items
         ≡ line.old.items ++ shown_sender layout.now storage.now (sender.Item place)) }
@@ -113,7 +114,7 @@ fn push_sender(
     storage: &[u8],
     sender: &Sender,
 ) -> Result<(), AllocError>
-    requires sound { HasSoundItems layout.now }
+    requires sound { HasWellFormedItems layout.now }
     requires whole { length storage.now ≡ layout.now.storage }
     ensures { OnOk result (line.new.items ≡ line.old.items ++ shown_sender layout.now storage.now sender.now) }
 {
@@ -133,7 +134,7 @@ pub fn push_line(
     storage: &[u8],
     senders: &[Sender],
 ) -> Result<(), AllocError>
-    requires sound { HasSoundItems layout.now }
+    requires sound { HasWellFormedItems layout.now }
     requires whole { length storage.now ≡ layout.now.storage }
     ensures { OnOk result (shown.new.items ≡ shown.old.items ++ line_of layout.now storage.now senders.now) }
 {

@@ -1,3 +1,4 @@
+//! Texts written into storage.
 ghost use Rattle.std.specs.Prelude.{◌≡◌, ◌≤◌, ◌<◌, ◌^◌, length, pos, replicate, unsigned_abs};
 ghost use Rattle.cob_runs.specs.Contents.{fitted};
 ghost use Rattle.cob_runs.specs.Moves.{as_digits};

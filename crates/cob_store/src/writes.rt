@@ -1,3 +1,4 @@
+//! Values and texts written into one receiver.
 ghost use Rattle.std.specs.Prelude.{◌≡◌, length, Ok, IsTrue};
 ghost use Rattle.dec_num.specs.Scaled.{value_of};
 ghost use Rattle.dec_num.specs.declared.types.Mode.TheVariants.{Trunc};
@@ -7,8 +8,8 @@ ghost use Rattle.cob_program.specs.Bounds.{IsSmall};
 ghost use Rattle.cob_runs.specs.Contents.{stored};
 ghost use Rattle.cob_runs.specs.Faults.{or_fault};
 ghost use Rattle.cob_runs.specs.Moves.{takes_number, is_group_sender, text_of, raw_text, moved_text, moved_number, moved_amount, moved};
-ghost use Rattle.cob_items.specs.Sound.{HasSoundItems, IsSoundForm, IsCountable, CanMove};
-ghost use Rattle.cob_store.specs.Moving.{IsWhole, Writes, fitted_text, spelled};
+ghost use Rattle.cob_items.specs.WellFormed.{HasWellFormedItems, IsWellFormedForm, IsCountable, CanMove};
+ghost use Rattle.cob_store.specs.Moving.{HasLayoutLength, Writes, fitted_text, spelled};
 
 use crate::senders::{is_group_sender, number_of};
 use crate::texts::{write_fill, write_spelled, write_text};
@@ -21,7 +22,7 @@ use dec_num::{Fit, Mode, Scaled, fit};
 
 // Writes the text of an item of this form.
 fn write_contents(form: &Form, contents: &[u8], bytes: &mut [u8]) -> Result<(), Kind>
-    requires { IsSoundForm form.now (length contents.now) }
+    requires { IsWellFormedForm form.now (length contents.now) }
     ensures { Writes (fitted_text (length bytes.old) (spelled form.now contents.now)) result bytes.new }
 {
     match form {
@@ -41,7 +42,7 @@ fn write_contents(form: &Form, contents: &[u8], bytes: &mut [u8]) -> Result<(), 
 
 // Writes the text of the item at a place.
 fn write_item(layout: &Layout, storage: &[u8], place: u32, bytes: &mut [u8]) -> Result<(), Kind>
-    requires sound { HasSoundItems layout.now }
+    requires sound { HasWellFormedItems layout.now }
     requires whole { length storage.now ≡ layout.now.storage }
     ensures { Writes (moved_text layout.now storage.now (length bytes.old)
         (text_of layout.now storage.now (length bytes.old) (sender.Item place))) result bytes.new }
@@ -58,8 +59,8 @@ fn write_item(layout: &Layout, storage: &[u8], place: u32, bytes: &mut [u8]) -> 
 
 // Writes a sender's bytes as they are.
 fn write_raw(layout: &Layout, storage: &[u8], sender: &Sender, bytes: &mut [u8])
-    requires sound { HasSoundItems layout.now }
-    requires whole { IsWhole layout.now storage.now sender.now }
+    requires sound { HasWellFormedItems layout.now }
+    requires whole { HasLayoutLength layout.now storage.now sender.now }
     ensures { moved_text layout.now storage.now (length bytes.old)
         (raw_text layout.now storage.now (length bytes.old) sender.now) ≡ Ok bytes.new }
 {
@@ -79,8 +80,8 @@ fn write_text_of(
     sender: &Sender,
     bytes: &mut [u8],
 ) -> Result<(), Kind>
-    requires sound { HasSoundItems layout.now }
-    requires whole { IsWhole layout.now storage.now sender.now }
+    requires sound { HasWellFormedItems layout.now }
+    requires whole { HasLayoutLength layout.now storage.now sender.now }
     ensures { Writes (moved_text layout.now storage.now (length bytes.old)
         (text_of layout.now storage.now (length bytes.old) sender.now)) result bytes.new }
 {
@@ -98,7 +99,7 @@ fn write_text_of(
 // Writes the value, cut to the form's scale.
 fn write_value(form: &Form, value: Scaled, bytes: &mut [u8]) -> Result<(), Kind>
     requires takes { IsTrue (takes_number form.now) }
-    requires sound { IsSoundForm form.now (length bytes.old) }
+    requires sound { IsWellFormedForm form.now (length bytes.old) }
     requires small { IsSmall value }
     ensures { Writes (or_fault kind.Truncation (stored Trunc form.now (value_of value))) result bytes.new }
 {
@@ -119,11 +120,11 @@ fn write_number(
     form: &Form,
     bytes: &mut [u8],
 ) -> Result<(), Kind>
-    requires sound { HasSoundItems layout.now }
-    requires whole { IsWhole layout.now storage.now sender.now }
+    requires sound { HasWellFormedItems layout.now }
+    requires whole { HasLayoutLength layout.now storage.now sender.now }
     requires countable { IsCountable layout.now sender.now }
     requires takes { IsTrue (takes_number form.now) }
-    requires form { IsSoundForm form.now (length bytes.old) }
+    requires form { IsWellFormedForm form.now (length bytes.old) }
     ensures { Writes (moved_number layout.now storage.now form.now sender.now) result bytes.new }
 {
     match number_of(layout, storage, sender) {
@@ -140,11 +141,11 @@ fn write_amount(
     form: &Form,
     bytes: &mut [u8],
 ) -> Result<(), Kind>
-    requires sound { HasSoundItems layout.now }
-    requires whole { IsWhole layout.now storage.now sender.now }
+    requires sound { HasWellFormedItems layout.now }
+    requires whole { HasLayoutLength layout.now storage.now sender.now }
     requires countable { IsCountable layout.now sender.now }
     requires takes { IsTrue (takes_number form.now) }
-    requires form { IsSoundForm form.now (length bytes.old) }
+    requires form { IsWellFormedForm form.now (length bytes.old) }
     ensures { Writes (moved_amount layout.now storage.now (is_group_sender layout.now storage.now sender.now) form.now
         (length bytes.old) sender.now) result bytes.new }
 {
@@ -166,10 +167,10 @@ pub fn write_moved(
     form: &Form,
     bytes: &mut [u8],
 ) -> Result<(), Kind>
-    requires sound { HasSoundItems layout.now }
-    requires whole { IsWhole layout.now storage.now sender.now }
+    requires sound { HasWellFormedItems layout.now }
+    requires whole { HasLayoutLength layout.now storage.now sender.now }
     requires able { CanMove layout.now sender.now form.now }
-    requires form { IsSoundForm form.now (length bytes.old) }
+    requires form { IsWellFormedForm form.now (length bytes.old) }
     ensures { Writes (moved layout.now storage.now form.now (length bytes.old) sender.now) result bytes.new }
 {
     match form {

@@ -8,7 +8,7 @@ mutual
   pub data Cond : Type 0 where
     MkCond : Conj → Conjs → Cond
 
-  -- behind OR, one after the other
+  -- Conjunctions behind OR, one after the other.
   pub data Conjs : Type 0 where
     no_conjs : Conjs
     more_conjs : Conj → Conjs → Conjs
@@ -16,7 +16,7 @@ mutual
   pub data Conj : Type 0 where
     MkConj : Neg → Negs → Conj
 
-  -- behind AND, one after the other
+  -- Conditions behind AND, one after the other.
   pub data Negs : Type 0 where
     no_negs : Negs
     more_negs : Neg → Negs → Negs

@@ -155,7 +155,7 @@ key_cue key.EndRead = Some EndRead
 key_cue key.EndWrite = Some EndWrite
 key_cue _ = None
 
--- behind NOT
+-- The cue of what stands behind NOT.
 abbrev pub not_cue : Symbol → Option Cue
 not_cue (Relation r) = Some NotRelates
 not_cue (Key key.Numeric) = Some NotTests

@@ -15,3 +15,4 @@ pub mod PrintStmt
 pub mod Shaped
 pub mod Pictures
 pub mod PictureForms
+pub mod Limits

@@ -100,7 +100,7 @@ is_alphanumeric word = list_all is_alphanumeric_symbol word && has 88 word
 abbrev pub suppresses_rightly : List ℕ → Bool
 suppresses_rightly word = not (has 90 (behind_first 57 word)) && not (has 90 (behind_first 46 word) && has 57 word)
 
--- where there is a Z, it is the first symbol, and zeros are suppressed rightly
+-- A Z, where there is one, is the first symbol, and zeros are suppressed rightly.
 abbrev pub may_suppress : List ℕ → Bool
 may_suppress word = not (has 90 word) || (begins_with 90 word && suppresses_rightly word)
 

@@ -116,7 +116,7 @@ abbrev pub not_size_words : List Keyword
 not_size_words = word.Not ∷ word.Size ∷ word.Error ∷ []
 
 abbrev mutual
-  -- where so many statements are open around
+  -- Statements as they are printed where so many are open around.
   pub print_stmts : ℕ → Stmts → List Item
   print_stmts d no_stmts = []
   print_stmts d (more_stmts s ss) = print_stmt d s ++ print_stmts d ss
@@ -124,7 +124,7 @@ abbrev mutual
   pub print_stmt : ℕ → Stmt → List Item
   print_stmt d (MkStmt line v) = item_on (suc d) line (Key (first_word v)) ∷ print_verb (suc d) v
 
-  -- behind its first word; d counts the statement itself
+  -- A verb as it is printed behind its first word; d counts the statement itself.
   pub print_verb : ℕ → Verb → List Item
   print_verb d (move from to) = print_opnd d from ++ key d word.To ∷ print_refs d to
   print_verb d (set text) = name d text ∷ keys d (word.To ∷ word.True ∷ [])

@@ -67,7 +67,7 @@ takes_expr (MkExpr t ts) m = takes_terms t ts m || is Signs m
 
 -- ---- conditions
 
--- behind an expression: what makes it a relation, a class condition or a sign condition
+-- What makes an expression a relation, a class condition or a sign condition.
 abbrev pub takes_test : Cue → Bool
 takes_test m = is Relates m || is NotRelates m || is Tests m || is NotTests m || is Zeros m
 
@@ -141,7 +141,7 @@ abbrev pub takes_from : Option Opnd → Cue → Bool
 takes_from None m = takes_ref m || is Froms m
 takes_from (Some o) m = takes_opnd o m
 
--- behind an END- word nothing goes on; without it, what stands before, or the word
+-- Nothing goes on behind an END- word; without it, what stands before does, or the word.
 abbrev pub unless : Bool → Bool → Bool → Bool
 unless true before own = false
 unless false before own = before || own
@@ -158,7 +158,7 @@ abbrev mutual
   pub takes_stmt : Stmt → Cue → Bool
   takes_stmt (MkStmt line v) m = takes_verb v m
 
-  -- behind what takes before; the words that open the phrase are own
+  -- A phrase goes on behind what takes before; the words that open the phrase are own.
   pub takes_phrase : Phrase → Bool → Bool → Cue → Bool
   takes_phrase left_out before own m = before || own
   takes_phrase (given ss) before own m = takes_stmts ss m
@@ -167,7 +167,7 @@ abbrev mutual
   takes_tail (MkTail size not_size ended) before end m =
       unless ended (takes_phrase not_size (takes_phrase size before (is Size m) m) (is NotSize m) m) end
 
-  -- by the last one's list
+  -- WHENs go on by the last one's list.
   pub takes_whens : Whens → Cue → Bool
   takes_whens no_whens m = false
   takes_whens (more_whens w no_whens) m = takes_when w m

@@ -1,3 +1,4 @@
+//! Strings of bytes, and names.
 ghost use Rattle.std.specs.Prelude.{◌≡◌, ℕ, List, IfOk};
 
 use std::alloc::{AllocError, Global};

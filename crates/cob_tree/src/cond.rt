@@ -1,3 +1,4 @@
+//! Conditions.
 ghost use Rattle.std.specs.Prelude.{◌≡◌, map};
 ghost use Rattle.cob_tree.specs.Cond.{MkCond, MkConj, MkNeg, conjs_of, negs_of};
 ghost use Rattle.cob_tree.specs.CondView.{plain_cond, plain_conj, plain_neg, plain_simple};

@@ -1,3 +1,4 @@
+//! Arithmetic expressions.
 ghost use Rattle.std.specs.Prelude.{◌≡◌, map};
 ghost use Rattle.cob_tree.specs.Expr.{MkExpr, MkTerm, MkFact, terms_of, facts_of};
 ghost use Rattle.cob_tree.specs.ExprView.{plain_expr, plain_term, plain_fact, plain_prim, added, multiplied};

@@ -1,3 +1,4 @@
+//! Faults that a run can meet.
 /// The kinds of fault that a statement without a phrase for them can meet (ISO 1989:1985, the rules on size
 /// errors, MOVE and class conditions).
 #[derive(Clone, Copy, Debug, PartialEq, Eq)]

@@ -1,4 +1,8 @@
+//! The forms of items.
+ghost use Rattle.std.specs.Prelude.{◌≡◌, IfOk};
+
 use crate::bytes::Bytes;
+use std::alloc::{AllocError, Global};
 
 /// How an item's number is kept (ISO 1989:1985, USAGE and SIGN). `Leading` and `Trailing` are DISPLAY with a
 /// separate sign byte.
@@ -32,4 +36,36 @@ pub enum Form {
         digits: u32,
         scale: u32,
     },
+}
+
+impl Form {
+    /// Copies the form.
+    pub fn copied(&self, alloc: Global) -> Result<Form, AllocError>
+        ensures { IfOk result (λ copy. copy ≡ self.now) }
+    {
+        match self {
+            Form::Group => Ok(Form::Group),
+            Form::Text { length } => Ok(Form::Text { length: *length }),
+            Form::Number {
+                digits,
+                scale,
+                signed,
+                usage,
+            } => Ok(Form::Number {
+                digits: *digits,
+                scale: *scale,
+                signed: *signed,
+                usage: *usage,
+            }),
+            Form::Edited {
+                picture,
+                digits,
+                scale,
+            } => Ok(Form::Edited {
+                picture: Bytes::of(alloc, picture.get())?,
+                digits: *digits,
+                scale: *scale,
+            }),
+        }
+    }
 }

@@ -1,3 +1,4 @@
+//! The divisions before PROCEDURE.
 use crate::bytes::{Bytes, Name};
 use crate::list::Many;
 use crate::operand::Const;

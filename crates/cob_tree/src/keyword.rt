@@ -1,3 +1,4 @@
+//! The reserved words.
 ghost use Rattle.std.specs.Prelude.{◌≡◌, IfSome, IsNone};
 ghost use Rattle.cob_tree.specs.declared.keyword.Keyword.{Keyword};
 ghost use Rattle.cob_tree.specs.Keywords.{text_of, keyword_among, keyword_of, IsReserved};

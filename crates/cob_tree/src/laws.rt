@@ -1,3 +1,4 @@
+//! Laws on pictures.
 ghost use Rattle.std.specs.Prelude.{◌≡◌, ℕ, ◌↔◌, List, Some};
 ghost use Rattle.cob_tree.specs.declared.form.Form.{Form};
 ghost use Rattle.cob_tree.specs.Pictures.{IsPicture};

@@ -1,3 +1,4 @@
+//! References, constants, operands and receivers.
 use crate::bytes::{Bytes, Name};
 use crate::list::Many;
 use crate::token::Num;

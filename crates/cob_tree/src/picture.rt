@@ -1,3 +1,4 @@
+//! The form of an item, from its picture.
 ghost use Rattle.std.specs.Prelude.{◌≡◌, ◌==◌, ◌<◌, ◌≤◌, not, length, drop, Some, None, IfSome, IfOk, IfErr};
 ghost use Rattle.std.specs.List.{list_all, list_any, position};
 ghost use Rattle.cob_tree.specs.Pictures.{has, symbol_count, behind_first, begins_with, place_count, is_digit_count, is_alphanumeric, suppresses_rightly, may_suppress, is_inserted_rightly, is_numeric_symbol, is_alphanumeric_symbol, is_edited_symbol, is_edited, most_bytes, IsPicture, IsAllowed};

@@ -1,3 +1,4 @@
+//! Statements.
 ghost use Rattle.std.specs.Prelude.{◌≡◌};
 ghost use Rattle.cob_tree.specs.Stmt.{MkStmt};
 ghost use Rattle.cob_tree.specs.StmtView.{plain_stmt, plain_verb};

@@ -1,3 +1,4 @@
+//! The symbols of a picture, written out.
 ghost use Rattle.std.specs.Prelude.{◌≡◌, ◌+◌, ◌-◌, ◌<◌, ◌≤◌, ◌++◌, length, drop, replicate, Option, Some, None, IfSome, IfOk, IfErr, OnOk};
 ghost use Rattle.cob_tree.specs.Pictures.{is_numeric_symbol, is_alphanumeric_symbol, is_place, is_edited_symbol, is_symbol, begins_with, most_bytes};
 ghost use Rattle.cob_tree.specs.PictureForms.{is_count, count_value, closing, repeated, run_behind, first_run, picture_word, IfBad};

@@ -1,3 +1,4 @@
+//! Canonical tokens.
 ghost use Rattle.std.specs.Prelude.{◌≡◌, IfOk};
 
 use crate::bytes::{Bytes, Name};

@@ -1,3 +1,4 @@
+//! Whole programs.
 use crate::bytes::Name;
 use crate::front::Front;
 use crate::list::Many;

@@ -6,8 +6,8 @@ use Rattle.cob_tree.specs.declared.tree.Tree as declared_tree
 use Rattle.cob_tree.specs.declared.tree.Paragraph.{Paragraph}
 use Rattle.cob_tree.specs.Stmt as tree
 use Rattle.cob_tree.specs.StmtView.{plain_sentence, plain_paragraph, plain_tree}
-use Rattle.cob_typed.specs.declared.finding.Finding.{Finding}
-use Rattle.cob_typed.specs.Scope.{Scope}
+use Rattle.cob_typed_exprs.specs.declared.finding.Finding.{Finding}
+use Rattle.cob_typed_exprs.specs.Scope.{Scope}
 use Rattle.cob_typed.specs.StatementSteps.{all_from}
 use Rattle.cob_typed.proofs.FoundLemmas.{found_append}
 use Rattle.cob_data.specs.declared.end.Rule.{Rule}

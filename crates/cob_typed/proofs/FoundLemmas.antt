@@ -1,8 +1,8 @@
 -- What is found on lines, one behind the other.
 use Rattle.std.proofs.Common.{◌≡◌, ℕ, List, [], ◌∷◌, ◌++◌, refl, ap, ◌∙◌}
 use Rattle.cob_data.specs.declared.end.Rule.{Rule}
-use Rattle.cob_typed.specs.declared.finding.Finding.{Finding}
-use Rattle.cob_typed.specs.Judged.{Broken, kept, one, both, finding, noted}
+use Rattle.cob_typed_exprs.specs.declared.finding.Finding.{Finding}
+use Rattle.cob_typed_exprs.specs.Judged.{Broken, kept, one, both, finding, noted}
 use Rattle.cob_typed.specs.Lists.{found_behind}
 use Rattle.cob_typed.specs.Statements.{found_on}
 

@@ -1,13 +1,5 @@
 pub mod AnswerLemmas
-pub mod EachLemmas
 pub mod FoundLemmas
 pub mod ListLemmas
-pub mod Loops
 pub mod ParaLemmas
-pub mod Places
-pub mod SizeLemmas
-pub mod SizeLoops
 pub mod StmtLemmas
-pub mod ValueLemmas
-pub mod Walks
-pub mod WorkLemmas

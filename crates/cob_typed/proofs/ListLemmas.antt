@@ -7,14 +7,14 @@ use Rattle.cob_tree.specs.Stmt as tree
 use Rattle.cob_tree.specs.StmtView as tree_view
 use Rattle.cob_data.specs.declared.end.Rule.{Rule}
 use Rattle.cob_program.specs.Act.{Stmt, Stmts, no_stmts, more_stmts, stmts_of, When, Whens, no_whens, more_whens, whens_of, Para}
-use Rattle.cob_typed.specs.declared.finding.Finding.{Finding}
-use Rattle.cob_typed.specs.declared.selections.Looked.{Looked}
-use Rattle.cob_typed.specs.Scope.{Scope}
+use Rattle.cob_typed_exprs.specs.declared.finding.Finding.{Finding}
+use Rattle.cob_typed_conds.specs.declared.selections.Looked.{Looked}
+use Rattle.cob_typed_exprs.specs.Scope.{Scope}
 use Rattle.cob_typed.specs.Lists.{found_behind}
 use Rattle.cob_typed.specs.Statements.{typed_choices, typed_stmt, typed_stmts, typed_whens}
 use Rattle.cob_typed.specs.StatementSteps.{typed_when, typed_para}
 use Rattle.cob_typed.specs.Typing.{joined, typed_sentences, typed_paras}
-use Rattle.cob_typed.proofs.Loops.{item_step}
+use Rattle.cob_typed_exprs.proofs.Loops.{item_step}
 use Rattle.cob_typed.proofs.FoundLemmas.{found_append}
 
 -- ---- lists put together

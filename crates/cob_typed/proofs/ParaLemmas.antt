@@ -12,15 +12,15 @@ use Rattle.cob_data.specs.declared.end.Rule.{Rule}
 use Rattle.cob_data.specs.declared.end.Rule.TheVariants.{Q11}
 use Rattle.cob_names.specs.declared.found.Found.{Found}
 use Rattle.cob_names.specs.Search.{found_and}
-use Rattle.cob_typed.specs.declared.finding.Finding.{Finding}
-use Rattle.cob_typed.specs.Judged.{finding, noted, unless}
-use Rattle.cob_typed.specs.Scope.{place_if, found_in, paras_from}
-use Rattle.cob_typed.specs.Paras.{found_or_nothing, para_in}
+use Rattle.cob_typed_exprs.specs.declared.finding.Finding.{Finding}
+use Rattle.cob_typed_exprs.specs.Judged.{finding, noted, unless}
+use Rattle.cob_typed_exprs.specs.Scope.{place_if, found_in, paras_from}
+use Rattle.cob_typed_exprs.specs.Paras.{found_or_nothing, para_in}
 use Rattle.indexmap.specs.IndexMap.{IndexMap, get_by}
 use Rattle.cob_typed.specs.Lists.{found_behind}
 use Rattle.cob_typed.specs.Typing.{clashes, is_known, lines_among, rule_number}
 use Rattle.cob_typed.specs.Answer.{lines_in}
-use Rattle.cob_typed.proofs.Loops.{item_step}
+use Rattle.cob_typed_exprs.proofs.Loops.{item_step}
 
 -- ---- places
 

@@ -14,15 +14,16 @@ use Rattle.cob_tree.specs.Cond.{Cond}
 use Rattle.cob_tree.specs.declared.operand.Ref.{Ref}
 use Rattle.cob_program.specs.Act.{Act, Phrase, Stmts, read}
 use Rattle.cob_data.specs.declared.end.Rule.{Rule}
-use Rattle.cob_typed.specs.declared.finding.Finding.{Finding}
-use Rattle.cob_typed.specs.Judged.{Broken, Judged, noted, each_of}
-use Rattle.cob_typed.specs.Scope.{Scope}
-use Rattle.cob_typed.specs.declared.selections.Looked.{Looked}
-use Rattle.cob_typed.specs.Selections.{selection}
-use Rattle.cob_typed.specs.Conditions.{walk_cond}
-use Rattle.cob_typed.specs.Arithmetic.{Worked}
+use Rattle.cob_typed_exprs.specs.declared.finding.Finding.{Finding}
+use Rattle.cob_typed_exprs.specs.Judged.{Broken, Judged, noted, each_of}
+use Rattle.cob_typed_exprs.specs.Scope.{Scope}
+use Rattle.cob_typed_conds.specs.declared.selections.Looked.{Looked}
+use Rattle.cob_typed_conds.specs.Selections.{selection}
+use Rattle.cob_typed_conds.specs.Conditions.{walk_cond}
+use Rattle.cob_typed_verbs.specs.Arithmetic.{Worked}
 use Rattle.cob_typed.specs.Lists.{found_behind, tree_list, tree_phrase}
-use Rattle.cob_typed.specs.Statements.{Numbered, found_on, typed_arith, typed_verb, typed_stmts, turns_of, read_parts}
+use Rattle.cob_typed.specs.Statements.{Numbered, found_on, typed_arith, typed_verb, typed_stmts, turns_of}
+use Rattle.cob_typed_verbs.specs.Verbs.{read_parts}
 use Rattle.cob_typed.specs.StatementSteps.{typed_tail, typed_phrases, typed_lists, typed_when}
 use Rattle.cob_typed.proofs.FoundLemmas.{found_append, found_noted}
 

@@ -6,7 +6,7 @@ use Rattle.cob_data.specs.declared.end.Rule.{Rule}
 use Rattle.cob_data.specs.declared.layout.Layout.{Layout}
 use Rattle.cob_program.specs.declared.program.Program as declared_program
 use Rattle.cob_program.specs.ActView.{plain_para, plain_program}
-use Rattle.cob_typed.specs.declared.finding.Finding.{Finding}
+use Rattle.cob_typed_exprs.specs.declared.finding.Finding.{Finding}
 use Rattle.cob_typed.specs.declared.typing.Typed as declared_typed
 use Rattle.cob_typed.specs.declared.end.TypedEnd.{TypedEnd}
 use Rattle.cob_typed.specs.declared.end.TypedEnd.TheVariants as typed_end

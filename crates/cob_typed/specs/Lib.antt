@@ -1,14 +1,3 @@
-pub mod Judged
-pub mod Scope
-pub mod Paras
-pub mod Kinds
-pub mod Sums
-pub mod Conditions
-pub mod Operands
-pub mod Sizes
-pub mod Selections
-pub mod Arithmetic
-pub mod Workings
 pub mod Statements
 pub mod Lists
 pub mod StatementSteps

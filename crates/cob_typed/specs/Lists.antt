@@ -10,8 +10,8 @@ use Rattle.cob_program.specs.declared.act.Stmt as declared_stmt
 use Rattle.cob_program.specs.declared.act.When as declared_when
 use Rattle.cob_program.specs.Act.{Stmts, stmts_of, Phrase, phrase_of, Whens, whens_of}
 use Rattle.cob_program.specs.ActView.{plain_stmt, plain_when}
-use Rattle.cob_typed.specs.declared.finding.Finding.{Finding}
-use Rattle.cob_typed.specs.Judged.{finding}
+use Rattle.cob_typed_exprs.specs.declared.finding.Finding.{Finding}
+use Rattle.cob_typed_exprs.specs.Judged.{finding}
 
 abbrev pub plain_stmts : Vec declared_stmt.Stmt Global → Stmts
 plain_stmts v = stmts_of (map plain_stmt v.items)

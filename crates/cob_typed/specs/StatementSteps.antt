@@ -2,10 +2,10 @@
 use Rattle.std.specs.Prelude.{ℕ, List, ◌∷◌, Some}
 use Rattle.cob_tree.specs.Stmt as tree
 use Rattle.cob_program.specs.Act.{Stmts, Phrase, When, MkWhen, Act, arith, evaluate, Para}
-use Rattle.cob_typed.specs.declared.selections.Looked.{Looked}
-use Rattle.cob_typed.specs.Scope.{Scope}
+use Rattle.cob_typed_conds.specs.declared.selections.Looked.{Looked}
+use Rattle.cob_typed_exprs.specs.Scope.{Scope}
 use Rattle.cob_typed.specs.Statements.{Numbered, numbered, ◌>>>◌, stmts_if, typed_choices, typed_stmts, typed_phrase, typed_whens}
-use Rattle.cob_typed.specs.Arithmetic.{Worked}
+use Rattle.cob_typed_verbs.specs.Arithmetic.{Worked}
 use Rattle.cob_typed.specs.Typing.{typed_sentences, typed_paras, first_para}
 
 module _ (s : Scope) where

@@ -1,117 +1,31 @@
 -- Statements with their names resolved and numbered in the order of the source, and the rules that each breaks.
-use Rattle.std.specs.Prelude.{ℕ, suc, ◌+◌, ◌&&◌, not, nat_lt, Bool, true, false, List, [], ◌∷◌, ◌++◌, map, slice_get, Option, Some, None, unwrap_or}
+use Rattle.std.specs.Prelude.{ℕ, suc, ◌+◌, Bool, true, false, List, [], ◌∷◌, ◌++◌, Option, Some, None}
 use Rattle.cob_tree.specs.declared.operand.Opnd.{Opnd}
 use Rattle.cob_tree.specs.declared.operand.Ref.{Ref}
-use Rattle.cob_tree.specs.declared.stmt.Mode.{Mode}
-use Rattle.cob_tree.specs.declared.stmt.Mode.TheVariants as mode
-use Rattle.cob_tree.specs.declared.stmt.Opens.{Opens}
 use Rattle.cob_tree.specs.declared.stmt.Place.{Place}
 use Rattle.cob_tree.specs.declared.stmt.Place.TheVariants as place_
 use Rattle.cob_tree.specs.declared.stmt.Varying.{Varying}
 use Rattle.cob_tree.specs.Stmt as tree
 use Rattle.cob_data.specs.declared.end.Rule.{Rule}
-use Rattle.cob_data.specs.declared.end.Rule.TheVariants.{Q2, Q8, Q9, Q10}
-use Rattle.cob_data.specs.declared.layout.Item.{Item}
-use Rattle.cob_data.specs.declared.layout.Flag.{Flag}
-use Rattle.cob_data.specs.declared.layout.FileDecl.{FileDecl}
-use Rattle.cob_data.specs.declared.layout.Pair.{Pair}
+use Rattle.cob_data.specs.declared.end.Rule.TheVariants.{Q10}
 use Rattle.cob_data.specs.declared.layout.Sender.{Sender}
-use Rattle.cob_data.specs.declared.layout.Sender.TheVariants as sender
-use Rattle.cob_program.specs.declared.act.Opening.{Opening}
 use Rattle.cob_program.specs.Logic.{Logic}
-use Rattle.cob_program.specs.Act.{Turns, once, times, until, varying, Stmt, MkStmt, Stmts, no_stmts, more_stmts, Phrase, left_out, given, Act, move, arith, if_, evaluate, perform, go, nothing, stop, open_files, close_files, read, write, show, Whens, no_whens, more_whens, MkWhen, range, inline}
-use Rattle.cob_typed.specs.Judged.{Broken, kept, one, both, Judged, sound, demand, each_of, if_there, seen_as, ◌>>=◌}
-use Rattle.cob_typed.specs.Scope.{Scope, the_item, the_para, one_of_kind, means_something, flag_named, file_named, record_named, plain_name, form_at}
-use Rattle.cob_typed.specs.Kinds.{may_move, is_number, is_number_form, is_whole}
-use Rattle.cob_typed.specs.Sums.{operand}
-use Rattle.cob_typed.specs.Conditions.{walk_cond}
-use Rattle.cob_typed.specs.declared.selections.Looked.{Looked}
-use Rattle.cob_typed.specs.Selections.{looked_at, selection}
-use Rattle.cob_typed.specs.Arithmetic.{Worked, add_to, add_giving, subtract_from, subtract_giving, multiply_by, multiply_giving, divide_into, divide_giving, compute}
-
--- SET moves the first value of the condition-name
-abbrev pub first_value : List Pair → Sender
-first_value [] = sender.Zero
-first_value (p ∷ ps) = p.low
-
-abbrev pub set_flag : Option Flag → Act
-set_flag None = nothing
-set_flag (Some f) = move (first_value f.ranges) (f.item ∷ [])
-
-abbrev pub some_of : {A : Type 0} → List (Option A) → List A
-some_of [] = []
-some_of (None ∷ xs) = some_of xs
-some_of (Some x ∷ xs) = x ∷ some_of xs
-
-abbrev pub is_output : Mode → Bool
-is_output mode.Input = false
-is_output mode.Output = true
-
-abbrev pub opening : Bool → ℕ → Opening
-opening output file = record { file = file; output = output }
-
--- some byte lies in both
-abbrev pub lie_apart : Option FileDecl → Option Item → Bool
-lie_apart (Some f) (Some i) = not (nat_lt i.offset (f.offset + f.length) && nat_lt f.offset (i.offset + i.length))
-lie_apart _ _ = true
+use Rattle.cob_program.specs.Act.{Turns, once, times, until, varying, Stmt, MkStmt, Stmts, no_stmts, more_stmts, Phrase, left_out, given, Act, arith, if_, evaluate, perform, go, nothing, stop, read, Whens, no_whens, more_whens, MkWhen, range, inline}
+use Rattle.cob_typed_exprs.specs.Judged.{Broken, kept, one, both, Judged, sound, demand, each_of, seen_as, ◌>>=◌}
+use Rattle.cob_typed_exprs.specs.Scope.{Scope, the_item, the_para, form_at}
+use Rattle.cob_typed_exprs.specs.Kinds.{is_number, is_number_form, is_whole}
+use Rattle.cob_typed_exprs.specs.Sums.{operand}
+use Rattle.cob_typed_conds.specs.Conditions.{walk_cond}
+use Rattle.cob_typed_conds.specs.declared.selections.Looked.{Looked}
+use Rattle.cob_typed_conds.specs.Selections.{looked_at, selection}
+use Rattle.cob_typed_verbs.specs.Verbs.{move_act, set_act, show_act, open_act, close_act, read_parts, write_act}
+use Rattle.cob_typed_verbs.specs.Arithmetic.{Worked, add_to, add_giving, subtract_from, subtract_giving, multiply_by, multiply_giving, divide_into, divide_giving, compute}
 
 abbrev pub is_after : Option Place → Bool
 is_after (Some place_.After) = true
 is_after _ = false
 
 module _ (s : Scope) where
-  -- ---- statements without lists
-
-  abbrev pub receiver : Sender → Ref → Judged ℕ
-  receiver x r = the_item s r >>= λ place. demand Q2 (may_move s x (form_at s place)) place
-
-  abbrev pub move_act : Opnd → List Ref → Judged Act
-  move_act from to = operand s from >>= λ x. each_of (receiver x) to >>= λ places. sound (move x places)
-
-  abbrev pub set_if : Option ℕ → Act
-  set_if None = nothing
-  set_if (Some place) = set_flag (slice_get s.layout.flags place)
-
-  abbrev pub set_act : List ℕ → Judged Act
-  set_act text = seen_as set_if (one_of_kind Q8 (means_something s (plain_name text)) (flag_named s (plain_name text)))
-
-  abbrev pub show_act : List Opnd → Judged Act
-  show_act operands = seen_as show (each_of (operand s) operands)
-
-  -- ---- files
-
-  abbrev pub the_file : List ℕ → Judged (Option ℕ)
-  the_file text = one_of_kind Q9 (means_something s (plain_name text)) (file_named s text)
-
-  abbrev pub openings : Opens → Judged (List Opening)
-  openings o = seen_as (λ files. map (opening (is_output o.mode)) (some_of files)) (each_of the_file o.files)
-
-  abbrev pub all_openings : List Opens → Judged (List Opening)
-  all_openings [] = sound []
-  all_openings (o ∷ os) = openings o >>= λ here. all_openings os >>= λ others. sound (here ++ others)
-
-  abbrev pub open_act : List Opens → Judged Act
-  open_act files = seen_as open_files (all_openings files)
-
-  abbrev pub close_act : List (List ℕ) → Judged Act
-  close_act names = seen_as (λ files. close_files (some_of files)) (each_of the_file names)
-
-  abbrev pub into_of : Option ℕ → Ref → Judged ℕ
-  into_of None r = the_item s r
-  into_of (Some file) r = the_item s r >>= λ place. demand Q9 (lie_apart (slice_get s.layout.files file) (slice_get s.layout.items place)) place
-
-  -- the file, and where its record goes
-  abbrev pub read_parts : List ℕ → Option Ref → Judged (ℕ × Option ℕ)
-  read_parts text into = the_file text >>= λ file. if_there (into_of file) into >>= λ place. sound (unwrap_or file 0, place)
-
-  abbrev pub from_of : Option ℕ → Opnd → Judged Sender
-  from_of None o = operand s o
-  from_of (Some rec_) o = operand s o >>= λ x. demand Q2 (may_move s x (form_at s rec_)) x
-
-  abbrev pub write_act : Ref → Option Opnd → Judged Act
-  write_act r from =
-      one_of_kind Q9 (means_something s r) (record_named s r) >>= λ rec_. if_there (from_of rec_) from >>= λ x. sound (write (unwrap_or rec_ 0) x)
-
   -- ---- loops
 
   abbrev pub number_operand : Opnd → Judged Sender
@@ -196,7 +110,7 @@ module _ (s : Scope) where
         typed_choices line n subject choices >>> λ tests m. typed_stmts m body >>> λ xs k. typed_whens line k subject ws >>> λ ys j.
         numbered (more_whens (MkWhen tests xs) ys) j
 
-    -- on its line, where the next statement has this number
+    -- A verb on its line, where the next statement has this number.
     pub typed_verb : ℕ → ℕ → tree.Verb → Numbered Act
     typed_verb line n (tree.move from to) = judged_on line n (move_act s from to)
     typed_verb line n (tree.set text) = judged_on line n (set_act s text)

@@ -7,7 +7,7 @@ use Rattle.cob_data.specs.declared.end.Rule.TheVariants.{Q1, Q2, Q3, Q4, Q5, Q6,
 use Rattle.cob_data.specs.declared.layout.Layout.{Layout}
 use Rattle.rule_order.specs.Order.{IsFirstBroken, AreKept, line_if}
 use Rattle.cob_program.specs.Act.{Stmts, no_stmts, more_stmts, Para, Program}
-use Rattle.cob_typed.specs.Scope.{Scope}
+use Rattle.cob_typed_exprs.specs.Scope.{Scope}
 use Rattle.cob_typed.specs.Statements.{Numbered, numbered, ◌>>>◌, typed_stmts}
 
 abbrev pub scope_of : Layout → tree.Tree → Scope

@@ -1,24 +1,14 @@
-//! Statements put together, where contracts see them as plain data.
-ghost use Rattle.std.specs.Prelude.{◌≡◌, map, option_map};
-ghost use Rattle.cob_program.specs.Act.{move, arith, if_, evaluate, perform, go, nothing, stop, open_files, close_files, read, write, show, MkWhen, range, inline};
+//! Statements that hold statements, put together where contracts see them as plain data.
+ghost use Rattle.std.specs.Prelude.{◌≡◌, map};
+ghost use Rattle.cob_program.specs.Act.{arith, if_, evaluate, perform, go, stop, read, MkWhen, range, inline};
 ghost use Rattle.cob_program.specs.ActView.{plain_act, plain_when, plain_body, plain_turns};
 ghost use Rattle.cob_program.specs.LogicView.{plain_logic};
 ghost use Rattle.cob_program.specs.SumView.{plain_sum};
 ghost use Rattle.cob_typed.specs.Lists.{plain_stmts, plain_phrase, plain_whens};
 
-use crate::arithmetic::Worked;
-use cob_data::Sender;
-use cob_program::{Act, Body, Logic, Opening, Stmt, Turns, When};
+use cob_program::{Act, Body, Logic, Stmt, Turns, When};
 use cob_tree::Many;
-
-pub fn move_of(from: Sender, to: Vec<u32>) -> Act
-    ensures { plain_act result ≡ move from to.items }
-{
-    Act::Move {
-        from,
-        to: Many::of(to),
-    }
-}
+use cob_typed_verbs::Worked;
 
 pub fn arith_of(worked: Worked, size: Option<Vec<Stmt>>, fine: Vec<Stmt>) -> Act
     ensures { plain_act result ≡ arith (plain_sum worked.common) worked.targets.items worked.remainder (plain_phrase size) (plain_stmts fine) }
@@ -77,28 +67,10 @@ pub fn go_of(place: u32) -> Act
     Act::Go(place)
 }
 
-pub fn nothing() -> Act
-    ensures { plain_act result ≡ nothing }
-{
-    Act::Nothing
-}
-
 pub fn stop() -> Act
     ensures { plain_act result ≡ stop }
 {
     Act::Stop
-}
-
-pub fn open_of(files: Vec<Opening>) -> Act
-    ensures { plain_act result ≡ open_files files.items }
-{
-    Act::OpenFiles(Many::of(files))
-}
-
-pub fn close_of(files: Vec<u32>) -> Act
-    ensures { plain_act result ≡ close_files files.items }
-{
-    Act::CloseFiles(Many::of(files))
 }
 
 pub fn read_of(file: u32, into: Option<u32>, end: Option<Vec<Stmt>>, fine: Vec<Stmt>) -> Act
@@ -110,16 +82,4 @@ pub fn read_of(file: u32, into: Option<u32>, end: Option<Vec<Stmt>>, fine: Vec<S
         end,
         fine,
     }
-}
-
-pub fn write_of(rec: u32, from: Option<Sender>) -> Act
-    ensures { plain_act result ≡ write rec from }
-{
-    Act::Write { rec, from }
-}
-
-pub fn show_of(values: Vec<Sender>) -> Act
-    ensures { plain_act result ≡ show values.items }
-{
-    Act::Show(Many::of(values))
 }

@@ -1,3 +1,4 @@
+//! Why a tree is refused.
 use cob_data::Rule;
 
 /// Why a tree is no program of the profile.

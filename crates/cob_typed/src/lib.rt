@@ -3,24 +3,10 @@
 #![tactic(auto)]
 
 mod acts;
-mod arithmetic;
-mod bounds;
-mod carry;
-mod conditions;
-mod copies;
 mod end;
-mod finding;
-mod kinds;
-mod layout_copies;
-mod operand;
-mod relations;
-mod scope;
-mod selections;
-mod shapes;
+mod performs;
 mod statements;
-mod sums;
 mod typing;
-mod verbs;
 
 pub use end::TypedEnd;
 pub use typing::typed_of;

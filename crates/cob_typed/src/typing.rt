@@ -1,29 +1,30 @@
 //! A tree as a program of the profile, or the first rule on statements that it breaks.
+#![tactic(auto, using(crate::proofs::FoundLemmas::found_append))]
+
 ghost use Rattle.std.specs.Prelude.{◌≡◌, ℕ, ◌+◌, ◌++◌, List, [], map, if◌then◌else◌, IfOk, OnOk};
 ghost use Rattle.std.specs.Str.{bytes_eq};
-ghost use Rattle.rule_order.specs.Order.{least, first_broken, IsFirstBroken};
+ghost use Rattle.rule_order.specs.Order.{least, first_broken};
 ghost use Rattle.cob_tree.specs.Stmt as tree_spec;
 ghost use Rattle.cob_tree.specs.StmtView.{plain_sentence, plain_paragraph, plain_tree};
 ghost use Rattle.cob_data.specs.declared.end.Rule.{Rule};
 ghost use Rattle.cob_data.specs.declared.layout.Layout.{Layout};
 ghost use Rattle.cob_program.specs.Act.{stmts_of};
-ghost use Rattle.cob_program.specs.ActView.{plain_stmt, plain_para, plain_program};
+ghost use Rattle.cob_program.specs.ActView.{plain_stmt, plain_para};
 ghost use Rattle.cob_names.specs.Search.{HasFewPlaces, found_and};
-ghost use Rattle.cob_typed.specs.Paras.{para_in, HasParas};
+ghost use Rattle.cob_typed_exprs.specs.Paras.{para_in, HasParas};
 ghost use Rattle.cob_typed.specs.StatementSteps.{typed_para, all_from};
 ghost use Rattle.cob_typed.specs.Lists.{plain_stmts, found_behind};
 ghost use Rattle.cob_typed.specs.Statements.{typed_stmts};
-ghost use Rattle.cob_typed.specs.Typing.{joined, typed_sentences, typed_paras, typed_all, rule_number, clashes, lines_of, scope_of, typing_rules, IsTyped, IsOutside};
+ghost use Rattle.cob_typed.specs.Typing.{joined, typed_sentences, typed_paras, rule_number, clashes, scope_of, IsTyped, IsOutside};
 ghost use Rattle.cob_typed.specs.Answer.{lines_in, AreTyped, IsAnswer, IsRefused, IsAccepted};
 
 use crate::end::TypedEnd;
-use crate::finding::{Finding, demand};
-use crate::layout_copies::copied_layout;
-use crate::scope::Scope;
+use crate::statements::add_stmts;
 use cob_data::{Layout, Rule};
 use cob_names::{Found, Names};
 use cob_program::{Para, Program, Stmt};
 use cob_tree::{Many, Name, Paragraph, Sentence, Tree};
+use cob_typed_exprs::{Finding, Scope, demand};
 use indexmap::{IndexMap, IndexSet};
 use rule_order::noted;
 use std::alloc::{AllocError, Global};
@@ -108,96 +109,100 @@ fn add_clashes(
 
 // ---- lists of statements
 
-#[tactic(auto, using(crate::proofs::FoundLemmas::found_append))]
-impl<'a> Scope<'a> {
-    fn add_sentence(
-        &self,
-        findings: &mut Vec<Finding>,
-        next: &mut u32,
-        sentence: &Sentence,
-        typed: &mut Vec<Stmt>,
-    ) -> Result<(), AllocError>
-        ensures value { OnOk result (stmts_of (map plain_stmt typed.new.items) ≡ joined (stmts_of (map plain_stmt typed.old.items)) (typed_stmts self.now next.old (plain_sentence sentence.now)).value) }
-        ensures next { OnOk result (next.new ≡ (typed_stmts self.now next.old (plain_sentence sentence.now)).next) }
-        ensures found { OnOk result (findings.new.items ≡ found_behind findings.old.items (typed_stmts self.now next.old (plain_sentence sentence.now)).found) }
-    {
-        self.add_stmts(findings, next, sentence.statements.get(), typed, u32::MAX)?;
-        Ok(())
-    }
+fn add_sentence(
+    scope: &Scope,
+    findings: &mut Vec<Finding>,
+    next: &mut u32,
+    sentence: &Sentence,
+    typed: &mut Vec<Stmt>,
+) -> Result<(), AllocError>
+    ensures value { OnOk result (stmts_of (map plain_stmt typed.new.items) ≡ joined (stmts_of (map plain_stmt typed.old.items)) (typed_stmts scope.now next.old (plain_sentence sentence.now)).value) }
+    ensures next { OnOk result (next.new ≡ (typed_stmts scope.now next.old (plain_sentence sentence.now)).next) }
+    ensures found { OnOk result (findings.new.items ≡ found_behind findings.old.items (typed_stmts scope.now next.old (plain_sentence sentence.now)).found) }
+{
+    add_stmts(
+        scope,
+        findings,
+        next,
+        sentence.statements.get(),
+        typed,
+        u32::MAX,
+    )?;
+    Ok(())
+}
 
-    fn sentences(
-        &self,
-        findings: &mut Vec<Finding>,
-        next: &mut u32,
-        sentences: &[Sentence],
-    ) -> Result<Vec<Stmt>, AllocError>
-        ensures value { IfOk result (λ typed. plain_stmts typed ≡ (typed_sentences self.now next.old (map plain_sentence sentences.now)).value) }
-        ensures next { OnOk result (next.new ≡ (typed_sentences self.now next.old (map plain_sentence sentences.now)).next) }
-        ensures found { OnOk result (findings.new.items ≡ found_behind findings.old.items (typed_sentences self.now next.old (map plain_sentence sentences.now)).found) }
-    {
-        let mut typed = Vec::new(self.alloc);
-        for sentence in sentences {
-            self.add_sentence(findings, next, sentence, &mut typed)?;
-        }
-        Ok(typed)
+fn typed_sentences(
+    scope: &Scope,
+    findings: &mut Vec<Finding>,
+    next: &mut u32,
+    sentences: &[Sentence],
+) -> Result<Vec<Stmt>, AllocError>
+    ensures value { IfOk result (λ typed. plain_stmts typed ≡ (typed_sentences scope.now next.old (map plain_sentence sentences.now)).value) }
+    ensures next { OnOk result (next.new ≡ (typed_sentences scope.now next.old (map plain_sentence sentences.now)).next) }
+    ensures found { OnOk result (findings.new.items ≡ found_behind findings.old.items (typed_sentences scope.now next.old (map plain_sentence sentences.now)).found) }
+{
+    let mut typed = Vec::new(scope.alloc);
+    for sentence in sentences {
+        add_sentence(scope, findings, next, sentence, &mut typed)?;
     }
+    Ok(typed)
+}
 
-    fn paragraph(
-        &self,
-        findings: &mut Vec<Finding>,
-        next: &mut u32,
-        paragraph: &Paragraph,
-    ) -> Result<Para, AllocError>
-        ensures value { IfOk result (λ para. plain_para para ≡ (typed_para self.now next.old (plain_paragraph paragraph.now)).value) }
-        ensures next { OnOk result (next.new ≡ (typed_para self.now next.old (plain_paragraph paragraph.now)).next) }
-        ensures found { OnOk result (findings.new.items ≡ found_behind findings.old.items (typed_para self.now next.old (plain_paragraph paragraph.now)).found) }
-    {
-        let body = self.sentences(findings, next, paragraph.sentences.get())?;
-        Ok(Para {
-            name: Some(Name::of(self.alloc, paragraph.name.get())?),
-            line: paragraph.line,
-            body: Many::of(body),
-        })
-    }
+fn typed_para(
+    scope: &Scope,
+    findings: &mut Vec<Finding>,
+    next: &mut u32,
+    paragraph: &Paragraph,
+) -> Result<Para, AllocError>
+    ensures value { IfOk result (λ para. plain_para para ≡ (typed_para scope.now next.old (plain_paragraph paragraph.now)).value) }
+    ensures next { OnOk result (next.new ≡ (typed_para scope.now next.old (plain_paragraph paragraph.now)).next) }
+    ensures found { OnOk result (findings.new.items ≡ found_behind findings.old.items (typed_para scope.now next.old (plain_paragraph paragraph.now)).found) }
+{
+    let body = typed_sentences(scope, findings, next, paragraph.sentences.get())?;
+    Ok(Para {
+        name: Some(Name::of(scope.alloc, paragraph.name.get())?),
+        line: paragraph.line,
+        body: Many::of(body),
+    })
+}
 
-    fn add_paras(
-        &self,
-        findings: &mut Vec<Finding>,
-        next: &mut u32,
-        paragraphs: &[Paragraph],
-        paras: &mut Vec<Para>,
-    ) -> Result<(), AllocError>
-        ensures value { OnOk result (map plain_para paras.new.items ≡ map plain_para paras.old.items ++ (typed_paras self.now next.old (map plain_paragraph paragraphs.now)).value) }
-        ensures next { OnOk result (next.new ≡ (typed_paras self.now next.old (map plain_paragraph paragraphs.now)).next) }
-        ensures found { OnOk result (findings.new.items ≡ found_behind findings.old.items (typed_paras self.now next.old (map plain_paragraph paragraphs.now)).found) }
-    {
-        for paragraph in paragraphs {
-            paras.push(self.paragraph(findings, next, paragraph)?)?;
-        }
-        Ok(())
+fn add_paras(
+    scope: &Scope,
+    findings: &mut Vec<Finding>,
+    next: &mut u32,
+    paragraphs: &[Paragraph],
+    paras: &mut Vec<Para>,
+) -> Result<(), AllocError>
+    ensures value { OnOk result (map plain_para paras.new.items ≡ map plain_para paras.old.items ++ (typed_paras scope.now next.old (map plain_paragraph paragraphs.now)).value) }
+    ensures next { OnOk result (next.new ≡ (typed_paras scope.now next.old (map plain_paragraph paragraphs.now)).next) }
+    ensures found { OnOk result (findings.new.items ≡ found_behind findings.old.items (typed_paras scope.now next.old (map plain_paragraph paragraphs.now)).found) }
+{
+    for paragraph in paragraphs {
+        paras.push(typed_para(scope, findings, next, paragraph)?)?;
     }
+    Ok(())
+}
 
-    /// The unnamed paragraph, and the others.
-    fn paras(
-        &self,
-        findings: &mut Vec<Finding>,
-        next: &mut u32,
-        tree: &Tree,
-    ) -> Result<Vec<Para>, AllocError>
-        ensures value { IfOk result (λ paras. map plain_para paras.items ≡ (all_from self.now next.old (map plain_sentence tree.now.sentences) (map plain_paragraph tree.now.paragraphs)).value) }
-        ensures next { OnOk result (next.new ≡ (all_from self.now next.old (map plain_sentence tree.now.sentences) (map plain_paragraph tree.now.paragraphs)).next) }
-        ensures found { OnOk result (findings.new.items ≡ found_behind findings.old.items (all_from self.now next.old (map plain_sentence tree.now.sentences) (map plain_paragraph tree.now.paragraphs)).found) }
-    {
-        let body = self.sentences(findings, next, tree.sentences.get())?;
-        let mut paras = Vec::new(self.alloc);
-        paras.push(Para {
-            name: None,
-            line: 0,
-            body: Many::of(body),
-        })?;
-        self.add_paras(findings, next, tree.paragraphs.get(), &mut paras)?;
-        Ok(paras)
-    }
+/// The unnamed paragraph, and the others.
+fn all_paras(
+    scope: &Scope,
+    findings: &mut Vec<Finding>,
+    next: &mut u32,
+    tree: &Tree,
+) -> Result<Vec<Para>, AllocError>
+    ensures value { IfOk result (λ paras. map plain_para paras.items ≡ (all_from scope.now next.old (map plain_sentence tree.now.sentences) (map plain_paragraph tree.now.paragraphs)).value) }
+    ensures next { OnOk result (next.new ≡ (all_from scope.now next.old (map plain_sentence tree.now.sentences) (map plain_paragraph tree.now.paragraphs)).next) }
+    ensures found { OnOk result (findings.new.items ≡ found_behind findings.old.items (all_from scope.now next.old (map plain_sentence tree.now.sentences) (map plain_paragraph tree.now.paragraphs)).found) }
+{
+    let body = typed_sentences(scope, findings, next, tree.sentences.get())?;
+    let mut paras = Vec::new(scope.alloc);
+    paras.push(Para {
+        name: None,
+        line: 0,
+        body: Many::of(body),
+    })?;
+    add_paras(scope, findings, next, tree.paragraphs.get(), &mut paras)?;
+    Ok(paras)
 }
 
 // ---- the first broken rule
@@ -261,7 +266,7 @@ fn typed_with(scope: &Scope, tree: &Tree) -> Result<Typed, AllocError>
 {
     let mut findings = Vec::new(scope.alloc);
     let mut next = 1;
-    let paras = scope.paras(&mut findings, &mut next, tree)?;
+    let paras = all_paras(scope, &mut findings, &mut next, tree)?;
     add_clashes(scope.alloc, &mut findings, tree.paragraphs.get())?;
     Ok(Typed {
         paras,
@@ -299,7 +304,7 @@ fn program_of(alloc: Global, layout: &Layout, typed: Typed) -> Result<Program, A
     ensures statements { IfOk result (λ program. program.statements ≡ typed.statements) }
 {
     Ok(Program {
-        layout: copied_layout(alloc, layout)?,
+        layout: layout.copied(alloc)?,
         paras: Many::of(typed.paras),
         statements: typed.statements,
     })

@@ -19,25 +19,25 @@ abbrev pub Leaves : {A W : Type 0} → Result A Kind → MoveEnd → W → W →
 Leaves wanted (end.Fault kind) old now = (wanted ≡ Err kind) × (now ≡ old)
 Leaves wanted end.Memory old now = Unit {0}
 
--- things are as they are wanted, or there is a fault
+-- Things become what is wanted, or there is a fault that leaves them as they were.
 abbrev pub Becomes : {A W : Type 0} → Result W Kind → Result A MoveEnd → W → W → Type 0
 Becomes wanted (Ok _) old now = wanted ≡ Ok now
 Becomes wanted (Err x) old now = Leaves wanted x old now
 
--- the same, where memory isn't taken
+-- Things become what is wanted, or there is a fault that leaves them as they were; no memory is taken.
 abbrev pub BecomesBy : {A W : Type 0} → Result W Kind → Result A Kind → W → W → Type 0
 BecomesBy wanted (Ok _) old now = wanted ≡ Ok now
 BecomesBy wanted (Err kind) old now = (wanted ≡ Err kind) × (now ≡ old)
 
--- a value in the item at a place, whose digits hold it
+-- A value is put into the item at a place, whose digits must hold it.
 abbrev pub put : Layout → ℕ → Scaled → World → Result World Kind
 put l place v w = or_fault kind.Size (stored Trunc (form_at l place) (value_of v)) >>= λ bytes. Ok (with_storage w (filled_at l w.storage place bytes))
 
--- nothing shown
+-- the world, where nothing was shown
 abbrev pub without_shown : World → World
 without_shown w = record { storage = w.storage; counts = w.counts; files = w.files; shown = [] }
 
--- a record area that is undefined, if so
+-- storage, where a record area becomes undefined if so
 abbrev pub undefined_by : Bool → Choice → FileDecl → List ℕ → List ℕ
 undefined_by true c d storage = chosen_in c d storage
 undefined_by false c d storage = storage

@@ -26,7 +26,7 @@ read_by l c d storage f = (
   (after_read d.length f).status,
 )
 
--- the same of a WRITE
+-- a file and storage behind a WRITE, and its status
 abbrev pub written_by : Layout → Choice → FileDecl → ℕ → List ℕ → File → File × List ℕ × ℕ
 written_by l c d rec_ storage f =
     let x = after_write (fitted d.length (bytes_at l storage rec_)) f in
@@ -47,7 +47,7 @@ acted act at files storage = acted_on act at files storage (slice_get files at)
 abbrev pub bytes_of : Option (List ℕ) → List ℕ
 bytes_of content = option_map_or (λ bytes. bytes) content []
 
--- where a record of so many bytes ends, if all of it is there
+-- The end of a record of so many bytes, if all of it is there.
 abbrev pub end_from : ℕ → ℕ → ℕ → Option ℕ
 end_from size place count = if nat_le (place + size) count then Some (place + size) else None
 

@@ -1,4 +1,5 @@
 pub mod Views
+pub mod ProgramWorld
 pub mod Becoming
 pub mod Needs
 pub mod Calling

@@ -1,9 +1,9 @@
-//! What a run works on at its beginning.
+//! Storage, counts and files at the beginning of a run.
 ghost use Rattle.std.specs.Prelude.{◌≡◌, ◌+◌, [], length, map, drop, IfOk};
 ghost use Rattle.std.specs.Option.{option_map};
 ghost use Rattle.cob_program.specs.ActView.{plain_program};
 ghost use Rattle.cob_runs.specs.Runs.{content_at, first_files, first_world};
-ghost use Rattle.cob_items.specs.Sound.{HasSoundItems};
+ghost use Rattle.cob_items.specs.WellFormed.{HasWellFormedItems};
 
 use crate::files::File;
 use crate::world::World;
@@ -45,17 +45,17 @@ fn first_files(
     Ok(files)
 }
 
-impl World {
+impl<'p> World<'p> {
     /// Storage with each VALUE and spaces elsewhere, no count, closed files with their contents, and nothing shown.
     pub fn first(
         alloc: Global,
-        program: &Program,
+        program: &'p Program,
         mut contents: Contents,
-    ) -> Result<World, AllocError>
-        requires { HasSoundItems program.now.layout }
-        ensures value { IfOk result (λ w. w
+    ) -> Result<World<'p>, AllocError>
+        requires { HasWellFormedItems program.now.layout }
+        ensures value { IfOk result (λ w. w.world
             ≡ first_world (plain_program program.now) (map (option_map (λ v. v.items)) contents.items) []) }
-        ensures whole { IfOk result (λ w. length w.storage ≡ program.now.layout.storage) }
+        ensures its { IfOk result (λ w. w.program ≡ program.now) }
     {
         let storage = start(alloc, program)?;
         // It is as long as the layout says, which its clause doesn't tell.
@@ -65,6 +65,7 @@ impl World {
         let counts = vec![in alloc; None; program.statements as usize]?;
         let files = first_files(alloc, contents.as_mut_slice(), program.layout.files.get())?;
         Ok(World {
+            program,
             storage,
             counts,
             files,

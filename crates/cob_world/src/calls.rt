@@ -5,7 +5,7 @@ ghost use Rattle.std.specs.Result.{OnOk};
 ghost use Rattle.cob_runs.specs.Files.{opened, after_close, with_status};
 ghost use Rattle.cob_runs.specs.State.{with_storage, with_files};
 ghost use Rattle.cob_runs.specs.Acts.{open_one, close_one, take_one, into_if, read_one, write_one};
-ghost use Rattle.cob_items.specs.Sound.{HasSoundItems, IsSoundFile};
+ghost use Rattle.cob_items.specs.WellFormed.{HasWellFormedItems, IsWellFormedFile};
 ghost use Rattle.cob_world.specs.Calling.{called, read_by, written_by, acted, refilled};
 
 use crate::files::File;
@@ -54,9 +54,9 @@ fn read_from(
     file: &mut File,
     storage: &mut [u8],
 ) -> u8
-    requires sound { HasSoundItems layout.now }
+    requires sound { HasWellFormedItems layout.now }
     requires whole { length storage.old ≡ layout.now.storage }
-    requires file { IsSoundFile layout.now decl.now }
+    requires file { IsWellFormedFile layout.now decl.now }
     ensures { (file.new, storage.new, result) ≡ read_by layout.now choice.now decl.now storage.old file.old }
 {
     let taken = file.take(decl.length);
@@ -73,9 +73,9 @@ fn read_at(
     at: usize,
     storage: &mut [u8],
 ) -> Option<u8>
-    requires sound { HasSoundItems layout.now }
+    requires sound { HasWellFormedItems layout.now }
     requires whole { length storage.old ≡ layout.now.storage }
-    requires file { IsSoundFile layout.now decl.now }
+    requires file { IsWellFormedFile layout.now decl.now }
     ensures { (files.new, storage.new, result)
         ≡ acted (read_by layout.now choice.now decl.now) at files.old storage.old }
 {
@@ -94,9 +94,9 @@ fn write_from(
     file: &mut File,
     storage: &mut [u8],
 ) -> Result<u8, AllocError>
-    requires sound { HasSoundItems layout.now }
+    requires sound { HasWellFormedItems layout.now }
     requires whole { length storage.old ≡ layout.now.storage }
-    requires file { IsSoundFile layout.now decl.now }
+    requires file { IsWellFormedFile layout.now decl.now }
     ensures { IfOk result (λ status. (file.new, storage.new, status)
         ≡ written_by layout.now choice.now decl.now rec storage.old file.old) }
 {
@@ -115,9 +115,9 @@ fn write_at(
     at: usize,
     storage: &mut [u8],
 ) -> Result<Option<u8>, AllocError>
-    requires sound { HasSoundItems layout.now }
+    requires sound { HasWellFormedItems layout.now }
     requires whole { length storage.old ≡ layout.now.storage }
-    requires file { IsSoundFile layout.now decl.now }
+    requires file { IsWellFormedFile layout.now decl.now }
     ensures { IfOk result (λ status. (files.new, storage.new, status)
         ≡ acted (written_by layout.now choice.now decl.now rec) at files.old storage.old) }
 {
@@ -128,54 +128,58 @@ fn write_at(
     Ok(Some(write_from(alloc, layout, choice, decl, rec, file, storage)?))
 }
 
-impl World {
-    fn put_status(&mut self, layout: &Layout, decl: &FileDecl, status: u8)
-        requires sound { HasSoundItems layout.now }
-        requires whole { length self.old.storage ≡ layout.now.storage }
-        requires file { IsSoundFile layout.now decl.now }
-        ensures value { self.new ≡ with_storage self.old (with_status layout.now decl.now status self.old.storage) }
-        ensures kept { length self.new.storage ≡ length self.old.storage }
+impl<'p> World<'p> {
+    fn put_status(&mut self, decl: &FileDecl, status: u8)
+        requires file { IsWellFormedFile self.old.program.layout decl.now }
+        ensures value { self.new.world ≡ with_storage self.old.world
+            (with_status self.old.program.layout decl.now status self.old.world.storage) }
+        ensures kept { self.new.program ≡ self.old.program }
     {
-        put_status(layout, decl, status, self.storage.as_mut_slice());
+        put_status(
+            &self.program.layout,
+            decl,
+            status,
+            self.storage.as_mut_slice(),
+        );
     }
 
     fn open_file(&mut self, alloc: Global, output: bool, at: usize) -> Option<u8>
-        ensures files { (self.new.files, result) ≡ called (opened output) at self.old.files }
-        ensures world { self.new ≡ with_files self.old self.new.files }
+        ensures files { (self.new.world.files, result) ≡ called (opened output) at self.old.world.files }
+        ensures world { self.new.world ≡ with_files self.old.world self.new.world.files }
+        ensures kept { self.new.program ≡ self.old.program }
     {
         open_at(self.files.as_mut_slice(), alloc, output, at)
     }
 
     fn close_file(&mut self, at: usize) -> Option<u8>
-        ensures files { (self.new.files, result) ≡ called after_close at self.old.files }
-        ensures world { self.new ≡ with_files self.old self.new.files }
+        ensures files { (self.new.world.files, result) ≡ called after_close at self.old.world.files }
+        ensures world { self.new.world ≡ with_files self.old.world self.new.world.files }
+        ensures kept { self.new.program ≡ self.old.program }
     {
         close_at(self.files.as_mut_slice(), at)
     }
 
     /// Puts other bytes in place of those of the file at a place, if there is one. Its mode and its place stay.
     pub fn set_content(&mut self, at: usize, content: Option<Vec<u8>>)
-        ensures value { self.new ≡ with_files self.old
-            (refilled at (option_map (λ v. v.items) content) self.old.files) }
-        ensures kept { length self.new.storage ≡ length self.old.storage }
+        ensures value { self.new.world ≡ with_files self.old.world
+            (refilled at (option_map (λ v. v.items) content) self.old.world.files) }
+        ensures kept { self.new.program ≡ self.old.program }
     {
         refill_at(self.files.as_mut_slice(), content, at);
     }
 
     /// OPEN of one file, and its status.
-    pub fn open_one(&mut self, alloc: Global, layout: &Layout, opening: Opening) -> u8
-        requires sound { HasSoundItems layout.now }
-        requires whole { length self.old.storage ≡ layout.now.storage }
-        ensures value { (self.new, result) ≡ open_one layout.now opening self.old }
-        ensures kept { length self.new.storage ≡ length self.old.storage }
+    pub fn open_one(&mut self, alloc: Global, opening: Opening) -> u8
+        ensures value { (self.new.world, result) ≡ open_one self.old.program.layout opening self.old.world }
+        ensures kept { self.new.program ≡ self.old.program }
     {
         let at = opening.file as usize;
-        match decl_at(layout, at) {
+        match decl_at(&self.program().layout, at) {
             None => 0,
             Some(decl) => match self.open_file(alloc, opening.output, at) {
                 None => 0,
                 Some(status) => {
-                    self.put_status(layout, decl, status);
+                    self.put_status(decl, status);
                     status
                 }
             },
@@ -183,56 +187,47 @@ impl World {
     }
 
     /// CLOSE of one file, and its status.
-    pub fn close_one(&mut self, layout: &Layout, place: u32) -> u8
-        requires sound { HasSoundItems layout.now }
-        requires whole { length self.old.storage ≡ layout.now.storage }
-        ensures value { (self.new, result) ≡ close_one layout.now place self.old }
-        ensures kept { length self.new.storage ≡ length self.old.storage }
+    pub fn close_one(&mut self, place: u32) -> u8
+        ensures value { (self.new.world, result) ≡ close_one self.old.program.layout place self.old.world }
+        ensures kept { self.new.program ≡ self.old.program }
     {
         let at = place as usize;
-        match decl_at(layout, at) {
+        match decl_at(&self.program().layout, at) {
             None => 0,
             Some(decl) => match self.close_file(at) {
                 None => 0,
                 Some(status) => {
-                    self.put_status(layout, decl, status);
+                    self.put_status(decl, status);
                     status
                 }
             },
         }
     }
 
-    // a READ from the file at a place, if there is one
-    fn read_file(
-        &mut self,
-        layout: &Layout,
-        choice: &Option<Bytes>,
-        decl: &FileDecl,
-        at: usize,
-    ) -> Option<u8>
-        requires sound { HasSoundItems layout.now }
-        requires whole { length self.old.storage ≡ layout.now.storage }
-        requires file { IsSoundFile layout.now decl.now }
-        ensures value { (self.new.files, self.new.storage, result)
-            ≡ acted (read_by layout.now choice.now decl.now) at self.old.files self.old.storage }
-        ensures world { self.new ≡ with_storage (with_files self.old self.new.files) self.new.storage }
-        ensures kept { length self.new.storage ≡ length self.old.storage }
+    // READ from the file at a place, if there is one.
+    fn read_file(&mut self, choice: &Option<Bytes>, decl: &FileDecl, at: usize) -> Option<u8>
+        requires file { IsWellFormedFile self.old.program.layout decl.now }
+        ensures value { (self.new.world.files, self.new.world.storage, result)
+            ≡ acted (read_by self.old.program.layout choice.now decl.now) at self.old.world.files
+            self.old.world.storage }
+        ensures world { self.new.world ≡ with_storage (with_files self.old.world self.new.world.files)
+            self.new.world.storage }
+        ensures kept { self.new.program ≡ self.old.program }
     {
         let files = self.files.as_mut_slice();
+        let layout = &self.program.layout;
         read_at(layout, choice, decl, files, at, self.storage.as_mut_slice())
     }
 
     /// READ without INTO, and its status.
-    pub fn take_one(&mut self, layout: &Layout, choice: &Option<Bytes>, place: u32) -> u8
-        requires sound { HasSoundItems layout.now }
-        requires whole { length self.old.storage ≡ layout.now.storage }
-        ensures value { (self.new, result) ≡ take_one layout.now choice.now place self.old }
-        ensures kept { length self.new.storage ≡ length self.old.storage }
+    pub fn take_one(&mut self, choice: &Option<Bytes>, place: u32) -> u8
+        ensures value { (self.new.world, result) ≡ take_one self.old.program.layout choice.now place self.old.world }
+        ensures kept { self.new.program ≡ self.old.program }
     {
         let at = place as usize;
-        match decl_at(layout, at) {
+        match decl_at(&self.program().layout, at) {
             None => 0,
-            Some(decl) => match self.read_file(layout, choice, decl, at) {
+            Some(decl) => match self.read_file(choice, decl, at) {
                 None => 0,
                 Some(status) => status,
             },
@@ -240,57 +235,53 @@ impl World {
     }
 
     /// INTO of a READ, where there is one: it gets the record area as a group.
-    pub fn into_if(&mut self, layout: &Layout, file: u32, into: Option<u32>)
-        requires sound { HasSoundItems layout.now }
-        requires whole { length self.old.storage ≡ layout.now.storage }
-        ensures value { self.new ≡ into_if layout.now file into self.old }
-        ensures kept { length self.new.storage ≡ length self.old.storage }
+    pub fn into_if(&mut self, file: u32, into: Option<u32>)
+        ensures value { self.new.world ≡ into_if self.old.program.layout file into self.old.world }
+        ensures kept { self.new.program ≡ self.old.program }
     {
         if let Some(place) = into {
-            put_into(layout, file as usize, place, self.storage.as_mut_slice());
+            put_into(
+                &self.program.layout,
+                file as usize,
+                place,
+                self.storage.as_mut_slice(),
+            );
         }
     }
 
     /// READ, and its status (ISO 1989:1985, "The READ statement").
-    pub fn read_one(
-        &mut self,
-        layout: &Layout,
-        choice: &Option<Bytes>,
-        place: u32,
-        into: Option<u32>,
-    ) -> u8
-        requires sound { HasSoundItems layout.now }
-        requires whole { length self.old.storage ≡ layout.now.storage }
-        ensures value { (self.new, result) ≡ read_one layout.now choice.now place into self.old }
-        ensures kept { length self.new.storage ≡ length self.old.storage }
+    pub fn read_one(&mut self, choice: &Option<Bytes>, place: u32, into: Option<u32>) -> u8
+        ensures value { (self.new.world, result)
+            ≡ read_one self.old.program.layout choice.now place into self.old.world }
+        ensures kept { self.new.program ≡ self.old.program }
     {
-        let status = self.take_one(layout, choice, place);
+        let status = self.take_one(choice, place);
         if is_fine(status) {
-            self.into_if(layout, place, into);
+            self.into_if(place, into);
         }
         status
     }
 
-    // a WRITE to the file at a place, if there is one
+    // WRITE to the file at a place, if there is one.
     fn write_file(
         &mut self,
         alloc: Global,
-        layout: &Layout,
         choice: &Option<Bytes>,
         decl: &FileDecl,
         at: usize,
         rec: u32,
     ) -> Result<Option<u8>, AllocError>
-        requires sound { HasSoundItems layout.now }
-        requires whole { length self.old.storage ≡ layout.now.storage }
-        requires file { IsSoundFile layout.now decl.now }
-        ensures value { IfOk result (λ status. (self.new.files, self.new.storage, status)
-            ≡ acted (written_by layout.now choice.now decl.now rec) at self.old.files self.old.storage) }
-        ensures world { self.new ≡ with_storage (with_files self.old self.new.files) self.new.storage }
-        ensures kept { length self.new.storage ≡ length self.old.storage }
+        requires file { IsWellFormedFile self.old.program.layout decl.now }
+        ensures value { IfOk result (λ status. (self.new.world.files, self.new.world.storage, status)
+            ≡ acted (written_by self.old.program.layout choice.now decl.now rec) at self.old.world.files
+            self.old.world.storage) }
+        ensures world { self.new.world ≡ with_storage (with_files self.old.world self.new.world.files)
+            self.new.world.storage }
+        ensures kept { self.new.program ≡ self.old.program }
     {
         let files = self.files.as_mut_slice();
         let storage = self.storage.as_mut_slice();
+        let layout = &self.program.layout;
         write_at(alloc, layout, choice, decl, rec, files, at, storage)
     }
 
@@ -298,19 +289,17 @@ impl World {
     pub fn write_one(
         &mut self,
         alloc: Global,
-        layout: &Layout,
         choice: &Option<Bytes>,
         place: usize,
         rec: u32,
     ) -> Result<u8, AllocError>
-        requires sound { HasSoundItems layout.now }
-        requires whole { length self.old.storage ≡ layout.now.storage }
-        ensures value { IfOk result (λ status. (self.new, status) ≡ write_one layout.now choice.now place rec self.old) }
-        ensures kept { length self.new.storage ≡ length self.old.storage }
+        ensures value { IfOk result (λ status. (self.new.world, status)
+            ≡ write_one self.old.program.layout choice.now place rec self.old.world) }
+        ensures kept { self.new.program ≡ self.old.program }
     {
-        match decl_at(layout, place) {
+        match decl_at(&self.program().layout, place) {
             None => Ok(0),
-            Some(decl) => match self.write_file(alloc, layout, choice, decl, place, rec)? {
+            Some(decl) => match self.write_file(alloc, choice, decl, place, rec)? {
                 None => Ok(0),
                 Some(status) => Ok(status),
             },

@@ -6,7 +6,7 @@ ghost use Rattle.cob_program.specs.Values.{plus};
 ghost use Rattle.cob_runs.specs.Contents.{form_at, number_at};
 ghost use Rattle.cob_runs.specs.Moves.{number_of};
 ghost use Rattle.cob_runs.specs.Acts.{count_of, with_count, set_count, count_down, augment};
-ghost use Rattle.cob_items.specs.Sound.{HasSoundItems};
+ghost use Rattle.cob_items.specs.WellFormed.{HasWellFormedItems};
 ghost use Rattle.cob_calc.specs.Arithmetic.{is_number_form};
 ghost use Rattle.cob_calc.specs.Comparing.{IsShortNumber};
 ghost use Rattle.cob_world.specs.Becoming.{BecomesBy, put};
@@ -23,7 +23,7 @@ use std::alloc::AllocError;
 // The number of an operand, if it is numeric.
 #[tactic(auto, using(crate::proofs::NumberLemmas::is_number_here))]
 fn number_of(layout: &Layout, storage: &[u8], operand: &Sender) -> Option<Scaled>
-    requires sound { HasSoundItems layout.now }
+    requires sound { HasWellFormedItems layout.now }
     requires whole { length storage.now ≡ layout.now.storage }
     requires number { IsNumber layout.now operand.now }
     ensures value { result ≡ number_of layout.now storage.now operand.now }
@@ -35,7 +35,7 @@ fn number_of(layout: &Layout, storage: &[u8], operand: &Sender) -> Option<Scaled
 // The number that a numeric item holds, if it is numeric.
 #[tactic(auto, using(crate::proofs::NumberLemmas::item_is_number))]
 fn number_at(layout: &Layout, storage: &[u8], item: u32) -> Option<Scaled>
-    requires sound { HasSoundItems layout.now }
+    requires sound { HasWellFormedItems layout.now }
     requires whole { length storage.now ≡ layout.now.storage }
     requires number { is_number_form (form_at layout.now item) ≡ true }
     ensures value { result ≡ number_at layout.now storage.now item }
@@ -54,10 +54,10 @@ fn sum(own: Scaled, step: Scaled) -> Scaled
     add(own, step)
 }
 
-impl World {
+impl<'p> World<'p> {
     /// The count of a PERFORM with TIMES, by its statement's number, if it has one.
-    pub fn count_of(&self, layout: &Layout, statement: u32) -> Option<i64>
-        ensures { result ≡ count_of layout.now statement self.now }
+    pub fn count_of(&self, statement: u32) -> Option<i64>
+        ensures { result ≡ count_of self.now.program.layout statement self.now.world }
     {
         match self
             .counts
@@ -69,8 +69,9 @@ impl World {
         }
     }
 
-    fn put_count(&mut self, layout: &Layout, statement: u32, count: i64)
-        ensures value { self.new ≡ with_count layout.now statement count self.old }
+    fn put_count(&mut self, statement: u32, count: i64)
+        ensures value { self.new.world ≡ with_count self.old.program.layout statement count self.old.world }
+        ensures kept { self.new.program ≡ self.old.program }
     {
         let at = statement.saturating_sub(1) as usize;
         if at < self.counts.as_slice().len() {
@@ -79,38 +80,32 @@ impl World {
     }
 
     /// Sets the count of a PERFORM with TIMES.
-    pub fn set_count(
-        &mut self,
-        layout: &Layout,
-        statement: u32,
-        operand: &Sender,
-    ) -> Result<(), Kind>
-        requires sound { HasSoundItems layout.now }
-        requires whole { length self.old.storage ≡ layout.now.storage }
-        requires number { IsNumber layout.now operand.now }
-        ensures value { BecomesBy (set_count layout.now statement operand.now self.old) result self.old self.new }
-        ensures kept { length self.new.storage ≡ length self.old.storage }
+    pub fn set_count(&mut self, statement: u32, operand: &Sender) -> Result<(), Kind>
+        requires number { IsNumber self.old.program.layout operand.now }
+        ensures value { BecomesBy (set_count self.old.program.layout statement operand.now self.old.world) result
+            self.old.world self.new.world }
+        ensures kept { self.new.program ≡ self.old.program }
     {
-        match number_of(layout, self.storage.as_slice(), operand) {
+        match number_of(&self.program.layout, self.storage.as_slice(), operand) {
             None => Err(Kind::Class),
             Some(number) => {
-                self.put_count(layout, statement, number.units as i64);
+                self.put_count(statement, number.units as i64);
                 Ok(())
             }
         }
     }
 
     /// One turn fewer is left. No run is so long that the count leaves its range.
-    pub fn count_down(&mut self, layout: &Layout, statement: u32) -> Result<(), AllocError>
-        ensures value { OnOk result (self.new ≡ count_down layout.now statement self.old) }
-        ensures kept { length self.new.storage ≡ length self.old.storage }
+    pub fn count_down(&mut self, statement: u32) -> Result<(), AllocError>
+        ensures value { OnOk result (self.new.world ≡ count_down self.old.program.layout statement self.old.world) }
+        ensures kept { self.new.program ≡ self.old.program }
     {
-        match self.count_of(layout, statement) {
+        match self.count_of(statement) {
             None => Ok(()),
             Some(count) => match count.checked_sub(1) {
                 None => Err(AllocError),
                 Some(less) => {
-                    self.put_count(layout, statement, less);
+                    self.put_count(statement, less);
                     Ok(())
                 }
             },
@@ -118,34 +113,33 @@ impl World {
     }
 
     /// What VARYING adds, as by ADD.
-    pub fn augment(&mut self, layout: &Layout, item: u32, by: &Sender) -> Result<(), Kind>
-        requires sound { HasSoundItems layout.now }
-        requires whole { length self.old.storage ≡ layout.now.storage }
-        requires item { is_number_form (form_at layout.now item) ≡ true }
-        requires number { IsNumber layout.now by.now }
-        ensures value { BecomesBy (augment layout.now item by.now self.old) result self.old self.new }
-        ensures kept { length self.new.storage ≡ length self.old.storage }
+    pub fn augment(&mut self, item: u32, by: &Sender) -> Result<(), Kind>
+        requires item { is_number_form (form_at self.old.program.layout item) ≡ true }
+        requires number { IsNumber self.old.program.layout by.now }
+        ensures value { BecomesBy (augment self.old.program.layout item by.now self.old.world) result self.old.world
+            self.new.world }
+        ensures kept { self.new.program ≡ self.old.program }
     {
+        let layout = &self.program.layout;
         match number_of(layout, self.storage.as_slice(), by) {
             None => Err(Kind::Class),
             Some(step) => match number_at(layout, self.storage.as_slice(), item) {
                 None => Err(Kind::Class),
-                Some(own) => self.put(layout, item, sum(own, step)),
+                Some(own) => self.put(item, sum(own, step)),
             },
         }
     }
 
     #[tactic(auto, using(crate::proofs::NumberLemmas::number_takes_number))]
-    fn put(&mut self, layout: &Layout, item: u32, value: Scaled) -> Result<(), Kind>
-        requires sound { HasSoundItems layout.now }
-        requires whole { length self.old.storage ≡ layout.now.storage }
-        requires item { is_number_form (form_at layout.now item) ≡ true }
+    fn put(&mut self, item: u32, value: Scaled) -> Result<(), Kind>
+        requires item { is_number_form (form_at self.old.program.layout item) ≡ true }
         requires small { IsSmall value }
-        ensures value { BecomesBy (put layout.now item value self.old) result self.old self.new }
-        ensures kept { length self.new.storage ≡ length self.old.storage }
+        ensures value { BecomesBy (put self.old.program.layout item value self.old.world) result self.old.world
+            self.new.world }
+        ensures kept { self.new.program ≡ self.old.program }
     {
         if store_at(
-            layout,
+            &self.program.layout,
             self.storage.as_mut_slice(),
             item,
             value,

@@ -142,7 +142,7 @@ impl File {
         }
     }
 
-    // where the next record ends, if all of it is there
+    // Where the next record ends, if all of it is there.
     fn next_end(&self, size: u32) -> Option<usize>
         ensures { result ≡ end_from size self.now.place (length (bytes_in self.now)) }
     {
@@ -152,7 +152,7 @@ impl File {
         }
     }
 
-    // the next record, or else the end is met
+    // Takes the next record, or else meets the end.
     fn take_next(&mut self, size: u32) -> Taken
         ensures value { taken self.new (as_found size (bytes_in self.old) result.found) result.status
             ≡ taken_from size self.old (record_at size self.old) }

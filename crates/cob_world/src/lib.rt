@@ -13,5 +13,5 @@ mod world;
 
 pub use begin::Contents;
 pub use files::{File, FileMode, Taken};
-pub use statuses::{file_of, has_status, is_fine};
+pub use statuses::is_fine;
 pub use world::World;

@@ -5,32 +5,41 @@ ghost use Rattle.std.specs.Option.{option_copied};
 ghost use Rattle.cob_runs.specs.Contents.{area};
 ghost use Rattle.cob_runs.specs.Files.{status_bytes, with_status, chosen_in, record_in};
 ghost use Rattle.cob_runs.specs.Acts.{is_fine, decl_at, has_status, found_in, into_from, file_from};
-ghost use Rattle.cob_items.specs.Sound.{HasSoundItems, IsSoundFile};
+ghost use Rattle.cob_items.specs.WellFormed.{HasWellFormedItems, IsWellFormedFile};
 ghost use Rattle.cob_world.specs.Becoming.{undefined_by};
 ghost use Rattle.cob_world.specs.Calling.{as_found};
 
 use crate::areas::{copy_area, write_at, write_text};
+use crate::world::World;
 use cob_data::{FileDecl, Layout};
 use cob_items::{fill_bytes, item_at};
 use cob_tree::Bytes;
 
 /// The file at a place, if there is one.
 pub fn decl_at(layout: &Layout, place: usize) -> Option<&FileDecl>
-    requires { HasSoundItems layout.now }
+    requires { HasWellFormedItems layout.now }
     ensures value { option_copied result ≡ decl_at layout.now place }
-    ensures sound { IfSome result (λ d. IsSoundFile layout.now d.now) }
+    ensures sound { IfSome result (λ d. IsWellFormedFile layout.now d.now) }
 {
     layout.files.get().get(place)
 }
 
-/// Whether the file at a place has FILE STATUS.
-pub fn has_status(layout: &Layout, place: usize) -> bool
-    requires { HasSoundItems layout.now }
-    ensures { result ≡ has_status layout.now place }
-{
-    match decl_at(layout, place) {
-        None => false,
-        Some(decl) => decl.status.is_some(),
+impl World<'_> {
+    /// Whether the file at a place has FILE STATUS.
+    pub fn has_status(&self, place: usize) -> bool
+        ensures { result ≡ has_status self.now.program.layout place }
+    {
+        match decl_at(&self.program().layout, place) {
+            None => false,
+            Some(decl) => decl.status.is_some(),
+        }
+    }
+
+    /// The file whose record an item is.
+    pub fn file_of(&self, rec: u32) -> Option<usize>
+        ensures { result ≡ file_from self.now.program.layout 0 self.now.program.layout.files rec }
+    {
+        file_of(&self.program().layout, rec)
     }
 }
 
@@ -43,9 +52,9 @@ fn status_bytes(status: u8) -> [u8; 2]
 
 /// Puts the status into the FILE STATUS item of a file that has one.
 pub fn put_status(layout: &Layout, decl: &FileDecl, status: u8, storage: &mut [u8])
-    requires sound { HasSoundItems layout.now }
+    requires sound { HasWellFormedItems layout.now }
     requires whole { length storage.old ≡ layout.now.storage }
-    requires file { IsSoundFile layout.now decl.now }
+    requires file { IsWellFormedFile layout.now decl.now }
     ensures { storage.new ≡ with_status layout.now decl.now status storage.old }
 {
     match decl.status {
@@ -97,7 +106,8 @@ pub fn put_found(
 )
     requires area { decl.now.offset + decl.now.length ≤ length storage.old }
     requires found { IfSome found (λ place. place + decl.now.length ≤ length bytes.now) }
-    ensures { storage.new ≡ found_in layout.now choice.now decl.now (as_found decl.now.length bytes.now found) storage.old }
+    ensures { storage.new ≡ found_in layout.now choice.now decl.now (as_found decl.now.length bytes.now found)
+        storage.old }
 {
     match found {
         None => choose(choice, decl, storage),
@@ -113,9 +123,9 @@ pub fn put_written(
     status: u8,
     storage: &mut [u8],
 )
-    requires sound { HasSoundItems layout.now }
+    requires sound { HasWellFormedItems layout.now }
     requires whole { length storage.old ≡ layout.now.storage }
-    requires file { IsSoundFile layout.now decl.now }
+    requires file { IsWellFormedFile layout.now decl.now }
     ensures { storage.new
         ≡ undefined_by (is_fine status) choice.now decl.now (with_status layout.now decl.now status storage.old) }
 {
@@ -134,7 +144,7 @@ pub fn is_fine(status: u8) -> bool
 
 /// INTO gets the record area as a group.
 pub fn put_into(layout: &Layout, file: usize, place: u32, storage: &mut [u8])
-    requires sound { HasSoundItems layout.now }
+    requires sound { HasWellFormedItems layout.now }
     requires whole { length storage.old ≡ layout.now.storage }
     ensures { storage.new ≡ into_from layout.now (decl_at layout.now file) place storage.old }
 {
@@ -153,8 +163,8 @@ fn is_record(rec: u32, records: &[u32]) -> bool
     records.iter().any(|r| *r == rec)
 }
 
-/// The file whose record an item is.
-pub fn file_of(layout: &Layout, rec: u32) -> Option<usize>
+// The file whose record an item is.
+fn file_of(layout: &Layout, rec: u32) -> Option<usize>
     ensures { result ≡ file_from layout.now 0 layout.now.files rec }
 {
     for (at, decl) in layout.files.get().iter().enumerate() {

@@ -1,3 +1,4 @@
+//! A number brought to a receiver's scale and digits.
 ghost use Rattle.std.specs.Prelude.{◌≡◌, ◌+◌, ◌*◌, ◌^◌, ◌<◌, ◌≤◌, pos, unsigned_abs, ◌↔◌};
 ghost use Rattle.std.specs.Option.{SomeIff};
 ghost use Rattle.dec_num.specs.Exact.{near, rounded, IsNearSize};
@@ -24,7 +25,7 @@ fn rescaled(size: u128, from: u32, to: u32, mode: Mode) -> u128
     finished(size / bottom, size % bottom, bottom, mode)
 }
 
-// the same, if it has at most that many digits
+// The number, if it has at most that many digits.
 #[tactic(auto, using(crate::proofs::Near::raising))]
 fn fitted_size(size: u128, from: u32, to: u32, digits: u32, mode: Mode) -> Option<u128>
     requires size { size < 10 ^ 37 }

@@ -17,4 +17,3 @@ pub use quotient::quot;
 pub use scaled::{add, align, mul, sub};
 pub use tens::pow10;
 pub use types::{Fit, Mode, Quot, Scaled};
-

@@ -1,3 +1,4 @@
+//! Quotients, cut or rounded.
 ghost use Rattle.std.specs.Prelude.{◌≡◌, ◌≢◌, ◌+◌, ◌*◌, ◌^◌, ◌<◌, ◌≤◌, ◌≤ℤ◌, pos, neg_ℤ, unsigned_abs, ◌↔◌};
 ghost use Rattle.std.specs.Option.{SomeIff};
 ghost use Rattle.dec_num.specs.Exact.{near, ratio_of, rounded, IsNearSize};

@@ -1,3 +1,4 @@
+//! Whole quotients by each mode.
 ghost use Rattle.std.specs.Prelude.{◌≡◌, ◌+◌, ◌*◌, ◌^◌, ◌<◌, unsigned_abs};
 ghost use Rattle.dec_num.specs.Exact.{rounded, with_sign_of};
 

@@ -1,3 +1,4 @@
+//! Sums, differences and products of scaled numbers.
 ghost use Rattle.std.specs.Prelude.{◌≡◌, ◌+◌, ◌≤◌, ◌+ℤ◌, ◌-ℤ◌, ◌*ℤ◌};
 ghost use Rattle.dec_num.specs.Exact.{IsSameNumber, sum_of, difference_of, product_of};
 ghost use Rattle.dec_num.specs.Scaled.{value_of, units_at, joint_scale, CanAlign, CanAdd, CanSubtract, CanMultiply};
@@ -12,7 +13,7 @@ fn scaled(units: i128, scale: u32) -> Scaled
     Scaled { units, scale }
 }
 
-/// The same number at a greater or equal scale.
+/// The number at a greater or equal scale.
 #[tactic(auto, using(crate::proofs::Exactness::aligning))]
 pub fn align(a: Scaled, scale: u32) -> Scaled
     requires { CanAlign a scale }

@@ -1,3 +1,4 @@
+//! Powers of ten.
 ghost use Rattle.std.specs.Prelude.{◌≡◌, ◌^◌, ◌≤◌, pos};
 
 // The powers of ten that a `u128` holds.

@@ -1,3 +1,4 @@
+//! Scaled numbers, and what becomes of them.
 /// What becomes of the digits past the last kept one.
 #[derive(Debug, Clone, Copy, PartialEq, Eq)]
 pub enum Mode {

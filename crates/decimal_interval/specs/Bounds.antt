@@ -9,7 +9,7 @@ Holds i z = (i.low ≤ℤ z) × (z ≤ℤ i.high)
 abbrev pub IsSmall : ℤ → Type 0
 IsSmall z = unsigned_abs z < 10 ^ 37
 
--- it holds a number, and its ends are small
+-- an interval that holds a number, and whose ends are small
 pub record IsInterval (i : Interval) : Type 0 where
   pub ordered : i.low ≤ℤ i.high
   pub low : IsSmall i.low

@@ -8,11 +8,11 @@ use Rattle.decimal_interval.specs.declared.bounds.Interval.{Interval}
 abbrev pub interval : ℤ → ℤ → Interval
 interval low high = record { low = low; high = high }
 
--- from the lesser to the greater of two numbers
+-- The interval from the lesser to the greater of two numbers.
 abbrev pub span : ℤ → ℤ → Interval
 span x y = interval (int_min x y) (int_max x y)
 
--- from the least to the greatest end
+-- The interval from the least to the greatest end of two.
 abbrev pub joined : Interval → Interval → Interval
 joined a b = interval (int_min a.low b.low) (int_max a.high b.high)
 

@@ -1,3 +1,4 @@
+//! Unions, sums, differences and products of intervals.
 ghost use Rattle.std.specs.Prelude.{◌≡◌, ◌≤ℤ◌, ◌*ℤ◌};
 ghost use Rattle.decimal_interval.specs.Bounds.{IsSmall, IsInterval, IsLeast};
 ghost use Rattle.decimal_interval.specs.Results.{IsOfEither, IsSum, IsDifference, IsProduct, AreSmall};
@@ -5,7 +6,7 @@ ghost use Rattle.decimal_interval.specs.Corners.{span, joined};
 
 use super::bounds::Interval;
 
-// from the lesser to the greater
+// The interval from the lesser to the greater of two numbers.
 pub(crate) fn between(x: i128, y: i128) -> Interval
     ensures value { result ≡ span x y }
     ensures ordered { result.low ≤ℤ result.high }

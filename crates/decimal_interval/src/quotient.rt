@@ -1,3 +1,4 @@
+//! Quotients of intervals.
 ghost use Rattle.std.specs.Prelude.{◌≡◌, ◌↔◌, ◌≤ℤ◌, ◌≤◌, ◌^◌, pos, neg_ℤ, unsigned_abs, IfSome};
 ghost use Rattle.decimal_interval.specs.Bounds.{IsSmall, IsInterval};
 ghost use Rattle.decimal_interval.specs.Results.{IsQuotient, IsLeastCapped, capped};

@@ -1,3 +1,4 @@
+//! Operations on intervals, against results worked out by hand.
 ghost use Rattle.std.specs.Prelude.{◌^◌, ◌<◌, ◌≤ℤ◌, unsigned_abs};
 ghost use Rattle.decimal_interval.specs.Bounds.{IsInterval};
 

@@ -1,3 +1,4 @@
+//! The widening of intervals by thresholds.
 ghost use Rattle.std.specs.Prelude.{◌≡◌, ◌-◌, ◌<◌, ◌≤ℤ◌, ◌⊎◌, ℕ, ℤ, pos, length, slice_index_or};
 ghost use Rattle.std.specs.Prelude.{◌<ℤ◌};
 ghost use Rattle.decimal_interval.specs.Bounds.{Holds};

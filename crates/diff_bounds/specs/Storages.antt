@@ -7,7 +7,7 @@ abbrev pub value_at : (ℕ → Option ℤ) → ℕ → Option ℤ
 value_at cells zero = Some (pos 0)
 value_at cells (suc cell) = cells (suc cell)
 
--- both have values, and they differ by at most so much
+-- two values are there, and differ by at most so much
 abbrev pub DifferBy : ℤ → Option ℤ → Option ℤ → Type 0
 DifferBy c (Some x) (Some y) = (x -ℤ y) ≤ℤ c
 DifferBy c (Some x) None = ⊥

@@ -1,3 +1,4 @@
+//! The closing of a matrix: least sums over all paths.
 ghost use Rattle.std.specs.Prelude.{◌≡◌, ◌≢◌, ℕ, ◌+◌, ◌*◌, ◌<◌, ◌≤◌, ◌↔◌, length, pos, false, IsTrue, slice_index_or, ℤ, Option};
 ghost use Rattle.diff_bounds.specs.Matrix.{word, IsMatrix, IsWord};
 ghost use Rattle.diff_bounds.specs.Paths.{cut_of, HasNoNegativeCycle, IsClosure};

@@ -1,3 +1,4 @@
+//! Bounds added, the order, the join and the widening of matrices.
 ghost use Rattle.std.specs.Prelude.{◌≡◌, ◌≢◌, ℕ, ◌+◌, ◌<◌, ◌≤◌, ◌↔◌, ◌⊎◌, List, ℤ, pos, neg_ℤ, ◌≤ℤ◌, ◌<ℤ◌, Option, length, false, IsTrue, slice_index_or};
 ghost use Rattle.std.specs.Int.{int_min};
 ghost use Rattle.diff_bounds.specs.Matrix.{word, none, largest, IsMatrix, IsWord};

@@ -1,3 +1,4 @@
+//! Matrices closed, compared, joined and widened, against results worked out by hand.
 ghost use Rattle.diff_bounds.specs.Matrix.{IsMatrix};
 
 use super::words::{LARGEST, NONE, place_of};

@@ -1,3 +1,4 @@
+//! The words of a matrix and their places.
 ghost use Rattle.std.specs.Prelude.{◌≡◌, ◌+◌, ◌*◌, ◌<◌, ◌≤◌};
 
 /// The word of no bound.

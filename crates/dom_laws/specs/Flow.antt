@@ -43,7 +43,7 @@ pub record IsInductive (l : Lattice) (f : Flow) (rows : ℕ → List ℤ) : Type
   pub entry : l.Below f.entry (rows 1)
   pub edges : (edge : ℕ) → IsEdge f edge → l.Below (f.post edge (rows (f.source edge))) (rows (f.target edge))
 
--- at every head, widening two rows at or below the head's row stays at or below it
+-- Widening two rows at or below a head's row stays at or below it.
 abbrev pub HeadsAreFixed : Lattice → Flow → (ℕ → List ℤ) → Type 0
 HeadsAreFixed l f rows = (head : ℕ) → IsHead f head → (a b : List ℤ) → IsElement l a → IsElement l b → l.Below a (rows head) → l.Below b (rows head) → l.Below (l.widen a b) (rows head)
 

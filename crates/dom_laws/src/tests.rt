@@ -1,3 +1,4 @@
+//! The small domain of this crate through the traits' bounds.
 ghost use Rattle.std.specs.Prelude.{◌≡◌, ℕ, ◌+◌, ◌<◌, IsTrue, length};
 ghost use Rattle.dom_laws.specs.Lattice.{IsElement};
 ghost use Rattle.dom_laws.specs.Flow.{IsNode, IsEdge};

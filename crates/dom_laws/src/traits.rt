@@ -1,3 +1,4 @@
+//! The traits of rows, domains, systems and layers, with their laws.
 ghost use Rattle.std.specs.Prelude.{◌≡◌, ℕ, ◌+◌, ◌≤◌, List, ℤ, length, IsTrue, false, ◌↔◌};
 ghost use Rattle.dom_laws.specs.Lattice.{Lattice, IsElement, IsLattice};
 ghost use Rattle.dom_laws.specs.Flow.{Flow, IsNode, IsEdge, IsHead, IsFlow};

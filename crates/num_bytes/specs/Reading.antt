@@ -104,7 +104,7 @@ number_value digits signed Trailing bs = trailing_value bs
 number_value digits signed Binary bs = binary_value digits signed bs
 number_value digits signed Packed bs = packed_value digits signed bs
 
--- The same for each form. An alphanumeric item reads as an unsigned integer; groups and edited items as no number.
+-- The number of an item's bytes, by its form. An alphanumeric item reads as an unsigned integer; groups and edited items as no number.
 abbrev pub contents_value : Form → List ℕ → Option ℤ
 contents_value Group bs = None
 contents_value (Text length) bs = unsigned_value bs

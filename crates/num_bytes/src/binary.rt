@@ -1,3 +1,4 @@
+//! Numbers in binary items.
 ghost use Rattle.std.specs.Prelude.{◌≡◌, ◌≤◌, length, IsTrue, IfSome};
 ghost use Rattle.std.specs.Int.{w16, w32, w64, to_be_bytes, cast_unsigned};
 ghost use Rattle.num_bytes.specs.Reading.{HasNumber, binary_value, binary_width, is_own, twos_complement};

@@ -1,3 +1,4 @@
+//! Numbers written by decimal digits.
 ghost use Rattle.std.specs.Prelude.{◌≡◌, ℕ, ◌+◌, ◌^◌, ◌<◌, ◌≤◌, length, Option, IfSome, pos, unsigned_abs};
 ghost use Rattle.std.specs.Option.{option_map};
 ghost use Rattle.num_bytes.specs.Digits.{digits_in, digit_text, last_digits, number_of, signed_number};

@@ -1,3 +1,4 @@
+//! Numbers in edited items.
 ghost use Rattle.std.specs.Prelude.{◌≡◌, ℕ, ◌==◌, ◌&&◌, ◌+◌, ◌<◌, ◌≤◌, if◌then◌else◌, length};
 ghost use Rattle.cob_tree.specs.Pictures.{is_place, place_count};
 ghost use Rattle.num_bytes.specs.Digits.{digit_at, digit_text, last_digits};

@@ -1,3 +1,4 @@
+//! Numbers in DISPLAY items, a digit in a byte, and where their signs stand.
 ghost use Rattle.std.specs.Prelude.{◌≡◌, ◌+◌, ◌/◌, ◌%◌, ◌-◌, ◌^◌, ◌<◌, ◌≤◌, ◌∷◌, [], ◌++◌, length, IfSome};
 ghost use Rattle.num_bytes.specs.Digits.{digit_text, last_digits};
 ghost use Rattle.num_bytes.specs.Reading.{unsigned_value, overpunched_value, leading_value, trailing_value, signed_digit, separate_sign};

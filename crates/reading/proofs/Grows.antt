@@ -4,14 +4,14 @@ use Rattle.std.proofs.Common.{◌≡◌, ℕ, ◌<◌, ◌⊎◌, inl, inr, ⊎_
 use Rattle.std.proofs.lemmas.List.{append-nil}
 use Rattle.reading.specs.Readers.{no_step}
 use Rattle.reading.specs.Printing.{Ahead, Alphabet, Below, on_mark}
-use Rattle.reading.specs.Law.{Syntax}
+use Rattle.reading.specs.Law.{Syntax, onward}
 use Rattle.reading.proofs.Texts.{Always, both_true, below_left, below_right}
 use Rattle.reading.proofs.Dependent.{dependent_syntax}
 use Rattle.reading.proofs.Lead.{lead_syntax}
 use Rattle.reading.proofs.Seen.{View}
 use Rattle.reading.proofs.Starts.{OneToken}
 use Rattle.reading.proofs.Optional.{optional_syntax}
-use Rattle.reading.proofs.Tail.{Apart, apart, onward, tail_syntax}
+use Rattle.reading.proofs.Tail.{Apart, apart, tail_syntax}
 use Rattle.reading.proofs.Opt.{when, opt_syntax, phrase_syntax}
 use Rattle.reading.proofs.Plus.{plus_syntax, link_syntax, chain_syntax}
 use Rattle.reading.proofs.Choose.{choose_syntax}

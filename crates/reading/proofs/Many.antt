@@ -2,13 +2,13 @@
 use Rattle.std.proofs.Common.{◌≡◌, ℕ, zero, suc, ◌≤◌, ⊎_elim, Bool, true, false, List, [], ◌∷◌, ◌++◌, length, length-append, Result, Ok, Err, refl, sym, ap, subst, ◌∙◌, append_assoc, arith}
 use Rattle.reading.specs.Readers.{left_of, Fault, Stop, Deep, Reader, ◌>>=◌, many_at, many_from, no_step, many}
 use Rattle.reading.specs.Printing.{Alphabet, Matches, Below, begins, Next}
-use Rattle.reading.specs.Law.{Syntax, Read, Fails, Law, OpensAt, Deepens}
+use Rattle.reading.specs.Law.{Syntax, Read, Fails, Law, OpensAt, Deepens, onward}
 use Rattle.reading.proofs.Results.{bind_ok, bind_err, ok_is, ok_fails, fault_before, cut_at}
 use Rattle.reading.proofs.Texts.{cases, matches_length, matches_nothing, matches_join, matches_split, below_join, below_left, below_right, next_both, next_left, next_right, next_at, at_next}
 use Rattle.reading.proofs.Consequences.{first_is, at_more, at_left}
 use Rattle.reading.proofs.Opens.{below_wider, opens_left, opens_right}
 use Rattle.reading.proofs.Starts.{Starts}
-use Rattle.reading.proofs.Tail.{Apart, apart, onward, Tail}
+use Rattle.reading.proofs.Tail.{Apart, apart, Tail}
 
 abbrev pub is_given : {A : Type 0} → List A → Bool
 is_given [] = false

@@ -2,7 +2,7 @@
 use Rattle.std.proofs.Common.{◌≡◌, ℕ, suc, Bool, true, false, ◌||◌, List, [], ◌∷◌, ◌++◌, length, Err, refl, sym, subst}
 use Rattle.reading.specs.Readers.{left_of, Fault, Reader, follow}
 use Rattle.reading.specs.Printing.{Alphabet, Matches, begins, Next}
-use Rattle.reading.specs.Law.{Syntax, Law}
+use Rattle.reading.specs.Law.{Syntax, Law, onward}
 use Rattle.reading.proofs.Texts.{matches_nothing, next_both, next_left, next_right, next_at, at_next}
 use Rattle.reading.proofs.Follow.{Joint, behind_of, follow_law, reads_of}
 
@@ -14,11 +14,6 @@ Apart true before = before ≡ false
 pub apart : (given before : Bool) → before ≡ false → Apart given before
 apart false before e = tt
 apart true before e = e
-
--- what is left out leaves what stands before to go on
-abbrev pub onward : Bool → Bool → Bool → Bool
-onward false before own = before || own
-onward true before own = own
 
 module _ {I M A B : Type 0} (a : Syntax I M A) (b : A → Syntax I M B) (given : B → Bool) (m : M) where
   abbrev pub tail_good : A → B → Type 0

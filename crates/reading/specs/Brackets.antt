@@ -25,7 +25,7 @@ abbrev pub brackets : Alphabet Bracket (Bracket × ℕ) (Unit {0})
 brackets = record { Fits = λ i t. t ≡ i.0; depth = λ i. i.1; front = λ t. Here (mark_of t) }
 
 abbrev mutual
-  -- where so many are open around
+  -- A tree as it is printed where so many brackets are open around.
   pub print : ℕ → Tree → List (Bracket × ℕ)
   print depth (Node ts) = (Open, suc depth) ∷ (print_all (suc depth) ts ++ (Close, suc depth) ∷ [])
 

@@ -1,5 +1,5 @@
 -- What a reader of some trees does, whatever the trees.
-use Rattle.std.specs.Prelude.{◌≡◌, ℕ, suc, Bool, List, ◌∷◌, ◌++◌, length, Result, Ok, Err, ◌⊎◌}
+use Rattle.std.specs.Prelude.{◌≡◌, ℕ, suc, Bool, true, false, ◌||◌, List, ◌∷◌, ◌++◌, length, Result, Ok, Err, ◌⊎◌}
 use Rattle.reading.specs.Readers.{Fault, Stop, Deep, Reader}
 use Rattle.reading.specs.Printing.{Alphabet, Matches, Below, Opens, Next}
 
@@ -9,8 +9,14 @@ pub record Syntax (I M A : Type 0) : Type 1 where
   pub print : A → List I
   pub takes : A → M → Bool
 
+-- Whether a tree and what may stand behind it go on: where that stands, it alone can; where it is left out, what
+-- stands before can too.
+abbrev pub onward : Bool → Bool → Bool → Bool
+onward false before own = before || own
+onward true before own = own
+
 module _ {T I M : Type 0} (G : Alphabet T I M) (top : ℕ) where
-  -- so many tokens are left there; at Deep the next of them opens one too many
+  -- The place of a fault: so many tokens are left there; at Deep the next of them opens one too many.
   abbrev pub At : Fault → List T → List I → Type 0
   At (Stop n) left after = length left ≡ n
   At (Deep n) left after = (length left ≡ n) × Opens G top left after

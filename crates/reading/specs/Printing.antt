@@ -19,7 +19,7 @@ module _ {T I M : Type 0} (G : Alphabet T I M) where
   Matches (i ∷ is) (t ∷ ts) = G.Fits i t × Matches is ts
   Matches _ _ = ⊥
 
-  -- at each item fewer are open
+  -- Fewer than that are open at each item.
   abbrev pub Below : ℕ → List I → Type 0
   Below top [] = Unit {0}
   Below top (i ∷ is) = (G.depth i < top) × Below top is

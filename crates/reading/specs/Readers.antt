@@ -44,7 +44,7 @@ seq r s = follow r (λ a. s)
 abbrev pub branch : {T K B : Type 0} → (T → Option K) → (K → Reader T B) → Reader T (K × B)
 branch class s = follow (lead class) s
 
--- the same, seen as another value
+-- A reader's value, seen as another one.
 abbrev pub seen : {T A B : Type 0} → (A → B) → Reader T A → Reader T B
 seen view r ts = r ts >>= λ a. Ok (view a.0, a.1)
 
@@ -133,7 +133,7 @@ no_step state a = tt
 abbrev pub many : {T A : Type 0} → (List T → Bool) → Reader T A → Reader T (List A)
 many begins r = many_from (λ state. begins) (λ state. r) no_step tt
 
--- at least one
+-- One or more.
 abbrev pub plus : {T A : Type 0} → (List T → Bool) → Reader T A → Reader T (A × List A)
 plus begins r = follow r (λ a. many begins r)
 
@@ -193,7 +193,7 @@ with_kind kinds clause = clause.0 ∷ kinds
 abbrev pub clauses : {T K C : Type 0} → (K → K → Bool) → (T → Option K) → (K → Reader T C) → Reader T (List (K × C))
 clauses same class clause = many_from (λ kinds. stands (fresh same class kinds)) (λ kinds. branch (fresh same class kinds) clause) with_kind []
 
--- where no more may open
+-- A reader where no more may open.
 abbrev pub full_on : {T A : Type 0} → Bool → Reader T A
 full_on true ts = Err (Deep (length ts))
 full_on false ts = Err (Stop (length ts))

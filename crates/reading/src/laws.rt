@@ -1,3 +1,4 @@
+//! The laws of readers, shown on a small grammar of brackets.
 ghost use Rattle.std.specs.Prelude.{◌≡◌, ℕ, zero, suc, ◌≤◌, List, ◌∷◌, ◌++◌, length, Err};
 ghost use Rattle.reading.specs.Readers.{Deep, whole};
 ghost use Rattle.reading.specs.Printing.{Matches};

@@ -1,3 +1,4 @@
+//! Words on files: NAME=PATH.
 ghost use Rattle.std.specs.Prelude.{◌≡◌, [], MatchOption, None, Some, find, is_some};
 ghost use Rattle.std.specs.List.{list_any};
 ghost use Rattle.std.specs.Str.{str_eq_ignore_ascii_case};

@@ -1,3 +1,4 @@
+//! The paths of a program's files.
 ghost use Rattle.std.specs.Prelude.{◌≡◌, IfOk, IfErr, [], length, string_bytes};
 ghost use Rattle.run_words.specs.declared.paths.PathsEnd.TheVariants.{Memory};
 ghost use Rattle.cob_data.specs.Names.{stands_in};

@@ -1,3 +1,4 @@
+//! The words of `run`.
 ghost use Rattle.std.specs.Prelude.{◌≡◌, ℕ, ◌++◌, ◌∷◌, ◌↔◌, IsTrue, IfOk, MatchOption, MatchBool};
 ghost use Rattle.run_words.specs.Words.{IsPlain, ArePlain, IsCount, IsRun, OneReading, Answers, command_word, texts, lent_texts};
 ghost use Rattle.run_words.specs.Steps.{IsSaid, LackSteps, StandsFirst};

@@ -9,7 +9,7 @@ use Rattle.straight_claims.specs.declared.ends.ClaimsEnd.{ClaimsEnd}
 use Rattle.straight_claims.specs.declared.ends.ClaimsEnd.TheVariants.{NotYet, Memory}
 use Rattle.straight_claims.specs.Claims.{claim_line, node_line}
 
--- this line alone, or a claim of this cell
+-- what a line may be: one given line alone, or a claim of a given cell
 pub data Form : Type 0 where
   Just : Line → Form
   ClaimOf : ℕ → Form
@@ -29,7 +29,7 @@ pub record IsClaimLine (cell : ℕ) (line : Line) (claim : Claim) : Type 0 where
 abbrev pub claim_front : ℕ → Line
 claim_front cell = codes "c " ++ decimal cell ++ codes " "
 
--- the rest of it
+-- a claim's line from its low end on
 pub record AreEnds (fields : List ℕ) (low high : ℤ) : Type 0 where
   pub low_end : IsEnd low
   pub high_end : IsEnd high
@@ -41,12 +41,12 @@ Fits (ClaimOf cell) line = (claim : Claim) × IsClaimLine cell line claim
 
 -- ---- the forms of a certificate's lines
 
--- so many claims, from this cell on
+-- The forms of so many claims, from this cell on.
 abbrev pub claim_forms : ℕ → ℕ → List Form
 claim_forms cell zero = []
 claim_forms cell (suc more) = ClaimOf cell ∷ claim_forms (cell + 1) more
 
--- so many nodes, from this number on
+-- The forms of so many nodes, from this number on.
 abbrev pub node_forms : ℕ → ℕ → ℕ → List Form
 node_forms cells number zero = []
 node_forms cells number (suc more) = Just (node_line number) ∷ claim_forms 1 cells ++ node_forms cells (number + 1) more
@@ -63,16 +63,16 @@ end_forms = Just (codes "end") ∷ []
 abbrev pub forms_of : ℕ → ℕ → List Form
 forms_of cells count = head_forms cells count ++ (node_forms cells 1 count ++ end_forms)
 
--- ---- how far lines keep to them
+-- ---- how far lines keep to forms
 
--- as many lines as forms, each of its form
+-- There are as many lines as forms, each of its form.
 abbrev pub AreFits : List Form → List Line → Type 0
 AreFits [] [] = Unit {0}
 AreFits [] (line ∷ lines) = ⊥
 AreFits (form ∷ forms) [] = ⊥
 AreFits (form ∷ forms) (line ∷ lines) = Fits form line × AreFits forms lines
 
--- so many lines are of their forms, and the next one isn't, or isn't there
+-- The first lines, so many, are of their forms, and the next one isn't, or isn't there.
 abbrev pub Misfits : List Form → List Line → ℕ → Type 0
 Misfits [] lines passed = ⊥
 Misfits (form ∷ forms) [] passed = passed ≡ 0

@@ -1,3 +1,4 @@
+//! How reading claims ends without any.
 ghost use Rattle.std.specs.Prelude.{◌≡◌};
 ghost use Rattle.straight_claims.specs.declared.ends.ClaimsEnd.TheVariants.{Memory};
 

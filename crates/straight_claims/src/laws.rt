@@ -1,3 +1,4 @@
+//! Laws of reading claims.
 ghost use Rattle.straight_claims.specs.Laws.{OneCertificate, ReadOrRefused};
 
 /// A text is the certificate of at most one list of claims of its shape.

@@ -1,3 +1,4 @@
+//! One line of a certificate.
 ghost use Rattle.std.specs.Prelude.{◌≡◌, ℕ, ◌∷◌, ◌++◌, ◌↔◌, List, IsTrue, MatchOption, ℤ, decimal};
 ghost use Rattle.std.specs.Fmt.{signed_decimal};
 ghost use Rattle.cert_check.specs.Element.{IsEnd};

@@ -1,3 +1,4 @@
+//! A certificate's lines, taken one after the other.
 ghost use Rattle.std.specs.Prelude.{◌≡◌, ◌+◌, ◌≤◌, length, [], ◌∷◌, ◌++◌, map, MatchOption, MatchResult, decimal};
 ghost use Rattle.text_lines.specs.Lines.{cut};
 ghost use Rattle.straight_claims.specs.Claims.{claim_line, node_line, node_lines};

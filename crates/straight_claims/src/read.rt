@@ -1,3 +1,4 @@
+//! The claims of a certificate of a straight-line program.
 ghost use Rattle.std.specs.Prelude.{◌≤◌, length};
 ghost use Rattle.straight_claims.specs.Reading.{ReadsClaims};
 

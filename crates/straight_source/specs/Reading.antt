@@ -17,8 +17,8 @@ pub record IsReading (tokens : List Token) (read : StraightLines) (source : Sour
   pub valid : IsValid (plain read.program)
   pub lines_are : read.lines.items ≡ statement_lines tokens source
 
--- the place of the token at which the statement behind so many begins: 16 tokens stand in front of the items
--- and the statements, an item has seven, and a statement has five
+-- The place of the token at which the statement after so many begins: 16 tokens stand outside the items and the
+-- statements, an item has seven, and a statement has five.
 abbrev pub statement_place : ℕ → ℕ → ℕ
 statement_place items before = 16 + 7 * items + 5 * before
 

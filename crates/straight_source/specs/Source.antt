@@ -113,7 +113,7 @@ pub record IsSource (source : Source) : Type 0 where
   pub acts : AllByRecursion (IsAct (names source.items)) source.acts
   pub most_acts : length source.acts ≤ 4094
 
--- these are the tokens of a source
+-- tokens that are those of a source
 abbrev pub AreSourceTokens : List Tok → Type 0
 AreSourceTokens toks = (source : Source) × IsSource source × (toks ≡ source_tokens source)
 

@@ -39,7 +39,7 @@ behind_picture = Word keyword.Value ∷ []
 abbrev pub behind_amount : List Due
 behind_amount = Word keyword.To ∷ []
 
--- behind an item's VALUE and behind a receiver
+-- What may stand behind an item's VALUE and behind a receiver.
 abbrev pub behind_value : List Due
 behind_value = Stop ∷ []
 

@@ -1,3 +1,4 @@
+//! How reading a straight-line source ends without one.
 ghost use Rattle.std.specs.Prelude.{◌≡◌};
 ghost use Rattle.straight_source.specs.declared.ends.SourceEnd.TheVariants.{Memory};
 

@@ -1,3 +1,4 @@
+//! Laws of reading straight-line sources.
 ghost use Rattle.std.specs.Prelude.{◌≡◌, ℕ, ◌+◌, List, length};
 ghost use Rattle.cob_tree.specs.declared.token.Token.{Token};
 ghost use Rattle.straight_source.specs.Source.{Source, IsSource, AreSourceTokens, toks, source_tokens, program_of};

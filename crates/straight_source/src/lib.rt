@@ -11,4 +11,3 @@ mod token;
 pub use ends::SourceEnd;
 pub use laws::{one_refusal, one_source, program_counts, read_or_refused};
 pub use read::{StraightLines, read_source};
-

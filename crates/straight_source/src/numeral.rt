@@ -1,3 +1,4 @@
+//! Numerals of the straight-line form.
 ghost use Rattle.std.specs.Prelude.{◌≡◌, ◌^◌, ◌<◌, ◌≤◌, length, position, IfSome};
 ghost use Rattle.std.specs.Bool.{OnTrue};
 ghost use Rattle.straight_source.specs.Source.{IsNumeral, number_of};

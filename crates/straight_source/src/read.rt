@@ -1,3 +1,4 @@
+//! A source of the straight-line form, read from tokens, with the lines of its statements.
 ghost use Rattle.std.specs.Prelude.{◌≡◌, ◌+◌, ◌≤◌, IfOk, length};
 ghost use Rattle.straight_source.specs.Source.{line_behind};
 ghost use Rattle.straight_source.specs.Reading.{ReadsSource, statement_place, regular_lines};

@@ -1,3 +1,4 @@
+//! The reading of a straight-line source, token by token.
 ghost use Rattle.std.specs.Prelude.{◌≡◌, ◌<◌, ◌≤◌, ◌↔◌, IfOk, Some, None, if◌then◌else◌, IfSome, IsTrue, length, vec_len};
 ghost use Rattle.straight_source.specs.Steps.{view, start, next, next_at, next_name, next_in_storage, next_item_name, next_picture, next_value, next_stop, next_verb, next_in_procedure, next_amount, next_receiver, place, is_finished, IsBounded};
 

@@ -1,3 +1,4 @@
+//! What the next token of a straight-line source must be.
 ghost use Rattle.std.specs.Prelude.{◌≡◌, ◌^◌, ◌<◌, ◌≤◌, IfSome};
 ghost use Rattle.cob_tree.specs.Keywords.{text_of};
 ghost use Rattle.straight_source.specs.Source.{with_verb};

@@ -1,3 +1,4 @@
+//! Laws of lines and of the first bad line.
 ghost use Rattle.std.specs.Prelude.{◌≡◌, ℕ, Bool, IsTrue, List, []};
 ghost use Rattle.std.specs.List.{AllByRecursion};
 ghost use Rattle.text_lines.specs.Lines.{Line, text_of, cut, IsOneLine};

@@ -1,3 +1,4 @@
+//! The first line of some bytes.
 ghost use Rattle.std.specs.Prelude.{◌≡◌, ◌+◌, length, option_map, IfSome};
 ghost use Rattle.text_lines.specs.Lines.{Splits};
 

@@ -4,7 +4,7 @@ use Rattle.dom_laws.specs.Lattice.{Lattice, IsElement}
 use Rattle.dom_laws.specs.Flow.{Flow, IsNode, IsEdge, IsHead, IsDominated, goes_back_to, head_count}
 use Rattle.widen_solver.specs.Stored.{row_at}
 
--- at most so many transfers are made
+-- The most transfers that are made.
 abbrev pub step_bound : Lattice → Flow → ℕ
 step_bound l f = f.edges * (head_count f * l.height + 2)
 

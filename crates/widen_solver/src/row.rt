@@ -1,3 +1,4 @@
+//! A node's row.
 ghost use Rattle.std.specs.Prelude.{◌≡◌, List, ℤ, length, IfOk};
 ghost use Rattle.dom_laws.specs.Lattice.{IsElement};
 ghost use Rattle.dom_laws.specs.Flow.{IsNode};

@@ -1,3 +1,4 @@
+//! Rows for all nodes, and the solver over them (Cousot and Cousot 1977).
 ghost use Rattle.std.specs.Prelude.{◌≡◌, ℕ, ◌+◌, ◌*◌, ◌^◌, ◌<◌, ◌≤◌, List, [], length, slice_index_or, vec_len, IsOk, IfOk};
 ghost use Rattle.dom_laws.specs.Flow.{IsInductive, IsDominated};
 ghost use Rattle.widen_solver.specs.Stored.{Stored, row_at, HasShape};

@@ -1,3 +1,4 @@
+//! Graphs solved, alone and over the rows of another.
 ghost use Rattle.std.specs.Prelude.{◌≡◌, ◌+◌, ◌*◌, ◌^◌, ◌<◌, ◌≤◌, length, IfOk};
 ghost use Rattle.dom_laws.specs.Flow.{IsInductive};
 ghost use Rattle.widen_solver.specs.Stored.{HasShape, row_at};
@@ -47,7 +48,7 @@ fn solved<S: System, L: Ledger>(
     Ok(store)
 }
 
-// as many transfers as may be made
+// The most transfers that may be made.
 fn bound<S: System>(system: &S) -> u64 {
     let mut heads = 0u64;
     for index in 0..system.nodes() {

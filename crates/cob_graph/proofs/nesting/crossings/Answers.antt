@@ -10,7 +10,7 @@ loop-place-preserved c =
     let cs = c.args.calls.now in
     let l = c.loop-place in
     noted_more (crossing_at (map plain_call cs) c.args.outer) l.place l.least _ _ _ l.invariant c.noted-least.ensures
-    (crossing_read cs c.args.rows.now c.args.outer l.place _ _ c.index-rows-outer.result _ c.requires.rows c.requires.outer c.loop-place-test.true c.index-rows-outer.is c.reaches_across-crosses.ensures)
+    (crossing_read cs c.args.row.now c.args.outer l.place _ _ _ c.requires.row c.requires.outer c.loop-place-test.true c.reaches_across-crosses.ensures)
 
 pub returns : goal.returns
 returns c =

@@ -8,4 +8,4 @@ pub returns : goal.returns
 returns c = λ all covers.
     first_is (record { calls = all; jumps = map plain_jump c.args.jumps.now }) (map plain_call c.args.calls.now)
     (length c.args.calls.now) _ _ _ _ c.told.result covers (sym (length-map c.args.calls.now plain_call))
-    c.first_cycle-cycle.ensures c.first_crossing-crossing.ensures c.first_leaving-leaving.ensures c.first_reversed-reversed.ensures c.told.ensures
+    c.in_ok-reached.ensures.cycle c.in_ok-reached.ensures.crossing c.first_leaving-leaving.ensures c.first_reversed-reversed.ensures c.told.ensures

@@ -1,7 +1,7 @@
 use Rattle.std.proofs.Common.{◌≡◌, ◌++◌, ◌+◌, drop, ap, ◌∙◌, sym}
 use Rattle.std.proofs.lemmas.List.{drop_all}
 use Rattle.cob_graph.specs.Graphs.{item_cells}
-use Rattle.cob_graph_build.proofs.Loops.{added, nothing_left}
+use Rattle.cob_program.proofs.Loops.{added, nothing_left}
 use Rattle.cob_graph_build.proofs.CellLemmas.{items_step}
 use Rattle.cob_graph_build.proofs.cells.add_items.Goals as goal
 

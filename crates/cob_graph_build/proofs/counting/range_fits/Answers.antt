@@ -1,7 +1,8 @@
-use Rattle.std.proofs.Common.{◌≡◌, ◌+◌, ◌-◌, ◌∙◌, ap, sym, true, rules}
+use Rattle.std.proofs.Common.{◌≡◌, ◌+◌, ◌-◌, ◌∙◌, sym, true, rules}
 use Rattle.cob_program.specs.ActView.{plain_program}
+use Rattle.cob_program.specs.Statements.{list_statements}
 use Rattle.cob_runs.specs.Steps.{body_at}
-use Rattle.cob_graph_build.specs.Sizes.{stmts_fit, range_fits}
+use Rattle.cob_graph_build.specs.Sizes.{all_fit, range_fits}
 use Rattle.cob_graph_build.specs.Tables.{is_in}
 use Rattle.cob_graph_build.proofs.SizeLoops.{accepted, range_fits_step}
 use Rattle.cob_graph_build.proofs.counting.range_fits.Goals as goal
@@ -14,8 +15,8 @@ loop-place-preserved c =
     let hi = c.args.hi in
     let place = c.loop-place.place in
     let end = c.args.end in
-    let fits : c.stmts_fit.result ≡ true = search rules in
-    accepted (stmts_fit k lo hi (body_at p place)) (range_fits k lo hi p place (end - place))
+    let fits : c.in_ok-fits.fits ≡ true = search rules in
+    accepted (all_fit k lo hi (list_statements (body_at p place))) (range_fits k lo hi p place (end - place))
     (range_fits k lo hi p (place + 1) (end - (place + 1))) _
-    (sym (c.stmts_fit.ensures ∙ ap (stmts_fit k lo hi) c.body_at.ensures) ∙ fits)
+    (sym c.in_ok-fits.ensures ∙ fits)
     (range_fits_step k lo hi p place end c.loop-place-test.true) c.loop-place.invariant

@@ -13,10 +13,10 @@ returns-in_ok-ready_to_close-in-Some-clause-leads g c sink node budget is =
     (sym c.in-Some.ensures) c.in_ok-ready_to_close-in-Some.ensures.readies _ c.do_part.ensures.does
 
 pub returns-in_default-clause-touches : goal.returns-in_default-clause-touches
-returns-in_default-clause-touches g c = touches_stay (paths_of c.args.setting.now) makes_none c.args.world.now _
+returns-in_default-clause-touches g c = touches_stay (paths_of c.args.setting.now) makes_none c.args.world.now.world _
 
 pub returns-in-None-clause-touches : goal.returns-in-None-clause-touches
-returns-in-None-clause-touches g c = touches_stay (paths_of c.args.setting.now) makes_none c.args.world.now _
+returns-in-None-clause-touches g c = touches_stay (paths_of c.args.setting.now) makes_none c.args.world.now.world _
 
 pub returns-in_ok-ready_to_close-in-Some-clause-closes : goal.returns-in_ok-ready_to_close-in-Some-clause-closes
 returns-in_ok-ready_to_close-in-Some-clause-closes g c =

@@ -48,12 +48,12 @@ returns-in_err-at-2-clause-leads g c =
 
 pub returns-clause-leads : goal.returns-clause-leads
 returns-clause-leads g c = λ sink budget steps counted start within its starts opens.
-    opened_all c.args.setting.now start (outside (g.F.Files.state c.loop-number.files) sink) c.loop-number.world steps
+    opened_all c.args.setting.now start (outside (g.F.Files.state c.loop-number.files) sink) c.loop-number.world.world steps
     c.loop-number.at
     c.args.statement c.args.openings.now its
     (subst (λ (rest : List Opening). Opens (program_of c.args.setting.now) c.args.setting.now.graph.now
     (paths_of c.args.setting.now) start
-    (outside (g.F.Files.state c.loop-number.files) sink) c.loop-number.world (steps + 1) steps c.loop-number.at
+    (outside (g.F.Files.state c.loop-number.files) sink) c.loop-number.world.world (steps + 1) steps c.loop-number.at
     c.args.statement
     c.args.openings.now rest)
     (drop_all c.loop-number.number c.args.openings.now c.loop-number-test.false)

@@ -6,18 +6,18 @@ use Rattle.cob_interp.proofs.outside.ready_to_close.Goals as goal
 
 pub returns-in_ok-put_written-in-Some-Some-clause-touches : goal.returns-in_ok-put_written-in-Some-Some-clause-touches
 returns-in_ok-put_written-in-Some-Some-clause-touches g c =
-    touches_by_one (paths_of c.args.setting.now) makes_none c.args.world.now _ _ c.args.place c.in-Some-Some.path.now
+    touches_by_one (paths_of c.args.setting.now) makes_none c.args.world.now.world _ _ c.args.place c.in-Some-Some.path.now
     c.in-Some-Some.file.now c.requires.ready.distinct c.in-Some-Some.ensures.path_ (sym c.in-Some-Some.ensures')
     c.in_ok-put_written-in-Some-Some.ensures.touches
 
 pub returns-in_err-put_written-in-Some-Some-clause-touches : goal.returns-in_err-put_written-in-Some-Some-clause-touches
 returns-in_err-put_written-in-Some-Some-clause-touches g c =
-    touches_by_one (paths_of c.args.setting.now) makes_none c.args.world.now _ _ c.args.place c.in-Some-Some.path.now
+    touches_by_one (paths_of c.args.setting.now) makes_none c.args.world.now.world _ _ c.args.place c.in-Some-Some.path.now
     c.in-Some-Some.file.now c.requires.ready.distinct c.in-Some-Some.ensures.path_ (sym c.in-Some-Some.ensures')
     c.in_err-put_written-in-Some-Some.ensures.touches
 
 pub returns-in_default-clause-touches : goal.returns-in_default-clause-touches
-returns-in_default-clause-touches g c = touches_stay (paths_of c.args.setting.now) makes_none c.args.world.now _
+returns-in_default-clause-touches g c = touches_stay (paths_of c.args.setting.now) makes_none c.args.world.now.world _
 
 pub returns-in_default-2-clause-touches : goal.returns-in_default-2-clause-touches
-returns-in_default-2-clause-touches g c = touches_stay (paths_of c.args.setting.now) makes_none c.args.world.now _
+returns-in_default-2-clause-touches g c = touches_stay (paths_of c.args.setting.now) makes_none c.args.world.now.world _

@@ -7,13 +7,13 @@ returns-in-Err-clause-runs g c budget start off =
     rw c.refused_by_sink.ensures.end
     (text_refused (program_of c.args.setting.now) c.args.setting.now.graph.now
     (paths_of c.args.setting.now) budget start _ _ _
-    c.args.world.now c.flush.new.world c.args.end c.requires.own off c.in-Err.refusal c.in-Err.ensures.flushes)
+    c.args.world.now.world c.flush.new.world.world c.args.end c.requires.own off c.in-Err.refusal c.in-Err.ensures.flushes)
 
 pub returns-in-Err-put_all-clause-runs : goal.returns-in-Err-put_all-clause-runs
 returns-in-Err-put_all-clause-runs g c budget start off =
     file_refused (program_of c.args.setting.now) c.args.setting.now.graph.now
     (paths_of c.args.setting.now) budget start _ _ _
-    c.args.world.now c.flush.new.world c.args.end c.requires.own off c.in-Ok.ensures.flushes _
+    c.args.world.now.world c.flush.new.world.world c.args.end c.requires.own off c.in-Ok.ensures.flushes _
     c.in-Err-put_all.ensures.touches
     c.in-Err-put_all.refusal c.in-Err-put_all.ensures.puts
 
@@ -21,6 +21,6 @@ pub returns-in-Ok-put_all-clause-runs : goal.returns-in-Ok-put_all-clause-runs
 returns-in-Ok-put_all-clause-runs g c budget start off =
     finished (program_of c.args.setting.now) c.args.setting.now.graph.now
     (paths_of c.args.setting.now) budget start _ _ _
-    c.args.world.now c.flush.new.world c.args.end c.requires.own off c.in-Ok.ensures.flushes _
+    c.args.world.now.world c.flush.new.world.world c.args.end c.requires.own off c.in-Ok.ensures.flushes _
     c.in-Ok-put_all.ensures.touches
     _ (paths_count c.args.setting.now) c.in-Ok-put_all.ensures.puts

@@ -7,23 +7,23 @@ use Rattle.cob_interp.proofs.runs.put_all.Goals as goal
 
 pub loop-place-init : goal.loop-place-init
 loop-place-init g c = record {
-  puts = puts_none (paths_of c.args.setting.now) c.args.world.now _;
-  touches = touches_stay (paths_of c.args.setting.now) makes_none c.args.world.now _;
+  puts = puts_none (paths_of c.args.setting.now) c.args.world.now.world _;
+  touches = touches_stay (paths_of c.args.setting.now) makes_none c.args.world.now.world _;
 }
 
 pub returns-in_err-put_at-clause-touches : goal.returns-in_err-put_at-clause-touches
 returns-in_err-put_at-clause-touches g c =
-    touches_pass (paths_of c.args.setting.now) makes_none c.args.world.now _ _ _ c.loop-place.invariant.touches
+    touches_pass (paths_of c.args.setting.now) makes_none c.args.world.now.world _ _ _ c.loop-place.invariant.touches
     c.in_err-put_at.ensures.touches
 
 pub loop-place-preserved : goal.loop-place-preserved
 loop-place-preserved g c =
     let r = c.in_ok-put_at.ensures.readies in
     record {
-      puts = puts_next (paths_of c.args.setting.now) c.requires.ready.distinct c.args.world.now c.loop-place.place
+      puts = puts_next (paths_of c.args.setting.now) c.requires.ready.distinct c.args.world.now.world c.loop-place.place
           r.path r.file r.is.path_ r.has
           _ _ _ r.ready c.loop-place.invariant.puts;
       touches = touches_pass
-          (paths_of c.args.setting.now) makes_none c.args.world.now _ _ _ c.loop-place.invariant.touches
+          (paths_of c.args.setting.now) makes_none c.args.world.now.world _ _ _ c.loop-place.invariant.touches
           c.in_ok-put_at.ensures.touches;
     }

@@ -27,4 +27,4 @@ returns-clause-runs g c =
     (begins_with (plain_program c.args.program.now) c.args.graph.now (texts c.args.paths.now)
     (length-map c.args.paths.now string_bytes ∙ c.requires.paths) c.ways_tell_of_runs.ensures c.requires.whole
     c.requires.graph c.args.budget start
-    _ c.new.result.items c.in-Ok-first.world c.new.ensures.items c.in-Ok-first.ensures.value))
+    _ c.new.result.items c.in-Ok-first.world.world c.new.ensures.items c.in-Ok-first.ensures.value))

@@ -11,7 +11,7 @@ pub loop-init : goal.loop-init
 loop-init g c = record {
   kept = refl;
   underway = λ sink start underway. underway;
-  touches = touches_stay (paths_of c.args.setting.now) makes_none c.args.world.now _;
+  touches = touches_stay (paths_of c.args.setting.now) makes_none c.args.world.now.world _;
   only = closes_stay _;
 }
 

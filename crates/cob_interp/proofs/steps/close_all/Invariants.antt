@@ -1,4 +1,4 @@
-use Rattle.std.proofs.Common.{◌≡◌, length}
+use Rattle.std.proofs.Common.{◌≡◌}
 use Rattle.batch_io.specs.SinkState.{SinkState}
 use Rattle.cob_interp.specs.Running.{Outside, outside, IsUnderway}
 use Rattle.cob_interp.specs.Setting.{program_of, paths_of}
@@ -8,14 +8,14 @@ use Rattle.cob_interp.proofs.steps.close_all.Given as goal
 -- the first files were closed
 abbrev pub invariant-loop : goal.invariant-loop
 invariant-loop g l = record {
-  kept : length l.world.storage ≡ length l.fn.world.storage;
+  kept : l.world.program ≡ l.fn.world.program;
   underway : (sink : SinkState) (start : Outside)
       → IsUnderway (program_of l.setting) l.setting.graph.now (paths_of l.setting) start
       (outside (g.F.Files.state l.fn.files) sink)
-      l.fn.world l.step l.node
+      l.fn.world.world l.step l.node
       → IsUnderway (program_of l.setting) l.setting.graph.now (paths_of l.setting) start
       (outside (g.F.Files.state l.files) sink)
-      l.world l.step l.at;
-  touches : Touches (paths_of l.setting) makes_none l.fn.world (g.F.Files.state l.fn.files) (g.F.Files.state l.files);
-  only : ClosesOnly l.fn.world l.world;
+      l.world.world l.step l.at;
+  touches : Touches (paths_of l.setting) makes_none l.fn.world.world (g.F.Files.state l.fn.files) (g.F.Files.state l.files);
+  only : ClosesOnly l.fn.world.world l.world.world;
 }

@@ -5,13 +5,13 @@ use Rattle.cob_interp.proofs.Touched.{touches_stay}
 use Rattle.cob_interp.proofs.steps.close_next.Goals as goal
 
 pub returns-in_default-clause-touches : goal.returns-in_default-clause-touches
-returns-in_default-clause-touches g c = touches_stay (paths_of c.args.setting.now) makes_none c.args.world.now _
+returns-in_default-clause-touches g c = touches_stay (paths_of c.args.setting.now) makes_none c.args.world.now.world _
 
 pub returns-in-Open : goal.returns-in-Open
 returns-in-Open g c = record {
   kept = refl;
   leads = λ sink budget start within underway. tt;
-  touches = touches_stay (paths_of c.args.setting.now) makes_none c.args.world.now _;
+  touches = touches_stay (paths_of c.args.setting.now) makes_none c.args.world.now.world _;
   closes = tt;
 }
 

@@ -19,30 +19,30 @@ open_all-requires-clause-its g c =
 
 pub returns-in-Open-clause-touches : goal.returns-in-Open-clause-touches
 returns-in-Open-clause-touches g c =
-    opening_touches (paths_of c.args.setting.now) c.args.world.now _ _ c.in-Open.openings.now
+    opening_touches (paths_of c.args.setting.now) c.args.world.now.world _ _ c.in-Open.openings.now
     (plain_act c.args.place.now.statement.now.act.now)
     (is_open _ _ c.in-Open.ensures) c.open_all.ensures.touches
 
 pub returns-in-Close-clause-touches : goal.returns-in-Close-clause-touches
 returns-in-Close-clause-touches g c =
     none_touches (paths_of c.args.setting.now) (makes_by (plain_act c.args.place.now.statement.now.act.now))
-    c.args.world.now _ _
+    c.args.world.now.world _ _
     c.close_all.ensures.touches
 
 pub returns-in_err-check_cut-in-Read-clause-touches : goal.returns-in_err-check_cut-in-Read-clause-touches
 returns-in_err-check_cut-in-Read-clause-touches g c =
     touches_stay (paths_of c.args.setting.now) (makes_by (plain_act c.args.place.now.statement.now.act.now))
-    c.args.world.now _
+    c.args.world.now.world _
 
 pub returns-in_ok-check_cut-in-Read-clause-touches : goal.returns-in_ok-check_cut-in-Read-clause-touches
 returns-in_ok-check_cut-in-Read-clause-touches g c =
     touches_stay (paths_of c.args.setting.now) (makes_by (plain_act c.args.place.now.statement.now.act.now))
-    c.args.world.now _
+    c.args.world.now.world _
 
 pub returns-in-Other-clause-touches : goal.returns-in-Other-clause-touches
 returns-in-Other-clause-touches g c =
     touches_stay (paths_of c.args.setting.now) (makes_by (plain_act c.args.place.now.statement.now.act.now))
-    c.args.world.now _
+    c.args.world.now.world _
 
 pub returns-in_err-check_cut-in-Read-clause-takes : goal.returns-in_err-check_cut-in-Read-clause-takes
 returns-in_err-check_cut-in-Read-clause-takes g c =
@@ -51,33 +51,33 @@ returns-in_err-check_cut-in-Read-clause-takes g c =
     (λ sink budget steps start counted within stands.
     ragged_arrives c.args.setting.now c.args.node c.args.place.now c.requires.starts budget steps c.args.step counted
     within start
-    (outside (g.F.Files.state c.args.files.now) sink) c.args.world.now stands c.in-Read.file c.in-Read.ensures _
+    (outside (g.F.Files.state c.args.files.now) sink) c.args.world.now.world stands c.in-Read.file c.in-Read.ensures _
     c.in_err-check_cut-in-Read.ensures)
 
 pub returns-in-Open-clause-takes : goal.returns-in-Open-clause-takes
 returns-in-Open-clause-takes g c = λ sink budget steps start counted within stands.
     opening_begins c.args.setting.now c.args.node c.args.place.now c.requires.starts budget steps c.args.step counted
     within start
-    (outside (g.F.Files.state c.args.files.now) sink) c.args.world.now stands
-    (outside (g.F.Files.state c.open_all.new.files) sink) c.open_all.new.world _ c.in-Open.openings.now
+    (outside (g.F.Files.state c.args.files.now) sink) c.args.world.now.world stands
+    (outside (g.F.Files.state c.open_all.new.files) sink) c.open_all.new.world.world _ c.in-Open.openings.now
     (is_open c.in-Open.openings _ c.in-Open.ensures) (c.open_all.ensures.leads sink budget steps counted)
 
 pub returns-in-Close-clause-takes : goal.returns-in-Close-clause-takes
 returns-in-Close-clause-takes g c = λ sink budget steps start counted within stands.
     step_begins c.args.setting.now c.args.node c.args.place.now c.requires.starts budget steps c.args.step counted
     within start
-    (outside (g.F.Files.state c.args.files.now) sink) c.args.world.now stands
-    (outside (g.F.Files.state c.close_all.new.files) sink) c.close_all.new.world _
-    (free_close (program_of c.args.setting.now) c.args.world.now _ _ (is_close c.in-Close.field-0 _ c.in-Close.ensures))
+    (outside (g.F.Files.state c.args.files.now) sink) c.args.world.now.world stands
+    (outside (g.F.Files.state c.close_all.new.files) sink) c.close_all.new.world.world _
+    (free_close (program_of c.args.setting.now) c.args.world.now.world _ _ (is_close c.in-Close.field-0 _ c.in-Close.ensures))
     (c.close_all.ensures.leads sink budget)
 
 pub returns-in_ok-check_cut-in-Read-clause-takes : goal.returns-in_ok-check_cut-in-Read-clause-takes
 returns-in_ok-check_cut-in-Read-clause-takes g c = λ sink budget steps start counted within stands.
     step_begins c.args.setting.now c.args.node c.args.place.now c.requires.starts budget steps c.args.step counted
     within start
-    (outside (g.F.Files.state c.args.files.now) sink) c.args.world.now stands
-    (outside (g.F.Files.state c.args.files.now) sink) c.go.new.world _
-    (free_read (program_of c.args.setting.now) c.args.world.now c.in-Read.file _ c.in-Read.ensures
+    (outside (g.F.Files.state c.args.files.now) sink) c.args.world.now.world stands
+    (outside (g.F.Files.state c.args.files.now) sink) c.go.new.world.world _
+    (free_read (program_of c.args.setting.now) c.args.world.now.world c.in-Read.file _ c.in-Read.ensures
     c.in_ok-check_cut-in-Read.ensures)
     (c.go.ensures.leads _ budget)
 
@@ -85,7 +85,7 @@ pub returns-in-Other-clause-takes : goal.returns-in-Other-clause-takes
 returns-in-Other-clause-takes g c = λ sink budget steps start counted within stands.
     step_begins c.args.setting.now c.args.node c.args.place.now c.requires.starts budget steps c.args.step counted
     within start
-    (outside (g.F.Files.state c.args.files.now) sink) c.args.world.now stands
-    (outside (g.F.Files.state c.args.files.now) sink) c.go-in-Other.new.world _
-    (free_other (program_of c.args.setting.now) c.args.world.now _ c.in-Other.ensures)
+    (outside (g.F.Files.state c.args.files.now) sink) c.args.world.now.world stands
+    (outside (g.F.Files.state c.args.files.now) sink) c.go-in-Other.new.world.world _
+    (free_other (program_of c.args.setting.now) c.args.world.now.world _ c.in-Other.ensures)
     (c.go-in-Other.ensures.leads _ budget)

@@ -1,4 +1,4 @@
-use Rattle.std.proofs.Common.{◌≡◌, length}
+use Rattle.std.proofs.Common.{◌≡◌}
 use Rattle.batch_io.specs.FilesState.{KeepsIds}
 use Rattle.cob_interp.specs.Running.{Outside, outside, IsAt}
 use Rattle.cob_interp.specs.Setting.{program_of, paths_of}
@@ -6,12 +6,12 @@ use Rattle.cob_interp.proofs.walk.walk.Given as goal
 
 abbrev pub invariant-loop-steps : goal.invariant-loop-steps
 invariant-loop-steps g l = record {
-  kept : length l.world.storage ≡ length l.fn.world.storage;
+  kept : l.world.program ≡ l.fn.world.program;
   here : (start : Outside)
       → IsAt (program_of l.setting) l.setting.graph.now (paths_of l.setting) l.budget start
-      (outside (g.F.Files.state l.fn.files) (g.O.Sink.state l.fn.out)) l.fn.world 0 1
+      (outside (g.F.Files.state l.fn.files) (g.O.Sink.state l.fn.out)) l.fn.world.world 0 1
       → IsAt (program_of l.setting) l.setting.graph.now (paths_of l.setting) l.budget start
-      (outside (g.F.Files.state l.files) (g.O.Sink.state l.out)) l.world l.steps l.node;
+      (outside (g.F.Files.state l.files) (g.O.Sink.state l.out)) l.world.world l.steps l.node;
   sink : (g.O.Sink.state l.out).faults ≡ (g.O.Sink.state l.fn.out).faults;
   ids : KeepsIds (g.F.Files.state l.fn.files) (g.F.Files.state l.files);
 }

@@ -9,11 +9,12 @@ use Rattle.cob_parse_expr.specs.Classes.{and_of, or_of}
 use Rattle.cob_parse_expr.specs.Reading.{group_at}
 use Rattle.cob_parse_expr.specs.CondReading.{paren_at, cond_at, cond_goes, neg_with, conj_with}
 use Rattle.cob_parse_expr.specs.CondSteps.{last_neg, last_conj}
-use Rattle.cob_parse_expr.specs.Steps.{signs, behind_word}
+use Rattle.cob_lexemes.specs.Steps.{signs, behind_word}
 use Rattle.cob_parse_expr.proofs.ClassLaws.{and_told, or_told}
 use Rattle.cob_parse_expr.proofs.Loop.{goes_on, goes_end, goes_fails}
 use Rattle.cob_parse_expr.proofs.CondLemmas.{no_not, opened_is, bare_is, behind_not_is, no_not_is, conj_is, cond_is, last_neg_push, last_conj_push, conj_takes, cond_takes}
-use Rattle.cob_parse_expr.proofs.StepLemmas.{gives_wrong, gives_as, signs_length, not_unclosed, paren_none, paren_some, paren_lacks, nested_full, nested_wrong, nested_open, nested_closed}
+use Rattle.cob_lexemes.proofs.StepLemmas.{gives_wrong, gives_as, signs_length}
+use Rattle.cob_parse_expr.proofs.StepLemmas.{not_unclosed, paren_none, paren_some, paren_lacks, nested_full, nested_wrong, nested_open, nested_closed}
 use Rattle.cob_parse_expr.proofs.cond.+cond.Goals as goal
 
 pub negs-returns-in_err-neg-clause-gives : goal.negs-returns-in_err-neg-clause-gives
@@ -64,8 +65,8 @@ pub paren-returns-in-None-clause-gives : goal.paren-returns-in-None-clause-gives
 paren-returns-in-None-clause-gives t c = nested_open paren_at cond_at cond_goes paren_none paren_some c.args.room c.if-room-eq0.false (signs c.args.lexemes.now) (signs c.in-Some.rest.now) c.in-Some.ensures.found (plain_cond c.in_ok-cond.cond) (signs c.in_ok-cond.rest.now) _ c.in_ok-cond.ensures.gives c.in-None.ensures.none
     (c.unclosed.ensures.value ∙ not_unclosed c.in_ok-cond.takes_not (plain_cond c.in_ok-cond.cond) (signs c.in_ok-cond.rest.now) c.in_ok-cond.ensures.takes)
 
-pub paren-returns-in-Some-behind_close-clause-gives : goal.paren-returns-in-Some-behind_close-clause-gives
-paren-returns-in-Some-behind_close-clause-gives t c = nested_closed paren_at cond_at cond_goes paren_none paren_some c.args.room c.if-room-eq0.false (signs c.args.lexemes.now) (signs c.in-Some.rest.now) c.in-Some.ensures.found (plain_cond c.in_ok-cond.cond) (signs c.in_ok-cond.rest.now) (signs c.in-Some-behind_close.rest.now) c.in_ok-cond.ensures.gives c.in-Some-behind_close.ensures.found
+pub paren-returns-in-Some-behind-clause-gives : goal.paren-returns-in-Some-behind-clause-gives
+paren-returns-in-Some-behind-clause-gives t c = nested_closed paren_at cond_at cond_goes paren_none paren_some c.args.room c.if-room-eq0.false (signs c.args.lexemes.now) (signs c.in-Some.rest.now) c.in-Some.ensures.found (plain_cond c.in_ok-cond.cond) (signs c.in_ok-cond.rest.now) (signs c.in-Some-behind.rest.now) c.in_ok-cond.ensures.gives c.in-Some-behind.ensures.found
 
 pub subject-returns-in_ok-cond-in-Some-clause-gives : goal.subject-returns-in_ok-cond-in-Some-clause-gives
 subject-returns-in_ok-cond-in-Some-clause-gives t c = gives_as _ c.subject_after.result _ _

@@ -4,10 +4,11 @@ use Rattle.cob_tree.specs.Cues.{Scales, Signs}
 use Rattle.cob_tree.specs.ExprView.{plain_expr, plain_term, plain_fact, added, multiplied}
 use Rattle.cob_parse_expr.specs.Classes.{scaling_of, sign_of}
 use Rattle.cob_parse_expr.specs.Reading.{group_at, fact_with, term_with, expr_at, expr_goes}
-use Rattle.cob_parse_expr.specs.Steps.{signs}
+use Rattle.cob_lexemes.specs.Steps.{signs}
 use Rattle.cob_parse_expr.proofs.ClassLaws.{scaling_told, sign_told}
 use Rattle.cob_parse_expr.proofs.Loop.{goes_on, goes_end, goes_fails}
-use Rattle.cob_parse_expr.proofs.StepLemmas.{gives_wrong, signs_length, stays_open, group_none, group_some, group_lacks, nested_full, nested_wrong, nested_open, nested_closed}
+use Rattle.cob_lexemes.proofs.StepLemmas.{gives_wrong, signs_length}
+use Rattle.cob_parse_expr.proofs.StepLemmas.{stays_open, group_none, group_some, group_lacks, nested_full, nested_wrong, nested_open, nested_closed}
 use Rattle.cob_parse_expr.proofs.expr.+expr.Goals as goal
 
 pub factors_in-returns-in_err-fact-clause-gives : goal.factors_in-returns-in_err-fact-clause-gives
@@ -54,5 +55,5 @@ pub group-returns-in-None-clause-gives : goal.group-returns-in-None-clause-gives
 group-returns-in-None-clause-gives t c = nested_open group_at expr_at expr_goes group_none group_some c.args.room c.if-room-eq0.false (signs c.args.lexemes.now) (signs c.in-Some.rest.now) c.in-Some.ensures.found (plain_expr c.in_ok-expr.expr) (signs c.in_ok-expr.rest.now) _ c.in_ok-expr.ensures.gives c.in-None.ensures.none
     (signs_length c.in_ok-expr.rest.now ∙ sym (stays_open (signs c.in_ok-expr.rest.now)))
 
-pub group-returns-in-Some-behind_close-clause-gives : goal.group-returns-in-Some-behind_close-clause-gives
-group-returns-in-Some-behind_close-clause-gives t c = nested_closed group_at expr_at expr_goes group_none group_some c.args.room c.if-room-eq0.false (signs c.args.lexemes.now) (signs c.in-Some.rest.now) c.in-Some.ensures.found (plain_expr c.in_ok-expr.expr) (signs c.in_ok-expr.rest.now) (signs c.in-Some-behind_close.rest.now) c.in_ok-expr.ensures.gives c.in-Some-behind_close.ensures.found
+pub group-returns-in-Some-behind-clause-gives : goal.group-returns-in-Some-behind-clause-gives
+group-returns-in-Some-behind-clause-gives t c = nested_closed group_at expr_at expr_goes group_none group_some c.args.room c.if-room-eq0.false (signs c.args.lexemes.now) (signs c.in-Some.rest.now) c.in-Some.ensures.found (plain_expr c.in_ok-expr.expr) (signs c.in_ok-expr.rest.now) (signs c.in-Some-behind.rest.now) c.in_ok-expr.ensures.gives c.in-Some-behind.ensures.found

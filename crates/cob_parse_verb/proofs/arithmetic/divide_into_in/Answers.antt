@@ -1,6 +1,6 @@
 use Rattle.std.proofs.Common.{inl, Ok, ap, ◌∙◌}
-use Rattle.cob_parse_expr.specs.Steps.{signs}
-use Rattle.cob_parse_expr.proofs.StepLemmas.{gives_wrong, fails_first}
+use Rattle.cob_lexemes.specs.Steps.{signs}
+use Rattle.cob_lexemes.proofs.StepLemmas.{gives_wrong, fails_first}
 use Rattle.cob_parse_verb.specs.declared.target.Aim.{Aim}
 use Rattle.cob_parse_verb.specs.Sums.{make_divide}
 use Rattle.cob_parse_verb.specs.Targets.{target_at, given_at}

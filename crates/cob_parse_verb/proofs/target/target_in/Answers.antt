@@ -1,6 +1,6 @@
 use Rattle.std.proofs.Common.{Ok, ap, ◌∙◌}
-use Rattle.cob_parse_expr.specs.Steps.{signs}
-use Rattle.cob_parse_expr.proofs.StepLemmas.{gives_wrong}
+use Rattle.cob_lexemes.specs.Steps.{signs}
+use Rattle.cob_lexemes.proofs.StepLemmas.{gives_wrong}
 use Rattle.cob_parse_verb.specs.declared.target.Aim.{Aim}
 use Rattle.cob_parse_verb.specs.Lists.{recvs_at}
 use Rattle.cob_parse_verb.specs.VerbSteps.{plain_aim}

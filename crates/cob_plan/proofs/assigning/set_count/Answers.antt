@@ -9,7 +9,7 @@ use Rattle.cob_plan.proofs.assigning.set_count.Goals as goal
 pub returns-in-Perform-clause-value : goal.returns-in-Perform-clause-value
 returns-in-Perform-clause-value c =
     let p = c.in-Perform in
-    let w = c.args.world.now in
-    subst (λ (a : Act). Meets (counted (plain_program c.args.program.now) c.args.number None w a) w c.count_turns.new.world
+    let w = c.args.world.now.world in
+    subst (λ (a : Act). Meets (counted (plain_program c.args.world.now.program) c.args.number None w a) w c.count_turns.new.world.world
     c.count_turns.result)
     (sym (perform_is c.args.act.now p.body p.turns p.is)) (c.count_turns.ensures.value (plain_body p.body))

@@ -9,6 +9,6 @@ pub returns-in-CloseFiles-clause-value : goal.returns-in-CloseFiles-clause-value
 returns-in-CloseFiles-clause-value c = λ number.
     let x = c.in-CloseFiles in
     subst
-    (λ (a : Act). Calls (IsCall (plain_program c.args.program.now) number c.args.place c.args.world.now c.close_at.new.world a) c.close_at.result)
+    (λ (a : Act). Calls (IsCall (plain_program c.args.world.now.program) number c.args.place c.args.world.now.world c.close_at.new.world.world a) c.close_at.result)
     (sym (close_is c.args.act.now x.files x.is ∙ ap close_files (sym c.get.ensures)))
     (c.close_at.ensures.value number)

@@ -9,6 +9,6 @@ pub returns-in-OpenFiles-clause-value : goal.returns-in-OpenFiles-clause-value
 returns-in-OpenFiles-clause-value c = λ number.
     let x = c.in-OpenFiles in
     subst
-    (λ (a : Act). Calls (IsCall (plain_program c.args.program.now) number c.args.place c.args.world.now c.open_at.new.world a) c.open_at.result)
+    (λ (a : Act). Calls (IsCall (plain_program c.args.world.now.program) number c.args.place c.args.world.now.world c.open_at.new.world.world a) c.open_at.result)
     (sym (open_is c.args.act.now x.openings x.is ∙ ap open_files (sym c.get.ensures)))
     (c.open_at.ensures.value number)

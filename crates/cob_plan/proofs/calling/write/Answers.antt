@@ -9,6 +9,6 @@ pub returns-in-Write-clause-value : goal.returns-in-Write-clause-value
 returns-in-Write-clause-value c = λ number.
     let x = c.in-Write in
     subst
-    (λ (a : Act). Calls (IsCall (plain_program c.args.program.now) number 0 c.args.world.now c.write_record.new.world a) c.write_record.result)
+    (λ (a : Act). Calls (IsCall (plain_program c.args.world.now.program) number 0 c.args.world.now.world c.write_record.new.world.world a) c.write_record.result)
     (sym (write_is c.args.act.now x.rec x.from x.is))
     (c.write_record.ensures.value number x.from)

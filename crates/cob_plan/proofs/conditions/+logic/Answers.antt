@@ -1,6 +1,7 @@
 use Rattle.std.proofs.Common.{◌+◌}
 use Rattle.cob_runs.specs.Effects.{tests_among}
-use Rattle.cob_plan.proofs.Loops.{logics_from, logics_step, logics_end, added, nothing_left}
+use Rattle.cob_program.proofs.Loops.{added, nothing_left}
+use Rattle.cob_plan.proofs.Loops.{logics_from, logics_step, logics_end}
 use Rattle.cob_plan.proofs.conditions.+logic.Goals as goal
 
 pub add_logics-loop-part-preserved : goal.add_logics-loop-part-preserved

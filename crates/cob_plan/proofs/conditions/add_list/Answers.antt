@@ -1,6 +1,7 @@
 use Rattle.std.proofs.Common.{◌+◌}
 use Rattle.cob_runs.specs.Effects.{tests_in_list}
-use Rattle.cob_plan.proofs.Loops.{logic_list_from, logic_list_step, logic_list_end, added, nothing_left}
+use Rattle.cob_program.proofs.Loops.{added, nothing_left}
+use Rattle.cob_plan.proofs.Loops.{logic_list_from, logic_list_step, logic_list_end}
 use Rattle.cob_plan.proofs.conditions.add_list.Goals as goal
 
 pub loop-logic-preserved : goal.loop-logic-preserved

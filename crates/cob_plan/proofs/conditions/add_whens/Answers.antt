@@ -1,6 +1,7 @@
 use Rattle.std.proofs.Common.{◌+◌}
 use Rattle.cob_runs.specs.Effects.{tests_in_whens}
-use Rattle.cob_plan.proofs.Loops.{whens_from, whens_step, whens_end, added, nothing_left}
+use Rattle.cob_program.proofs.Loops.{added, nothing_left}
+use Rattle.cob_plan.proofs.Loops.{whens_from, whens_step, whens_end}
 use Rattle.cob_plan.proofs.conditions.add_whens.Goals as goal
 
 pub loop-when-preserved : goal.loop-when-preserved

@@ -9,8 +9,8 @@ use Rattle.cob_plan.proofs.deciding.decide_at.Goals as goal
 
 pub returns-in-Some : goal.returns-in-Some
 returns-in-Some c = λ number.
-    let p = plain_program c.args.program.now in
-    let w = c.args.world.now in
+    let p = plain_program c.args.world.now.program in
+    let w = c.args.world.now.world in
     let s = c.args.statement.now in
     let is = found_test c.test_at.result c.in-Some.test s.tests.items (tests_in_act (plain_act s.act.now)) c.args.place
     c.test_at.ensures c.in-Some.is c.requires.its.tests in

@@ -8,8 +8,8 @@ use Rattle.cob_plan.proofs.deciding.test.Goals as goal
 
 pub returns-else-is_times : goal.returns-else-is_times
 returns-else-is_times c =
-    let p = plain_program c.args.program.now in
-    let w = c.args.world.now in
+    let p = plain_program c.args.world.now.program in
+    let w = c.args.world.now.world in
     let s = c.args.statement.now in
     let a = plain_act s.act.now in
     let k = c.args.place in

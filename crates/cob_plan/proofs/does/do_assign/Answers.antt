@@ -1,14 +1,14 @@
 use Rattle.std.proofs.Common.{refl, []}
 use Rattle.cob_program.specs.ActView.{plain_act, plain_program}
 use Rattle.cob_runs.specs.declared.action.Action.TheVariants as action
-use Rattle.cob_plan.specs.declared.spot.Op.TheVariants as op
+use Rattle.cob_plan.specs.declared.node.Op.TheVariants as op
 use Rattle.cob_plan.proofs.WayLemmas.{only}
 use Rattle.cob_plan.proofs.does.do_assign.Goals as goal
 
 pub returns-clause-value : goal.returns-clause-value
 returns-clause-value c =
-    let p = plain_program c.args.program.now in
+    let p = plain_program c.args.world.now.program in
     let s = c.args.statement.now in
-    c.led.ensures p s.number (plain_act s.act.now) (op.Assign c.args.to) action.Assign c.args.world.now c.assign.new.world
+    c.next_by_one_way.ensures p s.number (plain_act s.act.now) (op.Assign c.args.to) action.Assign c.args.world.now.world c.assign.new.world.world
     (record { its = c.requires.its.its; out = only (action.Assign, c.args.to) []; handled = refl })
     (c.assign.ensures.value s.number)

@@ -4,5 +4,5 @@ use Rattle.cob_plan.proofs.does.do_read.Goals as goal
 pub returns-clause-value : goal.returns-clause-value
 returns-clause-value c =
     let s = c.args.statement.now in
-    c.taken.ensures (plain_program c.args.program.now) s.number (plain_act s.act.now) c.args.world.now c.read.new.world
+    c.next_after_read.ensures (plain_program c.args.world.now.program) s.number (plain_act s.act.now) c.args.world.now.world c.read.new.world.world
     c.requires.its.its (c.read.ensures.value s.number)

@@ -1,13 +1,13 @@
 use Rattle.std.proofs.Common.{refl, []}
 use Rattle.cob_program.specs.ActView.{plain_act, plain_program}
 use Rattle.cob_runs.specs.declared.action.Action.TheVariants as action
-use Rattle.cob_plan.specs.declared.spot.Op.TheVariants as op
+use Rattle.cob_plan.specs.declared.node.Op.TheVariants as op
 use Rattle.cob_plan.proofs.WayLemmas.{only}
 use Rattle.cob_plan.proofs.does.do_skip.Goals as goal
 
 pub returns : goal.returns
 returns c =
-    let p = plain_program c.args.program.now in
+    let p = plain_program c.args.world.now.program in
     let s = c.args.statement.now in
-    c.led.ensures p s.number (plain_act s.act.now) (op.Skip c.args.to) action.Skip c.args.world.now c.args.world.now
+    c.next_by_one_way.ensures p s.number (plain_act s.act.now) (op.Skip c.args.to) action.Skip c.args.world.now.world c.args.world.now.world
     (record { its = c.requires.its.its; out = only (action.Skip, c.args.to) []; handled = refl }) refl

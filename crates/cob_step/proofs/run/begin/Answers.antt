@@ -12,7 +12,7 @@ use Rattle.cob_step.proofs.run.begin.Goals as goal
 pub returns-clause-begun : goal.returns-clause-begun
 returns-clause-begun c =
     let p = plain_program c.args.program.now in
-    let w = c.in_ok-world.world in
+    let w = c.in_ok-world.world.world in
     let ds = plain_control c.in_ok-control.control in
     sym (c.outcome-outcome.ensures p None w)
     ∙ ap (λ (v : World). settled_on p None v ds) c.in_ok-world.ensures.value
@@ -27,5 +27,4 @@ returns-clause-ready c =
       able = subst P (sym c.in_ok-control.ensures)
           (can_settle p c.requires.able (rest (body_at p 0) ∷ paras 1 (length p.paras - 1) ∷ [])
           (can_body p c.requires.able 0, (tt, tt)));
-      whole = c.in_ok-world.ensures.whole;
     }

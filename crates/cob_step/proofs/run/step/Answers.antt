@@ -7,7 +7,7 @@ use Rattle.cob_step.proofs.run.step.Goals as goal
 
 pub returns-in-Going-clause-done : goal.returns-in-Going-clause-done
 returns-in-Going-clause-done c =
-    let p = plain_program c.args.program.now in
+    let p = plain_program c.args.run.now.world.program in
     let s = plain_run c.args.run.now in
     onto c.go_on.result (plain_run c.go_on.new.self) (step_on p c.args.choice.now s s.control)
     (step p c.args.choice.now s)
@@ -15,5 +15,5 @@ returns-in-Going-clause-done c =
 
 pub returns-in-Going-clause-ready : goal.returns-in-Going-clause-ready
 returns-in-Going-clause-ready c =
-    step_is_ready (plain_program c.args.program.now) c.requires.able c.args.choice.now c.go_on.result
-    (plain_run c.args.run.now) (plain_run c.go_on.new.self) c.requires.ready c.go_on.ensures.kept c.go_on.ensures.done
+    step_is_ready (plain_program c.args.run.now.world.program) c.requires.able c.args.choice.now c.go_on.result
+    (plain_run c.args.run.now) (plain_run c.go_on.new.self) c.requires.ready c.go_on.ensures.done

@@ -1,5 +1,5 @@
 use Rattle.std.proofs.Common.{◌≡◌, take, map}
-use Rattle.cob_typed.specs.Paras.{HasParas}
+use Rattle.cob_typed_exprs.specs.Paras.{HasParas}
 use Rattle.cob_typed.proofs.typing.places_of.Given as goal
 
 abbrev pub invariant-loop-paragraph : goal.invariant-loop-paragraph

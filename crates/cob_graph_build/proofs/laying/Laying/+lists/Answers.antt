@@ -1,14 +1,13 @@
-use Rattle.std.proofs.Common.{◌≡◌, ◌-◌, ◌∙◌, ap, sym, map, min, rules}
+use Rattle.std.proofs.Common.{◌≡◌, ◌+◌, ◌-◌, ◌∙◌, ap, refl, sym, map, min, rules}
 use Rattle.std.specs.Option.{option_copied}
-use Rattle.cob_program.specs.ActView.{plain_stmt, plain_body, plain_when, plain_turns}
+use Rattle.cob_program.specs.ActView.{plain_stmt, plain_body, plain_when, plain_turns, plain_stmts, plain_phrase, plain_whens}
 use Rattle.cob_program.specs.Logic.{logics_of}
-use Rattle.cob_program.specs.LogicView.{plain_logic}
+use Rattle.cob_program.specs.LogicView.{plain_logic, plain_logics}
 use Rattle.cob_graph.specs.Laid.{tests_in, tests_among, list_size}
 use Rattle.cob_graph.specs.Places as places
-use Rattle.cob_graph.specs.Places.{first_of_list, first_of_body, body_next}
+use Rattle.cob_graph.specs.Places.{first_of_list, first_of_paras, first_of_body, body_next}
 use Rattle.cob_graph.specs.Nodes.{list_nodes}
 use Rattle.cob_graph.specs.Graphs.{most_told}
-use Rattle.cob_graph_build.specs.Views.{plain_stmts, plain_phrase, plain_whens, plain_logics}
 use Rattle.cob_graph_build.specs.Tables.{IsTable, lay_list, lay_phrase, lay_whens, lay_body, lay_paras, copy_in}
 use Rattle.cob_graph_build.specs.Growing.{grown, plan, copies_of, copied_of}
 use Rattle.cob_graph_build.proofs.Cuts.{whole}
@@ -180,11 +179,12 @@ lay_paras-loop-place-preserved t c =
     let p = plan w in
     let k = copies_of w in
     let l = c.loop-place in
-    let to = c.first_of_range-to.result in
+    let to =
+    first_of_paras (lay_paras p k (l.place + 1) (w.end - (l.place + 1))) c.in_ok-behind.behind w.next in
     paras_on (copied_of w) p k l.self c.lay_list.new.self l.place w.end l.at c.in_ok-nodes.nodes c.in_ok-behind.behind
     to w.next c.loop-place-test.true
     (c.in_ok-nodes.ensures ∙ ap (λ ss. list_size (lay_list p k ss)) c.body_at-list.ensures) c.in_ok-behind.ensures
-    (c.first_of_range-to.ensures k)
-    (c.in_ok-lay_list.ensures ∙ ap (λ ss. grown l.self (list_nodes (copied_of w) (lay_list p k ss) l.at to))
-    c.body_at-list.ensures)
+    refl
+    (c.in_ok-lay_list.ensures ∙ ap (grown l.self) (c.node_behind-to.ensures (copied_of w) k l.at)
+    ∙ ap (λ ss. grown l.self (list_nodes (copied_of w) (lay_list p k ss) l.at to)) c.body_at-list.ensures)
     ∙ l.invariant

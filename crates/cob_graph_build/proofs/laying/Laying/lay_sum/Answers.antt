@@ -1,6 +1,6 @@
 use Rattle.std.proofs.Common.{ap, ◌∙◌}
 use Rattle.cob_graph.specs.Places.{first_of_list}
-use Rattle.cob_graph_build.specs.Views.{plain_stmts, plain_phrase}
+use Rattle.cob_program.specs.ActView.{plain_stmts, plain_phrase}
 use Rattle.cob_graph_build.specs.Tables.{lay_list}
 use Rattle.cob_graph_build.specs.Growing.{plan, copies_of, copied_of}
 use Rattle.cob_graph_build.proofs.ListLemmas.{sum_ok}

@@ -1,8 +1,7 @@
 use Rattle.std.proofs.Common.{rules}
-use Rattle.cob_program.specs.ActView.{plain_body}
+use Rattle.cob_program.specs.ActView.{plain_body, plain_stmts, plain_whens}
 use Rattle.cob_graph_build.specs.Tables.{IsTable}
 use Rattle.cob_graph_build.specs.Growing.{plan}
-use Rattle.cob_graph_build.specs.Views.{plain_stmts, plain_whens}
 use Rattle.cob_graph_build.proofs.Exact.{exact_body}
 use Rattle.cob_graph_build.proofs.within.Within.body_nodes.Goals as goal
 

@@ -1,5 +1,5 @@
 use Rattle.std.proofs.Common.{ap, sym, ◌∙◌}
-use Rattle.cob_graph_build.specs.Views.{plain_stmts, plain_phrase}
+use Rattle.cob_program.specs.ActView.{plain_stmts, plain_phrase}
 use Rattle.cob_graph.specs.Places.{first_of_list}
 use Rattle.cob_graph.specs.Nodes.{end_to}
 use Rattle.cob_graph_build.specs.Tables.{lay_list, lay_phrase}

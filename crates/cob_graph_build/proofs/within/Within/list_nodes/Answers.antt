@@ -1,8 +1,7 @@
 use Rattle.std.proofs.Common.{rules}
-use Rattle.cob_program.specs.ActView.{plain_stmt}
+use Rattle.cob_program.specs.ActView.{plain_stmt, plain_stmts, plain_whens}
 use Rattle.cob_graph_build.specs.Tables.{IsTable}
 use Rattle.cob_graph_build.specs.Growing.{plan}
-use Rattle.cob_graph_build.specs.Views.{plain_stmts, plain_whens}
 use Rattle.cob_graph_build.proofs.Exact.{exact_list}
 use Rattle.cob_graph_build.proofs.within.Within.list_nodes.Goals as goal
 

@@ -10,28 +10,28 @@ use Rattle.cob_step.proofs.run.Run.go_on.Goals as goal
 
 pub do_front-requires-clause-able : goal.do_front-requires-clause-able
 do_front-requires-clause-able c =
-    let P : List Doing → Type 0 = λ ds. CanDoAll c.args.program.now.layout ds in
+    let P : List Doing → Type 0 = λ ds. CanDoAll c.args.self.now.world.program.layout ds in
     (subst P c.in-Some.ensures c.requires.ready.able).0
 
 pub returns-in-None-clause-done : goal.returns-in-None-clause-done
 returns-in-None-clause-done c =
-    ap (λ ds. state c.args.self.now.world ds Ended) c.in-None.ensures.1
-    ∙ ap (λ ds. step_on (plain_program c.args.program.now) c.args.choice.now (plain_run c.args.self.now) ds)
+    ap (λ ds. state c.args.self.now.world.world ds Ended) c.in-None.ensures.1
+    ∙ ap (λ ds. step_on (plain_program c.args.self.now.world.program) c.args.choice.now (plain_run c.args.self.now) ds)
     (sym c.in-None.ensures.0)
 
 pub returns-in-Ok-clause-done : goal.returns-in-Ok-clause-done
 returns-in-Ok-clause-done c =
-    let p = plain_program c.args.program.now in
+    let p = plain_program c.args.self.now.world.program in
     let s = plain_run c.args.self.now in
     let next = plain_run c.do_front.new.self in
     onto c.settle.result (plain_run c.settle.new.self) (settled_state p c.args.choice.now next)
     (step_on p c.args.choice.now s s.control)
     (sym (step_done p c.args.choice.now s (plain_doing c.in-Some.front) (plain_control c.pop.new.self) c.in-Some.ensures
-    next c.in-Ok.ensures.done)) (c.settle.ensures.done c.args.choice.now)
+    next c.in-Ok.ensures.done)) (rw c.in-Ok.ensures.kept at (c.settle.ensures.done c.args.choice.now))
 
 pub returns-in-Err-Fault-clause-done : goal.returns-in-Err-Fault-clause-done
 returns-in-Err-Fault-clause-done c =
-    let p = plain_program c.args.program.now in
+    let p = plain_program c.args.self.now.world.program in
     let s = plain_run c.args.self.now in
     let d = plain_doing c.in-Some.front in
     let next = plain_run c.do_front.new.self in

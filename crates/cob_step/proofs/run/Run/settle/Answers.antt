@@ -6,8 +6,8 @@ use Rattle.cob_step.proofs.run.Run.settle.Goals as goal
 
 pub returns-in_ok-settle-in-Going-clause-done : goal.returns-in_ok-settle-in-Going-clause-done
 returns-in_ok-settle-in-Going-clause-done c = λ ch.
-    let p = plain_program c.args.program.now in
-    let w = c.args.self.now.world in
+    let p = plain_program c.args.self.now.world.program in
+    let w = c.args.self.now.world.world in
     sym (c.outcome-self.ensures p ch w)
-    ∙ ap (λ ds. settled_on p ch w ds) c.in_ok-settle-in-Going.ensures
+    ∙ ap (λ ds. settled_on p ch w ds) (rw c.program.ensures.value at c.in_ok-settle-in-Going.ensures)
     ∙ ap (λ o. settle p ch w (plain_control c.args.self.now.control) o) (sym c.in-Going.is)

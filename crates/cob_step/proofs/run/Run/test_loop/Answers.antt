@@ -8,8 +8,8 @@ use Rattle.cob_step.proofs.run.Run.test_loop.Goals as goal
 
 pub returns-in_ok-push_turn-in-Ok-true-clause-done : goal.returns-in_ok-push_turn-in-Ok-true-clause-done
 returns-in_ok-push_turn-in-Ok-true-clause-done c = λ ch.
-    let p = plain_program c.args.program.now in
-    let w = c.args.self.now.world in
+    let p = plain_program c.args.self.now.world.program in
+    let w = c.args.self.now.world.world in
     let ds = plain_control c.args.self.now.control in
     let n = c.args.number in
     let body = plain_body c.args.body.now in

@@ -1,7 +1,0 @@
-use Rattle.std.proofs.Common.{◌≡◌, map}
-use Rattle.cob_graph.specs.Listing.{plain_call}
-use Rattle.cob_graph.specs.Broken.{least_below, cycle_at}
-use Rattle.cob_graph.proofs.nesting.first_cycle.Given as goal
-
-abbrev pub invariant-loop-place : goal.invariant-loop-place
-invariant-loop-place l = l.least ≡ least_below (cycle_at (map plain_call l.calls)) l.place

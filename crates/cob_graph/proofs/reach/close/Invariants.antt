@@ -1,7 +1,0 @@
-use Rattle.std.proofs.Common.{map}
-use Rattle.cob_graph.specs.Listing.{plain_call}
-use Rattle.cob_graph.specs.Reaching.{IsReached}
-use Rattle.cob_graph.proofs.reach.close.Given as goal
-
-abbrev pub invariant-loop-place : goal.invariant-loop-place
-invariant-loop-place l = IsReached (map plain_call l.calls) l.place l.rows

@@ -1,8 +1,0 @@
-use Rattle.std.proofs.Common.{◌≡◌, take, map}
-use Rattle.cob_graph.specs.Listing.{plain_call}
-use Rattle.cob_graph.specs.Reaching.{calls_in}
-use Rattle.cob_graph.proofs.reach.direct.Given as goal
-
-abbrev pub invariant-loop-call : goal.invariant-loop-call
-invariant-loop-call l =
-    l.rows.items ≡ map (λ c. calls_in (map plain_call l.calls) c.span) (map plain_call (take l.call-index l.calls))

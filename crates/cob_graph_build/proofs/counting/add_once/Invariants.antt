@@ -1,7 +1,0 @@
-use Rattle.cob_program.specs.ActView.{plain_program}
-use Rattle.cob_graph_build.specs.Tables.{IsTable}
-use Rattle.cob_graph_build.proofs.counting.add_once.Given as goal
-
-abbrev pub invariant-loop-range : goal.invariant-loop-range
-invariant-loop-range l = IsTable (plain_program l.program) l.initial.table.items →
-    IsTable (plain_program l.program) l.table.items

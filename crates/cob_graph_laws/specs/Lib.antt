@@ -1,0 +1,4 @@
+pub mod AsLaid
+pub mod Ways
+pub mod Told
+pub mod Kept

@@ -1,3 +1,0 @@
-mod FileCalls
-mod Edges
-pub mod Kept

@@ -1,0 +1,4 @@
+pub mod Lexemes
+pub mod Classes
+pub mod Steps
+pub mod Places

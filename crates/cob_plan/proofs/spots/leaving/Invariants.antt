@@ -1,6 +1,0 @@
-use Rattle.std.proofs.Common.{take}
-use Rattle.cob_plan.specs.Spots.{Leave}
-use Rattle.cob_plan.proofs.spots.leaving.Given as goal
-
-abbrev pub invariant-loop-count : goal.invariant-loop-count
-invariant-loop-count l = Leave l.number (take l.count l.edges)

@@ -1,7 +1,0 @@
-use Rattle.std.proofs.Common.{length, ◌-◌}
-use Rattle.cob_plan.proofs.Spotted.{among}
-use Rattle.cob_plan.proofs.spots.out_of.Goals as goal
-
-pub returns-clause-among : goal.returns-clause-among
-returns-clause-among c =
-    among c.args.edges.now c.args.place c.leaving.result (length c.args.edges.now - c.args.place)

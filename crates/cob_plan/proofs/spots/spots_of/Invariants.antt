@@ -1,7 +1,0 @@
-use Rattle.std.proofs.Common.{◌≡◌, ◌≤◌, length}
-use Rattle.cob_plan.specs.Spots.{AreFirst}
-use Rattle.cob_plan.proofs.spots.spots_of.Given as goal
-
-abbrev pub invariant-loop-node : goal.invariant-loop-node
-invariant-loop-node l =
-    (l.number ≡ l.node-index) × (l.place ≤ length l.graph.edges) × AreFirst l.graph l.node-index l.spots.items

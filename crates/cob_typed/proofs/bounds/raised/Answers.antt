@@ -1,6 +1,0 @@
-use Rattle.std.proofs.Common.{arith}
-use Rattle.cob_typed.proofs.SizeLemmas.{great_power}
-use Rattle.cob_typed.proofs.bounds.raised.Goals as goal
-
-pub returns-else-most-eq0 : goal.returns-else-most-eq0
-returns-else-most-eq0 c = omega (arith, great_power c.args.most c.args.by (omega (arith, c.if-most-eq0.false)) (omega (arith, c.if-by-le37.false)))

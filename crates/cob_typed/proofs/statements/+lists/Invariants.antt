@@ -1,0 +1,56 @@
+use Rattle.std.proofs.Common.{◌≡◌, ◌+◌, ◌*◌, map}
+use Rattle.cob_program.specs.Act.{stmts_of}
+use Rattle.cob_program.specs.ActView.{plain_stmt, plain_when}
+use Rattle.cob_typed.specs.Lists.{found_behind}
+use Rattle.cob_typed.specs.Statements.{typed_stmts, typed_whens}
+use Rattle.cob_typed.specs.Typing.{joined}
+use Rattle.cob_typed.proofs.ListLemmas.{whens_behind, stmts_from, whens_from}
+use Rattle.cob_typed.proofs.statements.+lists.Given as goal
+
+abbrev pub invariant-add_stmts-loop-statement : goal.invariant-add_stmts-loop-statement
+invariant-add_stmts-loop-statement l = record {
+  value : joined (stmts_of (map plain_stmt l.typed.items)) (typed_stmts l.scope l.next (stmts_from l.list l.statement-index)).value ≡ joined (stmts_of (map plain_stmt l.initial.typed.items)) (typed_stmts l.scope l.initial.next (stmts_from l.list 0)).value;
+  next : (typed_stmts l.scope l.next (stmts_from l.list l.statement-index)).next ≡ (typed_stmts l.scope l.initial.next (stmts_from l.list 0)).next;
+  found : found_behind l.findings.items (typed_stmts l.scope l.next (stmts_from l.list l.statement-index)).found ≡ found_behind l.initial.findings.items (typed_stmts l.scope l.initial.next (stmts_from l.list 0)).found;
+}
+
+abbrev pub invariant-typed_whens-loop-when : goal.invariant-typed_whens-loop-when
+invariant-typed_whens-loop-when l = record {
+  value : whens_behind (map plain_when l.typed.items) (typed_whens l.scope l.line l.next l.looked (whens_from l.whens l.when-index)).value ≡ (typed_whens l.scope l.line l.initial.next l.looked (whens_from l.whens 0)).value;
+  next : (typed_whens l.scope l.line l.next l.looked (whens_from l.whens l.when-index)).next ≡ (typed_whens l.scope l.line l.initial.next l.looked (whens_from l.whens 0)).next;
+  found : found_behind l.findings.items (typed_whens l.scope l.line l.next l.looked (whens_from l.whens l.when-index)).found ≡ found_behind l.initial.findings.items (typed_whens l.scope l.line l.initial.next l.looked (whens_from l.whens 0)).found;
+}
+
+-- levels that are left, and within one level who calls whom
+abbrev pub decreases-typed_stmt : goal.decreases-typed_stmt
+decreases-typed_stmt l = l.left * 16 + 15
+
+abbrev pub decreases-typed_verb : goal.decreases-typed_verb
+decreases-typed_verb l = l.left * 16 + 14
+
+abbrev pub decreases-typed_tail : goal.decreases-typed_tail
+decreases-typed_tail l = l.left * 16 + 13
+
+abbrev pub decreases-typed_lists : goal.decreases-typed_lists
+decreases-typed_lists l = l.left * 16 + 13
+
+abbrev pub decreases-typed_cases : goal.decreases-typed_cases
+decreases-typed_cases l = l.left * 16 + 13
+
+abbrev pub decreases-typed_phrases : goal.decreases-typed_phrases
+decreases-typed_phrases l = l.left * 16 + 12
+
+abbrev pub decreases-typed_whens : goal.decreases-typed_whens
+decreases-typed_whens l = l.left * 16 + 12
+
+abbrev pub decreases-typed_when : goal.decreases-typed_when
+decreases-typed_when l = l.left * 16 + 11
+
+abbrev pub decreases-typed_phrase : goal.decreases-typed_phrase
+decreases-typed_phrase l = l.left * 16 + 10
+
+abbrev pub decreases-typed_stmts : goal.decreases-typed_stmts
+decreases-typed_stmts l = l.left * 16 + 9
+
+abbrev pub decreases-add_stmts : goal.decreases-add_stmts
+decreases-add_stmts l = l.left * 16 + 8

@@ -1,0 +1,5 @@
+pub mod EachLemmas
+pub mod Loops
+pub mod Places
+pub mod SizeLemmas
+pub mod SizeLoops

@@ -1,0 +1,6 @@
+pub mod Judged
+pub mod Scope
+pub mod Paras
+pub mod Kinds
+pub mod Sums
+pub mod Sizes

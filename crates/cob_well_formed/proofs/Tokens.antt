@@ -1,0 +1,77 @@
+-- The numerals of a source's tree have at most 18 digits, since those among its tokens have.
+use Rattle.std.proofs.Common.{◌≡◌, ℕ, List, [], ◌∷◌, map, Option, None, Some, Result, Ok, Err, refl, subst}
+use Rattle.std.specs.List.{AllByRecursion}
+use Rattle.cob_lines.specs.declared.Mark.{Mark}
+use Rattle.cob_lines.specs.declared.refusal.Place as text
+use Rattle.cob_lines.specs.Text.{source_text}
+use Rattle.cob_tree.specs.declared.keyword.Keyword.{Keyword}
+use Rattle.cob_tree.specs.declared.token.Tok.{Tok}
+use Rattle.cob_tree.specs.declared.token.Tok.TheVariants as tok
+use Rattle.cob_tree.specs.declared.token.Token.{Token}
+use Rattle.cob_tree.specs.Keywords.{keyword_of}
+use Rattle.cob_tree.specs.Symbols.{word_symbol, symbol_of, seen}
+use Rattle.cob_tree.specs.Items.{Item}
+use Rattle.cob_tree.specs.PrintStmt.{print_tree}
+use Rattle.cob_tree.specs.StmtView.{plain_tree}
+use Rattle.cob_tree.specs.declared.tree.Tree.{Tree}
+use Rattle.reading.specs.Printing.{Matches}
+use Rattle.cob_lexemes.specs.Classes.{by_symbol}
+use Rattle.cob_lex.specs.declared.piece.Place as lex
+use Rattle.cob_lex.specs.Canonical.{canonical_tokens}
+use Rattle.cob_scan.specs.Scan.{Scan, BadLineAt, BadTokenAt, Tokens, lexed, joined, scan_of}
+use Rattle.cob_well_formed.specs.Tokens.{IsShortTok, IsShortToken}
+use Rattle.cob_well_formed.proofs.ShortTokens.{short_tokens}
+use Rattle.cob_well_formed.specs.Numerals.{IsShortSymbol, AreShort, HasShortNumerals}
+use Rattle.cob_front.specs.Source.{StandsFor}
+
+-- ---- from bytes to tokens
+
+abbrev AreShortTokens : List Token → Type 0
+AreShortTokens ts = AllByRecursion IsShortToken ts
+
+abbrev ScansShort : Scan → Type 0
+ScansShort (BadLineAt line column) = Unit {0}
+ScansShort (BadTokenAt line column) = Unit {0}
+ScansShort (Tokens ts) = AreShortTokens ts
+
+lexed_short : (marks : List Mark) (r : Result (List Token) lex.Place) → canonical_tokens marks ≡ r →
+    ScansShort (lexed r)
+lexed_short marks (Ok ts) is = short_tokens marks ts is
+lexed_short marks (Err place) is = tt
+
+joined_short : (r : Result (List Mark) text.Place) → ScansShort (joined r)
+joined_short (Ok marks) = lexed_short marks (canonical_tokens marks) refl
+joined_short (Err place) = tt
+
+scanned_short : (bytes : List ℕ) (ts : List Token) → scan_of bytes ≡ Tokens ts → AreShortTokens ts
+scanned_short bytes ts scanned = subst ScansShort scanned (joined_short (source_text bytes))
+
+-- ---- from tokens to the tree that they spell
+
+word_short : (text : List ℕ) (found : Option Keyword) → IsShortSymbol (word_symbol text found)
+word_short text None = tt
+word_short text (Some k) = tt
+
+symbol_short : (t : Tok) → IsShortTok t → IsShortSymbol (symbol_of t)
+symbol_short (tok.Word text) short = word_short text (keyword_of text)
+symbol_short (tok.Number n) short = short
+symbol_short (tok.Text text) short = tt
+symbol_short (tok.Mark m) short = tt
+symbol_short (tok.Relation r) short = tt
+symbol_short (tok.Pic text) short = tt
+symbol_short tok.Stop short = tt
+
+spelled_short : (items : List Item) (ts : List Token) → Matches by_symbol items (map seen ts) → AreShortTokens ts →
+    AreShort items
+spelled_short [] [] spells short = tt
+spelled_short [] (t ∷ ts) spells short = absurd spells
+spelled_short (i ∷ items) [] spells short = absurd spells
+spelled_short (i ∷ items) (t ∷ ts) spells short = (
+  subst IsShortSymbol spells.0.symbol (symbol_short t.tok short.0),
+  spelled_short items ts spells.1 short.1,
+)
+
+pub short_tree : (bytes : List ℕ) (t : Tree) → StandsFor bytes t → HasShortNumerals (plain_tree t)
+short_tree bytes t stands =
+    spelled_short (print_tree (plain_tree t)) stands.tokens stands.parsed.spells
+    (scanned_short bytes stands.tokens stands.has.scanned)

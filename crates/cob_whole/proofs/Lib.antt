@@ -1,4 +1,0 @@
-pub mod Numbers
-pub mod Conditions
-pub mod Files
-pub mod Typed

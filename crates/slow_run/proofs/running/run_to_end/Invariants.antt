@@ -1,0 +1,8 @@
+use Rattle.std.proofs.Common.{◌≡◌}
+use Rattle.cob_program.specs.ActView.{plain_program}
+use Rattle.cob_step.specs.Ready.{IsReady}
+use Rattle.cob_step.specs.Views.{plain_run}
+use Rattle.slow_run.proofs.running.run_to_end.Given as goal
+
+abbrev pub invariant-loop : goal.invariant-loop
+invariant-loop l = (l.run.world.program ≡ l.program) × IsReady (plain_program l.program) (plain_run l.run)

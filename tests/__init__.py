@@ -1,0 +1,1 @@
+"""Our own checks of what is built; `tests/run` starts them."""
