@@ -24,6 +24,7 @@ use Rattle.cob_runs.specs.Computing.{items_in, items_in_parts, items_in_atom}
 use Rattle.cob_calc.specs.Contents.{bound_at}
 use Rattle.cob_calc.specs.Arithmetic as calc
 use Rattle.cob_calc.specs.Arithmetic.{take_numbers, is_small_rest_at, is_small_rest, are_small_rests, is_sound_remainder, CanCompute}
+use Rattle.cob_typed_exprs.specs.Sizes as sizes
 use Rattle.cob_typed_exprs.specs.Judged.{each_of, if_there}
 use Rattle.cob_typed_exprs.specs.Scope.{Scope, the_item}
 use Rattle.cob_typed_exprs.specs.Scope as scope
