@@ -1,0 +1,5 @@
+pub mod Ranged
+pub mod Results
+pub mod SumRanges
+pub mod Vanishing
+pub mod Sizes
