@@ -4,5 +4,5 @@ use Rattle.cob_step.specs.Ready.{IsReady}
 use Rattle.cob_step.specs.Views.{plain_run}
 use Rattle.slow_run.proofs.running.run_to_end.Given as goal
 
-abbrev pub invariant-loop : goal.invariant-loop
-invariant-loop l = (l.run.world.program ≡ l.program) × IsReady (plain_program l.program) (plain_run l.run)
+abbrev pub invariant-loop-steps : goal.invariant-loop-steps
+invariant-loop-steps l = (l.run.world.program ≡ l.program) × IsReady (plain_program l.program) (plain_run l.run)

@@ -1,0 +1,6 @@
+pub mod Coefs
+pub mod Dots
+pub mod Values
+pub mod Computed
+pub mod Narrower
+pub mod Parts
