@@ -1,41 +1,14 @@
--- Words compared character by character, and looked up.
-use Rattle.std.proofs.Common.{◌≡◌, ℕ, ◌+◌, ◌-◌, ◌<◌, ◌≤◌, Bool, true, false, ◌&&◌, ◌==◌, List, [], ◌∷◌, length, drop, get_or, refl, ap, ◌∙◌, sym, cond, arith, add-one, map, drop-cons, eq-eqb}
-use Rattle.std.proofs.lemmas.Bool.Decides.{nat_tests}
-use Rattle.std.proofs.lemmas.Grind.{common_steps}
+-- A word copied in capitals, one character on.
+use Rattle.std.proofs.Common.{◌≡◌, ℕ, ◌+◌, ◌<◌, List, [], ◌∷◌, ◌++◌, length, take, set, ap, ◌∙◌, sym, arith}
+use Rattle.std.proofs.lemmas.List.{take_more_set, map_more, take_all}
 use Rattle.std.specs.Char.{to_ascii_uppercase}
-use Rattle.std.specs.Str.{bytes_eq}
 use Rattle.cob_lines.specs.declared.Mark.{Mark}
-use Rattle.cob_lex.specs.declared.word.Key.{Key}
-use Rattle.cob_lex.specs.declared.word.Key.TheVariants.{Plain}
 use Rattle.cob_lex.specs.Marks.{ch_at, blank}
-use Rattle.cob_lex.specs.Words.{spells, raised, key_among, name}
+use Rattle.cob_lex.specs.Words.{raised}
 
--- one place on
-spells_here : (front : List Mark) (text : List ℕ) (k : ℕ) → k < length front → k < length text → spells (drop k front) (drop k text) ≡ ((to_ascii_uppercase (ch_at front k) == get_or text k 0) && spells (drop (k + 1) front) (drop (k + 1) text))
-spells_here front text k h i = rw (drop-cons front k blank, drop-cons text k 0, add-one k) refl
+pub raised_on : (front : List Mark) (capitals : List ℕ) (k ch : ℕ) → k < length front → k < length capitals → ch ≡ to_ascii_uppercase (ch_at front k) → take k capitals ≡ raised (take k front) → take (k + 1) (set capitals k ch) ≡ raised (take (k + 1) front)
+raised_on front capitals k ch h i e so_far =
+    rw e (take_more_set capitals k (to_ascii_uppercase (ch_at front k)) i ∙ ap (λ xs. xs ++ to_ascii_uppercase (ch_at front k) ∷ []) so_far ∙ sym (map_more (λ (m : Mark). to_ascii_uppercase m.ch) front k blank h))
 
-pub spells_on : (front : List Mark) (text : List ℕ) (k ch : ℕ) → k < length front → k < length text → ch ≡ to_ascii_uppercase (ch_at front k) → ch ≡ get_or text k 0 → spells (drop (k + 1) front) (drop (k + 1) text) ≡ spells (drop k front) (drop k text)
-spells_on front text k ch h i e f =
-    let same : (to_ascii_uppercase (ch_at front k) == get_or text k 0) ≡ true = eq-eqb _ _ (sym e ∙ f) in
-    sym (spells_here front text k h i ∙ ap (λ b. b && spells (drop (k + 1) front) (drop (k + 1) text)) same)
-
-pub spells_no : (front : List Mark) (text : List ℕ) (k ch : ℕ) → k < length front → k < length text → ch ≡ to_ascii_uppercase (ch_at front k) → (ch ≡ get_or text k 0 → ⊥) → spells (drop k front) (drop k text) ≡ false
-spells_no front text k ch h i e f =
-    let other : (to_ascii_uppercase (ch_at front k) == get_or text k 0) ≡ false = grind (arith, nat_tests) in
-    spells_here front text k h i ∙ ap (λ b. b && spells (drop (k + 1) front) (drop (k + 1) text)) other
-
-pub spells_end : (front : List Mark) (text : List ℕ) (k : ℕ) → length front ≤ k → length text ≤ k → spells (drop k front) (drop k text) ≡ true
-spells_end front text k h i = grind (arith, common_steps)
-
-and_false : (a b : Bool) → b ≡ false → (a && b) ≡ false
-and_false true b e = e
-and_false false b e = refl
-
-pub spells_len : (front : List Mark) (text : List ℕ) → (length front ≡ length text → ⊥) → spells front text ≡ false
-spells_len [] [] h = absurd (h refl)
-spells_len [] (c ∷ cs) h = refl
-spells_len (m ∷ ms) [] h = refl
-spells_len (m ∷ ms) (c ∷ cs) h = and_false _ _ (spells_len ms cs (λ e. h (omega (arith, e))))
-
-key_here : (front : List Mark) (keys : List Key) (k : ℕ) → k < length keys → key_among front (drop k keys) ≡ cond (spells front (name (get_or keys k Plain))) (get_or keys k Plain) (key_among front (drop (k + 1) keys))
-key_here front keys k h = rw (drop-cons keys k Plain, add-one k) refl
+pub raised_whole : (front : List Mark) (capitals : List ℕ) (k : ℕ) → k ≡ length front → take k capitals ≡ raised (take k front) → take (length front) capitals ≡ raised front
+raised_whole front capitals k e so_far = ap (λ n. take n capitals) (sym e) ∙ so_far ∙ ap raised (ap (λ n. take n front) e ∙ take_all (length front) front (omega arith))
