@@ -1,2 +1,3 @@
 pub mod ReadBound
 pub mod Parts
+pub mod TextLemmas

@@ -1,9 +1,10 @@
 //! Items by their places, and their bytes in storage.
-ghost use Rattle.std.specs.Prelude.{◌≡◌, ◌≤◌, ◌<◌, ◌+◌, length, IfSome};
+ghost use Rattle.std.specs.Prelude.{◌≡◌, ◌<◌, length, IfSome};
 ghost use Rattle.std.specs.Option.{option_copied};
-ghost use Rattle.cob_runs.specs.Contents.{area, item_at, form_at, bytes_at};
+ghost use Rattle.cob_runs.specs.Contents.{item_at, form_at, bytes_at};
 ghost use Rattle.cob_items.specs.WellFormed.{HasWellFormedItems, IsWellFormedItem, IsWellFormedForm};
 
+use crate::areas::area;
 use cob_data::{Item, Layout};
 use cob_tree::Form;
 
@@ -14,15 +15,6 @@ pub fn item_at(layout: &Layout, place: u32) -> Option<&Item>
     ensures sound { IfSome result (λ i. IsWellFormedItem layout.now i.now) }
 {
     layout.items.get().get(place as usize)
-}
-
-// So many bytes of storage.
-pub(crate) fn area(storage: &[u8], offset: u32, count: u32) -> &[u8]
-    requires { offset + count ≤ length storage.now }
-    ensures { result.now ≡ area storage.now offset count }
-{
-    let from = offset as usize;
-    &storage[from..from + count as usize]
 }
 
 /// The bytes of the item at a place; none where there is no item.

@@ -5,7 +5,8 @@ ghost use Rattle.cob_program.specs.Values.{negated, numeral, literal};
 ghost use Rattle.cob_runs.specs.Contents.{form_at, scale_of, scaled_by, number_in, number_at};
 ghost use Rattle.cob_items.specs.WellFormed.{HasWellFormedItems, IsWellFormedForm, IsShort, IsShortLiteral};
 
-use crate::items::{area, item_at};
+use crate::areas::area;
+use crate::items::item_at;
 use cob_data::Layout;
 use cob_tree::{Form, Num};
 use dec_num::Scaled;

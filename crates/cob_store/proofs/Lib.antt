@@ -1,3 +1,2 @@
-pub mod TextLemmas
 pub mod SenderLemmas
 pub mod MoveLemmas

@@ -3,18 +3,10 @@ ghost use Rattle.std.specs.Prelude.{◌≡◌, ◌≤◌, ◌<◌, ◌^◌, leng
 ghost use Rattle.cob_runs.specs.Contents.{fitted};
 ghost use Rattle.cob_runs.specs.Moves.{as_digits};
 
+use cob_items::write_text;
 use cob_tree::{Form, Usage};
 use dec_num::Scaled;
 use num_bytes::put;
-
-/// Writes the text, cut on the right or filled with spaces there.
-pub fn write_text(text: &[u8], bytes: &mut [u8])
-    ensures { bytes.new ≡ fitted (length bytes.old) text.now }
-{
-    let count = text.len().min(bytes.len());
-    bytes[..count].copy_from_slice(&text[..count]);
-    bytes[count..].fill(b' ');
-}
 
 /// Writes one byte all over.
 pub fn write_fill(byte: u8, bytes: &mut [u8])

@@ -12,9 +12,9 @@ ghost use Rattle.cob_items.specs.WellFormed.{HasWellFormedItems, IsWellFormedFor
 ghost use Rattle.cob_store.specs.Moving.{HasLayoutLength, Writes, fitted_text, spelled};
 
 use crate::senders::{is_group_sender, number_of};
-use crate::texts::{write_fill, write_spelled, write_text};
+use crate::texts::{write_fill, write_spelled};
 use cob_data::{Layout, Sender};
-use cob_items::{bytes_at, digits_of, item_at, number_in, scale_of, write_units};
+use cob_items::{bytes_at, digits_of, item_at, number_in, scale_of, write_text, write_units};
 use cob_tree::{Form, Kind};
 use dec_num::{Fit, Mode, Scaled, fit};
 

@@ -1,4 +1,3 @@
 pub mod ContentLemmas
 pub mod FileLemmas
 pub mod NumberLemmas
-pub mod TextLemmas

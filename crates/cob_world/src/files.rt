@@ -6,7 +6,7 @@ ghost use Rattle.cob_runs.specs.Files.{file, closed, opened_new, opened, after_c
 ghost use Rattle.cob_world.specs.Calling.{bytes_of, end_from, as_found};
 ghost use Rattle.cob_world.specs.Views.{plain_mode};
 
-use crate::areas::append_text;
+use cob_items::append_text;
 use std::alloc::{AllocError, Global};
 use std::marker::Model;
 

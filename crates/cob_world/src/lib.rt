@@ -2,7 +2,6 @@
 //! "Sequential I-O").
 #![tactic(auto)]
 
-mod areas;
 mod begin;
 mod calls;
 mod counts;

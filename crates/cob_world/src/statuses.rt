@@ -9,10 +9,9 @@ ghost use Rattle.cob_items.specs.WellFormed.{HasWellFormedItems, IsWellFormedFil
 ghost use Rattle.cob_world.specs.Becoming.{undefined_by};
 ghost use Rattle.cob_world.specs.Calling.{as_found};
 
-use crate::areas::{copy_area, write_at, write_text};
 use crate::world::World;
 use cob_data::{FileDecl, Layout};
-use cob_items::{fill_bytes, item_at};
+use cob_items::{copy_area, fill_bytes, item_at, write_at, write_text_at};
 use cob_tree::Bytes;
 
 /// The file at a place, if there is one.
@@ -83,7 +82,7 @@ fn put_record(decl: &FileDecl, record: &[u8], storage: &mut [u8])
     requires { decl.now.offset + decl.now.length ≤ length storage.old }
     ensures { storage.new ≡ record_in decl.now record.now storage.old }
 {
-    write_text(storage, decl.offset, decl.length, record);
+    write_text_at(storage, decl.offset, decl.length, record);
 }
 
 // The record that stands at a place of a file's bytes.

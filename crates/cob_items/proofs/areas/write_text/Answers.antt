@@ -1,6 +1,6 @@
 use Rattle.std.proofs.Common.{rules}
-use Rattle.cob_store.proofs.TextLemmas.{text_written}
-use Rattle.cob_store.proofs.texts.write_text.Goals as goal
+use Rattle.cob_items.proofs.TextLemmas.{text_written}
+use Rattle.cob_items.proofs.areas.write_text.Goals as goal
 
 pub returns : goal.returns
 returns c =

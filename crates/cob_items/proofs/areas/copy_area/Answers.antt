@@ -1,6 +1,6 @@
 use Rattle.std.proofs.Common.{rules}
-use Rattle.cob_world.proofs.TextLemmas.{copied}
-use Rattle.cob_world.proofs.areas.copy_area.Goals as goal
+use Rattle.cob_items.proofs.TextLemmas.{copied}
+use Rattle.cob_items.proofs.areas.copy_area.Goals as goal
 
 pub returns : goal.returns
 returns c =

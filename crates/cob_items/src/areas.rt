@@ -1,9 +1,18 @@
-//! Parts of storage, and texts of so many bytes.
+//! Parts of storage, and texts that are cut or filled up to so many bytes.
 ghost use Rattle.std.specs.Prelude.{◌≡◌, ◌≤◌, ◌+◌, ◌++◌, length};
 ghost use Rattle.std.specs.Result.{OnOk};
 ghost use Rattle.cob_runs.specs.Contents.{area, written, fitted};
 
 use std::alloc::AllocError;
+
+/// So many bytes of storage.
+pub(crate) fn area(storage: &[u8], offset: u32, count: u32) -> &[u8]
+    requires { offset + count ≤ length storage.now }
+    ensures { result.now ≡ area storage.now offset count }
+{
+    let from = offset as usize;
+    &storage[from..from + count as usize]
+}
 
 /// Writes the bytes from a place on.
 pub fn write_at(storage: &mut [u8], offset: u32, bytes: &[u8])
@@ -14,23 +23,23 @@ pub fn write_at(storage: &mut [u8], offset: u32, bytes: &[u8])
     storage[from..from + bytes.len()].copy_from_slice(bytes);
 }
 
-// Fills a part with a text, which is cut on the right or filled with spaces there.
-fn fill_text(part: &mut [u8], text: &[u8])
-    ensures { part.new ≡ fitted (length part.old) text.now }
+/// Writes a text over all the bytes: it is cut on the right, or filled with spaces there.
+pub fn write_text(text: &[u8], bytes: &mut [u8])
+    ensures { bytes.new ≡ fitted (length bytes.old) text.now }
 {
-    let count = text.len().min(part.len());
-    part[..count].copy_from_slice(&text[..count]);
-    part[count..].fill(b' ');
+    let count = text.len().min(bytes.len());
+    bytes[..count].copy_from_slice(&text[..count]);
+    bytes[count..].fill(b' ');
 }
 
 /// Writes so many bytes of a text from a place on: it is cut on the right, or filled with spaces there.
-pub fn write_text(storage: &mut [u8], offset: u32, count: u32, text: &[u8])
+pub fn write_text_at(storage: &mut [u8], offset: u32, count: u32, text: &[u8])
     requires { offset + count ≤ length storage.old }
     ensures { storage.new ≡ written storage.old offset (fitted count text.now) }
 {
     let from = offset as usize;
     let to = from + count as usize;
-    fill_text(&mut storage[from..to], text);
+    write_text(text, &mut storage[from..to]);
 }
 
 /// Writes a part of storage to another place, cut on the right or filled with spaces there. The parts may overlap.
