@@ -13,7 +13,7 @@ use Rattle.run_words.specs.Words.{Run, texts, lent_texts}
 use Rattle.run_words.specs.Paths.{AreDistinct, paths_of}
 use Rattle.analyse_top.specs.declared.answer.Answer as code
 use Rattle.analyse_top.specs.declared.answer.Stop.{Stop}
-use Rattle.analyse_top.specs.declared.run.Task.{Task}
+use Rattle.analyse_top.specs.declared.run.Request.{Request}
 use Rattle.analyse_top.specs.declared.source.Laid.{Laid}
 use Rattle.analyse_top.specs.Profile.{IsProfileCause}
 use Rattle.analyse_top.specs.Runs.{BlamesWord, HoldsTask}
@@ -81,7 +81,7 @@ no_task bytes names cause (inr memory) = rw memory refl
 -- ---- what a file holds
 
 abbrev pub Found : Type 0
-Found = Result Task (Result code.Answer Stop)
+Found = Result Request (Result code.Answer Stop)
 
 -- what the bytes come to
 abbrev pub ComesOf : List ℕ → Run → Found → Type 0

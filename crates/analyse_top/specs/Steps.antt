@@ -27,7 +27,7 @@ use Rattle.run_words.specs.Words.{Run, texts}
 use Rattle.run_words.specs.Paths.{AreDistinct}
 use Rattle.analyse_top.specs.declared.answer.Stop.{Stop}
 use Rattle.analyse_top.specs.declared.answer.Stop.TheVariants.{ReadFault, Memory}
-use Rattle.analyse_top.specs.declared.run.Task as code_task
+use Rattle.analyse_top.specs.declared.run.Request.{Request}
 use Rattle.analyse_top.specs.declared.source.Laid.{Laid}
 use Rattle.analyse_top.specs.declared.source.Unread.{Unread}
 use Rattle.analyse_top.specs.declared.source.Unread.TheVariants as unread
@@ -102,14 +102,14 @@ answer_to unread.Memory = Err Memory
 -- ---- what is run
 
 -- what the interpreter asks for
-pub record IsReady (t : code_task.Task) : Type 0 where
+pub record IsReady (t : Request) : Type 0 where
   pub graph : IsGraph (plain_program t.laid.program) t.laid.graph
   pub can : CanBeRun (plain_program t.laid.program)
   pub count : length t.paths.items ≡ length t.laid.program.layout.files
   pub distinct : AreDistinct (texts t.paths.items)
 
 -- the task that the bytes make, ready to be run
-pub record IsTask (bytes : List ℕ) (r : Run) (t : code_task.Task) : Type 0 where
+pub record IsTask (bytes : List ℕ) (r : Run) (t : Request) : Type 0 where
   pub makes : Makes bytes r (plain_task t)
   pub ready : IsReady t
 

@@ -1,11 +1,11 @@
--- The code's answers and tasks as plain data.
+-- The code's answers and requests as plain data.
 use Rattle.std.specs.Prelude.{Result, Ok, Err, string_bytes}
 use Rattle.cob_program.specs.ActView.{plain_program}
 use Rattle.run_words.specs.Words.{texts}
 use Rattle.analyse_top.specs.declared.answer.Stop.{Stop}
 use Rattle.analyse_top.specs.declared.answer.Answer.TheVariants as code
 use Rattle.analyse_top.specs.declared.answer.Answer as declared
-use Rattle.analyse_top.specs.declared.run.Task as code_task
+use Rattle.analyse_top.specs.declared.run.Request.{Request}
 use Rattle.analyse_top.specs.Runs.{Task, task}
 use Rattle.analyse_top.specs.Answer.{Answer, Usage, Absent, Refused, NotYet, CertificateLong, NotInductive, Report}
 
@@ -23,5 +23,5 @@ abbrev pub plain_result : Result declared.Answer Stop → Result Answer Stop
 plain_result (Ok answer) = Ok (plain_answer answer)
 plain_result (Err stop) = Err stop
 
-abbrev pub plain_task : code_task.Task → Task
+abbrev pub plain_task : Request → Task
 plain_task t = task (plain_program t.laid.program) t.laid.graph (texts t.paths.items) t.steps

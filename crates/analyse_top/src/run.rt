@@ -16,7 +16,7 @@ use crate::show::show_end;
 use crate::source::{Laid, laid_in, unread_for};
 use batch_io::{FileEnd, Files, Sink, read_file};
 use cob_front::Refusal;
-use cob_interp::run_to_ending;
+use cob_interp::{Task, run_to_ending};
 use cob_lines::SOURCE_LIMIT;
 use cob_well_formed::sources_can_be_run;
 use run_words::{PathsEnd, RunWords, paths_of};
@@ -25,26 +25,26 @@ use std::alloc::Global;
 /// What the words ask for: a program of the profile with its graph, the path of each of its files, and the most steps
 /// that are done.
 #[derive(Drop)]
-pub struct Task {
+pub struct Request {
     pub laid: Laid,
     pub paths: Vec<String>,
     pub steps: u64,
 }
 
-// The task of a program with its graph.
+// The request for a program with its graph.
 fn with_paths<'a>(
     alloc: Global,
     bytes: &[u8],
     laid: Laid,
     said: &RunWords,
-) -> Result<Task, Result<Answer<'a>, Stop>>
+) -> Result<Request, Result<Answer<'a>, Stop>>
     requires { IsLaid bytes.now laid }
     ensures { MatchResult result (IsTask bytes.now (plain_run said.now))
         (λ found. IsNoTask bytes.now (plain_run said.now).names (plain_result found)) }
 {
     sources_can_be_run();
     match paths_of(alloc, laid.program.layout.files.get(), &said.names) {
-        Ok(paths) => Ok(Task {
+        Ok(paths) => Ok(Request {
             laid,
             paths,
             steps: said.steps,
@@ -54,12 +54,12 @@ fn with_paths<'a>(
     }
 }
 
-// The task of a source's bytes, or the answer to them.
-fn task_in<'a>(
+// The request for a source's program, or the answer to its bytes.
+fn request_in<'a>(
     alloc: Global,
     bytes: &[u8],
     said: &RunWords,
-) -> Result<Task, Result<Answer<'a>, Stop>>
+) -> Result<Request, Result<Answer<'a>, Stop>>
     ensures { MatchResult result (IsTask bytes.now (plain_run said.now))
         (λ found. IsNoTask bytes.now (plain_run said.now).names (plain_result found)) }
 {
@@ -70,14 +70,14 @@ fn task_in<'a>(
 }
 
 /// Reads the source, and finds what the words ask for. Or else the answer to them, or why there is none.
-pub fn task_for<'a, F: Files>(
+pub fn request_for<'a, F: Files>(
     alloc: Global,
     said: &RunWords<'a>,
     files: &mut F,
-) -> Result<Task, Result<Answer<'a>, Stop>>
+) -> Result<Request, Result<Answer<'a>, Stop>>
     ensures reads { Reads (F.state files.old) (F.state files.new) (refused_by_fault result) }
-    ensures holds { IfOk result (λ task.
-        HoldsTask (known_bytes (F.state files.old)) (plain_run said.now) (plain_task task)) }
+    ensures holds { IfOk result (λ request.
+        HoldsTask (known_bytes (F.state files.old)) (plain_run said.now) (plain_task request)) }
     ensures ready { IfOk result IsReady }
     ensures answer { IfErr result (λ found. IfOk found (λ answer. IfSome (known_bytes (F.state files.old)) (λ contents.
         AnswersRun contents (plain_run said.now) (plain_answer answer)))) }
@@ -89,24 +89,22 @@ pub fn task_for<'a, F: Files>(
         Err(FileEnd::Failed) => return Err(Err(Stop::ReadFault)),
         Err(FileEnd::Memory) => return Err(Err(Stop::Memory)),
     };
-    task_in(alloc, &bytes, said)
+    request_in(alloc, &bytes, said)
 }
 
-/// Runs a task (ISO 1989:1985, "Nucleus" and "Sequential I-O"), and tells how the run ended where it didn't come to its
-/// end. Gives the process's status.
-pub fn run<F: Files, O: Sink>(alloc: Global, task: &Task, files: &mut F, out: &mut O) -> u8
-    requires { IsReady task.now }
-    ensures { (end : Result Ended RunEnd) × RunsTo (plain_task task.now)
+/// Runs what is asked for (ISO 1989:1985, "Nucleus" and "Sequential I-O"), and tells how the run ended where it didn't
+/// come to its end. Gives the process's status.
+pub fn run<F: Files, O: Sink>(alloc: Global, request: &Request, files: &mut F, out: &mut O) -> u8
+    requires { IsReady request.now }
+    ensures { (end : Result Ended RunEnd) × RunsTo (plain_task request.now)
         (outside (F.state files.old) (O.state out.old)) (outside (F.state files.new) (O.state out.new)) end result }
 {
-    let ending = run_to_ending(
-        alloc,
-        &task.laid.program,
-        &task.laid.graph,
-        files,
-        &task.paths,
-        out,
-        task.steps,
-    );
-    show_end(alloc, task.laid.program.layout.files.get(), ending, out)
+    let task = Task {
+        program: &request.laid.program,
+        graph: &request.laid.graph,
+        paths: &request.paths,
+        steps: request.steps,
+    };
+    let ending = run_to_ending(alloc, &task, files, out);
+    show_end(alloc, request.laid.program.layout.files.get(), ending, out)
 }

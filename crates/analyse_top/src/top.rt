@@ -9,7 +9,7 @@ ghost use Rattle.analyse_top.specs.View.{plain_answer};
 
 use crate::answer::{Answer, Stop};
 use crate::check::check;
-use crate::run::{run, task_for};
+use crate::run::{request_for, run};
 use crate::show::show_found;
 use batch_io::{Files, Sink};
 use cob_front::one_answer;
@@ -57,8 +57,8 @@ fn conclude_run<F: Files, O: Sink>(alloc: Global, said: &RunWords, files: &mut F
     ensures { (words : List (List ℕ)) → IsRun words (plain_run said.now)
         → Concludes (call words (F.state files.old) (F.state files.new) (O.state out.old) (O.state out.new) result) }
 {
-    match task_for(alloc, said, files) {
-        Ok(task) => run(alloc, &task, files, out),
+    match request_for(alloc, said, files) {
+        Ok(request) => run(alloc, &request, files, out),
         Err(found) => show_found(alloc, found, out),
     }
 }

@@ -4,6 +4,7 @@ pub mod Touching
 pub mod Running
 pub mod Walking
 pub mod Setting
+pub mod Task
 pub mod Readying
 pub mod Doing
 pub mod OneEnd

@@ -10,8 +10,10 @@ mod parts;
 mod runs;
 mod setting;
 mod steps;
+mod task;
 mod walk;
 
 pub use ends::{Ended, Ending, RunEnd};
 pub use laws::one_end;
 pub use runs::{run, run_to_ending};
+pub use task::Task;

@@ -2,27 +2,22 @@
 ghost use Rattle.std.specs.Prelude.{◌≡◌, ℕ, true, false, MatchResult, length};
 ghost use Rattle.batch_io.specs.FilesState.{KeepsIds, known_bytes};
 ghost use Rattle.batch_io.specs.SinkState.{SinkState};
-ghost use Rattle.cob_graph.specs.Graphs.{IsGraph};
-ghost use Rattle.cob_graph.specs.WellFormed.{IsWellFormed};
-ghost use Rattle.cob_items.specs.WellFormed.{HasWellFormedItems};
 ghost use Rattle.cob_program.specs.ActView.{plain_program};
-ghost use Rattle.cob_world.specs.Doing.{CanDoProgram};
 ghost use Rattle.cob_interp.specs.Readying.{ReadyToClose, IsRefusal};
 ghost use Rattle.cob_interp.specs.Running.{Outside, outside, HaltsOff, IfTold, KeepsUnmade, Runs, TellsOfSink};
 ghost use Rattle.cob_interp.specs.Setting.{IsReady, program_of, paths_of, texts};
-ghost use Rattle.cob_interp.specs.Told.{AreDistinct};
+ghost use Rattle.cob_interp.specs.Task.{IsRunnable};
 ghost use Rattle.cob_interp.specs.Touching.{Touches, makes_none};
 ghost use Rattle.cob_interp.specs.Walking.{by_sink, as_result, TellsBySink, PutsTo, is_refused, IsOwnEnd};
 
 use crate::ends::{Ended, Ending, RunEnd};
 use crate::outside::ready_to_close;
 use crate::setting::Setting;
+use crate::task::Task;
 use crate::walk::{Halt, flush, walk};
 use batch_io::{Files, MakeEnd, Sink};
-use cob_graph::Graph;
 use cob_graph_laws::ways_tell_of_runs;
 use cob_plan::Plan;
-use cob_program::Program;
 use cob_world::World;
 use std::alloc::Global;
 
@@ -156,100 +151,70 @@ fn ending_of<F: Files, O: Sink>(
     }
 }
 
-/// Runs a program as `run_to_ending` does. What is said of files that are never made follows there.
-fn run_through<F: Files, O: Sink>(
-    alloc: Global,
-    program: &Program,
-    graph: &Graph,
-    files: &mut F,
-    paths: &[String],
-    out: &mut O,
-    budget: u64,
-) -> Ending
-    requires graph { IsGraph (plain_program program.now) graph.now }
-    requires whole { IsWellFormed (plain_program program.now) }
-    requires sound { HasWellFormedItems program.now.layout }
-    requires able { CanDoProgram (plain_program program.now) }
-    requires paths { length paths.now ≡ length program.now.layout.files }
-    requires distinct { AreDistinct (texts paths.now) }
-    ensures runs { Runs (plain_program program.now) graph.now (texts paths.now) budget
+/// Runs a task as `run_to_ending` does. What is said of files that are never made follows there.
+fn run_through<F: Files, O: Sink>(alloc: Global, task: &Task, files: &mut F, out: &mut O) -> Ending
+    requires { IsRunnable task.now }
+    ensures runs { Runs (plain_program task.now.program.now) task.now.graph.now (texts task.now.paths.now) task.now.steps
         (outside (F.state files.old) (O.state out.old)) (outside (F.state files.new) (O.state out.new)) result.end }
     ensures sink { TellsOfSink (O.state out.old) (O.state out.new) result }
     ensures ids { KeepsIds (F.state files.old) (F.state files.new) }
 {
     ways_tell_of_runs();
-    let Ok(plan) = Plan::of(alloc, program, graph) else {
+    let Ok(plan) = Plan::of(alloc, task.program, task.graph) else {
         return Ending {
             end: Err(RunEnd::Memory),
             sink_refused: false,
         };
     };
-    let Ok(mut world) = World::first(alloc, program, Vec::new(alloc)) else {
+    let Ok(mut world) = World::first(alloc, task.program, Vec::new(alloc)) else {
         return Ending {
             end: Err(RunEnd::Memory),
             sink_refused: false,
         };
     };
     let setting = Setting {
-        program,
-        graph,
+        program: task.program,
+        graph: task.graph,
         plan,
-        paths,
+        paths: task.paths,
     };
-    let halted = walk(alloc, &setting, files, &mut world, out, budget);
+    let halted = walk(alloc, &setting, files, &mut world, out, task.steps);
     ending_of(&setting, files, &mut world, out, halted)
 }
 
-/// Runs a program as `run` does, and tells whether the sink refused its text.
+/// Runs a task as `run` does, and tells whether the sink refused its text.
 pub fn run_to_ending<F: Files, O: Sink>(
     alloc: Global,
-    program: &Program,
-    graph: &Graph,
+    task: &Task,
     files: &mut F,
-    paths: &[String],
     out: &mut O,
-    budget: u64,
 ) -> Ending
-    requires graph { IsGraph (plain_program program.now) graph.now }
-    requires whole { IsWellFormed (plain_program program.now) }
-    requires sound { HasWellFormedItems program.now.layout }
-    requires able { CanDoProgram (plain_program program.now) }
-    requires paths { length paths.now ≡ length program.now.layout.files }
-    requires distinct { AreDistinct (texts paths.now) }
-    ensures runs { Runs (plain_program program.now) graph.now (texts paths.now) budget
+    requires { IsRunnable task.now }
+    ensures runs { Runs (plain_program task.now.program.now) task.now.graph.now (texts task.now.paths.now) task.now.steps
         (outside (F.state files.old) (O.state out.old)) (outside (F.state files.new) (O.state out.new)) result.end }
     ensures sink { TellsOfSink (O.state out.old) (O.state out.new) result }
     ensures ids { KeepsIds (F.state files.old) (F.state files.new) }
-    ensures unmade { IfTold (λ first told. KeepsUnmade (plain_program program.now) (texts paths.now) first told)
+    ensures unmade { IfTold (λ first told. KeepsUnmade (plain_program task.now.program.now) (texts task.now.paths.now) first told)
         (known_bytes (F.state files.old)) (known_bytes (F.state files.new)) }
 {
-    run_through(alloc, program, graph, files, paths, out, budget)
+    run_through(alloc, task, files, out)
 }
 
-/// Runs a program on the outside's files, at most so many steps (ISO 1989:1985, "Nucleus" and "Sequential I-O"; what a
-/// record area holds where the standard leaves it undefined stays, and storage without a VALUE begins with spaces).
-/// Each file's path stands at its place in the order of the SELECT entries. An input file is read whole when it is
-/// opened, and an output file is written when it is closed or the run has ended. Shown text goes to `out`.
+/// Runs a task on the outside's files (ISO 1989:1985, "Nucleus" and "Sequential I-O"; what a record area holds where the
+/// standard leaves it undefined stays, and storage without a VALUE begins with spaces). An input file is read whole when
+/// it is opened, and an output file is written when it is closed or the run has ended. Shown text goes to `out`.
 pub fn run<F: Files, O: Sink>(
     alloc: Global,
-    program: &Program,
-    graph: &Graph,
+    task: &Task,
     files: &mut F,
-    paths: &[String],
     out: &mut O,
-    budget: u64,
 ) -> Result<Ended, RunEnd>
-    requires graph { IsGraph (plain_program program.now) graph.now }
-    requires whole { IsWellFormed (plain_program program.now) }
-    requires sound { HasWellFormedItems program.now.layout }
-    requires able { CanDoProgram (plain_program program.now) }
-    requires paths { length paths.now ≡ length program.now.layout.files }
-    requires distinct { AreDistinct (texts paths.now) }
-    ensures runs { Runs (plain_program program.now) graph.now (texts paths.now) budget
+    requires { IsRunnable task.now }
+    ensures runs { Runs (plain_program task.now.program.now) task.now.graph.now (texts task.now.paths.now) task.now.steps
         (outside (F.state files.old) (O.state out.old)) (outside (F.state files.new) (O.state out.new)) result }
     ensures ids { KeepsIds (F.state files.old) (F.state files.new) }
-    ensures unmade { IfTold (λ first told. KeepsUnmade (plain_program program.now) (texts paths.now) first told)
+    ensures unmade { IfTold (λ first told. KeepsUnmade (plain_program task.now.program.now) (texts task.now.paths.now) first told)
         (known_bytes (F.state files.old)) (known_bytes (F.state files.new)) }
 {
-    run_to_ending(alloc, program, graph, files, paths, out, budget).end
+    run_to_ending(alloc, task, files, out).end
 }

@@ -10,9 +10,9 @@ use Rattle.analyse_top.proofs.top.conclude_run.Goals as goal
 
 pub returns-in-Ok : goal.returns-in-Ok
 returns-in-Ok g c =
-    let t = plain_task c.in-Ok.task in
+    let t = plain_task c.in-Ok.request in
     let files = g.F.Files.state c.args.files.now in
-    let middle = g.F.Files.state c.task_for.new.files in
+    let middle = g.F.Files.state c.request_for.new.files in
     let after = outside (g.F.Files.state c.run.new.files) (g.O.Sink.state c.run.new.out) in
     λ words said. inr (
       t,
@@ -27,7 +27,7 @@ returns-in-Err g c =
     let files = g.F.Files.state c.args.files.now in
     let r = plain_run c.args.said.now in
     λ words said. inl (ends_found
-    (call words files (g.F.Files.state c.task_for.new.files)
+    (call words files (g.F.Files.state c.request_for.new.files)
     (g.O.Sink.state c.args.out.now) (g.O.Sink.state c.show_found.new.out) c.show_found.result)
     c.in-Err.found c.in-Err.ensures.reads
     (answers_run c.in-Err.found (known_bytes files) words r said c.in-Err.ensures.answer) c.show_found.ensures)

@@ -9,22 +9,22 @@ use Rattle.cob_interp.proofs.runs.run_through.Goals as goal
 
 pub returns-in_default-clause-runs : goal.returns-in_default-clause-runs
 returns-in_default-clause-runs g c =
-    refused_first (plain_program c.args.program.now) c.args.graph.now (texts c.args.paths.now)
-    (length-map c.args.paths.now string_bytes ∙ c.requires.paths) c.ways_tell_of_runs.ensures c.requires.whole
-    c.requires.graph c.args.budget _
+    refused_first (plain_program c.args.task.now.program.now) c.args.task.now.graph.now (texts c.args.task.now.paths.now)
+    (length-map c.args.task.now.paths.now string_bytes ∙ c.requires.paths) c.ways_tell_of_runs.ensures c.requires.whole
+    c.requires.graph c.args.task.now.steps _
 
 pub returns-in_default-first-clause-runs : goal.returns-in_default-first-clause-runs
 returns-in_default-first-clause-runs g c =
-    refused_first (plain_program c.args.program.now) c.args.graph.now (texts c.args.paths.now)
-    (length-map c.args.paths.now string_bytes ∙ c.requires.paths) c.ways_tell_of_runs.ensures c.requires.whole
-    c.requires.graph c.args.budget _
+    refused_first (plain_program c.args.task.now.program.now) c.args.task.now.graph.now (texts c.args.task.now.paths.now)
+    (length-map c.args.task.now.paths.now string_bytes ∙ c.requires.paths) c.ways_tell_of_runs.ensures c.requires.whole
+    c.requires.graph c.args.task.now.steps _
 
 pub returns-clause-runs : goal.returns-clause-runs
 returns-clause-runs g c =
     let start = outside (g.F.Files.state c.args.files.now) (g.O.Sink.state c.args.out.now) in
-    c.ending_of.ensures.runs c.args.budget start
+    c.ending_of.ensures.runs c.args.task.now.steps start
     (c.walk-halted.ensures.halts start
-    (begins_with (plain_program c.args.program.now) c.args.graph.now (texts c.args.paths.now)
-    (length-map c.args.paths.now string_bytes ∙ c.requires.paths) c.ways_tell_of_runs.ensures c.requires.whole
-    c.requires.graph c.args.budget start
+    (begins_with (plain_program c.args.task.now.program.now) c.args.task.now.graph.now (texts c.args.task.now.paths.now)
+    (length-map c.args.task.now.paths.now string_bytes ∙ c.requires.paths) c.ways_tell_of_runs.ensures c.requires.whole
+    c.requires.graph c.args.task.now.steps start
     _ c.new.result.items c.in-Ok-first.world.world c.new.ensures.items c.in-Ok-first.ensures.value))

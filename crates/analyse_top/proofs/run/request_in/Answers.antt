@@ -2,7 +2,7 @@ use Rattle.std.proofs.Common.{ap, subst, sym, ◌∙◌}
 use Rattle.run_words.specs.Words.{plain_run}
 use Rattle.analyse_top.specs.Steps.{IsNoTask, answer_to}
 use Rattle.analyse_top.proofs.Tasks.{no_task}
-use Rattle.analyse_top.proofs.run.task_in.Goals as goal
+use Rattle.analyse_top.proofs.run.request_in.Goals as goal
 
 pub returns-in-Err : goal.returns-in-Err
 returns-in-Err c =
