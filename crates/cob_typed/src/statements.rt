@@ -5,12 +5,11 @@ ghost use Rattle.std.specs.Prelude.{◌≡◌, ◌+◌, map, IfOk, OnOk};
 ghost use Rattle.cob_tree.specs.Stmt as tree_spec;
 ghost use Rattle.cob_tree.specs.StmtView as tree_view;
 ghost use Rattle.cob_tree.specs.StmtView.{plain_sel, plain_verb, plain_tail};
-ghost use Rattle.cob_program.specs.Act.{stmts_of};
-ghost use Rattle.cob_program.specs.ActView.{plain_stmt, plain_act, plain_when};
+ghost use Rattle.cob_program.specs.ActView.{plain_stmt, plain_act, plain_when, plain_stmts, plain_phrase, plain_whens};
 ghost use Rattle.cob_program.specs.LogicView.{plain_logic};
 ghost use Rattle.cob_typed_exprs.specs.Judged.{noted, each_of};
 ghost use Rattle.cob_typed_conds.specs.Selections.{selection};
-ghost use Rattle.cob_typed.specs.Lists.{plain_stmts, plain_phrase, plain_whens, found_behind, tree_phrase};
+ghost use Rattle.cob_typed.specs.Lists.{found_behind, tree_phrase};
 ghost use Rattle.cob_typed.specs.Statements.{stmts_if, typed_stmts, typed_stmt, typed_phrase, typed_whens, typed_verb};
 ghost use Rattle.cob_typed.specs.StatementSteps.{typed_phrases, typed_lists, typed_when, typed_cases, typed_tail};
 ghost use Rattle.cob_typed_verbs.specs.Workings.{plain_worked};
@@ -56,7 +55,7 @@ fn less(left: u32) -> Result<u32, AllocError>
 
 /// A list, which is empty where it is left out.
 fn list_if(alloc: Global, phrase: Option<Vec<Stmt>>) -> Vec<Stmt>
-    ensures { plain_stmts result ≡ stmts_if (plain_phrase phrase) }
+    ensures { plain_stmts result.items ≡ stmts_if (plain_phrase phrase) }
 {
     match phrase {
         None => Vec::new(alloc),
@@ -91,7 +90,7 @@ pub fn add_stmts(
     typed: &mut Vec<Stmt>,
     left: u32,
 ) -> Result<(), AllocError>
-    ensures value { OnOk result (stmts_of (map plain_stmt typed.new.items) ≡ joined (stmts_of (map plain_stmt typed.old.items)) (typed_stmts scope.now next.old (tree_spec.stmts_of (map tree_view.plain_stmt list.now))).value) }
+    ensures value { OnOk result (plain_stmts typed.new.items ≡ joined (plain_stmts typed.old.items) (typed_stmts scope.now next.old (tree_spec.stmts_of (map tree_view.plain_stmt list.now))).value) }
     ensures next { OnOk result (next.new ≡ (typed_stmts scope.now next.old (tree_spec.stmts_of (map tree_view.plain_stmt list.now))).next) }
     ensures found { OnOk result (findings.new.items ≡ found_behind findings.old.items (typed_stmts scope.now next.old (tree_spec.stmts_of (map tree_view.plain_stmt list.now))).found) }
 {
@@ -109,7 +108,7 @@ fn typed_stmts(
     list: &[cob_tree::Stmt],
     left: u32,
 ) -> Result<Vec<Stmt>, AllocError>
-    ensures value { IfOk result (λ typed. plain_stmts typed ≡ (typed_stmts scope.now next.old (tree_spec.stmts_of (map tree_view.plain_stmt list.now))).value) }
+    ensures value { IfOk result (λ typed. plain_stmts typed.items ≡ (typed_stmts scope.now next.old (tree_spec.stmts_of (map tree_view.plain_stmt list.now))).value) }
     ensures next { OnOk result (next.new ≡ (typed_stmts scope.now next.old (tree_spec.stmts_of (map tree_view.plain_stmt list.now))).next) }
     ensures found { OnOk result (findings.new.items ≡ found_behind findings.old.items (typed_stmts scope.now next.old (tree_spec.stmts_of (map tree_view.plain_stmt list.now))).found) }
 {
@@ -163,7 +162,7 @@ fn typed_phrases(
     left: u32,
 ) -> Result<(Option<Vec<Stmt>>, Vec<Stmt>), AllocError>
     ensures first { IfOk result (λ x. plain_phrase x.0 ≡ (typed_phrases scope.now next.old (tree_phrase first.now) (tree_phrase second.now)).value.0) }
-    ensures second { IfOk result (λ x. plain_stmts x.1 ≡ (typed_phrases scope.now next.old (tree_phrase first.now) (tree_phrase second.now)).value.1) }
+    ensures second { IfOk result (λ x. plain_stmts x.1.items ≡ (typed_phrases scope.now next.old (tree_phrase first.now) (tree_phrase second.now)).value.1) }
     ensures next { OnOk result (next.new ≡ (typed_phrases scope.now next.old (tree_phrase first.now) (tree_phrase second.now)).next) }
     ensures found { OnOk result (findings.new.items ≡ found_behind findings.old.items (typed_phrases scope.now next.old (tree_phrase first.now) (tree_phrase second.now)).found) }
 {
@@ -181,8 +180,8 @@ fn typed_lists(
     second: &Option<Vec<cob_tree::Stmt>>,
     left: u32,
 ) -> Result<(Vec<Stmt>, Vec<Stmt>), AllocError>
-    ensures first { IfOk result (λ x. plain_stmts x.0 ≡ (typed_lists scope.now next.old (tree_spec.stmts_of (map tree_view.plain_stmt first.now)) (tree_phrase second.now)).value.0) }
-    ensures second { IfOk result (λ x. plain_stmts x.1 ≡ (typed_lists scope.now next.old (tree_spec.stmts_of (map tree_view.plain_stmt first.now)) (tree_phrase second.now)).value.1) }
+    ensures first { IfOk result (λ x. plain_stmts x.0.items ≡ (typed_lists scope.now next.old (tree_spec.stmts_of (map tree_view.plain_stmt first.now)) (tree_phrase second.now)).value.0) }
+    ensures second { IfOk result (λ x. plain_stmts x.1.items ≡ (typed_lists scope.now next.old (tree_spec.stmts_of (map tree_view.plain_stmt first.now)) (tree_phrase second.now)).value.1) }
     ensures next { OnOk result (next.new ≡ (typed_lists scope.now next.old (tree_spec.stmts_of (map tree_view.plain_stmt first.now)) (tree_phrase second.now)).next) }
     ensures found { OnOk result (findings.new.items ≡ found_behind findings.old.items (typed_lists scope.now next.old (tree_spec.stmts_of (map tree_view.plain_stmt first.now)) (tree_phrase second.now)).found) }
 {
@@ -222,7 +221,7 @@ fn typed_whens(
     whens: &[cob_tree::When],
     left: u32,
 ) -> Result<Vec<When>, AllocError>
-    ensures value { IfOk result (λ typed. plain_whens typed ≡ (typed_whens scope.now line next.old looked (tree_spec.whens_of (map tree_view.plain_when whens.now))).value) }
+    ensures value { IfOk result (λ typed. plain_whens typed.items ≡ (typed_whens scope.now line next.old looked (tree_spec.whens_of (map tree_view.plain_when whens.now))).value) }
     ensures next { OnOk result (next.new ≡ (typed_whens scope.now line next.old looked (tree_spec.whens_of (map tree_view.plain_when whens.now))).next) }
     ensures found { OnOk result (findings.new.items ≡ found_behind findings.old.items (typed_whens scope.now line next.old looked (tree_spec.whens_of (map tree_view.plain_when whens.now))).found) }
 {

@@ -6,9 +6,8 @@ use Rattle.cob_tree.specs.ExprView.{plain_expr}
 use Rattle.cob_tree.specs.CondView.{plain_cond}
 use Rattle.cob_tree.specs.Stmt as tree
 use Rattle.cob_tree.specs.StmtView as tree_view
-use Rattle.cob_program.specs.Act.{stmts_of}
-use Rattle.cob_program.specs.ActView.{plain_stmt, plain_when}
-use Rattle.cob_typed.specs.Lists.{found_behind, tree_list, tree_phrase, plain_phrase, plain_stmts}
+use Rattle.cob_program.specs.ActView.{plain_stmt, plain_when, plain_stmts, plain_phrase}
+use Rattle.cob_typed.specs.Lists.{found_behind, tree_list, tree_phrase}
 use Rattle.cob_typed.specs.Statements.{typed_stmts, typed_whens, typed_verb, range_act}
 use Rattle.cob_typed_verbs.specs.Verbs.{move_act, show_act, open_act, close_act}
 use Rattle.cob_typed.specs.Typing.{joined}
@@ -31,7 +30,7 @@ add_stmts-loop-statement-preserved t c =
     let rest = stmts_from c.args.list.now (i + 1) in record {
       value = stmt_value s l.next c.typed_stmt.new.next (tree_view.plain_stmt x) rest (map plain_stmt l.typed.items) (map plain_stmt c.push.new.self.items) (plain_stmt made) _ told.next told.value
           (map_more plain_stmt l.typed.items c.push.new.self.items made c.in_ok-push.ensures.items)
-          (sym (ap (λ ys. joined (stmts_of (map plain_stmt l.typed.items)) (typed_stmts s l.next ys).value) here) ∙ l.invariant.value);
+          (sym (ap (λ ys. joined (plain_stmts l.typed.items) (typed_stmts s l.next ys).value) here) ∙ l.invariant.value);
       next = stmt_next s l.next c.typed_stmt.new.next _ (tree_view.plain_stmt x) rest told.next (sym (ap (λ ys. (typed_stmts s l.next ys).next) here) ∙ l.invariant.next);
       found = stmt_found s l.next c.typed_stmt.new.next (tree_view.plain_stmt x) rest l.findings.items c.typed_stmt.new.findings.items _ told.next told.found
           (sym (ap (λ ys. found_behind l.findings.items (typed_stmts s l.next ys).found) here) ∙ l.invariant.found);
@@ -41,7 +40,7 @@ pub add_stmts-returns-clause-value : goal.add_stmts-returns-clause-value
 add_stmts-returns-clause-value t c =
     let l = c.loop-statement in
     let past = stmts_end c.args.list.now l.statement-index c.loop-statement-test.false in
-    sym (ap (λ ys. joined (stmts_of (map plain_stmt l.typed.items)) (typed_stmts c.args.scope.now l.next ys).value) past ∙ joined_none (stmts_of (map plain_stmt l.typed.items))) ∙ l.invariant.value
+    sym (ap (λ ys. joined (plain_stmts l.typed.items) (typed_stmts c.args.scope.now l.next ys).value) past ∙ joined_none (plain_stmts l.typed.items)) ∙ l.invariant.value
 
 pub add_stmts-returns-clause-next : goal.add_stmts-returns-clause-next
 add_stmts-returns-clause-next t c =
@@ -177,7 +176,7 @@ typed_verb-returns-in_ok-end-in-Read-clause-found t c =
 pub typed_verb-returns-in_ok-end-in-Read-clause-value : goal.typed_verb-returns-in_ok-end-in-Read-clause-value
 typed_verb-returns-in_ok-end-in-Read-clause-value t c =
     let is = ap tree_view.plain_verb (c.in-Read.is ∙ sym (rolls-Read c.in-Read.file c.in-Read.into c.in-Read.end c.in-Read.not_end c.in-Read.ended)) ∙ read_is c.in-Read.file c.in-Read.into c.in-Read.end c.in-Read.not_end c.in-Read.ended in
-    read_value c.args.scope.now c.args.line c.args.next.now (tree_view.plain_verb c.args.verb.now) c.in-Read.file c.in-Read.into (tree_phrase c.in-Read.end) (tree_phrase c.in-Read.not_end) _ c.in_ok-file-in-Read.file c.in_ok-file-in-Read.into (plain_phrase c.in_ok-end-in-Read.end) (plain_stmts c.in_ok-end-in-Read.fine)
+    read_value c.args.scope.now c.args.line c.args.next.now (tree_view.plain_verb c.args.verb.now) c.in-Read.file c.in-Read.into (tree_phrase c.in-Read.end) (tree_phrase c.in-Read.not_end) _ c.in_ok-file-in-Read.file c.in_ok-file-in-Read.into (plain_phrase c.in_ok-end-in-Read.end) (plain_stmts c.in_ok-end-in-Read.fine.items)
     (ap (typed_verb c.args.scope.now c.args.line c.args.next.now) is) c.read_of.ensures (search rules) (search rules) c.in_ok-end-in-Read.ensures.first c.in_ok-end-in-Read.ensures.second
 
 pub typed_when-returns-clause-found : goal.typed_when-returns-clause-found

@@ -1,6 +1,5 @@
 use Rattle.std.proofs.Common.{◌≡◌, ◌+◌, ◌*◌, map}
-use Rattle.cob_program.specs.Act.{stmts_of}
-use Rattle.cob_program.specs.ActView.{plain_stmt, plain_when}
+use Rattle.cob_program.specs.ActView.{plain_stmts, plain_when}
 use Rattle.cob_typed.specs.Lists.{found_behind}
 use Rattle.cob_typed.specs.Statements.{typed_stmts, typed_whens}
 use Rattle.cob_typed.specs.Typing.{joined}
@@ -9,7 +8,7 @@ use Rattle.cob_typed.proofs.statements.+lists.Given as goal
 
 abbrev pub invariant-add_stmts-loop-statement : goal.invariant-add_stmts-loop-statement
 invariant-add_stmts-loop-statement l = record {
-  value : joined (stmts_of (map plain_stmt l.typed.items)) (typed_stmts l.scope l.next (stmts_from l.list l.statement-index)).value ≡ joined (stmts_of (map plain_stmt l.initial.typed.items)) (typed_stmts l.scope l.initial.next (stmts_from l.list 0)).value;
+  value : joined (plain_stmts l.typed.items) (typed_stmts l.scope l.next (stmts_from l.list l.statement-index)).value ≡ joined (plain_stmts l.initial.typed.items) (typed_stmts l.scope l.initial.next (stmts_from l.list 0)).value;
   next : (typed_stmts l.scope l.next (stmts_from l.list l.statement-index)).next ≡ (typed_stmts l.scope l.initial.next (stmts_from l.list 0)).next;
   found : found_behind l.findings.items (typed_stmts l.scope l.next (stmts_from l.list l.statement-index)).found ≡ found_behind l.initial.findings.items (typed_stmts l.scope l.initial.next (stmts_from l.list 0)).found;
 }

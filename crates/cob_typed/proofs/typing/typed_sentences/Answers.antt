@@ -1,8 +1,7 @@
 use Rattle.std.proofs.Common.{◌∙◌, ◌+◌, sym, ap, map, drop}
 use Rattle.std.proofs.lemmas.List.{drop_all}
 use Rattle.cob_tree.specs.StmtView.{plain_sentence}
-use Rattle.cob_program.specs.Act.{stmts_of}
-use Rattle.cob_program.specs.ActView.{plain_stmt}
+use Rattle.cob_program.specs.ActView.{plain_stmts}
 use Rattle.cob_typed.specs.Lists.{found_behind}
 use Rattle.cob_typed.specs.Typing.{joined, typed_sentences}
 use Rattle.cob_typed_exprs.proofs.Loops.{item_step}
@@ -15,8 +14,8 @@ loop-sentence-preserved c =
     let l = c.loop-sentence in
     let i = l.sentence-index in
     let x = c.sentence-item.result in
-    let old = stmts_of (map plain_stmt l.typed.items) in
-    let new = stmts_of (map plain_stmt c.add_sentence.new.typed.items) in
+    let old = plain_stmts l.typed.items in
+    let new = plain_stmts c.add_sentence.new.typed.items in
     let told = c.in_ok-add_sentence.ensures in
     let here = ap (map plain_sentence) (item_step c.args.sentences.now i x c.loop-sentence-test.true c.sentence-item.is) in
     let rest = map plain_sentence (drop (i + 1) c.args.sentences.now) in record {
@@ -29,7 +28,7 @@ loop-sentence-preserved c =
 pub returns-clause-value : goal.returns-clause-value
 returns-clause-value c =
     let l = c.loop-sentence in
-    let old = stmts_of (map plain_stmt l.typed.items) in
+    let old = plain_stmts l.typed.items in
     sym (ap (λ ys. joined old (typed_sentences c.args.scope.now l.next (map plain_sentence ys)).value) (drop_all l.sentence-index c.args.sentences.now c.loop-sentence-test.false) ∙ joined_none old) ∙ l.invariant.value
 
 pub returns-clause-next : goal.returns-clause-next
