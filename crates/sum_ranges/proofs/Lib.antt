@@ -1,0 +1,11 @@
+pub mod Exact
+pub mod Operations
+pub mod Least
+pub mod Sound
+pub mod Narrow
+pub mod Bounded
+pub mod Vanish
+pub mod Working
+pub mod Numerals
+pub mod Loops
+pub mod Rooms
