@@ -9,3 +9,4 @@ pub mod WordByWord
 pub mod MatrixLattice
 pub mod Monotone
 pub mod NoBounds
+pub mod Closures

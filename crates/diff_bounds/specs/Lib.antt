@@ -5,3 +5,4 @@ pub mod Sums
 pub mod Order
 pub mod Widening
 pub mod Lattice
+pub mod Closed

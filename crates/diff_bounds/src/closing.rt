@@ -1,7 +1,8 @@
 //! The closing of a matrix: least sums over all paths.
-ghost use Rattle.std.specs.Prelude.{◌≡◌, ◌≢◌, ℕ, ◌+◌, ◌*◌, ◌<◌, ◌≤◌, ◌↔◌, length, pos, false, IsTrue, slice_index_or, ℤ, Option};
+ghost use Rattle.std.specs.Prelude.{◌≡◌, ◌≢◌, ℕ, ◌+◌, ◌*◌, ◌<◌, ◌≤◌, ◌↔◌, length, pos, false, IsTrue, slice_index_or, if◌then◌else◌, ℤ, Option, Some, None};
 ghost use Rattle.diff_bounds.specs.Matrix.{word, IsMatrix, IsWord};
 ghost use Rattle.diff_bounds.specs.Paths.{cut_of, HasNoNegativeCycle, IsClosure};
+ghost use Rattle.diff_bounds.specs.Closed.{closed};
 ghost use Rattle.diff_bounds.specs.Storages.{StandsIn};
 ghost use Rattle.diff_bounds.specs.Sums.{IsShort, IsSumOf, IsLesser, IsThrough, IsTight, IsNegativeTrip, NegativeCycle};
 
@@ -132,6 +133,7 @@ pub fn close(size: usize, m: &mut [i128]) -> bool
     ensures cycles { IsTrue result ↔ HasNoNegativeCycle (size + 1) (word (size + 1) m.old) }
     ensures sums { IsTrue result → IsClosure (size + 1) (word (size + 1) m.old) (word (size + 1) m.new) }
     ensures matrix { IsTrue result → IsMatrix size m.new }
+    ensures closed { closed size m.old ≡ (if result then Some m.new else None) }
     ensures meaning { IsTrue result → (cells : ℕ → Option ℤ) → StandsIn (size + 1) (word (size + 1) m.old) cells ↔ StandsIn (size + 1) (word (size + 1) m.new) cells }
     ensures empty { result ≡ false → (cells : ℕ → Option ℤ) → ¬ StandsIn (size + 1) (word (size + 1) m.old) cells }
 {

@@ -7,6 +7,7 @@ ghost use Rattle.diff_bounds.specs.Storages.{StandsIn};
 ghost use Rattle.diff_bounds.specs.Order.{IsAtMost};
 ghost use Rattle.diff_bounds.specs.Widening.{AreThresholds};
 ghost use Rattle.diff_bounds.specs.Lattice.{matrices};
+ghost use Rattle.diff_bounds.specs.Closed.{closed, IsClosedOrNone};
 
 /// The matrices for a pack of `size` cells are a lattice with a widening: `leq` is its order, and `join` and
 /// `widen` make its joins and its widened rows.
@@ -41,6 +42,19 @@ pub fn closed_words_are_least_sums(size: usize)
     ensures apart { (a c : List ℤ) → IsMatrix size c → IsClosure (size + 1) (word (size + 1) a) (word (size + 1) c)
         → (i j : ℕ) → i ≤ size → j ≤ size → ((p : List ℕ) → ¬ IsPath (size + 1) (word (size + 1) a) i p j)
         → word (size + 1) c i j ≡ none }
+{}
+
+/// The closing of a matrix is its closure, and nothing exactly where a cycle is negative.
+pub fn closing_is_the_closure(size: usize)
+    requires { size ≤ 8 }
+    ensures { (m : List ℤ) → IsMatrix size m → IsClosedOrNone size m (closed size m) }
+{}
+
+/// A matrix has one closure.
+pub fn closures_are_one(size: usize)
+    ensures { (m c d : List ℤ) → IsMatrix size c → IsMatrix size d
+        → IsClosure (size + 1) (word (size + 1) m) (word (size + 1) c)
+        → IsClosure (size + 1) (word (size + 1) m) (word (size + 1) d) → c ≡ d }
 {}
 
 /// What stands in a matrix stands in each higher one.

@@ -15,8 +15,8 @@ mod words;
 pub use closing::close;
 pub use lattice::{add_bound, join, leq, widen};
 pub use laws::{
-    close_is_monotone, closed_words_are_least_sums, growth_is_bounded, matrices_are_a_lattice,
-    stands_above,
+    close_is_monotone, closed_words_are_least_sums, closing_is_the_closure, closures_are_one,
+    growth_is_bounded, matrices_are_a_lattice, stands_above,
 };
 
 #[cfg(test)]

@@ -3,8 +3,8 @@ ghost use Rattle.diff_bounds.specs.Matrix.{IsMatrix};
 
 use super::words::{LARGEST, NONE, place_of};
 use super::{
-    Pack, add_bound, close, close_is_monotone, closed_words_are_least_sums, growth_is_bounded,
-    join, leq, matrices_are_a_lattice, stands_above, widen,
+    Pack, add_bound, close, close_is_monotone, closed_words_are_least_sums, closing_is_the_closure,
+    closures_are_one, growth_is_bounded, join, leq, matrices_are_a_lattice, stands_above, widen,
 };
 use std::process::Abort;
 
@@ -145,6 +145,8 @@ fn states_laws(rt: HostRuntime) {
     growth_is_bounded(3, &THRESHOLDS);
     close_is_monotone(3);
     closed_words_are_least_sums(3);
+    closing_is_the_closure(3);
+    closures_are_one(3);
     stands_above(3);
     assert_eq!(rt;
         Pack {

@@ -2,6 +2,7 @@ use Rattle.std.proofs.Common.{◌+◌, refl, arith}
 use Rattle.diff_bounds.specs.Matrix.{word}
 use Rattle.diff_bounds.proofs.Steps.{no_cycle, closure_of}
 use Rattle.diff_bounds.proofs.Ends.{words_of, cut_words, cut_matrix}
+use Rattle.diff_bounds.proofs.Closures.{closed_to, closed_nowhere}
 use Rattle.diff_bounds.proofs.Standing.{stands_after, stands_before, none_stands}
 use Rattle.diff_bounds.proofs.closing.close.Goals as goal
 
@@ -34,3 +35,16 @@ pub returns-then-not-least_sums-clause-empty : goal.returns-then-not-least_sums-
 returns-then-not-least_sums-clause-empty c e cells =
     let n = c.args.size + 1 in
     none_stands n (word n c.args.m.now) cells c.requires.m.diagonal (c.if-not-least_sums.ensures.negative refl)
+
+pub returns-clause-closed : goal.returns-clause-closed
+returns-clause-closed c =
+    let n = c.args.size + 1 in
+    closed_to c.args.size c.args.m.now c.cut_sums.new.m c.requires.size c.requires.m (record {
+      matrix = cut_matrix c.args.size c.args.m.now c.least_sums.new.m c.cut_sums.new.m (omega (arith, c.requires.m.width)) (record { width = omega arith; cuts = c.cut_sums.ensures }) (c.if-not-least_sums.ensures.least refl);
+      tame = no_cycle n (word n c.args.m.now) (word n c.least_sums.new.m) (words_of c.args.size c.args.m.now c.requires.m) (c.if-not-least_sums.ensures.least refl);
+      closure = closure_of n (word n c.args.m.now) (word n c.least_sums.new.m) (word n c.cut_sums.new.m) (words_of c.args.size c.args.m.now c.requires.m) (c.if-not-least_sums.ensures.least refl)
+          (cut_words n c.least_sums.new.m c.cut_sums.new.m (omega (arith, c.requires.m.width)) (record { width = omega arith; cuts = c.cut_sums.ensures }));
+    })
+
+pub returns-then-not-least_sums-clause-closed : goal.returns-then-not-least_sums-clause-closed
+returns-then-not-least_sums-clause-closed c e = closed_nowhere c.args.size c.args.m.now c.requires.size c.requires.m (c.if-not-least_sums.ensures.negative refl)
