@@ -1,0 +1,22 @@
+//! Rows of words: whether a node is reached, and what is known of each cell there. They are the lattice
+//! of the first layer of an analysis, with a widening by thresholds (Cousot and Cousot 1977).
+//!
+//! A row begins with 1 where the node is reached, and has two words for each cell: the ends of the interval
+//! that its number lies in, or 1 and 0 where nothing is known of it. Where no run comes all words are 0.
+//! No call takes memory.
+#![tactic(auto)]
+
+mod joining;
+mod laws;
+mod order;
+mod widening;
+mod words;
+
+pub use joining::join;
+pub use laws::rows_are_a_lattice;
+pub use order::leq;
+pub use widening::widen;
+pub use words::{is_reached, known_at, set_known, set_unreached};
+
+#[cfg(test)]
+mod tests;
