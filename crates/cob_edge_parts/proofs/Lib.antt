@@ -1,15 +1,15 @@
-mod Examples
-mod PartExamples
+pub mod Examples
+pub mod PartExamples
 pub mod Frames
 pub mod Chains
-mod Passing
-mod Booleans
-mod Divisors
-mod Moving
-mod Arithmetic
-mod Testing
-mod Filing
-mod PlainEdges
-mod Counting
-mod EachEdge
+pub mod Passing
+pub mod Booleans
+pub mod Divisors
+pub mod Moving
+pub mod Arithmetic
+pub mod Testing
+pub mod Filing
+pub mod PlainEdges
+pub mod Counting
+pub mod EachEdge
 pub mod AllEdges

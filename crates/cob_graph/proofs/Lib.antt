@@ -1,10 +1,10 @@
 pub mod Examples
-mod ListingLemmas
-mod ReachLemmas
-mod LeastLemmas
-mod BoolLemmas
-mod NestLemmas
-mod FirstLemmas
-mod CoverLemmas
+pub mod ListingLemmas
+pub mod ReachLemmas
+pub mod LeastLemmas
+pub mod BoolLemmas
+pub mod NestLemmas
+pub mod FirstLemmas
+pub mod CoverLemmas
 pub mod Lengths
 pub mod OneCopy

@@ -1,25 +1,25 @@
 pub mod InGraphs
-mod Fronts
-mod Relation
-mod Settling
-mod Ways
-mod Conditions
-mod SizeErrors
-mod Statements
-mod Choosing
-mod Loops
-mod Beginnings
-mod FileCalls
-mod ReadSteps
-mod EachAct
+pub mod Fronts
+pub mod Relation
+pub mod Settling
+pub mod Ways
+pub mod Conditions
+pub mod SizeErrors
+pub mod Statements
+pub mod Choosing
+pub mod Loops
+pub mod Beginnings
+pub mod FileCalls
+pub mod ReadSteps
+pub mod EachAct
 pub mod Simulated
-mod Examples
-mod Apart
-mod Forks
-mod Edges
-mod Spots
-mod Endings
+pub mod Examples
+pub mod Apart
+pub mod Forks
+pub mod Edges
+pub mod Spots
+pub mod Endings
 pub mod Told
-mod KeptCalls
-mod KeptEdges
+pub mod KeptCalls
+pub mod KeptEdges
 pub mod Kept

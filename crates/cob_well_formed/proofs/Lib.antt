@@ -1,26 +1,26 @@
-mod Cutting
-mod Reading
-mod Rewriting
-mod ShortTokens
-mod ShortValues
-mod Pairs
-mod Forms
-mod Areas
-mod Flags
-mod Layouts
-mod Examples
-mod Keeping
-mod Amounts
-mod Receivers
-mod Decisions
-mod Senders
-mod Choices
-mod Actions
-mod Statements
-mod Numbers
-mod Conditions
-mod Files
-mod Typed
-mod Tokens
-mod Running
-mod Ways
+pub mod Cutting
+pub mod Reading
+pub mod Rewriting
+pub mod ShortTokens
+pub mod ShortValues
+pub mod Pairs
+pub mod Forms
+pub mod Areas
+pub mod Flags
+pub mod Layouts
+pub mod Examples
+pub mod Keeping
+pub mod Amounts
+pub mod Receivers
+pub mod Decisions
+pub mod Senders
+pub mod Choices
+pub mod Actions
+pub mod Statements
+pub mod Numbers
+pub mod Conditions
+pub mod Files
+pub mod Typed
+pub mod Tokens
+pub mod Running
+pub mod Ways
