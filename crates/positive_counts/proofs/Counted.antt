@@ -1,8 +1,8 @@
 -- Along each way the counter of a loop in which the way stands is above 0.
-use Rattle.std.proofs.Common.{◌≡◌, ◌≤◌, ◌⊎◌, inl, inr, ℕ, zero, suc, ◌-◌, true, false, List, [], ◌∷◌, Option, Some, None, Ok, ℤ, pos, refl, sym, ap, subst, ◌∙◌, arith}
+use Rattle.std.proofs.Common.{◌≡◌, ◌≤◌, ◌⊎◌, inl, inr, ℕ, zero, suc, ◌-◌, true, false, List, [], ◌∷◌, Option, Some, None, Ok, ℤ, pos, sym, ap, subst, ◌∙◌, arith}
 use Rattle.std.specs.Prelude.{slice_get}
 use Rattle.std.specs.Option.{option_map_or}
-use Rattle.std.proofs.lemmas.Bool.{false≢true, cases_order}
+use Rattle.std.proofs.lemmas.Bool.{false≢true}
 use Rattle.std.proofs.lemmas.Option.{none-some}
 use Rattle.cob_program.specs.Act.{times, perform, Program}
 use Rattle.cob_runs.specs.declared.action.Action.{Action}
@@ -15,7 +15,6 @@ use Rattle.cob_graph.specs.declared.graph.Graph.{Graph}
 use Rattle.cob_graph.specs.Graphs.{IsGraph}
 use Rattle.cob_graph.specs.WellFormed.{IsWellFormed}
 use Rattle.cob_graph_laws.specs.Ways.{Comes, at_first, onward, passed}
-use Rattle.cob_edge_parts.specs.Meaning.{count_in}
 use Rattle.cob_edge_parts.specs.Edges.{StandsForCount, StandFor}
 use Rattle.positive_counts.specs.Counts.{NumbersArePositive, IsPositiveIn, CountsArePositive, CountersArePositive}
 use Rattle.positive_counts.proofs.Entering.{Setting, Counts, Keeps, IsOwn, IsFine}
@@ -31,7 +30,8 @@ module _ (s : Setting) (numbers : NumbersArePositive s.p) (some : 1 ≤ s.loop) 
   kept : v.counts ≡ w.counts → Keeps s n m → Stands n w → Stands m v
   kept e k h here = subst (λ (l : List (Option ℤ)). IsPositiveIn l s.loop) (sym e) (h (k here))
 
-  apart : (x : Action) → effect s.p number c w x ≡ Ok (Some v) → (IsOwn s number → ⊥) → number - 1 ≡ s.loop - 1 → ⊥
+  apart : (x : Action) → effect s.p number c w x ≡ Ok (Some v) → (IsOwn s number → ⊥) → number - 1 ≡ s.loop - 1 →
+      ⊥
   apart x e other same =
       let a = does_act s.p number c w v x e in
       let l = numbers number a.0 a.1 in
@@ -50,7 +50,7 @@ module _ (s : Setting) (numbers : NumbersArePositive s.p) (some : 1 ≤ s.loop) 
 
   test_on : (i : ℕ) → effect s.p number c w (action.True i) ≡ Ok (Some v) →
       Keeps s n m ⊎ (IsOwn s number × Counts s) → Stands n w → Stands m v
-  test_on i e (inl k) h = kept (plain_kept s.p number c w v (action.True i) tt e) k h
+  test_on i e (inl k) h here = kept (plain_kept s.p number c w v (action.True i) tt e) k h here
   test_on i e (inr own) h here =
       subst (λ (j : ℕ). IsPositiveIn v.counts j) own.0
       (test_held s.p number c w v i own.1.body own.1.sender (ap (act_at s.p) own.0 ∙ own.1.is) e)

@@ -1,5 +1,5 @@
 -- What edges do to counters: one that counts sets its own, others leave them all.
-use Rattle.std.proofs.Common.{◌≡◌, ◌≤◌, ℕ, zero, suc, ◌-◌, Bool, true, false, List, [], ◌∷◌, Option, Some, None, Result, Ok, Err, ℤ, pos, negsuc, refl, sym, ap, subst, ◌∙◌, arith}
+use Rattle.std.proofs.Common.{◌≡◌, ℕ, zero, suc, ◌-◌, Bool, true, false, List, [], ◌∷◌, Option, Some, None, Result, Ok, Err, ℤ, pos, negsuc, refl, sym, ap, subst, ◌∙◌}
 use Rattle.std.specs.Prelude.{if◌then◌else◌, not, slice_get, slice_set, ◌-ℤ◌}
 use Rattle.std.specs.Option.{option_map_or}
 use Rattle.std.proofs.lemmas.Bool.{false≢true}
@@ -15,10 +15,10 @@ use Rattle.cob_runs.specs.Faults.{◌>>=◌, or_fault}
 use Rattle.cob_runs.specs.Files.{Choice}
 use Rattle.cob_runs.specs.Moves.{number_of}
 use Rattle.cob_runs.specs.State.{World}
-use Rattle.cob_runs.specs.Acts.{with_count, set_count}
+use Rattle.cob_runs.specs.Acts.{with_count}
 use Rattle.cob_runs.specs.Steps.{is_left}
 use Rattle.cob_runs.specs.Effects.{Effect, taken, taken_if, not_taken, met, decided, tested, counted, tests_in_act, effect_of, effect, act_at}
-use Rattle.cob_edge_parts.specs.Parts.{Part, assign_parts, call_parts, read_parts, bad_parts, test_parts, compute_parts}
+use Rattle.cob_edge_parts.specs.Parts.{Part, assign_parts, call_parts, read_parts, bad_parts, test_parts}
 use Rattle.cob_edge_parts.specs.Meaning.{count_in}
 use Rattle.cob_edge_parts.proofs.PlainEdges.{test_edge}
 use Rattle.cob_edge_parts.proofs.EachEdge.{Does, stays, assign_edge, call_edge, read_edge, bad_edge, computed_passed, show_edge}
@@ -35,7 +35,8 @@ is_taken true u v e = (refl, cc)
 is_taken false u v e = absurd (cc)
 
 -- another place of a list
-other_place : {A : Type 0} (xs : List A) (i j : ℕ) (x : A) → (i ≡ j → ⊥) → slice_get (slice_set xs i x) j ≡ slice_get xs j
+other_place : {A : Type 0} (xs : List A) (i j : ℕ) (x : A) → (i ≡ j → ⊥) →
+    slice_get (slice_set xs i x) j ≡ slice_get xs j
 other_place [] i j x apart = refl
 other_place (y ∷ ys) zero zero x apart = absurd (apart refl)
 other_place (y ∷ ys) zero (suc j) x apart = refl
@@ -58,9 +59,8 @@ module _ (p : Program) (number : ℕ) (c : Choice) (w v : World) where
   tested_counts : (wanted : Bool) (k : ℕ) (a : Act) → tested p number c w wanted k a ≡ Ok (Some v) →
       v.counts ≡ w.counts
   tested_counts wanted k (perform body (times x)) e =
-      sym (ap (λ (u : World). u.counts)
-      (is_taken (if wanted then is_left p c (count_in w.counts number) else not (is_left p c (count_in w.counts number)))
-      w v e).1)
+      let left = is_left p c (count_in w.counts number) in
+      sym (ap (λ (u : World). u.counts) (is_taken (if wanted then left else not left) w v e).1)
   tested_counts wanted k a e = decided_counts wanted (slice_get (tests_in_act a) k) e
 
   plain_counts : (x : Action) (a : Act) → IsPlain x → effect_of p number c w x a ≡ Ok (Some v) → v.counts ≡ w.counts
@@ -72,12 +72,18 @@ module _ (p : Program) (number : ℕ) (c : Choice) (w v : World) where
   plain_counts (action.False k) a i e = tested_counts false k a e
   plain_counts action.SetCount a i e = absurd i
   plain_counts action.Down a i e = absurd i
-  plain_counts (action.Open k) a i e = as_done (call_parts p number true k a) _ (call_edge p number c w w.counts true k a) e
-  plain_counts (action.Close k) a i e = as_done (call_parts p number true k a) _ (call_edge p number c w w.counts true k a) e
-  plain_counts action.Take a i e = as_done (read_parts p number a) _ (read_edge p number c w w.counts 0 a) e
-  plain_counts action.AtEnd a i e = as_done (read_parts p number a) _ (read_edge p number c w w.counts 10 a) e
-  plain_counts (action.Bad k) a i e = as_done (bad_parts p number k a) _ (bad_edge p number c w w.counts k a) e
-  plain_counts action.Write a i e = as_done (call_parts p number true 0 a) _ (call_edge p number c w w.counts true 0 a) e
+  plain_counts (action.Open k) a i e =
+      as_done (call_parts p number true k a) _ (call_edge p number c w w.counts true k a) e
+  plain_counts (action.Close k) a i e =
+      as_done (call_parts p number true k a) _ (call_edge p number c w w.counts true k a) e
+  plain_counts action.Take a i e =
+      as_done (read_parts p number a) _ (read_edge p number c w w.counts 0 a) e
+  plain_counts action.AtEnd a i e =
+      as_done (read_parts p number a) _ (read_edge p number c w w.counts 10 a) e
+  plain_counts (action.Bad k) a i e =
+      as_done (bad_parts p number k a) _ (bad_edge p number c w w.counts k a) e
+  plain_counts action.Write a i e =
+      as_done (call_parts p number true 0 a) _ (call_edge p number c w w.counts true 0 a) e
   plain_counts action.Show a i e = as_done [] _ (show_edge p number c w w.counts a) e
 
   -- ---- the statement with the number
@@ -98,7 +104,7 @@ module _ (p : Program) (number : ℕ) (c : Choice) (w v : World) where
   -- ---- counters that are set
 
   -- a counter alone is new
-  pub SetsOwn : Type 0
+  abbrev pub SetsOwn : Type 0
   SetsOwn = (loop : ℕ) → (number - 1 ≡ loop - 1 → ⊥) → count_in v.counts loop ≡ count_in w.counts loop
 
   own_set : (n : ℤ) → with_count p.layout number n w ≡ v → SetsOwn
@@ -107,7 +113,8 @@ module _ (p : Program) (number : ℕ) (c : Choice) (w v : World) where
       ∙ ap (λ (o : Option (Option ℤ)). option_map_or (λ c. c) o None)
       (other_place w.counts (number - 1) (loop - 1) (Some n) apart)
 
-  set_by : (r : Result Scaled Kind) → met (r >>= λ n. Ok (with_count p.layout number n.units w)) ≡ Ok (Some v) → SetsOwn
+  set_by : (r : Result Scaled Kind) → met (r >>= λ n. Ok (with_count p.layout number n.units w)) ≡ Ok (Some v) →
+      SetsOwn
   set_by (Ok n) e = own_set n.units (cc)
   set_by (Err kind) e = absurd (cc)
 

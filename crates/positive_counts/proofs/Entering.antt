@@ -1,5 +1,5 @@
 -- An edge that enters a loop is that of its test, and its counter is set and counted down by edges that leave it.
-use Rattle.std.proofs.Common.{◌≡◌, ◌<◌, ◌≤◌, ◌⊎◌, inl, inr, ℕ, zero, suc, ◌+◌, ◌-◌, Bool, true, false, List, [], ◌∷◌, ◌++◌, length, Some, refl, sym, ap, subst, ◌∙◌, arith}
+use Rattle.std.proofs.Common.{◌≡◌, ◌<◌, ◌≤◌, ◌⊎◌, inl, ℕ, ◌+◌, Bool, true, false, List, [], ◌∷◌, ◌++◌, length, Some, refl, sym, subst, ◌∙◌, arith}
 use Rattle.std.specs.Prelude.{if◌then◌else◌}
 use Rattle.cob_data.specs.declared.layout.Sender.{Sender}
 use Rattle.cob_program.specs.declared.act.Opening.{Opening}
@@ -189,9 +189,10 @@ module _ (s : Setting) where
         let is = first_alike s.inside b at (how_many (o ∷ os)) (omega arith) h in
         let rest = alike_back s.inside b at (how_many (o ∷ os)) 1 (how_many os) (omega arith) h in
         let to = behind c number os at next in
-        let on = behind_below os at next rest n in
-        ((keeps at to b is on, (keeps at (bad_to c number o.file to) b is (bad_below o.file to on), tt)),
-        open_fine false os (k + 1) (at + 1) next rest n)
+        let on = behind_below os at next rest n in (
+          (keeps at to b is on, (keeps at (bad_to c number o.file to) b is (bad_below o.file to on), tt)),
+          open_fine false os (k + 1) (at + 1) next rest n,
+        )
 
     pub close_fine : (starts : Bool) (fs : List ℕ) (k at next : ℕ) → Alike s.inside b at (how_many fs) →
         Below b next → AllFine at (close_nodes c number starts fs k at next)
@@ -200,9 +201,10 @@ module _ (s : Setting) where
         let is = first_alike s.inside b at (how_many (f ∷ fs)) (omega arith) h in
         let rest = alike_back s.inside b at (how_many (f ∷ fs)) 1 (how_many fs) (omega arith) h in
         let to = behind c number fs at next in
-        let on = behind_below fs at next rest n in
-        ((keeps at to b is on, (keeps at (bad_to c number f to) b is (bad_below f to on), tt)),
-        close_fine false fs (k + 1) (at + 1) next rest n)
+        let on = behind_below fs at next rest n in (
+          (keeps at to b is on, (keeps at (bad_to c number f to) b is (bad_below f to on), tt)),
+          close_fine false fs (k + 1) (at + 1) next rest n,
+        )
 
     pub read_fine : (file : ℕ) (into : Bool) (at end fine next : ℕ) → Alike s.inside b at (1 + one_if into) →
         Below b end → Below b fine → Below b next → AllFine at (read_nodes c number file into at end fine next)
@@ -213,9 +215,10 @@ module _ (s : Setting) where
     read_fine file true at end fine next h e f n =
         let is = first_alike s.inside b at (1 + one_if true) (omega arith) h in
         let move_is : s.inside (at + 1) ≡ b = h 1 (omega arith) in
-        let bad = keeps at (bad_to c number file next) b is (bad_below file next n) in
-        ((keeps at (at + 1) b is (at_node (at + 1) b move_is), (keeps at end b is e, (bad, tt))),
-        ((keeps (at + 1) fine b move_is f, tt), tt))
+        let bad = keeps at (bad_to c number file next) b is (bad_below file next n) in (
+          (keeps at (at + 1) b is (at_node (at + 1) b move_is), (keeps at end b is e, (bad, tt))),
+          ((keeps (at + 1) fine b move_is f, tt), tt),
+        )
 
     pub write_fine : (file : ℕ) (from : Bool) (at next : ℕ) → Alike s.inside b at (1 + one_if from) → Below b next →
         AllFine at (write_nodes c number file from at next)
@@ -225,6 +228,7 @@ module _ (s : Setting) where
     write_fine file true at next h n =
         let is = first_alike s.inside b at (1 + one_if true) (omega arith) h in
         let call_is : s.inside (at + 1) ≡ b = h 1 (omega arith) in
-        let bad = keeps (at + 1) (bad_to c number file next) b call_is (bad_below file next n) in
-        ((keeps at (at + 1) b is (at_node (at + 1) b call_is), tt),
-        ((keeps (at + 1) next b call_is n, (bad, tt)), tt))
+        let bad = keeps (at + 1) (bad_to c number file next) b call_is (bad_below file next n) in (
+          (keeps at (at + 1) b is (at_node (at + 1) b call_is), tt),
+          ((keeps (at + 1) next b call_is n, (bad, tt)), tt),
+        )

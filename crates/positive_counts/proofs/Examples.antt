@@ -1,15 +1,13 @@
 -- Counters of small programs, worked out: which nodes stand in a loop, and what its counter is.
-use Rattle.std.specs.Prelude.{◌≡◌, ◌≤◌, ℕ, zero, suc, Bool, true, false, List, [], ◌∷◌, map, Option, Some, None, ℤ, pos}
+use Rattle.std.specs.Prelude.{◌≡◌, ℕ, zero, suc, true, false, List, [], ◌∷◌, map, Option, Some, None, ℤ, pos}
 use Rattle.std.proofs.Common.{refl, arith as plain}
-use Rattle.cob_data.specs.declared.layout.Sender.{Sender}
 use Rattle.cob_data.specs.declared.layout.Sender.TheVariants as sender
-use Rattle.cob_program.specs.Act.{Turns, once, times, Act, no_stmts, perform, go, stop, range, inline, Program}
+use Rattle.cob_program.specs.Act.{Turns, once, times, no_stmts, perform, go, stop, range, inline, Program}
 use Rattle.cob_meaning.specs.declared.straight.Outcome.TheVariants.{Ended}
 use Rattle.cob_runs.specs.Files.{Choice}
-use Rattle.cob_runs.specs.State.{World, State}
-use Rattle.cob_runs.specs.Effects.{act_at}
+use Rattle.cob_runs.specs.State.{World}
 use Rattle.cob_runs.specs.Runs.{Contents, run}
-use Rattle.cob_graph.specs.Laid.{MkLaid, no_laid, more_laid, showing, going, ending, performing, own_list, copy, LaidBody, LaidParas, no_laid_paras, more_laid_paras}
+use Rattle.cob_graph.specs.Laid.{MkLaid, no_laid, more_laid, showing, going, ending, performing, own_list, copy, LaidParas, no_laid_paras, more_laid_paras}
 use Rattle.cob_graph.specs.WellFormed.{IsWellFormed}
 use Rattle.cob_graph.proofs.Examples.{numeral, stmt1, say, para, unnamed, of_paras, twice, laid_twice, twice_is_laid, with_copies, is_graph}
 use Rattle.cob_edge_parts.specs.Meaning.{count_in}

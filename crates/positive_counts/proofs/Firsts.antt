@@ -1,20 +1,19 @@
 -- The first node of what is laid stands in the loop only where what is laid does.
-use Rattle.std.proofs.Common.{◌≡◌, ◌≤◌, ◌<◌, ℕ, zero, suc, ◌+◌, ◌-◌, Bool, true, List, [], ◌∷◌, length, Some, refl, sym, ap, subst, ◌∙◌, arith}
-use Rattle.cob_program.specs.declared.act.Opening.{Opening}
-use Rattle.cob_program.specs.Logic.{Logic, all_of, any_of, not_, test, Logics, no_logics, more_logics, logics_of}
-use Rattle.cob_program.specs.Act.{Turns, once, times, until, varying, MkStmt, Stmts, no_stmts, more_stmts, Phrase, left_out, given, Act, move, arith as arithmetic, if_, evaluate, perform, go, nothing, stop, open_files, close_files, read, write, show, Whens, no_whens, more_whens, MkWhen, Body, range, inline}
+use Rattle.std.proofs.Common.{◌≡◌, ◌≤◌, ℕ, zero, suc, ◌+◌, ◌-◌, Bool, true, false, List, [], ◌∷◌, length, refl, sym, ap, subst, ◌∙◌, arith}
+use Rattle.cob_program.specs.Logic.{Logic, all_of, any_of, not_, test, Logics, no_logics, more_logics}
+use Rattle.cob_program.specs.Act.{Turns, once, times, until, varying, MkStmt, Stmts, no_stmts, more_stmts, Act, move, arith as arithmetic, if_, evaluate, perform, go, nothing, stop, open_files, close_files, read, write, show, Body, range, inline}
 use Rattle.cob_runs.specs.Steps.{body_at}
-use Rattle.cob_graph.specs.Laid.{MkLaid, LaidList, no_laid, more_laid, LaidPhrase, no_phrase, a_phrase, LaidAct, moving, showing, skipping, going, ending, opening, closing, writing, computing, deciding, choosing, performing, reading, LaidWhens, no_laid_whens, more_laid_whens, LaidBody, own_list, copy, LaidParas, no_laid_paras, more_laid_paras, tests_in, tests_among, one_if, how_many, loop_nodes, list_size, phrase_size, act_size, whens_size, body_size, paras_size}
-use Rattle.cob_graph.specs.Places.{first_of_list, first_of_paras, first_of_para, first_of_body, first_of_whens}
-use Rattle.cob_graph.specs.Copies.{AreLaid, IsLaidPhrase, IsLaidAct, AreLaidWhens, IsLaidBody, AreLaidParas, file_of}
-use Rattle.cob_graph.specs.WellFormed.{Begins, FirstBegins, AreWellFormed, IsWellFormedPhrase, IsWellFormedAct, AreWellFormedWhens, IsWellFormedBody, IsWellFormed}
+use Rattle.cob_graph.specs.Laid.{MkLaid, LaidList, no_laid, more_laid, LaidPhrase, LaidAct, moving, showing, skipping, going, ending, opening, closing, writing, computing, deciding, choosing, performing, reading, LaidWhens, LaidBody, own_list, copy, LaidParas, no_laid_paras, more_laid_paras, tests_in, tests_among, one_if, how_many, loop_nodes, list_size, phrase_size, act_size, whens_size, body_size, paras_size}
+use Rattle.cob_graph.specs.Places.{first_of_list, first_of_paras, first_of_para, first_of_body}
+use Rattle.cob_graph.specs.Copies.{AreLaid, IsLaidAct, IsLaidBody, AreLaidParas, file_of}
+use Rattle.cob_graph.specs.WellFormed.{Begins, FirstBegins, AreWellFormed, IsWellFormedAct, IsWellFormedBody, IsWellFormed}
 use Rattle.cob_graph_laws.proofs.Settling.{whole_in}
 use Rattle.std.specs.Prelude.{is_some}
 use Rattle.positive_counts.proofs.Inside.{parted, parted_low, nodes_before, in_turns, in_list, in_phrase, in_act, in_whens, in_body, in_paras, Follows, first_place, low, high}
-use Rattle.positive_counts.proofs.Entering.{Setting, Below, at_node, first_any}
+use Rattle.positive_counts.proofs.Entering.{Setting, Below, at_node}
 
 mutual
-  some_tests : (t : Logic) → Begins t → 1 ≤ tests_in t
+  pub some_tests : (t : Logic) → Begins t → 1 ≤ tests_in t
   some_tests (all_of ls) h = tests_first ls h
   some_tests (any_of ls) h = tests_first ls h
   some_tests (not_ x) h = some_tests x h

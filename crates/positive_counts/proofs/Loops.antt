@@ -1,5 +1,5 @@
 -- The nodes of a PERFORM beside those of its body.
-use Rattle.std.proofs.Common.{◌≡◌, ◌≤◌, ◌<◌, inl, inr, ℕ, ◌+◌, ◌==◌, ◌||◌, ◌⊎◌, Bool, true, false, List, [], ◌∷◌, length, Option, Some, refl, sym, ap, subst, ◌∙◌, arith}
+use Rattle.std.proofs.Common.{◌≡◌, ◌≤◌, ◌<◌, inl, inr, ℕ, ◌+◌, ◌==◌, ◌||◌, ◌⊎◌, Bool, true, false, [], ◌∷◌, length, Option, Some, refl, sym, ap, subst, ◌∙◌, arith}
 use Rattle.std.proofs.Math.Bool.{or-false}
 use Rattle.std.proofs.lemmas.Bool.{or_cases, eqb-true, eq-eqb}
 use Rattle.cob_data.specs.declared.layout.Sender.{Sender}
@@ -14,10 +14,10 @@ use Rattle.cob_graph.specs.WellFormed.{IsWellFormedTurns, IsWellFormedBody, IsWe
 use Rattle.cob_graph.proofs.Lengths.{length-logic}
 use Rattle.positive_counts.proofs.Inside.{nodes_before, in_turns, in_body, Follows, low, high, Alike, first_alike, alike_front, alike_back, parted}
 use Rattle.positive_counts.proofs.Sizes.{same_act}
-use Rattle.positive_counts.proofs.Entering.{Setting, Counts, Below, IsOwn, IsFine, AllFine, joined, keeps, at_node, logic_fine, Fits, smaller}
+use Rattle.positive_counts.proofs.Entering.{Setting, Below, IsOwn, IsFine, AllFine, joined, keeps, at_node, logic_fine, Fits, smaller}
 use Rattle.positive_counts.proofs.Firsts.{ActAt, BodyAt, first_body, some_tests}
 
-pub nodes_behind : Turns → ℕ
+abbrev pub nodes_behind : Turns → ℕ
 nodes_behind once = 0
 nodes_behind (times x) = 1
 nodes_behind (until false t) = 0
@@ -200,27 +200,30 @@ module _ (s : Setting) (b : Bool) (number : ℕ) (x : LaidBody) (at : ℕ) where
         let down : ℕ = augment_at (times v) at x in
         let down_is : s.inside down ≡ (b || number == s.loop) = first_behind (times v) h (omega arith) in
         let to = first_of_body x (at + 2) down in
-        let below = enters (times v) h down (at_node s down (b || number == s.loop) down_is) in
-        (((keeps s at (at + 1) b is (at_node s (at + 1) b test_is), λ own. test_is ∙ own_outside (times v) h own), tt),
-        ((counted_by v h to test_is below (number == s.loop) refl, (keeps s (at + 1) next b test_is k, tt)), tt))
+        let below = enters (times v) h down (at_node s down (b || number == s.loop) down_is) in (
+          ((keeps s at (at + 1) b is (at_node s (at + 1) b test_is), λ own. test_is ∙ own_outside (times v) h own), tt),
+          ((counted_by v h to test_is below (number == s.loop) refl, (keeps s (at + 1) next b test_is k, tt)), tt),
+        )
     before_fine (until false t) h =
         let turns = until false t in
         let alike = before_alike turns h in
         let is = first_before turns h in
         let some = some_tests t h.turns_ in
         let tests = alike_back s.inside b at (1 + tests_in t) 1 (tests_in t) (omega arith) alike in
-        let on = at_node s (at + 1) b (first_alike s.inside b (at + 1) (tests_in t) some tests) in
-        ((keeps s at (at + 1) b is on, tt),
-        logic_fine s b c number true t 0 (at + 1) next (first_of_body x (body_at turns at) (at + 1)) tests k
-        (enters turns h (at + 1) on))
+        let on = at_node s (at + 1) b (first_alike s.inside b (at + 1) (tests_in t) some tests) in (
+          (keeps s at (at + 1) b is on, tt),
+          logic_fine s b c number true t 0 (at + 1) next (first_of_body x (body_at turns at) (at + 1)) tests k
+              (enters turns h (at + 1) on),
+        )
     before_fine (until true t) h =
         let turns = until true t in
         let is = first_before turns h in
         let test : ℕ = tests_at turns at x in
         let some = some_tests t h.turns_ in
-        let to = first_of_body x (at + 1) test in
-        ((keeps s at to b is (enters turns h test (at_node s test b (first_behind turns h (omega (arith, some))))), tt),
-        tt)
+        let to = first_of_body x (at + 1) test in (
+          (keeps s at to b is (enters turns h test (at_node s test b (first_behind turns h (omega (arith, some))))), tt),
+          tt,
+        )
     before_fine (varying false i from by t) h =
         let turns = varying false i from by t in
         let alike = before_alike turns h in
@@ -228,10 +231,11 @@ module _ (s : Setting) (b : Bool) (number : ℕ) (x : LaidBody) (at : ℕ) where
         let some = some_tests t h.turns_ in
         let tests = alike_back s.inside b at (1 + tests_in t) 1 (tests_in t) (omega arith) alike in
         let on = at_node s (at + 1) b (first_alike s.inside b (at + 1) (tests_in t) some tests) in
-        let augment : ℕ = augment_at turns at x in
-        ((keeps s at (at + 1) b is on, tt),
-        logic_fine s b c number true t 0 (at + 1) next (first_of_body x (at + 1 + tests_in t) augment) tests k
-        (enters turns h augment (at_node s augment b (first_behind turns h (omega arith)))))
+        let augment : ℕ = augment_at turns at x in (
+          (keeps s at (at + 1) b is on, tt),
+          logic_fine s b c number true t 0 (at + 1) next (first_of_body x (at + 1 + tests_in t) augment) tests k
+              (enters turns h augment (at_node s augment b (first_behind turns h (omega arith)))),
+        )
     before_fine (varying true i from by t) h =
         let turns = varying true i from by t in
         let is = first_before turns h in
@@ -265,12 +269,20 @@ module _ (s : Setting) (b : Bool) (number : ℕ) (x : LaidBody) (at : ℕ) where
         let test_is : s.inside (at + 1) ≡ b = before_alike (times v) h 1 (omega arith) in
         let down : ℕ = augment_at (times v) at x in
         let down_is : s.inside down ≡ (b || number == s.loop) = first_behind (times v) h (omega arith) in
-        let on : Below s (b || number == s.loop) (at + 1) = λ e. ap (λ y. y || number == s.loop) (sym test_is ∙ e) in
-        (((keeps s down (at + 1) (b || number == s.loop) down_is on, λ own. (
-          test_is ∙ own_outside (times v) h own,
-          down_is ∙ or_right b (number == s.loop) (eq-eqb number s.loop own),
-          record { body = h.body; sender = v; is = ap (act_at s.p) (sym own) ∙ h.its },
-        )), tt), tt)
+        let on : Below s (b || number == s.loop) (at + 1) = λ e. ap (λ y. y || number == s.loop) (sym test_is ∙ e) in (
+          (
+            (
+              keeps s down (at + 1) (b || number == s.loop) down_is on,
+              λ own. (
+                test_is ∙ own_outside (times v) h own,
+                down_is ∙ or_right b (number == s.loop) (eq-eqb number s.loop own),
+                record { body = h.body; sender = v; is = ap (act_at s.p) (sym own) ∙ h.its },
+              ),
+            ),
+            tt,
+          ),
+          tt,
+        )
     behind_fine (until false t) h = tt
     behind_fine (until true t) h =
         let turns = until true t in

@@ -1,6 +1,6 @@
 -- The number that TIMES sends is read of a numeric item, or written by a numeral, of at most 18 digits.
-use Rattle.std.proofs.Common.{◌≡◌, ◌≤◌, ◌<◌, ◌⊎◌, inl, inr, ℕ, zero, suc, ◌+◌, ◌-◌, ◌^◌, ◌/◌, ◌==◌, Bool, true, false, List, [], ◌∷◌, length, Option, Some, None, ℤ, pos, negsuc, unsigned_abs, refl, sym, ap, subst, ◌∙◌, arith}
-use Rattle.std.specs.Prelude.{if◌then◌else◌, slice_get, take, drop}
+use Rattle.std.proofs.Common.{◌≡◌, ◌≤◌, ◌<◌, ◌⊎◌, inl, inr, ℕ, zero, suc, ◌^◌, ◌==◌, Bool, true, false, List, [], ◌∷◌, length, Option, Some, None, pos, unsigned_abs, refl, ap, subst, arith}
+use Rattle.std.specs.Prelude.{if◌then◌else◌, slice_get, drop}
 use Rattle.std.specs.List.{All}
 use Rattle.std.specs.Option.{option_map, option_map_or}
 use Rattle.std.proofs.lemmas.Bool.{false≢true}
@@ -17,8 +17,8 @@ use Rattle.cob_data.specs.declared.layout.Sender.{Sender}
 use Rattle.cob_data.specs.declared.layout.Sender.TheVariants as sender
 use Rattle.cob_program.specs.Values.{whole_number, literal}
 use Rattle.cob_program.proofs.Steps.{literal_within}
-use Rattle.cob_program.specs.Act.{MkStmt, Stmts, no_stmts, more_stmts, Phrase, left_out, given, Act, move, arith as arithmetic, if_, evaluate, perform, go, nothing, stop, open_files, close_files, read, write, show, times, Whens, no_whens, more_whens, MkWhen, Body, range, inline, Para, Program}
-use Rattle.cob_runs.specs.Effects.{or_else, if_same, found, found_phrase, found_in, found_whens, found_body, found_among, act_at}
+use Rattle.cob_program.specs.Act.{MkStmt, Stmts, no_stmts, more_stmts, Phrase, left_out, given, Act, arith as arithmetic, if_, evaluate, perform, read, times, Whens, no_whens, more_whens, MkWhen, Body, range, inline, Para, Program}
+use Rattle.cob_runs.specs.Effects.{or_else, found, found_phrase, found_in, found_whens, found_body, found_among, act_at}
 use Rattle.cob_runs.specs.Contents.{area, item_at, scaled_by, number_in}
 use Rattle.cob_runs.specs.Moves.{number_of}
 use Rattle.cob_runs.specs.Deciding.{is_number_form}
@@ -37,7 +37,7 @@ or_found (Some b) y a e = inl e
 module _ (l : Layout) (n : ℕ) (a : Act) where
   either : (x y : Option Act) → (x ≡ Some a → CanDoAct l a) → (y ≡ Some a → CanDoAct l a) → or_else x y ≡ Some a →
       CanDoAct l a
-  either x y f g e = elim (or_found x y a e) [ | inl h ↦ f h | inr h ↦ g h ]
+  either x y f g e = elim (or_found x y a e) [ inl h ↦ f h | inr h ↦ g h ]
 
   same_found : (b : Act) (y : Bool) (other : Option Act) → CanDoAct l b → (other ≡ Some a → CanDoAct l a) →
       (if y then Some b else other) ≡ Some a → CanDoAct l a

@@ -1,11 +1,10 @@
 -- Contents of a numeric item, cut short too, read as a number of at most 18 digits.
-use Rattle.std.proofs.Common.{◌≡◌, ◌≤◌, ◌<◌, inl, inr, ℕ, zero, suc, ◌+◌, ◌-◌, ◌*◌, ◌^◌, ◌/◌, ◌%◌, ◌==◌, ◌&&◌, Bool, true, false, List, [], ◌∷◌, length, take, Option, Some, None, ℤ, pos, negsuc, unsigned_abs, refl, sym, ap, ◌∙◌, arith}
+use Rattle.std.proofs.Common.{◌≡◌, ◌≤◌, ◌<◌, inl, inr, ℕ, ◌+◌, ◌-◌, ◌*◌, ◌^◌, ◌/◌, ◌%◌, ◌==◌, ◌&&◌, Bool, true, false, List, [], ◌∷◌, length, take, Option, Some, None, ℤ, pos, negsuc, unsigned_abs, refl, ap, arith}
 use Rattle.std.specs.Prelude.{if◌then◌else◌, nat_lt}
 use Rattle.std.specs.Option.{option_map}
 use Rattle.std.specs.List.{list_all}
 use Rattle.std.proofs.lemmas.Bool.{false≢true, and_parts, ltb-true, cases_order}
 use Rattle.std.proofs.lemmas.Option.{same_Some, cond_some}
-use Rattle.dec_num.specs.declared.types.Scaled.{Scaled}
 use Rattle.dec_num.proofs.Powers.{ten_monotone, ten_positive}
 use Rattle.cob_tree.specs.declared.form.Form.{Form}
 use Rattle.cob_tree.specs.declared.form.Form.TheVariants as form
@@ -130,7 +129,7 @@ module _ (digits : ℕ) (few : digits ≤ 18) where
     | inl same ↦ whole_short digits signed Packed (c ∷ cs) z some few same e
     | inr (inl less) ↦
         whole_short (2 * length (c ∷ cs) - 1) signed Packed (c ∷ cs) z (omega arith) (omega (arith, few, less))
-            (omega arith) (packed_less digits signed (c ∷ cs) z (omega arith) e)
+        (omega arith) (packed_less digits signed (c ∷ cs) z (omega arith) e)
     | inr (inr more) ↦ absurd (omega (arith, l, more))
   ]
 

@@ -1,12 +1,11 @@
 -- No edge of a statement enters the loop but that of its test.
-use Rattle.std.proofs.Common.{◌≡◌, ◌≤◌, ℕ, zero, suc, ◌+◌, ◌-◌, ◌==◌, ◌||◌, inl, Bool, true, false, List, [], ◌∷◌, ◌++◌, length, Some, is_some, refl, sym, ap, subst, ◌∙◌, arith, length-append}
+use Rattle.std.proofs.Common.{◌≡◌, ℕ, zero, suc, ◌+◌, ◌-◌, ◌==◌, ◌||◌, Bool, true, false, List, [], ◌∷◌, ◌++◌, length, Some, is_some, refl, sym, ap, subst, ◌∙◌, arith, length-append}
 use Rattle.cob_program.specs.Logic.{Logic, logics_of}
 use Rattle.cob_program.specs.Act.{Turns, once, times, until, varying, MkStmt, Stmts, no_stmts, more_stmts, Phrase, left_out, given, Act, move, arith as arithmetic, if_, evaluate, perform, go, nothing, stop, open_files, close_files, read, write, show, Whens, no_whens, more_whens, MkWhen, Body, range, inline}
-use Rattle.cob_runs.specs.declared.action.Action.{Action}
 use Rattle.cob_runs.specs.declared.action.Action.TheVariants as action
 use Rattle.cob_runs.specs.Steps.{body_at}
 use Rattle.cob_runs.specs.Effects.{act_at}
-use Rattle.cob_graph.specs.Laid.{MkLaid, LaidList, no_laid, more_laid, LaidPhrase, no_phrase, a_phrase, LaidAct, moving, showing, skipping, going, ending, opening, closing, writing, computing, deciding, choosing, performing, reading, LaidWhens, no_laid_whens, more_laid_whens, LaidBody, own_list, copy, LaidParas, no_laid_paras, more_laid_paras, tests_in, tests_among, one_if, how_many, list_size, phrase_size, act_size, whens_size, body_size, paras_size}
+use Rattle.cob_graph.specs.Laid.{MkLaid, LaidList, no_laid, more_laid, LaidPhrase, no_phrase, a_phrase, LaidAct, moving, showing, skipping, going, ending, opening, closing, writing, computing, deciding, choosing, performing, reading, LaidWhens, no_laid_whens, more_laid_whens, LaidBody, own_list, copy, LaidParas, no_laid_paras, more_laid_paras, tests_in, tests_among, one_if, list_size, phrase_size, act_size, whens_size, body_size, paras_size}
 use Rattle.cob_graph.specs.Places as place
 use Rattle.cob_graph.specs.Places.{first_of_list, first_of_paras, first_of_whens, first_of_any, body_next}
 use Rattle.cob_graph.specs.Nodes.{Noded, Copied, node, logic_nodes, any_nodes, end_to, size_edges, read_nodes, loop_before, loop_behind, copied_in, list_nodes, phrase_nodes, whens_nodes, body_nodes, paras_nodes, act_nodes}
@@ -14,10 +13,10 @@ use Rattle.cob_graph.specs.Copies.{AreLaid, IsLaidPhrase, IsLaidAct, AreLaidWhen
 use Rattle.cob_graph.specs.WellFormed.{AreWellFormed, IsWellFormedPhrase, IsWellFormedAct, AreWellFormedWhens, IsWellFormedTurns, IsWellFormedBody, IsWellFormed}
 use Rattle.cob_graph.proofs.Lengths.{length-logic, length-any, length-list, length-phrase, length-whens, length-body, length-act, length-read}
 use Rattle.cob_graph_laws.proofs.Settling.{whole_in}
-use Rattle.positive_counts.proofs.Inside.{nodes_before, in_turns, in_list, in_phrase, in_act, in_whens, in_body, in_paras, parted, Follows, low, high, Alike, first_alike}
-use Rattle.positive_counts.proofs.Entering.{Setting, Below, AreFine, AllFine, moved, joined, keeps, at_node, first_any, logic_fine, any_fine, Leads, bad_below, open_fine, close_fine, read_fine, write_fine, Fits, smaller}
+use Rattle.positive_counts.proofs.Inside.{nodes_before, in_turns, in_list, in_phrase, in_whens, parted, Follows, low, high, Alike, first_alike}
+use Rattle.positive_counts.proofs.Entering.{Setting, Below, Keeps, AreFine, AllFine, moved, joined, keeps, first_any, logic_fine, any_fine, Leads, bad_below, open_fine, close_fine, read_fine, write_fine, Fits, smaller}
 use Rattle.positive_counts.proofs.Firsts.{ListAt, ActAt, PhraseAt, WhensAt, BodyAt, ParasAt, head_of, tail_of, para_of, paras_of, first_list, first_para, first_paras}
-use Rattle.positive_counts.proofs.Loops.{Performed, nodes_behind, around, body_place, length-before, body_fits, body_stands, before_fine, body_leads, behind_fine}
+use Rattle.positive_counts.proofs.Loops.{Performed, body_place, length-before, body_fits, body_stands, before_fine, body_leads, behind_fine}
 
 -- ---- parts of what is laid, behind nodes alike
 
@@ -61,6 +60,10 @@ module _ (s : Setting) (b : Bool) where
     paras = λ t e. turns_kept number turns (leads.paras t e);
     final = λ e. turns_kept number turns (leads.final e);
   }
+
+  -- a node from which one way leads on
+  one_way : (at to : ℕ) → Below s b to → Alike s.inside b at 1 → Keeps s at to
+  one_way at to k f = keeps s at to b (first_alike s.inside b at 1 (omega arith) f) k
 
   -- a statement that is laid so
   by_laid : (c : Copied) (number at next : ℕ) (x y : LaidAct) → x ≡ y →
@@ -141,17 +144,17 @@ module _ (s : Setting) (whole : IsWellFormed s.p) where
         act_at s.p number ≡ Some a → IsWellFormedAct s.p a → IsLaidAct s.p lo hi a x → Fits s b (act_size x) →
         ActAt s b at number x → Below s b next → AllFine s at (act_nodes c number x at next)
     act_fine c b lo hi number (move v places) x at next leads its own laid fits h k =
-        by_laid s b c number at next x moving laid (λ f. ((keeps s at next b (first_alike s.inside b at 1 (omega arith) f) k, tt), tt)) h
+        by_laid s b c number at next x moving laid (λ f. ((one_way s b at next k f, tt), tt)) h
     act_fine c b lo hi number (show vs) x at next leads its own laid fits h k =
-        by_laid s b c number at next x showing laid (λ f. ((keeps s at next b (first_alike s.inside b at 1 (omega arith) f) k, tt), tt)) h
+        by_laid s b c number at next x showing laid (λ f. ((one_way s b at next k f, tt), tt)) h
     act_fine c b lo hi number nothing x at next leads its own laid fits h k =
-        by_laid s b c number at next x skipping laid (λ f. ((keeps s at next b (first_alike s.inside b at 1 (omega arith) f) k, tt), tt)) h
+        by_laid s b c number at next x skipping laid (λ f. ((one_way s b at next k f, tt), tt)) h
     act_fine c b lo hi number (go t) x at next leads its own laid fits h k =
         by_laid s b c number at next x (going t) laid.0
-        (λ f. ((keeps s at (c.para t) b (first_alike s.inside b at 1 (omega arith) f) (leads.paras t), tt), tt)) h
+        (λ f. ((one_way s b at (c.para t) (leads.paras t) f, tt), tt)) h
     act_fine c b lo hi number stop x at next leads its own laid fits h k =
         by_laid s b c number at next x ending laid
-        (λ f. ((keeps s at c.final b (first_alike s.inside b at 1 (omega arith) f) leads.final, tt), tt)) h
+        (λ f. ((one_way s b at c.final leads.final f, tt), tt)) h
     act_fine c b lo hi number (open_files os) x at next leads its own laid fits h k =
         by_laid s b c number at next x (opening os) laid (λ f. open_fine s c b leads number true os 0 at next f k) h
     act_fine c b lo hi number (close_files fs) x at next leads its own laid fits h k =
@@ -169,9 +172,13 @@ module _ (s : Setting) (whole : IsWellFormed s.p) where
         let on = first_list s b lo hi fine xs third next own.1 laid.1 parts.right k in
         three s b at 1 (at + 1) (phrase_size x) third
         (node c number true ((action.Done, fine_at) ∷ size_edges c number x (at + 1) next) ∷ [])
-        (phrase_nodes c x (at + 1) next) (list_nodes c xs third next) refl refl refl (length-phrase c x (at + 1) next)
-        ((keeps s at fine_at b is on,
-        size_fine s b lo hi c number at size x (at + 1) next own.0 laid.0 parts.left k is), tt)
+        (phrase_nodes c x (at + 1) next) (list_nodes c xs third next) refl refl refl (length-phrase c x (at + 1) next) (
+          (
+            keeps s at fine_at b is on,
+            size_fine s b lo hi c number at size x (at + 1) next own.0 laid.0 parts.left k is,
+          ),
+          tt,
+        )
         (phrase_fine c b lo hi size x (at + 1) next leads own.0 laid.0
         (smaller s b (phrase_size x) (1 + phrase_size x + list_size xs) (omega arith) fits) parts.left k)
         (list_fine c b lo hi fine xs third next leads own.1 laid.1
@@ -203,9 +210,14 @@ module _ (s : Setting) (whole : IsWellFormed s.p) where
         let on = first_of_whens us (at + 1) last next in
         three s b at 1 (at + 1) (whens_size us) third (node c number true ((action.Skip, on) ∷ []) ∷ [])
         (whens_nodes c number us 0 (at + 1) last next) (list_nodes c xs third next) refl refl refl
-        (length-whens c number us 0 (at + 1) last next)
-        ((keeps s at on b is
-        (first_whens s b lo hi ws us (at + 1) last next own.0 laid.0 parts.left last_on k), tt), tt)
+        (length-whens c number us 0 (at + 1) last next) (
+          (
+            keeps s at on b is
+                (first_whens s b lo hi ws us (at + 1) last next own.0 laid.0 parts.left last_on k),
+            tt,
+          ),
+          tt,
+        )
         (whens_fine c b lo hi number ws us 0 (at + 1) last next leads own.0 laid.0
         (smaller s b (whens_size us) (1 + whens_size us + list_size xs) (omega arith) fits) parts.left last_on k)
         (list_fine c b lo hi other xs third next leads own.1 laid.1
