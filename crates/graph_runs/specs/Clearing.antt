@@ -1,0 +1,54 @@
+-- What rows clear, for any layer whose runs are those of a program along its graph.
+use Rattle.std.specs.Prelude.{◌≡◌, ◌⊎◌, ℕ, List, ℤ}
+use Rattle.cob_tree.specs.declared.fault.Kind.{Kind}
+use Rattle.cob_tree.specs.declared.fault.Kind.TheVariants as kind
+use Rattle.cob_program.specs.Act.{Program}
+use Rattle.cob_meaning.specs.declared.straight.Outcome.TheVariants.{Fault}
+use Rattle.cob_runs.specs.Files.{Choice}
+use Rattle.cob_runs.specs.Runs.{Contents, run, IsFaultless}
+use Rattle.cob_graph.specs.declared.graph.Graph.{Graph}
+use Rattle.dom_laws.specs.Flow.{Flow, IsNode}
+use Rattle.dom_laws.specs.Meaning.{Storage, Runs, Meaning}
+use Rattle.graph_runs.specs.Places.{IsOf}
+use Rattle.graph_runs.specs.Sources.{IsSourceGraph}
+use Rattle.graph_runs.specs.Doing.{graph_runs}
+use Rattle.graph_runs.specs.Flows.{flow_over}
+
+-- all that the second does, the first does too
+pub record Includes (r q : Runs) : Type 0 where
+  pub begins : (s : Storage) → q.Begins s → r.Begins s
+  pub acts : (e : ℕ) (s t : Storage) → q.Acts e s t → r.Acts e s t
+  pub meets : (node : ℕ) (fault : Kind) (s : Storage) → q.Meets node fault s → r.Meets node fault s
+
+-- the layer's nodes and edges are the graph's, and its runs are the program's
+pub record IsLayerOf (p : Program) (g : Graph) (f : Flow) (m : Meaning) : Type 0 where
+  pub of_source : IsSourceGraph p g
+  pub flow : f ≡ flow_over g f.entry f.post
+  pub runs : Includes m.runs (graph_runs p g)
+
+module _ (f : Flow) (m : Meaning) (rows : ℕ → List ℤ) where
+  -- each node's row shows that the node meets no fault
+  abbrev pub IsAllClear : Type 0
+  IsAllClear = (node : ℕ) (fault : Kind) → IsNode f node → m.Clears node (rows node) fault
+
+  -- the node's row doesn't show that it meets no fault of the kind
+  pub record IsOpen (node : ℕ) (fault : Kind) : Type 0 where
+    pub there : IsNode f node
+    pub open_ : ¬ m.Clears node (rows node) fault
+
+  -- a node of the statement is open for the fault
+  pub record IsOpenAt (g : Graph) (fault : Kind) (statement : ℕ) : Type 0 where
+    pub node : ℕ
+    pub of : IsOf g node statement
+    pub is : IsOpen node fault
+
+  -- Each fault of a run is open at its statement, or else a size error is open at some node.
+  abbrev pub FaultsAreOpen : Program → Graph → Type 0
+  FaultsAreOpen p g =
+      (contents : Contents) (first : List ℕ) (choices : List Choice) (n : ℕ) (fault : Kind) (statement : ℕ) →
+      (run p contents first choices n).outcome ≡ Fault fault statement →
+      IsOpenAt g fault statement ⊎ ((node : ℕ) × IsOpen node kind.Size)
+
+  -- Where all rows clear all faults, no run meets one.
+  abbrev pub ClearIsFaultless : Program → Type 0
+  ClearIsFaultless p = IsAllClear → IsFaultless p
