@@ -1,16 +1,18 @@
 -- Counters of PERFORMs with TIMES: each holds a number of at most 18 digits, and a store of a greater one is a size
--- error of the PERFORM.
-use Rattle.std.specs.Prelude.{◌≡◌, ◌<◌, ◌^◌, ℕ, List, Option, true, Some, ℤ, pos, ◌-ℤ◌, unsigned_abs}
+-- error of the PERFORM, as a store to an item is.
+use Rattle.std.specs.Prelude.{◌≡◌, ◌<◌, ◌^◌, ◌⊎◌, ℕ, Bool, List, [], ◌∷◌, Option, true, Some, ℤ, pos, ◌-ℤ◌, unsigned_abs}
 use Rattle.dec_num.specs.declared.types.Scaled.{Scaled}
+use Rattle.cob_tree.specs.declared.fault.Kind.{Kind}
+use Rattle.cob_tree.specs.declared.fault.Kind.TheVariants as kind
+use Rattle.cob_data.specs.declared.layout.Layout.{Layout}
 use Rattle.cob_data.specs.declared.layout.Sender.{Sender}
-use Rattle.cob_program.specs.Act.{times, Act, perform, Program}
-use Rattle.cob_runs.specs.declared.action.Action.{Action}
-use Rattle.cob_runs.specs.declared.action.Action.TheVariants as action
+use Rattle.cob_program.specs.Act.{Act, Program}
 use Rattle.cob_runs.specs.Effects.{act_at}
 use Rattle.cob_runs.specs.Moves.{number_of}
-use Rattle.cob_edge_parts.specs.Parts.{is_times}
-use Rattle.cob_edge_parts.specs.Meaning.{count_in}
-use Rattle.dom_laws.specs.Meaning.{Storage}
+use Rattle.cob_edge_parts.specs.Parts.{Part, set_count, count_down, is_times}
+use Rattle.cob_edge_parts.specs.Meaning.{Moment, count_in, Passes, Faults}
+
+-- ---- counters that hold their numbers
 
 abbrev pub IsCount : ℤ → Type 0
 IsCount n = unsigned_abs n < 10 ^ 18
@@ -26,20 +28,44 @@ abbrev pub IsCounted : Program → List (Option ℤ) → Type 0
 IsCounted p counters =
     (statement : ℕ) (a : Act) → act_at p statement ≡ Some a → is_times a ≡ true → HoldsCount counters statement
 
--- the counter holds a number, of which one less isn't held
-pub record MisfitsDown (statement : ℕ) (s : Storage) : Type 0 where
-  pub count : ℤ
-  pub held : count_in s.counters statement ≡ Some count
-  pub misfits : ¬ IsCount (count -ℤ pos 1)
+-- ---- stores to them
 
--- the sender of TIMES is a number that isn't held
-pub record MisfitsFirst (p : Program) (x : Sender) (s : Storage) : Type 0 where
+-- the number of TIMES isn't one that a counter holds
+pub record IsTooGreat (l : Layout) (x : Sender) (m : Moment) : Type 0 where
   pub number : Scaled
-  pub sent : number_of p.layout s.bytes x ≡ Some number
+  pub sent : number_of l m.first x ≡ Some number
   pub misfits : ¬ IsCount number.units
 
--- The edge stores a number to its statement's counter that this doesn't hold.
-abbrev pub CountMisfits : Program → ℕ → Act → Action → Storage → Type 0
-CountMisfits p statement a action.Down s = MisfitsDown statement s
-CountMisfits p statement (perform body (times x)) action.SetCount s = MisfitsFirst p x s
-CountMisfits p statement a x s = ⊥
+module _ (l : Layout) where
+  -- the part stores a number to a counter that this doesn't hold
+  abbrev pub Misfits : Part → Moment → Type 0
+  Misfits (set_count statement x) m = IsTooGreat l x m
+  Misfits (count_down statement) m = ¬ IsCount (m.own.units -ℤ pos 1)
+  Misfits part m = ⊥
+
+  module _ (handled : Bool) where
+    -- a part is passed where what it stores to a counter fits,
+    abbrev pub PassesPart : Part → Moment → Moment → Type 0
+    PassesPart part m n = Passes l handled part m n × ¬ Misfits part m
+
+    -- and meets a size error where it doesn't
+    abbrev pub FaultsAtPart : Part → Moment → Kind → Type 0
+    FaultsAtPart part m fault = Faults l handled part m fault ⊎ ((fault ≡ kind.Size) × Misfits part m)
+
+    -- ---- along an edge
+
+    -- the parts are passed in turn
+    abbrev pub PassesParts : List Part → Moment → Moment → Type 0
+    PassesParts [] m n = n ≡ m
+    PassesParts (x ∷ xs) m n = (next : Moment) × PassesPart x m next × PassesParts xs next n
+
+    -- a part meets the fault, behind others that are passed
+    abbrev pub MeetsAmong : List Part → Moment → Kind → Type 0
+    MeetsAmong [] m fault = ⊥
+    MeetsAmong (x ∷ xs) m fault =
+        FaultsAtPart x m fault ⊎ ((next : Moment) × PassesPart x m next × MeetsAmong xs next fault)
+
+    -- a store to a counter doesn't fit, behind parts that are passed
+    abbrev pub MisfitsAmong : List Part → Moment → Type 0
+    MisfitsAmong [] m = ⊥
+    MisfitsAmong (x ∷ xs) m = Misfits x m ⊎ ((next : Moment) × PassesPart x m next × MisfitsAmong xs next)

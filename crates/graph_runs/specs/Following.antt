@@ -13,7 +13,7 @@ use Rattle.dom_laws.specs.Meaning.{Storage, ReachesIn}
 use Rattle.graph_runs.specs.Places.{IsOf}
 use Rattle.graph_runs.specs.Sources.{IsSourceGraph}
 use Rattle.graph_runs.specs.Counters.{IsCounted}
-use Rattle.graph_runs.specs.Doing.{MeetsByCount, MeetsAt, graph_runs}
+use Rattle.graph_runs.specs.Doing.{MeetsAt, MisfitsAt, graph_runs}
 use Rattle.graph_runs.specs.Flows.{flow_over}
 
 module _ (p : Program) (g : Graph) (entry : List ℤ) (post : ℕ → List ℤ → List ℤ) where
@@ -35,7 +35,7 @@ module _ (p : Program) (g : Graph) (entry : List ℤ) (post : ℕ → List ℤ �
     pub node : ℕ
     pub storage : Storage
     pub reaches : Reaches edges node storage
-    pub meets : MeetsByCount p g node storage
+    pub meets : MisfitsAt p g node storage
 
   -- a storage comes to some node of the statement that meets the fault on it
   pub record IsMet (fault : Kind) (statement : ℕ) : Type 0 where
