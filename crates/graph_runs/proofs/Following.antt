@@ -1,0 +1,397 @@
+-- What a program does along its graph follows each way through it, and meets each fault of a run.
+use Rattle.std.proofs.Common.{◌≡◌, ◌≤◌, ◌<◌, ◌⊎◌, inl, inr, ℕ, zero, suc, ◌-◌, Bool, true, false, List, length, Option, Some, None, Ok, Err, ℤ, pos, refl, sym, ap, subst, ◌∙◌, arith}
+use Rattle.std.specs.Prelude.{if◌then◌else◌, Contains, replicate}
+use Rattle.std.specs.Option.{option_map_or}
+use Rattle.std.proofs.lemmas.Bool.{false≢true}
+use Rattle.std.proofs.lemmas.List.{length-replicate}
+use Rattle.cob_tree.specs.declared.fault.Kind.{Kind}
+use Rattle.cob_tree.specs.declared.fault.Kind.TheVariants as kind
+use Rattle.cob_program.specs.Act.{Act, move, arith as arithmetic, if_, evaluate, perform, go, nothing, stop, open_files, close_files, read, write, show, Program}
+use Rattle.cob_meaning.specs.declared.straight.Outcome.{Outcome}
+use Rattle.cob_meaning.specs.declared.straight.Outcome.TheVariants.{Fault}
+use Rattle.cob_runs.specs.declared.action.Action.{Action}
+use Rattle.cob_runs.specs.declared.action.Action.TheVariants as action
+use Rattle.cob_runs.specs.Files.{Choice}
+use Rattle.cob_runs.specs.State.{World}
+use Rattle.cob_runs.specs.Effects.{Effect, effect, effect_of, not_taken, act_at}
+use Rattle.cob_runs.specs.Runs.{Contents, run, first_world, first_storage}
+use Rattle.cob_graph.specs.declared.graph.Node.{Node}
+use Rattle.cob_graph.specs.declared.graph.Edge.{Edge}
+use Rattle.cob_graph.specs.declared.graph.Graph.{Graph}
+use Rattle.cob_graph.specs.Lookup.{node_at, edge}
+use Rattle.cob_graph_laws.specs.Ways.{Comes, at_first, onward, ComesToFault, ShowsBy}
+use Rattle.cob_graph_laws.proofs.Simulated.{simulates}
+use Rattle.cob_edge_parts.specs.Parts.{Part, has_phrase, is_handled, parts_of, compute_parts}
+use Rattle.cob_edge_parts.specs.Meaning.{Moment, beginning, Meets}
+use Rattle.cob_edge_parts.specs.Edges.{LeadsBeside, StandFor, fault_edge}
+use Rattle.cob_edge_parts.proofs.AllEdges.{parts_are_passed_beside, faults_are_met}
+use Rattle.dom_laws.specs.Meaning.{Storage, ReachesIn}
+use Rattle.graph_runs.specs.Places.{edge_at, IsOf, DoesAt}
+use Rattle.graph_runs.specs.Sources.{IsSourceGraph}
+use Rattle.graph_runs.specs.Counters.{IsCounted, PassesParts, MeetsAmong, MisfitsAmong}
+use Rattle.graph_runs.specs.Doing.{start, Acts, IsMetOn, MeetsAt, MisfitsAt, graph_runs}
+use Rattle.graph_runs.specs.Flows.{flow_over}
+use Rattle.graph_runs.specs.Following.{Reaches, IsReached, SomeCountMisfits, IsMet, WaysAreFollowed, FaultsAreReached}
+use Rattle.graph_runs.proofs.Numbering.{IsNumbered, numbered}
+use Rattle.graph_runs.proofs.Phrases.{size_beside}
+use Rattle.graph_runs.proofs.Counting.{begins_counted, begins_standing, stand_length}
+use Rattle.graph_runs.proofs.Holding.{edge_counted, edge_length, fits_or_not, meets_or_not, misfits_meet, arith_fits}
+
+-- ---- edges on which a statement does something
+
+module _ (p : Program) (statement : ℕ) (c : Choice) (w : World) (x : Action) where
+  does_of : (o : Option Act) → act_at p statement ≡ o → (r : Effect) → effect p statement c w x ≡ r →
+      (r ≡ not_taken → ⊥) → (a : Act) × (act_at p statement ≡ Some a)
+  does_of (Some a) e r f h = (a, e)
+  does_of None e r f h =
+      absurd (h (sym f ∙ ap (λ (o : Option Act). option_map_or (effect_of p statement c w x) o not_taken) e))
+
+  acts_if_taken : (v : World) → effect p statement c w x ≡ Ok (Some v) → (a : Act) × (act_at p statement ≡ Some a)
+  acts_if_taken v e = does_of (act_at p statement) refl (Ok (Some v)) e (λ f. cc)
+
+  acts_if_met : (fault : Kind) → effect p statement c w x ≡ Err fault → (a : Act) × (act_at p statement ≡ Some a)
+  acts_if_met fault e = does_of (act_at p statement) refl (Err fault) e (λ f. cc)
+
+-- ---- the edge on which faults are met
+
+abbrev size_or_done : Bool → Action
+size_or_done b = if b then action.Size else action.Done
+
+twice_by : (a : Act) (b : Bool) → has_phrase a ≡ b → fault_edge a (size_or_done b) ≡ size_or_done b
+twice_by a true e = refl
+twice_by a false e = ap size_or_done e
+
+-- it is its own
+its_own : (a : Act) (x : Action) → fault_edge a (fault_edge a x) ≡ fault_edge a x
+its_own a action.Skip = refl
+its_own a action.Assign = refl
+its_own a action.Done = twice_by a (has_phrase a) refl
+its_own a action.Size = refl
+its_own a (action.True k) = refl
+its_own a (action.False k) = refl
+its_own a action.SetCount = refl
+its_own a action.Down = refl
+its_own a (action.Open k) = refl
+its_own a (action.Close k) = refl
+its_own a action.Take = refl
+its_own a action.AtEnd = refl
+its_own a (action.Bad k) = refl
+its_own a action.Write = refl
+its_own a action.Show = refl
+
+module _ (p : Program) (statement : ℕ) (handled : Bool) (m : Moment) where
+  computing_fits : (a : Act) → has_phrase a ≡ true → ¬ MisfitsAmong p.layout handled (compute_parts p statement a) m
+  computing_fits (arithmetic s ts remainder size fine) e = arith_fits p.layout handled s ts remainder m
+  computing_fits (move x places) e = absurd (false≢true e)
+  computing_fits (if_ t held other) e = absurd (false≢true e)
+  computing_fits (evaluate ws other) e = absurd (false≢true e)
+  computing_fits (perform body turns) e = absurd (false≢true e)
+  computing_fits (go para) e = absurd (false≢true e)
+  computing_fits nothing e = absurd (false≢true e)
+  computing_fits stop e = absurd (false≢true e)
+  computing_fits (open_files os) e = absurd (false≢true e)
+  computing_fits (close_files fs) e = absurd (false≢true e)
+  computing_fits (read f into end fine) e = absurd (false≢true e)
+  computing_fits (write r from) e = absurd (false≢true e)
+  computing_fits (show xs) e = absurd (false≢true e)
+
+  done_by : (a : Act) (b : Bool) → has_phrase a ≡ b → MisfitsAmong p.layout handled (compute_parts p statement a) m →
+      size_or_done b ≡ action.Done
+  done_by a true e misfits = absurd (computing_fits a e misfits)
+  done_by a false e misfits = refl
+
+  -- an edge on which a counter misfits is such an edge
+  misfit_own : (a : Act) (x : Action) → MisfitsAmong p.layout handled (parts_of p statement a x) m →
+      fault_edge a x ≡ x
+  misfit_own a action.Done misfits = done_by a (has_phrase a) refl misfits
+  misfit_own a action.Skip misfits = refl
+  misfit_own a action.Assign misfits = refl
+  misfit_own a action.Size misfits = refl
+  misfit_own a (action.True k) misfits = refl
+  misfit_own a (action.False k) misfits = refl
+  misfit_own a action.SetCount misfits = refl
+  misfit_own a action.Down misfits = refl
+  misfit_own a (action.Open k) misfits = refl
+  misfit_own a (action.Close k) misfits = refl
+  misfit_own a action.Take misfits = refl
+  misfit_own a action.AtEnd misfits = refl
+  misfit_own a (action.Bad k) misfits = refl
+  misfit_own a action.Write misfits = refl
+  misfit_own a action.Show misfits = refl
+
+module _ (p : Program) (g : Graph) (source : IsSourceGraph p g) where
+  -- the edge on which a node's fault is met is there
+  abbrev EdgeThere : ℕ → Action → Type 0
+  EdgeThere n x = (to : ℕ) × Contains g.edges (edge n x to)
+
+  fault_edge_there : (n m : ℕ) (x : Node) (a : Act) (y : Action) → node_at g.nodes n ≡ Some x →
+      act_at p x.statement ≡ Some a → Contains g.edges (edge n y m) → EdgeThere n (fault_edge a y)
+  fault_edge_there n m x a action.Done at its there = by_phrase (has_phrase a) refl
+    where
+      by_phrase : (b : Bool) → has_phrase a ≡ b → EdgeThere n (size_or_done b)
+      by_phrase true e = size_beside p g source.whole source.graph n m x a at its e there
+      by_phrase false e = (m, there)
+  fault_edge_there n m x a action.Skip at its there = (m, there)
+  fault_edge_there n m x a action.Assign at its there = (m, there)
+  fault_edge_there n m x a action.Size at its there = (m, there)
+  fault_edge_there n m x a (action.True k) at its there = (m, there)
+  fault_edge_there n m x a (action.False k) at its there = (m, there)
+  fault_edge_there n m x a action.SetCount at its there = (m, there)
+  fault_edge_there n m x a action.Down at its there = (m, there)
+  fault_edge_there n m x a (action.Open k) at its there = (m, there)
+  fault_edge_there n m x a (action.Close k) at its there = (m, there)
+  fault_edge_there n m x a action.Take at its there = (m, there)
+  fault_edge_there n m x a action.AtEnd at its there = (m, there)
+  fault_edge_there n m x a (action.Bad k) at its there = (m, there)
+  fault_edge_there n m x a action.Write at its there = (m, there)
+  fault_edge_there n m x a action.Show at its there = (m, there)
+
+  -- ---- what is done on an edge, by its number
+
+  does_at : (n : ℕ) (x : Node) (a : Act) → node_at g.nodes n ≡ Some x → act_at p x.statement ≡ Some a →
+      DoesAt p g n x.statement a
+  does_at n x a at its = record { of = record { at = x; stands = at; number = refl }; act = its }
+
+  acts_by : (e statement : ℕ) (a : Act) (x : Edge) (s t : Storage) (last : Moment) → edge_at g e ≡ x →
+      DoesAt p g x.from statement a →
+      PassesParts p.layout (is_handled a x.action) (parts_of p statement a x.action) (start s) last →
+      last.storage ≡ t.bytes → last.counts ≡ t.counters → last.failed ≡ is_handled a x.action → Acts p g e s t
+  acts_by e statement a x s t last is does way bytes counters fails = record {
+    of_source = source;
+    statement = statement;
+    act = a;
+    does = subst (λ (y : Edge). DoesAt p g y.from statement a) (sym is) does;
+    last = last;
+    way = subst (λ (y : Edge).
+        PassesParts p.layout (is_handled a y.action) (parts_of p statement a y.action) (start s) last) (sym is) way;
+    bytes = bytes;
+    counters = counters;
+    fails = subst (λ (y : Edge). last.failed ≡ is_handled a y.action) (sym is) fails;
+  }
+
+  met_on : (n statement m : ℕ) (a : Act) (x : Action) (k : IsNumbered g (edge n x m)) → DoesAt p g n statement a →
+      fault_edge a x ≡ x → IsMetOn p g n k.e statement a
+  met_on n statement m a x k does own = record {
+    of_source = source;
+    does = does;
+    leaves = record { first = k.first; last = k.last; source = ap (λ (y : Edge). y.from) k.is };
+    its = subst (λ (y : Edge). fault_edge a y.action ≡ y.action) (sym k.is) own;
+  }
+
+  meets_by : (n statement m : ℕ) (a : Act) (x : Action) (s : Storage) (fault : Kind) → IsNumbered g (edge n x m) →
+      DoesAt p g n statement a → fault_edge a x ≡ x →
+      MeetsAmong p.layout (is_handled a x) (parts_of p statement a x) (start s) fault → MeetsAt p g n fault s
+  meets_by n statement m a x s fault k does own meets = record {
+    e = k.e;
+    statement = statement;
+    act = a;
+    on = met_on n statement m a x k does own;
+    meets = subst (λ (y : Edge).
+        MeetsAmong p.layout (is_handled a y.action) (parts_of p statement a y.action) (start s) fault) (sym k.is) meets;
+  }
+
+  misfits_by : (n statement m : ℕ) (a : Act) (x : Action) (s : Storage) → IsNumbered g (edge n x m) →
+      DoesAt p g n statement a → MisfitsAmong p.layout (is_handled a x) (parts_of p statement a x) (start s) →
+      MisfitsAt p g n s
+  misfits_by n statement m a x s k does misfits = record {
+    e = k.e;
+    statement = statement;
+    act = a;
+    on = met_on n statement m a x k does (misfit_own p statement (is_handled a x) (start s) a x misfits);
+    misfits = subst (λ (y : Edge).
+        MisfitsAmong p.layout (is_handled a y.action) (parts_of p statement a y.action) (start s)) (sym k.is) misfits;
+  }
+
+  -- ---- ways
+
+  module _ (entry : List ℤ) (post : ℕ → List ℤ → List ℤ) where
+    -- a storage of the world comes to the node, with a counter for each statement
+    record Followed (node : ℕ) (w : World) : Type 0 where
+      is : IsReached p g entry post node w
+      many : length is.storage.counters ≡ p.statements
+
+    abbrev FollowedIf : ℕ → World → Type 0
+    FollowedIf node w = Followed node w ⊎ SomeCountMisfits p g entry post
+
+    at_begin : (contents : Contents) (first : List ℕ) → Followed 1 (first_world p contents first)
+    at_begin contents first = record {
+      is = record {
+        edges = 0;
+        storage = record {
+          bytes = first_storage p.layout first;
+          counters = replicate p.statements (Some (pos 0));
+        };
+        reaches = (refl, record { of_source = source; first = first; bytes = refl; counters = refl });
+        bytes = refl;
+        counters = begins_standing p.statements;
+        counted = begins_counted p source.numbers;
+      };
+      many = length-replicate p.statements (Some (pos 0));
+    }
+
+    module _ (n m : ℕ) (w v : World) (x : Node) (y : Action) (a : Act) (r : Followed n w)
+        (at : node_at g.nodes n ≡ Some x) (its : act_at p x.statement ≡ Some a) (k : IsNumbered g (edge n y m)) where
+      abbrev from : Storage
+      from = r.is.storage
+
+      abbrev old : Moment
+      old = beginning w.storage from.counters
+
+      -- its bytes are those of the world
+      as_stored : (T : Moment → Type 0) → T old → T (start from)
+      as_stored T h = subst (λ (b : List ℕ). T (beginning b from.counters)) (sym r.is.bytes) h
+
+      -- along an edge whose stores to counters fit
+      further : (b : LeadsBeside p x.statement a y from.counters w v) →
+          PassesParts p.layout (is_handled a y) (parts_of p x.statement a y) old b.leads.last → Followed m v
+      further b way = record {
+        is = record {
+          edges = suc r.is.edges;
+          storage = to;
+          reaches = (
+            k.e,
+            from,
+            record { first = k.first; last = k.last },
+            ap (λ (z : Edge). z.to) k.is,
+            subst (λ (i : ℕ). Reaches p g entry post r.is.edges i from) (sym (ap (λ (z : Edge). z.from) k.is))
+                r.is.reaches,
+            acts_by k.e x.statement a (edge n y m) from to b.leads.last k.is (does_at n x a at its)
+                (as_stored (λ o. PassesParts p.layout (is_handled a y) (parts_of p x.statement a y) o b.leads.last) way)
+                b.leads.same_storage b.leads.same_counts b.leads.fails,
+          );
+          bytes = refl;
+          counters = b.stand;
+          counted = subst (IsCounted p) b.leads.same_counts
+              (edge_counted p.layout (is_handled a y) p (parts_of p x.statement a y) old b.leads.last way r.is.counted);
+        };
+        many = sym (ap length b.leads.same_counts)
+            ∙ (edge_length p.layout (is_handled a y) (parts_of p x.statement a y) old b.leads.last way ∙ r.many);
+      }
+        where
+          to : Storage
+          to = record { bytes = v.storage; counters = b.later }
+
+      misfit : MisfitsAmong p.layout (is_handled a y) (parts_of p x.statement a y) old → SomeCountMisfits p g entry post
+      misfit misfits = record {
+        edges = r.is.edges;
+        node = n;
+        storage = from;
+        reaches = r.is.reaches;
+        meets = misfits_by n x.statement m a y from k (does_at n x a at its)
+            (as_stored (λ o. MisfitsAmong p.layout (is_handled a y) (parts_of p x.statement a y) o) misfits);
+      }
+
+      either : (b : LeadsBeside p x.statement a y from.counters w v) →
+          PassesParts p.layout (is_handled a y) (parts_of p x.statement a y) old b.leads.last
+          ⊎ MisfitsAmong p.layout (is_handled a y) (parts_of p x.statement a y) old → FollowedIf m v
+      either b (inl way) = inl (further b way)
+      either b (inr misfits) = inr (misfit misfits)
+
+      taken : (c : Choice) → effect p x.statement c w y ≡ Ok (Some v) → FollowedIf m v
+      taken c e =
+          let within = source.numbers x.statement a its in
+          let same = stand_length w.counts from.counters r.is.counters in
+          let b = parts_are_passed_beside p x.statement c a y w v from.counters its
+          (λ reads. omega (arith, within.0, within.1, same, r.many)) r.is.counters e in
+          either b
+          (fits_or_not p.layout (is_handled a y) (parts_of p x.statement a y) old b.leads.last b.leads.way)
+
+    step : (n m : ℕ) (w v : World) (x : Node) (y : Action) (c : Choice) → node_at g.nodes n ≡ Some x →
+        Contains g.edges (edge n y m) → effect p x.statement c w y ≡ Ok (Some v) → FollowedIf n w → FollowedIf m v
+    step n m w v x y c at there e (inr misfits) = inr misfits
+    step n m w v x y c at there e (inl r) =
+        let a = acts_if_taken p x.statement c w y v e in
+        taken n m w v x y a.0 r at a.1 (numbered g (edge n y m) there) c e
+
+    module _ (contents : Contents) (first : List ℕ) (choices : List Choice) where
+      followed : {k n : ℕ} {w : World} → Comes p g contents first choices k n w → FollowedIf n w
+      followed at_first = inl (at_begin contents first)
+      followed (onward x y m way at there e on) = step _ m _ _ x y _ at there e (followed way)
+
+      -- ---- faults
+
+      met_at : (n : ℕ) (fault : Kind) (statement : ℕ) (w : World)
+          (f : ComesToFault p g contents first choices n fault statement w) → FollowedIf f.node w →
+          IsMet p g entry post fault statement ⊎ SomeCountMisfits p g entry post
+      met_at n fault statement w f (inr misfits) = inr misfits
+      met_at n fault statement w f (inl r) = by_parts (meets_or_not p.layout (is_handled a own) parts old fault meets)
+        where
+          acts : (a : Act) × (act_at p statement ≡ Some a)
+          acts = acts_if_met p statement _ w f.action fault f.meets
+
+          a : Act
+          a = acts.0
+
+          own : Action
+          own = fault_edge a f.action
+
+          parts : List Part
+          parts = parts_of p statement a own
+
+          old : Moment
+          old = beginning w.storage r.is.storage.counters
+
+          meets : Meets p.layout (is_handled a own) parts old fault
+          meets = faults_are_met p statement _ a f.action w r.is.storage.counters fault acts.1 f.meets
+
+          of : IsOf g f.node statement
+          of = record { at = f.at; stands = f.stands; number = f.its }
+
+          does : DoesAt p g f.node statement a
+          does = record { of = of; act = acts.1 }
+
+          there : EdgeThere f.node own
+          there = fault_edge_there f.node f.to f.at a f.action f.stands
+              (subst (λ (i : ℕ). act_at p i ≡ Some a) (sym f.its) acts.1) f.out
+
+          k : IsNumbered g (edge f.node own there.0)
+          k = numbered g (edge f.node own there.0) there.1
+
+          stored : (T : Moment → Type 0) → T old → T (start r.is.storage)
+          stored T h = subst (λ (b : List ℕ). T (beginning b r.is.storage.counters)) (sym r.is.bytes) h
+
+          by_parts : MeetsAmong p.layout (is_handled a own) parts old fault
+              ⊎ MisfitsAmong p.layout (is_handled a own) parts old →
+              IsMet p g entry post fault statement ⊎ SomeCountMisfits p g entry post
+          by_parts (inl here) = inl (record {
+            edges = r.is.edges;
+            node = f.node;
+            storage = r.is.storage;
+            reaches = r.is.reaches;
+            of = of;
+            meets = meets_by f.node statement there.0 a own r.is.storage fault k does (its_own a f.action)
+                (stored (λ o. MeetsAmong p.layout (is_handled a own) parts o fault) here);
+          })
+          by_parts (inr misfits) = inr (record {
+            edges = r.is.edges;
+            node = f.node;
+            storage = r.is.storage;
+            reaches = r.is.reaches;
+            meets = misfits_by f.node statement there.0 a own r.is.storage k does
+                (stored (λ o. MisfitsAmong p.layout (is_handled a own) parts o) misfits);
+          })
+
+      fault_met : (n : ℕ) (fault : Kind) (statement : ℕ) →
+          (run p contents first choices n).outcome ≡ Fault fault statement →
+          IsMet p g entry post fault statement ⊎ SomeCountMisfits p g entry post
+      fault_met n fault statement e =
+          let s = run p contents first choices n in
+          let f = subst (λ (o : Outcome). ShowsBy p g contents first choices o n s) e
+          (simulates p g source.whole source.graph contents first choices n) in
+          met_at n fault statement s.world f (followed f.way)
+
+-- ---- the laws
+
+weaker : (p : Program) (g : Graph) (s : IsSourceGraph p g) (entry : List ℤ) (post : ℕ → List ℤ → List ℤ) (n : ℕ)
+    (w : World) → FollowedIf p g s entry post n w →
+    IsReached p g entry post n w ⊎ SomeCountMisfits p g entry post
+weaker p g s entry post n w (inl r) = inl r.is
+weaker p g s entry post n w (inr misfits) = inr misfits
+
+pub ways_are_followed : WaysAreFollowed
+ways_are_followed p g s entry post contents first choices k n w way =
+    weaker p g s entry post n w (followed p g s entry post contents first choices way)
+
+pub faults_are_reached : FaultsAreReached
+faults_are_reached p g s entry post contents first choices n fault statement e =
+    fault_met p g s entry post contents first choices n fault statement e
