@@ -1,5 +1,5 @@
 -- What rows clear that stand for the runs of a program along its graph.
-use Rattle.std.proofs.Common.{◌≡◌, ◌⊎◌, inl, inr, ℕ, zero, suc, List, ℤ, sym, subst}
+use Rattle.std.proofs.Common.{◌⊎◌, inl, inr, ℕ, zero, suc, List, ℤ, sym, subst}
 use Rattle.cob_tree.specs.declared.fault.Kind.{Kind}
 use Rattle.cob_tree.specs.declared.fault.Kind.TheVariants as kind
 use Rattle.cob_program.specs.Act.{Program}
@@ -13,7 +13,7 @@ use Rattle.graph_runs.specs.Places.{edge_at}
 use Rattle.graph_runs.specs.Doing.{start, MeetsAt, MisfitsAt, graph_runs}
 use Rattle.graph_runs.specs.Flows.{flow_over}
 use Rattle.graph_runs.specs.Following.{SomeCountMisfits, IsMet}
-use Rattle.graph_runs.specs.Clearing.{Includes, IsLayerOf, IsAllClear, IsOpen, IsOpenAt, FaultsAreOpen, ClearIsFaultless}
+use Rattle.graph_runs.specs.Clearing.{Includes, IsLayerOf, IsOpen, IsOpenAt, FaultsAreOpen, ClearIsFaultless}
 use Rattle.graph_runs.proofs.Holding.{misfits_meet}
 use Rattle.graph_runs.proofs.Following.{faults_are_reached}
 

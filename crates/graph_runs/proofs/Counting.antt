@@ -1,13 +1,12 @@
 -- Counters in which a number is set, or all stay.
-use Rattle.std.proofs.Common.{◌≡◌, ◌<◌, ◌≤◌, ℕ, zero, suc, ◌+◌, ◌-◌, ◌⊎◌, inl, inr, List, [], ◌∷◌, length, Option, Some, None, ℤ, pos, refl, sym, ap, subst, ◌∙◌, arith}
+use Rattle.std.proofs.Common.{◌≡◌, ◌<◌, ◌≤◌, ℕ, zero, suc, ◌-◌, ◌⊎◌, inl, inr, List, [], ◌∷◌, length, Option, Some, None, ℤ, pos, refl, ap, arith}
 use Rattle.std.specs.Prelude.{slice_get, slice_set, replicate, unsigned_abs, ◌^◌}
 use Rattle.std.specs.Option.{option_map_or}
 use Rattle.std.proofs.lemmas.Bool.{cases_lt}
-use Rattle.std.proofs.lemmas.List.{length-replicate}
 use Rattle.std.proofs.lemmas.Option.{none-some}
-use Rattle.cob_program.specs.Act.{Act, Program}
-use Rattle.cob_edge_parts.specs.Meaning.{count_in, is_positive}
-use Rattle.cob_edge_parts.specs.Edges.{StandsForCount, StandFor}
+use Rattle.cob_program.specs.Act.{Program}
+use Rattle.cob_edge_parts.specs.Meaning.{count_in}
+use Rattle.cob_edge_parts.specs.Edges.{StandFor}
 use Rattle.graph_runs.specs.Sources.{StatementsAreCounted}
 use Rattle.graph_runs.specs.Counters.{IsCount, HoldsCount, IsCounted}
 

@@ -1,12 +1,10 @@
 -- What a program does along its graph follows each way through it, and meets each fault of a run.
-use Rattle.std.proofs.Common.{◌≡◌, ◌≤◌, ◌<◌, ◌⊎◌, inl, inr, ℕ, zero, suc, ◌-◌, Bool, true, false, List, length, Option, Some, None, Ok, Err, ℤ, pos, refl, sym, ap, subst, ◌∙◌, arith}
+use Rattle.std.proofs.Common.{◌≡◌, ◌⊎◌, inl, inr, ℕ, suc, Bool, true, false, List, length, Option, Some, None, Ok, Err, ℤ, pos, refl, sym, ap, subst, ◌∙◌, arith}
 use Rattle.std.specs.Prelude.{if◌then◌else◌, Contains, replicate}
 use Rattle.std.specs.Option.{option_map_or}
-use Rattle.std.proofs.lemmas.Bool.{false≢true}
 use Rattle.std.proofs.lemmas.List.{length-replicate}
 use Rattle.cob_tree.specs.declared.fault.Kind.{Kind}
-use Rattle.cob_tree.specs.declared.fault.Kind.TheVariants as kind
-use Rattle.cob_program.specs.Act.{Act, move, arith as arithmetic, if_, evaluate, perform, go, nothing, stop, open_files, close_files, read, write, show, Program}
+use Rattle.cob_program.specs.Act.{Act, Program}
 use Rattle.cob_meaning.specs.declared.straight.Outcome.{Outcome}
 use Rattle.cob_meaning.specs.declared.straight.Outcome.TheVariants.{Fault}
 use Rattle.cob_runs.specs.declared.action.Action.{Action}
@@ -23,19 +21,19 @@ use Rattle.cob_graph_laws.specs.Ways.{Comes, at_first, onward, ComesToFault, Sho
 use Rattle.cob_graph_laws.proofs.Simulated.{simulates}
 use Rattle.cob_edge_parts.specs.Parts.{Part, has_phrase, is_handled, parts_of, compute_parts}
 use Rattle.cob_edge_parts.specs.Meaning.{Moment, beginning, Meets}
-use Rattle.cob_edge_parts.specs.Edges.{LeadsBeside, StandFor, fault_edge}
+use Rattle.cob_edge_parts.specs.Edges.{LeadsBeside, fault_edge}
 use Rattle.cob_edge_parts.proofs.AllEdges.{parts_are_passed_beside, faults_are_met}
-use Rattle.dom_laws.specs.Meaning.{Storage, ReachesIn}
+use Rattle.dom_laws.specs.Meaning.{Storage}
 use Rattle.graph_runs.specs.Places.{edge_at, IsOf, DoesAt}
 use Rattle.graph_runs.specs.Sources.{IsSourceGraph}
 use Rattle.graph_runs.specs.Counters.{IsCounted, PassesParts, MeetsAmong, MisfitsAmong}
-use Rattle.graph_runs.specs.Doing.{start, Acts, IsMetOn, MeetsAt, MisfitsAt, graph_runs}
-use Rattle.graph_runs.specs.Flows.{flow_over}
+use Rattle.graph_runs.specs.Doing.{start, Acts, IsMetOn, MeetsAt, MisfitsAt}
 use Rattle.graph_runs.specs.Following.{Reaches, IsReached, SomeCountMisfits, IsMet, WaysAreFollowed, FaultsAreReached}
 use Rattle.graph_runs.proofs.Numbering.{IsNumbered, numbered}
 use Rattle.graph_runs.proofs.Phrases.{size_beside}
 use Rattle.graph_runs.proofs.Counting.{begins_counted, begins_standing, stand_length}
-use Rattle.graph_runs.proofs.Holding.{edge_counted, edge_length, fits_or_not, meets_or_not, misfits_meet, arith_fits}
+use Rattle.graph_runs.proofs.Holding.{edge_counted, edge_length, fits_or_not, meets_or_not}
+use Rattle.graph_runs.proofs.Quiet.{none_misfits, edge_none}
 
 -- ---- edges on which a statement does something
 
@@ -80,30 +78,11 @@ its_own a action.Write = refl
 its_own a action.Show = refl
 
 module _ (p : Program) (statement : ℕ) (handled : Bool) (m : Moment) where
-  computing_fits : (a : Act) → has_phrase a ≡ true → ¬ MisfitsAmong p.layout handled (compute_parts p statement a) m
-  computing_fits (arithmetic s ts remainder size fine) e = arith_fits p.layout handled s ts remainder m
-  computing_fits (move x places) e = absurd (false≢true e)
-  computing_fits (if_ t held other) e = absurd (false≢true e)
-  computing_fits (evaluate ws other) e = absurd (false≢true e)
-  computing_fits (perform body turns) e = absurd (false≢true e)
-  computing_fits (go para) e = absurd (false≢true e)
-  computing_fits nothing e = absurd (false≢true e)
-  computing_fits stop e = absurd (false≢true e)
-  computing_fits (open_files os) e = absurd (false≢true e)
-  computing_fits (close_files fs) e = absurd (false≢true e)
-  computing_fits (read f into end fine) e = absurd (false≢true e)
-  computing_fits (write r from) e = absurd (false≢true e)
-  computing_fits (show xs) e = absurd (false≢true e)
-
-  done_by : (a : Act) (b : Bool) → has_phrase a ≡ b → MisfitsAmong p.layout handled (compute_parts p statement a) m →
-      size_or_done b ≡ action.Done
-  done_by a true e misfits = absurd (computing_fits a e misfits)
-  done_by a false e misfits = refl
-
   -- an edge on which a counter misfits is such an edge
   misfit_own : (a : Act) (x : Action) → MisfitsAmong p.layout handled (parts_of p statement a x) m →
       fault_edge a x ≡ x
-  misfit_own a action.Done misfits = done_by a (has_phrase a) refl misfits
+  misfit_own a action.Done misfits =
+      absurd (none_misfits p.layout handled (compute_parts p statement a) m (edge_none p statement a action.Done tt) misfits)
   misfit_own a action.Skip misfits = refl
   misfit_own a action.Assign misfits = refl
   misfit_own a action.Size misfits = refl

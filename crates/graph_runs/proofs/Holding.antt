@@ -1,22 +1,16 @@
 -- Counters along the parts of an edge: each store to one fits, or the first that doesn't is met.
-use Rattle.std.proofs.Common.{◌≡◌, ℕ, ◌⊎◌, inl, inr, ◌-◌, Bool, true, false, List, [], ◌∷◌, ◌++◌, length, map, Option, Some, None, Ok, ℤ, pos, refl, sym, ap, subst, ◌∙◌}
+use Rattle.std.proofs.Common.{◌≡◌, ℕ, ◌⊎◌, inl, inr, ◌-◌, Bool, true, false, List, [], ◌∷◌, length, Option, Some, None, ℤ, pos, refl, sym, ap, subst, ◌∙◌}
 use Rattle.std.specs.Prelude.{if◌then◌else◌, slice_set, ◌-ℤ◌}
-use Rattle.std.specs.List.{list_any}
-use Rattle.std.proofs.lemmas.Bool.{false≢true}
 use Rattle.dec_num.specs.declared.types.Mode.{Mode}
 use Rattle.dec_num.specs.declared.types.Scaled.{Scaled}
 use Rattle.cob_tree.specs.declared.fault.Kind.{Kind}
 use Rattle.cob_tree.specs.declared.fault.Kind.TheVariants as kind
 use Rattle.cob_data.specs.declared.layout.Layout.{Layout}
 use Rattle.cob_data.specs.declared.layout.Sender.{Sender}
-use Rattle.cob_program.specs.declared.act.Target.{Target}
-use Rattle.cob_program.specs.declared.act.How.{How}
-use Rattle.cob_program.specs.declared.act.How.TheVariants as how
-use Rattle.cob_program.specs.Sum.{Sum, Atom, group}
+use Rattle.cob_program.specs.Sum.{Atom}
 use Rattle.cob_program.specs.Act.{Program}
-use Rattle.cob_runs.specs.Computing.{items_in}
 use Rattle.cob_runs.specs.Moves.{number_of}
-use Rattle.cob_edge_parts.specs.Parts.{Amount, Part, read, unread, divide, store, bytes_in, guard, read_count, set_count, count_down, guard_count, item_reads, own_reads, divides, divisors_in, divisors_of, target_parts, targets_parts, remainder_parts, arith_parts}
+use Rattle.cob_edge_parts.specs.Parts.{Amount, Part, read, unread, divide, store, bytes_in, guard, read_count, set_count, count_down, guard_count}
 use Rattle.cob_edge_parts.specs.Meaning.{Moment, with_storage, with_own, with_failure, divided_by_zero, divides_by, is_left_alone, stored_bytes, stored_or_kept, ReadsAt, Divides, Stores, Passes, PassesAll, Meets}
 use Rattle.cob_edge_parts.specs.Meaning as meaning
 use Rattle.graph_runs.specs.Counters.{IsCount, IsCounted, IsTooGreat, Misfits, PassesPart, PassesParts, MeetsAmong, MisfitsAmong}
@@ -160,7 +154,7 @@ module _ (l : Layout) where
     pub fits_or_not : (xs : List Part) (m n : Moment) → PassesAll l handled xs m n →
         PassesParts l handled xs m n ⊎ MisfitsAmong l handled xs m
     fits_or_not [] m n e = inl e
-    fits_or_not (x ∷ xs) m n (next, pass, rest) = by_front (misfits_or_not x m)
+    fits_or_not (x ∷ xs) m n (next, pass, rest) = by_front (misfits_or_not x m) (fits_or_not xs next n rest)
       where
         behind : ¬ Misfits l x m → PassesParts l handled xs next n ⊎ MisfitsAmong l handled xs next →
             PassesParts l handled (x ∷ xs) m n ⊎ MisfitsAmong l handled (x ∷ xs) m
@@ -168,15 +162,18 @@ module _ (l : Layout) where
         behind not_ (inr misfits) = inr (inr (next, (pass, not_), misfits))
 
         by_front : Misfits l x m ⊎ ¬ Misfits l x m →
+            PassesParts l handled xs next n ⊎ MisfitsAmong l handled xs next →
             PassesParts l handled (x ∷ xs) m n ⊎ MisfitsAmong l handled (x ∷ xs) m
-        by_front (inl misfits) = inr (inl misfits)
-        by_front (inr not_) = behind not_ (fits_or_not xs next n rest)
+        by_front (inl misfits) later = inr (inl misfits)
+        by_front (inr not_) later = behind not_ later
 
     -- a fault is met behind parts that fit, or one of these doesn't
     pub meets_or_not : (xs : List Part) (m : Moment) (fault : Kind) → Meets l handled xs m fault →
         MeetsAmong l handled xs m fault ⊎ MisfitsAmong l handled xs m
+    meets_or_not [] m fault h = absurd h
     meets_or_not (x ∷ xs) m fault (inl f) = inl (inl (inl f))
-    meets_or_not (x ∷ xs) m fault (inr (next, pass, rest)) = by_front (misfits_or_not x m)
+    meets_or_not (x ∷ xs) m fault (inr (next, pass, rest)) =
+        by_front (misfits_or_not x m) (meets_or_not xs next fault rest)
       where
         behind : ¬ Misfits l x m → MeetsAmong l handled xs next fault ⊎ MisfitsAmong l handled xs next →
             MeetsAmong l handled (x ∷ xs) m fault ⊎ MisfitsAmong l handled (x ∷ xs) m
@@ -184,61 +181,13 @@ module _ (l : Layout) where
         behind not_ (inr misfits) = inr (inr (next, (pass, not_), misfits))
 
         by_front : Misfits l x m ⊎ ¬ Misfits l x m →
+            MeetsAmong l handled xs next fault ⊎ MisfitsAmong l handled xs next →
             MeetsAmong l handled (x ∷ xs) m fault ⊎ MisfitsAmong l handled (x ∷ xs) m
-        by_front (inl misfits) = inr (inl misfits)
-        by_front (inr not_) = behind not_ (meets_or_not xs next fault rest)
+        by_front (inl misfits) later = inr (inl misfits)
+        by_front (inr not_) later = behind not_ later
 
     -- what doesn't fit is met as a size error
     pub misfits_meet : (xs : List Part) (m : Moment) → MisfitsAmong l handled xs m → MeetsAmong l handled xs m kind.Size
+    misfits_meet [] m h = absurd h
     misfits_meet (x ∷ xs) m (inl misfits) = inl (inr (refl, misfits))
     misfits_meet (x ∷ xs) m (inr (next, pass, rest)) = inr (next, pass, misfits_meet xs next rest)
-
-  -- ---- arithmetic stores to no counter
-
-  abbrev NoCounts : List Part → Type 0
-  NoCounts [] = Unit {0}
-  NoCounts (x ∷ xs) = ((m : Moment) → ¬ Misfits l x m) × NoCounts xs
-
-  none_of : (handled : Bool) (xs : List Part) (m : Moment) → NoCounts xs → ¬ MisfitsAmong l handled xs m
-  none_of handled (x ∷ xs) m q (inl misfits) = q.0 m misfits
-  none_of handled (x ∷ xs) m q (inr (next, pass, rest)) = none_of handled xs next q.1 rest
-
-  both_no : (xs ys : List Part) → NoCounts xs → NoCounts ys → NoCounts (xs ++ ys)
-  both_no [] ys q r = r
-  both_no (x ∷ xs) ys q r = (q.0, both_no xs ys q.1 r)
-
-  reads_no : (places : List ℕ) → NoCounts (item_reads places)
-  reads_no [] = tt
-  reads_no (place ∷ places) = ((λ m f. f), reads_no places)
-
-  divides_no : (atoms : List Atom) → NoCounts (divides atoms)
-  divides_no [] = tt
-  divides_no (a ∷ atoms) = ((λ m f. f), divides_no atoms)
-
-  own_no : (h : How) (place : ℕ) → NoCounts (own_reads h place)
-  own_no how.Whole place = tt
-  own_no how.Plus place = ((λ m f. f), tt)
-  own_no how.Minus place = ((λ m f. f), tt)
-  own_no how.Times place = ((λ m f. f), tt)
-  own_no how.Under place = ((λ m f. f), tt)
-
-  targets_no : (s : Sum) (ts : List Target) → NoCounts (targets_parts s ts)
-  targets_no s [] = tt
-  targets_no s (t ∷ ts) =
-      both_no (target_parts s t) (targets_parts s ts)
-      (both_no (own_reads t.how t.item) _ (own_no t.how t.item) ((λ m f. f), tt)) (targets_no s ts)
-
-  remainder_no : (s : Sum) (ts : List Target) (remainder : Option ℕ) → NoCounts (remainder_parts l s ts remainder)
-  remainder_no s (t ∷ []) (Some place) = ((λ m f. f), tt)
-  remainder_no s [] remainder = tt
-  remainder_no s (t ∷ []) None = tt
-  remainder_no s (t ∷ u ∷ ts) remainder = tt
-
-  pub arith_fits : (handled : Bool) (s : Sum) (ts : List Target) (remainder : Option ℕ) (m : Moment) →
-      ¬ MisfitsAmong l handled (arith_parts l s ts remainder) m
-  arith_fits handled s ts remainder m =
-      none_of handled (arith_parts l s ts remainder) m
-      (both_no (item_reads (items_in s)) _ (reads_no (items_in s))
-      (both_no (divides (divisors_of s ts)) _ (divides_no (divisors_of s ts))
-      (both_no (targets_parts s ts) (remainder_parts l s ts remainder) (targets_no s ts)
-      (remainder_no s ts remainder))))

@@ -4,5 +4,7 @@ pub mod Ordering
 pub mod Phrases
 pub mod Counting
 pub mod Holding
+pub mod Quiet
 pub mod Following
 pub mod Clearing
+pub mod Examples

@@ -1,6 +1,6 @@
 -- A program's graph is a system: its edges stand in the order of the nodes that they leave, and lead to nodes.
-use Rattle.std.proofs.Common.{◌≡◌, ◌≤◌, ◌<◌, ℕ, zero, suc, ◌+◌, ◌-◌, List, [], ◌∷◌, ◌++◌, length, ℤ, refl, sym, ap, subst, ◌∙◌, arith, length-append}
-use Rattle.std.specs.Prelude.{slice_index_or, map}
+use Rattle.std.proofs.Common.{◌≡◌, ◌≤◌, ◌<◌, ℕ, zero, suc, ◌+◌, ◌-◌, List, [], ◌∷◌, ◌++◌, length, ℤ, sym, ap, subst, ◌∙◌, arith}
+use Rattle.std.specs.Prelude.{slice_index_or}
 use Rattle.std.proofs.lemmas.List.{length-map}
 use Rattle.cob_program.specs.Act.{Program}
 use Rattle.cob_runs.specs.declared.action.Action.{Action}
@@ -8,9 +8,8 @@ use Rattle.cob_graph.specs.declared.graph.Edge.{Edge}
 use Rattle.cob_graph.specs.declared.graph.Graph.{Graph}
 use Rattle.cob_graph.specs.Nodes.{Noded}
 use Rattle.cob_graph.specs.Graphs.{all_nodes, as_node, final_of, edges_from, edges_of, IsGraph}
-use Rattle.cob_graph.specs.Lookup.{final_in}
 use Rattle.cob_graph.proofs.Lengths.{final_is}
-use Rattle.dom_laws.specs.Flow.{IsNode, IsEdge}
+use Rattle.dom_laws.specs.Flow.{IsEdge}
 use Rattle.graph_runs.specs.Places.{no_edge, edge_at}
 use Rattle.graph_runs.specs.Flows.{flow_over, HasEdgesInOrder, GraphsAreFlows}
 use Rattle.graph_runs.proofs.Targets.{IsIn, OutIn, EachIn, program_in}
@@ -67,7 +66,7 @@ module _ (final : ℕ) where
 
 module _ (p : Program) (g : Graph) (is : IsGraph p g) where
   many : length g.nodes ≡ length (all_nodes p is.copies)
-  many = ap length is.nodes ∙ length-map as_node (all_nodes p is.copies)
+  many = ap length is.nodes ∙ length-map (all_nodes p is.copies) as_node
 
   last_node : final_of is.copies ≡ length g.nodes
   last_node = final_is p g is

@@ -1,9 +1,9 @@
 -- A node whose arithmetic statement has ON SIZE ERROR has an edge to the phrase's list.
-use Rattle.std.proofs.Common.{◌≡◌, ℕ, zero, suc, ◌+◌, ◌-◌, Bool, true, false, List, [], ◌∷◌, ◌++◌, Option, Some, refl, sym, ap, subst, ◌∙◌, arith}
+use Rattle.std.proofs.Common.{◌≡◌, ℕ, zero, suc, ◌+◌, ◌-◌, Bool, true, false, List, [], ◌∷◌, ◌++◌, Some, refl, sym, ap, subst, ◌∙◌, arith}
 use Rattle.std.specs.Prelude.{◌||◌, Contains, slice_get}
 use Rattle.std.specs.Option.{option_map, option_map_or}
 use Rattle.std.proofs.lemmas.Bool.{false≢true}
-use Rattle.std.proofs.lemmas.Option.{same_Some, none-some, slice_get-map}
+use Rattle.std.proofs.lemmas.Option.{same_Some, none-some}
 use Rattle.cob_program.specs.declared.act.Opening.{Opening}
 use Rattle.cob_program.specs.Logic.{Test, numbers, texts, member, numeric, always, Logic, all_of, any_of, not_, test, Logics, no_logics, more_logics, logics_of}
 use Rattle.cob_program.specs.Act.{Turns, once, times, until, varying, MkStmt, Stmts, no_stmts, more_stmts, Phrase, left_out, given, Act, move, arith as arithmetic, if_, evaluate, perform, go, nothing, stop, open_files, close_files, read, write, show, Whens, no_whens, more_whens, MkWhen, Body, range, inline, Para, Program}
@@ -13,7 +13,8 @@ use Rattle.cob_runs.specs.Steps.{body_at, is_given}
 use Rattle.cob_runs.specs.Effects.{act_at}
 use Rattle.cob_graph.specs.declared.graph.Node.{Node}
 use Rattle.cob_graph.specs.declared.graph.Graph.{Graph}
-use Rattle.cob_graph.specs.Laid.{MkLaid, LaidList, no_laid, more_laid, LaidPhrase, no_phrase, a_phrase, LaidAct, moving, showing, skipping, going, ending, computing, deciding, choosing, performing, opening, closing, reading, writing, LaidWhens, no_laid_whens, more_laid_whens, LaidBody, own_list, copy, LaidParas, no_laid_paras, more_laid_paras}
+use Rattle.cob_graph.specs.Laid.{MkLaid, LaidList, no_laid, more_laid, LaidPhrase, no_phrase, a_phrase, LaidAct, moving, showing, skipping, going, ending, computing, deciding, choosing, performing, opening, closing, reading, LaidWhens, no_laid_whens, more_laid_whens, LaidBody, own_list, copy, LaidParas, no_laid_paras, more_laid_paras, phrase_size}
+use Rattle.cob_graph.specs.Places.{first_of_list}
 use Rattle.cob_graph.specs.Nodes.{Noded, Copied, test_edges, logic_nodes, all_nodes, any_nodes, open_nodes, close_nodes, read_nodes, write_nodes, size_edges, loop_before, loop_behind, copied_in, list_nodes, phrase_nodes, whens_nodes, body_nodes, paras_nodes, act_nodes}
 use Rattle.cob_graph.specs.Copies.{AreLaid, IsLaidPhrase, IsLaidAct, AreLaidWhens, IsLaidBody, AreLaidParas}
 use Rattle.cob_graph.specs.Graphs as graphs
@@ -77,11 +78,11 @@ further x xs (m, (k, l, e)) = (m, (suc k, omega (arith, l), e))
 
 there_size : (out : List (Action × ℕ)) → has_size out ≡ true → SizeThere out
 there_size [] e = absurd (false≢true e)
-there_size (x ∷ xs) e = by_front (is_size x.0) refl
+there_size (x ∷ xs) e = by_front (is_size x.0) refl (λ f. there_size xs f)
   where
-    by_front : (b : Bool) → is_size x.0 ≡ b → SizeThere (x ∷ xs)
-    by_front true f = (x.1, (0, omega arith, size_of x f))
-    by_front false f = further x xs (there_size xs (sym (ap (λ b. b || has_size xs) f) ∙ e))
+    by_front : (b : Bool) → is_size x.0 ≡ b → (has_size xs ≡ true → SizeThere xs) → SizeThere (x ∷ xs)
+    by_front true f later = (x.1, (0, omega arith, size_of x f))
+    by_front false f later = further x xs (later (sym (ap (λ b. b || has_size xs) f) ∙ e))
 
 -- ---- nodes
 
@@ -123,6 +124,13 @@ module _ (p : Program) where
   -- one of a statement that is known
   by_act : (x : Noded) (a : Act) → act_at p x.statement ≡ Some a → has_phrase a ≡ has_size x.out → IsTold x
   by_act x a its e d b its_b = ap has_phrase (same_Some b a (sym its_b ∙ its)) ∙ e
+
+  one_by_act : (x : Noded) (a : Act) → act_at p x.statement ≡ Some a → has_phrase a ≡ has_size x.out → AreTold (x ∷ [])
+  one_by_act x a its e = one_told x (by_act x a its e)
+
+  more_by_act : (x : Noded) (xs : List Noded) (a : Act) → act_at p x.statement ≡ Some a → has_phrase a ≡ has_size x.out →
+      AreTold xs → AreTold (x ∷ xs)
+  more_by_act x xs a its e i = more_told x xs (by_act x a its e) i
 
   module _ (c : Copied) (number : ℕ) where
     test_quiet : (t : Test) (k tr fa : ℕ) → has_done (test_edges c number t k tr fa) ≡ false
@@ -180,9 +188,9 @@ module _ (p : Program) where
     behind_told body (times s) x at next its = one_quiet _ refl
     behind_told body (until false t) x at next its = none_told
     behind_told body (until true t) x at next its = logic_told true t 0 _ next _
-    behind_told body (varying false i from by t) x at next its = one_told _ (by_act _ _ its refl)
+    behind_told body (varying false i from by t) x at next its = one_by_act _ _ its refl
     behind_told body (varying true i from by t) x at next its =
-        append_told _ _ (logic_told true t 0 _ next _) (one_told _ (by_act _ _ its refl))
+        append_told _ _ (logic_told true t 0 _ next _) (one_by_act _ _ its refl)
 
     same_phrase : (lo hi : ℕ) (size : Phrase) (u : LaidPhrase) (s : Action × ℕ) (at next : ℕ) →
         IsLaidPhrase p lo hi size u → is_size s.0 ≡ false →
@@ -264,7 +272,9 @@ module _ (p : Program) where
       act_told c lo hi (write r from) x number at next l its w =
           as_laid c number at next x _ l (write_told c number _ _ at next)
       act_told c lo hi (arithmetic sum ts remainder size fine) (computing u v) number at next l its w =
-          more_told _ _ (by_act _ _ its (same_phrase c number lo hi size u _ _ next l.0 refl))
+          more_by_act _ _ _ its
+          (same_phrase c number lo hi size u (action.Done, first_of_list v (at + 1 + phrase_size u) next) (at + 1) next
+          l.0 refl)
           (append_told _ _ (phrase_told c lo hi size u _ next l.0 w.0) (list_told c lo hi fine v _ next l.1 w.1))
       act_told c lo hi (if_ t held other) (deciding u xs ys) number at next l its w =
           append_told _ _

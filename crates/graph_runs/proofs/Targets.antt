@@ -1,13 +1,13 @@
 -- The ways that leave the nodes laid go to nodes.
-use Rattle.std.proofs.Common.{◌≡◌, ◌≤◌, ℕ, zero, suc, ◌+◌, ◌-◌, Bool, true, false, List, [], ◌∷◌, ◌++◌, refl, subst, arith}
+use Rattle.std.proofs.Common.{◌≤◌, ℕ, zero, suc, ◌+◌, ◌-◌, if◌then◌else◌, Bool, true, false, List, [], ◌∷◌, ◌++◌, arith}
 use Rattle.cob_program.specs.declared.act.Opening.{Opening}
 use Rattle.cob_program.specs.Logic.{Test, numbers, texts, member, numeric, always, Logic, all_of, any_of, not_, test, Logics, no_logics, more_logics, logics_of}
 use Rattle.cob_program.specs.Act.{Turns, once, times, until, varying, Program}
 use Rattle.cob_runs.specs.declared.action.Action.{Action}
 use Rattle.cob_runs.specs.Acts.{has_status}
 use Rattle.cob_graph.specs.Laid.{Laid, MkLaid, LaidList, no_laid, more_laid, LaidPhrase, no_phrase, a_phrase, LaidAct, moving, showing, skipping, going, ending, computing, deciding, choosing, performing, opening, closing, reading, writing, LaidWhens, no_laid_whens, more_laid_whens, LaidBody, own_list, copy, LaidParas, no_laid_paras, more_laid_paras, tests_in, tests_among, one_if, how_many, loop_nodes, size, list_size, phrase_size, act_size, whens_size, body_size, paras_size}
-use Rattle.cob_graph.specs.Places.{first_of_list, first_of_paras, first_of_para, first_of_body, first_of_logic, first_of_all, first_of_any, first_of_whens, body_at, tests_at, augment_at, body_next}
-use Rattle.cob_graph.specs.Nodes.{Noded, Copied, test_edges, logic_nodes, all_nodes, any_nodes, bad_to, behind, open_nodes, close_nodes, end_to, read_nodes, write_edges, write_nodes, size_edges, loop_before, loop_behind, copied_in, nodes, list_nodes, phrase_nodes, whens_nodes, body_nodes, paras_nodes, act_nodes}
+use Rattle.cob_graph.specs.Places.{first_of_list, first_of_paras, first_of_para, first_of_body, first_of_logic, first_of_all, first_of_any, first_of_whens, body_at, body_next}
+use Rattle.cob_graph.specs.Nodes.{Noded, Copied, test_edges, logic_nodes, all_nodes, any_nodes, bad_to, behind, open_nodes, close_nodes, end_to, read_nodes, write_nodes, size_edges, loop_before, loop_behind, copied_in, nodes, list_nodes, phrase_nodes, whens_nodes, body_nodes, paras_nodes, act_nodes}
 use Rattle.cob_graph.specs.Graphs as graphs
 use Rattle.cob_graph.specs.Graphs.{final_of, final_node, main_copy}
 
@@ -206,24 +206,33 @@ module _ (final : ℕ) where
         one_in _ (body_first x (at + 1) next (among at _ _ _ f (omega arith) (omega arith)) n, tt)
     before_in (times s) x at next f n =
         more_in _ _ (begins_in (at + 1) _ (among at _ _ 1 f (omega arith) (omega arith)), tt)
-        (one_in _ (body_first x (at + 2) _ (among at _ _ _ f (omega arith) (omega arith))
-        (begins_in (at + 2 + body_size x) _ (among at _ _ 1 f (omega arith) (omega arith))), (n, tt)))
+        (one_in _ (
+          body_first x (at + 2) _ (among at _ _ _ f (omega arith) (omega arith))
+              (begins_in (at + 2 + body_size x) _ (among at _ _ 1 f (omega arith) (omega arith))),
+          (n, tt),
+        ))
     before_in (until false t) x at next f n =
         let g : IsIn (at + 1) = begins_in (at + 1) _ (among at _ _ 0 f (omega arith) (omega arith)) in
         more_in _ _ (g, tt)
         (logic_in true t 0 (at + 1) next _ (among at _ _ _ f (omega arith) (omega arith)) n
         (body_first x (at + 1 + tests_in t) (at + 1) (among at _ _ _ f (omega arith) (omega arith)) g))
     before_in (until true t) x at next f n =
-        one_in _ (body_first x (at + 1) _ (among at _ _ _ f (omega arith) (omega arith))
-        (begins_in (at + 1 + body_size x) _ (among at _ _ 0 f (omega arith) (omega arith))), tt)
+        one_in _ (
+          body_first x (at + 1) _ (among at _ _ _ f (omega arith) (omega arith))
+              (begins_in (at + 1 + body_size x) _ (among at _ _ 0 f (omega arith) (omega arith))),
+          tt,
+        )
     before_in (varying false i from by t) x at next f n =
         more_in _ _ (begins_in (at + 1) _ (among at _ _ 0 f (omega arith) (omega arith)), tt)
         (logic_in true t 0 (at + 1) next _ (among at _ _ _ f (omega arith) (omega arith)) n
         (body_first x (at + 1 + tests_in t) _ (among at _ _ _ f (omega arith) (omega arith))
         (begins_in (at + 1 + tests_in t + body_size x) _ (among at _ _ 0 f (omega arith) (omega arith)))))
     before_in (varying true i from by t) x at next f n =
-        one_in _ (body_first x (at + 1) _ (among at _ _ _ f (omega arith) (omega arith))
-        (begins_in (at + 1 + body_size x) _ (among at _ _ 0 f (omega arith) (omega arith))), tt)
+        one_in _ (
+          body_first x (at + 1) _ (among at _ _ _ f (omega arith) (omega arith))
+              (begins_in (at + 1 + body_size x) _ (among at _ _ 0 f (omega arith) (omega arith))),
+          tt,
+        )
 
     behind_loop : (turns : Turns) (x : LaidBody) (at next : ℕ) → Fit at (loop_nodes turns + body_size x) → IsIn next →
         AreIn (loop_behind c number turns x at next)
@@ -241,8 +250,11 @@ module _ (final : ℕ) where
         append_in _ _
         (logic_in true t 0 _ next _ (among at _ _ _ f (omega arith) (omega arith)) n
         (begins_in (at + 1 + body_size x + tests_in t) _ (among at _ _ 0 f (omega arith) (omega arith))))
-        (one_in _ (body_first x (at + 1) _ (among at _ _ _ f (omega arith) (omega arith))
-        (begins_in (at + 1 + body_size x) _ (among at _ _ 0 f (omega arith) (omega arith))), tt))
+        (one_in _ (
+          body_first x (at + 1) _ (among at _ _ _ f (omega arith) (omega arith))
+              (begins_in (at + 1 + body_size x) _ (among at _ _ 0 f (omega arith) (omega arith))),
+          tt,
+        ))
 
     -- where a loop's body stands, and what it goes on at
     body_fit : (turns : Turns) (x : LaidBody) (at : ℕ) → Fit at (loop_nodes turns + body_size x) →
