@@ -1,9 +1,9 @@
 -- Counters in which a number is set, or all stay.
-use Rattle.std.proofs.Common.{◌≡◌, ◌<◌, ◌≤◌, ℕ, zero, suc, ◌-◌, ◌⊎◌, inl, inr, List, [], ◌∷◌, length, Option, Some, None, ℤ, pos, refl, ap, arith}
+use Rattle.std.proofs.Common.{◌≡◌, ◌<◌, ◌≤◌, ℕ, zero, suc, ◌-◌, ◌⊎◌, inl, inr, List, [], ◌∷◌, length, Option, Some, None, ℤ, pos, refl, ap, subst, arith}
 use Rattle.std.specs.Prelude.{slice_get, slice_set, replicate, unsigned_abs, ◌^◌}
 use Rattle.std.specs.Option.{option_map_or}
 use Rattle.std.proofs.lemmas.Bool.{cases_lt}
-use Rattle.std.proofs.lemmas.Option.{none-some}
+use Rattle.std.proofs.lemmas.Option.{none-some, same_Some}
 use Rattle.cob_program.specs.Act.{Program}
 use Rattle.cob_edge_parts.specs.Meaning.{count_in}
 use Rattle.cob_edge_parts.specs.Edges.{StandFor}
@@ -19,7 +19,7 @@ is_count n = by_order (cases_lt (unsigned_abs n) (10 ^ 18))
 
 -- ---- one is set
 
-abbrev at_place : List (Option ℤ) → ℕ → Option ℤ
+abbrev pub at_place : List (Option ℤ) → ℕ → Option ℤ
 at_place counts i = option_map_or (λ c. c) (slice_get counts i) None
 
 -- each counter holds what it held, or the number that was set
@@ -45,6 +45,25 @@ pub length_set : (counts : List (Option ℤ)) (i : ℕ) (v : ℤ) → length (sl
 length_set [] i v = refl
 length_set (x ∷ xs) zero v = refl
 length_set (x ∷ xs) (suc i) v = ap suc (length_set xs i v)
+
+-- ---- all are small
+
+-- each number among the counters has at most 18 digits
+abbrev pub AreSmall : List (Option ℤ) → Type 0
+AreSmall counts = (i : ℕ) (v : ℤ) → at_place counts i ≡ Some v → IsCount v
+
+pub small_set : (counts : List (Option ℤ)) (i : ℕ) (n : ℤ) → AreSmall counts → IsCount n →
+    AreSmall (slice_set counts i (Some n))
+small_set [] i n is small j v e = is j v e
+small_set (x ∷ xs) zero n is small zero v e = subst IsCount (same_Some n v e) small
+small_set (x ∷ xs) zero n is small (suc j) v e = is (suc j) v e
+small_set (x ∷ xs) (suc i) n is small zero v e = is zero v e
+small_set (x ∷ xs) (suc i) n is small (suc j) v e = small_set xs i n (λ k u f. is (suc k) u f) small j v e
+
+pub begins_small : (many : ℕ) → AreSmall (replicate many (Some (pos 0)))
+begins_small zero i v e = absurd (none-some v e)
+begins_small (suc many) zero v e = subst IsCount (same_Some (pos 0) v e) (omega arith)
+begins_small (suc many) (suc i) v e = begins_small many i v e
 
 -- ---- those of the beginning
 

@@ -6,7 +6,6 @@ use Rattle.std.proofs.lemmas.List.{length-replicate}
 use Rattle.cob_tree.specs.declared.fault.Kind.{Kind}
 use Rattle.cob_program.specs.Act.{Act, Program}
 use Rattle.cob_meaning.specs.declared.straight.Outcome.{Outcome}
-use Rattle.cob_meaning.specs.declared.straight.Outcome.TheVariants.{Fault}
 use Rattle.cob_runs.specs.declared.action.Action.{Action}
 use Rattle.cob_runs.specs.declared.action.Action.TheVariants as action
 use Rattle.cob_runs.specs.Files.{Choice}
@@ -19,21 +18,21 @@ use Rattle.cob_graph.specs.declared.graph.Graph.{Graph}
 use Rattle.cob_graph.specs.Lookup.{node_at, edge}
 use Rattle.cob_graph_laws.specs.Ways.{Comes, at_first, onward, ComesToFault, ShowsBy}
 use Rattle.cob_graph_laws.proofs.Simulated.{simulates}
-use Rattle.cob_edge_parts.specs.Parts.{Part, has_phrase, is_handled, parts_of, compute_parts}
+use Rattle.cob_edge_parts.specs.Parts.{Part, has_phrase, is_handled, parts_of}
 use Rattle.cob_edge_parts.specs.Meaning.{Moment, beginning, Meets}
 use Rattle.cob_edge_parts.specs.Edges.{LeadsBeside, fault_edge}
 use Rattle.cob_edge_parts.proofs.AllEdges.{parts_are_passed_beside, faults_are_met}
 use Rattle.dom_laws.specs.Meaning.{Storage}
-use Rattle.graph_runs.specs.Places.{edge_at, IsOf, DoesAt}
+use Rattle.graph_runs.specs.Places.{edge_at, DoesAt}
 use Rattle.graph_runs.specs.Sources.{IsSourceGraph}
-use Rattle.graph_runs.specs.Counters.{IsCounted, PassesParts, MeetsAmong, MisfitsAmong}
-use Rattle.graph_runs.specs.Doing.{start, Acts, IsMetOn, MeetsAt, MisfitsAt}
-use Rattle.graph_runs.specs.Following.{Reaches, IsReached, SomeCountMisfits, IsMet, WaysAreFollowed, FaultsAreReached}
+use Rattle.graph_runs.specs.Counters.{PassesParts, MeetsAmong}
+use Rattle.graph_runs.specs.Doing.{start, Acts, IsMetOn, MeetsAt}
+use Rattle.graph_runs.specs.Following.{Reaches, IsReached, IsMet, WaysAreFollowed, FaultsAreReached}
 use Rattle.graph_runs.proofs.Numbering.{IsNumbered, numbered}
 use Rattle.graph_runs.proofs.Phrases.{size_beside}
-use Rattle.graph_runs.proofs.Counting.{begins_counted, begins_standing, stand_length}
-use Rattle.graph_runs.proofs.Holding.{edge_counted, edge_length, fits_or_not, meets_or_not}
-use Rattle.graph_runs.proofs.Quiet.{none_misfits, edge_none}
+use Rattle.graph_runs.proofs.Counting.{AreSmall, begins_small, begins_standing, stand_length}
+use Rattle.graph_runs.proofs.Holding.{MisfitsAmong, edge_small, edge_length, fits_or_not, meets_or_not}
+use Rattle.graph_runs.proofs.Fitting.{IsAt, fits}
 
 -- ---- edges on which a statement does something
 
@@ -77,27 +76,6 @@ its_own a (action.Bad k) = refl
 its_own a action.Write = refl
 its_own a action.Show = refl
 
-module _ (p : Program) (statement : ℕ) (handled : Bool) (m : Moment) where
-  -- an edge on which a counter misfits is such an edge
-  misfit_own : (a : Act) (x : Action) → MisfitsAmong p.layout handled (parts_of p statement a x) m →
-      fault_edge a x ≡ x
-  misfit_own a action.Done misfits =
-      absurd (none_misfits p.layout handled (compute_parts p statement a) m (edge_none p statement a action.Done tt) misfits)
-  misfit_own a action.Skip misfits = refl
-  misfit_own a action.Assign misfits = refl
-  misfit_own a action.Size misfits = refl
-  misfit_own a (action.True k) misfits = refl
-  misfit_own a (action.False k) misfits = refl
-  misfit_own a action.SetCount misfits = refl
-  misfit_own a action.Down misfits = refl
-  misfit_own a (action.Open k) misfits = refl
-  misfit_own a (action.Close k) misfits = refl
-  misfit_own a action.Take misfits = refl
-  misfit_own a action.AtEnd misfits = refl
-  misfit_own a (action.Bad k) misfits = refl
-  misfit_own a action.Write misfits = refl
-  misfit_own a action.Show misfits = refl
-
 module _ (p : Program) (g : Graph) (source : IsSourceGraph p g) where
   -- the edge on which a node's fault is met is there
   abbrev EdgeThere : ℕ → Action → Type 0
@@ -126,10 +104,6 @@ module _ (p : Program) (g : Graph) (source : IsSourceGraph p g) where
   fault_edge_there n m x a action.Show at its there = (m, there)
 
   -- ---- what is done on an edge, by its number
-
-  does_at : (n : ℕ) (x : Node) (a : Act) → node_at g.nodes n ≡ Some x → act_at p x.statement ≡ Some a →
-      DoesAt p g n x.statement a
-  does_at n x a at its = record { of = record { at = x; stands = at; number = refl }; act = its }
 
   acts_by : (e statement : ℕ) (a : Act) (x : Edge) (s t : Storage) (last : Moment) → edge_at g e ≡ x →
       DoesAt p g x.from statement a →
@@ -169,208 +143,159 @@ module _ (p : Program) (g : Graph) (source : IsSourceGraph p g) where
         MeetsAmong p.layout (is_handled a y.action) (parts_of p statement a y.action) (start s) fault) (sym k.is) meets;
   }
 
-  misfits_by : (n statement m : ℕ) (a : Act) (x : Action) (s : Storage) → IsNumbered g (edge n x m) →
-      DoesAt p g n statement a → MisfitsAmong p.layout (is_handled a x) (parts_of p statement a x) (start s) →
-      MisfitsAt p g n s
-  misfits_by n statement m a x s k does misfits = record {
-    e = k.e;
-    statement = statement;
-    act = a;
-    on = met_on n statement m a x k does (misfit_own p statement (is_handled a x) (start s) a x misfits);
-    misfits = subst (λ (y : Edge).
-        MisfitsAmong p.layout (is_handled a y.action) (parts_of p statement a y.action) (start s)) (sym k.is) misfits;
-  }
-
   -- ---- ways
 
   module _ (entry : List ℤ) (post : ℕ → List ℤ → List ℤ) where
-    -- a storage of the world comes to the node, with a counter for each statement
+    -- a storage of the world comes to the node, with a counter of at most 18 digits for each statement
     record Followed (node : ℕ) (w : World) : Type 0 where
       is : IsReached p g entry post node w
       many : length is.storage.counters ≡ p.statements
-
-    abbrev FollowedIf : ℕ → World → Type 0
-    FollowedIf node w = Followed node w ⊎ SomeCountMisfits p g entry post
-
-    at_begin : (contents : Contents) (first : List ℕ) → Followed 1 (first_world p contents first)
-    at_begin contents first = record {
-      is = record {
-        edges = 0;
-        storage = record {
-          bytes = first_storage p.layout first;
-          counters = replicate p.statements (Some (pos 0));
-        };
-        reaches = (refl, record { of_source = source; first = first; bytes = refl; counters = refl });
-        bytes = refl;
-        counters = begins_standing p.statements;
-        counted = begins_counted p source.numbers;
-      };
-      many = length-replicate p.statements (Some (pos 0));
-    }
-
-    module _ (n m : ℕ) (w v : World) (x : Node) (y : Action) (a : Act) (r : Followed n w)
-        (at : node_at g.nodes n ≡ Some x) (its : act_at p x.statement ≡ Some a) (k : IsNumbered g (edge n y m)) where
-      abbrev from : Storage
-      from = r.is.storage
-
-      abbrev old : Moment
-      old = beginning w.storage from.counters
-
-      -- its bytes are those of the world
-      as_stored : (T : Moment → Type 0) → T old → T (start from)
-      as_stored T h = subst (λ (b : List ℕ). T (beginning b from.counters)) (sym r.is.bytes) h
-
-      -- along an edge whose stores to counters fit
-      further : (b : LeadsBeside p x.statement a y from.counters w v) →
-          PassesParts p.layout (is_handled a y) (parts_of p x.statement a y) old b.leads.last → Followed m v
-      further b way = record {
-        is = record {
-          edges = suc r.is.edges;
-          storage = to;
-          reaches = (
-            k.e,
-            from,
-            record { first = k.first; last = k.last },
-            ap (λ (z : Edge). z.to) k.is,
-            subst (λ (i : ℕ). Reaches p g entry post r.is.edges i from) (sym (ap (λ (z : Edge). z.from) k.is))
-                r.is.reaches,
-            acts_by k.e x.statement a (edge n y m) from to b.leads.last k.is (does_at n x a at its)
-                (as_stored (λ o. PassesParts p.layout (is_handled a y) (parts_of p x.statement a y) o b.leads.last) way)
-                b.leads.same_storage b.leads.same_counts b.leads.fails,
-          );
-          bytes = refl;
-          counters = b.stand;
-          counted = subst (IsCounted p) b.leads.same_counts
-              (edge_counted p.layout (is_handled a y) p (parts_of p x.statement a y) old b.leads.last way r.is.counted);
-        };
-        many = sym (ap length b.leads.same_counts)
-            ∙ (edge_length p.layout (is_handled a y) (parts_of p x.statement a y) old b.leads.last way ∙ r.many);
-      }
-        where
-          to : Storage
-          to = record { bytes = v.storage; counters = b.later }
-
-      misfit : MisfitsAmong p.layout (is_handled a y) (parts_of p x.statement a y) old → SomeCountMisfits p g entry post
-      misfit misfits = record {
-        edges = r.is.edges;
-        node = n;
-        storage = from;
-        reaches = r.is.reaches;
-        meets = misfits_by n x.statement m a y from k (does_at n x a at its)
-            (as_stored (λ o. MisfitsAmong p.layout (is_handled a y) (parts_of p x.statement a y) o) misfits);
-      }
-
-      either : (b : LeadsBeside p x.statement a y from.counters w v) →
-          PassesParts p.layout (is_handled a y) (parts_of p x.statement a y) old b.leads.last
-          ⊎ MisfitsAmong p.layout (is_handled a y) (parts_of p x.statement a y) old → FollowedIf m v
-      either b (inl way) = inl (further b way)
-      either b (inr misfits) = inr (misfit misfits)
-
-      taken : (c : Choice) → effect p x.statement c w y ≡ Ok (Some v) → FollowedIf m v
-      taken c e =
-          let within = source.numbers x.statement a its in
-          let same = stand_length w.counts from.counters r.is.counters in
-          let b = parts_are_passed_beside p x.statement c a y w v from.counters its
-          (λ reads. omega (arith, within.0, within.1, same, r.many)) r.is.counters e in
-          either b
-          (fits_or_not p.layout (is_handled a y) (parts_of p x.statement a y) old b.leads.last b.leads.way)
-
-    step : (n m : ℕ) (w v : World) (x : Node) (y : Action) (c : Choice) → node_at g.nodes n ≡ Some x →
-        Contains g.edges (edge n y m) → effect p x.statement c w y ≡ Ok (Some v) → FollowedIf n w → FollowedIf m v
-    step n m w v x y c at there e (inr misfits) = inr misfits
-    step n m w v x y c at there e (inl r) =
-        let a = acts_if_taken p x.statement c w y v e in
-        taken n m w v x y a.0 r at a.1 (numbered g (edge n y m) there) c e
+      small : AreSmall is.storage.counters
 
     module _ (contents : Contents) (first : List ℕ) (choices : List Choice) where
-      followed : {k n : ℕ} {w : World} → Comes p g contents first choices k n w → FollowedIf n w
-      followed at_first = inl (at_begin contents first)
-      followed (onward x y m way at there e on) = step _ m _ _ x y _ at there e (followed way)
+      at_begin : Followed 1 (first_world p contents first)
+      at_begin = record {
+        is = record {
+          edges = 0;
+          storage = record {
+            bytes = first_storage p.layout first;
+            counters = replicate p.statements (Some (pos 0));
+          };
+          reaches = (refl, record { of_source = source; first = first; bytes = refl; counters = refl });
+          bytes = refl;
+          counters = begins_standing p.statements;
+        };
+        many = length-replicate p.statements (Some (pos 0));
+        small = begins_small p.statements;
+      }
 
-      -- ---- faults
+      module _ (statement n m : ℕ) (w : World) (y : Action) (a : Act) (r : Followed n w)
+          (is : IsAt p g source contents first choices statement n a w) (there : Contains g.edges (edge n y m)) where
+        abbrev from : Storage
+        from = r.is.storage
 
-      met_at : (n : ℕ) (fault : Kind) (statement : ℕ) (w : World)
-          (f : ComesToFault p g contents first choices n fault statement w) → FollowedIf f.node w →
-          IsMet p g entry post fault statement ⊎ SomeCountMisfits p g entry post
-      met_at n fault statement w f (inr misfits) = inr misfits
-      met_at n fault statement w f (inl r) = by_parts (meets_or_not p.layout (is_handled a own) parts old fault meets)
-        where
-          acts : (a : Act) × (act_at p statement ≡ Some a)
-          acts = acts_if_met p statement _ w f.action fault f.meets
+        abbrev parts : List Part
+        parts = parts_of p statement a y
 
-          a : Act
-          a = acts.0
+        abbrev old : Moment
+        old = beginning w.storage from.counters
 
-          own : Action
-          own = fault_edge a f.action
+        k : IsNumbered g (edge n y m)
+        k = numbered g (edge n y m) there
 
-          parts : List Part
-          parts = parts_of p statement a own
+        does : DoesAt p g n statement a
+        does = record { of = record { at = is.at; stands = is.stands; number = is.number }; act = is.act }
 
-          old : Moment
-          old = beginning w.storage r.is.storage.counters
+        -- the storage's bytes are those of the world
+        as_stored : (T : Moment → Type 0) → T old → T (start from)
+        as_stored T h = subst (λ (b : List ℕ). T (beginning b from.counters)) (sym r.is.bytes) h
 
-          meets : Meets p.layout (is_handled a own) parts old fault
-          meets = faults_are_met p statement _ a f.action w r.is.storage.counters fault acts.1 f.meets
+        no_misfit : ¬ MisfitsAmong p.layout (is_handled a y) parts old
+        no_misfit =
+            fits p g source contents first choices statement n m a y w from.counters is there r.is.counters r.small
 
-          of : IsOf g f.node statement
-          of = record { at = f.at; stands = f.stands; number = f.its }
+        -- ---- an edge is taken
 
-          does : DoesAt p g f.node statement a
-          does = record { of = of; act = acts.1 }
+        further : (v : World) (b : LeadsBeside p statement a y from.counters w v) →
+            PassesParts p.layout (is_handled a y) parts old b.leads.last → Followed m v
+        further v b way = record {
+          is = record {
+            edges = suc r.is.edges;
+            storage = to;
+            reaches = (
+              k.e,
+              from,
+              record { first = k.first; last = k.last },
+              ap (λ (z : Edge). z.to) k.is,
+              subst (λ (i : ℕ). Reaches p g entry post r.is.edges i from) (sym (ap (λ (z : Edge). z.from) k.is))
+                  r.is.reaches,
+              acts_by k.e statement a (edge n y m) from to b.leads.last k.is does
+                  (as_stored (λ o. PassesParts p.layout (is_handled a y) parts o b.leads.last) way)
+                  b.leads.same_storage b.leads.same_counts b.leads.fails,
+            );
+            bytes = refl;
+            counters = b.stand;
+          };
+          many = sym (ap length b.leads.same_counts)
+              ∙ (edge_length p.layout (is_handled a y) parts old b.leads.last way ∙ r.many);
+          small = subst AreSmall b.leads.same_counts
+              (edge_small p.layout (is_handled a y) parts old b.leads.last way r.small);
+        }
+          where
+            to : Storage
+            to = record { bytes = v.storage; counters = b.later }
 
-          there : EdgeThere f.node own
-          there = fault_edge_there f.node f.to f.at a f.action f.stands
-              (subst (λ (i : ℕ). act_at p i ≡ Some a) (sym f.its) acts.1) f.out
+        taken_by : (v : World) (b : LeadsBeside p statement a y from.counters w v) →
+            PassesParts p.layout (is_handled a y) parts old b.leads.last
+            ⊎ MisfitsAmong p.layout (is_handled a y) parts old → Followed m v
+        taken_by v b (inl way) = further v b way
+        taken_by v b (inr misfits) = absurd (no_misfit misfits)
 
-          k : IsNumbered g (edge f.node own there.0)
-          k = numbered g (edge f.node own there.0) there.1
+        taken : (v : World) (c : Choice) → effect p statement c w y ≡ Ok (Some v) → Followed m v
+        taken v c e =
+            let within = source.numbers statement a is.act in
+            let same = stand_length w.counts from.counters r.is.counters in
+            let b = parts_are_passed_beside p statement c a y w v from.counters is.act
+            (λ reads. omega (arith, within.0, within.1, same, r.many)) r.is.counters e in
+            taken_by v b (fits_or_not p.layout (is_handled a y) parts old b.leads.last b.leads.way)
 
-          stored : (T : Moment → Type 0) → T old → T (start r.is.storage)
-          stored T h = subst (λ (b : List ℕ). T (beginning b r.is.storage.counters)) (sym r.is.bytes) h
+        -- ---- a fault is met
 
-          by_parts : MeetsAmong p.layout (is_handled a own) parts old fault
-              ⊎ MisfitsAmong p.layout (is_handled a own) parts old →
-              IsMet p g entry post fault statement ⊎ SomeCountMisfits p g entry post
-          by_parts (inl here) = inl (record {
-            edges = r.is.edges;
-            node = f.node;
-            storage = r.is.storage;
-            reaches = r.is.reaches;
-            of = of;
-            meets = meets_by f.node statement there.0 a own r.is.storage fault k does (its_own a f.action)
-                (stored (λ o. MeetsAmong p.layout (is_handled a own) parts o fault) here);
-          })
-          by_parts (inr misfits) = inr (record {
-            edges = r.is.edges;
-            node = f.node;
-            storage = r.is.storage;
-            reaches = r.is.reaches;
-            meets = misfits_by f.node statement there.0 a own r.is.storage k does
-                (stored (λ o. MisfitsAmong p.layout (is_handled a own) parts o) misfits);
-          })
+        met_by : (fault : Kind) → fault_edge a y ≡ y →
+            MeetsAmong p.layout (is_handled a y) parts old fault
+            ⊎ MisfitsAmong p.layout (is_handled a y) parts old → IsMet p g entry post fault statement
+        met_by fault own (inl meets) = record {
+          edges = r.is.edges;
+          node = n;
+          storage = from;
+          reaches = r.is.reaches;
+          of = does.of;
+          meets = meets_by n statement m a y from fault k does own
+              (as_stored (λ o. MeetsAmong p.layout (is_handled a y) parts o fault) meets);
+        }
+        met_by fault own (inr misfits) = absurd (no_misfit misfits)
 
-      fault_met : (n : ℕ) (fault : Kind) (statement : ℕ) →
-          (run p contents first choices n).outcome ≡ Fault fault statement →
-          IsMet p g entry post fault statement ⊎ SomeCountMisfits p g entry post
-      fault_met n fault statement e =
-          let s = run p contents first choices n in
-          let f = subst (λ (o : Outcome). ShowsBy p g contents first choices o n s) e
-          (simulates p g source.whole source.graph contents first choices n) in
-          met_at n fault statement s.world f (followed f.way)
+        met : (fault : Kind) → fault_edge a y ≡ y → Meets p.layout (is_handled a y) parts old fault →
+            IsMet p g entry post fault statement
+        met fault own meets = met_by fault own (meets_or_not p.layout (is_handled a y) parts old fault meets)
+
+      -- ---- ways
+
+      step : (k n m : ℕ) (w v : World) (x : Node) (y : Action) (c : Choice) →
+          Comes p g contents first choices k n w → node_at g.nodes n ≡ Some x → Contains g.edges (edge n y m) →
+          effect p x.statement c w y ≡ Ok (Some v) → Followed n w → Followed m v
+      step k n m w v x y c way at there e r =
+          let a = acts_if_taken p x.statement c w y v e in
+          taken x.statement n m w y a.0 r
+          (record { left = k; way = way; at = x; stands = at; number = refl; act = a.1 }) there v c e
+
+      followed : {k n : ℕ} {w : World} → Comes p g contents first choices k n w → Followed n w
+      followed at_first = at_begin
+      followed (onward x y m way at there e on) = step _ _ m _ _ x y _ way at there e (followed way)
+
+      -- ---- runs
+
+      fault_met : (n : ℕ) (fault : Kind) (statement : ℕ) (w : World) →
+          ComesToFault p g contents first choices n fault statement w → IsMet p g entry post fault statement
+      fault_met n fault statement w f =
+          let a = acts_if_met p statement _ w f.action fault f.meets in
+          let r = followed f.way in
+          let there = fault_edge_there f.node f.to f.at a.0 f.action f.stands
+          (subst (λ (i : ℕ). act_at p i ≡ Some a.0) (sym f.its) a.1) f.out in
+          met statement f.node there.0 w (fault_edge a.0 f.action) a.0 r
+          (record { left = f.left; way = f.way; at = f.at; stands = f.stands; number = f.its; act = a.1 }) there.1 fault
+          (its_own a.0 f.action)
+          (faults_are_met p statement _ a.0 f.action w r.is.storage.counters fault a.1 f.meets)
 
 -- ---- the laws
 
-weaker : (p : Program) (g : Graph) (s : IsSourceGraph p g) (entry : List ℤ) (post : ℕ → List ℤ → List ℤ) (n : ℕ)
-    (w : World) → FollowedIf p g s entry post n w →
-    IsReached p g entry post n w ⊎ SomeCountMisfits p g entry post
-weaker p g s entry post n w (inl r) = inl r.is
-weaker p g s entry post n w (inr misfits) = inr misfits
-
 pub ways_are_followed : WaysAreFollowed
 ways_are_followed p g s entry post contents first choices k n w way =
-    weaker p g s entry post n w (followed p g s entry post contents first choices way)
+    let f = followed p g s entry post contents first choices way in f.is
 
 pub faults_are_reached : FaultsAreReached
 faults_are_reached p g s entry post contents first choices n fault statement e =
-    fault_met p g s entry post contents first choices n fault statement e
+    let state = run p contents first choices n in
+    let f = subst (λ (o : Outcome). ShowsBy p g contents first choices o n state) e
+    (simulates p g s.whole s.graph contents first choices n) in
+    fault_met p g s entry post contents first choices n fault statement state.world f

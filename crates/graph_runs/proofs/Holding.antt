@@ -4,7 +4,6 @@ use Rattle.std.specs.Prelude.{if◌then◌else◌, slice_set, ◌-ℤ◌}
 use Rattle.dec_num.specs.declared.types.Mode.{Mode}
 use Rattle.dec_num.specs.declared.types.Scaled.{Scaled}
 use Rattle.cob_tree.specs.declared.fault.Kind.{Kind}
-use Rattle.cob_tree.specs.declared.fault.Kind.TheVariants as kind
 use Rattle.cob_data.specs.declared.layout.Layout.{Layout}
 use Rattle.cob_data.specs.declared.layout.Sender.{Sender}
 use Rattle.cob_program.specs.Sum.{Atom}
@@ -13,8 +12,8 @@ use Rattle.cob_runs.specs.Moves.{number_of}
 use Rattle.cob_edge_parts.specs.Parts.{Amount, Part, read, unread, divide, store, bytes_in, guard, read_count, set_count, count_down, guard_count}
 use Rattle.cob_edge_parts.specs.Meaning.{Moment, with_storage, with_own, with_failure, divided_by_zero, divides_by, is_left_alone, stored_bytes, stored_or_kept, ReadsAt, Divides, Stores, Passes, PassesAll, Meets}
 use Rattle.cob_edge_parts.specs.Meaning as meaning
-use Rattle.graph_runs.specs.Counters.{IsCount, IsCounted, IsTooGreat, Misfits, PassesPart, PassesParts, MeetsAmong, MisfitsAmong}
-use Rattle.graph_runs.proofs.Counting.{is_count, holds_set, length_set}
+use Rattle.graph_runs.specs.Counters.{IsCount, IsCounted, IsTooGreat, Misfits, PassesPart, PassesParts, MeetsAmong}
+use Rattle.graph_runs.proofs.Counting.{AreSmall, is_count, holds_set, length_set, small_set}
 
 module _ (l : Layout) where
   -- ---- whether a store fits
@@ -138,7 +137,24 @@ module _ (l : Layout) where
         by_counts (inl e) = ap length e
         by_counts (inr s) = ap length s.sets ∙ length_set m.counts s.place s.number
 
+    part_small : (x : Part) (m n : Moment) → PassesPart l handled x m n → AreSmall m.counts → AreSmall n.counts
+    part_small x m n (passes, not_) is = by_counts (counts_go x m n passes)
+      where
+        by_counts : CountsGo x m n → AreSmall n.counts
+        by_counts (inl e) = subst AreSmall (sym e) is
+        by_counts (inr s) = subst AreSmall (sym s.sets) (small_set m.counts s.place s.number is (s.fits not_))
+
     -- ---- along an edge
+
+    -- a store to a counter doesn't fit, behind parts that are passed
+    abbrev pub MisfitsAmong : List Part → Moment → Type 0
+    MisfitsAmong [] m = ⊥
+    MisfitsAmong (x ∷ xs) m = Misfits l x m ⊎ ((next : Moment) × PassesPart l handled x m next × MisfitsAmong xs next)
+
+    pub edge_small : (xs : List Part) (m n : Moment) → PassesParts l handled xs m n → AreSmall m.counts →
+        AreSmall n.counts
+    edge_small [] m n e is = subst (λ (k : Moment). AreSmall k.counts) (sym e) is
+    edge_small (x ∷ xs) m n (next, pass, rest) is = edge_small xs next n rest (part_small x m next pass is)
 
     pub edge_counted : (p : Program) (xs : List Part) (m n : Moment) → PassesParts l handled xs m n →
         IsCounted p m.counts → IsCounted p n.counts
@@ -152,42 +168,36 @@ module _ (l : Layout) where
 
     -- parts that are passed fit, or one of them doesn't
     pub fits_or_not : (xs : List Part) (m n : Moment) → PassesAll l handled xs m n →
-        PassesParts l handled xs m n ⊎ MisfitsAmong l handled xs m
+        PassesParts l handled xs m n ⊎ MisfitsAmong xs m
     fits_or_not [] m n e = inl e
     fits_or_not (x ∷ xs) m n (next, pass, rest) = by_front (misfits_or_not x m) (fits_or_not xs next n rest)
       where
-        behind : ¬ Misfits l x m → PassesParts l handled xs next n ⊎ MisfitsAmong l handled xs next →
-            PassesParts l handled (x ∷ xs) m n ⊎ MisfitsAmong l handled (x ∷ xs) m
+        behind : ¬ Misfits l x m → PassesParts l handled xs next n ⊎ MisfitsAmong xs next →
+            PassesParts l handled (x ∷ xs) m n ⊎ MisfitsAmong (x ∷ xs) m
         behind not_ (inl way) = inl (next, (pass, not_), way)
         behind not_ (inr misfits) = inr (inr (next, (pass, not_), misfits))
 
         by_front : Misfits l x m ⊎ ¬ Misfits l x m →
-            PassesParts l handled xs next n ⊎ MisfitsAmong l handled xs next →
-            PassesParts l handled (x ∷ xs) m n ⊎ MisfitsAmong l handled (x ∷ xs) m
+            PassesParts l handled xs next n ⊎ MisfitsAmong xs next →
+            PassesParts l handled (x ∷ xs) m n ⊎ MisfitsAmong (x ∷ xs) m
         by_front (inl misfits) later = inr (inl misfits)
         by_front (inr not_) later = behind not_ later
 
     -- a fault is met behind parts that fit, or one of these doesn't
     pub meets_or_not : (xs : List Part) (m : Moment) (fault : Kind) → Meets l handled xs m fault →
-        MeetsAmong l handled xs m fault ⊎ MisfitsAmong l handled xs m
+        MeetsAmong l handled xs m fault ⊎ MisfitsAmong xs m
     meets_or_not [] m fault h = absurd h
     meets_or_not (x ∷ xs) m fault (inl f) = inl (inl (inl f))
     meets_or_not (x ∷ xs) m fault (inr (next, pass, rest)) =
         by_front (misfits_or_not x m) (meets_or_not xs next fault rest)
       where
-        behind : ¬ Misfits l x m → MeetsAmong l handled xs next fault ⊎ MisfitsAmong l handled xs next →
-            MeetsAmong l handled (x ∷ xs) m fault ⊎ MisfitsAmong l handled (x ∷ xs) m
+        behind : ¬ Misfits l x m → MeetsAmong l handled xs next fault ⊎ MisfitsAmong xs next →
+            MeetsAmong l handled (x ∷ xs) m fault ⊎ MisfitsAmong (x ∷ xs) m
         behind not_ (inl meets) = inl (inr (next, (pass, not_), meets))
         behind not_ (inr misfits) = inr (inr (next, (pass, not_), misfits))
 
         by_front : Misfits l x m ⊎ ¬ Misfits l x m →
-            MeetsAmong l handled xs next fault ⊎ MisfitsAmong l handled xs next →
-            MeetsAmong l handled (x ∷ xs) m fault ⊎ MisfitsAmong l handled (x ∷ xs) m
+            MeetsAmong l handled xs next fault ⊎ MisfitsAmong xs next →
+            MeetsAmong l handled (x ∷ xs) m fault ⊎ MisfitsAmong (x ∷ xs) m
         by_front (inl misfits) later = inr (inl misfits)
         by_front (inr not_) later = behind not_ later
-
-    -- what doesn't fit is met as a size error
-    pub misfits_meet : (xs : List Part) (m : Moment) → MisfitsAmong l handled xs m → MeetsAmong l handled xs m kind.Size
-    misfits_meet [] m h = absurd h
-    misfits_meet (x ∷ xs) m (inl misfits) = inl (inr (refl, misfits))
-    misfits_meet (x ∷ xs) m (inr (next, pass, rest)) = inr (next, pass, misfits_meet xs next rest)

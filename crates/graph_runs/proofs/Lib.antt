@@ -5,6 +5,7 @@ pub mod Phrases
 pub mod Counting
 pub mod Holding
 pub mod Quiet
+pub mod Fitting
 pub mod Following
 pub mod Clearing
 pub mod Examples

@@ -1,7 +1,6 @@
 -- What rows clear, for any layer whose runs are those of a program along its graph.
-use Rattle.std.specs.Prelude.{◌≡◌, ◌⊎◌, ℕ, List, ℤ}
+use Rattle.std.specs.Prelude.{◌≡◌, ℕ, List, ℤ}
 use Rattle.cob_tree.specs.declared.fault.Kind.{Kind}
-use Rattle.cob_tree.specs.declared.fault.Kind.TheVariants as kind
 use Rattle.cob_program.specs.Act.{Program}
 use Rattle.cob_meaning.specs.declared.straight.Outcome.TheVariants.{Fault}
 use Rattle.cob_runs.specs.Files.{Choice}
@@ -31,23 +30,18 @@ module _ (f : Flow) (m : Meaning) (rows : ℕ → List ℤ) where
   abbrev pub IsAllClear : Type 0
   IsAllClear = (node : ℕ) (fault : Kind) → IsNode f node → m.Clears node (rows node) fault
 
-  -- the node's row doesn't show that it meets no fault of the kind
-  pub record IsOpen (node : ℕ) (fault : Kind) : Type 0 where
-    pub there : IsNode f node
-    pub open_ : ¬ m.Clears node (rows node) fault
-
-  -- a node of the statement is open for the fault
+  -- the row of some node of the statement doesn't show that the node meets no such fault
   pub record IsOpenAt (g : Graph) (fault : Kind) (statement : ℕ) : Type 0 where
     pub node : ℕ
     pub of : IsOf g node statement
-    pub is : IsOpen node fault
+    pub is : IsNode f node
+    pub open_ : ¬ m.Clears node (rows node) fault
 
-  -- Each fault of a run is open at its statement, or else a size error is open at some node.
+  -- each fault of a run is open at its statement
   abbrev pub FaultsAreOpen : Program → Graph → Type 0
   FaultsAreOpen p g =
       (contents : Contents) (first : List ℕ) (choices : List Choice) (n : ℕ) (fault : Kind) (statement : ℕ) →
-      (run p contents first choices n).outcome ≡ Fault fault statement →
-      IsOpenAt g fault statement ⊎ ((node : ℕ) × IsOpen node kind.Size)
+      (run p contents first choices n).outcome ≡ Fault fault statement → IsOpenAt g fault statement
 
   -- Where all rows clear all faults, no run meets one.
   abbrev pub ClearIsFaultless : Program → Type 0

@@ -64,8 +64,3 @@ module _ (l : Layout) where
     MeetsAmong [] m fault = ⊥
     MeetsAmong (x ∷ xs) m fault =
         FaultsAtPart x m fault ⊎ ((next : Moment) × PassesPart x m next × MeetsAmong xs next fault)
-
-    -- a store to a counter doesn't fit, behind parts that are passed
-    abbrev pub MisfitsAmong : List Part → Moment → Type 0
-    MisfitsAmong [] m = ⊥
-    MisfitsAmong (x ∷ xs) m = Misfits x m ⊎ ((next : Moment) × PassesPart x m next × MisfitsAmong xs next)

@@ -10,7 +10,7 @@ use Rattle.cob_edge_parts.specs.Edges.{fault_edge}
 use Rattle.dom_laws.specs.Meaning.{Storage, Runs}
 use Rattle.graph_runs.specs.Places.{edge_at, Leaves, DoesAt}
 use Rattle.graph_runs.specs.Sources.{IsSourceGraph}
-use Rattle.graph_runs.specs.Counters.{PassesParts, MeetsAmong, MisfitsAmong}
+use Rattle.graph_runs.specs.Counters.{PassesParts, MeetsAmong}
 
 abbrev pub start : Storage → Moment
 start s = beginning s.bytes s.counters
@@ -56,16 +56,6 @@ module _ (p : Program) (g : Graph) where
     pub meets :
         MeetsAmong p.layout (is_handled act (edge_at g e).action) (parts_of p statement act (edge_at g e).action)
         (start s) fault
-
-  -- a part of such an edge stores a number to a counter that this doesn't hold
-  pub record MisfitsAt (node : ℕ) (s : Storage) : Type 0 where
-    pub e : ℕ
-    pub statement : ℕ
-    pub act : Act
-    pub on : IsMetOn node e statement act
-    pub misfits :
-        MisfitsAmong p.layout (is_handled act (edge_at g e).action) (parts_of p statement act (edge_at g e).action)
-        (start s)
 
   abbrev pub graph_runs : Runs
   graph_runs = record { Begins = Begins; Acts = Acts; Meets = MeetsAt }

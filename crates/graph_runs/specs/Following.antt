@@ -1,5 +1,5 @@
 -- Runs of a program against what it does along its graph.
-use Rattle.std.specs.Prelude.{◌≡◌, ◌⊎◌, ℕ, List, ℤ}
+use Rattle.std.specs.Prelude.{◌≡◌, ℕ, List, ℤ}
 use Rattle.cob_tree.specs.declared.fault.Kind.{Kind}
 use Rattle.cob_program.specs.Act.{Program}
 use Rattle.cob_meaning.specs.declared.straight.Outcome.TheVariants.{Fault}
@@ -12,8 +12,7 @@ use Rattle.cob_edge_parts.specs.Edges.{StandFor}
 use Rattle.dom_laws.specs.Meaning.{Storage, ReachesIn}
 use Rattle.graph_runs.specs.Places.{IsOf}
 use Rattle.graph_runs.specs.Sources.{IsSourceGraph}
-use Rattle.graph_runs.specs.Counters.{IsCounted}
-use Rattle.graph_runs.specs.Doing.{MeetsAt, MisfitsAt, graph_runs}
+use Rattle.graph_runs.specs.Doing.{MeetsAt, graph_runs}
 use Rattle.graph_runs.specs.Flows.{flow_over}
 
 module _ (p : Program) (g : Graph) (entry : List ℤ) (post : ℕ → List ℤ → List ℤ) where
@@ -27,15 +26,6 @@ module _ (p : Program) (g : Graph) (entry : List ℤ) (post : ℕ → List ℤ �
     pub reaches : Reaches edges node storage
     pub bytes : storage.bytes ≡ w.storage
     pub counters : StandFor w.counts storage.counters
-    pub counted : IsCounted p storage.counters
-
-  -- a storage comes to some node that stores a number to its counter which this doesn't hold
-  pub record SomeCountMisfits : Type 0 where
-    pub edges : ℕ
-    pub node : ℕ
-    pub storage : Storage
-    pub reaches : Reaches edges node storage
-    pub meets : MisfitsAt p g node storage
 
   -- a storage comes to some node of the statement that meets the fault on it
   pub record IsMet (fault : Kind) (statement : ℕ) : Type 0 where
@@ -46,19 +36,16 @@ module _ (p : Program) (g : Graph) (entry : List ℤ) (post : ℕ → List ℤ �
     pub of : IsOf g node statement
     pub meets : MeetsAt p g node fault storage
 
--- Where a way comes to a node, a storage of its world comes there, unless a counter's store doesn't fit.
+-- Where a way comes to a node, a storage of its world comes there.
 abbrev pub WaysAreFollowed : Type 0
 WaysAreFollowed =
     (p : Program) (g : Graph) → IsSourceGraph p g → (entry : List ℤ) (post : ℕ → List ℤ → List ℤ)
     (contents : Contents) (first : List ℕ) (choices : List Choice) (k node : ℕ) (w : World) →
-    Comes p g contents first choices k node w →
-    IsReached p g entry post node w ⊎ SomeCountMisfits p g entry post
+    Comes p g contents first choices k node w → IsReached p g entry post node w
 
--- Each fault of a run is met at a node of its statement by a storage that comes there, unless a counter's store doesn't
--- fit.
+-- Each fault of a run is met at a node of its statement by a storage that comes there.
 abbrev pub FaultsAreReached : Type 0
 FaultsAreReached =
     (p : Program) (g : Graph) → IsSourceGraph p g → (entry : List ℤ) (post : ℕ → List ℤ → List ℤ)
     (contents : Contents) (first : List ℕ) (choices : List Choice) (n : ℕ) (fault : Kind) (statement : ℕ) →
-    (run p contents first choices n).outcome ≡ Fault fault statement →
-    IsMet p g entry post fault statement ⊎ SomeCountMisfits p g entry post
+    (run p contents first choices n).outcome ≡ Fault fault statement → IsMet p g entry post fault statement

@@ -16,22 +16,20 @@ pub fn graphs_are_flows()
 {}
 
 /// A law: what a program does along its graph follows each way through the graph. Where a way comes to a node, a
-/// storage with the way's bytes comes there, whose counters stand for the way's counts; or else a storage comes to a
-/// node that stores a number to its counter which 18 digits don't hold.
+/// storage with the way's bytes comes there, whose counters stand for the way's counts.
 pub fn ways_are_followed()
     ensures { WaysAreFollowed }
 {}
 
 /// A law: each fault that a run meets, whatever files hold, what is undefined and how long it runs, is met at a node of
-/// its statement by a storage that comes there; or else a storage comes to a node whose counter doesn't hold what is
-/// stored.
+/// its statement by a storage that comes there.
 pub fn faults_are_reached()
     ensures { FaultsAreReached }
 {}
 
 /// A law for every layer whose runs are those of a program along its graph, and for rows that its edges keep. A fault
-/// of a run is one that the row of a node of its statement doesn't clear, or else some row doesn't clear a size error.
-/// So where each row clears every fault, no run of the program meets one.
+/// of a run is one that the row of some node of its statement doesn't clear. So where each row clears every fault, no
+/// run of the program meets one.
 pub fn clear_programs_are_faultless<L: Layer, R: Rows>(layer: &L, rows: &R)
     requires inductive { IsInductive (L.lattice layer.now) (L.flow layer.now) (R.row_at rows.now) }
     requires granted { IsGranted (L.flow layer.now) (L.meaning layer.now) }
