@@ -19,30 +19,28 @@ pub record Includes (r q : Runs) : Type 0 where
   pub acts : (e : ℕ) (s t : Storage) → q.Acts e s t → r.Acts e s t
   pub meets : (node : ℕ) (fault : Kind) (s : Storage) → q.Meets node fault s → r.Meets node fault s
 
--- the layer's nodes and edges are the graph's, and its runs are the program's
+-- the layer's nodes and edges are those of the graph, and its runs are those of the program along it
 pub record IsLayerOf (p : Program) (g : Graph) (f : Flow) (m : Meaning) : Type 0 where
-  pub of_source : IsSourceGraph p g
+  pub of_source : ∥ IsSourceGraph p g ∥₁
   pub flow : f ≡ flow_over g f.entry f.post
   pub runs : Includes m.runs (graph_runs p g)
 
 module _ (f : Flow) (m : Meaning) (rows : ℕ → List ℤ) where
-  -- each node's row shows that the node meets no fault
+  -- at each node of the statement the row shows that there is no such fault
+  abbrev pub IsClearAt : Graph → Kind → ℕ → Type 0
+  IsClearAt g fault statement = (node : ℕ) → IsNode f node → IsOf g node statement → m.Clears node (rows node) fault
+
+  -- at each node it shows that there is none at all
   abbrev pub IsAllClear : Type 0
   IsAllClear = (node : ℕ) (fault : Kind) → IsNode f node → m.Clears node (rows node) fault
 
-  -- the row of some node of the statement doesn't show that the node meets no such fault
-  pub record IsOpenAt (g : Graph) (fault : Kind) (statement : ℕ) : Type 0 where
-    pub node : ℕ
-    pub of : IsOf g node statement
-    pub is : IsNode f node
-    pub open_ : ¬ m.Clears node (rows node) fault
+  -- No run meets a fault that is cleared at its statement, whatever files hold, what is undefined and how long it runs.
+  abbrev pub ClearedIsNotMet : Program → Graph → Type 0
+  ClearedIsNotMet p g =
+      (fault : Kind) (statement : ℕ) → IsClearAt g fault statement →
+      (contents : Contents) (first : List ℕ) (choices : List Choice) (n : ℕ) →
+      ¬ (run p contents first choices n).outcome ≡ Fault fault statement
 
-  -- each fault of a run is open at its statement
-  abbrev pub FaultsAreOpen : Program → Graph → Type 0
-  FaultsAreOpen p g =
-      (contents : Contents) (first : List ℕ) (choices : List Choice) (n : ℕ) (fault : Kind) (statement : ℕ) →
-      (run p contents first choices n).outcome ≡ Fault fault statement → IsOpenAt g fault statement
-
-  -- Where all rows clear all faults, no run meets one.
+  -- where all rows clear all faults, no run meets one
   abbrev pub ClearIsFaultless : Program → Type 0
   ClearIsFaultless p = IsAllClear → IsFaultless p

@@ -3,7 +3,7 @@ ghost use Rattle.cob_graph.specs.declared.graph.Graph.{Graph};
 ghost use Rattle.cob_program.specs.Act.{Program};
 ghost use Rattle.dom_laws.specs.Flow.{IsInductive};
 ghost use Rattle.dom_laws.specs.Meaning.{IsGranted};
-ghost use Rattle.graph_runs.specs.Clearing.{ClearIsFaultless, FaultsAreOpen, IsLayerOf};
+ghost use Rattle.graph_runs.specs.Clearing.{ClearIsFaultless, ClearedIsNotMet, IsLayerOf};
 ghost use Rattle.graph_runs.specs.Flows.{GraphsAreFlows};
 ghost use Rattle.graph_runs.specs.Following.{FaultsAreReached, WaysAreFollowed};
 
@@ -27,14 +27,14 @@ pub fn faults_are_reached()
     ensures { FaultsAreReached }
 {}
 
-/// A law for every layer whose runs are those of a program along its graph, and for rows that its edges keep. A fault
-/// of a run is one that the row of some node of its statement doesn't clear. So where each row clears every fault, no
-/// run of the program meets one.
+/// A law for every layer whose runs are those of a program along its graph, and for rows that the layer's edges keep. A
+/// fault is met by no run where the rows of all nodes of its statement clear it. So where each row clears every fault,
+/// no run of the program meets one.
 pub fn clear_programs_are_faultless<L: Layer, R: Rows>(layer: &L, rows: &R)
     requires inductive { IsInductive (L.lattice layer.now) (L.flow layer.now) (R.row_at rows.now) }
     requires granted { IsGranted (L.flow layer.now) (L.meaning layer.now) }
-    ensures open_ { let f = L.flow layer.now in let m = L.meaning layer.now in
-        (p : Program) (g : Graph) → IsLayerOf p g f m → FaultsAreOpen f m (R.row_at rows.now) p g }
+    ensures cleared { let f = L.flow layer.now in let m = L.meaning layer.now in
+        (p : Program) (g : Graph) → IsLayerOf p g f m → ClearedIsNotMet f m (R.row_at rows.now) p g }
     ensures clear { let f = L.flow layer.now in let m = L.meaning layer.now in
         (p : Program) (g : Graph) → IsLayerOf p g f m → ClearIsFaultless f m (R.row_at rows.now) p }
 {}
