@@ -1,30 +1,40 @@
 -- What small programs do along their graphs, worked out.
-use Rattle.std.specs.Prelude.{◌≡◌, ◌<◌, ◌^◌, ℕ, true, false, List, [], ◌∷◌, map, slice_get, Option, Some, None, ℤ, pos, negsuc}
-use Rattle.std.proofs.Common.{refl, inl, inr, arith as plain}
+use Rattle.std.specs.Prelude.{◌≡◌, ◌<◌, ◌≤◌, ◌^◌, ◌==◌, if◌then◌else◌, slice_index_or, ℕ, zero, suc, Bool, true, false, List, [], ◌∷◌, map, slice_get, Option, Some, None, ℤ, pos, negsuc}
+use Rattle.std.specs.List.{All}
+use Rattle.std.proofs.Common.{refl, sym, ap, ◌∙◌, inl, inr, arith as plain}
+use Rattle.std.proofs.lemmas.Option.{none-some}
+use Rattle.std.proofs.lemmas.Bool.Decides.{nat_tests}
 use Rattle.dec_num.specs.declared.types.Mode.TheVariants.{Trunc}
 use Rattle.dec_num.specs.declared.types.Scaled.{Scaled}
 use Rattle.cob_tree.specs.declared.fault.Kind.TheVariants as kind
 use Rattle.cob_tree.specs.declared.form.Form.TheVariants as form
 use Rattle.cob_tree.specs.declared.form.Usage.TheVariants as usage
+use Rattle.cob_data.specs.declared.layout.Item.{Item}
 use Rattle.cob_data.specs.declared.layout.Sender.TheVariants as sender
 use Rattle.cob_program.specs.declared.act.How.TheVariants as how
 use Rattle.cob_program.specs.Act.{once, times, no_stmts, left_out, given, Act, arith, perform, go, nothing, stop, read, range, inline, Program}
 use Rattle.cob_meaning.specs.declared.straight.Outcome.TheVariants.{Ended}
 use Rattle.cob_runs.specs.declared.action.Action.TheVariants as action
+use Rattle.cob_runs.specs.Effects.{or_else, act_at}
 use Rattle.cob_runs.specs.State.{State}
 use Rattle.cob_runs.specs.Runs.{run, first_storage}
 use Rattle.cob_graph.specs.declared.graph.Graph.{Graph}
 use Rattle.cob_graph.specs.Laid.{MkLaid, no_laid, more_laid, a_phrase, skipping, going, ending, computing, performing, showing, own_list, copy, LaidParas, no_laid_paras, more_laid_paras}
 use Rattle.cob_graph.specs.Graphs.{IsMainCopy}
+use Rattle.cob_graph.specs.WellFormed.{IsWellFormed}
+use Rattle.cob_items.specs.WellFormed.{IsWellFormedItem}
+use Rattle.cob_edge_parts.specs.Ranges.{AreApart}
 use Rattle.cob_graph.specs.Lookup.{edge, node_at}
-use Rattle.cob_graph.proofs.Examples.{item_of, numeral, atom_sum, stmt1, say, para, unnamed, of_paras, the_file, twice, laid_twice, with_copies}
+use Rattle.cob_graph.proofs.Examples.{item_of, numeral, atom_sum, stmt1, say, para, unnamed, of_paras, the_file, twice, laid_twice, with_copies, is_graph}
 use Rattle.cob_edge_parts.specs.Parts.{bytes_in, parts_of}
 use Rattle.cob_edge_parts.specs.Meaning.{Moment, moment, Meets}
 use Rattle.cob_edge_parts.specs.Edges.{fault_edge}
 use Rattle.dom_laws.specs.Meaning.{Storage}
-use Rattle.graph_runs.specs.Places.{edge_at}
+use Rattle.graph_runs.specs.Places.{edge_at, DoesAt}
 use Rattle.graph_runs.specs.Counters.{PassesParts, MeetsAmong}
 use Rattle.graph_runs.specs.Doing.{start}
+use Rattle.graph_runs.specs.Following.{Reaches}
+use Rattle.graph_runs.specs.Sources.{HasValue, SeparateItemsHaveSigns, IsSourceGraph}
 
 abbrev after : Program → ℕ → State
 after p n = run p [] [] [] n
@@ -106,6 +116,94 @@ a_size_error_without = inr (
   moment (57 ∷ 57 ∷ 57 ∷ []) full.counters full.bytes (scaled (pos 999)) false false,
   (scaled (pos 999), refl, refl),
   inl (refl, refl),
+)
+
+-- ---- the program keeps what every source's does
+
+eq_is : (a b : ℕ) → (a == b) ≡ true → a ≡ b
+eq_is a b e = grind (plain, nat_tests)
+
+number_in_order : (n : ℕ) (a : Act) (one two : Bool) → (n == 1) ≡ one → (n == 2) ≡ two → act_at adding n ≡ Some a →
+    (1 ≤ n) × (n ≤ 2)
+number_in_order n a true two e f its = let is = eq_is n 1 e in (omega (plain, is), omega (plain, is))
+number_in_order n a false true e f its = let is = eq_is n 2 f in (omega (plain, is), omega (plain, is))
+number_in_order n a false false e f its = absurd (none-some a (sym none ∙ its))
+  where
+    none : act_at adding n ≡ None
+    none =
+        ap (λ b. or_else (if b then Some add_one else or_else (or_else (if n == 2 then Some nothing else None) None) None)
+        None) e
+        ∙ ap (λ b. or_else (or_else (or_else (if b then Some nothing else None) None) None) None) f
+
+its_item : IsWellFormedItem adding.layout (slice_index_or adding.layout.items 0 (item_of 0 0 form.Group None))
+its_item = record {
+  within = omega plain;
+  form = record {
+    number = record { some_digits = omega plain; at_most_18 = omega plain; whole = refl };
+    decimals = omega plain;
+  };
+  value = (tt, (λ takes. record { digits = omega plain; decimals = omega plain }));
+}
+
+alone : (a b : ℕ) (i j : Item) → HasValue adding.layout a i → HasValue adding.layout b j → ¬ a ≡ b →
+    AreApart i.offset i.length j.offset j.length
+alone zero zero i j h k apart = absurd (apart refl)
+alone (suc a) b i j h k apart = absurd (none-some i h.at)
+alone zero (suc b) i j h k apart = absurd (none-some j k.at)
+
+adding_is_whole : IsWellFormed adding
+adding_is_whole = ((refl, ((refl, tt, tt), tt), tt), tt)
+
+adding_is_source : IsSourceGraph adding graph_of_adding
+adding_is_source = record {
+  items = record { items = only_item; files = λ k d l. absurd (omega (plain, l)) };
+  statements = (
+    ((record { operands = refl; receivers = refl; results = refl; rest = refl }, (tt, tt), tt), tt),
+    tt,
+  );
+  whole = adding_is_whole;
+  graph = is_graph adding laid_adding adding_is_laid;
+  values = alone;
+  signs = only_sign;
+  numbers = λ n a its. number_in_order n a (n == 1) (n == 2) refl refl its;
+}
+  where
+    only_item : All (IsWellFormedItem adding.layout) adding.layout.items
+    only_item zero d l = its_item
+    only_item (suc k) d l = absurd (omega (plain, l))
+
+    only_sign : SeparateItemsHaveSigns adding.layout
+    only_sign zero d l = tt
+    only_sign (suc k) d l = absurd (omega (plain, l))
+
+adding_does : DoesAt adding graph_of_adding 1 1 add_one
+adding_does = record {
+  of = record { at = record { statement = 1; sites = []; starts = true }; stands = refl; number = refl };
+  act = refl;
+}
+
+-- so 999 comes to the phrase's list along the second edge
+comes_to_the_list : Reaches adding graph_of_adding [] (λ e row. row) 1 2 full
+comes_to_the_list = (
+  2,
+  full,
+  record { first = omega plain; last = omega plain },
+  refl,
+  (
+    refl,
+    record { of_source = adding_is_source; first = 0 ∷ 0 ∷ 0 ∷ []; bytes = refl; counters = refl },
+  ),
+  record {
+    of_source = adding_is_source;
+    statement = 1;
+    act = add_one;
+    does = adding_does;
+    last = kept;
+    way = the_phrase_is_taken;
+    bytes = refl;
+    counters = refl;
+    fails = refl;
+  },
 )
 
 -- ---- A. PERFORM B 2 TIMES. STOP RUN. B. DISPLAY 'x'.
