@@ -9,6 +9,7 @@ pub mod Lengths
 pub mod Own
 pub mod Items
 pub mod Stored
+pub mod Lossless
 pub mod Put
 pub mod Listed
 pub mod Examples

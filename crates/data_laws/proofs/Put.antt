@@ -37,8 +37,9 @@ use Rattle.cob_runs.specs.Contents.{item_at, fitted, bytes_of, stored, number_in
 use Rattle.cob_runs.specs.Faults.{or_fault}
 use Rattle.cob_runs.specs.Moves.{number_of, moved}
 use Rattle.data_laws.specs.Values.{BeginsWith}
-use Rattle.data_laws.specs.Trees.{TreesPutValues, TreesStoreNumbers}
+use Rattle.data_laws.specs.Trees.{TreesPutValues, TreesStoreNumbers, TreesStoreLiterals}
 use Rattle.data_laws.proofs.Pairs.{AllPairs}
+use Rattle.data_laws.proofs.Lossless.{literal_exact}
 use Rattle.data_laws.proofs.Kept.{keeps_item_rules}
 use Rattle.data_laws.proofs.Own.{stored_back}
 use Rattle.data_laws.proofs.Items.{item_sound}
@@ -271,3 +272,22 @@ numbers_stand_at_first t has sound first place i value digits scale signed usage
     let begins : BeginsWith l place i held.bytes = record { has = value; put = ap (λ f. moved l [] f i.length x) form ∙ held.put } in
     values_read_at_first l first place i held.bytes sound (values_stand_apart t has) begins
     ∙ (ap (λ f. number_in f held.bytes) form ∙ ap (option_map (scaled_by scale)) held.read)
+
+number_room : (digits scale : ℕ) (signed : Bool) (usage : Usage) (n : Num) → has_room (Number digits scale signed usage) (sender.Number n) ≡ true →
+    all_zeros (drop scale (decimals n)) ≡ true
+number_room digits scale signed usage n room =
+    let front = all_zeros (take (length (whole n) - (digits - scale)) (whole n)) in
+    let behind = all_zeros (drop scale (decimals n)) in
+    (and_parts front behind (and_parts (front && behind) (signed || not (is_negative n)) room).0).1
+
+pub literals_stand_at_first : TreesStoreLiterals
+literals_stand_at_first t has sound first place i value digits scale signed usage n form is proper =
+    let l = layout t in
+    let room = (value_of_tree t has place i value.at value.value value.given).1 in
+    let fits : has_room (Number digits scale signed usage) (sender.Number n) ≡ true =
+    subst (λ x. has_room (Number digits scale signed usage) x ≡ true) is (subst (λ f. has_room f value.value ≡ true) form room) in
+    record {
+      number = scaled_by scale (near Trunc (value_of (literal n)) (pos scale));
+      read = numbers_stand_at_first t has sound first place i value digits scale signed usage (literal n) form (ap (number_of l []) is);
+      same = literal_exact n scale proper (number_room digits scale signed usage n fits);
+    }

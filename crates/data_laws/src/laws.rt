@@ -1,7 +1,7 @@
 //! What holds of items, of the numbers in them and of the values that they begin with.
 ghost use Rattle.data_laws.specs.Items.{NumbersAreOwn, NumbersFillItems, NumbersReadBack};
 ghost use Rattle.data_laws.specs.Values.{FirstStorageIsWhole, ValuesReadAtFirst, ValuesStandAtFirst};
-ghost use Rattle.data_laws.specs.Trees.{TreesGiveSigns, TreesKeepValuesApart, TreesPutValues, TreesStoreNumbers};
+ghost use Rattle.data_laws.specs.Trees.{TreesGiveSigns, TreesKeepValuesApart, TreesPutValues, TreesStoreLiterals, TreesStoreNumbers};
 
 /// A law: no two items that begin with a value have a byte in common, where the rules on data are kept (ISO 1989:1985,
 /// "VALUE clause").
@@ -22,6 +22,7 @@ pub fn values_stand_at_first()
 pub fn values_can_be_put()
     ensures put { TreesPutValues }
     ensures numbers { TreesStoreNumbers }
+    ensures literals { TreesStoreLiterals }
 {}
 
 /// A law: an item whose sign is a byte of its own has S in its picture, where the rules on data are kept (ISO
