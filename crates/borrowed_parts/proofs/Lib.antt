@@ -1,0 +1,9 @@
+pub mod SoughtLemmas
+pub mod SumLoops
+pub mod TestLoops
+pub mod ActViews
+pub mod FileLoops
+pub mod FormLemmas
+pub mod WriteLemmas
+pub mod EdgeLemmas
+pub mod DivisorLemmas

@@ -1,0 +1,4 @@
+pub mod Seeking
+pub mod PartView
+pub mod Pieces
+pub mod Writing
