@@ -14,7 +14,8 @@ use Rattle.cob_graph.specs.Graphs as graphs
 use Rattle.cob_graph.specs.Graphs.{cell, cell_of, item_cells, act_counters, stmt_counters, counters}
 use Rattle.cell_storages.specs.Homes.{Home, of_item, of_count, if_named, home_of, item_homes, act_homes, stmt_homes, count_homes, own_range, form_range, home_range}
 use Rattle.cell_facts.specs.Cells.{IsCellOf, CellsAreOfHomes, HomesHaveOwnRanges}
-use Rattle.data_laws.proofs.Listed.{IsFound, statements_are_found}
+use Rattle.data_laws.specs.Statements.{IsFound}
+use Rattle.data_laws.proofs.Listed.{listed_is_found}
 
 zip_append : (R : Home → Cell → Type 0) (hs ks : List Home) (cs ds : List Cell) → AllZip R hs cs → AllZip R ks ds → AllZip R (hs ++ ks) (cs ++ ds)
 zip_append R [] ks [] ds first second = second
@@ -116,7 +117,7 @@ module _ (p : Program) where
 pub cells_are_of_homes : CellsAreOfHomes
 cells_are_of_homes p whole =
     zip_append (IsCellOf p) (item_homes 0 p.layout.items) (count_homes (program_statements p)) (item_cells 0 p.layout.items) (counters (program_statements p))
-    (items_cells p 0 p.layout.items (λ k. let same : 0 + k ≡ k = omega arith in ap (slice_get p.layout.items) same)) (counts_cells p (program_statements p) (statements_are_found p whole))
+    (items_cells p 0 p.layout.items (λ k. let same : 0 + k ≡ k = omega arith in ap (slice_get p.layout.items) same)) (counts_cells p (program_statements p) (listed_is_found p whole))
 
 pub homes_have_own_ranges : HomesHaveOwnRanges
 homes_have_own_ranges p whole = ranges_of p _ _ (cells_are_of_homes p whole)

@@ -1,50 +1,50 @@
 -- What is found by its number stands in the list of the program's statements, and what stands there is found.
-use Rattle.std.proofs.Common.{◌≡◌, ◌⊎◌, inl, inr, ℕ, Bool, true, false, cond, eqb, List, [], ◌∷◌, ◌++◌, Option, Some, None, refl}
+use Rattle.std.proofs.Common.{◌≡◌, inl, inr, ℕ, Bool, true, false, cond, eqb, List, [], ◌∷◌, ◌++◌, Option, Some, None, refl}
 use Rattle.std.specs.List.{AllByRecursion}
 use Rattle.std.proofs.lemmas.Bool.{eqb-true}
 use Rattle.std.proofs.lemmas.Option.{same_Some}
 use Rattle.cob_program.specs.Act.{Stmt, MkStmt, Stmts, no_stmts, more_stmts, Phrase, left_out, given, Act, move, arith as arith_, if_, evaluate, perform, go, nothing, stop, open_files, close_files, read, write, show, Whens, no_whens, more_whens, MkWhen, Body, range, inline, Para, Program}
-use Rattle.cob_program.specs.Statements.{list_statements, phrase_statements, inner_statements, whens_statements, body_statements, paras_statements, program_statements}
-use Rattle.cob_runs.specs.Effects.{or_else, found, found_phrase, found_in, found_whens, found_body, found_among, act_at}
-use Rattle.cob_graph.specs.WellFormed.{AreWellFormed, IsWellFormedPhrase, IsWellFormedAct, AreWellFormedWhens, IsWellFormedBody, AreWellFormedParas, IsWellFormed}
+use Rattle.cob_program.specs.Statements.{list_statements, phrase_statements, inner_statements, whens_statements, body_statements, paras_statements}
+use Rattle.cob_runs.specs.Effects.{or_else, found, found_phrase, found_in, found_whens, found_body, found_among}
+use Rattle.cob_graph.specs.WellFormed.{AreWellFormed, IsWellFormedPhrase, IsWellFormedAct, AreWellFormedWhens, IsWellFormedBody, AreWellFormedParas}
+use Rattle.data_laws.specs.Statements.{IsIn, IsFound, FoundIsListed, ListedIsFound}
 
 -- ---- what is found is listed
 
 module _ (n : ℕ) (a : Act) where
-  abbrev pub IsIn : List Stmt → Type 0
-  IsIn [] = ⊥
-  IsIn (MkStmt m line b ∷ ss) = ((n ≡ m) × (b ≡ a)) ⊎ IsIn ss
+  abbrev In : List Stmt → Type 0
+  In ss = IsIn n a ss
 
-  in_left : (xs ys : List Stmt) → IsIn xs → IsIn (xs ++ ys)
+  in_left : (xs ys : List Stmt) → In xs → In (xs ++ ys)
   in_left [] ys is = absurd is
   in_left (MkStmt m line b ∷ xs) ys (inl here) = inl here
   in_left (MkStmt m line b ∷ xs) ys (inr later) = inr (in_left xs ys later)
 
-  in_right : (xs ys : List Stmt) → IsIn ys → IsIn (xs ++ ys)
+  in_right : (xs ys : List Stmt) → In ys → In (xs ++ ys)
   in_right [] ys is = is
   in_right (MkStmt m line b ∷ xs) ys is = inr (in_right xs ys is)
 
-  either : (x y : Option Act) (xs ys : List Stmt) → or_else x y ≡ Some a → (x ≡ Some a → IsIn xs) → (y ≡ Some a → IsIn ys) → IsIn (xs ++ ys)
+  either : (x y : Option Act) (xs ys : List Stmt) → or_else x y ≡ Some a → (x ≡ Some a → In xs) → (y ≡ Some a → In ys) → In (xs ++ ys)
   either None y xs ys e first second = in_right xs ys (second e)
   either (Some b) y xs ys e first second = in_left xs ys (first e)
 
   here_or_later : (x : Bool) (m line : ℕ) (b : Act) (other : Option Act) (later : List Stmt) → eqb n m ≡ x → cond x (Some b) other ≡ Some a →
-      (other ≡ Some a → IsIn later) → IsIn (MkStmt m line b ∷ later)
+      (other ≡ Some a → In later) → In (MkStmt m line b ∷ later)
   here_or_later true m line b other later same e rest = inl (eqb-true n m same, same_Some _ _ e)
   here_or_later false m line b other later same e rest = inr (rest e)
 
   mutual
-    in_list : (ss : Stmts) → found n ss ≡ Some a → IsIn (list_statements ss)
+    in_list : (ss : Stmts) → found n ss ≡ Some a → In (list_statements ss)
     in_list no_stmts e = absurd (cc)
     in_list (more_stmts (MkStmt m line b) ss) e =
         here_or_later (eqb n m) m line b (or_else (found_in n b) (found n ss)) (inner_statements b ++ list_statements ss) refl e
         (λ f. either (found_in n b) (found n ss) (inner_statements b) (list_statements ss) f (in_act b) (in_list ss))
 
-    in_phrase : (x : Phrase) → found_phrase n x ≡ Some a → IsIn (phrase_statements x)
+    in_phrase : (x : Phrase) → found_phrase n x ≡ Some a → In (phrase_statements x)
     in_phrase left_out e = absurd (cc)
     in_phrase (given ss) e = in_list ss e
 
-    in_act : (b : Act) → found_in n b ≡ Some a → IsIn (inner_statements b)
+    in_act : (b : Act) → found_in n b ≡ Some a → In (inner_statements b)
     in_act (arith_ s targets remainder size fine) e =
         either (found_phrase n size) (found n fine) (phrase_statements size) (list_statements fine) e (in_phrase size) (in_list fine)
     in_act (if_ t held other) e = either (found n held) (found n other) (list_statements held) (list_statements other) e (in_list held) (in_list other)
@@ -62,31 +62,28 @@ module _ (n : ℕ) (a : Act) where
     in_act stop e = absurd (cc)
     in_act (show xs) e = absurd (cc)
 
-    in_whens : (ws : Whens) → found_whens n ws ≡ Some a → IsIn (whens_statements ws)
+    in_whens : (ws : Whens) → found_whens n ws ≡ Some a → In (whens_statements ws)
     in_whens no_whens e = absurd (cc)
     in_whens (more_whens (MkWhen tests ss) ws) e =
         either (found n ss) (found_whens n ws) (list_statements ss) (whens_statements ws) e (in_list ss) (in_whens ws)
 
-    in_body : (b : Body) → found_body n b ≡ Some a → IsIn (body_statements b)
+    in_body : (b : Body) → found_body n b ≡ Some a → In (body_statements b)
     in_body (range first last) e = absurd (cc)
     in_body (inline ss) e = in_list ss e
 
-  in_paras : (xs : List Para) → found_among n xs ≡ Some a → IsIn (paras_statements xs)
+  in_paras : (xs : List Para) → found_among n xs ≡ Some a → In (paras_statements xs)
   in_paras [] e = absurd (cc)
   in_paras (x ∷ xs) e =
       either (found n x.body) (found_among n xs) (list_statements x.body) (paras_statements xs) e (in_list x.body) (in_paras xs)
 
-  pub in_program : (p : Program) → act_at p n ≡ Some a → IsIn (program_statements p)
-  in_program p e = in_paras p.paras e
+pub found_is_listed : FoundIsListed
+found_is_listed p n a e = in_paras n a p.paras e
 
 -- ---- what is listed is found
 
 module _ (p : Program) where
-  abbrev pub IsFound : Stmt → Type 0
-  IsFound (MkStmt n line a) = act_at p n ≡ Some a
-
   abbrev AreFound : List Stmt → Type 0
-  AreFound ss = AllByRecursion IsFound ss
+  AreFound ss = AllByRecursion (IsFound p) ss
 
   two : (xs ys : List Stmt) → AreFound xs → AreFound ys → AreFound (xs ++ ys)
   two [] ys first second = second
@@ -132,5 +129,5 @@ module _ (p : Program) where
   found_paras [] whole = tt
   found_paras (x ∷ xs) whole = two (list_statements x.body) (paras_statements xs) (found_list x.body whole.0) (found_paras xs whole.1)
 
-  pub statements_are_found : IsWellFormed p → AllByRecursion IsFound (program_statements p)
-  statements_are_found whole = found_paras p.paras whole
+pub listed_is_found : ListedIsFound
+listed_is_found p whole = found_paras p p.paras whole

@@ -1,6 +1,7 @@
-//! What holds of items, of the numbers in them and of the values that they begin with.
+//! What holds of items, of the numbers in them and of the values that they begin with, and of the list of statements.
 ghost use Rattle.data_laws.specs.Items.{NumbersAreOwn, NumbersFillItems, NumbersReadBack};
 ghost use Rattle.data_laws.specs.Values.{FirstStorageIsWhole, ValuesReadAtFirst, ValuesStandAtFirst};
+ghost use Rattle.data_laws.specs.Statements.{FoundIsListed, ListedIsFound};
 ghost use Rattle.data_laws.specs.Trees.{TreesGiveSigns, TreesKeepValuesApart, TreesPutValues, TreesStoreLiterals, TreesStoreNumbers};
 
 /// A law: no two items that begin with a value have a byte in common, where the rules on data are kept (ISO 1989:1985,
@@ -42,4 +43,11 @@ pub fn numbers_lie_in_own_ranges()
 pub fn numbers_fill_items_and_read_back()
     ensures fill { NumbersFillItems }
     ensures back { NumbersReadBack }
+{}
+
+/// A law: the list of a program's statements has each statement that is found by its number, and where each can be
+/// found so, these alone.
+pub fn statements_are_listed()
+    ensures listed { FoundIsListed }
+    ensures found { ListedIsFound }
 {}
