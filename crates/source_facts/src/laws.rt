@@ -1,11 +1,12 @@
 //! What holds of each source's program and of its graph.
 ghost use Rattle.source_facts.specs.Sources.{SourcesHaveSourceGraphs};
-ghost use Rattle.source_facts.specs.Statements.{SourcesNumberStatements};
+ghost use Rattle.source_facts.specs.Statements.{SourcesCountStatements, SourcesNumberStatements};
 
 /// A law: the statements of a source's program have the numbers from one on, in the order of the source, and are as many
-/// as the program says.
-pub fn statements_are_numbered_in_order()
-    ensures { SourcesNumberStatements }
+/// as the program says; so the number by which a statement is found is one of these.
+pub fn statements_are_counted()
+    ensures order { SourcesNumberStatements }
+    ensures counted { SourcesCountStatements }
 {}
 
 /// A law: a source's program with its graph has all that an analysis needs. It can be run; items that begin with a value

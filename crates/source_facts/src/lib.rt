@@ -3,4 +3,4 @@
 
 mod laws;
 
-pub use laws::{sources_have_source_graphs, statements_are_numbered_in_order};
+pub use laws::{sources_have_source_graphs, statements_are_counted};
