@@ -1,18 +1,18 @@
 -- Cells stand in the order of their homes.
-use Rattle.std.proofs.Common.{◌≡◌, ℕ, ◌+◌, zero, suc, nat_le, Bool, true, false, if◌then◌else◌, List, [], ◌∷◌, ◌++◌, map, slice_get, Option, Some, None, refl, ap, ◌∙◌, sym, subst, arith}
+use Rattle.std.proofs.Common.{◌≡◌, ℕ, ◌+◌, suc, nat_le, Bool, true, false, if◌then◌else◌, List, [], ◌∷◌, ◌++◌, map, slice_get, Option, Some, None, refl, ap, ◌∙◌, sym, arith}
 use Rattle.std.specs.List.{AllZip, AllByRecursion}
 use Rattle.std.specs.Option.{option_map_or}
 use Rattle.cob_tree.specs.declared.form.Form.{Form}
 use Rattle.cob_tree.specs.declared.form.Form.TheVariants.{Group, Text, Number, Edited}
 use Rattle.cob_data.specs.declared.layout.Item.{Item}
-use Rattle.cob_program.specs.Act.{Turns, once, times, until, varying, Stmt, MkStmt, Act, move, arith as arith_, if_, evaluate, perform, go, nothing, stop, open_files, close_files, read, write, show, Program}
+use Rattle.cob_program.specs.Act.{once, times, until, varying, Stmt, MkStmt, Act, move, arith as arith_, if_, evaluate, perform, go, nothing, stop, open_files, close_files, read, write, show, Program}
 use Rattle.cob_program.specs.Statements.{program_statements}
 use Rattle.cob_runs.specs.declared.action.Cell.{Cell}
 use Rattle.cob_runs.specs.Contents.{item_at, form_at}
 use Rattle.cob_runs.specs.Effects.{act_at}
 use Rattle.cob_graph.specs.Graphs as graphs
 use Rattle.cob_graph.specs.Graphs.{cell, cell_of, item_cells, act_counters, stmt_counters, counters}
-use Rattle.cell_storages.specs.Homes.{Home, of_item, of_count, if_named, home_of, item_homes, act_homes, stmt_homes, count_homes, own_range, form_range, home_range}
+use Rattle.cell_storages.specs.Homes.{Home, of_item, of_count, if_named, home_of, item_homes, act_homes, count_homes, own_range, form_range, home_range}
 use Rattle.cell_facts.specs.Cells.{IsCellOf, CellsAreOfHomes, HomesHaveOwnRanges}
 use Rattle.data_laws.specs.Statements.{IsFound}
 use Rattle.data_laws.proofs.Listed.{listed_is_found}

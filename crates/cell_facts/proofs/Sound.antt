@@ -1,7 +1,7 @@
 -- What an analysis of cells needs of a layout.
-use Rattle.std.proofs.Common.{◌≡◌, ℕ, ◌+◌, ◌-◌, ◌^◌, ◌<◌, ◌≤◌, Bool, true, false, nat_lt, ◌&&◌, if◌then◌else◌, Option, Some, None, ℤ, pos, negsuc, unsigned_abs, refl, ap, ◌∙◌, subst, arith}
+use Rattle.std.proofs.Common.{◌≡◌, ℕ, ◌+◌, ◌^◌, ◌<◌, Bool, true, false, if◌then◌else◌, Option, Some, None, ℤ, pos, negsuc, unsigned_abs, refl, ap, ◌∙◌, subst, arith}
 use Rattle.std.specs.Option.{option_map_or}
-use Rattle.std.proofs.lemmas.Bool.{and_parts, ltb-true}
+use Rattle.std.proofs.lemmas.Bool.{ltb-true}
 use Rattle.std.proofs.lemmas.Int.{ints}
 use Rattle.cob_tree.specs.declared.form.Form.{Form}
 use Rattle.cob_tree.specs.declared.form.Form.TheVariants.{Group, Text, Number, Edited}
@@ -12,7 +12,6 @@ use Rattle.num_bytes.specs.Reading.{is_own, contents_value}
 use Rattle.cob_items.specs.WellFormed.{IsWellFormedForm, HasWellFormedItems}
 use Rattle.cob_runs.specs.Contents.{item_at, form_at, bytes_of}
 use Rattle.decimal_interval.specs.Bounds.{Holds}
-use Rattle.graph_runs.specs.Sources.{SeparateItemsHaveSigns}
 use Rattle.cell_storages.specs.Homes.{picture_range, form_range}
 use Rattle.data_laws.specs.Items.{IsOwn}
 use Rattle.data_laws.proofs.Lengths.{length-bytes_of}

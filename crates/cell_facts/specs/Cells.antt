@@ -1,5 +1,5 @@
 -- Which item or counter each cell of a program is of.
-use Rattle.std.specs.Prelude.{◌≡◌, ℕ, List, [], ◌∷◌, map, Some}
+use Rattle.std.specs.Prelude.{◌≡◌, ℕ, [], ◌∷◌, map, Some}
 use Rattle.std.specs.List.{AllZip}
 use Rattle.cob_data.specs.declared.layout.Sender.{Sender}
 use Rattle.cob_program.specs.Act.{Body, times, perform, Program}
