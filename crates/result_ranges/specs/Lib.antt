@@ -1,0 +1,6 @@
+pub mod Receivers
+pub mod Amounts
+pub mod Operands
+pub mod Results
+pub mod ResultRanges
+pub mod Sizes
