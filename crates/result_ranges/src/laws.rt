@@ -22,7 +22,8 @@ ghost use Rattle.result_ranges.specs.declared.amounts.AmountRange.TheVariants as
 ghost use Rattle.result_ranges.specs.declared.amounts.Receiver.{Receiver};
 ghost use Rattle.result_ranges.specs.Receivers.{HasRoomFor, kept_units, receiver_of};
 ghost use Rattle.result_ranges.specs.Amounts.{IsAmount, IsNear, IsNarrowerTaken, IsNarrowerTakenIfAny, IsNarrowerAmount};
-ghost use Rattle.result_ranges.specs.Operands.{is_whole, taken_sum, operands, computed_range, remaining_range};
+ghost use Rattle.result_ranges.specs.Operands.{is_whole, taken_sum, computed_range, remaining_range};
+ghost use Rattle.result_ranges.specs.Stores.{operands};
 ghost use Rattle.result_ranges.specs.Results.{IsLeastIfAny, IsInBoth, IsHeld, IsKept, IsExceeded, IsInside, IsInsideIfAny};
 ghost use Rattle.result_ranges.specs.ResultRanges.{if_any, meeting, near_range, quotient_units, amount_units, held_range, fitted, exceeds, result_range, may_fit, may_fail};
 

@@ -1,0 +1,9 @@
+pub mod Keeping
+pub mod Shifting
+pub mod Leftovers
+pub mod Units
+pub mod Rests
+pub mod Narrower
+pub mod Fitting
+pub mod Meant
+pub mod Taking
