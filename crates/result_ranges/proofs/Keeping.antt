@@ -4,6 +4,7 @@ use Rattle.std.specs.Prelude.{◌↔◌, int_le, int_lt, unsigned_abs}
 use Rattle.std.specs.Option.{option_map}
 use Rattle.std.specs.Int.{int_max, int_min}
 use Rattle.std.proofs.lemmas.Int.{ints, clamps}
+use Rattle.std.proofs.lemmas.Bool.{or_cases}
 use Rattle.dec_num.proofs.Powers.{ten_positive}
 use Rattle.decimal_interval.specs.declared.bounds.Interval.{Interval}
 use Rattle.decimal_interval.specs.Bounds.{Holds, IsLeast}
@@ -147,14 +148,11 @@ exceeding_high limit high some e = grind (arith, ints)
 exceeding : (limit : ℕ) (i : Interval) (z : ℤ) → 1 ≤ limit → Holds i z → limit ≤ unsigned_abs z → (int_lt i.low (neg_ℤ (pos (limit - 1))) || int_lt (pos (limit - 1)) i.high) ≡ true
 exceeding limit i z some h k = grind (arith, ints)
 
-or_cases : (p q : Bool) {C : Type 0} → (p || q) ≡ true → (p ≡ true → C) → (q ≡ true → C) → C
-or_cases true q e f g = f refl
-or_cases false q e f g = g e
-
 pub exceeded : (digits : ℕ) (i : Interval) → i.low ≤ℤ i.high → (exceeds digits i ≡ true) ↔ IsExceeded digits i
 exceeded digits i ordered = (
-  λ e. or_cases (int_lt i.low (neg_ℤ (most digits))) (int_lt (most digits) i.high) e
-      (λ low. (i.low, (omega (arith, ints), ordered), exceeding_low (10 ^ digits) i.low (some_room digits) low))
-      (λ high. (i.high, (ordered, omega (arith, ints)), exceeding_high (10 ^ digits) i.high (some_room digits) high)),
+  λ e. elim (or_cases (int_lt i.low (neg_ℤ (most digits))) (int_lt (most digits) i.high) e) [
+    | inl low ↦ (i.low, (omega (arith, ints), ordered), exceeding_low (10 ^ digits) i.low (some_room digits) low)
+    | inr high ↦ (i.high, (ordered, omega (arith, ints)), exceeding_high (10 ^ digits) i.high (some_room digits) high)
+  ],
   λ (z, h, k). exceeding (10 ^ digits) i z (some_room digits) h k,
 )

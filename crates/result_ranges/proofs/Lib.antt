@@ -7,3 +7,5 @@ pub mod Narrower
 pub mod Fitting
 pub mod Meant
 pub mod Taking
+pub mod Capping
+pub mod Working

@@ -19,7 +19,7 @@ use Rattle.result_ranges.specs.declared.amounts.Taken.{Taken}
 use Rattle.result_ranges.specs.declared.amounts.AmountRange.{AmountRange}
 use Rattle.result_ranges.specs.declared.amounts.AmountRange.TheVariants as range
 use Rattle.result_ranges.specs.Amounts.{taken, rest, IsAmount}
-use Rattle.result_ranges.specs.Operands.{alone, is_whole, taken_from, taken_sum, whole_range, computed_range, remaining_range}
+use Rattle.result_ranges.specs.Operands.{alone, is_whole, taken_from, taken_sum, whole_range, computed_range, remaining_range, remaining_sum}
 use Rattle.result_ranges.proofs.Rests.{then_held, mapped_held, plus_in, product_in}
 
 pub decimal_amount : (x : Scaled) (r : Ranged) (v : Fraction) → IsIn x r → Some (value_of x) ≡ Some v → IsAmount (range.Decimal r) v
@@ -76,5 +76,5 @@ module _ (worth : ℕ → Scaled) (range_at : ℕ → Ranged) (held : (place : �
       (λ n d top under h k l. (n, d, v.0, h, k, l, sym (some_same (value_of v.0) x v.2))))
       (λ t h. h)
 
-  pub remaining_in : (s : Sum) (scale : ℕ) (x : Fraction) → remainder_of worth scale (root_of s) ≡ Some x → IsSomeAnd (taken_sum range_at true s >>= remaining_range scale) (λ a. IsAmount a x)
+  pub remaining_in : (s : Sum) (scale : ℕ) (x : Fraction) → remainder_of worth scale (root_of s) ≡ Some x → IsSomeAnd (remaining_sum range_at scale s) (λ a. IsAmount a x)
   remaining_in s scale x e = left_amount scale s (root_of s) x e

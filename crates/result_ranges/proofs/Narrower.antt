@@ -1,7 +1,8 @@
 -- Narrower operands give narrower results.
-use Rattle.std.proofs.Common.{◌≡◌, ℕ, ◌+◌, ◌-◌, ◌^◌, ◌||◌, Bool, true, false, ℤ, pos, neg_ℤ, ◌*ℤ◌, ◌≤ℤ◌, Option, Some, None, refl, sym, ap, ◌∙◌, subst, arith}
+use Rattle.std.proofs.Common.{◌≡◌, ℕ, ◌+◌, ◌-◌, ◌^◌, ◌||◌, Bool, true, false, ℤ, pos, neg_ℤ, ◌*ℤ◌, ◌≤ℤ◌, Option, Some, None, inl, inr, refl, sym, ap, ◌∙◌, subst, arith}
 use Rattle.std.specs.Prelude.{int_lt, is_some}
 use Rattle.std.specs.Option.{option_map, option_map_or}
+use Rattle.std.proofs.lemmas.Bool.{or_cases}
 use Rattle.std.proofs.lemmas.Int.{ints, clamps}
 use Rattle.dec_num.specs.declared.types.Mode.{Mode}
 use Rattle.dec_num.specs.declared.types.Mode.TheVariants.{Trunc}
@@ -28,7 +29,7 @@ use Rattle.result_ranges.specs.Amounts.{IsAmount, IsNear, IsNarrowerIfAny, IsNar
 use Rattle.result_ranges.specs.Operands.{whole_range, computed_range}
 use Rattle.result_ranges.specs.Results.{IsLeastIfAny, IsInBoth, IsKept, IsInside, IsInsideIfAny}
 use Rattle.result_ranges.specs.ResultRanges.{if_any, meeting, plus_minus, greatest_size, near_range, quotient_units, limited, rest_range, amount_units, most, fitted, exceeds, result_range, may_fit, may_fail}
-use Rattle.result_ranges.proofs.Keeping.{both_least, kept_least, or_cases}
+use Rattle.result_ranges.proofs.Keeping.{both_least, kept_least}
 use Rattle.result_ranges.proofs.Units.{decimals_least, quotient_units_least}
 use Rattle.result_ranges.proofs.Rests.{difference}
 
@@ -62,9 +63,10 @@ or_right false q e = e
 
 pub exceeds_inside : (digits : ℕ) (i j : Interval) → IsInside i j → exceeds digits i ≡ true → exceeds digits j ≡ true
 exceeds_inside digits i j h e =
-    or_cases (int_lt i.low (neg_ℤ (most digits))) (int_lt (most digits) i.high) e
-    (λ low. or_left (int_lt j.low (neg_ℤ (most digits))) (int_lt (most digits) j.high) (below_lower i.low j.low (neg_ℤ (most digits)) h.0 low))
-    (λ high. or_right (int_lt j.low (neg_ℤ (most digits))) (int_lt (most digits) j.high) (above_higher i.high j.high (most digits) h.1 high))
+    elim (or_cases (int_lt i.low (neg_ℤ (most digits))) (int_lt (most digits) i.high) e) [
+      | inl low ↦ or_left (int_lt j.low (neg_ℤ (most digits))) (int_lt (most digits) j.high) (below_lower i.low j.low (neg_ℤ (most digits)) h.0 low)
+      | inr high ↦ or_right (int_lt j.low (neg_ℤ (most digits))) (int_lt (most digits) j.high) (above_higher i.high j.high (most digits) h.1 high)
+    ]
 
 -- ---- amounts
 

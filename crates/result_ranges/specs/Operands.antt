@@ -51,3 +51,7 @@ computed_range how.Under own t = range.Quotient own t.top
 -- nothing where the whole is no quotient
 abbrev pub remaining_range : ℕ → Taken → Option AmountRange
 remaining_range scale t = option_map (λ under. range.Remainder t.top under scale) t.under
+
+-- what a division of a sum's two operands leaves, where the quotient has so many decimals
+abbrev pub remaining_sum : (ℕ → Ranged) → ℕ → Sum → Option AmountRange
+remaining_sum range_at scale s = taken_sum range_at true s >>= remaining_range scale

@@ -3,7 +3,11 @@
 #![tactic(auto)]
 
 mod amounts;
+mod arithmetic;
+mod intervals;
 mod laws;
+mod results;
+mod units;
 
 pub use amounts::{AmountRange, Receiver, Taken};
 pub use laws::{
@@ -11,3 +15,4 @@ pub use laws::{
     receivers_keep_the_least, results_lie_in_their_ranges, stores_lie_in_their_ranges,
     units_are_least,
 };
+pub use results::{Stored, computed_range, counted, exceeds, fitted, lowered, result_range};
