@@ -19,17 +19,17 @@ use Rattle.sum_ranges.specs.Sizes.{IsSmallRange}
 use Rattle.result_ranges.specs.declared.amounts.Receiver.{Receiver}
 use Rattle.result_ranges.specs.Receivers.{HasRoomFor}
 use Rattle.result_ranges.specs.Results.{IsLeastIfAny, IsHeld, IsKept}
-use Rattle.result_ranges.specs.ResultRanges.{quotients, quotient_units, most, held_range, fitted, exceeds}
+use Rattle.result_ranges.specs.ResultRanges.{quotient_units, most, held_range, fitted, exceeds}
 use Rattle.result_ranges.specs.Sizes.{capped_at, IsCapped, IsCappedIfAny, IsSameFor}
 use Rattle.result_ranges.proofs.Keeping.{least_same, kept_least, some_room}
-use Rattle.result_ranges.proofs.Units.{up_of, quotients_least}
+use Rattle.result_ranges.proofs.Rounding.{up_of, quotients_least}
 
 -- ---- one least interval
 
 same_ends : (x y : ℤ) → x ≤ℤ y → y ≤ℤ x → x ≡ y
 same_ends x y h k = omega (arith, ints, h, k)
 
-interval_same : (i j : Interval) → i.low ≡ j.low → i.high ≡ j.high → i ≡ j
+pub interval_same : (i j : Interval) → i.low ≡ j.low → i.high ≡ j.high → i ≡ j
 interval_same i j e f =
     let join : ℤ → ℤ → Interval = λ low high. record { low = low; high = high } in
     ap (λ low. join low i.high) e ∙ ap (join j.low) f
@@ -89,15 +89,13 @@ capped_of_least R (Some j) (Some i) h none (exact, least, low, high) =
     let same = one_least R exact j least h in
     record { low = low ∙ ap (λ e. capped_at (10 ^ 37) e.low) same; high = high ∙ ap (λ e. capped_at (10 ^ 37) e.high) same }
 
-pub quotients_capped : (mode : Mode) (scale : ℕ) (top under : Ranged) (up : ℤ) (o : Option Interval) → IsSmallRange top → IsSmallRange under → up ≡ up_of scale top under →
-    (o ≡ None) ↔ ((under.units.low ≡ pos 0) × (under.units.high ≡ pos 0)) → IfSome o (λ i. IsLeastCapped (IsQuotient top.units under.units up mode) i) → IsCappedIfAny (10 ^ 37) (quotient_units mode scale top under) o
-quotients_capped mode scale top under up o n d e none least =
+pub quotients_capped : (mode : Mode) (scale : ℕ) (top under : Ranged) (up : ℤ) (o : Option Interval) → IsSmallRange top → IsSmallRange under → (o ≡ None) ↔ ((under.units.low ≡ pos 0) × (under.units.high ≡ pos 0)) →
+    IfSome o (λ i. IsLeastCapped (IsQuotient top.units under.units up mode) i) → up ≡ up_of scale top under → IsCappedIfAny (10 ^ 37) (quotient_units mode scale top under) o
+quotients_capped mode scale top under up o n d none least e =
     capped_of_least (IsQuotient top.units under.units (up_of scale top under) mode) (quotient_units mode scale top under) o
     (quotients_least mode (up_of scale top under) top.units under.units n.units.ordered d.units.ordered)
     (λ missing. none_found mode (up_of scale top under) top.units under.units (none.0 missing).0 (none.0 missing).1)
     (subst (λ u. IfSome o (λ i. IsLeastCapped (IsQuotient top.units under.units u mode) i)) e least)
-
-pub ruleset quotients = (quotients_capped)
 
 -- ---- what a receiver makes of capped ends
 

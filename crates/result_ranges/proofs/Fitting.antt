@@ -24,7 +24,7 @@ use Rattle.result_ranges.specs.Amounts.{IsAmount, IsNear}
 use Rattle.result_ranges.specs.Results.{IsKept}
 use Rattle.result_ranges.specs.ResultRanges.{near_range, quotient_units, rest_range, amount_units, fitted, exceeds, result_range, may_fail}
 use Rattle.result_ranges.proofs.Keeping.{kept_least, exceeded}
-use Rattle.result_ranges.proofs.Units.{near_held, decimals_least, quotient_units_least}
+use Rattle.result_ranges.proofs.Rounding.{near_held, decimals_least, quotient_units_least}
 use Rattle.result_ranges.proofs.Rests.{then_held, mapped_held, held_of_least, rest_in}
 
 pub units_hold : (mode : Mode) (scale : ℕ) (a : AmountRange) (z : ℤ) → IsNear mode scale a z → IsSomeAnd (amount_units mode scale a) (λ i. Holds i z)

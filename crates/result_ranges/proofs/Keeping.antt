@@ -1,6 +1,6 @@
 -- What receivers keep of intervals.
 use Rattle.std.proofs.Common.{◌≡◌, ℕ, ◌-◌, ◌^◌, ◌<◌, ◌≤◌, ◌||◌, Bool, true, false, if◌then◌else◌, ℤ, pos, neg_ℤ, ◌≤ℤ◌, Option, Some, None, inl, inr, refl, sym, ap, subst, ◌∙◌, arith}
-use Rattle.std.specs.Prelude.{◌↔◌, int_le, int_lt, unsigned_abs}
+use Rattle.std.specs.Prelude.{◌↔◌, ◌<ℤ◌, int_le, int_lt, unsigned_abs}
 use Rattle.std.specs.Option.{option_map}
 use Rattle.std.specs.Int.{int_max, int_min}
 use Rattle.std.proofs.lemmas.Int.{ints, clamps}
@@ -8,6 +8,7 @@ use Rattle.std.proofs.lemmas.Bool.{or_cases}
 use Rattle.dec_num.proofs.Powers.{ten_positive}
 use Rattle.decimal_interval.specs.declared.bounds.Interval.{Interval}
 use Rattle.decimal_interval.specs.Bounds.{Holds, IsLeast}
+use Rattle.decimal_interval.specs.Corners.{interval}
 use Rattle.result_ranges.specs.declared.amounts.Receiver.{Receiver}
 use Rattle.result_ranges.specs.Receivers.{HasRoomFor, kept_units}
 use Rattle.result_ranges.specs.Results.{IsLeastIfAny, IsInBoth, IsHeld, IsKept, IsExceeded, IsInside, IsInsideIfAny}
@@ -53,7 +54,7 @@ room_within limit z h = (omega (arith, ints, h), omega (arith, ints, h))
 within_room : (limit : ℕ) (z : ℤ) → 1 ≤ limit → Holds (plus_minus (pos (limit - 1))) z → unsigned_abs z < limit
 within_room limit z some h = omega (arith, ints, some, h.0, h.1)
 
-some_room : (digits : ℕ) → 1 ≤ 10 ^ digits
+pub some_room : (digits : ℕ) → 1 ≤ 10 ^ digits
 some_room digits = ten_positive digits
 
 pub held_least : (digits : ℕ) (i : Interval) → IsLeastIfAny (IsHeld digits i) (held_range digits i)
@@ -156,3 +157,20 @@ exceeded digits i ordered = (
   ],
   λ (z, h, k). exceeding (10 ^ digits) i z (some_room digits) h k,
 )
+
+-- ---- what the calls give
+
+pub met_some : (a : Interval) (limit low high : ℤ) → low ≡ int_max a.low (neg_ℤ limit) → high ≡ int_min a.high limit → low ≤ℤ high → Some (interval low high) ≡ if_any (meeting a (plus_minus limit))
+met_some a limit low high e f h =
+    let le : int_le low high ≡ true = grind (arith, ints) in
+    let found : Some (interval low high) ≡ if_any (interval low high) = rw le refl in
+    found ∙ ap (λ l. if_any (interval l high)) e ∙ ap (λ u. if_any (interval (int_max a.low (neg_ℤ limit)) u)) f
+
+pub met_none : (a : Interval) (limit low high : ℤ) → low ≡ int_max a.low (neg_ℤ limit) → high ≡ int_min a.high limit → high <ℤ low → None ≡ if_any (meeting a (plus_minus limit))
+met_none a limit low high e f h =
+    let gt : int_le low high ≡ false = grind (arith, ints) in
+    let missing : None ≡ if_any (interval low high) = rw gt refl in
+    missing ∙ ap (λ l. if_any (interval l high)) e ∙ ap (λ u. if_any (interval (int_max a.low (neg_ℤ limit)) u)) f
+
+pub absolutes_from : (a : Interval) (low high : ℤ) → low ≡ int_max (pos 0) (int_max a.low (neg_ℤ a.high)) → high ≡ greatest_size a → interval low high ≡ absolutes a
+absolutes_from a low high e f = ap (λ l. interval l high) e ∙ ap (λ u. interval (int_max (pos 0) (int_max a.low (neg_ℤ a.high))) u) f

@@ -1,7 +1,7 @@
 pub mod Keeping
 pub mod Shifting
 pub mod Leftovers
-pub mod Units
+pub mod Rounding
 pub mod Rests
 pub mod Narrower
 pub mod Fitting

@@ -30,7 +30,7 @@ use Rattle.result_ranges.specs.Operands.{whole_range, computed_range}
 use Rattle.result_ranges.specs.Results.{IsLeastIfAny, IsInBoth, IsKept, IsInside, IsInsideIfAny}
 use Rattle.result_ranges.specs.ResultRanges.{if_any, meeting, plus_minus, greatest_size, near_range, quotient_units, limited, rest_range, amount_units, most, fitted, exceeds, result_range, may_fit, may_fail}
 use Rattle.result_ranges.proofs.Keeping.{both_least, kept_least}
-use Rattle.result_ranges.proofs.Units.{decimals_least, quotient_units_least}
+use Rattle.result_ranges.proofs.Rounding.{decimals_least, quotient_units_least}
 use Rattle.result_ranges.proofs.Rests.{difference}
 
 -- ---- intervals

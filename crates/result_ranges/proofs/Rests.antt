@@ -24,7 +24,7 @@ use Rattle.result_ranges.specs.Amounts.{IsNear, rest}
 use Rattle.result_ranges.specs.Results.{IsLeastIfAny, IsInBoth}
 use Rattle.result_ranges.specs.ResultRanges.{if_any, meeting, plus_minus, greatest_size, quotient_units, limited, rest_range}
 use Rattle.result_ranges.proofs.Keeping.{both_least}
-use Rattle.result_ranges.proofs.Units.{exact_parts, ratio_at, quotient_units_least}
+use Rattle.result_ranges.proofs.Rounding.{exact_parts, ratio_at, quotient_units_least}
 use Rattle.result_ranges.proofs.Leftovers.{rest_bounded}
 
 -- ---- one after the other

@@ -1,5 +1,5 @@
 -- What the arithmetic of intervals works with.
-use Rattle.std.specs.Prelude.{◌≡◌, ℕ, ◌+◌, ◌-◌, ◌^◌, ◌≤◌, ℤ, pos, neg_ℤ, ◌*ℤ◌, Option, Some, None, IfSome}
+use Rattle.std.specs.Prelude.{◌≡◌, true, ℕ, ◌+◌, ◌-◌, ◌^◌, ◌≤◌, ℤ, pos, neg_ℤ, ◌*ℤ◌, Option, Some, None, IfSome}
 use Rattle.std.specs.Int.{int_max, int_min}
 use Rattle.dec_num.specs.declared.types.Mode.TheVariants.{Trunc}
 use Rattle.decimal_interval.specs.declared.bounds.Interval.{Interval}
@@ -45,9 +45,9 @@ pub record IsSmallRest (n d q : Ranged) : Type 0 where
   pub limit : IsSmall (greatest_size d.units *ℤ pos (10 ^ (joint n (product_range d q) - (d.scale + q.scale))))
 
 pub record IsSmallRemainder (top under : Ranged) (scale : ℕ) : Type 0 where
-  pub top : IsSmallRange top
-  pub under : IsSmallRange under
-  pub scale : scale ≤ 18
+  pub divided : IsSmallRange top
+  pub divisor : IsSmallRange under
+  pub decimals : scale ≤ 18
   pub rest : IfSome (quotient_units Trunc scale top under) (λ q. IsSmallRest top under (ranged q scale))
 
 abbrev pub IsSmallAmount : AmountRange → Type 0

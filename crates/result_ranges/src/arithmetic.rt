@@ -1,5 +1,5 @@
 //! Sums and products of ranges.
-ghost use Rattle.std.specs.Prelude.{◌≡◌, ◌≤◌};
+ghost use Rattle.std.specs.Prelude.{◌≡◌, ◌≤◌, true};
 ghost use Rattle.decimal_interval.specs.Bounds.{IsInterval};
 ghost use Rattle.decimal_interval.specs.Corners.{negated};
 ghost use Rattle.sum_ranges.specs.SumRanges.{turned, raised, plus_range, product_range};
@@ -38,7 +38,6 @@ fn raised(a: Ranged, scale: u32) -> Interval
 }
 
 /// The range of the sums.
-#[tactic(auto, using(crate::proofs::Working::sums))]
 pub(crate) fn plus_range(a: Ranged, b: Ranged) -> Ranged
     requires { CanAddRanges a b }
     ensures { result ≡ plus_range a b }
@@ -51,7 +50,6 @@ pub(crate) fn plus_range(a: Ranged, b: Ranged) -> Ranged
 }
 
 /// The range of the products.
-#[tactic(auto, using(crate::proofs::Working::products))]
 pub(crate) fn product_range(a: Ranged, b: Ranged) -> Ranged
     requires { CanMultiplyRanges a b }
     ensures { result ≡ product_range a b }

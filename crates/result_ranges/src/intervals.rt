@@ -1,5 +1,5 @@
 //! Meetings and absolute values of intervals.
-ghost use Rattle.std.specs.Prelude.{◌≡◌, ◌<◌, ◌≤◌, ◌^◌, unsigned_abs, IfSome};
+ghost use Rattle.std.specs.Prelude.{◌≡◌, ◌<◌, ◌≤◌, ◌^◌, ◌≤ℤ◌, unsigned_abs, IfSome};
 ghost use Rattle.decimal_interval.specs.Bounds.{IsSmall};
 ghost use Rattle.result_ranges.specs.ResultRanges.{if_any, meeting, plus_minus, greatest_size, absolutes, most};
 
@@ -10,6 +10,7 @@ use decimal_interval::Interval;
 pub(crate) fn within(a: Interval, limit: i128) -> Option<Interval>
     requires { IsSmall limit }
     ensures value { result ≡ if_any (meeting a (plus_minus limit)) }
+    ensures ordered { IfSome result (λ i. i.low ≤ℤ i.high) }
     ensures low { IfSome result (λ i. unsigned_abs i.low ≤ unsigned_abs limit) }
     ensures high { IfSome result (λ i. unsigned_abs i.high ≤ unsigned_abs limit) }
 {
@@ -37,7 +38,7 @@ pub(crate) fn absolutes(a: Interval) -> Interval
     ensures { result ≡ absolutes a }
 {
     Interval {
-        low: 0.max(a.low.max(-a.high)),
+        low: a.low.max(-a.high).max(0),
         high: greatest_size(a),
     }
 }

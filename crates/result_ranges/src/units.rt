@@ -1,5 +1,5 @@
 //! Amounts in units of a receiver.
-ghost use Rattle.std.specs.Prelude.{◌≡◌, ◌+◌, ◌-◌, ◌<◌, ◌≤◌, ◌^◌, pos, ◌-ℤ◌, ◌*ℤ◌, unsigned_abs};
+ghost use Rattle.std.specs.Prelude.{◌≡◌, true, ◌+◌, ◌-◌, ◌<◌, ◌≤◌, ◌^◌, pos, ◌-ℤ◌, ◌*ℤ◌, unsigned_abs, IfSome};
 ghost use Rattle.dec_num.specs.declared.types.Mode.TheVariants.{Trunc};
 ghost use Rattle.dec_num.specs.Exact.{near};
 ghost use Rattle.dec_num.specs.Scaled.{value_of};
@@ -62,7 +62,6 @@ fn shift(top: Ranged, under: Ranged, scale: u32) -> i32
 }
 
 // quotients at a scale, cut or rounded once
-#[tactic(auto, using(crate::proofs::Capping::quotients))]
 fn quotient_units(top: Ranged, under: Ranged, scale: u32, mode: Mode) -> Option<Interval>
     requires top { IsSmallRange top }
     requires under { IsSmallRange under }
@@ -78,7 +77,8 @@ fn limited(size: i128, scale: u32, r: Ranged) -> Option<Ranged>
     requires scale { scale ≤ r.scale }
     requires digits { r.scale ≤ 37 }
     requires limit { IsSmall (size *ℤ pos (10 ^ (r.scale - scale))) }
-    ensures { result ≡ limited size scale r }
+    ensures value { result ≡ limited size scale r }
+    ensures small { IfSome result IsSmallRange }
 {
     let limit = size * pow10(r.scale - scale);
     match within(r.units, limit) {
@@ -93,7 +93,8 @@ fn limited(size: i128, scale: u32, r: Ranged) -> Option<Ranged>
 // what quotients of a range leave
 fn rest(top: Ranged, under: Ranged, quotient: Ranged) -> Option<Ranged>
     requires { IsSmallRest top under quotient }
-    ensures { result ≡ limited (greatest_size under.units) (under.scale + quotient.scale) (plus_range top (turned true (product_range under quotient))) }
+    ensures value { result ≡ limited (greatest_size under.units) (under.scale + quotient.scale) (plus_range top (turned true (product_range under quotient))) }
+    ensures small { IfSome result IsSmallRange }
 {
     let difference = plus_range(top, opposite(product_range(under, quotient)));
     limited(
@@ -106,7 +107,8 @@ fn rest(top: Ranged, under: Ranged, quotient: Ranged) -> Option<Ranged>
 // remainders of quotients that are cut at a scale
 fn rest_range(top: Ranged, under: Ranged, scale: u32) -> Option<Ranged>
     requires { IsSmallRemainder top under scale }
-    ensures { result ≡ rest_range scale top under }
+    ensures value { result ≡ rest_range scale top under }
+    ensures small { IfSome result IsSmallRange }
 {
     match quotient_units(top, under, scale, Mode::Trunc) {
         None => None,

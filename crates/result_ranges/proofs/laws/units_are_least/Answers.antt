@@ -1,4 +1,4 @@
-use Rattle.result_ranges.proofs.Units.{decimals_least, quotient_units_least}
+use Rattle.result_ranges.proofs.Rounding.{decimals_least, quotient_units_least}
 use Rattle.result_ranges.proofs.laws.units_are_least.Goals as goal
 
 pub returns-clause-decimals : goal.returns-clause-decimals
