@@ -16,6 +16,7 @@ use Rattle.cob_program.specs.Values.{◌>>=◌}
 use Rattle.sum_ranges.specs.declared.ranged.Ranged.{Ranged}
 use Rattle.sum_ranges.specs.Ranged.{ranged}
 use Rattle.sum_ranges.specs.Sizes.{IsSmallRange}
+use Rattle.sum_ranges.proofs.Working.{one_least}
 use Rattle.result_ranges.specs.declared.amounts.Receiver.{Receiver}
 use Rattle.result_ranges.specs.Receivers.{HasRoomFor}
 use Rattle.result_ranges.specs.Results.{IsLeastIfAny, IsHeld, IsKept}
@@ -26,19 +27,10 @@ use Rattle.result_ranges.proofs.Rounding.{up_of, quotients_least}
 
 -- ---- one least interval
 
-same_ends : (x y : ℤ) → x ≤ℤ y → y ≤ℤ x → x ≡ y
-same_ends x y h k = omega (arith, ints, h, k)
-
 pub interval_same : (i j : Interval) → i.low ≡ j.low → i.high ≡ j.high → i ≡ j
 interval_same i j e f =
     let join : ℤ → ℤ → Interval = λ low high. record { low = low; high = high } in
     ap (λ low. join low i.high) e ∙ ap (join j.low) f
-
-pub one_least : (R : ℤ → Type 0) (i j : Interval) → IsLeast R i → IsLeast R j → i ≡ j
-one_least R i j h k =
-    interval_same i j
-    (same_ends i.low j.low (h.holds j.low k.low_is_one).0 (k.holds i.low h.low_is_one).0)
-    (same_ends i.high j.high (k.holds i.high h.high_is_one).1 (h.holds j.high k.high_is_one).1)
 
 pub one_least_if_any : (R : ℤ → Type 0) (o p : Option Interval) → IsLeastIfAny R o → IsLeastIfAny R p → o ≡ p
 one_least_if_any R None None h k = refl

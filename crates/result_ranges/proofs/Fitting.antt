@@ -83,7 +83,6 @@ above_of : (n m : ℕ) → nat_lt n m ≡ false → m ≤ n
 above_of n m e = grind (arith, nat_tests)
 
 module _ (mode : Mode) (f : Form) (a : AmountRange) (v : Fraction) (h : IsAmount a v) where
-
   same_units : near mode v (pos (receiver_of f).scale) ≡ near mode v (pos (scale_of f))
   same_units = ap (λ s. near mode v (pos s)) (same_scale f)
 

@@ -1,6 +1,6 @@
 -- What receivers keep of intervals.
 use Rattle.std.proofs.Common.{◌≡◌, ℕ, ◌-◌, ◌^◌, ◌<◌, ◌≤◌, ◌||◌, Bool, true, false, if◌then◌else◌, ℤ, pos, neg_ℤ, ◌≤ℤ◌, Option, Some, None, inl, inr, refl, sym, ap, subst, ◌∙◌, arith}
-use Rattle.std.specs.Prelude.{◌↔◌, ◌<ℤ◌, int_le, int_lt, unsigned_abs}
+use Rattle.std.specs.Prelude.{◌↔◌, ◌<ℤ◌, ◌-ℤ◌, int_le, int_lt, unsigned_abs}
 use Rattle.std.specs.Option.{option_map}
 use Rattle.std.specs.Int.{int_max, int_min}
 use Rattle.std.proofs.lemmas.Int.{ints, clamps}
@@ -10,9 +10,9 @@ use Rattle.decimal_interval.specs.declared.bounds.Interval.{Interval}
 use Rattle.decimal_interval.specs.Bounds.{Holds, IsLeast}
 use Rattle.decimal_interval.specs.Corners.{interval}
 use Rattle.result_ranges.specs.declared.amounts.Receiver.{Receiver}
-use Rattle.result_ranges.specs.Receivers.{HasRoomFor, kept_units}
+use Rattle.result_ranges.specs.Receivers.{counter, HasRoomFor, kept_units}
 use Rattle.result_ranges.specs.Results.{IsLeastIfAny, IsInBoth, IsHeld, IsKept, IsExceeded, IsInside, IsInsideIfAny}
-use Rattle.result_ranges.specs.ResultRanges.{if_any, meeting, plus_minus, greatest_size, absolutes, most, held_range, kept_range, fitted, exceeds}
+use Rattle.result_ranges.specs.ResultRanges.{if_any, meeting, plus_minus, greatest_size, absolutes, most, held_range, kept_range, fitted, exceeds, lowered, count_range}
 
 -- ---- numbers of two intervals
 
@@ -157,6 +157,20 @@ exceeded digits i ordered = (
   ],
   λ (z, h, k). exceeding (10 ^ digits) i z (some_room digits) h k,
 )
+
+-- ---- counters
+
+pub lowered_least : (i : Interval) → i.low ≤ℤ i.high → IsLeast (λ z. (w : ℤ) × Holds i w × (z ≡ w -ℤ pos 1)) (lowered i)
+lowered_least i ordered = record {
+  holds = λ z (w, h, e). (omega (arith, ints, h.0, e), omega (arith, ints, h.1, e));
+  low_is_one = (i.low, (omega (arith, ints), ordered), refl);
+  high_is_one = (i.high, (ordered, omega (arith, ints)), refl);
+}
+
+pub counted_least : (i : Interval) → IsLeastIfAny (IsHeld 18 i) (count_range i)
+counted_least i =
+    least_same (IsKept counter i) (IsHeld 18 i) (count_range i)
+    (λ z (w, h, e). subst (IsHeld 18 i) (sym e) h) (λ z h. (z, h, refl)) (kept_least counter i)
 
 -- ---- what the calls give
 

@@ -9,3 +9,5 @@ pub mod Meant
 pub mod Taking
 pub mod Capping
 pub mod Working
+pub mod Bounding
+pub mod Examples

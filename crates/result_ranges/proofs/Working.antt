@@ -1,16 +1,15 @@
--- What the calls of intervals give for ranges.
-use Rattle.std.proofs.Common.{◌≡◌, ℕ, ◌+◌, ◌^◌, ◌≤◌, true, max, ℤ, pos, ◌*ℤ◌, ◌≤ℤ◌, Option, Some, None, refl, sym, ap, subst, ◌∙◌, arith}
-use Rattle.std.specs.Prelude.{IfSome}
+-- Remainders and amounts in code.
+use Rattle.std.proofs.Common.{◌≡◌, ℕ, ◌+◌, ◌-◌, ◌^◌, ◌<◌, ◌≤◌, Bool, true, false, max, ℤ, pos, negsuc, neg_ℤ, ◌*ℤ◌, FitsSigned, ◌≤ℤ◌, Option, Some, None, refl, sym, ap, subst, ◌∙◌, arith}
+use Rattle.std.specs.Prelude.{IfSome, int_le, unsigned_abs}
+use Rattle.std.specs.Int.{w128, int_max, int_min}
 use Rattle.std.specs.Option.{option_map}
-use Rattle.std.proofs.lemmas.Int.{ints, clamps}
+use Rattle.std.proofs.lemmas.Int.{ints, clamps, fits_signed_from_abs}
 use Rattle.std.proofs.Math.Nat.{le_refl}
 use Rattle.dec_num.specs.declared.types.Mode.{Mode}
 use Rattle.dec_num.specs.declared.types.Mode.TheVariants.{Trunc}
 use Rattle.dec_num.proofs.Powers.{ten_monotone}
 use Rattle.decimal_interval.specs.declared.bounds.Interval.{Interval}
-use Rattle.decimal_interval.specs.Bounds.{IsSmall, IsInterval, IsLeast}
-use Rattle.decimal_interval.specs.Results.{IsSum, IsProduct}
-use Rattle.decimal_interval.specs.Corners as corner
+use Rattle.decimal_interval.specs.Bounds.{IsSmall, IsInterval}
 use Rattle.decimal_interval.proofs.Ends.{sums_are_least, products_are_least}
 use Rattle.sum_ranges.specs.declared.ranged.Ranged.{Ranged}
 use Rattle.sum_ranges.specs.Ranged.{ranged}
@@ -18,28 +17,17 @@ use Rattle.sum_ranges.specs.SumRanges.{raised, joint, added, turned, plus_range,
 use Rattle.cob_program.specs.Values.{◌>>=◌}
 use Rattle.result_ranges.specs.declared.amounts.AmountRange.{AmountRange}
 use Rattle.result_ranges.specs.declared.amounts.AmountRange.TheVariants as range
-use Rattle.result_ranges.specs.ResultRanges.{greatest_size, near_range, quotient_units, limited, rest_range, amount_units}
-use Rattle.result_ranges.specs.Sizes.{CanAddRanges, CanMultiplyRanges, IsSmallRest, capped_at, IsCapped, IsCappedIfAny, IsSameFor}
-use Rattle.result_ranges.proofs.Capping.{one_least, interval_same}
-
-sum_gives : (a b i : Interval) → a.low ≤ℤ a.high → b.low ≤ℤ b.high → IsLeast (IsSum a b) i → i ≡ added a b
-sum_gives a b i h k l = one_least (IsSum a b) i (added a b) l (sums_are_least a b h k)
-
-pub plus_gives : (a b r : Ranged) (p q i : Interval) (scale : ℕ) → CanAddRanges a b → scale ≡ joint a b → p ≡ raised a scale → q ≡ raised b scale → IsLeast (IsSum p q) i → r ≡ ranged i scale → r ≡ plus_range a b
-plus_gives a b r p q i scale can e f g l m =
-    let f2 : p ≡ raised a (joint a b) = f ∙ ap (raised a) e in
-    let g2 : q ≡ raised b (joint a b) = g ∙ ap (raised b) e in
-    let least = subst (λ x. IsLeast (IsSum x (raised b (joint a b))) i) f2 (subst (λ x. IsLeast (IsSum p x) i) g2 l) in
-    let is = sum_gives (raised a (joint a b)) (raised b (joint a b)) i can.left.ordered can.right.ordered least in
-    m ∙ ap (λ s. ranged i s) e ∙ ap (λ j. ranged j (joint a b)) is
-
-pub product_gives : (a b r : Ranged) (i : Interval) (scale : ℕ) → CanMultiplyRanges a b → IsLeast (IsProduct a.units b.units) i → scale ≡ a.scale + b.scale → r ≡ ranged i scale → r ≡ product_range a b
-product_gives a b r i scale can l e m =
-    m ∙ ap (λ s. ranged i s) e ∙ ap (λ j. ranged j (a.scale + b.scale)) (one_least (IsProduct a.units b.units) i _ l (products_are_least a.units b.units can.left.ordered can.right.ordered))
+use Rattle.result_ranges.specs.Results.{IsInside}
+use Rattle.result_ranges.specs.ResultRanges.{if_any, meeting, plus_minus, greatest_size, near_range, quotient_units, limited, rest_range, amount_units}
+use Rattle.result_ranges.specs.Sizes.{IsSmallRest, capped_at, IsCapped, IsCappedIfAny, IsSameFor}
+use Rattle.sum_ranges.specs.Sizes.{IsSmallRange}
+use Rattle.sum_ranges.specs.Working.{CanAddRanges, CanMultiplyRanges}
+use Rattle.result_ranges.proofs.Keeping.{le_of}
+use Rattle.result_ranges.proofs.Capping.{interval_same}
 
 -- ---- remainders
 
-pub product_small : (a b p : Ranged) → CanMultiplyRanges a b → p ≡ product_range a b → IsInterval p.units
+pub product_small : (a b p : Ranged) → CanMultiplyRanges a b → p ≡ product_range a b → IsSmallRange p
 product_small a b p can e =
     let least = products_are_least a.units b.units can.left.ordered can.right.ordered in
     let small : IsInterval (product_range a b).units = record {
@@ -47,13 +35,76 @@ product_small a b p can e =
       low = can.products (product_range a b).units.low least.low_is_one;
       high = can.products (product_range a b).units.high least.high_is_one;
     } in
-    subst (λ r. IsInterval r.units) (sym e) small
+    subst IsSmallRange (sym e) (record { units = small; scale = can.scale })
+
+pub sum_small : (a b s : Ranged) → CanAddRanges a b → s ≡ plus_range a b → IsSmallRange s
+sum_small a b s can e =
+    let p = raised a (joint a b) in
+    let q = raised b (joint a b) in
+    let least = sums_are_least p q can.left.ordered can.right.ordered in
+    let small : IsInterval (added p q) = record {
+      ordered = (least.holds (added p q).low least.low_is_one).1;
+      low = can.sums (added p q).low least.low_is_one;
+      high = can.sums (added p q).high least.high_is_one;
+    } in
+    subst IsSmallRange (sym e) (record { units = small; scale = can.scale })
+
+-- the difference by which a remainder is worked out
+pub difference_small : (top under q product opposite difference : Ranged) → CanAddRanges top (turned true (product_range under q)) → product ≡ product_range under q → opposite ≡ turned true product → difference ≡ plus_range top opposite → IsSmallRange difference
+difference_small top under q product opposite difference can e f g =
+    sum_small top (turned true (product_range under q)) difference can (g ∙ ap (plus_range top) (f ∙ ap (turned true) e))
 
 pub left_by : (top under q product opposite difference : Ranged) (size : ℤ) (r : Option Ranged) → product ≡ product_range under q → opposite ≡ turned true product → difference ≡ plus_range top opposite →
     r ≡ limited size (under.scale + q.scale) difference → size ≡ greatest_size under.units → r ≡ limited (greatest_size under.units) (under.scale + q.scale) (plus_range top (turned true (product_range under q)))
 left_by top under q product opposite difference size r e f g h k =
     let is : difference ≡ plus_range top (turned true (product_range under q)) = g ∙ ap (plus_range top) (f ∙ ap (turned true) e) in
     h ∙ ap (limited size (under.scale + q.scale)) is ∙ ap (λ t. limited t (under.scale + q.scale) (plus_range top (turned true (product_range under q)))) k
+
+-- ---- limits
+
+product_positive : (size : ℤ) (k : ℕ) → pos 0 ≤ℤ size → pos 0 ≤ℤ (size *ℤ pos k)
+product_positive (pos n) k h = omega (arith, ints)
+product_positive (negsuc n) k h = absurd (omega (arith, ints, h))
+
+no_room : (p : ℤ) → pos 0 ≤ℤ p → (FitsSigned w128 p → ⊥) → pos (10 ^ 37) ≡ int_min p (pos (10 ^ 37))
+no_room p h over = go (int_le p (pos (10 ^ 37))) refl
+  where
+    go : (low : Bool) → int_le p (pos (10 ^ 37)) ≡ low → pos (10 ^ 37) ≡ int_min p (pos (10 ^ 37))
+    go true e =
+        let below : p ≤ℤ pos (10 ^ 37) = le_of p (pos (10 ^ 37)) e in
+        let room : unsigned_abs p < 2 ^ 127 = omega (arith, ints, h, below) in
+        absurd (over (fits_signed_from_abs w128 p room))
+    go false e = let above : pos (10 ^ 37) ≤ℤ p = grind (arith, ints) in omega (arith, ints, clamps, above)
+
+pub most_limit : (size most : ℤ) (shift : ℕ) → pos 0 ≤ℤ size → (FitsSigned w128 (size *ℤ pos (10 ^ shift)) → ⊥) → most ≡ pos (10 ^ 37) → most ≡ int_min (size *ℤ pos (10 ^ shift)) (pos (10 ^ 37))
+most_limit size most shift h over e = e ∙ no_room (size *ℤ pos (10 ^ shift)) (product_positive size (10 ^ shift) h) over
+
+-- A limit of 37 digits or more is none for a small range.
+end_above : (low limit : ℤ) → IsSmall low → int_max low (neg_ℤ limit) ≡ int_max low (neg_ℤ (int_min limit (pos (10 ^ 37))))
+end_above low limit h = omega (arith, ints, clamps, h)
+
+end_below : (high limit : ℤ) → IsSmall high → int_min high limit ≡ int_min high (int_min limit (pos (10 ^ 37)))
+end_below high limit h = omega (arith, ints, clamps, h)
+
+pub same_meeting : (a : Interval) (limit : ℤ) → IsInterval a → meeting a (plus_minus limit) ≡ meeting a (plus_minus (int_min limit (pos (10 ^ 37))))
+same_meeting a limit h =
+    interval_same (meeting a (plus_minus limit)) (meeting a (plus_minus (int_min limit (pos (10 ^ 37))))) (end_above a.low limit h.low) (end_below a.high limit h.high)
+
+abbrev met : Interval → ℤ → Option Interval
+met a limit = if_any (meeting a (plus_minus limit))
+
+pub some_limited : (size limit : ℤ) (scale : ℕ) (r : Ranged) (i : Interval) → IsSmallRange r → Some i ≡ met r.units limit → limit ≡ int_min (size *ℤ pos (10 ^ (r.scale - scale))) (pos (10 ^ 37)) → Some (ranged i r.scale) ≡ limited size scale r
+some_limited size limit scale r i small f e =
+    ap (option_map (λ j. ranged j r.scale)) (f ∙ ap (met r.units) e ∙ ap if_any (sym (same_meeting r.units (size *ℤ pos (10 ^ (r.scale - scale))) small.units)))
+
+pub inside_small : (i a : Interval) → IsInterval a → i.low ≤ℤ i.high → IsInside i a → IsInterval i
+inside_small i a h ordered k = record {
+  ordered = ordered;
+  low = omega (arith, ints, h.low, h.high, ordered, k.0, k.1);
+  high = omega (arith, ints, h.low, h.high, ordered, k.0, k.1);
+}
+
+-- ---- cut quotients
 
 uncapped : (z : ℤ) → IsSmall z → capped_at (10 ^ 37) z ≡ z
 uncapped z h = omega (arith, ints, clamps, h)

@@ -5,3 +5,4 @@ pub mod Stores
 pub mod Results
 pub mod ResultRanges
 pub mod Sizes
+pub mod Bounded

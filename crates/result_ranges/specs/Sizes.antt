@@ -4,13 +4,13 @@ use Rattle.std.specs.Int.{int_max, int_min}
 use Rattle.dec_num.specs.declared.types.Mode.TheVariants.{Trunc}
 use Rattle.decimal_interval.specs.declared.bounds.Interval.{Interval}
 use Rattle.decimal_interval.specs.Bounds.{IsSmall, IsInterval}
-use Rattle.decimal_interval.specs.Results.{IsSum, IsProduct, AreSmall}
 use Rattle.cob_program.specs.declared.act.How.{How}
 use Rattle.cob_program.specs.declared.act.How.TheVariants as how
 use Rattle.sum_ranges.specs.declared.ranged.Ranged.{Ranged}
 use Rattle.sum_ranges.specs.Ranged.{ranged}
-use Rattle.sum_ranges.specs.SumRanges.{joint, raised, turned, product_range}
+use Rattle.sum_ranges.specs.SumRanges.{joint, turned, product_range}
 use Rattle.sum_ranges.specs.Sizes.{IsSmallRange}
+use Rattle.sum_ranges.specs.Working.{CanAddRanges, CanMultiplyRanges}
 use Rattle.result_ranges.specs.declared.amounts.Taken.{Taken}
 use Rattle.result_ranges.specs.declared.amounts.AmountRange.{AmountRange}
 use Rattle.result_ranges.specs.declared.amounts.AmountRange.TheVariants as range
@@ -23,26 +23,11 @@ pub record IsReceiver (r : Receiver) : Type 0 where
   pub digits : r.digits ≤ 18
   pub scale : r.scale ≤ r.digits
 
--- both are small at the greater scale, and so are their sums
-pub record CanAddRanges (a b : Ranged) : Type 0 where
-  pub left : IsInterval (raised a (joint a b))
-  pub right : IsInterval (raised b (joint a b))
-  pub sums : AreSmall (IsSum (raised a (joint a b)) (raised b (joint a b)))
-  pub scale : joint a b ≤ 37
-
-pub record CanMultiplyRanges (a b : Ranged) : Type 0 where
-  pub left : IsInterval a.units
-  pub right : IsInterval b.units
-  pub products : AreSmall (IsProduct a.units b.units)
-  pub scale : a.scale + b.scale ≤ 37
-
--- A cut quotient's product with the divisor, what that leaves of n, and its limit can be worked out.
+-- A cut quotient's product with the divisor can be worked out, and what that leaves of n.
 pub record IsSmallRest (n d q : Ranged) : Type 0 where
   pub quotient : IsSmallRange q
-  pub divisor : IsInterval d.units
   pub product : CanMultiplyRanges d q
   pub rest : CanAddRanges n (turned true (product_range d q))
-  pub limit : IsSmall (greatest_size d.units *ℤ pos (10 ^ (joint n (product_range d q) - (d.scale + q.scale))))
 
 pub record IsSmallRemainder (top under : Ranged) (scale : ℕ) : Type 0 where
   pub divided : IsSmallRange top

@@ -15,7 +15,10 @@ pub enum AmountRange {
     /// A decimal of a range.
     Decimal(Ranged),
     /// A number of one range over one of another that isn't 0.
-    Quotient { top: Ranged, under: Ranged },
+    Quotient {
+        top: Ranged,
+        under: Ranged,
+    },
     /// What such a quotient leaves, once it is cut at a scale.
     Remainder {
         top: Ranged,

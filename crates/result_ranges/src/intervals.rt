@@ -1,6 +1,7 @@
 //! Meetings and absolute values of intervals.
-ghost use Rattle.std.specs.Prelude.{◌≡◌, ◌<◌, ◌≤◌, ◌^◌, ◌≤ℤ◌, unsigned_abs, IfSome};
+ghost use Rattle.std.specs.Prelude.{◌≡◌, ◌<◌, ◌≤◌, ◌^◌, ◌≤ℤ◌, pos, unsigned_abs, IfSome};
 ghost use Rattle.decimal_interval.specs.Bounds.{IsSmall};
+ghost use Rattle.result_ranges.specs.Results.{IsInside};
 ghost use Rattle.result_ranges.specs.ResultRanges.{if_any, meeting, plus_minus, greatest_size, absolutes, most};
 
 use dec_num::pow10;
@@ -8,9 +9,10 @@ use decimal_interval::Interval;
 
 /// The numbers of `a` that lie between `limit` and its opposite.
 pub(crate) fn within(a: Interval, limit: i128) -> Option<Interval>
-    requires { IsSmall limit }
+    requires { unsigned_abs limit ≤ 10 ^ 37 }
     ensures value { result ≡ if_any (meeting a (plus_minus limit)) }
     ensures ordered { IfSome result (λ i. i.low ≤ℤ i.high) }
+    ensures inside { IfSome result (λ i. IsInside i a) }
     ensures low { IfSome result (λ i. unsigned_abs i.low ≤ unsigned_abs limit) }
     ensures high { IfSome result (λ i. unsigned_abs i.high ≤ unsigned_abs limit) }
 {
@@ -26,7 +28,8 @@ pub(crate) fn within(a: Interval, limit: i128) -> Option<Interval>
 /// The greatest absolute value.
 pub(crate) fn greatest_size(a: Interval) -> i128
     requires { IsSmall a.low }
-    ensures { result ≡ greatest_size a }
+    ensures value { result ≡ greatest_size a }
+    ensures positive { a.low ≤ℤ a.high → pos 0 ≤ℤ result }
 {
     (-a.low).max(a.high)
 }

@@ -1,5 +1,5 @@
 //! Laws of results of stores.
-ghost use Rattle.std.specs.Prelude.{◌≡◌, ◌↔◌, ◌≤◌, ◌^◌, ◌≤ℤ◌, ℕ, ℤ, pos, Bool, true, List, unsigned_abs, Option, Some, None, IsSomeAnd};
+ghost use Rattle.std.specs.Prelude.{◌≡◌, ◌↔◌, ◌≤◌, ◌^◌, ◌≤ℤ◌, ◌-ℤ◌, ℕ, ℤ, pos, Bool, true, List, unsigned_abs, Option, Some, None, IsSomeAnd};
 ghost use Rattle.dec_num.specs.declared.types.Mode.{Mode};
 ghost use Rattle.dec_num.specs.declared.types.Scaled.{Scaled};
 ghost use Rattle.dec_num.specs.Exact.{Fraction, near};
@@ -10,13 +10,16 @@ ghost use Rattle.cob_tree.specs.declared.form.Form.{Form};
 ghost use Rattle.cob_program.specs.declared.act.How.{How};
 ghost use Rattle.cob_program.specs.Sum.{Sum};
 ghost use Rattle.cob_program.specs.Values.{plus, root_of};
+ghost use Rattle.cob_program.specs.Bounds.{Bound, sum_bound, product_bound, is_small};
 ghost use Rattle.cob_runs.specs.Contents.{bytes_of, stored};
 ghost use Rattle.cob_runs.specs.Computing as computing;
 ghost use Rattle.cob_runs.specs.Computing.{remainder_of};
 ghost use Rattle.cob_edge_parts.specs.Parts.{Amount};
 ghost use Rattle.sum_ranges.specs.declared.ranged.Ranged.{Ranged};
 ghost use Rattle.sum_ranges.specs.Ranged.{IsIn, IsOrdered, IsNarrower};
-ghost use Rattle.sum_ranges.specs.SumRanges.{plus_range};
+ghost use Rattle.sum_ranges.specs.SumRanges.{plus_range, product_range};
+ghost use Rattle.sum_ranges.specs.Sizes.{IsRangeWithin, IsSmallRange};
+ghost use Rattle.sum_ranges.specs.Working.{CanAddRanges, CanMultiplyRanges};
 ghost use Rattle.result_ranges.specs.declared.amounts.Taken.{Taken};
 ghost use Rattle.result_ranges.specs.declared.amounts.AmountRange.{AmountRange};
 ghost use Rattle.result_ranges.specs.declared.amounts.AmountRange.TheVariants as range;
@@ -26,7 +29,9 @@ ghost use Rattle.result_ranges.specs.Amounts.{IsAmount, IsNear, IsNarrowerTaken,
 ghost use Rattle.result_ranges.specs.Operands.{is_whole, taken_sum, computed_range, remaining_sum};
 ghost use Rattle.result_ranges.specs.Stores.{operands};
 ghost use Rattle.result_ranges.specs.Results.{IsLeastIfAny, IsInBoth, IsHeld, IsKept, IsExceeded, IsInside, IsInsideIfAny};
-ghost use Rattle.result_ranges.specs.ResultRanges.{if_any, meeting, near_range, quotient_units, amount_units, held_range, fitted, exceeds, result_range, may_fit, may_fail};
+ghost use Rattle.result_ranges.specs.Sizes.{IsSmallRemainder};
+ghost use Rattle.result_ranges.specs.Bounded.{cut_bound, is_small_rest_at};
+ghost use Rattle.result_ranges.specs.ResultRanges.{if_any, meeting, near_range, quotient_units, amount_units, held_range, fitted, exceeds, result_range, may_fit, may_fail, lowered, count_range, count_may_fail};
 
 /// A law: the units of decimals and of quotients lie in their least interval. A quotient is cut or rounded once, at the
 /// receiver's scale.
@@ -67,6 +72,14 @@ pub fn amounts_lie_in_their_ranges()
     ensures augmented { (v w : Scaled) (own r : Ranged) → IsIn v own → IsIn w r → IsAmount (range.Decimal (plus_range own r)) (value_of (plus v w)) }
 {}
 
+/// A law: where operands lie within their bounds, and the rule of bounds keeps each step small, the code's intervals do
+/// too.
+pub fn bounded_operands_give_small_amounts()
+    ensures sums { (a b : Ranged) (c d : Bound) → IsRangeWithin a c → IsRangeWithin b d → is_small (sum_bound c d) ≡ true → CanAddRanges a b × IsSmallRange (plus_range a b) }
+    ensures products { (a b : Ranged) (c d : Bound) → IsRangeWithin a c → IsRangeWithin b d → is_small c ≡ true → is_small d ≡ true → is_small (product_bound c d) ≡ true → CanMultiplyRanges a b × IsSmallRange (product_range a b) }
+    ensures remainders { (top under : Ranged) (n d : Bound) (scale : ℕ) → IsRangeWithin top n → IsRangeWithin under d → scale ≤ 18 → is_small n ≡ true → is_small d ≡ true → is_small_rest_at n d (cut_bound n d scale) ≡ true → IsSmallRemainder top under scale }
+{}
+
 /// A law: narrower operands give a narrower result, or none. A result that may fit, or may not, may do so too where the
 /// operands are wider.
 pub fn narrower_operands_give_narrower_results()
@@ -78,4 +91,11 @@ pub fn narrower_operands_give_narrower_results()
     ensures fails { (mode : Mode) (r : Receiver) (a b : AmountRange) → IsNarrowerAmount a b → may_fail mode r a ≡ true → may_fail mode r b ≡ true }
     ensures fitted { (r : Receiver) (i j : Interval) → IsInside i j → IsInsideIfAny (fitted r i) (fitted r j) }
     ensures exceeds { (digits : ℕ) (i j : Interval) → IsInside i j → exceeds digits i ≡ true → exceeds digits j ≡ true }
+{}
+
+/// A law: a counter's number less one, and what a counter may become, lie in their least intervals.
+pub fn counts_are_least()
+    ensures lowered { (i : Interval) → i.low ≤ℤ i.high → IsLeast (λ z. (w : ℤ) × Holds i w × (z ≡ w -ℤ pos 1)) (lowered i) }
+    ensures counted { (i : Interval) → IsLeastIfAny (IsHeld 18 i) (count_range i) }
+    ensures exceeded { (i : Interval) → i.low ≤ℤ i.high → (count_may_fail i ≡ true) ↔ IsExceeded 18 i }
 {}

@@ -11,8 +11,8 @@ mod units;
 
 pub use amounts::{AmountRange, Receiver, Taken};
 pub use laws::{
-    amounts_lie_in_their_ranges, narrower_operands_give_narrower_results,
-    receivers_keep_the_least, results_lie_in_their_ranges, stores_lie_in_their_ranges,
-    units_are_least,
+    amounts_lie_in_their_ranges, bounded_operands_give_small_amounts, counts_are_least,
+    narrower_operands_give_narrower_results, receivers_keep_the_least, results_lie_in_their_ranges,
+    stores_lie_in_their_ranges, units_are_least,
 };
 pub use results::{Stored, computed_range, counted, exceeds, fitted, lowered, result_range};

@@ -6,13 +6,13 @@ ghost use Rattle.result_ranges.specs.ResultRanges.{fitted, exceeds, result_range
 ghost use Rattle.result_ranges.specs.Sizes.{IsReceiver, IsSmallAmount, CanCompute};
 
 use crate::amounts::{AmountRange, Receiver, Taken};
-use crate::arithmetic::{opposite, plus_range, product_range};
+use crate::arithmetic::product_range;
 use crate::intervals::{absolutes, most, within};
 use crate::units::amount_units;
 use cob_program::How;
 use dec_num::Mode;
 use decimal_interval::Interval;
-use sum_ranges::Ranged;
+use sum_ranges::{Ranged, plus_range, turned};
 
 /// What a store may do: the units that the receiver holds behind it where a result fits, if some may, and whether one
 /// may not fit.
@@ -36,7 +36,7 @@ pub fn computed_range(how: How, own: Ranged, taken: Taken) -> AmountRange
             },
         },
         How::Plus => AmountRange::Decimal(plus_range(own, taken.top)),
-        How::Minus => AmountRange::Decimal(plus_range(own, opposite(taken.top))),
+        How::Minus => AmountRange::Decimal(plus_range(own, turned(true, taken.top))),
         How::Times => AmountRange::Decimal(product_range(own, taken.top)),
         How::Under => AmountRange::Quotient {
             top: own,

@@ -1,20 +1,20 @@
 //! Amounts in units of a receiver.
-ghost use Rattle.std.specs.Prelude.{◌≡◌, true, ◌+◌, ◌-◌, ◌<◌, ◌≤◌, ◌^◌, pos, ◌-ℤ◌, ◌*ℤ◌, unsigned_abs, IfSome};
+ghost use Rattle.std.specs.Prelude.{◌≡◌, ◌≤ℤ◌, true, ◌+◌, ◌-◌, ◌<◌, ◌≤◌, ◌^◌, pos, ◌-ℤ◌, ◌*ℤ◌, unsigned_abs, IfSome};
+ghost use Rattle.std.specs.Int.{int_min};
 ghost use Rattle.dec_num.specs.declared.types.Mode.TheVariants.{Trunc};
 ghost use Rattle.dec_num.specs.Exact.{near};
 ghost use Rattle.dec_num.specs.Scaled.{value_of};
-ghost use Rattle.decimal_interval.specs.Bounds.{IsSmall};
 ghost use Rattle.sum_ranges.specs.SumRanges.{turned, plus_range, product_range};
 ghost use Rattle.sum_ranges.specs.Sizes.{IsSmallRange};
 ghost use Rattle.result_ranges.specs.ResultRanges.{greatest_size, near_range, quotient_units, limited, rest_range, amount_units};
 ghost use Rattle.result_ranges.specs.Sizes.{IsReceiver, IsSmallRest, IsSmallRemainder, IsSmallAmount, capped_at, IsCapped, IsCappedIfAny, IsSameFor};
 
 use crate::amounts::{AmountRange, Receiver};
-use crate::arithmetic::{opposite, plus_range, product_range};
+use crate::arithmetic::product_range;
 use crate::intervals::{greatest_size, within};
 use dec_num::{Fit, Mode, Scaled, fit, pow10};
 use decimal_interval::{Interval, quot_i};
-use sum_ranges::Ranged;
+use sum_ranges::{Ranged, plus_range, turned};
 
 // An end in units of a receiver. One that it has no room for becomes the first such number on that side.
 #[tactic(auto, using(crate::proofs::Capping::ends))]
@@ -72,15 +72,28 @@ fn quotient_units(top: Ranged, under: Ranged, scale: u32, mode: Mode) -> Option<
     quot_i(top.units, under.units, up, mode)
 }
 
+// So many units of a scale, in units of one with more decimals; at most 10^37.
+fn limit_of(size: i128, shift: u32) -> i128
+    requires size { pos 0 ≤ℤ size }
+    requires shift { shift ≤ 37 }
+    ensures { result ≡ int_min (size *ℤ pos (10 ^ shift)) (pos (10 ^ 37)) }
+{
+    let most = pow10(37);
+    match size.checked_mul(pow10(shift)) {
+        Some(limit) => limit.min(most),
+        None => most,
+    }
+}
+
 // the numbers of a range within plus and minus so many units of a scale
 fn limited(size: i128, scale: u32, r: Ranged) -> Option<Ranged>
+    requires size { pos 0 ≤ℤ size }
     requires scale { scale ≤ r.scale }
-    requires digits { r.scale ≤ 37 }
-    requires limit { IsSmall (size *ℤ pos (10 ^ (r.scale - scale))) }
+    requires small { IsSmallRange r }
     ensures value { result ≡ limited size scale r }
     ensures small { IfSome result IsSmallRange }
 {
-    let limit = size * pow10(r.scale - scale);
+    let limit = limit_of(size, r.scale - scale);
     match within(r.units, limit) {
         None => None,
         Some(units) => Some(Ranged {
@@ -96,7 +109,7 @@ fn rest(top: Ranged, under: Ranged, quotient: Ranged) -> Option<Ranged>
     ensures value { result ≡ limited (greatest_size under.units) (under.scale + quotient.scale) (plus_range top (turned true (product_range under quotient))) }
     ensures small { IfSome result IsSmallRange }
 {
-    let difference = plus_range(top, opposite(product_range(under, quotient)));
+    let difference = plus_range(top, turned(true, product_range(under, quotient)));
     limited(
         greatest_size(under.units),
         under.scale + quotient.scale,
@@ -117,20 +130,14 @@ fn rest_range(top: Ranged, under: Ranged, scale: u32) -> Option<Ranged>
 }
 
 /// The units of an amount, with ends beyond the receiver's digits capped; nothing where each divisor is 0.
-pub(crate) fn amount_units(
-    amount: AmountRange,
-    receiver: Receiver,
-    mode: Mode,
-) -> Option<Interval>
+pub(crate) fn amount_units(amount: AmountRange, receiver: Receiver, mode: Mode) -> Option<Interval>
     requires receiver { IsReceiver receiver }
     requires small { IsSmallAmount amount }
     ensures { IsSameFor receiver.digits (amount_units mode receiver.scale amount) result }
 {
     match amount {
         AmountRange::Decimal(r) => Some(near_range(r, receiver, mode)),
-        AmountRange::Quotient { top, under } => {
-            quotient_units(top, under, receiver.scale, mode)
-        }
+        AmountRange::Quotient { top, under } => { quotient_units(top, under, receiver.scale, mode) }
         AmountRange::Remainder { top, under, scale } => {
             match rest_range(top, under, scale) {
                 None => None,

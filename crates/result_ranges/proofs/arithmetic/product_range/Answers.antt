@@ -1,5 +1,5 @@
 use Rattle.std.proofs.Common.{refl, ◌+◌}
-use Rattle.result_ranges.proofs.Working.{product_gives}
+use Rattle.sum_ranges.proofs.Working.{product_gives}
 use Rattle.result_ranges.proofs.arithmetic.product_range.Goals as goal
 
 pub returns : goal.returns

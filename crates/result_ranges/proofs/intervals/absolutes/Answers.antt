@@ -5,4 +5,4 @@ use Rattle.result_ranges.proofs.intervals.absolutes.Goals as goal
 
 pub returns : goal.returns
 returns c =
-    absolutes_from c.args.a _ _ (omega (arith, ints, clamps, c.max.ensures.value, c.max-2.ensures.value)) (omega (arith, ints, clamps, c.greatest_size.ensures))
+    absolutes_from c.args.a _ _ (omega (arith, ints, clamps, c.max.ensures.value, c.max-2.ensures.value)) (omega (arith, ints, clamps, c.greatest_size.ensures.value))
