@@ -1,7 +1,7 @@
 -- The rule of bounds keeps amounts small.
-use Rattle.std.proofs.Common.{◌≡◌, ℕ, ◌+◌, ◌-◌, ◌*◌, ◌/◌, ◌^◌, ◌<◌, ◌≤◌, ◌&&◌, max, suc, Bool, true, false, if◌then◌else◌, ℤ, pos, negsuc, neg_ℤ, ◌*ℤ◌, ◌≤ℤ◌, Option, Some, None, refl, sym, ap, ◌∙◌, subst, arith}
-use Rattle.std.specs.Prelude.{◌≢◌, ◌-ℤ◌, nat_le, unsigned_abs, IfSome}
-use Rattle.std.proofs.lemmas.Int.{ints, clamps, unsigned_abs-mul}
+use Rattle.std.proofs.Common.{◌≡◌, ℕ, ◌+◌, ◌-◌, ◌*◌, ◌/◌, ◌^◌, ◌<◌, ◌≤◌, ◌&&◌, suc, Bool, true, false, if◌then◌else◌, ℤ, pos, negsuc, ◌≤ℤ◌, Option, Some, None, refl, sym, ap, ◌∙◌, subst, arith}
+use Rattle.std.specs.Prelude.{◌≢◌, nat_le, unsigned_abs, IfSome}
+use Rattle.std.proofs.lemmas.Int.{ints}
 use Rattle.std.proofs.lemmas.Nat.{mul-le, le-div}
 use Rattle.std.proofs.lemmas.Bool.Decides.{nat_tests}
 use Rattle.std.proofs.Math.Nat.{div-div-eq-div-mul, div-le_self, div-mul-le_self}
@@ -10,13 +10,12 @@ use Rattle.dec_num.specs.Exact.{near, ratio_of}
 use Rattle.dec_num.proofs.Powers.{ten_positive}
 use Rattle.dec_num.proofs.Near.{size_of_near, rounded_below}
 use Rattle.decimal_interval.specs.declared.bounds.Interval.{Interval}
-use Rattle.decimal_interval.specs.Bounds.{Holds, IsSmall, IsLeast}
+use Rattle.decimal_interval.specs.Bounds.{IsLeast}
 use Rattle.decimal_interval.specs.Results.{IsQuotient}
-use Rattle.cob_program.specs.Bounds.{Bound, raised, joint, sum_bound, product_bound, is_small}
+use Rattle.cob_program.specs.Bounds.{Bound, sum_bound, product_bound, is_small}
 use Rattle.cob_program.proofs.Steps.{both}
 use Rattle.sum_ranges.specs.declared.ranged.Ranged.{Ranged}
 use Rattle.sum_ranges.specs.Ranged.{ranged}
-use Rattle.sum_ranges.specs.SumRanges as range
 use Rattle.sum_ranges.specs.SumRanges.{turned, plus_range, product_range}
 use Rattle.sum_ranges.specs.Sizes.{IsRangeWithin, IsSmallRange}
 use Rattle.sum_ranges.specs.Working.{CanAddRanges, CanMultiplyRanges}
@@ -24,7 +23,7 @@ use Rattle.sum_ranges.proofs.Bounded.{turned_within, plus_range_within, factor_r
 use Rattle.sum_ranges.proofs.Rooms.{can_add, can_multiply}
 use Rattle.result_ranges.specs.Bounded.{cut_bound, is_small_rest_at}
 use Rattle.result_ranges.specs.Results.{IsLeastIfAny}
-use Rattle.result_ranges.specs.ResultRanges.{greatest_size, quotient_units}
+use Rattle.result_ranges.specs.ResultRanges.{quotient_units}
 use Rattle.result_ranges.specs.Sizes.{IsSmallRest, IsSmallRemainder}
 use Rattle.result_ranges.proofs.Rounding.{up_of, quotients_least}
 

@@ -1,26 +1,21 @@
 -- Ends that are capped beyond a receiver's digits change nothing for it.
-use Rattle.std.proofs.Common.{◌≡◌, ℕ, ◌+◌, ◌-◌, ◌^◌, ◌<◌, ◌≤◌, ◌||◌, Bool, true, false, ℤ, pos, negsuc, neg_ℤ, ◌≤ℤ◌, Option, Some, None, refl, sym, ap, ◌∙◌, subst, arith}
-use Rattle.std.specs.Prelude.{◌≡◌, ◌↔◌, ◌-ℤ◌, int_le, int_lt, unsigned_abs, IfSome}
+use Rattle.std.proofs.Common.{◌≡◌, ℕ, ◌-◌, ◌^◌, ◌<◌, ◌≤◌, ◌||◌, false, ℤ, pos, negsuc, neg_ℤ, ◌≤ℤ◌, Option, Some, None, refl, sym, ap, ◌∙◌, subst, arith}
+use Rattle.std.specs.Prelude.{◌≡◌, ◌↔◌, int_lt, unsigned_abs, IfSome}
 use Rattle.std.specs.Option.{option_map_or}
-use Rattle.std.specs.Int.{int_max, int_min}
 use Rattle.std.proofs.lemmas.Int.{ints, clamps}
 use Rattle.dec_num.specs.declared.types.Mode.{Mode}
 use Rattle.dec_num.specs.declared.types.Scaled.{Scaled}
 use Rattle.dec_num.specs.Exact.{near, with_sign_of, near_size}
 use Rattle.dec_num.specs.Scaled.{value_of}
-use Rattle.dec_num.proofs.Powers.{ten_positive, ten_monotone}
 use Rattle.decimal_interval.specs.declared.bounds.Interval.{Interval}
-use Rattle.decimal_interval.specs.Bounds.{Holds, IsSmall, IsLeast}
 use Rattle.decimal_interval.specs.Results.{IsQuotient, IsLeastCapped}
 use Rattle.cob_program.specs.Values.{◌>>=◌}
 use Rattle.sum_ranges.specs.declared.ranged.Ranged.{Ranged}
-use Rattle.sum_ranges.specs.Ranged.{ranged}
 use Rattle.sum_ranges.specs.Sizes.{IsSmallRange}
 use Rattle.sum_ranges.proofs.Working.{one_least}
 use Rattle.result_ranges.specs.declared.amounts.Receiver.{Receiver}
-use Rattle.result_ranges.specs.Receivers.{HasRoomFor}
 use Rattle.result_ranges.specs.Results.{IsLeastIfAny, IsHeld, IsKept}
-use Rattle.result_ranges.specs.ResultRanges.{quotient_units, most, held_range, fitted, exceeds}
+use Rattle.result_ranges.specs.ResultRanges.{quotient_units, most, fitted, exceeds}
 use Rattle.result_ranges.specs.Sizes.{capped_at, IsCapped, IsCappedIfAny, IsSameFor}
 use Rattle.result_ranges.proofs.Keeping.{least_same, kept_least, some_room}
 use Rattle.result_ranges.proofs.Rounding.{up_of, quotients_least}

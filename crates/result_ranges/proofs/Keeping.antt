@@ -10,8 +10,8 @@ use Rattle.decimal_interval.specs.declared.bounds.Interval.{Interval}
 use Rattle.decimal_interval.specs.Bounds.{Holds, IsLeast}
 use Rattle.decimal_interval.specs.Corners.{interval}
 use Rattle.result_ranges.specs.declared.amounts.Receiver.{Receiver}
-use Rattle.result_ranges.specs.Receivers.{counter, HasRoomFor, kept_units}
-use Rattle.result_ranges.specs.Results.{IsLeastIfAny, IsInBoth, IsHeld, IsKept, IsExceeded, IsInside, IsInsideIfAny}
+use Rattle.result_ranges.specs.Receivers.{counter, kept_units}
+use Rattle.result_ranges.specs.Results.{IsLeastIfAny, IsInBoth, IsHeld, IsKept, IsExceeded}
 use Rattle.result_ranges.specs.ResultRanges.{if_any, meeting, plus_minus, greatest_size, absolutes, most, held_range, kept_range, fitted, exceeds, lowered, count_range}
 
 -- ---- numbers of two intervals

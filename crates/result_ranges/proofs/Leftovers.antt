@@ -1,5 +1,5 @@
 -- What a cut quotient leaves is less than the divisor.
-use Rattle.std.proofs.Common.{◌≡◌, true, ℕ, zero, suc, ◌+◌, ◌-◌, ◌*◌, ◌/◌, ◌%◌, ◌^◌, ◌<◌, ◌≤◌, max, ℤ, pos, negsuc, neg_ℤ, ◌+ℤ◌, ◌*ℤ◌, refl, sym, ap, ◌∙◌, subst, arith}
+use Rattle.std.proofs.Common.{◌≡◌, true, ℕ, zero, suc, ◌+◌, ◌-◌, ◌*◌, ◌/◌, ◌^◌, ◌<◌, ◌≤◌, max, ℤ, pos, negsuc, neg_ℤ, ◌+ℤ◌, ◌*ℤ◌, refl, sym, ap, ◌∙◌, subst, arith}
 use Rattle.std.specs.Prelude.{unsigned_abs, ◌-ℤ◌, ◌≢◌}
 use Rattle.std.proofs.lemmas.Int.{ints, unsigned_abs-mul}
 use Rattle.std.proofs.lemmas.Nat.{mod_below, mul-le}
@@ -7,7 +7,7 @@ use Rattle.std.proofs.Math.Nat.{div-add-mod', mul_comm}
 use Rattle.std.proofs.Math.IntN.{*ℤ_comm, *ℤ-negsuc, negsuc-*ℤ-negsuc}
 use Rattle.dec_num.specs.declared.types.Mode.TheVariants.{Trunc}
 use Rattle.dec_num.specs.declared.types.Scaled.{Scaled}
-use Rattle.dec_num.specs.Exact.{with_sign_of, near, ratio_of}
+use Rattle.dec_num.specs.Exact.{near, ratio_of}
 use Rattle.dec_num.proofs.Powers.{ten_positive}
 use Rattle.dec_num.proofs.Signed.{neg_ℤ_times, times_times}
 use Rattle.cob_program.specs.Values.{negated, plus, product}

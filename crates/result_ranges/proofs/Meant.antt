@@ -1,7 +1,6 @@
 -- What a receiver is to get lies in the range of its amount.
-use Rattle.std.proofs.Common.{◌≡◌, ℕ, Bool, true, false, pos, Option, Some, None, refl, sym, ap, ◌∙◌, subst}
+use Rattle.std.proofs.Common.{◌≡◌, ℕ, true, false, pos, Option, Some, None, sym}
 use Rattle.std.specs.Prelude.{IsSomeAnd}
-use Rattle.std.specs.Option.{option_map}
 use Rattle.dec_num.specs.declared.types.Scaled.{Scaled}
 use Rattle.dec_num.specs.Exact.{Fraction}
 use Rattle.dec_num.specs.Scaled.{value_of}
@@ -16,7 +15,6 @@ use Rattle.sum_ranges.specs.Ranged.{point, IsIn}
 use Rattle.sum_ranges.specs.SumRanges.{turned, plus_range, product_range, sum_range, product_range_from, atom_range}
 use Rattle.sum_ranges.proofs.Sound.{turned_in, sum_in, atom_in, whole_product_in}
 use Rattle.result_ranges.specs.declared.amounts.Taken.{Taken}
-use Rattle.result_ranges.specs.declared.amounts.AmountRange.{AmountRange}
 use Rattle.result_ranges.specs.declared.amounts.AmountRange.TheVariants as range
 use Rattle.result_ranges.specs.Amounts.{taken, rest, IsAmount}
 use Rattle.result_ranges.specs.Operands.{alone, is_whole, taken_from, taken_sum, whole_range, computed_range, remaining_range, remaining_sum}

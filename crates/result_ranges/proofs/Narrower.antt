@@ -1,12 +1,11 @@
 -- Narrower operands give narrower results.
-use Rattle.std.proofs.Common.{◌≡◌, ℕ, ◌+◌, ◌-◌, ◌^◌, ◌||◌, Bool, true, false, ℤ, pos, neg_ℤ, ◌*ℤ◌, ◌≤ℤ◌, Option, Some, None, inl, inr, refl, sym, ap, ◌∙◌, subst, arith}
+use Rattle.std.proofs.Common.{◌≡◌, ℕ, ◌+◌, ◌-◌, ◌^◌, ◌||◌, Bool, true, false, ℤ, pos, neg_ℤ, ◌*ℤ◌, ◌≤ℤ◌, Option, Some, None, inl, inr, refl, ap, subst, arith}
 use Rattle.std.specs.Prelude.{int_lt, is_some}
 use Rattle.std.specs.Option.{option_map, option_map_or}
 use Rattle.std.proofs.lemmas.Bool.{or_cases}
 use Rattle.std.proofs.lemmas.Int.{ints, clamps}
 use Rattle.dec_num.specs.declared.types.Mode.{Mode}
 use Rattle.dec_num.specs.declared.types.Mode.TheVariants.{Trunc}
-use Rattle.dec_num.specs.declared.types.Scaled.{Scaled}
 use Rattle.dec_num.specs.Exact.{Fraction}
 use Rattle.decimal_interval.specs.declared.bounds.Interval.{Interval}
 use Rattle.decimal_interval.specs.Bounds.{Holds}
@@ -17,7 +16,7 @@ use Rattle.cob_program.specs.Values.{with_factor, ◌>>=◌}
 use Rattle.sum_ranges.specs.declared.ranged.Ranged.{Ranged}
 use Rattle.sum_ranges.specs.Ranged.{ranged, IsNarrower, IsBelow}
 use Rattle.sum_ranges.specs.Results.{IsResult}
-use Rattle.sum_ranges.specs.SumRanges.{turned, plus_range, product_range}
+use Rattle.sum_ranges.specs.SumRanges.{turned, product_range}
 use Rattle.sum_ranges.proofs.Operations.{products_least}
 use Rattle.sum_ranges.proofs.Least.{in_wider, result_in_wider, least_narrower}
 use Rattle.sum_ranges.proofs.Narrow.{wide_ordered, turned_narrower, plus_narrower}

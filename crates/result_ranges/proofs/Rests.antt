@@ -1,19 +1,19 @@
 -- A remainder lies in its range.
-use Rattle.std.proofs.Common.{◌≡◌, ℕ, ◌+◌, ◌-◌, ◌*◌, ◌^◌, ◌<◌, ◌≤◌, Bool, true, false, max, if◌then◌else◌, ℤ, pos, neg_ℤ, ◌*ℤ◌, ◌≤ℤ◌, Option, Some, None, refl, sym, ap, ◌∙◌, subst, arith}
-use Rattle.std.specs.Prelude.{◌≢◌, int_le, unsigned_abs, IsSomeAnd}
+use Rattle.std.proofs.Common.{◌≡◌, ℕ, ◌+◌, ◌-◌, ◌*◌, ◌^◌, ◌<◌, true, false, max, ℤ, pos, ◌*ℤ◌, ◌≤ℤ◌, Option, Some, None, refl, ap, subst, arith}
+use Rattle.std.specs.Prelude.{unsigned_abs, IsSomeAnd}
 use Rattle.std.specs.Option.{option_map}
 use Rattle.std.proofs.lemmas.Int.{ints, clamps}
 use Rattle.std.proofs.lemmas.Nat.{mul-le}
 use Rattle.dec_num.specs.declared.types.Mode.TheVariants.{Trunc}
 use Rattle.dec_num.specs.declared.types.Scaled.{Scaled}
-use Rattle.dec_num.specs.Exact.{Fraction, near, ratio_of}
+use Rattle.dec_num.specs.Exact.{Fraction, near}
 use Rattle.decimal_interval.specs.declared.bounds.Interval.{Interval}
-use Rattle.decimal_interval.specs.Bounds.{Holds, IsLeast}
+use Rattle.decimal_interval.specs.Bounds.{Holds}
 use Rattle.cob_program.specs.Values.{negated, plus, product, exact_quotient, with_factor, ◌>>=◌}
 use Rattle.cob_program.proofs.Steps.{some_bound, some_same}
 use Rattle.cob_runs.specs.Computing.{cut_quotient}
 use Rattle.sum_ranges.specs.declared.ranged.Ranged.{Ranged}
-use Rattle.sum_ranges.specs.Ranged.{decimal, ranged, IsIn, IsOrdered}
+use Rattle.sum_ranges.specs.Ranged.{ranged, IsIn}
 use Rattle.sum_ranges.specs.Results.{IsResult}
 use Rattle.sum_ranges.specs.SumRanges.{turned, plus_range, product_range}
 use Rattle.sum_ranges.proofs.Least.{ordered_of, in_least}
@@ -24,7 +24,7 @@ use Rattle.result_ranges.specs.Amounts.{IsNear, rest}
 use Rattle.result_ranges.specs.Results.{IsLeastIfAny, IsInBoth}
 use Rattle.result_ranges.specs.ResultRanges.{if_any, meeting, plus_minus, greatest_size, quotient_units, limited, rest_range}
 use Rattle.result_ranges.proofs.Keeping.{both_least}
-use Rattle.result_ranges.proofs.Rounding.{exact_parts, ratio_at, quotient_units_least}
+use Rattle.result_ranges.proofs.Rounding.{exact_parts, quotient_units_least}
 use Rattle.result_ranges.proofs.Leftovers.{rest_bounded}
 
 -- ---- one after the other

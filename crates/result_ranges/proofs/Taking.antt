@@ -1,5 +1,5 @@
 -- Narrower items give narrower operands.
-use Rattle.std.proofs.Common.{ℕ, Bool, true, false, pos, length, Option, Some, None, refl}
+use Rattle.std.proofs.Common.{ℕ, Bool, true, false, pos, length, Option, Some, None}
 use Rattle.std.specs.Option.{option_map}
 use Rattle.dec_num.specs.declared.types.Scaled.{Scaled}
 use Rattle.cob_tree.specs.declared.form.Form.TheVariants as form

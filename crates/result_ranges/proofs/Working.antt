@@ -1,9 +1,9 @@
 -- Remainders and amounts in code.
-use Rattle.std.proofs.Common.{◌≡◌, ℕ, ◌+◌, ◌-◌, ◌^◌, ◌<◌, ◌≤◌, Bool, true, false, max, ℤ, pos, negsuc, neg_ℤ, ◌*ℤ◌, FitsSigned, ◌≤ℤ◌, Option, Some, None, refl, sym, ap, subst, ◌∙◌, arith}
-use Rattle.std.specs.Prelude.{IfSome, int_le, unsigned_abs}
-use Rattle.std.specs.Int.{w128, int_max, int_min}
+use Rattle.std.proofs.Common.{◌≡◌, ℕ, ◌+◌, ◌-◌, ◌^◌, ◌≤◌, true, ℤ, pos, negsuc, neg_ℤ, ◌*ℤ◌, ◌≤ℤ◌, Option, Some, None, sym, ap, subst, ◌∙◌, arith}
+use Rattle.std.specs.Prelude.{IfSome}
+use Rattle.std.specs.Int.{int_max, int_min}
 use Rattle.std.specs.Option.{option_map}
-use Rattle.std.proofs.lemmas.Int.{ints, clamps, fits_signed_from_abs}
+use Rattle.std.proofs.lemmas.Int.{ints, clamps}
 use Rattle.std.proofs.Math.Nat.{le_refl}
 use Rattle.dec_num.specs.declared.types.Mode.{Mode}
 use Rattle.dec_num.specs.declared.types.Mode.TheVariants.{Trunc}
@@ -22,7 +22,6 @@ use Rattle.result_ranges.specs.ResultRanges.{if_any, meeting, plus_minus, greate
 use Rattle.result_ranges.specs.Sizes.{IsSmallRest, capped_at, IsCapped, IsCappedIfAny, IsSameFor}
 use Rattle.sum_ranges.specs.Sizes.{IsSmallRange}
 use Rattle.sum_ranges.specs.Working.{CanAddRanges, CanMultiplyRanges}
-use Rattle.result_ranges.proofs.Keeping.{le_of}
 use Rattle.result_ranges.proofs.Capping.{interval_same}
 
 -- ---- remainders
@@ -66,18 +65,11 @@ product_positive : (size : ℤ) (k : ℕ) → pos 0 ≤ℤ size → pos 0 ≤ℤ
 product_positive (pos n) k h = omega (arith, ints)
 product_positive (negsuc n) k h = absurd (omega (arith, ints, h))
 
-no_room : (p : ℤ) → pos 0 ≤ℤ p → (FitsSigned w128 p → ⊥) → pos (10 ^ 37) ≡ int_min p (pos (10 ^ 37))
-no_room p h over = go (int_le p (pos (10 ^ 37))) refl
+pub limit_room : (limit size : ℤ) (shift : ℕ) → pos 0 ≤ℤ size → limit ≡ int_min (size *ℤ pos (10 ^ shift)) (pos (10 ^ 37)) → (pos 0 ≤ℤ limit) × (limit ≤ℤ pos (10 ^ 37))
+limit_room limit size shift h e = between limit (size *ℤ pos (10 ^ shift)) (product_positive size (10 ^ shift) h) e
   where
-    go : (low : Bool) → int_le p (pos (10 ^ 37)) ≡ low → pos (10 ^ 37) ≡ int_min p (pos (10 ^ 37))
-    go true e =
-        let below : p ≤ℤ pos (10 ^ 37) = le_of p (pos (10 ^ 37)) e in
-        let room : unsigned_abs p < 2 ^ 127 = omega (arith, ints, h, below) in
-        absurd (over (fits_signed_from_abs w128 p room))
-    go false e = let above : pos (10 ^ 37) ≤ℤ p = grind (arith, ints) in omega (arith, ints, clamps, above)
-
-pub most_limit : (size most : ℤ) (shift : ℕ) → pos 0 ≤ℤ size → (FitsSigned w128 (size *ℤ pos (10 ^ shift)) → ⊥) → most ≡ pos (10 ^ 37) → most ≡ int_min (size *ℤ pos (10 ^ shift)) (pos (10 ^ 37))
-most_limit size most shift h over e = e ∙ no_room (size *ℤ pos (10 ^ shift)) (product_positive size (10 ^ shift) h) over
+    between : (x p : ℤ) → pos 0 ≤ℤ p → x ≡ int_min p (pos (10 ^ 37)) → (pos 0 ≤ℤ x) × (x ≤ℤ pos (10 ^ 37))
+    between x p h e = (omega (arith, ints, clamps, h, e), omega (arith, ints, clamps, h, e))
 
 -- A limit of 37 digits or more is none for a small range.
 end_above : (low limit : ℤ) → IsSmall low → int_max low (neg_ℤ limit) ≡ int_max low (neg_ℤ (int_min limit (pos (10 ^ 37))))

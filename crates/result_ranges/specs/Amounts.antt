@@ -1,5 +1,5 @@
 -- The exact values that an amount can be, where its operands lie in ranges.
-use Rattle.std.specs.Prelude.{◌≡◌, ℕ, true, Bool, ℤ, pos, Option, Some, None}
+use Rattle.std.specs.Prelude.{◌≡◌, ℕ, true, ℤ, pos, Option, Some, None}
 use Rattle.dec_num.specs.declared.types.Mode.{Mode}
 use Rattle.dec_num.specs.declared.types.Scaled.{Scaled}
 use Rattle.dec_num.specs.Exact.{Fraction, near}

@@ -1,5 +1,5 @@
 -- What results are, as sets of numbers, and what an interval says of them.
-use Rattle.std.specs.Prelude.{◌≡◌, ◌<◌, ◌≤◌, ◌^◌, ℕ, ℤ, ◌≤ℤ◌, unsigned_abs, Option, Some, None, Bool}
+use Rattle.std.specs.Prelude.{◌≡◌, ◌≤◌, ◌^◌, ℕ, ℤ, ◌≤ℤ◌, unsigned_abs, Option, Some, None}
 use Rattle.decimal_interval.specs.declared.bounds.Interval.{Interval}
 use Rattle.decimal_interval.specs.Bounds.{Holds, IsLeast}
 use Rattle.result_ranges.specs.declared.amounts.Receiver.{Receiver}

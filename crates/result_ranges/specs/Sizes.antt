@@ -1,21 +1,20 @@
 -- What the arithmetic of intervals works with.
-use Rattle.std.specs.Prelude.{◌≡◌, true, ℕ, ◌+◌, ◌-◌, ◌^◌, ◌≤◌, ℤ, pos, neg_ℤ, ◌*ℤ◌, Option, Some, None, IfSome}
+use Rattle.std.specs.Prelude.{◌≡◌, true, ℕ, ◌^◌, ◌≤◌, ℤ, pos, neg_ℤ, Option, Some, None, IfSome}
 use Rattle.std.specs.Int.{int_max, int_min}
 use Rattle.dec_num.specs.declared.types.Mode.TheVariants.{Trunc}
 use Rattle.decimal_interval.specs.declared.bounds.Interval.{Interval}
-use Rattle.decimal_interval.specs.Bounds.{IsSmall, IsInterval}
 use Rattle.cob_program.specs.declared.act.How.{How}
 use Rattle.cob_program.specs.declared.act.How.TheVariants as how
 use Rattle.sum_ranges.specs.declared.ranged.Ranged.{Ranged}
 use Rattle.sum_ranges.specs.Ranged.{ranged}
-use Rattle.sum_ranges.specs.SumRanges.{joint, turned, product_range}
+use Rattle.sum_ranges.specs.SumRanges.{turned, product_range}
 use Rattle.sum_ranges.specs.Sizes.{IsSmallRange}
 use Rattle.sum_ranges.specs.Working.{CanAddRanges, CanMultiplyRanges}
 use Rattle.result_ranges.specs.declared.amounts.Taken.{Taken}
 use Rattle.result_ranges.specs.declared.amounts.AmountRange.{AmountRange}
 use Rattle.result_ranges.specs.declared.amounts.AmountRange.TheVariants as range
 use Rattle.result_ranges.specs.declared.amounts.Receiver.{Receiver}
-use Rattle.result_ranges.specs.ResultRanges.{greatest_size, quotient_units}
+use Rattle.result_ranges.specs.ResultRanges.{quotient_units}
 
 -- digits as pictures have them
 pub record IsReceiver (r : Receiver) : Type 0 where
