@@ -63,6 +63,6 @@ IsCappedIfAny limit None None = Unit {0}
 IsCappedIfAny limit (Some exact) (Some i) = IsCapped limit exact i
 IsCappedIfAny limit _ _ = ⊥
 
--- A limit that has more digits changes nothing for a receiver.
+-- The same for a receiver of so many digits, which a limit beyond them changes nothing for.
 abbrev pub IsSameFor : ℕ → Option Interval → Option Interval → Type 0
 IsSameFor digits exact o = (limit : ℕ) × (10 ^ digits ≤ limit) × IsCappedIfAny limit exact o
