@@ -3,7 +3,7 @@ use Rattle.std.specs.Prelude.{ℕ, ◌==◌, if◌then◌else◌, Bool, true, fa
 use Rattle.decimal_interval.specs.declared.bounds.Interval.{Interval}
 use Rattle.cob_tree.specs.declared.token.Rel.{Rel}
 use Rattle.cob_data.specs.declared.layout.Layout.{Layout}
-use Rattle.cob_program.specs.Sum.{Sum, MkSum, no_parts, more_parts, MkPart, no_factors, more_factors, MkFactor, item}
+use Rattle.cob_program.specs.Sum.{Sum, MkSum, no_parts, more_parts, Part, MkPart, no_factors, more_factors, Factor, MkFactor, Atom, item}
 use Rattle.cob_program.specs.Values.{◌>>=◌}
 use Rattle.cob_program.specs.Logic.{Test, numbers, texts, member, numeric, always}
 use Rattle.sum_ranges.specs.declared.ranged.Ranged.{Ranged}
@@ -25,8 +25,20 @@ abbrev pub unchanged : Cuts
 unchanged = cuts None None
 
 -- one item alone, without a sign
+abbrev pub lone_atom : Atom → Option ℕ
+lone_atom (item place) = Some place
+lone_atom _ = None
+
+abbrev pub lone_factor : Factor → Option ℕ
+lone_factor (MkFactor false false atom) = lone_atom atom
+lone_factor _ = None
+
+abbrev pub lone_part : Part → Option ℕ
+lone_part (MkPart false (more_factors f no_factors)) = lone_factor f
+lone_part _ = None
+
 abbrev pub lone_item : Sum → Option ℕ
-lone_item (MkSum (more_parts (MkPart false (more_factors (MkFactor false false (item place)) no_factors)) no_parts)) = Some place
+lone_item (MkSum (more_parts p no_parts)) = lone_part p
 lone_item _ = None
 
 abbrev pub cut_of : Option ℕ → Interval → Option Cut
@@ -42,27 +54,30 @@ abbrev pub both_cuts : Option Cut → Option Cut → Option Cuts
 both_cuts (Some a) (Some b) = if a.item == b.item then one_cut a.item (met a.units b.units) else Some (cuts (Some a) (Some b))
 both_cuts left right = Some (cuts left right)
 
--- each item's numbers, and whether it is known to be numeric
+-- The sides as they were, and the items that they are. Where no number of the one stands so to one of the other, nothing
+-- is left.
+abbrev pub sides_cut : Option ℕ → Ranged → Rel → Option ℕ → Ranged → Bool → Option Cuts
+sides_cut p x r q y wanted =
+    left_kept r wanted x y >>= λ left. right_kept r wanted x y >>= λ right. both_cuts (cut_of p left) (cut_of q right)
+
+-- A side without a range has a divisor that is 0 alone, so that the test isn't decided.
+abbrev pub numbers_cut : (ℕ → Ranged) → Sum → Rel → Sum → Bool → Option Cuts
+numbers_cut range a r b wanted = sum_range range a >>= λ x. sum_range range b >>= λ y. sides_cut (lone_item a) x r (lone_item b) y wanted
+
+abbrev pub member_cut : Bool → ℕ → Option Interval → Option Cuts
+member_cut true place units = one_cut place units
+member_cut false place units = Some unchanged
+
+-- An item that is NUMERIC has its range, which is its own where nothing else is known.
+abbrev pub numeric_cut : (ℕ → Ranged) → (ℕ → Bool) → ℕ → Bool → Option Cuts
+numeric_cut range is_numeric place true = one_cut place (Some (range place).units)
+numeric_cut range is_numeric place false = if is_numeric place then None else Some unchanged
+
+-- by each item's numbers, and whether it is known to be numeric
 module _ (l : Layout) (range : ℕ → Ranged) (is_numeric : ℕ → Bool) where
-  -- A side without a range has a divisor that is 0 alone, so that the test isn't decided.
-  abbrev pub numbers_cut : Sum → Rel → Sum → Bool → Option Cuts
-  numbers_cut a r b wanted =
-      sum_range range a >>= λ x. sum_range range b >>= λ y.
-      left_kept r wanted x y >>= λ left. right_kept r wanted x y >>= λ right.
-      both_cuts (cut_of (lone_item a) left) (cut_of (lone_item b) right)
-
-  abbrev pub member_cut : Bool → ℕ → Option Interval → Option Cuts
-  member_cut true place units = one_cut place units
-  member_cut false place units = Some unchanged
-
-  -- an item that is NUMERIC has its range, which is its own where nothing else is known
-  abbrev pub numeric_cut : ℕ → Bool → Option Cuts
-  numeric_cut place true = one_cut place (Some (range place).units)
-  numeric_cut place false = if is_numeric place then None else Some unchanged
-
   abbrev pub guarded : Test → Bool → Option Cuts
-  guarded (numbers a r b) wanted = numbers_cut a r b wanted
+  guarded (numbers a r b) wanted = numbers_cut range a r b wanted
   guarded (texts a r b) wanted = Some unchanged
   guarded (member place ps) wanted = member_cut (is_number_member l place ps) place (member_kept range place ps wanted)
-  guarded (numeric place) wanted = numeric_cut place wanted
+  guarded (numeric place) wanted = numeric_cut range is_numeric place wanted
   guarded always wanted = if wanted then Some unchanged else None

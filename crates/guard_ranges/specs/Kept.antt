@@ -3,6 +3,7 @@ use Rattle.std.specs.Prelude.{ℕ, zero, suc, if◌then◌else◌, Bool, is_some
 use Rattle.std.specs.Int.{int_max, int_min}
 use Rattle.dec_num.specs.declared.types.Scaled.{Scaled}
 use Rattle.decimal_interval.specs.declared.bounds.Interval.{Interval}
+use Rattle.decimal_interval.specs.Bounds.{IsLeast}
 use Rattle.decimal_interval.specs.Corners.{interval}
 use Rattle.cob_program.specs.Values.{◌>>=◌}
 use Rattle.sum_ranges.specs.declared.ranged.Ranged.{Ranged}
@@ -43,10 +44,18 @@ some_in test a = is_met (λ z. test (decimal z a.scale)) a.units
 abbrev pub kept_in : (Scaled → Bool) → Ranged → Option Interval
 kept_in test a = kept (λ z. test (decimal z a.scale)) a.units
 
--- ---- the numbers of both intervals, where there are any
+-- ---- intervals that may be empty
 
+abbrev pub between : ℤ → ℤ → Option Interval
+between low high = if int_le low high then Some (interval low high) else None
+
+-- the numbers of both
 abbrev pub met : Interval → Interval → Option Interval
-met a b =
-    let low = int_max a.low b.low in
-    let high = int_min a.high b.high in
-    if int_le low high then Some (interval low high) else None
+met a b = between (int_max a.low b.low) (int_min a.high b.high)
+
+-- ---- least intervals
+
+-- the least interval of the numbers of which R is true; nothing where there are none
+abbrev pub IsLeastIfAny : (ℤ → Type 0) → Option Interval → Type 0
+IsLeastIfAny R None = (z : ℤ) → R z → ⊥
+IsLeastIfAny R (Some i) = IsLeast R i
