@@ -14,6 +14,7 @@ use Rattle.sum_ranges.specs.Ranged.{decimal, ranged}
 use Rattle.sum_ranges.specs.SumRanges.{raised, joint}
 use Rattle.guard_ranges.specs.declared.beside.Orders.{Orders}
 use Rattle.guard_ranges.specs.Kept.{between, IsLeastIfAny}
+use Rattle.guard_ranges.proofs.Least.{le_test, test_le}
 use Rattle.guard_ranges.specs.Beside.{IsBeside, CanRelate, is_below, is_equal, is_above, allows, if_any, common, under, over}
 
 -- ---- the sign of a difference
@@ -46,12 +47,6 @@ of_positive (pos (suc n)) h = refl
 of_positive (negsuc n) h = absurd (omega (arith, ints))
 
 -- ---- all numbers between two
-
-le_test : (x y : ℤ) → x ≤ℤ y → int_le x y ≡ true
-le_test x y h = omega (arith, ints)
-
-test_le : (x y : ℤ) → int_le x y ≡ true → x ≤ℤ y
-test_le x y e = omega (arith, ints)
 
 -- an interval that holds exactly the numbers of which R is true
 pub if_any_least : (R : ℤ → Type 0) (i : Interval) → ((z : ℤ) → Holds i z ↔ R z) → IsLeastIfAny R (if_any i)

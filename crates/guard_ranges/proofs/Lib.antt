@@ -11,3 +11,5 @@ pub mod SideCode
 pub mod Short
 pub mod MemberCode
 pub mod CountCode
+pub mod SideLists
+pub mod Examples

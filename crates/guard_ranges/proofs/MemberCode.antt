@@ -1,8 +1,8 @@
 -- What ranges of values leave, one after the other.
 use Rattle.std.proofs.Common.{◌≡◌, ℕ, zero, suc, ◌+◌, ◌-◌, ◌^◌, ◌<◌, ◌≤◌, ◌&&◌, ◌||◌, ◌⊎◌, inl, inr, ℤ, pos, negsuc, ◌+ℤ◌, ◌-ℤ◌, ◌*ℤ◌, ◌≤ℤ◌, Bool, true, false, List, [], ◌∷◌, ◌++◌, length, get_or, take, drop, Option, Some, None, refl, sym, ap, subst, ◌∙◌, arith}
-use Rattle.std.specs.Prelude.{not, if◌then◌else◌, IfSome}
+use Rattle.std.specs.Prelude.{◌≢◌, not, if◌then◌else◌, IfSome}
 use Rattle.std.specs.List.{list_all, list_any}
-use Rattle.std.proofs.lemmas.Int.{ints}
+use Rattle.std.proofs.lemmas.Int.{ints, by_lt_z}
 use Rattle.std.proofs.lemmas.List.{take_more, drop_more, drop_all}
 use Rattle.std.proofs.lemmas.List.Folds.{list_any-append}
 use Rattle.dec_num.specs.declared.types.Scaled.{Scaled}
@@ -18,12 +18,14 @@ use Rattle.cob_runs.specs.Deciding.{Order, below, equal, above, holds, order_of,
 use Rattle.sum_ranges.specs.declared.ranged.Ranged.{Ranged}
 use Rattle.sum_ranges.specs.Ranged.{decimal, ranged, IsIn, IsOrdered}
 use Rattle.sum_ranges.specs.SumRanges.{joint}
-use Rattle.guard_ranges.specs.Kept.{some_in, kept_in, IsLeastIfAny}
+use Rattle.guard_ranges.specs.Kept.{size_of, some_in, kept_in, IsLeastIfAny}
 use Rattle.guard_ranges.specs.Sides.{is_wanted, stands, left_kept}
 use Rattle.guard_ranges.specs.Members.{is_within, is_same_item, end_range, can_lie, can_be}
+use Rattle.guard_ranges.specs.Small.{IsShortRange}
 use Rattle.guard_ranges.specs.Trimming.{within_kept, outside_kept, pair_kept, pairs_kept, trimmed}
-use Rattle.guard_ranges.proofs.Searches.{Passes}
+use Rattle.guard_ranges.proofs.Searches.{Passes, size_is}
 use Rattle.guard_ranges.proofs.Least.{in_range, some_of, one_of_some, kept_least, kept_part, IsPartOf}
+use Rattle.guard_ranges.proofs.Short.{short_part}
 use Rattle.guard_ranges.proofs.Besides.{least_same, one_least, either_least}
 
 -- ---- searches for the same numbers
@@ -92,6 +94,38 @@ some_unit test b e =
     let y = one_of_some test b e in
     (y.0.units, y.1.held, subst (λ s. test (decimal y.0.units s) ≡ true) y.1.scale y.2)
 
+-- ---- both ends of a range of values
+
+within_parts : (x l h : Scaled) → is_wanted true (is_within x l h) ≡ true → (stands rel.AtLeast true x l ≡ true) × (stands rel.AtMost true x h ≡ true)
+within_parts x l h e = both (holds rel.AtLeast (number_order x l)) (holds rel.AtMost (number_order x h)) e
+
+both_true : (a b : Bool) → a ≡ true → b ≡ true → (a && b) ≡ true
+both_true a b e f = rw (e, f) refl
+
+within_of : (x l h : Scaled) → stands rel.AtLeast true x l ≡ true → stands rel.AtMost true x h ≡ true → is_wanted true (is_within x l h) ≡ true
+within_of x l h e f = both_true (holds rel.AtLeast (number_order x l)) (holds rel.AtMost (number_order x h)) e f
+
+not_cases : (a b : Bool) → not (a && b) ≡ true → (not a ≡ true) ⊎ (not b ≡ true)
+not_cases true b e = inr e
+not_cases false b e = inl refl
+
+not_first : (a b : Bool) → not a ≡ true → not (a && b) ≡ true
+not_first true b e = absurd cc
+not_first false b e = refl
+
+not_second : (a b : Bool) → not b ≡ true → not (a && b) ≡ true
+not_second true b e = e
+not_second false b e = refl
+
+outside_parts : (x l h : Scaled) → is_wanted false (is_within x l h) ≡ true → (stands rel.AtLeast false x l ≡ true) ⊎ (stands rel.AtMost false x h ≡ true)
+outside_parts x l h e = not_cases (holds rel.AtLeast (number_order x l)) (holds rel.AtMost (number_order x h)) e
+
+outside_low : (x l h : Scaled) → stands rel.AtLeast false x l ≡ true → is_wanted false (is_within x l h) ≡ true
+outside_low x l h e = not_first (holds rel.AtLeast (number_order x l)) (holds rel.AtMost (number_order x h)) e
+
+outside_high : (x l h : Scaled) → stands rel.AtMost false x h ≡ true → is_wanted false (is_within x l h) ≡ true
+outside_high x l h e = not_second (holds rel.AtLeast (number_order x l)) (holds rel.AtMost (number_order x h)) e
+
 -- from some number of the low end to some number of the high one
 abbrev pub can_be_within : Ranged → Ranged → Scaled → Bool
 can_be_within low high x = some_in (λ l. some_in (λ h. is_wanted true (is_within x l h)) high) low
@@ -112,7 +146,7 @@ within_gives item low high = one_least R (within_kept item low high) (kept_in (c
     to_first z (h, e) =
         let l = some_unit (λ l. some_in (λ h. is_wanted true (is_within (decimal z item.scale) l h)) high) low e in
         let m = some_unit (λ h. is_wanted true (is_within (decimal z item.scale) (decimal l.0 low.scale) h)) high l.2 in
-        (h, some_of (λ y. stands rel.AtLeast true (decimal z item.scale) y) low (decimal l.0 low.scale) (in_range l.0 low l.1) (both _ _ m.2).0)
+        (h, some_of (λ y. stands rel.AtLeast true (decimal z item.scale) y) low (decimal l.0 low.scale) (in_range l.0 low l.1) (within_parts (decimal z item.scale) (decimal l.0 low.scale) (decimal m.0 high.scale) m.2).0)
 
     go : (o : Option Interval) → IsLeastIfAny (PassesIn first item) o → IsLeastIfAny R (o >>= λ units. left_kept rel.AtMost true (ranged units item.scale) high)
     go None h = λ z r. h z (to_first z r)
@@ -128,32 +162,17 @@ within_gives item low high = one_least R (within_kept item low high) (kept_in (c
             ((omega (arith, ints, least.0.0, k.0), omega (arith, ints, most.0.1, k.1)),
             some_of (λ l. some_in (λ h. is_wanted true (is_within (decimal z item.scale) l h)) high) low (decimal l.0 low.scale) (in_range l.0 low l.1)
             (some_of (λ h. is_wanted true (is_within (decimal z item.scale) (decimal l.0 low.scale) h)) high (decimal m.0 high.scale) (in_range m.0 high m.1)
-            (both_true _ _ up m.2)))
-          where
-            both_true : (a b : Bool) → a ≡ true → b ≡ true → (a && b) ≡ true
-            both_true a b e f = rw (e, f) refl
+            (within_of (decimal z item.scale) (decimal l.0 low.scale) (decimal m.0 high.scale) up m.2)))
 
         from : (z : ℤ) → R z → PassesIn second (ranged i item.scale) z
         from z r =
             let l = some_unit (λ l. some_in (λ h. is_wanted true (is_within (decimal z item.scale) l h)) high) low r.1 in
             let m = some_unit (λ h. is_wanted true (is_within (decimal z item.scale) (decimal l.0 low.scale) h)) high l.2 in
-            (h.holds z (to_first z r), some_of (λ y. stands rel.AtMost true (decimal z item.scale) y) high (decimal m.0 high.scale) (in_range m.0 high m.1) (both _ _ m.2).1)
+            (h.holds z (to_first z r), some_of (λ y. stands rel.AtMost true (decimal z item.scale) y) high (decimal m.0 high.scale) (in_range m.0 high m.1) (within_parts (decimal z item.scale) (decimal l.0 low.scale) (decimal m.0 high.scale) m.2).1)
 
 -- below some number of the low end, or above some number of the high one
 abbrev pub can_be_outside : Ranged → Ranged → Scaled → Bool
 can_be_outside low high x = some_in (λ l. some_in (λ h. is_wanted false (is_within x l h)) high) low
-
-not_cases : (a b : Bool) → not (a && b) ≡ true → (not a ≡ true) ⊎ (not b ≡ true)
-not_cases true b e = inr e
-not_cases false b e = inl refl
-
-not_first : (a b : Bool) → not a ≡ true → not (a && b) ≡ true
-not_first true b e = absurd cc
-not_first false b e = refl
-
-not_second : (a b : Bool) → not b ≡ true → not (a && b) ≡ true
-not_second true b e = e
-not_second false b e = refl
 
 pub outside_gives : (item low high : Ranged) → IsOrdered low → IsOrdered high → outside_kept item low high ≡ kept_in (can_be_outside low high) item
 outside_gives item low high some_low some_high = kept_either first second item ∙ kept_same (λ x. first x || second x) (can_be_outside low high) item to from
@@ -170,19 +189,19 @@ outside_gives item low high some_low some_high = kept_either first second item �
           let l = some_unit (λ y. stands rel.AtLeast false (decimal z item.scale) y) low f in
           some_of (λ l. some_in (λ h. is_wanted false (is_within (decimal z item.scale) l h)) high) low (decimal l.0 low.scale) (in_range l.0 low l.1)
           (some_of (λ h. is_wanted false (is_within (decimal z item.scale) (decimal l.0 low.scale) h)) high (decimal high.units.low high.scale) (in_range high.units.low high (omega (arith, ints), some_high))
-          (not_first _ _ l.2))
+          (outside_low (decimal z item.scale) (decimal l.0 low.scale) (decimal high.units.low high.scale) l.2))
       | inr f ↦
           let m = some_unit (λ y. stands rel.AtMost false (decimal z item.scale) y) high f in
           some_of (λ l. some_in (λ h. is_wanted false (is_within (decimal z item.scale) l h)) high) low (decimal low.units.low low.scale) (in_range low.units.low low (omega (arith, ints), some_low))
           (some_of (λ h. is_wanted false (is_within (decimal z item.scale) (decimal low.units.low low.scale) h)) high (decimal m.0 high.scale) (in_range m.0 high m.1)
-          (not_second _ _ m.2))
+          (outside_high (decimal z item.scale) (decimal low.units.low low.scale) (decimal m.0 high.scale) m.2))
     ]
 
     from : (z : ℤ) → Holds item.units z → can_be_outside low high (decimal z item.scale) ≡ true → (first (decimal z item.scale) || second (decimal z item.scale)) ≡ true
     from z held e =
         let l = some_unit (λ l. some_in (λ h. is_wanted false (is_within (decimal z item.scale) l h)) high) low e in
         let m = some_unit (λ h. is_wanted false (is_within (decimal z item.scale) (decimal l.0 low.scale) h)) high l.2 in
-        elim (not_cases _ _ m.2) as (λ _. (first (decimal z item.scale) || second (decimal z item.scale)) ≡ true) [
+        elim (outside_parts (decimal z item.scale) (decimal l.0 low.scale) (decimal m.0 high.scale) m.2) as (λ _. (first (decimal z item.scale) || second (decimal z item.scale)) ≡ true) [
           | inl f ↦ or_first (first (decimal z item.scale)) (second (decimal z item.scale)) (some_of (λ y. stands rel.AtLeast false (decimal z item.scale) y) low (decimal l.0 low.scale) (in_range l.0 low l.1) f)
           | inr f ↦ or_second (first (decimal z item.scale)) (second (decimal z item.scale)) (some_of (λ y. stands rel.AtMost false (decimal z item.scale) y) high (decimal m.0 high.scale) (in_range m.0 high m.1) f)
         ]
@@ -266,11 +285,12 @@ module _ (range : ℕ → Ranged) where
           value_or : Interval → Option Interval → Interval
           value_or a None = a
           value_or a (Some b) = b
-  trimmed_part item (p ∷ ps) i h e = go (pair_kept range false item p) (kept_part (λ x. can_lie range false x p) item) e
+  trimmed_part item (p ∷ ps) i h e = go (pair_kept range false item p) (kept_part (λ x. can_lie range false x p) item) (λ j. trimmed_part (ranged j item.scale) ps i) e
     where
-      go : (o : Option Interval) → IfSome o (λ j. IsPartOf j item.units) → (o >>= λ units. trimmed range (ranged units item.scale) ps) ≡ Some i → IsPartOf i item.units
-      go None k f = absurd cc
-      go (Some j) k f = let l = trimmed_part (ranged j item.scale) ps i k.ordered f in record { low = omega (arith, ints, k.low, l.low); ordered = l.ordered; high = omega (arith, ints, k.high, l.high) }
+      go : (o : Option Interval) → IfSome o (λ j. IsPartOf j item.units) → ((j : Interval) → IsOrdered (ranged j item.scale) → trimmed range (ranged j item.scale) ps ≡ Some i → IsPartOf i j)
+          → (o >>= λ units. trimmed range (ranged units item.scale) ps) ≡ Some i → IsPartOf i item.units
+      go None k rest f = absurd cc
+      go (Some j) k rest f = let l = rest j k.ordered f in record { low = omega (arith, ints, k.low, l.low); ordered = l.ordered; high = omega (arith, ints, k.high, l.high) }
 
   -- what is trimmed away can't lie outside of all
   abbrev pub Trimmed : Ranged → List Pair → Option Interval → Type 0
@@ -328,9 +348,37 @@ module _ (range : ℕ → Ranged) where
       let t : Trimmed item ps (Some units) = subst (Trimmed item ps) (sym e) (trimming item ps) in
       f ∙ kept_narrower (can_be range false ps) item units (trimmed_part item ps units h (sym e)) (λ z held k. t.0 z (held, k))
 
-  -- one range of values after the other
-  pub trimmed_step : (ps : List Pair) (i : ℕ) (p : Pair) (left : Ranged) → i < length ps → p ≡ get_or ps i p → trimmed range left (drop i ps) ≡ (pair_kept range false left p >>= λ units. trimmed range (ranged units left.scale) (drop (i + 1) ps))
+  -- ---- one range of values after the other
+
+  trimmed_step : (ps : List Pair) (i : ℕ) (p : Pair) (left : Ranged) → i < length ps → p ≡ get_or ps i p → trimmed range left (drop i ps) ≡ (pair_kept range false left p >>= λ units. trimmed range (ranged units left.scale) (drop (i + 1) ps))
   trimmed_step ps i p left h is = ap (trimmed range left) (drop_more ps i p h ∙ ap (λ q. q ∷ drop (i + 1) ps) (sym is))
 
-  pub trimmed_ends : (ps : List Pair) (i : ℕ) (left : Ranged) → length ps ≤ i → Some left.units ≡ trimmed range left (drop i ps)
-  trimmed_ends ps i left h = sym (ap (trimmed range left) (drop_all i ps h))
+  pub trimmed_stops : (ps : List Pair) (i : ℕ) (p : Pair) (left : Ranged) (o : Option Interval) → i < length ps → p ≡ get_or ps i p → None ≡ pair_kept range false left p → trimmed range left (drop i ps) ≡ o → None ≡ o
+  trimmed_stops ps i p left o h is e whole = sym (trimmed_step ps i p left h is ∙ ap (λ q. q >>= λ units. trimmed range (ranged units left.scale) (drop (i + 1) ps)) (sym e)) ∙ whole
+
+  pub trimmed_goes_on : (ps : List Pair) (i : ℕ) (p : Pair) (left : Ranged) (units : Interval) (o : Option Interval) → i < length ps → p ≡ get_or ps i p → Some units ≡ pair_kept range false left p → trimmed range left (drop i ps) ≡ o
+      → trimmed range (ranged units left.scale) (drop (i + 1) ps) ≡ o
+  trimmed_goes_on ps i p left units o h is e whole = sym (trimmed_step ps i p left h is ∙ ap (λ q. q >>= λ units. trimmed range (ranged units left.scale) (drop (i + 1) ps)) (sym e)) ∙ whole
+
+  pub trimmed_ends : (ps : List Pair) (i : ℕ) (left : Ranged) (o : Option Interval) → length ps ≤ i → trimmed range left (drop i ps) ≡ o → Some left.units ≡ o
+  trimmed_ends ps i left o h whole = sym (ap (trimmed range left) (drop_all i ps h)) ∙ whole
+
+  pub short_pair_kept : (wanted : Bool) (a : Ranged) (p : Pair) (i : Interval) → IsShortRange a → Some i ≡ pair_kept range wanted a p → IsShortRange (ranged i a.scale)
+  short_pair_kept wanted a p i h e = short_part a i h (subst (λ o. IfSome o (λ j. IsPartOf j a.units)) (sym e) (kept_part (λ x. can_lie range wanted x p) a))
+
+  pub short_trimmed : (a : Ranged) (ps : List Pair) (i : Interval) → IsShortRange a → Some i ≡ trimmed range a ps → IsShortRange (ranged i a.scale)
+  short_trimmed a ps i h e = short_part a i h (trimmed_part a ps i h.ordered (sym e))
+
+  -- what is trimmed is smaller
+  pub smaller : (a : Ranged) (ps : List Pair) (i : Interval) → IsOrdered a → Some i ≡ trimmed range a ps → (i.low ≢ a.units.low) ⊎ (i.high ≢ a.units.high) → size_of i < size_of a.units
+  smaller a ps i h e other =
+      let part = trimmed_part a ps i h (sym e) in
+      let first = size_is i part.ordered in
+      let second = size_is a.units h in
+      elim other as (λ _. size_of i < size_of a.units) [
+        | inl low ↦ let more : (a.units.low +ℤ pos 1) ≤ℤ i.low = apart a.units.low i.low part.low low in omega (arith, ints, first, second, part.high, more)
+        | inr high ↦ let more : (i.high +ℤ pos 1) ≤ℤ a.units.high = apart i.high a.units.high part.high (λ f. high (sym f)) in omega (arith, ints, first, second, part.low, more)
+      ]
+    where
+      apart : (x y : ℤ) → x ≤ℤ y → (y ≢ x) → (x +ℤ pos 1) ≤ℤ y
+      apart x y h k = by_lt_z x y (λ l. omega (arith, ints, l)) (λ l. absurd (k (omega (arith, ints, h, l))))

@@ -9,7 +9,7 @@ use Rattle.cob_program.specs.Values.{◌>>=◌}
 use Rattle.guard_ranges.specs.Kept.{IsLeastIfAny, count_of, size_of, first_up, first_down, is_met, kept}
 
 -- how many numbers an interval has
-size_is : (i : Interval) → i.low ≤ℤ i.high → pos (size_of i) ≡ i.high -ℤ i.low +ℤ pos 1
+pub size_is : (i : Interval) → i.low ≤ℤ i.high → pos (size_of i) ≡ i.high -ℤ i.low +ℤ pos 1
 size_is i h = go (i.high -ℤ i.low +ℤ pos 1) (omega (arith, ints))
   where
     go : (z : ℤ) → pos 1 ≤ℤ z → pos (count_of z) ≡ z

@@ -14,14 +14,17 @@ use Rattle.cob_tree.specs.declared.token.Rel.{Rel}
 use Rattle.cob_data.specs.declared.layout.Sender.{Sender}
 use Rattle.cob_data.specs.declared.layout.Sender.TheVariants as sender
 use Rattle.cob_program.specs.Values.{whole_number, literal}
-use Rattle.cob_program.specs.Bounds.{Bound, exactly, literal_bound, is_small}
+use Rattle.cob_program.specs.Sum.{Sum, MkSum, group}
+use Rattle.cob_program.specs.Bounds as bound
+use Rattle.cob_program.specs.Bounds.{Bound, exactly, literal_bound, is_small, at_scale, sum_most, is_small_sum, is_small_sides}
 use Rattle.cob_program.proofs.Steps.{both, literal_within, whole_within}
 use Rattle.sum_ranges.specs.declared.ranged.Ranged.{Ranged}
 use Rattle.sum_ranges.specs.Ranged.{decimal, ranged, point}
-use Rattle.sum_ranges.specs.SumRanges.{raised, joint}
+use Rattle.sum_ranges.specs.SumRanges.{raised, joint, sum_range}
 use Rattle.sum_ranges.specs.Sizes.{IsRangeWithin}
 use Rattle.sum_ranges.specs.Working.{AreBounded}
-use Rattle.sum_ranges.proofs.Bounded.{point_within}
+use Rattle.sum_ranges.proofs.Bounded.{point_within, small_range_of, sum_range_within}
+use Rattle.sum_ranges.proofs.Rooms as room
 use Rattle.guard_ranges.specs.Members.{end_range}
 use Rattle.guard_ranges.specs.Beside.{CanRelate}
 use Rattle.guard_ranges.specs.Small.{is_short, IsShortRange, end_bound}
@@ -112,3 +115,31 @@ pub none_end : (r : Ranged) → r ≡ point (whole_number (pos 0)) → IsShortRa
 none_end r f = subst IsShortRange (sym f) (short_range (point (whole_number (pos 0))) (exactly 0) (point_within (whole_number (pos 0)) (exactly 0) (whole_within 0)) refl)
 
 pub ruleset ends = (item_end, number_end, none_end, small_of_short)
+
+-- ---- sides of relations
+
+-- a sum's own bound is small
+small_sum_bound : (bounds : ℕ → Bound) (s : Sum) → is_small_sum bounds s ≡ true → is_small (sum_most bounds s) ≡ true
+small_sum_bound bounds s e = room.small_atom_most bounds (group s) e
+
+side_raised : (r : Ranged) (b : Bound) (scale : ℕ) → IsRangeWithin r b → is_small (at_scale b scale) ≡ true → IsInterval (raised r scale)
+side_raised r b scale h e = room.raised_small r b scale (bound.raised b scale) h (omega arith) (omega (arith, at_most (at_scale b scale).most (10 ^ 37 - 1) (both (nat_le (at_scale b scale).most (10 ^ 37 - 1)) (nat_le (at_scale b scale).scale 37) e).0))
+
+pub sides_relate : (range : ℕ → Ranged) (bounds : ℕ → Bound) (a b : Sum) (x y : Ranged) → AreBounded range bounds → is_small_sides bounds a b ≡ true → Some x ≡ sum_range range a → Some y ≡ sum_range range b → CanRelate x y
+sides_relate range bounds a b x y bounded e ex ey =
+    let joint_bound = bound.joint (sum_most bounds a) (sum_most bounds b) in
+    let first = both (is_small_sum bounds a) (is_small_sum bounds b && (is_small (at_scale (sum_most bounds a) joint_bound) && is_small (at_scale (sum_most bounds b) joint_bound))) e in
+    let second = both (is_small_sum bounds b) (is_small (at_scale (sum_most bounds a) joint_bound) && is_small (at_scale (sum_most bounds b) joint_bound)) first.1 in
+    let third = both (is_small (at_scale (sum_most bounds a) joint_bound)) (is_small (at_scale (sum_most bounds b) joint_bound)) second.1 in
+    let wx = sum_range_within range bounds bounded.held a x (sym ex) in
+    let wy = sum_range_within range bounds bounded.held b y (sym ey) in
+    let scale : joint x y ≡ joint_bound = rw (wx.scale, wy.scale) refl in
+    let left = side_raised x (sum_most bounds a) joint_bound wx third.0 in
+    let right = side_raised y (sum_most bounds b) joint_bound wy third.1 in
+    record {
+      left = subst (λ s. IsInterval (raised x s)) (sym scale) left;
+      right = subst (λ s. IsInterval (raised y s)) (sym scale) right;
+      left_units = (small_range_of x (sum_most bounds a) wx (small_sum_bound bounds a first.0)).units;
+      right_units = (small_range_of y (sum_most bounds b) wy (small_sum_bound bounds b second.0)).units;
+      scale = omega (arith, scale, at_most (at_scale (sum_most bounds a) joint_bound).scale 37 (both (nat_le (at_scale (sum_most bounds a) joint_bound).most (10 ^ 37 - 1)) (nat_le (at_scale (sum_most bounds a) joint_bound).scale 37) third.0).1);
+    }

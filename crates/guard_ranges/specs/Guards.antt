@@ -3,7 +3,7 @@ use Rattle.std.specs.Prelude.{ℕ, ◌==◌, if◌then◌else◌, Bool, true, fa
 use Rattle.decimal_interval.specs.declared.bounds.Interval.{Interval}
 use Rattle.cob_tree.specs.declared.token.Rel.{Rel}
 use Rattle.cob_data.specs.declared.layout.Layout.{Layout}
-use Rattle.cob_program.specs.Sum.{Sum, MkSum, no_parts, more_parts, Part, MkPart, no_factors, more_factors, Factor, MkFactor, Atom, item}
+use Rattle.cob_program.specs.Sum.{Sum, MkSum, Parts, no_parts, more_parts, Part, MkPart, Factors, no_factors, more_factors, Factor, MkFactor, Atom, item}
 use Rattle.cob_program.specs.Values.{◌>>=◌}
 use Rattle.cob_program.specs.Logic.{Test, numbers, texts, member, numeric, always}
 use Rattle.sum_ranges.specs.declared.ranged.Ranged.{Ranged}
@@ -33,13 +33,20 @@ abbrev pub lone_factor : Factor → Option ℕ
 lone_factor (MkFactor false false atom) = lone_atom atom
 lone_factor _ = None
 
+abbrev pub lone_factors : Factors → Option ℕ
+lone_factors (more_factors f no_factors) = lone_factor f
+lone_factors _ = None
+
 abbrev pub lone_part : Part → Option ℕ
-lone_part (MkPart false (more_factors f no_factors)) = lone_factor f
+lone_part (MkPart false fs) = lone_factors fs
 lone_part _ = None
 
+abbrev pub lone_parts : Parts → Option ℕ
+lone_parts (more_parts p no_parts) = lone_part p
+lone_parts _ = None
+
 abbrev pub lone_item : Sum → Option ℕ
-lone_item (MkSum (more_parts p no_parts)) = lone_part p
-lone_item _ = None
+lone_item (MkSum ps) = lone_parts ps
 
 abbrev pub cut_of : Option ℕ → Interval → Option Cut
 cut_of None units = None

@@ -1,6 +1,7 @@
 //! What tests leave of items.
-ghost use Rattle.std.specs.Prelude.{◌≡◌, ℕ, Bool, true, List, [], Some, None, if◌then◌else◌};
+ghost use Rattle.std.specs.Prelude.{◌≡◌, ℕ, Bool, true, List, [], map, Some, None, if◌then◌else◌};
 ghost use Rattle.std.specs.List.{list_all};
+ghost use Rattle.cob_program.specs.Sum.{parts_of, factors_of};
 ghost use Rattle.cob_program.specs.SumView.{plain_sum, plain_part, plain_factor, plain_atom};
 ghost use Rattle.cob_program.specs.Logic.{member};
 ghost use Rattle.cob_program.specs.LogicView.{plain_test};
@@ -11,7 +12,7 @@ ghost use Rattle.sum_ranges.specs.Working.{AreBounded};
 ghost use Rattle.guard_ranges.specs.Members.{is_number_pair, is_number_member, member_kept};
 ghost use Rattle.guard_ranges.specs.Small.{is_small_test};
 ghost use Rattle.guard_ranges.specs.Beside.{CanRelate};
-ghost use Rattle.guard_ranges.specs.Guards.{lone_item, lone_part, lone_factor, lone_atom, unchanged, cut_of, one_cut, both_cuts, numbers_cut, sides_cut, member_cut, numeric_cut, guarded};
+ghost use Rattle.guard_ranges.specs.Guards.{lone_item, lone_parts, lone_part, lone_factors, lone_factor, lone_atom, unchanged, cut_of, one_cut, both_cuts, numbers_cut, sides_cut, member_cut, numeric_cut, guarded};
 
 use crate::beside::met;
 use crate::cuts::{Cut, Cuts};
@@ -52,15 +53,32 @@ fn lone_factor(factor: &Factor) -> Option<u32>
     lone_atom(&factor.atom)
 }
 
+fn lone_factors(factors: &[Factor]) -> Option<u32>
+    ensures { result ≡ lone_factors (factors_of (map plain_factor factors.now)) }
+{
+    if factors.len() == 1 {
+        lone_factor(&factors[0])
+    } else {
+        None
+    }
+}
+
 fn lone_part(part: &Part) -> Option<u32>
     ensures { result ≡ lone_part (plain_part part.now) }
 {
     if part.minus {
         return None;
     }
-    match part.factors.as_slice() {
-        [factor] => lone_factor(factor),
-        _ => None,
+    lone_factors(&part.factors)
+}
+
+fn lone_parts(parts: &[Part]) -> Option<u32>
+    ensures { result ≡ lone_parts (parts_of (map plain_part parts.now)) }
+{
+    if parts.len() == 1 {
+        lone_part(&parts[0])
+    } else {
+        None
     }
 }
 
@@ -68,10 +86,7 @@ fn lone_part(part: &Part) -> Option<u32>
 fn lone_item(sum: &Sum) -> Option<u32>
     ensures { result ≡ lone_item (plain_sum sum.now) }
 {
-    match sum.parts.as_slice() {
-        [part] => lone_part(part),
-        _ => None,
-    }
+    lone_parts(&sum.parts)
 }
 
 // ---- cuts
@@ -158,20 +173,14 @@ fn is_number_end(layout: &Layout, end: &Sender) -> bool
 }
 
 fn is_number_item(layout: &Layout, place: u32) -> bool
-    ensures { result ≡ is_number_form (form_at layout.now place) }
+    ensures { result ≡ is_number_form layout.now [] (form_at layout.now place) }
 {
     match layout.items.get().get(place as usize) {
-        Some(item) => is_number_form(&item.form),
         None => false,
-    }
-}
-
-fn is_number_form(form: &Form) -> bool
-    ensures { result ≡ is_number_form form.now }
-{
-    match form {
-        Form::Number { .. } => true,
-        Form::Group | Form::Text { .. } | Form::Edited { .. } => false,
+        Some(item) => match &item.form {
+            Form::Number { .. } => true,
+            Form::Group | Form::Text { .. } | Form::Edited { .. } => false,
+        },
     }
 }
 

@@ -120,7 +120,7 @@ fn trimmed<R: Ranges>(ranges: &R, item: Ranged, pairs: &[Pair]) -> Option<Interv
             Some(units) => {
                 left = Ranged {
                     units,
-                    scale: item.scale,
+                    scale: left.scale,
                 }
             }
         }
