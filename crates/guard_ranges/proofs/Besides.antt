@@ -190,11 +190,14 @@ module _ (a b : Ranged) (can : CanRelate a b) where
           of_none (z *ℤ pos (10 ^ (joint a b - a.scale)) -ℤ w *ℤ pos (10 ^ (joint a b - b.scale)))
           (omega (arith, ints, ap (λ x. x *ℤ pos (10 ^ (joint a b - a.scale))) e, swapped k (10 ^ (joint a b - b.scale)) (10 ^ (joint a b - a.scale))))))
 
+      multiple : (z w : ℤ) → Holds a.units z → Holds b.units w → (k : ℤ) × (z ≡ k *ℤ pos (10 ^ (joint a b - b.scale))) × (w ≡ k *ℤ pos (10 ^ (joint a b - a.scale)))
+          → (k : ℤ) × Holds (common s t) k × (z ≡ k *ℤ pos (10 ^ (joint a b - b.scale)))
+      multiple z w h m (k, e, f) = (k, (in_common s t k).1 ((in_a k).1 (subst (Holds a.units) e h), (in_b k).1 (subst (Holds b.units) f m)), e)
+
       from : (z : ℤ) → IsBeside is_equal a b z → (k : ℤ) × Holds (common s t) k × (z ≡ k *ℤ pos (10 ^ (joint a b - b.scale)))
       from z (h, (w, m, e)) =
           let same = none_of (z *ℤ pos (10 ^ (joint a b - a.scale)) -ℤ w *ℤ pos (10 ^ (joint a b - b.scale))) e in
-          let k = is_multiple z w (omega (arith, ints, same)) in
-          (k.0, (in_common s t k.0).1 ((in_a k.0).1 (subst (Holds a.units) k.1 h), (in_b k.0).1 (subst (Holds b.units) k.2 m)), k.1)
+          multiple z w h m (is_multiple z w (omega (arith, ints, same)))
 
 -- ---- what the calls give
 

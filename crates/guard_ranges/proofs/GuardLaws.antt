@@ -28,12 +28,12 @@ use Rattle.sum_ranges.proofs.Sound.{sum_in}
 use Rattle.sum_ranges.proofs.Narrow.{sum_below}
 use Rattle.guard_ranges.specs.declared.cuts.Cut.{Cut}
 use Rattle.guard_ranges.specs.declared.cuts.Cuts.{Cuts}
-use Rattle.guard_ranges.specs.Kept.{met, kept_in}
+use Rattle.guard_ranges.specs.Kept.{met, kept_in, UnitsBelow, IsPartOf}
 use Rattle.guard_ranges.specs.Sides.{stands, left_kept, right_kept}
 use Rattle.guard_ranges.specs.Members.{is_number_member, can_be, member_kept}
 use Rattle.guard_ranges.specs.Guards.{cut, cuts, unchanged, lone_item, cut_of, one_cut, both_cuts, numbers_cut, member_cut, numeric_cut, guarded}
 use Rattle.guard_ranges.specs.Meaning.{ItemsHold, CutHolds, CutsHold, CutFits, CutsFit, CutNarrower, SideBelow, CutsBelow, Knows}
-use Rattle.guard_ranges.proofs.Least.{kept_holds, kept_part, and_then, if_then, UnitsBelow, IsPartOf, met_holds, met_part, met_below}
+use Rattle.guard_ranges.proofs.Least.{kept_holds, kept_part, and_then, if_then, met_holds, met_part, met_below}
 use Rattle.guard_ranges.proofs.Relations.{left_holds, right_holds, left_part, right_part, left_below, right_below}
 use Rattle.guard_ranges.proofs.Lone.{lone, is_lone, lone_value, lone_range}
 use Rattle.guard_ranges.proofs.Agreement.{numeric_sum}

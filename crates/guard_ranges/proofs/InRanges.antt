@@ -22,10 +22,10 @@ use Rattle.sum_ranges.specs.declared.ranged.Ranged.{Ranged}
 use Rattle.sum_ranges.specs.Ranged.{point, IsIn, IsNarrower, IsBelow}
 use Rattle.sum_ranges.proofs.Least.{point_in, in_wider, range_below}
 use Rattle.sum_ranges.proofs.Narrow.{point_narrower}
-use Rattle.guard_ranges.specs.Kept.{some_in}
+use Rattle.guard_ranges.specs.Kept.{some_in, UnitsBelow}
 use Rattle.guard_ranges.specs.Sides.{is_wanted}
 use Rattle.guard_ranges.specs.Members.{is_number_pair, is_number_member, is_within, is_same_item, end_range, can_lie, can_be, member_kept}
-use Rattle.guard_ranges.proofs.Least.{some_of, some_rises, kept_range, kept_is_range, UnitsBelow, units_below}
+use Rattle.guard_ranges.proofs.Least.{some_of, some_rises, kept_range, kept_is_range, units_below}
 
 -- ---- what is told of a result
 

@@ -12,7 +12,7 @@ use Rattle.sum_ranges.specs.declared.ranged.Ranged.{Ranged}
 use Rattle.sum_ranges.specs.Ranged.{decimal, ranged, IsIn, IsNarrower, IsBelow}
 use Rattle.sum_ranges.specs.Results.{IsRangeOf}
 use Rattle.sum_ranges.proofs.Least.{in_wider}
-use Rattle.guard_ranges.specs.Kept.{kept, some_in, kept_in, between, met, IsLeastIfAny}
+use Rattle.guard_ranges.specs.Kept.{kept, some_in, kept_in, between, met, IsLeastIfAny, IsPartOf, UnitsBelow}
 use Rattle.guard_ranges.proofs.Searches.{Passes, kept_is, met_of_number, number_of_met}
 
 -- ---- some number of a range
@@ -76,12 +76,6 @@ kept_holds test a x h t = go (kept_in test a) (kept_least test a)
     go None k = k x.units passes
     go (Some i) k = k.holds x.units passes
 
--- some numbers of another interval, and no others
-pub record IsPartOf (i whole : Interval) : Type 0 where
-  pub low : whole.low ≤ℤ i.low
-  pub ordered : i.low ≤ℤ i.high
-  pub high : i.high ≤ℤ whole.high
-
 pub kept_part : (test : Scaled → Bool) (a : Ranged) → IfSome (kept_in test a) (λ i. IsPartOf i a.units)
 kept_part test a = go (kept_in test a) (kept_least test a)
   where
@@ -98,12 +92,6 @@ and_then P Q (Some a) next h k = k a h
 pub if_then : {A B : Type 0} (P : A → Type 0) (Q : B → Type 0) (o : Option A) (next : A → Option B) → IfSome o P → ((a : A) → P a → IfSome (next a) Q) → IfSome (o >>= next) Q
 if_then P Q None next h k = tt
 if_then P Q (Some a) next h k = k a h
-
--- one interval within another, or none
-abbrev pub UnitsBelow : Option Interval → Option Interval → Type 0
-UnitsBelow None p = Unit {0}
-UnitsBelow (Some i) None = ⊥
-UnitsBelow (Some i) (Some j) = (j.low ≤ℤ i.low) × (i.high ≤ℤ j.high)
 
 pub units_below : (o p : Option Interval) (s t : ℕ) → IsBelow (option_map (λ i. ranged i s) o) (option_map (λ i. ranged i t) p) → UnitsBelow o p
 units_below None p s t h = tt

@@ -13,3 +13,4 @@ pub mod MemberCode
 pub mod CountCode
 pub mod SideLists
 pub mod Examples
+pub mod CountLaws

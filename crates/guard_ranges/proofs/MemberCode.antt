@@ -18,13 +18,13 @@ use Rattle.cob_runs.specs.Deciding.{Order, below, equal, above, holds, order_of,
 use Rattle.sum_ranges.specs.declared.ranged.Ranged.{Ranged}
 use Rattle.sum_ranges.specs.Ranged.{decimal, ranged, IsIn, IsOrdered}
 use Rattle.sum_ranges.specs.SumRanges.{joint}
-use Rattle.guard_ranges.specs.Kept.{size_of, some_in, kept_in, IsLeastIfAny}
+use Rattle.guard_ranges.specs.Kept.{size_of, some_in, kept_in, IsLeastIfAny, IsPartOf}
 use Rattle.guard_ranges.specs.Sides.{is_wanted, stands, left_kept}
 use Rattle.guard_ranges.specs.Members.{is_within, is_same_item, end_range, can_lie, can_be}
 use Rattle.guard_ranges.specs.Small.{IsShortRange}
 use Rattle.guard_ranges.specs.Trimming.{within_kept, outside_kept, pair_kept, pairs_kept, trimmed}
 use Rattle.guard_ranges.proofs.Searches.{Passes, size_is}
-use Rattle.guard_ranges.proofs.Least.{in_range, some_of, one_of_some, kept_least, kept_part, IsPartOf}
+use Rattle.guard_ranges.proofs.Least.{in_range, some_of, one_of_some, kept_least, kept_part}
 use Rattle.guard_ranges.proofs.Short.{short_part}
 use Rattle.guard_ranges.proofs.Besides.{least_same, one_least, either_least}
 

@@ -9,10 +9,10 @@ use Rattle.sum_ranges.specs.declared.ranged.Ranged.{Ranged}
 use Rattle.sum_ranges.specs.Ranged.{IsIn, IsNarrower, IsBelow}
 use Rattle.sum_ranges.specs.Results.{IsRangeOf}
 use Rattle.sum_ranges.proofs.Least.{in_wider, range_below}
-use Rattle.guard_ranges.specs.Kept.{some_in}
+use Rattle.guard_ranges.specs.Kept.{some_in, UnitsBelow, IsPartOf}
 use Rattle.guard_ranges.specs.Sides.{stands, left_kept, right_kept}
 use Rattle.guard_ranges.specs.Meaning.{IsLeftOf, IsRightOf}
-use Rattle.guard_ranges.proofs.Least.{some_of, one_of_some, kept_range, kept_is_range, kept_holds, kept_part, UnitsBelow, units_below, IsPartOf}
+use Rattle.guard_ranges.proofs.Least.{some_of, one_of_some, kept_range, kept_is_range, kept_holds, kept_part, units_below}
 
 module _ (r : Rel) (wanted : Bool) where
   pub left_least : (a b : Ranged) → IsRangeOf (IsLeftOf r wanted a b) (kept_range (λ x. some_in (λ y. stands r wanted x y) b) a)

@@ -25,11 +25,11 @@ use Rattle.sum_ranges.specs.Sizes.{IsRangeWithin}
 use Rattle.sum_ranges.specs.Working.{AreBounded}
 use Rattle.sum_ranges.proofs.Bounded.{point_within, small_range_of, sum_range_within}
 use Rattle.sum_ranges.proofs.Rooms as room
+use Rattle.guard_ranges.specs.Kept.{IsPartOf}
 use Rattle.guard_ranges.specs.Members.{end_range}
 use Rattle.guard_ranges.specs.Beside.{CanRelate}
 use Rattle.guard_ranges.specs.Small.{is_short, IsShortRange, end_bound}
 use Rattle.guard_ranges.specs.Sides.{left_kept}
-use Rattle.guard_ranges.proofs.Least.{IsPartOf}
 use Rattle.guard_ranges.proofs.Relations.{left_part}
 
 at_most : (a b : ℕ) → nat_le a b ≡ true → a ≤ b

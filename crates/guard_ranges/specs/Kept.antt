@@ -1,5 +1,5 @@
 -- The least interval of those numbers of an interval for which a test is true.
-use Rattle.std.specs.Prelude.{ℕ, zero, suc, if◌then◌else◌, Bool, is_some, ℤ, pos, negsuc, ◌+ℤ◌, ◌-ℤ◌, int_le, Option, Some, None}
+use Rattle.std.specs.Prelude.{ℕ, zero, suc, if◌then◌else◌, Bool, is_some, ℤ, pos, negsuc, ◌+ℤ◌, ◌-ℤ◌, ◌≤ℤ◌, int_le, Option, Some, None}
 use Rattle.std.specs.Int.{int_max, int_min}
 use Rattle.dec_num.specs.declared.types.Scaled.{Scaled}
 use Rattle.decimal_interval.specs.declared.bounds.Interval.{Interval}
@@ -59,3 +59,15 @@ met a b = between (int_max a.low b.low) (int_min a.high b.high)
 abbrev pub IsLeastIfAny : (ℤ → Type 0) → Option Interval → Type 0
 IsLeastIfAny R None = (z : ℤ) → R z → ⊥
 IsLeastIfAny R (Some i) = IsLeast R i
+
+-- some numbers of the whole, and no others
+pub record IsPartOf (i whole : Interval) : Type 0 where
+  pub low : whole.low ≤ℤ i.low
+  pub ordered : i.low ≤ℤ i.high
+  pub high : i.high ≤ℤ whole.high
+
+-- one interval within another, or nothing
+abbrev pub UnitsBelow : Option Interval → Option Interval → Type 0
+UnitsBelow None p = Unit {0}
+UnitsBelow (Some i) None = ⊥
+UnitsBelow (Some i) (Some j) = (j.low ≤ℤ i.low) × (i.high ≤ℤ j.high)

@@ -1,7 +1,6 @@
 -- What cuts of items say of storages.
 use Rattle.std.specs.Prelude.{◌≡◌, ℕ, ◌≤ℤ◌, Bool, true, List, Option, Some, None, is_some, IfSome}
 use Rattle.dec_num.specs.declared.types.Scaled.{Scaled}
-use Rattle.decimal_interval.specs.declared.bounds.Interval.{Interval}
 use Rattle.cob_tree.specs.declared.token.Rel.{Rel}
 use Rattle.cob_data.specs.declared.layout.Layout.{Layout}
 use Rattle.cob_runs.specs.Contents.{number_at}
@@ -9,6 +8,7 @@ use Rattle.sum_ranges.specs.declared.ranged.Ranged.{Ranged}
 use Rattle.sum_ranges.specs.Ranged.{ranged, IsIn, IsOrdered, IsNarrower}
 use Rattle.guard_ranges.specs.declared.cuts.Cut.{Cut}
 use Rattle.guard_ranges.specs.declared.cuts.Cuts.{Cuts}
+use Rattle.guard_ranges.specs.Kept.{IsPartOf}
 use Rattle.guard_ranges.specs.Sides.{stands}
 
 -- ---- what a relation leaves, as sets
@@ -40,10 +40,8 @@ CutsHold l range storage c = IfSome c.left (CutHolds l range storage) × IfSome 
 -- ---- cuts
 
 -- some of the item's numbers, and no others
-pub record CutFits (range : ℕ → Ranged) (c : Cut) : Type 0 where
-  pub low : (range c.item).units.low ≤ℤ c.units.low
-  pub ordered : c.units.low ≤ℤ c.units.high
-  pub high : c.units.high ≤ℤ (range c.item).units.high
+abbrev pub CutFits : (ℕ → Ranged) → Cut → Type 0
+CutFits range c = IsPartOf c.units (range c.item).units
 
 abbrev pub CutsFit : (ℕ → Ranged) → Cuts → Type 0
 CutsFit range c = IfSome c.left (CutFits range) × IfSome c.right (CutFits range)

@@ -1,5 +1,5 @@
 //! What follows for all tests.
-ghost use Rattle.std.specs.Prelude.{◌≡◌, ℕ, Bool, true, Some, Ok, List, IfSome, IsSomeAnd};
+ghost use Rattle.std.specs.Prelude.{◌≡◌, ℕ, ℤ, ◌≤ℤ◌, Bool, true, Some, Ok, List, IfSome, IsSomeAnd};
 ghost use Rattle.std.specs.Option.{option_map};
 ghost use Rattle.cob_tree.specs.declared.token.Rel.{Rel};
 ghost use Rattle.cob_data.specs.declared.layout.Layout.{Layout};
@@ -8,6 +8,11 @@ ghost use Rattle.cob_runs.specs.Deciding.{test_holds};
 ghost use Rattle.sum_ranges.specs.declared.ranged.Ranged.{Ranged};
 ghost use Rattle.sum_ranges.specs.Ranged.{ranged, IsOrdered};
 ghost use Rattle.sum_ranges.specs.Results.{IsRangeOf};
+ghost use Rattle.decimal_interval.specs.declared.bounds.Interval.{Interval};
+ghost use Rattle.decimal_interval.specs.Bounds.{Holds};
+ghost use Rattle.cob_edge_parts.specs.Meaning.{is_positive};
+ghost use Rattle.guard_ranges.specs.Kept.{IsPartOf, UnitsBelow};
+ghost use Rattle.guard_ranges.specs.Counts.{count_kept};
 ghost use Rattle.guard_ranges.specs.Sides.{left_kept, right_kept};
 ghost use Rattle.guard_ranges.specs.Guards.{guarded};
 ghost use Rattle.guard_ranges.specs.Meaning.{IsLeftOf, IsRightOf, ItemsHold, CutsHold, CutsFit, CutsBelow, Knows};
@@ -35,4 +40,12 @@ pub fn guards_rise()
 pub fn cuts_fit()
     ensures { (l : Layout) (range : ℕ → Ranged) (is_numeric : ℕ → Bool) → ((place : ℕ) → IsOrdered (range place)) →
         (t : Test) (wanted : Bool) → IfSome (guarded l range is_numeric t wanted) (CutsFit range) }
+{}
+
+/// A law: the numbers of a counter for which its test has an outcome lie in what the outcome leaves; more is left of a
+/// wider interval, and nothing else than it had.
+pub fn counts_are_cut()
+    ensures sound { (wanted : Bool) (i : Interval) (v : ℤ) → Holds i v → is_positive v ≡ wanted → IsSomeAnd (count_kept wanted i) (λ j. Holds j v) }
+    ensures rises { (wanted : Bool) (i j : Interval) → j.low ≤ℤ i.low → i.high ≤ℤ j.high → UnitsBelow (count_kept wanted i) (count_kept wanted j) }
+    ensures fits { (wanted : Bool) (i : Interval) → IfSome (count_kept wanted i) (λ j. IsPartOf j i) }
 {}
