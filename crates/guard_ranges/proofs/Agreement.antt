@@ -1,7 +1,6 @@
 -- What a sum is worth rests on its items alone.
-use Rattle.std.proofs.Common.{◌≡◌, ℕ, ◌&&◌, Bool, true, false, List, [], ◌∷◌, ◌++◌, Option, Some, None, pos, refl, ap, ◌∙◌}
+use Rattle.std.proofs.Common.{◌≡◌, ℕ, true, List, [], ◌∷◌, ◌++◌, Option, Some, None, pos, refl, ap, ◌∙◌}
 use Rattle.std.specs.Prelude.{is_some, unwrap_or}
-use Rattle.std.specs.List.{list_all}
 use Rattle.dec_num.specs.declared.types.Scaled.{Scaled}
 use Rattle.cob_data.specs.declared.layout.Layout.{Layout}
 use Rattle.cob_program.specs.Sum.{Sum, MkSum, Parts, no_parts, more_parts, MkPart, Factors, no_factors, more_factors, MkFactor, Atom, item, number, group}

@@ -1,19 +1,18 @@
 -- What orders leave of a range.
-use Rattle.std.proofs.Common.{◌≡◌, ℕ, zero, suc, ◌*◌, ◌-◌, ◌^◌, ◌≤◌, ◌<◌, max, ◌⊎◌, inl, inr, ◌&&◌, ◌||◌, ℤ, pos, negsuc, neg_ℤ, ◌+ℤ◌, ◌-ℤ◌, ◌*ℤ◌, ◌≤ℤ◌, Bool, true, false, Option, Some, None, refl, sym, ap, subst, ◌∙◌, arith}
-use Rattle.std.specs.Prelude.{int_le, if◌then◌else◌, unsigned_abs, ◌↔◌}
-use Rattle.std.specs.Int.{int_max, int_min}
-use Rattle.std.proofs.lemmas.Int.{ints, clamps, by_lt_z}
+use Rattle.std.proofs.Common.{◌≡◌, ℕ, zero, suc, ◌*◌, ◌-◌, ◌^◌, max, ◌⊎◌, inl, inr, ◌&&◌, ◌||◌, ℤ, pos, negsuc, neg_ℤ, ◌+ℤ◌, ◌-ℤ◌, ◌*ℤ◌, ◌≤ℤ◌, Bool, true, false, Option, Some, None, refl, sym, ap, subst, ◌∙◌, arith}
+use Rattle.std.specs.Prelude.{int_le, if◌then◌else◌, ◌↔◌}
+use Rattle.std.proofs.lemmas.Int.{ints, clamps}
 use Rattle.std.proofs.Math.IntN.{pos-*ℤ-pos, negsuc-*ℤ-pos}
 use Rattle.decimal_interval.specs.declared.bounds.Interval.{Interval}
-use Rattle.decimal_interval.specs.Bounds.{Holds, IsSmall, IsInterval, IsLeast}
-use Rattle.decimal_interval.specs.Corners.{interval, joined, either_of}
+use Rattle.decimal_interval.specs.Bounds.{Holds, IsInterval, IsLeast}
+use Rattle.decimal_interval.specs.Corners.{interval, either_of}
 use Rattle.decimal_interval.proofs.Ends.{times_grows, min_is_one, max_is_one, parts_of_product}
 use Rattle.cob_runs.specs.Deciding.{Order, below, equal, above, order_of, number_order}
 use Rattle.sum_ranges.specs.declared.ranged.Ranged.{Ranged}
-use Rattle.sum_ranges.specs.Ranged.{decimal, ranged}
+use Rattle.sum_ranges.specs.Ranged.{decimal}
 use Rattle.sum_ranges.specs.SumRanges.{raised, joint}
 use Rattle.guard_ranges.specs.declared.beside.Orders.{Orders}
-use Rattle.guard_ranges.specs.Kept.{between, IsLeastIfAny}
+use Rattle.guard_ranges.specs.Kept.{IsLeastIfAny}
 use Rattle.guard_ranges.proofs.Least.{le_test, test_le}
 use Rattle.guard_ranges.specs.Beside.{IsBeside, CanRelate, is_below, is_equal, is_above, allows, if_any, common, under, over}
 
@@ -137,9 +136,14 @@ module _ (a b : Ranged) (can : CanRelate a b) where
       to : (z : ℤ) → Holds (common a.units s) z → IsBeside is_below a b z
       to z h =
           let both = (in_common a.units s z).0 h in
-          let short = (is z).0 both.1 in
-          (both.0, (b.units.high, (can.right_units.ordered, omega (arith, ints)),
-          of_negative (z *ℤ pos (10 ^ (joint a b - a.scale)) -ℤ b.units.high *ℤ pos (10 ^ (joint a b - b.scale))) (omega (arith, ints, short.1))))
+          let short = (is z).0 both.1 in (
+            both.0,
+            (
+              b.units.high,
+              (can.right_units.ordered, omega (arith, ints)),
+              of_negative (z *ℤ pos (10 ^ (joint a b - a.scale)) -ℤ b.units.high *ℤ pos (10 ^ (joint a b - b.scale))) (omega (arith, ints, short.1)),
+            ),
+          )
 
       from : (z : ℤ) → IsBeside is_below a b z → Holds (common a.units s) z
       from z (h, (w, k, e)) =
@@ -154,9 +158,14 @@ module _ (a b : Ranged) (can : CanRelate a b) where
       to : (z : ℤ) → Holds (common a.units s) z → IsBeside is_above a b z
       to z h =
           let both = (in_common a.units s z).0 h in
-          let long = (is z).0 both.1 in
-          (both.0, (b.units.low, (omega (arith, ints), can.right_units.ordered),
-          of_positive (z *ℤ pos (10 ^ (joint a b - a.scale)) -ℤ b.units.low *ℤ pos (10 ^ (joint a b - b.scale))) (omega (arith, ints, long.0))))
+          let long = (is z).0 both.1 in (
+            both.0,
+            (
+              b.units.low,
+              (omega (arith, ints), can.right_units.ordered),
+              of_positive (z *ℤ pos (10 ^ (joint a b - a.scale)) -ℤ b.units.low *ℤ pos (10 ^ (joint a b - b.scale))) (omega (arith, ints, long.0)),
+            ),
+          )
 
       from : (z : ℤ) → IsBeside is_above a b z → Holds (common a.units s) z
       from z (h, (w, k, e)) =
@@ -168,9 +177,9 @@ module _ (a b : Ranged) (can : CanRelate a b) where
   -- one of the two scales is the greater one
   is_multiple : (z w : ℤ) → (z *ℤ pos (10 ^ (joint a b - a.scale))) ≡ (w *ℤ pos (10 ^ (joint a b - b.scale))) → (k : ℤ) × (z ≡ k *ℤ pos (10 ^ (joint a b - b.scale))) × (w ≡ k *ℤ pos (10 ^ (joint a b - a.scale)))
   is_multiple z w e = elim (greater a.scale b.scale) as (λ _. (k : ℤ) × (z ≡ k *ℤ pos (10 ^ (joint a b - b.scale))) × (w ≡ k *ℤ pos (10 ^ (joint a b - a.scale)))) [
-      | inl f ↦ (w, sym (once z (joint a b - a.scale) f) ∙ e, sym (once w (joint a b - a.scale) f))
-      | inr f ↦ (z, sym (once z (joint a b - b.scale) f), sym (once w (joint a b - b.scale) f) ∙ sym e)
-    ]
+    | inl f ↦ (w, sym (once z (joint a b - a.scale) f) ∙ e, sym (once w (joint a b - a.scale) f))
+    | inr f ↦ (z, sym (once z (joint a b - b.scale) f), sym (once w (joint a b - b.scale) f) ∙ sym e)
+  ]
     where
       greater : (m n : ℕ) → (max m n - m ≡ 0) ⊎ (max m n - n ≡ 0)
       greater m n = grind arith
@@ -185,10 +194,15 @@ module _ (a b : Ranged) (can : CanRelate a b) where
       to : (z : ℤ) → (k : ℤ) × Holds (common s t) k × (z ≡ k *ℤ pos (10 ^ (joint a b - b.scale))) → IsBeside is_equal a b z
       to z (k, m, e) =
           let both = (in_common s t k).0 m in
-          let w = k *ℤ pos (10 ^ (joint a b - a.scale)) in
-          (subst (Holds a.units) (sym e) ((in_a k).0 both.0), (w, (in_b k).0 both.1,
-          of_none (z *ℤ pos (10 ^ (joint a b - a.scale)) -ℤ w *ℤ pos (10 ^ (joint a b - b.scale)))
-          (omega (arith, ints, ap (λ x. x *ℤ pos (10 ^ (joint a b - a.scale))) e, swapped k (10 ^ (joint a b - b.scale)) (10 ^ (joint a b - a.scale))))))
+          let w = k *ℤ pos (10 ^ (joint a b - a.scale)) in (
+            subst (Holds a.units) (sym e) ((in_a k).0 both.0),
+            (
+              w,
+              (in_b k).0 both.1,
+              of_none (z *ℤ pos (10 ^ (joint a b - a.scale)) -ℤ w *ℤ pos (10 ^ (joint a b - b.scale)))
+                  (omega (arith, ints, ap (λ x. x *ℤ pos (10 ^ (joint a b - a.scale))) e, swapped k (10 ^ (joint a b - b.scale)) (10 ^ (joint a b - a.scale)))),
+            ),
+          )
 
       multiple : (z w : ℤ) → Holds a.units z → Holds b.units w → (k : ℤ) × (z ≡ k *ℤ pos (10 ^ (joint a b - b.scale))) × (w ≡ k *ℤ pos (10 ^ (joint a b - a.scale)))
           → (k : ℤ) × Holds (common s t) k × (z ≡ k *ℤ pos (10 ^ (joint a b - b.scale)))

@@ -1,5 +1,5 @@
 -- Quotients of whole numbers, cut downwards.
-use Rattle.std.proofs.Common.{◌≡◌, ℕ, zero, suc, ◌+◌, ◌*◌, ◌/◌, ◌%◌, ◌≤◌, ◌<◌, ℤ, pos, negsuc, ◌+ℤ◌, ◌-ℤ◌, ◌*ℤ◌, ◌≤ℤ◌, refl, sym, ap, subst, arith}
+use Rattle.std.proofs.Common.{◌≡◌, ℕ, zero, suc, ◌+◌, ◌*◌, ◌/◌, ◌%◌, ◌≤◌, ◌<◌, ℤ, pos, negsuc, ◌+ℤ◌, ◌-ℤ◌, ◌*ℤ◌, ◌≤ℤ◌, refl, sym, subst, arith}
 use Rattle.std.specs.Prelude.{unsigned_abs, ◌↔◌}
 use Rattle.std.specs.Int.{int_div_euclid}
 use Rattle.std.proofs.lemmas.Int.{ints, by_lt_z}
@@ -18,7 +18,6 @@ quotient_next a d h = let rest : a % d < d = mod-lt a h in omega (arith, div-add
 
 quotient_size : (a d : ℕ) → 1 ≤ d → a / d ≤ a
 quotient_size a d h = omega (arith, quotient_low a d, mul-le (a / d) 1 (a / d) d (omega arith) h)
-
 
 pub floor_low : (x d r : ℤ) → pos 1 ≤ℤ d → r ≡ int_div_euclid x d → (r *ℤ d) ≤ℤ x
 floor_low (pos a) (pos d) r h e = rw e (omega (arith, ints, quotient_low a d))

@@ -1,22 +1,18 @@
 -- What tests leave, worked by hand.
-use Rattle.std.proofs.Common.{◌≡◌, ℕ, zero, suc, ℤ, pos, negsuc, Bool, true, false, List, [], ◌∷◌, Option, Some, None, refl}
+use Rattle.std.proofs.Common.{◌≡◌, ℕ, zero, suc, ℤ, pos, Bool, true, false, [], ◌∷◌, Option, Some, None, refl}
 use Rattle.std.specs.Prelude.{neg_ℤ}
 use Rattle.decimal_interval.specs.declared.bounds.Interval.{Interval}
 use Rattle.decimal_interval.specs.Corners.{interval}
-use Rattle.cob_tree.specs.declared.token.Num.{Num}
 use Rattle.cob_tree.specs.declared.token.Rel.TheVariants as rel
 use Rattle.cob_data.specs.declared.layout.Pair.{Pair}
 use Rattle.cob_data.specs.declared.layout.Sender.{Sender}
 use Rattle.cob_data.specs.declared.layout.Sender.TheVariants as sender
-use Rattle.cob_program.specs.Sum.{Sum, MkSum, parts_of, Part, MkPart, factors_of, Factor, MkFactor, Atom, item, number, group}
-use Rattle.cob_program.specs.Logic.{numbers, texts, member, numeric, always}
+use Rattle.cob_program.specs.Sum.{Sum, MkSum, parts_of, MkPart, factors_of, MkFactor, Atom, item}
 use Rattle.sum_ranges.specs.declared.ranged.Ranged.{Ranged}
 use Rattle.sum_ranges.specs.Ranged.{ranged}
-use Rattle.guard_ranges.specs.declared.cuts.Cuts.{Cuts}
-use Rattle.guard_ranges.specs.Kept.{met}
 use Rattle.guard_ranges.specs.Sides.{left_kept, right_kept}
 use Rattle.guard_ranges.specs.Members.{member_kept}
-use Rattle.guard_ranges.specs.Guards.{cut, cuts, unchanged, lone_item, numbers_cut, member_cut, numeric_cut}
+use Rattle.guard_ranges.specs.Guards.{cut, cuts, unchanged, numbers_cut, member_cut, numeric_cut}
 use Rattle.guard_ranges.specs.Counts.{count_kept}
 
 abbrev from : ℤ → ℤ → ℕ → Ranged

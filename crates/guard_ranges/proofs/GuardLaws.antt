@@ -1,12 +1,10 @@
 -- What tests leave of items: sound, rising, and within what items were.
-use Rattle.std.proofs.Common.{◌≡◌, ℕ, ◌&&◌, ◌==◌, ℤ, ◌≤ℤ◌, Bool, true, false, List, [], Option, Some, None, Ok, Err, pos, refl, sym, ap, subst, ◌∙◌, arith}
-use Rattle.std.specs.Prelude.{if◌then◌else◌, is_some, unwrap_or, option_map, IsSomeAnd, IfSome, Result}
+use Rattle.std.proofs.Common.{◌≡◌, ℕ, ◌&&◌, ◌==◌, ℤ, ◌≤ℤ◌, Bool, true, false, List, Option, Some, None, Ok, Err, pos, refl, sym, ap, subst, ◌∙◌, arith}
+use Rattle.std.specs.Prelude.{if◌then◌else◌, is_some, unwrap_or, option_map, IsSomeAnd, IfSome}
 use Rattle.std.proofs.lemmas.Int.{ints}
-use Rattle.std.proofs.lemmas.Bool.Decides.{nat_tests}
 use Rattle.dec_num.specs.declared.types.Scaled.{Scaled}
 use Rattle.decimal_interval.specs.declared.bounds.Interval.{Interval}
 use Rattle.decimal_interval.specs.Bounds.{Holds}
-use Rattle.cob_tree.specs.declared.fault.Kind.{Kind}
 use Rattle.cob_tree.specs.declared.fault.Kind.TheVariants as kind
 use Rattle.cob_tree.specs.declared.token.Rel.{Rel}
 use Rattle.cob_data.specs.declared.layout.Layout.{Layout}
@@ -15,32 +13,29 @@ use Rattle.num_bytes.specs.Reading.{contents_value}
 use Rattle.cob_program.specs.Sum.{Sum}
 use Rattle.cob_program.specs.Values.{◌>>=◌, whole_number, sum_value}
 use Rattle.cob_program.specs.Logic.{Test, numbers, texts, member, numeric, always}
-use Rattle.cob_program.proofs.Steps.{both, some_same}
+use Rattle.cob_program.proofs.Steps.{some_same}
 use Rattle.cob_runs.specs.Contents.{form_at, bytes_at, scale_of, scaled_by, number_at}
 use Rattle.cob_runs.specs.Faults as fault
 use Rattle.cob_runs.specs.Faults.{or_fault}
 use Rattle.cob_runs.specs.Computing.{items_in, are_numeric, worth}
 use Rattle.cob_runs.specs.Deciding.{holds, number_order, decided, compared_numbers, test_holds}
 use Rattle.sum_ranges.specs.declared.ranged.Ranged.{Ranged}
-use Rattle.sum_ranges.specs.Ranged.{decimal, ranged, IsIn, IsOrdered, IsNarrower, IsBelow}
+use Rattle.sum_ranges.specs.Ranged.{decimal, IsIn, IsOrdered, IsNarrower, IsBelow}
 use Rattle.sum_ranges.specs.SumRanges.{sum_range}
 use Rattle.sum_ranges.proofs.Sound.{sum_in}
 use Rattle.sum_ranges.proofs.Narrow.{sum_below}
 use Rattle.guard_ranges.specs.declared.cuts.Cut.{Cut}
 use Rattle.guard_ranges.specs.declared.cuts.Cuts.{Cuts}
-use Rattle.guard_ranges.specs.Kept.{met, kept_in, UnitsBelow, IsPartOf}
+use Rattle.guard_ranges.specs.Kept.{met, UnitsBelow, IsPartOf}
 use Rattle.guard_ranges.specs.Sides.{stands, left_kept, right_kept}
 use Rattle.guard_ranges.specs.Members.{is_number_member, can_be, member_kept}
 use Rattle.guard_ranges.specs.Guards.{cut, cuts, unchanged, lone_item, cut_of, one_cut, both_cuts, numbers_cut, member_cut, numeric_cut, guarded}
-use Rattle.guard_ranges.specs.Meaning.{ItemsHold, CutHolds, CutsHold, CutFits, CutsFit, CutNarrower, SideBelow, CutsBelow, Knows}
+use Rattle.guard_ranges.specs.Meaning.{ItemsHold, CutHolds, CutsHold, CutFits, CutsFit, SideBelow, CutsBelow, Knows}
 use Rattle.guard_ranges.proofs.Least.{kept_holds, kept_part, and_then, if_then, met_holds, met_part, met_below}
 use Rattle.guard_ranges.proofs.Relations.{left_holds, right_holds, left_part, right_part, left_below, right_below}
 use Rattle.guard_ranges.proofs.Lone.{lone, is_lone, lone_value, lone_range}
 use Rattle.guard_ranges.proofs.Agreement.{numeric_sum}
-use Rattle.guard_ranges.proofs.InRanges.{ok_same, ok_bound, ok_there, wanted_is, member_number, member_below}
-
-same_place : (a b : ℕ) → (a == b) ≡ true → a ≡ b
-same_place a b e = grind (arith, nat_tests)
+use Rattle.guard_ranges.proofs.InRanges.{same_place, ok_same, ok_bound, ok_there, wanted_is, member_number, member_below}
 
 -- ---- a test that has an outcome
 

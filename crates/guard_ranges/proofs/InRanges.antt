@@ -1,6 +1,6 @@
 -- Numbers in ranges of values: condition-names and WHEN.
-use Rattle.std.proofs.Common.{◌≡◌, ℕ, ◌&&◌, ◌||◌, ◌==◌, Bool, true, false, List, [], ◌∷◌, Option, Some, None, Ok, Err, pos, refl, sym, ap, subst, ◌∙◌, arith}
-use Rattle.std.specs.Prelude.{not, if◌then◌else◌, IsSomeAnd, IfSome, Result}
+use Rattle.std.proofs.Common.{◌≡◌, ℕ, ◌&&◌, ◌||◌, ◌==◌, ◌⊎◌, inl, inr, Bool, true, false, List, [], ◌∷◌, Option, Some, None, Ok, Err, pos, refl, sym, ap, subst, ◌∙◌, arith}
+use Rattle.std.specs.Prelude.{if◌then◌else◌, Result}
 use Rattle.std.specs.List.{list_all, list_any}
 use Rattle.std.proofs.lemmas.Bool.Decides.{nat_tests}
 use Rattle.dec_num.specs.declared.types.Scaled.{Scaled}
@@ -19,13 +19,15 @@ use Rattle.cob_runs.specs.Faults.{◌>>=◌, or_fault}
 use Rattle.cob_runs.specs.Moves.{number_of}
 use Rattle.cob_runs.specs.Deciding.{holds, number_order, is_number_end, compared, compared_values, in_pair, in_some}
 use Rattle.sum_ranges.specs.declared.ranged.Ranged.{Ranged}
-use Rattle.sum_ranges.specs.Ranged.{point, IsIn, IsNarrower, IsBelow}
+use Rattle.sum_ranges.specs.Ranged.{point, IsIn, IsNarrower}
+use Rattle.sum_ranges.specs.Results.{IsRangeOf}
 use Rattle.sum_ranges.proofs.Least.{point_in, in_wider, range_below}
 use Rattle.sum_ranges.proofs.Narrow.{point_narrower}
 use Rattle.guard_ranges.specs.Kept.{some_in, UnitsBelow}
 use Rattle.guard_ranges.specs.Sides.{is_wanted}
 use Rattle.guard_ranges.specs.Members.{is_number_pair, is_number_member, is_within, is_same_item, end_range, can_lie, can_be, member_kept}
-use Rattle.guard_ranges.proofs.Least.{some_of, some_rises, kept_range, kept_is_range, units_below}
+use Rattle.guard_ranges.specs.Meaning.{LiesSo, CanBe, IsMemberOf}
+use Rattle.guard_ranges.proofs.Least.{some_of, one_of_some, some_rises, kept_range, kept_is_range, units_below}
 
 -- ---- what is told of a result
 
@@ -57,6 +59,80 @@ pub wanted_is : (wanted outcome : Bool) → outcome ≡ wanted → is_wanted wan
 wanted_is true outcome e = e
 wanted_is false true e = absurd cc
 wanted_is false false e = refl
+
+pub same_place : (p q : ℕ) → (p == q) ≡ true → p ≡ q
+same_place p q s = grind (arith, nat_tests)
+
+module _ (range : ℕ → Ranged) (v : Scaled) where
+  lies : (p : Pair) (wanted : Bool) (x y : Scaled) → IsIn x (end_range range p.low) → IsIn y (end_range range p.high) → (is_same_item p.low p.high ≡ true → x ≡ y) → is_within v x y ≡ wanted → can_lie range wanted v p ≡ true
+  lies p wanted x y h k one e = go (is_same_item p.low p.high) one
+    where
+      go : (t : Bool) → (t ≡ true → x ≡ y) →
+          (if t then some_in (λ z. is_wanted wanted (is_within v z z)) (end_range range p.low)
+          else some_in (λ low. some_in (λ high. is_wanted wanted (is_within v low high)) (end_range range p.high)) (end_range range p.low)) ≡ true
+      go true one =
+          some_of (λ z. is_wanted wanted (is_within v z z)) (end_range range p.low) x h
+          (wanted_is wanted (is_within v x x) (ap (λ z. is_within v x z) (one refl) ∙ e))
+      go false one =
+          some_of (λ low. some_in (λ high. is_wanted wanted (is_within v low high)) (end_range range p.high)) (end_range range p.low) x h
+          (some_of (λ high. is_wanted wanted (is_within v x high)) (end_range range p.high) y k (wanted_is wanted (is_within v x y) e))
+
+  is_outcome : (wanted outcome : Bool) → is_wanted wanted outcome ≡ true → outcome ≡ wanted
+  is_outcome true outcome e = e
+  is_outcome false true e = absurd cc
+  is_outcome false false e = refl
+
+  same_ends : (a b : Sender) → is_same_item a b ≡ true → end_range range a ≡ end_range range b
+  same_ends (sender.Item p) (sender.Item q) e = ap range (same_place p q e)
+  same_ends (sender.Item p) (sender.Number n) e = absurd cc
+  same_ends (sender.Item p) (sender.Text t) e = absurd cc
+  same_ends (sender.Item p) (sender.Fill t) e = absurd cc
+  same_ends (sender.Item p) sender.Zero e = absurd cc
+  same_ends (sender.Number n) b e = absurd cc
+  same_ends (sender.Text t) b e = absurd cc
+  same_ends (sender.Fill t) b e = absurd cc
+  same_ends sender.Zero b e = absurd cc
+
+  lies_so : (p : Pair) (wanted : Bool) → can_lie range wanted v p ≡ true → LiesSo range wanted v p
+  lies_so p wanted = go (is_same_item p.low p.high) refl
+    where
+      go : (t : Bool) → is_same_item p.low p.high ≡ t →
+          (if t then some_in (λ z. is_wanted wanted (is_within v z z)) (end_range range p.low)
+          else some_in (λ low. some_in (λ high. is_wanted wanted (is_within v low high)) (end_range range p.high)) (end_range range p.low)) ≡ true → LiesSo range wanted v p
+      go true same e =
+          let z = one_of_some (λ z. is_wanted wanted (is_within v z z)) (end_range range p.low) e in
+          (z.0, z.0, z.1, subst (IsIn z.0) (same_ends p.low p.high same) z.1, λ s. refl, is_outcome wanted (is_within v z.0 z.0) z.2)
+      go false other e =
+          let low = one_of_some (λ low. some_in (λ high. is_wanted wanted (is_within v low high)) (end_range range p.high)) (end_range range p.low) e in
+          let high = one_of_some (λ high. is_wanted wanted (is_within v low.0 high)) (end_range range p.high) low.2 in
+          (low.0, high.0, low.1, high.1, λ s. absurd (clash s), is_outcome wanted (is_within v low.0 high.0) high.2)
+        where
+          clash : is_same_item p.low p.high ≡ true → ⊥
+          clash s = absurd cc
+
+  pub can_be_so : (wanted : Bool) (ps : List Pair) → can_be range wanted ps v ≡ true → CanBe range wanted v ps
+  can_be_so true [] e = absurd cc
+  can_be_so true (p ∷ ps) e = elim (either (can_lie range true v p) (list_any (can_lie range true v) ps) e) as (λ _. CanBe range true v (p ∷ ps)) [ inl f ↦ inl (lies_so p true f) | inr f ↦ inr (can_be_so true ps f) ]
+    where
+      either : (a b : Bool) → (a || b) ≡ true → (a ≡ true) ⊎ (b ≡ true)
+      either true b e = inl refl
+      either false b e = inr e
+  can_be_so false [] e = tt
+  can_be_so false (p ∷ ps) e = let k = both (can_lie range false v p) (list_all (can_lie range false v) ps) e in (lies_so p false k.0, can_be_so false ps k.1)
+
+  pub so_can_be : (wanted : Bool) (ps : List Pair) → CanBe range wanted v ps → can_be range wanted ps v ≡ true
+  so_can_be true [] h = absurd h
+  so_can_be true (p ∷ ps) (inl h) = rw (lies p true h.0 h.1 h.2 h.3 h.4 h.5) refl
+  so_can_be true (p ∷ ps) (inr h) = second (can_lie range true v p) (list_any (can_lie range true v) ps) (so_can_be true ps h)
+    where
+      second : (a b : Bool) → b ≡ true → (a || b) ≡ true
+      second true b e = refl
+      second false b e = e
+  so_can_be false [] h = refl
+  so_can_be false (p ∷ ps) h = and_true (can_lie range false v p) (list_all (can_lie range false v) ps) (lies p false h.0.0 h.0.1 h.0.2 h.0.3 h.0.4 h.0.5) (so_can_be false ps h.1)
+    where
+      and_true : (a b : Bool) → a ≡ true → b ≡ true → (a && b) ≡ true
+      and_true a b e f = rw (e, f) refl
 
 module _ (l : Layout) (storage : List ℕ) where
   -- whether an end is a number doesn't rest on storage
@@ -91,9 +167,6 @@ module _ (l : Layout) (storage : List ℕ) where
     -- one item for both ends
     one_end : (a b : Sender) (x y : Scaled) → is_same_item a b ≡ true → number_of l storage a ≡ Some x → number_of l storage b ≡ Some y → x ≡ y
     one_end (sender.Item p) (sender.Item q) x y s e f = some_same x y (sym e ∙ ap (number_at l storage) (same_place p q s) ∙ f)
-      where
-        same_place : (p q : ℕ) → (p == q) ≡ true → p ≡ q
-        same_place p q s = grind (arith, nat_tests)
     one_end (sender.Item p) (sender.Number n) x y s e f = absurd cc
     one_end (sender.Item p) (sender.Text t) x y s e f = absurd cc
     one_end (sender.Item p) (sender.Fill t) x y s e f = absurd cc
@@ -104,19 +177,6 @@ module _ (l : Layout) (storage : List ℕ) where
     one_end sender.Zero b x y s e f = absurd cc
 
     module _ (v : Scaled) where
-      lies : (p : Pair) (wanted : Bool) (x y : Scaled) → IsIn x (end_range range p.low) → IsIn y (end_range range p.high) → (is_same_item p.low p.high ≡ true → x ≡ y) → is_within v x y ≡ wanted → can_lie range wanted v p ≡ true
-      lies p wanted x y h k one e = go (is_same_item p.low p.high) one
-        where
-          go : (t : Bool) → (t ≡ true → x ≡ y) →
-              (if t then some_in (λ z. is_wanted wanted (is_within v z z)) (end_range range p.low)
-              else some_in (λ low. some_in (λ high. is_wanted wanted (is_within v low high)) (end_range range p.high)) (end_range range p.low)) ≡ true
-          go true one =
-              some_of (λ z. is_wanted wanted (is_within v z z)) (end_range range p.low) x h
-              (wanted_is wanted (is_within v x x) (ap (λ z. is_within v x z) (one refl) ∙ e))
-          go false one =
-              some_of (λ low. some_in (λ high. is_wanted wanted (is_within v low high)) (end_range range p.high)) (end_range range p.low) x h
-              (some_of (λ high. is_wanted wanted (is_within v x high)) (end_range range p.high) y k (wanted_is wanted (is_within v x y) e))
-
       module _ (place : ℕ) (at : number_at l storage place ≡ Some v) (is_number : is_number_end l [] (sender.Item place) ≡ true) where
         one_pair : (p : Pair) (wanted : Bool) → is_number_pair l p ≡ true → in_pair l storage (sender.Item place) p ≡ Ok wanted → can_lie range wanted v p ≡ true
         one_pair p wanted n e =
@@ -129,7 +189,7 @@ module _ (l : Layout) (storage : List ℕ) where
             let second : high.0 ≡ v = some_same high.0 v (sym high.2 ∙ at) in
             let below : holds rel.AtLeast (number_order v low.1) ≡ from.0 = subst (λ w. holds rel.AtLeast (number_order w low.1) ≡ from.0) first low.4 in
             let above : holds rel.AtMost (number_order v high.1) ≡ to.0 = subst (λ w. holds rel.AtMost (number_order w high.1) ≡ to.0) second high.4 in
-            lies p wanted low.1 high.1 (end_in p.low low.1 ends.0 low.3) (end_in p.high high.1 ends.1 high.3)
+            lies range v p wanted low.1 high.1 (end_in p.low low.1 ends.0 low.3) (end_in p.high high.1 ends.1 high.3)
             (λ s. one_end p.low p.high low.1 high.1 s low.3 high.3)
             (rw (below, above) (ok_same (from.0 && to.0) wanted to.2))
 
@@ -166,6 +226,13 @@ module _ (l : Layout) (storage : List ℕ) where
         let from = ok_bound (compared l storage (sender.Item place) rel.AtLeast p.low) (λ from. compared l storage (sender.Item place) rel.AtMost p.high >>= λ to. Ok (from && to)) here.0 here.1 in
         let low = compared_is (sender.Item place) p.low rel.AtLeast from.0 (number_ends (sender.Item place) p.low item.0 ends.0) from.1 in
         (low.0, low.2, some_pair low.0 place low.2 item.0 (p ∷ ps) wanted item.1 e)
+
+-- ---- what is left is the least
+
+pub members_least : (range : ℕ → Ranged) (place : ℕ) (ps : List Pair) (wanted : Bool) → IsRangeOf (IsMemberOf range wanted place ps) (kept_range (can_be range wanted ps) (range place))
+members_least range place ps wanted =
+    kept_is_range (IsMemberOf range wanted place ps) (can_be range wanted ps) (range place)
+    (λ x k. (k.0, so_can_be range x wanted ps k.1)) (λ x h e. (h, can_be_so range x wanted ps e))
 
 -- ---- wider ranges
 
@@ -212,10 +279,6 @@ module _ (narrow wide : ℕ → Ranged) (within : (place : ℕ) → IsNarrower (
   pub member_below : (place : ℕ) (ps : List Pair) (wanted : Bool) → UnitsBelow (member_kept narrow place ps wanted) (member_kept wide place ps wanted)
   member_below place ps wanted =
       units_below (member_kept narrow place ps wanted) (member_kept wide place ps wanted) (narrow place).scale (wide place).scale
-      (range_below (Kept narrow) (Kept wide) (kept_range (can_be narrow wanted ps) (narrow place)) (kept_range (can_be wide wanted ps) (wide place))
-      (λ x k. (in_wider x (narrow place) (wide place) (within place) k.0, be_rises wanted ps x k.1))
-      (kept_is_range (Kept narrow) (can_be narrow wanted ps) (narrow place) (λ x k. k) (λ x h e. (h, e)))
-      (kept_is_range (Kept wide) (can_be wide wanted ps) (wide place) (λ x k. k) (λ x h e. (h, e))))
-    where
-      Kept : (ℕ → Ranged) → Scaled → Type 0
-      Kept range x = IsIn x (range place) × (can_be range wanted ps x ≡ true)
+      (range_below (IsMemberOf narrow wanted place ps) (IsMemberOf wide wanted place ps) (kept_range (can_be narrow wanted ps) (narrow place)) (kept_range (can_be wide wanted ps) (wide place))
+      (λ x k. (in_wider x (narrow place) (wide place) (within place) k.0, can_be_so wide x wanted ps (be_rises wanted ps x (so_can_be narrow x wanted ps k.1))))
+      (members_least narrow place ps wanted) (members_least wide place ps wanted))

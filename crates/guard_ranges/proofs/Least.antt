@@ -1,18 +1,18 @@
 -- What searches leave, as sets of decimals.
-use Rattle.std.proofs.Common.{◌≡◌, ◌&&◌, ℕ, ℤ, pos, ◌≤ℤ◌, Bool, true, false, Option, Some, None, refl, sym, ap, subst, ◌∙◌, arith}
+use Rattle.std.proofs.Common.{◌≡◌, ℕ, ℤ, ◌≤ℤ◌, Bool, true, false, Option, Some, None, refl, subst, arith}
 use Rattle.std.specs.Prelude.{int_le, if◌then◌else◌, IsSomeAnd, IfSome, option_map}
 use Rattle.std.specs.Int.{int_max, int_min}
 use Rattle.std.proofs.lemmas.Int.{ints, clamps}
 use Rattle.dec_num.specs.declared.types.Scaled.{Scaled}
 use Rattle.decimal_interval.specs.declared.bounds.Interval.{Interval}
-use Rattle.decimal_interval.specs.Bounds.{Holds, IsLeast}
+use Rattle.decimal_interval.specs.Bounds.{Holds}
 use Rattle.decimal_interval.specs.Corners.{interval}
 use Rattle.cob_program.specs.Values.{◌>>=◌}
 use Rattle.sum_ranges.specs.declared.ranged.Ranged.{Ranged}
 use Rattle.sum_ranges.specs.Ranged.{decimal, ranged, IsIn, IsNarrower, IsBelow}
 use Rattle.sum_ranges.specs.Results.{IsRangeOf}
 use Rattle.sum_ranges.proofs.Least.{in_wider}
-use Rattle.guard_ranges.specs.Kept.{kept, some_in, kept_in, between, met, IsLeastIfAny, IsPartOf, UnitsBelow}
+use Rattle.guard_ranges.specs.Kept.{some_in, kept_in, between, met, IsLeastIfAny, IsPartOf, UnitsBelow}
 use Rattle.guard_ranges.proofs.Searches.{Passes, kept_is, met_of_number, number_of_met}
 
 -- ---- some number of a range

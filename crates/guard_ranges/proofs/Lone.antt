@@ -1,11 +1,11 @@
 -- A side that is one item alone.
-use Rattle.std.proofs.Common.{◌≡◌, ℕ, zero, suc, ◌+◌, ◌-◌, ◌^◌, max, ℤ, pos, negsuc, ◌+ℤ◌, ◌*ℤ◌, ◌≤ℤ◌, Bool, true, false, Option, Some, None, refl, sym, ap, subst, ◌∙◌, arith}
+use Rattle.std.proofs.Common.{◌≡◌, ℕ, ◌+◌, ◌-◌, ◌^◌, max, ℤ, pos, ◌+ℤ◌, ◌*ℤ◌, ◌≤ℤ◌, true, false, Some, refl, ap, arith}
 use Rattle.std.specs.Int.{int_max, int_min}
 use Rattle.std.proofs.lemmas.Int.{ints, clamps}
 use Rattle.dec_num.specs.declared.types.Scaled.{Scaled}
 use Rattle.decimal_interval.specs.Corners.{interval}
 use Rattle.decimal_interval.proofs.Ends.{parts_of_product}
-use Rattle.cob_program.specs.Sum.{Sum, MkSum, Parts, no_parts, more_parts, MkPart, Factors, no_factors, more_factors, MkFactor, Atom, item, number, group}
+use Rattle.cob_program.specs.Sum.{Sum, MkSum, no_parts, more_parts, MkPart, no_factors, more_factors, MkFactor, item, number, group}
 use Rattle.cob_program.specs.Values.{sum_value}
 use Rattle.cob_program.proofs.Steps.{some_same}
 use Rattle.sum_ranges.specs.declared.ranged.Ranged.{Ranged}

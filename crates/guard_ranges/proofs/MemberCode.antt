@@ -16,11 +16,13 @@ use Rattle.cob_program.specs.Values.{◌>>=◌}
 use Rattle.cob_program.proofs.Steps.{both}
 use Rattle.cob_runs.specs.Deciding.{Order, below, equal, above, holds, order_of, number_order}
 use Rattle.sum_ranges.specs.declared.ranged.Ranged.{Ranged}
-use Rattle.sum_ranges.specs.Ranged.{decimal, ranged, IsIn, IsOrdered}
+use Rattle.sum_ranges.specs.Ranged.{decimal, ranged, IsOrdered}
 use Rattle.sum_ranges.specs.SumRanges.{joint}
 use Rattle.guard_ranges.specs.Kept.{size_of, some_in, kept_in, IsLeastIfAny, IsPartOf}
 use Rattle.guard_ranges.specs.Sides.{is_wanted, stands, left_kept}
-use Rattle.guard_ranges.specs.Members.{is_within, is_same_item, end_range, can_lie, can_be}
+use Rattle.guard_ranges.specs.declared.cuts.Cuts.{Cuts}
+use Rattle.guard_ranges.specs.Members.{is_within, is_same_item, end_range, can_lie, can_be, member_kept}
+use Rattle.guard_ranges.specs.Guards.{one_cut, member_cut}
 use Rattle.guard_ranges.specs.Small.{IsShortRange}
 use Rattle.guard_ranges.specs.Trimming.{within_kept, outside_kept, pair_kept, pairs_kept, trimmed}
 use Rattle.guard_ranges.proofs.Searches.{Passes, size_is}
@@ -158,11 +160,12 @@ within_gives item low high = one_least R (within_kept item low high) (kept_in (c
             let most = h.high_is_one in
             let l = some_unit (λ y. stands rel.AtLeast true (decimal i.low item.scale) y) low least.1 in
             let m = some_unit (λ y. stands rel.AtMost true (decimal z item.scale) y) high e in
-            let up = greater_at_least item low i.low z l.0 k.0 l.2 in
-            ((omega (arith, ints, least.0.0, k.0), omega (arith, ints, most.0.1, k.1)),
-            some_of (λ l. some_in (λ h. is_wanted true (is_within (decimal z item.scale) l h)) high) low (decimal l.0 low.scale) (in_range l.0 low l.1)
-            (some_of (λ h. is_wanted true (is_within (decimal z item.scale) (decimal l.0 low.scale) h)) high (decimal m.0 high.scale) (in_range m.0 high m.1)
-            (within_of (decimal z item.scale) (decimal l.0 low.scale) (decimal m.0 high.scale) up m.2)))
+            let up = greater_at_least item low i.low z l.0 k.0 l.2 in (
+              (omega (arith, ints, least.0.0, k.0), omega (arith, ints, most.0.1, k.1)),
+              some_of (λ l. some_in (λ h. is_wanted true (is_within (decimal z item.scale) l h)) high) low (decimal l.0 low.scale) (in_range l.0 low l.1)
+                  (some_of (λ h. is_wanted true (is_within (decimal z item.scale) (decimal l.0 low.scale) h)) high (decimal m.0 high.scale) (in_range m.0 high m.1)
+                  (within_of (decimal z item.scale) (decimal l.0 low.scale) (decimal m.0 high.scale) up m.2)),
+            )
 
         from : (z : ℤ) → R z → PassesIn second (ranged i item.scale) z
         from z r =
@@ -216,11 +219,11 @@ pub one_gives : (wanted : Bool) (item one : Ranged) → left_kept rel.Equal want
 one_gives wanted item one =
     kept_same (λ x. some_in (λ y. stands rel.Equal wanted x y) one) (λ x. some_in (λ y. is_wanted wanted (is_within x y y)) one) item
     (λ z h e. let y = some_unit (λ y. stands rel.Equal wanted (decimal z item.scale) y) one e in
-        some_of (λ y. is_wanted wanted (is_within (decimal z item.scale) y y)) one (decimal y.0 one.scale) (in_range y.0 one y.1)
-        (ap (is_wanted wanted) (same_order (number_order (decimal z item.scale) (decimal y.0 one.scale))) ∙ y.2))
+    some_of (λ y. is_wanted wanted (is_within (decimal z item.scale) y y)) one (decimal y.0 one.scale) (in_range y.0 one y.1)
+    (ap (is_wanted wanted) (same_order (number_order (decimal z item.scale) (decimal y.0 one.scale))) ∙ y.2))
     (λ z h e. let y = some_unit (λ y. is_wanted wanted (is_within (decimal z item.scale) y y)) one e in
-        some_of (λ y. stands rel.Equal wanted (decimal z item.scale) y) one (decimal y.0 one.scale) (in_range y.0 one y.1)
-        (sym (ap (is_wanted wanted) (same_order (number_order (decimal z item.scale) (decimal y.0 one.scale)))) ∙ y.2))
+    some_of (λ y. stands rel.Equal wanted (decimal z item.scale) y) one (decimal y.0 one.scale) (in_range y.0 one y.1)
+    (sym (ap (is_wanted wanted) (same_order (number_order (decimal z item.scale) (decimal y.0 one.scale)))) ∙ y.2))
 
 -- ---- a pair, by what its ends are
 
@@ -382,3 +385,12 @@ module _ (range : ℕ → Ranged) where
     where
       apart : (x y : ℤ) → x ≤ℤ y → (y ≢ x) → (x +ℤ pos 1) ≤ℤ y
       apart x y h k = by_lt_z x y (λ l. omega (arith, ints, l)) (λ l. absurd (k (omega (arith, ints, h, l))))
+
+-- ---- a test of ranges of values
+
+pub member_gives : (range : ℕ → Ranged) (place : ℕ) (ps : List Pair) (wanted t : Bool) (item : Ranged) (o : Option Interval) (r : Option Cuts) → r ≡ one_cut place o → o ≡ pairs_kept range wanted item ps → item ≡ range place → true ≡ t
+    → r ≡ member_cut t place (member_kept range place ps wanted)
+member_gives range place ps wanted t item o r e f g h =
+    let kept : o ≡ member_kept range place ps wanted = f ∙ ap (λ i. pairs_kept range wanted i ps) g in
+    let cut : r ≡ one_cut place (member_kept range place ps wanted) = e ∙ ap (one_cut place) kept in
+    cut ∙ ap (λ b. member_cut b place (member_kept range place ps wanted)) h

@@ -1,12 +1,11 @@
 -- What relations leave of their sides.
-use Rattle.std.proofs.Common.{◌≡◌, Bool, true, Option}
+use Rattle.std.proofs.Common.{◌≡◌, Bool, true}
 use Rattle.std.specs.Prelude.{IsSomeAnd, IfSome}
 use Rattle.dec_num.specs.declared.types.Scaled.{Scaled}
-use Rattle.decimal_interval.specs.declared.bounds.Interval.{Interval}
 use Rattle.decimal_interval.specs.Bounds.{Holds}
 use Rattle.cob_tree.specs.declared.token.Rel.{Rel}
 use Rattle.sum_ranges.specs.declared.ranged.Ranged.{Ranged}
-use Rattle.sum_ranges.specs.Ranged.{IsIn, IsNarrower, IsBelow}
+use Rattle.sum_ranges.specs.Ranged.{IsIn, IsNarrower}
 use Rattle.sum_ranges.specs.Results.{IsRangeOf}
 use Rattle.sum_ranges.proofs.Least.{in_wider, range_below}
 use Rattle.guard_ranges.specs.Kept.{some_in, UnitsBelow, IsPartOf}

@@ -1,5 +1,5 @@
 -- Numbers of at most 18 digits can be compared.
-use Rattle.std.proofs.Common.{◌≡◌, ℕ, ◌-◌, ◌*◌, ◌^◌, ◌≤◌, ◌<◌, max, ◌&&◌, ℤ, pos, ◌*ℤ◌, ◌≤ℤ◌, Bool, true, Some, refl, sym, subst, arith}
+use Rattle.std.proofs.Common.{◌≡◌, ℕ, ◌-◌, ◌^◌, ◌≤◌, ◌<◌, ◌&&◌, ℤ, pos, ◌*ℤ◌, Bool, true, Some, refl, sym, subst, arith}
 use Rattle.std.specs.Prelude.{unsigned_abs, nat_le, IfSome}
 use Rattle.std.proofs.lemmas.Int.{ints}
 use Rattle.std.proofs.lemmas.Nat.{mul-le}
@@ -14,7 +14,7 @@ use Rattle.cob_tree.specs.declared.token.Rel.{Rel}
 use Rattle.cob_data.specs.declared.layout.Sender.{Sender}
 use Rattle.cob_data.specs.declared.layout.Sender.TheVariants as sender
 use Rattle.cob_program.specs.Values.{whole_number, literal}
-use Rattle.cob_program.specs.Sum.{Sum, MkSum, group}
+use Rattle.cob_program.specs.Sum.{Sum, group}
 use Rattle.cob_program.specs.Bounds as bound
 use Rattle.cob_program.specs.Bounds.{Bound, exactly, literal_bound, is_small, at_scale, sum_most, is_small_sum, is_small_sides}
 use Rattle.cob_program.proofs.Steps.{both, literal_within, whole_within}

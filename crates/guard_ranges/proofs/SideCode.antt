@@ -4,12 +4,12 @@ use Rattle.std.proofs.lemmas.Int.{ints}
 use Rattle.dec_num.specs.declared.types.Scaled.{Scaled}
 use Rattle.dec_num.specs.Scaled.{units_at, joint_scale}
 use Rattle.decimal_interval.specs.declared.bounds.Interval.{Interval}
-use Rattle.decimal_interval.specs.Bounds.{Holds, IsInterval}
+use Rattle.decimal_interval.specs.Bounds.{IsInterval}
 use Rattle.cob_tree.specs.declared.token.Rel.{Rel}
 use Rattle.cob_runs.specs.Deciding.{Order, below, equal, above, holds, order_of, number_order}
 use Rattle.sum_ranges.specs.declared.ranged.Ranged.{Ranged}
 use Rattle.sum_ranges.specs.Ranged.{decimal}
-use Rattle.sum_ranges.specs.SumRanges.{raised, joint}
+use Rattle.sum_ranges.specs.SumRanges.{raised}
 use Rattle.guard_ranges.specs.declared.beside.Orders.{Orders}
 use Rattle.guard_ranges.specs.Kept.{some_in, IsLeastIfAny}
 use Rattle.guard_ranges.specs.Sides.{is_wanted, stands, left_kept, right_kept}

@@ -13,7 +13,8 @@ use Rattle.guard_ranges.specs.Kept.{between}
 
 -- a number of a, to which some number of b stands in such an order
 abbrev pub IsBeside : (Order → Bool) → Ranged → Ranged → ℤ → Type 0
-IsBeside allowed a b z = Holds a.units z × ((w : ℤ) × Holds b.units w × (allowed (number_order (decimal z a.scale) (decimal w b.scale)) ≡ true))
+IsBeside allowed a b z =
+    Holds a.units z × ((w : ℤ) × Holds b.units w × (allowed (number_order (decimal z a.scale) (decimal w b.scale)) ≡ true))
 
 abbrev pub is_below : Order → Bool
 is_below below = true

@@ -58,18 +58,20 @@ one_cut place (Some units) = Some (cuts (Some (cut place units)) None)
 
 -- An item on both sides keeps what both leave.
 abbrev pub both_cuts : Option Cut → Option Cut → Option Cuts
-both_cuts (Some a) (Some b) = if a.item == b.item then one_cut a.item (met a.units b.units) else Some (cuts (Some a) (Some b))
+both_cuts (Some a) (Some b) =
+    if a.item == b.item then one_cut a.item (met a.units b.units) else Some (cuts (Some a) (Some b))
 both_cuts left right = Some (cuts left right)
 
--- The sides as they were, and the items that they are. Where no number of the one stands so to one of the other, nothing
--- is left.
+-- By the sides as they were, and the items that they are. Nothing is left where no number of the one stands so to one of
+-- the other.
 abbrev pub sides_cut : Option ℕ → Ranged → Rel → Option ℕ → Ranged → Bool → Option Cuts
 sides_cut p x r q y wanted =
     left_kept r wanted x y >>= λ left. right_kept r wanted x y >>= λ right. both_cuts (cut_of p left) (cut_of q right)
 
 -- A side without a range has a divisor that is 0 alone, so that the test isn't decided.
 abbrev pub numbers_cut : (ℕ → Ranged) → Sum → Rel → Sum → Bool → Option Cuts
-numbers_cut range a r b wanted = sum_range range a >>= λ x. sum_range range b >>= λ y. sides_cut (lone_item a) x r (lone_item b) y wanted
+numbers_cut range a r b wanted =
+    sum_range range a >>= λ x. sum_range range b >>= λ y. sides_cut (lone_item a) x r (lone_item b) y wanted
 
 abbrev pub member_cut : Bool → ℕ → Option Interval → Option Cuts
 member_cut true place units = one_cut place units

@@ -1,8 +1,9 @@
 -- What cuts of items say of storages.
-use Rattle.std.specs.Prelude.{◌≡◌, ℕ, ◌≤ℤ◌, Bool, true, List, Option, Some, None, is_some, IfSome}
+use Rattle.std.specs.Prelude.{◌≡◌, ◌⊎◌, ℕ, ◌≤ℤ◌, Bool, true, false, List, [], ◌∷◌, Option, Some, None, is_some, IfSome}
 use Rattle.dec_num.specs.declared.types.Scaled.{Scaled}
 use Rattle.cob_tree.specs.declared.token.Rel.{Rel}
 use Rattle.cob_data.specs.declared.layout.Layout.{Layout}
+use Rattle.cob_data.specs.declared.layout.Pair.{Pair}
 use Rattle.cob_runs.specs.Contents.{number_at}
 use Rattle.sum_ranges.specs.declared.ranged.Ranged.{Ranged}
 use Rattle.sum_ranges.specs.Ranged.{ranged, IsIn, IsOrdered, IsNarrower}
@@ -10,6 +11,7 @@ use Rattle.guard_ranges.specs.declared.cuts.Cut.{Cut}
 use Rattle.guard_ranges.specs.declared.cuts.Cuts.{Cuts}
 use Rattle.guard_ranges.specs.Kept.{IsPartOf}
 use Rattle.guard_ranges.specs.Sides.{stands}
+use Rattle.guard_ranges.specs.Members.{is_within, is_same_item, end_range}
 
 -- ---- what a relation leaves, as sets
 
@@ -20,6 +22,25 @@ IsLeftOf r wanted a b x = IsIn x a × ((y : Scaled) × IsIn y b × (stands r wan
 -- a number of the right side, beside which some number of the left side stands so
 abbrev pub IsRightOf : Rel → Bool → Ranged → Ranged → Scaled → Type 0
 IsRightOf r wanted a b y = IsIn y b × ((x : Scaled) × IsIn x a × (stands r wanted x y ≡ true))
+
+-- ---- what ranges of values leave
+
+-- Some numbers of the ends, between which x lies, or doesn't. One item for both ends is one number.
+abbrev pub LiesSo : (ℕ → Ranged) → Bool → Scaled → Pair → Type 0
+LiesSo range wanted x p =
+    (low : Scaled) × (high : Scaled) × IsIn low (end_range range p.low) × IsIn high (end_range range p.high)
+    × (is_same_item p.low p.high ≡ true → low ≡ high) × (is_within x low high ≡ wanted)
+
+-- x can lie in one of them, or outside of each
+abbrev pub CanBe : (ℕ → Ranged) → Bool → Scaled → List Pair → Type 0
+CanBe range true x [] = ⊥
+CanBe range true x (p ∷ ps) = LiesSo range true x p ⊎ CanBe range true x ps
+CanBe range false x [] = Unit {0}
+CanBe range false x (p ∷ ps) = LiesSo range false x p × CanBe range false x ps
+
+-- a number of the item that can
+abbrev pub IsMemberOf : (ℕ → Ranged) → Bool → ℕ → List Pair → Scaled → Type 0
+IsMemberOf range wanted place ps x = IsIn x (range place) × CanBe range wanted x ps
 
 -- ---- storages
 
@@ -32,7 +53,8 @@ pub record ItemsHold (l : Layout) (range : ℕ → Ranged) (is_numeric : ℕ →
 
 -- the item has a number, which the cut holds
 abbrev pub CutHolds : Layout → (ℕ → Ranged) → List ℕ → Cut → Type 0
-CutHolds l range storage c = (v : Scaled) × (number_at l storage c.item ≡ Some v) × IsIn v (ranged c.units (range c.item).scale)
+CutHolds l range storage c =
+    (v : Scaled) × (number_at l storage c.item ≡ Some v) × IsIn v (ranged c.units (range c.item).scale)
 
 abbrev pub CutsHold : Layout → (ℕ → Ranged) → List ℕ → Cuts → Type 0
 CutsHold l range storage c = IfSome c.left (CutHolds l range storage) × IfSome c.right (CutHolds l range storage)

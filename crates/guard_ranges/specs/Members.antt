@@ -47,7 +47,8 @@ module _ (range : ℕ → Ranged) where
   can_lie wanted x p =
       if is_same_item p.low p.high
       then some_in (λ one. is_wanted wanted (is_within x one one)) (end_range p.low)
-      else some_in (λ low. some_in (λ high. is_wanted wanted (is_within x low high)) (end_range p.high)) (end_range p.low)
+      else some_in (λ low. some_in (λ high. is_wanted wanted (is_within x low high)) (end_range p.high))
+      (end_range p.low)
 
   -- ---- all ranges
 

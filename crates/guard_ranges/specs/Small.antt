@@ -1,5 +1,5 @@
 -- Tests whose numbers are small enough to be compared.
-use Rattle.std.specs.Prelude.{ℕ, ◌-◌, ◌^◌, ◌<◌, ◌≤◌, nat_le, ◌&&◌, if◌then◌else◌, Bool, true, List, unsigned_abs}
+use Rattle.std.specs.Prelude.{ℕ, ◌-◌, ◌^◌, ◌<◌, ◌≤◌, nat_le, ◌&&◌, if◌then◌else◌, Bool, true, unsigned_abs}
 use Rattle.std.specs.List.{list_all}
 use Rattle.cob_data.specs.declared.layout.Layout.{Layout}
 use Rattle.cob_data.specs.declared.layout.Pair.{Pair}
@@ -34,6 +34,7 @@ module _ (bound : ℕ → Bound) where
   abbrev pub is_small_test : Layout → Test → Bool
   is_small_test l (numbers a r b) = is_small_sides bound a b
   is_small_test l (texts a r b) = true
-  is_small_test l (member place ps) = if is_number_member l place ps then is_short (bound place) && list_all is_short_pair ps else true
+  is_small_test l (member place ps) =
+      if is_number_member l place ps then is_short (bound place) && list_all is_short_pair ps else true
   is_small_test l (numeric place) = true
   is_small_test l always = true

@@ -1,6 +1,5 @@
 -- An item's numbers cut by one range of values after the other.
-use Rattle.std.specs.Prelude.{ℕ, Bool, true, false, List, [], ◌∷◌, Option, Some, None}
-use Rattle.std.specs.List.{list_all, list_any}
+use Rattle.std.specs.Prelude.{ℕ, Bool, true, false, List, [], ◌∷◌, Option, Some}
 use Rattle.decimal_interval.specs.declared.bounds.Interval.{Interval}
 use Rattle.decimal_interval.specs.Corners.{either_of}
 use Rattle.cob_tree.specs.declared.token.Rel.TheVariants as rel
@@ -14,7 +13,8 @@ use Rattle.guard_ranges.specs.Members.{can_lie, can_be}
 
 -- from some number of the low end to some number of the high one
 abbrev pub within_kept : Ranged → Ranged → Ranged → Option Interval
-within_kept item low high = left_kept rel.AtLeast true item low >>= λ units. left_kept rel.AtMost true (ranged units item.scale) high
+within_kept item low high =
+    left_kept rel.AtLeast true item low >>= λ units. left_kept rel.AtMost true (ranged units item.scale) high
 
 -- below some number of the low end, or above some number of the high one
 abbrev pub outside_kept : Ranged → Ranged → Ranged → Option Interval

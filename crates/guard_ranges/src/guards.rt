@@ -151,7 +151,13 @@ fn sides_cut(
 }
 
 // A side without a range has a divisor that is 0 alone.
-fn numbers_cut<R: Ranges>(ranges: &R, left: &Sum, rel: Rel, right: &Sum, wanted: bool) -> Option<Cuts>
+fn numbers_cut<R: Ranges>(
+    ranges: &R,
+    left: &Sum,
+    rel: Rel,
+    right: &Sum,
+    wanted: bool,
+) -> Option<Cuts>
     requires bounded { AreBounded (R.range_at ranges.now) (R.bound_at ranges.now) }
     requires small { is_small_sides (R.bound_at ranges.now) (plain_sum left.now) (plain_sum right.now) ≡ true }
     ensures { result ≡ numbers_cut (R.range_at ranges.now) (plain_sum left.now) rel (plain_sum right.now) wanted }
@@ -208,7 +214,13 @@ fn is_number_member(layout: &Layout, item: u32, pairs: &[Pair]) -> bool
     pairs.len() != 0 && is_number_item(layout, item) && are_number_pairs(layout, pairs)
 }
 
-fn member_cut<R: Ranges>(ranges: &R, layout: &Layout, item: u32, pairs: &[Pair], wanted: bool) -> Option<Cuts>
+fn member_cut<R: Ranges>(
+    ranges: &R,
+    layout: &Layout,
+    item: u32,
+    pairs: &[Pair],
+    wanted: bool,
+) -> Option<Cuts>
     requires bounded { AreBounded (R.range_at ranges.now) (R.bound_at ranges.now) }
     requires small { is_small_test (R.bound_at ranges.now) layout.now (member item pairs.now) ≡ true }
     ensures { result ≡ member_cut (is_number_member layout.now item pairs.now) item (member_kept (R.range_at ranges.now) item pairs.now wanted) }

@@ -14,5 +14,7 @@ mod sides;
 pub use counts::count_kept;
 pub use cuts::{Cut, Cuts};
 pub use guards::{Items, guarded};
-pub use laws::{counts_are_cut, cuts_are_least, cuts_fit, guards_are_sound, guards_rise};
+pub use laws::{
+    counts_are_cut, cuts_are_least, cuts_fit, guards_are_sound, guards_rise, searches_are_least,
+};
 pub use sides::{left_kept, right_kept};

@@ -157,7 +157,12 @@ fn none_kept<R: Ranges>(ranges: &R, item: Ranged, pairs: &[Pair]) -> Option<Inte
 }
 
 /// What can lie in some of the ranges of values, or in none.
-pub fn pairs_kept<R: Ranges>(ranges: &R, item: Ranged, pairs: &[Pair], wanted: bool) -> Option<Interval>
+pub fn pairs_kept<R: Ranges>(
+    ranges: &R,
+    item: Ranged,
+    pairs: &[Pair],
+    wanted: bool,
+) -> Option<Interval>
     requires bounded { AreBounded (R.range_at ranges.now) (R.bound_at ranges.now) }
     requires short { list_all (is_short_pair (R.bound_at ranges.now)) pairs.now ≡ true }
     requires item { IsShortRange item }

@@ -1,4 +1,3 @@
-use Rattle.std.proofs.Common.{refl}
 use Rattle.guard_ranges.proofs.Besides.{equal_gives}
 use Rattle.guard_ranges.proofs.beside.equal_part.Goals as goal
 

@@ -1,6 +1,5 @@
 use Rattle.std.proofs.Common.{arith}
 use Rattle.std.proofs.lemmas.Int.{ints}
-use Rattle.guard_ranges.proofs.Least.{test_le}
 use Rattle.guard_ranges.proofs.Besides.{multiples_least}
 use Rattle.guard_ranges.proofs.beside.multiples.Goals as goal
 
