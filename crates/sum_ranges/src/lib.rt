@@ -8,10 +8,7 @@ mod laws;
 mod literals;
 mod ranged;
 mod sums;
-<<<<<<< HEAD
-=======
 mod taking;
->>>>>>> cdb224e7e9084564d276a801589dae34d7c1a7b9
 
 pub use arithmetic::{factor_range, plus_range, point, raised, turned};
 pub use divisors::{may_be_zero, may_vanish, may_vanish_in_product};
@@ -23,7 +20,4 @@ pub use laws::{
 pub use literals::literal_range;
 pub use ranged::{Ranged, Ranges};
 pub use sums::{atom_range, product_range, sum_range};
-<<<<<<< HEAD
-=======
 pub use taking::{Taken, taken_sum};
->>>>>>> cdb224e7e9084564d276a801589dae34d7c1a7b9

@@ -1,8 +1,4 @@
-<<<<<<< HEAD
-use Rattle.std.proofs.Common.{◌≡◌, ◌∙◌, ◌≤◌, length, sym, ap, subst, pos, arith, to_z}
-=======
 use Rattle.std.proofs.Common.{◌∙◌, ◌≤◌, length, sym, ap, subst, pos, arith, to_z}
->>>>>>> cdb224e7e9084564d276a801589dae34d7c1a7b9
 use Rattle.std.specs.Int.{w128}
 use Rattle.std.proofs.lemmas.Int.{to_z_pos}
 use Rattle.cob_program.specs.Values.{numeral}
