@@ -1,0 +1,4 @@
+pub mod Counters
+pub mod Homes
+pub mod Storages
+pub mod Premises
