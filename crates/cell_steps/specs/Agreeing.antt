@@ -1,6 +1,6 @@
 -- When what is seen is true of a moment of a run, and the parts of an edge as a walk.
-use Rattle.std.specs.Prelude.{◌≡◌, ◌⊎◌, ◌≤◌, ℕ, ◌+◌, ◌-◌, Bool, true, false, List, [], ◌∷◌, ◌++◌, Contains, Option, Some, None, IsSomeAnd, ℤ, pos, ◌-ℤ◌}
-use Rattle.std.specs.List.{list_any}
+use Rattle.std.specs.Prelude.{◌≡◌, ◌⊎◌, ◌≤◌, ℕ, ◌+◌, ◌-◌, Bool, true, false, List, [], ◌∷◌, ◌++◌, Option, Some, None, IsSomeAnd, ℤ, pos, ◌-ℤ◌}
+use Rattle.std.specs.List.{list_any, Contains}
 use Rattle.dec_num.specs.declared.types.Mode.{Mode}
 use Rattle.dec_num.specs.declared.types.Scaled.{Scaled}
 use Rattle.dec_num.specs.Exact.{Fraction}
@@ -22,7 +22,7 @@ use Rattle.sum_ranges.specs.declared.ranged.Ranged.{Ranged}
 use Rattle.sum_ranges.specs.Ranged.{IsIn}
 use Rattle.result_ranges.specs.declared.amounts.Taken.{Taken}
 use Rattle.result_ranges.specs.Amounts.{IsAmount}
-use Rattle.cell_storages.specs.Counters.{IsCount, IsCounted}
+use Rattle.graph_runs.specs.Counters.{IsCount, IsCounted}
 use Rattle.cell_storages.specs.Homes.{of_count, homes_of}
 use Rattle.cell_storages.specs.Storages.{storage, StandsIn}
 use Rattle.cell_storages.specs.Premises.{HasSoundItems}
@@ -37,12 +37,14 @@ use Rattle.cell_steps.specs.Order.{SeenBelow}
 
 -- the statement with the number is a PERFORM with TIMES
 pub record IsTimesAt (p : Program) (statement : ℕ) : Type 0 where
+  pub first : 1 ≤ statement
   pub act : Act
   pub at : act_at p statement ≡ Some act
   pub times : is_times act ≡ true
 
 pub record IsSoundEdge (p : Program) (statement : ℕ) (a : Act) (x : Action) : Type 0 where
   pub items : HasSoundItems p.layout
+  pub first : 1 ≤ statement
   pub act : act_at p statement ≡ Some a
   pub counts : (n : ℕ) → Contains (homes_of p) (of_count n) → IsTimesAt p n
   -- values are stored in numeric and edited items

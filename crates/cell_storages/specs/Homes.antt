@@ -1,5 +1,5 @@
 -- What each cell of a program is of, and the numbers of its picture.
-use Rattle.std.specs.Prelude.{ℕ, zero, suc, ◌-◌, ◌^◌, nat_le, nat_eq, if◌then◌else◌, Bool, true, false, List, [], ◌∷◌, ◌++◌, map, Option, Some, None, ℤ, pos, neg_ℤ}
+use Rattle.std.specs.Prelude.{ℕ, zero, suc, ◌-◌, ◌^◌, nat_le, ◌==◌, if◌then◌else◌, Bool, true, false, List, [], ◌∷◌, ◌++◌, map, Option, Some, None, ℤ, pos, neg_ℤ}
 use Rattle.cob_tree.specs.declared.form.Form.{Form}
 use Rattle.cob_tree.specs.declared.form.Form.TheVariants as form
 use Rattle.cob_data.specs.declared.layout.Item.{Item}
@@ -19,8 +19,8 @@ pub data Home : Type 0 where
   of_count : ℕ → Home
 
 abbrev pub is_home : Home → Home → Bool
-is_home (of_item a) (of_item b) = nat_eq a b
-is_home (of_count a) (of_count b) = nat_eq a b
+is_home (of_item a) (of_item b) = a == b
+is_home (of_count a) (of_count b) = a == b
 is_home _ _ = false
 
 -- a number, or a text of at most 18 bytes

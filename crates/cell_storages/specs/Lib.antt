@@ -1,4 +1,3 @@
-pub mod Counters
 pub mod Homes
 pub mod Storages
 pub mod Premises

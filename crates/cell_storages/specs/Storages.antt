@@ -10,7 +10,7 @@ use Rattle.decimal_interval.specs.Bounds.{Holds}
 use Rattle.dom_laws.specs.Meaning.{Storage}
 use Rattle.cell_rows.specs.Known.{Known}
 use Rattle.cell_rows.specs.Elements.{Element}
-use Rattle.cell_storages.specs.Counters.{IsCounted}
+use Rattle.graph_runs.specs.Counters.{IsCounted}
 use Rattle.cell_storages.specs.Homes.{Home, of_item, of_count, is_home, homes_of}
 
 -- what is known of a home: that of the first cell that is of it
