@@ -5,6 +5,7 @@ use Rattle.std.specs.Option.{option_map, option_map_or}
 use Rattle.std.proofs.lemmas.Int.{ints}
 use Rattle.dec_num.specs.declared.types.Mode.{Mode}
 use Rattle.cob_tree.specs.declared.form.Form.{Form}
+use Rattle.cob_tree.specs.declared.form.Form.TheVariants as form
 use Rattle.decimal_interval.specs.declared.bounds.Interval.{Interval}
 use Rattle.cob_program.specs.Sum.{Atom}
 use Rattle.cob_program.specs.Values.{◌>>=◌}
@@ -37,7 +38,7 @@ use Rattle.cell_storages.specs.Homes.{Home, of_item, of_count, homes_of, home_ra
 use Rattle.cell_steps.specs.Cells.{units_of, is_numeric, with_known, forgotten, is_in_bytes, is_beside}
 use Rattle.cell_steps.specs.Operands.{edge_operands, operands_vanish, amount_of, may_divide_by_zero, is_remainder}
 use Rattle.cell_steps.specs.Seen.{Seen, with_cells, with_zero}
-use Rattle.cell_steps.specs.Stores.{handled, range_at, taking, with_taken, amount_at, result_at, may_exceed, may_vanish, may_fail, stored_cells, stored_element, behind_store, stored}
+use Rattle.cell_steps.specs.Stores.{handled, range_at, taking, with_taken, amount_at, result_at, may_exceed, may_vanish, may_fail, stored_known, stored_cells, stored_element, behind_store, stored}
 use Rattle.cell_steps.specs.Steps.{is_zero_alone, can_divide, known_as, read_cells, cut_cells, all_cut, guarded_cells, counted_cells, with_cells_if, after_read, after_divide, after_bytes, after_count, after_down, step}
 use Rattle.cell_steps.specs.Order.{SeenBelow}
 use Rattle.cell_rises.proofs.Given.{Given}
@@ -52,6 +53,20 @@ BelowIf p a x None t = Unit {0}
 BelowIf p a x (Some s) None = ⊥
 BelowIf p a x (Some s) (Some t) = SeenBelow p a x s t
 
+-- ---- stored numbers
+
+stored_known_fits : (f : Form) (own i : Interval) → KnownFits own (Some i) → KnownFits own (stored_known f i)
+stored_known_fits form.Group own i k = tt
+stored_known_fits (form.Text n) own i k = tt
+stored_known_fits (form.Number digits scale signed kept) own i k = k
+stored_known_fits (form.Edited picture digits scale) own i k = tt
+
+stored_known_below : (f : Form) (i j : Interval) → IsInside i j → KnownBelow (stored_known f i) (stored_known f j)
+stored_known_below form.Group i j n = tt
+stored_known_below (form.Text m) i j n = tt
+stored_known_below (form.Number digits scale signed kept) i j n = n
+stored_known_below (form.Edited picture digits scale) i j n = tt
+
 -- ---- one home
 
 module _ (p : Program) where
@@ -65,11 +80,14 @@ module _ (p : Program) where
   FitBelowIf (Some as_) None = ⊥
   FitBelowIf (Some as_) (Some bs) = FitBelow as_ bs
 
-  pub known_as_below : (h : Home) (as_ bs : List Known) (i j : Interval) → FitBelow as_ bs → KnownFits (home_range p.layout h) (Some i) → IsInside i j → FitBelow (known_as p h as_ i) (known_as p h bs j)
-  known_as_below h as_ bs i j f k n = record {
-    fits = with_known_fits p.layout (homes_of p) as_ h (Some i) f.fits k;
-    below = with_known_below (homes_of p) as_ bs h (Some i) (Some j) f.below n;
+  pub set_below : (h : Home) (as_ bs : List Known) (c d : Known) → FitBelow as_ bs → KnownFits (home_range p.layout h) c → KnownBelow c d → FitBelow (with_known h c (homes_of p) as_) (with_known h d (homes_of p) bs)
+  set_below h as_ bs c d f k n = record {
+    fits = with_known_fits p.layout (homes_of p) as_ h c f.fits k;
+    below = with_known_below (homes_of p) as_ bs h c d f.below n;
   }
+
+  pub known_as_below : (h : Home) (as_ bs : List Known) (i j : Interval) → FitBelow as_ bs → KnownFits (home_range p.layout h) (Some i) → IsInside i j → FitBelow (known_as p h as_ i) (known_as p h bs j)
+  known_as_below h as_ bs i j f k n = set_below h as_ bs (Some i) (Some j) f k n
 
   pub known_if_below : (h : Home) (as_ bs : List Known) (o q : Option Interval) → FitBelow as_ bs → IfSome o (λ i. KnownFits (home_range p.layout h) (Some i)) → IsInsideIfAny o q
       → FitBelowIf (option_map (known_as p h as_) o) (option_map (known_as p h bs) q)
@@ -274,44 +292,44 @@ module _ (given : Given) (p : Program) (a : Act) (x : Action) where
   -- ---- stores
 
   module _ (s t : Seen) (h : TakenBelow s t) (place : ℕ) (mode : Mode) (y : Amount) where
-    form : Form
-    form = form_at p.layout place
+    abbrev its_form : Form
+    its_form = form_at p.layout place
 
     own_below : IsNarrower (range_at p s.cells place) (range_at p t.cells place)
     own_below = ranges s t h.below place
 
     -- results of operands: one within the other, or a divisor may be 0 above
     result_below : (o q : Option Taken) → IsNarrowerTakenIfAny o q
-        → IsInsideIfAny (o >>= amount_of y (range_at p s.cells place) >>= result.result_range mode (receiver_of form)) (q >>= amount_of y (range_at p t.cells place) >>= result.result_range mode (receiver_of form))
+        → IsInsideIfAny (o >>= amount_of y (range_at p s.cells place) >>= result.result_range mode (receiver_of its_form)) (q >>= amount_of y (range_at p t.cells place) >>= result.result_range mode (receiver_of its_form))
     result_below None q n = tt
     result_below (Some c) None n = absurd n
     result_below (Some c) (Some d) n = go (amount_of y (range_at p s.cells place) c) (amount_of y (range_at p t.cells place) d)
         (amount_below given y (range_at p s.cells place) (range_at p t.cells place) c d own_below n)
       where
-        go : (o q : Option AmountRange) → AmountBelowIf c.under o q → IsInsideIfAny (o >>= result.result_range mode (receiver_of form)) (q >>= result.result_range mode (receiver_of form))
+        go : (o q : Option AmountRange) → AmountBelowIf c.under o q → IsInsideIfAny (o >>= result.result_range mode (receiver_of its_form)) (q >>= result.result_range mode (receiver_of its_form))
         go None q m = tt
         go (Some u) None (inl m) = absurd m
         go (Some u) None (inr m) = absurd (grind (arith, m.0))
-        go (Some u) (Some v) (inl m) = given.results mode (receiver_of form) u v m
+        go (Some u) (Some v) (inl m) = given.results mode (receiver_of its_form) u v m
         go (Some u) (Some v) (inr m) = absurd (grind (arith, m.0))
 
     results_below : IsInsideIfAny (result_at p a x s place mode y) (result_at p a x t place mode y)
     results_below = result_below s.common t.common h.below.common
 
-    stored_fit_below : (i j : Interval) → KnownFits (form_range form) (Some i) → IsInside i j → FitBelow p (stored_cells p place s.cells i) (stored_cells p place t.cells j)
+    stored_fit_below : (i j : Interval) → KnownFits (form_range its_form) (Some i) → IsInside i j → FitBelow p (stored_cells p place s.cells i) (stored_cells p place t.cells j)
     stored_fit_below i j k n =
-        known_as_below p (of_item place) (forgotten (is_beside p.layout place) (homes_of p) s.cells) (forgotten (is_beside p.layout place) (homes_of p) t.cells) i j
-        (forgotten_fit_below p (is_beside p.layout place) s.cells t.cells (fit_below s t h.below)) k n
+        set_below p (of_item place) (forgotten (is_beside p.layout place) (homes_of p) s.cells) (forgotten (is_beside p.layout place) (homes_of p) t.cells) (stored_known its_form i) (stored_known its_form j)
+        (forgotten_fit_below p (is_beside p.layout place) s.cells t.cells (fit_below s t h.below)) (stored_known_fits its_form (form_range its_form) i k) (stored_known_below its_form i j n)
 
-    stored_if : (o q : Option Interval) → IfSome o (λ i. KnownFits (form_range form) (Some i)) → IsInsideIfAny o q
+    stored_if : (o q : Option Interval) → IfSome o (λ i. KnownFits (form_range its_form) (Some i)) → IsInsideIfAny o q
         → FitBelowIf p (option_map (stored_cells p place s.cells) o) (option_map (stored_cells p place t.cells) q)
     stored_if None q k n = tt
     stored_if (Some i) None k n = n
     stored_if (Some i) (Some j) k n = stored_fit_below i j k n
 
-    amounts_fit : (o : Option AmountRange) → IfSome (o >>= result.result_range mode (receiver_of form)) (λ i. KnownFits (form_range form) (Some i))
+    amounts_fit : (o : Option AmountRange) → IfSome (o >>= result.result_range mode (receiver_of its_form)) (λ i. KnownFits (form_range its_form) (Some i))
     amounts_fit None = tt
-    amounts_fit (Some u) = result_fits given mode form u
+    amounts_fit (Some u) = result_fits given mode its_form u
 
     fit_element : (o q : Option (List Known)) → FitBelowIf p o q → ElementFits (owns p) o
     fit_element None q f = tt
@@ -331,8 +349,8 @@ module _ (given : Given) (p : Program) (a : Act) (x : Action) where
 
     -- one of the causes above
     exceeds_rise : (o q : Option Taken) → IsNarrowerTakenIfAny o q → (o ≡ None → t.may_zero ≡ true)
-        → option_map_or (result.may_fail mode (receiver_of form)) (o >>= amount_of y (range_at p s.cells place)) true ≡ true
-        → (option_map_or (result.may_fail mode (receiver_of form)) (q >>= amount_of y (range_at p t.cells place)) true ≡ true) ⊎ ((t.may_zero ≡ true) ⊎ (may_vanish q y ≡ true))
+        → option_map_or (result.may_fail mode (receiver_of its_form)) (o >>= amount_of y (range_at p s.cells place)) true ≡ true
+        → (option_map_or (result.may_fail mode (receiver_of its_form)) (q >>= amount_of y (range_at p t.cells place)) true ≡ true) ⊎ ((t.may_zero ≡ true) ⊎ (may_vanish q y ≡ true))
     exceeds_rise None q n z e = inr (inl (z refl))
     exceeds_rise (Some c) None n z e = absurd n
     exceeds_rise (Some c) (Some d) n z e = go (amount_of y (range_at p s.cells place) c) (amount_of y (range_at p t.cells place) d)
@@ -341,12 +359,12 @@ module _ (given : Given) (p : Program) (a : Act) (x : Action) where
         vanishes : may_divide_by_zero y c ≡ true → may_divide_by_zero y d ≡ true
         vanishes = divisor_zero_rises y c d n
 
-        go : (u v : Option AmountRange) → AmountBelowIf c.under u v → option_map_or (result.may_fail mode (receiver_of form)) u true ≡ true
-            → (option_map_or (result.may_fail mode (receiver_of form)) v true ≡ true) ⊎ ((t.may_zero ≡ true) ⊎ (may_divide_by_zero y d ≡ true))
+        go : (u v : Option AmountRange) → AmountBelowIf c.under u v → option_map_or (result.may_fail mode (receiver_of its_form)) u true ≡ true
+            → (option_map_or (result.may_fail mode (receiver_of its_form)) v true ≡ true) ⊎ ((t.may_zero ≡ true) ⊎ (may_divide_by_zero y d ≡ true))
         go u None m f = inl refl
         go None (Some v) (inl m) f = absurd m
         go None (Some v) (inr m) f = inr (inr (vanishes (or_left _ _ m.1)))
-        go (Some u) (Some v) (inl m) f = inl (given.fails mode (receiver_of form) u v m f)
+        go (Some u) (Some v) (inl m) f = inl (given.fails mode (receiver_of its_form) u v m f)
         go (Some u) (Some v) (inr m) f = absurd (grind (arith, m.0))
 
     vanish_rises_in : (o q : Option Taken) → IsNarrowerTakenIfAny o q → (o ≡ None → t.may_zero ≡ true) → may_vanish o y ≡ true → (t.may_zero ≡ true) ⊎ (may_vanish q y ≡ true)

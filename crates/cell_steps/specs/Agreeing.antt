@@ -26,9 +26,10 @@ use Rattle.graph_runs.specs.Counters.{IsCount, IsCounted}
 use Rattle.cell_storages.specs.Homes.{of_count, homes_of}
 use Rattle.cell_storages.specs.Storages.{storage, StandsIn}
 use Rattle.cell_storages.specs.Premises.{HasSoundItems}
-use Rattle.cell_steps.specs.Operands.{edge_amount, amount_of}
+use Rattle.cell_rows.specs.Known.{Known}
+use Rattle.cell_steps.specs.Operands.{edge_amount, edge_operands, amount_of}
 use Rattle.cell_steps.specs.Seen.{Seen}
-use Rattle.cell_steps.specs.Stores.{handled}
+use Rattle.cell_steps.specs.Stores.{range_at, handled}
 use Rattle.cell_steps.specs.Steps.{step}
 use Rattle.cell_steps.specs.Clearing.{clears_part}
 use Rattle.cell_steps.specs.Order.{SeenBelow}
@@ -92,6 +93,7 @@ module _ (p : Program) (statement : ℕ) (a : Act) (x : Action) where
     pub fresh : s.written ≡ false → m.storage ≡ m.first
     pub unwritten : list_any writes done ≡ false → s.written ≡ false
     pub took : s.written ≡ true → OperandsHold m.first s.common
+    pub taken : s.written ≡ true → (cells : List Known) × (s.common ≡ edge_operands (range_at p cells) a x)
     pub zero : m.by_zero ≡ true → s.may_zero ≡ true
     -- A receiver that keeps its value may; behind a divisor that is 0 each does.
     pub fails : m.failed ≡ true → m.by_zero ≡ false → s.any_fail ≡ true

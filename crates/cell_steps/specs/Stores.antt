@@ -3,6 +3,8 @@ use Rattle.std.specs.Prelude.{ℕ, ◌||◌, ◌&&◌, not, if◌then◌else◌,
 use Rattle.std.specs.Option.{option_map, option_map_or}
 use Rattle.dec_num.specs.declared.types.Mode.{Mode}
 use Rattle.decimal_interval.specs.declared.bounds.Interval.{Interval}
+use Rattle.cob_tree.specs.declared.form.Form.{Form}
+use Rattle.cob_tree.specs.declared.form.Form.TheVariants as form
 use Rattle.cob_program.specs.Values.{◌>>=◌}
 use Rattle.cob_program.specs.Act.{Act, Program}
 use Rattle.cob_runs.specs.declared.action.Action.{Action}
@@ -24,6 +26,11 @@ use Rattle.cell_steps.specs.Seen.{Seen, with_fail}
 
 -- ---- what is known behind a store
 
+-- an edited item has no cell
+abbrev pub stored_known : Form → Interval → Known
+stored_known (form.Number digits scale signed kept) new = Some new
+stored_known _ new = None
+
 module _ (p : Program) where
   abbrev pub range_at : List Known → ℕ → Ranged
   range_at known place = cells.range_at p.layout (homes_of p) known place
@@ -31,7 +38,8 @@ module _ (p : Program) where
   -- The item is known so, and what has bytes of it is forgotten.
   abbrev pub stored_cells : ℕ → List Known → Interval → List Known
   stored_cells place known new =
-      with_known (of_item place) (Some new) (homes_of p) (forgotten (is_beside p.layout place) (homes_of p) known)
+      with_known (of_item place) (stored_known (form_at p.layout place) new) (homes_of p)
+      (forgotten (is_beside p.layout place) (homes_of p) known)
 
 -- what is kept, if the store may fail, and what is stored, if it may fit
 abbrev pub stored_element : Bool → List Known → Option (List Known) → Element

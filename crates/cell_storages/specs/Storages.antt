@@ -32,17 +32,12 @@ KnownStands None v = Unit {0}
 KnownStands (Some i) None = ⊥
 KnownStands (Some i) (Some v) = Holds i v
 
-abbrev pub AllStand : Layout → Storage → List Home → List Known → Type 0
-AllStand l s [] [] = Unit {0}
-AllStand l s (h ∷ hs) (c ∷ cs) = KnownStands c (value_at l s h) × AllStand l s hs cs
-AllStand l s _ _ = ⊥
-
--- What is known of the cells is true of the storage. Storage has its length, and each TIMES a number, without which what
+-- What is known of each home is true of the storage. Storage has its length, and each TIMES a number, without which what
 -- is unknown couldn't be a number of its own range.
 pub record StandsIn (p : Program) (cells : List Known) (s : Storage) : Type 0 where
   pub whole : length s.bytes ≡ p.layout.storage
   pub counted : IsCounted p s.counters
-  pub known : AllStand p.layout s (homes_of p) cells
+  pub known : (h : Home) → KnownStands (known_of (homes_of p) cells h) (value_at p.layout s h)
 
 abbrev pub ElementStands : Program → Element → Storage → Type 0
 ElementStands p None s = ⊥

@@ -98,10 +98,18 @@ IsInPlace statement a x done (divide d) = IsDivided done d
 IsInPlace statement a x done (store place mode y) = IsStored a x done place y
 IsInPlace statement a x done (set_count n y) = (n ≡ statement) × Counts a x y × IsBehindSender y done
 IsInPlace statement a x done (count_down n) = (n ≡ statement) × (done ≡ read_count n ∷ [])
--- bytes change on no edge of arithmetic
-IsInPlace statement a x done (bytes_in offset count) = (s : Sum) → ¬ IsArithmetic a x s
+-- arithmetic changes no bytes but by storing values
+IsInPlace statement a x done (bytes_in offset count) =
+    (s : Sum) (targets : List Target) (remainder : Option ℕ) (size : Phrase) (fine : Stmts) → ¬ a ≡ arith s targets remainder size fine
 IsInPlace statement a x done y = Unit {0}
 
 abbrev pub PartsAreInPlace : Type 0
 PartsAreInPlace = (p : Program) (statement : ℕ) (a : Act) (x : Action) (done rest : List Part) (y : Part)
     → done ++ y ∷ rest ≡ parts_of p statement a x → IsInPlace statement a x done y
+
+-- Arithmetic has parts on two edges alone.
+abbrev pub ArithmeticIsDone : Type 0
+ArithmeticIsDone =
+    (p : Program) (statement : ℕ) (s : Sum) (targets : List Target) (remainder : Option ℕ) (size : Phrase) (fine : Stmts) (x : Action)
+    (done rest : List Part) (y : Part) → done ++ y ∷ rest ≡ parts_of p statement (arith s targets remainder size fine) x
+    → (x ≡ action.Done) ⊎ (x ≡ action.Size)
