@@ -61,10 +61,10 @@ fitted_fits r i own (Some j) least within =
 
 module _ (given : Given) where
   pub form_fits : (f : Form) (i : Interval) → IfSome (fitted (receiver_of f) i) (λ j. KnownFits (form_range f) (Some j))
-  form_fits f i = fitted_fits (receiver_of f) i (form_range f) (fitted (receiver_of f) i) (given.kept (receiver_of f) i) (kept_in_form f)
+  form_fits f i = fitted_fits (receiver_of f) i (form_range f) (fitted (receiver_of f) i) (given.kept_ (receiver_of f) i) (kept_in_form f)
 
   pub count_fits : (i : Interval) → IfSome (count_range i) (λ j. KnownFits (picture_range 18 true) (Some j))
-  count_fits i = fitted_fits counter i (picture_range 18 true) (fitted counter i) (given.kept counter i) (kept_within 18 true)
+  count_fits i = fitted_fits counter i (picture_range 18 true) (fitted counter i) (given.kept_ counter i) (kept_within 18 true)
 
   pub result_fits : (mode : Mode) (f : Form) (a : AmountRange) → IfSome (result_range mode (receiver_of f) a) (λ j. KnownFits (form_range f) (Some j))
   result_fits mode f a = go (amount_units mode (receiver_of f).scale a)

@@ -8,7 +8,7 @@ use Rattle.cob_program.specs.declared.act.How.{How}
 use Rattle.cob_program.specs.declared.act.How.TheVariants as how
 use Rattle.cob_program.specs.Sum.{Sum, MkSum, no_parts, more_parts, Part, MkPart, Factors, no_factors, more_factors, MkFactor, Atom, item}
 use Rattle.cob_program.specs.Values.{whole_number, with_factor, Root, root_in, root_of, behind_factor, ◌>>=◌}
-use Rattle.cob_program.specs.Act.{Act, move, arith, if_, evaluate, perform, go, nothing, stop, open_files, close_files, read, write, show}
+use Rattle.cob_program.specs.Act.{Act, move, arith as arithmetic, if_, evaluate, perform, go, nothing, stop, open_files, close_files, read, write, show}
 use Rattle.cob_runs.specs.declared.action.Action.{Action}
 use Rattle.cob_runs.specs.declared.action.Action.TheVariants as action
 use Rattle.cob_edge_parts.specs.Parts.{Amount, moved, computed, remaining, augmented, is_handled, has_phrase, is_under}
@@ -25,7 +25,8 @@ use Rattle.result_ranges.specs.declared.amounts.Taken.{Taken}
 use Rattle.result_ranges.specs.declared.amounts.AmountRange.{AmountRange}
 use Rattle.result_ranges.specs.declared.amounts.AmountRange.TheVariants as range
 use Rattle.result_ranges.specs.Amounts.{taken, IsNarrowerIfAny, IsNarrowerTaken, IsNarrowerTakenIfAny, IsNarrowerAmount}
-use Rattle.result_ranges.specs.Operands.{alone, is_whole, taken_from, taken_sum, operands, computed_range, remaining_range, amount_range}
+use Rattle.result_ranges.specs.Operands.{alone, taken_from, taken_sum, computed_range, remaining_range}
+use Rattle.result_ranges.specs.Stores.{operands, amount_range}
 use Rattle.cell_steps.specs.Operands.{edge_amount, edge_operands, operands_vanish, settled_by, settled, stays_exact, taken_for, amount_of, is_divided, may_divide_by_zero}
 use Rattle.cell_rises.proofs.Given.{Given}
 
@@ -143,7 +144,7 @@ module _ (range : ℕ → Ranged) where
 
     untaken_by : (a : Act) (x : Action) → has_phrase a ≡ true → edge_operands range a x ≡ None → operands_vanish range a ≡ true
     untaken_by (move y places) x h e = absurd cc
-    untaken_by (arith s targets remainder size fine) x h e = untaken_vanishes s e
+    untaken_by (arithmetic s targets remainder size fine) x h e = untaken_vanishes s e
     untaken_by (if_ t held other) x h e = absurd cc
     untaken_by (evaluate ws other) x h e = absurd cc
     untaken_by (perform body turns) x h e = absurd cc
@@ -165,7 +166,7 @@ module _ (range : ℕ → Ranged) where
 module _ (narrow wide : ℕ → Ranged) (within : (place : ℕ) → IsNarrower (narrow place) (wide place)) where
   pub operands_vanish_rises : (a : Act) → operands_vanish narrow a ≡ true → operands_vanish wide a ≡ true
   operands_vanish_rises (move y places) e = e
-  operands_vanish_rises (arith s targets remainder size fine) e = vanish_rises narrow wide within s e
+  operands_vanish_rises (arithmetic s targets remainder size fine) e = vanish_rises narrow wide within s e
   operands_vanish_rises (if_ t held other) e = e
   operands_vanish_rises (evaluate ws other) e = e
   operands_vanish_rises (perform body turns) e = e
@@ -180,7 +181,7 @@ module _ (narrow wide : ℕ → Ranged) (within : (place : ℕ) → IsNarrower (
 
   amount_operands_below : Given → (o : Option Amount) → IsNarrowerTakenIfAny (o >>= operands narrow) (o >>= operands wide)
   amount_operands_below given None = tt
-  amount_operands_below given (Some y) = given.operands narrow wide within y
+  amount_operands_below given (Some y) = given.operands_ narrow wide within y
 
   pub edge_operands_below : Given → (a : Act) (x : Action) → IsNarrowerTakenIfAny (edge_operands narrow a x) (edge_operands wide a x)
   edge_operands_below given a x = amount_operands_below given (edge_amount a x)
@@ -249,7 +250,7 @@ remaining_below scale t u (Some a) (Some b) n m = (n, m, refl)
 
 amount_range_below : Given → (y : Amount) (own wider : Ranged) (t u : Taken) → IsNarrower own wider → IsNarrowerTaken t u → AmountBelow (amount_range y own t) (amount_range y wider u)
 amount_range_below given (moved x) own wider t u n m = m.top
-amount_range_below given (computed s h) own wider t u n m = given.computed h own wider t u n m
+amount_range_below given (computed s h) own wider t u n m = given.computed_ h own wider t u n m
 amount_range_below given (remaining s scale) own wider t u n m = remaining_below scale t u t.under u.under m.top m.under
 amount_range_below given (augmented x) own wider t u n m = plus_narrower own t.top wider u.top n m.top
 

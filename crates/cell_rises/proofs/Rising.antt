@@ -142,8 +142,8 @@ module _ (p : Program) where
       (guarded p.layout (range_at p as_) (is_numeric p.layout (homes_of p) as_) t wanted)
       (guarded p.layout (range_at p bs) (is_numeric p.layout (homes_of p) bs) t wanted)
       (λ place. units_fit p.layout (homes_of p) as_ (of_item place) f.fits) f
-      (given.cuts p.layout (range_at p as_) (is_numeric p.layout (homes_of p) as_) (range_ordered p.layout (homes_of p) as_ f.fits) t wanted)
-      (given.guards p.layout (range_at p as_) (is_numeric p.layout (homes_of p) as_) (range_at p bs) (is_numeric p.layout (homes_of p) bs)
+      (given.cuts_ p.layout (range_at p as_) (is_numeric p.layout (homes_of p) as_) (range_ordered p.layout (homes_of p) as_ f.fits) t wanted)
+      (given.guards_ p.layout (range_at p as_) (is_numeric p.layout (homes_of p) as_) (range_at p bs) (is_numeric p.layout (homes_of p) bs)
         (knows_more p.layout (homes_of p) as_ bs f.fits f.below) t wanted)
 
   count_part : (own i : Interval) (o : Option Interval) → KnownFits own (Some i) → IfSome o (λ j. IsInside j i × (j.low ≤ℤ j.high)) → IfSome o (λ j. KnownFits own (Some j))
@@ -158,8 +158,8 @@ module _ (p : Program) where
       let j = units_of p.layout (homes_of p) bs (of_count n) in
       let w = units_below p.layout (homes_of p) as_ bs (of_count n) f.fits f.below in
       known_if_below (of_count n) as_ bs (count_kept wanted i) (count_kept wanted j) f
-      (count_part (home_range p.layout (of_count n)) i (count_kept wanted i) (units_fit p.layout (homes_of p) as_ (of_count n) f.fits) (given.counts_fit wanted i))
-      (given.counts wanted i j (w.low, w.high))
+      (count_part (home_range p.layout (of_count n)) i (count_kept wanted i) (units_fit p.layout (homes_of p) as_ (of_count n) f.fits) (given.counts_fit_ wanted i))
+      (given.counts_ wanted i j (w.low, w.high))
 
 -- ---- divisors
 
@@ -167,7 +167,7 @@ le_test : (z w : ℤ) → int_le z w ≡ true → z ≤ℤ w
 le_test z w e = omega (arith, ints, e)
 
 test_le : (z w : ℤ) → z ≤ℤ w → int_le z w ≡ true
-test_le z w e = omega (arith, ints, e)
+test_le z w e = grind (arith, ints, e)
 
 both_true : (b c : Bool) → (b && c) ≡ true → (b ≡ true) × (c ≡ true)
 both_true true c e = (refl, e)
@@ -310,7 +310,7 @@ module _ (given : Given) (p : Program) (a : Act) (x : Action) where
         go None q m = tt
         go (Some u) None (inl m) = absurd m
         go (Some u) None (inr m) = absurd (grind (arith, m.0))
-        go (Some u) (Some v) (inl m) = given.results mode (receiver_of its_form) u v m
+        go (Some u) (Some v) (inl m) = given.results_ mode (receiver_of its_form) u v m
         go (Some u) (Some v) (inr m) = absurd (grind (arith, m.0))
 
     results_below : IsInsideIfAny (result_at p a x s place mode y) (result_at p a x t place mode y)
@@ -343,7 +343,7 @@ module _ (given : Given) (p : Program) (a : Act) (x : Action) where
 
     lengths : (q : Option Interval) → HasLength (length t.cells) (option_map (stored_cells p place t.cells) q)
     lengths None = tt
-    lengths (Some j) = sym (with_known_length (homes_of p) (forgotten (is_beside p.layout place) (homes_of p) t.cells) (of_item place) (Some j) ∙ forgotten_length (is_beside p.layout place) (homes_of p) t.cells)
+    lengths (Some j) = sym (with_known_length (homes_of p) (forgotten (is_beside p.layout place) (homes_of p) t.cells) (of_item place) (stored_known its_form j) ∙ forgotten_length (is_beside p.layout place) (homes_of p) t.cells)
 
     -- ---- whether it may fail
 
@@ -364,7 +364,7 @@ module _ (given : Given) (p : Program) (a : Act) (x : Action) where
         go u None m f = inl refl
         go None (Some v) (inl m) f = absurd m
         go None (Some v) (inr m) f = inr (inr (vanishes (or_left _ _ m.1)))
-        go (Some u) (Some v) (inl m) f = inl (given.fails mode (receiver_of its_form) u v m f)
+        go (Some u) (Some v) (inl m) f = inl (given.fails_ mode (receiver_of its_form) u v m f)
         go (Some u) (Some v) (inr m) f = absurd (grind (arith, m.0))
 
     vanish_rises_in : (o q : Option Taken) → IsNarrowerTakenIfAny o q → (o ≡ None → t.may_zero ≡ true) → may_vanish o y ≡ true → (t.may_zero ≡ true) ⊎ (may_vanish q y ≡ true)
@@ -457,7 +457,7 @@ module _ (given : Given) (p : Program) (a : Act) (x : Action) where
       inside : (o q : Option Taken) → IsNarrowerTakenIfAny o q → IsInsideIfAny (o >>= λ c. count_range c.top.units) (q >>= λ c. count_range c.top.units)
       inside None q m = tt
       inside (Some c) None m = absurd m
-      inside (Some c) (Some d) m = given.fitted counter c.top.units d.top.units (m.top.low, m.top.high)
+      inside (Some c) (Some d) m = given.fitted_ counter c.top.units d.top.units (m.top.low, m.top.high)
 
   count_down_rises : (n : ℕ) (s t : Seen) → Below s t → BelowIf p a x (after_down p n s) (after_down p n t)
   count_down_rises n s t h =
@@ -466,7 +466,7 @@ module _ (given : Given) (p : Program) (a : Act) (x : Action) where
       let w = units_below p.layout (homes_of p) s.cells t.cells (of_count n) h.fits h.cells in
       cells_if_below s t (option_map (known_as p (of_count n) s.cells) (count_range (lowered i))) (option_map (known_as p (of_count n) t.cells) (count_range (lowered j))) h
       (known_if_below p (of_count n) s.cells t.cells (count_range (lowered i)) (count_range (lowered j)) (fit_below s t h) (count_fits given (lowered i))
-      (given.fitted counter (lowered i) (lowered j) (let l = w.low in omega (arith, ints, l), let m = w.high in omega (arith, ints, m))))
+      (given.fitted_ counter (lowered i) (lowered j) (let l = w.low in omega (arith, ints, l), let m = w.high in omega (arith, ints, m))))
 
   -- ---- all parts
 

@@ -15,10 +15,10 @@ use Rattle.result_ranges.specs.declared.amounts.Taken.{Taken}
 use Rattle.result_ranges.specs.Receivers.{receiver_of}
 use Rattle.result_ranges.specs.ResultRanges.{may_fail, lowered, count_may_fail}
 use Rattle.cell_storages.specs.Homes.{of_item, of_count, homes_of}
-use Rattle.cell_steps.specs.Cells.{units_of, range_at, is_numeric}
+use Rattle.cell_steps.specs.Cells.{units_of, is_numeric}
 use Rattle.cell_steps.specs.Operands.{amount_of}
 use Rattle.cell_steps.specs.Seen.{Seen}
-use Rattle.cell_steps.specs.Stores.{with_taken}
+use Rattle.cell_steps.specs.Stores.{range_at, with_taken}
 use Rattle.cell_steps.specs.Steps.{step}
 
 -- whether a store's fault is of this kind
@@ -34,7 +34,7 @@ module _ (p : Program) (a : Act) (x : Action) where
   abbrev pub all_fit_of : Seen → ℕ → Mode → Amount → Taken → Bool
   all_fit_of t place mode amount c =
       option_map_or (λ r. not (may_fail mode (receiver_of (form_at p.layout place)) r))
-      (amount_of amount (range_at p.layout (homes_of p) t.cells place) c) (is_some c.under)
+      (amount_of amount (range_at p t.cells place) c) (is_some c.under)
 
   abbrev pub all_fit : Seen → ℕ → Mode → Amount → Bool
   all_fit t place mode amount = option_map_or (all_fit_of t place mode amount) t.common true
@@ -46,7 +46,7 @@ module _ (p : Program) (a : Act) (x : Action) where
   abbrev pub clears_part : Part → Seen → Kind → Bool
   clears_part (read place) s kind.Class = is_numeric p.layout (homes_of p) s.cells place
   clears_part unread s kind.Class = false
-  clears_part (divide d) s kind.Zero = has_phrase a || not (holds_zero (atom_range (range_at p.layout (homes_of p) s.cells) d))
+  clears_part (divide d) s kind.Zero = has_phrase a || not (holds_zero (atom_range (range_at p s.cells) d))
   clears_part (store place mode amount) s fault =
       has_phrase a || (not (is_misfit amount fault) || all_fit (with_taken p a x s) place mode amount)
   clears_part (set_count statement y) s kind.Size = all_count (with_taken p a x s)

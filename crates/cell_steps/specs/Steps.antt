@@ -18,9 +18,9 @@ use Rattle.guard_ranges.specs.Guards.{guarded}
 use Rattle.guard_ranges.specs.Counts.{count_kept}
 use Rattle.cell_rows.specs.Known.{Known}
 use Rattle.cell_storages.specs.Homes.{Home, of_item, of_count, homes_of}
-use Rattle.cell_steps.specs.Cells.{units_of, range_at, is_numeric, with_known, forgotten, is_in_bytes}
+use Rattle.cell_steps.specs.Cells.{units_of, is_numeric, with_known, forgotten, is_in_bytes}
 use Rattle.cell_steps.specs.Seen.{Seen, with_cells, with_zero}
-use Rattle.cell_steps.specs.Stores.{handled, with_taken, stored}
+use Rattle.cell_steps.specs.Stores.{range_at, handled, with_taken, stored}
 
 abbrev pub is_zero_alone : Ranged → Bool
 is_zero_alone r = int_le (pos 0) r.units.low && int_le r.units.high (pos 0)
@@ -49,7 +49,7 @@ module _ (p : Program) where
   abbrev pub guarded_cells : Test → Bool → List Known → Option (List Known)
   guarded_cells t wanted cells =
       option_map (all_cut cells)
-      (guarded p.layout (range_at p.layout (homes_of p) cells) (is_numeric p.layout (homes_of p) cells) t wanted)
+      (guarded p.layout (range_at p cells) (is_numeric p.layout (homes_of p) cells) t wanted)
 
   -- what the test of a loop by TIMES leaves
   abbrev pub counted_cells : ℕ → Bool → List Known → Option (List Known)
@@ -60,16 +60,12 @@ module _ (p : Program) where
 abbrev pub with_cells_if : Seen → Option (List Known) → Option Seen
 with_cells_if s cells = option_map (with_cells s) cells
 
-module _ (p : Program) (a : Act) (x : Action) where
+-- ---- parts
+
+module _ (p : Program) where
   -- Behind a divisor that may have been 0 a receiver may not have been read.
   abbrev pub after_read : ℕ → Seen → Seen
   after_read place s = if s.may_zero then s else with_cells s (read_cells p (of_item place) s.cells)
-
-  -- On an edge of size errors a divisor may be 0, on others it isn't.
-  abbrev pub after_divide : Atom → Seen → Option Seen
-  after_divide d s =
-      if handled p a x then Some (with_zero s (s.may_zero || may_be_zero (range_at p.layout (homes_of p) s.cells) d))
-      else (if can_divide (atom_range (range_at p.layout (homes_of p) s.cells) d) then Some s else None)
 
   abbrev pub after_bytes : ℕ → ℕ → Seen → Seen
   after_bytes offset count t = with_cells t (forgotten (is_in_bytes p.layout offset count) (homes_of p) t.cells)
@@ -85,15 +81,22 @@ module _ (p : Program) (a : Act) (x : Action) where
       with_cells_if s (option_map (known_as p (of_count statement) s.cells)
       (count_range (lowered (units_of p.layout (homes_of p) s.cells (of_count statement)))))
 
+module _ (p : Program) (a : Act) (x : Action) where
+  -- On an edge of size errors a divisor may be 0, on others it isn't.
+  abbrev pub after_divide : Atom → Seen → Option Seen
+  after_divide d s =
+      if handled p a x then Some (with_zero s (s.may_zero || may_be_zero (range_at p s.cells) d))
+      else (if can_divide (atom_range (range_at p s.cells) d) then Some s else None)
+
   -- Nothing where no run passes the part.
   abbrev pub step : Part → Seen → Option Seen
-  step (read place) s = Some (after_read place s)
+  step (read place) s = Some (after_read p place s)
   step unread s = None
   step (divide d) s = after_divide d s
   step (store place mode amount) s = stored p a x (with_taken p a x s) place mode amount
-  step (bytes_in offset count) s = Some (after_bytes offset count (with_taken p a x s))
+  step (bytes_in offset count) s = Some (after_bytes p offset count (with_taken p a x s))
   step (guard t wanted) s = with_cells_if s (guarded_cells p t wanted s.cells)
   step (read_count statement) s = Some (with_cells s (read_cells p (of_count statement) s.cells))
-  step (set_count statement y) s = after_count statement (with_taken p a x s)
-  step (count_down statement) s = after_down statement s
+  step (set_count statement y) s = after_count p statement (with_taken p a x s)
+  step (count_down statement) s = after_down p statement s
   step (guard_count statement wanted) s = with_cells_if s (counted_cells p statement wanted s.cells)

@@ -14,7 +14,7 @@ use Rattle.cob_program.specs.Logic.{Logic}
 use Rattle.cob_runs.specs.declared.action.Action.{Action}
 use Rattle.cob_runs.specs.declared.action.Action.TheVariants as action
 use Rattle.cob_runs.specs.Computing.{items_in, items_in_atom, result, remainder_of}
-use Rattle.cob_edge_parts.specs.Parts.{Amount, moved, computed, remaining, augmented, Part, read, divide, store, bytes_in, read_count, set_count, count_down, item_reads, number_reads, divides, divisors_of, parts_of, is_times}
+use Rattle.cob_edge_parts.specs.Parts.{Amount, moved, computed, remaining, augmented, Part, read, divide, store, bytes_in, read_count, set_count, count_down, guard_count, item_reads, number_reads, divides, divisors_of, parts_of, is_times}
 use Rattle.cob_edge_parts.specs.Meaning.{divides_by}
 
 -- ---- arithmetic
@@ -98,6 +98,7 @@ IsInPlace statement a x done (divide d) = IsDivided done d
 IsInPlace statement a x done (store place mode y) = IsStored a x done place y
 IsInPlace statement a x done (set_count n y) = (n ≡ statement) × Counts a x y × IsBehindSender y done
 IsInPlace statement a x done (count_down n) = (n ≡ statement) × (done ≡ read_count n ∷ [])
+IsInPlace statement a x done (guard_count n wanted) = (n ≡ statement) × (is_times a ≡ true)
 -- arithmetic changes no bytes but by storing values
 IsInPlace statement a x done (bytes_in offset count) =
     (s : Sum) (targets : List Target) (remainder : Option ℕ) (size : Phrase) (fine : Stmts) → ¬ a ≡ arith s targets remainder size fine
