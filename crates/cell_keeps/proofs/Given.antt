@@ -25,6 +25,7 @@ use Rattle.result_ranges.specs.ResultRanges.{result_range, may_fail, exceeds, fi
 use Rattle.guard_ranges.specs.Guards.{guarded}
 use Rattle.guard_ranges.specs.Counts.{count_kept}
 use Rattle.guard_ranges.specs.Meaning.{ItemsHold, CutsHold}
+use Rattle.cell_rises.proofs.Given as rises
 use Rattle.edge_places.specs.Places.{PartsAreInPlace, ArithmeticIsDone}
 use Rattle.cell_rows.specs.Known.{Known}
 use Rattle.cell_storages.specs.Storages.{storage, StandsIn}
@@ -34,6 +35,7 @@ use Rattle.cell_steps.specs.Stores.{range_at}
 use Rattle.cell_steps.specs.Agreeing.{OperandsHold}
 
 pub record Given : Type 0 where
+  pub rising : rises.Given
   pub fits_ : (mode : Mode) (f : Form) (a : AmountRange) (v : Fraction) (bytes : List ℕ) → IsAmount a v → stored mode f v ≡ Some bytes
       → IsSomeAnd (result_range mode (receiver_of f) a) (λ i. (z : ℤ) × Holds i z × (bytes ≡ bytes_of f z))
   pub fails_ : (mode : Mode) (f : Form) (a : AmountRange) (v : Fraction) → IsAmount a v → stored mode f v ≡ None → may_fail mode (receiver_of f) a ≡ true

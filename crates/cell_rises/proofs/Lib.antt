@@ -4,3 +4,4 @@ pub mod Ranges
 pub mod Operands
 pub mod Fitting
 pub mod Rising
+pub mod Falling

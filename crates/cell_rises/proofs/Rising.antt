@@ -177,7 +177,7 @@ and_true : (b c : Bool) → b ≡ true → c ≡ true → (b && c) ≡ true
 and_true true c e f = f
 and_true false c e f = absurd cc
 
-not_falls : (b c : Bool) → (c ≡ true → b ≡ true) → not b ≡ true → not c ≡ true
+pub not_falls : (b c : Bool) → (c ≡ true → b ≡ true) → not b ≡ true → not c ≡ true
 not_falls true c h e = absurd cc
 not_falls false true h e = absurd (grind (arith, h refl))
 not_falls false false h e = refl
