@@ -60,7 +60,7 @@ module _ (l : Layout) (handled : Bool) where
 
   -- ---- divisors that were 0
 
-  read_zero : (b : Bool) (place : ℕ) (m n : Moment) → ReadsAt l b place m n → n.by_zero ≡ m.by_zero
+  pub read_zero : (b : Bool) (place : ℕ) (m n : Moment) → ReadsAt l b place m n → n.by_zero ≡ m.by_zero
   read_zero true place m n e = ap (λ (k : Moment). k.by_zero) e
   read_zero false place m n (v, f, e) = ap (λ (k : Moment). k.by_zero) e
 
@@ -68,7 +68,7 @@ module _ (l : Layout) (handled : Bool) where
   kept_zero m place None = refl
   kept_zero m place (Some bytes) = refl
 
-  store_zero : (h : Bool) (place : ℕ) (mode : Mode) (y : Amount) (m n : Moment) → Stores l h place mode y m n → n.by_zero ≡ m.by_zero
+  pub store_zero : (h : Bool) (place : ℕ) (mode : Mode) (y : Amount) (m n : Moment) → Stores l h place mode y m n → n.by_zero ≡ m.by_zero
   store_zero true place mode y m n e = ap (λ (k : Moment). k.by_zero) e ∙ go (is_left_alone m y)
     where
       go : (b : Bool) → (if b then m else stored_or_kept l m place (stored_bytes l m place mode y)).by_zero ≡ m.by_zero

@@ -114,7 +114,7 @@ module _ (p : Program) (statement : ℕ) (a : Act) (x : Action) where
   pub quiet_at : (done : List Part) (y : Part) (s t : Seen) (m n : Moment) → Agrees p statement a x done s m → PassesPart p.layout (handled p a x) y m n
       → writes y ≡ false → is_store y ≡ false → n.storage ≡ m.storage → n.first ≡ m.first → n.by_zero ≡ m.by_zero → n.failed ≡ m.failed
       → SeenOn s t → StandsIn p t.cells (storage n.storage n.counts) → Agrees p statement a x (done ++ y ∷ []) t n
-  quiet_at done y s t m n g passes quiet_ no_store bytes first zero failed on stands = record {
+  quiet_at done y s t m n g passes quiet_ no_store bytes first divided failed on stands = record {
     sound = g.sound;
     counts = g.counts;
     passed = subst (λ (before : List ℕ). PassesParts p.layout (handled p a x) (done ++ y ∷ []) (run.beginning before g.counts) n) (sym first)
@@ -125,10 +125,10 @@ module _ (p : Program) (statement : ℕ) (a : Act) (x : Action) where
     took = λ e. subst (λ (before : List ℕ). OperandsHold p statement a x before t.common) (sym first)
         (subst (λ (c : Option Taken). OperandsHold p statement a x m.first c) (sym on.common) (g.took (sym on.written ∙ e)));
     taken = λ e. let k = g.taken (sym on.written ∙ e) in (k.0, on.common ∙ k.1);
-    zero = λ e. on.zero (g.zero (sym zero ∙ e));
-    fails = λ e f. on.fails (g.fails (sym failed ∙ e) (sym zero ∙ f));
+    zero = λ e. on.zero (g.zero (sym divided ∙ e));
+    fails = λ e f. on.fails (g.fails (sym failed ∙ e) (sym divided ∙ f));
     all_fail = λ e f. elim (any_last is_store done y f) [
-      | inl h ↦ on.fails (g.all_fail (sym zero ∙ e) h)
+      | inl h ↦ on.fails (g.all_fail (sym divided ∙ e) h)
       | inr h ↦ absurd cc
     ];
   }
@@ -194,7 +194,7 @@ module _ (p : Program) (statement : ℕ) (a : Act) (x : Action) where
   -- ---- counters
 
   -- the number of a TIMES's counter
-  times_small : (s : Seen) (m : Moment) (n : ℕ) (v : ℤ) → StandsIn p s.cells (storage m.storage m.counts) → IsTimesAt p n → count_in m.counts n ≡ Some v → IsCount v
+  pub times_small : (s : Seen) (m : Moment) (n : ℕ) (v : ℤ) → StandsIn p s.cells (storage m.storage m.counts) → IsTimesAt p n → count_in m.counts n ≡ Some v → IsCount v
   times_small s m n v stands is e =
       let h = stands.counted n is.act is.at is.times in
       let held = h.held in

@@ -112,7 +112,7 @@ module _ (p : Program) (statement : ℕ) (a : Act) (x : Action) where
   numeric_operands done first counts m (store place mode (moved y)) w q passed s ts r size fine e = absurd (subst (λ (b : Act). Moves b x y) e q.0)
   numeric_operands done first counts m (store place mode (augmented y)) w q passed s ts r size fine e = absurd (subst (λ (b : Act). Augments b x y) e q.0)
   numeric_operands done first counts m (bytes_in offset count) w q passed s ts r size fine e = absurd (q s ts r size fine e)
-  numeric_operands done first counts m (set_count n y) w q passed s ts r size fine e = absurd (subst (λ (b : Act). Counts b x y) e q.1.0)
+  numeric_operands done first counts m (set_count n y) w q passed s ts r size fine e = absurd (subst (λ (b : Act). Counts b x y) e q.1)
   numeric_operands done first counts m (read place) w q passed s ts r size fine e = absurd cc
   numeric_operands done first counts m unread w q passed s ts r size fine e = absurd cc
   numeric_operands done first counts m (divide d) w q passed s ts r size fine e = absurd cc
@@ -250,7 +250,7 @@ module _ (p : Program) (statement : ℕ) (a : Act) (x : Action) where
       last (y ∷ xs) k (next, h, hs) = last xs next hs
 
   -- the amount of a store is one of the edge's
-  its_amount : (done : List Part) (place : ℕ) (y : Amount) → IsStored a x done place y → edge_amount a x ≡ Some (of_operands y)
+  pub its_amount : (done : List Part) (place : ℕ) (y : Amount) → IsStored a x done place y → edge_amount a x ≡ Some (of_operands y)
   its_amount done place (computed s h) q = ap (λ (b : Act). edge_amount b x) q.arithmetic.act
   its_amount done place (remaining s scale) q = ap (λ (b : Act). edge_amount b x) q.arithmetic.act
   its_amount done place (moved y) q = moves_amount a x y q.0

@@ -22,7 +22,7 @@ use Rattle.sum_ranges.specs.declared.ranged.Ranged.{Ranged}
 use Rattle.sum_ranges.specs.Ranged.{IsIn}
 use Rattle.result_ranges.specs.declared.amounts.Taken.{Taken}
 use Rattle.result_ranges.specs.Amounts.{IsAmount}
-use Rattle.graph_runs.specs.Counters.{IsCount, IsCounted}
+use Rattle.graph_runs.specs.Counters.{PassesPart, FaultsAtPart, PassesParts}
 use Rattle.cell_storages.specs.Homes.{of_count, homes_of}
 use Rattle.cell_storages.specs.Storages.{storage, StandsIn}
 use Rattle.cell_storages.specs.Premises.{HasSoundItems}
@@ -88,7 +88,7 @@ module _ (p : Program) (statement : ℕ) (a : Act) (x : Action) where
   pub record Agrees (done : List Part) (s : Seen) (m : Moment) : Type 0 where
     pub sound : IsSoundEdge p statement a x
     pub counts : List (Option ℤ)
-    pub passed : PassesAll p.layout (handled p a x) done (run.beginning m.first counts) m
+    pub passed : PassesParts p.layout (handled p a x) done (run.beginning m.first counts) m
     pub stands : StandsIn p s.cells (storage m.storage m.counts)
     pub fresh : s.written ≡ false → m.storage ≡ m.first
     pub unwritten : list_any writes done ≡ false → s.written ≡ false

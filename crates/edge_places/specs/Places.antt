@@ -108,9 +108,15 @@ abbrev pub PartsAreInPlace : Type 0
 PartsAreInPlace = (p : Program) (statement : ℕ) (a : Act) (x : Action) (done rest : List Part) (y : Part)
     → done ++ y ∷ rest ≡ parts_of p statement a x → IsInPlace statement a x done y
 
--- Arithmetic has parts on two edges alone.
+-- a divisor, or a value for an item
+abbrev pub is_worked : Part → Bool
+is_worked (divide d) = true
+is_worked (store place mode y) = true
+is_worked _ = false
+
+-- Arithmetic is worked on two edges alone.
 abbrev pub ArithmeticIsDone : Type 0
 ArithmeticIsDone =
     (p : Program) (statement : ℕ) (s : Sum) (targets : List Target) (remainder : Option ℕ) (size : Phrase) (fine : Stmts) (x : Action)
-    (done rest : List Part) (y : Part) → done ++ y ∷ rest ≡ parts_of p statement (arith s targets remainder size fine) x
+    (done rest : List Part) (y : Part) → done ++ y ∷ rest ≡ parts_of p statement (arith s targets remainder size fine) x → is_worked y ≡ true
     → (x ≡ action.Done) ⊎ (x ≡ action.Size)
