@@ -46,7 +46,7 @@ use Rattle.cell_steps.specs.Clearing.{is_misfit, has_quotient, all_fit_of, all_f
 use Rattle.cell_steps.specs.Agreeing.{IsSoundEdge, Agrees, FaultsOn}
 use Rattle.cell_rises.proofs.Operands.{or_either}
 use Rattle.cell_keeps.proofs.Given.{Given}
-use Rattle.cell_keeps.proofs.Holding.{if_home, numeric_there, count_holds}
+use Rattle.cell_standing.proofs.Holding.{if_home, numeric_there, count_holds}
 use Rattle.cell_keeps.proofs.Done.{both_true, and_true, read_first, divisors_count}
 use Rattle.cell_keeps.proofs.Quiet.{times_small}
 use Rattle.cell_keeps.proofs.Storing.{is_there, TakenAt, taken_at, HasRoot, amount_there, counts_amount, amount_meant}

@@ -57,10 +57,10 @@ use Rattle.cell_rises.proofs.Lists.{with_known_length, forgotten_length, joined_
 use Rattle.cell_rises.proofs.Operands.{or_left, or_right}
 use Rattle.cell_rises.proofs.Fitting.{result_fits}
 use Rattle.cell_keeps.proofs.Given.{Given}
-use Rattle.cell_keeps.proofs.Standing.{known_left, all_stand_above}
-use Rattle.cell_keeps.proofs.Frames.{value_stays, range_changes}
-use Rattle.cell_keeps.proofs.Counters.{count_set, count_elsewhere, differs, counted_set}
-use Rattle.cell_keeps.proofs.Holding.{if_home, home_set, number_holds, range_is_ordered, count_holds}
+use Rattle.cell_standing.proofs.Standing.{known_left, all_stand_above}
+use Rattle.cell_standing.proofs.Frames.{value_stays, range_changes}
+use Rattle.cell_standing.proofs.Counters.{count_set, count_elsewhere, differs, counted_set}
+use Rattle.cell_standing.proofs.Holding.{if_home, home_set, number_holds, range_is_ordered, count_holds}
 use Rattle.cell_keeps.proofs.Done.{and_true, any_last, none_written, read_first, divisors_count, read_zero, store_zero, all_contained, contained_all}
 use Rattle.cell_keeps.proofs.Quiet.{SameMoment, same_moment, SeenOn, AllKnown, quiet, quiet_at, read_keeps, guard_keeps, read_count_keeps, guard_count_keeps, times_small}
 use Rattle.cell_keeps.proofs.Storing.{then_holds, then_is, is_there, TakenAt, taken_at, written_agrees, HasRoot, amount_there, its_amount, counts_amount, amount_meant, stored_stands}

@@ -42,7 +42,7 @@ use Rattle.cell_steps.specs.Steps.{known_as, read_cells, cut_cells, all_cut, gua
 use Rattle.cell_steps.specs.Agreeing.{IsTimesAt, IsSoundEdge, OperandsHold, writes, is_store, Agrees, walking}
 use Rattle.cell_rises.proofs.Lists.{chosen}
 use Rattle.cell_keeps.proofs.Given.{Given}
-use Rattle.cell_keeps.proofs.Holding.{home_set, units_hold, number_holds, items_hold, count_holds, times_count}
+use Rattle.cell_standing.proofs.Holding.{home_set, units_hold, number_holds, items_hold, count_holds, times_count}
 use Rattle.cell_keeps.proofs.Done.{any_front, any_last, passes_snoc}
 
 -- ---- moments

@@ -54,9 +54,9 @@ use Rattle.cell_steps.specs.Agreeing.{IsSoundEdge, OperandsHold, of_operands, wr
 use Rattle.cell_rises.proofs.Operands.{or_left, or_right}
 use Rattle.cell_rises.proofs.Fitting.{result_fits}
 use Rattle.cell_keeps.proofs.Given.{Given}
-use Rattle.cell_keeps.proofs.Standing.{known_left}
-use Rattle.cell_keeps.proofs.Frames.{filled_length, others_stay, held_value}
-use Rattle.cell_keeps.proofs.Holding.{home_set, number_holds, range_is_ordered}
+use Rattle.cell_standing.proofs.Standing.{known_left}
+use Rattle.cell_standing.proofs.Frames.{filled_length, others_stay, held_value}
+use Rattle.cell_standing.proofs.Holding.{home_set, number_holds, range_is_ordered}
 use Rattle.cell_keeps.proofs.Done.{any_last, passes_snoc, zero_before_all, read_first, divisors_count, read_zero, store_zero}
 use Rattle.cell_keeps.proofs.Quiet.{AllKnown}
 

@@ -1,20 +1,18 @@
 -- When what is seen is true of a moment of a run, and the parts of an edge as a walk.
-use Rattle.std.specs.Prelude.{◌≡◌, ◌⊎◌, ◌≤◌, ℕ, ◌+◌, ◌-◌, Bool, true, false, List, [], ◌∷◌, ◌++◌, Option, Some, None, IsSomeAnd, ℤ, pos, ◌-ℤ◌}
+use Rattle.std.specs.Prelude.{◌≡◌, ◌≤◌, ℕ, ◌+◌, Bool, true, false, List, [], ◌∷◌, ◌++◌, Option, Some, None, IsSomeAnd, ℤ}
 use Rattle.std.specs.List.{list_any, Contains}
 use Rattle.dec_num.specs.declared.types.Mode.{Mode}
-use Rattle.dec_num.specs.declared.types.Scaled.{Scaled}
 use Rattle.dec_num.specs.Exact.{Fraction}
 use Rattle.cob_tree.specs.declared.fault.Kind.{Kind}
-use Rattle.cob_tree.specs.declared.fault.Kind.TheVariants as kind
 use Rattle.cob_program.specs.declared.act.How.TheVariants as how
 use Rattle.cob_program.specs.Act.{Act, Program}
 use Rattle.cob_runs.specs.declared.action.Action.{Action}
 use Rattle.cob_runs.specs.Contents.{form_at}
-use Rattle.cob_runs.specs.Moves.{takes_number, number_of}
+use Rattle.cob_runs.specs.Moves.{takes_number}
 use Rattle.cob_runs.specs.Effects.{act_at}
-use Rattle.cob_edge_parts.specs.Parts.{Amount, moved, computed, remaining, augmented, Part, store, bytes_in, set_count, count_down, parts_of, is_times}
+use Rattle.cob_edge_parts.specs.Parts.{Amount, moved, computed, remaining, augmented, Part, store, bytes_in, set_count, parts_of, is_times}
 use Rattle.cob_edge_parts.specs.Meaning as run
-use Rattle.cob_edge_parts.specs.Meaning.{Moment, Passes, Faults, PassesAll, amount}
+use Rattle.cob_edge_parts.specs.Meaning.{Moment, amount}
 use Rattle.cob_edge_parts.specs.Edges.{fault_edge}
 use Rattle.dom_laws.specs.Meaning.{Storage}
 use Rattle.dom_laws.specs.Walking.{Walking}
@@ -101,19 +99,9 @@ module _ (p : Program) (statement : ℕ) (a : Act) (x : Action) where
 
   -- ---- the walk
 
-  -- a counter gets a number that it doesn't hold
-  abbrev pub CountMisfits : Part → Moment → Type 0
-  CountMisfits (set_count n y) m = (v : Scaled) × (number_of p.layout m.first y ≡ Some v) × ¬ IsCount v.units
-  CountMisfits (count_down n) m = ¬ IsCount (m.own.units -ℤ pos 1)
-  CountMisfits _ m = ⊥
-
-  abbrev pub PassesCounted : Part → Moment → Moment → Type 0
-  PassesCounted y m n = Passes p.layout (handled p a x) y m n × IsCounted p n.counts
-
   -- Where the statement has the phrase, faults are met on the edge to its list.
   abbrev pub FaultsOn : Part → Moment → Kind → Type 0
-  FaultsOn y m fault =
-      (fault_edge a x ≡ x) × (Faults p.layout (handled p a x) y m fault ⊎ ((fault ≡ kind.Size) × CountMisfits y m))
+  FaultsOn y m fault = (fault_edge a x ≡ x) × FaultsAtPart p.layout (handled p a x) y m fault
 
   abbrev pub walking : Walking
   walking = record {
@@ -123,7 +111,7 @@ module _ (p : Program) (statement : ℕ) (a : Act) (x : Action) where
     Below = SeenBelow p a x;
     step = step p a x;
     Agrees = Agrees;
-    Passes = PassesCounted;
+    Passes = PassesPart p.layout (handled p a x);
     Faults = FaultsOn;
     Clears = λ y s fault. clears_part p a x y s fault ≡ true;
   }

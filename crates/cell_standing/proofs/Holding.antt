@@ -25,7 +25,7 @@ use Rattle.cell_steps.specs.Stores.{range_at}
 use Rattle.cell_steps.specs.Agreeing.{IsTimesAt}
 use Rattle.cell_rises.proofs.Ranges.{home_ordered}
 use Rattle.cell_rises.proofs.Lists.{home_is}
-use Rattle.cell_keeps.proofs.Standing.{known_after}
+use Rattle.cell_standing.proofs.Standing.{known_after}
 
 -- ---- homes of a program
 
