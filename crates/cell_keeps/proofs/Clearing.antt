@@ -157,16 +157,16 @@ module _ (given : Given) (p : Program) (statement : ℕ) (a : Act) (x : Action) 
   store_cleared done place mode y t m g q unzero clear e =
       let two = both_true (has_quotient y) (option_map_or (all_fit_of p a x t place mode y) t.common true) clear in
       let v = is_there (amount p.layout m y) (amount_there p statement a x done place y t m g q unzero (root_of_amount y two.0)) in
-      go t.common (amount_meant p statement a x done place y t m g q unzero v.0 v.1) two.1
+      go v.0 t.common (amount_meant p statement a x done place y t m g q unzero v.0 v.1) two.1
       (subst (λ (o : Option Fraction). (o >>= stored_units mode (form_at p.layout place)) ≡ None) v.1 e)
     where
       amounts : (v : Fraction) (o : Option AmountRange) → IsSomeAnd o (λ r. IsAmount r v) → option_map_or (λ r. not (may_fail mode (receiver_of (form_at p.layout place)) r)) o true ≡ true → stored_units mode (form_at p.layout place) v ≡ None → ⊥
       amounts v None h k f = h
       amounts v (Some r) h k f = not_both (may_fail mode (receiver_of (form_at p.layout place)) r) (given.fails_ mode (form_at p.layout place) r v h f) k
 
-      go : {v : Fraction} → (o : Option Taken) → IsSomeAnd (o >>= amount_of y (range_at p t.cells place)) (λ r. IsAmount r v) → option_map_or (all_fit_of p a x t place mode y) o true ≡ true → stored_units mode (form_at p.layout place) v ≡ None → ⊥
-      go None h k f = h
-      go {v} (Some c) h k f = amounts v (amount_of y (range_at p t.cells place) c) h k f
+      go : (v : Fraction) (o : Option Taken) → IsSomeAnd (o >>= amount_of y (range_at p t.cells place)) (λ r. IsAmount r v) → option_map_or (all_fit_of p a x t place mode y) o true ≡ true → stored_units mode (form_at p.layout place) v ≡ None → ⊥
+      go v None h k f = h
+      go v (Some c) h k f = amounts v (amount_of y (range_at p t.cells place) c) h k f
 
   misfit_is : (y : Amount) → is_misfit y (misfit_of y) ≡ true
   misfit_is (computed s h) = refl

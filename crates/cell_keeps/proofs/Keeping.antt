@@ -110,7 +110,7 @@ module _ (given : Given) (p : Program) (statement : ℕ) (a : Act) (x : Action) 
         contained_all p.layout m.first (items_in_atom d) (λ place c. all_contained p.layout m.first q.places place r.numeric (q.items place c))
 
     -- a number of the range for each item: its own, where it has one
-    pub other : ℕ → Scaled
+    abbrev pub other : ℕ → Scaled
     other place = decimal (range_at p s.cells place).units.low (range_at p s.cells place).scale
 
     abbrev pub amount_or_other : ℕ → Scaled

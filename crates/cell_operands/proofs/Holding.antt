@@ -50,7 +50,7 @@ mapped P f None h = h
 mapped P f (Some c) h = h
 
 module _ (given : Given) (p : Program) (sound : HasSoundItems p.layout) (cells : List Known) (first : List ℕ) (counts : List (Option ℤ)) (stands : StandsIn p cells (storage first counts)) where
-  other : ℕ → Scaled
+  abbrev other : ℕ → Scaled
   other place = decimal (range_at p cells place).units.low (range_at p cells place).scale
 
   abbrev number_or_other : ℕ → Scaled
@@ -128,21 +128,21 @@ module _ (given : Given) (p : Program) (sound : HasSoundItems p.layout) (cells :
   moved_holds : (y : Sender) (own : Ranged) (x : Fraction) → option_map value_of (number_of p.layout first y) ≡ Some x → IsSomeAnd (option_map alone (sender_range (range_at p cells) y)) (λ c. IsSomeAnd (amount_of (moved y) own c) (λ r. IsAmount r x))
   moved_holds y own x e =
       let v = sent_there y value_of x e in
-      go (sender_range (range_at p cells) y) (sent_in y v.0 v.1) v.2
+      go v.0 (sender_range (range_at p cells) y) (sent_in y v.0 v.1) v.2
     where
-      go : {v : Scaled} → (o : Option Ranged) → IsSomeAnd o (IsIn v) → x ≡ value_of v → IsSomeAnd (option_map alone o) (λ c. IsSomeAnd (amount_of (moved y) own c) (λ r. IsAmount r x))
-      go None h k = h
-      go {v} (Some r) h k = (v, h, k)
+      go : (v : Scaled) (o : Option Ranged) → IsSomeAnd o (IsIn v) → x ≡ value_of v → IsSomeAnd (option_map alone o) (λ c. IsSomeAnd (amount_of (moved y) own c) (λ r. IsAmount r x))
+      go v None h k = h
+      go v (Some r) h k = (v, h, k)
 
   augmented_holds : (y : Sender) (own : Ranged) (w : Scaled) (x : Fraction) → IsIn w own → option_map (λ v. value_of (plus w v)) (number_of p.layout first y) ≡ Some x
       → IsSomeAnd (option_map alone (sender_range (range_at p cells) y)) (λ c. IsSomeAnd (amount_of (augmented y) own c) (λ r. IsAmount r x))
   augmented_holds y own w x inside e =
       let v = sent_there y (λ v. value_of (plus w v)) x e in
-      go (sender_range (range_at p cells) y) (sent_in y v.0 v.1) v.2
+      go v.0 (sender_range (range_at p cells) y) (sent_in y v.0 v.1) v.2
     where
-      go : {v : Scaled} → (o : Option Ranged) → IsSomeAnd o (IsIn v) → x ≡ value_of (plus w v) → IsSomeAnd (option_map alone o) (λ c. IsSomeAnd (amount_of (augmented y) own c) (λ r. IsAmount r x))
-      go None h k = h
-      go {v} (Some r) h k = (plus w v, given.plus_in_ w v own r inside h, k)
+      go : (v : Scaled) (o : Option Ranged) → IsSomeAnd o (IsIn v) → x ≡ value_of (plus w v) → IsSomeAnd (option_map alone o) (λ c. IsSomeAnd (amount_of (augmented y) own c) (λ r. IsAmount r x))
+      go v None h k = h
+      go v (Some r) h k = (plus w v, given.plus_in_ w v own r inside h, k)
 
   -- ---- edges
 
