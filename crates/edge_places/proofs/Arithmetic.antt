@@ -146,7 +146,7 @@ module _ (p : Program) (statement : ℕ) (s : Sum) (ts : List Target) (remainder
   abbrev its_act : Act
   its_act = arith s ts remainder size fine
 
-  is_arithmetic : IsArithmetic its_act x s
+  abbrev is_arithmetic : IsArithmetic its_act x s
   is_arithmetic = record { targets = ts; remainder = remainder; size = size; fine = fine; act = refl; edge = edge }
 
   reads_in_place : (done : List Part) (y : Part) → (q : ℕ) × (y ≡ read q) → IsInPlace statement its_act x done y

@@ -60,26 +60,28 @@ with_itself a over h before after d e = go over (stands (divisors_in_atom a) (if
 
 mutual
   pub sum_order : (s : Sum) → AreInOrder (items_in s) (divisors_in s)
-  sum_order (MkSum ps) = parts_order ps
+  sum_order (MkSum ps) before after d e = parts_order ps before after d e
 
   parts_order : (ps : sum.Parts) → AreInOrder (items_in_parts ps) (divisors_in_parts ps)
   parts_order no_parts before after d e = absurd (not_empty before after d e)
-  parts_order (more_parts (MkPart minus fs) ps) = order_append (divisors_in_factors fs) (divisors_in_parts ps) (items_in_factors fs) (items_in_parts ps) (factors_order fs) (parts_order ps)
+  parts_order (more_parts (MkPart minus fs) ps) before after d e =
+      order_append (divisors_in_factors fs) (divisors_in_parts ps) (items_in_factors fs) (items_in_parts ps) (λ b f k g. factors_order fs b f k g) (λ b f k g. parts_order ps b f k g) before after d e
 
   factors_order : (fs : Factors) → AreInOrder (items_in_factors fs) (divisors_in_factors fs)
   factors_order no_factors before after d e = absurd (not_empty before after d e)
-  factors_order (more_factors (MkFactor over minus a) fs) =
-      order_append (divisors_in_atom a ++ (if over then a ∷ [] else [])) (divisors_in_factors fs) (items_in_atom a) (items_in_factors fs) (with_itself a over (atom_order a)) (factors_order fs)
+  factors_order (more_factors (MkFactor over minus a) fs) before after d e =
+      order_append (divisors_in_atom a ++ (if over then a ∷ [] else [])) (divisors_in_factors fs) (items_in_atom a) (items_in_factors fs)
+      (with_itself a over (λ b f k g. atom_order a b f k g)) (λ b f k g. factors_order fs b f k g) before after d e
 
   pub atom_order : (a : Atom) → AreInOrder (items_in_atom a) (divisors_in_atom a)
   atom_order (item place) before after d e = absurd (not_empty before after d e)
   atom_order (number n) before after d e = absurd (not_empty before after d e)
-  atom_order (group s) = sum_order s
+  atom_order (group s) before after d e = sum_order s before after d e
 
 -- those of an arithmetic statement
 pub divisors_order : (s : Sum) (ts : List Target) → AreInOrder (items_in s) (divisors_of s ts)
 divisors_order s [] before after d e = absurd (not_empty before after d e)
-divisors_order s (t ∷ ts) = with_itself (group s) (list_any (λ u. is_under u.how) (t ∷ ts)) (sum_order s)
+divisors_order s (t ∷ ts) before after d e = with_itself (group s) (list_any (λ u. is_under u.how) (t ∷ ts)) (sum_order s) before after d e
 
 -- where those before it aren't 0, a divisor has a value
 pub some_behind : (places : List ℕ) (before : List Atom) (d : Atom) → IsBehindItsOwn places before d → (worth : ℕ → Scaled) → list_all (divides_by worth) before ≡ true → is_some (atom_value worth d) ≡ true
