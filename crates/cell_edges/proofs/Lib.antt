@@ -1,3 +1,3 @@
 pub mod Rises
 pub mod Sound
-pub mod Laws
+pub mod EachEdge

@@ -1,4 +1,4 @@
-use Rattle.cell_edges.proofs.Laws.{none_cleared_is_met}
+use Rattle.cell_edges.proofs.EachEdge.{none_cleared_is_met}
 use Rattle.cell_edges.proofs.laws.cleared_faults_are_not_met.Goals as goal
 
 pub returns : goal.returns

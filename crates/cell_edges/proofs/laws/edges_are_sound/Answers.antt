@@ -1,4 +1,4 @@
-use Rattle.cell_edges.proofs.Laws.{edges_are_walked, posts_fit_owns, all_posts_rise, all_clears_stay}
+use Rattle.cell_edges.proofs.EachEdge.{edges_are_walked, posts_fit_owns, all_posts_rise, all_clears_stay}
 use Rattle.cell_edges.proofs.laws.edges_are_sound.Goals as goal
 
 pub returns-clause-walks : goal.returns-clause-walks

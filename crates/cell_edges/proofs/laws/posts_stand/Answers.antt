@@ -1,4 +1,4 @@
-use Rattle.cell_edges.proofs.Laws.{all_posts_stand}
+use Rattle.cell_edges.proofs.EachEdge.{all_posts_stand}
 use Rattle.cell_edges.proofs.laws.posts_stand.Goals as goal
 
 pub returns : goal.returns

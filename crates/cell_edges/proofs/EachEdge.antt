@@ -9,7 +9,7 @@ use Rattle.result_ranges.proofs.Fitting.{kept_is_told, stored_in_range}
 use Rattle.result_ranges.proofs.Meant.{computed_in, remaining_in}
 use Rattle.result_ranges.proofs.Rests.{plus_in}
 use Rattle.guard_ranges.specs.Counts.{count_kept}
-use Rattle.guard_ranges.proofs.Least.{IsPartOf, UnitsBelow}
+use Rattle.guard_ranges.specs.Kept.{IsPartOf, UnitsBelow}
 use Rattle.guard_ranges.proofs.GuardLaws.{guard_holds, guard_below, guard_fits}
 use Rattle.guard_ranges.proofs.CountLaws.{count_holds, count_rises, count_part}
 use Rattle.guard_ranges.proofs.Agreement.{numeric_sum}
