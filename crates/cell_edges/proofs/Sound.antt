@@ -1,25 +1,23 @@
 -- Along an edge what is known stays true, and what is cleared isn't met.
-use Rattle.std.proofs.Common.{◌≡◌, ℕ, Bool, true, false, ◌&&◌, ◌||◌, not, if◌then◌else◌, ◌⊎◌, inl, inr, List, [], ◌∷◌, ◌++◌, Option, Some, None, ℤ, refl, sym, ap, subst, ◌∙◌, arith}
+use Rattle.std.proofs.Common.{◌≡◌, ℕ, Bool, true, false, ◌&&◌, ◌||◌, not, if◌then◌else◌, inl, inr, List, [], ◌∷◌, ◌++◌, Option, Some, None, ℤ, refl, ap, ◌∙◌}
 use Rattle.std.specs.List.{list_any}
 use Rattle.std.specs.Option.{option_map_or}
 use Rattle.cob_tree.specs.declared.fault.Kind.{Kind}
 use Rattle.cob_program.specs.declared.act.Target.{Target}
-use Rattle.cob_program.specs.declared.act.How.{How}
-use Rattle.cob_program.specs.declared.act.How.TheVariants as how
 use Rattle.cob_program.specs.Sum.{Sum}
 use Rattle.cob_program.specs.Values.{◌>>=◌}
-use Rattle.cob_program.specs.Act.{Stmts, Phrase, Act, move, arith as arithmetic, if_, evaluate, perform, go as go_to, nothing, stop, open_files, close_files, read as reading, write, show, Program}
+use Rattle.cob_program.specs.Act.{Act, move, arith as arithmetic, if_, evaluate, perform, go as go_to, nothing, stop, open_files, close_files, read as reading, write, show, Program}
 use Rattle.cob_runs.specs.declared.action.Action.{Action}
 use Rattle.cob_runs.specs.declared.action.Action.TheVariants as action
 use Rattle.cob_runs.specs.Computing.{items_in}
-use Rattle.cob_edge_parts.specs.Parts.{Part, read, divide, parts_of, has_phrase, own_reads, target_parts, targets_parts, remainder_parts, item_reads, divides, divisors_of}
+use Rattle.cob_edge_parts.specs.Parts.{Part, parts_of, has_phrase, own_reads, target_parts, targets_parts, remainder_parts, item_reads, divides, divisors_of}
 use Rattle.cob_edge_parts.specs.Meaning as run
 use Rattle.cob_edge_parts.specs.Meaning.{Moment}
 use Rattle.cob_edge_parts.specs.Edges.{fault_edge}
 use Rattle.dom_laws.specs.Walking as walked
 use Rattle.dom_laws.specs.Walking.{BelowIf, IsSeen, IfSeen, walk, PassesAll, Meets, ClearsAll, IsWalking, IsSound}
 use Rattle.dom_laws.proofs.Edges.{edges_are_sound}
-use Rattle.graph_runs.specs.Counters.{PassesPart, FaultsAtPart, PassesParts, MeetsAmong}
+use Rattle.graph_runs.specs.Counters.{PassesParts, MeetsAmong}
 use Rattle.cell_rows.specs.Known.{Known}
 use Rattle.cell_storages.specs.Storages.{storage, StandsIn, ElementStands}
 use Rattle.cell_steps.specs.Seen.{Seen, beginning}
@@ -27,9 +25,7 @@ use Rattle.cell_steps.specs.Stores.{handled}
 use Rattle.cell_steps.specs.Steps.{step}
 use Rattle.cell_steps.specs.Clearing.{clears_part, clears_parts}
 use Rattle.cell_steps.specs.Edges.{steps, finished, post_cells}
-use Rattle.cell_steps.specs.Order.{SeenBelow}
 use Rattle.cell_steps.specs.Agreeing.{IsSoundEdge, is_store, Agrees, walking}
-use Rattle.cell_rises.proofs.Operands.{handled_phrase}
 use Rattle.cell_rises.proofs.Rising as rising
 use Rattle.cell_rises.proofs.Rising.{rises}
 use Rattle.cell_rises.proofs.Falling.{clears_below}

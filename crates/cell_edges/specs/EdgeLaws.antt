@@ -1,6 +1,6 @@
 -- What holds of each edge of a program's graph: what is known behind it rises with what is known before it and is true of
 -- what a run leaves; what is cleared isn't met.
-use Rattle.std.specs.Prelude.{◌≡◌, ℕ, Bool, true, List, Option, ℤ}
+use Rattle.std.specs.Prelude.{◌≡◌, ℕ, true, List, Option, ℤ}
 use Rattle.cob_tree.specs.declared.fault.Kind.{Kind}
 use Rattle.cob_program.specs.Act.{Act, Program}
 use Rattle.cob_runs.specs.declared.action.Action.{Action}

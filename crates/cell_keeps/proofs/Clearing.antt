@@ -1,28 +1,27 @@
 -- What is cleared before a part isn't met there.
-use Rattle.std.proofs.Common.{◌≡◌, ◌<◌, ◌≤◌, ℕ, zero, suc, ◌==◌, Bool, true, false, ◌&&◌, ◌||◌, not, if◌then◌else◌, ◌⊎◌, inl, inr, List, [], ◌∷◌, ◌++◌, Option, Some, None, is_some, ℤ, pos, ◌≤ℤ◌, ◌-ℤ◌, refl, sym, ap, subst, ◌∙◌, arith}
-use Rattle.std.specs.Prelude.{IsSomeAnd, int_le, ◌^◌, unsigned_abs, ◌↔◌}
-use Rattle.std.specs.List.{list_all, Contains}
-use Rattle.std.specs.Option.{option_map, option_map_or}
+use Rattle.std.proofs.Common.{◌≡◌, ◌≤◌, ℕ, ◌==◌, Bool, true, false, not, if◌then◌else◌, ◌⊎◌, inl, inr, List, [], ◌∷◌, ◌++◌, Option, Some, None, is_some, ℤ, pos, ◌≤ℤ◌, ◌-ℤ◌, refl, sym, ap, subst, ◌∙◌, arith}
+use Rattle.std.specs.Prelude.{IsSomeAnd, int_le, ◌^◌, unsigned_abs}
+use Rattle.std.specs.List.{list_all}
+use Rattle.std.specs.Option.{option_map_or}
 use Rattle.std.proofs.lemmas.Int.{ints}
 use Rattle.std.proofs.lemmas.Bool.{eqb-true}
 use Rattle.dec_num.specs.declared.types.Mode.{Mode}
 use Rattle.dec_num.specs.declared.types.Scaled.{Scaled}
 use Rattle.dec_num.specs.Exact.{Fraction}
 use Rattle.cob_tree.specs.declared.fault.Kind.{Kind}
-use Rattle.cob_tree.specs.declared.fault.Kind.TheVariants as kind
 use Rattle.cob_data.specs.declared.layout.Sender.{Sender}
 use Rattle.decimal_interval.specs.declared.bounds.Interval.{Interval}
 use Rattle.decimal_interval.specs.Bounds.{Holds}
-use Rattle.cob_program.specs.Sum.{Sum, Atom}
-use Rattle.cob_program.specs.Values.{atom_value, root_of, ◌>>=◌}
+use Rattle.cob_program.specs.Sum.{Atom}
+use Rattle.cob_program.specs.Values.{atom_value, ◌>>=◌}
 use Rattle.cob_program.specs.Act.{Act, move, arith as arithmetic, if_, evaluate, perform, go as go_to, nothing, stop, open_files, close_files, read as reading, write, show, Program}
 use Rattle.cob_runs.specs.declared.action.Action.{Action}
 use Rattle.cob_runs.specs.declared.action.Action.TheVariants as action
 use Rattle.cob_runs.specs.Contents.{form_at, number_at, stored as stored_units}
 use Rattle.cob_runs.specs.Computing.{worth}
-use Rattle.cob_edge_parts.specs.Parts.{Amount, moved, computed, remaining, augmented, Part, read, unread, divide, store, bytes_in, guard, read_count, set_count, count_down, guard_count, item_reads, divides, parts_of, has_phrase}
+use Rattle.cob_edge_parts.specs.Parts.{Amount, moved, computed, remaining, augmented, Part, read, unread, divide, store, bytes_in, guard, read_count, set_count, count_down, guard_count, divides, parts_of, has_phrase}
 use Rattle.cob_edge_parts.specs.Meaning as run
-use Rattle.cob_edge_parts.specs.Meaning.{Moment, divides_by, misfit_of, stored_bytes, amount, count_in, Faults}
+use Rattle.cob_edge_parts.specs.Meaning.{Moment, divides_by, misfit_of, stored_bytes, amount, Faults}
 use Rattle.cob_edge_parts.specs.Edges.{fault_edge}
 use Rattle.sum_ranges.specs.declared.ranged.Ranged.{Ranged}
 use Rattle.sum_ranges.specs.Ranged.{IsIn}
@@ -31,19 +30,19 @@ use Rattle.sum_ranges.specs.Vanishing.{holds_zero}
 use Rattle.sum_ranges.proofs.Sound.{atom_in}
 use Rattle.result_ranges.specs.declared.amounts.Taken.{Taken}
 use Rattle.result_ranges.specs.declared.amounts.AmountRange.{AmountRange}
-use Rattle.result_ranges.specs.Receivers.{receiver_of, counter}
+use Rattle.result_ranges.specs.Receivers.{receiver_of}
 use Rattle.result_ranges.specs.Amounts.{IsAmount}
 use Rattle.result_ranges.specs.ResultRanges.{may_fail, lowered, count_may_fail}
-use Rattle.graph_runs.specs.Counters.{IsCount, IsTooGreat, Misfits, FaultsAtPart, PassesParts}
-use Rattle.edge_places.specs.Places.{IsDivided, Counts, IsStored, IsInPlace, is_worked}
-use Rattle.cell_storages.specs.Homes.{of_item, of_count, homes_of, picture_range}
+use Rattle.graph_runs.specs.Counters.{IsCount, IsTooGreat, PassesParts}
+use Rattle.edge_places.specs.Places.{IsDivided, Counts, IsStored, is_worked}
+use Rattle.cell_storages.specs.Homes.{of_count, homes_of, picture_range}
 use Rattle.cell_storages.specs.Storages.{storage}
 use Rattle.cell_steps.specs.Cells.{known_or, units_of, is_numeric}
 use Rattle.cell_steps.specs.Operands.{amount_of}
 use Rattle.cell_steps.specs.Seen.{Seen}
-use Rattle.cell_steps.specs.Stores.{range_at, handled, with_taken, amount_at}
+use Rattle.cell_steps.specs.Stores.{range_at, handled, with_taken}
 use Rattle.cell_steps.specs.Clearing.{is_misfit, has_quotient, all_fit_of, all_fit, all_count, clears_part}
-use Rattle.cell_steps.specs.Agreeing.{IsSoundEdge, Agrees, FaultsOn}
+use Rattle.cell_steps.specs.Agreeing.{Agrees, FaultsOn}
 use Rattle.cell_rises.proofs.Operands.{or_either}
 use Rattle.cell_keeps.proofs.Given.{Given}
 use Rattle.cell_standing.proofs.Holding.{if_home, numeric_there, count_holds}

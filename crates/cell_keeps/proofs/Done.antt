@@ -1,8 +1,6 @@
 -- What the parts that are done have shown.
-use Rattle.std.proofs.Common.{◌≡◌, ◌<◌, ◌≤◌, ℕ, zero, suc, Bool, true, false, ◌&&◌, ◌||◌, not, if◌then◌else◌, ◌⊎◌, inl, inr, List, [], ◌∷◌, ◌++◌, length, Option, Some, None, is_some, ℤ, pos, refl, sym, ap, subst, ◌∙◌, arith}
-use Rattle.std.specs.Prelude.{slice_index_or}
+use Rattle.std.proofs.Common.{◌≡◌, ℕ, zero, suc, Bool, true, false, ◌&&◌, ◌||◌, if◌then◌else◌, ◌⊎◌, inl, inr, List, [], ◌∷◌, ◌++◌, Option, Some, None, is_some, refl, sym, ap, subst, ◌∙◌, arith}
 use Rattle.std.specs.List.{list_all, list_any, Contains}
-use Rattle.std.proofs.lemmas.List.{append_assoc}
 use Rattle.dec_num.specs.declared.types.Mode.{Mode}
 use Rattle.dec_num.specs.declared.types.Scaled.{Scaled}
 use Rattle.cob_data.specs.declared.layout.Layout.{Layout}
@@ -11,7 +9,6 @@ use Rattle.cob_runs.specs.Contents.{number_at}
 use Rattle.cob_runs.specs.Computing.{are_numeric, worth}
 use Rattle.cob_edge_parts.specs.Parts.{Amount, Part, read, unread, divide, store, bytes_in, guard, read_count, set_count, count_down, guard_count, item_reads, divides}
 use Rattle.cob_edge_parts.specs.Meaning.{Moment, with_own, divided_by_zero, divides_by, is_left_alone, stored_bytes, stored_or_kept, ReadsAt, Divides, Stores, Passes}
-use Rattle.cob_edge_parts.proofs.Chains.{passes_first}
 use Rattle.graph_runs.specs.Counters.{PassesPart, PassesParts}
 use Rattle.cell_steps.specs.Agreeing.{writes, is_store}
 

@@ -1,7 +1,7 @@
 -- What is seen behind a part is true where what is seen before it is.
-use Rattle.std.proofs.Common.{◌≡◌, ◌<◌, ◌≤◌, ℕ, zero, suc, ◌+◌, ◌==◌, Bool, true, false, ◌&&◌, ◌||◌, not, if◌then◌else◌, ◌⊎◌, inl, inr, List, [], ◌∷◌, ◌++◌, length, Option, Some, None, is_some, ℤ, pos, ◌≤ℤ◌, ◌-ℤ◌, refl, sym, ap, subst, ◌∙◌, arith}
+use Rattle.std.proofs.Common.{◌≡◌, ◌<◌, ◌≤◌, ℕ, zero, ◌+◌, ◌==◌, Bool, true, false, ◌&&◌, ◌||◌, not, if◌then◌else◌, inl, inr, List, [], ◌∷◌, ◌++◌, length, Option, Some, None, is_some, ℤ, pos, ◌≤ℤ◌, ◌-ℤ◌, refl, sym, ap, subst, ◌∙◌, arith}
 use Rattle.std.specs.Prelude.{IfSome, IsSomeAnd, int_le, nat_lt, ◌^◌, unsigned_abs, unwrap_or, slice_set, ◌-◌}
-use Rattle.std.specs.List.{list_all, list_any, Contains}
+use Rattle.std.specs.List.{list_any, Contains}
 use Rattle.std.specs.Option.{option_map, option_map_or}
 use Rattle.std.proofs.lemmas.Int.{ints}
 use Rattle.std.proofs.lemmas.Bool.{eqb-true, eq-eqb}
@@ -10,20 +10,19 @@ use Rattle.dec_num.specs.declared.types.Mode.{Mode}
 use Rattle.dec_num.specs.declared.types.Scaled.{Scaled}
 use Rattle.dec_num.specs.Exact.{Fraction}
 use Rattle.dec_num.specs.Scaled.{value_of}
-use Rattle.cob_tree.specs.declared.form.Form.{Form}
 use Rattle.cob_data.specs.declared.layout.Sender.{Sender}
 use Rattle.decimal_interval.specs.declared.bounds.Interval.{Interval}
 use Rattle.decimal_interval.specs.Bounds.{Holds}
 use Rattle.cob_program.specs.Sum.{Sum, Atom, item, number, group}
-use Rattle.cob_program.specs.Values.{whole_number, sum_value, atom_value, Root, root_of, ◌>>=◌}
+use Rattle.cob_program.specs.Values.{whole_number, atom_value, Root, root_of, ◌>>=◌}
 use Rattle.cob_program.specs.Act.{Act, Program}
 use Rattle.cob_runs.specs.declared.action.Action.{Action}
-use Rattle.cob_runs.specs.Contents.{form_at, bytes_of, scale_of, number_at, filled_at, stored as stored_units}
+use Rattle.cob_runs.specs.Contents.{form_at, bytes_of, number_at, filled_at, stored as stored_units}
 use Rattle.cob_runs.specs.Moves.{takes_number, number_of}
 use Rattle.cob_runs.specs.Computing.{items_in_atom, are_numeric, worth}
-use Rattle.cob_edge_parts.specs.Parts.{Amount, moved, computed, remaining, augmented, Part, read, unread, divide, store, bytes_in, guard, read_count, set_count, count_down, guard_count, item_reads, divides, parts_of, is_times}
+use Rattle.cob_edge_parts.specs.Parts.{Amount, moved, computed, remaining, augmented, Part, read, unread, divide, store, bytes_in, guard, read_count, set_count, count_down, guard_count, divides, parts_of, is_times}
 use Rattle.cob_edge_parts.specs.Meaning as run
-use Rattle.cob_edge_parts.specs.Meaning.{Moment, with_storage, with_own, with_count, with_failure, divided_by_zero, count_in, divides_by, changed_in, is_left_alone, stored_bytes, stored_or_kept, amount, Divides, Stores}
+use Rattle.cob_edge_parts.specs.Meaning.{Moment, with_storage, with_count, with_failure, divided_by_zero, count_in, divides_by, changed_in, is_left_alone, stored_bytes, stored_or_kept, amount, Divides, Stores}
 use Rattle.cob_edge_parts.specs.Ranges.{ChangesWithin}
 use Rattle.dom_laws.specs.Walking.{IsSeen}
 use Rattle.sum_ranges.specs.declared.ranged.Ranged.{Ranged}
@@ -41,18 +40,18 @@ use Rattle.result_ranges.specs.Stores.{operands}
 use Rattle.result_ranges.specs.Results.{IsLeastIfAny, IsKept}
 use Rattle.result_ranges.specs.ResultRanges as result
 use Rattle.result_ranges.specs.ResultRanges.{fitted, result_range, count_range, lowered}
-use Rattle.graph_runs.specs.Counters.{IsCount, HoldsCount, IsCounted, IsTooGreat, Misfits, PassesPart, PassesParts}
-use Rattle.edge_places.specs.Places.{IsDivided, Counts, IsStored, IsInPlace}
+use Rattle.graph_runs.specs.Counters.{IsCount, PassesPart, PassesParts}
+use Rattle.edge_places.specs.Places.{IsDivided, Counts, IsStored}
 use Rattle.cell_rows.specs.Known.{Known, KnownFits}
 use Rattle.cell_rows.specs.Elements.{joined}
-use Rattle.cell_storages.specs.Homes.{Home, of_item, of_count, homes_of, home_range, picture_range, form_range}
+use Rattle.cell_storages.specs.Homes.{Home, of_item, of_count, homes_of, picture_range, form_range}
 use Rattle.cell_storages.specs.Storages.{storage, known_of, value_at, KnownStands, StandsIn}
-use Rattle.cell_steps.specs.Cells.{known_or, units_of, with_known, forgotten, is_in_bytes, is_beside}
-use Rattle.cell_steps.specs.Operands.{edge_amount, edge_operands, amount_of, is_remainder}
+use Rattle.cell_steps.specs.Cells.{known_or, units_of, forgotten, is_in_bytes, is_beside}
+use Rattle.cell_steps.specs.Operands.{edge_amount, amount_of, is_remainder}
 use Rattle.cell_steps.specs.Seen.{Seen, with_cells, with_zero}
 use Rattle.cell_steps.specs.Stores.{stored_cells, stored_element, behind_store, may_vanish, range_at, handled, with_taken, amount_at, result_at, may_exceed, may_fail, stored}
 use Rattle.cell_steps.specs.Steps.{is_zero_alone, can_divide, known_as, with_cells_if, after_bytes, after_count, after_down, after_divide, step}
-use Rattle.cell_steps.specs.Agreeing.{IsTimesAt, IsSoundEdge, OperandsHold, of_operands, writes, is_store, Agrees, walking}
+use Rattle.cell_steps.specs.Agreeing.{IsTimesAt, IsSoundEdge, of_operands, writes, is_store, Agrees, walking}
 use Rattle.cell_rises.proofs.Lists.{with_known_length, forgotten_length, joined_left, joined_right}
 use Rattle.cell_rises.proofs.Operands.{or_left, or_right}
 use Rattle.cell_rises.proofs.Fitting.{result_fits}
@@ -61,9 +60,9 @@ use Rattle.cell_standing.proofs.Standing.{known_left, all_stand_above}
 use Rattle.cell_standing.proofs.Frames.{value_stays, range_changes}
 use Rattle.cell_standing.proofs.Counters.{count_set, count_elsewhere, differs, counted_set}
 use Rattle.cell_standing.proofs.Holding.{if_home, home_set, number_holds, range_is_ordered, count_holds}
-use Rattle.cell_keeps.proofs.Done.{and_true, any_last, none_written, read_first, divisors_count, read_zero, store_zero, all_contained, contained_all}
-use Rattle.cell_keeps.proofs.Quiet.{SameMoment, same_moment, SeenOn, AllKnown, quiet, quiet_at, read_keeps, guard_keeps, read_count_keeps, guard_count_keeps, times_small}
-use Rattle.cell_keeps.proofs.Storing.{then_holds, then_is, is_there, TakenAt, taken_at, written_agrees, HasRoot, amount_there, its_amount, counts_amount, amount_meant, stored_stands}
+use Rattle.cell_keeps.proofs.Done.{and_true, any_last, none_written, read_first, read_zero, store_zero, all_contained, contained_all}
+use Rattle.cell_keeps.proofs.Quiet.{same_moment, SeenOn, quiet, quiet_at, read_keeps, guard_keeps, read_count_keeps, guard_count_keeps, times_small}
+use Rattle.cell_keeps.proofs.Storing.{then_holds, then_is, TakenAt, taken_at, written_agrees, HasRoot, amount_there, its_amount, counts_amount, amount_meant, stored_stands}
 
 -- ---- numbers
 

@@ -1,32 +1,25 @@
 -- Parts that write nothing: what is seen stays true.
-use Rattle.std.proofs.Common.{◌≡◌, ◌<◌, ◌≤◌, ℕ, zero, suc, Bool, true, false, ◌&&◌, ◌||◌, not, if◌then◌else◌, ◌⊎◌, inl, inr, List, [], ◌∷◌, ◌++◌, length, Option, Some, None, is_some, Ok, ℤ, pos, ◌≤ℤ◌, ◌-ℤ◌, refl, sym, ap, subst, ◌∙◌, arith}
-use Rattle.std.specs.Prelude.{IfSome, IsSomeAnd, int_le, unwrap_or}
-use Rattle.std.specs.List.{list_all, list_any, Contains}
-use Rattle.std.specs.Option.{option_map, option_map_or}
-use Rattle.std.proofs.lemmas.Int.{ints}
-use Rattle.std.proofs.lemmas.List.{append-nil}
+use Rattle.std.proofs.Common.{◌≡◌, ℕ, zero, Bool, true, false, inl, inr, List, [], ◌∷◌, ◌++◌, Option, Some, None, ℤ, refl, sym, ap, subst, ◌∙◌}
+use Rattle.std.specs.Prelude.{IfSome, IsSomeAnd}
+use Rattle.std.specs.List.{Contains}
+use Rattle.std.specs.Option.{option_map}
 use Rattle.dec_num.specs.declared.types.Scaled.{Scaled}
 use Rattle.cob_data.specs.declared.layout.Layout.{Layout}
 use Rattle.decimal_interval.specs.declared.bounds.Interval.{Interval}
 use Rattle.decimal_interval.specs.Bounds.{Holds}
 use Rattle.num_bytes.specs.Reading.{contents_value}
-use Rattle.cob_program.specs.Sum.{Atom}
-use Rattle.cob_program.specs.Values.{atom_value, whole_number}
+use Rattle.cob_program.specs.Values.{whole_number}
 use Rattle.cob_program.specs.Logic.{Test}
 use Rattle.cob_program.specs.Act.{Act, Program}
 use Rattle.cob_runs.specs.declared.action.Action.{Action}
 use Rattle.cob_runs.specs.Contents.{form_at, bytes_at, scale_of, scaled_by, number_at}
-use Rattle.cob_runs.specs.Computing.{items_in_atom, are_numeric, worth}
-use Rattle.cob_runs.specs.Deciding.{test_holds}
-use Rattle.cob_edge_parts.specs.Parts.{Part, read, divide, guard, read_count, guard_count, item_reads, divides}
+use Rattle.cob_edge_parts.specs.Parts.{Part, read, guard, read_count, guard_count}
 use Rattle.cob_edge_parts.specs.Meaning as run
-use Rattle.cob_edge_parts.specs.Meaning.{Moment, with_own, divided_by_zero, count_in, divides_by, is_positive, ReadsAt, Divides, Passes}
-use Rattle.dom_laws.specs.Meaning.{Storage}
+use Rattle.cob_edge_parts.specs.Meaning.{Moment, with_own, count_in, ReadsAt}
 use Rattle.dom_laws.specs.Walking.{IsSeen}
 use Rattle.sum_ranges.specs.declared.ranged.Ranged.{Ranged}
-use Rattle.sum_ranges.specs.Ranged.{IsIn, ranged}
 use Rattle.result_ranges.specs.declared.amounts.Taken.{Taken}
-use Rattle.graph_runs.specs.Counters.{IsCount, HoldsCount, IsCounted, PassesPart, PassesParts}
+use Rattle.graph_runs.specs.Counters.{IsCount, PassesPart, PassesParts}
 use Rattle.guard_ranges.specs.declared.cuts.Cut.{Cut}
 use Rattle.guard_ranges.specs.declared.cuts.Cuts.{Cuts}
 use Rattle.guard_ranges.specs.Guards.{guarded}
@@ -39,10 +32,10 @@ use Rattle.cell_steps.specs.Cells.{units_of, is_numeric}
 use Rattle.cell_steps.specs.Seen.{Seen, with_cells}
 use Rattle.cell_steps.specs.Stores.{handled, range_at}
 use Rattle.cell_steps.specs.Steps.{known_as, read_cells, cut_cells, all_cut, guarded_cells, counted_cells, with_cells_if, after_read}
-use Rattle.cell_steps.specs.Agreeing.{IsTimesAt, IsSoundEdge, OperandsHold, writes, is_store, Agrees, walking}
+use Rattle.cell_steps.specs.Agreeing.{IsTimesAt, OperandsHold, writes, is_store, Agrees, walking}
 use Rattle.cell_rises.proofs.Lists.{chosen}
 use Rattle.cell_keeps.proofs.Given.{Given}
-use Rattle.cell_standing.proofs.Holding.{home_set, units_hold, number_holds, items_hold, count_holds, times_count}
+use Rattle.cell_standing.proofs.Holding.{home_set, units_hold, items_hold, count_holds}
 use Rattle.cell_keeps.proofs.Done.{any_front, any_last, passes_snoc}
 
 -- ---- moments

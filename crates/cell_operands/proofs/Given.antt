@@ -1,5 +1,5 @@
 -- Laws of amounts, as they are taken here.
-use Rattle.std.specs.Prelude.{◌≡◌, ℕ, true, Option, Some, None, IsSomeAnd}
+use Rattle.std.specs.Prelude.{◌≡◌, ℕ, true, Some, IsSomeAnd}
 use Rattle.dec_num.specs.declared.types.Scaled.{Scaled}
 use Rattle.dec_num.specs.Exact.{Fraction}
 use Rattle.cob_program.specs.declared.act.How.{How}

@@ -1,5 +1,5 @@
 -- Operands that were taken hold what amounts are worth.
-use Rattle.std.proofs.Common.{◌≡◌, ℕ, Bool, true, false, if◌then◌else◌, List, [], ◌∷◌, length, Option, Some, None, is_some, ℤ, pos, ◌≤ℤ◌, refl, sym, ap, subst, ◌∙◌, arith}
+use Rattle.std.proofs.Common.{◌≡◌, ℕ, true, false, List, length, Option, Some, None, ℤ, pos, refl, sym, subst, ◌∙◌, arith}
 use Rattle.std.specs.Prelude.{IsSomeAnd, unwrap_or}
 use Rattle.std.specs.Option.{option_map}
 use Rattle.std.proofs.lemmas.Int.{ints}
@@ -14,7 +14,7 @@ use Rattle.cob_program.specs.declared.act.How.{How}
 use Rattle.cob_program.specs.declared.act.How.TheVariants as how
 use Rattle.cob_program.specs.Sum.{Sum}
 use Rattle.cob_program.specs.Values.{whole_number, literal, plus, root_of, ◌>>=◌}
-use Rattle.cob_program.specs.Act.{Turns, once, times, until, varying, Stmts, Phrase, Act, move, arith as arithmetic, if_, evaluate, perform, go as go_to, nothing, stop, open_files, close_files, read as reading, write, show, Program}
+use Rattle.cob_program.specs.Act.{once, times, until, varying, Stmts, Phrase, Act, move, arith as arithmetic, if_, evaluate, perform, go as go_to, nothing, stop, open_files, close_files, read as reading, write, show, Program}
 use Rattle.cob_runs.specs.declared.action.Action.{Action}
 use Rattle.cob_runs.specs.declared.action.Action.TheVariants as action
 use Rattle.cob_runs.specs.Contents.{number_in, number_at}
@@ -26,10 +26,9 @@ use Rattle.cob_edge_parts.specs.Meaning.{Moment, amount}
 use Rattle.sum_ranges.specs.declared.ranged.Ranged.{Ranged}
 use Rattle.sum_ranges.specs.Ranged.{decimal, point, IsIn}
 use Rattle.result_ranges.specs.declared.amounts.Taken.{Taken}
-use Rattle.result_ranges.specs.declared.amounts.AmountRange.{AmountRange}
 use Rattle.result_ranges.specs.Amounts.{IsAmount}
 use Rattle.result_ranges.specs.Operands.{alone, is_whole, taken_sum, computed_range, remaining_range}
-use Rattle.result_ranges.specs.Stores.{sender_range, operands, amount_range}
+use Rattle.result_ranges.specs.Stores.{sender_range, operands}
 use Rattle.cell_rows.specs.Known.{Known}
 use Rattle.cell_storages.specs.Storages.{storage, StandsIn}
 use Rattle.cell_storages.specs.Premises.{HasSoundItems}

@@ -1,9 +1,9 @@
 -- A counter gets a number.
-use Rattle.std.proofs.Common.{◌≡◌, ◌<◌, ◌≤◌, ℕ, zero, suc, ◌-◌, ◌==◌, Bool, true, false, List, [], ◌∷◌, length, Option, Some, None, ℤ, refl, sym, ap, subst, ◌∙◌, arith}
+use Rattle.std.proofs.Common.{◌≡◌, ◌≤◌, ℕ, zero, suc, ◌-◌, ◌==◌, Bool, true, false, List, [], ◌∷◌, Option, Some, None, ℤ, refl, ap, subst, ◌∙◌, arith}
 use Rattle.std.specs.Prelude.{slice_get, slice_set}
 use Rattle.std.specs.Option.{option_map_or}
 use Rattle.std.proofs.lemmas.Bool.{eqb-true, eq-eqb}
-use Rattle.cob_program.specs.Act.{Act, Program}
+use Rattle.cob_program.specs.Act.{Program}
 use Rattle.cob_edge_parts.specs.Meaning.{count_in}
 use Rattle.graph_runs.specs.Counters.{IsCount, HoldsCount, IsCounted}
 

@@ -1,28 +1,26 @@
 -- The parts of arithmetic.
-use Rattle.std.proofs.Common.{◌≡◌, ℕ, Bool, true, false, ◌&&◌, ◌||◌, not, if◌then◌else◌, ◌⊎◌, inl, inr, List, [], ◌∷◌, ◌++◌, Option, Some, None, is_some, pos, refl, sym, ap, subst, ◌∙◌}
-use Rattle.std.specs.List.{list_all, list_any, Contains}
+use Rattle.std.proofs.Common.{◌≡◌, ℕ, Bool, true, false, ◌&&◌, ◌||◌, if◌then◌else◌, ◌⊎◌, inl, inr, List, [], ◌∷◌, ◌++◌, Option, Some, None, is_some, pos, refl, sym, ap, subst, ◌∙◌}
+use Rattle.std.specs.List.{list_all, list_any}
 use Rattle.std.proofs.lemmas.List.{append_assoc, append-nil}
 use Rattle.std.proofs.lemmas.List.Folds.{list_all-append}
-use Rattle.dec_num.specs.declared.types.Mode.{Mode}
 use Rattle.dec_num.specs.declared.types.Mode.TheVariants.{Trunc}
 use Rattle.dec_num.specs.declared.types.Scaled.{Scaled}
 use Rattle.dec_num.specs.Exact.{Fraction}
 use Rattle.dec_num.specs.Scaled.{value_of}
-use Rattle.cob_data.specs.declared.layout.Layout.{Layout}
 use Rattle.cob_program.specs.declared.act.Target.{Target}
 use Rattle.cob_program.specs.declared.act.How.{How}
 use Rattle.cob_program.specs.declared.act.How.TheVariants as how
-use Rattle.cob_program.specs.Sum.{Sum, Atom, group}
+use Rattle.cob_program.specs.Sum.{Sum, group}
 use Rattle.cob_program.specs.Values.{whole_number, negated, plus, product, product_from, atom_value, Root, root_of, exact_quotient, stored_from, ◌>>=◌}
 use Rattle.cob_program.specs.Act.{Stmts, Phrase, Act, arith, Program}
 use Rattle.cob_runs.specs.declared.action.Action.{Action}
 use Rattle.cob_runs.specs.declared.action.Action.TheVariants as action
 use Rattle.cob_runs.specs.Contents.{form_at, scale_of}
-use Rattle.cob_runs.specs.Computing.{items_in, result, cut_quotient, remainder_value, remainder_of}
-use Rattle.cob_edge_parts.specs.Parts.{Amount, computed, remaining, Part, read, divide, store, item_reads, divides, divisors_in, divisors_of, is_under, own_reads, target_parts, targets_parts, remainder_parts, arith_parts}
+use Rattle.cob_runs.specs.Computing.{items_in, result, cut_quotient, remainder_of}
+use Rattle.cob_edge_parts.specs.Parts.{computed, remaining, Part, read, store, item_reads, divides, divisors_in, divisors_of, is_under, own_reads, target_parts, targets_parts, remainder_parts, arith_parts}
 use Rattle.cob_edge_parts.specs.Meaning.{divides_by}
 use Rattle.cob_edge_parts.proofs.Divisors.{result_counts}
-use Rattle.edge_places.specs.Places.{IsArithmetic, IsBehindOperands, EndsWithRead, IsComputed, IsRemaining, IsDivided, IsInPlace}
+use Rattle.edge_places.specs.Places.{IsArithmetic, IsBehindOperands, EndsWithRead, IsRemaining, IsInPlace}
 use Rattle.edge_places.proofs.Splits.{Stands, stands, not_empty, only, in_reads, InDivides, in_divides}
 use Rattle.edge_places.proofs.Divisors.{divisors_order, some_behind}
 

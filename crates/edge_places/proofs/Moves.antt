@@ -1,9 +1,8 @@
 -- The parts of MOVE and its like, of tests, and of calls on files.
-use Rattle.std.proofs.Common.{◌≡◌, ℕ, Bool, true, false, ◌&&◌, ◌||◌, not, if◌then◌else◌, ◌⊎◌, inl, inr, List, [], ◌∷◌, ◌++◌, length, Option, Some, None, is_some, refl, sym, ap, subst, ◌∙◌}
-use Rattle.std.specs.Prelude.{slice_get}
-use Rattle.std.specs.List.{list_all, list_any, Contains}
+use Rattle.std.proofs.Common.{◌≡◌, ℕ, Bool, true, false, ◌||◌, if◌then◌else◌, ◌⊎◌, inl, inr, List, [], ◌∷◌, ◌++◌, length, Option, Some, None, is_some, refl, sym, ap, subst, ◌∙◌}
+use Rattle.std.specs.List.{list_any}
 use Rattle.std.specs.Option.{option_map_or}
-use Rattle.std.proofs.lemmas.List.{append_assoc, append-nil}
+use Rattle.std.proofs.lemmas.List.{append_assoc}
 use Rattle.dec_num.specs.declared.types.Mode.TheVariants.{Trunc}
 use Rattle.cob_tree.specs.declared.form.Form.{Form}
 use Rattle.cob_tree.specs.declared.form.Form.TheVariants as form
@@ -16,12 +15,11 @@ use Rattle.cob_data.specs.declared.layout.Sender.TheVariants as sender
 use Rattle.cob_program.specs.Sum.{Sum}
 use Rattle.cob_program.specs.Logic.{Test, numbers, texts, member, numeric, always}
 use Rattle.cob_runs.specs.Contents.{item_at, form_at, number_in}
-use Rattle.cob_runs.specs.Moves.{takes_number, is_group_sender}
 use Rattle.cob_runs.specs.Computing.{items_in}
 use Rattle.cob_runs.specs.Acts.{decl_at}
-use Rattle.cob_edge_parts.specs.Parts.{Amount, moved, augmented, Part, read, unread, divide, store, bytes_in, guard, read_count, set_count, count_down, guard_count, item_reads, divides, divisors_in, number_reads, augment_parts, compare_parts, gets_value, is_read_for, is_number_item, item_bytes, receiver_parts, receivers_parts, move_parts, text_reads, end_reads, member_reads, test_reads, test_parts, status_parts, file_parts, file_call_parts, into_parts}
-use Rattle.edge_places.specs.Places.{EndsWithRead, IsBehindSender, IsDivided}
-use Rattle.edge_places.proofs.Splits.{Stands, stands, not_empty, only, in_reads, InDivides, in_divides, contains_front, contains_back, reads_append}
+use Rattle.cob_edge_parts.specs.Parts.{moved, Part, read, unread, divide, store, bytes_in, guard, read_count, set_count, count_down, guard_count, item_reads, divides, divisors_in, number_reads, compare_parts, gets_value, is_read_for, is_number_item, item_bytes, receiver_parts, receivers_parts, move_parts, text_reads, end_reads, test_reads, test_parts, status_parts, file_parts, file_call_parts, into_parts}
+use Rattle.edge_places.specs.Places.{IsBehindSender, IsDivided}
+use Rattle.edge_places.proofs.Splits.{Stands, stands, not_empty, only, in_reads, InDivides, in_divides, reads_append}
 use Rattle.edge_places.proofs.Divisors.{order_append, sum_order, some_behind}
 
 -- a part that asks for a number

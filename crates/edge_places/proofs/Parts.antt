@@ -1,21 +1,19 @@
 -- Each part stands behind what it needs.
-use Rattle.std.proofs.Common.{◌≡◌, ℕ, Bool, true, false, ◌&&◌, ◌||◌, not, if◌then◌else◌, ◌⊎◌, inl, inr, List, [], ◌∷◌, ◌++◌, Option, Some, None, is_some, refl, sym, ap, subst, ◌∙◌}
+use Rattle.std.proofs.Common.{◌≡◌, ℕ, Bool, true, false, ◌⊎◌, inl, inr, List, [], ◌∷◌, ◌++◌, Option, Some, None, refl, sym, ap, subst, ◌∙◌}
 use Rattle.std.specs.Prelude.{slice_get}
 use Rattle.std.specs.Option.{option_map}
-use Rattle.std.proofs.lemmas.List.{append_assoc, append-nil}
 use Rattle.dec_num.specs.declared.types.Mode.TheVariants.{Trunc}
-use Rattle.cob_data.specs.declared.layout.Layout.{Layout}
 use Rattle.cob_data.specs.declared.layout.Sender.{Sender}
 use Rattle.cob_program.specs.declared.act.Target.{Target}
 use Rattle.cob_program.specs.Sum.{Sum}
 use Rattle.cob_program.specs.Logic.{Test, Logic}
-use Rattle.cob_program.specs.Act.{Turns, once, times, until, varying, Stmts, Phrase, Act, move, arith, if_, evaluate, perform, go as go_to, nothing, stop, open_files, close_files, read as reading, write, show, Whens, Body, Program}
+use Rattle.cob_program.specs.Act.{once, times, until, varying, Stmts, Phrase, Act, move, arith, if_, evaluate, perform, go as go_to, nothing, stop, open_files, close_files, read as reading, write, show, Body, Program}
 use Rattle.cob_runs.specs.declared.action.Action.{Action}
 use Rattle.cob_runs.specs.declared.action.Action.TheVariants as action
 use Rattle.cob_runs.specs.Acts.{decl_at, file_from}
 use Rattle.cob_runs.specs.Effects.{tests_in_act}
-use Rattle.cob_edge_parts.specs.Parts.{Amount, moved, computed, remaining, augmented, Part, read, unread, divide, store, bytes_in, guard, read_count, set_count, count_down, guard_count, number_reads, augment_parts, move_parts, test_parts, assign_parts, compute_parts, condition_parts, count_parts, call_parts, read_parts, bad_parts, parts_of, is_times}
-use Rattle.edge_places.specs.Places.{IsBehindSender, EndsWithRead, Moves, IsStored, IsInPlace, PartsAreInPlace, is_worked, ArithmeticIsDone}
+use Rattle.cob_edge_parts.specs.Parts.{moved, computed, remaining, augmented, Part, read, unread, divide, store, bytes_in, guard, read_count, set_count, count_down, guard_count, number_reads, augment_parts, test_parts, assign_parts, compute_parts, condition_parts, count_parts, call_parts, read_parts, bad_parts, is_times}
+use Rattle.edge_places.specs.Places.{IsBehindSender, Moves, IsInPlace, PartsAreInPlace, is_worked, ArithmeticIsDone}
 use Rattle.edge_places.proofs.Splits.{Stands, stands, not_empty, only}
 use Rattle.edge_places.proofs.Arithmetic.{arith_in_place}
 use Rattle.edge_places.proofs.Moves.{IsRead, in_number_reads, IsBytes, in_file, in_file_call, in_into, IsMoved, in_move, IsTested, in_test}
