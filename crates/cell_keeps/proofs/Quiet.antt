@@ -1,5 +1,5 @@
 -- Parts that write nothing: what is seen stays true.
-use Rattle.std.proofs.Common.{◌≡◌, ℕ, zero, Bool, true, false, inl, inr, List, [], ◌∷◌, ◌++◌, Option, Some, None, ℤ, refl, sym, ap, subst, ◌∙◌}
+use Rattle.std.proofs.Common.{◌≡◌, ℕ, Bool, true, false, inl, inr, List, [], ◌∷◌, ◌++◌, Option, Some, None, ℤ, refl, sym, ap, subst, ◌∙◌}
 use Rattle.std.specs.Prelude.{IfSome, IsSomeAnd}
 use Rattle.std.specs.List.{Contains}
 use Rattle.std.specs.Option.{option_map}

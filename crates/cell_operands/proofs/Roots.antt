@@ -1,5 +1,5 @@
 -- The range of a sum whose last operation is a quotient is that of what is divided over what divides.
-use Rattle.std.proofs.Common.{◌≡◌, ℕ, ◌+◌, ◌-◌, ◌^◌, max, Bool, true, false, Option, Some, None, ℤ, pos, ◌+ℤ◌, ◌*ℤ◌, refl, sym, ap, subst, ◌∙◌, arith}
+use Rattle.std.proofs.Common.{◌≡◌, ℕ, ◌-◌, ◌^◌, max, Bool, true, false, Option, Some, None, ℤ, pos, ◌+ℤ◌, ◌*ℤ◌, refl, sym, ap, subst, ◌∙◌, arith}
 use Rattle.std.specs.Option.{option_map}
 use Rattle.std.proofs.lemmas.Int.{ints}
 use Rattle.decimal_interval.specs.Corners.{interval}

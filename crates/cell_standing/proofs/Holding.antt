@@ -1,5 +1,5 @@
 -- Numbers of a storage lie in the ranges of what is known of it.
-use Rattle.std.proofs.Common.{◌≡◌, ◌<◌, ◌≤◌, ℕ, suc, Bool, true, false, if◌then◌else◌, List, [], ◌∷◌, Option, Some, None, is_some, ℤ, pos, ◌≤ℤ◌, refl, sym, subst, arith}
+use Rattle.std.proofs.Common.{◌≡◌, ◌<◌, ℕ, suc, Bool, true, false, if◌then◌else◌, List, [], ◌∷◌, Option, Some, None, is_some, ℤ, pos, ◌≤ℤ◌, refl, sym, subst, arith}
 use Rattle.std.specs.Prelude.{neg_ℤ, ◌-◌, ◌^◌, unsigned_abs}
 use Rattle.std.specs.List.{Contains}
 use Rattle.std.specs.Option.{option_map}
