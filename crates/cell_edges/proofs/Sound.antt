@@ -133,7 +133,7 @@ module _ (given : Given) (p : Program) (statement : ℕ) (a : Act) (x : Action) 
   size_stores s [] r m n z e h = absurd (let f = no_divisors s r m n z h in cc)
   size_stores s (t ∷ ts) r m n z e h =
       any_behind (item_reads (items_in s)) _ (any_behind (divides (divisors_of s (t ∷ ts))) _ (any_before (target_parts s t ++ targets_parts s ts) (remainder_parts p.layout s (t ∷ ts) r)
-        (any_before (target_parts s t) (targets_parts s ts) (target_stores s t))))
+      (any_before (target_parts s t) (targets_parts s ts) (target_stores s t))))
 
 module _ (given : Given) (p : Program) (statement : ℕ) where
   stores_by : (a : Act) (x : Action) → handled p a x ≡ true → (m n : Moment) → m.by_zero ≡ false → n.by_zero ≡ true → PassesParts p.layout (handled p a x) (parts_of p statement a x) m n → list_any is_store (parts_of p statement a x) ≡ true
@@ -174,7 +174,7 @@ module _ (given : Given) (p : Program) (statement : ℕ) where
     posts_stand last h failed =
         go (steps p a x (parts_of p statement a x) (beginning cells))
         (seen_steps given p statement a x (parts_of p statement a x) (beginning cells) (λ t. Agrees p statement a x (parts_of p statement a x) t last)
-          ((edge_is_sound given p statement a x).kept (beginning cells) (run.beginning bytes counts) last (begins given p statement a x cells bytes counts sound stands) (passes_all given p statement a x (parts_of p statement a x) (run.beginning bytes counts) last h)))
+        ((edge_is_sound given p statement a x).kept (beginning cells) (run.beginning bytes counts) last (begins given p statement a x cells bytes counts sound stands) (passes_all given p statement a x (parts_of p statement a x) (run.beginning bytes counts) last h)))
       where
         fails : (t : Seen) → Agrees p statement a x (parts_of p statement a x) t last → handled p a x ≡ true → t.any_fail ≡ true
         fails t g on = by_zero last.by_zero refl

@@ -109,7 +109,7 @@ module _ (given : Given) (p : Program) (statement : ℕ) (a : Act) (x : Action) 
       all_count_ : list_all (divides_by (worth p.layout m.first)) q.atoms ≡ true
       all_count_ =
           let r = read_first p.layout (handled p a x) q.places (divides q.atoms) (run.beginning m.first g.counts) m refl
-              (subst (λ (xs : List Part). PassesParts p.layout (handled p a x) xs (run.beginning m.first g.counts) m) q.split g.passed) in
+          (subst (λ (xs : List Part). PassesParts p.layout (handled p a x) xs (run.beginning m.first g.counts) m) q.split g.passed) in
           subst (λ (bytes : List ℕ). list_all (divides_by (worth p.layout bytes)) q.atoms ≡ true) r.first
           (count_all r.next r.passes)
         where
@@ -141,7 +141,7 @@ module _ (given : Given) (p : Program) (statement : ℕ) (a : Act) (x : Action) 
       by_value (v, f) =
           let zeros : v.units ≡ pos 0 = zero_units v (subst (λ (o : Option Scaled). option_map_or (λ w. not (unsigned_abs w.units == 0)) o false ≡ false) f e) in
           let inside = atom_in (amount_or_other given p statement a x done d s m q g) (range_at p s.cells) (all_in given p statement a x done d s m q g) d v
-              (sym (same_value given p statement a x done d s m q g d (numeric given p statement a x done d s m q g)) ∙ f) in
+          (sym (same_value given p statement a x done d s m q g d (numeric given p statement a x done d s m q g)) ∙ f) in
           not_both (holds_zero (atom_range (range_at p s.cells) d)) (zero_in (atom_range (range_at p s.cells) d) v zeros inside) clear
 
   -- ---- stores
@@ -190,9 +190,9 @@ module _ (given : Given) (p : Program) (statement : ℕ) (a : Act) (x : Action) 
   down_cleared done k s m split g great clear =
       if_home (λ c. not (count_may_fail (lowered (known_or (picture_range 18 true) c))) ≡ true → ⊥) (λ e. cc) (homes_of p) s.cells (of_count k)
       (λ there e.
-        let read_ = counted_down given p statement a x done k s m split g in
-        let now = count_holds p g.sound.items s.cells (storage m.storage m.counts) g.stands k m.own.units read_ (times_small p statement a x s m k m.own.units g.stands (g.sound.counts k there) read_) in
-        exceeds_told (lowered (units_of p.layout (homes_of p) s.cells (of_count k))) (m.own.units -ℤ pos 1) (lower_holds given p statement a x (units_of p.layout (homes_of p) s.cells (of_count k)) m.own.units now) great e) clear
+      let read_ = counted_down given p statement a x done k s m split g in
+      let now = count_holds p g.sound.items s.cells (storage m.storage m.counts) g.stands k m.own.units read_ (times_small p statement a x s m k m.own.units g.stands (g.sound.counts k there) read_) in
+      exceeds_told (lowered (units_of p.layout (homes_of p) s.cells (of_count k))) (m.own.units -ℤ pos 1) (lower_holds given p statement a x (units_of p.layout (homes_of p) s.cells (of_count k)) m.own.units now) great e) clear
 
   -- ---- all parts
 

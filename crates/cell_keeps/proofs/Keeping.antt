@@ -1,5 +1,5 @@
 -- What is seen behind a part is true where what is seen before it is.
-use Rattle.std.proofs.Common.{◌≡◌, ◌<◌, ◌≤◌, ℕ, zero, ◌+◌, ◌==◌, Bool, true, false, ◌&&◌, ◌||◌, not, if◌then◌else◌, inl, inr, List, [], ◌∷◌, ◌++◌, length, Option, Some, None, is_some, ℤ, pos, ◌≤ℤ◌, ◌-ℤ◌, refl, sym, ap, subst, ◌∙◌, arith}
+use Rattle.std.proofs.Common.{◌≡◌, ◌<◌, ◌≤◌, ℕ, ◌+◌, ◌==◌, Bool, true, false, ◌&&◌, ◌||◌, not, if◌then◌else◌, inl, inr, List, [], ◌∷◌, ◌++◌, length, Option, Some, None, is_some, ℤ, pos, ◌≤ℤ◌, ◌-ℤ◌, refl, sym, ap, subst, ◌∙◌, arith}
 use Rattle.std.specs.Prelude.{IfSome, IsSomeAnd, int_le, nat_lt, ◌^◌, unsigned_abs, unwrap_or, slice_set, ◌-◌}
 use Rattle.std.specs.List.{list_any, Contains}
 use Rattle.std.specs.Option.{option_map, option_map_or}
@@ -105,7 +105,7 @@ module _ (given : Given) (p : Program) (statement : ℕ) (a : Act) (x : Action) 
     pub numeric : are_numeric p.layout m.first (items_in_atom d) ≡ true
     numeric =
         let r = read_first p.layout (handled p a x) q.places (divides q.atoms) (run.beginning m.first g.counts) m refl
-            (subst (λ (xs : List Part). PassesParts p.layout (handled p a x) xs (run.beginning m.first g.counts) m) q.split g.passed) in
+        (subst (λ (xs : List Part). PassesParts p.layout (handled p a x) xs (run.beginning m.first g.counts) m) q.split g.passed) in
         contained_all p.layout m.first (items_in_atom d) (λ place c. all_contained p.layout m.first q.places place r.numeric (q.items place c))
 
     -- a number of the range for each item: its own, where it has one
@@ -233,17 +233,17 @@ module _ (given : Given) (p : Program) (statement : ℕ) (a : Act) (x : Action) 
   bytes_keeps done offset count t m n g within ((change, e), no_misfit) =
       subst (λ (j : Moment). Now (done ++ bytes_in offset count ∷ []) (after_bytes p offset count t) j) (sym e)
       (written_agrees p statement a x done (bytes_in offset count) t (after_bytes p offset count t) m (with_storage m (changed_in change offset count m.storage)) g ((change, refl), no_misfit) refl refl refl
-        (record {
-          whole = changes.same_length ∙ g.stands.whole;
-          counted = g.stands.counted;
-          known = λ h. known_left (λ k. KnownStands k (value_at p.layout (storage (changed_in change offset count m.storage) m.counts) h)) tt (is_in_bytes p.layout offset count) (homes_of p) t.cells h
-              (λ apart. subst (λ (v : Option ℤ). KnownStands (known_of (homes_of p) t.cells h) v) (sym (value_stays p.layout offset count m.storage (changed_in change offset count m.storage) m.counts changes h apart)) (g.stands.known h));
-        })
-        g.written refl (λ f. f) g.fails
-        (λ f k. elim (any_last is_store done (bytes_in offset count) k) [
-          | inl w ↦ g.all_fail f w
-          | inr w ↦ absurd cc
-        ]))
+      (record {
+        whole = changes.same_length ∙ g.stands.whole;
+        counted = g.stands.counted;
+        known = λ h. known_left (λ k. KnownStands k (value_at p.layout (storage (changed_in change offset count m.storage) m.counts) h)) tt (is_in_bytes p.layout offset count) (homes_of p) t.cells h
+            (λ apart. subst (λ (v : Option ℤ). KnownStands (known_of (homes_of p) t.cells h) v) (sym (value_stays p.layout offset count m.storage (changed_in change offset count m.storage) m.counts changes h apart)) (g.stands.known h));
+      })
+      g.written refl (λ f. f) g.fails
+      (λ f k. elim (any_last is_store done (bytes_in offset count) k) [
+        | inl w ↦ g.all_fail f w
+        | inr w ↦ absurd cc
+      ]))
     where
       changes : ChangesWithin offset count m.storage (changed_in change offset count m.storage)
       changes = range_changes change offset count m.storage (subst (λ (k : ℕ). offset + count ≤ k) (sym g.stands.whole) within)
@@ -389,7 +389,7 @@ module _ (given : Given) (p : Program) (statement : ℕ) (a : Act) (x : Action) 
         go : (f : Bool) → SeenNow (done ++ store place mode y ∷ []) (behind_store t f (kept_or_stored f (Some i))) (with_storage m (filled_at p.layout m.storage place held))
         go true = behind_agrees true (joined t.cells (stored_cells p place t.cells i)) (with_storage m (filled_at p.layout m.storage place held)) passes refl refl
             (stands_in_joined (stored_cells p place t.cells i) (joined t.cells (stored_cells p place t.cells i)) (filled_at p.layout m.storage place held) stands
-              (λ h k. all_stand_above (homes_of p) (stored_cells p place t.cells i) (joined t.cells (stored_cells p place t.cells i)) h (value_at p.layout (storage (filled_at p.layout m.storage place held) m.counts) h) (joined_right t.cells (stored_cells p place t.cells i) (same_length i)) k))
+            (λ h k. all_stand_above (homes_of p) (stored_cells p place t.cells i) (joined t.cells (stored_cells p place t.cells i)) h (value_at p.layout (storage (filled_at p.layout m.storage place held) m.counts) h) (joined_right t.cells (stored_cells p place t.cells i) (same_length i)) k))
             (λ e k. or_right t.any_fail true refl) (λ e. or_right t.any_fail true refl)
         go false = behind_agrees false (stored_cells p place t.cells i) (with_storage m (filled_at p.layout m.storage place held)) passes refl refl stands
             (λ e k. or_left t.any_fail false (g.fails e k)) (λ e. not_zero e)

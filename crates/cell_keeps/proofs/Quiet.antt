@@ -1,5 +1,5 @@
 -- Parts that write nothing: what is seen stays true.
-use Rattle.std.proofs.Common.{◌≡◌, ℕ, zero, Bool, true, false, inl, inr, List, [], ◌∷◌, ◌++◌, Option, Some, None, ℤ, refl, sym, ap, subst, ◌∙◌}
+use Rattle.std.proofs.Common.{◌≡◌, ℕ, Bool, true, false, inl, inr, List, [], ◌∷◌, ◌++◌, Option, Some, None, ℤ, refl, sym, ap, subst, ◌∙◌}
 use Rattle.std.specs.Prelude.{IfSome, IsSomeAnd}
 use Rattle.std.specs.List.{Contains}
 use Rattle.std.specs.Option.{option_map}
@@ -139,14 +139,14 @@ module _ (p : Program) (statement : ℕ) (a : Act) (x : Action) where
   item_known cells m place v i known e h =
       home_set p cells (storage m.storage m.counts) (of_item place) (Some i)
       (λ there. subst (λ (w : Option ℤ). KnownStands (Some i) w)
-        (sym (value_of_number (scale_of (form_at p.layout place)) (contents_value (form_at p.layout place) (bytes_at p.layout m.storage place)) v e)) h)
+      (sym (value_of_number (scale_of (form_at p.layout place)) (contents_value (form_at p.layout place) (bytes_at p.layout m.storage place)) v e)) h)
       (λ g there d. known g)
 
   read_known : (done : List Part) (place : ℕ) (s : Seen) (m n : Moment) → Agrees p statement a x done s m → ReadsAt p.layout false place m n → AllKnown (read_cells p (of_item place) s.cells) m
   read_known done place s m n g (v, e, same) =
       item_known s.cells m place v (units_of p.layout (homes_of p) s.cells (of_item place)) g.stands.known e
       (units_hold p g.sound.items s.cells (storage m.storage m.counts) g.stands place v.units
-        (value_of_number (scale_of (form_at p.layout place)) (contents_value (form_at p.layout place) (bytes_at p.layout m.storage place)) v e))
+      (value_of_number (scale_of (form_at p.layout place)) (contents_value (form_at p.layout place) (bytes_at p.layout m.storage place)) v e))
 
   pub read_keeps : (done : List Part) (place : ℕ) (s : Seen) (m n : Moment) → Agrees p statement a x done s m → PassesPart p.layout (handled p a x) (read place) m n
       → Agrees p statement a x (done ++ read place ∷ []) (after_read p place s) n
@@ -155,7 +155,7 @@ module _ (p : Program) (statement : ℕ) (a : Act) (x : Action) where
       chosen (λ (t : Seen). Agrees p statement a x (done ++ read place ∷ []) t n) s.may_zero s (with_cells s (read_cells p (of_item place) s.cells))
       (λ e. quiet done (read place) s s m n g h refl refl same (seen_on s) g.stands.known)
       (λ e. quiet done (read place) s (with_cells s (read_cells p (of_item place) s.cells)) m n g h refl refl same (cells_on s (read_cells p (of_item place) s.cells))
-        (read_known done place s m n g (subst (λ (b : Bool). ReadsAt p.layout b place m n) (not_zero e m.by_zero refl) h.0)))
+      (read_known done place s m n g (subst (λ (b : Bool). ReadsAt p.layout b place m n) (not_zero e m.by_zero refl) h.0)))
     where
       not_zero : s.may_zero ≡ false → (b : Bool) → m.by_zero ≡ b → m.by_zero ≡ false
       not_zero e true f = absurd (let one = g.zero f in cc)
@@ -178,7 +178,7 @@ module _ (p : Program) (statement : ℕ) (a : Act) (x : Action) where
   guard_keeps given done v wanted s m n g h =
       seen_cells done (guard v wanted) s m n (guarded_cells p v wanted s.cells) g h refl refl (same_moment m n h.0.1)
       (cuts (guarded p.layout (range_at p s.cells) (is_numeric p.layout (homes_of p) s.cells) v wanted)
-        (given.guards_ p.layout (range_at p s.cells) (is_numeric p.layout (homes_of p) s.cells) m.storage (items_hold p g.sound.items s.cells (storage m.storage m.counts) g.stands) v wanted h.0.0))
+      (given.guards_ p.layout (range_at p s.cells) (is_numeric p.layout (homes_of p) s.cells) m.storage (items_hold p g.sound.items s.cells (storage m.storage m.counts) g.stands) v wanted h.0.0))
     where
       cuts : (o : Option Cuts) → IsSomeAnd o (CutsHold p.layout (range_at p s.cells) m.storage) → IsSomeAnd (option_map (all_cut p s.cells) o) (λ cells. AllKnown cells m)
       cuts None k = absurd k
@@ -207,15 +207,15 @@ module _ (p : Program) (statement : ℕ) (a : Act) (x : Action) where
       let e = h.0.1 in
       quiet done (read_count k) s (with_cells s (read_cells p (of_count k) s.cells)) m n g h refl refl (own_moment m n (whole_number v) h.0.2) (cells_on s (read_cells p (of_count k) s.cells))
       (count_known s.cells m k v (units_of p.layout (homes_of p) s.cells (of_count k)) g.stands.known e
-        (λ there. count_holds p g.sound.items s.cells (storage m.storage m.counts) g.stands k v e (times_small s m k v g.stands (g.sound.counts k there) e)))
+      (λ there. count_holds p g.sound.items s.cells (storage m.storage m.counts) g.stands k v e (times_small s m k v g.stands (g.sound.counts k there) e)))
 
   pub guard_count_keeps : Given → (done : List Part) (k : ℕ) (wanted : Bool) (s : Seen) (m n : Moment) → IsTimesAt p k → Agrees p statement a x done s m → PassesPart p.layout (handled p a x) (guard_count k wanted) m n
       → IsSeen (walking p statement a x) (with_cells_if s (counted_cells p k wanted s.cells)) (λ t. Agrees p statement a x (done ++ guard_count k wanted ∷ []) t n)
   guard_count_keeps given done k wanted s m n is g h =
       seen_cells done (guard_count k wanted) s m n (counted_cells p k wanted s.cells) g h refl refl (same_moment m n h.0.3)
       (kept (count_kept wanted (units_of p.layout (homes_of p) s.cells (of_count k)))
-        (given.counts_ wanted (units_of p.layout (homes_of p) s.cells (of_count k)) h.0.0
-          (count_holds p g.sound.items s.cells (storage m.storage m.counts) g.stands k h.0.0 h.0.1 (times_small s m k h.0.0 g.stands is h.0.1)) h.0.2))
+      (given.counts_ wanted (units_of p.layout (homes_of p) s.cells (of_count k)) h.0.0
+      (count_holds p g.sound.items s.cells (storage m.storage m.counts) g.stands k h.0.0 h.0.1 (times_small s m k h.0.0 g.stands is h.0.1)) h.0.2))
     where
       kept : (o : Option Interval) → IsSomeAnd o (λ i. Holds i h.0.0) → IsSomeAnd (option_map (known_as p (of_count k) s.cells) o) (λ cells. AllKnown cells m)
       kept None f = absurd f

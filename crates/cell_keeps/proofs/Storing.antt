@@ -1,5 +1,5 @@
 -- Stores: what is seen behind them is true of what a run leaves.
-use Rattle.std.proofs.Common.{◌≡◌, ◌<◌, ◌≤◌, ℕ, zero, ◌+◌, Bool, true, false, ◌&&◌, ◌||◌, if◌then◌else◌, ◌⊎◌, inl, inr, List, [], ◌∷◌, ◌++◌, length, Option, Some, None, is_some, ℤ, pos, ◌≤ℤ◌, refl, sym, ap, subst, ◌∙◌, arith}
+use Rattle.std.proofs.Common.{◌≡◌, ◌<◌, ◌≤◌, ℕ, ◌+◌, Bool, true, false, ◌&&◌, ◌||◌, if◌then◌else◌, ◌⊎◌, inl, inr, List, [], ◌∷◌, ◌++◌, length, Option, Some, None, is_some, ℤ, pos, ◌≤ℤ◌, refl, sym, ap, subst, ◌∙◌, arith}
 use Rattle.std.specs.Prelude.{IsSomeAnd, neg_ℤ, ◌-◌, ◌^◌, unsigned_abs}
 use Rattle.std.specs.List.{list_all, list_any}
 use Rattle.std.specs.Option.{option_map, option_map_or}
@@ -79,13 +79,13 @@ module _ (p : Program) (statement : ℕ) (a : Act) (x : Action) where
       → are_numeric p.layout first (items_in s) ≡ true
   behind_numeric done first counts m s ts b passed =
       (read_first p.layout (handled p a x) (items_in s) (divides (divisors_of s ts) ++ b.behind) (at_first first counts) m refl
-        (subst (λ (xs : List Part). PassesParts p.layout (handled p a x) xs (at_first first counts) m) b.split passed)).numeric
+      (subst (λ (xs : List Part). PassesParts p.layout (handled p a x) xs (at_first first counts) m) b.split passed)).numeric
 
   behind_divisors : (done : List Part) (first : List ℕ) (counts : List (Option ℤ)) (m : Moment) (s : Sum) (ts : List Target) → IsBehindOperands s ts done → PassesParts p.layout (handled p a x) done (at_first first counts) m
       → m.by_zero ≡ false → list_all (divides_by (worth p.layout first)) (divisors_of s ts) ≡ true
   behind_divisors done first counts m s ts b passed z =
       let r = read_first p.layout (handled p a x) (items_in s) (divides (divisors_of s ts) ++ b.behind) (at_first first counts) m refl
-          (subst (λ (xs : List Part). PassesParts p.layout (handled p a x) xs (at_first first counts) m) b.split passed) in
+      (subst (λ (xs : List Part). PassesParts p.layout (handled p a x) xs (at_first first counts) m) b.split passed) in
       subst (λ (bytes : List ℕ). list_all (divides_by (worth p.layout bytes)) (divisors_of s ts) ≡ true) r.first
       (divisors_count p.layout (handled p a x) (divisors_of s ts) b.behind r.next m r.passes z)
 
@@ -377,7 +377,7 @@ module _ (p : Program) (statement : ℕ) (a : Act) (x : Action) (sound : IsSound
         known = home_set p (forgotten (is_beside p.layout place) (homes_of p) cells) (storage (filled_at p.layout m.storage place held) m.counts) (of_item place) (stored_known (form_at p.layout place) i)
             (λ there. new (form_at p.layout place) refl)
             (λ h there d. known_left (λ k. KnownStands k (value_at p.layout (storage (filled_at p.layout m.storage place held) m.counts) h)) tt (is_beside p.layout place) (homes_of p) cells h
-              (λ apart. subst (λ (v : Option ℤ). KnownStands (known_of (homes_of p) cells h) v) (sym (others_stay p.layout place j e m.storage held m.counts long within h apart)) (stands.known h)));
+            (λ apart. subst (λ (v : Option ℤ). KnownStands (known_of (homes_of p) cells h) v) (sym (others_stay p.layout place j e m.storage held m.counts long within h apart)) (stands.known h)));
       }
         where
           its_form : form_at p.layout place ≡ j.form
@@ -395,6 +395,6 @@ module _ (p : Program) (statement : ℕ) (a : Act) (x : Action) (sound : IsSound
           new (form.Edited picture digits scale) k = tt
           new (form.Number digits scale signed kept) k =
               let back : contents_value (form_at p.layout place) held ≡ Some (if signed then z else pos (unsigned_abs z)) =
-                  ap (contents_value (form_at p.layout place)) is ∙ sound.items.back place digits scale signed kept z k (subst (λ (f : Form). unsigned_abs z < 10 ^ digits_of f) k room) in
+              ap (contents_value (form_at p.layout place)) is ∙ sound.items.back place digits scale signed kept z k (subst (λ (f : Form). unsigned_abs z < 10 ^ digits_of f) k room) in
               subst (λ (v : Option ℤ). KnownStands (Some i) v) (sym (held_value p.layout place j e m.storage held m.counts long within ∙ back))
               (back_holds digits signed i z (subst (λ (f : Form). KnownFits (form_range f) (Some i)) k fits) holds)

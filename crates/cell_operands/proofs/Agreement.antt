@@ -106,10 +106,10 @@ module _ (f g : ℕ → Scaled) where
       let k = agree_root_of s r h e in
       ap (λ o. o >>= λ v. Some (value_of v))
       (bind_same (product_from f (whole_number (pos 1)) r.above) (product_from g (whole_number (pos 1)) r.above)
-        (λ n. atom_value f r.below >>= λ d. exact_quotient n (negated r.minus d) >>= λ q. Some (plus n (negated true (product (negated r.minus d) (cut_quotient scale q)))))
-        (λ n. atom_value g r.below >>= λ d. exact_quotient n (negated r.minus d) >>= λ q. Some (plus n (negated true (product (negated r.minus d) (cut_quotient scale q)))))
-        (same_product r.above (whole_number (pos 1)) k.0)
-        (λ n. ap (λ o. o >>= λ d. exact_quotient n (negated r.minus d) >>= λ q. Some (plus n (negated true (product (negated r.minus d) (cut_quotient scale q))))) (same_atom r.below k.1)))
+      (λ n. atom_value f r.below >>= λ d. exact_quotient n (negated r.minus d) >>= λ q. Some (plus n (negated true (product (negated r.minus d) (cut_quotient scale q)))))
+      (λ n. atom_value g r.below >>= λ d. exact_quotient n (negated r.minus d) >>= λ q. Some (plus n (negated true (product (negated r.minus d) (cut_quotient scale q)))))
+      (same_product r.above (whole_number (pos 1)) k.0)
+      (λ n. ap (λ o. o >>= λ d. exact_quotient n (negated r.minus d) >>= λ q. Some (plus n (negated true (product (negated r.minus d) (cut_quotient scale q))))) (same_atom r.below k.1)))
 
   pub same_remainder : (scale : ℕ) (s : Sum) → Agree (items_in s) → remainder_of f scale (root_of s) ≡ remainder_of g scale (root_of s)
   same_remainder scale s h = same_remainder_of scale s (root_of s) refl h

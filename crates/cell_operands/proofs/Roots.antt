@@ -1,5 +1,5 @@
 -- The range of a sum whose last operation is a quotient is that of what is divided over what divides.
-use Rattle.std.proofs.Common.{◌≡◌, ℕ, ◌+◌, ◌-◌, ◌^◌, max, Bool, true, false, Option, Some, None, ℤ, pos, ◌+ℤ◌, ◌*ℤ◌, refl, sym, ap, subst, ◌∙◌, arith}
+use Rattle.std.proofs.Common.{◌≡◌, ℕ, ◌-◌, ◌^◌, max, Bool, true, false, Option, Some, None, ℤ, pos, ◌+ℤ◌, ◌*ℤ◌, refl, sym, ap, subst, ◌∙◌, arith}
 use Rattle.std.specs.Option.{option_map}
 use Rattle.std.proofs.lemmas.Int.{ints}
 use Rattle.decimal_interval.specs.Corners.{interval}
@@ -64,10 +64,10 @@ module _ (range : ℕ → Ranged) where
       let same : record { above = more_factors (MkFactor over minus atom) q.above; minus = q.minus; below = q.below } ≡ r = cc in
       subst (λ (w : Root). product_range_from range a (more_factors (MkFactor over minus atom) fs) ≡ root_range a w) same
       (bind_same (atom_range range atom) (λ b. factor_range over a (turned minus b) >>= λ c. product_range_from range c fs) (λ b. factor_range over a (turned minus b) >>= λ c. root_range c q)
-        (λ b. bind_same (factor_range over a (turned minus b)) (λ c. product_range_from range c fs) (λ c. root_range c q) (λ c. more c q refl))
+      (λ b. bind_same (factor_range over a (turned minus b)) (λ c. product_range_from range c fs) (λ c. root_range c q) (λ c. more c q refl))
       ∙ sym (bind_assoc (atom_range range atom) (λ b. factor_range over a (turned minus b) >>= λ c. product_range_from range c q.above) (λ n. atom_range range q.below >>= λ d. quotient_range n (turned q.minus d))
-        ∙ bind_same (atom_range range atom) (λ b. (factor_range over a (turned minus b) >>= λ c. product_range_from range c q.above) >>= λ n. atom_range range q.below >>= λ d. quotient_range n (turned q.minus d)) (λ b. factor_range over a (turned minus b) >>= λ c. root_range c q)
-          (λ b. bind_assoc (factor_range over a (turned minus b)) (λ c. product_range_from range c q.above) (λ n. atom_range range q.below >>= λ d. quotient_range n (turned q.minus d)))))
+      ∙ bind_same (atom_range range atom) (λ b. (factor_range over a (turned minus b) >>= λ c. product_range_from range c q.above) >>= λ n. atom_range range q.below >>= λ d. quotient_range n (turned q.minus d)) (λ b. factor_range over a (turned minus b) >>= λ c. root_range c q)
+      (λ b. bind_assoc (factor_range over a (turned minus b)) (λ c. product_range_from range c q.above) (λ n. atom_range range q.below >>= λ d. quotient_range n (turned q.minus d)))))
 
   product_is : (fs : Factors) (a : Ranged) (r : Root) → root_in fs ≡ Some r → product_range_from range a fs ≡ root_range a r
   product_is no_factors a r e = absurd cc

@@ -67,15 +67,15 @@ module _ (given : Given) (p : Program) (a : Act) (x : Action) where
   store_clears_below place mode y s t fault h e =
       or_rises (has_phrase a) (not (is_misfit y fault) || all_fit p a x (with_taken p a x t) place mode y) (has_phrase a) (not (is_misfit y fault) || all_fit p a x (with_taken p a x s) place mode y) (λ f. f)
       (or_rises (not (is_misfit y fault)) (all_fit p a x (with_taken p a x t) place mode y) (not (is_misfit y fault)) (all_fit p a x (with_taken p a x s) place mode y) (λ f. f)
-        (all_fit_falls (with_taken p a x s) (with_taken p a x t) (taken_rises given p a x s t h) place mode y)) e
+      (all_fit_falls (with_taken p a x s) (with_taken p a x t) (taken_rises given p a x s t h) place mode y)) e
 
   divide_clears_below : (d : Atom) (s t : Seen) → SeenBelow p a x s t
       → (has_phrase a || not (holds_zero (atom_range (range_at p t.cells) d))) ≡ true → (has_phrase a || not (holds_zero (atom_range (range_at p s.cells) d))) ≡ true
   divide_clears_below d s t h e =
       or_rises (has_phrase a) (not (holds_zero (atom_range (range_at p t.cells) d))) (has_phrase a) (not (holds_zero (atom_range (range_at p s.cells) d))) (λ f. f)
       (not_falls (holds_zero (atom_range (range_at p t.cells) d)) (holds_zero (atom_range (range_at p s.cells) d))
-        (zero_rises (atom_range (range_at p s.cells) d) (atom_range (range_at p t.cells) d)
-          (atom_below (range_at p s.cells) (range_at p t.cells) (range_below p.layout (homes_of p) s.cells t.cells h.fits h.cells) d))) e
+      (zero_rises (atom_range (range_at p s.cells) d) (atom_range (range_at p t.cells) d)
+      (atom_below (range_at p s.cells) (range_at p t.cells) (range_below p.layout (homes_of p) s.cells t.cells h.fits h.cells) d))) e
 
   down_clears_below : (n : ℕ) (s t : Seen) → SeenBelow p a x s t
       → not (count_may_fail (lowered (units_of p.layout (homes_of p) t.cells (of_count n)))) ≡ true → not (count_may_fail (lowered (units_of p.layout (homes_of p) s.cells (of_count n)))) ≡ true
@@ -83,7 +83,7 @@ module _ (given : Given) (p : Program) (a : Act) (x : Action) where
       let w = units_below p.layout (homes_of p) s.cells t.cells (of_count n) h.fits h.cells in
       not_falls (count_may_fail (lowered (units_of p.layout (homes_of p) t.cells (of_count n)))) (count_may_fail (lowered (units_of p.layout (homes_of p) s.cells (of_count n))))
       (given.exceeds_ counter.digits (lowered (units_of p.layout (homes_of p) s.cells (of_count n))) (lowered (units_of p.layout (homes_of p) t.cells (of_count n)))
-        (let l = w.low in omega (arith, ints, l), let m = w.high in omega (arith, ints, m))) e
+      (let l = w.low in omega (arith, ints, l), let m = w.high in omega (arith, ints, m))) e
 
   pub clears_below : (y : Part) (s t : Seen) (fault : Kind) → SeenBelow p a x s t → clears_part p a x y t fault ≡ true → clears_part p a x y s fault ≡ true
   clears_below (read place) s t kind.Class h e = numeric_below p.layout (homes_of p) s.cells t.cells h.cells place e

@@ -1,6 +1,6 @@
 -- What is stored lies in the receiver's own range.
 use Rattle.std.proofs.Common.{◌≡◌, ℕ, ◌<◌, Bool, true, false, Option, Some, None, ℤ, pos, ◌≤ℤ◌, arith}
-use Rattle.std.specs.Prelude.{neg_ℤ, ◌-◌, ◌^◌, unsigned_abs, IfSome, ◌≤◌}
+use Rattle.std.specs.Prelude.{neg_ℤ, ◌-◌, ◌^◌, unsigned_abs, IfSome}
 use Rattle.std.proofs.lemmas.Int.{ints}
 use Rattle.dec_num.specs.declared.types.Mode.{Mode}
 use Rattle.cob_tree.specs.declared.form.Form.{Form}

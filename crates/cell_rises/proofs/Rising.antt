@@ -144,7 +144,7 @@ module _ (p : Program) where
       (λ place. units_fit p.layout (homes_of p) as_ (of_item place) f.fits) f
       (given.cuts_ p.layout (range_at p as_) (is_numeric p.layout (homes_of p) as_) (range_ordered p.layout (homes_of p) as_ f.fits) t wanted)
       (given.guards_ p.layout (range_at p as_) (is_numeric p.layout (homes_of p) as_) (range_at p bs) (is_numeric p.layout (homes_of p) bs)
-        (knows_more p.layout (homes_of p) as_ bs f.fits f.below) t wanted)
+      (knows_more p.layout (homes_of p) as_ bs f.fits f.below) t wanted)
 
   count_part : (own i : Interval) (o : Option Interval) → KnownFits own (Some i) → IfSome o (λ j. IsInside j i × (j.low ≤ℤ j.high)) → IfSome o (λ j. KnownFits own (Some j))
   count_part own i None k h = tt
@@ -246,11 +246,11 @@ module _ (given : Given) (p : Program) (a : Act) (x : Action) where
   divide_rises : (d : Atom) (s t : Seen) → Below s t → BelowIf p a x (after_divide p a x d s) (after_divide p a x d t)
   divide_rises d s t h = go (handled p a x) (can_divide (atom_range (range_at p s.cells) d)) (can_divide (atom_range (range_at p t.cells) d))
       (can_rises (atom_range (range_at p s.cells) d) (atom_range (range_at p t.cells) d)
-        (atom_below (range_at p s.cells) (range_at p t.cells) (ranges s t h) d))
+      (atom_below (range_at p s.cells) (range_at p t.cells) (ranges s t h) d))
     where
       go : (k u v : Bool) → (u ≡ true → v ≡ true)
           → BelowIf p a x (if k then Some (with_zero s (s.may_zero || may_be_zero (range_at p s.cells) d)) else (if u then Some s else None))
-            (if k then Some (with_zero t (t.may_zero || may_be_zero (range_at p t.cells) d)) else (if v then Some t else None))
+          (if k then Some (with_zero t (t.may_zero || may_be_zero (range_at p t.cells) d)) else (if v then Some t else None))
       go true u v uv =
           zero_below s t (may_be_zero (range_at p s.cells) d) (may_be_zero (range_at p t.cells) d) h
           (divisor_rises (range_at p s.cells) (range_at p t.cells) (ranges s t h) d)

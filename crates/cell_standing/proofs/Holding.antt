@@ -1,5 +1,5 @@
 -- Numbers of a storage lie in the ranges of what is known of it.
-use Rattle.std.proofs.Common.{◌≡◌, ◌<◌, ◌≤◌, ℕ, suc, Bool, true, false, if◌then◌else◌, List, [], ◌∷◌, Option, Some, None, is_some, ℤ, pos, ◌≤ℤ◌, refl, sym, subst, arith}
+use Rattle.std.proofs.Common.{◌≡◌, ◌<◌, ℕ, suc, Bool, true, false, if◌then◌else◌, List, [], ◌∷◌, Option, Some, None, is_some, ℤ, pos, ◌≤ℤ◌, refl, sym, subst, arith}
 use Rattle.std.specs.Prelude.{neg_ℤ, ◌-◌, ◌^◌, unsigned_abs}
 use Rattle.std.specs.List.{Contains}
 use Rattle.std.specs.Option.{option_map}
@@ -52,8 +52,8 @@ pub home_set : (p : Program) (cells : List Known) (s : Storage) (h : Home) (c : 
 home_set p cells s h c new old g =
     if_home (λ k. KnownStands k (value_at p.layout s g)) tt (homes_of p) (with_known h c (homes_of p) cells) g
     (λ there. known_after (λ k. KnownStands k (value_at p.layout s g)) tt (homes_of p) cells h g c
-      (λ e. subst (λ (k : Home). KnownStands c (value_at p.layout s k)) (sym e) (new (subst (λ (k : Home). Contains (homes_of p) k) e there)))
-      (λ n. old g there n))
+    (λ e. subst (λ (k : Home). KnownStands c (value_at p.layout s k)) (sym e) (new (subst (λ (k : Home). Contains (homes_of p) k) e there)))
+    (λ n. old g there n))
 
 -- ---- values
 
