@@ -5,3 +5,9 @@ pub mod Sound
 pub mod Narrow
 pub mod Bounded
 pub mod Vanish
+pub mod Working
+pub mod Numerals
+pub mod Loops
+pub mod Rooms
+pub mod Roots
+pub mod Examples

@@ -1,0 +1,11 @@
+use Rattle.data_laws.proofs.Put.{values_can_be_put, numbers_stand_at_first, literals_stand_at_first}
+use Rattle.data_laws.proofs.laws.values_can_be_put.Goals as goal
+
+pub returns-clause-put : goal.returns-clause-put
+returns-clause-put c = values_can_be_put
+
+pub returns-clause-numbers : goal.returns-clause-numbers
+returns-clause-numbers c = numbers_stand_at_first
+
+pub returns-clause-literals : goal.returns-clause-literals
+returns-clause-literals c = literals_stand_at_first

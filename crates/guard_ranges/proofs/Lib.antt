@@ -1,0 +1,16 @@
+pub mod Searches
+pub mod Least
+pub mod Relations
+pub mod Lone
+pub mod Agreement
+pub mod InRanges
+pub mod GuardLaws
+pub mod Division
+pub mod Besides
+pub mod SideCode
+pub mod Short
+pub mod MemberCode
+pub mod CountCode
+pub mod SideLists
+pub mod Examples
+pub mod CountLaws
