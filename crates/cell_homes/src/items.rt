@@ -2,7 +2,7 @@
 ghost use Rattle.std.specs.Prelude.{◌≡◌, is_some};
 ghost use Rattle.cob_program.specs.Act.{Program};
 ghost use Rattle.cob_graph.specs.Graphs.{cells_of};
-ghost use Rattle.cell_homes.specs.Homes.{of_item};
+ghost use Rattle.cell_storages.specs.Homes.{of_item};
 ghost use Rattle.cell_homes.specs.Numbers.{is_item, item_from, items_before, items_of, number_of};
 
 use cob_runs::Cell;
