@@ -1,0 +1,4 @@
+pub mod Doing
+pub mod Parts
+pub mod Edges
+pub mod Examples
