@@ -1,0 +1,4 @@
+pub mod Entry
+pub mod Flow
+pub mod Clears
+pub mod Meaning
