@@ -87,7 +87,7 @@ module _ (p : Program) (g : Graph) where
       (moved (post_cells p acts.statement acts.act (edge_at g e).action cells) acts.last.storage t.bytes acts.last.counts t.counters
       acts.bytes acts.counters
       (all_posts_stand p acts.statement acts.act (edge_at g e).action cells s.bytes s.counters acts.last
-      (sound_edge p g acts.of_source acts.statement acts.act (edge_at g e).action acts.does.act) stands acts.way acts.fails))
+      (edges_are_sound_of_sources p g acts.of_source acts.statement acts.act (edge_at g e).action acts.does.act) stands acts.way acts.fails))
 
   kept : (e : ℕ) (x : Element) (s t : Storage) → ElementStands p x s → Acts p g e s t → ElementStands p (post_at p g e x) t
   kept e None s t stands acts = absurd stands
@@ -99,7 +99,7 @@ module _ (p : Program) (g : Graph) where
       edge_clears p g fault cells (edge_at g m.e) ≡ true → ⊥
   not_met_on fault cells s node m stands clears =
       none_cleared_is_met p m.statement m.act (edge_at g m.e).action cells s.bytes s.counters fault
-      (sound_edge p g m.on.of_source m.statement m.act (edge_at g m.e).action m.on.does.act) stands
+      (edges_are_sound_of_sources p g m.on.of_source m.statement m.act (edge_at g m.e).action m.on.does.act) stands
       (sym (at_source p g (edge_at g m.e) m.statement m.act (λ n a. clears_edge p n a (edge_at g m.e).action cells fault) true at) ∙ clears)
       m.on.its m.meets
     where
