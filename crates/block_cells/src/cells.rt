@@ -1,4 +1,4 @@
-//! The block, as Rust's `[MaybeUninit<T>]`: a row of places, each empty or holding a value.
+//! Places in one block of memory, each empty or holding a value, and who owns them.
 ghost use Rattle.std.specs.Prelude.{◌≡◌, ℕ, ◌<◌, ◌≤◌, ◌++◌, ◌⊎◌, [], List, Option, Some, None, map, length, take, drop, replicate, get_or, slice_set, IfOk, ⊤};
 ghost use Rattle.std.specs.Borrow.{sem};
 ghost use Rattle.std.specs.Vec.Ownership.{FitsInBlock};
@@ -33,7 +33,7 @@ unsafe impl<T> Send for Base<T> {}
 
 unsafe impl<T> Sync for Base<T> {}
 
-/// The owner of the places. It takes no space: the buffer holds the pointer and the capacity.
+/// The owner of some places. It takes no space: whoever has it keeps where they begin.
 pub struct Cells<T> {
     mark: PhantomData<*const T>,
     ghost at: { Ptr },
@@ -69,12 +69,14 @@ unsafe impl<T, A: Allocator + Send> Send for Deed<T, A> {}
 // A `&` to it holds nothing.
 unsafe impl<T, A: Allocator> Sync for Deed<T, A> {}
 
+/// A block of `len` places, all empty.
 pub fn allocate<T, A: Allocator>(
     alloc: &A,
     len: usize,
 ) -> Result<(Base<T>, Cells<T>, Deed<T, A>), AllocError>
     requires { FitsInBlock T.row len }
-    ensures { IfOk result (λ r. (r.1.at ≡ r.0.ptr) × (r.1.slots ≡ replicate len None) × (r.2.at ≡ r.0.ptr) × (r.2.len ≡ len) × (r.2.alloc ≡ alloc.now)) }
+    ensures { IfOk result (λ r. (r.1.at ≡ r.0.ptr) × (r.1.slots ≡ replicate len None)
+        × (r.2.at ≡ r.0.ptr) × (r.2.len ≡ len) × (r.2.alloc ≡ alloc.now)) }
 {
     match alloc.allocate(len * size_of::<T>(), align_of::<T>()) {
         Ok(block) => {
@@ -91,6 +93,7 @@ pub fn allocate<T, A: Allocator>(
     }
 }
 
+/// Gives a block back whose places are all empty.
 pub fn deallocate<T, A: Allocator>(
     alloc: &A,
     base: Base<T>,
@@ -98,7 +101,8 @@ pub fn deallocate<T, A: Allocator>(
     cells: Cells<T>,
     deed: Deed<T, A>,
 )
-    requires { (cells.at ≡ base.ptr) × (cells.slots ≡ replicate len None) × (deed.at ≡ base.ptr) × (deed.len ≡ len) × (deed.alloc ≡ alloc.now) }
+    requires { (cells.at ≡ base.ptr) × (cells.slots ≡ replicate len None)
+        × (deed.at ≡ base.ptr) × (deed.len ≡ len) × (deed.alloc ≡ alloc.now) }
 {
     let Cells { mark: _ } = cells;
     let Deed { mark: _ } = deed;
@@ -107,16 +111,23 @@ pub fn deallocate<T, A: Allocator>(
     }
 }
 
-/// Two owners of neighbouring places hand over: the first gets the first `at` places of both, the second the others,
-/// and it is told where these begin. Nothing is done at run time but the sum.
+/// Two owners of neighbouring places hand over: the first gets the first `at` places of both, the second
+/// the others, and it is told where these begin. An owner of no places may stand anywhere. Nothing is done
+/// at run time but the sum.
 pub fn part_at<T>(
     base: Base<T>,
     low: Cells<T>,
     high: Cells<T>,
     at: usize,
 ) -> (Base<T>, Cells<T>, Cells<T>)
-    requires { (low.at ≡ base.ptr) × ((high.slots ≡ []) ⊎ (high.at ≡ place_on T.row (length low.slots) base.ptr)) × (at ≤ length (low.slots ++ high.slots)) × FitsInBlock T.row (length (low.slots ++ high.slots)) }
-    ensures { (result.0.ptr ≡ place_on T.row at base.ptr) × (result.1.at ≡ base.ptr) × (result.1.slots ≡ take at (low.slots ++ high.slots)) × (result.2.at ≡ place_on T.row at base.ptr) × (result.2.slots ≡ drop at (low.slots ++ high.slots)) }
+    requires { (low.at ≡ base.ptr)
+        × ((high.slots ≡ []) ⊎ (high.at ≡ place_on T.row (length low.slots) base.ptr))
+        × (at ≤ length (low.slots ++ high.slots))
+        × FitsInBlock T.row (length (low.slots ++ high.slots)) }
+    ensures { (result.0.ptr ≡ place_on T.row at base.ptr)
+        × (result.1.at ≡ base.ptr) × (result.1.slots ≡ take at (low.slots ++ high.slots))
+        × (result.2.at ≡ place_on T.row at base.ptr)
+        × (result.2.slots ≡ drop at (low.slots ++ high.slots)) }
 {
     let Cells { mark: _ } = low;
     let Cells { mark: _ } = high;
@@ -145,6 +156,7 @@ pub fn end<T>(cells: Cells<T>)
 impl<T> Cells<T> {
     ghost use Rattle.block_cells.specs.Lends.{lends_run};
 
+    /// Fills an empty place.
     pub fn write(&mut self, base: Base<T>, index: usize, item: T)
         requires { (base.ptr ≡ self.old.at) × (index < length self.old.slots) × (get_or self.old.slots index None ≡ None) }
         ensures { (self.new.at ≡ self.old.at) × (self.new.slots ≡ slice_set self.old.slots index (Some item)) }
@@ -152,6 +164,7 @@ impl<T> Cells<T> {
         unsafe { base.ptr.add(index).write(item) }
     }
 
+    /// Takes the value out of a place.
     pub fn read(&mut self, base: Base<T>, index: usize) -> T
         requires { (base.ptr ≡ self.old.at) × IsFilled self.old.slots index }
         ensures value { get_or self.old.slots index None ≡ Some result }
@@ -168,6 +181,7 @@ impl<T> Cells<T> {
         unsafe { slice::from_raw_parts(base.ptr.add(from), len) }
     }
 
+    /// The same, to be written.
     pub fn slice_mut(&mut self, base: Base<T>, from: usize, len: usize) -> &mut [T]
         requires { (base.ptr ≡ self.old.at) × IsRun self.old.slots from len }
         ensures* writes_back { sem 𝓛 (lends_run T.row self.entry from len result) }

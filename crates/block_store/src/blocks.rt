@@ -22,8 +22,8 @@ impl Model for BlockId {
     ghost view = { λ id. id.place };
 }
 
-/// Blocks of one size, all in one allocation. Those in use are reached by their ids; each id that
-/// is asked about has to be one of this value's, which its number alone tells.
+/// Blocks of one size, all in one allocation, which is freed with this value whatever blocks are in use.
+/// An id is told by its number alone, so the ids of two values are to be kept apart.
 #[derive(Drop)]
 pub struct Blocks {
     region: Region,
