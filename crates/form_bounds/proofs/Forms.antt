@@ -42,16 +42,19 @@ more_cells c v size (suc n) h beyond =
 all_cells : (form : Lin) (v : ℕ → ℤ) (size : ℕ) → size ≤ 8 → IsOver size form → dot (coef form) v 8 ≡ dot (coef form) v size
 all_cells form v size few is = more_cells (coef form) v size 8 few is.beyond
 
+-- the coefficients times the values, as a form adds them up
+pub total_of_form : (size : ℕ) (form : Lin) (cells : ℕ → Option ℤ) → size ≤ 8 → IsOver size form → dot (coef form) (λ k. worths cells (suc k)) 8 ≡ total (coef_at form.coefs) (worths cells) size
+total_of_form size form cells few is = all_cells form (λ k. worths cells (suc k)) size few is ∙ sym (total_is form (worths cells) size)
+
 above_less : (t s : ℤ) (o : Option ℤ) → t ≤ℤ s → IsAbove s o → IsAbove t o
 above_less t s (Some u) h k = omega (arith, ints, k)
 above_less t s None h k = tt
 
 pub form_above : (size : ℕ) (m : List ℤ) (cells : ℕ → Option ℤ) (form : Lin) (z : ℤ) → size ≤ 8 → IsOver size form → StandsIn (size + 1) (word (size + 1) m) cells → Holds (values_in form cells) z → IsAbove z (upper_of size m form)
 form_above size m cells form z few is stands (low, high) =
-    let cut = all_cells form (λ k. worths cells (suc k)) size few is in
-    let same = total_is form (worths cells) size in
+    let same = total_of_form size form cells few is in
     above_less z (total (coef_at form.coefs) (worths cells) size +ℤ form.constant.high) (upper_of size m form)
-    (omega (arith, ints, high, cut, same))
+    (omega (arith, ints, high, same))
     (upper_above size (word (size + 1) m) cells stands (coef_at form.coefs) form.constant.high)
 
 pub lower_words : (size : ℕ) (a b : List ℤ) → IsMatrix size a → IsAtMost a b → AreLower (size + 1) (word (size + 1) a) (word (size + 1) b)
