@@ -1,0 +1,4 @@
+pub mod Closures
+pub mod Tight
+pub mod OneRow
+pub mod RowSums

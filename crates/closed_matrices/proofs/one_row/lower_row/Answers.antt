@@ -1,0 +1,19 @@
+use Rattle.std.proofs.Common.{ℕ, pos, get_or, refl, ap, ◌∙◌, arith, rules}
+use Rattle.std.specs.Int.{w128}
+use Rattle.std.proofs.lemmas.Int.{to_z-of_z}
+use Rattle.closed_matrices.proofs.RowSums.{lowered_along, columns_more}
+use Rattle.closed_matrices.proofs.one_row.lower_row.Goals as goal
+
+pub loop-column-preserved : goal.loop-column-preserved
+loop-column-preserved c =
+    let n = c.args.places in
+    let m = c.loop-column.m in
+    let column = c.loop-column.column in
+    let columns = c.loop-column.invariant in
+    columns_more n c.args.m.now c.args.from.now _ c.args.row column m c.place_of-at.result _ (search rules) c.requires.row (omega arith) c.place_of-at.ensures.value columns
+    (lowered_along _ _ _ _ _ _ _ _
+    (to_z-of_z w128 _ (search rules) ∙ ap (λ (p : ℕ). get_or m p (pos 0)) c.place_of-at.ensures.value ∙ columns.left column (omega arith) (omega arith))
+    refl
+    (to_z-of_z w128 _ (search rules))
+    (to_z-of_z w128 _ (search rules))
+    c.lowered.ensures)

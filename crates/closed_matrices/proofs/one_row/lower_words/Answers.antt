@@ -1,0 +1,11 @@
+use Rattle.std.proofs.Common.{refl, arith, rules}
+use Rattle.std.specs.Int.{w128}
+use Rattle.std.proofs.lemmas.Int.{to_z-of_z}
+use Rattle.closed_matrices.proofs.RowSums.{lowered_along, rows_more}
+use Rattle.closed_matrices.proofs.one_row.lower_words.Goals as goal
+
+pub loop-row-preserved : goal.loop-row-preserved
+loop-row-preserved c =
+    rows_more c.args.places c.args.m.now c.args.into.now c.args.from.now c.loop-row.row c.loop-row.m c.lower_row.new.m (omega arith) c.loop-row.invariant
+    (λ j h. lowered_along _ _ _ _ _ _ _ _ refl (to_z-of_z w128 _ (search rules)) refl refl (c.lower_row.ensures.row j h))
+    c.lower_row.ensures.others

@@ -1,0 +1,3 @@
+pub mod Closed
+pub mod Settled
+pub mod Rows

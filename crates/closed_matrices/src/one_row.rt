@@ -1,0 +1,192 @@
+//! The closing of a matrix that is tight but for one row and its column.
+ghost use Rattle.std.specs.Prelude.{◌≡◌, ◌≢◌, ℕ, ◌+◌, ◌*◌, ◌<◌, ◌≤◌, ◌↔◌, length, pos, false, IsTrue, slice_index_or, if◌then◌else◌, ℤ, Option, Some, None};
+ghost use Rattle.diff_bounds.specs.Matrix.{word, IsMatrix, IsWord};
+ghost use Rattle.diff_bounds.specs.Paths.{cut_of, HasNoNegativeCycle, IsClosure};
+ghost use Rattle.diff_bounds.specs.Storages.{StandsIn};
+ghost use Rattle.closed_matrices.specs.Closed.{closed};
+ghost use Rattle.closed_matrices.specs.Settled.{IsTightBut};
+ghost use Rattle.closed_matrices.specs.Rows.{IsPair, IsBetter, IsLeastOver, AreInto, AreFrom, IsNegative, IsNegativeAt, IsLowered, AreLowered};
+
+use super::words::{LARGEST, NONE, place_of};
+
+// no sum
+const NO_SUM: i128 = i128::MAX;
+
+// as many sums as a matrix can have rows
+type Sums = [i128; 9];
+
+// the lesser of the best sum so far and the sum of two words
+#[inline(always)]
+fn better(best: i128, first: i128, second: i128) -> i128
+    requires first { IsWord first }
+    requires second { IsWord second }
+    ensures { IsBetter best first second result }
+{
+    if first < NONE && second < NONE {
+        best.min(first + second)
+    } else {
+        best
+    }
+}
+
+// the least sum of the words from a row to some place and from there to a column
+fn least_over(places: usize, m: &[i128], row: usize, column: usize) -> i128
+    requires few { places ≤ 9 }
+    requires width { length m.now ≡ places * places }
+    requires words { (i j : ℕ) → i < places → j < places → IsWord (word places m.now i j) }
+    requires row { row < places }
+    requires column { column < places }
+    ensures { IsLeastOver places (word places m.now) row column result }
+{
+    let mut best = NO_SUM;
+    for over in 0..places {
+        let first = m[place_of(places, row, over)];
+        let second = m[place_of(places, over, column)];
+        best = better(best, first, second);
+    }
+    best
+}
+
+// the least sums from each place to one
+fn sums_into(places: usize, m: &[i128], at: usize, sums: &mut [i128])
+    requires few { places ≤ 9 }
+    requires width { length m.now ≡ places * places }
+    requires words { (i j : ℕ) → i < places → j < places → IsWord (word places m.now i j) }
+    requires at { at < places }
+    requires room { places ≤ length sums.old }
+    ensures { AreInto places at (word places m.now) sums.new }
+{
+    for row in 0..places {
+        sums[row] = least_over(places, m, row, at);
+    }
+}
+
+// the least sums from one place to each
+fn sums_from(places: usize, m: &[i128], at: usize, sums: &mut [i128])
+    requires few { places ≤ 9 }
+    requires width { length m.now ≡ places * places }
+    requires words { (i j : ℕ) → i < places → j < places → IsWord (word places m.now i j) }
+    requires at { at < places }
+    requires room { places ≤ length sums.old }
+    ensures { AreFrom places at (word places m.now) sums.new }
+{
+    for column in 0..places {
+        sums[column] = least_over(places, m, at, column);
+    }
+}
+
+// whether a word and a sum are both there and add up to less than 0
+fn is_negative(word: i128, sum: i128) -> bool
+    requires word { IsWord word }
+    requires sum { IsPair sum }
+    ensures { IsTrue result ↔ IsNegative word sum }
+{
+    if word < NONE && sum < NO_SUM {
+        word + sum < 0
+    } else {
+        false
+    }
+}
+
+// whether a round trip from the place is negative
+fn is_negative_trip(places: usize, m: &[i128], at: usize, into: &[i128]) -> bool
+    requires few { places ≤ 9 }
+    requires width { length m.now ≡ places * places }
+    requires words { (i j : ℕ) → i < places → j < places → IsWord (word places m.now i j) }
+    requires at { at < places }
+    requires room { places ≤ length into.now }
+    requires into { AreInto places at (word places m.now) into.now }
+    ensures some { IsTrue result → (v : ℕ) × (v < places) × IsNegativeAt at (word places m.now) into.now v }
+    ensures none { result ≡ false → (v : ℕ) → v < places → ¬ IsNegativeAt at (word places m.now) into.now v }
+{
+    for over in 0..places {
+        if is_negative(m[place_of(places, at, over)], into[over]) {
+            return true;
+        }
+    }
+    false
+}
+
+// a sum as a word
+#[inline(always)]
+fn cut(sum: i128) -> i128
+    ensures { result ≡ cut_of sum }
+{
+    if LARGEST < sum {
+        NONE
+    } else {
+        sum.max(-LARGEST)
+    }
+}
+
+// the lesser of the word and the cut of two sums
+#[inline(always)]
+fn lowered(word: i128, first: i128, second: i128) -> i128
+    requires first { IsPair first }
+    requires second { IsPair second }
+    ensures { IsLowered word first second result }
+{
+    if first < NO_SUM && second < NO_SUM {
+        word.min(cut(first + second))
+    } else {
+        word
+    }
+}
+
+// lowers the words of a row to the ways over the place
+fn lower_row(places: usize, m: &mut [i128], row: usize, first: i128, from: &[i128])
+    requires few { places ≤ 9 }
+    requires width { length m.old ≡ places * places }
+    requires row { row < places }
+    requires first { IsPair first }
+    requires room { places ≤ length from.now }
+    requires from { (j : ℕ) → j < places → IsPair (slice_index_or from.now j (pos 0)) }
+    ensures row { (j : ℕ) → j < places → IsLowered (word places m.old row j) first (slice_index_or from.now j (pos 0)) (word places m.new row j) }
+    ensures others { (i j : ℕ) → i < places → j < places → i ≢ row → word places m.new i j ≡ word places m.old i j }
+{
+    for column in 0..places {
+        let at = place_of(places, row, column);
+        m[at] = lowered(m[at], first, from[column]);
+    }
+}
+
+// lowers each word to the way over the place
+fn lower_words(places: usize, m: &mut [i128], into: &[i128], from: &[i128])
+    requires few { places ≤ 9 }
+    requires width { length m.old ≡ places * places }
+    requires into_room { places ≤ length into.now }
+    requires into { (j : ℕ) → j < places → IsPair (slice_index_or into.now j (pos 0)) }
+    requires from_room { places ≤ length from.now }
+    requires from { (j : ℕ) → j < places → IsPair (slice_index_or from.now j (pos 0)) }
+    ensures { AreLowered places into.now from.now (word places m.old) (word places m.new) }
+{
+    for row in 0..places {
+        lower_row(places, m, row, into[row], from);
+    }
+}
+
+/// Does what `close` of `diff_bounds` does, where no more than the words of one row and of its column are above
+/// a sum of two words.
+pub fn close_row(size: usize, m: &mut [i128], at: usize) -> bool
+    requires size { size ≤ 8 }
+    requires m { IsMatrix size m.old }
+    requires at { at ≤ size }
+    requires tight { IsTightBut (size + 1) at (word (size + 1) m.old) }
+    ensures cycles { IsTrue result ↔ HasNoNegativeCycle (size + 1) (word (size + 1) m.old) }
+    ensures sums { IsTrue result → IsClosure (size + 1) (word (size + 1) m.old) (word (size + 1) m.new) }
+    ensures matrix { IsTrue result → IsMatrix size m.new }
+    ensures closed { closed size m.old ≡ (if result then Some m.new else None) }
+    ensures meaning { IsTrue result → (cells : ℕ → Option ℤ) → StandsIn (size + 1) (word (size + 1) m.old) cells ↔ StandsIn (size + 1) (word (size + 1) m.new) cells }
+    ensures empty { result ≡ false → (cells : ℕ → Option ℤ) → ¬ StandsIn (size + 1) (word (size + 1) m.old) cells }
+{
+    let places = size + 1;
+    let mut into: Sums = [NO_SUM; 9];
+    sums_into(places, m, at, &mut into);
+    if is_negative_trip(places, m, at, &into) {
+        return false;
+    }
+    let mut from: Sums = [NO_SUM; 9];
+    sums_from(places, m, at, &mut from);
+    lower_words(places, m, &into, &from);
+    true
+}

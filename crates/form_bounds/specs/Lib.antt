@@ -1,0 +1,4 @@
+pub mod Numbers
+pub mod Upper
+pub mod Values
+pub mod Sums
