@@ -1,12 +1,14 @@
 -- What is known of items lies within their bounds.
-use Rattle.std.proofs.Common.{◌≡◌, ◌≤◌, ℕ, ◌-◌, ◌^◌, ◌&&◌, min, Bool, true, false, List, slice_get, Option, Some, None, pos, arith, refl, ap}
+use Rattle.std.proofs.Common.{◌≡◌, ◌≤◌, ℕ, ◌-◌, ◌^◌, ◌<◌, ◌∙◌, ◌&&◌, min, length, Bool, true, false, List, slice_get, Option, Some, None, pos, arith, refl, sym, ap, ⊎_elim}
 use Rattle.std.specs.Prelude.{nat_le, int_le, if◌then◌else◌, unsigned_abs, ◌≤ℤ◌}
 use Rattle.std.proofs.lemmas.Int.{ints}
 use Rattle.std.proofs.lemmas.Bool.Decides.{nat_tests}
-use Rattle.std.proofs.Math.Nat.{min-le_left}
+use Rattle.std.proofs.lemmas.Bool.{cases_lt}
+use Rattle.std.proofs.Math.Nat.{min-le_left, pow-le-pow_right}
 use Rattle.decimal_interval.specs.declared.bounds.Interval.{Interval}
 use Rattle.decimal_interval.specs.Corners.{interval}
-use Rattle.cob_program.specs.Bounds.{Bound}
+use Rattle.cob_tree.specs.declared.token.Num.{Num}
+use Rattle.cob_program.specs.Bounds.{Bound, literal_bound}
 use Rattle.cob_program.proofs.Steps.{both}
 use Rattle.cob_typed_exprs.specs.Sizes.{capped}
 use Rattle.sum_ranges.specs.Ranged.{ranged}
@@ -54,3 +56,18 @@ capped_test m = grind (arith, nat_tests)
 
 pub short_sizes : (b : Bound) → is_short (capped b) ≡ is_short b
 short_sizes b = ap (λ t. t && nat_le b.scale 18) (capped_test b.most)
+
+test_over : (a b : ℕ) → b < a → nat_le a b ≡ false
+test_over a b h = grind (arith, nat_tests)
+
+short_digits : (n : ℕ) → nat_le (10 ^ n - 1) (10 ^ 18 - 1) ≡ nat_le n 18
+short_digits n =
+    ⊎_elim (λ (few : n < 19).
+    let p = pow-le-pow_right {n = 10} (omega arith) {i = n} {j = 18} (omega (arith, few)) in
+    test_at (10 ^ n - 1) (10 ^ 18 - 1) (omega (arith, p)) ∙ sym (test_at n 18 (omega (arith, few))))
+    (λ (many : 19 ≤ n).
+    let p = pow-le-pow_right {n = 10} (omega arith) {i = 19} {j = n} many in
+    test_over (10 ^ n - 1) (10 ^ 18 - 1) (omega (arith, p)) ∙ sym (test_over n 18 (omega (arith, many)))) (cases_lt n 19)
+
+pub short_literals : (n : Num) → is_short (literal_bound n) ≡ (nat_le (length n.digits) 18 && nat_le n.scale 18)
+short_literals n = ap (λ t. t && nat_le n.scale 18) (short_digits (length n.digits))

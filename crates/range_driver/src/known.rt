@@ -106,8 +106,9 @@ fn is_short(size: Size) -> bool
     size.most <= SHORT && size.scale <= 18
 }
 
+#[tactic(auto, using(crate::proofs::Bounded::short_literals))]
 fn is_short_literal(number: &Num) -> bool
-    ensures { result ≡ true → is_short (literal_bound number.now) ≡ true }
+    ensures { result ≡ is_short (literal_bound number.now) }
 {
     number.digits.get().len() <= 18 && number.scale <= 18
 }
@@ -121,23 +122,23 @@ impl<'a> Known<'a> {
     }
 
     fn is_short_end(&self, end: &Sender) -> bool
-        ensures { result ≡ true → is_short (end_bound (bound_at self.now.scope) end.now) ≡ true }
+        ensures { result ≡ is_short (end_bound (bound_at self.now.scope) end.now) }
     {
         match end {
             Sender::Item(place) => self.is_short_item(*place),
             Sender::Number(number) => is_short_literal(number),
-            Sender::Text(_) | Sender::Fill(_) | Sender::Zero => false,
+            Sender::Text(_) | Sender::Fill(_) | Sender::Zero => true,
         }
     }
 
     fn is_short_pair(&self, pair: &Pair) -> bool
-        ensures { result ≡ true → is_short_pair (bound_at self.now.scope) pair.now ≡ true }
+        ensures { result ≡ is_short_pair (bound_at self.now.scope) pair.now }
     {
         self.is_short_end(&pair.low) && self.is_short_end(&pair.high)
     }
 
     fn are_short_pairs(&self, pairs: &[Pair]) -> bool
-        ensures { result ≡ true → list_all (is_short_pair (bound_at self.now.scope)) pairs.now ≡ true }
+        ensures { result ≡ list_all (is_short_pair (bound_at self.now.scope)) pairs.now }
     {
         for pair in pairs {
             if !self.is_short_pair(pair) {

@@ -2,7 +2,7 @@
 ghost use Rattle.std.specs.Prelude.{◌≡◌, ◌≤◌, true, IfSome};
 ghost use Rattle.cob_typed_exprs.specs.Sizes.{plain_size};
 ghost use Rattle.cob_program.specs.declared.act.How.TheVariants as how;
-ghost use Rattle.cob_program.specs.Bounds.{is_small};
+ghost use Rattle.cob_program.specs.Bounds.{is_small, sum_bound, product_bound};
 ghost use Rattle.sum_ranges.specs.SumRanges.{plus_range, product_range};
 ghost use Rattle.sum_ranges.specs.Sizes.{IsSmallRange, IsRangeWithin};
 ghost use Rattle.sum_ranges.specs.Working.{CanAddRanges, CanMultiplyRanges};
@@ -17,9 +17,7 @@ use crate::words::{how_of, mode_of, range_of, receiver_of};
 use cob_program::{How, Sum};
 use cob_typed_exprs::{Size, quotient_size};
 use dec_num::Mode;
-use result_ranges::{
-    AmountRange, Receiver, Taken, bounded_operands_give_small_amounts, computed_range, result_range,
-};
+use result_ranges::{AmountRange, Receiver, Taken, computed_range, result_range};
 use std::alloc::{AllocError, Global};
 use sum_ranges::{Ranged, taken_sum, turned};
 
@@ -66,23 +64,33 @@ fn is_small_taken(taken: Taken) -> bool
 }
 
 #[tactic(auto, using(crate::proofs::Fitting::sized))]
+fn is_small_sum(one: Size, other: Size) -> bool
+    ensures { result ≡ is_small (sum_bound (plain_size one) (plain_size other)) }
+{
+    one.plus(other).is_some()
+}
+
+#[tactic(auto, using(crate::proofs::Fitting::sized))]
+fn is_small_product(one: Size, other: Size) -> bool
+    ensures { result ≡ is_small (product_bound (plain_size one) (plain_size other)) }
+{
+    one.by(other).is_some()
+}
+
 fn can_add(a: Ranged, b: Ranged) -> bool
     ensures { result ≡ true → CanAddRanges a b × IsSmallRange (plus_range a b) }
 {
-    bounded_operands_give_small_amounts();
     match (size_of(a), size_of(b)) {
-        (Some(one), Some(other)) => one.plus(other).is_some(),
+        (Some(one), Some(other)) => is_small_sum(one, other),
         _ => false,
     }
 }
 
-#[tactic(auto, using(crate::proofs::Fitting::sized))]
 fn can_multiply(a: Ranged, b: Ranged) -> bool
     ensures { result ≡ true → CanMultiplyRanges a b × IsSmallRange (product_range a b) }
 {
-    bounded_operands_give_small_amounts();
     match (size_of(a), size_of(b)) {
-        (Some(one), Some(other)) => one.by(other).is_some(),
+        (Some(one), Some(other)) => is_small_product(one, other),
         _ => false,
     }
 }
@@ -117,7 +125,6 @@ fn is_small_rest(n: Size, d: Size, scale: u32) -> bool
 fn is_small_remainder(top: Ranged, under: Ranged, scale: u32) -> bool
     ensures { result ≡ true → IsSmallRemainder top under scale }
 {
-    bounded_operands_give_small_amounts();
     match (size_of(top), size_of(under)) {
         (Some(n), Some(d)) => scale <= 18 && is_small_rest(n, d, scale),
         _ => false,
