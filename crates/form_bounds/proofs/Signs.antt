@@ -81,15 +81,15 @@ sum_at x h = grind (arith, ints)
 pub zero_along : (w : ℕ → ℕ → ℤ) (c : ℕ → ℤ) (high : ℤ) (n : ℕ) (t p r t2 p2 h2 r2 : ℤ) → r ≡ word_of (cut (sum_of p2)) → r2 ≡ r → p2 ≡ p → sum_of p ≡ added (sum_of t2) (sum_of h2) → t2 ≡ t → h2 ≡ high → sum_of t ≡ terms w (without 0 0 c) n → unsigned_abs high < 10 ^ 37 → r2 ≡ word_of (by_zero w c high n)
 zero_along w c high n t p r t2 p2 h2 r2 is e f g k l m small =
     let inner : sum_of p2 ≡ added (terms w c n) (Some high) =
-        ap sum_of f ∙ g ∙ ap (λ (z : ℤ). added (sum_of z) (sum_of h2)) k ∙ ap (λ (o : Option ℤ). added o (sum_of h2)) (m ∙ terms_without_none w c n)
-        ∙ ap (λ (o : Option ℤ). added (terms w c n) o) (ap sum_of l ∙ sum_at high small) in
+    ap sum_of f ∙ g ∙ ap (λ (z : ℤ). added (sum_of z) (sum_of h2)) k ∙ ap (λ (o : Option ℤ). added o (sum_of h2)) (m ∙ terms_without_none w c n)
+    ∙ ap (λ (o : Option ℤ). added (terms w c n) o) (ap sum_of l ∙ sum_at high small) in
     e ∙ is ∙ ap (λ (o : Option ℤ). word_of (cut o)) inner
 
 pub pair_along : (w : ℕ → ℕ → ℤ) (c : ℕ → ℤ) (high : ℤ) (n x y : ℕ) (f f2 p q t s r t2 s2 r2 r3 : ℤ) → r2 ≡ word_of (cut (sum_of r3)) → r3 ≡ r → sum_of r ≡ added (sum_of t2) (sum_of s2) → t2 ≡ t → s2 ≡ s → sum_of t ≡ times (unsigned_abs f2) (number_of (w x y)) → sum_of s ≡ added (terms w (without x y c) n) (Some high) → f2 ≡ f → pos 1 ≤ℤ f → p ≡ f → q ≡ neg_ℤ f → r2 ≡ word_of (by_pair w c high n x y p q)
 pair_along w c high n x y f f2 p q t s r t2 s2 r2 r3 is e g k l m o u h a b =
     let inner : sum_of r3 ≡ added (times (unsigned_abs f) (number_of (w x y))) (added (terms w (without x y c) n) (Some high)) =
-        ap sum_of e ∙ g ∙ ap (λ (z : ℤ). added (sum_of z) (sum_of s2)) k ∙ ap (λ (z : ℤ). added (sum_of t) (sum_of z)) l
-        ∙ ap (λ (v : Option ℤ). added v (sum_of s)) (m ∙ ap (λ (z : ℤ). times (unsigned_abs z) (number_of (w x y))) u) ∙ ap (λ (v : Option ℤ). added (times (unsigned_abs f) (number_of (w x y))) v) o in
+    ap sum_of e ∙ g ∙ ap (λ (z : ℤ). added (sum_of z) (sum_of s2)) k ∙ ap (λ (z : ℤ). added (sum_of t) (sum_of z)) l
+    ∙ ap (λ (v : Option ℤ). added v (sum_of s)) (m ∙ ap (λ (z : ℤ). times (unsigned_abs z) (number_of (w x y))) u) ∙ ap (λ (v : Option ℤ). added (times (unsigned_abs f) (number_of (w x y))) v) o in
     is ∙ ap (λ (v : Option ℤ). word_of (cut v)) inner ∙ ap word_of (sym (pair_is w c high n x y f (neg_ℤ f) h refl)) ∙ ap (λ (z : ℤ). word_of (by_pair w c high n x y z (neg_ℤ f))) (sym a) ∙ ap (λ (z : ℤ). word_of (by_pair w c high n x y p z)) (sym b)
 
 pub pair_apart : (w : ℕ → ℕ → ℤ) (c : ℕ → ℤ) (high : ℤ) (n x y : ℕ) (p q : ℤ) → (ArePair p q → ⊥) → by_pair w c high n x y p q ≡ None

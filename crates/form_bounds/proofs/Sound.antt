@@ -77,9 +77,9 @@ upto_beyond x n z h = rw (lt-leb x n h) refl
 
 upto_same : (x n : ℕ) (z : ℤ) → (suc n ≡ x → ⊥) → upto x (suc n) z ≡ upto x n z
 upto_same x n z ne = elim (cases_lt n x) as (λ _. upto x (suc n) z ≡ upto x n z) [
-    | inl lt ↦ upto_beyond x (suc n) z (omega arith) ∙ sym (upto_beyond x n z lt)
-    | inr le ↦ upto_within x (suc n) z (omega arith) ∙ sym (upto_within x n z le)
-  ]
+  | inl lt ↦ upto_beyond x (suc n) z (omega arith) ∙ sym (upto_beyond x n z lt)
+  | inr le ↦ upto_within x (suc n) z (omega arith) ∙ sym (upto_within x n z le)
+]
 
 total_split : (c v : ℕ → ℤ) (x y n : ℕ) → 0 < x → 0 < y → x ≢ y → total c v n ≡ (total (without x y c) v n +ℤ upto x n (c x *ℤ v x)) +ℤ upto y n (c y *ℤ v y)
 unfolding dot

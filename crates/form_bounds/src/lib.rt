@@ -12,4 +12,3 @@ mod terms;
 
 pub use bounds::upper;
 pub use laws::{lower_matrices_show_lower_bounds, no_value_is_above_its_bound};
-

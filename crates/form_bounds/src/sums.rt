@@ -18,11 +18,7 @@ fn cut_part(z: i128) -> i128
     ensures value { sum_of result ≡ cut (Some z) }
     ensures small { IsWithin 1 result }
 {
-    if LARGEST < z {
-        NO_SUM
-    } else {
-        z.max(-LARGEST)
-    }
+    if LARGEST < z { NO_SUM } else { z.max(-LARGEST) }
 }
 
 // a word times a factor above 0, cut

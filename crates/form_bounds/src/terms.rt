@@ -59,7 +59,10 @@ pub(crate) fn terms_of(size: usize, m: &[i128], coefs: &[i128], x: usize, y: usi
 {
     let mut total = 0;
     for k in 0..size {
-        total = plus(total, term_of(size, m, k + 1, coefficient_of(coefs, k + 1, x, y)));
+        total = plus(
+            total,
+            term_of(size, m, k + 1, coefficient_of(coefs, k + 1, x, y)),
+        );
     }
     total
 }
