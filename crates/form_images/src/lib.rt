@@ -1,0 +1,15 @@
+//! What an assignment of a linear form to a cell of a pack, and the demand that a form is at most 0, make of the
+//! pack's difference-bound matrix: each word that they bear on becomes a bound that the old matrix shows.
+//!
+//! No call takes memory.
+#![tactic(auto)]
+
+mod assignment;
+mod demands;
+mod forms;
+mod laws;
+
+pub use assignment::assign;
+pub use demands::demand;
+pub use forms::negated;
+pub use laws::{assigned_matrices_are_monotone, demanded_matrices_are_monotone};
