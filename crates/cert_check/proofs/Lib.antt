@@ -1,5 +1,2 @@
-pub mod Walks
-pub mod Small
-pub mod Nodes
-pub mod Standing
-pub mod Runs
+pub mod Pairs
+pub mod Stub

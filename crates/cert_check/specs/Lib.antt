@@ -1,2 +1,2 @@
-pub mod Element
-pub mod Inductive
+pub mod Claims
+pub mod Checking

@@ -1,11 +1,12 @@
-//! The checker: whether a certificate is inductive, and which statements it leaves open.
+//! The checker: whether a certificate is inductive on a program's graph, and which statements it leaves open.
 //!
 //! It trusts nothing of whoever made the certificate.
 #![tactic(auto)]
 
+mod check;
 mod ends;
-mod interval;
-mod straight;
+mod laws;
 
+pub use check::check;
 pub use ends::{CheckEnd, Gap, Shape};
-pub use straight::check_straight;
+pub use laws::accepted_claims_cover_runs;
