@@ -1,8 +1,8 @@
 //! Open statements with the lines on which they stand.
-ghost use Rattle.std.specs.Prelude.{◌≡◌, All, map, IfOk};
+ghost use Rattle.std.specs.Prelude.{◌≡◌, ◌≤◌, All, map, length, IfOk};
 ghost use Rattle.cob_program.specs.ActView.{plain_program, plain_stmt};
 ghost use Rattle.cob_program.specs.Statements.{program_statements, plain_references};
-ghost use Rattle.alarm_report.specs.Alarms.{IsStatementOf, alarm_in, alarms_of, line_of};
+ghost use Rattle.alarm_report.specs.Alarms.{IsStatementOf, alarm_in, alarms_of, line_in, line_of};
 
 use cob_program::{Program, Stmt};
 use cob_tree::{Kind, Open};
@@ -22,6 +22,28 @@ fn line_of(statement: &Stmt) -> u32
     statement.line
 }
 
+// The line of the statement with a number.
+#[tactic(auto, using(crate::proofs::Lines::line_is))]
+fn line_at(statements: &[&Stmt], number: u32) -> u32
+    requires first { 1 ≤ number }
+    requires last { number ≤ length statements.now }
+    ensures { result ≡ line_in (plain_references statements.now) number }
+{
+    line_of(statements[number as usize - 1])
+}
+
+// The alarm of an open pair.
+fn alarm_in(statements: &[&Stmt], pair: Open) -> Alarm
+    requires { IsStatementOf (plain_references statements.now) pair }
+    ensures { result ≡ alarm_in (plain_references statements.now) pair }
+{
+    Alarm {
+        kind: pair.kind,
+        statement: pair.statement,
+        line: line_at(statements, pair.statement),
+    }
+}
+
 // The alarms of open pairs among these statements.
 fn alarms_among(
     alloc: Global,
@@ -33,11 +55,7 @@ fn alarms_among(
 {
     let mut alarms = Vec::new(alloc);
     for pair in pairs {
-        alarms.push(Alarm {
-            kind: pair.kind,
-            statement: pair.statement,
-            line: line_of(statements[pair.statement as usize - 1]),
-        })?;
+        alarms.push(alarm_in(statements, *pair))?;
     }
     Ok(alarms)
 }
