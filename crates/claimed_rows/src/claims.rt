@@ -3,23 +3,29 @@ ghost use Rattle.std.specs.Prelude.{◌≡◌, ◌+◌, ◌*◌, ◌≤◌, drop
 ghost use Rattle.cell_rows.specs.Known.{IsOrdered};
 ghost use Rattle.cell_rows.specs.Rows.{IsReached, cells_of, row_from, width_of};
 ghost use Rattle.cert_text.specs.View.{place_of};
-ghost use Rattle.claimed_rows.specs.Claims.{claim_at, claimed_row, met_cells, met_known, written_from};
+ghost use Rattle.claimed_rows.specs.Claims.{claim_at, claims_behind, claimed_row, met_cells, met_known, written_from};
 
 use cell_rows::{set_known, set_unreached};
 use cert_text::{Claim, Element};
 use decimal_interval::Interval;
 
-/// The claim of a cell, which is the next one if there is any.
-pub(crate) fn claim_at(claims: &[Claim], next: usize, cell: usize) -> Option<Interval>
+/// The claim of a cell, if the next one is of it, and the number of the claim behind.
+#[tactic(auto, using(crate::proofs::Filling::claim_taken, crate::proofs::Filling::claim_left))]
+pub(crate) fn claim_at(claims: &[Claim], next: usize, cell: usize) -> (Option<Interval>, usize)
     requires { next ≤ length claims.now }
-    ensures value { result ≡ claim_at (drop next claims.now) cell }
+    ensures value { result.0 ≡ claim_at (drop next claims.now) cell }
+    ensures behind { drop result.1 claims.now ≡ claims_behind (drop next claims.now) cell }
+    ensures within { result.1 ≤ length claims.now }
 {
     match claims.get(next) {
-        Some(claim) if claim.cell as usize == cell => Some(Interval {
-            low: i128::from(claim.low),
-            high: i128::from(claim.high),
-        }),
-        _ => None,
+        Some(claim) if claim.cell as usize == cell => {
+            let claimed = Interval {
+                low: i128::from(claim.low),
+                high: i128::from(claim.high),
+            };
+            (Some(claimed), next + 1)
+        }
+        _ => (None, next),
     }
 }
 
@@ -59,15 +65,13 @@ fn set_claims(owns: &[Interval], claims: &[Claim], row: &mut [i128])
     set_reached(row, owns.len());
     let mut next = 0;
     for (k, own) in owns.iter().enumerate() {
-        let claimed = claim_at(claims, next, k + 1);
+        let (claimed, behind) = claim_at(claims, next, k + 1);
         let Some(known) = met_known(*own, claimed) else {
             set_unreached(row);
             return;
         };
         set_known(row, k, known);
-        if claimed.is_some() {
-            next += 1;
-        }
+        next = behind;
     }
 }
 

@@ -7,7 +7,9 @@ pub enum Gap {
     /// The node is claimed never to be reached.
     Reach,
     /// The cell is claimed to be numeric.
-    Class { cell: u32 },
+    Class {
+        cell: u32,
+    },
     /// The low end reached is below the one claimed.
     Low {
         cell: u32,

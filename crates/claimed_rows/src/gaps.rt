@@ -64,14 +64,12 @@ fn cells_gap(row: &[i128], claims: &[Claim], cells: usize) -> Option<Gap>
 {
     let mut next = 0;
     for k in 0..cells {
-        let claimed = claim_at(claims, next, k + 1);
+        let (claimed, behind) = claim_at(claims, next, k + 1);
         let gap = cell_gap(k as u32 + 1, known_at(row, k), claimed);
         if gap.is_some() {
             return gap;
         }
-        if claimed.is_some() {
-            next += 1;
-        }
+        next = behind;
     }
     None
 }
@@ -91,6 +89,9 @@ pub fn first_gap(row: &[i128], place: &Element, cells: usize) -> Option<Gap>
     }
     match place {
         Element::Unreached => Some(Gap::Reach),
-        Element::At { cells: claims, bounds: _ } => cells_gap(row, claims.as_slice(), cells),
+        Element::At {
+            cells: claims,
+            bounds: _,
+        } => cells_gap(row, claims.as_slice(), cells),
     }
 }

@@ -9,7 +9,7 @@ mod gap;
 mod gaps;
 mod laws;
 
-pub use claims::{claim_of, set_claimed_row};
+pub use claims::set_claimed_row;
 pub use gap::Gap;
 pub use gaps::first_gap;
 pub use laws::gaps_tell_the_order;
