@@ -12,7 +12,7 @@ use Rattle.cob_front.specs.declared.refusal.Refusal.{Refusal}
 use Rattle.cob_front.specs.declared.refusal.Refusal.TheVariants as end
 use Rattle.cob_well_formed.specs.Sources.{SourcesCanBeRun}
 use Rattle.cert_text.specs.View.{Certificate}
-use Rattle.cert_check.specs.Claims.{open}
+use Rattle.cert_check.specs.Claims.{open_at}
 use Rattle.cert_check.specs.Checking.{Accepts, AcceptedClaimsCoverRuns, CoversRuns}
 use Rattle.alarm_report.specs.declared.alarms.Alarm.{Alarm}
 use Rattle.alarm_report.specs.Alarms.{alarm_in, alarms_of}
@@ -111,16 +111,17 @@ module _ (sound : CheckingIsSound) (contents : Contents) (source certificate : L
 
   reported_by : (alarms : List Alarm) (p : Program) (g : Graph) → HoldsProgram contents source p g
       → AnswersProgram contents certificate p g (Report alarms) → Reported alarms
-  reported_by alarms p g holds (c, held, none, pairs, accepts, are) = record {
+  reported_by alarms p g holds (c, held, (none, (pairs, accepts, are))) = record {
     program = p;
     graph = g;
     holds = holds;
     named = λ told first choices n kind statement fault.
-        let there = sound holds.bytes p g c pairs holds.is_program accepts told first choices n kind statement fault in
-        (alarm_in (program_statements p) (open statement kind),
-        subst (λ (xs : List Alarm). Contains xs (alarm_in (program_statements p) (open statement kind))) (sym are)
-            (contained_alarm p pairs (open statement kind) there),
-        (refl, refl));
+        let there = sound holds.bytes p g c pairs holds.is_program accepts told first choices n kind statement fault in (
+          alarm_in (program_statements p) (open_at statement kind),
+          subst (λ (xs : List Alarm). Contains xs (alarm_in (program_statements p) (open_at statement kind))) (sym are)
+              (contained_alarm p pairs (open_at statement kind) there),
+          (refl, refl),
+        );
   }
 
   reported : (alarms : List Alarm) (words : List (List ℕ)) → IsCheck words source certificate
@@ -179,8 +180,8 @@ module _ (sound : CheckingIsSound) (call : Call) (concludes : Concludes call) wh
       none_contained w.0 (subst (λ (xs : List Alarm). Contains xs w.0) none w.1)
 
   pub clean_is_safe : CleanIsSafe call
-  clean_is_safe contents source certificate is known zero =
-      let w = shown_report sound contents source certificate call is known (inl zero) concludes in
+  clean_is_safe contents source certificate is known at_zero =
+      let w = shown_report sound contents source certificate call is known (inl at_zero) concludes in
       record {
         name = source;
         certificate = certificate;
@@ -188,7 +189,7 @@ module _ (sound : CheckingIsSound) (call : Call) (concludes : Concludes call) wh
         program = w.reported_.program;
         graph = w.reported_.graph;
         holds = w.reported_.holds;
-        safe = no_fault_left w.alarms w.reported_.program (no_alarm w.alarms (w.status ∙ zero)) w.reported_.named;
+        safe = no_fault_left w.alarms w.reported_.program (no_alarm w.alarms (w.status ∙ at_zero)) w.reported_.named;
       }
 
   pub reports_are_complete : ReportsAreComplete call

@@ -35,10 +35,10 @@ module _ (p : Program) (g : Graph) (c : Certificate) where
   packs_or_none : {A : Type 0} → ¬ (c.packs ≡ []) → (c.packs ≡ []) → A
   packs_or_none some none = absurd (some none)
 
-  cells_differ : (shape : HasShape p g c) (found wanted : ℕ) → Misfits p g c shape.Cells found wanted → ⊥
+  cells_differ : (is : HasShape p g c) (found wanted : ℕ) → Misfits p g c shape.Cells found wanted → ⊥
   cells_differ is found wanted (f, w, differ) = differ (f ∙ is.cells ∙ sym w)
 
-  nodes_differ : (shape : HasShape p g c) (found wanted : ℕ) → Misfits p g c shape.Nodes found wanted → ⊥
+  nodes_differ : (is : HasShape p g c) (found wanted : ℕ) → Misfits p g c shape.Nodes found wanted → ⊥
   nodes_differ is found wanted (same, f, w, differ) = differ (f ∙ is.nodes ∙ sym w)
 
   no_misfit : (what : Shape) (found wanted : ℕ) → HasShape p g c → Misfits p g c what found wanted → ⊥

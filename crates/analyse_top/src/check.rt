@@ -1,5 +1,5 @@
 //! `check`: the answer to a source and a certificate.
-ghost use Rattle.std.specs.Prelude.{◌≡◌, ◌≤◌, length, IfOk, IfSome, MatchResult};
+ghost use Rattle.std.specs.Prelude.{◌≡◌, ◌≤◌, [], length, IfOk, IfSome, MatchResult};
 ghost use Rattle.batch_io.specs.FilesState.{known_bytes};
 ghost use Rattle.cert_text.specs.View.{view};
 ghost use Rattle.cert_text.specs.Allowed.{IsAllowed};
@@ -16,6 +16,7 @@ use cert_check::{CheckEnd, check as check_claims};
 use cert_text::{Cert, CertEnd, read as read_certificate};
 use cob_front::Refusal;
 use cob_lines::SOURCE_LIMIT;
+use cob_well_formed::sources_can_be_run;
 use std::alloc::Global;
 
 const CERTIFICATE_LIMIT: usize = 67_108_864;
@@ -92,7 +93,7 @@ fn check_bytes<'a>(alloc: Global, laid: &Laid, bytes: &[u8]) -> Result<Answer<'a
     }
 }
 
-// Answers for a certificate.
+// Answers for a certificate. One with packs isn't checked yet.
 fn check_certificate<'a>(alloc: Global, laid: &Laid, cert: &Cert) -> Result<Answer<'a>, Stop>
     requires source { IsOfSource laid.now }
     requires allowed { IsAllowed (view cert.now) }
@@ -100,9 +101,23 @@ fn check_certificate<'a>(alloc: Global, laid: &Laid, cert: &Cert) -> Result<Answ
         (λ answer. AnswersCertificate (plain_program laid.now.program) laid.now.graph (view cert.now) (plain_answer answer))
         (λ stop. stop ≡ Stop.Memory) }
 {
-    if !cert.packs.is_empty() {
-        return Ok(Answer::NotYet(PACKS_LINE));
+    if cert.packs.is_empty() {
+        check_plain(alloc, laid, cert)
+    } else {
+        Ok(Answer::NotYet(PACKS_LINE))
     }
+}
+
+// Answers for a certificate without packs.
+fn check_plain<'a>(alloc: Global, laid: &Laid, cert: &Cert) -> Result<Answer<'a>, Stop>
+    requires source { IsOfSource laid.now }
+    requires allowed { IsAllowed (view cert.now) }
+    requires plain { (view cert.now).packs ≡ [] }
+    ensures { MatchResult result
+        (λ answer. AnswersCertificate (plain_program laid.now.program) laid.now.graph (view cert.now) (plain_answer answer))
+        (λ stop. stop ≡ Stop.Memory) }
+{
+    sources_can_be_run();
     match check_claims(alloc, &laid.program, &laid.graph, cert) {
         Ok(pairs) => Ok(Answer::Report(alarms_of(alloc, &laid.program, &pairs)?)),
         Err(

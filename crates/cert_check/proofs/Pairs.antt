@@ -9,7 +9,7 @@ use Rattle.cob_program.specs.Act.{Program}
 use Rattle.cob_program.specs.Statements.{program_statements}
 use Rattle.cob_graph.specs.declared.graph.Graph.{Graph}
 use Rattle.cert_text.specs.View.{Certificate}
-use Rattle.cert_check.specs.Claims.{is_open, all_kinds, open, open_of, open_pairs}
+use Rattle.cert_check.specs.Claims.{is_open, all_kinds, open_at, open_of, open_pairs}
 
 abbrev IsWithin : ℕ → Open → Type 0
 IsWithin most pair = (1 ≤ pair.statement) × (pair.statement ≤ most)
@@ -21,12 +21,12 @@ both_within most (a ∷ as_) bs h k = (h.0, both_within most as_ bs h.1 k)
 
 module _ (p : Program) (g : Graph) (c : Certificate) (most : ℕ) where
   one_within : (b : Bool) (statement : ℕ) (kind : Kind) → 1 ≤ statement → statement ≤ most
-      → AllByRecursion (IsWithin most) (if b then open statement kind ∷ [] else [])
+      → AllByRecursion (IsWithin most) (if b then open_at statement kind ∷ [] else [])
   one_within true statement kind l h = ((l, h), tt)
   one_within false statement kind l h = tt
 
   kinds_within : (statement : ℕ) (kinds : List Kind) → 1 ≤ statement → statement ≤ most
-      → AllByRecursion (IsWithin most) (flat_map (λ kind. if is_open p g c statement kind then open statement kind ∷ [] else []) kinds)
+      → AllByRecursion (IsWithin most) (flat_map (λ kind. if is_open p g c statement kind then open_at statement kind ∷ [] else []) kinds)
   kinds_within statement [] l h = tt
   kinds_within statement (kind ∷ kinds) l h =
       both_within most _ _ (one_within (is_open p g c statement kind) statement kind l h) (kinds_within statement kinds l h)
@@ -35,7 +35,7 @@ module _ (p : Program) (g : Graph) (c : Certificate) (most : ℕ) where
       → AllByRecursion (IsWithin most) (flat_map (open_of p g c) (range_with_len first count))
   all_within first zero l h = tt
   all_within first (suc count) l h =
-      both_within most _ _ (kinds_within first all_kinds l (omega (arith, h))) (all_within (suc first) count (omega arith) (omega (arith, h)))
+      both_within most (open_of p g c first) (flat_map (open_of p g c) (range_with_len (first + 1) count)) (kinds_within first all_kinds l (omega (arith, h))) (all_within (first + 1) count (omega arith) (omega (arith, h)))
 
 pub pairs_are_statements : (p : Program) (g : Graph) (c : Certificate)
     → All (IsWithin (length (program_statements p))) (open_pairs p g c)

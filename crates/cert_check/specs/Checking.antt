@@ -16,7 +16,7 @@ use Rattle.cert_check.specs.declared.ends.CheckEnd.{CheckEnd}
 use Rattle.cert_check.specs.declared.ends.CheckEnd.TheVariants as check
 use Rattle.cert_check.specs.declared.ends.Shape.{Shape}
 use Rattle.cert_check.specs.declared.ends.Shape.TheVariants as shape
-use Rattle.cert_check.specs.Claims.{leak, leaks, open, open_pairs}
+use Rattle.cert_check.specs.Claims.{leak, leaks, open_at, open_pairs}
 
 -- the certificate is of as many cells as the program, and of as many nodes as its graph
 pub record HasShape (p : Program) (g : Graph) (c : Certificate) : Type 0 where
@@ -51,7 +51,7 @@ Checks p g c result = MatchResult result (λ pairs. Accepts p g c pairs.items) (
 abbrev pub CoversRuns : Program → List Open → Type 0
 CoversRuns p pairs =
     (contents : Contents) (first : List ℕ) (choices : List Choice) (n : ℕ) (kind : Kind) (statement : ℕ) →
-    (run p contents first choices n).outcome ≡ Fault kind statement → Contains pairs (open statement kind)
+    (run p contents first choices n).outcome ≡ Fault kind statement → Contains pairs (open_at statement kind)
 
 -- The open pairs of an inductive certificate cover the runs of a source's program.
 abbrev pub AcceptedClaimsCoverRuns : Type 0

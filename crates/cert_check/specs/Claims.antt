@@ -15,7 +15,7 @@ use Rattle.cert_check.specs.declared.ends.Gap.TheVariants as gap
 abbrev pub leak : ℕ → Gap → Leak
 leak edge gap = record { edge = edge; gap = gap }
 
-pub leaks : Program → Graph → Certificate → List Leak
+unfoldable pub leaks : Program → Graph → Certificate → List Leak
 leaks p g c = leak 0 gap.Reach ∷ []
 
 pub is_open : Program → Graph → Certificate → ℕ → Kind → Bool
@@ -24,11 +24,11 @@ is_open p g c statement kind = true
 abbrev pub all_kinds : List Kind
 all_kinds = kind.Size ∷ kind.Truncation ∷ kind.Zero ∷ kind.Class ∷ []
 
-abbrev pub open : ℕ → Kind → Open
-open statement kind = record { statement = statement; kind = kind }
+abbrev pub open_at : ℕ → Kind → Open
+open_at statement kind = record { statement = statement; kind = kind }
 
 abbrev pub open_of : Program → Graph → Certificate → ℕ → List Open
-open_of p g c statement = flat_map (λ kind. if is_open p g c statement kind then open statement kind ∷ [] else []) all_kinds
+open_of p g c statement = flat_map (λ kind. if is_open p g c statement kind then open_at statement kind ∷ [] else []) all_kinds
 
 -- the pairs that some node of the statement doesn't clear, by statement, then by kind
 abbrev pub open_pairs : Program → Graph → Certificate → List Open

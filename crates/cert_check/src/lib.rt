@@ -3,10 +3,10 @@
 //! It trusts nothing of whoever made the certificate.
 #![tactic(auto)]
 
-mod check;
+mod checking;
 mod ends;
 mod laws;
 
-pub use check::check;
+pub use checking::check;
 pub use ends::{CheckEnd, Gap, Shape};
 pub use laws::accepted_claims_cover_runs;

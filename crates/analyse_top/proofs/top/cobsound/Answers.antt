@@ -3,6 +3,7 @@ use Rattle.run_words.specs.Words.{texts}
 use Rattle.analyse_top.specs.Conclusion.{Concludes, call}
 use Rattle.analyse_top.proofs.Clean.{checking_is_sound, clean_is_safe, reports_are_complete}
 use Rattle.analyse_top.proofs.Exact.{is_exact}
+use Rattle.analyse_top.proofs.OneAnswer.{TextsAreApart}
 use Rattle.analyse_top.proofs.FaultlessRuns.{clean_runs_meet_no_fault}
 use Rattle.analyse_top.proofs.top.cobsound.Goals as goal
 
@@ -14,7 +15,7 @@ returns g c =
     let this = by c.args.words.now.items in
     let concludes : Concludes this =
     subst (λ (words : List (String Global)). Concludes (by words)) c.as_slice.ensures.value c.conclude.ensures in
-    let texts_apart = record {
+    let texts_apart : TextsAreApart = record {
       one_spelling = c.one_spelling.ensures;
       one_place = c.one_place.ensures;
       no_bad_line = c.no_bad_line.ensures;
