@@ -1,0 +1,11 @@
+pub mod Numbering
+pub mod Targets
+pub mod Ordering
+pub mod Phrases
+pub mod Counting
+pub mod Holding
+pub mod Quiet
+pub mod Fitting
+pub mod Following
+pub mod Clearing
+pub mod Examples
