@@ -1,5 +1,6 @@
 pub mod Numbering
 pub mod Targets
+pub mod Few
 pub mod Ordering
 pub mod Phrases
 pub mod Counting

@@ -1,5 +1,5 @@
 -- A program's graph is a system: its edges stand in the order of the nodes that they leave, and lead to nodes.
-use Rattle.std.proofs.Common.{◌≡◌, ◌≤◌, ◌<◌, ℕ, zero, suc, ◌+◌, ◌-◌, List, [], ◌∷◌, ◌++◌, length, ℤ, sym, ap, subst, ◌∙◌, arith}
+use Rattle.std.proofs.Common.{◌≡◌, ◌≤◌, ◌<◌, ℕ, zero, suc, ◌+◌, ◌-◌, ◌*◌, List, [], ◌∷◌, ◌++◌, length, ℤ, sym, ap, subst, ◌∙◌, arith}
 use Rattle.std.specs.Prelude.{slice_index_or}
 use Rattle.std.proofs.lemmas.List.{length-map}
 use Rattle.cob_program.specs.Act.{Program}
@@ -12,6 +12,7 @@ use Rattle.cob_graph.proofs.Lengths.{final_is}
 use Rattle.dom_laws.specs.Flow.{IsEdge}
 use Rattle.graph_runs.specs.Places.{no_edge, edge_at}
 use Rattle.graph_runs.specs.Flows.{flow_over, HasEdgesInOrder, GraphsAreFlows}
+use Rattle.graph_runs.proofs.Few.{few_of, program_few}
 use Rattle.graph_runs.proofs.Targets.{IsIn, OutIn, EachIn, program_in}
 
 -- ---- edges in the order of their sources, from one node on
@@ -80,6 +81,11 @@ module _ (p : Program) (g : Graph) (is : IsGraph p g) where
       (of_nodes (final_of is.copies) 1 (all_nodes p is.copies) (omega (arith, many, last_node))
       (program_in p is.copies).each)
 
+  few_edges : length g.edges ≤ 3 * length g.nodes
+  few_edges =
+      let few = few_of 1 (all_nodes p is.copies) (program_few p is.copies).each in
+      omega (arith, few, many, ap length is.edges)
+
   module _ (entry : List ℤ) (post : ℕ → List ℤ → List ℤ) where
     pub in_order : HasEdgesInOrder (flow_over g entry post)
     in_order = record {
@@ -97,4 +103,4 @@ module _ (p : Program) (g : Graph) (is : IsGraph p g) where
         good e h = good_at (final_of is.copies) 1 g.edges (e - 1) ordered (omega (arith, h.first, h.last))
 
 pub graphs_are_flows : GraphsAreFlows
-graphs_are_flows p g is entry post = in_order p g is entry post
+graphs_are_flows p g is entry post = (in_order p g is entry post, few_edges p g is)

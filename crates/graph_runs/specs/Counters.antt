@@ -7,9 +7,10 @@ use Rattle.cob_tree.specs.declared.fault.Kind.TheVariants as kind
 use Rattle.cob_data.specs.declared.layout.Layout.{Layout}
 use Rattle.cob_data.specs.declared.layout.Sender.{Sender}
 use Rattle.cob_program.specs.Act.{Act, Program}
+use Rattle.cob_runs.specs.declared.action.Action.{Action}
 use Rattle.cob_runs.specs.Effects.{act_at}
 use Rattle.cob_runs.specs.Moves.{number_of}
-use Rattle.cob_edge_parts.specs.Parts.{Part, set_count, count_down, is_times}
+use Rattle.cob_edge_parts.specs.Parts.{Part, set_count, count_down, is_times, is_handled, parts_of}
 use Rattle.cob_edge_parts.specs.Meaning.{Moment, count_in, Passes, Faults}
 
 -- ---- counters that hold their numbers
@@ -64,3 +65,13 @@ module _ (l : Layout) where
     MeetsAmong [] m fault = ⊥
     MeetsAmong (x ∷ xs) m fault =
         FaultsAtPart x m fault ⊎ ((next : Moment) × PassesPart x m next × MeetsAmong xs next fault)
+
+-- ---- edges
+
+-- The parts of an edge of the statement's node are passed, where the statement does this.
+abbrev pub PassesEdge : Program → ℕ → Act → Action → Moment → Moment → Type 0
+PassesEdge p statement a x m n = PassesParts p.layout (is_handled a x) (parts_of p statement a x) m n
+
+-- one of them meets the fault
+abbrev pub MeetsOnEdge : Program → ℕ → Act → Action → Moment → Kind → Type 0
+MeetsOnEdge p statement a x m fault = MeetsAmong p.layout (is_handled a x) (parts_of p statement a x) m fault

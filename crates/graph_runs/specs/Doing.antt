@@ -1,16 +1,17 @@
--- What a program does along its graph: one meaning for all layers of the analysis.
+-- What a program does along its graph: one meaning for all layers of the analysis. Each part of it carries what every
+-- source's program keeps, so that the laws of a layer need ask for nothing more.
 use Rattle.std.specs.Prelude.{◌≡◌, ℕ, List, Some, replicate, pos}
 use Rattle.cob_tree.specs.declared.fault.Kind.{Kind}
 use Rattle.cob_program.specs.Act.{Act, Program}
 use Rattle.cob_runs.specs.Runs.{first_storage}
 use Rattle.cob_graph.specs.declared.graph.Graph.{Graph}
-use Rattle.cob_edge_parts.specs.Parts.{is_handled, parts_of}
+use Rattle.cob_edge_parts.specs.Parts.{is_handled}
 use Rattle.cob_edge_parts.specs.Meaning.{Moment, beginning}
 use Rattle.cob_edge_parts.specs.Edges.{fault_edge}
 use Rattle.dom_laws.specs.Meaning.{Storage, Runs}
 use Rattle.graph_runs.specs.Places.{edge_at, Leaves, DoesAt}
 use Rattle.graph_runs.specs.Sources.{IsSourceGraph}
-use Rattle.graph_runs.specs.Counters.{PassesParts, MeetsAmong}
+use Rattle.graph_runs.specs.Counters.{PassesEdge, MeetsOnEdge}
 
 abbrev pub start : Storage → Moment
 start s = beginning s.bytes s.counters
@@ -32,9 +33,7 @@ module _ (p : Program) (g : Graph) where
     pub act : Act
     pub does : DoesAt p g (edge_at g e).from statement act
     pub last : Moment
-    pub way :
-        PassesParts p.layout (is_handled act (edge_at g e).action) (parts_of p statement act (edge_at g e).action)
-        (start s) last
+    pub way : PassesEdge p statement act (edge_at g e).action (start s) last
     pub bytes : last.storage ≡ t.bytes
     pub counters : last.counts ≡ t.counters
     pub fails : last.failed ≡ is_handled act (edge_at g e).action
@@ -53,9 +52,7 @@ module _ (p : Program) (g : Graph) where
     pub statement : ℕ
     pub act : Act
     pub on : IsMetOn node e statement act
-    pub meets :
-        MeetsAmong p.layout (is_handled act (edge_at g e).action) (parts_of p statement act (edge_at g e).action)
-        (start s) fault
+    pub meets : MeetsOnEdge p statement act (edge_at g e).action (start s) fault
 
   abbrev pub graph_runs : Runs
   graph_runs = record { Begins = Begins; Acts = Acts; Meets = MeetsAt }

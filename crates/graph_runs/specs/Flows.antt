@@ -1,5 +1,5 @@
 -- The graph of a program as a system over which a layer's rows flow.
-use Rattle.std.specs.Prelude.{◌≤◌, ℕ, List, ℤ, length}
+use Rattle.std.specs.Prelude.{◌≤◌, ◌*◌, ℕ, List, ℤ, length}
 use Rattle.cob_program.specs.Act.{Program}
 use Rattle.cob_graph.specs.declared.graph.Graph.{Graph}
 use Rattle.cob_graph.specs.Graphs.{IsGraph}
@@ -24,7 +24,8 @@ pub record HasEdgesInOrder (f : Flow) : Type 0 where
   pub target_node : (e : ℕ) → IsEdge f e → IsNode f (f.target e)
   pub by_source : (d e : ℕ) → IsEdge f d → IsEdge f e → d ≤ e → f.source d ≤ f.source e
 
--- Each edge of a program's graph leads from a node to a node, and edges stand in the order of their sources.
+-- Each edge of a program's graph leads from a node to a node, and edges stand in the order of their sources. No node has
+-- more than three.
 abbrev pub GraphsAreFlows : Type 0
 GraphsAreFlows = (p : Program) (g : Graph) → IsGraph p g → (entry : List ℤ) (post : ℕ → List ℤ → List ℤ) →
-    HasEdgesInOrder (flow_over g entry post)
+    HasEdgesInOrder (flow_over g entry post) × (length g.edges ≤ 3 * length g.nodes)
