@@ -1,6 +1,7 @@
 -- Laws of results, guards and operands, as the walk takes them.
-use Rattle.std.specs.Prelude.{◌≡◌, ◌↔◌, ℕ, ◌≤ℤ◌, Bool, true, List, Option, Some, None, Ok, IsSomeAnd, ℤ}
+use Rattle.std.specs.Prelude.{◌≡◌, ◌↔◌, ℕ, ◌≤ℤ◌, Bool, true, List, Option, Some, None, Ok, IsSomeAnd, unwrap_or, ℤ}
 use Rattle.dec_num.specs.declared.types.Mode.{Mode}
+use Rattle.dec_num.specs.declared.types.Scaled.{Scaled}
 use Rattle.dec_num.specs.Exact.{Fraction}
 use Rattle.decimal_interval.specs.declared.bounds.Interval.{Interval}
 use Rattle.decimal_interval.specs.Bounds.{Holds}
@@ -8,11 +9,12 @@ use Rattle.cob_tree.specs.declared.form.Form.{Form}
 use Rattle.cob_data.specs.declared.layout.Layout.{Layout}
 use Rattle.cob_program.specs.declared.act.Target.{Target}
 use Rattle.cob_program.specs.Sum.{Sum}
+use Rattle.cob_program.specs.Values.{sum_value}
 use Rattle.cob_program.specs.Logic.{Test}
 use Rattle.cob_program.specs.Act.{Stmts, Phrase, Act, arith, Program}
 use Rattle.cob_runs.specs.declared.action.Action.{Action}
-use Rattle.cob_runs.specs.Contents.{bytes_of, stored}
-use Rattle.cob_runs.specs.Computing.{items_in, are_numeric}
+use Rattle.cob_runs.specs.Contents.{bytes_of, number_at, stored}
+use Rattle.cob_runs.specs.Computing.{items_in, are_numeric, worth}
 use Rattle.cob_runs.specs.Deciding.{test_holds}
 use Rattle.cob_edge_parts.specs.Meaning.{is_positive}
 use Rattle.sum_ranges.specs.declared.ranged.Ranged.{Ranged}
@@ -50,3 +52,5 @@ pub record Given : Type 0 where
       → OperandsHold p statement a x first (edge_operands (range_at p cells) a x)
   pub places_ : PartsAreInPlace
   pub edges_ : ArithmeticIsDone
+  pub numeric_sum_ : (l : Layout) (bytes : List ℕ) (other : ℕ → Scaled) (s : Sum) → are_numeric l bytes (items_in s) ≡ true
+      → sum_value (worth l bytes) s ≡ sum_value (λ place. unwrap_or (number_at l bytes place) (other place)) s

@@ -6,3 +6,5 @@ pub mod Holding
 pub mod Done
 pub mod Quiet
 pub mod Storing
+pub mod Keeping
+pub mod Clearing

@@ -25,6 +25,7 @@ use Rattle.dom_laws.specs.Meaning.{Storage}
 use Rattle.dom_laws.specs.Walking.{IsSeen}
 use Rattle.sum_ranges.specs.declared.ranged.Ranged.{Ranged}
 use Rattle.sum_ranges.specs.Ranged.{IsIn, ranged}
+use Rattle.result_ranges.specs.declared.amounts.Taken.{Taken}
 use Rattle.graph_runs.specs.Counters.{IsCount, HoldsCount, IsCounted, PassesPart, PassesParts}
 use Rattle.guard_ranges.specs.declared.cuts.Cut.{Cut}
 use Rattle.guard_ranges.specs.declared.cuts.Cuts.{Cuts}
@@ -110,26 +111,33 @@ module _ (p : Program) (statement : ℕ) (a : Act) (x : Action) where
       (subst (λ (counts : List (Option ℤ)). StandsIn p cells (storage m.storage counts)) (sym same.counts) h)
 
   -- a part that writes nothing
-  pub quiet : (done : List Part) (y : Part) (s t : Seen) (m n : Moment) → Agrees p statement a x done s m → PassesPart p.layout (handled p a x) y m n
-      → writes y ≡ false → is_store y ≡ false → SameMoment m n → SeenOn s t → AllKnown t.cells m → Agrees p statement a x (done ++ y ∷ []) t n
-  quiet done y s t m n g passes quiet_ no_store same on known = record {
+  pub quiet_at : (done : List Part) (y : Part) (s t : Seen) (m n : Moment) → Agrees p statement a x done s m → PassesPart p.layout (handled p a x) y m n
+      → writes y ≡ false → is_store y ≡ false → n.storage ≡ m.storage → n.first ≡ m.first → n.by_zero ≡ m.by_zero → n.failed ≡ m.failed
+      → SeenOn s t → StandsIn p t.cells (storage n.storage n.counts) → Agrees p statement a x (done ++ y ∷ []) t n
+  quiet_at done y s t m n g passes quiet_ no_store bytes first zero failed on stands = record {
     sound = g.sound;
     counts = g.counts;
-    passed = subst (λ (first : List ℕ). PassesParts p.layout (handled p a x) (done ++ y ∷ []) (run.beginning first g.counts) n) (sym same.first)
+    passed = subst (λ (before : List ℕ). PassesParts p.layout (handled p a x) (done ++ y ∷ []) (run.beginning before g.counts) n) (sym first)
         (passes_snoc p.layout (handled p a x) done y (run.beginning m.first g.counts) m n g.passed passes);
-    stands = same_stands t.cells m n same (record { whole = g.stands.whole; counted = g.stands.counted; known = known });
-    fresh = λ e. same.storage_ ∙ (g.fresh (sym on.written ∙ e) ∙ sym same.first);
+    stands = stands;
+    fresh = λ e. bytes ∙ (g.fresh (sym on.written ∙ e) ∙ sym first);
     unwritten = λ e. on.written ∙ g.unwritten (any_front writes done (y ∷ []) e);
-    took = λ e. subst (λ (first : List ℕ). OperandsHold p statement a x first t.common) (sym same.first)
-        (subst (λ (c : _). OperandsHold p statement a x m.first c) (sym on.common) (g.took (sym on.written ∙ e)));
+    took = λ e. subst (λ (before : List ℕ). OperandsHold p statement a x before t.common) (sym first)
+        (subst (λ (c : Option Taken). OperandsHold p statement a x m.first c) (sym on.common) (g.took (sym on.written ∙ e)));
     taken = λ e. let k = g.taken (sym on.written ∙ e) in (k.0, on.common ∙ k.1);
-    zero = λ e. on.zero (g.zero (sym same.zero ∙ e));
-    fails = λ e f. on.fails (g.fails (sym same.failed ∙ e) (sym same.zero ∙ f));
+    zero = λ e. on.zero (g.zero (sym zero ∙ e));
+    fails = λ e f. on.fails (g.fails (sym failed ∙ e) (sym zero ∙ f));
     all_fail = λ e f. elim (any_last is_store done y f) [
-      | inl h ↦ on.fails (g.all_fail (sym same.zero ∙ e) h)
+      | inl h ↦ on.fails (g.all_fail (sym zero ∙ e) h)
       | inr h ↦ absurd cc
     ];
   }
+
+  pub quiet : (done : List Part) (y : Part) (s t : Seen) (m n : Moment) → Agrees p statement a x done s m → PassesPart p.layout (handled p a x) y m n
+      → writes y ≡ false → is_store y ≡ false → SameMoment m n → SeenOn s t → AllKnown t.cells m → Agrees p statement a x (done ++ y ∷ []) t n
+  quiet done y s t m n g passes quiet_ no_store same on known =
+      quiet_at done y s t m n g passes quiet_ no_store same.storage_ same.first same.zero same.failed on
+      (same_stands t.cells m n same (record { whole = g.stands.whole; counted = g.stands.counted; known = known }))
 
   -- ---- reads
 

@@ -297,6 +297,25 @@ module _ (p : Program) (statement : ℕ) (a : Act) (x : Action) where
       augments_amount (reading f into end fine) x y k = absurd k
       augments_amount (show xs) x y k = absurd k
 
+  -- so is that of a counter's setting
+  pub counts_amount : (a : Act) (x : Action) (y : Sender) → Counts a x y → edge_amount a x ≡ Some (moved y)
+  counts_amount (perform body (times z)) x y (e, f) = subst (λ (k : Action). edge_amount (perform body (times z)) k ≡ Some (moved y)) (sym f) (ap (λ (k : Sender). Some (moved k)) e)
+  counts_amount (perform body once) x y k = absurd k
+  counts_amount (perform body (until after v)) x y k = absurd k
+  counts_amount (perform body (varying after item start by v)) x y k = absurd k
+  counts_amount (move z places) x y k = absurd k
+  counts_amount (write r from) x y k = absurd k
+  counts_amount (arithmetic s ts r size fine) x y k = absurd k
+  counts_amount (if_ v held other) x y k = absurd k
+  counts_amount (evaluate ws other) x y k = absurd k
+  counts_amount (go_to n) x y k = absurd k
+  counts_amount nothing x y k = absurd k
+  counts_amount stop x y k = absurd k
+  counts_amount (open_files os) x y k = absurd k
+  counts_amount (close_files fs) x y k = absurd k
+  counts_amount (reading f into end fine) x y k = absurd k
+  counts_amount (show xs) x y k = absurd k
+
   -- what the receiver gets is among what is known of it
   pub amount_meant : (done : List Part) (place : ℕ) (y : Amount) (t : Seen) (m : Moment) → TakenAt done t m → IsStored a x done place y → m.by_zero ≡ false → (v : Fraction) → amount p.layout m y ≡ Some v
       → IsSomeAnd (amount_at p a x t place y) (λ r. IsAmount r v)

@@ -20,7 +20,7 @@ use Rattle.sum_ranges.proofs.Vanish.{zero_rises}
 use Rattle.result_ranges.specs.declared.amounts.Taken.{Taken}
 use Rattle.result_ranges.specs.declared.amounts.AmountRange.{AmountRange}
 use Rattle.result_ranges.specs.Receivers.{receiver_of, counter}
-use Rattle.result_ranges.specs.Amounts.{IsNarrowerIfAny, IsNarrowerTakenIfAny}
+use Rattle.result_ranges.specs.Amounts.{IsNarrowerTakenIfAny}
 use Rattle.result_ranges.specs.ResultRanges.{may_fail, lowered, count_may_fail}
 use Rattle.cell_storages.specs.Homes.{of_item, of_count, homes_of}
 use Rattle.cell_steps.specs.Cells.{units_of, is_numeric}
@@ -28,46 +28,33 @@ use Rattle.cell_steps.specs.Operands.{amount_of}
 use Rattle.cell_steps.specs.Seen.{Seen}
 use Rattle.cell_steps.specs.Stores.{range_at, with_taken}
 use Rattle.cell_steps.specs.Steps.{step}
-use Rattle.cell_steps.specs.Clearing.{is_misfit, all_fit_of, all_fit, all_count, clears_part, clears_parts}
+use Rattle.cell_steps.specs.Clearing.{is_misfit, has_quotient, all_fit_of, all_fit, all_count, clears_part, clears_parts}
 use Rattle.cell_steps.specs.Order.{SeenBelow}
 use Rattle.cell_rises.proofs.Given.{Given}
 use Rattle.cell_rises.proofs.Ranges.{units_below, range_below, numeric_below}
-use Rattle.cell_rises.proofs.Operands.{or_rises, AmountBelowIf, amount_below}
+use Rattle.cell_rises.proofs.Operands.{or_rises, and_rises, AmountBelowIf, amount_below}
 use Rattle.cell_rises.proofs.Rising.{not_falls, TakenBelow, taken_rises, BelowIf, rises}
 
-same_under : (o q : Option Ranged) → IsNarrowerIfAny o q → is_some q ≡ true → is_some o ≡ true
-same_under None None n e = e
-same_under None (Some v) n e = absurd n
-same_under (Some u) q n e = refl
-
-zero_there : (o : Option Ranged) → holds_zero o ≡ true → is_some o ≡ true
-zero_there None e = absurd cc
-zero_there (Some u) e = refl
-
 module _ (given : Given) (p : Program) (a : Act) (x : Action) where
-  module _ (s t : Seen) (h : TakenBelow p a x s t) where
+  module _ (s t : Seen) (h : TakenBelow given p a x s t) where
     all_fit_falls : (place : ℕ) (mode : Mode) (y : Amount) → all_fit p a x t place mode y ≡ true → all_fit p a x s place mode y ≡ true
-    all_fit_falls place mode y e = go s.common t.common h.below.common e
+    all_fit_falls place mode y e = and_rises (has_quotient y) (option_map_or (all_fit_of p a x t place mode y) t.common true) (option_map_or (all_fit_of p a x s place mode y) s.common true) (λ u. go s.common t.common h.below.common) e
       where
-        amounts : (c d : Taken) (o q : Option AmountRange) → AmountBelowIf c.under o q → IsNarrowerIfAny c.under d.under
-            → option_map_or (λ r. not (may_fail mode (receiver_of (form_at p.layout place)) r)) q (is_some d.under) ≡ true
-            → option_map_or (λ r. not (may_fail mode (receiver_of (form_at p.layout place)) r)) o (is_some c.under) ≡ true
-        amounts c d None None m n f = same_under c.under d.under n f
-        amounts c d None (Some v) (inl m) n f = absurd m
-        amounts c d None (Some v) (inr m) n f = zero_there c.under m.1
-        amounts c d (Some u) None (inl m) n f = absurd m
-        amounts c d (Some u) None (inr m) n f = absurd (let k = m.0 in cc)
-        amounts c d (Some u) (Some v) (inl m) n f =
+        amounts : (under : Option Ranged) (o q : Option AmountRange) → AmountBelowIf under o q
+            → option_map_or (λ r. not (may_fail mode (receiver_of (form_at p.layout place)) r)) q true ≡ true → option_map_or (λ r. not (may_fail mode (receiver_of (form_at p.layout place)) r)) o true ≡ true
+        amounts under None q m f = refl
+        amounts under (Some u) None (inl m) f = absurd m
+        amounts under (Some u) None (inr m) f = absurd (let k = m.0 in cc)
+        amounts under (Some u) (Some v) (inl m) f =
             not_falls (may_fail mode (receiver_of (form_at p.layout place)) v) (may_fail mode (receiver_of (form_at p.layout place)) u) (given.fails_ mode (receiver_of (form_at p.layout place)) u v m) f
-        amounts c d (Some u) (Some v) (inr m) n f = absurd (let k = m.0 in cc)
+        amounts under (Some u) (Some v) (inr m) f = absurd (let k = m.0 in cc)
 
         go : (o q : Option Taken) → IsNarrowerTakenIfAny o q → option_map_or (all_fit_of p a x t place mode y) q true ≡ true → option_map_or (all_fit_of p a x s place mode y) o true ≡ true
         go None q m f = refl
         go (Some c) None m f = absurd m
         go (Some c) (Some d) m f =
-            amounts c d (amount_of y (range_at p s.cells place) c) (amount_of y (range_at p t.cells place) d)
-            (amount_below given
-              y (range_at p s.cells place) (range_at p t.cells place) c d (range_below p.layout (homes_of p) s.cells t.cells h.below.fits h.below.cells place) m) m.under f
+            amounts c.under (amount_of y (range_at p s.cells place) c) (amount_of y (range_at p t.cells place) d)
+            (amount_below given y (range_at p s.cells place) (range_at p t.cells place) c d (range_below p.layout (homes_of p) s.cells t.cells h.below.fits h.below.cells place) m) f
 
     all_count_falls : all_count p a x t ≡ true → all_count p a x s ≡ true
     all_count_falls e = go s.common t.common h.below.common e

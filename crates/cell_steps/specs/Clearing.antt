@@ -5,10 +5,11 @@ use Rattle.dec_num.specs.declared.types.Mode.{Mode}
 use Rattle.cob_tree.specs.declared.fault.Kind.{Kind}
 use Rattle.cob_tree.specs.declared.fault.Kind.TheVariants as kind
 use Rattle.cob_program.specs.Sum.{Atom}
+use Rattle.cob_program.specs.Values.{root_of}
 use Rattle.cob_program.specs.Act.{Act, Program}
 use Rattle.cob_runs.specs.declared.action.Action.{Action}
 use Rattle.cob_runs.specs.Contents.{form_at}
-use Rattle.cob_edge_parts.specs.Parts.{Amount, moved, Part, read, unread, divide, store, set_count, count_down, has_phrase}
+use Rattle.cob_edge_parts.specs.Parts.{Amount, moved, remaining, Part, read, unread, divide, store, set_count, count_down, has_phrase}
 use Rattle.sum_ranges.specs.SumRanges.{atom_range}
 use Rattle.sum_ranges.specs.Vanishing.{holds_zero}
 use Rattle.result_ranges.specs.declared.amounts.Taken.{Taken}
@@ -28,16 +29,20 @@ is_misfit (moved y) _ = false
 is_misfit _ kind.Size = true
 is_misfit _ _ = false
 
+-- a remainder is what a quotient leaves
+abbrev pub has_quotient : Amount → Bool
+has_quotient (remaining s scale) = is_some (root_of s)
+has_quotient _ = true
+
 module _ (p : Program) (a : Act) (x : Action) where
-  -- Each result fits. Where there is none since a divisor is 0 alone, nothing is asked; what is no quotient has no
-  -- remainder.
+  -- Each result fits. Where there is none, since a divisor is 0 alone, nothing is asked.
   abbrev pub all_fit_of : Seen → ℕ → Mode → Amount → Taken → Bool
   all_fit_of t place mode amount c =
       option_map_or (λ r. not (may_fail mode (receiver_of (form_at p.layout place)) r))
-      (amount_of amount (range_at p t.cells place) c) (is_some c.under)
+      (amount_of amount (range_at p t.cells place) c) true
 
   abbrev pub all_fit : Seen → ℕ → Mode → Amount → Bool
-  all_fit t place mode amount = option_map_or (all_fit_of t place mode amount) t.common true
+  all_fit t place mode amount = has_quotient amount && option_map_or (all_fit_of t place mode amount) t.common true
 
   -- the number that a counter is set to fits
   abbrev pub all_count : Seen → Bool
