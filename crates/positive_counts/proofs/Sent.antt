@@ -76,7 +76,7 @@ module _ (l : Layout) (n : ℕ) (a : Act) where
     can_body (range first last) h e = absurd (cc)
     can_body (inline ss) h e = can_found ss h e
 
-  can_among : (xs : List Para) → CanDoParas l xs → found_among n xs ≡ Some a → CanDoAct l a
+  pub can_among : (xs : List Para) → CanDoParas l xs → found_among n xs ≡ Some a → CanDoAct l a
   can_among [] h e = absurd (cc)
   can_among (x ∷ xs) h e =
       either (found n x.body) (found_among n xs) (λ f. can_found x.body h.0 f) (λ f. can_among xs h.1 f) e

@@ -5,3 +5,7 @@ pub mod Sound
 pub mod Narrow
 pub mod Bounded
 pub mod Vanish
+pub mod Working
+pub mod Numerals
+pub mod Loops
+pub mod Rooms

@@ -3,3 +3,4 @@ pub mod Results
 pub mod SumRanges
 pub mod Vanishing
 pub mod Sizes
+pub mod Working

@@ -1,0 +1,10 @@
+pub mod Given
+pub mod Standing
+pub mod Frames
+pub mod Counters
+pub mod Holding
+pub mod Done
+pub mod Quiet
+pub mod Storing
+pub mod Keeping
+pub mod Clearing

@@ -1,0 +1,54 @@
+-- Changes of what is known of cells.
+use Rattle.std.specs.Prelude.{ℕ, ◌+◌, nat_le, not, ◌||◌, if◌then◌else◌, Bool, false, List, [], ◌∷◌, Option, Some, None, is_some}
+use Rattle.std.specs.Option.{option_map_or}
+use Rattle.cob_data.specs.declared.layout.Layout.{Layout}
+use Rattle.cob_runs.specs.Contents.{item_at, form_at, scale_of}
+use Rattle.decimal_interval.specs.declared.bounds.Interval.{Interval}
+use Rattle.sum_ranges.specs.declared.ranged.Ranged.{Ranged}
+use Rattle.sum_ranges.specs.Ranged.{ranged}
+use Rattle.cell_rows.specs.Known.{Known}
+use Rattle.cell_storages.specs.Homes.{Home, of_item, of_count, is_home, home_range}
+use Rattle.cell_storages.specs.Storages.{known_of}
+
+-- ---- ranges
+
+-- what isn't known has its own range
+abbrev pub known_or : Interval → Known → Interval
+known_or own None = own
+known_or own (Some i) = i
+
+module _ (l : Layout) (homes : List Home) (cells : List Known) where
+  abbrev pub units_of : Home → Interval
+  units_of h = known_or (home_range l h) (known_of homes cells h)
+
+  -- an item's numbers; one without a cell has those of its form
+  abbrev pub range_at : ℕ → Ranged
+  range_at place = ranged (units_of (of_item place)) (scale_of (form_at l place))
+
+  -- whether an item is known to be numeric, which none without a cell is
+  abbrev pub is_numeric : ℕ → Bool
+  is_numeric place = is_some (known_of homes cells (of_item place))
+
+-- ---- changes
+
+-- the first cell that is of a home is known so
+abbrev pub with_known : Home → Known → List Home → List Known → List Known
+with_known home new (h ∷ hs) (c ∷ cs) = if is_home h home then new ∷ cs else c ∷ with_known home new hs cs
+with_known home new _ cs = cs
+
+-- what is known of some homes is forgotten
+abbrev pub forgotten : (Home → Bool) → List Home → List Known → List Known
+forgotten is_gone (h ∷ hs) (c ∷ cs) = (if is_gone h then None else c) ∷ forgotten is_gone hs cs
+forgotten is_gone _ cs = cs
+
+-- two ranges of bytes, each an offset and a length, have a byte in common
+abbrev pub share_bytes : ℕ → ℕ → ℕ → ℕ → Bool
+share_bytes offset count from many = not (nat_le (from + many) offset || nat_le (offset + count) from)
+
+abbrev pub is_in_bytes : Layout → ℕ → ℕ → Home → Bool
+is_in_bytes l offset count (of_item place) = option_map_or (λ i. share_bytes offset count i.offset i.length) (item_at l place) false
+is_in_bytes l offset count (of_count statement) = false
+
+-- bytes of the item's are the home's too
+abbrev pub is_beside : Layout → ℕ → Home → Bool
+is_beside l place h = option_map_or (λ i. is_in_bytes l i.offset i.length h) (item_at l place) false

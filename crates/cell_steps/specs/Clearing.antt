@@ -1,0 +1,64 @@
+-- Which faults what is seen before a part shows not to be met there.
+use Rattle.std.specs.Prelude.{ℕ, ◌||◌, ◌&&◌, not, if◌then◌else◌, Bool, true, false, List, [], ◌∷◌, Option, Some, None, is_some}
+use Rattle.std.specs.Option.{option_map_or}
+use Rattle.dec_num.specs.declared.types.Mode.{Mode}
+use Rattle.cob_tree.specs.declared.fault.Kind.{Kind}
+use Rattle.cob_tree.specs.declared.fault.Kind.TheVariants as kind
+use Rattle.cob_program.specs.Sum.{Atom}
+use Rattle.cob_program.specs.Values.{root_of}
+use Rattle.cob_program.specs.Act.{Act, Program}
+use Rattle.cob_runs.specs.declared.action.Action.{Action}
+use Rattle.cob_runs.specs.Contents.{form_at}
+use Rattle.cob_edge_parts.specs.Parts.{Amount, moved, remaining, Part, read, unread, divide, store, set_count, count_down, has_phrase}
+use Rattle.sum_ranges.specs.SumRanges.{atom_range}
+use Rattle.sum_ranges.specs.Vanishing.{holds_zero}
+use Rattle.result_ranges.specs.declared.amounts.Taken.{Taken}
+use Rattle.result_ranges.specs.Receivers.{receiver_of}
+use Rattle.result_ranges.specs.ResultRanges.{may_fail, lowered, count_may_fail}
+use Rattle.cell_storages.specs.Homes.{of_item, of_count, homes_of}
+use Rattle.cell_steps.specs.Cells.{units_of, is_numeric}
+use Rattle.cell_steps.specs.Operands.{amount_of}
+use Rattle.cell_steps.specs.Seen.{Seen}
+use Rattle.cell_steps.specs.Stores.{range_at, with_taken}
+use Rattle.cell_steps.specs.Steps.{step}
+
+-- whether a store's fault is of this kind
+abbrev pub is_misfit : Amount → Kind → Bool
+is_misfit (moved y) kind.Truncation = true
+is_misfit (moved y) _ = false
+is_misfit _ kind.Size = true
+is_misfit _ _ = false
+
+-- a remainder is what a quotient leaves
+abbrev pub has_quotient : Amount → Bool
+has_quotient (remaining s scale) = is_some (root_of s)
+has_quotient _ = true
+
+module _ (p : Program) (a : Act) (x : Action) where
+  -- Each result fits. Where there is none, since a divisor is 0 alone, nothing is asked.
+  abbrev pub all_fit_of : Seen → ℕ → Mode → Amount → Taken → Bool
+  all_fit_of t place mode amount c =
+      option_map_or (λ r. not (may_fail mode (receiver_of (form_at p.layout place)) r))
+      (amount_of amount (range_at p t.cells place) c) true
+
+  abbrev pub all_fit : Seen → ℕ → Mode → Amount → Bool
+  all_fit t place mode amount = has_quotient amount && option_map_or (all_fit_of t place mode amount) t.common true
+
+  -- the number that a counter is set to fits
+  abbrev pub all_count : Seen → Bool
+  all_count t = option_map_or (λ c. not (count_may_fail c.top.units)) t.common true
+
+  abbrev pub clears_part : Part → Seen → Kind → Bool
+  clears_part (read place) s kind.Class = is_numeric p.layout (homes_of p) s.cells place
+  clears_part unread s kind.Class = false
+  clears_part (divide d) s kind.Zero = has_phrase a || not (holds_zero (atom_range (range_at p s.cells) d))
+  clears_part (store place mode amount) s fault =
+      has_phrase a || (not (is_misfit amount fault) || all_fit (with_taken p a x s) place mode amount)
+  clears_part (set_count statement y) s kind.Size = all_count (with_taken p a x s)
+  clears_part (count_down statement) s kind.Size = not (count_may_fail (lowered (units_of p.layout (homes_of p) s.cells (of_count statement))))
+  clears_part _ s fault = true
+
+  -- Each part at its moment. One that no run comes to asks nothing.
+  abbrev pub clears_parts : List Part → Seen → Kind → Bool
+  clears_parts [] s fault = true
+  clears_parts (y ∷ ys) s fault = clears_part y s fault && option_map_or (λ t. clears_parts ys t fault) (step p a x y s) true

@@ -1,0 +1,9 @@
+pub mod Cells
+pub mod Operands
+pub mod Seen
+pub mod Stores
+pub mod Steps
+pub mod Clearing
+pub mod Edges
+pub mod Order
+pub mod Agreeing

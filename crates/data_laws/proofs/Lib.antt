@@ -1,0 +1,14 @@
+pub mod Pairs
+pub mod Deep
+pub mod Apart
+pub mod Kept
+pub mod Values
+pub mod Apartness
+pub mod Signs
+pub mod Lengths
+pub mod Own
+pub mod Items
+pub mod Stored
+pub mod Put
+pub mod Listed
+pub mod Examples

@@ -1,0 +1,2 @@
+//! What stands before each part of an edge.
+#![tactic(auto)]

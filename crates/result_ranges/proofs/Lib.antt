@@ -1,0 +1,11 @@
+pub mod Keeping
+pub mod Shifting
+pub mod Leftovers
+pub mod Rounding
+pub mod Rests
+pub mod Narrower
+pub mod Fitting
+pub mod Meant
+pub mod Taking
+pub mod Capping
+pub mod Working

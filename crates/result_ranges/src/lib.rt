@@ -1,0 +1,18 @@
+//! What a store makes of what is known of its operands: the interval of a receiver's new units, and whether some result
+//! may not fit (ISO 1989:1985, "The SIZE ERROR phrase"). No call takes memory.
+#![tactic(auto)]
+
+mod amounts;
+mod arithmetic;
+mod intervals;
+mod laws;
+mod results;
+mod units;
+
+pub use amounts::{AmountRange, Receiver, Taken};
+pub use laws::{
+    amounts_lie_in_their_ranges, narrower_operands_give_narrower_results,
+    receivers_keep_the_least, results_lie_in_their_ranges, stores_lie_in_their_ranges,
+    units_are_least,
+};
+pub use results::{Stored, computed_range, counted, exceeds, fitted, lowered, result_range};
