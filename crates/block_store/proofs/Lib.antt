@@ -1,0 +1,4 @@
+pub mod SlotsLemmas
+pub mod Border
+pub mod RowLemmas
+pub mod Chains

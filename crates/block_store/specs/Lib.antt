@@ -1,0 +1,12 @@
+pub mod Slots
+pub mod Parts
+pub mod Words
+pub mod Halves
+pub mod HalvesLends
+pub mod Grid
+pub mod Region
+pub mod RegionLends
+pub mod Held
+pub mod Chain
+pub mod Blocks
+pub mod BlocksLends

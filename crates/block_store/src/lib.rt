@@ -1,0 +1,8 @@
+//! Equal blocks of words in one region, which is reserved once and reached by raw pointers.
+#![tactic(auto)]
+
+mod blocks;
+mod halves;
+mod region;
+
+pub use blocks::{BlockId, Blocks};
