@@ -1,2 +1,9 @@
+pub mod Lists
+pub mod Accepting
+pub mod Covering
+pub mod LayerLaws
+pub mod Leaking
+pub mod Asking
+pub mod Noting
+pub mod Sources
 pub mod Pairs
-pub mod Stub

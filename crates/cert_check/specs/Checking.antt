@@ -9,14 +9,14 @@ use Rattle.cob_program.specs.Act.{Program}
 use Rattle.cob_runs.specs.Files.{Choice}
 use Rattle.cob_runs.specs.Runs.{Contents, run}
 use Rattle.cob_graph.specs.declared.graph.Graph.{Graph}
-use Rattle.cob_graph.specs.Graphs.{IsGraph, cells_of}
-use Rattle.cob_well_formed.specs.Sources.{CanBeRun}
+use Rattle.cob_graph.specs.Graphs.{cells_of}
+use Rattle.graph_runs.specs.Sources.{IsSourceGraph}
 use Rattle.cert_text.specs.View.{Certificate}
 use Rattle.cert_check.specs.declared.ends.CheckEnd.{CheckEnd}
 use Rattle.cert_check.specs.declared.ends.CheckEnd.TheVariants as check
 use Rattle.cert_check.specs.declared.ends.Shape.{Shape}
 use Rattle.cert_check.specs.declared.ends.Shape.TheVariants as shape
-use Rattle.cert_check.specs.Claims.{leak, leaks, open, open_pairs}
+use Rattle.cert_check.specs.Claims.{leak, leaks, open_at, open_pairs}
 
 -- the certificate is of as many cells as the program, and of as many nodes as its graph
 pub record HasShape (p : Program) (g : Graph) (c : Certificate) : Type 0 where
@@ -51,10 +51,10 @@ Checks p g c result = MatchResult result (λ pairs. Accepts p g c pairs.items) (
 abbrev pub CoversRuns : Program → List Open → Type 0
 CoversRuns p pairs =
     (contents : Contents) (first : List ℕ) (choices : List Choice) (n : ℕ) (kind : Kind) (statement : ℕ) →
-    (run p contents first choices n).outcome ≡ Fault kind statement → Contains pairs (open statement kind)
+    (run p contents first choices n).outcome ≡ Fault kind statement → Contains pairs (open_at statement kind)
 
 -- The open pairs of an inductive certificate cover the runs of a source's program.
 abbrev pub AcceptedClaimsCoverRuns : Type 0
 AcceptedClaimsCoverRuns =
-    (p : Program) (g : Graph) (c : Certificate) (pairs : List Open) → CanBeRun p → IsGraph p g → Accepts p g c pairs
+    (p : Program) (g : Graph) (c : Certificate) (pairs : List Open) → IsSourceGraph p g → Accepts p g c pairs
     → CoversRuns p pairs

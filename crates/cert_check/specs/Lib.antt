@@ -1,2 +1,7 @@
+pub mod Ranges
+pub mod Rows
+pub mod Passing
 pub mod Claims
+pub mod Clearing
+pub mod Counts
 pub mod Checking

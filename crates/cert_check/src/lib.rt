@@ -3,10 +3,17 @@
 //! It trusts nothing of whoever made the certificate.
 #![tactic(auto)]
 
-mod check;
+mod certificate;
+mod cleared;
+mod edges;
 mod ends;
 mod laws;
+mod nodes;
+mod ranges;
+mod rows;
 
-pub use check::check;
-pub use ends::{CheckEnd, Gap, Shape};
+pub use certificate::check;
+pub use claimed_rows::Gap;
+pub use edges::pass;
+pub use ends::{CheckEnd, Shape};
 pub use laws::accepted_claims_cover_runs;

@@ -1,0 +1,166 @@
+//! The check of a certificate without packs.
+ghost use Rattle.std.specs.Prelude.{◌≡◌, ◌≤◌, ◌<◌, ◌^◌, [], map, length, slice_get, Some, IfOk, MatchResult};
+ghost use Rattle.std.specs.List.{All};
+ghost use Rattle.cob_program.specs.ActView.{plain_program};
+ghost use Rattle.cob_graph_build.specs.Limits.{IsWithinLimits};
+ghost use Rattle.graph_runs.specs.Sources.{IsSourceGraph};
+ghost use Rattle.cell_rows.specs.Rows.{cells_lattice, lists_of};
+ghost use Rattle.cell_storages.specs.Homes.{owns};
+ghost use Rattle.cell_layer_laws.specs.Layer.{cell_flow};
+ghost use Rattle.cert_text.specs.View.{view};
+ghost use Rattle.cert_text.specs.Allowed.{IsAllowed};
+ghost use Rattle.claimed_rows.specs.Gaps.{HasSmallClaims, IsSmall};
+ghost use Rattle.cert_check.specs.Counts.{HasCounts, MisfitsCounts};
+ghost use Rattle.cert_check.specs.Claims.{edge_gaps, row_at};
+ghost use Rattle.cert_check.specs.Checking.{Checks, CoversRuns, HasShape};
+ghost use Rattle.cert_check.specs.Passing.{IsFirstLeak, arrives};
+ghost use Rattle.cert_check.specs.Ranges.{ends_of};
+
+use crate::edges::{led_to, pass};
+use crate::ends::{CheckEnd, Shape};
+use crate::nodes::open_pairs;
+use crate::ranges::{all_ends, own_ranges};
+use crate::rows::ClaimedRows;
+use cell_layer::CellLayer;
+use cert_text::Cert;
+use claimed_rows::{Gap, first_gap};
+use cob_graph::Graph;
+use cob_program::Program;
+use cob_tree::Open;
+use decimal_interval::Interval;
+use dom_laws::Domain;
+use std::alloc::Global;
+
+// Whether a certificate has as many cells and nodes. Cells are looked at first.
+fn fit_shape(cert: &Cert, cells: u32, nodes: u32) -> Result<(), CheckEnd>
+    requires { length (view cert.now).nodes < 2 ^ 32 }
+    ensures { MatchResult result (λ _. HasCounts (view cert.now) cells nodes) (MisfitsCounts (view cert.now) cells nodes) }
+{
+    if cert.cells != cells {
+        return Err(CheckEnd::Shape {
+            what: Shape::Cells,
+            found: cert.cells,
+            wanted: cells,
+        });
+    }
+    let found = cert.nodes.len() as u32;
+    if found != nodes {
+        return Err(CheckEnd::Shape {
+            what: Shape::Nodes,
+            found,
+            wanted: nodes,
+        });
+    }
+    Ok(())
+}
+
+// The first gap along the first edge that has one. `row` is what comes along it.
+fn gap_at(layer: &CellLayer, rows: &ClaimedRows, edge: u32, row: &[i128]) -> Gap
+    requires source { ∥ IsSourceGraph (plain_program layer.now.program.now) layer.now.graph.now ∥₁ }
+    requires owns { rows.now.owns.now ≡ owns (plain_program layer.now.program.now) }
+    requires small { All IsSmall rows.now.owns.now }
+    requires few { length rows.now.owns.now ≤ 512 }
+    requires allowed { IsAllowed (view rows.now.cert.now) }
+    requires nodes { length (view rows.now.cert.now).nodes ≡ length layer.now.graph.now.nodes }
+    requires row { let p = plain_program layer.now.program.now in let g = layer.now.graph.now in
+        row.now ≡ arrives (cell_flow p g) (row_at p g (view rows.now.cert.now)) edge }
+    requires leak { let p = plain_program layer.now.program.now in let g = layer.now.graph.now in
+        IsFirstLeak (cells_lattice (owns p) (lists_of layer.now.thresholds.now)) (cell_flow p g)
+        (row_at p g (view rows.now.cert.now)) edge }
+    ensures { let p = plain_program layer.now.program.now in let g = layer.now.graph.now in
+        slice_get (edge_gaps p g (view rows.now.cert.now) edge) 0 ≡ Some result }
+{
+    let node = led_to(layer, edge) as usize;
+    match first_gap(row, &rows.cert.nodes[node - 1], rows.owns.len()) {
+        Some(gap) => gap,
+        None => unreachable!(),
+    }
+}
+
+// Goes over the edges and then over the nodes.
+fn check_edges(
+    alloc: Global,
+    layer: &CellLayer,
+    rows: &ClaimedRows,
+) -> Result<Vec<Open>, CheckEnd>
+    requires source { ∥ IsSourceGraph (plain_program layer.now.program.now) layer.now.graph.now ∥₁ }
+    requires limits { IsWithinLimits layer.now.graph.now }
+    requires owns { rows.now.owns.now ≡ owns (plain_program layer.now.program.now) }
+    requires small { All IsSmall rows.now.owns.now }
+    requires few { length rows.now.owns.now ≤ 512 }
+    requires allowed { IsAllowed (view rows.now.cert.now) }
+    requires shape { HasShape (plain_program layer.now.program.now) layer.now.graph.now (view rows.now.cert.now) }
+    ensures { Checks (plain_program layer.now.program.now) layer.now.graph.now (view rows.now.cert.now) result }
+{
+    let mut out = vec![in alloc; 0; layer.words()]?;
+    if let Some(edge) = pass(layer, rows, out.as_mut_slice()) {
+        let gap = gap_at(layer, rows, edge, out.as_slice());
+        return Err(CheckEnd::NotInductive {
+            layer: 1,
+            edge,
+            gap,
+        });
+    }
+    let pairs = open_pairs(alloc, layer, rows)?;
+    Ok(pairs)
+}
+
+// Checks a certificate of the right shape.
+fn check_rows(
+    alloc: Global,
+    program: &Program,
+    graph: &Graph,
+    cert: &Cert,
+    ranges: &[Interval],
+    ends: &[Vec<i64>],
+) -> Result<Vec<Open>, CheckEnd>
+    requires source { ∥ IsSourceGraph (plain_program program.now) graph.now ∥₁ }
+    requires limits { IsWithinLimits graph.now }
+    requires ranges { ranges.now ≡ owns (plain_program program.now) }
+    requires small { All IsSmall ranges.now }
+    requires few { length ranges.now ≤ 512 }
+    requires ends { lists_of ends.now ≡ map ends_of ranges.now }
+    requires allowed { IsAllowed (view cert.now) }
+    requires shape { HasShape (plain_program program.now) graph.now (view cert.now) }
+    ensures { Checks (plain_program program.now) graph.now (view cert.now) result }
+{
+    let layer = CellLayer::new(alloc, program, graph, ends)?;
+    let rows = ClaimedRows::new(alloc, ranges, cert)?;
+    check_edges(alloc, &layer, &rows)
+}
+
+fn check_all(
+    alloc: Global,
+    program: &Program,
+    graph: &Graph,
+    cert: &Cert,
+) -> Result<Vec<Open>, CheckEnd>
+    requires source { ∥ IsSourceGraph (plain_program program.now) graph.now ∥₁ }
+    requires limits { IsWithinLimits graph.now }
+    requires allowed { IsAllowed (view cert.now) }
+    ensures { Checks (plain_program program.now) graph.now (view cert.now) result }
+{
+    let cells = graph.cells.get();
+    let nodes = graph.nodes.get();
+    fit_shape(cert, cells.len() as u32, nodes.len() as u32)?;
+    let owns = own_ranges(alloc, cells)?;
+    let ends = all_ends(alloc, owns.as_slice())?;
+    check_rows(alloc, program, graph, cert, owns.as_slice(), ends.as_slice())
+}
+
+/// Checks a certificate without packs for a program and its graph, and lists what it leaves open.
+pub fn check(
+    alloc: Global,
+    program: &Program,
+    graph: &Graph,
+    cert: &Cert,
+) -> Result<Vec<Open>, CheckEnd>
+    requires source { ∥ IsSourceGraph (plain_program program.now) graph.now ∥₁ }
+    requires limits { IsWithinLimits graph.now }
+    requires allowed { IsAllowed (view cert.now) }
+    requires plain { (view cert.now).packs ≡ [] }
+    ensures exact { Checks (plain_program program.now) graph.now (view cert.now) result }
+    ensures sound { IfOk result (λ pairs. CoversRuns (plain_program program.now) pairs.items) }
+{
+    check_all(alloc, program, graph, cert)
+}

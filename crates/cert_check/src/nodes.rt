@@ -1,0 +1,89 @@
+//! The faults that some node of a statement doesn't clear.
+ghost use Rattle.std.specs.Prelude.{◌≡◌, ◌≤◌, ◌<◌, ◌^◌, length, IfOk};
+ghost use Rattle.cob_program.specs.ActView.{plain_program};
+ghost use Rattle.cell_storages.specs.Homes.{owns};
+ghost use Rattle.cell_layer_laws.specs.Layer.{clears_at};
+ghost use Rattle.cert_text.specs.View.{view};
+ghost use Rattle.cert_check.specs.Claims.{claims_at, open_pairs};
+ghost use Rattle.cert_check.specs.Clearing.{AreClearedTo, cleared_at};
+
+use crate::cleared::{Cleared, note, push_left_open};
+use crate::rows::ClaimedRows;
+use cell_layer::CellLayer;
+use cob_tree::{Kind, Open};
+use dom_laws::{Layer, Rows};
+use std::alloc::{AllocError, Global};
+
+// Whether a node clears a fault.
+fn clears(layer: &CellLayer, rows: &ClaimedRows, node: u32, fault: Kind) -> bool
+    requires owns { rows.now.owns.now ≡ owns (plain_program layer.now.program.now) }
+    requires nodes { length (view rows.now.cert.now).nodes ≡ length layer.now.graph.now.nodes }
+    requires first { 1 ≤ node }
+    requires last { node ≤ length layer.now.graph.now.nodes }
+    ensures { let p = plain_program layer.now.program.now in let g = layer.now.graph.now in
+        result ≡ clears_at p g node (claims_at p g (view rows.now.cert.now) node) fault }
+{
+    layer.clears(node, rows.row(node), fault)
+}
+
+// What a node clears.
+fn clears_all(layer: &CellLayer, rows: &ClaimedRows, node: u32) -> Cleared
+    requires owns { rows.now.owns.now ≡ owns (plain_program layer.now.program.now) }
+    requires nodes { length (view rows.now.cert.now).nodes ≡ length layer.now.graph.now.nodes }
+    requires first { 1 ≤ node }
+    requires last { node ≤ length layer.now.graph.now.nodes }
+    ensures { result ≡ cleared_at (plain_program layer.now.program.now) layer.now.graph.now (view rows.now.cert.now) node }
+{
+    Cleared {
+        size: clears(layer, rows, node, Kind::Size),
+        truncation: clears(layer, rows, node, Kind::Truncation),
+        zero: clears(layer, rows, node, Kind::Zero),
+        class: clears(layer, rows, node, Kind::Class),
+    }
+}
+
+// For each statement what all its nodes clear.
+fn cleared(
+    alloc: Global,
+    layer: &CellLayer,
+    rows: &ClaimedRows,
+) -> Result<Vec<Cleared>, AllocError>
+    requires owns { rows.now.owns.now ≡ owns (plain_program layer.now.program.now) }
+    requires nodes { length (view rows.now.cert.now).nodes ≡ length layer.now.graph.now.nodes }
+    requires few { length layer.now.graph.now.nodes ≤ 4096 }
+    ensures { IfOk result (λ noted. AreClearedTo (plain_program layer.now.program.now) layer.now.graph.now
+        (view rows.now.cert.now) (length layer.now.graph.now.nodes) noted.items) }
+{
+    let none = Cleared {
+        size: true,
+        truncation: true,
+        zero: true,
+        class: true,
+    };
+    let mut noted = vec![in alloc; none; layer.program.statements as usize]?;
+    for (k, node) in layer.graph.nodes.get().iter().enumerate() {
+        let cleared = clears_all(layer, rows, k as u32 + 1);
+        note(noted.as_mut_slice(), node.statement, cleared);
+    }
+    Ok(noted)
+}
+
+/// The faults that some node of a statement doesn't clear, by statement, then by kind.
+pub(crate) fn open_pairs(
+    alloc: Global,
+    layer: &CellLayer,
+    rows: &ClaimedRows,
+) -> Result<Vec<Open>, AllocError>
+    requires owns { rows.now.owns.now ≡ owns (plain_program layer.now.program.now) }
+    requires nodes { length (view rows.now.cert.now).nodes ≡ length layer.now.graph.now.nodes }
+    requires few { length layer.now.graph.now.nodes ≤ 4096 }
+    ensures { IfOk result (λ pairs. pairs.items
+        ≡ open_pairs (plain_program layer.now.program.now) layer.now.graph.now (view rows.now.cert.now)) }
+{
+    let noted = cleared(alloc, layer, rows)?;
+    let mut pairs = Vec::new(alloc);
+    for (k, cleared) in noted.iter().enumerate() {
+        push_left_open(&mut pairs, k as u32 + 1, *cleared)?;
+    }
+    Ok(pairs)
+}
