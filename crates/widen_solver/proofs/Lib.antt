@@ -1,5 +1,8 @@
-mod RowAt
-mod HeadRanks
-mod OneEdge
-mod Starting
-mod Swept
+pub mod Lists
+pub mod RowAt
+pub mod ShownRows
+pub mod SlotLemmas
+pub mod HeadRanks
+pub mod OneEdge
+pub mod Starting
+pub mod Swept

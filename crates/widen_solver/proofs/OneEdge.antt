@@ -5,12 +5,17 @@ use Rattle.dom_laws.specs.Lattice.{Lattice, IsElement, IsLattice}
 use Rattle.dom_laws.specs.Flow.{Flow, IsNode, IsEdge, IsHead, IsFlow, IsDominated, goes_back_to}
 use Rattle.widen_solver.specs.Stored.{row_at}
 use Rattle.widen_solver.specs.Solving.{Arrives, IsUnderWay, IsSettled, head_ranks, TakesEdge}
-use Rattle.widen_solver.proofs.RowAt.{row_at-set_same, row_at-set_other, each_row, row_at_read}
+use Rattle.std.specs.Prelude.{IsSome, Some, None}
+use Rattle.block_store.specs.BlocksLends.{words_at}
+use Rattle.widen_solver.specs.RowsHeld.{RowsHeld, row_shown, shown_rows, with_own, with_transfer, IsReady, ArrivesAt}
+use Rattle.widen_solver.specs.RowLends.{own_rewritten}
+use Rattle.widen_solver.proofs.ShownRows.{shown_count, shown_at, own_set, reached_same, rewritten_own, own_is_some, some_of}
+use Rattle.widen_solver.proofs.RowAt.{row_at-set_same, row_at-set_other, each_row}
 use Rattle.widen_solver.proofs.HeadRanks.{head_or_not, test_finds_head, head_passes_test, NoneHigher, ranks_no_higher, ranks_fall}
 
 -- ---- one row
 
-new_element : (l : Lattice) (f : Flow) → IsLattice l → (node : ℕ) (old more new : List ℤ) (grew : Bool) → IsElement l old → IsElement l more → Arrives l f node old more new grew → IsElement l new
+pub new_element : (l : Lattice) (f : Flow) → IsLattice l → (node : ℕ) (old more new : List ℤ) (grew : Bool) → IsElement l old → IsElement l more → Arrives l f node old more new grew → IsElement l new
 new_element l f laws node old more new grew e k arrives = elim (head_or_not f node) [
   | inl head ↦ subst (λ row. IsElement l row) (sym (arrives.widened head)) (laws.widen_element old more e k)
   | inr free ↦ subst (λ row. IsElement l row) (sym (arrives.joined free)) (laws.join_element old more e k)
@@ -182,21 +187,61 @@ takes_edge l f edge old row grew again s = record {
   falls = falls_back l f edge old row grew again s;
 }
 
--- the same of the rows as the code reads them
-pub takes_edge_read : (l : Lattice) (f : Flow) → IsLattice l → IsFlow l f → (edge from to : ℕ) → IsEdge f edge → from ≡ f.source edge → to ≡ f.target edge → (old : List (List ℤ)) → IsUnderWay l f old → (from_row to_row more row : List ℤ) (grew again : Bool) → more ≡ f.post edge (get_or old (from - 1) from_row) → Arrives l f to (get_or old (to - 1) to_row) more row grew → (again ≡ true → (grew ≡ true) × (to ≤ from)) → (again ≡ false → to ≤ from → grew ≡ false) → TakesEdge l f edge old (slice_set old (to - 1) row) again
-takes_edge_read l f laws flows edge from to is from_is to_is old before from_row to_row more row grew again more_is arrives told untold =
-    let source = flows.source_node edge is in
-    let target = flows.target_node edge is in
-    let from_at : get_or old (from - 1) from_row ≡ row_at old (f.source edge) = row_at_read old from from_row (omega (arith, source.first)) (omega (arith, source.last, before.nodes)) ∙ ap (row_at old) from_is in
-    let to_at : get_or old (to - 1) to_row ≡ row_at old (f.target edge) = row_at_read old to to_row (omega (arith, target.first)) (omega (arith, target.last, before.nodes)) ∙ ap (row_at old) to_is in
-    let comes : more ≡ transferred f edge old = more_is ∙ ap (f.post edge) from_at in
-    let step : Step l f edge old row grew again = record {
+-- the same of the rows as they are held
+pub record Taken (l : Lattice) (f : Flow) (edge : ℕ) (old new : RowsHeld) (again : Bool) : Type 0 where
+  pub taken : TakesEdge l f edge (shown_rows old) (shown_rows new) again
+  pub ready : IsReady l new
+
+pub takes_edge_held : (l : Lattice) (f : Flow) → IsLattice l → IsFlow l f → (edge to : ℕ) → IsEdge f edge → to ≡ f.target edge → (old posted new : RowsHeld) → IsUnderWay l f (shown_rows old) → IsReady l old → posted ≡ with_transfer old (Some (transferred f edge (shown_rows old))) → (grew again : Bool) → ArrivesAt l f to posted new grew → (again ≡ true → (grew ≡ true) × (to ≤ f.source edge)) → (again ≡ false → to ≤ f.source edge → grew ≡ false) → Taken l f edge old new again
+takes_edge_held l f laws flows edge to is to_is old posted new before ready posted_is grew again at told untold =
+    let rows_same : shown_rows posted ≡ shown_rows old = ap shown_rows posted_is in
+    let more_is : words_at posted.transfer ≡ transferred f edge (shown_rows old) = ap (λ (h : RowsHeld). words_at h.transfer) posted_is in
+    let step : Step l f edge (shown_rows old) at.row grew again = record {
       laws = laws;
       flows = flows;
       is = is;
       before = before;
-      arrives = subst (λ node. Arrives l f node (row_at old (f.target edge)) (transferred f edge old) row grew) to_is (subst (λ r. Arrives l f to r (transferred f edge old) row grew) to_at (subst (λ r. Arrives l f to (get_or old (to - 1) to_row) r row grew) comes arrives));
-      told = λ tells. let both = told tells in (both.0, omega (arith, both.1));
-      untold = λ quiet back. untold quiet (omega arith);
+      arrives = subst (λ node. Arrives l f node (row_at (shown_rows old) node) (transferred f edge (shown_rows old)) at.row grew) to_is
+          (subst (λ rows. Arrives l f to (row_at rows to) (transferred f edge (shown_rows old)) at.row grew) rows_same
+          (subst (λ more. Arrives l f to (row_at (shown_rows posted) to) more at.row grew) more_is at.arrives));
+      told = λ tells. let both = told tells in (both.0, omega (arith, both.1, to_is));
+      untold = λ quiet back. untold quiet (omega (arith, back, to_is));
     } in
-    subst (λ node. TakesEdge l f edge old (slice_set old (node - 1) row) again) (sym to_is) (takes_edge l f edge old row grew again step)
+    let rows_are : shown_rows new ≡ written f edge (shown_rows old) at.row = at.rows ∙ ap (λ rows. slice_set rows (to - 1) at.row) rows_same ∙ ap (λ node. slice_set (shown_rows old) (node - 1) at.row) to_is in
+    record {
+      taken = subst (λ rows. TakesEdge l f edge (shown_rows old) rows again) (sym rows_are) (takes_edge l f edge (shown_rows old) at.row grew again step);
+      ready = record {
+        words = at.words ∙ ap (λ (h : RowsHeld). h.words) posted_is ∙ ready.words;
+        transfer = subst (λ b. IsSome b) (sym (at.transfer ∙ ap (λ (h : RowsHeld). h.transfer) posted_is)) (some_of (Some (transferred f edge (shown_rows old))) (transferred f edge (shown_rows old)) refl);
+      };
+    }
+
+-- the row at the source, and what the edge makes of it
+pub source_row : (l : Lattice) (f : Flow) → IsFlow l f → (edge from : ℕ) → IsEdge f edge → from ≡ f.source edge → (old : RowsHeld) → IsUnderWay l f (shown_rows old) → row_shown old (from - 1) ≡ row_at (shown_rows old) (f.source edge)
+source_row l f flows edge from is from_is old before =
+    let source = flows.source_node edge is in
+    shown_at old (f.source edge) from from_is source.first (omega (arith, source.last, before.nodes, shown_count old))
+
+pub transferred_element : (l : Lattice) (f : Flow) → IsFlow l f → (edge : ℕ) → IsEdge f edge → (old : RowsHeld) → IsUnderWay l f (shown_rows old) → IsElement l (transferred f edge (shown_rows old))
+transferred_element l f flows edge is old before = flows.post_element edge (row_at (shown_rows old) (f.source edge)) is (before.elements (f.source edge) (flows.source_node edge is))
+
+-- what comes to a node that has a row of its own by now
+pub arrives_at : (l : Lattice) (f : Flow) → IsLattice l → (node : ℕ) → IsNode f node → (old reached : RowsHeld) → IsUnderWay l f (shown_rows old) → IsReady l old → IsElement l (words_at old.transfer) → reached ≡ with_own old (node - 1) (Some (row_shown old (node - 1))) → (row more new : List ℤ) (grew : Bool) → get_or reached.rows (node - 1) None ≡ Some row → reached.transfer ≡ Some more → Arrives l f node row more new grew → ArrivesAt l f node old (with_own reached (node - 1) (Some (own_rewritten reached (node - 1) new))) grew
+arrives_at l f laws node is old reached before ready element reached_is row more new grew row_there more_there arrives =
+    let within : node - 1 < length old.rows = omega (arith, is.first, is.last, before.nodes, shown_count old) in
+    let row_is : row ≡ row_at (shown_rows old) node = ap words_at (sym row_there ∙ own_is_some old reached (node - 1) (row_shown old (node - 1)) reached_is within) ∙ shown_at old node node refl is.first (omega (arith, is.last, before.nodes, shown_count old)) in
+    let more_is : more ≡ words_at old.transfer = ap words_at (sym more_there) ∙ ap (λ (h : RowsHeld). words_at h.transfer) reached_is in
+    let now : Arrives l f node (row_at (shown_rows old) node) (words_at old.transfer) new grew =
+    subst (λ m. Arrives l f node (row_at (shown_rows old) node) m new grew) more_is (subst (λ r. Arrives l f node r more new grew) row_is arrives) in
+    let words : reached.words ≡ old.words = ap (λ (h : RowsHeld). h.words) reached_is in
+    let wide : length new ≡ reached.words = (new_element l f laws node (row_at (shown_rows old) node) (words_at old.transfer) new grew (before.elements node is) element now).width ∙ sym (words ∙ ready.words) in
+    let same = rewritten_own reached (node - 1) new wide in
+    record {
+      row = new;
+      arrives = now;
+      rows = own_set reached (node - 1) (own_rewritten reached (node - 1) new)
+          ∙ ap (λ r. slice_set (shown_rows reached) (node - 1) r) same
+          ∙ ap (λ rows. slice_set rows (node - 1) new) (ap shown_rows reached_is ∙ reached_same old (node - 1) within);
+      words = words;
+      transfer = ap (λ (h : RowsHeld). h.transfer) reached_is;
+    }

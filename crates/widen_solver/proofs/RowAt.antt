@@ -1,7 +1,6 @@
 -- The rows of the nodes after one row was written.
-use Rattle.std.proofs.Common.{◌≡◌, ℕ, ◌-◌, ◌≤◌, ◌≢◌, List, [], ℤ, length, get_or, slice_set, inl, inr, sym, subst, arith, get_or-set_other, get_or-set_same}
+use Rattle.std.proofs.Common.{◌≡◌, ℕ, ◌-◌, ◌≤◌, ◌≢◌, List, [], ℤ, length, slice_set, inl, inr, sym, subst, arith, get_or-set_other, get_or-set_same}
 use Rattle.std.proofs.lemmas.Bool.{cases_eq}
-use Rattle.std.proofs.lemmas.List.{get_or_default}
 use Rattle.widen_solver.specs.Stored.{row_at}
 
 pub row_at-set_same : (rows : List (List ℤ)) (node : ℕ) (row : List ℤ) → 1 ≤ node → node ≤ length rows → row_at (slice_set rows (node - 1) row) node ≡ row
@@ -16,7 +15,3 @@ each_row P rows node row first last here others other also = elim (cases_eq othe
   | inl at ↦ subst (λ n. P n (row_at (slice_set rows (node - 1) row) n)) (sym at) (subst (λ r. P node r) (sym (row_at-set_same rows node row first last)) here)
   | inr off ↦ subst (λ r. P other r) (sym (row_at-set_other rows node other row first also off)) (others other also)
 ]
-
--- a row as the code reads it
-pub row_at_read : (rows : List (List ℤ)) (node : ℕ) (row : List ℤ) → 1 ≤ node → node ≤ length rows → get_or rows (node - 1) row ≡ row_at rows node
-row_at_read rows node row first last = get_or_default rows (node - 1) row [] (omega arith)

@@ -1,45 +1,50 @@
--- The rows before the first sweep, and a store's rows after the last.
-use Rattle.std.proofs.Common.{◌≡◌, ℕ, ◌+◌, ◌-◌, ◌<◌, ◌≤◌, ◌≢◌, List, [], ℤ, length, get_or, take, ◌++◌, slice_set, inl, inr, ap, sym, ◌∙◌, subst, length-set, arith, get_or-set_other, get_or-set_same}
+-- The rows before the first sweep.
+use Rattle.std.proofs.Common.{◌≡◌, ℕ, ◌+◌, ◌-◌, ◌<◌, ◌≤◌, List, [], ℤ, length, get_or, slice_set, Some, None, refl, ap, sym, ◌∙◌, subst, length-set, arith, inl, inr, get_or-set_other, get_or-set_same}
 use Rattle.std.proofs.lemmas.Bool.{cases_eq}
-use Rattle.std.proofs.lemmas.List.{take_at}
 use Rattle.dom_laws.specs.Lattice.{Lattice, IsElement, IsLattice}
 use Rattle.dom_laws.specs.Flow.{Flow, IsFlow}
 use Rattle.widen_solver.specs.Stored.{row_at}
-use Rattle.widen_solver.specs.Solving.{HasRows, IsUnderWay}
+use Rattle.widen_solver.specs.Solving.{IsUnderWay}
+use Rattle.widen_solver.specs.RowsHeld.{RowsHeld, row_shown, shown, shown_rows, with_bottom, with_own}
+use Rattle.widen_solver.specs.RowLends.{own_rewritten}
 use Rattle.widen_solver.proofs.RowAt.{each_row}
+use Rattle.widen_solver.proofs.ShownRows.{shown_count, shown_get, own_set, reached_same, rewritten_own}
 
--- what holds of a node's row holds at its place
-at_place : (rows : List (List ℤ)) (k : ℕ) (P : List ℤ → Type 0) → P (row_at rows (k + 1)) → P (get_or rows k [])
-at_place rows k P h = let back : k + 1 - 1 ≡ k = omega arith in subst (λ n. P (get_or rows n [])) back h
+-- the first nodes have no rows of their own
+pub record ClearedTo (start now : RowsHeld) (least : List ℤ) (count index : ℕ) : Type 0 where
+  pub words : now.words ≡ start.words
+  pub transfer : now.transfer ≡ start.transfer
+  pub bottom : now.bottom ≡ least
+  pub count_is : length now.rows ≡ count
+  pub cleared : (k : ℕ) → k < index → get_or now.rows k None ≡ None
 
--- the first rows are the least, and the others have their length
-pub record ClearedTo (l : Lattice) (rows : List (List ℤ)) (index : ℕ) : Type 0 where
-  pub cleared : (k : ℕ) → k < index → get_or rows k [] ≡ l.least
-  pub widths : (k : ℕ) → index ≤ k → k < length rows → length (get_or rows k []) ≡ l.width
-
-pub cleared_none : (l : Lattice) (f : Flow) (rows : List (List ℤ)) → HasRows l f rows → ClearedTo l rows 0
-cleared_none l f rows has = record {
+pub cleared_none : (start now : RowsHeld) (least : List ℤ) (count : ℕ) → now ≡ with_bottom start least → length start.rows ≡ count → ClearedTo start now least count 0
+cleared_none start now least count is size = subst (λ h. ClearedTo start h least count 0) (sym is) (record {
+  words = refl;
+  transfer = refl;
+  bottom = refl;
+  count_is = size;
   cleared = λ k less. absurd (omega arith);
-  widths = λ k above less. at_place rows k (λ row. length row ≡ l.width) (has.widths (k + 1) (record { first = omega arith; last = omega (arith, has.nodes) }));
-}
+})
 
-pub cleared_more : (l : Lattice) (rows : List (List ℤ)) (index : ℕ) (row : List ℤ) → index < length rows → row ≡ l.least → ClearedTo l rows index → ClearedTo l (slice_set rows index row) (index + 1)
-cleared_more l rows index row within least cleared = record {
+pub cleared_more : (start old now : RowsHeld) (least : List ℤ) (count index : ℕ) → index < count → now ≡ with_own old index None → ClearedTo start old least count index → ClearedTo start now least count (index + 1)
+cleared_more start old now least count index within is cleared = subst (λ h. ClearedTo start h least count (index + 1)) (sym is) (record {
+  words = cleared.words;
+  transfer = cleared.transfer;
+  bottom = cleared.bottom;
+  count_is = length-set old.rows index None ∙ cleared.count_is;
   cleared = λ k less. elim (cases_eq k index) [
-    | inl at ↦ subst (λ n. get_or (slice_set rows index row) n [] ≡ l.least) (sym at) (get_or-set_same rows index row [] within ∙ least)
-    | inr off ↦ get_or-set_other rows index k row [] off ∙ cleared.cleared k (omega arith)
+    | inl at ↦ ap (λ n. get_or (slice_set old.rows index None) n None) at ∙ get_or-set_same old.rows index None None (omega (arith, within, cleared.count_is))
+    | inr off ↦ get_or-set_other old.rows index k None None off ∙ cleared.cleared k (omega arith)
   ];
-  widths = λ k above less.
-      let differ : k ≢ index = omega arith in
-      ap length (get_or-set_other rows index k row [] differ) ∙ cleared.widths k (omega arith) (omega (arith, length-set rows index row));
-}
+})
 
 -- the least rows with the entry in its place
-pub starts : (l : Lattice) (f : Flow) → IsLattice l → IsFlow l f → (rows : List (List ℤ)) (row : List ℤ) (index : ℕ) → length rows ≡ f.nodes → f.nodes ≤ index → row ≡ f.entry → ClearedTo l rows index → IsUnderWay l f (slice_set rows 0 row)
-starts l f laws flows rows row index nodes all entry cleared =
-    let has : 1 ≤ length rows = omega (arith, flows.has_node) in
-    let is_entry : row_at (slice_set rows 0 row) 1 ≡ f.entry = get_or-set_same rows 0 row [] (omega arith) ∙ entry in
-    let least : (node : ℕ) → 1 ≤ node → node ≤ f.nodes → row_at rows node ≡ l.least = (λ node first last. cleared.cleared (node - 1) (omega arith)) in
+starts : (l : Lattice) (f : Flow) → IsLattice l → IsFlow l f → (rows : List (List ℤ)) (row : List ℤ) → length rows ≡ f.nodes → row ≡ f.entry → ((k : ℕ) → k < length rows → get_or rows k [] ≡ l.least) → IsUnderWay l f (slice_set rows 0 row)
+starts l f laws flows rows row nodes entry cleared =
+    let has : 1 ≤ length rows = omega (arith, nodes, flows.has_node) in
+    let is_entry : row_at (slice_set rows 0 row) 1 ≡ f.entry = get_or-set_same rows 0 row [] (omega (arith, has)) ∙ entry in
+    let least : (node : ℕ) → 1 ≤ node → node ≤ f.nodes → row_at rows node ≡ l.least = (λ node first last. cleared (node - 1) (omega (arith, first, last, nodes))) in
     record {
       nodes = length-set rows 0 row ∙ nodes;
       elements = λ node is. each_row (λ n r. n ≤ f.nodes → IsElement l r) rows 1 row (omega arith) has
@@ -53,10 +58,23 @@ starts l f laws flows rows row index nodes all entry cleared =
           node is.first is.last;
     }
 
--- all rows of a store keep their length
-pub keeps_widths : (l : Lattice) (f : Flow) (rows before : List (List ℤ)) (count width : ℕ) → IsUnderWay l f rows → length rows ≡ count → width ≡ l.width → (k : ℕ) → k < length (take count (rows ++ before)) → length (get_or (take count (rows ++ before)) k []) ≡ width
-keeps_widths l f rows before count width under_way counted is k less =
-    let same : take count (rows ++ before) ≡ rows = take_at rows before count counted in
-    let within : k < length rows = omega (arith, ap length same) in
-    let element = under_way.elements (k + 1) (record { first = omega arith; last = omega (arith, under_way.nodes) }) in
-    ap (λ list. length (get_or list k [])) same ∙ at_place rows k (λ row. length row ≡ l.width) element.width ∙ sym is
+pub record Started (l : Lattice) (f : Flow) (start now : RowsHeld) : Type 0 where
+  pub under_way : IsUnderWay l f (shown_rows now)
+  pub words : now.words ≡ start.words
+  pub transfer : now.transfer ≡ start.transfer
+
+pub started : (l : Lattice) (f : Flow) → IsLattice l → IsFlow l f → (start old reached : RowsHeld) (index : ℕ) (out : List ℤ) → ClearedTo start old l.least f.nodes index → f.nodes ≤ index → reached ≡ with_own old 0 (Some (row_shown old 0)) → out ≡ f.entry → start.words ≡ l.width → Started l f start (with_own reached 0 (Some (own_rewritten reached 0 out)))
+started l f laws flows start old reached index out cleared all is entry wide =
+    let has : 0 < length old.rows = omega (arith, cleared.count_is, flows.has_node) in
+    let words : reached.words ≡ start.words = ap (λ (h : RowsHeld). h.words) is ∙ cleared.words in
+    let row_is : own_rewritten reached 0 out ≡ out = rewritten_own reached 0 out (ap length entry ∙ flows.entry_element.width ∙ sym (words ∙ wide)) in
+    let rows_are : shown_rows (with_own reached 0 (Some (own_rewritten reached 0 out))) ≡ slice_set (shown_rows old) 0 (own_rewritten reached 0 out) =
+    own_set reached 0 (own_rewritten reached 0 out) ∙ ap (λ rows. slice_set rows 0 (own_rewritten reached 0 out)) (ap shown_rows is ∙ reached_same old 0 has) in
+    record {
+      under_way = subst (λ rows. IsUnderWay l f rows) (sym rows_are)
+          (starts l f laws flows (shown_rows old) (own_rewritten reached 0 out) (shown_count old ∙ cleared.count_is) (row_is ∙ entry)
+          (λ k less. let within : k < length old.rows = omega (arith, less, shown_count old) in
+          shown_get old k within ∙ ap (shown old.bottom) (cleared.cleared k (omega (arith, within, all, cleared.count_is))) ∙ cleared.bottom));
+      words = words;
+      transfer = ap (λ (h : RowsHeld). h.transfer) is ∙ cleared.transfer;
+    }

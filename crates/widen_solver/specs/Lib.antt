@@ -1,4 +1,8 @@
 pub mod Stored
 pub mod Solving
+pub mod RowsHeld
+pub mod Slots
+pub mod NodeRows
+pub mod RowLends
 pub mod Levels
 pub mod LevelsLaws

@@ -8,11 +8,6 @@ use Rattle.widen_solver.specs.Stored.{row_at}
 abbrev pub step_bound : Lattice → Flow → ℕ
 step_bound l f = f.edges * (head_count f * l.height + 2)
 
--- there is a row of the right length for each node
-pub record HasRows (l : Lattice) (f : Flow) (rows : List (List ℤ)) : Type 0 where
-  pub nodes : length rows ≡ f.nodes
-  pub widths : (node : ℕ) → IsNode f node → length (row_at rows node) ≡ l.width
-
 -- rows that hold the entry, and no more than they must
 pub record IsUnderWay (l : Lattice) (f : Flow) (rows : List (List ℤ)) : Type 0 where
   pub nodes : length rows ≡ f.nodes

@@ -2,7 +2,7 @@
 //! that the edges keep, widening at the heads (Cousot and Cousot 1977).
 #![tactic(auto)]
 
-mod row;
+mod node_rows;
 mod store;
 mod sweeps;
 

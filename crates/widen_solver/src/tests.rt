@@ -44,7 +44,7 @@ fn solved<S: System, L: Ledger>(
         (λ store. IsInductive (S.lattice system.now) (S.flow system.now) (row_at store.rows)) }
 {
     let mut store = Store::new(alloc, system.nodes(), system.words())?;
-    solve(system, &mut store, steps)?;
+    solve(system, &mut store, steps);
     Ok(store)
 }
 
