@@ -1,27 +1,27 @@
 -- What is cleared before a part isn't met there.
-use Rattle.std.proofs.Common.{◌≡◌, ◌<◌, ◌≤◌, ℕ, zero, suc, ◌==◌, Bool, true, false, ◌&&◌, ◌||◌, not, if◌then◌else◌, ◌⊎◌, inl, inr, List, [], ◌∷◌, ◌++◌, Option, Some, None, is_some, ℤ, pos, ◌≤ℤ◌, ◌-ℤ◌, refl, sym, ap, subst, ◌∙◌, arith}
-use Rattle.std.specs.Prelude.{IsSomeAnd, int_le, ◌^◌, unsigned_abs, ◌↔◌}
-use Rattle.std.specs.List.{list_all, Contains}
-use Rattle.std.specs.Option.{option_map, option_map_or}
+use Rattle.std.proofs.Common.{◌≡◌, ◌≤◌, ℕ, ◌==◌, Bool, true, false, not, if◌then◌else◌, ◌⊎◌, inl, inr, List, [], ◌∷◌, ◌++◌, Option, Some, None, is_some, ℤ, pos, ◌≤ℤ◌, ◌-ℤ◌, refl, sym, ap, subst, ◌∙◌, arith}
+use Rattle.std.specs.Prelude.{IsSomeAnd, int_le, ◌^◌, unsigned_abs}
+use Rattle.std.specs.List.{list_all}
+use Rattle.std.specs.Option.{option_map_or}
 use Rattle.std.proofs.lemmas.Int.{ints}
+use Rattle.std.proofs.lemmas.Bool.{eqb-true}
 use Rattle.dec_num.specs.declared.types.Mode.{Mode}
 use Rattle.dec_num.specs.declared.types.Scaled.{Scaled}
 use Rattle.dec_num.specs.Exact.{Fraction}
 use Rattle.cob_tree.specs.declared.fault.Kind.{Kind}
-use Rattle.cob_tree.specs.declared.fault.Kind.TheVariants as kind
 use Rattle.cob_data.specs.declared.layout.Sender.{Sender}
 use Rattle.decimal_interval.specs.declared.bounds.Interval.{Interval}
 use Rattle.decimal_interval.specs.Bounds.{Holds}
-use Rattle.cob_program.specs.Sum.{Sum, Atom}
-use Rattle.cob_program.specs.Values.{atom_value, root_of, ◌>>=◌}
+use Rattle.cob_program.specs.Sum.{Atom}
+use Rattle.cob_program.specs.Values.{atom_value, ◌>>=◌}
 use Rattle.cob_program.specs.Act.{Act, move, arith as arithmetic, if_, evaluate, perform, go as go_to, nothing, stop, open_files, close_files, read as reading, write, show, Program}
 use Rattle.cob_runs.specs.declared.action.Action.{Action}
 use Rattle.cob_runs.specs.declared.action.Action.TheVariants as action
 use Rattle.cob_runs.specs.Contents.{form_at, number_at, stored as stored_units}
 use Rattle.cob_runs.specs.Computing.{worth}
-use Rattle.cob_edge_parts.specs.Parts.{Amount, moved, computed, remaining, augmented, Part, read, unread, divide, store, bytes_in, guard, read_count, set_count, count_down, guard_count, item_reads, divides, parts_of, has_phrase}
+use Rattle.cob_edge_parts.specs.Parts.{Amount, moved, computed, remaining, augmented, Part, read, unread, divide, store, bytes_in, guard, read_count, set_count, count_down, guard_count, divides, parts_of, has_phrase}
 use Rattle.cob_edge_parts.specs.Meaning as run
-use Rattle.cob_edge_parts.specs.Meaning.{Moment, divides_by, misfit_of, stored_bytes, amount, count_in, Faults}
+use Rattle.cob_edge_parts.specs.Meaning.{Moment, divides_by, misfit_of, stored_bytes, amount, Faults}
 use Rattle.cob_edge_parts.specs.Edges.{fault_edge}
 use Rattle.sum_ranges.specs.declared.ranged.Ranged.{Ranged}
 use Rattle.sum_ranges.specs.Ranged.{IsIn}
@@ -30,22 +30,22 @@ use Rattle.sum_ranges.specs.Vanishing.{holds_zero}
 use Rattle.sum_ranges.proofs.Sound.{atom_in}
 use Rattle.result_ranges.specs.declared.amounts.Taken.{Taken}
 use Rattle.result_ranges.specs.declared.amounts.AmountRange.{AmountRange}
-use Rattle.result_ranges.specs.Receivers.{receiver_of, counter}
+use Rattle.result_ranges.specs.Receivers.{receiver_of}
 use Rattle.result_ranges.specs.Amounts.{IsAmount}
 use Rattle.result_ranges.specs.ResultRanges.{may_fail, lowered, count_may_fail}
-use Rattle.graph_runs.specs.Counters.{IsCount, IsTooGreat, Misfits, FaultsAtPart, PassesParts}
-use Rattle.edge_places.specs.Places.{IsDivided, Counts, IsStored, IsInPlace}
-use Rattle.cell_storages.specs.Homes.{of_item, of_count, homes_of, picture_range}
+use Rattle.graph_runs.specs.Counters.{IsCount, IsTooGreat, PassesParts}
+use Rattle.edge_places.specs.Places.{IsDivided, Counts, IsStored, is_worked}
+use Rattle.cell_storages.specs.Homes.{of_count, homes_of, picture_range}
 use Rattle.cell_storages.specs.Storages.{storage}
 use Rattle.cell_steps.specs.Cells.{known_or, units_of, is_numeric}
 use Rattle.cell_steps.specs.Operands.{amount_of}
 use Rattle.cell_steps.specs.Seen.{Seen}
-use Rattle.cell_steps.specs.Stores.{range_at, handled, with_taken, amount_at}
+use Rattle.cell_steps.specs.Stores.{range_at, handled, with_taken}
 use Rattle.cell_steps.specs.Clearing.{is_misfit, has_quotient, all_fit_of, all_fit, all_count, clears_part}
-use Rattle.cell_steps.specs.Agreeing.{IsSoundEdge, Agrees, FaultsOn}
+use Rattle.cell_steps.specs.Agreeing.{Agrees, FaultsOn}
 use Rattle.cell_rises.proofs.Operands.{or_either}
 use Rattle.cell_keeps.proofs.Given.{Given}
-use Rattle.cell_keeps.proofs.Holding.{if_home, numeric_there, count_holds}
+use Rattle.cell_standing.proofs.Holding.{if_home, numeric_there, count_holds}
 use Rattle.cell_keeps.proofs.Done.{both_true, and_true, read_first, divisors_count}
 use Rattle.cell_keeps.proofs.Quiet.{times_small}
 use Rattle.cell_keeps.proofs.Storing.{is_there, TakenAt, taken_at, HasRoot, amount_there, counts_amount, amount_meant}
@@ -65,8 +65,8 @@ exceeded_of z h = omega (arith, h)
 
 module _ (given : Given) (p : Program) (statement : ℕ) (a : Act) (x : Action) where
   -- Where the statement has the phrase, no fault is met on an edge without size errors.
-  phrase_off : (done rest : List Part) (y : Part) → done ++ y ∷ rest ≡ parts_of p statement a x → handled p a x ≡ false → fault_edge a x ≡ x → has_phrase a ≡ true → ⊥
-  phrase_off done rest y e off its has = by_act a e off its has
+  phrase_off : (done rest : List Part) (y : Part) → is_worked y ≡ true → done ++ y ∷ rest ≡ parts_of p statement a x → handled p a x ≡ false → fault_edge a x ≡ x → has_phrase a ≡ true → ⊥
+  phrase_off done rest y worked e off its has = by_act a e off its has
     where
       by_edge : (s : _) (ts : _) (r : _) (size : _) (fine : _) (x : Action) → (x ≡ action.Done) ⊎ (x ≡ action.Size) → handled p (arithmetic s ts r size fine) x ≡ false → fault_edge (arithmetic s ts r size fine) x ≡ x
           → has_phrase (arithmetic s ts r size fine) ≡ true → ⊥
@@ -79,7 +79,7 @@ module _ (given : Given) (p : Program) (statement : ℕ) (a : Act) (x : Action) 
           cc
 
       by_act : (a : Act) → done ++ y ∷ rest ≡ parts_of p statement a x → handled p a x ≡ false → fault_edge a x ≡ x → has_phrase a ≡ true → ⊥
-      by_act (arithmetic s ts r size fine) e off its has = by_edge s ts r size fine x (given.edges_ p statement s ts r size fine x done rest y e) off its has
+      by_act (arithmetic s ts r size fine) e off its has = by_edge s ts r size fine x (given.edges_ p statement s ts r size fine x done rest y e worked) off its has
       by_act (move z places) e off its has = cc
       by_act (if_ v held other) e off its has = cc
       by_act (evaluate ws other) e off its has = cc
@@ -104,7 +104,7 @@ module _ (given : Given) (p : Program) (statement : ℕ) (a : Act) (x : Action) 
   -- ---- divisors
 
   divide_cleared : (done : List Part) (d : Atom) (s : Seen) (m : Moment) → IsDivided done d → Agrees p statement a x done s m → m.by_zero ≡ false → not (holds_zero (atom_range (range_at p s.cells) d)) ≡ true → divides_by (worth p.layout m.first) d ≡ false → ⊥
-  divide_cleared done d s m q g zero clear e = by_value (is_there (atom_value (worth p.layout m.first) d) (q.some (worth p.layout m.first) all_count_))
+  divide_cleared done d s m q g unzero clear e = by_value (is_there (atom_value (worth p.layout m.first) d) (q.some (worth p.layout m.first) all_count_))
     where
       all_count_ : list_all (divides_by (worth p.layout m.first)) q.atoms ≡ true
       all_count_ =
@@ -118,7 +118,7 @@ module _ (given : Given) (p : Program) (statement : ℕ) (a : Act) (x : Action) 
           unit_tail (y ∷ ys) = ap (λ (zs : List Part). y ∷ zs) (unit_tail ys)
 
           count_all : (k : Moment) → PassesParts p.layout (handled p a x) (divides q.atoms) k m → list_all (divides_by (worth p.layout k.first)) q.atoms ≡ true
-          count_all k h = divisors_count p.layout (handled p a x) q.atoms [] k m (subst (λ (xs : List Part). PassesParts p.layout (handled p a x) xs k m) (sym (unit_tail (divides q.atoms))) h) zero
+          count_all k h = divisors_count p.layout (handled p a x) q.atoms [] k m (subst (λ (xs : List Part). PassesParts p.layout (handled p a x) xs k m) (sym (unit_tail (divides q.atoms))) h) unzero
 
       zero_units : (v : Scaled) → option_map_or (λ w. not (unsigned_abs w.units == 0)) (Some v) false ≡ false → v.units ≡ pos 0
       zero_units v f = go (unsigned_abs v.units == 0) refl f
@@ -127,7 +127,7 @@ module _ (given : Given) (p : Program) (statement : ℕ) (a : Act) (x : Action) 
           go true h k = let n : unsigned_abs v.units ≡ 0 = is_zero (unsigned_abs v.units) h in omega (arith, ints, n)
             where
               is_zero : (n : ℕ) → (n == 0) ≡ true → n ≡ 0
-              is_zero n h = omega (arith, h)
+              is_zero n h = eqb-true n 0 h
           go false h k = absurd cc
 
       zero_in : (o : Option Ranged) (v : Scaled) → v.units ≡ pos 0 → IsSomeAnd o (IsIn v) → holds_zero o ≡ true
@@ -153,19 +153,19 @@ module _ (given : Given) (p : Program) (statement : ℕ) (a : Act) (x : Action) 
   root_of_amount (augmented y) e = tt
 
   store_cleared : (done : List Part) (place : ℕ) (mode : Mode) (y : Amount) (t : Seen) (m : Moment) → TakenAt p statement a x done t m → IsStored a x done place y → m.by_zero ≡ false → all_fit p a x t place mode y ≡ true → stored_bytes p.layout m place mode y ≡ None → ⊥
-  store_cleared done place mode y t m g q zero clear e =
+  store_cleared done place mode y t m g q unzero clear e =
       let two = both_true (has_quotient y) (option_map_or (all_fit_of p a x t place mode y) t.common true) clear in
-      let v = is_there (amount p.layout m y) (amount_there p statement a x done place y t m g q zero (root_of_amount y two.0)) in
-      go t.common (amount_meant p statement a x done place y t m g q zero v.0 v.1) two.1
+      let v = is_there (amount p.layout m y) (amount_there p statement a x done place y t m g q unzero (root_of_amount y two.0)) in
+      go v.0 t.common (amount_meant p statement a x done place y t m g q unzero v.0 v.1) two.1
       (subst (λ (o : Option Fraction). (o >>= stored_units mode (form_at p.layout place)) ≡ None) v.1 e)
     where
       amounts : (v : Fraction) (o : Option AmountRange) → IsSomeAnd o (λ r. IsAmount r v) → option_map_or (λ r. not (may_fail mode (receiver_of (form_at p.layout place)) r)) o true ≡ true → stored_units mode (form_at p.layout place) v ≡ None → ⊥
       amounts v None h k f = h
       amounts v (Some r) h k f = not_both (may_fail mode (receiver_of (form_at p.layout place)) r) (given.fails_ mode (form_at p.layout place) r v h f) k
 
-      go : {v : Fraction} → (o : Option Taken) → IsSomeAnd (o >>= amount_of y (range_at p t.cells place)) (λ r. IsAmount r v) → option_map_or (all_fit_of p a x t place mode y) o true ≡ true → stored_units mode (form_at p.layout place) v ≡ None → ⊥
-      go None h k f = h
-      go {v} (Some c) h k f = amounts v (amount_of y (range_at p t.cells place) c) h k f
+      go : (v : Fraction) (o : Option Taken) → IsSomeAnd (o >>= amount_of y (range_at p t.cells place)) (λ r. IsAmount r v) → option_map_or (all_fit_of p a x t place mode y) o true ≡ true → stored_units mode (form_at p.layout place) v ≡ None → ⊥
+      go v None h k f = h
+      go v (Some c) h k f = amounts v (amount_of y (range_at p t.cells place) c) h k f
 
   misfit_is : (y : Amount) → is_misfit y (misfit_of y) ≡ true
   misfit_is (computed s h) = refl
@@ -190,8 +190,8 @@ module _ (given : Given) (p : Program) (statement : ℕ) (a : Act) (x : Action) 
   down_cleared done k s m split g great clear =
       if_home (λ c. not (count_may_fail (lowered (known_or (picture_range 18 true) c))) ≡ true → ⊥) (λ e. cc) (homes_of p) s.cells (of_count k)
       (λ there e.
-        let number = counted_down given p statement a x done k s m split g in
-        let now = count_holds p g.sound.items s.cells (storage m.storage m.counts) g.stands k m.own.units number (times_small p statement a x s m k m.own.units g.stands (g.sound.counts k there) number) in
+        let read_ = counted_down given p statement a x done k s m split g in
+        let now = count_holds p g.sound.items s.cells (storage m.storage m.counts) g.stands k m.own.units read_ (times_small p statement a x s m k m.own.units g.stands (g.sound.counts k there) read_) in
         exceeds_told (lowered (units_of p.layout (homes_of p) s.cells (of_count k))) (m.own.units -ℤ pos 1) (lower_holds given p statement a x (units_of p.layout (homes_of p) s.cells (of_count k)) m.own.units now) great e) clear
 
   -- ---- all parts
@@ -201,7 +201,7 @@ module _ (given : Given) (p : Program) (statement : ℕ) (a : Act) (x : Action) 
   divide_part done rest d s m fault e g clear its true on f = f
   divide_part done rest d s m fault e g clear its false off (f, is) =
       elim (or_either (has_phrase a) (not (holds_zero (atom_range (range_at p s.cells) d))) (subst (λ (k : Kind). clears_part p a x (divide d) s k ≡ true) is clear)) [
-        | inl has ↦ phrase_off done rest (divide d) e off its has
+        | inl has ↦ phrase_off done rest (divide d) refl e off its has
         | inr none ↦ divide_cleared done d s m (given.places_ p statement a x done rest (divide d) e) g (off_zero given p statement a x done s m g off) none f
       ]
 
@@ -210,7 +210,7 @@ module _ (given : Given) (p : Program) (statement : ℕ) (a : Act) (x : Action) 
   store_part done rest place mode y s m fault e g clear its true on f = f
   store_part done rest place mode y s m fault e g clear its false off (f, is) =
       elim (or_either (has_phrase a) _ (subst (λ (k : Kind). clears_part p a x (store place mode y) s k ≡ true) is clear)) [
-        | inl has ↦ phrase_off done rest (store place mode y) e off its has
+        | inl has ↦ phrase_off done rest (store place mode y) refl e off its has
         | inr some_ ↦ elim (or_either (not (is_misfit y (misfit_of y))) (all_fit p a x (with_taken p a x s) place mode y) some_) [
           | inl other ↦ not_both (is_misfit y (misfit_of y)) (misfit_is y) other
           | inr fits ↦ store_cleared done place mode y (with_taken p a x s) m (taken_at p statement a x given done (store place mode y) s m refl (given.places_ p statement a x done rest (store place mode y) e) g)
@@ -219,7 +219,7 @@ module _ (given : Given) (p : Program) (statement : ℕ) (a : Act) (x : Action) 
       ]
 
   pub cleared : (done rest : List Part) (y : Part) (s : Seen) (m : Moment) (fault : Kind) → done ++ y ∷ rest ≡ parts_of p statement a x → Agrees p statement a x done s m → clears_part p a x y s fault ≡ true → ¬ FaultsOn p statement a x y m fault
-  cleared done rest (read place) s m fault e g clear (its, inl (zero, none, is)) = read_cleared done place s m g (subst (λ (k : Kind). clears_part p a x (read place) s k ≡ true) is clear) none
+  cleared done rest (read place) s m fault e g clear (its, inl (unzero, none, is)) = read_cleared done place s m g (subst (λ (k : Kind). clears_part p a x (read place) s k ≡ true) is clear) none
   cleared done rest (read place) s m fault e g clear (its, inr (is, f)) = f
   cleared done rest unread s m fault e g clear (its, inl is) = let f = subst (λ (k : Kind). clears_part p a x unread s k ≡ true) is clear in cc
   cleared done rest unread s m fault e g clear (its, inr (is, f)) = f
@@ -236,7 +236,7 @@ module _ (given : Given) (p : Program) (statement : ℕ) (a : Act) (x : Action) 
   cleared done rest (set_count k y) s m fault e g clear (its, inl f) = f
   cleared done rest (set_count k y) s m fault e g clear (its, inr (is, f)) =
       let q = given.places_ p statement a x done rest (set_count k y) e in
-      set_cleared done k y (with_taken p a x s) m (taken_at p statement a x given done (set_count k y) s m refl q g) q.1.0 f (subst (λ (w : Kind). clears_part p a x (set_count k y) s w ≡ true) is clear)
+      set_cleared done k y (with_taken p a x s) m (taken_at p statement a x given done (set_count k y) s m refl q g) q.1 f (subst (λ (w : Kind). clears_part p a x (set_count k y) s w ≡ true) is clear)
   cleared done rest (count_down k) s m fault e g clear (its, inl f) = f
   cleared done rest (count_down k) s m fault e g clear (its, inr (is, f)) =
       let q = given.places_ p statement a x done rest (count_down k) e in

@@ -1,8 +1,6 @@
 -- What the parts that are done have shown.
-use Rattle.std.proofs.Common.{◌≡◌, ◌<◌, ◌≤◌, ℕ, zero, suc, Bool, true, false, ◌&&◌, ◌||◌, not, if◌then◌else◌, ◌⊎◌, inl, inr, List, [], ◌∷◌, ◌++◌, length, Option, Some, None, is_some, ℤ, pos, refl, sym, ap, subst, ◌∙◌, arith}
-use Rattle.std.specs.Prelude.{slice_index_or}
+use Rattle.std.proofs.Common.{◌≡◌, ℕ, zero, suc, Bool, true, false, ◌&&◌, ◌||◌, if◌then◌else◌, ◌⊎◌, inl, inr, List, [], ◌∷◌, ◌++◌, Option, Some, None, is_some, refl, sym, ap, subst, ◌∙◌, arith}
 use Rattle.std.specs.List.{list_all, list_any, Contains}
-use Rattle.std.proofs.lemmas.List.{append_assoc}
 use Rattle.dec_num.specs.declared.types.Mode.{Mode}
 use Rattle.dec_num.specs.declared.types.Scaled.{Scaled}
 use Rattle.cob_data.specs.declared.layout.Layout.{Layout}
@@ -11,7 +9,6 @@ use Rattle.cob_runs.specs.Contents.{number_at}
 use Rattle.cob_runs.specs.Computing.{are_numeric, worth}
 use Rattle.cob_edge_parts.specs.Parts.{Amount, Part, read, unread, divide, store, bytes_in, guard, read_count, set_count, count_down, guard_count, item_reads, divides}
 use Rattle.cob_edge_parts.specs.Meaning.{Moment, with_own, divided_by_zero, divides_by, is_left_alone, stored_bytes, stored_or_kept, ReadsAt, Divides, Stores, Passes}
-use Rattle.cob_edge_parts.proofs.Chains.{passes_first}
 use Rattle.graph_runs.specs.Counters.{PassesPart, PassesParts}
 use Rattle.cell_steps.specs.Agreeing.{writes, is_store}
 
@@ -60,7 +57,7 @@ module _ (l : Layout) (handled : Bool) where
 
   -- ---- divisors that were 0
 
-  read_zero : (b : Bool) (place : ℕ) (m n : Moment) → ReadsAt l b place m n → n.by_zero ≡ m.by_zero
+  pub read_zero : (b : Bool) (place : ℕ) (m n : Moment) → ReadsAt l b place m n → n.by_zero ≡ m.by_zero
   read_zero true place m n e = ap (λ (k : Moment). k.by_zero) e
   read_zero false place m n (v, f, e) = ap (λ (k : Moment). k.by_zero) e
 
@@ -68,7 +65,7 @@ module _ (l : Layout) (handled : Bool) where
   kept_zero m place None = refl
   kept_zero m place (Some bytes) = refl
 
-  store_zero : (h : Bool) (place : ℕ) (mode : Mode) (y : Amount) (m n : Moment) → Stores l h place mode y m n → n.by_zero ≡ m.by_zero
+  pub store_zero : (h : Bool) (place : ℕ) (mode : Mode) (y : Amount) (m n : Moment) → Stores l h place mode y m n → n.by_zero ≡ m.by_zero
   store_zero true place mode y m n e = ap (λ (k : Moment). k.by_zero) e ∙ go (is_left_alone m y)
     where
       go : (b : Bool) → (if b then m else stored_or_kept l m place (stored_bytes l m place mode y)).by_zero ≡ m.by_zero

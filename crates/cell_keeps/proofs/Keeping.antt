@@ -1,27 +1,28 @@
 -- What is seen behind a part is true where what is seen before it is.
-use Rattle.std.proofs.Common.{◌≡◌, ◌<◌, ◌≤◌, ℕ, zero, suc, ◌+◌, ◌==◌, Bool, true, false, ◌&&◌, ◌||◌, not, if◌then◌else◌, ◌⊎◌, inl, inr, List, [], ◌∷◌, ◌++◌, length, Option, Some, None, is_some, ℤ, pos, ◌≤ℤ◌, ◌-ℤ◌, refl, sym, ap, subst, ◌∙◌, arith}
+use Rattle.std.proofs.Common.{◌≡◌, ◌<◌, ◌≤◌, ℕ, zero, ◌+◌, ◌==◌, Bool, true, false, ◌&&◌, ◌||◌, not, if◌then◌else◌, inl, inr, List, [], ◌∷◌, ◌++◌, length, Option, Some, None, is_some, ℤ, pos, ◌≤ℤ◌, ◌-ℤ◌, refl, sym, ap, subst, ◌∙◌, arith}
 use Rattle.std.specs.Prelude.{IfSome, IsSomeAnd, int_le, nat_lt, ◌^◌, unsigned_abs, unwrap_or, slice_set, ◌-◌}
-use Rattle.std.specs.List.{list_all, list_any, Contains}
+use Rattle.std.specs.List.{list_any, Contains}
 use Rattle.std.specs.Option.{option_map, option_map_or}
 use Rattle.std.proofs.lemmas.Int.{ints}
+use Rattle.std.proofs.lemmas.Bool.{eqb-true, eq-eqb}
+use Rattle.std.proofs.lemmas.Bool.Decides.{nat_tests}
 use Rattle.dec_num.specs.declared.types.Mode.{Mode}
 use Rattle.dec_num.specs.declared.types.Scaled.{Scaled}
 use Rattle.dec_num.specs.Exact.{Fraction}
 use Rattle.dec_num.specs.Scaled.{value_of}
-use Rattle.cob_tree.specs.declared.form.Form.{Form}
 use Rattle.cob_data.specs.declared.layout.Sender.{Sender}
 use Rattle.decimal_interval.specs.declared.bounds.Interval.{Interval}
 use Rattle.decimal_interval.specs.Bounds.{Holds}
 use Rattle.cob_program.specs.Sum.{Sum, Atom, item, number, group}
-use Rattle.cob_program.specs.Values.{whole_number, sum_value, atom_value, Root, root_of, ◌>>=◌}
+use Rattle.cob_program.specs.Values.{whole_number, atom_value, Root, root_of, ◌>>=◌}
 use Rattle.cob_program.specs.Act.{Act, Program}
 use Rattle.cob_runs.specs.declared.action.Action.{Action}
-use Rattle.cob_runs.specs.Contents.{form_at, bytes_of, scale_of, number_at, filled_at, stored as stored_units}
+use Rattle.cob_runs.specs.Contents.{form_at, bytes_of, number_at, filled_at, stored as stored_units}
 use Rattle.cob_runs.specs.Moves.{takes_number, number_of}
 use Rattle.cob_runs.specs.Computing.{items_in_atom, are_numeric, worth}
-use Rattle.cob_edge_parts.specs.Parts.{Amount, moved, computed, remaining, augmented, Part, read, unread, divide, store, bytes_in, guard, read_count, set_count, count_down, guard_count, item_reads, divides, parts_of, is_times}
+use Rattle.cob_edge_parts.specs.Parts.{Amount, moved, computed, remaining, augmented, Part, read, unread, divide, store, bytes_in, guard, read_count, set_count, count_down, guard_count, divides, parts_of, is_times}
 use Rattle.cob_edge_parts.specs.Meaning as run
-use Rattle.cob_edge_parts.specs.Meaning.{Moment, with_storage, with_own, with_count, with_failure, divided_by_zero, count_in, divides_by, changed_in, is_left_alone, stored_bytes, stored_or_kept, amount, Divides, Stores}
+use Rattle.cob_edge_parts.specs.Meaning.{Moment, with_storage, with_count, with_failure, divided_by_zero, count_in, divides_by, changed_in, is_left_alone, stored_bytes, stored_or_kept, amount, Divides, Stores}
 use Rattle.cob_edge_parts.specs.Ranges.{ChangesWithin}
 use Rattle.dom_laws.specs.Walking.{IsSeen}
 use Rattle.sum_ranges.specs.declared.ranged.Ranged.{Ranged}
@@ -39,29 +40,29 @@ use Rattle.result_ranges.specs.Stores.{operands}
 use Rattle.result_ranges.specs.Results.{IsLeastIfAny, IsKept}
 use Rattle.result_ranges.specs.ResultRanges as result
 use Rattle.result_ranges.specs.ResultRanges.{fitted, result_range, count_range, lowered}
-use Rattle.graph_runs.specs.Counters.{IsCount, HoldsCount, IsCounted, IsTooGreat, Misfits, PassesPart, PassesParts}
-use Rattle.edge_places.specs.Places.{IsDivided, Counts, IsStored, IsInPlace}
+use Rattle.graph_runs.specs.Counters.{IsCount, PassesPart, PassesParts}
+use Rattle.edge_places.specs.Places.{IsDivided, Counts, IsStored}
 use Rattle.cell_rows.specs.Known.{Known, KnownFits}
 use Rattle.cell_rows.specs.Elements.{joined}
-use Rattle.cell_storages.specs.Homes.{Home, of_item, of_count, homes_of, home_range, picture_range, form_range}
+use Rattle.cell_storages.specs.Homes.{Home, of_item, of_count, homes_of, picture_range, form_range}
 use Rattle.cell_storages.specs.Storages.{storage, known_of, value_at, KnownStands, StandsIn}
-use Rattle.cell_steps.specs.Cells.{known_or, units_of, with_known, forgotten, is_in_bytes, is_beside}
-use Rattle.cell_steps.specs.Operands.{edge_amount, edge_operands, amount_of, is_remainder}
+use Rattle.cell_steps.specs.Cells.{known_or, units_of, forgotten, is_in_bytes, is_beside}
+use Rattle.cell_steps.specs.Operands.{edge_amount, amount_of, is_remainder}
 use Rattle.cell_steps.specs.Seen.{Seen, with_cells, with_zero}
 use Rattle.cell_steps.specs.Stores.{stored_cells, stored_element, behind_store, may_vanish, range_at, handled, with_taken, amount_at, result_at, may_exceed, may_fail, stored}
 use Rattle.cell_steps.specs.Steps.{is_zero_alone, can_divide, known_as, with_cells_if, after_bytes, after_count, after_down, after_divide, step}
-use Rattle.cell_steps.specs.Agreeing.{IsTimesAt, IsSoundEdge, OperandsHold, of_operands, writes, is_store, Agrees, walking}
+use Rattle.cell_steps.specs.Agreeing.{IsTimesAt, IsSoundEdge, of_operands, writes, is_store, Agrees, walking}
 use Rattle.cell_rises.proofs.Lists.{with_known_length, forgotten_length, joined_left, joined_right}
 use Rattle.cell_rises.proofs.Operands.{or_left, or_right}
 use Rattle.cell_rises.proofs.Fitting.{result_fits}
 use Rattle.cell_keeps.proofs.Given.{Given}
-use Rattle.cell_keeps.proofs.Standing.{known_left, all_stand_above}
-use Rattle.cell_keeps.proofs.Frames.{value_stays, range_changes}
-use Rattle.cell_keeps.proofs.Counters.{count_set, count_elsewhere, differs, counted_set}
-use Rattle.cell_keeps.proofs.Holding.{if_home, home_set, number_holds, range_is_ordered, count_holds}
-use Rattle.cell_keeps.proofs.Done.{and_true, any_last, none_written, read_first, divisors_count, read_zero, store_zero, all_contained, contained_all}
-use Rattle.cell_keeps.proofs.Quiet.{SameMoment, same_moment, SeenOn, AllKnown, quiet, quiet_at, read_keeps, guard_keeps, read_count_keeps, guard_count_keeps, times_small}
-use Rattle.cell_keeps.proofs.Storing.{then_holds, then_is, is_there, TakenAt, taken_at, written_agrees, HasRoot, amount_there, its_amount, counts_amount, amount_meant, stored_stands}
+use Rattle.cell_standing.proofs.Standing.{known_left, all_stand_above}
+use Rattle.cell_standing.proofs.Frames.{value_stays, range_changes}
+use Rattle.cell_standing.proofs.Counters.{count_set, count_elsewhere, differs, counted_set}
+use Rattle.cell_standing.proofs.Holding.{if_home, home_set, number_holds, range_is_ordered, count_holds}
+use Rattle.cell_keeps.proofs.Done.{and_true, any_last, none_written, read_first, read_zero, store_zero, all_contained, contained_all}
+use Rattle.cell_keeps.proofs.Quiet.{same_moment, SeenOn, quiet, quiet_at, read_keeps, guard_keeps, read_count_keeps, guard_count_keeps, times_small}
+use Rattle.cell_keeps.proofs.Storing.{then_holds, then_is, TakenAt, taken_at, written_agrees, HasRoot, amount_there, its_amount, counts_amount, amount_meant, stored_stands}
 
 -- ---- numbers
 
@@ -72,11 +73,11 @@ count_of z h = go (nat_lt (unsigned_abs z) (10 ^ 18)) refl
     go true e = lt_is (unsigned_abs z) (10 ^ 18) e
       where
         lt_is : (n k : ℕ) → nat_lt n k ≡ true → n < k
-        lt_is n k f = omega (arith, f)
+        lt_is n k f = grind (arith, nat_tests)
     go false e = absurd (h (λ k. not_lt (unsigned_abs z) (10 ^ 18) e k))
       where
         not_lt : (n k : ℕ) → nat_lt n k ≡ false → n < k → ⊥
-        not_lt n k f g = omega (arith, f, g)
+        not_lt n k f g = grind (arith, nat_tests)
 
 some_of_least : (R : ℤ → Type 0) (o : Option Interval) (z : ℤ) → IsLeastIfAny R o → R z → IsSomeAnd o (λ i. Holds i z)
 some_of_least R None z h r = h z r
@@ -108,7 +109,7 @@ module _ (given : Given) (p : Program) (statement : ℕ) (a : Act) (x : Action) 
         contained_all p.layout m.first (items_in_atom d) (λ place c. all_contained p.layout m.first q.places place r.numeric (q.items place c))
 
     -- a number of the range for each item: its own, where it has one
-    other : ℕ → Scaled
+    abbrev pub other : ℕ → Scaled
     other place = decimal (range_at p s.cells place).units.low (range_at p s.cells place).scale
 
     abbrev pub amount_or_other : ℕ → Scaled
@@ -142,7 +143,7 @@ module _ (given : Given) (p : Program) (statement : ℕ) (a : Act) (x : Action) 
         zero_is n f = nat_zero (n == 0) refl f
           where
             nat_zero : (b : Bool) → (n == 0) ≡ b → not b ≡ false → n ≡ 0
-            nat_zero true h k = omega (arith, h)
+            nat_zero true h k = eqb-true n 0 h
             nat_zero false h k = absurd cc
 
         go : (o : Option Scaled) → atom_value (worth p.layout m.first) d ≡ o → option_map_or (λ v. not (unsigned_abs v.units == 0)) o false ≡ false → may_be_zero (range_at p s.cells) d ≡ true
@@ -166,7 +167,7 @@ module _ (given : Given) (p : Program) (statement : ℕ) (a : Act) (x : Action) 
               where
                 test : (b : Bool) → (n == 0) ≡ b → not b ≡ true → ⊥
                 test true g f = absurd cc
-                test false g f = omega (arith, g, e)
+                test false g f = let h : (n == 0) ≡ true = eq-eqb n 0 e in cc
 
             both : (b c : Bool) → int_le (pos 0) r.units.low ≡ b → int_le r.units.high (pos 0) ≡ c → not (b && c) ≡ true
             both true true f g =
@@ -311,8 +312,8 @@ module _ (given : Given) (p : Program) (statement : ℕ) (a : Act) (x : Action) 
   counted_down done k s m e g = go (subst (λ (xs : List Part). PassesParts p.layout (handled p a x) xs (run.beginning m.first g.counts) m) e g.passed)
     where
       go : PassesParts p.layout (handled p a x) (read_count k ∷ []) (run.beginning m.first g.counts) m → count_in m.counts k ≡ Some m.own.units
-      go (next, ((v, number, same), fits), last) =
-          subst (λ (j : Moment). count_in j.counts k ≡ Some j.own.units) (sym (last ∙ same)) number
+      go (next, ((v, held, same), fits), last) =
+          subst (λ (j : Moment). count_in j.counts k ≡ Some j.own.units) (sym (last ∙ same)) held
 
   pub lower_holds : (i : Interval) (v : ℤ) → Holds i v → Holds (lowered i) (v -ℤ pos 1)
   lower_holds i v (b, c) = (omega (arith, ints, b), omega (arith, ints, c))
@@ -333,8 +334,8 @@ module _ (given : Given) (p : Program) (statement : ℕ) (a : Act) (x : Action) 
 
       held : Contains (homes_of p) (of_count k) → IsSomeAnd (count_range (lowered (units_of p.layout (homes_of p) s.cells (of_count k)))) (λ i. Holds i (m.own.units -ℤ pos 1))
       held there =
-          let number = counted_down done k s m split g in
-          let now = count_holds p g.sound.items s.cells (storage m.storage m.counts) g.stands k m.own.units number (times_small p statement a x s m k m.own.units g.stands (g.sound.counts k there) number) in
+          let read_ = counted_down done k s m split g in
+          let now = count_holds p g.sound.items s.cells (storage m.storage m.counts) g.stands k m.own.units read_ (times_small p statement a x s m k m.own.units g.stands (g.sound.counts k there) read_) in
           count_fitted (lowered (units_of p.layout (homes_of p) s.cells (of_count k))) (m.own.units -ℤ pos 1) (lower_holds (units_of p.layout (homes_of p) s.cells (of_count k)) m.own.units now) small
 
       some_there : (o : Option Interval) → IsSomeAnd o (λ i. Holds i (m.own.units -ℤ pos 1)) → IsSomeAnd o (λ i. Unit {0})
@@ -376,8 +377,8 @@ module _ (given : Given) (p : Program) (statement : ℕ) (a : Act) (x : Action) 
     fit_keeps : (f : Bool) (o : Option Interval) (held : List ℕ) → m.by_zero ≡ false → IfSome o (λ i. KnownFits (form_range (form_at p.layout place)) (Some i)) → IsSomeAnd o (λ i. (z : ℤ) × Holds i z × (held ≡ bytes_of (form_at p.layout place) z))
         → PassesPart p.layout (handled p a x) (store place mode y) m (with_storage m (filled_at p.layout m.storage place held))
         → SeenNow (done ++ store place mode y ∷ []) (behind_store t f (kept_or_stored f o)) (with_storage m (filled_at p.layout m.storage place held))
-    fit_keeps f None held zero fits h passes = absurd h
-    fit_keeps f (Some i) held zero fits (z, holds, is) passes = go f
+    fit_keeps f None held unzero fits h passes = absurd h
+    fit_keeps f (Some i) held unzero fits (z, holds, is) passes = go f
       where
         stands : StandsIn p (stored_cells p place t.cells i) (storage (filled_at p.layout m.storage place held) m.counts)
         stands = stored_stands p statement a x g.sound place t.cells m i z held takes fits holds is g.stands
@@ -414,14 +415,14 @@ module _ (given : Given) (p : Program) (statement : ℕ) (a : Act) (x : Action) 
     module _ (q : IsStored a x done place y) where
       -- bytes that it gets are of a number of the result
       result_meant : (held : List ℕ) → m.by_zero ≡ false → stored_bytes p.layout m place mode y ≡ Some held → IsSomeAnd (result_at p a x t place mode y) (λ i. (z : ℤ) × Holds i z × (held ≡ bytes_of (form_at p.layout place) z))
-      result_meant held zero e =
+      result_meant held unzero e =
           let v = then_is (amount p.layout m y) (stored_units mode (form_at p.layout place)) held e in
           then_holds (λ (r : AmountRange). IsAmount r v.0) (λ i. (z : ℤ) × Holds i z × (held ≡ bytes_of (form_at p.layout place) z)) (amount_at p a x t place y) (result_range mode (receiver_of (form_at p.layout place)))
-          (amount_meant p statement a x done place y t m g q zero v.0 v.1) (λ r h. given.fits_ mode (form_at p.layout place) r v.0 held h v.2)
+          (amount_meant p statement a x done place y t m g q unzero v.0 v.1) (λ r h. given.fits_ mode (form_at p.layout place) r v.0 held h v.2)
 
       store_fits : (held : List ℕ) → m.by_zero ≡ false → stored_bytes p.layout m place mode y ≡ Some held → PassesPart p.layout (handled p a x) (store place mode y) m (with_storage m (filled_at p.layout m.storage place held))
           → SeenNow (done ++ store place mode y ∷ []) (stored p a x t place mode y) (with_storage m (filled_at p.layout m.storage place held))
-      store_fits held zero e passes = fit_keeps (may_fail p a x t place mode y) (result_at p a x t place mode y) held zero (amounts_fit (amount_at p a x t place y)) (result_meant held zero e) passes
+      store_fits held unzero e passes = fit_keeps (may_fail p a x t place mode y) (result_at p a x t place mode y) held unzero (amounts_fit (amount_at p a x t place y)) (result_meant held unzero e) passes
 
       -- ---- why a receiver may keep its value
 
@@ -470,7 +471,7 @@ module _ (given : Given) (p : Program) (statement : ℕ) (a : Act) (x : Action) 
 
       -- where it doesn't hold its value
       misfit_exceeds : m.by_zero ≡ false → stored_bytes p.layout m place mode y ≡ None → E ≡ true
-      misfit_exceeds zero e = by_amount (amount p.layout m y) refl e
+      misfit_exceeds unzero e = by_amount (amount p.layout m y) refl e
         where
           exceeds_in : (o : Option AmountRange) (v : Fraction) → IsSomeAnd o (λ r. IsAmount r v) → stored_units mode (form_at p.layout place) v ≡ None → option_map_or (result.may_fail mode (receiver_of (form_at p.layout place))) o true ≡ true
           exceeds_in None v h f = absurd h
@@ -482,34 +483,34 @@ module _ (given : Given) (p : Program) (statement : ℕ) (a : Act) (x : Action) 
           by_root : (s : Sum) (scale : ℕ) → y ≡ remaining s scale → amount p.layout m y ≡ None → (o : Option Root) → root_of s ≡ o → E ≡ true
           by_root s scale same f None k = no_root s scale same k
           by_root s scale same f (Some r) k =
-              absurd (nothing_there f (amount_there p statement a x done place y t m g q zero (subst (λ (u : Amount). HasRoot p statement a x u) (sym same) (ap is_some k))))
+              absurd (nothing_there f (amount_there p statement a x done place y t m g q unzero (subst (λ (u : Amount). HasRoot p statement a x u) (sym same) (ap is_some k))))
 
           by_kind : (u : Amount) → y ≡ u → amount p.layout m y ≡ None → E ≡ true
-          by_kind (computed s k) same f = absurd (nothing_there f (amount_there p statement a x done place y t m g q zero (subst (λ (u : Amount). HasRoot p statement a x u) (sym same) tt)))
-          by_kind (moved k) same f = absurd (nothing_there f (amount_there p statement a x done place y t m g q zero (subst (λ (u : Amount). HasRoot p statement a x u) (sym same) tt)))
-          by_kind (augmented k) same f = absurd (nothing_there f (amount_there p statement a x done place y t m g q zero (subst (λ (u : Amount). HasRoot p statement a x u) (sym same) tt)))
+          by_kind (computed s k) same f = absurd (nothing_there f (amount_there p statement a x done place y t m g q unzero (subst (λ (u : Amount). HasRoot p statement a x u) (sym same) tt)))
+          by_kind (moved k) same f = absurd (nothing_there f (amount_there p statement a x done place y t m g q unzero (subst (λ (u : Amount). HasRoot p statement a x u) (sym same) tt)))
+          by_kind (augmented k) same f = absurd (nothing_there f (amount_there p statement a x done place y t m g q unzero (subst (λ (u : Amount). HasRoot p statement a x u) (sym same) tt)))
           by_kind (remaining s scale) same f = by_root s scale same f (root_of s) refl
 
           by_amount : (o : Option Fraction) → amount p.layout m y ≡ o → (o >>= stored_units mode (form_at p.layout place)) ≡ None → E ≡ true
           by_amount None f h = by_kind y refl f
-          by_amount (Some v) f h = exceeds_in (amount_at p a x t place y) v (amount_meant p statement a x done place y t m g q zero v f) h
+          by_amount (Some v) f h = exceeds_in (amount_at p a x t place y) v (amount_meant p statement a x done place y t m g q unzero v f) h
 
       -- ---- both kinds of edges
 
       store_keeps : (n : Moment) → (handled p a x ≡ false → m.by_zero ≡ false) → PassesPart p.layout (handled p a x) (store place mode y) m n → SeenNow (done ++ store place mode y ∷ []) (stored p a x t place mode y) n
       store_keeps n off_zero (h, fits) = go (handled p a x) refl h
         where
-          here : {n : Moment} → (b : Bool) → handled p a x ≡ b → Stores p.layout b place mode y m n → PassesPart p.layout (handled p a x) (store place mode y) m n
-          here {n} b e k = (subst (λ (c : Bool). Stores p.layout c place mode y m n) (sym e) k, fits)
+          here : (n : Moment) (b : Bool) → handled p a x ≡ b → Stores p.layout b place mode y m n → PassesPart p.layout (handled p a x) (store place mode y) m n
+          here n b e k = (subst (λ (c : Bool). Stores p.layout c place mode y m n) (sym e) k, fits)
 
           left : (on : handled p a x ≡ true) → is_left_alone m y ≡ true → Stores p.layout true place mode y m m → SeenNow (done ++ store place mode y ∷ []) (stored p a x t place mode y) m
-          left on e k = kept_keeps (may_fail p a x t place mode y) (result_at p a x t place mode y) m (alone_fails on e) (here true on k) refl refl g.stands
+          left on e k = kept_keeps (may_fail p a x t place mode y) (result_at p a x t place mode y) m (alone_fails on e) (here m true on k) refl refl g.stands
 
           by_bytes : handled p a x ≡ true → m.by_zero ≡ false → (o : Option (List ℕ)) → stored_bytes p.layout m place mode y ≡ o → Stores p.layout true place mode y m (stored_or_kept p.layout m place o)
               → SeenNow (done ++ store place mode y ∷ []) (stored p a x t place mode y) (stored_or_kept p.layout m place o)
-          by_bytes on zero None e k =
-              kept_keeps (may_fail p a x t place mode y) (result_at p a x t place mode y) (with_failure m) (by_exceeding on (misfit_exceeds zero e)) (here true on k) refl refl g.stands
-          by_bytes on zero (Some held) e k = store_fits held zero e (here true on k)
+          by_bytes on unzero None e k =
+              kept_keeps (may_fail p a x t place mode y) (result_at p a x t place mode y) (with_failure m) (by_exceeding on (misfit_exceeds unzero e)) (here (with_failure m) true on k) refl refl g.stands
+          by_bytes on unzero (Some held) e k = store_fits held unzero e (here (with_storage m (filled_at p.layout m.storage place held)) true on k)
 
           not_alone : (u : Amount) → is_left_alone m u ≡ false → m.by_zero ≡ false
           not_alone (computed s k) e = e
@@ -532,7 +533,7 @@ module _ (given : Given) (p : Program) (statement : ℕ) (a : Act) (x : Action) 
           go false off k =
               let w = subst (λ (c : Bool). Stores p.layout c place mode y m n) off k in
               subst (λ (j : Moment). SeenNow (done ++ store place mode y ∷ []) (stored p a x t place mode y) j) (sym w.2)
-              (store_fits w.0 (off_zero off) w.1 (here false off (w.0, w.1, refl)))
+              (store_fits w.0 (off_zero off) w.1 (here (with_storage m (filled_at p.layout m.storage place w.0)) false off (w.0, w.1, refl)))
 
   -- ---- off edges of size errors no divisor was 0
 
@@ -574,7 +575,7 @@ module _ (given : Given) (p : Program) (statement : ℕ) (a : Act) (x : Action) 
   keeps done rest (read_count k) s m n e g h = read_count_keeps p statement a x done k s m n g h
   keeps done rest (set_count k y) s m n e g h =
       let q = given.places_ p statement a x done rest (set_count k y) e in
-      set_count_keeps done k y (with_taken p a x s) m n q.0 q.1.0 (taken_at p statement a x given done (set_count k y) s m refl q g) h
+      set_count_keeps done k y (with_taken p a x s) m n q.0 q.1 (taken_at p statement a x given done (set_count k y) s m refl q g) h
   keeps done rest (count_down k) s m n e g h =
       let q = given.places_ p statement a x done rest (count_down k) e in
       count_down_keeps done k s m n q.0 q.1 g h

@@ -1,32 +1,25 @@
 -- Parts that write nothing: what is seen stays true.
-use Rattle.std.proofs.Common.{◌≡◌, ◌<◌, ◌≤◌, ℕ, zero, suc, Bool, true, false, ◌&&◌, ◌||◌, not, if◌then◌else◌, ◌⊎◌, inl, inr, List, [], ◌∷◌, ◌++◌, length, Option, Some, None, is_some, Ok, ℤ, pos, ◌≤ℤ◌, ◌-ℤ◌, refl, sym, ap, subst, ◌∙◌, arith}
-use Rattle.std.specs.Prelude.{IfSome, IsSomeAnd, int_le, unwrap_or}
-use Rattle.std.specs.List.{list_all, list_any, Contains}
-use Rattle.std.specs.Option.{option_map, option_map_or}
-use Rattle.std.proofs.lemmas.Int.{ints}
-use Rattle.std.proofs.lemmas.List.{append-nil}
+use Rattle.std.proofs.Common.{◌≡◌, ℕ, zero, Bool, true, false, inl, inr, List, [], ◌∷◌, ◌++◌, Option, Some, None, ℤ, refl, sym, ap, subst, ◌∙◌}
+use Rattle.std.specs.Prelude.{IfSome, IsSomeAnd}
+use Rattle.std.specs.List.{Contains}
+use Rattle.std.specs.Option.{option_map}
 use Rattle.dec_num.specs.declared.types.Scaled.{Scaled}
 use Rattle.cob_data.specs.declared.layout.Layout.{Layout}
 use Rattle.decimal_interval.specs.declared.bounds.Interval.{Interval}
 use Rattle.decimal_interval.specs.Bounds.{Holds}
 use Rattle.num_bytes.specs.Reading.{contents_value}
-use Rattle.cob_program.specs.Sum.{Atom}
-use Rattle.cob_program.specs.Values.{atom_value, whole_number}
+use Rattle.cob_program.specs.Values.{whole_number}
 use Rattle.cob_program.specs.Logic.{Test}
 use Rattle.cob_program.specs.Act.{Act, Program}
 use Rattle.cob_runs.specs.declared.action.Action.{Action}
 use Rattle.cob_runs.specs.Contents.{form_at, bytes_at, scale_of, scaled_by, number_at}
-use Rattle.cob_runs.specs.Computing.{items_in_atom, are_numeric, worth}
-use Rattle.cob_runs.specs.Deciding.{test_holds}
-use Rattle.cob_edge_parts.specs.Parts.{Part, read, divide, guard, read_count, guard_count, item_reads, divides}
+use Rattle.cob_edge_parts.specs.Parts.{Part, read, guard, read_count, guard_count}
 use Rattle.cob_edge_parts.specs.Meaning as run
-use Rattle.cob_edge_parts.specs.Meaning.{Moment, with_own, divided_by_zero, count_in, divides_by, is_positive, ReadsAt, Divides, Passes}
-use Rattle.dom_laws.specs.Meaning.{Storage}
+use Rattle.cob_edge_parts.specs.Meaning.{Moment, with_own, count_in, ReadsAt}
 use Rattle.dom_laws.specs.Walking.{IsSeen}
 use Rattle.sum_ranges.specs.declared.ranged.Ranged.{Ranged}
-use Rattle.sum_ranges.specs.Ranged.{IsIn, ranged}
 use Rattle.result_ranges.specs.declared.amounts.Taken.{Taken}
-use Rattle.graph_runs.specs.Counters.{IsCount, HoldsCount, IsCounted, PassesPart, PassesParts}
+use Rattle.graph_runs.specs.Counters.{IsCount, PassesPart, PassesParts}
 use Rattle.guard_ranges.specs.declared.cuts.Cut.{Cut}
 use Rattle.guard_ranges.specs.declared.cuts.Cuts.{Cuts}
 use Rattle.guard_ranges.specs.Guards.{guarded}
@@ -39,10 +32,10 @@ use Rattle.cell_steps.specs.Cells.{units_of, is_numeric}
 use Rattle.cell_steps.specs.Seen.{Seen, with_cells}
 use Rattle.cell_steps.specs.Stores.{handled, range_at}
 use Rattle.cell_steps.specs.Steps.{known_as, read_cells, cut_cells, all_cut, guarded_cells, counted_cells, with_cells_if, after_read}
-use Rattle.cell_steps.specs.Agreeing.{IsTimesAt, IsSoundEdge, OperandsHold, writes, is_store, Agrees, walking}
+use Rattle.cell_steps.specs.Agreeing.{IsTimesAt, OperandsHold, writes, is_store, Agrees, walking}
 use Rattle.cell_rises.proofs.Lists.{chosen}
 use Rattle.cell_keeps.proofs.Given.{Given}
-use Rattle.cell_keeps.proofs.Holding.{home_set, units_hold, number_holds, items_hold, count_holds, times_count}
+use Rattle.cell_standing.proofs.Holding.{home_set, units_hold, items_hold, count_holds}
 use Rattle.cell_keeps.proofs.Done.{any_front, any_last, passes_snoc}
 
 -- ---- moments
@@ -114,7 +107,7 @@ module _ (p : Program) (statement : ℕ) (a : Act) (x : Action) where
   pub quiet_at : (done : List Part) (y : Part) (s t : Seen) (m n : Moment) → Agrees p statement a x done s m → PassesPart p.layout (handled p a x) y m n
       → writes y ≡ false → is_store y ≡ false → n.storage ≡ m.storage → n.first ≡ m.first → n.by_zero ≡ m.by_zero → n.failed ≡ m.failed
       → SeenOn s t → StandsIn p t.cells (storage n.storage n.counts) → Agrees p statement a x (done ++ y ∷ []) t n
-  quiet_at done y s t m n g passes quiet_ no_store bytes first zero failed on stands = record {
+  quiet_at done y s t m n g passes quiet_ no_store bytes first divided failed on stands = record {
     sound = g.sound;
     counts = g.counts;
     passed = subst (λ (before : List ℕ). PassesParts p.layout (handled p a x) (done ++ y ∷ []) (run.beginning before g.counts) n) (sym first)
@@ -125,10 +118,10 @@ module _ (p : Program) (statement : ℕ) (a : Act) (x : Action) where
     took = λ e. subst (λ (before : List ℕ). OperandsHold p statement a x before t.common) (sym first)
         (subst (λ (c : Option Taken). OperandsHold p statement a x m.first c) (sym on.common) (g.took (sym on.written ∙ e)));
     taken = λ e. let k = g.taken (sym on.written ∙ e) in (k.0, on.common ∙ k.1);
-    zero = λ e. on.zero (g.zero (sym zero ∙ e));
-    fails = λ e f. on.fails (g.fails (sym failed ∙ e) (sym zero ∙ f));
+    zero = λ e. on.zero (g.zero (sym divided ∙ e));
+    fails = λ e f. on.fails (g.fails (sym failed ∙ e) (sym divided ∙ f));
     all_fail = λ e f. elim (any_last is_store done y f) [
-      | inl h ↦ on.fails (g.all_fail (sym zero ∙ e) h)
+      | inl h ↦ on.fails (g.all_fail (sym divided ∙ e) h)
       | inr h ↦ absurd cc
     ];
   }
@@ -194,7 +187,7 @@ module _ (p : Program) (statement : ℕ) (a : Act) (x : Action) where
   -- ---- counters
 
   -- the number of a TIMES's counter
-  times_small : (s : Seen) (m : Moment) (n : ℕ) (v : ℤ) → StandsIn p s.cells (storage m.storage m.counts) → IsTimesAt p n → count_in m.counts n ≡ Some v → IsCount v
+  pub times_small : (s : Seen) (m : Moment) (n : ℕ) (v : ℤ) → StandsIn p s.cells (storage m.storage m.counts) → IsTimesAt p n → count_in m.counts n ≡ Some v → IsCount v
   times_small s m n v stands is e =
       let h = stands.counted n is.act is.at is.times in
       let held = h.held in

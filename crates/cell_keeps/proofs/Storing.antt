@@ -1,18 +1,15 @@
 -- Stores: what is seen behind them is true of what a run leaves.
-use Rattle.std.proofs.Common.{◌≡◌, ◌<◌, ◌≤◌, ℕ, zero, suc, ◌+◌, Bool, true, false, ◌&&◌, ◌||◌, not, if◌then◌else◌, ◌⊎◌, inl, inr, List, [], ◌∷◌, ◌++◌, length, Option, Some, None, is_some, ℤ, pos, ◌≤ℤ◌, ◌-ℤ◌, refl, sym, ap, subst, ◌∙◌, arith}
-use Rattle.std.specs.Prelude.{IfSome, IsSomeAnd, neg_ℤ, ◌-◌, ◌^◌, unsigned_abs, unwrap_or}
-use Rattle.std.specs.List.{list_all, list_any, Contains}
+use Rattle.std.proofs.Common.{◌≡◌, ◌<◌, ◌≤◌, ℕ, zero, ◌+◌, Bool, true, false, ◌&&◌, ◌||◌, if◌then◌else◌, ◌⊎◌, inl, inr, List, [], ◌∷◌, ◌++◌, length, Option, Some, None, is_some, ℤ, pos, ◌≤ℤ◌, refl, sym, ap, subst, ◌∙◌, arith}
+use Rattle.std.specs.Prelude.{IsSomeAnd, neg_ℤ, ◌-◌, ◌^◌, unsigned_abs}
+use Rattle.std.specs.List.{list_all, list_any}
 use Rattle.std.specs.Option.{option_map, option_map_or}
 use Rattle.std.proofs.lemmas.Int.{ints}
-use Rattle.dec_num.specs.declared.types.Mode.{Mode}
-use Rattle.dec_num.specs.declared.types.Scaled.{Scaled}
 use Rattle.dec_num.specs.Exact.{Fraction}
 use Rattle.dec_num.specs.Scaled.{value_of}
 use Rattle.dec_num.proofs.Powers.{ten_positive}
 use Rattle.cob_tree.specs.declared.form.Form.{Form}
 use Rattle.cob_tree.specs.declared.form.Form.TheVariants as form
 use Rattle.cob_data.specs.declared.layout.Item.{Item}
-use Rattle.cob_data.specs.declared.layout.Layout.{Layout}
 use Rattle.cob_data.specs.declared.layout.Sender.{Sender}
 use Rattle.cob_data.specs.declared.layout.Sender.TheVariants as sender
 use Rattle.decimal_interval.specs.declared.bounds.Interval.{Interval}
@@ -21,44 +18,36 @@ use Rattle.num_bytes.specs.Reading.{contents_value}
 use Rattle.cob_program.specs.declared.act.Target.{Target}
 use Rattle.cob_program.specs.declared.act.How.{How}
 use Rattle.cob_program.specs.declared.act.How.TheVariants as how
-use Rattle.cob_program.specs.Sum.{Sum, Atom}
+use Rattle.cob_program.specs.Sum.{Sum}
 use Rattle.cob_program.specs.Values.{root_of, ◌>>=◌}
-use Rattle.cob_program.specs.Act.{Turns, once, times, until, varying, Stmts, Phrase, Act, move, arith as arithmetic, if_, evaluate, perform, go as go_to, nothing, stop, open_files, close_files, read as reading, write, show, Program}
+use Rattle.cob_program.specs.Act.{once, times, until, varying, Stmts, Phrase, Act, move, arith as arithmetic, if_, evaluate, perform, go as go_to, nothing, stop, open_files, close_files, read as reading, write, show, Program}
 use Rattle.cob_runs.specs.declared.action.Action.{Action}
 use Rattle.cob_runs.specs.declared.action.Action.TheVariants as action
-use Rattle.cob_runs.specs.Contents.{form_at, item_at, bytes_at, bytes_of, digits_of, scale_of, number_in, number_at, filled_at, stored as stored_units}
+use Rattle.cob_runs.specs.Contents.{form_at, item_at, bytes_of, digits_of, number_in, number_at, filled_at}
 use Rattle.cob_runs.specs.Moves.{takes_number, number_of}
-use Rattle.cob_runs.specs.Computing.{items_in, are_numeric, worth, result, remainder_of}
-use Rattle.cob_edge_parts.specs.Parts.{Amount, moved, computed, remaining, augmented, Part, read, unread, divide, store, bytes_in, guard, read_count, set_count, count_down, guard_count, item_reads, divides, number_reads, divisors_of}
+use Rattle.cob_runs.specs.Computing.{items_in, are_numeric, worth}
+use Rattle.cob_edge_parts.specs.Parts.{Amount, moved, computed, remaining, augmented, Part, read, unread, divide, store, bytes_in, guard, read_count, set_count, count_down, guard_count, divides, number_reads, divisors_of}
 use Rattle.cob_edge_parts.specs.Meaning as run
-use Rattle.cob_edge_parts.specs.Meaning.{Moment, with_storage, with_own, with_failure, divides_by, is_left_alone, stored_bytes, stored_or_kept, amount, ReadsAt, Divides, Stores, Passes}
-use Rattle.cob_edge_parts.proofs.Chains.{passes_first}
-use Rattle.dom_laws.specs.Walking.{IsSeen}
-use Rattle.sum_ranges.specs.declared.ranged.Ranged.{Ranged}
+use Rattle.cob_edge_parts.specs.Meaning.{Moment, with_own, divides_by, amount, ReadsAt}
 use Rattle.sum_ranges.specs.Ranged.{decimal, IsIn}
 use Rattle.result_ranges.specs.declared.amounts.Taken.{Taken}
-use Rattle.result_ranges.specs.declared.amounts.AmountRange.{AmountRange}
-use Rattle.result_ranges.specs.Receivers.{receiver_of}
 use Rattle.result_ranges.specs.Amounts.{IsAmount}
-use Rattle.result_ranges.specs.ResultRanges.{result_range}
 use Rattle.graph_runs.specs.Counters.{PassesPart, PassesParts}
-use Rattle.edge_places.specs.Places.{IsArithmetic, IsBehindOperands, EndsWithRead, IsComputed, IsRemaining, IsBehindSender, Moves, Augments, Counts, IsStored, IsInPlace}
+use Rattle.edge_places.specs.Places.{IsBehindOperands, EndsWithRead, IsComputed, IsBehindSender, Moves, Augments, Counts, IsStored, IsInPlace}
 use Rattle.cell_rows.specs.Known.{Known, KnownFits}
-use Rattle.cell_storages.specs.Homes.{Home, of_item, of_count, homes_of, picture_range, form_range}
+use Rattle.cell_storages.specs.Homes.{of_item, homes_of, picture_range, form_range}
 use Rattle.cell_storages.specs.Storages.{storage, known_of, value_at, KnownStands, StandsIn}
-use Rattle.cell_steps.specs.Cells.{with_known, forgotten, is_beside}
+use Rattle.cell_steps.specs.Cells.{forgotten, is_beside}
 use Rattle.cell_steps.specs.Operands.{edge_amount, edge_operands, amount_of, operands_vanish}
 use Rattle.cell_steps.specs.Seen.{Seen}
-use Rattle.cell_steps.specs.Stores.{stored_known, stored_cells, range_at, handled, taking, with_taken, amount_at, result_at}
-use Rattle.cell_steps.specs.Agreeing.{IsSoundEdge, OperandsHold, of_operands, writes, is_store, Agrees, walking}
-use Rattle.cell_rises.proofs.Operands.{or_left, or_right}
-use Rattle.cell_rises.proofs.Fitting.{result_fits}
+use Rattle.cell_steps.specs.Stores.{stored_known, stored_cells, range_at, handled, taking, with_taken, amount_at}
+use Rattle.cell_steps.specs.Agreeing.{IsSoundEdge, OperandsHold, of_operands, writes, is_store, Agrees}
+use Rattle.cell_rises.proofs.Operands.{or_left}
 use Rattle.cell_keeps.proofs.Given.{Given}
-use Rattle.cell_keeps.proofs.Standing.{known_left}
-use Rattle.cell_keeps.proofs.Frames.{filled_length, others_stay, held_value}
-use Rattle.cell_keeps.proofs.Holding.{home_set, number_holds, range_is_ordered}
-use Rattle.cell_keeps.proofs.Done.{any_last, passes_snoc, zero_before_all, read_first, divisors_count, read_zero, store_zero}
-use Rattle.cell_keeps.proofs.Quiet.{AllKnown}
+use Rattle.cell_standing.proofs.Standing.{known_left}
+use Rattle.cell_standing.proofs.Frames.{filled_length, others_stay, held_value}
+use Rattle.cell_standing.proofs.Holding.{home_set, number_holds, range_is_ordered}
+use Rattle.cell_keeps.proofs.Done.{passes_snoc, read_first, divisors_count}
 
 -- ---- options
 
@@ -112,7 +101,7 @@ module _ (p : Program) (statement : ℕ) (a : Act) (x : Action) where
   numeric_operands done first counts m (store place mode (moved y)) w q passed s ts r size fine e = absurd (subst (λ (b : Act). Moves b x y) e q.0)
   numeric_operands done first counts m (store place mode (augmented y)) w q passed s ts r size fine e = absurd (subst (λ (b : Act). Augments b x y) e q.0)
   numeric_operands done first counts m (bytes_in offset count) w q passed s ts r size fine e = absurd (q s ts r size fine e)
-  numeric_operands done first counts m (set_count n y) w q passed s ts r size fine e = absurd (subst (λ (b : Act). Counts b x y) e q.1.0)
+  numeric_operands done first counts m (set_count n y) w q passed s ts r size fine e = absurd (subst (λ (b : Act). Counts b x y) e q.1)
   numeric_operands done first counts m (read place) w q passed s ts r size fine e = absurd cc
   numeric_operands done first counts m unread w q passed s ts r size fine e = absurd cc
   numeric_operands done first counts m (divide d) w q passed s ts r size fine e = absurd cc
@@ -250,7 +239,7 @@ module _ (p : Program) (statement : ℕ) (a : Act) (x : Action) where
       last (y ∷ xs) k (next, h, hs) = last xs next hs
 
   -- the amount of a store is one of the edge's
-  its_amount : (done : List Part) (place : ℕ) (y : Amount) → IsStored a x done place y → edge_amount a x ≡ Some (of_operands y)
+  pub its_amount : (done : List Part) (place : ℕ) (y : Amount) → IsStored a x done place y → edge_amount a x ≡ Some (of_operands y)
   its_amount done place (computed s h) q = ap (λ (b : Act). edge_amount b x) q.arithmetic.act
   its_amount done place (remaining s scale) q = ap (λ (b : Act). edge_amount b x) q.arithmetic.act
   its_amount done place (moved y) q = moves_amount a x y q.0

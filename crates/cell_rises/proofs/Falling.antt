@@ -1,18 +1,16 @@
 -- What is cleared where more is seen is cleared where less is.
-use Rattle.std.proofs.Common.{◌≡◌, ℕ, Bool, true, false, ◌&&◌, ◌||◌, not, if◌then◌else◌, ◌⊎◌, inl, inr, List, [], ◌∷◌, Option, Some, None, is_some, ◌-ℤ◌, ◌≤ℤ◌, pos, refl, sym, ap, subst, ◌∙◌, arith}
-use Rattle.std.specs.Option.{option_map, option_map_or}
+use Rattle.std.proofs.Common.{◌≡◌, ℕ, true, ◌||◌, not, inl, inr, Option, Some, None, refl, arith}
+use Rattle.std.specs.Option.{option_map_or}
 use Rattle.std.proofs.lemmas.Int.{ints}
 use Rattle.dec_num.specs.declared.types.Mode.{Mode}
 use Rattle.cob_tree.specs.declared.fault.Kind.{Kind}
 use Rattle.cob_tree.specs.declared.fault.Kind.TheVariants as kind
-use Rattle.cob_tree.specs.declared.form.Form.{Form}
 use Rattle.cob_program.specs.Sum.{Atom}
 use Rattle.cob_program.specs.Act.{Act, Program}
 use Rattle.cob_runs.specs.declared.action.Action.{Action}
 use Rattle.cob_runs.specs.Contents.{form_at}
 use Rattle.cob_edge_parts.specs.Parts.{Amount, Part, read, unread, divide, store, bytes_in, guard, read_count, set_count, count_down, guard_count, has_phrase}
 use Rattle.sum_ranges.specs.declared.ranged.Ranged.{Ranged}
-use Rattle.sum_ranges.specs.Ranged.{IsNarrower}
 use Rattle.sum_ranges.specs.SumRanges.{atom_range}
 use Rattle.sum_ranges.specs.Vanishing.{holds_zero}
 use Rattle.sum_ranges.proofs.Narrow.{atom_below}
@@ -22,18 +20,17 @@ use Rattle.result_ranges.specs.declared.amounts.AmountRange.{AmountRange}
 use Rattle.result_ranges.specs.Receivers.{receiver_of, counter}
 use Rattle.result_ranges.specs.Amounts.{IsNarrowerTakenIfAny}
 use Rattle.result_ranges.specs.ResultRanges.{may_fail, lowered, count_may_fail}
-use Rattle.cell_storages.specs.Homes.{of_item, of_count, homes_of}
-use Rattle.cell_steps.specs.Cells.{units_of, is_numeric}
+use Rattle.cell_storages.specs.Homes.{of_count, homes_of}
+use Rattle.cell_steps.specs.Cells.{units_of}
 use Rattle.cell_steps.specs.Operands.{amount_of}
 use Rattle.cell_steps.specs.Seen.{Seen}
 use Rattle.cell_steps.specs.Stores.{range_at, with_taken}
-use Rattle.cell_steps.specs.Steps.{step}
-use Rattle.cell_steps.specs.Clearing.{is_misfit, has_quotient, all_fit_of, all_fit, all_count, clears_part, clears_parts}
+use Rattle.cell_steps.specs.Clearing.{is_misfit, has_quotient, all_fit_of, all_fit, all_count, clears_part}
 use Rattle.cell_steps.specs.Order.{SeenBelow}
 use Rattle.cell_rises.proofs.Given.{Given}
 use Rattle.cell_rises.proofs.Ranges.{units_below, range_below, numeric_below}
 use Rattle.cell_rises.proofs.Operands.{or_rises, and_rises, AmountBelowIf, amount_below}
-use Rattle.cell_rises.proofs.Rising.{not_falls, TakenBelow, taken_rises, BelowIf, rises}
+use Rattle.cell_rises.proofs.Rising.{not_falls, TakenBelow, taken_rises}
 
 module _ (given : Given) (p : Program) (a : Act) (x : Action) where
   module _ (s t : Seen) (h : TakenBelow given p a x s t) where

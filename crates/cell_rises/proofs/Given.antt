@@ -1,5 +1,5 @@
 -- Laws of results and of guards, as the walk takes them.
-use Rattle.std.specs.Prelude.{◌≡◌, ℕ, ◌≤ℤ◌, Bool, true, Option, IfSome}
+use Rattle.std.specs.Prelude.{◌≡◌, ℕ, ◌≤ℤ◌, Bool, true, IfSome}
 use Rattle.dec_num.specs.declared.types.Mode.{Mode}
 use Rattle.decimal_interval.specs.declared.bounds.Interval.{Interval}
 use Rattle.cob_data.specs.declared.layout.Layout.{Layout}

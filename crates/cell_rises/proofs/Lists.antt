@@ -1,12 +1,12 @@
 -- What is known of all cells, changed at a home, forgotten or joined: where less is known before, less is known behind.
-use Rattle.std.proofs.Common.{◌≡◌, suc, ℕ, Bool, true, false, if◌then◌else◌, List, [], ◌∷◌, length, Option, Some, None, ℤ, ◌≤ℤ◌, refl, sym, ap, subst, ◌∙◌, arith}
-use Rattle.std.specs.Prelude.{map, ◌==◌}
+use Rattle.std.proofs.Common.{◌≡◌, suc, ℕ, Bool, true, false, if◌then◌else◌, List, [], ◌∷◌, length, Some, None, refl, sym, ap, subst, arith}
+use Rattle.std.specs.Prelude.{map}
 use Rattle.std.proofs.lemmas.Bool.{eqb-true}
 use Rattle.cob_data.specs.declared.layout.Layout.{Layout}
 use Rattle.decimal_interval.specs.declared.bounds.Interval.{Interval}
 use Rattle.cell_rows.specs.Known.{Known, KnownFits, KnownBelow, joined_known}
-use Rattle.cell_rows.specs.Elements.{Element, CellsFit, ElementFits, CellsBelow, ElementBelow, joined, joined_element}
-use Rattle.cell_rows.proofs.OneKnown.{known_reflexive, known_transitive, known_join_left, known_join_right, known_join_least, known_join_fits}
+use Rattle.cell_rows.specs.Elements.{Element, CellsFit, ElementFits, CellsBelow, ElementBelow, joined}
+use Rattle.cell_rows.proofs.OneKnown.{known_reflexive, known_transitive, known_join_left, known_join_right, known_join_least}
 use Rattle.cell_rows.proofs.AllCells.{element_reflexive, element_transitive, element_join_fits}
 use Rattle.cell_storages.specs.Homes.{Home, of_item, of_count, is_home, home_range}
 use Rattle.cell_storages.specs.Storages.{known_of}

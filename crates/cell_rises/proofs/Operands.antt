@@ -1,22 +1,18 @@
 -- Operands and amounts where less is known.
-use Rattle.std.proofs.Common.{◌≡◌, ℕ, suc, Bool, true, false, ◌&&◌, ◌||◌, if◌then◌else◌, ◌⊎◌, inl, inr, Option, Some, None, ℤ, pos, ◌≤ℤ◌, refl, sym, ap, subst, ◌∙◌, arith}
-use Rattle.std.specs.Option.{option_map, option_map_or}
+use Rattle.std.proofs.Common.{◌≡◌, ℕ, Bool, true, false, ◌&&◌, ◌||◌, if◌then◌else◌, ◌⊎◌, inl, inr, Option, Some, None, pos, refl, sym, subst, arith}
+use Rattle.std.specs.Option.{option_map}
 use Rattle.std.proofs.lemmas.Int.{ints}
-use Rattle.dec_num.specs.declared.types.Scaled.{Scaled}
-use Rattle.dec_num.specs.declared.types.Mode.{Mode}
-use Rattle.cob_program.specs.declared.act.How.{How}
-use Rattle.cob_program.specs.declared.act.How.TheVariants as how
-use Rattle.cob_program.specs.Sum.{Sum, MkSum, no_parts, more_parts, Part, MkPart, Factors, no_factors, more_factors, MkFactor, Atom, item}
+use Rattle.cob_program.specs.Sum.{Sum, MkSum, no_parts, more_parts, MkPart, Factors, no_factors, more_factors, MkFactor, Atom, item}
 use Rattle.cob_program.specs.Values.{whole_number, with_factor, Root, root_in, root_of, behind_factor, ◌>>=◌}
 use Rattle.cob_program.specs.Act.{Act, move, arith as arithmetic, if_, evaluate, perform, go, nothing, stop, open_files, close_files, read, write, show}
 use Rattle.cob_runs.specs.declared.action.Action.{Action}
 use Rattle.cob_runs.specs.declared.action.Action.TheVariants as action
-use Rattle.cob_edge_parts.specs.Parts.{Amount, moved, computed, remaining, augmented, is_handled, has_phrase, is_under}
+use Rattle.cob_edge_parts.specs.Parts.{Amount, moved, computed, remaining, augmented, is_handled, has_phrase}
 use Rattle.sum_ranges.specs.declared.ranged.Ranged.{Ranged}
 use Rattle.sum_ranges.specs.Ranged.{point, IsNarrower, IsOrdered, IsBelow}
 use Rattle.sum_ranges.specs.Results.{IsResult}
 use Rattle.sum_ranges.specs.SumRanges.{turned, quotient_range, sum_range, product_range_from, atom_range}
-use Rattle.sum_ranges.specs.Vanishing.{holds_zero, may_vanish, may_vanish_in_parts, may_vanish_in_part, may_vanish_in_product, may_vanish_in_atom}
+use Rattle.sum_ranges.specs.Vanishing.{holds_zero, may_vanish, may_vanish_in_product, may_vanish_in_atom}
 use Rattle.sum_ranges.proofs.Operations.{quotient_ranges_least}
 use Rattle.sum_ranges.proofs.Least.{result_in_wider, range_below}
 use Rattle.sum_ranges.proofs.Narrow.{wide_ordered, plus_narrower}
@@ -25,7 +21,7 @@ use Rattle.result_ranges.specs.declared.amounts.Taken.{Taken}
 use Rattle.result_ranges.specs.declared.amounts.AmountRange.{AmountRange}
 use Rattle.result_ranges.specs.declared.amounts.AmountRange.TheVariants as range
 use Rattle.result_ranges.specs.Amounts.{taken, IsNarrowerIfAny, IsNarrowerTaken, IsNarrowerTakenIfAny, IsNarrowerAmount}
-use Rattle.result_ranges.specs.Operands.{alone, taken_from, taken_sum, computed_range, remaining_range}
+use Rattle.result_ranges.specs.Operands.{alone, taken_from, taken_sum}
 use Rattle.result_ranges.specs.Stores.{operands, amount_range}
 use Rattle.cell_steps.specs.Operands.{edge_amount, edge_operands, operands_vanish, settled_by, settled, stays_exact, taken_for, amount_of, is_divided, may_divide_by_zero}
 use Rattle.cell_rises.proofs.Given.{Given}

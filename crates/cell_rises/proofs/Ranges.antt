@@ -1,5 +1,5 @@
 -- Items' ranges where less is known.
-use Rattle.std.proofs.Common.{◌≡◌, ℕ, Bool, true, false, List, Option, Some, None, is_some, ℤ, pos, ◌≤ℤ◌, refl, arith}
+use Rattle.std.proofs.Common.{◌≡◌, ℕ, Bool, true, false, List, Some, None, is_some, ℤ, pos, ◌≤ℤ◌, refl, arith}
 use Rattle.std.specs.Prelude.{map, neg_ℤ, ◌-◌, ◌^◌}
 use Rattle.std.proofs.lemmas.Int.{ints}
 use Rattle.cob_tree.specs.declared.form.Form.{Form}

@@ -1,6 +1,6 @@
 -- Less is seen behind a part where less is seen before it.
-use Rattle.std.proofs.Common.{◌≡◌, ℕ, suc, Bool, true, false, ◌&&◌, ◌||◌, not, if◌then◌else◌, ◌⊎◌, inl, inr, List, [], ◌∷◌, length, Option, Some, None, is_some, ℤ, pos, ◌≤ℤ◌, ◌-ℤ◌, refl, sym, ap, subst, ◌∙◌, arith}
-use Rattle.std.specs.Prelude.{map, IfSome, int_le}
+use Rattle.std.proofs.Common.{◌≡◌, ℕ, Bool, true, false, ◌&&◌, ◌||◌, not, if◌then◌else◌, ◌⊎◌, inl, inr, List, length, Option, Some, None, ℤ, pos, ◌≤ℤ◌, refl, sym, subst, ◌∙◌, arith}
+use Rattle.std.specs.Prelude.{IfSome, int_le}
 use Rattle.std.specs.Option.{option_map, option_map_or}
 use Rattle.std.proofs.lemmas.Int.{ints}
 use Rattle.dec_num.specs.declared.types.Mode.{Mode}
@@ -23,7 +23,7 @@ use Rattle.sum_ranges.proofs.Vanish.{divisor_rises}
 use Rattle.result_ranges.specs.declared.amounts.Taken.{Taken}
 use Rattle.result_ranges.specs.declared.amounts.AmountRange.{AmountRange}
 use Rattle.result_ranges.specs.Receivers.{receiver_of, counter}
-use Rattle.result_ranges.specs.Amounts.{IsNarrowerTaken, IsNarrowerTakenIfAny, IsNarrowerAmount}
+use Rattle.result_ranges.specs.Amounts.{IsNarrowerTakenIfAny}
 use Rattle.result_ranges.specs.Results.{IsInside, IsInsideIfAny}
 use Rattle.result_ranges.specs.ResultRanges as result
 use Rattle.result_ranges.specs.ResultRanges.{count_range, lowered}
@@ -36,15 +36,15 @@ use Rattle.cell_rows.specs.Known.{Known, KnownFits, KnownBelow}
 use Rattle.cell_rows.specs.Elements.{Element, CellsFit, ElementFits, CellsBelow, ElementBelow}
 use Rattle.cell_storages.specs.Homes.{Home, of_item, of_count, homes_of, home_range, form_range, picture_range, owns}
 use Rattle.cell_steps.specs.Cells.{units_of, is_numeric, with_known, forgotten, is_in_bytes, is_beside}
-use Rattle.cell_steps.specs.Operands.{edge_operands, operands_vanish, amount_of, may_divide_by_zero, is_remainder}
+use Rattle.cell_steps.specs.Operands.{operands_vanish, amount_of, may_divide_by_zero, is_remainder}
 use Rattle.cell_steps.specs.Seen.{Seen, with_cells, with_zero}
 use Rattle.cell_steps.specs.Stores.{handled, range_at, taking, with_taken, amount_at, result_at, may_exceed, may_vanish, may_fail, stored_known, stored_cells, stored_element, behind_store, stored}
-use Rattle.cell_steps.specs.Steps.{is_zero_alone, can_divide, known_as, read_cells, cut_cells, all_cut, guarded_cells, counted_cells, with_cells_if, after_read, after_divide, after_bytes, after_count, after_down, step}
+use Rattle.cell_steps.specs.Steps.{is_zero_alone, can_divide, known_as, read_cells, cut_cells, all_cut, guarded_cells, counted_cells, with_cells_if, after_read, after_divide, after_count, after_down, step}
 use Rattle.cell_steps.specs.Order.{SeenBelow}
 use Rattle.cell_rises.proofs.Given.{Given}
-use Rattle.cell_rises.proofs.Lists.{cells_reflexive, cells_transitive, below_length, with_known_fits, forgotten_fits, with_known_below, forgotten_below, with_known_length, forgotten_length, read_below, HasLength, stored_below, stored_fits}
-use Rattle.cell_rises.proofs.Ranges.{Within, units_fit, units_below, range_ordered, range_below, knows_more}
-use Rattle.cell_rises.proofs.Operands.{or_left, or_right, or_either, or_rises, and_rises, untaken_operands, operands_vanish_rises, edge_operands_below, AmountBelow, AmountBelowIf, amount_below, divisor_zero_rises}
+use Rattle.cell_rises.proofs.Lists.{cells_transitive, with_known_fits, forgotten_fits, with_known_below, forgotten_below, with_known_length, forgotten_length, read_below, HasLength, stored_below, stored_fits}
+use Rattle.cell_rises.proofs.Ranges.{units_fit, units_below, range_ordered, range_below, knows_more}
+use Rattle.cell_rises.proofs.Operands.{or_left, or_right, or_either, or_rises, and_rises, untaken_operands, operands_vanish_rises, edge_operands_below, AmountBelowIf, amount_below, divisor_zero_rises}
 use Rattle.cell_rises.proofs.Fitting.{result_fits, count_fits}
 
 -- nothing lies below all

@@ -1,28 +1,25 @@
 -- When what is seen is true of a moment of a run, and the parts of an edge as a walk.
-use Rattle.std.specs.Prelude.{◌≡◌, ◌⊎◌, ◌≤◌, ℕ, ◌+◌, ◌-◌, Bool, true, false, List, [], ◌∷◌, ◌++◌, Option, Some, None, IsSomeAnd, ℤ, pos, ◌-ℤ◌}
+use Rattle.std.specs.Prelude.{◌≡◌, ◌≤◌, ℕ, ◌+◌, Bool, true, false, List, ◌∷◌, ◌++◌, Option, Some, IsSomeAnd, ℤ}
 use Rattle.std.specs.List.{list_any, Contains}
 use Rattle.dec_num.specs.declared.types.Mode.{Mode}
-use Rattle.dec_num.specs.declared.types.Scaled.{Scaled}
 use Rattle.dec_num.specs.Exact.{Fraction}
 use Rattle.cob_tree.specs.declared.fault.Kind.{Kind}
-use Rattle.cob_tree.specs.declared.fault.Kind.TheVariants as kind
 use Rattle.cob_program.specs.declared.act.How.TheVariants as how
 use Rattle.cob_program.specs.Act.{Act, Program}
 use Rattle.cob_runs.specs.declared.action.Action.{Action}
 use Rattle.cob_runs.specs.Contents.{form_at}
-use Rattle.cob_runs.specs.Moves.{takes_number, number_of}
+use Rattle.cob_runs.specs.Moves.{takes_number}
 use Rattle.cob_runs.specs.Effects.{act_at}
-use Rattle.cob_edge_parts.specs.Parts.{Amount, moved, computed, remaining, augmented, Part, store, bytes_in, set_count, count_down, parts_of, is_times}
+use Rattle.cob_edge_parts.specs.Parts.{Amount, computed, remaining, Part, store, bytes_in, set_count, parts_of, is_times}
 use Rattle.cob_edge_parts.specs.Meaning as run
-use Rattle.cob_edge_parts.specs.Meaning.{Moment, Passes, Faults, PassesAll, amount}
+use Rattle.cob_edge_parts.specs.Meaning.{Moment, amount}
 use Rattle.cob_edge_parts.specs.Edges.{fault_edge}
-use Rattle.dom_laws.specs.Meaning.{Storage}
 use Rattle.dom_laws.specs.Walking.{Walking}
 use Rattle.sum_ranges.specs.declared.ranged.Ranged.{Ranged}
 use Rattle.sum_ranges.specs.Ranged.{IsIn}
 use Rattle.result_ranges.specs.declared.amounts.Taken.{Taken}
 use Rattle.result_ranges.specs.Amounts.{IsAmount}
-use Rattle.graph_runs.specs.Counters.{IsCount, IsCounted}
+use Rattle.graph_runs.specs.Counters.{PassesPart, FaultsAtPart, PassesParts}
 use Rattle.cell_storages.specs.Homes.{of_count, homes_of}
 use Rattle.cell_storages.specs.Storages.{storage, StandsIn}
 use Rattle.cell_storages.specs.Premises.{HasSoundItems}
@@ -88,7 +85,7 @@ module _ (p : Program) (statement : ℕ) (a : Act) (x : Action) where
   pub record Agrees (done : List Part) (s : Seen) (m : Moment) : Type 0 where
     pub sound : IsSoundEdge p statement a x
     pub counts : List (Option ℤ)
-    pub passed : PassesAll p.layout (handled p a x) done (run.beginning m.first counts) m
+    pub passed : PassesParts p.layout (handled p a x) done (run.beginning m.first counts) m
     pub stands : StandsIn p s.cells (storage m.storage m.counts)
     pub fresh : s.written ≡ false → m.storage ≡ m.first
     pub unwritten : list_any writes done ≡ false → s.written ≡ false
@@ -101,19 +98,9 @@ module _ (p : Program) (statement : ℕ) (a : Act) (x : Action) where
 
   -- ---- the walk
 
-  -- a counter gets a number that it doesn't hold
-  abbrev pub CountMisfits : Part → Moment → Type 0
-  CountMisfits (set_count n y) m = (v : Scaled) × (number_of p.layout m.first y ≡ Some v) × ¬ IsCount v.units
-  CountMisfits (count_down n) m = ¬ IsCount (m.own.units -ℤ pos 1)
-  CountMisfits _ m = ⊥
-
-  abbrev pub PassesCounted : Part → Moment → Moment → Type 0
-  PassesCounted y m n = Passes p.layout (handled p a x) y m n × IsCounted p n.counts
-
   -- Where the statement has the phrase, faults are met on the edge to its list.
   abbrev pub FaultsOn : Part → Moment → Kind → Type 0
-  FaultsOn y m fault =
-      (fault_edge a x ≡ x) × (Faults p.layout (handled p a x) y m fault ⊎ ((fault ≡ kind.Size) × CountMisfits y m))
+  FaultsOn y m fault = (fault_edge a x ≡ x) × FaultsAtPart p.layout (handled p a x) y m fault
 
   abbrev pub walking : Walking
   walking = record {
@@ -123,7 +110,7 @@ module _ (p : Program) (statement : ℕ) (a : Act) (x : Action) where
     Below = SeenBelow p a x;
     step = step p a x;
     Agrees = Agrees;
-    Passes = PassesCounted;
+    Passes = PassesPart p.layout (handled p a x);
     Faults = FaultsOn;
     Clears = λ y s fault. clears_part p a x y s fault ≡ true;
   }

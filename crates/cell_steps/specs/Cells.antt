@@ -1,5 +1,5 @@
 -- Changes of what is known of cells.
-use Rattle.std.specs.Prelude.{ℕ, ◌+◌, nat_le, not, ◌||◌, if◌then◌else◌, Bool, false, List, [], ◌∷◌, Option, Some, None, is_some}
+use Rattle.std.specs.Prelude.{ℕ, ◌+◌, nat_le, not, ◌||◌, if◌then◌else◌, Bool, false, List, ◌∷◌, Some, None, is_some}
 use Rattle.std.specs.Option.{option_map_or}
 use Rattle.cob_data.specs.declared.layout.Layout.{Layout}
 use Rattle.cob_runs.specs.Contents.{item_at, form_at, scale_of}

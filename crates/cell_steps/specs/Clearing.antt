@@ -1,10 +1,9 @@
 -- Which faults what is seen before a part shows not to be met there.
-use Rattle.std.specs.Prelude.{ℕ, ◌||◌, ◌&&◌, not, if◌then◌else◌, Bool, true, false, List, [], ◌∷◌, Option, Some, None, is_some}
+use Rattle.std.specs.Prelude.{ℕ, ◌||◌, ◌&&◌, not, Bool, true, false, List, [], ◌∷◌, is_some}
 use Rattle.std.specs.Option.{option_map_or}
 use Rattle.dec_num.specs.declared.types.Mode.{Mode}
 use Rattle.cob_tree.specs.declared.fault.Kind.{Kind}
 use Rattle.cob_tree.specs.declared.fault.Kind.TheVariants as kind
-use Rattle.cob_program.specs.Sum.{Atom}
 use Rattle.cob_program.specs.Values.{root_of}
 use Rattle.cob_program.specs.Act.{Act, Program}
 use Rattle.cob_runs.specs.declared.action.Action.{Action}
@@ -15,7 +14,7 @@ use Rattle.sum_ranges.specs.Vanishing.{holds_zero}
 use Rattle.result_ranges.specs.declared.amounts.Taken.{Taken}
 use Rattle.result_ranges.specs.Receivers.{receiver_of}
 use Rattle.result_ranges.specs.ResultRanges.{may_fail, lowered, count_may_fail}
-use Rattle.cell_storages.specs.Homes.{of_item, of_count, homes_of}
+use Rattle.cell_storages.specs.Homes.{of_count, homes_of}
 use Rattle.cell_steps.specs.Cells.{units_of, is_numeric}
 use Rattle.cell_steps.specs.Operands.{amount_of}
 use Rattle.cell_steps.specs.Seen.{Seen}

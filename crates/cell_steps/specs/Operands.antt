@@ -1,5 +1,5 @@
 -- The operands of an edge, which are taken once.
-use Rattle.std.specs.Prelude.{ℕ, ◌||◌, ◌&&◌, if◌then◌else◌, Bool, true, false, List, Option, Some, None}
+use Rattle.std.specs.Prelude.{ℕ, ◌||◌, ◌&&◌, if◌then◌else◌, Bool, true, false, Option, Some, None}
 use Rattle.std.specs.Option.{option_map}
 use Rattle.cob_program.specs.declared.act.How.TheVariants as how
 use Rattle.cob_program.specs.Values.{◌>>=◌}

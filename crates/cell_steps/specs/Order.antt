@@ -1,8 +1,7 @@
 -- When less is seen: what is known is narrower, and less may have happened.
-use Rattle.std.specs.Prelude.{◌≡◌, Bool, true, Option, Some, None}
+use Rattle.std.specs.Prelude.{◌≡◌, true, None}
 use Rattle.cob_program.specs.Act.{Act, Program}
 use Rattle.cob_runs.specs.declared.action.Action.{Action}
-use Rattle.result_ranges.specs.declared.amounts.Taken.{Taken}
 use Rattle.result_ranges.specs.Amounts.{IsNarrowerTakenIfAny}
 use Rattle.cell_rows.specs.Elements.{CellsFit, CellsBelow}
 use Rattle.cell_storages.specs.Homes.{owns}

@@ -22,6 +22,3 @@ with_cells s cells = record { cells = cells; written = s.written; common = s.com
 
 abbrev pub with_zero : Seen → Bool → Seen
 with_zero s may_zero = record { cells = s.cells; written = s.written; common = s.common; may_zero = may_zero; any_fail = s.any_fail }
-
-abbrev pub with_fail : Seen → Bool → Seen
-with_fail s any_fail = record { cells = s.cells; written = s.written; common = s.common; may_zero = s.may_zero; any_fail = any_fail }

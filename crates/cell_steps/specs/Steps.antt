@@ -1,5 +1,5 @@
 -- What each part of an edge makes of what is seen before it (Cousot and Cousot 1977).
-use Rattle.std.specs.Prelude.{ℕ, ◌||◌, ◌&&◌, not, if◌then◌else◌, Bool, true, false, List, [], ◌∷◌, Option, Some, None, pos, int_le}
+use Rattle.std.specs.Prelude.{ℕ, ◌||◌, ◌&&◌, not, if◌then◌else◌, Bool, false, List, Option, Some, None, pos, int_le}
 use Rattle.std.specs.Option.{option_map}
 use Rattle.decimal_interval.specs.declared.bounds.Interval.{Interval}
 use Rattle.cob_program.specs.Values.{◌>>=◌}

@@ -1,5 +1,5 @@
 -- What a store makes of what is seen before it, and whether it may fit or may fail.
-use Rattle.std.specs.Prelude.{ℕ, ◌||◌, ◌&&◌, not, if◌then◌else◌, Bool, true, false, List, Option, Some, None, is_some}
+use Rattle.std.specs.Prelude.{ℕ, ◌||◌, ◌&&◌, if◌then◌else◌, Bool, true, List, Option, Some, None, is_some}
 use Rattle.std.specs.Option.{option_map, option_map_or}
 use Rattle.dec_num.specs.declared.types.Mode.{Mode}
 use Rattle.decimal_interval.specs.declared.bounds.Interval.{Interval}
@@ -13,16 +13,15 @@ use Rattle.cob_edge_parts.specs.Parts.{Amount, is_handled}
 use Rattle.sum_ranges.specs.declared.ranged.Ranged.{Ranged}
 use Rattle.result_ranges.specs.declared.amounts.Taken.{Taken}
 use Rattle.result_ranges.specs.declared.amounts.AmountRange.{AmountRange}
-use Rattle.result_ranges.specs.declared.amounts.Receiver.{Receiver}
 use Rattle.result_ranges.specs.Receivers.{receiver_of}
 use Rattle.result_ranges.specs.ResultRanges as result
 use Rattle.cell_rows.specs.Known.{Known}
 use Rattle.cell_rows.specs.Elements.{Element, joined_element}
-use Rattle.cell_storages.specs.Homes.{Home, of_item, homes_of}
+use Rattle.cell_storages.specs.Homes.{of_item, homes_of}
 use Rattle.cell_steps.specs.Cells as cells
 use Rattle.cell_steps.specs.Cells.{with_known, forgotten, is_beside}
 use Rattle.cell_steps.specs.Operands.{edge_operands, operands_vanish, amount_of, may_divide_by_zero, is_remainder}
-use Rattle.cell_steps.specs.Seen.{Seen, with_fail}
+use Rattle.cell_steps.specs.Seen.{Seen}
 
 -- ---- what is known behind a store
 

@@ -1,5 +1,5 @@
 -- What an analysis of cells needs of a program's data.
-use Rattle.std.specs.Prelude.{◌≡◌, ◌<◌, ◌≤◌, ℕ, ◌+◌, ◌^◌, Bool, true, List, length, ℤ, unsigned_abs, Option, Some, if◌then◌else◌, pos}
+use Rattle.std.specs.Prelude.{◌≡◌, ◌<◌, ◌≤◌, ℕ, ◌+◌, ◌^◌, Bool, true, List, length, ℤ, unsigned_abs, Some, if◌then◌else◌, pos}
 use Rattle.cob_tree.specs.declared.form.Usage.{Usage}
 use Rattle.cob_tree.specs.declared.form.Form.TheVariants as form
 use Rattle.cob_data.specs.declared.layout.Item.{Item}

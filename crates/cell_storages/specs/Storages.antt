@@ -1,11 +1,10 @@
 -- What is known of cells, and the storages of which it is true.
-use Rattle.std.specs.Prelude.{◌≡◌, ℕ, List, [], ◌∷◌, length, Option, Some, None, ℤ, if◌then◌else◌}
+use Rattle.std.specs.Prelude.{◌≡◌, ℕ, List, ◌∷◌, length, Option, Some, None, ℤ, if◌then◌else◌}
 use Rattle.cob_data.specs.declared.layout.Layout.{Layout}
 use Rattle.cob_program.specs.Act.{Program}
 use Rattle.cob_runs.specs.Contents.{form_at, bytes_at}
 use Rattle.cob_edge_parts.specs.Meaning.{count_in}
 use Rattle.num_bytes.specs.Reading.{contents_value}
-use Rattle.decimal_interval.specs.declared.bounds.Interval.{Interval}
 use Rattle.decimal_interval.specs.Bounds.{Holds}
 use Rattle.dom_laws.specs.Meaning.{Storage}
 use Rattle.cell_rows.specs.Known.{Known}

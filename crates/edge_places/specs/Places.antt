@@ -1,7 +1,6 @@
 -- What stands before each part of an edge: items are read before divisors count, and both before anything is written.
-use Rattle.std.specs.Prelude.{◌≡◌, ◌⊎◌, ℕ, Bool, true, false, List, [], ◌∷◌, ◌++◌, Option, Some, None, is_some}
+use Rattle.std.specs.Prelude.{◌≡◌, ◌⊎◌, ℕ, Bool, true, false, List, [], ◌∷◌, ◌++◌, Option, Some, is_some}
 use Rattle.std.specs.List.{list_all, Contains}
-use Rattle.dec_num.specs.declared.types.Mode.{Mode}
 use Rattle.dec_num.specs.declared.types.Scaled.{Scaled}
 use Rattle.cob_data.specs.declared.layout.Sender.{Sender}
 use Rattle.cob_program.specs.declared.act.Target.{Target}
@@ -9,8 +8,7 @@ use Rattle.cob_program.specs.declared.act.How.{How}
 use Rattle.cob_program.specs.declared.act.How.TheVariants as how
 use Rattle.cob_program.specs.Sum.{Sum, Atom}
 use Rattle.cob_program.specs.Values.{atom_value, root_of}
-use Rattle.cob_program.specs.Act.{Turns, times, varying, Stmts, Phrase, Act, move, arith, perform, write, Body, Program}
-use Rattle.cob_program.specs.Logic.{Logic}
+use Rattle.cob_program.specs.Act.{times, varying, Stmts, Phrase, Act, move, arith, perform, write, Program}
 use Rattle.cob_runs.specs.declared.action.Action.{Action}
 use Rattle.cob_runs.specs.declared.action.Action.TheVariants as action
 use Rattle.cob_runs.specs.Computing.{items_in, items_in_atom, result, remainder_of}
@@ -108,9 +106,15 @@ abbrev pub PartsAreInPlace : Type 0
 PartsAreInPlace = (p : Program) (statement : ℕ) (a : Act) (x : Action) (done rest : List Part) (y : Part)
     → done ++ y ∷ rest ≡ parts_of p statement a x → IsInPlace statement a x done y
 
--- Arithmetic has parts on two edges alone.
+-- a divisor, or a value for an item
+abbrev pub is_worked : Part → Bool
+is_worked (divide d) = true
+is_worked (store place mode y) = true
+is_worked _ = false
+
+-- Arithmetic is worked on two edges alone.
 abbrev pub ArithmeticIsDone : Type 0
 ArithmeticIsDone =
     (p : Program) (statement : ℕ) (s : Sum) (targets : List Target) (remainder : Option ℕ) (size : Phrase) (fine : Stmts) (x : Action)
-    (done rest : List Part) (y : Part) → done ++ y ∷ rest ≡ parts_of p statement (arith s targets remainder size fine) x
+    (done rest : List Part) (y : Part) → done ++ y ∷ rest ≡ parts_of p statement (arith s targets remainder size fine) x → is_worked y ≡ true
     → (x ≡ action.Done) ⊎ (x ≡ action.Size)

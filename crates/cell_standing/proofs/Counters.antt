@@ -1,9 +1,9 @@
 -- A counter gets a number.
-use Rattle.std.proofs.Common.{◌≡◌, ◌<◌, ◌≤◌, ℕ, zero, suc, ◌-◌, ◌==◌, Bool, true, false, List, [], ◌∷◌, length, Option, Some, None, ℤ, refl, sym, ap, subst, ◌∙◌, arith}
+use Rattle.std.proofs.Common.{◌≡◌, ◌≤◌, ℕ, zero, suc, ◌-◌, ◌==◌, Bool, true, false, List, [], ◌∷◌, Option, Some, None, ℤ, refl, ap, subst, ◌∙◌, arith}
 use Rattle.std.specs.Prelude.{slice_get, slice_set}
 use Rattle.std.specs.Option.{option_map_or}
-use Rattle.std.proofs.lemmas.Bool.{eqb-true}
-use Rattle.cob_program.specs.Act.{Act, Program}
+use Rattle.std.proofs.lemmas.Bool.{eqb-true, eq-eqb}
+use Rattle.cob_program.specs.Act.{Program}
 use Rattle.cob_edge_parts.specs.Meaning.{count_in}
 use Rattle.graph_runs.specs.Counters.{IsCount, HoldsCount, IsCounted}
 
@@ -44,7 +44,7 @@ same_or_not j k P yes_ no_ = go (j == k) refl
   where
     go : (b : Bool) → (j == k) ≡ b → P
     go true e = yes_ (eqb-true j k e)
-    go false e = no_ (λ f. omega (arith, e, f))
+    go false e = no_ (λ f. let g : (j == k) ≡ true = eq-eqb j k f in cc)
 
 -- each counter still holds its number
 pub counted_set : (p : Program) (counts : List (Option ℤ)) (n : ℕ) (v : ℤ) → IsCount v → IsCounted p counts → IsCounted p (slice_set counts (n - 1) (Some v))

@@ -1,7 +1,8 @@
 -- Where bytes change, items that have none of them keep their numbers.
-use Rattle.std.proofs.Common.{◌≡◌, ◌≤◌, ℕ, ◌+◌, Bool, true, false, ◌||◌, not, ◌⊎◌, inl, inr, List, [], ◌∷◌, length, Option, Some, None, ℤ, refl, sym, ap, subst, ◌∙◌, arith}
+use Rattle.std.proofs.Common.{◌≡◌, ◌≤◌, ℕ, ◌+◌, Bool, true, false, ◌||◌, not, inl, inr, List, [], length, Option, Some, None, ℤ, refl, sym, ap, ◌∙◌, arith}
 use Rattle.std.specs.Prelude.{nat_le}
-use Rattle.std.specs.Option.{option_map, option_map_or}
+use Rattle.std.specs.Option.{option_map_or}
+use Rattle.std.proofs.lemmas.Bool.Decides.{nat_tests}
 use Rattle.cob_data.specs.declared.layout.Item.{Item}
 use Rattle.cob_data.specs.declared.layout.Layout.{Layout}
 use Rattle.num_bytes.specs.Reading.{contents_value}
@@ -14,7 +15,7 @@ use Rattle.cell_storages.specs.Storages.{storage, value_at}
 use Rattle.cell_steps.specs.Cells.{share_bytes, is_in_bytes, is_beside}
 
 le_is : (a b : ℕ) → nat_le a b ≡ true → a ≤ b
-le_is a b e = omega (arith, e)
+le_is a b e = grind (arith, nat_tests)
 
 pub apart_of : (offset count from many : ℕ) → share_bytes offset count from many ≡ false → AreApart offset count from many
 apart_of offset count from many e = go (nat_le (from + many) offset) (nat_le (offset + count) from) refl refl e

@@ -1,11 +1,10 @@
 -- Numbers of a storage lie in the ranges of what is known of it.
-use Rattle.std.proofs.Common.{◌≡◌, ◌<◌, ◌≤◌, ℕ, zero, suc, Bool, true, false, if◌then◌else◌, List, [], ◌∷◌, length, Option, Some, None, is_some, ℤ, pos, ◌≤ℤ◌, refl, sym, ap, subst, ◌∙◌, arith}
-use Rattle.std.specs.Prelude.{neg_ℤ, ◌-◌, ◌^◌, unsigned_abs, slice_index_or}
+use Rattle.std.proofs.Common.{◌≡◌, ◌<◌, ◌≤◌, ℕ, suc, Bool, true, false, if◌then◌else◌, List, [], ◌∷◌, Option, Some, None, is_some, ℤ, pos, ◌≤ℤ◌, refl, sym, subst, arith}
+use Rattle.std.specs.Prelude.{neg_ℤ, ◌-◌, ◌^◌, unsigned_abs}
 use Rattle.std.specs.List.{Contains}
 use Rattle.std.specs.Option.{option_map}
 use Rattle.std.proofs.lemmas.Int.{ints}
 use Rattle.dec_num.specs.declared.types.Scaled.{Scaled}
-use Rattle.cob_data.specs.declared.layout.Layout.{Layout}
 use Rattle.decimal_interval.specs.declared.bounds.Interval.{Interval}
 use Rattle.decimal_interval.specs.Bounds.{Holds}
 use Rattle.cob_program.specs.Act.{Program}
@@ -18,14 +17,14 @@ use Rattle.graph_runs.specs.Counters.{IsCount, HoldsCount}
 use Rattle.guard_ranges.specs.Meaning.{ItemsHold}
 use Rattle.cell_rows.specs.Known.{Known}
 use Rattle.cell_storages.specs.Homes.{Home, of_item, of_count, is_home, homes_of, home_range, picture_range}
-use Rattle.cell_storages.specs.Storages.{storage, known_of, value_at, KnownStands, StandsIn}
+use Rattle.cell_storages.specs.Storages.{known_of, value_at, KnownStands, StandsIn}
 use Rattle.cell_storages.specs.Premises.{HasSoundItems}
 use Rattle.cell_steps.specs.Cells.{known_or, units_of, is_numeric, with_known}
 use Rattle.cell_steps.specs.Stores.{range_at}
 use Rattle.cell_steps.specs.Agreeing.{IsTimesAt}
 use Rattle.cell_rises.proofs.Ranges.{home_ordered}
 use Rattle.cell_rises.proofs.Lists.{home_is}
-use Rattle.cell_keeps.proofs.Standing.{known_after}
+use Rattle.cell_standing.proofs.Standing.{known_after}
 
 -- ---- homes of a program
 

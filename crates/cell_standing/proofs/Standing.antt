@@ -1,8 +1,7 @@
 -- What is known of homes stays true where cells change.
-use Rattle.std.proofs.Common.{◌≡◌, ℕ, suc, ◌==◌, Bool, true, false, if◌then◌else◌, List, [], ◌∷◌, length, Option, Some, None, ℤ, ◌≤ℤ◌, refl, sym, ap, subst, ◌∙◌, arith}
+use Rattle.std.proofs.Common.{◌≡◌, Bool, true, false, if◌then◌else◌, List, [], ◌∷◌, Option, Some, None, ℤ, refl, sym, subst, ◌∙◌, arith}
 use Rattle.std.proofs.lemmas.Int.{ints}
-use Rattle.std.proofs.lemmas.Bool.{eqb-true, eq-eqb}
-use Rattle.decimal_interval.specs.declared.bounds.Interval.{Interval}
+use Rattle.std.proofs.lemmas.Bool.{eq-eqb}
 use Rattle.cell_rows.specs.Known.{Known, KnownBelow}
 use Rattle.cell_rows.specs.Elements.{CellsBelow}
 use Rattle.cell_storages.specs.Homes.{Home, of_item, of_count, is_home}

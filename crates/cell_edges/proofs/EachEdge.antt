@@ -1,0 +1,87 @@
+-- The laws of edges, with those of results, guards and operands put in.
+use Rattle.std.proofs.Common.{Option, Some, None, IfSome, ℤ, ◌≤ℤ◌}
+use Rattle.decimal_interval.specs.declared.bounds.Interval.{Interval}
+use Rattle.result_ranges.specs.Results.{IsInside, IsInsideIfAny}
+use Rattle.result_ranges.proofs.Keeping.{kept_least, exceeded}
+use Rattle.result_ranges.proofs.Narrower.{computed_narrower, exceeds_inside, fitted_inside, may_fail_wider, results_inside}
+use Rattle.result_ranges.proofs.Taking.{operands_below}
+use Rattle.result_ranges.proofs.Fitting.{kept_is_told, stored_in_range}
+use Rattle.result_ranges.proofs.Meant.{computed_in, remaining_in}
+use Rattle.result_ranges.proofs.Rests.{plus_in}
+use Rattle.guard_ranges.specs.Counts.{count_kept}
+use Rattle.guard_ranges.specs.Kept.{IsPartOf, UnitsBelow}
+use Rattle.guard_ranges.proofs.GuardLaws.{guard_holds, guard_below, guard_fits}
+use Rattle.guard_ranges.proofs.CountLaws.{count_holds, count_rises, count_part}
+use Rattle.guard_ranges.proofs.Agreement.{numeric_sum}
+use Rattle.edge_places.proofs.Parts.{parts_are_in_place, arithmetic_is_done}
+use Rattle.cell_rises.proofs.Given as rises
+use Rattle.cell_operands.proofs.Given as operands
+use Rattle.cell_operands.proofs.Holding.{operands_hold}
+use Rattle.cell_keeps.proofs.Given as keeps
+use Rattle.cell_edges.specs.EdgeLaws.{EdgesAreWalked, PostsFit, PostsRise, ClearsStay, PostsStand, ClearedIsntMet}
+use Rattle.cell_edges.proofs.Rises.{posts_rise, posts_fit, clears_stay}
+use Rattle.cell_edges.proofs.Sound.{edge_is_sound, posts_stand, cleared_isnt_met}
+
+inside_of : (o p : Option Interval) → UnitsBelow o p → IsInsideIfAny o p
+inside_of None p h = tt
+inside_of (Some i) None h = h
+inside_of (Some i) (Some j) h = h
+
+part_of : (i : Interval) (o : Option Interval) → IfSome o (λ j. IsPartOf j i) → IfSome o (λ j. IsInside j i × (j.low ≤ℤ j.high))
+part_of i None h = tt
+part_of i (Some j) h = ((h.low, h.high), h.ordered)
+
+rising : rises.Given
+rising = record {
+  operands_ = λ narrow wide within y. operands_below narrow wide within y;
+  computed_ = computed_narrower;
+  results_ = results_inside;
+  fails_ = may_fail_wider;
+  fitted_ = fitted_inside;
+  exceeds_ = exceeds_inside;
+  kept_ = kept_least;
+  guards_ = λ l narrow more wide fewer k t wanted. guard_below l narrow more wide fewer k t wanted;
+  cuts_ = λ l range is_numeric ordered t wanted. guard_fits l range is_numeric ordered t wanted;
+  counts_ = λ wanted i j h. inside_of (count_kept wanted i) (count_kept wanted j) (count_rises wanted i j h.0 h.1);
+  counts_fit_ = λ wanted i. part_of i (count_kept wanted i) (count_part wanted i);
+}
+
+amounts : operands.Given
+amounts = record {
+  computed_ = λ worth range held s h v own inside x e. computed_in worth range held s h v own inside x e;
+  remaining_ = λ worth range held s scale x e. remaining_in worth range held s scale x e;
+  plus_in_ = plus_in;
+}
+
+keeping : keeps.Given
+keeping = record {
+  rising = rising;
+  fits_ = λ mode f y v bytes h e. stored_in_range mode f y v h bytes e;
+  fails_ = λ mode f y v h e. kept_is_told mode f y v h e;
+  kept_ = kept_least;
+  exceeded_ = exceeded;
+  guards_ = λ l range is_numeric bytes h t wanted e. guard_holds l range is_numeric bytes h t wanted e;
+  counts_ = λ wanted i v h e. count_holds wanted i v h e;
+  operands_ = λ p statement a x cells first counts sound stands numeric. operands_hold amounts p sound cells first counts stands statement a x numeric;
+  places_ = parts_are_in_place;
+  edges_ = arithmetic_is_done;
+  numeric_sum_ = λ l bytes other s e. numeric_sum l bytes other s e;
+}
+
+pub edges_are_walked : EdgesAreWalked
+edges_are_walked p statement a x = edge_is_sound keeping p statement a x
+
+pub posts_fit_owns : PostsFit
+posts_fit_owns p statement a x cells f = posts_fit rising p statement a x cells f
+
+pub all_posts_rise : PostsRise
+all_posts_rise p statement a x less more f h = posts_rise rising p statement a x less more f h
+
+pub all_clears_stay : ClearsStay
+all_clears_stay p statement a x less more fault f h e = clears_stay rising p statement a x less more fault f h e
+
+pub all_posts_stand : PostsStand
+all_posts_stand p statement a x cells bytes counts last sound stands h e = posts_stand keeping p statement a x cells bytes counts sound stands last h e
+
+pub none_cleared_is_met : ClearedIsntMet
+none_cleared_is_met p statement a x cells bytes counts fault sound stands e its h = cleared_isnt_met keeping p statement a x cells bytes counts sound stands fault e its h

@@ -1,0 +1,4 @@
+pub mod Given
+pub mod Agreement
+pub mod Roots
+pub mod Holding

@@ -1,0 +1,4 @@
+pub mod Standing
+pub mod Frames
+pub mod Counters
+pub mod Holding

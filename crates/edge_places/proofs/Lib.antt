@@ -1,0 +1,5 @@
+pub mod Splits
+pub mod Divisors
+pub mod Arithmetic
+pub mod Moves
+pub mod Parts
