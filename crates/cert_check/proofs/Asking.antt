@@ -4,18 +4,20 @@ use Rattle.std.specs.Prelude.{IfSome, IsTrue}
 use Rattle.std.specs.List.{All, AllByRecursion}
 use Rattle.std.proofs.lemmas.Bool.{and_parts, ltb-true}
 use Rattle.std.proofs.lemmas.Int.{ints}
+use Rattle.std.proofs.lemmas.List.{length-map}
 use Rattle.std.proofs.lemmas.List.Elements.{recursion_from_All}
 use Rattle.cob_tree.specs.declared.fault.Kind.{Kind}
 use Rattle.cob_program.specs.Act.{Program}
 use Rattle.cob_graph.specs.declared.graph.Graph.{Graph}
 use Rattle.cert_text.specs.declared.cert.Claim.{Claim}
+use Rattle.cert_text.specs.declared.cert.Cert.{Cert}
 use Rattle.cert_text.specs.declared.cert.Element as text
-use Rattle.cert_text.specs.View.{Certificate, Place, NotReached, Holds, place_of}
-use Rattle.cert_text.specs.Allowed.{claim_fits, claims_fit, place_fits, places_all_fit}
+use Rattle.cert_text.specs.View.{Certificate, Place, NotReached, Holds, place_of, view}
+use Rattle.cert_text.specs.Allowed.{IsAllowed, claim_fits, claims_fit, place_fits, places_all_fit}
 use Rattle.decimal_interval.specs.declared.bounds.Interval.{Interval}
 use Rattle.decimal_interval.specs.Corners.{interval}
 use Rattle.dom_laws.specs.Lattice.{Lattice, IsElement}
-use Rattle.dom_laws.specs.Flow.{Flow}
+use Rattle.dom_laws.specs.Flow.{Flow, IsInductive}
 use Rattle.cell_rows.specs.Known.{Known, KnownFits}
 use Rattle.cell_rows.specs.Elements.{Element, CellsFit, ElementFits}
 use Rattle.cell_rows.specs.Rows.{element_of, row_from, width_of, cells_lattice, IsSaid}
@@ -24,7 +26,8 @@ use Rattle.claimed_rows.specs.Gaps.{IsSmall, AreSmall, AreSmallClaims, HasSmallC
 use Rattle.cell_storages.specs.Homes.{owns}
 use Rattle.cell_layer_laws.specs.Layer.{clears_at, cell_flow}
 use Rattle.cert_check.specs.Claims.{claims_at, row_at}
-use Rattle.cert_check.specs.Passing.{KeepBefore, IsFirstLeak}
+use Rattle.inductive_pass.specs.Leaks.{IsFirstLeak}
+use Rattle.cert_check.specs.Along.{arrives}
 use Rattle.cert_check.proofs.Accepting.{claimed, claimed_back}
 
 -- ---- rows of the program's own ranges
@@ -37,13 +40,17 @@ module _ (p : Program) (g : Graph) (c : Certificate) (ranges : List Interval) (s
   pub claimed_means : (node : ℕ) → element_of (claimed_row ranges (place_at c node)) ≡ claims_at p g c node
   claimed_means node = ap (λ os. element_of (claimed_row os (place_at c node))) same ∙ claimed_back p g c [] node
 
-  pub keep_there : (l : Lattice) (f : Flow) (n : ℕ) → KeepBefore l f (λ node. claimed_row ranges (place_at c node)) n →
-      KeepBefore l f (row_at p g c) n
-  keep_there l f n h = subst (λ os. KeepBefore l f (λ node. claimed_row os (place_at c node)) n) same h
+  pub inductive_there : (l : Lattice) (f : Flow) → IsInductive l f (λ node. claimed_row ranges (place_at c node)) →
+      IsInductive l f (row_at p g c)
+  inductive_there l f h = subst (λ os. IsInductive l f (λ node. claimed_row os (place_at c node))) same h
 
   pub leak_there : (l : Lattice) (f : Flow) (e : ℕ) → IsFirstLeak l f (λ node. claimed_row ranges (place_at c node)) e →
       IsFirstLeak l f (row_at p g c) e
   leak_there l f e h = subst (λ os. IsFirstLeak l f (λ node. claimed_row os (place_at c node)) e) same h
+
+  pub arrives_there : (f : Flow) (e : ℕ) (row : List ℤ) → row ≡ arrives f (λ node. claimed_row ranges (place_at c node)) e →
+      row ≡ arrives f (row_at p g c) e
+  arrives_there f e row h = subst (λ os. row ≡ arrives f (λ node. claimed_row os (place_at c node)) e) same h
 
 same_answer : (a b : Bool) → IsTrue a ↔ (b ≡ true) → a ≡ b
 same_answer true b h = sym (h.0 refl)
@@ -109,3 +116,17 @@ pub place_is : (places : List text.Element) (k : ℕ) (d : text.Element) → k <
 place_is [] k d l = absurd (omega (arith, l))
 place_is (x ∷ places) zero d l = refl
 place_is (x ∷ places) (suc k) d l = place_is places k d (omega (arith, l))
+
+-- the place of a node in a certificate
+pub place_there : (c : Cert) (nodes node : ℕ) (x d : text.Element) → x ≡ slice_index_or c.nodes.items (node - 1) d → 1 ≤ node → node ≤ nodes →
+    length (view c).nodes ≡ nodes → (node - 1 < length c.nodes.items) × (place_of x ≡ place_at (view c) node)
+place_there c nodes node x d e first last count =
+    let whole : length c.nodes.items ≡ nodes = sym (length-map place_of c.nodes.items) ∙ count in
+    let within : node - 1 < length c.nodes.items = omega (arith, first, last, whole) in
+    (within, ap place_of e ∙ place_is c.nodes.items (node - 1) d within)
+
+pub claims_there : (c : Cert) (nodes node : ℕ) (x d : text.Element) → x ≡ slice_index_or c.nodes.items (node - 1) d → 1 ≤ node →
+    node ≤ nodes → length (view c).nodes ≡ nodes → IsAllowed (view c) → HasSmallClaims (place_of x)
+claims_there c nodes node x d e first last count allowed =
+    subst HasSmallClaims (sym (place_there c nodes node x d e first last count).1)
+    (places_small (view c).cells (view c).packs (view c).nodes (node - 1) allowed.each_node)

@@ -1,9 +1,12 @@
 -- The first edge that doesn't keep the claimed rows has the first leak.
-use Rattle.std.proofs.Common.{◌≡◌, ℕ, zero, suc, ◌+◌, ◌≤◌, ◌<◌, List, [], ◌∷◌, ◌++◌, map, length, slice_get, Some, None, ℤ, refl, sym, ap, ◌∙◌, subst, inl, inr, arith}
+use Rattle.std.proofs.Common.{◌≡◌, ℕ, zero, suc, ◌+◌, ◌≤◌, ◌<◌, List, [], ◌∷◌, ◌++◌, map, length, slice_get, Option, Some, None, ℤ, refl, sym, ap, ◌∙◌, subst, inl, inr, arith}
 use Rattle.std.specs.List.{flat_map, range_with_len}
 use Rattle.cob_program.specs.Act.{Program}
 use Rattle.cob_graph.specs.declared.graph.Graph.{Graph}
-use Rattle.cert_text.specs.View.{Certificate}
+use Rattle.cert_text.specs.View.{Certificate, Place}
+use Rattle.dom_laws.specs.Flow.{IsInductive}
+use Rattle.decimal_interval.specs.declared.bounds.Interval.{Interval}
+use Rattle.claimed_rows.specs.Gaps.{gaps}
 use Rattle.cell_rows.specs.Elements.{Element, ElementFits, ElementBelow}
 use Rattle.cell_rows.specs.Rows.{element_of, row_from, width_of, cells_lattice}
 use Rattle.cell_rows.proofs.Rows.{element_back}
@@ -14,7 +17,8 @@ use Rattle.graph_runs.specs.Places.{edge_at}
 use Rattle.cell_storages.specs.Homes.{owns}
 use Rattle.cell_layer_laws.specs.Layer.{post_at, cell_flow}
 use Rattle.cert_check.specs.Claims.{leak, leaks, edge_leaks, edge_gaps, comes_along, leads_to, claims_at, row_at}
-use Rattle.cert_check.specs.Passing.{led_to, arrives, Keeps, KeepBefore, IsFirstLeak}
+use Rattle.inductive_pass.specs.Leaks.{Keeps, IsFirstLeak}
+use Rattle.cert_check.specs.Along.{led_to, arrives}
 use Rattle.cert_check.proofs.Lists.{equal_or_less}
 use Rattle.cert_check.proofs.Accepting.{claims_fit, claimed_back}
 use Rattle.cert_check.proofs.Covering.{LayerLaws}
@@ -64,8 +68,17 @@ module _ (p : Program) (g : Graph) (c : Certificate) (thresholds : List (List �
   leads_is zero = refl
   leads_is (suc e) = refl
 
+  -- the edge keeps the rows
   abbrev KeepsAt : ℕ → Type 0
   KeepsAt e = Keeps (cells_lattice (owns p) thresholds) (cell_flow p g) (row_at p g c) e
+
+  below_of : (e : ℕ) → KeepsAt e → ElementBelow (element_of (arrives (cell_flow p g) (row_at p g c) e)) (element_of (row_at p g c (led_to (cell_flow p g) e)))
+  below_of zero keeps = keeps
+  below_of (suc e) keeps = keeps
+
+  of_below : (e : ℕ) → ElementBelow (element_of (arrives (cell_flow p g) (row_at p g c) e)) (element_of (row_at p g c (led_to (cell_flow p g) e))) → KeepsAt e
+  of_below zero below = below
+  of_below (suc e) below = below
 
   there_is : (e : ℕ) → element_of (row_at p g c (led_to (cell_flow p g) e)) ≡ claims_at p g c (leads_to p g c e)
   there_is e = ap (λ n. element_of (row_at p g c n)) (leads_is e) ∙ claimed_back p g c thresholds (leads_to p g c e)
@@ -75,23 +88,49 @@ module _ (p : Program) (g : Graph) (c : Certificate) (thresholds : List (List �
   kept_no_gaps e keeps =
       (gaps_tell (owns p) (comes_along p g c e) (place_at c (leads_to p g c e)) (comes_fits e)).1
       (subst (λ x. ElementBelow x (claims_at p g c (leads_to p g c e))) (arrived e)
-      (subst (ElementBelow (element_of (arrives (cell_flow p g) (row_at p g c) e))) (there_is e) keeps))
+      (subst (ElementBelow (element_of (arrives (cell_flow p g) (row_at p g c) e))) (there_is e) (below_of e keeps)))
 
   pub no_gaps_kept : (e : ℕ) → edge_gaps p g c e ≡ [] → KeepsAt e
   no_gaps_kept e none =
-      subst (ElementBelow (element_of (arrives (cell_flow p g) (row_at p g c) e))) (sym (there_is e))
+      of_below e
+      (subst (ElementBelow (element_of (arrives (cell_flow p g) (row_at p g c) e))) (sym (there_is e))
       (subst (λ x. ElementBelow x (claims_at p g c (leads_to p g c e))) (sym (arrived e))
-      ((gaps_tell (owns p) (comes_along p g c e) (place_at c (leads_to p g c e)) (comes_fits e)).0 none))
+      ((gaps_tell (owns p) (comes_along p g c e) (place_at c (leads_to p g c e)) (comes_fits e)).0 none)))
 
   no_leaks_of : (e : ℕ) → KeepsAt e → edge_leaks p g c e ≡ []
   no_leaks_of e keeps = ap (map (leak e)) (kept_no_gaps e keeps)
 
-  pub no_leaks : KeepBefore (cells_lattice (owns p) thresholds) (cell_flow p g) (row_at p g c) (suc (length g.edges)) → leaks p g c ≡ []
-  no_leaks keep = all_empty (edge_leaks p g c) 0 (suc (length g.edges)) (λ k l m. no_leaks_of k (keep k (omega (arith, m))))
+  all_kept : IsInductive (cells_lattice (owns p) thresholds) (cell_flow p g) (row_at p g c) → (e : ℕ) → e ≤ length g.edges → KeepsAt e
+  all_kept is zero last = is.entry
+  all_kept is (suc e) last = is.edges (suc e) (record { first = omega arith; last = last })
+
+  pub no_leaks : IsInductive (cells_lattice (owns p) thresholds) (cell_flow p g) (row_at p g c) → leaks p g c ≡ []
+  no_leaks is =
+      all_empty (edge_leaks p g c) 0 (suc (length g.edges)) (λ k l m. no_leaks_of k (all_kept is k (omega (arith, m))))
 
   pub leaks_first : (e : ℕ) (gap : Gap) → IsFirstLeak (cells_lattice (owns p) thresholds) (cell_flow p g) (row_at p g c) e →
       slice_get (edge_gaps p g c e) 0 ≡ Some gap → slice_get (leaks p g c) 0 ≡ Some (leak e gap)
   leaks_first e gap is f =
-      let last = is.last in
+      let last = is.within in
       first_there (edge_leaks p g c) 0 (suc (length g.edges)) e (leak e gap) (omega arith) (omega (arith, last))
       (λ k l m. no_leaks_of k (is.before k m)) (first_leak e (edge_gaps p g c e) gap f)
+
+  -- the first gap at the node that an edge leads to
+  module _ (e : ℕ) (ranges : List Interval) (row : List ℤ) (place : Place) (same : ranges ≡ owns p)
+      (row_is : row ≡ arrives (cell_flow p g) (row_at p g c) e) (place_is : place ≡ place_at c (led_to (cell_flow p g) e)) where
+    pub first_gap_is : (first : Option Gap) → first ≡ slice_get (gaps (length ranges) (element_of row) place) 0 →
+        slice_get (edge_gaps p g c e) 0 ≡ first
+    first_gap_is first h =
+        sym (h
+        ∙ ap (λ os. slice_get (gaps (length os) (element_of row) place) 0) same
+        ∙ ap (λ x. slice_get (gaps (length (owns p)) x place) 0) (ap element_of row_is ∙ arrived e)
+        ∙ ap (λ y. slice_get (gaps (length (owns p)) (comes_along p g c e) y) 0) (place_is ∙ ap (place_at c) (leads_is e)))
+
+    none_first : (gs : List Gap) → slice_get gs 0 ≡ None → gs ≡ []
+    none_first [] h = refl
+    none_first (x ∷ gs) h = absurd (cc h)
+
+    pub there_is_a_gap : (first : Option Gap) → first ≡ slice_get (gaps (length ranges) (element_of row) place) 0 → first ≡ None →
+        IsFirstLeak (cells_lattice (owns p) thresholds) (cell_flow p g) (row_at p g c) e → ⊥
+    there_is_a_gap first h none leak =
+        leak.leaks (no_gaps_kept e (none_first (edge_gaps p g c e) (first_gap_is first h ∙ none)))

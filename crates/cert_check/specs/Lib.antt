@@ -1,6 +1,6 @@
 pub mod Ranges
 pub mod Rows
-pub mod Passing
+pub mod Along
 pub mod Claims
 pub mod Clearing
 pub mod Counts

@@ -4,6 +4,7 @@ ghost use Rattle.std.specs.List.{All};
 ghost use Rattle.cob_program.specs.ActView.{plain_program};
 ghost use Rattle.cob_graph_build.specs.Limits.{IsWithinLimits};
 ghost use Rattle.graph_runs.specs.Sources.{IsSourceGraph};
+ghost use Rattle.dom_laws.specs.Lattice.{IsElement};
 ghost use Rattle.cell_rows.specs.Rows.{cells_lattice, lists_of};
 ghost use Rattle.cell_storages.specs.Homes.{owns};
 ghost use Rattle.cell_layer_laws.specs.Layer.{cell_flow};
@@ -13,10 +14,11 @@ ghost use Rattle.claimed_rows.specs.Gaps.{HasSmallClaims, IsSmall};
 ghost use Rattle.cert_check.specs.Counts.{HasCounts, MisfitsCounts};
 ghost use Rattle.cert_check.specs.Claims.{edge_gaps, row_at};
 ghost use Rattle.cert_check.specs.Checking.{Checks, CoversRuns, HasShape};
-ghost use Rattle.cert_check.specs.Passing.{IsFirstLeak, arrives};
+ghost use Rattle.inductive_pass.specs.Leaks.{IsFirstLeak};
+ghost use Rattle.cert_check.specs.Along.{arrives};
 ghost use Rattle.cert_check.specs.Ranges.{ends_of};
 
-use crate::edges::{led_to, pass};
+use crate::edges::{arrive, led_to};
 use crate::ends::{CheckEnd, Shape};
 use crate::nodes::open_pairs;
 use crate::ranges::{all_ends, own_ranges};
@@ -29,6 +31,7 @@ use cob_program::Program;
 use cob_tree::Open;
 use decimal_interval::Interval;
 use dom_laws::Domain;
+use inductive_pass::pass;
 use std::alloc::Global;
 
 // Whether a certificate has as many cells and nodes. Cells are looked at first.
@@ -64,6 +67,8 @@ fn gap_at(layer: &CellLayer, rows: &ClaimedRows, edge: u32, row: &[i128]) -> Gap
     requires nodes { length (view rows.now.cert.now).nodes ≡ length layer.now.graph.now.nodes }
     requires row { let p = plain_program layer.now.program.now in let g = layer.now.graph.now in
         row.now ≡ arrives (cell_flow p g) (row_at p g (view rows.now.cert.now)) edge }
+    requires element { IsElement (cells_lattice (owns (plain_program layer.now.program.now))
+        (lists_of layer.now.thresholds.now)) row.now }
     requires leak { let p = plain_program layer.now.program.now in let g = layer.now.graph.now in
         IsFirstLeak (cells_lattice (owns p) (lists_of layer.now.thresholds.now)) (cell_flow p g)
         (row_at p g (view rows.now.cert.now)) edge }
@@ -94,6 +99,7 @@ fn check_edges(
 {
     let mut out = vec![in alloc; 0; layer.words()]?;
     if let Some(edge) = pass(layer, rows, out.as_mut_slice()) {
+        arrive(layer, rows, edge, out.as_mut_slice());
         let gap = gap_at(layer, rows, edge, out.as_slice());
         return Err(CheckEnd::NotInductive {
             layer: 1,

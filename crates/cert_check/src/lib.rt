@@ -14,6 +14,6 @@ mod rows;
 
 pub use certificate::check;
 pub use claimed_rows::Gap;
-pub use edges::pass;
 pub use ends::{CheckEnd, Shape};
+pub use inductive_pass::pass;
 pub use laws::accepted_claims_cover_runs;
