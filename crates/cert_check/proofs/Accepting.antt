@@ -143,7 +143,7 @@ module _ (p : Program) (g : Graph) (c : Certificate) where
       (sym (element_back (owns p) (claims_at p g c node) (claims_fit (owns p) (place_at c node))))
       (clears_there node statement fault of
       (each_holds (node_clears p g c statement fault) 1 (length g.nodes) node e is.first
-        (let last = is.last in omega (arith, last))))
+      (let last = is.last in omega (arith, last))))
 
   open_there : (statement : ℕ) (fault : Kind) → is_cleared p g c statement fault ≡ false →
       Contains (open_of p g c statement fault) (open_at statement fault)

@@ -121,7 +121,7 @@ place_is (x ∷ places) (suc k) d l = place_is places k d (omega (arith, l))
 pub place_there : (c : Cert) (nodes node : ℕ) (x d : text.Element) → x ≡ slice_index_or c.nodes.items (node - 1) d → 1 ≤ node → node ≤ nodes →
     length (view c).nodes ≡ nodes → (node - 1 < length c.nodes.items) × (place_of x ≡ place_at (view c) node)
 place_there c nodes node x d e first last count =
-    let whole : length c.nodes.items ≡ nodes = sym (length-map place_of c.nodes.items) ∙ count in
+    let whole : length c.nodes.items ≡ nodes = sym (length-map c.nodes.items place_of) ∙ count in
     let within : node - 1 < length c.nodes.items = omega (arith, first, last, whole) in
     (within, ap place_of e ∙ place_is c.nodes.items (node - 1) d within)
 

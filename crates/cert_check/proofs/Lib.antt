@@ -3,6 +3,7 @@ pub mod Accepting
 pub mod Covering
 pub mod LayerLaws
 pub mod Leaking
+pub mod Answering
 pub mod Asking
 pub mod Noting
 pub mod Sources

@@ -1,5 +1,5 @@
 -- What nodes clear, noted at their statements one node after another.
-use Rattle.std.proofs.Common.{◌≡◌, ℕ, zero, suc, ◌+◌, ◌-◌, ◌≤◌, ◌<◌, ◌==◌, ◌&&◌, List, [], ◌∷◌, ◌++◌, length, get_or, slice_set, replicate, Bool, true, false, if◌then◌else◌, refl, sym, ap, ◌∙◌, subst, arith}
+use Rattle.std.proofs.Common.{◌≡◌, ℕ, zero, suc, ◌+◌, ◌-◌, ◌≤◌, ◌<◌, ◌==◌, ◌&&◌, List, [], ◌∷◌, ◌++◌, length, take, drop, get_or, slice_set, replicate, Bool, true, false, if◌then◌else◌, refl, sym, ap, ◌∙◌, subst, arith}
 use Rattle.std.specs.Prelude.{◌||◌, not}
 use Rattle.std.specs.List.{flat_map, list_all, range_with_len}
 use Rattle.std.proofs.lemmas.Bool.{eq-eqb, eqb-true}
@@ -95,7 +95,7 @@ same_fields a b c d s t u v e f g h =
 with_node : (b : Bool) (x : Cleared) (test : Kind → Bool) →
     (if b then both x (by_kind test) else x)
     ≡ made (x.size && (not b || test kind.Size)) (x.truncation && (not b || test kind.Truncation)) (x.zero && (not b || test kind.Zero))
-      (x.class && (not b || test kind.Class))
+    (x.class && (not b || test kind.Class))
 with_node true x test = refl
 with_node false x test =
     same_fields x.size x.truncation x.zero x.class _ _ _ _ (sym (and_true x.size)) (sym (and_true x.truncation)) (sym (and_true x.zero))
@@ -144,3 +144,27 @@ module _ (p : Program) (g : Graph) (c : Certificate) where
   pub all_pairs : (k : ℕ) (pairs : List Open) (noted : List Cleared) → AreClearedTo p g c (length g.nodes) noted → k ≡ length noted →
       pairs ≡ flat_map (opens_of p g c) (range_with_len 1 k) → pairs ≡ open_pairs p g c
   all_pairs k pairs noted are e f = f ∙ ap (λ n. flat_map (opens_of p g c) (range_with_len 1 n)) (e ∙ are.count)
+
+  -- the same with k + 1
+  pub noted_next : (n m statement : ℕ) (cleared : Cleared) (old new : List Cleared) → AreClearedTo p g c n old → m ≡ suc n →
+      statement ≡ statement_at g m → cleared ≡ cleared_at p g c m → IsNoted statement cleared old new → AreClearedTo p g c m new
+  noted_next n m statement cleared old new are f e is noted =
+      subst (λ k. AreClearedTo p g c k new) (sym f)
+      (noted_more n statement old new are (e ∙ ap (statement_at g) f)
+      (subst (λ x. IsNoted statement x old new) (is ∙ ap (cleared_at p g c) f) noted))
+
+  pub pairs_next : (k j : ℕ) (old new : List Open) (noted : List Cleared) (x d : Cleared) → AreClearedTo p g c (length g.nodes) noted →
+      j ≡ suc k → k < length noted → x ≡ get_or noted k d → old ≡ flat_map (opens_of p g c) (range_with_len 1 k) →
+      new ≡ old ++ left_open x j → new ≡ flat_map (opens_of p g c) (range_with_len 1 j)
+  pairs_next k j old new noted x d are f within e before after =
+      after ∙ ap (λ m. old ++ left_open x m) f
+      ∙ pairs_more k old noted x are within (e ∙ get_or_default noted k d all_cleared within) before
+      ∙ ap (λ m. flat_map (opens_of p g c) (range_with_len 1 m)) (sym f)
+
+-- a slice that is written back into its vector
+pub written_back : {A : Type 0} (xs items : List A) (n : ℕ) → n ≡ length xs → take n (xs ++ drop (length xs) items) ≡ xs
+written_back xs items n e = ap (λ m. take m (xs ++ drop (length xs) items)) e ∙ whole xs (drop (length xs) items)
+  where
+    whole : {A : Type 0} (xs ys : List A) → take (length xs) (xs ++ ys) ≡ xs
+    whole [] ys = refl
+    whole (x ∷ xs) ys = ap (λ zs. x ∷ zs) (whole xs ys)

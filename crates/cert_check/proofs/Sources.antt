@@ -1,6 +1,8 @@
 -- The cells of a source's program have at most 18 digits, and their own ranges are those of its homes.
-use Rattle.std.proofs.Common.{◌≡◌, ℕ, zero, suc, ◌≤◌, nat_le, Bool, true, false, if◌then◌else◌, List, [], ◌∷◌, ◌++◌, map, length, Option, Some, None, refl, sym, ap, ◌∙◌, subst, arith}
+use Rattle.std.proofs.Common.{◌≡◌, ℕ, zero, suc, ◌≤◌, nat_le, Bool, true, false, if◌then◌else◌, List, [], ◌∷◌, ◌++◌, map, length, Option, Some, None, ℤ, refl, sym, ap, ◌∙◌, subst, arith}
+use Rattle.std.specs.Prelude.{Vec, Result, Ok, Err, MatchResult}
 use Rattle.std.specs.List.{All, AllByRecursion}
+use Rattle.std.specs.declared.alloc.Global.{Global}
 use Rattle.std.proofs.Props.{props}
 use Rattle.std.proofs.Math.Logic.{∥∥₁_elim}
 use Rattle.std.proofs.lemmas.Bool.{leb-true}
@@ -20,6 +22,13 @@ use Rattle.graph_runs.specs.Sources.{IsSourceGraph}
 use Rattle.cell_storages.specs.Homes.{own_range, owns}
 use Rattle.cell_facts.proofs.Homes.{homes_have_own_ranges}
 use Rattle.cell_rows.specs.Elements.{AreThresholds}
+use Rattle.cell_rows.specs.Rows.{lists_of}
+use Rattle.cert_text.specs.View.{Certificate}
+use Rattle.cert_check.specs.declared.ends.CheckEnd.{CheckEnd}
+use Rattle.cert_check.specs.declared.ends.CheckEnd.TheVariants as check
+use Rattle.cert_check.specs.declared.ends.Shape.TheVariants as shape
+use Rattle.cert_check.specs.Counts.{HasCounts, MisfitsCounts}
+use Rattle.cert_check.specs.Checking.{HasShape, Refuses}
 use Rattle.cert_check.specs.Ranges.{IsShort, ends_of}
 
 abbrev AreShort : List Cell → Type 0
@@ -99,3 +108,49 @@ module _ (p : Program) (g : Graph) (source : ∥ IsSourceGraph p g ∥₁) where
 pub ends_are_thresholds : (ranges : List Interval) → AreThresholds ranges (map ends_of ranges)
 ends_are_thresholds [] = tt
 ends_are_thresholds (own ∷ ranges) = (record { some = omega arith; first = refl; last = refl }, ends_are_thresholds ranges)
+
+pub thresholds_of : (p : Program) (ranges : List Interval) (lists : List (List ℤ)) → ranges ≡ owns p → lists ≡ map ends_of ranges →
+    AreThresholds (owns p) lists
+thresholds_of p ranges lists same are =
+    subst (λ (os : List Interval). AreThresholds os lists) same
+    (subst (AreThresholds ranges) (sym are) (ends_are_thresholds ranges))
+
+two_each : (ends : List (Vec ℤ Global)) (ranges : List Interval) → lists_of ends ≡ map ends_of ranges →
+    AllByRecursion (λ (list : Vec ℤ Global). length list.items ≤ 128) ends
+two_each [] ranges e = tt
+two_each (list ∷ ends) [] e = absurd (cc e)
+two_each (list ∷ ends) (own ∷ ranges) e =
+    let first : list.items ≡ ends_of own = cc e in
+    let count : length list.items ≡ 2 = ap length first in
+    let rest : lists_of ends ≡ map ends_of ranges = cc e in
+    (omega (arith, count), two_each ends ranges rest)
+
+pub lists_are_short : (ends : List (Vec ℤ Global)) (ranges : List Interval) → lists_of ends ≡ map ends_of ranges →
+    All (λ (list : Vec ℤ Global). length list.items ≤ 128) ends
+lists_are_short ends ranges e = All-from_recursion (λ (list : Vec ℤ Global). length list.items ≤ 128) ends (two_each ends ranges e)
+
+-- ---- the shape by numbers
+
+module _ (p : Program) (g : Graph) (c : Certificate) (cells nodes : ℕ) (cells_are : cells ≡ length (cells_of p))
+    (nodes_are : nodes ≡ length g.nodes) where
+  pub shape_is : HasCounts c cells nodes → HasShape p g c
+  shape_is has = record { cells = has.cells_are ∙ cells_are; nodes = has.nodes_are ∙ nodes_are }
+
+  pub misfit_is : (end : CheckEnd) → MisfitsCounts c cells nodes end → Refuses p g c end
+  misfit_is (check.Shape shape.Cells found wanted) (found_is, wanted_is, differ) = (found_is, wanted_is ∙ cells_are, differ)
+  misfit_is (check.Shape shape.Nodes found wanted) (fit, found_is, wanted_is, differ) = (fit ∙ cells_are, found_is, wanted_is ∙ nodes_are, differ)
+  misfit_is (check.NotInductive layer edge gap) h = absurd h
+  misfit_is check.Memory h = tt
+
+module _ (p : Program) (g : Graph) (c : Certificate) (source : ∥ IsSourceGraph p g ∥₁) {T : Type 0} (r : Result T CheckEnd)
+    (cells nodes : ℕ) (cells_are : cells ≡ length g.cells) (nodes_are : nodes ≡ length g.nodes)
+    (says : MatchResult r (λ _. HasCounts c cells nodes) (MisfitsCounts c cells nodes)) where
+  pub misfit_answer : (end : CheckEnd) → r ≡ Err end → Refuses p g c end
+  misfit_answer end e =
+      misfit_is p g c cells nodes (cells_are ∙ cell_count p g source) nodes_are end
+      (subst (λ (x : Result T CheckEnd). MatchResult x (λ _. HasCounts c cells nodes) (MisfitsCounts c cells nodes)) e says)
+
+  pub shape_answer : (x : T) → r ≡ Ok x → HasShape p g c
+  shape_answer x e =
+      shape_is p g c cells nodes (cells_are ∙ cell_count p g source) nodes_are
+      (subst (λ (x : Result T CheckEnd). MatchResult x (λ _. HasCounts c cells nodes) (MisfitsCounts c cells nodes)) e says)

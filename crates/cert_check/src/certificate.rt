@@ -4,8 +4,9 @@ ghost use Rattle.std.specs.List.{All};
 ghost use Rattle.cob_program.specs.ActView.{plain_program};
 ghost use Rattle.cob_graph_build.specs.Limits.{IsWithinLimits};
 ghost use Rattle.graph_runs.specs.Sources.{IsSourceGraph};
+ghost use Rattle.dom_laws.specs.Flow.{IsInductive};
 ghost use Rattle.dom_laws.specs.Lattice.{IsElement};
-ghost use Rattle.cell_rows.specs.Rows.{cells_lattice, lists_of};
+ghost use Rattle.cell_rows.specs.Rows.{cells_lattice, lists_of, width_of};
 ghost use Rattle.cell_storages.specs.Homes.{owns};
 ghost use Rattle.cell_layer_laws.specs.Layer.{cell_flow};
 ghost use Rattle.cert_text.specs.View.{view};
@@ -13,7 +14,7 @@ ghost use Rattle.cert_text.specs.Allowed.{IsAllowed};
 ghost use Rattle.claimed_rows.specs.Gaps.{HasSmallClaims, IsSmall};
 ghost use Rattle.cert_check.specs.Counts.{HasCounts, MisfitsCounts};
 ghost use Rattle.cert_check.specs.Claims.{edge_gaps, row_at};
-ghost use Rattle.cert_check.specs.Checking.{Checks, CoversRuns, HasShape};
+ghost use Rattle.cert_check.specs.Checking.{Checks, CoversRuns, HasShape, Refuses};
 ghost use Rattle.inductive_pass.specs.Leaks.{IsFirstLeak};
 ghost use Rattle.cert_check.specs.Along.{arrives};
 ghost use Rattle.cert_check.specs.Ranges.{ends_of};
@@ -82,6 +83,48 @@ fn gap_at(layer: &CellLayer, rows: &ClaimedRows, edge: u32, row: &[i128]) -> Gap
     }
 }
 
+// Why a certificate isn't inductive, by the first edge that has a gap. `out` is room for what comes along it.
+fn leak_at(layer: &CellLayer, rows: &ClaimedRows, edge: u32, out: &mut [i128]) -> CheckEnd
+    requires source { ∥ IsSourceGraph (plain_program layer.now.program.now) layer.now.graph.now ∥₁ }
+    requires owns { rows.now.owns.now ≡ owns (plain_program layer.now.program.now) }
+    requires small { All IsSmall rows.now.owns.now }
+    requires few { length rows.now.owns.now ≤ 512 }
+    requires allowed { IsAllowed (view rows.now.cert.now) }
+    requires shape { HasShape (plain_program layer.now.program.now) layer.now.graph.now (view rows.now.cert.now) }
+    requires out { length out.old ≡ width_of (owns (plain_program layer.now.program.now)) }
+    requires leak { let p = plain_program layer.now.program.now in let g = layer.now.graph.now in
+        IsFirstLeak (cells_lattice (owns p) (lists_of layer.now.thresholds.now)) (cell_flow p g)
+        (row_at p g (view rows.now.cert.now)) edge }
+    ensures { Refuses (plain_program layer.now.program.now) layer.now.graph.now (view rows.now.cert.now) result }
+{
+    arrive(layer, rows, edge, out);
+    let gap = gap_at(layer, rows, edge, out);
+    CheckEnd::NotInductive {
+        layer: 1,
+        edge,
+        gap,
+    }
+}
+
+// What an inductive certificate leaves open.
+fn left_open(
+    alloc: Global,
+    layer: &CellLayer,
+    rows: &ClaimedRows,
+) -> Result<Vec<Open>, CheckEnd>
+    requires source { ∥ IsSourceGraph (plain_program layer.now.program.now) layer.now.graph.now ∥₁ }
+    requires limits { IsWithinLimits layer.now.graph.now }
+    requires owns { rows.now.owns.now ≡ owns (plain_program layer.now.program.now) }
+    requires shape { HasShape (plain_program layer.now.program.now) layer.now.graph.now (view rows.now.cert.now) }
+    requires inductive { let p = plain_program layer.now.program.now in let g = layer.now.graph.now in
+        IsInductive (cells_lattice (owns p) (lists_of layer.now.thresholds.now)) (cell_flow p g)
+        (row_at p g (view rows.now.cert.now)) }
+    ensures { Checks (plain_program layer.now.program.now) layer.now.graph.now (view rows.now.cert.now) result }
+{
+    let pairs = open_pairs(alloc, layer, rows)?;
+    Ok(pairs)
+}
+
 // Goes over the edges and then over the nodes.
 fn check_edges(
     alloc: Global,
@@ -98,17 +141,10 @@ fn check_edges(
     ensures { Checks (plain_program layer.now.program.now) layer.now.graph.now (view rows.now.cert.now) result }
 {
     let mut out = vec![in alloc; 0; layer.words()]?;
-    if let Some(edge) = pass(layer, rows, out.as_mut_slice()) {
-        arrive(layer, rows, edge, out.as_mut_slice());
-        let gap = gap_at(layer, rows, edge, out.as_slice());
-        return Err(CheckEnd::NotInductive {
-            layer: 1,
-            edge,
-            gap,
-        });
+    match pass(layer, rows, out.as_mut_slice()) {
+        Some(edge) => Err(leak_at(layer, rows, edge, out.as_mut_slice())),
+        None => left_open(alloc, layer, rows),
     }
-    let pairs = open_pairs(alloc, layer, rows)?;
-    Ok(pairs)
 }
 
 // Checks a certificate of the right shape.
@@ -135,6 +171,26 @@ fn check_rows(
     check_edges(alloc, &layer, &rows)
 }
 
+// Checks a certificate of the right shape by the own ranges of the cells.
+fn check_shaped(
+    alloc: Global,
+    program: &Program,
+    graph: &Graph,
+    cert: &Cert,
+) -> Result<Vec<Open>, CheckEnd>
+    requires source { ∥ IsSourceGraph (plain_program program.now) graph.now ∥₁ }
+    requires limits { IsWithinLimits graph.now }
+    requires allowed { IsAllowed (view cert.now) }
+    requires shape { HasShape (plain_program program.now) graph.now (view cert.now) }
+    ensures { Checks (plain_program program.now) graph.now (view cert.now) result }
+{
+    let cells = graph.cells.get();
+    let owns = own_ranges(alloc, cells)?;
+    let ends = all_ends(alloc, owns.as_slice())?;
+    check_rows(alloc, program, graph, cert, owns.as_slice(), ends.as_slice())
+}
+
+#[tactic(auto, using(crate::proofs::Sources::misfit_answer, crate::proofs::Sources::shape_answer))]
 fn check_all(
     alloc: Global,
     program: &Program,
@@ -146,12 +202,12 @@ fn check_all(
     requires allowed { IsAllowed (view cert.now) }
     ensures { Checks (plain_program program.now) graph.now (view cert.now) result }
 {
-    let cells = graph.cells.get();
-    let nodes = graph.nodes.get();
-    fit_shape(cert, cells.len() as u32, nodes.len() as u32)?;
-    let owns = own_ranges(alloc, cells)?;
-    let ends = all_ends(alloc, owns.as_slice())?;
-    check_rows(alloc, program, graph, cert, owns.as_slice(), ends.as_slice())
+    let cells = graph.cells.get().len() as u32;
+    let nodes = graph.nodes.get().len() as u32;
+    match fit_shape(cert, cells, nodes) {
+        Err(end) => Err(end),
+        Ok(()) => check_shaped(alloc, program, graph, cert),
+    }
 }
 
 /// Checks a certificate without packs for a program and its graph, and lists what it leaves open.

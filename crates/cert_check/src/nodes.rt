@@ -2,7 +2,7 @@
 ghost use Rattle.std.specs.Prelude.{◌≡◌, ◌≤◌, ◌<◌, ◌^◌, length, IfOk};
 ghost use Rattle.cob_program.specs.ActView.{plain_program};
 ghost use Rattle.cell_storages.specs.Homes.{owns};
-ghost use Rattle.cell_layer_laws.specs.Layer.{clears_at};
+ghost use Rattle.cell_layer_laws.specs.Layer.{clears_at, statement_at};
 ghost use Rattle.cert_text.specs.View.{view};
 ghost use Rattle.cert_check.specs.Claims.{claims_at, open_pairs};
 ghost use Rattle.cert_check.specs.Clearing.{AreClearedTo, cleared_at};
@@ -10,6 +10,7 @@ ghost use Rattle.cert_check.specs.Clearing.{AreClearedTo, cleared_at};
 use crate::cleared::{Cleared, note, push_left_open};
 use crate::rows::ClaimedRows;
 use cell_layer::CellLayer;
+use cob_graph::Graph;
 use cob_tree::{Kind, Open};
 use dom_laws::{Layer, Rows};
 use std::alloc::{AllocError, Global};
@@ -42,6 +43,33 @@ fn clears_all(layer: &CellLayer, rows: &ClaimedRows, node: u32) -> Cleared
     }
 }
 
+// The number of a node's statement.
+fn statement_at(graph: &Graph, node: u32) -> u32
+    requires { 1 ≤ node }
+    ensures { result ≡ statement_at graph.now node }
+{
+    match graph.nodes.get().get(node as usize - 1) {
+        Some(node) => node.statement,
+        None => 0,
+    }
+}
+
+// Notes at each statement what all its nodes clear.
+#[tactic(auto, using(crate::proofs::Noting::noted_next))]
+fn note_nodes(layer: &CellLayer, rows: &ClaimedRows, noted: &mut [Cleared])
+    requires owns { rows.now.owns.now ≡ owns (plain_program layer.now.program.now) }
+    requires nodes { length (view rows.now.cert.now).nodes ≡ length layer.now.graph.now.nodes }
+    requires few { length layer.now.graph.now.nodes ≤ 4096 }
+    requires none { AreClearedTo (plain_program layer.now.program.now) layer.now.graph.now (view rows.now.cert.now) 0 noted.old }
+    ensures { AreClearedTo (plain_program layer.now.program.now) layer.now.graph.now (view rows.now.cert.now)
+        (length layer.now.graph.now.nodes) noted.new }
+{
+    for k in 0..layer.graph.nodes.get().len() as u32 {
+        let cleared = clears_all(layer, rows, k + 1);
+        note(noted, statement_at(layer.graph, k + 1), cleared);
+    }
+}
+
 // For each statement what all its nodes clear.
 fn cleared(
     alloc: Global,
@@ -54,21 +82,19 @@ fn cleared(
     ensures { IfOk result (λ noted. AreClearedTo (plain_program layer.now.program.now) layer.now.graph.now
         (view rows.now.cert.now) (length layer.now.graph.now.nodes) noted.items) }
 {
-    let none = Cleared {
+    let all = Cleared {
         size: true,
         truncation: true,
         zero: true,
         class: true,
     };
-    let mut noted = vec![in alloc; none; layer.program.statements as usize]?;
-    for (k, node) in layer.graph.nodes.get().iter().enumerate() {
-        let cleared = clears_all(layer, rows, k as u32 + 1);
-        note(noted.as_mut_slice(), node.statement, cleared);
-    }
+    let mut noted = vec![in alloc; all; layer.program.statements as usize]?;
+    note_nodes(layer, rows, noted.as_mut_slice());
     Ok(noted)
 }
 
 /// The faults that some node of a statement doesn't clear, by statement, then by kind.
+#[tactic(auto, using(crate::proofs::Noting::pairs_next, crate::proofs::Noting::all_pairs))]
 pub(crate) fn open_pairs(
     alloc: Global,
     layer: &CellLayer,
@@ -82,8 +108,8 @@ pub(crate) fn open_pairs(
 {
     let noted = cleared(alloc, layer, rows)?;
     let mut pairs = Vec::new(alloc);
-    for (k, cleared) in noted.iter().enumerate() {
-        push_left_open(&mut pairs, k as u32 + 1, *cleared)?;
+    for k in 0..layer.program.statements {
+        push_left_open(&mut pairs, k + 1, noted[k as usize])?;
     }
     Ok(pairs)
 }

@@ -37,7 +37,7 @@ unreachable-requires c =
     let g = c.args.layer.now.graph.now in
     let cert = c.args.rows.now.cert.now in
     let there = (place_there cert (length g.nodes) c.led_to-node.result c.index.result.now c.index.result.now c.index.ensures
-        c.led_to-node.ensures.node.first c.led_to-node.ensures.node.last c.requires.nodes).1 in
+    c.led_to-node.ensures.node.first c.led_to-node.ensures.node.last c.requires.nodes).1 in
     there_is_a_gap p g (view cert) (lists_of c.args.layer.now.thresholds.now) (layer_laws p g c.requires.source) c.args.edge c.args.rows.now.owns.now
     c.args.row.now (place_of c.index.result.now) c.requires.owns c.requires.row (there ∙ ap (place_at (view cert)) c.led_to-node.ensures.value)
     c.first_gap.result c.first_gap.ensures c.in-None.is c.requires.leak
@@ -48,7 +48,7 @@ returns c =
     let g = c.args.layer.now.graph.now in
     let cert = c.args.rows.now.cert.now in
     let there = (place_there cert (length g.nodes) c.led_to-node.result c.index.result.now c.index.result.now c.index.ensures
-        c.led_to-node.ensures.node.first c.led_to-node.ensures.node.last c.requires.nodes).1 in
+    c.led_to-node.ensures.node.first c.led_to-node.ensures.node.last c.requires.nodes).1 in
     first_gap_is p g (view cert) (lists_of c.args.layer.now.thresholds.now) (layer_laws p g c.requires.source) c.args.edge c.args.rows.now.owns.now
     c.args.row.now (place_of c.index.result.now) c.requires.owns c.requires.row (there ∙ ap (place_at (view cert)) c.led_to-node.ensures.value)
     c.first_gap.result c.first_gap.ensures ∙ c.in-Some.is

@@ -7,4 +7,4 @@ use Rattle.cert_check.proofs.nodes.open_pairs.Given as goal
 
 abbrev pub invariant-loop-k : goal.invariant-loop-k
 invariant-loop-k l =
-    l.pairs.items ≡ flat_map (opens_of (plain_program l.fn.layer.now.program.now) l.fn.layer.now.graph.now (view l.fn.rows.now.cert.now)) (range_with_len 1 l.k)
+    l.pairs.items ≡ flat_map (opens_of (plain_program l.fn.layer.program.now) l.fn.layer.graph.now (view l.fn.rows.cert.now)) (range_with_len 1 l.k)
