@@ -107,11 +107,7 @@ fn leak_at(layer: &CellLayer, rows: &ClaimedRows, edge: u32, out: &mut [i128]) -
 }
 
 // What an inductive certificate leaves open.
-fn left_open(
-    alloc: Global,
-    layer: &CellLayer,
-    rows: &ClaimedRows,
-) -> Result<Vec<Open>, CheckEnd>
+fn left_open(alloc: Global, layer: &CellLayer, rows: &ClaimedRows) -> Result<Vec<Open>, CheckEnd>
     requires source { ∥ IsSourceGraph (plain_program layer.now.program.now) layer.now.graph.now ∥₁ }
     requires limits { IsWithinLimits layer.now.graph.now }
     requires owns { rows.now.owns.now ≡ owns (plain_program layer.now.program.now) }
@@ -126,11 +122,7 @@ fn left_open(
 }
 
 // Goes over the edges and then over the nodes.
-fn check_edges(
-    alloc: Global,
-    layer: &CellLayer,
-    rows: &ClaimedRows,
-) -> Result<Vec<Open>, CheckEnd>
+fn check_edges(alloc: Global, layer: &CellLayer, rows: &ClaimedRows) -> Result<Vec<Open>, CheckEnd>
     requires source { ∥ IsSourceGraph (plain_program layer.now.program.now) layer.now.graph.now ∥₁ }
     requires limits { IsWithinLimits layer.now.graph.now }
     requires owns { rows.now.owns.now ≡ owns (plain_program layer.now.program.now) }
@@ -187,10 +179,16 @@ fn check_shaped(
     let cells = graph.cells.get();
     let owns = own_ranges(alloc, cells)?;
     let ends = all_ends(alloc, owns.as_slice())?;
-    check_rows(alloc, program, graph, cert, owns.as_slice(), ends.as_slice())
+    check_rows(
+        alloc,
+        program,
+        graph,
+        cert,
+        owns.as_slice(),
+        ends.as_slice(),
+    )
 }
 
-#[tactic(auto, using(crate::proofs::Sources::misfit_answer, crate::proofs::Sources::shape_answer))]
 fn check_all(
     alloc: Global,
     program: &Program,

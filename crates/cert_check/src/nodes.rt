@@ -55,7 +55,6 @@ fn statement_at(graph: &Graph, node: u32) -> u32
 }
 
 // Notes at each statement what all its nodes clear.
-#[tactic(auto, using(crate::proofs::Noting::noted_next))]
 fn note_nodes(layer: &CellLayer, rows: &ClaimedRows, noted: &mut [Cleared])
     requires owns { rows.now.owns.now ≡ owns (plain_program layer.now.program.now) }
     requires nodes { length (view rows.now.cert.now).nodes ≡ length layer.now.graph.now.nodes }
@@ -71,11 +70,7 @@ fn note_nodes(layer: &CellLayer, rows: &ClaimedRows, noted: &mut [Cleared])
 }
 
 // For each statement what all its nodes clear.
-fn cleared(
-    alloc: Global,
-    layer: &CellLayer,
-    rows: &ClaimedRows,
-) -> Result<Vec<Cleared>, AllocError>
+fn cleared(alloc: Global, layer: &CellLayer, rows: &ClaimedRows) -> Result<Vec<Cleared>, AllocError>
     requires owns { rows.now.owns.now ≡ owns (plain_program layer.now.program.now) }
     requires nodes { length (view rows.now.cert.now).nodes ≡ length layer.now.graph.now.nodes }
     requires few { length layer.now.graph.now.nodes ≤ 4096 }
@@ -94,7 +89,7 @@ fn cleared(
 }
 
 /// The faults that some node of a statement doesn't clear, by statement, then by kind.
-#[tactic(auto, using(crate::proofs::Noting::pairs_next, crate::proofs::Noting::all_pairs))]
+#[tactic(auto, using(crate::proofs::Noting::all_pairs))]
 pub(crate) fn open_pairs(
     alloc: Global,
     layer: &CellLayer,
