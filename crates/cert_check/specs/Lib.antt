@@ -4,4 +4,5 @@ pub mod Along
 pub mod Claims
 pub mod Clearing
 pub mod Counts
+pub mod Given
 pub mod Checking

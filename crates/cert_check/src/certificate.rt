@@ -1,21 +1,19 @@
 //! The check of a certificate without packs.
 ghost use Rattle.std.specs.Prelude.{◌≡◌, ◌≤◌, ◌<◌, ◌^◌, [], map, length, slice_get, Some, IfOk, MatchResult};
-ghost use Rattle.std.specs.List.{All};
 ghost use Rattle.cob_program.specs.ActView.{plain_program};
 ghost use Rattle.cob_graph_build.specs.Limits.{IsWithinLimits};
 ghost use Rattle.graph_runs.specs.Sources.{IsSourceGraph};
-ghost use Rattle.dom_laws.specs.Flow.{IsInductive};
 ghost use Rattle.dom_laws.specs.Lattice.{IsElement};
 ghost use Rattle.cell_rows.specs.Rows.{cells_lattice, lists_of, width_of};
 ghost use Rattle.cell_storages.specs.Homes.{owns};
 ghost use Rattle.cell_layer_laws.specs.Layer.{cell_flow};
 ghost use Rattle.cert_text.specs.View.{view};
 ghost use Rattle.cert_text.specs.Allowed.{IsAllowed};
-ghost use Rattle.claimed_rows.specs.Gaps.{HasSmallClaims, IsSmall};
+ghost use Rattle.claimed_rows.specs.Gaps.{HasSmallClaims};
 ghost use Rattle.cert_check.specs.Counts.{HasCounts, MisfitsCounts};
 ghost use Rattle.cert_check.specs.Claims.{edge_gaps, row_at};
 ghost use Rattle.cert_check.specs.Checking.{Checks, CoversRuns, HasShape, Refuses};
-ghost use Rattle.inductive_pass.specs.Leaks.{IsFirstLeak};
+ghost use Rattle.cert_check.specs.Given.{ClaimsAreKept, IsGiven, LeaksFirst};
 ghost use Rattle.cert_check.specs.Along.{arrives};
 ghost use Rattle.cert_check.specs.Ranges.{ends_of};
 
@@ -60,19 +58,13 @@ fn fit_shape(cert: &Cert, cells: u32, nodes: u32) -> Result<(), CheckEnd>
 
 // The first gap along the first edge that has one. `row` is what comes along it.
 fn gap_at(layer: &CellLayer, rows: &ClaimedRows, edge: u32, row: &[i128]) -> Gap
-    requires source { ∥ IsSourceGraph (plain_program layer.now.program.now) layer.now.graph.now ∥₁ }
-    requires owns { rows.now.owns.now ≡ owns (plain_program layer.now.program.now) }
-    requires small { All IsSmall rows.now.owns.now }
-    requires few { length rows.now.owns.now ≤ 512 }
-    requires allowed { IsAllowed (view rows.now.cert.now) }
-    requires nodes { length (view rows.now.cert.now).nodes ≡ length layer.now.graph.now.nodes }
+    requires given { IsGiven (plain_program layer.now.program.now) layer.now.graph.now (view rows.now.cert.now) rows.now.owns.now }
     requires row { let p = plain_program layer.now.program.now in let g = layer.now.graph.now in
         row.now ≡ arrives (cell_flow p g) (row_at p g (view rows.now.cert.now)) edge }
     requires element { IsElement (cells_lattice (owns (plain_program layer.now.program.now))
         (lists_of layer.now.thresholds.now)) row.now }
-    requires leak { let p = plain_program layer.now.program.now in let g = layer.now.graph.now in
-        IsFirstLeak (cells_lattice (owns p) (lists_of layer.now.thresholds.now)) (cell_flow p g)
-        (row_at p g (view rows.now.cert.now)) edge }
+    requires leak { LeaksFirst (plain_program layer.now.program.now) layer.now.graph.now (view rows.now.cert.now)
+        (lists_of layer.now.thresholds.now) edge }
     ensures { let p = plain_program layer.now.program.now in let g = layer.now.graph.now in
         slice_get (edge_gaps p g (view rows.now.cert.now) edge) 0 ≡ Some result }
 {
@@ -85,16 +77,10 @@ fn gap_at(layer: &CellLayer, rows: &ClaimedRows, edge: u32, row: &[i128]) -> Gap
 
 // Why a certificate isn't inductive, by the first edge that has a gap. `out` is room for what comes along it.
 fn leak_at(layer: &CellLayer, rows: &ClaimedRows, edge: u32, out: &mut [i128]) -> CheckEnd
-    requires source { ∥ IsSourceGraph (plain_program layer.now.program.now) layer.now.graph.now ∥₁ }
-    requires owns { rows.now.owns.now ≡ owns (plain_program layer.now.program.now) }
-    requires small { All IsSmall rows.now.owns.now }
-    requires few { length rows.now.owns.now ≤ 512 }
-    requires allowed { IsAllowed (view rows.now.cert.now) }
-    requires shape { HasShape (plain_program layer.now.program.now) layer.now.graph.now (view rows.now.cert.now) }
+    requires given { IsGiven (plain_program layer.now.program.now) layer.now.graph.now (view rows.now.cert.now) rows.now.owns.now }
     requires out { length out.old ≡ width_of (owns (plain_program layer.now.program.now)) }
-    requires leak { let p = plain_program layer.now.program.now in let g = layer.now.graph.now in
-        IsFirstLeak (cells_lattice (owns p) (lists_of layer.now.thresholds.now)) (cell_flow p g)
-        (row_at p g (view rows.now.cert.now)) edge }
+    requires leak { LeaksFirst (plain_program layer.now.program.now) layer.now.graph.now (view rows.now.cert.now)
+        (lists_of layer.now.thresholds.now) edge }
     ensures { Refuses (plain_program layer.now.program.now) layer.now.graph.now (view rows.now.cert.now) result }
 {
     arrive(layer, rows, edge, out);
@@ -108,13 +94,9 @@ fn leak_at(layer: &CellLayer, rows: &ClaimedRows, edge: u32, out: &mut [i128]) -
 
 // What an inductive certificate leaves open.
 fn left_open(alloc: Global, layer: &CellLayer, rows: &ClaimedRows) -> Result<Vec<Open>, CheckEnd>
-    requires source { ∥ IsSourceGraph (plain_program layer.now.program.now) layer.now.graph.now ∥₁ }
-    requires limits { IsWithinLimits layer.now.graph.now }
-    requires owns { rows.now.owns.now ≡ owns (plain_program layer.now.program.now) }
-    requires shape { HasShape (plain_program layer.now.program.now) layer.now.graph.now (view rows.now.cert.now) }
-    requires inductive { let p = plain_program layer.now.program.now in let g = layer.now.graph.now in
-        IsInductive (cells_lattice (owns p) (lists_of layer.now.thresholds.now)) (cell_flow p g)
-        (row_at p g (view rows.now.cert.now)) }
+    requires given { IsGiven (plain_program layer.now.program.now) layer.now.graph.now (view rows.now.cert.now) rows.now.owns.now }
+    requires inductive { ClaimsAreKept (plain_program layer.now.program.now) layer.now.graph.now (view rows.now.cert.now)
+        (lists_of layer.now.thresholds.now) }
     ensures { Checks (plain_program layer.now.program.now) layer.now.graph.now (view rows.now.cert.now) result }
 {
     let pairs = open_pairs(alloc, layer, rows)?;
@@ -123,13 +105,7 @@ fn left_open(alloc: Global, layer: &CellLayer, rows: &ClaimedRows) -> Result<Vec
 
 // Goes over the edges and then over the nodes.
 fn check_edges(alloc: Global, layer: &CellLayer, rows: &ClaimedRows) -> Result<Vec<Open>, CheckEnd>
-    requires source { ∥ IsSourceGraph (plain_program layer.now.program.now) layer.now.graph.now ∥₁ }
-    requires limits { IsWithinLimits layer.now.graph.now }
-    requires owns { rows.now.owns.now ≡ owns (plain_program layer.now.program.now) }
-    requires small { All IsSmall rows.now.owns.now }
-    requires few { length rows.now.owns.now ≤ 512 }
-    requires allowed { IsAllowed (view rows.now.cert.now) }
-    requires shape { HasShape (plain_program layer.now.program.now) layer.now.graph.now (view rows.now.cert.now) }
+    requires given { IsGiven (plain_program layer.now.program.now) layer.now.graph.now (view rows.now.cert.now) rows.now.owns.now }
     ensures { Checks (plain_program layer.now.program.now) layer.now.graph.now (view rows.now.cert.now) result }
 {
     let mut out = vec![in alloc; 0; layer.words()]?;
@@ -148,14 +124,9 @@ fn check_rows(
     ranges: &[Interval],
     ends: &[Vec<i64>],
 ) -> Result<Vec<Open>, CheckEnd>
-    requires source { ∥ IsSourceGraph (plain_program program.now) graph.now ∥₁ }
+    requires given { IsGiven (plain_program program.now) graph.now (view cert.now) ranges.now }
     requires limits { IsWithinLimits graph.now }
-    requires ranges { ranges.now ≡ owns (plain_program program.now) }
-    requires small { All IsSmall ranges.now }
-    requires few { length ranges.now ≤ 512 }
     requires ends { lists_of ends.now ≡ map ends_of ranges.now }
-    requires allowed { IsAllowed (view cert.now) }
-    requires shape { HasShape (plain_program program.now) graph.now (view cert.now) }
     ensures { Checks (plain_program program.now) graph.now (view cert.now) result }
 {
     let layer = CellLayer::new(alloc, program, graph, ends)?;

@@ -1,11 +1,11 @@
 //! The faults that some node of a statement doesn't clear.
 ghost use Rattle.std.specs.Prelude.{◌≡◌, ◌≤◌, ◌<◌, ◌^◌, length, IfOk};
 ghost use Rattle.cob_program.specs.ActView.{plain_program};
-ghost use Rattle.cell_storages.specs.Homes.{owns};
 ghost use Rattle.cell_layer_laws.specs.Layer.{clears_at, statement_at};
 ghost use Rattle.cert_text.specs.View.{view};
 ghost use Rattle.cert_check.specs.Claims.{claims_at, open_pairs};
 ghost use Rattle.cert_check.specs.Clearing.{AreClearedTo, cleared_at};
+ghost use Rattle.cert_check.specs.Given.{IsGiven};
 
 use crate::cleared::{Cleared, note, push_left_open};
 use crate::rows::ClaimedRows;
@@ -17,8 +17,7 @@ use std::alloc::{AllocError, Global};
 
 // Whether a node clears a fault.
 fn clears(layer: &CellLayer, rows: &ClaimedRows, node: u32, fault: Kind) -> bool
-    requires owns { rows.now.owns.now ≡ owns (plain_program layer.now.program.now) }
-    requires nodes { length (view rows.now.cert.now).nodes ≡ length layer.now.graph.now.nodes }
+    requires given { IsGiven (plain_program layer.now.program.now) layer.now.graph.now (view rows.now.cert.now) rows.now.owns.now }
     requires first { 1 ≤ node }
     requires last { node ≤ length layer.now.graph.now.nodes }
     ensures { let p = plain_program layer.now.program.now in let g = layer.now.graph.now in
@@ -29,8 +28,7 @@ fn clears(layer: &CellLayer, rows: &ClaimedRows, node: u32, fault: Kind) -> bool
 
 // What a node clears.
 fn clears_all(layer: &CellLayer, rows: &ClaimedRows, node: u32) -> Cleared
-    requires owns { rows.now.owns.now ≡ owns (plain_program layer.now.program.now) }
-    requires nodes { length (view rows.now.cert.now).nodes ≡ length layer.now.graph.now.nodes }
+    requires given { IsGiven (plain_program layer.now.program.now) layer.now.graph.now (view rows.now.cert.now) rows.now.owns.now }
     requires first { 1 ≤ node }
     requires last { node ≤ length layer.now.graph.now.nodes }
     ensures { result ≡ cleared_at (plain_program layer.now.program.now) layer.now.graph.now (view rows.now.cert.now) node }
@@ -56,9 +54,7 @@ fn statement_at(graph: &Graph, node: u32) -> u32
 
 // Notes at each statement what all its nodes clear.
 fn note_nodes(layer: &CellLayer, rows: &ClaimedRows, noted: &mut [Cleared])
-    requires owns { rows.now.owns.now ≡ owns (plain_program layer.now.program.now) }
-    requires nodes { length (view rows.now.cert.now).nodes ≡ length layer.now.graph.now.nodes }
-    requires few { length layer.now.graph.now.nodes ≤ 4096 }
+    requires given { IsGiven (plain_program layer.now.program.now) layer.now.graph.now (view rows.now.cert.now) rows.now.owns.now }
     requires none { AreClearedTo (plain_program layer.now.program.now) layer.now.graph.now (view rows.now.cert.now) 0 noted.old }
     ensures { AreClearedTo (plain_program layer.now.program.now) layer.now.graph.now (view rows.now.cert.now)
         (length layer.now.graph.now.nodes) noted.new }
@@ -71,9 +67,7 @@ fn note_nodes(layer: &CellLayer, rows: &ClaimedRows, noted: &mut [Cleared])
 
 // For each statement what all its nodes clear.
 fn cleared(alloc: Global, layer: &CellLayer, rows: &ClaimedRows) -> Result<Vec<Cleared>, AllocError>
-    requires owns { rows.now.owns.now ≡ owns (plain_program layer.now.program.now) }
-    requires nodes { length (view rows.now.cert.now).nodes ≡ length layer.now.graph.now.nodes }
-    requires few { length layer.now.graph.now.nodes ≤ 4096 }
+    requires given { IsGiven (plain_program layer.now.program.now) layer.now.graph.now (view rows.now.cert.now) rows.now.owns.now }
     ensures { IfOk result (λ noted. AreClearedTo (plain_program layer.now.program.now) layer.now.graph.now
         (view rows.now.cert.now) (length layer.now.graph.now.nodes) noted.items) }
 {
@@ -95,9 +89,7 @@ pub(crate) fn open_pairs(
     layer: &CellLayer,
     rows: &ClaimedRows,
 ) -> Result<Vec<Open>, AllocError>
-    requires owns { rows.now.owns.now ≡ owns (plain_program layer.now.program.now) }
-    requires nodes { length (view rows.now.cert.now).nodes ≡ length layer.now.graph.now.nodes }
-    requires few { length layer.now.graph.now.nodes ≤ 4096 }
+    requires given { IsGiven (plain_program layer.now.program.now) layer.now.graph.now (view rows.now.cert.now) rows.now.owns.now }
     ensures { IfOk result (λ pairs. pairs.items
         ≡ open_pairs (plain_program layer.now.program.now) layer.now.graph.now (view rows.now.cert.now)) }
 {

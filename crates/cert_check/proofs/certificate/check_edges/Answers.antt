@@ -12,11 +12,11 @@ use Rattle.cert_check.proofs.certificate.check_edges.Goals as goal
 pub pass-requires-clause-rows : goal.pass-requires-clause-rows
 pass-requires-clause-rows c =
     have_elements (plain_program c.args.layer.now.program.now) c.args.layer.now.graph.now (view c.args.rows.now.cert.now)
-    (lists_of c.args.layer.now.thresholds.now) c.args.rows.now.owns.now c.requires.owns
+    (lists_of c.args.layer.now.thresholds.now) c.args.rows.now.owns.now c.requires.given.own
 
 pub left_open-requires-clause-inductive : goal.left_open-requires-clause-inductive
 left_open-requires-clause-inductive c =
     let p = plain_program c.args.layer.now.program.now in
     let g = c.args.layer.now.graph.now in
-    inductive_there p g (view c.args.rows.now.cert.now) c.args.rows.now.owns.now c.requires.owns
+    inductive_there p g (view c.args.rows.now.cert.now) c.args.rows.now.owns.now c.requires.given.own
     (cells_lattice (owns p) (lists_of c.args.layer.now.thresholds.now)) (cell_flow p g) (c.pass.ensures.none.0 (ap is_some c.in-None.is))

@@ -8,4 +8,4 @@ new-requires-clause-lists c = lists_are_short c.args.ends.now c.args.ranges.now 
 
 pub new-requires-clause-ends : goal.new-requires-clause-ends
 new-requires-clause-ends c =
-    thresholds_of (plain_program c.args.program.now) c.args.ranges.now (lists_of c.args.ends.now) c.requires.ranges c.requires.ends
+    thresholds_of (plain_program c.args.program.now) c.args.ranges.now (lists_of c.args.ends.now) c.requires.given.own c.requires.ends

@@ -13,9 +13,9 @@ clears-requires-clause-row c =
     let p = plain_program c.args.layer.now.program.now in
     let lists = lists_of c.args.layer.now.thresholds.now in
     subst (IsElement (cells_lattice (owns p) lists)) (sym c.row.ensures)
-    (claimed_element p c.args.layer.now.graph.now (view c.args.rows.now.cert.now) c.args.rows.now.owns.now c.requires.owns lists c.args.node)
+    (claimed_element p c.args.layer.now.graph.now (view c.args.rows.now.cert.now) c.args.rows.now.owns.now c.requires.given.own lists c.args.node)
 
 pub returns : goal.returns
 returns c =
     clears_is (plain_program c.args.layer.now.program.now) c.args.layer.now.graph.now (view c.args.rows.now.cert.now)
-    c.args.rows.now.owns.now c.requires.owns c.args.node c.args.fault c.row.result.now c.clears.result c.row.ensures c.clears.ensures
+    c.args.rows.now.owns.now c.requires.given.own c.args.node c.args.fault c.row.result.now c.clears.result c.row.ensures c.clears.ensures
