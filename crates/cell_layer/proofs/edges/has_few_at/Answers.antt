@@ -1,0 +1,24 @@
+use Rattle.std.proofs.Common.{◌≡◌, ◌<◌, ◌-◌, ◌^◌, length, arith, rules}
+use Rattle.std.proofs.lemmas.Bool.{ltb-true}
+use Rattle.cob_program.specs.ActView.{plain_stmt, plain_program}
+use Rattle.borrowed_parts.specs.PartView.{edge_parts}
+use Rattle.cell_layer.proofs.Finding.{is_left_some, is_left_none, few_by, few_by_none}
+use Rattle.cell_layer.proofs.edges.has_few_at.Goals as goal
+
+pub returns-in-Some : goal.returns-in-Some
+returns-in-Some c =
+    let a = c.args in
+    let p = plain_program a.program.now in
+    let s = c.in-Some.statement in
+    λ e.
+        let less = ltb-true c.part_count.result (2 ^ 32 - 1) e in
+        let few : length (edge_parts p (plain_stmt s.now) a.edge.action) < 2 ^ 32 - 1 = omega (arith, less, c.part_count.ensures) in
+        few_by p a.graph.now a.edge (plain_stmt s.now) few
+        (is_left_some p a.graph.now a.edge a.statements.now c.requires.whole c.requires.listed s (rw c.in-Some.is at c.left.ensures.some))
+
+pub returns-in-None : goal.returns-in-None
+returns-in-None c =
+    let a = c.args in
+    let p = plain_program a.program.now in
+    λ e. few_by_none p a.graph.now a.edge
+    (is_left_none p a.graph.now a.edge a.statements.now c.requires.whole c.requires.listed (c.left.ensures.none c.in-None.is))
