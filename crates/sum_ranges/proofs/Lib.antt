@@ -9,3 +9,5 @@ pub mod Working
 pub mod Numerals
 pub mod Loops
 pub mod Rooms
+pub mod Roots
+pub mod Examples

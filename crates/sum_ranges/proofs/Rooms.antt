@@ -1,5 +1,5 @@
 -- The range of a sum, one step of the work after the other, and room for each step.
-use Rattle.std.proofs.Common.{◌≡◌, ℕ, ◌+◌, ◌-◌, ◌*◌, ◌^◌, ◌≤◌, ◌<◌, max, ◌&&◌, ◌||◌, ℤ, pos, ◌*ℤ◌, ◌+ℤ◌, ◌≤ℤ◌, ◌⊎◌, inl, inr, Bool, true, false, Option, Some, None, refl, sym, ap, subst, ◌∙◌, arith}
+use Rattle.std.proofs.Common.{◌≡◌, ℕ, ◌+◌, ◌-◌, ◌*◌, ◌^◌, ◌≤◌, ◌<◌, ◌&&◌, ◌||◌, ℤ, pos, ◌*ℤ◌, ◌≤ℤ◌, ◌⊎◌, inl, inr, Bool, true, false, Option, Some, None, refl, sym, ap, subst, ◌∙◌, arith}
 use Rattle.std.specs.Prelude.{unsigned_abs, nat_le, ◌≢◌}
 use Rattle.std.proofs.lemmas.Int.{ints}
 use Rattle.std.proofs.lemmas.Nat.{mul-le}
@@ -8,17 +8,17 @@ use Rattle.std.proofs.lemmas.Bool.Decides.{nat_tests}
 use Rattle.std.proofs.Math.Nat.{le_refl}
 use Rattle.dec_num.specs.declared.types.Mode.TheVariants.{Trunc}
 use Rattle.dec_num.specs.Exact.{ratio_of, near}
-use Rattle.dec_num.proofs.Powers.{ten_monotone, ten_positive}
+use Rattle.dec_num.proofs.Powers.{ten_monotone}
 use Rattle.dec_num.proofs.Bounds.{size_of_sum, size_of_product, size_of_units_at}
 use Rattle.decimal_interval.specs.Bounds.{Holds, IsSmall, IsInterval}
-use Rattle.decimal_interval.specs.Results.{IsSum, IsProduct, IsQuotient, AreSmall}
+use Rattle.decimal_interval.specs.Results.{IsSum, AreSmall}
 use Rattle.decimal_interval.proofs.Ends.{times_grows}
-use Rattle.cob_program.specs.Sum.{Sum, MkSum, Parts, no_parts, more_parts, Part, MkPart, Factors, no_factors, more_factors, Factor, MkFactor, Atom, item, number, group}
+use Rattle.cob_program.specs.Sum.{MkSum, Parts, no_parts, more_parts, Part, MkPart, Factors, no_factors, more_factors, Factor, MkFactor, Atom, item, number, group}
 use Rattle.cob_program.specs.Values.{whole_number, quotient_scale, ◌>>=◌}
-use Rattle.cob_program.specs.Bounds.{Bound, exactly, joint, raised, sum_bound, product_bound, quotient_bound, factor_bound, is_small, sum_most, sum_most_from, part_most, product_most_from, atom_most, is_small_sum, is_small_sum_from, is_small_part, is_small_product, is_small_atom}
+use Rattle.cob_program.specs.Bounds.{Bound, exactly, joint, raised, sum_bound, product_bound, quotient_bound, factor_bound, is_small, sum_most_from, part_most, product_most_from, atom_most, is_small_sum_from, is_small_part, is_small_product, is_small_atom}
 use Rattle.cob_program.proofs.Steps.{some_bound, both, whole_within, factor_within}
 use Rattle.sum_ranges.specs.declared.ranged.Ranged.{Ranged}
-use Rattle.sum_ranges.specs.Ranged.{decimal, point, IsIn, IsOrdered}
+use Rattle.sum_ranges.specs.Ranged.{decimal, point}
 use Rattle.sum_ranges.specs.SumRanges as range
 use Rattle.sum_ranges.specs.SumRanges.{turned, plus_range, factor_range, quotient_range, shift, sum_range_from, part_range, product_range_from, atom_range}
 use Rattle.sum_ranges.specs.Sizes.{IsRangeWithin, IsSmallRange}

@@ -1,18 +1,17 @@
 -- What the calls of intervals give, and when they may be made.
-use Rattle.std.proofs.Common.{◌≡◌, ℕ, suc, ◌+◌, ◌-◌, ◌*◌, ◌/◌, ◌^◌, ◌<◌, ◌≤◌, max, ◌⊎◌, inl, inr, Bool, true, false, ℤ, pos, negsuc, neg_ℤ, ◌*ℤ◌, ◌≤ℤ◌, Option, Some, None, refl, sym, ap, subst, ◌∙◌, arith}
-use Rattle.std.specs.Prelude.{◌≢◌, ◌↔◌, IfSome, unsigned_abs, nat_le}
+use Rattle.std.proofs.Common.{◌≡◌, ℕ, suc, ◌+◌, ◌*◌, ◌/◌, ◌^◌, ◌⊎◌, inl, inr, ℤ, pos, negsuc, ◌≤ℤ◌, Option, Some, None, refl, sym, ap, subst, ◌∙◌, arith}
+use Rattle.std.specs.Prelude.{◌≢◌, ◌↔◌, IfSome}
 use Rattle.std.proofs.lemmas.Int.{ints, clamps}
 use Rattle.dec_num.specs.declared.types.Mode.TheVariants.{Trunc}
 use Rattle.dec_num.specs.Exact.{ratio_of, near}
 use Rattle.decimal_interval.specs.declared.bounds.Interval.{Interval}
-use Rattle.decimal_interval.specs.Bounds.{Holds, IsSmall, IsInterval, IsLeast}
+use Rattle.decimal_interval.specs.Bounds.{Holds, IsSmall, IsLeast}
 use Rattle.decimal_interval.specs.Results.{IsSum, IsProduct, IsQuotient, AreSmall, IsLeastCapped, capped}
 use Rattle.decimal_interval.specs.Corners as corner
 use Rattle.std.proofs.Math.Nat.{zero-div}
 use Rattle.decimal_interval.proofs.Ends.{low_held, high_held, sums_are_least, products_are_least}
-use Rattle.cob_program.specs.Values.{quotient_scale}
 use Rattle.sum_ranges.specs.declared.ranged.Ranged.{Ranged}
-use Rattle.sum_ranges.specs.Ranged.{ranged, IsOrdered}
+use Rattle.sum_ranges.specs.Ranged.{ranged}
 use Rattle.sum_ranges.specs.SumRanges.{raised, joint, added, shift, quotients, plus_range, product_range}
 use Rattle.sum_ranges.specs.Working.{CanAddRanges, CanMultiplyRanges, CanDivideRanges}
 use Rattle.sum_ranges.proofs.Operations.{LeastIfAny, quotients_least}

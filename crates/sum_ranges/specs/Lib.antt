@@ -4,3 +4,4 @@ pub mod SumRanges
 pub mod Vanishing
 pub mod Sizes
 pub mod Working
+pub mod Taking

@@ -8,6 +8,7 @@ mod laws;
 mod literals;
 mod ranged;
 mod sums;
+mod taking;
 
 pub use arithmetic::{factor_range, plus_range, point, raised, turned};
 pub use divisors::{may_be_zero, may_vanish, may_vanish_in_product};
@@ -19,3 +20,4 @@ pub use laws::{
 pub use literals::literal_range;
 pub use ranged::{Ranged, Ranges};
 pub use sums::{atom_range, product_range, sum_range};
+pub use taking::{Taken, taken_sum};

@@ -87,7 +87,7 @@ fn part_range<R: Ranges>(ranges: &R, part: &Part) -> Option<Ranged>
 }
 
 #[cycle(sum)]
-fn parts_range<R: Ranges>(ranges: &R, parts: &[Part]) -> Option<Ranged>
+pub(crate) fn parts_range<R: Ranges>(ranges: &R, parts: &[Part]) -> Option<Ranged>
     requires bounded { AreBounded (R.range_at ranges.now) (R.bound_at ranges.now) }
     requires small { is_small_sum_from (R.bound_at ranges.now) (exactly 0) (parts_of
         (map plain_part parts.now)) ≡ true }

@@ -1,4 +1,4 @@
-use Rattle.std.proofs.Common.{◌≡◌, ◌∙◌, ◌≤◌, length, sym, ap, subst, pos, arith, to_z}
+use Rattle.std.proofs.Common.{◌∙◌, ◌≤◌, length, sym, ap, subst, pos, arith, to_z}
 use Rattle.std.specs.Int.{w128}
 use Rattle.std.proofs.lemmas.Int.{to_z_pos}
 use Rattle.cob_program.specs.Values.{numeral}
