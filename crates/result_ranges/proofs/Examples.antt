@@ -11,8 +11,8 @@ use Rattle.result_ranges.specs.declared.amounts.AmountRange.{AmountRange}
 use Rattle.result_ranges.specs.declared.amounts.AmountRange.TheVariants as range
 use Rattle.result_ranges.specs.declared.amounts.Receiver.{Receiver}
 use Rattle.result_ranges.specs.Receivers.{receiver}
-use Rattle.result_ranges.specs.Amounts.{taken}
-use Rattle.result_ranges.specs.Operands.{alone, computed_range}
+use Rattle.sum_ranges.specs.Taking.{taken, alone}
+use Rattle.result_ranges.specs.Operands.{computed_range}
 use Rattle.result_ranges.specs.ResultRanges.{result_range, may_fail, lowered, count_range, count_may_fail}
 
 -- units from the first to the second, of a scale

@@ -14,10 +14,11 @@ use Rattle.sum_ranges.specs.declared.ranged.Ranged.{Ranged}
 use Rattle.sum_ranges.specs.Ranged.{point, IsIn}
 use Rattle.sum_ranges.specs.SumRanges.{turned, plus_range, product_range, sum_range, product_range_from, atom_range}
 use Rattle.sum_ranges.proofs.Sound.{turned_in, sum_in, atom_in, whole_product_in}
-use Rattle.result_ranges.specs.declared.amounts.Taken.{Taken}
+use Rattle.sum_ranges.specs.declared.taking.Taken.{Taken}
 use Rattle.result_ranges.specs.declared.amounts.AmountRange.TheVariants as range
-use Rattle.result_ranges.specs.Amounts.{taken, rest, IsAmount}
-use Rattle.result_ranges.specs.Operands.{alone, is_whole, taken_from, taken_sum, whole_range, computed_range, remaining_range, remaining_sum}
+use Rattle.result_ranges.specs.Amounts.{rest, IsAmount}
+use Rattle.sum_ranges.specs.Taking.{taken, alone, taken_from, taken_sum}
+use Rattle.result_ranges.specs.Operands.{is_whole, whole_range, computed_range, remaining_range, remaining_sum}
 use Rattle.result_ranges.proofs.Rests.{then_held, mapped_held, plus_in, product_in}
 
 pub decimal_amount : (x : Scaled) (r : Ranged) (v : Fraction) → IsIn x r → Some (value_of x) ≡ Some v → IsAmount (range.Decimal r) v

@@ -20,7 +20,7 @@ use Rattle.sum_ranges.specs.SumRanges.{turned, product_range}
 use Rattle.sum_ranges.proofs.Operations.{products_least}
 use Rattle.sum_ranges.proofs.Least.{in_wider, result_in_wider, least_narrower}
 use Rattle.sum_ranges.proofs.Narrow.{wide_ordered, turned_narrower, plus_narrower}
-use Rattle.result_ranges.specs.declared.amounts.Taken.{Taken}
+use Rattle.sum_ranges.specs.declared.taking.Taken.{Taken}
 use Rattle.result_ranges.specs.declared.amounts.AmountRange.{AmountRange}
 use Rattle.result_ranges.specs.declared.amounts.AmountRange.TheVariants as range
 use Rattle.result_ranges.specs.declared.amounts.Receiver.{Receiver}

@@ -13,9 +13,10 @@ use Rattle.sum_ranges.specs.declared.ranged.Ranged.{Ranged}
 use Rattle.sum_ranges.specs.Ranged.{point, IsNarrower, IsBelow}
 use Rattle.sum_ranges.specs.SumRanges.{turned, sum_range, product_range_from, atom_range}
 use Rattle.sum_ranges.proofs.Narrow.{point_narrower, turned_narrower, sum_below, atom_below, whole_product_below}
-use Rattle.result_ranges.specs.declared.amounts.Taken.{Taken}
-use Rattle.result_ranges.specs.Amounts.{taken, IsNarrowerTakenIfAny}
-use Rattle.result_ranges.specs.Operands.{alone, is_whole, taken_from, taken_sum}
+use Rattle.sum_ranges.specs.declared.taking.Taken.{Taken}
+use Rattle.result_ranges.specs.Amounts.{IsNarrowerTakenIfAny}
+use Rattle.sum_ranges.specs.Taking.{taken, alone, taken_from, taken_sum}
+use Rattle.result_ranges.specs.Operands.{is_whole}
 use Rattle.result_ranges.specs.Stores.{sender_range, operands}
 
 alone_below : (o p : Option Ranged) → IsBelow o p → IsNarrowerTakenIfAny (option_map alone o) (option_map alone p)

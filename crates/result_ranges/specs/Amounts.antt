@@ -8,12 +8,9 @@ use Rattle.cob_program.specs.Values.{negated, plus, product, exact_quotient, ◌
 use Rattle.cob_runs.specs.Computing.{cut_quotient}
 use Rattle.sum_ranges.specs.declared.ranged.Ranged.{Ranged}
 use Rattle.sum_ranges.specs.Ranged.{IsIn, IsNarrower, IsOrdered}
-use Rattle.result_ranges.specs.declared.amounts.Taken.{Taken}
+use Rattle.sum_ranges.specs.declared.taking.Taken.{Taken}
 use Rattle.result_ranges.specs.declared.amounts.AmountRange.{AmountRange}
 use Rattle.result_ranges.specs.declared.amounts.AmountRange.TheVariants as range
-
-abbrev pub taken : Ranged → Option Ranged → Taken
-taken top under = record { top = top; under = under }
 
 -- what n over d leaves, once the quotient is cut at a scale; nothing where d is 0
 abbrev pub rest : ℕ → Scaled → Scaled → Option Scaled

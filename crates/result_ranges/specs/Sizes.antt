@@ -10,7 +10,7 @@ use Rattle.sum_ranges.specs.Ranged.{ranged}
 use Rattle.sum_ranges.specs.SumRanges.{turned, product_range}
 use Rattle.sum_ranges.specs.Sizes.{IsSmallRange}
 use Rattle.sum_ranges.specs.Working.{CanAddRanges, CanMultiplyRanges}
-use Rattle.result_ranges.specs.declared.amounts.Taken.{Taken}
+use Rattle.sum_ranges.specs.declared.taking.Taken.{Taken}
 use Rattle.result_ranges.specs.declared.amounts.AmountRange.{AmountRange}
 use Rattle.result_ranges.specs.declared.amounts.AmountRange.TheVariants as range
 use Rattle.result_ranges.specs.declared.amounts.Receiver.{Receiver}

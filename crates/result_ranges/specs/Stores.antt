@@ -10,10 +10,11 @@ use Rattle.cob_edge_parts.specs.Parts.{Amount, moved, computed, remaining, augme
 use Rattle.sum_ranges.specs.declared.ranged.Ranged.{Ranged}
 use Rattle.sum_ranges.specs.Ranged.{point}
 use Rattle.sum_ranges.specs.SumRanges.{plus_range}
-use Rattle.result_ranges.specs.declared.amounts.Taken.{Taken}
+use Rattle.sum_ranges.specs.declared.taking.Taken.{Taken}
 use Rattle.result_ranges.specs.declared.amounts.AmountRange.{AmountRange}
 use Rattle.result_ranges.specs.declared.amounts.AmountRange.TheVariants as range
-use Rattle.result_ranges.specs.Operands.{alone, is_whole, taken_sum, computed_range, remaining_range}
+use Rattle.result_ranges.specs.Operands.{is_whole, computed_range, remaining_range}
+use Rattle.sum_ranges.specs.Taking.{alone, taken_sum}
 
 module _ (range_at : ℕ → Ranged) where
   -- a sender's number; nothing where it has none

@@ -1,13 +1,5 @@
-//! What is known of operands, of amounts, and of receivers.
+//! What is known of amounts, and receivers.
 use sum_ranges::Ranged;
-
-/// The range of a sum; where its whole is a quotient that stays exact until it is stored, those of what is divided and of
-/// what divides.
-#[derive(Clone, Copy, Debug, PartialEq, Eq)]
-pub struct Taken {
-    pub top: Ranged,
-    pub under: Option<Ranged>,
-}
 
 /// What is known of the exact value that a receiver is to get.
 #[derive(Clone, Copy, Debug, PartialEq, Eq)]

@@ -9,7 +9,7 @@ mod laws;
 mod results;
 mod units;
 
-pub use amounts::{AmountRange, Receiver, Taken};
+pub use amounts::{AmountRange, Receiver};
 pub use laws::{
     amounts_lie_in_their_ranges, bounded_operands_give_small_amounts, counts_are_least,
     narrower_operands_give_narrower_results, receivers_keep_the_least, results_lie_in_their_ranges,

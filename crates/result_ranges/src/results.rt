@@ -5,14 +5,14 @@ ghost use Rattle.result_ranges.specs.Operands.{computed_range};
 ghost use Rattle.result_ranges.specs.ResultRanges.{fitted, exceeds, result_range, may_fail, lowered, count_range, count_may_fail};
 ghost use Rattle.result_ranges.specs.Sizes.{IsReceiver, IsSmallAmount, CanCompute};
 
-use crate::amounts::{AmountRange, Receiver, Taken};
+use crate::amounts::{AmountRange, Receiver};
 use crate::arithmetic::product_range;
 use crate::intervals::{absolutes, most, within};
 use crate::units::amount_units;
 use cob_program::How;
 use dec_num::Mode;
 use decimal_interval::Interval;
-use sum_ranges::{Ranged, plus_range, turned};
+use sum_ranges::{Ranged, Taken, plus_range, turned};
 
 /// What a store may do: the units that the receiver holds behind it where a result fits, if some may, and whether one
 /// may not fit.
