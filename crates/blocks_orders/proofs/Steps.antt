@@ -1,5 +1,5 @@
 -- Blocks in use, after one was taken or given back.
-use Rattle.std.proofs.Common.{◌≡◌, ◌≢◌, ℕ, List, ℤ, get_or, Some, None, refl, ap, sym, ◌∙◌, subst, get_or-set_other}
+use Rattle.std.proofs.Common.{◌≡◌, ◌≢◌, ℕ, List, ℤ, get_or, Some, None, ap, sym, ◌∙◌, subst, get_or-set_other}
 use Rattle.std.specs.Prelude.{Option, IsSome}
 use Rattle.block_store.specs.Held.{Held, block_at, Takes, Gives}
 
