@@ -7,7 +7,7 @@ ghost use Rattle.result_ranges.specs.Sizes.{IsReceiver, IsSmallAmount};
 ghost use Rattle.borrowed_parts.specs.PartView.{plain_amount};
 ghost use Rattle.cell_steps.specs.Operands.{is_remainder};
 ghost use Rattle.cell_steps.specs.Stores.{may_vanish};
-ghost use Rattle.cell_walk.specs.Working.{CanSettle, CanWork, amount_from, units_from, exceeds_from};
+ghost use Rattle.cell_amounts.specs.Working.{CanSettle, CanWork, amount_from, units_from, exceeds_from};
 
 use crate::amounts::{amount_of, is_remainder, may_divide_by_zero};
 use borrowed_parts::Amount;

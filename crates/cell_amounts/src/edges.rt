@@ -5,7 +5,7 @@ ghost use Rattle.cob_runs.specs.Steps.{is_given};
 ghost use Rattle.cob_edge_parts.specs.Parts.{has_phrase, is_handled};
 ghost use Rattle.sum_ranges.specs.Working.{AreBounded};
 ghost use Rattle.cell_steps.specs.Operands.{operands_vanish};
-ghost use Rattle.cell_walk.specs.Small.{has_small_sum};
+ghost use Rattle.cell_amounts.specs.Small.{has_small_sum};
 
 use cob_program::{Act, Stmt};
 use cob_runs::Action;

@@ -9,7 +9,7 @@ use Rattle.sum_ranges.specs.SumRanges.{turned, sum_range, product_range_from, at
 use Rattle.sum_ranges.specs.Taking as sum
 use Rattle.result_ranges.specs.Amounts.{taken}
 use Rattle.result_ranges.specs.Operands as store
-use Rattle.cell_walk.specs.Working.{for_store}
+use Rattle.cell_amounts.specs.Working.{for_store}
 
 alone_is : (o : Option Ranged) → option_map for_store (option_map sum.alone o) ≡ option_map store.alone o
 alone_is None = refl

@@ -6,7 +6,7 @@ ghost use Rattle.cob_runs.specs.Contents.{number_in};
 ghost use Rattle.sum_ranges.specs.Ranged.{point};
 ghost use Rattle.sum_ranges.specs.Working.{AreBounded};
 ghost use Rattle.result_ranges.specs.Stores.{sender_range};
-ghost use Rattle.cell_walk.specs.Small.{is_small_sender};
+ghost use Rattle.cell_amounts.specs.Small.{is_small_sender};
 
 use cob_data::Sender;
 use cob_tree::Form;

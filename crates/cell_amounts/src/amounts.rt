@@ -6,7 +6,7 @@ ghost use Rattle.result_ranges.specs.Operands.{remaining_range};
 ghost use Rattle.result_ranges.specs.Stores.{amount_range};
 ghost use Rattle.borrowed_parts.specs.PartView.{plain_amount};
 ghost use Rattle.cell_steps.specs.Operands.{settled, stays_exact, taken_for, amount_of, is_divided, may_divide_by_zero, is_remainder};
-ghost use Rattle.cell_walk.specs.Working.{CanSettle, CanGive, CanWork};
+ghost use Rattle.cell_amounts.specs.Working.{CanSettle, CanGive, CanWork};
 
 use borrowed_parts::Amount;
 use cob_program::How;

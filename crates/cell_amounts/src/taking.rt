@@ -11,8 +11,8 @@ ghost use Rattle.result_ranges.specs.Operands.{alone, is_whole, taken_sum};
 ghost use Rattle.result_ranges.specs.Stores.{operands};
 ghost use Rattle.borrowed_parts.specs.PartView.{plain_amount};
 ghost use Rattle.cell_steps.specs.Operands.{edge_amount};
-ghost use Rattle.cell_walk.specs.Small.{is_small_amount};
-ghost use Rattle.cell_walk.specs.Working.{for_store};
+ghost use Rattle.cell_amounts.specs.Small.{is_small_amount};
+ghost use Rattle.cell_amounts.specs.Working.{for_store};
 
 use crate::senders::sender_range;
 use borrowed_parts::Amount;

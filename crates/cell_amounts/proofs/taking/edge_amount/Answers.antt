@@ -2,7 +2,7 @@ use Rattle.std.proofs.Common.{sym, ap, ◌∙◌}
 use Rattle.cob_program.specs.ActView.{plain_body}
 use Rattle.borrowed_parts.proofs.ActViews.{perform_is, write_is}
 use Rattle.cell_steps.specs.Operands.{edge_amount}
-use Rattle.cell_walk.proofs.taking.edge_amount.Goals as goal
+use Rattle.cell_amounts.proofs.taking.edge_amount.Goals as goal
 
 pub returns-in-Perform : goal.returns-in-Perform
 returns-in-Perform c =
