@@ -1,0 +1,5 @@
+pub mod Short
+pub mod Tests
+pub mod Sums
+pub mod Senders
+pub mod Edges
