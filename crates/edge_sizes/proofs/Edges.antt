@@ -1,6 +1,6 @@
 -- The numbers of each edge of a source's program are small.
-use Rattle.std.proofs.Common.{◌≡◌, ℕ, ◌≤◌, Bool, true, false, Some, refl, sym, subst}
-use Rattle.std.specs.Prelude.{IfSome, IsTrue}
+use Rattle.std.proofs.Common.{◌≡◌, ℕ, ◌≤◌, true, false, Some, refl, sym, subst}
+use Rattle.std.specs.Prelude.{IfSome}
 use Rattle.cob_data.specs.declared.layout.Sender.{Sender}
 use Rattle.cob_program.specs.declared.act.How.TheVariants as how
 use Rattle.cob_program.specs.Sum.{Sum}
@@ -64,17 +64,13 @@ module _ (p : Program) (sound : HasWellFormedItems p.layout) (a : Act) (x : Acti
 
   -- ---- stores
 
-  is_true : (f : Bool) → f ≡ true → IsTrue f
-  is_true true e = tt
-  is_true false e = absurd cc
-
   module _ (place : ℕ) (takes : takes_number (form_at p.layout place) ≡ true) where
     own_small : is_small (bound_at p.layout place) ≡ true
-    own_small = receiver_is_small p.layout place sound (is_true (takes_number (form_at p.layout place)) takes)
+    own_small = receiver_is_small p.layout place sound takes
 
     store_small : (y : Amount) → IsSourceAmount p.layout a x place y → IsSmallStore p a x place y
     store_small (moved y) (its, can) =
-        let small = countable_small p.layout sound y (can (is_true (takes_number (form_at p.layout place)) takes)) in
+        let small = countable_small p.layout sound y (can takes) in
         record {
           sum = moved_sum a y its;
           sender = sent (moved y) its small;
