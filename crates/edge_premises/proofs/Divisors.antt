@@ -1,20 +1,16 @@
 -- What divides in a sum that keeps the rule of bounds keeps it.
-use Rattle.std.proofs.Common.{◌≡◌, ℕ, Bool, true, false, List, [], ◌∷◌, ◌++◌, ◌&&◌, ◌||◌, Option, Some, None, refl, sym, subst}
+use Rattle.std.proofs.Common.{◌≡◌, ℕ, Bool, true, false, List, [], ◌∷◌, ◌++◌, ◌&&◌, inl, inr, Option, Some, None, refl, sym, subst}
 use Rattle.std.specs.Prelude.{if◌then◌else◌}
 use Rattle.std.specs.List.{AllByRecursion, list_any}
+use Rattle.std.proofs.lemmas.Bool.{and_from, and_parts, or_cases}
 use Rattle.cob_program.specs.declared.act.How.{How}
 use Rattle.cob_program.specs.declared.act.How.TheVariants as how
 use Rattle.cob_program.specs.declared.act.Target.{Target}
 use Rattle.cob_program.specs.Sum.{Sum, MkSum, Parts, no_parts, more_parts, MkPart, Factors, no_factors, more_factors, MkFactor, Atom, item, number, group}
 use Rattle.cob_program.specs.Values.{Root, behind_factor, root_in, root_of}
 use Rattle.cob_program.specs.Bounds.{Bound, exactly, sum_bound, product_bound, quotient_bound, factor_bound, is_small, sum_most, part_most, product_most_from, atom_most, is_small_sum, is_small_sum_from, is_small_part, is_small_product, is_small_atom, is_small_root, is_small_stored}
-use Rattle.cob_program.proofs.Steps.{both}
 use Rattle.cob_calc.specs.Arithmetic.{is_small_result, are_small_results}
 use Rattle.cob_edge_parts.specs.Parts.{divisors_in, divisors_in_parts, divisors_in_factors, divisors_in_atom, is_under, divisors_of}
-
-true_and : (a b : Bool) → a ≡ true → b ≡ true → (a && b) ≡ true
-true_and true b e f = f
-true_and false b e f = absurd cc
 
 module _ (bound : ℕ → Bound) where
   abbrev pub AreSmall : List Atom → Type 0
@@ -44,16 +40,16 @@ module _ (bound : ℕ → Bound) where
     in_parts no_parts b e = tt
     in_parts (more_parts (MkPart minus fs) ps) b e =
         let next = sum_bound b (part_most bound (MkPart minus fs)) in
-        let l = both (is_small_part bound (MkPart minus fs)) (is_small next && is_small_sum_from bound next ps) e in
-        let m = both (is_small next) (is_small_sum_from bound next ps) l.1 in
+        let l = and_parts (is_small_part bound (MkPart minus fs)) (is_small next && is_small_sum_from bound next ps) e in
+        let m = and_parts (is_small next) (is_small_sum_from bound next ps) l.1 in
         together (divisors_in_factors fs) (divisors_in_parts ps) (in_factors fs (exactly 1) l.0) (in_parts ps next m.1)
 
     in_factors : (fs : Factors) (b : Bound) → is_small_product bound b fs ≡ true → AreSmall (divisors_in_factors fs)
     in_factors no_factors b e = tt
     in_factors (more_factors (MkFactor over minus atom) fs) b e =
         let next = factor_bound over b (atom_most bound atom) in
-        let l = both (is_small_atom bound atom) (is_small next && is_small_product bound next fs) e in
-        let m = both (is_small next) (is_small_product bound next fs) l.1 in
+        let l = and_parts (is_small_atom bound atom) (is_small next && is_small_product bound next fs) e in
+        let m = and_parts (is_small next) (is_small_product bound next fs) l.1 in
         one_factor over atom (divisors_in_factors fs) l.0 (in_atom atom l.0) (in_factors fs next m.1)
 
     in_atom : (a : Atom) → is_small_atom bound a ≡ true → AreSmall (divisors_in_atom a)
@@ -76,8 +72,8 @@ module _ (bound : ℕ → Bound) where
       let same : record { above = more_factors (MkFactor over minus atom) q.above; minus = q.minus; below = q.below } ≡ r = cc in
       let own = subst (IsSmallFrom b) (sym same) h in
       let next = factor_bound over b (atom_most bound atom) in
-      let l = both (is_small_atom bound atom) (is_small next && is_small_product bound next q.above) own.above in
-      let m = both (is_small next) (is_small_product bound next q.above) l.1 in
+      let l = and_parts (is_small_atom bound atom) (is_small next && is_small_product bound next q.above) own.above in
+      let m = and_parts (is_small next) (is_small_product bound next q.above) l.1 in
       one_factor over atom (divisors_in_factors fs) l.0 (in_atom atom l.0) (more next q refl (record { above = m.1; below = own.below }))
 
   from_root : (fs : Factors) (b : Bound) (r : Root) → root_in fs ≡ Some r → IsSmallFrom b r → AreSmall (divisors_in_factors fs)
@@ -102,7 +98,7 @@ module _ (bound : ℕ → Bound) where
   of_stored : (s : Sum) (o : Option Root) → root_of s ≡ o → is_small_root bound s o ≡ true → AreSmall (divisors_in s)
   of_stored s None made small = in_sum s small
   of_stored s (Some r) made small =
-      let l = both (is_small_product bound (exactly 1) r.above) (is_small_atom bound r.below) small in
+      let l = and_parts (is_small_product bound (exactly 1) r.above) (is_small_atom bound r.below) small in
       of_root s r made (record { above = l.0; below = l.1 })
 
   in_stored : (s : Sum) → is_small_stored bound s ≡ true → AreSmall (divisors_in s)
@@ -124,12 +120,12 @@ module _ (bound : ℕ → Bound) where
       let whole : Root = record { above = more_factors (MkFactor over minus atom) q.above; minus = q.minus; below = q.below } in
       let same : whole ≡ r = cc in
       let next = factor_bound over b (atom_most bound atom) in
-      let l = both (is_small_atom bound atom) (is_small next && is_small_product bound next fs) e in
-      let m = both (is_small next) (is_small_product bound next fs) l.1 in
+      let l = and_parts (is_small_atom bound atom) (is_small next && is_small_product bound next fs) e in
+      let m = and_parts (is_small next) (is_small_product bound next fs) l.1 in
       let rest = more next q refl m.1 in
       let own : IsSmallQuotientFrom b whole = record {
-        above = true_and (is_small_atom bound atom) (is_small next && is_small_product bound next q.above) l.0
-            (true_and (is_small next) (is_small_product bound next q.above) m.0 rest.above);
+        above = and_from (is_small_atom bound atom) (is_small next && is_small_product bound next q.above) l.0
+            (and_from (is_small next) (is_small_product bound next q.above) m.0 rest.above);
         below = rest.below;
         whole = rest.whole;
       } in
@@ -142,8 +138,8 @@ module _ (bound : ℕ → Bound) where
       let whole : Root = record { above = no_factors; minus = minus; below = atom } in
       let same : whole ≡ r = cc in
       let next = factor_bound true b (atom_most bound atom) in
-      let l = both (is_small_atom bound atom) (is_small next && true) e in
-      let own : IsSmallQuotientFrom b whole = record { above = refl; below = l.0; whole = (both (is_small next) true l.1).0 } in
+      let l = and_parts (is_small_atom bound atom) (is_small next && true) e in
+      let own : IsSmallQuotientFrom b whole = record { above = refl; below = l.0; whole = (and_parts (is_small next) true l.1).0 } in
       subst (IsSmallQuotientFrom b) same own
   root_is_small (more_factors (MkFactor false minus atom) (more_factors g gs)) b r made e =
       root_behind false minus atom (more_factors g gs) (root_in (more_factors g gs)) b r (λ c q f k. root_is_small (more_factors g gs) c q f k) made e
@@ -154,7 +150,7 @@ module _ (bound : ℕ → Bound) where
   sum_root (MkSum no_parts) r made e = absurd cc
   sum_root (MkSum (more_parts (MkPart false fs) no_parts)) r made e =
       root_is_small fs (exactly 1) r made
-      (both (is_small_part bound (MkPart false fs)) (is_small (sum_bound (exactly 0) (part_most bound (MkPart false fs))) && true) e).0
+      (and_parts (is_small_part bound (MkPart false fs)) (is_small (sum_bound (exactly 0) (part_most bound (MkPart false fs))) && true) e).0
   sum_root (MkSum (more_parts (MkPart true fs) no_parts)) r made e = absurd cc
   sum_root (MkSum (more_parts (MkPart false fs) (more_parts q qs))) r made e = absurd cc
   sum_root (MkSum (more_parts (MkPart true fs) (more_parts q qs))) r made e = absurd cc
@@ -163,7 +159,7 @@ module _ (bound : ℕ → Bound) where
   stored_by s None made e = e
   stored_by s (Some r) made e =
       let h = sum_root s r made e in
-      true_and (is_small_product bound (exactly 1) r.above) (is_small_atom bound r.below) h.above h.below
+      and_from (is_small_product bound (exactly 1) r.above) (is_small_atom bound r.below) h.above h.below
 
   pub sum_is_stored : (s : Sum) → is_small_sum bound s ≡ true → is_small_stored bound s ≡ true
   sum_is_stored s e = stored_by s (root_of s) refl e
@@ -172,9 +168,9 @@ module _ (bound : ℕ → Bound) where
 
   pub result_is_stored : (s : Sum) (place : ℕ) (h : How) → is_small_result bound s place h ≡ true → is_small_stored bound s ≡ true
   result_is_stored s place how.Whole e = e
-  result_is_stored s place how.Plus e = sum_is_stored s (both (is_small_sum bound s) (is_small (sum_bound (bound place) (sum_most bound s))) e).0
-  result_is_stored s place how.Minus e = sum_is_stored s (both (is_small_sum bound s) (is_small (sum_bound (bound place) (sum_most bound s))) e).0
-  result_is_stored s place how.Times e = sum_is_stored s (both (is_small_sum bound s) (is_small (product_bound (bound place) (sum_most bound s))) e).0
+  result_is_stored s place how.Plus e = sum_is_stored s (and_parts (is_small_sum bound s) (is_small (sum_bound (bound place) (sum_most bound s))) e).0
+  result_is_stored s place how.Minus e = sum_is_stored s (and_parts (is_small_sum bound s) (is_small (sum_bound (bound place) (sum_most bound s))) e).0
+  result_is_stored s place how.Times e = sum_is_stored s (and_parts (is_small_sum bound s) (is_small (product_bound (bound place) (sum_most bound s))) e).0
   result_is_stored s place how.Under e = sum_is_stored s e
 
   divides_small : (s : Sum) (place : ℕ) (h : How) → is_small_result bound s place h ≡ true → is_under h ≡ true → is_small_sum bound s ≡ true
@@ -184,21 +180,19 @@ module _ (bound : ℕ → Bound) where
   divides_small s place how.Times e under = absurd cc
   divides_small s place how.Under e under = e
 
-  first_or_other : (a b : Bool) → (a || b) ≡ true → (P : Type 0) → (a ≡ true → P) → (b ≡ true → P) → P
-  first_or_other true b e P first second = first refl
-  first_or_other false b e P first second = second e
-
   some_divides : (s : Sum) (ts : List Target) → are_small_results bound s ts ≡ true → list_any (λ u. is_under u.how) ts ≡ true → is_small_sum bound s ≡ true
   some_divides s [] e under = absurd cc
   some_divides s (t ∷ ts) e under =
-      let l = both (is_small_result bound s t.item t.how) (are_small_results bound s ts) e in
-      first_or_other (is_under t.how) (list_any (λ u. is_under u.how) ts) under (is_small_sum bound s ≡ true)
-      (divides_small s t.item t.how l.0) (some_divides s ts l.1)
+      let l = and_parts (is_small_result bound s t.item t.how) (are_small_results bound s ts) e in
+      elim (or_cases (is_under t.how) (list_any (λ u. is_under u.how) ts) under) as (λ _. is_small_sum bound s ≡ true) [
+        | inl here ↦ divides_small s t.item t.how l.0 here
+        | inr later ↦ some_divides s ts l.1 later
+      ]
 
   pub of_targets : (s : Sum) (ts : List Target) → are_small_results bound s ts ≡ true → AreSmall (divisors_of s ts)
   of_targets s [] e = tt
   of_targets s (t ∷ ts) e =
-      let l = both (is_small_result bound s t.item t.how) (are_small_results bound s ts) e in
+      let l = and_parts (is_small_result bound s t.item t.how) (are_small_results bound s ts) e in
       let under = list_any (λ (u : Target). is_under u.how) (t ∷ ts) in
       together (divisors_in s) (if under then group s ∷ [] else [])
       (in_stored s (result_is_stored s t.item t.how l.0)) (itself under (group s) (λ f. some_divides s (t ∷ ts) e f))

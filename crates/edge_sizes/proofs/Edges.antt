@@ -15,7 +15,6 @@ use Rattle.cob_calc.specs.Contents.{bound_at}
 use Rattle.cob_calc.proofs.Bounded.{receiver_is_small}
 use Rattle.cob_edge_parts.specs.Parts.{Amount, moved, computed, remaining, augmented, Part, divide, store, bytes_in, guard, set_count, parts_of}
 use Rattle.sum_ranges.specs.declared.ranged.Ranged.{Ranged}
-use Rattle.sum_ranges.specs.Working.{AreBounded}
 use Rattle.result_ranges.specs.Stores.{operands, sender_range}
 use Rattle.result_ranges.specs.Sizes.{IsSmallAmount}
 use Rattle.cell_steps.specs.Operands.{edge_amount}

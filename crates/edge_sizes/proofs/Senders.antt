@@ -1,8 +1,8 @@
 -- What receivers get of a sender can be worked out.
 use Rattle.std.proofs.Common.{◌≡◌, ℕ, ◌≤◌, true, List, [], length, Option, Some, None, ℤ, pos, refl, arith}
-use Rattle.std.specs.Prelude.{nat_le, IfSome}
+use Rattle.std.specs.Prelude.{IfSome}
 use Rattle.std.specs.Option.{option_map}
-use Rattle.std.proofs.lemmas.Bool.Decides.{nat_tests}
+use Rattle.std.proofs.lemmas.Bool.{leb-true}
 use Rattle.cob_tree.specs.declared.form.Form.TheVariants as form
 use Rattle.cob_data.specs.declared.layout.Layout.{Layout}
 use Rattle.cob_data.specs.declared.layout.Sender.{Sender}
@@ -33,9 +33,6 @@ use Rattle.cell_amounts.specs.Small.{is_small_sender}
 use Rattle.cell_amounts.specs.Working.{CanWork, amount_from}
 use Rattle.edge_sizes.proofs.Short.{digits_are_short, short_is_small, short_sum, end_short}
 
-at_most : (a b : ℕ) → nat_le a b ≡ true → a ≤ b
-at_most a b e = grind (arith, nat_tests)
-
 module _ (bound : ℕ → Bound) (items : ℕ → Ranged) (bounded : AreBounded items bound) where
   text_small : (text : List ℕ) (o : Option ℤ) → length text ≤ 18 → contents_value (form.Text (length text)) text ≡ o →
       IfSome (option_map point (option_map (scaled_by 0) o)) IsSmallRange
@@ -48,7 +45,7 @@ module _ (bound : ℕ → Bound) (items : ℕ → Ranged) (bounded : AreBounded 
   sender_small : (y : Sender) → is_small_sender bound y ≡ true → IfSome (sender_range items y) IsSmallRange
   sender_small (sender.Item place) e = small_range_of (items place) (bound place) (bounded.held place) e
   sender_small (sender.Number n) e = small_range_of (point (literal n)) (literal_bound n) (point_within (literal n) (literal_bound n) (literal_within n)) e
-  sender_small (sender.Text text) e = text_small text (contents_value (form.Text (length text)) text) (at_most (length text) 18 e) refl
+  sender_small (sender.Text text) e = text_small text (contents_value (form.Text (length text)) text) (leb-true (length text) 18 e) refl
   sender_small (sender.Fill byte) e = tt
   sender_small sender.Zero e = small_range_of (point (whole_number (pos 0))) (exactly 0) (point_within (whole_number (pos 0)) (exactly 0) (whole_within 0)) refl
 

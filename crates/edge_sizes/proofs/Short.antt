@@ -1,8 +1,8 @@
 -- What typing lets be read as a number has at most 18 digits.
-use Rattle.std.proofs.Common.{◌≡◌, ℕ, ◌+◌, ◌-◌, ◌*◌, ◌^◌, ◌≤◌, ◌&&◌, max, Bool, true, false, [], length, Option, Some, None, refl, arith}
+use Rattle.std.proofs.Common.{◌≡◌, ℕ, ◌+◌, ◌-◌, ◌^◌, ◌≤◌, true, [], length, Option, Some, None, refl, arith}
 use Rattle.std.specs.Prelude.{nat_le}
 use Rattle.std.specs.Option.{option_map_or}
-use Rattle.std.proofs.lemmas.Bool.Decides.{nat_tests}
+use Rattle.std.proofs.lemmas.Bool.{and_from, and_parts, le-leb, leb-true}
 use Rattle.std.proofs.lemmas.Nat.{mul-le}
 use Rattle.dec_num.proofs.Powers.{ten_monotone}
 use Rattle.cob_tree.specs.declared.form.Form.{Form}
@@ -12,8 +12,7 @@ use Rattle.cob_data.specs.declared.layout.Item.{Item}
 use Rattle.cob_data.specs.declared.layout.Layout.{Layout}
 use Rattle.cob_data.specs.declared.layout.Sender.{Sender}
 use Rattle.cob_data.specs.declared.layout.Sender.TheVariants as sender
-use Rattle.cob_program.specs.Bounds.{Bound, of_digits, exactly, form_bound, literal_bound, raised, joint, sum_bound, is_small}
-use Rattle.cob_program.proofs.Steps.{both}
+use Rattle.cob_program.specs.Bounds.{Bound, of_digits, form_bound, literal_bound, raised, joint, sum_bound, is_small}
 use Rattle.cob_runs.specs.Contents.{item_at, form_at, scale_of}
 use Rattle.cob_runs.specs.Moves.{takes_number}
 use Rattle.cob_runs.specs.Deciding.{is_number_form, is_number_end}
@@ -30,26 +29,16 @@ use Rattle.cell_amounts.specs.Small.{is_small_sender}
 
 -- ---- bounds of 18 digits
 
-few : (a b : ℕ) → a ≤ b → nat_le a b ≡ true
-few a b h = grind (arith, nat_tests)
-
-at_most : (a b : ℕ) → nat_le a b ≡ true → a ≤ b
-at_most a b e = grind (arith, nat_tests)
-
-true_and : (a b : Bool) → a ≡ true → b ≡ true → (a && b) ≡ true
-true_and true b e f = f
-true_and false b e f = absurd cc
-
 pub digits_are_short : (digits scale : ℕ) → digits ≤ 18 → scale ≤ 18 → is_short (of_digits digits scale) ≡ true
 digits_are_short digits scale h k =
-    true_and (nat_le (10 ^ digits - 1) (10 ^ 18 - 1)) (nat_le scale 18)
-    (few (10 ^ digits - 1) (10 ^ 18 - 1) (omega (arith, ten_monotone digits 18 h))) (few scale 18 k)
+    and_from (nat_le (10 ^ digits - 1) (10 ^ 18 - 1)) (nat_le scale 18)
+    (le-leb (10 ^ digits - 1) (10 ^ 18 - 1) (omega (arith, ten_monotone digits 18 h))) (le-leb scale 18 k)
 
 pub short_is_small : (b : Bound) → is_short b ≡ true → is_small b ≡ true
 short_is_small b e =
-    let l = both (nat_le b.most (10 ^ 18 - 1)) (nat_le b.scale 18) e in
-    true_and (nat_le b.most (10 ^ 37 - 1)) (nat_le b.scale 37)
-    (few b.most (10 ^ 37 - 1) (omega (arith, at_most b.most (10 ^ 18 - 1) l.0))) (few b.scale 37 (omega (arith, at_most b.scale 18 l.1)))
+    let l = and_parts (nat_le b.most (10 ^ 18 - 1)) (nat_le b.scale 18) e in
+    and_from (nat_le b.most (10 ^ 37 - 1)) (nat_le b.scale 37)
+    (le-leb b.most (10 ^ 37 - 1) (omega (arith, leb-true b.most (10 ^ 18 - 1) l.0))) (le-leb b.scale 37 (omega (arith, leb-true b.scale 18 l.1)))
 
 -- at the greater of two scales
 raised_most : (b : Bound) (scale : ℕ) → b.most ≤ 10 ^ 18 - 1 → scale ≤ 18 → raised b scale ≤ 10 ^ 36
@@ -61,13 +50,13 @@ joint_most a b h k = omega (arith, h, k)
 
 pub short_sum : (a b : Bound) → is_short a ≡ true → is_short b ≡ true → is_small (sum_bound a b) ≡ true
 short_sum a b e f =
-    let l = both (nat_le a.most (10 ^ 18 - 1)) (nat_le a.scale 18) e in
-    let m = both (nat_le b.most (10 ^ 18 - 1)) (nat_le b.scale 18) f in
-    let scale = joint_most a b (at_most a.scale 18 l.1) (at_most b.scale 18 m.1) in
-    let first = raised_most a (joint a b) (at_most a.most (10 ^ 18 - 1) l.0) scale in
-    let second = raised_most b (joint a b) (at_most b.most (10 ^ 18 - 1) m.0) scale in
-    true_and (nat_le (raised a (joint a b) + raised b (joint a b)) (10 ^ 37 - 1)) (nat_le (joint a b) 37)
-    (few (raised a (joint a b) + raised b (joint a b)) (10 ^ 37 - 1) (omega (arith, first, second))) (few (joint a b) 37 (omega (arith, scale)))
+    let l = and_parts (nat_le a.most (10 ^ 18 - 1)) (nat_le a.scale 18) e in
+    let m = and_parts (nat_le b.most (10 ^ 18 - 1)) (nat_le b.scale 18) f in
+    let scale = joint_most a b (leb-true a.scale 18 l.1) (leb-true b.scale 18 m.1) in
+    let first = raised_most a (joint a b) (leb-true a.most (10 ^ 18 - 1) l.0) scale in
+    let second = raised_most b (joint a b) (leb-true b.most (10 ^ 18 - 1) m.0) scale in
+    and_from (nat_le (raised a (joint a b) + raised b (joint a b)) (10 ^ 37 - 1)) (nat_le (joint a b) 37)
+    (le-leb (raised a (joint a b) + raised b (joint a b)) (10 ^ 37 - 1) (omega (arith, first, second))) (le-leb (joint a b) 37 (omega (arith, scale)))
 
 -- ---- forms
 
@@ -133,7 +122,7 @@ literal_short n short = digits_are_short (length n.digits) n.scale short.digits 
 pub countable_small : (l : Layout) → HasWellFormedItems l → (y : Sender) → IsCountable l y → is_small_sender (bound_at l) y ≡ true
 countable_small l items (sender.Item place) can = short_is_small (bound_at l place) (countable_at l items place can)
 countable_small l items (sender.Number n) can = short_is_small (literal_bound n) (literal_short n can)
-countable_small l items (sender.Text text) can = few (length text) 18 can
+countable_small l items (sender.Text text) can = le-leb (length text) 18 can
 countable_small l items (sender.Fill byte) can = refl
 countable_small l items sender.Zero can = refl
 

@@ -1,15 +1,16 @@
 -- What an arithmetic statement's receivers get can be worked out, where items lie within their bounds.
-use Rattle.std.proofs.Common.{◌≡◌, ℕ, ◌≤◌, ◌&&◌, Bool, true, false, Option, Some, None, pos, refl, sym, subst}
+use Rattle.std.proofs.Common.{◌≡◌, ℕ, ◌≤◌, true, false, Option, Some, None, pos, refl, sym, subst}
 use Rattle.std.specs.Prelude.{if◌then◌else◌, IfSome}
 use Rattle.std.specs.Option.{option_map}
+use Rattle.std.proofs.lemmas.Bool.{and_parts}
 use Rattle.cob_program.specs.declared.act.How.{How}
 use Rattle.cob_program.specs.declared.act.How.TheVariants as how
 use Rattle.cob_program.specs.Sum.{Sum, MkPart, group}
 use Rattle.cob_program.specs.Values.{whole_number, Root, root_of, ◌>>=◌}
 use Rattle.cob_program.specs.Bounds.{Bound, exactly, sum_bound, product_bound, is_small, sum_most, product_most_from, atom_most, is_small_sum, is_small_product, is_small_atom, is_small_root, is_small_stored}
-use Rattle.cob_program.proofs.Steps.{some_bound, some_same, both, whole_within}
+use Rattle.cob_program.proofs.Steps.{some_bound, some_same, whole_within}
 use Rattle.cob_calc.specs.Arithmetic.{is_small_result, is_small_rest}
-use Rattle.cob_edge_parts.specs.Parts.{Amount, computed, remaining}
+use Rattle.cob_edge_parts.specs.Parts.{computed, remaining}
 use Rattle.sum_ranges.specs.declared.ranged.Ranged.{Ranged}
 use Rattle.sum_ranges.specs.Ranged.{point}
 use Rattle.sum_ranges.specs.SumRanges.{turned, sum_range, product_range_from, atom_range}
@@ -83,7 +84,7 @@ module _ (bound : ℕ → Bound) (items : ℕ → Ranged) (bounded : AreBounded 
 
     top_small : (r : Root) (t : Taken) → root_of s ≡ Some r → (q : IsQuotientTaken r t) → IsSmallRange q.top × IsSmallRange q.under
     top_small r t e q =
-        let l = both (is_small_product bound (exactly 1) r.above) (is_small_atom bound r.below) (root_small (Some r) e) in (
+        let l = and_parts (is_small_product bound (exactly 1) r.above) (is_small_atom bound r.below) (root_small (Some r) e) in (
           small_range_of q.top (product_most_from bound (exactly 1) r.above) q.above (small_part_most bound (MkPart false r.above) l.0),
           small_range_of q.under (atom_most bound r.below) q.below (small_atom_most bound r.below l.1),
         )
@@ -133,7 +134,7 @@ module _ (bound : ℕ → Bound) (items : ℕ → Ranged) (bounded : AreBounded 
 
         quotient : (r : Root) (t : Taken) → root_of s ≡ Some r → IsQuotientTaken r t → Small t
         quotient r t e q =
-            let l = both (is_small_product bound (exactly 1) r.above) (is_small_atom bound r.below) (root_small (Some r) e) in
+            let l = and_parts (is_small_product bound (exactly 1) r.above) (is_small_atom bound r.below) (root_small (Some r) e) in
             subst Small q.its
             (small_remainder q.top q.under (product_most_from bound (exactly 1) r.above) (atom_most bound r.below) scale q.above q.below short
             (small_part_most bound (MkPart false r.above) l.0) (small_atom_most bound r.below l.1) (subst (λ o. is_small_rest bound scale o ≡ true) e rest))
@@ -178,14 +179,14 @@ module _ (bound : ℕ → Bound) (items : ℕ → Ranged) (bounded : AreBounded 
           CanCompute h own (alone all) × IsSmallAmount (computed_range h own (alone all))
       results how.Whole f e all w = absurd cc
       results how.Plus f e all w =
-          let l = both (is_small_sum bound s) (is_small (sum_bound (bound place) (sum_most bound s))) e in
+          let l = and_parts (is_small_sum bound s) (is_small (sum_bound (bound place) (sum_most bound s))) e in
           small_sum own all (bound place) (sum_most bound s) mine w l.1
       results how.Minus f e all w =
-          let l = both (is_small_sum bound s) (is_small (sum_bound (bound place) (sum_most bound s))) e in
+          let l = and_parts (is_small_sum bound s) (is_small (sum_bound (bound place) (sum_most bound s))) e in
           let r = small_sum own (turned true all) (bound place) (sum_most bound s) mine (turned_within true all (sum_most bound s) w) l.1 in
           ((small_range_of all (sum_most bound s) w whole_is_small, r.0), r.1)
       results how.Times f e all w =
-          let l = both (is_small_sum bound s) (is_small (product_bound (bound place) (sum_most bound s))) e in
+          let l = and_parts (is_small_sum bound s) (is_small (product_bound (bound place) (sum_most bound s))) e in
           small_product own all (bound place) (sum_most bound s) mine w fits whole_is_small l.1
       results how.Under f e all w =
           (tt, (small_range_of own (bound place) mine fits, small_range_of all (sum_most bound s) w whole_is_small))
@@ -216,9 +217,9 @@ module _ (bound : ℕ → Bound) (items : ℕ → Ranged) (bounded : AreBounded 
 
   sum_of : (place : ℕ) (h : How) → is_whole h ≡ false → is_small_result bound s place h ≡ true → is_small_sum bound s ≡ true
   sum_of place how.Whole f e = absurd cc
-  sum_of place how.Plus f e = (both (is_small_sum bound s) (is_small (sum_bound (bound place) (sum_most bound s))) e).0
-  sum_of place how.Minus f e = (both (is_small_sum bound s) (is_small (sum_bound (bound place) (sum_most bound s))) e).0
-  sum_of place how.Times f e = (both (is_small_sum bound s) (is_small (product_bound (bound place) (sum_most bound s))) e).0
+  sum_of place how.Plus f e = (and_parts (is_small_sum bound s) (is_small (sum_bound (bound place) (sum_most bound s))) e).0
+  sum_of place how.Minus f e = (and_parts (is_small_sum bound s) (is_small (sum_bound (bound place) (sum_most bound s))) e).0
+  sum_of place how.Times f e = (and_parts (is_small_sum bound s) (is_small (product_bound (bound place) (sum_most bound s))) e).0
   sum_of place how.Under f e = e
 
   module _ (place : ℕ) (own : Ranged) (mine : IsRangeWithin own (bound place)) (fits : is_small (bound place) ≡ true) where
