@@ -2,4 +2,4 @@ pub mod Short
 pub mod Tests
 pub mod Sums
 pub mod Senders
-pub mod Edges
+pub mod Small

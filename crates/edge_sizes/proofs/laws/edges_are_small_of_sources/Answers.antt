@@ -1,4 +1,4 @@
-use Rattle.edge_sizes.proofs.Edges.{edges_are_small_of_sources}
+use Rattle.edge_sizes.proofs.Small.{edges_are_small_of_sources}
 use Rattle.edge_sizes.proofs.laws.edges_are_small_of_sources.Goals as goal
 
 pub returns : goal.returns
