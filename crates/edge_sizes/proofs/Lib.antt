@@ -3,3 +3,4 @@ pub mod Tests
 pub mod Sums
 pub mod Senders
 pub mod Small
+pub mod Examples
