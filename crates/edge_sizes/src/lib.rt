@@ -1,0 +1,2 @@
+//! Edges whose numbers are small enough to be worked with.
+#![tactic(auto)]
