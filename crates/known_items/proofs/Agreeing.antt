@@ -21,11 +21,11 @@ use Rattle.result_ranges.specs.Stores.{sender_range, operands}
 use Rattle.cell_steps.specs.Operands.{operands_vanish}
 use Rattle.cell_amounts.specs.Small.{is_small_sender, is_small_amount, has_small_sum}
 
-bind_same : {A B : Type 0} (x y : Option A) (f g : A → Option B) → x ≡ y → ((a : A) → f a ≡ g a) → (x >>= f) ≡ (y >>= g)
+pub bind_same : {A B : Type 0} (x y : Option A) (f g : A → Option B) → x ≡ y → ((a : A) → f a ≡ g a) → (x >>= f) ≡ (y >>= g)
 bind_same None y f g e h = ap (λ o. o >>= g) e
 bind_same (Some a) y f g e h = h a ∙ ap (λ o. o >>= g) e
 
-or_same : (a b c d : Bool) → a ≡ c → b ≡ d → (a || b) ≡ (c || d)
+pub or_same : (a b c d : Bool) → a ≡ c → b ≡ d → (a || b) ≡ (c || d)
 or_same a b c d e f = ap (λ t. t || b) e ∙ ap (λ t. c || t) f
 
 module _ (f g : ℕ → Ranged) (bound : ℕ → Bound) (same : (place : ℕ) → is_small (bound place) ≡ true → f place ≡ g place) where

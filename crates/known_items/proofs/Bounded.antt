@@ -24,7 +24,7 @@ use Rattle.known_items.specs.Short.{if_small, short_range_at}
 size_within : (m : ℕ) (z : ℤ) → neg_ℤ (pos m) ≤ℤ z → z ≤ℤ pos m → unsigned_abs z ≤ m
 size_within m z low high = omega (arith, ints, low, high)
 
-signed_ends : (m : ℕ) (a b : ℤ) → neg_ℤ (pos m) ≤ℤ a → a ≤ℤ b → b ≤ℤ pos m → (unsigned_abs a ≤ m) × (unsigned_abs b ≤ m)
+pub signed_ends : (m : ℕ) (a b : ℤ) → neg_ℤ (pos m) ≤ℤ a → a ≤ℤ b → b ≤ℤ pos m → (unsigned_abs a ≤ m) × (unsigned_abs b ≤ m)
 signed_ends m a b low ordered high =
     (size_within m a low (omega (arith, ints, ordered, high)), size_within m b (omega (arith, ints, low, ordered)) high)
 
