@@ -2,7 +2,6 @@
 //! No call takes memory.
 #![tactic(auto)]
 
-mod draft;
 mod items;
 mod pictures;
 mod sums;

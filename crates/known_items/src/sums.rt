@@ -2,10 +2,13 @@
 ghost use Rattle.std.specs.Prelude.{◌≡◌, true};
 ghost use Rattle.std.specs.Option.{option_map};
 ghost use Rattle.cob_program.specs.ActView.{plain_act, plain_program};
-ghost use Rattle.cob_program.specs.Bounds.{is_small_atom};
+ghost use Rattle.cob_program.specs.Sum.{group};
+ghost use Rattle.cob_program.specs.SumView.{plain_sum};
+ghost use Rattle.cob_program.specs.Bounds.{is_small_sum, is_small_atom};
 ghost use Rattle.cob_calc.specs.Contents.{bound_at};
 ghost use Rattle.sum_ranges.specs.SumRanges.{atom_range};
 ghost use Rattle.sum_ranges.specs.Vanishing.{holds_zero, may_be_zero};
+ghost use Rattle.sum_ranges.specs.Working.{AreBounded};
 ghost use Rattle.cell_rows.specs.Elements.{CellsFit};
 ghost use Rattle.cell_rows.specs.Rows.{cells_of};
 ghost use Rattle.cell_storages.specs.Homes.{owns};
@@ -21,10 +24,10 @@ use crate::pictures::{is_small_item, is_small_literal};
 use borrowed_parts::{Amount, Divisor};
 use cell_amounts::edge_amount;
 use cob_data::{Layout, Sender};
-use cob_program::{Act, Program};
+use cob_program::{Act, Program, Sum};
 use cob_runs::{Action, Cell};
 use result_ranges::Taken;
-use sum_ranges::{Ranged, atom_range, may_vanish, sum_range};
+use sum_ranges::{Ranged, Ranges, atom_range, may_vanish, sum_range};
 
 // ---- divisors
 
@@ -60,6 +63,15 @@ fn holds_zero(range: Option<Ranged>) -> bool
     }
 }
 
+// Whether a whole sum may be 0, or a divisor in it.
+fn sum_may_be_zero<R: Ranges>(ranges: &R, sum: &Sum) -> bool
+    requires bounded { AreBounded (R.range_at ranges.now) (R.bound_at ranges.now) }
+    requires small { is_small_sum (R.bound_at ranges.now) (plain_sum sum.now) ≡ true }
+    ensures { result ≡ may_be_zero (R.range_at ranges.now) (group (plain_sum sum.now)) }
+{
+    may_vanish(ranges, sum) || holds_zero(sum_range(ranges, sum))
+}
+
 /// Whether a divisor may be 0, or one that stands in it.
 pub fn may_be_zero(program: &Program, cells: &[Cell], row: &[i128], divisor: Divisor) -> bool
     requires row { IsRowOf (plain_program program.now) cells.now row.now }
@@ -74,7 +86,7 @@ pub fn may_be_zero(program: &Program, cells: &[Cell], row: &[i128], divisor: Div
     };
     match divisor {
         Divisor::Inner(atom) => sum_ranges::may_be_zero(&items, atom),
-        Divisor::Whole(sum) => may_vanish(&items, sum) || holds_zero(sum_range(&items, sum)),
+        Divisor::Whole(sum) => sum_may_be_zero(&items, sum),
     }
 }
 
