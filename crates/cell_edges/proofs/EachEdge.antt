@@ -31,7 +31,7 @@ part_of : (i : Interval) (o : Option Interval) → IfSome o (λ j. IsPartOf j i)
 part_of i None h = tt
 part_of i (Some j) h = ((h.low, h.high), h.ordered)
 
-rising : rises.Given
+pub rising : rises.Given
 rising = record {
   operands_ = λ narrow wide within y. operands_below narrow wide within y;
   computed_ = computed_narrower;

@@ -1,0 +1,4 @@
+pub mod Small
+pub mod Bounded
+pub mod Stepping
+pub mod Storing

@@ -1,0 +1,2 @@
+//! Stub: definitions of edges whose numbers are small.
+#![tactic(auto)]

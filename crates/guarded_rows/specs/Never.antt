@@ -1,0 +1,3 @@
+-- Nothing is this.
+unfoldable pub Sealed : Type 0
+Sealed = ⊥
