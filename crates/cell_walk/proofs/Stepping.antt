@@ -37,7 +37,7 @@ use Rattle.cell_steps.specs.Steps.{can_divide, known_as, read_cells, guarded_cel
 use Rattle.cell_rises.proofs.Lists.{cells_reflexive, with_known_fits, forgotten_fits, stored_fits}
 use Rattle.cell_rises.proofs.Fitting.{result_fits, count_fits}
 use Rattle.cell_rises.proofs.Rising.{FitBelow, FitBelowIf, stored_known_fits, read_cells_below, known_if_below, guarded_below, counted_below}
-use Rattle.cell_edges.proofs.EachEdge.{rising}
+use Rattle.cell_rises.proofs.Rules.{rising}
 use Rattle.edge_sizes.specs.Sizes.{sends_small, IsSmallStore, IsSmallPart}
 use Rattle.cell_walk.specs.Kept.{step_at}
 use Rattle.cell_walk.specs.Statements.{act_in}
