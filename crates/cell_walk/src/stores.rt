@@ -15,7 +15,6 @@ ghost use Rattle.cell_rows.specs.Known.{IsOrdered, joined_known};
 ghost use Rattle.cell_rows.specs.Rows.{cells_of};
 ghost use Rattle.cell_storages.specs.Homes.{owns, homes_of, of_item};
 ghost use Rattle.cell_storages.specs.Storages.{known_of};
-ghost use Rattle.cell_steps.specs.Cells.{with_known};
 ghost use Rattle.cell_steps.specs.Operands.{is_remainder};
 ghost use Rattle.cell_steps.specs.Stores.{range_at, may_vanish, stored, stored_known, stored_cells, stored_element};
 ghost use Rattle.edge_sizes.specs.Sizes.{IsSmallStore};
@@ -26,8 +25,6 @@ ghost use Rattle.cell_walk.specs.Walks.{CanStep};
 use crate::kept::Kept;
 use borrowed_parts::Amount;
 use cell_amounts::{is_handled, may_keep, receiver_at, store_range};
-use cell_homes::cell_of;
-use cell_rows::set_known;
 use cob_data::{Item, Layout};
 use cob_program::{Act, Program};
 use cob_runs::{Action, Cell};
@@ -36,7 +33,7 @@ use dec_num::Mode;
 use decimal_interval::{Interval, hull};
 use known_items::item_range;
 use result_ranges::{Stored, Taken};
-use row_changes::{forget_beside, known_of_item};
+use row_changes::{forget_beside, known_of_item, set_item};
 
 // ---- the receiver's cell
 
@@ -111,24 +108,6 @@ fn receiver_known(
 }
 
 // ---- the row
-
-fn set_item(
-    program: &Program,
-    cells: &[Cell],
-    row: &mut [i128],
-    place: u32,
-    known: Option<Interval>,
-)
-    requires row { IsRowOf (plain_program program.now) cells.now row.old }
-    requires ordered { IsOrdered known }
-    ensures cells { cells_of row.new ≡ with_known (of_item place) known (homes_of (plain_program program.now)) (cells_of row.old) }
-    ensures row { IsRowOf (plain_program program.now) cells.now row.new }
-{
-    match cell_of(cells, place) {
-        None => {}
-        Some(k) => set_known(row, k, known),
-    }
-}
 
 // A value of these units is stored, or the receiver keeps its own.
 fn put_units(
