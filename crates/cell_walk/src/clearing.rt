@@ -2,7 +2,6 @@
 ghost use Rattle.std.specs.Prelude.{◌≡◌, ◌<◌, ◌||◌, not, true, length, is_some, map, IfSome};
 ghost use Rattle.std.specs.List.{AllByRecursion};
 ghost use Rattle.std.specs.Option.{option_map_or};
-ghost use Rattle.cob_data.specs.declared.layout.Sender.{Sender};
 ghost use Rattle.cob_program.specs.ActView.{plain_act, plain_stmt, plain_program};
 ghost use Rattle.cob_program.specs.Bounds.{is_small_atom};
 ghost use Rattle.cob_program.specs.Sum.{MkSum, parts_of, factors_of, more_parts, no_parts};
@@ -27,9 +26,9 @@ ghost use Rattle.cell_walk.specs.Walks.{clears_small, CanStep};
 use crate::counting::{count_down_fits, count_fits};
 use crate::dividing::divisor_clears;
 use crate::kept::{Kept, taken};
-use crate::walking::act_of;
 use borrowed_parts::{Amount, Divisor, EdgePart, part_at};
 use cell_amounts::{amount_of, has_phrase, receiver_at};
+use cob_data::Sender;
 use cob_program::{Act, Factor, Part, Program, Stmt, Sum};
 use cob_runs::{Action, Cell};
 use cob_tree::Kind;
@@ -231,13 +230,14 @@ fn set_count_clears(
     act: &Act,
     action: Action,
     statement: u32,
+    _count: &Sender,
     kept: Kept,
     fault: Kind,
 ) -> bool
     requires row { IsRowOf (plain_program program.now) cells.now row.now }
     requires sum { has_small_sum (bound_at program.now.layout) (plain_act act.now) ≡ true }
     requires can { CanStep (plain_program program.now) (plain_act act.now) action (seen row.now kept) }
-    ensures { (y : Sender) → result ≡ clears_small (plain_program program.now) (plain_act act.now) action (part.set_count statement y) (seen row.now kept) fault }
+    ensures { result ≡ clears_small (plain_program program.now) (plain_act act.now) action (part.set_count statement _count.now) (seen row.now kept) fault }
 {
     match fault {
         Kind::Size => count_fits(taken(program, cells, row, act, action, kept).common),
@@ -291,9 +291,9 @@ fn part_clears(
         EdgePart::Store { item, mode, amount } => store_clears(
             program, cells, row, act, action, item, mode, amount, kept, fault,
         ),
-        EdgePart::SetCount { number, .. } => {
-            set_count_clears(program, cells, row, act, action, number, kept, fault)
-        }
+        EdgePart::SetCount { number, count } => set_count_clears(
+            program, cells, row, act, action, number, count, kept, fault,
+        ),
         EdgePart::CountDown(number) => {
             count_down_clears(program, cells, row, act, action, number, kept, fault)
         }
@@ -328,7 +328,7 @@ pub fn clears_part(
             program,
             cells,
             row,
-            act_of(statement),
+            &statement.act,
             action,
             part,
             *kept,

@@ -2,7 +2,6 @@
 ghost use Rattle.std.specs.Prelude.{◌≡◌, true, false, Some, None};
 ghost use Rattle.cob_program.specs.ActView.{plain_act, plain_program};
 ghost use Rattle.cob_program.specs.LogicView.{plain_test};
-ghost use Rattle.cob_data.specs.declared.layout.Sender.{Sender};
 ghost use Rattle.cob_calc.specs.Contents.{bound_at};
 ghost use Rattle.cob_edge_parts.specs.Parts as part;
 ghost use Rattle.borrowed_parts.specs.PartView.{plain_amount, plain_part};
@@ -12,11 +11,11 @@ ghost use Rattle.cell_rows.specs.Elements.{CellsFit};
 ghost use Rattle.cell_rows.specs.Rows.{cells_of};
 ghost use Rattle.cell_storages.specs.Homes.{owns, of_count};
 ghost use Rattle.cell_steps.specs.Seen.{with_cells};
-ghost use Rattle.cell_steps.specs.Steps.{after_read, read_cells, guarded_cells, with_cells_if};
-ghost use Rattle.edge_sizes.specs.Sizes.{IsSmallPart, IsSmallStore, sends_small};
+ghost use Rattle.cell_steps.specs.Steps.{after_count, after_read, read_cells, guarded_cells, with_cells_if};
+ghost use Rattle.edge_sizes.specs.Sizes.{IsSmallPart, IsSmallStore};
 ghost use Rattle.row_changes.specs.Cells.{IsRowOf};
 ghost use Rattle.cell_walk.specs.Kept.{seen};
-ghost use Rattle.cell_walk.specs.Walks.{step_small, CanStep};
+ghost use Rattle.cell_walk.specs.Walks.{with_taken_small, step_small, CanStep};
 
 use crate::counting::{count_down, guard_count, set_count};
 use crate::dividing::divide;
@@ -137,9 +136,9 @@ fn walk_set_count(
     requires row { IsRowOf (plain_program program.now) cells.now row.old }
     requires sum { has_small_sum (bound_at program.now.layout) (plain_act act.now) ≡ true }
     requires can { CanStep (plain_program program.now) (plain_act act.now) action (seen row.old kept.old) }
-    ensures on { (y : Sender) → result ≡ true → step_small (plain_program program.now) (plain_act act.now) action (part.set_count statement y) (seen row.old kept.old)
+    ensures on { result ≡ true → after_count (plain_program program.now) statement (with_taken_small (plain_program program.now) (plain_act act.now) action (seen row.old kept.old))
         ≡ Some (seen row.new kept.new) }
-    ensures off { (y : Sender) → result ≡ false → step_small (plain_program program.now) (plain_act act.now) action (part.set_count statement y) (seen row.old kept.old)
+    ensures off { result ≡ false → after_count (plain_program program.now) statement (with_taken_small (plain_program program.now) (plain_act act.now) action (seen row.old kept.old))
         ≡ None }
     ensures row { IsRowOf (plain_program program.now) cells.now row.new }
 {

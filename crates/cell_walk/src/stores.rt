@@ -186,7 +186,8 @@ fn result_of(
     )
 }
 
-fn keeps(act: &Act, action: Action, amount: Amount, exceeds: bool, kept: Kept) -> bool
+// Whether the receiver may keep its value.
+fn may_keep_own(act: &Act, action: Action, amount: Amount, exceeds: bool, kept: Kept) -> bool
     requires { IfSome kept.common (CanSettleFor (plain_amount amount)) }
     ensures { result ≡ (is_handled (plain_act act.now) action && (exceeds || (kept.may_zero
         || (may_vanish kept.common (plain_amount amount.entry) || (is_remainder (plain_amount amount.entry) && kept.any_fail))))) }
@@ -223,8 +224,8 @@ pub(crate) fn store(
         ≡ None }
     ensures row { IsRowOf (plain_program program.now) cells.now row.new }
 {
-    let result = result_of(program, cells, row, place, mode, amount, kept.common);
-    let keeps = keeps(act, action, amount, result.may_fail, *kept);
+    let value = result_of(program, cells, row, place, mode, amount, kept.common);
+    let keeps = may_keep_own(act, action, amount, value.may_fail, *kept);
     kept.any_fail = kept.any_fail || keeps;
-    put(program, cells, row, place, keeps, result.units)
+    put(program, cells, row, place, keeps, value.units)
 }

@@ -1,7 +1,7 @@
 //! The walk, by the numbers of parts.
 ghost use Rattle.std.specs.Prelude.{◌≡◌, ◌<◌, true, false, length, Some, None};
 ghost use Rattle.std.specs.List.{AllByRecursion};
-ghost use Rattle.cob_program.specs.ActView.{plain_act, plain_stmt, plain_program};
+ghost use Rattle.cob_program.specs.ActView.{plain_stmt, plain_program};
 ghost use Rattle.borrowed_parts.specs.PartView.{edge_parts};
 ghost use Rattle.edge_sizes.specs.Sizes.{IsSmallPart};
 ghost use Rattle.row_changes.specs.Cells.{IsRowOf};
@@ -12,15 +12,8 @@ ghost use Rattle.cell_walk.specs.Walks.{CanStep};
 use crate::kept::Kept;
 use crate::parts::walk_part;
 use borrowed_parts::part_at;
-use cob_program::{Act, Program, Stmt};
+use cob_program::{Program, Stmt};
 use cob_runs::{Action, Cell};
-
-/// What a statement does.
-pub(crate) fn act_of(statement: &Stmt) -> &Act
-    ensures { plain_act result.now ≡ act_in (plain_stmt statement.now) }
-{
-    &statement.act
-}
 
 fn step(
     program: &Program,
@@ -41,7 +34,7 @@ fn step(
 {
     match part_at(program, statement, action, part) {
         None => false,
-        Some(part) => walk_part(program, cells, row, act_of(statement), action, part, kept),
+        Some(part) => walk_part(program, cells, row, &statement.act, action, part, kept),
     }
 }
 

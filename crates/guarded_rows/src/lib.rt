@@ -1,5 +1,5 @@
 //! Stub: rows behind reads and tests, in place.
-#![tactic(auto, unfolding(crate::specs::Never::Sealed))]
+#![tactic(auto)]
 
 ghost use Rattle.std.specs.Prelude.{◌≡◌, true, false, Some, None};
 ghost use Rattle.std.specs.Option.{option_map};
@@ -14,14 +14,12 @@ ghost use Rattle.cell_steps.specs.Steps.{known_as, read_cells, guarded_cells, co
 ghost use Rattle.guard_ranges.specs.Small.{is_small_test};
 ghost use Rattle.result_ranges.specs.ResultRanges.{count_range, lowered};
 ghost use Rattle.row_changes.specs.Cells.{IsRowOf};
-ghost use Rattle.guarded_rows.specs.Never.{Sealed};
 
 use cob_program::{Program, Test};
 use cob_runs::Cell;
 use decimal_interval::Interval;
 
 pub fn read_item(program: &Program, cells: &[Cell], row: &mut [i128], place: u32)
-    requires never { Sealed }
     requires row { IsRowOf (plain_program program.now) cells.now row.old }
     requires fits { CellsFit (owns (plain_program program.now)) (cells_of row.old) }
     ensures cells { cells_of row.new ≡ read_cells (plain_program program.now) (of_item place) (cells_of row.old) }
@@ -31,7 +29,6 @@ pub fn read_item(program: &Program, cells: &[Cell], row: &mut [i128], place: u32
 }
 
 pub fn read_count(program: &Program, cells: &[Cell], row: &mut [i128], statement: u32)
-    requires never { Sealed }
     requires row { IsRowOf (plain_program program.now) cells.now row.old }
     requires fits { CellsFit (owns (plain_program program.now)) (cells_of row.old) }
     ensures cells { cells_of row.new ≡ read_cells (plain_program program.now) (of_count statement) (cells_of row.old) }
@@ -41,7 +38,6 @@ pub fn read_count(program: &Program, cells: &[Cell], row: &mut [i128], statement
 }
 
 pub fn guard_row(program: &Program, cells: &[Cell], row: &mut [i128], test: &Test, wanted: bool) -> bool
-    requires never { Sealed }
     requires row { IsRowOf (plain_program program.now) cells.now row.old }
     requires fits { CellsFit (owns (plain_program program.now)) (cells_of row.old) }
     requires small { is_small_test (bound_at program.now.layout) program.now.layout (plain_test test.now) ≡ true }
@@ -53,7 +49,6 @@ pub fn guard_row(program: &Program, cells: &[Cell], row: &mut [i128], test: &Tes
 }
 
 pub fn guard_count(program: &Program, cells: &[Cell], row: &mut [i128], statement: u32, wanted: bool) -> bool
-    requires never { Sealed }
     requires row { IsRowOf (plain_program program.now) cells.now row.old }
     requires fits { CellsFit (owns (plain_program program.now)) (cells_of row.old) }
     ensures on { result ≡ true → counted_cells (plain_program program.now) statement wanted (cells_of row.old) ≡ Some (cells_of row.new) }
@@ -64,7 +59,6 @@ pub fn guard_count(program: &Program, cells: &[Cell], row: &mut [i128], statemen
 }
 
 pub fn set_count(program: &Program, cells: &[Cell], row: &mut [i128], statement: u32, units: Interval) -> bool
-    requires never { Sealed }
     requires row { IsRowOf (plain_program program.now) cells.now row.old }
     requires fits { CellsFit (owns (plain_program program.now)) (cells_of row.old) }
     ensures on { result ≡ true → option_map (known_as (plain_program program.now) (of_count statement) (cells_of row.old)) (count_range units) ≡ Some (cells_of row.new) }
@@ -75,7 +69,6 @@ pub fn set_count(program: &Program, cells: &[Cell], row: &mut [i128], statement:
 }
 
 pub fn count_down(program: &Program, cells: &[Cell], row: &mut [i128], statement: u32) -> bool
-    requires never { Sealed }
     requires row { IsRowOf (plain_program program.now) cells.now row.old }
     requires fits { CellsFit (owns (plain_program program.now)) (cells_of row.old) }
     ensures on { result ≡ true → option_map (known_as (plain_program program.now) (of_count statement) (cells_of row.old)) (count_range (lowered (units_of program.now.layout (homes_of (plain_program program.now)) (cells_of row.old) (of_count statement)))) ≡ Some (cells_of row.new) }
@@ -86,7 +79,6 @@ pub fn count_down(program: &Program, cells: &[Cell], row: &mut [i128], statement
 }
 
 pub fn count_units(program: &Program, cells: &[Cell], row: &[i128], statement: u32) -> Interval
-    requires never { Sealed }
     requires row { IsRowOf (plain_program program.now) cells.now row.now }
     requires fits { CellsFit (owns (plain_program program.now)) (cells_of row.now) }
     ensures { result ≡ units_of program.now.layout (homes_of (plain_program program.now)) (cells_of row.now) (of_count statement) }

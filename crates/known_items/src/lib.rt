@@ -1,5 +1,5 @@
 //! Stub: what a row knows of items.
-#![tactic(auto, unfolding(crate::specs::Never::Sealed))]
+#![tactic(auto)]
 
 ghost use Rattle.std.specs.Prelude.{◌≡◌, true};
 ghost use Rattle.cob_program.specs.ActView.{plain_program, plain_act};
@@ -17,7 +17,6 @@ ghost use Rattle.cell_steps.specs.Operands.{edge_operands, operands_vanish};
 ghost use Rattle.cell_steps.specs.Stores.{range_at};
 ghost use Rattle.edge_sizes.specs.Sizes.{sends_small};
 ghost use Rattle.row_changes.specs.Cells.{IsRowOf};
-ghost use Rattle.known_items.specs.Never.{Sealed};
 
 use borrowed_parts::Divisor;
 use cob_program::{Act, Program};
@@ -26,7 +25,6 @@ use result_ranges::Taken;
 use sum_ranges::Ranged;
 
 pub fn item_range(program: &Program, cells: &[Cell], row: &[i128], place: u32) -> Ranged
-    requires never { Sealed }
     requires row { IsRowOf (plain_program program.now) cells.now row.now }
     requires fits { CellsFit (owns (plain_program program.now)) (cells_of row.now) }
     requires small { is_small (bound_at program.now.layout place) ≡ true }
@@ -36,7 +34,6 @@ pub fn item_range(program: &Program, cells: &[Cell], row: &[i128], place: u32) -
 }
 
 pub fn divisor_range(program: &Program, cells: &[Cell], row: &[i128], divisor: Divisor) -> Option<Ranged>
-    requires never { Sealed }
     requires row { IsRowOf (plain_program program.now) cells.now row.now }
     requires fits { CellsFit (owns (plain_program program.now)) (cells_of row.now) }
     requires small { is_small_atom (bound_at program.now.layout) (plain_divisor divisor) ≡ true }
@@ -46,7 +43,6 @@ pub fn divisor_range(program: &Program, cells: &[Cell], row: &[i128], divisor: D
 }
 
 pub fn may_be_zero(program: &Program, cells: &[Cell], row: &[i128], divisor: Divisor) -> bool
-    requires never { Sealed }
     requires row { IsRowOf (plain_program program.now) cells.now row.now }
     requires fits { CellsFit (owns (plain_program program.now)) (cells_of row.now) }
     requires small { is_small_atom (bound_at program.now.layout) (plain_divisor divisor) ≡ true }
@@ -56,7 +52,6 @@ pub fn may_be_zero(program: &Program, cells: &[Cell], row: &[i128], divisor: Div
 }
 
 pub fn operands(program: &Program, cells: &[Cell], row: &[i128], act: &Act, action: Action) -> Option<Taken>
-    requires never { Sealed }
     requires row { IsRowOf (plain_program program.now) cells.now row.now }
     requires fits { CellsFit (owns (plain_program program.now)) (cells_of row.now) }
     requires sum { has_small_sum (bound_at program.now.layout) (plain_act act.now) ≡ true }
@@ -67,7 +62,6 @@ pub fn operands(program: &Program, cells: &[Cell], row: &[i128], act: &Act, acti
 }
 
 pub fn operands_vanish(program: &Program, cells: &[Cell], row: &[i128], act: &Act) -> bool
-    requires never { Sealed }
     requires row { IsRowOf (plain_program program.now) cells.now row.now }
     requires fits { CellsFit (owns (plain_program program.now)) (cells_of row.now) }
     requires sum { has_small_sum (bound_at program.now.layout) (plain_act act.now) ≡ true }
@@ -77,14 +71,13 @@ pub fn operands_vanish(program: &Program, cells: &[Cell], row: &[i128], act: &Ac
 }
 
 pub fn sends_small(program: &Program, act: &Act, action: Action) -> bool
-    requires { Sealed }
+
     ensures { result ≡ sends_small (plain_program program.now) (plain_act act.now) action }
 {
     unreachable!()
 }
 
 pub fn item_is_numeric(program: &Program, cells: &[Cell], row: &[i128], place: u32) -> bool
-    requires never { Sealed }
     requires row { IsRowOf (plain_program program.now) cells.now row.now }
     requires fits { CellsFit (owns (plain_program program.now)) (cells_of row.now) }
     ensures { result ≡ is_numeric program.now.layout (homes_of (plain_program program.now)) (cells_of row.now) place }

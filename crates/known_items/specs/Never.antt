@@ -1,3 +1,0 @@
--- Nothing is this.
-unfoldable pub Sealed : Type 0
-Sealed = ⊥
