@@ -1,2 +1,0 @@
-//! Stub: definitions of edges whose numbers are small.
-#![tactic(auto)]
