@@ -1,0 +1,5 @@
+pub mod Homes
+pub mod Reading
+pub mod Counters
+pub mod Agreeing
+pub mod Cuts

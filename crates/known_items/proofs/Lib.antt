@@ -1,0 +1,4 @@
+pub mod Digits
+pub mod Bounded
+pub mod Agreeing
+pub mod Small
