@@ -13,6 +13,7 @@ ghost use Rattle.cell_storages.specs.Homes.{owns, of_count};
 ghost use Rattle.cell_steps.specs.Seen.{with_cells};
 ghost use Rattle.cell_steps.specs.Steps.{after_count, after_read, read_cells, guarded_cells, with_cells_if};
 ghost use Rattle.edge_sizes.specs.Sizes.{IsSmallPart, IsSmallStore};
+ghost use Rattle.guarded_rows.specs.Cells.{has_small_cells};
 ghost use Rattle.row_changes.specs.Cells.{IsRowOf};
 ghost use Rattle.cell_walk.specs.Kept.{seen};
 ghost use Rattle.cell_walk.specs.Walks.{with_taken_small, step_small, CanStep};
@@ -32,6 +33,7 @@ use row_changes::forget_bytes;
 fn walk_read(program: &Program, cells: &[Cell], row: &mut [i128], place: u32, kept: &Kept)
     requires row { IsRowOf (plain_program program.now) cells.now row.old }
     requires fits { CellsFit (owns (plain_program program.now)) (cells_of row.old) }
+    requires small_cells { has_small_cells (plain_program program.now) ≡ true }
     ensures same { after_read (plain_program program.now) place (seen row.old kept.now) ≡ seen row.new kept.now }
     ensures row { IsRowOf (plain_program program.now) cells.now row.new }
 {
@@ -66,6 +68,7 @@ fn walk_guard(
     requires row { IsRowOf (plain_program program.now) cells.now row.old }
     requires fits { CellsFit (owns (plain_program program.now)) (cells_of row.old) }
     requires small { is_small_test (bound_at program.now.layout) program.now.layout (plain_test test.now) ≡ true }
+    requires small_cells { has_small_cells (plain_program program.now) ≡ true }
     ensures on { result ≡ true → with_cells_if (seen row.old kept.now) (guarded_cells (plain_program program.now) (plain_test test.now) holds (cells_of row.old))
         ≡ Some (seen row.new kept.now) }
     ensures off { result ≡ false → with_cells_if (seen row.old kept.now) (guarded_cells (plain_program program.now) (plain_test test.now) holds (cells_of row.old))
@@ -161,6 +164,7 @@ pub(crate) fn walk_part(
     requires row { IsRowOf (plain_program program.now) cells.now row.old }
     requires small { IsSmallPart (plain_program program.now) (plain_act act.now) action (plain_part part) }
     requires can { CanStep (plain_program program.now) (plain_act act.now) action (seen row.old kept.old) }
+    requires small_cells { has_small_cells (plain_program program.now) ≡ true }
     ensures on { result ≡ true → step_small (plain_program program.now) (plain_act act.now) action (plain_part part.entry) (seen row.old kept.old)
         ≡ Some (seen row.new kept.new) }
     ensures off { result ≡ false → step_small (plain_program program.now) (plain_act act.now) action (plain_part part.entry) (seen row.old kept.old)

@@ -4,6 +4,7 @@ ghost use Rattle.std.specs.List.{AllByRecursion};
 ghost use Rattle.cob_program.specs.ActView.{plain_stmt, plain_program};
 ghost use Rattle.borrowed_parts.specs.PartView.{edge_parts};
 ghost use Rattle.edge_sizes.specs.Sizes.{IsSmallPart};
+ghost use Rattle.guarded_rows.specs.Cells.{has_small_cells};
 ghost use Rattle.row_changes.specs.Cells.{IsRowOf};
 ghost use Rattle.cell_walk.specs.Kept.{seen, step_at};
 ghost use Rattle.cell_walk.specs.Statements.{act_in};
@@ -27,6 +28,7 @@ fn step(
     requires row { IsRowOf (plain_program program.now) cells.now row.old }
     requires small { AllByRecursion (IsSmallPart (plain_program program.now) (act_in (plain_stmt statement.now)) action)
         (edge_parts (plain_program program.now) (plain_stmt statement.now) action) }
+    requires small_cells { has_small_cells (plain_program program.now) ≡ true }
     requires can { CanStep (plain_program program.now) (act_in (plain_stmt statement.now)) action (seen row.old kept.old) }
     ensures on { result ≡ true → step_at (plain_program program.now) (plain_stmt statement.now) action part (seen row.old kept.old) ≡ Some (seen row.new kept.new) }
     ensures off { result ≡ false → step_at (plain_program program.now) (plain_stmt statement.now) action part (seen row.old kept.old) ≡ None }
@@ -52,6 +54,7 @@ pub fn walk(
     requires row { IsRowOf (plain_program program.now) cells.now row.old }
     requires small { AllByRecursion (IsSmallPart (plain_program program.now) (act_in (plain_stmt statement.now)) action)
         (edge_parts (plain_program program.now) (plain_stmt statement.now) action) }
+    requires small_cells { has_small_cells (plain_program program.now) ≡ true }
     requires can { CanStep (plain_program program.now) (act_in (plain_stmt statement.now)) action (seen row.old kept.old) }
     requires within { part < length (edge_parts (plain_program program.now) (plain_stmt statement.now) action) }
     ensures on { result ≡ true → step_at (plain_program program.now) (plain_stmt statement.now) action part (seen row.old kept.old) ≡ Some (seen row.new kept.new) }
