@@ -25,7 +25,7 @@ use Rattle.result_ranges.specs.declared.amounts.AmountRange.{AmountRange}
 use Rattle.result_ranges.specs.Receivers.{receiver_of}
 use Rattle.result_ranges.specs.ResultRanges.{result_range, count_range, lowered}
 use Rattle.result_ranges.specs.Sizes.{IsSmallAmount}
-use Rattle.cell_amounts.specs.Working.{CanWork, amount_from, units_from}
+use Rattle.cell_amounts.specs.Working.{CanSettleFor, CanWork, amount_from, units_from}
 use Rattle.cell_rows.specs.Known.{Known, IsOrdered, KnownFits}
 use Rattle.cell_rows.specs.Elements.{Element, CellsFit, ElementFits}
 use Rattle.cell_storages.specs.Homes.{Home, of_item, of_count, homes_of, form_range, home_range, picture_range, owns}
@@ -140,6 +140,13 @@ module _ (p : Program) (a : Act) (x : Action) where
     small_amounts =
         subst (λ (o : Option Taken). IfSome (amount_from o y (range_at p s.cells place)) IsSmallAmount) same_taken
         (small.small (can.taken written).range (range_at p s.cells) (can.taken written).bounded own_bounded)
+
+    settles : (o : Option Taken) → IfSome o (CanWork y (range_at p s.cells place)) → IfSome o (CanSettleFor y)
+    settles None h = tt
+    settles (Some c) h = h.settled
+
+    pub can_settle : IfSome s.common (CanSettleFor y)
+    can_settle = settles s.common can_work
 
   -- ---- one part
 

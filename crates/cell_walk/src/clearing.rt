@@ -42,16 +42,20 @@ use sum_ranges::Ranged;
 fn ends_by_division(factors: &[Factor]) -> bool
     ensures { result ≡ is_some (root_in (factors_of (map plain_factor factors.now))) }
 {
-    match factors.last() {
+    match factors.split_last() {
         None => false,
-        Some(last) => last.over,
+        Some((last, _above)) => last.over,
     }
 }
 
 fn is_quotient_part(part: &Part) -> bool
     ensures { result ≡ is_some (root_of (MkSum (more_parts (sum_part part.now) no_parts))) }
 {
-    !part.minus && ends_by_division(&part.factors)
+    if part.minus {
+        false
+    } else {
+        ends_by_division(&part.factors)
+    }
 }
 
 fn is_quotient_of(parts: &[Part]) -> bool
@@ -183,7 +187,16 @@ fn store_clears(
 
 // ---- other parts
 
-fn read_clears(program: &Program, cells: &[Cell], row: &[i128], act: &Act, action: Action, place: u32, kept: Kept, fault: Kind) -> bool
+fn read_clears(
+    program: &Program,
+    cells: &[Cell],
+    row: &[i128],
+    act: &Act,
+    action: Action,
+    place: u32,
+    kept: Kept,
+    fault: Kind,
+) -> bool
     requires row { IsRowOf (plain_program program.now) cells.now row.now }
     ensures { result ≡ clears_small (plain_program program.now) (plain_act act.now) action (part.read place) (seen row.now kept) fault }
 {
@@ -193,7 +206,14 @@ fn read_clears(program: &Program, cells: &[Cell], row: &[i128], act: &Act, actio
     }
 }
 
-fn unread_clears(program: &Program, row: &[i128], act: &Act, action: Action, kept: Kept, fault: Kind) -> bool
+fn unread_clears(
+    program: &Program,
+    row: &[i128],
+    act: &Act,
+    action: Action,
+    kept: Kept,
+    fault: Kind,
+) -> bool
     ensures { result ≡ clears_small (plain_program program.now) (plain_act act.now) action part.unread (seen row.now kept) fault }
 {
     match fault {
@@ -324,13 +344,13 @@ pub fn clears_part(
 {
     match part_at(program, statement, action, part) {
         None => true,
-        Some(part) => part_clears(
+        Some(found) => part_clears(
             program,
             cells,
             row,
             &statement.act,
             action,
-            part,
+            found,
             *kept,
             fault,
         ),

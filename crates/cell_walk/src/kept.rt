@@ -68,13 +68,7 @@ fn small_operands(
 }
 
 // Whether a divisor of operands may be 0, on an edge of size errors.
-fn may_vanish(
-    program: &Program,
-    cells: &[Cell],
-    row: &[i128],
-    act: &Act,
-    action: Action,
-) -> bool
+fn may_vanish(program: &Program, cells: &[Cell], row: &[i128], act: &Act, action: Action) -> bool
     requires row { IsRowOf (plain_program program.now) cells.now row.now }
     requires fits { CellsFit (owns (plain_program program.now)) (cells_of row.now) }
     requires sum { has_small_sum (bound_at program.now.layout) (plain_act act.now) ≡ true }

@@ -42,13 +42,7 @@ fn walk_read(program: &Program, cells: &[Cell], row: &mut [i128], place: u32, ke
     }
 }
 
-fn walk_read_count(
-    program: &Program,
-    cells: &[Cell],
-    row: &mut [i128],
-    statement: u32,
-    kept: &Kept,
-)
+fn walk_read_count(program: &Program, cells: &[Cell], row: &mut [i128], statement: u32, kept: &Kept)
     requires row { IsRowOf (plain_program program.now) cells.now row.old }
     requires fits { CellsFit (owns (plain_program program.now)) (cells_of row.old) }
     ensures same { with_cells (seen row.old kept.now) (read_cells (plain_program program.now) (of_count statement) (cells_of row.old)) ≡ seen row.new kept.now }
@@ -101,9 +95,7 @@ fn walk_store(
     ensures row { IsRowOf (plain_program program.now) cells.now row.new }
 {
     *kept = taken(program, cells, row, act, action, *kept);
-    store(
-        program, cells, row, act, action, place, mode, amount, kept,
-    )
+    store(program, cells, row, act, action, place, mode, amount, kept)
 }
 
 fn walk_bytes(
@@ -182,9 +174,7 @@ pub(crate) fn walk_part(
             program, cells, row, act, action, item, mode, amount, kept,
         ),
         EdgePart::Bytes { offset, length } => {
-            walk_bytes(
-                program, cells, row, act, action, offset, length, kept,
-            );
+            walk_bytes(program, cells, row, act, action, offset, length, kept);
             true
         }
         EdgePart::Guard { test, holds } => walk_guard(program, cells, row, test, holds, kept),

@@ -74,11 +74,7 @@ fn joined_known(a: Option<Interval>, b: Option<Interval>) -> Option<Interval>
     }
 }
 
-fn kept_or_new(
-    keeps: bool,
-    old: Option<Interval>,
-    new: Option<Interval>,
-) -> Option<Interval>
+fn kept_or_new(keeps: bool, old: Option<Interval>, new: Option<Interval>) -> Option<Interval>
     requires old { IsOrdered old }
     requires new { IsOrdered new }
     ensures value { result ≡ kept_or_new keeps old new }
@@ -192,14 +188,7 @@ fn may_keep_own(act: &Act, action: Action, amount: Amount, exceeds: bool, kept: 
     ensures { result ≡ (is_handled (plain_act act.now) action && (exceeds || (kept.may_zero
         || (may_vanish kept.common (plain_amount amount.entry) || (is_remainder (plain_amount amount.entry) && kept.any_fail))))) }
 {
-    is_handled(act, action)
-        && may_keep(
-            amount,
-            kept.common,
-            exceeds,
-            kept.may_zero,
-            kept.any_fail,
-        )
+    is_handled(act, action) && may_keep(amount, kept.common, exceeds, kept.may_zero, kept.any_fail)
 }
 
 /// Stores an amount, once operands are taken.

@@ -36,7 +36,7 @@ fn step(
 {
     match part_at(program, statement, action, part) {
         None => false,
-        Some(part) => walk_part(program, cells, row, &statement.act, action, part, kept),
+        Some(found) => walk_part(program, cells, row, &statement.act, action, found, kept),
     }
 }
 
