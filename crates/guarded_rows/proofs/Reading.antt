@@ -1,16 +1,20 @@
 -- What is read of an item without a cell changes nothing.
-use Rattle.std.proofs.Common.{◌≡◌, ℕ, ◌&&◌, Bool, true, false, if◌then◌else◌, List, [], ◌∷◌, Some, refl, sym, ap, ◌∙◌}
+use Rattle.std.proofs.Common.{◌≡◌, ℕ, ◌&&◌, Bool, true, false, if◌then◌else◌, List, [], ◌∷◌, Some, ◌≤ℤ◌, refl, sym, ap, subst, ◌∙◌}
 use Rattle.std.specs.List.{list_all}
 use Rattle.cob_data.specs.declared.layout.Layout.{Layout}
 use Rattle.cob_program.specs.Bounds.{is_small}
 use Rattle.cob_program.specs.Act.{Program}
 use Rattle.cob_program.proofs.Steps.{both}
 use Rattle.cob_calc.specs.Contents.{bound_at}
-use Rattle.cell_rows.specs.Known.{Known}
-use Rattle.cell_storages.specs.Homes.{Home, of_item, is_home, homes_of}
+use Rattle.sum_ranges.specs.declared.ranged.Ranged.{Ranged}
+use Rattle.cell_rows.specs.Known.{Known, IsOrdered}
+use Rattle.cell_rows.specs.Elements.{CellsFit}
+use Rattle.cell_storages.specs.Homes.{Home, of_item, is_home, homes_of, owns}
 use Rattle.cell_steps.specs.Cells.{units_of, with_known}
+use Rattle.cell_steps.specs.Stores.{range_at}
 use Rattle.cell_steps.specs.Steps.{read_cells}
 use Rattle.cell_rises.proofs.Lists.{home_is}
+use Rattle.cell_rises.proofs.Ranges.{range_ordered}
 use Rattle.guarded_rows.specs.Cells.{is_small_home, has_small_cells}
 
 no_cell : (l : Layout) (place : ℕ) (new : Known) (hs : List Home) (cs : List Known) → list_all (is_small_home l) hs ≡ true →
@@ -31,3 +35,7 @@ pub great_is_not_read : (p : Program) (place : ℕ) (cells : List Known) → has
     is_small (bound_at p.layout place) ≡ false → cells ≡ read_cells p (of_item place) cells
 great_is_not_read p place cells small great =
     no_cell p.layout place (Some (units_of p.layout (homes_of p) cells (of_item place))) (homes_of p) cells small great
+
+pub item_is_ordered : (p : Program) (cells : List Known) (place : ℕ) (r : Ranged) → CellsFit (owns p) cells → r ≡ range_at p cells place → IsOrdered (Some r.units)
+item_is_ordered p cells place r fits is =
+    subst (λ (q : Ranged). q.units.low ≤ℤ q.units.high) (sym is) (range_ordered p.layout (homes_of p) cells fits place)

@@ -1,5 +1,5 @@
 -- Ranges of items lie within the bounds of their pictures.
-use Rattle.std.proofs.Common.{◌≡◌, ◌≤◌, ℕ, ◌-◌, ◌^◌, Bool, true, false, List, Some, ℤ, pos, ◌≤ℤ◌, arith, refl}
+use Rattle.std.proofs.Common.{◌≤◌, ℕ, ◌-◌, ◌^◌, Bool, true, false, List, Some, ℤ, pos, ◌≤ℤ◌, arith, refl}
 use Rattle.std.specs.Prelude.{unsigned_abs, neg_ℤ}
 use Rattle.std.proofs.lemmas.Int.{ints}
 use Rattle.cob_tree.specs.declared.form.Form.{Form}

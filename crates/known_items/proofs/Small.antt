@@ -1,5 +1,5 @@
 -- The ranges that are answered are those of the items, as far as the numbers of a statement are small.
-use Rattle.std.proofs.Common.{◌≡◌, ℕ, Bool, true, List, Option, Some, None, refl, sym, ap, subst, ◌∙◌}
+use Rattle.std.proofs.Common.{◌≡◌, ℕ, Bool, true, List, Some, None, ap, subst}
 use Rattle.cob_program.specs.Sum.{Atom}
 use Rattle.cob_program.specs.Bounds.{is_small, is_small_atom}
 use Rattle.cob_program.specs.Act.{once, times, until, varying, Act, arith, move, perform, write, Program}
