@@ -3,20 +3,26 @@ ghost use Rattle.std.specs.Prelude.{◌≡◌, ◌<◌, ◌||◌, not, true, len
 ghost use Rattle.std.specs.List.{AllByRecursion};
 ghost use Rattle.std.specs.Option.{option_map_or};
 ghost use Rattle.cob_program.specs.ActView.{plain_act, plain_stmt, plain_program};
-ghost use Rattle.cob_program.specs.Bounds.{is_small_atom};
+ghost use Rattle.cob_program.specs.Bounds.{is_small, is_small_atom};
 ghost use Rattle.cob_program.specs.Sum.{MkSum, parts_of, factors_of, more_parts, no_parts};
 ghost use Rattle.cob_program.specs.SumView.{plain_sum, plain_part as sum_part, plain_factor};
 ghost use Rattle.cob_program.specs.Values.{root_of, root_in};
+ghost use Rattle.cob_runs.specs.Contents.{form_at};
 ghost use Rattle.cob_calc.specs.Contents.{bound_at};
 ghost use Rattle.cob_edge_parts.specs.Parts as part;
 ghost use Rattle.cob_edge_parts.specs.Parts.{has_phrase};
 ghost use Rattle.borrowed_parts.specs.PartView.{edge_parts, plain_amount, plain_divisor, plain_part};
+ghost use Rattle.result_ranges.specs.Receivers.{receiver_of};
 ghost use Rattle.result_ranges.specs.ResultRanges.{may_fail};
 ghost use Rattle.result_ranges.specs.Sizes.{IsReceiver, IsSmallAmount};
 ghost use Rattle.cell_amounts.specs.Small.{has_small_sum};
 ghost use Rattle.cell_amounts.specs.Working.{CanWork, amount_from};
+ghost use Rattle.cell_rows.specs.Elements.{CellsFit};
+ghost use Rattle.cell_rows.specs.Rows.{cells_of};
+ghost use Rattle.cell_storages.specs.Homes.{owns};
 ghost use Rattle.cell_steps.specs.Clearing.{is_misfit, has_quotient, all_fit};
 ghost use Rattle.cell_steps.specs.Operands.{amount_of};
+ghost use Rattle.cell_steps.specs.Stores.{range_at};
 ghost use Rattle.edge_sizes.specs.Sizes.{IsSmallPart, IsSmallStore};
 ghost use Rattle.row_changes.specs.Cells.{IsRowOf};
 ghost use Rattle.cell_walk.specs.Kept.{seen, clears_at_part};
@@ -128,6 +134,36 @@ fn operands_fit(
     }
 }
 
+fn results_fit(
+    program: &Program,
+    cells: &[Cell],
+    row: &[i128],
+    place: u32,
+    mode: Mode,
+    amount: Amount,
+    common: Option<Taken>,
+) -> bool
+    requires row { IsRowOf (plain_program program.now) cells.now row.now }
+    requires fits { CellsFit (owns (plain_program program.now)) (cells_of row.now) }
+    requires own { is_small (bound_at program.now.layout place) ≡ true }
+    requires receiver { IsReceiver (receiver_of (form_at program.now.layout place)) }
+    requires can { IfSome common (CanWork (plain_amount amount) (range_at (plain_program program.now) (cells_of row.now) place)) }
+    requires small { IfSome (amount_from common (plain_amount amount) (range_at (plain_program program.now) (cells_of row.now) place)) IsSmallAmount }
+    ensures { result ≡ option_map_or
+        (λ c. option_map_or (λ r. not (may_fail mode (receiver_of (form_at program.now.layout place)) r))
+        (amount_of (plain_amount amount.entry) (range_at (plain_program program.now) (cells_of row.now) place) c) true)
+        common true }
+{
+    let own = item_range(program, cells, row, place);
+    operands_fit(
+        amount,
+        own,
+        common,
+        receiver_at(&program.layout, place),
+        mode,
+    )
+}
+
 // Whether each result fits, once operands are taken.
 fn all_fit(
     program: &Program,
@@ -146,17 +182,7 @@ fn all_fit(
     requires written { kept.written ≡ true }
     ensures { result ≡ all_fit (plain_program program.now) (plain_act act.now) action (seen row.now kept) place mode (plain_amount amount.entry) }
 {
-    if !has_quotient(amount) {
-        return false;
-    }
-    let own = item_range(program, cells, row, place);
-    operands_fit(
-        amount,
-        own,
-        kept.common,
-        receiver_at(&program.layout, place),
-        mode,
-    )
+    has_quotient(amount) && results_fit(program, cells, row, place, mode, amount, kept.common)
 }
 
 fn store_clears(
