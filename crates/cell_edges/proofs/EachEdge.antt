@@ -1,50 +1,19 @@
 -- The laws of edges, with those of results, guards and operands put in.
-use Rattle.std.proofs.Common.{Option, Some, None, IfSome, ℤ, ◌≤ℤ◌}
-use Rattle.decimal_interval.specs.declared.bounds.Interval.{Interval}
-use Rattle.result_ranges.specs.Results.{IsInside, IsInsideIfAny}
 use Rattle.result_ranges.proofs.Keeping.{kept_least, exceeded}
-use Rattle.result_ranges.proofs.Narrower.{computed_narrower, exceeds_inside, fitted_inside, may_fail_wider, results_inside}
-use Rattle.result_ranges.proofs.Taking.{operands_below}
 use Rattle.result_ranges.proofs.Fitting.{kept_is_told, stored_in_range}
 use Rattle.result_ranges.proofs.Meant.{computed_in, remaining_in}
 use Rattle.result_ranges.proofs.Rests.{plus_in}
-use Rattle.guard_ranges.specs.Counts.{count_kept}
-use Rattle.guard_ranges.specs.Kept.{IsPartOf, UnitsBelow}
-use Rattle.guard_ranges.proofs.GuardLaws.{guard_holds, guard_below, guard_fits}
-use Rattle.guard_ranges.proofs.CountLaws.{count_holds, count_rises, count_part}
+use Rattle.guard_ranges.proofs.GuardLaws.{guard_holds}
+use Rattle.guard_ranges.proofs.CountLaws.{count_holds}
 use Rattle.guard_ranges.proofs.Agreement.{numeric_sum}
 use Rattle.edge_places.proofs.Parts.{parts_are_in_place, arithmetic_is_done}
-use Rattle.cell_rises.proofs.Given as rises
+use Rattle.cell_rises.proofs.Rules.{rising}
 use Rattle.cell_operands.proofs.Given as operands
 use Rattle.cell_operands.proofs.Holding.{operands_hold}
 use Rattle.cell_keeps.proofs.Given as keeps
 use Rattle.cell_edges.specs.EdgeLaws.{EdgesAreWalked, PostsFit, PostsRise, ClearsStay, PostsStand, ClearedIsntMet}
 use Rattle.cell_edges.proofs.Rises.{posts_rise, posts_fit, clears_stay}
 use Rattle.cell_edges.proofs.Sound.{edge_is_sound, posts_stand, cleared_isnt_met}
-
-inside_of : (o p : Option Interval) → UnitsBelow o p → IsInsideIfAny o p
-inside_of None p h = tt
-inside_of (Some i) None h = h
-inside_of (Some i) (Some j) h = h
-
-part_of : (i : Interval) (o : Option Interval) → IfSome o (λ j. IsPartOf j i) → IfSome o (λ j. IsInside j i × (j.low ≤ℤ j.high))
-part_of i None h = tt
-part_of i (Some j) h = ((h.low, h.high), h.ordered)
-
-rising : rises.Given
-rising = record {
-  operands_ = λ narrow wide within y. operands_below narrow wide within y;
-  computed_ = computed_narrower;
-  results_ = results_inside;
-  fails_ = may_fail_wider;
-  fitted_ = fitted_inside;
-  exceeds_ = exceeds_inside;
-  kept_ = kept_least;
-  guards_ = λ l narrow more wide fewer k t wanted. guard_below l narrow more wide fewer k t wanted;
-  cuts_ = λ l range is_numeric ordered t wanted. guard_fits l range is_numeric ordered t wanted;
-  counts_ = λ wanted i j h. inside_of (count_kept wanted i) (count_kept wanted j) (count_rises wanted i j h.0 h.1);
-  counts_fit_ = λ wanted i. part_of i (count_kept wanted i) (count_part wanted i);
-}
 
 amounts : operands.Given
 amounts = record {

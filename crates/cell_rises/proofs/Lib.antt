@@ -5,3 +5,4 @@ pub mod Operands
 pub mod Fitting
 pub mod Rising
 pub mod Falling
+pub mod Rules

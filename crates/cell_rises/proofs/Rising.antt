@@ -55,7 +55,7 @@ BelowIf p a x (Some s) (Some t) = SeenBelow p a x s t
 
 -- ---- stored numbers
 
-stored_known_fits : (f : Form) (own i : Interval) → KnownFits own (Some i) → KnownFits own (stored_known f i)
+pub stored_known_fits : (f : Form) (own i : Interval) → KnownFits own (Some i) → KnownFits own (stored_known f i)
 stored_known_fits form.Group own i k = tt
 stored_known_fits (form.Text n) own i k = tt
 stored_known_fits (form.Number digits scale signed kept) own i k = k

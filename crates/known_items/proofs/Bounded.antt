@@ -38,7 +38,7 @@ picture_within digits scale false i h =
     let ends = signed_ends (10 ^ digits - 1) i.low i.high (omega (arith, ints, low)) h.1 h.2 in
     record { ordered = h.1; low = ends.0; high = ends.1; scale = refl }
 
-form_within : (f : Form) (i : Interval) → KnownFits (form_range f) (Some i) → IsRangeWithin (ranged i (scale_of f)) (form_bound f)
+pub form_within : (f : Form) (i : Interval) → KnownFits (form_range f) (Some i) → IsRangeWithin (ranged i (scale_of f)) (form_bound f)
 form_within form.Group i h = picture_within 0 0 false i h
 form_within (form.Text n) i h = picture_within n 0 false i h
 form_within (form.Number digits scale signed kept) i h = picture_within digits scale signed i h

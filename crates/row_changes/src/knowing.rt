@@ -28,16 +28,16 @@ fn known_in(row: &[i128], cell: Option<usize>) -> Option<Interval>
     }
 }
 
-fn set_in(row: &mut [i128], cell: Option<usize>, units: Interval)
+fn set_in(row: &mut [i128], cell: Option<usize>, known: Option<Interval>)
     requires reached { IsReached row.old }
     requires within { IsCellNumber (cells_of row.old) cell }
-    requires ordered { IsOrdered (Some units) }
-    ensures cells { cells_of row.new ≡ set_in (cells_of row.old) cell (Some units) }
+    requires ordered { IsOrdered known }
+    ensures cells { cells_of row.new ≡ set_in (cells_of row.old) cell known }
     ensures reached { IsReached row.new }
 {
     match cell {
         None => {}
-        Some(k) => set_known(row, k, Some(units)),
+        Some(k) => set_known(row, k, known),
     }
 }
 
@@ -71,14 +71,30 @@ pub fn known_of_count(
     known_in(row, cell_of_count(program, cells, statement))
 }
 
-/// The numbers of an item lie in an interval. An item without a cell changes nothing.
+/// Sets what is known of an item. One without a cell changes nothing.
+pub fn set_item(
+    program: &Program,
+    cells: &[Cell],
+    row: &mut [i128],
+    place: u32,
+    known: Option<Interval>,
+)
+    requires row { IsRowOf (plain_program program.now) cells.now row.old }
+    requires ordered { IsOrdered known }
+    ensures cells { cells_of row.new ≡ with_known (of_item place) known (homes_of (plain_program program.now)) (cells_of row.old) }
+    ensures row { IsRowOf (plain_program program.now) cells.now row.new }
+{
+    set_in(row, cell_of(cells, place), known);
+}
+
+/// The numbers of an item lie in an interval.
 pub fn know_item(program: &Program, cells: &[Cell], row: &mut [i128], place: u32, units: Interval)
     requires row { IsRowOf (plain_program program.now) cells.now row.old }
     requires ordered { IsOrdered (Some units) }
     ensures cells { cells_of row.new ≡ with_known (of_item place) (Some units) (homes_of (plain_program program.now)) (cells_of row.old) }
     ensures row { IsRowOf (plain_program program.now) cells.now row.new }
 {
-    set_in(row, cell_of(cells, place), units);
+    set_item(program, cells, row, place, Some(units));
 }
 
 /// The numbers of the counter of a TIMES lie in an interval.
@@ -94,5 +110,5 @@ pub fn know_count(
     ensures cells { cells_of row.new ≡ with_known (of_count statement) (Some units) (homes_of (plain_program program.now)) (cells_of row.old) }
     ensures row { IsRowOf (plain_program program.now) cells.now row.new }
 {
-    set_in(row, cell_of_count(program, cells, statement), units);
+    set_in(row, cell_of_count(program, cells, statement), Some(units));
 }

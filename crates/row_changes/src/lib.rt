@@ -5,4 +5,4 @@ mod forgetting;
 mod knowing;
 
 pub use forgetting::{forget_beside, forget_bytes};
-pub use knowing::{know_count, know_item, known_of_count, known_of_item};
+pub use knowing::{know_count, know_item, known_of_count, known_of_item, set_item};

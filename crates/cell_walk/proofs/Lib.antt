@@ -1,0 +1,5 @@
+pub mod Small
+pub mod Bounded
+pub mod Stepping
+pub mod Storing
+pub mod Quotients

@@ -1,0 +1,59 @@
+use Rattle.std.proofs.Common.{Bool, ◌||◌, ◌&&◌, Option, subst, sym, ap, ◌∙◌}
+use Rattle.decimal_interval.specs.declared.bounds.Interval.{Interval}
+use Rattle.cob_program.specs.ActView.{plain_act, plain_program}
+use Rattle.cob_runs.specs.Contents.{form_at}
+use Rattle.borrowed_parts.specs.PartView.{plain_amount}
+use Rattle.cell_rows.specs.Known.{IsOrdered}
+use Rattle.cell_rows.specs.Rows.{cells_of}
+use Rattle.cell_steps.specs.Operands.{is_remainder}
+use Rattle.cell_steps.specs.Stores.{handled, amount_at, may_vanish}
+use Rattle.cell_walk.specs.Kept.{seen}
+use Rattle.cell_walk.proofs.Stepping.{can_work, small_amounts, can_settle, units_ordered}
+use Rattle.cell_walk.proofs.Storing.{store_on, store_off}
+use Rattle.cell_walk.proofs.stores.store.Goals as goal
+
+pub result_of-value-requires-clause-can : goal.result_of-value-requires-clause-can
+result_of-value-requires-clause-can c =
+    let x = c.args in
+    can_work (plain_program x.program.now) (plain_act x.act.now) x.action (seen x.row.now x.kept.now) c.requires.can c.requires.written x.place (plain_amount x.amount) c.requires.small
+
+pub result_of-value-requires-clause-small : goal.result_of-value-requires-clause-small
+result_of-value-requires-clause-small c =
+    let x = c.args in
+    small_amounts (plain_program x.program.now) (plain_act x.act.now) x.action (seen x.row.now x.kept.now) c.requires.can c.requires.written x.place (plain_amount x.amount) c.requires.small
+
+pub may_keep_own-keeps-requires : goal.may_keep_own-keeps-requires
+may_keep_own-keeps-requires c =
+    let x = c.args in
+    can_settle (plain_program x.program.now) (plain_act x.act.now) x.action (seen x.row.now x.kept.now) c.requires.can c.requires.written x.place (plain_amount x.amount) c.requires.small
+
+pub put-requires-clause-ordered : goal.put-requires-clause-ordered
+put-requires-clause-ordered c =
+    let x = c.args in
+    let p = plain_program x.program.now in
+    subst (λ (o : Option Interval). IsOrdered o) (sym c.result_of-value.ensures.units)
+    (units_ordered x.mode (form_at p.layout x.place) (amount_at p (plain_act x.act.now) x.action (seen x.row.now x.kept.now) x.place (plain_amount x.amount)))
+
+pub returns-clause-on : goal.returns-clause-on
+returns-clause-on c told =
+    let x = c.args in
+    let p = plain_program x.program.now in
+    let a = plain_act x.act.now in
+    let s = seen x.row.now x.kept.now in
+    let y = plain_amount x.amount in
+    let keeps = c.may_keep_own-keeps in
+    store_on p a x.action s x.place x.mode y keeps.result c.result_of-value.result.units (cells_of c.put.new.row)
+    (keeps.ensures ∙ ap (λ (b : Bool). handled p a x.action && (b || (s.may_zero || (may_vanish s.common y || (is_remainder y && s.any_fail))))) c.result_of-value.ensures.may_fail)
+    c.result_of-value.ensures.units (c.put.ensures.on told)
+
+pub returns-clause-off : goal.returns-clause-off
+returns-clause-off c told =
+    let x = c.args in
+    let p = plain_program x.program.now in
+    let a = plain_act x.act.now in
+    let s = seen x.row.now x.kept.now in
+    let y = plain_amount x.amount in
+    let keeps = c.may_keep_own-keeps in
+    store_off p a x.action s x.place x.mode y keeps.result c.result_of-value.result.units
+    (keeps.ensures ∙ ap (λ (b : Bool). handled p a x.action && (b || (s.may_zero || (may_vanish s.common y || (is_remainder y && s.any_fail))))) c.result_of-value.ensures.may_fail)
+    c.result_of-value.ensures.units (c.put.ensures.off told)

@@ -1,0 +1,66 @@
+//! The walk, by the numbers of parts.
+ghost use Rattle.std.specs.Prelude.{◌≡◌, ◌<◌, true, false, length, Some, None};
+ghost use Rattle.std.specs.List.{AllByRecursion};
+ghost use Rattle.cob_program.specs.ActView.{plain_stmt, plain_program};
+ghost use Rattle.borrowed_parts.specs.PartView.{edge_parts};
+ghost use Rattle.edge_sizes.specs.Sizes.{IsSmallPart};
+ghost use Rattle.guarded_rows.specs.Cells.{has_small_cells};
+ghost use Rattle.row_changes.specs.Cells.{IsRowOf};
+ghost use Rattle.cell_walk.specs.Kept.{seen, step_at};
+ghost use Rattle.cell_walk.specs.Statements.{act_in};
+ghost use Rattle.cell_walk.specs.Walks.{CanStep};
+
+use crate::kept::Kept;
+use crate::parts::walk_part;
+use borrowed_parts::part_at;
+use cob_program::{Program, Stmt};
+use cob_runs::{Action, Cell};
+
+fn step(
+    program: &Program,
+    cells: &[Cell],
+    statement: &Stmt,
+    action: Action,
+    part: u32,
+    row: &mut [i128],
+    kept: &mut Kept,
+) -> bool
+    requires row { IsRowOf (plain_program program.now) cells.now row.old }
+    requires small { AllByRecursion (IsSmallPart (plain_program program.now) (act_in (plain_stmt statement.now)) action)
+        (edge_parts (plain_program program.now) (plain_stmt statement.now) action) }
+    requires small_cells { has_small_cells (plain_program program.now) ≡ true }
+    requires can { CanStep (plain_program program.now) (act_in (plain_stmt statement.now)) action (seen row.old kept.old) }
+    ensures on { result ≡ true → step_at (plain_program program.now) (plain_stmt statement.now) action part (seen row.old kept.old) ≡ Some (seen row.new kept.new) }
+    ensures off { result ≡ false → step_at (plain_program program.now) (plain_stmt statement.now) action part (seen row.old kept.old) ≡ None }
+    ensures row { IsRowOf (plain_program program.now) cells.now row.new }
+{
+    match part_at(program, statement, action, part) {
+        None => false,
+        Some(found) => walk_part(program, cells, row, &statement.act, action, found, kept),
+    }
+}
+
+/// Makes of a row what the part with a number makes of it, which counts from 0. Answers false where no run passes the part;
+/// what is left of the row then isn't told.
+pub fn walk(
+    program: &Program,
+    cells: &[Cell],
+    statement: &Stmt,
+    action: Action,
+    part: u32,
+    row: &mut [i128],
+    kept: &mut Kept,
+) -> bool
+    requires row { IsRowOf (plain_program program.now) cells.now row.old }
+    requires small { AllByRecursion (IsSmallPart (plain_program program.now) (act_in (plain_stmt statement.now)) action)
+        (edge_parts (plain_program program.now) (plain_stmt statement.now) action) }
+    requires small_cells { has_small_cells (plain_program program.now) ≡ true }
+    requires can { CanStep (plain_program program.now) (act_in (plain_stmt statement.now)) action (seen row.old kept.old) }
+    requires within { part < length (edge_parts (plain_program program.now) (plain_stmt statement.now) action) }
+    ensures on { result ≡ true → step_at (plain_program program.now) (plain_stmt statement.now) action part (seen row.old kept.old) ≡ Some (seen row.new kept.new) }
+    ensures off { result ≡ false → step_at (plain_program program.now) (plain_stmt statement.now) action part (seen row.old kept.old) ≡ None }
+    ensures row { IsRowOf (plain_program program.now) cells.now row.new }
+    ensures can { result ≡ true → CanStep (plain_program program.now) (act_in (plain_stmt statement.now)) action (seen row.new kept.new) }
+{
+    step(program, cells, statement, action, part, row, kept)
+}
