@@ -1,5 +1,5 @@
 -- Behind a part the walk can go on.
-use Rattle.std.proofs.Common.{◌≡◌, ℕ, zero, suc, Bool, true, false, ◌||◌, if◌then◌else◌, List, [], ◌∷◌, Option, Some, None, refl, sym, subst, ◌∙◌}
+use Rattle.std.proofs.Common.{◌≡◌, ℕ, zero, suc, Bool, true, false, ◌||◌, if◌then◌else◌, List, [], ◌∷◌, Option, Some, None, refl, sym, ap, subst, ◌∙◌}
 use Rattle.std.specs.Prelude.{IfSome, slice_get}
 use Rattle.std.specs.List.{AllByRecursion}
 use Rattle.std.specs.Option.{option_map}
@@ -8,6 +8,10 @@ use Rattle.dec_num.specs.declared.types.Mode.{Mode}
 use Rattle.decimal_interval.specs.declared.bounds.Interval.{Interval}
 use Rattle.cob_tree.specs.declared.form.Form.{Form}
 use Rattle.cob_tree.specs.declared.form.Form.TheVariants as form
+use Rattle.cob_program.specs.declared.act.Stmt as declared_stmt
+use Rattle.cob_program.specs.declared.act.Stmt.{out-Stmt}
+use Rattle.cob_program.specs.declared.act.Act.TheFolds.{fold_out-Stmt}
+use Rattle.cob_program.specs.ActView.{plain_act, plain_stmt}
 use Rattle.cob_program.specs.Values.{◌>>=◌}
 use Rattle.cob_program.specs.Sum.{Atom}
 use Rattle.cob_program.specs.Act.{Act, Stmt, Program}
@@ -50,6 +54,14 @@ pub held_at : {X : Type 0} (P : X → Type 0) (xs : List X) (k : ℕ) (y : X) �
 held_at P [] k y all at = absurd cc
 held_at P (z ∷ xs) zero y all at = subst P (same_Some _ _ at) all.0
 held_at P (z ∷ xs) (suc k) y all at = held_at P xs k y all.1 at
+
+module _ (p : Program) (x : Action) where
+  -- of an edge of a statement, seen through what the statement does
+  pub small_part : (s : declared_stmt.Stmt) (k : ℕ) (y : Part) → AllByRecursion (IsSmallPart p (act_in (plain_stmt s)) x) (edge_parts p (plain_stmt s) x) →
+      slice_get (edge_parts p (plain_stmt s) x) k ≡ Some y → IsSmallPart p (plain_act (out-Stmt s).act) x y
+  small_part s k y all at =
+      subst (λ (a : Act). IsSmallPart p a x y) (ap act_in (fold_out-Stmt _ _ _ _ _ _ _ _ s))
+      (held_at (IsSmallPart p (act_in (plain_stmt s)) x) (edge_parts p (plain_stmt s) x) k y all at)
 
 -- ---- what is stored
 
