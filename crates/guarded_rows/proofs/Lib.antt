@@ -1,5 +1,5 @@
 pub mod Homes
 pub mod Reading
-pub mod Counters
+pub mod Counting
 pub mod Agreeing
 pub mod Cuts

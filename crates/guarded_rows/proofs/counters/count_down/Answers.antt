@@ -6,16 +6,16 @@ use Rattle.cell_rows.specs.Rows.{cells_of}
 use Rattle.cell_storages.specs.Homes.{of_count, homes_of}
 use Rattle.cell_steps.specs.Cells.{units_of}
 use Rattle.cell_steps.specs.Steps.{known_as}
-use Rattle.guarded_rows.proofs.Counters.{count_is_small}
+use Rattle.guarded_rows.proofs.Counting.{count_is_small}
 use Rattle.guarded_rows.proofs.counters.count_down.Goals as goal
 
-pub lowered-requires-clause-low : goal.lowered-requires-clause-low
-lowered-requires-clause-low c =
+pub lowered-units-requires-clause-low : goal.lowered-units-requires-clause-low
+lowered-units-requires-clause-low c =
     (count_is_small (plain_program c.args.program.now) (cells_of c.args.row.now) c.args.statement c.count_units.result c.requires.fits
     c.count_units.ensures).0
 
-pub lowered-requires-clause-high : goal.lowered-requires-clause-high
-lowered-requires-clause-high c =
+pub lowered-units-requires-clause-high : goal.lowered-units-requires-clause-high
+lowered-units-requires-clause-high c =
     (count_is_small (plain_program c.args.program.now) (cells_of c.args.row.now) c.args.statement c.count_units.result c.requires.fits
     c.count_units.ensures).1
 

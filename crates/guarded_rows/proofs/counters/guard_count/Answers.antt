@@ -5,7 +5,7 @@ use Rattle.guard_ranges.specs.Counts.{count_kept}
 use Rattle.cell_rows.specs.Rows.{cells_of}
 use Rattle.cell_storages.specs.Homes.{of_count}
 use Rattle.cell_steps.specs.Steps.{known_as}
-use Rattle.guarded_rows.proofs.Counters.{kept_is_ordered}
+use Rattle.guarded_rows.proofs.Counting.{kept_is_ordered}
 use Rattle.guarded_rows.proofs.counters.guard_count.Goals as goal
 
 pub know_count-requires-clause-ordered : goal.know_count-requires-clause-ordered

@@ -3,7 +3,7 @@ use Rattle.cob_program.specs.ActView.{plain_program}
 use Rattle.cell_rows.specs.Rows.{cells_of}
 use Rattle.cell_storages.specs.Homes.{of_count, homes_of}
 use Rattle.cell_steps.specs.Cells.{with_known}
-use Rattle.guarded_rows.proofs.Counters.{count_is_ordered}
+use Rattle.guarded_rows.proofs.Counting.{count_is_ordered}
 use Rattle.guarded_rows.proofs.counters.read_count.Goals as goal
 
 pub know_count-requires-clause-ordered : goal.know_count-requires-clause-ordered

@@ -4,7 +4,7 @@ use Rattle.cob_program.specs.ActView.{plain_program}
 use Rattle.cell_rows.specs.Rows.{cells_of}
 use Rattle.cell_storages.specs.Homes.{of_count}
 use Rattle.cell_steps.specs.Steps.{known_as}
-use Rattle.guarded_rows.proofs.Counters.{counted_is_ordered}
+use Rattle.guarded_rows.proofs.Counting.{counted_is_ordered}
 use Rattle.guarded_rows.proofs.counters.set_count.Goals as goal
 
 pub know_count-requires-clause-ordered : goal.know_count-requires-clause-ordered

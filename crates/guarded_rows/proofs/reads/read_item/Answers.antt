@@ -17,3 +17,8 @@ returns-clause-cells c =
     let p = plain_program c.args.program.now in
     c.know_item.ensures.cells
     ∙ ap (λ (r : Ranged). with_known (of_item c.args.place) (Some r.units) (homes_of p) (cells_of c.args.row.now)) c.item_range-range.ensures
+
+pub returns-then-not-is_small_item-clause-cells : goal.returns-then-not-is_small_item-clause-cells
+returns-then-not-is_small_item-clause-cells c =
+    great_is_not_read (plain_program c.args.program.now) c.args.place (cells_of c.args.row.now) c.requires.small
+    (sym c.is_small_item.ensures ∙ c.if-not-is_small_item.true)

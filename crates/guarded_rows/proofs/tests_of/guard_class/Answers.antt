@@ -11,14 +11,14 @@ returns-then-wanted-clause-on c = λ told.
     let p = plain_program c.args.program.now in
     ap (λ w. guarded_cells p (numeric c.args.place) w (cells_of c.args.row.now)) c.if-wanted.true ∙ ap Some (sym c.read_item.ensures.cells)
 
-pub returns-else-wanted-clause-on : goal.returns-else-wanted-clause-on
-returns-else-wanted-clause-on c = λ told.
+pub returns-clause-on : goal.returns-clause-on
+returns-clause-on c = λ told.
     let p = plain_program c.args.program.now in
     ap (λ w. guarded_cells p (numeric c.args.place) w (cells_of c.args.row.now)) c.if-wanted.false
     ∙ (not_numeric_is p c.args.place (cells_of c.args.row.now) c.item_is_numeric.result c.item_is_numeric.ensures).0 told
 
-pub returns-else-wanted-clause-off : goal.returns-else-wanted-clause-off
-returns-else-wanted-clause-off c = λ told.
+pub returns-clause-off : goal.returns-clause-off
+returns-clause-off c = λ told.
     let p = plain_program c.args.program.now in
     ap (λ w. guarded_cells p (numeric c.args.place) w (cells_of c.args.row.now)) c.if-wanted.false
     ∙ (not_numeric_is p c.args.place (cells_of c.args.row.now) c.item_is_numeric.result c.item_is_numeric.ensures).1 told
