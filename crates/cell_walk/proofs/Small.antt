@@ -19,7 +19,7 @@ use Rattle.cell_storages.specs.Homes.{of_item, of_count, homes_of}
 use Rattle.cell_steps.specs.Cells.{units_of}
 use Rattle.cell_steps.specs.Seen.{Seen, beginning, with_cells, with_zero}
 use Rattle.cell_steps.specs.Stores.{range_at, handled, taking, with_taken, stored}
-use Rattle.cell_steps.specs.Steps.{can_divide, known_as, read_cells, guarded_cells, counted_cells, with_cells_if, after_read, after_bytes, after_count, after_down, after_divide, step}
+use Rattle.cell_steps.specs.Steps.{can_divide, known_as, read_cells, guarded_cells, counted_cells, with_cells_if, after_read, after_bytes, after_count, after_divide, step}
 use Rattle.cell_steps.specs.Clearing.{is_misfit, all_fit, all_count, clears_part, clears_parts}
 use Rattle.cell_steps.specs.Edges.{steps, finished}
 use Rattle.edge_sizes.specs.Sizes.{sends_small, IsSmallPart}

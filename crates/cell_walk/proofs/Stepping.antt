@@ -1,5 +1,5 @@
 -- Behind a part the walk can go on.
-use Rattle.std.proofs.Common.{◌≡◌, ℕ, zero, suc, Bool, true, false, ◌||◌, if◌then◌else◌, List, [], ◌∷◌, Option, Some, None, refl, sym, subst, ◌∙◌}
+use Rattle.std.proofs.Common.{◌≡◌, ℕ, zero, suc, Bool, true, false, ◌||◌, if◌then◌else◌, List, [], ◌∷◌, Option, Some, None, refl, sym, ap, subst, ◌∙◌}
 use Rattle.std.specs.Prelude.{IfSome, slice_get}
 use Rattle.std.specs.List.{AllByRecursion}
 use Rattle.std.specs.Option.{option_map}
@@ -7,7 +7,10 @@ use Rattle.std.proofs.lemmas.Option.{same_Some}
 use Rattle.dec_num.specs.declared.types.Mode.{Mode}
 use Rattle.decimal_interval.specs.declared.bounds.Interval.{Interval}
 use Rattle.cob_tree.specs.declared.form.Form.{Form}
-use Rattle.cob_tree.specs.declared.form.Form.TheVariants as form
+use Rattle.cob_program.specs.declared.act.Stmt as declared_stmt
+use Rattle.cob_program.specs.declared.act.Stmt.{out-Stmt}
+use Rattle.cob_program.specs.declared.act.Act.TheFolds.{fold_out-Stmt}
+use Rattle.cob_program.specs.ActView.{plain_act, plain_stmt}
 use Rattle.cob_program.specs.Values.{◌>>=◌}
 use Rattle.cob_program.specs.Sum.{Atom}
 use Rattle.cob_program.specs.Act.{Act, Stmt, Program}
@@ -16,14 +19,13 @@ use Rattle.cob_runs.specs.Contents.{form_at}
 use Rattle.cob_calc.specs.Contents.{bound_at}
 use Rattle.cob_edge_parts.specs.Parts.{Amount, Part, read, unread, divide, store, bytes_in, guard, read_count, set_count, count_down, guard_count}
 use Rattle.borrowed_parts.specs.PartView.{edge_parts}
-use Rattle.sum_ranges.specs.declared.ranged.Ranged.{Ranged}
 use Rattle.sum_ranges.specs.SumRanges.{atom_range}
 use Rattle.sum_ranges.specs.Vanishing.{may_be_zero}
 use Rattle.sum_ranges.specs.Working.{AreBounded}
 use Rattle.result_ranges.specs.declared.amounts.Taken.{Taken}
 use Rattle.result_ranges.specs.declared.amounts.AmountRange.{AmountRange}
 use Rattle.result_ranges.specs.Receivers.{receiver_of}
-use Rattle.result_ranges.specs.ResultRanges.{result_range, count_range, lowered}
+use Rattle.result_ranges.specs.ResultRanges.{count_range, lowered}
 use Rattle.result_ranges.specs.Sizes.{IsSmallAmount}
 use Rattle.cell_amounts.specs.Working.{CanSettleFor, CanWork, amount_from, units_from}
 use Rattle.cell_rows.specs.Known.{Known, IsOrdered, KnownFits}
@@ -33,15 +35,15 @@ use Rattle.cell_steps.specs.Cells.{units_of, forgotten, is_in_bytes, is_beside}
 use Rattle.cell_steps.specs.Operands.{edge_operands}
 use Rattle.cell_steps.specs.Seen.{Seen, with_cells, with_zero}
 use Rattle.cell_steps.specs.Stores.{range_at, handled, taking, amount_at, result_at, may_fail, stored_known, stored_cells, stored_element, behind_store, stored}
-use Rattle.cell_steps.specs.Steps.{can_divide, known_as, read_cells, guarded_cells, counted_cells, with_cells_if, after_read, after_divide, after_count, after_down, step}
+use Rattle.cell_steps.specs.Steps.{can_divide, known_as, read_cells, guarded_cells, counted_cells, with_cells_if, after_read, after_divide}
 use Rattle.cell_rises.proofs.Lists.{cells_reflexive, with_known_fits, forgotten_fits, stored_fits}
 use Rattle.cell_rises.proofs.Fitting.{result_fits, count_fits}
-use Rattle.cell_rises.proofs.Rising.{FitBelow, FitBelowIf, stored_known_fits, read_cells_below, known_if_below, guarded_below, counted_below}
+use Rattle.cell_rises.proofs.Rising.{FitBelow, FitBelowIf, stored_known_fits, read_cells_below, guarded_below, counted_below}
 use Rattle.cell_rises.proofs.Rules.{rising}
 use Rattle.edge_sizes.specs.Sizes.{sends_small, IsSmallStore, IsSmallPart}
 use Rattle.cell_walk.specs.Kept.{step_at}
 use Rattle.cell_walk.specs.Statements.{act_in}
-use Rattle.cell_walk.specs.Walks.{if_sent_small, trimmed, with_taken_small, step_small, IsTaken, CanStep}
+use Rattle.cell_walk.specs.Walks.{if_sent_small, trimmed, with_taken_small, step_small, CanStep}
 use Rattle.cell_walk.proofs.Bounded.{ranges_are_bounded}
 
 -- ---- the part with a number
@@ -50,6 +52,14 @@ pub held_at : {X : Type 0} (P : X → Type 0) (xs : List X) (k : ℕ) (y : X) �
 held_at P [] k y all at = absurd cc
 held_at P (z ∷ xs) zero y all at = subst P (same_Some _ _ at) all.0
 held_at P (z ∷ xs) (suc k) y all at = held_at P xs k y all.1 at
+
+module _ (p : Program) (x : Action) where
+  -- of an edge of a statement, seen through what the statement does
+  pub small_part : (s : declared_stmt.Stmt) (k : ℕ) (y : Part) → AllByRecursion (IsSmallPart p (act_in (plain_stmt s)) x) (edge_parts p (plain_stmt s) x) →
+      slice_get (edge_parts p (plain_stmt s) x) k ≡ Some y → IsSmallPart p (plain_act (out-Stmt s).act) x y
+  small_part s k y all at =
+      subst (λ (a : Act). IsSmallPart p a x y) (ap act_in (fold_out-Stmt _ _ _ _ _ _ _ _ s))
+      (held_at (IsSmallPart p (act_in (plain_stmt s)) x) (edge_parts p (plain_stmt s) x) k y all at)
 
 -- ---- what is stored
 

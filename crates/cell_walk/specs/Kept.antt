@@ -1,5 +1,5 @@
 -- What a row and what is kept beside it say.
-use Rattle.std.specs.Prelude.{◌≡◌, ℕ, Bool, true, false, List, Option, Some, None, ℤ, slice_get}
+use Rattle.std.specs.Prelude.{ℕ, Bool, true, false, List, Option, ℤ, slice_get}
 use Rattle.std.specs.Option.{option_map_or}
 use Rattle.cob_tree.specs.declared.fault.Kind.{Kind}
 use Rattle.cob_program.specs.Values.{◌>>=◌}

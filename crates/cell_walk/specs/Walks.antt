@@ -16,7 +16,7 @@ use Rattle.cell_rows.specs.Elements.{CellsFit}
 use Rattle.cell_storages.specs.Homes.{owns}
 use Rattle.cell_steps.specs.Operands.{edge_operands}
 use Rattle.cell_steps.specs.Seen.{Seen}
-use Rattle.cell_steps.specs.Stores.{range_at, taking, stored}
+use Rattle.cell_steps.specs.Stores.{taking, stored}
 use Rattle.cell_steps.specs.Steps.{after_bytes, after_count, step}
 use Rattle.cell_steps.specs.Clearing.{is_misfit, all_fit, all_count, clears_part}
 use Rattle.edge_sizes.specs.Sizes.{sends_small}

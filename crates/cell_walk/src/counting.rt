@@ -1,7 +1,7 @@
 //! Counters of PERFORM with TIMES.
 ghost use Rattle.std.specs.Prelude.{◌≡◌, not, true, false, Some, None};
 ghost use Rattle.std.specs.Option.{option_map_or};
-ghost use Rattle.cob_program.specs.ActView.{plain_act, plain_program};
+ghost use Rattle.cob_program.specs.ActView.{plain_program};
 ghost use Rattle.result_ranges.specs.ResultRanges.{lowered, count_may_fail};
 ghost use Rattle.cell_rows.specs.Elements.{CellsFit};
 ghost use Rattle.cell_rows.specs.Rows.{cells_of};

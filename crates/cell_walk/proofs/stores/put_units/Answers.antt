@@ -1,6 +1,5 @@
 use Rattle.std.proofs.Common.{Some, sym, ap, ◌∙◌}
 use Rattle.cob_program.specs.ActView.{plain_program}
-use Rattle.cob_runs.specs.Contents.{form_at}
 use Rattle.cell_rows.specs.Known.{Known}
 use Rattle.cell_rows.specs.Rows.{cells_of}
 use Rattle.cell_storages.specs.Homes.{of_item, homes_of}

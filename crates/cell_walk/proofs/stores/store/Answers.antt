@@ -1,15 +1,12 @@
-use Rattle.std.proofs.Common.{Bool, ◌||◌, ◌&&◌, Option, subst, sym, ap, ◌∙◌}
+use Rattle.std.proofs.Common.{Option, subst, sym}
 use Rattle.decimal_interval.specs.declared.bounds.Interval.{Interval}
 use Rattle.cob_program.specs.ActView.{plain_act, plain_program}
 use Rattle.cob_runs.specs.Contents.{form_at}
 use Rattle.borrowed_parts.specs.PartView.{plain_amount}
 use Rattle.cell_rows.specs.Known.{IsOrdered}
-use Rattle.cell_rows.specs.Rows.{cells_of}
-use Rattle.cell_steps.specs.Operands.{is_remainder}
-use Rattle.cell_steps.specs.Stores.{handled, amount_at, may_vanish}
+use Rattle.cell_steps.specs.Stores.{amount_at}
 use Rattle.cell_walk.specs.Kept.{seen}
 use Rattle.cell_walk.proofs.Stepping.{can_work, small_amounts, can_settle, units_ordered}
-use Rattle.cell_walk.proofs.Storing.{store_on, store_off}
 use Rattle.cell_walk.proofs.stores.store.Goals as goal
 
 pub result_of-value-requires-clause-can : goal.result_of-value-requires-clause-can
@@ -33,27 +30,3 @@ put-requires-clause-ordered c =
     let p = plain_program x.program.now in
     subst (λ (o : Option Interval). IsOrdered o) (sym c.result_of-value.ensures.units)
     (units_ordered x.mode (form_at p.layout x.place) (amount_at p (plain_act x.act.now) x.action (seen x.row.now x.kept.now) x.place (plain_amount x.amount)))
-
-pub returns-clause-on : goal.returns-clause-on
-returns-clause-on c told =
-    let x = c.args in
-    let p = plain_program x.program.now in
-    let a = plain_act x.act.now in
-    let s = seen x.row.now x.kept.now in
-    let y = plain_amount x.amount in
-    let keeps = c.may_keep_own-keeps in
-    store_on p a x.action s x.place x.mode y keeps.result c.result_of-value.result.units (cells_of c.put.new.row)
-    (keeps.ensures ∙ ap (λ (b : Bool). handled p a x.action && (b || (s.may_zero || (may_vanish s.common y || (is_remainder y && s.any_fail))))) c.result_of-value.ensures.may_fail)
-    c.result_of-value.ensures.units (c.put.ensures.on told)
-
-pub returns-clause-off : goal.returns-clause-off
-returns-clause-off c told =
-    let x = c.args in
-    let p = plain_program x.program.now in
-    let a = plain_act x.act.now in
-    let s = seen x.row.now x.kept.now in
-    let y = plain_amount x.amount in
-    let keeps = c.may_keep_own-keeps in
-    store_off p a x.action s x.place x.mode y keeps.result c.result_of-value.result.units
-    (keeps.ensures ∙ ap (λ (b : Bool). handled p a x.action && (b || (s.may_zero || (may_vanish s.common y || (is_remainder y && s.any_fail))))) c.result_of-value.ensures.may_fail)
-    c.result_of-value.ensures.units (c.put.ensures.off told)
