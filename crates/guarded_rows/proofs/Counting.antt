@@ -1,5 +1,5 @@
 -- What is known of counters is small, and some number is left of it.
-use Rattle.std.proofs.Common.{◌≡◌, ◌∙◌, ◌-◌, ◌<◌, ◌^◌, ℕ, Bool, true, false, if◌then◌else◌, List, Option, Some, None, ℤ, ◌≤ℤ◌, refl, sym, subst, arith}
+use Rattle.std.proofs.Common.{◌≡◌, ◌∙◌, ◌-◌, ◌^◌, ℕ, Bool, true, false, if◌then◌else◌, List, Option, Some, None, ◌≤ℤ◌, refl, sym, subst, arith}
 use Rattle.std.specs.Prelude.{int_le, IfSome, option_map}
 use Rattle.decimal_interval.specs.declared.bounds.Interval.{Interval}
 use Rattle.decimal_interval.specs.Bounds.{IsSmall}

@@ -1,5 +1,5 @@
 -- What tests leave of items, and what class tests do.
-use Rattle.std.proofs.Common.{◌≡◌, ℕ, Bool, true, false, not, if◌then◌else◌, List, Option, Some, None, refl, sym, ap, subst, ◌∙◌}
+use Rattle.std.proofs.Common.{◌≡◌, ℕ, Bool, true, false, not, if◌then◌else◌, List, Option, Some, None, sym, ap, subst}
 use Rattle.std.specs.Prelude.{IfSome}
 use Rattle.std.specs.Option.{option_map}
 use Rattle.cob_program.specs.Act.{Program}
@@ -14,10 +14,10 @@ use Rattle.guard_ranges.specs.Meaning.{CutFits, CutsFit}
 use Rattle.guard_ranges.proofs.GuardLaws.{guard_fits}
 use Rattle.cell_rows.specs.Known.{Known}
 use Rattle.cell_rows.specs.Elements.{CellsFit}
-use Rattle.cell_storages.specs.Homes.{of_item, homes_of, owns}
+use Rattle.cell_storages.specs.Homes.{homes_of, owns}
 use Rattle.cell_steps.specs.Cells.{is_numeric}
 use Rattle.cell_steps.specs.Stores.{range_at}
-use Rattle.cell_steps.specs.Steps.{all_cut, read_cells, guarded_cells}
+use Rattle.cell_steps.specs.Steps.{all_cut, guarded_cells}
 use Rattle.cell_rises.proofs.Ranges.{range_ordered}
 use Rattle.known_items.specs.Short.{short_range_at}
 use Rattle.known_items.proofs.Small.{short_is}

@@ -1,5 +1,5 @@
 -- Items of the profile that have cells are small.
-use Rattle.std.proofs.Common.{◌≡◌, ◌≤◌, ℕ, suc, ◌+◌, ◌&&◌, nat_le, Bool, true, false, if◌then◌else◌, List, [], ◌∷◌, ◌++◌, slice_get, Option, Some, None, refl, sym, ap, ◌∙◌, arith}
+use Rattle.std.proofs.Common.{◌≡◌, ◌≤◌, ℕ, suc, ◌+◌, ◌&&◌, nat_le, Bool, true, false, if◌then◌else◌, List, [], ◌∷◌, slice_get, Option, Some, None, refl, sym, ap, ◌∙◌, arith}
 use Rattle.std.specs.List.{list_all, AllByRecursion}
 use Rattle.std.specs.Option.{option_map_or}
 use Rattle.std.proofs.lemmas.Bool.Decides.{nat_tests}
@@ -14,7 +14,7 @@ use Rattle.cob_program.specs.Act.{once, times, until, varying, Stmt, MkStmt, Act
 use Rattle.cob_program.specs.Statements.{program_statements}
 use Rattle.cob_runs.specs.Contents.{item_at, form_at}
 use Rattle.cob_items.specs.WellFormed.{IsWellFormedForm, IsWellFormedItem, HasWellFormedItems}
-use Rattle.cell_storages.specs.Homes.{Home, of_item, if_named, home_of, item_homes, act_homes, count_homes, homes_of}
+use Rattle.cell_storages.specs.Homes.{of_item, if_named, home_of, item_homes, act_homes, count_homes}
 use Rattle.known_items.proofs.Digits.{small_digits}
 use Rattle.guarded_rows.specs.Cells.{is_small_home, has_small_cells}
 

@@ -1,10 +1,9 @@
-use Rattle.std.proofs.Common.{◌≡◌, sym, ap, ◌∙◌}
+use Rattle.std.proofs.Common.{sym, ap, ◌∙◌}
 use Rattle.std.specs.Option.{option_map}
 use Rattle.cob_program.specs.ActView.{plain_program}
 use Rattle.result_ranges.specs.ResultRanges.{lowered, count_range}
 use Rattle.cell_rows.specs.Rows.{cells_of}
-use Rattle.cell_storages.specs.Homes.{of_count, homes_of}
-use Rattle.cell_steps.specs.Cells.{units_of}
+use Rattle.cell_storages.specs.Homes.{of_count}
 use Rattle.cell_steps.specs.Steps.{known_as}
 use Rattle.guarded_rows.proofs.Counting.{count_is_small}
 use Rattle.guarded_rows.proofs.counters.count_down.Goals as goal
