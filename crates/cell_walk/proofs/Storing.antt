@@ -1,22 +1,17 @@
 -- What a store makes of the row, cell by cell: the receiver's cell alone may keep what it was.
-use Rattle.std.proofs.Common.{◌≡◌, ℕ, Bool, true, false, if◌then◌else◌, List, [], ◌∷◌, Option, Some, None, ℤ, refl, sym, ap, ◌∙◌, arith}
-use Rattle.std.specs.Option.{option_map}
+use Rattle.std.proofs.Common.{◌≡◌, ℕ, Bool, true, false, if◌then◌else◌, List, [], ◌∷◌, Some, None, ℤ, refl, ap, ◌∙◌, arith}
 use Rattle.std.specs.Int.{int_max, int_min}
 use Rattle.std.proofs.lemmas.Int.{ints, clamps}
-use Rattle.dec_num.specs.declared.types.Mode.{Mode}
 use Rattle.decimal_interval.specs.declared.bounds.Interval.{Interval}
 use Rattle.decimal_interval.specs.Corners.{interval, joined as hull_of}
-use Rattle.cob_program.specs.Act.{Act, Program}
-use Rattle.cob_runs.specs.declared.action.Action.{Action}
+use Rattle.cob_program.specs.Act.{Program}
 use Rattle.cob_runs.specs.Contents.{form_at}
-use Rattle.cob_edge_parts.specs.Parts.{Amount}
 use Rattle.cell_rows.specs.Known.{Known, joined_known}
-use Rattle.cell_rows.specs.Elements.{Element, joined}
+use Rattle.cell_rows.specs.Elements.{joined}
 use Rattle.cell_storages.specs.Homes.{Home, of_item, is_home, homes_of}
 use Rattle.cell_storages.specs.Storages.{known_of}
 use Rattle.cell_steps.specs.Cells.{with_known, forgotten, is_beside}
-use Rattle.cell_steps.specs.Seen.{Seen}
-use Rattle.cell_steps.specs.Stores.{result_at, may_fail, stored_known, stored_cells, stored_element, behind_store, stored}
+use Rattle.cell_steps.specs.Stores.{stored_known, stored_cells, stored_element}
 use Rattle.cell_walk.specs.Kept.{kept_or_new}
 
 -- ---- joins
@@ -83,24 +78,3 @@ pub put_is : (p : Program) (place : ℕ) (keeps : Bool) (cs : List Known) (units
 put_is p place false cs units = refl
 put_is p place true cs units =
     ap Some (join_stored (is_beside p.layout place) (of_item place) (stored_known (form_at p.layout place) units) (homes_of p) cs)
-
--- ---- a store
-
-module _ (p : Program) (a : Act) (x : Action) (s : Seen) (place : ℕ) (mode : Mode) (y : Amount) where
-  abbrev behind : Bool → Option Interval → Option Seen
-  behind fails units = behind_store s fails (stored_element fails s.cells (option_map (stored_cells p place s.cells) units))
-
-  same_store : (fails : Bool) (units : Option Interval) → fails ≡ may_fail p a x s place mode y → units ≡ result_at p a x s place mode y →
-      stored p a x s place mode y ≡ behind fails units
-  same_store fails units f u =
-      ap (λ (b : Bool). behind b (result_at p a x s place mode y)) (sym f) ∙ ap (λ (o : Option Interval). behind fails o) (sym u)
-
-  pub store_on : (fails : Bool) (units : Option Interval) (cs : List Known) → fails ≡ may_fail p a x s place mode y → units ≡ result_at p a x s place mode y →
-      stored_element fails s.cells (option_map (stored_cells p place s.cells) units) ≡ Some cs →
-      stored p a x s place mode y ≡ behind_store s fails (Some cs)
-  store_on fails units cs f u e = same_store fails units f u ∙ ap (λ (o : Element). behind_store s fails o) e
-
-  pub store_off : (fails : Bool) (units : Option Interval) → fails ≡ may_fail p a x s place mode y → units ≡ result_at p a x s place mode y →
-      stored_element fails s.cells (option_map (stored_cells p place s.cells) units) ≡ None →
-      stored p a x s place mode y ≡ None
-  store_off fails units f u e = same_store fails units f u ∙ ap (λ (o : Element). behind_store s fails o) e
