@@ -1,7 +1,6 @@
 -- Where two functions from places to ranges agree on all small items, small tests leave the same.
 use Rattle.std.proofs.Common.{◌≡◌, ◌≤◌, ℕ, ◌-◌, ◌^◌, ◌&&◌, nat_le, Bool, true, false, if◌then◌else◌, List, [], ◌∷◌, None, refl, ap, ◌∙◌, arith}
 use Rattle.std.specs.List.{list_all, list_any}
-use Rattle.std.proofs.lemmas.Bool.Decides.{nat_tests}
 use Rattle.dec_num.specs.declared.types.Scaled.{Scaled}
 use Rattle.cob_tree.specs.declared.token.Rel.{Rel}
 use Rattle.cob_data.specs.declared.layout.Layout.{Layout}
@@ -19,21 +18,13 @@ use Rattle.guard_ranges.specs.Kept.{some_in, kept_in}
 use Rattle.guard_ranges.specs.Sides.{is_wanted}
 use Rattle.guard_ranges.specs.Members.{is_number_member, is_within, is_same_item, end_range, can_lie, can_be, member_kept}
 use Rattle.guard_ranges.specs.Small.{is_short, end_bound, is_short_pair, is_small_test}
+use Rattle.guard_ranges.proofs.Short.{small_of_short}
 use Rattle.guard_ranges.specs.Guards.{lone_item, one_cut, sides_cut, numbers_cut, member_cut, guarded}
 use Rattle.known_items.proofs.Agreeing.{bind_same, or_same, sum_same}
 use Rattle.guarded_rows.specs.Tests.{class_item}
 
 and_same : (a b c d : Bool) → a ≡ c → b ≡ d → (a && b) ≡ (c && d)
 and_same a b c d e f = ap (λ t. t && b) e ∙ ap (λ t. c && t) f
-
-test_wider : (a b c : ℕ) → nat_le a b ≡ true → b ≤ c → nat_le a c ≡ true
-test_wider a b c e h = grind (arith, nat_tests)
-
-short_is_small : (b : Bound) → is_short b ≡ true → is_small b ≡ true
-short_is_small b e =
-    let l = both (nat_le b.most (10 ^ 18 - 1)) (nat_le b.scale 18) e in
-    and_same (nat_le b.most (10 ^ 37 - 1)) (nat_le b.scale 37) true true
-    (test_wider b.most (10 ^ 18 - 1) (10 ^ 37 - 1) l.0 (omega arith)) (test_wider b.scale 18 37 l.1 (omega arith))
 
 -- whether x lies between two ends, or not, which are one number where they are one item
 abbrev lies_in : Bool → Scaled → Bool → Ranged → Ranged → Bool
@@ -59,7 +50,7 @@ module _ (f g : ℕ → Ranged) (bound : ℕ → Bound) (same : (place : ℕ) �
   -- ---- ranges of values
 
   end_same : (x : Sender) → is_short (end_bound bound x) ≡ true → end_range f x ≡ end_range g x
-  end_same (sender.Item place) short = same place (short_is_small (bound place) short)
+  end_same (sender.Item place) short = same place (small_of_short (bound place) short)
   end_same (sender.Number n) short = refl
   end_same (sender.Text text) short = refl
   end_same (sender.Fill byte) short = refl
@@ -88,7 +79,7 @@ module _ (f g : ℕ → Ranged) (bound : ℕ → Bound) (same : (place : ℕ) �
       member_kept f place ps wanted ≡ member_kept g place ps wanted
   member_same place ps wanted item pairs =
       let tests : can_be f wanted ps ≡ can_be g wanted ps = λ i x. be_same wanted ps x pairs i in
-      ap (λ t. kept_in t (f place)) tests ∙ ap (kept_in (can_be g wanted ps)) (same place (short_is_small (bound place) item))
+      ap (λ t. kept_in t (f place)) tests ∙ ap (kept_in (can_be g wanted ps)) (same place (small_of_short (bound place) item))
 
   cut_same : (counts : Bool) (place : ℕ) (ps : List Pair) (wanted : Bool) →
       (if counts then is_short (bound place) && list_all (is_short_pair bound) ps else true) ≡ true →

@@ -2,7 +2,7 @@
 use Rattle.std.proofs.Common.{◌≡◌, ◌≤◌, ℕ, suc, ◌+◌, ◌&&◌, nat_le, Bool, true, false, if◌then◌else◌, List, [], ◌∷◌, slice_get, Option, Some, None, refl, sym, ap, ◌∙◌, arith}
 use Rattle.std.specs.List.{list_all, AllByRecursion}
 use Rattle.std.specs.Option.{option_map_or}
-use Rattle.std.proofs.lemmas.Bool.Decides.{nat_tests}
+use Rattle.std.proofs.lemmas.Bool.{and_from, le-leb, leb-true}
 use Rattle.std.proofs.lemmas.List.Elements.{recursion_from_All}
 use Rattle.std.proofs.lemmas.List.Folds.{list_all-append}
 use Rattle.cob_tree.specs.declared.form.Form.{Form}
@@ -18,31 +18,22 @@ use Rattle.cell_storages.specs.Homes.{of_item, if_named, home_of, item_homes, ac
 use Rattle.known_items.proofs.Digits.{small_digits}
 use Rattle.guarded_rows.specs.Cells.{is_small_home, has_small_cells}
 
-and_true : (a b : Bool) → a ≡ true → b ≡ true → (a && b) ≡ true
-and_true a b e f = ap (λ t. t && b) e ∙ f
-
-test_at : (a b : ℕ) → a ≤ b → nat_le a b ≡ true
-test_at a b h = grind (arith, nat_tests)
-
-at_most : (a b : ℕ) → nat_le a b ≡ true → a ≤ b
-at_most a b e = grind (arith, nat_tests)
-
 short_is_small : (digits scale : ℕ) → digits ≤ 18 → scale ≤ 18 → is_small (of_digits digits scale) ≡ true
 short_is_small digits scale few fewer =
     small_digits digits scale
-    ∙ and_true (nat_le digits 37) (nat_le scale 37) (test_at digits 37 (omega (arith, few))) (test_at scale 37 (omega (arith, fewer)))
+    ∙ and_from (nat_le digits 37) (nat_le scale 37) (le-leb digits 37 (omega (arith, few))) (le-leb scale 37 (omega (arith, fewer)))
 
 module _ (l : Layout) where
   -- ---- items
 
   small_here : (place : ℕ) (f : Form) → form_at l place ≡ f → is_small (form_bound f) ≡ true → list_all (is_small_home l) (of_item place ∷ []) ≡ true
   small_here place f e small =
-      and_true (is_small_home l (of_item place)) true (ap (λ (g : Form). is_small (form_bound g)) e ∙ small) refl
+      and_from (is_small_home l (of_item place)) true (ap (λ (g : Form). is_small (form_bound g)) e ∙ small) refl
 
   text_small : (place n : ℕ) (short : Bool) → nat_le n 18 ≡ short → form_at l place ≡ Text n →
       list_all (is_small_home l) (if short then of_item place ∷ [] else []) ≡ true
   text_small place n false told e = refl
-  text_small place n true told e = small_here place (Text n) e (short_is_small n 0 (at_most n 18 told) (omega arith))
+  text_small place n true told e = small_here place (Text n) e (short_is_small n 0 (leb-true n 18 told) (omega arith))
 
   form_small : (place : ℕ) (f : Form) (bytes : ℕ) → form_at l place ≡ f → IsWellFormedForm f bytes → list_all (is_small_home l) (home_of place f) ≡ true
   form_small place Group bytes e sound = refl
@@ -78,7 +69,7 @@ module _ (l : Layout) where
       let here = named_small place i.name i.form i.length (form_here place i items stand) all.0.form in
       let rest = items_small (suc place) items (stand_behind place i items stand) all.1 in
       list_all-append (is_small_home l) (if_named i.name (home_of place i.form)) (item_homes (suc place) items)
-      ∙ and_true (list_all (is_small_home l) (if_named i.name (home_of place i.form))) (list_all (is_small_home l) (item_homes (suc place) items)) here rest
+      ∙ and_from (list_all (is_small_home l) (if_named i.name (home_of place i.form))) (list_all (is_small_home l) (item_homes (suc place) items)) here rest
 
   -- ---- counters
 
@@ -93,7 +84,7 @@ module _ (l : Layout) where
   counts_small [] = refl
   counts_small (MkStmt n line a ∷ ss) =
       list_all-append (is_small_home l) (act_homes n a) (count_homes ss)
-      ∙ and_true (list_all (is_small_home l) (act_homes n a)) (list_all (is_small_home l) (count_homes ss)) (act_small n a) (counts_small ss)
+      ∙ and_from (list_all (is_small_home l) (act_homes n a)) (list_all (is_small_home l) (count_homes ss)) (act_small n a) (counts_small ss)
 
 -- the premise of reads and tests, for every program of the profile
 pub cells_are_small : (p : Program) → HasWellFormedItems p.layout → has_small_cells p ≡ true
@@ -102,5 +93,5 @@ cells_are_small p sound =
     let at : (k : ℕ) → slice_get l.items (0 + k) ≡ slice_get l.items k = λ k. let same : 0 + k ≡ k = omega arith in ap (slice_get l.items) same in
     let items = items_small l 0 l.items at (recursion_from_All (IsWellFormedItem l) l.items sound.items) in
     list_all-append (is_small_home l) (item_homes 0 l.items) (count_homes (program_statements p))
-    ∙ and_true (list_all (is_small_home l) (item_homes 0 l.items)) (list_all (is_small_home l) (count_homes (program_statements p))) items
+    ∙ and_from (list_all (is_small_home l) (item_homes 0 l.items)) (list_all (is_small_home l) (count_homes (program_statements p))) items
     (counts_small l (program_statements p))
