@@ -21,6 +21,7 @@ use Rattle.cell_rows.specs.Elements.{CellsFit}
 use Rattle.cell_rows.specs.Rows.{IsReached, cells_of}
 use Rattle.cell_rows.proofs.AllCells.{fits_length}
 use Rattle.cell_storages.specs.Homes.{homes_of, home_range, owns}
+use Rattle.guarded_rows.proofs.Homes.{cells_are_small}
 use Rattle.cell_layer_laws.specs.Layer.{left, row_for, edge_cells, edge_clears}
 use Rattle.edge_sizes.specs.Sizes.{IsSmallPart}
 use Rattle.cell_walk.specs.Statements.{act_in, number_in}
@@ -56,6 +57,7 @@ module _ (p : Program) (g : Graph) (ss : List (Bor declared_stmt.Stmt)) (held : 
             row_of = record { cells_are = same ∙ graph_cells; reached = reached; count = cells_many ∙ homes_many };
             fits = fits;
             few = few_parts;
+            small_cells = ∥∥₁_elim held (hlevel props) (λ h. cells_are_small p h.source.items);
             small = small_parts;
           }
 

@@ -1,5 +1,5 @@
 -- A node's own edges stand together, and they alone tell whether it is clear.
-use Rattle.std.proofs.Common.{◌≡◌, ◌≤◌, ◌<◌, ℕ, zero, suc, ◌-◌, ◌==◌, not, Bool, true, false, ◌&&◌, ◌||◌, List, [], ◌∷◌, length, nat_lt, refl, sym, ap, subst, ◌∙◌, arith}
+use Rattle.std.proofs.Common.{◌≡◌, ◌≤◌, ◌<◌, ℕ, zero, suc, ◌-◌, ◌==◌, not, Bool, true, false, ◌&&◌, ◌||◌, List, [], ◌∷◌, length, ltb, refl, sym, ap, subst, ◌∙◌, arith}
 use Rattle.std.specs.Prelude.{slice_index_or}
 use Rattle.std.specs.Borrow.{Bor}
 use Rattle.std.specs.List.{list_all}
@@ -87,9 +87,9 @@ module _ (p : Program) (g : Graph) (node : ℕ) (fault : Kind) (cells : List Kno
   pub behind_own : IsNonDecreasingBy (λ (x : Edge). x.from) g.edges → (at : ℕ) → at < length g.edges → node ≤ (edge at).from →
       ¬ (edge at).from ≡ node → ((k : ℕ) → k < at → IsClear k) → list_all (leaves_clear p g node fault cells) g.edges ≡ true
   behind_own rises at inside not_before differs before =
-      all_at (leaves_clear p g node fault cells) g.edges (λ k within. by_place k within (nat_lt k at) refl)
+      all_at (leaves_clear p g node fault cells) g.edges (λ k within. by_place k within (ltb k at) refl)
     where
-      by_place : (k : ℕ) → k < length g.edges → (b : Bool) → nat_lt k at ≡ b → IsClear k
+      by_place : (k : ℕ) → k < length g.edges → (b : Bool) → ltb k at ≡ b → IsClear k
       by_place k within true e = before k (ltb-true k at e)
       by_place k within false e =
           let past = ltb-false k at e in

@@ -1,5 +1,5 @@
 -- What edges make of rows, and what they clear, from the statements that they leave.
-use Rattle.std.specs.Prelude.{◌<◌, ◌-◌, ◌^◌, Bool, List, length, ℤ}
+use Rattle.std.specs.Prelude.{◌≡◌, ◌<◌, ◌-◌, ◌^◌, Bool, true, List, length, ℤ}
 use Rattle.std.specs.List.{AllByRecursion}
 use Rattle.cob_tree.specs.declared.fault.Kind.{Kind}
 use Rattle.cob_program.specs.Act.{Stmt, Program}
@@ -13,6 +13,7 @@ use Rattle.cell_storages.specs.Homes.{owns}
 use Rattle.cell_steps.specs.Seen.{beginning}
 use Rattle.cell_steps.specs.Clearing.{clears_parts}
 use Rattle.cell_steps.specs.Edges.{steps, finished}
+use Rattle.guarded_rows.specs.Cells.{has_small_cells}
 use Rattle.row_changes.specs.Cells.{IsRowOf}
 use Rattle.edge_sizes.specs.Sizes.{IsSmallPart}
 use Rattle.cell_walk.specs.Statements.{act_in}
@@ -29,4 +30,5 @@ pub record CanWalk (p : Program) (cells : List Cell) (y : Stmt) (x : Action) (ro
   pub row_of : IsRowOf p cells row
   pub fits : CellsFit (owns p) (cells_of row)
   pub few : length (edge_parts p y x) < 2 ^ 32 - 1
+  pub small_cells : has_small_cells p ≡ true
   pub small : AllByRecursion (IsSmallPart p (act_in y) x) (edge_parts p y x)

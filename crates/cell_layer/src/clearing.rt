@@ -44,7 +44,8 @@ fn clears_node(
         graph.now.edges }
 {
     let edges = graph.edges.get();
-    for at in edges_before(edges, node)..edges.len() {
+    let first = edges_before(edges, node);
+    for at in first..edges.len() {
         let edge = edges[at];
         if edge.from != node {
             return true;

@@ -8,8 +8,21 @@ use Rattle.cell_walk.specs.Statements.{act_in}
 use Rattle.cell_walk.specs.Walks.{steps_small}
 use Rattle.cell_walk.specs.Kept.{seen}
 use Rattle.cell_layer.proofs.Walked.{passed, stopped, none_left}
-use Rattle.cell_layer.proofs.Walking.{width_is, post_is}
+use Rattle.cell_layer.proofs.Walking.{can_begin, width_is, post_is}
 use Rattle.cell_layer.proofs.edges.walk_edge.Goals as goal
+
+pub loop-part-init : goal.loop-part-init
+loop-part-init c =
+    let p = plain_program c.args.program.now in
+    let y = plain_stmt c.args.statement.now in
+    let x = c.args.action in
+    let ps = edge_parts p y x in
+    let cells = cells_of c.args.row.now in
+    record {
+      row_of = c.requires.row_of;
+      can = can_begin p (act_in y) x (seen c.args.row.now c.new.result) cells (c.new.ensures c.args.row.now) c.requires.fits;
+      told = ap (λ s. steps_small p (act_in y) x ps s) (c.new.ensures c.args.row.now);
+    }
 
 pub loop-part-preserved : goal.loop-part-preserved
 loop-part-preserved c =
