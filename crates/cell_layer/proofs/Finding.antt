@@ -21,7 +21,8 @@ use Rattle.cob_graph.specs.declared.graph.Graph.{Graph}
 use Rattle.cob_graph.specs.WellFormed.{IsWellFormed}
 use Rattle.borrowed_parts.specs.PartView.{edge_parts}
 use Rattle.graph_runs.specs.Sources.{IsSourceGraph}
-use Rattle.data_laws.proofs.Listed.{IsIn, in_program, IsFound, statements_are_found}
+use Rattle.data_laws.specs.Statements.{IsIn, IsFound}
+use Rattle.data_laws.proofs.Listed.{found_is_listed, listed_is_found}
 use Rattle.cell_rows.specs.Known.{Known}
 use Rattle.cell_steps.specs.Edges.{post_cells, clears_edge}
 use Rattle.cell_layer_laws.specs.Layer.{left, edge_cells, edge_clears}
@@ -60,14 +61,14 @@ module _ (p : Program) (g : Graph) (x : Edge) (ss : List (Bor declared_stmt.Stmt
   none_found : (o : Option Act) → act_at p (left g x) ≡ o → All (λ s. ¬ number_in (plain_stmt s.now) ≡ left g x) ss → o ≡ None
   none_found None e none = refl
   none_found (Some a) e none =
-      absurd (not_listed (left g x) a ss none (subst (IsIn (left g x) a) (sym listed) (in_program (left g x) a p e)))
+      absurd (not_listed (left g x) a ss none (subst (IsIn (left g x) a) (sym listed) (found_is_listed p (left g x) a e)))
 
   pub is_left_none : All (λ s. ¬ number_in (plain_stmt s.now) ≡ left g x) ss → IsLeft p g x None
   is_left_none none = record { act = none_found (act_at p (left g x)) refl none; number = tt }
 
   pub is_left_some : (s : Bor declared_stmt.Stmt) → IsNumbered ss (left g x) s → IsLeft p g x (Some (plain_stmt s.now))
   is_left_some s (contained, is) =
-      let all = subst (AllByRecursion (IsFound p)) (sym listed) (statements_are_found p whole) in
+      let all = subst (AllByRecursion (IsFound p)) (sym listed) (listed_is_found p whole) in
       record {
         act = act_found (plain_stmt s.now) (found_at (IsFound p) ss contained.0 s all contained.1 contained.2) is;
         number = is;

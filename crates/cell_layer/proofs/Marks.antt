@@ -65,8 +65,8 @@ set_one at (suc count) edges x back low high =
         let same = eqb-true x.to at here in
         let zero_ : x.to - at ≡ 0 = omega (arith, same) in
         let marked : is_head (edges ++ x ∷ []) at ≡ true =
-            any_more (goes_back at) edges x ∙ ap (λ b. (b && nat_le x.to x.from) || is_head edges at) here
-            ∙ ap (λ b. b || is_head edges at) back in
+        any_more (goes_back at) edges x ∙ ap (λ b. (b && nat_le x.to x.from) || is_head edges at) here
+        ∙ ap (λ b. b || is_head edges at) back in
         ap (λ b. b ∷ from_node (at + 1) count (edges ++ x ∷ [])) marked
         ∙ ap (λ bs. true ∷ bs) (beyond (at + 1) count edges x (λ node h. elsewhere node x (ne_eqb x.to node (λ e. omega (arith, e, same, h)))))
         ∙ ap (λ k. slice_set (is_head edges at ∷ rest) k true) (sym zero_)
@@ -140,11 +140,12 @@ module _ (g : Graph) (entry : List ℤ) (post : ℕ → List ℤ → List ℤ) w
       let f = found_back g.edges node h in
       let x = slice_index_or g.edges f.at no_edge in
       let two = and_parts (x.to == node) (nat_le x.to x.from) f.back in
-      let same : f.at ≡ suc f.at - 1 = omega arith in
-      ( suc f.at,
+      let same : f.at ≡ suc f.at - 1 = omega arith in (
+        suc f.at,
         record { first = omega arith; last = f.within },
         subst (λ k. (slice_index_or g.edges k no_edge).to ≤ (slice_index_or g.edges k no_edge).from) same (leb-true x.to x.from two.1),
-        subst (λ k. (slice_index_or g.edges k no_edge).to ≡ node) same (eqb-true x.to node two.0) )
+        subst (λ k. (slice_index_or g.edges k no_edge).to ≡ node) same (eqb-true x.to node two.0),
+      )
 
   pub is_head_of : (node : ℕ) → IsHead (flow_over g entry post) node → is_head g.edges node ≡ true
   is_head_of node (e, is, back, at) =

@@ -1,12 +1,13 @@
 -- A node's own edges stand together, and they alone tell whether it is clear.
 use Rattle.std.proofs.Common.{◌≡◌, ◌≤◌, ◌<◌, ℕ, zero, suc, ◌-◌, ◌==◌, not, Bool, true, false, ◌&&◌, ◌||◌, List, [], ◌∷◌, length, ltb, refl, sym, ap, subst, ◌∙◌, arith}
-use Rattle.std.specs.Prelude.{slice_index_or}
+use Rattle.std.specs.Prelude.{slice_index_or, Contains}
 use Rattle.std.specs.Borrow.{Bor}
 use Rattle.std.specs.List.{list_all}
 use Rattle.std.specs.List.Sorted.{IsNonDecreasingBy}
 use Rattle.std.proofs.Props.{props}
 use Rattle.std.proofs.Math.Logic.{∥∥₁_elim}
 use Rattle.std.proofs.lemmas.Bool.{eqb-true, eqb-false, eq-eqb, ne_eqb, ltb-true, ltb-false, or_right}
+use Rattle.std.proofs.lemmas.List.{get_or_default}
 use Rattle.std.proofs.lemmas.List.Sorted.{IsNonDecreasingBy-from_default}
 use Rattle.cob_tree.specs.declared.fault.Kind.{Kind}
 use Rattle.cob_program.specs.declared.act.Stmt as declared_stmt
@@ -69,6 +70,9 @@ module _ (p : Program) (g : Graph) (node : ℕ) (fault : Kind) (cells : List Kno
 
   other_node : (x : Edge) → ¬ x.from ≡ node → leaves_clear p g node fault cells x ≡ true
   other_node x differs = ap (λ b. not b || edge_clears p g fault cells x) (ne_eqb x.from node differs)
+
+  pub stands_among : (x : Edge) (at : ℕ) → at < length g.edges → x ≡ edge at → Contains g.edges x
+  stands_among x at within is = (at, within, get_or_default g.edges at x no_edge within ∙ sym is)
 
   -- those that leave earlier nodes
   pub earlier : (k : ℕ) → (edge k).from < node → IsClear k

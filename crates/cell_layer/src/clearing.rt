@@ -1,8 +1,9 @@
 //! Rows of cells as what is known of storages, and the faults that they clear.
-ghost use Rattle.std.specs.Prelude.{◌≡◌, ◌≤◌, ◌<◌, ℕ, length, slice_index_or};
+ghost use Rattle.std.specs.Prelude.{◌≡◌, ◌≤◌, ◌<◌, ◌==◌, ℕ, length, slice_index_or};
 ghost use Rattle.std.specs.List.{list_all};
 ghost use Rattle.std.specs.List.Sorted.{IsNonDecreasingBy};
 ghost use Rattle.cob_program.specs.ActView.{plain_program};
+ghost use Rattle.graph_runs.specs.Places.{no_edge};
 ghost use Rattle.cell_rows.specs.Elements.{CellsFit};
 ghost use Rattle.cell_rows.specs.Rows.{IsReached, cells_of, lists_of};
 ghost use Rattle.cell_storages.specs.Homes.{owns};
@@ -27,6 +28,19 @@ fn edges_before(edges: &[Edge], node: u32) -> usize
     edges.partition_point(|edge| edge.from < node)
 }
 
+fn edge_at(edges: &[Edge], at: usize) -> Edge
+    requires { at < length edges.now }
+    ensures { result ≡ slice_index_or edges.now at no_edge }
+{
+    edges[at]
+}
+
+fn leaves(edge: Edge, node: u32) -> bool
+    ensures { result ≡ (edge.from == node) }
+{
+    edge.from == node
+}
+
 // whether each edge that leaves a node clears the fault
 fn clears_node(
     program: &Program,
@@ -46,8 +60,8 @@ fn clears_node(
     let edges = graph.edges.get();
     let first = edges_before(edges, node);
     for at in first..edges.len() {
-        let edge = edges[at];
-        if edge.from != node {
+        let edge = edge_at(edges, at);
+        if !leaves(edge, node) {
             return true;
         }
         if !clears_edge(program, graph, statements, edge, row, fault) {
@@ -64,7 +78,14 @@ impl<'a> Layer for CellLayer<'a> {
         if !is_reached(row) {
             return true;
         }
-        clears_node(self.program, self.graph, self.statements.as_slice(), node, row, kind)
+        clears_node(
+            self.program,
+            self.graph,
+            self.statements.as_slice(),
+            node,
+            row,
+            kind,
+        )
     }
 
     ghost means = { λ s. means_by (plain_program s.program.now) s.graph.now (lists_of s.thresholds.now) };

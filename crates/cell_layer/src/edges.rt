@@ -177,7 +177,14 @@ pub fn clears_edge(
     ensures { result ≡ edge_clears (plain_program program.now) graph.now fault (cells_of row.now) edge }
 {
     match left(graph, statements, edge) {
-        Some(statement) => copy_clears(program, graph.cells.get(), statement, edge.action, row, fault),
+        Some(statement) => copy_clears(
+            program,
+            graph.cells.get(),
+            statement,
+            edge.action,
+            row,
+            fault,
+        ),
         None => true,
     }
 }

@@ -15,8 +15,8 @@ use cob_items::{item_at, number_at};
 use cob_program::Program;
 use cob_runs::Cell;
 use cob_store::{MoveEnd, after_move, start};
-use decimal_interval::Interval;
 use dec_num::Scaled;
+use decimal_interval::Interval;
 use std::alloc::{AllocError, Global};
 
 fn point_of(number: Scaled) -> Interval
@@ -165,7 +165,6 @@ fn push_firsts(
 }
 
 /// The row of what is known of cells where a run begins.
-#[tactic(auto, using(data_laws::proofs::Stored::first_storage_is_whole))]
 pub fn entry_row(alloc: Global, program: &Program, cells: &[Cell]) -> Result<Vec<i128>, AllocError>
     requires sound { HasWellFormedItems program.now.layout }
     requires short { All (λ c. IfSome c.item (λ place. IsShort (form_at program.now.layout place))) cells.now }
@@ -173,6 +172,12 @@ pub fn entry_row(alloc: Global, program: &Program, cells: &[Cell]) -> Result<Vec
 {
     let mut storage = start(alloc, program)?;
     let mut row = reached_row(alloc)?;
-    push_firsts(alloc, &program.layout, cells, storage.as_mut_slice(), &mut row)?;
+    push_firsts(
+        alloc,
+        &program.layout,
+        cells,
+        storage.as_mut_slice(),
+        &mut row,
+    )?;
     Ok(row)
 }

@@ -62,7 +62,13 @@ impl<'a> System for CellLayer<'a> {
         out.copy_from_slice(from);
         if is_reached(out) {
             let edge = edge_with(self.graph.edges.get(), edge);
-            post_edge(self.program, self.graph, self.statements.as_slice(), edge, out);
+            post_edge(
+                self.program,
+                self.graph,
+                self.statements.as_slice(),
+                edge,
+                out,
+            );
         }
     }
 

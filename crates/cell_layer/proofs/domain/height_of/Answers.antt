@@ -1,4 +1,5 @@
-use Rattle.std.proofs.Common.{◌≡◌, ◌≤◌, ◌+◌, ◌*◌, ◌∙◌, ◌++◌, ◌∷◌, [], length, take, sym, ap, arith}
+use Rattle.std.proofs.Common.{◌≡◌, ◌≤◌, ◌+◌, ◌*◌, ◌∙◌, ◌++◌, ◌∷◌, [], length, take, ℤ, Vec, sym, ap, subst, arith}
+use Rattle.std.specs.declared.alloc.Global.{Global}
 use Rattle.std.proofs.lemmas.List.{take_more}
 use Rattle.cell_rows.specs.Elements.{cells_height}
 use Rattle.cell_rows.specs.Rows.{lists_of}
@@ -13,9 +14,9 @@ loop-list-preserved c =
     let within = c.loop-list-test.true in
     let here = c.list-item.is in
     let more : cells_height (lists_of (take (i + 1) xs)) ≡ cells_height (lists_of (take i xs)) + (2 * length x.items + 1) =
-        ap (λ ls. cells_height (lists_of ls)) (take_more xs i x within ∙ ap (λ y. take i xs ++ y ∷ []) (sym here))
-        ∙ lists_more (take i xs) x in
-    let long : length x.items ≤ 128 = rw here in c.requires.lists i x within in
+    ap (λ ls. cells_height (lists_of ls)) (take_more xs i x within ∙ ap (λ y. take i xs ++ y ∷ []) (sym here))
+    ∙ lists_more (take i xs) x in
+    let long : length x.items ≤ 128 = subst (λ (y : Vec ℤ Global). length y.items ≤ 128) (sym here) (c.requires.lists i x within) in
     record {
       height = omega (arith, more, c.loop-list.invariant.height, c.as_slice.ensures.value, c.len.ensures);
       most = omega (arith, long, c.loop-list.invariant.most, c.as_slice.ensures.value, c.len.ensures);

@@ -11,9 +11,9 @@ returns-in-Some c =
     let p = plain_program a.program.now in
     let s = c.in-Some.statement in
     λ e.
-        let less = ltb-true c.part_count.result (2 ^ 32 - 1) e in
-        let few : length (edge_parts p (plain_stmt s.now) a.edge.action) < 2 ^ 32 - 1 = omega (arith, less, c.part_count.ensures) in
-        few_some p a.graph.now a.edge a.statements.now c.requires.source c.requires.listed s (rw c.in-Some.is at c.left.ensures.some) few
+    let less = ltb-true c.part_count.result (2 ^ 32 - 1) e in
+    let few : length (edge_parts p (plain_stmt s.now) a.edge.action) < 2 ^ 32 - 1 = omega (arith, less, c.part_count.ensures) in
+    few_some p a.graph.now a.edge a.statements.now c.requires.source c.requires.listed s (rw c.in-Some.is at c.left.ensures.some) few
 
 pub returns-in-None : goal.returns-in-None
 returns-in-None c =

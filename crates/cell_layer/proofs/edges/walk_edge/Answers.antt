@@ -20,8 +20,8 @@ loop-part-init c =
     let cells = cells_of c.args.row.now in
     record {
       row_of = c.requires.row_of;
-      can = can_begin p (act_in y) x (seen c.args.row.now c.new.result) cells (c.new.ensures c.args.row.now) c.requires.fits;
-      told = ap (λ s. steps_small p (act_in y) x ps s) (c.new.ensures c.args.row.now);
+      can = can_begin p (act_in y) x (seen c.args.row.now c.new-kept.result) cells (c.new-kept.ensures c.args.row.now) c.requires.fits;
+      told = ap (λ s. steps_small p (act_in y) x ps s) (c.new-kept.ensures c.args.row.now);
     }
 
 pub loop-part-preserved : goal.loop-part-preserved
@@ -68,4 +68,4 @@ returns c =
     c.finish.ensures
     ∙ ap (λ n. row_from n (finished p (act_in y) x (Some s))) (width_is p c.args.cells.now c.loop-part.row c.loop-part.invariant.row_of)
     ∙ ap (row_from (width_of (owns p)))
-      (post_is p y x (cells_of c.args.row.now) c.requires.small (Some s) (sym (none_left p (act_in y) x ps k s past) ∙ c.loop-part.invariant.told))
+    (post_is p y x (cells_of c.args.row.now) c.requires.small (Some s) (sym (none_left p (act_in y) x ps k s past) ∙ c.loop-part.invariant.told))

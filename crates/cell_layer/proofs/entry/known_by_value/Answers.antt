@@ -11,7 +11,7 @@ returns-in-Ok-clause-known c =
     let i = c.args.item.now in
     let now = c.after_move.new.storage in
     let behind = is_moved l place i c.requires.at c.requires.item c.args.value.now c.requires.constant c.args.storage.now c.requires.whole now
-        (rw c.in-Ok.is at c.after_move.ensures) in
+    (rw c.in-Ok.is at c.after_move.ensures) in
     c.read_point.ensures
     ∙ ap (λ f. read_known f (bytes_at l now place)) (form_is l place i c.requires.at)
     ∙ ap (put_known i.form) (sym behind.value)
