@@ -1,4 +1,4 @@
-use Rattle.std.proofs.Common.{◌≡◌, ◌≤◌, ◌+◌, ◌*◌, ◌∙◌, ◌++◌, ◌∷◌, [], length, take, ℤ, Vec, sym, ap, subst, arith}
+use Rattle.std.proofs.Common.{◌≡◌, ◌≤◌, ◌+◌, ◌*◌, ◌∙◌, ◌++◌, ◌∷◌, [], length, take, List, ℤ, Vec, sym, ap, subst, arith}
 use Rattle.std.specs.declared.alloc.Global.{Global}
 use Rattle.std.proofs.lemmas.List.{take_more}
 use Rattle.cell_rows.specs.Elements.{cells_height}
@@ -17,7 +17,8 @@ loop-list-preserved c =
     ap (λ ls. cells_height (lists_of ls)) (take_more xs i x within ∙ ap (λ y. take i xs ++ y ∷ []) (sym here))
     ∙ lists_more (take i xs) x in
     let long : length x.items ≤ 128 = subst (λ (y : Vec ℤ Global). length y.items ≤ 128) (sym here) (c.requires.lists i x within) in
+    let same : length c.as_slice.result.now ≡ length x.items = ap (λ (ts : List ℤ). length ts) c.as_slice.ensures.value in
     record {
-      height = omega (arith, more, c.loop-list.invariant.height, c.as_slice.ensures.value, c.len.ensures);
-      most = omega (arith, long, c.loop-list.invariant.most, c.as_slice.ensures.value, c.len.ensures);
+      height = omega (arith, more, c.loop-list.invariant.height, same);
+      most = omega (arith, long, c.loop-list.invariant.most, same);
     }
