@@ -1,6 +1,6 @@
 -- What has one proof at most, so that a truncated fact gives it.
 use Rattle.std.proofs.Common.{ℕ, List}
-use Rattle.std.specs.Coded.{×_prop, Unit-prop}
+use Rattle.std.specs.Coded.{Unit-prop}
 use Rattle.std.specs.List.{AllByRecursion, AllByRecursion-prop}
 use Rattle.std.proofs.Props.{props}
 use Rattle.cob_tree.specs.declared.form.Form.{Form}
@@ -8,14 +8,12 @@ use Rattle.cob_tree.specs.declared.form.Form.TheVariants as form
 use Rattle.cob_data.specs.declared.layout.Layout.{Layout}
 use Rattle.cob_data.specs.declared.layout.Sender.{Sender}
 use Rattle.cob_data.specs.declared.layout.Sender.TheVariants as sender
-use Rattle.cob_items.specs.WellFormed.{IsShort, IsCountable, IsConstant, CanMove, IsWellFormedForm, IsWellFormedItem, IsWellFormedFile, HasWellFormedItems}
+use Rattle.cob_items.specs.WellFormed.{IsShort, IsCountable, IsConstant, IsWellFormedForm, HasWellFormedItems}
 use Rattle.cob_program.specs.declared.act.How.TheVariants as how
 use Rattle.cob_program.specs.Act.{Act, Program}
 use Rattle.cob_runs.specs.declared.action.Action.{Action}
 use Rattle.cob_edge_parts.specs.Parts.{Amount, moved, computed, remaining, augmented, Part, read, unread, divide, store, bytes_in, guard, read_count, set_count, count_down, guard_count}
 use Rattle.sum_ranges.specs.declared.ranged.Ranged.{Ranged}
-use Rattle.sum_ranges.specs.Sizes.{IsSmallRange}
-use Rattle.sum_ranges.specs.Working.{CanAddRanges, CanMultiplyRanges}
 use Rattle.result_ranges.specs.declared.amounts.AmountRange.{AmountRange}
 use Rattle.result_ranges.specs.declared.amounts.AmountRange.TheVariants as range
 use Rattle.result_ranges.specs.declared.amounts.Taken.{Taken}

@@ -1,5 +1,5 @@
 -- What is known of cells where a run begins: moved once, and read.
-use Rattle.std.proofs.Common.{◌≡◌, ◌≤◌, ◌<◌, ◌+◌, ◌*◌, ℕ, ℤ, suc, pos, take, nat_le, Bool, true, false, if◌then◌else◌, List, [], ◌∷◌, ◌++◌, map, length, Option, Some, None, Result, Ok, Err, refl, sym, ap, subst, ◌∙◌, arith}
+use Rattle.std.proofs.Common.{◌≡◌, ◌<◌, ◌+◌, ℕ, ℤ, suc, pos, take, nat_le, Bool, true, false, if◌then◌else◌, List, [], ◌∷◌, ◌++◌, map, length, Option, Some, None, Result, Ok, Err, refl, sym, ap, subst, ◌∙◌, arith}
 use Rattle.std.specs.Prelude.{IfSome, slice_index_or}
 use Rattle.std.specs.Result.{result_ok}
 use Rattle.std.specs.Option.{option_map_or}
@@ -7,7 +7,6 @@ use Rattle.std.specs.List.{All, AllZip, AllByRecursion}
 use Rattle.std.proofs.lemmas.Bool.{leb-true}
 use Rattle.std.proofs.lemmas.List.{take_more}
 use Rattle.std.proofs.lemmas.List.Elements.{All-from_recursion}
-use Rattle.std.proofs.lemmas.Option.{same_Some}
 use Rattle.cob_tree.specs.declared.fault.Kind.{Kind}
 use Rattle.cob_tree.specs.declared.form.Form.{Form}
 use Rattle.cob_tree.specs.declared.form.Form.TheVariants as form
@@ -21,8 +20,8 @@ use Rattle.cob_runs.specs.declared.action.Cell.{Cell}
 use Rattle.cob_runs.specs.Contents.{area, item_at, form_at, length_at, bytes_at, filled_at}
 use Rattle.cob_runs.specs.Faults.{◌>>=◌}
 use Rattle.cob_runs.specs.Moves.{moved, after_move}
-use Rattle.cob_items.specs.WellFormed.{HasWellFormedItems, IsWellFormedItem, IsShort, IsConstant}
-use Rattle.cob_graph.specs.Graphs.{cell, cell_of, counter, cells_of}
+use Rattle.cob_items.specs.WellFormed.{IsWellFormedItem, IsShort, IsConstant}
+use Rattle.cob_graph.specs.Graphs.{cell, cell_of, cells_of}
 use Rattle.cob_graph.specs.WellFormed.{IsWellFormed}
 use Rattle.cob_edge_parts.proofs.Frames.{items_change_alone}
 use Rattle.cell_rows.specs.Known.{Known}

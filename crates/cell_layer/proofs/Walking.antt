@@ -1,5 +1,5 @@
 -- What a walk along an edge comes to, by what is kept on the way.
-use Rattle.std.proofs.Common.{◌≡◌, ◌*◌, List, length, Bool, ℤ, Option, sym, ap, subst, ◌∙◌, arith}
+use Rattle.std.proofs.Common.{◌≡◌, List, length, Bool, ℤ, Option, sym, ap, subst, ◌∙◌, arith}
 use Rattle.std.specs.List.{AllByRecursion}
 use Rattle.std.proofs.lemmas.List.{length-map}
 use Rattle.cob_tree.specs.declared.fault.Kind.{Kind}

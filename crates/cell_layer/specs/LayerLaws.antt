@@ -1,5 +1,5 @@
 -- What a layer's laws follow from.
-use Rattle.std.proofs.Common.{◌≡◌, ◌<◌, List, [], ◌∷◌, length, ℤ, refl, ap, arith}
+use Rattle.std.proofs.Common.{List, [], ◌∷◌, ℤ}
 use Rattle.std.specs.Coded.{×_prop, Unit-prop}
 use Rattle.std.proofs.Props.{props}
 use Rattle.std.proofs.Math.Logic.{∥∥₁_elim, ∥∥₁_prop}

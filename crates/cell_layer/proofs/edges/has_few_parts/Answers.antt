@@ -1,9 +1,4 @@
-use Rattle.std.proofs.Common.{◌≡◌, ◌∙◌, length, ap, sym, subst, rules, get_or}
-use Rattle.std.specs.List.{All}
-use Rattle.std.proofs.lemmas.List.Elements.{All-more}
-use Rattle.graph_runs.specs.Places.{no_edge}
 use Rattle.cob_program.specs.ActView.{plain_program}
-use Rattle.cell_layer.specs.Held.{HasFewAt}
 use Rattle.cell_layer.proofs.Finding.{few_more, few_all}
 use Rattle.cell_layer.proofs.edges.has_few_parts.Goals as goal
 

@@ -1,4 +1,4 @@
-use Rattle.std.proofs.Common.{◌≡◌, ◌∙◌, sym, ap}
+use Rattle.std.proofs.Common.{◌∙◌, sym, ap}
 use Rattle.cob_runs.specs.Contents.{bytes_at}
 use Rattle.cell_layer.specs.Entry.{read_known, put_known}
 use Rattle.cell_layer.proofs.Firsts.{form_is, is_moved}

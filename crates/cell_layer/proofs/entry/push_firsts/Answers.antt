@@ -1,4 +1,4 @@
-use Rattle.std.proofs.Common.{◌≡◌, ◌∙◌}
+use Rattle.std.proofs.Common.{◌∙◌}
 use Rattle.cell_layer.proofs.Firsts.{push_step}
 use Rattle.cell_layer.proofs.entry.push_firsts.Goals as goal
 

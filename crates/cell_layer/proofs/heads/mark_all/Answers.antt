@@ -1,4 +1,4 @@
-use Rattle.std.proofs.Common.{◌≡◌, ◌+◌, ◌-◌, ◌∙◌, ◌++◌, ◌∷◌, [], nat_le, true, length, take, get_or, sym, ap, arith}
+use Rattle.std.proofs.Common.{◌-◌, ◌∙◌, nat_le, true, length, take, get_or, sym, ap}
 use Rattle.std.specs.Prelude.{if◌then◌else◌, slice_set}
 use Rattle.std.proofs.lemmas.List.{take_more}
 use Rattle.graph_runs.specs.Places.{no_edge}
