@@ -1,0 +1,92 @@
+-- What has one proof at most, so that a truncated fact gives it.
+use Rattle.std.proofs.Common.{ℕ, List}
+use Rattle.std.specs.Coded.{Unit-prop}
+use Rattle.std.specs.List.{AllByRecursion, AllByRecursion-prop}
+use Rattle.std.proofs.Props.{props}
+use Rattle.cob_tree.specs.declared.form.Form.{Form}
+use Rattle.cob_tree.specs.declared.form.Form.TheVariants as form
+use Rattle.cob_data.specs.declared.layout.Layout.{Layout}
+use Rattle.cob_data.specs.declared.layout.Sender.{Sender}
+use Rattle.cob_data.specs.declared.layout.Sender.TheVariants as sender
+use Rattle.cob_items.specs.WellFormed.{IsShort, IsCountable, IsConstant, IsWellFormedForm, HasWellFormedItems}
+use Rattle.cob_program.specs.declared.act.How.TheVariants as how
+use Rattle.cob_program.specs.Act.{Act, Program}
+use Rattle.cob_runs.specs.declared.action.Action.{Action}
+use Rattle.cob_edge_parts.specs.Parts.{Amount, moved, computed, remaining, augmented, Part, read, unread, divide, store, bytes_in, guard, read_count, set_count, count_down, guard_count}
+use Rattle.sum_ranges.specs.declared.ranged.Ranged.{Ranged}
+use Rattle.result_ranges.specs.declared.amounts.AmountRange.{AmountRange}
+use Rattle.result_ranges.specs.declared.amounts.AmountRange.TheVariants as range
+use Rattle.result_ranges.specs.declared.amounts.Taken.{Taken}
+use Rattle.result_ranges.specs.Sizes.{IsSmallAmount}
+use Rattle.cell_amounts.specs.Working.{CanGive, CanWork}
+use Rattle.edge_sizes.specs.Sizes.{IsSmallStore, IsSmallPart}
+
+-- ---- items
+
+pub short_prop : (f : Form) → IsProp (IsShort f)
+short_prop form.Group = Unit-prop
+short_prop (form.Text n) = hlevel props
+short_prop (form.Number digits scale signed usage) = Unit-prop
+short_prop (form.Edited picture digits scale) = Unit-prop
+
+countable_prop : (l : Layout) (x : Sender) → IsProp (IsCountable l x)
+countable_prop l (sender.Item place) = hlevel (props, short_prop)
+countable_prop l (sender.Number n) = hlevel props
+countable_prop l (sender.Text text) = hlevel props
+countable_prop l (sender.Fill byte) = Unit-prop
+countable_prop l sender.Zero = Unit-prop
+
+constant_prop : (x : Sender) → IsProp (IsConstant x)
+constant_prop (sender.Item place) = λ a b. absurd a
+constant_prop (sender.Number n) = Unit-prop
+constant_prop (sender.Text text) = Unit-prop
+constant_prop (sender.Fill byte) = Unit-prop
+constant_prop sender.Zero = Unit-prop
+
+form_prop : (f : Form) (bytes : ℕ) → IsProp (IsWellFormedForm f bytes)
+form_prop form.Group bytes = Unit-prop
+form_prop (form.Text n) bytes = hlevel props
+form_prop (form.Number digits scale signed usage) bytes = hlevel props
+form_prop (form.Edited picture digits scale) bytes = hlevel props
+
+pub items_prop : (l : Layout) → IsProp (HasWellFormedItems l)
+items_prop l = hlevel (props, form_prop, constant_prop, countable_prop)
+
+-- ---- parts
+
+amount_prop : (r : AmountRange) → IsProp (IsSmallAmount r)
+amount_prop (range.Decimal r) = hlevel props
+amount_prop (range.Quotient top under) = hlevel props
+amount_prop (range.Remainder top under scale) = hlevel props
+
+give_prop : (y : Amount) (own : Ranged) (t : Taken) → IsProp (CanGive y own t)
+give_prop (moved x) own t = Unit-prop
+give_prop (computed s how.Whole) own t = Unit-prop
+give_prop (computed s how.Plus) own t = hlevel props
+give_prop (computed s how.Minus) own t = hlevel props
+give_prop (computed s how.Times) own t = hlevel props
+give_prop (computed s how.Under) own t = Unit-prop
+give_prop (remaining s scale) own t = Unit-prop
+give_prop (augmented x) own t = hlevel props
+
+work_prop : (y : Amount) (own : Ranged) (t : Taken) → IsProp (CanWork y own t)
+work_prop y own t = hlevel (props, give_prop)
+
+module _ (p : Program) (a : Act) (x : Action) where
+  store_prop : (place : ℕ) (y : Amount) → IsProp (IsSmallStore p a x place y)
+  store_prop place y = hlevel (props, work_prop, amount_prop)
+
+  part_prop : (y : Part) → IsProp (IsSmallPart p a x y)
+  part_prop (read place) = Unit-prop
+  part_prop unread = Unit-prop
+  part_prop (divide d) = hlevel props
+  part_prop (store place mode y) = store_prop place y
+  part_prop (bytes_in offset count) = hlevel props
+  part_prop (guard t wanted) = hlevel props
+  part_prop (read_count n) = Unit-prop
+  part_prop (set_count n y) = hlevel props
+  part_prop (count_down n) = Unit-prop
+  part_prop (guard_count n wanted) = Unit-prop
+
+  pub parts_prop : (ps : List Part) → IsProp (AllByRecursion (IsSmallPart p a x) ps)
+  parts_prop ps = AllByRecursion-prop (IsSmallPart p a x) part_prop ps

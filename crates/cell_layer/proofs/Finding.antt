@@ -1,0 +1,147 @@
+-- The statement that an edge leaves, found by its number.
+use Rattle.std.proofs.Common.{◌≡◌, ◌≤◌, ◌<◌, inl, inr, true, ℕ, zero, suc, ◌+◌, ◌-◌, ◌^◌, take, List, [], ◌∷◌, length, Option, Some, None, refl, sym, ap, subst, ◌∙◌, arith}
+use Rattle.std.specs.Prelude.{slice_index_or}
+use Rattle.std.specs.Borrow.{Bor}
+use Rattle.std.specs.List.{All, AllByRecursion}
+use Rattle.std.specs.Option.{option_map_or}
+use Rattle.std.proofs.Props.{props}
+use Rattle.std.proofs.Math.Logic.{∥∥₁_elim}
+use Rattle.std.proofs.lemmas.List.{take_all}
+use Rattle.std.proofs.lemmas.List.Elements.{All-head, All-tail, All-more}
+use Rattle.std.proofs.lemmas.Option.{same_Some, none-some}
+use Rattle.cob_tree.specs.declared.fault.Kind.{Kind}
+use Rattle.cob_program.specs.declared.act.Stmt as declared_stmt
+use Rattle.cob_program.specs.ActView.{plain_stmt}
+use Rattle.cob_program.specs.Act.{Stmt, MkStmt, Act, Program}
+use Rattle.cob_program.specs.Statements.{program_statements, plain_references}
+use Rattle.cob_runs.specs.Effects.{act_at}
+use Rattle.cob_graph.specs.declared.graph.Edge.{Edge}
+use Rattle.cob_graph.specs.declared.graph.Graph.{Graph}
+use Rattle.cob_graph.specs.WellFormed.{IsWellFormed}
+use Rattle.borrowed_parts.specs.PartView.{edge_parts}
+use Rattle.graph_runs.specs.Sources.{IsSourceGraph}
+use Rattle.data_laws.specs.Statements.{IsIn, IsFound}
+use Rattle.data_laws.proofs.Listed.{found_is_listed, listed_is_found}
+use Rattle.cell_rows.specs.Known.{Known}
+use Rattle.cell_steps.specs.Edges.{post_cells, clears_edge}
+use Rattle.cell_layer_laws.specs.Layer.{left, edge_cells, edge_clears}
+use Rattle.edge_sizes.specs.Sizes.{IsSmallPart}
+use Rattle.edge_sizes.proofs.Small.{edges_are_small_of_sources}
+use Rattle.cell_walk.specs.Statements.{number_in, act_in}
+use Rattle.cell_layer.specs.Statements.{IsNumbered}
+use Rattle.cell_layer.specs.Edges.{statement_post, statement_clears}
+use Rattle.cell_layer.specs.Held.{HasFewAt, IsLeft}
+
+-- ---- in lists
+
+found_at : (P : Stmt → Type 0) (ss : List (Bor declared_stmt.Stmt)) (k : ℕ) (s : Bor declared_stmt.Stmt) → AllByRecursion P (plain_references ss) →
+    k < length ss → slice_index_or ss k s ≡ s → P (plain_stmt s.now)
+found_at P [] k s all within is = absurd (omega (arith, within))
+found_at P (t ∷ ss) zero s all within is = subst (λ (u : Bor declared_stmt.Stmt). P (plain_stmt u.now)) is all.0
+found_at P (t ∷ ss) (suc k) s all within is = found_at P ss k s all.1 (omega (arith, within)) is
+
+-- what is listed has the number of one of them
+not_listed : (n : ℕ) (a : Act) (ss : List (Bor declared_stmt.Stmt)) → All (λ s. ¬ number_in (plain_stmt s.now) ≡ n) ss →
+    IsIn n a (plain_references ss) → ⊥
+not_listed n a [] none is = is
+not_listed n a (s ∷ ss) none is =
+    by_stmt (plain_stmt s.now) (All-head (λ t. ¬ number_in (plain_stmt t.now) ≡ n) s ss none) is
+    (λ k. not_listed n a ss (All-tail (λ t. ¬ number_in (plain_stmt t.now) ≡ n) s ss none) k)
+  where
+    by_stmt : (y : Stmt) → ¬ number_in y ≡ n → IsIn n a (y ∷ plain_references ss) → (IsIn n a (plain_references ss) → ⊥) → ⊥
+    by_stmt (MkStmt m line b) other (inl here) rest = other (sym here.0)
+    by_stmt (MkStmt m line b) other (inr later) rest = rest later
+
+module _ (p : Program) (g : Graph) (x : Edge) (ss : List (Bor declared_stmt.Stmt)) (whole : IsWellFormed p)
+    (listed : plain_references ss ≡ program_statements p) where
+  act_found : (y : Stmt) → IsFound p y → number_in y ≡ left g x → act_at p (left g x) ≡ Some (act_in y)
+  act_found (MkStmt n line a) found is = ap (act_at p) (sym is) ∙ found
+
+  none_found : (o : Option Act) → act_at p (left g x) ≡ o → All (λ s. ¬ number_in (plain_stmt s.now) ≡ left g x) ss → o ≡ None
+  none_found None e none = refl
+  none_found (Some a) e none =
+      absurd (not_listed (left g x) a ss none (subst (IsIn (left g x) a) (sym listed) (found_is_listed p (left g x) a e)))
+
+  pub is_left_none : All (λ s. ¬ number_in (plain_stmt s.now) ≡ left g x) ss → IsLeft p g x None
+  is_left_none none = record { act = none_found (act_at p (left g x)) refl none; number = tt }
+
+  pub is_left_some : (s : Bor declared_stmt.Stmt) → IsNumbered ss (left g x) s → IsLeft p g x (Some (plain_stmt s.now))
+  is_left_some s (contained, is) =
+      let all = subst (AllByRecursion (IsFound p)) (sym listed) (listed_is_found p whole) in
+      record {
+        act = act_found (plain_stmt s.now) (found_at (IsFound p) ss contained.0 s all contained.1 contained.2) is;
+        number = is;
+      }
+
+-- ---- what edges are by it
+
+module _ (p : Program) (g : Graph) (x : Edge) where
+  same_post : (y : Stmt) (cells : List Known) → number_in y ≡ left g x →
+      post_cells p (left g x) (act_in y) x.action cells ≡ statement_post p y x.action cells
+  same_post (MkStmt n line a) cells is = ap (λ m. post_cells p m a x.action cells) (sym is)
+
+  same_clears : (y : Stmt) (cells : List Known) (fault : Kind) → number_in y ≡ left g x →
+      clears_edge p (left g x) (act_in y) x.action cells fault ≡ statement_clears p y x.action cells fault
+  same_clears (MkStmt n line a) cells fault is = ap (λ m. clears_edge p m a x.action cells fault) (sym is)
+
+  pub edge_by : (y : Stmt) (cells : List Known) → IsLeft p g x (Some y) → edge_cells p g x cells ≡ statement_post p y x.action cells
+  edge_by y cells is =
+      ap (λ (o : Option Act). option_map_or (λ a. post_cells p (left g x) a x.action cells) o (Some cells)) is.act
+      ∙ same_post y cells is.number
+
+  pub edge_by_none : (cells : List Known) → IsLeft p g x None → edge_cells p g x cells ≡ Some cells
+  edge_by_none cells is =
+      ap (λ (o : Option Act). option_map_or (λ a. post_cells p (left g x) a x.action cells) o (Some cells)) is.act
+
+  pub clears_by : (y : Stmt) (cells : List Known) (fault : Kind) → IsLeft p g x (Some y) →
+      edge_clears p g fault cells x ≡ statement_clears p y x.action cells fault
+  clears_by y cells fault is =
+      ap (λ (o : Option Act). option_map_or (λ a. clears_edge p (left g x) a x.action cells fault) o true) is.act
+      ∙ same_clears y cells fault is.number
+
+  pub clears_by_none : (cells : List Known) (fault : Kind) → IsLeft p g x None → edge_clears p g fault cells x ≡ true
+  clears_by_none cells fault is =
+      ap (λ (o : Option Act). option_map_or (λ a. clears_edge p (left g x) a x.action cells fault) o true) is.act
+
+  -- ---- how many parts
+
+  pub few_at : (y : Stmt) → HasFewAt p g x → IsLeft p g x (Some y) → length (edge_parts p y x.action) < 2 ^ 32 - 1
+  few_at (MkStmt n line a) few is = subst (λ m. length (edge_parts p (MkStmt m line a) x.action) < 2 ^ 32 - 1) (sym is.number) (few a is.act)
+
+  few_by : (y : Stmt) → length (edge_parts p y x.action) < 2 ^ 32 - 1 → IsLeft p g x (Some y) → HasFewAt p g x
+  few_by (MkStmt n line b) few is a at =
+      let same : b ≡ a = same_Some b a (sym is.act ∙ at) in
+      subst (λ (c : Act). length (edge_parts p (MkStmt (left g x) line c) x.action) < 2 ^ 32 - 1) same
+      (subst (λ m. length (edge_parts p (MkStmt m line b) x.action) < 2 ^ 32 - 1) is.number few)
+
+  few_by_none : IsLeft p g x None → HasFewAt p g x
+  few_by_none is a at = absurd (none-some a (sym is.act ∙ at))
+
+  -- ---- how small they are
+
+  pub small_at : IsSourceGraph p g → (y : Stmt) → IsLeft p g x (Some y) → AllByRecursion (IsSmallPart p (act_in y) x.action) (edge_parts p y x.action)
+  small_at source (MkStmt n line a) is =
+      subst (λ m. AllByRecursion (IsSmallPart p a x.action) (edge_parts p (MkStmt m line a) x.action)) (sym is.number)
+      (edges_are_small_of_sources p g source (left g x) a x.action is.act)
+
+module _ (p : Program) (g : Graph) (x : Edge) (ss : List (Bor declared_stmt.Stmt)) (source : ∥ IsSourceGraph p g ∥₁)
+    (listed : plain_references ss ≡ program_statements p) where
+  pub few_some : (s : Bor declared_stmt.Stmt) → IsNumbered ss (left g x) s → length (edge_parts p (plain_stmt s.now) x.action) < 2 ^ 32 - 1 →
+      HasFewAt p g x
+  few_some s numbered few =
+      ∥∥₁_elim source (hlevel props) (λ h. few_by p g x (plain_stmt s.now) few (is_left_some p g x ss h.whole listed s numbered))
+
+  pub few_none : All (λ s. ¬ number_in (plain_stmt s.now) ≡ left g x) ss → HasFewAt p g x
+  few_none none = ∥∥₁_elim source (hlevel props) (λ h. few_by_none p g x (is_left_none p g x ss h.whole listed none))
+
+-- ---- edge by edge
+
+module _ (p : Program) (g : Graph) (xs : List Edge) (same : xs ≡ g.edges) (k : ℕ) where
+  pub few_more : (d : Edge) → k < length xs → All (HasFewAt p g) (take k g.edges) → HasFewAt p g (slice_index_or xs k d) →
+      All (HasFewAt p g) (take (k + 1) g.edges)
+  few_more d within all here =
+      subst (λ ys. All (HasFewAt p g) (take (k + 1) ys)) same
+      (All-more (HasFewAt p g) xs k d within (subst (λ ys. All (HasFewAt p g) (take k ys)) (sym same) all) here)
+
+  pub few_all : length xs ≤ k → All (HasFewAt p g) (take k g.edges) → All (HasFewAt p g) g.edges
+  few_all past all = subst (All (HasFewAt p g)) (take_all k g.edges (omega (arith, past, ap length same))) all

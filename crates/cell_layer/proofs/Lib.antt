@@ -1,0 +1,10 @@
+pub mod AtMostOne
+pub mod Marks
+pub mod Finding
+pub mod Walked
+pub mod Walking
+pub mod Firsts
+pub mod Heights
+pub mod Making
+pub mod Leaving
+pub mod OwnEdges

@@ -1,0 +1,24 @@
+use Rattle.std.proofs.Common.{◌∙◌}
+use Rattle.cob_program.specs.ActView.{plain_program}
+use Rattle.cell_rows.specs.Rows.{cells_of}
+use Rattle.cell_layer.proofs.Leaving.{can_walk, clears_it, clears_none}
+use Rattle.cell_layer.proofs.edges.clears_edge.Goals as goal
+
+pub copy_clears-requires-clause-can : goal.copy_clears-requires-clause-can
+copy_clears-requires-clause-can c =
+    let a = c.args in
+    can_walk (plain_program a.program.now) a.graph.now a.statements.now c.requires.held a.edge c.requires.of_graph c.in-Some.statement
+    (rw c.in-Some.is at c.left.ensures.some) c.get.result.now a.row.now c.get.ensures c.requires.reached c.requires.fits
+
+pub returns-in-Some : goal.returns-in-Some
+returns-in-Some c =
+    let a = c.args in
+    c.copy_clears.ensures
+    ∙ clears_it (plain_program a.program.now) a.graph.now a.statements.now c.requires.held a.edge c.requires.of_graph c.in-Some.statement
+    (rw c.in-Some.is at c.left.ensures.some) (cells_of a.row.now) a.fault
+
+pub returns-in-None : goal.returns-in-None
+returns-in-None c =
+    let a = c.args in
+    clears_none (plain_program a.program.now) a.graph.now a.statements.now c.requires.held a.edge c.requires.of_graph
+    (c.left.ensures.none c.in-None.is) (cells_of a.row.now) a.fault

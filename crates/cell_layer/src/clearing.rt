@@ -1,0 +1,92 @@
+//! Rows of cells as what is known of storages, and the faults that they clear.
+ghost use Rattle.std.specs.Prelude.{◌≡◌, ◌≤◌, ◌<◌, ◌==◌, ℕ, length, slice_index_or};
+ghost use Rattle.std.specs.List.{list_all};
+ghost use Rattle.std.specs.List.Sorted.{IsNonDecreasingBy};
+ghost use Rattle.cob_program.specs.ActView.{plain_program};
+ghost use Rattle.graph_runs.specs.Places.{no_edge};
+ghost use Rattle.cell_rows.specs.Elements.{CellsFit};
+ghost use Rattle.cell_rows.specs.Rows.{IsReached, cells_of, lists_of};
+ghost use Rattle.cell_storages.specs.Homes.{owns};
+ghost use Rattle.cell_layer_laws.specs.Layer.{leaves_clear, cell_meaning};
+ghost use Rattle.cell_layer.specs.Held.{IsHeld};
+ghost use Rattle.cell_layer.specs.LayerLaws.{means_by};
+
+use crate::edges::clears_edge;
+use crate::layer::CellLayer;
+use cell_rows::is_reached;
+use cob_graph::{Edge, Graph};
+use cob_program::{Program, Stmt};
+use cob_tree::Kind;
+use dom_laws::Layer;
+
+// how many edges leave earlier nodes
+fn edges_before(edges: &[Edge], node: u32) -> usize
+    requires { IsNonDecreasingBy (λ (x : Edge). x.from) edges.now }
+    ensures before { (k : ℕ) (d : Edge) → k < result → (slice_index_or edges.now k d).from < node }
+    ensures behind { (k : ℕ) (d : Edge) → result ≤ k → k < length edges.now → node ≤ (slice_index_or edges.now k d).from }
+{
+    edges.partition_point(|edge| edge.from < node)
+}
+
+fn edge_at(edges: &[Edge], at: usize) -> Edge
+    requires { at < length edges.now }
+    ensures { result ≡ slice_index_or edges.now at no_edge }
+{
+    edges[at]
+}
+
+fn leaves(edge: Edge, node: u32) -> bool
+    ensures { result ≡ (edge.from == node) }
+{
+    edge.from == node
+}
+
+// whether each edge that leaves a node clears the fault
+fn clears_node(
+    program: &Program,
+    graph: &Graph,
+    statements: &[&Stmt],
+    node: u32,
+    row: &[i128],
+    fault: Kind,
+) -> bool
+    requires held { ∥ IsHeld (plain_program program.now) graph.now statements.now ∥₁ }
+    requires reached { IsReached row.now }
+    requires fits { CellsFit (owns (plain_program program.now)) (cells_of row.now) }
+    requires few { length row.now ≤ 1025 }
+    ensures { result ≡ list_all (leaves_clear (plain_program program.now) graph.now node fault (cells_of row.now))
+        graph.now.edges }
+{
+    let edges = graph.edges.get();
+    let first = edges_before(edges, node);
+    for at in first..edges.len() {
+        let edge = edge_at(edges, at);
+        if !leaves(edge, node) {
+            return true;
+        }
+        if !clears_edge(program, graph, statements, edge, row, fault) {
+            return false;
+        }
+    }
+    true
+}
+
+impl<'a> Layer for CellLayer<'a> {
+    ghost meaning = { λ s. cell_meaning (plain_program s.program.now) s.graph.now };
+
+    fn clears(&self, node: u32, row: &[i128], kind: Kind) -> bool {
+        if !is_reached(row) {
+            return true;
+        }
+        clears_node(
+            self.program,
+            self.graph,
+            self.statements.as_slice(),
+            node,
+            row,
+            kind,
+        )
+    }
+
+    ghost means = { λ s. means_by (plain_program s.program.now) s.graph.now (lists_of s.thresholds.now) };
+}
