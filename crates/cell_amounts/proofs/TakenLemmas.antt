@@ -9,7 +9,11 @@ use Rattle.sum_ranges.specs.SumRanges.{turned, sum_range, product_range_from, at
 use Rattle.sum_ranges.specs.Taking as sum
 use Rattle.result_ranges.specs.Amounts.{taken}
 use Rattle.result_ranges.specs.Operands as store
-use Rattle.cell_amounts.specs.Working.{for_store}
+use Rattle.cob_program.specs.declared.act.How.TheVariants as how
+use Rattle.cob_edge_parts.specs.Parts.{Amount, moved, computed, remaining, augmented}
+use Rattle.result_ranges.specs.declared.amounts.Taken.{Taken}
+use Rattle.cell_steps.specs.Operands.{is_divided}
+use Rattle.cell_amounts.specs.Working.{for_store, CanSettle, CanSettleFor}
 
 alone_is : (o : Option Ranged) → option_map for_store (option_map sum.alone o) ≡ option_map store.alone o
 alone_is None = refl
@@ -30,3 +34,15 @@ module _ (range : ℕ → Ranged) where
   pub taken_is : (whole : Bool) (s : Sum) → option_map for_store (sum.taken_sum range whole s) ≡ store.taken_sum range whole s
   taken_is true s = from_root s (root_of s)
   taken_is false s = from_root s None
+
+-- ---- quotients that don't stay exact
+
+pub divided_is_settled : (a : Amount) (t : Taken) → is_divided a ≡ true → CanSettleFor a t → CanSettle t
+divided_is_settled (moved x) t divided can = absurd cc
+divided_is_settled (computed s how.Whole) t divided can = absurd cc
+divided_is_settled (computed s how.Plus) t divided can = absurd cc
+divided_is_settled (computed s how.Minus) t divided can = absurd cc
+divided_is_settled (computed s how.Times) t divided can = absurd cc
+divided_is_settled (computed s how.Under) t divided can = can refl
+divided_is_settled (remaining s scale) t divided can = absurd cc
+divided_is_settled (augmented x) t divided can = absurd cc

@@ -2,7 +2,7 @@
 use Rattle.std.specs.Prelude.{ℕ, nat_le, Bool, true, length}
 use Rattle.cob_data.specs.declared.layout.Sender.{Sender}
 use Rattle.cob_data.specs.declared.layout.Sender.TheVariants as sender
-use Rattle.cob_program.specs.Bounds.{Bound, is_small, is_small_sum, literal_bound}
+use Rattle.cob_program.specs.Bounds.{Bound, is_small, is_small_stored, literal_bound}
 use Rattle.cob_program.specs.Act.{Act, arith}
 use Rattle.cob_edge_parts.specs.Parts.{Amount, moved, computed, remaining, augmented}
 use Rattle.result_ranges.specs.Operands.{is_whole}
@@ -23,7 +23,7 @@ module _ (bound : ℕ → Bound) where
   is_small_amount (remaining s scale) = is_small_taken bound true s
   is_small_amount (augmented x) = is_small_sender x
 
-  -- the sum of an arithmetic statement does
+  -- the sum of an arithmetic statement does, whose whole is stored: a quotient that stays exact need not be small
   abbrev pub has_small_sum : Act → Bool
-  has_small_sum (arith s targets remainder size fine) = is_small_sum bound s
+  has_small_sum (arith s targets remainder size fine) = is_small_stored bound s
   has_small_sum _ = true

@@ -1,5 +1,5 @@
 -- Amounts that can be worked out.
-use Rattle.std.specs.Prelude.{Bool, true, Option, IfSome}
+use Rattle.std.specs.Prelude.{◌≡◌, Bool, true, false, Option, IfSome}
 use Rattle.std.specs.Option.{option_map_or}
 use Rattle.dec_num.specs.declared.types.Mode.{Mode}
 use Rattle.decimal_interval.specs.declared.bounds.Interval.{Interval}
@@ -13,7 +13,7 @@ use Rattle.result_ranges.specs.declared.amounts.AmountRange.{AmountRange}
 use Rattle.result_ranges.specs.declared.amounts.Receiver.{Receiver}
 use Rattle.result_ranges.specs.ResultRanges.{result_range, may_fail}
 use Rattle.result_ranges.specs.Sizes.{CanCompute}
-use Rattle.cell_steps.specs.Operands.{taken_for, amount_of}
+use Rattle.cell_steps.specs.Operands.{stays_exact, taken_for, amount_of}
 
 -- what is taken of a sum, for a store
 abbrev pub for_store : sum.Taken → Taken
@@ -23,13 +23,17 @@ for_store t = record { top = t.top; under = t.under }
 abbrev pub CanSettle : Taken → Type 0
 CanSettle t = IfSome t.under (λ under. CanDivideRanges t.top under)
 
+-- an amount for which a quotient doesn't stay exact
+abbrev pub CanSettleFor : Amount → Taken → Type 0
+CanSettleFor a t = stays_exact a ≡ false → CanSettle t
+
 abbrev pub CanGive : Amount → Ranged → Taken → Type 0
 CanGive (computed s how) own t = CanCompute how own t
 CanGive (augmented x) own t = CanAddRanges own t.top
 CanGive _ own t = Unit {0}
 
 pub record CanWork (a : Amount) (own : Ranged) (t : Taken) : Type 0 where
-  pub settled : CanSettle t
+  pub settled : CanSettleFor a t
   pub given : IfSome (taken_for a t) (CanGive a own)
 
 -- ---- stores, by what was taken

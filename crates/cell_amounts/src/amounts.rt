@@ -6,7 +6,7 @@ ghost use Rattle.result_ranges.specs.Operands.{remaining_range};
 ghost use Rattle.result_ranges.specs.Stores.{amount_range};
 ghost use Rattle.borrowed_parts.specs.PartView.{plain_amount};
 ghost use Rattle.cell_steps.specs.Operands.{settled, stays_exact, taken_for, amount_of, is_divided, may_divide_by_zero, is_remainder};
-ghost use Rattle.cell_amounts.specs.Working.{CanSettle, CanGive, CanWork};
+ghost use Rattle.cell_amounts.specs.Working.{CanSettle, CanSettleFor, CanGive, CanWork};
 
 use borrowed_parts::Amount;
 use cob_program::How;
@@ -49,7 +49,7 @@ fn stays_exact(amount: Amount) -> bool
 }
 
 fn taken_for(amount: Amount, taken: Taken) -> Option<Taken>
-    requires { CanSettle taken }
+    requires { CanSettleFor (plain_amount amount) taken }
     ensures { result ≡ taken_for (plain_amount amount.entry) taken }
 {
     if stays_exact(amount) {
@@ -114,8 +114,9 @@ fn top_of(taken: Option<Taken>) -> Option<Ranged>
 }
 
 /// Whether what divides the amount may be 0, divisors in its sum aside.
+#[tactic(auto, using(crate::proofs::TakenLemmas::divided_is_settled))]
 pub fn may_divide_by_zero(amount: Amount, taken: Taken) -> bool
-    requires { CanSettle taken }
+    requires { CanSettleFor (plain_amount amount) taken }
     ensures { result ≡ may_divide_by_zero (plain_amount amount.entry) taken }
 {
     holds_zero(taken.under) || (is_divided(amount) && holds_zero(top_of(settled(taken))))

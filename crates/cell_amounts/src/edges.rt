@@ -9,7 +9,7 @@ ghost use Rattle.cell_amounts.specs.Small.{has_small_sum};
 
 use cob_program::{Act, Stmt};
 use cob_runs::Action;
-use sum_ranges::{Ranges, may_vanish};
+use sum_ranges::{Ranges, may_vanish_stored};
 
 fn is_given(phrase: &Option<Vec<Stmt>>) -> bool
     ensures { result ≡ is_given (plain_phrase phrase.now) }
@@ -47,7 +47,7 @@ pub fn operands_vanish<R: Ranges>(ranges: &R, act: &Act) -> bool
     ensures { result ≡ operands_vanish (R.range_at ranges.now) (plain_act act.now) }
 {
     match act {
-        Act::Arith { common, .. } => may_vanish(ranges, common),
+        Act::Arith { common, .. } => may_vanish_stored(ranges, common),
         _ => false,
     }
 }

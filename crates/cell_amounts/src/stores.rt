@@ -7,7 +7,7 @@ ghost use Rattle.result_ranges.specs.Sizes.{IsReceiver, IsSmallAmount};
 ghost use Rattle.borrowed_parts.specs.PartView.{plain_amount};
 ghost use Rattle.cell_steps.specs.Operands.{is_remainder};
 ghost use Rattle.cell_steps.specs.Stores.{may_vanish};
-ghost use Rattle.cell_amounts.specs.Working.{CanSettle, CanWork, amount_from, units_from, exceeds_from};
+ghost use Rattle.cell_amounts.specs.Working.{CanSettleFor, CanWork, amount_from, units_from, exceeds_from};
 
 use crate::amounts::{amount_of, is_remainder, may_divide_by_zero};
 use borrowed_parts::Amount;
@@ -113,7 +113,7 @@ pub fn store_range(
 
 /// Whether what divides may be 0, which it may where nothing is known.
 pub fn may_vanish(common: Option<Taken>, amount: Amount) -> bool
-    requires { IfSome common CanSettle }
+    requires { IfSome common (CanSettleFor (plain_amount amount)) }
     ensures { result ≡ may_vanish common (plain_amount amount.entry) }
 {
     match common {
@@ -131,7 +131,7 @@ pub fn may_keep(
     may_zero: bool,
     any_fail: bool,
 ) -> bool
-    requires { IfSome common CanSettle }
+    requires { IfSome common (CanSettleFor (plain_amount amount)) }
     ensures { result ≡ (exceeds || (may_zero || (may_vanish common (plain_amount amount.entry)
         || (is_remainder (plain_amount amount.entry) && any_fail)))) }
 {

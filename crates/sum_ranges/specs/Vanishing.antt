@@ -1,6 +1,7 @@
 -- Whether a divisor in a sum may be 0.
 use Rattle.std.specs.Prelude.{ℕ, Bool, false, ◌&&◌, ◌||◌, pos, int_le, Option, Some, None}
 use Rattle.cob_program.specs.Sum.{Sum, MkSum, Parts, no_parts, more_parts, Part, MkPart, Factors, no_factors, more_factors, MkFactor, Atom, item, number, group}
+use Rattle.cob_program.specs.Values.{Root}
 use Rattle.sum_ranges.specs.declared.ranged.Ranged.{Ranged}
 use Rattle.sum_ranges.specs.SumRanges.{atom_range}
 
@@ -35,3 +36,7 @@ module _ (range : ℕ → Ranged) where
   -- whether the divisor may be 0, or one that stands in it
   abbrev pub may_be_zero : Atom → Bool
   may_be_zero atom = may_vanish_in_atom atom || holds_zero (atom_range range atom)
+
+  -- whether a divisor of a quotient may be 0, the last one among them
+  abbrev pub may_vanish_in_root : Root → Bool
+  may_vanish_in_root r = may_vanish_in_product r.above || may_be_zero r.below

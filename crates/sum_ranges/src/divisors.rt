@@ -68,8 +68,9 @@ fn may_vanish_in_part<R: Ranges>(ranges: &R, part: &Part) -> bool
     may_vanish_in_product(ranges, &part.factors)
 }
 
+/// Whether some divisor in the products of a sum may be 0.
 #[cycle(divisors)]
-fn may_vanish_in_parts<R: Ranges>(ranges: &R, parts: &[Part]) -> bool
+pub fn may_vanish_in_parts<R: Ranges>(ranges: &R, parts: &[Part]) -> bool
     requires bounded { AreBounded (R.range_at ranges.now) (R.bound_at ranges.now) }
     requires small { is_small_sum_from (R.bound_at ranges.now) (exactly 0) (parts_of
         (map plain_part parts.now)) ≡ true }

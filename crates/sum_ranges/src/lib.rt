@@ -20,4 +20,4 @@ pub use laws::{
 pub use literals::literal_range;
 pub use ranged::{Ranged, Ranges};
 pub use sums::{atom_range, product_range, sum_range};
-pub use taking::{Taken, taken_sum};
+pub use taking::{Taken, may_vanish_stored, taken_sum};

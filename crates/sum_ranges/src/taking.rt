@@ -6,8 +6,10 @@ ghost use Rattle.cob_program.specs.Values.{root_in, root_of};
 ghost use Rattle.cob_program.specs.Bounds.{is_small_stored};
 ghost use Rattle.sum_ranges.specs.Working.{AreBounded};
 ghost use Rattle.sum_ranges.specs.Taking.{alone, plain_root, root_with, root_range, taken_sum, is_small_taken, is_small_quotient};
+ghost use Rattle.sum_ranges.specs.Vanishing.{may_vanish, may_vanish_in_root};
 
 use crate::arithmetic::turned;
+use crate::divisors::{may_be_zero, may_vanish_in_parts, may_vanish_in_product};
 use crate::ranged::{Ranged, Ranges};
 use crate::sums::{atom_range, parts_range, product_range, sum_range};
 use cob_program::{Factor, Part, Sum};
@@ -107,4 +109,35 @@ pub fn taken_sum<R: Ranges>(ranges: &R, sum: &Sum, whole: bool) -> Option<Taken>
     } else {
         taken_alone(sum_range(ranges, sum))
     }
+}
+
+// Whether a divisor of a quotient may be 0, the last one among them.
+fn quotient_may_vanish<R: Ranges>(ranges: &R, above: &[Factor], below: &Factor) -> bool
+    requires bounded { AreBounded (R.range_at ranges.now) (R.bound_at ranges.now) }
+    requires small { is_small_quotient (R.bound_at ranges.now) (root_with (factors_of (map plain_factor above.now)) (plain_factor below.now)) ≡ true }
+    ensures { result ≡ may_vanish_in_root (R.range_at ranges.now) (root_with (factors_of (map plain_factor above.now)) (plain_factor below.now)) }
+{
+    may_vanish_in_product(ranges, above) || may_be_zero(ranges, &below.atom)
+}
+
+#[tactic(auto, using(crate::proofs::Roots::root_vanishes))]
+fn parts_may_vanish<R: Ranges>(ranges: &R, parts: &[Part]) -> bool
+    requires bounded { AreBounded (R.range_at ranges.now) (R.bound_at ranges.now) }
+    requires small { is_small_stored (R.bound_at ranges.now) (MkSum (parts_of (map plain_part parts.now))) ≡ true }
+    ensures { result ≡ may_vanish (R.range_at ranges.now) (MkSum (parts_of (map plain_part parts.now))) }
+{
+    match quotient_in(parts) {
+        Some((above, below)) => quotient_may_vanish(ranges, above, below),
+        None => may_vanish_in_parts(ranges, parts),
+    }
+}
+
+/// Whether some divisor in a sum whose whole is stored may be 0. A quotient that is its last operation may be too great
+/// for the arithmetic of intervals.
+pub fn may_vanish_stored<R: Ranges>(ranges: &R, sum: &Sum) -> bool
+    requires bounded { AreBounded (R.range_at ranges.now) (R.bound_at ranges.now) }
+    requires small { is_small_stored (R.bound_at ranges.now) (plain_sum sum.now) ≡ true }
+    ensures { result ≡ may_vanish (R.range_at ranges.now) (plain_sum sum.now) }
+{
+    parts_may_vanish(ranges, &sum.parts)
 }
