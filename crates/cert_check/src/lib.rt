@@ -17,3 +17,4 @@ pub use claimed_rows::Gap;
 pub use ends::{CheckEnd, Shape};
 pub use inductive_pass::pass;
 pub use laws::accepted_claims_cover_runs;
+pub use ranges::{all_ends, own_ranges};

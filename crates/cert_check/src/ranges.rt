@@ -32,7 +32,7 @@ fn own_range(cell: &Cell) -> Interval
 }
 
 /// The own range of each cell.
-pub(crate) fn own_ranges(alloc: Global, cells: &[Cell]) -> Result<Vec<Interval>, AllocError>
+pub fn own_ranges(alloc: Global, cells: &[Cell]) -> Result<Vec<Interval>, AllocError>
     requires { All IsShort cells.now }
     ensures value { IfOk result (λ owns. owns.items ≡ map own_range cells.now) }
     ensures small { IfOk result (λ owns. All IsSmall owns.items) }
@@ -56,7 +56,7 @@ fn ends(alloc: Global, own: Interval) -> Result<Vec<i64>, AllocError>
 }
 
 /// For each range its two ends, which are all the thresholds that a check needs: it never widens.
-pub(crate) fn all_ends(alloc: Global, owns: &[Interval]) -> Result<Vec<Vec<i64>>, AllocError>
+pub fn all_ends(alloc: Global, owns: &[Interval]) -> Result<Vec<Vec<i64>>, AllocError>
     requires { All IsSmall owns.now }
     ensures { IfOk result (λ thresholds. lists_of thresholds.items ≡ map ends_of owns.now) }
 {
