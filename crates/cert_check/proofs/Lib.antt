@@ -1,5 +1,10 @@
-pub mod Walks
-pub mod Small
-pub mod Nodes
-pub mod Standing
-pub mod Runs
+pub mod Lists
+pub mod Accepting
+pub mod Covering
+pub mod LayerLaws
+pub mod Leaking
+pub mod Answering
+pub mod Asking
+pub mod Noting
+pub mod Sources
+pub mod Pairs

@@ -2,6 +2,7 @@
 ghost use Rattle.std.specs.Prelude.{◌≡◌};
 ghost use Rattle.cert_check.specs.declared.ends.CheckEnd.TheVariants.{Memory};
 
+use claimed_rows::Gap;
 use std::alloc::{AllocError, AllocFailed};
 use thiserror::Error;
 
@@ -10,37 +11,6 @@ use thiserror::Error;
 pub enum Shape {
     Cells,
     Nodes,
-}
-
-/// The place at which what is reached doesn't lie in what is claimed.
-#[derive(Clone, Copy, Debug, PartialEq, Eq)]
-pub enum Gap {
-    /// The node is claimed never to be reached.
-    Reach,
-    /// The cell is claimed to be numeric.
-    Class {
-        cell: u32,
-    },
-    /// The low end reached is below the one claimed.
-    Low {
-        cell: u32,
-        reached: i64,
-        claimed: i64,
-    },
-    /// The high end reached is above the one claimed.
-    High {
-        cell: u32,
-        reached: i64,
-        claimed: i64,
-    },
-    /// The difference reached is above the bound claimed; `None` is no bound.
-    Diff {
-        pack: u32,
-        row: u32,
-        column: u32,
-        reached: Option<i128>,
-        claimed: i128,
-    },
 }
 
 /// An edge, and a place at which what it reaches doesn't lie in its target's claims.

@@ -1,11 +1,20 @@
-//! The checker: whether a certificate is inductive, and which statements it leaves open.
+//! The checker: whether a certificate is inductive on a program's graph, and which statements it leaves open.
 //!
 //! It trusts nothing of whoever made the certificate.
 #![tactic(auto)]
 
+mod certificate;
+mod cleared;
+mod edges;
 mod ends;
-mod interval;
-mod straight;
+mod laws;
+mod nodes;
+mod ranges;
+mod rows;
 
-pub use ends::{CheckEnd, Gap, Shape};
-pub use straight::check_straight;
+pub use certificate::check;
+pub use claimed_rows::Gap;
+pub use ends::{CheckEnd, Shape};
+pub use inductive_pass::pass;
+pub use laws::accepted_claims_cover_runs;
+pub use ranges::{all_ends, own_ranges};

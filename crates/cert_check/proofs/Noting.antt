@@ -1,0 +1,170 @@
+-- What nodes clear, noted at their statements one node after another.
+use Rattle.std.proofs.Common.{◌≡◌, ℕ, zero, suc, ◌+◌, ◌-◌, ◌≤◌, ◌<◌, ◌==◌, ◌&&◌, List, [], ◌∷◌, ◌++◌, length, take, drop, get_or, slice_set, replicate, Bool, true, false, if◌then◌else◌, refl, sym, ap, ◌∙◌, subst, arith}
+use Rattle.std.specs.Prelude.{◌||◌, not}
+use Rattle.std.specs.List.{flat_map, list_all, range_with_len}
+use Rattle.std.proofs.lemmas.Bool.{eq-eqb, eqb-true}
+use Rattle.std.proofs.lemmas.List.{length-set, get_or-set_same, get_or-set_other, get_or-replicate, get_or_default, length-replicate, append_assoc}
+use Rattle.cob_tree.specs.declared.fault.Kind.{Kind}
+use Rattle.cob_tree.specs.declared.fault.Kind.TheVariants as kind
+use Rattle.cob_tree.specs.declared.fault.Open.{Open}
+use Rattle.cob_program.specs.Act.{Program}
+use Rattle.cob_graph.specs.declared.graph.Graph.{Graph}
+use Rattle.cert_text.specs.View.{Certificate}
+use Rattle.cell_layer_laws.specs.Layer.{statement_at, clears_at}
+use Rattle.cert_check.specs.declared.cleared.Cleared.{Cleared}
+use Rattle.cert_check.specs.Claims.{claims_at, node_clears, opens_of, open_pairs}
+use Rattle.cert_check.specs.Clearing.{by_kind, all_cleared, both, left_open, IsNoted, cleared_at, cleared_to, AreClearedTo}
+
+-- ---- one note
+
+apart : (statement k : ℕ) → 1 ≤ statement → (statement == suc k) ≡ false → k ≡ statement - 1 → ⊥
+apart statement k l e f =
+    let is : statement ≡ suc k = omega (arith, l, f) in
+    absurd (cc (sym (eq-eqb statement (suc k) is) ∙ e))
+
+set_there : (old : List Cleared) (i k : ℕ) (cleared d : Cleared) → i ≡ k → k < length old →
+    get_or (slice_set old i (both (get_or old i d) cleared)) k all_cleared ≡ both (get_or old k all_cleared) cleared
+set_there old i k cleared d f l =
+    subst (λ j. get_or (slice_set old j (both (get_or old j d) cleared)) k all_cleared ≡ both (get_or old k all_cleared) cleared) (sym f)
+    (get_or-set_same old k (both (get_or old k d) cleared) all_cleared l ∙ ap (λ x. both x cleared) (get_or_default old k d all_cleared l))
+
+pub noted_at : (statement : ℕ) (cleared : Cleared) (old : List Cleared) (d : Cleared) → 1 ≤ statement → statement ≤ length old →
+    IsNoted statement cleared old (slice_set old (statement - 1) (both (get_or old (statement - 1) d) cleared))
+noted_at statement cleared old d l h = record {
+  count = length-set old (statement - 1) (both (get_or old (statement - 1) d) cleared);
+  each = λ k within. each k within (statement == suc k) refl;
+}
+  where
+    each : (k : ℕ) → k < length old → (b : Bool) → (statement == suc k) ≡ b →
+        get_or (slice_set old (statement - 1) (both (get_or old (statement - 1) d) cleared)) k all_cleared
+        ≡ (if b then both (get_or old k all_cleared) cleared else get_or old k all_cleared)
+    each k within true e =
+        let is : statement ≡ suc k = eqb-true statement (suc k) e in
+        set_there old (statement - 1) k cleared d (omega (arith, is)) within
+    each k within false e =
+        get_or-set_other old (statement - 1) k (both (get_or old (statement - 1) d) cleared) all_cleared (apart statement k l e)
+
+pub not_noted : (statement : ℕ) (cleared : Cleared) (old : List Cleared) → (1 ≤ statement → statement ≤ length old → ⊥) →
+    IsNoted statement cleared old old
+not_noted statement cleared old none = record { count = refl; each = λ k within. each k within (statement == suc k) refl }
+  where
+    each : (k : ℕ) → k < length old → (b : Bool) → (statement == suc k) ≡ b →
+        get_or old k all_cleared ≡ (if b then both (get_or old k all_cleared) cleared else get_or old k all_cleared)
+    each k within false e = refl
+    each k within true e =
+        let is : statement ≡ suc k = eqb-true statement (suc k) e in
+        absurd (none (omega (arith, is)) (omega (arith, is, within)))
+
+-- ---- ranges of one number more
+
+and_true : (b : Bool) → (b && true) ≡ b
+and_true true = refl
+and_true false = refl
+
+and_assoc : (a b c : Bool) → (a && (b && c)) ≡ ((a && b) && c)
+and_assoc true b c = refl
+and_assoc false b c = refl
+
+all_more : (f : ℕ → Bool) (first count j : ℕ) → first + count ≡ j →
+    list_all f (range_with_len first (suc count)) ≡ (list_all f (range_with_len first count) && f j)
+all_more f first zero j e = and_true (f first) ∙ ap f (let same : first ≡ j = omega (arith, e) in same)
+all_more f first (suc count) j e =
+    ap (λ b. f first && b) (all_more f (first + 1) count j (omega (arith, e)))
+    ∙ and_assoc (f first) (list_all f (range_with_len (first + 1) count)) (f j)
+
+flat_more : {A : Type 0} (f : ℕ → List A) (first count j : ℕ) → first + count ≡ j →
+    flat_map f (range_with_len first (suc count)) ≡ flat_map f (range_with_len first count) ++ f j
+flat_more f first zero j e = append_none (f first) ∙ ap f (let same : first ≡ j = omega (arith, e) in same)
+  where
+    append_none : {A : Type 0} (xs : List A) → xs ++ [] ≡ xs
+    append_none [] = refl
+    append_none (x ∷ xs) = ap (λ ys. x ∷ ys) (append_none xs)
+flat_more f first (suc count) j e =
+    ap (λ xs. f first ++ xs) (flat_more f (first + 1) count j (omega (arith, e)))
+    ∙ sym (append_assoc (f first) (flat_map f (range_with_len (first + 1) count)) (f j))
+
+-- ---- one more node
+
+abbrev made : Bool → Bool → Bool → Bool → Cleared
+made a b c d = record { size = a; truncation = b; zero = c; class = d }
+
+same_fields : (a b c d s t u v : Bool) → a ≡ s → b ≡ t → c ≡ u → d ≡ v → made a b c d ≡ made s t u v
+same_fields a b c d s t u v e f g h =
+    ap (λ x. made x b c d) e ∙ ap (λ x. made s x c d) f ∙ ap (λ x. made s t x d) g ∙ ap (λ x. made s t u x) h
+
+with_node : (b : Bool) (x : Cleared) (test : Kind → Bool) →
+    (if b then both x (by_kind test) else x)
+    ≡ made (x.size && (not b || test kind.Size)) (x.truncation && (not b || test kind.Truncation)) (x.zero && (not b || test kind.Zero))
+    (x.class && (not b || test kind.Class))
+with_node true x test = refl
+with_node false x test =
+    same_fields x.size x.truncation x.zero x.class _ _ _ _ (sym (and_true x.size)) (sym (and_true x.truncation)) (sym (and_true x.zero))
+    (sym (and_true x.class))
+
+module _ (p : Program) (g : Graph) (c : Certificate) where
+  one_more : (n s : ℕ) →
+      (if statement_at g (suc n) == s then both (cleared_to p g c n s) (cleared_at p g c (suc n)) else cleared_to p g c n s)
+      ≡ cleared_to p g c (suc n) s
+  one_more n s =
+      with_node (statement_at g (suc n) == s) (cleared_to p g c n s) (clears_at p g (suc n) (claims_at p g c (suc n)))
+      ∙ same_fields _ _ _ _ _ _ _ _ (more kind.Size) (more kind.Truncation) (more kind.Zero) (more kind.Class)
+    where
+      more : (fault : Kind) →
+          (list_all (node_clears p g c s fault) (range_with_len 1 n) && node_clears p g c s fault (suc n))
+          ≡ list_all (node_clears p g c s fault) (range_with_len 1 (suc n))
+      more fault = sym (all_more (node_clears p g c s fault) 1 n (suc n) (omega arith))
+
+  pub noted_more : (n statement : ℕ) (old new : List Cleared) → AreClearedTo p g c n old → statement ≡ statement_at g (suc n) →
+      IsNoted statement (cleared_at p g c (suc n)) old new → AreClearedTo p g c (suc n) new
+  noted_more n statement old new are e noted = record {
+    count = noted.count ∙ are.count;
+    each = λ k within.
+        let within_old : k < length old = subst (λ m. k < m) noted.count within in
+        noted.each k within_old
+        ∙ ap (λ x. if statement == suc k then both x (cleared_at p g c (suc n)) else x) (are.each k within_old)
+        ∙ ap (λ m. if m == suc k then both (cleared_to p g c n (suc k)) (cleared_at p g c (suc n)) else cleared_to p g c n (suc k)) e
+        ∙ one_more n (suc k);
+  }
+
+  pub none_noted : (count : ℕ) → count ≡ p.statements → AreClearedTo p g c 0 (replicate count all_cleared)
+  none_noted count e = record {
+    count = length-replicate count all_cleared ∙ e;
+    each = λ k within. get_or-replicate count k all_cleared all_cleared (subst (λ m. k < m) (length-replicate count all_cleared) within);
+  }
+
+  -- the pairs of one more statement
+  pub pairs_more : (k : ℕ) (pairs : List Open) (noted : List Cleared) (x : Cleared) → AreClearedTo p g c (length g.nodes) noted →
+      k < length noted → x ≡ get_or noted k all_cleared → pairs ≡ flat_map (opens_of p g c) (range_with_len 1 k) →
+      pairs ++ left_open x (suc k) ≡ flat_map (opens_of p g c) (range_with_len 1 (suc k))
+  pairs_more k pairs noted x are within e f =
+      ap (λ ps. ps ++ left_open x (suc k)) f
+      ∙ ap (λ y. flat_map (opens_of p g c) (range_with_len 1 k) ++ left_open y (suc k)) (e ∙ are.each k within)
+      ∙ sym (flat_more (opens_of p g c) 1 k (suc k) (omega arith))
+
+  pub all_pairs : (k : ℕ) (pairs : List Open) (noted : List Cleared) → AreClearedTo p g c (length g.nodes) noted → k ≡ length noted →
+      pairs ≡ flat_map (opens_of p g c) (range_with_len 1 k) → pairs ≡ open_pairs p g c
+  all_pairs k pairs noted are e f = f ∙ ap (λ n. flat_map (opens_of p g c) (range_with_len 1 n)) (e ∙ are.count)
+
+  -- the same with k + 1
+  pub noted_next : (n m statement : ℕ) (cleared : Cleared) (old new : List Cleared) → AreClearedTo p g c n old → m ≡ suc n →
+      statement ≡ statement_at g m → cleared ≡ cleared_at p g c m → IsNoted statement cleared old new → AreClearedTo p g c m new
+  noted_next n m statement cleared old new are f e is noted =
+      subst (λ k. AreClearedTo p g c k new) (sym f)
+      (noted_more n statement old new are (e ∙ ap (statement_at g) f)
+      (subst (λ x. IsNoted statement x old new) (is ∙ ap (cleared_at p g c) f) noted))
+
+  pub pairs_next : (k j : ℕ) (old new : List Open) (noted : List Cleared) (x d : Cleared) → AreClearedTo p g c (length g.nodes) noted →
+      j ≡ suc k → k < length noted → x ≡ get_or noted k d → old ≡ flat_map (opens_of p g c) (range_with_len 1 k) →
+      new ≡ old ++ left_open x j → new ≡ flat_map (opens_of p g c) (range_with_len 1 j)
+  pairs_next k j old new noted x d are f within e before after =
+      after ∙ ap (λ m. old ++ left_open x m) f
+      ∙ pairs_more k old noted x are within (e ∙ get_or_default noted k d all_cleared within) before
+      ∙ ap (λ m. flat_map (opens_of p g c) (range_with_len 1 m)) (sym f)
+
+-- a slice that is written back into its vector
+pub written_back : {A : Type 0} (xs items : List A) (n : ℕ) → n ≡ length xs → take n (xs ++ drop (length xs) items) ≡ xs
+written_back xs items n e = ap (λ m. take m (xs ++ drop (length xs) items)) e ∙ whole xs (drop (length xs) items)
+  where
+    whole : {A : Type 0} (xs ys : List A) → take (length xs) (xs ++ ys) ≡ xs
+    whole [] ys = refl
+    whole (x ∷ xs) ys = ap (λ zs. x ∷ zs) (whole xs ys)

@@ -1,0 +1,19 @@
+use Rattle.std.specs.Prelude.{Result, IfOk, MatchResult, Vec, Ok, Err}
+use Rattle.std.specs.declared.alloc.Global.{Global}
+use Rattle.cob_tree.specs.declared.fault.Open.{Open}
+use Rattle.cob_program.specs.Act.{Program}
+use Rattle.cob_program.specs.ActView.{plain_program}
+use Rattle.cob_graph.specs.declared.graph.Graph.{Graph}
+use Rattle.cert_text.specs.View.{Certificate, view}
+use Rattle.graph_runs.specs.Sources.{IsSourceGraph}
+use Rattle.cert_check.specs.declared.ends.CheckEnd.{CheckEnd}
+use Rattle.cert_check.specs.Checking.{Checks, CoversRuns}
+use Rattle.cert_check.proofs.Covering.{answer_covers}
+use Rattle.cert_check.proofs.LayerLaws.{layer_laws}
+use Rattle.cert_check.proofs.certificate.check.Goals as goal
+
+pub returns-clause-sound : goal.returns-clause-sound
+returns-clause-sound c =
+    let p = plain_program c.args.program.now in
+    let g = c.args.graph.now in
+    answer_covers p g (view c.args.cert.now) c.check_all.result c.requires.source (layer_laws p g c.requires.source) c.check_all.ensures

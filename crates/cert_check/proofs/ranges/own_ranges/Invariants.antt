@@ -1,0 +1,12 @@
+use Rattle.std.proofs.Common.{◌≡◌, map}
+use Rattle.std.specs.Prelude.{take}
+use Rattle.std.specs.List.{All}
+use Rattle.cell_storages.specs.Homes.{own_range}
+use Rattle.claimed_rows.specs.Gaps.{IsSmall}
+use Rattle.cert_check.proofs.ranges.own_ranges.Given as goal
+
+abbrev pub invariant-loop-cell : goal.invariant-loop-cell
+invariant-loop-cell l = record {
+  value : l.owns.items ≡ map own_range (take l.cell-index l.cells);
+  small : All IsSmall l.owns.items;
+}

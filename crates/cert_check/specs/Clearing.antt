@@ -1,0 +1,52 @@
+-- Which kinds of fault are cleared, by node and by statement.
+use Rattle.std.specs.Prelude.{◌≡◌, ℕ, suc, ◌<◌, ◌&&◌, ◌==◌, List, Bool, true, get_or, length, if◌then◌else◌}
+use Rattle.std.specs.List.{flat_map, list_all, range_with_len}
+use Rattle.cob_tree.specs.declared.fault.Kind.{Kind}
+use Rattle.cob_tree.specs.declared.fault.Kind.TheVariants as kind
+use Rattle.cob_tree.specs.declared.fault.Open.{Open}
+use Rattle.cob_program.specs.Act.{Program}
+use Rattle.cob_graph.specs.declared.graph.Graph.{Graph}
+use Rattle.cert_text.specs.View.{Certificate}
+use Rattle.cell_layer_laws.specs.Layer.{clears_at}
+use Rattle.cert_check.specs.declared.cleared.Cleared.{Cleared}
+use Rattle.cert_check.specs.Claims.{all_kinds, claims_at, node_clears, if_open}
+
+-- by kind
+abbrev pub by_kind : (Kind → Bool) → Cleared
+by_kind test = record { size = test kind.Size; truncation = test kind.Truncation; zero = test kind.Zero; class = test kind.Class }
+
+abbrev pub all_cleared : Cleared
+all_cleared = by_kind (λ fault. true)
+
+abbrev pub both : Cleared → Cleared → Cleared
+both a b = record { size = a.size && b.size; truncation = a.truncation && b.truncation; zero = a.zero && b.zero; class = a.class && b.class }
+
+abbrev pub is_in : Cleared → Kind → Bool
+is_in cleared kind.Size = cleared.size
+is_in cleared kind.Truncation = cleared.truncation
+is_in cleared kind.Zero = cleared.zero
+is_in cleared kind.Class = cleared.class
+
+-- the pairs of a statement that aren't cleared
+abbrev pub left_open : Cleared → ℕ → List Open
+left_open cleared statement = flat_map (λ fault. if_open (is_in cleared fault) statement fault) all_kinds
+
+-- what a node clears is noted at its statement
+pub record IsNoted (statement : ℕ) (cleared : Cleared) (old new : List Cleared) : Type 0 where
+  pub count : length new ≡ length old
+  pub each : (k : ℕ) → k < length old →
+      get_or new k all_cleared ≡ (if statement == suc k then both (get_or old k all_cleared) cleared else get_or old k all_cleared)
+
+module _ (p : Program) (g : Graph) (c : Certificate) where
+  -- what a node clears
+  abbrev pub cleared_at : ℕ → Cleared
+  cleared_at node = by_kind (clears_at p g node (claims_at p g c node))
+
+  -- what those of the first nodes clear that are of the statement
+  abbrev pub cleared_to : ℕ → ℕ → Cleared
+  cleared_to nodes statement = by_kind (λ fault. list_all (node_clears p g c statement fault) (range_with_len 1 nodes))
+
+  -- this is noted at each statement
+  pub record AreClearedTo (nodes : ℕ) (noted : List Cleared) : Type 0 where
+    pub count : length noted ≡ p.statements
+    pub each : (k : ℕ) → k < length noted → get_or noted k all_cleared ≡ cleared_to nodes (suc k)

@@ -1,0 +1,37 @@
+-- What the parts of a check are given.
+use Rattle.std.specs.Prelude.{◌≡◌, ◌≤◌, ℕ, List, length, ℤ}
+use Rattle.std.specs.List.{All}
+use Rattle.cob_program.specs.Act.{Program}
+use Rattle.cob_graph.specs.declared.graph.Graph.{Graph}
+use Rattle.cob_graph.specs.Graphs.{cells_of}
+use Rattle.cert_text.specs.View.{Certificate}
+use Rattle.cert_text.specs.Allowed.{IsAllowed}
+use Rattle.decimal_interval.specs.declared.bounds.Interval.{Interval}
+use Rattle.dom_laws.specs.Flow.{IsInductive}
+use Rattle.inductive_pass.specs.Leaks.{IsFirstLeak}
+use Rattle.cell_rows.specs.Rows.{cells_lattice}
+use Rattle.claimed_rows.specs.Gaps.{IsSmall}
+use Rattle.graph_runs.specs.Sources.{IsSourceGraph}
+use Rattle.cell_storages.specs.Homes.{owns}
+use Rattle.cell_layer_laws.specs.Layer.{cell_flow}
+use Rattle.cert_check.specs.Claims.{row_at}
+
+-- a source's graph, a certificate of its shape, and the own ranges of its cells
+pub record IsGiven (p : Program) (g : Graph) (c : Certificate) (ranges : List Interval) : Type 0 where
+  pub source : ∥ IsSourceGraph p g ∥₁
+  pub allowed : IsAllowed c
+  pub cells : c.cells ≡ length (cells_of p)
+  pub nodes : length c.nodes ≡ length g.nodes
+  pub few_nodes : length g.nodes ≤ 4096
+  pub own : ranges ≡ owns p
+  pub small : All IsSmall ranges
+  pub few_cells : length ranges ≤ 512
+
+module _ (p : Program) (g : Graph) (c : Certificate) (thresholds : List (List ℤ)) where
+  -- the edges keep what is claimed
+  abbrev pub ClaimsAreKept : Type 0
+  ClaimsAreKept = IsInductive (cells_lattice (owns p) thresholds) (cell_flow p g) (row_at p g c)
+
+  -- the first edge that doesn't
+  abbrev pub LeaksFirst : ℕ → Type 0
+  LeaksFirst e = IsFirstLeak (cells_lattice (owns p) thresholds) (cell_flow p g) (row_at p g c) e
