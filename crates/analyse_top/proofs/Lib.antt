@@ -1,4 +1,3 @@
-pub mod Pairs
 pub mod Words
 pub mod Found
 pub mod Endings
@@ -10,3 +9,4 @@ pub mod Tasks
 pub mod Asked
 pub mod OneAnswer
 pub mod Exact
+pub mod FaultlessRuns

@@ -1,20 +1,29 @@
 -- How a call of the program ends: its status, what it shows, and what it leaves.
 use Rattle.std.specs.Prelude.{◌≡◌, ℕ, ◌⊎◌, List, Some, Result, Err}
+use Rattle.std.specs.List.{Contains}
+use Rattle.std.specs.FinMap.{get}
 use Rattle.batch_io.specs.Faults.{Rose}
 use Rattle.batch_io.specs.FilesState.{FilesState, Contents, KeepsIds, known_bytes}
 use Rattle.batch_io.specs.SinkState.{SinkState}
-use Rattle.cob_meaning.specs.Run.{MeetsNoFault}
-use Rattle.cob_tree.specs.declared.token.Token.{Token}
-use Rattle.straight_source.specs.Source.{Source, program_of}
+use Rattle.cob_tree.specs.declared.fault.Kind.{Kind}
+use Rattle.cob_meaning.specs.declared.straight.Outcome.TheVariants.{Fault}
+use Rattle.cob_program.specs.Act.{Program}
+use Rattle.cob_runs.specs.Files.{Choice}
+use Rattle.cob_runs.specs.Runs.{IsFaultless, run}
+use Rattle.cob_runs.specs.Runs as runs
+use Rattle.cob_graph.specs.declared.graph.Graph.{Graph}
 use Rattle.cob_interp.specs.declared.ends.Ended.{Ended}
 use Rattle.cob_interp.specs.declared.ends.RunEnd.{RunEnd}
 use Rattle.cob_interp.specs.declared.ends.RunEnd.TheVariants as end
 use Rattle.cob_interp.specs.Ends.{told_files, IsEnd}
 use Rattle.cob_interp.specs.Running.{outside}
+use Rattle.alarm_report.specs.declared.alarms.Alarm.{Alarm}
+use Rattle.alarm_report.specs.Text.{report_text}
+use Rattle.run_words.specs.Words.{Run}
 use Rattle.analyse_top.specs.Text.{memory_line, read_fault_line}
-use Rattle.analyse_top.specs.Showing.{GainsFront, Shows}
-use Rattle.analyse_top.specs.Answer.{Answer, Answers, IsCheck, HoldsSource, answer_text, status_of, status_unwritten}
-use Rattle.analyse_top.specs.Runs.{Task, AsksFor, RunsTo}
+use Rattle.analyse_top.specs.Showing.{Gains, GainsFront, Shows}
+use Rattle.analyse_top.specs.Answer.{Answer, Answers, IsCheck, HoldsProgram, answer_text, status_of, status_unwritten}
+use Rattle.analyse_top.specs.Runs.{Task, HoldsTask, AsksFor, RunsTo}
 
 -- ---- the ways to end
 
@@ -106,19 +115,57 @@ pub record IsExact (call : Call) : Type 0 where
   pub answers : AnswersExactly call
   pub runs : RunsExactly call
 
--- The headline: where `check` answers 0, SOURCE is a program of the profile, its canonical tokens are those of a source
--- of the form, and whatever the number of steps, its run meets no size error, no truncation and no other fault.
+-- ---- the headline
+
+-- The file SOURCE holds a source of a program of the profile, and on all input files, for all contents that are left
+-- undefined and every number of steps, its run meets no size error, no truncation, no zero divisor and no operand that
+-- isn't numeric but where a phrase of the statement handles it.
 pub record IsClean (contents : Contents) (words : List (List ℕ)) : Type 0 where
   pub name : List ℕ
   pub certificate : List ℕ
   pub checked : IsCheck words name certificate
-  pub tokens : List Token
-  pub source : Source
-  pub held : HoldsSource contents name tokens source
-  pub safe : MeetsNoFault (program_of source)
+  pub program : Program
+  pub graph : Graph
+  pub holds : HoldsProgram contents name program graph
+  pub safe : IsFaultless program
 
+-- where `check` answers 0, SOURCE is clean
 abbrev pub CleanIsSafe : Call → Type 0
 CleanIsSafe call =
     (contents : Contents) (source certificate : List ℕ) → IsCheck call.words source certificate
     → known_bytes call.files_before ≡ Some contents → call.status ≡ 0
     → IsClean contents call.words
+
+-- an alarm names the statement and the kind of fault
+abbrev pub Names : Alarm → Kind → ℕ → Type 0
+Names alarm kind statement = (alarm.kind ≡ kind) × (alarm.statement ≡ statement)
+
+-- each fault that any run of the program meets is named by one of the alarms
+abbrev pub NameAllFaults : List Alarm → Program → Type 0
+NameAllFaults alarms p =
+    (told : runs.Contents) (first : List ℕ) (choices : List Choice) (n : ℕ) (kind : Kind) (statement : ℕ)
+    → (run p told first choices n).outcome ≡ Fault kind statement
+    → (alarm : Alarm) × Contains alarms alarm × Names alarm kind statement
+
+-- The report on a program of the profile is shown whole, and names all faults of its runs.
+pub record ReportsAllFaults (contents : Contents) (call : Call) (source : List ℕ) : Type 0 where
+  pub program : Program
+  pub graph : Graph
+  pub holds : HoldsProgram contents source program graph
+  pub alarms : List Alarm
+  pub shown : Gains call.out_before call.out_after (report_text alarms)
+  pub named : NameAllFaults alarms program
+
+-- where `check` answers 0 or 1, its report names all faults
+abbrev pub ReportsAreComplete : Call → Type 0
+ReportsAreComplete call =
+    (contents : Contents) (source certificate : List ℕ) → IsCheck call.words source certificate
+    → known_bytes call.files_before ≡ Some contents → (call.status ≡ 0) ⊎ (call.status ≡ 1)
+    → ReportsAllFaults contents call source
+
+-- The source that a call finds clean isn't run into a fault by any call.
+abbrev pub CleanRunsMeetNoFault : Type 0
+CleanRunsMeetNoFault =
+    (contents told : Contents) (words : List (List ℕ)) (clean : IsClean contents words) (r : Run) (t : Task)
+    (kind : Kind) (statement step steps : ℕ) → HoldsTask (Some told) r t → get told r.source ≡ get contents clean.name
+    → IsEnd t.program (told_files told t.paths) t.steps (Err (end.Fault kind statement step)) steps → ⊥
