@@ -10,10 +10,10 @@ use Rattle.cob_runs.specs.Runs.{IsFaultless}
 use Rattle.cob_graph.specs.declared.graph.Graph.{Graph}
 use Rattle.cob_front.specs.declared.refusal.Refusal.{Refusal}
 use Rattle.cob_front.specs.declared.refusal.Refusal.TheVariants as end
-use Rattle.cob_well_formed.specs.Sources.{SourcesCanBeRun}
 use Rattle.cert_text.specs.View.{Certificate}
 use Rattle.cert_check.specs.Claims.{open_at}
 use Rattle.cert_check.specs.Checking.{Accepts, AcceptedClaimsCoverRuns, CoversRuns}
+use Rattle.source_facts.specs.Sources.{SourcesHaveSourceGraphs}
 use Rattle.alarm_report.specs.declared.alarms.Alarm.{Alarm}
 use Rattle.alarm_report.specs.Alarms.{alarm_in, alarms_of}
 use Rattle.alarm_report.specs.Text.{report_text}
@@ -44,15 +44,15 @@ refusal_is_high (end.Limit which count) n e (inr z) = omega (arith, e, z)
 refusal_is_high end.Memory n e (inl z) = omega (arith, e, z)
 refusal_is_high end.Memory n e (inr z) = omega (arith, e, z)
 
-above_one : (n m : ℕ) → 2 ≤ m → m ≡ n → (n ≡ 0) ⊎ (n ≡ 1) → ⊥
+pub above_one : (n m : ℕ) → 2 ≤ m → m ≡ n → (n ≡ 0) ⊎ (n ≡ 1) → ⊥
 above_one n m l e (inl z) = omega (arith, l, e, z)
 above_one n m l e (inr z) = omega (arith, l, e, z)
 
-abbrev IsReport : Answer → Type 0
+abbrev pub IsReport : Answer → Type 0
 IsReport answer = (alarms : List Alarm) × (answer ≡ Report alarms)
 
 -- a status of 0 or 1 is that of a report
-low_status : (answer : Answer) (n : ℕ) → status_of answer ≡ n → (n ≡ 0) ⊎ (n ≡ 1) → IsReport answer
+pub low_status : (answer : Answer) (n : ℕ) → status_of answer ≡ n → (n ≡ 0) ⊎ (n ≡ 1) → IsReport answer
 low_status (Usage word) n e low = absurd (above_one n 4 (omega arith) e low)
 low_status (Absent name) n e low = absurd (above_one n 7 (omega arith) e low)
 low_status (Refused cause) n e low = absurd (refusal_is_high cause n e low)
@@ -63,7 +63,7 @@ low_status (CertificateMisfit what found wanted) n e low = absurd (above_one n 3
 low_status (NotInductive edge gap) n e low = absurd (above_one n 3 (omega arith) e low)
 low_status (Report alarms) n e low = (alarms, refl)
 
-never_low : (answer : Answer) (n : ℕ) → status_unwritten answer ≡ n → (n ≡ 0) ⊎ (n ≡ 1) → ⊥
+pub never_low : (answer : Answer) (n : ℕ) → status_unwritten answer ≡ n → (n ≡ 0) ⊎ (n ≡ 1) → ⊥
 never_low (Usage word) n e low = above_one n 4 (omega arith) e low
 never_low (Absent name) n e low = above_one n 7 (omega arith) e low
 never_low (Refused cause) n e low = refusal_is_high cause n e low
@@ -86,9 +86,9 @@ CheckingIsSound =
     (bytes : List ℕ) (p : Program) (g : Graph) (c : Certificate) (pairs : List Open) → IsProgramOf bytes p g
     → Accepts p g c pairs → CoversRuns p pairs
 
-pub checking_is_sound : SourcesCanBeRun → AcceptedClaimsCoverRuns → CheckingIsSound
-checking_is_sound can cover bytes p g c pairs is accepts =
-    cover p g c pairs (can bytes p is.is_source) is.is_graph accepts
+pub checking_is_sound : SourcesHaveSourceGraphs → AcceptedClaimsCoverRuns → CheckingIsSound
+checking_is_sound have cover bytes p g c pairs is accepts =
+    cover p g c pairs (have bytes p g is.is_source is.is_graph) accepts
 
 contained_alarm : (p : Program) (pairs : List Open) (pair : Open) → Contains pairs pair
     → Contains (alarms_of p pairs) (alarm_in (program_statements p) pair)

@@ -4,6 +4,8 @@ pub mod Endings
 pub mod RunEnds
 pub mod Clean
 pub mod Control
+pub mod Limits
+pub mod Numbers
 pub mod Sources
 pub mod Tasks
 pub mod Asked

@@ -13,7 +13,7 @@ use Rattle.cert_text.specs.View.{Certificate}
 use Rattle.cert_text.specs.Allowed.{IsAllowed}
 use Rattle.cert_text.specs.Text.{spelling}
 use Rattle.cert_text.specs.Texts.{IsText, RefusedBy}
-use Rattle.cert_check.specs.declared.ends.Gap.{Gap}
+use Rattle.claimed_rows.specs.declared.gap.Gap.{Gap}
 use Rattle.cert_check.specs.declared.ends.Leak.{Leak}
 use Rattle.cert_check.specs.declared.ends.Shape.{Shape}
 use Rattle.cert_check.specs.declared.ends.Shape.TheVariants as shape

@@ -14,7 +14,7 @@ use Rattle.cert_text.specs.Allowed.{IsAllowed}
 use Rattle.cert_text.specs.Text.{spelling}
 use Rattle.cert_text.specs.Texts.{RefusedBy}
 use Rattle.cert_check.specs.declared.ends.CheckEnd.TheVariants as check
-use Rattle.cert_check.specs.declared.ends.Gap.{Gap}
+use Rattle.claimed_rows.specs.declared.gap.Gap.{Gap}
 use Rattle.cert_check.specs.declared.ends.Shape.{Shape}
 use Rattle.cert_check.specs.Checking.{Accepts, Refuses}
 use Rattle.alarm_report.specs.declared.alarms.Alarm.{Alarm}

@@ -19,7 +19,7 @@ use Rattle.cob_interp.specs.Ends.{told_files, IsEnd}
 use Rattle.cob_interp.specs.Running.{outside}
 use Rattle.alarm_report.specs.declared.alarms.Alarm.{Alarm}
 use Rattle.alarm_report.specs.Text.{report_text}
-use Rattle.run_words.specs.Words.{Run}
+use Rattle.run_words.specs.Words.{Run, IsRun}
 use Rattle.analyse_top.specs.Text.{memory_line, read_fault_line}
 use Rattle.analyse_top.specs.Showing.{Gains, GainsFront, Shows}
 use Rattle.analyse_top.specs.Answer.{Answer, Answers, IsCheck, HoldsProgram, answer_text, status_of, status_unwritten}
@@ -163,9 +163,24 @@ ReportsAreComplete call =
     → known_bytes call.files_before ≡ Some contents → (call.status ≡ 0) ⊎ (call.status ≡ 1)
     → ReportsAllFaults contents call source
 
--- The source that a call finds clean isn't run into a fault by any call.
-abbrev pub CleanRunsMeetNoFault : Type 0
-CleanRunsMeetNoFault =
-    (contents told : Contents) (words : List (List ℕ)) (clean : IsClean contents words) (r : Run) (t : Task)
-    (kind : Kind) (statement step steps : ℕ) → HoldsTask (Some told) r t → get told r.source ≡ get contents clean.name
-    → IsEnd t.program (told_files told t.paths) t.steps (Err (end.Fault kind statement step)) steps → ⊥
+-- a call runs a source that was found clean, by whatever call
+pub record RunsClean (call : Call) : Type 0 where
+  pub run : Run
+  pub said : IsRun call.words run
+  pub told : Contents
+  pub known : known_bytes call.files_before ≡ Some told
+  pub contents : Contents
+  pub words : List (List ℕ)
+  pub clean : IsClean contents words
+  pub same : get told run.source ≡ get contents clean.name
+
+pub record MeetsNoFault (call : Call) (told : Contents) (r : Run) : Type 0 where
+  -- the status that tells a fault isn't the call's
+  pub status : call.status ≡ 1 → ⊥
+  -- and no end of a run that is asked for is a fault
+  pub ends : (t : Task) (kind : Kind) (statement step steps : ℕ) → HoldsTask (Some told) r t
+      → IsEnd t.program (told_files told t.paths) t.steps (Err (end.Fault kind statement step)) steps → ⊥
+
+-- A source that was found clean isn't run into a fault.
+abbrev pub CleanRunsMeetNoFault : Call → Type 0
+CleanRunsMeetNoFault call = (runs : RunsClean call) → MeetsNoFault call runs.told runs.run

@@ -13,8 +13,8 @@ use Rattle.cob_interp.specs.declared.ends.RunEnd.{RunEnd}
 use Rattle.cob_interp.specs.declared.ends.RunEnd.TheVariants as run
 use Rattle.cob_runs.specs.Files.{status_bytes}
 use Rattle.cob_tree.specs.declared.fault.Kind.{Kind}
-use Rattle.cert_check.specs.declared.ends.Gap.{Gap}
-use Rattle.cert_check.specs.declared.ends.Gap.TheVariants as gap
+use Rattle.claimed_rows.specs.declared.gap.Gap.{Gap}
+use Rattle.claimed_rows.specs.declared.gap.Gap.TheVariants as gap
 use Rattle.cert_check.specs.declared.ends.Shape.{Shape}
 use Rattle.cert_check.specs.declared.ends.Shape.TheVariants as shape
 use Rattle.alarm_report.specs.Text.{line_end, kind_text}

@@ -16,7 +16,7 @@ use cert_check::{CheckEnd, check as check_claims};
 use cert_text::{Cert, CertEnd, read as read_certificate};
 use cob_front::Refusal;
 use cob_lines::SOURCE_LIMIT;
-use cob_well_formed::sources_can_be_run;
+use source_facts::{sources_have_source_graphs, statements_are_counted};
 use std::alloc::Global;
 
 const CERTIFICATE_LIMIT: usize = 67_108_864;
@@ -117,7 +117,8 @@ fn check_plain<'a>(alloc: Global, laid: &Laid, cert: &Cert) -> Result<Answer<'a>
         (λ answer. AnswersCertificate (plain_program laid.now.program) laid.now.graph (view cert.now) (plain_answer answer))
         (λ stop. stop ≡ Stop.Memory) }
 {
-    sources_can_be_run();
+    sources_have_source_graphs();
+    statements_are_counted();
     match check_claims(alloc, &laid.program, &laid.graph, cert) {
         Ok(pairs) => Ok(Answer::Report(alarms_of(alloc, &laid.program, &pairs)?)),
         Err(

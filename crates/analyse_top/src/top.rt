@@ -17,8 +17,8 @@ use cert_text::{no_bad_line, one_place, one_spelling};
 use cob_front::one_answer;
 use cob_graph_laws::graphs_are_one;
 use cob_interp::one_end;
-use cob_well_formed::sources_can_be_run;
 use run_words::{RunWords, is_plain, one_reading, run_words};
+use source_facts::sources_have_source_graphs;
 use std::alloc::Global;
 
 /// Runs the command that the words name, without the program's own name. It shows its report, the text that a run
@@ -37,7 +37,8 @@ pub fn cobsound<F: Files, O: Sink>(
         (F.state files.old) (F.state files.new) (O.state out.old) (O.state out.new) result) }
     ensures reports { ReportsAreComplete (call (texts words.now.items)
         (F.state files.old) (F.state files.new) (O.state out.old) (O.state out.new) result) }
-    ensures runs { CleanRunsMeetNoFault }
+    ensures runs { CleanRunsMeetNoFault (call (texts words.now.items)
+        (F.state files.old) (F.state files.new) (O.state out.old) (O.state out.new) result) }
 {
     one_answer();
     one_reading();
@@ -46,7 +47,7 @@ pub fn cobsound<F: Files, O: Sink>(
     one_spelling();
     one_place();
     no_bad_line();
-    sources_can_be_run();
+    sources_have_source_graphs();
     accepted_claims_cover_runs();
     conclude(alloc, words.as_slice(), files, out)
 }

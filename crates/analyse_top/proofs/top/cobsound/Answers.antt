@@ -20,12 +20,12 @@ returns g c =
       one_place = c.one_place.ensures;
       no_bad_line = c.no_bad_line.ensures;
     } in
-    let sound = checking_is_sound c.sources_can_be_run.ensures c.accepted_claims_cover_runs.ensures in
+    let sound = checking_is_sound c.sources_have_source_graphs.ensures c.accepted_claims_cover_runs.ensures in
     record {
       concludes = concludes;
       exact = is_exact c.one_answer.ensures c.one_reading.ensures c.graphs_are_one.ensures.graph c.one_end.ensures
           texts_apart this concludes;
       clean = clean_is_safe sound this concludes;
       reports = reports_are_complete sound this concludes;
-      runs = clean_runs_meet_no_fault c.one_answer.ensures;
+      runs = clean_runs_meet_no_fault c.one_answer.ensures c.one_reading.ensures this concludes;
     }
