@@ -21,7 +21,7 @@ use Rattle.cob_program.specs.Statements.{program_statements}
 use Rattle.analyse_top.specs.Profile.{IsProgramOf}
 use Rattle.analyse_top.specs.Answer.{Answer, Usage, Absent, Refused, NotYet, CertificateLong, CertificateBad, CertificateMisfit, NotInductive, Report, Answers, AnswersProgram, HoldsProgram, IsCheck, answer_text, refusal_status, status_of, status_unwritten}
 use Rattle.analyse_top.specs.Showing.{Gains}
-use Rattle.analyse_top.specs.Conclusion.{Call, Concludes, CleanIsSafe, IsClean, EndsBy, EndsWithoutRun, NameAllFaults, ReportsAllFaults, ReportsAreComplete}
+use Rattle.analyse_top.specs.Conclusion.{Call, Concludes, IsExact, CleanIsSafe, IsClean, EndsBy, EndsWithoutRun, NameAllFaults, ReportsAllFaults, ReportsAreComplete, IsAccepted, AcceptsExactly, report_on}
 use Rattle.analyse_top.proofs.Words.{check_or_run, one_check}
 
 -- ---- statuses
@@ -104,17 +104,25 @@ none_contained x (k, l, e) = omega (arith, l)
 module _ (sound : CheckingIsSound) (contents : Contents) (source certificate : List ℕ) where
   -- a report on a program names all its faults
   pub record Reported (alarms : List Alarm) : Type 0 where
-    pub program : Program
-    pub graph : Graph
-    pub holds : HoldsProgram contents source program graph
-    pub named : NameAllFaults alarms program
+    pub pairs : List Open
+    pub accepted : IsAccepted contents source certificate pairs
+    pub alarms_are : alarms ≡ alarms_of accepted.program pairs
+    pub named : NameAllFaults alarms accepted.program
 
   reported_by : (alarms : List Alarm) (p : Program) (g : Graph) → HoldsProgram contents source p g
       → AnswersProgram contents certificate p g (Report alarms) → Reported alarms
   reported_by alarms p g holds (c, held, (none, (pairs, accepts, are))) = record {
-    program = p;
-    graph = g;
-    holds = holds;
+    pairs = pairs;
+    accepted = record {
+      program = p;
+      graph = g;
+      claims = c;
+      holds = holds;
+      held = held;
+      plain = none;
+      accepts = accepts;
+    };
+    alarms_are = are;
     named = λ told first choices n kind statement fault.
         let there = sound holds.bytes p g c pairs holds.is_program accepts told first choices n kind statement fault in (
           alarm_in (program_statements p) (open_at statement kind),
@@ -186,20 +194,35 @@ module _ (sound : CheckingIsSound) (call : Call) (concludes : Concludes call) wh
         name = source;
         certificate = certificate;
         checked = is;
-        program = w.reported_.program;
-        graph = w.reported_.graph;
-        holds = w.reported_.holds;
-        safe = no_fault_left w.alarms w.reported_.program (no_alarm w.alarms (w.status ∙ at_zero)) w.reported_.named;
+        program = w.reported_.accepted.program;
+        graph = w.reported_.accepted.graph;
+        holds = w.reported_.accepted.holds;
+        safe = no_fault_left w.alarms w.reported_.accepted.program (no_alarm w.alarms (w.status ∙ at_zero)) w.reported_.named;
       }
 
   pub reports_are_complete : ReportsAreComplete call
   reports_are_complete contents source certificate is known low =
       let w = shown_report sound contents source certificate call is known low concludes in
       record {
-        program = w.reported_.program;
-        graph = w.reported_.graph;
-        holds = w.reported_.holds;
+        program = w.reported_.accepted.program;
+        graph = w.reported_.accepted.graph;
+        holds = w.reported_.accepted.holds;
         alarms = w.alarms;
         shown = w.shown;
         named = w.reported_.named;
       }
+
+  given : (contents : Contents) (source certificate : List ℕ) (pairs : List Open)
+      → IsCheck call.words source certificate → (a : IsAccepted contents source certificate pairs)
+      → Answers (Some contents) call.words (report_on a.program pairs)
+  given contents source certificate pairs is a =
+      inr (inl (source, certificate, is, inr (a.program, a.graph, a.holds, (a.claims, a.held, (a.plain, (pairs, a.accepts, refl))))))
+
+  pub accepts_exactly : IsExact call → AcceptsExactly call
+  accepts_exactly exact contents source certificate is known = record {
+    only = λ low.
+        let w = shown_report sound contents source certificate call is known low concludes in
+        (w.reported_.pairs, w.reported_.accepted, ap (λ (xs : List Alarm). status_of (Report xs)) (sym w.reported_.alarms_are) ∙ w.status);
+    always = λ pairs a.
+        exact.answers contents (report_on a.program pairs) known (given contents source certificate pairs is a);
+  }

@@ -6,6 +6,7 @@ use Rattle.batch_io.specs.Faults.{Rose}
 use Rattle.batch_io.specs.FilesState.{FilesState, Contents, KeepsIds, known_bytes}
 use Rattle.batch_io.specs.SinkState.{SinkState}
 use Rattle.cob_tree.specs.declared.fault.Kind.{Kind}
+use Rattle.cob_tree.specs.declared.fault.Open.{Open}
 use Rattle.cob_meaning.specs.declared.straight.Outcome.TheVariants.{Fault}
 use Rattle.cob_program.specs.Act.{Program}
 use Rattle.cob_runs.specs.Files.{Choice}
@@ -18,11 +19,14 @@ use Rattle.cob_interp.specs.declared.ends.RunEnd.TheVariants as end
 use Rattle.cob_interp.specs.Ends.{told_files, IsEnd}
 use Rattle.cob_interp.specs.Running.{outside}
 use Rattle.alarm_report.specs.declared.alarms.Alarm.{Alarm}
+use Rattle.alarm_report.specs.Alarms.{alarms_of}
 use Rattle.alarm_report.specs.Text.{report_text}
+use Rattle.cert_text.specs.View.{Certificate}
+use Rattle.cert_check.specs.Checking.{Accepts}
 use Rattle.run_words.specs.Words.{Run, IsRun}
 use Rattle.analyse_top.specs.Text.{memory_line, read_fault_line}
 use Rattle.analyse_top.specs.Showing.{Gains, GainsFront, Shows}
-use Rattle.analyse_top.specs.Answer.{Answer, Answers, IsCheck, HoldsProgram, answer_text, status_of, status_unwritten}
+use Rattle.analyse_top.specs.Answer.{Answer, Report, Answers, IsCheck, HoldsProgram, HoldsCertificate, answer_text, status_of, status_unwritten}
 use Rattle.analyse_top.specs.Runs.{Task, HoldsTask, AsksFor, RunsTo}
 
 -- ---- the ways to end
@@ -162,6 +166,39 @@ ReportsAreComplete call =
     (contents : Contents) (source certificate : List ℕ) → IsCheck call.words source certificate
     → known_bytes call.files_before ≡ Some contents → (call.status ≡ 0) ⊎ (call.status ≡ 1)
     → ReportsAllFaults contents call source
+
+-- ---- when `check` answers 0 or 1
+
+-- SOURCE is of the profile, and CERT is a certificate of its program, within the limit and without packs, which is
+-- inductive and leaves these pairs open.
+pub record IsAccepted (contents : Contents) (source certificate : List ℕ) (pairs : List Open) : Type 0 where
+  pub program : Program
+  pub graph : Graph
+  pub claims : Certificate
+  pub holds : HoldsProgram contents source program graph
+  pub held : HoldsCertificate contents certificate claims
+  pub plain : claims.packs ≡ []
+  pub accepts : Accepts program graph claims pairs
+
+-- their report: `clean` with status 0 where there are none, else the alarms with status 1
+abbrev pub report_on : Program → List Open → Answer
+report_on p pairs = Report (alarms_of p pairs)
+
+pub record AnswersWhereAccepted (call : Call) (contents : Contents) (source certificate : List ℕ) : Type 0 where
+  -- a status of 0 or 1 is that of a report on what is accepted
+  pub only : (call.status ≡ 0) ⊎ (call.status ≡ 1)
+      → (pairs : List Open) × (a : IsAccepted contents source certificate pairs)
+      × (status_of (report_on a.program pairs) ≡ call.status)
+  -- which is given wherever something is, unless a read failed or memory ran out
+  pub always : (pairs : List Open) (a : IsAccepted contents source certificate pairs)
+      → EndsBy call (report_on a.program pairs) ⊎ EndsByReadFault call ⊎ EndsByMemory call
+
+abbrev pub AcceptsExactly : Call → Type 0
+AcceptsExactly call =
+    (contents : Contents) (source certificate : List ℕ) → IsCheck call.words source certificate
+    → known_bytes call.files_before ≡ Some contents → AnswersWhereAccepted call contents source certificate
+
+-- ---- runs of what is clean
 
 -- a call runs a source that was found clean, by whatever call
 pub record RunsClean (call : Call) : Type 0 where

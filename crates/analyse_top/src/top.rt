@@ -3,7 +3,7 @@ ghost use Rattle.std.specs.Prelude.{◌≡◌, ℕ, List, IfOk};
 ghost use Rattle.batch_io.specs.FilesState.{known_bytes};
 ghost use Rattle.run_words.specs.Words.{IsRun, Run, plain_run, texts};
 ghost use Rattle.analyse_top.specs.Answer.{Answers};
-ghost use Rattle.analyse_top.specs.Conclusion.{Concludes, IsExact, CleanIsSafe, CleanRunsMeetNoFault, ReportsAreComplete, call};
+ghost use Rattle.analyse_top.specs.Conclusion.{Concludes, IsExact, AcceptsExactly, CleanIsSafe, CleanRunsMeetNoFault, ReportsAreComplete, call};
 ghost use Rattle.analyse_top.specs.Steps.{Reads, stopped_by_fault};
 ghost use Rattle.analyse_top.specs.View.{plain_answer};
 
@@ -36,6 +36,8 @@ pub fn cobsound<F: Files, O: Sink>(
     ensures clean { CleanIsSafe (call (texts words.now.items)
         (F.state files.old) (F.state files.new) (O.state out.old) (O.state out.new) result) }
     ensures reports { ReportsAreComplete (call (texts words.now.items)
+        (F.state files.old) (F.state files.new) (O.state out.old) (O.state out.new) result) }
+    ensures accepts { AcceptsExactly (call (texts words.now.items)
         (F.state files.old) (F.state files.new) (O.state out.old) (O.state out.new) result) }
     ensures runs { CleanRunsMeetNoFault (call (texts words.now.items)
         (F.state files.old) (F.state files.new) (O.state out.old) (O.state out.new) result) }
