@@ -17,7 +17,7 @@ use Rattle.cob_front.specs.Control.{IsControlCause}
 use Rattle.analyse_top.proofs.Control.{Turn, first, second, third, fourth, rule_of, turn_of}
 
 at_most : (n m : ℕ) → (m < n → ⊥) → n ≤ m
-at_most n m h = elim (cases_lt m n) [ | inl l ↦ absurd (h l) | inr l ↦ l ]
+at_most n m h = elim (cases_lt m n) [ inl l ↦ absurd (h l) | inr l ↦ l ]
 
 module _ (p : Program) (none : (cause : Refusal) → IsControlCause p cause → ⊥) where
   -- ---- no rule is broken, since none is broken first

@@ -14,7 +14,7 @@ pub check-requires-clause-source : goal.check-requires-clause-source
 check-requires-clause-source c =
     let is = c.requires.source.1 in
     ∣ c.sources_have_source_graphs.ensures c.requires.source.0 (plain_program c.args.laid.now.program)
-      c.args.laid.now.graph is.is_source is.is_graph ∣₁
+    c.args.laid.now.graph is.is_source is.is_graph ∣₁
 
 pub check-requires-clause-limits : goal.check-requires-clause-limits
 check-requires-clause-limits c =
