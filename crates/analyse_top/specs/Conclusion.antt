@@ -122,8 +122,8 @@ pub record IsExact (call : Call) : Type 0 where
 -- ---- the headline
 
 -- The file SOURCE holds a source of a program of the profile, and on all input files, for all contents that are left
--- undefined and every number of steps, its run meets no size error, no truncation, no zero divisor and no operand that
--- isn't numeric but where a phrase of the statement handles it.
+-- undefined and every number of steps, its run meets no size error and no zero divisor that no phrase of the statement
+-- handles, no truncation and no operand that isn't numeric.
 pub record IsClean (contents : Contents) (words : List (List ℕ)) : Type 0 where
   pub name : List ℕ
   pub certificate : List ℕ
