@@ -1,5 +1,5 @@
 -- A source that is found clean isn't run into a fault.
-use Rattle.std.proofs.Common.{◌≡◌, ℕ, Bool, true, false, List, [], Option, Some, Result, Ok, Err, ◌⊎◌, inl, inr, refl, sym, ap, ◌∙◌, subst, arith}
+use Rattle.std.proofs.Common.{◌≡◌, ℕ, Bool, true, false, List, [], Option, Some, Result, Ok, Err, ◌⊎◌, inl, inr, refl, sym, ◌∙◌, subst, arith}
 use Rattle.std.specs.FinMap.{get}
 use Rattle.std.proofs.lemmas.Option.{same_Some}
 use Rattle.batch_io.specs.FilesState.{Contents, known_bytes}
@@ -18,10 +18,10 @@ use Rattle.cob_interp.specs.Running.{outside}
 use Rattle.alarm_report.specs.declared.alarms.Alarm.{Alarm}
 use Rattle.run_words.specs.Words.{Run, OneReading}
 use Rattle.analyse_top.specs.Runs.{Task, HoldsTask, AsksFor, TellsEnd, run_status}
-use Rattle.analyse_top.specs.Answer.{Answer, Answers, AnswersRun, Report, status_of, status_unwritten}
+use Rattle.analyse_top.specs.Answer.{Answer, Answers, Report}
 use Rattle.analyse_top.specs.Conclusion.{Call, Concludes, IsClean, EndsBy, EndsByRun, EndsWithoutRun, RunsClean, MeetsNoFault, CleanRunsMeetNoFault}
 use Rattle.analyse_top.proofs.Clean.{above_one, low_status, never_low}
-use Rattle.analyse_top.proofs.RunEnds.{IsRefusal, EndsSomewhere, refused_or_ends}
+use Rattle.analyse_top.proofs.RunEnds.{refused_or_ends}
 use Rattle.analyse_top.proofs.Words.{check_or_run}
 
 -- ---- a status of 1 tells a fault
@@ -71,9 +71,9 @@ module _ (law : (bytes : List ℕ) → OneAnswer bytes) where
 
   module _ (reading : OneReading) (call : Call) (runs : RunsClean call) (one : call.status ≡ 1) where
     no_report : (alarms : List Alarm) → Answers (Some runs.told) call.words (Report alarms) → ⊥
-    no_report alarms (inl (none, usage)) = none.no_run runs.run runs.said
+    no_report alarms (inl (none, usage)) = none.no_run runs.asked runs.said
     no_report alarms (inr (inl (name, certificate, is, answers))) =
-        check_or_run call.words name certificate runs.run is runs.said
+        check_or_run call.words name certificate runs.asked is runs.said
     no_report alarms (inr (inr (r, said, answers))) = answers
 
     by_answer : (answer : Answer) → EndsBy call answer → ⊥
@@ -102,12 +102,12 @@ module _ (law : (bytes : List ℕ) → OneAnswer bytes) where
         let before = outside call.files_before call.out_before in
         let after = outside call.files_after ends.middle in
         let asked = subst (λ (k : Option Contents). AsksFor k call.words t) runs.known asks in
-        let holds = subst (λ (r : Run). HoldsTask (Some runs.told) r t) (reading call.words asked.run runs.run asked.said runs.said)
+        let holds = subst (λ (r : Run). HoldsTask (Some runs.told) r t) (reading call.words asked.run runs.asked asked.said runs.said)
         asked.holds in
         elim (refused_or_ends t.program t.graph t.paths t.steps before after runs.told runs.known result ends.runs) [
           | inl refusal ↦ no_refusal result fault refusal
           | inr (n, is_end) ↦
-              no_fault runs.contents runs.told runs.words runs.clean runs.run t fault.0 fault.1 fault.2 n runs.same holds
+              no_fault runs.contents runs.told runs.words runs.clean runs.asked t fault.0 fault.1 fault.2 n runs.same holds
               (subst (λ (x : Result Ended RunEnd). IsEnd t.program (told_files runs.told t.paths) t.steps x n) fault.3 is_end)
         ]
 
@@ -121,5 +121,5 @@ module _ (law : (bytes : List ℕ) → OneAnswer bytes) where
   clean_runs_meet_no_fault reading call concludes runs = record {
     status = λ one. not_one reading call runs one concludes;
     ends = λ t kind statement step steps.
-        no_fault runs.contents runs.told runs.words runs.clean runs.run t kind statement step steps runs.same;
+        no_fault runs.contents runs.told runs.words runs.clean runs.asked t kind statement step steps runs.same;
   }

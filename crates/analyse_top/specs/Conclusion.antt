@@ -1,5 +1,5 @@
 -- How a call of the program ends: its status, what it shows, and what it leaves.
-use Rattle.std.specs.Prelude.{◌≡◌, ℕ, ◌⊎◌, List, Some, Result, Err}
+use Rattle.std.specs.Prelude.{◌≡◌, ℕ, ◌⊎◌, List, [], Some, Result, Err}
 use Rattle.std.specs.List.{Contains}
 use Rattle.std.specs.FinMap.{get}
 use Rattle.batch_io.specs.Faults.{Rose}
@@ -202,14 +202,14 @@ AcceptsExactly call =
 
 -- a call runs a source that was found clean, by whatever call
 pub record RunsClean (call : Call) : Type 0 where
-  pub run : Run
-  pub said : IsRun call.words run
+  pub asked : Run
+  pub said : IsRun call.words asked
   pub told : Contents
   pub known : known_bytes call.files_before ≡ Some told
   pub contents : Contents
   pub words : List (List ℕ)
   pub clean : IsClean contents words
-  pub same : get told run.source ≡ get contents clean.name
+  pub same : get told asked.source ≡ get contents clean.name
 
 pub record MeetsNoFault (call : Call) (told : Contents) (r : Run) : Type 0 where
   -- the status that tells a fault isn't the call's
@@ -220,4 +220,4 @@ pub record MeetsNoFault (call : Call) (told : Contents) (r : Run) : Type 0 where
 
 -- A source that was found clean isn't run into a fault.
 abbrev pub CleanRunsMeetNoFault : Call → Type 0
-CleanRunsMeetNoFault call = (runs : RunsClean call) → MeetsNoFault call runs.told runs.run
+CleanRunsMeetNoFault call = (r : RunsClean call) → MeetsNoFault call r.told r.asked
