@@ -44,7 +44,7 @@ refusal_is_high (end.Limit which count) n e (inr z) = omega (arith, e, z)
 refusal_is_high end.Memory n e (inl z) = omega (arith, e, z)
 refusal_is_high end.Memory n e (inr z) = omega (arith, e, z)
 
-pub above_one : (n m : ℕ) → 2 ≤ m → m ≡ n → (n ≡ 0) ⊎ (n ≡ 1) → ⊥
+above_one : (n m : ℕ) → 2 ≤ m → m ≡ n → (n ≡ 0) ⊎ (n ≡ 1) → ⊥
 above_one n m l e (inl z) = omega (arith, l, e, z)
 above_one n m l e (inr z) = omega (arith, l, e, z)
 

@@ -19,8 +19,8 @@ use Rattle.alarm_report.specs.declared.alarms.Alarm.{Alarm}
 use Rattle.run_words.specs.Words.{Run, OneReading}
 use Rattle.analyse_top.specs.Runs.{Task, HoldsTask, AsksFor, TellsEnd, run_status}
 use Rattle.analyse_top.specs.Answer.{Answer, Answers, Report}
-use Rattle.analyse_top.specs.Conclusion.{Call, Concludes, IsClean, EndsBy, EndsByRun, EndsWithoutRun, RunsClean, MeetsNoFault, CleanRunsMeetNoFault}
-use Rattle.analyse_top.proofs.Clean.{above_one, low_status, never_low}
+use Rattle.analyse_top.specs.Conclusion.{Call, Concludes, IsClean, EndsBy, EndsByRun, EndsWithoutRun, RunsClean, CleanRunsMeetNoFault}
+use Rattle.analyse_top.proofs.Clean.{low_status, never_low}
 use Rattle.analyse_top.proofs.RunEnds.{refused_or_ends}
 use Rattle.analyse_top.proofs.Words.{check_or_run}
 

@@ -1,4 +1,4 @@
-use Rattle.std.proofs.Common.{◌∙◌, List, ap, length, subst, sym}
+use Rattle.std.proofs.Common.{◌∙◌, List, ap, subst, sym}
 use Rattle.std.specs.Prelude.{All}
 use Rattle.cob_tree.specs.declared.fault.Open.{Open}
 use Rattle.cob_program.specs.ActView.{plain_program}
