@@ -20,10 +20,12 @@ def checked(name, source, certificate, status, out):
 
 
 def certified():
-    """They were worked out for sources of the straight-line form alone; changed.jsonl has those whose source is
-    refused before its form is looked at, with the reason. Those of certified_by_rule.jsonl were worked out by hand."""
+    """Those of checked.jsonl are of the whole language. Those of thin.jsonl and straight.jsonl were worked out for
+    programs without branches, read by a grammar of their own, as their certificates were; changed.jsonl has those
+    that the whole language answers otherwise, with the reason. Those of certified_by_rule.jsonl were worked out by
+    hand."""
     changed = {case["case"]: case for _, case in cases_of("changed.jsonl")}
-    for file in ("thin.jsonl", "straight.jsonl"):
+    for file in ("checked.jsonl", "thin.jsonl", "straight.jsonl"):
         for name, case in cases_of(file):
             wanted = changed.get(name, case)
             yield checked(name, case["source"], case["certificate"], wanted["status"], wanted["out"])

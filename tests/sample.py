@@ -1,4 +1,4 @@
-"""Cases around the sample of `check`, worked out from the rules by hand."""
+"""Cases around the samples of `check`, worked out from the rules by hand."""
 
 import itertools
 
@@ -24,9 +24,9 @@ def changed_certificates():
     for length in range(len(CERTIFICATE)):
         front = CERTIFICATE[:length]
         line = front.count("\n") + 1
-        yield checked(f"cut after {length}", SAMPLE, front, 2, f"E20 line {line}\n")
+        yield checked(f"cut after {length}", SAMPLE, front, 3, f"E12 line {line}\n")
         changed = front + "x" + CERTIFICATE[length + 1 :]
-        yield checked(f"x at {length}", SAMPLE, changed, 2, f"E20 line {line}\n")
+        yield checked(f"x at {length}", SAMPLE, changed, 3, f"E12 line {line}\n")
 
 
 def written_otherwise():
@@ -46,6 +46,10 @@ def written_otherwise():
         "a continued name": SAMPLE.replace("77 N", "77 TOTAL").replace("TO N", "TO TO\n      -    TAL"),
         "a program's name": SAMPLE.replace("T.", "PAYROLL-2.", 1),
         "words that are dropped": SAMPLE.replace("PIC 9(3) VALUE", "PICTURE IS 9(3), VALUE IS"),
+        "a signed VALUE": SAMPLE.replace("998", "+998"),
+        "a count with a leading zero": SAMPLE.replace("9(3)", "9(03)"),
+        "another level": SAMPLE.replace("77", "01"),
+        "no point between statements": SAMPLE.replace("TO N.", "TO N"),
     }
     for name, source in clean.items():
         yield checked(name, source, CERTIFICATE, 0, "clean\n")
@@ -56,7 +60,7 @@ def written_otherwise():
 
 
 def refused():
-    """Sources of another form, or of none."""
+    """Sources that aren't of the profile."""
     long = "ADD 1234567890123456789"
     entry = "       77 N PIC 9(3) VALUE 998.\n"
     bad = SAMPLE.replace("ADD 1", "ADD -A")
@@ -65,16 +69,8 @@ def refused():
         "a reserved word as program": (SAMPLE.replace("T.", "PROGRAM.", 1), "E8 line 2"),
         "an undeclared name": (SAMPLE.replace("TO N.", "TO\n       M."), "E9 Q1 line 7"),
         "a name declared twice": (SAMPLE.replace(entry, "       77 n PIC 9(1) VALUE 0.\n" + entry), "E9 Q1 line 8"),
-        "a signed VALUE": (SAMPLE.replace("998", "+998"), "E20 line 5"),
         "a VALUE with a point": (SAMPLE.replace("998", "99.8"), "E9 L5 line 5"),
         "a VALUE too large": (SAMPLE.replace("VALUE 998", "VALUE\n       1000"), "E9 L5 line 5"),
-        "a count with a leading zero": (SAMPLE.replace("9(3)", "9(03)"), "E20 line 5"),
-        "another level": (SAMPLE.replace("77", "01"), "E20 line 5"),
-        "another statement": (SAMPLE.replace("ADD 1 TO N", "CONTINUE"), "E20 line 7"),
-        "no point": (SAMPLE.replace("TO N.", "TO N"), "E20 line 8"),
-        "a statement behind STOP RUN": (SAMPLE + "\n       STOP RUN.\n", "E20 line 10"),
-        "nothing behind": (SAMPLE.replace("       STOP RUN.\n", "\n      * nothing\n"), "E20 line 7"),
-        "no item": (SAMPLE.replace(entry, "").replace("ADD 1 TO N", "CONTINUE"), "E20 line 5"),
         "no point at the end": (SAMPLE.replace("RUN.", "RUN"), "E8 line 8"),
         "an empty source": ("", "E8 line 1"),
         "comments alone": ("\n      * nothing\n", "E8 line 1"),
@@ -89,11 +85,40 @@ def refused():
     }
     for name, (source, line) in lines.items():
         yield checked(name, source, CERTIFICATE, 2, line + "\n")
-        if not line.startswith("E20"):
-            yield Case(f"run, {name}", ["run", "S"], {"S": source}, 2, line + "\n")
+        yield Case(f"run, {name}", ["run", "S"], {"S": source}, 2, line + "\n")
+
+
+def of_another_shape():
+    """Programs with other cells or nodes than the certificate is for, and one whose nodes go elsewhere."""
+    entry = "       77 N PIC 9(3) VALUE 998.\n"
     items = "".join(f"       77 {letter}-1 PIC 9(1) VALUE 1.\n" for letter in LETTERS)
-    many = SAMPLE.replace("       77 N", items + "       77 N")
-    yield checked("27 items", many, CERTIFICATE, 2, "E20 line 31\n")
+    idle = SAMPLE.replace("ADD 1 TO N", "CONTINUE")
+    lines = {
+        "27 items": (SAMPLE.replace("       77 N", items + "       77 N"), "E13 cells found 1 wanted 27"),
+        "no item": (idle.replace(entry, ""), "E13 cells found 1 wanted 0"),
+        "a statement behind STOP RUN": (SAMPLE + "\n       STOP RUN.\n", "E13 nodes found 3 wanted 4"),
+        "no STOP RUN": (SAMPLE.replace("       STOP RUN.\n", "\n      * nothing\n"), "E13 nodes found 3 wanted 2"),
+        "another statement": (idle, "E14 layer 1 edge 1 cell 1 low reached 998 claimed 999"),
+    }
+    for name, (source, line) in lines.items():
+        yield checked(name, source, CERTIFICATE, 3, line + "\n")
+
+
+PAYROLL = (ROOT / "samples/payroll.cob").read_text("latin-1")
+PAYROLL_CERTIFICATE = (ROOT / "samples/payroll.cert").read_text("latin-1")
+
+# the statements of the payroll that ask for a number, by their numbers and lines
+ASKING = {25: 88, 28: 92, 29: 93, 30: 96, 31: 98, 34: 102, 35: 103, 36: 104, 38: 106, 42: 113, 45: 120, 48: 125}
+
+
+def of_payroll():
+    """The payroll with its certificate, and with one that claims nothing: then each statement that asks for a number
+    is open."""
+    yield checked("payroll", PAYROLL, PAYROLL_CERTIFICATE, 0, "clean\n")
+    nodes = "".join(f"node {number}\n" for number in range(1, 165))
+    bare = f"COBSOUND 1\ncells 15\nnodes 164\npacks 0\n{nodes}end\n"
+    alarms = "".join(f"CLASS statement {number} line {line}\n" for number, line in ASKING.items())
+    yield checked("payroll, nothing claimed", PAYROLL, bare, 1, f"{alarms}alarms {len(ASKING)}\n")
 
 
 def words():
@@ -117,4 +142,5 @@ def words():
 
 
 def checks():
-    return checks_of(itertools.chain(changed_certificates(), written_otherwise(), refused(), words()))
+    kinds = (changed_certificates, written_otherwise, refused, of_another_shape, of_payroll, words)
+    return checks_of(itertools.chain.from_iterable(kind() for kind in kinds))

@@ -14,7 +14,7 @@ use Rattle.run_words.specs.Words.{Run, OneReading}
 use Rattle.run_words.specs.Paths.{paths_of}
 use Rattle.analyse_top.specs.Profile.{IsOfProfile, IsProfileCause}
 use Rattle.analyse_top.specs.Runs.{Task, task, Makes, HoldsTask, AsksFor, BlamesWord}
-use Rattle.analyse_top.specs.Answer.{Answer, Usage, Absent, Refused, NotYet, CertificateLong, NotInductive, Report, Answers, AnswersRun}
+use Rattle.analyse_top.specs.Answer.{Answer, Usage, Absent, Refused, NotYet, CertificateLong, CertificateBad, CertificateMisfit, NotInductive, Report, Answers, AnswersRun}
 use Rattle.analyse_top.proofs.Found.{held_bytes}
 use Rattle.analyse_top.proofs.Sources.{one_cause, none_in_profile}
 use Rattle.analyse_top.proofs.Words.{check_or_run}
@@ -32,8 +32,7 @@ module _ (r : Run) where
   ComesTo bytes (asked t) = Makes bytes r t
 
   profile_of : (bytes : List ℕ) (t : Task) → Makes bytes r t → IsOfProfile bytes
-  profile_of bytes t h =
-      record { program = t.program; is_source = h.is_source; graph = t.graph; is_graph = h.is_graph; within = h.within }
+  profile_of bytes t h = record { program = t.program; graph = t.graph; is_program = h.is_program }
 
   module _ (law : (bytes : List ℕ) → OneAnswer bytes) (graphs : OneGraph) where
     -- the words on files come to the same for each program of the bytes
@@ -44,22 +43,22 @@ module _ (r : Run) where
     one_word : (bytes : List ℕ) (v w : List ℕ) → BlamesWord bytes r.names v → BlamesWord bytes r.names w → v ≡ w
     one_word bytes v w h k =
         let same =
-        one_pathing bytes h.profile.program k.profile.program h.profile.is_source k.profile.is_source in
+        one_pathing bytes h.profile.program k.profile.program h.profile.is_program.is_source k.profile.is_program.is_source in
         let e = sym h.blamed ∙ same ∙ k.blamed in
         cc
 
     word_or_task : (bytes : List ℕ) (w : List ℕ) (t : Task) → BlamesWord bytes r.names w → Makes bytes r t → ⊥
     word_or_task bytes w t h k =
-        let same = one_pathing bytes h.profile.program t.program h.profile.is_source k.is_source in
+        let same = one_pathing bytes h.profile.program t.program h.profile.is_program.is_source k.is_program.is_source in
         let e = sym h.blamed ∙ same ∙ k.paths_are in
         cc
 
     one_task : (bytes : List ℕ) (t u : Task) → Makes bytes r t → Makes bytes r u → t ≡ u
     one_task bytes t u h k =
-        let program : t.program ≡ u.program = (law bytes).one_program t.program u.program h.is_source k.is_source in
+        let program : t.program ≡ u.program = (law bytes).one_program t.program u.program h.is_program.is_source k.is_program.is_source in
         let graph : t.graph ≡ u.graph =
-        graphs u.program t.graph u.graph (subst (λ (p : Program). IsGraph p t.graph) program h.is_graph) k.is_graph in
-        let e = sym h.paths_are ∙ one_pathing bytes t.program u.program h.is_source k.is_source ∙ k.paths_are in
+        graphs u.program t.graph u.graph (subst (λ (p : Program). IsGraph p t.graph) program h.is_program.is_graph) k.is_program.is_graph in
+        let e = sym h.paths_are ∙ one_pathing bytes t.program u.program h.is_program.is_source k.is_program.is_source ∙ k.paths_are in
         let paths : t.paths ≡ u.paths = cc in
         let steps : t.steps ≡ u.steps = h.steps_are ∙ sym k.steps_are in
         ap (λ (p : Program). task p t.graph t.paths t.steps) program
@@ -110,6 +109,8 @@ module _ (r : Run) where
           (Some (blamed word), (w.0, w.1, w.2), refl)
       answer_comes (NotYet line) h = absurd h
       answer_comes CertificateLong h = absurd h
+      answer_comes (CertificateBad line) h = absurd h
+      answer_comes (CertificateMisfit what found wanted) h = absurd h
       answer_comes (NotInductive edge gap) h = absurd h
       answer_comes (Report alarms) h = absurd h
 

@@ -1,92 +1,228 @@
--- Where the status is 0, the program is safe.
-use Rattle.std.proofs.Common.{◌≡◌, ℕ, List, [], ◌∷◌, map, Option, Some, refl, sym, ◌∙◌, subst, inl, inr, arith}
+-- Where the status is 0 the program is safe, and where it is 0 or 1 the report names all faults.
+use Rattle.std.proofs.Common.{◌≡◌, ℕ, zero, suc, ◌≤◌, List, [], ◌∷◌, Option, Some, ◌⊎◌, refl, sym, ap, ◌∙◌, subst, inl, inr, arith}
+use Rattle.std.specs.List.{Contains}
+use Rattle.std.proofs.lemmas.List.Elements.{Contains-append_right}
 use Rattle.batch_io.specs.FilesState.{Contents, known_bytes}
+use Rattle.cob_tree.specs.declared.fault.Kind.{Kind}
 use Rattle.cob_tree.specs.declared.fault.Open.{Open}
-use Rattle.cob_meaning.specs.Run.{MeetsNoFault}
-use Rattle.cert_check.specs.Inductive.{open_pairs}
-use Rattle.cert_check.proofs.Runs.{faults_open, none_open}
-use Rattle.cob_tree.specs.declared.token.Token.{Token}
+use Rattle.cob_program.specs.Act.{Program}
+use Rattle.cob_runs.specs.Runs.{IsFaultless}
+use Rattle.cob_graph.specs.declared.graph.Graph.{Graph}
 use Rattle.cob_front.specs.declared.refusal.Refusal.{Refusal}
 use Rattle.cob_front.specs.declared.refusal.Refusal.TheVariants as end
-use Rattle.straight_source.specs.Source.{Source, program_of, statement_lines}
-use Rattle.straight_source.proofs.Whole.{source_valid}
-use Rattle.analyse_top.specs.Answer.{Answer, Usage, Absent, Refused, NotYet, CertificateLong, NotInductive, Report, Answers, AnswersProgram, HoldsSource, alarm_at, refusal_status, status_of, status_unwritten}
-use Rattle.analyse_top.specs.Conclusion.{Call, Concludes, CleanIsSafe, IsClean, EndsBy, EndsWithoutRun}
-use Rattle.analyse_top.proofs.Words.{check_or_run}
+use Rattle.cert_text.specs.View.{Certificate}
+use Rattle.cert_check.specs.Claims.{open_at}
+use Rattle.cert_check.specs.Checking.{Accepts, AcceptedClaimsCoverRuns, CoversRuns}
+use Rattle.source_facts.specs.Sources.{SourcesHaveSourceGraphs}
+use Rattle.alarm_report.specs.declared.alarms.Alarm.{Alarm}
+use Rattle.alarm_report.specs.Alarms.{alarm_in, alarms_of}
+use Rattle.alarm_report.specs.Text.{report_text}
+use Rattle.cob_program.specs.Statements.{program_statements}
+use Rattle.analyse_top.specs.Profile.{IsProgramOf}
+use Rattle.analyse_top.specs.Answer.{Answer, Usage, Absent, Refused, NotYet, CertificateLong, CertificateBad, CertificateMisfit, NotInductive, Report, Answers, AnswersProgram, HoldsProgram, IsCheck, answer_text, refusal_status, status_of, status_unwritten}
+use Rattle.analyse_top.specs.Showing.{Gains}
+use Rattle.analyse_top.specs.Conclusion.{Call, Concludes, IsExact, CleanIsSafe, IsClean, EndsBy, EndsWithoutRun, NameAllFaults, ReportsAllFaults, ReportsAreComplete, IsAccepted, AcceptsExactly, report_on}
+use Rattle.analyse_top.proofs.Words.{check_or_run, one_check}
 
-none_left : (lines : List ℕ) (pairs : List Open) → [] ≡ map (alarm_at lines) pairs → pairs ≡ []
-none_left lines [] e = refl
-none_left lines (pair ∷ pairs) e = cc
+-- ---- statuses
 
-refusal_not_zero : (cause : Refusal) → refusal_status cause ≡ 0 → ⊥
-refusal_not_zero end.TooLong e = omega arith
-refusal_not_zero (end.BadLine line column) e = omega arith
-refusal_not_zero (end.BadToken line column) e = omega arith
-refusal_not_zero (end.Syntax line) e = omega arith
-refusal_not_zero (end.Nesting count) e = omega arith
-refusal_not_zero (end.Outside rule line) e = omega arith
-refusal_not_zero (end.Limit which count) e = omega arith
-refusal_not_zero end.Memory e = omega arith
+refusal_is_high : (cause : Refusal) (n : ℕ) → refusal_status cause ≡ n → (n ≡ 0) ⊎ (n ≡ 1) → ⊥
+refusal_is_high end.TooLong n e (inl z) = omega (arith, e, z)
+refusal_is_high end.TooLong n e (inr z) = omega (arith, e, z)
+refusal_is_high (end.BadLine line column) n e (inl z) = omega (arith, e, z)
+refusal_is_high (end.BadLine line column) n e (inr z) = omega (arith, e, z)
+refusal_is_high (end.BadToken line column) n e (inl z) = omega (arith, e, z)
+refusal_is_high (end.BadToken line column) n e (inr z) = omega (arith, e, z)
+refusal_is_high (end.Syntax line) n e (inl z) = omega (arith, e, z)
+refusal_is_high (end.Syntax line) n e (inr z) = omega (arith, e, z)
+refusal_is_high (end.Nesting count) n e (inl z) = omega (arith, e, z)
+refusal_is_high (end.Nesting count) n e (inr z) = omega (arith, e, z)
+refusal_is_high (end.Outside rule line) n e (inl z) = omega (arith, e, z)
+refusal_is_high (end.Outside rule line) n e (inr z) = omega (arith, e, z)
+refusal_is_high (end.Limit which count) n e (inl z) = omega (arith, e, z)
+refusal_is_high (end.Limit which count) n e (inr z) = omega (arith, e, z)
+refusal_is_high end.Memory n e (inl z) = omega (arith, e, z)
+refusal_is_high end.Memory n e (inr z) = omega (arith, e, z)
 
-zero_report : (answer : Answer) → status_of answer ≡ 0 → answer ≡ Report []
-zero_report (Usage word) e = absurd (omega arith)
-zero_report (Absent name) e = absurd (omega arith)
-zero_report (Refused cause) e = absurd (refusal_not_zero cause e)
-zero_report (NotYet line) e = absurd (omega arith)
-zero_report CertificateLong e = absurd (omega arith)
-zero_report (NotInductive edge gap) e = absurd (omega arith)
-zero_report (Report []) e = refl
-zero_report (Report (alarm ∷ alarms)) e = absurd (omega arith)
+above_one : (n m : ℕ) → 2 ≤ m → m ≡ n → (n ≡ 0) ⊎ (n ≡ 1) → ⊥
+above_one n m l e (inl z) = omega (arith, l, e, z)
+above_one n m l e (inr z) = omega (arith, l, e, z)
 
-never_zero : (answer : Answer) → status_unwritten answer ≡ 0 → ⊥
-never_zero (Usage word) e = omega arith
-never_zero (Absent name) e = omega arith
-never_zero (Refused cause) e = refusal_not_zero cause e
-never_zero (NotYet line) e = omega arith
-never_zero CertificateLong e = omega arith
-never_zero (NotInductive edge gap) e = omega arith
-never_zero (Report alarms) e = omega arith
+abbrev pub IsReport : Answer → Type 0
+IsReport answer = (alarms : List Alarm) × (answer ≡ Report alarms)
 
-program_safe : (source : Source) (contents : Contents) (name certificate : List ℕ) (tokens : List Token) → HoldsSource contents name tokens source →
-    AnswersProgram contents certificate (program_of source) (statement_lines tokens source) (Report []) → MeetsNoFault (program_of source)
-program_safe source contents name certificate tokens holds (nodes, claims, inductive, none) =
-    none_open (program_of source) (open_pairs (program_of source) nodes)
-    (faults_open (program_of source) nodes (source_valid source holds.written.is_source) claims.shape inductive)
-    (none_left _ _ none)
+-- a status of 0 or 1 is that of a report
+pub low_status : (answer : Answer) (n : ℕ) → status_of answer ≡ n → (n ≡ 0) ⊎ (n ≡ 1) → IsReport answer
+low_status (Usage word) n e low = absurd (above_one n 4 (omega arith) e low)
+low_status (Absent name) n e low = absurd (above_one n 7 (omega arith) e low)
+low_status (Refused cause) n e low = absurd (refusal_is_high cause n e low)
+low_status (NotYet line) n e low = absurd (above_one n 2 (omega arith) e low)
+low_status CertificateLong n e low = absurd (above_one n 3 (omega arith) e low)
+low_status (CertificateBad line) n e low = absurd (above_one n 3 (omega arith) e low)
+low_status (CertificateMisfit what found wanted) n e low = absurd (above_one n 3 (omega arith) e low)
+low_status (NotInductive edge gap) n e low = absurd (above_one n 3 (omega arith) e low)
+low_status (Report alarms) n e low = (alarms, refl)
 
-clean_answer : (contents : Contents) (words : List (List ℕ)) → Answers (Some contents) words (Report []) → IsClean contents words
-clean_answer contents words (inl (none, usage)) = cc
-clean_answer contents words (inr (inr (r, said, answers))) = absurd answers
-clean_answer contents words (inr (inl (name, certificate, checked, inl refused))) = absurd refused
-clean_answer contents words (inr (inl (name, certificate, checked, inr (tokens, source, held, answers)))) = record {
-  name = name;
-  certificate = certificate;
-  checked = checked;
-  tokens = tokens;
-  source = source;
-  held = held;
-  safe = program_safe source contents name certificate tokens held answers;
-}
+pub never_low : (answer : Answer) (n : ℕ) → status_unwritten answer ≡ n → (n ≡ 0) ⊎ (n ≡ 1) → ⊥
+never_low (Usage word) n e low = above_one n 4 (omega arith) e low
+never_low (Absent name) n e low = above_one n 7 (omega arith) e low
+never_low (Refused cause) n e low = refusal_is_high cause n e low
+never_low (NotYet line) n e low = above_one n 2 (omega arith) e low
+never_low CertificateLong n e low = above_one n 3 (omega arith) e low
+never_low (CertificateBad line) n e low = above_one n 3 (omega arith) e low
+never_low (CertificateMisfit what found wanted) n e low = above_one n 3 (omega arith) e low
+never_low (NotInductive edge gap) n e low = above_one n 3 (omega arith) e low
+never_low (Report alarms) n e low = above_one n 6 (omega arith) e low
 
-clean_without_run : (call : Call) (contents : Contents) → EndsWithoutRun call
-    → known_bytes call.files_before ≡ Some contents
-    → call.status ≡ 0 → IsClean contents call.words
-clean_without_run call contents without known zero = elim without.ends [
-  | inl (answer, ends) ↦ by_answer answer ends
-  | inr (inl fault) ↦ elim fault.shows [ inl whole ↦ absurd (omega (arith, whole.0)) | inr front ↦ absurd (omega (arith, front.0)) ]
-  | inr (inr memory) ↦ absurd (omega (arith, memory.status))
-]
-  where
-    by_answer : (answer : Answer) → EndsBy call answer → IsClean contents call.words
+no_alarm : (alarms : List Alarm) → status_of (Report alarms) ≡ 0 → alarms ≡ []
+no_alarm [] e = refl
+no_alarm (alarm ∷ alarms) e = absurd (omega arith)
+
+-- ---- what a report says
+
+-- an inductive certificate's open pairs cover the runs of a source's program
+abbrev pub CheckingIsSound : Type 0
+CheckingIsSound =
+    (bytes : List ℕ) (p : Program) (g : Graph) (c : Certificate) (pairs : List Open) → IsProgramOf bytes p g
+    → Accepts p g c pairs → CoversRuns p pairs
+
+pub checking_is_sound : SourcesHaveSourceGraphs → AcceptedClaimsCoverRuns → CheckingIsSound
+checking_is_sound have cover bytes p g c pairs is accepts =
+    cover p g c pairs (have bytes p g is.is_source is.is_graph) accepts
+
+contained_alarm : (p : Program) (pairs : List Open) (pair : Open) → Contains pairs pair
+    → Contains (alarms_of p pairs) (alarm_in (program_statements p) pair)
+contained_alarm p [] pair (k, l, e) = absurd (omega (arith, l))
+contained_alarm p (x ∷ xs) pair (zero, l, e) = (0, omega arith, ap (alarm_in (program_statements p)) e)
+contained_alarm p (x ∷ xs) pair (suc k, l, e) =
+    Contains-append_right (alarm_in (program_statements p) x ∷ []) (alarms_of p xs) (alarm_in (program_statements p) pair)
+    (contained_alarm p xs pair (k, omega (arith, l), e))
+
+none_contained : {X : Type 0} (x : X) → Contains [] x → ⊥
+none_contained x (k, l, e) = omega (arith, l)
+
+module _ (sound : CheckingIsSound) (contents : Contents) (source certificate : List ℕ) where
+  -- a report on a program names all its faults
+  pub record Reported (alarms : List Alarm) : Type 0 where
+    pub pairs : List Open
+    pub accepted : IsAccepted contents source certificate pairs
+    pub alarms_are : alarms ≡ alarms_of accepted.program pairs
+    pub named : NameAllFaults alarms accepted.program
+
+  reported_by : (alarms : List Alarm) (p : Program) (g : Graph) → HoldsProgram contents source p g
+      → AnswersProgram contents certificate p g (Report alarms) → Reported alarms
+  reported_by alarms p g holds (c, held, (none, (pairs, accepts, are))) = record {
+    pairs = pairs;
+    accepted = record {
+      program = p;
+      graph = g;
+      claims = c;
+      holds = holds;
+      held = held;
+      plain = none;
+      accepts = accepts;
+    };
+    alarms_are = are;
+    named = λ told first choices n kind statement fault.
+        let there = sound holds.bytes p g c pairs holds.is_program accepts told first choices n kind statement fault in (
+          alarm_in (program_statements p) (open_at statement kind),
+          subst (λ (xs : List Alarm). Contains xs (alarm_in (program_statements p) (open_at statement kind))) (sym are)
+              (contained_alarm p pairs (open_at statement kind) there),
+          (refl, refl),
+        );
+  }
+
+  reported : (alarms : List Alarm) (words : List (List ℕ)) → IsCheck words source certificate
+      → Answers (Some contents) words (Report alarms) → Reported alarms
+  reported alarms words is (inl (none, usage)) = absurd (none.no_check source certificate is)
+  reported alarms words is (inr (inr (r, said, answers))) = absurd answers
+  reported alarms words is (inr (inl (name, target, also, inl refused))) = absurd refused
+  reported alarms words is (inr (inl (name, target, also, inr (p, g, holds, answers)))) =
+      let same = one_check words name target source certificate also is in
+      reported_by alarms p g (subst (λ (n : List ℕ). HoldsProgram contents n p g) same.0 holds)
+      (subst (λ (t : List ℕ). AnswersProgram contents t p g (Report alarms)) same.1 answers)
+
+  -- a call that ends at 0 or 1 shows a report
+  pub record Shown (call : Call) : Type 0 where
+    pub alarms : List Alarm
+    pub reported_ : Reported alarms
+    pub status : status_of (Report alarms) ≡ call.status
+    pub shown : Gains call.out_before call.out_after (report_text alarms)
+
+  module _ (call : Call) (is : IsCheck call.words source certificate) (known : known_bytes call.files_before ≡ Some contents)
+      (low : (call.status ≡ 0) ⊎ (call.status ≡ 1)) where
+    by_answer : (answer : Answer) → EndsBy call answer → Shown call
     by_answer answer ends = elim ends.shows [
       | inl whole ↦
-          let report = zero_report answer (sym whole.0 ∙ zero) in
-          clean_answer contents call.words (subst (λ (k : Option Contents). Answers k call.words (Report [])) known (subst (λ (a : Answer). Answers (known_bytes call.files_before) call.words a) report ends.is_answer))
-      | inr front ↦ absurd (never_zero answer (sym front.0 ∙ zero))
+          let report = low_status answer call.status (sym whole.0) low in
+          let answers = subst (λ (k : Option Contents). Answers k call.words answer) known ends.is_answer in
+          record {
+            alarms = report.0;
+            reported_ = reported report.0 call.words is (subst (λ (a : Answer). Answers (Some contents) call.words a) report.1 answers);
+            status = ap status_of (sym report.1) ∙ sym whole.0;
+            shown = subst (λ (a : Answer). Gains call.out_before call.out_after (answer_text a)) report.1 whole.1;
+          }
+      | inr front ↦ absurd (never_low answer call.status (sym front.0) low)
     ]
 
-pub clean_is_safe : (call : Call) → Concludes call → CleanIsSafe call
-clean_is_safe call concludes contents source certificate check known zero = elim concludes [
-  | inl without ↦ clean_without_run call contents without known zero
-  | inr (t, result, asks, runs) ↦ absurd (check_or_run call.words source certificate asks.run check asks.said)
-]
+    without_run : EndsWithoutRun call → Shown call
+    without_run without = elim without.ends [
+      | inl (answer, ends) ↦ by_answer answer ends
+      | inr (inl fault) ↦ elim fault.shows [
+        | inl whole ↦ absurd (above_one call.status 5 (omega arith) (sym whole.0) low)
+        | inr front ↦ absurd (above_one call.status 5 (omega arith) (sym front.0) low)
+      ]
+      | inr (inr memory) ↦ absurd (above_one call.status 8 (omega arith) (sym memory.status) low)
+    ]
+
+    pub shown_report : Concludes call → Shown call
+    shown_report concludes = elim concludes [
+      | inl without ↦ without_run without
+      | inr (t, result, asks, runs) ↦ absurd (check_or_run call.words source certificate asks.run is asks.said)
+    ]
+
+module _ (sound : CheckingIsSound) (call : Call) (concludes : Concludes call) where
+  no_fault_left : (alarms : List Alarm) (p : Program) → alarms ≡ [] → NameAllFaults alarms p → IsFaultless p
+  no_fault_left alarms p none named told first choices n kind statement fault =
+      let w = named told first choices n kind statement fault in
+      none_contained w.0 (subst (λ (xs : List Alarm). Contains xs w.0) none w.1)
+
+  pub clean_is_safe : CleanIsSafe call
+  clean_is_safe contents source certificate is known at_zero =
+      let w = shown_report sound contents source certificate call is known (inl at_zero) concludes in
+      record {
+        name = source;
+        certificate = certificate;
+        checked = is;
+        program = w.reported_.accepted.program;
+        graph = w.reported_.accepted.graph;
+        holds = w.reported_.accepted.holds;
+        safe = no_fault_left w.alarms w.reported_.accepted.program (no_alarm w.alarms (w.status ∙ at_zero)) w.reported_.named;
+      }
+
+  pub reports_are_complete : ReportsAreComplete call
+  reports_are_complete contents source certificate is known low =
+      let w = shown_report sound contents source certificate call is known low concludes in
+      record {
+        program = w.reported_.accepted.program;
+        graph = w.reported_.accepted.graph;
+        holds = w.reported_.accepted.holds;
+        alarms = w.alarms;
+        shown = w.shown;
+        named = w.reported_.named;
+      }
+
+  given : (contents : Contents) (source certificate : List ℕ) (pairs : List Open)
+      → IsCheck call.words source certificate → (a : IsAccepted contents source certificate pairs)
+      → Answers (Some contents) call.words (report_on a.program pairs)
+  given contents source certificate pairs is a =
+      inr (inl (source, certificate, is, inr (a.program, a.graph, a.holds, (a.claims, a.held, (a.plain, (pairs, a.accepts, refl))))))
+
+  pub accepts_exactly : IsExact call → AcceptsExactly call
+  accepts_exactly exact contents source certificate is known = record {
+    only = λ low.
+        let w = shown_report sound contents source certificate call is known low concludes in
+        (w.reported_.pairs, w.reported_.accepted, ap (λ (xs : List Alarm). status_of (Report xs)) (sym w.reported_.alarms_are) ∙ w.status);
+    always = λ pairs a.
+        exact.answers contents (report_on a.program pairs) known (given contents source certificate pairs is a);
+  }

@@ -15,19 +15,19 @@ use Rattle.cob_front.specs.Control.{IsControlCause}
 -- ---- the first broken rule
 
 -- the rules on PERFORM and GO TO, in their order
-data Turn : Type 0 where
+pub data Turn : Type 0 where
   first : Turn
   second : Turn
   third : Turn
   fourth : Turn
 
-abbrev rule_of : Turn → Rule
+abbrev pub rule_of : Turn → Rule
 rule_of first = rule.N1
 rule_of second = rule.N2
 rule_of third = rule.N3
 rule_of fourth = rule.N4
 
-turn_of : (p : Program) (r : Rule) (line : ℕ) → IsBroken p r line → (t : Turn) × (r ≡ rule_of t)
+pub turn_of : (p : Program) (r : Rule) (line : ℕ) → IsBroken p r line → (t : Turn) × (r ≡ rule_of t)
 turn_of p rule.N1 line h = (first, refl)
 turn_of p rule.N2 line h = (second, refl)
 turn_of p rule.N3 line h = (third, refl)

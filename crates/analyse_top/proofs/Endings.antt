@@ -1,34 +1,37 @@
 -- From what the parts did to how the call ends.
 use Rattle.std.proofs.Common.{◌≡◌, ℕ, ◌≤◌, true, false, List, length, ◌⊎◌, refl, sym, ap, ◌∙◌, subst, inl, inr, Result, Ok, Err, arith}
-use Rattle.std.specs.Prelude.{IfOk, IfSome, Option, Some, None}
+use Rattle.std.specs.Prelude.{IfOk, IfSome, MatchResult, Option, Some, None}
 use Rattle.std.specs.FinMap.{get}
-use Rattle.cob_meaning.specs.Program.{Program, plain}
-use Rattle.straight_source.specs.Source.{program_of}
-use Rattle.straight_source.specs.declared.read.StraightLines.{StraightLines}
 use Rattle.std.proofs.lemmas.Bool.{false≢true}
 use Rattle.std.proofs.lemmas.List.{take_all}
 use Rattle.std.specs.Io.KnownBytes.{append_known}
 use Rattle.batch_io.specs.Faults.{Rose}
 use Rattle.batch_io.specs.FilesState.{Contents, FilesState, known_bytes}
 use Rattle.batch_io.specs.SinkState.{SinkState}
+use Rattle.cob_program.specs.Act.{Program}
+use Rattle.cob_program.specs.ActView.{plain_program}
+use Rattle.cob_graph.specs.declared.graph.Graph.{Graph}
 use Rattle.cob_front.specs.declared.refusal.Refusal.{Refusal}
 use Rattle.cob_front.specs.declared.refusal.Refusal.TheVariants as end
 use Rattle.cob_interp.proofs.Passing.{ids_stay}
+use Rattle.cert_text.specs.declared.cert.CertEnd.TheVariants as text
+use Rattle.cert_text.specs.View.{Certificate}
+use Rattle.cert_text.specs.Allowed.{IsAllowed}
+use Rattle.cert_text.specs.Text.{spelling}
+use Rattle.cert_text.specs.Texts.{RefusedBy}
 use Rattle.run_words.specs.Words.{Run, IsRun}
 use Rattle.analyse_top.specs.declared.answer.Stop.{Stop}
 use Rattle.analyse_top.specs.declared.answer.Stop.TheVariants as stop
 use Rattle.analyse_top.specs.declared.answer.Answer as code
-use Rattle.analyse_top.specs.declared.source.Unread.{Unread}
-use Rattle.analyse_top.specs.declared.source.Unread.TheVariants as unread
-use Rattle.analyse_top.specs.Profile.{IsProfileCause, IsNotStraight}
-use Rattle.analyse_top.specs.Answer.{Answer, Refused, NotYet, Answers, AnswersCheck, AnswersProgram, AnswersRun, IsCheck, answer_text}
+use Rattle.analyse_top.specs.declared.source.Laid.{Laid}
+use Rattle.analyse_top.specs.Profile.{IsProfileCause}
+use Rattle.analyse_top.specs.Answer.{Answer, Usage, Absent, Refused, NotYet, CertificateLong, CertificateBad, CertificateMisfit, NotInductive, Report, Answers, AnswersCheck, AnswersProgram, AnswersRun, IsCheck, HoldsCertificate, answer_text, certificate_limit}
 use Rattle.analyse_top.specs.Text.{memory_line, read_fault_line}
 use Rattle.analyse_top.specs.Showing.{Gains, GainsFront, ShowsRefusal}
 use Rattle.analyse_top.specs.Conclusion.{Call, EndsBy, EndsByMemory, EndsWithoutRun, MayBeShown}
-use Rattle.analyse_top.specs.Steps.{Reads, stopped_by_fault, ShowsAnswer, ShowsFound, Writes, IsUnread, unread_for, answer_to}
+use Rattle.analyse_top.specs.Steps.{Reads, stopped_by_fault, ShowsAnswer, ShowsFound, AnswersBytes, IsLaid, answer_to}
 use Rattle.analyse_top.specs.View.{plain_answer, plain_result}
 use Rattle.analyse_top.proofs.Found.{at_held}
-use Rattle.cob_lines.specs.Text.{source_limit}
 
 -- ---- a call that runs nothing
 
@@ -115,59 +118,96 @@ pub answers_run : (result : Result code.Answer Stop) (known : Option Contents) (
 answers_run (Ok answer) known words r said h = inr (inr (r, said, h))
 answers_run (Err stop) known words r said h = tt
 
+-- ---- the certificate
+
+module _ (p : Program) (g : Graph) (certificate bytes : List ℕ) (fits : length bytes ≤ certificate_limit) where
+  bytes_known : (known : Option Contents) (answer : Answer) → IfSome known (λ contents. get contents certificate ≡ Some bytes)
+      → AnswersBytes bytes p g answer → IfSome known (λ contents. AnswersProgram contents certificate p g answer)
+  bytes_known None answer held h = tt
+  bytes_known (Some contents) answer held h = by_text answer h
+    where
+      holds : (c : Certificate) → IsAllowed c → bytes ≡ spelling c → HoldsCertificate contents certificate c
+      holds c allowed same = record {
+        allowed = allowed;
+        held = held ∙ ap Some same;
+        fits = subst (λ (bs : List ℕ). length bs ≤ certificate_limit) same fits;
+      }
+
+      by_text : (answer : Answer) → AnswersBytes bytes p g answer → AnswersProgram contents certificate p g answer
+      by_text (CertificateBad line) h =
+          at_held (get contents certificate) bytes (λ bs. (length bs ≤ certificate_limit) × RefusedBy bs (text.Syntax line)) held (fits, h)
+      by_text (NotYet line) h = (h.0, holds h.0 h.1 h.2, h.3)
+      by_text (CertificateMisfit what found wanted) h = (h.0, holds h.0 h.1 h.2, h.3)
+      by_text (NotInductive edge gap) h = (h.0, holds h.0 h.1 h.2, h.3)
+      by_text (Report alarms) h = (h.0, holds h.0 h.1 h.2, h.3)
+      by_text (Usage word) h = absurd h.3
+      by_text (Absent name) h = absurd h.3
+      by_text (Refused cause) h = absurd h.3
+      by_text CertificateLong h = absurd h.3
+
+  -- as the code sees the bytes
+  pub answers_bytes : (result : Result code.Answer Stop) (seen : List ℕ) (known : Option Contents)
+      → IfSome known (λ contents. get contents certificate ≡ Some bytes) → seen ≡ bytes
+      → MatchResult result (λ answer. AnswersBytes seen p g (plain_answer answer)) (λ end. end ≡ stop.Memory)
+      → IfOk result (λ answer. IfSome known (λ contents. AnswersProgram contents certificate p g (plain_answer answer)))
+  answers_bytes (Err end) seen known held same h = tt
+  answers_bytes (Ok answer) seen known held same h =
+      bytes_known known (plain_answer answer) held (subst (λ (bs : List ℕ). AnswersBytes bs p g (plain_answer answer)) same h)
+
 -- ---- a source that is read
 
-module _ (source certificate bytes : List ℕ) (fits : length bytes ≤ source_limit) where
-  read_known : (known : Option Contents) (read : StraightLines) (answer : Answer) → IfSome known (λ contents. get contents source ≡ Some bytes) → Writes bytes read →
-      IfSome known (λ contents. AnswersProgram contents certificate (plain read.program) read.lines.items answer) → IfSome known (λ contents. AnswersCheck contents source certificate answer)
-  read_known None read answer held w h = tt
-  read_known (Some contents) read answer held (tokens, s, written, program, lines) h =
-      let at_program = subst (λ (p : Program). AnswersProgram contents certificate p read.lines.items answer) program h in
-      let at_lines = subst (λ (ls : List ℕ). AnswersProgram contents certificate (program_of s) ls answer) lines at_program in
-      inr (tokens, s, record { bytes = bytes; held = held; fits = fits; written = written }, at_lines)
-
-  pub answers_read : (result : Result code.Answer Stop) (read : StraightLines) (seen : List ℕ) (known after : Option Contents) → IfSome known (λ contents. get contents source ≡ Some bytes) → seen ≡ bytes → Writes seen read → after ≡ known →
-      IfOk result (λ answer. IfSome after (λ contents. AnswersProgram contents certificate (plain read.program) read.lines.items (plain_answer answer))) →
-      IfOk result (λ answer. IfSome known (λ contents. AnswersCheck contents source certificate (plain_answer answer)))
-  answers_read (Err stop) read seen known after held s w k h = tt
-  answers_read (Ok answer) read seen known after held s w k h =
-      let P : Option Contents → Type 0 = λ known. IfSome known (λ contents. AnswersProgram contents certificate (plain read.program) read.lines.items (plain_answer answer)) in
-      read_known known read (plain_answer answer) held (subst (λ (bs : List ℕ). Writes bs read) s w) (subst P k h)
-
--- ---- a source that isn't read
-
-pub unread_why : (bytes : List ℕ) (cause : Refusal) → IsProfileCause bytes cause ⊎ (cause ≡ end.Memory)
-    → IsUnread bytes (unread_for cause)
-unread_why bytes end.TooLong (inl is) = is
-unread_why bytes (end.BadLine line column) (inl is) = is
-unread_why bytes (end.BadToken line column) (inl is) = is
-unread_why bytes (end.Syntax line) (inl is) = is
-unread_why bytes (end.Nesting count) (inl is) = is
-unread_why bytes (end.Outside rule line) (inl is) = is
-unread_why bytes (end.Limit which count) (inl is) = is
-unread_why bytes end.Memory (inl is) = tt
-unread_why bytes cause (inr memory) = rw memory tt
-
 module _ (source certificate bytes : List ℕ) where
-  refusal_known : (known : Option Contents) (answer : Answer) (why : Unread)
-      → IfSome known (λ contents. get contents source ≡ Some bytes) → IsUnread bytes why → answer_to why ≡ Ok answer
+  read_known : (known : Option Contents) (laid : Laid) (answer : Answer)
+      → IfSome known (λ contents. get contents source ≡ Some bytes) → IsLaid bytes laid
+      → IfSome known (λ contents. AnswersProgram contents certificate (plain_program laid.program) laid.graph answer)
       → IfSome known (λ contents. AnswersCheck contents source certificate answer)
-  refusal_known None answer why held is e = tt
-  refusal_known (Some contents) answer (unread.Refused cause) held is e =
-      let same : Refused cause ≡ answer = cc in
-      subst (λ (a : Answer). AnswersCheck contents source certificate a) same
-      (inl (at_held (get contents source) bytes (λ bs. IsProfileCause bs cause) held is))
-  refusal_known (Some contents) answer (unread.NotYet line) held is e =
-      let same : NotYet line ≡ answer = cc in
-      subst (λ (a : Answer). AnswersCheck contents source certificate a) same
-      (inl (at_held (get contents source) bytes (λ bs. IsNotStraight bs line) held is))
-  refusal_known (Some contents) answer unread.Memory held is e = absurd (cc e)
+  read_known None laid answer held is h = tt
+  read_known (Some contents) laid answer held is h =
+      inr (plain_program laid.program, laid.graph, record { bytes = bytes; held = held; is_program = is }, h)
 
-  pub answers_unread : (result : Result code.Answer Stop) (why : Unread) (seen : List ℕ) (known : Option Contents)
+  pub answers_read : (result : Result code.Answer Stop) (laid : Laid) (seen : List ℕ) (known after : Option Contents)
+      → IfSome known (λ contents. get contents source ≡ Some bytes) → seen ≡ bytes → IsLaid seen laid → after ≡ known
+      → IfOk result (λ answer. IfSome after (λ contents.
+      AnswersProgram contents certificate (plain_program laid.program) laid.graph (plain_answer answer)))
+      → IfOk result (λ answer. IfSome known (λ contents. AnswersCheck contents source certificate (plain_answer answer)))
+  answers_read (Err end) laid seen known after held s w k h = tt
+  answers_read (Ok answer) laid seen known after held s w k h =
+      let P : Option Contents → Type 0 = λ known. IfSome known (λ contents.
+      AnswersProgram contents certificate (plain_program laid.program) laid.graph (plain_answer answer)) in
+      read_known known laid (plain_answer answer) held (subst (λ (bs : List ℕ). IsLaid bs laid) s w) (subst P k h)
+
+  -- ---- a source that isn't read
+
+  refused_known : (known : Option Contents) (answer : Answer) (cause : Refusal)
       → IfSome known (λ contents. get contents source ≡ Some bytes)
-      → seen ≡ bytes → IsUnread seen why → plain_result result ≡ answer_to why
+      → IsProfileCause bytes cause → Refused cause ≡ answer
+      → IfSome known (λ contents. AnswersCheck contents source certificate answer)
+  refused_known None answer cause held is e = tt
+  refused_known (Some contents) answer cause held is e =
+      subst (λ (a : Answer). AnswersCheck contents source certificate a) e
+      (inl (at_held (get contents source) bytes (λ bs. IsProfileCause bs cause) held is))
+
+  answered : (cause : Refusal) (answer : Answer) → answer_to cause ≡ Ok answer → Refused cause ≡ answer
+  answered end.TooLong answer e = cc
+  answered (end.BadLine line column) answer e = cc
+  answered (end.BadToken line column) answer e = cc
+  answered (end.Syntax line) answer e = cc
+  answered (end.Nesting count) answer e = cc
+  answered (end.Outside rule line) answer e = cc
+  answered (end.Limit which count) answer e = cc
+  answered end.Memory answer e = absurd (cc e)
+
+  not_memory : (cause : Refusal) (answer : Answer) → answer_to cause ≡ Ok answer → cause ≡ end.Memory → ⊥
+  not_memory cause answer e memory = let f = ap answer_to (sym memory) ∙ e in cc
+
+  pub answers_unread : (result : Result code.Answer Stop) (cause : Refusal) (seen : List ℕ) (known : Option Contents)
+      → IfSome known (λ contents. get contents source ≡ Some bytes)
+      → seen ≡ bytes → IsProfileCause seen cause ⊎ (cause ≡ end.Memory) → plain_result result ≡ answer_to cause
       → IfOk result (λ answer.
       IfSome known (λ contents. AnswersCheck contents source certificate (plain_answer answer)))
-  answers_unread (Err stop) why seen known held same is e = tt
-  answers_unread (Ok answer) why seen known held same is e =
-      refusal_known known (plain_answer answer) why held (subst (λ (bs : List ℕ). IsUnread bs why) same is) (sym e)
+  answers_unread (Err stop) cause seen known held same is e = tt
+  answers_unread (Ok answer) cause seen known held same (inr memory) e =
+      absurd (not_memory cause (plain_answer answer) (sym e) memory)
+  answers_unread (Ok answer) cause seen known held same (inl is) e =
+      refused_known known (plain_answer answer) cause held (subst (λ (bs : List ℕ). IsProfileCause bs cause) same is)
+      (answered cause (plain_answer answer) (sym e))

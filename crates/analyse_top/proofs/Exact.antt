@@ -1,12 +1,6 @@
 -- Each answer is given exactly where it is the answer, and what is asked for is run to its own end.
-use Rattle.std.proofs.Common.{◌≡◌, ℕ, ◌+◌, ◌^◌, ◌<◌, ◌⊎◌, List, length, Option, Some, Result, subst, inl, inr, arith}
+use Rattle.std.proofs.Common.{◌≡◌, ℕ, ◌⊎◌, List, Option, Some, Result, subst, inl, inr}
 use Rattle.batch_io.specs.FilesState.{Contents, known_bytes}
-use Rattle.text_lines.proofs.Texts.{one_bad}
-use Rattle.straight_source.specs.Source.{Source, IsSource, program_of, statement_lines}
-use Rattle.straight_source.proofs.Whole.{counts}
-use Rattle.straight_claims.specs.Claims.{AreClaimsLines}
-use Rattle.straight_claims.proofs.Certificates.{one_certificate, read_or_refused as claims_or_refused}
-use Rattle.cob_tree.specs.declared.token.Token.{Token}
 use Rattle.cob_graph.specs.Graphs.{OneGraph}
 use Rattle.cob_front.specs.Laws.{OneAnswer}
 use Rattle.cob_interp.specs.declared.ends.Ended.{Ended}
@@ -15,40 +9,20 @@ use Rattle.cob_interp.specs.Ends.{told_files, IsEnd}
 use Rattle.cob_interp.specs.OneEnd.{OneEnd}
 use Rattle.cob_interp.specs.Running.{outside}
 use Rattle.run_words.specs.Words.{OneReading}
-use Rattle.analyse_top.specs.Profile.{IsWritten}
 use Rattle.analyse_top.specs.Answer.{Answer, Answers}
 use Rattle.analyse_top.specs.Runs.{Task, AsksFor}
 use Rattle.analyse_top.specs.Conclusion.{Call, Concludes, IsExact, AnswersExactly, RunsExactly, FailsToRun, EndsBy, EndsByMemory, EndsByReadFault, EndsByRun, EndsWithoutRun}
 use Rattle.analyse_top.proofs.Asked.{one_for_run, asked_once, answered_or_asked}
-use Rattle.analyse_top.proofs.OneAnswer.{Behind, one_for_program, one_answer}
+use Rattle.analyse_top.proofs.OneAnswer.{TextsAreApart, one_answer}
 use Rattle.analyse_top.proofs.RunEnds.{IsRefusal, EndsSomewhere, refused_or_ends}
 use Rattle.analyse_top.proofs.Sources.{one_ending}
 
--- a source of the form has few enough items and statements for their numbers
-few_cells : (source : Source) → IsSource source → length (program_of source).digits < 2 ^ 32
-few_cells source is = omega (arith, (counts source).1, is.most)
-
-few_nodes : (source : Source) → IsSource source → length (program_of source).acts + 1 < 2 ^ 32
-few_nodes source is = omega (arith, (counts source).0, is.most_acts)
-
-one_behind : (contents : Contents) (certificate bytes : List ℕ) (tokens : List Token) (source : Source) (a b : Answer)
-    → IsWritten bytes tokens source
-    → Behind contents certificate tokens source a → Behind contents certificate tokens source b → a ≡ b
-one_behind contents certificate bytes tokens source a b wrote =
-    let cells = length (program_of source).digits in
-    let count = length (program_of source).acts + 1 in
-    one_for_program contents certificate (program_of source) (statement_lines tokens source)
-    (one_bad (AreClaimsLines cells count))
-    (λ nodes line shape. claims_or_refused cells count nodes line (few_cells source wrote.is_source) (few_nodes source wrote.is_source) shape)
-    (λ x y. one_certificate cells count x y (few_cells source wrote.is_source) (few_nodes source wrote.is_source))
-    a b
-
 module _ (law : (bytes : List ℕ) → OneAnswer bytes) (one_reading : OneReading) (graphs : OneGraph)
-    (one_end : OneEnd) where
+    (one_end : OneEnd) (laws : TextsAreApart) where
   same_answer : (contents : Contents) (words : List (List ℕ)) (a b : Answer)
       → Answers (Some contents) words a → Answers (Some contents) words b → a ≡ b
   same_answer contents =
-      one_answer contents (one_ending law) (one_behind contents) one_reading (λ r. one_for_run r law graphs contents)
+      one_answer contents (λ bytes. one_ending law bytes graphs) laws one_reading (λ r. one_for_run r law graphs contents)
 
   -- ---- answers
 

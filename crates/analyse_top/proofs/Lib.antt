@@ -1,12 +1,14 @@
-pub mod Pairs
 pub mod Words
 pub mod Found
 pub mod Endings
 pub mod RunEnds
 pub mod Clean
 pub mod Control
+pub mod Limits
+pub mod Numbers
 pub mod Sources
 pub mod Tasks
 pub mod Asked
 pub mod OneAnswer
 pub mod Exact
+pub mod FaultlessRuns

@@ -17,8 +17,8 @@ use Rattle.analyse_top.specs.declared.run.Task.{Task}
 use Rattle.analyse_top.specs.declared.source.Laid.{Laid}
 use Rattle.analyse_top.specs.Profile.{IsProfileCause}
 use Rattle.analyse_top.specs.Runs.{BlamesWord, HoldsTask}
-use Rattle.analyse_top.specs.Answer.{Answer, Usage, Absent, Refused, NotYet, CertificateLong, NotInductive, Report, AnswersRun}
-use Rattle.analyse_top.specs.Steps.{Reads, refused_by_fault, unread_for, answer_to, IsLaid, IsReady, IsTask, IsNoTask}
+use Rattle.analyse_top.specs.Answer.{Answer, Usage, Absent, Refused, NotYet, CertificateLong, CertificateBad, CertificateMisfit, NotInductive, Report, AnswersRun}
+use Rattle.analyse_top.specs.Steps.{Reads, refused_by_fault, answer_to, IsLaid, IsReady, IsTask, IsNoTask}
 use Rattle.analyse_top.specs.View.{plain_answer, plain_result, plain_task}
 use Rattle.analyse_top.proofs.Found.{at_held}
 
@@ -38,9 +38,7 @@ module _ (bytes : List ℕ) (r : Run) (laid : Laid) (is : IsLaid bytes laid)
       → IsTask bytes r (record { laid = laid; paths = paths; steps = r.steps })
   is_task paths readiness are count distinct = record {
     makes = record {
-      is_source = is.is_source;
-      is_graph = is.is_graph;
-      within = is.within;
+      is_program = is;
       paths_are = paths_same ∙ are;
       steps_are = refl;
     };
@@ -56,10 +54,8 @@ module _ (bytes : List ℕ) (r : Run) (laid : Laid) (is : IsLaid bytes laid)
   blames_word word e = record {
     profile = record {
       program = plain_program laid.program;
-      is_source = is.is_source;
       graph = laid.graph;
-      is_graph = is.is_graph;
-      within = is.within;
+      is_program = is;
     };
     blamed = paths_same ∙ e;
   }
@@ -67,7 +63,7 @@ module _ (bytes : List ℕ) (r : Run) (laid : Laid) (is : IsLaid bytes laid)
 -- ---- causes
 
 pub no_task : (bytes : List ℕ) (names : List (List ℕ)) (cause : Refusal)
-    → IsProfileCause bytes cause ⊎ (cause ≡ end.Memory) → IsNoTask bytes names (answer_to (unread_for cause))
+    → IsProfileCause bytes cause ⊎ (cause ≡ end.Memory) → IsNoTask bytes names (answer_to cause)
 no_task bytes names end.TooLong (inl is) = is
 no_task bytes names (end.BadLine line column) (inl is) = is
 no_task bytes names (end.BadToken line column) (inl is) = is
@@ -99,6 +95,8 @@ module _ (r : Run) (bytes : List ℕ) where
   known_answer (Some contents) held (Absent name) h = absurd h
   known_answer (Some contents) held (NotYet line) h = absurd h
   known_answer (Some contents) held CertificateLong h = absurd h
+  known_answer (Some contents) held (CertificateBad line) h = absurd h
+  known_answer (Some contents) held (CertificateMisfit what found wanted) h = absurd h
   known_answer (Some contents) held (NotInductive edge gap) h = absurd h
   known_answer (Some contents) held (Report alarms) h = absurd h
 

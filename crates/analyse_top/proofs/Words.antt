@@ -33,3 +33,10 @@ check_or_run words source certificate r check run = elim run.form [
   | inl form ↦ check_differs _ _ (sym check.words_are ∙ form.0)
   | inr form ↦ check_differs _ _ (sym check.words_are ∙ form.words_are)
 ]
+
+-- the words of a check name one source and one certificate
+pub one_check : (words : List (List ℕ)) (name certificate name' certificate' : List ℕ)
+    → IsCheck words name certificate → IsCheck words name' certificate' → (name ≡ name') × (certificate ≡ certificate')
+one_check words name certificate name' certificate' is is' =
+    let e = sym is.words_are ∙ is'.words_are in
+    (ap (λ ws. get_or ws 1 []) e, ap (λ ws. get_or ws 2 []) e)

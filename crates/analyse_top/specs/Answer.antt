@@ -1,26 +1,29 @@
 -- What the commands answer where nothing is run: for the words of the command and the contents of the files one answer,
 -- with its text and its status.
-use Rattle.std.specs.Prelude.{◌≡◌, ℕ, ◌+◌, ◌-◌, ◌<◌, ◌≤◌, ◌⊎◌, List, [], ◌∷◌, ◌++◌, map, length, slice_get, slice_index, codes, decimal, Option, None, Some, IfSome, IsSomeAnd}
+use Rattle.std.specs.Prelude.{◌≡◌, ℕ, ◌<◌, ◌≤◌, ◌⊎◌, List, [], ◌∷◌, ◌++◌, length, codes, decimal, Option, None, Some, IfSome, IsSomeAnd}
 use Rattle.std.specs.FinMap.{get}
 use Rattle.batch_io.specs.FilesState.{Contents}
-use Rattle.text_lines.specs.Lines.{Line, text_of}
-use Rattle.text_lines.specs.Viable.{FirstBad}
 use Rattle.cob_tree.specs.declared.fault.Open.{Open}
-use Rattle.cob_meaning.specs.Program.{Program}
-use Rattle.cert_text.specs.declared.cert.Claim.{Claim}
-use Rattle.cert_check.specs.declared.ends.Gap.{Gap}
-use Rattle.cert_check.specs.Inductive.{FitsProgram, leak, leaks, open_pairs}
-use Rattle.cob_tree.specs.declared.token.Token.{Token}
+use Rattle.cob_program.specs.Act.{Program}
+use Rattle.cob_graph.specs.declared.graph.Graph.{Graph}
 use Rattle.cob_front.specs.declared.refusal.Refusal.{Refusal}
 use Rattle.cob_front.specs.declared.refusal.Refusal.TheVariants as end
-use Rattle.straight_source.specs.Source.{Source, program_of, statement_lines}
-use Rattle.straight_claims.specs.Claims.{AreClaimsLines, claims_lines}
+use Rattle.cert_text.specs.declared.cert.CertEnd.TheVariants as text
+use Rattle.cert_text.specs.View.{Certificate}
+use Rattle.cert_text.specs.Allowed.{IsAllowed}
+use Rattle.cert_text.specs.Text.{spelling}
+use Rattle.cert_text.specs.Texts.{RefusedBy}
+use Rattle.cert_check.specs.declared.ends.CheckEnd.TheVariants as check
+use Rattle.claimed_rows.specs.declared.gap.Gap.{Gap}
+use Rattle.cert_check.specs.declared.ends.Shape.{Shape}
+use Rattle.cert_check.specs.Checking.{Accepts, Refuses}
+use Rattle.alarm_report.specs.declared.alarms.Alarm.{Alarm}
+use Rattle.alarm_report.specs.Alarms.{alarms_of}
+use Rattle.alarm_report.specs.Text.{line_end, report_text}
 use Rattle.run_words.specs.Words.{IsPlain, Run, IsRun}
-use Rattle.analyse_top.specs.declared.answer.Alarm.{Alarm}
-use Rattle.analyse_top.specs.Text.{line_end, at_line, report_text, gap_text, refusal_text}
-use Rattle.analyse_top.specs.Profile.{IsProfileCause, IsWritten, IsNotStraight}
+use Rattle.analyse_top.specs.Text.{at_line, gap_text, refusal_text, shape_line}
+use Rattle.analyse_top.specs.Profile.{IsProgramOf, IsProfileCause}
 use Rattle.analyse_top.specs.Runs.{BlamesWord}
-use Rattle.cob_lines.specs.Text.{source_limit}
 
 -- ---- answers, their texts and statuses
 
@@ -32,9 +35,13 @@ pub data Answer : Type 0 where
   Absent : List ℕ → Answer
   -- the source isn't of the profile, for this cause
   Refused : Refusal → Answer
-  -- the first line that isn't of the straight-line form, of the source or of the certificate
+  -- the line of the certificate on which a form stands that isn't checked yet
   NotYet : ℕ → Answer
   CertificateLong : Answer
+  -- the first line with which no certificate's text goes on
+  CertificateBad : ℕ → Answer
+  -- the certificate's number of cells or nodes, and the program's
+  CertificateMisfit : Shape → ℕ → ℕ → Answer
   -- the first edge at which the certificate isn't inductive, and the first place there
   NotInductive : ℕ → Gap → Answer
   -- the certificate holds, and leaves these statements open
@@ -50,6 +57,8 @@ answer_text (Absent name) = codes "E2 absent " ++ name ++ line_end
 answer_text (Refused cause) = refusal_text cause
 answer_text (NotYet line) = at_line (codes "E20") line
 answer_text CertificateLong = codes "E11 certificate too long" ++ line_end
+answer_text (CertificateBad line) = at_line (codes "E12") line
+answer_text (CertificateMisfit what found wanted) = shape_line what found wanted
 answer_text (NotInductive edge gap) = codes "E14 layer 1 edge " ++ decimal edge ++ gap_text gap ++ line_end
 answer_text (Report alarms) = report_text alarms
 
@@ -69,6 +78,8 @@ status_of (Absent name) = 7
 status_of (Refused cause) = refusal_status cause
 status_of (NotYet line) = 2
 status_of CertificateLong = 3
+status_of (CertificateBad line) = 3
+status_of (CertificateMisfit what found wanted) = 3
 status_of (NotInductive edge gap) = 3
 status_of (Report []) = 0
 status_of (Report (alarm ∷ alarms)) = 1
@@ -81,6 +92,8 @@ status_unwritten (Absent name) = status_of (Absent name)
 status_unwritten (Refused cause) = status_of (Refused cause)
 status_unwritten (NotYet line) = status_of (NotYet line)
 status_unwritten CertificateLong = status_of CertificateLong
+status_unwritten (CertificateBad line) = status_of (CertificateBad line)
+status_unwritten (CertificateMisfit what found wanted) = status_of (CertificateMisfit what found wanted)
 status_unwritten (NotInductive edge gap) = status_of (NotInductive edge gap)
 
 -- ---- the words
@@ -105,35 +118,21 @@ first_word (word ∷ words) = word
 abbrev pub certificate_limit : ℕ
 certificate_limit = 67108864
 
--- the file holds bytes of the profile that write this source of the form
-pub record HoldsSource (contents : Contents) (name : List ℕ) (tokens : List Token) (source : Source) : Type 0 where
+-- The file holds a source of this program of the profile, whose graph this is.
+pub record HoldsProgram (contents : Contents) (name : List ℕ) (p : Program) (g : Graph) : Type 0 where
   pub bytes : List ℕ
   pub held : get contents name ≡ Some bytes
-  pub fits : length bytes ≤ source_limit
-  pub written : IsWritten bytes tokens source
+  pub is_program : IsProgramOf bytes p g
 
--- the file holds these claims of the program, an interval for each cell at each node
-pub record HoldsClaims (contents : Contents) (name : List ℕ) (program : Program) (nodes : List (List Claim))
-    : Type 0 where
-  pub shape : FitsProgram program nodes
-  pub held : get contents name ≡ Some (text_of (claims_lines (length program.digits) nodes))
-  pub fits : length (text_of (claims_lines (length program.digits) nodes)) ≤ certificate_limit
+-- the file holds this certificate's text
+pub record HoldsCertificate (contents : Contents) (name : List ℕ) (c : Certificate) : Type 0 where
+  pub allowed : IsAllowed c
+  pub held : get contents name ≡ Some (spelling c)
+  pub fits : length (spelling c) ≤ certificate_limit
 
--- the file holds bytes of at most this length that fail at this line
-abbrev pub HoldsBad : Contents → List ℕ → ℕ → (List Line → Type 0) → ℕ → Type 0
-HoldsBad contents name limit texts line =
-    IsSomeAnd (get contents name) (λ bytes. (length bytes ≤ limit) × FirstBad texts bytes line)
-
-abbrev pub HoldsLong : Contents → List ℕ → ℕ → Type 0
-HoldsLong contents name limit = IsSomeAnd (get contents name) (λ bytes. limit < length bytes)
-
--- an alarm has the line of its statement
-abbrev pub alarm_at : List ℕ → Open → Alarm
-alarm_at lines pair =
-    record { kind = pair.kind; statement = pair.statement; line = slice_index lines (pair.statement - 1) }
-
-abbrev pub alarms_of : Program → List ℕ → List (List Claim) → List Alarm
-alarms_of program lines nodes = map (alarm_at lines) (open_pairs program nodes)
+-- the line that tells the number of packs
+abbrev pub packs_line : ℕ
+packs_line = 4
 
 -- ---- the answer to `check SOURCE CERT`
 
@@ -141,34 +140,34 @@ alarms_of program lines nodes = map (alarm_at lines) (open_pairs program nodes)
 abbrev pub AnswersSource : Contents → List ℕ → Answer → Type 0
 AnswersSource contents source (Absent name) = (get contents source ≡ None) × (name ≡ source)
 AnswersSource contents source (Refused cause) = IsSomeAnd (get contents source) (λ bytes. IsProfileCause bytes cause)
-AnswersSource contents source (NotYet line) = IsSomeAnd (get contents source) (λ bytes. IsNotStraight bytes line)
-AnswersSource contents source (Usage word) = ⊥
-AnswersSource contents source CertificateLong = ⊥
-AnswersSource contents source (NotInductive edge gap) = ⊥
-AnswersSource contents source (Report alarms) = ⊥
+AnswersSource contents source _ = ⊥
 
--- a refusal of the certificate, or what it shows of the program whose statements stand on these lines
-abbrev pub AnswersProgram : Contents → List ℕ → Program → List ℕ → Answer → Type 0
-AnswersProgram contents certificate program lines (Absent name) =
-    (get contents certificate ≡ None) × (name ≡ certificate)
-AnswersProgram contents certificate program lines CertificateLong = HoldsLong contents certificate certificate_limit
-AnswersProgram contents certificate program lines (NotYet line) =
-    HoldsBad contents certificate certificate_limit
-    (AreClaimsLines (length program.digits) (length program.acts + 1)) line
-AnswersProgram contents certificate program lines (NotInductive edge gap) =
-    (nodes : List (List Claim)) × HoldsClaims contents certificate program nodes
-    × (slice_get (leaks program nodes) 0 ≡ Some (leak edge gap))
-AnswersProgram contents certificate program lines (Report alarms) =
-    (nodes : List (List Claim)) × HoldsClaims contents certificate program nodes
-    × (leaks program nodes ≡ []) × (alarms ≡ alarms_of program lines nodes)
-AnswersProgram contents certificate program lines (Usage word) = ⊥
-AnswersProgram contents certificate program lines (Refused cause) = ⊥
+-- A refusal of a certificate that reads, or the statements that it leaves open. Certificates with packs aren't checked
+-- yet.
+abbrev pub AnswersCertificate : Program → Graph → Certificate → Answer → Type 0
+AnswersCertificate p g c (NotYet line) = ¬ (c.packs ≡ []) × (line ≡ packs_line)
+AnswersCertificate p g c (CertificateMisfit what found wanted) =
+    (c.packs ≡ []) × Refuses p g c (check.Shape what found wanted)
+AnswersCertificate p g c (NotInductive edge gap) = (c.packs ≡ []) × Refuses p g c (check.NotInductive 1 edge gap)
+AnswersCertificate p g c (Report alarms) =
+    (c.packs ≡ []) × ((pairs : List Open) × Accepts p g c pairs × (alarms ≡ alarms_of p pairs))
+AnswersCertificate p g c _ = ⊥
+
+-- What the file with the certificate shows of the program, or why it isn't read.
+abbrev pub AnswersProgram : Contents → List ℕ → Program → Graph → Answer → Type 0
+AnswersProgram contents certificate p g (Absent name) = (get contents certificate ≡ None) × (name ≡ certificate)
+AnswersProgram contents certificate p g CertificateLong =
+    IsSomeAnd (get contents certificate) (λ bytes. certificate_limit < length bytes)
+AnswersProgram contents certificate p g (CertificateBad line) =
+    IsSomeAnd (get contents certificate) (λ bytes. (length bytes ≤ certificate_limit) × RefusedBy bytes (text.Syntax line))
+AnswersProgram contents certificate p g answer =
+    (c : Certificate) × HoldsCertificate contents certificate c × AnswersCertificate p g c answer
 
 abbrev pub AnswersCheck : Contents → List ℕ → List ℕ → Answer → Type 0
 AnswersCheck contents source certificate answer =
     AnswersSource contents source answer
-    ⊎ ((tokens : List Token) × (s : Source) × HoldsSource contents source tokens s
-    × AnswersProgram contents certificate (program_of s) (statement_lines tokens s) answer)
+    ⊎ ((p : Program) × (g : Graph) × HoldsProgram contents source p g
+    × AnswersProgram contents certificate p g answer)
 
 -- ---- the answer to `run` where nothing is run
 
@@ -177,10 +176,7 @@ abbrev pub AnswersRun : Contents → Run → Answer → Type 0
 AnswersRun contents r (Absent name) = (get contents r.source ≡ None) × (name ≡ r.source)
 AnswersRun contents r (Refused cause) = IsSomeAnd (get contents r.source) (λ bytes. IsProfileCause bytes cause)
 AnswersRun contents r (Usage word) = IsSomeAnd (get contents r.source) (λ bytes. BlamesWord bytes r.names word)
-AnswersRun contents r (NotYet line) = ⊥
-AnswersRun contents r CertificateLong = ⊥
-AnswersRun contents r (NotInductive edge gap) = ⊥
-AnswersRun contents r (Report alarms) = ⊥
+AnswersRun contents r _ = ⊥
 
 -- The answer to these words, where the files' contents are known; a command's form shows in the words alone.
 abbrev pub Answers : Option Contents → List (List ℕ) → Answer → Type 0

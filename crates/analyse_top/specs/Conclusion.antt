@@ -1,20 +1,33 @@
 -- How a call of the program ends: its status, what it shows, and what it leaves.
-use Rattle.std.specs.Prelude.{◌≡◌, ℕ, ◌⊎◌, List, Some, Result, Err}
+use Rattle.std.specs.Prelude.{◌≡◌, ℕ, ◌⊎◌, List, [], Some, Result, Err}
+use Rattle.std.specs.List.{Contains}
+use Rattle.std.specs.FinMap.{get}
 use Rattle.batch_io.specs.Faults.{Rose}
 use Rattle.batch_io.specs.FilesState.{FilesState, Contents, KeepsIds, known_bytes}
 use Rattle.batch_io.specs.SinkState.{SinkState}
-use Rattle.cob_meaning.specs.Run.{MeetsNoFault}
-use Rattle.cob_tree.specs.declared.token.Token.{Token}
-use Rattle.straight_source.specs.Source.{Source, program_of}
+use Rattle.cob_tree.specs.declared.fault.Kind.{Kind}
+use Rattle.cob_tree.specs.declared.fault.Open.{Open}
+use Rattle.cob_meaning.specs.declared.straight.Outcome.TheVariants.{Fault}
+use Rattle.cob_program.specs.Act.{Program}
+use Rattle.cob_runs.specs.Files.{Choice}
+use Rattle.cob_runs.specs.Runs.{IsFaultless, run}
+use Rattle.cob_runs.specs.Runs as runs
+use Rattle.cob_graph.specs.declared.graph.Graph.{Graph}
 use Rattle.cob_interp.specs.declared.ends.Ended.{Ended}
 use Rattle.cob_interp.specs.declared.ends.RunEnd.{RunEnd}
 use Rattle.cob_interp.specs.declared.ends.RunEnd.TheVariants as end
 use Rattle.cob_interp.specs.Ends.{told_files, IsEnd}
 use Rattle.cob_interp.specs.Running.{outside}
+use Rattle.alarm_report.specs.declared.alarms.Alarm.{Alarm}
+use Rattle.alarm_report.specs.Alarms.{alarms_of}
+use Rattle.alarm_report.specs.Text.{report_text}
+use Rattle.cert_text.specs.View.{Certificate}
+use Rattle.cert_check.specs.Checking.{Accepts}
+use Rattle.run_words.specs.Words.{Run, IsRun}
 use Rattle.analyse_top.specs.Text.{memory_line, read_fault_line}
-use Rattle.analyse_top.specs.Showing.{GainsFront, Shows}
-use Rattle.analyse_top.specs.Answer.{Answer, Answers, IsCheck, HoldsSource, answer_text, status_of, status_unwritten}
-use Rattle.analyse_top.specs.Runs.{Task, AsksFor, RunsTo}
+use Rattle.analyse_top.specs.Showing.{Gains, GainsFront, Shows}
+use Rattle.analyse_top.specs.Answer.{Answer, Report, Answers, IsCheck, HoldsProgram, HoldsCertificate, answer_text, status_of, status_unwritten}
+use Rattle.analyse_top.specs.Runs.{Task, HoldsTask, AsksFor, RunsTo}
 
 -- ---- the ways to end
 
@@ -106,19 +119,105 @@ pub record IsExact (call : Call) : Type 0 where
   pub answers : AnswersExactly call
   pub runs : RunsExactly call
 
--- The headline: where `check` answers 0, SOURCE is a program of the profile, its canonical tokens are those of a source
--- of the form, and whatever the number of steps, its run meets no size error, no truncation and no other fault.
+-- ---- the headline
+
+-- The file SOURCE holds a source of a program of the profile, and on all input files, for all contents that are left
+-- undefined and every number of steps, its run meets no size error and no zero divisor that no phrase of the statement
+-- handles, no truncation and no operand that isn't numeric.
 pub record IsClean (contents : Contents) (words : List (List ℕ)) : Type 0 where
   pub name : List ℕ
   pub certificate : List ℕ
   pub checked : IsCheck words name certificate
-  pub tokens : List Token
-  pub source : Source
-  pub held : HoldsSource contents name tokens source
-  pub safe : MeetsNoFault (program_of source)
+  pub program : Program
+  pub graph : Graph
+  pub holds : HoldsProgram contents name program graph
+  pub safe : IsFaultless program
 
+-- where `check` answers 0, SOURCE is clean
 abbrev pub CleanIsSafe : Call → Type 0
 CleanIsSafe call =
     (contents : Contents) (source certificate : List ℕ) → IsCheck call.words source certificate
     → known_bytes call.files_before ≡ Some contents → call.status ≡ 0
     → IsClean contents call.words
+
+-- an alarm names the statement and the kind of fault
+abbrev pub Names : Alarm → Kind → ℕ → Type 0
+Names alarm kind statement = (alarm.kind ≡ kind) × (alarm.statement ≡ statement)
+
+-- each fault that any run of the program meets is named by one of the alarms
+abbrev pub NameAllFaults : List Alarm → Program → Type 0
+NameAllFaults alarms p =
+    (told : runs.Contents) (first : List ℕ) (choices : List Choice) (n : ℕ) (kind : Kind) (statement : ℕ)
+    → (run p told first choices n).outcome ≡ Fault kind statement
+    → (alarm : Alarm) × Contains alarms alarm × Names alarm kind statement
+
+-- The report on a program of the profile is shown whole, and names all faults of its runs.
+pub record ReportsAllFaults (contents : Contents) (call : Call) (source : List ℕ) : Type 0 where
+  pub program : Program
+  pub graph : Graph
+  pub holds : HoldsProgram contents source program graph
+  pub alarms : List Alarm
+  pub shown : Gains call.out_before call.out_after (report_text alarms)
+  pub named : NameAllFaults alarms program
+
+-- where `check` answers 0 or 1, its report names all faults
+abbrev pub ReportsAreComplete : Call → Type 0
+ReportsAreComplete call =
+    (contents : Contents) (source certificate : List ℕ) → IsCheck call.words source certificate
+    → known_bytes call.files_before ≡ Some contents → (call.status ≡ 0) ⊎ (call.status ≡ 1)
+    → ReportsAllFaults contents call source
+
+-- ---- when `check` answers 0 or 1
+
+-- SOURCE is of the profile, and CERT is a certificate of its program, within the limit and without packs, which is
+-- inductive and leaves these pairs open.
+pub record IsAccepted (contents : Contents) (source certificate : List ℕ) (pairs : List Open) : Type 0 where
+  pub program : Program
+  pub graph : Graph
+  pub claims : Certificate
+  pub holds : HoldsProgram contents source program graph
+  pub held : HoldsCertificate contents certificate claims
+  pub plain : claims.packs ≡ []
+  pub accepts : Accepts program graph claims pairs
+
+-- their report: `clean` with status 0 where there are none, else the alarms with status 1
+abbrev pub report_on : Program → List Open → Answer
+report_on p pairs = Report (alarms_of p pairs)
+
+pub record AnswersWhereAccepted (call : Call) (contents : Contents) (source certificate : List ℕ) : Type 0 where
+  -- a status of 0 or 1 is that of a report on what is accepted
+  pub only : (call.status ≡ 0) ⊎ (call.status ≡ 1)
+      → (pairs : List Open) × (a : IsAccepted contents source certificate pairs)
+      × (status_of (report_on a.program pairs) ≡ call.status)
+  -- which is given wherever something is, unless a read failed or memory ran out
+  pub always : (pairs : List Open) (a : IsAccepted contents source certificate pairs)
+      → EndsBy call (report_on a.program pairs) ⊎ EndsByReadFault call ⊎ EndsByMemory call
+
+abbrev pub AcceptsExactly : Call → Type 0
+AcceptsExactly call =
+    (contents : Contents) (source certificate : List ℕ) → IsCheck call.words source certificate
+    → known_bytes call.files_before ≡ Some contents → AnswersWhereAccepted call contents source certificate
+
+-- ---- runs of what is clean
+
+-- a call runs a source that was found clean, by whatever call
+pub record RunsClean (call : Call) : Type 0 where
+  pub asked : Run
+  pub said : IsRun call.words asked
+  pub told : Contents
+  pub known : known_bytes call.files_before ≡ Some told
+  pub contents : Contents
+  pub words : List (List ℕ)
+  pub clean : IsClean contents words
+  pub same : get told asked.source ≡ get contents clean.name
+
+pub record MeetsNoFault (call : Call) (told : Contents) (r : Run) : Type 0 where
+  -- the status that tells a fault isn't the call's
+  pub status : call.status ≡ 1 → ⊥
+  -- and no end of a run that is asked for is a fault
+  pub ends : (t : Task) (kind : Kind) (statement step steps : ℕ) → HoldsTask (Some told) r t
+      → IsEnd t.program (told_files told t.paths) t.steps (Err (end.Fault kind statement step)) steps → ⊥
+
+-- A source that was found clean isn't run into a fault.
+abbrev pub CleanRunsMeetNoFault : Call → Type 0
+CleanRunsMeetNoFault call = (r : RunsClean call) → MeetsNoFault call r.told r.asked

@@ -6,10 +6,6 @@ use Rattle.batch_io.specs.SinkState.{SinkState}
 use Rattle.cob_data.specs.declared.layout.FileDecl.{FileDecl}
 use Rattle.cob_program.specs.Act.{Program}
 use Rattle.cob_graph.specs.declared.graph.Graph.{Graph}
-use Rattle.cob_graph.specs.Graphs.{IsGraph}
-use Rattle.cob_front.specs.declared.refusal.Refusal.{Refusal}
-use Rattle.cob_front.specs.Source.{IsSource}
-use Rattle.cob_front.specs.Control.{IsControlCause}
 use Rattle.cob_interp.specs.declared.ends.Ended.{Ended}
 use Rattle.cob_interp.specs.declared.ends.RunEnd.{RunEnd}
 use Rattle.cob_interp.specs.declared.ends.RunEnd.TheVariants as end
@@ -18,7 +14,7 @@ use Rattle.run_words.specs.Words.{Run, IsRun}
 use Rattle.run_words.specs.Paths.{paths_of}
 use Rattle.analyse_top.specs.Text.{memory_line, run_text}
 use Rattle.analyse_top.specs.Showing.{GainsFront, ShowsRefusal}
-use Rattle.analyse_top.specs.Profile.{IsOfProfile}
+use Rattle.analyse_top.specs.Profile.{IsProgramOf, IsOfProfile}
 
 -- ---- what is asked for
 
@@ -32,11 +28,9 @@ pub record Task : Type 0 where
 abbrev pub task : Program → Graph → List (List ℕ) → ℕ → Task
 task program graph paths steps = record { program = program; graph = graph; paths = paths; steps = steps }
 
--- The bytes are a source of the task's program, which is of the profile; the words on files give its files their paths.
+-- The bytes are a source of the task's program; the words on files give its files their paths.
 pub record Makes (bytes : List ℕ) (r : Run) (t : Task) : Type 0 where
-  pub is_source : IsSource bytes t.program
-  pub is_graph : IsGraph t.program t.graph
-  pub within : (cause : Refusal) → IsControlCause t.program cause → ⊥
+  pub is_program : IsProgramOf bytes t.program t.graph
   pub paths_are : paths_of t.program.layout.files r.names ≡ Ok t.paths
   pub steps_are : t.steps ≡ r.steps
 

@@ -1,41 +1,31 @@
 -- What the parts of the program's call do.
-use Rattle.std.specs.Prelude.{◌≡◌, ℕ, ◌+◌, ◌≤◌, ◌⊎◌, Bool, true, false, List, [], map, length, slice_get, Some, Result, Ok, Err, MatchResult, Vec}
-use Rattle.std.specs.declared.alloc.Global.{Global}
-use Rattle.text_lines.specs.Lines.{text_of}
-use Rattle.text_lines.specs.Viable.{FirstBad}
+use Rattle.std.specs.Prelude.{◌≡◌, ℕ, ◌⊎◌, Bool, true, false, List, length, Result, Ok, Err}
 use Rattle.batch_io.specs.Faults.{Counts}
 use Rattle.batch_io.specs.FilesState.{FilesState, KeepsIds, known_bytes}
 use Rattle.batch_io.specs.SinkState.{SinkState}
-use Rattle.cob_tree.specs.declared.fault.Open.{Open}
-use Rattle.cob_tree.specs.declared.token.Token.{Token}
-use Rattle.cob_meaning.specs.Program.{Program, plain, IsValid}
-use Rattle.cert_text.specs.declared.cert.Claim.{Claim}
-use Rattle.cert_check.specs.declared.ends.CheckEnd.{CheckEnd}
-use Rattle.cert_check.specs.declared.ends.CheckEnd.TheVariants as check
-use Rattle.cert_check.specs.Inductive.{FitsProgram, leak, leaks}
-use Rattle.straight_claims.specs.Claims.{AreClaimsLines, claims_lines}
-use Rattle.straight_source.specs.declared.read.StraightLines.{StraightLines}
-use Rattle.straight_source.specs.Source.{Source, program_of, statement_lines}
+use Rattle.cob_program.specs.Act.{Program}
 use Rattle.cob_program.specs.ActView.{plain_program}
+use Rattle.cob_graph.specs.declared.graph.Graph.{Graph}
 use Rattle.cob_graph.specs.Graphs.{IsGraph}
 use Rattle.cob_front.specs.declared.refusal.Refusal.{Refusal}
 use Rattle.cob_front.specs.declared.refusal.Refusal.TheVariants as end
-use Rattle.cob_front.specs.Source.{IsSource}
-use Rattle.cob_front.specs.Control.{IsControlCause}
 use Rattle.cob_well_formed.specs.Sources.{CanBeRun}
+use Rattle.cert_text.specs.declared.cert.CertEnd.TheVariants as text
+use Rattle.cert_text.specs.View.{Certificate}
+use Rattle.cert_text.specs.Allowed.{IsAllowed}
+use Rattle.cert_text.specs.Text.{spelling}
+use Rattle.cert_text.specs.Texts.{RefusedBy}
 use Rattle.run_words.specs.Words.{Run, texts}
 use Rattle.run_words.specs.Paths.{AreDistinct}
 use Rattle.analyse_top.specs.declared.answer.Stop.{Stop}
 use Rattle.analyse_top.specs.declared.answer.Stop.TheVariants.{ReadFault, Memory}
 use Rattle.analyse_top.specs.declared.run.Task as code_task
 use Rattle.analyse_top.specs.declared.source.Laid.{Laid}
-use Rattle.analyse_top.specs.declared.source.Unread.{Unread}
-use Rattle.analyse_top.specs.declared.source.Unread.TheVariants as unread
 use Rattle.analyse_top.specs.Text.{memory_line, read_fault_line}
 use Rattle.analyse_top.specs.Showing.{GainsFront, Shows, ShowsRefusal}
-use Rattle.analyse_top.specs.Profile.{IsProfileCause, IsWritten, IsNotStraight}
+use Rattle.analyse_top.specs.Profile.{IsProgramOf, IsProfileCause}
 use Rattle.analyse_top.specs.Runs.{Makes, BlamesWord}
-use Rattle.analyse_top.specs.Answer.{Answer, Usage, Absent, Refused, NotYet, CertificateLong, NotInductive, Report, alarm_at, alarms_of, answer_text, status_of, status_unwritten}
+use Rattle.analyse_top.specs.Answer.{Answer, Usage, Refused, CertificateBad, AnswersCertificate, answer_text, status_of, status_unwritten}
 use Rattle.analyse_top.specs.View.{plain_task}
 
 abbrev pub stopped_by_fault : {X : Type 0} → Result X Stop → Bool
@@ -58,46 +48,17 @@ pub record Reads (old new : FilesState) (failed : Bool) : Type 0 where
 -- ---- reading the source
 
 -- a program of the profile of which the bytes are a source, and its graph
-pub record IsLaid (bytes : List ℕ) (laid : Laid) : Type 0 where
-  pub is_source : IsSource bytes (plain_program laid.program)
-  pub is_graph : IsGraph (plain_program laid.program) laid.graph
-  pub within : (cause : Refusal) → IsControlCause (plain_program laid.program) cause → ⊥
+abbrev pub IsLaid : List ℕ → Laid → Type 0
+IsLaid bytes laid = IsProgramOf bytes (plain_program laid.program) laid.graph
 
--- a program and its lines, as the checker takes them
-pub record IsCheckable (read : StraightLines) : Type 0 where
-  pub valid : IsValid (plain read.program)
-  pub items : length read.program.digits.items ≤ 26
-  pub acts : length read.program.acts.items ≤ 4095
-  pub lines : length read.lines.items ≡ length read.program.acts.items
+-- the bytes of some source
+abbrev pub IsOfSource : Laid → Type 0
+IsOfSource laid = (bytes : List ℕ) × IsLaid bytes laid
 
--- the bytes write this program, on these lines
-abbrev pub Writes : List ℕ → StraightLines → Type 0
-Writes bytes read =
-    (tokens : List Token) × (source : Source) × IsWritten bytes tokens source
-    × (plain read.program ≡ program_of source) × (read.lines.items ≡ statement_lines tokens source)
-
--- why the bytes aren't read, or want of memory
-abbrev pub IsUnread : List ℕ → Unread → Type 0
-IsUnread bytes (unread.Refused cause) = IsProfileCause bytes cause
-IsUnread bytes (unread.NotYet line) = IsNotStraight bytes line
-IsUnread bytes unread.Memory = Unit {0}
-
--- want of memory stands by itself
-abbrev pub unread_for : Refusal → Unread
-unread_for end.TooLong = unread.Refused end.TooLong
-unread_for (end.BadLine line column) = unread.Refused (end.BadLine line column)
-unread_for (end.BadToken line column) = unread.Refused (end.BadToken line column)
-unread_for (end.Syntax line) = unread.Refused (end.Syntax line)
-unread_for (end.Nesting count) = unread.Refused (end.Nesting count)
-unread_for (end.Outside rule line) = unread.Refused (end.Outside rule line)
-unread_for (end.Limit which count) = unread.Refused (end.Limit which count)
-unread_for end.Memory = unread.Memory
-
--- the answer that says why a source isn't read
-abbrev pub answer_to : Unread → Result Answer Stop
-answer_to (unread.Refused cause) = Ok (Refused cause)
-answer_to (unread.NotYet line) = Ok (NotYet line)
-answer_to unread.Memory = Err Memory
+-- the answer that says why a source isn't read, or want of memory
+abbrev pub answer_to : Refusal → Result Answer Stop
+answer_to end.Memory = Err Memory
+answer_to cause = Ok (Refused cause)
 
 -- ---- what is run
 
@@ -117,49 +78,16 @@ pub record IsTask (bytes : List ℕ) (r : Run) (t : code_task.Task) : Type 0 whe
 abbrev pub IsNoTask : List ℕ → List (List ℕ) → Result Answer Stop → Type 0
 IsNoTask bytes names (Ok (Refused cause)) = IsProfileCause bytes cause
 IsNoTask bytes names (Ok (Usage word)) = BlamesWord bytes names word
-IsNoTask bytes names (Ok (Absent name)) = ⊥
-IsNoTask bytes names (Ok (NotYet line)) = ⊥
-IsNoTask bytes names (Ok CertificateLong) = ⊥
-IsNoTask bytes names (Ok (NotInductive edge gap)) = ⊥
-IsNoTask bytes names (Ok (Report alarms)) = ⊥
+IsNoTask bytes names (Ok _) = ⊥
 IsNoTask bytes names (Err stop) = stop ≡ Memory
 
--- ---- between the checker and the answer
-
--- the shape was right before the checker was called
-abbrev pub IsNoShape : CheckEnd → Type 0
-IsNoShape (check.Shape what found wanted) = ⊥
-IsNoShape (check.NotInductive layer edge gap) = Unit {0}
-IsNoShape check.Memory = Unit {0}
-
--- the pair's statement is one of these lines' statements
-abbrev pub HasLine : List ℕ → Open → Type 0
-HasLine lines pair = (1 ≤ pair.statement) × (pair.statement ≤ length lines)
-
--- the answer that says what the checker says
-abbrev pub AnswersChecked : List ℕ → Result (Vec Open Global) CheckEnd → Result Answer Stop → Type 0
-AnswersChecked lines (Ok pairs) result =
-    MatchResult result (λ answer. answer ≡ Report (map (alarm_at lines) pairs.items)) (λ stop. stop ≡ Memory)
-AnswersChecked lines (Err (check.NotInductive layer edge gap)) result = result ≡ Ok (NotInductive edge gap)
-AnswersChecked lines (Err check.Memory) result = result ≡ Err Memory
-AnswersChecked lines (Err (check.Shape what found wanted)) result = ⊥
+-- ---- the certificate
 
 -- the answer to a certificate of these bytes
-abbrev pub AnswersBytes : List ℕ → Program → List ℕ → Answer → Type 0
-AnswersBytes bytes program lines (NotYet line) =
-    FirstBad (AreClaimsLines (length program.digits) (length program.acts + 1)) bytes line
-AnswersBytes bytes program lines (NotInductive edge gap) =
-    (nodes : List (List Claim)) × FitsProgram program nodes
-    × (bytes ≡ text_of (claims_lines (length program.digits) nodes))
-    × (slice_get (leaks program nodes) 0 ≡ Some (leak edge gap))
-AnswersBytes bytes program lines (Report alarms) =
-    (nodes : List (List Claim)) × FitsProgram program nodes
-    × (bytes ≡ text_of (claims_lines (length program.digits) nodes))
-    × (leaks program nodes ≡ []) × (alarms ≡ alarms_of program lines nodes)
-AnswersBytes bytes program lines (Usage word) = ⊥
-AnswersBytes bytes program lines (Absent name) = ⊥
-AnswersBytes bytes program lines (Refused cause) = ⊥
-AnswersBytes bytes program lines CertificateLong = ⊥
+abbrev pub AnswersBytes : List ℕ → Program → Graph → Answer → Type 0
+AnswersBytes bytes p g (CertificateBad line) = RefusedBy bytes (text.Syntax line)
+AnswersBytes bytes p g answer =
+    (c : Certificate) × IsAllowed c × (bytes ≡ spelling c) × AnswersCertificate p g c answer
 
 -- ---- what is shown
 

@@ -1,7 +1,6 @@
 -- What is printed.
-use Rattle.std.specs.Prelude.{ℕ, ℤ, List, [], ◌∷◌, ◌++◌, length, slice_get, codes, decimal, Option, None, Some}
+use Rattle.std.specs.Prelude.{ℕ, ℤ, List, [], ◌++◌, slice_get, codes, decimal, Option, None, Some}
 use Rattle.std.specs.Fmt.{signed_decimal}
-use Rattle.std.specs.List.{flat_map}
 use Rattle.std.specs.Option.{option_map_or}
 use Rattle.cob_data.specs.declared.end.Rule.{Rule}
 use Rattle.cob_data.specs.declared.end.Rule.TheVariants as rule
@@ -14,30 +13,11 @@ use Rattle.cob_interp.specs.declared.ends.RunEnd.{RunEnd}
 use Rattle.cob_interp.specs.declared.ends.RunEnd.TheVariants as run
 use Rattle.cob_runs.specs.Files.{status_bytes}
 use Rattle.cob_tree.specs.declared.fault.Kind.{Kind}
-use Rattle.cob_tree.specs.declared.fault.Kind.TheVariants as kind
-use Rattle.cert_check.specs.declared.ends.Gap.{Gap}
-use Rattle.cert_check.specs.declared.ends.Gap.TheVariants as gap
-use Rattle.analyse_top.specs.declared.answer.Alarm.{Alarm}
-
-abbrev pub line_end : List ℕ
-line_end = 10 ∷ []
-
-abbrev pub kind_text : Kind → List ℕ
-kind_text kind.Size = codes "SIZE"
-kind_text kind.Truncation = codes "TRUNCATION"
-kind_text kind.Zero = codes "ZERO"
-kind_text kind.Class = codes "CLASS"
-
-abbrev pub alarm_text : Alarm → List ℕ
-alarm_text alarm =
-    kind_text alarm.kind ++ codes " statement " ++ decimal alarm.statement
-    ++ codes " line " ++ decimal alarm.line ++ line_end
-
--- `clean`, or a line for each alarm and their number
-abbrev pub report_text : List Alarm → List ℕ
-report_text [] = codes "clean" ++ line_end
-report_text (alarm ∷ alarms) =
-    flat_map alarm_text (alarm ∷ alarms) ++ codes "alarms " ++ decimal (length (alarm ∷ alarms)) ++ line_end
+use Rattle.claimed_rows.specs.declared.gap.Gap.{Gap}
+use Rattle.claimed_rows.specs.declared.gap.Gap.TheVariants as gap
+use Rattle.cert_check.specs.declared.ends.Shape.{Shape}
+use Rattle.cert_check.specs.declared.ends.Shape.TheVariants as shape
+use Rattle.alarm_report.specs.Text.{line_end, kind_text}
 
 abbrev pub bound_text : Option ℤ → List ℕ
 bound_text None = codes "none"
@@ -62,6 +42,15 @@ gap_text (gap.Class cell) = cell_text cell ++ codes " class"
 gap_text (gap.Low cell reached claimed) = cell_text cell ++ codes " low" ++ ends_text reached claimed
 gap_text (gap.High cell reached claimed) = cell_text cell ++ codes " high" ++ ends_text reached claimed
 gap_text (gap.Diff pack row column reached claimed) = place_text pack row column ++ difference_text reached claimed
+
+abbrev pub shape_text : Shape → List ℕ
+shape_text shape.Cells = codes "cells"
+shape_text shape.Nodes = codes "nodes"
+
+-- the line of a number that differs from the program's
+abbrev pub shape_line : Shape → ℕ → ℕ → List ℕ
+shape_line what found wanted =
+    codes "E13 " ++ shape_text what ++ codes " found " ++ decimal found ++ codes " wanted " ++ decimal wanted ++ line_end
 
 -- the one line of a refusal at a place
 abbrev pub place_line : List ℕ → ℕ → ℕ → List ℕ

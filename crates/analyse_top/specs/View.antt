@@ -7,7 +7,7 @@ use Rattle.analyse_top.specs.declared.answer.Answer.TheVariants as code
 use Rattle.analyse_top.specs.declared.answer.Answer as declared
 use Rattle.analyse_top.specs.declared.run.Task as code_task
 use Rattle.analyse_top.specs.Runs.{Task, task}
-use Rattle.analyse_top.specs.Answer.{Answer, Usage, Absent, Refused, NotYet, CertificateLong, NotInductive, Report}
+use Rattle.analyse_top.specs.Answer.{Answer, Usage, Absent, Refused, NotYet, CertificateLong, CertificateBad, CertificateMisfit, NotInductive, Report}
 
 abbrev pub plain_answer : declared.Answer → Answer
 plain_answer (code.Usage word) = Usage word.now
@@ -16,6 +16,8 @@ plain_answer (code.Absent name) = Absent name.now
 plain_answer (code.Refused cause) = Refused cause
 plain_answer (code.NotYet line) = NotYet line
 plain_answer code.CertificateLong = CertificateLong
+plain_answer (code.CertificateBad line) = CertificateBad line
+plain_answer (code.CertificateMisfit what found wanted) = CertificateMisfit what found wanted
 plain_answer (code.NotInductive edge gap) = NotInductive edge gap
 plain_answer (code.Report alarms) = Report alarms.items
 

@@ -2,18 +2,10 @@
 ghost use Rattle.std.specs.Prelude.{◌≡◌};
 ghost use Rattle.analyse_top.specs.declared.answer.Stop.TheVariants.{Memory};
 
-use cert_check::Gap;
+use alarm_report::Alarm;
+use cert_check::{Gap, Shape};
 use cob_front::Refusal;
-use cob_tree::Kind;
 use std::alloc::AllocError;
-
-/// A statement that a certificate leaves open, and the line on which it stands.
-#[derive(Clone, Copy, Debug, PartialEq, Eq)]
-pub struct Alarm {
-    pub kind: Kind,
-    pub statement: u32,
-    pub line: u32,
-}
 
 /// What the commands answer where nothing is run. Names are the command's own words.
 #[derive(Drop)]
@@ -26,9 +18,13 @@ pub enum Answer<'a> {
     Absent(&'a str),
     /// The source isn't of the profile.
     Refused(Refusal),
-    /// The first line that isn't of the straight-line form, of the source or of the certificate.
+    /// The line of the certificate on which a form stands that isn't checked yet.
     NotYet(u32),
     CertificateLong,
+    /// The first line with which no certificate's text goes on.
+    CertificateBad(u32),
+    /// The certificate's number of cells or nodes, and the program's.
+    CertificateMisfit(Shape, u32, u32),
     /// The first edge at which the certificate isn't inductive, and the first place there.
     NotInductive(u32, Gap),
     Report(Vec<Alarm>),

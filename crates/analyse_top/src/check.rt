@@ -1,23 +1,28 @@
 //! `check`: the answer to a source and a certificate.
-ghost use Rattle.std.specs.Prelude.{◌≡◌, ◌≤◌, All, map, length, IfOk, IfSome, MatchResult};
+ghost use Rattle.std.specs.Prelude.{◌≡◌, ◌≤◌, [], length, IfOk, IfSome, MatchResult};
 ghost use Rattle.batch_io.specs.FilesState.{known_bytes};
-ghost use Rattle.cob_meaning.specs.Program.{plain};
-ghost use Rattle.analyse_top.specs.Answer.{AnswersCheck, AnswersProgram, alarm_at};
-ghost use Rattle.analyse_top.specs.Steps.{Reads, stopped_by_fault, IsCheckable, answer_to, HasLine, IsNoShape, AnswersChecked, AnswersBytes};
+ghost use Rattle.cert_text.specs.View.{view};
+ghost use Rattle.cert_text.specs.Allowed.{IsAllowed};
+ghost use Rattle.cob_program.specs.ActView.{plain_program};
+ghost use Rattle.analyse_top.specs.Answer.{AnswersCertificate, AnswersCheck, AnswersProgram};
+ghost use Rattle.analyse_top.specs.Steps.{Reads, stopped_by_fault, answer_to, IsOfSource, AnswersBytes};
 ghost use Rattle.analyse_top.specs.View.{plain_answer, plain_result};
 
-use crate::answer::{Alarm, Answer, Stop};
-use crate::source::{Unread, read_straight};
+use crate::answer::{Answer, Stop};
+use crate::source::{Laid, laid_in};
+use alarm_report::alarms_of;
 use batch_io::{FileEnd, Files, read_file};
-use cert_check::{CheckEnd, check_straight};
+use cert_check::{CheckEnd, check as check_claims};
+use cert_text::{Cert, CertEnd, read as read_certificate};
 use cob_front::Refusal;
 use cob_lines::SOURCE_LIMIT;
-use cob_tree::Open;
-use std::alloc::{AllocError, Global};
-use straight_claims::{ClaimsEnd, read_claims};
-use straight_source::StraightLines;
+use source_facts::{sources_have_source_graphs, statements_are_counted};
+use std::alloc::Global;
 
 const CERTIFICATE_LIMIT: usize = 67_108_864;
+
+// The line that tells the number of packs.
+const PACKS_LINE: u32 = 4;
 
 /// Answers `check SOURCE CERT`.
 pub fn check<'a, F: Files>(
@@ -37,37 +42,36 @@ pub fn check<'a, F: Files>(
         Err(FileEnd::Failed) => return Err(Stop::ReadFault),
         Err(FileEnd::Memory) => return Err(Stop::Memory),
     };
-    match read_straight(alloc, &bytes) {
-        Ok(read) => check_program(alloc, &read, certificate, files),
-        Err(end) => answer_to(end),
+    match laid_in(alloc, &bytes) {
+        Ok(laid) => check_program(alloc, &laid, certificate, files),
+        Err(cause) => answer_to(cause),
     }
 }
 
 /// The answer to a source that isn't read.
-pub fn answer_to<'a>(end: Unread) -> Result<Answer<'a>, Stop>
-    ensures { plain_result result ≡ answer_to end }
+pub fn answer_to<'a>(cause: Refusal) -> Result<Answer<'a>, Stop>
+    ensures { plain_result result ≡ answer_to cause }
 {
-    match end {
-        Unread::Refused(cause) => Ok(Answer::Refused(cause)),
-        Unread::NotYet { line } => Ok(Answer::NotYet(line)),
-        Unread::Memory => Err(Stop::Memory),
+    match cause {
+        Refusal::Memory => Err(Stop::Memory),
+        cause => Ok(Answer::Refused(cause)),
     }
 }
 
 // Answers for a source that was read.
 fn check_program<'a, F: Files>(
     alloc: Global,
-    read: &StraightLines,
+    laid: &Laid,
     certificate: &'a str,
     files: &mut F,
 ) -> Result<Answer<'a>, Stop>
-    requires { IsCheckable read.now }
+    requires { IsOfSource laid.now }
     ensures reads { Reads (F.state files.old) (F.state files.new) (stopped_by_fault result) }
     ensures answer { IfOk result (λ answer. IfSome (known_bytes (F.state files.old)) (λ contents.
-        AnswersProgram contents certificate.now (plain read.now.program) read.now.lines.items (plain_answer answer))) }
+        AnswersProgram contents certificate.now (plain_program laid.now.program) laid.now.graph (plain_answer answer))) }
 {
     match read_file(alloc, files, certificate, CERTIFICATE_LIMIT) {
-        Ok(bytes) => check_bytes(alloc, read, &bytes),
+        Ok(bytes) => check_bytes(alloc, laid, &bytes),
         Err(FileEnd::Absent) => Ok(Answer::Absent(certificate)),
         Err(FileEnd::Long) => Ok(Answer::CertificateLong),
         Err(FileEnd::Failed) => Err(Stop::ReadFault),
@@ -76,37 +80,54 @@ fn check_program<'a, F: Files>(
 }
 
 // Answers for a certificate's bytes.
-fn check_bytes<'a>(alloc: Global, read: &StraightLines, bytes: &[u8]) -> Result<Answer<'a>, Stop>
-    requires checkable { IsCheckable read.now }
-    requires size { length bytes.now ≤ 67108864 }
-    ensures { MatchResult result (λ answer. AnswersBytes bytes.now (plain read.now.program) read.now.lines.items (plain_answer answer))
+fn check_bytes<'a>(alloc: Global, laid: &Laid, bytes: &[u8]) -> Result<Answer<'a>, Stop>
+    requires { IsOfSource laid.now }
+    ensures { MatchResult result
+        (λ answer. AnswersBytes bytes.now (plain_program laid.now.program) laid.now.graph (plain_answer answer))
         (λ stop. stop ≡ Stop.Memory) }
 {
-    let program = &read.program;
-    let cells = program.digits.len() as u32;
-    let nodes = program.acts.len() as u32 + 1;
-    match read_claims(alloc, bytes, cells, nodes) {
-        Ok(claims) => answer_of(
-            alloc,
-            read.lines.as_slice(),
-            check_straight(alloc, program, &claims),
-        ),
-        Err(ClaimsEnd::NotYet { line }) => Ok(Answer::NotYet(line)),
-        Err(ClaimsEnd::Memory) => Err(Stop::Memory),
+    match read_certificate(alloc, bytes) {
+        Ok(cert) => check_certificate(alloc, laid, &cert),
+        Err(CertEnd::Syntax { line }) => Ok(Answer::CertificateBad(line)),
+        Err(CertEnd::Memory) => Err(Stop::Memory),
     }
 }
 
-// The checker's answer as the program's.
-fn answer_of<'a>(
-    alloc: Global,
-    lines: &[u32],
-    checked: Result<Vec<Open>, CheckEnd>,
-) -> Result<Answer<'a>, Stop>
-    requires { MatchResult checked (λ pairs. All (HasLine lines.now) pairs.items) IsNoShape }
-    ensures { AnswersChecked lines.now checked (plain_result result) }
+// Answers for a certificate. One with packs isn't checked yet.
+fn check_certificate<'a>(alloc: Global, laid: &Laid, cert: &Cert) -> Result<Answer<'a>, Stop>
+    requires source { IsOfSource laid.now }
+    requires allowed { IsAllowed (view cert.now) }
+    ensures { MatchResult result
+        (λ answer. AnswersCertificate (plain_program laid.now.program) laid.now.graph (view cert.now) (plain_answer answer))
+        (λ stop. stop ≡ Stop.Memory) }
 {
-    match checked {
-        Ok(pairs) => Ok(Answer::Report(alarms_of(alloc, lines, &pairs)?)),
+    if cert.packs.is_empty() {
+        check_plain(alloc, laid, cert)
+    } else {
+        Ok(Answer::NotYet(PACKS_LINE))
+    }
+}
+
+// Answers for a certificate without packs.
+fn check_plain<'a>(alloc: Global, laid: &Laid, cert: &Cert) -> Result<Answer<'a>, Stop>
+    requires source { IsOfSource laid.now }
+    requires allowed { IsAllowed (view cert.now) }
+    requires plain { (view cert.now).packs ≡ [] }
+    ensures { MatchResult result
+        (λ answer. AnswersCertificate (plain_program laid.now.program) laid.now.graph (view cert.now) (plain_answer answer))
+        (λ stop. stop ≡ Stop.Memory) }
+{
+    sources_have_source_graphs();
+    statements_are_counted();
+    match check_claims(alloc, &laid.program, &laid.graph, cert) {
+        Ok(pairs) => Ok(Answer::Report(alarms_of(alloc, &laid.program, &pairs)?)),
+        Err(
+            CheckEnd::Shape {
+                what,
+                found,
+                wanted,
+            },
+        ) => Ok(Answer::CertificateMisfit(what, found, wanted)),
         Err(
             CheckEnd::NotInductive {
                 layer: _,
@@ -115,22 +136,5 @@ fn answer_of<'a>(
             },
         ) => Ok(Answer::NotInductive(edge, gap)),
         Err(CheckEnd::Memory) => Err(Stop::Memory),
-        Err(CheckEnd::Shape { .. }) => unreachable!(),
     }
-}
-
-// The open pairs with the lines of their statements.
-fn alarms_of(alloc: Global, lines: &[u32], pairs: &[Open]) -> Result<Vec<Alarm>, AllocError>
-    requires { All (HasLine lines.now) pairs.now }
-    ensures { IfOk result (λ alarms. alarms.items ≡ map (alarm_at lines.now) pairs.now) }
-{
-    let mut alarms = Vec::new(alloc);
-    for pair in pairs {
-        alarms.push(Alarm {
-            kind: pair.kind,
-            statement: pair.statement,
-            line: lines[pair.statement as usize - 1],
-        })?;
-    }
-    Ok(alarms)
 }

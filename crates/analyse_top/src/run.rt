@@ -13,7 +13,7 @@ ghost use Rattle.analyse_top.specs.View.{plain_answer, plain_result, plain_task}
 use crate::answer::{Answer, Stop};
 use crate::check::answer_to;
 use crate::show::show_end;
-use crate::source::{Laid, laid_in, unread_for};
+use crate::source::{Laid, laid_in};
 use batch_io::{FileEnd, Files, Sink, read_file};
 use cob_front::Refusal;
 use cob_interp::run_to_ending;
@@ -65,7 +65,7 @@ fn task_in<'a>(
 {
     match laid_in(alloc, bytes) {
         Ok(laid) => with_paths(alloc, bytes, laid, said),
-        Err(cause) => Err(answer_to(unread_for(cause))),
+        Err(cause) => Err(answer_to(cause)),
     }
 }
 

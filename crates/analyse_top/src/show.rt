@@ -77,7 +77,10 @@ fn status_of(answer: &Answer) -> u8
         Answer::Report(_) => 1,
         Answer::Refused(cause) => refusal_status(*cause),
         Answer::NotYet(_) => 2,
-        Answer::CertificateLong | Answer::NotInductive(_, _) => 3,
+        Answer::CertificateLong
+        | Answer::CertificateBad(_)
+        | Answer::CertificateMisfit(_, _, _)
+        | Answer::NotInductive(_, _) => 3,
         Answer::Usage(_) | Answer::NoPaths(_) => 4,
         Answer::Absent(_) => 7,
     }

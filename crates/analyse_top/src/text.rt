@@ -1,61 +1,18 @@
 //! The text of answers: reports, refusals and the lines that tell how a run ended.
-ghost use Rattle.std.specs.Prelude.{◌≡◌, ◌++◌, codes, decimal, OnOk, IfOk, length, vec_len};
-ghost use Rattle.analyse_top.specs.Text.{line_end, alarm_text, at_line, bound_text, gap_text, kind_text, over_line, refusal_text, report_text, rule_text, ends_text, cell_text, difference_text, place_text, place_line, which_text, external_at, fault_line, number_line, ragged_line, run_text, stop_line};
+ghost use Rattle.std.specs.Prelude.{◌≡◌, ◌++◌, codes, decimal, OnOk, IfOk};
+ghost use Rattle.analyse_top.specs.Text.{at_line, bound_text, gap_text, over_line, refusal_text, rule_text, shape_line, shape_text, ends_text, cell_text, difference_text, place_text, place_line, which_text, external_at, fault_line, number_line, ragged_line, run_text, stop_line};
+ghost use Rattle.alarm_report.specs.Text.{line_end};
 ghost use Rattle.analyse_top.specs.View.{plain_answer};
 ghost use Rattle.analyse_top.specs.Answer.{answer_text, usage_text};
 
-use crate::answer::{Alarm, Answer};
-use cert_check::Gap;
+use crate::answer::Answer;
+use alarm_report::{kind_text, push_number, push_report};
+use cert_check::{Gap, Shape};
 use cob_data::{FileDecl, Rule, Which};
 use cob_front::Refusal;
 use cob_interp::RunEnd;
 use cob_tree::Kind;
-use itoa::{Buffer, Integer};
 use std::alloc::{AllocError, Global};
-
-// Appends a number in decimal.
-fn push_number<I: Integer>(text: &mut Vec<u8>, number: I) -> Result<(), AllocError>
-    ensures { OnOk result (text.new.items ≡ text.old.items ++ I.text number) }
-{
-    let mut buffer = Buffer::new();
-    text.extend_from_slice(buffer.format(number).as_bytes())
-}
-
-fn kind_text(kind: Kind) -> &'static [u8]
-    ensures { result.now ≡ kind_text kind }
-{
-    match kind {
-        Kind::Size => b"SIZE",
-        Kind::Truncation => b"TRUNCATION",
-        Kind::Zero => b"ZERO",
-        Kind::Class => b"CLASS",
-    }
-}
-
-fn push_alarm(text: &mut Vec<u8>, alarm: &Alarm) -> Result<(), AllocError>
-    ensures { OnOk result (text.new.items ≡ text.old.items ++ alarm_text alarm.now) }
-{
-    text.extend_from_slice(kind_text(alarm.kind))?;
-    text.extend_from_slice(b" statement ")?;
-    push_number(text, alarm.statement)?;
-    text.extend_from_slice(b" line ")?;
-    push_number(text, alarm.line)?;
-    text.extend_from_slice(b"\n")
-}
-
-fn push_report(text: &mut Vec<u8>, alarms: &[Alarm]) -> Result<(), AllocError>
-    ensures { OnOk result (text.new.items ≡ text.old.items ++ report_text alarms.now) }
-{
-    if alarms.is_empty() {
-        return text.extend_from_slice(b"clean\n");
-    }
-    for alarm in alarms {
-        push_alarm(text, alarm)?;
-    }
-    text.extend_from_slice(b"alarms ")?;
-    push_number(text, alarms.len())?;
-    text.extend_from_slice(b"\n")
-}
 
 // The two ends of a claim that was not met.
 fn push_ends(text: &mut Vec<u8>, reached: i64, claimed: i64) -> Result<(), AllocError>
@@ -288,6 +245,27 @@ fn push_leak(text: &mut Vec<u8>, edge: u32, gap: &Gap) -> Result<(), AllocError>
     text.extend_from_slice(b"\n")
 }
 
+fn shape_text(what: Shape) -> &'static [u8]
+    ensures { result.now ≡ shape_text what }
+{
+    match what {
+        Shape::Cells => b"cells",
+        Shape::Nodes => b"nodes",
+    }
+}
+
+fn push_misfit(text: &mut Vec<u8>, what: Shape, found: u32, wanted: u32) -> Result<(), AllocError>
+    ensures { OnOk result (text.new.items ≡ text.old.items ++ shape_line what found wanted) }
+{
+    text.extend_from_slice(b"E13 ")?;
+    text.extend_from_slice(shape_text(what))?;
+    text.extend_from_slice(b" found ")?;
+    push_number(text, found)?;
+    text.extend_from_slice(b" wanted ")?;
+    push_number(text, wanted)?;
+    text.extend_from_slice(b"\n")
+}
+
 fn push_answer(text: &mut Vec<u8>, answer: &Answer) -> Result<(), AllocError>
     ensures { OnOk result (text.new.items ≡ text.old.items ++ answer_text (plain_answer answer.now)) }
 {
@@ -298,6 +276,8 @@ fn push_answer(text: &mut Vec<u8>, answer: &Answer) -> Result<(), AllocError>
         Answer::Refused(cause) => push_refusal(text, *cause),
         Answer::NotYet(line) => push_line(text, b"E20", *line),
         Answer::CertificateLong => text.extend_from_slice(b"E11 certificate too long\n"),
+        Answer::CertificateBad(line) => push_line(text, b"E12", *line),
+        Answer::CertificateMisfit(what, found, wanted) => push_misfit(text, *what, *found, *wanted),
         Answer::NotInductive(edge, gap) => push_leak(text, *edge, gap),
         Answer::Report(alarms) => push_report(text, alarms),
     }

@@ -3,7 +3,7 @@ ghost use Rattle.std.specs.Prelude.{◌≡◌, ℕ, List, IfOk};
 ghost use Rattle.batch_io.specs.FilesState.{known_bytes};
 ghost use Rattle.run_words.specs.Words.{IsRun, Run, plain_run, texts};
 ghost use Rattle.analyse_top.specs.Answer.{Answers};
-ghost use Rattle.analyse_top.specs.Conclusion.{Concludes, IsExact, CleanIsSafe, call};
+ghost use Rattle.analyse_top.specs.Conclusion.{Concludes, IsExact, AcceptsExactly, CleanIsSafe, CleanRunsMeetNoFault, ReportsAreComplete, call};
 ghost use Rattle.analyse_top.specs.Steps.{Reads, stopped_by_fault};
 ghost use Rattle.analyse_top.specs.View.{plain_answer};
 
@@ -12,10 +12,13 @@ use crate::check::check;
 use crate::run::{run, task_for};
 use crate::show::show_found;
 use batch_io::{Files, Sink};
+use cert_check::accepted_claims_cover_runs;
+use cert_text::{no_bad_line, one_place, one_spelling};
 use cob_front::one_answer;
 use cob_graph_laws::graphs_are_one;
 use cob_interp::one_end;
 use run_words::{RunWords, is_plain, one_reading, run_words};
+use source_facts::sources_have_source_graphs;
 use std::alloc::Global;
 
 /// Runs the command that the words name, without the program's own name. It shows its report, the text that a run
@@ -32,11 +35,22 @@ pub fn cobsound<F: Files, O: Sink>(
         (F.state files.old) (F.state files.new) (O.state out.old) (O.state out.new) result) }
     ensures clean { CleanIsSafe (call (texts words.now.items)
         (F.state files.old) (F.state files.new) (O.state out.old) (O.state out.new) result) }
+    ensures reports { ReportsAreComplete (call (texts words.now.items)
+        (F.state files.old) (F.state files.new) (O.state out.old) (O.state out.new) result) }
+    ensures accepts { AcceptsExactly (call (texts words.now.items)
+        (F.state files.old) (F.state files.new) (O.state out.old) (O.state out.new) result) }
+    ensures runs { CleanRunsMeetNoFault (call (texts words.now.items)
+        (F.state files.old) (F.state files.new) (O.state out.old) (O.state out.new) result) }
 {
     one_answer();
     one_reading();
     graphs_are_one();
     one_end();
+    one_spelling();
+    one_place();
+    no_bad_line();
+    sources_have_source_graphs();
+    accepted_claims_cover_runs();
     conclude(alloc, words.as_slice(), files, out)
 }
 

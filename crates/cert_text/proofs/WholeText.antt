@@ -8,12 +8,14 @@ use Rattle.std.proofs.lemmas.List.{append-nil, nil_from_length, map-append}
 use Rattle.std.proofs.lemmas.Option.{same_Some}
 use Rattle.text_lines.specs.Lines.{Line, Cut, cut, text_of, IsOneLine}
 use Rattle.text_lines.proofs.OneLine.{one_line-append, literal, signed_decimal-one_line}
-use Rattle.text_lines.proofs.Texts.{cut_joins, cut-text_of}
+use Rattle.text_lines.specs.Viable.{FirstBad}
+use Rattle.text_lines.proofs.Texts.{cut_joins, cut-text_of, text_not_bad}
 use Rattle.cert_text.specs.declared.draft.Stage.TheVariants as stages
 use Rattle.cert_text.specs.View.{Certificate}
 use Rattle.cert_text.specs.Text.{name, Entry, entry_line, numbers_text, entries, lines, spelling}
 use Rattle.cert_text.specs.Reading.{◌▷◌}
 use Rattle.cert_text.specs.Allowed.{IsAllowed}
+use Rattle.cert_text.specs.Texts.{IsText}
 use Rattle.cert_text.specs.Draft.{Parts, nothing_read, is_at, certificate_of, line_read, step}
 use Rattle.cert_text.specs.Whole.{next_line, or_refuse, reading, read_of}
 use Rattle.cert_text.specs.declared.word.Word.{Word}
@@ -134,3 +136,9 @@ found_is bytes c h =
     let whole = (cut bytes).whole in
     let f = found_from whole 1 nothing_read [] (cut bytes).rest c start h in
     (f.0, sym (cut_joins bytes) ∙ ap (λ rest. text_of whole ++ rest) f.2 ∙ append-nil (text_of whole) ∙ ap text_of f.1)
+
+pub never_bad : (c : Certificate) (line : ℕ) → IsAllowed c → FirstBad IsText (spelling c) line → ⊥
+never_bad c line allowed bad =
+    let r = whole_run c allowed in
+    text_not_bad IsText (spelling c) line (lines c) bad (c, allowed, refl)
+    (run_one_lines (entries c) nothing_read r.after [] begin r.ran) refl

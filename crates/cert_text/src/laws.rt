@@ -15,3 +15,8 @@ pub fn one_spelling()
 pub fn one_place()
     ensures { (bytes : List ℕ) (m n : ℕ) → FirstBad IsText bytes m → FirstBad IsText bytes n → m ≡ n }
 {}
+
+/// No certificate's text has a bad line.
+pub fn no_bad_line()
+    ensures { (c : Certificate) (line : ℕ) → IsAllowed c → FirstBad IsText (spelling c) line → ⊥ }
+{}

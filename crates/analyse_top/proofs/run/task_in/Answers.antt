@@ -1,11 +1,11 @@
-use Rattle.std.proofs.Common.{ap, subst, sym, ◌∙◌}
+use Rattle.std.proofs.Common.{subst, sym}
 use Rattle.run_words.specs.Words.{plain_run}
-use Rattle.analyse_top.specs.Steps.{IsNoTask, answer_to}
+use Rattle.analyse_top.specs.Steps.{IsNoTask}
 use Rattle.analyse_top.proofs.Tasks.{no_task}
 use Rattle.analyse_top.proofs.run.task_in.Goals as goal
 
 pub returns-in-Err : goal.returns-in-Err
 returns-in-Err c =
     let names = (plain_run c.args.said.now).names in
-    subst (IsNoTask c.args.bytes.now names) (sym (c.answer_to.ensures ∙ ap answer_to c.unread_for.ensures))
+    subst (IsNoTask c.args.bytes.now names) (sym c.answer_to.ensures)
     (no_task c.args.bytes.now names c.in-Err.cause c.in-Err.ensures)

@@ -1,8 +1,10 @@
 use Rattle.std.proofs.Common.{List, String, Global, subst}
 use Rattle.run_words.specs.Words.{texts}
-use Rattle.analyse_top.specs.Conclusion.{Concludes, call}
-use Rattle.analyse_top.proofs.Clean.{clean_is_safe}
+use Rattle.analyse_top.specs.Conclusion.{Concludes, IsExact, call}
+use Rattle.analyse_top.proofs.Clean.{accepts_exactly, checking_is_sound, clean_is_safe, reports_are_complete}
 use Rattle.analyse_top.proofs.Exact.{is_exact}
+use Rattle.analyse_top.proofs.OneAnswer.{TextsAreApart}
+use Rattle.analyse_top.proofs.FaultlessRuns.{clean_runs_meet_no_fault}
 use Rattle.analyse_top.proofs.top.cobsound.Goals as goal
 
 pub returns : goal.returns
@@ -13,9 +15,20 @@ returns g c =
     let this = by c.args.words.now.items in
     let concludes : Concludes this =
     subst (λ (words : List (String Global)). Concludes (by words)) c.as_slice.ensures.value c.conclude.ensures in
+    let texts_apart : TextsAreApart = record {
+      one_spelling = c.one_spelling.ensures;
+      one_place = c.one_place.ensures;
+      no_bad_line = c.no_bad_line.ensures;
+    } in
+    let sound = checking_is_sound c.sources_have_source_graphs.ensures c.accepted_claims_cover_runs.ensures in
+    let exact : IsExact this =
+    is_exact c.one_answer.ensures c.one_reading.ensures c.graphs_are_one.ensures.graph c.one_end.ensures texts_apart this
+    concludes in
     record {
       concludes = concludes;
-      exact = is_exact c.one_answer.ensures c.one_reading.ensures c.graphs_are_one.ensures.graph c.one_end.ensures
-          this concludes;
-      clean = clean_is_safe this concludes;
+      exact = exact;
+      clean = clean_is_safe sound this concludes;
+      reports = reports_are_complete sound this concludes;
+      accepts = accepts_exactly sound this concludes exact;
+      runs = clean_runs_meet_no_fault c.one_answer.ensures c.one_reading.ensures this concludes;
     }
