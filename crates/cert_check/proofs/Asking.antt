@@ -1,5 +1,5 @@
 -- What the calls on rows and on certificates need and say.
-use Rattle.std.proofs.Common.{◌≡◌, ◌↔◌, ℕ, zero, suc, ◌+◌, ◌-◌, ◌*◌, ◌^◌, ◌<◌, ◌≤◌, ◌&&◌, List, [], ◌∷◌, map, length, slice_get, slice_index_or, get_or, Bool, true, false, Option, Some, None, ℤ, ◌≤ℤ◌, unsigned_abs, refl, sym, ap, ◌∙◌, subst, arith}
+use Rattle.std.proofs.Common.{◌≡◌, ◌↔◌, ℕ, zero, suc, ◌-◌, ◌<◌, ◌≤◌, List, [], ◌∷◌, map, length, slice_index_or, get_or, Bool, true, false, Some, None, ℤ, refl, sym, ap, ◌∙◌, subst, arith}
 use Rattle.std.specs.Prelude.{IfSome, IsTrue}
 use Rattle.std.specs.List.{All, AllByRecursion}
 use Rattle.std.proofs.lemmas.Bool.{and_parts, ltb-true}
@@ -15,16 +15,15 @@ use Rattle.cert_text.specs.declared.cert.Element as text
 use Rattle.cert_text.specs.View.{Certificate, Place, NotReached, Holds, place_of, view}
 use Rattle.cert_text.specs.Allowed.{IsAllowed, claim_fits, claims_fit, place_fits, places_all_fit}
 use Rattle.decimal_interval.specs.declared.bounds.Interval.{Interval}
-use Rattle.decimal_interval.specs.Corners.{interval}
 use Rattle.dom_laws.specs.Lattice.{Lattice, IsElement}
 use Rattle.dom_laws.specs.Flow.{Flow, IsInductive}
 use Rattle.cell_rows.specs.Known.{Known, KnownFits}
 use Rattle.cell_rows.specs.Elements.{Element, CellsFit, ElementFits}
-use Rattle.cell_rows.specs.Rows.{element_of, row_from, width_of, cells_lattice, IsSaid}
+use Rattle.cell_rows.specs.Rows.{element_of, row_from, cells_lattice, IsSaid}
 use Rattle.claimed_rows.specs.Claims.{claimed_row, place_at}
 use Rattle.claimed_rows.specs.Gaps.{IsSmall, AreSmall, AreSmallClaims, HasSmallClaims}
 use Rattle.cell_storages.specs.Homes.{owns}
-use Rattle.cell_layer_laws.specs.Layer.{clears_at, cell_flow}
+use Rattle.cell_layer_laws.specs.Layer.{clears_at}
 use Rattle.cert_check.specs.Claims.{claims_at, row_at}
 use Rattle.inductive_pass.specs.Leaks.{IsFirstLeak}
 use Rattle.cert_check.specs.Along.{arrives}

@@ -1,5 +1,5 @@
 -- The open pairs of an accepted certificate cover the runs of a source's program.
-use Rattle.std.proofs.Common.{◌≡◌, ℕ, ◌≤◌, List, [], ◌∷◌, true, Some, ℤ, refl, sym, ap, ◌∙◌, subst, inl, inr}
+use Rattle.std.proofs.Common.{◌≡◌, ℕ, ◌≤◌, List, [], true, Some, ℤ, refl, sym, ap, ◌∙◌, subst, inl, inr}
 use Rattle.std.specs.Prelude.{Result, Ok, Err, IfOk, Vec}
 use Rattle.std.specs.List.{Contains}
 use Rattle.std.specs.declared.alloc.Global.{Global}
@@ -9,22 +9,20 @@ use Rattle.std.proofs.lemmas.Option.{same_Some}
 use Rattle.cob_tree.specs.declared.fault.Kind.{Kind}
 use Rattle.cob_tree.specs.declared.fault.Open.{Open}
 use Rattle.cob_meaning.specs.declared.straight.Outcome.TheVariants.{Fault}
-use Rattle.cob_program.specs.Act.{Act, Program}
+use Rattle.cob_program.specs.Act.{Program}
 use Rattle.cob_runs.specs.Files.{Choice}
 use Rattle.cob_runs.specs.Runs.{Contents, run}
 use Rattle.cob_graph.specs.declared.graph.Graph.{Graph}
 use Rattle.cob_graph.specs.declared.graph.Node.{Node}
 use Rattle.cert_text.specs.View.{Certificate}
-use Rattle.dom_laws.specs.Flow.{IsEdge, IsFlow, IsInductive}
+use Rattle.dom_laws.specs.Flow.{IsFlow, IsInductive}
 use Rattle.dom_laws.specs.Meaning.{IsMeaning}
 use Rattle.cell_rows.specs.Elements.{Element, ElementFits}
-use Rattle.cell_rows.specs.Rows.{element_of, row_from, width_of, cells_lattice}
-use Rattle.cell_rows.proofs.Rows.{element_back}
+use Rattle.cell_rows.specs.Rows.{cells_lattice}
 use Rattle.graph_runs.specs.Places.{IsOf}
 use Rattle.graph_runs.specs.Sources.{IsSourceGraph}
 use Rattle.graph_runs.specs.Doing.{graph_runs}
-use Rattle.graph_runs.specs.Clearing.{IsLayerOf, IsClearAt}
-use Rattle.graph_runs.specs.Following.{IsMet}
+use Rattle.graph_runs.specs.Clearing.{IsLayerOf}
 use Rattle.graph_runs.proofs.Following.{faults_are_reached}
 use Rattle.graph_runs.proofs.Clearing.{includes_itself, cleared_is_not_met}
 use Rattle.cell_storages.specs.Homes.{owns}

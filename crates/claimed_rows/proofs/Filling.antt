@@ -1,5 +1,5 @@
 -- Rows of claims, cell by cell.
-use Rattle.std.proofs.Common.{◌≡◌, ℕ, zero, suc, ◌+◌, ◌-◌, ◌*◌, ◌<◌, ◌≤◌, List, [], ◌∷◌, ◌++◌, length, take, drop, replicate, get_or, slice_get, slice_set, slice_index_or, Option, Some, None, ℤ, pos, ◌==◌, if◌then◌else◌, Bool, true, false, refl, sym, ap, ◌∙◌, subst, arith}
+use Rattle.std.proofs.Common.{◌≡◌, ℕ, zero, suc, ◌+◌, ◌-◌, ◌*◌, ◌<◌, ◌≤◌, List, [], ◌∷◌, ◌++◌, length, take, drop, replicate, get_or, slice_get, slice_set, Some, None, ℤ, pos, ◌==◌, Bool, true, false, refl, sym, ap, ◌∙◌, subst, arith}
 use Rattle.std.proofs.lemmas.List.{take_all, length-set}
 use Rattle.std.proofs.lemmas.Option.{same_Some}
 use Rattle.std.proofs.lemmas.Bool.{eqb-true, eq-eqb}
@@ -7,7 +7,7 @@ use Rattle.decimal_interval.specs.declared.bounds.Interval.{Interval}
 use Rattle.decimal_interval.specs.Corners.{interval}
 use Rattle.cell_rows.specs.Known.{Known}
 use Rattle.cell_rows.specs.Elements.{Element}
-use Rattle.cell_rows.specs.Rows.{IsReached, cells_in, cells_of, words_in, row_of, row_from}
+use Rattle.cell_rows.specs.Rows.{IsReached, cells_in, cells_of, words_in}
 use Rattle.cert_text.specs.declared.cert.Claim.{Claim}
 use Rattle.claimed_rows.specs.Claims.{claim_at, claims_behind, written_from, met_known, with_cell, met_cells}
 

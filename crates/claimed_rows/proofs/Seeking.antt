@@ -1,5 +1,5 @@
 -- The first gap of cells, from one of them on.
-use Rattle.std.proofs.Common.{◌≡◌, ℕ, zero, suc, ◌+◌, ◌-◌, ◌<◌, ◌≤◌, List, [], ◌∷◌, ◌++◌, length, drop, get_or, slice_get, Option, Some, None, Bool, true, false, is_some, ◌==◌, refl, sym, ap, ◌∙◌, subst, arith}
+use Rattle.std.proofs.Common.{◌≡◌, ℕ, zero, suc, ◌-◌, ◌<◌, ◌≤◌, List, [], ◌∷◌, ◌++◌, length, drop, slice_get, Option, Some, None, Bool, true, false, is_some, ◌==◌, refl, sym, ap, ◌∙◌, subst, arith}
 use Rattle.cell_rows.specs.Known.{Known}
 use Rattle.cell_rows.specs.Rows.{known_at}
 use Rattle.cert_text.specs.declared.cert.Claim.{Claim}

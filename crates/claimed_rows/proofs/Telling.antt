@@ -1,17 +1,16 @@
 -- Gaps as written tell the order of the rows.
-use Rattle.std.proofs.Common.{◌≡◌, ◌↔◌, ℕ, zero, suc, List, [], ◌∷◌, ◌++◌, length, Option, Some, None, ℤ, ◌≤ℤ◌, int_le, int_lt, ◌==◌, if◌then◌else◌, Bool, true, false, refl, arith, ap, ◌∙◌, sym, subst}
+use Rattle.std.proofs.Common.{◌≡◌, ◌↔◌, ℕ, zero, suc, List, [], ◌∷◌, ◌++◌, length, Option, Some, None, ◌≤ℤ◌, int_le, int_lt, if◌then◌else◌, Bool, true, false, refl, arith, ap, ◌∙◌, sym}
 use Rattle.std.proofs.lemmas.Grind.{common_steps}
 use Rattle.std.proofs.lemmas.Int.{ints, clamps}
 use Rattle.decimal_interval.specs.declared.bounds.Interval.{Interval}
-use Rattle.decimal_interval.specs.Corners.{interval}
 use Rattle.cell_rows.specs.Known.{Known, KnownFits, KnownBelow}
-use Rattle.cell_rows.specs.Elements.{Element, CellsFit, ElementFits, CellsBelow, ElementBelow}
+use Rattle.cell_rows.specs.Elements.{Element, CellsFit, ElementFits, ElementBelow}
 use Rattle.cert_text.specs.declared.cert.Claim.{Claim}
-use Rattle.cert_text.specs.View.{Place, NotReached, Holds}
+use Rattle.cert_text.specs.View.{NotReached, Holds}
 use Rattle.claimed_rows.specs.declared.gap.Gap.{Gap}
 use Rattle.claimed_rows.specs.declared.gap.Gap.TheVariants as gap
-use Rattle.claimed_rows.specs.Claims.{claims_behind, written_from, written_element, met, if_ordered, met_known, with_cell, met_cells, met_element, claimed_element}
-use Rattle.claimed_rows.specs.Gaps.{end_gaps, cell_gaps, gaps_from, element_gaps, gaps, GapsTellTheOrder}
+use Rattle.claimed_rows.specs.Claims.{claims_behind, written_from, met, if_ordered, met_known, with_cell, met_cells, met_element}
+use Rattle.claimed_rows.specs.Gaps.{end_gaps, cell_gaps, gaps_from, element_gaps, GapsTellTheOrder}
 
 abbrev IsWithin : Interval → Interval → Type 0
 IsWithin i j = (j.low ≤ℤ i.low) × (i.high ≤ℤ j.high)

@@ -1,13 +1,5 @@
-use Rattle.std.specs.Prelude.{Result, IfOk, MatchResult, Vec, Ok, Err}
-use Rattle.std.specs.declared.alloc.Global.{Global}
-use Rattle.cob_tree.specs.declared.fault.Open.{Open}
-use Rattle.cob_program.specs.Act.{Program}
 use Rattle.cob_program.specs.ActView.{plain_program}
-use Rattle.cob_graph.specs.declared.graph.Graph.{Graph}
-use Rattle.cert_text.specs.View.{Certificate, view}
-use Rattle.graph_runs.specs.Sources.{IsSourceGraph}
-use Rattle.cert_check.specs.declared.ends.CheckEnd.{CheckEnd}
-use Rattle.cert_check.specs.Checking.{Checks, CoversRuns}
+use Rattle.cert_text.specs.View.{view}
 use Rattle.cert_check.proofs.Covering.{answer_covers}
 use Rattle.cert_check.proofs.LayerLaws.{layer_laws}
 use Rattle.cert_check.proofs.certificate.check.Goals as goal

@@ -6,7 +6,7 @@ use Rattle.cell_rows.specs.Rows.{cells_lattice, lists_of}
 use Rattle.cell_storages.specs.Homes.{owns}
 use Rattle.cell_layer_laws.specs.Layer.{cell_flow}
 use Rattle.cert_check.proofs.Answering.{have_elements}
-use Rattle.cert_check.proofs.Asking.{inductive_there, leak_there}
+use Rattle.cert_check.proofs.Asking.{inductive_there}
 use Rattle.cert_check.proofs.certificate.check_edges.Goals as goal
 
 pub pass-requires-clause-rows : goal.pass-requires-clause-rows

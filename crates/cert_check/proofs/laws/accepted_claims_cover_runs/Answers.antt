@@ -1,4 +1,3 @@
-use Rattle.graph_runs.specs.Sources.{IsSourceGraph}
 use Rattle.cert_check.proofs.Covering.{accepted_covers}
 use Rattle.cert_check.proofs.LayerLaws.{layer_laws}
 use Rattle.cert_check.proofs.laws.accepted_claims_cover_runs.Goals as goal

@@ -1,4 +1,4 @@
-use Rattle.std.proofs.Common.{◌≡◌, ◌<◌, ◌≤◌, drop, length}
+use Rattle.std.proofs.Common.{◌≡◌, ◌≤◌, drop, length}
 use Rattle.cell_rows.specs.Rows.{IsReached, cells_of}
 use Rattle.claimed_rows.proofs.Filling.{IsDoneTo}
 use Rattle.claimed_rows.proofs.claims.set_claims.Given as goal

@@ -1,4 +1,4 @@
-use Rattle.std.proofs.Common.{◌≡◌, ◌≤◌, drop, length}
+use Rattle.std.proofs.Common.{◌≤◌, drop, length}
 use Rattle.cell_rows.specs.Rows.{cells_of}
 use Rattle.claimed_rows.proofs.Seeking.{IsSoughtTo}
 use Rattle.claimed_rows.proofs.gaps.cells_gap.Given as goal
