@@ -25,7 +25,7 @@ both : (a b : Bool) → (a && b) ≡ true → (a ≡ true) × (b ≡ true)
 both true b e = (refl, e)
 both false b e = absurd (cc e)
 
-lies_is : (own : Interval) (z : ℤ) → lies_in own z ≡ true → LiesIn own z
+pub lies_is : (own : Interval) (z : ℤ) → lies_in own z ≡ true → LiesIn own z
 lies_is own z e = let l = both (int_le own.low z) (int_le z own.high) e in (grind (arith, ints, l.0), grind (arith, ints, l.1))
 
 is_lies : (own : Interval) (z : ℤ) → LiesIn own z → lies_in own z ≡ true

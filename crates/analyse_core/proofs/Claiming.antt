@@ -1,8 +1,8 @@
 -- The claims of known cells say these cells.
 use Rattle.std.proofs.Common.{◌≡◌, ℕ, zero, suc, ◌+◌, ◌-◌, ◌<◌, ◌≤◌, ◌==◌, List, [], ◌∷◌, ◌++◌, length, map, drop, get_or, Bool, true, false, Option, Some, None, ℤ, ◌≤ℤ◌, int_le, if◌then◌else◌, refl, sym, ap, ◌∙◌, subst, arith}
-use Rattle.std.specs.List.{range_with_len}
 use Rattle.std.proofs.lemmas.Bool.{eq-eqb}
-use Rattle.std.proofs.lemmas.List.{append-nil}
+use Rattle.std.proofs.lemmas.List.{append-nil, map-append}
+use Rattle.std.proofs.lemmas.List.FromFn.{get_or-map-range_with_len, map-range_with_len_more}
 use Rattle.std.proofs.lemmas.Bool.Decides.{nat_tests}
 use Rattle.std.proofs.lemmas.Int.{ints, clamps}
 use Rattle.decimal_interval.specs.declared.bounds.Interval.{Interval}
@@ -109,15 +109,15 @@ claimed_row_is owns row is =
 
 -- ---- nodes
 
-module _ {A : Type 0} (f : ℕ → A) where
-  pub at_place : (first count k : ℕ) (d : A) → k < count → get_or (map f (range_with_len first count)) k d ≡ f (first + k)
-  at_place first zero k d l = absurd (omega (arith, l))
-  at_place first (suc count) zero d l = ap f (omega arith)
-  at_place first (suc count) (suc k) d l =
-      at_place (first + 1) count k d (omega (arith, l)) ∙ ap f (omega arith)
-
 pub place_is : (nodes : ℕ) (x : ℕ → Element) (node : ℕ) → 1 ≤ node → node ≤ nodes →
     get_or (places_for nodes x) (node - 1) NotReached ≡ place_for (x node)
 place_is nodes x node l h =
-    at_place (λ n. place_for (x n)) 1 nodes (node - 1) NotReached (omega (arith, l, h))
-    ∙ ap (λ n. place_for (x n)) (omega (arith, l))
+    get_or-map-range_with_len (λ n. place_for (x n)) 1 nodes (node - 1) node NotReached (omega (arith, l, h)) (omega (arith, l))
+
+-- what one node more claims
+pub places_more : {E : Type 0} (f : E → Place) (old new : List E) (e : E) (nodes : ℕ) (x : ℕ → Element) → new ≡ old ++ e ∷ [] →
+    f e ≡ place_for (x (nodes + 1)) → map f old ≡ places_for nodes x → map f new ≡ places_for (nodes + 1) x
+places_more f old new e nodes x grown here rest =
+    ap (map f) grown ∙ map-append f old (e ∷ [])
+    ∙ ap (λ p. map f old ++ p ∷ []) here ∙ ap (λ ps. ps ++ place_for (x (nodes + 1)) ∷ []) rest
+    ∙ sym (map-range_with_len_more (λ n. place_for (x n)) 1 nodes (nodes + 1) (omega arith))

@@ -2,7 +2,7 @@
 use Rattle.std.proofs.Common.{◌≡◌, ℕ, zero, suc, ◌+◌, ◌-◌, ◌<◌, ◌≤◌, ◌==◌, List, [], ◌∷◌, ◌++◌, length, map, get_or, Bool, true, false, Option, Some, None, ℤ, if◌then◌else◌, ◌⊎◌, inl, inr, refl, sym, ap, ◌∙◌, subst, arith}
 use Rattle.std.specs.List.{AllByRecursion, range_with_len}
 use Rattle.std.proofs.lemmas.Bool.{eq-eqb, eqb-true}
-use Rattle.std.proofs.lemmas.List.{length-append, get_or-append_left, get_or-append_right}
+use Rattle.std.proofs.lemmas.List.{length-append, get_or_append_left}
 use Rattle.cob_program.specs.Act.{Program}
 use Rattle.cob_graph.specs.declared.graph.Graph.{Graph}
 use Rattle.cob_graph.specs.Graphs.{cells_of}
@@ -18,7 +18,7 @@ use Rattle.cell_rows.proofs.Rows.{element_back}
 use Rattle.cell_storages.specs.Homes.{owns}
 use Rattle.cell_layer_laws.specs.Entry.{entry_cells}
 use Rattle.cell_layer_laws.specs.Layer.{cell_flow, post_at, row_for}
-use Rattle.cert_text.specs.View.{Place}
+use Rattle.cert_text.specs.View.{Place, Certificate}
 use Rattle.cert_check.proofs.Lists.{equal_or_less}
 use Rattle.cert_check.proofs.Accepting.{claimed}
 use Rattle.cert_check.proofs.Covering.{LayerLaws}
@@ -87,7 +87,7 @@ module _ (p : Program) (g : Graph) (laws : LayerLaws p g) where
         | inl same ↦ ap (λ i. get_or (plain_to p g i) k None) (sym same)
         | inr later ↦
             let long = plain_length n in
-            get_or-append_left (plain_to p g n) _ k None (omega (arith, long, later, h))
+            get_or_append_left (plain_to p g n) (joined_along p g (plain_to p g n) (suc n) (length g.edges) ∷ []) None k (omega (arith, long, later, h))
             ∙ kept n m k (omega (arith, later)) h
       ]
 
@@ -139,7 +139,9 @@ module _ (p : Program) (g : Graph) (laws : LayerLaws p g) where
     edge_below e l h same = below_more (along p g xs e) e (length g.edges) h (comes_in e l same)
 
   begins_below : (xs : List Element) → AllFit xs → ElementBelow (Some (entry_cells p)) (joined_along p g xs 1 (length g.edges))
-  begins_below xs fits = below_more xs fits 1 (Some (entry_cells p)) 0 (length g.edges) (omega arith) (element_reflexive (Some (entry_cells p)))
+  begins_below xs fits = below_more xs fits 1 (Some (entry_cells p)) 0 (length g.edges) (omega arith)
+      (subst (λ b. ElementBelow (Some (entry_cells p)) (if b then Some (entry_cells p) else None)) (sym (eq-eqb 1 1 refl))
+      (element_reflexive (Some (entry_cells p))))
 
   -- ---- rows
 
@@ -151,6 +153,9 @@ module _ (p : Program) (g : Graph) (laws : LayerLaws p g) where
 
   row_back : (node : ℕ) → element_of (rows node) ≡ plain_at p g node
   row_back node = element_back ranges (plain_at p g node) (plain_fits node)
+
+  abbrev with_places : List Place → Certificate
+  with_places places = record { cells = length (cells_of p); packs = []; nodes = places }
 
   same_places : (x y : ℕ → Element) (first count : ℕ) → ((node : ℕ) → x node ≡ y node) →
       map (λ node. place_for (x node)) (range_with_len first count) ≡ map (λ node. place_for (y node)) (range_with_len first count)
@@ -200,7 +205,7 @@ module _ (p : Program) (g : Graph) (laws : LayerLaws p g) where
     pub plain_of_rows : IsOfRows p g rows (plain_certificate p g)
     plain_of_rows = record {
       inductive = plain_inductive;
-      is = ap (λ ps. record { cells = length (cells_of p); packs = []; nodes = ps })
+      is = ap with_places
           (same_places (plain_at p g) (λ node. element_of (rows node)) 1 (length g.nodes) (λ node. sym (row_back node)));
     }
 

@@ -37,12 +37,13 @@ use Rattle.cert_check.specs.Claims.{all_kinds, claims_at, row_at, node_clears, i
 use Rattle.cert_check.specs.Checking.{Accepts, HasShape}
 use Rattle.cert_check.proofs.Lists.{each_holds}
 use Rattle.cert_check.proofs.Accepting.{claimed, claimed_back, accepted_is_inductive}
+use Rattle.cert_check.proofs.Asking.{is_said, is_small}
 use Rattle.cert_check.proofs.Covering.{LayerLaws}
 use Rattle.cert_check.proofs.LayerLaws.{layer_laws}
-use Rattle.cert_check.proofs.Answering.{accepts}
+use Rattle.cert_check.proofs.Leaking.{no_leaks}
 use Rattle.analyse_core.specs.Literals.{program_literals}
 use Rattle.analyse_core.specs.Thresholds.{IsSmallCell, thresholds_of, thresholds_for}
-use Rattle.analyse_core.specs.Certificates.{claim, known_claims, claims_from, place_for, places_for, certificate_for}
+use Rattle.analyse_core.specs.Certificates.{claim, known_claims, claims_from, place_for, places_for, certificate_for, CanBeClaimed}
 use Rattle.analyse_core.specs.Assignments.{IsListedElement, IsThresholdAssignment, MissesNothing, IsOfRows, IsFound, written_at}
 use Rattle.analyse_core.proofs.Claiming.{claimed_row_is, place_is}
 use Rattle.analyse_core.proofs.CellLists.{are_thresholds, ListsLieIn, lists_lie_in}
@@ -134,6 +135,21 @@ module _ (cells : ℕ) where
       (place_allowed ranges (x first) small same (fits first (omega arith) (omega arith)))
       ∙ places_allowed ranges x (first + 1) count small same (λ node l h. fits node (omega (arith, l)) (omega (arith, h)))
 
+-- ---- rows that the edges keep can be claimed
+
+module _ (p : Program) (g : Graph) (source : ∥ IsSourceGraph p g ∥₁) (rows : ℕ → List ℤ)
+    (inductive : IsInductive (cells_lattice (owns p) (thresholds_of p)) (cell_flow p g) rows) where
+  pub row_can_be_claimed : (cells : ℕ) → cells ≡ length (cells_of p) → (node : ℕ) → 1 ≤ node → node ≤ length g.nodes → CanBeClaimed cells (rows node)
+  row_can_be_claimed cells e node l h =
+      let is = inductive.elements node (record { first = l; last = h }) in
+      let width = is.width in
+      let count = owns_count p g source in
+      record {
+        said = is_said (owns p) (thresholds_of p) (rows node) is;
+        width = omega (arith, width, count, e);
+        small = is_small (owns p) (thresholds_of p) (rows node) is (All-from_recursion IsSmall (owns p) (owns_small p g source));
+      }
+
 -- ---- the certificate's rows
 
 module _ (p : Program) (g : Graph) (c : Certificate) (source : ∥ IsSourceGraph p g ∥₁) (rows : ℕ → List ℤ) (found : IsOfRows p g rows c) where
@@ -181,7 +197,11 @@ module _ (p : Program) (g : Graph) (c : Certificate) (source : ∥ IsSourceGraph
   }
 
   pub is_accepted : Accepts p g c (open_pairs p g c)
-  is_accepted = accepts p g c (thresholds_of p) (owns p) refl source shape (open_pairs p g c) rows_inductive refl
+  is_accepted = record {
+    shape = shape;
+    inductive = no_leaks p g c (thresholds_of p) laws rows_inductive;
+    pairs_are = refl;
+  }
 
   pub has_no_packs : c.packs ≡ []
   has_no_packs = ap (λ (d : Certificate). d.packs) found.is

@@ -1,5 +1,5 @@
 -- Lists that rise, into which numbers are put.
-use Rattle.std.proofs.Common.{◌≡◌, ℕ, zero, suc, ◌+◌, ◌-◌, ◌<◌, ◌≤◌, List, [], ◌∷◌, ◌++◌, length, get_or, Bool, true, false, ℤ, pos, ◌≤ℤ◌, ◌<ℤ◌, ◌⊎◌, inl, inr, int_lt, int_le, if◌then◌else◌, refl, ap, subst, arith}
+use Rattle.std.proofs.Common.{◌≡◌, ℕ, zero, suc, ◌+◌, ◌-◌, ◌<◌, ◌≤◌, List, [], ◌∷◌, ◌++◌, length, get_or, Bool, true, false, ℤ, pos, ◌≤ℤ◌, ◌<ℤ◌, ◌⊎◌, inl, inr, int_lt, int_le, if◌then◌else◌, refl, sym, ap, ◌∙◌, subst, arith}
 use Rattle.std.specs.List.{insert, AllByRecursion}
 use Rattle.std.proofs.lemmas.Int.{ints, by_lt_z}
 use Rattle.decimal_interval.specs.declared.bounds.Interval.{Interval}
@@ -44,6 +44,16 @@ inserted_at z (t ∷ ts) =
         by_lt_z z t
         (λ (gt : z <ℤ t). rw (not_below t z le, below_is z t gt, not_at_most t z gt) refl)
         (λ (ge : t ≤ℤ z). rw (not_below t z le, not_below z t ge, at_most_is t z ge) refl))
+
+pub stands_there : (z : ℤ) (ts : List ℤ) (k : ℕ) → k ≡ rank_in z ts → holds_at ts k z ≡ true → ts ≡ inserted z ts
+stands_there z ts k e h =
+    let here : holds_at ts (rank_in z ts) z ≡ true = subst (λ i. holds_at ts i z ≡ true) e h in
+    sym (inserted_at z ts ∙ ap (λ b. if b then ts else insert ts (rank_in z ts) z) here)
+
+pub goes_in : (z : ℤ) (ts : List ℤ) (k : ℕ) → k ≡ rank_in z ts → holds_at ts k z ≡ false → insert ts k z ≡ inserted z ts
+goes_in z ts k e h =
+    let here : holds_at ts (rank_in z ts) z ≡ false = subst (λ i. holds_at ts i z ≡ false) e h in
+    ap (λ i. insert ts i z) e ∙ sym (inserted_at z ts ∙ ap (λ b. if b then ts else insert ts (rank_in z ts) z) here)
 
 -- ---- what holds of each number
 

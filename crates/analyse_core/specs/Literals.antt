@@ -100,7 +100,7 @@ abbrev mutual
   stmts_literals (more_stmts s ss) = stmt_literals s ++ stmts_literals ss
 
   pub stmt_literals : Stmt → List Num
-  stmt_literals (MkStmt number line a) = act_literals a
+  stmt_literals (MkStmt n line a) = act_literals a
 
   pub phrase_literals : Phrase → List Num
   phrase_literals left_out = []

@@ -69,8 +69,11 @@ abbrev pub holds_at : List ℤ → ℕ → ℤ → Bool
 holds_at ts k z = is_at_most z (slice_get ts k)
 
 -- until so many stand there
+abbrev pub can_take : Interval → List ℤ → ℤ → Bool
+can_take own ts z = lies_in own z && nat_lt (length ts) most
+
 abbrev pub noted : Interval → List ℤ → ℤ → List ℤ
-noted own ts z = if lies_in own z && nat_lt (length ts) most then inserted z ts else ts
+noted own ts z = if can_take own ts z then inserted z ts else ts
 
 abbrev pub all_noted : Interval → List ℤ → List ℤ → List ℤ
 all_noted own ts zs = fold (noted own) ts zs
@@ -83,9 +86,11 @@ abbrev pub noted_beside : Interval → ℕ → List ℤ → Num → List ℤ
 noted_beside own scale ts n = all_noted own ts (beside_literal scale n)
 
 -- in this order, within the own range, without repetitions, the first so many of them; sorted
+abbrev pub range_thresholds : List Num → Interval → ℕ → List ℤ
+range_thresholds literals own scale = fold (noted_beside own scale) (all_noted own [] (firsts own)) literals
+
 abbrev pub cell_thresholds : List Num → Cell → List ℤ
-cell_thresholds literals c =
-    fold (noted_beside (own_range c) c.scale) (all_noted (own_range c) [] (firsts (own_range c))) literals
+cell_thresholds literals c = range_thresholds literals (own_range c) c.scale
 
 abbrev pub thresholds_for : List Num → List Cell → List (List ℤ)
 thresholds_for literals cells = map (cell_thresholds literals) cells

@@ -1,5 +1,5 @@
 //! The analysis of a program over the first layer.
-ghost use Rattle.std.specs.Prelude.{◌≡◌, ◌+◌, ◌≤◌, [], length, IfOk};
+ghost use Rattle.std.specs.Prelude.{◌≡◌, ◌+◌, ◌≤◌, [], length, IfOk, OnOk};
 ghost use Rattle.cob_program.specs.ActView.{plain_program};
 ghost use Rattle.cob_graph_build.specs.Limits.{IsWithinLimits};
 ghost use Rattle.graph_runs.specs.Sources.{IsSourceGraph};
@@ -42,6 +42,7 @@ fn solved<L: Ledger>(
     ensures dominated { IfOk result (λ store. IsDominated
         (cells_lattice (owns (plain_program layer.now.program.now)) (lists_of layer.now.thresholds.now))
         (cell_flow (plain_program layer.now.program.now) layer.now.graph.now) (row_at store.rows)) }
+    ensures at_least { OnOk result (steps.old + length layer.now.graph.now.edges ≤ steps.new) }
     ensures at_most { steps.new ≤ steps.old + step_bound
         (cells_lattice (owns (plain_program layer.now.program.now)) (lists_of layer.now.thresholds.now))
         (cell_flow (plain_program layer.now.program.now) layer.now.graph.now) }
@@ -61,6 +62,7 @@ fn found<L: Ledger>(
     requires limits { IsWithinLimits layer.now.graph.now }
     requires thresholds { lists_of layer.now.thresholds.now ≡ thresholds_of (plain_program layer.now.program.now) }
     ensures found { IfOk result (λ cert. IsFound (plain_program layer.now.program.now) layer.now.graph.now (view cert)) }
+    ensures at_least { OnOk result (steps.old + length layer.now.graph.now.edges ≤ steps.new) }
     ensures at_most { steps.new ≤ steps.old + most_steps (plain_program layer.now.program.now) layer.now.graph.now }
 {
     let store = solved(alloc, layer, steps)?;
@@ -79,6 +81,7 @@ fn find<L: Ledger>(
     requires source { ∥ IsSourceGraph (plain_program program.now) graph.now ∥₁ }
     requires limits { IsWithinLimits graph.now }
     ensures found { IfOk result (λ cert. IsFound (plain_program program.now) graph.now (view cert)) }
+    ensures at_least { OnOk result (steps.old + length graph.now.edges ≤ steps.new) }
     ensures at_most { steps.new ≤ steps.old + most_steps (plain_program program.now) graph.now }
 {
     let lists = thresholds(alloc, program, graph)?;
@@ -102,6 +105,7 @@ pub fn analyse<L: Ledger>(
         (open_pairs (plain_program program.now) graph.now (view cert))) }
     // Nothing is missed that some assignment with thresholds at its heads can show.
     ensures complete { IfOk result (λ cert. MissesNothing (plain_program program.now) graph.now (view cert)) }
+    ensures at_least { OnOk result (steps.old + length graph.now.edges ≤ steps.new) }
     ensures at_most { steps.new ≤ steps.old + most_steps (plain_program program.now) graph.now }
 {
     find(alloc, program, graph, steps)

@@ -76,6 +76,7 @@ fn element_of(alloc: Global, row: &[i128], cells: usize) -> Result<Element, Allo
 }
 
 // What the rows of so many nodes claim.
+#[tactic(auto, using(crate::proofs::Claiming::places_more))]
 fn elements_of<R: Rows>(
     alloc: Global,
     rows: &R,

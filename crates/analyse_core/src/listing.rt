@@ -1,5 +1,5 @@
 //! The thresholds of cells.
-ghost use Rattle.std.specs.Prelude.{◌≡◌, ◌≤◌, ◌≤ℤ◌, ◌^◌, pos, true, length, IfOk, OnOk, unsigned_abs};
+ghost use Rattle.std.specs.Prelude.{◌≡◌, ◌≤◌, ◌≤ℤ◌, ◌*ℤ◌, ◌^◌, pos, true, map, int_lt, IfOk, OnOk, unsigned_abs};
 ghost use Rattle.std.specs.List.{All, fold};
 ghost use Rattle.cob_program.specs.ActView.{plain_program};
 ghost use Rattle.cob_program.specs.Values.{literal};
@@ -14,7 +14,7 @@ ghost use Rattle.analyse_core.specs.Thresholds.{
   all_noted,
   beside,
   beside_number,
-  cell_thresholds,
+  can_take,
   firsts,
   floor,
   holds_at,
@@ -23,6 +23,7 @@ ghost use Rattle.analyse_core.specs.Thresholds.{
   lies_in,
   noted,
   noted_beside,
+  range_thresholds,
   rank_in,
   rounded_down,
   rounded_up,
@@ -32,6 +33,7 @@ ghost use Rattle.analyse_core.specs.Thresholds.{
 };
 
 use crate::program::program_literals;
+use cert_check::own_ranges;
 use cob_graph::Graph;
 use cob_items::literal;
 use cob_program::Program;
@@ -54,15 +56,24 @@ fn floor(n: i128, d: i128) -> i128
     n.div_euclid(d)
 }
 
+fn times(x: i128, y: i128) -> i128
+    requires { unsigned_abs (x *ℤ y) ≤ 10 ^ 36 }
+    ensures value { result ≡ x *ℤ y }
+    ensures size { unsigned_abs result ≤ 10 ^ 36 }
+{
+    x * y
+}
+
 fn top(scale: u32, number: Scaled) -> i128
     requires number { IsSmallNumber number }
     requires scale { scale ≤ 18 }
     ensures value { result ≡ top scale number }
     ensures size { unsigned_abs result ≤ 10 ^ 36 }
 {
-    number.units * pow10(scale)
+    times(number.units, pow10(scale))
 }
 
+#[tactic(auto, using(dec_num::proofs::Powers::ten_positive))]
 fn rounded_down(scale: u32, number: Scaled) -> i128
     requires number { IsSmallNumber number }
     requires scale { scale ≤ 18 }
@@ -72,6 +83,7 @@ fn rounded_down(scale: u32, number: Scaled) -> i128
     floor(top(scale, number), pow10(number.scale))
 }
 
+#[tactic(auto, using(dec_num::proofs::Powers::ten_positive))]
 fn rounded_up(scale: u32, number: Scaled) -> i128
     requires number { IsSmallNumber number }
     requires scale { scale ≤ 18 }
@@ -89,13 +101,18 @@ fn lies_in(own: Interval, z: i128) -> bool
     own.low <= z && z <= own.high
 }
 
+fn is_below(threshold: i64, z: i64) -> bool
+    ensures { result ≡ int_lt threshold z }
+{
+    threshold < z
+}
+
 // How many thresholds stand before the first that isn't below z.
 fn rank_in(list: &[i64], z: i64) -> usize
-    ensures value { result ≡ rank_in z list.now }
-    ensures within { result ≤ length list.now }
+    ensures { result ≡ rank_in z list.now }
 {
     for (rank, threshold) in list.iter().enumerate() {
-        if *threshold >= z {
+        if !is_below(*threshold, z) {
             return rank;
         }
     }
@@ -113,14 +130,32 @@ fn holds_at(list: &[i64], rank: usize, z: i64) -> bool
 }
 
 // Puts a number into a list that rises, unless it holds it.
+#[tactic(auto, using(crate::proofs::Rising::stands_there, crate::proofs::Rising::goes_in, crate::proofs::Rising::rank_within))]
 fn insert(list: &mut Vec<i64>, z: i64) -> Result<(), AllocError>
     ensures { OnOk result (list.new.items ≡ inserted z list.old.items) }
 {
     let rank = rank_in(list.as_slice(), z);
-    if !holds_at(list.as_slice(), rank, z) {
-        list.insert(rank, z)?;
+    if holds_at(list.as_slice(), rank, z) {
+        return Ok(());
     }
+    list.insert(rank, z)?;
     Ok(())
+}
+
+// Whether a number is of the cell's own range, while there are not enough.
+fn can_take(own: Interval, list: &[i64], z: i128) -> bool
+    ensures { result ≡ can_take own list.now z }
+{
+    lies_in(own, z) && list.len() < 128
+}
+
+// A number of the cell's own range.
+fn word(own: Interval, z: i128) -> i64
+    requires own { IsSmall own }
+    requires lies { lies_in own z ≡ true }
+    ensures { result ≡ z }
+{
+    z as i64
 }
 
 // Notes a number of the cell's own range, until there are enough.
@@ -128,8 +163,8 @@ fn note(list: &mut Vec<i64>, own: Interval, z: i128) -> Result<(), AllocError>
     requires { IsSmall own }
     ensures { OnOk result (list.new.items ≡ noted own list.old.items z) }
 {
-    if lies_in(own, z) && list.as_slice().len() < 128 {
-        insert(list, z as i64)?;
+    if can_take(own, list.as_slice(), z) {
+        return insert(list, word(own, z));
     }
     Ok(())
 }
@@ -224,41 +259,38 @@ fn note_literals(
 
 // ---- cells
 
-// The numbers that a cell can hold.
-fn own_range(cell: Cell) -> Interval
-    requires { IsSmallCell cell }
-    ensures value { result ≡ own_range cell }
-    ensures small { IsSmall result }
+// The thresholds of a cell, by its own range and its decimals.
+fn range_thresholds(
+    alloc: Global,
+    literals: &[&Num],
+    own: Interval,
+    scale: u32,
+) -> Result<Vec<i64>, AllocError>
+    requires own { IsSmall own }
+    requires scale { scale ≤ 18 }
+    ensures { IfOk result (λ list. list.items ≡ range_thresholds (numbers_of literals.now) own scale) }
 {
-    let high = pow10(cell.digits) - 1;
-    let low = if cell.signed { -high } else { 0 };
-    Interval { low, high }
-}
-
-// The thresholds of a cell.
-fn cell_thresholds(alloc: Global, literals: &[&Num], cell: Cell) -> Result<Vec<i64>, AllocError>
-    requires { IsSmallCell cell }
-    ensures { IfOk result (λ list. list.items ≡ cell_thresholds (numbers_of literals.now) cell) }
-{
-    let own = own_range(cell);
     let mut list = Vec::new(alloc);
     note_firsts(&mut list, own)?;
-    note_literals(&mut list, own, cell.scale, literals)?;
+    note_literals(&mut list, own, scale, literals)?;
     Ok(list)
 }
 
-// The thresholds of some cells.
+// The thresholds of some cells, by their own ranges.
 fn all_thresholds(
     alloc: Global,
     literals: &[&Num],
+    owns: &[Interval],
     cells: &[Cell],
 ) -> Result<Vec<Vec<i64>>, AllocError>
-    requires { All IsSmallCell cells.now }
+    requires owns { owns.now ≡ map own_range cells.now }
+    requires small { All IsSmall owns.now }
+    requires cells { All IsSmallCell cells.now }
     ensures { IfOk result (λ lists. lists_of lists.items ≡ thresholds_for (numbers_of literals.now) cells.now) }
 {
     let mut lists = Vec::with_capacity(alloc, cells.len())?;
-    for cell in cells {
-        lists.push(cell_thresholds(alloc, literals, *cell)?)?;
+    for k in 0..cells.len() {
+        lists.push(range_thresholds(alloc, literals, owns[k], cells[k].scale)?)?;
     }
     Ok(lists)
 }
@@ -274,5 +306,7 @@ pub fn thresholds(
     ensures { IfOk result (λ lists. lists_of lists.items ≡ thresholds_of (plain_program program.now)) }
 {
     let literals = program_literals(alloc, program)?;
-    all_thresholds(alloc, literals.as_slice(), graph.cells.get())
+    let cells = graph.cells.get();
+    let owns = own_ranges(alloc, cells)?;
+    all_thresholds(alloc, literals.as_slice(), owns.as_slice(), cells)
 }

@@ -5,5 +5,5 @@ use Rattle.analyse_core.specs.Literals.{numbers_of}
 use Rattle.analyse_core.specs.Thresholds.{thresholds_for}
 use Rattle.analyse_core.proofs.listing.all_thresholds.Given as goal
 
-abbrev pub invariant-loop-cell : goal.invariant-loop-cell
-invariant-loop-cell l = lists_of l.lists.items ≡ thresholds_for (numbers_of l.literals) (take l.cell-index l.cells)
+abbrev pub invariant-loop-k : goal.invariant-loop-k
+invariant-loop-k l = lists_of l.lists.items ≡ thresholds_for (numbers_of l.literals) (take l.k l.cells)
