@@ -1,6 +1,7 @@
 -- Each cell's list of thresholds rises from the low end of its own range to the high end, and has at most 128 numbers.
-use Rattle.std.proofs.Common.{◌≡◌, ℕ, zero, suc, ◌+◌, ◌-◌, ◌^◌, ◌<◌, ◌≤◌, List, [], ◌∷◌, length, map, Bool, true, false, ◌&&◌, ℤ, pos, neg_ℤ, ◌≤ℤ◌, if◌then◌else◌, refl, sym, ap, ◌∙◌, subst, arith}
-use Rattle.std.specs.Prelude.{nat_lt, int_le}
+use Rattle.std.proofs.Common.{◌≡◌, ℕ, zero, suc, ◌+◌, ◌-◌, ◌^◌, ◌<◌, ◌≤◌, List, [], ◌∷◌, length, get_or, map, Bool, true, false, ◌&&◌, ℤ, pos, neg_ℤ, ◌≤ℤ◌, if◌then◌else◌, refl, sym, ap, ◌∙◌, subst, arith}
+use Rattle.std.specs.Prelude.{nat_lt, int_le, Vec}
+use Rattle.std.specs.declared.alloc.Global.{Global}
 use Rattle.std.specs.List.{fold, AllByRecursion}
 use Rattle.std.proofs.lemmas.Bool.Decides.{nat_tests}
 use Rattle.std.proofs.lemmas.Int.{ints}
@@ -10,8 +11,9 @@ use Rattle.cob_runs.specs.declared.action.Cell.{Cell}
 use Rattle.decimal_interval.specs.declared.bounds.Interval.{Interval}
 use Rattle.cell_rows.specs.Known.{HasEnds}
 use Rattle.cell_rows.specs.Elements.{AreThresholds}
+use Rattle.cell_rows.specs.Rows.{lists_of}
 use Rattle.cell_storages.specs.Homes.{own_range, largest, picture_range}
-use Rattle.analyse_core.specs.Thresholds.{lies_in, inserted, noted, all_noted, firsts, beside_literal, noted_beside, cell_thresholds, thresholds_for, Rises}
+use Rattle.analyse_core.specs.Thresholds.{lies_in, can_take, inserted, noted, all_noted, firsts, beside_literal, noted_beside, cell_thresholds, thresholds_for, Rises}
 use Rattle.analyse_core.proofs.Rising.{Has, LiesIn, all_inserted, inserted_length, inserted_rises, inserted_has, inserted_keeps, has_ends}
 
 -- ---- lists of a cell
@@ -34,6 +36,10 @@ is_lies own z (l, h) =
     let b : int_le z own.high ≡ true = grind (arith, ints, h) in
     ap (λ x. x && int_le z own.high) a ∙ b
 
+-- what is taken lies in the range
+pub takes_lies : (own : Interval) (ts : List ℤ) (z : ℤ) → can_take own ts z ≡ true → lies_in own z ≡ true
+takes_lies own ts z e = (both (lies_in own z) (nat_lt (length ts) 128) e).0
+
 less_is : (a b : ℕ) → nat_lt a b ≡ true → a < b
 less_is a b e = grind (arith, nat_tests)
 
@@ -44,7 +50,16 @@ module _ (own : Interval) (ts : List ℤ) (z : ℤ) where
   abbrev can : Bool
   can = lies_in own z && nat_lt (length ts) 128
 
+  pub taken_in : can_take own ts z ≡ true → inserted z ts ≡ noted own ts z
+  unfolding noted
+  taken_in e = sym (ap (λ b. if b then inserted z ts else ts) e)
+
+  pub left_out : can_take own ts z ≡ false → ts ≡ noted own ts z
+  unfolding noted
+  left_out e = sym (ap (λ b. if b then inserted z ts else ts) e)
+
   noted_is_list : IsCellList own ts → IsCellList own (noted own ts z)
+  unfolding noted
   noted_is_list is = by_test can refl
     where
       by_test : (b : Bool) → can ≡ b → IsCellList own (if b then inserted z ts else ts)
@@ -60,6 +75,7 @@ module _ (own : Interval) (ts : List ℤ) (z : ℤ) where
       by_test false e = is
 
   noted_keeps : (u : ℤ) → Has ts u → Has (noted own ts z) u
+  unfolding noted
   noted_keeps u h = by_test can
     where
       by_test : (b : Bool) → Has (if b then inserted z ts else ts) u
@@ -67,6 +83,7 @@ module _ (own : Interval) (ts : List ℤ) (z : ℤ) where
       by_test false = h
 
   noted_length : length (noted own ts z) ≤ suc (length ts)
+  unfolding noted
   noted_length = by_test can
     where
       by_test : (b : Bool) → length (if b then inserted z ts else ts) ≤ suc (length ts)
@@ -74,6 +91,7 @@ module _ (own : Interval) (ts : List ℤ) (z : ℤ) where
       by_test false = omega arith
 
   noted_has : LiesIn own z → length ts < 128 → Has (noted own ts z) z
+  unfolding noted
   noted_has lies less =
       let e : can ≡ true = ap (λ b. b && nat_lt (length ts) 128) (is_lies own z lies) ∙ is_less (length ts) 128 less in
       subst (λ b. Has (if b then inserted z ts else ts) z) (sym e) (inserted_has z ts)
@@ -153,3 +171,12 @@ lists_rise literals (c ∷ cells) = ((cell_list literals c).list.rises, lists_ri
 pub lists_short : (literals : List Num) (cells : List Cell) → AllByRecursion (λ (ts : List ℤ). length ts ≤ 128) (thresholds_for literals cells)
 lists_short literals [] = tt
 lists_short literals (c ∷ cells) = ((cell_list literals c).list.short, lists_short literals cells)
+
+pub each_short : (lists : List (Vec ℤ Global)) (tss : List (List ℤ)) (k : ℕ) (d : Vec ℤ Global) → lists_of lists ≡ tss →
+    AllByRecursion (λ (ts : List ℤ). length ts ≤ 128) tss → k < length lists → length (get_or lists k d).items ≤ 128
+each_short [] tss k d e h l = absurd (omega (arith, l))
+each_short (list ∷ lists) [] k d e h l = absurd (cc e)
+each_short (list ∷ lists) (ts ∷ tss) zero d e h l =
+    let same : list.items ≡ ts = cc e in subst (λ (xs : List ℤ). length xs ≤ 128) (sym same) h.0
+each_short (list ∷ lists) (ts ∷ tss) (suc k) d e h l =
+    let rest : lists_of lists ≡ tss = cc e in each_short lists tss k d rest h.1 (omega (arith, l))

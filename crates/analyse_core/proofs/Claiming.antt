@@ -1,7 +1,7 @@
 -- The claims of known cells say these cells.
 use Rattle.std.proofs.Common.{◌≡◌, ℕ, zero, suc, ◌+◌, ◌-◌, ◌<◌, ◌≤◌, ◌==◌, List, [], ◌∷◌, ◌++◌, length, map, drop, get_or, Bool, true, false, Option, Some, None, ℤ, ◌≤ℤ◌, int_le, if◌then◌else◌, refl, sym, ap, ◌∙◌, subst, arith}
 use Rattle.std.proofs.lemmas.Bool.{eq-eqb}
-use Rattle.std.proofs.lemmas.List.{append-nil, map-append}
+use Rattle.std.proofs.lemmas.List.{append-nil, map-append, drop_all}
 use Rattle.std.proofs.lemmas.List.FromFn.{get_or-map-range_with_len, map-range_with_len_more}
 use Rattle.std.proofs.lemmas.Bool.Decides.{nat_tests}
 use Rattle.std.proofs.lemmas.Int.{ints, clamps}
@@ -23,12 +23,6 @@ drop_one [] k l = absurd (omega (arith, l))
 drop_one (c ∷ cs) zero l = refl
 drop_one (c ∷ cs) (suc k) l = drop_one cs k (omega (arith, l))
 
-past_all : (cs : List Known) (k : ℕ) → length cs ≤ k → drop k cs ≡ []
-past_all [] zero l = refl
-past_all [] (suc k) l = refl
-past_all (c ∷ cs) zero l = absurd (omega (arith, l))
-past_all (c ∷ cs) (suc k) l = past_all cs k (omega (arith, l))
-
 -- those of one cell, and those behind it
 pub claims_cut : (cs : List Known) (k j : ℕ) (known : Known) → j ≡ suc k → k < length cs → known ≡ known_at cs k →
     claims_from (suc k) (drop k cs) ≡ known_claims j known ++ claims_from (suc j) (drop j cs)
@@ -40,7 +34,7 @@ claims_cut cs k j known e l is =
 pub all_claimed : (cs : List Known) (k : ℕ) (claims : List Claim) → length cs ≤ k →
     claims ++ claims_from (suc k) (drop k cs) ≡ claims_from 1 cs → claims ≡ claims_from 1 cs
 all_claimed cs k claims l e =
-    sym (append-nil claims) ∙ ap (λ xs. claims ++ claims_from (suc k) xs) (sym (past_all cs k l)) ∙ e
+    sym (append-nil claims) ∙ ap (λ xs. claims ++ claims_from (suc k) xs) (sym (drop_all k cs l)) ∙ e
 
 -- ---- claims as they are read
 

@@ -99,7 +99,9 @@ module _ (p : Program) (g : Graph) (laws : LayerLaws p g) where
 
   node_is : (k : ℕ) → suc k ≤ length g.nodes → plain_at p g (suc k) ≡ joined_along p g (plain_to p g k) (suc k) (length g.edges)
   node_is k h =
-      kept (length g.nodes) (suc k) k h (omega arith)
+      let before : suc k - 1 ≡ k = omega arith in
+      ap (λ i. get_or (plain_to p g (length g.nodes)) i None) before
+      ∙ kept (length g.nodes) (suc k) k h (omega arith)
       ∙ last_at (plain_to p g k) (joined_along p g (plain_to p g k) (suc k) (length g.edges)) k (sym (plain_length k))
 
   -- a node before is known

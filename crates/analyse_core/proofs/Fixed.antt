@@ -114,14 +114,16 @@ cells_listed [] [] (c ∷ cs) ds h l e = absurd l
 cells_listed [] (ts ∷ tss) cs ds h l e = absurd h
 cells_listed (own ∷ owns) [] cs ds h l e = absurd h
 cells_listed (own ∷ owns) (ts ∷ tss) [] ds h l e = absurd l
-cells_listed (own ∷ owns) (ts ∷ tss) (c ∷ cs) ds (h, hs) (l, ls) e = by_parts (met_known own c) (met_cells owns cs) refl refl e
+cells_listed (own ∷ owns) (ts ∷ tss) (c ∷ cs) ds (h, hs) (l, ls) e =
+    by_parts (met_known own c) (met_cells owns cs) refl (λ rest g. cells_listed owns tss cs rest hs ls g) e
   where
-    by_parts : (o : Option Known) (x : Element) → met_known own c ≡ o → met_cells owns cs ≡ x → with_cell o x ≡ Some ds → AreListed (ts ∷ tss) ds
+    by_parts : (o : Option Known) (x : Element) → met_known own c ≡ o → ((rest : List Known) → x ≡ Some rest → AreListed tss rest) →
+        with_cell o x ≡ Some ds → AreListed (ts ∷ tss) ds
     by_parts None x f g k = absurd (cc k)
     by_parts (Some d) None f g k = absurd (cc k)
     by_parts (Some d) (Some rest) f g k =
         let same : (d ∷ rest) ≡ ds = cc k in
-        subst (AreListed (ts ∷ tss)) same (met_listed own ts c d h l f, cells_listed owns tss cs rest hs ls g)
+        subst (AreListed (ts ∷ tss)) same (met_listed own ts c d h l f, g rest refl)
 
 -- what a claim of thresholds means has thresholds as ends
 pub claimed_listed : (owns : List Interval) (tss : List (List ℤ)) (x : Element) → ListsLieIn owns tss → IsListedElement tss x →

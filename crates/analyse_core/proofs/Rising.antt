@@ -92,7 +92,7 @@ rises_behind s z (t ∷ ts) l h =
     (λ (lt : t <ℤ z). rw (below_is t z lt) (h.0, rises_behind t z ts lt h.1))
     (λ (le : z ≤ℤ t).
         by_lt_z z t
-        (λ (gt : z <ℤ t). rw (not_below t z le, below_is z t gt) (l, gt, h.1))
+        (λ (gt : z <ℤ t). rw (not_below t z le, below_is z t gt) (l, (gt, h.1)))
         (λ (ge : t ≤ℤ z). rw (not_below t z le, not_below z t ge) h))
 
 pub inserted_rises : (z : ℤ) (ts : List ℤ) → Rises ts → Rises (inserted z ts)
@@ -138,7 +138,7 @@ inserted_keeps z u (t ∷ ts) h =
 has_place : (ts : List ℤ) (u : ℤ) → Has ts u → (k : ℕ) × (k < length ts) × (get_or ts k (pos 0) ≡ u)
 has_place [] u h = absurd h
 has_place (t ∷ ts) u (inl e) = (0, omega arith, e)
-has_place (t ∷ ts) u (inr h) = let more = has_place ts u h in (suc more.0, omega (arith, more.1.0), more.1.1)
+has_place (t ∷ ts) u (inr h) = let more = has_place ts u h in let less = more.1 in (suc more.0, omega (arith, less), more.2)
 
 -- ---- its ends
 
@@ -163,10 +163,10 @@ has_ends own [] rises within low high = absurd low
 has_ends own (t ∷ ts) rises within low high =
     let a = has_place (t ∷ ts) own.low low in
     let b = has_place (t ∷ ts) own.high high in
-    let first = first_below t ts a.0 rises a.1.0 in
-    let last = last_above t ts b.0 rises b.1.0 in
-    let ea = a.1.1 in
-    let eb = b.1.1 in
+    let first = first_below t ts a.0 rises a.1 in
+    let last = last_above t ts b.0 rises b.1 in
+    let ea = a.2 in
+    let eb = b.2 in
     let least = within.0.0 in
     let greatest = (all_at (LiesIn own) (t ∷ ts) (length ts) within (omega arith)).1 in
     record {

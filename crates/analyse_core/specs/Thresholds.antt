@@ -72,7 +72,7 @@ holds_at ts k z = is_at_most z (slice_get ts k)
 abbrev pub can_take : Interval → List ℤ → ℤ → Bool
 can_take own ts z = lies_in own z && nat_lt (length ts) most
 
-abbrev pub noted : Interval → List ℤ → ℤ → List ℤ
+unfoldable pub noted : Interval → List ℤ → ℤ → List ℤ
 noted own ts z = if can_take own ts z then inserted z ts else ts
 
 abbrev pub all_noted : Interval → List ℤ → List ℤ → List ℤ

@@ -1,5 +1,5 @@
 //! The thresholds of cells.
-ghost use Rattle.std.specs.Prelude.{◌≡◌, ◌≤◌, ◌≤ℤ◌, ◌*ℤ◌, ◌^◌, pos, true, map, int_lt, IfOk, OnOk, unsigned_abs};
+ghost use Rattle.std.specs.Prelude.{◌≡◌, ◌≤◌, ◌≤ℤ◌, ◌*ℤ◌, ◌+ℤ◌, ◌-ℤ◌, ◌^◌, pos, true, map, int_lt, IfOk, OnOk, unsigned_abs};
 ghost use Rattle.std.specs.List.{All, fold};
 ghost use Rattle.cob_program.specs.ActView.{plain_program};
 ghost use Rattle.cob_program.specs.Values.{literal};
@@ -159,6 +159,7 @@ fn word(own: Interval, z: i128) -> i64
 }
 
 // Notes a number of the cell's own range, until there are enough.
+#[tactic(auto, using(crate::proofs::CellLists::taken_in, crate::proofs::CellLists::left_out, crate::proofs::CellLists::takes_lies))]
 fn note(list: &mut Vec<i64>, own: Interval, z: i128) -> Result<(), AllocError>
     requires { IsSmall own }
     ensures { OnOk result (list.new.items ≡ noted own list.old.items z) }
@@ -178,6 +179,24 @@ fn note_firsts(list: &mut Vec<i64>, own: Interval) -> Result<(), AllocError>
     note(list, own, 0)
 }
 
+fn note_two(list: &mut Vec<i64>, own: Interval, x: i128, y: i128) -> Result<(), AllocError>
+    requires { IsSmall own }
+    ensures { OnOk result (list.new.items ≡ noted own (noted own list.old.items x) y) }
+{
+    note(list, own, x)?;
+    note(list, own, y)
+}
+
+// Notes a number minus and plus one.
+fn note_beside(list: &mut Vec<i64>, own: Interval, z: i128) -> Result<(), AllocError>
+    requires own { IsSmall own }
+    requires z { unsigned_abs z ≤ 10 ^ 36 }
+    ensures { OnOk result (list.new.items ≡ noted own (noted own list.old.items (z -ℤ pos 1)) (z +ℤ pos 1)) }
+{
+    note(list, own, z - 1)?;
+    note(list, own, z + 1)
+}
+
 // Notes two numbers, and each of them minus and plus one.
 fn note_both(list: &mut Vec<i64>, own: Interval, down: i128, up: i128) -> Result<(), AllocError>
     requires own { IsSmall own }
@@ -185,12 +204,9 @@ fn note_both(list: &mut Vec<i64>, own: Interval, down: i128, up: i128) -> Result
     requires up { unsigned_abs up ≤ 10 ^ 36 }
     ensures { OnOk result (list.new.items ≡ all_noted own list.old.items (beside down up)) }
 {
-    note(list, own, down)?;
-    note(list, own, up)?;
-    note(list, own, down - 1)?;
-    note(list, own, down + 1)?;
-    note(list, own, up - 1)?;
-    note(list, own, up + 1)
+    note_two(list, own, down, up)?;
+    note_beside(list, own, down)?;
+    note_beside(list, own, up)
 }
 
 fn note_number(
