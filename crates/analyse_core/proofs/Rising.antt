@@ -169,10 +169,12 @@ has_ends own (t ∷ ts) rises within low high =
     let eb = b.2 in
     let least = within.0.0 in
     let greatest = (all_at (LiesIn own) (t ∷ ts) (length ts) within (omega arith)).1 in
+    let place : length (t ∷ ts) - 1 ≡ length ts = omega arith in
+    let ends : get_or (t ∷ ts) (length ts) (pos 0) ≡ own.high = omega (arith, ints, last, eb, greatest) in
     record {
       some = omega arith;
       first = omega (arith, ints, first, ea, least);
-      last = omega (arith, ints, last, eb, greatest);
+      last = ap (λ k. get_or (t ∷ ts) k (pos 0)) place ∙ ends;
     }
 
 -- what is listed lies in the range

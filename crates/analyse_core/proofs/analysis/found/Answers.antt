@@ -1,6 +1,7 @@
 use Rattle.std.proofs.Common.{◌≡◌, ◌∙◌, ◌≤◌, ℕ, length, ap, sym, subst, arith}
 use Rattle.std.proofs.lemmas.Result.{IfOk-weaker}
 use Rattle.cob_program.specs.ActView.{plain_program}
+use Rattle.cob_graph.specs.Graphs.{cells_of}
 use Rattle.dom_laws.specs.Flow.{IsDominated, IsInductive}
 use Rattle.cell_rows.specs.Rows.{cells_lattice, element_of}
 use Rattle.cell_storages.specs.Homes.{owns}
@@ -48,7 +49,7 @@ returns-clause-found g c =
     let nodes = ap length c.get.ensures in
     let same =
     ap (λ n. certificate_for n (length c.get.result.now) (λ node. element_of (rows node))) cells
-    ∙ ap (λ n. certificate_for _ n (λ node. element_of (rows node))) nodes in
+    ∙ ap (λ n. certificate_for (length (cells_of p)) n (λ node. element_of (rows node))) nodes in
     IfOk-weaker c.certificate_of.result
     (λ cert. view cert ≡ certificate_for (length c.get-2.result.now) (length c.get.result.now) (λ node. element_of (rows node)))
     (λ cert. IsFound p graph (view cert))
