@@ -1,5 +1,5 @@
 -- Each cell's list of thresholds rises from the low end of its own range to the high end, and has at most 128 numbers.
-use Rattle.std.proofs.Common.{◌≡◌, ℕ, zero, suc, ◌+◌, ◌-◌, ◌^◌, ◌<◌, ◌≤◌, List, [], ◌∷◌, length, get_or, map, Bool, true, false, ◌&&◌, ℤ, pos, neg_ℤ, ◌≤ℤ◌, if◌then◌else◌, refl, sym, ap, ◌∙◌, subst, arith}
+use Rattle.std.proofs.Common.{◌≡◌, ℕ, zero, suc, ◌<◌, ◌≤◌, List, [], ◌∷◌, length, get_or, map, Bool, true, false, ◌&&◌, ℤ, pos, ◌≤ℤ◌, if◌then◌else◌, refl, sym, ap, ◌∙◌, subst, arith}
 use Rattle.std.specs.Prelude.{nat_lt, int_le, Vec}
 use Rattle.std.specs.declared.alloc.Global.{Global}
 use Rattle.std.specs.List.{fold, AllByRecursion}
@@ -12,7 +12,7 @@ use Rattle.decimal_interval.specs.declared.bounds.Interval.{Interval}
 use Rattle.cell_rows.specs.Known.{HasEnds}
 use Rattle.cell_rows.specs.Elements.{AreThresholds}
 use Rattle.cell_rows.specs.Rows.{lists_of}
-use Rattle.cell_storages.specs.Homes.{own_range, largest, picture_range}
+use Rattle.cell_storages.specs.Homes.{own_range, picture_range}
 use Rattle.analyse_core.specs.Thresholds.{lies_in, can_take, inserted, noted, all_noted, firsts, beside_literal, noted_beside, cell_thresholds, thresholds_for, Rises}
 use Rattle.analyse_core.proofs.Rising.{Has, LiesIn, all_inserted, inserted_length, inserted_rises, inserted_has, inserted_keeps, has_ends}
 

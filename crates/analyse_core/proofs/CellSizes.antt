@@ -1,5 +1,5 @@
 -- The cells of a source's program have at most 18 digits and decimals.
-use Rattle.std.proofs.Common.{◌≡◌, ℕ, zero, suc, ◌≤◌, nat_le, Bool, true, false, if◌then◌else◌, List, [], ◌∷◌, ◌++◌, Option, Some, None, refl, sym, subst, arith}
+use Rattle.std.proofs.Common.{◌≡◌, ℕ, suc, nat_le, Bool, true, false, if◌then◌else◌, List, [], ◌∷◌, ◌++◌, Option, Some, None, refl, sym, subst, arith}
 use Rattle.std.specs.List.{All, AllByRecursion}
 use Rattle.std.proofs.Props.{props}
 use Rattle.std.proofs.Math.Logic.{∥∥₁_elim}
@@ -13,7 +13,7 @@ use Rattle.cob_program.specs.Act.{Turns, once, times, until, varying, Stmt, MkSt
 use Rattle.cob_program.specs.Statements.{program_statements}
 use Rattle.cob_runs.specs.declared.action.Cell.{Cell}
 use Rattle.cob_graph.specs.declared.graph.Graph.{Graph}
-use Rattle.cob_graph.specs.Graphs.{cell, cell_of, if_named, item_cells, counters_of, act_counters, stmt_counters, counters, cells_of}
+use Rattle.cob_graph.specs.Graphs.{cell, cell_of, if_named, item_cells, counters_of, act_counters, counters, cells_of}
 use Rattle.cob_items.specs.WellFormed.{IsWellFormedForm, IsWellFormedItem}
 use Rattle.graph_runs.specs.Sources.{IsSourceGraph}
 use Rattle.analyse_core.specs.Thresholds.{IsSmallCell}

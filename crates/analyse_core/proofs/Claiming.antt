@@ -1,5 +1,5 @@
 -- The claims of known cells say these cells.
-use Rattle.std.proofs.Common.{◌≡◌, ℕ, zero, suc, ◌+◌, ◌-◌, ◌<◌, ◌≤◌, ◌==◌, List, [], ◌∷◌, ◌++◌, length, map, drop, get_or, Bool, true, false, Option, Some, None, ℤ, ◌≤ℤ◌, int_le, if◌then◌else◌, refl, sym, ap, ◌∙◌, subst, arith}
+use Rattle.std.proofs.Common.{◌≡◌, ℕ, zero, suc, ◌+◌, ◌-◌, ◌<◌, ◌≤◌, ◌==◌, List, [], ◌∷◌, ◌++◌, length, map, drop, get_or, true, false, Some, None, ℤ, ◌≤ℤ◌, int_le, if◌then◌else◌, refl, sym, ap, ◌∙◌, arith}
 use Rattle.std.proofs.lemmas.Bool.{eq-eqb}
 use Rattle.std.proofs.lemmas.List.{append-nil, map-append, drop_all}
 use Rattle.std.proofs.lemmas.List.FromFn.{get_or-map-range_with_len, map-range_with_len_more}
@@ -12,7 +12,7 @@ use Rattle.cell_rows.specs.Elements.{Element, CellsFit, ElementFits}
 use Rattle.cell_rows.specs.Rows.{IsRow, known_at, element_of, row_from, width_of}
 use Rattle.cell_rows.proofs.AllCells.{fits_length}
 use Rattle.cert_text.specs.declared.cert.Claim.{Claim}
-use Rattle.cert_text.specs.View.{Place, NotReached, Holds}
+use Rattle.cert_text.specs.View.{Place, NotReached}
 use Rattle.claimed_rows.specs.Claims.{claim_at, claims_behind, written_from, written_element, met, met_known, if_ordered, with_cell, met_cells, met_element, claimed_element, claimed_row}
 use Rattle.analyse_core.specs.Certificates.{claim, known_claims, claims_from, place_for, places_for}
 
@@ -46,9 +46,10 @@ none_of : (cs : List Known) (k j : ℕ) → j < k → (claim_at (claims_from k c
 none_of [] k j l = (refl, refl)
 none_of (None ∷ cs) k j l = none_of cs (suc k) j (omega (arith, l))
 none_of (Some i ∷ cs) k j l =
-    let e = other_cell k j l in
-    (ap (λ b. if b then Some (interval i.low i.high) else None) e,
-    ap (λ b. if b then claims_from (suc k) cs else claim k i ∷ claims_from (suc k) cs) e)
+    let e = other_cell k j l in (
+      ap (λ b. if b then Some (interval i.low i.high) else None) e,
+      ap (λ b. if b then claims_from (suc k) cs else claim k i ∷ claims_from (suc k) cs) e,
+    )
 
 written_back : (cs : List Known) (k : ℕ) → written_from k (length cs) (claims_from k cs) ≡ cs
 written_back [] k = refl

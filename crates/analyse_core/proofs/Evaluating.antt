@@ -1,16 +1,15 @@
 -- The plain evaluation of a graph without edges that go back has no leak, and no heads.
-use Rattle.std.proofs.Common.{◌≡◌, ℕ, zero, suc, ◌+◌, ◌-◌, ◌<◌, ◌≤◌, ◌==◌, List, [], ◌∷◌, ◌++◌, length, map, get_or, Bool, true, false, Option, Some, None, ℤ, if◌then◌else◌, ◌⊎◌, inl, inr, refl, sym, ap, ◌∙◌, subst, arith}
+use Rattle.std.proofs.Common.{◌≡◌, ℕ, zero, suc, ◌+◌, ◌-◌, ◌<◌, ◌≤◌, ◌==◌, List, [], ◌∷◌, ◌++◌, length, map, get_or, Bool, true, false, Some, None, ℤ, if◌then◌else◌, inl, inr, refl, sym, ap, ◌∙◌, subst, arith}
 use Rattle.std.specs.List.{AllByRecursion, range_with_len}
-use Rattle.std.proofs.lemmas.Bool.{eq-eqb, eqb-true}
+use Rattle.std.proofs.lemmas.Bool.{eq-eqb}
 use Rattle.std.proofs.lemmas.List.{length-append, get_or_append_left}
 use Rattle.cob_program.specs.Act.{Program}
 use Rattle.cob_graph.specs.declared.graph.Graph.{Graph}
 use Rattle.cob_graph.specs.Graphs.{cells_of}
-use Rattle.graph_runs.specs.Sources.{IsSourceGraph}
 use Rattle.graph_runs.specs.Places.{edge_at}
 use Rattle.decimal_interval.specs.declared.bounds.Interval.{Interval}
 use Rattle.dom_laws.specs.Lattice.{Lattice, IsElement}
-use Rattle.dom_laws.specs.Flow.{Flow, IsNode, IsEdge, IsHead, IsInductive}
+use Rattle.dom_laws.specs.Flow.{IsEdge, IsHead, IsInductive}
 use Rattle.cell_rows.specs.Elements.{Element, ElementFits, ElementBelow, joined_element}
 use Rattle.cell_rows.specs.Rows.{cells_lattice, element_of, row_from, width_of}
 use Rattle.cell_rows.proofs.AllCells.{element_reflexive, element_transitive, element_join_fits, element_join_left, element_join_right}
@@ -24,9 +23,9 @@ use Rattle.cert_check.proofs.Accepting.{claimed}
 use Rattle.cert_check.proofs.Covering.{LayerLaws}
 use Rattle.cert_check.proofs.LayerLaws.{layer_laws}
 use Rattle.analyse_core.specs.Thresholds.{thresholds_of}
-use Rattle.analyse_core.specs.Certificates.{place_for, places_for, certificate_for}
-use Rattle.analyse_core.specs.Assignments.{IsListedElement, IsThresholdAssignment, IsOfRows, written_at}
-use Rattle.analyse_core.specs.Plain.{known_of, along, with_edge, joined_along, with_node, plain_to, plain_at, plain_certificate, GoesOn, PlainEvaluationAssigns}
+use Rattle.analyse_core.specs.Certificates.{place_for}
+use Rattle.analyse_core.specs.Assignments.{IsOfRows}
+use Rattle.analyse_core.specs.Plain.{known_of, along, joined_along, plain_to, plain_at, plain_certificate, GoesOn, PlainEvaluationAssigns}
 use Rattle.analyse_core.proofs.Claiming.{claimed_is}
 use Rattle.analyse_core.proofs.Finding.{is_accepted, shape}
 

@@ -1,7 +1,7 @@
 -- What the analysis finds is allowed, accepted and misses nothing.
-use Rattle.std.proofs.Common.{◌≡◌, ℕ, zero, suc, ◌+◌, ◌-◌, ◌*◌, ◌^◌, ◌<◌, ◌≤◌, ◌==◌, ◌&&◌, ◌||◌, not, nat_lt, nat_le, List, [], ◌∷◌, ◌++◌, length, map, Bool, true, false, Option, Some, None, ℤ, pos, neg_ℤ, ◌≤ℤ◌, int_le, if◌then◌else◌, ◌⊎◌, inl, inr, refl, sym, ap, ◌∙◌, subst, arith}
-use Rattle.std.specs.Prelude.{unsigned_abs, IsTrue, IfSome}
-use Rattle.std.specs.List.{All, AllByRecursion, Contains, flat_map, list_all, range_with_len}
+use Rattle.std.proofs.Common.{◌≡◌, ℕ, zero, suc, ◌+◌, ◌^◌, ◌<◌, ◌≤◌, ◌==◌, ◌&&◌, ◌||◌, not, nat_lt, nat_le, List, [], ◌∷◌, length, map, Bool, true, false, Some, None, ℤ, ◌≤ℤ◌, int_le, inl, inr, refl, sym, ap, ◌∙◌, subst, arith}
+use Rattle.std.specs.Prelude.{unsigned_abs, IsTrue}
+use Rattle.std.specs.List.{AllByRecursion, Contains, flat_map, list_all, range_with_len}
 use Rattle.std.proofs.Props.{props}
 use Rattle.std.proofs.Math.Logic.{∥∥₁_elim}
 use Rattle.std.proofs.lemmas.Bool.{and_parts}
@@ -19,31 +19,29 @@ use Rattle.cob_graph.specs.declared.graph.Graph.{Graph}
 use Rattle.cob_graph.specs.Graphs.{cells_of}
 use Rattle.graph_runs.specs.Sources.{IsSourceGraph}
 use Rattle.decimal_interval.specs.declared.bounds.Interval.{Interval}
-use Rattle.dom_laws.specs.Lattice.{Lattice, IsElement}
-use Rattle.dom_laws.specs.Flow.{Flow, IsNode, IsEdge, IsHead, IsInductive, IsDominated}
-use Rattle.cell_rows.specs.Known.{Known, KnownFits}
+use Rattle.dom_laws.specs.Lattice.{Lattice}
+use Rattle.dom_laws.specs.Flow.{Flow, IsNode, IsHead, IsInductive, IsDominated}
+use Rattle.cell_rows.specs.Known.{Known}
 use Rattle.cell_rows.specs.Elements.{Element, CellsFit, ElementFits, AreThresholds}
-use Rattle.cell_rows.specs.Rows.{cells_lattice, element_of, width_of, row_from}
+use Rattle.cell_rows.specs.Rows.{cells_lattice, element_of}
 use Rattle.cell_rows.proofs.AllCells.{fits_length}
-use Rattle.cell_storages.specs.Homes.{own_range, largest, picture_range, owns}
+use Rattle.cell_storages.specs.Homes.{own_range, picture_range, owns}
 use Rattle.cell_facts.proofs.Homes.{homes_have_own_ranges}
-use Rattle.cell_layer_laws.specs.Layer.{cell_flow, cell_meaning, clears_at, statement_at}
-use Rattle.cert_text.specs.declared.cert.Claim.{Claim}
-use Rattle.cert_text.specs.View.{Certificate, Place, NotReached, Holds}
+use Rattle.cell_layer_laws.specs.Layer.{cell_flow, clears_at, statement_at}
+use Rattle.cert_text.specs.View.{Certificate}
 use Rattle.cert_text.specs.Allowed.{IsAllowed, packs_fit, claim_fits, claims_fit, place_fits, places_all_fit}
-use Rattle.claimed_rows.specs.Claims.{claimed_element, claimed_row, place_at}
+use Rattle.claimed_rows.specs.Claims.{claimed_row, place_at}
 use Rattle.claimed_rows.specs.Gaps.{IsSmall}
 use Rattle.cert_check.specs.Claims.{all_kinds, claims_at, row_at, node_clears, is_cleared, if_open, open_at, open_of, opens_of, open_pairs}
 use Rattle.cert_check.specs.Checking.{Accepts, HasShape}
-use Rattle.cert_check.proofs.Lists.{each_holds}
 use Rattle.cert_check.proofs.Accepting.{claimed, claimed_back, accepted_is_inductive}
 use Rattle.cert_check.proofs.Asking.{is_said, is_small}
 use Rattle.cert_check.proofs.Covering.{LayerLaws}
 use Rattle.cert_check.proofs.LayerLaws.{layer_laws}
 use Rattle.cert_check.proofs.Leaking.{no_leaks}
 use Rattle.analyse_core.specs.Literals.{program_literals}
-use Rattle.analyse_core.specs.Thresholds.{IsSmallCell, thresholds_of, thresholds_for}
-use Rattle.analyse_core.specs.Certificates.{claim, known_claims, claims_from, place_for, places_for, certificate_for, CanBeClaimed}
+use Rattle.analyse_core.specs.Thresholds.{IsSmallCell, thresholds_of}
+use Rattle.analyse_core.specs.Certificates.{claim, claims_from, place_for, CanBeClaimed}
 use Rattle.analyse_core.specs.Assignments.{IsListedElement, IsThresholdAssignment, MissesNothing, IsOfRows, IsFound, written_at}
 use Rattle.analyse_core.proofs.Claiming.{claimed_row_is, place_is}
 use Rattle.analyse_core.proofs.CellLists.{are_thresholds, ListsLieIn, lists_lie_in}
@@ -292,7 +290,7 @@ module _ (p : Program) (g : Graph) (c : Certificate) where
       let one = in_one (is_cleared p g c there.0 here.0) there.0 here.0 (open_at statement fault) here.1 in
       let same = one_pair there.0 statement here.0 fault one.1 in
       let open_ : is_cleared p g c statement fault ≡ false =
-          ap (λ s. is_cleared p g c s fault) (sym same.0) ∙ ap (is_cleared p g c there.0) (sym same.1) ∙ one.0 in
+      ap (λ s. is_cleared p g c s fault) (sym same.0) ∙ ap (is_cleared p g c there.0) (sym same.1) ∙ one.0 in
       cc (sym e ∙ open_)
 
 pub misses_nothing : (p : Program) (g : Graph) (c : Certificate) → ∥ IsSourceGraph p g ∥₁ → IsFound p g c → MissesNothing p g c

@@ -8,12 +8,12 @@ use Rattle.dom_laws.specs.Lattice.{IsElement}
 use Rattle.dom_laws.specs.Flow.{Flow, IsHead, HeadsAreFixed}
 use Rattle.cell_rows.specs.Known.{Known, KnownFits, KnownBelow, first_of, last_of, nearest_below, nearest_above, widened_low, widened_high, widened_known, HasEnds}
 use Rattle.cell_rows.specs.Elements.{Element, CellsFit, ElementFits, CellsBelow, ElementBelow, widened, widened_element, AreThresholds}
-use Rattle.cell_rows.specs.Rows.{row_from, element_of, width_of, widened_row, cells_lattice}
+use Rattle.cell_rows.specs.Rows.{row_from, element_of, widened_row, cells_lattice}
 use Rattle.cell_rows.proofs.Ends.{nearest_below_is_nearest, nearest_above_is_nearest}
 use Rattle.cell_rows.proofs.OneKnown.{below_anything}
 use Rattle.cell_rows.proofs.AllCells.{element_widen_fits}
 use Rattle.cell_rows.proofs.Rows.{element_back}
-use Rattle.claimed_rows.specs.Claims.{met, if_ordered, met_known, with_cell, met_cells, met_element}
+use Rattle.claimed_rows.specs.Claims.{if_ordered, met_known, with_cell, met_cells, met_element}
 use Rattle.analyse_core.specs.Assignments.{HasListedEnds, AreListed, IsListedElement}
 use Rattle.analyse_core.proofs.Claiming.{met_whole}
 use Rattle.analyse_core.proofs.Rising.{LiesIn, listed_lies}
@@ -26,22 +26,22 @@ low_fixed : (ts : List ℤ) (old new end : ℤ) → 0 < length ts → first_of t
 low_fixed ts old new end some first listed h k =
     by_lt_z new old
     (λ (lt : new <ℤ old).
-        let e : int_lt new old ≡ true = grind (arith, ints, lt) in
-        subst (λ b. end ≤ℤ (if b then nearest_below ts new else old)) (sym e) ((nearest_below_is_nearest ts new some first).nearest end listed k))
+    let e : int_lt new old ≡ true = grind (arith, ints, lt) in
+    subst (λ b. end ≤ℤ (if b then nearest_below ts new else old)) (sym e) ((nearest_below_is_nearest ts new some first).nearest end listed k))
     (λ (le : old ≤ℤ new).
-        let e : int_lt new old ≡ false = grind (arith, ints, le) in
-        subst (λ b. end ≤ℤ (if b then nearest_below ts new else old)) (sym e) h)
+    let e : int_lt new old ≡ false = grind (arith, ints, le) in
+    subst (λ b. end ≤ℤ (if b then nearest_below ts new else old)) (sym e) h)
 
 high_fixed : (ts : List ℤ) (old new end : ℤ) → 0 < length ts → new ≤ℤ last_of ts → IsListed ts end → old ≤ℤ end → new ≤ℤ end →
     widened_high ts old new ≤ℤ end
 high_fixed ts old new end some last listed h k =
     by_lt_z old new
     (λ (lt : old <ℤ new).
-        let e : int_lt old new ≡ true = grind (arith, ints, lt) in
-        subst (λ b. (if b then nearest_above ts new else old) ≤ℤ end) (sym e) ((nearest_above_is_nearest ts new some last).nearest end listed k))
+    let e : int_lt old new ≡ true = grind (arith, ints, lt) in
+    subst (λ b. (if b then nearest_above ts new else old) ≤ℤ end) (sym e) ((nearest_above_is_nearest ts new some last).nearest end listed k))
     (λ (le : new ≤ℤ old).
-        let e : int_lt old new ≡ false = grind (arith, ints, le) in
-        subst (λ b. (if b then nearest_above ts new else old) ≤ℤ end) (sym e) h)
+    let e : int_lt old new ≡ false = grind (arith, ints, le) in
+    subst (λ b. (if b then nearest_above ts new else old) ≤ℤ end) (sym e) h)
 
 known_fixed : (own : Interval) (ts : List ℤ) (a b c : Known) → HasEnds own ts → KnownFits own b → HasListedEnds ts c → KnownBelow a c →
     KnownBelow b c → KnownBelow (widened_known ts a b) c
@@ -50,9 +50,10 @@ known_fixed own ts None b (Some i) e f l h k = absurd h
 known_fixed own ts (Some x) None (Some i) e f l h k = absurd k
 known_fixed own ts (Some x) (Some y) (Some i) e (f, o, m) (low, high) (h, h2) (k, k2) =
     let first = e.first in
-    let last = e.last in
-    (low_fixed ts x.low y.low i.low e.some (omega (arith, ints, first, f)) low h k,
-    high_fixed ts x.high y.high i.high e.some (omega (arith, ints, last, m)) high h2 k2)
+    let last = e.last in (
+      low_fixed ts x.low y.low i.low e.some (omega (arith, ints, first, f)) low h k,
+      high_fixed ts x.high y.high i.high e.some (omega (arith, ints, last, m)) high h2 k2,
+    )
 
 -- ---- all cells
 

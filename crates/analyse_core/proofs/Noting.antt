@@ -1,5 +1,5 @@
 -- Steps of the loops over literals, thresholds and cells.
-use Rattle.std.proofs.Common.{◌≡◌, ℕ, zero, suc, ◌+◌, ◌-◌, ◌<◌, ◌≤◌, List, [], ◌∷◌, length, drop, get_or, ℤ, ◌≤ℤ◌, ◌<ℤ◌, int_lt, if◌then◌else◌, Bool, true, false, refl, sym, ap, ◌∙◌, subst, arith}
+use Rattle.std.proofs.Common.{◌≡◌, ℕ, suc, ◌+◌, List, [], ◌∷◌, drop, ℤ, ◌≤ℤ◌, ◌<ℤ◌, int_lt, if◌then◌else◌, true, false, sym, ap, ◌∙◌, arith}
 use Rattle.std.specs.List.{fold}
 use Rattle.std.proofs.lemmas.Int.{ints}
 use Rattle.analyse_core.specs.Thresholds.{rank_in}

@@ -1,10 +1,10 @@
 -- Lists that rise, into which numbers are put.
-use Rattle.std.proofs.Common.{◌≡◌, ℕ, zero, suc, ◌+◌, ◌-◌, ◌<◌, ◌≤◌, List, [], ◌∷◌, ◌++◌, length, get_or, Bool, true, false, ℤ, pos, ◌≤ℤ◌, ◌<ℤ◌, ◌⊎◌, inl, inr, int_lt, int_le, if◌then◌else◌, refl, sym, ap, ◌∙◌, subst, arith}
+use Rattle.std.proofs.Common.{◌≡◌, ℕ, zero, suc, ◌-◌, ◌<◌, ◌≤◌, List, [], ◌∷◌, length, get_or, Bool, true, false, ℤ, pos, ◌≤ℤ◌, ◌<ℤ◌, ◌⊎◌, inl, inr, int_lt, int_le, if◌then◌else◌, refl, sym, ap, ◌∙◌, subst, arith}
 use Rattle.std.specs.List.{insert, AllByRecursion}
 use Rattle.std.proofs.lemmas.Int.{ints, by_lt_z}
 use Rattle.decimal_interval.specs.declared.bounds.Interval.{Interval}
 use Rattle.decimal_interval.specs.Thresholds.{IsListed}
-use Rattle.cell_rows.specs.Known.{first_of, last_of, HasEnds}
+use Rattle.cell_rows.specs.Known.{HasEnds}
 use Rattle.analyse_core.specs.Thresholds.{inserted, rank_in, holds_at, RisesFrom, Rises}
 
 below_is : (t z : ℤ) → t <ℤ z → int_lt t z ≡ true
@@ -41,9 +41,9 @@ inserted_at z (t ∷ ts) =
     by_lt_z t z
     (λ (lt : t <ℤ z). rw (below_is t z lt) (behind t z ts (holds_at ts (rank_in z ts) z) (inserted_at z ts)))
     (λ (le : z ≤ℤ t).
-        by_lt_z z t
-        (λ (gt : z <ℤ t). rw (not_below t z le, below_is z t gt, not_at_most t z gt) refl)
-        (λ (ge : t ≤ℤ z). rw (not_below t z le, not_below z t ge, at_most_is t z ge) refl))
+    by_lt_z z t
+    (λ (gt : z <ℤ t). rw (not_below t z le, below_is z t gt, not_at_most t z gt) refl)
+    (λ (ge : t ≤ℤ z). rw (not_below t z le, not_below z t ge, at_most_is t z ge) refl))
 
 pub stands_there : (z : ℤ) (ts : List ℤ) (k : ℕ) → k ≡ rank_in z ts → holds_at ts k z ≡ true → ts ≡ inserted z ts
 stands_there z ts k e h =
@@ -64,9 +64,9 @@ module _ (P : ℤ → Type 0) where
       by_lt_z t z
       (λ (lt : t <ℤ z). rw (below_is t z lt) (h.0, all_inserted z ts p h.1))
       (λ (le : z ≤ℤ t).
-          by_lt_z z t
-          (λ (gt : z <ℤ t). rw (not_below t z le, below_is z t gt) (p, h))
-          (λ (ge : t ≤ℤ z). rw (not_below t z le, not_below z t ge) h))
+      by_lt_z z t
+      (λ (gt : z <ℤ t). rw (not_below t z le, below_is z t gt) (p, h))
+      (λ (ge : t ≤ℤ z). rw (not_below t z le, not_below z t ge) h))
 
   pub all_at : (ts : List ℤ) (k : ℕ) → AllByRecursion P ts → k < length ts → P (get_or ts k (pos 0))
   all_at [] k h l = absurd (omega (arith, l))
@@ -79,9 +79,9 @@ inserted_length z (t ∷ ts) =
     by_lt_z t z
     (λ (lt : t <ℤ z). rw (below_is t z lt) (let more = inserted_length z ts in omega (arith, more)))
     (λ (le : z ≤ℤ t).
-        by_lt_z z t
-        (λ (gt : z <ℤ t). rw (not_below t z le, below_is z t gt) (omega arith))
-        (λ (ge : t ≤ℤ z). rw (not_below t z le, not_below z t ge) (omega arith)))
+    by_lt_z z t
+    (λ (gt : z <ℤ t). rw (not_below t z le, below_is z t gt) (omega arith))
+    (λ (ge : t ≤ℤ z). rw (not_below t z le, not_below z t ge) (omega arith)))
 
 -- ---- it rises still
 
@@ -91,9 +91,9 @@ rises_behind s z (t ∷ ts) l h =
     by_lt_z t z
     (λ (lt : t <ℤ z). rw (below_is t z lt) (h.0, rises_behind t z ts lt h.1))
     (λ (le : z ≤ℤ t).
-        by_lt_z z t
-        (λ (gt : z <ℤ t). rw (not_below t z le, below_is z t gt) (l, (gt, h.1)))
-        (λ (ge : t ≤ℤ z). rw (not_below t z le, not_below z t ge) h))
+    by_lt_z z t
+    (λ (gt : z <ℤ t). rw (not_below t z le, below_is z t gt) (l, (gt, h.1)))
+    (λ (ge : t ≤ℤ z). rw (not_below t z le, not_below z t ge) h))
 
 pub inserted_rises : (z : ℤ) (ts : List ℤ) → Rises ts → Rises (inserted z ts)
 inserted_rises z [] h = tt
@@ -101,9 +101,9 @@ inserted_rises z (t ∷ ts) h =
     by_lt_z t z
     (λ (lt : t <ℤ z). rw (below_is t z lt) (rises_behind t z ts lt h))
     (λ (le : z ≤ℤ t).
-        by_lt_z z t
-        (λ (gt : z <ℤ t). rw (not_below t z le, below_is z t gt) (gt, h))
-        (λ (ge : t ≤ℤ z). rw (not_below t z le, not_below z t ge) h))
+    by_lt_z z t
+    (λ (gt : z <ℤ t). rw (not_below t z le, below_is z t gt) (gt, h))
+    (λ (ge : t ≤ℤ z). rw (not_below t z le, not_below z t ge) h))
 
 -- ---- what it holds
 
@@ -117,9 +117,9 @@ inserted_has z (t ∷ ts) =
     by_lt_z t z
     (λ (lt : t <ℤ z). rw (below_is t z lt) (inr (inserted_has z ts)))
     (λ (le : z ≤ℤ t).
-        by_lt_z z t
-        (λ (gt : z <ℤ t). rw (not_below t z le, below_is z t gt) (inl refl))
-        (λ (ge : t ≤ℤ z). rw (not_below t z le, not_below z t ge) (inl (omega (arith, ints, le, ge)))))
+    by_lt_z z t
+    (λ (gt : z <ℤ t). rw (not_below t z le, below_is z t gt) (inl refl))
+    (λ (ge : t ≤ℤ z). rw (not_below t z le, not_below z t ge) (inl (omega (arith, ints, le, ge)))))
 
 has_behind : (t z u : ℤ) (ts : List ℤ) → (Has ts u → Has (inserted z ts) u) → (t ≡ u) ⊎ Has ts u → (t ≡ u) ⊎ Has (inserted z ts) u
 has_behind t z u ts h (inl e) = inl e
@@ -131,9 +131,9 @@ inserted_keeps z u (t ∷ ts) h =
     by_lt_z t z
     (λ (lt : t <ℤ z). rw (below_is t z lt) (has_behind t z u ts (inserted_keeps z u ts) h))
     (λ (le : z ≤ℤ t).
-        by_lt_z z t
-        (λ (gt : z <ℤ t). rw (not_below t z le, below_is z t gt) (inr h))
-        (λ (ge : t ≤ℤ z). rw (not_below t z le, not_below z t ge) h))
+    by_lt_z z t
+    (λ (gt : z <ℤ t). rw (not_below t z le, below_is z t gt) (inr h))
+    (λ (ge : t ≤ℤ z). rw (not_below t z le, not_below z t ge) h))
 
 has_place : (ts : List ℤ) (u : ℤ) → Has ts u → (k : ℕ) × (k < length ts) × (get_or ts k (pos 0) ≡ u)
 has_place [] u h = absurd h

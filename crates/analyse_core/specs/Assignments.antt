@@ -1,5 +1,5 @@
 -- Assignments of what is known of cells to the nodes of a program's graph, whose heads have thresholds as ends.
-use Rattle.std.specs.Prelude.{◌≡◌, ◌+◌, ◌*◌, ◌≤◌, ℕ, Bool, true, List, [], ◌∷◌, length, Option, None, Some, ℤ}
+use Rattle.std.specs.Prelude.{◌≡◌, ◌+◌, ◌*◌, ℕ, true, List, [], ◌∷◌, length, None, Some, ℤ}
 use Rattle.std.specs.List.{Contains}
 use Rattle.cob_tree.specs.declared.fault.Kind.{Kind}
 use Rattle.cob_program.specs.Act.{Program}
@@ -14,7 +14,6 @@ use Rattle.cert_text.specs.View.{Certificate}
 use Rattle.claimed_rows.specs.Claims.{place_at, written_element}
 use Rattle.cell_storages.specs.Homes.{owns}
 use Rattle.cell_layer_laws.specs.Layer.{cell_flow}
-use Rattle.graph_runs.specs.Sources.{IsSourceGraph}
 use Rattle.cert_check.specs.Claims.{leaks, is_cleared, open_at, open_pairs}
 use Rattle.cert_check.specs.Checking.{HasShape}
 use Rattle.analyse_core.specs.Thresholds.{thresholds_of}

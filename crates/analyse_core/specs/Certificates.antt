@@ -1,5 +1,5 @@
 -- The certificate of what is known of cells at each node: a claim for each cell that is known.
-use Rattle.std.specs.Prelude.{◌≡◌, ◌+◌, ◌*◌, ◌≤◌, ℕ, suc, List, [], ◌∷◌, ◌++◌, map, length, Some, None, IfSome, ℤ}
+use Rattle.std.specs.Prelude.{◌≡◌, ◌+◌, ◌*◌, ℕ, suc, List, [], ◌∷◌, ◌++◌, map, length, Some, None, IfSome, ℤ}
 use Rattle.std.specs.List.{range_with_len}
 use Rattle.decimal_interval.specs.declared.bounds.Interval.{Interval}
 use Rattle.cell_rows.specs.Known.{Known}

@@ -27,11 +27,7 @@ fn word(end: i128) -> i64
 }
 
 // Adds the claim of a cell, if anything is known of it.
-fn add_known(
-    claims: &mut Vec<Claim>,
-    cell: u32,
-    known: Option<Interval>,
-) -> Result<(), AllocError>
+fn add_known(claims: &mut Vec<Claim>, cell: u32, known: Option<Interval>) -> Result<(), AllocError>
     requires { IfSome known IsSmall }
     ensures { OnOk result (claims.new.items ≡ claims.old.items ++ known_claims cell known) }
 {

@@ -42,7 +42,10 @@ pub fn add_senders<'a>(literals: &mut Vec<&'a Num>, senders: &'a [Sender]) -> Re
 }
 
 /// Adds a value that is given, if it is a literal.
-pub fn add_value<'a>(literals: &mut Vec<&'a Num>, value: &'a Option<Sender>) -> Result<(), AllocError>
+pub fn add_value<'a>(
+    literals: &mut Vec<&'a Num>,
+    value: &'a Option<Sender>,
+) -> Result<(), AllocError>
     ensures { OnOk result (numbers_of literals.new.items ≡ numbers_of literals.old.items ++ value_literals value.now) }
 {
     match value {

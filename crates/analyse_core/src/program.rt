@@ -29,7 +29,11 @@ fn add_flag<'a>(literals: &mut Vec<&'a Num>, place: usize, flag: &'a Flag) -> Re
     Ok(())
 }
 
-fn add_flags<'a>(literals: &mut Vec<&'a Num>, place: usize, flags: &'a [Flag]) -> Result<(), AllocError>
+fn add_flags<'a>(
+    literals: &mut Vec<&'a Num>,
+    place: usize,
+    flags: &'a [Flag],
+) -> Result<(), AllocError>
     ensures { OnOk result (numbers_of literals.new.items ≡ numbers_of literals.old.items ++ flags_literals place flags.now) }
 {
     for flag in flags {
@@ -50,7 +54,11 @@ fn add_item<'a>(
     add_flags(literals, place, flags)
 }
 
-fn add_items<'a>(literals: &mut Vec<&'a Num>, flags: &'a [Flag], items: &'a [Item]) -> Result<(), AllocError>
+fn add_items<'a>(
+    literals: &mut Vec<&'a Num>,
+    flags: &'a [Flag],
+    items: &'a [Item],
+) -> Result<(), AllocError>
     ensures { OnOk result (numbers_of literals.new.items ≡ numbers_of literals.old.items ++ items_literals flags.now 0 items.now) }
 {
     for (place, item) in items.iter().enumerate() {

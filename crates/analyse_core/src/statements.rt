@@ -38,7 +38,12 @@ fn add_turns<'a>(literals: &mut Vec<&'a Num>, turns: &'a Turns) -> Result<(), Al
         Turns::Once => Ok(()),
         Turns::Times(count) => add_sender(literals, count),
         Turns::Until { test, .. } => add_logic(literals, test),
-        Turns::Varying { start, by, test, .. } => {
+        Turns::Varying {
+            start,
+            by,
+            test,
+            ..
+        } => {
             add_sender(literals, start)?;
             add_sender(literals, by)?;
             add_logic(literals, test)

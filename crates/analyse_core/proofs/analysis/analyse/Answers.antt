@@ -1,8 +1,7 @@
-use Rattle.std.proofs.Common.{◌≡◌, ◌≤◌, length, subst, sym, ap}
+use Rattle.std.proofs.Common.{◌≡◌, ◌≤◌, length, subst}
 use Rattle.std.specs.Prelude.{[]}
 use Rattle.std.proofs.lemmas.Result.{IfOk-weaker}
 use Rattle.cob_program.specs.ActView.{plain_program}
-use Rattle.cob_graph.specs.Graphs.{cells_of}
 use Rattle.cert_text.specs.View.{view}
 use Rattle.cert_text.specs.Allowed.{IsAllowed}
 use Rattle.cert_check.specs.Claims.{open_pairs}

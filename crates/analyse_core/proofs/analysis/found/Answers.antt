@@ -1,4 +1,4 @@
-use Rattle.std.proofs.Common.{◌≡◌, ◌∙◌, ◌≤◌, ℕ, length, ap, sym, subst, arith}
+use Rattle.std.proofs.Common.{◌≡◌, ◌∙◌, length, ap, subst, arith}
 use Rattle.std.proofs.lemmas.Result.{IfOk-weaker}
 use Rattle.cob_program.specs.ActView.{plain_program}
 use Rattle.cob_graph.specs.Graphs.{cells_of}
@@ -33,8 +33,8 @@ certificate_of-requires-clause-rows g c =
     let cells : length c.get-2.result.now ≡ length graph.cells = ap length c.get-2.ensures in
     let nodes : length c.get.result.now ≡ length graph.nodes = ap length c.get.ensures in
     λ node l h.
-        row_can_be_claimed p graph c.requires.source rows inductive (length c.get-2.result.now)
-        (cells ∙ ap length (cells_are p graph c.requires.source)) node l (omega (arith, h, nodes))
+    row_can_be_claimed p graph c.requires.source rows inductive (length c.get-2.result.now)
+    (cells ∙ ap length (cells_are p graph c.requires.source)) node l (omega (arith, h, nodes))
 
 pub returns-clause-found : goal.returns-clause-found
 returns-clause-found g c =

@@ -1,6 +1,6 @@
-use Rattle.std.proofs.Common.{◌≡◌, ◌+◌, ◌++◌, ◌∙◌, suc, drop, ap, sym, subst, arith}
+use Rattle.std.proofs.Common.{◌+◌, suc, drop, sym, subst, arith}
 use Rattle.std.specs.Prelude.{IfSome}
-use Rattle.cell_rows.specs.Rows.{cells_of, known_at}
+use Rattle.cell_rows.specs.Rows.{cells_of}
 use Rattle.claimed_rows.specs.Gaps.{IsSmall}
 use Rattle.claimed_rows.proofs.Seeking.{small_at}
 use Rattle.analyse_core.specs.Certificates.{claims_from, known_claims}

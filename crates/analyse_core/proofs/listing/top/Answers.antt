@@ -1,7 +1,7 @@
 use Rattle.std.proofs.Common.{rules, ◌^◌, ◌≤◌, ℤ, pos, ◌*ℤ◌, to_z, of_z, sym, subst, arith}
 use Rattle.std.specs.Prelude.{unsigned_abs}
 use Rattle.std.specs.Int.{w128}
-use Rattle.std.proofs.lemmas.Int.{ints, to_z-of_z}
+use Rattle.std.proofs.lemmas.Int.{to_z-of_z}
 use Rattle.dec_num.proofs.Bounds.{size_of_product}
 use Rattle.dec_num.proofs.Powers.{ten_monotone}
 use Rattle.analyse_core.proofs.listing.top.Goals as goal
