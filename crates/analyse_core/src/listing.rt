@@ -1,6 +1,6 @@
 //! The thresholds of cells.
 ghost use Rattle.std.specs.Prelude.{◌≡◌, ◌≤◌, ◌≤ℤ◌, ◌*ℤ◌, ◌+ℤ◌, ◌-ℤ◌, ◌^◌, pos, true, map, int_lt, IfOk, OnOk, unsigned_abs};
-ghost use Rattle.std.specs.List.{All, fold};
+ghost use Rattle.std.specs.List.{All, AllByRecursion, fold};
 ghost use Rattle.cob_program.specs.ActView.{plain_program};
 ghost use Rattle.cob_program.specs.Values.{literal};
 ghost use Rattle.claimed_rows.specs.Gaps.{IsSmall};
@@ -11,6 +11,7 @@ ghost use Rattle.analyse_core.specs.Literals.{numbers_of};
 ghost use Rattle.analyse_core.specs.Thresholds.{
   IsSmallCell,
   IsSmallNumber,
+  Rises,
   all_noted,
   beside,
   beside_number,
@@ -319,7 +320,8 @@ pub fn thresholds(
     graph: &Graph,
 ) -> Result<Vec<Vec<i64>>, AllocError>
     requires { ∥ IsSourceGraph (plain_program program.now) graph.now ∥₁ }
-    ensures { IfOk result (λ lists. lists_of lists.items ≡ thresholds_of (plain_program program.now)) }
+    ensures value { IfOk result (λ lists. lists_of lists.items ≡ thresholds_of (plain_program program.now)) }
+    ensures sorted { IfOk result (λ lists. AllByRecursion Rises (lists_of lists.items)) }
 {
     let literals = program_literals(alloc, program)?;
     let cells = graph.cells.get();
