@@ -1,0 +1,40 @@
+-- The certificate of what is known of cells at each node: a claim for each cell that is known.
+use Rattle.std.specs.Prelude.{◌≡◌, ◌+◌, ◌*◌, ℕ, suc, List, [], ◌∷◌, ◌++◌, map, length, Some, None, IfSome, ℤ}
+use Rattle.std.specs.List.{range_with_len}
+use Rattle.decimal_interval.specs.declared.bounds.Interval.{Interval}
+use Rattle.cell_rows.specs.Known.{Known}
+use Rattle.cell_rows.specs.Elements.{Element}
+use Rattle.cell_rows.specs.Rows.{IsSaid, element_of}
+use Rattle.cert_text.specs.declared.cert.Claim.{Claim}
+use Rattle.cert_text.specs.View.{Place, NotReached, Holds, Certificate}
+use Rattle.claimed_rows.specs.Gaps.{AreSmall}
+
+abbrev pub claim : ℕ → Interval → Claim
+claim cell i = record { cell = cell; low = i.low; high = i.high }
+
+-- a cell that may be anything has none
+abbrev pub known_claims : ℕ → Known → List Claim
+known_claims cell None = []
+known_claims cell (Some i) = claim cell i ∷ []
+
+-- of the cells from one of them on
+abbrev pub claims_from : ℕ → List Known → List Claim
+claims_from cell [] = []
+claims_from cell (c ∷ cs) = known_claims cell c ++ claims_from (suc cell) cs
+
+abbrev pub place_for : Element → Place
+place_for None = NotReached
+place_for (Some cs) = Holds (claims_from 1 cs) []
+
+abbrev pub places_for : ℕ → (ℕ → Element) → List Place
+places_for nodes x = map (λ node. place_for (x node)) (range_with_len 1 nodes)
+
+-- of so many cells and nodes
+abbrev pub certificate_for : ℕ → ℕ → (ℕ → Element) → Certificate
+certificate_for cells nodes x = record { cells = cells; packs = []; nodes = places_for nodes x }
+
+-- a row of so many cells, with ends of at most 18 digits
+pub record CanBeClaimed (cells : ℕ) (row : List ℤ) : Type 0 where
+  pub said : IsSaid row
+  pub width : length row ≡ 2 * cells + 1
+  pub small : IfSome (element_of row) AreSmall

@@ -1,0 +1,5 @@
+pub mod Literals
+pub mod Thresholds
+pub mod Certificates
+pub mod Assignments
+pub mod Plain

@@ -1,0 +1,113 @@
+//! The certificate of solved rows.
+ghost use Rattle.std.specs.Prelude.{◌≡◌, ◌≤◌, ◌<◌, ◌-◌, ◌^◌, ◌++◌, ℕ, map, length, IfOk, OnOk, IfSome, unsigned_abs};
+ghost use Rattle.cell_rows.specs.Rows.{IsReached, cells_of, element_of};
+ghost use Rattle.cert_text.specs.View.{place_of, view};
+ghost use Rattle.claimed_rows.specs.Gaps.{AreSmall, IsSmall};
+ghost use Rattle.analyse_core.specs.Certificates.{
+  CanBeClaimed,
+  certificate_for,
+  claims_from,
+  known_claims,
+  place_for,
+  places_for,
+};
+
+use cell_rows::{is_reached, known_at};
+use cert_text::{Cert, Claim, Element};
+use decimal_interval::Interval;
+use dom_laws::Rows;
+use std::alloc::{AllocError, Global};
+
+// An end has at most 18 digits.
+fn word(end: i128) -> i64
+    requires { unsigned_abs end < 10 ^ 18 }
+    ensures { result ≡ end }
+{
+    end as i64
+}
+
+// Adds the claim of a cell, if anything is known of it.
+fn add_known(claims: &mut Vec<Claim>, cell: u32, known: Option<Interval>) -> Result<(), AllocError>
+    requires { IfSome known IsSmall }
+    ensures { OnOk result (claims.new.items ≡ claims.old.items ++ known_claims cell known) }
+{
+    if let Some(interval) = known {
+        claims.push(Claim {
+            cell,
+            low: word(interval.low),
+            high: word(interval.high),
+        })?;
+    }
+    Ok(())
+}
+
+// The claims of a row that is reached, by rising cell.
+fn claims_of(alloc: Global, row: &[i128], cells: usize) -> Result<Vec<Claim>, AllocError>
+    requires reached { IsReached row.now }
+    requires cells { length (cells_of row.now) ≡ cells }
+    requires count { cells < 2 ^ 32 - 1 }
+    requires small { AreSmall (cells_of row.now) }
+    ensures { IfOk result (λ claims. claims.items ≡ claims_from 1 (cells_of row.now)) }
+{
+    let mut claims = Vec::new(alloc);
+    for k in 0..cells {
+        add_known(&mut claims, k as u32 + 1, known_at(row, k))?;
+    }
+    Ok(claims)
+}
+
+// What a row claims of its node.
+fn element_of(alloc: Global, row: &[i128], cells: usize) -> Result<Element, AllocError>
+    requires row { CanBeClaimed cells row.now }
+    requires count { cells < 2 ^ 32 - 1 }
+    ensures { IfOk result (λ element. place_of element ≡ place_for (element_of row.now)) }
+{
+    if !is_reached(row) {
+        return Ok(Element::Unreached);
+    }
+    Ok(Element::At {
+        cells: claims_of(alloc, row, cells)?,
+        bounds: Vec::new(alloc),
+    })
+}
+
+// What the rows of so many nodes claim.
+#[tactic(auto, using(crate::proofs::Claiming::places_more))]
+fn elements_of<R: Rows>(
+    alloc: Global,
+    rows: &R,
+    nodes: u32,
+    cells: usize,
+) -> Result<Vec<Element>, AllocError>
+    requires nodes { R.count rows.now ≡ nodes }
+    requires rows { (node : ℕ) → 1 ≤ node → node ≤ nodes → CanBeClaimed cells (R.row_at rows.now node) }
+    requires count { cells < 2 ^ 32 - 1 }
+    ensures { IfOk result (λ elements. map place_of elements.items
+        ≡ places_for nodes (λ node. element_of (R.row_at rows.now node))) }
+{
+    let mut elements = Vec::with_capacity(alloc, nodes as usize)?;
+    for node in 0..nodes {
+        elements.push(element_of(alloc, rows.row(node + 1), cells)?)?;
+    }
+    Ok(elements)
+}
+
+/// The certificate of rows of so many cells.
+pub fn certificate_of<R: Rows>(
+    alloc: Global,
+    rows: &R,
+    nodes: u32,
+    cells: u32,
+) -> Result<Cert, AllocError>
+    requires nodes { R.count rows.now ≡ nodes }
+    requires rows { (node : ℕ) → 1 ≤ node → node ≤ nodes → CanBeClaimed cells (R.row_at rows.now node) }
+    requires count { cells < 2 ^ 32 - 1 }
+    ensures { IfOk result (λ cert. view cert
+        ≡ certificate_for cells nodes (λ node. element_of (R.row_at rows.now node))) }
+{
+    Ok(Cert {
+        cells,
+        packs: Vec::new(alloc),
+        nodes: elements_of(alloc, rows, nodes, cells as usize)?,
+    })
+}
