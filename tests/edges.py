@@ -244,9 +244,6 @@ class Amount:
     operand: typing.Any
     scale: int = 0
 
-    def is_moved(self):
-        return self.how == "moved"
-
     def divides(self):
         return self.how in ("whole", "rest") and root(self.operand) is not None
 
