@@ -5,7 +5,7 @@ ghost use Rattle.cert_text.specs.View.{Place};
 ghost use Rattle.claimed_rows.specs.Claims.{claimed_row};
 
 use crate::flow::post;
-use crate::rows::{place_of, row_of, shown_row};
+use crate::rows::{claimed_by, row_of, shown_row};
 use cob_tree::Kind;
 use decimal_interval::Interval;
 use dom_laws::Layer;
@@ -46,7 +46,7 @@ fn post_case<L: Layer>(
     let Some(edge) = number_of(edge, layer.edges()) else {
         return Ok(None);
     };
-    let Some(place) = place_of(alloc, words)? else {
+    let Some(place) = claimed_by(alloc, words)? else {
         return Ok(None);
     };
     let row = row_of(alloc, owns, &place)?;
@@ -69,7 +69,7 @@ fn clears_case<L: Layer>(
     let (Some(node), Some(kind)) = (number_of(node, layer.nodes()), kind_of(kind)) else {
         return Ok(None);
     };
-    let Some(place) = place_of(alloc, words)? else {
+    let Some(place) = claimed_by(alloc, words)? else {
         return Ok(None);
     };
     let row = row_of(alloc, owns, &place)?;

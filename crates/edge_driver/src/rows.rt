@@ -36,7 +36,7 @@ fn claims_of(alloc: Global, words: &[&str]) -> Result<Option<Vec<Claim>>, AllocE
 }
 
 /// What the words of a row claim, nothing where they can't be read.
-pub fn place_of(alloc: Global, words: &[&str]) -> Result<Option<Element>, AllocError> {
+pub fn claimed_by(alloc: Global, words: &[&str]) -> Result<Option<Element>, AllocError> {
     match claims_of(alloc, words)? {
         None => Ok(None),
         Some(cells) => Ok(Some(Element::At {
