@@ -711,7 +711,7 @@ def answers(source, lines):
         path.write_text(source, "latin-1")
         given = "".join(f"{line}\n" for line in lines).encode()
         done = subprocess.run([program("edge_driver"), path], input=given, capture_output=True)
-    return [line.rstrip() for line in done.stdout.decode().split("\n")[:-1]]
+    return done.stdout.decode().split("\n")[:-1]
 
 
 def told(name, source):

@@ -68,12 +68,7 @@ fn phrase_word(act: &Act) -> &'static str {
     }
 }
 
-fn show_parts(
-    rt: &HostRuntime,
-    program: &Program,
-    statement: &Stmt,
-    edge: Edge,
-) -> io::Result<()> {
+fn show_parts(rt: &HostRuntime, program: &Program, statement: &Stmt, edge: Edge) -> io::Result<()> {
     for k in 0..part_count(program, statement, edge.action) {
         if let Some(part) = part_at(program, statement, edge.action, k) {
             let mut line = String::from_str(rt.alloc(), "part ")?;
@@ -84,12 +79,7 @@ fn show_parts(
     Ok(())
 }
 
-fn show_edge(
-    rt: &HostRuntime,
-    program: &Program,
-    statement: &Stmt,
-    edge: Edge,
-) -> io::Result<()> {
+fn show_edge(rt: &HostRuntime, program: &Program, statement: &Stmt, edge: Edge) -> io::Result<()> {
     let phrase = phrase_word(&statement.act);
     println!(rt;
         "edge {} {} {:?} {} {phrase}",

@@ -20,13 +20,18 @@ fn claim_of(cell: u32, low: &str, high: &str) -> Option<Option<Claim>> {
     }))
 }
 
+// The number of the cell behind so many others.
+fn cell_behind(others: usize) -> Option<u32> {
+    u32::try_from(others).ok()?.checked_add(1)
+}
+
 fn claims_of(alloc: Global, words: &[&str]) -> Result<Option<Vec<Claim>>, AllocError> {
     let mut claims = Vec::new(alloc);
-    for (k, pair) in words.chunks_exact(2).enumerate() {
-        let [low, high] = pair else {
+    for (others, pair) in words.chunks_exact(2).enumerate() {
+        let (Some(cell), [low, high]) = (cell_behind(others), pair) else {
             return Ok(None);
         };
-        match claim_of(k as u32 + 1, low, high) {
+        match claim_of(cell, low, high) {
             None => return Ok(None),
             Some(None) => {}
             Some(Some(claim)) => claims.push(claim)?,
@@ -59,23 +64,29 @@ pub fn row_of(alloc: Global, owns: &[Interval], place: &Element) -> Result<Vec<i
 
 fn write_known(text: &mut String, low: i128, high: i128) -> Result<(), AllocError> {
     if low <= high {
-        write!(text, "{low} {high} ")
+        write!(text, "{low} {high}")
     } else {
-        text.push_str("- - ")
+        text.push_str("- -")
     }
 }
 
-/// The words of a row, a blank behind each.
+fn write_cells(text: &mut String, words: &[i128]) -> Result<(), AllocError> {
+    for (k, pair) in words.chunks_exact(2).enumerate() {
+        if k > 0 {
+            text.push(' ')?;
+        }
+        if let [low, high] = pair {
+            write_known(text, *low, *high)?;
+        }
+    }
+    Ok(())
+}
+
+/// The words of a row.
 pub fn shown_row(alloc: Global, row: &[i128]) -> Result<String, AllocError> {
     let mut text = String::new(alloc);
     match row {
-        [1, words @ ..] => {
-            for pair in words.chunks_exact(2) {
-                if let [low, high] = pair {
-                    write_known(&mut text, *low, *high)?;
-                }
-            }
-        }
+        [1, words @ ..] => write_cells(&mut text, words)?,
         _ => text.push_str("unreached")?,
     }
     Ok(text)
