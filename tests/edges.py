@@ -38,19 +38,19 @@ def random_number(chance, own):
 
 
 def random_cell(chance, own):
-    draw = chance.random()
-    if draw < 0.2:
-        return None
-    if draw < 0.3:
-        return own
-    if draw < 0.32:
-        return Range(own.low - 1, own.high + 1, own.scale)
-    if draw < 0.33:
-        return Range(own.high + 1, own.high + 2, own.scale)
-    ends = random_number(chance, own), random_number(chance, own)
-    if draw < 0.55:
-        ends = ends[0], min(own.high, ends[0] + chance.randint(0, 12))
-    return hull(ends, own.scale)
+    match chance.choices(("unknown", "own", "wider", "outside", "narrow", "any"), (200, 100, 20, 3, 220, 450))[0]:
+        case "unknown":
+            return None
+        case "own":
+            return own
+        case "wider":
+            return Range(own.low - 1, own.high + 1, own.scale)
+        case "outside":
+            return Range(own.high + 1, own.high + 2, own.scale)
+        case "narrow":
+            low = random_number(chance, own)
+            return Range(low, min(own.high, low + chance.randint(0, 12)), own.scale)
+    return hull([random_number(chance, own), random_number(chance, own)], own.scale)
 
 
 def random_row(chance, given):
