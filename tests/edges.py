@@ -38,9 +38,12 @@ def random_number(chance, own):
 
 
 def random_cell(chance, own):
-    match chance.choices(("unknown", "own", "wider", "outside", "narrow", "any"), (200, 100, 20, 3, 220, 450))[0]:
+    kinds = {"unknown": 200, "zero": 60, "own": 100, "wider": 20, "outside": 3, "narrow": 220, "any": 400}
+    match chance.choices(list(kinds), kinds.values())[0]:
         case "unknown":
             return None
+        case "zero":
+            return Range(0, 0, own.scale)
         case "own":
             return own
         case "wider":
