@@ -63,7 +63,7 @@ def random_row(chance, given):
 # ---- cases: a line for the driver, and what must come
 
 ROWS_OF_EDGE = 6
-ROWS_OF_NODE = 2
+ROWS_OF_NODE = 3
 
 
 def edge_cases(chance, given):
