@@ -1,6 +1,6 @@
-"""What edges of a program's control graph make of what is known of its cells, and which faults that shows not to be met,
-answered by the program edge_driver for random rows. What must come is worked out by `steps`, from what each part of an
-edge does, in exact numbers."""
+"""What edges of a program's control graph make of what is known of its cells, and which faults that shows not to be
+met, answered by the program edge_driver for random rows. What must come is worked out by `steps`, from what each part
+of an edge does, in exact numbers."""
 
 import json
 import pathlib
@@ -100,7 +100,8 @@ def told(name, source):
     chance = random.Random(name)
     cases = [*edge_cases(chance, given), *node_cases(chance, given)]
     came = answers(source, [line for line, _ in cases])
-    wrong = [f"{answer!r} in place of {wanted!r} to {line}" for (line, wanted), answer in zip(cases, came) if answer != wanted]
+    pairs = [(line, wanted, answer) for (line, wanted), answer in zip(cases, came) if answer != wanted]
+    wrong = [f"{answer!r} in place of {wanted!r} to {line}" for line, wanted, answer in pairs]
     if not cases or len(came) != len(cases):
         wrong.append(f"{len(came)} answers to {len(cases)} cases")
     return f"{name}: {len(wrong)} wrong, the first: {wrong[0]}" if wrong else None

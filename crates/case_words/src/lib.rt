@@ -1,8 +1,8 @@
 //! The words in which programs of tests are given cases and answer them, read and written: sums, literals, relations,
 //! modes, and what a receiver gets.
 //!
-//! Words stand between blanks. Those of a sum are its operands, `+` `-` `*` `/` between them, and parentheses; an item is
-//! `i` with its place, as `i0`, and `~` is an operand's own sign.
+//! Words stand between blanks. Those of a sum are its operands, `+` `-` `*` `/` between them, and parentheses; an item
+//! is `i` with its place, as `i0`, and `~` is an operand's own sign.
 #![tactic(auto)]
 
 mod sums;

@@ -4,8 +4,8 @@ use cob_program::{Atom, Factor, Part, Sum};
 use std::alloc::{AllocError, Global};
 use std::mem;
 
-/// A sum of which some words are read: the products before, the factors of the last one, and the signs and operators of what
-/// comes next.
+/// A sum of which some words are read: the products before, the factors of the last one, and the signs and operators of
+/// what comes next.
 #[derive(Drop)]
 struct Open {
     parts: Vec<Part>,
