@@ -11,7 +11,7 @@ use Rattle.claimed_rows.specs.Claims.{claimed_row}
 use Rattle.cert_check.proofs.Accepting.{claimed}
 
 -- the certificate of one node
-alone : Place → Certificate
+abbrev alone : Place → Certificate
 alone place = record { cells = 0; packs = []; nodes = place ∷ [] }
 
 pub claimed_element : (p : Program) (g : Graph) (thresholds : List (List ℤ)) (ranges : List Interval) → ranges ≡ owns p → (place : Place) →
