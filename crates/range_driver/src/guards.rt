@@ -1,8 +1,7 @@
 //! Cases of what tests leave.
 use crate::known::{Known, Table, table_of};
 use crate::shown::shown_cuts;
-use crate::sums::sum_of;
-use crate::words::{literal_of, place_of, relation_of, wanted_of};
+use case_words::{literal_of, place_of, relation_of, sum_of, wanted_of};
 use cob_data::{Layout, Pair, Sender};
 use cob_program::Test;
 use cob_tree::Many;

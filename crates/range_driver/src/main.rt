@@ -16,12 +16,12 @@ mod stores;
 mod sums;
 mod words;
 
+use case_words::words_of;
 use guards::{guard_case, member_case};
 use std::alloc::{AllocError, Global};
 use std::io;
 use stores::{compute_case, rest_case, store_case};
 use sums::sum_case;
-use words::words_of;
 
 /// What a case that can't be read is answered.
 const NO_CASE: &str = "no case";

@@ -12,8 +12,8 @@ ghost use Rattle.result_ranges.specs.Bounded.{cut_bound, is_small_rest_at};
 
 use crate::known::{Known, table_of};
 use crate::shown::shown_stored;
-use crate::sums::sum_of;
-use crate::words::{how_of, mode_of, range_of, receiver_of};
+use crate::words::{range_of, receiver_of};
+use case_words::{how_of, mode_of, sum_of};
 use cob_program::{How, Sum};
 use cob_typed_exprs::{Size, quotient_size};
 use dec_num::Mode;
