@@ -1,0 +1,119 @@
+"""Reports of `analyse`, worked out from the rules by hand: the steps of the guide's example, small programs by rule, and
+words. The certificate that is written must be answered by `check` with the same report, and the other files must be as
+they were."""
+
+import json
+
+from tests.analyses import faults
+from tests.built import CASES, ROOT, Case, checks_of, launcher, ran
+from tests.programs import source_of
+from tests.sample import SAMPLE
+from tests.reference import CERTIFICATE
+
+# what the analysis says of samples/water, step by step
+WATER = [
+    [
+        "SIZE statement 13 line 60",
+        "CLASS statement 14 line 61",
+        "SIZE statement 20 line 71",
+        "ZERO statement 26 line 78",
+        "TRUNCATION statement 30 line 82",
+    ],
+    [
+        "SIZE statement 13 line 60",
+        "SIZE statement 21 line 73",
+        "ZERO statement 27 line 80",
+        "TRUNCATION statement 31 line 84",
+    ],
+    ["SIZE statement 13 line 60", "ZERO statement 28 line 82", "TRUNCATION statement 32 line 86"],
+    ["ZERO statement 30 line 85", "TRUNCATION statement 34 line 89"],
+    ["TRUNCATION statement 35 line 91"],
+    [],
+    ["SIZE statement 25 line 80"],
+    [],
+]
+
+
+def report_of(alarms):
+    """The status and the text of a report."""
+    if not alarms:
+        return 0, "clean\n"
+    return 1, "".join(f"{line}\n" for line in [*alarms, f"alarms {len(alarms)}"])
+
+
+def analysed(path, source):
+    """The answers of `analyse` and of `check` on what it writes, and the files behind both."""
+    status, out, left = ran(path, ["analyse", "S", "C"], {"S": source})
+    checked, said, later = ran(path, ["check", "S", "C"], left)
+    return (status, out), (checked, said), later == left and sorted(left) == ["C", "S"]
+
+
+def told(path, name, source, is_wanted):
+    """What is wrong with the report on a source."""
+    found, checked, are_kept = analysed(path, source)
+    if is_wanted(found) and found == checked and are_kept:
+        return None
+    return f"{name}: analyse {found}, check {checked}" + ("" if are_kept else ", other files are changed")
+
+
+def samples():
+    """The sources of samples/ with their reports."""
+    yield "first", SAMPLE, []
+    yield "payroll", (ROOT / "samples/payroll.cob").read_text("latin-1"), []
+    yield "listing", (ROOT / "samples/listing.cob").read_text("latin-1"), []
+    for number, alarms in enumerate(WATER, 1):
+        yield f"water {number}", (ROOT / f"samples/water/step{number}.cob").read_text("latin-1"), alarms
+
+
+def rules():
+    """Small programs, each with the rule that its report follows from."""
+    for line in (CASES / "reports.jsonl").open():
+        row = json.loads(line)
+        yield row["rule"], source_of(row), row["report"]
+
+
+def reports():
+    for name, source, alarms in (*samples(), *rules()):
+        yield f"analyse, {name}", source, lambda found, alarms=alarms: found == report_of(alarms)
+
+
+def are_between(found, case):
+    """Between the faults that must be named and those that may be."""
+    status, out = found
+    named = faults(out.splitlines())
+    return status == (1 if named else 0) and faults(case["least"]) <= named <= faults(case["most"])
+
+
+def random_sources():
+    """The sources of analyses.jsonl."""
+    for number, line in enumerate((CASES / "analyses.jsonl").open(), 1):
+        case = json.loads(line)
+        yield f"analyse, analysis {number}", case["source"], lambda found, case=case: are_between(found, case)
+
+
+def words():
+    """Words, and what can't be read or written."""
+    files = {"S": SAMPLE, "OLD": "what stood here before"}
+    listed = [
+        (["analyse"], 4, "E1 usage analyse\n"),
+        (["analyse", "S"], 4, "E1 usage analyse\n"),
+        (["analyse", "S", "C", "D"], 4, "E1 usage analyse\n"),
+        (["analyse", "--steps", "1", "S"], 4, "E1 usage analyse\n"),
+        (["ANALYSE", "S", "C"], 4, "E1 usage ANALYSE\n"),
+        (["analyse", "NOSUCH", "C"], 7, "E2 absent NOSUCH\n"),
+        (["analyse", "NOSUCH", "OLD"], 7, "E2 absent NOSUCH\n"),
+        (["analyse", ".", "OLD"], 5, "E3 read\n"),
+        (["analyse", "S", "."], 6, "E4 write\n"),
+        (["analyse", "S", "NOSUCH/C"], 6, "E4 write\n"),
+    ]
+    for said, status, out in listed:
+        yield Case(f"words {said}", said, files, status, out)
+    for name in ("C", "OLD", "-"):
+        yield Case(f"analyse to {name}", ["analyse", "S", name], files, 0, "clean\n", {**files, name: CERTIFICATE})
+
+
+def checks():
+    path = launcher()
+    yield from checks_of(words())
+    for name, source, is_wanted in (*reports(), *random_sources()):
+        yield lambda given=(path, name, source, is_wanted): told(*given)
