@@ -112,8 +112,26 @@ def words():
         yield Case(f"analyse to {name}", ["analyse", "S", name], files, 0, "clean\n", {**files, name: CERTIFICATE})
 
 
+def much_known():
+    """500 items that are known to be numeric at each of 3,500 nodes. A claim of one has 43 bytes and more, so that a
+    certificate of all has more than 67,108,864."""
+    items = "".join(f"       77 N-{i} PIC S9(18).\n" for i in range(1, 501))
+    tests = "".join(f"           OR N-{i} NOT NUMERIC\n" for i in range(2, 501))
+    idle = "           CONTINUE.\n" * 3500
+    test = f"           IF N-1 NOT NUMERIC\n{tests}               STOP RUN\n           END-IF.\n"
+    before, _, behind = SAMPLE.partition("       77 N PIC 9(3) VALUE 998.\n")
+    return before + items + behind.replace("       ADD 1 TO N.\n", test + idle)
+
+
+def too_long():
+    """Nothing is created, and what stands there stays."""
+    for name in ("C", "OLD"):
+        files = {"S": much_known(), "OLD": "what stood here before"}
+        yield Case(f"too long for {name}", ["analyse", "S", name], files, 3, "E11 certificate too long\n")
+
+
 def checks():
     path = launcher()
-    yield from checks_of(words())
+    yield from checks_of((*words(), *too_long()))
     for name, source, is_wanted in (*reports(), *random_sources()):
         yield lambda given=(path, name, source, is_wanted): told(*given)
