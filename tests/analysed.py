@@ -34,6 +34,19 @@ WATER = [
 ]
 
 
+# what its runs on samples/water/METERS write, record by record
+BILLS = [
+    "C00017      45        96.88",
+    "C00018       0        12.50",
+    "C00021     400       762.50",
+    "TOTAL                871.88",
+]
+
+
+def water(number):
+    return (ROOT / f"samples/water/step{number}.cob").read_text("latin-1")
+
+
 def report_of(alarms):
     """The status and the text of a report."""
     if not alarms:
@@ -62,7 +75,7 @@ def samples():
     yield "payroll", (ROOT / "samples/payroll.cob").read_text("latin-1"), []
     yield "listing", (ROOT / "samples/listing.cob").read_text("latin-1"), []
     for number, alarms in enumerate(WATER, 1):
-        yield f"water {number}", (ROOT / f"samples/water/step{number}.cob").read_text("latin-1"), alarms
+        yield f"water {number}", water(number), alarms
 
 
 def rules():
@@ -89,6 +102,20 @@ def random_sources():
     for number, line in enumerate((CASES / "analyses.jsonl").open(), 1):
         case = json.loads(line)
         yield f"analyse, analysis {number}", case["source"], lambda found, case=case: are_between(found, case)
+
+
+def runs():
+    """The guide's runs: a blank reading, no reading at all, and all readings in the program that is clean."""
+    meters = (ROOT / "samples/water/METERS").read_text("latin-1")
+    listed = [
+        (1, meters, 1, "E18 CLASS statement 14 step 37\n", BILLS[:2]),
+        (1, "", 1, "E18 ZERO statement 26 step 10\n", []),
+        (6, meters, 0, "NO READING C00019\nMETER RUNS BACK C00020\nMETERS 00005 AVERAGE         174.38\n", BILLS),
+        (8, meters, 0, "NO READING C00019\nMETER RUNS BACK C00020\nBILLS 00003 AVERAGE         290.63\n", BILLS),
+    ]
+    for number, given, status, out, bills in listed:
+        files = {"S": water(number), "METERS": given}
+        yield Case(f"run water {number}", ["run", "S"], files, status, out, {**files, "BILLS": "".join(bills)})
 
 
 def words():
@@ -132,6 +159,6 @@ def too_long():
 
 def checks():
     path = launcher()
-    yield from checks_of((*words(), *too_long()))
+    yield from checks_of((*words(), *too_long(), *runs()))
     for name, source, is_wanted in (*reports(), *random_sources()):
         yield lambda given=(path, name, source, is_wanted): told(*given)
