@@ -135,7 +135,7 @@ def words():
     ]
     for said, status, out in listed:
         yield Case(f"words {said}", said, files, status, out)
-    for name in ("C", "OLD", "-", "S"):
+    for name in ("C", "OLD", "-"):
         yield Case(f"analyse to {name}", ["analyse", "S", name], files, 0, "clean\n", {**files, name: CERTIFICATE})
 
 
