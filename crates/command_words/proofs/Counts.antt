@@ -4,7 +4,7 @@ use Rattle.std.specs.Str.Parse.{AllDigits, ParsesUnsigned, digits_value}
 use Rattle.std.proofs.lemmas.Str.Parse.{IsNumeralModel, numerals_by_value, tells_digits, digits_value_short, parse_gives}
 use Rattle.command_words.specs.Words.{IsNumber}
 
-own : IsNumeralModel (AllDigits 10) (digits_value 10)
+pub own : IsNumeralModel (AllDigits 10) (digits_value 10)
 own = numerals_by_value (AllDigits 10) tells_digits
 
 pub number_read : {E : Type 0} (word : List ℕ) (r : Result ℕ E) (value : ℕ) → ParsesUnsigned 64 10 word r →

@@ -1,1 +1,5 @@
 mod Counts
+mod Places
+mod Readings
+mod Taking
+mod Saying

@@ -27,14 +27,19 @@ pub data Command : Type 0 where
 abbrev pub end_of_options : List ℕ
 end_of_options = codes "--"
 
--- Words without an option: all are plain; or those before the first `--` are, and those behind it are taken as they
--- stand.
+-- what stands behind plain words: nothing, or `--` and later words
+abbrev pub IsEnd : List (List ℕ) → List (List ℕ) → Type 0
+IsEnd end later = ((end ≡ []) × (later ≡ [])) ⊎ (end ≡ end_of_options ∷ later)
+
+-- Words without an option: those before the first `--` are plain, and those behind it are taken as they stand.
 pub record ArePlainly (words plain : List (List ℕ)) : Type 0 where
   pub before : List (List ℕ)
+  pub end : List (List ℕ)
   pub later : List (List ℕ)
   pub before_plain : ArePlain before
+  pub is_end : IsEnd end later
+  pub words_are : words ≡ before ++ end
   pub plain_are : plain ≡ before ++ later
-  pub form : ((words ≡ before) × (later ≡ [])) ⊎ (words ≡ before ++ (end_of_options ∷ later))
 
 -- `--steps N` or `--steps=N`, where N is 1 or more
 pub record IsStepsOption (option : List (List ℕ)) (steps : ℕ) : Type 0 where
@@ -73,23 +78,29 @@ most_trial = 9999
 abbrev pub plain_words : Run → List (List ℕ)
 plain_words r = r.source ∷ r.names
 
--- one word, which writes a number of 1 to 9,999
-pub record SayTrial (plain : List (List ℕ)) (count : ℕ) : Type 0 where
+-- A source and a certificate are the plain words; there is no number of steps.
+abbrev pub SayPair : List (List ℕ) → Option ℕ → List ℕ → List ℕ → Type 0
+SayPair plain steps source certificate = (plain ≡ source ∷ certificate ∷ []) × (steps ≡ None)
+
+-- A source and the words on files are the plain words.
+abbrev pub SayRun : List (List ℕ) → Option ℕ → Run → Type 0
+SayRun plain steps r = (plain ≡ plain_words r) × (r.steps ≡ unwrap_or steps usual_steps)
+
+-- One plain word writes a number of 1 to 9,999; there is no number of steps.
+pub record SayTrial (plain : List (List ℕ)) (steps : Option ℕ) (count : ℕ) : Type 0 where
   pub word : List ℕ
   pub plain_are : plain ≡ word ∷ []
+  pub no_steps : steps ≡ None
   pub is_number : IsNumber word count
   pub some : 1 ≤ count
   pub most : count ≤ most_trial
-
-abbrev pub SayPair : List (List ℕ) → Option ℕ → List ℕ → List ℕ → Type 0
-SayPair plain steps source certificate = (plain ≡ source ∷ certificate ∷ []) × (steps ≡ None)
 
 -- plain words and a number of steps, or none, say this
 abbrev pub Say : List (List ℕ) → Option ℕ → Command → Type 0
 Say plain steps (analyse source certificate) = SayPair plain steps source certificate
 Say plain steps (check source certificate) = SayPair plain steps source certificate
-Say plain steps (run r) = (plain ≡ plain_words r) × (r.steps ≡ unwrap_or steps usual_steps)
-Say plain steps (trial count) = SayTrial plain count × (steps ≡ None)
+Say plain steps (run r) = SayRun plain steps r
+Say plain steps (trial count) = SayTrial plain steps count
 
 abbrev pub command_word : Command → List ℕ
 command_word (analyse source certificate) = codes "analyse"

@@ -2,38 +2,47 @@
 
 use clap::builder::ValueRange;
 use clap::error::ErrorKind;
-use clap::{Arg, ArgAction, ArgMatches, Command, Error};
+use clap::{Arg, ArgAction, ArgMatches, Command, Error, value_parser};
 use std::alloc::{AllocError, Global};
 
 const WORDS: &str = "words";
 
-// A command of this name, with so many plain words.
-fn with_words<'a, R: Into<ValueRange>>(
-    alloc: Global,
-    name: &'a str,
-    count: R,
-) -> Result<Command<'a>, AllocError> {
-    let words = Arg::new(alloc, WORDS)
+// So many plain words.
+fn plain_arg<'a, R: Into<ValueRange>>(alloc: Global, count: R) -> Arg<'a> {
+    Arg::new(alloc, WORDS)
         .required(true)
         .num_args(count)
-        .action(ArgAction::Append);
-    Command::new(alloc, name).disable_help_flag(true).arg(words)
+        .action(ArgAction::Append)
+}
+
+fn steps_arg<'a>(alloc: Global) -> Arg<'a> {
+    Arg::new(alloc, "steps")
+        .long("steps")
+        .value_parser(value_parser!(u64).range(1..=999_999_999_999_999_999))
+        .action(ArgAction::Set)
+}
+
+fn trial_arg<'a>(alloc: Global) -> Arg<'a> {
+    plain_arg(alloc, 1).value_parser(value_parser!(u64).range(1..=9_999))
 }
 
 // The command line: one command with one level of subcommands.
 fn command_line<'a>(alloc: Global) -> Result<Command<'a>, AllocError> {
-    let steps = Arg::new(alloc, "steps")
-        .long("steps")
-        .action(ArgAction::Set);
+    let analyse = Command::new(alloc, "analyse").arg(plain_arg(alloc, 2))?;
+    let check = Command::new(alloc, "check").arg(plain_arg(alloc, 2))?;
+    let run = Command::new(alloc, "run")
+        .arg(steps_arg(alloc))?
+        .arg(plain_arg(alloc, 1..))?;
+    let trial = Command::new(alloc, "trial").arg(trial_arg(alloc))?;
     Command::new(alloc, "cobsound")
         .no_binary_name(true)
-        .disable_help_flag(true)
-        .disable_help_subcommand(true)
         .subcommand_required(true)
-        .subcommand(with_words(alloc, "analyse", 2)?)?
-        .subcommand(with_words(alloc, "check", 2)?)?
-        .subcommand(with_words(alloc, "run", 1..)?.arg(steps)?)?
-        .subcommand(with_words(alloc, "trial", 1)?)
+        .disable_help_subcommand(true)
+        .disable_help_flag(true)
+        .subcommand(analyse.disable_help_flag(true))?
+        .subcommand(check.disable_help_flag(true))?
+        .subcommand(run.disable_help_flag(true))?
+        .subcommand(trial.disable_help_flag(true))
 }
 
 fn matches_of<'a>(alloc: Global, words: &'a [String]) -> Result<ArgMatches<'a>, Error> {

@@ -1,5 +1,5 @@
 //! Numbers in words: 1 to 18 digits, without a sign.
-ghost use Rattle.std.specs.Prelude.{◌≡◌, ℕ, MatchOption};
+ghost use Rattle.std.specs.Prelude.{◌≡◌, ◌≤◌, ℕ, MatchOption};
 ghost use Rattle.command_words.specs.Words.{IsNumber};
 
 const MOST_DIGITS: usize = 18;

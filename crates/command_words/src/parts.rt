@@ -1,6 +1,6 @@
 //! The words behind a command's own, taken apart: plain words, `--steps` with its number among them, and what stands
 //! behind `--`.
-ghost use Rattle.std.specs.Prelude.{◌≡◌, ℕ, List, ◌++◌, ◌↔◌, IsTrue, IfOk, MatchOption, Option};
+ghost use Rattle.std.specs.Prelude.{◌≡◌, ℕ, List, ◌++◌, ◌↔◌, IsTrue, IfOk, IfSome, MatchOption, Option};
 ghost use Rattle.command_words.specs.Words.{IsPlain, IsNumber, texts, lent_texts};
 ghost use Rattle.command_words.specs.Commands.{ArePlainly, HavePlain};
 ghost use Rattle.command_words.specs.Parts.{IsPlainCount, BeginWithSteps, plain_of};
@@ -74,7 +74,8 @@ fn with_rest<'a>(
 ) -> Option<Parts<'a>>
     ensures { MatchOption result
         ((plain : List (List ℕ)) → ArePlainly (texts rest.now) plain → ⊥)
-        (λ p. (p.before ≡ before) × (p.steps ≡ steps) × ArePlainly (texts rest.now) (texts p.after.now ++ texts p.later.now)) }
+        (λ p. (p.before.now ≡ before.now) × (p.steps ≡ steps)
+            × ArePlainly (texts rest.now) (texts p.after.now ++ texts p.later.now)) }
 {
     let (after, later) = around_end(rest)?;
     Some(Parts {
@@ -111,19 +112,19 @@ fn push_words<'a>(plain: &mut Vec<&'a str>, words: &'a [String]) -> Result<(), A
     Ok(())
 }
 
-// Whether these are the texts of the words.
-fn are_words(plain: &[&str], words: &[String]) -> bool
-    ensures { IsTrue result → lent_texts plain.now ≡ texts words.now }
+// What stands behind these words, where the plain ones begin with them.
+fn behind_words<'s, 'a>(plain: &'s [&'a str], words: &[String]) -> Option<&'s [&'a str]>
+    ensures { IfSome result (λ rest. lent_texts plain.now ≡ texts words.now ++ lent_texts rest.now) }
 {
-    if plain.len() != words.len() {
-        return false;
+    if plain.len() < words.len() {
+        return None;
     }
-    for place in 0..plain.len() {
+    for place in 0..words.len() {
         if plain[place] != words[place].as_str() {
-            return false;
+            return None;
         }
     }
-    true
+    Some(&plain[words.len()..])
 }
 
 impl<'a> Parts<'a> {
@@ -136,5 +137,24 @@ impl<'a> Parts<'a> {
         push_words(&mut plain, self.after)?;
         push_words(&mut plain, self.later)?;
         Ok(plain)
+    }
+
+    // What stands behind the parts' words, where the plain ones begin with them.
+    fn behind<'s>(&self, plain: &'s [&'a str]) -> Option<&'s [&'a str]>
+        ensures { IfSome result (λ rest. lent_texts plain.now ≡ plain_of self.now ++ lent_texts rest.now) }
+    {
+        let plain = behind_words(plain, self.before)?;
+        let plain = behind_words(plain, self.after)?;
+        behind_words(plain, self.later)
+    }
+
+    /// Whether these are the plain words.
+    pub fn are(&self, plain: &[&'a str]) -> bool
+        ensures { IsTrue result → lent_texts plain.now ≡ plain_of self.now }
+    {
+        match self.behind(plain) {
+            Some(rest) => rest.is_empty(),
+            None => false,
+        }
     }
 }

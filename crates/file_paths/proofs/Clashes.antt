@@ -5,10 +5,10 @@ use Rattle.std.proofs.lemmas.List.Folds.{list_any-append}
 use Rattle.std.specs.Cmp.Lexicographic.{bytes_decides}
 use Rattle.cob_data.specs.declared.layout.FileDecl.{FileDecl}
 use Rattle.cob_data.specs.Names.{stands_in}
-use Rattle.run_words.specs.declared.paths.PathsEnd.{PathsEnd}
-use Rattle.run_words.specs.declared.paths.PathsEnd.TheVariants as ends
-use Rattle.run_words.specs.Words.{texts}
-use Rattle.run_words.specs.Paths.{path_of, blamed, clash, unless_clash, AreDistinct, AnswersPaths, Blames}
+use Rattle.file_paths.specs.declared.paths.PathsEnd.{PathsEnd}
+use Rattle.file_paths.specs.declared.paths.PathsEnd.TheVariants as ends
+use Rattle.command_words.specs.Words.{texts}
+use Rattle.file_paths.specs.Paths.{path_of, blamed, clash, unless_clash, AreDistinct, AnswersPaths, Blames}
 
 -- ---- a file that clashes
 

@@ -1,4 +1,1 @@
-mod Places
-mod Readings
-mod Counts
 mod Clashes

@@ -2,8 +2,8 @@
 ghost use Rattle.std.specs.Prelude.{◌≡◌, [], MatchOption, None, Some, find, is_some};
 ghost use Rattle.std.specs.List.{list_any};
 ghost use Rattle.std.specs.Str.{str_eq_ignore_ascii_case};
-ghost use Rattle.run_words.specs.Words.{lent_texts};
-ghost use Rattle.run_words.specs.Paths.{split_at_equals, file_named, is_named_by, is_refused, first_refused};
+ghost use Rattle.command_words.specs.Words.{lent_texts};
+ghost use Rattle.file_paths.specs.Paths.{split_at_equals, file_named, is_named_by, is_refused, first_refused};
 
 use cob_data::FileDecl;
 

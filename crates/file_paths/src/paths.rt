@@ -1,9 +1,9 @@
 //! The paths of a program's files.
 ghost use Rattle.std.specs.Prelude.{◌≡◌, IfOk, IfErr, [], length, string_bytes};
-ghost use Rattle.run_words.specs.declared.paths.PathsEnd.TheVariants.{Memory};
+ghost use Rattle.file_paths.specs.declared.paths.PathsEnd.TheVariants.{Memory};
 ghost use Rattle.cob_data.specs.Names.{stands_in};
-ghost use Rattle.run_words.specs.Words.{texts, lent_texts};
-ghost use Rattle.run_words.specs.Paths.{AnswersPaths, AreDistinct, Blames, blamed, clash, path_of, paths_of, unless_clash};
+ghost use Rattle.command_words.specs.Words.{texts, lent_texts};
+ghost use Rattle.file_paths.specs.Paths.{AnswersPaths, AreDistinct, Blames, blamed, clash, path_of, paths_of, unless_clash};
 
 use crate::named::{first_refused, split_at_equals, word_of};
 use cob_data::FileDecl;

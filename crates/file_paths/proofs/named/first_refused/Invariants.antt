@@ -1,7 +1,7 @@
 use Rattle.std.proofs.Common.{◌≡◌, [], take, drop}
-use Rattle.run_words.specs.Words.{lent_texts}
-use Rattle.run_words.specs.Paths.{first_refused}
-use Rattle.run_words.proofs.named.first_refused.Given as goal
+use Rattle.command_words.specs.Words.{lent_texts}
+use Rattle.file_paths.specs.Paths.{first_refused}
+use Rattle.file_paths.proofs.named.first_refused.Given as goal
 
 abbrev pub invariant-loop-place : goal.invariant-loop-place
 invariant-loop-place l =

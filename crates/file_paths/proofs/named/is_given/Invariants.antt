@@ -1,8 +1,8 @@
 use Rattle.std.proofs.Common.{◌≡◌, drop}
 use Rattle.std.specs.List.{list_any}
-use Rattle.run_words.specs.Words.{lent_texts}
-use Rattle.run_words.specs.Paths.{is_named_by}
-use Rattle.run_words.proofs.named.is_given.Given as goal
+use Rattle.command_words.specs.Words.{lent_texts}
+use Rattle.file_paths.specs.Paths.{is_named_by}
+use Rattle.file_paths.proofs.named.is_given.Given as goal
 
 abbrev pub invariant-loop-place : goal.invariant-loop-place
 invariant-loop-place l =

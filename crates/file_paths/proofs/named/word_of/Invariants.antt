@@ -1,7 +1,7 @@
 use Rattle.std.proofs.Common.{◌≡◌, drop, find}
-use Rattle.run_words.specs.Words.{lent_texts}
-use Rattle.run_words.specs.Paths.{is_named_by}
-use Rattle.run_words.proofs.named.word_of.Given as goal
+use Rattle.command_words.specs.Words.{lent_texts}
+use Rattle.file_paths.specs.Paths.{is_named_by}
+use Rattle.file_paths.proofs.named.word_of.Given as goal
 
 abbrev pub invariant-loop-place : goal.invariant-loop-place
 invariant-loop-place l =

@@ -1,9 +1,9 @@
 use Rattle.std.proofs.Common.{◌≡◌, ℕ, true, false, List, String, Global, sym, ap, ◌∙◌}
 use Rattle.cob_data.specs.Names.{stands_in}
-use Rattle.run_words.specs.Words.{texts, lent_texts}
-use Rattle.run_words.specs.Paths.{path_of}
-use Rattle.run_words.proofs.Clashes.{clash_found, clash_refused, paths_more, clash_more}
-use Rattle.run_words.proofs.paths.distinct_paths.Goals as goal
+use Rattle.command_words.specs.Words.{texts, lent_texts}
+use Rattle.file_paths.specs.Paths.{path_of}
+use Rattle.file_paths.proofs.Clashes.{clash_found, clash_refused, paths_more, clash_more}
+use Rattle.file_paths.proofs.paths.distinct_paths.Goals as goal
 
 pub returns-then-stands_in : goal.returns-then-stands_in
 returns-then-stands_in c =

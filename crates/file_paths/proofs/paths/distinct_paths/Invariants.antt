@@ -1,7 +1,7 @@
 use Rattle.std.proofs.Common.{◌≡◌, [], map, take, drop}
-use Rattle.run_words.specs.Words.{texts, lent_texts}
-use Rattle.run_words.specs.Paths.{path_of, clash}
-use Rattle.run_words.proofs.paths.distinct_paths.Given as goal
+use Rattle.command_words.specs.Words.{texts, lent_texts}
+use Rattle.file_paths.specs.Paths.{path_of, clash}
+use Rattle.file_paths.proofs.paths.distinct_paths.Given as goal
 
 abbrev pub invariant-loop-file : goal.invariant-loop-file
 invariant-loop-file l = record {

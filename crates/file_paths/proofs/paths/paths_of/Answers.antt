@@ -1,8 +1,8 @@
 use Rattle.std.proofs.Common.{[], refl}
-use Rattle.run_words.specs.Words.{lent_texts}
-use Rattle.run_words.specs.Paths.{clash}
-use Rattle.run_words.proofs.Clashes.{are_distinct}
-use Rattle.run_words.proofs.paths.paths_of.Goals as goal
+use Rattle.command_words.specs.Words.{lent_texts}
+use Rattle.file_paths.specs.Paths.{clash}
+use Rattle.file_paths.proofs.Clashes.{are_distinct}
+use Rattle.file_paths.proofs.paths.paths_of.Goals as goal
 
 pub returns-clause-distinct : goal.returns-clause-distinct
 returns-clause-distinct c =

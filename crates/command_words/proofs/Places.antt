@@ -2,7 +2,7 @@
 use Rattle.std.proofs.Common.{◌≡◌, ℕ, zero, suc, ◌+◌, ◌<◌, List, [], ◌∷◌, ◌++◌, length, get_or, take, drop, sym, ap, subst, ◌∙◌, arith, String, Global, string_bytes}
 use Rattle.std.proofs.lemmas.List.{map-append, take-append-drop, drop_more}
 use Rattle.std.specs.List.{AllByRecursion}
-use Rattle.run_words.specs.Words.{texts}
+use Rattle.command_words.specs.Words.{texts}
 
 module _ (P : List ℕ → Type 0) where
   pub all_front : (xs ys : List (List ℕ)) → AllByRecursion P (xs ++ ys) → AllByRecursion P xs
