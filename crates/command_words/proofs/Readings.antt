@@ -52,7 +52,7 @@ plainly_same words p q h k =
 
 -- ---- the option
 
-short_name : List ℕ → ℕ
+abbrev short_name : List ℕ → ℕ
 short_name word = get_or word 7 0
 
 steps_or_equals : (count : List ℕ) → codes "--steps" ≡ codes "--steps=" ++ count → ⊥
@@ -146,7 +146,7 @@ have_same words p q (Some m) (Some n) h k =
 
 -- ---- what they say
 
-first_letter : List ℕ → ℕ
+abbrev first_letter : List ℕ → ℕ
 first_letter word = get_or word 0 0
 
 same_run : (a b : Run) → plain_words a ≡ plain_words b → a.steps ≡ b.steps → a ≡ b

@@ -1,7 +1,7 @@
 -- How the words behind a command's own are taken apart.
 use Rattle.std.proofs.Common.{◌≡◌, ℕ, ◌+◌, ◌-◌, ◌<◌, ◌≤◌, ◌^◌, List, [], ◌∷◌, ◌++◌, append_assoc, length, get_or, take, drop, refl, sym, ap, ap₂, subst, ◌∙◌, inl, inr, arith, Option, None, Some, MatchOption, String, Global, string_bytes}
 use Rattle.std.specs.Prelude.{codes}
-use Rattle.std.proofs.lemmas.List.{map-append, take-append-drop, take_rest, take_all, drop_all}
+use Rattle.std.proofs.lemmas.List.{map-append, take-append-drop}
 use Rattle.std.specs.Str.Parse.{digits_value}
 use Rattle.std.proofs.lemmas.Str.Parse.{digits_value_short}
 use Rattle.command_words.specs.declared.parts.Parts.{Parts}
@@ -9,30 +9,21 @@ use Rattle.command_words.specs.Words.{IsPlain, ArePlain, IsNumber, texts}
 use Rattle.command_words.specs.Commands.{end_of_options, IsEnd, ArePlainly, IsStepsOption, ArePlainWithSteps, HavePlain}
 use Rattle.command_words.specs.Parts.{BeginNotPlain, IsPlainCount, BeginWithSteps, plain_of}
 use Rattle.command_words.proofs.Counts.{own}
-use Rattle.command_words.proofs.Places.{texts_from}
 use Rattle.command_words.proofs.Readings.{none_or_some, head_same, front_same, end_begins, plainly_same, steps_not_plain, begin_same, option_begins, end_or_steps}
 
--- ---- how many words are plain
+-- ---- words cut in two
 
-pub stops_at : (words : List (String Global)) (i : ℕ) (word : String Global) (text : List ℕ) → i < length words →
-    word ≡ get_or words i word → text ≡ string_bytes word → ArePlain (texts (take i words)) → (IsPlain text → ⊥) →
-    IsPlainCount words i
-stops_at words i word text within is e plain not = record {
-  within = omega (arith, within);
-  before_plain = plain;
-  behind = subst BeginNotPlain (sym (texts_from words i word text within is e)) not;
-}
+module _ (words a b : List (String Global)) (n : ℕ) (front : a ≡ take n words) (back : b ≡ drop n words) where
+  pub cut : texts words ≡ texts a ++ texts b
+  cut = sym (ap texts (take-append-drop n words)) ∙ map-append string_bytes (take n words) (drop n words)
+      ∙ ap₂ (λ (xs ys : List (String Global)). texts xs ++ texts ys) (sym front) (sym back)
 
-pub never_stops : (words : List (String Global)) (n : ℕ) → n ≡ length words → ArePlain (texts (take n words)) →
-    IsPlainCount words n
-never_stops words n is plain = record {
-  within = omega (arith, is);
-  before_plain = plain;
-  behind = subst BeginNotPlain (sym (ap texts (drop_all n words (omega (arith, is))))) tt;
-}
+  module _ (count : IsPlainCount words n) where
+    pub front_plain : ArePlain (texts a)
+    front_plain = subst (λ (xs : List (String Global)). ArePlain (texts xs)) (sym front) count.before_plain
 
-pub cut : (words : List (String Global)) (n : ℕ) → texts words ≡ texts (take n words) ++ texts (drop n words)
-cut words n = sym (ap texts (take-append-drop n words)) ∙ map-append string_bytes (take n words) (drop n words)
+    pub back_begins : BeginNotPlain (texts b)
+    back_begins = subst (λ (xs : List (String Global)). BeginNotPlain (texts xs)) (sym back) count.behind
 
 -- ---- words without an option
 
@@ -69,7 +60,7 @@ module _ (words before rest : List (List ℕ)) (whole : words ≡ before ++ rest
 
     pub not_plainly : (w : List ℕ) (more : List (List ℕ)) → rest ≡ w ∷ more → (w ≡ end_of_options → ⊥) →
         (p : List (List ℕ)) → ArePlainly words p → ⊥
-    not_plainly w more e other p h = elim end_is_rest p h [
+    not_plainly w more e other p h = elim (end_is_rest p h) [
       | inl none ↦ absurd (none_or_some w more (sym none.0 ∙ e))
       | inr some ↦ absurd (other (head_same w end_of_options more h.later (sym e ∙ some)))
     ]

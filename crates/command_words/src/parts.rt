@@ -74,7 +74,7 @@ fn with_rest<'a>(
 ) -> Option<Parts<'a>>
     ensures { MatchOption result
         ((plain : List (List ℕ)) → ArePlainly (texts rest.now) plain → ⊥)
-        (λ p. (p.before.now ≡ before.now) × (p.steps ≡ steps)
+        (λ p. (texts p.before.now ≡ texts before.now) × (p.steps ≡ steps)
             × ArePlainly (texts rest.now) (texts p.after.now ++ texts p.later.now)) }
 {
     let (after, later) = around_end(rest)?;
@@ -94,10 +94,10 @@ pub fn parts_of(words: &[String]) -> Option<Parts<'_>>
 {
     let (before, rest) = words.split_at(plain_count(words));
     match behind_steps(rest) {
-        Some((count, after)) => {
-            let steps = number_up_to(count, MOST_STEPS)?;
-            with_rest(before, Some(steps), after)
-        }
+        Some((count, after)) => match number_up_to(count, MOST_STEPS) {
+            Some(steps) => with_rest(before, Some(steps), after),
+            None => None,
+        },
         None => with_rest(before, None, rest),
     }
 }
