@@ -11,4 +11,5 @@ pub mod Tasks
 pub mod Asked
 pub mod OneAnswer
 pub mod Exact
+pub mod Analysed
 pub mod FaultlessRuns

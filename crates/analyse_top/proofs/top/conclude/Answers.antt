@@ -1,5 +1,5 @@
 use Rattle.std.proofs.Common.{Err, inl}
-use Rattle.run_words.specs.Words.{texts}
+use Rattle.command_words.specs.Words.{texts}
 use Rattle.analyse_top.specs.declared.answer.Stop.TheVariants.{Memory}
 use Rattle.analyse_top.specs.Conclusion.{call}
 use Rattle.analyse_top.proofs.Endings.{ends_found, reads_nothing}

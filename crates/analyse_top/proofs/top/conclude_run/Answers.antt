@@ -1,7 +1,7 @@
 use Rattle.std.proofs.Common.{inl, inr}
 use Rattle.batch_io.specs.FilesState.{known_bytes}
 use Rattle.cob_interp.specs.Running.{outside}
-use Rattle.run_words.specs.Words.{plain_run}
+use Rattle.command_words.specs.Commands.{plain_run}
 use Rattle.analyse_top.specs.Conclusion.{call}
 use Rattle.analyse_top.specs.View.{plain_task}
 use Rattle.analyse_top.proofs.Endings.{answers_run, ends_found}
