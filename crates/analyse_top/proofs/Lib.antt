@@ -12,4 +12,5 @@ pub mod Asked
 pub mod OneAnswer
 pub mod Exact
 pub mod Analysed
+pub mod Telling
 pub mod FaultlessRuns
