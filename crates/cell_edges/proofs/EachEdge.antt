@@ -7,13 +7,13 @@ use Rattle.guard_ranges.proofs.GuardLaws.{guard_holds}
 use Rattle.guard_ranges.proofs.CountLaws.{count_holds}
 use Rattle.guard_ranges.proofs.Agreement.{numeric_sum}
 use Rattle.edge_places.proofs.Parts.{parts_are_in_place, arithmetic_is_done}
-use Rattle.cell_rises.proofs.Rules.{rising}
-use Rattle.cell_operands.proofs.Given as operands
-use Rattle.cell_operands.proofs.Holding.{operands_hold}
-use Rattle.cell_keeps.proofs.Given as keeps
+use Rattle.cell_edges.proofs.ResultLawsHold.{rising}
+use Rattle.cell_edges.proofs.AmountLaws as operands
+use Rattle.cell_edges.proofs.AmountsHold.{operands_hold}
+use Rattle.cell_edges.proofs.WalkLaws as keeps
 use Rattle.cell_edges.specs.EdgeLaws.{EdgesAreWalked, PostsFit, PostsRise, ClearsStay, PostsStand, ClearedIsntMet}
-use Rattle.cell_edges.proofs.Rises.{posts_rise, posts_fit, clears_stay}
-use Rattle.cell_edges.proofs.Sound.{edge_is_sound, posts_stand, cleared_isnt_met}
+use Rattle.cell_edges.proofs.EdgesRise.{posts_rise, posts_fit, clears_stay}
+use Rattle.cell_edges.proofs.EdgesAreSound.{edge_is_sound, posts_stand, cleared_isnt_met}
 
 amounts : operands.Given
 amounts = record {

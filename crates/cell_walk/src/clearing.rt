@@ -24,13 +24,14 @@ ghost use Rattle.cell_steps.specs.Clearing.{is_misfit, has_quotient, all_fit};
 ghost use Rattle.cell_steps.specs.Operands.{amount_of};
 ghost use Rattle.cell_steps.specs.Stores.{range_at};
 ghost use Rattle.edge_sizes.specs.Sizes.{IsSmallPart, IsSmallStore};
-ghost use Rattle.row_changes.specs.Cells.{IsRowOf};
+ghost use Rattle.cell_walk.specs.ProgramRows.{IsRowOf};
 ghost use Rattle.cell_walk.specs.Kept.{seen, clears_at_part};
 ghost use Rattle.cell_walk.specs.Statements.{act_in};
 ghost use Rattle.cell_walk.specs.Walks.{clears_small, CanStep};
 
 use crate::counting::{count_down_fits, count_fits};
 use crate::dividing::divisor_clears;
+use crate::items::{item_is_numeric, item_range};
 use crate::kept::{Kept, taken};
 use borrowed_parts::{Amount, Divisor, EdgePart, part_at};
 use cell_amounts::{amount_of, has_phrase, receiver_at};
@@ -39,7 +40,6 @@ use cob_program::{Act, Factor, Part, Program, Stmt, Sum};
 use cob_runs::{Action, Cell};
 use cob_tree::Kind;
 use dec_num::Mode;
-use known_items::{item_is_numeric, item_range};
 use result_ranges::{AmountRange, Receiver, Taken, result_range};
 use sum_ranges::Ranged;
 

@@ -10,14 +10,14 @@ ghost use Rattle.cell_storages.specs.Homes.{owns};
 ghost use Rattle.cell_steps.specs.Operands.{edge_operands, operands_vanish};
 ghost use Rattle.cell_steps.specs.Seen.{beginning};
 ghost use Rattle.cell_steps.specs.Stores.{range_at};
-ghost use Rattle.row_changes.specs.Cells.{IsRowOf};
+ghost use Rattle.cell_walk.specs.ProgramRows.{IsRowOf};
 ghost use Rattle.cell_walk.specs.Kept.{seen};
 ghost use Rattle.cell_walk.specs.Walks.{if_sent_small, with_taken_small, CanStep};
 
+use crate::sums::{operands, operands_vanish, sends_small};
 use cell_amounts::is_handled;
 use cob_program::{Act, Program};
 use cob_runs::{Action, Cell};
-use known_items::{operands, operands_vanish, sends_small};
 use result_ranges::Taken;
 
 /// What happened on the parts of an edge so far.

@@ -13,21 +13,23 @@ ghost use Rattle.cell_storages.specs.Homes.{owns, of_count};
 ghost use Rattle.cell_steps.specs.Seen.{with_cells};
 ghost use Rattle.cell_steps.specs.Steps.{after_count, after_read, read_cells, guarded_cells, with_cells_if};
 ghost use Rattle.edge_sizes.specs.Sizes.{IsSmallPart, IsSmallStore};
-ghost use Rattle.guarded_rows.specs.Cells.{has_small_cells};
-ghost use Rattle.row_changes.specs.Cells.{IsRowOf};
+ghost use Rattle.cell_walk.specs.SmallCells.{has_small_cells};
+ghost use Rattle.cell_walk.specs.ProgramRows.{IsRowOf};
 ghost use Rattle.cell_walk.specs.Kept.{seen};
 ghost use Rattle.cell_walk.specs.Walks.{with_taken_small, step_small, CanStep};
 
+use crate::counters::read_count;
 use crate::counting::{count_down, guard_count, set_count};
 use crate::dividing::divide;
+use crate::forgetting::forget_bytes;
 use crate::kept::{Kept, taken};
+use crate::reads::read_item;
 use crate::stores::store;
+use crate::tests_of::guard_row;
 use borrowed_parts::{Amount, EdgePart};
 use cob_program::{Act, Program, Test};
 use cob_runs::{Action, Cell};
 use dec_num::Mode;
-use guarded_rows as rows;
-use row_changes::forget_bytes;
 
 // An item is read. Behind a divisor that may have been 0 it may not have been.
 fn walk_read(program: &Program, cells: &[Cell], row: &mut [i128], place: u32, kept: &Kept)
@@ -38,7 +40,7 @@ fn walk_read(program: &Program, cells: &[Cell], row: &mut [i128], place: u32, ke
     ensures row { IsRowOf (plain_program program.now) cells.now row.new }
 {
     if !kept.may_zero {
-        rows::read_item(program, cells, row, place);
+        read_item(program, cells, row, place);
     }
 }
 
@@ -48,7 +50,7 @@ fn walk_read_count(program: &Program, cells: &[Cell], row: &mut [i128], statemen
     ensures same { with_cells (seen row.old kept.now) (read_cells (plain_program program.now) (of_count statement) (cells_of row.old)) ≡ seen row.new kept.now }
     ensures row { IsRowOf (plain_program program.now) cells.now row.new }
 {
-    rows::read_count(program, cells, row, statement);
+    read_count(program, cells, row, statement);
 }
 
 fn walk_guard(
@@ -69,7 +71,7 @@ fn walk_guard(
         ≡ None }
     ensures row { IsRowOf (plain_program program.now) cells.now row.new }
 {
-    rows::guard_row(program, cells, row, test, holds)
+    guard_row(program, cells, row, test, holds)
 }
 
 // ---- parts that write

@@ -1,9 +1,9 @@
 //! Stores into items.
 ghost use Rattle.std.specs.Prelude.{◌≡◌, ◌||◌, ◌&&◌, ◌≤ℤ◌, true, false, Some, None, IfSome};
-ghost use Rattle.std.specs.Option.{option_map, option_copied};
+ghost use Rattle.std.specs.Option.{option_map};
 ghost use Rattle.cob_program.specs.ActView.{plain_act, plain_program};
 ghost use Rattle.cob_program.specs.Bounds.{is_small};
-ghost use Rattle.cob_runs.specs.Contents.{item_at, form_at};
+ghost use Rattle.cob_runs.specs.Contents.{form_at};
 ghost use Rattle.cob_calc.specs.Contents.{bound_at};
 ghost use Rattle.cob_edge_parts.specs.Parts.{is_handled};
 ghost use Rattle.borrowed_parts.specs.PartView.{plain_amount};
@@ -18,22 +18,24 @@ ghost use Rattle.cell_storages.specs.Storages.{known_of};
 ghost use Rattle.cell_steps.specs.Operands.{is_remainder};
 ghost use Rattle.cell_steps.specs.Stores.{range_at, may_vanish, stored, stored_known, stored_cells, stored_element};
 ghost use Rattle.edge_sizes.specs.Sizes.{IsSmallStore};
-ghost use Rattle.row_changes.specs.Cells.{IsRowOf};
+ghost use Rattle.cell_walk.specs.ProgramRows.{IsRowOf};
 ghost use Rattle.cell_walk.specs.Kept.{seen, kept_or_new};
 ghost use Rattle.cell_walk.specs.Walks.{CanStep};
 
+use crate::forgetting::forget_beside;
+use crate::items::item_range;
 use crate::kept::Kept;
+use crate::knowing::{known_of_item, set_item};
+use crate::pictures::item_at;
 use borrowed_parts::Amount;
 use cell_amounts::{is_handled, may_keep, receiver_at, store_range};
-use cob_data::{Item, Layout};
+use cob_data::Layout;
 use cob_program::{Act, Program};
 use cob_runs::{Action, Cell};
 use cob_tree::Form;
 use dec_num::Mode;
 use decimal_interval::{Interval, hull};
-use known_items::item_range;
 use result_ranges::{Stored, Taken};
-use row_changes::{forget_beside, known_of_item, set_item};
 
 // ---- the receiver's cell
 
@@ -44,12 +46,6 @@ fn known_by_form(form: &Form, units: Interval) -> Option<Interval>
         Form::Number { .. } => Some(units),
         Form::Group | Form::Text { .. } | Form::Edited { .. } => None,
     }
-}
-
-fn item_at(layout: &Layout, place: u32) -> Option<&Item>
-    ensures { option_copied result ≡ item_at layout.now place }
-{
-    layout.items.get().get(place as usize)
 }
 
 // What is known of an item that got a value.
