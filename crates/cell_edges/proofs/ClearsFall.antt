@@ -28,7 +28,7 @@ use Rattle.cell_steps.specs.Stores.{range_at, with_taken}
 use Rattle.cell_steps.specs.Clearing.{is_misfit, has_quotient, all_fit_of, all_fit, all_count, clears_part}
 use Rattle.cell_steps.specs.Order.{SeenBelow}
 use Rattle.cell_edges.proofs.ResultLaws.{Given}
-use Rattle.cell_edges.proofs.ItemRanges.{units_below, range_below, numeric_below}
+use Rattle.cell_edges.proofs.ItemRanges.{units_below, range_below, is_known_below, numeric_below}
 use Rattle.cell_edges.proofs.OperandsRise.{or_rises, and_rises, AmountBelowIf, amount_below}
 use Rattle.cell_edges.proofs.PartsRise.{not_falls, TakenBelow, taken_rises}
 
@@ -101,7 +101,10 @@ module _ (given : Given) (p : Program) (a : Act) (x : Action) where
   clears_below (store place mode y) s t fault h e = store_clears_below place mode y s t fault h e
   clears_below (bytes_in offset count) s t fault h e = refl
   clears_below (guard v wanted) s t fault h e = refl
-  clears_below (read_count n) s t fault h e = refl
+  clears_below (read_count n) s t kind.Class h e = is_known_below p.layout (homes_of p) s.cells t.cells h.cells (of_count n) e
+  clears_below (read_count n) s t kind.Size h e = refl
+  clears_below (read_count n) s t kind.Zero h e = refl
+  clears_below (read_count n) s t kind.Truncation h e = refl
   clears_below (set_count n y) s t kind.Size h e = all_count_falls (with_taken p a x s) (with_taken p a x t) (taken_rises given p a x s t h) e
   clears_below (set_count n y) s t kind.Zero h e = refl
   clears_below (set_count n y) s t kind.Class h e = refl

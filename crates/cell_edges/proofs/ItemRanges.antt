@@ -12,7 +12,7 @@ use Rattle.cell_rows.specs.Known.{Known, KnownFits, KnownBelow}
 use Rattle.cell_rows.specs.Elements.{CellsFit, CellsBelow}
 use Rattle.cell_storages.specs.Homes.{Home, of_item, of_count, picture_range, form_range, home_range}
 use Rattle.cell_storages.specs.Storages.{known_of}
-use Rattle.cell_steps.specs.Cells.{known_or, units_of, range_at, is_numeric}
+use Rattle.cell_steps.specs.Cells.{is_known, known_or, units_of, range_at, is_numeric}
 use Rattle.guard_ranges.specs.Meaning.{Knows}
 use Rattle.cell_edges.proofs.CellLists.{known_fits, known_below}
 
@@ -76,8 +76,11 @@ module _ (l : Layout) (hs : List Home) where
   some_below None (Some j) h e = absurd h
   some_below (Some i) d h e = refl
 
+  pub is_known_below : (as_ bs : List Known) → CellsBelow as_ bs → (h : Home) → is_known hs bs h ≡ true → is_known hs as_ h ≡ true
+  is_known_below as_ bs k h e = some_below (known_of hs as_ h) (known_of hs bs h) (known_below hs as_ bs h k) e
+
   pub numeric_below : (as_ bs : List Known) → CellsBelow as_ bs → (place : ℕ) → is_numeric l hs bs place ≡ true → is_numeric l hs as_ place ≡ true
-  numeric_below as_ bs k place e = some_below (known_of hs as_ (of_item place)) (known_of hs bs (of_item place)) (known_below hs as_ bs (of_item place) k) e
+  numeric_below as_ bs k place e = is_known_below as_ bs k (of_item place) e
 
   pub knows_more : (as_ bs : List Known) → CellsFit (map (home_range l) hs) as_ → CellsBelow as_ bs → Knows (range_at l hs as_) (is_numeric l hs as_) (range_at l hs bs) (is_numeric l hs bs)
   knows_more as_ bs f k = record { ranges = range_below as_ bs f k; numeric = numeric_below as_ bs k }

@@ -127,7 +127,10 @@ module _ (p : Program) (a : Act) (x : Action) where
   clears_same (store place mode y) s fault h = store_clears_same h.sender s place mode y fault
   clears_same (bytes_in offset count) s fault h = refl
   clears_same (guard t wanted) s fault h = refl
-  clears_same (read_count n) s fault h = refl
+  clears_same (read_count n) s kind.Class h = refl
+  clears_same (read_count n) s kind.Size h = refl
+  clears_same (read_count n) s kind.Zero h = refl
+  clears_same (read_count n) s kind.Truncation h = refl
   clears_same (set_count n y) s kind.Size h = count_clears_same h.1 s
   clears_same (set_count n y) s kind.Class h = refl
   clears_same (set_count n y) s kind.Zero h = refl

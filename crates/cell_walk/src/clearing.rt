@@ -29,6 +29,7 @@ ghost use Rattle.cell_walk.specs.Kept.{seen, clears_at_part};
 ghost use Rattle.cell_walk.specs.Statements.{act_in};
 ghost use Rattle.cell_walk.specs.Walks.{clears_small, CanStep};
 
+use crate::counters::count_is_known;
 use crate::counting::{count_down_fits, count_fits};
 use crate::dividing::divisor_clears;
 use crate::items::{item_is_numeric, item_range};
@@ -269,6 +270,25 @@ fn divide_clears(
     }
 }
 
+fn read_count_clears(
+    program: &Program,
+    cells: &[Cell],
+    row: &[i128],
+    act: &Act,
+    action: Action,
+    statement: u32,
+    kept: Kept,
+    fault: Kind,
+) -> bool
+    requires row { IsRowOf (plain_program program.now) cells.now row.now }
+    ensures { result ≡ clears_small (plain_program program.now) (plain_act act.now) action (part.read_count statement) (seen row.now kept) fault }
+{
+    match fault {
+        Kind::Class => count_is_known(program, cells, row, statement),
+        Kind::Size | Kind::Zero | Kind::Truncation => true,
+    }
+}
+
 fn set_count_clears(
     program: &Program,
     cells: &[Cell],
@@ -337,16 +357,16 @@ fn part_clears(
         EdgePart::Store { item, mode, amount } => store_clears(
             program, cells, row, act, action, item, mode, amount, kept, fault,
         ),
+        EdgePart::ReadCount(number) => {
+            read_count_clears(program, cells, row, act, action, number, kept, fault)
+        }
         EdgePart::SetCount { number, count } => set_count_clears(
             program, cells, row, act, action, number, count, kept, fault,
         ),
         EdgePart::CountDown(number) => {
             count_down_clears(program, cells, row, act, action, number, kept, fault)
         }
-        EdgePart::Bytes { .. }
-        | EdgePart::Guard { .. }
-        | EdgePart::ReadCount(_)
-        | EdgePart::GuardCount { .. } => true,
+        EdgePart::Bytes { .. } | EdgePart::Guard { .. } | EdgePart::GuardCount { .. } => true,
     }
 }
 

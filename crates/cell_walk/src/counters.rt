@@ -6,7 +6,7 @@ ghost use Rattle.result_ranges.specs.ResultRanges.{lowered, count_range};
 ghost use Rattle.cell_rows.specs.Elements.{CellsFit};
 ghost use Rattle.cell_rows.specs.Rows.{cells_of};
 ghost use Rattle.cell_storages.specs.Homes.{of_count, picture_range, homes_of, owns};
-ghost use Rattle.cell_steps.specs.Cells.{known_or, units_of};
+ghost use Rattle.cell_steps.specs.Cells.{is_known, known_or, units_of};
 ghost use Rattle.cell_steps.specs.Steps.{known_as, read_cells, counted_cells};
 ghost use Rattle.cell_walk.specs.ProgramRows.{IsRowOf};
 
@@ -43,6 +43,19 @@ pub(crate) fn count_units(
     ensures { result ≡ units_of program.now.layout (homes_of (plain_program program.now)) (cells_of row.now) (of_count statement) }
 {
     known_or_own(known_of_count(program, cells, row, statement))
+}
+
+/// Whether a counter is known to have a number.
+pub(crate) fn count_is_known(
+    program: &Program,
+    cells: &[Cell],
+    row: &[i128],
+    statement: u32,
+) -> bool
+    requires { IsRowOf (plain_program program.now) cells.now row.now }
+    ensures { result ≡ is_known (homes_of (plain_program program.now)) (cells_of row.now) (of_count statement) }
+{
+    known_of_count(program, cells, row, statement).is_some()
 }
 
 /// A counter that is read has a number, of its own range where nothing else is known.
