@@ -86,6 +86,7 @@ def refused():
     for name, (source, line) in lines.items():
         yield checked(name, source, CERTIFICATE, 2, line + "\n")
         yield Case(f"run, {name}", ["run", "S"], {"S": source}, 2, line + "\n")
+        yield Case(f"analyse, {name}", ["analyse", "S", "C"], {"S": source}, 2, line + "\n")
 
 
 def of_another_shape():
