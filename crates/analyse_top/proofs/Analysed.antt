@@ -1,5 +1,5 @@
 -- A call of `analyse` that answers 0 or 1 leaves a certificate that `check` accepts, and misses nothing.
-use Rattle.std.proofs.Common.{◌≡◌, ℕ, ◌≤◌, List, [], ◌∷◌, length, Option, Some, None, ◌⊎◌, refl, sym, ap, ◌∙◌, subst, inl, inr, arith}
+use Rattle.std.proofs.Common.{◌≡◌, ℕ, ◌≤◌, ◌<◌, ◌+◌, ◌*◌, List, [], ◌∷◌, length, Option, Some, None, ◌⊎◌, refl, sym, ap, ◌∙◌, subst, inl, inr, arith}
 use Rattle.std.specs.Prelude.{IfSome, option_map}
 use Rattle.std.specs.List.{Contains}
 use Rattle.std.specs.FinMap.{get, insert}
@@ -9,7 +9,11 @@ use Rattle.batch_io.specs.SinkState.{SinkState}
 use Rattle.cob_tree.specs.declared.fault.Open.{Open}
 use Rattle.cob_program.specs.Act.{Program}
 use Rattle.cob_graph.specs.declared.graph.Graph.{Graph}
-use Rattle.cob_graph.specs.Graphs.{OneGraph}
+use Rattle.cob_graph.specs.Graphs.{OneGraph, cells_of}
+use Rattle.cert_text.specs.Allowed.{IsAllowed}
+use Rattle.cert_text.specs.Lengths.{most_bytes}
+use Rattle.cert_text.specs.Text.{spelling}
+use Rattle.cert_text.specs.View.{Certificate}
 use Rattle.cob_front.specs.Laws.{OneAnswer}
 use Rattle.cob_interp.proofs.SeenFiles.{insert_agrees, insert_gets}
 use Rattle.alarm_report.specs.declared.alarms.Alarm.{Alarm}
@@ -17,11 +21,12 @@ use Rattle.alarm_report.specs.Alarms.{alarms_of}
 use Rattle.command_words.specs.Commands.{Command, IsCommand, OneReading, analyse}
 use Rattle.analyse_top.specs.Text.{memory_line, write_fault_line}
 use Rattle.analyse_top.specs.Profile.{IsProgramOf}
-use Rattle.analyse_top.specs.Answer.{Answer, Report, Answers, AnswersCommand, CertificateLong, HoldsCertificate, HoldsProgram, answer_text, status_of}
+use Rattle.analyse_top.specs.Answer.{Answer, Report, Answers, AnswersCommand, CertificateLong, certificate_limit, HoldsCertificate, HoldsProgram, answer_text, status_of}
 use Rattle.analyse_top.specs.Analysis.{Analysis, CanBeClean, IsAnalysisOf, pairs_of, report_of, text_of}
 use Rattle.analyse_top.specs.Showing.{Gains, ShowsIfMemory, ShowsRefusal}
-use Rattle.analyse_top.specs.Conclusion.{Call, Concludes, AnalysesAreAccepted, AnalysesFindClean, EndsBy, EndsByAnalysis, EndsByAnswer, EndsWithAnalysis, FailsToWrite, IsAccepted, IsAnalysed, IsTooLong, TellsAnalysis, TellsUnwritten}
+use Rattle.analyse_top.specs.Conclusion.{Call, Concludes, AnalysesAreAccepted, AnalysesFindClean, EndsBy, EndsByAnalysis, EndsByAnswer, EndsWithAnalysis, FailsToWrite, IsAccepted, IsAnalysed, IsTooLong, LongTextsAreOfLargePrograms, TellsAnalysis, TellsUnwritten}
 use Rattle.analyse_top.proofs.Clean.{CheckingIsSound, above_one, low_status, names_all, never_low}
+use Rattle.analyse_top.proofs.Limits.{within_limits}
 use Rattle.analyse_top.proofs.Sources.{Ending, read, one_ending}
 use Rattle.analyse_top.proofs.Words.{analyse_or_run, one_certificate, one_source}
 
@@ -188,3 +193,18 @@ module _ (sound : CheckingIsSound) (one_reading : OneReading) (call : Call) (con
         let zero : status_of (report_of h.analysis) ≡ 0 =
         ap (λ (pairs : List Open). status_of (Report (alarms_of h.analysis.program pairs))) none in
         omega (arith, zero, h.status, one)
+
+-- ---- long texts
+
+pub long_texts_are_of_large_programs : ((c : Certificate) → IsAllowed c → c.cells < 1000 → length c.nodes < 10000
+    → length (spelling c) ≤ most_bytes c) → (call : Call) → LongTextsAreOfLargePrograms call
+long_texts_are_of_large_programs short call h long =
+    let c = h.analysis.claims in
+    let shape = h.is_of.found.accepts.shape in
+    let limits = within_limits h.analysis.program h.is_of.is_program.within h.analysis.graph h.is_of.is_program.is_graph in
+    let cells : length (cells_of h.analysis.program) ≤ 512 =
+    omega (arith, limits.cells, ap length h.is_of.is_program.is_graph.cells) in
+    let fits = short c h.is_of.found.allowed (omega (arith, shape.cells, cells)) (omega (arith, shape.nodes, limits.nodes)) in
+    let same : most_bytes c ≡ 2000 + length h.analysis.graph.nodes * (10 + 46 * length (cells_of h.analysis.program)) =
+    rw (h.is_of.found.plain, shape.cells, shape.nodes) refl in
+    subst (λ (n : ℕ). certificate_limit < n) same (omega (arith, long.long, fits))

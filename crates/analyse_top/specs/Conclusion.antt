@@ -1,5 +1,5 @@
 -- How a call of the program ends: its status, what it shows, and what it leaves.
-use Rattle.std.specs.Prelude.{◌≡◌, ◌<◌, ◌≤◌, ℕ, ◌⊎◌, List, [], length, take, Some, Result, Err}
+use Rattle.std.specs.Prelude.{◌≡◌, ◌<◌, ◌≤◌, ◌+◌, ◌*◌, ℕ, ◌⊎◌, List, [], length, take, Some, Result, Err}
 use Rattle.std.specs.List.{Contains}
 use Rattle.std.specs.FinMap.{get, insert}
 use Rattle.batch_io.specs.Faults.{Rose}
@@ -14,6 +14,7 @@ use Rattle.cob_runs.specs.Files.{Choice}
 use Rattle.cob_runs.specs.Runs.{IsFaultless, run}
 use Rattle.cob_runs.specs.Runs as runs
 use Rattle.cob_graph.specs.declared.graph.Graph.{Graph}
+use Rattle.cob_graph.specs.Graphs.{cells_of}
 use Rattle.cob_interp.specs.declared.ends.Ended.{Ended}
 use Rattle.cob_interp.specs.declared.ends.RunEnd.{RunEnd}
 use Rattle.cob_interp.specs.declared.ends.RunEnd.TheVariants as end
@@ -293,6 +294,12 @@ AnalysesFindClean call =
     (contents : Contents) (source certificate : List ℕ) (p : Program) (g : Graph)
     → IsCommand call.words (command.analyse source certificate) → known_bytes call.files_before ≡ Some contents
     → HoldsProgram contents source p g → CanBeClean p g → call.status ≡ 1 → ⊥
+
+-- A text is too long only where the program's cells and nodes are many.
+abbrev pub LongTextsAreOfLargePrograms : Call → Type 0
+LongTextsAreOfLargePrograms call =
+    (a : EndsByAnalysis call) → IsTooLong call a.analysis
+    → certificate_limit < 2000 + length a.analysis.graph.nodes * (10 + 46 * length (cells_of a.analysis.program))
 
 -- ---- runs of what is clean
 

@@ -4,7 +4,7 @@ ghost use Rattle.command_words.specs.Words.{texts};
 ghost use Rattle.command_words.specs.Commands as word;
 ghost use Rattle.command_words.specs.Commands.{IsCommand, plain_run};
 ghost use Rattle.analyse_top.specs.Answer.{Usage, first_word};
-ghost use Rattle.analyse_top.specs.Conclusion.{Concludes, IsExact, AcceptsExactly, AnalysesAreAccepted, AnalysesFindClean, CleanIsSafe, CleanRunsMeetNoFault, ReportsAreComplete, call};
+ghost use Rattle.analyse_top.specs.Conclusion.{Concludes, IsExact, AcceptsExactly, AnalysesAreAccepted, AnalysesFindClean, CleanIsSafe, CleanRunsMeetNoFault, LongTextsAreOfLargePrograms, ReportsAreComplete, call};
 ghost use Rattle.analyse_top.specs.Steps.{ShowsFound};
 
 use crate::analyse::analyse;
@@ -14,7 +14,7 @@ use crate::run::{run, task_for};
 use crate::show::show_found;
 use batch_io::{Files, Sink};
 use cert_check::accepted_claims_cover_runs;
-use cert_text::{no_bad_line, one_place, one_spelling};
+use cert_text::{no_bad_line, one_place, one_spelling, texts_of_certificates_are_short};
 use cob_front::one_answer;
 use cob_graph_laws::graphs_are_one;
 use cob_interp::one_end;
@@ -44,6 +44,8 @@ pub fn cobsound<F: Files, O: Sink>(
         (F.state files.old) (F.state files.new) (O.state out.old) (O.state out.new) result) }
     ensures misses { AnalysesFindClean (call (texts words.now.items)
         (F.state files.old) (F.state files.new) (O.state out.old) (O.state out.new) result) }
+    ensures long { LongTextsAreOfLargePrograms (call (texts words.now.items)
+        (F.state files.old) (F.state files.new) (O.state out.old) (O.state out.new) result) }
     ensures runs { CleanRunsMeetNoFault (call (texts words.now.items)
         (F.state files.old) (F.state files.new) (O.state out.old) (O.state out.new) result) }
 {
@@ -54,6 +56,7 @@ pub fn cobsound<F: Files, O: Sink>(
     one_spelling();
     one_place();
     no_bad_line();
+    texts_of_certificates_are_short();
     sources_have_source_graphs();
     accepted_claims_cover_runs();
     conclude(alloc, words.as_slice(), files, out)

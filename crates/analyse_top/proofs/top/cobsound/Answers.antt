@@ -1,7 +1,7 @@
 use Rattle.std.proofs.Common.{List, String, Global, subst}
 use Rattle.command_words.specs.Words.{texts}
 use Rattle.analyse_top.specs.Conclusion.{Concludes, IsExact, call}
-use Rattle.analyse_top.proofs.Analysed.{analyses_are_accepted, analyses_find_clean}
+use Rattle.analyse_top.proofs.Analysed.{analyses_are_accepted, analyses_find_clean, long_texts_are_of_large_programs}
 use Rattle.analyse_top.proofs.Clean.{accepts_exactly, checking_is_sound, clean_is_safe, reports_are_complete}
 use Rattle.analyse_top.proofs.Exact.{is_exact}
 use Rattle.analyse_top.proofs.OneAnswer.{TextsAreApart}
@@ -34,5 +34,6 @@ returns g c =
       accepts = accepts_exactly sound one_reading this concludes exact;
       analysed = analyses_are_accepted sound one_reading this concludes;
       misses = analyses_find_clean sound one_reading this concludes c.one_answer.ensures c.graphs_are_one.ensures.graph;
+      long = long_texts_are_of_large_programs c.texts_of_certificates_are_short.ensures this;
       runs = clean_runs_meet_no_fault c.one_answer.ensures one_reading this concludes;
     }
