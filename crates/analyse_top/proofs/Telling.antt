@@ -1,6 +1,6 @@
 -- From what is found of a source to how a call of `analyse` ends.
 use Rattle.std.proofs.Common.{◌≡◌, ℕ, List, Option, Some, None, ◌⊎◌, refl, ap, ◌∙◌, subst, inl, inr}
-use Rattle.std.specs.Prelude.{option_map, take, false}
+use Rattle.std.specs.Prelude.{option_map, take, false, MatchResult, Result, Ok, Err}
 use Rattle.std.specs.FinMap.{insert}
 use Rattle.batch_io.specs.Faults.{Rose}
 use Rattle.batch_io.specs.FilesState.{Contents, FilesState, KeepsIds, known_bytes}
@@ -10,6 +10,8 @@ use Rattle.cob_program.specs.ActView.{plain_program}
 use Rattle.cob_interp.proofs.Passing.{ids_pass}
 use Rattle.command_words.specs.Commands.{IsCommand, analyse}
 use Rattle.analyse_top.specs.declared.analyse.Findings.{Findings}
+use Rattle.analyse_top.specs.declared.answer.Stop.{Stop}
+use Rattle.analyse_top.specs.declared.answer.Stop.TheVariants.{Memory}
 use Rattle.analyse_top.specs.declared.source.Laid.{Laid}
 use Rattle.analyse_top.specs.Analysis.{Analysis, IsAnalysisOf, IsFound, analysis, text_of}
 use Rattle.analyse_top.specs.Conclusion.{Concludes, EndsByAnalysis, EndsWithAnalysis, FailsToWrite, IsTooLong, LeavesFront, TellsAnalysis, TellsUnwritten, call}
@@ -83,3 +85,11 @@ module _ (words : List (List ℕ)) (source certificate : List ℕ) (before middl
         reading = reading ∙ reads.reading.kept refl;
         ends = ends_behind words before middle after old new status reads certificate a (ends words a found.1);
       }))
+
+-- ---- the findings of what was read
+
+pub weaker_finding : (laid : Laid) (c : Certificate) (result : Result Findings Stop)
+    → MatchResult result (IsFinding (analysis (plain_program laid.program) laid.graph c)) (λ stop. stop ≡ Memory)
+    → MatchResult result (IsFindingFor laid) (λ stop. stop ≡ Memory)
+weaker_finding laid c (Ok f) h = (c, h)
+weaker_finding laid c (Err stop) h = h

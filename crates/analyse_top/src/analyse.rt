@@ -42,10 +42,12 @@ fn texts_of(alloc: Global, laid: &Laid, cert: &Cert) -> Result<Findings, Stop>
         (λ stop. stop ≡ Stop.Memory) }
 {
     let report = check_plain(alloc, laid, cert)?;
+    let certificate = print(alloc, cert)?;
+    let text = answer_text(alloc, &report)?;
     Ok(Findings {
-        certificate: print(alloc, cert)?,
+        certificate,
         status: status_of(&report),
-        report: answer_text(alloc, &report)?,
+        report: text,
     })
 }
 

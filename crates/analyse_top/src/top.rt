@@ -2,7 +2,7 @@
 ghost use Rattle.std.specs.Prelude.{ℕ, List, Ok};
 ghost use Rattle.command_words.specs.Words.{texts};
 ghost use Rattle.command_words.specs.Commands as word;
-ghost use Rattle.command_words.specs.Commands.{IsCommand, plain_run};
+ghost use Rattle.command_words.specs.Commands.{IsCommand, plain_command, plain_run};
 ghost use Rattle.analyse_top.specs.Answer.{Usage, first_word};
 ghost use Rattle.analyse_top.specs.Conclusion.{Concludes, IsExact, AcceptsExactly, AnalysesAreAccepted, AnalysesFindClean, CleanIsSafe, CleanRunsMeetNoFault, LongTextsAreOfLargePrograms, ReportsAreComplete, call};
 ghost use Rattle.analyse_top.specs.Steps.{ShowsFound};
@@ -68,15 +68,36 @@ fn conclude<F: Files, O: Sink>(alloc: Global, words: &[String], files: &mut F, o
         (F.state files.old) (F.state files.new) (O.state out.old) (O.state out.new) result) }
 {
     match command_of(alloc, words) {
-        Ok(Some(Command::Analyse { source, certificate })) => {
-            analyse(alloc, source, certificate, files, out)
-        }
-        Ok(Some(Command::Check { source, certificate })) => {
-            conclude_check(alloc, source, certificate, files, out)
-        }
-        Ok(Some(Command::Run(said))) => conclude_run(alloc, &said, files, out),
-        Ok(Some(Command::Trial { .. }) | None) => show_usage(alloc, words, out),
+        Ok(Some(said)) => conclude_command(alloc, &said, words, files, out),
+        Ok(None) => show_usage(alloc, words, out),
         Err(_) => show_found(alloc, Err(Stop::Memory), out),
+    }
+}
+
+// Runs a command that the words say. Trials aren't done yet.
+fn conclude_command<F: Files, O: Sink>(
+    alloc: Global,
+    said: &Command,
+    words: &[String],
+    files: &mut F,
+    out: &mut O,
+) -> u8
+    requires { IsCommand (texts words.now) (plain_command said.now) }
+    ensures { Concludes (call (texts words.now)
+        (F.state files.old) (F.state files.new) (O.state out.old) (O.state out.new) result) }
+{
+    one_reading();
+    match said {
+        Command::Analyse {
+            source,
+            certificate,
+        } => analyse(alloc, source, certificate, files, out),
+        Command::Check {
+            source,
+            certificate,
+        } => conclude_check(alloc, source, certificate, files, out),
+        Command::Run(said) => conclude_run(alloc, said, files, out),
+        Command::Trial { .. } => show_usage(alloc, words, out),
     }
 }
 
