@@ -1,0 +1,19 @@
+use Rattle.std.proofs.Common.{inl, refl, subst}
+use Rattle.command_words.specs.Words.{texts}
+use Rattle.command_words.specs.Commands.{Command, trial}
+use Rattle.analyse_top.specs.Answer.{IsTrial, Usage, first_word}
+use Rattle.analyse_top.specs.Conclusion.{call}
+use Rattle.analyse_top.proofs.Endings.{ends_by_answer, reads_nothing}
+use Rattle.analyse_top.proofs.top.conclude_command.Goals as goal
+
+pub returns-Trial : goal.returns-Trial
+returns-Trial g c =
+    let files = g.F.Files.state c.args.files.now in
+    let words = texts c.args.words.now in
+    inl (ends_by_answer
+    (call words files files (g.O.Sink.state c.args.out.now) (g.O.Sink.state c.show_usage.new.out) c.show_usage.result)
+    (reads_nothing files) (Usage (first_word words))
+    (inl (
+      (λ said is. subst IsTrial (c.one_reading.ensures words (trial _) said c.requires is) tt),
+      refl,
+    )) c.show_usage.ensures)
