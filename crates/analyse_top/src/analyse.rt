@@ -74,12 +74,7 @@ fn found_for(alloc: Global, laid: &Laid) -> Result<Findings, Stop>
 }
 
 // Makes the certificate's file, unless its text is too long, and shows the report.
-fn tell<F: Files, O: Sink>(
-    findings: &Findings,
-    certificate: &str,
-    files: &mut F,
-    out: &mut O,
-) -> u8
+fn tell<F: Files, O: Sink>(findings: &Findings, certificate: &str, files: &mut F, out: &mut O) -> u8
     ensures ids { KeepsIds (F.state files.old) (F.state files.new) }
     ensures reading { (F.state files.new).reading ≡ (F.state files.old).reading }
     ensures ends { (words : List (List ℕ)) (a : Analysis) → IsFinding a findings.now → EndsWithAnalysis

@@ -77,7 +77,12 @@ fn a_call_on_files_that_fails_is_told(rt: HostRuntime) -> Result<(), Fail> {
 }
 
 // What the certificate's file holds where a call on files fails: what it held, or a front of the certificate.
-const LEFT: [(u64, &str); 4] = [(4, CERTIFICATE), (6, ""), (7, CERTIFICATE), (100, CERTIFICATE)];
+const LEFT: [(u64, &str); 4] = [
+    (4, CERTIFICATE),
+    (6, ""),
+    (7, CERTIFICATE),
+    (100, CERTIFICATE),
+];
 
 #[test]
 fn a_file_that_cannot_be_written_holds_a_front(rt: HostRuntime) -> Result<(), Fail> {
@@ -95,7 +100,12 @@ fn a_file_that_cannot_be_written_holds_a_front(rt: HostRuntime) -> Result<(), Fa
 #[test]
 fn a_text_that_the_sink_refuses_has_its_status(rt: HostRuntime) -> Result<(), Fail> {
     let alloc = rt.alloc();
-    for (line, status) in [("check S C", 6), ("analyse S C", 6), ("check S", 4), ("run W", 6)] {
+    for (line, status) in [
+        ("check S C", 6),
+        ("analyse S C", 6),
+        ("check S", 4),
+        ("run W", 6),
+    ] {
         let words = words_of(alloc, line)?;
         let mut files = files_of(alloc, 100)?;
         let mut sink = MemSink::new(alloc, Vec::from_slice(alloc, &[1u64])?);
