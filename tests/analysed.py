@@ -1,12 +1,8 @@
-"""Reports of `analyse`, worked out from the rules by hand: the steps of the guide's example, small programs by rule, and
-words. The certificate that is written must be answered by `check` with the same report, and the other files must be as
+"""What the guide shows of `analyse`: the reports on the samples, among them the steps of its example, and what its words
+answer. The certificate that is written must be answered by `check` with the same report, and the other files must be as
 they were."""
 
-import json
-
-from tests.analyses import faults
-from tests.built import CASES, ROOT, Case, checks_of, launcher, ran
-from tests.programs import source_of
+from tests.built import ROOT, Case, checks_of, launcher, ran
 from tests.sample import SAMPLE
 from tests.reference import CERTIFICATE
 
@@ -78,30 +74,9 @@ def samples():
         yield f"water {number}", water(number), alarms
 
 
-def rules():
-    """Small programs, each with the rule that its report follows from."""
-    for line in (CASES / "reports.jsonl").open():
-        row = json.loads(line)
-        yield row["rule"], source_of(row), row["report"]
-
-
 def reports():
-    for name, source, alarms in (*samples(), *rules()):
+    for name, source, alarms in samples():
         yield f"analyse, {name}", source, lambda found, alarms=alarms: found == report_of(alarms)
-
-
-def are_between(found, case):
-    """Between the faults that must be named and those that may be."""
-    status, out = found
-    named = faults(out.splitlines())
-    return status == (1 if named else 0) and faults(case["least"]) <= named <= faults(case["most"])
-
-
-def random_sources():
-    """The sources of analyses.jsonl."""
-    for number, line in enumerate((CASES / "analyses.jsonl").open(), 1):
-        case = json.loads(line)
-        yield f"analyse, analysis {number}", case["source"], lambda found, case=case: are_between(found, case)
 
 
 def runs():
@@ -139,26 +114,8 @@ def words():
         yield Case(f"analyse to {name}", ["analyse", "S", name], files, 0, "clean\n", {**files, name: CERTIFICATE})
 
 
-def much_known():
-    """500 items that are known to be numeric at each of 3,500 nodes. A claim of one has 43 bytes and more, so that a
-    certificate of all has more than 67,108,864."""
-    items = "".join(f"       77 N-{i} PIC S9(18).\n" for i in range(1, 501))
-    tests = "".join(f"           OR N-{i} NOT NUMERIC\n" for i in range(2, 501))
-    idle = "           CONTINUE.\n" * 3500
-    test = f"           IF N-1 NOT NUMERIC\n{tests}               STOP RUN\n           END-IF.\n"
-    before, _, behind = SAMPLE.partition("       77 N PIC 9(3) VALUE 998.\n")
-    return before + items + behind.replace("       ADD 1 TO N.\n", test + idle)
-
-
-def too_long():
-    """Nothing is created, and what stands there stays."""
-    for name in ("C", "OLD"):
-        files = {"S": much_known(), "OLD": "what stood here before"}
-        yield Case(f"too long for {name}", ["analyse", "S", name], files, 3, "E11 certificate too long\n")
-
-
 def checks():
     path = launcher()
-    yield from checks_of((*words(), *too_long(), *runs()))
-    for name, source, is_wanted in (*reports(), *random_sources()):
+    yield from checks_of((*words(), *runs()))
+    for name, source, is_wanted in reports():
         yield lambda given=(path, name, source, is_wanted): told(*given)
