@@ -1,4 +1,4 @@
-use Rattle.std.proofs.Common.{List, subst, sym}
+use Rattle.std.proofs.Common.{List, ℕ, subst, sym}
 use Rattle.batch_io.specs.FilesState.{known_bytes}
 use Rattle.analyse_top.specs.Steps.{IsLaid, Reads}
 use Rattle.analyse_top.proofs.Endings.{answers_refused, no_fault}
