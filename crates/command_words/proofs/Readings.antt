@@ -73,9 +73,10 @@ begin_same words c d a b (inl x) (inr y) =
 begin_same words c d a b (inr x) (inl y) =
     absurd (steps_or_equals c (head_same (codes "--steps") (codes "--steps=" ++ c) (d ∷ b) a (sym y ∙ x)))
 begin_same words c d a b (inr x) (inr y) =
-    let e = sym x ∙ y in
-    (ap (drop 8) (head_same (codes "--steps=" ++ c) (codes "--steps=" ++ d) a b e),
-    tail_same (codes "--steps=" ++ c) (codes "--steps=" ++ d) a b e)
+    let e = sym x ∙ y in (
+      ap (drop 8) (head_same (codes "--steps=" ++ c) (codes "--steps=" ++ d) a b e),
+      tail_same (codes "--steps=" ++ c) (codes "--steps=" ++ d) a b e,
+    )
 
 -- an option and the words behind it begin with it
 pub option_begins : (option after : List (List ℕ)) (steps : ℕ) (h : IsStepsOption option steps) →

@@ -67,15 +67,18 @@ module _ (words before rest : List (List ℕ)) (whole : words ≡ before ++ rest
 
     -- what is without an option is so behind the first plain words
     pub rest_plainly : (p : List (List ℕ)) → ArePlainly words p → (q : List (List ℕ)) × ArePlainly rest q
-    rest_plainly p h = (h.later, record {
-      before = [];
-      end = rest;
-      later = h.later;
-      before_plain = tt;
-      is_end = end_is_rest p h;
-      words_are = refl;
-      plain_are = refl;
-    })
+    rest_plainly p h = (
+      h.later,
+      record {
+        before = [];
+        end = rest;
+        later = h.later;
+        before_plain = tt;
+        is_end = end_is_rest p h;
+        words_are = refl;
+        plain_are = refl;
+      },
+    )
 
     -- the option stands behind the first plain words
     pub option_in_rest : (p : List (List ℕ)) (n : ℕ) (h : ArePlainWithSteps words p n) →

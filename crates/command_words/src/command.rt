@@ -25,5 +25,7 @@ pub enum Command<'a> {
     /// Run a source.
     Run(RunWords<'a>),
     /// Make a source of this length, analyse it, and check its certificate: 1 to 9,999.
-    Trial { count: u64 },
+    Trial {
+        count: u64,
+    },
 }

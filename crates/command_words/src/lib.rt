@@ -10,6 +10,5 @@ mod reading;
 pub use command::{Command, RunWords};
 pub use reading::{command_of, one_reading};
 
-
 #[cfg(test)]
 mod tests;

@@ -60,22 +60,21 @@ fn behind_steps(words: &[String]) -> Option<(&str, &[String])>
         (λ found. BeginWithSteps (texts words.now) found.0.now (texts found.1.now)) }
 {
     match words {
-        [option, count, after @ ..] if option.as_str() == "--steps" => Some((count.as_str(), after)),
+        [option, count, after @ ..] if option.as_str() == "--steps" => Some((
+            count.as_str(),
+            after,
+        )),
         [option, after @ ..] => Some((option.as_str().strip_prefix("--steps=")?, after)),
         [] => None,
     }
 }
 
 // The parts, by those before the option, its number, and the words behind it.
-fn with_rest<'a>(
-    before: &'a [String],
-    steps: Option<u64>,
-    rest: &'a [String],
-) -> Option<Parts<'a>>
+fn with_rest<'a>(before: &'a [String], steps: Option<u64>, rest: &'a [String]) -> Option<Parts<'a>>
     ensures { MatchOption result
         ((plain : List (List ℕ)) → ArePlainly (texts rest.now) plain → ⊥)
         (λ p. (texts p.before.now ≡ texts before.now) × (p.steps ≡ steps)
-            × ArePlainly (texts rest.now) (texts p.after.now ++ texts p.later.now)) }
+        × ArePlainly (texts rest.now) (texts p.after.now ++ texts p.later.now)) }
 {
     let (after, later) = around_end(rest)?;
     Some(Parts {

@@ -89,11 +89,9 @@ fn said<'a>(first: &str, plain: Vec<&'a str>, steps: Option<u64>) -> Option<Comm
             })
         }
         "run" => Some(Command::Run(run_of(plain, steps)?)),
-        "trial" => Some(
-            Command::Trial {
-                count: trial_of(&plain, steps)?,
-            },
-        ),
+        "trial" => Some(Command::Trial {
+            count: trial_of(&plain, steps)?,
+        }),
         _ => None,
     }
 }

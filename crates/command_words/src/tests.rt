@@ -68,7 +68,10 @@ const READINGS: [(&str, &str); 48] = [
     ("run|S|--steps=0", ""),
     ("run|S|--steps=+7", ""),
     ("run|S|--steps=٧", ""),
-    ("run|S|--steps=999999999999999999", "run 999999999999999999 S"),
+    (
+        "run|S|--steps=999999999999999999",
+        "run 999999999999999999 S",
+    ),
     ("run|S|--steps=1000000000000000000", ""),
     ("run|S|--steps=0000000000000000001", ""),
     ("trial|1", "trial 1"),
@@ -144,7 +147,10 @@ fn clap_reads_as_the_rule_does(rt: HostRuntime) -> Result<(), Fail> {
         for (length, count) in [(0u32, 1u32), (1, 8), (2, 64), (3, 512)] {
             for number in 0..count {
                 let words = list_of(alloc, first, length, number)?;
-                assert!(rt; is_same_by_clap(alloc, words.as_slice())?, "{first} {length} {number}");
+                assert!(rt;
+                    is_same_by_clap(alloc, words.as_slice())?,
+                    "{first} {length} {number}"
+                );
             }
         }
     }

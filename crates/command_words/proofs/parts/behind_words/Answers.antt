@@ -11,8 +11,8 @@ returns c =
 pub loop-place-preserved : goal.loop-place-preserved
 loop-place-preserved c =
     let within : c.loop-place.place < length c.args.plain.now = omega arith in
-    let same : (get_or c.args.plain.now c.loop-place.place record {ref_ptr = (0, 0); now = []}).now
-        ≡ c.as_str.result.now = search rules in
-    same_more c.args.plain.now c.args.words.now c.loop-place.place (record {ref_ptr = (0, 0); now = []})
+    let same : (get_or c.args.plain.now c.loop-place.place record { ref_ptr = (0, 0); now = [] }).now
+    ≡ c.as_str.result.now = search rules in
+    same_more c.args.plain.now c.args.words.now c.loop-place.place (record { ref_ptr = (0, 0); now = [] })
     c.index-words-place.result within c.loop-place-test.true c.loop-place.invariant
     (same ∙ c.as_str.ensures.value) c.index-words-place.is
