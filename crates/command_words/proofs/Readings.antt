@@ -1,5 +1,5 @@
 -- Words have one reading.
-use Rattle.std.proofs.Common.{◌≡◌, ℕ, List, [], ◌∷◌, ◌++◌, length, get_or, drop, refl, sym, ap, ap₂, subst, ◌∙◌, inl, inr, arith, Option, None, Some}
+use Rattle.std.proofs.Common.{◌≡◌, ℕ, List, [], ◌∷◌, ◌++◌, get_or, drop, refl, sym, ap, ap₂, subst, ◌∙◌, inl, inr, arith, Option, None, Some}
 use Rattle.std.specs.Prelude.{codes}
 use Rattle.command_words.specs.Words.{IsPlain, ArePlain, IsNumber}
 use Rattle.command_words.specs.Commands.{Run, Command, analyse, check, run, trial, end_of_options, IsEnd, ArePlainly, IsStepsOption, ArePlainWithSteps, HavePlain, plain_words, Say, IsCommand, command_word}

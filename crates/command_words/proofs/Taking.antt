@@ -1,15 +1,15 @@
 -- How the words behind a command's own are taken apart.
-use Rattle.std.proofs.Common.{◌≡◌, ℕ, ◌+◌, ◌-◌, ◌<◌, ◌≤◌, ◌^◌, List, [], ◌∷◌, ◌++◌, append_assoc, length, get_or, take, drop, refl, sym, ap, ap₂, subst, ◌∙◌, inl, inr, arith, Option, None, Some, MatchOption, String, Global, string_bytes}
+use Rattle.std.proofs.Common.{◌≡◌, ℕ, ◌<◌, ◌≤◌, ◌^◌, List, [], ◌∷◌, ◌++◌, append_assoc, take, drop, refl, sym, ap, ap₂, subst, ◌∙◌, inl, inr, arith, Option, None, Some, MatchOption, String, Global, string_bytes}
 use Rattle.std.specs.Prelude.{codes}
 use Rattle.std.proofs.lemmas.List.{map-append, take-append-drop}
 use Rattle.std.specs.Str.Parse.{digits_value}
 use Rattle.std.proofs.lemmas.Str.Parse.{digits_value_short}
 use Rattle.command_words.specs.declared.parts.Parts.{Parts}
-use Rattle.command_words.specs.Words.{IsPlain, ArePlain, IsNumber, texts}
-use Rattle.command_words.specs.Commands.{end_of_options, IsEnd, ArePlainly, IsStepsOption, ArePlainWithSteps, HavePlain}
+use Rattle.command_words.specs.Words.{ArePlain, IsNumber, texts}
+use Rattle.command_words.specs.Commands.{end_of_options, IsEnd, ArePlainly, ArePlainWithSteps, HavePlain}
 use Rattle.command_words.specs.Parts.{BeginNotPlain, IsPlainCount, BeginWithSteps, plain_of}
 use Rattle.command_words.proofs.Counts.{own}
-use Rattle.command_words.proofs.Readings.{none_or_some, head_same, front_same, end_begins, plainly_same, steps_not_plain, begin_same, option_begins, end_or_steps}
+use Rattle.command_words.proofs.Readings.{none_or_some, head_same, front_same, end_begins, steps_not_plain, begin_same, option_begins, end_or_steps}
 
 -- ---- words cut in two
 

@@ -9,17 +9,18 @@ const WORDS: &str = "words";
 
 // So many plain words.
 fn plain_arg<'a, R: Into<ValueRange>>(alloc: Global, count: R) -> Arg<'a> {
-    Arg::new(alloc, WORDS)
-        .required(true)
-        .num_args(count)
-        .action(ArgAction::Append)
+    Arg::new(alloc, WORDS).required(true).num_args(count)
+}
+
+// Plain words, with the option anywhere among them.
+fn run_arg<'a>(alloc: Global) -> Arg<'a> {
+    plain_arg(alloc, 1..).action(ArgAction::Append)
 }
 
 fn steps_arg<'a>(alloc: Global) -> Arg<'a> {
     Arg::new(alloc, "steps")
         .long("steps")
         .value_parser(value_parser!(u64).range(1..=999_999_999_999_999_999))
-        .action(ArgAction::Set)
 }
 
 fn trial_arg<'a>(alloc: Global) -> Arg<'a> {
@@ -32,7 +33,7 @@ fn command_line<'a>(alloc: Global) -> Result<Command<'a>, AllocError> {
     let check = Command::new(alloc, "check").arg(plain_arg(alloc, 2))?;
     let run = Command::new(alloc, "run")
         .arg(steps_arg(alloc))?
-        .arg(plain_arg(alloc, 1..))?;
+        .arg(run_arg(alloc))?;
     let trial = Command::new(alloc, "trial").arg(trial_arg(alloc))?;
     Command::new(alloc, "cobsound")
         .no_binary_name(true)

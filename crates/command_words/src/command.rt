@@ -26,6 +26,6 @@ pub enum Command<'a> {
     Run(RunWords<'a>),
     /// Make a source of this length, analyse it, and check its certificate: 1 to 9,999.
     Trial {
-        count: u64,
+        count: u32,
     },
 }

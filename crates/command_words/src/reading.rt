@@ -41,13 +41,16 @@ fn pair_of<'a>(plain: &[&'a str], steps: Option<u64>) -> Option<(&'a str, &'a st
 }
 
 // The number of a trial, where there is one plain word and no number of steps.
-fn trial_of(plain: &[&str], steps: Option<u64>) -> Option<u64>
+fn trial_of(plain: &[&str], steps: Option<u64>) -> Option<u32>
     ensures { MatchOption result
         ((count : ℕ) → SayTrial (lent_texts plain.now) steps count → ⊥)
         (λ count. SayTrial (lent_texts plain.now) steps count) }
 {
     match (plain, steps) {
-        ([word], None) => number_up_to(word, MOST_TRIAL),
+        ([word], None) => match number_up_to(word, MOST_TRIAL) {
+            Some(count) => Some(count as u32),
+            None => None,
+        },
         _ => None,
     }
 }
