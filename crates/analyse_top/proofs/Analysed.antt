@@ -11,7 +11,7 @@ use Rattle.cob_program.specs.Act.{Program}
 use Rattle.cob_graph.specs.declared.graph.Graph.{Graph}
 use Rattle.cob_graph.specs.Graphs.{OneGraph, cells_of}
 use Rattle.cert_text.specs.Allowed.{IsAllowed}
-use Rattle.cert_text.specs.Lengths.{most_bytes}
+use Rattle.cert_text.specs.Lengths.{most_bounds, most_bytes}
 use Rattle.cert_text.specs.Text.{spelling}
 use Rattle.cert_text.specs.View.{Certificate}
 use Rattle.cob_front.specs.Laws.{OneAnswer}
@@ -196,6 +196,9 @@ module _ (sound : CheckingIsSound) (one_reading : OneReading) (call : Call) (con
 
 -- ---- long texts
 
+without_packs : (cells : ℕ) → 10 + 46 * cells + 49 * 0 ≡ 10 + 46 * cells
+without_packs cells = omega arith
+
 pub long_texts_are_of_large_programs : ((c : Certificate) → IsAllowed c → c.cells < 1000 → length c.nodes < 10000
     → length (spelling c) ≤ most_bytes c) → (call : Call) → LongTextsAreOfLargePrograms call
 long_texts_are_of_large_programs short call h long =
@@ -206,5 +209,8 @@ long_texts_are_of_large_programs short call h long =
     omega (arith, limits.cells, ap length h.is_of.is_program.is_graph.cells) in
     let fits = short c h.is_of.found.allowed (omega (arith, shape.cells, cells)) (omega (arith, shape.nodes, limits.nodes)) in
     let same : most_bytes c ≡ 2000 + length h.analysis.graph.nodes * (10 + 46 * length (cells_of h.analysis.program)) =
-    rw (h.is_of.found.plain, shape.cells, shape.nodes) refl in
+    ap (λ (packs : List (List ℕ)). 2000 + length c.nodes * (10 + 46 * c.cells + 49 * most_bounds packs)) h.is_of.found.plain
+    ∙ ap (λ (n : ℕ). 2000 + length c.nodes * n) (without_packs c.cells)
+    ∙ ap (λ (n : ℕ). 2000 + length c.nodes * (10 + 46 * n)) shape.cells
+    ∙ ap (λ (n : ℕ). 2000 + n * (10 + 46 * length (cells_of h.analysis.program))) shape.nodes in
     subst (λ (n : ℕ). certificate_limit < n) same (omega (arith, long.long, fits))

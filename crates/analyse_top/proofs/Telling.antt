@@ -19,7 +19,7 @@ use Rattle.analyse_top.specs.Steps.{Reads, HoldsLaid, IsFinding, IsFindingFor}
 
 module _ (words : List (List ℕ)) (before middle after : FilesState) (old new : SinkState) (status : ℕ)
     (reads : Reads before middle false) (certificate : List ℕ) (a : Analysis) where
-  with_text : List ℕ → Option Contents → Option Contents
+  abbrev with_text : List ℕ → Option Contents → Option Contents
   with_text text known = option_map (λ contents. insert contents certificate text) known
 
   tells : TellsAnalysis (call words middle after old new status) certificate a

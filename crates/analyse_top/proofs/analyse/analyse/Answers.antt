@@ -32,5 +32,5 @@ returns g c =
     let files = g.F.Files.state c.args.files.now in
     λ words said. inl (ends_found
     (call words files (g.F.Files.state c.read_source.new.files)
-    (g.O.Sink.state c.args.out.now) (g.O.Sink.state c.show_found.new.out) c.show_found.result)
-    (Err c.in-Err-found_for.stop) (rw c.in-Err-found_for.ensures c.in-Ok.ensures.reads) tt c.show_found.ensures)
+    (g.O.Sink.state c.args.out.now) (g.O.Sink.state c.show_found-in-Err-found_for.new.out) c.show_found-in-Err-found_for.result)
+    (Err c.in-Err-found_for.stop) (rw c.in-Err-found_for.ensures c.in-Ok.ensures.reads) tt c.show_found-in-Err-found_for.ensures)

@@ -1,5 +1,6 @@
 use Rattle.std.proofs.Common.{Err, inl, refl}
 use Rattle.command_words.specs.Words.{texts}
+use Rattle.command_words.specs.Commands.{Command, IsCommand}
 use Rattle.analyse_top.specs.Answer.{Usage, first_word}
 use Rattle.analyse_top.specs.declared.answer.Stop.TheVariants.{Memory}
 use Rattle.analyse_top.specs.Conclusion.{call}
@@ -10,10 +11,11 @@ pub returns-in-Ok-None : goal.returns-in-Ok-None
 returns-in-Ok-None g c =
     let files = g.F.Files.state c.args.files.now in
     let words = texts c.args.words.now in
+    let none : (said : Command) → IsCommand words said → ⊥ = rw c.in-Ok-None.field-0-is at c.in-Ok-None.ensures in
     inl (ends_by_answer
     (call words files files (g.O.Sink.state c.args.out.now) (g.O.Sink.state c.show_usage.new.out) c.show_usage.result)
     (reads_nothing files) (Usage (first_word words))
-    (inl ((λ said is. absurd (c.in-Ok-None.ensures said is)), refl)) c.show_usage.ensures)
+    (inl ((λ said is. absurd (none said is)), refl)) c.show_usage.ensures)
 
 pub returns-in-Err : goal.returns-in-Err
 returns-in-Err g c =
