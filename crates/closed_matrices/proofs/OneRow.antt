@@ -5,12 +5,12 @@ use Rattle.std.proofs.lemmas.Bool.{cases_eq}
 use Rattle.std.proofs.lemmas.Nat.{div-add-mod', mod_below, div_below}
 use Rattle.diff_bounds.specs.Matrix.{word, none, largest, IsBound, IsWord, IsMatrix}
 use Rattle.diff_bounds.specs.Paths.{path_sum, IsPath, AreBounds, AreBelow, cut_of, HasNoNegativeCycle, IsClosure}
-use Rattle.diff_bounds.specs.Sums.{no_path, IsSum, NegativeCycle}
+use Rattle.diff_bounds.specs.Sums.{NegativeCycle}
 use Rattle.diff_bounds.proofs.Walks.{AreWords}
 use Rattle.diff_bounds.proofs.Steps.{cut_monotone, cut_is_word}
 use Rattle.diff_bounds.proofs.Ends.{words_of}
 use Rattle.closed_matrices.specs.Settled.{IsTightBut}
-use Rattle.closed_matrices.specs.Rows.{IsSumOver, IsLeastOver, AreInto, AreFrom, IsNegativeAt, IsLowered, AreLowered}
+use Rattle.closed_matrices.specs.Rows.{IsSum, IsSumOver, IsLeastOver, AreInto, AreFrom, IsNegativeAt, IsLowered, AreLowered}
 
 cut_same : (z : ℤ) → IsWord z → IsBound z → cut_of z ≡ z
 cut_same z word b = let high : z ≤ℤ largest = word.high b in let low = word.low in grind (arith, ints, clamps)
