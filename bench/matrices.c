@@ -41,8 +41,8 @@ static uint64_t next(void) {
     return state;
 }
 
-static wide bound(uint64_t base, int i, int j, int cut) {
-    return (wide)(base >> i) - (wide)(base >> j) + (wide)(next() >> cut);
+static wide bound(uint64_t base, int i, int j) {
+    return (wide)(base >> i) - (wide)(base >> j) + (wide)(next() >> 5);
 }
 
 static uint64_t make(wide *m, int shape) {
@@ -52,7 +52,7 @@ static uint64_t make(wide *m, int shape) {
     for (int i = 0; i < PLACES; i++)
         for (int j = 0; j < PLACES; j++)
             if (i != j && (shape == DENSE || i + 1 == j || j + 1 == i))
-                m[i * PLACES + j] = bound(base, i, j, 5);
+                m[i * PLACES + j] = bound(base, i, j);
     return base;
 }
 
@@ -66,8 +66,8 @@ static void change(wide *m, uint64_t base) {
     close_matrix(PLACES, m);
     for (int k = 0; k < PLACES; k++) {
         if (k == at) continue;
-        lower(&m[at * PLACES + k], bound(base, at, k, 7));
-        lower(&m[k * PLACES + at], bound(base, k, at, 7));
+        lower(&m[at * PLACES + k], bound(base, at, k));
+        lower(&m[k * PLACES + at], bound(base, k, at));
     }
 }
 

@@ -91,16 +91,15 @@ impl Numbers {
     }
 
     // The difference of two places' heights and a number that isn't negative, so that no cycle is negative.
-    fn bound(&mut self, base: u64, row: usize, column: usize, cut: u32) -> i128
+    fn bound(&mut self, base: u64, row: usize, column: usize) -> i128
         requires row { row < 9 }
         requires column { column < 9 }
-        requires cut { cut < 64 }
         ensures low { neg_ℤ (pos (2 ^ 64)) <ℤ result }
         ensures high { result <ℤ pos (2 ^ 65) }
     {
         let high = (base >> row) as i128;
         let low = (base >> column) as i128;
-        let more = (self.next() >> cut) as i128;
+        let more = (self.next() >> 5) as i128;
         high - low + more
     }
 
@@ -110,7 +109,7 @@ impl Numbers {
         for row in 0..9usize {
             for column in 0..9usize {
                 if row != column && is_bound(shape, row, column) {
-                    let most = self.bound(base, row, column, 5);
+                    let most = self.bound(base, row, column);
                     add_bound(8, &mut words, row, column, most);
                 }
             }
@@ -128,9 +127,9 @@ impl Numbers {
     {
         for place in 0..9usize {
             if place != at {
-                let most = self.bound(base, at, place, 7);
+                let most = self.bound(base, at, place);
                 lower(m, at, at, place, most);
-                let most_back = self.bound(base, place, at, 7);
+                let most_back = self.bound(base, place, at);
                 lower(m, at, place, at, most_back);
             }
         }

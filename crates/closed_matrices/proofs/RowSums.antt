@@ -1,11 +1,11 @@
 -- Sums over one place more, and rows lowered in place.
-use Rattle.std.proofs.Common.{◌≡◌, ◌≢◌, ℕ, ◌+◌, ◌*◌, ◌^◌, ◌<◌, ◌≤◌, List, length, get_or, set, ℤ, pos, neg_ℤ, ◌+ℤ◌, ◌≤ℤ◌, ◌<ℤ◌, ◌⊎◌, inl, inr, refl, sym, subst, ◌∙◌, arith}
-use Rattle.std.specs.Int.{int_min}
+use Rattle.std.proofs.Common.{◌≡◌, ◌≢◌, ℕ, ◌+◌, ◌*◌, ◌^◌, ◌<◌, ◌≤◌, List, length, get_or, set, ℤ, pos, neg_ℤ, ◌+ℤ◌, ◌≤ℤ◌, ◌<ℤ◌, ◌⊎◌, inl, inr, sym, subst, ◌∙◌, arith}
+use Rattle.std.specs.Int.{int_max, int_min}
 use Rattle.std.proofs.lemmas.Int.{ints, clamps, by_lt_z}
 use Rattle.std.proofs.lemmas.Bool.{cases_eq}
 use Rattle.std.proofs.lemmas.List.{get_or-set_other}
 use Rattle.std.proofs.lemmas.Grind.{get_or-set_at}
-use Rattle.diff_bounds.specs.Matrix.{word, none, IsBound, IsWord}
+use Rattle.diff_bounds.specs.Matrix.{word, none, largest, IsBound, IsWord}
 use Rattle.diff_bounds.specs.Paths.{cut_of}
 use Rattle.diff_bounds.proofs.Places.{word-set_same, word-set_other}
 use Rattle.closed_matrices.specs.Rows.{no_sum, IsSum, IsPair, IsBetter, IsSumOver, IsLeastOver, IsNegative, IsLowered}
@@ -46,13 +46,32 @@ better_swapped best first second x are = record {
 pub better_none : (best number word x : ℤ) → none ≤ℤ number → x ≡ best → IsBetter best number word x
 better_none best number word x h e = record { kept = omega (arith, ints, e); lowered = λ b d. absurd (omega (arith, ints, b, h)); one = inl e }
 
-pub lowered_of : (word first second sum x : ℤ) → IsSum first → IsSum second → sum ≡ cut_of (first +ℤ second) → x ≡ int_min word sum → IsLowered word first second x
-lowered_of word first second sum x h k is e = record {
-  kept = omega (arith, ints, clamps);
-  lowered = λ s t. let less : x ≤ℤ sum = omega (arith, ints, clamps) in subst (λ (z : ℤ). x ≤ℤ z) is less;
-  one = by_lt_z sum word
-      (λ (lt : sum <ℤ word). inr (h, k, let same : x ≡ sum = omega (arith, ints, clamps) in same ∙ is))
-      (λ (le : word ≤ℤ sum). inl (omega (arith, ints, clamps)));
+-- one of them is no sum, or both are
+sums_of : (first second : ℤ) → IsPair first → IsPair second → (first +ℤ second) ≤ℤ largest → IsSum first × IsSum second
+sums_of first second p q small = (
+  by_lt_z first no_sum (λ (lt : first <ℤ no_sum). lt) (λ (le : no_sum ≤ℤ first). absurd (let low = q.low in omega (arith, ints, low, le, small))),
+  by_lt_z second no_sum (λ (lt : second <ℤ no_sum). lt) (λ (le : no_sum ≤ℤ second). absurd (let low = p.low in omega (arith, ints, low, le, small))),
+)
+
+pub lowered_by : (word first second sum x : ℤ) → IsWord word → IsPair first → IsPair second → sum ≡ first +ℤ second → sum <ℤ word → sum ≤ℤ largest → x ≡ int_max sum (neg_ℤ largest) → IsLowered word first second x
+lowered_by word first second sum x is p q e less small f =
+    let both = sums_of first second p q (omega (arith, ints, e, small)) in
+    let same : x ≡ cut_of (first +ℤ second) = grind (arith, ints, clamps) in
+    record {
+      kept = let low = is.low in omega (arith, ints, clamps, f, less, low);
+      lowered = λ s t. let z = same in omega (arith, ints, z);
+      one = inr (both.0, both.1, same);
+    }
+
+pub lowered_not : (word first second sum x : ℤ) → IsWord word → sum ≡ first +ℤ second → (sum <ℤ word → sum ≤ℤ largest → ⊥) → x ≡ word → IsLowered word first second x
+lowered_not word first second sum x is e high f = record {
+  kept = omega (arith, ints, f);
+  lowered = λ s t. by_lt_z largest sum
+      (λ (lt : largest <ℤ sum). let top = is.top in let cut : cut_of (first +ℤ second) ≡ none = grind (arith, ints, clamps) in omega (arith, ints, f, top, cut))
+      (λ (le : sum ≤ℤ largest). by_lt_z sum word
+          (λ (lt : sum <ℤ word). absurd (high lt le))
+          (λ (above : word ≤ℤ sum). let cut : sum ≤ℤ cut_of (first +ℤ second) = grind (arith, ints, clamps) in omega (arith, ints, f, above, cut)));
+  one = inl f;
 }
 
 pub negative_along : (x y z v : ℤ) → z ≡ x → v ≡ y → IsNegative z v → IsNegative x y

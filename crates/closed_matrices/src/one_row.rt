@@ -1,7 +1,7 @@
 //! The closing of a matrix that is tight but for one row and its column.
 ghost use Rattle.std.specs.Prelude.{◌≡◌, ◌≢◌, ℕ, ◌+◌, ◌*◌, ◌<◌, ◌≤◌, ◌≤ℤ◌, ◌↔◌, length, pos, false, IsTrue, slice_index_or, if◌then◌else◌, ℤ, Option, Some, None};
 ghost use Rattle.diff_bounds.specs.Matrix.{word, IsMatrix, IsBound, IsWord};
-ghost use Rattle.diff_bounds.specs.Paths.{cut_of, HasNoNegativeCycle, IsClosure};
+ghost use Rattle.diff_bounds.specs.Paths.{HasNoNegativeCycle, IsClosure};
 ghost use Rattle.diff_bounds.specs.Storages.{StandsIn};
 ghost use Rattle.closed_matrices.specs.Closed.{closed};
 ghost use Rattle.closed_matrices.specs.Settled.{IsTightBut};
@@ -127,27 +127,17 @@ fn is_negative_trip(places: usize, m: &[i128], at: usize, into: &[i128]) -> bool
     false
 }
 
-// a sum as a word
-#[inline(always)]
-fn cut(sum: i128) -> i128
-    ensures { result ≡ cut_of sum }
-{
-    if LARGEST < sum {
-        NONE
-    } else {
-        sum.max(-LARGEST)
-    }
-}
-
-// the lesser of the word and the cut of two sums
+// the lesser of the word and the cut of two sums; no sum and another one add up to more than a word can be
 #[inline(always)]
 fn lowered(word: i128, first: i128, second: i128) -> i128
+    requires word { IsWord word }
     requires first { IsPair first }
     requires second { IsPair second }
     ensures { IsLowered word first second result }
 {
-    if first < NO_SUM && second < NO_SUM {
-        word.min(cut(first + second))
+    let sum = first + second;
+    if sum < word && sum <= LARGEST {
+        sum.max(-LARGEST)
     } else {
         word
     }
@@ -158,6 +148,7 @@ fn lower_row(places: usize, m: &mut [i128], row: usize, first: i128, from: &[i12
     requires few { places ≤ 9 }
     requires width { length m.old ≡ places * places }
     requires row { row < places }
+    requires words { (j : ℕ) → j < places → IsWord (word places m.old row j) }
     requires first { IsPair first }
     requires room { places ≤ length from.now }
     requires from { (j : ℕ) → j < places → IsPair (slice_index_or from.now j (pos 0)) }
@@ -174,6 +165,7 @@ fn lower_row(places: usize, m: &mut [i128], row: usize, first: i128, from: &[i12
 fn lower_words(places: usize, m: &mut [i128], into: &[i128], from: &[i128])
     requires few { places ≤ 9 }
     requires width { length m.old ≡ places * places }
+    requires words { (i j : ℕ) → i < places → j < places → IsWord (word places m.old i j) }
     requires into_room { places ≤ length into.now }
     requires into { (j : ℕ) → j < places → IsPair (slice_index_or into.now j (pos 0)) }
     requires from_room { places ≤ length from.now }

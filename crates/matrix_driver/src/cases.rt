@@ -62,7 +62,7 @@ fn row_closed(at: usize, numbers: &[i128]) -> Option<Answer>
     if numbers.len() != 99 {
         return None;
     }
-    let m = matrix_of(&numbers[..81]);
+    let m = matrix_of(numbers);
     row_case(&m, at, &numbers[81..90], &numbers[90..])
 }
 

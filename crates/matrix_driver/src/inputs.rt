@@ -70,9 +70,9 @@ fn put(m: &mut [i128; 81], row: usize, column: usize, number: i128)
     }
 }
 
-/// The matrix with these words. Those that no word can be are none.
+/// The matrix with the first 81 words. Those that no word can be are none.
 pub fn matrix_of(numbers: &[i128]) -> [i128; 81]
-    requires { length numbers.now ≡ 81 }
+    requires { 81 ≤ length numbers.now }
     ensures { IsMatrix 8 result }
 {
     let mut words = no_bounds();
@@ -117,7 +117,7 @@ impl Input {
             return None;
         }
         let form = lin_scale(&form_of(&numbers[81..]), 1)?;
-        let words = matrix_of(&numbers[..81]);
+        let words = matrix_of(numbers);
         Some(Input { words, form })
     }
 }

@@ -1,4 +1,4 @@
-use Rattle.std.proofs.Common.{◌+◌, ℕ, pos, get_or, refl, arith}
+use Rattle.std.proofs.Common.{pos, get_or, refl, arith}
 use Rattle.diff_bounds.specs.Matrix.{word}
 use Rattle.closed_matrices.proofs.RowSums.{least_over_none, least_over_more}
 use Rattle.closed_matrices.proofs.one_row.sums_into.Goals as goal
