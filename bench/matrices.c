@@ -41,14 +41,34 @@ static uint64_t next(void) {
     return state;
 }
 
-static void make(wide *m, int shape) {
+static wide bound(uint64_t base, int i, int j) {
+    return (wide)(base >> i) - (wide)(base >> j) + (wide)(next() >> 5);
+}
+
+static uint64_t make(wide *m, int shape) {
     for (int k = 0; k < WORDS; k++) m[k] = none;
     for (int i = 0; i < PLACES; i++) m[i * PLACES + i] = 0;
     uint64_t base = next();
     for (int i = 0; i < PLACES; i++)
         for (int j = 0; j < PLACES; j++)
             if (i != j && (shape == DENSE || i + 1 == j || j + 1 == i))
-                m[i * PLACES + j] = (wide)(base >> i) - (wide)(base >> j) + (wide)(next() >> 5);
+                m[i * PLACES + j] = bound(base, i, j);
+    return base;
+}
+
+static void lower(wide *word, wide most) {
+    if (most < *word) *word = most;
+}
+
+// closes the matrix, and lowers the words of one row and of its column
+static void change(wide *m, uint64_t base) {
+    int at = (int)(next() % PLACES);
+    close_matrix(PLACES, m);
+    for (int k = 0; k < PLACES; k++) {
+        if (k == at) continue;
+        lower(&m[at * PLACES + k], bound(base, at, k));
+        lower(&m[k * PLACES + at], bound(base, k, at));
+    }
 }
 
 static long long nanoseconds(void) {
@@ -67,12 +87,15 @@ static void print_number(wide z) {
     print_decimal(z < 0 ? -(size)z : (size)z);
 }
 
-static void measure(const char *name, int shape, unsigned turns) {
+static void measure(const char *name, int shape, int changed, unsigned turns) {
     static wide matrices[INPUTS][WORDS];
+    static uint64_t bases[INPUTS];
     wide words[WORDS];
     size all = 0, sum = 0;
     state = 88172645463325252u;
-    for (int k = 0; k < INPUTS; k++) make(matrices[k], shape);
+    for (int k = 0; k < INPUTS; k++) bases[k] = make(matrices[k], shape);
+    state = 88172645463325252u;
+    for (int k = 0; changed && k < INPUTS; k++) change(matrices[k], bases[k]);
     for (int k = 0; k < INPUTS; k++) {
         memcpy(words, matrices[k], sizeof words);
         if (close_matrix(PLACES, words))
@@ -98,7 +121,8 @@ int main(int argc, char **argv) {
     largest = 1;
     for (int k = 0; k < 37; k++) largest *= 10;
     none = largest * 10;
-    measure("dense", DENSE, turns);
-    measure("chain", CHAIN, turns);
+    measure("dense", DENSE, 0, turns);
+    measure("chain", CHAIN, 0, turns);
+    measure("row", DENSE, 1, turns);
     return 0;
 }

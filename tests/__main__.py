@@ -3,9 +3,9 @@
 A module each has the cases of a kind: `reference` those that were worked out by an independent program, `sample` those
 around the sample certificate, `analysed` reports of `analyse` that were worked out by hand, `analyses` sources that an
 independent program looked at, `programs` small programs by subject, `calls` the calls of libraries, `ranges` those that
-work with ranges of numbers, `edges` those with edges of control graphs and `slow` the comparison of the interpreter with
-the plain slow step. The last four need programs of their own, which the gate builds: without them their cases are left
-out, which is told, and is a failure where the word is `--all`.
+work with ranges of numbers, `matrices` those with matrices and forms, `edges` those with edges of control graphs and
+`slow` the comparison of the interpreter with the plain slow step. The last five need programs of their own, which the gate
+builds: without them their cases are left out, which is told, and is a failure where the word is `--all`.
 """
 
 import itertools
@@ -13,12 +13,15 @@ import sys
 from concurrent.futures import ThreadPoolExecutor
 from os import cpu_count
 
-from tests import analysed, analyses, built, calls, edges, programs, ranges, reference, sample, slow
+from tests import analysed, analyses, built, calls, edges, matrices, programs, ranges, reference, sample, slow
+
+# These need programs of their own.
+DRIVEN = (calls, ranges, matrices, edges, slow)
 
 
 def missing():
     """The kinds whose programs aren't built, with a line for each."""
-    for kind in (calls, ranges, edges, slow):
+    for kind in DRIVEN:
         for crate in kind.PROGRAMS:
             if built.program(crate) is None:
                 yield kind, f"{crate} isn't built: the cases of `{kind.__name__}` are left out"
@@ -31,8 +34,7 @@ def main():
         print(line)
     if lacking and "--all" in sys.argv[1:]:
         return 1
-    all_kinds = (reference, sample, analysed, analyses, programs, calls, ranges, edges, slow)
-    kinds = [kind for kind in all_kinds if kind not in lacking]
+    kinds = [kind for kind in (reference, sample, analysed, analyses, programs, *DRIVEN) if kind not in lacking]
     checks = itertools.chain.from_iterable(kind.checks() for kind in kinds)
     with ThreadPoolExecutor(cpu_count()) as pool:
         told = list(pool.map(lambda check: check(), checks))

@@ -1,8 +1,10 @@
 //! Pseudorandom matrices.
-ghost use Rattle.std.specs.Prelude.{◌≡◌, ◌+◌, ◌<◌, ◌^◌, ◌≤ℤ◌, ◌<ℤ◌, pos, neg_ℤ};
-ghost use Rattle.diff_bounds.specs.Matrix.{IsMatrix};
+ghost use Rattle.std.specs.Prelude.{◌≡◌, ◌≢◌, ◌⊎◌, ◌+◌, ◌<◌, ◌≤◌, ◌^◌, ◌≤ℤ◌, ◌<ℤ◌, pos, neg_ℤ};
+ghost use Rattle.diff_bounds.specs.Matrix.{word, IsMatrix};
+ghost use Rattle.closed_matrices.specs.Settled.{IsTightBut};
 
-use diff_bounds::add_bound;
+use closed_matrices::{closed_words_are_tight, settled};
+use diff_bounds::{add_bound, close};
 
 const NONE: i128 = 100_000_000_000_000_000_000_000_000_000_000_000_000;
 
@@ -10,7 +12,19 @@ const NONE: i128 = 100_000_000_000_000_000_000_000_000_000_000_000_000;
 #[derive(Clone, Copy)]
 pub struct Matrix {
     pub words: [i128; 81],
+    // the places' heights are cut out of it
+    base: u64,
     ghost is_matrix: { IsMatrix 8 words },
+}
+
+/// The words of a closed matrix, of which those of one row and of its column were lowered.
+#[derive(Clone, Copy)]
+pub struct Changed {
+    pub words: [i128; 81],
+    pub at: usize,
+    ghost is_matrix: { IsMatrix 8 words },
+    ghost is_place: { at ≤ 8 },
+    ghost is_tight: { IsTightBut 9 at (word 9 words) },
 }
 
 /// Which words are bounds.
@@ -38,6 +52,23 @@ fn no_bounds() -> [i128; 81]
     words
 }
 
+// lowers a word of one row or of its column
+#[tactic(auto, using(closed_matrices::proofs::Tight::tight_but_one))]
+fn lower(m: &mut [i128; 81], at: usize, row: usize, column: usize, most: i128)
+    requires matrix { IsMatrix 8 m.old }
+    requires tight { IsTightBut 9 at (word 9 m.old) }
+    requires row { row < 9 }
+    requires column { column < 9 }
+    requires different { row ≢ column }
+    requires one { (row ≡ at) ⊎ (column ≡ at) }
+    requires low { neg_ℤ (pos (2 ^ 64)) <ℤ most }
+    requires high { most <ℤ pos (2 ^ 65) }
+    ensures matrix { IsMatrix 8 m.new }
+    ensures tight { IsTightBut 9 at (word 9 m.new) }
+{
+    add_bound(8, m, row, column, most);
+}
+
 fn is_bound(shape: Shape, row: usize, column: usize) -> bool {
     match shape {
         Shape::Dense => true,
@@ -52,7 +83,7 @@ impl Numbers {
         }
     }
 
-    fn next(&mut self) -> u64 {
+    pub(super) fn next(&mut self) -> u64 {
         self.state ^= self.state << 13;
         self.state ^= self.state >> 7;
         self.state ^= self.state << 17;
@@ -83,6 +114,40 @@ impl Numbers {
                 }
             }
         }
-        Matrix { words }
+        Matrix { words, base }
+    }
+
+    // lowers words of the row and of the column of a place
+    fn lower_row(&mut self, m: &mut [i128; 81], base: u64, at: usize)
+        requires matrix { IsMatrix 8 m.old }
+        requires tight { IsTightBut 9 at (word 9 m.old) }
+        requires at { at < 9 }
+        ensures matrix { IsMatrix 8 m.new }
+        ensures tight { IsTightBut 9 at (word 9 m.new) }
+    {
+        for place in 0..9usize {
+            if place != at {
+                let most = self.bound(base, at, place);
+                lower(m, at, at, place, most);
+                let most_back = self.bound(base, place, at);
+                lower(m, at, place, at, most_back);
+            }
+        }
+    }
+
+    /// The matrix closed, and then changed; nothing where it has no closure that is settled.
+    pub(super) fn changed(&mut self, matrix: &Matrix, at: usize) -> Option<Changed>
+        requires { at < 9 }
+    {
+        let mut words = matrix.words;
+        if !close(8, &mut words) {
+            return None;
+        }
+        if !settled(8, &words) {
+            return None;
+        }
+        closed_words_are_tight(8);
+        self.lower_row(&mut words, matrix.base, at);
+        Some(Changed { words, at })
     }
 }

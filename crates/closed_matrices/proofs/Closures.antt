@@ -1,20 +1,20 @@
 -- The closure exists, and is one.
-use Rattle.std.proofs.Common.{◌≡◌, ◌≢◌, ℕ, zero, suc, ◌+◌, ◌-◌, ◌*◌, ◌/◌, ◌%◌, ◌^◌, ◌<◌, ◌≤◌, Bool, true, false, cond, ◌&&◌, List, [], ◌∷◌, length, get_or, ℤ, pos, neg_ℤ, ◌+ℤ◌, ◌≤ℤ◌, ◌<ℤ◌, Option, Some, None, ◌⊎◌, inl, inr, refl, sym, ap, subst, ◌∙◌, arith}
+use Rattle.std.proofs.Common.{◌≡◌, ℕ, zero, suc, ◌+◌, ◌*◌, ◌/◌, ◌%◌, ◌<◌, ◌≤◌, true, false, List, length, get_or, ℤ, pos, ◌+ℤ◌, ◌≤ℤ◌, ◌<ℤ◌, Option, Some, None, ◌⊎◌, inl, inr, refl, sym, ap, subst, ◌∙◌, arith}
 use Rattle.std.specs.Prelude.{int_lt, int_le}
 use Rattle.std.specs.Int.{int_min}
-use Rattle.std.proofs.lemmas.Int.{ints, clamps, by_lt_z}
+use Rattle.std.proofs.lemmas.Int.{ints, by_lt_z}
 use Rattle.std.proofs.lemmas.Bool.{cases_eq, cases_Bool, and_parts, and_cases}
 use Rattle.std.proofs.lemmas.Nat.{div-mul-add, mod-mul-add, div-add-mod', mod_below, div_below}
 use Rattle.std.proofs.lemmas.List.FromFn.{fill_by_all, get_or-map-range_with_len, length-map-range_with_len}
-use Rattle.diff_bounds.specs.Matrix.{word, none, largest, IsBound, IsWord, IsMatrix}
-use Rattle.diff_bounds.specs.Paths.{path_sum, IsPath, cut_of, HasNoNegativeCycle, IsLeastSum, IsClosure}
-use Rattle.diff_bounds.specs.Sums.{no_path, IsSum, IsShort, IsSumOf, IsLesser, IsThrough, IsTight, AreShort, NegativeCycle, IsNegativeTrip}
+use Rattle.diff_bounds.specs.Matrix.{word, none, IsWord, IsMatrix}
+use Rattle.diff_bounds.specs.Paths.{cut_of, HasNoNegativeCycle, IsLeastSum, IsClosure}
+use Rattle.diff_bounds.specs.Sums.{no_path, IsSum, IsSumOf, IsLesser, IsThrough, IsTight, AreShort, NegativeCycle, IsNegativeTrip}
 use Rattle.closed_matrices.specs.Closed.{opened, lesser, through, is_tame, if_tame, sums_further, sums_through, cut_sums, closed, IsClosed, IsClosedOrNone}
 use Rattle.diff_bounds.specs.Lattice.{matrix_of}
 use Rattle.diff_bounds.proofs.Walks.{AreWords}
 use Rattle.diff_bounds.proofs.Places.{place_fits}
 use Rattle.diff_bounds.proofs.Tightness.{AreOpened, tight_first, short_first}
-use Rattle.diff_bounds.proofs.Steps.{lesser_of, tight_again, short_after, negative_cycle, no_cycle, closure_of, cut_monotone, cut_is_word, cut_zero}
+use Rattle.diff_bounds.proofs.Steps.{lesser_of, tight_again, short_after, negative_cycle, no_cycle, closure_of, cut_is_word, cut_zero}
 use Rattle.diff_bounds.proofs.Ends.{words_of}
 
 -- ---- one sum

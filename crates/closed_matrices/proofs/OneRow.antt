@@ -1,16 +1,16 @@
 -- The closure of a matrix that is tight but for one row and its column.
-use Rattle.std.proofs.Common.{◌≡◌, ◌≢◌, ℕ, ◌+◌, ◌*◌, ◌/◌, ◌%◌, ◌^◌, ◌<◌, ◌≤◌, List, [], ◌∷◌, length, get_or, ℤ, pos, neg_ℤ, ◌+ℤ◌, ◌≤ℤ◌, ◌<ℤ◌, ◌⊎◌, inl, inr, refl, sym, ap, subst, ◌∙◌, arith}
+use Rattle.std.proofs.Common.{◌≡◌, ℕ, ◌+◌, ◌*◌, ◌/◌, ◌%◌, ◌^◌, ◌<◌, ◌≤◌, List, [], ◌∷◌, length, get_or, ℤ, pos, ◌+ℤ◌, ◌≤ℤ◌, ◌<ℤ◌, ◌⊎◌, inl, inr, sym, ap, subst, ◌∙◌, arith}
 use Rattle.std.proofs.lemmas.Int.{ints, clamps, by_lt_z}
 use Rattle.std.proofs.lemmas.Bool.{cases_eq}
 use Rattle.std.proofs.lemmas.Nat.{div-add-mod', mod_below, div_below}
-use Rattle.diff_bounds.specs.Matrix.{word, none, largest, IsBound, IsWord, IsMatrix}
+use Rattle.diff_bounds.specs.Matrix.{word, largest, IsBound, IsWord, IsMatrix}
 use Rattle.diff_bounds.specs.Paths.{path_sum, IsPath, AreBounds, AreBelow, cut_of, HasNoNegativeCycle, IsClosure}
-use Rattle.diff_bounds.specs.Sums.{no_path, IsSum, NegativeCycle}
+use Rattle.diff_bounds.specs.Sums.{NegativeCycle}
 use Rattle.diff_bounds.proofs.Walks.{AreWords}
 use Rattle.diff_bounds.proofs.Steps.{cut_monotone, cut_is_word}
 use Rattle.diff_bounds.proofs.Ends.{words_of}
 use Rattle.closed_matrices.specs.Settled.{IsTightBut}
-use Rattle.closed_matrices.specs.Rows.{IsSumOver, IsLeastOver, AreInto, AreFrom, IsNegativeAt, IsLowered, AreLowered}
+use Rattle.closed_matrices.specs.Rows.{IsSum, AreInto, AreFrom, IsNegativeAt, AreLowered}
 
 cut_same : (z : ℤ) → IsWord z → IsBound z → cut_of z ≡ z
 cut_same z word b = let high : z ≤ℤ largest = word.high b in let low = word.low in grind (arith, ints, clamps)

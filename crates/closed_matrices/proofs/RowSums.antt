@@ -1,15 +1,14 @@
 -- Sums over one place more, and rows lowered in place.
-use Rattle.std.proofs.Common.{◌≡◌, ◌≢◌, ℕ, ◌+◌, ◌*◌, ◌^◌, ◌<◌, ◌≤◌, List, length, get_or, set, ℤ, pos, neg_ℤ, ◌+ℤ◌, ◌≤ℤ◌, ◌<ℤ◌, ◌⊎◌, inl, inr, refl, sym, subst, ◌∙◌, arith}
-use Rattle.std.specs.Int.{int_min}
+use Rattle.std.proofs.Common.{◌≡◌, ◌≢◌, ℕ, ◌+◌, ◌*◌, ◌^◌, ◌<◌, ◌≤◌, List, length, get_or, set, ℤ, pos, neg_ℤ, ◌+ℤ◌, ◌≤ℤ◌, ◌<ℤ◌, ◌⊎◌, inl, inr, sym, subst, ◌∙◌, arith}
+use Rattle.std.specs.Int.{int_max, int_min}
 use Rattle.std.proofs.lemmas.Int.{ints, clamps, by_lt_z}
 use Rattle.std.proofs.lemmas.Bool.{cases_eq}
 use Rattle.std.proofs.lemmas.List.{get_or-set_other}
 use Rattle.std.proofs.lemmas.Grind.{get_or-set_at}
-use Rattle.diff_bounds.specs.Matrix.{word, IsBound, IsWord}
+use Rattle.diff_bounds.specs.Matrix.{word, none, largest, IsBound, IsWord}
 use Rattle.diff_bounds.specs.Paths.{cut_of}
-use Rattle.diff_bounds.specs.Sums.{no_path, IsSum}
 use Rattle.diff_bounds.proofs.Places.{word-set_same, word-set_other}
-use Rattle.closed_matrices.specs.Rows.{IsPair, IsBetter, IsSumOver, IsLeastOver, IsNegative, IsLowered}
+use Rattle.closed_matrices.specs.Rows.{no_sum, IsSum, IsPair, IsBetter, IsSumOver, IsLeastOver, IsNegative, IsLowered}
 
 -- ---- one step
 pub better_of : (best first second x : ℤ) → IsBound first → IsBound second → x ≡ int_min best (first +ℤ second) → IsBetter best first second x
@@ -21,20 +20,65 @@ better_of best first second x h k e = record {
       (λ (le : best ≤ℤ (first +ℤ second)). inl (omega (arith, ints, clamps)));
 }
 
-pub lowered_of : (word first second sum x : ℤ) → IsSum first → IsSum second → sum ≡ cut_of (first +ℤ second) → x ≡ int_min word sum → IsLowered word first second x
-lowered_of word first second sum x h k is e = record {
-  kept = omega (arith, ints, clamps);
-  lowered = λ s t. let less : x ≤ℤ sum = omega (arith, ints, clamps) in subst (λ (z : ℤ). x ≤ℤ z) is less;
-  one = by_lt_z sum word
-      (λ (lt : sum <ℤ word). inr (h, k, let same : x ≡ sum = omega (arith, ints, clamps) in same ∙ is))
-      (λ (le : word ≤ℤ sum). inl (omega (arith, ints, clamps)));
+-- a sum with none is greater than the best one
+pub better_if : (best number word x : ℤ) → best ≤ℤ no_sum → IsWord number → IsBound number → IsWord word → x ≡ int_min best (number +ℤ word) → IsBetter best number word x
+better_if best number word x top is b one e = by_lt_z word none
+    (λ (lt : word <ℤ none). better_of best number word x b lt e)
+    (λ (le : none ≤ℤ word). let low = is.low in record {
+      kept = omega (arith, ints, clamps);
+      lowered = λ f g. absurd (omega (arith, ints, g, le));
+      one = inl (omega (arith, ints, clamps, top, low, le, e));
+    })
+
+-- the other way round
+pub better_swapped : (best first second x : ℤ) → IsBetter best first second x → IsBetter best second first x
+better_swapped best first second x are = record {
+  kept = are.kept;
+  lowered = λ b d. let low : x ≤ℤ (first +ℤ second) = are.lowered d b in omega (arith, ints, low);
+  one = by_one are.one;
+}
+  where
+    by_one : (x ≡ best) ⊎ (IsBound first × IsBound second × (x ≡ first +ℤ second)) → (x ≡ best) ⊎ (IsBound second × IsBound first × (x ≡ second +ℤ first))
+    by_one (inl e) = inl e
+    by_one (inr (b, d, e)) = inr (d, b, omega (arith, ints, e))
+
+-- a word of none makes no sum
+pub better_none : (best number word x : ℤ) → none ≤ℤ number → x ≡ best → IsBetter best number word x
+better_none best number word x h e = record { kept = omega (arith, ints, e); lowered = λ b d. absurd (omega (arith, ints, b, h)); one = inl e }
+
+-- one of them is no sum, or both are
+sums_of : (first second : ℤ) → IsPair first → IsPair second → (first +ℤ second) ≤ℤ largest → IsSum first × IsSum second
+sums_of first second p q small = (
+  by_lt_z first no_sum (λ (lt : first <ℤ no_sum). lt) (λ (le : no_sum ≤ℤ first). absurd (let low = q.low in omega (arith, ints, low, le, small))),
+  by_lt_z second no_sum (λ (lt : second <ℤ no_sum). lt) (λ (le : no_sum ≤ℤ second). absurd (let low = p.low in omega (arith, ints, low, le, small))),
+)
+
+pub lowered_by : (word first second sum x : ℤ) → IsWord word → IsPair first → IsPair second → sum ≡ first +ℤ second → sum <ℤ word → sum ≤ℤ largest → x ≡ int_max sum (neg_ℤ largest) → IsLowered word first second x
+lowered_by word first second sum x is p q e less small f =
+    let both = sums_of first second p q (omega (arith, ints, e, small)) in
+    let same : x ≡ cut_of (first +ℤ second) = grind (arith, ints, clamps) in
+    record {
+      kept = let low = is.low in omega (arith, ints, clamps, f, less, low);
+      lowered = λ s t. let z = same in omega (arith, ints, z);
+      one = inr (both.0, both.1, same);
+    }
+
+pub lowered_not : (word first second sum x : ℤ) → IsWord word → sum ≡ first +ℤ second → (sum <ℤ word → sum ≤ℤ largest → ⊥) → x ≡ word → IsLowered word first second x
+lowered_not word first second sum x is e high f = record {
+  kept = omega (arith, ints, f);
+  lowered = λ s t. by_lt_z largest sum
+      (λ (lt : largest <ℤ sum). let top = is.top in let cut : cut_of (first +ℤ second) ≡ none = grind (arith, ints, clamps) in omega (arith, ints, f, top, cut))
+      (λ (le : sum ≤ℤ largest). by_lt_z sum word
+          (λ (lt : sum <ℤ word). absurd (high lt le))
+          (λ (above : word ≤ℤ sum). let cut : sum ≤ℤ cut_of (first +ℤ second) = grind (arith, ints, clamps) in omega (arith, ints, f, above, cut)));
+  one = inl f;
 }
 
 pub negative_along : (x y z v : ℤ) → z ≡ x → v ≡ y → IsNegative z v → IsNegative x y
 negative_along x y z v e f is = subst (λ (s : ℤ). IsNegative x s) f (subst (λ (s : ℤ). IsNegative s v) e is)
 
 -- ---- over one place more
-pub least_over_none : (w : ℕ → ℕ → ℤ) (i j : ℕ) (x : ℤ) → x ≡ no_path → IsLeastOver 0 w i j x
+pub least_over_none : (w : ℕ → ℕ → ℤ) (i j : ℕ) (x : ℤ) → x ≡ no_sum → IsLeastOver 0 w i j x
 least_over_none w i j x e = record {
   least = λ k h. absurd (omega arith);
   one = λ s. absurd (omega (arith, ints));
@@ -77,17 +121,25 @@ least_over_more w i j count best first second x best2 p q e f g are better = rec
         let z : w count j ≤ℤ pos (10 ^ 37) = q.high (subst (λ (z : ℤ). IsBound z) g d) in
         omega (arith, ints, sum, y, z)
 
--- ---- sums put down one by one
--- those before this place are there
-pub record ArePut (R : ℕ → ℤ → Type 0) (count : ℕ) (sums : List ℤ) : Type 0 where
-  pub put : (k : ℕ) → k < count → R k (get_or sums k (pos 0))
+pub better_along : (best first second x best2 first2 second2 x2 : ℤ) → best2 ≡ best → first2 ≡ first → second2 ≡ second → x2 ≡ x → IsBetter best2 first2 second2 x → IsBetter best first second x2
+better_along best first second x best2 first2 second2 x2 e f g h are =
+    subst (λ (z : ℤ). IsBetter z first second x2) e
+    (subst (λ (z : ℤ). IsBetter best2 z second x2) f
+    (subst (λ (z : ℤ). IsBetter best2 first2 z x2) g
+    (subst (λ (z : ℤ). IsBetter best2 first2 second2 z) (sym h) are)))
 
-pub put_more : (R : ℕ → ℤ → Type 0) (count : ℕ) (sums : List ℤ) (x : ℤ) → count < length sums → R count x → ArePut R count sums → ArePut R (count + 1) (set sums count x)
-put_more R count sums x h r are = record {
-  put = λ k l. elim (cases_eq k count) as (λ _. R k (get_or (set sums count x) k (pos 0))) [
-    | inl e ↦ subst (λ (z : ℤ). R k z) (sym (get_or-set_at sums count k x (pos 0) e h)) (subst (λ (v : ℕ). R v x) (sym e) r)
-    | inr ne ↦ subst (λ (z : ℤ). R k z) (sym (get_or-set_other sums count k x (pos 0) ne)) (are.put k (omega arith))
+-- the sums before this place are lowered
+pub record SumsLowered (R : ℕ → ℤ → ℤ → Type 0) (count : ℕ) (old sums : List ℤ) : Type 0 where
+  pub done : (k : ℕ) → k < count → R k (get_or old k (pos 0)) (get_or sums k (pos 0))
+  pub left : (k : ℕ) → count ≤ k → get_or sums k (pos 0) ≡ get_or old k (pos 0)
+
+pub sums_more : (R : ℕ → ℤ → ℤ → Type 0) (count : ℕ) (old sums : List ℤ) (x : ℤ) → count < length sums → R count (get_or old count (pos 0)) x → SumsLowered R count old sums → SumsLowered R (count + 1) old (set sums count x)
+sums_more R count old sums x h r are = record {
+  done = λ k l. elim (cases_eq k count) as (λ _. R k (get_or old k (pos 0)) (get_or (set sums count x) k (pos 0))) [
+    | inl e ↦ subst (λ (z : ℤ). R k (get_or old k (pos 0)) z) (sym (get_or-set_at sums count k x (pos 0) e h)) (subst (λ (v : ℕ). R v (get_or old v (pos 0)) x) (sym e) r)
+    | inr ne ↦ subst (λ (z : ℤ). R k (get_or old k (pos 0)) z) (sym (get_or-set_other sums count k x (pos 0) ne)) (are.done k (omega arith))
   ];
+  left = λ k l. get_or-set_other sums count k x (pos 0) (λ e. absurd (omega arith)) ∙ are.left k (omega arith);
 }
 
 -- ---- a row lowered

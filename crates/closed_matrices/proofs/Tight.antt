@@ -1,5 +1,5 @@
 -- In a closure that is settled no word is above the sum of two words.
-use Rattle.std.proofs.Common.{◌≡◌, ◌≢◌, ℕ, ◌+◌, ◌*◌, ◌^◌, ◌<◌, List, ◌∷◌, ◌++◌, length, ℤ, pos, neg_ℤ, ◌+ℤ◌, ◌≤ℤ◌, sym, ap, subst, ◌∙◌, arith}
+use Rattle.std.proofs.Common.{◌≡◌, ◌≢◌, ℕ, ◌+◌, ◌*◌, ◌^◌, ◌<◌, ◌≤◌, List, ◌∷◌, ◌++◌, ℤ, pos, neg_ℤ, ◌+ℤ◌, ◌≤ℤ◌, ◌⊎◌, inl, inr, ap, subst, ◌∙◌, arith}
 use Rattle.std.proofs.lemmas.Int.{ints, clamps}
 use Rattle.diff_bounds.specs.Matrix.{word, IsBound, IsMatrix}
 use Rattle.diff_bounds.specs.Paths.{path_sum, IsPath, cut_of, IsClosure}
@@ -38,3 +38,22 @@ tight_of_closure size m c is closure settled at = record {
       (settled.words (i * (size + 1) + k) (omega (arith, is.width, place_fits (size + 1) i k h l)))
       (settled.words (k * (size + 1) + j) (omega (arith, is.width, place_fits (size + 1) k j l g))) b d;
 }
+
+-- ---- where words of one row and of its column have changed
+pub tight_beside : (n at : ℕ) (old new : ℕ → ℕ → ℤ) → ((i j : ℕ) → i < n → j < n → i ≢ at → j ≢ at → new i j ≡ old i j) → IsTightBut n at old → IsTightBut n at new
+tight_beside n at old new same tight = record {
+  triangle = λ i j k h g l ne apart third b d.
+      let x = same i j h g ne apart in
+      let y = same i k h l ne third in
+      let z = same k j l g third apart in
+      let less : old i j ≤ℤ (old i k +ℤ old k j) = tight.triangle i j k h g l ne apart third (subst (λ (v : ℤ). IsBound v) y b) (subst (λ (v : ℤ). IsBound v) z d) in
+      omega (arith, ints, less, x, y, z);
+}
+
+-- one word has changed
+pub tight_but_one : (size at row column : ℕ) (old new : ℕ → ℕ → ℤ) → ((i j : ℕ) → i ≤ size → j ≤ size → (i ≢ row) ⊎ (j ≢ column) → new i j ≡ old i j) → (row ≡ at) ⊎ (column ≡ at) → IsTightBut (size + 1) at old → IsTightBut (size + 1) at new
+tight_but_one size at row column old new others one tight = tight_beside (size + 1) at old new (λ i j h g ne apart. same i j h g ne apart one) tight
+  where
+    same : (i j : ℕ) → i < size + 1 → j < size + 1 → i ≢ at → j ≢ at → (row ≡ at) ⊎ (column ≡ at) → new i j ≡ old i j
+    same i j h g ne apart (inl e) = others i j (omega arith) (omega arith) (inl (λ f. ne (f ∙ e)))
+    same i j h g ne apart (inr e) = others i j (omega arith) (omega arith) (inr (λ f. apart (f ∙ e)))

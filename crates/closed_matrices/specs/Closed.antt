@@ -1,5 +1,5 @@
 -- The closing of a matrix as a function: its closure, or nothing where a cycle is negative (Floyd 1962, Warshall 1962).
-use Rattle.std.specs.Prelude.{◌≡◌, ℕ, zero, suc, ◌+◌, ◌/◌, ◌%◌, Bool, true, ◌&&◌, if◌then◌else◌, List, ℤ, pos, ◌+ℤ◌, int_lt, int_le, Option, Some, None}
+use Rattle.std.specs.Prelude.{ℕ, zero, suc, ◌+◌, ◌/◌, ◌%◌, Bool, true, ◌&&◌, if◌then◌else◌, List, ℤ, pos, ◌+ℤ◌, int_lt, int_le, Option, Some, None}
 use Rattle.std.specs.Int.{int_min}
 use Rattle.diff_bounds.specs.Matrix.{word, none, IsMatrix}
 use Rattle.diff_bounds.specs.Paths.{cut_of, IsClosure, HasNoNegativeCycle}

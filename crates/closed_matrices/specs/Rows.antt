@@ -1,15 +1,20 @@
 -- Sums on the way to the closure of a matrix of which one row and its column have changed. They are kept whole,
--- and the last number of 128 bits stands for no sum.
+-- and a number that is greater than each sum of two numbers stands for no sum.
 use Rattle.std.specs.Prelude.{◌≡◌, ◌⊎◌, ℕ, ◌*◌, ◌^◌, ◌<◌, List, ℤ, pos, neg_ℤ, ◌+ℤ◌, ◌≤ℤ◌, ◌<ℤ◌, slice_index_or}
 use Rattle.diff_bounds.specs.Matrix.{word, IsBound}
 use Rattle.diff_bounds.specs.Paths.{cut_of}
-use Rattle.diff_bounds.specs.Sums.{no_path, IsSum}
+
+abbrev pub no_sum : ℤ
+no_sum = pos (5 * 10 ^ 37)
+
+abbrev pub IsSum : ℤ → Type 0
+IsSum x = x <ℤ no_sum
 
 -- no sum, or one of two words
 pub record IsPair (x : ℤ) : Type 0 where
   pub low : neg_ℤ (pos (2 * 10 ^ 37)) ≤ℤ x
   pub high : IsSum x → x ≤ℤ pos (2 * 10 ^ 37)
-  pub top : x ≤ℤ no_path
+  pub top : x ≤ℤ no_sum
 
 -- the lesser of the best sum so far and the sum of two words
 pub record IsBetter (best first second x : ℤ) : Type 0 where

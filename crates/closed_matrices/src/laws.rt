@@ -1,5 +1,5 @@
 //! What follows for all matrices.
-ghost use Rattle.std.specs.Prelude.{◌≡◌, ℕ, ◌+◌, ◌≤◌, List, ℤ, Some, None};
+ghost use Rattle.std.specs.Prelude.{◌≡◌, ◌≢◌, ℕ, ◌+◌, ◌<◌, ◌≤◌, List, ℤ, Some, None};
 ghost use Rattle.diff_bounds.specs.Matrix.{word, IsMatrix};
 ghost use Rattle.diff_bounds.specs.Paths.{HasNoNegativeCycle, IsClosure};
 ghost use Rattle.closed_matrices.specs.Closed.{closed, IsClosed, IsClosedOrNone};
@@ -30,4 +30,11 @@ pub fn closures_are_closings(size: usize)
 pub fn closed_words_are_tight(size: usize)
     ensures { (m c : List ℤ) → IsMatrix size c → IsClosure (size + 1) (word (size + 1) m) (word (size + 1) c)
         → IsSettled c → (at : ℕ) → IsTightBut (size + 1) at (word (size + 1) c) }
+{}
+
+/// A matrix in which words of one row and of its column alone have changed stays tight but for that row.
+pub fn matrices_stay_tight_beside_a_row(size: usize)
+    ensures { (at : ℕ) (old new : ℕ → ℕ → ℤ)
+        → ((i j : ℕ) → i < size + 1 → j < size + 1 → i ≢ at → j ≢ at → new i j ≡ old i j)
+        → IsTightBut (size + 1) at old → IsTightBut (size + 1) at new }
 {}

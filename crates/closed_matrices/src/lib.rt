@@ -12,6 +12,7 @@ mod words;
 
 pub use laws::{
     closed_words_are_tight, closing_is_the_closure, closures_are_closings, closures_are_one,
+    matrices_stay_tight_beside_a_row,
 };
 pub use one_row::close_row;
 pub use sizes::settled;

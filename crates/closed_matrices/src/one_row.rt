@@ -1,50 +1,68 @@
 //! The closing of a matrix that is tight but for one row and its column.
-ghost use Rattle.std.specs.Prelude.{◌≡◌, ◌≢◌, ℕ, ◌+◌, ◌*◌, ◌<◌, ◌≤◌, ◌↔◌, length, pos, false, IsTrue, slice_index_or, if◌then◌else◌, ℤ, Option, Some, None};
-ghost use Rattle.diff_bounds.specs.Matrix.{word, IsMatrix, IsWord};
-ghost use Rattle.diff_bounds.specs.Paths.{cut_of, HasNoNegativeCycle, IsClosure};
+ghost use Rattle.std.specs.Prelude.{◌≡◌, ◌≢◌, ℕ, ◌+◌, ◌*◌, ◌<◌, ◌≤◌, ◌≤ℤ◌, ◌↔◌, length, pos, false, IsTrue, slice_index_or, if◌then◌else◌, ℤ, Option, Some, None};
+ghost use Rattle.diff_bounds.specs.Matrix.{word, IsMatrix, IsBound, IsWord};
+ghost use Rattle.diff_bounds.specs.Paths.{HasNoNegativeCycle, IsClosure};
 ghost use Rattle.diff_bounds.specs.Storages.{StandsIn};
 ghost use Rattle.closed_matrices.specs.Closed.{closed};
 ghost use Rattle.closed_matrices.specs.Settled.{IsTightBut};
-ghost use Rattle.closed_matrices.specs.Rows.{IsPair, IsBetter, IsLeastOver, AreInto, AreFrom, IsNegative, IsNegativeAt, IsLowered, AreLowered};
+ghost use Rattle.closed_matrices.specs.Rows.{no_sum, IsPair, IsBetter, AreInto, AreFrom, IsNegative, IsNegativeAt, IsLowered, AreLowered};
 
 use super::words::{LARGEST, NONE, place_of};
 
-// no sum
-const NO_SUM: i128 = i128::MAX;
+// No sum. It is less than what none and a number add up to.
+const NO_SUM: i128 = 50_000_000_000_000_000_000_000_000_000_000_000_000;
 
 // as many sums as a matrix can have rows
 type Sums = [i128; 9];
 
-// the lesser of the best sum so far and the sum of two words
+// the lesser of the best sum so far and the sum of two words; a sum with none is greater than every best one
 #[inline(always)]
-fn better(best: i128, first: i128, second: i128) -> i128
-    requires first { IsWord first }
-    requires second { IsWord second }
-    ensures { IsBetter best first second result }
+fn better(best: i128, number: i128, word: i128) -> i128
+    requires best { best ≤ℤ no_sum }
+    requires number { IsWord number }
+    requires bound { IsBound number }
+    requires word { IsWord word }
+    ensures { IsBetter best number word result }
 {
-    if first < NONE && second < NONE {
-        best.min(first + second)
-    } else {
-        best
-    }
+    best.min(number + word)
 }
 
-// the least sum of the words from a row to some place and from there to a column
-fn least_over(places: usize, m: &[i128], row: usize, column: usize) -> i128
+// lets the sums from each place to one go over one more place
+fn lower_into(places: usize, m: &[i128], at: usize, over: usize, sums: &mut [i128])
     requires few { places ≤ 9 }
     requires width { length m.now ≡ places * places }
     requires words { (i j : ℕ) → i < places → j < places → IsWord (word places m.now i j) }
-    requires row { row < places }
-    requires column { column < places }
-    ensures { IsLeastOver places (word places m.now) row column result }
+    requires at { at < places }
+    requires over { over < places }
+    requires room { places ≤ length sums.old }
+    requires sums { (i : ℕ) → i < places → slice_index_or sums.old i (pos 0) ≤ℤ no_sum }
+    ensures { (i : ℕ) → i < places → IsBetter (slice_index_or sums.old i (pos 0)) (word places m.now i over) (word places m.now over at) (slice_index_or sums.new i (pos 0)) }
 {
-    let mut best = NO_SUM;
-    for over in 0..places {
-        let first = m[place_of(places, row, over)];
-        let second = m[place_of(places, over, column)];
-        best = better(best, first, second);
+    let number = m[place_of(places, over, at)];
+    if number < NONE {
+        for row in 0..places {
+            sums[row] = better(sums[row], number, m[place_of(places, row, over)]);
+        }
     }
-    best
+}
+
+// lets the sums from one place to each go over one more place
+fn lower_from(places: usize, m: &[i128], at: usize, over: usize, sums: &mut [i128])
+    requires few { places ≤ 9 }
+    requires width { length m.now ≡ places * places }
+    requires words { (i j : ℕ) → i < places → j < places → IsWord (word places m.now i j) }
+    requires at { at < places }
+    requires over { over < places }
+    requires room { places ≤ length sums.old }
+    requires sums { (j : ℕ) → j < places → slice_index_or sums.old j (pos 0) ≤ℤ no_sum }
+    ensures { (j : ℕ) → j < places → IsBetter (slice_index_or sums.old j (pos 0)) (word places m.now at over) (word places m.now over j) (slice_index_or sums.new j (pos 0)) }
+{
+    let number = m[place_of(places, at, over)];
+    if number < NONE {
+        for column in 0..places {
+            sums[column] = better(sums[column], number, m[place_of(places, over, column)]);
+        }
+    }
 }
 
 // the least sums from each place to one
@@ -54,10 +72,11 @@ fn sums_into(places: usize, m: &[i128], at: usize, sums: &mut [i128])
     requires words { (i j : ℕ) → i < places → j < places → IsWord (word places m.now i j) }
     requires at { at < places }
     requires room { places ≤ length sums.old }
+    requires none { (i : ℕ) → i < places → slice_index_or sums.old i (pos 0) ≡ no_sum }
     ensures { AreInto places at (word places m.now) sums.new }
 {
-    for row in 0..places {
-        sums[row] = least_over(places, m, row, at);
+    for over in 0..places {
+        lower_into(places, m, at, over, sums);
     }
 }
 
@@ -68,10 +87,11 @@ fn sums_from(places: usize, m: &[i128], at: usize, sums: &mut [i128])
     requires words { (i j : ℕ) → i < places → j < places → IsWord (word places m.now i j) }
     requires at { at < places }
     requires room { places ≤ length sums.old }
+    requires none { (j : ℕ) → j < places → slice_index_or sums.old j (pos 0) ≡ no_sum }
     ensures { AreFrom places at (word places m.now) sums.new }
 {
-    for column in 0..places {
-        sums[column] = least_over(places, m, at, column);
+    for over in 0..places {
+        lower_from(places, m, at, over, sums);
     }
 }
 
@@ -107,27 +127,17 @@ fn is_negative_trip(places: usize, m: &[i128], at: usize, into: &[i128]) -> bool
     false
 }
 
-// a sum as a word
-#[inline(always)]
-fn cut(sum: i128) -> i128
-    ensures { result ≡ cut_of sum }
-{
-    if LARGEST < sum {
-        NONE
-    } else {
-        sum.max(-LARGEST)
-    }
-}
-
-// the lesser of the word and the cut of two sums
+// the lesser of the word and the cut of two sums; no sum and another one add up to more than a word can be
 #[inline(always)]
 fn lowered(word: i128, first: i128, second: i128) -> i128
+    requires word { IsWord word }
     requires first { IsPair first }
     requires second { IsPair second }
     ensures { IsLowered word first second result }
 {
-    if first < NO_SUM && second < NO_SUM {
-        word.min(cut(first + second))
+    let sum = first + second;
+    if sum < word && sum <= LARGEST {
+        sum.max(-LARGEST)
     } else {
         word
     }
@@ -138,6 +148,7 @@ fn lower_row(places: usize, m: &mut [i128], row: usize, first: i128, from: &[i12
     requires few { places ≤ 9 }
     requires width { length m.old ≡ places * places }
     requires row { row < places }
+    requires words { (j : ℕ) → j < places → IsWord (word places m.old row j) }
     requires first { IsPair first }
     requires room { places ≤ length from.now }
     requires from { (j : ℕ) → j < places → IsPair (slice_index_or from.now j (pos 0)) }
@@ -154,6 +165,7 @@ fn lower_row(places: usize, m: &mut [i128], row: usize, first: i128, from: &[i12
 fn lower_words(places: usize, m: &mut [i128], into: &[i128], from: &[i128])
     requires few { places ≤ 9 }
     requires width { length m.old ≡ places * places }
+    requires words { (i j : ℕ) → i < places → j < places → IsWord (word places m.old i j) }
     requires into_room { places ≤ length into.now }
     requires into { (j : ℕ) → j < places → IsPair (slice_index_or into.now j (pos 0)) }
     requires from_room { places ≤ length from.now }

@@ -1,8 +1,15 @@
-use Rattle.std.proofs.Common.{ℕ, pos, get_or, refl, ap, ◌∙◌, arith, rules}
+use Rattle.std.proofs.Common.{ℕ, ℤ, pos, get_or, refl, sym, ap, subst, ◌∙◌, arith, rules}
 use Rattle.std.specs.Int.{w128}
 use Rattle.std.proofs.lemmas.Int.{to_z-of_z}
+use Rattle.diff_bounds.specs.Matrix.{IsWord}
 use Rattle.closed_matrices.proofs.RowSums.{lowered_along, columns_more}
 use Rattle.closed_matrices.proofs.one_row.lower_row.Goals as goal
+
+pub lowered-requires-clause-word : goal.lowered-requires-clause-word
+lowered-requires-clause-word c =
+    let column = c.loop-column.column in
+    subst (λ (x : ℤ). IsWord x) (sym (to_z-of_z w128 _ (search rules) ∙ ap (λ (p : ℕ). get_or c.loop-column.m p (pos 0)) c.place_of-at.ensures.value ∙ c.loop-column.invariant.left column (omega arith) (omega arith)))
+    (c.requires.words column (omega arith))
 
 pub loop-column-preserved : goal.loop-column-preserved
 loop-column-preserved c =

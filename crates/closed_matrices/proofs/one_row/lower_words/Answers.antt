@@ -1,8 +1,14 @@
-use Rattle.std.proofs.Common.{refl, arith, rules}
+use Rattle.std.proofs.Common.{ℤ, refl, sym, subst, arith, rules}
 use Rattle.std.specs.Int.{w128}
 use Rattle.std.proofs.lemmas.Int.{to_z-of_z}
+use Rattle.diff_bounds.specs.Matrix.{IsWord}
 use Rattle.closed_matrices.proofs.RowSums.{lowered_along, rows_more}
 use Rattle.closed_matrices.proofs.one_row.lower_words.Goals as goal
+
+pub lower_row-requires-clause-words : goal.lower_row-requires-clause-words
+lower_row-requires-clause-words c j h =
+    let row = c.loop-row.row in
+    subst (λ (x : ℤ). IsWord x) (sym (c.loop-row.invariant.left row j (omega arith) (omega arith) h)) (c.requires.words row j (omega arith) h)
 
 pub loop-row-preserved : goal.loop-row-preserved
 loop-row-preserved c =

@@ -1,14 +1,17 @@
-use Rattle.std.proofs.Common.{ℕ, ℤ, sym, subst, arith, rules}
-use Rattle.std.specs.Int.{w128}
-use Rattle.std.proofs.lemmas.Int.{to_z-of_z}
+use Rattle.std.proofs.Common.{pos, get_or, refl, arith}
 use Rattle.diff_bounds.specs.Matrix.{word}
-use Rattle.closed_matrices.specs.Rows.{IsLeastOver}
-use Rattle.closed_matrices.proofs.RowSums.{put_more}
+use Rattle.closed_matrices.proofs.RowSums.{least_over_none, least_over_more}
 use Rattle.closed_matrices.proofs.one_row.sums_from.Goals as goal
 
-pub loop-column-preserved : goal.loop-column-preserved
-loop-column-preserved c =
+pub loop-over-init : goal.loop-over-init
+loop-over-init c j h = least_over_none (word c.args.places c.args.m.now) c.args.at j _ (c.requires.none j h)
+
+pub lower_from-requires-clause-sums : goal.lower_from-requires-clause-sums
+lower_from-requires-clause-sums c j h = (c.loop-over.invariant j h).pair.top
+
+pub loop-over-preserved : goal.loop-over-preserved
+loop-over-preserved c j h =
     let w = word c.args.places c.args.m.now in
-    put_more (λ (k : ℕ) (x : ℤ). IsLeastOver c.args.places w c.args.at k x) c.loop-column.column c.loop-column.sums _ (omega arith)
-    (subst (λ (x : ℤ). IsLeastOver c.args.places w c.args.at c.loop-column.column x) (sym (to_z-of_z w128 c.least_over.result (search rules))) c.least_over.ensures)
-    c.loop-column.invariant
+    let over = c.loop-over.over in
+    let best = get_or c.loop-over.sums j (pos 0) in
+    least_over_more w c.args.at j over best (w c.args.at over) (w over j) _ best (c.requires.words c.args.at over c.requires.at (omega arith)) (c.requires.words over j (omega arith) h) refl refl refl (c.loop-over.invariant j h) (c.lower_from.ensures j h)

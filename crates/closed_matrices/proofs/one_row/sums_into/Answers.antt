@@ -1,14 +1,17 @@
-use Rattle.std.proofs.Common.{ℕ, ℤ, sym, subst, arith, rules}
-use Rattle.std.specs.Int.{w128}
-use Rattle.std.proofs.lemmas.Int.{to_z-of_z}
+use Rattle.std.proofs.Common.{pos, get_or, refl, arith}
 use Rattle.diff_bounds.specs.Matrix.{word}
-use Rattle.closed_matrices.specs.Rows.{IsLeastOver}
-use Rattle.closed_matrices.proofs.RowSums.{put_more}
+use Rattle.closed_matrices.proofs.RowSums.{least_over_none, least_over_more}
 use Rattle.closed_matrices.proofs.one_row.sums_into.Goals as goal
 
-pub loop-row-preserved : goal.loop-row-preserved
-loop-row-preserved c =
+pub loop-over-init : goal.loop-over-init
+loop-over-init c i h = least_over_none (word c.args.places c.args.m.now) i c.args.at _ (c.requires.none i h)
+
+pub lower_into-requires-clause-sums : goal.lower_into-requires-clause-sums
+lower_into-requires-clause-sums c i h = (c.loop-over.invariant i h).pair.top
+
+pub loop-over-preserved : goal.loop-over-preserved
+loop-over-preserved c i h =
     let w = word c.args.places c.args.m.now in
-    put_more (λ (k : ℕ) (x : ℤ). IsLeastOver c.args.places w k c.args.at x) c.loop-row.row c.loop-row.sums _ (omega arith)
-    (subst (λ (x : ℤ). IsLeastOver c.args.places w c.loop-row.row c.args.at x) (sym (to_z-of_z w128 c.least_over.result (search rules))) c.least_over.ensures)
-    c.loop-row.invariant
+    let over = c.loop-over.over in
+    let best = get_or c.loop-over.sums i (pos 0) in
+    least_over_more w i c.args.at over best (w i over) (w over c.args.at) _ best (c.requires.words i over h (omega arith)) (c.requires.words over c.args.at (omega arith) c.requires.at) refl refl refl (c.loop-over.invariant i h) (c.lower_into.ensures i h)
