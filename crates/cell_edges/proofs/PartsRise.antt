@@ -1,6 +1,6 @@
 -- Less is seen behind a part where less is seen before it.
 use Rattle.std.proofs.Common.{◌≡◌, ℕ, Bool, true, false, ◌&&◌, ◌||◌, not, if◌then◌else◌, ◌⊎◌, inl, inr, List, length, Option, Some, None, ℤ, pos, ◌≤ℤ◌, refl, sym, subst, ◌∙◌, arith}
-use Rattle.std.specs.Prelude.{IfSome, int_le}
+use Rattle.std.specs.Prelude.{IfSome, int_le, is_some}
 use Rattle.std.specs.Option.{option_map, option_map_or}
 use Rattle.std.proofs.lemmas.Int.{ints}
 use Rattle.dec_num.specs.declared.types.Mode.{Mode}
@@ -38,7 +38,7 @@ use Rattle.cell_storages.specs.Homes.{Home, of_item, of_count, homes_of, home_ra
 use Rattle.cell_steps.specs.Cells.{units_of, is_numeric, with_known, forgotten, is_in_bytes, is_beside}
 use Rattle.cell_steps.specs.Operands.{operands_vanish, amount_of, may_divide_by_zero, is_remainder}
 use Rattle.cell_steps.specs.Seen.{Seen, with_cells, with_zero}
-use Rattle.cell_steps.specs.Stores.{handled, range_at, taking, with_taken, amount_at, result_at, may_exceed, may_vanish, may_fail, stored_known, stored_cells, stored_element, behind_store, stored}
+use Rattle.cell_steps.specs.Stores.{handled, range_at, taking, with_taken, amount_at, result_at, may_exceed, may_vanish, may_fail, may_fit, stored_known, stored_cells, stored_element, behind_store, stored}
 use Rattle.cell_steps.specs.Steps.{is_zero_alone, can_divide, known_as, read_cells, cut_cells, all_cut, guarded_cells, counted_cells, with_cells_if, after_read, after_divide, after_count, after_down, step}
 use Rattle.cell_steps.specs.Order.{SeenBelow}
 use Rattle.cell_edges.proofs.ResultLaws.{Given}
@@ -417,6 +417,17 @@ module _ (given : Given) (p : Program) (a : Act) (x : Action) where
             ]
           ]
         ]
+
+    some_inside : (o q : Option Interval) → IsInsideIfAny o q → is_some o ≡ true → is_some q ≡ true
+    some_inside None q n e = absurd cc
+    some_inside (Some i) None n e = absurd n
+    some_inside (Some i) (Some j) n e = refl
+
+    fits_rise : may_fit p a x s place mode y ≡ true → may_fit p a x t place mode y ≡ true
+    fits_rise e = some_inside (result_at p a x s place mode y) (result_at p a x t place mode y) results_below e
+
+    pub flags_rise : (may_fail p a x s place mode y ≡ true → may_fail p a x t place mode y ≡ true) × (may_fit p a x s place mode y ≡ true → may_fit p a x t place mode y ≡ true)
+    flags_rise = (fails_rise, fits_rise)
 
     -- ---- behind it
 

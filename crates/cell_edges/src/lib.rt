@@ -5,4 +5,4 @@
 
 mod laws;
 
-pub use laws::{cleared_faults_are_not_met, edges_are_sound, posts_stand};
+pub use laws::{cleared_faults_are_not_met, edges_are_sound, flags_rise, posts_stand};

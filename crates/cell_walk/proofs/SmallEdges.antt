@@ -54,6 +54,13 @@ module _ (p : Program) (a : Act) (x : Action) where
       go true = refl
       go false = refl
 
+  pub all_is_taken : sends_small p a x ≡ true → (s : Seen) → with_taken_small p a x s ≡ with_taken p a x s
+  all_is_taken e s = go s.written
+    where
+      go : (b : Bool) → (if b then s else trim (taking p a x s)) ≡ (if b then s else taking p a x s)
+      go true = refl
+      go false = same e (taking p a x s)
+
   -- ---- one part
 
   cells_if : (s : Seen) (o : Option (List Known)) → with_cells_if (trim s) o ≡ option_map (trimmed p a x) (with_cells_if s o)

@@ -5,4 +5,5 @@ pub mod SmallCells
 pub mod Tests
 pub mod Statements
 pub mod Walks
+pub mod Latest
 pub mod Kept

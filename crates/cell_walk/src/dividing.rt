@@ -13,7 +13,7 @@ ghost use Rattle.cell_storages.specs.Homes.{owns};
 ghost use Rattle.cell_steps.specs.Steps.{can_divide, after_divide};
 ghost use Rattle.cell_steps.specs.Stores.{range_at};
 ghost use Rattle.cell_walk.specs.ProgramRows.{IsRowOf};
-ghost use Rattle.cell_walk.specs.Kept.{seen};
+ghost use Rattle.cell_walk.specs.Kept.{seen, latest_of};
 
 use crate::kept::Kept;
 use crate::sums::{divisor_range, holds_zero, may_be_zero};
@@ -50,6 +50,7 @@ pub(crate) fn divide(
         ≡ Some (seen row.now kept.new) }
     ensures off { result ≡ false → after_divide (plain_program program.now) (plain_act act.now) action (plain_divisor divisor.entry) (seen row.now kept.old)
         ≡ None }
+    ensures latest { latest_of kept.new ≡ latest_of kept.old }
 {
     if is_handled(act, action) {
         let vanishes = may_be_zero(program, cells, row, divisor);

@@ -15,7 +15,8 @@ ghost use Rattle.cell_steps.specs.Steps.{after_count, after_read, read_cells, gu
 ghost use Rattle.edge_sizes.specs.Sizes.{IsSmallPart, IsSmallStore};
 ghost use Rattle.cell_walk.specs.SmallCells.{has_small_cells};
 ghost use Rattle.cell_walk.specs.ProgramRows.{IsRowOf};
-ghost use Rattle.cell_walk.specs.Kept.{seen};
+ghost use Rattle.cell_walk.specs.Kept.{seen, latest_of};
+ghost use Rattle.cell_walk.specs.Latest.{latest_behind};
 ghost use Rattle.cell_walk.specs.Walks.{with_taken_small, step_small, CanStep};
 
 use crate::counters::read_count;
@@ -95,6 +96,7 @@ fn walk_store(
     ensures off { result ≡ false → step_small (plain_program program.now) (plain_act act.now) action (part.store place mode (plain_amount amount.entry)) (seen row.old kept.old)
         ≡ None }
     ensures row { IsRowOf (plain_program program.now) cells.now row.new }
+    ensures latest { latest_of kept.new ≡ latest_behind (plain_program program.now) (plain_act act.now) action (part.store place mode (plain_amount amount.entry)) (seen row.old kept.old) (latest_of kept.old) }
 {
     *kept = taken(program, cells, row, act, action, *kept);
     store(program, cells, row, act, action, place, mode, amount, kept)
@@ -116,6 +118,7 @@ fn walk_bytes(
     ensures same { step_small (plain_program program.now) (plain_act act.now) action (part.bytes_in offset length) (seen row.old kept.old)
         ≡ Some (seen row.new kept.new) }
     ensures row { IsRowOf (plain_program program.now) cells.now row.new }
+    ensures latest { latest_of kept.new ≡ latest_of kept.old }
 {
     *kept = taken(program, cells, row, act, action, *kept);
     forget_bytes(program, cells, row, offset, length);
@@ -138,6 +141,7 @@ fn walk_set_count(
     ensures off { result ≡ false → after_count (plain_program program.now) statement (with_taken_small (plain_program program.now) (plain_act act.now) action (seen row.old kept.old))
         ≡ None }
     ensures row { IsRowOf (plain_program program.now) cells.now row.new }
+    ensures latest { latest_of kept.new ≡ latest_of kept.old }
 {
     *kept = taken(program, cells, row, act, action, *kept);
     set_count(program, cells, row, statement, kept)
@@ -164,6 +168,7 @@ pub(crate) fn walk_part(
     ensures off { result ≡ false → step_small (plain_program program.now) (plain_act act.now) action (plain_part part.entry) (seen row.old kept.old)
         ≡ None }
     ensures row { IsRowOf (plain_program program.now) cells.now row.new }
+    ensures latest { latest_of kept.new ≡ latest_behind (plain_program program.now) (plain_act act.now) action (plain_part part.entry) (seen row.old kept.old) (latest_of kept.old) }
 {
     match part {
         EdgePart::Read(place) => {
