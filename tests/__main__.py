@@ -1,10 +1,11 @@
 """Runs all cases, side by side on the machine's processors, and says which aren't answered as they must be.
 
 A module each has the cases of a kind: `reference` those that were worked out by an independent program, `sample` those
-around the sample certificate, `programs` small programs by subject, `calls` the calls of libraries, `ranges` those that
-work with ranges of numbers, `edges` those with edges of control graphs, `analyses` certificates that the analysis finds
-and `slow` the comparison of the interpreter with the plain slow step. The last five need programs of their own, which the
-gate builds: without them their cases are left out, which is told, and is a failure where the word is `--all`.
+around the sample certificate, `programs` small programs by subject, `report`, `report_files` and `nightly` those of the
+tool around the program and its document, `calls` the calls of libraries, `ranges` those that work with ranges of numbers,
+`edges` those with edges of control graphs, `analyses` certificates that the analysis finds and `slow` the comparison of
+the interpreter with the plain slow step. The last five need programs of their own, which the gate builds: without them
+their cases are left out, which is told, and is a failure where the word is `--all`.
 """
 
 import itertools
@@ -12,7 +13,9 @@ import sys
 from concurrent.futures import ThreadPoolExecutor
 from os import cpu_count
 
-from tests import analyses, built, calls, edges, programs, ranges, reference, sample, slow
+from tests import analyses, built, calls, edges, nightly, programs, ranges, reference, report, report_files, sample, slow
+
+TOOL = (report, report_files, nightly)
 
 
 def missing():
@@ -30,7 +33,8 @@ def main():
         print(line)
     if lacking and "--all" in sys.argv[1:]:
         return 1
-    kinds = [kind for kind in (reference, sample, programs, calls, ranges, edges, analyses, slow) if kind not in lacking]
+    all_kinds = (reference, sample, programs, *TOOL, calls, ranges, edges, analyses, slow)
+    kinds = [kind for kind in all_kinds if kind not in lacking]
     checks = itertools.chain.from_iterable(kind.checks() for kind in kinds)
     with ThreadPoolExecutor(cpu_count()) as pool:
         told = list(pool.map(lambda check: check(), checks))

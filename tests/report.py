@@ -7,12 +7,20 @@ will is given by a script in its place.
 import os
 import pathlib
 import pty
+import re
 import shlex
 import shutil
 import subprocess
+import sys
 import tempfile
 
 from tests.built import ROOT, launcher
+from tests.reference import cases_of
+
+sys.path.insert(0, str(ROOT / "tools"))
+
+from cobsound_report.program import Analyser  # noqa: E402
+from cobsound_report.sources import statements_in  # noqa: E402
 
 TOOL = ROOT / "tools/cobsound-report"
 
@@ -33,6 +41,7 @@ SENTENCES = {
 }
 INDEXED_LINE = 8
 CLEAN = ("first", "listing", "orders_mended", "payroll")
+SAMPLES = (*CLEAN, "orders", "indexed")
 
 
 def reported(words, cwd=ROOT, program=None, **more):
@@ -104,8 +113,36 @@ def of_a_place():
         pathlib.Path(folder, "S.cob").write_text(text)
         status, out, _ = reported(["S.cob"], folder)
     lines = out.split("\n")
-    is_right = lines[0].startswith("S.cob:7:12: error: E7: ") and lines[1:3] == ["       ADD -A TO N.", " " * 11 + "^"]
-    return None if status == 2 and is_right else f"a place: {status}, {out!r}"
+    place, cause = lines[0][:23], lines[0][23:]
+    is_right = place == "S.cob:7:12: error: E7: " and lines[1:3] == ["       ADD -A TO N.", " " * 11 + "^"]
+    is_of_the_guide = cause and f"| {cause} |" in (ROOT / "docs/GUIDE.md").read_text("utf-8")
+    return None if status == 2 and is_right and is_of_the_guide else f"a place: {status}, {out!r}"
+
+
+def of_verbs():
+    """Where the verbs of statements stand: the alarms of the reference cases stand on their lines, and literals,
+    comments, names and continued lines mislead nobody."""
+    for file in ("analyses.jsonl", "checked.jsonl", "thin.jsonl", "straight.jsonl"):
+        for name, case in cases_of(file):
+            verbs = statements_in(case["source"].encode("latin-1").split(b"\n"))
+            lines = [*case.get("least", ()), *case.get("most", ()), *case.get("out", "").split("\n")]
+            for line in filter(None, map(ALARM_LINE.fullmatch, lines)):
+                if verbs[int(line[1]) - 1][0] != int(line[2]):
+                    return f"verbs of {name}: statement {line[1]} on line {verbs[int(line[1]) - 1][0]}"
+    lines = [
+        "       77 MOVE-COUNT PIC 9 VALUE 1. PROCEDURE DIVISION. ADD-UP.",
+        "           display 'STOP RUN. ' MOVE-COUNT IF MOVE-COUNT = 1",
+        "      * ADD 1 TO MOVE-COUNT",
+        "000100     ADD 1 TO MOVE-COUNT END-IF. MU".ljust(72) + "STOP RUN",
+        "      -    LTIPLY 2 BY MOVE-COUNT. DISPLAY 'IT''S ".ljust(72),
+        "      -    'MOVE 1 TO' MOVE-COUNT. CLOSE F.",
+    ]
+    found = statements_in("\n".join(lines).encode().split(b"\n"))
+    wanted = [(2, 12, 7), (2, 44, 2), (4, 12, 3), (4, 40, 8), (5, 36, 7), (6, 36, 5)]
+    return told("verbs", found, wanted)
+
+
+ALARM_LINE = re.compile(r"[A-Z]+ statement ([0-9]+) line ([0-9]+)")
 
 
 def of_the_worst():
@@ -119,7 +156,7 @@ def of_the_worst():
 
 ALARM = "SIZE statement 1 line 7\n"
 
-# each answer of the program, its status, and the tool's
+# each answer of the program, its status, and the exit status of the tool
 ANSWERS = [
     ("clean\n", 0, 0),
     (f"{ALARM}alarms 1\n", 1, 1),
@@ -153,21 +190,23 @@ ANSWERS = [
 
 def answering(folder, analysed, checked):
     """A program that answers `analyse` and `check` so, and writes a certificate."""
-    said = " ".join(f"{word}) printf {shlex.quote(out)} ;;" for word, (out, _) in zip(WORDS, (analysed, checked)))
-    ends = " ".join(f"{word}) {end} ;;" for word, (_, end) in zip(WORDS, (analysed, checked)))
+    said = " ".join(f"{word}) printf {shlex.quote(out)}; {end} ;;" for word, (out, end) in zip(WORDS, (analysed, checked)))
     write = f"[ $1 = check ] || cat {shlex.quote(str(ROOT / 'samples/first.cert'))} >\"$3\"\n"
-    return script(folder, f"{write}case $1 in {said} esac\ncase $1 in {ends} esac\n")
+    return script(folder, f"{write}case $1 in {said} esac\n")
 
 
 WORDS = ("analyse", "check")
 
 
 def of_an_answer(analysed, checked, wanted):
+    """The verdict on a source; the tool's exit status is the worst of them. A certificate is kept where the program
+    wrote one that it answers likewise, and nothing else is left."""
     with tempfile.TemporaryDirectory() as folder:
-        shutil.copy(ROOT / "samples/first.cob", pathlib.Path(folder, "S.cob"))
-        status, out, _ = reported(["S.cob"], folder, answering(folder, analysed, checked))
-    is_told = (": 1 clean" in out) == (wanted == 0) and out.count("\n") >= (1 if wanted == 0 else 2)
-    return None if status == wanted and is_told else f"answers {analysed}, {checked}: {status}, {out!r}"
+        program = answering(folder, analysed, checked)
+        result = Analyser(str(program), pathlib.Path(folder, "certs")).result("samples/first.cob")
+        left = [path.name for path in pathlib.Path(folder, "certs").glob("**/*.*")]
+    wanted_left = ["first.cob.cert"] if wanted < 2 else []
+    return told(f"answers {analysed}, {checked}", (int(result.answer.verdict), left), (wanted, wanted_left))
 
 
 def answers():
@@ -229,32 +268,28 @@ def of_kept_certificates():
 
 
 def of_many():
-    """Two hundred sources in one call, with a line of progress on a terminal and none elsewhere."""
-    names = sorted(path.name for path in (ROOT / "samples").glob("*.cob"))
+    """Two hundred sources in one call, with a line of progress on a terminal. Elsewhere there is none, as the other
+    calls show."""
     with tempfile.TemporaryDirectory() as folder:
-        copies = [f"{number:03}{names[number % len(names)]}" for number in range(200)]
-        for copy in copies:
-            shutil.copy(ROOT / "samples" / copy[3:], pathlib.Path(folder, copy))
+        copies = [SAMPLES[number % len(SAMPLES)] for number in range(200)]
+        for number, name in enumerate(copies):
+            shutil.copy(ROOT / f"samples/{name}.cob", pathlib.Path(folder, f"{number:03}.cob"))
         main, terminal = pty.openpty()
-        reader = subprocess.Popen(["cat"], stdin=main, stdout=subprocess.PIPE)
+        # the terminal's end is no error of the reader
+        reader = subprocess.Popen(["cat"], stdin=main, stdout=subprocess.PIPE, stderr=subprocess.DEVNULL)
         with open(terminal, "wb") as screen:
             done = subprocess.run([TOOL, folder], stdout=subprocess.PIPE, stderr=screen, text=True)
         shown = reader.communicate()[0].decode()
         os.close(main)
-        plain = reported([folder])
     shown_at_all = all(f"\r\033[K{count} of 200 sources, " in shown for count in (1, 100, 200))
-    number = {kind: sum(copy[3:-4] in names for copy in copies) for kind, names in KINDS.items()}
-    alarms = len(ORDERS) * number["alarms"]
-    last = f"200 sources: {number['clean']} clean, {number['alarms']} with {alarms} alarms, {number['refused']} refused"
-    found = (done.returncode, done.stdout.splitlines()[-1], shown_at_all, shown.endswith("\r\033[K"), plain)
-    return told("many sources", found, (2, last, True, True, (2, done.stdout, "")))
-
-
-KINDS = {"clean": CLEAN, "alarms": ("orders",), "refused": ("indexed",)}
+    clean, alarmed, refused = sum(map(copies.count, CLEAN)), copies.count("orders"), copies.count("indexed")
+    last = f"200 sources: {clean} clean, {alarmed} with {alarmed * len(ORDERS)} alarms, {refused} refused"
+    found = (done.returncode, done.stdout.splitlines()[-1], shown_at_all, shown.endswith("\r\033[K"))
+    return told("many sources", found, (2, last, True, True))
 
 
 def checks():
     launcher()
-    yield from (of_clean_samples, of_alarms, of_a_refusal, of_a_place, of_the_worst, of_no_program)
+    yield from (of_clean_samples, of_alarms, of_a_refusal, of_a_place, of_verbs, of_the_worst, of_no_program)
     yield from answers()
     yield from (of_kept_certificates, of_many)
