@@ -1,4 +1,4 @@
-"""What docs/NIGHTLY.md shows is run: its jobs on a working copy with the samples, and each of its changes of a source."""
+"""What docs/NIGHTLY.md shows is run: its jobs on a working copy with samples, and each of its changes of a source."""
 
 import os
 import pathlib
@@ -29,13 +29,15 @@ class Ledger:
             shutil.copy(ROOT / f"samples/{name}.cob", self.copy / "src")
         os.symlink(program_path(), self.commands / "cobsound")
         os.symlink(TOOL, self.commands / "cobsound-report")
-        script(self.commands, f'echo "$@" >{self.folder}/mail\ncat >>{self.folder}/mail\n').rename(self.commands / "mail")
+        letter = f"{self.folder}/mail"
+        script(self.commands, f'echo "$@" >{letter}\ncat >>{letter}\n').rename(self.commands / "mail")
         self.run("git init -q && git add src && git commit -qm Sources")
 
     def run(self, text):
         """The status and the output of a shell's lines that name the working copy of the document."""
         path = f"{self.commands}:{os.environ['PATH']}"
-        names = {f"GIT_{who}_{what}": "shop@example.org" for who in ("AUTHOR", "COMMITTER") for what in ("NAME", "EMAIL")}
+        whos = ("AUTHOR_NAME", "AUTHOR_EMAIL", "COMMITTER_NAME", "COMMITTER_EMAIL")
+        names = {f"GIT_{who}": "shop@example.org" for who in whos}
         job = self.folder / "job"
         job.write_text(text.replace("/srv/ledger", str(self.copy)))
         shell = "bash" if text.startswith("#!/bin/bash") else "sh"
@@ -56,7 +58,8 @@ def of_the_shell():
         shutil.copy(ROOT / "samples/orders.cob", ledger.copy / "src")
         status, out = ledger.run(job)
     lines = [f"src/orders.cob: {kind} statement {at} line {line}" for line, kind, at, _ in ORDERS]
-    wanted = [(0, ""), ["certs/orders_mended.cob.cert", "certs/payroll.cob.cert"], 1, [*lines, "src/orders.cob: alarms 6"]]
+    kept = ["certs/orders_mended.cob.cert", "certs/payroll.cob.cert"]
+    wanted = [(0, ""), kept, 1, [*lines, "src/orders.cob: alarms 6"]]
     found += [status, out.splitlines()]
     return told("ten lines of shell", (len(job.splitlines()), found), (10, wanted))
 

@@ -56,8 +56,8 @@ def program_path():
     named = os.environ.get("COBSOUND_PROGRAM")
     if named:
         return pathlib.Path(named).resolve()
-    found = subprocess.run([ROOT / "cobsound"], env={**os.environ, "COBSOUND_FIND": "1"}, capture_output=True, text=True)
-    return pathlib.Path(found.stdout.rstrip("\n"))
+    env = {**os.environ, "COBSOUND_FIND": "1"}
+    return pathlib.Path(subprocess.run([ROOT / "cobsound"], env=env, capture_output=True, text=True).stdout.rstrip("\n"))
 
 
 def script(folder, text):
@@ -181,8 +181,9 @@ ANSWERS = [
     ("", 8, 3),
     ("", 70, 3),
     # none of the program's answers
-    *((out, 0, 3) for out in ("", "clean", "clean\nclean\n", "Clean\n", " clean\n", f"{ALARM}alarms 1\n", "E8 line 3\n")),
-    *((out, 1, 3) for out in ("", "clean\n", "alarms 0\n", f"{ALARM}alarms 2\n", f"{ALARM}alarms 1", ALARM, "E8 line 3\n")),
+    *((out, 0, 3) for out in ("", "clean", "clean\nclean\n", "Clean\n", " clean\n", f"{ALARM}alarms 1\n")),
+    *((out, 1, 3) for out in ("", "clean\n", "alarms 0\n", f"{ALARM}alarms 2\n", f"{ALARM}alarms 1", ALARM)),
+    *(("E8 line 3\n", status, 3) for status in (0, 1)),
     *((out, 2, 3) for out in ("", "clean\n", "E10 cells 513\n", "E8 line 3", "E8 line 3\nE8 line 3\n")),
     *(("clean\n", status, 3) for status in (3, 9, 70, 127)),
 ]
@@ -190,12 +191,10 @@ ANSWERS = [
 
 def answering(folder, analysed, checked):
     """A program that answers `analyse` and `check` so, and writes a certificate."""
-    said = " ".join(f"{word}) printf {shlex.quote(out)}; {end} ;;" for word, (out, end) in zip(WORDS, (analysed, checked)))
+    ways = (("analyse", *analysed), ("check", *checked))
+    said = " ".join(f"{word}) printf {shlex.quote(out)}; {end} ;;" for word, out, end in ways)
     write = f"[ $1 = check ] || cat {shlex.quote(str(ROOT / 'samples/first.cert'))} >\"$3\"\n"
     return script(folder, f"{write}case $1 in {said} esac\n")
-
-
-WORDS = ("analyse", "check")
 
 
 def of_an_answer(analysed, checked, wanted):
@@ -215,7 +214,8 @@ def answers():
         yield lambda both=both, wanted=wanted: of_an_answer(both, both, wanted)
     clean, alarms = ("clean\n", "exit 0"), (f"{ALARM}alarms 1\n", "exit 1")
     killed = ("clean\n", "kill -9 $$")
-    for pair in ((clean, alarms), (alarms, clean), (clean, ("E12 line 3\n", "exit 3")), (killed, killed), (clean, killed)):
+    refused = ("E12 line 3\n", "exit 3")
+    for pair in ((clean, alarms), (alarms, clean), (clean, refused), (killed, killed), (clean, killed)):
         yield lambda pair=pair: of_an_answer(*pair, 3)
 
 

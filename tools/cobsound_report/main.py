@@ -6,6 +6,7 @@ import pathlib
 import sys
 import tempfile
 from concurrent.futures import ThreadPoolExecutor, as_completed
+from typing import NoReturn
 
 from . import pages, sarif, text
 from .answers import Verdict
@@ -17,7 +18,7 @@ from .words import read_words
 class Parser(argparse.ArgumentParser):
     """Wrong words are a failure of the outside, and no refusal of a source."""
 
-    def error(self, message: str) -> None:
+    def error(self, message: str) -> NoReturn:
         self.print_usage(sys.stderr)
         self.exit(Verdict.FAILED, f"{self.prog}: {message}\n")
 

@@ -11,46 +11,8 @@ from .sources import Listing, Span, shown
 from .text import counted, summary
 from .words import SENTENCES, Entry, Words, sentence
 
-STYLE = """
-:root { color-scheme: light dark; --ink: #1b2430; --dim: #667180; --paper: #fff; --shade: #f4f6f8; --rule: #d9dee4;
-  --link: #0b57a4; --good: #17693a; --warn: #8a4a00; --warn-paper: #fff3d9; --bad: #a3131f; --bad-paper: #fde9ea; }
-@media (prefers-color-scheme: dark) { :root { --ink: #dfe4ea; --dim: #939daa; --paper: #14181d; --shade: #1c2127;
-  --rule: #333a43; --link: #7db7f5; --good: #6fce93; --warn: #f2b45c; --warn-paper: #33270f; --bad: #ff8f96;
-  --bad-paper: #3a1a1d; } }
-* { box-sizing: border-box; }
-body { margin: 0 auto; max-width: 68rem; padding: 1.5rem; background: var(--paper); color: var(--ink);
-  font: 1rem/1.5 system-ui, "DejaVu Sans", sans-serif; }
-a { color: var(--link); }
-h1 { margin: .2rem 0 .6rem; font-size: 1.6rem; overflow-wrap: anywhere; }
-h2 { margin: 1.6rem 0 .5rem; font-size: 1.15rem; }
-.facts { color: var(--dim); }
-.clean { color: var(--good); } .alarms { color: var(--warn); } .refused, .failed { color: var(--bad); }
-.verdict { font-weight: 600; }
-.wide { overflow-x: auto; }
-table { border-collapse: collapse; width: 100%; }
-.index td, .index th { padding: .35rem .7rem; border-bottom: 1px solid var(--rule); text-align: left; }
-.index .count { text-align: right; font-variant-numeric: tabular-nums; }
-.listing { border: 1px solid var(--rule); font: .875rem/1.45 "DejaVu Sans Mono", ui-monospace, monospace; }
-.listing td { padding: 0 .7rem; vertical-align: top; }
-.listing .number { width: 1%; background: var(--shade); text-align: right; user-select: none; }
-.listing .number a { color: var(--dim); text-decoration: none; }
-.listing .code { white-space: pre; }
-.listing tr:target .number { background: var(--link); } .listing tr:target .number a { color: var(--paper); }
-.outside { color: var(--dim); }
-.warning { background: var(--warn-paper); } .error { background: var(--bad-paper); }
-mark { background: none; color: inherit; font-weight: 700; border-bottom: 3px solid var(--warn); }
-.error mark { border-color: var(--bad); }
-.note td { padding: .3rem .7rem .5rem; font: .9rem/1.4 system-ui, "DejaVu Sans", sans-serif; white-space: normal; }
-.note b { color: var(--warn); } .error.note b { color: var(--bad); }
-footer { margin-top: 2rem; color: var(--dim); font-size: .875rem; }
-@media print { :root { color-scheme: light; --ink: #000; --dim: #555; --paper: #fff; --shade: #fff; --rule: #bbb;
-  --link: #000; --good: #000; --warn: #000; --warn-paper: #eee; --bad: #000; --bad-paper: #eee; }
-  body { max-width: none; padding: 0; font-size: 10pt; } .listing { font-size: 8pt; } .listing .code { white-space:
-  pre-wrap; } .note td { font-size: 8.5pt; } tr { break-inside: avoid; } a { text-decoration: none; } mark, .note, .warning, .error {
-  print-color-adjust: exact; -webkit-print-color-adjust: exact; } }
-""".strip()
-
-FOOTER = "This page shows what the program answered. Of the page nothing is proved; docs/GUIDE.md says what clean means."
+STYLE = pathlib.Path(__file__).with_name("style.css").read_text("utf-8")
+FOOTER = "This page shows what the program answered; docs/GUIDE.md says what clean means. Of the page nothing is proved."
 
 
 def write(folder: pathlib.Path, results: list[Result], words: Words) -> None:
@@ -70,7 +32,7 @@ def page(title: str, body: str) -> str:
     return (
         f'<!DOCTYPE html>\n<html lang="en">\n<head>\n<meta charset="utf-8">\n'
         f'<meta name="viewport" content="width=device-width, initial-scale=1">\n'
-        f"<title>{title}</title>\n<style>\n{STYLE}\n</style>\n</head>\n<body>\n{body}\n"
+        f"<title>{title}</title>\n<style>\n{STYLE}</style>\n</head>\n<body>\n{body}\n"
         f"<footer>{FOOTER}</footer>\n</body>\n</html>\n"
     )
 
@@ -91,8 +53,8 @@ def index_page(results: list[Result]) -> str:
     rows = "\n".join(index_row(result) for result in sorted(results, key=lambda result: -result.answer.verdict))
     return page(
         "Cobsound report",
-        f'<h1>Cobsound report</h1>\n<p class="facts">{summary(results)}</p>\n'
-        f'<div class="wide"><table class="index">\n<tr><th>Source</th><th>Answer</th>{head}</tr>\n{rows}\n</table></div>',
+        f'<h1>Cobsound report</h1>\n<p class="facts">{summary(results)}</p>\n<div class="wide">'
+        f'<table class="index">\n<tr><th>Source</th><th>Answer</th>{head}</tr>\n{rows}\n</table></div>',
     )
 
 
@@ -115,8 +77,9 @@ def source_page(result: Result, words: Words, index: str) -> str:
         facts.append(counted(len(listing.lines), "line"))
     return page(
         name_of(result),
-        f'<nav><a href="{index}">All sources</a></nav>\n<h1>{name_of(result)}</h1>\n<p class="facts">{" · ".join(facts)}'
-        f"</p>\n{causes(result, words)}" + (f"\n<h2>Listing</h2>\n{table(result, words, listing)}" if listing else ""),
+        f'<nav><a href="{index}">All sources</a></nav>\n<h1>{name_of(result)}</h1>\n'
+        f'<p class="facts">{" · ".join(facts)}</p>\n{causes(result, words)}'
+        + (f"\n<h2>Listing</h2>\n{table(result, words, listing)}" if listing else ""),
     )
 
 
@@ -149,9 +112,8 @@ def notes(result: Result, words: Words, listing: Listing) -> dict[int, list[Note
         found.setdefault(alarm.line, []).append(("warning", listing.alarm_span(alarm), of_alarm(alarm, words)))
     line, column = result.answer.place()
     if line is not None:
-        span = listing.span(line, column, 1) if column else listing.text_span(line)
         text = f"<b>{escape(result.answer.told)}</b>. {described(words.refusal(result.answer.told))}"
-        found[line] = [("error", span, text)]
+        found[line] = [("error", listing.refusal_span(line, column), text)]
     return found
 
 

@@ -92,7 +92,8 @@ class Analyser:
 def shape_of(certificate: pathlib.Path) -> tuple[int, int]:
     """The numbers of cells and of nodes, which a certificate names in its second and third line."""
     with certificate.open(encoding="latin-1") as text:
-        head = re.fullmatch(r"COBSOUND 1\ncells ([0-9]+)\nnodes ([0-9]+)\n", "".join(text.readline(80) for _ in range(3)))
+        front = "".join(text.readline(80) for _ in range(3))
+    head = re.fullmatch(r"COBSOUND 1\ncells ([0-9]+)\nnodes ([0-9]+)\n", front)
     if not head:
         raise OSError(f"{certificate} isn't written as a certificate is")
     return int(head[1]), int(head[2])

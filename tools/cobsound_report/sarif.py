@@ -74,10 +74,7 @@ def findings(result: Result, words: Words, rules: list[str]) -> Iterator[dict]:
             }
     elif result.answer.verdict == Verdict.REFUSED:
         line, column = result.answer.place()
-        where = None
-        if line is not None:
-            listing = Listing(result.source)
-            where = region(line, listing.span(line, column, 1) if column else listing.text_span(line))
+        where = region(line, Listing(result.source).refusal_span(line, column)) if line is not None else None
         told = result.answer.told
         yield finding(rule_of(told), rules, words.refusal(told).cause, location(result.source, where))
 

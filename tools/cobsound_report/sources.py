@@ -70,6 +70,10 @@ class Listing:
         raw = self.raw[line - 1] if 1 <= line <= len(self.raw) else b""
         return Span(*(len(shown(raw[:end])) for end in (column - 1, column - 1 + length)))
 
+    def refusal_span(self, line: int, column: int | None) -> Span:
+        """The character that a refusal names; the whole text of its line where it names none."""
+        return self.span(line, column, 1) if column else self.text_span(line)
+
     def text_span(self, line: int) -> Span:
         """The characters of a line's text, in columns 8 to 72."""
         raw = self.raw[line - 1][:72] if 1 <= line <= len(self.raw) else b""

@@ -24,7 +24,7 @@ def report(result: Result, words: Words) -> Iterator[str]:
         yield f"{place}: error: {named(result, entry.cause)}"
         if line is not None and result.answer.verdict == Verdict.REFUSED:
             listing = Listing(result.source)
-            yield from pointed(listing.line(line), listing.span(line, column, 1) if column else listing.text_span(line))
+            yield from pointed(listing.line(line), listing.refusal_span(line, column))
         if entry.advice:
             yield f"{place}: note: {entry.advice}"
 

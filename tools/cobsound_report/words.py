@@ -62,7 +62,8 @@ class Words:
         self.kinds = {kind: Entry(*words) for kind, *words in rows(guide, "Kind", "Meaning", "What to do")}
         # the commands' own tables stand before the one of all refusals
         self.lines = [(line, Entry(*words)) for line, *words in rows(guide, "Line", "Cause", "What to do")]
-        self.rules = {rule: f"this line breaks rule {rule} ({demand})" for rule, demand in rows(language, "Rule", "Demands")}
+        demands = rows(language, "Rule", "Demands")
+        self.rules = {rule: f"this line breaks rule {rule} ({demand})" for rule, demand in demands}
         self.limits = {
             word: f"more {word} than the limit of {limit} ({counted})"
             for word, counted, limit in rows(guide, "Word", "Counted", "Limit")
