@@ -67,14 +67,21 @@ def faults(kind, value, place="log"):
         yield f"{place} is {value!r}"
 
 
+# A source whose name and lines could be taken for marks of a page, with SIZE at its second statement.
+ODD = "odd & <b>"
+ODD_TEXT = (ROOT / "samples/first.cob").read_text().replace(" ADD 1", " DISPLAY '</td><script>'. ADD 2")
+ODD_TEXT = ODD_TEXT.replace("       PROCEDURE", "      * \x1b[1m <a href=x> \xe9\n       PROCEDURE")
+
+
 @functools.cache
 def written():
-    """The folder with the files on the samples and on a source that isn't there, of one call for all checks."""
+    """The folder with the files on the samples, the odd source and one that isn't there, of one call for all checks."""
     folder = pathlib.Path(tempfile.mkdtemp(prefix="report"))
     atexit.register(shutil.rmtree, folder)
     (folder / "samples").mkdir()
     for name in SAMPLES:
         shutil.copy(ROOT / f"samples/{name}.cob", folder / "samples")
+    (folder / f"samples/{ODD}.cob").write_text(ODD_TEXT, "latin-1")
     reported(["samples", "nosuch.cob", "--html", "pages", "--sarif", "report.sarif"], folder)
     return folder
 
@@ -93,7 +100,7 @@ def of_sarif():
         found.append((place["artifactLocation"]["uri"], result["ruleId"], region["startLine"], region["startColumn"]))
         if rules[result["ruleIndex"]]["id"] != result["ruleId"]:
             return f"SARIF: {result['ruleId']} isn't rule {result['ruleIndex']}"
-    wanted = [("samples/indexed.cob", "E8", INDEXED_LINE, 16)]
+    wanted = [("samples/indexed.cob", "E8", INDEXED_LINE, 16), ("samples/odd%20%26%20%3Cb%3E.cob", "SIZE", 8, 33)]
     wanted += [("samples/orders.cob", kind, line, column) for line, kind, _, column in ORDERS]
     (invocation,) = run["invocations"]
     ended = (invocation["exitCode"], invocation["executionSuccessful"], len(invocation["toolExecutionNotifications"]))
@@ -138,6 +145,7 @@ class Page(HTMLParser):
 MARKS = {name: ([], 0) for name in CLEAN} | {
     "orders": (["DIVIDE", "COMPUTE", "MOVE", "ADD", "ADD"], len(ORDERS)),
     "indexed": (["ORGANIZATION IS INDEXED"], 1),
+    ODD: (["ADD"], 1),
 }
 
 
@@ -154,7 +162,8 @@ def of_pages():
         if page.loads:
             return f"{path}: loads {page.loads}"
     found = {path.name[:-9]: (page.marks, page.notes) for path, page in pages.items() if path.name != "index.html"}
-    is_linked = all(f"sources/samples/{name}.cob.html" in pages[folder / "index.html"].links for name in MARKS)
+    listed = [unquote(link) for link in pages[folder / "index.html"].links]
+    is_linked = all(f"sources/samples/{name}.cob.html" in listed for name in MARKS)
     return told("pages", (found, is_linked), (MARKS | {"nosuch": ([], 0)}, True))
 
 
