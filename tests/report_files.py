@@ -18,6 +18,7 @@ from tests.report import CLEAN, INDEXED_LINE, ORDERS, SAMPLES, reported, told
 # From the schema of SARIF 2.1.0, of each object that the tool writes: the fields that must be there, and those that may
 # be; each with what it holds. The schema allows no others.
 LEVELS = {"none", "note", "warning", "error"}
+POSITIVE = range(1, 2**31)
 SCHEMA = {
     "log": ({"version": {"2.1.0"}, "runs": ["run"]}, {"$schema": str}),
     "run": (
@@ -36,23 +37,23 @@ SCHEMA = {
     "notification": ({"message": "text"}, {"level": LEVELS, "locations": ["location"]}),
     "result": (
         {"message": "text"},
-        {"ruleId": str, "ruleIndex": int, "level": LEVELS, "locations": ["location"], "properties": dict},
+        {"ruleId": str, "ruleIndex": range(-1, 2**31), "level": LEVELS, "locations": ["location"], "properties": dict},
     ),
     "location": ({}, {"physicalLocation": "physicalLocation"}),
     "physicalLocation": ({"artifactLocation": "artifactLocation"}, {"region": "region"}),
     "artifactLocation": ({"uri": str}, {}),
-    "region": ({"startLine": int}, {"startColumn": int, "endColumn": int}),
+    "region": ({"startLine": POSITIVE}, {"startColumn": POSITIVE, "endColumn": POSITIVE}),
 }
 
 
 def faults(kind, value, place="log"):
-    """Where a value isn't of its kind: a set of values, a list of a kind, an object of SCHEMA, or a type."""
+    """Where a value isn't of its kind: a set of values or a range, a list of a kind, an object of SCHEMA, or a type."""
     if isinstance(kind, list):
         if not isinstance(value, list):
             yield f"{place} is no list"
         for number, item in enumerate(value):
             yield from faults(kind[0], item, f"{place}[{number}]")
-    elif isinstance(kind, set):
+    elif isinstance(kind, set | range):
         if value not in kind:
             yield f"{place} is {value!r}"
     elif isinstance(kind, str):
