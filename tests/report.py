@@ -203,7 +203,7 @@ def of_an_answer(analysed, checked, wanted):
     with tempfile.TemporaryDirectory() as folder:
         program = answering(folder, analysed, checked)
         result = Analyser(str(program), pathlib.Path(folder, "certs")).result("samples/first.cob")
-        left = [path.name for path in pathlib.Path(folder, "certs").glob("**/*.*")]
+        left = [path.name for path in pathlib.Path(folder, "certs/samples").iterdir()]
     wanted_left = ["first.cob.cert"] if wanted < 2 else []
     return told(f"answers {analysed}, {checked}", (int(result.answer.verdict), left), (wanted, wanted_left))
 
@@ -220,7 +220,8 @@ def answers():
 
 
 def of_no_program():
-    """No program, no sources, a folder without sources, wrong words."""
+    """No program, a folder without sources, no sources, wrong words, a file that can't be written, and a certificate
+    that would replace a source."""
     with tempfile.TemporaryDirectory() as folder:
         statuses = [
             reported(["samples/first.cob"], program=pathlib.Path(folder, "none"))[0],
@@ -229,7 +230,10 @@ def of_no_program():
             reported(["--certs"])[0],
             reported(["samples/first.cob", "--sarif", folder])[0],
         ]
-    return told("failures of the outside", statuses, [3] * 5)
+        for name in ("S", "S.cert"):
+            shutil.copy(ROOT / "samples/first.cob", pathlib.Path(folder, name))
+        statuses.append(reported(["S", "S.cert", "--certs", "."], folder)[0])
+    return told("failures of the outside", statuses, [3] * 6)
 
 
 def counting(folder):
@@ -254,7 +258,7 @@ def of_kept_certificates():
             return status, words.count("analyse"), words.count("check"), out.splitlines()[-1].split(": ")[1]
 
         found = [asked(), asked()]
-        kept = sorted(str(path.relative_to(place)) for path in place.glob("certs/**/*.*"))
+        kept = sorted(str(path.relative_to(place)) for path in place.glob("certs/**/*") if path.is_file())
         (place / "certs/src/first.cob.cert").write_text("COBSOUND 1\n")
         found.append(asked())
         first = place / "src/first.cob"

@@ -65,8 +65,9 @@ def reported(options: argparse.Namespace) -> int:
     sources = sources_at(options.paths)
     with tempfile.TemporaryDirectory() as folder:
         analyser = Analyser(found_program(), pathlib.Path(options.certs or folder))
-        if len({analyser.certificate_of(source) for source in sources}) < len(sources):
-            raise OSError("two sources would have one certificate; name sources below the current folder alone")
+        certificates = {os.path.abspath(analyser.certificate_of(source)) for source in sources}
+        if len(certificates) < len(sources) or certificates & {os.path.abspath(source) for source in sources}:
+            raise OSError("a certificate would replace a source, or that of another source")
         results = analysed(analyser, sources, options.jobs or os.cpu_count() or 1)
     for result in results:
         for line in text.report(result, words):

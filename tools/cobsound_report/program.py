@@ -4,6 +4,7 @@ import os
 import pathlib
 import re
 import subprocess
+import tempfile
 from dataclasses import dataclass
 
 from .answers import Answer, Verdict, answer_of
@@ -73,8 +74,8 @@ class Analyser:
     def analysed(self, source: str, kept: pathlib.Path) -> Result:
         """Analyses a source. Its certificate takes the kept one's place when `check` has said the same of it."""
         kept.parent.mkdir(parents=True, exist_ok=True)
-        written = kept.with_name(f"{kept.name}.new")
-        try:
+        with tempfile.TemporaryDirectory(dir=kept.parent, prefix=".") as folder:
+            written = pathlib.Path(folder, "certificate")
             answer = self.asked("analyse", source, written)
             if answer.verdict > Verdict.ALARMS:
                 return Result(source, answer)
@@ -85,8 +86,6 @@ class Analyser:
             shape = shape_of(written)
             written.replace(kept)
             return Result(source, answer, *shape)
-        finally:
-            written.unlink(missing_ok=True)
 
 
 def shape_of(certificate: pathlib.Path) -> tuple[int, int]:
