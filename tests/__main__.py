@@ -1,11 +1,12 @@
 """Runs all cases, side by side on the machine's processors, and says which aren't answered as they must be.
 
 A module each has the cases of a kind: `reference` those that were worked out by an independent program, `sample` those
-around the sample certificate, `programs` small programs by subject, `report`, `report_files` and `nightly` those of the
-tool around the program and its document, `calls` the calls of libraries, `ranges` those that work with ranges of numbers,
-`edges` those with edges of control graphs, `analyses` certificates that the analysis finds and `slow` the comparison of
-the interpreter with the plain slow step. The last five need programs of their own, which the gate builds: without them
-their cases are left out, which is told, and is a failure where the word is `--all`.
+around the sample certificate, `analysed` reports of `analyse` that were worked out by hand, `analyses` sources that an
+independent program looked at, `programs` small programs by subject, `report`, `report_files` and `nightly` those of the
+tool around the program and of its document, `calls` the calls of libraries, `ranges` those that work with ranges of
+numbers, `edges` those with edges of control graphs and `slow` the comparison of the interpreter with the plain slow step.
+The last four need programs of their own, which the gate builds: without them their cases are left out, which is told, and
+is a failure where the word is `--all`.
 """
 
 import itertools
@@ -13,14 +14,15 @@ import sys
 from concurrent.futures import ThreadPoolExecutor
 from os import cpu_count
 
-from tests import analyses, built, calls, edges, nightly, programs, ranges, reference, report, report_files, sample, slow
+from tests import analysed, analyses, built, calls, edges, nightly, programs, ranges, reference, report, report_files
+from tests import sample, slow
 
 TOOL = (report, report_files, nightly)
 
 
 def missing():
     """The kinds whose programs aren't built, with a line for each."""
-    for kind in (calls, ranges, edges, analyses, slow):
+    for kind in (calls, ranges, edges, slow):
         for crate in kind.PROGRAMS:
             if built.program(crate) is None:
                 yield kind, f"{crate} isn't built: the cases of `{kind.__name__}` are left out"
@@ -33,7 +35,7 @@ def main():
         print(line)
     if lacking and "--all" in sys.argv[1:]:
         return 1
-    all_kinds = (reference, sample, programs, *TOOL, calls, ranges, edges, analyses, slow)
+    all_kinds = (reference, sample, analysed, analyses, programs, *TOOL, calls, ranges, edges, slow)
     kinds = [kind for kind in all_kinds if kind not in lacking]
     checks = itertools.chain.from_iterable(kind.checks() for kind in kinds)
     with ThreadPoolExecutor(cpu_count()) as pool:

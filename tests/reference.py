@@ -44,13 +44,14 @@ def in_the_profile(answer):
 
 
 def sources():
-    """Both commands refuse a source likewise. A source that is good is run for one step: what a later rule says of it
+    """All commands refuse a source likewise. A source that is good is run for one step: what a later rule says of it
     isn't known, so the run ends as it may."""
     for file, is_good in (("grammar.jsonl", in_the_grammar), ("profile.jsonl", in_the_profile), ("rules.jsonl", None)):
         for name, case in cases_of(file):
             if case["refused"]:
                 status, out = refusal(case["refused"])
                 yield checked(f"check {name}", case["source"], CERTIFICATE, status, out)
+                yield Case(f"analyse {name}", ["analyse", "S", "C"], {"S": case["source"]}, status, out)
             else:
                 status, out = None, is_good
             yield Case(f"run {name}", ["run", "S", "--steps", "1"], {"S": case["source"]}, status, out)

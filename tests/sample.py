@@ -86,6 +86,7 @@ def refused():
     for name, (source, line) in lines.items():
         yield checked(name, source, CERTIFICATE, 2, line + "\n")
         yield Case(f"run, {name}", ["run", "S"], {"S": source}, 2, line + "\n")
+        yield Case(f"analyse, {name}", ["analyse", "S", "C"], {"S": source}, 2, line + "\n")
 
 
 def of_another_shape():
@@ -132,7 +133,12 @@ def words():
         (["check", "S"], 4, "E1 usage check\n"),
         (["check", "S", "C", "D"], 4, "E1 usage check\n"),
         (["check", "--", "C"], 4, "E1 usage check\n"),
+        (["check", "S", "-x"], 4, "E1 usage check\n"),
+        (["check", "S", "C", "--steps=7"], 4, "E1 usage check\n"),
         (["check", "S", "-"], 7, "E2 absent -\n"),
+        (["check", "S", "--", "-x"], 7, "E2 absent -x\n"),
+        (["check", "--", "S", "C"], 0, "clean\n"),
+        (["check", "S", "C", "--"], 0, "clean\n"),
         (["check", "NOSUCH", "C"], 7, "E2 absent NOSUCH\n"),
         (["check", ".", "C"], 5, "E3 read\n"),
         (["check", "S", "C"], 0, "clean\n"),

@@ -293,7 +293,8 @@ class Moment:
     def clears(self, k, kind):
         word, *words = self.edge.parts[k]
         if kind == "CLASS":
-            return word != "read" or self.is_known(words[0])
+            homes = {"read": words, "read_count": [f"count {number}" for number in words]}
+            return all(self.is_known(home) for home in homes.get(word, ()))
         if self.edge.has_phrase:
             return True
         if kind == "ZERO" and word == "divide":

@@ -19,10 +19,11 @@ use Rattle.alarm_report.specs.Alarms.{alarm_in, alarms_of}
 use Rattle.alarm_report.specs.Text.{report_text}
 use Rattle.cob_program.specs.Statements.{program_statements}
 use Rattle.analyse_top.specs.Profile.{IsProgramOf}
-use Rattle.analyse_top.specs.Answer.{Answer, Usage, Absent, Refused, NotYet, CertificateLong, CertificateBad, CertificateMisfit, NotInductive, Report, Answers, AnswersProgram, HoldsProgram, IsCheck, answer_text, refusal_status, status_of, status_unwritten}
+use Rattle.command_words.specs.Commands.{Command, IsCommand, OneReading, check}
+use Rattle.analyse_top.specs.Answer.{Answer, Usage, Absent, Refused, NotYet, CertificateLong, CertificateBad, CertificateMisfit, NotInductive, Report, Answers, AnswersCheck, AnswersCommand, AnswersProgram, HoldsProgram, answer_text, refusal_status, status_of, status_unwritten}
 use Rattle.analyse_top.specs.Showing.{Gains}
-use Rattle.analyse_top.specs.Conclusion.{Call, Concludes, IsExact, CleanIsSafe, IsClean, EndsBy, EndsWithoutRun, NameAllFaults, ReportsAllFaults, ReportsAreComplete, IsAccepted, AcceptsExactly, report_on}
-use Rattle.analyse_top.proofs.Words.{check_or_run, one_check}
+use Rattle.analyse_top.specs.Conclusion.{Call, Concludes, IsExact, CleanIsSafe, IsClean, EndsBy, EndsByAnswer, NameAllFaults, ReportsAllFaults, ReportsAreComplete, IsAccepted, AcceptsExactly, report_on}
+use Rattle.analyse_top.proofs.Words.{analyse_or_check, check_or_run}
 
 -- ---- statuses
 
@@ -44,7 +45,7 @@ refusal_is_high (end.Limit which count) n e (inr z) = omega (arith, e, z)
 refusal_is_high end.Memory n e (inl z) = omega (arith, e, z)
 refusal_is_high end.Memory n e (inr z) = omega (arith, e, z)
 
-above_one : (n m : ℕ) → 2 ≤ m → m ≡ n → (n ≡ 0) ⊎ (n ≡ 1) → ⊥
+pub above_one : (n m : ℕ) → 2 ≤ m → m ≡ n → (n ≡ 0) ⊎ (n ≡ 1) → ⊥
 above_one n m l e (inl z) = omega (arith, l, e, z)
 above_one n m l e (inr z) = omega (arith, l, e, z)
 
@@ -101,7 +102,14 @@ contained_alarm p (x ∷ xs) pair (suc k, l, e) =
 none_contained : {X : Type 0} (x : X) → Contains [] x → ⊥
 none_contained x (k, l, e) = omega (arith, l)
 
-module _ (sound : CheckingIsSound) (contents : Contents) (source certificate : List ℕ) where
+-- a report on what is accepted names all faults
+pub names_all : CheckingIsSound → (bytes : List ℕ) (p : Program) (g : Graph) (c : Certificate) (pairs : List Open)
+    → IsProgramOf bytes p g → Accepts p g c pairs → NameAllFaults (alarms_of p pairs) p
+names_all sound bytes p g c pairs is accepts told first choices n kind statement fault =
+    let there = sound bytes p g c pairs is accepts told first choices n kind statement fault in
+    (alarm_in (program_statements p) (open_at statement kind), contained_alarm p pairs (open_at statement kind) there, (refl, refl))
+
+module _ (sound : CheckingIsSound) (one_reading : OneReading) (contents : Contents) (source certificate : List ℕ) where
   -- a report on a program names all its faults
   pub record Reported (alarms : List Alarm) : Type 0 where
     pub pairs : List Open
@@ -123,24 +131,20 @@ module _ (sound : CheckingIsSound) (contents : Contents) (source certificate : L
       accepts = accepts;
     };
     alarms_are = are;
-    named = λ told first choices n kind statement fault.
-        let there = sound holds.bytes p g c pairs holds.is_program accepts told first choices n kind statement fault in (
-          alarm_in (program_statements p) (open_at statement kind),
-          subst (λ (xs : List Alarm). Contains xs (alarm_in (program_statements p) (open_at statement kind))) (sym are)
-              (contained_alarm p pairs (open_at statement kind) there),
-          (refl, refl),
-        );
+    named = subst (λ (xs : List Alarm). NameAllFaults xs p) (sym are)
+        (names_all sound holds.bytes p g c pairs holds.is_program accepts);
   }
 
-  reported : (alarms : List Alarm) (words : List (List ℕ)) → IsCheck words source certificate
+  reported_for : (alarms : List Alarm) → AnswersCheck contents source certificate (Report alarms) → Reported alarms
+  reported_for alarms (inl refused) = absurd refused
+  reported_for alarms (inr (p, g, holds, answers)) = reported_by alarms p g holds answers
+
+  reported : (alarms : List Alarm) (words : List (List ℕ)) → IsCommand words (check source certificate)
       → Answers (Some contents) words (Report alarms) → Reported alarms
-  reported alarms words is (inl (none, usage)) = absurd (none.no_check source certificate is)
-  reported alarms words is (inr (inr (r, said, answers))) = absurd answers
-  reported alarms words is (inr (inl (name, target, also, inl refused))) = absurd refused
-  reported alarms words is (inr (inl (name, target, also, inr (p, g, holds, answers)))) =
-      let same = one_check words name target source certificate also is in
-      reported_by alarms p g (subst (λ (n : List ℕ). HoldsProgram contents n p g) same.0 holds)
-      (subst (λ (t : List ℕ). AnswersProgram contents t p g (Report alarms)) same.1 answers)
+  reported alarms words is (inl (none, usage)) = absurd (none (check source certificate) is)
+  reported alarms words is (inr (c, also, answers)) =
+      let same = one_reading words c (check source certificate) also is in
+      reported_for alarms (subst (λ (x : Command). AnswersCommand contents x (Report alarms)) same answers)
 
   -- a call that ends at 0 or 1 shows a report
   pub record Shown (call : Call) : Type 0 where
@@ -149,7 +153,7 @@ module _ (sound : CheckingIsSound) (contents : Contents) (source certificate : L
     pub status : status_of (Report alarms) ≡ call.status
     pub shown : Gains call.out_before call.out_after (report_text alarms)
 
-  module _ (call : Call) (is : IsCheck call.words source certificate) (known : known_bytes call.files_before ≡ Some contents)
+  module _ (call : Call) (is : IsCommand call.words (check source certificate)) (known : known_bytes call.files_before ≡ Some contents)
       (low : (call.status ≡ 0) ⊎ (call.status ≡ 1)) where
     by_answer : (answer : Answer) → EndsBy call answer → Shown call
     by_answer answer ends = elim ends.shows [
@@ -165,7 +169,7 @@ module _ (sound : CheckingIsSound) (contents : Contents) (source certificate : L
       | inr front ↦ absurd (never_low answer call.status (sym front.0) low)
     ]
 
-    without_run : EndsWithoutRun call → Shown call
+    without_run : EndsByAnswer call → Shown call
     without_run without = elim without.ends [
       | inl (answer, ends) ↦ by_answer answer ends
       | inr (inl fault) ↦ elim fault.shows [
@@ -178,10 +182,12 @@ module _ (sound : CheckingIsSound) (contents : Contents) (source certificate : L
     pub shown_report : Concludes call → Shown call
     shown_report concludes = elim concludes [
       | inl without ↦ without_run without
-      | inr (t, result, asks, runs) ↦ absurd (check_or_run call.words source certificate asks.run is asks.said)
+      | inr (inl a) ↦ absurd (analyse_or_check one_reading call.words a.source a.certificate source certificate a.said is)
+      | inr (inr (t, result, asks, runs)) ↦
+          absurd (check_or_run one_reading call.words source certificate asks.run is asks.said)
     ]
 
-module _ (sound : CheckingIsSound) (call : Call) (concludes : Concludes call) where
+module _ (sound : CheckingIsSound) (one_reading : OneReading) (call : Call) (concludes : Concludes call) where
   no_fault_left : (alarms : List Alarm) (p : Program) → alarms ≡ [] → NameAllFaults alarms p → IsFaultless p
   no_fault_left alarms p none named told first choices n kind statement fault =
       let w = named told first choices n kind statement fault in
@@ -189,7 +195,7 @@ module _ (sound : CheckingIsSound) (call : Call) (concludes : Concludes call) wh
 
   pub clean_is_safe : CleanIsSafe call
   clean_is_safe contents source certificate is known at_zero =
-      let w = shown_report sound contents source certificate call is known (inl at_zero) concludes in
+      let w = shown_report sound one_reading contents source certificate call is known (inl at_zero) concludes in
       record {
         name = source;
         certificate = certificate;
@@ -202,7 +208,7 @@ module _ (sound : CheckingIsSound) (call : Call) (concludes : Concludes call) wh
 
   pub reports_are_complete : ReportsAreComplete call
   reports_are_complete contents source certificate is known low =
-      let w = shown_report sound contents source certificate call is known low concludes in
+      let w = shown_report sound one_reading contents source certificate call is known low concludes in
       record {
         program = w.reported_.accepted.program;
         graph = w.reported_.accepted.graph;
@@ -213,15 +219,19 @@ module _ (sound : CheckingIsSound) (call : Call) (concludes : Concludes call) wh
       }
 
   given : (contents : Contents) (source certificate : List ℕ) (pairs : List Open)
-      → IsCheck call.words source certificate → (a : IsAccepted contents source certificate pairs)
+      → IsCommand call.words (check source certificate) → (a : IsAccepted contents source certificate pairs)
       → Answers (Some contents) call.words (report_on a.program pairs)
   given contents source certificate pairs is a =
-      inr (inl (source, certificate, is, inr (a.program, a.graph, a.holds, (a.claims, a.held, (a.plain, (pairs, a.accepts, refl))))))
+      inr (
+        check source certificate,
+        is,
+        inr (a.program, a.graph, a.holds, (a.claims, a.held, (a.plain, (pairs, a.accepts, refl)))),
+      )
 
   pub accepts_exactly : IsExact call → AcceptsExactly call
   accepts_exactly exact contents source certificate is known = record {
     only = λ low.
-        let w = shown_report sound contents source certificate call is known low concludes in
+        let w = shown_report sound one_reading contents source certificate call is known low concludes in
         (w.reported_.pairs, w.reported_.accepted, ap (λ (xs : List Alarm). status_of (Report xs)) (sym w.reported_.alarms_are) ∙ w.status);
     always = λ pairs a.
         exact.answers contents (report_on a.program pairs) known (given contents source certificate pairs is a);

@@ -19,17 +19,17 @@ use Rattle.cert_text.specs.View.{Certificate}
 use Rattle.cert_text.specs.Allowed.{IsAllowed}
 use Rattle.cert_text.specs.Text.{spelling}
 use Rattle.cert_text.specs.Texts.{RefusedBy}
-use Rattle.run_words.specs.Words.{Run, IsRun}
+use Rattle.command_words.specs.Commands.{Command, IsCommand}
 use Rattle.analyse_top.specs.declared.answer.Stop.{Stop}
 use Rattle.analyse_top.specs.declared.answer.Stop.TheVariants as stop
 use Rattle.analyse_top.specs.declared.answer.Answer as code
 use Rattle.analyse_top.specs.declared.source.Laid.{Laid}
 use Rattle.analyse_top.specs.Profile.{IsProfileCause}
-use Rattle.analyse_top.specs.Answer.{Answer, Usage, Absent, Refused, NotYet, CertificateLong, CertificateBad, CertificateMisfit, NotInductive, Report, Answers, AnswersCheck, AnswersProgram, AnswersRun, IsCheck, HoldsCertificate, answer_text, certificate_limit}
+use Rattle.analyse_top.specs.Answer.{Answer, Usage, Absent, Refused, NotYet, CertificateLong, CertificateBad, CertificateMisfit, NotInductive, Report, Answers, AnswersCheck, AnswersCommand, AnswersProgram, AnswersSource, HoldsCertificate, answer_text, certificate_limit}
 use Rattle.analyse_top.specs.Text.{memory_line, read_fault_line}
 use Rattle.analyse_top.specs.Showing.{Gains, GainsFront, ShowsRefusal}
-use Rattle.analyse_top.specs.Conclusion.{Call, EndsBy, EndsByMemory, EndsWithoutRun, MayBeShown}
-use Rattle.analyse_top.specs.Steps.{Reads, stopped_by_fault, ShowsAnswer, ShowsFound, AnswersBytes, IsLaid, answer_to}
+use Rattle.analyse_top.specs.Conclusion.{Call, EndsBy, EndsByMemory, EndsByAnswer, MayBeShown}
+use Rattle.analyse_top.specs.Steps.{Reads, stopped_by_fault, ShowsAnswer, ShowsFound, AnswersBytes, HoldsLaid, answer_to}
 use Rattle.analyse_top.specs.View.{plain_answer, plain_result}
 use Rattle.analyse_top.proofs.Found.{at_held}
 
@@ -41,7 +41,7 @@ whole_front old new text gains =
 
 module _ (call : Call) where
   module _ (reads : Reads call.files_before call.files_after false) where
-    ends_in : (answer : Answer) → EndsBy call answer → EndsWithoutRun call
+    ends_in : (answer : Answer) → EndsBy call answer → EndsByAnswer call
     ends_in answer ends = record {
       contents = reads.contents;
       ids = reads.ids;
@@ -50,7 +50,7 @@ module _ (call : Call) where
     }
 
     ends_out_of_memory : (text : List ℕ) → MayBeShown call text → call.status ≡ 8
-        → GainsFront call.out_before call.out_after text → EndsWithoutRun call
+        → GainsFront call.out_before call.out_after text → EndsByAnswer call
     ends_out_of_memory text may eight front = record {
       contents = reads.contents;
       ids = reads.ids;
@@ -58,15 +58,15 @@ module _ (call : Call) where
       ends = inr (inr (record { status = eight; shows = (text, may, front) }));
     }
 
-    ends_by_answer : (answer : Answer) → Answers (known_bytes call.files_before) call.words answer
-        → ShowsAnswer call.out_before call.out_after answer call.status → EndsWithoutRun call
+    pub ends_by_answer : (answer : Answer) → Answers (known_bytes call.files_before) call.words answer
+        → ShowsAnswer call.out_before call.out_after answer call.status → EndsByAnswer call
     ends_by_answer answer is (inl shows) =
         ends_in answer (record { is_answer = is; reading = reads.reading.kept refl; shows = shows })
     ends_by_answer answer is (inr (eight, inl front)) =
         ends_out_of_memory (answer_text answer) (inr (inr (answer, is, refl))) eight front
     ends_by_answer answer is (inr (eight, inr front)) = ends_out_of_memory memory_line (inl refl) eight front
 
-    ends_for_memory : ShowsRefusal call.out_before call.out_after memory_line 8 call.status → EndsWithoutRun call
+    ends_for_memory : ShowsRefusal call.out_before call.out_after memory_line 8 call.status → EndsByAnswer call
     ends_for_memory (inl (inl (eight, gains, kept))) =
         ends_out_of_memory memory_line (inl refl) eight
         (whole_front call.out_before call.out_after memory_line gains)
@@ -77,7 +77,7 @@ module _ (call : Call) where
     rose : Rose call.files_before.reading call.files_after.reading
     rose = reads.reading.rose refl
 
-    ends_by_read_fault : ShowsRefusal call.out_before call.out_after read_fault_line 5 call.status → EndsWithoutRun call
+    ends_by_read_fault : ShowsRefusal call.out_before call.out_after read_fault_line 5 call.status → EndsByAnswer call
     ends_by_read_fault (inl shows) = record {
       contents = reads.contents;
       ids = reads.ids;
@@ -93,7 +93,7 @@ module _ (call : Call) where
 
   pub ends_found : (found : Result code.Answer Stop) → Reads call.files_before call.files_after (stopped_by_fault found)
       → IfOk found (λ answer. Answers (known_bytes call.files_before) call.words (plain_answer answer))
-      → ShowsFound call.out_before call.out_after (plain_result found) call.status → EndsWithoutRun call
+      → ShowsFound call.out_before call.out_after (plain_result found) call.status → EndsByAnswer call
   ends_found (Ok answer) reads is shows = ends_by_answer reads (plain_answer answer) is shows
   ends_found (Err stop.ReadFault) reads is shows = ends_by_read_fault reads shows
   ends_found (Err stop.Memory) reads is shows = ends_for_memory reads shows
@@ -106,17 +106,12 @@ reads_nothing files = record {
   reading = record { later = omega arith; rose = λ b. absurd (false≢true b); kept = λ e. refl };
 }
 
-pub answers_check : (result : Result code.Answer Stop) (known : Option Contents) (words : List (List ℕ)) (source certificate : List ℕ) → IsCheck words source certificate →
-    IfOk result (λ answer. IfSome known (λ contents. AnswersCheck contents source certificate (plain_answer answer))) → IfOk result (λ answer. Answers known words (plain_answer answer))
-answers_check (Ok answer) known words source certificate is h = inr (inl (source, certificate, is, h))
-answers_check (Err stop) known words source certificate is h = tt
-
-pub answers_run : (result : Result code.Answer Stop) (known : Option Contents) (words : List (List ℕ)) (r : Run)
-    → IsRun words r
-    → IfOk result (λ answer. IfSome known (λ contents. AnswersRun contents r (plain_answer answer)))
+-- what a command is answered
+pub answers_command : (result : Result code.Answer Stop) (known : Option Contents) (words : List (List ℕ)) (c : Command)
+    → IsCommand words c → IfOk result (λ answer. IfSome known (λ contents. AnswersCommand contents c (plain_answer answer)))
     → IfOk result (λ answer. Answers known words (plain_answer answer))
-answers_run (Ok answer) known words r said h = inr (inr (r, said, h))
-answers_run (Err stop) known words r said h = tt
+answers_command (Ok answer) known words c is h = inr (c, is, h)
+answers_command (Err stop) known words c is h = tt
 
 -- ---- the certificate
 
@@ -156,36 +151,52 @@ module _ (p : Program) (g : Graph) (certificate bytes : List ℕ) (fits : length
 
 -- ---- a source that is read
 
-module _ (source certificate bytes : List ℕ) where
-  read_known : (known : Option Contents) (laid : Laid) (answer : Answer)
-      → IfSome known (λ contents. get contents source ≡ Some bytes) → IsLaid bytes laid
+module _ (source certificate : List ℕ) where
+  read_known : (known : Option Contents) (laid : Laid) (answer : Answer) → HoldsLaid known source laid
       → IfSome known (λ contents. AnswersProgram contents certificate (plain_program laid.program) laid.graph answer)
       → IfSome known (λ contents. AnswersCheck contents source certificate answer)
-  read_known None laid answer held is h = tt
-  read_known (Some contents) laid answer held is h =
-      inr (plain_program laid.program, laid.graph, record { bytes = bytes; held = held; is_program = is }, h)
+  read_known None laid answer holds h = tt
+  read_known (Some contents) laid answer holds h =
+      inr (
+        plain_program laid.program,
+        laid.graph,
+        record { bytes = holds.bytes; held = holds.held; is_program = holds.is_laid },
+        h,
+      )
 
-  pub answers_read : (result : Result code.Answer Stop) (laid : Laid) (seen : List ℕ) (known after : Option Contents)
-      → IfSome known (λ contents. get contents source ≡ Some bytes) → seen ≡ bytes → IsLaid seen laid → after ≡ known
+  pub answers_read : (result : Result code.Answer Stop) (laid : Laid) (known after : Option Contents)
+      → HoldsLaid known source laid → after ≡ known
       → IfOk result (λ answer. IfSome after (λ contents.
       AnswersProgram contents certificate (plain_program laid.program) laid.graph (plain_answer answer)))
       → IfOk result (λ answer. IfSome known (λ contents. AnswersCheck contents source certificate (plain_answer answer)))
-  answers_read (Err end) laid seen known after held s w k h = tt
-  answers_read (Ok answer) laid seen known after held s w k h =
+  answers_read (Err end) laid known after holds k h = tt
+  answers_read (Ok answer) laid known after holds k h =
       let P : Option Contents → Type 0 = λ known. IfSome known (λ contents.
       AnswersProgram contents certificate (plain_program laid.program) laid.graph (plain_answer answer)) in
-      read_known known laid (plain_answer answer) held (subst (λ (bs : List ℕ). IsLaid bs laid) s w) (subst P k h)
+      read_known known laid (plain_answer answer) holds (subst P k h)
 
-  -- ---- a source that isn't read
+  source_known : (known : Option Contents) (answer : Answer) → IfSome known (λ contents. AnswersSource contents source answer)
+      → IfSome known (λ contents. AnswersCheck contents source certificate answer)
+  source_known None answer h = tt
+  source_known (Some contents) answer h = inl h
 
+  pub answers_unread : (result : Result code.Answer Stop) (known : Option Contents)
+      → IfOk result (λ answer. IfSome known (λ contents. AnswersSource contents source (plain_answer answer)))
+      → IfOk result (λ answer. IfSome known (λ contents. AnswersCheck contents source certificate (plain_answer answer)))
+  answers_unread (Err stop) known h = tt
+  answers_unread (Ok answer) known h = source_known known (plain_answer answer) h
+
+-- ---- a source that isn't read
+
+module _ (source bytes : List ℕ) where
   refused_known : (known : Option Contents) (answer : Answer) (cause : Refusal)
       → IfSome known (λ contents. get contents source ≡ Some bytes)
       → IsProfileCause bytes cause → Refused cause ≡ answer
-      → IfSome known (λ contents. AnswersCheck contents source certificate answer)
+      → IfSome known (λ contents. AnswersSource contents source answer)
   refused_known None answer cause held is e = tt
   refused_known (Some contents) answer cause held is e =
-      subst (λ (a : Answer). AnswersCheck contents source certificate a) e
-      (inl (at_held (get contents source) bytes (λ bs. IsProfileCause bs cause) held is))
+      subst (λ (a : Answer). AnswersSource contents source a) e
+      (at_held (get contents source) bytes (λ bs. IsProfileCause bs cause) held is)
 
   answered : (cause : Refusal) (answer : Answer) → answer_to cause ≡ Ok answer → Refused cause ≡ answer
   answered end.TooLong answer e = cc
@@ -200,14 +211,30 @@ module _ (source certificate bytes : List ℕ) where
   not_memory : (cause : Refusal) (answer : Answer) → answer_to cause ≡ Ok answer → cause ≡ end.Memory → ⊥
   not_memory cause answer e memory = let f = ap answer_to (sym memory) ∙ e in cc
 
-  pub answers_unread : (result : Result code.Answer Stop) (cause : Refusal) (seen : List ℕ) (known : Option Contents)
+  pub answers_refused : (result : Result code.Answer Stop) (cause : Refusal) (seen : List ℕ) (known : Option Contents)
       → IfSome known (λ contents. get contents source ≡ Some bytes)
       → seen ≡ bytes → IsProfileCause seen cause ⊎ (cause ≡ end.Memory) → plain_result result ≡ answer_to cause
-      → IfOk result (λ answer.
-      IfSome known (λ contents. AnswersCheck contents source certificate (plain_answer answer)))
-  answers_unread (Err stop) cause seen known held same is e = tt
-  answers_unread (Ok answer) cause seen known held same (inr memory) e =
+      → IfOk result (λ answer. IfSome known (λ contents. AnswersSource contents source (plain_answer answer)))
+  answers_refused (Err stop) cause seen known held same is e = tt
+  answers_refused (Ok answer) cause seen known held same (inr memory) e =
       absurd (not_memory cause (plain_answer answer) (sym e) memory)
-  answers_unread (Ok answer) cause seen known held same (inl is) e =
+  answers_refused (Ok answer) cause seen known held same (inl is) e =
       refused_known known (plain_answer answer) cause held (subst (λ (bs : List ℕ). IsProfileCause bs cause) same is)
       (answered cause (plain_answer answer) (sym e))
+
+-- the answer to it isn't a fault of the outside
+pub no_fault : (result : Result code.Answer Stop) (cause : Refusal) → plain_result result ≡ answer_to cause
+    → stopped_by_fault result ≡ false
+no_fault (Ok answer) cause e = refl
+no_fault (Err stop.ReadFault) cause e = absurd (no_read_fault cause (sym e))
+  where
+    no_read_fault : (cause : Refusal) → answer_to cause ≡ Err stop.ReadFault → ⊥
+    no_read_fault end.TooLong f = cc
+    no_read_fault (end.BadLine line column) f = cc
+    no_read_fault (end.BadToken line column) f = cc
+    no_read_fault (end.Syntax line) f = cc
+    no_read_fault (end.Nesting count) f = cc
+    no_read_fault (end.Outside rule line) f = cc
+    no_read_fault (end.Limit which count) f = cc
+    no_read_fault end.Memory f = cc
+no_fault (Err stop.Memory) cause e = refl

@@ -1,5 +1,7 @@
 -- Each answer is given exactly where it is the answer, and what is asked for is run to its own end.
 use Rattle.std.proofs.Common.{◌≡◌, ℕ, ◌⊎◌, List, Option, Some, Result, subst, inl, inr}
+use Rattle.std.specs.Prelude.{IfSome}
+use Rattle.std.specs.FinMap.{get}
 use Rattle.batch_io.specs.FilesState.{Contents, known_bytes}
 use Rattle.cob_graph.specs.Graphs.{OneGraph}
 use Rattle.cob_front.specs.Laws.{OneAnswer}
@@ -8,14 +10,15 @@ use Rattle.cob_interp.specs.declared.ends.RunEnd.{RunEnd}
 use Rattle.cob_interp.specs.Ends.{told_files, IsEnd}
 use Rattle.cob_interp.specs.OneEnd.{OneEnd}
 use Rattle.cob_interp.specs.Running.{outside}
-use Rattle.run_words.specs.Words.{OneReading}
-use Rattle.analyse_top.specs.Answer.{Answer, Answers}
+use Rattle.command_words.specs.Commands.{OneReading}
+use Rattle.analyse_top.specs.Answer.{Answer, Answers, HoldsProgram}
 use Rattle.analyse_top.specs.Runs.{Task, AsksFor}
-use Rattle.analyse_top.specs.Conclusion.{Call, Concludes, IsExact, AnswersExactly, RunsExactly, FailsToRun, EndsBy, EndsByMemory, EndsByReadFault, EndsByRun, EndsWithoutRun}
-use Rattle.analyse_top.proofs.Asked.{one_for_run, asked_once, answered_or_asked}
+use Rattle.analyse_top.specs.Conclusion.{Call, Concludes, IsExact, AnalysesExactly, AnswersExactly, RunsExactly, FailsToRun, EndsBy, EndsByAnalysis, EndsByAnswer, EndsByMemory, EndsByReadFault, EndsByRun}
+use Rattle.analyse_top.proofs.Asked.{one_for_run, asked_once, answered_or_analysed, answered_or_asked}
 use Rattle.analyse_top.proofs.OneAnswer.{TextsAreApart, one_answer}
 use Rattle.analyse_top.proofs.RunEnds.{IsRefusal, EndsSomewhere, refused_or_ends}
 use Rattle.analyse_top.proofs.Sources.{one_ending}
+use Rattle.analyse_top.proofs.Words.{analyse_or_run}
 
 module _ (law : (bytes : List ℕ) → OneAnswer bytes) (one_reading : OneReading) (graphs : OneGraph)
     (one_end : OneEnd) (laws : TextsAreApart) where
@@ -28,7 +31,7 @@ module _ (law : (bytes : List ℕ) → OneAnswer bytes) (one_reading : OneReadin
 
   answers_without_run : (call : Call) (contents : Contents) (answer : Answer)
       → known_bytes call.files_before ≡ Some contents
-      → Answers (Some contents) call.words answer → EndsWithoutRun call
+      → Answers (Some contents) call.words answer → EndsByAnswer call
       → EndsBy call answer ⊎ EndsByReadFault call ⊎ EndsByMemory call
   answers_without_run call contents answer known is without = elim without.ends [
     | inl (other, ends) ↦
@@ -37,12 +40,39 @@ module _ (law : (bytes : List ℕ) → OneAnswer bytes) (one_reading : OneReadin
     | inr fault ↦ inr fault
   ]
 
+  -- the program that a call analyses
+  analysed_program : (call : Call) (contents : Contents) → known_bytes call.files_before ≡ Some contents
+      → (a : EndsByAnalysis call) → HoldsProgram contents a.source a.analysis.program a.analysis.graph
+  analysed_program call contents known a = record {
+    bytes = a.is_of.bytes;
+    held = subst (λ (k : Option Contents). IfSome k (λ told. get told a.source ≡ Some a.is_of.bytes)) known a.is_of.held;
+    is_program = a.is_of.is_program;
+  }
+
   answers_exactly : (call : Call) → Concludes call → AnswersExactly call
   answers_exactly call concludes contents answer known is = elim concludes [
     | inl without ↦ answers_without_run call contents answer known is without
-    | inr (t, result, asks, runs) ↦
+    | inr (inl a) ↦
+        absurd (answered_or_analysed law graphs one_reading contents call.words answer a.source a.certificate
+        a.analysis.program a.analysis.graph is a.said (analysed_program call contents known a))
+    | inr (inr (t, result, asks, runs)) ↦
         let here = subst (λ (k : Option Contents). AsksFor k call.words t) known asks in
         absurd (answered_or_asked law graphs one_reading contents call.words answer t is here)
+  ]
+
+  -- ---- analyses
+
+  analyses_exactly : (call : Call) → Concludes call → AnalysesExactly call
+  analyses_exactly call concludes contents source certificate p g known said holds = elim concludes [
+    | inl without ↦ elim without.ends [
+      | inl (answer, ends) ↦
+          let here = subst (λ (k : Option Contents). Answers k call.words answer) known ends.is_answer in
+          absurd (answered_or_analysed law graphs one_reading contents call.words answer source certificate p g here said holds)
+      | inr fault ↦ inr fault
+    ]
+    | inr (inl a) ↦ inl a
+    | inr (inr (t, result, asks, runs)) ↦
+        absurd (analyse_or_run one_reading call.words source certificate asks.run said asks.said)
   ]
 
   -- ---- runs
@@ -50,7 +80,7 @@ module _ (law : (bytes : List ℕ) → OneAnswer bytes) (one_reading : OneReadin
   module _ (call : Call) (contents : Contents) (t : Task) (result : Result Ended RunEnd) (steps : ℕ)
       (known : known_bytes call.files_before ≡ Some contents) (asks : AsksFor (Some contents) call.words t)
       (is_end : IsEnd t.program (told_files contents t.paths) t.steps result steps) where
-    no_run : EndsWithoutRun call → EndsByRun call t result ⊎ FailsToRun call t
+    no_run : EndsByAnswer call → EndsByRun call t result ⊎ FailsToRun call t
     no_run without = elim without.ends [
       | inl (answer, ends) ↦
           let here = subst (λ (k : Option Contents). Answers k call.words answer) known ends.is_answer in
@@ -80,7 +110,8 @@ module _ (law : (bytes : List ℕ) → OneAnswer bytes) (one_reading : OneReadin
   runs_exactly : (call : Call) → Concludes call → RunsExactly call
   runs_exactly call concludes contents t result steps known asks is_end = elim concludes [
     | inl without ↦ no_run call contents t result steps known asks is_end without
-    | inr (u, other, asked, runs) ↦
+    | inr (inl a) ↦ absurd (analyse_or_run one_reading call.words a.source a.certificate asks.run a.said asks.said)
+    | inr (inr (u, other, asked, runs)) ↦
         let here = subst (λ (k : Option Contents). AsksFor k call.words u) known asked in
         let same = asked_once law graphs one_reading contents call.words u t here asks in
         this_run call contents t result steps known asks is_end other
@@ -88,4 +119,8 @@ module _ (law : (bytes : List ℕ) → OneAnswer bytes) (one_reading : OneReadin
   ]
 
   pub is_exact : (call : Call) → Concludes call → IsExact call
-  is_exact call concludes = record { answers = answers_exactly call concludes; runs = runs_exactly call concludes }
+  is_exact call concludes = record {
+    answers = answers_exactly call concludes;
+    analyses = analyses_exactly call concludes;
+    runs = runs_exactly call concludes;
+  }

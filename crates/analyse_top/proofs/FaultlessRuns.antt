@@ -16,13 +16,14 @@ use Rattle.cob_interp.specs.declared.ends.RunEnd.TheVariants as end
 use Rattle.cob_interp.specs.Ends.{told_files, IsEnd}
 use Rattle.cob_interp.specs.Running.{outside}
 use Rattle.alarm_report.specs.declared.alarms.Alarm.{Alarm}
-use Rattle.run_words.specs.Words.{Run, OneReading}
+use Rattle.command_words.specs.Commands.{Command, Run, OneReading}
+use Rattle.command_words.specs.Commands as command
 use Rattle.analyse_top.specs.Runs.{Task, HoldsTask, AsksFor, TellsEnd, run_status}
-use Rattle.analyse_top.specs.Answer.{Answer, Answers, Report}
-use Rattle.analyse_top.specs.Conclusion.{Call, Concludes, IsClean, EndsBy, EndsByRun, EndsWithoutRun, RunsClean, CleanRunsMeetNoFault}
+use Rattle.analyse_top.specs.Answer.{Answer, Answers, AnswersCommand, Report}
+use Rattle.analyse_top.specs.Conclusion.{Call, Concludes, IsClean, EndsBy, EndsByRun, EndsByAnswer, RunsClean, CleanRunsMeetNoFault}
 use Rattle.analyse_top.proofs.Clean.{low_status, never_low}
 use Rattle.analyse_top.proofs.RunEnds.{refused_or_ends}
-use Rattle.analyse_top.proofs.Words.{check_or_run}
+use Rattle.analyse_top.proofs.Words.{analyse_or_run, one_run}
 
 -- ---- a status of 1 tells a fault
 
@@ -71,10 +72,10 @@ module _ (law : (bytes : List ℕ) → OneAnswer bytes) where
 
   module _ (reading : OneReading) (call : Call) (runs : RunsClean call) (one : call.status ≡ 1) where
     no_report : (alarms : List Alarm) → Answers (Some runs.told) call.words (Report alarms) → ⊥
-    no_report alarms (inl (none, usage)) = none.no_run runs.asked runs.said
-    no_report alarms (inr (inl (name, certificate, is, answers))) =
-        check_or_run call.words name certificate runs.asked is runs.said
-    no_report alarms (inr (inr (r, said, answers))) = answers
+    no_report alarms (inl (none, usage)) = none (command.run runs.asked) runs.said
+    no_report alarms (inr (c, said, answers)) =
+        let same = reading call.words c (command.run runs.asked) said runs.said in
+        subst (λ (x : Command). AnswersCommand runs.told x (Report alarms)) same answers
 
     by_answer : (answer : Answer) → EndsBy call answer → ⊥
     by_answer answer ends = elim ends.shows [
@@ -85,7 +86,7 @@ module _ (law : (bytes : List ℕ) → OneAnswer bytes) where
       | inr front ↦ never_low answer call.status (sym front.0) (inr one)
     ]
 
-    without_run : EndsWithoutRun call → ⊥
+    without_run : EndsByAnswer call → ⊥
     without_run without = elim without.ends [
       | inl (answer, ends) ↦ by_answer answer ends
       | inr (inl fault) ↦ elim fault.shows [
@@ -102,7 +103,7 @@ module _ (law : (bytes : List ℕ) → OneAnswer bytes) where
         let before = outside call.files_before call.out_before in
         let after = outside call.files_after ends.middle in
         let asked = subst (λ (k : Option Contents). AsksFor k call.words t) runs.known asks in
-        let holds = subst (λ (r : Run). HoldsTask (Some runs.told) r t) (reading call.words asked.run runs.asked asked.said runs.said)
+        let holds = subst (λ (r : Run). HoldsTask (Some runs.told) r t) (one_run reading call.words asked.run runs.asked asked.said runs.said)
         asked.holds in
         elim (refused_or_ends t.program t.graph t.paths t.steps before after runs.told runs.known result ends.runs) [
           | inl refusal ↦ no_refusal result fault refusal
@@ -114,7 +115,8 @@ module _ (law : (bytes : List ℕ) → OneAnswer bytes) where
     not_one : Concludes call → ⊥
     not_one concludes = elim concludes [
       | inl without ↦ without_run without
-      | inr (t, result, asks, ends) ↦ by_run t result asks ends
+      | inr (inl a) ↦ analyse_or_run reading call.words a.source a.certificate runs.asked a.said runs.said
+      | inr (inr (t, result, asks, ends)) ↦ by_run t result asks ends
     ]
 
   pub clean_runs_meet_no_fault : OneReading → (call : Call) → Concludes call → CleanRunsMeetNoFault call

@@ -11,4 +11,6 @@ pub mod Tasks
 pub mod Asked
 pub mod OneAnswer
 pub mod Exact
+pub mod Analysed
+pub mod Telling
 pub mod FaultlessRuns

@@ -21,12 +21,12 @@ use Rattle.cert_check.specs.Claims.{leak, leaks}
 use Rattle.cert_check.specs.Checking.{HasShape, Misfits, Accepts}
 use Rattle.alarm_report.specs.declared.alarms.Alarm.{Alarm}
 use Rattle.alarm_report.specs.Alarms.{alarms_of}
-use Rattle.run_words.specs.Words.{Run, OneReading}
-use Rattle.analyse_top.specs.Answer.{Answer, Usage, Absent, Refused, NotYet, CertificateLong, CertificateBad, CertificateMisfit, NotInductive, Report, Answers, AnswersCheck, AnswersRun, AnswersSource, AnswersProgram, AnswersCertificate, IsCheck, HoldsCertificate, certificate_limit}
+use Rattle.command_words.specs.Commands.{Command, Run, OneReading}
+use Rattle.command_words.specs.Commands as command
+use Rattle.analyse_top.specs.Answer.{Answer, Usage, Absent, Refused, NotYet, CertificateLong, CertificateBad, CertificateMisfit, NotInductive, Report, Answers, AnswersCheck, AnswersCommand, AnswersRun, AnswersSource, AnswersProgram, AnswersCertificate, HoldsCertificate, IsTrial, certificate_limit}
 use Rattle.analyse_top.specs.Profile.{IsProfileCause}
 use Rattle.analyse_top.proofs.Found.{Found, Missing, Long, Bad, Good, Finds, at_held, held_bytes, one_found}
 use Rattle.analyse_top.proofs.Sources.{Ending, refused, read, EndsIn}
-use Rattle.analyse_top.proofs.Words.{check_or_run, one_check}
 
 -- ---- the certificate
 
@@ -235,23 +235,22 @@ module _ (contents : Contents) where
 
     module _ (one_reading : OneReading)
         (one_for_run : (r : Run) (a b : Answer) → AnswersRun contents r a → AnswersRun contents r b → a ≡ b) where
+      one_for_command : (c : Command) (a b : Answer) → AnswersCommand contents c a → AnswersCommand contents c b → a ≡ b
+      one_for_command (command.analyse name certificate) a b h k = one_for_check name certificate a b (inl h) (inl k)
+      one_for_command (command.check name certificate) a b h k = one_for_check name certificate a b h k
+      one_for_command (command.run r) a b h k = one_for_run r a b h k
+      one_for_command (command.trial count) a b h k = absurd h
+
+      no_trial : (c : Command) (a : Answer) → IsTrial c → AnswersCommand contents c a → ⊥
+      no_trial (command.trial count) a is h = h
+      no_trial (command.analyse name certificate) a is h = is
+      no_trial (command.check name certificate) a is h = is
+      no_trial (command.run r) a is h = is
+
       pub one_answer : (words : List (List ℕ)) (a b : Answer)
           → Answers (Some contents) words a → Answers (Some contents) words b → a ≡ b
       one_answer words a b (inl (none, e)) (inl (none', f)) = e ∙ sym f
-      one_answer words a b (inl (none, e)) (inr (inl (name, certificate, is, h))) =
-          absurd (none.no_check name certificate is)
-      one_answer words a b (inl (none, e)) (inr (inr (r, said, h))) = absurd (none.no_run r said)
-      one_answer words a b (inr (inl (name, certificate, is, h))) (inl (none, e)) =
-          absurd (none.no_check name certificate is)
-      one_answer words a b (inr (inr (r, said, h))) (inl (none, e)) = absurd (none.no_run r said)
-      one_answer words a b (inr (inl (name, certificate, is, h))) (inr (inr (r, said, k))) =
-          absurd (check_or_run words name certificate r is said)
-      one_answer words a b (inr (inr (r, said, h))) (inr (inl (name, certificate, is, k))) =
-          absurd (check_or_run words name certificate r is said)
-      one_answer words a b (inr (inl (name, certificate, is, h))) (inr (inl (name', certificate', is', k))) =
-          let same = one_check words name certificate name' certificate' is is' in
-          let there = subst (λ (n : List ℕ). AnswersCheck contents n certificate' b) (sym same.0) k in
-          one_for_check name certificate a b h
-          (subst (λ (c : List ℕ). AnswersCheck contents name c b) (sym same.1) there)
-      one_answer words a b (inr (inr (r, said, h))) (inr (inr (s, also, k))) =
-          one_for_run r a b h (subst (λ (x : Run). AnswersRun contents x b) (one_reading words s r also said) k)
+      one_answer words a b (inl (none, e)) (inr (c, is, h)) = absurd (no_trial c b (none c is) h)
+      one_answer words a b (inr (c, is, h)) (inl (none, e)) = absurd (no_trial c a (none c is) h)
+      one_answer words a b (inr (c, is, h)) (inr (d, also, k)) =
+          one_for_command d a b (subst (λ (x : Command). AnswersCommand contents x a) (one_reading words c d is also) h) k

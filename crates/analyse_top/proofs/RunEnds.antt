@@ -11,7 +11,8 @@ use Rattle.cob_interp.specs.declared.ends.RunEnd.TheVariants as end
 use Rattle.cob_interp.specs.Ends.{told_files, IsEnd}
 use Rattle.cob_interp.specs.Running.{Outside, outside, IfTold, EndsRunIf, EndsWell, EndsBy, BreaksOff, IsBroken, IfRefused, IsTooLong, KeepsUnmade, Runs}
 use Rattle.cob_interp.proofs.Passing.{ids_pass}
-use Rattle.run_words.specs.Words.{Run, IsRun}
+use Rattle.command_words.specs.Commands.{Run, IsCommand}
+use Rattle.command_words.specs.Commands as command
 use Rattle.analyse_top.specs.Runs.{Task, HoldsTask, AsksFor, RunsTo}
 use Rattle.analyse_top.specs.Steps.{Reads}
 
@@ -125,6 +126,6 @@ runs_behind t before middle sink new result status reads h = record {
 }
 
 pub asks_for : (known : Option Contents) (words : List (List ℕ)) (r : Run) (t : Task)
-    → IsRun words r → HoldsTask known r t
+    → IsCommand words (command.run r) → HoldsTask known r t
     → AsksFor known words t
 asks_for known words r t said holds = record { run = r; said = said; holds = holds }

@@ -9,8 +9,9 @@ use Rattle.cob_program.specs.ActView.{plain_program}
 use Rattle.cob_well_formed.specs.Sources.{SourcesCanBeRun}
 use Rattle.cob_front.specs.declared.refusal.Refusal.{Refusal}
 use Rattle.cob_front.specs.declared.refusal.Refusal.TheVariants as end
-use Rattle.run_words.specs.Words.{Run, texts, lent_texts}
-use Rattle.run_words.specs.Paths.{AreDistinct, paths_of}
+use Rattle.command_words.specs.Words.{texts, lent_texts}
+use Rattle.command_words.specs.Commands.{Run}
+use Rattle.file_paths.specs.Paths.{AreDistinct, paths_of}
 use Rattle.analyse_top.specs.declared.answer.Answer as code
 use Rattle.analyse_top.specs.declared.answer.Stop.{Stop}
 use Rattle.analyse_top.specs.declared.run.Task.{Task}

@@ -20,10 +20,11 @@ use Rattle.cert_check.specs.Checking.{Accepts, Refuses}
 use Rattle.alarm_report.specs.declared.alarms.Alarm.{Alarm}
 use Rattle.alarm_report.specs.Alarms.{alarms_of}
 use Rattle.alarm_report.specs.Text.{line_end, report_text}
-use Rattle.run_words.specs.Words.{IsPlain, Run, IsRun}
 use Rattle.analyse_top.specs.Text.{at_line, gap_text, refusal_text, shape_line}
 use Rattle.analyse_top.specs.Profile.{IsProgramOf, IsProfileCause}
 use Rattle.analyse_top.specs.Runs.{BlamesWord}
+use Rattle.command_words.specs.Commands.{Command, Run, IsCommand}
+use Rattle.command_words.specs.Commands as command
 
 -- ---- answers, their texts and statuses
 
@@ -98,16 +99,13 @@ status_unwritten (NotInductive edge gap) = status_of (NotInductive edge gap)
 
 -- ---- the words
 
--- `check SOURCE CERT`
-pub record IsCheck (words : List (List ℕ)) (source certificate : List ℕ) : Type 0 where
-  pub words_are : words ≡ codes "check" ∷ source ∷ certificate ∷ []
-  pub plain_source : IsPlain source
-  pub plain_certificate : IsPlain certificate
+abbrev pub IsTrial : Command → Type 0
+IsTrial (command.trial count) = Unit {0}
+IsTrial _ = ⊥
 
--- neither of the two commands
-pub record IsNoCommand (words : List (List ℕ)) : Type 0 where
-  pub no_check : (source certificate : List ℕ) → IsCheck words source certificate → ⊥
-  pub no_run : (r : Run) → IsRun words r → ⊥
+-- They say no command, or a trial, which isn't done yet.
+abbrev pub IsNoCommand : List (List ℕ) → Type 0
+IsNoCommand words = (c : Command) → IsCommand words c → IsTrial c
 
 abbrev pub first_word : List (List ℕ) → List ℕ
 first_word [] = []
@@ -178,10 +176,15 @@ AnswersRun contents r (Refused cause) = IsSomeAnd (get contents r.source) (λ by
 AnswersRun contents r (Usage word) = IsSomeAnd (get contents r.source) (λ bytes. BlamesWord bytes r.names word)
 AnswersRun contents r _ = ⊥
 
+-- The answer to a command, where nothing is run and no certificate is found.
+abbrev pub AnswersCommand : Contents → Command → Answer → Type 0
+AnswersCommand contents (command.analyse source certificate) answer = AnswersSource contents source answer
+AnswersCommand contents (command.check source certificate) answer = AnswersCheck contents source certificate answer
+AnswersCommand contents (command.run r) answer = AnswersRun contents r answer
+AnswersCommand contents (command.trial count) answer = ⊥
+
 -- The answer to these words, where the files' contents are known; a command's form shows in the words alone.
 abbrev pub Answers : Option Contents → List (List ℕ) → Answer → Type 0
 Answers known words answer =
     (IsNoCommand words × (answer ≡ Usage (first_word words)))
-    ⊎ ((source : List ℕ) × (certificate : List ℕ) × IsCheck words source certificate
-    × IfSome known (λ contents. AnswersCheck contents source certificate answer))
-    ⊎ ((r : Run) × IsRun words r × IfSome known (λ contents. AnswersRun contents r answer))
+    ⊎ ((c : Command) × IsCommand words c × IfSome known (λ contents. AnswersCommand contents c answer))

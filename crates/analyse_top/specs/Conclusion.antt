@@ -1,10 +1,11 @@
 -- How a call of the program ends: its status, what it shows, and what it leaves.
-use Rattle.std.specs.Prelude.{◌≡◌, ℕ, ◌⊎◌, List, [], Some, Result, Err}
+use Rattle.std.specs.Prelude.{◌≡◌, ◌<◌, ◌≤◌, ◌+◌, ◌*◌, ℕ, ◌⊎◌, List, [], length, take, Some, Result, Err}
 use Rattle.std.specs.List.{Contains}
-use Rattle.std.specs.FinMap.{get}
+use Rattle.std.specs.FinMap.{get, insert}
 use Rattle.batch_io.specs.Faults.{Rose}
 use Rattle.batch_io.specs.FilesState.{FilesState, Contents, KeepsIds, known_bytes}
 use Rattle.batch_io.specs.SinkState.{SinkState}
+use Rattle.batch_io.specs.Wholes.{Holds}
 use Rattle.cob_tree.specs.declared.fault.Kind.{Kind}
 use Rattle.cob_tree.specs.declared.fault.Open.{Open}
 use Rattle.cob_meaning.specs.declared.straight.Outcome.TheVariants.{Fault}
@@ -13,6 +14,7 @@ use Rattle.cob_runs.specs.Files.{Choice}
 use Rattle.cob_runs.specs.Runs.{IsFaultless, run}
 use Rattle.cob_runs.specs.Runs as runs
 use Rattle.cob_graph.specs.declared.graph.Graph.{Graph}
+use Rattle.cob_graph.specs.Graphs.{cells_of}
 use Rattle.cob_interp.specs.declared.ends.Ended.{Ended}
 use Rattle.cob_interp.specs.declared.ends.RunEnd.{RunEnd}
 use Rattle.cob_interp.specs.declared.ends.RunEnd.TheVariants as end
@@ -23,10 +25,12 @@ use Rattle.alarm_report.specs.Alarms.{alarms_of}
 use Rattle.alarm_report.specs.Text.{report_text}
 use Rattle.cert_text.specs.View.{Certificate}
 use Rattle.cert_check.specs.Checking.{Accepts}
-use Rattle.run_words.specs.Words.{Run, IsRun}
-use Rattle.analyse_top.specs.Text.{memory_line, read_fault_line}
-use Rattle.analyse_top.specs.Showing.{Gains, GainsFront, Shows}
-use Rattle.analyse_top.specs.Answer.{Answer, Report, Answers, IsCheck, HoldsProgram, HoldsCertificate, answer_text, status_of, status_unwritten}
+use Rattle.analyse_top.specs.Text.{memory_line, read_fault_line, write_fault_line}
+use Rattle.analyse_top.specs.Showing.{Gains, GainsFront, Shows, ShowsIfMemory, ShowsRefusal}
+use Rattle.command_words.specs.Commands.{Run, IsCommand}
+use Rattle.command_words.specs.Commands as command
+use Rattle.analyse_top.specs.Answer.{Answer, CertificateLong, Report, Answers, HoldsProgram, HoldsCertificate, answer_text, certificate_limit, status_of, status_unwritten}
+use Rattle.analyse_top.specs.Analysis.{Analysis, CanBeClean, IsAnalysisOf, pairs_of, report_of, text_of}
 use Rattle.analyse_top.specs.Runs.{Task, HoldsTask, AsksFor, RunsTo}
 
 -- ---- the ways to end
@@ -73,21 +77,76 @@ pub record EndsByMemory (call : Call) : Type 0 where
   pub shows : (text : List ℕ) × MayBeShown call text × GainsFront call.out_before call.out_after text
 
 -- No file is changed, and every open id is as it was.
-pub record EndsWithoutRun (call : Call) : Type 0 where
+pub record EndsByAnswer (call : Call) : Type 0 where
   pub contents : known_bytes call.files_after ≡ known_bytes call.files_before
   pub ids : KeepsIds call.files_before call.files_after
   pub writing : call.files_after.writing ≡ call.files_before.writing
   pub ends : ((answer : Answer) × EndsBy call answer) ⊎ EndsByReadFault call ⊎ EndsByMemory call
+
+-- ---- an analysis
+
+-- The file holds the certificate's text, and the report is shown, or a front of it.
+pub record TellsAnalysis (call : Call) (certificate : List ℕ) (a : Analysis) : Type 0 where
+  pub fits : length (text_of a) ≤ certificate_limit
+  pub written : Holds call.files_before call.files_after certificate (text_of a)
+  pub writing : call.files_after.writing ≡ call.files_before.writing
+  pub shows : ShowsIfMemory call.out_before call.out_after
+      (answer_text (report_of a)) (status_of (report_of a)) 6 call.status
+
+-- the file is as it was, or holds a front of the text
+abbrev pub LeavesFront : Call → List ℕ → List ℕ → Type 0
+LeavesFront call certificate text =
+    (known_bytes call.files_after ≡ known_bytes call.files_before)
+    ⊎ ((n : ℕ) × (n ≤ length text) × Holds call.files_before call.files_after certificate (take n text))
+
+-- a write fault, which its count shows, or memory ran out
+abbrev pub TellsUnwritten : Call → Type 0
+TellsUnwritten call =
+    ((Rose call.files_before.writing call.files_after.writing)
+    × ShowsRefusal call.out_before call.out_after write_fault_line 6 call.status)
+    ⊎ ((call.files_after.writing ≡ call.files_before.writing)
+    × ShowsRefusal call.out_before call.out_after memory_line 8 call.status)
+
+-- The file couldn't be made whole.
+pub record FailsToWrite (call : Call) (certificate : List ℕ) (a : Analysis) : Type 0 where
+  pub fits : length (text_of a) ≤ certificate_limit
+  pub left : LeavesFront call certificate (text_of a)
+  pub told : TellsUnwritten call
+
+-- The text is too long for a certificate, and no file is changed.
+pub record IsTooLong (call : Call) (a : Analysis) : Type 0 where
+  pub long : certificate_limit < length (text_of a)
+  pub contents : known_bytes call.files_after ≡ known_bytes call.files_before
+  pub writing : call.files_after.writing ≡ call.files_before.writing
+  pub shows : ShowsRefusal call.out_before call.out_after
+      (answer_text CertificateLong) (status_of CertificateLong) call.status
+
+abbrev pub EndsWithAnalysis : Call → List ℕ → Analysis → Type 0
+EndsWithAnalysis call certificate a =
+    TellsAnalysis call certificate a ⊎ IsTooLong call a ⊎ FailsToWrite call certificate a
+
+-- A certificate is found for the source that the words name.
+pub record EndsByAnalysis (call : Call) : Type 0 where
+  pub source : List ℕ
+  pub certificate : List ℕ
+  pub said : IsCommand call.words (command.analyse source certificate)
+  pub analysis : Analysis
+  pub is_of : IsAnalysisOf (known_bytes call.files_before) source analysis
+  pub ids : KeepsIds call.files_before call.files_after
+  pub reading : call.files_after.reading ≡ call.files_before.reading
+  pub ends : EndsWithAnalysis call certificate analysis
+
+-- ---- runs
 
 -- a run of the task came to this result
 abbrev pub EndsByRun : Call → Task → Result Ended RunEnd → Type 0
 EndsByRun call t result =
     RunsTo t (outside call.files_before call.out_before) (outside call.files_after call.out_after) result call.status
 
--- The task that the words ask for is run, or no file is changed.
+-- No file is changed, or a certificate is found for what the words name, or the task that they ask for is run.
 abbrev pub Concludes : Call → Type 0
 Concludes call =
-    EndsWithoutRun call
+    EndsByAnswer call ⊎ EndsByAnalysis call
     ⊎ ((t : Task) × (result : Result Ended RunEnd)
     × AsksFor (known_bytes call.files_before) call.words t × EndsByRun call t result)
 
@@ -114,9 +173,18 @@ RunsExactly call =
     → IsEnd t.program (told_files contents t.paths) t.steps result steps
     → EndsByRun call t result ⊎ FailsToRun call t
 
--- Where the contents are known, answers and runs are exact.
+-- A certificate is found for each source of the profile, unless a read failed or memory ran out.
+abbrev pub AnalysesExactly : Call → Type 0
+AnalysesExactly call =
+    (contents : Contents) (source certificate : List ℕ) (p : Program) (g : Graph)
+    → known_bytes call.files_before ≡ Some contents → IsCommand call.words (command.analyse source certificate)
+    → HoldsProgram contents source p g
+    → EndsByAnalysis call ⊎ EndsByReadFault call ⊎ EndsByMemory call
+
+-- Where the contents are known, answers, analyses and runs are exact.
 pub record IsExact (call : Call) : Type 0 where
   pub answers : AnswersExactly call
+  pub analyses : AnalysesExactly call
   pub runs : RunsExactly call
 
 -- ---- the headline
@@ -127,7 +195,7 @@ pub record IsExact (call : Call) : Type 0 where
 pub record IsClean (contents : Contents) (words : List (List ℕ)) : Type 0 where
   pub name : List ℕ
   pub certificate : List ℕ
-  pub checked : IsCheck words name certificate
+  pub checked : IsCommand words (command.check name certificate)
   pub program : Program
   pub graph : Graph
   pub holds : HoldsProgram contents name program graph
@@ -136,7 +204,7 @@ pub record IsClean (contents : Contents) (words : List (List ℕ)) : Type 0 wher
 -- where `check` answers 0, SOURCE is clean
 abbrev pub CleanIsSafe : Call → Type 0
 CleanIsSafe call =
-    (contents : Contents) (source certificate : List ℕ) → IsCheck call.words source certificate
+    (contents : Contents) (source certificate : List ℕ) → IsCommand call.words (command.check source certificate)
     → known_bytes call.files_before ≡ Some contents → call.status ≡ 0
     → IsClean contents call.words
 
@@ -163,7 +231,7 @@ pub record ReportsAllFaults (contents : Contents) (call : Call) (source : List �
 -- where `check` answers 0 or 1, its report names all faults
 abbrev pub ReportsAreComplete : Call → Type 0
 ReportsAreComplete call =
-    (contents : Contents) (source certificate : List ℕ) → IsCheck call.words source certificate
+    (contents : Contents) (source certificate : List ℕ) → IsCommand call.words (command.check source certificate)
     → known_bytes call.files_before ≡ Some contents → (call.status ≡ 0) ⊎ (call.status ≡ 1)
     → ReportsAllFaults contents call source
 
@@ -195,15 +263,50 @@ pub record AnswersWhereAccepted (call : Call) (contents : Contents) (source cert
 
 abbrev pub AcceptsExactly : Call → Type 0
 AcceptsExactly call =
-    (contents : Contents) (source certificate : List ℕ) → IsCheck call.words source certificate
+    (contents : Contents) (source certificate : List ℕ) → IsCommand call.words (command.check source certificate)
     → known_bytes call.files_before ≡ Some contents → AnswersWhereAccepted call contents source certificate
+
+-- ---- when `analyse` answers 0 or 1
+
+-- The certificate is written, `check` accepts it, and its report is shown, which names all faults.
+pub record IsAnalysed (contents : Contents) (call : Call) (source certificate : List ℕ) : Type 0 where
+  pub analysis : Analysis
+  pub is_of : IsAnalysisOf (Some contents) source analysis
+  -- the other files hold what they held
+  pub left : known_bytes call.files_after ≡ Some (insert contents certificate (text_of analysis))
+  pub held : HoldsCertificate (insert contents certificate (text_of analysis)) certificate analysis.claims
+  -- `check` accepts it with the same pairs, unless it stands in the place of the source
+  pub accepted : ¬ (source ≡ certificate)
+      → IsAccepted (insert contents certificate (text_of analysis)) source certificate (pairs_of analysis)
+  pub status : status_of (report_of analysis) ≡ call.status
+  pub shown : Gains call.out_before call.out_after (answer_text (report_of analysis))
+  pub named : NameAllFaults (alarms_of analysis.program (pairs_of analysis)) analysis.program
+
+abbrev pub AnalysesAreAccepted : Call → Type 0
+AnalysesAreAccepted call =
+    (contents : Contents) (source certificate : List ℕ) → IsCommand call.words (command.analyse source certificate)
+    → known_bytes call.files_before ≡ Some contents → (call.status ≡ 0) ⊎ (call.status ≡ 1)
+    → IsAnalysed contents call source certificate
+
+-- Where an assignment with thresholds at heads shows that no fault is met, the report says so.
+abbrev pub AnalysesFindClean : Call → Type 0
+AnalysesFindClean call =
+    (contents : Contents) (source certificate : List ℕ) (p : Program) (g : Graph)
+    → IsCommand call.words (command.analyse source certificate) → known_bytes call.files_before ≡ Some contents
+    → HoldsProgram contents source p g → CanBeClean p g → call.status ≡ 1 → ⊥
+
+-- A text is too long only where the program's cells and nodes are many.
+abbrev pub LongTextsAreOfLargePrograms : Call → Type 0
+LongTextsAreOfLargePrograms call =
+    (a : EndsByAnalysis call) → IsTooLong call a.analysis
+    → certificate_limit < 2000 + length a.analysis.graph.nodes * (10 + 46 * length (cells_of a.analysis.program))
 
 -- ---- runs of what is clean
 
 -- a call runs a source that was found clean, by whatever call
 pub record RunsClean (call : Call) : Type 0 where
   pub asked : Run
-  pub said : IsRun call.words asked
+  pub said : IsCommand call.words (command.run asked)
   pub told : Contents
   pub known : known_bytes call.files_before ≡ Some told
   pub contents : Contents

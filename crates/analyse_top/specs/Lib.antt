@@ -3,6 +3,7 @@ pub mod Showing
 pub mod Profile
 pub mod Runs
 pub mod Answer
+pub mod Analysis
 pub mod Conclusion
 pub mod View
 pub mod Steps

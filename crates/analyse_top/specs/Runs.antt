@@ -10,8 +10,9 @@ use Rattle.cob_interp.specs.declared.ends.Ended.{Ended}
 use Rattle.cob_interp.specs.declared.ends.RunEnd.{RunEnd}
 use Rattle.cob_interp.specs.declared.ends.RunEnd.TheVariants as end
 use Rattle.cob_interp.specs.Running.{Outside, outside, IfTold, KeepsUnmade, Runs, TellsOfSink}
-use Rattle.run_words.specs.Words.{Run, IsRun}
-use Rattle.run_words.specs.Paths.{paths_of}
+use Rattle.command_words.specs.Commands.{Run, IsCommand}
+use Rattle.command_words.specs.Commands as command
+use Rattle.file_paths.specs.Paths.{paths_of}
 use Rattle.analyse_top.specs.Text.{memory_line, run_text}
 use Rattle.analyse_top.specs.Showing.{GainsFront, ShowsRefusal}
 use Rattle.analyse_top.specs.Profile.{IsProgramOf, IsOfProfile}
@@ -43,7 +44,7 @@ pub record HoldsTask (known : Option Contents) (r : Run) (t : Task) : Type 0 whe
 -- the words ask for the task
 pub record AsksFor (known : Option Contents) (words : List (List ℕ)) (t : Task) : Type 0 where
   pub run : Run
-  pub said : IsRun words run
+  pub said : IsCommand words (command.run run)
   pub holds : HoldsTask known run t
 
 -- The bytes are of the profile, but the words on files don't give the program's files paths, for which this word or

@@ -17,6 +17,11 @@ Shows old new text whole failed status =
     ((status ≡ whole) × Gains old new text × (new.faults ≡ old.faults))
     ⊎ ((status ≡ failed) × GainsFront old new text × Rose old.faults new.faults)
 
+-- as above, or memory ran out behind a front of it
+abbrev pub ShowsIfMemory : SinkState → SinkState → List ℕ → ℕ → ℕ → ℕ → Type 0
+ShowsIfMemory old new text whole failed status =
+    Shows old new text whole failed status ⊎ ((status ≡ 8) × GainsFront old new text)
+
 -- a refusal's line: its status, or 8 where memory ran out
 abbrev pub ShowsRefusal : SinkState → SinkState → List ℕ → ℕ → ℕ → Type 0
-ShowsRefusal old new line own status = Shows old new line own own status ⊎ ((status ≡ 8) × GainsFront old new line)
+ShowsRefusal old new line own status = ShowsIfMemory old new line own own status

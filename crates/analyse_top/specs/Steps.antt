@@ -1,7 +1,8 @@
 -- What the parts of the program's call do.
-use Rattle.std.specs.Prelude.{◌≡◌, ℕ, ◌⊎◌, Bool, true, false, List, length, Result, Ok, Err}
+use Rattle.std.specs.Prelude.{◌≡◌, ℕ, ◌⊎◌, Bool, true, false, List, length, Option, Some, IfSome, Result, Ok, Err}
+use Rattle.std.specs.FinMap.{get}
 use Rattle.batch_io.specs.Faults.{Counts}
-use Rattle.batch_io.specs.FilesState.{FilesState, KeepsIds, known_bytes}
+use Rattle.batch_io.specs.FilesState.{Contents, FilesState, KeepsIds, known_bytes}
 use Rattle.batch_io.specs.SinkState.{SinkState}
 use Rattle.cob_program.specs.Act.{Program}
 use Rattle.cob_program.specs.ActView.{plain_program}
@@ -15,8 +16,10 @@ use Rattle.cert_text.specs.View.{Certificate}
 use Rattle.cert_text.specs.Allowed.{IsAllowed}
 use Rattle.cert_text.specs.Text.{spelling}
 use Rattle.cert_text.specs.Texts.{RefusedBy}
-use Rattle.run_words.specs.Words.{Run, texts}
-use Rattle.run_words.specs.Paths.{AreDistinct}
+use Rattle.command_words.specs.Words.{texts}
+use Rattle.command_words.specs.Commands.{Run}
+use Rattle.file_paths.specs.Paths.{AreDistinct}
+use Rattle.analyse_top.specs.declared.analyse.Findings.{Findings}
 use Rattle.analyse_top.specs.declared.answer.Stop.{Stop}
 use Rattle.analyse_top.specs.declared.answer.Stop.TheVariants.{ReadFault, Memory}
 use Rattle.analyse_top.specs.declared.run.Task as code_task
@@ -26,6 +29,7 @@ use Rattle.analyse_top.specs.Showing.{GainsFront, Shows, ShowsRefusal}
 use Rattle.analyse_top.specs.Profile.{IsProgramOf, IsProfileCause}
 use Rattle.analyse_top.specs.Runs.{Makes, BlamesWord}
 use Rattle.analyse_top.specs.Answer.{Answer, Usage, Refused, CertificateBad, AnswersCertificate, answer_text, status_of, status_unwritten}
+use Rattle.analyse_top.specs.Analysis.{Analysis, IsFound, analysis, report_of, text_of}
 use Rattle.analyse_top.specs.View.{plain_task}
 
 abbrev pub stopped_by_fault : {X : Type 0} → Result X Stop → Bool
@@ -54,6 +58,12 @@ IsLaid bytes laid = IsProgramOf bytes (plain_program laid.program) laid.graph
 -- the bytes of some source
 abbrev pub IsOfSource : Laid → Type 0
 IsOfSource laid = (bytes : List ℕ) × IsLaid bytes laid
+
+-- the source's file holds them
+pub record HoldsLaid (known : Option Contents) (name : List ℕ) (laid : Laid) : Type 0 where
+  pub bytes : List ℕ
+  pub held : IfSome known (λ contents. get contents name ≡ Some bytes)
+  pub is_laid : IsLaid bytes laid
 
 -- the answer that says why a source isn't read, or want of memory
 abbrev pub answer_to : Refusal → Result Answer Stop
@@ -88,6 +98,19 @@ abbrev pub AnswersBytes : List ℕ → Program → Graph → Answer → Type 0
 AnswersBytes bytes p g (CertificateBad line) = RefusedBy bytes (text.Syntax line)
 AnswersBytes bytes p g answer =
     (c : Certificate) × IsAllowed c × (bytes ≡ spelling c) × AnswersCertificate p g c answer
+
+-- ---- an analysis
+
+-- the texts of what was found, and the status of its report
+pub record IsFinding (a : Analysis) (f : Findings) : Type 0 where
+  pub found : IsFound a
+  pub certificate : f.certificate.items ≡ text_of a
+  pub report : f.report.items ≡ answer_text (report_of a)
+  pub status : f.status ≡ status_of (report_of a)
+
+-- of some certificate for what was read
+abbrev pub IsFindingFor : Laid → Findings → Type 0
+IsFindingFor laid f = (c : Certificate) × IsFinding (analysis (plain_program laid.program) laid.graph c) f
 
 -- ---- what is shown
 

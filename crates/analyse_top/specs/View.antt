@@ -1,7 +1,7 @@
 -- The code's answers and tasks as plain data.
 use Rattle.std.specs.Prelude.{Result, Ok, Err, string_bytes}
 use Rattle.cob_program.specs.ActView.{plain_program}
-use Rattle.run_words.specs.Words.{texts}
+use Rattle.command_words.specs.Words.{texts}
 use Rattle.analyse_top.specs.declared.answer.Stop.{Stop}
 use Rattle.analyse_top.specs.declared.answer.Answer.TheVariants as code
 use Rattle.analyse_top.specs.declared.answer.Answer as declared

@@ -5,21 +5,20 @@ ghost use Rattle.cert_text.specs.View.{view};
 ghost use Rattle.cert_text.specs.Allowed.{IsAllowed};
 ghost use Rattle.cob_program.specs.ActView.{plain_program};
 ghost use Rattle.analyse_top.specs.Answer.{AnswersCertificate, AnswersCheck, AnswersProgram};
-ghost use Rattle.analyse_top.specs.Steps.{Reads, stopped_by_fault, answer_to, IsOfSource, AnswersBytes};
-ghost use Rattle.analyse_top.specs.View.{plain_answer, plain_result};
+ghost use Rattle.analyse_top.specs.Steps.{Reads, stopped_by_fault, IsOfSource, AnswersBytes};
+ghost use Rattle.analyse_top.specs.View.{plain_answer};
 
 use crate::answer::{Answer, Stop};
-use crate::source::{Laid, laid_in};
+use crate::source::{Laid, read_source};
 use alarm_report::alarms_of;
 use batch_io::{FileEnd, Files, read_file};
 use cert_check::{CheckEnd, check as check_claims};
 use cert_text::{Cert, CertEnd, read as read_certificate};
-use cob_front::Refusal;
-use cob_lines::SOURCE_LIMIT;
 use source_facts::{sources_have_source_graphs, statements_are_counted};
 use std::alloc::Global;
 
-const CERTIFICATE_LIMIT: usize = 67_108_864;
+/// The most bytes of a certificate.
+pub const CERTIFICATE_LIMIT: usize = 67_108_864;
 
 // The line that tells the number of packs.
 const PACKS_LINE: u32 = 4;
@@ -35,26 +34,9 @@ pub fn check<'a, F: Files>(
     ensures answer { IfOk result (λ answer. IfSome (known_bytes (F.state files.old)) (λ contents.
         AnswersCheck contents source.now certificate.now (plain_answer answer))) }
 {
-    let bytes = match read_file(alloc, files, source, SOURCE_LIMIT) {
-        Ok(bytes) => bytes,
-        Err(FileEnd::Absent) => return Ok(Answer::Absent(source)),
-        Err(FileEnd::Long) => return Ok(Answer::Refused(Refusal::TooLong)),
-        Err(FileEnd::Failed) => return Err(Stop::ReadFault),
-        Err(FileEnd::Memory) => return Err(Stop::Memory),
-    };
-    match laid_in(alloc, &bytes) {
+    match read_source(alloc, source, files) {
         Ok(laid) => check_program(alloc, &laid, certificate, files),
-        Err(cause) => answer_to(cause),
-    }
-}
-
-/// The answer to a source that isn't read.
-pub fn answer_to<'a>(cause: Refusal) -> Result<Answer<'a>, Stop>
-    ensures { plain_result result ≡ answer_to cause }
-{
-    match cause {
-        Refusal::Memory => Err(Stop::Memory),
-        cause => Ok(Answer::Refused(cause)),
+        Err(found) => found,
     }
 }
 
@@ -108,8 +90,8 @@ fn check_certificate<'a>(alloc: Global, laid: &Laid, cert: &Cert) -> Result<Answ
     }
 }
 
-// Answers for a certificate without packs.
-fn check_plain<'a>(alloc: Global, laid: &Laid, cert: &Cert) -> Result<Answer<'a>, Stop>
+/// Answers for a certificate without packs.
+pub fn check_plain<'a>(alloc: Global, laid: &Laid, cert: &Cert) -> Result<Answer<'a>, Stop>
     requires source { IsOfSource laid.now }
     requires allowed { IsAllowed (view cert.now) }
     requires plain { (view cert.now).packs ≡ [] }

@@ -1,6 +1,7 @@
 //! Cobsound: a sound size-error analyser for COBOL-85 batch programs, which also runs them.
 #![tactic(auto)]
 
+mod analyse;
 mod answer;
 mod check;
 mod run;

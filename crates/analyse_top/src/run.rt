@@ -4,22 +4,22 @@ ghost use Rattle.batch_io.specs.FilesState.{known_bytes};
 ghost use Rattle.cob_interp.specs.declared.ends.Ended.{Ended};
 ghost use Rattle.cob_interp.specs.declared.ends.RunEnd.{RunEnd};
 ghost use Rattle.cob_interp.specs.Running.{outside};
-ghost use Rattle.run_words.specs.Words.{plain_run};
+ghost use Rattle.command_words.specs.Commands.{plain_run};
 ghost use Rattle.analyse_top.specs.Answer.{AnswersRun};
 ghost use Rattle.analyse_top.specs.Runs.{HoldsTask, RunsTo};
 ghost use Rattle.analyse_top.specs.Steps.{Reads, refused_by_fault, IsLaid, IsReady, IsTask, IsNoTask};
 ghost use Rattle.analyse_top.specs.View.{plain_answer, plain_result, plain_task};
 
 use crate::answer::{Answer, Stop};
-use crate::check::answer_to;
 use crate::show::show_end;
-use crate::source::{Laid, laid_in};
+use crate::source::{Laid, answer_to, laid_in};
 use batch_io::{FileEnd, Files, Sink, read_file};
 use cob_front::Refusal;
 use cob_interp::run_to_ending;
 use cob_lines::SOURCE_LIMIT;
 use cob_well_formed::sources_can_be_run;
-use run_words::{PathsEnd, RunWords, paths_of};
+use command_words::RunWords;
+use file_paths::{PathsEnd, paths_of};
 use std::alloc::Global;
 
 /// What the words ask for: a program of the profile with its graph, the path of each of its files, and the most steps

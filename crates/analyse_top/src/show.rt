@@ -2,7 +2,7 @@
 ghost use Rattle.std.specs.Prelude.{◌≡◌};
 ghost use Rattle.analyse_top.specs.Answer.{refusal_status, status_of, status_unwritten};
 ghost use Rattle.analyse_top.specs.Runs.{ShowsEnd, TellsEnd, run_status};
-ghost use Rattle.analyse_top.specs.Showing.{ShowsRefusal};
+ghost use Rattle.analyse_top.specs.Showing.{ShowsIfMemory, ShowsRefusal};
 ghost use Rattle.analyse_top.specs.Steps.{ShowsAnswer, ShowsFound};
 ghost use Rattle.analyse_top.specs.View.{plain_answer, plain_result};
 
@@ -16,9 +16,14 @@ use std::alloc::Global;
 
 const READ_FAULT: u8 = 5;
 
-const WRITE_FAULT: u8 = 6;
+/// The status of a refused create, write or close.
+pub const WRITE_FAULT: u8 = 6;
 
-const OUT_OF_MEMORY: u8 = 8;
+/// The status where memory ran out.
+pub const OUT_OF_MEMORY: u8 = 8;
+
+/// The status of refused certificates.
+pub const CERTIFICATE_REFUSED: u8 = 3;
 
 /// Shows an answer, or the line that says why there is none.
 pub fn show_found<O: Sink>(alloc: Global, found: Result<Answer, Stop>, out: &mut O) -> u8
@@ -31,14 +36,22 @@ pub fn show_found<O: Sink>(alloc: Global, found: Result<Answer, Stop>, out: &mut
     }
 }
 
-// Shows a refusal's line. The status stays where it can't be written, unless memory runs out.
-fn show_line<O: Sink>(out: &mut O, line: &[u8], status: u8) -> u8
-    ensures { ShowsRefusal (O.state out.old) (O.state out.new) line.now status result }
+/// Shows a text. Gives the first status, or the other where a write of the text failed.
+pub fn show_text<O: Sink>(out: &mut O, text: &[u8], whole: u8, failed: u8) -> u8
+    ensures { ShowsIfMemory (O.state out.old) (O.state out.new) text.now whole failed result }
 {
-    match show_whole(out, line) {
-        Ok(()) | Err(MakeEnd::Failed) => status,
+    match show_whole(out, text) {
+        Ok(()) => whole,
+        Err(MakeEnd::Failed) => failed,
         Err(MakeEnd::Memory) => OUT_OF_MEMORY,
     }
+}
+
+/// Shows a refusal's line. The status stays where it can't be written, unless memory runs out.
+pub fn show_line<O: Sink>(out: &mut O, line: &[u8], status: u8) -> u8
+    ensures { ShowsRefusal (O.state out.old) (O.state out.new) line.now status result }
+{
+    show_text(out, line, status, status)
 }
 
 // Shows an answer, and gives its status.
@@ -46,11 +59,7 @@ fn show_answer<O: Sink>(alloc: Global, answer: &Answer, out: &mut O) -> u8
     ensures { ShowsAnswer (O.state out.old) (O.state out.new) (plain_answer answer.now) result }
 {
     match answer_text(alloc, answer) {
-        Ok(text) => match show_whole(out, &text) {
-            Ok(()) => status_of(answer),
-            Err(MakeEnd::Failed) => status_unwritten(answer),
-            Err(MakeEnd::Memory) => OUT_OF_MEMORY,
-        },
+        Ok(text) => show_text(out, &text, status_of(answer), status_unwritten(answer)),
         Err(_) => show_line(out, b"E19 memory\n", OUT_OF_MEMORY),
     }
 }
@@ -69,7 +78,8 @@ fn refusal_status(cause: Refusal) -> u8
     }
 }
 
-fn status_of(answer: &Answer) -> u8
+/// The status of an answer that is shown.
+pub fn status_of(answer: &Answer) -> u8
     ensures { result ≡ status_of (plain_answer answer.now) }
 {
     match answer {
@@ -80,7 +90,7 @@ fn status_of(answer: &Answer) -> u8
         Answer::CertificateLong
         | Answer::CertificateBad(_)
         | Answer::CertificateMisfit(_, _, _)
-        | Answer::NotInductive(_, _) => 3,
+        | Answer::NotInductive(_, _) => CERTIFICATE_REFUSED,
         Answer::Usage(_) | Answer::NoPaths(_) => 4,
         Answer::Absent(_) => 7,
     }

@@ -44,11 +44,16 @@ fn files_of(alloc: Global, failing: u64) -> Result<MemFiles, AllocError> {
 
 // Words, and by the number of the call on files that fails the status and what is shown. Open, two reads or more and
 // close read a file; create and close empty one, and create, write and close put one.
-const FAULTS: [(&str, u64, u8, &str); 7] = [
+const FAULTS: [(&str, u64, u8, &str); 12] = [
     ("check S C", 1, 5, "E3 read\n"),
     ("check S C", 4, 5, "E3 read\n"),
     ("check S C", 5, 5, "E3 read\n"),
     ("check S C", 8, 5, "E3 read\n"),
+    ("analyse S C", 4, 5, "E3 read\n"),
+    ("analyse S C", 5, 6, "E4 write\n"),
+    ("analyse S C", 6, 6, "E4 write\n"),
+    ("analyse S C", 7, 6, "E4 write\n"),
+    ("analyse S C", 100, 0, "clean\n"),
     ("run W", 4, 5, "E3 read\n"),
     ("run W", 5, 6, "E4 write\n"),
     ("run W", 100, 0, "B\n"),
@@ -71,10 +76,36 @@ fn a_call_on_files_that_fails_is_told(rt: HostRuntime) -> Result<(), Fail> {
     Ok(())
 }
 
+// What the certificate's file holds where a call on files fails: what it held, or a front of the certificate.
+const LEFT: [(u64, &str); 4] = [
+    (4, CERTIFICATE),
+    (6, ""),
+    (7, CERTIFICATE),
+    (100, CERTIFICATE),
+];
+
+#[test]
+fn a_file_that_cannot_be_written_holds_a_front(rt: HostRuntime) -> Result<(), Fail> {
+    let alloc = rt.alloc();
+    let words = words_of(alloc, "analyse S C")?;
+    for (failing, left) in LEFT {
+        let mut files = files_of(alloc, failing)?;
+        let mut sink = MemSink::new(alloc, Vec::new(alloc));
+        cobsound(alloc, &words, &mut files, &mut sink);
+        assert_eq!(rt; files.bytes("C"), Some(left.as_bytes()), "{failing}");
+    }
+    Ok(())
+}
+
 #[test]
 fn a_text_that_the_sink_refuses_has_its_status(rt: HostRuntime) -> Result<(), Fail> {
     let alloc = rt.alloc();
-    for (line, status) in [("check S C", 6), ("check S", 4), ("run W", 6)] {
+    for (line, status) in [
+        ("check S C", 6),
+        ("analyse S C", 6),
+        ("check S", 4),
+        ("run W", 6),
+    ] {
         let words = words_of(alloc, line)?;
         let mut files = files_of(alloc, 100)?;
         let mut sink = MemSink::new(alloc, Vec::from_slice(alloc, &[1u64])?);

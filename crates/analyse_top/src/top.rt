@@ -1,23 +1,24 @@
 //! The top call: the command that the words name, from words to the status.
-ghost use Rattle.std.specs.Prelude.{◌≡◌, ℕ, List, IfOk};
-ghost use Rattle.batch_io.specs.FilesState.{known_bytes};
-ghost use Rattle.run_words.specs.Words.{IsRun, Run, plain_run, texts};
-ghost use Rattle.analyse_top.specs.Answer.{Answers};
-ghost use Rattle.analyse_top.specs.Conclusion.{Concludes, IsExact, AcceptsExactly, CleanIsSafe, CleanRunsMeetNoFault, ReportsAreComplete, call};
-ghost use Rattle.analyse_top.specs.Steps.{Reads, stopped_by_fault};
-ghost use Rattle.analyse_top.specs.View.{plain_answer};
+ghost use Rattle.std.specs.Prelude.{ℕ, List, Ok};
+ghost use Rattle.command_words.specs.Words.{texts};
+ghost use Rattle.command_words.specs.Commands as word;
+ghost use Rattle.command_words.specs.Commands.{IsCommand, plain_command, plain_run};
+ghost use Rattle.analyse_top.specs.Answer.{Usage, first_word};
+ghost use Rattle.analyse_top.specs.Conclusion.{Concludes, IsExact, AcceptsExactly, AnalysesAreAccepted, AnalysesFindClean, CleanIsSafe, CleanRunsMeetNoFault, LongTextsAreOfLargePrograms, ReportsAreComplete, call};
+ghost use Rattle.analyse_top.specs.Steps.{ShowsFound};
 
+use crate::analyse::analyse;
 use crate::answer::{Answer, Stop};
 use crate::check::check;
 use crate::run::{run, task_for};
 use crate::show::show_found;
 use batch_io::{Files, Sink};
 use cert_check::accepted_claims_cover_runs;
-use cert_text::{no_bad_line, one_place, one_spelling};
+use cert_text::{no_bad_line, one_place, one_spelling, texts_of_certificates_are_short};
 use cob_front::one_answer;
 use cob_graph_laws::graphs_are_one;
 use cob_interp::one_end;
-use run_words::{RunWords, is_plain, one_reading, run_words};
+use command_words::{Command, RunWords, command_of, one_reading};
 use source_facts::sources_have_source_graphs;
 use std::alloc::Global;
 
@@ -39,6 +40,12 @@ pub fn cobsound<F: Files, O: Sink>(
         (F.state files.old) (F.state files.new) (O.state out.old) (O.state out.new) result) }
     ensures accepts { AcceptsExactly (call (texts words.now.items)
         (F.state files.old) (F.state files.new) (O.state out.old) (O.state out.new) result) }
+    ensures analysed { AnalysesAreAccepted (call (texts words.now.items)
+        (F.state files.old) (F.state files.new) (O.state out.old) (O.state out.new) result) }
+    ensures misses { AnalysesFindClean (call (texts words.now.items)
+        (F.state files.old) (F.state files.new) (O.state out.old) (O.state out.new) result) }
+    ensures long { LongTextsAreOfLargePrograms (call (texts words.now.items)
+        (F.state files.old) (F.state files.new) (O.state out.old) (O.state out.new) result) }
     ensures runs { CleanRunsMeetNoFault (call (texts words.now.items)
         (F.state files.old) (F.state files.new) (O.state out.old) (O.state out.new) result) }
 {
@@ -49,6 +56,7 @@ pub fn cobsound<F: Files, O: Sink>(
     one_spelling();
     one_place();
     no_bad_line();
+    texts_of_certificates_are_short();
     sources_have_source_graphs();
     accepted_claims_cover_runs();
     conclude(alloc, words.as_slice(), files, out)
@@ -59,16 +67,58 @@ fn conclude<F: Files, O: Sink>(alloc: Global, words: &[String], files: &mut F, o
     ensures { Concludes (call (texts words.now)
         (F.state files.old) (F.state files.new) (O.state out.old) (O.state out.new) result) }
 {
-    match run_words(alloc, words) {
-        Ok(Some(said)) => conclude_run(alloc, &said, files, out),
-        Ok(None) => conclude_other(alloc, words, files, out),
+    match command_of(alloc, words) {
+        Ok(Some(said)) => conclude_command(alloc, &said, words, files, out),
+        Ok(None) => show_usage(alloc, words, out),
         Err(_) => show_found(alloc, Err(Stop::Memory), out),
     }
 }
 
+// Runs a command that the words say. Trials aren't done yet.
+fn conclude_command<F: Files, O: Sink>(
+    alloc: Global,
+    said: &Command,
+    words: &[String],
+    files: &mut F,
+    out: &mut O,
+) -> u8
+    requires { IsCommand (texts words.now) (plain_command said.now) }
+    ensures { Concludes (call (texts words.now)
+        (F.state files.old) (F.state files.new) (O.state out.old) (O.state out.new) result) }
+{
+    one_reading();
+    match said {
+        Command::Analyse {
+            source,
+            certificate,
+        } => analyse(alloc, source, certificate, files, out),
+        Command::Check {
+            source,
+            certificate,
+        } => conclude_check(alloc, source, certificate, files, out),
+        Command::Run(said) => conclude_run(alloc, said, files, out),
+        Command::Trial { .. } => show_usage(alloc, words, out),
+    }
+}
+
+// Checks a certificate.
+fn conclude_check<F: Files, O: Sink>(
+    alloc: Global,
+    source: &str,
+    certificate: &str,
+    files: &mut F,
+    out: &mut O,
+) -> u8
+    ensures { (words : List (List ℕ)) → IsCommand words (word.check source.now certificate.now)
+        → Concludes (call words (F.state files.old) (F.state files.new) (O.state out.old) (O.state out.new) result) }
+{
+    let found = check(alloc, source, certificate, files);
+    show_found(alloc, found, out)
+}
+
 // Runs what the words ask for.
 fn conclude_run<F: Files, O: Sink>(alloc: Global, said: &RunWords, files: &mut F, out: &mut O) -> u8
-    ensures { (words : List (List ℕ)) → IsRun words (plain_run said.now)
+    ensures { (words : List (List ℕ)) → IsCommand words (word.run (plain_run said.now))
         → Concludes (call words (F.state files.old) (F.state files.new) (O.state out.old) (O.state out.new) result) }
 {
     match task_for(alloc, said, files) {
@@ -77,40 +127,13 @@ fn conclude_run<F: Files, O: Sink>(alloc: Global, said: &RunWords, files: &mut F
     }
 }
 
-// Answers words that aren't those of a run.
-fn conclude_other<F: Files, O: Sink>(
-    alloc: Global,
-    words: &[String],
-    files: &mut F,
-    out: &mut O,
-) -> u8
-    requires { (r : Run) → IsRun (texts words.now) r → ⊥ }
-    ensures { Concludes (call (texts words.now)
-        (F.state files.old) (F.state files.new) (O.state out.old) (O.state out.new) result) }
+// Answers words that name no command.
+fn show_usage<O: Sink>(alloc: Global, words: &[String], out: &mut O) -> u8
+    ensures { ShowsFound (O.state out.old) (O.state out.new) (Ok (Usage (first_word (texts words.now)))) result }
 {
-    let found = answer(alloc, words, files);
-    show_found(alloc, found, out)
-}
-
-// The answer to words that aren't those of a run.
-fn answer<'a, F: Files>(
-    alloc: Global,
-    words: &'a [String],
-    files: &mut F,
-) -> Result<Answer<'a>, Stop>
-    requires { (r : Run) → IsRun (texts words.now) r → ⊥ }
-    ensures reads { Reads (F.state files.old) (F.state files.new) (stopped_by_fault result) }
-    ensures answer { IfOk result (λ answer. Answers (known_bytes (F.state files.old)) (texts words.now) (plain_answer answer)) }
-{
-    if let [command, source, certificate] = words
-        && command.as_str() == "check"
-        && is_plain(source.as_str())
-        && is_plain(certificate.as_str())
-    {
-        return check(alloc, source.as_str(), certificate.as_str(), files);
-    }
-    Ok(Answer::Usage(match words {
+    let first = match words {
         [] => "",
         [first, ..] => first.as_str(),
-    }))
+    };
+    show_found(alloc, Ok(Answer::Usage(first)), out)
 }

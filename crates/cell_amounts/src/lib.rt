@@ -10,5 +10,5 @@ mod taking;
 
 pub use amounts::{amount_of, is_remainder, may_divide_by_zero};
 pub use edges::{has_phrase, is_handled, operands_vanish};
-pub use stores::{may_keep, may_vanish, receiver_at, store_range};
+pub use stores::{amount_from, may_keep, may_vanish, receiver_at, store_range};
 pub use taking::{edge_amount, operands};

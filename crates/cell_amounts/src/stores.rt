@@ -68,7 +68,8 @@ pub fn receiver_at(layout: &Layout, place: u32) -> Receiver
 
 // ---- what is stored
 
-fn amount_at(amount: Amount, own: Ranged, common: Option<Taken>) -> Option<AmountRange>
+/// What a receiver whose own numbers are these is to get; nothing where a divisor is 0 alone.
+pub fn amount_from(amount: Amount, own: Ranged, common: Option<Taken>) -> Option<AmountRange>
     requires { IfSome common (CanWork (plain_amount amount) own) }
     ensures { result ≡ amount_from common (plain_amount amount.entry) own }
 {
@@ -78,7 +79,9 @@ fn amount_at(amount: Amount, own: Ranged, common: Option<Taken>) -> Option<Amoun
     }
 }
 
-fn stored(amount: Option<AmountRange>, receiver: Receiver, mode: Mode) -> Stored
+/// What a store may do to its receiver: the units that it gets where a result fits, and whether one may not fit, or
+/// there may be none. Nothing is known where a divisor is 0 alone.
+pub fn store_range(amount: Option<AmountRange>, receiver: Receiver, mode: Mode) -> Stored
     requires receiver { IsReceiver receiver }
     requires small { IfSome amount IsSmallAmount }
     ensures units { result.units ≡ units_from mode receiver amount }
@@ -91,24 +94,6 @@ fn stored(amount: Option<AmountRange>, receiver: Receiver, mode: Mode) -> Stored
         },
         Some(amount) => result_range(amount, receiver, mode),
     }
-}
-
-/// What a store may do to its receiver: the units that it gets where a result fits, and whether one may not fit, or
-/// there may be none. Nothing is known where a divisor is 0 alone.
-pub fn store_range(
-    amount: Amount,
-    own: Ranged,
-    common: Option<Taken>,
-    receiver: Receiver,
-    mode: Mode,
-) -> Stored
-    requires receiver { IsReceiver receiver }
-    requires can { IfSome common (CanWork (plain_amount amount) own) }
-    requires small { IfSome (amount_from common (plain_amount amount) own) IsSmallAmount }
-    ensures units { result.units ≡ units_from mode receiver (amount_from common (plain_amount amount.entry) own) }
-    ensures may_fail { result.may_fail ≡ exceeds_from mode receiver (amount_from common (plain_amount amount.entry) own) }
-{
-    stored(amount_at(amount, own, common), receiver, mode)
 }
 
 /// Whether what divides may be 0, which it may where nothing is known.

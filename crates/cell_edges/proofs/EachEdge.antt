@@ -7,13 +7,15 @@ use Rattle.guard_ranges.proofs.GuardLaws.{guard_holds}
 use Rattle.guard_ranges.proofs.CountLaws.{count_holds}
 use Rattle.guard_ranges.proofs.Agreement.{numeric_sum}
 use Rattle.edge_places.proofs.Parts.{parts_are_in_place, arithmetic_is_done}
-use Rattle.cell_rises.proofs.Rules.{rising}
-use Rattle.cell_operands.proofs.Given as operands
-use Rattle.cell_operands.proofs.Holding.{operands_hold}
-use Rattle.cell_keeps.proofs.Given as keeps
-use Rattle.cell_edges.specs.EdgeLaws.{EdgesAreWalked, PostsFit, PostsRise, ClearsStay, PostsStand, ClearedIsntMet}
-use Rattle.cell_edges.proofs.Rises.{posts_rise, posts_fit, clears_stay}
-use Rattle.cell_edges.proofs.Sound.{edge_is_sound, posts_stand, cleared_isnt_met}
+use Rattle.cell_steps.specs.Stores.{with_taken}
+use Rattle.cell_edges.proofs.ResultLawsHold.{rising}
+use Rattle.cell_edges.proofs.PartsRise.{taken_rises, flags_rise}
+use Rattle.cell_edges.proofs.AmountLaws as operands
+use Rattle.cell_edges.proofs.AmountsHold.{operands_hold}
+use Rattle.cell_edges.proofs.WalkLaws as keeps
+use Rattle.cell_edges.specs.EdgeLaws.{EdgesAreWalked, PostsFit, PostsRise, ClearsStay, FlagsRise, PostsStand, ClearedIsntMet}
+use Rattle.cell_edges.proofs.EdgesRise.{posts_rise, posts_fit, clears_stay}
+use Rattle.cell_edges.proofs.EdgesAreSound.{edge_is_sound, posts_stand, cleared_isnt_met}
 
 amounts : operands.Given
 amounts = record {
@@ -48,6 +50,10 @@ all_posts_rise p statement a x less more f h = posts_rise rising p statement a x
 
 pub all_clears_stay : ClearsStay
 all_clears_stay p statement a x less more fault f h e = clears_stay rising p statement a x less more fault f h e
+
+pub all_flags_rise : FlagsRise
+all_flags_rise p a x place mode y less more h =
+    flags_rise rising p a x (with_taken p a x less) (with_taken p a x more) (taken_rises rising p a x less more h) place mode y
 
 pub all_posts_stand : PostsStand
 all_posts_stand p statement a x cells bytes counts last sound stands h e = posts_stand keeping p statement a x cells bytes counts sound stands last h e

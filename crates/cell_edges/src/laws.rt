@@ -1,5 +1,5 @@
 //! Laws of edges.
-ghost use Rattle.cell_edges.specs.EdgeLaws.{EdgesAreWalked, PostsFit, PostsRise, ClearsStay, PostsStand, ClearedIsntMet};
+ghost use Rattle.cell_edges.specs.EdgeLaws.{EdgesAreWalked, PostsFit, PostsRise, ClearsStay, FlagsRise, PostsStand, ClearedIsntMet};
 
 /// A law: each edge's parts, walked in turn, rise with what is seen before them and keep it true; what is cleared below
 /// stays so and isn't met. So what an edge makes of cells lies in their own ranges and rises with what is known of them.
@@ -8,6 +8,11 @@ pub fn edges_are_sound()
     ensures fits { PostsFit }
     ensures rises { PostsRise }
     ensures stays { ClearsStay }
+{}
+
+/// A law: a store that may keep its receiver's value, or may change it, may do so where more is seen before it.
+pub fn flags_rise()
+    ensures { FlagsRise }
 {}
 
 /// A law: what is known behind an edge is true of the storage to which its parts lead.

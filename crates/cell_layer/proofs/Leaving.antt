@@ -21,7 +21,7 @@ use Rattle.cell_rows.specs.Elements.{CellsFit}
 use Rattle.cell_rows.specs.Rows.{IsReached, cells_of}
 use Rattle.cell_rows.proofs.AllCells.{fits_length}
 use Rattle.cell_storages.specs.Homes.{homes_of, home_range, owns}
-use Rattle.guarded_rows.proofs.Homes.{cells_are_small}
+use Rattle.cell_walk.proofs.SmallHomes.{cells_are_small}
 use Rattle.cell_layer_laws.specs.Layer.{left, row_for, edge_cells, edge_clears}
 use Rattle.edge_sizes.specs.Sizes.{IsSmallPart}
 use Rattle.cell_walk.specs.Statements.{act_in, number_in}

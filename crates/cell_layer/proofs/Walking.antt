@@ -14,11 +14,11 @@ use Rattle.cell_rows.proofs.Places.{words_length}
 use Rattle.cell_storages.specs.Homes.{homes_of, home_range, owns}
 use Rattle.cell_steps.specs.Seen.{Seen, beginning}
 use Rattle.cell_steps.specs.Edges.{finished}
-use Rattle.row_changes.specs.Cells.{IsRowOf}
+use Rattle.cell_walk.specs.ProgramRows.{IsRowOf}
 use Rattle.edge_sizes.specs.Sizes.{IsSmallPart}
 use Rattle.cell_walk.specs.Statements.{act_in}
 use Rattle.cell_walk.specs.Walks.{steps_small, clears_all_small, CanStep}
-use Rattle.cell_walk.proofs.Small.{posts_are_small, clears_are_small}
+use Rattle.cell_walk.proofs.SmallEdges.{posts_are_small, clears_are_small}
 use Rattle.cell_layer.specs.Edges.{statement_post, statement_clears}
 
 pub width_is : (p : Program) (cells : List Cell) (row : List ℤ) → IsRowOf p cells row → length row ≡ width_of (owns p)

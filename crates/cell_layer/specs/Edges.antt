@@ -13,8 +13,8 @@ use Rattle.cell_storages.specs.Homes.{owns}
 use Rattle.cell_steps.specs.Seen.{beginning}
 use Rattle.cell_steps.specs.Clearing.{clears_parts}
 use Rattle.cell_steps.specs.Edges.{steps, finished}
-use Rattle.guarded_rows.specs.Cells.{has_small_cells}
-use Rattle.row_changes.specs.Cells.{IsRowOf}
+use Rattle.cell_walk.specs.SmallCells.{has_small_cells}
+use Rattle.cell_walk.specs.ProgramRows.{IsRowOf}
 use Rattle.edge_sizes.specs.Sizes.{IsSmallPart}
 use Rattle.cell_walk.specs.Statements.{act_in}
 

@@ -315,6 +315,13 @@ may_be_zero = refl
 unreached : clears_edge program 2 (worked (alone (item 0)) (target 1 how.Under Trunc ∷ []) None left_out) action.Done (cells (to (pos 0) (pos 0)) any any any any any) kind.Class ≡ true
 unreached = refl
 
+-- a counter of which nothing is known may not be a number
+count_unknown : clears_edge program 1 loop action.Down (cells any any any any any any) kind.Class ≡ false
+count_unknown = refl
+
+count_numeric : clears_edge program 1 loop action.Down (cells any any any any any (to (pos 0) (pos 9))) kind.Class ≡ true
+count_numeric = refl
+
 count_may_exceed : clears_edge program 1 loop action.Down (cells any any any any any any) kind.Size ≡ false
 count_may_exceed = refl
 

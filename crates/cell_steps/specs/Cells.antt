@@ -10,6 +10,10 @@ use Rattle.cell_rows.specs.Known.{Known}
 use Rattle.cell_storages.specs.Homes.{Home, of_item, of_count, is_home, home_range}
 use Rattle.cell_storages.specs.Storages.{known_of}
 
+-- whether a home is known to have a number, which none without a cell is
+abbrev pub is_known : List Home → List Known → Home → Bool
+is_known homes cells h = is_some (known_of homes cells h)
+
 -- ---- ranges
 
 -- what isn't known has its own range
@@ -25,9 +29,8 @@ module _ (l : Layout) (homes : List Home) (cells : List Known) where
   abbrev pub range_at : ℕ → Ranged
   range_at place = ranged (units_of (of_item place)) (scale_of (form_at l place))
 
-  -- whether an item is known to be numeric, which none without a cell is
   abbrev pub is_numeric : ℕ → Bool
-  is_numeric place = is_some (known_of homes cells (of_item place))
+  is_numeric place = is_known homes cells (of_item place)
 
 -- ---- changes
 

@@ -8,14 +8,14 @@ use Rattle.cob_program.specs.Values.{root_of}
 use Rattle.cob_program.specs.Act.{Act, Program}
 use Rattle.cob_runs.specs.declared.action.Action.{Action}
 use Rattle.cob_runs.specs.Contents.{form_at}
-use Rattle.cob_edge_parts.specs.Parts.{Amount, moved, remaining, Part, read, unread, divide, store, set_count, count_down, has_phrase}
+use Rattle.cob_edge_parts.specs.Parts.{Amount, moved, remaining, Part, read, unread, divide, store, read_count, set_count, count_down, has_phrase}
 use Rattle.sum_ranges.specs.SumRanges.{atom_range}
 use Rattle.sum_ranges.specs.Vanishing.{holds_zero}
 use Rattle.result_ranges.specs.declared.amounts.Taken.{Taken}
 use Rattle.result_ranges.specs.Receivers.{receiver_of}
 use Rattle.result_ranges.specs.ResultRanges.{may_fail, lowered, count_may_fail}
 use Rattle.cell_storages.specs.Homes.{of_count, homes_of}
-use Rattle.cell_steps.specs.Cells.{units_of, is_numeric}
+use Rattle.cell_steps.specs.Cells.{is_known, units_of, is_numeric}
 use Rattle.cell_steps.specs.Operands.{amount_of}
 use Rattle.cell_steps.specs.Seen.{Seen}
 use Rattle.cell_steps.specs.Stores.{range_at, with_taken}
@@ -53,6 +53,7 @@ module _ (p : Program) (a : Act) (x : Action) where
   clears_part (divide d) s kind.Zero = has_phrase a || not (holds_zero (atom_range (range_at p s.cells) d))
   clears_part (store place mode amount) s fault =
       has_phrase a || (not (is_misfit amount fault) || all_fit (with_taken p a x s) place mode amount)
+  clears_part (read_count statement) s kind.Class = is_known (homes_of p) s.cells (of_count statement)
   clears_part (set_count statement y) s kind.Size = all_count (with_taken p a x s)
   clears_part (count_down statement) s kind.Size = not (count_may_fail (lowered (units_of p.layout (homes_of p) s.cells (of_count statement))))
   clears_part _ s fault = true

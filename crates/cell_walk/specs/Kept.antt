@@ -12,16 +12,24 @@ use Rattle.cell_steps.specs.Seen.{Seen}
 use Rattle.cell_walk.specs.declared.kept.Kept.{Kept}
 use Rattle.cell_walk.specs.Statements.{act_in}
 use Rattle.cell_walk.specs.Walks.{step_small, clears_small}
+use Rattle.cell_walk.specs.Latest.{Latest, latest_behind}
 
 abbrev pub seen : List ℤ → Kept → Seen
 seen row k =
     record { cells = cells_of row; written = k.written; common = k.common; may_zero = k.may_zero; any_fail = k.any_fail }
+
+abbrev pub latest_of : Kept → Latest
+latest_of k = record { result = k.result; may_fail = k.may_fail; may_fit = k.may_fit }
 
 -- ---- a part by its number
 
 module _ (p : Program) (y : Stmt) (x : Action) where
   abbrev pub step_at : ℕ → Seen → Option Seen
   step_at k s = slice_get (edge_parts p y x) k >>= λ part. step_small p (act_in y) x part s
+
+  abbrev pub latest_at : ℕ → Seen → Latest → Latest
+  latest_at k s before =
+      option_map_or (λ part. latest_behind p (act_in y) x part s before) (slice_get (edge_parts p y x) k) before
 
   -- where there is no such part nothing is asked
   abbrev pub clears_at_part : ℕ → Seen → Kind → Bool

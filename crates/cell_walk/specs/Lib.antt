@@ -1,3 +1,9 @@
+pub mod ProgramRows
+pub mod Forgetting
+pub mod ShortRanges
+pub mod SmallCells
+pub mod Tests
 pub mod Statements
 pub mod Walks
+pub mod Latest
 pub mod Kept

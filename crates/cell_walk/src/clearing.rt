@@ -24,13 +24,15 @@ ghost use Rattle.cell_steps.specs.Clearing.{is_misfit, has_quotient, all_fit};
 ghost use Rattle.cell_steps.specs.Operands.{amount_of};
 ghost use Rattle.cell_steps.specs.Stores.{range_at};
 ghost use Rattle.edge_sizes.specs.Sizes.{IsSmallPart, IsSmallStore};
-ghost use Rattle.row_changes.specs.Cells.{IsRowOf};
+ghost use Rattle.cell_walk.specs.ProgramRows.{IsRowOf};
 ghost use Rattle.cell_walk.specs.Kept.{seen, clears_at_part};
 ghost use Rattle.cell_walk.specs.Statements.{act_in};
 ghost use Rattle.cell_walk.specs.Walks.{clears_small, CanStep};
 
+use crate::counters::count_is_known;
 use crate::counting::{count_down_fits, count_fits};
 use crate::dividing::divisor_clears;
+use crate::items::{item_is_numeric, item_range};
 use crate::kept::{Kept, taken};
 use borrowed_parts::{Amount, Divisor, EdgePart, part_at};
 use cell_amounts::{amount_of, has_phrase, receiver_at};
@@ -39,7 +41,6 @@ use cob_program::{Act, Factor, Part, Program, Stmt, Sum};
 use cob_runs::{Action, Cell};
 use cob_tree::Kind;
 use dec_num::Mode;
-use known_items::{item_is_numeric, item_range};
 use result_ranges::{AmountRange, Receiver, Taken, result_range};
 use sum_ranges::Ranged;
 
@@ -269,6 +270,25 @@ fn divide_clears(
     }
 }
 
+fn read_count_clears(
+    program: &Program,
+    cells: &[Cell],
+    row: &[i128],
+    act: &Act,
+    action: Action,
+    statement: u32,
+    kept: Kept,
+    fault: Kind,
+) -> bool
+    requires row { IsRowOf (plain_program program.now) cells.now row.now }
+    ensures { result ≡ clears_small (plain_program program.now) (plain_act act.now) action (part.read_count statement) (seen row.now kept) fault }
+{
+    match fault {
+        Kind::Class => count_is_known(program, cells, row, statement),
+        Kind::Size | Kind::Zero | Kind::Truncation => true,
+    }
+}
+
 fn set_count_clears(
     program: &Program,
     cells: &[Cell],
@@ -337,16 +357,16 @@ fn part_clears(
         EdgePart::Store { item, mode, amount } => store_clears(
             program, cells, row, act, action, item, mode, amount, kept, fault,
         ),
+        EdgePart::ReadCount(number) => {
+            read_count_clears(program, cells, row, act, action, number, kept, fault)
+        }
         EdgePart::SetCount { number, count } => set_count_clears(
             program, cells, row, act, action, number, count, kept, fault,
         ),
         EdgePart::CountDown(number) => {
             count_down_clears(program, cells, row, act, action, number, kept, fault)
         }
-        EdgePart::Bytes { .. }
-        | EdgePart::Guard { .. }
-        | EdgePart::ReadCount(_)
-        | EdgePart::GuardCount { .. } => true,
+        EdgePart::Bytes { .. } | EdgePart::Guard { .. } | EdgePart::GuardCount { .. } => true,
     }
 }
 

@@ -8,13 +8,13 @@ ghost use Rattle.cell_rows.specs.Rows.{cells_of};
 ghost use Rattle.cell_storages.specs.Homes.{owns, homes_of, of_count};
 ghost use Rattle.cell_steps.specs.Cells.{units_of};
 ghost use Rattle.cell_steps.specs.Steps.{after_count, after_down, counted_cells, with_cells_if};
-ghost use Rattle.row_changes.specs.Cells.{IsRowOf};
+ghost use Rattle.cell_walk.specs.ProgramRows.{IsRowOf};
 ghost use Rattle.cell_walk.specs.Kept.{seen};
 
+use crate::counters;
 use crate::kept::Kept;
 use cob_program::Program;
 use cob_runs::Cell;
-use guarded_rows as rows;
 use result_ranges::{Taken, counted, lowered};
 
 /// Sets a counter to what was taken of its sender.
@@ -33,7 +33,7 @@ pub(crate) fn set_count(
 {
     match kept.common {
         None => false,
-        Some(taken) => rows::set_count(program, cells, row, statement, taken.top.units),
+        Some(taken) => counters::set_count(program, cells, row, statement, taken.top.units),
     }
 }
 
@@ -51,7 +51,7 @@ pub(crate) fn count_down(
     ensures off { result ≡ false → after_down (plain_program program.now) statement (seen row.old kept.now) ≡ None }
     ensures row { IsRowOf (plain_program program.now) cells.now row.new }
 {
-    rows::count_down(program, cells, row, statement)
+    counters::count_down(program, cells, row, statement)
 }
 
 /// Tests whether any rounds are left.
@@ -71,7 +71,7 @@ pub(crate) fn guard_count(
         ≡ None }
     ensures row { IsRowOf (plain_program program.now) cells.now row.new }
 {
-    rows::guard_count(program, cells, row, statement, left)
+    counters::guard_count(program, cells, row, statement, left)
 }
 
 // ---- what is cleared
@@ -97,6 +97,6 @@ pub(crate) fn count_down_fits(
     requires fits { CellsFit (owns (plain_program program.now)) (cells_of row.now) }
     ensures { result ≡ not (count_may_fail (lowered (units_of program.now.layout (homes_of (plain_program program.now)) (cells_of row.now) (of_count statement)))) }
 {
-    let units = rows::count_units(program, cells, row, statement);
+    let units = counters::count_units(program, cells, row, statement);
     !counted(lowered(units)).may_fail
 }

@@ -12,15 +12,15 @@ ghost use Rattle.cell_rows.specs.Rows.{cells_of};
 ghost use Rattle.cell_storages.specs.Homes.{owns};
 ghost use Rattle.cell_steps.specs.Steps.{can_divide, after_divide};
 ghost use Rattle.cell_steps.specs.Stores.{range_at};
-ghost use Rattle.row_changes.specs.Cells.{IsRowOf};
-ghost use Rattle.cell_walk.specs.Kept.{seen};
+ghost use Rattle.cell_walk.specs.ProgramRows.{IsRowOf};
+ghost use Rattle.cell_walk.specs.Kept.{seen, latest_of};
 
 use crate::kept::Kept;
+use crate::sums::{divisor_range, holds_zero, may_be_zero};
 use borrowed_parts::Divisor;
 use cell_amounts::{has_phrase, is_handled};
 use cob_program::{Act, Program};
 use cob_runs::{Action, Cell};
-use known_items::{divisor_range, may_be_zero};
 use sum_ranges::Ranged;
 
 // Whether a divisor has numbers other than 0.
@@ -30,15 +30,6 @@ fn can_divide(range: Option<Ranged>) -> bool
     match range {
         None => false,
         Some(range) => !(0 <= range.units.low && range.units.high <= 0),
-    }
-}
-
-fn holds_zero(range: Option<Ranged>) -> bool
-    ensures { result ≡ holds_zero range }
-{
-    match range {
-        None => false,
-        Some(range) => range.units.low <= 0 && 0 <= range.units.high,
     }
 }
 
@@ -59,6 +50,7 @@ pub(crate) fn divide(
         ≡ Some (seen row.now kept.new) }
     ensures off { result ≡ false → after_divide (plain_program program.now) (plain_act act.now) action (plain_divisor divisor.entry) (seen row.now kept.old)
         ≡ None }
+    ensures latest { latest_of kept.new ≡ latest_of kept.old }
 {
     if is_handled(act, action) {
         let vanishes = may_be_zero(program, cells, row, divisor);

@@ -10,14 +10,15 @@ ghost use Rattle.cell_storages.specs.Homes.{owns};
 ghost use Rattle.cell_steps.specs.Operands.{edge_operands, operands_vanish};
 ghost use Rattle.cell_steps.specs.Seen.{beginning};
 ghost use Rattle.cell_steps.specs.Stores.{range_at};
-ghost use Rattle.row_changes.specs.Cells.{IsRowOf};
-ghost use Rattle.cell_walk.specs.Kept.{seen};
+ghost use Rattle.cell_walk.specs.ProgramRows.{IsRowOf};
+ghost use Rattle.cell_walk.specs.Kept.{seen, latest_of};
+ghost use Rattle.cell_walk.specs.Latest.{nothing_stored};
 ghost use Rattle.cell_walk.specs.Walks.{if_sent_small, with_taken_small, CanStep};
 
+use crate::sums::{operands, operands_vanish, sends_small};
 use cell_amounts::is_handled;
 use cob_program::{Act, Program};
 use cob_runs::{Action, Cell};
-use known_items::{operands, operands_vanish, sends_small};
 use result_ranges::Taken;
 
 /// What happened on the parts of an edge so far.
@@ -26,8 +27,15 @@ pub struct Kept {
     /// The operands of the edge, as they were before the first part that wrote; nothing where a divisor among them is 0
     /// alone, or where the arithmetic doesn't work with the number that the edge sends.
     pub common: Option<Taken>,
+    /// What the value of the latest store is worked out of: its range, or, of a quotient or a remainder, those of what is
+    /// divided and of what divides; nothing where a divisor is 0 alone.
+    pub result: Option<Taken>,
     /// A divisor may have been 0.
     pub may_zero: bool,
+    /// The receiver of the latest store may keep its value, on an edge of size errors.
+    pub may_fail: bool,
+    /// The receiver of the latest store may get its result.
+    pub may_fit: bool,
     /// A receiver may have kept its value.
     pub any_fail: bool,
     pub(crate) written: bool,
@@ -36,11 +44,15 @@ pub struct Kept {
 impl Kept {
     /// What is kept before the first part: nothing has happened.
     pub fn new() -> Kept
-        ensures { (row : List ℤ) → seen row result ≡ beginning (cells_of row) }
+        ensures begins { (row : List ℤ) → seen row result ≡ beginning (cells_of row) }
+        ensures latest { latest_of result ≡ nothing_stored }
     {
         Kept {
             common: None,
+            result: None,
             may_zero: false,
+            may_fail: false,
+            may_fit: false,
             any_fail: false,
             written: false,
         }
@@ -91,6 +103,7 @@ fn take(
     requires sum { has_small_sum (bound_at program.now.layout) (plain_act act.now) ≡ true }
     ensures same { seen row.now result ≡ with_taken_small (plain_program program.now) (plain_act act.now) action (seen row.now kept) }
     ensures written { result.written ≡ true }
+    ensures latest { latest_of result ≡ latest_of kept }
 {
     if kept.written {
         return kept;
@@ -98,7 +111,10 @@ fn take(
     let vanishes = may_vanish(program, cells, row, act, action);
     Kept {
         common: small_operands(program, cells, row, act, action),
+        result: kept.result,
         may_zero: kept.may_zero || vanishes,
+        may_fail: kept.may_fail,
+        may_fit: kept.may_fit,
         any_fail: kept.any_fail,
         written: true,
     }
@@ -118,6 +134,7 @@ pub(crate) fn taken(
     requires can { CanStep (plain_program program.now) (plain_act act.now) action (seen row.now kept) }
     ensures same { seen row.now result ≡ with_taken_small (plain_program program.now) (plain_act act.now) action (seen row.now kept) }
     ensures written { result.written ≡ true }
+    ensures latest { latest_of result ≡ latest_of kept }
     ensures can { CanStep (plain_program program.now) (plain_act act.now) action (seen row.now result) }
 {
     take(program, cells, row, act, action, kept)

@@ -1,14 +1,23 @@
-//! The walk along an edge of the control graph, part by part, on the row of what is known of cells: what each part makes of
-//! the row, in place, and the faults that what is known shows not to be met there (Cousot and Cousot 1977). No call takes
-//! memory.
+//! The walk along an edge of the control graph, part by part, on the row of what is known of a program's cells: what each
+//! part makes of the row, in place, and the faults that what is known shows not to be met there (Cousot and Cousot 1977).
+//! Beneath it the row is read, set and forgotten by what its cells are of, and tells the ranges of items, of sums and of
+//! senders, and what a read, a test or a counter leaves of it. No call takes memory.
 #![tactic(auto)]
 
 mod clearing;
+mod counters;
 mod counting;
 mod dividing;
+mod forgetting;
+mod items;
 mod kept;
+mod knowing;
 mod parts;
+mod pictures;
+mod reads;
 mod stores;
+mod sums;
+mod tests_of;
 mod walking;
 
 pub use clearing::clears_part;

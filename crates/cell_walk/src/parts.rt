@@ -13,21 +13,24 @@ ghost use Rattle.cell_storages.specs.Homes.{owns, of_count};
 ghost use Rattle.cell_steps.specs.Seen.{with_cells};
 ghost use Rattle.cell_steps.specs.Steps.{after_count, after_read, read_cells, guarded_cells, with_cells_if};
 ghost use Rattle.edge_sizes.specs.Sizes.{IsSmallPart, IsSmallStore};
-ghost use Rattle.guarded_rows.specs.Cells.{has_small_cells};
-ghost use Rattle.row_changes.specs.Cells.{IsRowOf};
-ghost use Rattle.cell_walk.specs.Kept.{seen};
+ghost use Rattle.cell_walk.specs.SmallCells.{has_small_cells};
+ghost use Rattle.cell_walk.specs.ProgramRows.{IsRowOf};
+ghost use Rattle.cell_walk.specs.Kept.{seen, latest_of};
+ghost use Rattle.cell_walk.specs.Latest.{latest_behind};
 ghost use Rattle.cell_walk.specs.Walks.{with_taken_small, step_small, CanStep};
 
+use crate::counters::read_count;
 use crate::counting::{count_down, guard_count, set_count};
 use crate::dividing::divide;
+use crate::forgetting::forget_bytes;
 use crate::kept::{Kept, taken};
+use crate::reads::read_item;
 use crate::stores::store;
+use crate::tests_of::guard_row;
 use borrowed_parts::{Amount, EdgePart};
 use cob_program::{Act, Program, Test};
 use cob_runs::{Action, Cell};
 use dec_num::Mode;
-use guarded_rows as rows;
-use row_changes::forget_bytes;
 
 // An item is read. Behind a divisor that may have been 0 it may not have been.
 fn walk_read(program: &Program, cells: &[Cell], row: &mut [i128], place: u32, kept: &Kept)
@@ -38,7 +41,7 @@ fn walk_read(program: &Program, cells: &[Cell], row: &mut [i128], place: u32, ke
     ensures row { IsRowOf (plain_program program.now) cells.now row.new }
 {
     if !kept.may_zero {
-        rows::read_item(program, cells, row, place);
+        read_item(program, cells, row, place);
     }
 }
 
@@ -48,7 +51,7 @@ fn walk_read_count(program: &Program, cells: &[Cell], row: &mut [i128], statemen
     ensures same { with_cells (seen row.old kept.now) (read_cells (plain_program program.now) (of_count statement) (cells_of row.old)) ≡ seen row.new kept.now }
     ensures row { IsRowOf (plain_program program.now) cells.now row.new }
 {
-    rows::read_count(program, cells, row, statement);
+    read_count(program, cells, row, statement);
 }
 
 fn walk_guard(
@@ -69,7 +72,7 @@ fn walk_guard(
         ≡ None }
     ensures row { IsRowOf (plain_program program.now) cells.now row.new }
 {
-    rows::guard_row(program, cells, row, test, holds)
+    guard_row(program, cells, row, test, holds)
 }
 
 // ---- parts that write
@@ -93,6 +96,7 @@ fn walk_store(
     ensures off { result ≡ false → step_small (plain_program program.now) (plain_act act.now) action (part.store place mode (plain_amount amount.entry)) (seen row.old kept.old)
         ≡ None }
     ensures row { IsRowOf (plain_program program.now) cells.now row.new }
+    ensures latest { latest_of kept.new ≡ latest_behind (plain_program program.now) (plain_act act.now) action (part.store place mode (plain_amount amount.entry)) (seen row.old kept.old) (latest_of kept.old) }
 {
     *kept = taken(program, cells, row, act, action, *kept);
     store(program, cells, row, act, action, place, mode, amount, kept)
@@ -114,6 +118,7 @@ fn walk_bytes(
     ensures same { step_small (plain_program program.now) (plain_act act.now) action (part.bytes_in offset length) (seen row.old kept.old)
         ≡ Some (seen row.new kept.new) }
     ensures row { IsRowOf (plain_program program.now) cells.now row.new }
+    ensures latest { latest_of kept.new ≡ latest_of kept.old }
 {
     *kept = taken(program, cells, row, act, action, *kept);
     forget_bytes(program, cells, row, offset, length);
@@ -136,6 +141,7 @@ fn walk_set_count(
     ensures off { result ≡ false → after_count (plain_program program.now) statement (with_taken_small (plain_program program.now) (plain_act act.now) action (seen row.old kept.old))
         ≡ None }
     ensures row { IsRowOf (plain_program program.now) cells.now row.new }
+    ensures latest { latest_of kept.new ≡ latest_of kept.old }
 {
     *kept = taken(program, cells, row, act, action, *kept);
     set_count(program, cells, row, statement, kept)
@@ -162,6 +168,7 @@ pub(crate) fn walk_part(
     ensures off { result ≡ false → step_small (plain_program program.now) (plain_act act.now) action (plain_part part.entry) (seen row.old kept.old)
         ≡ None }
     ensures row { IsRowOf (plain_program program.now) cells.now row.new }
+    ensures latest { latest_of kept.new ≡ latest_behind (plain_program program.now) (plain_act act.now) action (plain_part part.entry) (seen row.old kept.old) (latest_of kept.old) }
 {
     match part {
         EdgePart::Read(place) => {

@@ -1,9 +1,9 @@
 //! Stores into items.
 ghost use Rattle.std.specs.Prelude.{◌≡◌, ◌||◌, ◌&&◌, ◌≤ℤ◌, true, false, Some, None, IfSome};
-ghost use Rattle.std.specs.Option.{option_map, option_copied};
+ghost use Rattle.std.specs.Option.{option_map};
 ghost use Rattle.cob_program.specs.ActView.{plain_act, plain_program};
 ghost use Rattle.cob_program.specs.Bounds.{is_small};
-ghost use Rattle.cob_runs.specs.Contents.{item_at, form_at};
+ghost use Rattle.cob_runs.specs.Contents.{form_at};
 ghost use Rattle.cob_calc.specs.Contents.{bound_at};
 ghost use Rattle.cob_edge_parts.specs.Parts.{is_handled};
 ghost use Rattle.borrowed_parts.specs.PartView.{plain_amount};
@@ -18,22 +18,25 @@ ghost use Rattle.cell_storages.specs.Storages.{known_of};
 ghost use Rattle.cell_steps.specs.Operands.{is_remainder};
 ghost use Rattle.cell_steps.specs.Stores.{range_at, may_vanish, stored, stored_known, stored_cells, stored_element};
 ghost use Rattle.edge_sizes.specs.Sizes.{IsSmallStore};
-ghost use Rattle.row_changes.specs.Cells.{IsRowOf};
-ghost use Rattle.cell_walk.specs.Kept.{seen, kept_or_new};
+ghost use Rattle.cell_walk.specs.ProgramRows.{IsRowOf};
+ghost use Rattle.cell_walk.specs.Kept.{seen, latest_of, kept_or_new};
+ghost use Rattle.cell_walk.specs.Latest.{ranges_of, outcome};
 ghost use Rattle.cell_walk.specs.Walks.{CanStep};
 
+use crate::forgetting::forget_beside;
+use crate::items::item_range;
 use crate::kept::Kept;
+use crate::knowing::{known_of_item, set_item};
+use crate::pictures::item_at;
 use borrowed_parts::Amount;
-use cell_amounts::{is_handled, may_keep, receiver_at, store_range};
-use cob_data::{Item, Layout};
+use cell_amounts::{amount_from, is_handled, may_keep, receiver_at, store_range};
+use cob_data::Layout;
 use cob_program::{Act, Program};
 use cob_runs::{Action, Cell};
 use cob_tree::Form;
 use dec_num::Mode;
 use decimal_interval::{Interval, hull};
-use known_items::item_range;
-use result_ranges::{Stored, Taken};
-use row_changes::{forget_beside, known_of_item, set_item};
+use result_ranges::{AmountRange, Stored, Taken};
 
 // ---- the receiver's cell
 
@@ -44,12 +47,6 @@ fn known_by_form(form: &Form, units: Interval) -> Option<Interval>
         Form::Number { .. } => Some(units),
         Form::Group | Form::Text { .. } | Form::Edited { .. } => None,
     }
-}
-
-fn item_at(layout: &Layout, place: u32) -> Option<&Item>
-    ensures { option_copied result ≡ item_at layout.now place }
-{
-    layout.items.get().get(place as usize)
 }
 
 // What is known of an item that got a value.
@@ -152,34 +149,62 @@ fn put(
 
 // ---- what is stored
 
-fn result_of(
+// What the receiver is to get.
+fn amount_for(
     program: &Program,
     cells: &[Cell],
     row: &[i128],
     place: u32,
-    mode: Mode,
     amount: Amount,
     common: Option<Taken>,
-) -> Stored
+) -> Option<AmountRange>
     requires row { IsRowOf (plain_program program.now) cells.now row.now }
     requires fits { CellsFit (owns (plain_program program.now)) (cells_of row.now) }
     requires own { is_small (bound_at program.now.layout place) ≡ true }
-    requires receiver { IsReceiver (receiver_of (form_at program.now.layout place)) }
     requires can { IfSome common (CanWork (plain_amount amount) (range_at (plain_program program.now) (cells_of row.now) place)) }
-    requires small { IfSome (amount_from common (plain_amount amount) (range_at (plain_program program.now) (cells_of row.now) place)) IsSmallAmount }
-    ensures units { result.units ≡ units_from mode (receiver_of (form_at program.now.layout place))
-        (amount_from common (plain_amount amount.entry) (range_at (plain_program program.now) (cells_of row.now) place)) }
-    ensures may_fail { result.may_fail ≡ exceeds_from mode (receiver_of (form_at program.now.layout place))
-        (amount_from common (plain_amount amount.entry) (range_at (plain_program program.now) (cells_of row.now) place)) }
+    ensures { result ≡ amount_from common (plain_amount amount.entry) (range_at (plain_program program.now) (cells_of row.now) place) }
 {
     let own = item_range(program, cells, row, place);
-    store_range(
-        amount,
-        own,
-        common,
-        receiver_at(&program.layout, place),
-        mode,
-    )
+    amount_from(amount, own, common)
+}
+
+// What a store of it may do.
+fn stored_at(layout: &Layout, place: u32, mode: Mode, amount: Option<AmountRange>) -> Stored
+    requires receiver { IsReceiver (receiver_of (form_at layout.now place)) }
+    requires small { IfSome amount IsSmallAmount }
+    ensures units { result.units ≡ units_from mode (receiver_of (form_at layout.now place)) amount }
+    ensures may_fail { result.may_fail ≡ exceeds_from mode (receiver_of (form_at layout.now place)) amount }
+{
+    store_range(amount, receiver_at(layout, place), mode)
+}
+
+fn ranges_of(amount: AmountRange) -> Taken
+    ensures { result ≡ ranges_of amount }
+{
+    match amount {
+        AmountRange::Decimal(range) => Taken {
+            top: range,
+            under: None,
+        },
+        AmountRange::Quotient { top, under } => Taken {
+            top,
+            under: Some(under),
+        },
+        AmountRange::Remainder { top, under, .. } => Taken {
+            top,
+            under: Some(under),
+        },
+    }
+}
+
+// What the value is worked out of.
+fn result_of(amount: Option<AmountRange>) -> Option<Taken>
+    ensures { result ≡ option_map ranges_of amount }
+{
+    match amount {
+        None => None,
+        Some(amount) => Some(ranges_of(amount)),
+    }
 }
 
 // Whether the receiver may keep its value.
@@ -212,9 +237,14 @@ pub(crate) fn store(
     ensures off { result ≡ false → stored (plain_program program.now) (plain_act act.now) action (seen row.old kept.old) place mode (plain_amount amount.entry)
         ≡ None }
     ensures row { IsRowOf (plain_program program.now) cells.now row.new }
+    ensures latest { latest_of kept.new ≡ outcome (plain_program program.now) (plain_act act.now) action (seen row.old kept.old) place mode (plain_amount amount.entry) }
 {
-    let value = result_of(program, cells, row, place, mode, amount, kept.common);
+    let found = amount_for(program, cells, row, place, amount, kept.common);
+    let value = stored_at(&program.layout, place, mode, found);
     let keeps = may_keep_own(act, action, amount, value.may_fail, *kept);
+    kept.result = result_of(found);
+    kept.may_fail = keeps;
+    kept.may_fit = value.units.is_some();
     kept.any_fail = kept.any_fail || keeps;
     put(program, cells, row, place, keeps, value.units)
 }

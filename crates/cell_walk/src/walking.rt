@@ -4,9 +4,9 @@ ghost use Rattle.std.specs.List.{AllByRecursion};
 ghost use Rattle.cob_program.specs.ActView.{plain_stmt, plain_program};
 ghost use Rattle.borrowed_parts.specs.PartView.{edge_parts};
 ghost use Rattle.edge_sizes.specs.Sizes.{IsSmallPart};
-ghost use Rattle.guarded_rows.specs.Cells.{has_small_cells};
-ghost use Rattle.row_changes.specs.Cells.{IsRowOf};
-ghost use Rattle.cell_walk.specs.Kept.{seen, step_at};
+ghost use Rattle.cell_walk.specs.SmallCells.{has_small_cells};
+ghost use Rattle.cell_walk.specs.ProgramRows.{IsRowOf};
+ghost use Rattle.cell_walk.specs.Kept.{seen, step_at, latest_of, latest_at};
 ghost use Rattle.cell_walk.specs.Statements.{act_in};
 ghost use Rattle.cell_walk.specs.Walks.{CanStep};
 
@@ -33,6 +33,7 @@ fn step(
     ensures on { result ≡ true → step_at (plain_program program.now) (plain_stmt statement.now) action part (seen row.old kept.old) ≡ Some (seen row.new kept.new) }
     ensures off { result ≡ false → step_at (plain_program program.now) (plain_stmt statement.now) action part (seen row.old kept.old) ≡ None }
     ensures row { IsRowOf (plain_program program.now) cells.now row.new }
+    ensures latest { latest_of kept.new ≡ latest_at (plain_program program.now) (plain_stmt statement.now) action part (seen row.old kept.old) (latest_of kept.old) }
 {
     match part_at(program, statement, action, part) {
         None => false,
@@ -41,7 +42,7 @@ fn step(
 }
 
 /// Makes of a row what the part with a number makes of it, which counts from 0. Answers false where no run passes the part;
-/// what is left of the row then isn't told.
+/// what is left of the row then isn't told. What is kept of the latest store is that of the moment before it.
 pub fn walk(
     program: &Program,
     cells: &[Cell],
@@ -60,6 +61,7 @@ pub fn walk(
     ensures on { result ≡ true → step_at (plain_program program.now) (plain_stmt statement.now) action part (seen row.old kept.old) ≡ Some (seen row.new kept.new) }
     ensures off { result ≡ false → step_at (plain_program program.now) (plain_stmt statement.now) action part (seen row.old kept.old) ≡ None }
     ensures row { IsRowOf (plain_program program.now) cells.now row.new }
+    ensures latest { latest_of kept.new ≡ latest_at (plain_program program.now) (plain_stmt statement.now) action part (seen row.old kept.old) (latest_of kept.old) }
     ensures can { result ≡ true → CanStep (plain_program program.now) (act_in (plain_stmt statement.now)) action (seen row.new kept.new) }
 {
     step(program, cells, statement, action, part, row, kept)

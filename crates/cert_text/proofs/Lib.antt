@@ -8,3 +8,6 @@ pub mod Complete
 pub mod Goes
 pub mod WholeText
 pub mod Refused
+pub mod BoundPlaces
+pub mod Lengths
+mod Examples

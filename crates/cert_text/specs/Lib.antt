@@ -5,3 +5,4 @@ pub mod Reading
 pub mod Draft
 pub mod Whole
 pub mod Texts
+pub mod Lengths

@@ -25,7 +25,7 @@ use Rattle.result_ranges.specs.Sizes.{CanCompute, IsSmallAmount}
 use Rattle.result_ranges.proofs.Bounding.{small_sum, small_product, small_remainder}
 use Rattle.cell_steps.specs.Operands.{settled, amount_of}
 use Rattle.cell_amounts.specs.Working.{CanSettle, CanWork, amount_from}
-use Rattle.cell_operands.proofs.Roots.{settled_is}
+use Rattle.cell_edges.proofs.Roots.{settled_is}
 use Rattle.edge_premises.proofs.Divisors.{sum_root}
 
 mapped : {A B : Type 0} (f : A → B) (o : Option A) (b : B) → option_map f o ≡ Some b → (a : A) × (o ≡ Some a) × (f a ≡ b)

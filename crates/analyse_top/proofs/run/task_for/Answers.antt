@@ -1,5 +1,5 @@
 use Rattle.batch_io.specs.FilesState.{known_bytes}
-use Rattle.run_words.specs.Words.{plain_run}
+use Rattle.command_words.specs.Commands.{plain_run}
 use Rattle.analyse_top.proofs.Tasks.{found_answer, found_reads, found_ready, found_task}
 use Rattle.analyse_top.proofs.run.task_for.Goals as goal
 

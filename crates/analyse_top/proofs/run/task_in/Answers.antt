@@ -1,5 +1,5 @@
 use Rattle.std.proofs.Common.{subst, sym}
-use Rattle.run_words.specs.Words.{plain_run}
+use Rattle.command_words.specs.Commands.{plain_run}
 use Rattle.analyse_top.specs.Steps.{IsNoTask}
 use Rattle.analyse_top.proofs.Tasks.{no_task}
 use Rattle.analyse_top.proofs.run.task_in.Goals as goal

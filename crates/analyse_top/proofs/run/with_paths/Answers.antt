@@ -1,5 +1,6 @@
 use Rattle.std.proofs.Common.{ap, string_bytes}
-use Rattle.run_words.specs.Words.{plain_run, lent_texts}
+use Rattle.command_words.specs.Words.{lent_texts}
+use Rattle.command_words.specs.Commands.{plain_run}
 use Rattle.analyse_top.proofs.Tasks.{is_task, blames_word}
 use Rattle.analyse_top.proofs.run.with_paths.Goals as goal
 

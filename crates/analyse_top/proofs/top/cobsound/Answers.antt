@@ -1,6 +1,7 @@
 use Rattle.std.proofs.Common.{List, String, Global, subst}
-use Rattle.run_words.specs.Words.{texts}
+use Rattle.command_words.specs.Words.{texts}
 use Rattle.analyse_top.specs.Conclusion.{Concludes, IsExact, call}
+use Rattle.analyse_top.proofs.Analysed.{analyses_are_accepted, analyses_find_clean, long_texts_are_of_large_programs}
 use Rattle.analyse_top.proofs.Clean.{accepts_exactly, checking_is_sound, clean_is_safe, reports_are_complete}
 use Rattle.analyse_top.proofs.Exact.{is_exact}
 use Rattle.analyse_top.proofs.OneAnswer.{TextsAreApart}
@@ -20,15 +21,19 @@ returns g c =
       one_place = c.one_place.ensures;
       no_bad_line = c.no_bad_line.ensures;
     } in
+    let one_reading = c.one_reading.ensures in
     let sound = checking_is_sound c.sources_have_source_graphs.ensures c.accepted_claims_cover_runs.ensures in
     let exact : IsExact this =
-    is_exact c.one_answer.ensures c.one_reading.ensures c.graphs_are_one.ensures.graph c.one_end.ensures texts_apart this
+    is_exact c.one_answer.ensures one_reading c.graphs_are_one.ensures.graph c.one_end.ensures texts_apart this
     concludes in
     record {
       concludes = concludes;
       exact = exact;
-      clean = clean_is_safe sound this concludes;
-      reports = reports_are_complete sound this concludes;
-      accepts = accepts_exactly sound this concludes exact;
-      runs = clean_runs_meet_no_fault c.one_answer.ensures c.one_reading.ensures this concludes;
+      clean = clean_is_safe sound one_reading this concludes;
+      reports = reports_are_complete sound one_reading this concludes;
+      accepts = accepts_exactly sound one_reading this concludes exact;
+      analysed = analyses_are_accepted sound one_reading this concludes;
+      misses = analyses_find_clean sound one_reading this concludes c.one_answer.ensures c.graphs_are_one.ensures.graph;
+      long = long_texts_are_of_large_programs c.texts_of_certificates_are_short.ensures this;
+      runs = clean_runs_meet_no_fault c.one_answer.ensures one_reading this concludes;
     }

@@ -1,16 +1,21 @@
-use Rattle.std.proofs.Common.{Err, inl}
-use Rattle.run_words.specs.Words.{texts}
+use Rattle.std.proofs.Common.{Err, inl, refl}
+use Rattle.command_words.specs.Words.{texts}
+use Rattle.command_words.specs.Commands.{Command, IsCommand}
+use Rattle.analyse_top.specs.Answer.{Usage, first_word}
 use Rattle.analyse_top.specs.declared.answer.Stop.TheVariants.{Memory}
 use Rattle.analyse_top.specs.Conclusion.{call}
-use Rattle.analyse_top.proofs.Endings.{ends_found, reads_nothing}
+use Rattle.analyse_top.proofs.Endings.{ends_by_answer, ends_found, reads_nothing}
 use Rattle.analyse_top.proofs.top.conclude.Goals as goal
 
-pub returns-in-Ok-Some : goal.returns-in-Ok-Some
-returns-in-Ok-Some g c =
-    c.conclude_run.ensures (texts c.args.words.now) (rw c.in-Ok-Some.field-0-is at c.in-Ok-Some.ensures)
-
-pub conclude_other-requires : goal.conclude_other-requires
-conclude_other-requires g c = rw c.in-Ok-None.field-0-is at c.in-Ok-None.ensures
+pub returns-in-Ok-None : goal.returns-in-Ok-None
+returns-in-Ok-None g c =
+    let files = g.F.Files.state c.args.files.now in
+    let words = texts c.args.words.now in
+    let none : (said : Command) → IsCommand words said → ⊥ = rw c.in-Ok-None.field-0-is at c.in-Ok-None.ensures in
+    inl (ends_by_answer
+    (call words files files (g.O.Sink.state c.args.out.now) (g.O.Sink.state c.show_usage.new.out) c.show_usage.result)
+    (reads_nothing files) (Usage (first_word words))
+    (inl ((λ said is. absurd (none said is)), refl)) c.show_usage.ensures)
 
 pub returns-in-Err : goal.returns-in-Err
 returns-in-Err g c =

@@ -1,10 +1,10 @@
 use Rattle.std.proofs.Common.{inl, inr}
 use Rattle.batch_io.specs.FilesState.{known_bytes}
 use Rattle.cob_interp.specs.Running.{outside}
-use Rattle.run_words.specs.Words.{plain_run}
+use Rattle.command_words.specs.Commands.{plain_run, run}
 use Rattle.analyse_top.specs.Conclusion.{call}
 use Rattle.analyse_top.specs.View.{plain_task}
-use Rattle.analyse_top.proofs.Endings.{answers_run, ends_found}
+use Rattle.analyse_top.proofs.Endings.{answers_command, ends_found}
 use Rattle.analyse_top.proofs.RunEnds.{asks_for, runs_behind}
 use Rattle.analyse_top.proofs.top.conclude_run.Goals as goal
 
@@ -14,13 +14,13 @@ returns-in-Ok g c =
     let files = g.F.Files.state c.args.files.now in
     let middle = g.F.Files.state c.task_for.new.files in
     let after = outside (g.F.Files.state c.run.new.files) (g.O.Sink.state c.run.new.out) in
-    λ words said. inr (
+    λ words said. inr (inr (
       t,
       c.run.ensures.0,
       asks_for (known_bytes files) words (plain_run c.args.said.now) t said c.in-Ok.ensures.holds,
       runs_behind t files middle (g.O.Sink.state c.args.out.now) after c.run.ensures.0 c.run.result
           c.in-Ok.ensures.reads c.run.ensures.1,
-    )
+    ))
 
 pub returns-in-Err : goal.returns-in-Err
 returns-in-Err g c =
@@ -30,4 +30,4 @@ returns-in-Err g c =
     (call words files (g.F.Files.state c.task_for.new.files)
     (g.O.Sink.state c.args.out.now) (g.O.Sink.state c.show_found.new.out) c.show_found.result)
     c.in-Err.found c.in-Err.ensures.reads
-    (answers_run c.in-Err.found (known_bytes files) words r said c.in-Err.ensures.answer) c.show_found.ensures)
+    (answers_command c.in-Err.found (known_bytes files) words (run r) said c.in-Err.ensures.answer) c.show_found.ensures)

@@ -3,7 +3,7 @@ use Rattle.cob_program.specs.ActView.{plain_stmt, plain_program}
 use Rattle.borrowed_parts.specs.PartView.{edge_parts}
 use Rattle.cell_rows.specs.Rows.{cells_of}
 use Rattle.cell_steps.specs.Seen.{beginning}
-use Rattle.row_changes.specs.Cells.{IsRowOf}
+use Rattle.cell_walk.specs.ProgramRows.{IsRowOf}
 use Rattle.cell_walk.specs.Statements.{act_in}
 use Rattle.cell_walk.specs.Walks.{clears_all_small, CanStep}
 use Rattle.cell_walk.specs.Kept.{seen}

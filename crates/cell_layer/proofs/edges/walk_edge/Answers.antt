@@ -20,8 +20,8 @@ loop-part-init c =
     let cells = cells_of c.args.row.now in
     record {
       row_of = c.requires.row_of;
-      can = can_begin p (act_in y) x (seen c.args.row.now c.new-kept.result) cells (c.new-kept.ensures c.args.row.now) c.requires.fits;
-      told = ap (λ s. steps_small p (act_in y) x ps s) (c.new-kept.ensures c.args.row.now);
+      can = can_begin p (act_in y) x (seen c.args.row.now c.new-kept.result) cells (c.new-kept.ensures.begins c.args.row.now) c.requires.fits;
+      told = ap (λ s. steps_small p (act_in y) x ps s) (c.new-kept.ensures.begins c.args.row.now);
     }
 
 pub loop-part-preserved : goal.loop-part-preserved

@@ -1,6 +1,6 @@
 use Rattle.cob_program.specs.ActView.{plain_program}
 use Rattle.cell_rows.specs.Rows.{cells_of}
-use Rattle.guarded_rows.proofs.Counting.{count_is_small}
+use Rattle.cell_walk.proofs.CounterRanges.{count_is_small}
 use Rattle.cell_walk.proofs.counting.count_down_fits.Goals as goal
 
 pub lowered-requires-clause-low : goal.lowered-requires-clause-low

@@ -1,23 +1,26 @@
 use Rattle.std.proofs.Common.{Option, subst, sym}
+use Rattle.std.specs.Prelude.{IfSome}
 use Rattle.decimal_interval.specs.declared.bounds.Interval.{Interval}
 use Rattle.cob_program.specs.ActView.{plain_act, plain_program}
 use Rattle.cob_runs.specs.Contents.{form_at}
 use Rattle.borrowed_parts.specs.PartView.{plain_amount}
 use Rattle.cell_rows.specs.Known.{IsOrdered}
-use Rattle.cell_steps.specs.Stores.{amount_at}
+use Rattle.result_ranges.specs.declared.amounts.AmountRange.{AmountRange}
+use Rattle.result_ranges.specs.Sizes.{IsSmallAmount}
 use Rattle.cell_walk.specs.Kept.{seen}
 use Rattle.cell_walk.proofs.Stepping.{can_work, small_amounts, can_settle, units_ordered}
 use Rattle.cell_walk.proofs.stores.store.Goals as goal
 
-pub result_of-value-requires-clause-can : goal.result_of-value-requires-clause-can
-result_of-value-requires-clause-can c =
+pub amount_for-found-requires-clause-can : goal.amount_for-found-requires-clause-can
+amount_for-found-requires-clause-can c =
     let x = c.args in
     can_work (plain_program x.program.now) (plain_act x.act.now) x.action (seen x.row.now x.kept.now) c.requires.can c.requires.written x.place (plain_amount x.amount) c.requires.small
 
-pub result_of-value-requires-clause-small : goal.result_of-value-requires-clause-small
-result_of-value-requires-clause-small c =
+pub stored_at-value-requires-clause-small : goal.stored_at-value-requires-clause-small
+stored_at-value-requires-clause-small c =
     let x = c.args in
-    small_amounts (plain_program x.program.now) (plain_act x.act.now) x.action (seen x.row.now x.kept.now) c.requires.can c.requires.written x.place (plain_amount x.amount) c.requires.small
+    subst (λ (o : Option AmountRange). IfSome o IsSmallAmount) (sym c.amount_for-found.ensures)
+    (small_amounts (plain_program x.program.now) (plain_act x.act.now) x.action (seen x.row.now x.kept.now) c.requires.can c.requires.written x.place (plain_amount x.amount) c.requires.small)
 
 pub may_keep_own-keeps-requires : goal.may_keep_own-keeps-requires
 may_keep_own-keeps-requires c =
@@ -28,5 +31,5 @@ pub put-requires-clause-ordered : goal.put-requires-clause-ordered
 put-requires-clause-ordered c =
     let x = c.args in
     let p = plain_program x.program.now in
-    subst (λ (o : Option Interval). IsOrdered o) (sym c.result_of-value.ensures.units)
-    (units_ordered x.mode (form_at p.layout x.place) (amount_at p (plain_act x.act.now) x.action (seen x.row.now x.kept.now) x.place (plain_amount x.amount)))
+    subst (λ (o : Option Interval). IsOrdered o) (sym c.stored_at-value.ensures.units)
+    (units_ordered x.mode (form_at p.layout x.place) c.amount_for-found.result)

@@ -1,0 +1,113 @@
+//! `analyse`: the certificate that is found for a source, its file, and its report.
+ghost use Rattle.std.specs.Prelude.{◌≡◌, ◌<◌, List, ℕ, MatchResult};
+ghost use Rattle.batch_io.specs.FilesState.{KeepsIds};
+ghost use Rattle.cert_text.specs.View.{view};
+ghost use Rattle.cob_program.specs.ActView.{plain_program};
+ghost use Rattle.command_words.specs.Commands as word;
+ghost use Rattle.command_words.specs.Commands.{IsCommand};
+ghost use Rattle.analyse_top.specs.Analysis.{Analysis, IsFound, analysis};
+ghost use Rattle.analyse_top.specs.Conclusion.{Concludes, EndsWithAnalysis, call};
+ghost use Rattle.analyse_top.specs.Steps.{IsFinding, IsFindingFor, IsOfSource};
+
+use crate::answer::Stop;
+use crate::check::{CERTIFICATE_LIMIT, check_plain};
+use crate::show::{
+    CERTIFICATE_REFUSED, OUT_OF_MEMORY, WRITE_FAULT, show_found, show_line, show_text, status_of,
+};
+use crate::source::{Laid, read_source};
+use crate::text::answer_text;
+use analyse_core::analyse as analyse_program;
+use batch_io::{Files, MakeEnd, Sink, put_file};
+use cert_text::{Cert, print};
+use dom_laws::Steps;
+use source_facts::sources_have_source_graphs;
+use std::alloc::Global;
+use std::marker::Brand;
+use std::sync::ledger::{Blank, Ledger};
+
+/// What is found for a source: the text of its certificate, and that of its report with its status.
+#[derive(Drop)]
+pub struct Findings {
+    pub certificate: Vec<u8>,
+    pub report: Vec<u8>,
+    pub status: u8,
+}
+
+// The texts of what was found.
+fn texts_of(alloc: Global, laid: &Laid, cert: &Cert) -> Result<Findings, Stop>
+    requires source { IsOfSource laid.now }
+    requires found { IsFound (analysis (plain_program laid.now.program) laid.now.graph (view cert.now)) }
+    ensures { MatchResult result
+        (IsFinding (analysis (plain_program laid.now.program) laid.now.graph (view cert.now)))
+        (λ stop. stop ≡ Stop.Memory) }
+{
+    let report = check_plain(alloc, laid, cert)?;
+    let certificate = print(alloc, cert)?;
+    let text = answer_text(alloc, &report)?;
+    Ok(Findings {
+        certificate,
+        status: status_of(&report),
+        report: text,
+    })
+}
+
+// With a counter of the analysis' steps, which nobody reads.
+fn found_counted<L: Ledger>(alloc: Global, laid: &Laid, blank: Blank) -> Result<Findings, Stop>
+    requires source { IsOfSource laid.now }
+    requires name { blank.name ≡ L.name }
+    requires parts { blank.parts ≡ L.parts }
+    requires some { 0 < L.parts }
+    ensures { MatchResult result (IsFindingFor laid.now) (λ stop. stop ≡ Stop.Memory) }
+{
+    sources_have_source_graphs();
+    let mut steps = Steps::<L>::open(blank);
+    let cert = analyse_program(alloc, &laid.program, &laid.graph, &mut steps)?;
+    texts_of(alloc, laid, &cert)
+}
+
+// Analyses a source that was read.
+fn found_for(alloc: Global, laid: &Laid) -> Result<Findings, Stop>
+    requires { IsOfSource laid.now }
+    ensures { MatchResult result (IsFindingFor laid.now) (λ stop. stop ≡ Stop.Memory) }
+{
+    found_counted::<Brand>(alloc, laid, Blank::new(1))
+}
+
+// Makes the certificate's file, unless its text is too long, and shows the report.
+fn tell<F: Files, O: Sink>(findings: &Findings, certificate: &str, files: &mut F, out: &mut O) -> u8
+    ensures ids { KeepsIds (F.state files.old) (F.state files.new) }
+    ensures reading { (F.state files.new).reading ≡ (F.state files.old).reading }
+    ensures ends { (words : List (List ℕ)) (a : Analysis) → IsFinding a findings.now → EndsWithAnalysis
+        (call words (F.state files.old) (F.state files.new) (O.state out.old) (O.state out.new) result) certificate.now a }
+{
+    if findings.certificate.len() > CERTIFICATE_LIMIT {
+        return show_line(out, b"E11 certificate too long\n", CERTIFICATE_REFUSED);
+    }
+    match put_file(files, certificate, &findings.certificate) {
+        Ok(()) => show_text(out, &findings.report, findings.status, WRITE_FAULT),
+        Err(MakeEnd::Failed) => show_line(out, b"E4 write\n", WRITE_FAULT),
+        Err(MakeEnd::Memory) => show_line(out, b"E19 memory\n", OUT_OF_MEMORY),
+    }
+}
+
+/// Finds a certificate for a source, writes it to a file, which it makes or empties, and shows its report. Text and report
+/// are made before the file is. Gives the process's status.
+pub fn analyse<F: Files, O: Sink>(
+    alloc: Global,
+    source: &str,
+    certificate: &str,
+    files: &mut F,
+    out: &mut O,
+) -> u8
+    ensures { (words : List (List ℕ)) → IsCommand words (word.analyse source.now certificate.now)
+        → Concludes (call words (F.state files.old) (F.state files.new) (O.state out.old) (O.state out.new) result) }
+{
+    let laid = match read_source(alloc, source, files) {
+        Ok(laid) => laid,
+        Err(found) => return show_found(alloc, found, out),
+    };
+    match found_for(alloc, &laid) {
+        Ok(findings) => tell(&findings, certificate, files, out),
+        Err(stop) => show_found(alloc, Err(stop), out),
+    }
+}

@@ -1,4 +1,0 @@
-pub mod Given
-pub mod Agreement
-pub mod Roots
-pub mod Holding

@@ -1,2 +1,0 @@
-//! What an amount is worth is among what it can be with the operands that were taken.
-#![tactic(auto)]

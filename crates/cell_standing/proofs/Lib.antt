@@ -1,4 +1,0 @@
-pub mod Standing
-pub mod Frames
-pub mod Counters
-pub mod Holding

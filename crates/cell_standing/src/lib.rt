@@ -1,2 +1,0 @@
-//! What is known of homes is true of a storage, where cells and storages change.
-#![tactic(auto)]

@@ -1,0 +1,111 @@
+-- What is forgotten, cell after cell, and by homes.
+use Rattle.std.proofs.Common.{◌≡◌, ◌<◌, ℕ, zero, suc, ◌+◌, Bool, true, false, if◌then◌else◌, List, [], ◌∷◌, length, map, get_or, Option, Some, None, ℤ, refl, sym, ap, ◌∙◌, slice_set, arith}
+use Rattle.std.specs.Option.{option_map_or}
+use Rattle.std.proofs.lemmas.List.{length-map}
+use Rattle.cob_data.specs.declared.layout.Item.{Item}
+use Rattle.cob_data.specs.declared.layout.Layout.{Layout}
+use Rattle.cob_program.specs.Act.{Program}
+use Rattle.cob_runs.specs.declared.action.Cell.{Cell}
+use Rattle.cob_runs.specs.Contents.{item_at}
+use Rattle.cell_storages.specs.Homes.{Home, of_item, of_count, homes_of}
+use Rattle.cell_rows.specs.Known.{Known}
+use Rattle.cell_rows.specs.Rows as rows
+use Rattle.cell_rows.specs.Rows.{IsReached}
+use Rattle.cell_homes.specs.Numbers.{item_of, items_of}
+use Rattle.cell_homes.proofs.Parallel.{cells_same}
+use Rattle.cell_steps.specs.Cells.{forgotten, is_in_bytes, is_beside}
+use Rattle.cell_walk.specs.ProgramRows.{IsRowOf}
+use Rattle.cell_walk.specs.Forgetting.{has_bytes, forgotten_at, forgotten_by}
+
+-- so many cells are gone through
+abbrev pub through : (Option ℕ → Bool) → ℕ → List (Option ℕ) → List Known → List Known
+through is_gone zero os cs = cs
+through is_gone (suc k) (o ∷ os) (c ∷ cs) = (if is_gone o then None else c) ∷ through is_gone k os cs
+through is_gone (suc k) _ cs = cs
+
+module _ (is_gone : Option ℕ → Bool) where
+  pub through_length : (k : ℕ) (os : List (Option ℕ)) (cs : List Known) → length (through is_gone k os cs) ≡ length cs
+  through_length zero os cs = refl
+  through_length (suc k) [] cs = refl
+  through_length (suc k) (o ∷ os) [] = refl
+  through_length (suc k) (o ∷ os) (c ∷ cs) = ap suc (through_length k os cs)
+
+  pub through_all : (k : ℕ) (os : List (Option ℕ)) (cs : List Known) → k ≡ length os → through is_gone k os cs ≡ forgotten_by is_gone os cs
+  through_all zero [] cs e = refl
+  through_all zero (o ∷ os) cs e = absurd (omega (arith, e))
+  through_all (suc k) [] cs e = absurd (omega (arith, e))
+  through_all (suc k) (o ∷ os) [] e = refl
+  through_all (suc k) (o ∷ os) (c ∷ cs) e = ap (λ ds. (if is_gone o then None else c) ∷ ds) (through_all k os cs (omega (arith, e)))
+
+  pub through_next : (k : ℕ) (os : List (Option ℕ)) (cs : List Known) (gone : Bool) → k < length os → k < length cs →
+      gone ≡ is_gone (get_or os k None) → forgotten_at (through is_gone k os cs) k gone ≡ through is_gone (suc k) os cs
+  through_next k [] cs gone h i e = absurd (omega arith)
+  through_next k (p ∷ os) [] gone h i e = absurd (omega arith)
+  through_next zero (p ∷ os) (c ∷ cs) true h i e = rw (← e) refl
+  through_next zero (p ∷ os) (c ∷ cs) false h i e = rw (← e) refl
+  through_next (suc k) (p ∷ os) (c ∷ cs) true h i e =
+      ap (λ ds. (if is_gone p then None else c) ∷ ds) (through_next k os cs true (omega arith) (omega arith) e)
+  through_next (suc k) (p ∷ os) (c ∷ cs) false h i e =
+      ap (λ ds. (if is_gone p then None else c) ∷ ds) (through_next k os cs false (omega arith) (omega arith) e)
+
+-- ---- by homes
+
+gone_same : (l : Layout) (offset count : ℕ) (h : Home) → has_bytes l offset count (item_of h) ≡ is_in_bytes l offset count h
+gone_same l offset count (of_item place) = refl
+gone_same l offset count (of_count statement) = refl
+
+by_homes : (l : Layout) (offset count : ℕ) (hs : List Home) (cs : List Known) →
+    forgotten_by (has_bytes l offset count) (map item_of hs) cs ≡ forgotten (is_in_bytes l offset count) hs cs
+by_homes l offset count [] cs = refl
+by_homes l offset count (h ∷ hs) [] = refl
+by_homes l offset count (h ∷ hs) (c ∷ cs) =
+    ap (λ (b : Bool). (if b then None else c) ∷ forgotten_by (has_bytes l offset count) (map item_of hs) cs) (gone_same l offset count h)
+    ∙ ap (λ ds. (if is_in_bytes l offset count h then None else c) ∷ ds) (by_homes l offset count hs cs)
+
+pub forgotten_of : (p : Program) (cells : List Cell) (row : List ℤ) (offset count : ℕ) → IsRowOf p cells row →
+    forgotten_by (has_bytes p.layout offset count) (items_of cells) (rows.cells_of row)
+    ≡ forgotten (is_in_bytes p.layout offset count) (homes_of p) (rows.cells_of row)
+forgotten_of p cells row offset count r =
+    ap (λ os. forgotten_by (has_bytes p.layout offset count) os (rows.cells_of row)) (ap items_of r.cells_are ∙ cells_same p)
+    ∙ by_homes p.layout offset count (homes_of p) (rows.cells_of row)
+
+forgotten_length : (is_gone : Home → Bool) (hs : List Home) (cs : List Known) → length (forgotten is_gone hs cs) ≡ length cs
+forgotten_length is_gone [] cs = refl
+forgotten_length is_gone (h ∷ hs) [] = refl
+forgotten_length is_gone (h ∷ hs) (c ∷ cs) = ap suc (forgotten_length is_gone hs cs)
+
+pub forgotten_row : (p : Program) (cells : List Cell) (row later : List ℤ) (is_gone : Home → Bool) → IsRowOf p cells row →
+    rows.cells_of later ≡ forgotten is_gone (homes_of p) (rows.cells_of row) → IsReached later → IsRowOf p cells later
+forgotten_row p cells row later is_gone r e reached = record {
+  cells_are = r.cells_are;
+  reached = reached;
+  count = ap length e ∙ (forgotten_length is_gone (homes_of p) (rows.cells_of row) ∙ r.count);
+}
+
+-- the item of the cell with a number
+pub item_got : (cells : List Cell) (k : ℕ) (d : Cell) → k < length cells → (get_or cells k d).item ≡ get_or (items_of cells) k None
+item_got [] k d h = absurd (omega arith)
+item_got (c ∷ cells) zero d h = refl
+item_got (c ∷ cells) (suc k) d h = item_got cells k d (omega arith)
+
+pub items_length : (cells : List Cell) → length (items_of cells) ≡ length cells
+items_length cells = length-map cells (λ (c : Cell). c.item)
+
+-- a row of a program has a cell for each of the program's
+pub as_wide : (p : Program) (cells : List Cell) (row : List ℤ) → IsRowOf p cells row → length (rows.cells_of row) ≡ length cells
+as_wide p cells row r =
+    r.count ∙ (sym (length-map (homes_of p) item_of) ∙ (sym (ap length (ap items_of r.cells_are ∙ cells_same p)) ∙ items_length cells))
+
+nothing_gone : (is_gone : Home → Bool) (hs : List Home) (cs : List Known) → ((h : Home) → is_gone h ≡ false) →
+    cs ≡ forgotten is_gone hs cs
+nothing_gone is_gone [] cs none = refl
+nothing_gone is_gone (h ∷ hs) [] none = refl
+nothing_gone is_gone (h ∷ hs) (c ∷ cs) none =
+    ap (λ ds. c ∷ ds) (nothing_gone is_gone hs cs none)
+    ∙ ap (λ (b : Bool). (if b then None else c) ∷ forgotten is_gone hs cs) (sym (none h))
+
+-- nothing has bytes of an item that isn't there
+pub nothing_beside : (l : Layout) (place : ℕ) (hs : List Home) (cs : List Known) → item_at l place ≡ None →
+    cs ≡ forgotten (is_beside l place) hs cs
+nothing_beside l place hs cs none = nothing_gone (is_beside l place) hs cs
+    (λ h. ap (λ (o : Option Item). option_map_or (λ i. is_in_bytes l i.offset i.length h) o false) none)

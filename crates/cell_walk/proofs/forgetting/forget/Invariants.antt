@@ -1,0 +1,12 @@
+use Rattle.std.proofs.Common.{◌≡◌}
+use Rattle.cell_homes.specs.Numbers.{items_of}
+use Rattle.cell_rows.specs.Rows.{cells_of, IsReached}
+use Rattle.cell_walk.specs.Forgetting.{has_bytes}
+use Rattle.cell_walk.proofs.Forgotten.{through}
+use Rattle.cell_walk.proofs.forgetting.forget.Given as goal
+
+abbrev pub invariant-loop-k : goal.invariant-loop-k
+invariant-loop-k l = record {
+  reached : IsReached l.row;
+  cells : cells_of l.row ≡ through (has_bytes l.layout l.offset l.count) l.k (items_of l.cells) (cells_of l.fn.row);
+}

@@ -1,0 +1,86 @@
+//! What is known of items that have bytes of a range is forgotten.
+ghost use Rattle.std.specs.Prelude.{◌≡◌, ◌<◌, length};
+ghost use Rattle.cob_program.specs.ActView.{plain_program};
+ghost use Rattle.cell_homes.specs.Numbers.{items_of};
+ghost use Rattle.cell_storages.specs.Homes.{homes_of};
+ghost use Rattle.cell_rows.specs.Rows.{IsReached, cells_of};
+ghost use Rattle.cell_steps.specs.Cells.{share_bytes, forgotten, is_in_bytes, is_beside};
+ghost use Rattle.cell_walk.specs.ProgramRows.{IsRowOf};
+ghost use Rattle.cell_walk.specs.Forgetting.{has_bytes, forgotten_at, forgotten_by};
+
+use crate::pictures::item_at;
+use cell_rows::set_known;
+use cob_data::Layout;
+use cob_program::Program;
+use cob_runs::Cell;
+
+fn share_bytes(offset: u32, count: u32, from: u32, many: u32) -> bool
+    ensures { result ≡ share_bytes offset count from many }
+{
+    let end = u64::from(offset) + u64::from(count);
+    let other = u64::from(from) + u64::from(many);
+    !(other <= u64::from(offset) || end <= u64::from(from))
+}
+
+// Whether an item has bytes of a range.
+fn has_bytes(layout: &Layout, offset: u32, count: u32, item: Option<u32>) -> bool
+    ensures { result ≡ has_bytes layout.now offset count item }
+{
+    match item {
+        None => false,
+        Some(place) => match item_at(layout, place) {
+            None => false,
+            Some(item) => share_bytes(offset, count, item.offset, item.length),
+        },
+    }
+}
+
+fn forget_if(row: &mut [i128], k: usize, gone: bool)
+    requires reached { IsReached row.old }
+    requires within { k < length (cells_of row.old) }
+    ensures cells { cells_of row.new ≡ forgotten_at (cells_of row.old) k gone }
+    ensures reached { IsReached row.new }
+{
+    if gone {
+        set_known(row, k, None);
+    }
+}
+
+fn forget(layout: &Layout, cells: &[Cell], row: &mut [i128], offset: u32, count: u32)
+    requires reached { IsReached row.old }
+    requires whole { length (cells_of row.old) ≡ length cells.now }
+    ensures cells { cells_of row.new ≡ forgotten_by (has_bytes layout.now offset count) (items_of cells.now) (cells_of row.old) }
+    ensures reached { IsReached row.new }
+{
+    for k in 0..cells.len() {
+        let gone = has_bytes(layout, offset, count, cells[k].item);
+        forget_if(row, k, gone);
+    }
+}
+
+/// Forgets what is known of each item that has bytes of a range.
+pub(crate) fn forget_bytes(
+    program: &Program,
+    cells: &[Cell],
+    row: &mut [i128],
+    offset: u32,
+    count: u32,
+)
+    requires { IsRowOf (plain_program program.now) cells.now row.old }
+    ensures cells { cells_of row.new ≡ forgotten (is_in_bytes program.now.layout offset count) (homes_of (plain_program program.now)) (cells_of row.old) }
+    ensures row { IsRowOf (plain_program program.now) cells.now row.new }
+{
+    forget(&program.layout, cells, row, offset, count);
+}
+
+/// Forgets what is known of each item that has bytes of another one, itself among them.
+pub(crate) fn forget_beside(program: &Program, cells: &[Cell], row: &mut [i128], place: u32)
+    requires { IsRowOf (plain_program program.now) cells.now row.old }
+    ensures cells { cells_of row.new ≡ forgotten (is_beside program.now.layout place) (homes_of (plain_program program.now)) (cells_of row.old) }
+    ensures row { IsRowOf (plain_program program.now) cells.now row.new }
+{
+    match item_at(&program.layout, place) {
+        None => {}
+        Some(item) => forget_bytes(program, cells, row, item.offset, item.length),
+    }
+}

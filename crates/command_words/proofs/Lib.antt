@@ -1,0 +1,5 @@
+mod Counts
+mod Places
+mod Readings
+mod Taking
+mod Saying

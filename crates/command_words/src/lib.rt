@@ -1,0 +1,14 @@
+//! The words of the command line: `analyse`, `check`, `run` and `trial`.
+#![tactic(auto)]
+
+mod by_clap;
+mod command;
+mod number;
+mod parts;
+mod reading;
+
+pub use command::{Command, RunWords};
+pub use reading::{command_of, one_reading};
+
+#[cfg(test)]
+mod tests;

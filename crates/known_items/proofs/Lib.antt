@@ -1,4 +1,0 @@
-pub mod Digits
-pub mod Bounded
-pub mod Agreeing
-pub mod Small

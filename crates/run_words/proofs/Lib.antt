@@ -1,4 +1,0 @@
-mod Places
-mod Readings
-mod Counts
-mod Clashes

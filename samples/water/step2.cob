@@ -1,0 +1,85 @@
+       IDENTIFICATION DIVISION.
+       PROGRAM-ID. WATER.
+      * Reads a town's water meters, writes its bills and their sum.
+       ENVIRONMENT DIVISION.
+       INPUT-OUTPUT SECTION.
+       FILE-CONTROL.
+           SELECT METER-FILE ASSIGN TO METERS
+               FILE STATUS IS METER-STATUS.
+           SELECT BILL-FILE ASSIGN TO BILLS.
+       DATA DIVISION.
+       FILE SECTION.
+       FD METER-FILE.
+       01 METER-REC.
+          05 CUSTOMER PIC X(6).
+          05 OLD-READING PIC 9(6).
+          05 NEW-READING PIC 9(6).
+       FD BILL-FILE.
+       01 BILL-REC.
+          05 BILL-CUSTOMER PIC X(6).
+          05 FILLER PIC X.
+          05 BILL-USED PIC ZZZ,ZZ9.
+          05 FILLER PIC X.
+          05 BILL-AMOUNT PIC Z,ZZZ,ZZ9.99.
+       01 SUM-REC.
+          05 SUM-TEXT PIC X(14).
+          05 SUM-AMOUNT PIC ZZ,ZZZ,ZZ9.99.
+       WORKING-STORAGE SECTION.
+       01 SWITCHES.
+          05 METER-STATUS PIC XX VALUE '00'.
+          05 END-SWITCH PIC X VALUE 'N'.
+             88 IS-AT-END VALUE 'Y'.
+       01 TARIFF.
+          05 BASE-FEE PIC 9(3)V99 VALUE 12.50.
+          05 UNIT-PRICE PIC 9V9(4) VALUE 1.8750.
+       01 BILL.
+          05 USED PIC 9(6).
+          05 AMOUNT PIC 9(7)V99.
+       01 SUMS.
+          05 METER-COUNT PIC 9(5) VALUE 0.
+          05 TOTAL PIC 9(9)V99 VALUE 0.
+          05 AVERAGE PIC ZZZ,ZZZ,ZZ9.99.
+       PROCEDURE DIVISION.
+       MAIN-LINE.
+           OPEN INPUT METER-FILE.
+           IF METER-STATUS NOT = '00'
+               DISPLAY 'CANNOT OPEN METERS ' METER-STATUS
+               STOP RUN
+           END-IF.
+           OPEN OUTPUT BILL-FILE.
+           PERFORM READ-METER.
+           PERFORM DO-METER UNTIL IS-AT-END.
+           PERFORM WRITE-SUM.
+           CLOSE METER-FILE BILL-FILE.
+           STOP RUN.
+       READ-METER.
+           READ METER-FILE
+               AT END SET IS-AT-END TO TRUE
+           END-READ.
+       DO-METER.
+           ADD 1 TO METER-COUNT.
+           EVALUATE TRUE
+               WHEN OLD-READING NOT NUMERIC OR NEW-READING NOT NUMERIC
+                   DISPLAY 'NO READING ' CUSTOMER
+               WHEN NEW-READING < OLD-READING
+                   DISPLAY 'METER RUNS BACK ' CUSTOMER
+               WHEN OTHER
+                   PERFORM WRITE-BILL
+           END-EVALUATE.
+           PERFORM READ-METER.
+       WRITE-BILL.
+           SUBTRACT OLD-READING FROM NEW-READING GIVING USED.
+           COMPUTE AMOUNT ROUNDED = BASE-FEE + USED * UNIT-PRICE.
+           ADD AMOUNT TO TOTAL.
+           MOVE SPACES TO BILL-REC.
+           MOVE CUSTOMER TO BILL-CUSTOMER.
+           MOVE USED TO BILL-USED.
+           MOVE AMOUNT TO BILL-AMOUNT.
+           WRITE BILL-REC.
+       WRITE-SUM.
+           DIVIDE TOTAL BY METER-COUNT GIVING AVERAGE ROUNDED.
+           DISPLAY 'METERS ' METER-COUNT ' AVERAGE ' AVERAGE.
+           MOVE SPACES TO SUM-REC.
+           MOVE 'TOTAL' TO SUM-TEXT.
+           MOVE TOTAL TO SUM-AMOUNT.
+           WRITE SUM-REC.
