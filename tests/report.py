@@ -125,7 +125,7 @@ def of_verbs():
     for file in ("analyses.jsonl", "checked.jsonl", "thin.jsonl", "straight.jsonl"):
         for name, case in cases_of(file):
             verbs = statements_in(case["source"].encode("latin-1").split(b"\n"))
-            lines = [*case.get("least", ()), *case.get("most", ()), *case.get("out", "").split("\n")]
+            lines = [*(case.get("least") or ()), *(case.get("most") or ()), *case.get("out", "").split("\n")]
             for line in filter(None, map(ALARM_LINE.fullmatch, lines)):
                 if verbs[int(line[1]) - 1][0] != int(line[2]):
                     return f"verbs of {name}: statement {line[1]} on line {verbs[int(line[1]) - 1][0]}"
