@@ -2,10 +2,11 @@
 
 A module each has the cases of a kind: `reference` those that were worked out by an independent program, `sample` those
 around the sample certificate, `analysed` reports of `analyse` that were worked out by hand, `analyses` sources that an
-independent program looked at, `programs` small programs by subject, `calls` the calls of libraries, `ranges` those that
-work with ranges of numbers, `matrices` those with matrices and forms, `edges` those with edges of control graphs and
-`slow` the comparison of the interpreter with the plain slow step. The last five need programs of their own, which the gate
-builds: without them their cases are left out, which is told, and is a failure where the word is `--all`.
+independent program looked at, `programs` small programs by subject, `report`, `report_files` and `nightly` those of the
+tool around the program and of its document, `calls` the calls of libraries, `ranges` those that work with ranges of
+numbers, `matrices` those with matrices and forms, `edges` those with edges of control graphs and `slow` the comparison of
+the interpreter with the plain slow step. The last five need programs of their own, which the gate builds: without them
+their cases are left out, which is told, and is a failure where the word is `--all`.
 """
 
 import itertools
@@ -13,7 +14,10 @@ import sys
 from concurrent.futures import ThreadPoolExecutor
 from os import cpu_count
 
-from tests import analysed, analyses, built, calls, edges, matrices, programs, ranges, reference, sample, slow
+from tests import analysed, analyses, built, calls, edges, matrices, nightly, programs, ranges, reference, report
+from tests import report_files, sample, slow
+
+TOOL = (report, report_files, nightly)
 
 # These need programs of their own.
 DRIVEN = (calls, ranges, matrices, edges, slow)
@@ -34,7 +38,11 @@ def main():
         print(line)
     if lacking and "--all" in sys.argv[1:]:
         return 1
-    kinds = [kind for kind in (reference, sample, analysed, analyses, programs, *DRIVEN) if kind not in lacking]
+    kinds = [
+        kind
+        for kind in (reference, sample, analysed, analyses, programs, *TOOL, *DRIVEN)
+        if kind not in lacking
+    ]
     checks = itertools.chain.from_iterable(kind.checks() for kind in kinds)
     with ThreadPoolExecutor(cpu_count()) as pool:
         told = list(pool.map(lambda check: check(), checks))

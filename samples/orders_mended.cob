@@ -1,0 +1,51 @@
+       IDENTIFICATION DIVISION.
+       PROGRAM-ID. ORDERS.
+      * Adds up the day's orders, and shows their average.
+       ENVIRONMENT DIVISION.
+       INPUT-OUTPUT SECTION.
+       FILE-CONTROL.
+           SELECT ORDER-FILE ASSIGN TO ORDERS.
+       DATA DIVISION.
+       FILE SECTION.
+       FD ORDER-FILE.
+       01 ORDER-REC.
+          05 QUANTITY PIC 9(4).
+          05 PRICE PIC 9(3)V99.
+       WORKING-STORAGE SECTION.
+       77 END-SWITCH PIC X VALUE 'N'.
+          88 IS-AT-END VALUE 'Y'.
+       77 AMOUNT PIC 9(7)V99 VALUE 0.
+       77 SHOWN PIC Z,ZZZ,ZZ9.99.
+       77 ORDER-COUNT PIC 9(4) VALUE 0.
+       77 TOTAL PIC 9(9)V99 VALUE 0.
+       77 AVERAGE PIC 9(9)V99 VALUE 0.
+       PROCEDURE DIVISION.
+       MAIN-LINE.
+           OPEN INPUT ORDER-FILE.
+           PERFORM READ-ORDER.
+           PERFORM TAKE-ORDER UNTIL IS-AT-END OR ORDER-COUNT = 9999.
+           IF ORDER-COUNT > 0
+               DIVIDE TOTAL BY ORDER-COUNT GIVING AVERAGE ROUNDED
+           END-IF.
+           DISPLAY 'ORDERS ' ORDER-COUNT ' AVERAGE ' AVERAGE.
+           CLOSE ORDER-FILE.
+           STOP RUN.
+       READ-ORDER.
+           READ ORDER-FILE
+               AT END SET IS-AT-END TO TRUE
+           END-READ.
+       TAKE-ORDER.
+           IF QUANTITY IS NUMERIC AND PRICE IS NUMERIC
+               PERFORM ADD-ORDER
+           ELSE
+               DISPLAY 'NOT AN ORDER: ' ORDER-REC
+           END-IF.
+           PERFORM READ-ORDER.
+       ADD-ORDER.
+           COMPUTE AMOUNT = QUANTITY * PRICE.
+           MOVE AMOUNT TO SHOWN.
+           DISPLAY 'ORDER OF ' SHOWN.
+           ADD AMOUNT TO TOTAL
+               ON SIZE ERROR DISPLAY 'NOT IN THE TOTAL'
+           END-ADD.
+           ADD 1 TO ORDER-COUNT.
