@@ -76,27 +76,6 @@ fn a_call_on_files_that_fails_is_told(rt: HostRuntime) -> Result<(), Fail> {
     Ok(())
 }
 
-// What the certificate's file holds where a call on files fails: what it held, or a front of the certificate.
-const LEFT: [(u64, &str); 4] = [
-    (4, CERTIFICATE),
-    (6, ""),
-    (7, CERTIFICATE),
-    (100, CERTIFICATE),
-];
-
-#[test]
-fn a_file_that_cannot_be_written_holds_a_front(rt: HostRuntime) -> Result<(), Fail> {
-    let alloc = rt.alloc();
-    let words = words_of(alloc, "analyse S C")?;
-    for (failing, left) in LEFT {
-        let mut files = files_of(alloc, failing)?;
-        let mut sink = MemSink::new(alloc, Vec::new(alloc));
-        cobsound(alloc, &words, &mut files, &mut sink);
-        assert_eq!(rt; files.bytes("C"), Some(left.as_bytes()), "{failing}");
-    }
-    Ok(())
-}
-
 #[test]
 fn a_text_that_the_sink_refuses_has_its_status(rt: HostRuntime) -> Result<(), Fail> {
     let alloc = rt.alloc();
