@@ -69,8 +69,8 @@ lowered_not word first second sum x is e high f = record {
   lowered = λ s t. by_lt_z largest sum
       (λ (lt : largest <ℤ sum). let top = is.top in let cut : cut_of (first +ℤ second) ≡ none = grind (arith, ints, clamps) in omega (arith, ints, f, top, cut))
       (λ (le : sum ≤ℤ largest). by_lt_z sum word
-          (λ (lt : sum <ℤ word). absurd (high lt le))
-          (λ (above : word ≤ℤ sum). let cut : sum ≤ℤ cut_of (first +ℤ second) = grind (arith, ints, clamps) in omega (arith, ints, f, above, cut)));
+      (λ (lt : sum <ℤ word). absurd (high lt le))
+      (λ (above : word ≤ℤ sum). let cut : sum ≤ℤ cut_of (first +ℤ second) = grind (arith, ints, clamps) in omega (arith, ints, f, above, cut)));
   one = inl f;
 }
 
