@@ -26,9 +26,12 @@ class Loops:
     """Loops within loops over items, in which the nodes are counted that the control graph has for them.
 
     Each loop counts an item of its own up to a limit. What stands in it adds, tests, moves and divides, so that an item
-    depends on others and grows with the loops around it. Half of the items are signed, and a third have decimals."""
+    depends on others and grows with the loops around it. Half of the items are signed, and a third have decimals. The
+    numbers are from one list, so that programs of all sizes have the same ones."""
 
     DEEPEST = 4
+    NUMBERS = (2, 5, 12, 40, 99, 365, 500, 999)
+    LIMITS = (12, 40, 99)
 
     def __init__(self, items, nodes, seed):
         self.random = random.Random(seed)
@@ -47,7 +50,7 @@ class Loops:
 
     def statement(self, depth):
         one, two, three = self.item(), self.item(), self.item()
-        number = self.random.randrange(1, 1000)
+        number = self.random.choice(self.NUMBERS)
         kind = self.random.randrange(6)
         if kind == 0 or self.left < 3:
             self.say(depth, f"ADD {number} TO {one}", 1)
@@ -63,10 +66,10 @@ class Loops:
             self.say(depth, f"SUBTRACT {two} FROM {three} GIVING {one}", 1)
 
     def loop(self, depth):
-        """A loop of at least 8 nodes, for which there is room."""
+        """A loop, where at least 30 nodes are left: so it isn't empty."""
         counter = next(name for name in iter(self.item, None) if name not in self.busy)
         self.busy.add(counter)
-        limit = self.random.randrange(10, 100)
+        limit = self.random.choice(self.LIMITS)
         if self.random.randrange(2):
             self.say(depth, f"PERFORM VARYING {counter} FROM 1 BY 1 UNTIL {counter} > {limit}", 3)
         else:
@@ -75,7 +78,7 @@ class Loops:
         for _ in range(self.random.randrange(4, 12)):
             if self.left < 20:
                 break
-            if depth < self.DEEPEST and self.random.randrange(4) == 0:
+            if depth < self.DEEPEST and self.left >= 30 and self.random.randrange(4) == 0:
                 self.loop(depth + 1)
             else:
                 self.statement(depth + 1)
