@@ -4,6 +4,7 @@
 
 mod acts;
 mod end;
+mod heads;
 mod performs;
 mod statements;
 mod typing;

@@ -23,34 +23,22 @@ invariant-typed_whens-loop-when l = record {
 
 -- levels that are left, and within one level who calls whom
 abbrev pub decreases-typed_stmt : goal.decreases-typed_stmt
-decreases-typed_stmt l = l.left * 16 + 15
-
-abbrev pub decreases-typed_verb : goal.decreases-typed_verb
-decreases-typed_verb l = l.left * 16 + 14
-
-abbrev pub decreases-typed_tail : goal.decreases-typed_tail
-decreases-typed_tail l = l.left * 16 + 13
+decreases-typed_stmt l = l.left * 8 + 7
 
 abbrev pub decreases-typed_lists : goal.decreases-typed_lists
-decreases-typed_lists l = l.left * 16 + 13
-
-abbrev pub decreases-typed_cases : goal.decreases-typed_cases
-decreases-typed_cases l = l.left * 16 + 13
-
-abbrev pub decreases-typed_phrases : goal.decreases-typed_phrases
-decreases-typed_phrases l = l.left * 16 + 12
+decreases-typed_lists l = l.left * 8 + 6
 
 abbrev pub decreases-typed_whens : goal.decreases-typed_whens
-decreases-typed_whens l = l.left * 16 + 12
+decreases-typed_whens l = l.left * 8 + 5
 
 abbrev pub decreases-typed_when : goal.decreases-typed_when
-decreases-typed_when l = l.left * 16 + 11
+decreases-typed_when l = l.left * 8 + 4
 
 abbrev pub decreases-typed_phrase : goal.decreases-typed_phrase
-decreases-typed_phrase l = l.left * 16 + 10
+decreases-typed_phrase l = l.left * 8 + 3
 
 abbrev pub decreases-typed_stmts : goal.decreases-typed_stmts
-decreases-typed_stmts l = l.left * 16 + 9
+decreases-typed_stmts l = l.left * 8 + 2
 
 abbrev pub decreases-add_stmts : goal.decreases-add_stmts
-decreases-add_stmts l = l.left * 16 + 8
+decreases-add_stmts l = l.left * 8 + 1
