@@ -148,8 +148,8 @@ within mode k v to more sure =
     size (inr both) =
         let p = and_parts k.not_negative k.not_positive both in
         let low = sure.not_negative p.0 in let high = sure.not_positive p.1 in
-        zero_size mode (unsigned_abs v.units) to (10 ^ v.scale) (ten_positive scale) (omega (arith, ints, low, high))
+        zero_size mode (unsigned_abs v.units) to (10 ^ v.scale) (ten_positive v.scale) (omega (arith, ints, low, high))
 
     by_known : ((k.whole || (k.not_negative && k.not_positive)) ≡ true) ⊎ ((k.whole || (k.not_negative && k.not_positive)) ≡ false) → Ends (error_in k mode (pos (10 ^ more))) (with_sign_of v.units (rounded mode (unsigned_abs v.units * 10 ^ to) (10 ^ v.scale) * 10 ^ more)) (with_sign_of v.units ((unsigned_abs v.units * 10 ^ to) * 10 ^ more)) (10 ^ v.scale)
     by_known (inl e) = rw e (exact_ends v.units (rounded mode (unsigned_abs v.units * 10 ^ to) (10 ^ v.scale)) (unsigned_abs v.units * 10 ^ to) (10 ^ v.scale) (10 ^ more) (size (or_cases k.whole (k.not_negative && k.not_positive) e)))
-    by_known (inr e) = rw e (sided_ends v.units mode k.not_negative k.not_positive to (10 ^ v.scale) (10 ^ more) (ten_positive scale) sure.not_negative sure.not_positive)
+    by_known (inr e) = rw e (sided_ends v.units mode k.not_negative k.not_positive to (10 ^ v.scale) (10 ^ more) (ten_positive v.scale) sure.not_negative sure.not_positive)

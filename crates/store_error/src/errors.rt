@@ -1,6 +1,5 @@
 //! Errors of stores.
-ghost use Rattle.std.specs.Prelude.{◌≡◌, pos, ◌≤ℤ◌};
-ghost use Rattle.decimal_interval.specs.Corners.{interval};
+ghost use Rattle.std.specs.Prelude.{◌≡◌, false, pos, ◌≤ℤ◌};
 ghost use Rattle.store_error.specs.Errors.{one_sided as one_sided_error, error_in};
 
 use super::known::Known;
