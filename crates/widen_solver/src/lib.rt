@@ -2,9 +2,9 @@
 //! that the edges keep, widening at the heads (Cousot and Cousot 1977).
 #![tactic(auto)]
 
+mod iteration;
 mod node_rows;
 mod store;
-mod sweeps;
 
 pub use store::{Store, solve};
 

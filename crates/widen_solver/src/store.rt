@@ -5,8 +5,8 @@ ghost use Rattle.widen_solver.specs.Stored.{Stored, row_at, HasShape};
 ghost use Rattle.widen_solver.specs.RowsHeld.{shown_rows};
 ghost use Rattle.widen_solver.specs.Solving.{step_bound};
 
+use super::iteration::{settle, start};
 use super::node_rows::NodeRows;
-use super::sweeps::{settle, start};
 use dom_laws::{Domain, Rows, Steps, System};
 use std::alloc::{AllocError, Global};
 use std::marker::Model;

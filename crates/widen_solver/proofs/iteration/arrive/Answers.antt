@@ -5,7 +5,7 @@ use Rattle.dom_laws.specs.Lattice.{IsElement}
 use Rattle.widen_solver.specs.RowsHeld.{RowsHeld, row_shown}
 use Rattle.widen_solver.proofs.ShownRows.{shown_count, shown_at, own_is_some, some_of}
 use Rattle.widen_solver.proofs.OneEdge.{arrives_at}
-use Rattle.widen_solver.proofs.sweeps.arrive.Goals as goal
+use Rattle.widen_solver.proofs.iteration.arrive.Goals as goal
 
 pub reach-requires : goal.reach-requires
 reach-requires g c = omega (arith, c.requires.node.first, c.requires.node.last, c.requires.rows.nodes, shown_count c.args.rows.now)

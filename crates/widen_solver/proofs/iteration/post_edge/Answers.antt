@@ -3,7 +3,7 @@ use Rattle.dom_laws.specs.Lattice.{IsElement}
 use Rattle.widen_solver.specs.RowsHeld.{with_transfer}
 use Rattle.widen_solver.proofs.ShownRows.{shown_count, rewritten_transfer}
 use Rattle.widen_solver.proofs.OneEdge.{source_row, transferred_element}
-use Rattle.widen_solver.proofs.sweeps.post_edge.Goals as goal
+use Rattle.widen_solver.proofs.iteration.post_edge.Goals as goal
 
 pub transfer_beside-out-requires-clause-index : goal.transfer_beside-out-requires-clause-index
 transfer_beside-out-requires-clause-index g c =

@@ -7,7 +7,7 @@ use Rattle.widen_solver.specs.Solving.{IsUnderWay}
 use Rattle.widen_solver.specs.RowsHeld.{RowsHeld, shown_rows}
 use Rattle.widen_solver.proofs.ShownRows.{some_of}
 use Rattle.widen_solver.proofs.OneEdge.{takes_edge_held, transferred_element}
-use Rattle.widen_solver.proofs.sweeps.take_edge.Goals as goal
+use Rattle.widen_solver.proofs.iteration.take_edge.Goals as goal
 
 pub arrive-grew-requires-clause-node : goal.arrive-grew-requires-clause-node
 arrive-grew-requires-clause-node g c =

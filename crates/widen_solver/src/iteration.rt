@@ -1,5 +1,5 @@
-//! Sweeps over the edges, in the order of their sources.
-ghost use Rattle.std.specs.Prelude.{◌≡◌, ℕ, ◌+◌, ◌*◌, ◌≤◌, length, Some};
+//! Takes the edges in the order of their sources, and goes back to a head that grew.
+ghost use Rattle.std.specs.Prelude.{◌≡◌, ℕ, ◌+◌, ◌*◌, ◌<◌, ◌≤◌, length, Some, true, false};
 ghost use Rattle.block_store.specs.BlocksLends.{words_at};
 ghost use Rattle.dom_laws.specs.Lattice.{IsElement};
 ghost use Rattle.dom_laws.specs.Flow.{IsNode, IsEdge};
@@ -10,7 +10,8 @@ ghost use Rattle.widen_solver.specs.Solving.{
   IsUnderWay,
   IsSettled,
   TakesEdge,
-  TakesEdges,
+  AreSettled,
+  Advances,
   head_ranks,
 };
 
@@ -99,23 +100,53 @@ fn take_edge<S: System, L: Ledger>(
     grew && to <= from
 }
 
-// takes each edge once, and tells whether edges may add something still
-fn sweep<S: System, L: Ledger>(system: &S, rows: &mut NodeRows, steps: &mut Steps<L>) -> bool
-    requires rows { IsUnderWay (S.lattice system.now) (S.flow system.now) (shown_rows rows.old) }
-    requires ready { IsReady (S.lattice system.now) rows.old }
-    ensures taken { TakesEdges (S.lattice system.now) (S.flow system.now)
-        (shown_rows rows.old) (shown_rows rows.new) result }
-    ensures ready { IsReady (S.lattice system.now) rows.new }
-    ensures counted { steps.new ≡ steps.old + (S.flow system.now).edges }
+// whether the last of the first edges has the node or a later one as its source
+fn is_behind<S: System>(system: &S, count: u32, node: u32) -> bool
+    requires { count ≤ (S.flow system.now).edges }
+    ensures some { result ≡ true → 1 ≤ count }
+    ensures last { result ≡ false → 1 ≤ count → (S.flow system.now).source count < node }
 {
-    let mut again = false;
-    for index in 0..system.edges() {
-        again |= take_edge(system, index + 1, rows, steps);
-    }
-    again
+    count > 0 && system.source(count) >= node
 }
 
-/// Sweeps until no edge adds anything.
+// how many of the first edges have a source before the node
+fn count_before<S: System>(system: &S, count: u32, node: u32) -> u32
+    requires { count ≤ (S.flow system.now).edges }
+    ensures within { result ≤ count }
+    ensures before { (edge : ℕ) → IsEdge (S.flow system.now) edge → edge ≤ result
+        → (S.flow system.now).source edge < node }
+{
+    let mut before = count;
+    'back: while is_behind(system, before, node) {
+        before -= 1;
+    }
+    before
+}
+
+// takes an edge behind settled ones, and tells how many edges are settled then
+fn advance<S: System, L: Ledger>(
+    system: &S,
+    edge: u32,
+    rows: &mut NodeRows,
+    steps: &mut Steps<L>,
+) -> u32
+    requires edge { IsEdge (S.flow system.now) edge }
+    requires rows { IsUnderWay (S.lattice system.now) (S.flow system.now) (shown_rows rows.old) }
+    requires ready { IsReady (S.lattice system.now) rows.old }
+    requires settled { AreSettled (S.lattice system.now) (S.flow system.now) (shown_rows rows.old) edge }
+    ensures advances { Advances (S.lattice system.now) (S.flow system.now) edge
+        (shown_rows rows.old) (shown_rows rows.new) (result + 1) }
+    ensures ready { IsReady (S.lattice system.now) rows.new }
+    ensures counted { steps.new ≡ steps.old + 1 }
+{
+    if take_edge(system, edge, rows, steps) {
+        return count_before(system, edge - 1, system.target(edge));
+    }
+    edge
+}
+
+/// Takes edges until none adds anything: one behind the other, and from a head on again where it
+/// grew by an edge that goes back.
 pub fn settle<S: System, L: Ledger>(system: &S, rows: &mut NodeRows, steps: &mut Steps<L>)
     requires rows { IsUnderWay (S.lattice system.now) (S.flow system.now) (shown_rows rows.old) }
     requires ready { IsReady (S.lattice system.now) rows.old }
@@ -127,5 +158,9 @@ pub fn settle<S: System, L: Ledger>(system: &S, rows: &mut NodeRows, steps: &mut
     ensures at_most { let l = S.lattice system.now in let f = S.flow system.now in
         steps.new ≤ steps.old + f.edges * (head_ranks l f (shown_rows rows.old) + 1) }
 {
-    'sweeps: while sweep(system, rows, steps) {}
+    let edges = system.edges();
+    let mut settled = 0;
+    'edges: while settled < edges {
+        settled = advance(system, settled + 1, rows, steps);
+    }
 }

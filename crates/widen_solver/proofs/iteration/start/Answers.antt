@@ -2,7 +2,7 @@ use Rattle.std.proofs.Common.{◌<◌, ◌∙◌, length, Some, ap, arith, lengt
 use Rattle.widen_solver.specs.RowsHeld.{RowsHeld, row_shown}
 use Rattle.widen_solver.proofs.Starting.{cleared_none, cleared_more, started}
 use Rattle.widen_solver.proofs.ShownRows.{own_is_some, some_of}
-use Rattle.widen_solver.proofs.sweeps.start.Goals as goal
+use Rattle.widen_solver.proofs.iteration.start.Goals as goal
 
 pub loop-index-init : goal.loop-index-init
 loop-index-init g c =
