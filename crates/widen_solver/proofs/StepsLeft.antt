@@ -1,10 +1,10 @@
 -- The edges that are settled, and the steps that are left.
-use Rattle.std.proofs.Common.{◌≡◌, ℕ, ◌+◌, ◌-◌, ◌*◌, ◌<◌, ◌≤◌, List, ℤ, Bool, true, false, inl, inr, refl, subst, sym, arith}
+use Rattle.std.proofs.Common.{◌≡◌, ℕ, ◌+◌, ◌-◌, ◌*◌, ◌<◌, ◌≤◌, List, ℤ, Bool, true, false, inl, inr, subst, sym, arith}
 use Rattle.std.proofs.lemmas.Bool.{cases_eq}
 use Rattle.std.proofs.Math.Nat.{mul-le-mul_left}
 use Rattle.dom_laws.specs.Lattice.{Lattice, IsLattice}
 use Rattle.dom_laws.specs.Flow.{Flow, IsEdge, IsFlow, head_count}
-use Rattle.widen_solver.specs.Solving.{IsUnderWay, IsSettled, AreSettled, head_ranks, steps_left, TakesEdge, Advances, step_bound}
+use Rattle.widen_solver.specs.Solving.{IsUnderWay, IsSettled, AreSettled, head_ranks, TakesEdge, Advances, step_bound}
 use Rattle.widen_solver.proofs.HeadRanks.{ranks_within}
 
 -- where no head grew, the next one follows
