@@ -7,3 +7,4 @@ pub mod Statements
 pub mod Walks
 pub mod Latest
 pub mod Kept
+pub mod Taking
