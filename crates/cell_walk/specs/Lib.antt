@@ -8,3 +8,4 @@ pub mod Walks
 pub mod Latest
 pub mod Kept
 pub mod Taking
+pub mod Firsts

@@ -9,6 +9,7 @@ mod counters;
 mod counting;
 mod dividing;
 mod each_part;
+mod firsts;
 mod forgetting;
 mod items;
 mod kept;
@@ -23,6 +24,7 @@ mod tests_of;
 mod walking;
 
 pub use clearing::clears_part;
+pub use firsts::first;
 pub use kept::Kept;
 pub use scales::Taken;
 pub use taking::taken;
