@@ -196,3 +196,8 @@ cells_short p cells same =
     (items_short l 0 l.items (map item_of behind)
     (λ k i e. let none : 0 + k ≡ k = omega arith in ap (item_at l) none ∙ e) (counts_short l (program_statements p))) in
     All-from_recursion (λ (c : Cell). IfSome c.item (λ place. IsShort (form_at l place))) cells (of_cells l cells all)
+
+-- a program has as many cells as homes
+pub homes_many : (p : Program) → length (homes_of p) ≡ length (cells_of p)
+homes_many p =
+    sym (length-map (homes_of p) item_of) ∙ (ap length (sym (cells_same p)) ∙ length-map (cells_of p) (λ (c : Cell). c.item))
