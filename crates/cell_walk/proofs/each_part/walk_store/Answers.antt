@@ -5,7 +5,7 @@ use Rattle.cell_steps.specs.Seen.{Seen}
 use Rattle.cell_walk.specs.Kept.{seen}
 use Rattle.cell_walk.specs.Latest.{outcome}
 use Rattle.cell_walk.proofs.SmallEdges.{all_is_taken}
-use Rattle.cell_walk.proofs.parts.walk_store.Goals as goal
+use Rattle.cell_walk.proofs.each_part.walk_store.Goals as goal
 
 pub returns-clause-latest : goal.returns-clause-latest
 returns-clause-latest c =

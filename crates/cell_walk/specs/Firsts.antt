@@ -1,4 +1,4 @@
--- Entry rows, cell by cell.
+-- What is known of cells where a run begins, cell by cell.
 use Rattle.std.specs.Prelude.{ℕ, List, map, Option}
 use Rattle.cob_tree.specs.declared.form.Form.{Form}
 use Rattle.cob_data.specs.declared.layout.Layout.{Layout}
