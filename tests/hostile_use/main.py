@@ -6,12 +6,13 @@ import pathlib
 import sys
 
 from tests.built import ROOT
-from tests.hostile_use import damaged, disks, memory
+from tests.hostile_use import damaged, disks, large, memory
 from tests.hostile_use.trials import Stopped
 
 PARTS = {
     "sources": damaged.sources,
     "certificates": damaged.certificates,
+    "large": large.large,
     "outside": disks.disks,
     "memory": memory.memory,
 }
