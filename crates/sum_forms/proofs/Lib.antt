@@ -1,0 +1,5 @@
+pub mod Multiples
+pub mod Floors
+pub mod Constants
+pub mod Sound
+pub mod Narrower

@@ -1,0 +1,4 @@
+pub mod Constants
+pub mod Literals
+pub mod SumForms
+pub mod Values
