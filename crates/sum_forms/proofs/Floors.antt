@@ -21,7 +21,7 @@ parts_of_times : (x : ℤ) (n : ℕ) → up (x *ℤ pos n) + down x * n ≡ down
 parts_of_times (pos a) n = omega (arith, ints)
 parts_of_times (negsuc a) n = omega (arith, ints)
 
-floor_parts : (u : ℤ) (d : ℕ) → 0 < d → ((int_div_euclid u (pos d) *ℤ pos d) ≤ℤ u) × (u <ℤ (int_div_euclid u (pos d) *ℤ pos d +ℤ pos d))
+pub floor_parts : (u : ℤ) (d : ℕ) → 0 < d → ((int_div_euclid u (pos d) *ℤ pos d) ≤ℤ u) × (u <ℤ (int_div_euclid u (pos d) *ℤ pos d +ℤ pos d))
 floor_parts (pos a) d h =
     let e = div-add-mod' a d in let f = mod_below a d h in
     (omega (arith, ints, e, f, parts_of_times (pos (a / d)) d), omega (arith, ints, e, f, parts_of_times (pos (a / d)) d))

@@ -30,7 +30,7 @@ use Rattle.sum_forms.specs.Literals.{whole_factor, are_literals}
 use Rattle.sum_forms.specs.SumForms.{scaled_form, turned_form, next_front, next_form, literals_form, sum_form, sum_form_from, part_form, product_form, product_form_from, atom_form}
 use Rattle.sum_forms.specs.Values.{Shows, AreHeld}
 use Rattle.sum_forms.proofs.Multiples.{spans_times}
-use Rattle.sum_forms.proofs.Constants.{if_there, range_shows, item_shows, whole_factor_is, zero_shows}
+use Rattle.sum_forms.proofs.Shows.{if_there, range_shows, item_shows, whole_factor_is, zero_shows}
 
 -- ---- one after the other
 

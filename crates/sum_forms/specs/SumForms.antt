@@ -24,6 +24,13 @@ abbrev pub turned_form : Bool → Lin → Option Lin
 turned_form false a = Some a
 turned_form true a = scaled_form (negsuc 0) a
 
+-- where there is a form
+abbrev pub scaled_if : ℤ → Option Lin → Option Lin
+scaled_if k a = a >>= scaled_form k
+
+abbrev pub turned_if : Bool → Option Lin → Option Lin
+turned_if minus a = a >>= turned_form minus
+
 -- ---- one factor more
 
 abbrev pub next_front : Front → Option ℤ → Front

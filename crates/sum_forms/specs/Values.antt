@@ -1,8 +1,8 @@
 -- What forms of sums say of the sums' values.
-use Rattle.std.specs.Prelude.{◌≡◌, ◌<◌, ◌≤◌, ℕ, ◌^◌, ℤ, pos, ◌*ℤ◌, Option, Some, IfSome, IsSomeAnd}
+use Rattle.std.specs.Prelude.{◌≡◌, ◌<◌, ◌≤◌, ℕ, ◌^◌, ℤ, pos, ◌*ℤ◌, ◌≤ℤ◌, Option, Some, IfSome, IsSomeAnd}
 use Rattle.dec_num.specs.declared.types.Scaled.{Scaled}
 use Rattle.linear_form.specs.declared.form.Lin.{Lin}
-use Rattle.linear_form.specs.Forms.{coef, dot}
+use Rattle.linear_form.specs.Forms.{coef, dot, IsSmallForm}
 use Rattle.linear_form.specs.Results.{IsNarrower}
 use Rattle.sum_ranges.specs.declared.ranged.Ranged.{Ranged}
 use Rattle.sum_ranges.specs.Ranged.{IsIn}
@@ -26,3 +26,8 @@ IsNarrowerIfAny narrow wide = IfSome wide (λ b. IsSomeAnd narrow (λ a. IsNarro
 -- the form has coefficients for so many cells alone
 abbrev pub IsWithin : ℕ → Lin → Type 0
 IsWithin size form = (k : ℕ) → size ≤ k → k < 8 → coef form k ≡ pos 0
+
+-- a form whose numbers are small, and whose constant has a number
+pub record IsForm (form : Lin) : Type 0 where
+  pub small : IsSmallForm form
+  pub ordered : form.constant.low ≤ℤ form.constant.high

@@ -5,6 +5,7 @@ use Rattle.std.proofs.lemmas.Int.{ints}
 use Rattle.std.proofs.lemmas.Bool.{cases_Bool, cases_eq, eq-eqb, ne_eqb, false≢true}
 use Rattle.std.proofs.Math.IntN.{zero-*ℤ}
 use Rattle.dec_num.specs.declared.types.Scaled.{Scaled}
+use Rattle.dec_num.proofs.Powers.{ten_positive}
 use Rattle.decimal_interval.specs.declared.bounds.Interval.{Interval}
 use Rattle.cob_program.specs.Sum.{Atom, item, number, group}
 use Rattle.cob_program.specs.Values.{whole_number, negated, literal, atom_value}
@@ -17,9 +18,9 @@ use Rattle.sum_ranges.specs.Ranged.{decimal, IsIn}
 use Rattle.store_error.specs.Scales.{Spans}
 use Rattle.decimal_interval.proofs.Ends.{times_grows}
 use Rattle.sum_forms.specs.Constants.{floor_at, ceiling_at, outward, constant_form, range_form, cell_form, item_form}
-use Rattle.sum_forms.specs.Literals.{whole_of, literal_in, whole_factor}
+use Rattle.sum_forms.specs.Literals.{whole_part, whole_of, literal_in, whole_factor}
 use Rattle.sum_forms.specs.Values.{Shows, AreHeld}
-use Rattle.sum_forms.proofs.Floors.{floor_low, ceiling_high, floor_at_most_ceiling}
+use Rattle.sum_forms.proofs.Floors.{floor_parts, floor_low, ceiling_high, floor_at_most_ceiling}
 
 -- ---- a form that is there
 
@@ -114,25 +115,16 @@ item_shows f cell range worth cells are place = by_cell (cell place) refl
 
 -- ---- whole literals
 
-same_between : (x u y : ℤ) → x ≤ℤ u → u ≤ℤ y → y ≤ℤ x → u ≡ x
-same_between x u y h k l = omega (arith, ints, h, k, l)
-
-one_power : (x : ℤ) → x *ℤ pos (10 ^ 0) ≡ x
-one_power x = omega (arith, ints)
-
 pub whole_is : (v : Scaled) (k : ℤ) → whole_of v ≡ Some k → v.units ≡ k *ℤ pos (10 ^ v.scale)
-whole_is v k e = by_test (int_le (ceiling_at 0 v) (floor_at 0 v)) refl e
+whole_is v k e = by_test (int_le v.units (whole_part v *ℤ pos (10 ^ v.scale))) refl e
   where
-    by_test : (b : Bool) → int_le (ceiling_at 0 v) (floor_at 0 v) ≡ b → (if b then Some (floor_at 0 v) else None) ≡ Some k → v.units ≡ k *ℤ pos (10 ^ v.scale)
+    by_test : (b : Bool) → int_le v.units (whole_part v *ℤ pos (10 ^ v.scale)) ≡ b → (if b then Some (whole_part v) else None) ≡ Some k → v.units ≡ k *ℤ pos (10 ^ v.scale)
     by_test true t is =
-        let same : floor_at 0 v ≡ k = some_same (floor_at 0 v) k is in
-        let order : ceiling_at 0 v ≤ℤ floor_at 0 v = grind (arith, ints, t) in
-        let low = floor_low 0 v.units v.scale in
-        let high = ceiling_high 0 v.units v.scale in
-        let more = times_grows (ceiling_at 0 v) (floor_at 0 v) (10 ^ v.scale) order in
-        same_between (floor_at 0 v *ℤ pos (10 ^ v.scale)) v.units (ceiling_at 0 v *ℤ pos (10 ^ v.scale))
-        (omega (arith, ints, low, one_power v.units)) (omega (arith, ints, high, one_power v.units)) more
-        ∙ ap (λ (x : ℤ). x *ℤ pos (10 ^ v.scale)) same
+        let same : whole_part v ≡ k = some_same (whole_part v) k is in
+        let more : v.units ≤ℤ (whole_part v *ℤ pos (10 ^ v.scale)) = grind (arith, ints, t) in
+        let less = (floor_parts v.units (10 ^ v.scale) (ten_positive v.scale)).0 in
+        let even : v.units ≡ whole_part v *ℤ pos (10 ^ v.scale) = omega (arith, ints, more, less) in
+        even ∙ ap (λ (x : ℤ). x *ℤ pos (10 ^ v.scale)) same
     by_test false t is = absurd cc
 
 -- what a whole literal multiplies by
