@@ -1,6 +1,5 @@
 -- Steps of the loops over factors and over parts.
 use Rattle.std.proofs.Common.{◌≡◌, ℕ, pos, Bool, true, false, Option, Some, None, refl, sym, ap, ◌∙◌}
-use Rattle.std.specs.Prelude.{if◌then◌else◌}
 use Rattle.cob_program.specs.Sum.{Parts, more_parts, Part, MkPart, Factors, more_factors, Factor, MkFactor, Atom, item, number, group}
 use Rattle.cob_program.specs.Values.{whole_number, ◌>>=◌}
 use Rattle.cob_program.specs.Bounds.{Bound, is_small_atom}
@@ -16,7 +15,7 @@ use Rattle.sum_forms.specs.declared.front.Front.{Front}
 use Rattle.sum_forms.specs.declared.front.Front.TheVariants.{Empty}
 use Rattle.sum_forms.specs.declared.products.Step.{Step}
 use Rattle.sum_forms.specs.Literals.{is_short, are_literals}
-use Rattle.sum_forms.specs.SumForms.{turned_if, next_front, next_form, literals_form, sum_form_from, part_form, product_form, product_form_from}
+use Rattle.sum_forms.specs.SumForms.{turned_if, next_front, next_form, literals_form, sum_form_from, part_form, product_form_from}
 use Rattle.sum_forms.specs.Working.{is_small_factor, step_of}
 
 bind_bind : {A B C : Type 0} (x : Option A) (f : A → Option B) (g : B → Option C) → (x >>= λ a. f a >>= g) ≡ ((x >>= f) >>= g)

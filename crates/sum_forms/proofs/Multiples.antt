@@ -1,10 +1,8 @@
 -- Bounds of a value times a whole number.
-use Rattle.std.proofs.Common.{◌≡◌, ℕ, ◌+◌, ◌*◌, ◌^◌, ◌<◌, ◌≤◌, ℤ, pos, negsuc, ◌+ℤ◌, ◌*ℤ◌, ◌≤ℤ◌, refl, sym, ap, ◌∙◌, pow-add, arith}
-use Rattle.std.specs.Int.{int_max, int_min}
+use Rattle.std.proofs.Common.{◌≡◌, ℕ, ◌+◌, ◌*◌, ◌^◌, ℤ, pos, negsuc, ◌+ℤ◌, ◌*ℤ◌, ◌≤ℤ◌, sym, ap, ◌∙◌, pow-add, arith}
 use Rattle.std.proofs.lemmas.Int.{ints, clamps}
 use Rattle.std.proofs.Math.IntN.{*ℤ_comm}
 use borrow.Author.Differences.{up, down, product_is}
-use Rattle.dec_num.specs.declared.types.Scaled.{Scaled}
 use Rattle.dec_num.proofs.Signed.{times_times}
 use Rattle.decimal_interval.specs.declared.bounds.Interval.{Interval}
 use Rattle.decimal_interval.proofs.Ends.{times_grows, times_falls}

@@ -1,6 +1,6 @@
 -- Narrower ranges of items give a narrower form.
-use Rattle.std.proofs.Common.{◌≡◌, ℕ, ◌^◌, ◌<◌, ◌≤◌, Bool, true, false, ◌&&◌, List, length, get_or, ℤ, pos, negsuc, ◌≤ℤ◌, Option, Some, None, ◌⊎◌, inl, inr, refl, sym, ap, subst, ◌∙◌, arith}
-use Rattle.std.specs.Prelude.{IfSome, IsSomeAnd, if◌then◌else◌, unsigned_abs}
+use Rattle.std.proofs.Common.{◌≡◌, ℕ, ◌^◌, Bool, true, false, ◌&&◌, List, length, get_or, ℤ, pos, negsuc, Option, Some, None, refl, sym, ap, subst, arith}
+use Rattle.std.specs.Prelude.{IsSomeAnd, if◌then◌else◌, unsigned_abs}
 use Rattle.std.specs.List.{list_all}
 use Rattle.std.proofs.lemmas.Int.{ints}
 use Rattle.std.proofs.lemmas.Bool.{and_parts, ltb-true}
@@ -24,10 +24,10 @@ use Rattle.sum_ranges.specs.Results.{IsResult}
 use Rattle.sum_ranges.specs.SumRanges.{turned, plus_range, factor_range, sum_range, sum_range_from, part_range, product_range_from, atom_range}
 use Rattle.sum_ranges.proofs.Operations.{factors_least}
 use Rattle.sum_ranges.proofs.Least.{range_below, result_in_wider}
-use Rattle.sum_ranges.proofs.Narrow.{wide_ordered, point_narrower, turned_narrower, part_below, whole_product_below, atom_below}
+use Rattle.sum_ranges.proofs.Narrow.{wide_ordered, point_narrower, turned_narrower, whole_product_below, atom_below}
 use Rattle.sum_forms.specs.declared.front.Front.{Front}
 use Rattle.sum_forms.specs.declared.front.Front.TheVariants.{Empty, Literal, Product}
-use Rattle.sum_forms.specs.Constants.{outward, constant_form, range_form, cell_form, item_form}
+use Rattle.sum_forms.specs.Constants.{outward, constant_form, range_form, item_form}
 use Rattle.sum_forms.specs.Literals.{whole_factor, are_literals}
 use Rattle.sum_forms.specs.SumForms.{scaled_form, turned_form, next_front, next_form, literals_form, sum_form, sum_form_from, part_form, product_form, product_form_from, atom_form}
 use Rattle.sum_forms.specs.Values.{IsNarrowerIfAny}

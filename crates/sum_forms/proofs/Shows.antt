@@ -1,8 +1,8 @@
 -- What constants, cells and whole literals say.
-use Rattle.std.proofs.Common.{◌≡◌, ℕ, zero, suc, ◌+◌, ◌^◌, ◌<◌, ◌≤◌, Bool, true, false, ℤ, pos, ◌+ℤ◌, ◌*ℤ◌, ◌≤ℤ◌, Option, Some, None, ◌⊎◌, inl, inr, refl, sym, ap, subst, ◌∙◌, arith}
+use Rattle.std.proofs.Common.{◌≡◌, ℕ, zero, suc, ◌^◌, ◌<◌, Bool, true, false, ℤ, pos, ◌+ℤ◌, ◌*ℤ◌, ◌≤ℤ◌, Option, Some, None, inl, inr, refl, sym, ap, subst, ◌∙◌, arith}
 use Rattle.std.specs.Prelude.{IfSome, nat_eq, int_le, if◌then◌else◌}
 use Rattle.std.proofs.lemmas.Int.{ints}
-use Rattle.std.proofs.lemmas.Bool.{cases_Bool, cases_eq, eq-eqb, ne_eqb, false≢true}
+use Rattle.std.proofs.lemmas.Bool.{cases_eq, eq-eqb, ne_eqb}
 use Rattle.std.proofs.Math.IntN.{zero-*ℤ}
 use Rattle.dec_num.specs.declared.types.Scaled.{Scaled}
 use Rattle.dec_num.proofs.Powers.{ten_positive}
@@ -11,16 +11,16 @@ use Rattle.cob_program.specs.Sum.{Atom, item, number, group}
 use Rattle.cob_program.specs.Values.{whole_number, negated, literal, atom_value}
 use Rattle.cob_program.proofs.Steps.{some_same}
 use Rattle.linear_form.specs.declared.form.Lin.{Lin}
-use Rattle.linear_form.specs.Forms.{coef, dot, form_of, if_small}
+use Rattle.linear_form.specs.Forms.{coef, dot, if_small}
 use Rattle.linear_form.proofs.Coefs.{coef-coefs_of}
 use Rattle.sum_ranges.specs.declared.ranged.Ranged.{Ranged}
 use Rattle.sum_ranges.specs.Ranged.{decimal, IsIn}
 use Rattle.store_error.specs.Scales.{Spans}
 use Rattle.decimal_interval.proofs.Ends.{times_grows}
-use Rattle.sum_forms.specs.Constants.{floor_at, ceiling_at, outward, constant_form, range_form, cell_form, item_form}
-use Rattle.sum_forms.specs.Literals.{whole_part, whole_of, literal_in, whole_factor}
+use Rattle.sum_forms.specs.Constants.{outward, constant_form, range_form, cell_form, item_form}
+use Rattle.sum_forms.specs.Literals.{whole_part, whole_of, whole_factor}
 use Rattle.sum_forms.specs.Values.{Shows, AreHeld}
-use Rattle.sum_forms.proofs.Floors.{floor_parts, floor_low, ceiling_high, floor_at_most_ceiling}
+use Rattle.sum_forms.proofs.Floors.{floor_parts, floor_low, ceiling_high}
 
 -- ---- a form that is there
 

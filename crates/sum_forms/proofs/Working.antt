@@ -1,6 +1,6 @@
 -- What the code's numbers and forms are.
-use Rattle.std.proofs.Common.{◌≡◌, ℕ, zero, suc, ◌+◌, ◌-◌, ◌*◌, ◌^◌, ◌<◌, ◌≤◌, Bool, true, false, ◌&&◌, List, get_or, [], ◌∷◌, set, length, ℤ, pos, neg_ℤ, ◌*ℤ◌, ◌≤ℤ◌, ◌<ℤ◌, Option, Some, None, refl, sym, ap, subst, ◌∙◌, arith}
-use Rattle.std.specs.Prelude.{IfSome, SomeIff, is_some, nat_eq, int_le, if◌then◌else◌, unsigned_abs}
+use Rattle.std.proofs.Common.{◌≡◌, ℕ, zero, suc, ◌+◌, ◌^◌, ◌<◌, ◌≤◌, true, false, ◌&&◌, List, get_or, [], ◌∷◌, set, length, ℤ, pos, neg_ℤ, ◌*ℤ◌, Some, None, refl, sym, ap, subst, ◌∙◌, arith}
+use Rattle.std.specs.Prelude.{is_some, nat_eq, int_le, if◌then◌else◌, unsigned_abs}
 use Rattle.std.specs.Int.{int_div_euclid}
 use Rattle.std.proofs.lemmas.Int.{ints}
 use Rattle.dec_num.proofs.Powers.{ten_positive, ten_monotone}
@@ -12,7 +12,7 @@ use Rattle.cob_program.specs.declared.sum.Factor.{out-Factor}
 use Rattle.cob_program.specs.Sum.{more_factors}
 use Rattle.cob_program.specs.SumView.{plain_atom}
 use Rattle.linear_form.specs.declared.form.Lin.{Lin}
-use Rattle.linear_form.specs.Forms.{coefs_of, form_of, coef, if_small, AreSmallCoefs, IsSmallConstant, IsSmallForm}
+use Rattle.linear_form.specs.Forms.{coefs_of, coef, AreSmallCoefs, IsSmallConstant, IsSmallForm}
 use Rattle.linear_form.proofs.Coefs.{coef-coefs_of, length-coefs_of}
 use Rattle.linear_form.proofs.Computed.{computed}
 use Rattle.sum_ranges.specs.declared.ranged.Ranged.{Ranged}

@@ -1,4 +1,4 @@
-use Rattle.std.proofs.Common.{◌≡◌, ◌^◌, ℤ, pos, ◌≤ℤ◌, sym, subst, ◌∙◌, arith, rules}
+use Rattle.std.proofs.Common.{ℤ, pos, ◌≤ℤ◌, sym, subst, ◌∙◌, arith, rules}
 use Rattle.std.specs.Int.{w128}
 use Rattle.std.proofs.lemmas.Int.{ints, to_z-of_z}
 use Rattle.dec_num.proofs.Powers.{ten_positive}

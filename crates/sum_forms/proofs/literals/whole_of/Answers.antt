@@ -1,8 +1,7 @@
-use Rattle.std.proofs.Common.{◌≡◌, ◌^◌, ◌<◌, ℤ, pos, ◌*ℤ◌, sym, ap, subst, ◌∙◌, rules}
-use Rattle.std.specs.Prelude.{unsigned_abs}
+use Rattle.std.proofs.Common.{◌^◌, ℤ, pos, ap, ◌∙◌, rules}
 use Rattle.std.specs.Int.{w128, int_div_euclid}
 use Rattle.std.proofs.lemmas.Int.{to_z-of_z}
-use Rattle.sum_forms.proofs.Working.{part_fits, whole_there, whole_missing}
+use Rattle.sum_forms.proofs.Working.{part_fits, whole_there}
 use Rattle.sum_forms.proofs.literals.whole_of.Goals as goal
 
 pub units_of-requires-clause-fits : goal.units_of-requires-clause-fits

@@ -1,5 +1,4 @@
-use Rattle.std.proofs.Common.{◌≡◌, ◌+◌, ◌∙◌, None, sym, ap, subst}
-use Rattle.cob_program.specs.Sum.{more_factors, no_factors}
+use Rattle.std.proofs.Common.{◌+◌, ◌∙◌, None, sym, ap, subst}
 use Rattle.cob_program.specs.SumView.{plain_factor, plain_part}
 use Rattle.sum_ranges.specs.Working.{HasRoom, HasSmallParts}
 use Rattle.sum_ranges.proofs.Loops.{factors_from, parts_from, factors_step, parts_step}
