@@ -1,6 +1,6 @@
 -- A call of `analyse` that answers 0 or 1 leaves a certificate that `check` accepts, and misses nothing.
-use Rattle.std.proofs.Common.{◌≡◌, ℕ, ◌≤◌, ◌<◌, ◌+◌, ◌*◌, List, [], ◌∷◌, length, Option, Some, None, ◌⊎◌, refl, sym, ap, ◌∙◌, subst, inl, inr, arith}
-use Rattle.std.specs.Prelude.{IfSome, option_map}
+use Rattle.std.proofs.Common.{◌≡◌, ℕ, ◌≤◌, ◌<◌, ◌+◌, ◌*◌, List, [], ◌∷◌, length, Option, Some, ◌⊎◌, refl, sym, ap, ◌∙◌, subst, inl, inr, arith}
+use Rattle.std.specs.Prelude.{option_map}
 use Rattle.std.specs.List.{Contains}
 use Rattle.std.specs.FinMap.{get, insert}
 use Rattle.std.proofs.lemmas.Option.{same_Some}
@@ -19,15 +19,20 @@ use Rattle.cob_interp.proofs.SeenFiles.{insert_agrees, insert_gets}
 use Rattle.alarm_report.specs.declared.alarms.Alarm.{Alarm}
 use Rattle.alarm_report.specs.Alarms.{alarms_of}
 use Rattle.command_words.specs.Commands.{Command, IsCommand, OneReading, analyse}
-use Rattle.analyse_top.specs.Text.{memory_line, write_fault_line}
-use Rattle.analyse_top.specs.Profile.{IsProgramOf}
-use Rattle.analyse_top.specs.Answer.{Answer, Report, Answers, AnswersCommand, CertificateLong, certificate_limit, HoldsCertificate, HoldsProgram, answer_text, status_of}
-use Rattle.analyse_top.specs.Analysis.{Analysis, CanBeClean, IsAnalysisOf, pairs_of, report_of, text_of}
-use Rattle.analyse_top.specs.Showing.{Gains, ShowsIfMemory, ShowsRefusal}
-use Rattle.analyse_top.specs.Conclusion.{Call, Concludes, AnalysesAreAccepted, AnalysesFindClean, EndsBy, EndsByAnalysis, EndsByAnswer, EndsWithAnalysis, FailsToWrite, IsAccepted, IsAnalysed, IsTooLong, LongTextsAreOfLargePrograms, TellsAnalysis, TellsUnwritten}
-use Rattle.analyse_top.proofs.Clean.{CheckingIsSound, above_one, low_status, names_all, never_low}
-use Rattle.analyse_top.proofs.Limits.{within_limits}
-use Rattle.analyse_top.proofs.Sources.{Ending, read, one_ending}
+use Rattle.command_answers.specs.Text.{memory_line, write_fault_line}
+use Rattle.command_answers.specs.Profile.{IsProgramOf}
+use Rattle.command_answers.specs.Answer.{Answer, Report, CertificateLong, HoldsProgram, answer_text, status_of}
+use Rattle.command_answers.specs.Showing.{Gains, ShowsRefusal}
+use Rattle.command_answers.specs.Call.{Call}
+use Rattle.command_answers.proofs.Statuses.{above_one, low_status, never_low}
+use Rattle.command_answers.proofs.Limits.{within_limits}
+use Rattle.command_answers.proofs.Sources.{Ending, read, one_ending}
+use Rattle.check_command.specs.Answers.{certificate_limit, HoldsCertificate}
+use Rattle.analyse_command.specs.Analysis.{Analysis, CanBeClean, IsAnalysisOf, pairs_of, report_of, text_of}
+use Rattle.analyse_command.specs.Endings.{EndsByAnalysis, EndsWithAnalysis, IsTooLong, TellsAnalysis, TellsUnwritten}
+use Rattle.analyse_top.specs.Answers.{Answers, AnswersCommand}
+use Rattle.analyse_top.specs.Conclusion.{Concludes, AnalysesAreAccepted, AnalysesFindClean, EndsBy, EndsByAnswer, IsAccepted, IsAnalysed, LongTextsAreOfLargePrograms}
+use Rattle.analyse_top.proofs.Clean.{CheckingIsSound, names_all}
 use Rattle.analyse_top.proofs.Words.{analyse_or_run, one_certificate, one_source}
 
 -- ---- statuses

@@ -1,15 +1,12 @@
 -- Where the status is 0 the program is safe, and where it is 0 or 1 the report names all faults.
-use Rattle.std.proofs.Common.{◌≡◌, ℕ, zero, suc, ◌≤◌, List, [], ◌∷◌, Option, Some, ◌⊎◌, refl, sym, ap, ◌∙◌, subst, inl, inr, arith}
+use Rattle.std.proofs.Common.{◌≡◌, ℕ, zero, suc, List, [], ◌∷◌, Option, Some, ◌⊎◌, refl, sym, ap, ◌∙◌, subst, inl, inr, arith}
 use Rattle.std.specs.List.{Contains}
 use Rattle.std.proofs.lemmas.List.Elements.{Contains-append_right}
 use Rattle.batch_io.specs.FilesState.{Contents, known_bytes}
-use Rattle.cob_tree.specs.declared.fault.Kind.{Kind}
 use Rattle.cob_tree.specs.declared.fault.Open.{Open}
 use Rattle.cob_program.specs.Act.{Program}
 use Rattle.cob_runs.specs.Runs.{IsFaultless}
 use Rattle.cob_graph.specs.declared.graph.Graph.{Graph}
-use Rattle.cob_front.specs.declared.refusal.Refusal.{Refusal}
-use Rattle.cob_front.specs.declared.refusal.Refusal.TheVariants as end
 use Rattle.cert_text.specs.View.{Certificate}
 use Rattle.cert_check.specs.Claims.{open_at}
 use Rattle.cert_check.specs.Checking.{Accepts, AcceptedClaimsCoverRuns, CoversRuns}
@@ -18,66 +15,16 @@ use Rattle.alarm_report.specs.declared.alarms.Alarm.{Alarm}
 use Rattle.alarm_report.specs.Alarms.{alarm_in, alarms_of}
 use Rattle.alarm_report.specs.Text.{report_text}
 use Rattle.cob_program.specs.Statements.{program_statements}
-use Rattle.analyse_top.specs.Profile.{IsProgramOf}
 use Rattle.command_words.specs.Commands.{Command, IsCommand, OneReading, check}
-use Rattle.analyse_top.specs.Answer.{Answer, Usage, Absent, Refused, NotYet, CertificateLong, CertificateBad, CertificateMisfit, NotInductive, Report, Answers, AnswersCheck, AnswersCommand, AnswersProgram, HoldsProgram, answer_text, refusal_status, status_of, status_unwritten}
-use Rattle.analyse_top.specs.Showing.{Gains}
-use Rattle.analyse_top.specs.Conclusion.{Call, Concludes, IsExact, CleanIsSafe, IsClean, EndsBy, EndsByAnswer, NameAllFaults, ReportsAllFaults, ReportsAreComplete, IsAccepted, AcceptsExactly, report_on}
+use Rattle.command_answers.specs.Profile.{IsProgramOf}
+use Rattle.command_answers.specs.Answer.{Answer, Report, HoldsProgram, answer_text, status_of}
+use Rattle.command_answers.specs.Showing.{Gains}
+use Rattle.command_answers.specs.Call.{Call}
+use Rattle.command_answers.proofs.Statuses.{above_one, low_status, never_low, no_alarm}
+use Rattle.check_command.specs.Answers.{AnswersCheck, AnswersProgram}
+use Rattle.analyse_top.specs.Answers.{Answers, AnswersCommand}
+use Rattle.analyse_top.specs.Conclusion.{Concludes, IsExact, CleanIsSafe, EndsBy, EndsByAnswer, NameAllFaults, ReportsAreComplete, IsAccepted, AcceptsExactly, report_on}
 use Rattle.analyse_top.proofs.Words.{analyse_or_check, check_or_run}
-
--- ---- statuses
-
-refusal_is_high : (cause : Refusal) (n : ℕ) → refusal_status cause ≡ n → (n ≡ 0) ⊎ (n ≡ 1) → ⊥
-refusal_is_high end.TooLong n e (inl z) = omega (arith, e, z)
-refusal_is_high end.TooLong n e (inr z) = omega (arith, e, z)
-refusal_is_high (end.BadLine line column) n e (inl z) = omega (arith, e, z)
-refusal_is_high (end.BadLine line column) n e (inr z) = omega (arith, e, z)
-refusal_is_high (end.BadToken line column) n e (inl z) = omega (arith, e, z)
-refusal_is_high (end.BadToken line column) n e (inr z) = omega (arith, e, z)
-refusal_is_high (end.Syntax line) n e (inl z) = omega (arith, e, z)
-refusal_is_high (end.Syntax line) n e (inr z) = omega (arith, e, z)
-refusal_is_high (end.Nesting count) n e (inl z) = omega (arith, e, z)
-refusal_is_high (end.Nesting count) n e (inr z) = omega (arith, e, z)
-refusal_is_high (end.Outside rule line) n e (inl z) = omega (arith, e, z)
-refusal_is_high (end.Outside rule line) n e (inr z) = omega (arith, e, z)
-refusal_is_high (end.Limit which count) n e (inl z) = omega (arith, e, z)
-refusal_is_high (end.Limit which count) n e (inr z) = omega (arith, e, z)
-refusal_is_high end.Memory n e (inl z) = omega (arith, e, z)
-refusal_is_high end.Memory n e (inr z) = omega (arith, e, z)
-
-pub above_one : (n m : ℕ) → 2 ≤ m → m ≡ n → (n ≡ 0) ⊎ (n ≡ 1) → ⊥
-above_one n m l e (inl z) = omega (arith, l, e, z)
-above_one n m l e (inr z) = omega (arith, l, e, z)
-
-abbrev pub IsReport : Answer → Type 0
-IsReport answer = (alarms : List Alarm) × (answer ≡ Report alarms)
-
--- a status of 0 or 1 is that of a report
-pub low_status : (answer : Answer) (n : ℕ) → status_of answer ≡ n → (n ≡ 0) ⊎ (n ≡ 1) → IsReport answer
-low_status (Usage word) n e low = absurd (above_one n 4 (omega arith) e low)
-low_status (Absent name) n e low = absurd (above_one n 7 (omega arith) e low)
-low_status (Refused cause) n e low = absurd (refusal_is_high cause n e low)
-low_status (NotYet line) n e low = absurd (above_one n 2 (omega arith) e low)
-low_status CertificateLong n e low = absurd (above_one n 3 (omega arith) e low)
-low_status (CertificateBad line) n e low = absurd (above_one n 3 (omega arith) e low)
-low_status (CertificateMisfit what found wanted) n e low = absurd (above_one n 3 (omega arith) e low)
-low_status (NotInductive edge gap) n e low = absurd (above_one n 3 (omega arith) e low)
-low_status (Report alarms) n e low = (alarms, refl)
-
-pub never_low : (answer : Answer) (n : ℕ) → status_unwritten answer ≡ n → (n ≡ 0) ⊎ (n ≡ 1) → ⊥
-never_low (Usage word) n e low = above_one n 4 (omega arith) e low
-never_low (Absent name) n e low = above_one n 7 (omega arith) e low
-never_low (Refused cause) n e low = refusal_is_high cause n e low
-never_low (NotYet line) n e low = above_one n 2 (omega arith) e low
-never_low CertificateLong n e low = above_one n 3 (omega arith) e low
-never_low (CertificateBad line) n e low = above_one n 3 (omega arith) e low
-never_low (CertificateMisfit what found wanted) n e low = above_one n 3 (omega arith) e low
-never_low (NotInductive edge gap) n e low = above_one n 3 (omega arith) e low
-never_low (Report alarms) n e low = above_one n 6 (omega arith) e low
-
-no_alarm : (alarms : List Alarm) → status_of (Report alarms) ≡ 0 → alarms ≡ []
-no_alarm [] e = refl
-no_alarm (alarm ∷ alarms) e = absurd (omega arith)
 
 -- ---- what a report says
 

@@ -11,13 +11,18 @@ use Rattle.cob_interp.specs.Ends.{told_files, IsEnd}
 use Rattle.cob_interp.specs.OneEnd.{OneEnd}
 use Rattle.cob_interp.specs.Running.{outside}
 use Rattle.command_words.specs.Commands.{OneReading}
-use Rattle.analyse_top.specs.Answer.{Answer, Answers, HoldsProgram}
-use Rattle.analyse_top.specs.Runs.{Task, AsksFor}
-use Rattle.analyse_top.specs.Conclusion.{Call, Concludes, IsExact, AnalysesExactly, AnswersExactly, RunsExactly, FailsToRun, EndsBy, EndsByAnalysis, EndsByAnswer, EndsByMemory, EndsByReadFault, EndsByRun}
-use Rattle.analyse_top.proofs.Asked.{one_for_run, asked_once, answered_or_analysed, answered_or_asked}
-use Rattle.analyse_top.proofs.OneAnswer.{TextsAreApart, one_answer}
-use Rattle.analyse_top.proofs.RunEnds.{IsRefusal, EndsSomewhere, refused_or_ends}
-use Rattle.analyse_top.proofs.Sources.{one_ending}
+use Rattle.command_answers.specs.Answer.{Answer, HoldsProgram}
+use Rattle.command_answers.specs.Call.{Call}
+use Rattle.command_answers.proofs.Sources.{one_ending}
+use Rattle.check_command.proofs.OneCheck.{TextsAreApart}
+use Rattle.analyse_command.specs.Endings.{EndsByAnalysis}
+use Rattle.run_command.specs.Runs.{Task, AsksFor}
+use Rattle.run_command.proofs.Asked.{one_for_run}
+use Rattle.run_command.proofs.RunEnds.{IsRefusal, EndsSomewhere, refused_or_ends}
+use Rattle.analyse_top.specs.Answers.{Answers}
+use Rattle.analyse_top.specs.Conclusion.{Concludes, IsExact, AnalysesExactly, AnswersExactly, RunsExactly, FailsToRun, EndsBy, EndsByAnswer, EndsByMemory, EndsByReadFault, EndsByRun}
+use Rattle.analyse_top.proofs.AskedOnce.{asked_once, answered_or_analysed, answered_or_asked}
+use Rattle.analyse_top.proofs.OneAnswer.{one_answer}
 use Rattle.analyse_top.proofs.Words.{analyse_or_run}
 
 module _ (law : (bytes : List ℕ) → OneAnswer bytes) (one_reading : OneReading) (graphs : OneGraph)

@@ -18,11 +18,13 @@ use Rattle.cob_interp.specs.Running.{outside}
 use Rattle.alarm_report.specs.declared.alarms.Alarm.{Alarm}
 use Rattle.command_words.specs.Commands.{Command, Run, OneReading}
 use Rattle.command_words.specs.Commands as command
-use Rattle.analyse_top.specs.Runs.{Task, HoldsTask, AsksFor, TellsEnd, run_status}
-use Rattle.analyse_top.specs.Answer.{Answer, Answers, AnswersCommand, Report}
-use Rattle.analyse_top.specs.Conclusion.{Call, Concludes, IsClean, EndsBy, EndsByRun, EndsByAnswer, RunsClean, CleanRunsMeetNoFault}
-use Rattle.analyse_top.proofs.Clean.{low_status, never_low}
-use Rattle.analyse_top.proofs.RunEnds.{refused_or_ends}
+use Rattle.command_answers.specs.Answer.{Answer, Report}
+use Rattle.command_answers.specs.Call.{Call}
+use Rattle.command_answers.proofs.Statuses.{low_status, never_low}
+use Rattle.run_command.specs.Runs.{Task, HoldsTask, AsksFor, TellsEnd, run_status}
+use Rattle.run_command.proofs.RunEnds.{refused_or_ends}
+use Rattle.analyse_top.specs.Answers.{Answers, AnswersCommand}
+use Rattle.analyse_top.specs.Conclusion.{Concludes, IsClean, EndsBy, EndsByRun, EndsByAnswer, RunsClean, CleanRunsMeetNoFault}
 use Rattle.analyse_top.proofs.Words.{analyse_or_run, one_run}
 
 -- ---- a status of 1 tells a fault

@@ -1,256 +1,33 @@
 -- Words and contents have one answer.
-use Rattle.std.proofs.Common.{◌≡◌, ℕ, ◌-◌, ◌^◌, ◌≤◌, List, [], length, Some, None, ◌⊎◌, refl, sym, ap, ◌∙◌, subst, inl, inr}
-use Rattle.std.specs.Prelude.{min, slice_get}
-use Rattle.std.specs.FinMap.{get}
-use Rattle.std.proofs.lemmas.Option.{same_Some}
+use Rattle.std.proofs.Common.{◌≡◌, ℕ, List, Some, sym, ◌∙◌, subst, inl, inr}
 use Rattle.batch_io.specs.FilesState.{Contents}
-use Rattle.text_lines.specs.Viable.{FirstBad}
-use Rattle.cob_tree.specs.declared.fault.Open.{Open}
-use Rattle.cob_program.specs.Act.{Program}
-use Rattle.cob_graph.specs.declared.graph.Graph.{Graph}
-use Rattle.cert_text.specs.declared.cert.CertEnd.TheVariants as text
-use Rattle.cert_text.specs.View.{Certificate}
-use Rattle.cert_text.specs.Allowed.{IsAllowed}
-use Rattle.cert_text.specs.Text.{spelling}
-use Rattle.cert_text.specs.Texts.{IsText, RefusedBy}
-use Rattle.claimed_rows.specs.declared.gap.Gap.{Gap}
-use Rattle.cert_check.specs.declared.ends.Leak.{Leak}
-use Rattle.cert_check.specs.declared.ends.Shape.{Shape}
-use Rattle.cert_check.specs.declared.ends.Shape.TheVariants as shape
-use Rattle.cert_check.specs.Claims.{leak, leaks}
-use Rattle.cert_check.specs.Checking.{HasShape, Misfits, Accepts}
-use Rattle.alarm_report.specs.declared.alarms.Alarm.{Alarm}
-use Rattle.alarm_report.specs.Alarms.{alarms_of}
 use Rattle.command_words.specs.Commands.{Command, Run, OneReading}
 use Rattle.command_words.specs.Commands as command
-use Rattle.analyse_top.specs.Answer.{Answer, Usage, Absent, Refused, NotYet, CertificateLong, CertificateBad, CertificateMisfit, NotInductive, Report, Answers, AnswersCheck, AnswersCommand, AnswersRun, AnswersSource, AnswersProgram, AnswersCertificate, HoldsCertificate, IsTrial, certificate_limit}
-use Rattle.analyse_top.specs.Profile.{IsProfileCause}
-use Rattle.analyse_top.proofs.Found.{Found, Missing, Long, Bad, Good, Finds, at_held, held_bytes, one_found}
-use Rattle.analyse_top.proofs.Sources.{Ending, refused, read, EndsIn}
+use Rattle.command_answers.specs.Answer.{Answer}
+use Rattle.command_answers.proofs.Sources.{Ending, EndsIn}
+use Rattle.check_command.proofs.OneCheck.{TextsAreApart, one_for_check}
+use Rattle.run_command.specs.Runs.{AnswersRun}
+use Rattle.analyse_top.specs.Answers.{Answers, AnswersCommand, IsTrial}
 
--- ---- the certificate
+module _ (contents : Contents) (one_ending : (bytes : List ℕ) (a b : Ending) → EndsIn bytes a → EndsIn bytes b → a ≡ b)
+    (laws : TextsAreApart) (one_reading : OneReading)
+    (one_for_run : (r : Run) (a b : Answer) → AnswersRun contents r a → AnswersRun contents r b → a ≡ b) where
+  one_for_command : (c : Command) (a b : Answer) → AnswersCommand contents c a → AnswersCommand contents c b → a ≡ b
+  one_for_command (command.analyse name certificate) a b h k = one_for_check contents one_ending laws name certificate a b (inl h) (inl k)
+  one_for_command (command.check name certificate) a b h k = one_for_check contents one_ending laws name certificate a b h k
+  one_for_command (command.run r) a b h k = one_for_run r a b h k
+  one_for_command (command.trial count) a b h k = absurd h
 
--- What the parts of the checker's answer come to.
-module _ (p : Program) (g : Graph) (c : Certificate) where
-  packs_or_none : {A : Type 0} → ¬ (c.packs ≡ []) → (c.packs ≡ []) → A
-  packs_or_none some none = absurd (some none)
+  no_trial : (c : Command) (a : Answer) → IsTrial c → AnswersCommand contents c a → ⊥
+  no_trial (command.trial count) a is h = h
+  no_trial (command.analyse name certificate) a is h = is
+  no_trial (command.check name certificate) a is h = is
+  no_trial (command.run r) a is h = is
 
-  cells_differ : (is : HasShape p g c) (found wanted : ℕ) → Misfits p g c shape.Cells found wanted → ⊥
-  cells_differ is found wanted (f, w, differ) = differ (f ∙ is.cells ∙ sym w)
-
-  nodes_differ : (is : HasShape p g c) (found wanted : ℕ) → Misfits p g c shape.Nodes found wanted → ⊥
-  nodes_differ is found wanted (same, f, w, differ) = differ (f ∙ is.nodes ∙ sym w)
-
-  no_misfit : (what : Shape) (found wanted : ℕ) → HasShape p g c → Misfits p g c what found wanted → ⊥
-  no_misfit shape.Cells found wanted is h = cells_differ is found wanted h
-  no_misfit shape.Nodes found wanted is h = nodes_differ is found wanted h
-
-  one_misfit : (what other : Shape) (found wanted found' wanted' : ℕ) → Misfits p g c what found wanted
-      → Misfits p g c other found' wanted' → CertificateMisfit what found wanted ≡ CertificateMisfit other found' wanted'
-  one_misfit shape.Cells shape.Cells found wanted found' wanted' (f, w, d) (f', w', d') =
-      ap (λ n. CertificateMisfit shape.Cells n wanted) (f ∙ sym f') ∙ ap (CertificateMisfit shape.Cells found') (w ∙ sym w')
-  one_misfit shape.Cells shape.Nodes found wanted found' wanted' (f, w, d) (same, f', w', d') = absurd (d (f ∙ same ∙ sym w))
-  one_misfit shape.Nodes shape.Cells found wanted found' wanted' (same, f, w, d) (f', w', d') = absurd (d' (f' ∙ same ∙ sym w'))
-  one_misfit shape.Nodes shape.Nodes found wanted found' wanted' (same, f, w, d) (same', f', w', d') =
-      ap (λ n. CertificateMisfit shape.Nodes n wanted) (f ∙ sym f') ∙ ap (CertificateMisfit shape.Nodes found') (w ∙ sym w')
-
-  one_leak : (edge edge' : ℕ) (gap gap' : Gap) → slice_get (leaks p g c) 0 ≡ Some (leak edge gap)
-      → slice_get (leaks p g c) 0 ≡ Some (leak edge' gap') → NotInductive edge gap ≡ NotInductive edge' gap'
-  one_leak edge edge' gap gap' h k =
-      ap (λ (l : Leak). NotInductive l.edge l.gap) (same_Some (leak edge gap) (leak edge' gap') (sym h ∙ k))
-
-  leak_or_none : {A : Type 0} (edge : ℕ) (gap : Gap) → slice_get (leaks p g c) 0 ≡ Some (leak edge gap) → leaks p g c ≡ [] → A
-  leak_or_none edge gap first none = let apart = sym first ∙ ap (λ xs. slice_get xs 0) none in absurd (cc apart)
-
-  one_report : (alarms others : List Alarm) (pairs pairs' : List Open) → Accepts p g c pairs → Accepts p g c pairs'
-      → alarms ≡ alarms_of p pairs → others ≡ alarms_of p pairs' → Report alarms ≡ Report others
-  one_report alarms others pairs pairs' h k e f =
-      ap Report (e ∙ ap (alarms_of p) (h.pairs_are ∙ sym k.pairs_are) ∙ sym f)
-
-  pub one_for_certificate : (a b : Answer) → AnswersCertificate p g c a → AnswersCertificate p g c b → a ≡ b
-  one_for_certificate (NotYet line) (NotYet other) h k = ap NotYet (h.1 ∙ sym k.1)
-  one_for_certificate (NotYet line) (CertificateMisfit what found wanted) h k = packs_or_none h.0 k.0
-  one_for_certificate (NotYet line) (NotInductive edge gap) h k = packs_or_none h.0 k.0
-  one_for_certificate (NotYet line) (Report alarms) h k = packs_or_none h.0 k.0
-  one_for_certificate (CertificateMisfit what found wanted) (NotYet line) h k = packs_or_none k.0 h.0
-  one_for_certificate (NotInductive edge gap) (NotYet line) h k = packs_or_none k.0 h.0
-  one_for_certificate (Report alarms) (NotYet line) h k = packs_or_none k.0 h.0
-  one_for_certificate (CertificateMisfit what found wanted) (CertificateMisfit other found' wanted') h k =
-      one_misfit what other found wanted found' wanted' h.1 k.1
-  one_for_certificate (CertificateMisfit what found wanted) (NotInductive edge gap) h k = absurd (no_misfit what found wanted k.1.0 h.1)
-  one_for_certificate (CertificateMisfit what found wanted) (Report alarms) h k = absurd (no_misfit what found wanted k.1.1.shape h.1)
-  one_for_certificate (NotInductive edge gap) (CertificateMisfit what found wanted) h k = absurd (no_misfit what found wanted h.1.0 k.1)
-  one_for_certificate (Report alarms) (CertificateMisfit what found wanted) h k = absurd (no_misfit what found wanted h.1.1.shape k.1)
-  one_for_certificate (NotInductive edge gap) (NotInductive edge' gap') h k = one_leak edge edge' gap gap' h.1.2 k.1.2
-  one_for_certificate (NotInductive edge gap) (Report alarms) h k = leak_or_none edge gap h.1.2 k.1.1.inductive
-  one_for_certificate (Report alarms) (NotInductive edge gap) h k = leak_or_none edge gap k.1.2 h.1.1.inductive
-  one_for_certificate (Report alarms) (Report others) h k = one_report alarms others h.1.0 k.1.0 h.1.1 k.1.1 h.1.2 k.1.2
-  one_for_certificate (Usage word) b h k = absurd h
-  one_for_certificate (Absent name) b h k = absurd h
-  one_for_certificate (Refused cause) b h k = absurd h
-  one_for_certificate CertificateLong b h k = absurd h
-  one_for_certificate (CertificateBad line) b h k = absurd h
-  one_for_certificate a (Usage word) h k = absurd k
-  one_for_certificate a (Absent name) h k = absurd k
-  one_for_certificate a (Refused cause) h k = absurd k
-  one_for_certificate a CertificateLong h k = absurd k
-  one_for_certificate a (CertificateBad line) h k = absurd k
-
--- the laws of texts
-pub record TextsAreApart : Type 0 where
-  pub one_spelling : (c d : Certificate) → IsAllowed c → IsAllowed d → spelling c ≡ spelling d → c ≡ d
-  pub one_place : (bytes : List ℕ) (m n : ℕ) → FirstBad IsText bytes m → FirstBad IsText bytes n → m ≡ n
-  pub no_bad_line : (c : Certificate) (line : ℕ) → IsAllowed c → FirstBad IsText (spelling c) line → ⊥
-
-module _ (laws : TextsAreApart) where
-  abbrev IsBad : List ℕ → ℕ → Type 0
-  IsBad bytes line = RefusedBy bytes (text.Syntax line)
-
-  abbrev IsTextOf : List ℕ → Certificate → Type 0
-  IsTextOf bytes c = IsAllowed c × (bytes ≡ spelling c)
-
-  one_line : (bytes : List ℕ) (m n : ℕ) → IsBad bytes m → IsBad bytes n → m ≡ n
-  one_line bytes m n (i, e, h) (j, f, k) = e ∙ ap (λ x. min x (2 ^ 32 - 1)) (laws.one_place bytes i j h k) ∙ sym f
-
-  text_or_bad : (bytes : List ℕ) (c : Certificate) (line : ℕ) → IsTextOf bytes c → IsBad bytes line → ⊥
-  text_or_bad bytes c line (allowed, e) (n, f, bad) =
-      laws.no_bad_line c n allowed (subst (λ (bs : List ℕ). FirstBad IsText bs n) e bad)
-
-  one_text : (bytes : List ℕ) (c d : Certificate) → IsTextOf bytes c → IsTextOf bytes d → c ≡ d
-  one_text bytes c d (allowed, e) (also, f) = laws.one_spelling c d allowed also (sym e ∙ f)
-
-  module _ (contents : Contents) (certificate : List ℕ) (p : Program) (g : Graph) where
-    abbrev FindsText : Found ℕ Certificate → Type 0
-    FindsText = Finds (get contents certificate) certificate_limit IsBad IsTextOf one_line text_or_bad one_text
-
-    abbrev Means : Found ℕ Certificate → Answer → Type 0
-    Means Missing answer = answer ≡ Absent certificate
-    Means Long answer = answer ≡ CertificateLong
-    Means (Bad line) answer = answer ≡ CertificateBad line
-    Means (Good c) answer = AnswersCertificate p g c answer
-
-    abbrev IsMeant : Answer → Type 0
-    IsMeant answer = (found : Found ℕ Certificate) × FindsText found × Means found answer
-
-    by_text : (answer : Answer) (c : Certificate) → HoldsCertificate contents certificate c → AnswersCertificate p g c answer
-        → IsMeant answer
-    by_text answer c holds is =
-        (Good c, at_held (get contents certificate) (spelling c) (λ bytes. (length bytes ≤ certificate_limit) × IsTextOf bytes c) holds.held (holds.fits, (holds.allowed, refl)), is)
-
-    means : (answer : Answer) → AnswersProgram contents certificate p g answer → IsMeant answer
-    means (Absent name) h = (Missing, h.0, ap Absent h.1)
-    means CertificateLong h = (Long, h, refl)
-    means (CertificateBad line) h = (Bad line, h, refl)
-    means (NotYet line) h = by_text (NotYet line) h.0 h.1 h.2
-    means (CertificateMisfit what found wanted) h = by_text (CertificateMisfit what found wanted) h.0 h.1 h.2
-    means (NotInductive edge gap) h = by_text (NotInductive edge gap) h.0 h.1 h.2
-    means (Report alarms) h = by_text (Report alarms) h.0 h.1 h.2
-    means (Usage word) h = absurd h.2
-    means (Refused cause) h = absurd h.2
-
-    one_meaning : (found : Found ℕ Certificate) (a b : Answer) → Means found a → Means found b → a ≡ b
-    one_meaning Missing a b h k = h ∙ sym k
-    one_meaning Long a b h k = h ∙ sym k
-    one_meaning (Bad line) a b h k = h ∙ sym k
-    one_meaning (Good c) a b h k = one_for_certificate p g c a b h k
-
-    pub one_for_program : (a b : Answer) → AnswersProgram contents certificate p g a → AnswersProgram contents certificate p g b → a ≡ b
-    one_for_program a b h k =
-        let x = means a h in
-        let y = means b k in
-        let same = one_found (get contents certificate) certificate_limit IsBad IsTextOf one_line text_or_bad one_text x.0 y.0 x.1 y.1 in
-        one_meaning y.0 a b (subst (λ found. Means found a) same x.2) y.2
-
--- ---- the source, and the command
-
-module _ (contents : Contents) where
-  -- what the source's end leads to
-  abbrev Leads : List ℕ → Ending → Answer → Type 0
-  Leads certificate (refused cause) answer = answer ≡ Refused cause
-  Leads certificate (read p g) answer = AnswersProgram contents certificate p g answer
-
-  -- the file's bytes lead to the answer
-  record Holds (name certificate : List ℕ) (answer : Answer) : Type 0 where
-    bytes : List ℕ
-    held : get contents name ≡ Some bytes
-    ending : Ending
-    ends : EndsIn bytes ending
-    leads : Leads certificate ending answer
-
-  abbrev SourceMeans : List ℕ → List ℕ → Answer → Type 0
-  SourceMeans name certificate answer =
-      ((get contents name ≡ None) × (answer ≡ Absent name)) ⊎ Holds name certificate answer
-
-  refusal_means : (name certificate : List ℕ) (answer : Answer) → AnswersSource contents name answer
-      → SourceMeans name certificate answer
-  refusal_means name certificate (Absent other) h = inl (h.0, ap Absent h.1)
-  refusal_means name certificate (Refused cause) h =
-      let w = held_bytes (get contents name) (λ bytes. IsProfileCause bytes cause) h in
-      inr (record { bytes = w.0; held = w.1; ending = refused cause; ends = w.2; leads = refl })
-  refusal_means name certificate (NotYet line) h = absurd h
-  refusal_means name certificate (Usage word) h = absurd h
-  refusal_means name certificate CertificateLong h = absurd h
-  refusal_means name certificate (CertificateBad line) h = absurd h
-  refusal_means name certificate (CertificateMisfit what found wanted) h = absurd h
-  refusal_means name certificate (NotInductive edge gap) h = absurd h
-  refusal_means name certificate (Report alarms) h = absurd h
-
-  check_means : (name certificate : List ℕ) (answer : Answer) → AnswersCheck contents name certificate answer
-      → SourceMeans name certificate answer
-  check_means name certificate answer (inl refusal) = refusal_means name certificate answer refusal
-  check_means name certificate answer (inr (p, g, holds, behind)) =
-      inr (record {
-        bytes = holds.bytes;
-        held = holds.held;
-        ending = read p g;
-        ends = holds.is_program;
-        leads = behind;
-      })
-
-  module _ (one_ending : (bytes : List ℕ) (a b : Ending) → EndsIn bytes a → EndsIn bytes b → a ≡ b)
-      (laws : TextsAreApart) where
-    one_lead : (certificate : List ℕ) (x : Ending) (a b : Answer) → Leads certificate x a → Leads certificate x b → a ≡ b
-    one_lead certificate (refused cause) a b h k = h ∙ sym k
-    one_lead certificate (read p g) a b h k = one_for_program laws contents certificate p g a b h k
-
-    one_held : (name certificate : List ℕ) (a b : Answer) → Holds name certificate a → Holds name certificate b → a ≡ b
-    one_held name certificate a b h k =
-        let same : h.bytes ≡ k.bytes = same_Some h.bytes k.bytes (sym h.held ∙ k.held) in
-        let there = subst (λ (bs : List ℕ). EndsIn bs h.ending) same h.ends in
-        let ending : h.ending ≡ k.ending = one_ending k.bytes h.ending k.ending there k.ends in
-        let leads = subst (λ (x : Ending). Leads certificate x a) ending h.leads in
-        one_lead certificate k.ending a b leads k.leads
-
-    one_source_meaning : (name certificate : List ℕ) (a b : Answer)
-        → SourceMeans name certificate a → SourceMeans name certificate b → a ≡ b
-    one_source_meaning name certificate a b (inl (none, e)) (inl (none', f)) = e ∙ sym f
-    one_source_meaning name certificate a b (inl (none, e)) (inr k) = let apart = sym none ∙ k.held in cc
-    one_source_meaning name certificate a b (inr h) (inl (none, f)) = let apart = sym none ∙ h.held in cc
-    one_source_meaning name certificate a b (inr h) (inr k) = one_held name certificate a b h k
-
-    one_for_check : (name certificate : List ℕ) (a b : Answer)
-        → AnswersCheck contents name certificate a → AnswersCheck contents name certificate b → a ≡ b
-    one_for_check name certificate a b h k =
-        one_source_meaning name certificate a b (check_means name certificate a h) (check_means name certificate b k)
-
-    module _ (one_reading : OneReading)
-        (one_for_run : (r : Run) (a b : Answer) → AnswersRun contents r a → AnswersRun contents r b → a ≡ b) where
-      one_for_command : (c : Command) (a b : Answer) → AnswersCommand contents c a → AnswersCommand contents c b → a ≡ b
-      one_for_command (command.analyse name certificate) a b h k = one_for_check name certificate a b (inl h) (inl k)
-      one_for_command (command.check name certificate) a b h k = one_for_check name certificate a b h k
-      one_for_command (command.run r) a b h k = one_for_run r a b h k
-      one_for_command (command.trial count) a b h k = absurd h
-
-      no_trial : (c : Command) (a : Answer) → IsTrial c → AnswersCommand contents c a → ⊥
-      no_trial (command.trial count) a is h = h
-      no_trial (command.analyse name certificate) a is h = is
-      no_trial (command.check name certificate) a is h = is
-      no_trial (command.run r) a is h = is
-
-      pub one_answer : (words : List (List ℕ)) (a b : Answer)
-          → Answers (Some contents) words a → Answers (Some contents) words b → a ≡ b
-      one_answer words a b (inl (none, e)) (inl (none', f)) = e ∙ sym f
-      one_answer words a b (inl (none, e)) (inr (c, is, h)) = absurd (no_trial c b (none c is) h)
-      one_answer words a b (inr (c, is, h)) (inl (none, e)) = absurd (no_trial c a (none c is) h)
-      one_answer words a b (inr (c, is, h)) (inr (d, also, k)) =
-          one_for_command d a b (subst (λ (x : Command). AnswersCommand contents x a) (one_reading words c d is also) h) k
+  pub one_answer : (words : List (List ℕ)) (a b : Answer)
+      → Answers (Some contents) words a → Answers (Some contents) words b → a ≡ b
+  one_answer words a b (inl (none, e)) (inl (none', f)) = e ∙ sym f
+  one_answer words a b (inl (none, e)) (inr (c, is, h)) = absurd (no_trial c b (none c is) h)
+  one_answer words a b (inr (c, is, h)) (inl (none, e)) = absurd (no_trial c a (none c is) h)
+  one_answer words a b (inr (c, is, h)) (inr (d, also, k)) =
+      one_for_command d a b (subst (λ (x : Command). AnswersCommand contents x a) (one_reading words c d is also) h) k

@@ -1,6 +1,6 @@
 -- The words of one command aren't those of another.
 use Rattle.std.proofs.Common.{◌≡◌, ℕ, List}
-use Rattle.command_words.specs.Commands.{Command, Run, IsCommand, OneReading, analyse, check, run}
+use Rattle.command_words.specs.Commands.{Run, IsCommand, OneReading, analyse, check, run}
 
 module _ (one_reading : OneReading) (words : List (List ℕ)) where
   pub check_or_run : (source certificate : List ℕ) (r : Run) → IsCommand words (check source certificate)

@@ -1,11 +1,9 @@
 -- How a call of the program ends: its status, what it shows, and what it leaves.
-use Rattle.std.specs.Prelude.{◌≡◌, ◌<◌, ◌≤◌, ◌+◌, ◌*◌, ℕ, ◌⊎◌, List, [], length, take, Some, Result, Err}
+use Rattle.std.specs.Prelude.{◌≡◌, ◌<◌, ◌+◌, ◌*◌, ℕ, ◌⊎◌, List, [], length, Some, Result, Err}
 use Rattle.std.specs.List.{Contains}
 use Rattle.std.specs.FinMap.{get, insert}
 use Rattle.batch_io.specs.Faults.{Rose}
-use Rattle.batch_io.specs.FilesState.{FilesState, Contents, KeepsIds, known_bytes}
-use Rattle.batch_io.specs.SinkState.{SinkState}
-use Rattle.batch_io.specs.Wholes.{Holds}
+use Rattle.batch_io.specs.FilesState.{Contents, KeepsIds, known_bytes}
 use Rattle.cob_tree.specs.declared.fault.Kind.{Kind}
 use Rattle.cob_tree.specs.declared.fault.Open.{Open}
 use Rattle.cob_meaning.specs.declared.straight.Outcome.TheVariants.{Fault}
@@ -25,33 +23,19 @@ use Rattle.alarm_report.specs.Alarms.{alarms_of}
 use Rattle.alarm_report.specs.Text.{report_text}
 use Rattle.cert_text.specs.View.{Certificate}
 use Rattle.cert_check.specs.Checking.{Accepts}
-use Rattle.analyse_top.specs.Text.{memory_line, read_fault_line, write_fault_line}
-use Rattle.analyse_top.specs.Showing.{Gains, GainsFront, Shows, ShowsIfMemory, ShowsRefusal}
 use Rattle.command_words.specs.Commands.{Run, IsCommand}
 use Rattle.command_words.specs.Commands as command
-use Rattle.analyse_top.specs.Answer.{Answer, CertificateLong, Report, Answers, HoldsProgram, HoldsCertificate, answer_text, certificate_limit, status_of, status_unwritten}
-use Rattle.analyse_top.specs.Analysis.{Analysis, CanBeClean, IsAnalysisOf, pairs_of, report_of, text_of}
-use Rattle.analyse_top.specs.Runs.{Task, HoldsTask, AsksFor, RunsTo}
+use Rattle.command_answers.specs.Text.{memory_line, read_fault_line}
+use Rattle.command_answers.specs.Showing.{Gains, GainsFront, Shows}
+use Rattle.command_answers.specs.Answer.{Answer, Report, HoldsProgram, answer_text, status_of, status_unwritten}
+use Rattle.command_answers.specs.Call.{Call}
+use Rattle.check_command.specs.Answers.{HoldsCertificate, certificate_limit}
+use Rattle.analyse_command.specs.Analysis.{Analysis, CanBeClean, IsAnalysisOf, pairs_of, report_of, text_of}
+use Rattle.analyse_command.specs.Endings.{IsTooLong, EndsByAnalysis}
+use Rattle.run_command.specs.Runs.{Task, HoldsTask, AsksFor, RunsTo}
+use Rattle.analyse_top.specs.Answers.{Answers}
 
 -- ---- the ways to end
-
-pub record Call : Type 0 where
-  pub words : List (List ℕ)
-  pub files_before : FilesState
-  pub files_after : FilesState
-  pub out_before : SinkState
-  pub out_after : SinkState
-  pub status : ℕ
-
-abbrev pub call : List (List ℕ) → FilesState → FilesState → SinkState → SinkState → ℕ → Call
-call words files_before files_after out_before out_after status = record {
-  words = words;
-  files_before = files_before;
-  files_after = files_after;
-  out_before = out_before;
-  out_after = out_after;
-  status = status;
-}
 
 -- the answer is shown, and no fault of the files was met
 pub record EndsBy (call : Call) (answer : Answer) : Type 0 where
@@ -82,59 +66,6 @@ pub record EndsByAnswer (call : Call) : Type 0 where
   pub ids : KeepsIds call.files_before call.files_after
   pub writing : call.files_after.writing ≡ call.files_before.writing
   pub ends : ((answer : Answer) × EndsBy call answer) ⊎ EndsByReadFault call ⊎ EndsByMemory call
-
--- ---- an analysis
-
--- The file holds the certificate's text, and the report is shown, or a front of it.
-pub record TellsAnalysis (call : Call) (certificate : List ℕ) (a : Analysis) : Type 0 where
-  pub fits : length (text_of a) ≤ certificate_limit
-  pub written : Holds call.files_before call.files_after certificate (text_of a)
-  pub writing : call.files_after.writing ≡ call.files_before.writing
-  pub shows : ShowsIfMemory call.out_before call.out_after
-      (answer_text (report_of a)) (status_of (report_of a)) 6 call.status
-
--- the file is as it was, or holds a front of the text
-abbrev pub LeavesFront : Call → List ℕ → List ℕ → Type 0
-LeavesFront call certificate text =
-    (known_bytes call.files_after ≡ known_bytes call.files_before)
-    ⊎ ((n : ℕ) × (n ≤ length text) × Holds call.files_before call.files_after certificate (take n text))
-
--- a write fault, which its count shows, or memory ran out
-abbrev pub TellsUnwritten : Call → Type 0
-TellsUnwritten call =
-    ((Rose call.files_before.writing call.files_after.writing)
-    × ShowsRefusal call.out_before call.out_after write_fault_line 6 call.status)
-    ⊎ ((call.files_after.writing ≡ call.files_before.writing)
-    × ShowsRefusal call.out_before call.out_after memory_line 8 call.status)
-
--- The file couldn't be made whole.
-pub record FailsToWrite (call : Call) (certificate : List ℕ) (a : Analysis) : Type 0 where
-  pub fits : length (text_of a) ≤ certificate_limit
-  pub left : LeavesFront call certificate (text_of a)
-  pub told : TellsUnwritten call
-
--- The text is too long for a certificate, and no file is changed.
-pub record IsTooLong (call : Call) (a : Analysis) : Type 0 where
-  pub long : certificate_limit < length (text_of a)
-  pub contents : known_bytes call.files_after ≡ known_bytes call.files_before
-  pub writing : call.files_after.writing ≡ call.files_before.writing
-  pub shows : ShowsRefusal call.out_before call.out_after
-      (answer_text CertificateLong) (status_of CertificateLong) call.status
-
-abbrev pub EndsWithAnalysis : Call → List ℕ → Analysis → Type 0
-EndsWithAnalysis call certificate a =
-    TellsAnalysis call certificate a ⊎ IsTooLong call a ⊎ FailsToWrite call certificate a
-
--- A certificate is found for the source that the words name.
-pub record EndsByAnalysis (call : Call) : Type 0 where
-  pub source : List ℕ
-  pub certificate : List ℕ
-  pub said : IsCommand call.words (command.analyse source certificate)
-  pub analysis : Analysis
-  pub is_of : IsAnalysisOf (known_bytes call.files_before) source analysis
-  pub ids : KeepsIds call.files_before call.files_after
-  pub reading : call.files_after.reading ≡ call.files_before.reading
-  pub ends : EndsWithAnalysis call certificate analysis
 
 -- ---- runs
 

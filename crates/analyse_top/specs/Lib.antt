@@ -1,9 +1,2 @@
-pub mod Text
-pub mod Showing
-pub mod Profile
-pub mod Runs
-pub mod Answer
-pub mod Analysis
+pub mod Answers
 pub mod Conclusion
-pub mod View
-pub mod Steps

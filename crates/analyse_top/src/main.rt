@@ -1,13 +1,6 @@
 //! Cobsound: a sound size-error analyser for COBOL-85 batch programs, which also runs them.
 #![tactic(auto)]
 
-mod analyse;
-mod answer;
-mod check;
-mod run;
-mod show;
-mod source;
-mod text;
 mod top;
 
 use batch_io::{RealFiles, StdSink};

@@ -3,22 +3,23 @@ ghost use Rattle.std.specs.Prelude.{ℕ, List, Ok};
 ghost use Rattle.command_words.specs.Words.{texts};
 ghost use Rattle.command_words.specs.Commands as word;
 ghost use Rattle.command_words.specs.Commands.{IsCommand, plain_command, plain_run};
-ghost use Rattle.analyse_top.specs.Answer.{Usage, first_word};
-ghost use Rattle.analyse_top.specs.Conclusion.{Concludes, IsExact, AcceptsExactly, AnalysesAreAccepted, AnalysesFindClean, CleanIsSafe, CleanRunsMeetNoFault, LongTextsAreOfLargePrograms, ReportsAreComplete, call};
-ghost use Rattle.analyse_top.specs.Steps.{ShowsFound};
+ghost use Rattle.command_answers.specs.Answer.{Usage};
+ghost use Rattle.command_answers.specs.Call.{call};
+ghost use Rattle.command_answers.specs.Steps.{ShowsFound};
+ghost use Rattle.analyse_top.specs.Answers.{first_word};
+ghost use Rattle.analyse_top.specs.Conclusion.{Concludes, IsExact, AcceptsExactly, AnalysesAreAccepted, AnalysesFindClean, CleanIsSafe, CleanRunsMeetNoFault, LongTextsAreOfLargePrograms, ReportsAreComplete};
 
-use crate::analyse::analyse;
-use crate::answer::{Answer, Stop};
-use crate::check::check;
-use crate::run::{run, task_for};
-use crate::show::show_found;
+use analyse_command::{findings_for, tell};
 use batch_io::{Files, Sink};
 use cert_check::accepted_claims_cover_runs;
 use cert_text::{no_bad_line, one_place, one_spelling, texts_of_certificates_are_short};
+use check_command::check;
 use cob_front::one_answer;
 use cob_graph_laws::graphs_are_one;
 use cob_interp::one_end;
+use command_answers::{Answer, Stop, show_found};
 use command_words::{Command, RunWords, command_of, one_reading};
+use run_command::{run, task_for};
 use source_facts::sources_have_source_graphs;
 use std::alloc::Global;
 
@@ -91,13 +92,31 @@ fn conclude_command<F: Files, O: Sink>(
         Command::Analyse {
             source,
             certificate,
-        } => analyse(alloc, source, certificate, files, out),
+        } => conclude_analysis(alloc, source, certificate, files, out),
         Command::Check {
             source,
             certificate,
         } => conclude_check(alloc, source, certificate, files, out),
         Command::Run(said) => conclude_run(alloc, said, files, out),
         Command::Trial { .. } => show_usage(alloc, words, out),
+    }
+}
+
+// Finds a certificate for a source, writes it to a file, which it makes or empties, and shows its report. Text and report
+// are made before the file is.
+fn conclude_analysis<F: Files, O: Sink>(
+    alloc: Global,
+    source: &str,
+    certificate: &str,
+    files: &mut F,
+    out: &mut O,
+) -> u8
+    ensures { (words : List (List ℕ)) → IsCommand words (word.analyse source.now certificate.now)
+        → Concludes (call words (F.state files.old) (F.state files.new) (O.state out.old) (O.state out.new) result) }
+{
+    match findings_for(alloc, source, files) {
+        Ok(findings) => tell(&findings, certificate, files, out),
+        Err(found) => show_found(alloc, found, out),
     }
 }
 

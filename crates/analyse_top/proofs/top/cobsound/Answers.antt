@@ -1,10 +1,11 @@
 use Rattle.std.proofs.Common.{List, String, Global, subst}
 use Rattle.command_words.specs.Words.{texts}
-use Rattle.analyse_top.specs.Conclusion.{Concludes, IsExact, call}
+use Rattle.command_answers.specs.Call.{call}
+use Rattle.check_command.proofs.OneCheck.{TextsAreApart}
+use Rattle.analyse_top.specs.Conclusion.{Concludes, IsExact}
 use Rattle.analyse_top.proofs.Analysed.{analyses_are_accepted, analyses_find_clean, long_texts_are_of_large_programs}
 use Rattle.analyse_top.proofs.Clean.{accepts_exactly, checking_is_sound, clean_is_safe, reports_are_complete}
 use Rattle.analyse_top.proofs.Exact.{is_exact}
-use Rattle.analyse_top.proofs.OneAnswer.{TextsAreApart}
 use Rattle.analyse_top.proofs.FaultlessRuns.{clean_runs_meet_no_fault}
 use Rattle.analyse_top.proofs.top.cobsound.Goals as goal
 

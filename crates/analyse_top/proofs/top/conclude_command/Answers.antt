@@ -2,8 +2,9 @@ use Rattle.std.proofs.Common.{inl, refl, subst, sym}
 use Rattle.command_words.specs.declared.command.Command as declared
 use Rattle.command_words.specs.Words.{texts}
 use Rattle.command_words.specs.Commands.{plain_command}
-use Rattle.analyse_top.specs.Answer.{IsTrial, Usage, first_word}
-use Rattle.analyse_top.specs.Conclusion.{call}
+use Rattle.command_answers.specs.Answer.{Usage}
+use Rattle.command_answers.specs.Call.{call}
+use Rattle.analyse_top.specs.Answers.{IsTrial, first_word}
 use Rattle.analyse_top.proofs.Endings.{ends_by_answer, reads_nothing}
 use Rattle.analyse_top.proofs.top.conclude_command.Goals as goal
 

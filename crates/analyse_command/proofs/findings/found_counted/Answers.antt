@@ -1,0 +1,24 @@
+use Rattle.cert_text.specs.View.{view}
+use Rattle.cob_program.specs.ActView.{plain_program}
+use Rattle.command_answers.proofs.Limits.{within_limits}
+use Rattle.analyse_command.proofs.Telling.{weaker_finding}
+use Rattle.analyse_command.proofs.findings.found_counted.Goals as goal
+
+pub analyse-requires-clause-source : goal.analyse-requires-clause-source
+analyse-requires-clause-source g c =
+    let is = c.requires.source.1 in
+    ∣ c.sources_have_source_graphs.ensures c.requires.source.0 (plain_program c.args.laid.now.program)
+    c.args.laid.now.graph is.is_source is.is_graph ∣₁
+
+pub analyse-requires-clause-limits : goal.analyse-requires-clause-limits
+analyse-requires-clause-limits g c =
+    let is = c.requires.source.1 in
+    within_limits (plain_program c.args.laid.now.program) is.within c.args.laid.now.graph is.is_graph
+
+pub texts_of-requires-clause-found : goal.texts_of-requires-clause-found
+texts_of-requires-clause-found g c =
+    let is = c.in_ok-cert.ensures in
+    record { allowed = is.allowed; plain = is.plain; accepts = is.accepted; misses_nothing = is.complete }
+
+pub returns : goal.returns
+returns g c = weaker_finding c.args.laid.now (view c.in_ok-cert.cert) c.texts_of.result c.texts_of.ensures

@@ -1,0 +1,31 @@
+use Rattle.std.proofs.Common.{◌≡◌, ◌∙◌, ap, refl}
+use Rattle.cert_text.specs.View.{view}
+use Rattle.cob_program.specs.ActView.{plain_program}
+use Rattle.command_answers.specs.Answer.{answer_text, status_of}
+use Rattle.command_answers.specs.View.{plain_answer}
+use Rattle.check_command.proofs.OneCheck.{one_for_certificate}
+use Rattle.analyse_command.specs.Analysis.{analysis, pairs_of, report_of}
+use Rattle.analyse_command.proofs.findings.texts_of.Goals as goal
+
+pub check_plain-requires-clause-allowed : goal.check_plain-requires-clause-allowed
+check_plain-requires-clause-allowed c = c.requires.found.allowed
+
+pub check_plain-requires-clause-plain : goal.check_plain-requires-clause-plain
+check_plain-requires-clause-plain c = c.requires.found.plain
+
+pub returns : goal.returns
+returns c =
+    let p = plain_program c.args.laid.now.program in
+    let graph = c.args.laid.now.graph in
+    let claims = view c.args.cert.now in
+    let a = analysis p graph claims in
+    let found = c.requires.found in
+    let same : plain_answer c.in_ok-report.report ≡ report_of a =
+    one_for_certificate p graph claims (plain_answer c.in_ok-report.report) (report_of a) c.in_ok-report.ensures
+    (found.plain, (pairs_of a, found.accepts, refl)) in
+    record {
+      found = found;
+      certificate = c.in_ok-certificate.ensures;
+      report = c.in_ok-text.ensures ∙ ap answer_text same;
+      status = c.status_of.ensures ∙ ap status_of same;
+    }

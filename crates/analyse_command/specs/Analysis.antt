@@ -1,0 +1,61 @@
+-- What `analyse` finds of a source: a certificate that holds, and misses nothing that its thresholds can show.
+use Rattle.std.specs.Prelude.{◌≡◌, ℕ, true, List, [], Option, Some, IfSome}
+use Rattle.std.specs.FinMap.{get}
+use Rattle.batch_io.specs.FilesState.{Contents}
+use Rattle.cob_tree.specs.declared.fault.Kind.{Kind}
+use Rattle.cob_tree.specs.declared.fault.Open.{Open}
+use Rattle.cob_program.specs.Act.{Program}
+use Rattle.cob_graph.specs.declared.graph.Graph.{Graph}
+use Rattle.cert_text.specs.View.{Certificate}
+use Rattle.cert_text.specs.Allowed.{IsAllowed}
+use Rattle.cert_text.specs.Text.{spelling}
+use Rattle.cert_check.specs.Claims.{is_cleared, open_pairs}
+use Rattle.cert_check.specs.Checking.{Accepts}
+use Rattle.alarm_report.specs.Alarms.{alarms_of}
+use Rattle.analyse_core.specs.Assignments.{IsThresholdAssignment, MissesNothing}
+use Rattle.command_answers.specs.Profile.{IsProgramOf}
+use Rattle.command_answers.specs.Answer.{Answer, Report}
+
+-- a program with its graph, and a certificate for it
+pub record Analysis : Type 0 where
+  pub program : Program
+  pub graph : Graph
+  pub claims : Certificate
+
+abbrev pub analysis : Program → Graph → Certificate → Analysis
+analysis program graph claims = record { program = program; graph = graph; claims = claims }
+
+-- ---- what is written and shown
+
+abbrev pub text_of : Analysis → List ℕ
+text_of a = spelling a.claims
+
+-- what the certificate leaves open
+abbrev pub pairs_of : Analysis → List Open
+pairs_of a = open_pairs a.program a.graph a.claims
+
+abbrev pub report_of : Analysis → Answer
+report_of a = Report (alarms_of a.program (pairs_of a))
+
+-- ---- what is promised of it
+
+-- It is a certificate without packs that holds, and no pair is open that some inductive assignment with thresholds at
+-- the heads of its loops clears.
+pub record IsFound (a : Analysis) : Type 0 where
+  pub allowed : IsAllowed a.claims
+  pub plain : a.claims.packs ≡ []
+  pub accepts : Accepts a.program a.graph a.claims (pairs_of a)
+  pub misses_nothing : MissesNothing a.program a.graph a.claims
+
+-- The source's file holds bytes of a program of the profile, and this is found for it.
+pub record IsAnalysisOf (known : Option Contents) (source : List ℕ) (a : Analysis) : Type 0 where
+  pub bytes : List ℕ
+  pub held : IfSome known (λ contents. get contents source ≡ Some bytes)
+  pub is_program : IsProgramOf bytes a.program a.graph
+  pub found : IsFound a
+
+-- Such an assignment clears each fault of each statement.
+pub record CanBeClean (p : Program) (g : Graph) : Type 0 where
+  pub assignment : Certificate
+  pub assigns : IsThresholdAssignment p g assignment
+  pub clears : (statement : ℕ) (fault : Kind) → is_cleared p g assignment statement fault ≡ true

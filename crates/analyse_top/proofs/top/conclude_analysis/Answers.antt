@@ -1,0 +1,25 @@
+use Rattle.std.proofs.Common.{inl, inr}
+use Rattle.batch_io.specs.FilesState.{known_bytes}
+use Rattle.command_words.specs.Commands.{analyse}
+use Rattle.command_answers.specs.Call.{call}
+use Rattle.analyse_command.proofs.Telling.{ends_by_analysis}
+use Rattle.analyse_top.proofs.Endings.{answers_command, ends_found}
+use Rattle.analyse_top.proofs.top.conclude_analysis.Goals as goal
+
+pub returns-in-Ok : goal.returns-in-Ok
+returns-in-Ok g c =
+    λ words said.
+    inr (inl (ends_by_analysis words c.args.source.now c.args.certificate.now (g.F.Files.state c.args.files.now)
+    (g.F.Files.state c.findings_for.new.files) (g.F.Files.state c.tell.new.files) (g.O.Sink.state c.args.out.now)
+    (g.O.Sink.state c.tell.new.out) c.tell.result said c.in-Ok.ensures.reads c.in-Ok.findings c.in-Ok.ensures.finding
+    c.tell.ensures.ids c.tell.ensures.reading c.tell.ensures.ends))
+
+pub returns-in-Err : goal.returns-in-Err
+returns-in-Err g c =
+    let files = g.F.Files.state c.args.files.now in
+    λ words said. inl (ends_found
+    (call words files (g.F.Files.state c.findings_for.new.files)
+    (g.O.Sink.state c.args.out.now) (g.O.Sink.state c.show_found.new.out) c.show_found.result)
+    c.in-Err.found c.in-Err.ensures.reads
+    (answers_command c.in-Err.found (known_bytes files) words (analyse c.args.source.now c.args.certificate.now) said
+    c.in-Err.ensures.answer) c.show_found.ensures)

@@ -1,0 +1,122 @@
+//! `check`: the answer to a source and a certificate.
+ghost use Rattle.std.specs.Prelude.{◌≡◌, [], IfOk, IfSome, MatchResult};
+ghost use Rattle.batch_io.specs.FilesState.{known_bytes};
+ghost use Rattle.cert_text.specs.View.{view};
+ghost use Rattle.cert_text.specs.Allowed.{IsAllowed};
+ghost use Rattle.cob_program.specs.ActView.{plain_program};
+ghost use Rattle.command_answers.specs.Steps.{Reads, stopped_by_fault, IsOfSource};
+ghost use Rattle.command_answers.specs.View.{plain_answer};
+ghost use Rattle.check_command.specs.Answers.{AnswersCertificate, AnswersCheck, AnswersProgram};
+ghost use Rattle.check_command.specs.Steps.{AnswersBytes};
+
+use alarm_report::alarms_of;
+use batch_io::{FileEnd, Files, read_file};
+use cert_check::{CheckEnd, check as check_claims};
+use cert_text::{Cert, CertEnd, read as read_certificate};
+use command_answers::{Answer, Laid, Stop, read_source};
+use source_facts::{sources_have_source_graphs, statements_are_counted};
+use std::alloc::Global;
+
+/// The most bytes of a certificate.
+pub const CERTIFICATE_LIMIT: usize = 67_108_864;
+
+// The line that tells the number of packs.
+const PACKS_LINE: u32 = 4;
+
+/// Answers `check SOURCE CERT`.
+pub fn check<'a, F: Files>(
+    alloc: Global,
+    source: &'a str,
+    certificate: &'a str,
+    files: &mut F,
+) -> Result<Answer<'a>, Stop>
+    ensures reads { Reads (F.state files.old) (F.state files.new) (stopped_by_fault result) }
+    ensures answer { IfOk result (λ answer. IfSome (known_bytes (F.state files.old)) (λ contents.
+        AnswersCheck contents source.now certificate.now (plain_answer answer))) }
+{
+    match read_source(alloc, source, files) {
+        Ok(laid) => check_program(alloc, &laid, certificate, files),
+        Err(found) => found,
+    }
+}
+
+// Answers for a source that was read.
+fn check_program<'a, F: Files>(
+    alloc: Global,
+    laid: &Laid,
+    certificate: &'a str,
+    files: &mut F,
+) -> Result<Answer<'a>, Stop>
+    requires { IsOfSource laid.now }
+    ensures reads { Reads (F.state files.old) (F.state files.new) (stopped_by_fault result) }
+    ensures answer { IfOk result (λ answer. IfSome (known_bytes (F.state files.old)) (λ contents.
+        AnswersProgram contents certificate.now (plain_program laid.now.program) laid.now.graph (plain_answer answer))) }
+{
+    match read_file(alloc, files, certificate, CERTIFICATE_LIMIT) {
+        Ok(bytes) => check_bytes(alloc, laid, &bytes),
+        Err(FileEnd::Absent) => Ok(Answer::Absent(certificate)),
+        Err(FileEnd::Long) => Ok(Answer::CertificateLong),
+        Err(FileEnd::Failed) => Err(Stop::ReadFault),
+        Err(FileEnd::Memory) => Err(Stop::Memory),
+    }
+}
+
+// Answers for a certificate's bytes.
+fn check_bytes<'a>(alloc: Global, laid: &Laid, bytes: &[u8]) -> Result<Answer<'a>, Stop>
+    requires { IsOfSource laid.now }
+    ensures { MatchResult result
+        (λ answer. AnswersBytes bytes.now (plain_program laid.now.program) laid.now.graph (plain_answer answer))
+        (λ stop. stop ≡ Stop.Memory) }
+{
+    match read_certificate(alloc, bytes) {
+        Ok(cert) => check_certificate(alloc, laid, &cert),
+        Err(CertEnd::Syntax { line }) => Ok(Answer::CertificateBad(line)),
+        Err(CertEnd::Memory) => Err(Stop::Memory),
+    }
+}
+
+// Answers for a certificate. One with packs isn't checked yet.
+fn check_certificate<'a>(alloc: Global, laid: &Laid, cert: &Cert) -> Result<Answer<'a>, Stop>
+    requires source { IsOfSource laid.now }
+    requires allowed { IsAllowed (view cert.now) }
+    ensures { MatchResult result
+        (λ answer. AnswersCertificate (plain_program laid.now.program) laid.now.graph (view cert.now) (plain_answer answer))
+        (λ stop. stop ≡ Stop.Memory) }
+{
+    if cert.packs.is_empty() {
+        check_plain(alloc, laid, cert)
+    } else {
+        Ok(Answer::NotYet(PACKS_LINE))
+    }
+}
+
+/// Answers for a certificate without packs.
+pub fn check_plain<'a>(alloc: Global, laid: &Laid, cert: &Cert) -> Result<Answer<'a>, Stop>
+    requires source { IsOfSource laid.now }
+    requires allowed { IsAllowed (view cert.now) }
+    requires plain { (view cert.now).packs ≡ [] }
+    ensures { MatchResult result
+        (λ answer. AnswersCertificate (plain_program laid.now.program) laid.now.graph (view cert.now) (plain_answer answer))
+        (λ stop. stop ≡ Stop.Memory) }
+{
+    sources_have_source_graphs();
+    statements_are_counted();
+    match check_claims(alloc, &laid.program, &laid.graph, cert) {
+        Ok(pairs) => Ok(Answer::Report(alarms_of(alloc, &laid.program, &pairs)?)),
+        Err(
+            CheckEnd::Shape {
+                what,
+                found,
+                wanted,
+            },
+        ) => Ok(Answer::CertificateMisfit(what, found, wanted)),
+        Err(
+            CheckEnd::NotInductive {
+                layer: _,
+                edge,
+                gap,
+            },
+        ) => Ok(Answer::NotInductive(edge, gap)),
+        Err(CheckEnd::Memory) => Err(Stop::Memory),
+    }
+}

@@ -1,0 +1,6 @@
+pub mod Found
+pub mod Control
+pub mod Limits
+pub mod Sources
+pub mod Statuses
+pub mod Refusals

@@ -1,0 +1,7 @@
+pub mod Text
+pub mod Showing
+pub mod Profile
+pub mod Answer
+pub mod Call
+pub mod View
+pub mod Steps
