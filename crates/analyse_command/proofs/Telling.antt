@@ -1,5 +1,5 @@
--- From what is found of a source to how a call of `analyse` ends.
-use Rattle.std.proofs.Common.{◌≡◌, ℕ, List, Option, refl, ap, ◌∙◌, subst, inl, inr}
+-- From what is found of a source to how a call ends.
+use Rattle.std.proofs.Common.{◌≡◌, ℕ, List, [], Option, refl, ap, ◌∙◌, subst, inl, inr}
 use Rattle.std.specs.Prelude.{option_map, take, false, MatchResult, Result, Ok, Err}
 use Rattle.std.specs.FinMap.{insert}
 use Rattle.batch_io.specs.Faults.{Rose}
@@ -20,12 +20,12 @@ use Rattle.analyse_command.specs.Endings.{EndsByAnalysis, EndsWithAnalysis, Fail
 use Rattle.analyse_command.specs.Steps.{IsFinding, IsFindingFor, IsFindingOf}
 
 module _ (words : List (List ℕ)) (before middle after : FilesState) (old new : SinkState) (status : ℕ)
-    (reads : Reads before middle false) (certificate : List ℕ) (a : Analysis) where
+    (reads : Reads before middle false) (certificate heading : List ℕ) (a : Analysis) where
   abbrev with_text : List ℕ → Option Contents → Option Contents
   with_text text known = option_map (λ contents. insert contents certificate text) known
 
-  tells : TellsAnalysis (call words middle after old new status) certificate a
-      → TellsAnalysis (call words before after old new status) certificate a
+  tells : TellsAnalysis (call words middle after old new status) certificate heading a
+      → TellsAnalysis (call words before after old new status) certificate heading a
   tells h = record {
     fits = h.fits;
     written = h.written ∙ ap (with_text (text_of a)) reads.contents;
@@ -55,8 +55,8 @@ module _ (words : List (List ℕ)) (before middle after : FilesState) (old new :
       → FailsToWrite (call words before after old new status) certificate a
   fails h = record { fits = h.fits; left = leaves (text_of a) h.left; told = unwritten h.told }
 
-  ends_behind : EndsWithAnalysis (call words middle after old new status) certificate a
-      → EndsWithAnalysis (call words before after old new status) certificate a
+  ends_behind : EndsWithAnalysis (call words middle after old new status) certificate heading a
+      → EndsWithAnalysis (call words before after old new status) certificate heading a
   ends_behind (inl h) = inl (tells h)
   ends_behind (inr (inl h)) = inr (inl (too_long h))
   ends_behind (inr (inr h)) = inr (inr (fails h))
@@ -67,7 +67,7 @@ module _ (words : List (List ℕ)) (source certificate : List ℕ) (before middl
   pub ends_by_analysis : IsCommand words (analyse source certificate) → Reads before middle false → (f : Findings)
       → IsFindingOf (known_bytes before) source f → KeepsIds middle after → after.reading ≡ middle.reading
       → ((words : List (List ℕ)) (a : Analysis) → IsFinding a f
-      → EndsWithAnalysis (call words middle after old new status) certificate a)
+      → EndsWithAnalysis (call words middle after old new status) certificate heading a)
       → EndsByAnalysis (call words before after old new status)
   ends_by_analysis said reads f found ids reading ends = record {
     source = source;
@@ -77,13 +77,14 @@ module _ (words : List (List ℕ)) (source certificate : List ℕ) (before middl
     is_of = found.is_of;
     ids = ids_pass before middle after reads.ids ids;
     reading = reading ∙ reads.reading.kept refl;
-    ends = ends_behind words before middle after old new status reads certificate found.analysis (ends words found.analysis found.finding);
+    ends = ends_behind words before middle after old new status reads certificate [] found.analysis
+        (ends words [] found.analysis found.finding);
   }
 
 -- ---- the findings of what was read
 
 pub weaker_finding : (laid : Laid) (c : Certificate) (result : Result Findings Stop)
-    → MatchResult result (IsFinding (analysis (plain_program laid.program) laid.graph c)) (λ stop. stop ≡ Memory)
+    → MatchResult result (IsFinding [] (analysis (plain_program laid.program) laid.graph c)) (λ stop. stop ≡ Memory)
     → MatchResult result (IsFindingFor laid) (λ stop. stop ≡ Memory)
 weaker_finding laid c (Ok f) h = (c, h)
 weaker_finding laid c (Err stop) h = h

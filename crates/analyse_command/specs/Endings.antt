@@ -1,5 +1,6 @@
--- How a call of `analyse` that finds a certificate ends: what its file holds, and what is shown.
-use Rattle.std.specs.Prelude.{◌≡◌, ◌<◌, ◌≤◌, ℕ, ◌⊎◌, List, length, take}
+-- How a call that finds a certificate ends: what its file holds, and what is shown. A heading stands before the report;
+-- `analyse` has none.
+use Rattle.std.specs.Prelude.{◌≡◌, ◌<◌, ◌≤◌, ℕ, ◌⊎◌, List, [], ◌++◌, length, take}
 use Rattle.batch_io.specs.Faults.{Rose}
 use Rattle.batch_io.specs.FilesState.{KeepsIds, known_bytes}
 use Rattle.batch_io.specs.Wholes.{Holds}
@@ -12,13 +13,13 @@ use Rattle.command_answers.specs.Call.{Call}
 use Rattle.check_command.specs.Answers.{certificate_limit}
 use Rattle.analyse_command.specs.Analysis.{Analysis, IsAnalysisOf, report_of, text_of}
 
--- The file holds the certificate's text, and the report is shown, or a front of it.
-pub record TellsAnalysis (call : Call) (certificate : List ℕ) (a : Analysis) : Type 0 where
+-- The file holds the certificate's text, and heading and report are shown, or a front of them.
+pub record TellsAnalysis (call : Call) (certificate heading : List ℕ) (a : Analysis) : Type 0 where
   pub fits : length (text_of a) ≤ certificate_limit
   pub written : Holds call.files_before call.files_after certificate (text_of a)
   pub writing : call.files_after.writing ≡ call.files_before.writing
   pub shows : ShowsIfMemory call.out_before call.out_after
-      (answer_text (report_of a)) (status_of (report_of a)) 6 call.status
+      (heading ++ answer_text (report_of a)) (status_of (report_of a)) 6 call.status
 
 -- the file is as it was, or holds a front of the text
 abbrev pub LeavesFront : Call → List ℕ → List ℕ → Type 0
@@ -48,9 +49,9 @@ pub record IsTooLong (call : Call) (a : Analysis) : Type 0 where
   pub shows : ShowsRefusal call.out_before call.out_after
       (answer_text CertificateLong) (status_of CertificateLong) call.status
 
-abbrev pub EndsWithAnalysis : Call → List ℕ → Analysis → Type 0
-EndsWithAnalysis call certificate a =
-    TellsAnalysis call certificate a ⊎ IsTooLong call a ⊎ FailsToWrite call certificate a
+abbrev pub EndsWithAnalysis : Call → List ℕ → List ℕ → Analysis → Type 0
+EndsWithAnalysis call certificate heading a =
+    TellsAnalysis call certificate heading a ⊎ IsTooLong call a ⊎ FailsToWrite call certificate a
 
 -- A certificate is found for the source that the words name.
 pub record EndsByAnalysis (call : Call) : Type 0 where
@@ -61,4 +62,4 @@ pub record EndsByAnalysis (call : Call) : Type 0 where
   pub is_of : IsAnalysisOf (known_bytes call.files_before) source analysis
   pub ids : KeepsIds call.files_before call.files_after
   pub reading : call.files_after.reading ≡ call.files_before.reading
-  pub ends : EndsWithAnalysis call certificate analysis
+  pub ends : EndsWithAnalysis call certificate [] analysis

@@ -1,5 +1,5 @@
 //! `analyse`: the certificate that is found for a source, its file, and its report.
-ghost use Rattle.std.specs.Prelude.{◌≡◌, ◌<◌, List, ℕ, MatchResult, IfErr, IfOk, IfSome};
+ghost use Rattle.std.specs.Prelude.{◌≡◌, ◌<◌, List, [], ℕ, MatchResult, IfErr, IfOk, IfSome};
 ghost use Rattle.batch_io.specs.FilesState.{KeepsIds, known_bytes};
 ghost use Rattle.cert_text.specs.View.{view};
 ghost use Rattle.cob_program.specs.ActView.{plain_program};
@@ -38,7 +38,7 @@ fn texts_of(alloc: Global, laid: &Laid, cert: &Cert) -> Result<Findings, Stop>
     requires source { IsOfSource laid.now }
     requires found { IsFound (analysis (plain_program laid.now.program) laid.now.graph (view cert.now)) }
     ensures { MatchResult result
-        (IsFinding (analysis (plain_program laid.now.program) laid.now.graph (view cert.now)))
+        (IsFinding [] (analysis (plain_program laid.now.program) laid.now.graph (view cert.now)))
         (λ stop. stop ≡ Stop.Memory) }
 {
     let report = check_plain(alloc, laid, cert)?;
@@ -65,8 +65,8 @@ fn found_counted<L: Ledger>(alloc: Global, laid: &Laid, blank: Blank) -> Result<
     texts_of(alloc, laid, &cert)
 }
 
-// For a source that was read.
-fn found_for(alloc: Global, laid: &Laid) -> Result<Findings, Stop>
+/// For a source that was read.
+pub fn found_for(alloc: Global, laid: &Laid) -> Result<Findings, Stop>
     requires { IsOfSource laid.now }
     ensures { MatchResult result (IsFindingFor laid.now) (λ stop. stop ≡ Stop.Memory) }
 {
@@ -104,8 +104,8 @@ pub fn tell<F: Files, O: Sink>(
 ) -> u8
     ensures ids { KeepsIds (F.state files.old) (F.state files.new) }
     ensures reading { (F.state files.new).reading ≡ (F.state files.old).reading }
-    ensures ends { (words : List (List ℕ)) (a : Analysis) → IsFinding a findings.now → EndsWithAnalysis
-        (call words (F.state files.old) (F.state files.new) (O.state out.old) (O.state out.new) result) certificate.now a }
+    ensures ends { (words : List (List ℕ)) (heading : List ℕ) (a : Analysis) → IsFinding heading a findings.now → EndsWithAnalysis
+        (call words (F.state files.old) (F.state files.new) (O.state out.old) (O.state out.new) result) certificate.now heading a }
 {
     if findings.certificate.len() > CERTIFICATE_LIMIT {
         return show_line(out, b"E11 certificate too long\n", CERTIFICATE_REFUSED);

@@ -5,4 +5,4 @@
 
 mod findings;
 
-pub use findings::{Findings, findings_for, tell};
+pub use findings::{Findings, findings_for, found_for, tell};

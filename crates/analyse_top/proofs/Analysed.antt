@@ -1,5 +1,5 @@
--- A call of `analyse` that answers 0 or 1 leaves a certificate that `check` accepts, and misses nothing.
-use Rattle.std.proofs.Common.{◌≡◌, ℕ, ◌≤◌, ◌<◌, ◌+◌, ◌*◌, List, [], ◌∷◌, length, Option, Some, ◌⊎◌, refl, sym, ap, ◌∙◌, subst, inl, inr, arith}
+-- A call of `analyse` or `trial` that answers 0 or 1 leaves a certificate that `check` accepts, and misses nothing.
+use Rattle.std.proofs.Common.{◌≡◌, ℕ, ◌≤◌, ◌<◌, ◌+◌, ◌*◌, List, [], ◌∷◌, ◌++◌, length, Option, Some, ◌⊎◌, refl, sym, ap, ◌∙◌, subst, inl, inr, arith}
 use Rattle.std.specs.Prelude.{option_map}
 use Rattle.std.specs.List.{Contains}
 use Rattle.std.specs.FinMap.{get, insert}
@@ -18,7 +18,7 @@ use Rattle.cob_front.specs.Laws.{OneAnswer}
 use Rattle.cob_interp.proofs.SeenFiles.{insert_agrees, insert_gets}
 use Rattle.alarm_report.specs.declared.alarms.Alarm.{Alarm}
 use Rattle.alarm_report.specs.Alarms.{alarms_of}
-use Rattle.command_words.specs.Commands.{Command, IsCommand, OneReading, analyse}
+use Rattle.command_words.specs.Commands.{Command, IsCommand, OneReading, analyse, trial}
 use Rattle.command_answers.specs.Text.{memory_line, write_fault_line}
 use Rattle.command_answers.specs.Profile.{IsProgramOf}
 use Rattle.command_answers.specs.Answer.{Answer, Report, CertificateLong, HoldsProgram, answer_text, status_of}
@@ -28,12 +28,14 @@ use Rattle.command_answers.proofs.Statuses.{above_one, low_status, never_low}
 use Rattle.command_answers.proofs.Limits.{within_limits}
 use Rattle.command_answers.proofs.Sources.{Ending, read, one_ending}
 use Rattle.check_command.specs.Answers.{certificate_limit, HoldsCertificate}
-use Rattle.analyse_command.specs.Analysis.{Analysis, CanBeClean, IsAnalysisOf, pairs_of, report_of, text_of}
+use Rattle.analyse_command.specs.Analysis.{Analysis, CanBeClean, IsAnalysisOf, IsFound, pairs_of, report_of, text_of}
 use Rattle.analyse_command.specs.Endings.{EndsByAnalysis, EndsWithAnalysis, IsTooLong, TellsAnalysis, TellsUnwritten}
+use Rattle.trial_source.specs.Trial.{trial_text}
+use Rattle.trial_command.specs.Endings.{EndsByTrial, nodes_line, trial_name}
 use Rattle.analyse_top.specs.Answers.{Answers, AnswersCommand}
-use Rattle.analyse_top.specs.Conclusion.{Concludes, AnalysesAreAccepted, AnalysesFindClean, EndsBy, EndsByAnswer, IsAccepted, IsAnalysed, LongTextsAreOfLargePrograms}
+use Rattle.analyse_top.specs.Conclusion.{Concludes, AnalysesAreAccepted, EndsBy, EndsByAnswer, FindsClean, IsAccepted, IsAnalysed, IsLarge, IsTried, LongTextsAreOfLargePrograms, TrialsAreAccepted}
 use Rattle.analyse_top.proofs.Clean.{CheckingIsSound, names_all}
-use Rattle.analyse_top.proofs.Words.{analyse_or_run, one_certificate, one_source}
+use Rattle.analyse_top.proofs.Words.{analyse_or_run, analyse_or_trial, one_certificate, one_count, one_source, trial_or_run}
 
 -- ---- statuses
 
@@ -45,8 +47,22 @@ refusal_is_low old new line own status l (inr memory) low = above_one status 8 (
 
 -- ---- what is left
 
-module _ (call : Call) (contents : Contents) (known : known_bytes call.files_before ≡ Some contents)
-    (low : (call.status ≡ 0) ⊎ (call.status ≡ 1)) where
+-- `check` accepts it wherever the source and its text are held
+accepted_where : (later : Contents) (source certificate bytes : List ℕ) (a : Analysis)
+    → IsProgramOf bytes a.program a.graph → IsFound a → length (text_of a) ≤ certificate_limit
+    → get later source ≡ Some bytes → get later certificate ≡ Some (text_of a)
+    → IsAccepted later source certificate (pairs_of a)
+accepted_where later source certificate bytes a is found fits there held = record {
+  program = a.program;
+  graph = a.graph;
+  claims = a.claims;
+  holds = record { bytes = bytes; held = there; is_program = is };
+  held = record { allowed = found.allowed; held = held; fits = fits };
+  plain = found.plain;
+  accepts = found.accepts;
+}
+
+module _ (call : Call) (low : (call.status ≡ 0) ⊎ (call.status ≡ 1)) where
   too_long_is_higher : (a : Analysis) → IsTooLong call a → ⊥
   too_long_is_higher a h =
       refusal_is_low call.out_before call.out_after (answer_text CertificateLong) 3 call.status (omega arith) h.shows low
@@ -57,81 +73,35 @@ module _ (call : Call) (contents : Contents) (known : known_bytes call.files_bef
   unwritten_is_higher (inr h) =
       refusal_is_low call.out_before call.out_after memory_line 8 call.status (omega arith) h.1 low
 
-  -- the report was shown whole
-  abbrev pub IsShown : Analysis → Type 0
-  IsShown a =
-      (status_of (report_of a) ≡ call.status) × Gains call.out_before call.out_after (answer_text (report_of a))
+  -- heading and report were shown whole
+  abbrev pub IsShown : List ℕ → Analysis → Type 0
+  IsShown heading a =
+      (status_of (report_of a) ≡ call.status)
+      × Gains call.out_before call.out_after (heading ++ answer_text (report_of a))
 
-  shown_by : (certificate : List ℕ) (a : Analysis) → TellsAnalysis call certificate a → IsShown a
-  shown_by certificate a h = elim h.shows [
+  shown_by : (certificate heading : List ℕ) (a : Analysis) → TellsAnalysis call certificate heading a
+      → IsShown heading a
+  shown_by certificate heading a h = elim h.shows [
     | inl (inl whole) ↦ (sym whole.0, whole.1)
     | inl (inr front) ↦ absurd (above_one call.status 6 (omega arith) (sym front.0) low)
     | inr memory ↦ absurd (above_one call.status 8 (omega arith) (sym memory.0) low)
   ]
 
-  told : (certificate : List ℕ) (a : Analysis) → EndsWithAnalysis call certificate a → TellsAnalysis call certificate a
-  told certificate a (inl h) = h
-  told certificate a (inr (inl h)) = absurd (too_long_is_higher a h)
-  told certificate a (inr (inr h)) = absurd (unwritten_is_higher h.told)
+  told : (certificate heading : List ℕ) (a : Analysis) → EndsWithAnalysis call certificate heading a
+      → TellsAnalysis call certificate heading a
+  told certificate heading a (inl h) = h
+  told certificate heading a (inr (inl h)) = absurd (too_long_is_higher a h)
+  told certificate heading a (inr (inr h)) = absurd (unwritten_is_higher h.told)
 
-  module _ (sound : CheckingIsSound) (source certificate : List ℕ) (a : Analysis)
-      (is_of : IsAnalysisOf (Some contents) source a) (tells : TellsAnalysis call certificate a) where
-    abbrev after : Contents
-    after = insert contents certificate (text_of a)
-
-    left : known_bytes call.files_after ≡ Some after
-    left = tells.written ∙ ap (option_map (λ (held : Contents). insert held certificate (text_of a))) known
-
-    held : HoldsCertificate after certificate a.claims
-    held = record {
-      allowed = is_of.found.allowed;
-      held = insert_gets contents certificate (text_of a);
-      fits = tells.fits;
-    }
-
-    source_stays : ¬ (source ≡ certificate) → get after source ≡ Some is_of.bytes
-    source_stays differ = insert_agrees contents certificate (text_of a) source differ ∙ is_of.held
-
-    accepted : ¬ (source ≡ certificate) → IsAccepted after source certificate (pairs_of a)
-    accepted differ = record {
-      program = a.program;
-      graph = a.graph;
-      claims = a.claims;
-      holds = record { bytes = is_of.bytes; held = source_stays differ; is_program = is_of.is_program };
-      held = held;
-      plain = is_of.found.plain;
-      accepts = is_of.found.accepts;
-    }
-
-    is_analysed : IsAnalysed contents call source certificate
-    is_analysed = record {
-      analysis = a;
-      is_of = is_of;
-      left = left;
-      held = held;
-      accepted = accepted;
-      status = (shown_by certificate a tells).0;
-      shown = (shown_by certificate a tells).1;
-      named = names_all sound is_of.bytes a.program a.graph a.claims (pairs_of a) is_of.is_program is_of.found.accepts;
-    }
-
--- ---- each call that ends so
-
-module _ (sound : CheckingIsSound) (one_reading : OneReading) (call : Call) (concludes : Concludes call) where
-  module _ (contents : Contents) (source certificate : List ℕ) (said : IsCommand call.words (analyse source certificate))
-      (known : known_bytes call.files_before ≡ Some contents) (low : (call.status ≡ 0) ⊎ (call.status ≡ 1)) where
-    no_report : (alarms : List Alarm) → Answers (Some contents) call.words (Report alarms) → ⊥
-    no_report alarms (inl (none, usage)) = none (analyse source certificate) said
-    no_report alarms (inr (c, also, answers)) =
-        let same = one_reading call.words c (analyse source certificate) also said in
-        subst (λ (x : Command). AnswersCommand contents x (Report alarms)) same answers
-
+  -- an answer has a higher status, unless it is a report
+  module _ (no_report : (alarms : List Alarm)
+      → Answers (known_bytes call.files_before) call.words (Report alarms) → ⊥) where
     by_answer : (answer : Answer) → EndsBy call answer → ⊥
     by_answer answer ends = elim ends.shows [
       | inl whole ↦
           let report = low_status answer call.status (sym whole.0) low in
-          let here = subst (λ (k : Option Contents). Answers k call.words answer) known ends.is_answer in
-          no_report report.0 (subst (λ (a : Answer). Answers (Some contents) call.words a) report.1 here)
+          no_report report.0
+          (subst (λ (a : Answer). Answers (known_bytes call.files_before) call.words a) report.1 ends.is_answer)
       | inr front ↦ never_low answer call.status (sym front.0) low
     ]
 
@@ -145,77 +115,190 @@ module _ (sound : CheckingIsSound) (one_reading : OneReading) (call : Call) (con
       | inr (inr memory) ↦ above_one call.status 8 (omega arith) (sym memory.status) low
     ]
 
+  module _ (contents : Contents) (known : known_bytes call.files_before ≡ Some contents)
+      (certificate heading : List ℕ) (a : Analysis) (found : IsFound a)
+      (tells : TellsAnalysis call certificate heading a) where
+    abbrev after : Contents
+    after = insert contents certificate (text_of a)
+
+    left : known_bytes call.files_after ≡ Some after
+    left = tells.written ∙ ap (option_map (λ (held : Contents). insert held certificate (text_of a))) known
+
+    held : HoldsCertificate after certificate a.claims
+    held = record {
+      allowed = found.allowed;
+      held = insert_gets contents certificate (text_of a);
+      fits = tells.fits;
+    }
+
+-- ---- each call that ends so
+
+module _ (sound : CheckingIsSound) (one_reading : OneReading) (call : Call) (concludes : Concludes call) where
+  module _ (contents : Contents) (source certificate : List ℕ) (said : IsCommand call.words (analyse source certificate))
+      (known : known_bytes call.files_before ≡ Some contents) (low : (call.status ≡ 0) ⊎ (call.status ≡ 1)) where
+    no_report : (alarms : List Alarm) → Answers (known_bytes call.files_before) call.words (Report alarms) → ⊥
+    no_report alarms (inl (none, usage)) = none (analyse source certificate) said
+    no_report alarms (inr (c, also, answers)) =
+        let same = one_reading call.words c (analyse source certificate) also said in
+        subst (λ (k : Option Contents). AnswersCommand k (analyse source certificate) (Report alarms)) known
+        (subst (λ (x : Command). AnswersCommand (known_bytes call.files_before) x (Report alarms)) same answers)
+
+    is_analysed : (a : Analysis) → IsAnalysisOf (Some contents) source a → EndsWithAnalysis call certificate [] a
+        → IsAnalysed contents call source certificate
+    is_analysed a is_of ends =
+        let tells = told call low certificate [] a ends in
+        let written = left call low contents known certificate [] a is_of.found tells in
+        let stays : ¬ (source ≡ certificate) → get (insert contents certificate (text_of a)) source ≡ Some is_of.bytes =
+        λ differ. insert_agrees contents certificate (text_of a) source differ ∙ is_of.held in
+        record {
+          analysis = a;
+          is_of = is_of;
+          left = written;
+          held = held call low contents known certificate [] a is_of.found tells;
+          accepted = λ differ.
+              accepted_where (insert contents certificate (text_of a)) source certificate is_of.bytes a is_of.is_program
+              is_of.found tells.fits (stays differ) (insert_gets contents certificate (text_of a));
+          status = (shown_by call low certificate [] a tells).0;
+          shown = (shown_by call low certificate [] a tells).1;
+          named = names_all sound is_of.bytes a.program a.graph a.claims (pairs_of a) is_of.is_program is_of.found.accepts;
+        }
+
     by_analysis : EndsByAnalysis call → IsAnalysed contents call source certificate
     by_analysis h =
         let name = one_source one_reading call.words h.source h.certificate source certificate h.said said in
         let target = one_certificate one_reading call.words h.source h.certificate source certificate h.said said in
         let there = subst (λ (k : Option Contents). IsAnalysisOf k h.source h.analysis) known h.is_of in
         let is_of = subst (λ (s : List ℕ). IsAnalysisOf (Some contents) s h.analysis) name there in
-        let ends = subst (λ (c : List ℕ). EndsWithAnalysis call c h.analysis) target h.ends in
-        is_analysed call contents known low sound source certificate h.analysis is_of
-        (told call contents known low certificate h.analysis ends)
+        is_analysed h.analysis is_of (subst (λ (c : List ℕ). EndsWithAnalysis call c [] h.analysis) target h.ends)
 
     analysed : IsAnalysed contents call source certificate
     analysed = elim concludes [
-      | inl h ↦ absurd (without h)
+      | inl h ↦ absurd (without call low no_report h)
       | inr (inl h) ↦ by_analysis h
-      | inr (inr (t, result, asks, runs)) ↦
+      | inr (inr (inl t)) ↦ absurd (analyse_or_trial one_reading call.words source certificate t.count said t.said)
+      | inr (inr (inr (t, result, asks, runs))) ↦
           absurd (analyse_or_run one_reading call.words source certificate asks.run said asks.said)
     ]
 
   pub analyses_are_accepted : AnalysesAreAccepted call
   analyses_are_accepted = analysed
 
+  -- ---- trials
+
+  module _ (count : ℕ) (said : IsCommand call.words (trial count)) (low : (call.status ≡ 0) ⊎ (call.status ≡ 1)) where
+    no_report_of_trial : (alarms : List Alarm) → Answers (known_bytes call.files_before) call.words (Report alarms) → ⊥
+    no_report_of_trial alarms (inl (none, usage)) = none (trial count) said
+    no_report_of_trial alarms (inr (c, also, answers)) =
+        let same = one_reading call.words c (trial count) also said in
+        subst (λ (x : Command). AnswersCommand (known_bytes call.files_before) x (Report alarms)) same answers
+
+    tried : EndsByTrial call
+    tried = elim concludes [
+      | inl h ↦ absurd (without call low no_report_of_trial h)
+      | inr (inl h) ↦ absurd (analyse_or_trial one_reading call.words h.source h.certificate count h.said said)
+      | inr (inr (inl t)) ↦ t
+      | inr (inr (inr (t, result, asks, runs))) ↦
+          absurd (trial_or_run one_reading call.words count asks.run said asks.said)
+    ]
+
+    same_source : IsProgramOf (trial_text count) tried.analysis.program tried.analysis.graph
+    same_source =
+        subst (λ (n : ℕ). IsProgramOf (trial_text n) tried.analysis.program tried.analysis.graph)
+        (one_count one_reading call.words tried.count count tried.said said) tried.is_of.is_program
+
+    abbrev heading_of : Analysis → List ℕ
+    heading_of a = nodes_line (length a.graph.nodes)
+
+    trial_tells : TellsAnalysis call trial_name (heading_of tried.analysis) tried.analysis
+    trial_tells = told call low trial_name (heading_of tried.analysis) tried.analysis tried.ends
+
+    trial_shown : IsShown call low (heading_of tried.analysis) tried.analysis
+    trial_shown = shown_by call low trial_name (heading_of tried.analysis) tried.analysis trial_tells
+
+    is_tried : (contents : Contents) → known_bytes call.files_before ≡ Some contents → IsTried contents call count
+    is_tried contents known =
+        let a = tried.analysis in
+        let found = tried.is_of.found in
+        record {
+          analysis = a;
+          is_of = record { is_program = same_source; found = found };
+          left = left call low contents known trial_name (heading_of a) a found trial_tells;
+          held = held call low contents known trial_name (heading_of a) a found trial_tells;
+          accepted = λ later source certificate.
+              accepted_where later source certificate (trial_text count) a same_source found trial_tells.fits;
+          status = trial_shown.0;
+          shown = trial_shown.1;
+          named = names_all sound (trial_text count) a.program a.graph a.claims (pairs_of a) same_source found.accepts;
+        }
+
+  pub trials_are_accepted : TrialsAreAccepted call
+  trials_are_accepted contents count said known low = is_tried count said low contents known
+
   -- ---- nothing is missed
 
   module _ (law : (bytes : List ℕ) → OneAnswer bytes) (graphs : OneGraph) where
-    nothing_open : (a : Analysis) (source : List ℕ) (contents : Contents) → IsAnalysisOf (Some contents) source a
-        → CanBeClean a.program a.graph → (x : Open) → Contains (pairs_of a) x → ⊥
-    nothing_open a source contents is_of can x there =
-        is_of.found.misses_nothing can.assignment can.assigns x.statement x.kind (can.clears x.statement x.kind) there
+    nothing_open : (a : Analysis) → IsFound a → CanBeClean a.program a.graph → (x : Open) → Contains (pairs_of a) x → ⊥
+    nothing_open a found can x there =
+        found.misses_nothing can.assignment can.assigns x.statement x.kind (can.clears x.statement x.kind) there
 
     none_open : (pairs : List Open) → ((x : Open) → Contains pairs x → ⊥) → pairs ≡ []
     none_open [] h = refl
     none_open (x ∷ xs) h = absurd (h x (0, omega arith, refl))
 
-    same_ending : (contents : Contents) (source : List ℕ) (a : Analysis) (p : Program) (g : Graph)
-        → IsAnalysisOf (Some contents) source a → HoldsProgram contents source p g → read p g ≡ read a.program a.graph
-    same_ending contents source a p g is_of holds =
-        let same : holds.bytes ≡ is_of.bytes = same_Some holds.bytes is_of.bytes (sym holds.held ∙ is_of.held) in
-        let is = subst (λ (bytes : List ℕ). IsProgramOf bytes p g) same holds.is_program in
-        one_ending law is_of.bytes graphs (read p g) (read a.program a.graph) is is_of.is_program
-
     abbrev can_be_clean : Ending → Type 0
     can_be_clean (read p g) = CanBeClean p g
     can_be_clean _ = ⊥
 
-    pub analyses_find_clean : AnalysesFindClean call
-    analyses_find_clean contents source certificate p g said known holds can one =
-        let h = analysed contents source certificate said known (inr one) in
-        let same = same_ending contents source h.analysis p g h.is_of holds in
-        let here : CanBeClean h.analysis.program h.analysis.graph = subst (λ (e : Ending). can_be_clean e) same can in
-        let none = none_open (pairs_of h.analysis) (nothing_open h.analysis source contents h.is_of here) in
-        let zero : status_of (report_of h.analysis) ≡ 0 =
-        ap (λ (pairs : List Open). status_of (Report (alarms_of h.analysis.program pairs))) none in
-        omega (arith, zero, h.status, one)
+    -- two readings of the same bytes
+    never_one : (bytes : List ℕ) (p : Program) (g : Graph) (a : Analysis) → IsProgramOf bytes p g
+        → IsProgramOf bytes a.program a.graph → IsFound a → CanBeClean p g → status_of (report_of a) ≡ call.status
+        → call.status ≡ 1 → ⊥
+    never_one bytes p g a is also found can status one =
+        let same : read p g ≡ read a.program a.graph =
+        one_ending law bytes graphs (read p g) (read a.program a.graph) is also in
+        let here : CanBeClean a.program a.graph = subst (λ (e : Ending). can_be_clean e) same can in
+        let none = none_open (pairs_of a) (nothing_open a found here) in
+        let zero : status_of (report_of a) ≡ 0 =
+        ap (λ (pairs : List Open). status_of (Report (alarms_of a.program pairs))) none in
+        omega (arith, zero, status, one)
+
+    pub finds_clean : FindsClean call
+    finds_clean = record {
+      analyses = λ contents source certificate p g said known holds can one.
+          let h = analysed contents source certificate said known (inr one) in
+          let same : holds.bytes ≡ h.is_of.bytes = same_Some holds.bytes h.is_of.bytes (sym holds.held ∙ h.is_of.held) in
+          let is = subst (λ (bytes : List ℕ). IsProgramOf bytes p g) same holds.is_program in
+          never_one h.is_of.bytes p g h.analysis is h.is_of.is_program h.is_of.found can h.status one;
+      trials = λ count p g said is can one.
+          let t = tried count said (inr one) in
+          never_one (trial_text count) p g t.analysis is (same_source count said (inr one)) t.is_of.found can
+          (trial_shown count said (inr one)).0 one;
+    }
 
 -- ---- long texts
 
 without_packs : (cells : ℕ) → 10 + 46 * cells + 49 * 0 ≡ 10 + 46 * cells
 without_packs cells = omega arith
 
-pub long_texts_are_of_large_programs : ((c : Certificate) → IsAllowed c → c.cells < 1000 → length c.nodes < 10000
-    → length (spelling c) ≤ most_bytes c) → (call : Call) → LongTextsAreOfLargePrograms call
-long_texts_are_of_large_programs short call h long =
-    let c = h.analysis.claims in
-    let shape = h.is_of.found.accepts.shape in
-    let limits = within_limits h.analysis.program h.is_of.is_program.within h.analysis.graph h.is_of.is_program.is_graph in
-    let cells : length (cells_of h.analysis.program) ≤ 512 =
-    omega (arith, limits.cells, ap length h.is_of.is_program.is_graph.cells) in
-    let fits = short c h.is_of.found.allowed (omega (arith, shape.cells, cells)) (omega (arith, shape.nodes, limits.nodes)) in
-    let same : most_bytes c ≡ 2000 + length h.analysis.graph.nodes * (10 + 46 * length (cells_of h.analysis.program)) =
-    ap (λ (packs : List (List ℕ)). 2000 + length c.nodes * (10 + 46 * c.cells + 49 * most_bounds packs)) h.is_of.found.plain
-    ∙ ap (λ (n : ℕ). 2000 + length c.nodes * n) (without_packs c.cells)
-    ∙ ap (λ (n : ℕ). 2000 + length c.nodes * (10 + 46 * n)) shape.cells
-    ∙ ap (λ (n : ℕ). 2000 + n * (10 + 46 * length (cells_of h.analysis.program))) shape.nodes in
-    subst (λ (n : ℕ). certificate_limit < n) same (omega (arith, long.long, fits))
+module _ (short : (c : Certificate) → IsAllowed c → c.cells < 1000 → length c.nodes < 10000
+    → length (spelling c) ≤ most_bytes c) where
+  long_is_large : (call : Call) (bytes : List ℕ) (a : Analysis) → IsProgramOf bytes a.program a.graph → IsFound a
+      → IsTooLong call a → IsLarge a
+  long_is_large call bytes a is found long =
+      let c = a.claims in
+      let shape = found.accepts.shape in
+      let limits = within_limits a.program is.within a.graph is.is_graph in
+      let cells : length (cells_of a.program) ≤ 512 = omega (arith, limits.cells, ap length is.is_graph.cells) in
+      let fits = short c found.allowed (omega (arith, shape.cells, cells)) (omega (arith, shape.nodes, limits.nodes)) in
+      let same : most_bytes c ≡ 2000 + length a.graph.nodes * (10 + 46 * length (cells_of a.program)) =
+      ap (λ (packs : List (List ℕ)). 2000 + length c.nodes * (10 + 46 * c.cells + 49 * most_bounds packs)) found.plain
+      ∙ ap (λ (n : ℕ). 2000 + length c.nodes * n) (without_packs c.cells)
+      ∙ ap (λ (n : ℕ). 2000 + length c.nodes * (10 + 46 * n)) shape.cells
+      ∙ ap (λ (n : ℕ). 2000 + n * (10 + 46 * length (cells_of a.program))) shape.nodes in
+      subst (λ (n : ℕ). certificate_limit < n) same (omega (arith, long.long, fits))
+
+  pub long_texts_are_of_large_programs : (call : Call) → LongTextsAreOfLargePrograms call
+  long_texts_are_of_large_programs call = record {
+    analyses = λ h. long_is_large call h.is_of.bytes h.analysis h.is_of.is_program h.is_of.found;
+    trials = λ t. long_is_large call (trial_text t.count) t.analysis t.is_of.is_program t.is_of.found;
+  }

@@ -1,5 +1,5 @@
--- Words ask for one task at most, and what asks for a task or an analysis has no answer.
-use Rattle.std.proofs.Common.{◌≡◌, ℕ, List, Some, inl, inr, sym, ◌∙◌, subst}
+-- Words ask for one task at most, and what asks for a task, an analysis or a trial has no answer.
+use Rattle.std.proofs.Common.{◌≡◌, ℕ, List, Option, Some, inl, inr, sym, ◌∙◌, subst}
 use Rattle.std.specs.FinMap.{get}
 use Rattle.std.proofs.lemmas.Option.{same_Some}
 use Rattle.batch_io.specs.FilesState.{Contents}
@@ -9,10 +9,12 @@ use Rattle.cob_graph.specs.Graphs.{OneGraph}
 use Rattle.cob_front.specs.Laws.{OneAnswer}
 use Rattle.command_words.specs.Commands.{Command, Run, IsCommand, OneReading}
 use Rattle.command_words.specs.Commands as command
-use Rattle.command_answers.specs.Profile.{IsProfileCause}
+use Rattle.command_answers.specs.Profile.{IsProgramOf, IsProfileCause}
 use Rattle.command_answers.specs.Answer.{Answer, Usage, Absent, Refused, NotYet, CertificateLong, CertificateBad, CertificateMisfit, NotInductive, Report, AnswersSource, HoldsProgram}
 use Rattle.command_answers.proofs.Found.{held_bytes}
 use Rattle.command_answers.proofs.Sources.{no_cause}
+use Rattle.trial_source.specs.Trial.{trial_text}
+use Rattle.trial_command.specs.Endings.{AnswersTrial}
 use Rattle.run_command.specs.Runs.{Task, HoldsTask, AsksFor}
 use Rattle.run_command.proofs.Asked.{answer_or_task, one_held_task}
 use Rattle.analyse_top.specs.Answers.{Answers, AnswersCommand}
@@ -26,9 +28,9 @@ module _ (law : (bytes : List ℕ) → OneAnswer bytes) (graphs : OneGraph) (one
       let holds = subst (λ (r : Run). HoldsTask (Some contents) r t) same h.holds in
       one_held_task k.run law graphs contents t u holds k.holds
 
-  as_said : (c d : Command) (a : Answer) → IsCommand words c → IsCommand words d → AnswersCommand contents c a
-      → AnswersCommand contents d a
-  as_said c d a is also h = subst (λ (x : Command). AnswersCommand contents x a) (one_reading words c d is also) h
+  as_said : (c d : Command) (a : Answer) → IsCommand words c → IsCommand words d → AnswersCommand (Some contents) c a
+      → AnswersCommand (Some contents) d a
+  as_said c d a is also h = subst (λ (x : Command). AnswersCommand (Some contents) x a) (one_reading words c d is also) h
 
   -- words that ask for a task have no answer
   pub answered_or_asked : (a : Answer) (t : Task) → Answers (Some contents) words a
@@ -59,3 +61,23 @@ module _ (law : (bytes : List ℕ) → OneAnswer bytes) (graphs : OneGraph) (one
   answered_or_analysed a source certificate p g (inl (none, e)) said k = none (command.analyse source certificate) said
   answered_or_analysed a source certificate p g (inr (c, is, h)) said k =
       unread_or_read source a p g (as_said c (command.analyse source certificate) a is said h) k
+
+module _ (law : (bytes : List ℕ) → OneAnswer bytes) (one_reading : OneReading) (known : Option Contents)
+    (words : List (List ℕ)) (count : ℕ) (p : Program) (g : Graph) (is_program : IsProgramOf (trial_text count) p g) where
+  refused_or_tried : (a : Answer) → AnswersTrial count a → ⊥
+  refused_or_tried (Refused cause) h = no_cause law (trial_text count) p g cause is_program h
+  refused_or_tried (Absent name) h = h
+  refused_or_tried (Usage word) h = h
+  refused_or_tried (NotYet line) h = h
+  refused_or_tried CertificateLong h = h
+  refused_or_tried (CertificateBad line) h = h
+  refused_or_tried (CertificateMisfit what found wanted) h = h
+  refused_or_tried (NotInductive edge gap) h = h
+  refused_or_tried (Report alarms) h = h
+
+  -- words that ask for the trial of a program have no answer
+  pub answered_or_tried : (a : Answer) → Answers known words a → IsCommand words (command.trial count) → ⊥
+  answered_or_tried a (inl (none, e)) said = none (command.trial count) said
+  answered_or_tried a (inr (c, is, h)) said =
+      refused_or_tried a
+      (subst (λ (x : Command). AnswersCommand known x a) (one_reading words c (command.trial count) is said) h)

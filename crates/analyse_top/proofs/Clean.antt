@@ -24,7 +24,7 @@ use Rattle.command_answers.proofs.Statuses.{above_one, low_status, never_low, no
 use Rattle.check_command.specs.Answers.{AnswersCheck, AnswersProgram}
 use Rattle.analyse_top.specs.Answers.{Answers, AnswersCommand}
 use Rattle.analyse_top.specs.Conclusion.{Concludes, IsExact, CleanIsSafe, EndsBy, EndsByAnswer, NameAllFaults, ReportsAreComplete, IsAccepted, AcceptsExactly, report_on}
-use Rattle.analyse_top.proofs.Words.{analyse_or_check, check_or_run}
+use Rattle.analyse_top.proofs.Words.{analyse_or_check, check_or_run, check_or_trial}
 
 -- ---- what a report says
 
@@ -91,7 +91,7 @@ module _ (sound : CheckingIsSound) (one_reading : OneReading) (contents : Conten
   reported alarms words is (inl (none, usage)) = absurd (none (check source certificate) is)
   reported alarms words is (inr (c, also, answers)) =
       let same = one_reading words c (check source certificate) also is in
-      reported_for alarms (subst (λ (x : Command). AnswersCommand contents x (Report alarms)) same answers)
+      reported_for alarms (subst (λ (x : Command). AnswersCommand (Some contents) x (Report alarms)) same answers)
 
   -- a call that ends at 0 or 1 shows a report
   pub record Shown (call : Call) : Type 0 where
@@ -130,7 +130,8 @@ module _ (sound : CheckingIsSound) (one_reading : OneReading) (contents : Conten
     shown_report concludes = elim concludes [
       | inl without ↦ without_run without
       | inr (inl a) ↦ absurd (analyse_or_check one_reading call.words a.source a.certificate source certificate a.said is)
-      | inr (inr (t, result, asks, runs)) ↦
+      | inr (inr (inl t)) ↦ absurd (check_or_trial one_reading call.words source certificate t.count is t.said)
+      | inr (inr (inr (t, result, asks, runs))) ↦
           absurd (check_or_run one_reading call.words source certificate asks.run is asks.said)
     ]
 

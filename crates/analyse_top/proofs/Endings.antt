@@ -1,6 +1,6 @@
 -- From what the parts did to how the call ends.
 use Rattle.std.proofs.Common.{◌≡◌, ℕ, true, false, List, length, refl, sym, ap, ◌∙◌, inl, inr, Result, Ok, Err, arith}
-use Rattle.std.specs.Prelude.{IfOk, IfSome, Option}
+use Rattle.std.specs.Prelude.{IfOk, MatchResult, Option}
 use Rattle.std.proofs.lemmas.Bool.{false≢true}
 use Rattle.std.proofs.lemmas.List.{take_all}
 use Rattle.std.specs.Io.KnownBytes.{append_known}
@@ -18,6 +18,7 @@ use Rattle.command_answers.specs.Showing.{Gains, GainsFront, ShowsRefusal}
 use Rattle.command_answers.specs.Call.{Call}
 use Rattle.command_answers.specs.Steps.{Reads, stopped_by_fault, ShowsAnswer, ShowsFound}
 use Rattle.command_answers.specs.View.{plain_answer, plain_result}
+use Rattle.trial_command.specs.Endings.{AnswersTrial}
 use Rattle.analyse_top.specs.Answers.{Answers, AnswersCommand}
 use Rattle.analyse_top.specs.Conclusion.{EndsBy, EndsByAnswer, MayBeShown}
 
@@ -94,7 +95,22 @@ reads_nothing files = record {
 
 -- what a command is answered
 pub answers_command : (result : Result code.Answer Stop) (known : Option Contents) (words : List (List ℕ)) (c : Command)
-    → IsCommand words c → IfOk result (λ answer. IfSome known (λ contents. AnswersCommand contents c (plain_answer answer)))
+    → IsCommand words c → IfOk result (λ answer. AnswersCommand known c (plain_answer answer))
     → IfOk result (λ answer. Answers known words (plain_answer answer))
 answers_command (Ok answer) known words c is h = inr (c, is, h)
 answers_command (Err stop) known words c is h = tt
+
+-- a trial answers for its source, or memory ran out
+pub answered_trial : (result : Result code.Answer Stop) (count : ℕ)
+    → MatchResult result (λ answer. AnswersTrial count (plain_answer answer)) (λ end. end ≡ stop.Memory)
+    → IfOk result (λ answer. AnswersTrial count (plain_answer answer))
+answered_trial (Ok answer) count h = h
+answered_trial (Err end) count h = tt
+
+-- so that it tells no fault of the files
+pub trial_reads_nothing : (files : FilesState) (result : Result code.Answer Stop) (count : ℕ)
+    → MatchResult result (λ answer. AnswersTrial count (plain_answer answer)) (λ end. end ≡ stop.Memory)
+    → Reads files files (stopped_by_fault result)
+trial_reads_nothing files (Ok answer) count h = reads_nothing files
+trial_reads_nothing files (Err stop.ReadFault) count h = cc
+trial_reads_nothing files (Err stop.Memory) count h = reads_nothing files

@@ -1,4 +1,4 @@
--- Each answer is given exactly where it is the answer, and what is asked for is run to its own end.
+-- Each answer is given exactly where it is the answer, and what is asked for is found, or run to its own end.
 use Rattle.std.proofs.Common.{◌≡◌, ℕ, ◌⊎◌, List, Option, Some, Result, subst, inl, inr}
 use Rattle.std.specs.Prelude.{IfSome}
 use Rattle.std.specs.FinMap.{get}
@@ -20,10 +20,10 @@ use Rattle.run_command.specs.Runs.{Task, AsksFor}
 use Rattle.run_command.proofs.Asked.{one_for_run}
 use Rattle.run_command.proofs.RunEnds.{IsRefusal, EndsSomewhere, refused_or_ends}
 use Rattle.analyse_top.specs.Answers.{Answers}
-use Rattle.analyse_top.specs.Conclusion.{Concludes, IsExact, AnalysesExactly, AnswersExactly, RunsExactly, FailsToRun, EndsBy, EndsByAnswer, EndsByMemory, EndsByReadFault, EndsByRun}
-use Rattle.analyse_top.proofs.AskedOnce.{asked_once, answered_or_analysed, answered_or_asked}
+use Rattle.analyse_top.specs.Conclusion.{Concludes, IsExact, AnalysesExactly, AnswersExactly, RunsExactly, TrialsExactly, FailsToRun, EndsBy, EndsByAnswer, EndsByMemory, EndsByReadFault, EndsByRun}
+use Rattle.analyse_top.proofs.AskedOnce.{asked_once, answered_or_analysed, answered_or_asked, answered_or_tried}
 use Rattle.analyse_top.proofs.OneAnswer.{one_answer}
-use Rattle.analyse_top.proofs.Words.{analyse_or_run}
+use Rattle.analyse_top.proofs.Words.{analyse_or_run, analyse_or_trial, trial_or_run}
 
 module _ (law : (bytes : List ℕ) → OneAnswer bytes) (one_reading : OneReading) (graphs : OneGraph)
     (one_end : OneEnd) (laws : TextsAreApart) where
@@ -60,7 +60,10 @@ module _ (law : (bytes : List ℕ) → OneAnswer bytes) (one_reading : OneReadin
     | inr (inl a) ↦
         absurd (answered_or_analysed law graphs one_reading contents call.words answer a.source a.certificate
         a.analysis.program a.analysis.graph is a.said (analysed_program call contents known a))
-    | inr (inr (t, result, asks, runs)) ↦
+    | inr (inr (inl t)) ↦
+        absurd (answered_or_tried law one_reading (Some contents) call.words t.count t.analysis.program t.analysis.graph
+        t.is_of.is_program answer is t.said)
+    | inr (inr (inr (t, result, asks, runs))) ↦
         let here = subst (λ (k : Option Contents). AsksFor k call.words t) known asks in
         absurd (answered_or_asked law graphs one_reading contents call.words answer t is here)
   ]
@@ -76,8 +79,25 @@ module _ (law : (bytes : List ℕ) → OneAnswer bytes) (one_reading : OneReadin
       | inr fault ↦ inr fault
     ]
     | inr (inl a) ↦ inl a
-    | inr (inr (t, result, asks, runs)) ↦
+    | inr (inr (inl t)) ↦ absurd (analyse_or_trial one_reading call.words source certificate t.count said t.said)
+    | inr (inr (inr (t, result, asks, runs))) ↦
         absurd (analyse_or_run one_reading call.words source certificate asks.run said asks.said)
+  ]
+
+  -- ---- trials
+
+  trials_exactly : (call : Call) → Concludes call → TrialsExactly call
+  trials_exactly call concludes count p g said is = elim concludes [
+    | inl without ↦ elim without.ends [
+      | inl (answer, ends) ↦
+          absurd (answered_or_tried law one_reading (known_bytes call.files_before) call.words count p g is answer
+          ends.is_answer said)
+      | inr fault ↦ inr fault
+    ]
+    | inr (inl a) ↦ absurd (analyse_or_trial one_reading call.words a.source a.certificate count a.said said)
+    | inr (inr (inl t)) ↦ inl t
+    | inr (inr (inr (t, result, asks, runs))) ↦
+        absurd (trial_or_run one_reading call.words count asks.run said asks.said)
   ]
 
   -- ---- runs
@@ -116,7 +136,8 @@ module _ (law : (bytes : List ℕ) → OneAnswer bytes) (one_reading : OneReadin
   runs_exactly call concludes contents t result steps known asks is_end = elim concludes [
     | inl without ↦ no_run call contents t result steps known asks is_end without
     | inr (inl a) ↦ absurd (analyse_or_run one_reading call.words a.source a.certificate asks.run a.said asks.said)
-    | inr (inr (u, other, asked, runs)) ↦
+    | inr (inr (inl u)) ↦ absurd (trial_or_run one_reading call.words u.count asks.run u.said asks.said)
+    | inr (inr (inr (u, other, asked, runs))) ↦
         let here = subst (λ (k : Option Contents). AsksFor k call.words u) known asked in
         let same = asked_once law graphs one_reading contents call.words u t here asks in
         this_run call contents t result steps known asks is_end other
@@ -127,5 +148,6 @@ module _ (law : (bytes : List ℕ) → OneAnswer bytes) (one_reading : OneReadin
   is_exact call concludes = record {
     answers = answers_exactly call concludes;
     analyses = analyses_exactly call concludes;
+    trials = trials_exactly call concludes;
     runs = runs_exactly call concludes;
   }

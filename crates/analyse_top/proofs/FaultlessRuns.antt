@@ -25,7 +25,7 @@ use Rattle.run_command.specs.Runs.{Task, HoldsTask, AsksFor, TellsEnd, run_statu
 use Rattle.run_command.proofs.RunEnds.{refused_or_ends}
 use Rattle.analyse_top.specs.Answers.{Answers, AnswersCommand}
 use Rattle.analyse_top.specs.Conclusion.{Concludes, IsClean, EndsBy, EndsByRun, EndsByAnswer, RunsClean, CleanRunsMeetNoFault}
-use Rattle.analyse_top.proofs.Words.{analyse_or_run, one_run}
+use Rattle.analyse_top.proofs.Words.{analyse_or_run, one_run, trial_or_run}
 
 -- ---- a status of 1 tells a fault
 
@@ -77,7 +77,7 @@ module _ (law : (bytes : List ℕ) → OneAnswer bytes) where
     no_report alarms (inl (none, usage)) = none (command.run runs.asked) runs.said
     no_report alarms (inr (c, said, answers)) =
         let same = reading call.words c (command.run runs.asked) said runs.said in
-        subst (λ (x : Command). AnswersCommand runs.told x (Report alarms)) same answers
+        subst (λ (x : Command). AnswersCommand (Some runs.told) x (Report alarms)) same answers
 
     by_answer : (answer : Answer) → EndsBy call answer → ⊥
     by_answer answer ends = elim ends.shows [
@@ -118,7 +118,8 @@ module _ (law : (bytes : List ℕ) → OneAnswer bytes) where
     not_one concludes = elim concludes [
       | inl without ↦ without_run without
       | inr (inl a) ↦ analyse_or_run reading call.words a.source a.certificate runs.asked a.said runs.said
-      | inr (inr (t, result, asks, ends)) ↦ by_run t result asks ends
+      | inr (inr (inl t)) ↦ trial_or_run reading call.words t.count runs.asked t.said runs.said
+      | inr (inr (inr (t, result, asks, ends))) ↦ by_run t result asks ends
     ]
 
   pub clean_runs_meet_no_fault : OneReading → (call : Call) → Concludes call → CleanRunsMeetNoFault call

@@ -1,5 +1,5 @@
 -- How a call of the program ends: its status, what it shows, and what it leaves.
-use Rattle.std.specs.Prelude.{◌≡◌, ◌<◌, ◌+◌, ◌*◌, ℕ, ◌⊎◌, List, [], length, Some, Result, Err}
+use Rattle.std.specs.Prelude.{◌≡◌, ◌<◌, ◌+◌, ◌*◌, ℕ, ◌⊎◌, List, [], ◌++◌, length, Some, Result, Err}
 use Rattle.std.specs.List.{Contains}
 use Rattle.std.specs.FinMap.{get, insert}
 use Rattle.batch_io.specs.Faults.{Rose}
@@ -27,11 +27,14 @@ use Rattle.command_words.specs.Commands.{Run, IsCommand}
 use Rattle.command_words.specs.Commands as command
 use Rattle.command_answers.specs.Text.{memory_line, read_fault_line}
 use Rattle.command_answers.specs.Showing.{Gains, GainsFront, Shows}
+use Rattle.command_answers.specs.Profile.{IsProgramOf}
 use Rattle.command_answers.specs.Answer.{Answer, Report, HoldsProgram, answer_text, status_of, status_unwritten}
 use Rattle.command_answers.specs.Call.{Call}
 use Rattle.check_command.specs.Answers.{HoldsCertificate, certificate_limit}
 use Rattle.analyse_command.specs.Analysis.{Analysis, CanBeClean, IsAnalysisOf, pairs_of, report_of, text_of}
 use Rattle.analyse_command.specs.Endings.{IsTooLong, EndsByAnalysis}
+use Rattle.trial_source.specs.Trial.{trial_text}
+use Rattle.trial_command.specs.Endings.{EndsByTrial, IsTrialOf, nodes_line, trial_name}
 use Rattle.run_command.specs.Runs.{Task, HoldsTask, AsksFor, RunsTo}
 use Rattle.analyse_top.specs.Answers.{Answers}
 
@@ -74,10 +77,11 @@ abbrev pub EndsByRun : Call → Task → Result Ended RunEnd → Type 0
 EndsByRun call t result =
     RunsTo t (outside call.files_before call.out_before) (outside call.files_after call.out_after) result call.status
 
--- No file is changed, or a certificate is found for what the words name, or the task that they ask for is run.
+-- No file is changed, or a certificate is found for the source that the words name or for a trial's, or the task that
+-- they ask for is run.
 abbrev pub Concludes : Call → Type 0
 Concludes call =
-    EndsByAnswer call ⊎ EndsByAnalysis call
+    EndsByAnswer call ⊎ EndsByAnalysis call ⊎ EndsByTrial call
     ⊎ ((t : Task) × (result : Result Ended RunEnd)
     × AsksFor (known_bytes call.files_before) call.words t × EndsByRun call t result)
 
@@ -112,10 +116,18 @@ AnalysesExactly call =
     → HoldsProgram contents source p g
     → EndsByAnalysis call ⊎ EndsByReadFault call ⊎ EndsByMemory call
 
--- Where the contents are known, answers, analyses and runs are exact.
+-- A certificate is found for each trial whose source is of the profile, unless a read failed or memory ran out.
+abbrev pub TrialsExactly : Call → Type 0
+TrialsExactly call =
+    (count : ℕ) (p : Program) (g : Graph)
+    → IsCommand call.words (command.trial count) → IsProgramOf (trial_text count) p g
+    → EndsByTrial call ⊎ EndsByReadFault call ⊎ EndsByMemory call
+
+-- Where the contents are known, answers, analyses, trials and runs are exact.
 pub record IsExact (call : Call) : Type 0 where
   pub answers : AnswersExactly call
   pub analyses : AnalysesExactly call
+  pub trials : TrialsExactly call
   pub runs : RunsExactly call
 
 -- ---- the headline
@@ -219,18 +231,48 @@ AnalysesAreAccepted call =
     → known_bytes call.files_before ≡ Some contents → (call.status ≡ 0) ⊎ (call.status ≡ 1)
     → IsAnalysed contents call source certificate
 
--- Where an assignment with thresholds at heads shows that no fault is met, the report says so.
-abbrev pub AnalysesFindClean : Call → Type 0
-AnalysesFindClean call =
-    (contents : Contents) (source certificate : List ℕ) (p : Program) (g : Graph)
-    → IsCommand call.words (command.analyse source certificate) → known_bytes call.files_before ≡ Some contents
-    → HoldsProgram contents source p g → CanBeClean p g → call.status ≡ 1 → ⊥
+-- ---- when `trial` answers 0 or 1
 
--- A text is too long only where the program's cells and nodes are many.
-abbrev pub LongTextsAreOfLargePrograms : Call → Type 0
-LongTextsAreOfLargePrograms call =
-    (a : EndsByAnalysis call) → IsTooLong call a.analysis
-    → certificate_limit < 2000 + length a.analysis.graph.nodes * (10 + 46 * length (cells_of a.analysis.program))
+-- The certificate is written, and the number of nodes is shown and then the report, which names all faults.
+pub record IsTried (contents : Contents) (call : Call) (count : ℕ) : Type 0 where
+  pub analysis : Analysis
+  pub is_of : IsTrialOf count analysis
+  -- the other files hold what they held
+  pub left : known_bytes call.files_after ≡ Some (insert contents trial_name (text_of analysis))
+  pub held : HoldsCertificate (insert contents trial_name (text_of analysis)) trial_name analysis.claims
+  -- `check` accepts it for this source, wherever both are held, with the same pairs
+  pub accepted : (later : Contents) (source certificate : List ℕ) → get later source ≡ Some (trial_text count)
+      → get later certificate ≡ Some (text_of analysis) → IsAccepted later source certificate (pairs_of analysis)
+  pub status : status_of (report_of analysis) ≡ call.status
+  pub shown : Gains call.out_before call.out_after
+      (nodes_line (length analysis.graph.nodes) ++ answer_text (report_of analysis))
+  pub named : NameAllFaults (alarms_of analysis.program (pairs_of analysis)) analysis.program
+
+abbrev pub TrialsAreAccepted : Call → Type 0
+TrialsAreAccepted call =
+    (contents : Contents) (count : ℕ) → IsCommand call.words (command.trial count)
+    → known_bytes call.files_before ≡ Some contents → (call.status ≡ 0) ⊎ (call.status ≡ 1)
+    → IsTried contents call count
+
+-- ---- nothing is missed
+
+-- Where an assignment with thresholds at heads shows that no fault is met, the report says so.
+pub record FindsClean (call : Call) : Type 0 where
+  pub analyses : (contents : Contents) (source certificate : List ℕ) (p : Program) (g : Graph)
+      → IsCommand call.words (command.analyse source certificate) → known_bytes call.files_before ≡ Some contents
+      → HoldsProgram contents source p g → CanBeClean p g → call.status ≡ 1 → ⊥
+  pub trials : (count : ℕ) (p : Program) (g : Graph)
+      → IsCommand call.words (command.trial count) → IsProgramOf (trial_text count) p g
+      → CanBeClean p g → call.status ≡ 1 → ⊥
+
+-- the program's cells and nodes are many
+abbrev pub IsLarge : Analysis → Type 0
+IsLarge a = certificate_limit < 2000 + length a.graph.nodes * (10 + 46 * length (cells_of a.program))
+
+-- A text is too long only where they are.
+pub record LongTextsAreOfLargePrograms (call : Call) : Type 0 where
+  pub analyses : (a : EndsByAnalysis call) → IsTooLong call a.analysis → IsLarge a.analysis
+  pub trials : (t : EndsByTrial call) → IsTooLong call t.analysis → IsLarge t.analysis
 
 -- ---- runs of what is clean
 

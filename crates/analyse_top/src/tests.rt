@@ -44,7 +44,7 @@ fn files_of(alloc: Global, failing: u64) -> Result<MemFiles, AllocError> {
 
 // Words, and by the number of the call on files that fails the status and what is shown. Open, two reads or more and
 // close read a file; create and close empty one, and create, write and close put one.
-const FAULTS: [(&str, u64, u8, &str); 12] = [
+const FAULTS: [(&str, u64, u8, &str); 16] = [
     ("check S C", 1, 5, "E3 read\n"),
     ("check S C", 4, 5, "E3 read\n"),
     ("check S C", 5, 5, "E3 read\n"),
@@ -54,6 +54,10 @@ const FAULTS: [(&str, u64, u8, &str); 12] = [
     ("analyse S C", 6, 6, "E4 write\n"),
     ("analyse S C", 7, 6, "E4 write\n"),
     ("analyse S C", 100, 0, "clean\n"),
+    ("trial 1", 1, 6, "E4 write\n"),
+    ("trial 1", 2, 6, "E4 write\n"),
+    ("trial 1", 3, 6, "E4 write\n"),
+    ("trial 1", 100, 0, "nodes 11\nclean\n"),
     ("run W", 4, 5, "E3 read\n"),
     ("run W", 5, 6, "E4 write\n"),
     ("run W", 100, 0, "B\n"),
@@ -82,6 +86,7 @@ fn a_text_that_the_sink_refuses_has_its_status(rt: HostRuntime) -> Result<(), Fa
     for (line, status) in [
         ("check S C", 6),
         ("analyse S C", 6),
+        ("trial 1", 6),
         ("check S", 4),
         ("run W", 6),
     ] {

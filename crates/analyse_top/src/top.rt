@@ -7,7 +7,7 @@ ghost use Rattle.command_answers.specs.Answer.{Usage};
 ghost use Rattle.command_answers.specs.Call.{call};
 ghost use Rattle.command_answers.specs.Steps.{ShowsFound};
 ghost use Rattle.analyse_top.specs.Answers.{first_word};
-ghost use Rattle.analyse_top.specs.Conclusion.{Concludes, IsExact, AcceptsExactly, AnalysesAreAccepted, AnalysesFindClean, CleanIsSafe, CleanRunsMeetNoFault, LongTextsAreOfLargePrograms, ReportsAreComplete};
+ghost use Rattle.analyse_top.specs.Conclusion.{Concludes, IsExact, AcceptsExactly, AnalysesAreAccepted, CleanIsSafe, CleanRunsMeetNoFault, FindsClean, LongTextsAreOfLargePrograms, ReportsAreComplete, TrialsAreAccepted};
 
 use analyse_command::{findings_for, tell};
 use batch_io::{Files, Sink};
@@ -22,6 +22,7 @@ use command_words::{Command, RunWords, command_of, one_reading};
 use run_command::{run, task_for};
 use source_facts::sources_have_source_graphs;
 use std::alloc::Global;
+use trial_command::{TRIAL_NAME, trial_findings};
 
 /// Runs the command that the words name, without the program's own name. It shows its report, the text that a run
 /// shows, or the one line of a refusal, in `out`, and gives the process's status.
@@ -43,7 +44,9 @@ pub fn cobsound<F: Files, O: Sink>(
         (F.state files.old) (F.state files.new) (O.state out.old) (O.state out.new) result) }
     ensures analysed { AnalysesAreAccepted (call (texts words.now.items)
         (F.state files.old) (F.state files.new) (O.state out.old) (O.state out.new) result) }
-    ensures misses { AnalysesFindClean (call (texts words.now.items)
+    ensures tried { TrialsAreAccepted (call (texts words.now.items)
+        (F.state files.old) (F.state files.new) (O.state out.old) (O.state out.new) result) }
+    ensures misses { FindsClean (call (texts words.now.items)
         (F.state files.old) (F.state files.new) (O.state out.old) (O.state out.new) result) }
     ensures long { LongTextsAreOfLargePrograms (call (texts words.now.items)
         (F.state files.old) (F.state files.new) (O.state out.old) (O.state out.new) result) }
@@ -69,25 +72,22 @@ fn conclude<F: Files, O: Sink>(alloc: Global, words: &[String], files: &mut F, o
         (F.state files.old) (F.state files.new) (O.state out.old) (O.state out.new) result) }
 {
     match command_of(alloc, words) {
-        Ok(Some(said)) => conclude_command(alloc, &said, words, files, out),
+        Ok(Some(said)) => conclude_command(alloc, &said, files, out),
         Ok(None) => show_usage(alloc, words, out),
         Err(_) => show_found(alloc, Err(Stop::Memory), out),
     }
 }
 
-// Runs a command that the words say. Trials aren't done yet.
+// Runs a command that the words say.
 fn conclude_command<F: Files, O: Sink>(
     alloc: Global,
     said: &Command,
-    words: &[String],
     files: &mut F,
     out: &mut O,
 ) -> u8
-    requires { IsCommand (texts words.now) (plain_command said.now) }
-    ensures { Concludes (call (texts words.now)
-        (F.state files.old) (F.state files.new) (O.state out.old) (O.state out.new) result) }
+    ensures { (words : List (List ℕ)) → IsCommand words (plain_command said.now)
+        → Concludes (call words (F.state files.old) (F.state files.new) (O.state out.old) (O.state out.new) result) }
 {
-    one_reading();
     match said {
         Command::Analyse {
             source,
@@ -98,7 +98,7 @@ fn conclude_command<F: Files, O: Sink>(
             certificate,
         } => conclude_check(alloc, source, certificate, files, out),
         Command::Run(said) => conclude_run(alloc, said, files, out),
-        Command::Trial { .. } => show_usage(alloc, words, out),
+        Command::Trial { count } => conclude_trial(alloc, *count, files, out),
     }
 }
 
@@ -142,6 +142,18 @@ fn conclude_run<F: Files, O: Sink>(alloc: Global, said: &RunWords, files: &mut F
 {
     match task_for(alloc, said, files) {
         Ok(task) => run(alloc, &task, files, out),
+        Err(found) => show_found(alloc, found, out),
+    }
+}
+
+// Finds a certificate for the source of a trial, writes it to a file, which it makes or empties, and shows the number of
+// nodes and the report. All texts are made before the file is.
+fn conclude_trial<F: Files, O: Sink>(alloc: Global, count: u32, files: &mut F, out: &mut O) -> u8
+    ensures { (words : List (List ℕ)) → IsCommand words (word.trial count)
+        → Concludes (call words (F.state files.old) (F.state files.new) (O.state out.old) (O.state out.new) result) }
+{
+    match trial_findings(alloc, count) {
+        Ok(findings) => tell(&findings, TRIAL_NAME, files, out),
         Err(found) => show_found(alloc, found, out),
     }
 }

@@ -14,6 +14,20 @@ use Rattle.command_answers.specs.Steps.{stopped_by_fault, answer_to}
 use Rattle.command_answers.specs.View.{plain_answer, plain_result}
 use Rattle.command_answers.proofs.Found.{at_held}
 
+-- the answer to a cause tells it
+pub answered : (cause : Refusal) (answer : Answer) → answer_to cause ≡ Ok answer → Refused cause ≡ answer
+answered end.TooLong answer e = cc
+answered (end.BadLine line column) answer e = cc
+answered (end.BadToken line column) answer e = cc
+answered (end.Syntax line) answer e = cc
+answered (end.Nesting count) answer e = cc
+answered (end.Outside rule line) answer e = cc
+answered (end.Limit which count) answer e = cc
+answered end.Memory answer e = absurd (cc e)
+
+pub not_memory : (cause : Refusal) (answer : Answer) → answer_to cause ≡ Ok answer → cause ≡ end.Memory → ⊥
+not_memory cause answer e memory = let f = ap answer_to (sym memory) ∙ e in cc
+
 module _ (source bytes : List ℕ) where
   refused_known : (known : Option Contents) (answer : Answer) (cause : Refusal)
       → IfSome known (λ contents. get contents source ≡ Some bytes)
@@ -23,19 +37,6 @@ module _ (source bytes : List ℕ) where
   refused_known (Some contents) answer cause held is e =
       subst (λ (a : Answer). AnswersSource contents source a) e
       (at_held (get contents source) bytes (λ bs. IsProfileCause bs cause) held is)
-
-  answered : (cause : Refusal) (answer : Answer) → answer_to cause ≡ Ok answer → Refused cause ≡ answer
-  answered end.TooLong answer e = cc
-  answered (end.BadLine line column) answer e = cc
-  answered (end.BadToken line column) answer e = cc
-  answered (end.Syntax line) answer e = cc
-  answered (end.Nesting count) answer e = cc
-  answered (end.Outside rule line) answer e = cc
-  answered (end.Limit which count) answer e = cc
-  answered end.Memory answer e = absurd (cc e)
-
-  not_memory : (cause : Refusal) (answer : Answer) → answer_to cause ≡ Ok answer → cause ≡ end.Memory → ⊥
-  not_memory cause answer e memory = let f = ap answer_to (sym memory) ∙ e in cc
 
   pub answers_refused : (result : Result code.Answer Stop) (cause : Refusal) (seen : List ℕ) (known : Option Contents)
       → IfSome known (λ contents. get contents source ≡ Some bytes)

@@ -3,7 +3,7 @@ use Rattle.command_words.specs.Words.{texts}
 use Rattle.command_answers.specs.Call.{call}
 use Rattle.check_command.proofs.OneCheck.{TextsAreApart}
 use Rattle.analyse_top.specs.Conclusion.{Concludes, IsExact}
-use Rattle.analyse_top.proofs.Analysed.{analyses_are_accepted, analyses_find_clean, long_texts_are_of_large_programs}
+use Rattle.analyse_top.proofs.Analysed.{analyses_are_accepted, finds_clean, long_texts_are_of_large_programs, trials_are_accepted}
 use Rattle.analyse_top.proofs.Clean.{accepts_exactly, checking_is_sound, clean_is_safe, reports_are_complete}
 use Rattle.analyse_top.proofs.Exact.{is_exact}
 use Rattle.analyse_top.proofs.FaultlessRuns.{clean_runs_meet_no_fault}
@@ -34,7 +34,8 @@ returns g c =
       reports = reports_are_complete sound one_reading this concludes;
       accepts = accepts_exactly sound one_reading this concludes exact;
       analysed = analyses_are_accepted sound one_reading this concludes;
-      misses = analyses_find_clean sound one_reading this concludes c.one_answer.ensures c.graphs_are_one.ensures.graph;
+      tried = trials_are_accepted sound one_reading this concludes;
+      misses = finds_clean sound one_reading this concludes c.one_answer.ensures c.graphs_are_one.ensures.graph;
       long = long_texts_are_of_large_programs c.texts_of_certificates_are_short.ensures this;
       runs = clean_runs_meet_no_fault c.one_answer.ensures one_reading this concludes;
     }

@@ -14,13 +14,13 @@ returns-in-Ok g c =
     let files = g.F.Files.state c.args.files.now in
     let middle = g.F.Files.state c.task_for.new.files in
     let after = outside (g.F.Files.state c.run.new.files) (g.O.Sink.state c.run.new.out) in
-    λ words said. inr (inr (
+    λ words said. inr (inr (inr (
       t,
       c.run.ensures.0,
       asks_for (known_bytes files) words (plain_run c.args.said.now) t said c.in-Ok.ensures.holds,
       runs_behind t files middle (g.O.Sink.state c.args.out.now) after c.run.ensures.0 c.run.result
           c.in-Ok.ensures.reads c.run.ensures.1,
-    ))
+    )))
 
 pub returns-in-Err : goal.returns-in-Err
 returns-in-Err g c =
