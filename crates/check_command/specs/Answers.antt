@@ -15,6 +15,8 @@ use Rattle.cert_check.specs.Checking.{Accepts, Refuses}
 use Rattle.alarm_report.specs.Alarms.{alarms_of}
 use Rattle.command_answers.specs.Answer.{Answer, Absent, NotYet, CertificateLong, CertificateBad, CertificateMisfit, NotInductive, Report, HoldsProgram, AnswersSource}
 
+-- ---- the certificate
+
 abbrev pub certificate_limit : ℕ
 certificate_limit = 67108864
 
@@ -27,6 +29,8 @@ pub record HoldsCertificate (contents : Contents) (name : List ℕ) (c : Certifi
 -- the line that tells the number of packs
 abbrev pub packs_line : ℕ
 packs_line = 4
+
+-- ---- the answer
 
 -- A refusal of a certificate that reads, or the statements that it leaves open. Certificates with packs aren't checked
 -- yet.

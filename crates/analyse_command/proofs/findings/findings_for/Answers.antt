@@ -1,0 +1,14 @@
+use Rattle.batch_io.specs.FilesState.{known_bytes}
+use Rattle.analyse_command.proofs.Telling.{found_in}
+use Rattle.analyse_command.proofs.findings.findings_for.Goals as goal
+
+pub found_for-requires : goal.found_for-requires
+found_for-requires g c = (c.in-Ok.ensures.holds.bytes, c.in-Ok.ensures.holds.is_laid)
+
+pub returns-in-Ok-found_for-clause-finding : goal.returns-in-Ok-found_for-clause-finding
+returns-in-Ok-found_for-clause-finding g c =
+    found_in c.in-Ok.laid (known_bytes (g.F.Files.state c.args.files.now)) c.args.source.now c.in-Ok.ensures.holds
+    c.in-Ok-found_for.findings c.in-Ok-found_for.ensures
+
+pub returns-in-Err-found_for-clause-reads : goal.returns-in-Err-found_for-clause-reads
+returns-in-Err-found_for-clause-reads g c = rw c.in-Err-found_for.ensures c.in-Ok.ensures.reads
