@@ -66,7 +66,7 @@ module _ (words : List (List ℕ)) (source certificate : List ℕ) (before middl
     (status : ℕ) where
   pub ends_by_analysis : IsCommand words (analyse source certificate) → Reads before middle false → (f : Findings)
       → IsFindingOf (known_bytes before) source f → KeepsIds middle after → after.reading ≡ middle.reading
-      → ((words : List (List ℕ)) (a : Analysis) → IsFinding a f
+      → ((words : List (List ℕ)) (heading : List ℕ) (a : Analysis) → IsFinding heading a f
       → EndsWithAnalysis (call words middle after old new status) certificate heading a)
       → EndsByAnalysis (call words before after old new status)
   ends_by_analysis said reads f found ids reading ends = record {
