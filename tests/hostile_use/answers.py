@@ -5,7 +5,7 @@ import re
 
 KINDS = ("SIZE", "TRUNCATION", "ZERO", "CLASS")
 NUMBER = r"(?:0|[1-9][0-9]*)"
-VALUE = rf"(?:0|-?[1-9][0-9]*)"
+VALUE = r"(?:0|-?[1-9][0-9]*)"
 ALARM = re.compile(rf"({'|'.join(KINDS)}) statement ({NUMBER}) line ({NUMBER})")
 RULE = r"(?:L(?:[1-9]|1[0-2])|Q(?:[1-9]|1[01])|N[1-5])"
 MOST_STORAGE = 1_048_576
@@ -16,7 +16,14 @@ LIMITS = {"nesting": 64, "items": 512, "storage": MOST_STORAGE, "files": 16, "ce
 PLACE = rf"reach|cell {NUMBER} class|cell {NUMBER} (?:low|high) reached {VALUE} claimed {VALUE}"
 
 # behind the words and the files, by command and status: the line of a refusal
-COMMON = {2: SOURCE, 4: r"E1 usage(?: .+)?", 5: "E3 read", 7: r"E2 absent .*", 8: "E19 memory", 9: rf"E10 [a-z]+ {NUMBER}"}
+COMMON = {
+    2: SOURCE,
+    4: r"E1 usage(?: .+)?",
+    5: "E3 read",
+    7: r"E2 absent .*",
+    8: "E19 memory",
+    9: rf"E10 [a-z]+ {NUMBER}",
+}
 CHECK = {
     **COMMON,
     2: rf"{SOURCE}|E20 line 4",
@@ -101,6 +108,5 @@ def faults_of_refusal(command, status, out, line):
 
 def is_of_the_source(answer):
     """Whether the source is refused, for a cause that every command tells."""
-    return re.match(r"E(5|6|7|8|9|10) ", answer.line()) is not None and answer.status in (2, 9) and (
-        "file-bytes" not in answer.line()
-    )
+    is_refusal = answer.status in (2, 9) and re.match(r"E(5|6|7|8|9|10) ", answer.line()) is not None
+    return is_refusal and "file-bytes" not in answer.line()

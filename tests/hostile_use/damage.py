@@ -5,11 +5,12 @@ import re
 # bytes that the form of sources or of certificates gives a meaning, or forbids
 MARKS = b"\x00\t\n\r \"'()*+,-./0129:;<=>ADDSXadx{}\x7f\x80\xff"
 NUMBERS = [
-    b"0", b"00", b"-0", b"+1", b"1", b"-1", b"9", b"18", b"19", b"32", b"33", b"64", b"65", b"512", b"513", b"4096", b"4097",
-    b"999999999999999999", b"1000000000000000000", b"-999999999999999999", b"-1000000000000000000", b"2147483647",
-    b"2147483648", b"4294967295", b"4294967296", b"4294967297", b"9223372036854775807", b"9223372036854775808",
-    b"18446744073709551615", b"18446744073709551616", b"1048576", b"1048577", b"67108864", b"9" * 37, b"1" + b"0" * 37,
-    b"-1" + b"0" * 37, b"1" + b"0" * 38, b"9" * 60, b"0.5", b"00000000000000000001", b"1E3",
+    b"0", b"00", b"-0", b"+1", b"1", b"-1", b"9", b"18", b"19", b"32", b"33", b"64", b"65", b"512", b"513", b"4096",
+    b"4097", b"999999999999999999", b"1000000000000000000", b"-999999999999999999", b"-1000000000000000000",
+    b"2147483647", b"2147483648", b"4294967295", b"4294967296", b"4294967297", b"9223372036854775807",
+    b"9223372036854775808", b"18446744073709551615", b"18446744073709551616", b"1048576", b"1048577", b"67108864",
+    b"9" * 37, b"1" + b"0" * 37, b"-1" + b"0" * 37, b"1" + b"0" * 38, b"9" * 60, b"0.5", b"00000000000000000001",
+    b"1E3",
 ]  # fmt: skip
 
 
@@ -109,7 +110,8 @@ def near_number(text, random):
     place = random.choice(found)
     at = random.randrange(*place.span())
     by_one = b"%d" % abs(int(place[0]) + random.choice((-1, 1)))
-    return random.choice((replaced(text, *place.span(), by_one), replaced(text, at, at + 1, b"%d" % random.randrange(10))))
+    other_digit = replaced(text, at, at + 1, b"%d" % random.randrange(10))
+    return random.choice((replaced(text, *place.span(), by_one), other_digit))
 
 
 def other_name(text, random):
@@ -173,6 +175,21 @@ def moved_claims(text, random):
     return changed_line(text, random, pattern, lambda place: b"node %b\n%b" % (place[1], claims))
 
 
+def added_pack(text, random):
+    """A pack more, of 2 to 9 cells, with bounds of its cells at a node."""
+    head = re.match(rb"COBSOUND 1\ncells (\d{1,3})\nnodes \d+\npacks (\d{1,2})\n((?:pack .*\n)*)", text)
+    if not head or int(head[1]) < 9:
+        return text
+    cells = sorted(random.sample(range(1, int(head[1]) + 1), random.randrange(2, 10)))
+    number = int(head[2]) + 1
+    packs = head[3] + b"pack %b\n" % b" ".join(b"%d" % cell for cell in cells)
+    front = text[: head.start(2)] + b"%d\n" % number + packs
+    places = sorted({(random.randrange(len(cells)), random.randrange(1, len(cells) + 1)) for _ in range(3)})
+    bounds = b"".join(b"d %d %d %d %b\n" % (number, *place, random.choice(NUMBERS)) for place in places)
+    pattern = rb"^node \d+\n(?:[cd] .*\n)*"
+    return front + changed_line(text[head.end() :], random, pattern, lambda place: place[0] + bounds)
+
+
 ROUGH = (
     turned_bit,
     turned_byte,
@@ -190,7 +207,7 @@ ROUGH = (
 )
 # these leave more of the form, so that what is behind it is reached
 OF_SOURCES = (near_number, near_number, near_number, other_name, other_name, dropped_line, doubled_line)
-OF_CERTIFICATES = (other_claim, point_claim, dropped_claim, unreached_node, moved_claims, near_number)
+OF_CERTIFICATES = (other_claim, point_claim, dropped_claim, unreached_node, moved_claims, near_number, added_pack)
 
 
 def damaged(text, random, gentle):

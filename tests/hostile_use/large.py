@@ -1,5 +1,5 @@
-"""What is as large as may be, or larger by a byte: certificates, input files of runs, files without an end; and programs
-that ask for much time or memory."""
+"""What is as large as may be, or larger by a byte: certificates, input files of runs, files without an end; and
+programs that ask for much time or memory."""
 
 import itertools
 
@@ -30,8 +30,8 @@ def certificate_bytes(nodes, is_odd):
 
 
 def shortenings(bytes_off):
-    """By how many letters the MOVE so many statements before the last but one shortens each end of its item's claims, so
-    that the certificate loses so many bytes. A MOVE tells of the nodes behind it: one, and its place from the end."""
+    """By how many letters the MOVE at each place before STOP RUN shortens both ends of its item's claims, so that the
+    certificate loses so many bytes. It does so at the nodes behind it: one more than its place."""
     found = {}
     for place in range(MOVES, 3, -1):
         found[place] = min(MOST_DIGITS, bytes_off // (2 * (place + 1)))
@@ -72,7 +72,6 @@ def tried(tally, folder, words, wanted, kind, files=None):
     faults = [] if is_right else [f"in place of {wanted[0]}, {wanted[1][-200:]!r}"]
     tally.add(answer, faults + [f"changes {name}" for name in changed], files or {}, kind)
     tally.step()
-    return answer
 
 
 def certificates(options):
@@ -83,12 +82,13 @@ def certificates(options):
     with Folder(options.program) as folder:
         text = longest()
         folder.put({SOURCE: text, CERT: OLD})
-        report = tried(tally, folder, ["analyse", SOURCE, CERT], (0, b"clean\n"), "the most bytes, analyse", {SOURCE: text})
+        clean, analysis = (0, b"clean\n"), ["analyse", SOURCE, CERT]
+        tried(tally, folder, analysis, clean, "the most bytes, analyse", {SOURCE: text})
         certificate = folder.known[CERT]
         tally.notes.append(f"the longest certificate that was written has {len(certificate)} bytes")
         if len(certificate) != MOST_CERTIFICATE:
             tally.fault(f"the certificate has {len(certificate)} bytes", {SOURCE: text})
-        tried(tally, folder, ["check", SOURCE, CERT], (report.status, report.out), "the most bytes, check")
+        tried(tally, folder, ["check", SOURCE, CERT], clean, "the most bytes, check")
         lines = certificate.count(b"\n")
         for changed, wanted, kind in (
             (certificate + b"\n", long, "a byte more, check"),
@@ -99,7 +99,7 @@ def certificates(options):
             folder.put({SOURCE: text, CERT: changed})
             tried(tally, folder, ["check", SOURCE, CERT], wanted, kind)
         folder.put({SOURCE: longest(-2), CERT: OLD})
-        tried(tally, folder, ["analyse", SOURCE, CERT], long, "two bytes more, analyse")
+        tried(tally, folder, analysis, long, "two bytes more, analyse")
     return tally
 
 
@@ -145,9 +145,16 @@ def repeated(terms, relations):
     return (FRONT + wrapped(words)).encode()
 
 
+def chain(count):
+    """Paragraphs each of which performs the next one."""
+    links = [f"P{number}. PERFORM P{number + 1}." for number in range(1, count)]
+    return (FRONT + lines_of(["PERFORM P1.", "STOP RUN.", *links, f"P{count}. EXIT."])).encode()
+
+
 def demanding(options):
-    """Programs that ask for much time: a loop for each cell, and one sum as long as a source can be. And programs whose
-    conditions are written out to more than any memory holds: in a gigabyte of address space the answer is status 8."""
+    """Programs that ask for much time: a loop for each cell, one sum as long as a source can be, paragraphs that
+    perform each other. And programs whose conditions are written out to more than any memory holds: in a gigabyte of
+    address space the answer is status 8."""
     tally = Tally("demanding programs", options.keep)
     loops = 511 * ["PERFORM 1 TIMES CONTINUE END-PERFORM."]
     long_sum = FRONT + wrapped(["COMPUTE", "N", "=", "1", *["+", "1"] * 230_000, "."])
@@ -155,6 +162,7 @@ def demanding(options):
     gigabyte = ["/bin/sh", "-c", 'ulimit -v 1000000; exec "$0" "$@"']
     for kind, text, wanted, shell in (
         ("511 loops over 512 cells", (FRONT + lines_of(loops)).encode(), (0, b"clean\n"), ()),
+        ("a chain of 30,000 paragraphs", chain(30_000), (9, b"E10 nodes 450045003\n"), ()),
         ("a sum of 230,001 numbers", long_sum.encode(), size, ()),
         ("a sum of 230,001 numbers in a gigabyte", long_sum.encode(), size, gigabyte),
         ("4,000 relations of 10,000 terms in a gigabyte", repeated(10_000, 4_000), (8, b"E19 memory\n"), gigabyte),

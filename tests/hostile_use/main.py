@@ -25,8 +25,8 @@ def found_program():
 def parsed(words):
     parser = argparse.ArgumentParser(
         prog="tests/hostile",
-        description="Uses the program hostilely, and says which answers aren't the specified ones. It tries the program "
-        "that COBSOUND_PROGRAM names, or the released one, one start after the other.",
+        description="Uses the program hostilely, and says which answers aren't the specified ones. It tries the "
+        "program that COBSOUND_PROGRAM names, or the released one, one start after the other.",
         epilog="Exit status: 0 where every answer is specified, 1 where there are faults.",
     )
     parser.add_argument("parts", nargs="*", metavar="PART", help=f"of {', '.join(PARTS)}; all without a word")

@@ -44,8 +44,8 @@ class Command:
         self.written = folder.known.get(self.target())
 
     def is_front(self, out):
-        """Whether this is a front of what is shown, in `run` with a front of the refusal's line behind it; or such a front
-        alone."""
+        """Whether this is a front of what is shown, in `run` with a front of the refusal's line behind it; or such a
+        front alone."""
         line = b"E19 memory\n"
         shown = [out.removesuffix(line[:length]) for length in range(len(line) + 1) if out.endswith(line[:length])]
         whole = self.own[1] if self.words[0] == "run" else b""

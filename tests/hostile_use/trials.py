@@ -178,11 +178,13 @@ class Tally:
         self.notes = []
 
     def shown_progress(self):
-        if sys.stderr.isatty() or self.tried % 500 == 0:
-            whole = f" of {self.count}" if self.count else ""
-            end = "" if sys.stderr.isatty() else "\n"
-            start = "\r\033[K" if sys.stderr.isatty() else ""
-            print(f"{start}{self.name}: {self.tried}{whole}, {len(self.faults)} faults", end=end, file=sys.stderr, flush=True)
+        """A line that tells how far it is: on a terminal always the same, else one now and then."""
+        whole = f" of {self.count}" if self.count else ""
+        line = f"{self.name}: {self.tried}{whole}, {len(self.faults)} faults"
+        if sys.stderr.isatty():
+            print(f"\r\033[K{line}", end="", file=sys.stderr, flush=True)
+        elif self.tried % 500 == 0:
+            print(line, file=sys.stderr, flush=True)
 
     def add(self, answer, faults, files, kind=None):
         """Counts an answer, by its command and how its line begins. The files are kept where there is a fault."""
@@ -208,6 +210,6 @@ class Tally:
             if content is not None:
                 (folder / name.replace("/", "_")).write_bytes(content)
         (folder / "FAULT").write_text(text + "\n")
-        print(f"{self.name}: {text}\n  kept in {folder}", flush=True)
+        print(f"\n{self.name}: {text}\n  kept in {folder}", flush=True)
         if len(self.faults) >= self.MOST_FAULTS:
             raise Stopped
