@@ -1,5 +1,5 @@
 -- What an edge makes of a row of matrices, beside what is known of cells at its source.
-use Rattle.std.specs.Prelude.{ℕ, nat_eq, ◌&&◌, not, if◌then◌else◌, Bool, List, [], ◌∷◌, map, ℤ, pos, Option, Some, None}
+use Rattle.std.specs.Prelude.{ℕ, nat_eq, ◌&&◌, not, if◌then◌else◌, List, [], ◌∷◌, map, ℤ, pos, Option, Some, None}
 use Rattle.cob_program.specs.Values.{◌>>=◌}
 use Rattle.cob_program.specs.Act.{Act, Program}
 use Rattle.cob_runs.specs.declared.action.Action.{Action}

@@ -1,5 +1,5 @@
 -- What receivers get, as linear forms over the cells of a pack.
-use Rattle.std.specs.Prelude.{ℕ, ◌&&◌, ◌||◌, if◌then◌else◌, Bool, true, false, List, ℤ, pos, negsuc, neg_ℤ, ◌^◌, Option, Some, None, is_some}
+use Rattle.std.specs.Prelude.{ℕ, ◌&&◌, if◌then◌else◌, Bool, true, false, List, ℤ, pos, neg_ℤ, ◌^◌, Option, Some, None, is_some}
 use Rattle.std.specs.List.{list_any}
 use Rattle.std.specs.Option.{option_map}
 use Rattle.decimal_interval.specs.Corners.{interval}
@@ -9,14 +9,12 @@ use Rattle.cob_program.specs.declared.act.How.{How}
 use Rattle.cob_program.specs.declared.act.How.TheVariants as how
 use Rattle.cob_program.specs.Sum.{Sum, MkSum, no_parts, more_parts, MkPart, no_factors, more_factors, MkFactor}
 use Rattle.cob_program.specs.Values.{◌>>=◌, root_of}
-use Rattle.cob_program.specs.Act.{Act, Program}
-use Rattle.cob_runs.specs.declared.action.Action.{Action}
+use Rattle.cob_program.specs.Act.{Program}
 use Rattle.cob_runs.specs.Computing.{items_in}
 use Rattle.cob_edge_parts.specs.Parts.{Amount, moved, computed, remaining, augmented}
 use Rattle.linear_form.specs.declared.form.Lin.{Lin}
 use Rattle.linear_form.specs.Forms.{if_small}
 use Rattle.linear_form.specs.Results.{sum_of}
-use Rattle.sum_ranges.specs.declared.ranged.Ranged.{Ranged}
 use Rattle.sum_ranges.specs.Ranged.{ranged}
 use Rattle.sum_ranges.specs.SumRanges.{product_range}
 use Rattle.sum_forms.specs.Constants.{constant_form, range_form, item_form}
@@ -28,7 +26,7 @@ use Rattle.cell_steps.specs.Cells.{units_of}
 use Rattle.cell_steps.specs.Operands.{settled}
 use Rattle.cell_steps.specs.Seen.{Seen}
 use Rattle.cell_steps.specs.Stores.{range_at}
-use Rattle.diff_steps.specs.Packs.{Pack, cell_of, pack_decimals, unit_of}
+use Rattle.diff_steps.specs.Packs.{Pack, cell_of, pack_decimals}
 use Rattle.diff_steps.specs.Moments.{Bytes, is_written}
 
 -- ---- literals

@@ -1,10 +1,10 @@
 -- What a relation of two sums leaves of a pack's matrix.
-use Rattle.std.specs.Prelude.{ℕ, ◌&&◌, nat_le, not, if◌then◌else◌, Bool, true, false, List, ℤ, pos, Option, Some, None}
+use Rattle.std.specs.Prelude.{ℕ, ◌&&◌, nat_le, if◌then◌else◌, Bool, true, false, List, ℤ, pos, Option, Some, None}
 use Rattle.decimal_interval.specs.Corners.{interval}
 use Rattle.cob_tree.specs.declared.token.Rel.{Rel}
 use Rattle.cob_program.specs.Sum.{Sum}
 use Rattle.cob_program.specs.Values.{◌>>=◌}
-use Rattle.cob_runs.specs.Deciding.{Order, below, equal, above, holds}
+use Rattle.cob_runs.specs.Deciding.{below, equal, above, holds}
 use Rattle.linear_form.specs.declared.form.Lin.{Lin}
 use Rattle.linear_form.specs.Forms.{if_small}
 use Rattle.linear_form.specs.Results.{sum_of}

@@ -1,7 +1,6 @@
 -- Changes of a pack's matrix.
-use Rattle.std.specs.Prelude.{ℕ, zero, suc, ◌+◌, ◌/◌, ◌%◌, nat_eq, ◌||◌, if◌then◌else◌, Bool, List, ℤ, pos, neg_ℤ, ◌*ℤ◌, slice_get, Option, Some, None}
+use Rattle.std.specs.Prelude.{ℕ, zero, suc, ◌+◌, ◌/◌, ◌%◌, nat_eq, ◌||◌, if◌then◌else◌, List, ℤ, pos, neg_ℤ, ◌*ℤ◌, slice_get, Option, Some, None}
 use Rattle.std.specs.Int.{int_min}
-use Rattle.decimal_interval.specs.declared.bounds.Interval.{Interval}
 use Rattle.cob_data.specs.declared.layout.Layout.{Layout}
 use Rattle.linear_form.specs.declared.form.Lin.{Lin}
 use Rattle.diff_bounds.specs.Matrix.{word, none}

@@ -1,8 +1,7 @@
 -- Packs of cells, and the storages of which a row of matrices is true.
-use Rattle.std.specs.Prelude.{ℕ, zero, suc, ◌+◌, ◌-◌, ◌*◌, ◌^◌, max, if◌then◌else◌, List, [], ◌∷◌, length, slice_get, ℤ, pos, ◌*ℤ◌, Option, Some, None}
+use Rattle.std.specs.Prelude.{ℕ, zero, suc, ◌+◌, ◌-◌, ◌^◌, max, if◌then◌else◌, List, [], ◌∷◌, length, slice_get, ℤ, pos, ◌*ℤ◌, Option, Some, None}
 use Rattle.std.specs.Option.{option_map}
 use Rattle.cob_data.specs.declared.layout.Layout.{Layout}
-use Rattle.cob_program.specs.Act.{Program}
 use Rattle.cob_program.specs.Values.{◌>>=◌}
 use Rattle.cob_runs.specs.Contents.{form_at, scale_of}
 use Rattle.dom_laws.specs.Meaning.{Storage}

@@ -1,12 +1,12 @@
 -- What each part of an edge makes of what is known of differences before it (Miné 2001).
-use Rattle.std.specs.Prelude.{ℕ, zero, suc, ◌&&◌, not, if◌then◌else◌, Bool, true, false, List, [], ◌∷◌, ◌++◌, ℤ, Option, Some, None}
+use Rattle.std.specs.Prelude.{ℕ, suc, ◌&&◌, not, Bool, true, false, List, [], ◌∷◌, ◌++◌, ℤ, Option, Some, None}
 use Rattle.dec_num.specs.declared.types.Mode.{Mode}
 use Rattle.cob_program.specs.Values.{◌>>=◌}
 use Rattle.cob_program.specs.Logic.{Test, numbers}
 use Rattle.cob_program.specs.Act.{Act, Program}
 use Rattle.cob_runs.specs.declared.action.Action.{Action}
 use Rattle.cob_runs.specs.Contents.{form_at}
-use Rattle.cob_edge_parts.specs.Parts.{Amount, moved, Part, read, unread, divide, store, bytes_in, guard, read_count, set_count, count_down, guard_count}
+use Rattle.cob_edge_parts.specs.Parts.{Amount, Part, store, bytes_in, guard, set_count, count_down}
 use Rattle.linear_form.specs.declared.form.Lin.{Lin}
 use Rattle.result_ranges.specs.Receivers.{receiver_of}
 use Rattle.cell_rows.specs.Known.{Known}

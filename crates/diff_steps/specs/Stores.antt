@@ -1,12 +1,11 @@
 -- What a store makes of a pack's matrix.
-use Rattle.std.specs.Prelude.{ℕ, ◌+◌, suc, ◌^◌, ◌-◌, ◌&&◌, ◌||◌, nat_le, if◌then◌else◌, Bool, true, false, List, [], ◌∷◌, ℤ, pos, int_le, Option, Some, None}
+use Rattle.std.specs.Prelude.{ℕ, suc, ◌||◌, nat_le, if◌then◌else◌, Bool, true, false, List, [], ◌∷◌, ℤ, pos, int_le, Option, Some, None}
 use Rattle.dec_num.specs.declared.types.Mode.{Mode}
 use Rattle.decimal_interval.specs.declared.bounds.Interval.{Interval}
 use Rattle.cob_program.specs.Values.{◌>>=◌}
 use Rattle.linear_form.specs.declared.form.Lin.{Lin}
 use Rattle.linear_form.specs.Forms.{if_small}
 use Rattle.linear_form.specs.Results.{sum_of}
-use Rattle.diff_bounds.specs.Matrix.{word}
 use Rattle.form_bounds.specs.Upper.{upper_of}
 use Rattle.sum_ranges.specs.declared.ranged.Ranged.{Ranged}
 use Rattle.store_error.specs.declared.known.Known as sure
@@ -15,7 +14,7 @@ use Rattle.result_ranges.specs.declared.amounts.AmountRange.{AmountRange}
 use Rattle.result_ranges.specs.declared.amounts.AmountRange.TheVariants as range
 use Rattle.sum_forms.specs.Constants.{constant_form}
 use Rattle.sum_forms.specs.SumForms.{turned_form}
-use Rattle.cell_storages.specs.Homes.{Home, is_home}
+use Rattle.cell_storages.specs.Homes.{Home}
 use Rattle.diff_steps.specs.Matrices.{forgotten, assigned, lesser}
 
 -- ---- what is surely known of an amount
