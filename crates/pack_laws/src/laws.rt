@@ -1,0 +1,50 @@
+//! What stands in a pack's changed matrix.
+ghost use Rattle.std.specs.Prelude.{ℕ, suc, ◌+◌, ◌^◌, ◌<◌, ◌≤◌, Bool, List, ℤ, pos, ◌*ℤ◌, Option};
+ghost use Rattle.dec_num.specs.declared.types.Mode.{Mode};
+ghost use Rattle.dec_num.specs.declared.types.Scaled.{Scaled};
+ghost use Rattle.linear_form.specs.declared.form.Lin.{Lin};
+ghost use Rattle.linear_form.specs.Forms.{coef, dot};
+ghost use Rattle.diff_bounds.specs.Matrix.{word};
+ghost use Rattle.diff_bounds.specs.Storages.{StandsIn};
+ghost use Rattle.form_bounds.specs.Values.{worths, IsOver};
+ghost use Rattle.form_images.specs.Assigned.{with_value, AreOperands};
+ghost use Rattle.form_images.specs.Demanded.{IsMet};
+ghost use Rattle.form_images.specs.Forgotten.{AgreeBut};
+ghost use Rattle.store_error.specs.declared.known.Known.{Known};
+ghost use Rattle.store_error.specs.Errors.{stored_units, AreSure};
+ghost use Rattle.store_error.specs.Scales.{Spans};
+ghost use Rattle.result_ranges.specs.Receivers.{kept_units};
+ghost use Rattle.diff_steps.specs.Matrices.{forgotten, demanded, lesser};
+ghost use Rattle.diff_steps.specs.Stores.{form_stored};
+
+/// Where a cell is forgotten, it may have any value or none.
+pub fn forgotten_values_are_free()
+    ensures { (size to : ℕ) (m : List ℤ) (cells other : ℕ → Option ℤ) → to ≤ size → StandsIn (size + 1) (word (size + 1) m) cells
+        → AgreeBut to cells other → StandsIn (size + 1) (word (size + 1) (forgotten size to m)) other }
+{}
+
+/// A demand loses no values that meet it.
+pub fn demanded_values_stay()
+    ensures { (size : ℕ) (form : Lin) (m : List ℤ) (cells : ℕ → Option ℤ) → size ≤ 8 → IsOver size form
+        → StandsIn (size + 1) (word (size + 1) m) cells → IsMet size cells form
+        → StandsIn (size + 1) (word (size + 1) (demanded size form m)) cells }
+{}
+
+/// Values that stand in two matrices stand in the lesser words of both.
+pub fn lesser_words_keep_values()
+    ensures { (size : ℕ) (a b : List ℤ) (cells : ℕ → Option ℤ) → StandsIn (size + 1) (word (size + 1) a) cells
+        → StandsIn (size + 1) (word (size + 1) b) cells → StandsIn (size + 1) (word (size + 1) (lesser size a b)) cells }
+{}
+
+/// Where a form shows a value, the value is stored, cut or rounded, at a cell whose unit is 10 ^ more of the pack's, and
+/// what is said to be known of it is so, the values with the stored one stand in the store's matrix. A cell without a
+/// sign gets the absolute value.
+pub fn stored_values_stand()
+    ensures { (size : ℕ) (cells : ℕ → Option ℤ) (m : List ℤ) (to : ℕ) → size ≤ 8 → 0 < to → to ≤ size
+        → StandsIn (size + 1) (word (size + 1) m) cells
+        → (form : Lin) (signed : Bool) (mode : Mode) (known : Known) (v : Scaled) (t more : ℕ) → IsOver size form
+        → AreOperands size cells form → AreSure known v t
+        → Spans (dot (coef form) (λ j. worths cells (suc j)) 8) form.constant v (t + more)
+        → StandsIn (size + 1) (word (size + 1) (form_stored size to signed mode (10 ^ more) known form m))
+        (with_value cells to (kept_units signed (stored_units mode v t) *ℤ pos (10 ^ more))) }
+{}
