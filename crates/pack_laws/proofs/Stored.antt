@@ -69,7 +69,7 @@ module _ (size : ℕ) (cells : ℕ → Option ℤ) where
 
   -- ---- forms with the same coefficients, or their multiples
 
-  dot_same : (c e v : ℕ → ℤ) (n : ℕ) → ((k : ℕ) → k < n → c k ≡ e k) → dot c v n ≡ dot e v n
+  pub dot_same : (c e v : ℕ → ℤ) (n : ℕ) → ((k : ℕ) → k < n → c k ≡ e k) → dot c v n ≡ dot e v n
   unfolding dot
   dot_same c e v zero h = refl
   dot_same c e v (suc n) h =
@@ -80,12 +80,12 @@ module _ (size : ℕ) (cells : ℕ → Option ℤ) where
   plus_none : (x : ℤ) → x +ℤ pos 0 ≡ x
   plus_none x = omega (arith, ints)
 
-  coef_widened : (form : Lin) (e : Interval) (k : ℕ) → k < 8 → coef (sum_of form (constant_form e)) k ≡ coef form k
+  pub coef_widened : (form : Lin) (e : Interval) (k : ℕ) → k < 8 → coef (sum_of form (constant_form e)) k ≡ coef form k
   coef_widened form e k h =
       coef-coefs_of (added_coefs form (constant_form e)) k h ∙ ap (λ (x : ℤ). coef form k +ℤ x) (coef-coefs_of (λ _. pos 0) k h) ∙ plus_none (coef form k)
 
   -- operands have values where coefficients are not 0
-  operands_of : (f g : Lin) → ((k : ℕ) → k < 8 → coef f k ≡ pos 0 → coef g k ≡ pos 0) → size ≤ 8 → AreOperands size cells f → AreOperands size cells g
+  pub operands_of : (f g : Lin) → ((k : ℕ) → k < 8 → coef f k ≡ pos 0 → coef g k ≡ pos 0) → size ≤ 8 → AreOperands size cells f → AreOperands size cells g
   operands_of f g none few are = record {
     values = λ j some within ne. are.values j some within (λ zero_. ne (none (j - 1) (omega arith) zero_));
   }
@@ -102,7 +102,7 @@ module _ (size : ℕ) (cells : ℕ → Option ℤ) where
         };
       }
 
-  coef_turned : (form : Lin) (k : ℕ) → k < 8 → coef (multiple_of form (negsuc 0)) k ≡ coef form k *ℤ negsuc 0
+  pub coef_turned : (form : Lin) (k : ℕ) → k < 8 → coef (multiple_of form (negsuc 0)) k ≡ coef form k *ℤ negsuc 0
   coef_turned form k h = coef-coefs_of (scaled_coefs form (negsuc 0)) k h
 
   turned_can : (form : Lin) (z : ℤ) → size ≤ 8 → CanBe form z → CanBe (multiple_of form (negsuc 0)) (neg_ℤ z)

@@ -5,5 +5,6 @@
 mod laws;
 
 pub use laws::{
-    demanded_values_stay, forgotten_values_are_free, lesser_words_keep_values, stored_values_stand,
+    demanded_values_stay, forgotten_values_are_free, known_cells_stand, lesser_words_keep_values,
+    ordered_values_stay, signs_are_sure, stored_values_stand,
 };
