@@ -4,3 +4,4 @@ pub mod Stored
 pub mod Known
 pub mod Signs
 pub mod Orders
+pub mod Rises

@@ -1,8 +1,9 @@
 -- What a form shows of a value, and the orders that a relation leaves.
-use Rattle.std.specs.Prelude.{◌≡◌, ℕ, suc, Bool, true, ℤ, pos, ◌<ℤ◌, Option}
+use Rattle.std.specs.Prelude.{◌≡◌, ◌≢◌, ℕ, suc, ◌+◌, ◌≤◌, Bool, true, List, ℤ, pos, ◌<ℤ◌, ◌≤ℤ◌, Option}
 use Rattle.dec_num.specs.declared.types.Scaled.{Scaled}
 use Rattle.linear_form.specs.declared.form.Lin.{Lin}
 use Rattle.linear_form.specs.Forms.{coef, dot}
+use Rattle.diff_bounds.specs.Matrix.{word}
 use Rattle.form_bounds.specs.Values.{worths, IsOver}
 use Rattle.form_images.specs.Assigned.{AreOperands}
 use Rattle.store_error.specs.Scales.{Spans}
@@ -18,3 +19,7 @@ pub record IsLeft (may_be_below may_be_even may_be_above : Bool) (d : Scaled) : 
   pub below : d.units <ℤ pos 0 → may_be_below ≡ true
   pub even : d.units ≡ pos 0 → may_be_even ≡ true
   pub above : pos 0 <ℤ d.units → may_be_above ≡ true
+
+-- off the diagonal no word is above the other matrix's
+pub record AreLowerOff (size : ℕ) (a b : List ℤ) : Type 0 where
+  pub words : (i j : ℕ) → i ≤ size → j ≤ size → i ≢ j → word (size + 1) a i j ≤ℤ word (size + 1) b i j

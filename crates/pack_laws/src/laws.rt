@@ -6,14 +6,15 @@ ghost use Rattle.cob_data.specs.declared.layout.Layout.{Layout};
 ghost use Rattle.dom_laws.specs.Meaning.{Storage};
 ghost use Rattle.linear_form.specs.declared.form.Lin.{Lin};
 ghost use Rattle.linear_form.specs.Forms.{coef, dot};
+ghost use Rattle.linear_form.specs.Results.{IsNarrower};
 ghost use Rattle.diff_bounds.specs.Matrix.{word};
 ghost use Rattle.diff_bounds.specs.Storages.{StandsIn};
-ghost use Rattle.form_bounds.specs.Values.{worths, IsOver};
+ghost use Rattle.form_bounds.specs.Values.{worths, AreLower, IsOver};
 ghost use Rattle.form_images.specs.Assigned.{with_value, AreOperands};
 ghost use Rattle.form_images.specs.Demanded.{IsMet};
 ghost use Rattle.form_images.specs.Forgotten.{AgreeBut};
 ghost use Rattle.store_error.specs.declared.known.Known.{Known};
-ghost use Rattle.store_error.specs.Errors.{stored_units, AreSure};
+ghost use Rattle.store_error.specs.Errors.{stored_units, AreSure, IsSurer};
 ghost use Rattle.store_error.specs.Scales.{Spans};
 ghost use Rattle.result_ranges.specs.Receivers.{kept_units};
 ghost use Rattle.cell_rows.specs.Known.{Known as KnownCell};
@@ -25,7 +26,7 @@ ghost use Rattle.diff_steps.specs.Packs.{Pack, size_of, cells_in, PackStands};
 ghost use Rattle.diff_steps.specs.Matrices.{with_words, put_word, forgotten, demanded, lesser};
 ghost use Rattle.diff_steps.specs.Stores.{known_of_range, form_stored};
 ghost use Rattle.diff_steps.specs.Guards.{ordered};
-ghost use Rattle.pack_laws.specs.Orders.{IsShown, IsLeft};
+ghost use Rattle.pack_laws.specs.Orders.{IsShown, IsLeft, AreLowerOff};
 
 /// Where a cell is forgotten, it may have any value or none.
 pub fn forgotten_values_are_free()
@@ -81,4 +82,11 @@ pub fn ordered_values_stay()
         → IfSome form (λ g. IsShown size cells g d f) → (fine ≡ true → d.scale ≤ f)
         → IsLeft may_be_below may_be_even may_be_above d
         → StandsIn (size + 1) (word (size + 1) (ordered size fine form may_be_below may_be_even may_be_above m)) cells }
+{}
+
+/// Of a lower matrix, a narrower form and a value of which more is sure a store leaves a matrix that is no higher.
+pub fn stores_rise()
+    ensures { (size to : ℕ) → to ≤ size → (a b : List ℤ) → AreLower (size + 1) (word (size + 1) a) (word (size + 1) b)
+        → (f g : Lin) (signed : Bool) (mode : Mode) (unit : ℕ) (known other : Known) → IsNarrower f g → IsSurer known other
+        → AreLowerOff size (form_stored size to signed mode unit known f a) (form_stored size to signed mode unit other g b) }
 {}

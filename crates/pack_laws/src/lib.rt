@@ -6,5 +6,5 @@ mod laws;
 
 pub use laws::{
     demanded_values_stay, forgotten_values_are_free, known_cells_stand, lesser_words_keep_values,
-    ordered_values_stay, signs_are_sure, stored_values_stand,
+    ordered_values_stay, signs_are_sure, stored_values_stand, stores_rise,
 };
