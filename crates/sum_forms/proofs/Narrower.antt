@@ -100,7 +100,7 @@ multiple_there : (a b : Lin) (k : ℤ) → IsNarrower a b → IsNarrowerIfAny (s
 multiple_there a b k n =
     narrower_there (multiple_of a k) (multiple_of b k) (length-coefs_of (scaled_coefs a k)) (length-coefs_of (scaled_coefs b k)) (λ small. (multiple_narrower a b k n small).1)
 
-sum_there : (a b c d : Lin) → IsNarrower a c → IsNarrower b d → IsNarrowerIfAny (if_small (sum_of a b)) (if_small (sum_of c d))
+pub sum_there : (a b c d : Lin) → IsNarrower a c → IsNarrower b d → IsNarrowerIfAny (if_small (sum_of a b)) (if_small (sum_of c d))
 sum_there a b c d n m =
     narrower_there (sum_of a b) (sum_of c d) (length-coefs_of (added_coefs a b)) (length-coefs_of (added_coefs c d)) (λ small. (sum_narrower a b c d n m small).1)
 
@@ -112,7 +112,7 @@ narrower_then (Some a) (Some b) next more h k = k a b h
 scaled_narrower : (k : ℤ) (o p : Option Lin) → IsNarrowerIfAny o p → IsNarrowerIfAny (o >>= scaled_form k) (p >>= scaled_form k)
 scaled_narrower k o p h = narrower_then o p (scaled_form k) (scaled_form k) h (λ a b n. multiple_there a b k n)
 
-turns_narrower : (minus : Bool) (o p : Option Lin) → IsNarrowerIfAny o p → IsNarrowerIfAny (o >>= turned_form minus) (p >>= turned_form minus)
+pub turns_narrower : (minus : Bool) (o p : Option Lin) → IsNarrowerIfAny o p → IsNarrowerIfAny (o >>= turned_form minus) (p >>= turned_form minus)
 turns_narrower false o p h = narrower_then o p (turned_form false) (turned_form false) h (λ a b n. n)
 turns_narrower true o p h = scaled_narrower (negsuc 0) o p h
 
