@@ -1,5 +1,5 @@
 -- What is known of items is forgotten, by the items of cells.
-use Rattle.std.specs.Prelude.{ℕ, if◌then◌else◌, Bool, false, List, [], ◌∷◌, slice_get, slice_set, Option, Some, None}
+use Rattle.std.specs.Prelude.{ℕ, if◌then◌else◌, Bool, false, List, ◌∷◌, slice_get, slice_set, Option, Some, None}
 use Rattle.std.specs.Option.{option_map_or}
 use Rattle.cob_data.specs.declared.layout.Item.{Item}
 use Rattle.cell_rows.specs.Known.{Known}

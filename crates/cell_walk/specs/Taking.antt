@@ -1,5 +1,5 @@
 -- What is taken of a sum, each range as an interval beside its scale.
-use Rattle.std.specs.Prelude.{ℕ, Bool, List, Option, Some, None, option_map}
+use Rattle.std.specs.Prelude.{Bool, List, Option, option_map}
 use Rattle.std.specs.Option.{option_map_or}
 use Rattle.cob_program.specs.Sum.{Sum}
 use Rattle.cob_program.specs.Act.{Program}

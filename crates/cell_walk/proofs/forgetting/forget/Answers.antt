@@ -1,4 +1,4 @@
-use Rattle.std.proofs.Common.{◌≡◌, ◌+◌, ◌∙◌, Bool, List, None, false, length, suc, ap, arith}
+use Rattle.std.proofs.Common.{◌≡◌, ◌+◌, ◌∙◌, List, None, false, length, suc, ap, arith}
 use Rattle.cob_runs.specs.declared.action.Cell.{Cell}
 use Rattle.cell_homes.specs.Numbers.{items_of}
 use Rattle.cell_rows.specs.Rows.{cells_of}
