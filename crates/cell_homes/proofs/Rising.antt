@@ -4,7 +4,7 @@ use Rattle.std.specs.Prelude.{⊤, nat_le, nat_lt, ◌==◌, cond, is_some, slic
 use Rattle.std.specs.Option.{option_map}
 use Rattle.std.specs.List.{AllByRecursion, prefix_len}
 use Rattle.std.specs.List.Sorted.{IsPartitionedBy, IsPartitionPoint}
-use Rattle.std.proofs.lemmas.Bool.{lt-ltb, ne_eqb}
+use Rattle.std.proofs.lemmas.Bool.{eqb-true, le-ltb, lt-ltb, ne_eqb}
 use Rattle.std.proofs.lemmas.List.{map-append, length-map, get_or-map}
 use Rattle.std.proofs.lemmas.List.Sums.{prefix_len_is}
 use Rattle.std.proofs.lemmas.Option.{slice_get-map}
@@ -199,3 +199,52 @@ number_behind_lower p cells place r same is =
     ∙ (ap (λ k. item_here k place (slice_get os behind)) (omega arith)
     ∙ (sym (found_behind_lower place 0 0 os (subst (λ cs. RisesFrom 0 (items_of cs)) (sym same) (items_of_cells_rise p)))
     ∙ (ap (λ cs. item_from 0 place (items_of cs)) same ∙ item_number p place))))
+
+-- ---- an item whose cell is found elsewhere
+
+no_item_at : (place k : ℕ) (os : List (Option ℕ)) → AreCounters os → slice_get os k ≡ Some (Some place) → ⊥
+no_item_at place k [] all e = absurd cc
+no_item_at place zero (o ∷ os) (is, rest) e = absurd cc
+no_item_at place (suc k) (o ∷ os) (is, rest) e = no_item_at place k os rest e
+
+no_lower : (m place k : ℕ) (os : List (Option ℕ)) → RisesFrom m os → slice_get os k ≡ Some (Some place) → m ≤ place
+no_lower m place k [] r e = absurd cc
+no_lower m place zero (None ∷ os) r e = absurd cc
+no_lower m place (suc k) (None ∷ os) r e = absurd (no_item_at place k os r e)
+no_lower m place zero (Some a ∷ os) (le, r) e = let same : a ≡ place = cc in omega (arith, le, same)
+no_lower m place (suc k) (Some a ∷ os) (le, r) e = let less = no_lower (suc a) place k os r e in omega (arith, le, less)
+
+-- as many are lower as stand before it
+lower_before : (m place k : ℕ) (os : List (Option ℕ)) → RisesFrom m os → slice_get os k ≡ Some (Some place) → k ≡ lower_items place os
+lower_before m place k [] r e = absurd cc
+lower_before m place zero (None ∷ os) r e = absurd cc
+lower_before m place (suc k) (None ∷ os) r e = absurd (no_item_at place k os r e)
+lower_before m place zero (Some a ∷ os) (le, r) e =
+    let same : a ≡ place = cc in
+    ap (λ (b : Bool). cond b (1 + lower_items place os) 0) (sym (le-ltb a place (omega (arith, same))))
+lower_before m place (suc k) (Some a ∷ os) (le, r) e =
+    let less = no_lower (suc a) place k os r e in
+    let rest = lower_before (suc a) place k os r e in
+    let one : suc k ≡ 1 + lower_items place os = omega (arith, rest) in
+    one ∙ ap (λ (b : Bool). cond b (1 + lower_items place os) 0) (sym (lt-ltb a place (omega (arith, less))))
+
+item_at : (k place r : ℕ) (o : Option (Option ℕ)) → item_here k place o ≡ Some r → o ≡ Some (Some place)
+item_at k place r None e = absurd cc
+item_at k place r (Some None) e = absurd cc
+item_at k place r (Some (Some a)) e = go (a == place) refl e
+  where
+    go : (same : Bool) → (a == place) ≡ same → (if same then Some k else None) ≡ Some r → Some (Some a) ≡ Some (Some place)
+    go true is f = ap (λ n. Some (Some n)) (eqb-true a place is)
+    go false is f = absurd cc
+
+-- wherever it is found
+pub number_here : (p : Program) (cells : List Cell) (place k : ℕ) (found : Option ℕ) → cells ≡ cells_of p →
+    found ≡ item_here k place (option_map (λ (c : Cell). c.item) (slice_get cells k)) → (found ≡ None → ⊥) →
+    found ≡ number_of p (of_item place)
+number_here p cells place k None same e some = absurd (some refl)
+number_here p cells place k (Some r) same e some =
+    let here = option_map (λ (c : Cell). c.item) (slice_get cells k) in
+    let at : slice_get (items_of cells) k ≡ Some (Some place) =
+    slice_get-map (λ (c : Cell). c.item) cells k ∙ item_at k place r here (sym e) in
+    let rises = subst (λ cs. RisesFrom 0 (items_of cs)) (sym same) (items_of_cells_rise p) in
+    e ∙ number_behind_lower p cells place k same (lower_before 0 place k (items_of cells) rises at)

@@ -42,12 +42,15 @@ fn if_here(cells: &[Cell], number: usize, place: u32) -> Option<usize>
     }
 }
 
-/// The number of an item's cell, if it has one. Cells of items stand in the order of places, so that halves are sought
-/// through.
+/// The number of an item's cell, if it has one. Where each item before has a cell, it is the item's place; else halves are
+/// sought through, since cells of items stand in the order of places.
 pub fn cell_of(cells: &[Cell], place: u32) -> Option<usize>
     ensures { (p : Program) → cells.now ≡ cells_of p → result ≡ number_of p (of_item place) }
 {
-    if_here(cells, lower_cells(cells, place), place)
+    match if_here(cells, place as usize, place) {
+        None => if_here(cells, lower_cells(cells, place), place),
+        found => found,
+    }
 }
 
 fn has_item(cell: &Cell) -> bool
