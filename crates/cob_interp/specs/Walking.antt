@@ -81,12 +81,11 @@ pub record PutsTo (paths : List (List ℕ)) (w : World) (count : ℕ) (old new :
 
 -- ---- ends
 
--- the outside or memory failed, or a file is too long
+-- the outside or memory failed
 abbrev pub is_refused : RunEnd → Bool
 is_refused end.ReadFault = true
 is_refused end.WriteFault = true
 is_refused end.Memory = true
-is_refused (end.Long count) = true
 is_refused _ = false
 
 -- The end is the run's own: nothing refused it.
