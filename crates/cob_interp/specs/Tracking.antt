@@ -46,3 +46,8 @@ ArePlaced paths state ids files =
     (place id : ℕ) (path : List ℕ) (f : File) → IsRead ids place id → slice_get paths place ≡ Some path
     → slice_get files place ≡ Some f → IsReading f.mode
     → IfSome (known_handle state id) (λ handle. handle ≡ record { name = path; place = f.place })
+
+-- Each file that is read now was read before, at the same place.
+pub record KeepsPlaces (old new : List File) : Type 0 where
+  pub each : (place : ℕ) (g : File) → slice_get new place ≡ Some g → IsReading g.mode
+      → (f : File) × (slice_get old place ≡ Some f) × IsReading f.mode × (f.place ≡ g.place)

@@ -2,6 +2,7 @@
 #![tactic(auto)]
 
 mod ends;
+mod inputs;
 mod laws;
 mod nodes;
 mod opens;
