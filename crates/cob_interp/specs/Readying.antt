@@ -1,5 +1,5 @@
 -- How the outside's files are made ready for OPEN and CLOSE.
-use Rattle.std.specs.Prelude.{◌≡◌, ◌<◌, ◌≤◌, ◌⊎◌, ◌+◌, ℕ, Bool, true, false, List, [], length, take, slice_get, slice_set, Option, Some, None, IsSome, IfSome, is_some}
+use Rattle.std.specs.Prelude.{◌≡◌, ◌<◌, ◌≤◌, ◌⊎◌, ◌+◌, ℕ, Bool, true, false, List, [], length, take, slice_get, slice_set, Option, Some, None, IsSome, IfSome, is_some, Result, Ok, Err, MatchResult}
 use Rattle.std.specs.FinMap.{get}
 use Rattle.batch_io.specs.FilesState.{Contents, FilesState, Gives, known_bytes, known_handle, known_rest}
 use Rattle.batch_io.specs.Faults.{Rose}
@@ -82,6 +82,16 @@ pub record OpensFor (old new : FilesState) (before after : Ids) (name : List ℕ
 pub record ClosesFor (old new : FilesState) (before after : Ids) (place : ℕ) : Type 0 where
   pub well : AreWell old new
   pub ids : (other id : ℕ) → IsRead after other id → IsRead before other id × (known_handle new id ≡ known_handle old id)
+
+abbrev pub first_refusal : Result (Unit {0}) RunEnd → Result (Unit {0}) RunEnd → Result (Unit {0}) RunEnd
+first_refusal (Ok u) other = other
+first_refusal (Err e) other = Err e
+
+-- All ids that were open are closed, whatever a close answers.
+pub record ClosesAll (old new : FilesState) (result : Result (Unit {0}) RunEnd) : Type 0 where
+  pub later : old.reading ≤ new.reading
+  pub writing : new.writing ≡ old.writing
+  pub reading : MatchResult result (λ _. new.reading ≡ old.reading) (λ e. IsRefusal old new e)
 
 -- The next bytes of the file at a place stand at the front of its room: as many as fit, or those to the end.
 pub record GivesRecord (old new : FilesState) (ids : Ids) (place : ℕ) (room : List ℕ) (count : ℕ) : Type 0 where

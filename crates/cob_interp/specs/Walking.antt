@@ -92,3 +92,8 @@ is_refused _ = false
 abbrev pub IsOwnEnd : Result Ended RunEnd → Type 0
 IsOwnEnd (Ok e) = Unit {0}
 IsOwnEnd (Err e) = is_refused e ≡ false
+
+-- The outside or memory refused it.
+abbrev pub IsRefused : Result Ended RunEnd → Type 0
+IsRefused (Ok e) = ⊥
+IsRefused (Err e) = is_refused e ≡ true

@@ -4,7 +4,7 @@ ghost use Rattle.std.specs.Option.{option_map};
 ghost use Rattle.batch_io.specs.FilesState.{Gives, known_bytes};
 ghost use Rattle.batch_io.specs.Faults.{Rose};
 ghost use Rattle.cob_interp.specs.Tracking.{IsRead, AreNone, AreOpen, Tracks};
-ghost use Rattle.cob_interp.specs.Readying.{IsRefusal, OpensFor, ClosesFor, GivesRecord};
+ghost use Rattle.cob_interp.specs.Readying.{IsRefusal, OpensFor, ClosesFor, ClosesAll, GivesRecord, first_refusal};
 
 use crate::ends::RunEnd;
 use batch_io::{Failed, Files, OpenEnd, read_record};
@@ -40,6 +40,16 @@ fn room_of(alloc: Global, size: u32) -> Result<Vec<u8>, AllocError> {
     let mut room = Vec::with_capacity(alloc, size as usize)?;
     room.resize(size as usize, 0)?;
     Ok(room)
+}
+
+// the first refusal of two
+fn first_of(first: Result<(), RunEnd>, other: Result<(), RunEnd>) -> Result<(), RunEnd>
+    ensures { result ≡ first_refusal first other }
+{
+    match first {
+        Ok(()) => other,
+        Err(end) => Err(end),
+    }
 }
 
 impl Inputs {
@@ -122,6 +132,21 @@ impl Inputs {
             Ok(()) => Ok(()),
             Err(Failed) => Err(RunEnd::ReadFault),
         }
+    }
+
+    /// Closes all that are being read. A close that fails keeps none of them open.
+    pub fn close_all<F: Files>(&mut self, files: &mut F) -> Result<(), RunEnd>
+        requires live { AreOpen (F.state files.old) self.old }
+        ensures tracks { Tracks (F.state files.old) (F.state files.new) self.old self.new }
+        ensures none { AreNone self.new }
+        ensures same { known_bytes (F.state files.new) ≡ known_bytes (F.state files.old) }
+        ensures counts { ClosesAll (F.state files.old) (F.state files.new) result }
+    {
+        let mut closed = Ok(());
+        for place in 0..self.slots.len() {
+            closed = first_of(closed, self.close(files, place));
+        }
+        closed
     }
 
     /// Reads the next bytes of the file at a place into its room: a record, or those to the end. Answers the room, which

@@ -8,6 +8,7 @@ mod nodes;
 mod opens;
 mod outside;
 mod parts;
+mod reads;
 mod runs;
 mod setting;
 mod steps;

@@ -54,6 +54,30 @@ fn put_written<F: Files>(files: &mut F, path: &str, file: &File) -> Result<(), R
     }
 }
 
+/// Puts the file at a place, where it is being written.
+pub fn put_file_at<F: Files>(
+    setting: &Setting,
+    files: &mut F,
+    world: &World,
+    place: u32,
+) -> Result<(), RunEnd>
+    requires ready { IsReady setting.now }
+    ensures readies { MatchResult result
+        (λ _. ReadyToClose setting.now world.now.world place (F.state files.old) (F.state files.new))
+        (λ e. IsRefusal (F.state files.old) (F.state files.new) e) }
+    ensures touches { Touches (paths_of setting.now) makes_none world.now.world (F.state files.old)
+        (F.state files.new) }
+    ensures ids { KeepsIds (F.state files.old) (F.state files.new) }
+{
+    match (setting.path(place), world.file(place as usize)) {
+        (Some(path), Some(file)) => {
+            put_written(files, path, file)?;
+            Ok(())
+        }
+        _ => Err(RunEnd::Memory),
+    }
+}
+
 /// Before a CLOSE of the file at a place: puts it, where it is being written, and closes its id, where it is read.
 pub fn ready_to_close<F: Files>(
     setting: &Setting,
@@ -73,14 +97,9 @@ pub fn ready_to_close<F: Files>(
     ensures touches { Touches (paths_of setting.now) makes_none world.now.world (F.state files.old)
         (F.state files.new) }
 {
-    match (setting.path(place), world.file(place as usize)) {
-        (Some(path), Some(file)) => {
-            put_written(files, path, file)?;
-            inputs.close(files, place as usize)?;
-            Ok(())
-        }
-        _ => Err(RunEnd::Memory),
-    }
+    put_file_at(setting, files, world, place)?;
+    inputs.close(files, place as usize)?;
+    Ok(())
 }
 
 fn is_closed(mode: FileMode) -> bool
