@@ -110,12 +110,7 @@ fn copy_from(bytes: &[u8], place: usize, buf: &mut [u8], most: Most) -> usize
 }
 
 // Reads from the reader's place on, at most `most` bytes, and moves the place past what was read.
-fn read_on(
-    files: &Vec<(String, Vec<u8>)>,
-    reader: &mut Reader,
-    buf: &mut [u8],
-    most: Most,
-) -> usize
+fn read_on(files: &Vec<(String, Vec<u8>)>, reader: &mut Reader, buf: &mut [u8], most: Most) -> usize
     requires { 0 < length buf.old }
     ensures on { ReadsOn (contents_of files.now.items) reader.old reader.new buf.new result }
     ensures most { result ≤ most.bytes }

@@ -52,7 +52,11 @@ fn a_call_that_fails_is_told(rt: HostRuntime) -> Result<(), Fail> {
             made,
             "call {failing} of {most} bytes fails"
         );
-        assert_eq!(rt; files.bytes("B") == held, true, "call {failing} of {most} bytes fails");
+        assert_eq!(rt;
+            files.bytes("B") == held,
+            true,
+            "call {failing} of {most} bytes fails"
+        );
     }
     let mut out = MemSink::new(alloc, Vec::from_slice(alloc, &[3])?);
     show_whole(&mut out, b"one ")?;

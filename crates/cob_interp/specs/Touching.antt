@@ -75,7 +75,7 @@ module _ (paths : List (List ℕ)) (makes : ℕ → Bool) (w : World) where
 
   -- The names hold a part of their files, whatever the call answers.
   pub record Touches (old new : FilesState) : Type 0 where
-      pub known : (told : Contents) → known_bytes old ≡ Some told → IsTouched told (known_bytes new)
+    pub known : (told : Contents) → known_bytes old ≡ Some told → IsTouched told (known_bytes new)
 
   -- In an OPEN each path holds what it held, or nothing yet where its file is closed and opened for output; all other
   -- names hold what they held.
@@ -88,7 +88,7 @@ module _ (paths : List (List ℕ)) (makes : ℕ → Bool) (w : World) where
     pub others : KeepsNames told now paths
 
   pub record Makes (old new : FilesState) : Type 0 where
-      pub known : (told : Contents) → known_bytes old ≡ Some told → IsMade told (known_bytes new)
+    pub known : (told : Contents) → known_bytes old ≡ Some told → IsMade told (known_bytes new)
 
 -- ---- how files change within a statement
 

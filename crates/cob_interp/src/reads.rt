@@ -161,6 +161,8 @@ pub fn do_read<F: Files>(
     };
     match read_so_far(world, file) {
         None => do_part(alloc, setting, place, world, step),
-        Some(before) => do_window(alloc, setting, files, inputs, world, place, file, before, step),
+        Some(before) => do_window(
+            alloc, setting, files, inputs, world, place, file, before, step,
+        ),
     }
 }

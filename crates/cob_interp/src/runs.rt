@@ -261,9 +261,7 @@ fn run_through<F: Files, O: Sink>(
         plan,
         paths,
     };
-    let halted = walk(
-        alloc, &setting, files, &mut inputs, &mut world, out, budget,
-    );
+    let halted = walk(alloc, &setting, files, &mut inputs, &mut world, out, budget);
     ending_of(&setting, files, &mut inputs, &mut world, out, halted)
 }
 

@@ -8,8 +8,8 @@ ghost use Rattle.cob_world.specs.Views.{plain_mode};
 
 use crate::areas::append_text;
 use std::alloc::{AllocError, Global};
-use std::mem;
 use std::marker::Model;
+use std::mem;
 
 /// Whether a file is open, and for what; of one that is read, whether its end was met.
 #[derive(Clone, Copy, Debug, PartialEq, Eq)]
