@@ -9,8 +9,11 @@ pub mod NodeLemmas
 pub mod CallsLead
 pub mod CloseLemmas
 pub mod OpenLemmas
-pub mod Openings
-pub mod OpeningLemmas
+pub mod OpenLeads
+pub mod ReadLemmas
+pub mod ReadLeads
+pub mod TrackLemmas
+pub mod Places
 pub mod StepLemmas
 pub mod CallLemmas
 pub mod Beginnings

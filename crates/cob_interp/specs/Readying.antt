@@ -159,10 +159,13 @@ IsRestOr old new ids place size before (end.Ragged file_ count) =
     (file_ ≡ place) × HasRest old new ids place size before count
 IsRestOr old new ids place size before e = IsRefusal old new e
 
--- The file at a place holds a window no more, and its place goes on behind so many bytes.
+-- A file holds a window no more, and its place goes on behind so many bytes.
+abbrev pub settled_file : ℕ → File → File
+settled_file before f = file (Some []) f.mode (before + f.place)
+
 abbrev pub settled_on : ℕ → ℕ → List File → Option File → List File
 settled_on place before files None = files
-settled_on place before files (Some f) = slice_set files place (file (Some []) f.mode (before + f.place))
+settled_on place before files (Some f) = slice_set files place (settled_file before f)
 
 abbrev pub settled : ℕ → ℕ → World → World
 settled place before w = with_files w (settled_on place before w.files (slice_get w.files place))
