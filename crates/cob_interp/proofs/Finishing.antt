@@ -218,7 +218,7 @@ module _ (p : Program) (g : Graph) (paths : List (List ℕ)) (budget : ℕ) wher
       shown = subst (λ (u : World). Rests p g paths budget start (outside files new) u r) (sym flushes.world)
           (rests_flushed p g paths start files old new w budget r flushes.gains rests)
 
-      broken : IsBroken p g paths budget start (outside behind new)
+      pub broken : IsBroken p g paths budget start (outside behind new)
       broken = rests_break p g paths budget start (outside files new) (outside behind new) v r 0 touches
           (append_none new.told) shown
 

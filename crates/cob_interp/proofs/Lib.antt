@@ -13,6 +13,8 @@ pub mod OpenLeads
 pub mod ReadLemmas
 pub mod ReadLeads
 pub mod TrackLemmas
+pub mod InputLemmas
+pub mod Windows
 pub mod Places
 pub mod StepLemmas
 pub mod CallLemmas
@@ -26,4 +28,5 @@ pub mod Breaking
 pub mod Flushing
 pub mod Putting
 pub mod Finishing
+pub mod ClosingInputs
 pub mod Starting

@@ -1,6 +1,6 @@
 -- What a call on a file does to it as the run sees it.
 use Rattle.std.proofs.Common.{◌≡◌, ℕ, ◌+◌, ◌<◌, ◌≤◌, ◌⊎◌, Bool, true, false, List, [], ◌++◌, length, take, drop, length-append, length-drop, take_at, take_all, Option, Some, None, inl, inr, refl, sym, ap, ◌∙◌, arith}
-use Rattle.std.specs.Prelude.{nat_le, is_some}
+use Rattle.std.specs.Prelude.{nat_le, nat_lt, is_some, ◌==◌, ◌&&◌}
 use Rattle.std.proofs.lemmas.Bool.Decides.{nat_tests}
 use Rattle.std.specs.FinMap.{get}
 use Rattle.batch_io.specs.FilesState.{Contents}
@@ -98,6 +98,50 @@ module _ (told : Contents) (path : List ℕ) (size : ℕ) (f : File) (all window
         file = λ i. file (sym is i) (reading true) (p i);
         synced = (all, is, omega arith);
       })
+
+  and_false : (a b : Bool) → b ≡ false → (a && b) ≡ false
+  and_false true b e = e
+  and_false false b e = refl
+
+  uncut_whole : length window ≡ size
+      → ((after_read size sees_file).status == 10 && nat_lt f.place (length all)) ≡ false
+  uncut_whole e =
+      let g = count in
+      let s : record_at size sees_file ≡ Some window =
+      from_place size f.place all window (grind (arith, nat_tests)) (front e) in
+      rw (takes size sees_file (Some window) refl s) refl
+
+  uncut_end : window ≡ [] → left ≡ []
+      → ((after_read size sees_file).status == 10 && nat_lt f.place (length all)) ≡ false
+  uncut_end e f_ =
+      let g = count in
+      let h : length window ≡ 0 = ap (λ (l : List ℕ). length l) e in
+      let k : length left ≡ 0 = ap (λ (l : List ℕ). length l) f_ in
+      and_false _ _ (grind (arith, nat_tests))
+
+  -- neither is cut
+  pub window_uncut : (length window ≡ size) ⊎ ((window ≡ []) × (0 < size) × (left ≡ []))
+      → ((after_read size (seen_file told path f)).status == 10
+      && nat_lt (seen_file told path f).place (length (bytes_in (seen_file told path f)))) ≡ false
+  window_uncut (inl e) = rw sees_is (uncut_whole e)
+  window_uncut (inr e) = rw sees_is (uncut_end e.0 e.2)
+
+  -- a rest that is no record is
+  pub rest_cut : 0 < length window → length window < size → left ≡ []
+      → ((after_read size (seen_file told path f)).status == 10
+      && nat_lt (seen_file told path f).place (length (bytes_in (seen_file told path f)))) ≡ true
+  rest_cut some few e =
+      let g = count in
+      let k : length left ≡ 0 = ap (λ (l : List ℕ). length l) e in
+      let s : record_at size sees_file ≡ None = from_end size f.place all (grind (arith, nat_tests)) in
+      let t : nat_lt f.place (length all) ≡ true = grind (arith, nat_tests) in
+      rw (sees_is, takes size sees_file None refl s, t) refl
+
+  pub rest_length : left ≡ [] → length (bytes_in (seen_file told path f)) ≡ f.place + length window
+  rest_length e =
+      let g = count in
+      let k : length left ≡ 0 = ap (λ (l : List ℕ). length l) e in
+      rw sees_is (omega arith)
 
   -- a READ with a whole record, or with nothing at the end
   pub window_follows : (length window ≡ size) ⊎ ((window ≡ []) × (0 < size) × (left ≡ []))

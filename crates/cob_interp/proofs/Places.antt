@@ -143,7 +143,8 @@ module _ (p : Program) (number : ℕ) (w : World) where
   computed_by : (failed : Bool) (r : Result Receiving Kind)
       → Keeps w ((r >>= received) >>= λ x. taken_if (if failed then x.1 else not x.1) x.0)
   computed_by failed (Ok x) =
-      kept_if w (if failed then x.failed else not x.failed) (with_storage w x.storage) (stays w _ refl)
+      kept_if w (if failed then x.failed else not x.failed) (with_storage w x.storage)
+      (stays w (with_storage w x.storage) refl)
   computed_by failed (Err kind) = tt
 
   augmented_by : (r t : Result Scaled Kind) (item : ℕ) → Keeps w (met (r >>= λ v. t >>= λ own.

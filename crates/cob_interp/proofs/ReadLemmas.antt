@@ -93,6 +93,15 @@ module _ (l : Layout) (told : Contents) (paths : List (List ℕ)) (text : List �
             follows.synced);
       }
 
+  take_by : (decl : Option FileDecl) (o : Option File) (g : File) (z : World) → decl ≡ Some d → o ≡ Some g
+      → take_on l None place decl o z ≡ taken_world l None place d (after_read d.length g) z
+  take_by None o g z e h = cc
+  take_by (Some x) None g z e h = cc
+  take_by (Some x) (Some y) g z e h =
+      let same : x ≡ d = cc in
+      let there : y ≡ g = cc in
+      rw (same, there) refl
+
   pub take_follows : TakeFollows told paths text (settled place f.place)
       (take_one l None place (with_files w (replaced place (Some window) 0 w.files)))
       (take_one l None place (seen told paths text w))
@@ -102,7 +111,18 @@ module _ (l : Layout) (told : Contents) (paths : List (List ℕ)) (text : List �
       ∙ ap (λ (m : Mode). with_files w (slice_set w.files place (file (Some window) m 0))) mode_ in
       let kept_at : slice_get (slice_set w.files place shown_file) place ≡ Some shown_file =
       get_set w.files place f shown_file has in
-      rw (shows, declared, kept_at, sees_at) taken_follows
+      let kept : take_one l None place (with_files w (replaced place (Some window) 0 w.files))
+      ≡ taken_world l None place d kept_taken shown =
+      ap (take_one l None place) shows
+      ∙ take_by (decl_at l place) (slice_get (slice_set w.files place shown_file) place) shown_file shown declared kept_at in
+      let sees : take_one l None place (seen told paths text w)
+      ≡ taken_world l None place d sees_taken (seen told paths text w) =
+      take_by (decl_at l place) (slice_get (seen_files told paths w.files) place) (seen_file told path f)
+      (seen told paths text w) declared sees_at in
+      subst (λ (x : World × ℕ). TakeFollows told paths text (settled place f.place) x
+      (take_one l None place (seen told paths text w))) (sym kept)
+      (subst (λ (x : World × ℕ). TakeFollows told paths text (settled place f.place)
+      (taken_world l None place d kept_taken shown) x) (sym sees) taken_follows)
 
 -- ---- the edges of a READ
 

@@ -17,6 +17,9 @@ use Rattle.cob_interp.proofs.OpenLeads
 use Rattle.cob_interp.proofs.ReadLeads
 use Rattle.cob_interp.proofs.CallLemmas
 use Rattle.cob_interp.proofs.Finishing
+use Rattle.cob_interp.proofs.ClosingInputs
+use Rattle.cob_interp.proofs.InputLemmas
+use Rattle.cob_interp.proofs.Windows
 use Rattle.cob_interp.proofs.laws.one_end.Goals as goal
 
 pub returns : goal.returns

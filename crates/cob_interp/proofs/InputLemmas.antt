@@ -1,0 +1,105 @@
+-- What calls on the outside's files say of those that are read.
+use Rattle.std.proofs.Common.{◌≡◌, ◌≢◌, ℕ, zero, suc, ◌+◌, ◌<◌, ◌≤◌, inl, inr, Bool, true, false, List, [], ◌∷◌, ◌++◌, length, map, take, Option, Some, None, Result, Ok, Err, refl, sym, ap, subst, ◌∙◌, arith}
+use Rattle.std.specs.Prelude.{slice_get, slice_set, option_map, is_some, IsSome, IfSome, MatchResult}
+use Rattle.std.specs.FinMap.{get}
+use Rattle.std.proofs.lemmas.Bool.{false≢true}
+use Rattle.batch_io.specs.declared.ends.Failed.{Failed}
+use Rattle.batch_io.specs.declared.ends.OpenEnd.TheVariants as opening
+use Rattle.batch_io.specs.Faults.{Rose}
+use Rattle.batch_io.specs.FilesState.{Contents, FilesState, Told, Handle, Purpose, Reading, Gives, known_bytes, known_handle, known_rest}
+use Rattle.batch_io.specs.FilesCalls.{Opens, OpensId, Closes}
+use Rattle.batch_io.specs.Wholes.{ReadsRecord}
+use Rattle.cob_interp.specs.Tracking.{Ids, IsRead, AreNone, AreOpen, Tracks}
+use Rattle.cob_interp.specs.Readying.{AreWell, IsOpenedAt, OpensFor, ClosesFor, ClosesAll, GivesRecord, IsRefusal}
+use Rattle.cob_interp.specs.declared.ends.RunEnd.{RunEnd}
+use Rattle.cob_interp.specs.declared.ends.RunEnd.TheVariants as end
+use Rattle.cob_interp.proofs.TrackLemmas.{tracks_ids, tracks_opened, tracks_closed, tracks_given, read_in_set}
+
+-- ---- lists of ids
+
+pub none_more : (ids : Ids) → AreNone ids → AreNone (ids ++ None ∷ [])
+none_more [] none zero id is = cc
+none_more [] none (suc place) id is = cc
+none_more (x ∷ ids) none zero id is = none zero id is
+none_more (x ∷ ids) none (suc place) id is = none_more ids (λ p i is_. none (suc p) i is_) place id is
+
+pub none_empty : AreNone []
+none_empty place id is = cc
+
+-- ---- an OPEN
+
+if_told : (o : Option Told) (c : Option Contents) (told : Contents) (Is : Contents → Type 0) → c ≡ Some told → IfSome c Is
+    → Is told
+if_told o None told Is e h = cc
+if_told o (Some x) told Is e h = let same : x ≡ told = cc in subst Is same h
+
+begins_at : (told : Option Told) (known : Option Handle) (name : List ℕ)
+    → known ≡ option_map (λ _. record { name = name; place = 0 }) told
+    → IfSome known (λ handle. handle ≡ record { name = name; place = 0 })
+begins_at told known name e = subst (λ (o : Option Handle). IfSome o (λ handle. handle ≡ record { name = name; place = 0 }))
+    (sym e) (by told) where
+  by : (t : Option Told)
+      → IfSome (option_map (λ _. record { name = name; place = 0 }) t) (λ handle. handle ≡ record { name = name; place = 0 })
+  by None = tt
+  by (Some x) = refl
+
+module _ (old new : FilesState) (ids : Ids) (name : List ℕ) (place : ℕ) where
+  pub opens_for : (id : ℕ) → Opens old new name (Ok id) → OpensFor old new ids (slice_set ids place (Some id)) name place true
+  opens_for id opens = record {
+    well = record { reading = opens.reading.kept refl; writing = opens.writing };
+    there_ = λ told e.
+        sym (if_told old.told (known_bytes old) told (λ contents. IsSome (get contents name)) e opens.present);
+    opened = (id, refl, begins_at old.told (known_handle new id) name opens.ids.handle);
+    others = λ other some. opens.ids.others.handle other
+        (λ e. false≢true (subst (λ (o : Option Purpose). IsSome o)
+        (subst (λ (n : ℕ). old.purpose n ≡ None) (sym e) opens.ids.fresh) some)) some;
+  }
+
+  none_is : (o : Option (List ℕ)) → o ≡ None → false ≡ is_some o
+  none_is o e = ap is_some (sym e)
+
+  pub absent_for : Opens old new name (Err opening.Absent) → OpensFor old new ids ids name place false
+  absent_for opens = record {
+    well = record { reading = opens.reading.kept refl; writing = opens.writing };
+    there_ = λ told e. none_is (get told name)
+        (if_told old.told (known_bytes old) told (λ contents. get contents name ≡ None) e (opens.absent refl));
+    opened = refl;
+    others = λ other some. opens.ids.handle other some;
+  }
+
+-- ---- a CLOSE
+
+module _ (old new : FilesState) (ids : Ids) (place id : ℕ) (is : IsRead ids place id) (within : place < length ids)
+    (live : AreOpen old ids) where
+  pub closes_for : Closes old new id (Ok tt) → ClosesFor old new ids (slice_set ids place None) place
+  closes_for closes = record {
+    well = record {
+      reading = (closes.reading (live.purpose place id is)).kept refl;
+      writing = closes.writing_kept (live.purpose place id is);
+    };
+    ids = λ other i at. elim (read_in_set ids place other i None within at) [
+      | inl here ↦ absurd (cc)
+      | inr was ↦ (
+        was.1,
+        closes.others.handle i
+            (λ e. was.0 (live.apart other place id (subst (λ (n : ℕ). IsRead ids other n) e was.1) is))
+            (subst (λ (o : Option Purpose). IsSome o) (sym (live.purpose other i was.1)) refl),
+      )
+    ];
+  }
+
+  pub close_refused : (e : Failed) → Closes old new id (Err e) → IsRefusal old new end.ReadFault
+  close_refused e closes = (closes.reading (live.purpose place id is)).rose refl
+
+-- ---- a record
+
+pub record_given : (old new : FilesState) (ids : Ids) (place id : ℕ) (room : List ℕ) (count : ℕ) → IsRead ids place id
+    → ReadsRecord old new id room (Ok count) → GivesRecord old new ids place room count
+record_given old new ids place id room count is reads = record {
+  well = record { reading = reads.reading.kept refl; writing = reads.writing };
+  id = id;
+  is = is;
+  within = reads.count;
+  given = reads.given;
+  ended = reads.ended;
+}
