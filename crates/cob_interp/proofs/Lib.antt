@@ -12,6 +12,8 @@ pub mod OpenLemmas
 pub mod OpenLeads
 pub mod ReadLemmas
 pub mod ReadLeads
+pub mod RecordReads
+pub mod Placing
 pub mod TrackLemmas
 pub mod InputLemmas
 pub mod Windows

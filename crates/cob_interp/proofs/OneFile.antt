@@ -31,16 +31,16 @@ pub record WindowFollows (told : Contents) (path : List ℕ) (before : ℕ) (kep
 -- ---- READ and WRITE
 
 -- the record that is taken
-takes : (size : ℕ) (f : File) (r : Option (List ℕ)) → f.mode ≡ reading false → record_at size f ≡ r
+pub takes : (size : ℕ) (f : File) (r : Option (List ℕ)) → f.mode ≡ reading false → record_at size f ≡ r
     → after_read size f ≡ taken_from size f r
 takes size f r mode_ is = rw mode_ (ap (taken_from size f) is)
 
 -- there is none where the file's end is near
-from_end : (size place : ℕ) (bytes : List ℕ) → nat_le (place + size) (length bytes) ≡ false
+pub from_end : (size place : ℕ) (bytes : List ℕ) → nat_le (place + size) (length bytes) ≡ false
     → record_from size place bytes ≡ None
 from_end size place bytes e = rw e refl
 
-from_place : (size place : ℕ) (bytes r : List ℕ) → nat_le (place + size) (length bytes) ≡ true
+pub from_place : (size place : ℕ) (bytes r : List ℕ) → nat_le (place + size) (length bytes) ≡ true
     → area bytes place size ≡ r → record_from size place bytes ≡ Some r
 from_place size place bytes r e is = rw e (ap Some is)
 

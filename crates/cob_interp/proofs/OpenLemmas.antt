@@ -1,11 +1,11 @@
 -- What comes of the outside's files where a file is to be opened.
 use Rattle.std.proofs.Common.{◌≡◌, ℕ, zero, suc, ◌<◌, Bool, true, false, not, ◌&&◌, List, [], ◌∷◌, ◌++◌, length, Option, Some, None, inl, inr, refl, sym, ap, subst, ◌∙◌, arith}
-use Rattle.std.specs.Prelude.{slice_get, slice_set, IsSome, IfSome}
+use Rattle.std.specs.Prelude.{slice_get, slice_set, is_some, IsSome, IfSome}
 use Rattle.std.specs.Option.{option_map, option_map_or}
 use Rattle.std.specs.FinMap.{get}
 use Rattle.batch_io.specs.FilesState.{Contents, FilesState, known_bytes, known_handle}
 use Rattle.cob_program.specs.declared.act.Opening.{Opening}
-use Rattle.cob_runs.specs.Files.{File, file, Mode, closed, reading, writing}
+use Rattle.cob_runs.specs.Files.{File, file, Mode, closed, reading, writing, opened, opened_in}
 use Rattle.cob_runs.specs.State.{World, with_files}
 use Rattle.cob_world.specs.declared.files.FileMode.{FileMode}
 use Rattle.cob_world.specs.declared.files.FileMode.TheVariants as mode
@@ -16,8 +16,9 @@ use Rattle.cob_interp.specs.Told.{seen, seen_file, seen_files, IsSyncedIn, AreSy
 use Rattle.cob_interp.specs.Ends.{is_closed}
 use Rattle.cob_interp.specs.Setting.{program_of, paths_of}
 use Rattle.cob_interp.specs.Readying.{Puts, IsPath, IsOpenedAt, OpensInto, StandsOrBegins, ReadyToOpen}
-use Rattle.cob_interp.specs.Tracking.{Ids, IsRead, AreOpen}
-use Rattle.cob_interp.proofs.TrackLemmas.{read_in_set}
+use Rattle.cob_interp.specs.Tracking.{Ids, IsRead, AreOpen, IsReading, KeepsPlaces}
+use Rattle.cob_interp.proofs.TrackLemmas.{read_in_set, places_stay}
+use Rattle.cob_interp.proofs.Places.{set_keeps}
 use Rattle.cob_interp.proofs.SeenFiles.{SeenAt, seen_at}
 
 -- the file whose mode was asked
@@ -70,6 +71,30 @@ refilled_is : (fs : List File) (place : ℕ) (f : File) (content : Option (List 
     → refilled place content fs ≡ slice_set fs place (file content f.mode f.place)
 refilled_is fs place f content has = ap (refilled_on place content fs) has
 
+-- ---- what an OPEN lets be read
+
+output_unread : (f : File) {output : Bool} → f.mode ≡ closed → output ≡ true → IsReading (opened output f).0.mode → ⊥
+output_unread f {output} mode_ out reads = by f.mode output mode_ out reads where
+  by : (m : Mode) (b : Bool) → m ≡ closed → b ≡ true → IsReading (opened_in b m f).0.mode → ⊥
+  by closed true e g r = r
+  by closed false e g r = absurd cc
+  by (reading ended) b e g r = absurd cc
+  by writing b e g r = absurd cc
+
+open_reads : (output : Bool) (f : File) → (f.mode ≡ closed → ⊥) → IsReading (opened output f).0.mode → IsReading f.mode
+open_reads output f open_ reads = by f.mode refl open_ reads where
+  by : (m : Mode) → f.mode ≡ m → (m ≡ closed → ⊥) → IsReading (opened_in output m f).0.mode → IsReading f.mode
+  by closed e n r = absurd (n refl)
+  by (reading ended) e n r = r
+  by writing e n r = r
+
+absent_unread : (content : Option (List ℕ)) (m : Mode) (place : ℕ) → m ≡ closed → is_some content ≡ false
+    → IsReading (opened false (file content m place)).0.mode → ⊥
+absent_unread None closed place e none r = r
+absent_unread (Some bytes) closed place e none r = absurd cc
+absent_unread content (reading ended) place e none r = absurd cc
+absent_unread content writing place e none r = absurd cc
+
 module _ (s : Setting) (w : World) (o : Opening) (path : List ℕ) (is : IsPath s o.file path) (f : File)
     (has : slice_get w.files o.file ≡ Some f) where
   pub output_ready : (old new : FilesState) → f.mode ≡ closed → o.output ≡ true → Puts old new path []
@@ -86,7 +111,10 @@ module _ (s : Setting) (w : World) (o : Opening) (path : List ℕ) (is : IsPath 
           let k = puts.known told e in
           record { now = k.now; is = k.is; others = k.others; it = rw (mode, output) k.it };
     };
-    stand = record { stand = λ other id is_. inl (is_, stand other id is_) };
+    stand = record {
+      stand = λ other id is_. inl (is_, stand other id is_, λ e reads. absurd (output_unread f mode output reads));
+    };
+    keeps = places_stay w.files;
     same = λ told text e synced. (refl, synced);
   }
 
@@ -102,7 +130,8 @@ module _ (s : Setting) (w : World) (o : Opening) (path : List ℕ) (is : IsPath 
       known = λ told e.
           record { now = told; is = e; others = λ name apart. refl; it = agrees told o.output f.mode open_ };
     };
-    stand = record { stand = λ other id is_. inl (is_, refl) };
+    stand = record { stand = λ other id is_. inl (is_, refl, λ e reads. open_reads o.output f open_ reads) };
+    keeps = places_stay w.files;
     same = λ told text e synced. (refl, synced);
   } where
     agrees : (told : Contents) (b : Bool) (m : Mode) → (m ≡ closed → ⊥) → IsReadyToOpenIn told told path b m f.content
@@ -115,20 +144,30 @@ module _ (s : Setting) (w : World) (o : Opening) (path : List ℕ) (is : IsPath 
     -- where ids stand behind it
     opened_stand : (there : Bool) → IsOpenedAt new before after path o.file there
         → ((other : ℕ) → IsSome (old.purpose other) → known_handle new other ≡ known_handle old other)
-        → AreOpen old before → (g : File) → g.mode ≡ closed → StandsOrBegins old new before after path o.file g
-    opened_stand false same others live g shut = record {
+        → AreOpen old before → (content : Option (List ℕ)) → is_some content ≡ there
+        → StandsOrBegins old new before after path o.file o.output (file content f.mode f.place)
+    opened_stand false same others live content none = record {
       stand = λ other id is_.
           let was : IsRead before other id = subst (λ ids. IsRead ids other id) same is_ in
-          inl (was, others id (subst (λ x. IsSome x) (sym (live.purpose other id was)) refl));
+          inl (
+            was,
+            others id (subst (λ x. IsSome x) (sym (live.purpose other id was)) refl),
+            λ e reads. absurd (absent_unread content f.mode f.place mode_ none
+                (subst (λ b. IsReading (opened b (file content f.mode f.place)).0.mode) input reads)),
+          );
     }
-    opened_stand true opened others live g shut = record {
-      stand = λ other id is_. elim (read_in_set before o.file other id (Some opened.0) within
-          (subst (λ ids. IsRead ids other id) opened.1 is_)) [
+    opened_stand true begun others live content some = record {
+      stand = λ other id is_. elim (read_in_set before o.file other id (Some begun.0) within
+          (subst (λ ids. IsRead ids other id) begun.1 is_)) [
         | inl here ↦
-            let e : opened.0 ≡ id = cc in
-            inr (here.0, shut, subst (λ n. IfSome (known_handle new n)
-            (λ handle. handle ≡ record { name = path; place = 0 })) e opened.2)
-        | inr was ↦ inl (was.1, others id (subst (λ x. IsSome x) (sym (live.purpose other id was.1)) refl))
+            let e : begun.0 ≡ id = cc in
+            inr (here.0, mode_, subst (λ n. IfSome (known_handle new n)
+            (λ handle. handle ≡ record { name = path; place = 0 })) e begun.2)
+        | inr was ↦ inl (
+          was.1,
+          others id (subst (λ x. IsSome x) (sym (live.purpose other id was.1)) refl),
+          λ e reads. absurd (was.0 e),
+        )
       ];
     }
 
@@ -155,7 +194,9 @@ module _ (s : Setting) (w : World) (o : Opening) (path : List ℕ) (is : IsPath 
               it = rw (input, mode_) (refl, opens.is ∙ opens.opens.there_ told e);
             };
           };
-          stand = opened_stand opens.there opens.opens.opened opens.opens.others live g mode_;
+          stand = opened_stand opens.there opens.opens.opened opens.opens.others live content opens.is;
+          keeps = subst (λ (fs : List File). KeepsPlaces w.files fs) (sym files_) (set_keeps w.files o.file g
+              (λ reads. subst (λ (m : Mode). IsReading m → ⊥) (sym mode_) (λ r. r) reads));
           same = λ told text e synced.
               let r = refilled_seen told f mode_ content (paths_of s) w.files o.file synced has in (
                 ap (seen told (paths_of s) text) world_

@@ -23,7 +23,7 @@ use Rattle.cob_interp.proofs.Calls.{CallFollows}
 use Rattle.cob_interp.proofs.OneFile.{WindowFollows, window_follows}
 use Rattle.cob_interp.proofs.Onward.{effect_by_act, status_by_act}
 
-get_set : (fs : List File) (place : ℕ) (f g : File) → slice_get fs place ≡ Some f
+pub get_set : (fs : List File) (place : ℕ) (f g : File) → slice_get fs place ≡ Some f
     → slice_get (slice_set fs place g) place ≡ Some g
 get_set [] place f g has = cc
 get_set (x ∷ fs) zero f g has = refl

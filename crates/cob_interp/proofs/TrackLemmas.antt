@@ -49,18 +49,19 @@ tracks_given old new ids place id bytes is given live = record {
 
 -- ---- places in a list
 
-get_set_same : (ids : Ids) (place : ℕ) (x : Option ℕ) → place < length ids → slice_get (slice_set ids place x) place ≡ Some x
+pub get_set_same : {X : Type 0} (xs : List X) (place : ℕ) (x : X) → place < length xs
+    → slice_get (slice_set xs place x) place ≡ Some x
 get_set_same [] place x within = absurd (omega arith)
-get_set_same (y ∷ ids) zero x within = refl
-get_set_same (y ∷ ids) (suc place) x within = get_set_same ids place x (omega arith)
+get_set_same (y ∷ xs) zero x within = refl
+get_set_same (y ∷ xs) (suc place) x within = get_set_same xs place x (omega arith)
 
-get_set_other : (ids : Ids) (place other : ℕ) (x : Option ℕ) → other ≢ place
-    → slice_get (slice_set ids place x) other ≡ slice_get ids other
+pub get_set_other : {X : Type 0} (xs : List X) (place other : ℕ) (x : X) → other ≢ place
+    → slice_get (slice_set xs place x) other ≡ slice_get xs other
 get_set_other [] place other x apart = refl
-get_set_other (y ∷ ids) zero zero x apart = absurd (apart refl)
-get_set_other (y ∷ ids) zero (suc other) x apart = refl
-get_set_other (y ∷ ids) (suc place) zero x apart = refl
-get_set_other (y ∷ ids) (suc place) (suc other) x apart = get_set_other ids place other x (λ e. apart (ap suc e))
+get_set_other (y ∷ xs) zero zero x apart = absurd (apart refl)
+get_set_other (y ∷ xs) zero (suc other) x apart = refl
+get_set_other (y ∷ xs) (suc place) zero x apart = refl
+get_set_other (y ∷ xs) (suc place) (suc other) x apart = get_set_other xs place other x (λ e. apart (ap suc e))
 
 -- what is read behind a change at a place
 pub read_in_set : (ids : Ids) (place other id : ℕ) (x : Option ℕ) → place < length ids → IsRead (slice_set ids place x) other id

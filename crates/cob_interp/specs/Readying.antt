@@ -5,7 +5,7 @@ use Rattle.batch_io.specs.FilesState.{Contents, FilesState, Gives, known_bytes, 
 use Rattle.batch_io.specs.Faults.{Rose}
 use Rattle.cob_data.specs.declared.layout.FileDecl.{FileDecl}
 use Rattle.cob_program.specs.declared.act.Opening.{Opening}
-use Rattle.cob_runs.specs.Files.{File, file, closed, reading}
+use Rattle.cob_runs.specs.Files.{File, file, closed, reading, opened}
 use Rattle.cob_runs.specs.State.{World, with_files}
 use Rattle.cob_world.specs.Calling.{refilled}
 use Rattle.cob_runs.specs.Acts.{decl_at}
@@ -13,7 +13,7 @@ use Rattle.cob_interp.specs.declared.ends.RunEnd.{RunEnd}
 use Rattle.cob_interp.specs.declared.ends.RunEnd.TheVariants as end
 use Rattle.cob_interp.specs.declared.setting.Setting.{Setting}
 use Rattle.cob_interp.specs.Told.{seen, AreSynced, AgreeBut, IsReadyToOpen, IsReadyToClose}
-use Rattle.cob_interp.specs.Tracking.{Ids, IsRead}
+use Rattle.cob_interp.specs.Tracking.{Ids, IsRead, IsReading, KeepsPlaces}
 use Rattle.cob_interp.specs.Setting.{program_of, paths_of}
 
 -- no fault was met
@@ -111,11 +111,12 @@ pub record OpensInto (old new : FilesState) (before after : Ids) (path : List �
   pub is : is_some content ≡ there
   pub world : v ≡ with_files w (refilled place content w.files)
 
--- A closed file that is there is read under a new id, at its first byte. All other ids stand where they stood.
-pub record StandsOrBegins (old new : FilesState) (before after : Ids) (path : List ℕ) (place : ℕ) (f : File)
-    : Type 0 where
+-- A file that an OPEN lets be read is read under a new id, at its first byte. All other ids stand where they stood.
+pub record StandsOrBegins (old new : FilesState) (before after : Ids) (path : List ℕ) (place : ℕ) (output : Bool)
+    (f : File) : Type 0 where
   pub stand : (other id : ℕ) → IsRead after other id
-      → (IsRead before other id × (known_handle new id ≡ known_handle old id))
+      → (IsRead before other id × (known_handle new id ≡ known_handle old id)
+      × (other ≡ place → IsReading (opened output f).0.mode → IsReading f.mode))
       ⊎ ((other ≡ place) × (f.mode ≡ closed)
       × IfSome (known_handle new id) (λ handle. handle ≡ record { name = path; place = 0 }))
 
@@ -127,7 +128,8 @@ pub record ReadyToOpen (s : Setting) (w v : World) (o : Opening) (old new : File
   pub has : slice_get v.files o.file ≡ Some file
   pub ready : Readies old new path (λ told now. IsReadyToOpen told now path o.output file)
   -- ids stand where they stood, but for one that the file may have got, which stands at its first byte
-  pub stand : StandsOrBegins old new before after path o.file file
+  pub stand : StandsOrBegins old new before after path o.file o.output file
+  pub keeps : KeepsPlaces w.files v.files
   -- the file's new content isn't seen
   pub same : (told : Contents) (text : List ℕ) → known_bytes old ≡ Some told → AreSynced told (paths_of s) w.files
       → (seen told (paths_of s) text v ≡ seen told (paths_of s) text w) × AreSynced told (paths_of s) v.files
