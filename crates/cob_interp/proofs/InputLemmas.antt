@@ -33,15 +33,18 @@ if_told : (o : Option Told) (c : Option Contents) (told : Contents) (Is : Conten
 if_told o None told Is e h = cc
 if_told o (Some x) told Is e h = let same : x ≡ told = cc in subst Is same h
 
-begins_at : (told : Option Told) (known : Option Handle) (name : List ℕ)
-    → known ≡ option_map (λ _. record { name = name; place = 0 }) told
-    → IfSome known (λ handle. handle ≡ record { name = name; place = 0 })
-begins_at told known name e = subst (λ (o : Option Handle). IfSome o (λ handle. handle ≡ record { name = name; place = 0 }))
-    (sym e) (by told) where
-  by : (t : Option Told)
-      → IfSome (option_map (λ _. record { name = name; place = 0 }) t) (λ handle. handle ≡ record { name = name; place = 0 })
-  by None = tt
-  by (Some x) = refl
+abbrev at_first : List ℕ → Handle
+at_first name = record { name = name; place = 0 }
+
+begins_by : (told : Option Told) (name : List ℕ)
+    → IfSome (option_map (λ _. at_first name) told) (λ handle. handle ≡ at_first name)
+begins_by None name = tt
+begins_by (Some x) name = refl
+
+begins_at : (told : Option Told) (known : Option Handle) (name : List ℕ) → known ≡ option_map (λ _. at_first name) told
+    → IfSome known (λ handle. handle ≡ at_first name)
+begins_at told known name e =
+    subst (λ (o : Option Handle). IfSome o (λ handle. handle ≡ at_first name)) (sym e) (begins_by told name)
 
 module _ (old new : FilesState) (ids : Ids) (name : List ℕ) (place : ℕ) where
   pub opens_for : (id : ℕ) → Opens old new name (Ok id) → OpensFor old new ids (slice_set ids place (Some id)) name place true

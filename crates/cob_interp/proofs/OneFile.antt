@@ -117,7 +117,8 @@ module _ (told : Contents) (path : List ℕ) (size : ℕ) (f : File) (all window
       let g = count in
       let h : length window ≡ 0 = ap (λ (l : List ℕ). length l) e in
       let k : length left ≡ 0 = ap (λ (l : List ℕ). length l) f_ in
-      and_false _ _ (grind (arith, nat_tests))
+      let t : nat_lt f.place (length all) ≡ false = grind (arith, nat_tests) in
+      and_false ((after_read size sees_file).status == 10) (nat_lt f.place (length all)) t
 
   -- neither is cut
   pub window_uncut : (length window ≡ size) ⊎ ((window ≡ []) × (0 < size) × (left ≡ []))

@@ -1,18 +1,21 @@
 -- Where ids stand behind an OPEN, a CLOSE and a READ.
-use Rattle.std.proofs.Common.{◌≡◌, ◌≢◌, ℕ, zero, suc, ◌+◌, ◌<◌, ◌⊎◌, true, false, List, [], ◌∷◌, length, Option, Some, None, Result, Ok, Err, inl, inr, refl, sym, ap, subst, ◌∙◌, take_all, arith}
+use Rattle.std.proofs.Common.{◌≡◌, ◌≢◌, ℕ, zero, suc, ◌+◌, ◌<◌, ◌⊎◌, Bool, true, false, List, [], ◌∷◌, length, Option, Some, None, Result, Ok, Err, inl, inr, refl, sym, ap, subst, ◌∙◌, take_all, arith}
 use Rattle.std.specs.Prelude.{slice_get, slice_set, option_map, nat_le, IsSome, IfSome, IfOk}
 use Rattle.std.proofs.lemmas.Bool.{cases_eq}
 use Rattle.std.proofs.lemmas.Bool.Decides.{nat_tests}
 use Rattle.batch_io.specs.FilesState.{FilesState, Handle, Purpose, Gives, known_handle, moved_by}
 use Rattle.cob_data.specs.declared.layout.FileDecl.{FileDecl}
 use Rattle.cob_data.specs.declared.layout.Layout.{Layout}
-use Rattle.cob_runs.specs.Files.{File, file, Mode, closed, reading, writing, Taken, taken, after_read}
+use Rattle.cob_runs.specs.Files.{File, file, Mode, closed, reading, writing, opened, Taken, taken, after_read}
 use Rattle.cob_runs.specs.State.{World, with_files}
-use Rattle.cob_runs.specs.Acts.{decl_at, take_one}
+use Rattle.cob_runs.specs.Acts.{decl_at, file_act, open_one, take_one}
 use Rattle.cob_world.specs.Calling.{replaced}
 use Rattle.cob_interp.specs.Tracking.{Ids, IsRead, AreOpen, IsReading, ArePlaced, KeepsPlaces}
 use Rattle.cob_interp.specs.Readying.{GivesWindow, settled, settled_file}
-use Rattle.cob_interp.proofs.TrackLemmas.{get_set_other}
+use Rattle.cob_program.specs.declared.act.Opening.{Opening}
+use Rattle.cob_interp.specs.Readying.{StandsOrBegins}
+use Rattle.cob_interp.proofs.Places.{got_in_set}
+use Rattle.cob_interp.proofs.TrackLemmas.{get_set_other, placed_on}
 use Rattle.cob_interp.proofs.OneFile.{takes, from_place, from_end}
 use Rattle.cob_interp.proofs.ReadLemmas.{get_set}
 
@@ -35,8 +38,9 @@ moved_handle o new path place n e h =
 kept_place : (size : ℕ) (window : List ℕ) → (length window ≡ size) ⊎ ((window ≡ []) × (0 < size))
     → (after_read size (file (Some window) (reading false) 0)).file.place ≡ length window
 kept_place size window (inl e) =
+    let p : 0 + size ≡ length window = omega arith in
     ap (λ (t : Taken). t.file.place) (takes size (file (Some window) (reading false) 0) (Some window) refl
-    (from_place size 0 window window (grind (arith, nat_tests)) (take_all size window (omega arith)))) ∙ sym e
+    (from_place size 0 window window (grind (arith, nat_tests)) (take_all size window (omega arith)))) ∙ p
 kept_place size window (inr e) =
     let h : length window ≡ 0 = ap (λ (l : List ℕ). length l) e.0 in
     let some = e.1 in
@@ -76,3 +80,94 @@ module _ (old new : FilesState) (paths : List (List ℕ)) (ids : Ids) (live : Ar
         (sym (gives.given.others id differs
         (subst (λ (o : Option Purpose). IsSome o) (sym (live.purpose other id is)) refl))) before
   ]
+
+-- ---- an OPEN and a CLOSE
+
+pub placed_behind : (paths : List (List ℕ)) (a : FilesState) (ids : Ids) (fs gs : List File) {A E : Type 0}
+    (result : Result A E) → IfOk result (λ _. KeepsPlaces fs gs) → ArePlaced paths a ids fs
+    → IfOk result (λ _. ArePlaced paths a ids gs)
+placed_behind paths a ids fs gs (Ok x) keeps placed = placed_on paths a ids fs gs keeps placed
+placed_behind paths a ids fs gs (Err e) keeps placed = tt
+
+module _ (l : Layout) (paths : List (List ℕ)) (old new : FilesState) (before after : Ids) (w : World) (o : Opening)
+    (path : List ℕ) (f : File) (at : slice_get paths o.file ≡ Some path) (has : slice_get w.files o.file ≡ Some f)
+    (stand : StandsOrBegins old new before after path o.file o.output f) (placed : ArePlaced paths old before w.files) where
+  still_closed : f.mode ≡ closed → IsReading f.mode → ⊥
+  still_closed e reads = subst IsReading e reads
+
+  opened_place : (output : Bool) (content : Option (List ℕ)) (place : ℕ)
+      → IsReading (opened output (file content closed place)).0.mode → (opened output (file content closed place)).0.place ≡ 0
+  opened_place true content place reads = refl
+  opened_place false None place reads = absurd reads
+  opened_place false (Some bytes) place reads = refl
+
+  begun_place : f.mode ≡ closed → IsReading (opened o.output f).0.mode → (opened o.output f).0.place ≡ 0
+  begun_place e reads =
+      subst (λ (m : Mode). IsReading (opened o.output (file f.content m f.place)).0.mode
+      → (opened o.output (file f.content m f.place)).0.place ≡ 0) (sym e) (opened_place o.output f.content f.place) reads
+
+  open_same : (m : Mode) (content : Option (List ℕ)) (place : ℕ) → IsReading m
+      → (opened o.output (file content m place)).0 ≡ file content m place
+  open_same closed content place reads = absurd reads
+  open_same (reading ended) content place reads = refl
+  open_same writing content place reads = absurd reads
+
+  abbrev Is : List File → Type 0
+  Is fs = ArePlaced paths new after fs
+
+  -- where the file is opened
+  opened_in_set : Is (slice_set w.files o.file (opened o.output f).0)
+  opened_in_set other id q g is at_ has_ reads = elim (got_in_set w.files o.file other (opened o.output f).0 g has_) [
+    | inl here ↦
+        let own : IsReading (opened o.output f).0.mode =
+        subst (λ (x : File). IsReading x.mode) (sym here.1) reads in
+        let same : path ≡ q = let h = subst (λ (n : ℕ). slice_get paths n ≡ Some q) here.0 at_ in cc in
+        elim (stand.stand other id is) [
+          | inl stays ↦
+              let was : IsReading f.mode = stays.2 here.0 own in
+              let kept : (opened o.output f).0 ≡ f = open_same f.mode f.content f.place was in
+              subst (λ (h : Option Handle). IfSome h (λ handle. handle ≡ record { name = q; place = g.place })) (sym stays.1)
+              (subst (λ (x : File). IfSome (known_handle old id) (λ handle. handle ≡ record { name = q; place = x.place }))
+              (sym kept ∙ here.1)
+              (placed other id q f stays.0 at_ (subst (λ (n : ℕ). slice_get w.files n ≡ Some f) (sym here.0) has) was))
+          | inr begins ↦
+              subst (λ (x : File). IfSome (known_handle new id) (λ handle. handle ≡ record { name = q; place = x.place }))
+              here.1
+              (subst (λ (n : ℕ). IfSome (known_handle new id) (λ handle. handle ≡ record { name = q; place = n }))
+              (sym (begun_place begins.1 own))
+              (subst (λ (x : List ℕ). IfSome (known_handle new id) (λ handle. handle ≡ record { name = x; place = 0 }))
+              same begins.2))
+        ]
+    | inr there ↦ elim (stand.stand other id is) [
+      | inl stays ↦
+          subst (λ (h : Option Handle). IfSome h (λ handle. handle ≡ record { name = q; place = g.place })) (sym stays.1)
+          (placed other id q g stays.0 at_ there reads)
+      | inr begins ↦
+          let own : slice_get w.files o.file ≡ Some g = subst (λ (n : ℕ). slice_get w.files n ≡ Some g) begins.0 there in
+          let same : f ≡ g = cc in
+          absurd (still_closed begins.1 (subst (λ (x : File). IsReading x.mode) (sym same) reads))
+    ]
+  ]
+
+  -- where it isn't
+  unopened : Is w.files
+  unopened other id q g is at_ has_ reads = elim (stand.stand other id is) [
+    | inl stays ↦
+        subst (λ (h : Option Handle). IfSome h (λ handle. handle ≡ record { name = q; place = g.place })) (sym stays.1)
+        (placed other id q g stays.0 at_ has_ reads)
+    | inr begins ↦
+        let own : slice_get w.files o.file ≡ Some g = subst (λ (n : ℕ). slice_get w.files n ≡ Some g) begins.0 has_ in
+        let same : f ≡ g = cc in
+        absurd (still_closed begins.1 (subst (λ (x : File). IsReading x.mode) (sym same) reads))
+  ]
+
+  opened_by : (decl : Option FileDecl) (x : Option File) → x ≡ Some f
+      → Is (file_act l (opened o.output) o.file decl x w).0.files
+  opened_by None x e = unopened
+  opened_by (Some d) None e = unopened
+  opened_by (Some d) (Some y) e =
+      let same : f ≡ y = cc in
+      subst (λ (z : File). Is (slice_set w.files o.file (opened o.output z).0)) same opened_in_set
+
+  pub open_one_placed : Is (open_one l o w).0.files
+  open_one_placed = opened_by (decl_at l o.file) (slice_get w.files o.file) has

@@ -193,3 +193,14 @@ module _ (p : Program) (number : ℕ) (told : Contents) (paths : List (List ℕ)
     | inr (inr e) ↦ subst (EdgeReads p number told paths text w u change) (ap (λ (x : Action × ℕ). x.0) e)
         (edge_by (action.Bad 0) (λ n. not (is_fine n) && not (n == 10)) (λ z. refl) (ap Some follows.status))
   ]
+
+-- ---- behind it
+
+pub settles : (w : World) (place before : ℕ) (f : File) → slice_get w.files place ≡ Some f
+    → with_files w (replaced place (Some []) (before + f.place) w.files) ≡ settled place before w
+settles w place before f has =
+    ap (λ (o : Option File). with_files w (replaced_on place (Some []) (before + f.place) w.files o)) has
+    ∙ sym (ap (λ (o : Option File). with_files w (settled_on place before w.files o)) has)
+
+pub settles_none : (w : World) (place before : ℕ) → slice_get w.files place ≡ None → w ≡ settled place before w
+settles_none w place before none = sym (ap (λ (o : Option File). with_files w (settled_on place before w.files o)) none)

@@ -184,13 +184,13 @@ module _ (s : Setting) (node : ℕ) (x : Place) (starts : StartsAt s node x) (ap
     window_arrives v (Err end.Memory) d = tt
     window_arrives v (Err (end.Ragged place count)) d =
         let g = on_file (slice_get w.files f) before on in
-        let rest = d.4 in
+        let rest = d.2.2 in
         subst (λ (n : ℕ). Arriving new v (Err (end.Ragged n count))) (sym d.0)
         (subst (λ (u : World). Arriving new u (Err (end.Ragged f count))) (sym d.1)
         (ragged_rests s node x starts budget steps step counted within start (outside new sink) w
         (stands_moved (program_of s) s.graph.now (paths_of s) start sink old new w steps steps node rest.well same stands)
         f count reads
-        (λ told e synced. rest_cuts s old new ids w apart placed f g.0 d.2 g.1 g.2 d.3 told [] (sym same ∙ e) synced before
+        (λ told e synced. rest_cuts s old new ids w apart placed f g.0 d.2.0 g.1 g.2 d.2.1 told [] (sym same ∙ e) synced before
         count g.3 rest)))
     window_arrives v (Err (end.StepsSpent count)) d = does_arrive v (Err (end.StepsSpent count)) d
     window_arrives v (Err (end.IoStop status statement)) d = does_arrive v (Err (end.IoStop status statement)) d
