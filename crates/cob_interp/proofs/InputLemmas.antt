@@ -1,8 +1,8 @@
 -- What calls on the outside's files say of those that are read.
-use Rattle.std.proofs.Common.{◌≡◌, ◌≢◌, ℕ, zero, suc, ◌+◌, ◌<◌, ◌≤◌, inl, inr, Bool, true, false, List, [], ◌∷◌, ◌++◌, length, map, take, Option, Some, None, Result, Ok, Err, refl, sym, ap, subst, ◌∙◌, arith}
+use Rattle.std.proofs.Common.{◌≡◌, ◌≢◌, ℕ, zero, suc, ◌+◌, ◌<◌, ◌≤◌, ◌⊎◌, inl, inr, Bool, true, false, List, [], ◌∷◌, ◌++◌, length, map, take, Option, Some, None, Result, Ok, Err, refl, sym, ap, subst, ◌∙◌, arith}
 use Rattle.std.specs.Prelude.{slice_get, slice_set, option_map, is_some, IsSome, IfSome, MatchResult}
 use Rattle.std.specs.FinMap.{get}
-use Rattle.std.proofs.lemmas.Bool.{false≢true}
+use Rattle.std.proofs.lemmas.Bool.{false≢true, cases_order}
 use Rattle.batch_io.specs.declared.ends.Failed.{Failed}
 use Rattle.batch_io.specs.declared.ends.OpenEnd.TheVariants as opening
 use Rattle.batch_io.specs.Faults.{Rose}
@@ -10,10 +10,10 @@ use Rattle.batch_io.specs.FilesState.{Contents, FilesState, Told, Handle, Purpos
 use Rattle.batch_io.specs.FilesCalls.{Opens, OpensId, Closes}
 use Rattle.batch_io.specs.Wholes.{ReadsRecord}
 use Rattle.cob_interp.specs.Tracking.{Ids, IsRead, AreNone, AreOpen, Tracks}
-use Rattle.cob_interp.specs.Readying.{AreWell, IsOpenedAt, OpensFor, ClosesFor, ClosesAll, GivesRecord, IsRefusal}
+use Rattle.cob_interp.specs.Readying.{AreWell, IsOpenedAt, OpensFor, ClosesFor, ClosesAll, GivesRecord, IsRefusal, first_refusal}
 use Rattle.cob_interp.specs.declared.ends.RunEnd.{RunEnd}
 use Rattle.cob_interp.specs.declared.ends.RunEnd.TheVariants as end
-use Rattle.cob_interp.proofs.TrackLemmas.{tracks_ids, tracks_opened, tracks_closed, tracks_given, read_in_set}
+use Rattle.cob_interp.proofs.TrackLemmas.{get_set_other, read_in_set}
 
 -- ---- lists of ids
 
@@ -25,6 +25,38 @@ none_more (x ∷ ids) none (suc place) id is = none_more ids (λ p i is_. none (
 
 pub none_empty : AreNone []
 none_empty place id is = cc
+
+pub set_none : (ids : Ids) (place : ℕ) → ((id : ℕ) → IsRead ids place id → ⊥) → slice_set ids place None ≡ ids
+set_none [] place none = refl
+set_none (None ∷ ids) zero none = refl
+set_none (Some id ∷ ids) zero none = absurd (none id refl)
+set_none (x ∷ ids) (suc place) none = ap (λ (ys : Ids). x ∷ ys) (set_none ids place none)
+
+out_of : (ids : Ids) (place id : ℕ) → length ids ≤ place → IsRead (slice_set ids place None) place id → ⊥
+out_of [] place id out is = cc
+out_of (x ∷ ids) zero id out is = omega arith
+out_of (x ∷ ids) (suc place) id out is = out_of ids place id (omega arith) is
+
+-- those at the first places are closed
+pub none_below : (ids : Ids) (place : ℕ) → ((p id : ℕ) → p < place → IsRead ids p id → ⊥)
+    → (p id : ℕ) → p < place + 1 → IsRead (slice_set ids place None) p id → ⊥
+none_below ids place none p id below is = by (cases_order p place) where
+  inside : (length ids ≤ place) ⊎ (place < length ids)
+  inside = elim (cases_order place (length ids)) [
+    | inl e ↦ inl (omega (arith, e))
+    | inr (inl l) ↦ inr l
+    | inr (inr l) ↦ inl (omega (arith, l))
+  ]
+  by : (p ≡ place) ⊎ ((p < place) ⊎ (place < p)) → ⊥
+  by (inl e) = elim inside [
+    | inl out ↦ out_of ids place id out (subst (λ (n : ℕ). IsRead (slice_set ids place None) n id) e is)
+    | inr within ↦ elim (read_in_set ids place p id None within is) [
+      | inl here ↦ let h : None ≡ Some id = here.1 in absurd (cc)
+      | inr was ↦ was.0 e
+    ]
+  ]
+  by (inr (inl l)) = none p id l (sym (get_set_other ids place p None (λ e. omega (arith, e, l))) ∙ is)
+  by (inr (inr l)) = omega (arith, l, below)
 
 -- ---- an OPEN
 
@@ -106,3 +138,64 @@ record_given old new ids place id room count is reads = record {
   given = reads.given;
   ended = reads.ended;
 }
+
+-- ---- one close after another
+
+rose_between : (a b c : ℕ) → a ≤ b → Rose b c → Rose a c
+rose_between a b c below rose = omega (arith, below, rose)
+
+later_refusal : (a b c : FilesState) → a.reading ≤ b.reading → b.writing ≡ a.writing → (e : RunEnd) → IsRefusal b c e
+    → IsRefusal a c e
+later_refusal a b c later same end.ReadFault r = rose_between a.reading b.reading c.reading later r
+later_refusal a b c later same end.WriteFault r = subst (λ (n : ℕ). Rose n c.writing) same r
+later_refusal a b c later same end.Memory r = tt
+later_refusal a b c later same (end.Ragged place count) r = absurd r
+later_refusal a b c later same (end.StepsSpent count) r = absurd r
+later_refusal a b c later same (end.IoStop status statement) r = absurd r
+later_refusal a b c later same (end.Fault kind statement step) r = absurd r
+
+refusal_later : (a b c : FilesState) → b.reading ≤ c.reading → c.writing ≡ b.writing → (e : RunEnd) → IsRefusal a b e
+    → IsRefusal a c e
+refusal_later a b c later same end.ReadFault r = omega (arith, later, r)
+refusal_later a b c later same end.WriteFault r = subst (λ (n : ℕ). Rose a.writing n) (sym same) r
+refusal_later a b c later same end.Memory r = tt
+refusal_later a b c later same (end.Ragged place count) r = absurd r
+refusal_later a b c later same (end.StepsSpent count) r = absurd r
+refusal_later a b c later same (end.IoStop status statement) r = absurd r
+refusal_later a b c later same (end.Fault kind statement step) r = absurd r
+
+pub closes_more : (a b c : FilesState) (first other : Result (Unit {0}) RunEnd) → ClosesAll a b first
+    → ClosesAll b c other → ClosesAll a c (first_refusal first other)
+closes_more a b c (Ok u) (Ok v) h k = record {
+  later = let x = h.later in let y = k.later in omega (arith, x, y);
+  writing = k.writing ∙ h.writing;
+  reading = k.reading ∙ h.reading;
+}
+closes_more a b c (Ok u) (Err e) h k = record {
+  later = let x = h.later in let y = k.later in omega (arith, x, y);
+  writing = k.writing ∙ h.writing;
+  reading = later_refusal a b c h.later h.writing e k.reading;
+}
+closes_more a b c (Err e) other h k = record {
+  later = let x = h.later in let y = k.later in omega (arith, x, y);
+  writing = k.writing ∙ h.writing;
+  reading = refusal_later a b c k.later k.writing e h.reading;
+}
+
+pub closes_nothing : (a : FilesState) → ClosesAll a a (Ok tt)
+closes_nothing a = record { later = omega arith; writing = refl; reading = refl }
+
+module _ (old new : FilesState) (id : ℕ) (live_ : old.purpose id ≡ Some Reading) where
+  pub closes_one : Closes old new id (Ok tt) → ClosesAll old new (Ok tt)
+  closes_one closes = record {
+    later = (closes.reading live_).later;
+    writing = closes.writing_kept live_;
+    reading = (closes.reading live_).kept refl;
+  }
+
+  pub closes_ill : (e : Failed) → Closes old new id (Err e) → ClosesAll old new (Err end.ReadFault)
+  closes_ill e closes = record {
+    later = (closes.reading live_).later;
+    writing = closes.writing_kept live_;
+    reading = (closes.reading live_).rose refl;
+  }

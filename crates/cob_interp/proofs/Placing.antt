@@ -1,6 +1,6 @@
 -- Where ids stand behind an OPEN, a CLOSE and a READ.
 use Rattle.std.proofs.Common.{◌≡◌, ◌≢◌, ℕ, zero, suc, ◌+◌, ◌<◌, ◌⊎◌, Bool, true, false, List, [], ◌∷◌, length, Option, Some, None, Result, Ok, Err, inl, inr, refl, sym, ap, subst, ◌∙◌, take_all, arith}
-use Rattle.std.specs.Prelude.{slice_get, slice_set, option_map, nat_le, IsSome, IfSome, IfOk}
+use Rattle.std.specs.Prelude.{Contains, slice_get, slice_set, option_map, nat_le, IsSome, IfSome, IfOk}
 use Rattle.std.proofs.lemmas.Bool.{cases_eq}
 use Rattle.std.proofs.lemmas.Bool.Decides.{nat_tests}
 use Rattle.batch_io.specs.FilesState.{FilesState, Handle, Purpose, Gives, known_handle, moved_by}
@@ -17,7 +17,21 @@ use Rattle.cob_interp.specs.Readying.{StandsOrBegins}
 use Rattle.cob_interp.proofs.Places.{got_in_set}
 use Rattle.cob_interp.proofs.TrackLemmas.{get_set_other, placed_on}
 use Rattle.cob_interp.proofs.OneFile.{takes, from_place, from_end}
-use Rattle.cob_interp.proofs.ReadLemmas.{get_set}
+use Rattle.cob_plan.specs.declared.node.Op.TheVariants as op
+use Rattle.cob_plan.specs.Plan.{op_edges}
+use Rattle.cob_program.specs.Act.{Act, Phrase, Stmts, open_files, read}
+use Rattle.cob_runs.specs.declared.action.Action.{Action}
+use Rattle.cob_runs.specs.Effects.{act_at, effect, effect_of}
+use Rattle.cob_interp.specs.declared.ends.RunEnd.{RunEnd}
+use Rattle.cob_interp.specs.declared.setting.Setting.{Setting}
+use Rattle.cob_interp.specs.declared.setting.Place.{Place}
+use Rattle.cob_interp.specs.Setting.{program_of}
+use Rattle.cob_interp.specs.Doing.{IsPlain, DoesPart}
+use Rattle.cob_interp.proofs.Onward.{effect_by_act}
+use Rattle.cob_interp.proofs.Following.{plain_edge}
+use Rattle.cob_interp.proofs.Places.{plain_keeps, where_keeps}
+use Rattle.cob_interp.proofs.Closings.{where_done, open_edge_is}
+use Rattle.cob_interp.proofs.ReadLemmas.{get_set, three, taken_test}
 
 -- ---- handles
 
@@ -171,3 +185,54 @@ module _ (l : Layout) (paths : List (List ℕ)) (old new : FilesState) (before a
 
   pub open_one_placed : Is (open_one l o w).0.files
   open_one_placed = opened_by (decl_at l o.file) (slice_get w.files o.file) has
+
+-- ---- the part of a node
+
+module _ (s : Setting) (x : Place) (step : ℕ) (w v : World) (b : Act)
+    (its : act_at (program_of s) x.statement.now.number ≡ Some b) (result : Result ℕ RunEnd)
+    (does : DoesPart s x step w v result) where
+  -- where no file is opened, closed or read
+  pub plain_places : IsPlain x.plan_node.now.op b → IfOk result (λ _. KeepsPlaces w.files v.files)
+  plain_places plain =
+      where_done s x step w v (KeepsPlaces w.files v.files) x.plan_node.now.op refl
+      (λ a m out does_. where_keeps w v (effect_of (program_of s) x.statement.now.number None w a b)
+      (plain_keeps (program_of s) x.statement.now.number w a b (plain_edge x.plan_node.now.op b plain a m out))
+      (sym (effect_by_act (program_of s) x.statement.now.number w a b its) ∙ does_)) result does
+
+  -- where a file is opened
+  pub open_places : (os : List Opening) (k fine bad : ℕ) → b ≡ open_files os → x.plan_node.now.op ≡ op.Open k fine bad
+      → (o : Opening) → slice_get os k ≡ Some o → (paths : List (List ℕ)) (new : FilesState) (after : Ids)
+      → ArePlaced paths new after (open_one s.program.now.layout o w).0.files
+      → IfOk result (λ _. ArePlaced paths new after v.files)
+  open_places os k fine bad is op_is o at paths new after placed =
+      where_done s x step w v (ArePlaced paths new after v.files) (op.Open k fine bad) op_is
+      (open_edge_is (program_of s) x.statement.now.number k w v os (its ∙ ap Some is)
+      (λ (u : World). ArePlaced paths new after u.files)
+      (λ o_ at_. let same : o ≡ o_ = cc in
+      subst (λ (y : Opening). ArePlaced paths new after (open_one s.program.now.layout y w).0.files) same placed)
+      fine bad) result does
+
+  -- where a file is read
+  module _ (f : ℕ) (into : Option ℕ) (end_ : Phrase) (fine_ : Stmts) (is_read : b ≡ read f into end_ fine_) where
+    its_read : act_at (program_of s) x.statement.now.number ≡ Some (read f into end_ fine_)
+    its_read = its ∙ ap Some is_read
+
+    abbrev of : Action → Type 0
+    of a = effect_of (program_of s) x.statement.now.number None w a (read f into end_ fine_) ≡ Ok (Some v)
+
+    by_edge : (found end_to bad : ℕ) (a : Action) (m : ℕ) → Contains (op_edges (op.Read found end_to bad)) (a, m)
+        → effect (program_of s) x.statement.now.number None w a ≡ Ok (Some v)
+        → v ≡ (take_one s.program.now.layout None f w).0
+    by_edge found end_to bad a m out does_ =
+        let h = sym (effect_by_act (program_of s) x.statement.now.number w a (read f into end_ fine_) its_read) ∙ does_ in
+        elim (three _ _ _ _ out) [
+          | inl e ↦ sym (taken_test _ _ _ (subst (λ (y : Action × ℕ). of y.0) (sym e) h)).1
+          | inr (inl e) ↦ sym (taken_test _ _ _ (subst (λ (y : Action × ℕ). of y.0) (sym e) h)).1
+          | inr (inr e) ↦ sym (taken_test _ _ _ (subst (λ (y : Action × ℕ). of y.0) (sym e) h)).1
+        ]
+
+    pub read_done : (found end_to bad : ℕ) → x.plan_node.now.op ≡ op.Read found end_to bad
+        → IfOk result (λ _. v ≡ (take_one s.program.now.layout None f w).0)
+    read_done found end_to bad op_is =
+        where_done s x step w v (v ≡ (take_one s.program.now.layout None f w).0) (op.Read found end_to bad) op_is
+        (by_edge found end_to bad) result does

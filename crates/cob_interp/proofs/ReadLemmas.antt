@@ -126,11 +126,11 @@ module _ (l : Layout) (told : Contents) (paths : List (List ℕ)) (text : List �
 
 -- ---- the edges of a READ
 
-taken_test : (b : Bool) (v u : World) → taken_if b v ≡ Ok (Some u) → (b ≡ true) × (v ≡ u)
+pub taken_test : (b : Bool) (v u : World) → taken_if b v ≡ Ok (Some u) → (b ≡ true) × (v ≡ u)
 taken_test true v u e = (refl, cc)
 taken_test false v u e = cc
 
-three : (x y z e : Action × ℕ) → Contains (x ∷ y ∷ z ∷ []) e → (x ≡ e) ⊎ ((y ≡ e) ⊎ (z ≡ e))
+pub three : (x y z e : Action × ℕ) → Contains (x ∷ y ∷ z ∷ []) e → (x ≡ e) ⊎ ((y ≡ e) ⊎ (z ≡ e))
 three x y z e (zero, within, at) = inl at
 three x y z e (suc zero, within, at) = inr (inl at)
 three x y z e (suc (suc zero), within, at) = inr (inr at)
@@ -204,3 +204,41 @@ settles w place before f has =
 
 pub settles_none : (w : World) (place before : ℕ) → slice_get w.files place ≡ None → w ≡ settled place before w
 settles_none w place before none = sym (ap (λ (o : Option File). with_files w (settled_on place before w.files o)) none)
+
+-- what is kept of the files
+module _ (l : Layout) (w : World) (place : ℕ) (f : File) (d : FileDecl) (has : slice_get w.files place ≡ Some f)
+    (declared : decl_at l place ≡ Some d) (window : List ℕ) (mode_ : f.mode ≡ reading false) where
+  abbrev held : File
+  held = file (Some window) (reading false) 0
+
+  abbrev pub given : World
+  given = with_files w (replaced place (Some window) 0 w.files)
+
+  given_is : given ≡ with_files w (slice_set w.files place held)
+  given_is =
+      ap (λ (o : Option File). with_files w (replaced_on place (Some window) 0 w.files o)) has
+      ∙ ap (λ (m : Mode). with_files w (slice_set w.files place (file (Some window) m 0))) mode_
+
+  taken_files : (z : World) (decl : Option FileDecl) (o : Option File) → z ≡ with_files w (slice_set w.files place held)
+      → decl ≡ Some d → o ≡ Some held
+      → (take_on l None place decl o z).0.files
+      ≡ slice_set (slice_set w.files place held) place (after_read d.length held).file
+  taken_files z None o e h k = cc
+  taken_files z (Some x) None e h k = cc
+  taken_files z (Some x) (Some y) e h k =
+      let same : x ≡ d = cc in
+      let there : y ≡ held = cc in
+      rw (e, same, there) refl
+
+  pub kept_files : (settled place f.place (take_one l None place given).0).files
+      ≡ slice_set w.files place (settled_file f.place (after_read d.length held).file)
+  kept_files =
+      let files_ = taken_files given (decl_at l place) (slice_get given.files place) given_is declared
+      (ap (λ (z : World). slice_get z.files place) given_is ∙ get_set w.files place f held has) in
+      ap (λ (fs : List File). settled_on place f.place fs (slice_get fs place)) files_
+      ∙ ap (settled_on place f.place (slice_set (slice_set w.files place held) place (after_read d.length held).file))
+      (get_set (slice_set w.files place held) place held (after_read d.length held).file
+      (get_set w.files place f held has))
+      ∙ set_twice (slice_set w.files place held) place (after_read d.length held).file
+      (settled_file f.place (after_read d.length held).file)
+      ∙ set_twice w.files place held (settled_file f.place (after_read d.length held).file)

@@ -1,8 +1,6 @@
 //! Files that are being read.
-ghost use Rattle.std.specs.Prelude.{◌≡◌, ◌≤◌, ℕ, List, IfOk, IfSome, MatchResult, Some, None, length, slice_get, slice_set};
-ghost use Rattle.std.specs.Option.{option_map};
-ghost use Rattle.batch_io.specs.FilesState.{Gives, known_bytes};
-ghost use Rattle.batch_io.specs.Faults.{Rose};
+ghost use Rattle.std.specs.Prelude.{◌≡◌, ◌<◌, ℕ, IfOk, IfSome, MatchResult, None, length, slice_set};
+ghost use Rattle.batch_io.specs.FilesState.{known_bytes};
 ghost use Rattle.cob_interp.specs.Tracking.{IsRead, AreNone, AreOpen, Tracks};
 ghost use Rattle.cob_interp.specs.Readying.{IsRefusal, OpensFor, ClosesFor, ClosesAll, GivesRecord, first_refusal};
 
@@ -12,27 +10,19 @@ use std::alloc::{AllocError, Global};
 use std::marker::Model;
 use std::mem;
 
-/// A file that is being read: its id, and room for one of its records.
-#[derive(Drop)]
-struct Input {
-    id: u32,
-    room: Vec<u8>,
-}
-
-/// The files that are being read, each at its place.
+/// The files that are being read: the id of each at its place, and room for one of its records.
 #[derive(Drop)]
 pub struct Inputs {
-    slots: Vec<Option<Input>>,
+    ids: Vec<Option<u32>>,
+    rooms: Vec<Vec<u8>>,
 }
 
 impl Model for Inputs {
-    ghost use Rattle.std.specs.Prelude.{map};
-    ghost use Rattle.std.specs.Option.{option_map};
     ghost use Rattle.cob_interp.specs.Tracking.{Ids};
 
     ghost Value = { Ids };
 
-    ghost view = { λ i. map (option_map (λ input. input.id)) i.slots.items };
+    ghost view = { λ i. i.ids.items };
 }
 
 // So many bytes of room.
@@ -57,28 +47,48 @@ impl Inputs {
     pub fn none(alloc: Global, count: usize) -> Result<Inputs, AllocError>
         ensures { IfOk result (λ ids. AreNone ids) }
     {
-        let mut slots = Vec::with_capacity(alloc, count)?;
+        let mut ids = Vec::with_capacity(alloc, count)?;
+        let mut rooms = Vec::with_capacity(alloc, count)?;
         for _ in 0..count {
-            slots.push(None)?;
+            ids.push(None)?;
+            rooms.push(Vec::new(alloc))?;
         }
-        Ok(Inputs { slots })
+        Ok(Inputs { ids, rooms })
     }
 
     fn id(&self, place: usize) -> Option<u32>
         ensures some { IfSome result (λ id. IsRead self.now place id) }
         ensures none { result ≡ None → (id : ℕ) → IsRead self.now place id → ⊥ }
     {
-        match self.slots.get(place) {
-            Some(Some(input)) => Some(input.id),
+        match self.ids.get(place) {
+            Some(Some(id)) => Some(*id),
             _ => None,
         }
     }
 
-    fn put(&mut self, place: usize, input: Option<Input>)
+    fn put_id(&mut self, place: usize, id: Option<u32>)
         requires { place < length self.old }
-        ensures { self.new ≡ slice_set self.old place (option_map (λ i. i.id) input) }
+        ensures { self.new ≡ slice_set self.old place id }
     {
-        self.slots[place] = input;
+        self.ids[place] = id;
+    }
+
+    fn take_room(&mut self, alloc: Global, place: usize) -> Vec<u8>
+        ensures { self.new ≡ self.old }
+    {
+        match self.rooms.get_mut(place) {
+            Some(room) => mem::replace(room, Vec::new(alloc)),
+            None => Vec::new(alloc),
+        }
+    }
+
+    /// Gives the room of the file at a place back.
+    pub fn give_room(&mut self, place: usize, room: Vec<u8>)
+        ensures { self.new ≡ self.old }
+    {
+        if place < self.rooms.len() {
+            self.rooms[place] = room;
+        }
     }
 
     /// Opens the file of this name for the file at a place, with room for one record of so many bytes. Answers whether
@@ -98,7 +108,10 @@ impl Inputs {
             (λ there. OpensFor (F.state files.old) (F.state files.new) self.old self.new name.now place there)
             (λ e. IsRefusal (F.state files.old) (F.state files.new) e) }
     {
-        if place >= self.slots.len() || self.id(place).is_some() {
+        if place >= self.ids.len() {
+            return Err(RunEnd::Memory);
+        }
+        if let Some(_) = self.id(place) {
             return Err(RunEnd::Memory);
         }
         let Ok(room) = room_of(alloc, size) else {
@@ -106,7 +119,8 @@ impl Inputs {
         };
         match files.open(name) {
             Ok(id) => {
-                self.put(place, Some(Input { id, room }));
+                self.put_id(place, Some(id));
+                self.give_room(place, room);
                 Ok(true)
             }
             Err(OpenEnd::Absent) => Ok(false),
@@ -119,6 +133,8 @@ impl Inputs {
     pub fn close<F: Files>(&mut self, files: &mut F, place: usize) -> Result<(), RunEnd>
         requires live { AreOpen (F.state files.old) self.old }
         ensures tracks { Tracks (F.state files.old) (F.state files.new) self.old self.new }
+        ensures emptied { self.new ≡ slice_set self.old place None }
+        ensures counts { ClosesAll (F.state files.old) (F.state files.new) result }
         ensures same { known_bytes (F.state files.new) ≡ known_bytes (F.state files.old) }
         ensures closes { MatchResult result
             (λ _. ClosesFor (F.state files.old) (F.state files.new) self.old self.new place)
@@ -127,7 +143,7 @@ impl Inputs {
         let Some(id) = self.id(place) else {
             return Ok(());
         };
-        self.put(place, None);
+        self.put_id(place, None);
         match files.close(id) {
             Ok(()) => Ok(()),
             Err(Failed) => Err(RunEnd::ReadFault),
@@ -143,7 +159,7 @@ impl Inputs {
         ensures counts { ClosesAll (F.state files.old) (F.state files.new) result }
     {
         let mut closed = Ok(());
-        for place in 0..self.slots.len() {
+        for place in 0..self.ids.len() {
             closed = first_of(closed, self.close(files, place));
         }
         closed
@@ -165,22 +181,13 @@ impl Inputs {
             (λ r. GivesRecord (F.state files.old) (F.state files.new) self.old place r.0.items r.1)
             (λ e. IsRefusal (F.state files.old) (F.state files.new) e) }
     {
-        let Some(Some(input)) = self.slots.get_mut(place) else {
+        let Some(id) = self.id(place) else {
             return Err(RunEnd::Memory);
         };
-        let mut room = mem::replace(&mut input.room, Vec::new(alloc));
-        match read_record(files, input.id, room.as_mut_slice()) {
+        let mut room = self.take_room(alloc, place);
+        match read_record(files, id, room.as_mut_slice()) {
             Ok(count) => Ok((room, count)),
             Err(Failed) => Err(RunEnd::ReadFault),
-        }
-    }
-
-    /// Gives the room of the file at a place back.
-    pub fn give_room(&mut self, place: usize, room: Vec<u8>)
-        ensures { self.new ≡ self.old }
-    {
-        if let Some(Some(input)) = self.slots.get_mut(place) {
-            input.room = room;
         }
     }
 }
