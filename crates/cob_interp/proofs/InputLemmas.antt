@@ -58,6 +58,11 @@ none_below ids place none p id below is = by (cases_order p place) where
   by (inr (inl l)) = none p id l (sym (get_set_other ids place p None (λ e. omega (arith, e, l))) ∙ is)
   by (inr (inr l)) = omega (arith, l, below)
 
+pub size_kept : (ids : Ids) (place : ℕ) (x : Option ℕ) → length (slice_set ids place x) ≡ length ids
+size_kept [] place x = refl
+size_kept (y ∷ ids) zero x = refl
+size_kept (y ∷ ids) (suc place) x = ap suc (size_kept ids place x)
+
 -- ---- an OPEN
 
 if_told : (o : Option Told) (c : Option Contents) (told : Contents) (Is : Contents → Type 0) → c ≡ Some told → IfSome c Is

@@ -1,0 +1,54 @@
+use Rattle.std.proofs.Common.{[], ◌∷◌, sym, Some, ap, ◌∙◌}
+use Rattle.cob_program.specs.ActView.{plain_act}
+use Rattle.cob_interp.specs.Setting.{paths_of}
+use Rattle.cob_interp.specs.Touching.{makes_in}
+use Rattle.cob_interp.proofs.OpenLeads.{open_leads}
+use Rattle.cob_interp.proofs.Touched.{makes_stay, makes_more, makes_one}
+use Rattle.cob_interp.proofs.Closings.{open_part, opens_behind}
+use Rattle.cob_interp.proofs.TrackLemmas.{placed_on}
+use Rattle.cob_interp.proofs.Placing.{open_places, open_one_placed}
+use Rattle.cob_interp.proofs.opens.do_open.Goals as goal
+
+pub returns-in_default-clause-touches : goal.returns-in_default-clause-touches
+returns-in_default-clause-touches g c =
+    makes_stay (paths_of c.args.setting.now) (makes_in c.args.openings.now) c.args.world.now.world _
+
+pub returns-in-None-clause-touches : goal.returns-in-None-clause-touches
+returns-in-None-clause-touches g c =
+    makes_stay (paths_of c.args.setting.now) (makes_in c.args.openings.now) c.args.world.now.world _
+
+pub returns-in_ok-ready_to_open-in-Some-clause-touches : goal.returns-in_ok-ready_to_open-in-Some-clause-touches
+returns-in_ok-ready_to_open-in-Some-clause-touches g c =
+    makes_more (paths_of c.args.setting.now) (makes_in (c.in-Some.opening ∷ [])) (makes_in c.args.openings.now)
+    c.args.world.now.world
+    (makes_one c.args.openings.now c.in-Open.file c.in-Some.opening (sym c.in-Some.ensures)) _ _
+    c.in_ok-ready_to_open-in-Some.ensures.touches
+
+pub returns-in_err-ready_to_open-in-Some-clause-touches : goal.returns-in_err-ready_to_open-in-Some-clause-touches
+returns-in_err-ready_to_open-in-Some-clause-touches g c =
+    makes_more (paths_of c.args.setting.now) (makes_in (c.in-Some.opening ∷ [])) (makes_in c.args.openings.now)
+    c.args.world.now.world
+    (makes_one c.args.openings.now c.in-Open.file c.in-Some.opening (sym c.in-Some.ensures)) _ _
+    c.in_err-ready_to_open-in-Some.ensures.touches
+
+pub returns-in_ok-ready_to_open-in-Some-clause-leads : goal.returns-in_ok-ready_to_open-in-Some-clause-leads
+returns-in_ok-ready_to_open-in-Some-clause-leads g c sink node budget is =
+    open_leads c.args.setting.now budget c.args.place.now c.args.step node sink _ _ _ _ _ c.requires.ready.distinct is
+    c.in-Open.file c.in-Open.fine c.in-Open.bad c.in-Some.opening c.args.openings.now c.in-Open.is c.requires.its
+    (sym c.in-Some.ensures) _ _ c.in_ok-ready_to_open-in-Some.ensures.readies _ c.do_part.ensures.does
+
+pub returns-in_ok-ready_to_open-in-Some-clause-opens : goal.returns-in_ok-ready_to_open-in-Some-clause-opens
+returns-in_ok-ready_to_open-in-Some-clause-opens g c =
+    opens_behind _ _ _ _ c.in_ok-ready_to_open-in-Some.ensures.opens
+    (open_part c.args.setting.now c.args.place.now c.args.step _ _ c.args.openings.now c.in-Open.file c.in-Open.fine
+    c.in-Open.bad c.in-Open.is (c.requires.place.its ∙ ap Some c.requires.its) _ c.do_part.ensures.does)
+
+pub returns-in_ok-ready_to_open-in-Some-clause-placed : goal.returns-in_ok-ready_to_open-in-Some-clause-placed
+returns-in_ok-ready_to_open-in-Some-clause-placed g c =
+    let ready = c.in_ok-ready_to_open-in-Some.ensures.readies in
+    open_places c.args.setting.now c.args.place.now c.args.step _ _ (plain_act c.args.place.now.statement.now.act.now)
+    c.requires.place.its _ c.do_part.ensures.does c.args.openings.now c.in-Open.file c.in-Open.fine c.in-Open.bad
+    c.requires.its c.in-Open.is c.in-Some.opening (sym c.in-Some.ensures) (paths_of c.args.setting.now) _ _
+    (open_one_placed c.args.setting.now.program.now.layout (paths_of c.args.setting.now) _ _ _ _ _ c.in-Some.opening
+    ready.path ready.file ready.is.path_ ready.has ready.stand
+    (placed_on (paths_of c.args.setting.now) _ _ _ _ ready.keeps c.requires.placed))
