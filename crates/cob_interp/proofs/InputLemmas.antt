@@ -83,10 +83,11 @@ begins_at : (told : Option Told) (known : Option Handle) (name : List ℕ) → k
 begins_at told known name e =
     subst (λ (o : Option Handle). IfSome o (λ handle. handle ≡ at_first name)) (sym e) (begins_by told name)
 
-module _ (old new : FilesState) (ids : Ids) (name : List ℕ) (place : ℕ) where
+module _ (old new : FilesState) (ids : Ids) (name : List ℕ) (place : ℕ) (within : place < length ids) where
   pub opens_for : (id : ℕ) → Opens old new name (Ok id) → OpensFor old new ids (slice_set ids place (Some id)) name place true
   opens_for id opens = record {
     well = record { reading = opens.reading.kept refl; writing = opens.writing };
+    within = within;
     there_ = λ told e.
         sym (if_told old.told (known_bytes old) told (λ contents. IsSome (get contents name)) e opens.present);
     opened = (id, refl, begins_at old.told (known_handle new id) name opens.ids.handle);
@@ -101,6 +102,7 @@ module _ (old new : FilesState) (ids : Ids) (name : List ℕ) (place : ℕ) wher
   pub absent_for : Opens old new name (Err opening.Absent) → OpensFor old new ids ids name place false
   absent_for opens = record {
     well = record { reading = opens.reading.kept refl; writing = opens.writing };
+    within = within;
     there_ = λ told e. none_is (get told name)
         (if_told old.told (known_bytes old) told (λ contents. get contents name ≡ None) e (opens.absent refl));
     opened = refl;

@@ -17,6 +17,7 @@ pub mod Placing
 pub mod TrackLemmas
 pub mod InputLemmas
 pub mod Windows
+pub mod Readied
 pub mod Places
 pub mod StepLemmas
 pub mod CallLemmas

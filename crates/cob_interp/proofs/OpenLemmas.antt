@@ -139,14 +139,13 @@ module _ (s : Setting) (w : World) (o : Opening) (path : List ℕ) (is : IsPath 
     agrees told b (reading ended) n = refl
     agrees told b writing n = refl
 
-  module _ (old new : FilesState) (before after : Ids) (within : o.file < length before) (mode_ : f.mode ≡ closed)
-      (input : o.output ≡ false) where
+  module _ (old new : FilesState) (before after : Ids) (mode_ : f.mode ≡ closed) (input : o.output ≡ false) where
     -- where ids stand behind it
-    opened_stand : (there : Bool) → IsOpenedAt new before after path o.file there
+    opened_stand : o.file < length before → (there : Bool) → IsOpenedAt new before after path o.file there
         → ((other : ℕ) → IsSome (old.purpose other) → known_handle new other ≡ known_handle old other)
         → AreOpen old before → (content : Option (List ℕ)) → is_some content ≡ there
         → StandsOrBegins old new before after path o.file o.output (file content f.mode f.place)
-    opened_stand false same others live content none = record {
+    opened_stand within false same others live content none = record {
       stand = λ other id is_.
           let was : IsRead before other id = subst (λ ids. IsRead ids other id) same is_ in
           inl (
@@ -156,7 +155,7 @@ module _ (s : Setting) (w : World) (o : Opening) (path : List ℕ) (is : IsPath 
                 (subst (λ b. IsReading (opened b (file content f.mode f.place)).0.mode) input reads)),
           );
     }
-    opened_stand true begun others live content some = record {
+    opened_stand within true begun others live content some = record {
       stand = λ other id is_. elim (read_in_set before o.file other id (Some begun.0) within
           (subst (λ ids. IsRead ids other id) begun.1 is_)) [
         | inl here ↦
@@ -194,7 +193,7 @@ module _ (s : Setting) (w : World) (o : Opening) (path : List ℕ) (is : IsPath 
               it = rw (input, mode_) (refl, opens.is ∙ opens.opens.there_ told e);
             };
           };
-          stand = opened_stand opens.there opens.opens.opened opens.opens.others live content opens.is;
+          stand = opened_stand opens.opens.within opens.there opens.opens.opened opens.opens.others live content opens.is;
           keeps = subst (λ (fs : List File). KeepsPlaces w.files fs) (sym files_) (set_keeps w.files o.file g
               (λ reads. subst (λ (m : Mode). IsReading m → ⊥) (sym mode_) (λ r. r) reads));
           same = λ told text e synced.

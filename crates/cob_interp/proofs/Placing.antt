@@ -8,14 +8,14 @@ use Rattle.cob_data.specs.declared.layout.FileDecl.{FileDecl}
 use Rattle.cob_data.specs.declared.layout.Layout.{Layout}
 use Rattle.cob_runs.specs.Files.{File, file, Mode, closed, reading, writing, opened, Taken, taken, after_read}
 use Rattle.cob_runs.specs.State.{World, with_files}
-use Rattle.cob_runs.specs.Acts.{decl_at, file_act, open_one, take_one}
+use Rattle.cob_runs.specs.Acts.{decl_at, file_act, open_one, take_on, take_one}
 use Rattle.cob_world.specs.Calling.{replaced}
 use Rattle.cob_interp.specs.Tracking.{Ids, IsRead, AreOpen, IsReading, ArePlaced, KeepsPlaces}
-use Rattle.cob_interp.specs.Readying.{GivesWindow, settled, settled_file}
+use Rattle.cob_interp.specs.Readying.{GivesWindow, IsReadOn, settled, settled_file}
 use Rattle.cob_program.specs.declared.act.Opening.{Opening}
 use Rattle.cob_interp.specs.Readying.{StandsOrBegins}
-use Rattle.cob_interp.proofs.Places.{got_in_set}
-use Rattle.cob_interp.proofs.TrackLemmas.{get_set_other, placed_on}
+use Rattle.cob_interp.proofs.Places.{got_in_set, set_keeps_as}
+use Rattle.cob_interp.proofs.TrackLemmas.{get_set_other, placed_on, places_stay}
 use Rattle.cob_interp.proofs.OneFile.{takes, from_place, from_end}
 use Rattle.cob_plan.specs.declared.node.Op.TheVariants as op
 use Rattle.cob_plan.specs.Plan.{op_edges}
@@ -25,13 +25,13 @@ use Rattle.cob_runs.specs.Effects.{act_at, effect, effect_of}
 use Rattle.cob_interp.specs.declared.ends.RunEnd.{RunEnd}
 use Rattle.cob_interp.specs.declared.setting.Setting.{Setting}
 use Rattle.cob_interp.specs.declared.setting.Place.{Place}
-use Rattle.cob_interp.specs.Setting.{program_of}
+use Rattle.cob_interp.specs.Setting.{program_of, paths_of}
 use Rattle.cob_interp.specs.Doing.{IsPlain, DoesPart}
 use Rattle.cob_interp.proofs.Onward.{effect_by_act}
 use Rattle.cob_interp.proofs.Following.{plain_edge}
 use Rattle.cob_interp.proofs.Places.{plain_keeps, where_keeps}
 use Rattle.cob_interp.proofs.Closings.{where_done, open_edge_is}
-use Rattle.cob_interp.proofs.ReadLemmas.{get_set, three, taken_test}
+use Rattle.cob_interp.proofs.ReadLemmas.{get_set, three, taken_test, kept_files}
 
 -- ---- handles
 
@@ -236,3 +236,50 @@ module _ (s : Setting) (x : Place) (step : ℕ) (w v : World) (b : Act)
     read_done found end_to bad op_is =
         where_done s x step w v (v ≡ (take_one s.program.now.layout None f w).0) (op.Read found end_to bad) op_is
         (by_edge found end_to bad) result does
+
+-- ---- behind a READ
+
+module _ (s : Setting) (old new : FilesState) (ids : Ids) (live : AreOpen old ids) (w : World)
+    (placed : ArePlaced (paths_of s) old ids w.files) (place : ℕ) (f : File) (d : FileDecl)
+    (has : slice_get w.files place ≡ Some f) (mode_ : f.mode ≡ reading false)
+    (declared : decl_at s.program.now.layout place ≡ Some d) (window : List ℕ)
+    (gives : GivesWindow old new ids place d.length window) where
+  whole_or_none : (length window ≡ d.length) ⊎ ((window ≡ []) × (0 < d.length))
+  whole_or_none = elim gives.whole [
+    | inl full ↦ inl full
+    | inr none ↦ inr (none.0, none.1)
+  ]
+
+  pub read_placed : (mid : World)
+      → mid ≡ (take_one s.program.now.layout None place (with_files w (replaced place (Some window) 0 w.files))).0
+      → ArePlaced (paths_of s) new ids (settled place f.place mid).files
+  read_placed mid is =
+      let g = settled_file f.place (after_read d.length (file (Some window) (reading false) 0)).file in
+      let at : g.place ≡ f.place + length window =
+      ap (λ (n : ℕ). f.place + n) (kept_place d.length window whole_or_none) in
+      subst (λ (fs : List File). ArePlaced (paths_of s) new ids fs)
+      (sym (ap (λ (u : World). (settled place f.place u).files) is
+      ∙ kept_files s.program.now.layout w place f d has declared window mode_))
+      (window_placed old new (paths_of s) ids live w.files placed place d.length f g has mode_ window gives at)
+
+-- a file that isn't read, or whose end was met
+idle_kept : (size : ℕ) (content : Option (List ℕ)) (m : Mode) (place : ℕ) → (m ≡ reading false → ⊥)
+    → (after_read size (file content m place)).file ≡ file content m place
+idle_kept size content closed place idle = refl
+idle_kept size content (reading true) place idle = refl
+idle_kept size content (reading false) place idle = absurd (idle refl)
+idle_kept size content writing place idle = refl
+
+idle_on : (l : Layout) (w : World) (place : ℕ) (decl : Option FileDecl) (o : Option File) → slice_get w.files place ≡ o
+    → IsReadOn o None → KeepsPlaces w.files (take_on l None place decl o w).0.files
+idle_on l w place None o has idle = places_stay w.files
+idle_on l w place (Some d) None has idle = places_stay w.files
+idle_on l w place (Some d) (Some f) has idle =
+    set_keeps_as w.files place f (after_read d.length f).file has
+    (λ reads. idle_kept d.length f.content f.mode f.place idle)
+
+pub idle_placed : (l : Layout) (w v : World) (place : ℕ) → IsReadOn (slice_get w.files place) None
+    → v ≡ (take_one l None place w).0 → KeepsPlaces w.files v.files
+idle_placed l w v place idle is =
+    subst (λ (u : World). KeepsPlaces w.files u.files) (sym is)
+    (idle_on l w place (decl_at l place) (slice_get w.files place) refl idle)

@@ -1,5 +1,5 @@
 -- The next record of a file, as it is told.
-use Rattle.std.proofs.Common.{◌≡◌, ℕ, ◌+◌, ◌<◌, ◌≤◌, ◌⊎◌, true, false, List, [], ◌++◌, length, drop, Option, Some, None, inl, inr, refl, sym, ap, subst, ◌∙◌, append-nil, arith}
+use Rattle.std.proofs.Common.{◌≡◌, ℕ, ◌+◌, ◌<◌, ◌≤◌, ◌⊎◌, true, false, List, [], ◌++◌, length, take, drop, length-take-le, Option, Some, None, inl, inr, refl, sym, ap, subst, ◌∙◌, append-nil, arith}
 use Rattle.std.specs.Prelude.{slice_get, unwrap_or, option_map, IfSome}
 use Rattle.std.specs.FinMap.{get}
 use Rattle.std.specs.Io.KnownBytes.{prepend_known}
@@ -7,6 +7,8 @@ use Rattle.batch_io.specs.FilesState.{Contents, FilesState, Told, Handle, Gives,
 use Rattle.cob_runs.specs.Files.{File, Mode, reading}
 use Rattle.cob_interp.specs.Told.{IsSynced, IsSyncedIn}
 use Rattle.cob_interp.specs.Tracking.{Ids, IsRead, IsReading, ArePlaced}
+use Rattle.cob_interp.specs.Readying.{GivesRecord, GivesWindow, HasRest}
+use Rattle.std.proofs.Math.Seq.{take-length}
 
 -- what is left behind what was given
 pub rest_split : (o : Option (List ℕ)) (window rest : List ℕ) → Some rest ≡ prepend_known window o
@@ -49,3 +51,50 @@ module _ (old new : FilesState) (paths : List (List ℕ)) (ids : Ids) (files : L
 pub left_none : (o : Option (List ℕ)) (left : List ℕ) → o ≡ Some left → IfSome o (λ rest. rest ≡ []) → left ≡ []
 left_none None left e h = cc
 left_none (Some rest) left e h = let same : rest ≡ left = cc in sym same ∙ h
+
+-- ---- what a READ is given
+
+module _ (old new : FilesState) (ids : Ids) (place size : ℕ) (room : List ℕ) (count : ℕ)
+    (gives : GivesRecord old new ids place room count) (long : length room ≡ size) where
+  -- a whole record
+  pub window_full : count ≡ length room → GivesWindow old new ids place size room
+  window_full e = record {
+    well = gives.well;
+    id = gives.id;
+    is = gives.is;
+    given = subst (λ (bytes : List ℕ). Gives old new gives.id bytes) (ap (λ (n : ℕ). take n room) e ∙ take-length room)
+        gives.given;
+    whole = inl long;
+  }
+
+  -- nothing at the end
+  pub window_none : count ≡ 0 → (count ≡ length room → ⊥) → GivesWindow old new ids place size []
+  window_none e differ =
+      let some : 0 < length room = omega (arith, e, differ) in
+      record {
+        well = gives.well;
+        id = gives.id;
+        is = gives.is;
+        given = subst (λ (bytes : List ℕ). Gives old new gives.id bytes) (ap (λ (n : ℕ). take n room) e) gives.given;
+        whole = inr (refl, omega (arith, some, long), gives.ended (omega (arith, some, e)));
+      }
+
+  -- a rest
+  pub window_rest : (count ≡ length room → ⊥) → (count ≡ 0 → ⊥) → (before total : ℕ) → total ≡ before + count
+      → HasRest old new ids place size before total
+  window_rest differ some before total counted =
+      let within = gives.within in
+      let least : 0 < count = omega (arith, some) in
+      let few : count < length room = omega (arith, within, differ) in
+      let size_ : length (take count room) ≡ count = length-take-le count room within in
+      record {
+        well = gives.well;
+        id = gives.id;
+        is = gives.is;
+        left = take count room;
+        given = gives.given;
+        some = omega (arith, size_, least);
+        few = omega (arith, size_, few, long);
+        ended = gives.ended few;
+        counted = omega (arith, size_, counted);
+      }

@@ -74,6 +74,7 @@ IsOpenedAt new before after name place false = after ≡ before
 -- a file of this name is opened for the file at a place, if it is there
 pub record OpensFor (old new : FilesState) (before after : Ids) (name : List ℕ) (place : ℕ) (there : Bool) : Type 0 where
   pub well : AreWell old new
+  pub within : place < length before
   pub there_ : (told : Contents) → known_bytes old ≡ Some told → there ≡ is_some (get told name)
   pub opened : IsOpenedAt new before after name place there
   pub others : (other : ℕ) → IsSome (old.purpose other) → known_handle new other ≡ known_handle old other

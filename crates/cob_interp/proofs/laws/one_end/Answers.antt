@@ -20,6 +20,7 @@ use Rattle.cob_interp.proofs.Finishing
 use Rattle.cob_interp.proofs.ClosingInputs
 use Rattle.cob_interp.proofs.InputLemmas
 use Rattle.cob_interp.proofs.Windows
+use Rattle.cob_interp.proofs.Readied
 use Rattle.cob_interp.proofs.RecordReads
 use Rattle.cob_interp.proofs.Placing
 use Rattle.cob_interp.proofs.laws.one_end.Goals as goal
