@@ -6,7 +6,7 @@ use Rattle.cob_interp.proofs.TrackLemmas.{tracks_ids, tracks_pass}
 use Rattle.cob_interp.proofs.outside.ready_to_close.Goals as goal
 
 pub close-requires : goal.close-requires
-close-requires g c = (tracks_ids _ _ _ c.in_ok-put_file_at.ensures.ids c.requires.live).live
+close-requires g c = record { live = (tracks_ids _ _ _ c.in_ok-put_file_at.ensures.ids c.requires.live).live }
 
 pub returns-in_err-put_file_at-clause-tracks : goal.returns-in_err-put_file_at-clause-tracks
 returns-in_err-put_file_at-clause-tracks g c = tracks_ids _ _ _ c.in_err-put_file_at.ensures.ids c.requires.live
