@@ -14,6 +14,14 @@ const CERTIFICATE: &str =
 const WRITER: &str =
     "       IDENTIFICATION DIVISION.\n       PROGRAM-ID. W.\n       ENVIRONMENT DIVISION.\n       INPUT-OUTPUT SECTION.\n       FILE-CONTROL.\n       SELECT F ASSIGN TO OUT.\n       DATA DIVISION.\n       FILE SECTION.\n       FD F.\n       01 R PIC X.\n       PROCEDURE DIVISION.\n       OPEN OUTPUT F.\n       WRITE R FROM 'A'.\n       CLOSE F.\n       DISPLAY 'B'.\n";
 
+// The payroll of the samples, what it reads, and what it writes.
+const PAYROLL: &str =
+    "       IDENTIFICATION DIVISION.\n       PROGRAM-ID. PAYRUN.\n       ENVIRONMENT DIVISION.\n       INPUT-OUTPUT SECTION.\n       FILE-CONTROL.\n           SELECT PAY-IN ASSIGN TO PAYIN\n               ORGANIZATION IS SEQUENTIAL\n               FILE STATUS IS IN-STATUS.\n           SELECT PAY-OUT ASSIGN TO PAYOUT.\n       DATA DIVISION.\n       FILE SECTION.\n       FD PAY-IN LABEL RECORDS ARE STANDARD.\n       01 HEAD-REC.\n          05 HEAD-TYPE PIC X.\n          05 HEAD-DATE PIC 9(8).\n          05 FILLER PIC X(3).\n       01 PAY-REC.\n          05 REC-TYPE PIC X.\n             88 IS-HEAD VALUE 'H'.\n             88 IS-DETAIL VALUE 'D'.\n             88 IS-TRAILER VALUE 'T'.\n          05 EMP-NO PIC 9(5).\n          05 HOURS PIC S9(3)V9 COMP-3.\n          05 RATE PIC S9(3)V99 COMP-3.\n       01 TRAIL-REC.\n          05 FILLER PIC X.\n          05 TRAIL-COUNT PIC 9(5).\n          05 FILLER PIC X(6).\n       FD PAY-OUT.\n       01 OUT-REC.\n          05 OUT-EMP PIC 9(5).\n          05 FILLER PIC X.\n          05 OUT-HOURS PIC ZZ9.9.\n          05 FILLER PIC X.\n          05 OUT-GROSS PIC Z,ZZZ,ZZ9.99.\n       01 TOT-REC.\n          05 TOT-TEXT PIC X(12).\n          05 TOT-GROSS PIC Z,ZZZ,ZZ9.99.\n       WORKING-STORAGE SECTION.\n       01 SWITCHES.\n          05 IN-STATUS PIC XX VALUE '00'.\n          05 EOF-SW PIC X VALUE 'N'.\n             88 AT-EOF VALUE 'Y'.\n       01 COUNTERS.\n          05 DETAIL-COUNT PIC 9(5) VALUE ZERO.\n          05 BAD-COUNT PIC 9(5) VALUE ZERO.\n       01 AMOUNTS.\n          05 GROSS PIC 9(7)V99 VALUE ZERO.\n          05 TOTAL-GROSS PIC 9(7)V99 VALUE ZERO.\n       PROCEDURE DIVISION.\n       MAIN-LINE.\n           OPEN INPUT PAY-IN.\n           IF IN-STATUS NOT = '00'\n               DISPLAY 'CANNOT OPEN ' IN-STATUS\n               STOP RUN\n           END-IF.\n           OPEN OUTPUT PAY-OUT.\n           PERFORM READ-PAY.\n           PERFORM PROCESS-RECORD UNTIL AT-EOF.\n           PERFORM WRITE-TOTALS.\n           CLOSE PAY-IN PAY-OUT.\n           STOP RUN.\n       READ-PAY.\n           READ PAY-IN\n               AT END SET AT-EOF TO TRUE\n           END-READ.\n       PROCESS-RECORD.\n           EVALUATE TRUE\n               WHEN IS-HEAD PERFORM DO-HEAD\n               WHEN IS-DETAIL\n                   PERFORM DO-DETAIL THRU DO-DETAIL-EXIT\n               WHEN IS-TRAILER PERFORM DO-TRAILER\n               WHEN OTHER PERFORM COUNT-BAD\n           END-EVALUATE.\n           PERFORM READ-PAY.\n       DO-HEAD.\n           IF HEAD-DATE IS NUMERIC\n               DISPLAY 'RUN DATE ' HEAD-DATE\n           ELSE\n               PERFORM COUNT-BAD\n           END-IF.\n       DO-DETAIL.\n           IF EMP-NO NOT NUMERIC OR HOURS NOT NUMERIC\n               OR RATE NOT NUMERIC\n               PERFORM COUNT-BAD\n               GO TO DO-DETAIL-EXIT\n           END-IF.\n           IF HOURS IS NEGATIVE OR RATE IS NEGATIVE\n               PERFORM COUNT-BAD\n               GO TO DO-DETAIL-EXIT\n           END-IF.\n           IF HOURS > 40\n               COMPUTE GROSS ROUNDED =\n                   RATE * (40 + (HOURS - 40) * 1.5)\n           ELSE\n               MULTIPLY HOURS BY RATE GIVING GROSS ROUNDED\n           END-IF.\n           ADD GROSS TO TOTAL-GROSS\n               ON SIZE ERROR DISPLAY 'TOTAL OVERFLOW'\n           END-ADD.\n           MOVE SPACES TO OUT-REC.\n           MOVE EMP-NO TO OUT-EMP.\n           MOVE HOURS TO OUT-HOURS.\n           MOVE GROSS TO OUT-GROSS.\n           WRITE OUT-REC.\n           ADD 1 TO DETAIL-COUNT\n               ON SIZE ERROR DISPLAY 'COUNT FULL'\n           END-ADD.\n       DO-DETAIL-EXIT.\n           EXIT.\n       DO-TRAILER.\n           IF TRAIL-COUNT NUMERIC\n               IF TRAIL-COUNT NOT = DETAIL-COUNT\n                   DISPLAY 'COUNT DIFFERS'\n               END-IF\n           ELSE\n               PERFORM COUNT-BAD\n           END-IF.\n       COUNT-BAD.\n           ADD 1 TO BAD-COUNT\n               ON SIZE ERROR DISPLAY 'TOO MANY BAD'\n           END-ADD.\n       WRITE-TOTALS.\n           MOVE 'TOTAL GROSS ' TO TOT-TEXT.\n           MOVE TOTAL-GROSS TO TOT-GROSS.\n           WRITE TOT-REC.\n           DISPLAY 'DETAILS ' DETAIL-COUNT ' BAD ' BAD-COUNT.\n";
+
+const HOURS: &str = "H20240131   D00042\0E\\\x02\0\x0cT00001      ";
+
+const PAID: &str = "00042  45.5       965.00TOTAL GROSS       965.00";
+
 fn words_of(alloc: Global, line: &str) -> Result<Vec<String>, AllocError> {
     let mut words = Vec::new(alloc);
     for word in line.split(' ') {
@@ -33,34 +41,48 @@ fn add_file(
     Ok(())
 }
 
-// The sample S, its certificate C, and the writer W. The call of this number fails.
+// The sample S, its certificate C, the writer W, and the payroll P with its input. The call of this number fails.
 fn files_of(alloc: Global, failing: u64) -> Result<MemFiles, AllocError> {
     let mut files = Vec::new(alloc);
     add_file(alloc, &mut files, "S", SOURCE)?;
     add_file(alloc, &mut files, "C", CERTIFICATE)?;
     add_file(alloc, &mut files, "W", WRITER)?;
+    add_file(alloc, &mut files, "P", PAYROLL)?;
+    add_file(alloc, &mut files, "PAYIN", HOURS)?;
     Ok(MemFiles::new(alloc, files, Vec::from_slice(alloc, &[failing])?))
 }
 
-// Words, how many calls read files and how many write them before all is done, and what is shown then. Open, two reads and
-// close read a file; create and close empty one, and create, write and close put one.
-const COMMANDS: [(&str, u64, u64, &str); 4] = [
-    ("check S C", 8, 0, "clean\n"),
-    ("analyse S C", 4, 3, "clean\n"),
-    ("trial 2", 0, 3, "nodes 17\nclean\n"),
-    ("run W", 4, 5, "B\n"),
+// Words, and by the number of the call on files that fails, from a first to a last one, the status and what is shown. Open,
+// two reads and close read a file; create and close empty one, and create, write and close put one. The last row of a
+// command is one call more than it makes.
+const FAULTS: [(&str, u64, u64, u8, &str); 14] = [
+    ("check S C", 1, 8, 5, "E3 read\n"),
+    ("check S C", 9, 9, 0, "clean\n"),
+    ("analyse S C", 1, 4, 5, "E3 read\n"),
+    ("analyse S C", 5, 7, 6, "E4 write\n"),
+    ("analyse S C", 8, 8, 0, "clean\n"),
+    ("trial 2", 1, 3, 6, "E4 write\n"),
+    ("trial 2", 4, 4, 0, "nodes 17\nclean\n"),
+    ("run W", 1, 4, 5, "E3 read\n"),
+    ("run W", 5, 9, 6, "E4 write\n"),
+    ("run W", 10, 10, 0, "B\n"),
+    ("run P", 1, 8, 5, "E3 read\n"),
+    ("run P", 9, 10, 6, "E4 write\n"),
+    (
+        "run P",
+        11,
+        13,
+        6,
+        "RUN DATE 20240131\nDETAILS 00001 BAD 00000\nE4 write\n",
+    ),
+    (
+        "run P",
+        14,
+        14,
+        0,
+        "RUN DATE 20240131\nDETAILS 00001 BAD 00000\n",
+    ),
 ];
-
-// The status and what is shown where the call of a number fails.
-fn told(failing: u64, reads: u64, writes: u64, shown: &'static str) -> (u8, &'static str) {
-    if failing <= reads {
-        (5, "E3 read\n")
-    } else if failing - reads <= writes {
-        (6, "E4 write\n")
-    } else {
-        (0, shown)
-    }
-}
 
 // Whether a name holds nothing, or a front of a text.
 fn holds_front(files: &MemFiles, name: &str, whole: &str) -> bool {
@@ -70,13 +92,21 @@ fn holds_front(files: &MemFiles, name: &str, whole: &str) -> bool {
     }
 }
 
+// Whether each file that a command may change is absent, as it was, or a front of what is written where no call fails.
+fn are_fronts(files: &MemFiles) -> bool {
+    holds_front(files, "C", CERTIFICATE)
+        && holds_front(files, "OUT", "A")
+        && holds_front(files, "PAYOUT", PAID)
+        && holds_front(files, "PAYIN", HOURS)
+        && holds_front(files, "S", SOURCE)
+}
+
 #[test]
 fn a_call_on_files_that_fails_is_told(rt: HostRuntime) -> Result<(), Fail> {
     let alloc = rt.alloc();
-    for (line, reads, writes, shown) in COMMANDS {
+    for (line, first, last, status, out) in FAULTS {
         let words = words_of(alloc, line)?;
-        for failing in 1..11 {
-            let (status, out) = told(failing, reads, writes, shown);
+        for failing in first..last + 1 {
             let mut files = files_of(alloc, failing)?;
             let mut sink = MemSink::new(alloc, Vec::new(alloc));
             assert_eq!(rt;
@@ -85,9 +115,7 @@ fn a_call_on_files_that_fails_is_told(rt: HostRuntime) -> Result<(), Fail> {
                 "{line}, {failing}"
             );
             assert_eq!(rt; sink.bytes(), out.as_bytes(), "{line}, {failing}");
-            assert!(rt; holds_front(&files, "C", CERTIFICATE), "{line}, {failing}");
-            assert!(rt; holds_front(&files, "OUT", "A"), "{line}, {failing}");
-            assert!(rt; holds_front(&files, "S", SOURCE), "{line}, {failing}");
+            assert!(rt; are_fronts(&files), "{line}, {failing}");
         }
     }
     Ok(())
@@ -96,19 +124,21 @@ fn a_call_on_files_that_fails_is_told(rt: HostRuntime) -> Result<(), Fail> {
 #[test]
 fn few_bytes_at_a_time_are_enough(rt: HostRuntime) -> Result<(), Fail> {
     let alloc = rt.alloc();
-    for (line, reads, writes, shown) in COMMANDS {
+    for (line, out) in [
+        ("check S C", "clean\n"),
+        ("analyse S C", "clean\n"),
+        ("trial 2", "nodes 17\nclean\n"),
+        ("run W", "B\n"),
+        ("run P", "RUN DATE 20240131\nDETAILS 00001 BAD 00000\n"),
+    ] {
         let words = words_of(alloc, line)?;
         let mut files = files_of(alloc, 0)?;
         files.slow(1);
         let mut sink = MemSink::new(alloc, Vec::new(alloc));
         sink.slow(1);
         assert_eq!(rt; cobsound(alloc, &words, &mut files, &mut sink), 0, "{line}");
-        assert_eq!(rt; sink.bytes(), shown.as_bytes(), "{line}");
-        assert!(rt; holds_front(&files, "C", CERTIFICATE), "{line}");
-        assert!(rt;
-            holds_front(&files, "OUT", "A"),
-            "{line}, {reads}, {writes}"
-        );
+        assert_eq!(rt; sink.bytes(), out.as_bytes(), "{line}");
+        assert!(rt; are_fronts(&files), "{line}");
     }
     Ok(())
 }
@@ -122,6 +152,7 @@ fn a_text_that_the_sink_refuses_has_its_status(rt: HostRuntime) -> Result<(), Fa
         ("trial 1", 6),
         ("check S", 4),
         ("run W", 6),
+        ("run P", 6),
     ] {
         let words = words_of(alloc, line)?;
         let mut files = files_of(alloc, 100)?;
