@@ -19,7 +19,7 @@ HERE = pathlib.Path(__file__).resolve().parent
 REFUSED = b"refused\n"
 WORDS = {command: [command, SOURCE, CERT] for command in ("analyse", "check")}
 # what the commands write
-WRITES = {"analyse": CERT, "run": "PAYOUT", "check": None}
+WRITES = {"analyse": CERT, "run": "PAYOUT", "check": None, "trial": "TRIAL"}
 STEP_KILOBYTES = 4
 LARGE_STEP_KILOBYTES = 64
 
@@ -81,6 +81,7 @@ def commands():
     run = ["run", SOURCE]
     yield Command("run of payroll", run, {SOURCE: payroll[SOURCE], "PAYIN": sample("PAYIN"), "PAYOUT": OLD})
     yield Command("analyse of orders", WORDS["analyse"], {SOURCE: sample("orders.cob")})
+    yield Command("trial of 2 paragraphs", ["trial", "2"], {"TRIAL": OLD})
 
 
 def large_commands():
