@@ -10,5 +10,5 @@ returns-in-Ok-found_for-clause-finding g c =
     found_in c.in-Ok.laid (known_bytes (g.F.Files.state c.args.files.now)) c.args.source.now c.in-Ok.ensures.holds
     c.in-Ok-found_for.findings c.in-Ok-found_for.ensures
 
-pub returns-in-Err-found_for-clause-reads : goal.returns-in-Err-found_for-clause-reads
-returns-in-Err-found_for-clause-reads g c = rw c.in-Err-found_for.ensures c.in-Ok.ensures.reads
+pub returns-clause-reads : goal.returns-clause-reads
+returns-clause-reads g c = rw c.in-Err-found_for.ensures c.in-Ok.ensures.reads
