@@ -1,6 +1,7 @@
 //! The command `trial`: a source of the length that is asked for is made and analysed; what is found is then told as of
 //! `analyse`, behind a line with the number of nodes.
 #![tactic(auto)]
+
 ghost use Rattle.std.specs.Prelude.{◌≡◌, ◌++◌, IfErr, IfOk, MatchResult};
 ghost use Rattle.command_answers.specs.Steps.{IsOfSource};
 ghost use Rattle.command_answers.specs.View.{plain_answer};
