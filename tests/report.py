@@ -61,10 +61,11 @@ def program_path():
 
 
 def script(folder, text):
-    """A program of a shell's lines."""
+    """A program of a shell's lines. A process of its own writes it: one that another thread starts just then would hold
+    a file that is open here, and the system starts no program that is held open for writing."""
     path = pathlib.Path(folder, "program")
-    path.write_text(f"#!/bin/sh\n{text}")
-    path.chmod(0o755)
+    written = ["sh", "-c", 'cat >"$0" && chmod 755 "$0"', path]
+    subprocess.run(written, input=f"#!/bin/sh\n{text}", text=True, check=True)
     return path
 
 

@@ -294,7 +294,7 @@ class Moment:
         word, *words = self.edge.parts[k]
         if kind == "CLASS":
             homes = {"read": words, "read_count": [f"count {number}" for number in words]}
-            return all(self.is_known(home) for home in homes.get(word, ()))
+            return word != "unread" and all(self.is_known(home) for home in homes.get(word, ()))
         if self.edge.has_phrase:
             return True
         if kind == "ZERO" and word == "divide":

@@ -6,6 +6,7 @@ mod top;
 use batch_io::{RealFiles, StdSink};
 use std::alloc::Global;
 use std::env;
+use std::io::{self, ErrorKind};
 use std::process::ExitCode;
 use top::cobsound;
 
@@ -14,9 +15,17 @@ const NO_TEXT: u8 = 4;
 // The status where the words can't be had for want of memory.
 const OUT_OF_MEMORY: u8 = 8;
 
+// The status where the words can't be had.
+fn status_without_words(error: io::Error) -> u8 {
+    match error.kind() {
+        ErrorKind::OutOfMemory => OUT_OF_MEMORY,
+        _ => NO_TEXT,
+    }
+}
+
 // The command's words, without the program's own name; or the status to end with.
 fn words_of(rt: &HostRuntime, alloc: Global) -> Result<Vec<String>, u8> {
-    let args = env::args(rt).map_err(|_| NO_TEXT)?;
+    let args = env::args(rt).map_err(status_without_words)?;
     args.skip(1).collect(alloc).map_err(|_| OUT_OF_MEMORY)
 }
 

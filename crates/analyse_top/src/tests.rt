@@ -42,40 +42,73 @@ fn files_of(alloc: Global, failing: u64) -> Result<MemFiles, AllocError> {
     Ok(MemFiles::new(alloc, files, Vec::from_slice(alloc, &[failing])?))
 }
 
-// Words, and by the number of the call on files that fails the status and what is shown. Open, two reads or more and
+// Words, how many calls read files and how many write them before all is done, and what is shown then. Open, two reads and
 // close read a file; create and close empty one, and create, write and close put one.
-const FAULTS: [(&str, u64, u8, &str); 16] = [
-    ("check S C", 1, 5, "E3 read\n"),
-    ("check S C", 4, 5, "E3 read\n"),
-    ("check S C", 5, 5, "E3 read\n"),
-    ("check S C", 8, 5, "E3 read\n"),
-    ("analyse S C", 4, 5, "E3 read\n"),
-    ("analyse S C", 5, 6, "E4 write\n"),
-    ("analyse S C", 6, 6, "E4 write\n"),
-    ("analyse S C", 7, 6, "E4 write\n"),
-    ("analyse S C", 100, 0, "clean\n"),
-    ("trial 1", 1, 6, "E4 write\n"),
-    ("trial 1", 2, 6, "E4 write\n"),
-    ("trial 1", 3, 6, "E4 write\n"),
-    ("trial 1", 100, 0, "nodes 11\nclean\n"),
-    ("run W", 4, 5, "E3 read\n"),
-    ("run W", 5, 6, "E4 write\n"),
-    ("run W", 100, 0, "B\n"),
+const COMMANDS: [(&str, u64, u64, &str); 4] = [
+    ("check S C", 8, 0, "clean\n"),
+    ("analyse S C", 4, 3, "clean\n"),
+    ("trial 2", 0, 3, "nodes 17\nclean\n"),
+    ("run W", 4, 5, "B\n"),
 ];
+
+// The status and what is shown where the call of a number fails.
+fn told(failing: u64, reads: u64, writes: u64, shown: &'static str) -> (u8, &'static str) {
+    if failing <= reads {
+        (5, "E3 read\n")
+    } else if failing - reads <= writes {
+        (6, "E4 write\n")
+    } else {
+        (0, shown)
+    }
+}
+
+// Whether a name holds nothing, or a front of a text.
+fn holds_front(files: &MemFiles, name: &str, whole: &str) -> bool {
+    match files.bytes(name) {
+        None => true,
+        Some(held) => whole.as_bytes().starts_with(held),
+    }
+}
 
 #[test]
 fn a_call_on_files_that_fails_is_told(rt: HostRuntime) -> Result<(), Fail> {
     let alloc = rt.alloc();
-    for (line, failing, status, out) in FAULTS {
+    for (line, reads, writes, shown) in COMMANDS {
         let words = words_of(alloc, line)?;
-        let mut files = files_of(alloc, failing)?;
+        for failing in 1..11 {
+            let (status, out) = told(failing, reads, writes, shown);
+            let mut files = files_of(alloc, failing)?;
+            let mut sink = MemSink::new(alloc, Vec::new(alloc));
+            assert_eq!(rt;
+                cobsound(alloc, &words, &mut files, &mut sink),
+                status,
+                "{line}, {failing}"
+            );
+            assert_eq!(rt; sink.bytes(), out.as_bytes(), "{line}, {failing}");
+            assert!(rt; holds_front(&files, "C", CERTIFICATE), "{line}, {failing}");
+            assert!(rt; holds_front(&files, "OUT", "A"), "{line}, {failing}");
+            assert!(rt; holds_front(&files, "S", SOURCE), "{line}, {failing}");
+        }
+    }
+    Ok(())
+}
+
+#[test]
+fn few_bytes_at_a_time_are_enough(rt: HostRuntime) -> Result<(), Fail> {
+    let alloc = rt.alloc();
+    for (line, reads, writes, shown) in COMMANDS {
+        let words = words_of(alloc, line)?;
+        let mut files = files_of(alloc, 0)?;
+        files.slow(1);
         let mut sink = MemSink::new(alloc, Vec::new(alloc));
-        assert_eq!(rt;
-            cobsound(alloc, &words, &mut files, &mut sink),
-            status,
-            "{line}, {failing}"
+        sink.slow(1);
+        assert_eq!(rt; cobsound(alloc, &words, &mut files, &mut sink), 0, "{line}");
+        assert_eq!(rt; sink.bytes(), shown.as_bytes(), "{line}");
+        assert!(rt; holds_front(&files, "C", CERTIFICATE), "{line}");
+        assert!(rt;
+            holds_front(&files, "OUT", "A"),
+            "{line}, {reads}, {writes}"
         );
-        assert_eq!(rt; sink.bytes(), out.as_bytes(), "{line}, {failing}");
     }
     Ok(())
 }

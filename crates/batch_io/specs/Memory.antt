@@ -66,6 +66,10 @@ mem_files m = record {
 abbrev pub files_calls : MemFiles → FailingCalls
 files_calls m = m.calls
 
+-- the most bytes that a read or a write counts
+abbrev pub files_most : MemFiles → ℕ
+files_most m = m.most.bytes
+
 -- an object that holds these files, with no id open, no fault and no call so far
 pub record StartsFiles (files : List File) (failing : List ℕ) (result : MemFiles) : Type 0 where
   pub bytes : known_bytes (mem_files result) ≡ Some (contents_of files)
@@ -79,6 +83,10 @@ mem_sink m = record { told = Some m.text.items; faults = m.faults }
 
 abbrev pub sink_calls : MemSink → FailingCalls
 sink_calls m = m.calls
+
+-- the most bytes that a write counts
+abbrev pub sink_most : MemSink → ℕ
+sink_most m = m.most.bytes
 
 -- no text, no fault and no call so far
 pub record StartsSink (failing : List ℕ) (result : MemSink) : Type 0 where

@@ -5,6 +5,7 @@
 mod ends;
 mod failing;
 mod memory;
+mod most;
 mod outside;
 mod real;
 mod slots;

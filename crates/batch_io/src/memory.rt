@@ -1,5 +1,5 @@
 //! Files and a sink in memory, for tests.
-ghost use Rattle.std.specs.Prelude.{◌≡◌, ◌≤◌, ◌<◌, ◌++◌, ◌-◌, ℕ, [], length, take, drop, min, option_copied, option_map, OnOk, OnErr, Some, IsSome};
+ghost use Rattle.std.specs.Prelude.{◌≡◌, ◌≤◌, ◌<◌, ◌++◌, ◌-◌, ℕ, [], length, take, drop, min, option_copied, option_map, OnOk, OnErr, IfOk, Some, IsSome};
 ghost use Rattle.std.specs.FinMap.{get, insert};
 ghost use Rattle.batch_io.specs.FilesState.{bytes_at, Reading, Writing};
 ghost use Rattle.batch_io.specs.Memory.{place_of, contents_of, purpose_of, ReadsOn, ReadsSlot};
@@ -7,6 +7,7 @@ ghost use Rattle.batch_io.specs.Slots.{slot_at};
 
 use crate::ends::{Failed, MakeEnd, OpenEnd};
 use crate::failing::FailingCalls;
+use crate::most::Most;
 use crate::outside::{Files, Sink};
 use crate::slots::{add_slot, end_slot};
 use std::alloc::{AllocError, Global};
@@ -25,7 +26,8 @@ enum Opened {
     Writing(String),
 }
 
-/// Files in memory, which tell all that they hold. The calls of given numbers fail.
+/// Files in memory, which tell all that they hold. The calls of given numbers fail, and a read or a write may be made to
+/// take few bytes.
 #[derive(Drop)]
 pub struct MemFiles {
     alloc: Global,
@@ -34,14 +36,17 @@ pub struct MemFiles {
     calls: FailingCalls,
     reading: u64,
     writing: u64,
+    most: Most,
 }
 
-/// A sink in memory, which tells all that it took. The calls of given numbers fail.
+/// A sink in memory, which tells all that it took. The calls of given numbers fail, and a write may be made to take few
+/// bytes.
 #[derive(Drop)]
 pub struct MemSink {
     text: Vec<u8>,
     calls: FailingCalls,
     faults: u64,
+    most: Most,
 }
 
 // The place of the first file of this name.
@@ -93,41 +98,44 @@ fn append(
     Ok(())
 }
 
-// Copies the bytes from `place` on to the front of `buf`, as many as fit, and says how many.
-fn copy_from(bytes: &[u8], place: usize, buf: &mut [u8]) -> usize
-    ensures count { result ≡ min (length bytes.now - place) (length buf.old) }
+// Copies the bytes from `place` on to the front of `buf`, as many as fit but at most `most`, and says how many.
+fn copy_from(bytes: &[u8], place: usize, buf: &mut [u8], most: Most) -> usize
+    ensures count { result ≡ min (min (length bytes.now - place) (length buf.old)) most.bytes }
     ensures front { take result buf.new ≡ take result (drop place bytes.now) }
 {
     let rest = bytes.get(place..).unwrap_or(&[]);
-    let count = rest.len().min(buf.len());
+    let count = most.front(rest.len().min(buf.len()));
     buf[..count].copy_from_slice(&rest[..count]);
     count
 }
 
-// Reads from the reader's place on, and moves the place past what was read.
-fn read_on(files: &Vec<(String, Vec<u8>)>, reader: &mut Reader, buf: &mut [u8]) -> usize
+// Reads from the reader's place on, at most `most` bytes, and moves the place past what was read.
+fn read_on(files: &Vec<(String, Vec<u8>)>, reader: &mut Reader, buf: &mut [u8], most: Most) -> usize
     requires { 0 < length buf.old }
-    ensures { ReadsOn (contents_of files.now.items) reader.old reader.new buf.new result }
+    ensures on { ReadsOn (contents_of files.now.items) reader.old reader.new buf.new result }
+    ensures most { result ≤ most.bytes }
 {
     let bytes = find(files, reader.name.as_str()).unwrap_or(&[]);
-    let count = copy_from(bytes, reader.place, buf);
+    let count = copy_from(bytes, reader.place, buf, most);
     reader.place += count;
     count
 }
 
-// Reads from the file of an id that is open for reading.
+// Reads from the file of an id that is open for reading, at most `most` bytes.
 fn read_slot(
     files: &Vec<(String, Vec<u8>)>,
     slots: &mut Vec<Option<Opened>>,
     id: u32,
     buf: &mut [u8],
+    most: Most,
 ) -> usize
     requires opened { option_map purpose_of (slot_at slots.old.items id) ≡ Some Reading }
     requires room { 0 < length buf.old }
-    ensures { ReadsSlot (contents_of files.now.items) slots.old.items slots.new.items id buf.new result }
+    ensures slot { ReadsSlot (contents_of files.now.items) slots.old.items slots.new.items id buf.new result }
+    ensures most { result ≤ most.bytes }
 {
     match &mut slots[id as usize] {
-        Some(Opened::Reading(reader)) => read_on(files, reader, buf),
+        Some(Opened::Reading(reader)) => read_on(files, reader, buf, most),
         _ => unreachable!(),
     }
 }
@@ -135,7 +143,7 @@ fn read_slot(
 impl MemFiles {
     ghost use Rattle.std.specs.Prelude.{IfSome};
     ghost use Rattle.batch_io.specs.FilesState.{known_bytes};
-    ghost use Rattle.batch_io.specs.Memory.{mem_files, StartsFiles};
+    ghost use Rattle.batch_io.specs.Memory.{mem_files, files_calls, files_most, StartsFiles};
 
     /// These files, whose names are to differ, and no id open. The calls of the numbers in `failing`
     /// fail; the first call on the object has the number 1.
@@ -149,7 +157,18 @@ impl MemFiles {
             calls: FailingCalls::new(failing),
             reading: 0,
             writing: 0,
+            most: Most::all(),
         }
+    }
+
+    /// From now on each read and each write counts at most `most` bytes. All else stays, and no memory is taken.
+    pub fn slow(&mut self, most: usize)
+        requires some { 1 ≤ most }
+        ensures state { mem_files self.new ≡ mem_files self.old }
+        ensures calls { files_calls self.new ≡ files_calls self.old }
+        ensures most { files_most self.new ≡ most }
+    {
+        self.most = Most::of(most);
     }
 
     /// The bytes of this name.
@@ -165,13 +184,14 @@ impl Files for MemFiles {
     ghost use Rattle.batch_io.specs.Faults.{open_failed, make_failed};
     ghost use Rattle.batch_io.specs.FilesCalls.{Opens, Creates, Reads, Writes, Closes};
     ghost use Rattle.batch_io.specs.Failing.{NumbersCall};
-    ghost use Rattle.batch_io.specs.Memory.{mem_files, files_calls};
+    ghost use Rattle.batch_io.specs.Memory.{mem_files, files_calls, files_most};
 
     ghost state = { mem_files };
 
     fn open(&mut self, name: &str) -> Result<u32, OpenEnd>
         ensures call { Opens (mem_files self.old) (mem_files self.new) name.now result }
         ensures numbered { NumbersCall (files_calls self.old) (files_calls self.new) (open_failed result) }
+        ensures slowness { files_most self.new ≡ files_most self.old }
     {
         if self.calls.next_fails() {
             self.reading = self.reading.saturating_add(1);
@@ -187,6 +207,7 @@ impl Files for MemFiles {
     fn create(&mut self, name: &str) -> Result<u32, MakeEnd>
         ensures call { Creates (mem_files self.old) (mem_files self.new) name.now result }
         ensures numbered { NumbersCall (files_calls self.old) (files_calls self.new) (make_failed result) }
+        ensures slowness { files_most self.new ≡ files_most self.old }
     {
         if self.calls.next_fails() {
             self.writing = self.writing.saturating_add(1);
@@ -202,18 +223,22 @@ impl Files for MemFiles {
         requires room { 0 < length buf.old }
         ensures call { Reads (mem_files self.old) (mem_files self.new) id buf.new result }
         ensures numbered { NumbersCall (files_calls self.old) (files_calls self.new) (is_err result) }
+        ensures slowness { files_most self.new ≡ files_most self.old }
+        ensures most { IfOk result (λ count. count ≤ files_most self.old) }
     {
         if self.calls.next_fails() {
             self.reading = self.reading.saturating_add(1);
             return Err(Failed);
         }
-        Ok(read_slot(&self.files, &mut self.slots, id, buf))
+        Ok(read_slot(&self.files, &mut self.slots, id, buf, self.most))
     }
 
     fn write(&mut self, id: u32, piece: &[u8]) -> Result<usize, MakeEnd>
         requires created { (mem_files self.old).purpose id ≡ Some Writing }
         ensures call { Writes (mem_files self.old) (mem_files self.new) id piece.now result }
         ensures numbered { NumbersCall (files_calls self.old) (files_calls self.new) (make_failed result) }
+        ensures slowness { files_most self.new ≡ files_most self.old }
+        ensures most { IfOk result (λ count. count ≤ files_most self.old) }
     {
         if self.calls.next_fails() {
             self.writing = self.writing.saturating_add(1);
@@ -222,14 +247,16 @@ impl Files for MemFiles {
         let Some(Some(Opened::Writing(name))) = self.slots.get(id as usize) else {
             unreachable!()
         };
-        append(self.alloc, &mut self.files, name.as_str(), piece)?;
-        Ok(piece.len())
+        let count = self.most.front(piece.len());
+        append(self.alloc, &mut self.files, name.as_str(), &piece[..count])?;
+        Ok(count)
     }
 
     fn close(&mut self, id: u32) -> Result<(), Failed>
         requires live { IsSome ((mem_files self.old).purpose id) }
         ensures call { Closes (mem_files self.old) (mem_files self.new) id result }
         ensures numbered { NumbersCall (files_calls self.old) (files_calls self.new) (is_err result) }
+        ensures slowness { files_most self.new ≡ files_most self.old }
     {
         let fails = self.calls.next_fails();
         let opened = end_slot(&mut self.slots, id);
@@ -246,7 +273,7 @@ impl Files for MemFiles {
 
 impl MemSink {
     ghost use Rattle.std.specs.Prelude.{IfSome};
-    ghost use Rattle.batch_io.specs.Memory.{mem_sink, StartsSink};
+    ghost use Rattle.batch_io.specs.Memory.{mem_sink, sink_calls, sink_most, StartsSink};
 
     /// An empty sink. The calls of the numbers in `failing` fail; the first call has the number 1.
     pub fn new(alloc: Global, failing: Vec<u64>) -> MemSink
@@ -256,7 +283,18 @@ impl MemSink {
             text: Vec::new(alloc),
             calls: FailingCalls::new(failing),
             faults: 0,
+            most: Most::all(),
         }
+    }
+
+    /// From now on each write counts at most `most` bytes. All else stays, and no memory is taken.
+    pub fn slow(&mut self, most: usize)
+        requires some { 1 ≤ most }
+        ensures state { mem_sink self.new ≡ mem_sink self.old }
+        ensures calls { sink_calls self.new ≡ sink_calls self.old }
+        ensures most { sink_most self.new ≡ most }
+    {
+        self.most = Most::of(most);
     }
 
     /// What the sink took.
@@ -271,19 +309,22 @@ impl Sink for MemSink {
     ghost use Rattle.batch_io.specs.Faults.{make_failed};
     ghost use Rattle.batch_io.specs.SinkCalls.{Takes};
     ghost use Rattle.batch_io.specs.Failing.{NumbersCall};
-    ghost use Rattle.batch_io.specs.Memory.{mem_sink, sink_calls};
+    ghost use Rattle.batch_io.specs.Memory.{mem_sink, sink_calls, sink_most};
 
     ghost state = { mem_sink };
 
     fn write(&mut self, piece: &[u8]) -> Result<usize, MakeEnd>
         ensures call { Takes (mem_sink self.old) (mem_sink self.new) piece.now result }
         ensures numbered { NumbersCall (sink_calls self.old) (sink_calls self.new) (make_failed result) }
+        ensures slowness { sink_most self.new ≡ sink_most self.old }
+        ensures most { IfOk result (λ count. count ≤ sink_most self.old) }
     {
         if self.calls.next_fails() {
             self.faults = self.faults.saturating_add(1);
             return Err(MakeEnd::Failed);
         }
-        self.text.extend_from_slice(piece)?;
-        Ok(piece.len())
+        let count = self.most.front(piece.len());
+        self.text.extend_from_slice(&piece[..count])?;
+        Ok(count)
     }
 }

@@ -1,5 +1,5 @@
 -- The cell of a statement's counter, by what is left of the counters.
-use Rattle.std.proofs.Common.{◌≡◌, ◌≤◌, ℕ, ◌+◌, ◌-◌, List, length, Option, Some, None, sym, ap, ◌∙◌, arith}
+use Rattle.std.proofs.Common.{◌≡◌, ◌≤◌, ℕ, ◌+◌, ◌-◌, List, length, Some, None, sym, ap, ◌∙◌, arith}
 use Rattle.std.specs.declared.ops.ControlFlow.TheVariants.{Continue, Break}
 use Rattle.cob_program.specs.Act.{Program}
 use Rattle.cob_program.specs.Statements.{program_statements}

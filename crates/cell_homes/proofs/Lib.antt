@@ -1,7 +1,7 @@
 pub mod LeftLemmas
 pub mod Parallel
 pub mod StatementLoops
-pub mod ItemLoops
 pub mod NumberLemmas
 pub mod CountLemmas
 pub mod ActViews
+pub mod Rising

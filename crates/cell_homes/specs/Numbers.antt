@@ -1,5 +1,6 @@
 -- The number of a home's cell, which counts from 0 in the order of the program's cells.
-use Rattle.std.specs.Prelude.{ℕ, suc, ◌+◌, ◌-◌, ◌==◌, if◌then◌else◌, Bool, false, List, [], ◌∷◌, ◌++◌, map, Option, Some, None}
+use Rattle.std.specs.Prelude.{ℕ, suc, ◌+◌, ◌-◌, ◌==◌, nat_lt, if◌then◌else◌, Bool, false, List, [], ◌∷◌, ◌++◌, map, Option, Some, None, is_some}
+use Rattle.std.specs.List.{prefix_len}
 use Rattle.std.specs.Option.{option_map}
 use Rattle.std.specs.declared.ops.ControlFlow.{ControlFlow}
 use Rattle.std.specs.declared.ops.ControlFlow.TheVariants.{Continue, Break}
@@ -41,11 +42,23 @@ abbrev pub item_from : ℕ → ℕ → List (Option ℕ) → Option ℕ
 item_from n place [] = None
 item_from n place (o ∷ os) = if is_item place o then Some n else item_from (n + 1) place os
 
+-- whether an item stands before a place
+abbrev pub is_lower : ℕ → Option ℕ → Bool
+is_lower place None = false
+is_lower place (Some other) = nat_lt other place
+
 -- how many stand before the first counter
 abbrev pub items_before : List (Option ℕ) → ℕ
-items_before [] = 0
-items_before (None ∷ os) = 0
-items_before (Some place ∷ os) = 1 + items_before os
+items_before os = prefix_len is_some os
+
+-- how many stand before the first that isn't before a place
+abbrev pub lower_items : ℕ → List (Option ℕ) → ℕ
+lower_items place os = prefix_len (is_lower place) os
+
+-- a number, if an item stands there that is sought
+abbrev pub item_here : ℕ → ℕ → Option (Option ℕ) → Option ℕ
+item_here number place None = None
+item_here number place (Some o) = if is_item place o then Some number else None
 
 -- How many counters are left of so many, from the statement's own on; or behind the list, where it isn't there.
 abbrev pub left_at : ℕ → List Home → ℕ → ControlFlow ℕ ℕ

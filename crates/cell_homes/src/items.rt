@@ -1,9 +1,10 @@
 //! The cells of items.
-ghost use Rattle.std.specs.Prelude.{◌≡◌, is_some};
+ghost use Rattle.std.specs.Prelude.{◌≡◌, is_some, slice_get};
+ghost use Rattle.std.specs.Option.{option_map};
 ghost use Rattle.cob_program.specs.Act.{Program};
 ghost use Rattle.cob_graph.specs.Graphs.{cells_of};
 ghost use Rattle.cell_storages.specs.Homes.{of_item};
-ghost use Rattle.cell_homes.specs.Numbers.{is_item, item_from, items_before, items_of, number_of};
+ghost use Rattle.cell_homes.specs.Numbers.{is_item, is_lower, item_here, items_before, items_of, lower_items, number_of};
 
 use cob_runs::Cell;
 
@@ -16,22 +17,40 @@ fn is_of(place: u32, cell: &Cell) -> bool
     }
 }
 
-fn first_of(place: u32, cells: &[Cell]) -> Option<usize>
-    ensures { result ≡ item_from 0 place (items_of cells.now) }
+fn is_lower(place: u32, cell: &Cell) -> bool
+    ensures { result ≡ is_lower place cell.now.item }
 {
-    for (number, cell) in cells.iter().enumerate() {
-        if is_of(place, cell) {
-            return Some(number);
-        }
+    match cell.item {
+        None => false,
+        Some(other) => other < place,
     }
-    None
 }
 
-/// The number of an item's cell, if it has one.
+// how many cells are of items before a place
+fn lower_cells(cells: &[Cell], place: u32) -> usize
+    ensures { (p : Program) → cells.now ≡ cells_of p → result ≡ lower_items place (items_of cells.now) }
+{
+    cells.partition_point(|cell| is_lower(place, cell))
+}
+
+fn if_here(cells: &[Cell], number: usize, place: u32) -> Option<usize>
+    ensures { result ≡ item_here number place (option_map (λ c. c.item) (slice_get cells.now number)) }
+{
+    match cells.get(number) {
+        None => None,
+        Some(cell) => is_of(place, cell).then_some(number),
+    }
+}
+
+/// The number of an item's cell, if it has one. Where each item before has a cell, it is the item's place; else halves are
+/// sought through, since cells of items stand in the order of places.
 pub fn cell_of(cells: &[Cell], place: u32) -> Option<usize>
     ensures { (p : Program) → cells.now ≡ cells_of p → result ≡ number_of p (of_item place) }
 {
-    first_of(place, cells)
+    match if_here(cells, place as usize, place) {
+        None => if_here(cells, lower_cells(cells, place), place),
+        found => found,
+    }
 }
 
 fn has_item(cell: &Cell) -> bool
@@ -42,12 +61,7 @@ fn has_item(cell: &Cell) -> bool
 
 /// How many cells are of items; those of counters stand behind them.
 pub fn item_count(cells: &[Cell]) -> usize
-    ensures { result ≡ items_before (items_of cells.now) }
+    ensures { (p : Program) → cells.now ≡ cells_of p → result ≡ items_before (items_of cells.now) }
 {
-    for (number, cell) in cells.iter().enumerate() {
-        if !has_item(cell) {
-            return number;
-        }
-    }
-    cells.len()
+    cells.partition_point(|cell| has_item(cell))
 }

@@ -3,7 +3,6 @@ pub mod Marks
 pub mod Finding
 pub mod Walked
 pub mod Walking
-pub mod Firsts
 pub mod Heights
 pub mod Making
 pub mod Leaving

@@ -12,6 +12,7 @@ use Rattle.cob_program.specs.declared.act.Stmt as declared_stmt
 use Rattle.cob_program.specs.Act.{Program}
 use Rattle.cob_program.specs.Statements.{program_statements, plain_references}
 use Rattle.cob_graph.specs.declared.graph.Graph.{Graph}
+use Rattle.cob_graph.specs.Graphs.{cells_of}
 use Rattle.cob_items.specs.WellFormed.{HasWellFormedItems}
 use Rattle.dom_laws.specs.Flow.{IsNode}
 use Rattle.decimal_interval.specs.declared.bounds.Interval.{Interval}
@@ -24,10 +25,9 @@ use Rattle.graph_runs.proofs.Ordering.{in_order, graphs_are_flows}
 use Rattle.cell_storages.specs.Homes.{homes_of, home_range, owns}
 use Rattle.cell_layer_laws.specs.Entry.{entry_cells}
 use Rattle.cell_layer_laws.specs.Layer.{row_for}
-use Rattle.cell_layer.specs.Entry.{first_cells}
 use Rattle.cell_layer.specs.Held.{HasFewParts, IsHeld}
-use Rattle.cell_layer.proofs.AtMostOne.{short_prop, items_prop}
-use Rattle.cell_layer.proofs.Firsts.{IsShortCell, homes_many, firsts_are, cells_short}
+use Rattle.cell_walk.proofs.FirstCells.{homes_many}
+use Rattle.cell_layer.proofs.AtMostOne.{items_prop}
 
 -- a list of thresholds for each cell
 as_many : (owns_ : List Interval) (lists : List (List ℤ)) → AreThresholds owns_ lists → length owns_ ≡ length lists
@@ -62,14 +62,7 @@ module _ (p : Program) (g : Graph) (source : IsSourceGraph p g) where
 
   cells_for_owns : length (owns p) ≡ length g.cells
   cells_for_owns =
-      length-map (homes_of p) (home_range p.layout) ∙ homes_many p source.whole ∙ ap length (sym source.graph.cells)
-
-  short_of : All (IsShortCell p) g.cells
-  short_of = subst (All (IsShortCell p)) (sym source.graph.cells) (cells_short p source.whole)
-
-  begun_with : (row : List ℤ) → row ≡ row_of (first_cells p.layout g.cells) → row ≡ row_for p (Some (entry_cells p))
-  begun_with row is =
-      is ∙ ap (λ cs. row_of (first_cells p.layout cs)) source.graph.cells ∙ ap row_of (firsts_are p source.whole)
+      length-map (homes_of p) (home_range p.layout) ∙ homes_many p ∙ ap length (sym source.graph.cells)
 
 -- ---- what a layer is made of
 
@@ -94,11 +87,8 @@ module _ (p : Program) (g : Graph) (source : ∥ IsSourceGraph p g ∥₁) where
   pub sound_items : HasWellFormedItems p.layout
   sound_items = ∥∥₁_elim source (items_prop p.layout) (λ s. s.items)
 
-  pub short_cells : All (IsShortCell p) g.cells
-  short_cells = ∥∥₁_elim source (hlevel (props, short_prop)) (λ s. short_of p g s)
+  pub cells_are : g.cells ≡ cells_of p
+  cells_are = ∥∥₁_elim source (hlevel props) (λ s. s.graph.cells)
 
   pub held_by : (ss : List (Bor declared_stmt.Stmt)) → plain_references ss ≡ program_statements p → HasFewParts p g → ∥ IsHeld p g ss ∥₁
   held_by ss listed few = ∥∥₁_elim source ∥∥₁_prop (λ s. ∣ record { source = s; listed = listed; few = few } ∣₁)
-
-  pub begun_by : (row : List ℤ) → row ≡ row_of (first_cells p.layout g.cells) → row ≡ row_for p (Some (entry_cells p))
-  begun_by row is = ∥∥₁_elim source (hlevel props) (λ s. begun_with p g s row is)

@@ -1,5 +1,5 @@
 -- Numbers of so many digits, and their ends.
-use Rattle.std.proofs.Common.{◌≡◌, ◌≤◌, ◌<◌, ℕ, ◌-◌, ◌^◌, ◌&&◌, ◌∙◌, Bool, true, false, pos, arith, sym, ap, ⊎_elim}
+use Rattle.std.proofs.Common.{◌≡◌, ◌≤◌, ◌<◌, ℕ, ◌-◌, ◌^◌, ◌&&◌, ◌∙◌, Bool, true, pos, arith, sym, ap, ⊎_elim}
 use Rattle.std.specs.Prelude.{nat_le, ◌-ℤ◌}
 use Rattle.std.proofs.lemmas.Int.{ints}
 use Rattle.std.proofs.lemmas.Bool.{cases_lt, le-leb, leb-true, lt-leb}

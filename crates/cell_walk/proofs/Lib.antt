@@ -14,3 +14,4 @@ pub mod RangeBounds
 pub mod Stepping
 pub mod Storing
 pub mod Quotients
+pub mod FirstCells

@@ -7,3 +7,5 @@ pub mod Statements
 pub mod Walks
 pub mod Latest
 pub mod Kept
+pub mod Taking
+pub mod Firsts

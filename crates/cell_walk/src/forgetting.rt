@@ -1,5 +1,6 @@
 //! What is known of items that have bytes of a range is forgotten.
-ghost use Rattle.std.specs.Prelude.{◌≡◌, ◌<◌, length};
+ghost use Rattle.std.specs.Prelude.{◌≡◌, ◌<◌, length, IfSome};
+ghost use Rattle.std.specs.List.{All};
 ghost use Rattle.cob_program.specs.ActView.{plain_program};
 ghost use Rattle.cell_homes.specs.Numbers.{items_of};
 ghost use Rattle.cell_storages.specs.Homes.{homes_of};
@@ -10,7 +11,7 @@ ghost use Rattle.cell_walk.specs.Forgetting.{has_bytes, forgotten_at, forgotten_
 
 use crate::pictures::item_at;
 use cell_rows::set_known;
-use cob_data::Layout;
+use cob_data::Item;
 use cob_program::Program;
 use cob_runs::Cell;
 
@@ -22,16 +23,17 @@ fn share_bytes(offset: u32, count: u32, from: u32, many: u32) -> bool
     !(other <= u64::from(offset) || end <= u64::from(from))
 }
 
-// Whether an item has bytes of a range.
-fn has_bytes(layout: &Layout, offset: u32, count: u32, item: Option<u32>) -> bool
-    ensures { result ≡ has_bytes layout.now offset count item }
+// Whether the item at a place has bytes of a range.
+fn has_bytes(items: &[Item], offset: u32, count: u32, item: Option<u32>) -> bool
+    requires { IfSome item (λ place. place < length items.now) }
+    ensures { result ≡ has_bytes items.now offset count item }
 {
     match item {
         None => false,
-        Some(place) => match item_at(layout, place) {
-            None => false,
-            Some(item) => share_bytes(offset, count, item.offset, item.length),
-        },
+        Some(place) => {
+            let item = &items[place as usize];
+            share_bytes(offset, count, item.offset, item.length)
+        }
     }
 }
 
@@ -46,14 +48,15 @@ fn forget_if(row: &mut [i128], k: usize, gone: bool)
     }
 }
 
-fn forget(layout: &Layout, cells: &[Cell], row: &mut [i128], offset: u32, count: u32)
+fn forget(items: &[Item], cells: &[Cell], row: &mut [i128], offset: u32, count: u32)
     requires reached { IsReached row.old }
     requires whole { length (cells_of row.old) ≡ length cells.now }
-    ensures cells { cells_of row.new ≡ forgotten_by (has_bytes layout.now offset count) (items_of cells.now) (cells_of row.old) }
+    requires within { All (λ c. IfSome c.item (λ place. place < length items.now)) cells.now }
+    ensures cells { cells_of row.new ≡ forgotten_by (has_bytes items.now offset count) (items_of cells.now) (cells_of row.old) }
     ensures reached { IsReached row.new }
 {
     for k in 0..cells.len() {
-        let gone = has_bytes(layout, offset, count, cells[k].item);
+        let gone = has_bytes(items, offset, count, cells[k].item);
         forget_if(row, k, gone);
     }
 }
@@ -70,7 +73,7 @@ pub(crate) fn forget_bytes(
     ensures cells { cells_of row.new ≡ forgotten (is_in_bytes program.now.layout offset count) (homes_of (plain_program program.now)) (cells_of row.old) }
     ensures row { IsRowOf (plain_program program.now) cells.now row.new }
 {
-    forget(&program.layout, cells, row, offset, count);
+    forget(program.layout.items.get(), cells, row, offset, count);
 }
 
 /// Forgets what is known of each item that has bytes of another one, itself among them.

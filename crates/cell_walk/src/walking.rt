@@ -1,5 +1,5 @@
 //! The walk, by the numbers of parts.
-ghost use Rattle.std.specs.Prelude.{◌≡◌, ◌<◌, true, false, length, Some, None};
+ghost use Rattle.std.specs.Prelude.{◌≡◌, ◌<◌, ◌-◌, ◌^◌, min, true, false, length, Some, None};
 ghost use Rattle.std.specs.List.{AllByRecursion};
 ghost use Rattle.cob_program.specs.ActView.{plain_stmt, plain_program};
 ghost use Rattle.borrowed_parts.specs.PartView.{edge_parts};
@@ -10,11 +10,18 @@ ghost use Rattle.cell_walk.specs.Kept.{seen, step_at, latest_of, latest_at};
 ghost use Rattle.cell_walk.specs.Statements.{act_in};
 ghost use Rattle.cell_walk.specs.Walks.{CanStep};
 
+use crate::each_part::walk_part;
 use crate::kept::Kept;
-use crate::parts::walk_part;
-use borrowed_parts::part_at;
+use borrowed_parts::{part_at, part_count};
 use cob_program::{Program, Stmt};
 use cob_runs::{Action, Cell};
+
+/// How many parts an edge of a statement has; `u32::MAX` stands for more, too.
+pub fn parts(program: &Program, statement: &Stmt, action: Action) -> u32
+    ensures { result ≡ min (length (edge_parts (plain_program program.now) (plain_stmt statement.now) action)) (2 ^ 32 - 1) }
+{
+    part_count(program, statement, action)
+}
 
 fn step(
     program: &Program,

@@ -1,18 +1,15 @@
 -- What an assignment makes of a matrix holds of the values behind it.
-use Rattle.std.proofs.Common.{◌≡◌, ◌≢◌, ℕ, zero, suc, ◌+◌, ◌<◌, ◌≤◌, Bool, true, false, cond, eqb, leb, ℤ, pos, negsuc, neg_ℤ, ◌+ℤ◌, ◌-ℤ◌, ◌*ℤ◌, ◌≤ℤ◌, ◌<ℤ◌, List, Option, Some, None, ◌⊎◌, inl, inr, refl, sym, ap, subst, ◌∙◌, arith}
-use Rattle.std.proofs.lemmas.Int.{ints, by_lt_z}
+use Rattle.std.proofs.Common.{◌≡◌, ◌≢◌, ℕ, zero, suc, ◌+◌, ◌<◌, ◌≤◌, Bool, true, false, cond, ℤ, pos, negsuc, neg_ℤ, ◌+ℤ◌, ◌-ℤ◌, ◌*ℤ◌, ◌≤ℤ◌, List, Option, Some, None, ◌⊎◌, inl, inr, refl, sym, ap, subst, ◌∙◌, arith}
+use Rattle.std.proofs.lemmas.Int.{ints}
 use Rattle.std.proofs.lemmas.Bool.{cases_eq, eq-eqb, ne_eqb}
-use Rattle.std.proofs.Math.IntN.{neg_ℤ-neg_ℤ}
-use borrow.Author.Differences.{up, down}
-use Rattle.decimal_interval.specs.Bounds.{Holds}
 use Rattle.linear_form.specs.declared.form.Lin.{Lin}
 use Rattle.linear_form.specs.Forms.{dot, is_small}
-use Rattle.diff_bounds.specs.Matrix.{none, IsBound}
+use Rattle.diff_bounds.specs.Matrix.{IsBound}
 use Rattle.diff_bounds.specs.Storages.{value_at, DifferBy, StandsIn}
-use Rattle.form_bounds.specs.Numbers.{word_of, IsAbove, IsUnder}
+use Rattle.form_bounds.specs.Numbers.{word_of, IsAbove}
 use Rattle.form_bounds.specs.Upper.{upper, coef_at}
 use Rattle.form_bounds.specs.Values.{AreLower, worth, total, worths, HasValue, IsOver}
-use Rattle.form_images.specs.Assigned.{less_place, negated, upper_less, less_upper, AreAssigned, with_value, AreOperands, IsValue}
+use Rattle.form_images.specs.Assigned.{less_place, negated, upper_less, less_upper, AreAssigned, with_value, IsValue}
 use Rattle.form_bounds.proofs.Numbers.{parts_of_product}
 use Rattle.form_bounds.proofs.Sound.{upper_above}
 use Rattle.form_bounds.proofs.Values.{Shows, upper_shows}

@@ -1,10 +1,10 @@
 -- What a demand makes of a matrix holds of the values that meet it.
-use Rattle.std.proofs.Common.{◌≡◌, ◌≢◌, ℕ, zero, suc, ◌+◌, ◌*◌, ◌/◌, ◌<◌, ◌≤◌, Bool, true, false, cond, eqb, leb, ℤ, pos, negsuc, neg_ℤ, ◌+ℤ◌, ◌-ℤ◌, ◌*ℤ◌, ◌≤ℤ◌, ◌<ℤ◌, List, Option, Some, None, ◌⊎◌, inl, inr, refl, sym, ap, subst, ◌∙◌, arith}
+use Rattle.std.proofs.Common.{◌≡◌, ◌≢◌, ℕ, zero, suc, ◌+◌, ◌*◌, ◌/◌, ◌<◌, ◌≤◌, Bool, true, false, cond, eqb, ℤ, pos, negsuc, neg_ℤ, ◌+ℤ◌, ◌-ℤ◌, ◌*ℤ◌, ◌≤ℤ◌, ◌<ℤ◌, List, Option, Some, None, ◌⊎◌, inl, inr, refl, sym, ap, subst, ◌∙◌, arith}
 use Rattle.std.specs.Int.{int_min, int_div_euclid}
 use Rattle.std.specs.Prelude.{unsigned_abs}
 use Rattle.std.proofs.lemmas.Int.{ints, clamps, by_lt_z}
-use Rattle.std.proofs.lemmas.Nat.{le-div, mod_below, div-add-mod'}
-use Rattle.std.proofs.lemmas.Bool.{cases_eq, cases_lt, cases_Bool, eq-eqb, ne_eqb, eqb-true}
+use Rattle.std.proofs.lemmas.Nat.{mod_below, div-add-mod'}
+use Rattle.std.proofs.lemmas.Bool.{cases_eq, cases_Bool, eq-eqb, ne_eqb, eqb-true}
 use borrow.Author.Differences.{up, down}
 use Rattle.linear_form.specs.declared.form.Lin.{Lin}
 use Rattle.linear_form.specs.Forms.{dot}
@@ -12,7 +12,7 @@ use Rattle.diff_bounds.specs.Matrix.{none, IsBound}
 use Rattle.diff_bounds.specs.Storages.{value_at, DifferBy, StandsIn}
 use Rattle.form_bounds.specs.Numbers.{word_of, IsAbove, IsUnder}
 use Rattle.form_bounds.specs.Upper.{upper, without, coef_at}
-use Rattle.form_bounds.specs.Values.{AreLower, worth, total, worths, HasValue, IsOver}
+use Rattle.form_bounds.specs.Values.{AreLower, total, worths, HasValue, IsOver}
 use Rattle.form_images.specs.Assigned.{negated}
 use Rattle.form_images.specs.Demanded.{divided, if_positive, if_negative, if_opposite, factor, demanded_by, demanded, lowered, AreDemanded, IsMet}
 use Rattle.form_bounds.proofs.Numbers.{parts_of_product, opposite_products, times_monotone}

@@ -5,3 +5,4 @@ pub mod Changes
 pub mod Puts
 pub mod Matrices
 pub mod Lowered
+pub mod Forgotten

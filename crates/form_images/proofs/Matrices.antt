@@ -1,13 +1,11 @@
 -- What is left are matrices.
-use Rattle.std.proofs.Common.{◌≡◌, ◌≢◌, ℕ, zero, suc, ◌+◌, ◌*◌, ◌/◌, ◌%◌, ◌<◌, ◌≤◌, Bool, true, false, cond, List, length, get_or, ℤ, pos, neg_ℤ, Option, Some, None, ◌⊎◌, inl, inr, refl, sym, ap, subst, ◌∙◌, arith}
-use Rattle.std.specs.Int.{int_min}
-use Rattle.std.proofs.lemmas.Int.{ints, clamps}
+use Rattle.std.proofs.Common.{◌≡◌, ℕ, ◌+◌, ◌*◌, ◌/◌, ◌%◌, ◌<◌, ◌≤◌, Bool, true, false, cond, List, length, get_or, ℤ, pos, neg_ℤ, Option, None, ◌⊎◌, inl, inr, sym, ap, subst, ◌∙◌, arith}
+use Rattle.std.proofs.lemmas.Int.{ints}
 use Rattle.std.proofs.lemmas.Bool.{cases_eq}
-use Rattle.std.proofs.lemmas.Nat.{div-mul-add, mod-mul-add, div-add-mod', mod_below, div_below}
+use Rattle.std.proofs.lemmas.Nat.{div-add-mod', mod_below, div_below}
 use Rattle.linear_form.specs.declared.form.Lin.{Lin}
 use Rattle.linear_form.specs.Forms.{is_small}
 use Rattle.diff_bounds.specs.Matrix.{word, none, IsWord, IsMatrix}
-use Rattle.diff_bounds.proofs.Places.{place_fits}
 use Rattle.diff_bounds.proofs.Ends.{words_of}
 use Rattle.form_bounds.specs.Numbers.{word_of}
 use Rattle.form_bounds.specs.Upper.{upper, coef_at}
@@ -23,7 +21,7 @@ by_places size m width words k h =
     let place : k / (size + 1) * (size + 1) + k % (size + 1) ≡ k = div-add-mod' k (size + 1) in
     subst (λ (p : ℕ). IsWord (get_or m p (pos 0))) place (words (k / (size + 1)) (k % (size + 1)) row column)
 
-none_is_word : IsWord none
+pub none_is_word : IsWord none
 none_is_word = record { low = omega (arith, ints); high = λ b. absurd (omega (arith, ints)); top = omega (arith, ints) }
 
 guarded_is_word : (b : Bool) (o : Option ℤ) → IsWord (word_of o) → IsWord (word_of (cond b o None))

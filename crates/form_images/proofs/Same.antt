@@ -1,8 +1,8 @@
 -- Bounds of forms whose coefficients are the same, and of changed forms.
-use Rattle.std.proofs.Common.{◌≡◌, ℕ, zero, suc, ◌+◌, ◌-◌, ◌<◌, ◌≤◌, Bool, true, false, cond, eqb, List, length, get_or, ℤ, pos, negsuc, neg_ℤ, ◌*ℤ◌, ◌≤ℤ◌, Option, Some, None, refl, sym, ap, subst, ◌∙◌, arith}
+use Rattle.std.proofs.Common.{◌≡◌, ℕ, zero, suc, ◌+◌, ◌-◌, ◌<◌, ◌≤◌, true, cond, eqb, List, ℤ, pos, negsuc, neg_ℤ, ◌*ℤ◌, ◌≤ℤ◌, Option, Some, None, refl, ap, ◌∙◌, arith}
 use Rattle.std.proofs.lemmas.Int.{ints, clamps}
 use Rattle.linear_form.specs.declared.form.Lin.{Lin}
-use Rattle.linear_form.specs.Forms.{coef, coefs_of, is_small}
+use Rattle.linear_form.specs.Forms.{coef, is_small}
 use Rattle.linear_form.specs.Results.{multiple_of, scaled_coefs}
 use Rattle.linear_form.proofs.Coefs.{coef-coefs_of}
 use Rattle.diff_bounds.specs.Matrix.{word}

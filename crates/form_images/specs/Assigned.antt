@@ -1,5 +1,5 @@
 -- What the assignment of a linear form to a cell makes of a matrix.
-use Rattle.std.specs.Prelude.{◌≡◌, ◌≢◌, ℕ, zero, suc, ◌+◌, ◌<◌, ◌≤◌, nat_eq, if◌then◌else◌, ℤ, pos, neg_ℤ, ◌-ℤ◌, Option, Some, None}
+use Rattle.std.specs.Prelude.{◌≡◌, ◌≢◌, ℕ, zero, suc, ◌<◌, ◌≤◌, nat_eq, if◌then◌else◌, ℤ, pos, neg_ℤ, ◌-ℤ◌, Option, Some, None}
 use Rattle.decimal_interval.specs.Bounds.{Holds}
 use Rattle.linear_form.specs.declared.form.Lin.{Lin}
 use Rattle.linear_form.specs.Forms.{is_small}

@@ -1,5 +1,5 @@
 -- What the demand that a linear form is at most 0 makes of a matrix.
-use Rattle.std.specs.Prelude.{◌≡◌, ℕ, zero, suc, ◌<◌, ◌≤◌, nat_eq, if◌then◌else◌, ℤ, pos, negsuc, neg_ℤ, ◌≤ℤ◌, Option, Some, None}
+use Rattle.std.specs.Prelude.{◌≡◌, ℕ, zero, suc, ◌≤◌, nat_eq, if◌then◌else◌, ℤ, pos, negsuc, neg_ℤ, ◌≤ℤ◌, Option, Some, None}
 use Rattle.std.specs.Int.{int_min, int_div_euclid}
 use Rattle.linear_form.specs.declared.form.Lin.{Lin}
 use Rattle.form_bounds.specs.Numbers.{word_of}

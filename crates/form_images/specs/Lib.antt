@@ -1,3 +1,4 @@
 pub mod Assigned
 pub mod Changed
 pub mod Demanded
+pub mod Forgotten

@@ -76,7 +76,7 @@ fn put_off_diagonal(places: usize, m: &mut [i128], row: usize, column: usize, wo
 }
 
 // puts words into a row, but for the diagonal
-fn put_row(places: usize, m: &mut [i128], row: usize, words: &[i128])
+pub(crate) fn put_row(places: usize, m: &mut [i128], row: usize, words: &[i128])
     requires few { places ≤ 9 }
     requires width { length m.old ≡ places * places }
     requires row { row < places }
@@ -91,7 +91,7 @@ fn put_row(places: usize, m: &mut [i128], row: usize, words: &[i128])
 }
 
 // puts words into a column, but for the diagonal
-fn put_column(places: usize, m: &mut [i128], column: usize, words: &[i128])
+pub(crate) fn put_column(places: usize, m: &mut [i128], column: usize, words: &[i128])
     requires few { places ≤ 9 }
     requires width { length m.old ≡ places * places }
     requires column { column < places }

@@ -5,4 +5,4 @@ pub mod SlotLemmas
 pub mod HeadRanks
 pub mod OneEdge
 pub mod Starting
-pub mod Swept
+pub mod StepsLeft

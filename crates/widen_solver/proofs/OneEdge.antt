@@ -152,15 +152,21 @@ settles l f edge old row grew again s quiet =
     subst (λ r. l.Below (f.post edge r) (row_at (written f edge old row) (f.target edge))) (sym same)
     (subst (λ r. l.Below (transferred f edge old) r) (sym (row_at-set_same old (f.target edge) row target.first (target_has_row l f edge old row grew again s))) more)
 
-stays_settled : (l : Lattice) (f : Flow) (edge : ℕ) (old : List (List ℤ)) (row : List ℤ) (grew again : Bool) → Step l f edge old row grew again → again ≡ false → (other : ℕ) → IsEdge f other → f.source other ≤ f.source edge → IsSettled l f old other → IsSettled l f (written f edge old row) other
-stays_settled l f edge old row grew again s quiet other is upto settled =
+-- an edge stays settled where the row at its source stays
+kept_settled : (l : Lattice) (f : Flow) (edge : ℕ) (old : List (List ℤ)) (row : List ℤ) (grew again : Bool) → Step l f edge old row grew again → (other : ℕ) → IsEdge f other → row_at (written f edge old row) (f.source other) ≡ row_at old (f.source other) → IsSettled l f old other → IsSettled l f (written f edge old row) other
+kept_settled l f edge old row grew again s other is same settled =
     let target = s.flows.target_node other is in
     let source = s.flows.source_node other is in
-    let same = unmoved l f edge old row grew again s quiet (f.source other) source.first upto in
     subst (λ r. l.Below (f.post other r) (row_at (written f edge old row) (f.target other))) (sym same)
     (s.laws.transitive (transferred f other old) (row_at old (f.target other)) (row_at (written f edge old row) (f.target other))
     (s.flows.post_element other (row_at old (f.source other)) is (s.before.elements (f.source other) source))
     (s.before.elements (f.target other) target) (new_elements l f edge old row grew again s (f.target other) target) settled (grows l f edge old row grew again s (f.target other) target))
+
+stays_settled : (l : Lattice) (f : Flow) (edge : ℕ) (old : List (List ℤ)) (row : List ℤ) (grew again : Bool) → Step l f edge old row grew again → again ≡ false → (other : ℕ) → IsEdge f other → f.source other ≤ f.source edge → IsSettled l f old other → IsSettled l f (written f edge old row) other
+stays_settled l f edge old row grew again s quiet other is upto = kept_settled l f edge old row grew again s other is (unmoved l f edge old row grew again s quiet (f.source other) (s.flows.source_node other is).first upto)
+
+stays_settled_before : (l : Lattice) (f : Flow) (edge : ℕ) (old : List (List ℤ)) (row : List ℤ) (grew again : Bool) → Step l f edge old row grew again → (other : ℕ) → IsEdge f other → f.source other < f.target edge → IsSettled l f old other → IsSettled l f (written f edge old row) other
+stays_settled_before l f edge old row grew again s other is less = kept_settled l f edge old row grew again s other is (row_at-set_other old (f.target edge) (f.source other) row (target_is l f edge old row grew again s).first (s.flows.source_node other is).first (λ same. absurd (omega (arith, same, less))))
 
 none_higher : (l : Lattice) (f : Flow) (edge : ℕ) (old : List (List ℤ)) (row : List ℤ) (grew again : Bool) → Step l f edge old row grew again → NoneHigher l f old (written f edge old row) f.nodes
 none_higher l f edge old row grew again s node first last =
@@ -183,6 +189,7 @@ takes_edge l f edge old row grew again s = record {
   under_way = stays_under_way l f edge old row grew again s;
   here = settles l f edge old row grew again s;
   keeps = stays_settled l f edge old row grew again s;
+  keeps_before = stays_settled_before l f edge old row grew again s;
   no_higher = ranks_no_higher l f old (written f edge old row) f.nodes (none_higher l f edge old row grew again s);
   falls = falls_back l f edge old row grew again s;
 }

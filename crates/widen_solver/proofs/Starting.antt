@@ -1,4 +1,4 @@
--- The rows before the first sweep.
+-- The rows before the first edge.
 use Rattle.std.proofs.Common.{◌≡◌, ℕ, ◌+◌, ◌-◌, ◌<◌, ◌≤◌, List, [], ℤ, length, get_or, slice_set, Some, None, refl, ap, sym, ◌∙◌, subst, length-set, arith, inl, inr, get_or-set_other, get_or-set_same}
 use Rattle.std.proofs.lemmas.Bool.{cases_eq}
 use Rattle.dom_laws.specs.Lattice.{Lattice, IsElement, IsLattice}

@@ -1,5 +1,5 @@
 -- What the solver's parts do to the rows.
-use Rattle.std.specs.Prelude.{◌≡◌, ℕ, zero, suc, ◌+◌, ◌*◌, ◌<◌, ◌≤◌, ◌↔◌, List, ℤ, Bool, true, false, length, if◌then◌else◌}
+use Rattle.std.specs.Prelude.{◌≡◌, ℕ, zero, suc, ◌+◌, ◌-◌, ◌*◌, ◌<◌, ◌≤◌, ◌↔◌, List, ℤ, Bool, true, false, length, if◌then◌else◌}
 use Rattle.dom_laws.specs.Lattice.{Lattice, IsElement}
 use Rattle.dom_laws.specs.Flow.{Flow, IsNode, IsEdge, IsHead, IsDominated, goes_back_to, head_count}
 use Rattle.widen_solver.specs.Stored.{row_at}
@@ -39,11 +39,21 @@ pub record TakesEdge (l : Lattice) (f : Flow) (edge : ℕ) (old new : List (List
   pub under_way : IsUnderWay l f new
   pub here : again ≡ false → IsSettled l f new edge
   pub keeps : again ≡ false → (other : ℕ) → IsEdge f other → f.source other ≤ f.source edge → IsSettled l f old other → IsSettled l f new other
+  pub keeps_before : (other : ℕ) → IsEdge f other → f.source other < f.target edge → IsSettled l f old other → IsSettled l f new other
   pub no_higher : head_ranks l f new ≤ head_ranks l f old
   pub falls : again ≡ true → head_ranks l f new < head_ranks l f old
 
--- A sweep over all edges.
-pub record TakesEdges (l : Lattice) (f : Flow) (old new : List (List ℤ)) (again : Bool) : Type 0 where
+-- the edges before this one are settled
+pub record AreSettled (l : Lattice) (f : Flow) (rows : List (List ℤ)) (edge : ℕ) : Type 0 where
+  pub each : (other : ℕ) → IsEdge f other → other < edge → IsSettled l f rows other
+
+-- The most steps that are left from this edge on: its own and those of the edges behind it, and all for each rank of a head.
+abbrev pub steps_left : Lattice → Flow → List (List ℤ) → ℕ → ℕ
+steps_left l f rows edge = f.edges * head_ranks l f rows + (suc f.edges - edge)
+
+-- One edge's step behind settled ones; `next` is the edge to take then.
+pub record Advances (l : Lattice) (f : Flow) (edge : ℕ) (old new : List (List ℤ)) (next : ℕ) : Type 0 where
   pub under_way : IsUnderWay l f new
-  pub settled : again ≡ false → (edge : ℕ) → IsEdge f edge → IsSettled l f new edge
-  pub falls : again ≡ true → head_ranks l f new < head_ranks l f old
+  pub settled : AreSettled l f new next
+  pub next_within : next ≤ suc edge
+  pub fewer_left : steps_left l f new next < steps_left l f old edge

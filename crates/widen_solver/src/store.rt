@@ -5,8 +5,8 @@ ghost use Rattle.widen_solver.specs.Stored.{Stored, row_at, HasShape};
 ghost use Rattle.widen_solver.specs.RowsHeld.{shown_rows};
 ghost use Rattle.widen_solver.specs.Solving.{step_bound};
 
+use super::iteration::{settle, start};
 use super::node_rows::NodeRows;
-use super::sweeps::{settle, start};
 use dom_laws::{Domain, Rows, Steps, System};
 use std::alloc::{AllocError, Global};
 use std::marker::Model;
@@ -52,8 +52,9 @@ impl Rows for Store {
 }
 
 /// Solves the system: fills the store with rows that the entry and every edge keep, whatever it held.
-/// Heads are widened and other nodes joined, in sweeps over the edges in the order of their sources,
-/// until no head grows by an edge that goes back (Cousot and Cousot 1977). Takes no memory.
+/// Heads are widened and other nodes joined (Cousot and Cousot 1977). Edges are taken in the order of
+/// their sources, and from a head on again where it grew by an edge that goes back, so that a loop is
+/// done before what lies behind it (Bourdoncle 1993). Takes no memory.
 pub fn solve<S: System, L: Ledger>(system: &S, store: &mut Store, steps: &mut Steps<L>)
     requires { HasShape (S.lattice system.now) (S.flow system.now) store.old }
     ensures shape { HasShape (S.lattice system.now) (S.flow system.now) store.new }

@@ -9,6 +9,3 @@ pub returns-in-Ok-found_for-clause-finding : goal.returns-in-Ok-found_for-clause
 returns-in-Ok-found_for-clause-finding g c =
     found_in c.in-Ok.laid (known_bytes (g.F.Files.state c.args.files.now)) c.args.source.now c.in-Ok.ensures.holds
     c.in-Ok-found_for.findings c.in-Ok-found_for.ensures
-
-pub returns-clause-reads : goal.returns-clause-reads
-returns-clause-reads g c = rw c.in-Err-found_for.ensures c.in-Ok.ensures.reads

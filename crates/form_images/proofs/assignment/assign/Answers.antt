@@ -1,4 +1,4 @@
-use Rattle.std.proofs.Common.{◌+◌, ◌*◌, ◌∙◌, arith}
+use Rattle.std.proofs.Common.{◌+◌, ◌∙◌, arith}
 use Rattle.diff_bounds.specs.Matrix.{word}
 use Rattle.form_images.proofs.Assigned.{stands_assigned}
 use Rattle.form_images.proofs.Matrices.{put_is_assigned, assigned_is_matrix}

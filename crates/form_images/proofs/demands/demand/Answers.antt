@@ -1,4 +1,4 @@
-use Rattle.std.proofs.Common.{◌+◌, ◌*◌, arith}
+use Rattle.std.proofs.Common.{◌+◌, arith}
 use Rattle.diff_bounds.specs.Matrix.{word}
 use Rattle.form_images.proofs.Demanded.{stands_demanded}
 use Rattle.form_images.proofs.Lowered.{words_demanded, demanded_is_matrix}

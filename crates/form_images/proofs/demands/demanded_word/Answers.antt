@@ -1,4 +1,4 @@
-use Rattle.std.proofs.Common.{◌≡◌, ◌+◌, ℤ, ap, ◌∙◌, arith, rules}
+use Rattle.std.proofs.Common.{◌+◌, ap, ◌∙◌, arith, rules}
 use Rattle.std.specs.Int.{w128}
 use Rattle.std.proofs.lemmas.Int.{ints, to_z-of_z}
 use Rattle.linear_form.specs.declared.form.Lin.{Lin}

@@ -1,7 +1,7 @@
 use Rattle.std.proofs.Common.{ap, sym, subst, arith}
 use Rattle.widen_solver.specs.RowsHeld.{shown_rows}
 use Rattle.widen_solver.specs.Solving.{IsUnderWay}
-use Rattle.widen_solver.proofs.Swept.{within_bound}
+use Rattle.widen_solver.proofs.StepsLeft.{within_bound}
 use Rattle.widen_solver.proofs.store.solve.Goals as goal
 
 pub returns-clause-at_most : goal.returns-clause-at_most

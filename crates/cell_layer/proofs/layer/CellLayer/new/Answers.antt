@@ -1,12 +1,9 @@
-use Rattle.std.proofs.Common.{◌≤◌, ◌∙◌, length, sym, ap, subst}
+use Rattle.std.proofs.Common.{◌≤◌, ◌∙◌, length, sym, ap, subst, arith}
 use Rattle.std.specs.List.{All}
 use Rattle.cob_program.specs.ActView.{plain_program}
-use Rattle.cell_rows.specs.Rows.{row_of}
 use Rattle.cell_storages.specs.Homes.{owns}
-use Rattle.cell_layer.specs.Entry.{first_cells}
 use Rattle.cell_layer.specs.Heads.{heads_of}
-use Rattle.cell_layer.proofs.Firsts.{IsShortCell}
-use Rattle.cell_layer.proofs.Making.{targets_first, targets_last, few_edges, owned_by, few_lists, held_by, begun_by, sound_items, short_cells}
+use Rattle.cell_layer.proofs.Making.{targets_first, targets_last, few_edges, owned_by, few_lists, held_by, sound_items, cells_are}
 use Rattle.cell_layer.proofs.layer.CellLayer.new.Goals as goal
 
 pub heads_of-requires-clause-first : goal.heads_of-requires-clause-first
@@ -22,10 +19,11 @@ heads_of-requires-clause-last c =
 pub entry_row-requires-clause-sound : goal.entry_row-requires-clause-sound
 entry_row-requires-clause-sound c = sound_items (plain_program c.args.program.now) c.args.graph.now c.requires.source
 
-pub entry_row-requires-clause-short : goal.entry_row-requires-clause-short
-entry_row-requires-clause-short c =
-    let p = plain_program c.args.program.now in
-    subst (All (IsShortCell p)) (sym c.get-3.ensures) (short_cells p c.args.graph.now c.requires.source)
+pub entry_row-requires-clause-cells : goal.entry_row-requires-clause-cells
+entry_row-requires-clause-cells c = c.get-3.ensures ∙ cells_are (plain_program c.args.program.now) c.args.graph.now c.requires.source
+
+pub entry_row-requires-clause-few : goal.entry_row-requires-clause-few
+entry_row-requires-clause-few c = let same = ap length c.get-3.ensures in omega (arith, same, c.requires.cells)
 
 pub invariant_of-result : goal.invariant_of-result
 invariant_of-result c =
@@ -37,7 +35,7 @@ invariant_of-result c =
       held = held_by p g source c.in_ok-statements.statements.items c.in_ok-statements.ensures (c.has_few_parts.ensures c.if-not-has_few_parts.false);
       ends = ∣ c.requires.ends ∣₁;
       marked = c.in_ok-heads.ensures ∙ ap (λ nodes. heads_of (length nodes) c.get-2.result.now) c.get.ensures ∙ ap (heads_of (length g.nodes)) c.get-2.ensures;
-      begun = begun_by p g source c.in_ok-entry.entry.items (c.in_ok-entry.ensures ∙ ap (λ cells. row_of (first_cells p.layout cells)) c.get-3.ensures);
+      begun = c.in_ok-entry.ensures;
       owned = owned_by (owns p) lists c.requires.ends;
       cells = few_lists p g source lists c.requires.ends c.requires.cells;
       nodes = c.requires.nodes;

@@ -1,0 +1,9 @@
+pub mod Packs
+pub mod Matrices
+pub mod Moments
+pub mod Forms
+pub mod Stores
+pub mod Guards
+pub mod Steps
+pub mod Edges
+pub mod Clearing

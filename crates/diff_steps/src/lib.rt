@@ -1,0 +1,3 @@
+//! What each part of an edge of the control graph makes of what is known of differences of cells, pack by pack, beside
+//! what is known of the cells themselves (Miné 2001).
+#![tactic(auto)]
