@@ -92,13 +92,25 @@ fn holds_front(files: &MemFiles, name: &str, whole: &str) -> bool {
     }
 }
 
+// Whether a name holds nothing, or a front of what it holds elsewhere.
+fn holds_front_of(files: &MemFiles, whole: &MemFiles, name: &str) -> bool {
+    match files.bytes(name) {
+        None => true,
+        Some(held) => match whole.bytes(name) {
+            None => false,
+            Some(all) => all.starts_with(held),
+        },
+    }
+}
+
 // Whether each file that a command may change is absent, as it was, or a front of what is written where no call fails.
-fn are_fronts(files: &MemFiles) -> bool {
+fn are_fronts(files: &MemFiles, whole: &MemFiles) -> bool {
     holds_front(files, "C", CERTIFICATE)
         && holds_front(files, "OUT", "A")
         && holds_front(files, "PAYOUT", PAID)
         && holds_front(files, "PAYIN", HOURS)
         && holds_front(files, "S", SOURCE)
+        && holds_front_of(files, whole, "TRIAL")
 }
 
 #[test]
@@ -106,6 +118,13 @@ fn a_call_on_files_that_fails_is_told(rt: HostRuntime) -> Result<(), Fail> {
     let alloc = rt.alloc();
     for (line, first, last, status, out) in FAULTS {
         let words = words_of(alloc, line)?;
+        let mut whole = files_of(alloc, 0)?;
+        cobsound(
+            alloc,
+            &words,
+            &mut whole,
+            &mut MemSink::new(alloc, Vec::new(alloc)),
+        );
         for failing in first..last + 1 {
             let mut files = files_of(alloc, failing)?;
             let mut sink = MemSink::new(alloc, Vec::new(alloc));
@@ -115,7 +134,7 @@ fn a_call_on_files_that_fails_is_told(rt: HostRuntime) -> Result<(), Fail> {
                 "{line}, {failing}"
             );
             assert_eq!(rt; sink.bytes(), out.as_bytes(), "{line}, {failing}");
-            assert!(rt; are_fronts(&files), "{line}, {failing}");
+            assert!(rt; are_fronts(&files, &whole), "{line}, {failing}");
         }
     }
     Ok(())
@@ -132,13 +151,21 @@ fn few_bytes_at_a_time_are_enough(rt: HostRuntime) -> Result<(), Fail> {
         ("run P", "RUN DATE 20240131\nDETAILS 00001 BAD 00000\n"),
     ] {
         let words = words_of(alloc, line)?;
+        let mut whole = files_of(alloc, 0)?;
+        cobsound(
+            alloc,
+            &words,
+            &mut whole,
+            &mut MemSink::new(alloc, Vec::new(alloc)),
+        );
         let mut files = files_of(alloc, 0)?;
         files.slow(1);
         let mut sink = MemSink::new(alloc, Vec::new(alloc));
         sink.slow(1);
         assert_eq!(rt; cobsound(alloc, &words, &mut files, &mut sink), 0, "{line}");
         assert_eq!(rt; sink.bytes(), out.as_bytes(), "{line}");
-        assert!(rt; are_fronts(&files), "{line}");
+        assert!(rt; are_fronts(&files, &whole), "{line}");
+        assert!(rt; are_fronts(&whole, &files), "{line}");
     }
     Ok(())
 }
