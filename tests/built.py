@@ -26,6 +26,15 @@ def launcher():
     return path
 
 
+def program_path():
+    """The program itself, which the launcher starts; or what COBSOUND_PROGRAM names."""
+    named = os.environ.get("COBSOUND_PROGRAM")
+    if named:
+        return pathlib.Path(named).resolve()
+    env = {**os.environ, "COBSOUND_FIND": "1"}
+    return pathlib.Path(subprocess.run([ROOT / "cobsound"], env=env, capture_output=True, text=True).stdout.rstrip("\n"))
+
+
 def latin(files):
     return {name: text.encode("latin-1") if isinstance(text, str) else text for name, text in files.items()}
 

@@ -7,8 +7,8 @@ import shutil
 import subprocess
 import tempfile
 
-from tests.built import ROOT, launcher
-from tests.report import ORDERS, TOOL, program_path, script, told
+from tests.built import ROOT, launcher, program_path
+from tests.report import ORDERS, TOOL, script, told
 
 TEXT = (ROOT / "docs/NIGHTLY.md").read_text("utf-8")
 

@@ -8,10 +8,11 @@ import itertools
 import os
 import pathlib
 import subprocess
+import sys
 import tempfile
 import typing
 
-from tests.built import ROOT, Case, checks_of, latin, refusal
+from tests.built import ROOT, Case, checks_of, latin, program_path, refusal
 from tests.reference import CERTIFICATE
 from tests.sample import PAYROLL, SAMPLE
 
@@ -26,6 +27,16 @@ TALKING = SAMPLE.replace("ADD 1 TO N.", f"PERFORM 5000 TIMES\n       DISPLAY '{'
 
 # how the shell starts the program with a standard output
 SINKS = {"full": ">/dev/full", "closed": ">&-", "all closed": "<&- >&- 2>&-"}
+
+# Starts a program whose standard output has no reader. A process of its own, since one that another case starts just then
+# would hold the reader for a moment.
+GONE = """import os, signal, sys
+reader, writer = os.pipe()
+os.close(reader)
+os.dup2(writer, 1)
+signal.signal(signal.SIGPIPE, signal.SIG_DFL)
+os.execv(sys.argv[1], sys.argv[1:])
+"""
 
 
 class Front:
@@ -61,10 +72,7 @@ def with_sink(command, folder, sink):
     if sink in SINKS:
         return started_by_shell(command, folder, SINKS[sink])
     if sink == "gone":
-        reader, writer = os.pipe()
-        os.close(reader)
-        with os.fdopen(writer) as out:
-            return ended(subprocess.Popen(command, cwd=folder, stdout=out))
+        return ended(subprocess.Popen([sys.executable, "-c", GONE, *command], cwd=folder))
     started = subprocess.Popen(command, cwd=folder, stdout=subprocess.PIPE, stderr=subprocess.DEVNULL, bufsize=0)
     if sink == "one line":
         started.stdout.readline()
@@ -223,7 +231,8 @@ def launched():
 
 
 def checks():
-    kinds = (folders, slashes, names, links, sinks, readers, devices, same_files)
+    kinds = (folders, slashes, names, links, sinks, readers, devices)
     yield from checks_of(itertools.chain.from_iterable(kind() for kind in kinds))
-    for case in launched():
-        yield lambda case=case: case.tried(ROOT / "cobsound")
+    for path, cases in ((program_path(), same_files()), (ROOT / "cobsound", launched())):
+        for case in cases:
+            yield lambda path=path, case=case: case.tried(path)

@@ -14,7 +14,7 @@ import subprocess
 import sys
 import tempfile
 
-from tests.built import ROOT, launcher
+from tests.built import ROOT, launcher, program_path
 from tests.reference import cases_of
 
 sys.path.insert(0, str(ROOT / "tools"))
@@ -49,15 +49,6 @@ def reported(words, cwd=ROOT, program=None, **more):
     env = {**os.environ, **({"COBSOUND_PROGRAM": str(program)} if program else {})}
     done = subprocess.run([TOOL, *words], cwd=cwd, env=env, capture_output=True, text=True, **more)
     return done.returncode, done.stdout, done.stderr
-
-
-def program_path():
-    """The program that the tool starts."""
-    named = os.environ.get("COBSOUND_PROGRAM")
-    if named:
-        return pathlib.Path(named).resolve()
-    env = {**os.environ, "COBSOUND_FIND": "1"}
-    return pathlib.Path(subprocess.run([ROOT / "cobsound"], env=env, capture_output=True, text=True).stdout.rstrip("\n"))
 
 
 def script(folder, text):
