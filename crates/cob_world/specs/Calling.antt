@@ -64,3 +64,11 @@ refilled_on at content files (Some f) = slice_set files at (file content f.mode 
 
 abbrev pub refilled : ℕ → Option (List ℕ) → List File → List File
 refilled at content files = refilled_on at content files (slice_get files at)
+
+-- the files, where that at a place, if there is one, has other bytes, of which so many were read
+abbrev pub replaced_on : ℕ → Option (List ℕ) → ℕ → List File → Option File → List File
+replaced_on at content place files None = files
+replaced_on at content place files (Some f) = slice_set files at (file content f.mode place)
+
+abbrev pub replaced : ℕ → Option (List ℕ) → ℕ → List File → List File
+replaced at content place files = replaced_on at content place files (slice_get files at)

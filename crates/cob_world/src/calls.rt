@@ -6,7 +6,7 @@ ghost use Rattle.cob_runs.specs.Files.{opened, after_close, with_status};
 ghost use Rattle.cob_runs.specs.State.{with_storage, with_files};
 ghost use Rattle.cob_runs.specs.Acts.{open_one, close_one, take_one, into_if, read_one, write_one};
 ghost use Rattle.cob_items.specs.WellFormed.{HasWellFormedItems, IsWellFormedFile};
-ghost use Rattle.cob_world.specs.Calling.{called, read_by, written_by, acted, refilled};
+ghost use Rattle.cob_world.specs.Calling.{called, read_by, written_by, acted, refilled, replaced};
 
 use crate::files::File;
 use crate::statuses::{decl_at, is_fine, put_found, put_into, put_status, put_written};
@@ -43,6 +43,20 @@ fn refill_at(files: &mut [File], content: Option<Vec<u8>>, at: usize)
     if at < files.len() {
         files[at].refill(content);
     }
+}
+
+fn replace_at(
+    files: &mut [File],
+    content: Option<Vec<u8>>,
+    place: usize,
+    at: usize,
+) -> Option<Vec<u8>>
+    ensures { files.new ≡ replaced at (option_map (λ v. v.items) content) place files.old }
+{
+    if at >= files.len() {
+        return None;
+    }
+    files[at].replace(content, place)
 }
 
 // ---- on a file and storage
@@ -166,6 +180,21 @@ impl<'p> World<'p> {
         ensures kept { self.new.program ≡ self.old.program }
     {
         refill_at(self.files.as_mut_slice(), content, at);
+    }
+
+    /// Puts other bytes in place of those of the file at a place, if there is one, of which so many were read, and gives
+    /// those that stood there. Its mode stays.
+    pub fn replace_content(
+        &mut self,
+        at: usize,
+        content: Option<Vec<u8>>,
+        place: usize,
+    ) -> Option<Vec<u8>>
+        ensures value { self.new.world ≡ with_files self.old.world
+            (replaced at (option_map (λ v. v.items) content) place self.old.world.files) }
+        ensures kept { self.new.program ≡ self.old.program }
+    {
+        replace_at(self.files.as_mut_slice(), content, place, at)
     }
 
     /// OPEN of one file, and its status.

@@ -9,6 +9,7 @@ ghost use Rattle.cob_world.specs.Views.{plain_mode};
 use crate::areas::append_text;
 use std::alloc::{AllocError, Global};
 use std::marker::Model;
+use std::mem;
 
 /// Whether a file is open, and for what; of one that is read, whether its end was met.
 #[derive(Clone, Copy, Debug, PartialEq, Eq)]
@@ -94,6 +95,16 @@ impl File {
         ensures { self.new ≡ file (option_map (λ v. v.items) content) self.old.mode self.old.place }
     {
         self.content = content;
+    }
+
+    /// Puts other bytes in place of its own, of which so many were read, and gives those that stood there. Its mode
+    /// stays.
+    pub fn replace(&mut self, content: Option<Vec<u8>>, place: usize) -> Option<Vec<u8>>
+        ensures file { self.new ≡ file (option_map (λ v. v.items) content) self.old.mode place }
+        ensures gives { option_map (λ v. v.items) result ≡ self.old.content }
+    {
+        self.place = place;
+        mem::replace(&mut self.content, content)
     }
 
     // OPEN OUTPUT empties the file or makes it; OPEN INPUT wants it to be there.
