@@ -33,12 +33,7 @@ fn known_or_own(known: Option<Interval>) -> Interval
 }
 
 /// The numbers of a counter.
-pub(crate) fn count_units(
-    program: &Program,
-    cells: &[Cell],
-    row: &[i128],
-    statement: u32,
-) -> Interval
+pub fn count_units(program: &Program, cells: &[Cell], row: &[i128], statement: u32) -> Interval
     requires { IsRowOf (plain_program program.now) cells.now row.now }
     ensures { result ≡ units_of program.now.layout (homes_of (plain_program program.now)) (cells_of row.now) (of_count statement) }
 {

@@ -15,7 +15,8 @@ use cob_data::Item;
 use cob_program::Program;
 use cob_runs::Cell;
 
-fn share_bytes(offset: u32, count: u32, from: u32, many: u32) -> bool
+/// Whether two ranges of storage, each an offset and a number of bytes, have a byte in common.
+pub fn share_bytes(offset: u32, count: u32, from: u32, many: u32) -> bool
     ensures { result ≡ share_bytes offset count from many }
 {
     let end = u64::from(offset) + u64::from(count);

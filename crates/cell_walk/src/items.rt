@@ -22,7 +22,7 @@ use sum_ranges::{Ranged, Ranges, point};
 /// What a row of a program's cells tells of its items. An item with more digits than the arithmetic works with is said to
 /// be 0, so that its range must not be asked for.
 #[derive(Drop)]
-pub(crate) struct KnownItems<'a> {
+pub struct KnownItems<'a> {
     pub program: &'a Program,
     pub cells: &'a [Cell],
     pub row: &'a [i128],
@@ -76,7 +76,7 @@ impl<'a> Items for KnownItems<'a> {
 }
 
 /// The range of an item that the arithmetic works with.
-pub(crate) fn item_range(program: &Program, cells: &[Cell], row: &[i128], place: u32) -> Ranged
+pub fn item_range(program: &Program, cells: &[Cell], row: &[i128], place: u32) -> Ranged
     requires row { IsRowOf (plain_program program.now) cells.now row.now }
     requires small { is_small (bound_at program.now.layout place) ≡ true }
     ensures { result ≡ range_at (plain_program program.now) (cells_of row.now) place }
@@ -90,7 +90,7 @@ pub(crate) fn item_range(program: &Program, cells: &[Cell], row: &[i128], place:
 }
 
 /// Whether an item is known to be numeric.
-pub(crate) fn item_is_numeric(program: &Program, cells: &[Cell], row: &[i128], place: u32) -> bool
+pub fn item_is_numeric(program: &Program, cells: &[Cell], row: &[i128], place: u32) -> bool
     requires row { IsRowOf (plain_program program.now) cells.now row.now }
     ensures { result ≡ is_numeric program.now.layout (homes_of (plain_program program.now)) (cells_of row.now) place }
 {

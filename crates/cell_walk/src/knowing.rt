@@ -44,7 +44,7 @@ fn set_in(row: &mut [i128], cell: Option<usize>, known: Option<Interval>)
 // ---- by a home
 
 /// What is known of an item.
-pub(crate) fn known_of_item(
+pub fn known_of_item(
     program: &Program,
     cells: &[Cell],
     row: &[i128],
@@ -58,7 +58,7 @@ pub(crate) fn known_of_item(
 }
 
 /// What is known of the counter of a TIMES.
-pub(crate) fn known_of_count(
+pub fn known_of_count(
     program: &Program,
     cells: &[Cell],
     row: &[i128],

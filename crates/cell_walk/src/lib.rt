@@ -24,8 +24,12 @@ mod tests_of;
 mod walking;
 
 pub use clearing::clears_part;
+pub use counters::count_units;
 pub use firsts::first;
+pub use forgetting::share_bytes;
+pub use items::{KnownItems, item_is_numeric, item_range};
 pub use kept::Kept;
+pub use knowing::{known_of_count, known_of_item};
 pub use scales::Taken;
 pub use taking::taken;
 pub use walking::{parts, walk};

@@ -31,7 +31,7 @@ use Rattle.cell_steps.specs.Stores.{range_at, with_taken}
 use Rattle.cell_steps.specs.Clearing.{is_misfit, has_quotient, clears_part}
 use Rattle.diff_steps.specs.Packs.{Pack, size_of, pack_decimals}
 use Rattle.diff_steps.specs.Moments.{Seen2}
-use Rattle.diff_steps.specs.Forms.{cell_at, amount_form, sender_form, lowered_form}
+use Rattle.diff_steps.specs.Forms.{cell_at, amount_form, sender_form, lowered_form, has_operands}
 use Rattle.diff_steps.specs.Stores.{upper_negated}
 use Rattle.diff_steps.specs.Steps.{all_closed, step2}
 use Rattle.diff_steps.specs.Edges.{beginning2}
@@ -89,7 +89,8 @@ module _ (p : Program) (packs : List Pack) (a : Act) (x : Action) where
       (amount_of y (range_at p t.cells place) c >>= amount_units mode (receiver_of (form_at p.layout place)).scale) true
 
   abbrev pub store_fits : Seen → Seen2 → ℕ → Mode → Amount → Bool
-  store_fits t r place mode y = has_quotient y && option_map_or (amounts_fit t r place mode y) t.common true
+  store_fits t r place mode y =
+      has_quotient y && (not (has_operands p t r.wrote y) || option_map_or (amounts_fit t r place mode y) t.common true)
 
   abbrev pub clears_part2 : Part → Seen → Seen2 → Kind → Bool
   clears_part2 (divide d) s r kind.Zero = clears_part p a x (divide d) s kind.Zero || some_pack (is_apart_in p s d) packs r.packs

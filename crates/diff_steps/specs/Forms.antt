@@ -1,5 +1,5 @@
 -- What receivers get, as linear forms over the cells of a pack.
-use Rattle.std.specs.Prelude.{ℕ, ◌&&◌, if◌then◌else◌, Bool, true, false, List, ℤ, pos, neg_ℤ, ◌^◌, Option, Some, None, is_some}
+use Rattle.std.specs.Prelude.{ℕ, ◌||◌, ◌&&◌, if◌then◌else◌, Bool, true, false, List, ℤ, pos, neg_ℤ, ◌^◌, Option, Some, None, is_some}
 use Rattle.std.specs.List.{list_any}
 use Rattle.std.specs.Option.{option_map}
 use Rattle.decimal_interval.specs.Corners.{interval}
@@ -16,7 +16,7 @@ use Rattle.linear_form.specs.declared.form.Lin.{Lin}
 use Rattle.linear_form.specs.Forms.{if_small}
 use Rattle.linear_form.specs.Results.{sum_of}
 use Rattle.sum_ranges.specs.Ranged.{ranged}
-use Rattle.sum_ranges.specs.SumRanges.{product_range}
+use Rattle.sum_ranges.specs.SumRanges.{product_range, sum_range}
 use Rattle.sum_forms.specs.Constants.{constant_form, range_form, item_form}
 use Rattle.sum_forms.specs.Literals.{whole_factor}
 use Rattle.sum_forms.specs.SumForms.{scaled_form, turned_form, sum_form}
@@ -50,6 +50,11 @@ abbrev pub turned_if : Bool → Option Lin → Option Lin
 turned_if minus a = a >>= turned_form minus
 
 -- ---- amounts
+
+-- Operands that are read off their items have a range. No run comes to a store that can't fail where they have none.
+abbrev pub has_operands : Program → Seen → List Bytes → Amount → Bool
+has_operands p t wrote (computed s h) = list_any (is_written p.layout wrote) (items_in s) || is_some (sum_range (range_at p t.cells) s)
+has_operands p t wrote y = true
 
 -- Where operands were taken, by what was known of cells right before the store, and by what the edge had written to.
 module _ (p : Program) (pack : Pack) (t : Seen) (wrote : List Bytes) where

@@ -1,5 +1,5 @@
 -- What each part of an edge makes of what is known of differences before it (Miné 2001).
-use Rattle.std.specs.Prelude.{ℕ, suc, ◌&&◌, not, Bool, true, false, List, [], ◌∷◌, ◌++◌, ℤ, Option, Some, None}
+use Rattle.std.specs.Prelude.{ℕ, suc, ◌&&◌, not, if◌then◌else◌, Bool, true, false, List, [], ◌∷◌, ◌++◌, ℤ, Option, Some, None}
 use Rattle.dec_num.specs.declared.types.Mode.{Mode}
 use Rattle.cob_program.specs.Values.{◌>>=◌}
 use Rattle.cob_program.specs.Logic.{Test, numbers}
@@ -16,9 +16,9 @@ use Rattle.cell_steps.specs.Seen.{Seen}
 use Rattle.cell_steps.specs.Stores.{range_at, with_taken, amount_at, may_fail, may_fit}
 use Rattle.cell_steps.specs.Steps.{step}
 use Rattle.diff_steps.specs.Packs.{Pack, size_of, cell_of, pack_decimals, unit_of}
-use Rattle.diff_steps.specs.Matrices.{put_closed, forgotten}
+use Rattle.diff_steps.specs.Matrices.{put_closed, forgotten, bottom}
 use Rattle.diff_steps.specs.Moments.{Bytes, Seen2, with_packs, item_bytes}
-use Rattle.diff_steps.specs.Forms.{amount_form, sender_form, lowered_form, cell_at}
+use Rattle.diff_steps.specs.Forms.{amount_form, sender_form, lowered_form, cell_at, has_operands}
 use Rattle.diff_steps.specs.Stores.{known_of_amount, assigned_or_forgotten, form_stored, forgotten_cells}
 use Rattle.diff_steps.specs.Guards.{related}
 
@@ -62,7 +62,9 @@ module _ (p : Program) (a : Act) (x : Action) where
   -- What else has bytes of the item is forgotten.
   abbrev pub stored_pack : Seen → List Bytes → ℕ → Mode → Amount → Pack → List ℤ → List ℤ
   stored_pack t wrote place mode y pack m =
-      forgotten_cells (size_of pack) (is_other place) 1 pack (stored_cell t wrote place mode y pack (cell_of pack (of_item place)) m)
+      if has_operands p t wrote y
+      then forgotten_cells (size_of pack) (is_other place) 1 pack (stored_cell t wrote place mode y pack (cell_of pack (of_item place)) m)
+      else bottom (size_of pack)
 
   abbrev pub lost_pack : ℕ → Pack → List ℤ → List ℤ
   lost_pack place pack m = forgotten_cells (size_of pack) (is_beside p.layout place) 1 pack m
