@@ -1,0 +1,4 @@
+pub mod Agreeing
+pub mod Showing
+pub mod Rising
+pub mod EdgeLaws
