@@ -1,0 +1,2 @@
+pub mod PacksKeepTame
+pub mod PacksKeepClosed
