@@ -1,2 +1,3 @@
 pub mod PacksKeepTame
 pub mod PacksKeepClosed
+pub mod PacksKeepCells

@@ -1,5 +1,6 @@
 use Rattle.pack_edges.proofs.laws.posts_stand.Goals as goal
 use Rattle.pack_edges.proofs.PacksKeepClosed.{closed_stands}
+use Rattle.pack_edges.proofs.PacksKeepCells.{put_left}
 
 pub returns : goal.returns
 returns c = ?
