@@ -1,3 +1,5 @@
 pub mod PacksKeepTame
 pub mod PacksKeepClosed
 pub mod PacksKeepCells
+pub mod PacksKeepCounters
+pub mod PacksKeepGiven

@@ -44,6 +44,10 @@ same_values n w before behind same stands = record {
     at_place zero = refl
     at_place (suc i) = same (suc i)
 
+-- a place that is forgotten may get any value
+pub with_any : (size : ℕ) (m : List ℤ) (values : ℕ → Option ℤ) (at : ℕ) (z : ℤ) → at ≤ size → StandsIn (size + 1) (word (size + 1) m) values → StandsIn (size + 1) (word (size + 1) (forgotten size at m)) (with_value values at z)
+with_any size m values at z within stands = forgotten_stands size at m values (with_value values at z) within stands (record { same = λ k ne. rw (ne_eqb k at ne) refl })
+
 -- A place keeps its value where it is none of these homes', or where its home isn't forgotten.
 record AreLeft (gone : Home → Bool) (at : ℕ) (hs : List Home) (before behind : ℕ → Option ℤ) : Type 0 where
   kept : (k : ℕ) (h : Home) → slice_get hs k ≡ Some h → gone h ≡ false → behind (at + k) ≡ before (at + k)
@@ -179,6 +183,24 @@ module _ (l : Layout) (pack : Pack) where
 
       its : (k : ℕ) → k ≡ at → cells_in l pack behind (suc k) ≡ with_value (cells_in l pack before) (suc at) z (suc k)
       its k e = rw (eq-eqb (suc k) (suc at) (ap suc e)) (ap (λ (j : ℕ). cells_in l pack behind (suc j)) e ∙ new)
+
+  -- so where nothing is forgotten
+  pub put_all : (before behind : Storage) (at : ℕ) (z : ℤ) (m : List ℤ) → cells_in l pack behind (suc at) ≡ Some z
+      → ((k : ℕ) (h : Home) → k ≢ at → slice_get pack k ≡ Some h → cells.value_at l behind h ≡ cells.value_at l before h)
+      → StandsIn (size_of pack + 1) (word (size_of pack + 1) m) (with_value (cells_in l pack before) (suc at) z) → PackStands l pack m behind
+  put_all before behind at z m new same stands =
+      same_values (size_of pack + 1) (word (size_of pack + 1) m) (with_value (cells_in l pack before) (suc at) z) (cells_in l pack behind) all stands
+    where
+      all : (k : ℕ) → cells_in l pack behind k ≡ with_value (cells_in l pack before) (suc at) z k
+      all zero = let ne : nat_eq 0 (suc at) ≡ false = ne_eqb 0 (suc at) (λ e. omega (arith, e)) in sym (ap (λ (b : Bool). if b then Some z else None) ne)
+      all (suc k) = elim (cases_eq k at) as (λ _. cells_in l pack behind (suc k) ≡ with_value (cells_in l pack before) (suc at) z (suc k)) [
+        | inl e ↦ rw (eq-eqb (suc k) (suc at) (ap suc e)) (ap (λ (j : ℕ). cells_in l pack behind (suc j)) e ∙ new)
+        | inr ne ↦ rw (ne_eqb (suc k) (suc at) (λ e. ne (omega (arith, e)))) (by_home ne (slice_get pack k) refl)
+      ]
+        where
+          by_home : k ≢ at → (o : Option Home) → slice_get pack k ≡ o → (o >>= λ h. option_map (λ v. v *ℤ pos (unit_of l pack h)) (cells.value_at l behind h)) ≡ (o >>= λ h. option_map (λ v. v *ℤ pos (unit_of l pack h)) (cells.value_at l before h))
+          by_home ne None e = refl
+          by_home ne (Some h) e = ap (λ (v : Option ℤ). option_map (λ v. v *ℤ pos (unit_of l pack h)) v) (same k h ne e)
 
 -- ---- the cell of a home
 
