@@ -3,3 +3,4 @@ pub mod PacksKeepClosed
 pub mod PacksKeepCells
 pub mod PacksKeepCounters
 pub mod PacksKeepGiven
+pub mod PacksKeepStores
