@@ -11,6 +11,7 @@ use Rattle.dec_num.specs.Scaled.{value_of}
 use Rattle.cob_tree.specs.declared.form.Form.{Form}
 use Rattle.cob_tree.specs.declared.form.Form.TheVariants as form
 use Rattle.cob_data.specs.declared.layout.Item.{Item}
+use Rattle.decimal_interval.specs.Bounds.{Holds}
 use Rattle.num_bytes.specs.Reading.{contents_value}
 use Rattle.cob_program.specs.Sum.{Sum}
 use Rattle.cob_program.specs.Values.{root_of, ◌>>=◌}
@@ -246,3 +247,138 @@ module _ (given : cells.Given) (p : Program) (statement : ℕ) (a : Act) (x : Ac
 
     lost_kept : PackStands p.layout pack (lost_pack p a x place pack w) (storage m.storage m.counts)
     lost_kept = homes_left p.layout pack (is_lost p a x place) (storage m.storage m.counts) (storage m.storage m.counts) w (λ k h f is_left. refl) stands
+
+  -- ---- why a receiver may keep its value
+
+  abbrev E : Bool
+  E = may_exceed p a x t place mode y
+
+  abbrev V : Bool
+  V = may_vanish t.common y
+
+  abbrev R : Bool
+  R = is_remainder y && t.any_fail
+
+  -- a remainder of what is no quotient has no range
+  no_root : (s : Sum) (scale : ℕ) → y ≡ remaining s scale → root_of s ≡ None → E ≡ true
+  no_root s scale same none =
+      by_taken (sum_range (range_at p g.taken.0) s)
+      (g.taken.1 ∙ (ap (λ (o : Option Amount). o >>= operands (range_at p g.taken.0)) (its_amount p statement a x done place y q ∙ ap (λ (u : Amount). Some (of_operands u)) same) ∙ ap (taken_from (range_at p g.taken.0) s) none))
+    where
+      by_taken : (o : Option Ranged) → t.common ≡ option_map alone o → E ≡ true
+      by_taken None e = subst (λ (c : Option Taken). option_map_or (result.may_fail mode (receiver_of (form_at p.layout place))) (c >>= amount_of y (range_at p t.cells place)) true ≡ true) (sym e) refl
+      by_taken (Some r) e = subst (λ (c : Option Taken). option_map_or (result.may_fail mode (receiver_of (form_at p.layout place))) (c >>= amount_of y (range_at p t.cells place)) true ≡ true) (sym e)
+          (subst (λ (u : Amount). option_map_or (result.may_fail mode (receiver_of (form_at p.layout place))) (amount_of u (range_at p t.cells place) (alone r)) true ≡ true) (sym same) refl)
+
+  exceeds : m.by_zero ≡ false → stored_bytes p.layout m place mode y ≡ None → E ≡ true
+  exceeds unzero e = by_amount (amount p.layout m y) refl e
+    where
+      told : (o : Option AmountRange) (v : Fraction) → IsSomeAnd o (λ r. IsAmount r v) → stored_units mode (form_at p.layout place) v ≡ None → option_map_or (result.may_fail mode (receiver_of (form_at p.layout place))) o true ≡ true
+      told None v h f = absurd h
+      told (Some r) v h f = given.fails_ mode (form_at p.layout place) r v h f
+
+      nothing_there : amount p.layout m y ≡ None → is_some (amount p.layout m y) ≡ true → ⊥
+      nothing_there f h = cc
+
+      there : HasRoot p statement a x y → is_some (amount p.layout m y) ≡ true
+      there root = amount_there p statement a x done place y t m g q unzero root
+
+      by_root : (s : Sum) (scale : ℕ) → y ≡ remaining s scale → amount p.layout m y ≡ None → (b : Bool) → is_some (root_of s) ≡ b → E ≡ true
+      by_root s scale same f true k = absurd (nothing_there f (there (subst (λ (u : Amount). HasRoot p statement a x u) (sym same) k)))
+      by_root s scale same f false k = no_root s scale same (none_is (root_of s) k)
+        where
+          none_is : {A : Type 0} (o : Option A) → is_some o ≡ false → o ≡ None
+          none_is None h = refl
+          none_is (Some c) h = absurd cc
+
+      by_kind : (u : Amount) → y ≡ u → amount p.layout m y ≡ None → E ≡ true
+      by_kind (remaining s scale) same f = by_root s scale same f (is_some (root_of s)) refl
+      by_kind (computed s h) same f = absurd (nothing_there f (there (subst (λ (u : Amount). HasRoot p statement a x u) (sym same) tt)))
+      by_kind (moved h) same f = absurd (nothing_there f (there (subst (λ (u : Amount). HasRoot p statement a x u) (sym same) tt)))
+      by_kind (augmented h) same f = absurd (nothing_there f (there (subst (λ (u : Amount). HasRoot p statement a x u) (sym same) tt)))
+
+      by_amount : (o : Option Fraction) → amount p.layout m y ≡ o → (o >>= stored_units mode (form_at p.layout place)) ≡ None → E ≡ true
+      by_amount None f h = by_kind y refl f
+      by_amount (Some v) f h = told (amount_at p a x t place y) v (amount_meant p statement a x done place y t m g q unzero v f) h
+
+  fails_by : handled p a x ≡ true → (E || (t.may_zero || (V || R))) ≡ true → may_fail p a x t place mode y ≡ true
+  fails_by on e = and_true (handled p a x) (E || (t.may_zero || (V || R))) on e
+
+  -- a remainder behind a failed quotient, and what stands behind a divisor that is 0
+  alone_fails : is_left_alone m y ≡ true → (E || (t.may_zero || (V || R))) ≡ true
+  alone_fails e = by_zero m.by_zero refl y refl e
+    where
+      by_quotient : (b : Bool) → m.by_zero ≡ b → is_remainder y ≡ true → (b || m.failed) ≡ true → b ≡ false → (E || (t.may_zero || (V || R))) ≡ true
+      by_quotient true f k h z = absurd cc
+      by_quotient false f k h z = or_right E (t.may_zero || (V || R)) (or_right t.may_zero (V || R) (or_right V R (and_true (is_remainder y) t.any_fail k (g.fails h f))))
+
+      by_zero : (b : Bool) → m.by_zero ≡ b → (u : Amount) → y ≡ u → is_left_alone m u ≡ true → (E || (t.may_zero || (V || R))) ≡ true
+      by_zero true f u same h = or_right E (t.may_zero || (V || R)) (or_left t.may_zero (V || R) (g.zero f))
+      by_zero false f (remaining s scale) same h = by_quotient false f (ap is_remainder same) (subst (λ (b : Bool). (b || m.failed) ≡ true) f h) refl
+      by_zero false f (computed s k) same h = absurd cc
+      by_zero false f (moved k) same h = absurd cc
+      by_zero false f (augmented k) same h = absurd cc
+
+  -- ---- the matrix behind the store
+
+  module _ (pack : Pack) (of : IsPackOf p pack) (few : size_of pack ≤ 8) (wrote : List Bytes) (w : List ℤ) (stands : PackStands p.layout pack w (storage m.storage m.counts))
+      (there : m.by_zero ≡ false → (v : Fraction) → amount p.layout m y ≡ Some v → has_operands p t wrote y ≡ true)
+      (shown : m.by_zero ≡ false → (v : Fraction) → amount p.layout m y ≡ Some v → IfSome (amount_form p pack t wrote place y) (ShowsValueAt p.layout pack m v)) where
+    abbrev Behind : Moment → Type 0
+    Behind n = PackStands p.layout pack (pack_behind_store p a x t wrote place mode y pack w) (storage n.storage n.counts)
+
+    abbrev Outcome : Bool → Bool → Moment → Type 0
+    Outcome fails fits n = PackStands p.layout pack (by_outcome fails fits (stored_pack p a x t wrote place mode y pack w) (lost_pack p a x place pack w) w) (storage n.storage n.counts)
+
+    kept : may_fail p a x t place mode y ≡ true → Behind m
+    kept fails = subst (λ (b : Bool). Outcome b (may_fit p a x t place mode y) m) (sym fails) (by_fit (may_fit p a x t place mode y))
+      where
+        by_fit : (b : Bool) → Outcome true b m
+        by_fit true = lost_kept pack of few wrote w stands
+        by_fit false = stands
+
+    fitted : (held : List ℕ) → m.by_zero ≡ false → stored_bytes p.layout m place mode y ≡ Some held → Behind (with_storage m (filled_at p.layout m.storage place held))
+    fitted held unzero e = by_flags (may_fail p a x t place mode y) (may_fit p a x t place mode y) refl
+      where
+        is : Gets held
+        is = gets held e
+
+        fits : IsSomeAnd (result_at p a x t place mode y) (λ i. (z : ℤ) × Holds i z × (held ≡ bytes_of (form_at p.layout place) z))
+        fits =
+            let v = then_is (amount p.layout m y) (stored_units mode (form_at p.layout place)) held e in
+            then_holds (λ (r : AmountRange). IsAmount r v.0) (λ i. (z : ℤ) × Holds i z × (held ≡ bytes_of (form_at p.layout place) z)) (amount_at p a x t place y) (result_range mode (receiver_of (form_at p.layout place)))
+            (amount_meant p statement a x done place y t m g q unzero v.0 v.1) (λ r h. given.fits_ mode (form_at p.layout place) r v.0 held h v.2)
+
+        never : {A : Type 0} (P : A → Type 0) (o : Option A) → IsSomeAnd o P → is_some o ≡ false → ⊥
+        never P None h f = h
+        never P (Some c) h f = cc
+
+        by_flags : (b c : Bool) → may_fit p a x t place mode y ≡ c → Outcome b c (with_storage m (filled_at p.layout m.storage place held))
+        by_flags false c f = stored_stands pack of few wrote w stands held is unzero (there unzero is.v is.worth_) (shown unzero is.v is.worth_)
+        by_flags true true f = lost_stored pack of few wrote w stands held is
+        by_flags true false f = absurd (never (λ i. (z : ℤ) × Holds i z × (held ≡ bytes_of (form_at p.layout place) z)) (result_at p a x t place mode y) fits f)
+
+    pub store_stands : (n : Moment) → (handled p a x ≡ false → m.by_zero ≡ false) → Stores p.layout (handled p a x) place mode y m n → Behind n
+    store_stands n off_zero h = by_edge (handled p a x) refl h
+      where
+        by_bytes : handled p a x ≡ true → m.by_zero ≡ false → (o : Option (List ℕ)) → stored_bytes p.layout m place mode y ≡ o → Behind (stored_or_kept p.layout m place o)
+        by_bytes on unzero None e = kept (fails_by on (or_left E (t.may_zero || (V || R)) (exceeds unzero e)))
+        by_bytes on unzero (Some held) e = fitted held unzero e
+
+        not_alone : (u : Amount) → is_left_alone m u ≡ false → m.by_zero ≡ false
+        not_alone (computed s k) e = e
+        not_alone (moved k) e = e
+        not_alone (augmented k) e = e
+        not_alone (remaining s scale) e = front m.by_zero e
+          where
+            front : (b : Bool) → (b || m.failed) ≡ false → b ≡ false
+            front true f = absurd cc
+            front false f = refl
+
+        by_alone : handled p a x ≡ true → (b : Bool) → is_left_alone m y ≡ b → n ≡ (if b then m else stored_or_kept p.layout m place (stored_bytes p.layout m place mode y)) → Behind n
+        by_alone on true e k = subst Behind (sym k) (kept (fails_by on (alone_fails e)))
+        by_alone on false e k = subst Behind (sym k) (by_bytes on (not_alone y e) (stored_bytes p.layout m place mode y) refl)
+
+        by_edge : (b : Bool) → handled p a x ≡ b → Stores p.layout b place mode y m n → Behind n
+        by_edge true on k = by_alone on (is_left_alone m y) refl k
+        by_edge false off (held, e, k) = subst Behind (sym k) (fitted held (off_zero off) e)
