@@ -4,3 +4,4 @@ pub mod PacksKeepCells
 pub mod PacksKeepCounters
 pub mod PacksKeepGiven
 pub mod PacksKeepStores
+pub mod PacksKeep

@@ -17,7 +17,7 @@ use Rattle.cob_program.specs.Sum.{Sum}
 use Rattle.cob_program.specs.Values.{root_of, ◌>>=◌}
 use Rattle.cob_program.specs.Act.{Act, Program}
 use Rattle.cob_runs.specs.declared.action.Action.{Action}
-use Rattle.cob_runs.specs.Contents.{form_at, item_at, bytes_of, digits_of, scale_of, filled_at, if_held, stored as stored_units}
+use Rattle.cob_runs.specs.Contents.{form_at, item_at, bytes_of, digits_of, scale_of, scaled_by, number_at, filled_at, if_held, stored as stored_units}
 use Rattle.cob_runs.specs.Moves.{takes_number}
 use Rattle.cob_edge_parts.specs.Parts.{Amount, moved, computed, remaining, augmented, Part, store}
 use Rattle.cob_edge_parts.specs.Meaning.{Moment, with_storage, with_failure, is_left_alone, stored_bytes, stored_or_kept, amount, Stores}
@@ -71,7 +71,7 @@ use Rattle.pack_edges.proofs.PacksKeepCounters.{same_shown}
 
 -- ---- the bytes of a number
 
-pub held_is : (f : Form) (z : ℤ) (held : List ℕ) → if_held f z ≡ Some held → (unsigned_abs z < 10 ^ digits_of f) × (held ≡ bytes_of f z)
+held_is : (f : Form) (z : ℤ) (held : List ℕ) → if_held f z ≡ Some held → (unsigned_abs z < 10 ^ digits_of f) × (held ≡ bytes_of f z)
 held_is f z held e = go (nat_lt (unsigned_abs z) (10 ^ digits_of f)) refl e
   where
     lt_is : (n k : ℕ) → nat_lt n k ≡ true → n < k
@@ -382,3 +382,33 @@ module _ (given : cells.Given) (p : Program) (statement : ℕ) (a : Act) (x : Ac
         by_edge : (b : Bool) → handled p a x ≡ b → Stores p.layout b place mode y m n → Behind n
         by_edge true on k = by_alone on (is_left_alone m y) refl k
         by_edge false off (held, e, k) = subst Behind (sym k) (fitted held (off_zero off) e)
+
+  -- ---- storage behind the store
+
+  pub record IsChanged (n : Moment) : Type 0 where
+    pub first : n.first ≡ m.first
+    pub others : (other : ℕ) → is_beside p.layout place (of_item other) ≡ false → number_at p.layout n.storage other ≡ number_at p.layout m.storage other
+
+  unchanged : IsChanged m
+  unchanged = record { first = refl; others = λ other e. refl }
+
+  filled_changes : (held : List ℕ) → stored_bytes p.layout m place mode y ≡ Some held → IsChanged (with_storage m (filled_at p.layout m.storage place held))
+  filled_changes held e = record {
+    first = refl;
+    others = λ other apart. ap (option_map (scaled_by (scale_of (form_at p.layout other)))) ((filled held (gets held e)).others (of_item other) apart);
+  }
+
+  pub store_changes : (n : Moment) → Stores p.layout (handled p a x) place mode y m n → IsChanged n
+  store_changes n h = by_edge (handled p a x) h
+    where
+      by_bytes : (o : Option (List ℕ)) → stored_bytes p.layout m place mode y ≡ o → IsChanged (stored_or_kept p.layout m place o)
+      by_bytes None e = record { first = refl; others = λ other apart. refl }
+      by_bytes (Some held) e = filled_changes held e
+
+      by_alone : (b : Bool) → IsChanged (if b then m else stored_or_kept p.layout m place (stored_bytes p.layout m place mode y))
+      by_alone true = unchanged
+      by_alone false = by_bytes (stored_bytes p.layout m place mode y) refl
+
+      by_edge : (b : Bool) → Stores p.layout b place mode y m n → IsChanged n
+      by_edge true k = subst IsChanged (sym k) (by_alone (is_left_alone m y))
+      by_edge false (held, e, k) = subst IsChanged (sym k) (filled_changes held e)
