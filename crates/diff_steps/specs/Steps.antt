@@ -1,5 +1,5 @@
 -- What each part of an edge makes of what is known of differences before it (Miné 2001).
-use Rattle.std.specs.Prelude.{ℕ, suc, ◌&&◌, not, if◌then◌else◌, Bool, true, false, List, [], ◌∷◌, ◌++◌, ℤ, Option, Some, None}
+use Rattle.std.specs.Prelude.{ℕ, suc, ◌&&◌, ◌||◌, not, if◌then◌else◌, Bool, true, false, List, [], ◌∷◌, ◌++◌, ℤ, Option, Some, None}
 use Rattle.dec_num.specs.declared.types.Mode.{Mode}
 use Rattle.cob_program.specs.Values.{◌>>=◌}
 use Rattle.cob_program.specs.Logic.{Test, numbers}
@@ -66,8 +66,12 @@ module _ (p : Program) (a : Act) (x : Action) where
       then forgotten_cells (size_of pack) (is_other place) 1 pack (stored_cell t wrote place mode y pack (cell_of pack (of_item place)) m)
       else bottom (size_of pack)
 
+  -- the receiver's cell, and what has bytes of it
+  abbrev pub is_lost : ℕ → Home → Bool
+  is_lost place h = is_home h (of_item place) || is_beside p.layout place h
+
   abbrev pub lost_pack : ℕ → Pack → List ℤ → List ℤ
-  lost_pack place pack m = forgotten_cells (size_of pack) (is_beside p.layout place) 1 pack m
+  lost_pack place pack m = forgotten_cells (size_of pack) (is_lost place) 1 pack m
 
   abbrev pub pack_behind_store : Seen → List Bytes → ℕ → Mode → Amount → Pack → List ℤ → List ℤ
   pack_behind_store t wrote place mode y pack m =

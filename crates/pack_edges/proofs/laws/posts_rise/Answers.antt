@@ -1,0 +1,5 @@
+use Rattle.pack_edges.proofs.PacksClosingRise.{closed_rises}
+use Rattle.pack_edges.proofs.laws.posts_rise.Goals as goal
+
+pub returns-clause-fits : goal.returns-clause-fits
+returns-clause-fits c = ?
