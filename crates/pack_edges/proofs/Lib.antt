@@ -1,1 +1,3 @@
 pub mod PacksClosingRise
+pub mod PacksPutRise
+pub mod PacksWordsRise
