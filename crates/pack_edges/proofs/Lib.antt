@@ -1,3 +1,5 @@
 pub mod PacksClosingRise
 pub mod PacksPutRise
 pub mod PacksWordsRise
+pub mod PacksRiseLaws
+pub mod PacksStoresRise

@@ -1,4 +1,4 @@
-use Rattle.pack_edges.proofs.PacksWordsRise.{cells_rise}
+use Rattle.pack_edges.proofs.PacksStoresRise.{store_rises}
 use Rattle.pack_edges.proofs.laws.posts_rise.Goals as goal
 
 pub returns-clause-fits : goal.returns-clause-fits
