@@ -18,7 +18,7 @@ use Rattle.cell_steps.specs.Steps.{step}
 use Rattle.diff_steps.specs.Packs.{Pack, size_of, cell_of, pack_decimals, unit_of}
 use Rattle.diff_steps.specs.Matrices.{put_closed, forgotten, bottom}
 use Rattle.diff_steps.specs.Moments.{Bytes, Seen2, with_packs, item_bytes}
-use Rattle.diff_steps.specs.Forms.{amount_form, sender_form, lowered_form, cell_at, has_operands}
+use Rattle.diff_steps.specs.Forms.{amount_form, set_form, lowered_form, cell_at, has_operands}
 use Rattle.diff_steps.specs.Stores.{known_of_amount, assigned_or_forgotten, form_stored, forgotten_cells}
 use Rattle.diff_steps.specs.Guards.{related}
 
@@ -100,7 +100,7 @@ module _ (p : Program) (a : Act) (x : Action) where
   changed_pack (bytes_in offset count) s wrote pack m = forgotten_cells (size_of pack) (is_in_bytes p.layout offset count) 1 pack m
   changed_pack (guard t wanted) s wrote pack m = guarded_pack s t wanted pack m
   changed_pack (set_count statement y) s wrote pack m =
-      counted_pack statement (sender_form p pack (with_taken p a x s) wrote y) pack m
+      counted_pack statement (set_form p pack (with_taken p a x s) wrote y) pack m
   changed_pack (count_down statement) s wrote pack m = counted_pack statement (lowered_form p pack s wrote statement) pack m
   changed_pack _ s wrote pack m = m
 

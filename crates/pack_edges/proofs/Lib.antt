@@ -3,3 +3,8 @@ pub mod PacksPutRise
 pub mod PacksWordsRise
 pub mod PacksRiseLaws
 pub mod PacksStoresRise
+pub mod PacksKeepTame
+pub mod PacksKeepClosed
+pub mod PacksKeepCells
+pub mod PacksKeepCounters
+pub mod PacksKeepGiven
