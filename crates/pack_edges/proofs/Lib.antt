@@ -1,0 +1,2 @@
+pub mod FormsRise
+pub mod SignsRise
