@@ -1,5 +1,5 @@
 -- Where less is seen, the forms of amounts, of divisors and of the sides of relations are narrower.
-use Rattle.std.proofs.Common.{◌≡◌, ℕ, ◌^◌, Bool, true, false, ◌&&◌, ◌||◌, List, [], ℤ, pos, ◌≤ℤ◌, Option, Some, None, is_some, refl, sym, ap, ◌∙◌, arith}
+use Rattle.std.proofs.Common.{◌≡◌, ℕ, ◌^◌, Bool, true, false, ◌&&◌, ◌||◌, List, ℤ, pos, ◌≤ℤ◌, Option, Some, None, is_some, refl, sym, ap, ◌∙◌, arith}
 use Rattle.std.specs.Prelude.{IsSomeAnd, if◌then◌else◌, neg_ℤ}
 use Rattle.std.specs.List.{list_any}
 use Rattle.std.proofs.lemmas.Int.{ints}
@@ -17,13 +17,13 @@ use Rattle.cob_runs.specs.Computing.{items_in}
 use Rattle.cob_edge_parts.specs.Parts.{Amount, moved, computed, remaining, augmented}
 use Rattle.linear_form.specs.declared.form.Lin.{Lin}
 use Rattle.linear_form.specs.Forms.{if_small}
-use Rattle.linear_form.specs.Results.{sum_of, IsNarrower}
+use Rattle.linear_form.specs.Results.{sum_of}
 use Rattle.sum_ranges.specs.declared.ranged.Ranged.{Ranged}
 use Rattle.sum_ranges.specs.Ranged as range
 use Rattle.sum_ranges.specs.Ranged.{ranged}
 use Rattle.sum_ranges.specs.SumRanges.{product_range, sum_range, atom_range}
 use Rattle.sum_forms.specs.Constants.{constant_form, range_form}
-use Rattle.sum_forms.specs.SumForms.{scaled_form, turned_form, sum_form, atom_form}
+use Rattle.sum_forms.specs.SumForms.{turned_form, sum_form, atom_form}
 use Rattle.sum_forms.specs.Values.{IsNarrowerIfAny}
 use Rattle.sum_forms.proofs.Narrower.{range_narrower, item_narrower, sum_there, narrower_then, scaled_narrower, turns_narrower, either_narrower, sum_form_narrower, atom_form_narrower}
 use Rattle.result_ranges.specs.declared.amounts.Taken.{Taken}
@@ -42,7 +42,7 @@ use Rattle.cell_edges.proofs.ItemRanges.{units_below, range_below}
 use Rattle.cell_edges.proofs.OperandsRise.{SettledBelow, settled_below}
 use Rattle.diff_steps.specs.Packs.{Pack, cell_of, pack_decimals}
 use Rattle.diff_steps.specs.Moments.{Bytes, is_written}
-use Rattle.diff_steps.specs.Forms.{whole_sum, added_forms, turned_if, has_operands, cell_at, own_form, counter_form, kept_form, taken_form, operands_form, item_sent, sender_form, multiplied_form, computed_form, amount_form, lowered_form}
+use Rattle.diff_steps.specs.Forms.{whole_sum, added_forms, turned_if, has_operands, own_form, counter_form, kept_form, taken_form, operands_form, item_sent, sender_form, multiplied_form, computed_form, amount_form, lowered_form}
 use Rattle.diff_steps.specs.Guards.{difference_form}
 
 -- ---- sums of two forms

@@ -1,7 +1,6 @@
 -- Of a lower matrix, a narrower form and a narrower amount more is sure of the sign.
-use Rattle.std.proofs.Common.{◌≡◌, ℕ, ◌+◌, Bool, true, false, List, ℤ, pos, ◌≤ℤ◌, Option, Some, None, sym, subst, arith}
-use Rattle.std.specs.Prelude.{◌||◌, nat_le, int_le}
-use Rattle.std.proofs.lemmas.Int.{ints}
+use Rattle.std.proofs.Common.{◌≡◌, ℕ, ◌+◌, true, false, List, ℤ, pos, ◌≤ℤ◌, Option, Some, None, sym, subst, arith}
+use Rattle.std.specs.Prelude.{nat_le, int_le}
 use Rattle.cob_program.specs.Values.{◌>>=◌}
 use Rattle.linear_form.specs.declared.form.Lin.{Lin}
 use Rattle.linear_form.specs.Results.{IsNarrower}
