@@ -1,10 +1,13 @@
 pub mod PacksClosingRise
 pub mod PacksPutRise
 pub mod PacksWordsRise
-pub mod PacksRiseLaws
 pub mod PacksStoresRise
 pub mod PacksKeepTame
 pub mod PacksKeepClosed
 pub mod PacksKeepCells
 pub mod PacksKeepCounters
 pub mod PacksKeepGiven
+pub mod FormsRise
+pub mod SignsRise
+pub mod PacksFit
+pub mod PacksClearsFall
