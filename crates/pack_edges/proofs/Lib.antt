@@ -11,3 +11,4 @@ pub mod FormsRise
 pub mod SignsRise
 pub mod PacksFit
 pub mod PacksClearsFall
+pub mod PacksPartsRise
