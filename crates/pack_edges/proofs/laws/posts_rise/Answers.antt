@@ -1,5 +1,5 @@
 use Rattle.pack_edges.proofs.PacksFit.{posts_fit}
-use Rattle.pack_edges.proofs.PacksClearsFall.{clears_part2_falls}
+use Rattle.pack_edges.proofs.PacksEdgesRise.{posts_rise, clears_stay}
 use Rattle.pack_edges.proofs.laws.posts_rise.Goals as goal
 
 pub returns-clause-fits : goal.returns-clause-fits
