@@ -6,3 +6,10 @@ pub mod PacksWordsRise
 pub mod PacksFit
 pub mod PacksClearsFall
 pub mod PacksEdgesRise
+pub mod PacksRiseLaws
+pub mod PacksStoresRise
+pub mod PacksKeepTame
+pub mod PacksKeepClosed
+pub mod PacksKeepCells
+pub mod PacksKeepCounters
+pub mod PacksKeepGiven

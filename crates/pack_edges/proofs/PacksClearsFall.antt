@@ -53,14 +53,14 @@ use Rattle.cell_edges.proofs.ClearsFall.{clears_below}
 use Rattle.cell_edges.proofs.ResultLawsHold.{rising}
 use Rattle.diff_steps.specs.Packs.{Pack, size_of, pack_decimals}
 use Rattle.diff_steps.specs.Moments.{Bytes, Seen2, is_written}
-use Rattle.diff_steps.specs.Forms.{cell_at, amount_form, sender_form, lowered_form, has_operands}
+use Rattle.diff_steps.specs.Forms.{cell_at, amount_form, set_form, lowered_form, has_operands}
 use Rattle.diff_steps.specs.Stores.{upper_negated}
 use Rattle.diff_steps.specs.Clearing.{some_pack, high_fits, low_fits, high_shown, low_shown, ends_fit, is_negative, is_apart_in, amounts_fit, store_fits, clears_part2}
 use Rattle.pack_edges.specs.Agreeing.{AreMatrices}
 use Rattle.pack_edges.specs.EdgeLaws.{AreLowerEach}
 use Rattle.pack_edges.proofs.PacksPutRise.{matrix_is_flat, lower_of}
 use Rattle.pack_edges.proofs.SignsRise.{upper_lower_if, upper_negated_lower_if}
-use Rattle.pack_edges.proofs.FormsRise.{are_taken, divisor_narrower, lowered_narrower, sender_narrower, amount_narrower}
+use Rattle.pack_edges.proofs.FormsRise.{are_taken, divisor_narrower, lowered_narrower, set_narrower, amount_narrower}
 
 -- ---- tests of numbers
 
@@ -280,9 +280,9 @@ module _ (p : Program) (packs : List Pack) (r q : Seen2) (under : PacksBelow pac
           let k = with_taken p a x s in
           let l = with_taken p a x t in
           let taken = (taken_rises rising p a x s t below).below in
-          sent_falls k l taken (λ pack. sender_form p pack k r.wrote y) (λ pack. sender_form p pack l q.wrote y)
-          (λ c e pack. along_wrote k l taken (λ wrote. sender_form p pack l wrote y) (sender_form p pack k r.wrote y)
-          (sender_narrower p a x pack k l taken r.wrote y (are_taken k.common l.common c e taken.common)))
+          sent_falls k l taken (λ pack. set_form p pack k r.wrote y) (λ pack. set_form p pack l q.wrote y)
+          (λ c e pack. along_wrote k l taken (λ wrote. set_form p pack l wrote y) (set_form p pack k r.wrote y)
+          (set_narrower p a x pack k l taken r.wrote y (are_taken k.common l.common c e taken.common)))
 
       pub clears_part2_falls : (y : Part) (fault : Kind) → clears_part2 p packs a x y t q fault ≡ true → clears_part2 p packs a x y s r fault ≡ true
       clears_part2_falls (read place) fault e = clears_below rising p a x (read place) s t fault below e
