@@ -6,7 +6,6 @@ pub mod PacksWordsRise
 pub mod PacksFit
 pub mod PacksClearsFall
 pub mod PacksEdgesRise
-pub mod PacksRiseLaws
 pub mod PacksStoresRise
 pub mod PacksKeepTame
 pub mod PacksKeepClosed

@@ -31,6 +31,7 @@ use Rattle.cell_steps.specs.Cells.{is_beside}
 use Rattle.cell_steps.specs.Operands.{amount_of}
 use Rattle.cell_steps.specs.Seen.{Seen}
 use Rattle.cell_steps.specs.Stores.{range_at, amount_at, may_fail, may_fit}
+use Rattle.cell_steps.specs.Order.{SeenBelow}
 use Rattle.cell_edges.proofs.ItemRanges.{range_below}
 use Rattle.cell_edges.proofs.OperandsRise.{or_rises, AmountBelow, AmountBelowIf, amount_below}
 use Rattle.cell_edges.proofs.PartsRise.{TakenBelow, flags_rise}
@@ -43,45 +44,32 @@ use Rattle.diff_steps.specs.Stores.{known_of_amount, widened_form, forgotten_cel
 use Rattle.diff_steps.specs.Steps.{by_outcome, is_other, is_lost, form_at_cell, stored_cell, stored_pack, lost_pack, pack_behind_store, counter_stored, counted_pack}
 use Rattle.pack_laws.specs.Orders.{AreLowerOff}
 use Rattle.pack_laws.proofs.Rises.{IsImage, forgotten_image, form_image, image_below, put_lower, store_lower}
-use Rattle.pack_edges.proofs.PacksRiseLaws.{Given}
-use Rattle.pack_edges.proofs.PacksPutRise.{IsFlat, matrix_is_flat, off_of}
-use Rattle.pack_edges.proofs.PacksWordsRise.{IsHigh, HasTop, matrix_is_high, matrix_has_top, forgotten_flat, put_flat, value_flat, bottom_flat, cells_flat, value_high, lost_high, cells_high, bottom_high, bottom_below, is_gone_at, cells_rise, kept_below, gone_at_cell, cell_within}
-
--- ---- zeros on the diagonal
-module _ (p : Program) (a : Act) (x : Action) (t : Seen) (wrote : List Bytes) (place : ℕ) (mode : Mode) (y : Amount) (pack : Pack) (m : List ℤ) (flat : IsFlat (size_of pack) m) where
-  form_flat : (to : ℕ) (o : Option Lin) → IsFlat (size_of pack) (form_at_cell p a x t place mode y pack to o m)
-  form_flat to None = forgotten_flat (size_of pack) to m flat
-  form_flat to (Some form) =
-      let k = known_of_amount (size_of pack) m form (receiver_of (form_at p.layout place)).scale (amount_at p a x t place y) in
-      value_flat (size_of pack) to (receiver_of (form_at p.layout place)).signed k _ m flat
-
-  cell_flat : (k : Option ℕ) → IsFlat (size_of pack) (stored_cell p a x t wrote place mode y pack k m)
-  cell_flat None = flat
-  cell_flat (Some k) = form_flat (suc k) (amount_form p pack t wrote place y)
-
-  stored_flat : IsFlat (size_of pack) (stored_pack p a x t wrote place mode y pack m)
-  stored_flat = by_test (has_operands p t wrote y)
-    where
-      by_test : (b : Bool) → IsFlat (size_of pack) (if b then forgotten_cells (size_of pack) (is_other p a x place) 1 pack (stored_cell p a x t wrote place mode y pack (cell_of pack (of_item place)) m) else bottom (size_of pack))
-      by_test true = cells_flat (size_of pack) (is_other p a x place) 1 pack (stored_cell p a x t wrote place mode y pack (cell_of pack (of_item place)) m) (cell_flat (cell_of pack (of_item place)))
-      by_test false = bottom_flat (size_of pack)
-
-  outcome_flat : (fails fits : Bool) (b c d : List ℤ) → IsFlat (size_of pack) b → IsFlat (size_of pack) c → IsFlat (size_of pack) d → IsFlat (size_of pack) (by_outcome fails fits b c d)
-  outcome_flat false fits b c d h k l = h
-  outcome_flat true true b c d h k l = k
-  outcome_flat true false b c d h k l = l
-
-  pub store_flat : IsFlat (size_of pack) (pack_behind_store p a x t wrote place mode y pack m)
-  store_flat =
-      outcome_flat (may_fail p a x t place mode y) (may_fit p a x t place mode y) (stored_pack p a x t wrote place mode y pack m) (lost_pack p a x place pack m) m
-      stored_flat (cells_flat (size_of pack) (is_lost p a x place) 1 pack m flat) flat
+use Rattle.pack_edges.proofs.FormsRise.{amount_narrower}
+use Rattle.pack_edges.proofs.SignsRise.{amount_surer}
+use Rattle.pack_edges.proofs.PacksPutRise.{off_of}
+use Rattle.pack_edges.proofs.PacksWordsRise.{IsHigh, HasTop, matrix_is_high, matrix_has_top, value_high, lost_high, cells_high, bottom_high, bottom_below, is_gone_at, cells_rise, kept_below, gone_at_cell, cell_within}
 
 -- ---- numbers of an amount
 is_there : {A B : Type 0} (o : Option A) (next : A → Option B) → is_some (o >>= next) ≡ true → (r : A) × (o ≡ Some r)
 is_there None next e = absurd (false≢true e)
 is_there (Some r) next e = (r, refl)
 
-module _ (given : Given) (p : Program) (a : Act) (x : Action) (s t : Seen) (h : TakenBelow rising p a x s t) where
+-- operands that have a range below have one above
+module _ (p : Program) (a : Act) (x : Action) (s t : Seen) (below : SeenBelow p a x s t) where
+  some_rises : (o q : Option Ranged) → range.IsBelow o q → is_some o ≡ true → is_some q ≡ true
+  some_rises None q n e = absurd (false≢true e)
+  some_rises (Some r) None n e = absurd n
+  some_rises (Some r) (Some v) n e = refl
+
+  pub operands_rise : (wrote : List Bytes) (y : Amount) → has_operands p s wrote y ≡ true → has_operands p t wrote y ≡ true
+  operands_rise wrote (moved y) e = e
+  operands_rise wrote (computed v how) e =
+      or_rises (list_any (is_written p.layout wrote) (items_in v)) (is_some (sum_range (range_at p s.cells) v)) (list_any (is_written p.layout wrote) (items_in v)) (is_some (sum_range (range_at p t.cells) v))
+      (λ f. f) (some_rises (sum_range (range_at p s.cells) v) (sum_range (range_at p t.cells) v) (sum_below (range_at p s.cells) (range_at p t.cells) (range_below p.layout (homes_of p) s.cells t.cells below.fits below.cells) v)) e
+  operands_rise wrote (remaining v scale) e = e
+  operands_rise wrote (augmented y) e = e
+
+module _ (p : Program) (a : Act) (x : Action) (s t : Seen) (h : TakenBelow rising p a x s t) where
   ranges : (place : ℕ) → range.IsNarrower (range_at p s.cells place) (range_at p t.cells place)
   ranges = range_below p.layout (homes_of p) s.cells t.cells h.below.fits h.below.cells
 
@@ -99,19 +87,6 @@ module _ (given : Given) (p : Program) (a : Act) (x : Action) (s t : Seen) (h : 
       go (Some c) (Some d) n e =
           below c.under (amount_of y (range_at p s.cells place) c) (amount_of y (range_at p t.cells place) d)
           (amount_below rising y (range_at p s.cells place) (range_at p t.cells place) c d (ranges place) n) e
-
-  some_rises : (o q : Option Ranged) → range.IsBelow o q → is_some o ≡ true → is_some q ≡ true
-  some_rises None q n e = absurd (false≢true e)
-  some_rises (Some r) None n e = absurd n
-  some_rises (Some r) (Some v) n e = refl
-
-  pub operands_rise : (wrote : List Bytes) (y : Amount) → has_operands p s wrote y ≡ true → has_operands p t wrote y ≡ true
-  operands_rise wrote (moved y) e = e
-  operands_rise wrote (computed v how) e =
-      or_rises (list_any (is_written p.layout wrote) (items_in v)) (is_some (sum_range (range_at p s.cells) v)) (list_any (is_written p.layout wrote) (items_in v)) (is_some (sum_range (range_at p t.cells) v))
-      (λ f. f) (some_rises (sum_range (range_at p s.cells) v) (sum_range (range_at p t.cells) v) (sum_below (range_at p s.cells) (range_at p t.cells) ranges v)) e
-  operands_rise wrote (remaining v scale) e = e
-  operands_rise wrote (augmented y) e = e
 
   -- ---- one pack
   module _ (wrote : List Bytes) (place : ℕ) (mode : Mode) (y : Amount) (pack : Pack) (m n : List ℤ) (is : IsMatrix (size_of pack) m) (are : IsMatrix (size_of pack) n) (lower : AreLower (size_of pack + 1) (word (size_of pack + 1) m) (word (size_of pack + 1) n)) where
@@ -131,7 +106,7 @@ module _ (given : Given) (p : Program) (a : Act) (x : Action) (s t : Seen) (h : 
     surer f g k scale None None b = record { whole = λ e. absurd (false≢true e); not_negative = λ e. absurd (false≢true e); not_positive = λ e. absurd (false≢true e) }
     surer f g k scale None (Some q) b = absurd b
     surer f g k scale (Some r) None b = absurd b
-    surer f g k scale (Some r) (Some q) b = given.signs_ (size_of pack) m n lower f g k scale r q b
+    surer f g k scale (Some r) (Some q) b = amount_surer (size_of pack) m n lower f g k scale r q b
 
     cell_image : (to : ℕ) (last : to ≤ size_of pack) (o : Option Lin) → IsImage (size_of pack) to last m (below_cell to o)
     cell_image to last None = forgotten_image (size_of pack) to last m
@@ -258,8 +233,8 @@ module _ (given : Given) (p : Program) (a : Act) (x : Action) (s t : Seen) (h : 
     stored_rises : (r : AmountRange) → amount_at p a x s place y ≡ Some r → AreLowerOff (size_of pack) (stored_pack p a x s wrote place mode y pack m) (stored_pack p a x t wrote place mode y pack n)
     stored_rises r e =
         both_stored (has_operands p s wrote y) (has_operands p t wrote y) (others_lost (below_stored its_cell)) (others_lost (above_stored its_cell))
-        (cells_high (size_of pack) (is_other p a x place) 1 pack (above_stored its_cell) (stored_high its_cell)) (operands_rise wrote y)
-        (λ has. others_rise (given.amounts_ p a x pack s t h.below wrote place y r e has) (amounts_below place y r e))
+        (cells_high (size_of pack) (is_other p a x place) 1 pack (above_stored its_cell) (stored_high its_cell)) (operands_rise p a x s t h.below wrote y)
+        (λ has. others_rise (amount_narrower p a x pack s t h.below wrote place y r e has) (amounts_below place y r e))
 
     stored_below : AreLowerOff (size_of pack) (stored_pack p a x s wrote place mode y pack m) (lost n)
     stored_below =
@@ -288,13 +263,6 @@ module _ (given : Given) (p : Program) (a : Act) (x : Action) (s t : Seen) (h : 
 
 -- ---- counters
 module _ (p : Program) (a : Act) (x : Action) (statement : ℕ) (pack : Pack) where
-  pub counted_flat : (o : Option Lin) (m : List ℤ) → IsFlat (size_of pack) m → IsFlat (size_of pack) (counted_pack p a x statement o pack m)
-  counted_flat o m flat = by_cell (cell_of pack (of_count statement))
-    where
-      by_cell : (k : Option ℕ) → IsFlat (size_of pack) (counter_stored p a x statement o pack k m)
-      by_cell None = flat
-      by_cell (Some k) = put_flat (size_of pack) (suc k) o m flat
-
   pub counted_rises : (m n : List ℤ) → AreLower (size_of pack + 1) (word (size_of pack + 1) m) (word (size_of pack + 1) n) → (o q : Option Lin) → IsNarrowerIfAny o q
       → AreLowerOff (size_of pack) (counted_pack p a x statement o pack m) (counted_pack p a x statement q pack n)
   counted_rises m n lower o q k = by_cell (cell_of pack (of_count statement)) refl
