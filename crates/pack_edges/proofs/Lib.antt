@@ -1,0 +1,4 @@
+pub mod FormsRise
+pub mod SignsRise
+pub mod PacksClosingRise
+pub mod PacksFit
