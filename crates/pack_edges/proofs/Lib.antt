@@ -1,0 +1,3 @@
+pub mod FormsShowItems
+pub mod FormsShowValues
+pub mod FormsShowSums
