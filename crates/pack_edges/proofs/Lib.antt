@@ -4,3 +4,6 @@ pub mod PacksClosingRise
 pub mod PacksFit
 pub mod PacksKeepTame
 pub mod PacksKeepClosed
+pub mod FormsShowItems
+pub mod FormsShowValues
+pub mod FormsShowSums
