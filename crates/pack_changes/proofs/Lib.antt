@@ -1,1 +1,2 @@
+pub mod PackForms
 pub mod SameWords
