@@ -1,5 +1,5 @@
 -- What is known of a pack's cells, put into the words of its matrix.
-use Rattle.std.specs.Prelude.{◌≡◌, ◌≢◌, ℕ, zero, suc, ◌≤◌, List, length, map, slice_get, ℤ, pos, neg_ℤ, ◌*ℤ◌, ◌≤ℤ◌, ◌⊎◌, unsigned_abs, Option, Some, None, IfSome}
+use Rattle.std.specs.Prelude.{◌≡◌, ◌≢◌, ℕ, zero, suc, ◌<◌, ◌≤◌, List, length, map, slice_get, slice_index_or, ℤ, pos, neg_ℤ, ◌*ℤ◌, ◌≤ℤ◌, ◌⊎◌, unsigned_abs, Option, Some, None, IfSome}
 use Rattle.cob_data.specs.declared.layout.Layout.{Layout}
 use Rattle.decimal_interval.specs.declared.bounds.Interval.{Interval}
 use Rattle.cell_rows.specs.Known.{Known}
@@ -58,4 +58,4 @@ pub record HasEnds (c : KnownCell) : Type 0 where
   pub ends : IfSome c.known (AreEnds c.unit)
 
 pub record HaveEnds (cells : List KnownCell) : Type 0 where
-  pub each : (k : ℕ) (c : KnownCell) → slice_get cells k ≡ Some c → HasEnds c
+  pub each : (k : ℕ) (c : KnownCell) → k < length cells → HasEnds (slice_index_or cells k c)

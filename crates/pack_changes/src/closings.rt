@@ -1,5 +1,5 @@
 //! The closing of a pack's matrix, once it is lowered to what is known of the pack's cells.
-ghost use Rattle.std.specs.Prelude.{◌≡◌, ℕ, ◌+◌, ◌<◌, ◌≤◌, ◌*ℤ◌, IsTrue, length, List, Some, None, if◌then◌else◌};
+ghost use Rattle.std.specs.Prelude.{◌≡◌, ℕ, ◌+◌, ◌<◌, ◌≤◌, neg_ℤ, ◌*ℤ◌, IsTrue, length, List, Some, None, if◌then◌else◌};
 ghost use Rattle.cob_data.specs.declared.layout.Layout.{Layout};
 ghost use Rattle.diff_bounds.specs.Matrix.{word, IsMatrix};
 ghost use Rattle.closed_matrices.specs.Closed.{closed};
@@ -8,6 +8,7 @@ ghost use Rattle.cell_storages.specs.Homes.{Home};
 ghost use Rattle.diff_steps.specs.Packs.{Pack};
 ghost use Rattle.diff_steps.specs.Matrices.{with_words, put_closed};
 ghost use Rattle.pack_changes.specs.Cells.{put_cells, known_cells, HasEnds, HaveEnds, IsPutAt};
+ghost use Rattle.pack_changes.specs.Ends.{IsNumber};
 
 use decimal_interval::Interval;
 use diff_bounds::{add_bound, close};
@@ -21,6 +22,24 @@ pub struct KnownCell {
     pub unit: i128,
 }
 
+// an end in the pack's units
+fn in_units(end: i128, unit: i128) -> i128
+    requires { IsNumber (end *ℤ unit) }
+    ensures value { result ≡ end *ℤ unit }
+    ensures number { IsNumber result }
+{
+    end * unit
+}
+
+// the number with the other sign
+fn opposite(z: i128) -> i128
+    requires { IsNumber z }
+    ensures value { result ≡ neg_ℤ z }
+    ensures number { IsNumber result }
+{
+    -z
+}
+
 // lowers the words of a cell to what is known of it
 fn put_known(size: usize, m: &mut [i128], place: usize, cell: KnownCell)
     requires size { size ≤ 8 }
@@ -32,8 +51,10 @@ fn put_known(size: usize, m: &mut [i128], place: usize, cell: KnownCell)
     ensures matrix { IsMatrix size m.new }
 {
     if let Some(known) = cell.known {
-        add_bound(size, m, place, 0, known.high * cell.unit);
-        add_bound(size, m, 0, place, -known.low * cell.unit);
+        let high = in_units(known.high, cell.unit);
+        add_bound(size, m, place, 0, high);
+        let low = opposite(in_units(known.low, cell.unit));
+        add_bound(size, m, 0, place, low);
     }
 }
 

@@ -28,10 +28,10 @@ fn size_fits(mode: Mode, receiver: Receiver, decimals: u32, units: i128) -> bool
     requires number { IsNumber units }
     ensures { result ≡ high_fits mode receiver decimals (Some units) }
 {
-    let limit = pow10(receiver.digits);
+    let limit = pow10(receiver.digits + decimals);
     match mode {
-        Mode::Trunc => is_less(units, receiver.scale, limit * pow10(decimals)),
-        Mode::Round => is_less(2 * units, receiver.scale, (2 * limit - 1) * pow10(decimals)),
+        Mode::Trunc => is_less(units, receiver.scale, limit),
+        Mode::Round => is_less(2 * units, receiver.scale, 2 * limit - pow10(decimals)),
     }
 }
 

@@ -1,5 +1,5 @@
 //! Stores of forms at cells.
-ghost use Rattle.std.specs.Prelude.{◌≡◌, ℕ, ◌+◌, ◌<◌, ◌≤◌, ◌≤ℤ◌, pos, unsigned_abs, IfSome};
+ghost use Rattle.std.specs.Prelude.{◌≡◌, ℕ, ◌+◌, ◌<◌, ◌≤◌, ◌≤ℤ◌, true, pos, unsigned_abs, IfSome};
 ghost use Rattle.diff_bounds.specs.Matrix.{IsMatrix};
 ghost use Rattle.diff_steps.specs.Stores.{absolute_stored, value_stored, form_stored};
 ghost use Rattle.pack_changes.specs.Forms.{IsFormOf};
