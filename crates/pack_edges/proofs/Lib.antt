@@ -12,3 +12,6 @@ pub mod PacksKeepClosed
 pub mod PacksKeepCells
 pub mod PacksKeepCounters
 pub mod PacksKeepGiven
+pub mod FormsShowItems
+pub mod FormsShowValues
+pub mod FormsShowSums
