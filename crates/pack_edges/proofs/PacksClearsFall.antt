@@ -60,6 +60,7 @@ use Rattle.pack_edges.specs.Agreeing.{AreMatrices}
 use Rattle.pack_edges.specs.EdgeLaws.{AreLowerEach}
 use Rattle.pack_edges.proofs.PacksPutRise.{matrix_is_flat, lower_of}
 use Rattle.pack_edges.proofs.SignsRise.{upper_lower_if, upper_negated_lower_if}
+use Rattle.pack_edges.proofs.PacksStoresRise.{operands_rise}
 use Rattle.pack_edges.proofs.FormsRise.{are_taken, divisor_narrower, lowered_narrower, set_narrower, amount_narrower}
 
 -- ---- tests of numbers
@@ -148,21 +149,6 @@ module _ (p : Program) (packs : List Pack) (r q : Seen2) (under : PacksBelow pac
     -- ---- stores, where operands are taken
 
     module _ (s t : Seen) (below : SeenBelow p a x s t) where
-      there_above : (o u : Option Ranged) → IsBelow o u → is_some o ≡ true → is_some u ≡ true
-      there_above None u n e = absurd (false≢true e)
-      there_above (Some v) None n e = absurd n
-      there_above (Some v) (Some w) n e = refl
-
-      -- operands that have a range below have one above
-      pub operands_rise : (wrote : List Bytes) (y : Amount) → has_operands p s wrote y ≡ true → has_operands p t wrote y ≡ true
-      operands_rise wrote (moved z) e = refl
-      operands_rise wrote (computed sum h) e =
-          or_rises (list_any (is_written p.layout wrote) (items_in sum)) (is_some (sum_range (range_at p s.cells) sum)) (list_any (is_written p.layout wrote) (items_in sum)) (is_some (sum_range (range_at p t.cells) sum)) (λ f. f)
-          (there_above (sum_range (range_at p s.cells) sum) (sum_range (range_at p t.cells) sum)
-          (sum_below (range_at p s.cells) (range_at p t.cells) (range_below p.layout (homes_of p) s.cells t.cells below.fits below.cells) sum)) e
-      operands_rise wrote (remaining sum scale) e = refl
-      operands_rise wrote (augmented z) e = refl
-
       -- a form that may speak of what the edge has written to
       along_wrote : (form : List Bytes → Option Lin) (o : Option Lin) → IsNarrowerIfAny o (form r.wrote) → IsNarrowerIfAny o (form q.wrote)
       along_wrote form o n = subst (λ (wrote : List Bytes). IsNarrowerIfAny o (form wrote)) under.wrote n
@@ -212,7 +198,7 @@ module _ (p : Program) (packs : List Pack) (r q : Seen2) (under : PacksBelow pac
             by_common has (Some c) (Some d) e n f = amounts_fall has c d e n f
 
             above : has_operands p s r.wrote y ≡ true → has_operands p t q.wrote y ≡ true
-            above has = subst (λ (wrote : List Bytes). has_operands p t wrote y ≡ true) under.wrote (operands_rise r.wrote y has)
+            above has = subst (λ (wrote : List Bytes). has_operands p t wrote y ≡ true) under.wrote (operands_rise p a x s t below r.wrote y has)
 
             by_operands : (b : Bool) → has_operands p s r.wrote y ≡ b → (not (has_operands p t q.wrote y) || option_map_or (amounts_fit p packs a x t q place mode y) t.common true) ≡ true
                 → (not b || option_map_or (amounts_fit p packs a x s r place mode y) s.common true) ≡ true
