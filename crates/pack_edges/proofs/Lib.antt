@@ -1,3 +1,12 @@
+pub mod FormsRise
+pub mod SignsRise
+pub mod PacksClosingRise
+pub mod PacksPutRise
+pub mod PacksWordsRise
+pub mod PacksFit
+pub mod PacksClearsFall
+pub mod PacksEdgesRise
+pub mod PacksStoresRise
 pub mod PacksKeepTame
 pub mod PacksKeepClosed
 pub mod PacksKeepCells
@@ -5,3 +14,7 @@ pub mod PacksKeepCounters
 pub mod PacksKeepGiven
 pub mod PacksKeepStores
 pub mod PacksKeep
+pub mod PacksPartsRise
+pub mod FormsShowItems
+pub mod FormsShowValues
+pub mod FormsShowSums
