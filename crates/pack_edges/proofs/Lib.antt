@@ -1,3 +1,4 @@
 pub mod FormsShowItems
 pub mod FormsShowValues
 pub mod FormsShowSums
+pub mod FormsShowAmounts
