@@ -289,3 +289,66 @@ module _ (p : Program) (statement : ℕ) (a : Act) (x : Action) (pack : Pack) (f
               → ValueTold cells f (if b then taken_form p pack t wrote true else (if is_some (root_of s) then None else sum_form f (λ place. cell_of pack (of_item place)) (range_at p t.cells) s)) v
           by_written true e = kept_told t.common v (whole_kept s v its is)
           by_written false e = by_root (root_of s) e is
+
+    -- ---- amounts
+
+    -- what a receiver multiplies its number by
+    times_told : (place : ℕ) (s : Sum) (v : Scaled) (x_ : Fraction) → edge_amount a x ≡ Some (computed s how.Whole) → number_at p.layout m.storage place ≡ Some m.own
+        → sum_value (worth p.layout m.first) s ≡ Some v → x_ ≡ value_of (product m.own v) → ValueTold cells f (multiplied_form p pack t wrote place (whole_sum s)) x_
+    times_told place s v x_ its own is same = by_literal (whole_sum s) refl
+      where
+        ranged_go : (o : Option Taken) → IsSomeAnd (o >>= amount_range (computed s how.Times) (range_at p t.cells place)) (λ r. IsAmount r (value_of (product m.own v)))
+            → ValueTold cells f (o >>= λ c. range_form f (product_range (range_at p t.cells place) c.top)) (value_of (product m.own v))
+        ranged_go None h = tt
+        ranged_go (Some c) (w, inside, e) =
+            value_told cells f (range_form f (product_range (range_at p t.cells place) c.top)) w (value_of (product m.own v)) e (range_told cells f (product_range (range_at p t.cells place) c.top) w inside)
+
+        common_go : (o : Option Taken) → IsSomeAnd o (λ c. IsSomeAnd (amount_of (computed s how.Times) (range_at p t.cells place) c) (λ r. IsAmount r (value_of (product m.own v))))
+            → ValueTold cells f ((o >>= settled) >>= λ c. range_form f (product_range (range_at p t.cells place) c.top)) (value_of (product m.own v))
+        common_go None h = tt
+        common_go (Some c) h = ranged_go (settled c) h
+
+        by_literal : (o : Option ℤ) → whole_sum s ≡ o → ValueTold cells f (multiplied_form p pack t wrote place o) x_
+        by_literal (Some k) e =
+            value_told cells f (own_form p pack t wrote place >>= scaled_form k) (product m.own v) x_ same
+            (scaled_told cells f k (own_form p pack t wrote place) m.own v (whole_sum_is (worth p.layout m.first) s k v e is) (own_told place m.own own))
+        by_literal None e =
+            subst (λ (y : Fraction). ValueTold cells f (multiplied_form p pack t wrote place None) y) (sym same)
+            (common_go t.common (g.took m (computed s how.Times) (range_at p t.cells place) (value_of (product m.own v)) refl its (number_holds p g.sound.items t.cells (storage m.storage m.counts) g.stands place m.own own)
+            (ap (λ (o : Option Scaled). o >>= λ u. Some (value_of (product m.own u))) is)))
+
+    module _ (place : ℕ) (z : m.by_zero ≡ false) where
+      computed_told : (s : Sum) (h : How) (v : Fraction) → IsStored a x done place (computed s h) → amount p.layout m (computed s h) ≡ Some v → ValueTold cells f (computed_form p pack t wrote place s h) v
+      computed_told s how.Whole v q is = whole_told s q.arithmetic.targets q.operands (its_amount p statement a x done place (computed s how.Whole) q) v is
+      computed_told s how.Plus v q is =
+          let its = its_amount p statement a x done place (computed s how.Plus) q in
+          let u = some_bound (sum_value (worth p.layout m.first) s) (λ u. Some (value_of (plus m.own u))) v is in
+          value_told cells f (added_forms (own_form p pack t wrote place) (operands_form p pack t wrote false s)) (plus m.own u.0) v (sym (some_same (value_of (plus m.own u.0)) v u.2))
+          (added_told cells f (own_form p pack t wrote place) (operands_form p pack t wrote false s) m.own u.0 (own_told place m.own (own_read place (q.own (λ e. cc)) z))
+          (summand_told s q.arithmetic.targets q.operands its u.0 u.1))
+      computed_told s how.Minus v q is =
+          let its = its_amount p statement a x done place (computed s how.Minus) q in
+          let u = some_bound (sum_value (worth p.layout m.first) s) (λ u. Some (value_of (plus m.own (negated true u)))) v is in
+          value_told cells f (added_forms (own_form p pack t wrote place) (turned_if true (operands_form p pack t wrote false s))) (plus m.own (negated true u.0)) v (sym (some_same (value_of (plus m.own (negated true u.0))) v u.2))
+          (added_told cells f (own_form p pack t wrote place) (turned_if true (operands_form p pack t wrote false s)) m.own (negated true u.0) (own_told place m.own (own_read place (q.own (λ e. cc)) z))
+          (turned_told cells f (operands_form p pack t wrote false s) u.0 (summand_told s q.arithmetic.targets q.operands its u.0 u.1)))
+      computed_told s how.Times v q is =
+          let u = some_bound (sum_value (worth p.layout m.first) s) (λ u. Some (value_of (product m.own u))) v is in
+          times_told place s u.0 v (its_amount p statement a x done place (computed s how.Times) q) (own_read place (q.own (λ e. cc)) z) u.1 (sym (some_same (value_of (product m.own u.0)) v u.2))
+      computed_told s how.Under v q is = tt
+
+      mapped : (h : Scaled → Scaled) (o : Option Scaled) (v : Fraction) → option_map (λ u. value_of (h u)) o ≡ Some v → (u : Scaled) × (o ≡ Some u) × (v ≡ value_of (h u))
+      mapped h None v e = absurd cc
+      mapped h (Some u) v e = (u, refl, sym (some_same (value_of (h u)) v e))
+
+      pub amount_told : (y : Amount) (v : Fraction) → IsStored a x done place y → amount p.layout m y ≡ Some v → ValueTold cells f (amount_form p pack t wrote place y) v
+      amount_told (moved y) v q is =
+          let u = mapped (λ u. u) (number_of p.layout m.first y) v is in
+          value_told cells f (sender_form p pack t wrote y) u.0 v u.2 (sender_told y u.0 (moved_kept y u.0 (its_amount p statement a x done place (moved y) q) u.1) u.1)
+      amount_told (computed s h) v q is = computed_told s h v q is
+      amount_told (remaining s scale) v q is = tt
+      amount_told (augmented y) v q is =
+          let u = mapped (plus m.own) (number_of p.layout m.first y) v is in
+          value_told cells f (added_forms (own_form p pack t wrote place) (sender_form p pack t wrote y)) (plus m.own u.0) v u.2
+          (added_told cells f (own_form p pack t wrote place) (sender_form p pack t wrote y) m.own u.0 (own_told place m.own (own_read place q.2 z))
+          (sender_told y u.0 (augmented_kept y u.0 (its_amount p statement a x done place (augmented y) q) u.1) u.1))

@@ -1,4 +1,4 @@
-use Rattle.pack_edges.proofs.FormsShowAmounts.{sender_told}
+use Rattle.pack_edges.proofs.FormsShowAmounts.{amount_told}
 use Rattle.pack_edges.proofs.laws.amounts_are_shown.Goals as goal
 
 pub returns-clause-amounts : goal.returns-clause-amounts
