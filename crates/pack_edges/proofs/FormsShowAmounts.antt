@@ -16,7 +16,7 @@ use Rattle.cob_program.specs.declared.act.How.{How}
 use Rattle.cob_program.specs.declared.act.How.TheVariants as how
 use Rattle.cob_program.specs.declared.act.Target.{Target}
 use Rattle.cob_program.specs.Sum.{Sum, MkSum, no_parts, more_parts, MkPart, no_factors, more_factors, MkFactor, Atom}
-use Rattle.cob_program.specs.Values.{whole_number, negated, plus, product, with_factor, sum_value, sum_from, part_value, product_from, atom_value, Root, root_of, stored_from, ◌>>=◌}
+use Rattle.cob_program.specs.Values.{whole_number, negated, plus, product, with_factor, sum_value, sum_from, part_value, product_from, atom_value, Root, root_of, exact_quotient, stored_from, ◌>>=◌}
 use Rattle.cob_program.specs.Act.{Act, Program}
 use Rattle.cob_program.proofs.Steps.{some_bound, some_same}
 use Rattle.cob_runs.specs.declared.action.Action.{Action}
@@ -26,10 +26,11 @@ use Rattle.cob_runs.specs.Moves.{number_of}
 use Rattle.cob_edge_parts.specs.Parts.{Amount, moved, computed, remaining, augmented, Part, read, divides, divisors_of}
 use Rattle.cob_edge_parts.specs.Meaning as run
 use Rattle.cob_edge_parts.specs.Meaning.{Moment, with_own, amount, ReadsAt}
+use Rattle.cob_edge_parts.proofs.Divisors.{sum_counts, result_counts}
 use Rattle.linear_form.specs.declared.form.Lin.{Lin}
 use Rattle.sum_ranges.specs.declared.ranged.Ranged.{Ranged}
 use Rattle.sum_ranges.specs.Ranged.{decimal, ranged, point, IsIn}
-use Rattle.sum_ranges.specs.SumRanges.{plus_range, product_range}
+use Rattle.sum_ranges.specs.SumRanges.{plus_range, product_range, sum_range}
 use Rattle.sum_ranges.proofs.Least.{point_in}
 use Rattle.sum_forms.specs.Constants.{range_form}
 use Rattle.sum_forms.specs.Literals.{whole_factor}
@@ -49,13 +50,13 @@ use Rattle.cell_steps.specs.Stores.{range_at, handled}
 use Rattle.cell_edges.proofs.Agreement.{Agree, same_sum}
 use Rattle.cell_edges.proofs.HomesHold.{number_holds}
 use Rattle.cell_edges.proofs.PartsDone.{both_true, and_true, read_first}
-use Rattle.cell_edges.proofs.StoresKeep.{TakenAt, its_amount}
+use Rattle.cell_edges.proofs.StoresKeep.{is_there, TakenAt, its_amount}
 use Rattle.diff_steps.specs.Packs.{Pack, size_of, cell_of, pack_decimals, cells_in}
 use Rattle.diff_steps.specs.Moments.{Bytes, is_written}
-use Rattle.diff_steps.specs.Forms.{negated_if, whole_sum, added_forms, turned_if, own_form, kept_form, taken_form, operands_form, item_sent, sender_form, multiplied_form, computed_form, amount_form}
+use Rattle.diff_steps.specs.Forms.{negated_if, whole_sum, added_forms, turned_if, own_form, kept_form, taken_form, operands_form, item_sent, sender_form, multiplied_form, computed_form, has_operands, amount_form}
 use Rattle.pack_edges.specs.Agreeing.{IsTracked}
 use Rattle.pack_edges.proofs.FormsShowValues.{IsTold, Told, range_told, scaled_told, turned_told, added_told, same_told}
-use Rattle.pack_edges.proofs.FormsShowSums.{item_told, sum_told}
+use Rattle.pack_edges.proofs.FormsShowSums.{item_told, sum_told, sum_ranged}
 
 -- ---- decimals
 
@@ -352,3 +353,34 @@ module _ (p : Program) (statement : ℕ) (a : Act) (x : Action) (pack : Pack) (f
           value_told cells f (added_forms (own_form p pack t wrote place) (sender_form p pack t wrote y)) (plus m.own u.0) v u.2
           (added_told cells f (own_form p pack t wrote place) (sender_form p pack t wrote y) m.own u.0 (own_told place m.own (own_read place q.2 z))
           (sender_told y u.0 (augmented_kept y u.0 (its_amount p statement a x done place (augmented y) q) u.1) u.1))
+
+      -- ---- operands have a range
+
+      operands_valued : (s : Sum) (h : How) (v : Fraction) → amount p.layout m (computed s h) ≡ Some v → is_some (sum_value (worth p.layout m.first) s) ≡ true
+      operands_valued s how.Whole v is = sum_counts (worth p.layout m.first) s ∙ sym (result_counts (worth p.layout m.first) s how.Whole m.own) ∙ ap is_some is
+      operands_valued s how.Plus v is = ap is_some (some_bound (sum_value (worth p.layout m.first) s) (λ u. Some (value_of (plus m.own u))) v is).1
+      operands_valued s how.Minus v is = ap is_some (some_bound (sum_value (worth p.layout m.first) s) (λ u. Some (value_of (plus m.own (negated true u)))) v is).1
+      operands_valued s how.Times v is = ap is_some (some_bound (sum_value (worth p.layout m.first) s) (λ u. Some (value_of (product m.own u))) v is).1
+      operands_valued s how.Under v is = ap is_some (some_bound (sum_value (worth p.layout m.first) s) (λ u. exact_quotient m.own u) v is).1
+
+      operands_there : (s : Sum) (h : How) (v : Fraction) → IsStored a x done place (computed s h) → amount p.layout m (computed s h) ≡ Some v → has_operands p t wrote (computed s h) ≡ true
+      operands_there s h v q is = by_written (list_any (is_written p.layout wrote) (items_in s)) refl
+        where
+          some_there : (o : Option Ranged) (u : Scaled) → IsSomeAnd o (IsIn u) → is_some o ≡ true
+          some_there None u h = absurd h
+          some_there (Some r) u h = refl
+
+          by_written : (b : Bool) → list_any (is_written p.layout wrote) (items_in s) ≡ b → (b || is_some (sum_range (range_at p t.cells) s)) ≡ true
+          by_written true e = refl
+          by_written false e =
+              let u = is_there (sum_value (worth p.layout m.first) s) (operands_valued s h v is) in
+              some_there (sum_range (range_at p t.cells) s) u.0
+              (sum_ranged p g.sound.items t.cells m.storage m.counts g.stands pack few s u.0
+              (still_numeric p.layout wrote m tracked (items_in s) e (numeric_first s q.arithmetic.targets q.operands (its_amount p statement a x done place (computed s h) q)))
+              (same_sum (worth p.layout m.storage) (worth p.layout m.first) s (same_worths p.layout wrote m tracked (items_in s) e) ∙ u.1))
+
+      pub amount_operands : (y : Amount) (v : Fraction) → IsStored a x done place y → amount p.layout m y ≡ Some v → has_operands p t wrote y ≡ true
+      amount_operands (moved y) v q is = refl
+      amount_operands (computed s h) v q is = operands_there s h v q is
+      amount_operands (remaining s scale) v q is = refl
+      amount_operands (augmented y) v q is = refl
