@@ -239,7 +239,7 @@ module _ (p : Program) (statement : ℕ) (a : Act) (x : Action) (pack : Pack) (f
 
     -- ---- senders
 
-    pub sender_told : (y : Sender) (v : Scaled) → IsSomeAnd t.common (IsKeptOf (value_of v)) → number_of p.layout m.first y ≡ Some v → Tells (sender_form p pack t wrote y) v
+    sender_told : (y : Sender) (v : Scaled) → IsSomeAnd t.common (IsKeptOf (value_of v)) → number_of p.layout m.first y ≡ Some v → Tells (sender_form p pack t wrote y) v
     sender_told y v kept is = by_kind y is
       where
         kept_sent : Tells (kept_form p pack t wrote t.common) v
@@ -256,6 +256,9 @@ module _ (p : Program) (statement : ℕ) (a : Act) (x : Action) (pack : Pack) (f
         by_kind (sender.Text text) is = kept_sent
         by_kind (sender.Fill byte) is = kept_sent
         by_kind sender.Zero is = kept_sent
+
+    pub moved_told : (y : Sender) (v : Scaled) → edge_amount a x ≡ Some (moved y) → number_of p.layout m.first y ≡ Some v → Tells (sender_form p pack t wrote y) v
+    moved_told y v its is = sender_told y v (moved_kept y v its is) is
 
     -- ---- sums
 
@@ -345,7 +348,7 @@ module _ (p : Program) (statement : ℕ) (a : Act) (x : Action) (pack : Pack) (f
       pub amount_told : (y : Amount) (v : Fraction) → IsStored a x done place y → amount p.layout m y ≡ Some v → ValueTold cells f (amount_form p pack t wrote place y) v
       amount_told (moved y) v q is =
           let u = mapped (λ u. u) (number_of p.layout m.first y) v is in
-          value_told cells f (sender_form p pack t wrote y) u.0 v u.2 (sender_told y u.0 (moved_kept y u.0 (its_amount p statement a x done place (moved y) q) u.1) u.1)
+          value_told cells f (sender_form p pack t wrote y) u.0 v u.2 (moved_told y u.0 (its_amount p statement a x done place (moved y) q) u.1)
       amount_told (computed s h) v q is = computed_told s h v q is
       amount_told (remaining s scale) v q is = tt
       amount_told (augmented y) v q is =
