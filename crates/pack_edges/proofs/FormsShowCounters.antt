@@ -1,5 +1,5 @@
 -- What a counter goes down to is one of the numbers of its form.
-use Rattle.std.proofs.Common.{◌≡◌, ◌≤◌, ℕ, Bool, true, false, if◌then◌else◌, List, Option, Some, None, ℤ, pos, negsuc, neg_ℤ, ◌+ℤ◌, ◌-ℤ◌, ◌*ℤ◌, refl, sym, ap, subst, ◌∙◌, arith}
+use Rattle.std.proofs.Common.{◌≡◌, ◌≤◌, ℕ, Bool, true, false, if◌then◌else◌, List, Option, Some, None, ℤ, pos, negsuc, neg_ℤ, ◌+ℤ◌, ◌-ℤ◌, ◌*ℤ◌, refl, ap, subst, ◌∙◌, arith}
 use Rattle.std.specs.Prelude.{nat_le, ◌-◌, ◌^◌}
 use Rattle.std.specs.Int.{int_div_euclid}
 use Rattle.std.proofs.lemmas.Int.{ints}
@@ -14,8 +14,7 @@ use Rattle.cob_edge_parts.specs.Meaning.{count_in}
 use Rattle.linear_form.specs.Forms.{if_small}
 use Rattle.sum_ranges.specs.Ranged.{decimal, point}
 use Rattle.sum_ranges.proofs.Least.{point_in}
-use Rattle.sum_forms.specs.Constants.{floor_at, ceiling_at, outward, constant_form}
-use Rattle.cell_rows.specs.Known.{Known}
+use Rattle.sum_forms.specs.Constants.{floor_at, outward, constant_form}
 use Rattle.cell_storages.specs.Homes.{of_count, homes_of}
 use Rattle.cell_storages.specs.Storages.{storage, StandsIn}
 use Rattle.cell_storages.specs.Premises.{HasSoundItems}

@@ -1,6 +1,6 @@
 -- What a relation of two sums leaves of a pack's matrix is true of the storage in which it came out so.
-use Rattle.std.proofs.Common.{◌≡◌, ◌≤◌, ◌<ℤ◌, ℕ, Bool, true, false, ◌&&◌, if◌then◌else◌, Option, Some, None, Ok, Err, List, ℤ, zero, suc, pos, negsuc, neg_ℤ, ◌+ℤ◌, ◌-ℤ◌, ◌*ℤ◌, refl, sym, ap, subst, ◌∙◌, arith}
-use Rattle.std.specs.Prelude.{IfSome, IsSomeAnd, nat_le, ◌-◌, ◌^◌}
+use Rattle.std.proofs.Common.{◌≡◌, ◌≤◌, ◌<ℤ◌, ℕ, Bool, true, false, ◌&&◌, if◌then◌else◌, Option, Some, None, Ok, Err, List, ℤ, zero, suc, pos, negsuc, neg_ℤ, ◌-ℤ◌, refl, sym, ap, subst, ◌∙◌, arith}
+use Rattle.std.specs.Prelude.{IsSomeAnd, nat_le, ◌-◌, ◌^◌}
 use Rattle.std.proofs.lemmas.Int.{ints}
 use Rattle.std.proofs.lemmas.Bool.Decides.{nat_tests}
 use Rattle.dec_num.specs.declared.types.Scaled.{Scaled}
@@ -36,9 +36,9 @@ use Rattle.cell_edges.proofs.PartsDone.{both_true}
 use Rattle.diff_steps.specs.Packs.{Pack, size_of, cell_of, pack_decimals, cells_in, PackStands}
 use Rattle.diff_steps.specs.Guards.{difference_form, has_decimals, are_fine, related}
 use Rattle.diff_steps.specs.Steps.{guarded_pack}
-use Rattle.pack_laws.specs.Orders.{IsShown, IsLeft}
+use Rattle.pack_laws.specs.Orders.{IsLeft}
 use Rattle.pack_laws.proofs.Orders.{ordered_stands}
-use Rattle.pack_edges.proofs.FormsShowValues.{IsTold, Told, turned_told, added_told, all_shown}
+use Rattle.pack_edges.proofs.FormsShowValues.{Told, turned_told, added_told, all_shown}
 use Rattle.pack_edges.proofs.FormsShowSums.{none_after, sum_told, sum_ranged}
 
 -- ---- orders

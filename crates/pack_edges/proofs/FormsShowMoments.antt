@@ -10,7 +10,7 @@ use Rattle.cob_program.specs.Values.{whole_number, atom_value}
 use Rattle.cob_program.specs.Act.{Act, Program}
 use Rattle.cob_runs.specs.declared.action.Action.{Action}
 use Rattle.cob_runs.specs.Computing.{items_in_atom, are_numeric, worth}
-use Rattle.cob_edge_parts.specs.Parts.{Part, divide, store, guard, set_count, count_down}
+use Rattle.cob_edge_parts.specs.Parts.{Part, divide, store, set_count, count_down}
 use Rattle.cob_edge_parts.specs.Meaning.{Moment}
 use Rattle.linear_form.specs.declared.form.Lin.{Lin}
 use Rattle.sum_forms.specs.SumForms.{atom_form}
@@ -22,7 +22,7 @@ use Rattle.cell_steps.specs.Stores.{range_at, with_taken}
 use Rattle.cell_steps.specs.Agreeing.{writes, Agrees}
 use Rattle.cell_edges.proofs.HomesHold.{count_holds}
 use Rattle.cell_edges.proofs.PartsDone.{none_written}
-use Rattle.cell_edges.proofs.StoresKeep.{TakenAt, taken_at, counts_amount}
+use Rattle.cell_edges.proofs.StoresKeep.{taken_at, counts_amount}
 use Rattle.cell_edges.proofs.PartsKeep.{numeric, counted_down}
 use Rattle.diff_steps.specs.Packs.{Pack, size_of, pack_decimals, cells_in}
 use Rattle.diff_steps.specs.Forms.{cell_at, amount_form, sender_form, lowered_form}

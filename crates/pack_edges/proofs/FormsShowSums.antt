@@ -1,5 +1,5 @@
 -- Where numbers stand in storage, the forms of sums show what the sums are worth.
-use Rattle.std.proofs.Common.{◌≡◌, ◌<◌, ◌≤◌, ℕ, zero, suc, ◌+◌, ◌-◌, ◌*◌, ◌^◌, Bool, true, false, if◌then◌else◌, List, [], ◌∷◌, length, Option, Some, None, is_some, ℤ, pos, neg_ℤ, ◌*ℤ◌, ◌≤ℤ◌, refl, sym, ap, subst, ◌∙◌, pow-add, arith}
+use Rattle.std.proofs.Common.{◌≡◌, ◌<◌, ◌≤◌, ℕ, zero, suc, ◌+◌, ◌-◌, ◌^◌, Bool, true, false, if◌then◌else◌, List, [], ◌∷◌, Option, Some, None, is_some, ℤ, pos, neg_ℤ, ◌*ℤ◌, ◌≤ℤ◌, refl, sym, ap, subst, ◌∙◌, pow-add, arith}
 use Rattle.std.specs.Prelude.{IfSome, IsSomeAnd, slice_get, unwrap_or}
 use Rattle.std.specs.Option.{option_map}
 use Rattle.std.proofs.lemmas.Int.{ints}
@@ -21,7 +21,6 @@ use Rattle.cob_runs.specs.Computing as computing
 use Rattle.cob_runs.specs.Computing.{items_in, items_in_atom, are_numeric}
 use Rattle.cob_edge_parts.specs.Meaning.{count_in}
 use Rattle.form_bounds.specs.Values.{worth, worths}
-use Rattle.sum_ranges.specs.declared.ranged.Ranged.{Ranged}
 use Rattle.sum_ranges.specs.Ranged.{decimal, ranged, point, IsIn}
 use Rattle.sum_ranges.specs.SumRanges.{sum_range}
 use Rattle.sum_ranges.proofs.Least.{point_in}
@@ -42,8 +41,8 @@ use Rattle.cell_edges.proofs.CellLists.{home_is}
 use Rattle.cell_edges.proofs.HomesHold.{units_hold}
 use Rattle.cell_edges.proofs.PartsDone.{both_true}
 use Rattle.diff_steps.specs.Packs.{Pack, size_of, cell_of, decimals_of, pack_decimals, unit_of, cells_in}
-use Rattle.pack_edges.proofs.FormsShowItems.{IsOfValues, HaveValues, item_form_is_of_values, sum_form_is_of_values}
-use Rattle.pack_edges.proofs.FormsShowValues.{IsTold, Told, told, range_told, cell_told}
+use Rattle.pack_edges.proofs.FormsShowItems.{HaveValues, item_form_is_of_values, sum_form_is_of_values}
+use Rattle.pack_edges.proofs.FormsShowValues.{Told, told, range_told, cell_told}
 
 -- ---- cells of a pack
 

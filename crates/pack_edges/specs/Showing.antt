@@ -7,7 +7,7 @@ use Rattle.dec_num.specs.Scaled.{value_of}
 use Rattle.cob_data.specs.declared.layout.Layout.{Layout}
 use Rattle.cob_data.specs.declared.layout.Sender.{Sender}
 use Rattle.cob_program.specs.Sum.{Atom}
-use Rattle.cob_program.specs.Values.{whole_number, atom_value, ◌>>=◌}
+use Rattle.cob_program.specs.Values.{whole_number, atom_value}
 use Rattle.cob_program.specs.Logic.{Test}
 use Rattle.cob_program.specs.Act.{Act, Program}
 use Rattle.cob_runs.specs.declared.action.Action.{Action}
