@@ -15,6 +15,11 @@ pub mod PacksKeepGiven
 pub mod PacksKeepStores
 pub mod PacksKeep
 pub mod PacksPartsRise
+pub mod CellLaws
 pub mod FormsShowItems
 pub mod FormsShowValues
 pub mod FormsShowSums
+pub mod FormsShowAmounts
+pub mod FormsShowCounters
+pub mod FormsShowGuards
+pub mod FormsShowMoments
