@@ -7,7 +7,6 @@ pub mod PacksFit
 pub mod PacksClearsFall
 pub mod PacksEdgesRise
 pub mod PacksStoresRise
-pub mod PacksKeepTame
 pub mod PacksKeepClosed
 pub mod PacksKeepCells
 pub mod PacksKeepCounters

@@ -37,7 +37,7 @@ use Rattle.cell_steps.specs.Steps.{step}
 use Rattle.cell_steps.specs.Agreeing.{Agrees, walking}
 use Rattle.cell_edges.proofs.Frames.{value_stays, range_changes}
 use Rattle.cell_edges.proofs.QuietParts.{SameMoment, same_moment, own_moment, read_moment}
-use Rattle.cell_edges.proofs.StoresKeep.{taken_at}
+use Rattle.cell_edges.proofs.StoresKeep.{then_holds, taken_at}
 use Rattle.cell_edges.proofs.PartsKeep.{keeps, off_zero}
 use Rattle.diff_steps.specs.Packs.{Pack, size_of, cell_of, pack_decimals, cells_in, PackStands, PacksStand}
 use Rattle.diff_steps.specs.Matrices.{with_words, put_word}
@@ -45,11 +45,13 @@ use Rattle.diff_steps.specs.Moments.{Bytes, Seen2, with_packs, item_bytes, is_wr
 use Rattle.diff_steps.specs.Forms.{is_whole_sender, sender_form, set_form, lowered_form}
 use Rattle.diff_steps.specs.Steps.{each_pack, all_closed, guarded_pack, changed_pack, written_by, changed, step2}
 use Rattle.diff_steps.specs.Edges.{steps2}
+use Rattle.pack_laws.proofs.Words.{word_at}
 use Rattle.pack_laws.proofs.Known.{known_stands}
-use Rattle.pack_edges.specs.Agreeing.{IsTracked, IsPackOf, ArePacksOf, IsTame, AreTame, Agrees2}
+use Rattle.pack_edges.specs.Agreeing.{IsTracked, AreMatrices, IsPackOf, ArePacksOf, Agrees2}
 use Rattle.pack_edges.specs.Showing.{ShowsAt}
 use Rattle.pack_edges.proofs.PacksKeepGiven.{Given}
-use Rattle.pack_edges.proofs.PacksKeepTame.{tame_words, changed_tame}
+use Rattle.pack_edges.proofs.PacksPutRise.{IsFlat, AreFlat}
+use Rattle.pack_edges.proofs.PacksFit.{changed_are_flat, step2_fits}
 use Rattle.pack_edges.proofs.PacksKeepClosed.{closed_stands}
 use Rattle.pack_edges.proofs.PacksKeepCells.{homes_left}
 use Rattle.pack_edges.proofs.PacksKeepCounters.{IsWholeShown, same_shown, counted_stands}
@@ -57,47 +59,38 @@ use Rattle.pack_edges.proofs.PacksKeepStores.{store_stands, store_changes}
 
 -- ---- a row of matrices
 
-put_tame : (l : Layout) (homes : List Home) (known : List Known) (pack : Pack) (m : List ℤ) → IsTame (size_of pack) m → IsTame (size_of pack) (with_words (size_of pack) (put_word l homes known pack (word (size_of pack + 1) m)))
-put_tame l homes known pack m is = tame_words (size_of pack) (put_word l homes known pack (word (size_of pack + 1) m)) (λ i h. go i h)
+put_is_flat : (l : Layout) (homes : List Home) (known : List Known) (pack : Pack) (m : List ℤ) → IsFlat (size_of pack) m → IsFlat (size_of pack) (with_words (size_of pack) (put_word l homes known pack (word (size_of pack + 1) m)))
+put_is_flat l homes known pack m is = record {
+  zeros = λ i h. word_at (size_of pack) (put_word l homes known pack (word (size_of pack + 1) m)) i i h h ∙ go i ∙ is.zeros i h;
+}
   where
-    go : (i : ℕ) → i ≤ size_of pack → pos 0 ≤ℤ put_word l homes known pack (word (size_of pack + 1) m) i i
-    go zero h = is.diagonal 0 h
-    go (suc i) h = is.diagonal (suc i) h
+    go : (i : ℕ) → put_word l homes known pack (word (size_of pack + 1) m) i i ≡ word (size_of pack + 1) m i i
+    go zero = refl
+    go (suc i) = refl
 
 -- lowered to what is known, and closed
 pub all_closed_stand : (p : Program) (known : List Known) (s : Storage) → ((h : Home) → KnownStands (known_of (homes_of p) known h) (value_at p.layout s h))
-    → (packs : List Pack) (ms : List (List ℤ)) → AreTame packs ms → PacksStand p.layout packs ms s → IsSomeAnd (all_closed p known packs ms) (λ cs. AreTame packs cs × PacksStand p.layout packs cs s)
-all_closed_stand p known s is [] [] tame stand = (tt, tt)
-all_closed_stand p known s is [] (m ∷ ms) tame stand = absurd tame
-all_closed_stand p known s is (pack ∷ packs) [] tame stand = absurd tame
-all_closed_stand p known s is (pack ∷ packs) (m ∷ ms) ((few, tame), others) (stands, stand) =
-    first (closed (size_of pack) (with_words (size_of pack) (put_word p.layout (homes_of p) known pack (word (size_of pack + 1) m))))
+    → (packs : List Pack) (ms : List (List ℤ)) → AreFlat packs ms → PacksStand p.layout packs ms s → IsSomeAnd (all_closed p known packs ms) (λ cs. PacksStand p.layout packs cs s)
+all_closed_stand p known s is [] [] flat stand = tt
+all_closed_stand p known s is [] (m ∷ ms) flat stand = absurd flat
+all_closed_stand p known s is (pack ∷ packs) [] flat stand = absurd flat
+all_closed_stand p known s is (pack ∷ packs) (m ∷ ms) ((few, level), others) (stands, stand) =
+    then_holds (λ c. PackStands p.layout pack c s) (λ cs. PacksStand p.layout (pack ∷ packs) cs s)
+    (closed (size_of pack) (with_words (size_of pack) (put_word p.layout (homes_of p) known pack (word (size_of pack + 1) m)))) (λ c. all_closed p known packs ms >>= λ cs. Some (c ∷ cs))
     (closed_stands (size_of pack) (with_words (size_of pack) (put_word p.layout (homes_of p) known pack (word (size_of pack + 1) m))) (cells_in p.layout pack s)
-    (known_stands p.layout (homes_of p) known pack s is m stands) (put_tame p.layout (homes_of p) known pack m tame))
-    (all_closed_stand p known s is packs ms others stand)
-  where
-    rest : (c : List ℤ) → IsTame (size_of pack) c → PackStands p.layout pack c s → (o : Option (List (List ℤ))) → IsSomeAnd o (λ cs. AreTame packs cs × PacksStand p.layout packs cs s)
-        → IsSomeAnd (o >>= λ cs. Some (c ∷ cs)) (λ cs. AreTame (pack ∷ packs) cs × PacksStand p.layout (pack ∷ packs) cs s)
-    rest c t k None h = h
-    rest c t k (Some cs) (ts, ks) = (((few, t), ts), (k, ks))
-
-    first : (o : Option (List ℤ)) → IsSomeAnd o (λ c. IsTame (size_of pack) c × PackStands p.layout pack c s) → IsSomeAnd (all_closed p known packs ms) (λ cs. AreTame packs cs × PacksStand p.layout packs cs s)
-        → IsSomeAnd (o >>= λ c. all_closed p known packs ms >>= λ cs. Some (c ∷ cs)) (λ cs. AreTame (pack ∷ packs) cs × PacksStand p.layout (pack ∷ packs) cs s)
-    first None h k = absurd h
-    first (Some c) (t, k) more = rest c t k (all_closed p known packs ms) more
+    (known_stands p.layout (homes_of p) known pack s is m stands) (put_is_flat p.layout (homes_of p) known pack m level))
+    (λ c k. then_holds (λ cs. PacksStand p.layout packs cs s) (λ cs. PacksStand p.layout (pack ∷ packs) cs s) (all_closed p known packs ms) (λ cs. Some (c ∷ cs))
+    (all_closed_stand p known s is packs ms others stand) (λ cs ks. (k, ks)))
 
 -- each pack is changed
 each_stand : (p : Program) (change : Pack → List ℤ → List ℤ) (before behind : Storage)
-    → ((pack : Pack) (m : List ℤ) → IsPackOf p pack → size_of pack ≤ 8 → IsTame (size_of pack) m → PackStands p.layout pack m before → IsTame (size_of pack) (change pack m) × PackStands p.layout pack (change pack m) behind)
-    → (packs : List Pack) (ms : List (List ℤ)) → ArePacksOf p packs → AreTame packs ms → PacksStand p.layout packs ms before
-    → AreTame packs (each_pack change packs ms) × PacksStand p.layout packs (each_pack change packs ms) behind
-each_stand p change before behind one [] [] of tame stand = (tt, tt)
-each_stand p change before behind one [] (m ∷ ms) of tame stand = absurd tame
-each_stand p change before behind one (pack ∷ packs) [] of tame stand = absurd tame
-each_stand p change before behind one (pack ∷ packs) (m ∷ ms) (is, of) ((few, t), tame) (k, stand) =
-    let here = one pack m is few t k in
-    let others = each_stand p change before behind one packs ms of tame stand in
-    (((few, here.0), others.0), (here.1, others.1))
+    → ((pack : Pack) (m : List ℤ) → IsPackOf p pack → size_of pack ≤ 8 → PackStands p.layout pack m before → PackStands p.layout pack (change pack m) behind)
+    → (packs : List Pack) (ms : List (List ℤ)) → ArePacksOf p packs → AreMatrices packs ms → PacksStand p.layout packs ms before → PacksStand p.layout packs (each_pack change packs ms) behind
+each_stand p change before behind one [] [] of are stand = tt
+each_stand p change before behind one [] (m ∷ ms) of are stand = absurd are
+each_stand p change before behind one (pack ∷ packs) [] of are stand = absurd are
+each_stand p change before behind one (pack ∷ packs) (m ∷ ms) (is, of) ((few, matrix), are) (k, stand) =
+    (one pack m is few k, each_stand p change before behind one packs ms of are stand)
 
 -- ---- what a part leaves
 
