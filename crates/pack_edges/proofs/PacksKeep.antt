@@ -49,7 +49,8 @@ use Rattle.pack_laws.proofs.Words.{word_at}
 use Rattle.pack_laws.proofs.Known.{known_stands}
 use Rattle.pack_edges.specs.Agreeing.{IsTracked, AreMatrices, IsPackOf, ArePacksOf, Agrees2}
 use Rattle.pack_edges.specs.Showing.{ShowsAt}
-use Rattle.pack_edges.proofs.PacksKeepGiven.{Given}
+use Rattle.pack_edges.proofs.CellLaws.{cell_laws}
+use Rattle.pack_edges.proofs.FormsShowMoments.{all_amounts_are_shown, all_operands_are_there, all_senders_are_shown, all_counters_are_shown, all_guards_keep}
 use Rattle.pack_edges.proofs.PacksPutRise.{IsFlat, AreFlat}
 use Rattle.pack_edges.proofs.PacksFit.{changed_are_flat, step2_fits}
 use Rattle.pack_edges.proofs.PacksKeepClosed.{closed_stands}
@@ -163,7 +164,7 @@ written_item l place wrote other e = go (item_at l place) e
 
 -- ---- each part
 
-module _ (given : Given) (p : Program) (packs : List Pack) (statement : ℕ) (a : Act) (x : Action) where
+module _ (p : Program) (packs : List Pack) (statement : ℕ) (a : Act) (x : Action) where
   not_both : (o : Option ℕ) (at : ℕ) → o ≡ Some at → o ≡ None → ⊥
   not_both None at e f = cc
   not_both (Some k) at e f = cc
@@ -202,11 +203,11 @@ module _ (given : Given) (p : Program) (packs : List Pack) (statement : ℕ) (a 
   part_stands done rest unread s r m n e g h pack w of few k = absurd h.0
   part_stands done rest (divide d) s r m n e g h pack w of few k = quiet_stands p.layout pack w m n (divide_quiet p.layout (handled p a x) d m n h.0) k
   part_stands done rest (store place mode y) s r m n e g h pack w of few k =
-      let q = given.cells_.places_ p statement a x done rest (store place mode y) e in
-      store_stands given.cells_ p statement a x done place mode y (with_taken p a x s) m (taken_at p statement a x given.cells_ done (store place mode y) s m refl q g.cells) q (g.cells.sound.receivers done rest place mode y e) pack of few r.wrote w k
-      (λ unzero v f. given.operands_ p statement a x done rest place mode y e s r.wrote m g.cells g.tracked unzero v f)
-      (λ unzero v f. given.amounts_ p statement a x pack few done rest place mode y e s r.wrote m g.cells g.tracked unzero v f)
-      n (off_zero given.cells_ p statement a x done s m g.cells) h.0
+      let q = cell_laws.places_ p statement a x done rest (store place mode y) e in
+      store_stands p statement a x done place mode y (with_taken p a x s) m (taken_at p statement a x cell_laws done (store place mode y) s m refl q g.cells) q (g.cells.sound.receivers done rest place mode y e) pack of few r.wrote w k
+      (λ unzero v f. all_operands_are_there p statement a x done rest place mode y e s r.wrote m g.cells g.tracked unzero v f)
+      (λ unzero v f. all_amounts_are_shown p statement a x pack few done rest place mode y e s r.wrote m g.cells g.tracked unzero v f)
+      n (off_zero cell_laws p statement a x done s m g.cells) h.0
   part_stands done rest (bytes_in offset count) s r m n e g h pack w of few k =
       let change = h.0.0 in
       subst (λ (j : Moment). PackStands p.layout pack (changed_pack p a x (bytes_in offset count) s r.wrote pack w) (storage j.storage j.counts)) (sym h.0.1)
@@ -214,19 +215,19 @@ module _ (given : Given) (p : Program) (packs : List Pack) (statement : ℕ) (a 
       (λ i g_home is apart. value_stays p.layout offset count m.storage (changed_in change offset count m.storage) m.counts (bytes_change done rest offset count s m e g.cells change) g_home apart) k)
   part_stands done rest (guard v wanted) s r m n e g h pack w of few k =
       subst (λ (j : Moment). PackStands p.layout pack (guarded_pack p a x s v wanted pack w) (storage j.storage j.counts)) (sym h.0.1)
-      (given.guards_ p statement a x pack few done rest v wanted e s m g.cells h.0.0 w k)
+      (all_guards_keep p statement a x pack few done rest v wanted e s m g.cells h.0.0 w k)
   part_stands done rest (read_count j) s r m n e g h pack w of few k = quiet_stands p.layout pack w m n (of_same m n (own_moment m n (whole_number h.0.0) h.0.2)) k
   part_stands done rest (set_count j y) s r m n e g h pack w of few k =
-      let q = given.cells_.places_ p statement a x done rest (set_count j y) e in
+      let q = cell_laws.places_ p statement a x done rest (set_count j y) e in
       subst (λ (i : Moment). PackStands p.layout pack (changed_pack p a x (set_count j y) s r.wrote pack w) (storage i.storage i.counts)) (sym h.0.2)
       (counted_stands p statement a x g.cells.sound pack of few m s.cells j h.0.0 (set_form p pack (with_taken p a x s) r.wrote y) w (subst (λ (i : ℕ). 1 ≤ i) (sym q.0) g.cells.sound.first) g.cells.stands
-      (λ at f. set_shown pack of few (with_taken p a x s) r.wrote y m h.0.0 g.cells.sound h.0.1 (given.senders_ p statement a x pack few done rest j y e s r.wrote m g.cells g.tracked h.0.0 h.0.1)) k)
+      (λ at f. set_shown pack of few (with_taken p a x s) r.wrote y m h.0.0 g.cells.sound h.0.1 (all_senders_are_shown p statement a x pack few done rest j y e s r.wrote m g.cells g.tracked h.0.0 h.0.1)) k)
   part_stands done rest (count_down j) s r m n e g h pack w of few k =
-      let q = given.cells_.places_ p statement a x done rest (count_down j) e in
+      let q = cell_laws.places_ p statement a x done rest (count_down j) e in
       subst (λ (i : Moment). PackStands p.layout pack (changed_pack p a x (count_down j) s r.wrote pack w) (storage i.storage i.counts)) (sym h.0)
       (counted_stands p statement a x g.cells.sound pack of few m s.cells j (whole_number (m.own.units -ℤ pos 1)) (lowered_form p pack s r.wrote j) w (subst (λ (i : ℕ). 1 ≤ i) (sym q.0) g.cells.sound.first) g.cells.stands
       (λ at f. lowered_shown pack of few m (m.own.units -ℤ pos 1) g.cells.sound (lowered_form p pack s r.wrote j)
-      (given.counters_ p statement a x pack few done rest j e s r.wrote m g.cells (λ none. absurd (not_both (cell_of pack (of_count j)) at f none)))) k)
+      (all_counters_are_shown p statement a x pack few done rest j e s r.wrote m g.cells (λ none. absurd (not_both (cell_of pack (of_count j)) at f none)))) k)
   part_stands done rest (guard_count j wanted) s r m n e g h pack w of few k = quiet_stands p.layout pack w m n (of_same m n (same_moment m n h.0.3)) k
 
   -- storage where the edge began, for items to which it hasn't written
@@ -235,8 +236,8 @@ module _ (given : Given) (p : Program) (packs : List Pack) (statement : ℕ) (a 
   part_tracked done rest unread s r m n e g h = absurd h.0
   part_tracked done rest (divide d) s r m n e g h = let q = divide_quiet p.layout (handled p a x) d m n h.0 in quiet_tracked p.layout r.wrote m n q.storage_ q.first g.tracked
   part_tracked done rest (store place mode y) s r m n e g h =
-      let q = given.cells_.places_ p statement a x done rest (store place mode y) e in
-      let changes = store_changes given.cells_ p statement a x done place mode y (with_taken p a x s) m (taken_at p statement a x given.cells_ done (store place mode y) s m refl q g.cells) q (g.cells.sound.receivers done rest place mode y e) n h.0 in
+      let q = cell_laws.places_ p statement a x done rest (store place mode y) e in
+      let changes = store_changes p statement a x done place mode y (with_taken p a x s) m (taken_at p statement a x cell_laws done (store place mode y) s m refl q g.cells) q (g.cells.sound.receivers done rest place mode y e) n h.0 in
       record {
         same = λ other k.
             let two = written_item p.layout place r.wrote other k in
@@ -265,7 +266,7 @@ module _ (given : Given) (p : Program) (packs : List Pack) (statement : ℕ) (a 
   module _ (of : ArePacksOf p packs) where
     pub part_keeps : (done rest : List Part) (y : Part) (s : Seen) (r : Seen2) (m n : Moment) → done ++ y ∷ rest ≡ parts_of p statement a x → Now done s r m → PassesPart p.layout (handled p a x) y m n
         → IsSomeAnd (step2 p a x packs y s r) (λ u. Now (done ++ y ∷ []) u.0 u.1 n)
-    part_keeps done rest y s r m n e g h = by_cells (step p a x y s) (keeps given.cells_ p statement a x done rest y s m n e g.cells h) (step2_fits p a x packs y s r g.matrices)
+    part_keeps done rest y s r m n e g h = by_cells (step p a x y s) (keeps cell_laws p statement a x done rest y s m n e g.cells h) (step2_fits p a x packs y s r g.matrices)
       where
         by_row : (t : Seen) → Agrees p statement a x (done ++ y ∷ []) t n → (o : Option (List (List ℤ))) → IsSomeAnd o (λ cs. PacksStand p.layout packs cs (storage n.storage n.counts))
             → IfSome (o >>= λ ms. behind y s r t ms) (λ u. AreMatrices packs u.1.packs)
