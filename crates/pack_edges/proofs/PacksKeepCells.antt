@@ -120,7 +120,7 @@ module _ (l : Layout) (pack : Pack) where
   pub cell_value : (s : Storage) (k : ℕ) (h : Home) → slice_get pack k ≡ Some h → cells_in l pack s (suc k) ≡ option_map (λ v. v *ℤ pos (unit_of l pack h)) (cells.value_at l s h)
   cell_value s k h e = ap (λ (o : Option Home). o >>= λ g. option_map (λ v. v *ℤ pos (unit_of l pack g)) (cells.value_at l s g)) e
 
-  no_cell : (s : Storage) (k : ℕ) → length pack ≤ k → cells_in l pack s (suc k) ≡ None
+  pub no_cell : (s : Storage) (k : ℕ) → length pack ≤ k → cells_in l pack s (suc k) ≡ None
   no_cell s k h = ap (λ (o : Option Home). o >>= λ g. option_map (λ v. v *ℤ pos (unit_of l pack g)) (cells.value_at l s g)) (slice_get_past pack k h)
 
   -- Behind a change of storage, and a new value of one place.
