@@ -66,8 +66,7 @@ use Rattle.pack_laws.proofs.Signs.{known_is_sure}
 use Rattle.pack_edges.specs.Agreeing.{IsPackOf}
 use Rattle.pack_edges.specs.Showing.{ShowsAt, ShowsValueAt}
 use Rattle.pack_edges.proofs.CellLaws.{cell_laws}
-use Rattle.pack_edges.proofs.FormsShowSums.{cell_there, decimals_within}
-use Rattle.pack_edges.proofs.PacksKeepCells.{cell_value, homes_left, put_left, with_any, not_home, other_cell, edited_apart}
+use Rattle.pack_edges.proofs.PacksKeepCells.{found_cell, decimals_within, cell_value, homes_left, put_left, with_any, not_home, other_cell, edited_apart}
 use Rattle.pack_edges.proofs.PacksKeepCounters.{same_shown}
 
 -- ---- the bytes of a number
@@ -231,7 +230,7 @@ module _ (p : Program) (statement : ℕ) (a : Act) (x : Action) (done : List Par
             homes_left p.layout pack (is_other p a x place) (storage m.storage m.counts) (storage (filled_at p.layout m.storage place held) m.counts) w
             (λ k h f is_left. fill.others h (other_test h is_left (not_home pack (of_item place) h k e f))) stands
         by_cell (Some at) e =
-            let f = cell_there pack (of_item place) at e in
+            let f = found_cell pack (of_item place) at e in
             put_left p.layout pack (is_other p a x place) (storage m.storage m.counts) (storage (filled_at p.layout m.storage place held) m.counts) at (its_units is.v)
             (form_at_cell p a x t place mode y pack (suc at) (amount_form p pack t wrote place y) w)
             (cell_value p.layout pack (storage (filled_at p.layout m.storage place held) m.counts) at (of_item place) f
