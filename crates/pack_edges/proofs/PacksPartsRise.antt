@@ -144,8 +144,3 @@ module _ (p : Program) (a : Act) (x : Action) (s t : Seen) (under : SeenBelow p 
   changed_rises (count_down k) after e =
       counted_rises p a x k pack m n all_lower (lowered_form p pack s wrote k) (lowered_form p pack t wrote k) (lowered_narrower p a x pack s t under wrote k)
   changed_rises (guard_count k wanted) after e = lower
-
--- what the walk takes
-pub changes_rise : (p : Program) (a : Act) (x : Action) (y : Part) (s t after : Seen) → SeenBelow p a x s t → step p a x y s ≡ Some after → (wrote : List Bytes) (pack : Pack) (m n : List ℤ) → IsMatrix (size_of pack) m → IsMatrix (size_of pack) n
-    → AreLowerOff (size_of pack) m n → AreLowerOff (size_of pack) (changed_pack p a x y s wrote pack m) (changed_pack p a x y t wrote pack n)
-changes_rise p a x y s t after under e wrote pack m n is are lower = changed_rises p a x s t under wrote pack m n is are lower y after e

@@ -23,7 +23,7 @@ use Rattle.pack_laws.proofs.Words.{word_at}
 use Rattle.cell_edges.proofs.CellLists.{known_below}
 use Rattle.pack_edges.specs.Agreeing.{AreMatrices}
 use Rattle.pack_edges.specs.EdgeLaws.{AreLowerEach}
-use Rattle.pack_edges.proofs.PacksClosingRise.{LowerIfAny, closed_rises, closed_fits}
+use Rattle.pack_edges.proofs.PacksClosingRise.{order_along, LowerIfAny, closed_rises, closed_fits}
 
 -- ---- matrices with zeros on the diagonal
 pub record IsFlat (size : ℕ) (m : List ℤ) : Type 0 where
@@ -86,14 +86,11 @@ module _ (l : Layout) (homes : List Home) (as_ bs : List Known) (below : CellsBe
   put_word_rises w u (suc k) zero h = put_high_rises (slice_get pack k) (w (suc k) zero) (u (suc k) zero) h
   put_word_rises w u (suc j) (suc k) h = h
 
-  both_are : (x y p q : ℤ) → p ≡ x → q ≡ y → x ≤ℤ y → p ≤ℤ q
-  both_are x y p q e f h = omega (arith, ints, e, f, h)
-
   put_rises : (m t : List ℤ) → AreLower (size_of pack + 1) (word (size_of pack + 1) m) (word (size_of pack + 1) t) → LowerIfAny (size_of pack) (put_closed l homes as_ pack m) (put_closed l homes bs pack t)
   put_rises m t lower =
       closed_rises (size_of pack) (with_words (size_of pack) (put_word l homes as_ pack (word (size_of pack + 1) m))) (with_words (size_of pack) (put_word l homes bs pack (word (size_of pack + 1) t)))
       (record {
-        words = λ i j h g. both_are _ _ _ _
+        words = λ i j h g. order_along _ _ _ _
             (word_at (size_of pack) (put_word l homes as_ pack (word (size_of pack + 1) m)) i j h g) (word_at (size_of pack) (put_word l homes bs pack (word (size_of pack + 1) t)) i j h g)
             (put_word_rises (word (size_of pack + 1) m) (word (size_of pack + 1) t) i j (lower.words i j h g));
       })
