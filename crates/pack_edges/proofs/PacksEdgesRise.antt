@@ -8,7 +8,6 @@ use Rattle.cob_program.specs.Values.{◌>>=◌}
 use Rattle.cob_program.specs.Act.{Act, Program}
 use Rattle.cob_runs.specs.declared.action.Action.{Action}
 use Rattle.cob_edge_parts.specs.Parts.{Part, parts_of}
-use Rattle.diff_bounds.specs.Matrix.{IsMatrix}
 use Rattle.cell_rows.specs.Known.{Known}
 use Rattle.cell_rows.specs.Elements.{CellsFit, CellsBelow}
 use Rattle.cell_storages.specs.Homes.{owns}

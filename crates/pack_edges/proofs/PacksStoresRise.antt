@@ -15,7 +15,7 @@ use Rattle.linear_form.specs.declared.form.Lin.{Lin}
 use Rattle.linear_form.specs.Results.{IsNarrower}
 use Rattle.diff_bounds.specs.Matrix.{word, none, IsMatrix}
 use Rattle.form_bounds.specs.Values.{AreLower}
-use Rattle.store_error.specs.Errors.{error_in, IsSurer}
+use Rattle.store_error.specs.Errors.{IsSurer}
 use Rattle.sum_ranges.specs.declared.ranged.Ranged.{Ranged}
 use Rattle.sum_ranges.specs.Ranged as range
 use Rattle.sum_ranges.specs.SumRanges.{sum_range}
@@ -40,8 +40,8 @@ use Rattle.diff_steps.specs.Packs.{Pack, size_of, cell_of, unit_of}
 use Rattle.diff_steps.specs.Matrices.{bottom}
 use Rattle.diff_steps.specs.Moments.{Bytes, is_written}
 use Rattle.diff_steps.specs.Forms.{amount_form, has_operands}
-use Rattle.diff_steps.specs.Stores.{known_of_amount, widened_form, forgotten_cells}
-use Rattle.diff_steps.specs.Steps.{by_outcome, is_other, is_lost, form_at_cell, stored_cell, stored_pack, lost_pack, pack_behind_store, counter_stored, counted_pack}
+use Rattle.diff_steps.specs.Stores.{known_of_amount, forgotten_cells}
+use Rattle.diff_steps.specs.Steps.{by_outcome, is_other, is_lost, form_at_cell, stored_cell, stored_pack, pack_behind_store, counter_stored, counted_pack}
 use Rattle.pack_laws.specs.Orders.{AreLowerOff}
 use Rattle.pack_laws.proofs.Rises.{IsImage, forgotten_image, form_image, image_below, put_lower, store_lower}
 use Rattle.pack_edges.proofs.FormsRise.{amount_narrower}

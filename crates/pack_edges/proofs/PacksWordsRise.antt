@@ -1,6 +1,6 @@
 -- Changes of one pack's matrix: what a lower matrix becomes is lower, and zeros on the diagonal stay.
-use Rattle.std.proofs.Common.{◌≡◌, ◌≢◌, ℕ, zero, suc, ◌+◌, ◌<◌, ◌≤◌, Bool, true, false, List, [], ◌∷◌, length, ℤ, pos, negsuc, neg_ℤ, ◌≤ℤ◌, Option, Some, None, ◌⊎◌, inl, inr, refl, sym, ap, subst, ◌∙◌, arith}
-use Rattle.std.specs.Prelude.{nat_eq, ◌&&◌, ◌||◌, if◌then◌else◌, IfSome}
+use Rattle.std.proofs.Common.{◌≡◌, ◌≢◌, ℕ, zero, suc, ◌+◌, ◌<◌, ◌≤◌, Bool, true, false, List, [], ◌∷◌, length, ℤ, pos, negsuc, neg_ℤ, ◌≤ℤ◌, Option, Some, None, refl, ap, ◌∙◌, arith}
+use Rattle.std.specs.Prelude.{nat_eq, ◌&&◌, ◌||◌, if◌then◌else◌}
 use Rattle.std.specs.Option.{option_map}
 use Rattle.std.specs.Int.{int_min}
 use Rattle.std.proofs.lemmas.Int.{ints, clamps}
@@ -9,7 +9,6 @@ use Rattle.decimal_interval.specs.Corners.{interval}
 use Rattle.cob_program.specs.Values.{◌>>=◌}
 use Rattle.linear_form.specs.declared.form.Lin.{Lin}
 use Rattle.linear_form.specs.Forms.{is_small}
-use Rattle.linear_form.specs.Results.{IsNarrower}
 use Rattle.diff_bounds.specs.Matrix.{word, none, largest, IsWord, IsMatrix}
 use Rattle.diff_bounds.proofs.Ends.{words_of}
 use Rattle.form_bounds.specs.Numbers.{word_of}
@@ -28,7 +27,7 @@ use Rattle.cell_storages.specs.Homes.{Home, is_home}
 use Rattle.diff_steps.specs.Packs.{cell_of}
 use Rattle.diff_steps.specs.Matrices.{with_words, bottom, lesser, forgotten, assigned, demanded}
 use Rattle.diff_steps.specs.Stores.{assigned_or_forgotten, absolute_stored, value_stored, forgotten_cells}
-use Rattle.diff_steps.specs.Guards.{demanded_if, strictly, at_most, ordered}
+use Rattle.diff_steps.specs.Guards.{demanded_if, at_most, ordered}
 use Rattle.store_error.specs.declared.known.Known as sure
 use Rattle.pack_laws.specs.Orders.{AreLowerOff}
 use Rattle.pack_laws.proofs.Words.{word_at}
