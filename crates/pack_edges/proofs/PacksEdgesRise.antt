@@ -34,7 +34,7 @@ use Rattle.pack_edges.proofs.PacksClearsFall.{PacksBelow, clears_part2_falls}
 
 -- ---- where no run comes
 
-bottoms_below : (packs : List Pack) (ms : List (List ℤ)) → AreMatrices packs ms → AreLowerEach packs (bottoms packs) ms
+pub bottoms_below : (packs : List Pack) (ms : List (List ℤ)) → AreMatrices packs ms → AreLowerEach packs (bottoms packs) ms
 bottoms_below [] [] are = tt
 bottoms_below [] (m ∷ ms) are = absurd are
 bottoms_below (pack ∷ packs) [] are = absurd are
