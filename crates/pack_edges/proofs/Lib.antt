@@ -12,6 +12,7 @@ pub mod PacksKeepClosed
 pub mod PacksKeepCells
 pub mod PacksKeepCounters
 pub mod PacksKeepGiven
+pub mod PacksPartsRise
 pub mod FormsShowItems
 pub mod FormsShowValues
 pub mod FormsShowSums
