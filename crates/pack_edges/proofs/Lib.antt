@@ -22,3 +22,4 @@ pub mod FormsShowCounters
 pub mod FormsShowGuards
 pub mod FormsShowMoments
 pub mod PacksStand
+pub mod PacksClearEnds

@@ -1,0 +1,5 @@
+use Rattle.pack_edges.proofs.PacksClearEnds.{ends_hold, none_apart}
+use Rattle.pack_edges.proofs.laws.cleared_faults_are_not_met.Goals as goal
+
+pub returns : goal.returns
+returns c = ?
