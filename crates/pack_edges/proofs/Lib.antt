@@ -23,3 +23,4 @@ pub mod FormsShowGuards
 pub mod FormsShowMoments
 pub mod PacksStand
 pub mod PacksClearEnds
+pub mod PacksClear

@@ -39,7 +39,7 @@ use Rattle.diff_steps.specs.Stores.{upper_negated}
 use Rattle.diff_steps.specs.Clearing.{some_pack, high_fits, low_fits, high_shown, low_shown, ends_fit, is_negative}
 use Rattle.pack_laws.specs.Orders.{IsShown}
 use Rattle.pack_laws.proofs.Stored.{coef_turned}
-use Rattle.pack_edges.specs.Agreeing.{AreMatrices}
+use Rattle.pack_edges.specs.Agreeing.{AreMatrices, IsPackOf, ArePacksOf}
 
 -- ---- bounds
 
@@ -101,27 +101,27 @@ module _ (size : ℕ) (m : List ℤ) (cells : ℕ → Option ℤ) (few : size �
 
 -- ---- some pack
 
-some_shows : (l : Layout) (s : Storage) (shows : Pack → List ℤ → Bool) (C : Type 0) → ((pack : Pack) (m : List ℤ) → size_of pack ≤ 8 → PackStands l pack m s → shows pack m ≡ true → C)
-    → (packs : List Pack) (ms : List (List ℤ)) → AreMatrices packs ms → PacksStand l packs ms s → some_pack shows packs ms ≡ true → C
-some_shows l s shows C one [] ms are stand e = absurd cc
-some_shows l s shows C one (pack ∷ packs) [] are stand e = absurd cc
-some_shows l s shows C one (pack ∷ packs) (m ∷ ms) ((few, matrix), are) (k, stand) e = by_first (or_either (shows pack m) (some_pack shows packs ms) e) (λ f. some_shows l s shows C one packs ms are stand f)
+some_shows : (p : Program) (s : Storage) (shows : Pack → List ℤ → Bool) (C : Type 0) → ((pack : Pack) (m : List ℤ) → IsPackOf p pack → size_of pack ≤ 8 → PackStands p.layout pack m s → shows pack m ≡ true → C)
+    → (packs : List Pack) (ms : List (List ℤ)) → ArePacksOf p packs → AreMatrices packs ms → PacksStand p.layout packs ms s → some_pack shows packs ms ≡ true → C
+some_shows p s shows C one [] ms of are stand e = absurd cc
+some_shows p s shows C one (pack ∷ packs) [] of are stand e = absurd cc
+some_shows p s shows C one (pack ∷ packs) (m ∷ ms) (is, of) ((few, matrix), are) (k, stand) e = by_first (or_either (shows pack m) (some_pack shows packs ms) e) (λ f. some_shows p s shows C one packs ms of are stand f)
   where
     by_first : (shows pack m ≡ true) ⊎ (some_pack shows packs ms ≡ true) → (some_pack shows packs ms ≡ true → C) → C
-    by_first (inl f) more = one pack m few k f
+    by_first (inl f) more = one pack m is few k f
     by_first (inr f) more = more f
 
-module _ (p : Program) (packs : List Pack) (ms : List (List ℤ)) (s : Storage) (are : AreMatrices packs ms) (stand : PacksStand p.layout packs ms s) where
-  -- the form shows a decimal that is cut or rounded to the number
-  abbrev pub ShowsNear : Mode → Receiver → ℤ → Pack → Lin → Type 0
-  ShowsNear mode r z pack g = (d : Scaled) × (z ≡ near mode (value_of d) (pos r.scale)) × IsShown (size_of pack) (cells_in p.layout pack s) g d (pack_decimals p.layout pack)
+-- the form shows a decimal that is cut or rounded to the number
+abbrev pub ShowsNear : Layout → Storage → Mode → Receiver → ℤ → Pack → Lin → Type 0
+ShowsNear l s mode r z pack g = (d : Scaled) × (z ≡ near mode (value_of d) (pos r.scale)) × IsShown (size_of pack) (cells_in l pack s) g d (pack_decimals l pack)
 
-  module _ (form : Pack → Option Lin) (mode : Mode) (r : Receiver) (z : ℤ) (shown : (pack : Pack) → size_of pack ≤ 8 → IfSome (form pack) (ShowsNear mode r z pack)) where
+module _ (p : Program) (packs : List Pack) (ms : List (List ℤ)) (s : Storage) (of : ArePacksOf p packs) (are : AreMatrices packs ms) (stand : PacksStand p.layout packs ms s) where
+  module _ (form : Pack → Option Lin) (mode : Mode) (r : Receiver) (z : ℤ) (shown : (pack : Pack) → IsPackOf p pack → size_of pack ≤ 8 → IfSome (form pack) (ShowsNear p.layout s mode r z pack)) where
     high_of : high_shown p packs ms form mode r ≡ true → z ≤ℤ most r.digits
     high_of e =
-        some_shows p.layout s (λ pack m. high_fits mode r (pack_decimals p.layout pack) (form pack >>= upper_of (size_of pack) m)) (z ≤ℤ most r.digits) (λ pack m few k f. by_form pack m few k (form pack) (shown pack few) f) packs ms are stand e
+        some_shows p s (λ pack m. high_fits mode r (pack_decimals p.layout pack) (form pack >>= upper_of (size_of pack) m)) (z ≤ℤ most r.digits) (λ pack m is few k f. by_form pack m few k (form pack) (shown pack is few) f) packs ms of are stand e
       where
-        by_form : (pack : Pack) (m : List ℤ) → size_of pack ≤ 8 → PackStands p.layout pack m s → (o : Option Lin) → IfSome o (ShowsNear mode r z pack)
+        by_form : (pack : Pack) (m : List ℤ) → size_of pack ≤ 8 → PackStands p.layout pack m s → (o : Option Lin) → IfSome o (ShowsNear p.layout s mode r z pack)
             → high_fits mode r (pack_decimals p.layout pack) (o >>= upper_of (size_of pack) m) ≡ true → z ≤ℤ most r.digits
         by_form pack m few k None h f = absurd cc
         by_form pack m few k (Some g) (d, same, is) f =
@@ -130,9 +130,9 @@ module _ (p : Program) (packs : List Pack) (ms : List (List ℤ)) (s : Storage) 
 
     low_of : low_shown p packs ms form mode r ≡ true → neg_ℤ (most r.digits) ≤ℤ z
     low_of e =
-        some_shows p.layout s (λ pack m. low_fits mode r (pack_decimals p.layout pack) (form pack >>= upper_negated (size_of pack) m)) (neg_ℤ (most r.digits) ≤ℤ z) (λ pack m few k f. by_form pack m few k (form pack) (shown pack few) f) packs ms are stand e
+        some_shows p s (λ pack m. low_fits mode r (pack_decimals p.layout pack) (form pack >>= upper_negated (size_of pack) m)) (neg_ℤ (most r.digits) ≤ℤ z) (λ pack m is few k f. by_form pack m few k (form pack) (shown pack is few) f) packs ms of are stand e
       where
-        by_form : (pack : Pack) (m : List ℤ) → size_of pack ≤ 8 → PackStands p.layout pack m s → (o : Option Lin) → IfSome o (ShowsNear mode r z pack)
+        by_form : (pack : Pack) (m : List ℤ) → size_of pack ≤ 8 → PackStands p.layout pack m s → (o : Option Lin) → IfSome o (ShowsNear p.layout s mode r z pack)
             → low_fits mode r (pack_decimals p.layout pack) (o >>= upper_negated (size_of pack) m) ≡ true → neg_ℤ (most r.digits) ≤ℤ z
         by_form pack m few k None h f = absurd cc
         by_form pack m few k (Some g) (d, same, is) f =
@@ -162,10 +162,10 @@ module _ (p : Program) (packs : List Pack) (ms : List (List ℤ)) (s : Storage) 
   -- ---- divisors
 
   -- a decimal that a form shows isn't 0 where a bound of the form, or of the negated form, is below 0
-  pub none_apart : (form : Pack → Option Lin) (d : Scaled) → d.units ≡ pos 0 → ((pack : Pack) → size_of pack ≤ 8 → IfSome (form pack) (λ g. IsShown (size_of pack) (cells_in p.layout pack s) g d (pack_decimals p.layout pack)))
+  pub none_apart : (form : Pack → Option Lin) (d : Scaled) → d.units ≡ pos 0 → ((pack : Pack) → IsPackOf p pack → size_of pack ≤ 8 → IfSome (form pack) (λ g. IsShown (size_of pack) (cells_in p.layout pack s) g d (pack_decimals p.layout pack)))
       → some_pack (λ pack m. is_negative (form pack >>= upper_of (size_of pack) m) || is_negative (form pack >>= upper_negated (size_of pack) m)) packs ms ≡ true → ⊥
   none_apart form d zero_ shown e =
-      some_shows p.layout s (λ pack m. is_negative (form pack >>= upper_of (size_of pack) m) || is_negative (form pack >>= upper_negated (size_of pack) m)) ⊥ (λ pack m few k f. by_form pack m few k (form pack) (shown pack few) f) packs ms are stand e
+      some_shows p s (λ pack m. is_negative (form pack >>= upper_of (size_of pack) m) || is_negative (form pack >>= upper_negated (size_of pack) m)) ⊥ (λ pack m is few k f. by_form pack m few k (form pack) (shown pack is few) f) packs ms of are stand e
     where
       below : (o : Option ℤ) → is_negative o ≡ true → (u : ℤ) × (o ≡ Some u) × (u <ℤ pos 0)
       below None f = absurd cc

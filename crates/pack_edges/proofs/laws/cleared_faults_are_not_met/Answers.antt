@@ -1,4 +1,4 @@
-use Rattle.pack_edges.proofs.PacksClearEnds.{ends_hold, none_apart}
+use Rattle.pack_edges.proofs.PacksClear.{part_cleared}
 use Rattle.pack_edges.proofs.laws.cleared_faults_are_not_met.Goals as goal
 
 pub returns : goal.returns
