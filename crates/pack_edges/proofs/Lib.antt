@@ -24,3 +24,4 @@ pub mod FormsShowMoments
 pub mod PacksStand
 pub mod PacksClearEnds
 pub mod PacksClear
+pub mod PacksClearAll
