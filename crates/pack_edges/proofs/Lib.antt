@@ -7,11 +7,9 @@ pub mod PacksFit
 pub mod PacksClearsFall
 pub mod PacksEdgesRise
 pub mod PacksStoresRise
-pub mod PacksKeepTame
 pub mod PacksKeepClosed
 pub mod PacksKeepCells
 pub mod PacksKeepCounters
-pub mod PacksKeepGiven
 pub mod PacksKeepStores
 pub mod PacksKeep
 pub mod PacksPartsRise
@@ -23,3 +21,4 @@ pub mod FormsShowAmounts
 pub mod FormsShowCounters
 pub mod FormsShowGuards
 pub mod FormsShowMoments
+pub mod PacksStand

@@ -8,7 +8,6 @@ use Rattle.cob_program.specs.Values.{◌>>=◌}
 use Rattle.cob_program.specs.Act.{Act, Program}
 use Rattle.cob_runs.specs.declared.action.Action.{Action}
 use Rattle.cob_edge_parts.specs.Parts.{Part, parts_of}
-use Rattle.diff_bounds.specs.Matrix.{IsMatrix}
 use Rattle.cell_rows.specs.Known.{Known}
 use Rattle.cell_rows.specs.Elements.{CellsFit, CellsBelow}
 use Rattle.cell_storages.specs.Homes.{owns}
@@ -30,11 +29,12 @@ use Rattle.pack_edges.specs.EdgeLaws.{AreLowerEach}
 use Rattle.pack_edges.proofs.PacksPutRise.{all_are_flat, LowerEachIf, all_fit, all_rise, each_rises}
 use Rattle.pack_edges.proofs.PacksWordsRise.{bottom_below, matrix_is_high}
 use Rattle.pack_edges.proofs.PacksFit.{changed_are_flat, posts_fit}
+use Rattle.pack_edges.proofs.PacksPartsRise.{changed_rises}
 use Rattle.pack_edges.proofs.PacksClearsFall.{PacksBelow, clears_part2_falls}
 
 -- ---- where no run comes
 
-bottoms_below : (packs : List Pack) (ms : List (List ℤ)) → AreMatrices packs ms → AreLowerEach packs (bottoms packs) ms
+pub bottoms_below : (packs : List Pack) (ms : List (List ℤ)) → AreMatrices packs ms → AreLowerEach packs (bottoms packs) ms
 bottoms_below [] [] are = tt
 bottoms_below [] (m ∷ ms) are = absurd are
 bottoms_below (pack ∷ packs) [] are = absurd are
@@ -48,12 +48,7 @@ or_bottoms_rise packs (Some ms) (Some ts) are h = h
 
 -- ---- each part
 
--- What a part that a run may pass does to a pack keeps the order.
-abbrev pub ChangesRise : Program → Act → Action → Type 0
-ChangesRise p a x = (y : Part) (s t after : Seen) → SeenBelow p a x s t → step p a x y s ≡ Some after → (wrote : List Bytes) (pack : Pack) (m u : List ℤ) → IsMatrix (size_of pack) m → IsMatrix (size_of pack) u
-    → AreLowerOff (size_of pack) m u → AreLowerOff (size_of pack) (changed_pack p a x y s wrote pack m) (changed_pack p a x y t wrote pack u)
-
-module _ (p : Program) (a : Act) (x : Action) (changes_rise : ChangesRise p a x) (packs : List Pack) where
+module _ (p : Program) (a : Act) (x : Action) (packs : List Pack) where
   -- nothing lies below all
   abbrev BelowIf2 : Option (Seen × Seen2) → Option (Seen × Seen2) → Type 0
   BelowIf2 None q = Unit {0}
@@ -70,7 +65,7 @@ module _ (p : Program) (a : Act) (x : Action) (changes_rise : ChangesRise p a x)
       lower : (after : Seen) → step p a x y s ≡ Some after → AreLowerEach packs (its_changed y s r) (its_changed y t q)
       lower after e = each_rises (changed_pack p a x y s r.wrote) (changed_pack p a x y t q.wrote)
           (λ pack m u is are off. subst (λ (wrote : List Bytes). AreLowerOff (size_of pack) (changed_pack p a x y s r.wrote pack m) (changed_pack p a x y t wrote pack u)) under.wrote
-          (changes_rise y s t after below e r.wrote pack m u is are off)) packs r.packs q.packs under.low under.high under.lower
+          (changed_rises p a x s t below r.wrote pack m u is are off y after e)) packs r.packs q.packs under.low under.high under.lower
 
       by_packs : (u v : Seen) → SeenBelow p a x u v → (o w : Option (List (List ℤ))) → LowerEachIf packs o w → IfSome o (AreMatrices packs) → IfSome w (AreMatrices packs)
           → BelowIf2 (o >>= λ cs. Some (u, with_packs (changed p a x packs y s r) cs)) (w >>= λ cs. Some (v, with_packs (changed p a x packs y t q) cs))
@@ -133,7 +128,7 @@ module _ (p : Program) (a : Act) (x : Action) (changes_rise : ChangesRise p a x)
 
 -- ---- edges
 
-module _ (p : Program) (packs : List Pack) (statement : ℕ) (a : Act) (x : Action) (changes_rise : ChangesRise p a x)
+module _ (p : Program) (packs : List Pack) (statement : ℕ) (a : Act) (x : Action)
     (less more : List Known) (fits : CellsFit (owns p) less) (below : CellsBelow less more)
     (low high : List (List ℤ)) (are : AreMatrices packs low) (is : AreMatrices packs high) (lower : AreLowerEach packs low high) where
   first_rise : LowerEachIf packs (all_closed p less packs low) (all_closed p more packs high)
@@ -151,8 +146,8 @@ module _ (p : Program) (packs : List Pack) (statement : ℕ) (a : Act) (x : Acti
       by_packs None w l f g = tt
       by_packs (Some cs) None l f g = absurd l
       by_packs (Some cs) (Some ds) l f g =
-          finished2_rises p a x changes_rise packs (steps2 p packs a x (parts_of p statement a x) (beginning less) (beginning2 cs)) (steps2 p packs a x (parts_of p statement a x) (beginning more) (beginning2 ds))
-          (steps2_rise p a x changes_rise packs (parts_of p statement a x) (beginning less) (beginning more) (beginning2 cs) (beginning2 ds)
+          finished2_rises p a x packs (steps2 p packs a x (parts_of p statement a x) (beginning less) (beginning2 cs)) (steps2 p packs a x (parts_of p statement a x) (beginning more) (beginning2 ds))
+          (steps2_rise p a x packs (parts_of p statement a x) (beginning less) (beginning more) (beginning2 cs) (beginning2 ds)
           (begins_below rising p a x less more fits below) (begins2_below cs ds l f g))
 
   pub posts_rise : AreLowerEach packs (post_packs p packs statement a x (Some less) low) (post_packs p packs statement a x (Some more) high)
@@ -170,5 +165,5 @@ module _ (p : Program) (packs : List Pack) (statement : ℕ) (a : Act) (x : Acti
       by_packs None w l f g e = refl
       by_packs (Some cs) None l f g e = absurd l
       by_packs (Some cs) (Some ds) l f g e =
-          clears_parts2_fall p a x changes_rise packs (parts_of p statement a x) (beginning less) (beginning more) (beginning2 cs) (beginning2 ds) fault
+          clears_parts2_fall p a x packs (parts_of p statement a x) (beginning less) (beginning more) (beginning2 cs) (beginning2 ds) fault
           (begins_below rising p a x less more fits below) (begins2_below cs ds l f g) e

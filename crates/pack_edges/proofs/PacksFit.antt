@@ -1,8 +1,7 @@
 -- What an edge makes of matrices are matrices: each change leaves zeros on the diagonal, and closing makes a matrix of that.
-use Rattle.std.proofs.Common.{◌≡◌, ℕ, zero, suc, ◌+◌, ◌<◌, ◌≤◌, Bool, true, false, List, [], ◌∷◌, ℤ, pos, neg_ℤ, Option, Some, None, refl, ap, ◌∙◌, arith}
-use Rattle.std.specs.Prelude.{IfSome, nat_eq, ◌||◌, ◌&&◌, not, if◌then◌else◌}
-use Rattle.std.specs.Int.{int_min}
-use Rattle.std.proofs.lemmas.Int.{ints, clamps}
+use Rattle.std.proofs.Common.{◌≡◌, ℕ, suc, Bool, true, false, List, [], ◌∷◌, ℤ, pos, neg_ℤ, Option, Some, None, refl, arith}
+use Rattle.std.specs.Prelude.{IfSome, nat_eq, ◌&&◌, not, if◌then◌else◌}
+use Rattle.std.proofs.lemmas.Int.{ints}
 use Rattle.std.proofs.lemmas.Bool.{eq-eqb}
 use Rattle.dec_num.specs.declared.types.Mode.{Mode}
 use Rattle.cob_program.specs.Values.{◌>>=◌}
@@ -10,32 +9,22 @@ use Rattle.cob_program.specs.Logic.{Test, numbers, texts, member, numeric, alway
 use Rattle.cob_program.specs.Act.{Act, Program}
 use Rattle.cob_runs.specs.declared.action.Action.{Action}
 use Rattle.cob_runs.specs.Contents.{form_at}
-use Rattle.cob_data.specs.declared.layout.Layout.{Layout}
 use Rattle.cob_edge_parts.specs.Parts.{Amount, Part, read, unread, divide, store, bytes_in, guard, read_count, set_count, count_down, guard_count, parts_of}
 use Rattle.linear_form.specs.declared.form.Lin.{Lin}
-use Rattle.diff_bounds.specs.Matrix.{word, none, largest, IsWord, IsMatrix}
-use Rattle.form_bounds.specs.Numbers.{word_of}
-use Rattle.form_bounds.specs.Upper.{coef_at}
-use Rattle.form_images.specs.Assigned.{upper_less, less_upper}
-use Rattle.form_images.specs.Demanded.{demanded_by, lowered}
-use Rattle.sum_forms.specs.SumForms.{turned_form}
-use Rattle.store_error.specs.declared.known.Known as sure
+use Rattle.diff_bounds.specs.Matrix.{largest, IsWord, IsMatrix}
 use Rattle.result_ranges.specs.Receivers.{receiver_of}
 use Rattle.cell_rows.specs.Known.{Known}
-use Rattle.cell_rows.specs.Elements.{Element}
-use Rattle.cell_storages.specs.Homes.{Home, of_item, homes_of}
+use Rattle.cell_storages.specs.Homes.{of_item}
 use Rattle.cell_steps.specs.Seen.{Seen, beginning}
 use Rattle.cell_steps.specs.Stores.{handled, with_taken, amount_at, may_fail, may_fit}
 use Rattle.cell_steps.specs.Steps.{step}
-use Rattle.diff_steps.specs.Packs.{Pack, size_of, cell_of, unit_of}
-use Rattle.diff_steps.specs.Matrices.{with_words, bottom, lesser, put_word, put_closed, forgotten, assigned, demanded}
+use Rattle.diff_steps.specs.Packs.{Pack, size_of, cell_of}
+use Rattle.diff_steps.specs.Matrices.{bottom}
 use Rattle.diff_steps.specs.Moments.{Bytes, Seen2}
 use Rattle.diff_steps.specs.Forms.{amount_form, has_operands}
-use Rattle.diff_steps.specs.Stores.{known_of_amount, assigned_or_forgotten, absolute_stored, value_stored, form_stored, forgotten_cells}
-use Rattle.diff_steps.specs.Guards.{at_most, demanded_if, ordered}
-use Rattle.diff_steps.specs.Steps.{each_pack, all_closed, by_outcome, is_other, form_at_cell, stored_cell, stored_pack, counter_stored, guarded_pack, changed_pack, changed, step2}
+use Rattle.diff_steps.specs.Stores.{known_of_amount}
+use Rattle.diff_steps.specs.Steps.{all_closed, by_outcome, is_other, form_at_cell, stored_cell, stored_pack, counter_stored, guarded_pack, changed_pack, changed, step2}
 use Rattle.diff_steps.specs.Edges.{bottoms, or_bottoms, beginning2, steps2, finished2, walked_packs, post_packs}
-use Rattle.pack_laws.proofs.Words.{word_at}
 use Rattle.pack_edges.specs.Agreeing.{AreMatrices}
 use Rattle.pack_edges.proofs.PacksClosingRise.{words_are_matrix}
 use Rattle.pack_edges.proofs.PacksPutRise.{IsFlat, matrix_is_flat, AreFlat, all_are_flat, all_fit, each_flat}

@@ -31,7 +31,7 @@ use Rattle.diff_steps.specs.Steps.{counter_stored, counted_pack}
 use Rattle.pack_laws.specs.Orders.{IsShown}
 use Rattle.pack_laws.proofs.Kept.{forgotten_stands, assigned_stands}
 use Rattle.pack_edges.specs.Agreeing.{IsPackOf}
-use Rattle.pack_edges.proofs.PacksKeepCells.{cell_value, all_left, put_all, with_any, found_cell, not_home, other_cell}
+use Rattle.pack_edges.proofs.PacksKeepCells.{found_cell, cell_value, all_left, put_all, with_any, not_home, other_cell}
 
 -- two decimals of one value are shown by the same forms
 pub same_shown : (size : ℕ) (cells : ℕ → Option ℤ) (form : Lin) (d v : Scaled) (f : ℕ) → value_of v ≡ value_of d → IsShown size cells form d f → IsShown size cells form v f

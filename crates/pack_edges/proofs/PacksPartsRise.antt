@@ -1,19 +1,17 @@
 -- What a part that a run passes makes of a lower matrix of one pack is lower.
-use Rattle.std.proofs.Common.{◌≡◌, ℕ, ◌+◌, Bool, true, false, List, [], ℤ, Option, Some, None, refl, sym, ap, subst, ◌∙◌}
+use Rattle.std.proofs.Common.{◌≡◌, ℕ, ◌+◌, Bool, true, false, List, [], ℤ, Option, Some, None, refl, sym, ap, subst}
 use Rattle.std.specs.Prelude.{◌&&◌, nat_le, is_some}
 use Rattle.std.specs.Option.{option_map}
 use Rattle.std.proofs.lemmas.Bool.{false≢true}
-use Rattle.dec_num.specs.declared.types.Mode.{Mode}
 use Rattle.decimal_interval.specs.declared.bounds.Interval.{Interval}
-use Rattle.cob_data.specs.declared.layout.Sender.{Sender}
 use Rattle.cob_tree.specs.declared.token.Rel.{Rel}
 use Rattle.cob_program.specs.Sum.{Sum}
 use Rattle.cob_program.specs.Values.{◌>>=◌}
-use Rattle.cob_program.specs.Logic.{Test, numbers, texts, member, numeric, always}
+use Rattle.cob_program.specs.Logic.{numbers, texts, member, numeric, always}
 use Rattle.cob_program.specs.Act.{Act, Program}
 use Rattle.cob_runs.specs.declared.action.Action.{Action}
 use Rattle.cob_runs.specs.Deciding.{below, equal, above, holds}
-use Rattle.cob_edge_parts.specs.Parts.{Amount, Part, read, unread, divide, store, bytes_in, guard, read_count, set_count, count_down, guard_count}
+use Rattle.cob_edge_parts.specs.Parts.{Part, read, unread, divide, store, bytes_in, guard, read_count, set_count, count_down, guard_count}
 use Rattle.linear_form.specs.declared.form.Lin.{Lin}
 use Rattle.diff_bounds.specs.Matrix.{word, IsMatrix}
 use Rattle.form_bounds.specs.Values.{AreLower}
@@ -25,12 +23,12 @@ use Rattle.result_ranges.specs.declared.amounts.Taken.{Taken}
 use Rattle.result_ranges.specs.ResultRanges.{count_range}
 use Rattle.guard_ranges.specs.declared.cuts.Cuts.{Cuts}
 use Rattle.guard_ranges.specs.Sides.{is_wanted}
-use Rattle.guard_ranges.specs.Guards.{lone_item, sides_cut, numbers_cut}
+use Rattle.guard_ranges.specs.Guards.{lone_item, sides_cut}
 use Rattle.cell_rows.specs.Known.{Known}
 use Rattle.cell_storages.specs.Homes.{of_count, homes_of}
 use Rattle.cell_steps.specs.Cells.{is_in_bytes}
 use Rattle.cell_steps.specs.Seen.{Seen}
-use Rattle.cell_steps.specs.Stores.{range_at, with_taken, result_at, may_fail, may_fit, stored_cells, stored_element, behind_store}
+use Rattle.cell_steps.specs.Stores.{range_at, with_taken, result_at, may_fail, stored_cells, stored_element, behind_store}
 use Rattle.cell_steps.specs.Steps.{known_as, all_cut, with_cells_if, step}
 use Rattle.cell_steps.specs.Order.{SeenBelow}
 use Rattle.cell_edges.proofs.ItemRanges.{range_below}
@@ -40,8 +38,7 @@ use Rattle.diff_steps.specs.Packs.{Pack, size_of, pack_decimals}
 use Rattle.diff_steps.specs.Moments.{Bytes}
 use Rattle.diff_steps.specs.Forms.{cell_at, set_form, lowered_form}
 use Rattle.diff_steps.specs.Guards.{difference_form, has_decimals, are_fine, ordered}
-use Rattle.diff_steps.specs.Stores.{forgotten_cells}
-use Rattle.diff_steps.specs.Steps.{guarded_pack, counted_pack, changed_pack}
+use Rattle.diff_steps.specs.Steps.{guarded_pack, changed_pack}
 use Rattle.pack_laws.specs.Orders.{AreLowerOff}
 use Rattle.pack_edges.proofs.FormsRise.{are_taken, difference_narrower, lowered_narrower, set_narrower}
 use Rattle.pack_edges.proofs.PacksPutRise.{matrix_is_flat, lower_of}
@@ -144,8 +141,3 @@ module _ (p : Program) (a : Act) (x : Action) (s t : Seen) (under : SeenBelow p 
   changed_rises (count_down k) after e =
       counted_rises p a x k pack m n all_lower (lowered_form p pack s wrote k) (lowered_form p pack t wrote k) (lowered_narrower p a x pack s t under wrote k)
   changed_rises (guard_count k wanted) after e = lower
-
--- what the walk takes
-pub changes_rise : (p : Program) (a : Act) (x : Action) (y : Part) (s t after : Seen) → SeenBelow p a x s t → step p a x y s ≡ Some after → (wrote : List Bytes) (pack : Pack) (m n : List ℤ) → IsMatrix (size_of pack) m → IsMatrix (size_of pack) n
-    → AreLowerOff (size_of pack) m n → AreLowerOff (size_of pack) (changed_pack p a x y s wrote pack m) (changed_pack p a x y t wrote pack n)
-changes_rise p a x y s t after under e wrote pack m n is are lower = changed_rises p a x s t under wrote pack m n is are lower y after e
