@@ -212,7 +212,7 @@ module _ (p : Program) (packs : List Pack) (statement : ℕ) (a : Act) (x : Acti
       let change = h.0.0 in
       subst (λ (j : Moment). PackStands p.layout pack (changed_pack p a x (bytes_in offset count) s r.wrote pack w) (storage j.storage j.counts)) (sym h.0.1)
       (homes_left p.layout pack (is_in_bytes p.layout offset count) (storage m.storage m.counts) (storage (changed_in change offset count m.storage) m.counts) w
-      (λ i g_home is apart. value_stays p.layout offset count m.storage (changed_in change offset count m.storage) m.counts (bytes_change done rest offset count s m e g.cells change) g_home apart) k)
+      (λ i h is apart. value_stays p.layout offset count m.storage (changed_in change offset count m.storage) m.counts (bytes_change done rest offset count s m e g.cells change) h apart) k)
   part_stands done rest (guard v wanted) s r m n e g h pack w of few k =
       subst (λ (j : Moment). PackStands p.layout pack (guarded_pack p a x s v wanted pack w) (storage j.storage j.counts)) (sym h.0.1)
       (all_guards_keep p statement a x pack few done rest v wanted e s m g.cells h.0.0 w k)

@@ -111,14 +111,14 @@ module _ (p : Program) (statement : ℕ) (a : Act) (x : Action) (done : List Par
   -- the item gets its number, as it is read back, and items that have none of its bytes keep theirs
   record IsFilled (held : List ℕ) (v : Fraction) : Type 0 where
     others : (h : Home) → is_beside p.layout place h ≡ false → values.value_at p.layout (storage (filled_at p.layout m.storage place held) m.counts) h ≡ values.value_at p.layout (storage m.storage m.counts) h
-    its : ((picture : List ℕ) (digits scale : ℕ) → form_at p.layout place ≡ form.Edited picture digits scale → ⊥)
+    new : ((picture : List ℕ) (digits scale : ℕ) → form_at p.layout place ≡ form.Edited picture digits scale → ⊥)
         → values.value_at p.layout (storage (filled_at p.layout m.storage place held) m.counts) (of_item place) ≡ Some (kept_units (receiver_of (form_at p.layout place)).signed (near mode v (pos (receiver_of (form_at p.layout place)).scale)))
 
   filled : (held : List ℕ) (is : Gets held) → IsFilled held is.v
   filled held is = by_item (item_there p place takes)
     where
       by_item : (i : Item) × (item_at p.layout place ≡ Some i) → IsFilled held is.v
-      by_item (item, at) = record { others = λ h e. others_stay p.layout place item at m.storage held m.counts long within h e; its = λ uncut. by_form (form_at p.layout place) refl uncut }
+      by_item (item, at) = record { others = λ h e. others_stay p.layout place item at m.storage held m.counts long within h e; new = λ uncut. by_form (form_at p.layout place) refl uncut }
         where
           its_form : form_at p.layout place ≡ item.form
           its_form = ap (λ (o : Option Item). option_map_or (λ k. k.form) o form.Group) at
@@ -166,11 +166,11 @@ module _ (p : Program) (statement : ℕ) (a : Act) (x : Action) (done : List Par
     to_scale = (receiver_of (form_at p.layout place)).scale
 
     -- a decimal of which what is said to be known is so
-    record IsKnown (g_form : Lin) (o : Option AmountRange) (v : Fraction) : Type 0 where
+    record IsKnown (f : Lin) (o : Option AmountRange) (v : Fraction) : Type 0 where
       u : Scaled
       same : v ≡ value_of u
-      shown : IsShown (size_of pack) Before g_form u (pack_decimals p.layout pack)
-      sure_ : AreSure (known_of_amount (size_of pack) w g_form to_scale o) u to_scale
+      shown : IsShown (size_of pack) Before f u (pack_decimals p.layout pack)
+      sure_ : AreSure (known_of_amount (size_of pack) w f to_scale o) u to_scale
 
     known_of : (f : Lin) (v : Fraction) (d : Scaled) → v ≡ value_of d → IsShown (size_of pack) Before f d (pack_decimals p.layout pack) → (o : Option AmountRange) → IsSomeAnd o (λ r. IsAmount r v) → IsKnown f o v
     known_of f v d e shown None h = absurd h
@@ -234,7 +234,7 @@ module _ (p : Program) (statement : ℕ) (a : Act) (x : Action) (done : List Par
             put_left p.layout pack (is_other p a x place) (storage m.storage m.counts) (storage (filled_at p.layout m.storage place held) m.counts) at (its_units is.v)
             (form_at_cell p a x t place mode y pack (suc at) (amount_form p pack t wrote place y) w)
             (cell_value p.layout pack (storage (filled_at p.layout m.storage place held) m.counts) at (of_item place) f
-            ∙ ap (λ (o : Option ℤ). option_map (λ z. z *ℤ pos (unit_of p.layout pack (of_item place))) o) (fill.its (λ picture digits scale k. edited_apart p place digits scale picture k (of.homes at (of_item place) f))))
+            ∙ ap (λ (o : Option ℤ). option_map (λ z. z *ℤ pos (unit_of p.layout pack (of_item place))) o) (fill.new (λ picture digits scale k. edited_apart p place digits scale picture k (of.homes at (of_item place) f))))
             (slice_get_within pack at (of_item place) f)
             (λ k h ne k_is is_left. fill.others h (other_test h is_left (other_cell p pack of (of_item place) h at k f k_is ne)))
             (cell_stands at f is.v (amount_meant p statement a x done place y t m g q unzero is.v is.worth_) (amount_form p pack t wrote place y) shown)
@@ -250,27 +250,22 @@ module _ (p : Program) (statement : ℕ) (a : Act) (x : Action) (done : List Par
 
   -- ---- why a receiver may keep its value
 
-  abbrev E : Bool
-  E = may_exceed p a x t place mode y
-
-  abbrev V : Bool
-  V = may_vanish t.common y
-
-  abbrev R : Bool
-  R = is_remainder y && t.any_fail
+  -- besides a result that doesn't fit
+  abbrev other_failures : Bool
+  other_failures = t.may_zero || (may_vanish t.common y || (is_remainder y && t.any_fail))
 
   -- a remainder of what is no quotient has no range
-  no_root : (s : Sum) (scale : ℕ) → y ≡ remaining s scale → root_of s ≡ None → E ≡ true
+  no_root : (s : Sum) (scale : ℕ) → y ≡ remaining s scale → root_of s ≡ None → may_exceed p a x t place mode y ≡ true
   no_root s scale same none =
       by_taken (sum_range (range_at p g.taken.0) s)
       (g.taken.1 ∙ (ap (λ (o : Option Amount). o >>= operands (range_at p g.taken.0)) (its_amount p statement a x done place y q ∙ ap (λ (u : Amount). Some (of_operands u)) same) ∙ ap (taken_from (range_at p g.taken.0) s) none))
     where
-      by_taken : (o : Option Ranged) → t.common ≡ option_map alone o → E ≡ true
+      by_taken : (o : Option Ranged) → t.common ≡ option_map alone o → may_exceed p a x t place mode y ≡ true
       by_taken None e = subst (λ (c : Option Taken). option_map_or (result.may_fail mode (receiver_of (form_at p.layout place))) (c >>= amount_of y (range_at p t.cells place)) true ≡ true) (sym e) refl
       by_taken (Some r) e = subst (λ (c : Option Taken). option_map_or (result.may_fail mode (receiver_of (form_at p.layout place))) (c >>= amount_of y (range_at p t.cells place)) true ≡ true) (sym e)
           (subst (λ (u : Amount). option_map_or (result.may_fail mode (receiver_of (form_at p.layout place))) (amount_of u (range_at p t.cells place) (alone r)) true ≡ true) (sym same) refl)
 
-  exceeds : m.by_zero ≡ false → stored_bytes p.layout m place mode y ≡ None → E ≡ true
+  exceeds : m.by_zero ≡ false → stored_bytes p.layout m place mode y ≡ None → may_exceed p a x t place mode y ≡ true
   exceeds unzero e = by_amount (amount p.layout m y) refl e
     where
       told : (o : Option AmountRange) (v : Fraction) → IsSomeAnd o (λ r. IsAmount r v) → stored_units mode (form_at p.layout place) v ≡ None → option_map_or (result.may_fail mode (receiver_of (form_at p.layout place))) o true ≡ true
@@ -283,7 +278,7 @@ module _ (p : Program) (statement : ℕ) (a : Act) (x : Action) (done : List Par
       there : HasRoot p statement a x y → is_some (amount p.layout m y) ≡ true
       there root = amount_there p statement a x done place y t m g q unzero root
 
-      by_root : (s : Sum) (scale : ℕ) → y ≡ remaining s scale → amount p.layout m y ≡ None → (b : Bool) → is_some (root_of s) ≡ b → E ≡ true
+      by_root : (s : Sum) (scale : ℕ) → y ≡ remaining s scale → amount p.layout m y ≡ None → (b : Bool) → is_some (root_of s) ≡ b → may_exceed p a x t place mode y ≡ true
       by_root s scale same f true k = absurd (nothing_there f (there (subst (λ (u : Amount). HasRoot p statement a x u) (sym same) k)))
       by_root s scale same f false k = no_root s scale same (none_is (root_of s) k)
         where
@@ -291,29 +286,29 @@ module _ (p : Program) (statement : ℕ) (a : Act) (x : Action) (done : List Par
           none_is None h = refl
           none_is (Some c) h = absurd cc
 
-      by_kind : (u : Amount) → y ≡ u → amount p.layout m y ≡ None → E ≡ true
+      by_kind : (u : Amount) → y ≡ u → amount p.layout m y ≡ None → may_exceed p a x t place mode y ≡ true
       by_kind (remaining s scale) same f = by_root s scale same f (is_some (root_of s)) refl
       by_kind (computed s h) same f = absurd (nothing_there f (there (subst (λ (u : Amount). HasRoot p statement a x u) (sym same) tt)))
       by_kind (moved h) same f = absurd (nothing_there f (there (subst (λ (u : Amount). HasRoot p statement a x u) (sym same) tt)))
       by_kind (augmented h) same f = absurd (nothing_there f (there (subst (λ (u : Amount). HasRoot p statement a x u) (sym same) tt)))
 
-      by_amount : (o : Option Fraction) → amount p.layout m y ≡ o → (o >>= stored_units mode (form_at p.layout place)) ≡ None → E ≡ true
+      by_amount : (o : Option Fraction) → amount p.layout m y ≡ o → (o >>= stored_units mode (form_at p.layout place)) ≡ None → may_exceed p a x t place mode y ≡ true
       by_amount None f h = by_kind y refl f
       by_amount (Some v) f h = told (amount_at p a x t place y) v (amount_meant p statement a x done place y t m g q unzero v f) h
 
-  fails_by : handled p a x ≡ true → (E || (t.may_zero || (V || R))) ≡ true → may_fail p a x t place mode y ≡ true
-  fails_by on e = and_true (handled p a x) (E || (t.may_zero || (V || R))) on e
+  fails_by : handled p a x ≡ true → (may_exceed p a x t place mode y || other_failures) ≡ true → may_fail p a x t place mode y ≡ true
+  fails_by on e = and_true (handled p a x) (may_exceed p a x t place mode y || other_failures) on e
 
   -- a remainder behind a failed quotient, and what stands behind a divisor that is 0
-  alone_fails : is_left_alone m y ≡ true → (E || (t.may_zero || (V || R))) ≡ true
+  alone_fails : is_left_alone m y ≡ true → (may_exceed p a x t place mode y || other_failures) ≡ true
   alone_fails e = by_zero m.by_zero refl y refl e
     where
-      by_quotient : (b : Bool) → m.by_zero ≡ b → is_remainder y ≡ true → (b || m.failed) ≡ true → b ≡ false → (E || (t.may_zero || (V || R))) ≡ true
+      by_quotient : (b : Bool) → m.by_zero ≡ b → is_remainder y ≡ true → (b || m.failed) ≡ true → b ≡ false → (may_exceed p a x t place mode y || other_failures) ≡ true
       by_quotient true f k h z = absurd cc
-      by_quotient false f k h z = or_right E (t.may_zero || (V || R)) (or_right t.may_zero (V || R) (or_right V R (and_true (is_remainder y) t.any_fail k (g.fails h f))))
+      by_quotient false f k h z = or_right (may_exceed p a x t place mode y) other_failures (or_right t.may_zero (may_vanish t.common y || (is_remainder y && t.any_fail)) (or_right (may_vanish t.common y) (is_remainder y && t.any_fail) (and_true (is_remainder y) t.any_fail k (g.fails h f))))
 
-      by_zero : (b : Bool) → m.by_zero ≡ b → (u : Amount) → y ≡ u → is_left_alone m u ≡ true → (E || (t.may_zero || (V || R))) ≡ true
-      by_zero true f u same h = or_right E (t.may_zero || (V || R)) (or_left t.may_zero (V || R) (g.zero f))
+      by_zero : (b : Bool) → m.by_zero ≡ b → (u : Amount) → y ≡ u → is_left_alone m u ≡ true → (may_exceed p a x t place mode y || other_failures) ≡ true
+      by_zero true f u same h = or_right (may_exceed p a x t place mode y) other_failures (or_left t.may_zero (may_vanish t.common y || (is_remainder y && t.any_fail)) (g.zero f))
       by_zero false f (remaining s scale) same h = by_quotient false f (ap is_remainder same) (subst (λ (b : Bool). (b || m.failed) ≡ true) f h) refl
       by_zero false f (computed s k) same h = absurd cc
       by_zero false f (moved k) same h = absurd cc
@@ -362,7 +357,7 @@ module _ (p : Program) (statement : ℕ) (a : Act) (x : Action) (done : List Par
     store_stands n off_zero h = by_edge (handled p a x) refl h
       where
         by_bytes : handled p a x ≡ true → m.by_zero ≡ false → (o : Option (List ℕ)) → stored_bytes p.layout m place mode y ≡ o → Behind (stored_or_kept p.layout m place o)
-        by_bytes on unzero None e = kept (fails_by on (or_left E (t.may_zero || (V || R)) (exceeds unzero e)))
+        by_bytes on unzero None e = kept (fails_by on (or_left (may_exceed p a x t place mode y) other_failures (exceeds unzero e)))
         by_bytes on unzero (Some held) e = fitted held unzero e
 
         not_alone : (u : Amount) → is_left_alone m u ≡ false → m.by_zero ≡ false
