@@ -1,5 +1,5 @@
 -- What is cleared before a part, by cells and by differences of them, isn't met there.
-use Rattle.std.proofs.Common.{◌≡◌, ◌<◌, ◌≤◌, ℕ, zero, suc, ◌+◌, ◌-◌, ◌^◌, ◌==◌, Bool, true, false, ◌&&◌, ◌||◌, not, if◌then◌else◌, ◌⊎◌, inl, inr, List, [], ◌∷◌, ◌++◌, Option, Some, None, is_some, ℤ, pos, neg_ℤ, ◌≤ℤ◌, ◌-ℤ◌, refl, sym, ap, subst, ◌∙◌, arith}
+use Rattle.std.proofs.Common.{◌≡◌, ◌<◌, ◌≤◌, ℕ, zero, suc, ◌-◌, ◌^◌, ◌==◌, Bool, true, false, ◌||◌, not, if◌then◌else◌, ◌⊎◌, inl, inr, List, [], ◌∷◌, ◌++◌, Option, Some, None, ℤ, pos, neg_ℤ, ◌≤ℤ◌, ◌-ℤ◌, refl, sym, ap, subst, ◌∙◌, arith}
 use Rattle.std.specs.Prelude.{IfSome, IsSomeAnd, nat_lt, unsigned_abs}
 use Rattle.std.specs.List.{Contains, list_all}
 use Rattle.std.specs.Option.{option_map_or}
@@ -33,7 +33,6 @@ use Rattle.cob_edge_parts.specs.Meaning as run
 use Rattle.cob_edge_parts.specs.Meaning.{Moment, divides_by, misfit_of, stored_bytes, amount, Faults}
 use Rattle.cob_edge_parts.specs.Edges.{fault_edge}
 use Rattle.linear_form.specs.declared.form.Lin.{Lin}
-use Rattle.sum_ranges.specs.Ranged.{decimal}
 use Rattle.sum_forms.specs.SumForms.{atom_form}
 use Rattle.result_ranges.specs.declared.amounts.Taken.{Taken}
 use Rattle.result_ranges.specs.declared.amounts.AmountRange.{AmountRange}
@@ -42,7 +41,7 @@ use Rattle.result_ranges.specs.Amounts.{IsAmount}
 use Rattle.result_ranges.specs.ResultRanges.{amount_units, most, lowered}
 use Rattle.result_ranges.proofs.Fitting.{units_hold}
 use Rattle.graph_runs.specs.Counters.{IsCount, IsTooGreat, PassesParts}
-use Rattle.edge_places.specs.Places.{IsDivided, Counts, IsStored}
+use Rattle.edge_places.specs.Places.{IsDivided, IsStored}
 use Rattle.cell_rows.specs.Known.{Known}
 use Rattle.cell_storages.specs.Homes.{Home, of_count, is_home, homes_of, picture_range}
 use Rattle.cell_storages.specs.Storages.{storage, known_of}
@@ -61,11 +60,10 @@ use Rattle.cell_edges.proofs.PartsKeep.{sent_holds, counted_down, lower_holds, o
 use Rattle.cell_edges.proofs.HomesHold.{if_home, count_holds}
 use Rattle.cell_edges.proofs.QuietParts.{times_small}
 use Rattle.cell_edges.proofs.PartsClear.{cleared}
-use Rattle.diff_steps.specs.Packs.{Pack, size_of, pack_decimals, cells_in}
+use Rattle.diff_steps.specs.Packs.{Pack, pack_decimals}
 use Rattle.diff_steps.specs.Moments.{Seen2}
 use Rattle.diff_steps.specs.Forms.{cell_at, amount_form, sender_form, set_form, lowered_form, has_operands, is_whole_sender}
 use Rattle.diff_steps.specs.Clearing.{some_pack, ends_fit, is_apart_in, amounts_fit, store_fits, clears_part2}
-use Rattle.pack_laws.specs.Orders.{IsShown}
 use Rattle.pack_edges.specs.Agreeing.{ArePacksOf, Agrees2}
 use Rattle.pack_edges.specs.Showing.{ShowsAt, ShowsValueAt}
 use Rattle.pack_edges.proofs.CellLaws.{cell_laws}

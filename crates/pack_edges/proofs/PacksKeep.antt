@@ -1,6 +1,6 @@
 -- What is known of differences behind a part is true where what is known before it is.
-use Rattle.std.proofs.Common.{◌≡◌, ◌≤◌, ℕ, zero, suc, ◌+◌, ◌==◌, Bool, true, false, ◌||◌, if◌then◌else◌, List, [], ◌∷◌, ◌++◌, Option, Some, None, ℤ, pos, ◌-ℤ◌, ◌≤ℤ◌, refl, sym, ap, subst, ◌∙◌, arith}
-use Rattle.std.specs.Prelude.{IfSome, IsSomeAnd, slice_set, ◌-◌}
+use Rattle.std.proofs.Common.{◌≡◌, ◌≤◌, ℕ, zero, suc, ◌+◌, ◌==◌, Bool, true, false, ◌||◌, if◌then◌else◌, List, [], ◌∷◌, ◌++◌, Option, Some, None, ℤ, pos, ◌-ℤ◌, refl, sym, ap, subst, ◌∙◌}
+use Rattle.std.specs.Prelude.{IfSome, IsSomeAnd}
 use Rattle.std.specs.List.{list_any}
 use Rattle.std.specs.Option.{option_map, option_map_or}
 use Rattle.std.proofs.lemmas.Bool.{eqb-true}
@@ -18,7 +18,7 @@ use Rattle.cob_runs.specs.Contents.{item_at, form_at, scale_of, scaled_by, numbe
 use Rattle.cob_runs.specs.Computing.{worth}
 use Rattle.cob_runs.specs.Moves.{number_of}
 use Rattle.cob_edge_parts.specs.Parts.{Part, read, unread, divide, store, bytes_in, guard, read_count, set_count, count_down, guard_count, parts_of}
-use Rattle.cob_edge_parts.specs.Meaning.{Moment, with_storage, with_count, divided_by_zero, changed_in, divides_by, Divides}
+use Rattle.cob_edge_parts.specs.Meaning.{Moment, divided_by_zero, changed_in, divides_by, Divides}
 use Rattle.cob_edge_parts.specs.Ranges.{ChangesWithin}
 use Rattle.cob_program.specs.Sum.{Atom}
 use Rattle.dom_laws.specs.Meaning.{Storage}

@@ -1,35 +1,33 @@
 -- A counter with a cell in a pack gets a number.
-use Rattle.std.proofs.Common.{◌≡◌, ◌≢◌, ℕ, zero, suc, ◌+◌, ◌-◌, ◌*◌, ◌^◌, ◌<◌, ◌≤◌, ◌==◌, Bool, true, false, List, ℤ, pos, ◌+ℤ◌, ◌*ℤ◌, ◌≤ℤ◌, Option, Some, None, refl, sym, ap, subst, ◌∙◌, arith}
+use Rattle.std.proofs.Common.{◌≡◌, ℕ, suc, ◌+◌, ◌-◌, ◌^◌, ◌≤◌, ◌==◌, true, false, List, ℤ, pos, ◌+ℤ◌, ◌*ℤ◌, ◌≤ℤ◌, Option, Some, None, refl, ap, subst, ◌∙◌, arith}
 use Rattle.std.specs.Prelude.{IfSome, slice_get, slice_set}
 use Rattle.std.specs.Option.{option_map}
 use Rattle.std.proofs.lemmas.Int.{ints}
-use Rattle.std.proofs.lemmas.Bool.{eqb-true, eq-eqb}
+use Rattle.std.proofs.lemmas.Bool.{eq-eqb}
 use Rattle.std.proofs.lemmas.Option.{slice_get_within}
 use Rattle.dec_num.specs.declared.types.Scaled.{Scaled}
 use Rattle.dec_num.specs.Exact.{Fraction}
 use Rattle.dec_num.specs.Scaled.{value_of}
 use Rattle.cob_program.specs.Act.{Act, Program}
 use Rattle.cob_runs.specs.declared.action.Action.{Action}
-use Rattle.cob_edge_parts.specs.Meaning.{Moment, count_in}
+use Rattle.cob_edge_parts.specs.Meaning.{Moment}
 use Rattle.linear_form.specs.declared.form.Lin.{Lin}
 use Rattle.linear_form.specs.Forms.{coef, dot}
 use Rattle.diff_bounds.specs.Matrix.{word}
 use Rattle.diff_bounds.specs.Storages.{StandsIn}
-use Rattle.form_bounds.specs.Values.{worths, values_in}
+use Rattle.form_bounds.specs.Values.{worths}
 use Rattle.form_images.specs.Assigned.{with_value, IsValue}
-use Rattle.store_error.specs.Scales.{Spans}
 use Rattle.cell_rows.specs.Known.{Known}
-use Rattle.cell_storages.specs.Homes.{Home, of_item, of_count, is_home, homes_of}
+use Rattle.cell_storages.specs.Homes.{Home, of_item, of_count, is_home}
 use Rattle.cell_storages.specs.Storages as values
 use Rattle.cell_storages.specs.Storages.{storage}
 use Rattle.cell_steps.specs.Agreeing.{IsSoundEdge}
 use Rattle.cell_edges.proofs.Counters.{count_set, count_elsewhere, differs}
 use Rattle.diff_steps.specs.Packs.{Pack, size_of, cell_of, pack_decimals, unit_of, cells_in, PackStands}
-use Rattle.diff_steps.specs.Matrices.{forgotten}
 use Rattle.diff_steps.specs.Stores.{assigned_or_forgotten}
 use Rattle.diff_steps.specs.Steps.{counter_stored, counted_pack}
 use Rattle.pack_laws.specs.Orders.{IsShown}
-use Rattle.pack_laws.proofs.Kept.{forgotten_stands, assigned_stands}
+use Rattle.pack_laws.proofs.Kept.{assigned_stands}
 use Rattle.pack_edges.specs.Agreeing.{IsPackOf}
 use Rattle.pack_edges.proofs.PacksKeepCells.{found_cell, cell_value, all_left, put_all, with_any, not_home, other_cell}
 

@@ -1,5 +1,5 @@
 -- Stores: what is known of differences behind them is true of what a run leaves.
-use Rattle.std.proofs.Common.{◌≡◌, ◌≢◌, ◌<◌, ◌≤◌, ℕ, zero, suc, ◌+◌, ◌-◌, ◌^◌, Bool, true, false, ◌&&◌, ◌||◌, not, if◌then◌else◌, inl, inr, List, [], ◌∷◌, ◌++◌, length, Option, Some, None, is_some, ℤ, pos, ◌*ℤ◌, refl, sym, ap, subst, ◌∙◌, arith}
+use Rattle.std.proofs.Common.{◌≡◌, ◌<◌, ◌≤◌, ℕ, suc, ◌+◌, ◌-◌, ◌^◌, Bool, true, false, ◌&&◌, ◌||◌, not, if◌then◌else◌, List, length, Option, Some, None, is_some, ℤ, pos, ◌*ℤ◌, refl, sym, ap, subst, ◌∙◌, arith}
 use Rattle.std.specs.Prelude.{IfSome, IsSomeAnd, nat_lt, slice_get, unsigned_abs}
 use Rattle.std.specs.Option.{option_map, option_map_or}
 use Rattle.std.proofs.lemmas.Bool.Decides.{nat_tests}
@@ -19,15 +19,14 @@ use Rattle.cob_program.specs.Act.{Act, Program}
 use Rattle.cob_runs.specs.declared.action.Action.{Action}
 use Rattle.cob_runs.specs.Contents.{form_at, item_at, bytes_of, digits_of, scale_of, scaled_by, number_at, filled_at, if_held, stored as stored_units}
 use Rattle.cob_runs.specs.Moves.{takes_number}
-use Rattle.cob_edge_parts.specs.Parts.{Amount, moved, computed, remaining, augmented, Part, store}
-use Rattle.cob_edge_parts.specs.Meaning.{Moment, with_storage, with_failure, is_left_alone, stored_bytes, stored_or_kept, amount, Stores}
+use Rattle.cob_edge_parts.specs.Parts.{Amount, moved, computed, remaining, augmented, Part}
+use Rattle.cob_edge_parts.specs.Meaning.{Moment, with_storage, is_left_alone, stored_bytes, stored_or_kept, amount, Stores}
 use Rattle.linear_form.specs.declared.form.Lin.{Lin}
 use Rattle.linear_form.specs.Forms.{coef, dot}
 use Rattle.diff_bounds.specs.Matrix.{word}
 use Rattle.diff_bounds.specs.Storages.{StandsIn}
 use Rattle.form_bounds.specs.Values.{worths}
 use Rattle.form_images.specs.Assigned.{with_value}
-use Rattle.store_error.specs.declared.known.Known as sure
 use Rattle.store_error.specs.Errors.{AreSure}
 use Rattle.store_error.specs.Scales.{Spans}
 use Rattle.sum_ranges.specs.declared.ranged.Ranged.{Ranged}
@@ -46,25 +45,25 @@ use Rattle.cell_storages.specs.Homes.{Home, of_item, is_home}
 use Rattle.cell_storages.specs.Storages as values
 use Rattle.cell_storages.specs.Storages.{storage}
 use Rattle.cell_steps.specs.Cells.{is_beside}
-use Rattle.cell_steps.specs.Operands.{edge_amount, amount_of, is_remainder}
+use Rattle.cell_steps.specs.Operands.{amount_of, is_remainder}
 use Rattle.cell_steps.specs.Seen.{Seen}
 use Rattle.cell_steps.specs.Stores.{range_at, handled, may_vanish, amount_at, result_at, may_exceed, may_fail, may_fit}
-use Rattle.cell_steps.specs.Agreeing.{IsSoundEdge, of_operands}
+use Rattle.cell_steps.specs.Agreeing.{of_operands}
 use Rattle.cell_edges.proofs.PartsDone.{and_true}
 use Rattle.cell_edges.proofs.OperandsRise.{or_left, or_right}
-use Rattle.cell_edges.proofs.Frames.{filled_length, others_stay, held_value}
+use Rattle.cell_edges.proofs.Frames.{others_stay, held_value}
 use Rattle.cell_edges.proofs.StoresKeep.{then_holds, then_is, TakenAt, HasRoot, amount_there, its_amount, amount_meant}
-use Rattle.diff_steps.specs.Packs.{Pack, size_of, cell_of, decimals_of, pack_decimals, unit_of, cells_in, PackStands}
+use Rattle.diff_steps.specs.Packs.{Pack, size_of, cell_of, pack_decimals, unit_of, cells_in, PackStands}
 use Rattle.diff_steps.specs.Matrices.{bottom}
 use Rattle.diff_steps.specs.Moments.{Bytes}
 use Rattle.diff_steps.specs.Forms.{amount_form, has_operands}
-use Rattle.diff_steps.specs.Stores.{known_of_amount, form_stored, forgotten_cells}
+use Rattle.diff_steps.specs.Stores.{known_of_amount, forgotten_cells}
 use Rattle.diff_steps.specs.Steps.{by_outcome, is_other, form_at_cell, stored_cell, stored_pack, is_lost, lost_pack, pack_behind_store}
 use Rattle.pack_laws.specs.Orders.{IsShown}
 use Rattle.pack_laws.proofs.Stored.{form_stands}
 use Rattle.pack_laws.proofs.Signs.{known_is_sure}
 use Rattle.pack_edges.specs.Agreeing.{IsPackOf}
-use Rattle.pack_edges.specs.Showing.{ShowsAt, ShowsValueAt}
+use Rattle.pack_edges.specs.Showing.{ShowsValueAt}
 use Rattle.pack_edges.proofs.CellLaws.{cell_laws}
 use Rattle.pack_edges.proofs.PacksKeepCells.{found_cell, decimals_within, cell_value, homes_left, put_left, with_any, not_home, other_cell, edited_apart}
 use Rattle.pack_edges.proofs.PacksKeepCounters.{same_shown}
@@ -159,8 +158,8 @@ module _ (p : Program) (statement : ℕ) (a : Act) (x : Action) (done : List Par
   receiver_scale (form.Number digits scale signed kept) = refl
 
   module _ (pack : Pack) (of : IsPackOf p pack) (few : size_of pack ≤ 8) (wrote : List Bytes) (w : List ℤ) (stands : PackStands p.layout pack w (storage m.storage m.counts)) where
-    abbrev Before : ℕ → Option ℤ
-    Before = cells_in p.layout pack (storage m.storage m.counts)
+    abbrev values_before : ℕ → Option ℤ
+    values_before = cells_in p.layout pack (storage m.storage m.counts)
 
     abbrev to_scale : ℕ
     to_scale = (receiver_of (form_at p.layout place)).scale
@@ -169,18 +168,18 @@ module _ (p : Program) (statement : ℕ) (a : Act) (x : Action) (done : List Par
     record IsKnown (f : Lin) (o : Option AmountRange) (v : Fraction) : Type 0 where
       u : Scaled
       same : v ≡ value_of u
-      shown : IsShown (size_of pack) Before f u (pack_decimals p.layout pack)
+      shown : IsShown (size_of pack) values_before f u (pack_decimals p.layout pack)
       sure_ : AreSure (known_of_amount (size_of pack) w f to_scale o) u to_scale
 
-    known_of : (f : Lin) (v : Fraction) (d : Scaled) → v ≡ value_of d → IsShown (size_of pack) Before f d (pack_decimals p.layout pack) → (o : Option AmountRange) → IsSomeAnd o (λ r. IsAmount r v) → IsKnown f o v
+    known_of : (f : Lin) (v : Fraction) (d : Scaled) → v ≡ value_of d → IsShown (size_of pack) values_before f d (pack_decimals p.layout pack) → (o : Option AmountRange) → IsSomeAnd o (λ r. IsAmount r v) → IsKnown f o v
     known_of f v d e shown None h = absurd h
     known_of f v d e shown (Some (range.Decimal r)) (u, inside, same) =
-        let its = same_shown (size_of pack) Before f d u (pack_decimals p.layout pack) (sym same ∙ e) shown in
+        let its = same_shown (size_of pack) values_before f d u (pack_decimals p.layout pack) (sym same ∙ e) shown in
         record {
           u = u;
           same = same;
           shown = its;
-          sure_ = known_is_sure (size_of pack) w Before few stands f its.over u (pack_decimals p.layout pack) its.spans to_scale r inside;
+          sure_ = known_is_sure (size_of pack) w values_before few stands f its.over u (pack_decimals p.layout pack) its.spans to_scale r inside;
         }
     known_of f v d e shown (Some (range.Quotient top under)) h = record { u = d; same = e; shown = shown; sure_ = record { whole = λ k. absurd cc; not_negative = λ k. absurd cc; not_positive = λ k. absurd cc } }
     known_of f v d e shown (Some (range.Remainder top under scale)) h = record { u = d; same = e; shown = shown; sure_ = record { whole = λ k. absurd cc; not_negative = λ k. absurd cc; not_positive = λ k. absurd cc } }
@@ -189,16 +188,16 @@ module _ (p : Program) (statement : ℕ) (a : Act) (x : Action) (done : List Par
     its_units v = kept_units (receiver_of (form_at p.layout place)).signed (near mode v (pos to_scale)) *ℤ pos (unit_of p.layout pack (of_item place))
 
     cell_stands : (at : ℕ) → slice_get pack at ≡ Some (of_item place) → (v : Fraction) → IsSomeAnd (amount_at p a x t place y) (λ r. IsAmount r v) → (o : Option Lin) → IfSome o (ShowsValueAt p.layout pack m v)
-        → StandsIn (size_of pack + 1) (word (size_of pack + 1) (form_at_cell p a x t place mode y pack (suc at) o w)) (with_value Before (suc at) (its_units v))
-    cell_stands at e v meant None h = with_any (size_of pack) w Before (suc at) (its_units v) (let lt = slice_get_within pack at (of_item place) e in omega (arith, lt)) stands
+        → StandsIn (size_of pack + 1) (word (size_of pack + 1) (form_at_cell p a x t place mode y pack (suc at) o w)) (with_value values_before (suc at) (its_units v))
+    cell_stands at e v meant None h = with_any (size_of pack) w values_before (suc at) (its_units v) (let lt = slice_get_within pack at (of_item place) e in omega (arith, lt)) stands
     cell_stands at e v meant (Some f) (d, same, shown) =
         let k = known_of f v d same shown (amount_at p a x t place y) meant in
         let scales : to_scale + (pack_decimals p.layout pack - scale_of (form_at p.layout place)) ≡ pack_decimals p.layout pack =
         (let le = decimals_within p.layout pack at (of_item place) e in let rs = receiver_scale (form_at p.layout place) in omega (arith, le, rs)) in
-        subst (λ (q : Fraction). StandsIn (size_of pack + 1) (word (size_of pack + 1) (form_at_cell p a x t place mode y pack (suc at) (Some f) w)) (with_value Before (suc at) (its_units q))) (sym k.same)
-        (form_stands (size_of pack) Before w (suc at) few (omega arith) (let lt = slice_get_within pack at (of_item place) e in omega (arith, lt)) stands
+        subst (λ (q : Fraction). StandsIn (size_of pack + 1) (word (size_of pack + 1) (form_at_cell p a x t place mode y pack (suc at) (Some f) w)) (with_value values_before (suc at) (its_units q))) (sym k.same)
+        (form_stands (size_of pack) values_before w (suc at) few (omega arith) (let lt = slice_get_within pack at (of_item place) e in omega (arith, lt)) stands
         f (receiver_of (form_at p.layout place)).signed mode (known_of_amount (size_of pack) w f to_scale (amount_at p a x t place y)) k.u to_scale (pack_decimals p.layout pack - scale_of (form_at p.layout place))
-        k.shown.over k.shown.operands k.sure_ (subst (λ (n : ℕ). Spans (dot (coef f) (λ j. worths Before (suc j)) 8) f.constant k.u n) (sym scales) k.shown.spans))
+        k.shown.over k.shown.operands k.sure_ (subst (λ (n : ℕ). Spans (dot (coef f) (λ j. worths values_before (suc j)) 8) f.constant k.u n) (sym scales) k.shown.spans))
 
     other_test : (h : Home) → is_other p a x place h ≡ false → is_home h (of_item place) ≡ false → is_beside p.layout place h ≡ false
     other_test h e ne = go (is_beside p.layout place h) (is_home h (of_item place)) ne e

@@ -1,5 +1,5 @@
 -- What is known of differences behind an edge is true of what its parts lead to.
-use Rattle.std.proofs.Common.{◌≡◌, ◌≤◌, ℕ, Bool, true, false, ◌&&◌, not, if◌then◌else◌, List, [], ◌∷◌, ◌++◌, Option, Some, None, ℤ, refl, sym, ap, subst, ◌∙◌}
+use Rattle.std.proofs.Common.{◌≡◌, ℕ, Bool, true, false, ◌&&◌, not, if◌then◌else◌, List, [], ◌∷◌, Option, Some, None, ℤ, refl, sym, ap, subst, ◌∙◌}
 use Rattle.std.specs.Prelude.{IfSome, IsSomeAnd}
 use Rattle.cob_program.specs.Values.{◌>>=◌}
 use Rattle.cob_program.specs.Act.{Act, Program}
@@ -14,7 +14,7 @@ use Rattle.cell_steps.specs.Seen.{Seen, beginning}
 use Rattle.cell_steps.specs.Stores.{handled}
 use Rattle.cell_steps.specs.Steps.{step}
 use Rattle.cell_steps.specs.Edges.{steps, finished}
-use Rattle.cell_steps.specs.Agreeing.{IsSoundEdge, Agrees}
+use Rattle.cell_steps.specs.Agreeing.{IsSoundEdge}
 use Rattle.cell_edges.proofs.EachEdge.{all_posts_stand}
 use Rattle.cell_edges.proofs.StoresKeep.{then_is}
 use Rattle.diff_steps.specs.Packs.{Pack, PacksStand}
