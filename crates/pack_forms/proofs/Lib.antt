@@ -1,0 +1,4 @@
+pub mod Units
+pub mod Quotients
+pub mod FormsAgree
+pub mod Places
