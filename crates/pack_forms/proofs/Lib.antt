@@ -2,3 +2,5 @@ pub mod Units
 pub mod Quotients
 pub mod FormsAgree
 pub mod Places
+pub mod Reading
+pub mod Counting

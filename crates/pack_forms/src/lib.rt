@@ -3,9 +3,18 @@
 #![tactic(auto)]
 
 mod cells;
+mod counters;
 mod forms;
+mod operands;
 mod pack;
+mod senders;
+mod sides;
+mod sums;
 mod taken;
 
 pub use cells::{PackCell, pack_decimals, unit_of};
+pub use counters::lowered_form;
+pub use operands::has_operands;
 pub use pack::PackView;
+pub use senders::sender_form;
+pub use sides::{are_fine, difference_form, divisor_form};

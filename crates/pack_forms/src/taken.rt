@@ -1,6 +1,5 @@
 //! What operands were when they were taken.
-ghost use Rattle.std.specs.Prelude.{◌≡◌, ◌≤◌, Bool, Some, IfSome};
-ghost use Rattle.cob_program.specs.Values.{◌>>=◌};
+ghost use Rattle.std.specs.Prelude.{◌≡◌, ◌≤◌, None, IfSome};
 ghost use Rattle.sum_ranges.specs.SumRanges.{quotient_range};
 ghost use Rattle.sum_ranges.specs.Sizes.{IsSmallRange};
 ghost use Rattle.sum_ranges.specs.Working.{CanDivideRanges};
@@ -8,7 +7,7 @@ ghost use Rattle.sum_forms.specs.Values.{IsForm};
 ghost use Rattle.cell_steps.specs.Operands.{settled};
 ghost use Rattle.cell_amounts.specs.Working.{CanSettle};
 ghost use Rattle.pack_forms.specs.Sizes.{HasSmallTop};
-ghost use Rattle.pack_forms.specs.Working.{kept_by, taken_by};
+ghost use Rattle.pack_forms.specs.Working.{settled_if, kept_by};
 
 use linear_form::Lin;
 use result_ranges::Taken;
@@ -50,7 +49,7 @@ fn settled(taken: Taken) -> Option<Taken>
 pub(crate) fn settled_operands(common: Option<Taken>) -> Option<Taken>
     requires can { IfSome common CanSettle }
     requires small { IfSome common HasSmallTop }
-    ensures value { result ≡ (common >>= settled) }
+    ensures value { result ≡ settled_if common }
     ensures small { IfSome result HasSmallTop }
 {
     match common {
