@@ -4,3 +4,5 @@ pub mod FormsAgree
 pub mod Places
 pub mod Reading
 pub mod Counting
+pub mod Differences
+pub mod Having

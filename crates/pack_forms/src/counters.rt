@@ -23,7 +23,6 @@ use linear_form::Lin;
 use sum_forms::{cell_form, range_form};
 use sum_ranges::{Ranged, point};
 
-#[tactic(auto, using(crate::proofs::Counting::count_small))]
 fn count_range(items: &KnownItems, statement: u32) -> Ranged
     requires fits { CellsFit (owns (program_of items.now)) (known_in items.now) }
     ensures value { result ≡ ranged (units_of (program_of items.now).layout (homes_of (program_of items.now)) (known_in items.now) (of_count statement)) 0 }

@@ -1,11 +1,12 @@
 //! Forms of operands.
-ghost use Rattle.std.specs.Prelude.{◌≡◌, ◌||◌, ◌≤ℤ◌, true, false, is_some, Option, List, IfSome};
+ghost use Rattle.std.specs.Prelude.{◌≡◌, ◌||◌, ◌≤◌, true, false, is_some, Option, List, IfSome};
 ghost use Rattle.cob_program.specs.SumView.{plain_sum};
 ghost use Rattle.cob_calc.specs.Contents.{bound_at};
 ghost use Rattle.borrowed_parts.specs.PartView.{plain_amount};
-ghost use Rattle.sum_ranges.specs.SumRanges.{quotient_range};
+ghost use Rattle.sum_ranges.specs.SumRanges.{quotient_range, sum_range};
 ghost use Rattle.sum_ranges.specs.Taking.{is_small_taken};
 ghost use Rattle.sum_forms.specs.Values.{IsForm};
+ghost use Rattle.result_ranges.specs.Operands.{is_whole};
 ghost use Rattle.result_ranges.specs.Stores as stores;
 ghost use Rattle.cell_amounts.specs.Small.{is_small_amount};
 ghost use Rattle.cell_amounts.specs.Working.{CanSettle};
@@ -18,7 +19,7 @@ ghost use Rattle.diff_steps.specs.Forms as forms;
 ghost use Rattle.diff_steps.specs.Moments.{Bytes};
 ghost use Rattle.pack_forms.specs.Sizes.{HasSmallTop};
 ghost use Rattle.pack_forms.specs.Views.{item_cell, program_of, known_in, taken_at};
-ghost use Rattle.pack_forms.specs.Working.{settled_if, taken_by, operands_by};
+ghost use Rattle.pack_forms.specs.Working.{taken_by, operands_by};
 ghost use Rattle.pack_forms.specs.Writing.{amount_items, are_written};
 
 use crate::pack::PackView;
@@ -27,7 +28,7 @@ use crate::taken::{kept_form, settled_operands};
 use borrowed_parts::Amount;
 use cell_amounts::operands;
 use cell_walk::KnownItems;
-use cob_program::Sum;
+use cob_program::{How, Sum};
 use linear_form::Lin;
 use result_ranges::Taken;
 use sum_ranges::Ranged;
@@ -86,12 +87,20 @@ fn settles(taken: Taken) -> bool
     }
 }
 
-fn has_range(items: &KnownItems, amount: Amount) -> bool
+fn operands_of(items: &KnownItems, amount: Amount) -> Option<Taken>
     requires fits { CellsFit (owns (program_of items.now)) (known_in items.now) }
     requires small { is_small_amount (bound_at (program_of items.now).layout) (plain_amount amount) ≡ true }
-    ensures { result ≡ is_some (settled_if (stores.operands (range_at (program_of items.now) (known_in items.now)) (plain_amount amount.entry))) }
+    ensures { result ≡ stores.operands (range_at (program_of items.now) (known_in items.now)) (plain_amount amount.entry) }
 {
-    match operands(items, amount) {
+    operands(items, amount)
+}
+
+fn has_range(items: &KnownItems, sum: &Sum, how: How) -> bool
+    requires fits { CellsFit (owns (program_of items.now)) (known_in items.now) }
+    requires small { is_small_taken (bound_at (program_of items.now).layout) (is_whole how) (plain_sum sum.now) ≡ true }
+    ensures { result ≡ is_some (sum_range (range_at (program_of items.now) (known_in items.now)) (plain_sum sum.now)) }
+{
+    match operands_of(items, Amount::Computed(sum, how)) {
         None => false,
         Some(taken) => settles(taken),
     }
@@ -106,7 +115,7 @@ pub fn has_operands(items: &KnownItems, amount: Amount, written: bool) -> bool
         → result ≡ forms.has_operands (program_of items.now) (taken_at (known_in items.now) common) wrote (plain_amount amount.entry) }
 {
     match amount {
-        Amount::Computed(_, _) => written || has_range(items, amount),
+        Amount::Computed(sum, how) => written || has_range(items, sum, how),
         Amount::Moved(_) | Amount::Remaining(_, _) | Amount::Augmented(_) => true,
     }
 }

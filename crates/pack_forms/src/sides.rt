@@ -39,21 +39,24 @@ pub fn difference_form(items: &KnownItems, pack: &PackView, left: &Sum, right: &
     added(more, turned(less))
 }
 
-fn has_decimals(range: Option<Ranged>, decimals: u32) -> bool
-    ensures { result ≡ has_decimals decimals range }
+fn range_of_sum(items: &KnownItems, sum: &Sum) -> Option<Ranged>
+    requires fits { CellsFit (owns (program_of items.now)) (known_in items.now) }
+    requires small { is_small_sum (bound_at (program_of items.now).layout) (plain_sum sum.now) ≡ true }
+    ensures { result ≡ ranges.sum_range (range_at (program_of items.now) (known_in items.now)) (plain_sum sum.now) }
 {
-    match range {
-        None => false,
-        Some(range) => range.scale <= decimals,
-    }
+    sum_range(items, sum)
 }
 
 fn is_fine(items: &KnownItems, pack: &PackView, sum: &Sum) -> bool
     requires fits { CellsFit (owns (program_of items.now)) (known_in items.now) }
     requires small { is_small_sum (bound_at (program_of items.now).layout) (plain_sum sum.now) ≡ true }
-    ensures { result ≡ has_decimals pack.now.decimals (ranges.sum_range (range_at (program_of items.now) (known_in items.now)) (plain_sum sum.now)) }
+    ensures { result ≡ has_decimals pack.now.decimals (item_cell pack.now) (range_at (program_of items.now) (known_in items.now))
+        (ranges.sum_range (range_at (program_of items.now) (known_in items.now)) (plain_sum sum.now)) }
 {
-    has_decimals(sum_range(items, sum), pack.decimals)
+    match range_of_sum(items, sum) {
+        None => false,
+        Some(range) => range.scale <= pack.decimals,
+    }
 }
 
 /// Whether both sums are whole numbers of the pack's unit.

@@ -2,7 +2,7 @@
 ghost use Rattle.std.specs.Prelude.{◌≡◌, ◌&&◌, true, is_some, map, IfSome};
 ghost use Rattle.cob_program.specs.Bounds.{is_small_sum, is_small_atom};
 ghost use Rattle.cob_program.specs.Sum.{MkSum, parts_of, factors_of, more_parts, no_parts};
-ghost use Rattle.cob_program.specs.SumView.{plain_sum, plain_part, plain_factor};
+ghost use Rattle.cob_program.specs.SumView.{plain_sum, plain_part, plain_factor, plain_atom};
 ghost use Rattle.cob_program.specs.Values.{root_of, root_in};
 ghost use Rattle.cob_calc.specs.Contents.{bound_at};
 ghost use Rattle.sum_ranges.specs.Taking.{is_small_taken};
@@ -18,11 +18,11 @@ ghost use Rattle.pack_forms.specs.Working.{read_by};
 use crate::pack::PackView;
 use borrowed_parts::Divisor;
 use cell_walk::KnownItems;
-use cob_program::{Factor, Part, Sum};
+use cob_program::{Atom, Factor, Part, Sum};
 use linear_form::Lin;
 use sum_forms::{atom_form, sum_form};
 
-#[tactic(auto, using(cell_walk::proofs::ShortBounds::bounded, crate::proofs::FormsAgree::sum_form_is))]
+/// The form of a sum.
 pub(crate) fn form_of_sum(items: &KnownItems, pack: &PackView, sum: &Sum) -> Option<Lin>
     requires fits { CellsFit (owns (program_of items.now)) (known_in items.now) }
     requires small { is_small_sum (bound_at (program_of items.now).layout) (plain_sum sum.now) ≡ true }
@@ -32,7 +32,16 @@ pub(crate) fn form_of_sum(items: &KnownItems, pack: &PackView, sum: &Sum) -> Opt
     sum_form(items, pack, sum)
 }
 
-#[tactic(auto, using(cell_walk::proofs::ShortBounds::bounded, crate::proofs::FormsAgree::atom_form_is))]
+fn form_of_operand(items: &KnownItems, pack: &PackView, atom: &Atom) -> Option<Lin>
+    requires fits { CellsFit (owns (program_of items.now)) (known_in items.now) }
+    requires small { is_small_atom (bound_at (program_of items.now).layout) (plain_atom atom.now) ≡ true }
+    ensures value { result ≡ sums.atom_form pack.now.decimals (item_cell pack.now) (range_at (program_of items.now) (known_in items.now)) (plain_atom atom.now) }
+    ensures good { IfSome result IsForm }
+{
+    atom_form(items, pack, atom)
+}
+
+/// The form of a divisor.
 pub(crate) fn form_of_divisor(items: &KnownItems, pack: &PackView, divisor: Divisor) -> Option<Lin>
     requires fits { CellsFit (owns (program_of items.now)) (known_in items.now) }
     requires small { is_small_atom (bound_at (program_of items.now).layout) (plain_divisor divisor) ≡ true }
@@ -40,7 +49,7 @@ pub(crate) fn form_of_divisor(items: &KnownItems, pack: &PackView, divisor: Divi
     ensures good { IfSome result IsForm }
 {
     match divisor {
-        Divisor::Inner(atom) => atom_form(items, pack, atom),
+        Divisor::Inner(atom) => form_of_operand(items, pack, atom),
         Divisor::Whole(sum) => form_of_sum(items, pack, sum),
     }
 }
