@@ -1,0 +1,4 @@
+pub mod Marks
+pub mod PackForms
+pub mod SameWords
+pub mod Shown

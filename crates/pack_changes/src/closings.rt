@@ -1,0 +1,89 @@
+//! The closing of a pack's matrix, once it is lowered to what is known of the pack's cells.
+ghost use Rattle.std.specs.Prelude.{◌≡◌, ℕ, ◌+◌, ◌<◌, ◌≤◌, neg_ℤ, ◌*ℤ◌, IsTrue, length, List, Some, None, if◌then◌else◌};
+ghost use Rattle.cob_data.specs.declared.layout.Layout.{Layout};
+ghost use Rattle.diff_bounds.specs.Matrix.{word, IsMatrix};
+ghost use Rattle.closed_matrices.specs.Closed.{closed};
+ghost use Rattle.cell_rows.specs.Known.{Known};
+ghost use Rattle.cell_storages.specs.Homes.{Home};
+ghost use Rattle.diff_steps.specs.Packs.{Pack};
+ghost use Rattle.diff_steps.specs.Matrices.{with_words, put_closed};
+ghost use Rattle.pack_changes.specs.Cells.{put_cells, known_cells, HasEnds, HaveEnds, IsPutAt};
+ghost use Rattle.pack_changes.specs.Ends.{IsNumber};
+
+use decimal_interval::Interval;
+use diff_bounds::{add_bound, close};
+
+/// What is known of a cell of a pack.
+#[derive(Clone, Copy, Debug, PartialEq, Eq)]
+pub struct KnownCell {
+    /// An interval of the cell's own units, or anything.
+    pub known: Option<Interval>,
+    /// How many of the pack's units one of the cell's is.
+    pub unit: i128,
+}
+
+// an end in the pack's units
+fn in_units(end: i128, unit: i128) -> i128
+    requires { IsNumber (end *ℤ unit) }
+    ensures value { result ≡ end *ℤ unit }
+    ensures number { IsNumber result }
+{
+    end * unit
+}
+
+// the number with the other sign
+fn opposite(z: i128) -> i128
+    requires { IsNumber z }
+    ensures value { result ≡ neg_ℤ z }
+    ensures number { IsNumber result }
+{
+    -z
+}
+
+// lowers the words of a cell to what is known of it
+fn put_known(size: usize, m: &mut [i128], place: usize, cell: KnownCell)
+    requires size { size ≤ 8 }
+    requires m { IsMatrix size m.old }
+    requires first { 1 ≤ place }
+    requires last { place ≤ size }
+    requires cell { HasEnds cell }
+    ensures words { IsPutAt size place cell (word (size + 1) m.old) (word (size + 1) m.new) }
+    ensures matrix { IsMatrix size m.new }
+{
+    if let Some(known) = cell.known {
+        let high = in_units(known.high, cell.unit);
+        add_bound(size, m, place, 0, high);
+        let low = opposite(in_units(known.low, cell.unit));
+        add_bound(size, m, 0, place, low);
+    }
+}
+
+// lowers the words of all cells to what is known of them
+fn put_all(size: usize, m: &mut [i128], cells: &[KnownCell])
+    requires size { size ≤ 8 }
+    requires m { IsMatrix size m.old }
+    requires cells { length cells.now ≤ size }
+    requires ends { HaveEnds cells.now }
+    ensures value { m.new ≡ with_words size (put_cells cells.now (word (size + 1) m.old)) }
+    ensures matrix { IsMatrix size m.new }
+{
+    for k in 0..cells.len() {
+        put_known(size, m, k + 1, cells[k]);
+    }
+}
+
+/// Lowers the words to what is known of the pack's cells, in its order, and closes the matrix, if no cycle is negative
+/// then. Says whether that is so. After `false` the words are not to be used.
+pub fn close_pack(size: usize, m: &mut [i128], cells: &[KnownCell]) -> bool
+    requires size { size ≤ 8 }
+    requires m { IsMatrix size m.old }
+    requires cells { length cells.now ≡ size }
+    requires ends { HaveEnds cells.now }
+    ensures closed { closed size (with_words size (put_cells cells.now (word (size + 1) m.old))) ≡ (if result then Some m.new else None) }
+    ensures closing { (l : Layout) (homes : List Home) (known : List Known) (pack : Pack) → cells.now ≡ known_cells l homes known pack
+        → put_closed l homes known pack m.old ≡ (if result then Some m.new else None) }
+    ensures matrix { IsTrue result → IsMatrix size m.new }
+{
+    put_all(size, m, cells);
+    close(size, m)
+}

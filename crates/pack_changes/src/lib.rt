@@ -1,0 +1,27 @@
+//! Changes of a pack's difference-bound matrix in place, by what is known of the pack's cells and by linear forms over
+//! them (Miné 2001): closings, stores, demands, and cells that are forgotten.
+//!
+//! A matrix for a pack of `size` cells, at most 8, has `(size + 1)^2` words, row by row, as in `diff_bounds`. Numbers are
+//! in units of the pack. No call takes memory.
+#![tactic(auto)]
+
+mod bounds;
+mod closings;
+mod forms;
+mod gone;
+mod images;
+mod orders;
+mod receivers;
+mod stores;
+
+pub use bounds::{bound, bound_of_negated, known_of_amount, known_of_range};
+pub use closings::{KnownCell, close_pack};
+pub use forms::turned;
+pub use gone::forget_cells;
+pub use images::{assign_or_forget, lower_to};
+pub use orders::{demand_if, order};
+pub use receivers::fits;
+pub use stores::{store_absolute, store_form, store_value};
+
+
+

@@ -1,0 +1,53 @@
+//! Whether a receiver can hold what bounds say of an amount.
+ghost use Rattle.std.specs.Prelude.{◌≡◌, ◌≤◌, ◌^◌, ◌*◌, pos, ◌≤ℤ◌, nat_lt, unsigned_abs, Some, IfSome};
+ghost use Rattle.diff_steps.specs.Clearing.{high_fits, low_fits};
+ghost use Rattle.pack_changes.specs.Ends.{IsNumber};
+
+use dec_num::{Mode, pow10};
+use result_ranges::Receiver;
+
+// whether so many units, times a power of ten, are less than a number
+fn is_less(units: i128, power: u32, limit: i128) -> bool
+    requires units { pos 0 ≤ℤ units }
+    requires power { power ≤ 38 }
+    requires limit { pos 0 ≤ℤ limit }
+    ensures { result ≡ nat_lt (unsigned_abs units * 10 ^ power) (unsigned_abs limit) }
+{
+    match units.checked_mul(pow10(power)) {
+        Some(product) => product < limit,
+        None => false,
+    }
+}
+
+// whether a number of so many units of a scale, cut or rounded, has no more digits than the receiver
+fn size_fits(mode: Mode, receiver: Receiver, decimals: u32, units: i128) -> bool
+    requires digits { receiver.digits ≤ 18 }
+    requires scale { receiver.scale ≤ 18 }
+    requires decimals { decimals ≤ 18 }
+    requires units { pos 0 ≤ℤ units }
+    requires number { IsNumber units }
+    ensures { result ≡ high_fits mode receiver decimals (Some units) }
+{
+    let limit = pow10(receiver.digits + decimals);
+    match mode {
+        Mode::Trunc => is_less(units, receiver.scale, limit),
+        Mode::Round => is_less(2 * units, receiver.scale, 2 * limit - pow10(decimals)),
+    }
+}
+
+/// Whether an amount that is at most so many units of a number of decimals, once it is cut or rounded, is at most the
+/// greatest number of a receiver. Likewise an amount that is at least the negative of so many units is at least the least
+/// one. Nothing is sure where there is no bound.
+pub fn fits(mode: Mode, receiver: Receiver, decimals: u32, bound: Option<i128>) -> bool
+    requires digits { receiver.digits ≤ 18 }
+    requires scale { receiver.scale ≤ 18 }
+    requires decimals { decimals ≤ 18 }
+    requires bound { IfSome bound IsNumber }
+    ensures high { result ≡ high_fits mode receiver decimals bound }
+    ensures low { result ≡ low_fits mode receiver decimals bound }
+{
+    match bound {
+        Some(units) => units <= 0 || size_fits(mode, receiver, decimals, units),
+        None => false,
+    }
+}
