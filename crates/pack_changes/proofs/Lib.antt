@@ -1,3 +1,4 @@
+pub mod KnownWords
 pub mod Marks
 pub mod PackForms
 pub mod SameWords
