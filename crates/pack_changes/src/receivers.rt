@@ -42,7 +42,11 @@ fn size_fits(mode: Mode, receiver: Receiver, decimals: u32, units: i128) -> bool
     let limit = pow10(receiver.digits + decimals);
     match mode {
         Mode::Trunc => is_less(units, receiver.scale, limit),
-        Mode::Round => is_less(2 * units, receiver.scale, twice_less(limit, pow10(decimals))),
+        Mode::Round => is_less(
+            2 * units,
+            receiver.scale,
+            twice_less(limit, pow10(decimals)),
+        ),
     }
 }
 

@@ -1,4 +1,4 @@
-use Rattle.std.proofs.Common.{◌+◌, sym, ap, ◌∙◌}
+use Rattle.std.proofs.Common.{sym, ap, ◌∙◌}
 use Rattle.closed_matrices.specs.Closed.{closed}
 use Rattle.pack_changes.proofs.KnownWords.{closing_is}
 use Rattle.pack_changes.proofs.Closing.{closed_by}

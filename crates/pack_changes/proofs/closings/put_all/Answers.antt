@@ -1,4 +1,4 @@
-use Rattle.std.proofs.Common.{◌+◌, get_or, arith}
+use Rattle.std.proofs.Common.{◌+◌, arith}
 use Rattle.std.proofs.lemmas.Option.{slice_get-get_or}
 use Rattle.diff_bounds.specs.Matrix.{word}
 use Rattle.pack_changes.proofs.KnownWords.{put_next, put_is}

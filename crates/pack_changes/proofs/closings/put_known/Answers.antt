@@ -1,4 +1,4 @@
-use Rattle.std.proofs.Common.{◌+◌, neg_ℤ, ap, ◌∙◌, arith, rules}
+use Rattle.std.proofs.Common.{◌+◌, neg_ℤ, ap, ◌∙◌, rules}
 use Rattle.std.specs.Int.{w128}
 use Rattle.std.proofs.lemmas.Int.{to_z-of_z}
 use Rattle.diff_bounds.specs.Matrix.{word}

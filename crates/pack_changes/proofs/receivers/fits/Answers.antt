@@ -1,7 +1,7 @@
-use Rattle.std.proofs.Common.{◌∙◌, rules}
+use Rattle.std.proofs.Common.{rules}
 use Rattle.std.specs.Int.{w128}
 use Rattle.std.proofs.lemmas.Int.{to_z-of_z}
-use Rattle.pack_changes.proofs.Sizes.{held_high, held_low, fits_low}
+use Rattle.pack_changes.proofs.Sizes.{held_high, held_low}
 use Rattle.pack_changes.proofs.receivers.fits.Goals as goal
 
 pub returns-then-units-le0-clause-high : goal.returns-then-units-le0-clause-high

@@ -1,6 +1,6 @@
-use Rattle.std.proofs.Common.{◌+◌, ◌^◌, ℤ, pos, ◌*ℤ◌, ◌-ℤ◌, ap, ◌∙◌, arith, rules}
+use Rattle.std.proofs.Common.{ℤ, pos, ◌*ℤ◌, ap, ◌∙◌, rules}
 use Rattle.std.specs.Int.{w128}
-use Rattle.std.proofs.lemmas.Int.{ints, to_z-of_z}
+use Rattle.std.proofs.lemmas.Int.{to_z-of_z}
 use Rattle.pack_changes.proofs.Sizes.{trunc_along, round_along, powers_rise, power_small, round_limit}
 use Rattle.pack_changes.proofs.receivers.size_fits.Goals as goal
 
