@@ -5,3 +5,4 @@ pub mod PackForms
 pub mod SameWords
 pub mod Shown
 pub mod Sizes
+pub mod Trials

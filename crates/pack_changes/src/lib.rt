@@ -22,3 +22,6 @@ pub use images::{assign_or_forget, lower_to};
 pub use orders::{demand_if, order};
 pub use receivers::fits;
 pub use stores::{store_absolute, store_form, store_value};
+
+#[cfg(test)]
+mod tests;
