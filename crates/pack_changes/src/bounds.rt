@@ -1,5 +1,5 @@
 //! What a matrix shows of forms, and what is surely known of an amount.
-ghost use Rattle.std.specs.Prelude.{◌≡◌, ℕ, ◌+◌, ◌<◌, ◌≤◌, IfSome};
+ghost use Rattle.std.specs.Prelude.{◌≡◌, ◌<◌, ◌≤◌, IfSome};
 ghost use Rattle.linear_form.specs.Forms.{IsSmallForm};
 ghost use Rattle.diff_bounds.specs.Matrix.{IsMatrix};
 ghost use Rattle.form_bounds.specs.Upper.{upper_of};
@@ -50,8 +50,8 @@ fn is_low(bound: Option<i128>) -> bool
     }
 }
 
-/// What is surely known of an amount of a range that is stored at so many decimals: by the range, and of its sign by the
-/// matrix too.
+/// What is surely known of an amount of a range that is stored at so many decimals: by the range, and of its sign by
+/// the matrix too.
 pub fn known_of_range(size: usize, m: &[i128], form: &Lin, decimals: u32, range: Ranged) -> Known
     requires size { size ≤ 8 }
     requires m { IsMatrix size m.now }

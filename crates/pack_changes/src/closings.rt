@@ -1,13 +1,12 @@
 //! The closing of a pack's matrix, once it is lowered to what is known of the pack's cells.
-ghost use Rattle.std.specs.Prelude.{◌≡◌, ℕ, ◌+◌, ◌<◌, ◌≤◌, neg_ℤ, ◌*ℤ◌, IsTrue, length, List, Some, None, if◌then◌else◌};
+ghost use Rattle.std.specs.Prelude.{◌≡◌, ◌+◌, ◌<◌, ◌≤◌, neg_ℤ, ◌*ℤ◌, IsTrue, length, List, Some, None, if◌then◌else◌};
 ghost use Rattle.cob_data.specs.declared.layout.Layout.{Layout};
 ghost use Rattle.diff_bounds.specs.Matrix.{word, IsMatrix};
-ghost use Rattle.closed_matrices.specs.Closed.{closed};
 ghost use Rattle.cell_rows.specs.Known.{Known};
 ghost use Rattle.cell_storages.specs.Homes.{Home};
 ghost use Rattle.diff_steps.specs.Packs.{Pack};
 ghost use Rattle.diff_steps.specs.Matrices.{with_words, put_closed};
-ghost use Rattle.pack_changes.specs.Cells.{put_cells, known_cells, HasEnds, HaveEnds, IsPutAt};
+ghost use Rattle.pack_changes.specs.Cells.{put_cells, closed_with, known_cells, HasEnds, HaveEnds, IsPutAt};
 ghost use Rattle.pack_changes.specs.Ends.{IsNumber};
 
 use decimal_interval::Interval;
@@ -79,9 +78,9 @@ pub fn close_pack(size: usize, m: &mut [i128], cells: &[KnownCell]) -> bool
     requires m { IsMatrix size m.old }
     requires cells { length cells.now ≡ size }
     requires ends { HaveEnds cells.now }
-    ensures closed { closed size (with_words size (put_cells cells.now (word (size + 1) m.old))) ≡ (if result then Some m.new else None) }
-    ensures closing { (l : Layout) (homes : List Home) (known : List Known) (pack : Pack) → cells.now ≡ known_cells l homes known pack
-        → put_closed l homes known pack m.old ≡ (if result then Some m.new else None) }
+    ensures closed { closed_with size cells.now m.old ≡ (if result then Some m.new else None) }
+    ensures closing { (l : Layout) (homes : List Home) (known : List Known) (pack : Pack)
+        → cells.now ≡ known_cells l homes known pack → put_closed l homes known pack m.old ≡ (if result then Some m.new else None) }
     ensures matrix { IsTrue result → IsMatrix size m.new }
 {
     put_all(size, m, cells);

@@ -1,8 +1,8 @@
 //! Changes of a pack's difference-bound matrix in place, by what is known of the pack's cells and by linear forms over
 //! them (Miné 2001): closings, stores, demands, and cells that are forgotten.
 //!
-//! A matrix for a pack of `size` cells, at most 8, has `(size + 1)^2` words, row by row, as in `diff_bounds`. Numbers are
-//! in units of the pack. No call takes memory.
+//! A matrix for a pack of `size` cells, at most 8, has `(size + 1)^2` words, row by row, as in `diff_bounds`. Numbers
+//! are in units of the pack. No call takes memory.
 #![tactic(auto)]
 
 mod bounds;

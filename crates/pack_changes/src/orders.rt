@@ -1,5 +1,5 @@
 //! What the order of two sums leaves of a matrix.
-ghost use Rattle.std.specs.Prelude.{◌≡◌, ℕ, ◌+◌, ◌<◌, ◌≤◌, true, false, IfSome};
+ghost use Rattle.std.specs.Prelude.{◌≡◌, ◌<◌, ◌≤◌, true, false, IfSome};
 ghost use Rattle.diff_bounds.specs.Matrix.{IsMatrix};
 ghost use Rattle.diff_steps.specs.Guards.{demanded_if, ordered};
 ghost use Rattle.pack_changes.specs.Forms.{IsFormOf};

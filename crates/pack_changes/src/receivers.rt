@@ -51,8 +51,8 @@ fn size_fits(mode: Mode, receiver: Receiver, decimals: u32, units: i128) -> bool
 }
 
 /// Whether an amount that is at most so many units of a number of decimals, once it is cut or rounded, is at most the
-/// greatest number of a receiver. Likewise an amount that is at least the negative of so many units is at least the least
-/// one. Nothing is sure where there is no bound.
+/// greatest number of a receiver. Likewise an amount that is at least the negative of so many units is at least the
+/// least one. Nothing is sure where there is no bound.
 pub fn fits(mode: Mode, receiver: Receiver, decimals: u32, bound: Option<i128>) -> bool
     requires digits { receiver.digits ≤ 18 }
     requires scale { receiver.scale ≤ 18 }

@@ -1,5 +1,5 @@
 //! Stores of forms at cells.
-ghost use Rattle.std.specs.Prelude.{◌≡◌, ℕ, ◌+◌, ◌<◌, ◌≤◌, ◌≤ℤ◌, true, pos, unsigned_abs, IfSome};
+ghost use Rattle.std.specs.Prelude.{◌≡◌, ◌<◌, ◌≤◌, ◌≤ℤ◌, true, pos, unsigned_abs, IfSome};
 ghost use Rattle.diff_bounds.specs.Matrix.{IsMatrix};
 ghost use Rattle.diff_steps.specs.Stores.{absolute_stored, value_stored, form_stored};
 ghost use Rattle.pack_changes.specs.Forms.{IsFormOf};
@@ -28,8 +28,8 @@ fn store_either(size: usize, m: &mut [i128], to: usize, form: Option<Lin>)
     lower_to(size, m, other);
 }
 
-/// Stores the absolute value of a form, by whether it surely isn't negative and surely isn't positive. Nothing is known of
-/// the cell behind it where neither is sure.
+/// Stores the absolute value of a form, by whether it surely isn't negative and surely isn't positive. Nothing is known
+/// of the cell behind it where neither is sure.
 pub fn store_absolute(
     size: usize,
     m: &mut [i128],

@@ -1,11 +1,11 @@
 //! Changes of matrices for two cells, against words worked out by hand.
-ghost use Rattle.std.specs.Prelude.{◌≡◌, ◌≤◌, length};
 ghost use Rattle.diff_bounds.specs.Matrix.{IsMatrix};
 ghost use Rattle.pack_changes.specs.Cells.{HasEnds, HaveEnds};
 ghost use Rattle.pack_changes.specs.Forms.{IsFormOf};
 
 use super::{
-    KnownCell, bound, bound_of_negated, close_pack, fits, forget_cells, known_of_amount, known_of_range, order, store_form,
+    KnownCell, bound, bound_of_negated, close_pack, fits, forget_cells, known_of_amount,
+    known_of_range, order, store_form,
 };
 use dec_num::Mode;
 use decimal_interval::Interval;
@@ -193,7 +193,10 @@ fn shows_bounds(rt: HostRuntime) {
         not_positive: false,
     };
     assert_eq!(rt; known_of_range(2, &m, &more, 2, range), shown);
-    assert_eq!(rt; known_of_amount(2, &m, &more, 2, Some(AmountRange::Decimal(range))), shown);
+    assert_eq!(rt;
+        known_of_amount(2, &m, &more, 2, Some(AmountRange::Decimal(range))),
+        shown
+    );
     let nothing = Known {
         whole: false,
         not_negative: false,
