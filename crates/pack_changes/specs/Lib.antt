@@ -2,3 +2,4 @@ pub mod Cells
 pub mod Ends
 pub mod Forms
 pub mod Gone
+pub mod Tight

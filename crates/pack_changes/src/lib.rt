@@ -6,6 +6,7 @@
 #![tactic(auto)]
 
 mod bounds;
+mod changes;
 mod closings;
 mod forms;
 mod gone;
@@ -15,7 +16,7 @@ mod receivers;
 mod stores;
 
 pub use bounds::{bound, bound_of_negated, known_of_amount, known_of_range};
-pub use closings::{KnownCell, close_pack};
+pub use closings::{KnownCell, close_again, close_pack};
 pub use forms::turned;
 pub use gone::forget_cells;
 pub use images::{assign_or_forget, lower_to};
