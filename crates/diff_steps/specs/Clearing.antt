@@ -31,7 +31,7 @@ use Rattle.cell_steps.specs.Stores.{range_at, with_taken}
 use Rattle.cell_steps.specs.Clearing.{is_misfit, has_quotient, clears_part}
 use Rattle.diff_steps.specs.Packs.{Pack, size_of, pack_decimals}
 use Rattle.diff_steps.specs.Moments.{Seen2}
-use Rattle.diff_steps.specs.Forms.{cell_at, amount_form, sender_form, lowered_form, has_operands}
+use Rattle.diff_steps.specs.Forms.{cell_at, amount_form, set_form, lowered_form, has_operands}
 use Rattle.diff_steps.specs.Stores.{upper_negated}
 use Rattle.diff_steps.specs.Steps.{all_closed, step2}
 use Rattle.diff_steps.specs.Edges.{beginning2}
@@ -97,7 +97,7 @@ module _ (p : Program) (packs : List Pack) (a : Act) (x : Action) where
   clears_part2 (store place mode y) s r fault =
       has_phrase a || (not (is_misfit y fault) || store_fits (with_taken p a x s) r place mode y)
   clears_part2 (set_count statement y) s r kind.Size =
-      option_map_or (λ c. ends_fit p packs r.packs (λ pack. sender_form p pack (with_taken p a x s) r.wrote y) Trunc counter c.top.units)
+      option_map_or (λ c. ends_fit p packs r.packs (λ pack. set_form p pack (with_taken p a x s) r.wrote y) Trunc counter c.top.units)
       (with_taken p a x s).common true
   clears_part2 (count_down statement) s r kind.Size =
       ends_fit p packs r.packs (λ pack. lowered_form p pack s r.wrote statement) Trunc counter

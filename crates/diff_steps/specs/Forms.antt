@@ -1,8 +1,9 @@
 -- What receivers get, as linear forms over the cells of a pack.
-use Rattle.std.specs.Prelude.{ℕ, ◌||◌, ◌&&◌, if◌then◌else◌, Bool, true, false, List, ℤ, pos, neg_ℤ, ◌^◌, Option, Some, None, is_some}
+use Rattle.std.specs.Prelude.{ℕ, ◌==◌, ◌||◌, ◌&&◌, if◌then◌else◌, Bool, true, false, List, ℤ, pos, neg_ℤ, ◌^◌, Option, Some, None, is_some}
 use Rattle.std.specs.List.{list_any}
 use Rattle.std.specs.Option.{option_map}
 use Rattle.decimal_interval.specs.Corners.{interval}
+use Rattle.cob_data.specs.declared.layout.Layout.{Layout}
 use Rattle.cob_data.specs.declared.layout.Sender.{Sender}
 use Rattle.cob_data.specs.declared.layout.Sender.TheVariants as sender
 use Rattle.cob_program.specs.declared.act.How.{How}
@@ -10,6 +11,7 @@ use Rattle.cob_program.specs.declared.act.How.TheVariants as how
 use Rattle.cob_program.specs.Sum.{Sum, MkSum, no_parts, more_parts, MkPart, no_factors, more_factors, MkFactor}
 use Rattle.cob_program.specs.Values.{◌>>=◌, root_of}
 use Rattle.cob_program.specs.Act.{Program}
+use Rattle.cob_runs.specs.Contents.{form_at, scale_of}
 use Rattle.cob_runs.specs.Computing.{items_in}
 use Rattle.cob_edge_parts.specs.Parts.{Amount, moved, computed, remaining, augmented}
 use Rattle.linear_form.specs.declared.form.Lin.{Lin}
@@ -48,6 +50,14 @@ added_forms a b = a >>= λ x. b >>= λ y. if_small (sum_of x y)
 
 abbrev pub turned_if : Bool → Option Lin → Option Lin
 turned_if minus a = a >>= turned_form minus
+
+-- ---- senders
+
+-- numbers without decimals
+abbrev pub is_whole_sender : Layout → Sender → Bool
+is_whole_sender l (sender.Item place) = scale_of (form_at l place) == 0
+is_whole_sender l (sender.Number n) = n.scale == 0
+is_whole_sender l x = true
 
 -- ---- amounts
 
@@ -95,6 +105,10 @@ module _ (p : Program) (pack : Pack) (t : Seen) (wrote : List Bytes) where
   abbrev pub sender_form : Sender → Option Lin
   sender_form (sender.Item place) = item_sent place (cell_at place) (is_written p.layout wrote place)
   sender_form x = kept_form t.common
+
+  -- What a counter is set to: the units of a sender, which are its number where it has no decimals.
+  abbrev pub set_form : Sender → Option Lin
+  set_form x = if is_whole_sender p.layout x then sender_form x else None
 
   -- a whole literal scales what the receiver is worth
   abbrev pub multiplied_form : ℕ → Option ℤ → Option Lin

@@ -1,5 +1,5 @@
 -- What each part of an edge makes of what is known of differences before it (Miné 2001).
-use Rattle.std.specs.Prelude.{ℕ, suc, ◌&&◌, not, if◌then◌else◌, Bool, true, false, List, [], ◌∷◌, ◌++◌, ℤ, Option, Some, None}
+use Rattle.std.specs.Prelude.{ℕ, suc, ◌&&◌, ◌||◌, not, if◌then◌else◌, Bool, true, false, List, [], ◌∷◌, ◌++◌, ℤ, Option, Some, None}
 use Rattle.dec_num.specs.declared.types.Mode.{Mode}
 use Rattle.cob_program.specs.Values.{◌>>=◌}
 use Rattle.cob_program.specs.Logic.{Test, numbers}
@@ -18,7 +18,7 @@ use Rattle.cell_steps.specs.Steps.{step}
 use Rattle.diff_steps.specs.Packs.{Pack, size_of, cell_of, pack_decimals, unit_of}
 use Rattle.diff_steps.specs.Matrices.{put_closed, forgotten, bottom}
 use Rattle.diff_steps.specs.Moments.{Bytes, Seen2, with_packs, item_bytes}
-use Rattle.diff_steps.specs.Forms.{amount_form, sender_form, lowered_form, cell_at, has_operands}
+use Rattle.diff_steps.specs.Forms.{amount_form, set_form, lowered_form, cell_at, has_operands}
 use Rattle.diff_steps.specs.Stores.{known_of_amount, assigned_or_forgotten, form_stored, forgotten_cells}
 use Rattle.diff_steps.specs.Guards.{related}
 
@@ -66,8 +66,12 @@ module _ (p : Program) (a : Act) (x : Action) where
       then forgotten_cells (size_of pack) (is_other place) 1 pack (stored_cell t wrote place mode y pack (cell_of pack (of_item place)) m)
       else bottom (size_of pack)
 
+  -- the receiver's cell, and what has bytes of it
+  abbrev pub is_lost : ℕ → Home → Bool
+  is_lost place h = is_home h (of_item place) || is_beside p.layout place h
+
   abbrev pub lost_pack : ℕ → Pack → List ℤ → List ℤ
-  lost_pack place pack m = forgotten_cells (size_of pack) (is_beside p.layout place) 1 pack m
+  lost_pack place pack m = forgotten_cells (size_of pack) (is_lost place) 1 pack m
 
   abbrev pub pack_behind_store : Seen → List Bytes → ℕ → Mode → Amount → Pack → List ℤ → List ℤ
   pack_behind_store t wrote place mode y pack m =
@@ -96,7 +100,7 @@ module _ (p : Program) (a : Act) (x : Action) where
   changed_pack (bytes_in offset count) s wrote pack m = forgotten_cells (size_of pack) (is_in_bytes p.layout offset count) 1 pack m
   changed_pack (guard t wanted) s wrote pack m = guarded_pack s t wanted pack m
   changed_pack (set_count statement y) s wrote pack m =
-      counted_pack statement (sender_form p pack (with_taken p a x s) wrote y) pack m
+      counted_pack statement (set_form p pack (with_taken p a x s) wrote y) pack m
   changed_pack (count_down statement) s wrote pack m = counted_pack statement (lowered_form p pack s wrote statement) pack m
   changed_pack _ s wrote pack m = m
 

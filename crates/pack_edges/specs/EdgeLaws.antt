@@ -17,7 +17,7 @@ use Rattle.diff_steps.specs.Packs.{Pack, size_of, PacksStand}
 use Rattle.diff_steps.specs.Edges.{post_packs}
 use Rattle.diff_steps.specs.Clearing.{clears_edge2}
 use Rattle.pack_laws.specs.Orders.{AreLowerOff}
-use Rattle.pack_edges.specs.Agreeing.{AreMatrices}
+use Rattle.pack_edges.specs.Agreeing.{AreMatrices, ArePacksOf}
 
 -- no word of a matrix is above that of the other one's
 abbrev pub AreLowerEach : List Pack → List (List ℤ) → List (List ℤ) → Type 0
@@ -29,14 +29,14 @@ AreLowerEach _ _ _ = ⊥
 abbrev pub PostsStand : Type 0
 PostsStand = (p : Program) (packs : List Pack) (statement : ℕ) (a : Act) (x : Action) (cells : List Known) (ms : List (List ℤ))
     (bytes : List ℕ) (counts : List (Option ℤ)) (last : Moment)
-    → IsSoundEdge p statement a x → StandsIn p cells (storage bytes counts) → AreMatrices packs ms → PacksStand p.layout packs ms (storage bytes counts)
+    → ArePacksOf p packs → IsSoundEdge p statement a x → StandsIn p cells (storage bytes counts) → AreMatrices packs ms → PacksStand p.layout packs ms (storage bytes counts)
     → PassesParts p.layout (is_handled a x) (parts_of p statement a x) (run.beginning bytes counts) last → last.failed ≡ is_handled a x
     → PacksStand p.layout packs (post_packs p packs statement a x (Some cells) ms) (storage last.storage last.counts)
 
 abbrev pub ClearedIsntMet : Type 0
 ClearedIsntMet = (p : Program) (packs : List Pack) (statement : ℕ) (a : Act) (x : Action) (cells : List Known) (ms : List (List ℤ))
     (bytes : List ℕ) (counts : List (Option ℤ)) (fault : Kind)
-    → IsSoundEdge p statement a x → StandsIn p cells (storage bytes counts) → AreMatrices packs ms → PacksStand p.layout packs ms (storage bytes counts)
+    → ArePacksOf p packs → IsSoundEdge p statement a x → StandsIn p cells (storage bytes counts) → AreMatrices packs ms → PacksStand p.layout packs ms (storage bytes counts)
     → clears_edge2 p packs statement a x cells ms fault ≡ true → fault_edge a x ≡ x
     → ¬ MeetsAmong p.layout (is_handled a x) (parts_of p statement a x) (run.beginning bytes counts) fault
 

@@ -1,5 +1,5 @@
 -- Where less is seen, forms are narrower. Operands that have no range aren't asked for a form.
-use Rattle.std.specs.Prelude.{◌≡◌, ℕ, ◌+◌, true, List, [], ℤ, Option, Some}
+use Rattle.std.specs.Prelude.{◌≡◌, ℕ, ◌+◌, true, List, [], ℤ, Some}
 use Rattle.cob_data.specs.declared.layout.Sender.{Sender}
 use Rattle.cob_program.specs.Sum.{Sum, Atom}
 use Rattle.cob_program.specs.Act.{Act, Program}

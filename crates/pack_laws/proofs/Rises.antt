@@ -40,10 +40,10 @@ guarded_top false o is = omega (arith, ints)
 
 module _ (size to : ℕ) (last : to ≤ size) where
   -- what a change of the place's words makes of a matrix
-  record IsImage (a x : List ℤ) : Type 0 where
-    row : (j : ℕ) → j ≤ size → j ≢ to → word (size + 1) x to j ≤ℤ none
-    column : (i : ℕ) → i ≤ size → i ≢ to → word (size + 1) x i to ≤ℤ none
-    others : (i j : ℕ) → i ≤ size → j ≤ size → i ≢ to → j ≢ to → word (size + 1) x i j ≤ℤ word (size + 1) a i j
+  pub record IsImage (a x : List ℤ) : Type 0 where
+    pub row : (j : ℕ) → j ≤ size → j ≢ to → word (size + 1) x to j ≤ℤ none
+    pub column : (i : ℕ) → i ≤ size → i ≢ to → word (size + 1) x i to ≤ℤ none
+    pub others : (i j : ℕ) → i ≤ size → j ≤ size → i ≢ to → j ≢ to → word (size + 1) x i j ≤ℤ word (size + 1) a i j
 
   same_top : (x y : ℤ) → x ≡ y → y ≤ℤ none → x ≤ℤ none
   same_top x y e h = omega (arith, ints, e, h)
@@ -51,7 +51,7 @@ module _ (size to : ℕ) (last : to ≤ size) where
   same_below : (x y : ℤ) → x ≡ y → x ≤ℤ y
   same_below x y e = omega (arith, ints, e)
 
-  forgotten_image : (a : List ℤ) → IsImage a (forgotten size to a)
+  pub forgotten_image : (a : List ℤ) → IsImage a (forgotten size to a)
   forgotten_image a =
       let are = are_forgotten size to a last in
       record {
@@ -70,7 +70,7 @@ module _ (size to : ℕ) (last : to ≤ size) where
         others = λ i j h g off apart. same_below _ _ (are.others i j h g off apart);
       }
 
-  put_image : (o : Option Lin) (a : List ℤ) → IsImage a (assigned_or_forgotten size to o a)
+  pub put_image : (o : Option Lin) (a : List ℤ) → IsImage a (assigned_or_forgotten size to o a)
   put_image None a = forgotten_image a
   put_image (Some f) a = assigned_image f a
 
@@ -99,9 +99,13 @@ module _ (size to : ℕ) (last : to ≤ size) where
   absolute_image o false true a = put_image (o >>= turned_form true) a
   absolute_image o false false a = forgotten_image a
 
+  pub form_image : (f : Lin) (signed : Bool) (mode : Mode) (u : ℕ) (k : sure.Known) (a : List ℤ) → IsImage a (form_stored size to signed mode u k f a)
+  form_image f true mode u k a = put_image (widened_form f (error_in k mode (pos u))) a
+  form_image f false mode u k a = absolute_image (widened_form f (error_in k mode (pos u))) k.not_negative k.not_positive a
+
   module _ (a b : List ℤ) (lower : AreLower (size + 1) (word (size + 1) a) (word (size + 1) b)) where
     -- whatever a change makes of a lower matrix is at most what forgetting leaves
-    image_below : (x : List ℤ) → IsImage a x → AreLowerOff size x (forgotten size to b)
+    pub image_below : (x : List ℤ) → IsImage a x → AreLowerOff size x (forgotten size to b)
     image_below x is = record { words = λ i j h g ne. each i j h g ne (cases_eq i to) (cases_eq j to) }
       where
         top_below : (x y : ℤ) → y ≡ none → x ≤ℤ none → x ≤ℤ y
@@ -119,7 +123,7 @@ module _ (size to : ℕ) (last : to ≤ size) where
         each i j h g ne (inr off) (inr apart) =
             through (word (size + 1) x i j) (word (size + 1) a i j) (word (size + 1) b i j) (word (size + 1) (forgotten size to b) i j) (is.others i j h g off apart) (lower.words i j (omega arith) (omega arith)) ((are_forgotten size to b last).others i j h g off apart)
 
-    put_lower : (o p : Option Lin) → IsNarrowerIfAny o p → AreLowerOff size (assigned_or_forgotten size to o a) (assigned_or_forgotten size to p b)
+    pub put_lower : (o p : Option Lin) → IsNarrowerIfAny o p → AreLowerOff size (assigned_or_forgotten size to o a) (assigned_or_forgotten size to p b)
     put_lower o None h = image_below (assigned_or_forgotten size to o a) (put_image o a)
     put_lower None (Some g) h = absurd h
     put_lower (Some f) (Some g) h = record {

@@ -90,7 +90,7 @@ pub range_narrower : (f : ℕ) (r s : Ranged) → range.IsNarrower r s → IsNar
 range_narrower f r s n =
     narrower_there (constant_form (outward f r)) (constant_form (outward f s)) (length-coefs_of (λ _. pos 0)) (length-coefs_of (λ _. pos 0)) (λ small. constants_narrower f r s n)
 
-item_narrower : (f : ℕ) (o : Option ℕ) (r s : Ranged) → range.IsNarrower r s → IsNarrowerIfAny (item_form f o r) (item_form f o s)
+pub item_narrower : (f : ℕ) (o : Option ℕ) (r s : Ranged) → range.IsNarrower r s → IsNarrowerIfAny (item_form f o r) (item_form f o s)
 item_narrower f (Some k) r s n = record { coefs = refl; low = omega (arith, ints); ordered = omega (arith, ints); high = omega (arith, ints) }
 item_narrower f None r s n = range_narrower f r s n
 
@@ -104,12 +104,12 @@ pub sum_there : (a b c d : Lin) → IsNarrower a c → IsNarrower b d → IsNarr
 sum_there a b c d n m =
     narrower_there (sum_of a b) (sum_of c d) (length-coefs_of (added_coefs a b)) (length-coefs_of (added_coefs c d)) (λ small. (sum_narrower a b c d n m small).1)
 
-narrower_then : (o p : Option Lin) (next more : Lin → Option Lin) → IsNarrowerIfAny o p → ((a b : Lin) → IsNarrower a b → IsNarrowerIfAny (next a) (more b)) → IsNarrowerIfAny (o >>= next) (p >>= more)
+pub narrower_then : (o p : Option Lin) (next more : Lin → Option Lin) → IsNarrowerIfAny o p → ((a b : Lin) → IsNarrower a b → IsNarrowerIfAny (next a) (more b)) → IsNarrowerIfAny (o >>= next) (p >>= more)
 narrower_then o None next more h k = tt
 narrower_then None (Some b) next more h k = absurd h
 narrower_then (Some a) (Some b) next more h k = k a b h
 
-scaled_narrower : (k : ℤ) (o p : Option Lin) → IsNarrowerIfAny o p → IsNarrowerIfAny (o >>= scaled_form k) (p >>= scaled_form k)
+pub scaled_narrower : (k : ℤ) (o p : Option Lin) → IsNarrowerIfAny o p → IsNarrowerIfAny (o >>= scaled_form k) (p >>= scaled_form k)
 scaled_narrower k o p h = narrower_then o p (scaled_form k) (scaled_form k) h (λ a b n. multiple_there a b k n)
 
 pub turns_narrower : (minus : Bool) (o p : Option Lin) → IsNarrowerIfAny o p → IsNarrowerIfAny (o >>= turned_form minus) (p >>= turned_form minus)
@@ -141,7 +141,7 @@ factor_below over a b c d n m =
     (result_in_wider (with_factor over) a b c d n m)
     (factors_least over a b n.ordered m.ordered) (factors_least over c d (wide_ordered a c n) (wide_ordered b d m))
 
-either_narrower : (b : Bool) (o p q r : Option Lin) → IsNarrowerIfAny o p → IsNarrowerIfAny q r → IsNarrowerIfAny (if b then o else q) (if b then p else r)
+pub either_narrower : (b : Bool) (o p q r : Option Lin) → IsNarrowerIfAny o p → IsNarrowerIfAny q r → IsNarrowerIfAny (if b then o else q) (if b then p else r)
 either_narrower true o p q r h k = h
 either_narrower false o p q r h k = k
 
@@ -186,7 +186,7 @@ module _ (f : ℕ) (cell : ℕ → Option ℕ) (narrow wide : ℕ → Ranged) (w
         (λ q l. product_narrower fs (next_front front (whole_factor over minus atom)) d.0 q _ _ r l
         (next_narrower f front (whole_factor over minus atom) over d.0 q before earlier (atom_form f cell narrow atom >>= turned_form minus) (atom_form f cell wide atom >>= turned_form minus) l h own) d.2))
 
-    atom_form_narrower : (a : Atom) (r : Ranged) → atom_range narrow a ≡ Some r → IsNarrowerIfAny (atom_form f cell narrow a) (atom_form f cell wide a)
+    pub atom_form_narrower : (a : Atom) (r : Ranged) → atom_range narrow a ≡ Some r → IsNarrowerIfAny (atom_form f cell narrow a) (atom_form f cell wide a)
     atom_form_narrower (item place) r e = item_narrower f (cell place) (narrow place) (wide place) (within place)
     atom_form_narrower (number n) r e = range_narrower f (point (literal n)) (point (literal n)) (point_narrower (literal n))
     atom_form_narrower (group s) r e = sum_form_narrower s r e

@@ -1,0 +1,2 @@
+pub mod Lattices
+pub mod Rows
