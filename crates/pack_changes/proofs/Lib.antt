@@ -1,3 +1,4 @@
+pub mod AtCell
 pub mod Closing
 pub mod KnownWords
 pub mod Marks
