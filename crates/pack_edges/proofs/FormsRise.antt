@@ -42,7 +42,7 @@ use Rattle.cell_edges.proofs.ItemRanges.{units_below, range_below}
 use Rattle.cell_edges.proofs.OperandsRise.{SettledBelow, settled_below}
 use Rattle.diff_steps.specs.Packs.{Pack, cell_of, pack_decimals}
 use Rattle.diff_steps.specs.Moments.{Bytes, is_written}
-use Rattle.diff_steps.specs.Forms.{whole_sum, added_forms, turned_if, has_operands, own_form, counter_form, kept_form, taken_form, operands_form, item_sent, sender_form, multiplied_form, computed_form, amount_form, lowered_form}
+use Rattle.diff_steps.specs.Forms.{is_whole_sender, set_form, whole_sum, added_forms, turned_if, has_operands, own_form, counter_form, kept_form, taken_form, operands_form, item_sent, sender_form, multiplied_form, computed_form, amount_form, lowered_form}
 use Rattle.diff_steps.specs.Guards.{difference_form}
 
 -- ---- sums of two forms
@@ -171,6 +171,10 @@ module _ (p : Program) (a : Act) (x : Action) (pack : Pack) (less more : Seen) (
     sender_narrower (sender.Text text) n = kept_narrower less.common more.common n
     sender_narrower (sender.Fill byte) n = kept_narrower less.common more.common n
     sender_narrower sender.Zero n = kept_narrower less.common more.common n
+
+    -- what a counter is set to
+    pub set_narrower : (y : Sender) → AreTaken less.common more.common → IsNarrowerIfAny (set_form p pack less wrote y) (set_form p pack more wrote y)
+    set_narrower y n = either_narrower (is_whole_sender p.layout y) (sender_form p pack less wrote y) (sender_form p pack more wrote y) None None (sender_narrower y n) tt
 
     -- ---- amounts
 

@@ -7,3 +7,10 @@ pub mod PacksKeepClosed
 pub mod FormsShowItems
 pub mod FormsShowValues
 pub mod FormsShowSums
+pub mod PacksPutRise
+pub mod PacksWordsRise
+pub mod PacksStoresRise
+pub mod PacksKeepCells
+pub mod PacksKeepCounters
+pub mod PacksKeepGiven
+pub mod PacksClearsFall

@@ -38,18 +38,13 @@ use Rattle.diff_steps.specs.Steps.{each_pack, all_closed, by_outcome, is_other, 
 use Rattle.diff_steps.specs.Edges.{bottoms, or_bottoms, beginning2, steps2, finished2, walked_packs, post_packs}
 use Rattle.pack_laws.proofs.Words.{word_at}
 use Rattle.pack_edges.specs.Agreeing.{AreMatrices}
-use Rattle.pack_edges.proofs.PacksClosingRise.{words_are_matrix, closed_fits}
+use Rattle.pack_edges.proofs.PacksClosingRise.{words_are_matrix}
+use Rattle.pack_edges.proofs.PacksPutRise.{IsFlat, matrix_is_flat, all_are_flat, all_fit, each_flat}
 
 -- ---- zeros on the diagonal
 
-pub record HasZeros (size : ℕ) (m : List ℤ) : Type 0 where
-  pub zeros : (i : ℕ) → i < size + 1 → word (size + 1) m i i ≡ pos 0
-
-pub matrix_zeros : (size : ℕ) (m : List ℤ) → IsMatrix size m → HasZeros size m
-matrix_zeros size m is = record { zeros = is.diagonal }
-
-words_zeros : (size : ℕ) (w : ℕ → ℕ → ℤ) → ((i : ℕ) → i < size + 1 → w i i ≡ pos 0) → HasZeros size (with_words size w)
-words_zeros size w flat = record { zeros = λ i h. word_at size w i i h h ∙ flat i h }
+words_flat : (size : ℕ) (w : ℕ → ℕ → ℤ) → ((i : ℕ) → i < size + 1 → w i i ≡ pos 0) → IsFlat size (with_words size w)
+words_flat size w flat = record { zeros = λ i h. word_at size w i i h h ∙ flat i h }
 
 on_diagonal : (i : ℕ) (x y : ℤ) → x ≡ pos 0 → (if nat_eq i i then x else y) ≡ pos 0
 on_diagonal i x y e = rw (eq-eqb i i refl) e
@@ -69,119 +64,77 @@ lowered_zero : (x : ℤ) → x ≡ pos 0 → int_min x none ≡ pos 0
 lowered_zero x e = omega (arith, ints, clamps, e)
 
 module _ (size : ℕ) where
-  pub forgotten_zeros : (to : ℕ) (m : List ℤ) → HasZeros size m → HasZeros size (forgotten size to m)
-  forgotten_zeros to m has =
-      words_zeros size (λ i j. if nat_eq i j then word (size + 1) m i j else (if nat_eq i to || nat_eq j to then none else word (size + 1) m i j))
+  pub forgotten_flat : (to : ℕ) (m : List ℤ) → IsFlat size m → IsFlat size (forgotten size to m)
+  forgotten_flat to m has =
+      words_flat size (λ i j. if nat_eq i j then word (size + 1) m i j else (if nat_eq i to || nat_eq j to then none else word (size + 1) m i j))
       (λ i h. on_diagonal i _ _ (has.zeros i h))
 
-  pub assigned_zeros : (to : ℕ) (form : Lin) (m : List ℤ) → HasZeros size m → HasZeros size (assigned size to form m)
-  assigned_zeros to form m has =
-      words_zeros size (λ i j. if nat_eq i j then word (size + 1) m i j
+  pub assigned_flat : (to : ℕ) (form : Lin) (m : List ℤ) → IsFlat size m → IsFlat size (assigned size to form m)
+  assigned_flat to form m has =
+      words_flat size (λ i j. if nat_eq i j then word (size + 1) m i j
       else (if nat_eq i to then word_of (upper_less (word (size + 1) m) j (coef_at form.coefs) form.constant.high size)
       else (if nat_eq j to then word_of (less_upper (word (size + 1) m) i (coef_at form.coefs) form.constant.low size) else word (size + 1) m i j)))
       (λ i h. on_diagonal i _ _ (has.zeros i h))
 
-  pub demanded_zeros : (form : Lin) (m : List ℤ) → HasZeros size m → HasZeros size (demanded size form m)
-  demanded_zeros form m has =
-      words_zeros size (lowered (word (size + 1) m) (coef_at form.coefs) form.constant.low size)
+  pub demanded_flat : (form : Lin) (m : List ℤ) → IsFlat size m → IsFlat size (demanded size form m)
+  demanded_flat form m has =
+      words_flat size (lowered (word (size + 1) m) (coef_at form.coefs) form.constant.low size)
       (λ i h. ap (λ (o : Option ℕ). int_min (word (size + 1) m i i) (word_of (demanded_by (word (size + 1) m) (coef_at form.coefs) form.constant.low size i i o))) (self_factor (coef_at form.coefs) i)
       ∙ lowered_zero (word (size + 1) m i i) (has.zeros i h))
 
-  pub lesser_zeros : (a b : List ℤ) → HasZeros size a → HasZeros size b → HasZeros size (lesser size a b)
-  lesser_zeros a b has more =
-      words_zeros size (λ i j. int_min (word (size + 1) a i j) (word (size + 1) b i j)) (λ i h. lesser_zero (word (size + 1) a i i) (word (size + 1) b i i) (has.zeros i h) (more.zeros i h))
+  pub lesser_flat : (a b : List ℤ) → IsFlat size a → IsFlat size b → IsFlat size (lesser size a b)
+  lesser_flat a b has more =
+      words_flat size (λ i j. int_min (word (size + 1) a i j) (word (size + 1) b i j)) (λ i h. lesser_zero (word (size + 1) a i i) (word (size + 1) b i i) (has.zeros i h) (more.zeros i h))
 
   -- ---- stores
 
-  pub image_zeros : (to : ℕ) (form : Option Lin) (m : List ℤ) → HasZeros size m → HasZeros size (assigned_or_forgotten size to form m)
-  image_zeros to None m has = forgotten_zeros to m has
-  image_zeros to (Some form) m has = assigned_zeros to form m has
+  pub image_flat : (to : ℕ) (form : Option Lin) (m : List ℤ) → IsFlat size m → IsFlat size (assigned_or_forgotten size to form m)
+  image_flat to None m has = forgotten_flat to m has
+  image_flat to (Some form) m has = assigned_flat to form m has
 
-  absolute_zeros : (to : ℕ) (form : Option Lin) (low high : Bool) (m : List ℤ) → HasZeros size m → HasZeros size (absolute_stored size to form low high m)
-  absolute_zeros to form true true m has =
-      lesser_zeros (assigned_or_forgotten size to form m) (assigned_or_forgotten size to (form >>= turned_form true) m)
-      (image_zeros to form m has) (image_zeros to (form >>= turned_form true) m has)
-  absolute_zeros to form true false m has = image_zeros to form m has
-  absolute_zeros to form false true m has = image_zeros to (form >>= turned_form true) m has
-  absolute_zeros to form false false m has = forgotten_zeros to m has
+  absolute_flat : (to : ℕ) (form : Option Lin) (low high : Bool) (m : List ℤ) → IsFlat size m → IsFlat size (absolute_stored size to form low high m)
+  absolute_flat to form true true m has =
+      lesser_flat (assigned_or_forgotten size to form m) (assigned_or_forgotten size to (form >>= turned_form true) m)
+      (image_flat to form m has) (image_flat to (form >>= turned_form true) m has)
+  absolute_flat to form true false m has = image_flat to form m has
+  absolute_flat to form false true m has = image_flat to (form >>= turned_form true) m has
+  absolute_flat to form false false m has = forgotten_flat to m has
 
-  value_zeros : (to : ℕ) (signed : Bool) (k : sure.Known) (form : Option Lin) (m : List ℤ) → HasZeros size m → HasZeros size (value_stored size to signed k form m)
-  value_zeros to true k form m has = image_zeros to form m has
-  value_zeros to false k form m has = absolute_zeros to form k.not_negative k.not_positive m has
+  value_flat : (to : ℕ) (signed : Bool) (k : sure.Known) (form : Option Lin) (m : List ℤ) → IsFlat size m → IsFlat size (value_stored size to signed k form m)
+  value_flat to true k form m has = image_flat to form m has
+  value_flat to false k form m has = absolute_flat to form k.not_negative k.not_positive m has
 
-  pub form_stored_zeros : (to : ℕ) (signed : Bool) (mode : Mode) (unit : ℕ) (k : sure.Known) (form : Lin) (m : List ℤ) → HasZeros size m → HasZeros size (form_stored size to signed mode unit k form m)
-  form_stored_zeros to signed mode unit k form m has = value_zeros to signed k _ m has
+  pub form_stored_flat : (to : ℕ) (signed : Bool) (mode : Mode) (unit : ℕ) (k : sure.Known) (form : Lin) (m : List ℤ) → IsFlat size m → IsFlat size (form_stored size to signed mode unit k form m)
+  form_stored_flat to signed mode unit k form m has = value_flat to signed k _ m has
 
-  pub forgotten_cells_zeros : (is_gone : Home → Bool) (at : ℕ) (homes : List Home) (m : List ℤ) → HasZeros size m → HasZeros size (forgotten_cells size is_gone at homes m)
-  forgotten_cells_zeros is_gone at [] m has = has
-  forgotten_cells_zeros is_gone at (h ∷ hs) m has = forgotten_cells_zeros is_gone (suc at) hs (if is_gone h then forgotten size at m else m) (if_gone (is_gone h))
+  pub forgotten_cells_flat : (is_gone : Home → Bool) (at : ℕ) (homes : List Home) (m : List ℤ) → IsFlat size m → IsFlat size (forgotten_cells size is_gone at homes m)
+  forgotten_cells_flat is_gone at [] m has = has
+  forgotten_cells_flat is_gone at (h ∷ hs) m has = forgotten_cells_flat is_gone (suc at) hs (if is_gone h then forgotten size at m else m) (if_gone (is_gone h))
     where
-      if_gone : (b : Bool) → HasZeros size (if b then forgotten size at m else m)
-      if_gone true = forgotten_zeros at m has
+      if_gone : (b : Bool) → IsFlat size (if b then forgotten size at m else m)
+      if_gone true = forgotten_flat at m has
       if_gone false = has
 
   -- ---- tests
 
-  demanded_if_zeros : (form : Option Lin) (m : List ℤ) → HasZeros size m → HasZeros size (demanded_if size form m)
-  demanded_if_zeros None m has = has
-  demanded_if_zeros (Some form) m has = demanded_zeros form m has
+  demanded_if_flat : (form : Option Lin) (m : List ℤ) → IsFlat size m → IsFlat size (demanded_if size form m)
+  demanded_if_flat None m has = has
+  demanded_if_flat (Some form) m has = demanded_flat form m has
 
-  pub ordered_zeros : (fine : Bool) (form : Option Lin) (below even above : Bool) (m : List ℤ) → HasZeros size m → HasZeros size (ordered size fine form below even above m)
-  ordered_zeros fine form true even false m has = demanded_if_zeros (at_most fine even form) m has
-  ordered_zeros fine form false even true m has = demanded_if_zeros (at_most fine even (form >>= turned_form true)) m has
-  ordered_zeros fine form false true false m has =
-      lesser_zeros (demanded_if size form m) (demanded_if size (form >>= turned_form true) m)
-      (demanded_if_zeros form m has) (demanded_if_zeros (form >>= turned_form true) m has)
-  ordered_zeros fine form false false false m has = has
-  ordered_zeros fine form true even true m has = has
-
--- ---- what is known of the cells
-
-module _ (l : Layout) (homes : List Home) (known : List Known) (pack : Pack) where
-  put_diagonal : (w : ℕ → ℕ → ℤ) (i : ℕ) → put_word l homes known pack w i i ≡ w i i
-  put_diagonal w zero = refl
-  put_diagonal w (suc i) = refl
-
-  pub put_zeros : (m : List ℤ) → HasZeros (size_of pack) m → HasZeros (size_of pack) (with_words (size_of pack) (put_word l homes known pack (word (size_of pack + 1) m)))
-  put_zeros m has =
-      words_zeros (size_of pack) (put_word l homes known pack (word (size_of pack + 1) m)) (λ i h. put_diagonal (word (size_of pack + 1) m) i ∙ has.zeros i h)
-
-  pub put_closed_fits : (m : List ℤ) → HasZeros (size_of pack) m → IfSome (put_closed l homes known pack m) (IsMatrix (size_of pack))
-  put_closed_fits m has = closed_fits (size_of pack) (with_words (size_of pack) (put_word l homes known pack (word (size_of pack + 1) m))) (put_zeros m has).zeros
+  pub ordered_flat : (fine : Bool) (form : Option Lin) (below even above : Bool) (m : List ℤ) → IsFlat size m → IsFlat size (ordered size fine form below even above m)
+  ordered_flat fine form true even false m has = demanded_if_flat (at_most fine even form) m has
+  ordered_flat fine form false even true m has = demanded_if_flat (at_most fine even (form >>= turned_form true)) m has
+  ordered_flat fine form false true false m has =
+      lesser_flat (demanded_if size form m) (demanded_if size (form >>= turned_form true) m)
+      (demanded_if_flat form m has) (demanded_if_flat (form >>= turned_form true) m has)
+  ordered_flat fine form false false false m has = has
+  ordered_flat fine form true even true m has = has
 
 -- ---- rows of packs
-
--- each pack has 8 cells at most, and its own words
-abbrev pub AreZeroed : List Pack → List (List ℤ) → Type 0
-AreZeroed [] [] = Unit {0}
-AreZeroed (pack ∷ packs) (m ∷ ms) = ((size_of pack ≤ 8) × HasZeros (size_of pack) m) × AreZeroed packs ms
-AreZeroed _ _ = ⊥
-
-pub matrices_zeroed : (packs : List Pack) (ms : List (List ℤ)) → AreMatrices packs ms → AreZeroed packs ms
-matrices_zeroed [] [] are = tt
-matrices_zeroed [] (m ∷ ms) are = are
-matrices_zeroed (pack ∷ packs) [] are = are
-matrices_zeroed (pack ∷ packs) (m ∷ ms) are = ((are.0.0, matrix_zeros (size_of pack) m are.0.1), matrices_zeroed packs ms are.1)
-
-pub each_zeroed : (change : Pack → List ℤ → List ℤ) → ((pack : Pack) (m : List ℤ) → HasZeros (size_of pack) m → HasZeros (size_of pack) (change pack m))
-    → (packs : List Pack) (ms : List (List ℤ)) → AreZeroed packs ms → AreZeroed packs (each_pack change packs ms)
-each_zeroed change keeps [] [] are = tt
-each_zeroed change keeps [] (m ∷ ms) are = are
-each_zeroed change keeps (pack ∷ packs) [] are = are
-each_zeroed change keeps (pack ∷ packs) (m ∷ ms) are = ((are.0.0, keeps pack m are.0.1), each_zeroed change keeps packs ms are.1)
 
 if_some_then : {A B : Type 0} (o : Option A) (next : A → Option B) (P : A → Type 0) (Q : B → Type 0) → IfSome o P → ((a : A) → P a → IfSome (next a) Q) → IfSome (o >>= next) Q
 if_some_then None next P Q h k = tt
 if_some_then (Some a) next P Q h k = k a h
-
-pub all_closed_fit : (p : Program) (known : List Known) (packs : List Pack) (ms : List (List ℤ)) → AreZeroed packs ms → IfSome (all_closed p known packs ms) (AreMatrices packs)
-all_closed_fit p known [] ms are = tt
-all_closed_fit p known (pack ∷ packs) [] are = tt
-all_closed_fit p known (pack ∷ packs) (m ∷ ms) are =
-    if_some_then (put_closed p.layout (homes_of p) known pack m) (λ c. all_closed p known packs ms >>= λ cs. Some (c ∷ cs)) (IsMatrix (size_of pack)) (AreMatrices (pack ∷ packs))
-    (put_closed_fits p.layout (homes_of p) known pack m are.0.1)
-    (λ c is. if_some_then (all_closed p known packs ms) (λ cs. Some (c ∷ cs)) (AreMatrices packs) (AreMatrices (pack ∷ packs))
-    (all_closed_fit p known packs ms are.1) (λ cs fit. ((are.0.0, is), fit)))
 
 pub bottoms_fit : (packs : List Pack) (ms : List (List ℤ)) → AreMatrices packs ms → AreMatrices packs (bottoms packs)
 bottoms_fit [] ms are = tt
@@ -190,64 +143,64 @@ bottoms_fit (pack ∷ packs) (m ∷ ms) are = ((are.0.0, bottom_is_matrix (size_
 
 -- ---- parts
 
-or_bottom_zeros : (size : ℕ) (b : Bool) (m : List ℤ) → HasZeros size m → HasZeros size (if b then m else bottom size)
-or_bottom_zeros size true m has = has
-or_bottom_zeros size false m has = matrix_zeros size (bottom size) (bottom_is_matrix size)
+or_bottom_flat : (size : ℕ) (b : Bool) (m : List ℤ) → IsFlat size m → IsFlat size (if b then m else bottom size)
+or_bottom_flat size true m has = has
+or_bottom_flat size false m has = matrix_is_flat size (bottom size) (bottom_is_matrix size)
 
 module _ (p : Program) (a : Act) (x : Action) where
-  form_at_cell_zeros : (t : Seen) (place : ℕ) (mode : Mode) (y : Amount) (pack : Pack) (to : ℕ) (form : Option Lin) (m : List ℤ) → HasZeros (size_of pack) m → HasZeros (size_of pack) (form_at_cell p a x t place mode y pack to form m)
-  form_at_cell_zeros t place mode y pack to None m has = forgotten_zeros (size_of pack) to m has
-  form_at_cell_zeros t place mode y pack to (Some form) m has =
-      form_stored_zeros (size_of pack) to (receiver_of (form_at p.layout place)).signed mode (unit_of p.layout pack (of_item place))
+  form_at_cell_flat : (t : Seen) (place : ℕ) (mode : Mode) (y : Amount) (pack : Pack) (to : ℕ) (form : Option Lin) (m : List ℤ) → IsFlat (size_of pack) m → IsFlat (size_of pack) (form_at_cell p a x t place mode y pack to form m)
+  form_at_cell_flat t place mode y pack to None m has = forgotten_flat (size_of pack) to m has
+  form_at_cell_flat t place mode y pack to (Some form) m has =
+      form_stored_flat (size_of pack) to (receiver_of (form_at p.layout place)).signed mode (unit_of p.layout pack (of_item place))
       (known_of_amount (size_of pack) m form (receiver_of (form_at p.layout place)).scale (amount_at p a x t place y)) form m has
 
-  stored_cell_zeros : (t : Seen) (wrote : List Bytes) (place : ℕ) (mode : Mode) (y : Amount) (pack : Pack) (cell : Option ℕ) (m : List ℤ) → HasZeros (size_of pack) m → HasZeros (size_of pack) (stored_cell p a x t wrote place mode y pack cell m)
-  stored_cell_zeros t wrote place mode y pack None m has = has
-  stored_cell_zeros t wrote place mode y pack (Some k) m has = form_at_cell_zeros t place mode y pack (suc k) (amount_form p pack t wrote place y) m has
+  stored_cell_flat : (t : Seen) (wrote : List Bytes) (place : ℕ) (mode : Mode) (y : Amount) (pack : Pack) (cell : Option ℕ) (m : List ℤ) → IsFlat (size_of pack) m → IsFlat (size_of pack) (stored_cell p a x t wrote place mode y pack cell m)
+  stored_cell_flat t wrote place mode y pack None m has = has
+  stored_cell_flat t wrote place mode y pack (Some k) m has = form_at_cell_flat t place mode y pack (suc k) (amount_form p pack t wrote place y) m has
 
-  stored_zeros : (t : Seen) (wrote : List Bytes) (place : ℕ) (mode : Mode) (y : Amount) (pack : Pack) (m : List ℤ) → HasZeros (size_of pack) m → HasZeros (size_of pack) (stored_pack p a x t wrote place mode y pack m)
-  stored_zeros t wrote place mode y pack m has =
-      or_bottom_zeros (size_of pack) (has_operands p t wrote y) _
-      (forgotten_cells_zeros (size_of pack) (is_other p a x place) 1 pack (stored_cell p a x t wrote place mode y pack (cell_of pack (of_item place)) m)
-      (stored_cell_zeros t wrote place mode y pack (cell_of pack (of_item place)) m has))
+  stored_flat : (t : Seen) (wrote : List Bytes) (place : ℕ) (mode : Mode) (y : Amount) (pack : Pack) (m : List ℤ) → IsFlat (size_of pack) m → IsFlat (size_of pack) (stored_pack p a x t wrote place mode y pack m)
+  stored_flat t wrote place mode y pack m has =
+      or_bottom_flat (size_of pack) (has_operands p t wrote y) _
+      (forgotten_cells_flat (size_of pack) (is_other p a x place) 1 pack (stored_cell p a x t wrote place mode y pack (cell_of pack (of_item place)) m)
+      (stored_cell_flat t wrote place mode y pack (cell_of pack (of_item place)) m has))
 
-  outcome_zeros : (size : ℕ) (fails fits : Bool) (stored lost kept : List ℤ) → HasZeros size stored → HasZeros size lost → HasZeros size kept → HasZeros size (by_outcome fails fits stored lost kept)
-  outcome_zeros size false fits stored lost kept s l k = s
-  outcome_zeros size true true stored lost kept s l k = l
-  outcome_zeros size true false stored lost kept s l k = k
+  outcome_flat : (size : ℕ) (fails fits : Bool) (stored lost kept : List ℤ) → IsFlat size stored → IsFlat size lost → IsFlat size kept → IsFlat size (by_outcome fails fits stored lost kept)
+  outcome_flat size false fits stored lost kept s l k = s
+  outcome_flat size true true stored lost kept s l k = l
+  outcome_flat size true false stored lost kept s l k = k
 
-  counter_zeros : (statement : ℕ) (form : Option Lin) (pack : Pack) (cell : Option ℕ) (m : List ℤ) → HasZeros (size_of pack) m → HasZeros (size_of pack) (counter_stored p a x statement form pack cell m)
-  counter_zeros statement form pack None m has = has
-  counter_zeros statement form pack (Some k) m has = image_zeros (size_of pack) (suc k) form m has
+  counter_flat : (statement : ℕ) (form : Option Lin) (pack : Pack) (cell : Option ℕ) (m : List ℤ) → IsFlat (size_of pack) m → IsFlat (size_of pack) (counter_stored p a x statement form pack cell m)
+  counter_flat statement form pack None m has = has
+  counter_flat statement form pack (Some k) m has = image_flat (size_of pack) (suc k) form m has
 
-  guarded_zeros : (s : Seen) (t : Test) (wanted : Bool) (pack : Pack) (m : List ℤ) → HasZeros (size_of pack) m → HasZeros (size_of pack) (guarded_pack p a x s t wanted pack m)
-  guarded_zeros s (numbers b r c) wanted pack m has = ordered_zeros (size_of pack) _ _ _ _ _ m has
-  guarded_zeros s (texts y r z) wanted pack m has = has
-  guarded_zeros s (member place pairs) wanted pack m has = has
-  guarded_zeros s (numeric place) wanted pack m has = has
-  guarded_zeros s always wanted pack m has = has
+  guarded_flat : (s : Seen) (t : Test) (wanted : Bool) (pack : Pack) (m : List ℤ) → IsFlat (size_of pack) m → IsFlat (size_of pack) (guarded_pack p a x s t wanted pack m)
+  guarded_flat s (numbers b r c) wanted pack m has = ordered_flat (size_of pack) _ _ _ _ _ m has
+  guarded_flat s (texts y r z) wanted pack m has = has
+  guarded_flat s (member place pairs) wanted pack m has = has
+  guarded_flat s (numeric place) wanted pack m has = has
+  guarded_flat s always wanted pack m has = has
 
-  pub changed_zeros : (y : Part) (s : Seen) (wrote : List Bytes) (pack : Pack) (m : List ℤ) → HasZeros (size_of pack) m → HasZeros (size_of pack) (changed_pack p a x y s wrote pack m)
-  changed_zeros (read place) s wrote pack m has = has
-  changed_zeros unread s wrote pack m has = has
-  changed_zeros (divide d) s wrote pack m has = has
-  changed_zeros (store place mode y) s wrote pack m has =
+  pub changed_flat : (y : Part) (s : Seen) (wrote : List Bytes) (pack : Pack) (m : List ℤ) → IsFlat (size_of pack) m → IsFlat (size_of pack) (changed_pack p a x y s wrote pack m)
+  changed_flat (read place) s wrote pack m has = has
+  changed_flat unread s wrote pack m has = has
+  changed_flat (divide d) s wrote pack m has = has
+  changed_flat (store place mode y) s wrote pack m has =
       let t = with_taken p a x s in
-      outcome_zeros (size_of pack) (may_fail p a x t place mode y) (may_fit p a x t place mode y) _ _ m
-      (stored_zeros t wrote place mode y pack m has) (forgotten_cells_zeros (size_of pack) _ 1 pack m has) has
-  changed_zeros (bytes_in offset count) s wrote pack m has = forgotten_cells_zeros (size_of pack) _ 1 pack m has
-  changed_zeros (guard t wanted) s wrote pack m has = guarded_zeros s t wanted pack m has
-  changed_zeros (read_count n) s wrote pack m has = has
-  changed_zeros (set_count n y) s wrote pack m has = counter_zeros n _ pack _ m has
-  changed_zeros (count_down n) s wrote pack m has = counter_zeros n _ pack _ m has
-  changed_zeros (guard_count n wanted) s wrote pack m has = has
+      outcome_flat (size_of pack) (may_fail p a x t place mode y) (may_fit p a x t place mode y) _ _ m
+      (stored_flat t wrote place mode y pack m has) (forgotten_cells_flat (size_of pack) _ 1 pack m has) has
+  changed_flat (bytes_in offset count) s wrote pack m has = forgotten_cells_flat (size_of pack) _ 1 pack m has
+  changed_flat (guard t wanted) s wrote pack m has = guarded_flat s t wanted pack m has
+  changed_flat (read_count n) s wrote pack m has = has
+  changed_flat (set_count n y) s wrote pack m has = counter_flat n _ pack _ m has
+  changed_flat (count_down n) s wrote pack m has = counter_flat n _ pack _ m has
+  changed_flat (guard_count n wanted) s wrote pack m has = has
 
   module _ (packs : List Pack) where
     pub step2_fits : (y : Part) (s : Seen) (r : Seen2) → AreMatrices packs r.packs → IfSome (step2 p a x packs y s r) (λ t. AreMatrices packs t.1.packs)
     step2_fits y s r are =
         if_some_then (step p a x y s) _ (λ t. Unit {0}) (λ t. AreMatrices packs t.1.packs) (there (step p a x y s))
         (λ t _. if_some_then (all_closed p t.cells packs (changed p a x packs y s r).packs) _ (AreMatrices packs) (λ u. AreMatrices packs u.1.packs)
-        (all_closed_fit p t.cells packs (changed p a x packs y s r).packs (each_zeroed (changed_pack p a x y s r.wrote) (λ pack m has. changed_zeros y s r.wrote pack m has) packs r.packs (matrices_zeroed packs r.packs are)))
+        (all_fit p t.cells packs (changed p a x packs y s r).packs (each_flat (changed_pack p a x y s r.wrote) (λ pack m is. changed_flat y s r.wrote pack m (matrix_is_flat (size_of pack) m is)) packs r.packs are))
         (λ ms fit. fit))
       where
         there : (o : Option Seen) → IfSome o (λ t. Unit {0})
@@ -278,5 +231,5 @@ pub posts_fit : (p : Program) (packs : List Pack) (statement : ℕ) (a : Act) (x
 posts_fit p packs statement a x cells ms are =
     or_bottoms_fit packs ms (walked_packs p packs statement a x (Some cells) ms) are
     (if_some_then (all_closed p cells packs ms) (λ cs. finished2 p packs a x (steps2 p packs a x (parts_of p statement a x) (beginning cells) (beginning2 cs))) (AreMatrices packs) (AreMatrices packs)
-    (all_closed_fit p cells packs ms (matrices_zeroed packs ms are))
+    (all_fit p cells packs ms (all_are_flat packs ms are))
     (λ cs fit. finished2_fits p a x packs (steps2 p packs a x (parts_of p statement a x) (beginning cells) (beginning2 cs)) (steps2_fit p a x packs (parts_of p statement a x) (beginning cells) (beginning2 cs) fit)))

@@ -38,13 +38,18 @@ module _ (size : ℕ) (a b : List ℤ) (lower : AreLower (size + 1) (word (size 
       subst (λ (coefs : List ℤ). IsUnder (upper_of size a f) (upper (word (size + 1) b) (coef_at coefs) g.constant.high size)) n.coefs
       (upper_under size (word (size + 1) a) (word (size + 1) b) lower (coef_at f.coefs) f.constant.high g.constant.high n.high)
 
-  upper_lower_if : (o q : Option Lin) → IsNarrowerIfAny o q → IsUnder (o >>= upper_of size a) (q >>= upper_of size b)
+  pub upper_lower_if : (o q : Option Lin) → IsNarrowerIfAny o q → IsUnder (o >>= upper_of size a) (q >>= upper_of size b)
   upper_lower_if o None n = tt
   upper_lower_if None (Some g) n = absurd n
   upper_lower_if (Some f) (Some g) n = upper_lower f g n
 
   pub upper_negated_lower : (f g : Lin) → IsNarrower f g → IsUnder (upper_negated size a f) (upper_negated size b g)
   upper_negated_lower f g n = upper_lower_if (turned_form true f) (turned_form true g) (turns_narrower true (Some f) (Some g) n)
+
+  pub upper_negated_lower_if : (o q : Option Lin) → IsNarrowerIfAny o q → IsUnder (o >>= upper_negated size a) (q >>= upper_negated size b)
+  upper_negated_lower_if o None n = tt
+  upper_negated_lower_if None (Some g) n = absurd n
+  upper_negated_lower_if (Some f) (Some g) n = upper_negated_lower f g n
 
   range_surer : (f g : Lin) → IsNarrower f g → (to : ℕ) (r q : Ranged) → range.IsNarrower r q → IsSurer (known_of_range size a f to r) (known_of_range size b g to q)
   range_surer f g n to r q m = record {
