@@ -1,0 +1,6 @@
+pub mod Given
+pub mod Pieces
+pub mod Entry
+pub mod Flow
+pub mod Clears
+pub mod Meaning
