@@ -15,11 +15,11 @@ use Rattle.diff_steps.specs.Packs.{Pack, size_of, cells_in, PackStands, PacksSta
 use Rattle.diff_steps.specs.Edges.{or_bottoms, no_bounds, entry_packs}
 use Rattle.diff_steps.specs.Steps.{all_closed}
 use Rattle.pack_laws.proofs.Words.{word_at}
-use Rattle.pack_edges.specs.Agreeing.{AreMatrices, IsTame, AreTame}
+use Rattle.pack_edges.specs.Agreeing.{AreMatrices}
 use Rattle.pack_edges.proofs.PacksClosingRise.{words_are_matrix}
 use Rattle.pack_edges.proofs.PacksPutRise.{all_are_flat, all_fit}
 use Rattle.pack_edges.proofs.PacksFit.{or_bottoms_fit}
-use Rattle.pack_edges.proofs.PacksKeepAllClosed.{all_closed_stand}
+use Rattle.pack_edges.proofs.PacksKeep.{all_closed_stand}
 
 -- ---- no bounds
 
@@ -59,20 +59,6 @@ unbounded_stand : (l : Layout) (s : Storage) (packs : List Pack) → PacksStand 
 unbounded_stand l s [] = tt
 unbounded_stand l s (pack ∷ packs) = (no_bounds_stand l pack s, unbounded_stand l s packs)
 
--- ---- matrices
-
-tame_matrix : (size : ℕ) (m : List ℤ) → IsMatrix size m → IsTame size m
-tame_matrix size m is = record { diagonal = λ i h. not_below (word (size + 1) m i i) (is.diagonal i (omega (arith, h))) }
-  where
-    not_below : (x : ℤ) → x ≡ pos 0 → pos 0 ≤ℤ x
-    not_below x e = omega (arith, ints, e)
-
-are_tame : (packs : List Pack) (ms : List (List ℤ)) → AreMatrices packs ms → AreTame packs ms
-are_tame [] [] are = tt
-are_tame [] (m ∷ ms) are = absurd are
-are_tame (pack ∷ packs) [] are = absurd are
-are_tame (pack ∷ packs) (m ∷ ms) are = ((are.0.0, tame_matrix (size_of pack) m are.0.1), are_tame packs ms are.1)
-
 -- ---- the entry
 
 module _ (p : Program) (packs : List Pack) (few : AllByRecursion (λ pack. size_of pack ≤ 8) packs) (known : List Known) where
@@ -85,8 +71,8 @@ module _ (p : Program) (packs : List Pack) (few : AllByRecursion (λ pack. size_
   pub entry_stands : (s : Storage) → StandsIn p known s → PacksStand p.layout packs (entry_packs p packs known) s
   entry_stands s stands =
       closed (all_closed p known packs (unbounded_packs packs))
-      (all_closed_stand p known s stands.known packs (unbounded_packs packs) (are_tame packs (unbounded_packs packs) (unbounded_are packs few)) (unbounded_stand p.layout s packs))
+      (all_closed_stand p known s stands.known packs (unbounded_packs packs) (all_are_flat packs (unbounded_packs packs) (unbounded_are packs few)) (unbounded_stand p.layout s packs))
     where
-      closed : (o : Option (List (List ℤ))) → IsSomeAnd o (λ cs. AreTame packs cs × PacksStand p.layout packs cs s) → PacksStand p.layout packs (or_bottoms packs o) s
+      closed : (o : Option (List (List ℤ))) → IsSomeAnd o (λ cs. PacksStand p.layout packs cs s) → PacksStand p.layout packs (or_bottoms packs o) s
       closed None h = absurd h
-      closed (Some cs) h = h.1
+      closed (Some cs) h = h

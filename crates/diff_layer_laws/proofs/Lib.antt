@@ -4,3 +4,4 @@ pub mod Entry
 pub mod Flow
 pub mod Clears
 pub mod Meaning
+pub mod Filled

@@ -92,7 +92,7 @@ opposite_self (pos zero) = refl
 opposite_self (pos (suc k)) = refl
 opposite_self (negsuc k) = refl
 
-pub self_factor : (c : ℕ → ℤ) (i : ℕ) → factor c i i ≡ None
+self_factor : (c : ℕ → ℤ) (i : ℕ) → factor c i i ≡ None
 self_factor c zero = refl
 self_factor c (suc i) = opposite_self (c (suc i))
 

@@ -9,8 +9,10 @@ pub mod FormsShowValues
 pub mod FormsShowSums
 pub mod PacksPutRise
 pub mod PacksWordsRise
+pub mod PacksClearsFall
+pub mod PacksEdgesRise
 pub mod PacksStoresRise
 pub mod PacksKeepCells
 pub mod PacksKeepCounters
 pub mod PacksKeepGiven
-pub mod PacksClearsFall
+pub mod PacksPartsRise

@@ -1,8 +1,7 @@
 -- What both layers clear at a part where more is seen they clear where less is.
-use Rattle.std.proofs.Common.{◌≡◌, ℕ, ◌+◌, ◌≤◌, Bool, true, false, ◌&&◌, ◌||◌, not, inl, inr, List, [], ◌∷◌, ℤ, pos, neg_ℤ, ◌≤ℤ◌, Option, Some, None, is_some, refl, sym, ap, subst, ◌∙◌, arith}
+use Rattle.std.proofs.Common.{◌≡◌, ℕ, ◌+◌, Bool, true, false, ◌&&◌, ◌||◌, not, inl, inr, List, [], ◌∷◌, ℤ, pos, neg_ℤ, ◌≤ℤ◌, Option, Some, None, refl, ap, subst, ◌∙◌, arith}
 use Rattle.std.specs.Prelude.{int_le, int_lt}
 use Rattle.std.specs.Option.{option_map_or}
-use Rattle.std.specs.List.{list_any}
 use Rattle.std.proofs.lemmas.Int.{ints}
 use Rattle.std.proofs.lemmas.Bool.{and_parts, false≢true}
 use Rattle.dec_num.specs.declared.types.Mode.{Mode}
@@ -15,19 +14,16 @@ use Rattle.cob_program.specs.Sum.{Atom}
 use Rattle.cob_program.specs.Values.{◌>>=◌}
 use Rattle.cob_program.specs.Act.{Act, Program}
 use Rattle.cob_runs.specs.declared.action.Action.{Action}
-use Rattle.cob_runs.specs.Computing.{items_in}
 use Rattle.cob_runs.specs.Contents.{form_at}
-use Rattle.cob_edge_parts.specs.Parts.{Amount, moved, computed, remaining, augmented, Part, read, unread, divide, store, bytes_in, guard, read_count, set_count, count_down, guard_count, has_phrase}
+use Rattle.cob_edge_parts.specs.Parts.{Amount, Part, read, unread, divide, store, bytes_in, guard, read_count, set_count, count_down, guard_count, has_phrase}
 use Rattle.linear_form.specs.declared.form.Lin.{Lin}
 use Rattle.diff_bounds.specs.Matrix.{word}
 use Rattle.form_bounds.specs.Numbers.{IsUnder}
 use Rattle.form_bounds.specs.Upper.{upper_of}
 use Rattle.form_bounds.specs.Values.{AreLower}
 use Rattle.sum_ranges.specs.declared.ranged.Ranged.{Ranged}
-use Rattle.sum_ranges.specs.Ranged.{IsBelow}
-use Rattle.sum_ranges.specs.SumRanges.{sum_range, atom_range}
+use Rattle.sum_ranges.specs.SumRanges.{atom_range}
 use Rattle.sum_ranges.specs.Vanishing.{holds_zero}
-use Rattle.sum_ranges.proofs.Narrow.{sum_below}
 use Rattle.sum_forms.specs.SumForms.{atom_form}
 use Rattle.sum_forms.specs.Values.{IsNarrowerIfAny}
 use Rattle.result_ranges.specs.declared.amounts.Receiver.{Receiver}
@@ -52,7 +48,7 @@ use Rattle.cell_edges.proofs.PartsRise.{taken_rises}
 use Rattle.cell_edges.proofs.ClearsFall.{clears_below}
 use Rattle.cell_edges.proofs.ResultLawsHold.{rising}
 use Rattle.diff_steps.specs.Packs.{Pack, size_of, pack_decimals}
-use Rattle.diff_steps.specs.Moments.{Bytes, Seen2, is_written}
+use Rattle.diff_steps.specs.Moments.{Bytes, Seen2}
 use Rattle.diff_steps.specs.Forms.{cell_at, amount_form, set_form, lowered_form, has_operands}
 use Rattle.diff_steps.specs.Stores.{upper_negated}
 use Rattle.diff_steps.specs.Clearing.{some_pack, high_fits, low_fits, high_shown, low_shown, ends_fit, is_negative, is_apart_in, amounts_fit, store_fits, clears_part2}
@@ -60,6 +56,7 @@ use Rattle.pack_edges.specs.Agreeing.{AreMatrices}
 use Rattle.pack_edges.specs.EdgeLaws.{AreLowerEach}
 use Rattle.pack_edges.proofs.PacksPutRise.{matrix_is_flat, lower_of}
 use Rattle.pack_edges.proofs.SignsRise.{upper_lower_if, upper_negated_lower_if}
+use Rattle.pack_edges.proofs.PacksStoresRise.{operands_rise}
 use Rattle.pack_edges.proofs.FormsRise.{are_taken, divisor_narrower, lowered_narrower, set_narrower, amount_narrower}
 
 -- ---- tests of numbers
@@ -148,21 +145,6 @@ module _ (p : Program) (packs : List Pack) (r q : Seen2) (under : PacksBelow pac
     -- ---- stores, where operands are taken
 
     module _ (s t : Seen) (below : SeenBelow p a x s t) where
-      there_above : (o u : Option Ranged) → IsBelow o u → is_some o ≡ true → is_some u ≡ true
-      there_above None u n e = absurd (false≢true e)
-      there_above (Some v) None n e = absurd n
-      there_above (Some v) (Some w) n e = refl
-
-      -- operands that have a range below have one above
-      pub operands_rise : (wrote : List Bytes) (y : Amount) → has_operands p s wrote y ≡ true → has_operands p t wrote y ≡ true
-      operands_rise wrote (moved z) e = refl
-      operands_rise wrote (computed sum h) e =
-          or_rises (list_any (is_written p.layout wrote) (items_in sum)) (is_some (sum_range (range_at p s.cells) sum)) (list_any (is_written p.layout wrote) (items_in sum)) (is_some (sum_range (range_at p t.cells) sum)) (λ f. f)
-          (there_above (sum_range (range_at p s.cells) sum) (sum_range (range_at p t.cells) sum)
-          (sum_below (range_at p s.cells) (range_at p t.cells) (range_below p.layout (homes_of p) s.cells t.cells below.fits below.cells) sum)) e
-      operands_rise wrote (remaining sum scale) e = refl
-      operands_rise wrote (augmented z) e = refl
-
       -- a form that may speak of what the edge has written to
       along_wrote : (form : List Bytes → Option Lin) (o : Option Lin) → IsNarrowerIfAny o (form r.wrote) → IsNarrowerIfAny o (form q.wrote)
       along_wrote form o n = subst (λ (wrote : List Bytes). IsNarrowerIfAny o (form wrote)) under.wrote n
@@ -212,7 +194,7 @@ module _ (p : Program) (packs : List Pack) (r q : Seen2) (under : PacksBelow pac
             by_common has (Some c) (Some d) e n f = amounts_fall has c d e n f
 
             above : has_operands p s r.wrote y ≡ true → has_operands p t q.wrote y ≡ true
-            above has = subst (λ (wrote : List Bytes). has_operands p t wrote y ≡ true) under.wrote (operands_rise r.wrote y has)
+            above has = subst (λ (wrote : List Bytes). has_operands p t wrote y ≡ true) under.wrote (operands_rise p a x s t below r.wrote y has)
 
             by_operands : (b : Bool) → has_operands p s r.wrote y ≡ b → (not (has_operands p t q.wrote y) || option_map_or (amounts_fit p packs a x t q place mode y) t.common true) ≡ true
                 → (not b || option_map_or (amounts_fit p packs a x s r place mode y) s.common true) ≡ true

@@ -3,7 +3,7 @@ use Rattle.std.proofs.Common.{◌≡◌, ℕ, zero, suc, ◌+◌, ◌*◌, ◌/�
 use Rattle.std.specs.Prelude.{int_lt, int_le, if◌then◌else◌, ◌&&◌, IfSome}
 use Rattle.std.specs.Int.{int_min}
 use Rattle.std.proofs.lemmas.Int.{ints, clamps, by_lt_z}
-use Rattle.std.proofs.lemmas.Bool.{cases_Bool, cases_eq, and_parts, false≢true}
+use Rattle.std.proofs.lemmas.Bool.{cases_eq, and_parts, false≢true}
 use Rattle.std.proofs.lemmas.List.FromFn.{get_or-map-range_with_len, length-map-range_with_len}
 use Rattle.diff_bounds.specs.Matrix.{word, none, IsWord, IsMatrix}
 use Rattle.diff_bounds.specs.Paths.{cut_of}
@@ -28,17 +28,17 @@ opened_beyond x h = rw (le_false x none h) refl
 none_before : none ≤ℤ no_path
 none_before = omega (arith, ints)
 
-both_are : (x y p q : ℤ) → p ≡ x → q ≡ y → x ≤ℤ y → p ≤ℤ q
-both_are x y p q e f h = omega (arith, ints, e, f, h)
+pub order_along : (x y p q : ℤ) → p ≡ x → q ≡ y → x ≤ℤ y → p ≤ℤ q
+order_along x y p q e f h = omega (arith, ints, e, f, h)
 
 opened_rises : (x y : ℤ) → x ≤ℤ y → opened x ≤ℤ opened y
-opened_rises x y h = by_lt_z y none below (λ (le : none ≤ℤ y). by_lt_z x none (open_below le) (λ (more : none ≤ℤ x). both_are no_path no_path (opened x) (opened y) (opened_beyond x more) (opened_beyond y le) (omega (arith, ints))))
+opened_rises x y h = by_lt_z y none below (λ (le : none ≤ℤ y). by_lt_z x none (open_below le) (λ (more : none ≤ℤ x). order_along no_path no_path (opened x) (opened y) (opened_beyond x more) (opened_beyond y le) (omega (arith, ints))))
   where
     below : y <ℤ none → opened x ≤ℤ opened y
-    below lt = both_are x y (opened x) (opened y) (opened_at x (omega (arith, ints, h, lt))) (opened_at y lt) h
+    below lt = order_along x y (opened x) (opened y) (opened_at x (omega (arith, ints, h, lt))) (opened_at y lt) h
 
     open_below : none ≤ℤ y → x <ℤ none → opened x ≤ℤ opened y
-    open_below le lt = let n = none_before in both_are x no_path (opened x) (opened y) (opened_at x lt) (opened_beyond y le) (omega (arith, ints, n, lt))
+    open_below le lt = let n = none_before in order_along x no_path (opened x) (opened y) (opened_at x lt) (opened_beyond y le) (omega (arith, ints, n, lt))
 
 -- ---- one step
 abbrev chosen : Bool → Bool → ℤ → ℤ → ℤ
@@ -185,7 +185,7 @@ module _ (size : ℕ) where
   cut_rises None q h = tt
   cut_rises (Some a) None h = absurd h
   cut_rises (Some a) (Some b) h = record {
-    words = λ i j l g. both_are (cut_of (a i j)) (cut_of (b i j)) _ _ (word_at size (λ i j. cut_of (a i j)) i j l g) (word_at size (λ i j. cut_of (b i j)) i j l g) (cut_monotone (a i j) (b i j) (h.words i j l g));
+    words = λ i j l g. order_along (cut_of (a i j)) (cut_of (b i j)) _ _ (word_at size (λ i j. cut_of (a i j)) i j l g) (word_at size (λ i j. cut_of (b i j)) i j l g) (cut_monotone (a i j) (b i j) (h.words i j l g));
   }
 
   pub closed_rises : (m t : List ℤ) → AreLower (size + 1) (word (size + 1) m) (word (size + 1) t) → LowerIfAny size (closed size m) (closed size t)

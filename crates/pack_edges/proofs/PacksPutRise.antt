@@ -1,10 +1,9 @@
 -- Packs that are lowered to what is known of their cells, and closed, where less is known.
-use Rattle.std.proofs.Common.{◌≡◌, ◌≢◌, ℕ, zero, suc, ◌+◌, ◌<◌, ◌≤◌, List, [], ◌∷◌, ℤ, pos, neg_ℤ, ◌*ℤ◌, ◌≤ℤ◌, Option, Some, None, inl, inr, refl, sym, subst, ◌∙◌, arith}
+use Rattle.std.proofs.Common.{◌≡◌, ℕ, zero, suc, ◌+◌, ◌<◌, ◌≤◌, List, [], ◌∷◌, ℤ, pos, neg_ℤ, ◌*ℤ◌, ◌≤ℤ◌, Option, Some, None, inl, inr, refl, subst, ◌∙◌, arith}
 use Rattle.std.specs.Prelude.{IfSome, slice_get}
 use Rattle.std.specs.Int.{int_min}
 use Rattle.std.proofs.lemmas.Int.{ints, clamps}
 use Rattle.std.proofs.lemmas.Bool.{cases_eq}
-use Rattle.decimal_interval.specs.declared.bounds.Interval.{Interval}
 use Rattle.decimal_interval.proofs.Ends.{times_grows}
 use Rattle.cob_data.specs.declared.layout.Layout.{Layout}
 use Rattle.cob_program.specs.Values.{◌>>=◌}
@@ -23,7 +22,7 @@ use Rattle.pack_laws.proofs.Words.{word_at}
 use Rattle.cell_edges.proofs.CellLists.{known_below}
 use Rattle.pack_edges.specs.Agreeing.{AreMatrices}
 use Rattle.pack_edges.specs.EdgeLaws.{AreLowerEach}
-use Rattle.pack_edges.proofs.PacksClosingRise.{LowerIfAny, closed_rises, closed_fits}
+use Rattle.pack_edges.proofs.PacksClosingRise.{order_along, LowerIfAny, closed_rises, closed_fits}
 
 -- ---- matrices with zeros on the diagonal
 pub record IsFlat (size : ℕ) (m : List ℤ) : Type 0 where
@@ -86,14 +85,11 @@ module _ (l : Layout) (homes : List Home) (as_ bs : List Known) (below : CellsBe
   put_word_rises w u (suc k) zero h = put_high_rises (slice_get pack k) (w (suc k) zero) (u (suc k) zero) h
   put_word_rises w u (suc j) (suc k) h = h
 
-  both_are : (x y p q : ℤ) → p ≡ x → q ≡ y → x ≤ℤ y → p ≤ℤ q
-  both_are x y p q e f h = omega (arith, ints, e, f, h)
-
   put_rises : (m t : List ℤ) → AreLower (size_of pack + 1) (word (size_of pack + 1) m) (word (size_of pack + 1) t) → LowerIfAny (size_of pack) (put_closed l homes as_ pack m) (put_closed l homes bs pack t)
   put_rises m t lower =
       closed_rises (size_of pack) (with_words (size_of pack) (put_word l homes as_ pack (word (size_of pack + 1) m))) (with_words (size_of pack) (put_word l homes bs pack (word (size_of pack + 1) t)))
       (record {
-        words = λ i j h g. both_are _ _ _ _
+        words = λ i j h g. order_along _ _ _ _
             (word_at (size_of pack) (put_word l homes as_ pack (word (size_of pack + 1) m)) i j h g) (word_at (size_of pack) (put_word l homes bs pack (word (size_of pack + 1) t)) i j h g)
             (put_word_rises (word (size_of pack + 1) m) (word (size_of pack + 1) t) i j (lower.words i j h g));
       })

@@ -15,7 +15,7 @@ use Rattle.linear_form.specs.declared.form.Lin.{Lin}
 use Rattle.linear_form.specs.Results.{IsNarrower}
 use Rattle.diff_bounds.specs.Matrix.{word, none, IsMatrix}
 use Rattle.form_bounds.specs.Values.{AreLower}
-use Rattle.store_error.specs.Errors.{error_in, IsSurer}
+use Rattle.store_error.specs.Errors.{IsSurer}
 use Rattle.sum_ranges.specs.declared.ranged.Ranged.{Ranged}
 use Rattle.sum_ranges.specs.Ranged as range
 use Rattle.sum_ranges.specs.SumRanges.{sum_range}
@@ -40,14 +40,14 @@ use Rattle.diff_steps.specs.Packs.{Pack, size_of, cell_of, unit_of}
 use Rattle.diff_steps.specs.Matrices.{bottom}
 use Rattle.diff_steps.specs.Moments.{Bytes, is_written}
 use Rattle.diff_steps.specs.Forms.{amount_form, has_operands}
-use Rattle.diff_steps.specs.Stores.{known_of_amount, widened_form, forgotten_cells}
-use Rattle.diff_steps.specs.Steps.{by_outcome, is_other, is_lost, form_at_cell, stored_cell, stored_pack, lost_pack, pack_behind_store, counter_stored, counted_pack}
+use Rattle.diff_steps.specs.Stores.{known_of_amount, forgotten_cells}
+use Rattle.diff_steps.specs.Steps.{by_outcome, is_other, is_lost, form_at_cell, stored_cell, stored_pack, pack_behind_store, counter_stored, counted_pack}
 use Rattle.pack_laws.specs.Orders.{AreLowerOff}
 use Rattle.pack_laws.proofs.Rises.{IsImage, forgotten_image, form_image, image_below, put_lower, store_lower}
 use Rattle.pack_edges.proofs.FormsRise.{amount_narrower}
 use Rattle.pack_edges.proofs.SignsRise.{amount_surer}
 use Rattle.pack_edges.proofs.PacksPutRise.{off_of}
-use Rattle.pack_edges.proofs.PacksWordsRise.{IsHigh, HasTop, matrix_is_high, matrix_has_top, value_high, lost_high, cells_high, bottom_high, bottom_below, is_gone_at, cells_rise, kept_below, gone_at_cell, cell_within}
+use Rattle.pack_edges.proofs.PacksWordsRise.{IsHigh, HasTop, matrix_is_high, matrix_has_top, value_high, forgotten_high, cells_high, bottom_high, bottom_below, is_gone_at, cells_rise, kept_below, gone_at_cell, cell_within}
 
 -- ---- numbers of an amount
 is_there : {A B : Type 0} (o : Option A) (next : A → Option B) → is_some (o >>= next) ≡ true → (r : A) × (o ≡ Some r)
@@ -149,7 +149,7 @@ module _ (p : Program) (a : Act) (x : Action) (s t : Seen) (h : TakenBelow risin
     stored_top (Some k) e = image_top (suc k) (within k e) (below_cell (suc k) (amount_form p pack s wrote place y)) (cell_image (suc k) (within k e) (amount_form p pack s wrote place y))
 
     form_high : (to : ℕ) (o : Option Lin) → IsHigh (size_of pack) (above_cell to o)
-    form_high to None = lost_high (size_of pack) to n (matrix_is_high (size_of pack) n are)
+    form_high to None = forgotten_high (size_of pack) to n (matrix_is_high (size_of pack) n are)
     form_high to (Some g) =
         let k = known_of_amount (size_of pack) n g (receiver_of (form_at p.layout place)).scale (amount_at p a x t place y) in
         value_high (size_of pack) to (receiver_of (form_at p.layout place)).signed k _ n (matrix_is_high (size_of pack) n are)

@@ -1,6 +1,6 @@
 -- Changes of one pack's matrix: what a lower matrix becomes is lower, and zeros on the diagonal stay.
-use Rattle.std.proofs.Common.{◌≡◌, ◌≢◌, ℕ, zero, suc, ◌+◌, ◌<◌, ◌≤◌, Bool, true, false, List, [], ◌∷◌, length, ℤ, pos, negsuc, neg_ℤ, ◌≤ℤ◌, Option, Some, None, ◌⊎◌, inl, inr, refl, sym, ap, subst, ◌∙◌, arith}
-use Rattle.std.specs.Prelude.{nat_eq, ◌&&◌, ◌||◌, if◌then◌else◌, IfSome}
+use Rattle.std.proofs.Common.{◌≡◌, ◌≢◌, ℕ, zero, suc, ◌+◌, ◌<◌, ◌≤◌, Bool, true, false, List, [], ◌∷◌, length, ℤ, pos, negsuc, neg_ℤ, ◌≤ℤ◌, Option, Some, None, refl, ap, ◌∙◌, arith}
+use Rattle.std.specs.Prelude.{nat_eq, ◌&&◌, ◌||◌, if◌then◌else◌}
 use Rattle.std.specs.Option.{option_map}
 use Rattle.std.specs.Int.{int_min}
 use Rattle.std.proofs.lemmas.Int.{ints, clamps}
@@ -9,7 +9,6 @@ use Rattle.decimal_interval.specs.Corners.{interval}
 use Rattle.cob_program.specs.Values.{◌>>=◌}
 use Rattle.linear_form.specs.declared.form.Lin.{Lin}
 use Rattle.linear_form.specs.Forms.{is_small}
-use Rattle.linear_form.specs.Results.{IsNarrower}
 use Rattle.diff_bounds.specs.Matrix.{word, none, largest, IsWord, IsMatrix}
 use Rattle.diff_bounds.proofs.Ends.{words_of}
 use Rattle.form_bounds.specs.Numbers.{word_of}
@@ -28,10 +27,11 @@ use Rattle.cell_storages.specs.Homes.{Home, is_home}
 use Rattle.diff_steps.specs.Packs.{cell_of}
 use Rattle.diff_steps.specs.Matrices.{with_words, bottom, lesser, forgotten, assigned, demanded}
 use Rattle.diff_steps.specs.Stores.{assigned_or_forgotten, absolute_stored, value_stored, forgotten_cells}
-use Rattle.diff_steps.specs.Guards.{demanded_if, strictly, at_most, ordered}
+use Rattle.diff_steps.specs.Guards.{demanded_if, at_most, ordered}
 use Rattle.store_error.specs.declared.known.Known as sure
 use Rattle.pack_laws.specs.Orders.{AreLowerOff}
 use Rattle.pack_laws.proofs.Words.{word_at}
+use Rattle.pack_edges.proofs.PacksClosingRise.{order_along}
 use Rattle.pack_edges.proofs.PacksPutRise.{IsFlat}
 
 -- ---- zeros on the diagonal
@@ -158,7 +158,7 @@ module _ (size : ℕ) where
   choice_high true x y h k = h
   choice_high false x y h k = k
 
-  forgotten_high : (to : ℕ) (m : List ℤ) → IsHigh m → IsHigh (forgotten size to m)
+  pub forgotten_high : (to : ℕ) (m : List ℤ) → IsHigh m → IsHigh (forgotten size to m)
   forgotten_high to m is = record {
     least = λ i j h g ne. same_high _ _ (word_at size (forgotten_words to m) i j (omega arith) (omega arith))
         (choice_high (nat_eq i j) (word (size + 1) m i j) (if nat_eq i to || nat_eq j to then none else word (size + 1) m i j) (is.least i j h g ne)
@@ -187,15 +187,15 @@ module _ (size : ℕ) where
         (choice_high (nat_eq j to) (column_of form m i) (word (size + 1) m i j) (column_high form m i) (is.least i j h g ne))));
   }
 
-  min_high : (x y z : ℤ) → z ≡ int_min x y → neg_ℤ largest ≤ℤ x → neg_ℤ largest ≤ℤ y → neg_ℤ largest ≤ℤ z
-  min_high x y z e h k = omega (arith, ints, clamps, e, h, k)
+  min_is_high : (x y z : ℤ) → z ≡ int_min x y → neg_ℤ largest ≤ℤ x → neg_ℤ largest ≤ℤ y → neg_ℤ largest ≤ℤ z
+  min_is_high x y z e h k = omega (arith, ints, clamps, e, h, k)
 
   lesser_word : (a b : List ℤ) (i j : ℕ) → i ≤ size → j ≤ size → word (size + 1) (lesser size a b) i j ≡ int_min (word (size + 1) a i j) (word (size + 1) b i j)
   lesser_word a b i j h g = word_at size (λ i j. int_min (word (size + 1) a i j) (word (size + 1) b i j)) i j (omega arith) (omega arith)
 
   lesser_high : (a b : List ℤ) → IsHigh a → IsHigh b → IsHigh (lesser size a b)
   lesser_high a b is are = record {
-    least = λ i j h g ne. min_high (word (size + 1) a i j) (word (size + 1) b i j) (word (size + 1) (lesser size a b) i j) (lesser_word a b i j h g) (is.least i j h g ne) (are.least i j h g ne);
+    least = λ i j h g ne. min_is_high (word (size + 1) a i j) (word (size + 1) b i j) (word (size + 1) (lesser size a b) i j) (lesser_word a b i j h g) (is.least i j h g ne) (are.least i j h g ne);
   }
 
   put_high : (to : ℕ) (o : Option Lin) (m : List ℤ) → IsHigh m → IsHigh (assigned_or_forgotten size to o m)
@@ -212,9 +212,6 @@ module _ (size : ℕ) where
   pub value_high : (to : ℕ) (signed : Bool) (k : sure.Known) (o : Option Lin) (m : List ℤ) → IsHigh m → IsHigh (value_stored size to signed k o m)
   value_high to true k o m is = put_high to o m is
   value_high to false k o m is = absolute_high to o k.not_negative k.not_positive m is
-
-  pub lost_high : (to : ℕ) (m : List ℤ) → IsHigh m → IsHigh (forgotten size to m)
-  lost_high to m is = forgotten_high to m is
 
   bottom_word_is : (i j : ℕ) → i ≤ size → j ≤ size → i ≢ j → word (size + 1) (bottom size) i j ≡ neg_ℤ largest
   bottom_word_is i j h g ne = word_at size (λ i j. if nat_eq i j then pos 0 else neg_ℤ largest) i j (omega arith) (omega arith) ∙ off_diagonal i j (pos 0) (neg_ℤ largest) ne
@@ -281,14 +278,11 @@ module _ (size : ℕ) where
       → ((i j : ℕ) → i ≤ size → j ≤ size → i ≢ j → is_gone_at two at hs i ≡ false → is_gone_at two at hs j ≡ false → word (size + 1) a i j ≤ℤ word (size + 1) b i j)
       → AreLowerOff size (forgotten_cells size one at hs a) (forgotten_cells size two at hs b)
   cells_rise one two at hs a b more top lower = record {
-    words = λ i j h g ne. both_are _ _ _ _ (cells_words one at hs a i j h g ne) (cells_words two at hs b i j h g ne)
+    words = λ i j h g ne. order_along _ _ _ _ (cells_words one at hs a i j h g ne) (cells_words two at hs b i j h g ne)
         (by_tests (is_gone_at one at hs i) (is_gone_at one at hs j) (is_gone_at two at hs i) (is_gone_at two at hs j) (word (size + 1) a i j) (word (size + 1) b i j)
         (gone_rises one two more at hs i) (gone_rises one two more at hs j) (top.most i j h g ne) (lower i j h g ne));
   }
     where
-      both_are : (x y p q : ℤ) → p ≡ x → q ≡ y → x ≤ℤ y → p ≤ℤ q
-      both_are x y p q e f h = omega (arith, ints, e, f, h)
-
       top_of : (c : Bool) (x : ℤ) → x ≤ℤ none → (if c then none else x) ≤ℤ none
       top_of true x h = omega (arith, ints)
       top_of false x h = h

@@ -136,7 +136,7 @@ module _ (size to : ℕ) (last : to ≤ size) where
     lesser_right : (x y z : List ℤ) → AreLowerOff size y z → AreLowerOff size (lesser size x y) z
     lesser_right x y z is = record { words = λ i j h g ne. min_right _ _ _ (word (size + 1) z i j) (lesser_word x y i j h g) (is.words i j h g ne) }
 
-    pub lesser_both : (x y z t : List ℤ) → AreLowerOff size x z → AreLowerOff size y t → AreLowerOff size (lesser size x y) (lesser size z t)
+    lesser_both : (x y z t : List ℤ) → AreLowerOff size x z → AreLowerOff size y t → AreLowerOff size (lesser size x y) (lesser size z t)
     lesser_both x y z t is are = record { words = λ i j h g ne. min_both _ _ _ _ _ _ (lesser_word x y i j h g) (lesser_word z t i j h g) (is.words i j h g ne) (are.words i j h g ne) }
 
     absolute_lower : (o p : Option Lin) (n q m r : Bool) → IsNarrowerIfAny o p → (m ≡ true → n ≡ true) → (r ≡ true → q ≡ true) → AreLowerOff size (absolute_stored size to o n q a) (absolute_stored size to p m r b)
