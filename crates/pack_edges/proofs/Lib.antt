@@ -2,7 +2,6 @@ pub mod FormsRise
 pub mod SignsRise
 pub mod PacksClosingRise
 pub mod PacksFit
-pub mod PacksKeepTame
 pub mod PacksKeepClosed
 pub mod FormsShowItems
 pub mod FormsShowValues
@@ -15,4 +14,11 @@ pub mod PacksStoresRise
 pub mod PacksKeepCells
 pub mod PacksKeepCounters
 pub mod PacksKeepGiven
+pub mod PacksKeepStores
+pub mod PacksKeep
 pub mod PacksPartsRise
+pub mod CellLaws
+pub mod FormsShowAmounts
+pub mod FormsShowCounters
+pub mod FormsShowGuards
+pub mod FormsShowMoments
