@@ -1,5 +1,5 @@
 -- What receivers and counters get is one of the numbers of its form.
-use Rattle.std.proofs.Common.{◌≡◌, ◌≤◌, ℕ, ◌+◌, Bool, true, false, ◌||◌, if◌then◌else◌, List, [], ◌∷◌, ◌++◌, Option, Some, None, is_some, ℤ, pos, neg_ℤ, ◌+ℤ◌, ◌*ℤ◌, refl, sym, ap, subst, ◌∙◌, arith}
+use Rattle.std.proofs.Common.{◌≡◌, ◌≤◌, ℕ, Bool, true, false, ◌||◌, if◌then◌else◌, List, [], ◌∷◌, ◌++◌, Option, Some, None, is_some, ℤ, pos, neg_ℤ, ◌+ℤ◌, ◌*ℤ◌, refl, sym, ap, subst, ◌∙◌, arith}
 use Rattle.std.specs.Prelude.{IfSome, IsSomeAnd, max, ◌-◌, ◌^◌, unwrap_or}
 use Rattle.std.specs.List.{list_any}
 use Rattle.std.specs.Option.{option_map}
@@ -36,6 +36,7 @@ use Rattle.sum_forms.specs.Constants.{range_form}
 use Rattle.sum_forms.specs.Literals.{whole_factor}
 use Rattle.sum_forms.specs.SumForms.{scaled_form, sum_form}
 use Rattle.sum_forms.proofs.Shows.{whole_factor_is}
+use Rattle.sum_forms.proofs.Sound.{one_product}
 use Rattle.result_ranges.specs.declared.amounts.Taken.{Taken}
 use Rattle.result_ranges.specs.Amounts.{IsAmount}
 use Rattle.result_ranges.specs.Operands.{whole_range}
@@ -82,12 +83,6 @@ plus_nothing_range r =
     let e : max 0 r.scale ≡ r.scale = omega arith in
     ap (λ (n : ℕ). ranged (interval ((pos 0 *ℤ pos (10 ^ (n - 0))) +ℤ (r.units.low *ℤ pos (10 ^ (n - r.scale)))) ((pos 0 *ℤ pos (10 ^ (n - 0))) +ℤ (r.units.high *ℤ pos (10 ^ (n - r.scale))))) n) e
     ∙ range_is r _ _ r.scale (nothing_added r.units.low (r.scale - 0) r.scale) (nothing_added r.units.high (r.scale - 0) r.scale) refl
-
-one_product : (v : Scaled) → product (whole_number (pos 1)) v ≡ v
-one_product v =
-    let e : 0 + v.scale ≡ v.scale = omega arith in
-    let u : pos 1 *ℤ v.units ≡ v.units = omega (arith, ints) in
-    ap (λ (n : ℕ). decimal (pos 1 *ℤ v.units) n) e ∙ ap (λ (x : ℤ). decimal x v.scale) u
 
 -- a sum that is one whole literal
 whole_negated : (minus : Bool) (k : ℤ) (y : Scaled) → y.units ≡ k *ℤ pos (10 ^ y.scale) → (negated minus y).units ≡ negated_if minus k *ℤ pos (10 ^ (negated minus y).scale)

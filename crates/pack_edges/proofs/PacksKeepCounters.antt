@@ -31,8 +31,7 @@ use Rattle.diff_steps.specs.Steps.{counter_stored, counted_pack}
 use Rattle.pack_laws.specs.Orders.{IsShown}
 use Rattle.pack_laws.proofs.Kept.{forgotten_stands, assigned_stands}
 use Rattle.pack_edges.specs.Agreeing.{IsPackOf}
-use Rattle.pack_edges.proofs.FormsShowSums.{cell_there}
-use Rattle.pack_edges.proofs.PacksKeepCells.{cell_value, all_left, put_all, with_any, not_home, other_cell}
+use Rattle.pack_edges.proofs.PacksKeepCells.{found_cell, cell_value, all_left, put_all, with_any, not_home, other_cell}
 
 -- two decimals of one value are shown by the same forms
 pub same_shown : (size : ℕ) (cells : ℕ → Option ℤ) (form : Lin) (d v : Scaled) (f : ℕ) → value_of v ≡ value_of d → IsShown size cells form d f → IsShown size cells form v f
@@ -102,7 +101,7 @@ module _ (p : Program) (statement : ℕ) (a : Act) (x : Action) (sound : IsSound
           all_left p.layout pack (storage m.storage m.counts) (storage m.storage (slice_set m.counts (k - 1) (Some v.units))) w
           (λ j h f. elsewhere m.storage m.counts k v.units first j h f (not_home pack (of_count k) h j e f)) stands
       by_cell (Some at) e =
-          let f = cell_there pack (of_count k) at e in
+          let f = found_cell pack (of_count k) at e in
           put_all p.layout pack (storage m.storage m.counts) (storage m.storage (slice_set m.counts (k - 1) (Some v.units))) at (v.units *ℤ pos (10 ^ pack_decimals p.layout pack))
           (assigned_or_forgotten (size_of pack) (suc at) form w) (new_value at f)
           (λ j h ne g. elsewhere m.storage m.counts k v.units first j h g (other_cell p pack of (of_count k) h at j f g ne))

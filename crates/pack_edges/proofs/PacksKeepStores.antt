@@ -50,7 +50,6 @@ use Rattle.cell_steps.specs.Operands.{edge_amount, amount_of, is_remainder}
 use Rattle.cell_steps.specs.Seen.{Seen}
 use Rattle.cell_steps.specs.Stores.{range_at, handled, may_vanish, amount_at, result_at, may_exceed, may_fail, may_fit}
 use Rattle.cell_steps.specs.Agreeing.{IsSoundEdge, of_operands}
-use Rattle.cell_edges.proofs.WalkLaws as cells
 use Rattle.cell_edges.proofs.PartsDone.{and_true}
 use Rattle.cell_edges.proofs.OperandsRise.{or_left, or_right}
 use Rattle.cell_edges.proofs.Frames.{filled_length, others_stay, held_value}
@@ -66,8 +65,8 @@ use Rattle.pack_laws.proofs.Stored.{form_stands}
 use Rattle.pack_laws.proofs.Signs.{known_is_sure}
 use Rattle.pack_edges.specs.Agreeing.{IsPackOf}
 use Rattle.pack_edges.specs.Showing.{ShowsAt, ShowsValueAt}
-use Rattle.pack_edges.proofs.FormsShowSums.{cell_there, decimals_within}
-use Rattle.pack_edges.proofs.PacksKeepCells.{cell_value, homes_left, put_left, with_any, not_home, other_cell, edited_apart}
+use Rattle.pack_edges.proofs.CellLaws.{cell_laws}
+use Rattle.pack_edges.proofs.PacksKeepCells.{found_cell, decimals_within, cell_value, homes_left, put_left, with_any, not_home, other_cell, edited_apart}
 use Rattle.pack_edges.proofs.PacksKeepCounters.{same_shown}
 
 -- ---- the bytes of a number
@@ -92,7 +91,7 @@ item_there p place takes = go (item_at p.layout place) refl
         let f : takes_number form.Group ≡ true = subst (λ (k : Form). takes_number k ≡ true) none takes in
         absurd cc
 
-module _ (given : cells.Given) (p : Program) (statement : ℕ) (a : Act) (x : Action) (done : List Part) (place : ℕ) (mode : Mode) (y : Amount) (t : Seen) (m : Moment) (g : TakenAt p statement a x done t m)
+module _ (p : Program) (statement : ℕ) (a : Act) (x : Action) (done : List Part) (place : ℕ) (mode : Mode) (y : Amount) (t : Seen) (m : Moment) (g : TakenAt p statement a x done t m)
     (q : IsStored a x done place y) (takes : takes_number (form_at p.layout place) ≡ true) where
   -- ---- what a store does to storage
 
@@ -231,7 +230,7 @@ module _ (given : cells.Given) (p : Program) (statement : ℕ) (a : Act) (x : Ac
             homes_left p.layout pack (is_other p a x place) (storage m.storage m.counts) (storage (filled_at p.layout m.storage place held) m.counts) w
             (λ k h f is_left. fill.others h (other_test h is_left (not_home pack (of_item place) h k e f))) stands
         by_cell (Some at) e =
-            let f = cell_there pack (of_item place) at e in
+            let f = found_cell pack (of_item place) at e in
             put_left p.layout pack (is_other p a x place) (storage m.storage m.counts) (storage (filled_at p.layout m.storage place held) m.counts) at (its_units is.v)
             (form_at_cell p a x t place mode y pack (suc at) (amount_form p pack t wrote place y) w)
             (cell_value p.layout pack (storage (filled_at p.layout m.storage place held) m.counts) at (of_item place) f
@@ -276,7 +275,7 @@ module _ (given : cells.Given) (p : Program) (statement : ℕ) (a : Act) (x : Ac
     where
       told : (o : Option AmountRange) (v : Fraction) → IsSomeAnd o (λ r. IsAmount r v) → stored_units mode (form_at p.layout place) v ≡ None → option_map_or (result.may_fail mode (receiver_of (form_at p.layout place))) o true ≡ true
       told None v h f = absurd h
-      told (Some r) v h f = given.fails_ mode (form_at p.layout place) r v h f
+      told (Some r) v h f = cell_laws.fails_ mode (form_at p.layout place) r v h f
 
       nothing_there : amount p.layout m y ≡ None → is_some (amount p.layout m y) ≡ true → ⊥
       nothing_there f h = cc
@@ -348,7 +347,7 @@ module _ (given : cells.Given) (p : Program) (statement : ℕ) (a : Act) (x : Ac
         fits =
             let v = then_is (amount p.layout m y) (stored_units mode (form_at p.layout place)) held e in
             then_holds (λ (r : AmountRange). IsAmount r v.0) (λ i. (z : ℤ) × Holds i z × (held ≡ bytes_of (form_at p.layout place) z)) (amount_at p a x t place y) (result_range mode (receiver_of (form_at p.layout place)))
-            (amount_meant p statement a x done place y t m g q unzero v.0 v.1) (λ r h. given.fits_ mode (form_at p.layout place) r v.0 held h v.2)
+            (amount_meant p statement a x done place y t m g q unzero v.0 v.1) (λ r h. cell_laws.fits_ mode (form_at p.layout place) r v.0 held h v.2)
 
         never : {A : Type 0} (P : A → Type 0) (o : Option A) → IsSomeAnd o P → is_some o ≡ false → ⊥
         never P None h f = h
