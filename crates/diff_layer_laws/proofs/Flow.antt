@@ -1,5 +1,5 @@
 -- What is known of differences flows along a program's graph: each edge makes matrices of matrices, and more of more.
-use Rattle.std.proofs.Common.{◌≡◌, ℕ, ◌≤◌, List, length, Option, Some, None, ℤ}
+use Rattle.std.proofs.Common.{ℕ, List, Option, Some, None, ℤ}
 use Rattle.std.specs.Option.{option_map_or}
 use Rattle.std.proofs.Props.{props}
 use Rattle.std.proofs.Math.Logic.{∥∥₁_elim}
@@ -8,10 +8,10 @@ use Rattle.cob_runs.specs.Effects.{act_at}
 use Rattle.cob_graph.specs.declared.graph.Edge.{Edge}
 use Rattle.cob_graph.specs.declared.graph.Graph.{Graph}
 use Rattle.dom_laws.specs.Lattice.{IsElement}
-use Rattle.dom_laws.specs.Flow.{IsNode, IsEdge, IsFlow}
+use Rattle.dom_laws.specs.Flow.{IsNode, IsEdge}
 use Rattle.cell_rows.specs.Known.{Known}
 use Rattle.cell_rows.specs.Elements.{Element, CellsFit, ElementFits, CellsBelow, ElementBelow}
-use Rattle.cell_rows.specs.Rows.{element_of, RowBelow}
+use Rattle.cell_rows.specs.Rows.{element_of}
 use Rattle.cell_rows.proofs.AllCells.{element_reflexive}
 use Rattle.graph_runs.specs.Places.{edge_at}
 use Rattle.graph_runs.specs.Sources.{IsSourceGraph}
@@ -21,13 +21,13 @@ use Rattle.cell_storages.specs.Homes.{owns}
 use Rattle.cell_layer_laws.specs.Entry.{entry_cells}
 use Rattle.cell_layer_laws.specs.Layer.{left}
 use Rattle.diff_steps.specs.Packs.{Pack}
-use Rattle.diff_steps.specs.Edges.{bottoms, entry_packs, post_packs}
+use Rattle.diff_steps.specs.Edges.{entry_packs, post_packs}
 use Rattle.pack_rows.specs.Rows.{matrices_in, row_of}
 use Rattle.pack_edges.specs.Agreeing.{AreMatrices}
 use Rattle.pack_edges.specs.EdgeLaws.{AreLowerEach}
 use Rattle.pack_edges.proofs.PacksFit.{bottoms_fit, posts_fit}
 use Rattle.pack_edges.proofs.PacksEdgesRise.{bottoms_below, posts_rise}
-use Rattle.diff_layer_laws.specs.Layer.{sizes_of, Facts, AreFacts, ArePacks, diff_lattice, edge_packs, packs_post, diff_post, diff_flow}
+use Rattle.diff_layer_laws.specs.Layer.{sizes_of, Facts, ArePacks, diff_lattice, edge_packs, packs_post, diff_post, diff_flow}
 use Rattle.diff_layer_laws.specs.Laws.{PacksFlow, AreBelow, PostsFall}
 use Rattle.diff_layer_laws.proofs.Pieces.{are_matrices, row_is_element, are_lower, row_is_below}
 use Rattle.diff_layer_laws.proofs.Entry.{entry_fits}

@@ -3,14 +3,12 @@ use Rattle.std.proofs.Common.{◌≡◌, ℕ, true, List, Option, Some, None, �
 use Rattle.cob_tree.specs.declared.fault.Kind.{Kind}
 use Rattle.cob_program.specs.Act.{Program}
 use Rattle.cob_graph.specs.declared.graph.Graph.{Graph}
-use Rattle.dom_laws.specs.Lattice.{IsElement}
-use Rattle.dom_laws.specs.Flow.{IsEdge}
 use Rattle.dom_laws.specs.Meaning.{Storage}
 use Rattle.cell_rows.specs.Known.{Known}
 use Rattle.cell_rows.specs.Elements.{Element}
 use Rattle.cell_rows.specs.Rows.{element_of}
 use Rattle.graph_runs.specs.Places.{edge_at, DoesAt}
-use Rattle.graph_runs.specs.Doing.{Begins, Acts, MeetsAt}
+use Rattle.graph_runs.specs.Doing.{Acts, MeetsAt}
 use Rattle.cell_storages.specs.Storages.{storage, StandsIn, ElementStands}
 use Rattle.cell_layer_laws.specs.Entry.{entry_cells}
 use Rattle.cell_layer_laws.proofs.Entry as first_cells
@@ -21,8 +19,9 @@ use Rattle.diff_steps.specs.Edges.{entry_packs, post_packs}
 use Rattle.diff_steps.specs.Clearing.{clears_edge2}
 use Rattle.pack_rows.specs.Rows.{matrices_in, row_of}
 use Rattle.pack_edges.specs.Agreeing.{AreMatrices, ArePacksOf}
-use Rattle.diff_layer_laws.specs.Layer.{sizes_of, Facts, AreFacts, ArePacks, diff_lattice, edge_packs, packs_post, edge_clears2, clears_at2, diff_flow, diff_post}
-use Rattle.diff_layer_laws.specs.Laws.{PacksMean, AreBelow}
+use Rattle.pack_edges.proofs.PacksStand.{all_packs_stand}
+use Rattle.diff_layer_laws.specs.Layer.{sizes_of, edge_packs, packs_post, edge_clears2, clears_at2}
+use Rattle.diff_layer_laws.specs.Laws.{PacksMean}
 use Rattle.diff_layer_laws.proofs.Given.{Given}
 use Rattle.diff_layer_laws.proofs.Pieces.{matrices_back, are_matrices, all_stand_above}
 use Rattle.diff_layer_laws.proofs.Entry.{entry_fits, entry_stands}
@@ -44,7 +43,7 @@ module _ (given : Given) (p : Program) (g : Graph) (packs : List Pack) (is_packs
       (sym (at_source p g (edge_at g e) acts.statement acts.act (λ n a. post_packs p packs n a (edge_at g e).action (Some cells) ms) ms acts.does))
       (moved (post_packs p packs acts.statement acts.act (edge_at g e).action (Some cells) ms) acts.last.storage t.bytes acts.last.counts t.counters
       acts.bytes acts.counters
-      (given.stand_ p packs acts.statement acts.act (edge_at g e).action cells ms s.bytes s.counters acts.last is_packs
+      (all_packs_stand p packs acts.statement acts.act (edge_at g e).action cells ms s.bytes s.counters acts.last is_packs
       (edges_are_sound_of_sources p g acts.of_source acts.statement acts.act (edge_at g e).action acts.does.act) known are stands acts.way acts.fails))
 
   kept : (e : ℕ) (element : Element) (ms : List (List ℤ)) (s t : Storage) → ElementStands p element s → AreMatrices packs ms

@@ -1,11 +1,11 @@
 -- Rows of several packs' matrices, and the matrices in them.
-use Rattle.std.proofs.Common.{◌≡◌, ℕ, ◌+◌, ◌*◌, ◌<◌, ◌≤◌, List, [], ◌∷◌, ◌++◌, length, take, drop, ℤ, refl, ap, ◌∙◌, take_at, drop_at, arith}
+use Rattle.std.proofs.Common.{◌≡◌, ℕ, ◌≤◌, List, [], ◌∷◌, length, take, drop, ℤ, refl, ap, ◌∙◌, take_at, drop_at, arith}
 use Rattle.std.specs.List.{AllByRecursion}
 use Rattle.cob_data.specs.declared.layout.Layout.{Layout}
 use Rattle.cob_program.specs.Act.{Program}
 use Rattle.dom_laws.specs.Lattice.{IsElement}
 use Rattle.dom_laws.specs.Meaning.{Storage}
-use Rattle.diff_bounds.specs.Matrix.{word, IsMatrix}
+use Rattle.diff_bounds.specs.Matrix.{IsMatrix}
 use Rattle.diff_bounds.specs.Order.{IsAtMost}
 use Rattle.diff_bounds.specs.Lattice.{matrices}
 use Rattle.diff_bounds.proofs.MatrixLattice.{by_places}
@@ -72,9 +72,10 @@ pieces_lower : (packs : List Pack) (lists : List (List ℤ)) → length lists �
 pieces_lower [] lists listed a b is other below = tt
 pieces_lower (pack ∷ packs) [] listed a b is other below = absurd (omega (arith, listed))
 pieces_lower (pack ∷ packs) (ts ∷ lists) listed a b is other below =
-    let n = words_of (size_of pack) in
-    (lower_off (size_of pack) (take n a) (take n b) is.formed.0.formed below.0,
-    pieces_lower packs lists (omega (arith, listed)) (drop n a) (drop n b) is.formed.1 other.formed.1 below.1)
+    let n = words_of (size_of pack) in (
+      lower_off (size_of pack) (take n a) (take n b) is.formed.0.formed below.0,
+      pieces_lower packs lists (omega (arith, listed)) (drop n a) (drop n b) is.formed.1 other.formed.1 below.1,
+    )
 
 rows_below : (packs : List Pack) (lists ms ns : List (List ℤ)) → length lists ≡ length packs → AreMatrices packs ms → AreMatrices packs ns
     → AreLowerEach packs ms ns → (diff_lattice packs lists).Below (row_of ms) (row_of ns)
@@ -97,9 +98,10 @@ pieces_stand : (l : Layout) (packs : List Pack) (lists : List (List ℤ)) → le
 pieces_stand l [] lists listed a b s is other below stands = tt
 pieces_stand l (pack ∷ packs) [] listed a b s is other below stands = absurd (omega (arith, listed))
 pieces_stand l (pack ∷ packs) (ts ∷ lists) listed a b s is other below stands =
-    let n = words_of (size_of pack) in
-    (stands_higher (size_of pack) (take n a) (take n b) (cells_in l pack s) is.formed.0.width below.0 stands.0,
-    pieces_stand l packs lists (omega (arith, listed)) (drop n a) (drop n b) s is.formed.1 other.formed.1 below.1 stands.1)
+    let n = words_of (size_of pack) in (
+      stands_higher (size_of pack) (take n a) (take n b) (cells_in l pack s) is.formed.0.width below.0 stands.0,
+      pieces_stand l packs lists (omega (arith, listed)) (drop n a) (drop n b) s is.formed.1 other.formed.1 below.1 stands.1,
+    )
 
 -- ---- of rows in which a first arrival is taken as it is
 
