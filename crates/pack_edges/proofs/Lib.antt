@@ -22,3 +22,6 @@ pub mod FormsShowCounters
 pub mod FormsShowGuards
 pub mod FormsShowMoments
 pub mod PacksStand
+pub mod PacksClearEnds
+pub mod PacksClear
+pub mod PacksClearAll

@@ -96,7 +96,7 @@ each_stand p change before behind one (pack ∷ packs) (m ∷ ms) (is, of) ((few
 -- ---- what a part leaves
 
 -- a sender without decimals is a whole number
-whole_scale : (l : Layout) (bytes : List ℕ) (y : Sender) (v : Scaled) → is_whole_sender l y ≡ true → number_of l bytes y ≡ Some v → v.scale ≡ 0
+pub whole_scale : (l : Layout) (bytes : List ℕ) (y : Sender) (v : Scaled) → is_whole_sender l y ≡ true → number_of l bytes y ≡ Some v → v.scale ≡ 0
 whole_scale l bytes (sender.Item place) v e f = by_scale (scale_of (form_at l place)) (eqb-true (scale_of (form_at l place)) 0 e) _ f
   where
     by_scale : (scale : ℕ) → scale ≡ 0 → (o : Option ℤ) → option_map (scaled_by scale) o ≡ Some v → v.scale ≡ 0
