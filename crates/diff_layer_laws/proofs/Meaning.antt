@@ -20,15 +20,15 @@ use Rattle.diff_steps.specs.Clearing.{clears_edge2}
 use Rattle.pack_rows.specs.Rows.{matrices_in, row_of}
 use Rattle.pack_edges.specs.Agreeing.{AreMatrices, ArePacksOf}
 use Rattle.pack_edges.proofs.PacksStand.{all_packs_stand}
+use Rattle.pack_edges.proofs.PacksClearAll.{none_cleared_is_met}
 use Rattle.diff_layer_laws.specs.Layer.{sizes_of, edge_packs, packs_post, edge_clears2, clears_at2}
 use Rattle.diff_layer_laws.specs.Laws.{PacksMean}
-use Rattle.diff_layer_laws.proofs.Given.{Given}
 use Rattle.diff_layer_laws.proofs.Pieces.{matrices_back, are_matrices, all_stand_above}
 use Rattle.diff_layer_laws.proofs.Entry.{entry_fits, entry_stands}
 use Rattle.diff_layer_laws.proofs.Flow.{same_below, post_fits}
 use Rattle.diff_layer_laws.proofs.Clears.{cleared_on, cleared_stays}
 
-module _ (given : Given) (p : Program) (g : Graph) (packs : List Pack) (is_packs : ArePacksOf p packs) where
+module _ (p : Program) (g : Graph) (packs : List Pack) (is_packs : ArePacksOf p packs) where
   -- ---- what stands behind an edge
 
   moved : (ms : List (List ℤ)) (bytes old : List ℕ) (counters counts : List (Option ℤ)) → bytes ≡ old → counters ≡ counts
@@ -56,7 +56,7 @@ module _ (given : Given) (p : Program) (g : Graph) (packs : List Pack) (is_packs
   not_met_on : (fault : Kind) (cells : List Known) (ms : List (List ℤ)) (s : Storage) (node : ℕ) (m : MeetsAt p g node fault s) → StandsIn p cells s
       → AreMatrices packs ms → PacksStand p.layout packs ms s → edge_clears2 p g packs fault cells ms (edge_at g m.e) ≡ true → ⊥
   not_met_on fault cells ms s node m known are stands clears =
-      given.isnt_met_ p packs m.statement m.act (edge_at g m.e).action cells ms s.bytes s.counters fault is_packs
+      none_cleared_is_met p packs m.statement m.act (edge_at g m.e).action cells ms s.bytes s.counters fault is_packs
       (edges_are_sound_of_sources p g m.on.of_source m.statement m.act (edge_at g m.e).action m.on.does.act) known are stands
       (sym (at_source p g (edge_at g m.e) m.statement m.act (λ n a. clears_edge2 p packs n a (edge_at g m.e).action cells ms fault) true at) ∙ clears)
       m.on.its m.meets
@@ -76,8 +76,8 @@ in_row : (p : Program) (packs : List Pack) (ms : List (List ℤ)) (s : Storage) 
     → PacksStand p.layout packs (matrices_in (sizes_of packs) (row_of ms)) s
 in_row p packs ms s are stands = subst (λ (xs : List (List ℤ)). PacksStand p.layout packs xs s) (sym (matrices_back packs ms are)) stands
 
-pub packs_mean : Given → PacksMean
-packs_mean given p g packs lists facts is_packs are = record {
+pub packs_mean : PacksMean
+packs_mean p g packs lists facts is_packs are = record {
   stands_above = λ a b s is other below stands. all_stand_above packs lists is_packs a b s is other below stands;
   begins = λ s begins granted.
       in_row p packs (entry_packs p packs (entry_cells p)) s (entry_fits p packs is_packs.few (entry_cells p))
@@ -87,9 +87,9 @@ packs_mean given p g packs lists facts is_packs are = record {
       let ms = matrices_in (sizes_of packs) row in
       let its = are_matrices packs lists is_packs row el in
       in_row p packs (packs_post p g packs x (element_of (facts x.from)) ms) t (post_fits p g packs x (element_of (facts x.from)) ms its)
-      (kept given p g packs is_packs.cells e (element_of (facts x.from)) ms s t granted its stands acts);
+      (kept p g packs is_packs.cells e (element_of (facts x.from)) ms s t granted its stands acts);
   cleared = λ node row fault s is el clears granted stands.
-      not_met given p g packs is_packs.cells node (element_of (facts node)) (matrices_in (sizes_of packs) row) fault s clears granted
+      not_met p g packs is_packs.cells node (element_of (facts node)) (matrices_in (sizes_of packs) row) fault s clears granted
       (are_matrices packs lists is_packs row el) stands;
   clears_below = λ node a b fault is el other below clears.
       cleared_stays p g packs lists facts facts is_packs are are (same_below g facts) node a b fault is el other below clears;
