@@ -1,0 +1,4 @@
+pub mod Filling
+pub mod Sharing
+pub mod Seeking
+pub mod Standing
