@@ -1,20 +1,19 @@
 -- Matrices of bounds, bound by bound and pack by pack.
-use Rattle.std.proofs.Common.{◌≡◌, ◌≢◌, ℕ, zero, suc, ◌+◌, ◌-◌, ◌*◌, ◌/◌, ◌%◌, ◌<◌, ◌≤◌, Bool, true, false, ◌&&◌, ◌==◌, List, [], ◌∷◌, ◌++◌, length, take, drop, map, get_or, set, slice_get, Some, None, ℤ, pos, ◌⊎◌, inl, inr, refl, sym, ap, subst, ◌∙◌, arith, take-append-drop, length-set, get_or-set_same, get_or-set_other}
-use Rattle.std.specs.Prelude.{if◌then◌else◌, nat_eq, slice_set, Vec}
+use Rattle.std.proofs.Common.{◌≡◌, ℕ, ◌+◌, ◌-◌, ◌*◌, ◌/◌, ◌%◌, ◌<◌, ◌≤◌, Bool, true, false, ◌&&◌, ◌==◌, List, [], ◌∷◌, length, take, drop, get_or, set, ℤ, pos, inl, inr, refl, sym, ap, subst, ◌∙◌, arith, length-set, get_or-set_same, get_or-set_other}
+use Rattle.std.specs.Prelude.{nat_eq}
 use Rattle.std.specs.List.{AllByRecursion}
 use Rattle.std.proofs.lemmas.Bool.{cases_eq, eqb-true, eq-eqb, ne_eqb}
-use Rattle.std.proofs.lemmas.Nat.{div-mul-add, mod-mul-add, div-add-mod', mod_below, div_below}
-use Rattle.std.proofs.lemmas.List.{drop_all, take_all, drop_more}
+use Rattle.std.proofs.lemmas.Nat.{div-mul-add, mod-mul-add, div-add-mod'}
+use Rattle.std.proofs.lemmas.List.{take_all, drop_more}
 use Rattle.std.proofs.lemmas.List.Elements.{All-from_recursion}
 use Rattle.std.proofs.lemmas.List.FromFn.{fill_by_all, get_or-map-range_with_len, length-map-range_with_len}
 use Rattle.diff_bounds.specs.declared.Pack.{Pack}
 use Rattle.diff_bounds.specs.Lattice.{matrix_of}
-use Rattle.diff_bounds.specs.Matrix.{none}
 use Rattle.diff_bounds.proofs.Places.{place_fits}
 use Rattle.cert_text.specs.declared.cert.Bound.{Bound}
-use Rattle.pack_rows.specs.Rows.{row_of, words_of}
-use Rattle.claimed_matrices.specs.Claims.{bound_at, cells_in, claimed_matrix, claimed_word, is_of, matrices_from, sizes_of}
-use Rattle.claimed_matrices.specs.Written.{AreFrom, HasPlaces, IsBoundOf, PacksRise}
+use Rattle.pack_rows.specs.Rows.{words_of}
+use Rattle.claimed_matrices.specs.Claims.{cells_in, claimed_matrix, claimed_word, is_of, sizes_of}
+use Rattle.claimed_matrices.specs.Written.{IsBoundOf}
 
 -- ---- a matrix from a function
 

@@ -2,3 +2,4 @@ pub mod Filling
 pub mod Sharing
 pub mod Seeking
 pub mod Standing
+pub mod Telling

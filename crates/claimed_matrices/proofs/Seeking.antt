@@ -1,8 +1,9 @@
 -- The first gap of a list of gaps by place.
-use Rattle.std.proofs.Common.{◌≡◌, ◌≢◌, ℕ, zero, suc, ◌+◌, ◌*◌, ◌<◌, ◌≤◌, Bool, true, false, List, [], ◌∷◌, ◌++◌, length, slice_get, Option, Some, None, is_some, ℤ, refl, sym, ap, subst, ◌∙◌, inl, inr, arith}
+use Rattle.std.proofs.Common.{◌≡◌, ℕ, zero, suc, ◌+◌, ◌<◌, ◌≤◌, true, false, List, [], ◌∷◌, ◌++◌, get_or, slice_get, Option, Some, None, is_some, ℤ, pos, refl, sym, ap, ◌∙◌, inl, inr, arith}
 use Rattle.std.specs.List.{flat_map, range_with_len}
 use Rattle.std.proofs.lemmas.Bool.{cases_eq}
 use Rattle.claimed_rows.specs.declared.gap.Gap.{Gap}
+use Rattle.claimed_matrices.specs.Gaps.{word_gaps}
 
 -- the first of a list of gaps
 abbrev pub first : List Gap → Option Gap
@@ -20,6 +21,10 @@ first_some (g ∷ as_) bs gap e is = e
 pub first_none : (as_ bs : List Gap) (gap other : Option Gap) → gap ≡ first as_ → is_some gap ≡ false → other ≡ first bs → other ≡ first (as_ ++ bs)
 first_none as_ bs (Some gap) other e is f = absurd (cc is)
 first_none as_ bs None other e is f = f ∙ ap (λ (gs : List Gap). first (gs ++ bs)) (sym (none_is as_ e))
+
+pub no_parts : (as_ bs : List Gap) → as_ ++ bs ≡ [] → (as_ ≡ []) × (bs ≡ [])
+no_parts [] bs e = (refl, e)
+no_parts (g ∷ as_) bs e = absurd (cc e)
 
 module _ (f : ℕ → List Gap) where
   -- no place before has one
@@ -46,10 +51,6 @@ module _ (f : ℕ → List Gap) where
     | inl same ↦ ap f same ∙ (no_parts (f a) (flat_map f (range_with_len (a + 1) n)) e).0
     | inr ne ↦ each_none (a + 1) n (no_parts (f a) (flat_map f (range_with_len (a + 1) n)) e).1 j (omega (arith, l, ne)) (omega (arith, h))
   ]
-    where
-      no_parts : (as_ bs : List Gap) → as_ ++ bs ≡ [] → (as_ ≡ []) × (bs ≡ [])
-      no_parts [] bs e = (refl, e)
-      no_parts (g ∷ as_) bs e = absurd (cc e)
 
   -- one place more has none
   pub one_more : (k : ℕ) (gap : Option Gap) → ((j : ℕ) → j < k → f j ≡ []) → gap ≡ first (f k) → is_some gap ≡ false → (j : ℕ) → j < k + 1 → f j ≡ []
@@ -58,3 +59,13 @@ module _ (f : ℕ → List Gap) where
     | inl same ↦ ap f same ∙ none_is (f k) e
     | inr ne ↦ before j (omega (arith, h, ne))
   ]
+
+-- ---- the places of a matrix
+
+abbrev pub gaps_at : ℕ → ℕ → List ℤ → List ℤ → ℕ → List Gap
+gaps_at pack size reached claimed k = word_gaps pack size k (get_or reached k (pos 0)) (get_or claimed k (pos 0))
+
+-- words passed along
+pub gap_along : (pack size k : ℕ) (gap : Option Gap) (x y reached claimed : ℤ) → gap ≡ first (word_gaps pack size k x y) → x ≡ reached → y ≡ claimed
+    → gap ≡ first (word_gaps pack size k reached claimed)
+gap_along pack size k gap x y reached claimed e f g = e ∙ (λ i. first (word_gaps pack size k (f i) (g i)))

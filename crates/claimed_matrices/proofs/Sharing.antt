@@ -1,6 +1,6 @@
 -- Bounds shared out among packs: those of the first pack, and those behind them.
-use Rattle.std.proofs.Common.{◌≡◌, ◌≢◌, ℕ, zero, suc, ◌+◌, ◌-◌, ◌*◌, ◌/◌, ◌%◌, ◌<◌, ◌≤◌, Bool, true, false, ◌&&◌, eqb, leb, ltb, not, ◌==◌, List, [], ◌∷◌, length, take, drop, map, get_or, slice_get, Some, None, ℤ, pos, inl, inr, refl, sym, ap, subst, ◌∙◌, arith}
-use Rattle.std.specs.Prelude.{◌⊎◌, ◌||◌, IsTrue, if◌then◌else◌, nat_eq, unsigned_abs, ◌^◌}
+use Rattle.std.proofs.Common.{◌≡◌, ◌≢◌, ℕ, zero, suc, ◌+◌, ◌-◌, ◌/◌, ◌%◌, ◌<◌, ◌≤◌, Bool, true, false, ◌&&◌, eqb, leb, ltb, not, List, [], ◌∷◌, length, take, drop, get_or, slice_get, Some, ℤ, pos, inl, inr, refl, ap, subst, arith}
+use Rattle.std.specs.Prelude.{◌⊎◌, ◌||◌, if◌then◌else◌, nat_eq, unsigned_abs, ◌^◌}
 use Rattle.std.specs.List.{AllByRecursion}
 use Rattle.std.proofs.lemmas.Bool.{and_parts, or_cases, eqb-true, leb-true, ltb-true}
 use Rattle.diff_bounds.specs.Matrix.{none}
@@ -8,7 +8,7 @@ use Rattle.diff_bounds.specs.Lattice.{matrix_of}
 use Rattle.cert_text.specs.declared.cert.Bound.{Bound}
 use Rattle.cert_text.specs.declared.draft.Key.{Key}
 use Rattle.cert_text.specs.Allowed.{bound_fits, bounds_fit, is_before, key_of, no_key, places_fit}
-use Rattle.claimed_matrices.specs.Claims.{bound_at, claimed_matrix, claimed_word, is_of, matrices_from, sizes_of}
+use Rattle.claimed_matrices.specs.Claims.{bound_at, claimed_matrix, is_of, matrices_from, sizes_of}
 use Rattle.claimed_matrices.specs.Written.{AreFrom, HasPlaces, IsBoundOf, PacksRise}
 use Rattle.claimed_matrices.proofs.Filling.{of_tells}
 

@@ -1,5 +1,5 @@
 -- Claimed rows are elements of the lattice of rows.
-use Rattle.std.proofs.Common.{◌≡◌, ◌≢◌, ℕ, zero, suc, ◌+◌, ◌*◌, ◌/◌, ◌%◌, ◌<◌, ◌≤◌, Bool, true, false, List, [], ◌∷◌, ◌++◌, length, take, drop, map, get_or, ℤ, pos, neg_ℤ, ◌≤ℤ◌, ◌<ℤ◌, refl, sym, ap, subst, ◌∙◌, arith}
+use Rattle.std.proofs.Common.{◌≡◌, ℕ, suc, ◌+◌, ◌*◌, ◌/◌, ◌%◌, ◌≤◌, Bool, true, false, List, [], ◌∷◌, ◌++◌, length, ℤ, pos, neg_ℤ, refl, sym, ap, subst, ◌∙◌, arith}
 use Rattle.std.specs.Prelude.{if◌then◌else◌, nat_eq, unsigned_abs, ◌^◌}
 use Rattle.std.specs.List.{AllByRecursion}
 use Rattle.std.proofs.lemmas.Int.{ints}
@@ -11,15 +11,14 @@ use Rattle.diff_bounds.specs.Lattice.{bottom_word, matrices, matrix_of}
 use Rattle.diff_bounds.proofs.Places.{place_fits}
 use Rattle.cert_text.specs.declared.cert.Bound.{Bound}
 use Rattle.cert_text.specs.declared.draft.Key.{Key}
-use Rattle.cert_text.specs.View.{Place, NotReached, Holds}
+use Rattle.cert_text.specs.View.{NotReached, Holds}
 use Rattle.cert_text.specs.Allowed.{bounds_fit, key_of, no_key}
-use Rattle.pack_rows.specs.Rows.{matrices_beside, packs_lattice, row_of, words_of}
+use Rattle.pack_rows.specs.Rows.{matrices_beside, packs_lattice, row_of}
 use Rattle.pack_rows.proofs.Lattices.{pair_is}
-use Rattle.claimed_matrices.specs.Claims.{HasFittingBounds, bound_at, claimed_matrix, claimed_row, claimed_word, is_of, least_matrices, matrices_from, sizes_of}
+use Rattle.claimed_matrices.specs.Claims.{bound_at, claimed_matrix, claimed_row, is_of, least_matrices, matrices_from, sizes_of}
 use Rattle.claimed_matrices.specs.Gaps.{ClaimedRowsAreElements, UnreachedRowsAreLeast}
-use Rattle.claimed_matrices.specs.Written.{plain_word}
 use Rattle.claimed_matrices.proofs.Filling.{matrix_width, matrix_word}
-use Rattle.claimed_matrices.proofs.Sharing.{IsFitting, fit_parts}
+use Rattle.claimed_matrices.proofs.Sharing.{fit_parts}
 
 -- ---- words
 
@@ -40,14 +39,12 @@ AreSmall bounds = AllByRecursion (λ b. unsigned_abs b.most ≤ 10 ^ 37) bounds
 
 bound_is_word : (bounds : List Bound) (pack row column : ℕ) → AreSmall bounds → IsWord (bound_at bounds pack row column)
 bound_is_word [] pack row column small = none_is_word
-bound_is_word (b ∷ bounds) pack row column small = by_test (is_of b pack row column)
+bound_is_word (b ∷ bounds) pack row column small =
+    by_test (is_of b pack row column) (bound_is_word bounds pack row column small.1)
   where
-    rest : IsWord (bound_at bounds pack row column)
-    rest = bound_is_word bounds pack row column small.1
-
-    by_test : (t : Bool) → IsWord (if t then b.most else bound_at bounds pack row column)
-    by_test true = small_is_word b.most small.0
-    by_test false = rest
+    by_test : (t : Bool) → IsWord (bound_at bounds pack row column) → IsWord (if t then b.most else bound_at bounds pack row column)
+    by_test true rest = small_is_word b.most small.0
+    by_test false rest = rest
 
 -- ---- matrices
 

@@ -1,5 +1,5 @@
 -- What the claims of a node mean for packs: a matrix for each pack, one behind the other, with the bounds as written.
-use Rattle.std.specs.Prelude.{ℕ, zero, suc, ◌+◌, ◌/◌, ◌%◌, ◌==◌, ◌&&◌, nat_eq, if◌then◌else◌, IsTrue, Bool, List, [], ◌∷◌, length, map, ℤ, pos}
+use Rattle.std.specs.Prelude.{ℕ, suc, ◌+◌, ◌/◌, ◌%◌, ◌==◌, ◌&&◌, nat_eq, if◌then◌else◌, IsTrue, Bool, List, [], ◌∷◌, length, map, ℤ, pos}
 use Rattle.diff_bounds.specs.declared.Pack.{Pack}
 use Rattle.diff_bounds.specs.Matrix.{none}
 use Rattle.diff_bounds.specs.Lattice.{matrix_of, bottom_word}

@@ -14,4 +14,3 @@ pub use gaps::first_gap;
 pub use laws::{
     claimed_rows_are_elements, gaps_are_of_bounds, gaps_tell_the_order, unreached_rows_are_least,
 };
-

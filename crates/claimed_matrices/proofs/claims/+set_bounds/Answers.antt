@@ -1,6 +1,5 @@
-use Rattle.std.proofs.Common.{◌≡◌, ◌≢◌, ◌≤◌, ◌+◌, ◌++◌, ◌-◌, ◌∷◌, ℕ, suc, length, List, ℤ, take, drop, slice_get, Some, ap, sym, subst, ◌∙◌, arith}
+use Rattle.std.proofs.Common.{◌≡◌, ◌≤◌, ◌+◌, ◌++◌, ◌-◌, suc, length, take, drop, ap, sym, subst, ◌∙◌, arith}
 use Rattle.std.specs.List.{AllByRecursion}
-use Rattle.cert_text.specs.declared.cert.Bound.{Bound}
 use Rattle.pack_rows.specs.Rows.{row_of, width_of, words_of}
 use Rattle.claimed_matrices.specs.Claims.{cells_in, claimed_matrix, matrices_from, sizes_of}
 use Rattle.claimed_matrices.specs.Written.{AreFrom, IsBoundOf}
@@ -25,9 +24,19 @@ set_bounds-requires t c =
     let next : suc c.args.pack ≡ c.args.pack + 1 = omega arith in
     let are = subst (λ sizes. AreFrom c.args.pack sizes c.args.bounds.now) split c.requires.bounds in
     let rise = rise_behind c.args.pack c.count_of.result c.args.bounds.now c.requires.bounds.rise c.count_of.ensures.own c.count_of.ensures.behind in
-    let rest = behind_are c.args.pack c.len-size.result ns c.count_of.result c.args.bounds.now are rise in
-    (omega arith, (few.1, (omega (arith, width, c.words_of.ensures.value, c.split_at_mut-m.ensures.back_len), (omega (arith, c.requires.few),
-    subst (λ bs. AreFrom (c.args.pack + 1) ns bs) (sym c.split_at.ensures.back) (subst (λ q. AreFrom q ns (drop c.count_of.result c.args.bounds.now)) next rest)))))
+    let rest = behind_are c.args.pack c.len-size.result ns c.count_of.result c.args.bounds.now are rise in (
+      omega arith,
+      (
+        few.1,
+        (
+          omega (arith, width, c.words_of.ensures.value, c.split_at_mut-m.ensures.back_len),
+          (
+            omega (arith, c.requires.few),
+            subst (λ bs. AreFrom (c.args.pack + 1) ns bs) (sym c.split_at.ensures.back) (subst (λ q. AreFrom q ns (drop c.count_of.result c.args.bounds.now)) next rest),
+          ),
+        ),
+      ),
+    )
 
 pub returns-in-len1-up : goal.returns-in-len1-up
 returns-in-len1-up t c =
