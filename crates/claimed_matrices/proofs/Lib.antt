@@ -3,3 +3,4 @@ pub mod Sharing
 pub mod Seeking
 pub mod Standing
 pub mod Telling
+pub mod Allowing

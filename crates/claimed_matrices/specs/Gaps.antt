@@ -1,14 +1,16 @@
 -- The places at which what is reached of packs doesn't lie in what is claimed of them.
-use Rattle.std.specs.Prelude.{◌≡◌, ◌≢◌, ◌↔◌, ℕ, suc, ◌+◌, ◌/◌, ◌%◌, List, [], ◌∷◌, ◌++◌, length, take, drop, Some, ℤ, pos, int_lt, if◌then◌else◌, slice_index_or}
+use Rattle.std.specs.Prelude.{◌≡◌, ◌≢◌, ◌↔◌, ◌≤◌, ℕ, suc, ◌+◌, ◌/◌, ◌%◌, List, [], ◌∷◌, ◌++◌, length, take, drop, Some, ℤ, pos, int_lt, if◌then◌else◌, slice_index_or}
 use Rattle.std.specs.List.{AllByRecursion, Contains, flat_map, range_with_len}
 use Rattle.dom_laws.specs.Lattice.{IsElement}
 use Rattle.form_bounds.specs.Numbers.{number_of}
 use Rattle.pack_rows.specs.Rows.{words_of, packs_lattice}
 use Rattle.cert_text.specs.declared.cert.Claim.{Claim}
 use Rattle.cert_text.specs.declared.cert.Bound.{Bound}
-use Rattle.cert_text.specs.View.{Place, NotReached, Holds}
+use Rattle.cert_text.specs.View.{Place, NotReached, Holds, Certificate}
+use Rattle.cert_text.specs.Allowed.{IsAllowed}
 use Rattle.claimed_rows.specs.declared.gap.Gap.{Gap}
 use Rattle.claimed_rows.specs.declared.gap.Gap.TheVariants.{Diff}
+use Rattle.claimed_rows.specs.Claims.{place_at}
 use Rattle.claimed_matrices.specs.Claims.{HasFittingBounds, claimed_row, sizes_of}
 
 -- at a place of a pack's matrix, places counted row by row
@@ -33,6 +35,12 @@ abbrev pub gaps : List ℕ → List ℤ → List ℤ → List Gap
 gaps sizes reached claimed = gaps_from 1 sizes reached claimed
 
 -- ---- the laws
+
+-- Each pack of a certificate has 8 cells at most, and each node the bounds that it may have.
+abbrev pub AllowedClaimsFit : Type 0
+AllowedClaimsFit =
+    (c : Certificate) → IsAllowed c
+    → AllByRecursion (λ n. n ≤ 8) (sizes_of c.packs) × ((node : ℕ) → HasFittingBounds c.packs (place_at c node))
 
 -- The row that claims mean is an element of the lattice of rows.
 abbrev pub ClaimedRowsAreElements : Type 0

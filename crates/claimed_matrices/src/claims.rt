@@ -12,10 +12,10 @@ use diff_bounds::Pack;
 use pack_rows::words_of;
 
 // the word of no bound
-const NONE: i128 = 100_000_000_000_000_000_000_000_000_000_000_000_000;
+pub(crate) const NONE: i128 = 100_000_000_000_000_000_000_000_000_000_000_000_000;
 
 // the least word of a matrix off its diagonal
-const LOWEST: i128 = -10_000_000_000_000_000_000_000_000_000_000_000_000;
+pub(crate) const LOWEST: i128 = -10_000_000_000_000_000_000_000_000_000_000_000_000;
 
 // a word of the matrix with one word off its diagonal
 fn plain_word(word: i128, size: usize, at: usize) -> i128

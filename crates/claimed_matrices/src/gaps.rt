@@ -6,12 +6,10 @@ ghost use Rattle.pack_rows.specs.Rows.{width_of, words_of};
 ghost use Rattle.claimed_matrices.specs.Claims.{cells_in, sizes_of};
 ghost use Rattle.claimed_matrices.specs.Gaps.{gaps, gaps_from, matrix_gaps, word_gaps};
 
+use crate::claims::NONE;
 use claimed_rows::Gap;
 use diff_bounds::Pack;
 use pack_rows::words_of;
-
-// the word of no bound
-const NONE: i128 = 100_000_000_000_000_000_000_000_000_000_000_000_000;
 
 // a word as a number, where it is one
 fn number_of(word: i128) -> Option<i128>

@@ -1,7 +1,12 @@
 //! What claimed rows are, and what gaps tell.
-ghost use Rattle.claimed_matrices.specs.Gaps.{ClaimedRowsAreElements, UnreachedRowsAreLeast, GapsTellTheOrder, GapsAreOfBounds};
+ghost use Rattle.claimed_matrices.specs.Gaps.{AllowedClaimsFit, ClaimedRowsAreElements, UnreachedRowsAreLeast, GapsTellTheOrder, GapsAreOfBounds};
 
-/// The row that the claims of a node mean is one of matrices, where the certificate is one that its format allows.
+/// What `set_claimed` and `first_gap` ask of packs and bounds holds in each certificate that its format allows.
+pub fn allowed_claims_fit()
+    ensures { AllowedClaimsFit }
+{}
+
+/// The row that the claims of a node mean is one of matrices, where its bounds are as the format of certificates allows.
 pub fn claimed_rows_are_elements()
     ensures { ClaimedRowsAreElements }
 {}
