@@ -2,7 +2,6 @@
 use Rattle.std.proofs.Common.{◌≡◌, ◌<◌, ◌≤◌, ℕ, suc, ◌+◌, ◌-◌, ◌^◌, Bool, true, false, ◌&&◌, ◌||◌, not, if◌then◌else◌, List, length, Option, Some, None, is_some, ℤ, pos, ◌*ℤ◌, refl, sym, ap, subst, ◌∙◌, arith}
 use Rattle.std.specs.Prelude.{IfSome, IsSomeAnd, nat_lt, slice_get, unsigned_abs}
 use Rattle.std.specs.Option.{option_map, option_map_or}
-use Rattle.std.proofs.lemmas.Bool.Decides.{nat_tests}
 use Rattle.std.proofs.lemmas.Option.{slice_get_within}
 use Rattle.dec_num.specs.declared.types.Mode.{Mode}
 use Rattle.dec_num.specs.declared.types.Scaled.{Scaled}
@@ -55,17 +54,15 @@ use Rattle.pack_edges.specs.Showing.{ShowsValueAt}
 use Rattle.cell_edges.proofs.WalkLawsHold.{cell_laws}
 use Rattle.pack_edges.proofs.PacksKeepCells.{found_cell, decimals_within, cell_value, homes_left, put_left, with_any, not_home, other_cell, edited_apart}
 use Rattle.pack_edges.proofs.PacksKeepCounters.{same_shown}
+use Rattle.cell_edges.proofs.PartsKeep.{less_by_test}
 
 -- ---- the bytes of a number
 
 held_is : (f : Form) (z : ℤ) (held : List ℕ) → if_held f z ≡ Some held → (unsigned_abs z < 10 ^ digits_of f) × (held ≡ bytes_of f z)
 held_is f z held e = go (nat_lt (unsigned_abs z) (10 ^ digits_of f)) refl e
   where
-    lt_is : (n k : ℕ) → nat_lt n k ≡ true → n < k
-    lt_is n k h = grind (arith, nat_tests)
-
     go : (b : Bool) → nat_lt (unsigned_abs z) (10 ^ digits_of f) ≡ b → (if b then Some (bytes_of f z) else None) ≡ Some held → (unsigned_abs z < 10 ^ digits_of f) × (held ≡ bytes_of f z)
-    go true lt h = let same : bytes_of f z ≡ held = cc in (lt_is (unsigned_abs z) (10 ^ digits_of f) lt, sym same)
+    go true lt h = let same : bytes_of f z ≡ held = cc in (less_by_test (unsigned_abs z) (10 ^ digits_of f) lt, sym same)
     go false lt h = absurd cc
 
 item_there : (p : Program) (place : ℕ) → takes_number (form_at p.layout place) ≡ true → (i : Item) × (item_at p.layout place ≡ Some i)
