@@ -1,5 +1,5 @@
 -- The next bytes of a file, read piece after piece into one buffer.
-use Rattle.std.proofs.Common.{◌≡◌, ℕ, ◌+◌, ◌-◌, ◌≤◌, ◌<◌, List, ◌++◌, Ok, refl, sym, ap, subst, ◌∙◌, length, take, drop, length-take-le, length-drop, take-take, take-add, take_at, drop_at, take_all, take-append-drop, arith}
+use Rattle.std.proofs.Common.{◌≡◌, ℕ, ◌+◌, ◌≤◌, List, ◌++◌, Ok, refl, sym, ap, subst, ◌∙◌, length, take, drop, length-take-le, length-drop, take-take, take-add, take_at, drop_at, arith}
 use Rattle.std.proofs.lemmas.Slice.{take-put_mid}
 use borrow.Rule.Slice.PartMut.{put_mid, same_len_mid}
 use Rattle.batch_io.specs.FilesState.{FilesState, Gives}
