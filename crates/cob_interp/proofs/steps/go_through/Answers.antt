@@ -5,7 +5,7 @@ use Rattle.cob_interp.proofs.TrackLemmas.{places_stay, places_pass}
 use Rattle.cob_interp.proofs.steps.go_through.Goals as goal
 
 pub loop-init : goal.loop-init
-loop-init c = record { kept = refl; underway = λ now start u. u; places = places_stay _; }
+loop-init c = record { kept = refl; underway = λ now start u. u; places = places_stay _ }
 
 pub returns-in_err-at-clause-leads : goal.returns-in_err-at-clause-leads
 returns-in_err-at-clause-leads c =
