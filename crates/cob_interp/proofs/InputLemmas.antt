@@ -47,6 +47,7 @@ none_below ids place none p id below is = by (cases_order p place) where
     | inr (inl l) ↦ inr l
     | inr (inr l) ↦ inl (omega (arith, l))
   ]
+
   by : (p ≡ place) ⊎ ((p < place) ⊎ (place < p)) → ⊥
   by (inl e) = elim inside [
     | inl out ↦ out_of ids place id out (subst (λ (n : ℕ). IsRead (slice_set ids place None) n id) e is)

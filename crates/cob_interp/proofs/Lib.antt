@@ -13,6 +13,7 @@ pub mod OpenLeads
 pub mod ReadLemmas
 pub mod ReadLeads
 pub mod RecordReads
+pub mod ReadParts
 pub mod Placing
 pub mod TrackLemmas
 pub mod InputLemmas

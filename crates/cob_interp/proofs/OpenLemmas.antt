@@ -158,16 +158,20 @@ module _ (s : Setting) (w : World) (o : Opening) (path : List ℕ) (is : IsPath 
     opened_stand within true begun others live content some = record {
       stand = λ other id is_. elim (read_in_set before o.file other id (Some begun.0) within
           (subst (λ ids. IsRead ids other id) begun.1 is_)) [
-        | inl here ↦
-            let e : begun.0 ≡ id = cc in
-            inr (here.0, mode_, subst (λ n. IfSome (known_handle new n)
-            (λ handle. handle ≡ record { name = path; place = 0 })) e begun.2)
-        | inr was ↦ inl (
-          was.1,
-          others id (subst (λ x. IsSome x) (sym (live.purpose other id was.1)) refl),
-          λ e reads. absurd (was.0 e),
-        )
-      ];
+            | inl here ↦
+                let e : begun.0 ≡ id = cc in
+                inr (
+                  here.0,
+                  mode_,
+                  subst (λ n. IfSome (known_handle new n)
+                      (λ handle. handle ≡ record { name = path; place = 0 })) e begun.2,
+                )
+            | inr was ↦ inl (
+              was.1,
+              others id (subst (λ x. IsSome x) (sym (live.purpose other id was.1)) refl),
+              λ e reads. absurd (was.0 e),
+            )
+          ];
     }
 
     pub opened_ready : (v : World) → OpensInto old new before after path o.file w v → known_bytes new ≡ known_bytes old

@@ -15,7 +15,7 @@ use Rattle.cob_interp.specs.Readying.{GivesWindow, IsReadOn, settled, settled_fi
 use Rattle.cob_program.specs.declared.act.Opening.{Opening}
 use Rattle.cob_interp.specs.Readying.{StandsOrBegins}
 use Rattle.cob_interp.proofs.Places.{got_in_set, set_keeps_as}
-use Rattle.cob_interp.proofs.TrackLemmas.{get_set_other, placed_on, places_stay}
+use Rattle.cob_interp.proofs.TrackLemmas.{get_set_other, placed_on, places_stay, places_pass}
 use Rattle.cob_interp.proofs.OneFile.{takes, from_place, from_end}
 use Rattle.cob_plan.specs.declared.node.Op.TheVariants as op
 use Rattle.cob_plan.specs.Plan.{op_edges}
@@ -102,6 +102,11 @@ pub placed_behind : (paths : List (List ℕ)) (a : FilesState) (ids : Ids) (fs g
     → IfOk result (λ _. ArePlaced paths a ids gs)
 placed_behind paths a ids fs gs (Ok x) keeps placed = placed_on paths a ids fs gs keeps placed
 placed_behind paths a ids fs gs (Err e) keeps placed = tt
+
+pub places_behind : (fs gs hs : List File) {A E : Type 0} (result : Result A E) → KeepsPlaces fs gs
+    → IfOk result (λ _. KeepsPlaces gs hs) → IfOk result (λ _. KeepsPlaces fs hs)
+places_behind fs gs hs (Ok x) first then_ = places_pass fs gs hs first then_
+places_behind fs gs hs (Err e) first then_ = tt
 
 module _ (l : Layout) (paths : List (List ℕ)) (old new : FilesState) (before after : Ids) (w : World) (o : Opening)
     (path : List ℕ) (f : File) (at : slice_get paths o.file ≡ Some path) (has : slice_get w.files o.file ≡ Some f)

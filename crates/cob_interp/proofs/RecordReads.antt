@@ -120,12 +120,12 @@ idle_file None idle f is mode_ = cc
 idle_file (Some g) idle f is mode_ =
     let same : g ≡ f = cc in idle (ap (λ (x : File). x.mode) same ∙ mode_)
 
-on_file : (o : Option File) (before : ℕ) → IsReadOn o (Some before)
+pub on_file : (o : Option File) (before : ℕ) → IsReadOn o (Some before)
     → (f : File) × (o ≡ Some f) × (f.mode ≡ reading false) × (f.place ≡ before)
 on_file None before on = absurd on
 on_file (Some f) before on = (f, refl, on.0, on.1)
 
-read_act : (a : Act) (f : ℕ) → IsCall a (call.Read f)
+pub read_act : (a : Act) (f : ℕ) → IsCall a (call.Read f)
     → (into : Option ℕ) × (end_ : Phrase) × (fine : Stmts) × (a ≡ read f into end_ fine)
 read_act (read g into end_ fine) f is = (into, end_, fine, ap (λ (n : ℕ). read n into end_ fine) (sym is))
 read_act _ f is = absurd is
@@ -180,7 +180,8 @@ module _ (s : Setting) (node : ℕ) (x : Place) (starts : StartsAt s node x) (ap
     window_arrives v (Ok to) d = does_arrive v (Ok to) d
     window_arrives v (Err end.ReadFault) rose =
         rose_on start.files.reading old.reading new.reading stands.well.reading rose
-    window_arrives v (Err end.WriteFault) d = absurd d
+    window_arrives v (Err end.WriteFault) rose =
+        inl (rose_on start.files.writing old.writing new.writing stands.well.writing rose)
     window_arrives v (Err end.Memory) d = tt
     window_arrives v (Err (end.Ragged place count)) d =
         let g = on_file (slice_get w.files f) before on in

@@ -90,7 +90,7 @@ pub record DoesRead (s : Setting) (x : Place) (step : ℕ) (old new : FilesState
 abbrev pub ReadsPart : Setting → Place → ℕ → FilesState → FilesState → Ids → ℕ → ℕ → World → World → Result ℕ RunEnd
     → Type 0
 ReadsPart s x step old new ids file before w v (Err end.ReadFault) = Rose old.reading new.reading
-ReadsPart s x step old new ids file before w v (Err end.WriteFault) = ⊥
+ReadsPart s x step old new ids file before w v (Err end.WriteFault) = Rose old.writing new.writing
 ReadsPart s x step old new ids file before w v (Err end.Memory) = Unit {0}
 ReadsPart s x step old new ids file before w v (Err (end.Ragged place count)) =
     (place ≡ file) × (v ≡ w) × ((decl : FileDecl) × (decl_at s.program.now.layout file ≡ Some decl)

@@ -48,7 +48,9 @@ returns-in_ok-ready_to_open-in-Some-clause-placed g c =
     let ready = c.in_ok-ready_to_open-in-Some.ensures.readies in
     open_places c.args.setting.now c.args.place.now c.args.step _ _ (plain_act c.args.place.now.statement.now.act.now)
     c.requires.place.its _ c.do_part.ensures.does c.args.openings.now c.in-Open.file c.in-Open.fine c.in-Open.bad
-    c.requires.its c.in-Open.is c.in-Some.opening (sym c.in-Some.ensures) (paths_of c.args.setting.now) _ _
-    (open_one_placed c.args.setting.now.program.now.layout (paths_of c.args.setting.now) _ _ _ _ _ c.in-Some.opening
+    c.requires.its c.in-Open.is c.in-Some.opening (sym c.in-Some.ensures) (paths_of c.args.setting.now)
+    (g.F.Files.state c.ready_to_open.new.files) _
+    (open_one_placed c.args.setting.now.program.now.layout (paths_of c.args.setting.now) (g.F.Files.state c.args.files.now)
+    (g.F.Files.state c.ready_to_open.new.files) _ _ _ c.in-Some.opening
     ready.path ready.file ready.is.path_ ready.has ready.stand
-    (placed_on (paths_of c.args.setting.now) _ _ _ _ ready.keeps c.requires.placed))
+    (placed_on (paths_of c.args.setting.now) (g.F.Files.state c.args.files.now) _ _ _ ready.keeps c.requires.placed))

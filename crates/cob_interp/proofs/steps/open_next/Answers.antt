@@ -11,8 +11,8 @@ pub returns-in_default-clause-touches : goal.returns-in_default-clause-touches
 returns-in_default-clause-touches g c =
     makes_stay (paths_of c.args.setting.now) (makes_in c.args.openings.now) c.args.world.now.world _
 
-pub returns-then-ne-clause-touches : goal.returns-then-ne-clause-touches
-returns-then-ne-clause-touches g c =
+pub returns-then-place-statement-clause-touches : goal.returns-then-place-statement-clause-touches
+returns-then-place-statement-clause-touches g c =
     makes_stay (paths_of c.args.setting.now) (makes_in c.args.openings.now) c.args.world.now.world _
 
 pub returns-clause-leads : goal.returns-clause-leads
