@@ -1,6 +1,5 @@
 use Rattle.cob_interp.specs.Setting.{paths_of}
 use Rattle.cob_interp.specs.Touching.{makes_none}
-use Rattle.cob_interp.proofs.Putting.{refused_on}
 use Rattle.cob_interp.proofs.Readied.{placed_ids, placed_closed, ready_closed, touches_known}
 use Rattle.cob_interp.proofs.TrackLemmas.{tracks_ids, tracks_pass}
 use Rattle.cob_interp.proofs.outside.ready_to_close.Goals as goal

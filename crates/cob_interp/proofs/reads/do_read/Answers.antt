@@ -1,6 +1,3 @@
-use Rattle.std.proofs.Common.{ℕ, Option, Some, sym, subst}
-use Rattle.cob_interp.specs.Tracking.{Ids, ArePlaced}
-use Rattle.cob_interp.specs.Setting.{paths_of}
 use Rattle.cob_interp.proofs.RecordReads.{idle_arrives, window_arrives}
 use Rattle.cob_interp.proofs.ReadParts.{idle_part_placed, window_part_placed}
 use Rattle.cob_interp.proofs.reads.do_read.Goals as goal
