@@ -26,7 +26,8 @@ returns-in-Some-clause-placed g c =
 
 pub returns-in-Some-clause-takes : goal.returns-in-Some-clause-takes
 returns-in-Some-clause-takes g c = λ sink budget steps start counted within stands.
-    window_arrives c.args.setting.now c.args.node c.args.place.now c.requires.starts c.requires.ready.distinct c.args.file
+    window_arrives c.args.setting.now c.args.node c.args.place.now c.requires.starts c.requires.ready.distinct
+    c.args.file
     c.requires.reads budget steps c.args.step counted within start sink (g.F.Files.state c.args.files.now)
     (g.F.Files.state c.do_window.new.files) c.args.world.now.world stands c.in-Read.found c.in-Read.end c.in-Read.bad
     c.in-Read.is c.args.inputs.now c.requires.placed c.in-Some.before c.in-Some.ensures c.do_window.ensures.same _ _
