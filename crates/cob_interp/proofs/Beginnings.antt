@@ -1,13 +1,8 @@
 -- How a step begins.
-use Rattle.std.proofs.Common.{◌≡◌, ℕ, ◌+◌, ◌==◌, ◌&&◌, true, false, Bool, List, Option, Some, None, refl, ap, subst, ◌∙◌, arith}
-use Rattle.std.specs.Prelude.{slice_get, length}
+use Rattle.std.proofs.Common.{◌≡◌, ℕ, ◌+◌, true, false, List, Option, Some, refl, ap, subst, ◌∙◌, arith}
 use Rattle.std.specs.Option.{option_map_or}
-use Rattle.std.proofs.lemmas.Bool.{false≢true}
 use Rattle.batch_io.specs.FilesState.{Contents, known_bytes}
-use Rattle.cob_data.specs.declared.layout.FileDecl.{FileDecl}
-use Rattle.cob_program.specs.declared.act.Opening.{Opening}
 use Rattle.cob_program.specs.Act.{Act, move, arith as arithmetic, if_, evaluate, perform, go, nothing, stop, open_files, close_files, read, write, show, Program}
-use Rattle.cob_runs.specs.Files.{File, file, Mode, closed, reading, writing, bytes_in}
 use Rattle.cob_runs.specs.State.{World}
 use Rattle.cob_runs.specs.Effects.{act_at}
 use Rattle.cob_graph.specs.declared.graph.Node.{Node}
@@ -15,7 +10,7 @@ use Rattle.cob_graph.specs.Laid.{one_if}
 use Rattle.cob_graph.specs.Lookup.{node_at}
 use Rattle.cob_graph_laws.specs.Ways.{passed}
 use Rattle.cob_interp.specs.declared.setting.Setting.{Setting}
-use Rattle.cob_interp.specs.Told.{seen, seen_files, seen_file, AreSynced}
+use Rattle.cob_interp.specs.Told.{seen}
 use Rattle.cob_interp.specs.Ends.{cut_by}
 use Rattle.cob_interp.specs.Running.{Outside, StandsIn, Stands, IsUnderway}
 use Rattle.cob_interp.specs.Setting.{program_of, paths_of}

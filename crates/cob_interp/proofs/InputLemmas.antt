@@ -1,16 +1,16 @@
 -- What calls on the outside's files say of those that are read.
-use Rattle.std.proofs.Common.{◌≡◌, ◌≢◌, ℕ, zero, suc, ◌+◌, ◌<◌, ◌≤◌, ◌⊎◌, inl, inr, Bool, true, false, List, [], ◌∷◌, ◌++◌, length, map, take, Option, Some, None, Result, Ok, Err, refl, sym, ap, subst, ◌∙◌, arith}
-use Rattle.std.specs.Prelude.{slice_get, slice_set, option_map, is_some, IsSome, IfSome, MatchResult}
+use Rattle.std.proofs.Common.{◌≡◌, ℕ, zero, suc, ◌+◌, ◌<◌, ◌≤◌, ◌⊎◌, inl, inr, true, false, List, [], ◌∷◌, ◌++◌, length, Option, Some, None, Result, Ok, Err, refl, sym, ap, subst, ◌∙◌, arith}
+use Rattle.std.specs.Prelude.{slice_set, option_map, is_some, IsSome, IfSome}
 use Rattle.std.specs.FinMap.{get}
 use Rattle.std.proofs.lemmas.Bool.{false≢true, cases_order}
 use Rattle.batch_io.specs.declared.ends.Failed.{Failed}
 use Rattle.batch_io.specs.declared.ends.OpenEnd.TheVariants as opening
 use Rattle.batch_io.specs.Faults.{Rose}
-use Rattle.batch_io.specs.FilesState.{Contents, FilesState, Told, Handle, Purpose, Reading, Gives, known_bytes, known_handle, known_rest}
-use Rattle.batch_io.specs.FilesCalls.{Opens, OpensId, Closes}
+use Rattle.batch_io.specs.FilesState.{Contents, FilesState, Told, Handle, Purpose, Reading, known_bytes, known_handle}
+use Rattle.batch_io.specs.FilesCalls.{Opens, Closes}
 use Rattle.batch_io.specs.Wholes.{ReadsRecord}
-use Rattle.cob_interp.specs.Tracking.{Ids, IsRead, AreNone, AreOpen, Tracks}
-use Rattle.cob_interp.specs.Readying.{AreWell, IsOpenedAt, OpensFor, ClosesFor, ClosesAll, GivesRecord, IsRefusal, first_refusal}
+use Rattle.cob_interp.specs.Tracking.{Ids, IsRead, AreNone, AreOpen}
+use Rattle.cob_interp.specs.Readying.{OpensFor, ClosesFor, ClosesAll, GivesRecord, IsRefusal, first_refusal}
 use Rattle.cob_interp.specs.declared.ends.RunEnd.{RunEnd}
 use Rattle.cob_interp.specs.declared.ends.RunEnd.TheVariants as end
 use Rattle.cob_interp.proofs.TrackLemmas.{get_set_other, read_in_set}

@@ -1,5 +1,5 @@
 -- What comes of an OPEN.
-use Rattle.std.proofs.Common.{◌≡◌, ℕ, true, false, List, [], Option, Some, None, Result, Ok, Err, sym, ap, subst, ◌∙◌}
+use Rattle.std.proofs.Common.{◌≡◌, ℕ, true, false, List, [], Some, None, Result, Ok, Err, sym, ap, subst, ◌∙◌}
 use Rattle.std.specs.Prelude.{Contains, slice_get}
 use Rattle.batch_io.specs.FilesState.{Contents, FilesState, known_bytes}
 use Rattle.batch_io.specs.SinkState.{SinkState}
@@ -12,19 +12,18 @@ use Rattle.cob_plan.specs.Doing.{Does}
 use Rattle.cob_program.specs.Act.{open_files}
 use Rattle.cob_program.specs.ActView.{plain_act}
 use Rattle.cob_runs.specs.declared.action.Action.{Action}
-use Rattle.cob_runs.specs.Files.{File}
 use Rattle.cob_runs.specs.State.{World}
 use Rattle.cob_runs.specs.Effects.{effect, status, is_handled, act_at}
 use Rattle.cob_interp.specs.declared.ends.RunEnd.{RunEnd}
 use Rattle.cob_interp.specs.declared.ends.RunEnd.TheVariants as end
 use Rattle.cob_interp.specs.declared.setting.Setting.{Setting}
 use Rattle.cob_interp.specs.declared.setting.Place.{Place}
-use Rattle.cob_interp.specs.Told.{seen, AreDistinct, AgreeBut, IsReadyToOpen}
+use Rattle.cob_interp.specs.Told.{AreDistinct, AgreeBut, IsReadyToOpen}
 use Rattle.cob_interp.specs.Ends.{told_files}
 use Rattle.cob_interp.specs.Tracking.{Ids}
 use Rattle.cob_graph_laws.specs.Told.{Way}
 use Rattle.cob_program.specs.declared.act.Opening.{Opening}
-use Rattle.cob_interp.specs.Running.{Outside, outside, StandsIn, RestsIn}
+use Rattle.cob_interp.specs.Running.{outside, StandsIn, RestsIn}
 use Rattle.cob_interp.specs.Setting.{program_of, paths_of, IsPlace}
 use Rattle.cob_interp.specs.Readying.{ReadyToOpen}
 use Rattle.cob_interp.specs.Doing.{answered, Leads, DoesPart}

@@ -1,8 +1,7 @@
 -- What comes of the outside's files where a file is to be opened.
-use Rattle.std.proofs.Common.{◌≡◌, ℕ, zero, suc, ◌<◌, Bool, true, false, not, ◌&&◌, List, [], ◌∷◌, ◌++◌, length, Option, Some, None, inl, inr, refl, sym, ap, subst, ◌∙◌, arith}
+use Rattle.std.proofs.Common.{◌≡◌, ℕ, zero, suc, ◌<◌, Bool, true, false, List, [], ◌∷◌, ◌++◌, length, Option, Some, None, inl, inr, refl, sym, ap, subst, ◌∙◌}
 use Rattle.std.specs.Prelude.{slice_get, slice_set, is_some, IsSome, IfSome}
-use Rattle.std.specs.Option.{option_map, option_map_or}
-use Rattle.std.specs.FinMap.{get}
+use Rattle.std.specs.Option.{option_map}
 use Rattle.batch_io.specs.FilesState.{Contents, FilesState, known_bytes, known_handle}
 use Rattle.cob_program.specs.declared.act.Opening.{Opening}
 use Rattle.cob_runs.specs.Files.{File, file, Mode, closed, reading, writing, opened, opened_in}
@@ -14,7 +13,7 @@ use Rattle.cob_world.specs.Calling.{refilled, refilled_on}
 use Rattle.cob_interp.specs.declared.setting.Setting.{Setting}
 use Rattle.cob_interp.specs.Told.{seen, seen_file, seen_files, IsSyncedIn, AreSynced, IsReadyToOpenIn}
 use Rattle.cob_interp.specs.Ends.{is_closed}
-use Rattle.cob_interp.specs.Setting.{program_of, paths_of}
+use Rattle.cob_interp.specs.Setting.{paths_of}
 use Rattle.cob_interp.specs.Readying.{Puts, IsPath, IsOpenedAt, OpensInto, StandsOrBegins, ReadyToOpen}
 use Rattle.cob_interp.specs.Tracking.{Ids, IsRead, AreOpen, IsReading, KeepsPlaces}
 use Rattle.cob_interp.proofs.TrackLemmas.{read_in_set, places_stay}

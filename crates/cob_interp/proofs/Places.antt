@@ -21,10 +21,10 @@ use Rattle.cob_runs.specs.declared.action.Action.{Action}
 use Rattle.cob_runs.specs.declared.action.Action.TheVariants as action
 use Rattle.cob_runs.specs.Faults.{◌>>=◌, or_fault}
 use Rattle.cob_runs.specs.Files.{File, file, Mode, closed, reading, writing, after_write}
-use Rattle.cob_runs.specs.State.{World, with_files, with_storage}
+use Rattle.cob_runs.specs.State.{World, with_storage}
 use Rattle.cob_runs.specs.Acts.{show, undefined_if, with_file, with_count, count_of, write_on, write_one, into_if, file_from, is_fine, decl_at}
 use Rattle.cob_runs.specs.Contents.{fitted, bytes_at, number_at, form_at, filled_at, stored}
-use Rattle.cob_runs.specs.Effects.{Effect, taken, taken_if, met, effect_of, computed, counted, tested, decided, shown, wrote, file_call, by_status, read_with, tests_in_act, assigned}
+use Rattle.cob_runs.specs.Effects.{Effect, taken, taken_if, met, effect_of, computed, counted, tested, decided, shown, wrote, file_call, read_with, tests_in_act, assigned}
 use Rattle.cob_interp.specs.Tracking.{IsReading, KeepsPlaces}
 use Rattle.cob_interp.proofs.Following.{IsPlainFor}
 

@@ -1,12 +1,12 @@
 -- Where ids stand behind an OPEN, a CLOSE and a READ.
-use Rattle.std.proofs.Common.{◌≡◌, ◌≢◌, ℕ, zero, suc, ◌+◌, ◌<◌, ◌⊎◌, Bool, true, false, List, [], ◌∷◌, length, Option, Some, None, Result, Ok, Err, inl, inr, refl, sym, ap, subst, ◌∙◌, take_all, arith}
-use Rattle.std.specs.Prelude.{Contains, slice_get, slice_set, option_map, nat_le, IsSome, IfSome, IfOk}
+use Rattle.std.proofs.Common.{◌≡◌, ◌≢◌, ℕ, ◌+◌, ◌<◌, ◌⊎◌, Bool, true, false, List, [], length, Option, Some, None, Result, Ok, Err, inl, inr, refl, sym, ap, subst, ◌∙◌, take_all, arith}
+use Rattle.std.specs.Prelude.{Contains, slice_get, slice_set, option_map, IsSome, IfSome, IfOk}
 use Rattle.std.proofs.lemmas.Bool.{cases_eq}
 use Rattle.std.proofs.lemmas.Bool.Decides.{nat_tests}
-use Rattle.batch_io.specs.FilesState.{FilesState, Handle, Purpose, Gives, known_handle, moved_by}
+use Rattle.batch_io.specs.FilesState.{FilesState, Handle, Purpose, known_handle, moved_by}
 use Rattle.cob_data.specs.declared.layout.FileDecl.{FileDecl}
 use Rattle.cob_data.specs.declared.layout.Layout.{Layout}
-use Rattle.cob_runs.specs.Files.{File, file, Mode, closed, reading, writing, opened, Taken, taken, after_read}
+use Rattle.cob_runs.specs.Files.{File, file, Mode, closed, reading, writing, opened, Taken, after_read}
 use Rattle.cob_runs.specs.State.{World, with_files}
 use Rattle.cob_runs.specs.Acts.{decl_at, file_act, open_one, take_on, take_one}
 use Rattle.cob_world.specs.Calling.{replaced}

@@ -1,6 +1,6 @@
 -- What comes of a READ's first node.
-use Rattle.std.proofs.Common.{◌≡◌, ℕ, ◌+◌, ◌<◌, ◌≤◌, true, false, List, [], Option, Some, None, Result, Ok, Err, refl, sym, ap, subst, ◌∙◌, arith}
-use Rattle.std.specs.Prelude.{Contains, slice_get}
+use Rattle.std.proofs.Common.{◌≡◌, ℕ, ◌≤◌, true, false, List, Option, Some, None, Result, Ok, Err, sym, ap, subst, ◌∙◌}
+use Rattle.std.specs.Prelude.{Contains}
 use Rattle.batch_io.specs.FilesState.{Contents, FilesState, known_bytes}
 use Rattle.batch_io.specs.SinkState.{SinkState}
 use Rattle.cob_plan.specs.declared.node.Op.{Op}
@@ -25,7 +25,7 @@ use Rattle.cob_interp.specs.Readying.{AreWell}
 use Rattle.cob_interp.specs.Running.{Outside, outside, IsUnderway, Stands, StandsIn, StandsIf, RestsIn, Arrives}
 use Rattle.cob_interp.specs.Setting.{program_of, paths_of, IsPlace}
 use Rattle.cob_interp.specs.Doing.{answered, DoesPart}
-use Rattle.cob_interp.proofs.Passing.{well_passes, append_none, stands_told, rests_told}
+use Rattle.cob_interp.proofs.Passing.{stands_told, rests_told}
 use Rattle.cob_interp.proofs.Onward.{goes_over, stopped_by}
 use Rattle.cob_interp.proofs.ReadLemmas.{TakeFollows, EdgeReads, read_edge}
 

@@ -1,26 +1,25 @@
 -- What a READ of the next record does to the world as the run sees it.
-use Rattle.std.proofs.Common.{◌≡◌, ℕ, zero, suc, ◌+◌, ◌<◌, ◌≤◌, ◌⊎◌, ◌==◌, ◌&&◌, Bool, true, false, not, List, [], ◌∷◌, ◌++◌, length, drop, Option, Some, None, Ok, Err, inl, inr, refl, sym, ap, subst, ◌∙◌, arith}
+use Rattle.std.proofs.Common.{◌≡◌, ℕ, zero, suc, ◌+◌, ◌⊎◌, ◌==◌, ◌&&◌, Bool, true, false, not, List, [], ◌∷◌, Option, Some, None, Ok, Err, inl, inr, refl, sym, ap, subst, ◌∙◌, arith}
 use Rattle.std.specs.Prelude.{slice_get, slice_set, Contains}
-use Rattle.std.specs.FinMap.{get}
 use Rattle.batch_io.specs.FilesState.{Contents}
 use Rattle.cob_tree.specs.declared.fault.Kind.{Kind}
 use Rattle.cob_data.specs.declared.layout.FileDecl.{FileDecl}
 use Rattle.cob_data.specs.declared.layout.Layout.{Layout}
-use Rattle.cob_program.specs.Act.{Act, Phrase, Stmts, read, Program}
+use Rattle.cob_program.specs.Act.{Phrase, Stmts, read, Program}
 use Rattle.cob_plan.specs.declared.node.Op.TheVariants as op
 use Rattle.cob_plan.specs.Plan.{op_edges}
 use Rattle.cob_runs.specs.declared.action.Action.{Action}
 use Rattle.cob_runs.specs.declared.action.Action.TheVariants as action
-use Rattle.cob_runs.specs.Files.{File, file, Mode, reading, Taken, after_read, with_status}
-use Rattle.cob_runs.specs.State.{World, with_files, with_storage}
-use Rattle.cob_runs.specs.Acts.{is_fine, decl_at, found_in, taken_world, take_on, take_one}
+use Rattle.cob_runs.specs.Files.{File, file, Mode, reading, Taken, after_read}
+use Rattle.cob_runs.specs.State.{World, with_files}
+use Rattle.cob_runs.specs.Acts.{is_fine, decl_at, taken_world, take_on, take_one}
 use Rattle.cob_runs.specs.Effects.{effect, effect_of, status, status_of, act_at, taken_if}
 use Rattle.cob_world.specs.Calling.{replaced, replaced_on}
-use Rattle.cob_interp.specs.Told.{seen, seen_file, seen_files, IsSynced, AreSynced, AreDistinct}
+use Rattle.cob_interp.specs.Told.{seen, seen_file, seen_files, AreSynced, AreDistinct}
 use Rattle.cob_interp.specs.Readying.{settled, settled_on, settled_file}
 use Rattle.cob_interp.proofs.SeenFiles.{seen_set, synced_set}
 use Rattle.cob_interp.proofs.Calls.{CallFollows}
-use Rattle.cob_interp.proofs.OneFile.{WindowFollows, window_follows}
+use Rattle.cob_interp.proofs.OneFile.{WindowFollows}
 use Rattle.cob_interp.proofs.Onward.{effect_by_act, status_by_act}
 
 pub get_set : (fs : List File) (place : ℕ) (f g : File) → slice_get fs place ≡ Some f

@@ -1,5 +1,5 @@
 -- What comes of the part of a READ's first node, by what it answers.
-use Rattle.std.proofs.Common.{◌≡◌, ℕ, List, Option, Some, None, Result, Ok, Err, refl, sym, subst}
+use Rattle.std.proofs.Common.{◌≡◌, ℕ, Some, None, Result, Ok, Err, refl, sym, subst}
 use Rattle.std.specs.Prelude.{slice_get, IfOk}
 use Rattle.std.proofs.lemmas.Result.{IfOk-weaker}
 use Rattle.batch_io.specs.FilesState.{FilesState}
@@ -23,7 +23,8 @@ use Rattle.cob_interp.proofs.RecordReads.{read_act, on_file}
 -- where the next record isn't given, the world is as it was
 module _ (s : Setting) (x : Place) (step : ℕ) (old new : FilesState) (ids : Ids) (f size before : ℕ) (w : World)
     (is : IsSize s f size) where
-  pub rest_part : (e : RunEnd) → IsRestOr old new ids f size before e → ReadsPart s x step old new ids f before w w (Err e)
+  pub rest_part : (e : RunEnd) → IsRestOr old new ids f size before e → ReadsPart s x step old new ids f before w w
+      (Err e)
   rest_part end.ReadFault refused = refused
   rest_part end.WriteFault refused = refused
   rest_part end.Memory refused = tt

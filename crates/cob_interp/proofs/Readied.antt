@@ -1,14 +1,14 @@
 -- Where a file is put and closed before a CLOSE.
 use Rattle.std.proofs.Common.{◌≡◌, ℕ, Bool, List, Option, refl, sym, subst, ◌∙◌}
-use Rattle.std.specs.Prelude.{slice_get, IsSome, IfSome}
-use Rattle.batch_io.specs.FilesState.{Contents, FilesState, Handle, Purpose, KeepsIds, known_bytes, known_handle}
+use Rattle.std.specs.Prelude.{IsSome, IfSome}
+use Rattle.batch_io.specs.FilesState.{Contents, FilesState, Handle, Purpose, KeepsIds, known_bytes}
 use Rattle.cob_runs.specs.Files.{File}
 use Rattle.cob_runs.specs.State.{World}
 use Rattle.cob_interp.specs.declared.setting.Setting.{Setting}
-use Rattle.cob_interp.specs.Readying.{AreWell, Keeps, Readies, ReadyToClose, ClosesFor}
+use Rattle.cob_interp.specs.Readying.{AreWell, Keeps, ReadyToClose, ClosesFor}
 use Rattle.cob_interp.specs.Touching.{IsTouched, Touches}
 use Rattle.cob_interp.specs.Told.{IsReadyToClose}
-use Rattle.cob_interp.specs.Tracking.{Ids, IsRead, AreOpen, ArePlaced}
+use Rattle.cob_interp.specs.Tracking.{Ids, AreOpen, ArePlaced}
 
 module _ (paths : List (List ℕ)) (a b : FilesState) (fs : List File) where
   pub placed_ids : (ids : Ids) → KeepsIds a b → AreOpen a ids → ArePlaced paths a ids fs → ArePlaced paths b ids fs

@@ -1,5 +1,5 @@
 -- What a READ's first node comes to.
-use Rattle.std.proofs.Common.{◌≡◌, ℕ, ◌+◌, ◌<◌, ◌≤◌, ◌⊎◌, ◌==◌, ◌&&◌, Bool, true, false, List, [], length, Option, Some, None, Result, Ok, Err, inl, inr, refl, sym, ap, subst, ◌∙◌, append-nil, arith}
+use Rattle.std.proofs.Common.{◌≡◌, ℕ, ◌+◌, ◌<◌, ◌⊎◌, true, false, List, [], length, Option, Some, None, Result, Ok, Err, inl, inr, refl, sym, ap, subst, ◌∙◌, arith}
 use Rattle.std.specs.Prelude.{slice_get}
 use Rattle.std.specs.Option.{option_map_or}
 use Rattle.batch_io.specs.FilesState.{Contents, FilesState, known_bytes}
@@ -8,7 +8,7 @@ use Rattle.cob_data.specs.declared.layout.FileDecl.{FileDecl}
 use Rattle.cob_plan.specs.declared.node.Op.TheVariants as op
 use Rattle.cob_program.specs.Act.{Act, Phrase, Stmts, read}
 use Rattle.cob_program.specs.ActView.{plain_act}
-use Rattle.cob_runs.specs.Files.{File, file, Mode, closed, reading, writing, bytes_in, after_read}
+use Rattle.cob_runs.specs.Files.{File, file, Mode, closed, reading, writing, bytes_in}
 use Rattle.cob_runs.specs.State.{World, with_files}
 use Rattle.cob_runs.specs.Acts.{decl_at, take_one}
 use Rattle.cob_world.specs.Calling.{replaced}
@@ -18,9 +18,9 @@ use Rattle.cob_interp.specs.declared.parts.Call.TheVariants as call
 use Rattle.cob_interp.specs.declared.setting.Setting.{Setting}
 use Rattle.cob_interp.specs.declared.setting.Place.{Place}
 use Rattle.cob_interp.specs.Ends.{is_cut, cut_file}
-use Rattle.cob_interp.specs.Told.{seen, seen_file, seen_files, IsSynced, AreSynced, AreDistinct}
+use Rattle.cob_interp.specs.Told.{seen, seen_file, seen_files, AreSynced, AreDistinct}
 use Rattle.cob_interp.specs.Tracking.{Ids, ArePlaced}
-use Rattle.cob_interp.specs.Readying.{AreWell, GivesWindow, HasRest, IsReadOn, settled}
+use Rattle.cob_interp.specs.Readying.{GivesWindow, HasRest, IsReadOn, settled}
 use Rattle.cob_interp.specs.Doing.{DoesPart, DoesRead, ReadsPart}
 use Rattle.cob_interp.specs.Running.{Outside, outside, Stands, Arrives}
 use Rattle.cob_interp.specs.Setting.{program_of, paths_of, IsCall, StartsAt}

@@ -1,11 +1,11 @@
 -- Ids that are open, from call to call.
 use Rattle.std.proofs.Common.{◌≡◌, ◌≢◌, ℕ, zero, suc, List, [], ◌∷◌, length, Option, Some, None, refl, sym, ap, subst, ◌∙◌, ◌⊎◌, inl, inr, ◌<◌, arith}
-use Rattle.std.specs.Prelude.{slice_get, slice_set, option_map, IsSome, IfSome}
+use Rattle.std.specs.Prelude.{slice_get, slice_set, IsSome, IfSome}
 use Rattle.std.proofs.lemmas.Bool.{cases_eq, false≢true}
-use Rattle.batch_io.specs.FilesState.{FilesState, Handle, Reading, Gives, KeepsIds, KeepsOthers, known_handle, moved_by}
-use Rattle.batch_io.specs.FilesCalls.{OpensId, Closes}
-use Rattle.cob_runs.specs.Files.{File, Mode}
-use Rattle.cob_interp.specs.Tracking.{Ids, IsRead, IsElse, AreNone, AreOpen, KeepsBut, Tracks, IsReading, ArePlaced, KeepsPlaces}
+use Rattle.batch_io.specs.FilesState.{FilesState, Reading, Gives, KeepsIds, KeepsOthers, known_handle}
+use Rattle.batch_io.specs.FilesCalls.{OpensId}
+use Rattle.cob_runs.specs.Files.{File}
+use Rattle.cob_interp.specs.Tracking.{Ids, IsRead, IsElse, AreNone, AreOpen, KeepsBut, Tracks, ArePlaced, KeepsPlaces}
 
 -- ---- no id changes
 

@@ -1,9 +1,9 @@
 -- The next record of a file, as it is told.
-use Rattle.std.proofs.Common.{◌≡◌, ℕ, ◌+◌, ◌<◌, ◌≤◌, ◌⊎◌, true, false, List, [], ◌++◌, length, take, drop, length-take-le, Option, Some, None, inl, inr, refl, sym, ap, subst, ◌∙◌, append-nil, arith}
+use Rattle.std.proofs.Common.{◌≡◌, ℕ, ◌+◌, ◌<◌, ◌≤◌, false, List, [], ◌++◌, length, take, drop, length-take-le, Option, Some, None, inl, inr, refl, sym, ap, subst, ◌∙◌, arith}
 use Rattle.std.specs.Prelude.{slice_get, unwrap_or, option_map, IfSome}
 use Rattle.std.specs.FinMap.{get}
 use Rattle.std.specs.Io.KnownBytes.{prepend_known}
-use Rattle.batch_io.specs.FilesState.{Contents, FilesState, Told, Handle, Gives, known_bytes, known_handle, known_rest, rest_of, bytes_at}
+use Rattle.batch_io.specs.FilesState.{Contents, FilesState, Told, Handle, Gives, known_bytes, known_rest, rest_of, bytes_at}
 use Rattle.cob_runs.specs.Files.{File, Mode, reading}
 use Rattle.cob_interp.specs.Told.{IsSynced, IsSyncedIn}
 use Rattle.cob_interp.specs.Tracking.{Ids, IsRead, IsReading, ArePlaced}

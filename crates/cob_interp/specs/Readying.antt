@@ -14,7 +14,7 @@ use Rattle.cob_interp.specs.declared.ends.RunEnd.TheVariants as end
 use Rattle.cob_interp.specs.declared.setting.Setting.{Setting}
 use Rattle.cob_interp.specs.Told.{seen, AreSynced, AgreeBut, IsReadyToOpen, IsReadyToClose}
 use Rattle.cob_interp.specs.Tracking.{Ids, IsRead, IsReading, KeepsPlaces}
-use Rattle.cob_interp.specs.Setting.{program_of, paths_of}
+use Rattle.cob_interp.specs.Setting.{paths_of}
 
 -- no fault was met
 pub record AreWell (old new : FilesState) : Type 0 where

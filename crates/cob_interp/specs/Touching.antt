@@ -19,7 +19,8 @@ IsFront f now = (f.mode ≡ writing) × ((n : ℕ) × (now ≡ Some (take n (byt
 abbrev pub IsEmptied : Bool → File → Option (List ℕ) → Type 0
 IsEmptied makes f now = (makes ≡ true) × ((f.mode ≡ closed) × (now ≡ Some []))
 
--- A file is told as these bytes; or, where it is being written, as a front of them; or, where it is closed and opened for output, nothing yet.
+-- A file is told as these bytes; or, where it is being written, as a front of them; or, where it is closed and opened for
+-- output, nothing yet.
 abbrev pub IsPartOf : Bool → File → Option (List ℕ) → Option (List ℕ) → Type 0
 IsPartOf makes f whole now = (now ≡ whole) ⊎ (IsFront f now ⊎ IsEmptied makes f now)
 

@@ -1,6 +1,6 @@
 -- Which ids are open for the files that are read, and where they stand.
-use Rattle.std.specs.Prelude.{◌≡◌, ℕ, Bool, List, map, slice_get, Option, Some, None, IsSome, IfSome, option_map}
-use Rattle.batch_io.specs.FilesState.{FilesState, Handle, Reading, known_handle}
+use Rattle.std.specs.Prelude.{◌≡◌, ℕ, List, slice_get, Option, Some, None, IsSome, IfSome}
+use Rattle.batch_io.specs.FilesState.{FilesState, Reading, known_handle}
 use Rattle.cob_runs.specs.Files.{File, Mode, closed, reading, writing}
 
 -- for each file the id under which it is read, if it is

@@ -165,8 +165,8 @@ impl Inputs {
         closed
     }
 
-    /// Reads the next bytes of the file at a place into its room: a record, or those to the end. Answers the room, which
-    /// is to be given back, and how many bytes at its front were read.
+    /// Reads the next bytes of the file at a place into its room: a record, or those to the end. Answers the room,
+    /// which is to be given back, and how many bytes at its front were read.
     pub fn next_record<F: Files>(
         &mut self,
         alloc: Global,

@@ -102,8 +102,8 @@ fn go_through(
     Err(RunEnd::Memory)
 }
 
-/// Does all of a step from the place at which it begins, of a statement that opens, closes and reads no file. Answers the node
-/// behind it.
+/// Does all of a step from the place at which it begins, of a statement that opens, closes and reads no file.
+/// Answers the node behind it.
 #[inline(always)]
 fn go(
     alloc: Global,

@@ -26,7 +26,8 @@ returns-in_ok-ready_to_close-in-Some-clause-closes g c =
 
 pub returns-in_ok-ready_to_close-in-Some-clause-placed : goal.returns-in_ok-ready_to_close-in-Some-clause-placed
 returns-in_ok-ready_to_close-in-Some-clause-placed g c =
-    placed_behind (paths_of c.args.setting.now) (g.F.Files.state c.ready_to_close.new.files) _ c.args.world.now.world.files _
+    placed_behind (paths_of c.args.setting.now) (g.F.Files.state c.ready_to_close.new.files) _
+    c.args.world.now.world.files _
     _
     (close_places c.args.setting.now c.args.place.now c.args.step _ _ c.args.closed.now c.in-Close.file c.in-Close.fine
     c.in-Close.bad c.in-Close.is (c.requires.place.its ∙ ap Some c.requires.its) _ c.do_part.ensures.does)

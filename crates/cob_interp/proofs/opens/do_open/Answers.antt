@@ -50,7 +50,8 @@ returns-in_ok-ready_to_open-in-Some-clause-placed g c =
     c.requires.place.its _ c.do_part.ensures.does c.args.openings.now c.in-Open.file c.in-Open.fine c.in-Open.bad
     c.requires.its c.in-Open.is c.in-Some.opening (sym c.in-Some.ensures) (paths_of c.args.setting.now)
     (g.F.Files.state c.ready_to_open.new.files) _
-    (open_one_placed c.args.setting.now.program.now.layout (paths_of c.args.setting.now) (g.F.Files.state c.args.files.now)
+    (open_one_placed c.args.setting.now.program.now.layout (paths_of c.args.setting.now)
+    (g.F.Files.state c.args.files.now)
     (g.F.Files.state c.ready_to_open.new.files) _ _ _ c.in-Some.opening
     ready.path ready.file ready.is.path_ ready.has ready.stand
     (placed_on (paths_of c.args.setting.now) (g.F.Files.state c.args.files.now) _ _ _ ready.keeps c.requires.placed))

@@ -1,6 +1,5 @@
 use Rattle.cob_interp.specs.Setting.{paths_of}
 use Rattle.cob_interp.specs.Touching.{makes_none}
-use Rattle.cob_interp.proofs.Putting.{refused_on}
 use Rattle.cob_interp.proofs.Readied.{placed_ids, placed_closed, ready_closed, touches_known}
 use Rattle.cob_interp.proofs.TrackLemmas.{tracks_ids, tracks_pass}
 use Rattle.cob_interp.proofs.outside.ready_to_close.Goals as goal
@@ -13,11 +12,13 @@ returns-in_err-put_file_at-clause-tracks g c = tracks_ids _ _ _ c.in_err-put_fil
 
 pub returns-in_err-close-clause-tracks : goal.returns-in_err-close-clause-tracks
 returns-in_err-close-clause-tracks g c =
-    tracks_pass _ _ _ _ _ _ (tracks_ids _ _ _ c.in_ok-put_file_at.ensures.ids c.requires.live) c.in_err-close.ensures.tracks
+    tracks_pass _ _ _ _ _ _ (tracks_ids _ _ _ c.in_ok-put_file_at.ensures.ids c.requires.live)
+    c.in_err-close.ensures.tracks
 
 pub returns-clause-tracks : goal.returns-clause-tracks
 returns-clause-tracks g c =
-    tracks_pass _ _ _ _ _ _ (tracks_ids _ _ _ c.in_ok-put_file_at.ensures.ids c.requires.live) c.in_ok-close.ensures.tracks
+    tracks_pass _ _ _ _ _ _ (tracks_ids _ _ _ c.in_ok-put_file_at.ensures.ids c.requires.live)
+    c.in_ok-close.ensures.tracks
 
 pub returns-clause-readies : goal.returns-clause-readies
 returns-clause-readies g c =

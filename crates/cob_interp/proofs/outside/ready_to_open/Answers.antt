@@ -18,7 +18,8 @@ returns-then-not-is_closed-clause-readies g c =
 pub returns-then-opening-clause-readies : goal.returns-then-opening-clause-readies
 returns-then-opening-clause-readies g c =
     let h = has_file c.in-Some-file_mode.mode _ c.in-Some-file_mode.ensures in
-    output_ready c.args.setting.now c.args.world.now.world c.args.opening c.in-Some.path.now c.in-Some.ensures h.0 h.1 _ _
+    output_ready c.args.setting.now c.args.world.now.world c.args.opening c.in-Some.path.now c.in-Some.ensures h.0
+    h.1 _ _
     (is_closed_true c.in-Some-file_mode.mode h.0.mode h.2 (sym c.is_closed.ensures ∙ c.if-not-is_closed.false))
     c.if-opening.true c.in_ok-put.ensures.puts _
     (λ other id is. c.in_ok-put.ensures.ids.handle id
@@ -27,7 +28,8 @@ returns-then-opening-clause-readies g c =
 pub returns-clause-readies : goal.returns-clause-readies
 returns-clause-readies g c =
     let h = has_file c.in-Some-file_mode.mode _ c.in-Some-file_mode.ensures in
-    opened_ready c.args.setting.now c.args.world.now.world c.args.opening c.in-Some.path.now c.in-Some.ensures h.0 h.1 _ _
+    opened_ready c.args.setting.now c.args.world.now.world c.args.opening c.in-Some.path.now c.in-Some.ensures h.0
+    h.1 _ _
     _ _ (is_closed_true c.in-Some-file_mode.mode h.0.mode h.2 (sym c.is_closed.ensures ∙ c.if-not-is_closed.false))
     c.if-opening.false _ c.in_ok-open_input.ensures.opens c.in_ok-open_input.ensures.same c.requires.live
 
@@ -52,7 +54,8 @@ returns-then-not-is_closed-clause-touches g c =
 pub returns-in_err-put-clause-touches : goal.returns-in_err-put-clause-touches
 returns-in_err-put-clause-touches g c =
     let h = has_file c.in-Some-file_mode.mode _ c.in-Some-file_mode.ensures in
-    makes_by_put (paths_of c.args.setting.now) (makes_in (c.args.opening ∷ [])) c.args.world.now.world _ _ c.args.opening.file
+    makes_by_put (paths_of c.args.setting.now) (makes_in (c.args.opening ∷ [])) c.args.world.now.world _ _
+    c.args.opening.file
     c.in-Some.path.now h.0 c.requires.ready.distinct c.in-Some.ensures.path_ h.1
     (is_closed_true c.in-Some-file_mode.mode h.0.mode h.2 (sym c.is_closed.ensures ∙ c.if-not-is_closed.false))
     (makes_own c.args.opening c.if-opening.true) c.in_err-put.ensures.part
@@ -60,7 +63,8 @@ returns-in_err-put-clause-touches g c =
 pub returns-then-opening-clause-touches : goal.returns-then-opening-clause-touches
 returns-then-opening-clause-touches g c =
     let h = has_file c.in-Some-file_mode.mode _ c.in-Some-file_mode.ensures in
-    makes_by_put (paths_of c.args.setting.now) (makes_in (c.args.opening ∷ [])) c.args.world.now.world _ _ c.args.opening.file
+    makes_by_put (paths_of c.args.setting.now) (makes_in (c.args.opening ∷ [])) c.args.world.now.world _ _
+    c.args.opening.file
     c.in-Some.path.now h.0 c.requires.ready.distinct c.in-Some.ensures.path_ h.1
     (is_closed_true c.in-Some-file_mode.mode h.0.mode h.2 (sym c.is_closed.ensures ∙ c.if-not-is_closed.false))
     (makes_own c.args.opening c.if-opening.true) c.in_ok-put.ensures.part

@@ -1,6 +1,3 @@
-use Rattle.std.proofs.Common.{ℕ, Option, Some, sym, subst}
-use Rattle.cob_interp.specs.Tracking.{Ids, ArePlaced}
-use Rattle.cob_interp.specs.Setting.{paths_of}
 use Rattle.cob_interp.proofs.RecordReads.{idle_arrives, window_arrives}
 use Rattle.cob_interp.proofs.ReadParts.{idle_part_placed, window_part_placed}
 use Rattle.cob_interp.proofs.reads.do_read.Goals as goal
@@ -29,7 +26,8 @@ returns-in-Some-clause-placed g c =
 
 pub returns-in-Some-clause-takes : goal.returns-in-Some-clause-takes
 returns-in-Some-clause-takes g c = λ sink budget steps start counted within stands.
-    window_arrives c.args.setting.now c.args.node c.args.place.now c.requires.starts c.requires.ready.distinct c.args.file
+    window_arrives c.args.setting.now c.args.node c.args.place.now c.requires.starts c.requires.ready.distinct
+    c.args.file
     c.requires.reads budget steps c.args.step counted within start sink (g.F.Files.state c.args.files.now)
     (g.F.Files.state c.do_window.new.files) c.args.world.now.world stands c.in-Read.found c.in-Read.end c.in-Read.bad
     c.in-Read.is c.args.inputs.now c.requires.placed c.in-Some.before c.in-Some.ensures c.do_window.ensures.same _ _

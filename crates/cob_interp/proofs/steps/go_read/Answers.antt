@@ -13,7 +13,8 @@ returns-in_err-next-clause-takes g c =
 
 pub returns-clause-placed : goal.returns-clause-placed
 returns-clause-placed g c =
-    placed_behind (paths_of c.args.setting.now) (g.F.Files.state c.do_read.new.files) _ _ _ _ c.go_through.ensures.places
+    placed_behind (paths_of c.args.setting.now) (g.F.Files.state c.do_read.new.files) _ _ _ _
+    c.go_through.ensures.places
     c.in_ok-next.ensures.placed
 
 pub returns-clause-takes : goal.returns-clause-takes

@@ -8,7 +8,8 @@ abbrev pub invariant-loop : goal.invariant-loop
 invariant-loop l = record {
   kept : l.world.program ≡ l.fn.world.program;
   underway : (now start : Outside)
-      → IsUnderway (program_of l.setting) l.setting.graph.now (paths_of l.setting) start now l.fn.world.world l.step l.node
+      → IsUnderway (program_of l.setting) l.setting.graph.now (paths_of l.setting) start now l.fn.world.world
+      l.step l.node
       → IsUnderway (program_of l.setting) l.setting.graph.now (paths_of l.setting) start now l.world.world l.step l.at;
   places : KeepsPlaces l.fn.world.world.files l.world.world.files;
 }

@@ -25,7 +25,8 @@ loop-preserved g c = record {
   underway = λ sink start underway. goes_on_underway c.args.setting.now start _ _ c.args.step _
       (c.rests_at.ensures c.if-rests_at.false)
       (c.in_ok-at.ensures.leads sink c.args.step start (omega arith) (c.loop.invariant.underway sink start underway));
-  touches = makes_on (paths_of c.args.setting.now) _ _ _ _ _ (makes_in c.args.openings.now) c.loop.invariant.touches c.loop.invariant.only
+  touches = makes_on (paths_of c.args.setting.now) _ _ _ _ _ (makes_in c.args.openings.now)
+      c.loop.invariant.touches c.loop.invariant.only
       c.in_ok-at.ensures.touches;
   only = opens_pass _ _ _ c.loop.invariant.only c.in_ok-at.ensures.opens;
   live = c.in_ok-at.ensures.tracks.live;
@@ -35,12 +36,14 @@ loop-preserved g c = record {
 
 pub returns-in_err-at-clause-touches : goal.returns-in_err-at-clause-touches
 returns-in_err-at-clause-touches g c =
-    makes_on (paths_of c.args.setting.now) _ _ _ _ _ (makes_in c.args.openings.now) c.loop.invariant.touches c.loop.invariant.only
+    makes_on (paths_of c.args.setting.now) _ _ _ _ _ (makes_in c.args.openings.now) c.loop.invariant.touches
+    c.loop.invariant.only
     c.in_err-at.ensures.touches
 
 pub returns-then-rests_at-clause-touches : goal.returns-then-rests_at-clause-touches
 returns-then-rests_at-clause-touches g c =
-    makes_on (paths_of c.args.setting.now) _ _ _ _ _ (makes_in c.args.openings.now) c.loop.invariant.touches c.loop.invariant.only
+    makes_on (paths_of c.args.setting.now) _ _ _ _ _ (makes_in c.args.openings.now) c.loop.invariant.touches
+    c.loop.invariant.only
     c.in_ok-at.ensures.touches
 
 pub returns-in_err-at-clause-tracks : goal.returns-in_err-at-clause-tracks

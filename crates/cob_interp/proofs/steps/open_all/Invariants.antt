@@ -17,7 +17,8 @@ invariant-loop g l = record {
       → IsUnderway (program_of l.setting) l.setting.graph.now (paths_of l.setting) start
       (outside (g.F.Files.state l.files) sink)
       l.world.world l.step l.at;
-  touches : Makes (paths_of l.setting) (makes_in l.openings) l.fn.world.world (g.F.Files.state l.fn.files) (g.F.Files.state l.files);
+  touches : Makes (paths_of l.setting) (makes_in l.openings) l.fn.world.world (g.F.Files.state l.fn.files)
+      (g.F.Files.state l.files);
   only : OpensOnly l.fn.world.world l.world.world;
   live : AreOpen (g.F.Files.state l.files) l.inputs;
   placed : ArePlaced (paths_of l.setting) (g.F.Files.state l.files) l.inputs l.world.world.files;

@@ -1,8 +1,4 @@
-use Rattle.std.proofs.Common.{◌≡◌, ℕ, Some, sym, ap, subst, ◌∙◌}
-use Rattle.cob_program.specs.Act.{Act, open_files}
-use Rattle.cob_program.specs.ActView.{plain_act}
-use Rattle.cob_runs.specs.Effects.{act_at}
-use Rattle.cob_interp.specs.Setting.{program_of, paths_of}
+use Rattle.cob_interp.specs.Setting.{paths_of}
 use Rattle.cob_interp.specs.Touching.{makes_in}
 use Rattle.cob_interp.proofs.Touched.{makes_stay}
 use Rattle.cob_interp.proofs.steps.open_next.Goals as goal

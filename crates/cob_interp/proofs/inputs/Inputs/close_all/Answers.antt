@@ -1,5 +1,4 @@
-use Rattle.std.proofs.Common.{◌≡◌, ◌<◌, ℕ, None, Some, length, length-set, refl, sym, ap, subst, ◌∙◌, ◌+◌, rules}
-use Rattle.std.specs.Prelude.{slice_set}
+use Rattle.std.proofs.Common.{None, length, sym, ap, subst, ◌∙◌}
 use Rattle.cob_interp.specs.Tracking.{Ids, IsRead}
 use Rattle.cob_interp.specs.Readying.{ClosesAll}
 use Rattle.cob_interp.proofs.TrackLemmas.{tracks_pass}

@@ -1,4 +1,4 @@
-use Rattle.std.proofs.Common.{◌≡◌, ◌<◌, ℕ, None, Some, length, refl, sym, subst, ◌∙◌, rules}
+use Rattle.std.proofs.Common.{◌<◌, length, refl, sym, subst, ◌∙◌, rules}
 use Rattle.cob_interp.specs.Tracking.{Ids, Tracks}
 use Rattle.cob_interp.proofs.TrackLemmas.{tracks_opened}
 use Rattle.cob_interp.proofs.inputs.Inputs.open.Goals as goal
