@@ -1,5 +1,3 @@
-use Rattle.std.proofs.Common.{subst}
-use Rattle.cob_interp.specs.Readying.{ClosesAll}
 use Rattle.cob_interp.proofs.ClosingInputs.{closed_well, closed_ill}
 use Rattle.cob_interp.proofs.runs.close_inputs.Goals as goal
 
