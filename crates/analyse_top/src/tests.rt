@@ -35,10 +35,12 @@ const READER: &str =
     "       IDENTIFICATION DIVISION.\n       PROGRAM-ID. R.\n       ENVIRONMENT DIVISION.\n       INPUT-OUTPUT SECTION.\n       FILE-CONTROL.\n       SELECT F ASSIGN TO INP.\n       DATA DIVISION.\n       FILE SECTION.\n       FD F.\n       01 R PIC X(80).\n       PROCEDURE DIVISION.\n       OPEN INPUT F.\n       READ F.\n       CLOSE F.\n";
 
 // A record and a byte.
-const CUT: &str = "AAAAAAAAAAAAAAAAAAAAAAAAAAAAAAAAAAAAAAAAAAAAAAAAAAAAAAAAAAAAAAAAAAAAAAAAAAAAAAAAA";
+const CUT: &str =
+    "AAAAAAAAAAAAAAAAAAAAAAAAAAAAAAAAAAAAAAAAAAAAAAAAAAAAAAAAAAAAAAAAAAAAAAAAAAAAAAAAA";
 
 // Two records.
-const TWO: &str = "AAAAAAAAAAAAAAAAAAAAAAAAAAAAAAAAAAAAAAAAAAAAAAAAAAAAAAAAAAAAAAAAAAAAAAAAAAAAAAAAAAAAAAAAAAAAAAAAAAAAAAAAAAAAAAAAAAAAAAAAAAAAAAAAAAAAAAAAAAAAAAAAAAAAAAAAAAAAAAAA";
+const TWO: &str =
+    "AAAAAAAAAAAAAAAAAAAAAAAAAAAAAAAAAAAAAAAAAAAAAAAAAAAAAAAAAAAAAAAAAAAAAAAAAAAAAAAAAAAAAAAAAAAAAAAAAAAAAAAAAAAAAAAAAAAAAAAAAAAAAAAAAAAAAAAAAAAAAAAAAAAAAAAAAAAAAAAA";
 
 fn words_of(alloc: Global, line: &str) -> Result<Vec<String>, AllocError> {
     let mut words = Vec::new(alloc);
@@ -230,7 +232,11 @@ fn files_are_read_by_one_byte_at_a_time_alike(rt: HostRuntime) -> Result<(), Fai
             let mut files = inputs_of(alloc, Vec::new(alloc))?;
             files.slow(most);
             let mut sink = MemSink::new(alloc, Vec::new(alloc));
-            assert_eq!(rt; cobsound(alloc, &words, &mut files, &mut sink), status, "{line}");
+            assert_eq!(rt;
+                cobsound(alloc, &words, &mut files, &mut sink),
+                status,
+                "{line}"
+            );
             assert_eq!(rt; sink.bytes(), out.as_bytes(), "{line}");
         }
     }
@@ -256,7 +262,11 @@ fn reading_a_record_takes_no_more_calls_than_its_bytes(rt: HostRuntime) -> Resul
         let mut files = inputs_of(alloc, calls_behind(alloc, first, 201)?)?;
         files.slow(1);
         let mut sink = MemSink::new(alloc, Vec::new(alloc));
-        assert_eq!(rt; cobsound(alloc, &words, &mut files, &mut sink), status, "{first}");
+        assert_eq!(rt;
+            cobsound(alloc, &words, &mut files, &mut sink),
+            status,
+            "{first}"
+        );
         assert_eq!(rt; sink.bytes(), out.as_bytes(), "{first}");
     }
     Ok(())
