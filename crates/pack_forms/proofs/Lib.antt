@@ -9,3 +9,4 @@ pub mod Having
 pub mod Premises
 pub mod WholeSums
 pub mod AmountsAgree
+pub mod Over

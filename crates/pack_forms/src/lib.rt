@@ -19,5 +19,5 @@ pub use cells::{PackCell, pack_decimals, unit_of};
 pub use counters::lowered_form;
 pub use operands::has_operands;
 pub use pack::PackView;
-pub use senders::sender_form;
+pub use senders::set_form;
 pub use sides::{are_fine, difference_form, divisor_form};
