@@ -10,3 +10,4 @@ pub mod Premises
 pub mod WholeSums
 pub mod AmountsAgree
 pub mod Over
+pub mod KeptSmall
