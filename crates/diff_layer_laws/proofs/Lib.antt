@@ -1,0 +1,5 @@
+pub mod Pieces
+pub mod Entry
+pub mod Flow
+pub mod Clears
+pub mod Meaning

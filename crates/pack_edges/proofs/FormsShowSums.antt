@@ -1,6 +1,6 @@
 -- Where numbers stand in storage, the forms of sums show what the sums are worth.
-use Rattle.std.proofs.Common.{◌≡◌, ◌<◌, ◌≤◌, ℕ, zero, suc, ◌+◌, ◌-◌, ◌*◌, ◌^◌, Bool, true, false, if◌then◌else◌, List, [], ◌∷◌, length, Option, Some, None, is_some, ℤ, pos, neg_ℤ, ◌*ℤ◌, ◌≤ℤ◌, refl, sym, ap, subst, ◌∙◌, pow-add, arith}
-use Rattle.std.specs.Prelude.{IfSome, slice_get, unwrap_or}
+use Rattle.std.proofs.Common.{◌≡◌, ◌<◌, ◌≤◌, ℕ, suc, ◌+◌, ◌-◌, ◌^◌, Bool, true, false, List, [], ◌∷◌, Option, Some, None, is_some, ℤ, pos, neg_ℤ, ◌*ℤ◌, ◌≤ℤ◌, refl, sym, ap, subst, ◌∙◌, pow-add, arith}
+use Rattle.std.specs.Prelude.{IfSome, IsSomeAnd, unwrap_or}
 use Rattle.std.specs.Option.{option_map}
 use Rattle.std.proofs.lemmas.Int.{ints}
 use Rattle.std.proofs.Math.IntN.{zero-*ℤ}
@@ -10,10 +10,9 @@ use Rattle.decimal_interval.specs.declared.bounds.Interval.{Interval}
 use Rattle.decimal_interval.specs.Bounds.{Holds}
 use Rattle.cob_tree.specs.declared.form.Form.{Form}
 use Rattle.cob_tree.specs.declared.form.Form.TheVariants as form
-use Rattle.cob_data.specs.declared.layout.Layout.{Layout}
 use Rattle.num_bytes.specs.Reading.{contents_value}
 use Rattle.cob_program.specs.Sum.{Sum, Atom, item, number, group}
-use Rattle.cob_program.specs.Values.{whole_number, literal, sum_value, atom_value, ◌>>=◌}
+use Rattle.cob_program.specs.Values.{whole_number, literal, sum_value, atom_value}
 use Rattle.cob_program.specs.Act.{Program}
 use Rattle.cob_program.proofs.Steps.{some_same}
 use Rattle.cob_runs.specs.Contents.{form_at, bytes_at, scale_of, scaled_by, number_at}
@@ -21,57 +20,30 @@ use Rattle.cob_runs.specs.Computing as computing
 use Rattle.cob_runs.specs.Computing.{items_in, items_in_atom, are_numeric}
 use Rattle.cob_edge_parts.specs.Meaning.{count_in}
 use Rattle.form_bounds.specs.Values.{worth, worths}
-use Rattle.sum_ranges.specs.declared.ranged.Ranged.{Ranged}
 use Rattle.sum_ranges.specs.Ranged.{decimal, ranged, point, IsIn}
+use Rattle.sum_ranges.specs.SumRanges.{sum_range}
 use Rattle.sum_ranges.proofs.Least.{point_in}
+use Rattle.sum_ranges.proofs.Sound.{sum_in}
 use Rattle.sum_forms.specs.Constants.{item_form}
 use Rattle.sum_forms.specs.SumForms.{sum_form, atom_form}
 use Rattle.sum_forms.specs.Values.{Shows, AreHeld}
 use Rattle.sum_forms.proofs.Shows.{item_shows}
 use Rattle.sum_forms.proofs.Sound.{sum_shown}
-use Rattle.graph_runs.specs.Counters.{IsCount}
 use Rattle.guard_ranges.proofs.Agreement.{numeric_sum}
 use Rattle.cell_rows.specs.Known.{Known}
-use Rattle.cell_storages.specs.Homes.{Home, of_item, of_count, is_home, homes_of, picture_range, form_range, home_range}
+use Rattle.cell_storages.specs.Homes.{Home, of_item, of_count, homes_of, picture_range, form_range, home_range}
 use Rattle.cell_storages.specs.Storages.{storage, known_of, value_at, KnownStands, StandsIn}
 use Rattle.cell_storages.specs.Premises.{HasSoundItems}
 use Rattle.cell_steps.specs.Cells.{known_or, units_of}
 use Rattle.cell_steps.specs.Stores.{range_at}
-use Rattle.cell_edges.proofs.CellLists.{home_is}
-use Rattle.cell_edges.proofs.HomesHold.{units_hold, count_holds}
+use Rattle.cell_edges.proofs.HomesHold.{units_hold}
 use Rattle.cell_edges.proofs.PartsDone.{both_true}
 use Rattle.diff_steps.specs.Packs.{Pack, size_of, cell_of, decimals_of, pack_decimals, unit_of, cells_in}
-use Rattle.pack_edges.proofs.FormsShowItems.{IsOfValues, HaveValues, item_form_is_of_values, sum_form_is_of_values}
-use Rattle.pack_edges.proofs.FormsShowValues.{IsTold, Told, told, range_told, cell_told}
-
--- ---- cells of a pack
-
-pub cell_there : (pack : Pack) (h : Home) (k : ℕ) → cell_of pack h ≡ Some k → slice_get pack k ≡ Some h
-cell_there [] h k e = absurd cc
-cell_there (g ∷ hs) h k e = by_home (is_home g h) refl (λ j f. cell_there hs h j f) e
-  where
-    behind : (o : Option ℕ) → cell_of hs h ≡ o → ((j : ℕ) → cell_of hs h ≡ Some j → slice_get hs j ≡ Some h) → option_map (λ j. suc j) o ≡ Some k → slice_get (g ∷ hs) k ≡ Some h
-    behind None f there e = absurd cc
-    behind (Some j) f there e = subst (λ (i : ℕ). slice_get (g ∷ hs) i ≡ Some h) (some_same (suc j) k e) (there j f)
-
-    by_home : (b : Bool) → is_home g h ≡ b → ((j : ℕ) → cell_of hs h ≡ Some j → slice_get hs j ≡ Some h) → (if b then Some 0 else option_map (λ j. suc j) (cell_of hs h)) ≡ Some k → slice_get (g ∷ hs) k ≡ Some h
-    by_home true f there e = subst (λ (i : ℕ). slice_get (g ∷ hs) i ≡ Some h) (some_same 0 k e) (ap Some (home_is g h f))
-    by_home false f there e = behind (cell_of hs h) refl there e
-
-pub cell_within : (pack : Pack) (k : ℕ) (h : Home) → slice_get pack k ≡ Some h → k < size_of pack
-cell_within [] k h e = absurd cc
-cell_within (g ∷ hs) zero h e = omega arith
-cell_within (g ∷ hs) (suc k) h e = let more = cell_within hs k h e in omega (arith, more)
-
-none_beyond : (pack : Pack) (k : ℕ) → size_of pack ≤ k → slice_get pack k ≡ None
-none_beyond [] k h = refl
-none_beyond (g ∷ hs) zero h = absurd (omega (arith, h))
-none_beyond (g ∷ hs) (suc k) h = none_beyond hs k (omega (arith, h))
-
-pub decimals_within : (l : Layout) (pack : Pack) (k : ℕ) (h : Home) → slice_get pack k ≡ Some h → decimals_of l h ≤ pack_decimals l pack
-decimals_within l [] k h e = absurd cc
-decimals_within l (g ∷ hs) zero h e = let same = ap (decimals_of l) (some_same g h e) in omega (arith, same)
-decimals_within l (g ∷ hs) (suc k) h e = let more = decimals_within l hs k h e in omega (arith, more)
+use Rattle.pack_edges.proofs.PacksWordsRise.{cell_within}
+use Rattle.pack_edges.proofs.PacksKeepCells.{found_cell, decimals_within, no_cell}
+use Rattle.pack_edges.proofs.PacksKeepCells as cell
+use Rattle.pack_edges.proofs.FormsShowItems.{HaveValues, item_form_is_of_values, sum_form_is_of_values}
+use Rattle.pack_edges.proofs.FormsShowValues.{Told, told, range_told, cell_told}
 
 -- in a finer unit
 units_up : (z : ℤ) (scale f : ℕ) → scale ≤ f → (z *ℤ pos (10 ^ (f - scale))) *ℤ pos (10 ^ scale) ≡ z *ℤ pos (10 ^ f)
@@ -133,13 +105,13 @@ module _ (p : Program) (sound : HasSoundItems p.layout) (known : List Known) (by
       by_value (Some z) e = record { held = units_hold p sound known (storage bytes counts) stands place z e; scale = refl }
 
   cell_value : (h : Home) (k : ℕ) → cell_of pack h ≡ Some k → cells (suc k) ≡ option_map (λ v. v *ℤ pos (unit_of p.layout pack h)) (value_at p.layout (storage bytes counts) h)
-  cell_value h k e = ap (λ (o : Option Home). o >>= λ g. option_map (λ v. v *ℤ pos (unit_of p.layout pack g)) (value_at p.layout (storage bytes counts) g)) (cell_there pack h k e)
+  cell_value h k e = cell.cell_value p.layout pack (storage bytes counts) k h (found_cell pack h k e)
 
   its_units : (h : Home) (k : ℕ) → cell_of pack h ≡ Some k → (z : ℤ) → (z *ℤ pos (unit_of p.layout pack h)) *ℤ pos (10 ^ decimals_of p.layout h) ≡ z *ℤ pos (10 ^ pack_decimals p.layout pack)
-  its_units h k e z = units_up z (decimals_of p.layout h) (pack_decimals p.layout pack) (decimals_within p.layout pack k h (cell_there pack h k e))
+  its_units h k e z = units_up z (decimals_of p.layout h) (pack_decimals p.layout pack) (decimals_within p.layout pack k h (found_cell pack h k e))
 
   few_cells : (h : Home) (k : ℕ) → cell_of pack h ≡ Some k → k < 8
-  few_cells h k e = let within = cell_within pack k h (cell_there pack h k e) in omega (arith, within, few)
+  few_cells h k e = let within = cell_within pack h k e in omega (arith, within, few)
 
   all_values : (place k : ℕ) → cell_of pack (of_item place) ≡ Some k → worths cells (suc k) *ℤ pos (10 ^ (number_or_zero place).scale) ≡ (number_or_zero place).units *ℤ pos (10 ^ pack_decimals p.layout pack)
   all_values place k e =
@@ -170,7 +142,7 @@ module _ (p : Program) (sound : HasSoundItems p.layout) (known : List Known) (by
   -- ---- forms
 
   pub none_after : (k : ℕ) → size_of pack ≤ k → cells (suc k) ≡ None
-  none_after k h = ap (λ (o : Option Home). o >>= λ g. option_map (λ v. v *ℤ pos (unit_of p.layout pack g)) (value_at p.layout (storage bytes counts) g)) (none_beyond pack k h)
+  none_after k h = no_cell p.layout pack (storage bytes counts) k h
 
   pub item_told : (place : ℕ) (v : Scaled) → number_at p.layout bytes place ≡ Some v → Told cells f (item_form f (cell_at place) (range_at p known place)) v
   item_told place v e =
@@ -195,14 +167,19 @@ module _ (p : Program) (sound : HasSoundItems p.layout) (known : List Known) (by
   atom_told (number n) v numeric e = range_told cells f (point (literal n)) v (subst (λ (w : Scaled). IsIn w (point (literal n))) (some_same (literal n) v e) (point_in (literal n)))
   atom_told (group s) v numeric e = sum_told s v numeric e
 
-  -- a counter's number
-  pub count_told : (statement : ℕ) (v : ℤ) → count_in counts statement ≡ Some v → (cell_of pack (of_count statement) ≡ None → IsCount v)
+  -- the sum's range holds it
+  pub sum_ranged : (s : Sum) (v : Scaled) → are_numeric p.layout bytes (items_in s) ≡ true → sum_value (computing.worth p.layout bytes) s ≡ Some v → IsSomeAnd (sum_range (range_at p known) s) (IsIn v)
+  sum_ranged s v numeric e =
+      sum_in number_or_zero (range_at p known) all_in s v (sym (numeric_sum p.layout bytes (λ place. decimal (pos 0) (scale_of (form_at p.layout place))) s numeric) ∙ e)
+
+  -- A counter's number, where the pack has its cell, and else any of its range.
+  pub count_told : (statement : ℕ) (v : ℤ) → ((k : ℕ) → cell_of pack (of_count statement) ≡ Some k → count_in counts statement ≡ Some v)
+      → (cell_of pack (of_count statement) ≡ None → Holds (units_of p.layout (homes_of p) known (of_count statement)) v)
       → Told cells f (item_form f (cell_of pack (of_count statement)) (ranged (units_of p.layout (homes_of p) known (of_count statement)) 0)) (whole_number v)
-  count_told statement v e small = by_cell (cell_of pack (of_count statement)) refl
+  count_told statement v there within = by_cell (cell_of pack (of_count statement)) refl
     where
       by_cell : (o : Option ℕ) → cell_of pack (of_count statement) ≡ o → Told cells f (item_form f o (ranged (units_of p.layout (homes_of p) known (of_count statement)) 0)) (whole_number v)
       by_cell (Some k) at =
           cell_told cells f k (whole_number v) (v *ℤ pos (unit_of p.layout pack (of_count statement))) (few_cells (of_count statement) k at)
-          (cell_value (of_count statement) k at ∙ ap (option_map (λ z. z *ℤ pos (unit_of p.layout pack (of_count statement)))) e) (its_units (of_count statement) k at v)
-      by_cell None at = range_told cells f (ranged (units_of p.layout (homes_of p) known (of_count statement)) 0) (whole_number v)
-          (record { held = count_holds p sound known (storage bytes counts) stands statement v e (small at); scale = refl })
+          (cell_value (of_count statement) k at ∙ ap (option_map (λ z. z *ℤ pos (unit_of p.layout pack (of_count statement)))) (there k at)) (its_units (of_count statement) k at v)
+      by_cell None at = range_told cells f (ranged (units_of p.layout (homes_of p) known (of_count statement)) 0) (whole_number v) (record { held = within at; scale = refl })

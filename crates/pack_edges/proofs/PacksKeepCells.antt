@@ -1,12 +1,12 @@
 -- Cells of a pack where storage changes: those that are forgotten may have any value, and the others keep theirs.
-use Rattle.std.proofs.Common.{◌≡◌, ◌≢◌, ℕ, zero, suc, ◌+◌, ◌<◌, ◌≤◌, Bool, true, false, ◌&&◌, not, List, [], ◌∷◌, ◌++◌, length, ℤ, pos, ◌*ℤ◌, Option, Some, None, inl, inr, refl, sym, ap, subst, ◌∙◌, arith}
+use Rattle.std.proofs.Common.{◌≡◌, ◌≢◌, ℕ, zero, suc, ◌+◌, ◌<◌, ◌≤◌, Bool, true, false, List, [], ◌∷◌, length, ℤ, pos, ◌*ℤ◌, Option, Some, None, inl, inr, refl, sym, ap, subst, ◌∙◌, arith}
 use Rattle.std.specs.Prelude.{nat_eq, nat_le, max, if◌then◌else◌, slice_get}
 use Rattle.std.specs.List.{Contains}
 use Rattle.std.specs.Option.{option_map, option_map_or}
 use Rattle.std.proofs.Math.Nat.{le-max_left, le-max_right}
 use Rattle.std.proofs.lemmas.Bool.{cases_eq, eq-eqb, ne_eqb}
 use Rattle.std.proofs.lemmas.Bool.Decides.{nat_tests}
-use Rattle.std.proofs.lemmas.Option.{slice_get_past, slice_get_within}
+use Rattle.std.proofs.lemmas.Option.{slice_get_past}
 use Rattle.std.proofs.lemmas.List.Elements.{Contains-append_cases}
 use Rattle.cob_tree.specs.declared.form.Form.{Form}
 use Rattle.cob_tree.specs.declared.form.Form.TheVariants as form
@@ -17,10 +17,9 @@ use Rattle.cob_program.specs.Values.{◌>>=◌}
 use Rattle.cob_program.specs.Statements.{program_statements}
 use Rattle.cob_runs.specs.Contents.{item_at, form_at}
 use Rattle.dom_laws.specs.Meaning.{Storage}
-use Rattle.diff_bounds.specs.Matrix.{word, IsBound}
+use Rattle.diff_bounds.specs.Matrix.{word}
 use Rattle.diff_bounds.specs.Storages.{value_at, DifferBy, StandsIn}
 use Rattle.form_images.specs.Assigned.{with_value}
-use Rattle.form_images.specs.Forgotten.{AgreeBut}
 use Rattle.cell_storages.specs.Homes.{Home, of_item, of_count, is_home, home_of, if_named, item_homes, act_homes, count_homes, homes_of}
 use Rattle.cell_storages.specs.Storages as cells
 use Rattle.cell_edges.proofs.CellLists.{home_is}
@@ -121,7 +120,7 @@ module _ (l : Layout) (pack : Pack) where
   pub cell_value : (s : Storage) (k : ℕ) (h : Home) → slice_get pack k ≡ Some h → cells_in l pack s (suc k) ≡ option_map (λ v. v *ℤ pos (unit_of l pack h)) (cells.value_at l s h)
   cell_value s k h e = ap (λ (o : Option Home). o >>= λ g. option_map (λ v. v *ℤ pos (unit_of l pack g)) (cells.value_at l s g)) e
 
-  no_cell : (s : Storage) (k : ℕ) → length pack ≤ k → cells_in l pack s (suc k) ≡ None
+  pub no_cell : (s : Storage) (k : ℕ) → length pack ≤ k → cells_in l pack s (suc k) ≡ None
   no_cell s k h = ap (λ (o : Option Home). o >>= λ g. option_map (λ v. v *ℤ pos (unit_of l pack g)) (cells.value_at l s g)) (slice_get_past pack k h)
 
   -- Behind a change of storage, and a new value of one place.

@@ -1,8 +1,5 @@
+use Rattle.pack_edges.proofs.PacksStand.{all_packs_stand}
 use Rattle.pack_edges.proofs.laws.posts_stand.Goals as goal
-use Rattle.pack_edges.proofs.PacksKeepClosed.{closed_stands}
-use Rattle.pack_edges.proofs.PacksKeepCells.{put_left}
-use Rattle.pack_edges.proofs.PacksKeepCounters.{counted_stands}
-use Rattle.pack_edges.proofs.PacksKeepGiven.{Given}
 
 pub returns : goal.returns
-returns c = ?
+returns c = all_packs_stand
