@@ -71,6 +71,9 @@ use Rattle.pack_edges.proofs.PacksClearEnds.{ShowsNear, ends_hold, none_apart}
 
 -- ---- what fits
 
+size_within : (n : ℕ) (z : ℤ) → 1 ≤ n → neg_ℤ (pos (n - 1)) ≤ℤ z → z ≤ℤ pos (n - 1) → unsigned_abs z < n
+size_within n z one l h = omega (arith, ints, one, l, h)
+
 unheld : (f : Form) (z : ℤ) → if_held f z ≡ None → neg_ℤ (most (receiver_of f).digits) ≤ℤ z → z ≤ℤ most (receiver_of f).digits → ⊥
 unheld f z e low high = go (nat_lt (unsigned_abs z) (10 ^ digits_of f)) refl e
   where
@@ -80,21 +83,15 @@ unheld f z e low high = go (nat_lt (unsigned_abs z) (10 ^ digits_of f)) refl e
     digits_same (form.Number digits scale signed kept) = refl
     digits_same (form.Edited picture digits scale) = refl
 
-    size_within : (n : ℕ) → 1 ≤ n → neg_ℤ (pos (n - 1)) ≤ℤ z → z ≤ℤ pos (n - 1) → unsigned_abs z < n
-    size_within n one l h = omega (arith, ints, one, l, h)
-
     within : unsigned_abs z < 10 ^ digits_of f
-    within = subst (λ (d : ℕ). unsigned_abs z < 10 ^ d) (digits_same f) (size_within (10 ^ (receiver_of f).digits) (ten_positive (receiver_of f).digits) low high)
+    within = subst (λ (d : ℕ). unsigned_abs z < 10 ^ d) (digits_same f) (size_within (10 ^ (receiver_of f).digits) z (ten_positive (receiver_of f).digits) low high)
 
     go : (b : Bool) → nat_lt (unsigned_abs z) (10 ^ digits_of f) ≡ b → (if b then Some (bytes_of f z) else None) ≡ None → ⊥
     go true lt h = cc
     go false lt h = not_less_by_test (unsigned_abs z) (10 ^ digits_of f) lt within
 
 counts : (z : ℤ) → neg_ℤ (most 18) ≤ℤ z → z ≤ℤ most 18 → IsCount z
-counts z low high = size_within (10 ^ 18) (ten_positive 18) low high
-  where
-    size_within : (n : ℕ) → 1 ≤ n → neg_ℤ (pos (n - 1)) ≤ℤ z → z ≤ℤ pos (n - 1) → unsigned_abs z < n
-    size_within n one l h = omega (arith, ints, one, l, h)
+counts z low high = size_within (10 ^ 18) z (ten_positive 18) low high
 
 -- ---- homes
 
