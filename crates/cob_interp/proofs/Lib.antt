@@ -16,7 +16,7 @@ pub mod RecordReads
 pub mod ReadParts
 pub mod Placing
 pub mod TrackLemmas
-pub mod InputLemmas
+pub mod HandleLemmas
 pub mod Windows
 pub mod Readied
 pub mod Purposes
@@ -33,5 +33,5 @@ pub mod Breaking
 pub mod Flushing
 pub mod Putting
 pub mod Finishing
-pub mod ClosingInputs
+pub mod ClosingHandles
 pub mod Starting

@@ -61,24 +61,6 @@ pub record Refuses (old new : SinkState) (w v : World) (e : MakeEnd) : Type 0 wh
   pub why : IsSinkRefusal old new e
   pub world : v ≡ w
 
--- ---- files that wait
-
--- The files at the first places are told, so many of them, and at the others what was told.
-pub record IsPutTo (paths : List (List ℕ)) (w : World) (count : ℕ) (told : Contents)
-    (known : Option Contents) : Type 0 where
-  pub now : Contents
-  pub is : known ≡ Some now
-  pub done : (place : ℕ) (path : List ℕ) (f : File) → place < count → slice_get paths place ≡ Some path
-      → slice_get w.files place ≡ Some f
-      → IsReadyToClose told now path f
-  pub left : (place : ℕ) (path : List ℕ) → count ≤ place → slice_get paths place ≡ Some path
-      → get now path ≡ get told path
-  pub others : KeepsNames told now paths
-
-pub record PutsTo (paths : List (List ℕ)) (w : World) (count : ℕ) (old new : FilesState) : Type 0 where
-  pub well : AreWell old new
-  pub known : (told : Contents) → known_bytes old ≡ Some told → IsPutTo paths w count told (known_bytes new)
-
 -- ---- ends
 
 -- the outside or memory failed

@@ -87,5 +87,5 @@ open_input-requires-clause-free g c =
     let h = has_file c.in-Some-file_mode.mode _ c.in-Some-file_mode.ensures in
     let shut = is_closed_true c.in-Some-file_mode.mode h.0.mode h.2
     (sym c.is_closed.ensures ∙ c.if-not-is_closed.false) in
-    slot_free c.args.inputs.now c.args.world.now.world.files c.requires.placed.purposes c.args.opening.file h.0 h.1
+    slot_free c.args.handles.now c.args.world.now.world.files c.requires.placed.purposes c.args.opening.file h.0 h.1
     (ap purpose_in shut)
