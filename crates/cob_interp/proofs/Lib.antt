@@ -1,5 +1,6 @@
 pub mod SeenFiles
 pub mod OneFile
+pub mod Waiting
 pub mod Calls
 pub mod Following
 pub mod Passing

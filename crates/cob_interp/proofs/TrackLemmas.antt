@@ -81,10 +81,10 @@ pub held_still : (ids : Ids) (place other id : ℕ) (writes : Bool) (x : Option 
     → IsHeld ids other writes id → IsHeld (slice_set ids place x) other writes id
 held_still ids place other id writes x apart is = get_set_other ids place other x apart ∙ is
 
-same_held : (x y : Held) → Some x ≡ Some y → x ≡ y
+pub same_held : (x y : Held) → Some x ≡ Some y → x ≡ y
 same_held x y e = cc
 
-same_slot : (x y : Held) → Some (Some x) ≡ Some (Some y) → x ≡ y
+pub same_slot : (x y : Held) → Some (Some x) ≡ Some (Some y) → x ≡ y
 same_slot x y e = cc
 
 -- ---- an id is opened

@@ -1,6 +1,6 @@
-use Rattle.std.proofs.Common.{ap}
+use Rattle.std.proofs.Common.{false, ap}
 use Rattle.cob_interp.specs.Tracking.{purpose_in}
-use Rattle.cob_interp.proofs.Purposes.{slot_read}
+use Rattle.cob_interp.proofs.Purposes.{slot_held}
 use Rattle.cob_interp.proofs.RecordReads.{idle_arrives, window_arrives, on_file}
 use Rattle.cob_interp.proofs.ReadParts.{idle_part_placed, window_part_placed}
 use Rattle.cob_interp.proofs.reads.do_read.Goals as goal
@@ -39,5 +39,5 @@ returns-in-Some-clause-takes g c = λ sink budget steps start counted within sta
 pub do_window-requires-clause-reads : goal.do_window-requires-clause-reads
 do_window-requires-clause-reads g c =
     let f = on_file _ c.in-Some.before c.in-Some.ensures in
-    slot_read c.args.handles.now c.args.world.now.world.files c.requires.placed.purposes c.args.file f.0 f.1
-    (ap purpose_in f.2)
+    slot_held c.args.handles.now c.args.world.now.world.files c.requires.placed.purposes c.args.file f.0 f.1
+    false (ap purpose_in f.2)

@@ -30,8 +30,8 @@ returns-in-Ok-create-clause-part g c = creates_part _ _ c.args.name.now _ c.crea
 pub returns-in-Err-Failed-clause-part : goal.returns-in-Err-Failed-clause-part
 returns-in-Err-Failed-clause-part g c = creates_part _ _ c.args.name.now _ c.create.ensures.call
 
-pub returns-in-Err-Memory-clause-part : goal.returns-in-Err-Memory-clause-part
-returns-in-Err-Memory-clause-part g c = creates_part _ _ c.args.name.now _ c.create.ensures.call
+pub returns-clause-part : goal.returns-in-Err-Memory-clause-part
+returns-clause-part g c = creates_part _ _ c.args.name.now _ c.create.ensures.call
 
 pub returns-in_default-clause-part : goal.returns-in_default-clause-part
 returns-in_default-clause-part g c = created_none _ c.args.name.now
