@@ -1,5 +1,5 @@
 -- Where what waits of a file went out: the run sees what it saw.
-use Rattle.std.proofs.Common.{◌≡◌, ℕ, zero, suc, Bool, List, [], ◌++◌, length, Option, Some, None, Result, inl, inr, refl, sym, ap, subst, ◌∙◌, append-nil}
+use Rattle.std.proofs.Common.{◌≡◌, ℕ, zero, suc, Bool, List, [], ◌++◌, length, Option, Some, None, Result, inl, inr, ◌⊎◌, refl, sym, ap, subst, ◌∙◌, append-nil}
 use Rattle.std.specs.Prelude.{slice_get, slice_set}
 use Rattle.batch_io.specs.FilesState.{Contents, FilesState, known_bytes}
 use Rattle.batch_io.specs.SinkState.{SinkState}
@@ -12,7 +12,7 @@ use Rattle.cob_interp.specs.declared.ends.Ended.{Ended}
 use Rattle.cob_interp.specs.declared.ends.RunEnd.{RunEnd}
 use Rattle.cob_interp.specs.declared.setting.Setting.{Setting}
 use Rattle.cob_interp.specs.Ends.{told_files}
-use Rattle.cob_interp.specs.Told.{seen, seen_file, seen_files, AreSynced, IsSynced, AreDistinct}
+use Rattle.cob_interp.specs.Told.{seen, seen_file, seen_files, AreSynced, IsSyncedIn, IsSynced, AreDistinct}
 use Rattle.cob_interp.specs.Setting.{paths_of}
 use Rattle.cob_interp.specs.Tracking.{IsOpen, purpose_in, KeepsPlaces}
 use Rattle.cob_interp.specs.Readying.{GoesOut, emptied_in, emptied_file, emptied_on, emptied, SeesIn, Sees}
@@ -159,6 +159,22 @@ closes_shut paths a w v shuts = record {
   };
 }
 
+seen_mode : (told : Contents) (path : List ℕ) (content : Option (List ℕ)) (m : Mode) (place : ℕ)
+    → (seen_file told path (file content m place)).mode ≡ m
+seen_mode told path content closed place = refl
+seen_mode told path content (reading ended) place = refl
+seen_mode told path content writing place = refl
+
+closed_on : (told mid now : Contents) (path : List ℕ) (f g h : File)
+    → (seen_file mid path g ≡ seen_file told path f) ⊎ (g.mode ≡ closed)
+    → (seen_file now path h ≡ seen_file mid path g) ⊎ (h.mode ≡ closed)
+    → (seen_file now path h ≡ seen_file told path f) ⊎ (h.mode ≡ closed)
+closed_on told mid now path f g h how (inr shut) = inr shut
+closed_on told mid now path f g h (inl same) (inl same_) = inl (same_ ∙ same)
+closed_on told mid now path f g h (inr shut) (inl same_) =
+    inr (sym (seen_mode now path h.content h.mode h.place) ∙ ap (λ (x : File). x.mode) same_
+    ∙ seen_mode mid path g.content g.mode g.place ∙ shut)
+
 pub closes_pass : (paths : List (List ℕ)) (a b c : FilesState) (w v u : World) → ClosesOnly paths a b w v
     → ClosesOnly paths b c v u → ClosesOnly paths a c w u
 closes_pass paths a b c w v u first then_ = record {
@@ -171,7 +187,102 @@ closes_pass paths a b c w v u first then_ = record {
         each = λ place path f at has s.
             let g = h.each place path f at has s in
             let x = k.each place path g.0 at g.1 g.2 in
-            (x.0, x.1, x.2, closed_on (seen_file told path f) (seen_file h.now path g.0) (seen_file k.now path x.0)
-            (seen_mode told path f) g.3 x.3);
+            (x.0, x.1, x.2, closed_on told h.now k.now path f g.0 x.0 g.3 x.3);
+      };
+}
+
+-- ---- the run goes on standing
+
+seen_on : (told now : Contents) (paths : List (List ℕ)) (text : List ℕ) (w v : World) → v ≡ with_files w v.files
+    → seen_files now paths v.files ≡ seen_files told paths w.files → seen told paths text w ≡ seen now paths text v
+seen_on told now paths text w v is same =
+    sym (ap (λ (fs : List File). record {
+      storage = w.storage;
+      counts = w.counts;
+      files = fs;
+      shown = text ++ w.shown;
+    }) same)
+    ∙ sym (ap (λ (u : World). record {
+      storage = u.storage;
+      counts = u.counts;
+      files = seen_files now paths v.files;
+      shown = text ++ u.shown;
+    }) is)
+
+module _ (p : Program) (g : Graph) (paths : List (List ℕ)) (start : Outside) (sink : SinkState) (old new : FilesState)
+    (w v : World) (sees : Sees paths old new w v) where
+  pub stands_sees : (left begun node : ℕ) → Stands p g paths start (outside old sink) w left begun node
+      → Stands p g paths start (outside new sink) v left begun node
+  stands_sees left begun node s =
+      stands_behind p g paths start (outside old sink) (outside new sink) w v [] left begun node left begun node
+      (readied_well old new sink sees.well)
+      (λ first told text e st. let k = sees.known told e in
+      let same = k.same st.synced in
+      subst (λ (c : Option Contents). StandsIf p g paths (Some first) c (text ++ []) v left begun node) (sym k.is)
+      (subst (λ (t : List ℕ). StandsIn p g paths first k.now t v left begun node) (sym (append-nil text))
+      (record {
+        tells = st.tells;
+        way = subst (λ (z : World). Way p g (told_files first paths) [] left node z)
+            (seen_on told k.now paths text w v sees.world same.0) st.way;
+        synced = same.1;
+        others = λ name none. k.others name none ∙ st.others name none;
+        free = st.free;
+      })))
+      s
+
+  -- behind the run's own end
+  pub rests_sees : (budget : ℕ) (r : Result Ended RunEnd) → Rests p g paths budget start (outside old sink) w r
+      → Rests p g paths budget start (outside new sink) v r
+  rests_sees budget r s = record {
+    text = s.text ++ [];
+    well = well_passes start (outside old sink) (outside new sink) s.text [] s.well (readied_well old new sink sees.well);
+    told = told_on (λ first told. RestsIn p g paths budget first told s.text w r)
+        (λ first told. RestsIn p g paths budget first told (s.text ++ []) v r)
+        (known_bytes start.files) (known_bytes old) (known_bytes new) s.told
+        (λ first told e st. let k = sees.known told e in
+        let same = k.same st.synced in
+        subst (λ (c : Option Contents). IfTold
+        (λ f n. RestsIn p g paths budget f n (s.text ++ []) v r) (Some first) c) (sym k.is)
+        (record {
+          steps = st.steps;
+          answer = st.answer;
+          files = st.files ∙ sym same.0;
+          shown = st.shown ∙ ap (λ (t : List ℕ). t ++ w.shown) (sym (append-nil s.text))
+              ∙ sym (ap (λ (u : World). (s.text ++ []) ++ u.shown) sees.world);
+          synced = same.1;
+          others = λ name none. k.others name none ∙ st.others name none;
+        }));
+  }
+
+-- ---- what was seen goes on being seen
+
+pub sees_stay : (paths : List (List ℕ)) (a : FilesState) (w : World) → Sees paths a a w w
+sees_stay paths a w = record {
+  well = record { reading = refl; writing = refl };
+  world = refl;
+  known = λ told e. record {
+    now = told;
+    is = e;
+    same = λ synced. (refl, synced);
+    others = λ name none. refl;
+  };
+}
+
+pub sees_pass : (paths : List (List ℕ)) (a b c : FilesState) (w v u : World) → Sees paths a b w v → Sees paths b c v u
+    → Sees paths a c w u
+sees_pass paths a b c w v u h k = record {
+  well = record { reading = k.well.reading ∙ h.well.reading; writing = k.well.writing ∙ h.well.writing };
+  world = k.world ∙ ap (λ (x : World). with_files x u.files) h.world;
+  known = λ told e.
+      let x = h.known told e in
+      let y = k.known x.now x.is in
+      record {
+        now = y.now;
+        is = y.is;
+        same = λ synced.
+            let first = x.same synced in
+            let then_ = y.same first.1 in
+            (then_.0 ∙ first.0, then_.1);
+        others = λ name none. y.others name none ∙ x.others name none;
       };
 }

@@ -35,4 +35,5 @@ pub mod Flushing
 pub mod Putting
 pub mod Finishing
 pub mod ClosingHandles
+pub mod Emptying
 pub mod Starting
