@@ -15,8 +15,6 @@ use Rattle.cob_interp.specs.declared.ends.RunEnd.{RunEnd}
 use Rattle.cob_interp.specs.declared.ends.RunEnd.TheVariants as end
 use Rattle.cob_interp.specs.declared.walk.Halt.{Halt}
 use Rattle.cob_interp.specs.declared.walk.Halt.TheVariants as halt
-use Rattle.cob_interp.specs.Readying.{AreWell}
-use Rattle.cob_interp.specs.Told.{KeepsNames, IsReadyToClose}
 
 -- the sink's refusal as the run's
 abbrev pub by_sink : MakeEnd → RunEnd

@@ -4,6 +4,7 @@ ghost use Rattle.batch_io.specs.FilesState.{KeepsIds, known_bytes};
 ghost use Rattle.cob_interp.specs.Readying.{IsRefusal, IsNamed, Readies, GoesOut, OpensInto, ReadyToOpen, emptied, IsWrittenAt};
 ghost use Rattle.cob_interp.specs.Tracking.{AreOpen, ArePlaced, IsHeldFor, StandAt, Tracks};
 ghost use Rattle.cob_runs.specs.Files as file;
+ghost use Rattle.cob_runs.specs.Files.{writing};
 ghost use Rattle.cob_interp.specs.Ends.{is_closed};
 ghost use Rattle.cob_interp.specs.Told.{IsOut};
 ghost use Rattle.cob_interp.specs.Touching.{TouchesOne, Touches, Makes, OpensOnly, makes_in, makes_none};
@@ -26,7 +27,7 @@ fn put_waiting<F: Files>(
     file: &File,
 ) -> Result<(), RunEnd>
     requires live { AreOpen (F.state files.old) handles.now }
-    requires held { file.now.mode ≡ file.writing → IsHeldFor handles.now place true }
+    requires held { file.now.mode ≡ writing → IsHeldFor handles.now place true }
     ensures readies { MatchResult result
         (λ _. (path : List ℕ) → IsNamed (F.state files.old) handles.now place path file.now
         → Readies (F.state files.old) (F.state files.new) path (λ told now. IsOut told now path file.now))

@@ -201,7 +201,7 @@ fn ending_of<F: Files, O: Sink>(
 ) -> Ending
     requires ready { IsReady setting.now }
     requires live { AreOpen (F.state files.old) handles.old }
-    requires placed { OwnEnd halted → ArePlaced (paths_of setting.now) (F.state files.old) handles.old
+    requires placed { IsOwnEnd (as_result halted) → ArePlaced (paths_of setting.now) (F.state files.old) handles.old
         world.old.world.files }
     ensures runs { (budget : ℕ) (start : Outside)
         → HaltsOff (program_of setting.now) setting.now.graph.now (paths_of setting.now) budget start
