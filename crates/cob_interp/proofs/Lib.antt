@@ -5,7 +5,6 @@ pub mod Calls
 pub mod Following
 pub mod Passing
 pub mod Onward
-pub mod PutLemmas
 pub mod NodeLemmas
 pub mod CallsLead
 pub mod CloseLemmas
@@ -35,5 +34,7 @@ pub mod Flushing
 pub mod Putting
 pub mod Finishing
 pub mod ClosingHandles
+pub mod EmptyRooms
+pub mod Going
 pub mod Emptying
 pub mod Starting

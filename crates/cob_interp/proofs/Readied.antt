@@ -24,9 +24,9 @@ module _ (paths : List (List ℕ)) (a b : FilesState) (fs : List File) where
       subst (λ (o : Option Handle). IfSome o (λ handle. handle ≡ record { name = path; place = f.place })) (sym c.1)
       (stand q id writes path f c.0 at has reads)
 
-pub ready_closed : (s : Setting) (w : World) (place : ℕ) (old mid new : FilesState) → GoesOut s w place old mid
+pub out_closed : (s : Setting) (w : World) (place : ℕ) (old mid new : FilesState) → GoesOut s w place old mid
     → AreWell mid new → known_bytes new ≡ known_bytes mid → GoesOut s w place old new
-ready_closed s w place old mid new ready well same = record {
+out_closed s w place old mid new ready well same = record {
   path = ready.path;
   file = ready.file;
   is = ready.is;

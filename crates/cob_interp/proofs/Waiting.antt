@@ -1,15 +1,19 @@
 -- What waits of a file that is written, before it goes out and behind it.
-use Rattle.std.proofs.Common.{◌≡◌, ◌≢◌, ℕ, ◌+◌, Bool, false, List, [], ◌∷◌, ◌++◌, length, take, take_at, append-nil, Option, Some, None, inl, inr, refl, sym, ap, subst, ◌∙◌}
-use Rattle.std.specs.Prelude.{option_map, unwrap_or, IfSome, slice_get, slice_set}
+use Rattle.std.proofs.Common.{◌≡◌, ◌≢◌, ℕ, ◌+◌, Bool, true, false, List, [], ◌∷◌, ◌++◌, length, take, take_at, append-nil, Option, Some, None, Result, Ok, Err, inl, inr, ◌⊎◌, refl, sym, ap, subst, ◌∙◌}
+use Rattle.std.specs.Prelude.{option_map, unwrap_or, IfSome, MatchResult}
 use Rattle.std.specs.FinMap.{get, insert}
 use Rattle.std.proofs.Math.Seq.{take-append-add}
 use Rattle.batch_io.specs.FilesState.{Contents, FilesState, Told, Handle, known_bytes, bytes_at}
 use Rattle.batch_io.specs.Wholes.{with_bytes, Grows}
 use Rattle.cob_runs.specs.Files.{File, file, Mode, closed, reading, writing, bytes_in}
+use Rattle.cob_world.specs.declared.files.FileMode.{FileMode}
+use Rattle.cob_world.specs.declared.files.FileMode.TheVariants as mode
+use Rattle.cob_world.specs.Views.{plain_mode}
 use Rattle.cob_interp.specs.Told.{seen_file, IsSyncedIn, IsSynced, IsOutIn, IsOut, AgreeBut}
 use Rattle.cob_interp.specs.Tracking.{Ids, IsOpen}
 use Rattle.cob_interp.specs.Touching.{IsPartOf, TouchesOne}
-use Rattle.cob_interp.specs.Readying.{Readies, IsNamed, PutsUnder, PutsUnderPart, emptied_in, emptied_file}
+use Rattle.cob_interp.specs.declared.ends.RunEnd.{RunEnd}
+use Rattle.cob_interp.specs.Readying.{IsRefusal, Readies, IsNamed, PutsUnder, PutsUnderPart, emptied_in, emptied_file}
 use Rattle.cob_interp.proofs.SeenFiles.{insert_agrees, insert_gets}
 
 -- ---- a name with more bytes at its end
@@ -21,7 +25,8 @@ appended told path (byte ∷ bytes) = insert told path (bytes_at told path ++ (b
 appended_agrees : (told : Contents) (path bytes : List ℕ) → AgreeBut told (appended told path bytes) path
 unfolding appended
 appended_agrees told path [] name apart = refl
-appended_agrees told path (byte ∷ bytes) = insert_agrees told path (bytes_at told path ++ (byte ∷ bytes))
+appended_agrees told path (byte ∷ bytes) name apart =
+    insert_agrees told path (bytes_at told path ++ (byte ∷ bytes)) name apart
 
 appended_gets : (told : Contents) (path bytes front : List ℕ) → get told path ≡ Some front
     → get (appended told path bytes) path ≡ Some (front ++ bytes)
@@ -120,6 +125,16 @@ module _ (old new : FilesState) (ids : Ids) (place : ℕ) (path : List ℕ) (f :
     };
   }
 
+pub writes_readies : (old new : FilesState) (ids : Ids) (place : ℕ) (f : File) → f.mode ≡ writing
+    → (bytes : List ℕ) → bytes ≡ bytes_in f → (result : Result (Unit {0}) RunEnd)
+    → MatchResult result (λ _. PutsUnder old new ids place bytes) (λ e. IsRefusal old new e)
+    → MatchResult result
+    (λ _. (path : List ℕ) → IsNamed old ids place path f → Readies old new path (λ told now. IsOut told now path f))
+    (λ e. IsRefusal old new e)
+writes_readies old new ids place f mode_ bytes is (Ok u) puts = λ path named.
+    put_readies old new ids place path f named mode_ (subst (λ (b : List ℕ). PutsUnder old new ids place b) is puts)
+writes_readies old new ids place f mode_ bytes is (Err e) refusal = refusal
+
 -- ---- nothing waits
 
 out_in : (told now : Contents) (path : List ℕ) (content : Option (List ℕ)) (m : Mode) (place : ℕ)
@@ -142,3 +157,31 @@ out_in told now path content writing place out s =
 pub out_seen : (told now : Contents) (path : List ℕ) (f : File) → IsOut told now path f → IsSynced told path f
     → (seen_file now path (emptied_file f) ≡ seen_file told path f) × IsSynced now path (emptied_file f)
 out_seen told now path f out s = out_in told now path f.content f.mode f.place out s
+
+-- ---- a file that isn't written
+
+idle_in : (told : Contents) (path : List ℕ) (m : Mode) (f : File) → (m ≡ writing → ⊥) → IsOutIn told told path m f
+idle_in told path closed f idle = refl
+idle_in told path (reading ended) f idle = refl
+idle_in told path writing f idle = absurd (idle refl)
+
+pub idle_readies : (a : FilesState) (path : List ℕ) (f : File) → (f.mode ≡ writing → ⊥)
+    → Readies a a path (λ told now. IsOut told now path f)
+idle_readies a path f idle = record {
+  well = record { reading = refl; writing = refl };
+  known = λ told e. record {
+    now = told;
+    is = e;
+    others = λ name apart. refl;
+    it = idle_in told path f.mode f idle;
+  };
+}
+
+apart_from_writing : (m : FileMode) (n : Mode) → plain_mode m ≡ n
+    → (m ≡ mode.Closed) ⊎ ((b : Bool) × (m ≡ mode.Reading b)) → n ≡ writing → ⊥
+apart_from_writing m n seen_ (inl e) w = let f : closed ≡ writing = sym (ap plain_mode e) ∙ seen_ ∙ w in cc
+apart_from_writing m n seen_ (inr e) w = let f : reading e.0 ≡ writing = sym (ap plain_mode e.1) ∙ seen_ ∙ w in cc
+
+pub other_readies : (a : FilesState) (path : List ℕ) (f : File) (m : FileMode) → plain_mode m ≡ f.mode
+    → (m ≡ mode.Closed) ⊎ ((b : Bool) × (m ≡ mode.Reading b)) → Readies a a path (λ told now. IsOut told now path f)
+other_readies a path f m seen_ is = idle_readies a path f (apart_from_writing m f.mode seen_ is)
