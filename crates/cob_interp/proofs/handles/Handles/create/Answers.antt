@@ -30,7 +30,7 @@ returns-in-Ok-create-clause-part g c = creates_part _ _ c.args.name.now _ c.crea
 pub returns-in-Err-Failed-clause-part : goal.returns-in-Err-Failed-clause-part
 returns-in-Err-Failed-clause-part g c = creates_part _ _ c.args.name.now _ c.create.ensures.call
 
-pub returns-clause-part : goal.returns-in-Err-Memory-clause-part
+pub returns-clause-part : goal.returns-clause-part
 returns-clause-part g c = creates_part _ _ c.args.name.now _ c.create.ensures.call
 
 pub returns-in_default-clause-part : goal.returns-in_default-clause-part
