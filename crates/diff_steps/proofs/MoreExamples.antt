@@ -553,13 +553,13 @@ unfolding sums_through if_small coefs_of
 divisor_at_zero = refl
 
 -- SUBTRACT A FROM B: one pack shows that B - A is at most 5, and the other that it is at least -7.
-ends_by_twopacks : are_cleared kind.Size (ab ∷ abu ∷ [])
+ends_by_two_packs : are_cleared kind.Size (ab ∷ abu ∷ [])
     (worked (alone (item 0)) (target 1 how.Minus Trunc ∷ []) left_out) action.Done
     (cells (to (minus 99) (pos 99)) (to (minus 99) (pos 99)) any any any any any)
     (words none none none none none (pos 5) ∷ words3 none none none none (pos 7) none none none none none none none ∷ [])
     ≡ true
 unfolding sums_through if_small coefs_of
-ends_by_twopacks = refl
+ends_by_two_packs = refl
 
 -- The first pack alone doesn't suffice.
 one_end_shown : are_cleared kind.Size (ab ∷ []) (worked (alone (item 0)) (target 1 how.Minus Trunc ∷ []) left_out)
