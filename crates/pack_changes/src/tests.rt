@@ -1,11 +1,11 @@
 //! Changes of matrices for two cells, against words worked out by hand.
-ghost use Rattle.std.specs.Prelude.{◌≡◌, ◌≤◌, length};
 ghost use Rattle.diff_bounds.specs.Matrix.{IsMatrix};
 ghost use Rattle.pack_changes.specs.Cells.{HasEnds, HaveEnds};
 ghost use Rattle.pack_changes.specs.Forms.{IsFormOf};
 
 use super::{
-    KnownCell, bound, bound_of_negated, close_pack, fits, forget_cells, known_of_amount, known_of_range, order, store_form,
+    KnownCell, bound, bound_of_negated, close_again, close_pack, fits, forget_cells,
+    known_of_amount, known_of_range, order, store_form,
 };
 use dec_num::Mode;
 use decimal_interval::Interval;
@@ -120,6 +120,28 @@ fn closes(rt: HostRuntime) {
     }
 }
 
+// which cells are forgotten of the first of these closings, and the words once it is closed again
+const REOPENED: [([bool; 2], [i128; 6]); 3] = [
+    ([false, true], [-3, 0, 5, 5, 20, 17]),
+    ([true, false], [-3, -2, 5, 3, 20, 17]),
+    ([true, true], [-3, 0, 5, 5, 20, 17]),
+];
+
+#[test]
+fn closes_again(rt: HostRuntime) {
+    let cells = both(known(&rt, (3, 5, 1)), known(&rt, (0, 2, 10)));
+    let mut m = no_bounds();
+    lower(&rt, &mut m, (1, 2, 1));
+    assert!(rt; close_pack(2, &mut m, &cells));
+    for (gone, closed) in REOPENED {
+        let last = m;
+        let mut behind = m;
+        forget_cells(2, &mut behind, &gone);
+        assert!(rt; close_again(2, &mut behind, &last, &cells));
+        assert_eq!(rt; words(&behind), closed);
+    }
+}
+
 // whether the receiver has a sign, what is known of the first cell's value plus a number from -1 to 2, and the words
 // behind a store of it, cut, at the second cell, in units of 10
 const STORES: [(bool, bool, bool, bool, [i128; 6]); 6] = [
@@ -193,7 +215,10 @@ fn shows_bounds(rt: HostRuntime) {
         not_positive: false,
     };
     assert_eq!(rt; known_of_range(2, &m, &more, 2, range), shown);
-    assert_eq!(rt; known_of_amount(2, &m, &more, 2, Some(AmountRange::Decimal(range))), shown);
+    assert_eq!(rt;
+        known_of_amount(2, &m, &more, 2, Some(AmountRange::Decimal(range))),
+        shown
+    );
     let nothing = Known {
         whole: false,
         not_negative: false,
