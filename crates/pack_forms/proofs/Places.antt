@@ -1,0 +1,26 @@
+-- The place of a home in a pack.
+use Rattle.std.proofs.Common.{◌≡◌, ℕ, ◌+◌, zero, suc, ◌<◌, Bool, true, false, if◌then◌else◌, List, [], ◌∷◌, length, get_or, drop, map, Option, Some, None, refl, sym, ap, ◌∙◌, arith}
+use Rattle.std.specs.Prelude.{IfSome}
+use Rattle.std.specs.Option.{option_map}
+use Rattle.cell_storages.specs.Homes.{Home, is_home}
+use Rattle.diff_steps.specs.Packs.{Pack, cell_of}
+
+-- the same, places counted from a number on
+abbrev pub place_from : ℕ → Home → Pack → Option ℕ
+place_from n home [] = None
+place_from n home (h ∷ hs) = if is_home h home then Some n else place_from (suc n) home hs
+
+one_further : (here : Bool) (n : ℕ) (o : Option ℕ) → (if here then Some (suc n) else option_map (λ k. suc k) o) ≡ option_map (λ k. suc k) (if here then Some n else o)
+one_further true n o = refl
+one_further false n o = refl
+
+place_shifted : (n : ℕ) (home : Home) (hs : Pack) → place_from (suc n) home hs ≡ option_map (λ k. suc k) (place_from n home hs)
+place_shifted n home [] = refl
+place_shifted n home (h ∷ hs) =
+    ap (λ (o : Option ℕ). if is_home h home then Some (suc n) else o) (place_shifted (suc n) home hs)
+    ∙ one_further (is_home h home) n (place_from (suc n) home hs)
+
+pub place_from_first : (home : Home) (hs : Pack) → place_from 0 home hs ≡ cell_of hs home
+place_from_first home [] = refl
+place_from_first home (h ∷ hs) =
+    ap (λ (o : Option ℕ). if is_home h home then Some 0 else o) (place_shifted 0 home hs ∙ ap (λ (o : Option ℕ). option_map (λ k. suc k) o) (place_from_first home hs))

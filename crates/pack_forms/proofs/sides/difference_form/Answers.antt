@@ -1,0 +1,10 @@
+use Rattle.cob_program.specs.SumView.{plain_sum}
+use Rattle.cell_steps.specs.Stores.{range_at}
+use Rattle.pack_forms.specs.Views.{item_cell, program_of, known_in}
+use Rattle.pack_forms.proofs.Differences.{difference_is}
+use Rattle.pack_forms.proofs.sides.difference_form.Goals as goal
+
+pub returns-clause-value : goal.returns-clause-value
+returns-clause-value c =
+    difference_is (item_cell c.args.pack.now) (range_at (program_of c.args.items.now) (known_in c.args.items.now)) (plain_sum c.args.left.now) (plain_sum c.args.right.now)
+    _ _ _ _ _ _ c.requires.unit c.form_of_sum-more.ensures.value c.form_of_sum-less.ensures.value c.turned.ensures.value c.added.ensures.value
