@@ -19,13 +19,13 @@ use Rattle.cell_layer_laws.specs.Layer.{left, edge_clears, leaves_clear, clears_
 
 -- ---- all edges
 
-all_at : (test : Edge → Bool) (xs : List Edge) (k : ℕ) → list_all test xs ≡ true → k < length xs →
+pub all_at : (test : Edge → Bool) (xs : List Edge) (k : ℕ) → list_all test xs ≡ true → k < length xs →
     test (slice_index_or xs k no_edge) ≡ true
 all_at test [] k all within = absurd (omega (arith, within))
 all_at test (x ∷ xs) zero all within = (and_parts (test x) (list_all test xs) all).0
 all_at test (x ∷ xs) (suc k) all within = all_at test xs k (and_parts (test x) (list_all test xs) all).1 (omega (arith, within))
 
-all_kept : (test other : Edge → Bool) → ((x : Edge) → test x ≡ true → other x ≡ true) → (xs : List Edge) → list_all test xs ≡ true →
+pub all_kept : (test other : Edge → Bool) → ((x : Edge) → test x ≡ true → other x ≡ true) → (xs : List Edge) → list_all test xs ≡ true →
     list_all other xs ≡ true
 all_kept test other more [] all = refl
 all_kept test other more (x ∷ xs) all =

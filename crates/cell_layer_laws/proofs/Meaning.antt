@@ -65,7 +65,7 @@ statement_is : (g : Graph) (node statement : ℕ) → IsOf g node statement → 
 statement_is g node statement of = ap (λ (o : Option Node). option_map_or (λ n. n.statement) o 0) of.stands ∙ of.number
 
 -- what is made of the statement that an edge leaves
-at_source : {A : Type 0} (p : Program) (g : Graph) (x : Edge) (statement : ℕ) (a : Act) (f : ℕ → Act → A) (none : A) →
+pub at_source : {A : Type 0} (p : Program) (g : Graph) (x : Edge) (statement : ℕ) (a : Act) (f : ℕ → Act → A) (none : A) →
     DoesAt p g x.from statement a → option_map_or (f (left g x)) (act_at p (left g x)) none ≡ f statement a
 at_source p g x statement a f none does =
     ap (λ n. option_map_or (f n) (act_at p n) none) (statement_is g x.from statement does.of)

@@ -1,0 +1,7 @@
+pub mod Given
+pub mod Pieces
+pub mod Entry
+pub mod Flow
+pub mod Clears
+pub mod Meaning
+pub mod Filled

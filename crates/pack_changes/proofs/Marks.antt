@@ -1,6 +1,6 @@
 -- Cells that are forgotten by their marks.
-use Rattle.std.proofs.Common.{◌≡◌, ℕ, suc, ◌+◌, ◌<◌, Bool, List, [], ◌∷◌, length, get_or, drop, map, ℤ, refl, sym, ap, ◌∙◌, arith}
-use Rattle.std.proofs.lemmas.List.{drop_more}
+use Rattle.std.proofs.Common.{◌≡◌, ℕ, suc, ◌+◌, ◌<◌, ◌≤◌, Bool, List, [], ◌∷◌, length, get_or, drop, map, ℤ, refl, sym, ap, ◌∙◌, arith}
+use Rattle.std.proofs.lemmas.List.{drop_all, drop_more}
 use Rattle.cell_storages.specs.Homes.{Home}
 use Rattle.diff_steps.specs.Stores.{forgotten_cells}
 use Rattle.pack_changes.specs.Gone.{forgotten_if, forgotten_marked}
@@ -19,3 +19,6 @@ marked_cells size is_gone at (h ∷ hs) m = marked_cells size is_gone (suc at) h
 
 pub marks_of : (size : ℕ) (is_gone : Home → Bool) (pack : List Home) (gone : List Bool) (m n : List ℤ) → n ≡ forgotten_marked size 1 gone m → gone ≡ map is_gone pack → n ≡ forgotten_cells size is_gone 1 pack m
 marks_of size is_gone pack gone m n e is = e ∙ ap (λ (marks : List Bool). forgotten_marked size 1 marks m) is ∙ marked_cells size is_gone 1 pack m
+
+pub marks_all : (size : ℕ) (gone : List Bool) (k : ℕ) (m old : List ℤ) → length gone ≤ k → forgotten_marked size (k + 1) (drop k gone) m ≡ forgotten_marked size 1 gone old → m ≡ forgotten_marked size 1 gone old
+marks_all size gone k m old h e = sym (ap (λ (marks : List Bool). forgotten_marked size (k + 1) marks m) (drop_all k gone h)) ∙ e

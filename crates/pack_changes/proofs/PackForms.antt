@@ -1,5 +1,5 @@
 -- Forms that are changed are forms over the cells of the same pack.
-use Rattle.std.proofs.Common.{◌≡◌, ℕ, ◌<◌, List, ℤ, pos, negsuc, ◌+ℤ◌, ◌*ℤ◌, ◌≤ℤ◌, Option, Some, None, sym, ap, subst, ◌∙◌}
+use Rattle.std.proofs.Common.{◌≡◌, ℕ, List, ℤ, pos, ◌+ℤ◌, ◌*ℤ◌, ◌≤ℤ◌, Option, Some, None, sym, ap, subst, ◌∙◌}
 use Rattle.std.specs.Prelude.{SomeIff, IfSome}
 use Rattle.std.proofs.Math.IntN.{zero-*ℤ}
 use Rattle.decimal_interval.specs.declared.bounds.Interval.{Interval}

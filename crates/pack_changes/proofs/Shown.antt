@@ -1,5 +1,5 @@
 -- Bounds that a matrix shows of forms.
-use Rattle.std.proofs.Common.{◌≡◌, ℕ, List, ℤ, pos, negsuc, ◌≤ℤ◌, Option, Some, None, refl, sym, ap, subst, ◌∙◌, arith}
+use Rattle.std.proofs.Common.{◌≡◌, ℕ, List, ℤ, negsuc, ◌≤ℤ◌, Option, Some, None, refl, ap, subst, ◌∙◌, arith}
 use Rattle.std.proofs.lemmas.Int.{ints}
 use Rattle.linear_form.specs.declared.form.Lin.{Lin}
 use Rattle.linear_form.specs.Forms.{IsSmallForm, if_small}
@@ -21,6 +21,6 @@ none_there None x is e h = refl
 pub negated_shown : (size : ℕ) (m : List ℤ) (form other : Lin) → other ≡ multiple_of form (negsuc 0) → IsSmallForm other → upper_of size m other ≡ upper_negated size m form
 negated_shown size m form other e small =
     let is : Some (multiple_of form (negsuc 0)) ≡ if_small (multiple_of form (negsuc 0)) =
-        computed (Some (multiple_of form (negsuc 0))) (multiple_of form (negsuc 0)) (length-coefs_of (scaled_coefs form (negsuc 0)))
-        (subst (λ (f : Lin). IsSmallForm f) e small, refl) in
+    computed (Some (multiple_of form (negsuc 0))) (multiple_of form (negsuc 0)) (length-coefs_of (scaled_coefs form (negsuc 0)))
+    (subst (λ (f : Lin). IsSmallForm f) e small, refl) in
     ap (upper_of size m) e ∙ ap (λ (o : Option Lin). o >>= upper_of size m) is

@@ -1,5 +1,5 @@
 -- What is known of a pack's cells, put into the words of its matrix.
-use Rattle.std.specs.Prelude.{◌≡◌, ◌≢◌, ℕ, zero, suc, ◌<◌, ◌≤◌, List, length, map, slice_get, slice_index_or, ℤ, pos, neg_ℤ, ◌*ℤ◌, ◌≤ℤ◌, ◌⊎◌, unsigned_abs, Option, Some, None, IfSome}
+use Rattle.std.specs.Prelude.{◌≡◌, ◌≢◌, ℕ, zero, suc, ◌<◌, ◌≤◌, List, length, map, slice_get, slice_index_or, ℤ, pos, ◌*ℤ◌, ◌≤ℤ◌, ◌⊎◌, unsigned_abs, Option, Some, None, IfSome}
 use Rattle.cob_data.specs.declared.layout.Layout.{Layout}
 use Rattle.decimal_interval.specs.declared.bounds.Interval.{Interval}
 use Rattle.cell_rows.specs.Known.{Known}

@@ -66,7 +66,13 @@ pub fn known_of_range(size: usize, m: &[i128], form: &Lin, decimals: u32, range:
 }
 
 /// What is surely known of an amount: nothing where it is no decimal.
-pub fn known_of_amount(size: usize, m: &[i128], form: &Lin, decimals: u32, amount: Option<AmountRange>) -> Known
+pub fn known_of_amount(
+    size: usize,
+    m: &[i128],
+    form: &Lin,
+    decimals: u32,
+    amount: Option<AmountRange>,
+) -> Known
     requires size { size ≤ 8 }
     requires m { IsMatrix size m.now }
     requires form { IsFormOf size form.now }

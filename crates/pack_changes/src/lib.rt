@@ -23,5 +23,5 @@ pub use orders::{demand_if, order};
 pub use receivers::fits;
 pub use stores::{store_absolute, store_form, store_value};
 
-
-
+#[cfg(test)]
+mod tests;

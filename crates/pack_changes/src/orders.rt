@@ -39,7 +39,15 @@ fn demand_zero(size: usize, m: &mut [i128], fine: bool, form: Option<Lin>)
 
 /// Lowers the words by which orders of two sums are left, where the form is the difference of the first and the second.
 /// Both are whole numbers of the pack's unit where they are `fine`, so that a difference below 0 is at most -1.
-pub fn order(size: usize, m: &mut [i128], fine: bool, form: Option<Lin>, below: bool, even: bool, above: bool)
+pub fn order(
+    size: usize,
+    m: &mut [i128],
+    fine: bool,
+    form: Option<Lin>,
+    below: bool,
+    even: bool,
+    above: bool,
+)
     requires size { size ≤ 8 }
     requires m { IsMatrix size m.old }
     requires form { IfSome form (IsFormOf size) }

@@ -1,5 +1,5 @@
 //! Whether a receiver can hold what bounds say of an amount.
-ghost use Rattle.std.specs.Prelude.{◌≡◌, ◌≤◌, ◌^◌, ◌*◌, pos, ◌≤ℤ◌, nat_lt, unsigned_abs, Some, IfSome};
+ghost use Rattle.std.specs.Prelude.{◌≡◌, ◌≤◌, ◌^◌, ◌*◌, pos, ◌*ℤ◌, ◌-ℤ◌, ◌≤ℤ◌, nat_lt, unsigned_abs, Some, IfSome};
 ghost use Rattle.diff_steps.specs.Clearing.{high_fits, low_fits};
 ghost use Rattle.pack_changes.specs.Ends.{IsNumber};
 
@@ -19,6 +19,17 @@ fn is_less(units: i128, power: u32, limit: i128) -> bool
     }
 }
 
+// twice a limit less a unit
+fn twice_less(limit: i128, unit: i128) -> i128
+    requires unit { pos 0 ≤ℤ unit }
+    requires above { unit ≤ℤ limit }
+    requires limit { limit ≤ℤ pos (10 ^ 36) }
+    ensures value { result ≡ pos 2 *ℤ limit -ℤ unit }
+    ensures positive { pos 0 ≤ℤ result }
+{
+    2 * limit - unit
+}
+
 // whether a number of so many units of a scale, cut or rounded, has no more digits than the receiver
 fn size_fits(mode: Mode, receiver: Receiver, decimals: u32, units: i128) -> bool
     requires digits { receiver.digits ≤ 18 }
@@ -31,7 +42,11 @@ fn size_fits(mode: Mode, receiver: Receiver, decimals: u32, units: i128) -> bool
     let limit = pow10(receiver.digits + decimals);
     match mode {
         Mode::Trunc => is_less(units, receiver.scale, limit),
-        Mode::Round => is_less(2 * units, receiver.scale, 2 * limit - pow10(decimals)),
+        Mode::Round => is_less(
+            2 * units,
+            receiver.scale,
+            twice_less(limit, pow10(decimals)),
+        ),
     }
 }
 

@@ -30,7 +30,14 @@ fn store_either(size: usize, m: &mut [i128], to: usize, form: Option<Lin>)
 
 /// Stores the absolute value of a form, by whether it surely isn't negative and surely isn't positive. Nothing is known of
 /// the cell behind it where neither is sure.
-pub fn store_absolute(size: usize, m: &mut [i128], to: usize, form: Option<Lin>, not_negative: bool, not_positive: bool)
+pub fn store_absolute(
+    size: usize,
+    m: &mut [i128],
+    to: usize,
+    form: Option<Lin>,
+    not_negative: bool,
+    not_positive: bool,
+)
     requires size { size ≤ 8 }
     requires m { IsMatrix size m.old }
     requires first { 1 ≤ to }
@@ -48,7 +55,14 @@ pub fn store_absolute(size: usize, m: &mut [i128], to: usize, form: Option<Lin>,
 }
 
 /// Stores a form at a cell, with its sign or, where the cell has none, its absolute value.
-pub fn store_value(size: usize, m: &mut [i128], to: usize, signed: bool, known: Known, form: Option<Lin>)
+pub fn store_value(
+    size: usize,
+    m: &mut [i128],
+    to: usize,
+    signed: bool,
+    known: Known,
+    form: Option<Lin>,
+)
     requires size { size ≤ 8 }
     requires m { IsMatrix size m.old }
     requires first { 1 ≤ to }
@@ -65,7 +79,16 @@ pub fn store_value(size: usize, m: &mut [i128], to: usize, signed: bool, known: 
 }
 
 /// Stores a form, cut or rounded, at a cell whose unit is so many of the pack's.
-pub fn store_form(size: usize, m: &mut [i128], to: usize, signed: bool, mode: Mode, unit: i128, known: Known, form: &Lin)
+pub fn store_form(
+    size: usize,
+    m: &mut [i128],
+    to: usize,
+    signed: bool,
+    mode: Mode,
+    unit: i128,
+    known: Known,
+    form: &Lin,
+)
     requires size { size ≤ 8 }
     requires m { IsMatrix size m.old }
     requires first { 1 ≤ to }

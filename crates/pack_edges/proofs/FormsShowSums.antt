@@ -1,6 +1,6 @@
 -- Where numbers stand in storage, the forms of sums show what the sums are worth.
-use Rattle.std.proofs.Common.{◌≡◌, ◌<◌, ◌≤◌, ℕ, zero, suc, ◌+◌, ◌-◌, ◌*◌, ◌^◌, Bool, true, false, if◌then◌else◌, List, [], ◌∷◌, length, Option, Some, None, is_some, ℤ, pos, neg_ℤ, ◌*ℤ◌, ◌≤ℤ◌, refl, sym, ap, subst, ◌∙◌, pow-add, arith}
-use Rattle.std.specs.Prelude.{IfSome, slice_get, unwrap_or}
+use Rattle.std.proofs.Common.{◌≡◌, ◌<◌, ◌≤◌, ℕ, zero, suc, ◌+◌, ◌-◌, ◌^◌, Bool, true, false, if◌then◌else◌, List, [], ◌∷◌, Option, Some, None, is_some, ℤ, pos, neg_ℤ, ◌*ℤ◌, ◌≤ℤ◌, refl, sym, ap, subst, ◌∙◌, pow-add, arith}
+use Rattle.std.specs.Prelude.{IfSome, IsSomeAnd, slice_get, unwrap_or}
 use Rattle.std.specs.Option.{option_map}
 use Rattle.std.proofs.lemmas.Int.{ints}
 use Rattle.std.proofs.Math.IntN.{zero-*ℤ}
@@ -21,15 +21,15 @@ use Rattle.cob_runs.specs.Computing as computing
 use Rattle.cob_runs.specs.Computing.{items_in, items_in_atom, are_numeric}
 use Rattle.cob_edge_parts.specs.Meaning.{count_in}
 use Rattle.form_bounds.specs.Values.{worth, worths}
-use Rattle.sum_ranges.specs.declared.ranged.Ranged.{Ranged}
 use Rattle.sum_ranges.specs.Ranged.{decimal, ranged, point, IsIn}
+use Rattle.sum_ranges.specs.SumRanges.{sum_range}
 use Rattle.sum_ranges.proofs.Least.{point_in}
+use Rattle.sum_ranges.proofs.Sound.{sum_in}
 use Rattle.sum_forms.specs.Constants.{item_form}
 use Rattle.sum_forms.specs.SumForms.{sum_form, atom_form}
 use Rattle.sum_forms.specs.Values.{Shows, AreHeld}
 use Rattle.sum_forms.proofs.Shows.{item_shows}
 use Rattle.sum_forms.proofs.Sound.{sum_shown}
-use Rattle.graph_runs.specs.Counters.{IsCount}
 use Rattle.guard_ranges.proofs.Agreement.{numeric_sum}
 use Rattle.cell_rows.specs.Known.{Known}
 use Rattle.cell_storages.specs.Homes.{Home, of_item, of_count, is_home, homes_of, picture_range, form_range, home_range}
@@ -38,11 +38,11 @@ use Rattle.cell_storages.specs.Premises.{HasSoundItems}
 use Rattle.cell_steps.specs.Cells.{known_or, units_of}
 use Rattle.cell_steps.specs.Stores.{range_at}
 use Rattle.cell_edges.proofs.CellLists.{home_is}
-use Rattle.cell_edges.proofs.HomesHold.{units_hold, count_holds}
+use Rattle.cell_edges.proofs.HomesHold.{units_hold}
 use Rattle.cell_edges.proofs.PartsDone.{both_true}
 use Rattle.diff_steps.specs.Packs.{Pack, size_of, cell_of, decimals_of, pack_decimals, unit_of, cells_in}
-use Rattle.pack_edges.proofs.FormsShowItems.{IsOfValues, HaveValues, item_form_is_of_values, sum_form_is_of_values}
-use Rattle.pack_edges.proofs.FormsShowValues.{IsTold, Told, told, range_told, cell_told}
+use Rattle.pack_edges.proofs.FormsShowItems.{HaveValues, item_form_is_of_values, sum_form_is_of_values}
+use Rattle.pack_edges.proofs.FormsShowValues.{Told, told, range_told, cell_told}
 
 -- ---- cells of a pack
 
@@ -195,14 +195,19 @@ module _ (p : Program) (sound : HasSoundItems p.layout) (known : List Known) (by
   atom_told (number n) v numeric e = range_told cells f (point (literal n)) v (subst (λ (w : Scaled). IsIn w (point (literal n))) (some_same (literal n) v e) (point_in (literal n)))
   atom_told (group s) v numeric e = sum_told s v numeric e
 
-  -- a counter's number
-  pub count_told : (statement : ℕ) (v : ℤ) → count_in counts statement ≡ Some v → (cell_of pack (of_count statement) ≡ None → IsCount v)
+  -- the sum's range holds it
+  pub sum_ranged : (s : Sum) (v : Scaled) → are_numeric p.layout bytes (items_in s) ≡ true → sum_value (computing.worth p.layout bytes) s ≡ Some v → IsSomeAnd (sum_range (range_at p known) s) (IsIn v)
+  sum_ranged s v numeric e =
+      sum_in number_or_zero (range_at p known) all_in s v (sym (numeric_sum p.layout bytes (λ place. decimal (pos 0) (scale_of (form_at p.layout place))) s numeric) ∙ e)
+
+  -- A counter's number, where the pack has its cell, and else any of its range.
+  pub count_told : (statement : ℕ) (v : ℤ) → ((k : ℕ) → cell_of pack (of_count statement) ≡ Some k → count_in counts statement ≡ Some v)
+      → (cell_of pack (of_count statement) ≡ None → Holds (units_of p.layout (homes_of p) known (of_count statement)) v)
       → Told cells f (item_form f (cell_of pack (of_count statement)) (ranged (units_of p.layout (homes_of p) known (of_count statement)) 0)) (whole_number v)
-  count_told statement v e small = by_cell (cell_of pack (of_count statement)) refl
+  count_told statement v there within = by_cell (cell_of pack (of_count statement)) refl
     where
       by_cell : (o : Option ℕ) → cell_of pack (of_count statement) ≡ o → Told cells f (item_form f o (ranged (units_of p.layout (homes_of p) known (of_count statement)) 0)) (whole_number v)
       by_cell (Some k) at =
           cell_told cells f k (whole_number v) (v *ℤ pos (unit_of p.layout pack (of_count statement))) (few_cells (of_count statement) k at)
-          (cell_value (of_count statement) k at ∙ ap (option_map (λ z. z *ℤ pos (unit_of p.layout pack (of_count statement)))) e) (its_units (of_count statement) k at v)
-      by_cell None at = range_told cells f (ranged (units_of p.layout (homes_of p) known (of_count statement)) 0) (whole_number v)
-          (record { held = count_holds p sound known (storage bytes counts) stands statement v e (small at); scale = refl })
+          (cell_value (of_count statement) k at ∙ ap (option_map (λ z. z *ℤ pos (unit_of p.layout pack (of_count statement)))) (there k at)) (its_units (of_count statement) k at v)
+      by_cell None at = range_told cells f (ranged (units_of p.layout (homes_of p) known (of_count statement)) 0) (whole_number v) (record { held = within at; scale = refl })

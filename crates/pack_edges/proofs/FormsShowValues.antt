@@ -124,18 +124,23 @@ module _ (cells : ℕ → Option ℤ) (f : ℕ) where
       let shows = h.shows in
       record { valued = h.valued; shows = record { least = rw (units, scale) shows.least; most = rw (units, scale) shows.most } }
 
-  pub shown : (size : ℕ) → size ≤ 8 → ((k : ℕ) → size ≤ k → cells (suc k) ≡ None) → (form : Lin) (d : Scaled) → IsTold form d → IsShown size cells form d f
-  shown size few beyond form d h = record {
-    over = record { beyond = λ k l n. valued.none k (beyond k l) n };
-    operands = record { values = λ j some within ne. by_value j some within ne (cells j) refl };
-    spans = h.shows;
-  }
-    where
-      valued : IsOfValues cells form
-      valued = h.valued
+  module _ (size : ℕ) (few : size ≤ 8) (beyond : (k : ℕ) → size ≤ k → cells (suc k) ≡ None) where
+    pub shown : (form : Lin) (d : Scaled) → IsTold form d → IsShown size cells form d f
+    shown form d h = record {
+      over = record { beyond = λ k l n. valued.none k (beyond k l) n };
+      operands = record { values = λ j some within ne. by_value j some within ne (cells j) refl };
+      spans = h.shows;
+    }
+      where
+        valued : IsOfValues cells form
+        valued = h.valued
 
-      by_value : (j : ℕ) → 0 < j → j ≤ size → coef_at form.coefs j ≢ pos 0 → (o : Option ℤ) → cells j ≡ o → HasValue o
-      by_value j some within ne (Some z) e = tt
-      by_value j some within ne None e =
-          let same : suc (j - 1) ≡ j = omega (arith, some) in
-          absurd (ne (valued.none (j - 1) (subst (λ (i : ℕ). cells i ≡ None) (sym same) e) (omega (arith, some, within, few))))
+        by_value : (j : ℕ) → 0 < j → j ≤ size → coef_at form.coefs j ≢ pos 0 → (o : Option ℤ) → cells j ≡ o → HasValue o
+        by_value j some within ne (Some z) e = tt
+        by_value j some within ne None e =
+            let same : suc (j - 1) ≡ j = omega (arith, some) in
+            absurd (ne (valued.none (j - 1) (subst (λ (i : ℕ). cells i ≡ None) (sym same) e) (omega (arith, some, within, few))))
+
+    pub all_shown : (o : Option Lin) (d : Scaled) → Told o d → IfSome o (λ form. IsShown size cells form d f)
+    all_shown None d h = tt
+    all_shown (Some form) d h = shown form d h

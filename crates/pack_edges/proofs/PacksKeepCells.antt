@@ -3,7 +3,6 @@ use Rattle.std.proofs.Common.{◌≡◌, ◌≢◌, ℕ, zero, suc, ◌+◌, ◌
 use Rattle.std.specs.Prelude.{nat_eq, nat_le, max, if◌then◌else◌, slice_get}
 use Rattle.std.specs.List.{Contains}
 use Rattle.std.specs.Option.{option_map, option_map_or}
-use Rattle.std.proofs.Math.Nat.{le-max_left, le-max_right}
 use Rattle.std.proofs.lemmas.Bool.{cases_eq, eq-eqb, ne_eqb}
 use Rattle.std.proofs.lemmas.Bool.Decides.{nat_tests}
 use Rattle.std.proofs.lemmas.Option.{slice_get_past, slice_get_within}
@@ -204,18 +203,6 @@ module _ (l : Layout) (pack : Pack) where
 
 -- ---- the cell of a home
 
-pub found_cell : (pack : Pack) (h : Home) (k : ℕ) → cell_of pack h ≡ Some k → slice_get pack k ≡ Some h
-found_cell [] h k e = absurd cc
-found_cell (g ∷ pack) h k e = go (is_home g h) refl e (λ j f. found_cell pack h j f)
-  where
-    later : (o : Option ℕ) → option_map (λ j. suc j) o ≡ Some k → ((j : ℕ) → o ≡ Some j → slice_get pack j ≡ Some h) → slice_get (g ∷ pack) k ≡ Some h
-    later None e more = absurd cc
-    later (Some j) e more = let same : suc j ≡ k = cc in subst (λ (i : ℕ). slice_get (g ∷ pack) i ≡ Some h) same (more j refl)
-
-    go : (b : Bool) → is_home g h ≡ b → (if b then Some 0 else option_map (λ j. suc j) (cell_of pack h)) ≡ Some k → ((j : ℕ) → cell_of pack h ≡ Some j → slice_get pack j ≡ Some h) → slice_get (g ∷ pack) k ≡ Some h
-    go true is e more = let same : 0 ≡ k = cc in subst (λ (i : ℕ). slice_get (g ∷ pack) i ≡ Some h) same (ap Some (home_is g h is))
-    go false is e more = later (cell_of pack h) e more
-
 pub no_cell_of : (pack : Pack) (h : Home) → cell_of pack h ≡ None → (k : ℕ) → slice_get pack k ≡ Some h → ⊥
 no_cell_of [] h e k is = cc
 no_cell_of (g ∷ pack) h e k is = go (is_home g h) refl e k is (λ none j. no_cell_of pack h none j)
@@ -243,11 +230,6 @@ not_home pack h g k none e = go (is_home g h) refl
     go : (b : Bool) → is_home g h ≡ b → is_home g h ≡ false
     go true is = absurd (no_cell_of pack h none k (e ∙ ap Some (home_is g h is)))
     go false is = is
-
-pub decimals_within : (l : Layout) (pack : Pack) (k : ℕ) (h : Home) → slice_get pack k ≡ Some h → decimals_of l h ≤ pack_decimals l pack
-decimals_within l [] k h e = absurd cc
-decimals_within l (g ∷ pack) zero h e = let same : g ≡ h = cc in subst (λ (j : Home). decimals_of l j ≤ max (decimals_of l g) (pack_decimals l pack)) same (le-max_left (decimals_of l g) (pack_decimals l pack))
-decimals_within l (g ∷ pack) (suc k) h e = let more = decimals_within l pack k h e in let right = le-max_right (decimals_of l g) (pack_decimals l pack) in omega (arith, more, right)
 
 -- ---- items with cells
 

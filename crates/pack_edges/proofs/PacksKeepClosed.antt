@@ -14,8 +14,7 @@ use Rattle.diff_bounds.proofs.Steps.{cut_bound}
 use Rattle.closed_matrices.specs.Closed.{opened, lesser, through, is_tame, if_tame, sums_further, sums_through, cut_sums, closed}
 use Rattle.diff_steps.specs.Matrices.{with_words}
 use Rattle.pack_laws.proofs.Words.{word_at}
-use Rattle.pack_edges.specs.Agreeing.{IsTame}
-use Rattle.pack_edges.proofs.PacksKeepTame.{tame_words}
+use Rattle.pack_edges.proofs.PacksPutRise.{IsFlat}
 
 differ_sum : (c d : ℤ) (x y z : Option ℤ) → DifferBy c x y → DifferBy d y z → DifferBy (c +ℤ d) x z
 differ_sum c d (Some x) (Some y) (Some z) h k = omega (arith, ints, h, k)
@@ -29,9 +28,6 @@ differ_self c None h = absurd h
 
 cut_above : (z : ℤ) → z ≤ℤ largest → z ≤ℤ cut_of z
 cut_above z h = grind (arith, ints, clamps)
-
-cut_tame : (z : ℤ) → pos 0 ≤ℤ z → pos 0 ≤ℤ cut_of z
-cut_tame z h = grind (arith, ints, clamps)
 
 module _ (n : ℕ) (values : ℕ → Option ℤ) where
   -- a sum that bounds the difference of two places' values, or one from a place to itself that isn't below 0
@@ -102,13 +98,13 @@ module _ (n : ℕ) (values : ℕ → Option ℤ) where
           subst (λ (b : Bool). IsSomeAnd (if b then Some (through k a) else None) AreTrue) (sym (tame_true (through k a) more n (omega arith))) more
 
 module _ (size : ℕ) (m : List ℤ) (cells : ℕ → Option ℤ) where
-  opened_true : StandsIn (size + 1) (word (size + 1) m) cells → IsTame size m → AreTrue (size + 1) (value_at cells) (λ i j. opened (word (size + 1) m i j))
+  opened_true : StandsIn (size + 1) (word (size + 1) m) cells → IsFlat size m → AreTrue (size + 1) (value_at cells) (λ i j. opened (word (size + 1) m i j))
   opened_true stands is = record { sums = λ i j h g. by_word (word (size + 1) m i j) i j (λ b. known i j h g b) }
     where
       known : (i j : ℕ) → i < size + 1 → j < size + 1 → IsBound (word (size + 1) m i j) → Bounds (size + 1) (value_at cells) (word (size + 1) m i j) i j
       known i j h g b =
           elim (cases_eq i j) as (λ _. Bounds (size + 1) (value_at cells) (word (size + 1) m i j) i j) [
-            | inl e ↦ inl (e, subst (λ (k : ℕ). pos 0 ≤ℤ word (size + 1) m i k) e (is.diagonal i (omega (arith, h))))
+            | inl e ↦ inl (e, subst (λ (k : ℕ). pos 0 ≤ℤ word (size + 1) m i k) e (let nothing = is.zeros i h in omega (arith, ints, nothing)))
             | inr ne ↦ inr (stands.bounded i j h g ne b)
           ]
 
@@ -122,26 +118,19 @@ module _ (size : ℕ) (m : List ℤ) (cells : ℕ → Option ℤ) where
           go true e s = k (is_bound e)
           go false e s = absurd (omega (arith, ints, s))
 
-  record IsTrueMatrix (c : List ℤ) : Type 0 where
-    tame : IsTame size c
-    stands : StandsIn (size + 1) (word (size + 1) c) cells
-
-  cut_true : (a : ℕ → ℕ → ℤ) → AreTrue (size + 1) (value_at cells) a → IsTrueMatrix (with_words size (λ i j. cut_of (a i j)))
+  cut_true : (a : ℕ → ℕ → ℤ) → AreTrue (size + 1) (value_at cells) a → StandsIn (size + 1) (word (size + 1) (with_words size (λ i j. cut_of (a i j)))) cells
   cut_true a are = record {
-    tame = tame_words size (λ i j. cut_of (a i j)) (λ i l. cut_tame (a i i) (not_negative (size + 1) (value_at cells) a are i (omega (arith, l))));
-    stands = record {
-      bounded = λ i j h g ne. subst (λ (c : ℤ). IsBound c → DifferBy c (value_at cells i) (value_at cells j)) (sym (word_at size (λ i j. cut_of (a i j)) i j h g))
-          (λ b. by_sum i j ne (cut_bound (a i j) b) (are.sums i j h g (let most = cut_bound (a i j) b in omega (arith, ints, most))));
-    };
+    bounded = λ i j h g ne. subst (λ (c : ℤ). IsBound c → DifferBy c (value_at cells i) (value_at cells j)) (sym (word_at size (λ i j. cut_of (a i j)) i j h g))
+        (λ b. by_sum i j ne (cut_bound (a i j) b) (are.sums i j h g (let most = cut_bound (a i j) b in omega (arith, ints, most))));
   }
     where
       by_sum : (i j : ℕ) → i ≢ j → a i j ≤ℤ largest → Bounds (size + 1) (value_at cells) (a i j) i j → DifferBy (cut_of (a i j)) (value_at cells i) (value_at cells j)
       by_sum i j ne most (inl (e, k)) = absurd (ne e)
       by_sum i j ne most (inr k) = differ_more (a i j) (cut_of (a i j)) (value_at cells i) (value_at cells j) (cut_above (a i j) most) k
 
-  pub closed_stands : StandsIn (size + 1) (word (size + 1) m) cells → IsTame size m → IsSomeAnd (closed size m) (λ c. IsTame size c × StandsIn (size + 1) (word (size + 1) c) cells)
+  pub closed_stands : StandsIn (size + 1) (word (size + 1) m) cells → IsFlat size m → IsSomeAnd (closed size m) (λ c. StandsIn (size + 1) (word (size + 1) c) cells)
   closed_stands stands is = go (sums_through (size + 1) (size + 1) (word (size + 1) m)) (sums_true (size + 1) (value_at cells) (word (size + 1) m) (opened_true stands is) (size + 1) (omega arith))
     where
-      go : (o : Option (ℕ → ℕ → ℤ)) → IsSomeAnd o (AreTrue (size + 1) (value_at cells)) → IsSomeAnd (cut_sums size o) (λ c. IsTame size c × StandsIn (size + 1) (word (size + 1) c) cells)
+      go : (o : Option (ℕ → ℕ → ℤ)) → IsSomeAnd o (AreTrue (size + 1) (value_at cells)) → IsSomeAnd (cut_sums size o) (λ c. StandsIn (size + 1) (word (size + 1) c) cells)
       go None h = absurd h
-      go (Some a) h = let c = cut_true a h in (c.tame, c.stands)
+      go (Some a) h = cut_true a h

@@ -31,7 +31,8 @@ use Rattle.diff_steps.specs.Steps.{counter_stored, counted_pack}
 use Rattle.pack_laws.specs.Orders.{IsShown}
 use Rattle.pack_laws.proofs.Kept.{forgotten_stands, assigned_stands}
 use Rattle.pack_edges.specs.Agreeing.{IsPackOf}
-use Rattle.pack_edges.proofs.PacksKeepCells.{cell_value, all_left, put_all, with_any, found_cell, not_home, other_cell}
+use Rattle.pack_edges.proofs.FormsShowSums.{cell_there}
+use Rattle.pack_edges.proofs.PacksKeepCells.{cell_value, all_left, put_all, with_any, not_home, other_cell}
 
 -- two decimals of one value are shown by the same forms
 pub same_shown : (size : ℕ) (cells : ℕ → Option ℤ) (form : Lin) (d v : Scaled) (f : ℕ) → value_of v ≡ value_of d → IsShown size cells form d f → IsShown size cells form v f
@@ -56,6 +57,11 @@ whole_value size cells form v f e is =
     record { operands = is.operands; held = (omega (arith, ints, least), omega (arith, ints, most)) }
 
 module _ (p : Program) (statement : ℕ) (a : Act) (x : Action) (sound : IsSoundEdge p statement a x) (pack : Pack) (of : IsPackOf p pack) (few : size_of pack ≤ 8) where
+  -- a form shows a whole number
+  pub record IsWholeShown (cells : ℕ → Option ℤ) (form : Lin) (v : Scaled) : Type 0 where
+    pub whole : v.scale ≡ 0
+    pub shown : IsShown (size_of pack) cells form v (pack_decimals p.layout pack)
+
   -- other cells keep their values
   elsewhere : (bytes : List ℕ) (counts : List (Option ℤ)) (k : ℕ) (v : ℤ) → 1 ≤ k → (j : ℕ) (h : Home) → slice_get pack j ≡ Some h → is_home h (of_count k) ≡ false
       → values.value_at p.layout (storage bytes (slice_set counts (k - 1) (Some v))) h ≡ values.value_at p.layout (storage bytes counts) h
@@ -67,20 +73,20 @@ module _ (p : Program) (statement : ℕ) (a : Act) (x : Action) (sound : IsSound
       apart n k f g = let t : (n == k) ≡ true = eq-eqb n k g in cc
 
   -- it gets what a form shows
-  pub counted_stands : (m : Moment) (cells : List Known) (k : ℕ) (v : Scaled) (form : Option Lin) (w : List ℤ) → 1 ≤ k → v.scale ≡ 0 → values.StandsIn p cells (storage m.storage m.counts)
-      → IfSome form (λ g. IsShown (size_of pack) (cells_in p.layout pack (storage m.storage m.counts)) g v (pack_decimals p.layout pack))
+  pub counted_stands : (m : Moment) (cells : List Known) (k : ℕ) (v : Scaled) (form : Option Lin) (w : List ℤ) → 1 ≤ k → values.StandsIn p cells (storage m.storage m.counts)
+      → ((at : ℕ) → cell_of pack (of_count k) ≡ Some at → IfSome form (λ g. IsWholeShown (cells_in p.layout pack (storage m.storage m.counts)) g v))
       → PackStands p.layout pack w (storage m.storage m.counts)
       → PackStands p.layout pack (counted_pack p a x k form pack w) (storage m.storage (slice_set m.counts (k - 1) (Some v.units)))
-  counted_stands m cells k v form w first whole known shown stands = by_cell (cell_of pack (of_count k)) refl
+  counted_stands m cells k v form w first known shown stands = by_cell (cell_of pack (of_count k)) refl
     where
       put : (at : ℕ) → slice_get pack at ≡ Some (of_count k) → (o : Option Lin)
-          → IfSome o (λ g. IsShown (size_of pack) (cells_in p.layout pack (storage m.storage m.counts)) g v (pack_decimals p.layout pack))
+          → IfSome o (λ g. IsWholeShown (cells_in p.layout pack (storage m.storage m.counts)) g v)
           → StandsIn (size_of pack + 1) (word (size_of pack + 1) (assigned_or_forgotten (size_of pack) (suc at) o w)) (with_value (cells_in p.layout pack (storage m.storage m.counts)) (suc at) (v.units *ℤ pos (10 ^ pack_decimals p.layout pack)))
       put at e None h = with_any (size_of pack) w (cells_in p.layout pack (storage m.storage m.counts)) (suc at) _ (let lt = slice_get_within pack at (of_count k) e in omega (arith, lt)) stands
       put at e (Some g) h =
-          assigned_stands (size_of pack) (suc at) g w (cells_in p.layout pack (storage m.storage m.counts)) (v.units *ℤ pos (10 ^ pack_decimals p.layout pack)) few h.over (omega arith)
+          assigned_stands (size_of pack) (suc at) g w (cells_in p.layout pack (storage m.storage m.counts)) (v.units *ℤ pos (10 ^ pack_decimals p.layout pack)) few h.shown.over (omega arith)
           (let lt = slice_get_within pack at (of_count k) e in omega (arith, lt)) stands
-          (whole_value (size_of pack) (cells_in p.layout pack (storage m.storage m.counts)) g v (pack_decimals p.layout pack) whole h)
+          (whole_value (size_of pack) (cells_in p.layout pack (storage m.storage m.counts)) g v (pack_decimals p.layout pack) h.whole h.shown)
 
       new_value : (at : ℕ) → slice_get pack at ≡ Some (of_count k) → cells_in p.layout pack (storage m.storage (slice_set m.counts (k - 1) (Some v.units))) (suc at) ≡ Some (v.units *ℤ pos (10 ^ pack_decimals p.layout pack))
       new_value at e =
@@ -96,8 +102,8 @@ module _ (p : Program) (statement : ℕ) (a : Act) (x : Action) (sound : IsSound
           all_left p.layout pack (storage m.storage m.counts) (storage m.storage (slice_set m.counts (k - 1) (Some v.units))) w
           (λ j h f. elsewhere m.storage m.counts k v.units first j h f (not_home pack (of_count k) h j e f)) stands
       by_cell (Some at) e =
-          let f = found_cell pack (of_count k) at e in
+          let f = cell_there pack (of_count k) at e in
           put_all p.layout pack (storage m.storage m.counts) (storage m.storage (slice_set m.counts (k - 1) (Some v.units))) at (v.units *ℤ pos (10 ^ pack_decimals p.layout pack))
           (assigned_or_forgotten (size_of pack) (suc at) form w) (new_value at f)
           (λ j h ne g. elsewhere m.storage m.counts k v.units first j h g (other_cell p pack of (of_count k) h at j f g ne))
-          (put at f form shown)
+          (put at f form (shown at e))

@@ -1,5 +1,5 @@
 -- When what is known of differences between two parts of an edge is true of a moment of a run.
-use Rattle.std.specs.Prelude.{◌≡◌, ◌≤◌, ℕ, ◌+◌, false, List, [], ◌∷◌, ℤ, pos, ◌≤ℤ◌, slice_get, Option, Some}
+use Rattle.std.specs.Prelude.{◌≡◌, ◌≤◌, ℕ, false, List, [], ◌∷◌, ℤ, slice_get, Option, Some}
 use Rattle.std.specs.List.{Contains}
 use Rattle.cob_data.specs.declared.layout.Layout.{Layout}
 use Rattle.cob_program.specs.Act.{Act, Program}
@@ -7,7 +7,7 @@ use Rattle.cob_runs.specs.declared.action.Action.{Action}
 use Rattle.cob_runs.specs.Contents.{number_at}
 use Rattle.cob_edge_parts.specs.Parts.{Part}
 use Rattle.cob_edge_parts.specs.Meaning.{Moment}
-use Rattle.diff_bounds.specs.Matrix.{word, IsMatrix}
+use Rattle.diff_bounds.specs.Matrix.{IsMatrix}
 use Rattle.cell_storages.specs.Homes.{Home, homes_of}
 use Rattle.cell_storages.specs.Storages.{storage}
 use Rattle.cell_steps.specs.Seen.{Seen}
@@ -38,20 +38,10 @@ ArePacksOf p (pack ∷ packs) = IsPackOf p pack × ArePacksOf p packs
 
 -- ---- moments
 
--- no word of the diagonal is below 0
-pub record IsTame (size : ℕ) (m : List ℤ) : Type 0 where
-  pub diagonal : (i : ℕ) → i ≤ size → pos 0 ≤ℤ word (size + 1) m i i
-
--- each pack has 8 cells at most
-abbrev pub AreTame : List Pack → List (List ℤ) → Type 0
-AreTame [] [] = Unit {0}
-AreTame (pack ∷ packs) (m ∷ ms) = ((size_of pack ≤ 8) × IsTame (size_of pack) m) × AreTame packs ms
-AreTame _ _ = ⊥
-
 module _ (p : Program) (packs : List Pack) (statement : ℕ) (a : Act) (x : Action) where
   -- behind these parts
   pub record Agrees2 (done : List Part) (s : Seen) (r : Seen2) (m : Moment) : Type 0 where
     pub cells : Agrees p statement a x done s m
     pub tracked : IsTracked p.layout r.wrote m
-    pub tame : AreTame packs r.packs
+    pub matrices : AreMatrices packs r.packs
     pub stand : PacksStand p.layout packs r.packs (storage m.storage m.counts)

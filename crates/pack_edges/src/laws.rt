@@ -1,12 +1,13 @@
 //! Laws of edges, over packs of cells.
-ghost use Rattle.pack_edges.specs.Showing.{AmountsAreShown, SendersAreShown, CountersAreShown, DivisorsAreShown, GuardsKeep};
+ghost use Rattle.pack_edges.specs.Showing.{AmountsAreShown, OperandsAreThere, SendersAreShown, CountersAreShown, DivisorsAreShown, GuardsKeep};
 ghost use Rattle.pack_edges.specs.Rising.{AmountsRise, SendersRise, LoweredFormsRise, DivisorsRise, DifferencesRise, SignsRise};
 ghost use Rattle.pack_edges.specs.EdgeLaws.{PostsStand, ClearedIsntMet, PostsFit, PostsRise, ClearsStay};
 
-/// A law: what a receiver, a counter or a divisor gets is one of the numbers that its form over a pack's cells can be, and
-/// what a test leaves of a pack is true of the storage in which it came out so.
+/// A law: what a receiver, a counter or a divisor gets is one of the numbers that its form over a pack's cells can be, its
+/// operands have a range, and what a test leaves of a pack is true of the storage in which it came out so.
 pub fn amounts_are_shown()
     ensures amounts { AmountsAreShown }
+    ensures operands { OperandsAreThere }
     ensures senders { SendersAreShown }
     ensures counters { CountersAreShown }
     ensures divisors { DivisorsAreShown }

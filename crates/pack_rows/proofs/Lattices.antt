@@ -52,6 +52,19 @@ widened_within l laws a b is other =
     within (l.rank (l.widen a b)) (l.rank a)
     (λ high. high (omega (arith, laws.widen_falls a b is other (λ stays. high (subst (λ (row : List ℤ). l.rank row ≤ l.rank a) (sym (laws.widen_keeps a b is other stays)) (omega arith))))))
 
+module _ (l m : Lattice) where
+  pub pair_is : (a b : List ℤ) → IsElement l a → IsElement m b → IsElement (beside l m) (a ++ b)
+  pair_is a b is other = record {
+    width = length-append a b ∙ (λ i. is.width i + other.width i);
+    formed = (subst (IsElement l) (sym (take_at a b l.width is.width)) is, subst (IsElement m) (sym (drop_at a b l.width is.width)) other);
+  }
+
+  pub pair_below : (a b c d : List ℤ) → IsElement l a → IsElement l c → l.Below a c → m.Below b d → (beside l m).Below (a ++ b) (c ++ d)
+  pair_below a b c d is other h k = (
+    subst (λ (x : List ℤ). l.Below x (take l.width (c ++ d))) (sym (take_at a b l.width is.width)) (subst (l.Below a) (sym (take_at c d l.width other.width)) h),
+    subst (λ (x : List ℤ). m.Below x (drop l.width (c ++ d))) (sym (drop_at a b l.width is.width)) (subst (m.Below b) (sym (drop_at c d l.width other.width)) k),
+  )
+
 module _ (l m : Lattice) (first : IsLattice l) (second : IsLattice m) where
   front : List ℤ → List ℤ
   front row = take l.width row
@@ -59,26 +72,14 @@ module _ (l m : Lattice) (first : IsLattice l) (second : IsLattice m) where
   back : List ℤ → List ℤ
   back row = drop l.width row
 
-  pub pair_is : (a b : List ℤ) → IsElement l a → IsElement m b → IsElement (beside l m) (a ++ b)
-  pair_is a b is other = record {
-    width = length-append a b ∙ (λ i. is.width i + other.width i);
-    formed = (subst (IsElement l) (sym (take_at a b l.width is.width)) is, subst (IsElement m) (sym (drop_at a b l.width is.width)) other);
-  }
-
-  pair_below : (a b c d : List ℤ) → IsElement l a → IsElement l c → l.Below a c → m.Below b d → (beside l m).Below (a ++ b) (c ++ d)
-  pair_below a b c d is other h k = (
-    subst (λ (x : List ℤ). l.Below x (take l.width (c ++ d))) (sym (take_at a b l.width is.width)) (subst (l.Below a) (sym (take_at c d l.width other.width)) h),
-    subst (λ (x : List ℤ). m.Below x (drop l.width (c ++ d))) (sym (drop_at a b l.width is.width)) (subst (m.Below b) (sym (drop_at c d l.width other.width)) k),
-  )
-
   both : (row : List ℤ) → take l.width row ++ drop l.width row ≡ row
   both row = take-append-drop l.width row
 
   under : (a c d : List ℤ) → IsElement l (take l.width a) → IsElement l c → l.Below (take l.width a) c → m.Below (drop l.width a) d → (beside l m).Below a (c ++ d)
-  under a c d is other h k = subst (λ (x : List ℤ). (beside l m).Below x (c ++ d)) (both a) (pair_below (take l.width a) (drop l.width a) c d is other h k)
+  under a c d is other h k = subst (λ (x : List ℤ). (beside l m).Below x (c ++ d)) (both a) (pair_below l m (take l.width a) (drop l.width a) c d is other h k)
 
   over : (c d a : List ℤ) → IsElement l c → IsElement l (take l.width a) → l.Below c (take l.width a) → m.Below d (drop l.width a) → (beside l m).Below (c ++ d) a
-  over c d a is other h k = subst ((beside l m).Below (c ++ d)) (both a) (pair_below c d (take l.width a) (drop l.width a) is other h k)
+  over c d a is other h k = subst ((beside l m).Below (c ++ d)) (both a) (pair_below l m c d (take l.width a) (drop l.width a) is other h k)
 
   rank_is : (a b : List ℤ) → IsElement l a → (beside l m).rank (a ++ b) ≡ l.rank a + m.rank b
   rank_is a b is = λ i. l.rank (take_at a b l.width is.width i) + m.rank (drop_at a b l.width is.width i)
@@ -90,9 +91,9 @@ module _ (l m : Lattice) (first : IsLattice l) (second : IsLattice m) where
       first.transitive (take l.width a) (take l.width b) (take l.width c) is.formed.0 other.formed.0 more.formed.0 h.0 k.0,
       second.transitive (drop l.width a) (drop l.width b) (drop l.width c) is.formed.1 other.formed.1 more.formed.1 h.1 k.1,
     );
-    least_element = pair_is l.least m.least first.least_element second.least_element;
+    least_element = pair_is l m l.least m.least first.least_element second.least_element;
     least_below = λ a is. over l.least m.least a first.least_element is.formed.0 (first.least_below (take l.width a) is.formed.0) (second.least_below (drop l.width a) is.formed.1);
-    join_element = λ a b is other. pair_is (l.join (take l.width a) (take l.width b)) (m.join (drop l.width a) (drop l.width b)) (first.join_element (take l.width a) (take l.width b) is.formed.0 other.formed.0) (second.join_element (drop l.width a) (drop l.width b) is.formed.1 other.formed.1);
+    join_element = λ a b is other. pair_is l m (l.join (take l.width a) (take l.width b)) (m.join (drop l.width a) (drop l.width b)) (first.join_element (take l.width a) (take l.width b) is.formed.0 other.formed.0) (second.join_element (drop l.width a) (drop l.width b) is.formed.1 other.formed.1);
     join_left = λ a b is other.
         under a (l.join (take l.width a) (take l.width b)) (m.join (drop l.width a) (drop l.width b)) is.formed.0 (first.join_element (take l.width a) (take l.width b) is.formed.0 other.formed.0)
         (first.join_left (take l.width a) (take l.width b) is.formed.0 other.formed.0) (second.join_left (drop l.width a) (drop l.width b) is.formed.1 other.formed.1);
@@ -103,7 +104,7 @@ module _ (l m : Lattice) (first : IsLattice l) (second : IsLattice m) where
         over (l.join (take l.width a) (take l.width b)) (m.join (drop l.width a) (drop l.width b)) c (first.join_element (take l.width a) (take l.width b) is.formed.0 other.formed.0) more.formed.0
         (first.join_least (take l.width a) (take l.width b) (take l.width c) is.formed.0 other.formed.0 more.formed.0 h.0 k.0)
         (second.join_least (drop l.width a) (drop l.width b) (drop l.width c) is.formed.1 other.formed.1 more.formed.1 h.1 k.1);
-    widen_element = λ a b is other. pair_is (l.widen (take l.width a) (take l.width b)) (m.widen (drop l.width a) (drop l.width b)) (first.widen_element (take l.width a) (take l.width b) is.formed.0 other.formed.0) (second.widen_element (drop l.width a) (drop l.width b) is.formed.1 other.formed.1);
+    widen_element = λ a b is other. pair_is l m (l.widen (take l.width a) (take l.width b)) (m.widen (drop l.width a) (drop l.width b)) (first.widen_element (take l.width a) (take l.width b) is.formed.0 other.formed.0) (second.widen_element (drop l.width a) (drop l.width b) is.formed.1 other.formed.1);
     widen_left = λ a b is other.
         under a (l.widen (take l.width a) (take l.width b)) (m.widen (drop l.width a) (drop l.width b)) is.formed.0 (first.widen_element (take l.width a) (take l.width b) is.formed.0 other.formed.0)
         (first.widen_left (take l.width a) (take l.width b) is.formed.0 other.formed.0) (second.widen_left (drop l.width a) (drop l.width b) is.formed.1 other.formed.1);

@@ -1,4 +1,4 @@
-use Rattle.std.proofs.Common.{◌+◌, neg_ℤ, arith}
+use Rattle.std.proofs.Common.{◌+◌, arith}
 use Rattle.std.proofs.lemmas.Int.{ints}
 use Rattle.diff_bounds.specs.Matrix.{word}
 use Rattle.form_bounds.specs.Upper.{coef_at, upper_of}

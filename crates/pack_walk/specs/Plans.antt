@@ -1,0 +1,33 @@
+-- Packs as the code has them.
+use Rattle.std.specs.Prelude.{◌≡◌, ◌≤◌, ℕ, List, map, length, ℤ}
+use Rattle.std.specs.List.{AllByRecursion}
+use Rattle.cob_program.specs.Act.{Program}
+use Rattle.diff_steps.specs.Packs.{Pack, size_of, pack_decimals}
+use Rattle.pack_rows.specs.Rows.{width_of, matrices_in}
+use Rattle.pack_edges.specs.Agreeing.{AreMatrices, IsPackOf}
+use Rattle.pack_forms.specs.Cells.{plain_cells}
+use Rattle.pack_walk.specs.declared.plans.PackPlan.{PackPlan}
+
+abbrev pub plain_plan : PackPlan → Pack
+plain_plan plan = plain_cells plan.cells.items
+
+abbrev pub plain_plans : List PackPlan → List Pack
+plain_plans plans = map plain_plan plans
+
+-- A pack of a program, with its unit.
+pub record IsPlanOf (p : Program) (plan : PackPlan) : Type 0 where
+  pub few : size_of (plain_plan plan) ≤ 8
+  pub unit : plan.decimals ≡ pack_decimals p.layout (plain_plan plan)
+  pub pack : IsPackOf p (plain_plan plan)
+
+abbrev pub ArePlansOf : Program → List PackPlan → Type 0
+ArePlansOf p plans = AllByRecursion (IsPlanOf p) plans
+
+-- the matrices in a row of words
+abbrev pub matrices_for : List PackPlan → List ℤ → List (List ℤ)
+matrices_for plans row = matrices_in (map size_of (plain_plans plans)) row
+
+-- the row has a matrix for each pack, and no other words
+pub record IsRowFor (plans : List PackPlan) (row : List ℤ) : Type 0 where
+  pub width : length row ≡ width_of (map size_of (plain_plans plans))
+  pub matrices : AreMatrices (plain_plans plans) (matrices_for plans row)
