@@ -6,3 +6,6 @@ pub mod Reading
 pub mod Counting
 pub mod Differences
 pub mod Having
+pub mod Premises
+pub mod WholeSums
+pub mod AmountsAgree

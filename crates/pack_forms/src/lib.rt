@@ -2,9 +2,11 @@
 //! and the difference of two sums. No call takes memory.
 #![tactic(auto)]
 
+mod amounts;
 mod cells;
 mod counters;
 mod forms;
+mod literals;
 mod operands;
 mod pack;
 mod senders;
@@ -12,6 +14,7 @@ mod sides;
 mod sums;
 mod taken;
 
+pub use amounts::amount_form;
 pub use cells::{PackCell, pack_decimals, unit_of};
 pub use counters::lowered_form;
 pub use operands::has_operands;

@@ -18,4 +18,5 @@ pub use front::Front;
 pub use laws::{
     forms_are_of_their_pack, narrower_items_give_narrower_forms, sums_are_shown_by_their_forms,
 };
+pub use literals::whole_factor;
 pub use sums::{atom_form, sum_form};

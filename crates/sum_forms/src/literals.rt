@@ -1,5 +1,5 @@
 //! Literals among the factors of a product.
-ghost use Rattle.std.specs.Prelude.{◌≡◌, ◌<◌, ◌≤◌, ◌^◌, true, pos, ◌*ℤ◌, unsigned_abs, is_some, map};
+ghost use Rattle.std.specs.Prelude.{◌≡◌, ◌<◌, ◌≤◌, ◌^◌, true, pos, ◌*ℤ◌, unsigned_abs, is_some, map, IfSome};
 ghost use Rattle.decimal_interval.specs.Bounds.{IsSmall};
 ghost use Rattle.cob_program.specs.Sum.{factors_of};
 ghost use Rattle.cob_program.specs.SumView.{plain_factor, plain_atom};
@@ -24,7 +24,8 @@ fn units_of(part: i128, scale: u32) -> i128
 fn whole_of(units: i128, scale: u32) -> Option<i128>
     requires units { IsSmall units }
     requires scale { scale ≤ 37 }
-    ensures { result ≡ whole_of (decimal units scale) }
+    ensures value { result ≡ whole_of (decimal units scale) }
+    ensures small { IfSome result IsSmall }
 {
     let part = floor(units, scale);
     if units <= units_of(part, scale) {
@@ -34,10 +35,11 @@ fn whole_of(units: i128, scale: u32) -> Option<i128>
     }
 }
 
-// the whole number that a factor multiplies by, where it is a literal
-pub(crate) fn whole_factor(over: bool, minus: bool, atom: &Atom) -> Option<i128>
+/// The whole number that a factor multiplies by, where it is a literal.
+pub fn whole_factor(over: bool, minus: bool, atom: &Atom) -> Option<i128>
     requires { is_short (plain_atom atom.now) ≡ true }
-    ensures { result ≡ whole_factor over minus (plain_atom atom.now) }
+    ensures value { result ≡ whole_factor over minus (plain_atom atom.now) }
+    ensures small { IfSome result IsSmall }
 {
     if over {
         return None;

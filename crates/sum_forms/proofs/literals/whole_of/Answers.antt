@@ -9,8 +9,8 @@ units_of-requires-clause-fits c =
     part_fits c.args.units _ c.args.scale c.requires.units c.requires.scale
     (to_z-of_z w128 _ (search rules) ∙ c.floor-part.ensures.value ∙ ap (λ (z : ℤ). int_div_euclid z (pos (10 ^ c.args.scale))) (to_z-of_z w128 c.args.units (search rules)))
 
-pub returns-then-units-units_of : goal.returns-then-units-units_of
-returns-then-units-units_of c =
+pub returns-then-units-units_of-clause-value : goal.returns-then-units-units_of-clause-value
+returns-then-units-units_of-clause-value c =
     whole_there c.args.units _ _ _ c.args.scale c.if-units-units_of.true
     (to_z-of_z w128 _ (search rules) ∙ c.floor-part.ensures.value ∙ ap (λ (z : ℤ). int_div_euclid z (pos (10 ^ c.args.scale))) (to_z-of_z w128 c.args.units (search rules)))
     (to_z-of_z w128 _ (search rules)) (to_z-of_z w128 _ (search rules) ∙ c.units_of.ensures)
