@@ -1,15 +1,14 @@
 -- What a layer's laws follow from.
-use Rattle.std.proofs.Common.{◌≡◌, ◌≤◌, ℕ, List, [], ◌∷◌, map, length, ℤ, Vec, Some, None, sym, ap, ◌∙◌}
+use Rattle.std.proofs.Common.{◌≡◌, ◌≤◌, ℕ, List, [], ◌∷◌, length, ℤ, Vec, Some, None, sym, ap, ◌∙◌}
 use Rattle.std.specs.Coded.{×_prop, Unit-prop}
 use Rattle.std.specs.declared.alloc.Global.{Global}
 use Rattle.std.specs.Borrow.{Bor}
-use Rattle.std.specs.List.{AllByRecursion, AllByRecursion-prop, range_with_len}
+use Rattle.std.specs.List.{AllByRecursion, AllByRecursion-prop}
 use Rattle.std.proofs.Props.{props}
 use Rattle.std.proofs.Math.Logic.{∥∥₁_elim, ∥∥₁_prop}
 use Rattle.std.proofs.lemmas.List.{length-map}
 use Rattle.cob_program.specs.declared.act.Stmt as declared_stmt
 use Rattle.cob_program.specs.Act.{Program}
-use Rattle.cob_program.specs.Statements.{program_statements}
 use Rattle.cob_graph.specs.declared.graph.Graph.{Graph}
 use Rattle.decimal_interval.specs.declared.bounds.Interval.{Interval}
 use Rattle.dom_laws.specs.Lattice.{IsLattice}
@@ -20,7 +19,6 @@ use Rattle.cell_rows.specs.Known.{Known, KnownFits}
 use Rattle.cell_rows.specs.Elements.{Element, CellsFit, ElementFits}
 use Rattle.cell_rows.specs.Rows.{IsRow, element_of}
 use Rattle.cell_storages.specs.Homes.{Home, homes_of, owns}
-use Rattle.cell_walk.specs.Statements.{number_in}
 use Rattle.cell_walk.proofs.FirstCells.{homes_many}
 use Rattle.cell_layer.specs.Held.{IsHeld}
 use Rattle.diff_bounds.specs.declared.Pack as declared
@@ -29,10 +27,11 @@ use Rattle.diff_steps.specs.Packs.{Pack}
 use Rattle.pack_rows.specs.Rows.{lists_of}
 use Rattle.pack_rows.proofs.Rows.{packs_are_a_lattice}
 use Rattle.diff_layer_laws.specs.Layer.{Facts, AreFacts, ArePacks, sizes_of, diff_lattice, diff_flow, diff_meaning}
-use Rattle.diff_layer_laws.proofs.Filled.{packs_flow_all, packs_mean_all}
-use Rattle.diff_layer.specs.Packs.{packs_of, AreRisingNumbers, ArePacksOfCells}
-use Rattle.diff_layer.proofs.Distinct.{homes_are_distinct}
-use Rattle.diff_layer.proofs.Packed.{HasDistinctHomes, are_packs}
+use Rattle.diff_layer_laws.proofs.Flow.{packs_flow}
+use Rattle.diff_layer_laws.proofs.Meaning.{packs_mean}
+use Rattle.diff_layer_laws.specs.Packs.{packs_of, AreRisingNumbers, ArePacksOfCells}
+use Rattle.diff_layer_laws.proofs.Distinct.{homes_of_sources_are_distinct}
+use Rattle.diff_layer_laws.proofs.Packed.{HasDistinctHomes, are_packs}
 
 -- ---- what has one proof at most
 
@@ -73,13 +72,14 @@ facts_of p g facts known = ∥∥₁_elim known (facts_prop p g facts) (λ a. a)
 pub thresholds_of : (lists : List (List ℤ)) → ∥ AllByRecursion AreThresholds lists ∥₁ → AllByRecursion AreThresholds lists
 thresholds_of lists ends = ∥∥₁_elim ends (AllByRecursion-prop AreThresholds thresholds_prop lists) (λ a. a)
 
+pub lists_within : (lists : List (Vec ℤ Global)) → ∥ AllByRecursion (λ list. length list.items ≤ 2048) lists ∥₁ → AllByRecursion (λ list. length list.items ≤ 2048) lists
+lists_within lists few =
+    ∥∥₁_elim few (AllByRecursion-prop (λ (list : Vec ℤ Global). length list.items ≤ 2048) (λ list. hlevel props) lists) (λ a. a)
+
 pub ordered_by : (packs : List Pack) (lists : List (List ℤ)) → ∥ AllByRecursion AreThresholds lists ∥₁ → IsLattice (diff_lattice packs lists)
 ordered_by packs lists ends = packs_are_a_lattice (sizes_of packs) lists (thresholds_of lists ends)
 
 -- ---- packs
-
-numbers_are_in_order : (p : Program) (g : Graph) → IsSourceGraph p g → map number_in (program_statements p) ≡ range_with_len 1 p.statements
-numbers_are_in_order p g source = ?
 
 module _ (p : Program) (g : Graph) (statements : List (Bor declared_stmt.Stmt)) (held : ∥ IsHeld p g statements ∥₁) where
   source_of : ∥ IsSourceGraph p g ∥₁
@@ -87,7 +87,7 @@ module _ (p : Program) (g : Graph) (statements : List (Bor declared_stmt.Stmt)) 
 
   distinct_homes : HasDistinctHomes p
   distinct_homes j k h e f =
-      ∥∥₁_elim held (hlevel props) (λ s. homes_are_distinct p p.statements (numbers_are_in_order p g s.source) j k h e f)
+      ∥∥₁_elim held (hlevel props) (λ s. homes_of_sources_are_distinct p g s.source j k h e f)
 
   pub cells_for_homes : length g.cells ≡ length (homes_of p)
   cells_for_homes = ∥∥₁_elim held (hlevel props) (λ h. ap length h.source.graph.cells ∙ sym (homes_many p))
@@ -98,17 +98,16 @@ module _ (p : Program) (g : Graph) (statements : List (Bor declared_stmt.Stmt)) 
         are_packs p (length g.cells) cells_for_homes distinct_homes packs lists
         (∥∥₁_elim cells (packs_prop (length g.cells) packs) (λ a. a)) listed
 
-    -- ---- flow and meaning
+    module _ (thresholds : List (Vec ℤ Global)) (listed : length thresholds ≡ length packs) where
+      pub its_packs : ArePacks p (packs_of p packs) (lists_of thresholds)
+      its_packs = packs_are (lists_of thresholds) (length-map thresholds (λ list. list.items) ∙ listed)
 
-    module _ (thresholds : List (Vec ℤ Global)) (facts : Facts) (listed : length thresholds ≡ length packs) (known : ∥ AreFacts p g facts ∥₁) where
-      abbrev lists : List (List ℤ)
-      lists = lists_of thresholds
+      -- ---- flow and meaning
 
-      pub are_listed : ArePacks p (packs_of p packs) lists
-      are_listed = packs_are lists (length-map thresholds (λ list. list.items) ∙ listed)
+      module _ (facts : Facts) (known : ∥ AreFacts p g facts ∥₁) where
+        pub flows_by : IsFlow (diff_lattice (packs_of p packs) (lists_of thresholds)) (diff_flow p g (packs_of p packs) facts)
+        flows_by = packs_flow p g (packs_of p packs) (lists_of thresholds) facts source_of its_packs (facts_of p g facts known)
 
-      pub flows_by : IsFlow (diff_lattice (packs_of p packs) lists) (diff_flow p g (packs_of p packs) facts)
-      flows_by = packs_flow_all p g (packs_of p packs) lists facts source_of are_listed (facts_of p g facts known)
-
-      pub means_by : IsMeaning (diff_lattice (packs_of p packs) lists) (diff_flow p g (packs_of p packs) facts) (diff_meaning p g (packs_of p packs) facts)
-      means_by = packs_mean_all p g (packs_of p packs) lists facts are_listed (facts_of p g facts known)
+        pub means_by : IsMeaning (diff_lattice (packs_of p packs) (lists_of thresholds)) (diff_flow p g (packs_of p packs) facts)
+            (diff_meaning p g (packs_of p packs) facts)
+        means_by = packs_mean p g (packs_of p packs) (lists_of thresholds) facts its_packs (facts_of p g facts known)

@@ -1,3 +1,3 @@
-pub mod Packs
 pub mod Plans
 pub mod Edges
+pub mod LayerLaws

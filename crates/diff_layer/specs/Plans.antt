@@ -9,7 +9,7 @@ use Rattle.pack_forms.specs.declared.cells.PackCell.{PackCell}
 use Rattle.pack_forms.specs.declared.cells.PackCell.TheVariants.{Item, Count}
 use Rattle.pack_walk.specs.declared.plans.PackPlan.{PackPlan}
 use Rattle.pack_walk.specs.Plans.{plain_plan, plain_plans}
-use Rattle.diff_layer.specs.Packs.{pack_in, packs_in}
+use Rattle.diff_layer_laws.specs.Packs.{pack_in, packs_in}
 
 abbrev pub cell_of : Home → PackCell
 cell_of (of_item place) = Item place
@@ -20,17 +20,20 @@ cells_of homes = map cell_of homes
 
 -- ---- plans
 
--- the pack's cells, and its unit
-pub record IsPlanFor (l : Layout) (homes : List Home) (pack : declared.Pack) (plan : PackPlan) : Type 0 where
-  pub cells : plain_plan plan ≡ pack_in homes pack.cells.items
-  pub unit : plan.decimals ≡ pack_decimals l (plain_plan plan)
-
 abbrev pub HasUnit : Layout → PackPlan → Type 0
 HasUnit l plan = plan.decimals ≡ pack_decimals l (plain_plan plan)
 
-pub record ArePlansFor (l : Layout) (homes : List Home) (packs : List declared.Pack) (plans : List PackPlan) : Type 0 where
-  pub packs : plain_plans plans ≡ packs_in homes packs
-  pub units : AllByRecursion (HasUnit l) plans
+abbrev pub HaveUnits : Layout → List PackPlan → Type 0
+HaveUnits l plans = AllByRecursion (HasUnit l) plans
+
+-- the pack's cells, and its unit
+pub record IsPlanFor (l : Layout) (homes : List Home) (pack : declared.Pack) (plan : PackPlan) : Type 0 where
+  pub cells : plain_plan plan ≡ pack_in homes pack.cells.items
+  pub unit : HasUnit l plan
+
+pub record ArePlansFor (l : Layout) (homes : List Home) (all : List declared.Pack) (plans : List PackPlan) : Type 0 where
+  pub packs : plain_plans plans ≡ packs_in homes all
+  pub units : HaveUnits l plans
 
 abbrev pub sizes_in : List declared.Pack → List ℕ
 sizes_in packs = map (λ pack. length pack.cells.items) packs

@@ -3,8 +3,13 @@
 //! storages that runs bring to its nodes, and show with the first layer's rows which faults are not met there.
 #![tactic(auto)]
 
+mod clearing;
+mod domain;
+mod edges;
+mod entry;
+mod flowing;
 mod homes;
+mod layer;
 mod planning;
 
-pub use homes::homes_of;
-pub use planning::{plans_for, sizes_of};
+pub use layer::DiffLayer;

@@ -1,13 +1,16 @@
 //! Packs, made ready for walks.
-ghost use Rattle.std.specs.Prelude.{◌≡◌, ℕ, ◌≤◌, length, List, IfOk};
-ghost use Rattle.std.specs.List.{All, AllByRecursion};
-ghost use Rattle.cell_storages.specs.Homes.{Home};
+ghost use Rattle.std.specs.Prelude.{◌≡◌, ◌≤◌, length, IfOk};
+ghost use Rattle.cob_program.specs.ActView.{plain_program};
+ghost use Rattle.cob_program.specs.Statements.{plain_references, program_statements};
+ghost use Rattle.cell_storages.specs.Homes.{homes_of};
 ghost use Rattle.pack_forms.specs.Cells.{plain_cell, plain_cells};
 ghost use Rattle.pack_walk.specs.Plans.{plain_plans};
-ghost use Rattle.diff_layer.specs.Packs.{home_at, pack_in, packs_in, AreRisingNumbers, ArePacksOfCells};
+ghost use Rattle.diff_layer_laws.specs.Packs.{home_at, pack_in, packs_in, AreRisingNumbers, ArePacksOfCells};
 ghost use Rattle.diff_layer.specs.Plans.{IsPlanFor, ArePlansFor, sizes_in};
 
+use crate::homes::homes_of;
 use cob_data::Layout;
+use cob_program::{Program, Stmt};
 use diff_bounds::Pack;
 use pack_forms::{PackCell, pack_decimals};
 use pack_walk::PackPlan;
@@ -22,6 +25,7 @@ fn cell_with(homes: &[PackCell], number: u32) -> PackCell
     homes[number as usize - 1]
 }
 
+#[tactic(auto, using(crate::proofs::Steps::cell_pushed))]
 fn cells_with(
     alloc: Global,
     homes: &[PackCell],
@@ -51,8 +55,9 @@ fn plan_for(
     Ok(PackPlan { cells, decimals })
 }
 
-/// A plan for each pack, by what each cell of the program is of.
-pub fn plans_for(
+// a plan for each pack, by what each cell of the program is of
+#[tactic(auto, using(crate::proofs::Steps::plan_pushed, crate::proofs::Steps::no_plans))]
+fn plans_for(
     alloc: Global,
     layout: &Layout,
     homes: &[PackCell],
@@ -75,6 +80,7 @@ fn size_of(pack: &Pack) -> usize
 }
 
 /// How many cells each pack has.
+#[tactic(auto, using(crate::proofs::Steps::size_pushed))]
 pub fn sizes_of(alloc: Global, packs: &[Pack]) -> Result<Vec<usize>, AllocError>
     ensures { IfOk result (λ sizes. sizes.items ≡ sizes_in packs.now) }
 {
@@ -83,4 +89,19 @@ pub fn sizes_of(alloc: Global, packs: &[Pack]) -> Result<Vec<usize>, AllocError>
         sizes.push(size_of(pack))?;
     }
     Ok(sizes)
+}
+
+/// A plan for each pack of a program, whose statements these are.
+pub fn plans_of(
+    alloc: Global,
+    program: &Program,
+    statements: &[&Stmt],
+    packs: &[Pack],
+) -> Result<Vec<PackPlan>, AllocError>
+    requires statements { plain_references statements.now ≡ program_statements (plain_program program.now) }
+    requires packs { ArePacksOfCells (length (homes_of (plain_program program.now))) packs.now }
+    ensures { IfOk result (λ plans. ArePlansFor (plain_program program.now).layout (homes_of (plain_program program.now)) packs.now plans.items) }
+{
+    let homes = homes_of(alloc, program, statements)?;
+    plans_for(alloc, &program.layout, homes.as_slice(), packs)
 }

@@ -2,19 +2,8 @@
 //! words and in place, beside the row of what is known of cells (Miné 2001). No call takes memory.
 #![tactic(auto)]
 
-mod changing;
-mod clearing;
-mod closing;
-mod counters;
-mod ends;
-mod gone;
-mod guards;
 mod plans;
-mod stores;
 mod walking;
-mod writing;
 
-pub use clearing::packs_clear;
-pub use closing::close_all;
 pub use plans::PackPlan;
-pub use walking::walk_packs;
+pub use walking::{close_all, packs_clear, walk_packs};

