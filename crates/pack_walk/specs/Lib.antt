@@ -1,3 +1,6 @@
 pub mod Gone
 pub mod Plans
+pub mod Writing
+pub mod Changes
+pub mod Parts
 pub mod Walks

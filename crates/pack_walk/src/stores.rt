@@ -1,0 +1,221 @@
+//! Stores of amounts at the cells of a pack.
+ghost use Rattle.std.specs.Prelude.{◌≡◌, ◌+◌, ◌-◌, ◌^◌, ◌≤◌, ◌≤ℤ◌, true, length, List, pos, unsigned_abs, Some, IfSome};
+ghost use Rattle.cob_program.specs.Bounds.{is_small};
+ghost use Rattle.cob_runs.specs.Contents.{form_at};
+ghost use Rattle.cob_calc.specs.Contents.{bound_at};
+ghost use Rattle.borrowed_parts.specs.PartView.{plain_amount};
+ghost use Rattle.diff_bounds.specs.Matrix.{IsMatrix};
+ghost use Rattle.result_ranges.specs.Receivers.{receiver_of};
+ghost use Rattle.cell_amounts.specs.Small.{is_small_amount};
+ghost use Rattle.cell_amounts.specs.Working.{CanWork};
+ghost use Rattle.cell_rows.specs.Elements.{CellsFit};
+ghost use Rattle.cell_storages.specs.Homes.{of_item, owns};
+ghost use Rattle.cell_steps.specs.Stores.{range_at};
+ghost use Rattle.cell_walk.specs.Kept.{latest_of};
+ghost use Rattle.diff_steps.specs.Forms as forms;
+ghost use Rattle.diff_steps.specs.Moments.{Bytes};
+ghost use Rattle.diff_steps.specs.Packs.{cell_of, decimals_of};
+ghost use Rattle.pack_changes.specs.Forms.{IsFormOf};
+ghost use Rattle.pack_forms.specs.Sizes.{HasSmallTop};
+ghost use Rattle.pack_forms.specs.Views.{plain_pack, HasUnit, program_of, known_in, taken_at};
+ghost use Rattle.pack_forms.specs.Writing.{amount_items, are_written};
+ghost use Rattle.pack_walk.specs.Changes.{decimal_in, form_put, cell_stored, fitting_stored, store_changed};
+
+use crate::gone::{Gone, forget};
+use borrowed_parts::Amount;
+use cell_amounts::receiver_at;
+use cell_walk::{Kept, KnownItems};
+use dec_num::Mode;
+use linear_form::Lin;
+use pack_changes::{assign_or_forget, known_of_amount, store_form};
+use pack_forms::{PackCell, PackView, amount_form, cell_in, has_operands, unit_of};
+use pack_rows::set_least_matrix;
+use result_ranges::{AmountRange, Receiver, Taken};
+
+// the range of an amount that is a decimal, by what it is worked out of
+fn decimal_in(worked: Option<Taken>) -> Option<AmountRange>
+    ensures { result ≡ decimal_in worked }
+{
+    match worked {
+        Some(Taken { top, under: None }) => Some(AmountRange::Decimal(top)),
+        _ => None,
+    }
+}
+
+fn put_some(
+    size: usize,
+    m: &mut [i128],
+    to: usize,
+    receiver: Receiver,
+    mode: Mode,
+    unit: i128,
+    amount: Option<AmountRange>,
+    form: &Lin,
+)
+    requires size { size ≤ 8 }
+    requires m { IsMatrix size m.old }
+    requires first { 1 ≤ to }
+    requires last { to ≤ size }
+    requires unit { pos 0 ≤ℤ unit }
+    requires form { IsFormOf size form.now }
+    ensures value { m.new ≡ form_put size to receiver mode (unsigned_abs unit) amount (Some form.now) m.old }
+    ensures matrix { IsMatrix size m.new }
+{
+    let known = known_of_amount(size, m, form, receiver.scale, amount);
+    store_form(size, m, to, receiver.signed, mode, unit, known, form);
+}
+
+// the cell gets a form, or nothing is known of it
+fn put_form(
+    size: usize,
+    m: &mut [i128],
+    to: usize,
+    receiver: Receiver,
+    mode: Mode,
+    unit: i128,
+    amount: Option<AmountRange>,
+    form: Option<Lin>,
+)
+    requires size { size ≤ 8 }
+    requires m { IsMatrix size m.old }
+    requires first { 1 ≤ to }
+    requires last { to ≤ size }
+    requires unit { pos 0 ≤ℤ unit }
+    requires form { IfSome form (IsFormOf size) }
+    ensures value { m.new ≡ form_put size to receiver mode (unsigned_abs unit) amount form m.old }
+    ensures matrix { IsMatrix size m.new }
+{
+    match form {
+        None => assign_or_forget(size, m, to, None),
+        Some(form) => put_some(size, m, to, receiver, mode, unit, amount, &form),
+    }
+}
+
+// ---- a form over the pack's cells
+
+fn form_of(
+    items: &KnownItems,
+    pack: &PackView,
+    size: usize,
+    place: u32,
+    amount: Amount,
+    kept: &Kept,
+    written: bool,
+) -> Option<Lin>
+    requires size { length pack.now.cells.now ≡ size }
+    requires unit { HasUnit (program_of items.now).layout pack.now }
+    requires fits { CellsFit (owns (program_of items.now)) (known_in items.now) }
+    requires own { is_small (bound_at (program_of items.now).layout place) ≡ true }
+    requires sum { is_small_amount (bound_at (program_of items.now).layout) (plain_amount amount) ≡ true }
+    requires top { IfSome kept.now.common HasSmallTop }
+    requires can { IfSome kept.now.common (CanWork (plain_amount amount) (range_at (program_of items.now) (known_in items.now) place)) }
+    ensures value { (wrote : List Bytes) → written ≡ are_written (program_of items.now).layout wrote (amount_items (plain_amount amount.entry))
+        → result ≡ forms.amount_form (program_of items.now) (plain_pack pack.now) (taken_at (known_in items.now) kept.now.common) wrote place (plain_amount amount.entry) }
+    ensures of_pack { IfSome result (IsFormOf size) }
+{
+    amount_form(items, pack, place, amount, kept.common, written)
+}
+
+// what the receiver's cell gets
+fn store_cell(
+    items: &KnownItems,
+    pack: &PackView,
+    size: usize,
+    m: &mut [i128],
+    place: u32,
+    mode: Mode,
+    amount: Amount,
+    kept: &Kept,
+    written: bool,
+)
+    requires size { length pack.now.cells.now ≡ size }
+    requires m { IsMatrix size m.old }
+    requires unit { HasUnit (program_of items.now).layout pack.now }
+    requires fits { CellsFit (owns (program_of items.now)) (known_in items.now) }
+    requires own { is_small (bound_at (program_of items.now).layout place) ≡ true }
+    requires sum { is_small_amount (bound_at (program_of items.now).layout) (plain_amount amount) ≡ true }
+    requires top { IfSome kept.now.common HasSmallTop }
+    requires can { IfSome kept.now.common (CanWork (plain_amount amount) (range_at (program_of items.now) (known_in items.now) place)) }
+    ensures value { (wrote : List Bytes) → written ≡ are_written (program_of items.now).layout wrote (amount_items (plain_amount amount.entry))
+        → m.new ≡ cell_stored size (receiver_of (form_at (program_of items.now).layout place)) mode
+            (10 ^ (pack.now.decimals - decimals_of (program_of items.now).layout (of_item place))) (decimal_in kept.now.result)
+            (forms.amount_form (program_of items.now) (plain_pack pack.now) (taken_at (known_in items.now) kept.now.common) wrote place (plain_amount amount.entry))
+            (cell_of (plain_pack pack.now) (of_item place)) m.old }
+    ensures matrix { IsMatrix size m.new }
+{
+    match cell_in(pack, PackCell::Item(place)) {
+        None => {}
+        Some(cell) => {
+            let form = form_of(items, pack, size, place, amount, kept, written);
+            let receiver = receiver_at(&items.program.layout, place);
+            let unit = unit_of(&items.program.layout, pack.decimals, PackCell::Item(place));
+            put_form(size, m, cell + 1, receiver, mode, unit, decimal_in(kept.result), form);
+        }
+    }
+}
+
+// ---- packs
+
+fn store_fitting(
+    items: &KnownItems,
+    pack: &PackView,
+    size: usize,
+    m: &mut [i128],
+    place: u32,
+    mode: Mode,
+    amount: Amount,
+    kept: &Kept,
+    written: bool,
+)
+    requires size { length pack.now.cells.now ≡ size }
+    requires m { IsMatrix size m.old }
+    requires unit { HasUnit (program_of items.now).layout pack.now }
+    requires fits { CellsFit (owns (program_of items.now)) (known_in items.now) }
+    requires own { is_small (bound_at (program_of items.now).layout place) ≡ true }
+    requires sum { is_small_amount (bound_at (program_of items.now).layout) (plain_amount amount) ≡ true }
+    requires top { IfSome kept.now.common HasSmallTop }
+    requires can { IfSome kept.now.common (CanWork (plain_amount amount) (range_at (program_of items.now) (known_in items.now) place)) }
+    ensures value { (wrote : List Bytes) → written ≡ are_written (program_of items.now).layout wrote (amount_items (plain_amount amount.entry))
+        → m.new ≡ fitting_stored (program_of items.now) (known_in items.now) kept.now.common (decimal_in kept.now.result) wrote
+            (plain_pack pack.now) size pack.now.decimals place mode (plain_amount amount.entry) m.old }
+    ensures matrix { IsMatrix size m.new }
+{
+    if has_operands(items, amount, written) {
+        store_cell(items, pack, size, m, place, mode, amount, kept, written);
+        forget(&items.program.layout, Gone::Others(place), pack.cells, size, m);
+    } else {
+        set_least_matrix(size, m);
+    }
+}
+
+/// Makes of a pack's matrix what a store makes of it, where operands are taken and what the store may do is kept.
+pub(crate) fn store(
+    items: &KnownItems,
+    pack: &PackView,
+    size: usize,
+    m: &mut [i128],
+    place: u32,
+    mode: Mode,
+    amount: Amount,
+    kept: &Kept,
+    written: bool,
+)
+    requires size { length pack.now.cells.now ≡ size }
+    requires m { IsMatrix size m.old }
+    requires unit { HasUnit (program_of items.now).layout pack.now }
+    requires fits { CellsFit (owns (program_of items.now)) (known_in items.now) }
+    requires own { is_small (bound_at (program_of items.now).layout place) ≡ true }
+    requires sum { is_small_amount (bound_at (program_of items.now).layout) (plain_amount amount) ≡ true }
+    requires top { IfSome kept.now.common HasSmallTop }
+    requires can { IfSome kept.now.common (CanWork (plain_amount amount) (range_at (program_of items.now) (known_in items.now) place)) }
+    ensures value { (wrote : List Bytes) → written ≡ are_written (program_of items.now).layout wrote (amount_items (plain_amount amount.entry))
+        → m.new ≡ store_changed (program_of items.now) (known_in items.now) kept.now.common (latest_of kept.now) wrote
+            (plain_pack pack.now) size pack.now.decimals place mode (plain_amount amount.entry) m.old }
+    ensures matrix { IsMatrix size m.new }
+{
+    if !kept.may_fail {
+        store_fitting(items, pack, size, m, place, mode, amount, kept, written);
+    } else if kept.may_fit {
+        forget(&items.program.layout, Gone::Lost(place), pack.cells, size, m);
+    }
+}
