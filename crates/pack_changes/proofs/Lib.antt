@@ -1,7 +1,9 @@
+pub mod AtCell
 pub mod Closing
 pub mod KnownWords
 pub mod Marks
 pub mod PackForms
+pub mod SameBut
 pub mod SameWords
 pub mod Shown
 pub mod Sizes

@@ -2,7 +2,6 @@
 use Rattle.std.proofs.Common.{◌≡◌, ℕ, zero, suc, ◌<◌, ◌≤◌, List, [], ◌∷◌, get_or, ℤ, pos, ◌≤ℤ◌, refl, arith}
 use Rattle.decimal_interval.specs.declared.bounds.Interval.{Interval}
 use Rattle.decimal_interval.specs.Bounds.{IsSmall}
-use Rattle.linear_form.specs.Forms.{IsSmallConstant}
 use Rattle.pack_changes.specs.declared.closings.KnownCell.{KnownCell}
 use Rattle.pack_changes.specs.Cells.{HasEnds, HaveEnds}
 use Rattle.pack_changes.specs.Forms.{IsFormOf}

@@ -1,12 +1,14 @@
 -- What is known of a pack's cells, put into the words of its matrix.
-use Rattle.std.specs.Prelude.{◌≡◌, ◌≢◌, ℕ, zero, suc, ◌<◌, ◌≤◌, List, length, map, slice_get, slice_index_or, ℤ, pos, ◌*ℤ◌, ◌≤ℤ◌, ◌⊎◌, unsigned_abs, Option, Some, None, IfSome}
+use Rattle.std.specs.Prelude.{◌≡◌, ◌≢◌, ℕ, zero, suc, ◌+◌, ◌<◌, ◌≤◌, List, length, map, slice_get, slice_index_or, ℤ, pos, ◌*ℤ◌, ◌≤ℤ◌, ◌⊎◌, unsigned_abs, Option, Some, None, IfSome}
 use Rattle.cob_data.specs.declared.layout.Layout.{Layout}
 use Rattle.decimal_interval.specs.declared.bounds.Interval.{Interval}
+use Rattle.diff_bounds.specs.Matrix.{word}
+use Rattle.closed_matrices.specs.Closed.{closed}
 use Rattle.cell_rows.specs.Known.{Known}
 use Rattle.cell_storages.specs.Homes.{Home}
 use Rattle.cell_storages.specs.Storages.{known_of}
 use Rattle.diff_steps.specs.Packs.{Pack, unit_of}
-use Rattle.diff_steps.specs.Matrices.{high_word, low_word}
+use Rattle.diff_steps.specs.Matrices.{with_words, high_word, low_word}
 use Rattle.pack_changes.specs.declared.closings.KnownCell.{KnownCell}
 use Rattle.pack_changes.specs.Ends.{IsNumber}
 
@@ -40,7 +42,11 @@ put_cells cells w zero (suc k) = put_low (slice_get cells k) (w zero (suc k))
 put_cells cells w (suc k) zero = put_high (slice_get cells k) (w (suc k) zero)
 put_cells cells w (suc j) (suc k) = w (suc j) (suc k)
 
--- those of one cell alone
+-- the matrix with these words closed; nothing where a cycle is negative
+abbrev pub closed_with : ℕ → List KnownCell → List ℤ → Option (List ℤ)
+closed_with size cells m = closed size (with_words size (put_cells cells (word (size + 1) m)))
+
+-- the words of one cell alone
 pub record IsPutAt (size place : ℕ) (c : KnownCell) (w u : ℕ → ℕ → ℤ) : Type 0 where
   pub high : u place 0 ≡ cell_high c (w place 0)
   pub low : u 0 place ≡ cell_low c (w 0 place)

@@ -1,5 +1,5 @@
 //! Cells that are forgotten.
-ghost use Rattle.std.specs.Prelude.{◌≡◌, ◌+◌, ◌<◌, ◌≤◌, Bool, List, length, map};
+ghost use Rattle.std.specs.Prelude.{◌≡◌, ◌+◌, ◌≤◌, Bool, List, length, map};
 ghost use Rattle.diff_bounds.specs.Matrix.{IsMatrix};
 ghost use Rattle.cell_storages.specs.Homes.{Home};
 ghost use Rattle.diff_steps.specs.Stores.{forgotten_cells};

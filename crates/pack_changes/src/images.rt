@@ -1,5 +1,5 @@
 //! What is left of a matrix, as a list: behind an assignment, a demand, or where a cell is forgotten.
-ghost use Rattle.std.specs.Prelude.{◌≡◌, ℕ, ◌+◌, ◌<◌, ◌≤◌, IfSome};
+ghost use Rattle.std.specs.Prelude.{◌≡◌, ◌<◌, ◌≤◌, IfSome};
 ghost use Rattle.diff_bounds.specs.Matrix.{IsMatrix};
 ghost use Rattle.diff_steps.specs.Matrices.{forgotten as forgotten_matrix, assigned as assigned_matrix, demanded as demanded_matrix, lesser as lesser_matrix};
 ghost use Rattle.diff_steps.specs.Stores.{assigned_or_forgotten};

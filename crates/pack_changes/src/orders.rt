@@ -1,11 +1,14 @@
 //! What the order of two sums leaves of a matrix.
-ghost use Rattle.std.specs.Prelude.{◌≡◌, ℕ, ◌+◌, ◌<◌, ◌≤◌, true, false, IfSome};
+ghost use Rattle.std.specs.Prelude.{◌≡◌, ◌<◌, ◌≤◌, true, false, IfSome};
 ghost use Rattle.diff_bounds.specs.Matrix.{IsMatrix};
+ghost use Rattle.cob_runs.specs.Deciding.{below as below_it, equal as equal_to_it, above as above_it, holds};
+ghost use Rattle.guard_ranges.specs.Sides.{is_wanted};
 ghost use Rattle.diff_steps.specs.Guards.{demanded_if, ordered};
 ghost use Rattle.pack_changes.specs.Forms.{IsFormOf};
 
 use super::forms::{at_most, turned};
 use super::images::{demand_form, lower_to};
+use cob_tree::Rel;
 use linear_form::Lin;
 
 /// Lowers the words by the demand that the form is at most 0, if there is one.
@@ -60,4 +63,40 @@ pub fn order(
         (false, true, false) => demand_zero(size, m, fine, form),
         _ => {}
     }
+}
+
+// whether a relation has an outcome where the first side is below the second
+fn leaves_below(rel: Rel, wanted: bool) -> bool
+    ensures { result ≡ is_wanted wanted (holds rel below_it) }
+{
+    matches!(rel, Rel::Less | Rel::AtMost) == wanted
+}
+
+// where they are equal
+fn leaves_equal(rel: Rel, wanted: bool) -> bool
+    ensures { result ≡ is_wanted wanted (holds rel equal_to_it) }
+{
+    matches!(rel, Rel::Equal | Rel::AtLeast | Rel::AtMost) == wanted
+}
+
+// where it is above
+fn leaves_above(rel: Rel, wanted: bool) -> bool
+    ensures { result ≡ is_wanted wanted (holds rel above_it) }
+{
+    matches!(rel, Rel::Greater | Rel::AtLeast) == wanted
+}
+
+/// Lowers the words by a relation of two sums that has an outcome.
+pub fn relate(size: usize, m: &mut [i128], fine: bool, form: Option<Lin>, rel: Rel, wanted: bool)
+    requires size { size ≤ 8 }
+    requires m { IsMatrix size m.old }
+    requires form { IfSome form (IsFormOf size) }
+    ensures value { m.new ≡ ordered size fine form (is_wanted wanted (holds rel below_it)) (is_wanted wanted (holds rel equal_to_it))
+        (is_wanted wanted (holds rel above_it)) m.old }
+    ensures matrix { IsMatrix size m.new }
+{
+    let below = leaves_below(rel, wanted);
+    let even = leaves_equal(rel, wanted);
+    let above = leaves_above(rel, wanted);
+    order(size, m, fine, form, below, even, above);
 }

@@ -1,13 +1,16 @@
 //! Stores of forms at cells.
-ghost use Rattle.std.specs.Prelude.{◌≡◌, ℕ, ◌+◌, ◌<◌, ◌≤◌, ◌≤ℤ◌, true, pos, unsigned_abs, IfSome};
+ghost use Rattle.std.specs.Prelude.{◌≡◌, ◌<◌, ◌≤◌, ◌≤ℤ◌, true, pos, unsigned_abs, IfSome};
 ghost use Rattle.diff_bounds.specs.Matrix.{IsMatrix};
 ghost use Rattle.diff_steps.specs.Stores.{absolute_stored, value_stored, form_stored};
 ghost use Rattle.pack_changes.specs.Forms.{IsFormOf};
+ghost use Rattle.pack_changes.specs.Receiving.{stored_at};
 
+use super::bounds::known_of_amount;
 use super::forms::{turned, widened};
 use super::images::{assign_or_forget, forget_cell, lower_to};
 use dec_num::Mode;
 use linear_form::Lin;
+use result_ranges::{AmountRange, Receiver};
 use store_error::{Known, error_of};
 
 // of a value that is 0: the form and the negated one, whichever says more
@@ -28,8 +31,8 @@ fn store_either(size: usize, m: &mut [i128], to: usize, form: Option<Lin>)
     lower_to(size, m, other);
 }
 
-/// Stores the absolute value of a form, by whether it surely isn't negative and surely isn't positive. Nothing is known of
-/// the cell behind it where neither is sure.
+/// Stores the absolute value of a form, by whether it surely isn't negative and surely isn't positive. Nothing is known
+/// of the cell behind it where neither is sure.
 pub fn store_absolute(
     size: usize,
     m: &mut [i128],
@@ -100,4 +103,34 @@ pub fn store_form(
 {
     let stored = widened(form, error_of(known, mode, unit));
     store_value(size, m, to, signed, known, stored);
+}
+
+/// Stores an amount at a cell of a receiver whose unit is so many of the pack's: a form of the amount, by what is
+/// surely known of its range. Where there is no form, nothing is known of the cell behind it.
+pub fn store_at(
+    size: usize,
+    m: &mut [i128],
+    to: usize,
+    form: Option<Lin>,
+    receiver: Receiver,
+    mode: Mode,
+    unit: i128,
+    amount: Option<AmountRange>,
+)
+    requires size { size ≤ 8 }
+    requires m { IsMatrix size m.old }
+    requires first { 1 ≤ to }
+    requires last { to ≤ size }
+    requires form { IfSome form (IsFormOf size) }
+    requires unit { pos 0 ≤ℤ unit }
+    ensures value { m.new ≡ stored_at size to receiver mode (unsigned_abs unit) amount form m.old }
+    ensures matrix { IsMatrix size m.new }
+{
+    match form {
+        Some(form) => {
+            let known = known_of_amount(size, m, &form, receiver.scale, amount);
+            store_form(size, m, to, receiver.signed, mode, unit, known, &form);
+        }
+        None => forget_cell(size, m, to),
+    }
 }

@@ -1,12 +1,13 @@
 //! Changes of matrices for two cells, against words worked out by hand.
-ghost use Rattle.std.specs.Prelude.{◌≡◌, ◌≤◌, length};
 ghost use Rattle.diff_bounds.specs.Matrix.{IsMatrix};
 ghost use Rattle.pack_changes.specs.Cells.{HasEnds, HaveEnds};
 ghost use Rattle.pack_changes.specs.Forms.{IsFormOf};
 
 use super::{
-    KnownCell, bound, bound_of_negated, close_pack, fits, forget_cells, known_of_amount, known_of_range, order, store_form,
+    KnownCell, bound, bound_of_negated, close_again, close_pack, fits, forget_cells, is_apart,
+    known_of_amount, known_of_range, order, relate, shows_high, shows_low, store_at, store_form,
 };
+use cob_tree::Rel;
 use dec_num::Mode;
 use decimal_interval::Interval;
 use diff_bounds::add_bound;
@@ -120,6 +121,28 @@ fn closes(rt: HostRuntime) {
     }
 }
 
+// which cells are forgotten of the first of these closings, and the words once it is closed again
+const REOPENED: [([bool; 2], [i128; 6]); 3] = [
+    ([false, true], [-3, 0, 5, 5, 20, 17]),
+    ([true, false], [-3, -2, 5, 3, 20, 17]),
+    ([true, true], [-3, 0, 5, 5, 20, 17]),
+];
+
+#[test]
+fn closes_again(rt: HostRuntime) {
+    let cells = both(known(&rt, (3, 5, 1)), known(&rt, (0, 2, 10)));
+    let mut m = no_bounds();
+    lower(&rt, &mut m, (1, 2, 1));
+    assert!(rt; close_pack(2, &mut m, &cells));
+    for (gone, closed) in REOPENED {
+        let last = m;
+        let mut behind = m;
+        forget_cells(2, &mut behind, &gone);
+        assert!(rt; close_again(2, &mut behind, &last, &cells));
+        assert_eq!(rt; words(&behind), closed);
+    }
+}
+
 // whether the receiver has a sign, what is known of the first cell's value plus a number from -1 to 2, and the words
 // behind a store of it, cut, at the second cell, in units of 10
 const STORES: [(bool, bool, bool, bool, [i128; 6]); 6] = [
@@ -168,6 +191,57 @@ fn orders(rt: HostRuntime) {
     }
 }
 
+// a relation of the cells, its outcome, and what their difference is bounded by in either direction
+const RELATIONS: [(Rel, bool, i128, i128); 10] = [
+    (Rel::Equal, true, 0, 0),
+    (Rel::Equal, false, NONE, NONE),
+    (Rel::Less, true, -1, NONE),
+    (Rel::Less, false, NONE, 0),
+    (Rel::Greater, true, NONE, -1),
+    (Rel::Greater, false, 0, NONE),
+    (Rel::AtLeast, true, NONE, 0),
+    (Rel::AtLeast, false, -1, NONE),
+    (Rel::AtMost, true, 0, NONE),
+    (Rel::AtMost, false, NONE, -1),
+];
+
+#[test]
+fn relates(rt: HostRuntime) {
+    let difference = form(&rt, (1, -1, 0, 0));
+    for (rel, wanted, first, second) in RELATIONS {
+        let mut m = no_bounds();
+        relate(2, &mut m, true, Some(difference), rel, wanted);
+        assert_eq!(rt; words(&m), [NONE, NONE, NONE, first, NONE, second]);
+    }
+}
+
+#[test]
+fn stores_amounts(rt: HostRuntime) {
+    let receiver = Receiver {
+        digits: 4,
+        scale: 0,
+        signed: false,
+    };
+    let amount = Some(AmountRange::Decimal(Ranged {
+        units: Interval { low: 2, high: 7 },
+        scale: 0,
+    }));
+    let mut m = three_to_five(&rt);
+    store_at(
+        2,
+        &mut m,
+        2,
+        Some(form(&rt, (1, 0, -1, 2))),
+        receiver,
+        Mode::Trunc,
+        1,
+        amount,
+    );
+    assert_eq!(rt; words(&m), [-3, -2, 5, 1, 7, 2]);
+    store_at(2, &mut m, 2, None, receiver, Mode::Trunc, 1, amount);
+    assert_eq!(rt; words(&m), [-3, NONE, 5, NONE, NONE, NONE]);
+}
+
 #[test]
 fn forgets(rt: HostRuntime) {
     let mut m = three_to_five(&rt);
@@ -193,13 +267,36 @@ fn shows_bounds(rt: HostRuntime) {
         not_positive: false,
     };
     assert_eq!(rt; known_of_range(2, &m, &more, 2, range), shown);
-    assert_eq!(rt; known_of_amount(2, &m, &more, 2, Some(AmountRange::Decimal(range))), shown);
+    assert_eq!(rt;
+        known_of_amount(2, &m, &more, 2, Some(AmountRange::Decimal(range))),
+        shown
+    );
     let nothing = Known {
         whole: false,
         not_negative: false,
         not_positive: false,
     };
     assert_eq!(rt; known_of_amount(2, &m, &more, 2, None), nothing);
+}
+
+#[test]
+fn shows_ends(rt: HostRuntime) {
+    let m = three_to_five(&rt);
+    let negative = form(&rt, (-1, 0, 0, 2));
+    assert!(rt; is_apart(2, &m, Some(negative)));
+    assert!(rt; is_apart(2, &m, Some(form(&rt, (1, 0, -2, 0)))));
+    assert!(rt; !is_apart(2, &m, Some(form(&rt, (1, 0, -3, 0)))));
+    assert!(rt; !is_apart(2, &m, None));
+    let receiver = Receiver {
+        digits: 1,
+        scale: 0,
+        signed: true,
+    };
+    let twice = Some(form(&rt, (2, 0, 0, 0)));
+    assert!(rt; !shows_high(2, &m, twice, Mode::Trunc, receiver, 0));
+    assert!(rt; shows_high(2, &m, twice, Mode::Trunc, receiver, 1));
+    assert!(rt; shows_low(2, &m, twice, Mode::Trunc, receiver, 0));
+    assert!(rt; !shows_low(2, &m, None, Mode::Trunc, receiver, 0));
 }
 
 // a mode, the digits and the scale of a receiver, the decimals and units of a bound, and whether it fits
