@@ -18,17 +18,18 @@ use Rattle.cell_storages.specs.Homes.{of_item, of_count}
 use Rattle.cell_steps.specs.Stores.{range_at}
 use Rattle.cell_walk.specs.Latest.{Latest}
 use Rattle.diff_steps.specs.Packs.{Pack, cell_of, decimals_of}
-use Rattle.diff_steps.specs.Matrices.{forgotten, bottom}
+use Rattle.diff_steps.specs.Matrices.{bottom}
 use Rattle.diff_steps.specs.Moments.{Bytes}
 use Rattle.diff_steps.specs.Forms.{amount_form, set_form, lowered_form, has_operands, cell_at}
-use Rattle.diff_steps.specs.Stores.{known_of_amount, assigned_or_forgotten, form_stored, forgotten_cells}
+use Rattle.diff_steps.specs.Stores.{assigned_or_forgotten, forgotten_cells}
 use Rattle.diff_steps.specs.Guards.{related}
 use Rattle.diff_steps.specs.Steps.{by_outcome}
+use Rattle.pack_changes.specs.Receiving.{stored_at}
 use Rattle.pack_forms.specs.Views.{taken_at}
 use Rattle.pack_walk.specs.declared.gone.Gone.TheVariants as gone
 use Rattle.pack_walk.specs.Gone.{is_gone}
 
--- ---- the receiver's cell
+-- ---- cells
 
 abbrev pub decimal_unless : Ranged → Option Ranged → Option AmountRange
 decimal_unless top None = Some (range.Decimal top)
@@ -39,15 +40,10 @@ abbrev pub decimal_in : Option Taken → Option AmountRange
 decimal_in None = None
 decimal_in (Some t) = decimal_unless t.top t.under
 
-abbrev pub form_put : ℕ → ℕ → Receiver → Mode → ℕ → Option AmountRange → Option Lin → List ℤ → List ℤ
-form_put size to r mode unit amount None m = forgotten size to m
-form_put size to r mode unit amount (Some form) m =
-    form_stored size to r.signed mode unit (known_of_amount size m form r.scale amount) form m
-
--- where it has one
+-- the receiver's cell, where it has one
 abbrev pub cell_stored : ℕ → Receiver → Mode → ℕ → Option AmountRange → Option Lin → Option ℕ → List ℤ → List ℤ
 cell_stored size r mode unit amount form None m = m
-cell_stored size r mode unit amount form (Some k) m = form_put size (suc k) r mode unit amount form m
+cell_stored size r mode unit amount form (Some k) m = stored_at size (suc k) r mode unit amount form m
 
 abbrev pub cell_assigned : ℕ → Option Lin → Option ℕ → List ℤ → List ℤ
 cell_assigned size form None m = m

@@ -4,9 +4,7 @@ ghost use Rattle.cob_program.specs.LogicView.{plain_test};
 ghost use Rattle.cob_program.specs.SumView.{plain_sum};
 ghost use Rattle.cob_program.specs.Bounds.{is_small_sum};
 ghost use Rattle.cob_calc.specs.Contents.{bound_at};
-ghost use Rattle.cob_runs.specs.Deciding.{below, equal, above, holds};
 ghost use Rattle.diff_bounds.specs.Matrix.{IsMatrix};
-ghost use Rattle.guard_ranges.specs.Sides.{is_wanted};
 ghost use Rattle.guard_ranges.specs.Small.{is_small_test};
 ghost use Rattle.result_ranges.specs.declared.amounts.Taken.{Taken};
 ghost use Rattle.cell_rows.specs.Elements.{CellsFit};
@@ -21,34 +19,9 @@ use cell_walk::KnownItems;
 use cob_program::{Sum, Test};
 use cob_tree::Rel;
 use linear_form::Lin;
-use pack_changes::order;
 use pack_forms::{PackView, are_fine, difference_form};
 
-// whether a relation holds where the left side is below the right one
-fn holds_below(rel: Rel) -> bool
-    ensures { result ≡ holds rel below }
-{
-    matches!(rel, Rel::Less | Rel::AtMost)
-}
-
-fn holds_equal(rel: Rel) -> bool
-    ensures { result ≡ holds rel equal }
-{
-    matches!(rel, Rel::Equal | Rel::AtLeast | Rel::AtMost)
-}
-
-fn holds_above(rel: Rel) -> bool
-    ensures { result ≡ holds rel above }
-{
-    matches!(rel, Rel::Greater | Rel::AtLeast)
-}
-
-fn is_wanted(wanted: bool, outcome: bool) -> bool
-    ensures { result ≡ is_wanted wanted outcome }
-{
-    wanted == outcome
-}
-
+// the left side less the right one
 fn difference(items: &KnownItems, pack: &PackView, size: usize, left: &Sum, right: &Sum) -> Option<Lin>
     requires size { length pack.now.cells.now ≡ size }
     requires unit { HasUnit (program_of items.now).layout pack.now }
@@ -84,10 +57,7 @@ fn relate(
 {
     let fine = are_fine(items, pack, left, right);
     let form = difference(items, pack, size, left, right);
-    let below = is_wanted(wanted, holds_below(rel));
-    let even = is_wanted(wanted, holds_equal(rel));
-    let above = is_wanted(wanted, holds_above(rel));
-    order(size, m, fine, form, below, even, above);
+    pack_changes::relate(size, m, fine, form, rel, wanted);
 }
 
 /// Makes of a pack's matrix what a test with such an outcome leaves of it.

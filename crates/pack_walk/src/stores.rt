@@ -1,5 +1,5 @@
 //! Stores of amounts at the cells of a pack.
-ghost use Rattle.std.specs.Prelude.{◌≡◌, ◌+◌, ◌-◌, ◌^◌, ◌≤◌, ◌≤ℤ◌, true, length, List, pos, unsigned_abs, Some, IfSome};
+ghost use Rattle.std.specs.Prelude.{◌≡◌, ◌+◌, ◌-◌, ◌^◌, ◌≤◌, true, length, List, IfSome};
 ghost use Rattle.cob_program.specs.Bounds.{is_small};
 ghost use Rattle.cob_runs.specs.Contents.{form_at};
 ghost use Rattle.cob_calc.specs.Contents.{bound_at};
@@ -19,7 +19,7 @@ ghost use Rattle.pack_changes.specs.Forms.{IsFormOf};
 ghost use Rattle.pack_forms.specs.Sizes.{HasSmallTop};
 ghost use Rattle.pack_forms.specs.Views.{plain_pack, HasUnit, program_of, known_in, taken_at};
 ghost use Rattle.pack_forms.specs.Writing.{amount_items, are_written};
-ghost use Rattle.pack_walk.specs.Changes.{decimal_in, form_put, cell_stored, fitting_stored, store_changed};
+ghost use Rattle.pack_walk.specs.Changes.{decimal_in, cell_stored, fitting_stored, store_changed};
 
 use crate::gone::{Gone, forget};
 use borrowed_parts::Amount;
@@ -27,10 +27,10 @@ use cell_amounts::receiver_at;
 use cell_walk::{Kept, KnownItems};
 use dec_num::Mode;
 use linear_form::Lin;
-use pack_changes::{assign_or_forget, known_of_amount, store_form};
+use pack_changes::store_at;
 use pack_forms::{PackCell, PackView, amount_form, cell_in, has_operands, unit_of};
 use pack_rows::set_least_matrix;
-use result_ranges::{AmountRange, Receiver, Taken};
+use result_ranges::{AmountRange, Taken};
 
 // the range of an amount that is a decimal, by what it is worked out of
 fn decimal_in(worked: Option<Taken>) -> Option<AmountRange>
@@ -42,58 +42,10 @@ fn decimal_in(worked: Option<Taken>) -> Option<AmountRange>
     }
 }
 
-fn put_some(
-    size: usize,
-    m: &mut [i128],
-    to: usize,
-    receiver: Receiver,
-    mode: Mode,
-    unit: i128,
-    amount: Option<AmountRange>,
-    form: &Lin,
-)
-    requires size { size ≤ 8 }
-    requires m { IsMatrix size m.old }
-    requires first { 1 ≤ to }
-    requires last { to ≤ size }
-    requires unit { pos 0 ≤ℤ unit }
-    requires form { IsFormOf size form.now }
-    ensures value { m.new ≡ form_put size to receiver mode (unsigned_abs unit) amount (Some form.now) m.old }
-    ensures matrix { IsMatrix size m.new }
-{
-    let known = known_of_amount(size, m, form, receiver.scale, amount);
-    store_form(size, m, to, receiver.signed, mode, unit, known, form);
-}
+// ---- forms
 
-// the cell gets a form, or nothing is known of it
-fn put_form(
-    size: usize,
-    m: &mut [i128],
-    to: usize,
-    receiver: Receiver,
-    mode: Mode,
-    unit: i128,
-    amount: Option<AmountRange>,
-    form: Option<Lin>,
-)
-    requires size { size ≤ 8 }
-    requires m { IsMatrix size m.old }
-    requires first { 1 ≤ to }
-    requires last { to ≤ size }
-    requires unit { pos 0 ≤ℤ unit }
-    requires form { IfSome form (IsFormOf size) }
-    ensures value { m.new ≡ form_put size to receiver mode (unsigned_abs unit) amount form m.old }
-    ensures matrix { IsMatrix size m.new }
-{
-    match form {
-        None => assign_or_forget(size, m, to, None),
-        Some(form) => put_some(size, m, to, receiver, mode, unit, amount, &form),
-    }
-}
-
-// ---- a form over the pack's cells
-
-fn form_of(
+/// The form of what the receiver gets, over the cells of a pack.
+pub(crate) fn form_of(
     items: &KnownItems,
     pack: &PackView,
     size: usize,
@@ -149,7 +101,7 @@ fn store_cell(
             let form = form_of(items, pack, size, place, amount, kept, written);
             let receiver = receiver_at(&items.program.layout, place);
             let unit = unit_of(&items.program.layout, pack.decimals, PackCell::Item(place));
-            put_form(size, m, cell + 1, receiver, mode, unit, decimal_in(kept.result), form);
+            store_at(size, m, cell + 1, form, receiver, mode, unit, decimal_in(kept.result));
         }
     }
 }
