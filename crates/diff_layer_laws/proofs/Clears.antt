@@ -20,9 +20,9 @@ use Rattle.diff_steps.specs.Clearing.{clears_edge2}
 use Rattle.pack_rows.specs.Rows.{matrices_in}
 use Rattle.pack_edges.specs.Agreeing.{AreMatrices}
 use Rattle.pack_edges.specs.EdgeLaws.{AreLowerEach}
+use Rattle.pack_edges.proofs.PacksEdgesRise as edges
 use Rattle.diff_layer_laws.specs.Layer.{sizes_of, edge_clears2, leaves_clear2, clears_at2}
 use Rattle.diff_layer_laws.specs.Laws.{ClearedStays}
-use Rattle.diff_layer_laws.proofs.Given.{Given}
 use Rattle.diff_layer_laws.proofs.Pieces.{are_matrices, are_lower}
 
 module _ (p : Program) (g : Graph) (packs : List Pack) where
@@ -37,7 +37,7 @@ module _ (p : Program) (g : Graph) (packs : List Pack) where
       by_source true same clears = clears
       by_source false same clears = absurd (cc)
 
-  module _ (given : Given) (fault : Kind) (less more : List Known) (low high : List (List ℤ)) (fits : CellsFit (owns p) less) (below : CellsBelow less more)
+  module _ (fault : Kind) (less more : List Known) (low high : List (List ℤ)) (fits : CellsFit (owns p) less) (below : CellsBelow less more)
       (are : AreMatrices packs low) (is : AreMatrices packs high) (lower : AreLowerEach packs low high) where
     edge_stays : (x : Edge) → edge_clears2 p g packs fault more high x ≡ true → edge_clears2 p g packs fault less low x ≡ true
     edge_stays x = by_act (act_at p (left g x))
@@ -45,7 +45,7 @@ module _ (p : Program) (g : Graph) (packs : List Pack) where
         by_act : (o : Option Act) → option_map_or (λ a. clears_edge2 p packs (left g x) a x.action more high fault) o true ≡ true
             → option_map_or (λ a. clears_edge2 p packs (left g x) a x.action less low fault) o true ≡ true
         by_act None clears = refl
-        by_act (Some a) clears = given.stay_ p packs (left g x) a x.action less more low high fault fits below are is lower clears
+        by_act (Some a) clears = edges.clears_stay p packs (left g x) a x.action less more fits below low high are is lower fault clears
 
     leaving_stays : (node : ℕ) (x : Edge) → leaves_clear2 p g packs node fault more high x ≡ true → leaves_clear2 p g packs node fault less low x ≡ true
     leaving_stays node x = by_source (x.from == node)
@@ -60,17 +60,16 @@ module _ (p : Program) (g : Graph) (packs : List Pack) where
         all_kept (leaves_clear2 p g packs node fault more high) (leaves_clear2 p g packs node fault less low)
         (λ x k. leaving_stays node x k) g.edges clears
 
-  clears_stay : Given → (node : ℕ) (fault : Kind) (less more : Element) (low high : List (List ℤ)) → ElementFits (owns p) less → ElementBelow less more
+  clears_stay : (node : ℕ) (fault : Kind) (less more : Element) (low high : List (List ℤ)) → ElementFits (owns p) less → ElementBelow less more
       → AreMatrices packs low → AreMatrices packs high → AreLowerEach packs low high
       → clears_at2 p g packs node more high fault ≡ true → clears_at2 p g packs node less low fault ≡ true
-  clears_stay given node fault None more low high fits below are is lower clears = refl
-  clears_stay given node fault (Some less) None low high fits below are is lower clears = absurd below
-  clears_stay given node fault (Some less) (Some more) low high fits below are is lower clears =
-      all_stay given fault less more low high fits below are is lower node clears
+  clears_stay node fault None more low high fits below are is lower clears = refl
+  clears_stay node fault (Some less) None low high fits below are is lower clears = absurd below
+  clears_stay node fault (Some less) (Some more) low high fits below are is lower clears =
+      all_stay fault less more low high fits below are is lower node clears
 
-pub cleared_stays : Given → ClearedStays
-cleared_stays given p g packs lists less more packs_are facts others below node a b fault at is other lower clears =
-    clears_stay p g packs given node fault (element_of (less node)) (element_of (more node)) (matrices_in (sizes_of packs) a) (matrices_in (sizes_of packs) b)
+pub cleared_stays : ClearedStays
+cleared_stays p g packs lists less more is_packs facts others below node a b fault at is other lower clears =
+    clears_stay p g packs node fault (element_of (less node)) (element_of (more node)) (matrices_in (sizes_of packs) a) (matrices_in (sizes_of packs) b)
     (facts node at.first at.last).fits (below node at.first at.last)
-    (are_matrices packs lists packs_are.few packs_are.listed a is) (are_matrices packs lists packs_are.few packs_are.listed b other)
-    (are_lower packs lists packs_are.few packs_are.listed a b is other lower) clears
+    (are_matrices packs lists is_packs a is) (are_matrices packs lists is_packs b other) (are_lower packs lists is_packs a b is other lower) clears

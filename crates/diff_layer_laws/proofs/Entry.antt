@@ -1,5 +1,6 @@
--- What is known of differences where a run begins: matrices, in which each storage stands that stands in what is known of the cells.
-use Rattle.std.proofs.Common.{◌≡◌, ◌≢◌, ℕ, ◌+◌, ◌<◌, ◌≤◌, Bool, true, false, List, [], ◌∷◌, map, ℤ, pos, Option, Some, None, refl, ◌∙◌, arith}
+-- What is known of differences where a run begins: matrices, in which each storage stands that stands in what is known of
+-- the cells.
+use Rattle.std.proofs.Common.{◌≡◌, ◌≢◌, ℕ, ◌+◌, ◌≤◌, Bool, true, false, List, [], ◌∷◌, map, ℤ, pos, Option, Some, None, refl, ◌∙◌, arith}
 use Rattle.std.specs.Prelude.{nat_eq, IsSomeAnd, if◌then◌else◌}
 use Rattle.std.specs.List.{AllByRecursion}
 use Rattle.std.proofs.lemmas.Bool.{eq-eqb, ne_eqb}
@@ -8,10 +9,9 @@ use Rattle.cob_data.specs.declared.layout.Layout.{Layout}
 use Rattle.cob_program.specs.Act.{Program}
 use Rattle.dom_laws.specs.Meaning.{Storage}
 use Rattle.diff_bounds.specs.Matrix.{word, none, IsBound, IsWord, IsMatrix}
-use Rattle.diff_bounds.specs.Storages.{value_at, DifferBy}
 use Rattle.cell_rows.specs.Known.{Known}
 use Rattle.cell_storages.specs.Storages.{StandsIn}
-use Rattle.diff_steps.specs.Packs.{Pack, size_of, cells_in, PackStands, PacksStand}
+use Rattle.diff_steps.specs.Packs.{Pack, size_of, PackStands, PacksStand}
 use Rattle.diff_steps.specs.Edges.{or_bottoms, no_bounds, entry_packs}
 use Rattle.diff_steps.specs.Steps.{all_closed}
 use Rattle.pack_laws.proofs.Words.{word_at}

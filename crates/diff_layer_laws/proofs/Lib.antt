@@ -1,7 +1,5 @@
-pub mod Given
 pub mod Pieces
 pub mod Entry
 pub mod Flow
 pub mod Clears
 pub mod Meaning
-pub mod Filled

@@ -3,14 +3,12 @@ use Rattle.std.proofs.Common.{◌≡◌, ℕ, true, List, Option, Some, None, �
 use Rattle.cob_tree.specs.declared.fault.Kind.{Kind}
 use Rattle.cob_program.specs.Act.{Program}
 use Rattle.cob_graph.specs.declared.graph.Graph.{Graph}
-use Rattle.dom_laws.specs.Lattice.{IsElement}
-use Rattle.dom_laws.specs.Flow.{IsEdge}
 use Rattle.dom_laws.specs.Meaning.{Storage}
 use Rattle.cell_rows.specs.Known.{Known}
 use Rattle.cell_rows.specs.Elements.{Element}
 use Rattle.cell_rows.specs.Rows.{element_of}
 use Rattle.graph_runs.specs.Places.{edge_at, DoesAt}
-use Rattle.graph_runs.specs.Doing.{Begins, Acts, MeetsAt}
+use Rattle.graph_runs.specs.Doing.{Acts, MeetsAt}
 use Rattle.cell_storages.specs.Storages.{storage, StandsIn, ElementStands}
 use Rattle.cell_layer_laws.specs.Entry.{entry_cells}
 use Rattle.cell_layer_laws.proofs.Entry as first_cells
@@ -21,15 +19,16 @@ use Rattle.diff_steps.specs.Edges.{entry_packs, post_packs}
 use Rattle.diff_steps.specs.Clearing.{clears_edge2}
 use Rattle.pack_rows.specs.Rows.{matrices_in, row_of}
 use Rattle.pack_edges.specs.Agreeing.{AreMatrices, ArePacksOf}
-use Rattle.diff_layer_laws.specs.Layer.{sizes_of, Facts, AreFacts, ArePacks, diff_lattice, edge_packs, packs_post, edge_clears2, clears_at2, diff_flow, diff_post}
-use Rattle.diff_layer_laws.specs.Laws.{PacksMean, AreBelow}
-use Rattle.diff_layer_laws.proofs.Given.{Given}
+use Rattle.pack_edges.proofs.PacksStand.{all_packs_stand}
+use Rattle.pack_edges.proofs.PacksClearAll.{none_cleared_is_met}
+use Rattle.diff_layer_laws.specs.Layer.{sizes_of, edge_packs, packs_post, edge_clears2, clears_at2}
+use Rattle.diff_layer_laws.specs.Laws.{PacksMean}
 use Rattle.diff_layer_laws.proofs.Pieces.{matrices_back, are_matrices, all_stand_above}
 use Rattle.diff_layer_laws.proofs.Entry.{entry_fits, entry_stands}
-use Rattle.diff_layer_laws.proofs.Flow.{same_below, source_is_node, post_fits}
+use Rattle.diff_layer_laws.proofs.Flow.{same_below, post_fits}
 use Rattle.diff_layer_laws.proofs.Clears.{cleared_on, cleared_stays}
 
-module _ (given : Given) (p : Program) (g : Graph) (packs : List Pack) (packs_are : ArePacksOf p packs) where
+module _ (p : Program) (g : Graph) (packs : List Pack) (is_packs : ArePacksOf p packs) where
   -- ---- what stands behind an edge
 
   moved : (ms : List (List ℤ)) (bytes old : List ℕ) (counters counts : List (Option ℤ)) → bytes ≡ old → counters ≡ counts
@@ -44,7 +43,7 @@ module _ (given : Given) (p : Program) (g : Graph) (packs : List Pack) (packs_ar
       (sym (at_source p g (edge_at g e) acts.statement acts.act (λ n a. post_packs p packs n a (edge_at g e).action (Some cells) ms) ms acts.does))
       (moved (post_packs p packs acts.statement acts.act (edge_at g e).action (Some cells) ms) acts.last.storage t.bytes acts.last.counts t.counters
       acts.bytes acts.counters
-      (given.stand_ p packs acts.statement acts.act (edge_at g e).action cells ms s.bytes s.counters acts.last packs_are
+      (all_packs_stand p packs acts.statement acts.act (edge_at g e).action cells ms s.bytes s.counters acts.last is_packs
       (edges_are_sound_of_sources p g acts.of_source acts.statement acts.act (edge_at g e).action acts.does.act) known are stands acts.way acts.fails))
 
   kept : (e : ℕ) (element : Element) (ms : List (List ℤ)) (s t : Storage) → ElementStands p element s → AreMatrices packs ms
@@ -57,7 +56,7 @@ module _ (given : Given) (p : Program) (g : Graph) (packs : List Pack) (packs_ar
   not_met_on : (fault : Kind) (cells : List Known) (ms : List (List ℤ)) (s : Storage) (node : ℕ) (m : MeetsAt p g node fault s) → StandsIn p cells s
       → AreMatrices packs ms → PacksStand p.layout packs ms s → edge_clears2 p g packs fault cells ms (edge_at g m.e) ≡ true → ⊥
   not_met_on fault cells ms s node m known are stands clears =
-      given.isnt_met_ p packs m.statement m.act (edge_at g m.e).action cells ms s.bytes s.counters fault packs_are
+      none_cleared_is_met p packs m.statement m.act (edge_at g m.e).action cells ms s.bytes s.counters fault is_packs
       (edges_are_sound_of_sources p g m.on.of_source m.statement m.act (edge_at g m.e).action m.on.does.act) known are stands
       (sym (at_source p g (edge_at g m.e) m.statement m.act (λ n a. clears_edge2 p packs n a (edge_at g m.e).action cells ms fault) true at) ∙ clears)
       m.on.its m.meets
@@ -77,23 +76,21 @@ in_row : (p : Program) (packs : List Pack) (ms : List (List ℤ)) (s : Storage) 
     → PacksStand p.layout packs (matrices_in (sizes_of packs) (row_of ms)) s
 in_row p packs ms s are stands = subst (λ (xs : List (List ℤ)). PacksStand p.layout packs xs s) (sym (matrices_back packs ms are)) stands
 
-pub packs_mean : Given → PacksMean
-packs_mean given p g packs lists facts packs_are are = record {
-  stands_above = λ a b s is other below stands. all_stand_above packs lists packs_are.few packs_are.listed p.layout a b s is other below stands;
+pub packs_mean : PacksMean
+packs_mean p g packs lists facts is_packs are = record {
+  stands_above = λ a b s is other below stands. all_stand_above packs lists is_packs a b s is other below stands;
   begins = λ s begins granted.
-      in_row p packs (entry_packs p packs (entry_cells p)) s (entry_fits p packs packs_are.few (entry_cells p))
-      (entry_stands p packs packs_are.few (entry_cells p) s (first_cells.entry_stands p g s begins));
+      in_row p packs (entry_packs p packs (entry_cells p)) s (entry_fits p packs is_packs.few (entry_cells p))
+      (entry_stands p packs is_packs.few (entry_cells p) s (first_cells.entry_stands p g s begins));
   kept = λ e row s t is el granted stands acts.
       let x = edge_at g e in
       let ms = matrices_in (sizes_of packs) row in
-      let node = source_is_node p g packs facts ∣ acts.of_source ∣₁ e is in
-      let its = are_matrices packs lists packs_are.few packs_are.listed row el in
-      in_row p packs (packs_post p g packs x (element_of (facts x.from)) ms) t
-      (post_fits given p g packs x (element_of (facts x.from)) ms (are x.from node.first node.last).fits its)
-      (kept given p g packs packs_are.cells e (element_of (facts x.from)) ms s t granted its stands acts);
+      let its = are_matrices packs lists is_packs row el in
+      in_row p packs (packs_post p g packs x (element_of (facts x.from)) ms) t (post_fits p g packs x (element_of (facts x.from)) ms its)
+      (kept p g packs is_packs.cells e (element_of (facts x.from)) ms s t granted its stands acts);
   cleared = λ node row fault s is el clears granted stands.
-      not_met given p g packs packs_are.cells node (element_of (facts node)) (matrices_in (sizes_of packs) row) fault s clears granted
-      (are_matrices packs lists packs_are.few packs_are.listed row el) stands;
+      not_met p g packs is_packs.cells node (element_of (facts node)) (matrices_in (sizes_of packs) row) fault s clears granted
+      (are_matrices packs lists is_packs row el) stands;
   clears_below = λ node a b fault is el other below clears.
-      cleared_stays given p g packs lists facts facts packs_are are are (same_below g facts) node a b fault is el other below clears;
+      cleared_stays p g packs lists facts facts is_packs are are (same_below g facts) node a b fault is el other below clears;
 }

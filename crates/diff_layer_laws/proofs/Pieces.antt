@@ -1,10 +1,11 @@
 -- Rows of several packs' matrices, and the matrices in them.
-use Rattle.std.proofs.Common.{◌≡◌, ℕ, ◌+◌, ◌*◌, ◌<◌, ◌≤◌, List, [], ◌∷◌, ◌++◌, length, take, drop, ℤ, refl, ap, ◌∙◌, take_at, drop_at, arith}
+use Rattle.std.proofs.Common.{◌≡◌, ℕ, ◌≤◌, List, [], ◌∷◌, length, take, drop, ℤ, refl, ap, ◌∙◌, take_at, drop_at, arith}
 use Rattle.std.specs.List.{AllByRecursion}
 use Rattle.cob_data.specs.declared.layout.Layout.{Layout}
+use Rattle.cob_program.specs.Act.{Program}
 use Rattle.dom_laws.specs.Lattice.{IsElement}
 use Rattle.dom_laws.specs.Meaning.{Storage}
-use Rattle.diff_bounds.specs.Matrix.{word, IsMatrix}
+use Rattle.diff_bounds.specs.Matrix.{IsMatrix}
 use Rattle.diff_bounds.specs.Order.{IsAtMost}
 use Rattle.diff_bounds.specs.Lattice.{matrices}
 use Rattle.diff_bounds.proofs.MatrixLattice.{by_places}
@@ -17,7 +18,7 @@ use Rattle.pack_rows.proofs.Lattices.{pair_is, pair_below}
 use Rattle.pack_edges.specs.Agreeing.{AreMatrices}
 use Rattle.pack_edges.specs.EdgeLaws.{AreLowerEach}
 use Rattle.pack_edges.proofs.PacksPutRise.{matrix_is_flat, lower_of, off_of}
-use Rattle.diff_layer_laws.specs.Layer.{sizes_of, diff_lattice}
+use Rattle.diff_layer_laws.specs.Layer.{sizes_of, ArePacks, diff_lattice}
 
 pub matrices_back : (packs : List Pack) (ms : List (List ℤ)) → AreMatrices packs ms → matrices_in (sizes_of packs) (row_of ms) ≡ ms
 matrices_back [] [] are = refl
@@ -71,9 +72,10 @@ pieces_lower : (packs : List Pack) (lists : List (List ℤ)) → length lists �
 pieces_lower [] lists listed a b is other below = tt
 pieces_lower (pack ∷ packs) [] listed a b is other below = absurd (omega (arith, listed))
 pieces_lower (pack ∷ packs) (ts ∷ lists) listed a b is other below =
-    let n = words_of (size_of pack) in
-    (lower_off (size_of pack) (take n a) (take n b) is.formed.0.formed below.0,
-    pieces_lower packs lists (omega (arith, listed)) (drop n a) (drop n b) is.formed.1 other.formed.1 below.1)
+    let n = words_of (size_of pack) in (
+      lower_off (size_of pack) (take n a) (take n b) is.formed.0.formed below.0,
+      pieces_lower packs lists (omega (arith, listed)) (drop n a) (drop n b) is.formed.1 other.formed.1 below.1,
+    )
 
 rows_below : (packs : List Pack) (lists ms ns : List (List ℤ)) → length lists ≡ length packs → AreMatrices packs ms → AreMatrices packs ns
     → AreLowerEach packs ms ns → (diff_lattice packs lists).Below (row_of ms) (row_of ns)
@@ -96,27 +98,29 @@ pieces_stand : (l : Layout) (packs : List Pack) (lists : List (List ℤ)) → le
 pieces_stand l [] lists listed a b s is other below stands = tt
 pieces_stand l (pack ∷ packs) [] listed a b s is other below stands = absurd (omega (arith, listed))
 pieces_stand l (pack ∷ packs) (ts ∷ lists) listed a b s is other below stands =
-    let n = words_of (size_of pack) in
-    (stands_higher (size_of pack) (take n a) (take n b) (cells_in l pack s) is.formed.0.width below.0 stands.0,
-    pieces_stand l packs lists (omega (arith, listed)) (drop n a) (drop n b) s is.formed.1 other.formed.1 below.1 stands.1)
+    let n = words_of (size_of pack) in (
+      stands_higher (size_of pack) (take n a) (take n b) (cells_in l pack s) is.formed.0.width below.0 stands.0,
+      pieces_stand l packs lists (omega (arith, listed)) (drop n a) (drop n b) s is.formed.1 other.formed.1 below.1 stands.1,
+    )
 
 -- ---- of rows in which a first arrival is taken as it is
 
-module _ (packs : List Pack) (lists : List (List ℤ)) (few : AllByRecursion (λ pack. size_of pack ≤ 8) packs) (listed : length lists ≡ length packs) where
+module _ {p : Program} (packs : List Pack) (lists : List (List ℤ)) (is_packs : ArePacks p packs lists) where
   pub are_matrices : (row : List ℤ) → IsElement (diff_lattice packs lists) row → AreMatrices packs (matrices_in (sizes_of packs) row)
-  are_matrices row is = are_pieces packs lists few listed row (same_row packs lists row is)
+  are_matrices row is = are_pieces packs lists is_packs.few is_packs.listed row (same_row packs lists row is)
 
   pub row_is_element : (ms : List (List ℤ)) → AreMatrices packs ms → IsElement (diff_lattice packs lists) (row_of ms)
-  row_is_element ms are = its_row packs lists (row_of ms) (are_row packs lists ms listed are)
+  row_is_element ms are = its_row packs lists (row_of ms) (are_row packs lists ms is_packs.listed are)
 
   pub are_lower : (a b : List ℤ) → IsElement (diff_lattice packs lists) a → IsElement (diff_lattice packs lists) b
       → (diff_lattice packs lists).Below a b → AreLowerEach packs (matrices_in (sizes_of packs) a) (matrices_in (sizes_of packs) b)
-  are_lower a b is other below = pieces_lower packs lists listed a b (same_row packs lists a is) (same_row packs lists b other) below
+  are_lower a b is other below = pieces_lower packs lists is_packs.listed a b (same_row packs lists a is) (same_row packs lists b other) below
 
   pub row_is_below : (ms ns : List (List ℤ)) → AreMatrices packs ms → AreMatrices packs ns → AreLowerEach packs ms ns
       → (diff_lattice packs lists).Below (row_of ms) (row_of ns)
-  row_is_below ms ns are is lower = rows_below packs lists ms ns listed are is lower
+  row_is_below ms ns are is lower = rows_below packs lists ms ns is_packs.listed are is lower
 
-  pub all_stand_above : (l : Layout) (a b : List ℤ) (s : Storage) → IsElement (diff_lattice packs lists) a → IsElement (diff_lattice packs lists) b
-      → (diff_lattice packs lists).Below a b → PacksStand l packs (matrices_in (sizes_of packs) a) s → PacksStand l packs (matrices_in (sizes_of packs) b) s
-  all_stand_above l a b s is other below stands = pieces_stand l packs lists listed a b s (same_row packs lists a is) (same_row packs lists b other) below stands
+  pub all_stand_above : (a b : List ℤ) (s : Storage) → IsElement (diff_lattice packs lists) a → IsElement (diff_lattice packs lists) b
+      → (diff_lattice packs lists).Below a b → PacksStand p.layout packs (matrices_in (sizes_of packs) a) s → PacksStand p.layout packs (matrices_in (sizes_of packs) b) s
+  all_stand_above a b s is other below stands =
+      pieces_stand p.layout packs lists is_packs.listed a b s (same_row packs lists a is) (same_row packs lists b other) below stands

@@ -1,6 +1,6 @@
 -- What is known of differences of cells along the graph of a program, beside what is known of the cells at each node: the
 -- second layer of the analysis (Miné 2001).
-use Rattle.std.specs.Prelude.{◌≡◌, ◌≤◌, ℕ, ◌==◌, not, ◌||◌, Bool, true, List, map, length, Option, Some, None, ℤ}
+use Rattle.std.specs.Prelude.{◌≡◌, ◌≤◌, ℕ, ◌==◌, not, ◌||◌, Bool, true, List, map, length, Some, None, ℤ}
 use Rattle.std.specs.Option.{option_map_or}
 use Rattle.std.specs.List.{list_all, AllByRecursion}
 use Rattle.cob_tree.specs.declared.fault.Kind.{Kind}
@@ -9,7 +9,7 @@ use Rattle.cob_runs.specs.Effects.{act_at}
 use Rattle.cob_graph.specs.declared.graph.Edge.{Edge}
 use Rattle.cob_graph.specs.declared.graph.Graph.{Graph}
 use Rattle.dom_laws.specs.Lattice.{Lattice}
-use Rattle.dom_laws.specs.Flow.{Flow, IsNode}
+use Rattle.dom_laws.specs.Flow.{Flow}
 use Rattle.dom_laws.specs.Meaning.{Meaning}
 use Rattle.graph_runs.specs.Places.{edge_at}
 use Rattle.graph_runs.specs.Flows.{flow_over}

@@ -1,5 +1,5 @@
 -- What receivers and counters get is one of the numbers of its form.
-use Rattle.std.proofs.Common.{◌≡◌, ◌≤◌, ℕ, ◌+◌, Bool, true, false, ◌||◌, if◌then◌else◌, List, [], ◌∷◌, ◌++◌, Option, Some, None, is_some, ℤ, pos, neg_ℤ, ◌+ℤ◌, ◌*ℤ◌, refl, sym, ap, subst, ◌∙◌, arith}
+use Rattle.std.proofs.Common.{◌≡◌, ◌≤◌, ℕ, Bool, true, false, ◌||◌, if◌then◌else◌, List, [], ◌∷◌, ◌++◌, Option, Some, None, is_some, ℤ, pos, neg_ℤ, ◌+ℤ◌, ◌*ℤ◌, refl, sym, ap, subst, ◌∙◌, arith}
 use Rattle.std.specs.Prelude.{IfSome, IsSomeAnd, max, ◌-◌, ◌^◌, unwrap_or}
 use Rattle.std.specs.List.{list_any}
 use Rattle.std.specs.Option.{option_map}
@@ -36,6 +36,7 @@ use Rattle.sum_forms.specs.Constants.{range_form}
 use Rattle.sum_forms.specs.Literals.{whole_factor}
 use Rattle.sum_forms.specs.SumForms.{scaled_form, sum_form}
 use Rattle.sum_forms.proofs.Shows.{whole_factor_is}
+use Rattle.sum_forms.proofs.Sound.{one_product}
 use Rattle.result_ranges.specs.declared.amounts.Taken.{Taken}
 use Rattle.result_ranges.specs.Amounts.{IsAmount}
 use Rattle.result_ranges.specs.Operands.{whole_range}
@@ -82,12 +83,6 @@ plus_nothing_range r =
     let e : max 0 r.scale ≡ r.scale = omega arith in
     ap (λ (n : ℕ). ranged (interval ((pos 0 *ℤ pos (10 ^ (n - 0))) +ℤ (r.units.low *ℤ pos (10 ^ (n - r.scale)))) ((pos 0 *ℤ pos (10 ^ (n - 0))) +ℤ (r.units.high *ℤ pos (10 ^ (n - r.scale))))) n) e
     ∙ range_is r _ _ r.scale (nothing_added r.units.low (r.scale - 0) r.scale) (nothing_added r.units.high (r.scale - 0) r.scale) refl
-
-one_product : (v : Scaled) → product (whole_number (pos 1)) v ≡ v
-one_product v =
-    let e : 0 + v.scale ≡ v.scale = omega arith in
-    let u : pos 1 *ℤ v.units ≡ v.units = omega (arith, ints) in
-    ap (λ (n : ℕ). decimal (pos 1 *ℤ v.units) n) e ∙ ap (λ (x : ℤ). decimal x v.scale) u
 
 -- a sum that is one whole literal
 whole_negated : (minus : Bool) (k : ℤ) (y : Scaled) → y.units ≡ k *ℤ pos (10 ^ y.scale) → (negated minus y).units ≡ negated_if minus k *ℤ pos (10 ^ (negated minus y).scale)
@@ -196,8 +191,8 @@ module _ (p : Program) (statement : ℕ) (a : Act) (x : Action) (pack : Pack) (f
         by_quotient (Some u) h = tt
         by_quotient None h = let w = h refl in value_told cells f (range_form f c.top) w.0 v w.2 (range_told cells f c.top w.0 w.1)
 
-    -- the receiver's number doesn't matter, and so may be 0
-    without_own : Moment
+    -- the receiver's number doesn't matter there, and so may be 0
+    abbrev without_own : Moment
     without_own = with_own m (whole_number (pos 0))
 
     moved_kept : (y : Sender) (v : Scaled) → edge_amount a x ≡ Some (moved y) → number_of p.layout m.first y ≡ Some v → IsSomeAnd t.common (IsKeptOf (value_of v))
@@ -208,7 +203,7 @@ module _ (p : Program) (statement : ℕ) (a : Act) (x : Action) (pack : Pack) (f
         go (Some c) h = λ none. h
 
     augmented_kept : (y : Sender) (v : Scaled) → edge_amount a x ≡ Some (augmented y) → number_of p.layout m.first y ≡ Some v → IsSomeAnd t.common (IsKeptOf (value_of v))
-    augmented_kept y v e is = go t.common (g.took (with_own m (whole_number (pos 0))) (augmented y) (point (whole_number (pos 0))) (value_of (plus (whole_number (pos 0)) v)) refl e (point_in (whole_number (pos 0))) (ap (option_map (λ u. value_of (plus (whole_number (pos 0)) u))) is))
+    augmented_kept y v e is = go t.common (g.took without_own (augmented y) (point (whole_number (pos 0))) (value_of (plus (whole_number (pos 0)) v)) refl e (point_in (whole_number (pos 0))) (ap (option_map (λ u. value_of (plus (whole_number (pos 0)) u))) is))
       where
         go : (o : Option Taken) → IsSomeAnd o (λ c. IsSomeAnd (amount_of (augmented y) (point (whole_number (pos 0))) c) (λ r. IsAmount r (value_of (plus (whole_number (pos 0)) v)))) → IsSomeAnd o (IsKeptOf (value_of v))
         go None h = h
@@ -216,7 +211,7 @@ module _ (p : Program) (statement : ℕ) (a : Act) (x : Action) (pack : Pack) (f
 
     -- what a sum is worth that isn't stored whole
     summand_kept : (s : Sum) (v : Scaled) → edge_amount a x ≡ Some (computed s how.Whole) → sum_value (worth p.layout m.first) s ≡ Some v → IsSomeAnd (t.common >>= settled) (IsKeptOf (value_of v))
-    summand_kept s v e is = go t.common (g.took (with_own m (whole_number (pos 0))) (computed s how.Plus) (point (whole_number (pos 0))) (value_of (plus (whole_number (pos 0)) v)) refl e (point_in (whole_number (pos 0))) (ap (λ (o : Option Scaled). o >>= λ u. Some (value_of (plus (whole_number (pos 0)) u))) is))
+    summand_kept s v e is = go t.common (g.took without_own (computed s how.Plus) (point (whole_number (pos 0))) (value_of (plus (whole_number (pos 0)) v)) refl e (point_in (whole_number (pos 0))) (ap (λ (o : Option Scaled). o >>= λ u. Some (value_of (plus (whole_number (pos 0)) u))) is))
       where
         settled_go : (o : Option Taken) → IsSomeAnd (o >>= amount_range (computed s how.Plus) (point (whole_number (pos 0)))) (λ r. IsAmount r (value_of (plus (whole_number (pos 0)) v))) → IsSomeAnd o (IsKeptOf (value_of v))
         settled_go None h = h
@@ -297,9 +292,9 @@ module _ (p : Program) (statement : ℕ) (a : Act) (x : Action) (pack : Pack) (f
     -- ---- amounts
 
     -- what a receiver multiplies its number by
-    times_told : (place : ℕ) (s : Sum) (v : Scaled) (x_ : Fraction) → edge_amount a x ≡ Some (computed s how.Whole) → number_at p.layout m.storage place ≡ Some m.own
-        → sum_value (worth p.layout m.first) s ≡ Some v → x_ ≡ value_of (product m.own v) → ValueTold cells f (multiplied_form p pack t wrote place (whole_sum s)) x_
-    times_told place s v x_ its own is same = by_literal (whole_sum s) refl
+    times_told : (place : ℕ) (s : Sum) (v : Scaled) (value : Fraction) → edge_amount a x ≡ Some (computed s how.Whole) → number_at p.layout m.storage place ≡ Some m.own
+        → sum_value (worth p.layout m.first) s ≡ Some v → value ≡ value_of (product m.own v) → ValueTold cells f (multiplied_form p pack t wrote place (whole_sum s)) value
+    times_told place s v value its own is same = by_literal (whole_sum s) refl
       where
         ranged_go : (o : Option Taken) → IsSomeAnd (o >>= amount_range (computed s how.Times) (range_at p t.cells place)) (λ r. IsAmount r (value_of (product m.own v)))
             → ValueTold cells f (o >>= λ c. range_form f (product_range (range_at p t.cells place) c.top)) (value_of (product m.own v))
@@ -312,9 +307,9 @@ module _ (p : Program) (statement : ℕ) (a : Act) (x : Action) (pack : Pack) (f
         common_go None h = tt
         common_go (Some c) h = ranged_go (settled c) h
 
-        by_literal : (o : Option ℤ) → whole_sum s ≡ o → ValueTold cells f (multiplied_form p pack t wrote place o) x_
+        by_literal : (o : Option ℤ) → whole_sum s ≡ o → ValueTold cells f (multiplied_form p pack t wrote place o) value
         by_literal (Some k) e =
-            value_told cells f (own_form p pack t wrote place >>= scaled_form k) (product m.own v) x_ same
+            value_told cells f (own_form p pack t wrote place >>= scaled_form k) (product m.own v) value same
             (scaled_told cells f k (own_form p pack t wrote place) m.own v (whole_sum_is (worth p.layout m.first) s k v e is) (own_told place m.own own))
         by_literal None e =
             subst (λ (y : Fraction). ValueTold cells f (multiplied_form p pack t wrote place None) y) (sym same)

@@ -41,7 +41,7 @@ module _ (p : Program) (statement : ℕ) (a : Act) (x : Action) (pack : Pack) (f
   abbrev f : ℕ
   f = pack_decimals p.layout pack
 
-  shows : (o : Option Lin) (d : Scaled) → Told cells f o d → IfSome o (ShowsAt p.layout pack m d)
+  pub shows : (o : Option Lin) (d : Scaled) → Told cells f o d → IfSome o (ShowsAt p.layout pack m d)
   shows o d h = all_shown cells f (size_of pack) few (none_after p g.sound.items s.cells m.storage m.counts g.stands pack few) o d h
 
   shows_value : (o : Option Lin) (v : Fraction) → ValueTold cells f o v → IfSome o (ShowsValueAt p.layout pack m v)

@@ -1,6 +1,6 @@
 -- Where numbers stand in storage, the forms of sums show what the sums are worth.
-use Rattle.std.proofs.Common.{◌≡◌, ◌<◌, ◌≤◌, ℕ, zero, suc, ◌+◌, ◌-◌, ◌^◌, Bool, true, false, if◌then◌else◌, List, [], ◌∷◌, Option, Some, None, is_some, ℤ, pos, neg_ℤ, ◌*ℤ◌, ◌≤ℤ◌, refl, sym, ap, subst, ◌∙◌, pow-add, arith}
-use Rattle.std.specs.Prelude.{IfSome, IsSomeAnd, slice_get, unwrap_or}
+use Rattle.std.proofs.Common.{◌≡◌, ◌<◌, ◌≤◌, ℕ, suc, ◌+◌, ◌-◌, ◌^◌, Bool, true, false, List, [], ◌∷◌, Option, Some, None, is_some, ℤ, pos, neg_ℤ, ◌*ℤ◌, ◌≤ℤ◌, refl, sym, ap, subst, ◌∙◌, pow-add, arith}
+use Rattle.std.specs.Prelude.{IfSome, IsSomeAnd, unwrap_or}
 use Rattle.std.specs.Option.{option_map}
 use Rattle.std.proofs.lemmas.Int.{ints}
 use Rattle.std.proofs.Math.IntN.{zero-*ℤ}
@@ -10,10 +10,9 @@ use Rattle.decimal_interval.specs.declared.bounds.Interval.{Interval}
 use Rattle.decimal_interval.specs.Bounds.{Holds}
 use Rattle.cob_tree.specs.declared.form.Form.{Form}
 use Rattle.cob_tree.specs.declared.form.Form.TheVariants as form
-use Rattle.cob_data.specs.declared.layout.Layout.{Layout}
 use Rattle.num_bytes.specs.Reading.{contents_value}
 use Rattle.cob_program.specs.Sum.{Sum, Atom, item, number, group}
-use Rattle.cob_program.specs.Values.{whole_number, literal, sum_value, atom_value, ◌>>=◌}
+use Rattle.cob_program.specs.Values.{whole_number, literal, sum_value, atom_value}
 use Rattle.cob_program.specs.Act.{Program}
 use Rattle.cob_program.proofs.Steps.{some_same}
 use Rattle.cob_runs.specs.Contents.{form_at, bytes_at, scale_of, scaled_by, number_at}
@@ -32,46 +31,19 @@ use Rattle.sum_forms.proofs.Shows.{item_shows}
 use Rattle.sum_forms.proofs.Sound.{sum_shown}
 use Rattle.guard_ranges.proofs.Agreement.{numeric_sum}
 use Rattle.cell_rows.specs.Known.{Known}
-use Rattle.cell_storages.specs.Homes.{Home, of_item, of_count, is_home, homes_of, picture_range, form_range, home_range}
+use Rattle.cell_storages.specs.Homes.{Home, of_item, of_count, homes_of, picture_range, form_range, home_range}
 use Rattle.cell_storages.specs.Storages.{storage, known_of, value_at, KnownStands, StandsIn}
 use Rattle.cell_storages.specs.Premises.{HasSoundItems}
 use Rattle.cell_steps.specs.Cells.{known_or, units_of}
 use Rattle.cell_steps.specs.Stores.{range_at}
-use Rattle.cell_edges.proofs.CellLists.{home_is}
 use Rattle.cell_edges.proofs.HomesHold.{units_hold}
 use Rattle.cell_edges.proofs.PartsDone.{both_true}
 use Rattle.diff_steps.specs.Packs.{Pack, size_of, cell_of, decimals_of, pack_decimals, unit_of, cells_in}
+use Rattle.pack_edges.proofs.PacksWordsRise.{cell_within}
+use Rattle.pack_edges.proofs.PacksKeepCells.{found_cell, decimals_within, no_cell}
+use Rattle.pack_edges.proofs.PacksKeepCells as cell
 use Rattle.pack_edges.proofs.FormsShowItems.{HaveValues, item_form_is_of_values, sum_form_is_of_values}
 use Rattle.pack_edges.proofs.FormsShowValues.{Told, told, range_told, cell_told}
-
--- ---- cells of a pack
-
-pub cell_there : (pack : Pack) (h : Home) (k : ℕ) → cell_of pack h ≡ Some k → slice_get pack k ≡ Some h
-cell_there [] h k e = absurd cc
-cell_there (g ∷ hs) h k e = by_home (is_home g h) refl (λ j f. cell_there hs h j f) e
-  where
-    behind : (o : Option ℕ) → cell_of hs h ≡ o → ((j : ℕ) → cell_of hs h ≡ Some j → slice_get hs j ≡ Some h) → option_map (λ j. suc j) o ≡ Some k → slice_get (g ∷ hs) k ≡ Some h
-    behind None f there e = absurd cc
-    behind (Some j) f there e = subst (λ (i : ℕ). slice_get (g ∷ hs) i ≡ Some h) (some_same (suc j) k e) (there j f)
-
-    by_home : (b : Bool) → is_home g h ≡ b → ((j : ℕ) → cell_of hs h ≡ Some j → slice_get hs j ≡ Some h) → (if b then Some 0 else option_map (λ j. suc j) (cell_of hs h)) ≡ Some k → slice_get (g ∷ hs) k ≡ Some h
-    by_home true f there e = subst (λ (i : ℕ). slice_get (g ∷ hs) i ≡ Some h) (some_same 0 k e) (ap Some (home_is g h f))
-    by_home false f there e = behind (cell_of hs h) refl there e
-
-pub cell_within : (pack : Pack) (k : ℕ) (h : Home) → slice_get pack k ≡ Some h → k < size_of pack
-cell_within [] k h e = absurd cc
-cell_within (g ∷ hs) zero h e = omega arith
-cell_within (g ∷ hs) (suc k) h e = let more = cell_within hs k h e in omega (arith, more)
-
-none_beyond : (pack : Pack) (k : ℕ) → size_of pack ≤ k → slice_get pack k ≡ None
-none_beyond [] k h = refl
-none_beyond (g ∷ hs) zero h = absurd (omega (arith, h))
-none_beyond (g ∷ hs) (suc k) h = none_beyond hs k (omega (arith, h))
-
-pub decimals_within : (l : Layout) (pack : Pack) (k : ℕ) (h : Home) → slice_get pack k ≡ Some h → decimals_of l h ≤ pack_decimals l pack
-decimals_within l [] k h e = absurd cc
-decimals_within l (g ∷ hs) zero h e = let same = ap (decimals_of l) (some_same g h e) in omega (arith, same)
-decimals_within l (g ∷ hs) (suc k) h e = let more = decimals_within l hs k h e in omega (arith, more)
 
 -- in a finer unit
 units_up : (z : ℤ) (scale f : ℕ) → scale ≤ f → (z *ℤ pos (10 ^ (f - scale))) *ℤ pos (10 ^ scale) ≡ z *ℤ pos (10 ^ f)
@@ -133,13 +105,13 @@ module _ (p : Program) (sound : HasSoundItems p.layout) (known : List Known) (by
       by_value (Some z) e = record { held = units_hold p sound known (storage bytes counts) stands place z e; scale = refl }
 
   cell_value : (h : Home) (k : ℕ) → cell_of pack h ≡ Some k → cells (suc k) ≡ option_map (λ v. v *ℤ pos (unit_of p.layout pack h)) (value_at p.layout (storage bytes counts) h)
-  cell_value h k e = ap (λ (o : Option Home). o >>= λ g. option_map (λ v. v *ℤ pos (unit_of p.layout pack g)) (value_at p.layout (storage bytes counts) g)) (cell_there pack h k e)
+  cell_value h k e = cell.cell_value p.layout pack (storage bytes counts) k h (found_cell pack h k e)
 
   its_units : (h : Home) (k : ℕ) → cell_of pack h ≡ Some k → (z : ℤ) → (z *ℤ pos (unit_of p.layout pack h)) *ℤ pos (10 ^ decimals_of p.layout h) ≡ z *ℤ pos (10 ^ pack_decimals p.layout pack)
-  its_units h k e z = units_up z (decimals_of p.layout h) (pack_decimals p.layout pack) (decimals_within p.layout pack k h (cell_there pack h k e))
+  its_units h k e z = units_up z (decimals_of p.layout h) (pack_decimals p.layout pack) (decimals_within p.layout pack k h (found_cell pack h k e))
 
   few_cells : (h : Home) (k : ℕ) → cell_of pack h ≡ Some k → k < 8
-  few_cells h k e = let within = cell_within pack k h (cell_there pack h k e) in omega (arith, within, few)
+  few_cells h k e = let within = cell_within pack h k e in omega (arith, within, few)
 
   all_values : (place k : ℕ) → cell_of pack (of_item place) ≡ Some k → worths cells (suc k) *ℤ pos (10 ^ (number_or_zero place).scale) ≡ (number_or_zero place).units *ℤ pos (10 ^ pack_decimals p.layout pack)
   all_values place k e =
@@ -170,7 +142,7 @@ module _ (p : Program) (sound : HasSoundItems p.layout) (known : List Known) (by
   -- ---- forms
 
   pub none_after : (k : ℕ) → size_of pack ≤ k → cells (suc k) ≡ None
-  none_after k h = ap (λ (o : Option Home). o >>= λ g. option_map (λ v. v *ℤ pos (unit_of p.layout pack g)) (value_at p.layout (storage bytes counts) g)) (none_beyond pack k h)
+  none_after k h = no_cell p.layout pack (storage bytes counts) k h
 
   pub item_told : (place : ℕ) (v : Scaled) → number_at p.layout bytes place ≡ Some v → Told cells f (item_form f (cell_at place) (range_at p known place)) v
   item_told place v e =

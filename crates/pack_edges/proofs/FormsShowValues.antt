@@ -1,31 +1,24 @@
 -- Forms over cells that have values, and decimals that are among their numbers.
-use Rattle.std.proofs.Common.{◌≡◌, ◌≢◌, ◌<◌, ◌≤◌, ℕ, suc, ◌+◌, ◌-◌, ◌^◌, true, Option, Some, None, ℤ, pos, negsuc, neg_ℤ, ◌*ℤ◌, refl, sym, ap, subst, ◌∙◌, arith}
+use Rattle.std.proofs.Common.{◌≡◌, ◌≢◌, ◌<◌, ◌≤◌, ℕ, suc, ◌-◌, ◌^◌, true, Option, Some, None, ℤ, pos, negsuc, ◌*ℤ◌, refl, sym, ap, subst, arith}
 use Rattle.std.specs.Prelude.{IfSome}
-use Rattle.std.proofs.lemmas.Int.{ints}
 use Rattle.dec_num.specs.declared.types.Scaled.{Scaled}
 use Rattle.dec_num.specs.Exact.{Fraction}
-use Rattle.dec_num.specs.Scaled.{value_of, units_at, joint_scale}
-use Rattle.decimal_interval.specs.declared.bounds.Interval.{Interval}
+use Rattle.dec_num.specs.Scaled.{value_of}
 use Rattle.cob_program.specs.Values.{negated, plus, product, ◌>>=◌}
 use Rattle.cob_program.proofs.Steps.{some_same}
 use Rattle.linear_form.specs.declared.form.Lin.{Lin}
-use Rattle.linear_form.specs.Forms.{coef, dot, if_small}
-use Rattle.linear_form.specs.Results.{added_coefs, scaled_coefs, scaled_constant, added_constant, sum_of, multiple_of}
-use Rattle.linear_form.proofs.Coefs.{coef-coefs_of}
-use Rattle.linear_form.proofs.Dots.{dot_of_sums, dot_of_multiples}
+use Rattle.linear_form.specs.Forms.{if_small}
+use Rattle.linear_form.specs.Results.{sum_of, multiple_of}
 use Rattle.form_bounds.specs.Upper.{coef_at}
 use Rattle.form_bounds.specs.Values.{worth, worths, HasValue}
-use Rattle.store_error.specs.Scales.{Spans}
-use Rattle.store_error.proofs.Scales.{spans_raised, spans_added}
 use Rattle.sum_ranges.specs.declared.ranged.Ranged.{Ranged}
 use Rattle.sum_ranges.specs.Ranged.{decimal, point, IsIn}
 use Rattle.sum_ranges.proofs.Least.{point_in}
 use Rattle.sum_forms.specs.Constants.{range_form, cell_form}
 use Rattle.sum_forms.specs.SumForms.{scaled_form, turned_form}
 use Rattle.sum_forms.specs.Values.{Shows, AreHeld}
-use Rattle.sum_forms.proofs.Multiples.{spans_times}
 use Rattle.sum_forms.proofs.Shows.{if_there, range_shows, item_shows}
-use Rattle.sum_forms.proofs.Sound.{if_then}
+use Rattle.sum_forms.proofs.Sound.{if_then, multiple_shows, minus_one, sum_shows}
 use Rattle.diff_steps.specs.Forms.{added_forms}
 use Rattle.pack_laws.specs.Orders.{IsShown}
 use Rattle.pack_edges.proofs.FormsShowItems.{IsOfValues, range_is_of_values, cell_is_of_values, multiple_is_of_values, sum_is_of_values}
@@ -71,9 +64,7 @@ module _ (cells : ℕ → Option ℤ) (f : ℕ) where
   multiple_told : (form : Lin) (k : ℤ) (v w : Scaled) → w.units ≡ k *ℤ pos (10 ^ w.scale) → IsTold form v → IsTold (multiple_of form k) (product v w)
   multiple_told form k v w is h = record {
     valued = multiple_is_of_values cells form k h.valued;
-    shows = subst (λ (s : ℤ). Spans s (scaled_constant form.constant k) (product v w) f)
-        (sym (dot_of_multiples (coef form) (coef (multiple_of form k)) (λ j. worths cells (suc j)) k 8 (coef-coefs_of (scaled_coefs form k))))
-        (spans_times (dot (coef form) (λ j. worths cells (suc j)) 8) form.constant v.units v.scale f k w.units w.scale is h.shows);
+    shows = multiple_shows f (λ j. worths cells (suc j)) form k v w is h.shows;
   }
 
   pub scaled_told : (k : ℤ) (o : Option Lin) (v w : Scaled) → w.units ≡ k *ℤ pos (10 ^ w.scale) → Told o v → Told (o >>= scaled_form k) (product v w)
@@ -81,30 +72,15 @@ module _ (cells : ℕ → Option ℤ) (f : ℕ) where
       if_then o (λ form. IsTold form v) (λ form. IsTold form (product v w)) (scaled_form k) h
       (λ form l. if_there (λ g. IsTold g (product v w)) (multiple_of form k) (multiple_told form k v w is l))
 
-  minus_one : (v : Scaled) → product v (decimal (negsuc 0) 0) ≡ negated true v
-  minus_one v =
-      let e : v.scale + 0 ≡ v.scale = omega arith in
-      let u : v.units *ℤ negsuc 0 ≡ neg_ℤ v.units = omega (arith, ints) in
-      ap (λ (n : ℕ). decimal (v.units *ℤ negsuc 0) n) e ∙ ap (λ (x : ℤ). decimal x v.scale) u
-
   pub turned_told : (o : Option Lin) (v : Scaled) → Told o v → Told (o >>= turned_form true) (negated true v)
-  turned_told o v h = subst (λ (w : Scaled). Told (o >>= scaled_form (negsuc 0)) w) (minus_one v) (scaled_told (negsuc 0) o v (decimal (negsuc 0) 0) refl h)
+  turned_told o v h = subst (λ (w : Scaled). Told (o >>= scaled_form (negsuc 0)) w) (minus_one f (λ j. worths cells (suc j)) v) (scaled_told (negsuc 0) o v (decimal (negsuc 0) 0) refl h)
 
   -- ---- sums
-
-  raised_spans : (s : ℤ) (i : Interval) (v : Scaled) (scale : ℕ) → v.scale ≤ scale → Spans s i v f → Spans s i (decimal (units_at v scale) scale) f
-  raised_spans s i v scale h spans =
-      let e : v.scale + (scale - v.scale) ≡ scale = omega arith in
-      subst (λ (n : ℕ). Spans s i (decimal (units_at v scale) n) f) e (spans_raised s i v.units v.scale f (scale - v.scale) spans)
 
   sum_told : (a b : Lin) (v w : Scaled) → IsTold a v → IsTold b w → IsTold (sum_of a b) (plus v w)
   sum_told a b v w h k = record {
     valued = sum_is_of_values cells a b h.valued k.valued;
-    shows = subst (λ (s : ℤ). Spans s (added_constant a.constant b.constant) (plus v w) f)
-        (sym (dot_of_sums (coef a) (coef b) (coef (sum_of a b)) (λ j. worths cells (suc j)) 8 (coef-coefs_of (added_coefs a b))))
-        (spans_added (dot (coef a) (λ j. worths cells (suc j)) 8) (dot (coef b) (λ j. worths cells (suc j)) 8) a.constant b.constant (units_at v (joint_scale v w)) (units_at w (joint_scale v w)) (joint_scale v w) f
-        (raised_spans (dot (coef a) (λ j. worths cells (suc j)) 8) a.constant v (joint_scale v w) (omega arith) h.shows)
-        (raised_spans (dot (coef b) (λ j. worths cells (suc j)) 8) b.constant w (joint_scale v w) (omega arith) k.shows));
+    shows = sum_shows f (λ j. worths cells (suc j)) a b v w h.shows k.shows;
   }
 
   pub added_told : (o q : Option Lin) (v w : Scaled) → Told o v → Told q w → Told (added_forms o q) (plus v w)

@@ -13,7 +13,6 @@ pub mod PacksEdgesRise
 pub mod PacksStoresRise
 pub mod PacksKeepCells
 pub mod PacksKeepCounters
-pub mod PacksKeepGiven
 pub mod PacksKeepStores
 pub mod PacksKeep
 pub mod PacksPartsRise
@@ -22,3 +21,7 @@ pub mod FormsShowAmounts
 pub mod FormsShowCounters
 pub mod FormsShowGuards
 pub mod FormsShowMoments
+pub mod PacksStand
+pub mod PacksClearEnds
+pub mod PacksClear
+pub mod PacksClearAll

@@ -1,11 +1,12 @@
 -- Cells of a pack where storage changes: those that are forgotten may have any value, and the others keep theirs.
-use Rattle.std.proofs.Common.{◌≡◌, ◌≢◌, ℕ, zero, suc, ◌+◌, ◌<◌, ◌≤◌, Bool, true, false, ◌&&◌, not, List, [], ◌∷◌, ◌++◌, length, ℤ, pos, ◌*ℤ◌, Option, Some, None, inl, inr, refl, sym, ap, subst, ◌∙◌, arith}
+use Rattle.std.proofs.Common.{◌≡◌, ◌≢◌, ℕ, zero, suc, ◌+◌, ◌<◌, ◌≤◌, Bool, true, false, List, [], ◌∷◌, length, ℤ, pos, ◌*ℤ◌, Option, Some, None, inl, inr, refl, sym, ap, subst, ◌∙◌, arith}
 use Rattle.std.specs.Prelude.{nat_eq, nat_le, max, if◌then◌else◌, slice_get}
 use Rattle.std.specs.List.{Contains}
 use Rattle.std.specs.Option.{option_map, option_map_or}
+use Rattle.std.proofs.Math.Nat.{le-max_left, le-max_right}
 use Rattle.std.proofs.lemmas.Bool.{cases_eq, eq-eqb, ne_eqb}
 use Rattle.std.proofs.lemmas.Bool.Decides.{nat_tests}
-use Rattle.std.proofs.lemmas.Option.{slice_get_past, slice_get_within}
+use Rattle.std.proofs.lemmas.Option.{slice_get_past}
 use Rattle.std.proofs.lemmas.List.Elements.{Contains-append_cases}
 use Rattle.cob_tree.specs.declared.form.Form.{Form}
 use Rattle.cob_tree.specs.declared.form.Form.TheVariants as form
@@ -16,10 +17,9 @@ use Rattle.cob_program.specs.Values.{◌>>=◌}
 use Rattle.cob_program.specs.Statements.{program_statements}
 use Rattle.cob_runs.specs.Contents.{item_at, form_at}
 use Rattle.dom_laws.specs.Meaning.{Storage}
-use Rattle.diff_bounds.specs.Matrix.{word, IsBound}
+use Rattle.diff_bounds.specs.Matrix.{word}
 use Rattle.diff_bounds.specs.Storages.{value_at, DifferBy, StandsIn}
 use Rattle.form_images.specs.Assigned.{with_value}
-use Rattle.form_images.specs.Forgotten.{AgreeBut}
 use Rattle.cell_storages.specs.Homes.{Home, of_item, of_count, is_home, home_of, if_named, item_homes, act_homes, count_homes, homes_of}
 use Rattle.cell_storages.specs.Storages as cells
 use Rattle.cell_edges.proofs.CellLists.{home_is}
@@ -120,7 +120,7 @@ module _ (l : Layout) (pack : Pack) where
   pub cell_value : (s : Storage) (k : ℕ) (h : Home) → slice_get pack k ≡ Some h → cells_in l pack s (suc k) ≡ option_map (λ v. v *ℤ pos (unit_of l pack h)) (cells.value_at l s h)
   cell_value s k h e = ap (λ (o : Option Home). o >>= λ g. option_map (λ v. v *ℤ pos (unit_of l pack g)) (cells.value_at l s g)) e
 
-  no_cell : (s : Storage) (k : ℕ) → length pack ≤ k → cells_in l pack s (suc k) ≡ None
+  pub no_cell : (s : Storage) (k : ℕ) → length pack ≤ k → cells_in l pack s (suc k) ≡ None
   no_cell s k h = ap (λ (o : Option Home). o >>= λ g. option_map (λ v. v *ℤ pos (unit_of l pack g)) (cells.value_at l s g)) (slice_get_past pack k h)
 
   -- Behind a change of storage, and a new value of one place.
@@ -203,6 +203,18 @@ module _ (l : Layout) (pack : Pack) where
 
 -- ---- the cell of a home
 
+pub found_cell : (pack : Pack) (h : Home) (k : ℕ) → cell_of pack h ≡ Some k → slice_get pack k ≡ Some h
+found_cell [] h k e = absurd cc
+found_cell (g ∷ pack) h k e = go (is_home g h) refl e (λ j f. found_cell pack h j f)
+  where
+    later : (o : Option ℕ) → option_map (λ j. suc j) o ≡ Some k → ((j : ℕ) → o ≡ Some j → slice_get pack j ≡ Some h) → slice_get (g ∷ pack) k ≡ Some h
+    later None e more = absurd cc
+    later (Some j) e more = let same : suc j ≡ k = cc in subst (λ (i : ℕ). slice_get (g ∷ pack) i ≡ Some h) same (more j refl)
+
+    go : (b : Bool) → is_home g h ≡ b → (if b then Some 0 else option_map (λ j. suc j) (cell_of pack h)) ≡ Some k → ((j : ℕ) → cell_of pack h ≡ Some j → slice_get pack j ≡ Some h) → slice_get (g ∷ pack) k ≡ Some h
+    go true is e more = let same : 0 ≡ k = cc in subst (λ (i : ℕ). slice_get (g ∷ pack) i ≡ Some h) same (ap Some (home_is g h is))
+    go false is e more = later (cell_of pack h) e more
+
 pub no_cell_of : (pack : Pack) (h : Home) → cell_of pack h ≡ None → (k : ℕ) → slice_get pack k ≡ Some h → ⊥
 no_cell_of [] h e k is = cc
 no_cell_of (g ∷ pack) h e k is = go (is_home g h) refl e k is (λ none j. no_cell_of pack h none j)
@@ -230,6 +242,11 @@ not_home pack h g k none e = go (is_home g h) refl
     go : (b : Bool) → is_home g h ≡ b → is_home g h ≡ false
     go true is = absurd (no_cell_of pack h none k (e ∙ ap Some (home_is g h is)))
     go false is = is
+
+pub decimals_within : (l : Layout) (pack : Pack) (k : ℕ) (h : Home) → slice_get pack k ≡ Some h → decimals_of l h ≤ pack_decimals l pack
+decimals_within l [] k h e = absurd cc
+decimals_within l (g ∷ pack) zero h e = let same : g ≡ h = cc in subst (λ (j : Home). decimals_of l j ≤ max (decimals_of l g) (pack_decimals l pack)) same (le-max_left (decimals_of l g) (pack_decimals l pack))
+decimals_within l (g ∷ pack) (suc k) h e = let more = decimals_within l pack k h e in let right = le-max_right (decimals_of l g) (pack_decimals l pack) in omega (arith, more, right)
 
 -- ---- items with cells
 

@@ -1,5 +1,5 @@
 -- Values that stand in words stand in their closing, whatever the words are.
-use Rattle.std.proofs.Common.{◌≡◌, ◌≢◌, ℕ, zero, suc, ◌+◌, ◌<◌, ◌≤◌, Bool, true, false, ◌&&◌, List, ℤ, pos, ◌+ℤ◌, ◌≤ℤ◌, Option, Some, None, ◌⊎◌, inl, inr, refl, sym, ap, subst, ◌∙◌, arith}
+use Rattle.std.proofs.Common.{◌≡◌, ◌≢◌, ℕ, zero, suc, ◌+◌, ◌<◌, ◌≤◌, Bool, true, false, ◌&&◌, List, ℤ, pos, ◌+ℤ◌, ◌≤ℤ◌, Option, Some, None, ◌⊎◌, inl, inr, refl, sym, subst, ◌∙◌, arith}
 use Rattle.std.specs.Prelude.{IsSomeAnd, int_lt, int_le, if◌then◌else◌}
 use Rattle.std.specs.Int.{int_min}
 use Rattle.std.proofs.lemmas.Int.{ints, clamps}
@@ -11,7 +11,7 @@ use Rattle.diff_bounds.specs.Sums.{no_path, IsSum}
 use Rattle.diff_bounds.specs.Storages.{value_at, DifferBy, StandsIn}
 use Rattle.diff_bounds.proofs.Standing.{differ_more}
 use Rattle.diff_bounds.proofs.Steps.{cut_bound}
-use Rattle.closed_matrices.specs.Closed.{opened, lesser, through, is_tame, if_tame, sums_further, sums_through, cut_sums, closed}
+use Rattle.closed_matrices.specs.Closed.{opened, lesser, through, is_tame, sums_further, sums_through, cut_sums, closed}
 use Rattle.diff_steps.specs.Matrices.{with_words}
 use Rattle.pack_laws.proofs.Words.{word_at}
 use Rattle.pack_edges.proofs.PacksPutRise.{IsFlat}

@@ -1,38 +1,35 @@
 -- A counter with a cell in a pack gets a number.
-use Rattle.std.proofs.Common.{◌≡◌, ◌≢◌, ℕ, zero, suc, ◌+◌, ◌-◌, ◌*◌, ◌^◌, ◌<◌, ◌≤◌, ◌==◌, Bool, true, false, List, ℤ, pos, ◌+ℤ◌, ◌*ℤ◌, ◌≤ℤ◌, Option, Some, None, refl, sym, ap, subst, ◌∙◌, arith}
+use Rattle.std.proofs.Common.{◌≡◌, ℕ, suc, ◌+◌, ◌-◌, ◌^◌, ◌≤◌, ◌==◌, true, false, List, ℤ, pos, ◌+ℤ◌, ◌*ℤ◌, ◌≤ℤ◌, Option, Some, None, refl, ap, subst, ◌∙◌, arith}
 use Rattle.std.specs.Prelude.{IfSome, slice_get, slice_set}
 use Rattle.std.specs.Option.{option_map}
 use Rattle.std.proofs.lemmas.Int.{ints}
-use Rattle.std.proofs.lemmas.Bool.{eqb-true, eq-eqb}
+use Rattle.std.proofs.lemmas.Bool.{eq-eqb}
 use Rattle.std.proofs.lemmas.Option.{slice_get_within}
 use Rattle.dec_num.specs.declared.types.Scaled.{Scaled}
 use Rattle.dec_num.specs.Exact.{Fraction}
 use Rattle.dec_num.specs.Scaled.{value_of}
 use Rattle.cob_program.specs.Act.{Act, Program}
 use Rattle.cob_runs.specs.declared.action.Action.{Action}
-use Rattle.cob_edge_parts.specs.Meaning.{Moment, count_in}
+use Rattle.cob_edge_parts.specs.Meaning.{Moment}
 use Rattle.linear_form.specs.declared.form.Lin.{Lin}
 use Rattle.linear_form.specs.Forms.{coef, dot}
 use Rattle.diff_bounds.specs.Matrix.{word}
 use Rattle.diff_bounds.specs.Storages.{StandsIn}
-use Rattle.form_bounds.specs.Values.{worths, values_in}
+use Rattle.form_bounds.specs.Values.{worths}
 use Rattle.form_images.specs.Assigned.{with_value, IsValue}
-use Rattle.store_error.specs.Scales.{Spans}
 use Rattle.cell_rows.specs.Known.{Known}
-use Rattle.cell_storages.specs.Homes.{Home, of_item, of_count, is_home, homes_of}
+use Rattle.cell_storages.specs.Homes.{Home, of_item, of_count, is_home}
 use Rattle.cell_storages.specs.Storages as values
 use Rattle.cell_storages.specs.Storages.{storage}
 use Rattle.cell_steps.specs.Agreeing.{IsSoundEdge}
 use Rattle.cell_edges.proofs.Counters.{count_set, count_elsewhere, differs}
 use Rattle.diff_steps.specs.Packs.{Pack, size_of, cell_of, pack_decimals, unit_of, cells_in, PackStands}
-use Rattle.diff_steps.specs.Matrices.{forgotten}
 use Rattle.diff_steps.specs.Stores.{assigned_or_forgotten}
 use Rattle.diff_steps.specs.Steps.{counter_stored, counted_pack}
 use Rattle.pack_laws.specs.Orders.{IsShown}
-use Rattle.pack_laws.proofs.Kept.{forgotten_stands, assigned_stands}
+use Rattle.pack_laws.proofs.Kept.{assigned_stands}
 use Rattle.pack_edges.specs.Agreeing.{IsPackOf}
-use Rattle.pack_edges.proofs.FormsShowSums.{cell_there}
-use Rattle.pack_edges.proofs.PacksKeepCells.{cell_value, all_left, put_all, with_any, not_home, other_cell}
+use Rattle.pack_edges.proofs.PacksKeepCells.{found_cell, cell_value, all_left, put_all, with_any, not_home, other_cell}
 
 -- two decimals of one value are shown by the same forms
 pub same_shown : (size : ℕ) (cells : ℕ → Option ℤ) (form : Lin) (d v : Scaled) (f : ℕ) → value_of v ≡ value_of d → IsShown size cells form d f → IsShown size cells form v f
@@ -102,7 +99,7 @@ module _ (p : Program) (statement : ℕ) (a : Act) (x : Action) (sound : IsSound
           all_left p.layout pack (storage m.storage m.counts) (storage m.storage (slice_set m.counts (k - 1) (Some v.units))) w
           (λ j h f. elsewhere m.storage m.counts k v.units first j h f (not_home pack (of_count k) h j e f)) stands
       by_cell (Some at) e =
-          let f = cell_there pack (of_count k) at e in
+          let f = found_cell pack (of_count k) at e in
           put_all p.layout pack (storage m.storage m.counts) (storage m.storage (slice_set m.counts (k - 1) (Some v.units))) at (v.units *ℤ pos (10 ^ pack_decimals p.layout pack))
           (assigned_or_forgotten (size_of pack) (suc at) form w) (new_value at f)
           (λ j h ne g. elsewhere m.storage m.counts k v.units first j h g (other_cell p pack of (of_count k) h at j f g ne))

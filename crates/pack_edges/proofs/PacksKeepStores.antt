@@ -1,5 +1,5 @@
 -- Stores: what is known of differences behind them is true of what a run leaves.
-use Rattle.std.proofs.Common.{◌≡◌, ◌≢◌, ◌<◌, ◌≤◌, ℕ, zero, suc, ◌+◌, ◌-◌, ◌^◌, Bool, true, false, ◌&&◌, ◌||◌, not, if◌then◌else◌, inl, inr, List, [], ◌∷◌, ◌++◌, length, Option, Some, None, is_some, ℤ, pos, ◌*ℤ◌, refl, sym, ap, subst, ◌∙◌, arith}
+use Rattle.std.proofs.Common.{◌≡◌, ◌<◌, ◌≤◌, ℕ, suc, ◌+◌, ◌-◌, ◌^◌, Bool, true, false, ◌&&◌, ◌||◌, not, if◌then◌else◌, List, length, Option, Some, None, is_some, ℤ, pos, ◌*ℤ◌, refl, sym, ap, subst, ◌∙◌, arith}
 use Rattle.std.specs.Prelude.{IfSome, IsSomeAnd, nat_lt, slice_get, unsigned_abs}
 use Rattle.std.specs.Option.{option_map, option_map_or}
 use Rattle.std.proofs.lemmas.Bool.Decides.{nat_tests}
@@ -19,15 +19,14 @@ use Rattle.cob_program.specs.Act.{Act, Program}
 use Rattle.cob_runs.specs.declared.action.Action.{Action}
 use Rattle.cob_runs.specs.Contents.{form_at, item_at, bytes_of, digits_of, scale_of, scaled_by, number_at, filled_at, if_held, stored as stored_units}
 use Rattle.cob_runs.specs.Moves.{takes_number}
-use Rattle.cob_edge_parts.specs.Parts.{Amount, moved, computed, remaining, augmented, Part, store}
-use Rattle.cob_edge_parts.specs.Meaning.{Moment, with_storage, with_failure, is_left_alone, stored_bytes, stored_or_kept, amount, Stores}
+use Rattle.cob_edge_parts.specs.Parts.{Amount, moved, computed, remaining, augmented, Part}
+use Rattle.cob_edge_parts.specs.Meaning.{Moment, with_storage, is_left_alone, stored_bytes, stored_or_kept, amount, Stores}
 use Rattle.linear_form.specs.declared.form.Lin.{Lin}
 use Rattle.linear_form.specs.Forms.{coef, dot}
 use Rattle.diff_bounds.specs.Matrix.{word}
 use Rattle.diff_bounds.specs.Storages.{StandsIn}
 use Rattle.form_bounds.specs.Values.{worths}
 use Rattle.form_images.specs.Assigned.{with_value}
-use Rattle.store_error.specs.declared.known.Known as sure
 use Rattle.store_error.specs.Errors.{AreSure}
 use Rattle.store_error.specs.Scales.{Spans}
 use Rattle.sum_ranges.specs.declared.ranged.Ranged.{Ranged}
@@ -46,28 +45,27 @@ use Rattle.cell_storages.specs.Homes.{Home, of_item, is_home}
 use Rattle.cell_storages.specs.Storages as values
 use Rattle.cell_storages.specs.Storages.{storage}
 use Rattle.cell_steps.specs.Cells.{is_beside}
-use Rattle.cell_steps.specs.Operands.{edge_amount, amount_of, is_remainder}
+use Rattle.cell_steps.specs.Operands.{amount_of, is_remainder}
 use Rattle.cell_steps.specs.Seen.{Seen}
 use Rattle.cell_steps.specs.Stores.{range_at, handled, may_vanish, amount_at, result_at, may_exceed, may_fail, may_fit}
-use Rattle.cell_steps.specs.Agreeing.{IsSoundEdge, of_operands}
-use Rattle.cell_edges.proofs.WalkLaws as cells
+use Rattle.cell_steps.specs.Agreeing.{of_operands}
 use Rattle.cell_edges.proofs.PartsDone.{and_true}
 use Rattle.cell_edges.proofs.OperandsRise.{or_left, or_right}
-use Rattle.cell_edges.proofs.Frames.{filled_length, others_stay, held_value}
+use Rattle.cell_edges.proofs.Frames.{others_stay, held_value}
 use Rattle.cell_edges.proofs.StoresKeep.{then_holds, then_is, TakenAt, HasRoot, amount_there, its_amount, amount_meant}
-use Rattle.diff_steps.specs.Packs.{Pack, size_of, cell_of, decimals_of, pack_decimals, unit_of, cells_in, PackStands}
+use Rattle.diff_steps.specs.Packs.{Pack, size_of, cell_of, pack_decimals, unit_of, cells_in, PackStands}
 use Rattle.diff_steps.specs.Matrices.{bottom}
 use Rattle.diff_steps.specs.Moments.{Bytes}
 use Rattle.diff_steps.specs.Forms.{amount_form, has_operands}
-use Rattle.diff_steps.specs.Stores.{known_of_amount, form_stored, forgotten_cells}
+use Rattle.diff_steps.specs.Stores.{known_of_amount, forgotten_cells}
 use Rattle.diff_steps.specs.Steps.{by_outcome, is_other, form_at_cell, stored_cell, stored_pack, is_lost, lost_pack, pack_behind_store}
 use Rattle.pack_laws.specs.Orders.{IsShown}
 use Rattle.pack_laws.proofs.Stored.{form_stands}
 use Rattle.pack_laws.proofs.Signs.{known_is_sure}
 use Rattle.pack_edges.specs.Agreeing.{IsPackOf}
-use Rattle.pack_edges.specs.Showing.{ShowsAt, ShowsValueAt}
-use Rattle.pack_edges.proofs.FormsShowSums.{cell_there, decimals_within}
-use Rattle.pack_edges.proofs.PacksKeepCells.{cell_value, homes_left, put_left, with_any, not_home, other_cell, edited_apart}
+use Rattle.pack_edges.specs.Showing.{ShowsValueAt}
+use Rattle.pack_edges.proofs.CellLaws.{cell_laws}
+use Rattle.pack_edges.proofs.PacksKeepCells.{found_cell, decimals_within, cell_value, homes_left, put_left, with_any, not_home, other_cell, edited_apart}
 use Rattle.pack_edges.proofs.PacksKeepCounters.{same_shown}
 
 -- ---- the bytes of a number
@@ -92,7 +90,7 @@ item_there p place takes = go (item_at p.layout place) refl
         let f : takes_number form.Group ≡ true = subst (λ (k : Form). takes_number k ≡ true) none takes in
         absurd cc
 
-module _ (given : cells.Given) (p : Program) (statement : ℕ) (a : Act) (x : Action) (done : List Part) (place : ℕ) (mode : Mode) (y : Amount) (t : Seen) (m : Moment) (g : TakenAt p statement a x done t m)
+module _ (p : Program) (statement : ℕ) (a : Act) (x : Action) (done : List Part) (place : ℕ) (mode : Mode) (y : Amount) (t : Seen) (m : Moment) (g : TakenAt p statement a x done t m)
     (q : IsStored a x done place y) (takes : takes_number (form_at p.layout place) ≡ true) where
   -- ---- what a store does to storage
 
@@ -112,14 +110,14 @@ module _ (given : cells.Given) (p : Program) (statement : ℕ) (a : Act) (x : Ac
   -- the item gets its number, as it is read back, and items that have none of its bytes keep theirs
   record IsFilled (held : List ℕ) (v : Fraction) : Type 0 where
     others : (h : Home) → is_beside p.layout place h ≡ false → values.value_at p.layout (storage (filled_at p.layout m.storage place held) m.counts) h ≡ values.value_at p.layout (storage m.storage m.counts) h
-    its : ((picture : List ℕ) (digits scale : ℕ) → form_at p.layout place ≡ form.Edited picture digits scale → ⊥)
+    new : ((picture : List ℕ) (digits scale : ℕ) → form_at p.layout place ≡ form.Edited picture digits scale → ⊥)
         → values.value_at p.layout (storage (filled_at p.layout m.storage place held) m.counts) (of_item place) ≡ Some (kept_units (receiver_of (form_at p.layout place)).signed (near mode v (pos (receiver_of (form_at p.layout place)).scale)))
 
   filled : (held : List ℕ) (is : Gets held) → IsFilled held is.v
   filled held is = by_item (item_there p place takes)
     where
       by_item : (i : Item) × (item_at p.layout place ≡ Some i) → IsFilled held is.v
-      by_item (item, at) = record { others = λ h e. others_stay p.layout place item at m.storage held m.counts long within h e; its = λ uncut. by_form (form_at p.layout place) refl uncut }
+      by_item (item, at) = record { others = λ h e. others_stay p.layout place item at m.storage held m.counts long within h e; new = λ uncut. by_form (form_at p.layout place) refl uncut }
         where
           its_form : form_at p.layout place ≡ item.form
           its_form = ap (λ (o : Option Item). option_map_or (λ k. k.form) o form.Group) at
@@ -160,28 +158,28 @@ module _ (given : cells.Given) (p : Program) (statement : ℕ) (a : Act) (x : Ac
   receiver_scale (form.Number digits scale signed kept) = refl
 
   module _ (pack : Pack) (of : IsPackOf p pack) (few : size_of pack ≤ 8) (wrote : List Bytes) (w : List ℤ) (stands : PackStands p.layout pack w (storage m.storage m.counts)) where
-    abbrev Before : ℕ → Option ℤ
-    Before = cells_in p.layout pack (storage m.storage m.counts)
+    abbrev values_before : ℕ → Option ℤ
+    values_before = cells_in p.layout pack (storage m.storage m.counts)
 
     abbrev to_scale : ℕ
     to_scale = (receiver_of (form_at p.layout place)).scale
 
     -- a decimal of which what is said to be known is so
-    record IsKnown (g_form : Lin) (o : Option AmountRange) (v : Fraction) : Type 0 where
+    record IsKnown (f : Lin) (o : Option AmountRange) (v : Fraction) : Type 0 where
       u : Scaled
       same : v ≡ value_of u
-      shown : IsShown (size_of pack) Before g_form u (pack_decimals p.layout pack)
-      sure_ : AreSure (known_of_amount (size_of pack) w g_form to_scale o) u to_scale
+      shown : IsShown (size_of pack) values_before f u (pack_decimals p.layout pack)
+      sure_ : AreSure (known_of_amount (size_of pack) w f to_scale o) u to_scale
 
-    known_of : (f : Lin) (v : Fraction) (d : Scaled) → v ≡ value_of d → IsShown (size_of pack) Before f d (pack_decimals p.layout pack) → (o : Option AmountRange) → IsSomeAnd o (λ r. IsAmount r v) → IsKnown f o v
+    known_of : (f : Lin) (v : Fraction) (d : Scaled) → v ≡ value_of d → IsShown (size_of pack) values_before f d (pack_decimals p.layout pack) → (o : Option AmountRange) → IsSomeAnd o (λ r. IsAmount r v) → IsKnown f o v
     known_of f v d e shown None h = absurd h
     known_of f v d e shown (Some (range.Decimal r)) (u, inside, same) =
-        let its = same_shown (size_of pack) Before f d u (pack_decimals p.layout pack) (sym same ∙ e) shown in
+        let its = same_shown (size_of pack) values_before f d u (pack_decimals p.layout pack) (sym same ∙ e) shown in
         record {
           u = u;
           same = same;
           shown = its;
-          sure_ = known_is_sure (size_of pack) w Before few stands f its.over u (pack_decimals p.layout pack) its.spans to_scale r inside;
+          sure_ = known_is_sure (size_of pack) w values_before few stands f its.over u (pack_decimals p.layout pack) its.spans to_scale r inside;
         }
     known_of f v d e shown (Some (range.Quotient top under)) h = record { u = d; same = e; shown = shown; sure_ = record { whole = λ k. absurd cc; not_negative = λ k. absurd cc; not_positive = λ k. absurd cc } }
     known_of f v d e shown (Some (range.Remainder top under scale)) h = record { u = d; same = e; shown = shown; sure_ = record { whole = λ k. absurd cc; not_negative = λ k. absurd cc; not_positive = λ k. absurd cc } }
@@ -190,16 +188,16 @@ module _ (given : cells.Given) (p : Program) (statement : ℕ) (a : Act) (x : Ac
     its_units v = kept_units (receiver_of (form_at p.layout place)).signed (near mode v (pos to_scale)) *ℤ pos (unit_of p.layout pack (of_item place))
 
     cell_stands : (at : ℕ) → slice_get pack at ≡ Some (of_item place) → (v : Fraction) → IsSomeAnd (amount_at p a x t place y) (λ r. IsAmount r v) → (o : Option Lin) → IfSome o (ShowsValueAt p.layout pack m v)
-        → StandsIn (size_of pack + 1) (word (size_of pack + 1) (form_at_cell p a x t place mode y pack (suc at) o w)) (with_value Before (suc at) (its_units v))
-    cell_stands at e v meant None h = with_any (size_of pack) w Before (suc at) (its_units v) (let lt = slice_get_within pack at (of_item place) e in omega (arith, lt)) stands
+        → StandsIn (size_of pack + 1) (word (size_of pack + 1) (form_at_cell p a x t place mode y pack (suc at) o w)) (with_value values_before (suc at) (its_units v))
+    cell_stands at e v meant None h = with_any (size_of pack) w values_before (suc at) (its_units v) (let lt = slice_get_within pack at (of_item place) e in omega (arith, lt)) stands
     cell_stands at e v meant (Some f) (d, same, shown) =
         let k = known_of f v d same shown (amount_at p a x t place y) meant in
         let scales : to_scale + (pack_decimals p.layout pack - scale_of (form_at p.layout place)) ≡ pack_decimals p.layout pack =
         (let le = decimals_within p.layout pack at (of_item place) e in let rs = receiver_scale (form_at p.layout place) in omega (arith, le, rs)) in
-        subst (λ (q : Fraction). StandsIn (size_of pack + 1) (word (size_of pack + 1) (form_at_cell p a x t place mode y pack (suc at) (Some f) w)) (with_value Before (suc at) (its_units q))) (sym k.same)
-        (form_stands (size_of pack) Before w (suc at) few (omega arith) (let lt = slice_get_within pack at (of_item place) e in omega (arith, lt)) stands
+        subst (λ (q : Fraction). StandsIn (size_of pack + 1) (word (size_of pack + 1) (form_at_cell p a x t place mode y pack (suc at) (Some f) w)) (with_value values_before (suc at) (its_units q))) (sym k.same)
+        (form_stands (size_of pack) values_before w (suc at) few (omega arith) (let lt = slice_get_within pack at (of_item place) e in omega (arith, lt)) stands
         f (receiver_of (form_at p.layout place)).signed mode (known_of_amount (size_of pack) w f to_scale (amount_at p a x t place y)) k.u to_scale (pack_decimals p.layout pack - scale_of (form_at p.layout place))
-        k.shown.over k.shown.operands k.sure_ (subst (λ (n : ℕ). Spans (dot (coef f) (λ j. worths Before (suc j)) 8) f.constant k.u n) (sym scales) k.shown.spans))
+        k.shown.over k.shown.operands k.sure_ (subst (λ (n : ℕ). Spans (dot (coef f) (λ j. worths values_before (suc j)) 8) f.constant k.u n) (sym scales) k.shown.spans))
 
     other_test : (h : Home) → is_other p a x place h ≡ false → is_home h (of_item place) ≡ false → is_beside p.layout place h ≡ false
     other_test h e ne = go (is_beside p.layout place h) (is_home h (of_item place)) ne e
@@ -231,11 +229,11 @@ module _ (given : cells.Given) (p : Program) (statement : ℕ) (a : Act) (x : Ac
             homes_left p.layout pack (is_other p a x place) (storage m.storage m.counts) (storage (filled_at p.layout m.storage place held) m.counts) w
             (λ k h f is_left. fill.others h (other_test h is_left (not_home pack (of_item place) h k e f))) stands
         by_cell (Some at) e =
-            let f = cell_there pack (of_item place) at e in
+            let f = found_cell pack (of_item place) at e in
             put_left p.layout pack (is_other p a x place) (storage m.storage m.counts) (storage (filled_at p.layout m.storage place held) m.counts) at (its_units is.v)
             (form_at_cell p a x t place mode y pack (suc at) (amount_form p pack t wrote place y) w)
             (cell_value p.layout pack (storage (filled_at p.layout m.storage place held) m.counts) at (of_item place) f
-            ∙ ap (λ (o : Option ℤ). option_map (λ z. z *ℤ pos (unit_of p.layout pack (of_item place))) o) (fill.its (λ picture digits scale k. edited_apart p place digits scale picture k (of.homes at (of_item place) f))))
+            ∙ ap (λ (o : Option ℤ). option_map (λ z. z *ℤ pos (unit_of p.layout pack (of_item place))) o) (fill.new (λ picture digits scale k. edited_apart p place digits scale picture k (of.homes at (of_item place) f))))
             (slice_get_within pack at (of_item place) f)
             (λ k h ne k_is is_left. fill.others h (other_test h is_left (other_cell p pack of (of_item place) h at k f k_is ne)))
             (cell_stands at f is.v (amount_meant p statement a x done place y t m g q unzero is.v is.worth_) (amount_form p pack t wrote place y) shown)
@@ -251,32 +249,27 @@ module _ (given : cells.Given) (p : Program) (statement : ℕ) (a : Act) (x : Ac
 
   -- ---- why a receiver may keep its value
 
-  abbrev E : Bool
-  E = may_exceed p a x t place mode y
-
-  abbrev V : Bool
-  V = may_vanish t.common y
-
-  abbrev R : Bool
-  R = is_remainder y && t.any_fail
+  -- besides a result that doesn't fit
+  abbrev other_failures : Bool
+  other_failures = t.may_zero || (may_vanish t.common y || (is_remainder y && t.any_fail))
 
   -- a remainder of what is no quotient has no range
-  no_root : (s : Sum) (scale : ℕ) → y ≡ remaining s scale → root_of s ≡ None → E ≡ true
+  no_root : (s : Sum) (scale : ℕ) → y ≡ remaining s scale → root_of s ≡ None → may_exceed p a x t place mode y ≡ true
   no_root s scale same none =
       by_taken (sum_range (range_at p g.taken.0) s)
       (g.taken.1 ∙ (ap (λ (o : Option Amount). o >>= operands (range_at p g.taken.0)) (its_amount p statement a x done place y q ∙ ap (λ (u : Amount). Some (of_operands u)) same) ∙ ap (taken_from (range_at p g.taken.0) s) none))
     where
-      by_taken : (o : Option Ranged) → t.common ≡ option_map alone o → E ≡ true
+      by_taken : (o : Option Ranged) → t.common ≡ option_map alone o → may_exceed p a x t place mode y ≡ true
       by_taken None e = subst (λ (c : Option Taken). option_map_or (result.may_fail mode (receiver_of (form_at p.layout place))) (c >>= amount_of y (range_at p t.cells place)) true ≡ true) (sym e) refl
       by_taken (Some r) e = subst (λ (c : Option Taken). option_map_or (result.may_fail mode (receiver_of (form_at p.layout place))) (c >>= amount_of y (range_at p t.cells place)) true ≡ true) (sym e)
           (subst (λ (u : Amount). option_map_or (result.may_fail mode (receiver_of (form_at p.layout place))) (amount_of u (range_at p t.cells place) (alone r)) true ≡ true) (sym same) refl)
 
-  exceeds : m.by_zero ≡ false → stored_bytes p.layout m place mode y ≡ None → E ≡ true
+  exceeds : m.by_zero ≡ false → stored_bytes p.layout m place mode y ≡ None → may_exceed p a x t place mode y ≡ true
   exceeds unzero e = by_amount (amount p.layout m y) refl e
     where
       told : (o : Option AmountRange) (v : Fraction) → IsSomeAnd o (λ r. IsAmount r v) → stored_units mode (form_at p.layout place) v ≡ None → option_map_or (result.may_fail mode (receiver_of (form_at p.layout place))) o true ≡ true
       told None v h f = absurd h
-      told (Some r) v h f = given.fails_ mode (form_at p.layout place) r v h f
+      told (Some r) v h f = cell_laws.fails_ mode (form_at p.layout place) r v h f
 
       nothing_there : amount p.layout m y ≡ None → is_some (amount p.layout m y) ≡ true → ⊥
       nothing_there f h = cc
@@ -284,7 +277,7 @@ module _ (given : cells.Given) (p : Program) (statement : ℕ) (a : Act) (x : Ac
       there : HasRoot p statement a x y → is_some (amount p.layout m y) ≡ true
       there root = amount_there p statement a x done place y t m g q unzero root
 
-      by_root : (s : Sum) (scale : ℕ) → y ≡ remaining s scale → amount p.layout m y ≡ None → (b : Bool) → is_some (root_of s) ≡ b → E ≡ true
+      by_root : (s : Sum) (scale : ℕ) → y ≡ remaining s scale → amount p.layout m y ≡ None → (b : Bool) → is_some (root_of s) ≡ b → may_exceed p a x t place mode y ≡ true
       by_root s scale same f true k = absurd (nothing_there f (there (subst (λ (u : Amount). HasRoot p statement a x u) (sym same) k)))
       by_root s scale same f false k = no_root s scale same (none_is (root_of s) k)
         where
@@ -292,29 +285,29 @@ module _ (given : cells.Given) (p : Program) (statement : ℕ) (a : Act) (x : Ac
           none_is None h = refl
           none_is (Some c) h = absurd cc
 
-      by_kind : (u : Amount) → y ≡ u → amount p.layout m y ≡ None → E ≡ true
+      by_kind : (u : Amount) → y ≡ u → amount p.layout m y ≡ None → may_exceed p a x t place mode y ≡ true
       by_kind (remaining s scale) same f = by_root s scale same f (is_some (root_of s)) refl
       by_kind (computed s h) same f = absurd (nothing_there f (there (subst (λ (u : Amount). HasRoot p statement a x u) (sym same) tt)))
       by_kind (moved h) same f = absurd (nothing_there f (there (subst (λ (u : Amount). HasRoot p statement a x u) (sym same) tt)))
       by_kind (augmented h) same f = absurd (nothing_there f (there (subst (λ (u : Amount). HasRoot p statement a x u) (sym same) tt)))
 
-      by_amount : (o : Option Fraction) → amount p.layout m y ≡ o → (o >>= stored_units mode (form_at p.layout place)) ≡ None → E ≡ true
+      by_amount : (o : Option Fraction) → amount p.layout m y ≡ o → (o >>= stored_units mode (form_at p.layout place)) ≡ None → may_exceed p a x t place mode y ≡ true
       by_amount None f h = by_kind y refl f
       by_amount (Some v) f h = told (amount_at p a x t place y) v (amount_meant p statement a x done place y t m g q unzero v f) h
 
-  fails_by : handled p a x ≡ true → (E || (t.may_zero || (V || R))) ≡ true → may_fail p a x t place mode y ≡ true
-  fails_by on e = and_true (handled p a x) (E || (t.may_zero || (V || R))) on e
+  fails_by : handled p a x ≡ true → (may_exceed p a x t place mode y || other_failures) ≡ true → may_fail p a x t place mode y ≡ true
+  fails_by on e = and_true (handled p a x) (may_exceed p a x t place mode y || other_failures) on e
 
   -- a remainder behind a failed quotient, and what stands behind a divisor that is 0
-  alone_fails : is_left_alone m y ≡ true → (E || (t.may_zero || (V || R))) ≡ true
+  alone_fails : is_left_alone m y ≡ true → (may_exceed p a x t place mode y || other_failures) ≡ true
   alone_fails e = by_zero m.by_zero refl y refl e
     where
-      by_quotient : (b : Bool) → m.by_zero ≡ b → is_remainder y ≡ true → (b || m.failed) ≡ true → b ≡ false → (E || (t.may_zero || (V || R))) ≡ true
+      by_quotient : (b : Bool) → m.by_zero ≡ b → is_remainder y ≡ true → (b || m.failed) ≡ true → b ≡ false → (may_exceed p a x t place mode y || other_failures) ≡ true
       by_quotient true f k h z = absurd cc
-      by_quotient false f k h z = or_right E (t.may_zero || (V || R)) (or_right t.may_zero (V || R) (or_right V R (and_true (is_remainder y) t.any_fail k (g.fails h f))))
+      by_quotient false f k h z = or_right (may_exceed p a x t place mode y) other_failures (or_right t.may_zero (may_vanish t.common y || (is_remainder y && t.any_fail)) (or_right (may_vanish t.common y) (is_remainder y && t.any_fail) (and_true (is_remainder y) t.any_fail k (g.fails h f))))
 
-      by_zero : (b : Bool) → m.by_zero ≡ b → (u : Amount) → y ≡ u → is_left_alone m u ≡ true → (E || (t.may_zero || (V || R))) ≡ true
-      by_zero true f u same h = or_right E (t.may_zero || (V || R)) (or_left t.may_zero (V || R) (g.zero f))
+      by_zero : (b : Bool) → m.by_zero ≡ b → (u : Amount) → y ≡ u → is_left_alone m u ≡ true → (may_exceed p a x t place mode y || other_failures) ≡ true
+      by_zero true f u same h = or_right (may_exceed p a x t place mode y) other_failures (or_left t.may_zero (may_vanish t.common y || (is_remainder y && t.any_fail)) (g.zero f))
       by_zero false f (remaining s scale) same h = by_quotient false f (ap is_remainder same) (subst (λ (b : Bool). (b || m.failed) ≡ true) f h) refl
       by_zero false f (computed s k) same h = absurd cc
       by_zero false f (moved k) same h = absurd cc
@@ -348,7 +341,7 @@ module _ (given : cells.Given) (p : Program) (statement : ℕ) (a : Act) (x : Ac
         fits =
             let v = then_is (amount p.layout m y) (stored_units mode (form_at p.layout place)) held e in
             then_holds (λ (r : AmountRange). IsAmount r v.0) (λ i. (z : ℤ) × Holds i z × (held ≡ bytes_of (form_at p.layout place) z)) (amount_at p a x t place y) (result_range mode (receiver_of (form_at p.layout place)))
-            (amount_meant p statement a x done place y t m g q unzero v.0 v.1) (λ r h. given.fits_ mode (form_at p.layout place) r v.0 held h v.2)
+            (amount_meant p statement a x done place y t m g q unzero v.0 v.1) (λ r h. cell_laws.fits_ mode (form_at p.layout place) r v.0 held h v.2)
 
         never : {A : Type 0} (P : A → Type 0) (o : Option A) → IsSomeAnd o P → is_some o ≡ false → ⊥
         never P None h f = h
@@ -363,7 +356,7 @@ module _ (given : cells.Given) (p : Program) (statement : ℕ) (a : Act) (x : Ac
     store_stands n off_zero h = by_edge (handled p a x) refl h
       where
         by_bytes : handled p a x ≡ true → m.by_zero ≡ false → (o : Option (List ℕ)) → stored_bytes p.layout m place mode y ≡ o → Behind (stored_or_kept p.layout m place o)
-        by_bytes on unzero None e = kept (fails_by on (or_left E (t.may_zero || (V || R)) (exceeds unzero e)))
+        by_bytes on unzero None e = kept (fails_by on (or_left (may_exceed p a x t place mode y) other_failures (exceeds unzero e)))
         by_bytes on unzero (Some held) e = fitted held unzero e
 
         not_alone : (u : Amount) → is_left_alone m u ≡ false → m.by_zero ≡ false

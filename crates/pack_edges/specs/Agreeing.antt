@@ -1,5 +1,5 @@
 -- When what is known of differences between two parts of an edge is true of a moment of a run.
-use Rattle.std.specs.Prelude.{◌≡◌, ◌≤◌, ℕ, false, List, [], ◌∷◌, ℤ, slice_get, Option, Some}
+use Rattle.std.specs.Prelude.{◌≡◌, ◌≤◌, ℕ, false, List, [], ◌∷◌, ℤ, slice_get, Some}
 use Rattle.std.specs.List.{Contains}
 use Rattle.cob_data.specs.declared.layout.Layout.{Layout}
 use Rattle.cob_program.specs.Act.{Act, Program}

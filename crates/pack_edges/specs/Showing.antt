@@ -31,7 +31,7 @@ use Rattle.diff_steps.specs.Steps.{guarded_pack}
 use Rattle.pack_laws.specs.Orders.{IsShown}
 use Rattle.pack_edges.specs.Agreeing.{IsTracked}
 
--- the decimal is one of the numbers that the form can be, in the pack's unit, where the pack's cells have their values at a moment
+-- the decimal is one of the numbers that the form can be, in the pack's unit, where cells have their values at a moment
 abbrev pub ShowsAt : Layout → Pack → Moment → Scaled → Lin → Type 0
 ShowsAt l pack m d form = IsShown (size_of pack) (cells_in l pack (storage m.storage m.counts)) form d (pack_decimals l pack)
 

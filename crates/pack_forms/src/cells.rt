@@ -30,8 +30,9 @@ pub(crate) fn is_same(one: PackCell, other: PackCell) -> bool
     }
 }
 
+/// The decimals of an item.
 #[tactic(auto, using(crate::proofs::Units::receiver_scale))]
-fn item_decimals(layout: &Layout, place: u32) -> u32
+pub(crate) fn item_decimals(layout: &Layout, place: u32) -> u32
     ensures { result ≡ scale_of (form_at layout.now place) }
 {
     receiver_at(layout, place).scale

@@ -57,7 +57,7 @@ product_turned v w =
     let e : v.scale + w.scale ≡ w.scale + v.scale = omega arith in
     ap (λ (n : ℕ). decimal (v.units *ℤ w.units) n) e ∙ ap (λ (u : ℤ). decimal u (w.scale + v.scale)) (*ℤ_comm v.units w.units)
 
-one_product : (y : Scaled) → product (whole_number (pos 1)) y ≡ y
+pub one_product : (y : Scaled) → product (whole_number (pos 1)) y ≡ y
 one_product y =
     let e : 0 + y.scale ≡ y.scale = omega arith in
     let u : pos 1 *ℤ y.units ≡ y.units = omega (arith, ints) in
@@ -67,7 +67,7 @@ module _ (f : ℕ) (cells : ℕ → ℤ) where
   abbrev Shown : Option Lin → Scaled → Type 0
   Shown o v = IfSome o (λ g. Shows f cells g v)
 
-  multiple_shows : (g : Lin) (k : ℤ) (v w : Scaled) → w.units ≡ k *ℤ pos (10 ^ w.scale) → Shows f cells g v → Shows f cells (multiple_of g k) (product v w)
+  pub multiple_shows : (g : Lin) (k : ℤ) (v w : Scaled) → w.units ≡ k *ℤ pos (10 ^ w.scale) → Shows f cells g v → Shows f cells (multiple_of g k) (product v w)
   multiple_shows g k v w is h =
       let e = dot_of_multiples (coef g) (coef (multiple_of g k)) cells k 8 (coef-coefs_of (scaled_coefs g k)) in
       subst (λ (s : ℤ). Spans s (scaled_constant g.constant k) (product v w) f) (sym e) (spans_times (dot (coef g) cells 8) g.constant v.units v.scale f k w.units w.scale is h)
@@ -77,7 +77,7 @@ module _ (f : ℕ) (cells : ℕ → ℤ) where
       if_then o (λ g. Shows f cells g v) (λ g. Shows f cells g (product v w)) (scaled_form k) h
       (λ g l. if_there (λ g. Shows f cells g (product v w)) (multiple_of g k) (multiple_shows g k v w is l))
 
-  minus_one : (v : Scaled) → product v (decimal (negsuc 0) 0) ≡ negated true v
+  pub minus_one : (v : Scaled) → product v (decimal (negsuc 0) 0) ≡ negated true v
   minus_one v =
       let e : v.scale + 0 ≡ v.scale = omega arith in
       let u : v.units *ℤ negsuc 0 ≡ neg_ℤ v.units = omega (arith, ints) in
@@ -94,7 +94,7 @@ module _ (f : ℕ) (cells : ℕ → ℤ) where
       let e : v.scale + (scale - v.scale) ≡ scale = omega arith in
       subst (λ (n : ℕ). Spans s g.constant (decimal (units_at v scale) n) f) e (spans_raised s g.constant v.units v.scale f (scale - v.scale) spans)
 
-  sum_shows : (a b : Lin) (v w : Scaled) → Shows f cells a v → Shows f cells b w → Shows f cells (sum_of a b) (plus v w)
+  pub sum_shows : (a b : Lin) (v w : Scaled) → Shows f cells a v → Shows f cells b w → Shows f cells (sum_of a b) (plus v w)
   sum_shows a b v w h k =
       let scale = joint_scale v w in
       let e = dot_of_sums (coef a) (coef b) (coef (sum_of a b)) cells 8 (coef-coefs_of (added_coefs a b)) in

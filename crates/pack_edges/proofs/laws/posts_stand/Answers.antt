@@ -1,5 +1,5 @@
+use Rattle.pack_edges.proofs.PacksStand.{all_packs_stand}
 use Rattle.pack_edges.proofs.laws.posts_stand.Goals as goal
-use Rattle.pack_edges.proofs.PacksKeep.{all_closed_stand}
 
 pub returns : goal.returns
-returns c = ?
+returns c = all_packs_stand
