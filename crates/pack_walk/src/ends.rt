@@ -22,9 +22,7 @@ ghost use Rattle.pack_walk.specs.Ends.{part_form, end_in_pack, some_end};
 ghost use Rattle.pack_walk.specs.Parts.{CanChange, IsWrittenTo};
 ghost use Rattle.pack_walk.specs.Plans.{plain_plan, plain_plans, IsPlanOf, ArePlansOf, matrices_for, IsRowFor};
 
-use crate::counters::{down_form, set_form};
 use crate::plans::{PackPlan, view_of};
-use crate::stores::form_of;
 use borrowed_parts::EdgePart;
 use cell_walk::{Kept, KnownItems};
 use cob_program::Program;
@@ -33,7 +31,7 @@ use dec_num::{Fit, Mode, Scaled, fit};
 use decimal_interval::Interval;
 use linear_form::Lin;
 use pack_changes::{shows_high, shows_low};
-use pack_forms::PackView;
+use pack_forms::{PackView, amount_form, lowered_form, set_form};
 use pack_rows::words_of;
 use result_ranges::Receiver;
 use sum_ranges::Ranged;
@@ -44,23 +42,23 @@ use sum_ranges::Ranged;
 fn form_for(
     items: &KnownItems,
     pack: &PackView,
-    size: usize,
     part: EdgePart,
     kept: &Kept,
     written: bool,
 ) -> Option<Lin>
-    requires size { length pack.now.cells.now ≡ size }
     requires unit { HasUnit (program_of items.now).layout pack.now }
     requires fits { CellsFit (owns (program_of items.now)) (known_in items.now) }
     requires can { CanChange (program_of items.now) (known_in items.now) kept.now.common (plain_part part) }
     ensures value { (wrote : List Bytes) → IsWrittenTo (program_of items.now).layout wrote written (plain_part part.entry)
         → result ≡ part_form (program_of items.now) (known_in items.now) kept.now.common wrote (plain_part part.entry) (plain_pack pack.now) }
-    ensures of_pack { IfSome result (IsFormOf size) }
+    ensures of_pack { IfSome result (IsFormOf (length pack.now.cells.now)) }
 {
     match part {
-        EdgePart::Store { item, amount, .. } => form_of(items, pack, size, item, amount, kept, written),
-        EdgePart::SetCount { count, .. } => set_form(items, pack, size, count, kept, written),
-        EdgePart::CountDown(number) => down_form(items, pack, size, number),
+        EdgePart::Store { item, amount, .. } => {
+            amount_form(items, pack, item, amount, kept.common, written)
+        }
+        EdgePart::SetCount { count, .. } => set_form(items, pack, count, kept.common, written),
+        EdgePart::CountDown(number) => lowered_form(items, pack, number),
         EdgePart::Read(_)
         | EdgePart::Unread
         | EdgePart::Divide(_)
@@ -81,8 +79,8 @@ fn end_fits(
     low: bool,
 ) -> bool
     requires size { size ≤ 8 }
-    requires m { IsMatrix size m.now }
-    requires form { IfSome form (IsFormOf size) }
+    requires m { IsMatrix (length pack.now.cells.now) m.now }
+    requires form { IfSome form (IsFormOf (length pack.now.cells.now)) }
     requires digits { receiver.digits ≤ 18 }
     requires scale { receiver.scale ≤ 18 }
     requires decimals { decimals ≤ 18 }
@@ -126,9 +124,8 @@ fn pack_shows(
         row,
     };
     let pack = view_of(plan);
-    let size = pack.cells.len();
-    let form = form_for(&items, &pack, size, part, kept, written);
-    end_fits(size, m, form, mode, receiver, plan.decimals, low)
+    let form = form_for(&items, &pack, part, kept, written);
+    end_fits(pack.cells.len(), m, form, mode, receiver, plan.decimals, low)
 }
 
 /// Whether the matrix of some pack shows that an end of what the receiver of a part gets fits it: the low end, or the high

@@ -5,7 +5,6 @@ ghost use Rattle.cob_runs.specs.Contents.{item_at};
 ghost use Rattle.diff_bounds.specs.Matrix.{IsMatrix};
 ghost use Rattle.cell_storages.specs.Homes.{of_item, is_home};
 ghost use Rattle.cell_steps.specs.Cells.{is_in_bytes, is_beside};
-ghost use Rattle.diff_steps.specs.Packs.{size_of};
 ghost use Rattle.diff_steps.specs.Stores.{forgotten_cells};
 ghost use Rattle.pack_forms.specs.Cells.{plain_cell, plain_cells};
 ghost use Rattle.pack_walk.specs.Gone.{is_gone};
@@ -93,15 +92,14 @@ fn mark(layout: &Layout, gone: Gone, cells: &[PackCell], marks: &mut [bool])
 }
 
 /// Leaves nothing that the matrix of a pack says of some cells.
-pub(crate) fn forget(layout: &Layout, gone: Gone, cells: &[PackCell], size: usize, m: &mut [i128])
-    requires size { length cells.now ≡ size }
-    requires few { size ≤ 8 }
-    requires m { IsMatrix size m.old }
-    ensures value { m.new ≡ forgotten_cells size (is_gone layout.now gone) 1 (plain_cells cells.now) m.old }
-    ensures matrix { IsMatrix size m.new }
+pub(crate) fn forget(layout: &Layout, gone: Gone, cells: &[PackCell], m: &mut [i128])
+    requires few { length cells.now ≤ 8 }
+    requires m { IsMatrix (length cells.now) m.old }
+    ensures value { m.new ≡ forgotten_cells (length cells.now) (is_gone layout.now gone) 1 (plain_cells cells.now) m.old }
+    ensures matrix { IsMatrix (length cells.now) m.new }
 {
     let mut room = [false; 8];
     let marks = &mut room[..cells.len()];
     mark(layout, gone, cells, marks);
-    forget_cells(size, m, marks);
+    forget_cells(cells.len(), m, marks);
 }

@@ -15,7 +15,6 @@ ghost use Rattle.cell_walk.specs.Kept.{latest_of};
 ghost use Rattle.diff_steps.specs.Forms as forms;
 ghost use Rattle.diff_steps.specs.Moments.{Bytes};
 ghost use Rattle.diff_steps.specs.Packs.{cell_of, decimals_of};
-ghost use Rattle.pack_changes.specs.Forms.{IsFormOf};
 ghost use Rattle.pack_forms.specs.Sizes.{HasSmallTop};
 ghost use Rattle.pack_forms.specs.Views.{plain_pack, HasUnit, program_of, known_in, taken_at};
 ghost use Rattle.pack_forms.specs.Writing.{amount_items, are_written};
@@ -26,7 +25,6 @@ use borrowed_parts::Amount;
 use cell_amounts::receiver_at;
 use cell_walk::{Kept, KnownItems};
 use dec_num::Mode;
-use linear_form::Lin;
 use pack_changes::store_at;
 use pack_forms::{PackCell, PackView, amount_form, cell_in, has_operands, unit_of};
 use pack_rows::set_least_matrix;
@@ -42,37 +40,10 @@ fn decimal_in(worked: Option<Taken>) -> Option<AmountRange>
     }
 }
 
-// ---- forms
-
-/// The form of what the receiver gets, over the cells of a pack.
-pub(crate) fn form_of(
-    items: &KnownItems,
-    pack: &PackView,
-    size: usize,
-    place: u32,
-    amount: Amount,
-    kept: &Kept,
-    written: bool,
-) -> Option<Lin>
-    requires size { length pack.now.cells.now ≡ size }
-    requires unit { HasUnit (program_of items.now).layout pack.now }
-    requires fits { CellsFit (owns (program_of items.now)) (known_in items.now) }
-    requires own { is_small (bound_at (program_of items.now).layout place) ≡ true }
-    requires sum { is_small_amount (bound_at (program_of items.now).layout) (plain_amount amount) ≡ true }
-    requires top { IfSome kept.now.common HasSmallTop }
-    requires can { IfSome kept.now.common (CanWork (plain_amount amount) (range_at (program_of items.now) (known_in items.now) place)) }
-    ensures value { (wrote : List Bytes) → written ≡ are_written (program_of items.now).layout wrote (amount_items (plain_amount amount.entry))
-        → result ≡ forms.amount_form (program_of items.now) (plain_pack pack.now) (taken_at (known_in items.now) kept.now.common) wrote place (plain_amount amount.entry) }
-    ensures of_pack { IfSome result (IsFormOf size) }
-{
-    amount_form(items, pack, place, amount, kept.common, written)
-}
-
 // what the receiver's cell gets
 fn store_cell(
     items: &KnownItems,
     pack: &PackView,
-    size: usize,
     m: &mut [i128],
     place: u32,
     mode: Mode,
@@ -80,8 +51,7 @@ fn store_cell(
     kept: &Kept,
     written: bool,
 )
-    requires size { length pack.now.cells.now ≡ size }
-    requires m { IsMatrix size m.old }
+    requires m { IsMatrix (length pack.now.cells.now) m.old }
     requires unit { HasUnit (program_of items.now).layout pack.now }
     requires fits { CellsFit (owns (program_of items.now)) (known_in items.now) }
     requires own { is_small (bound_at (program_of items.now).layout place) ≡ true }
@@ -89,19 +59,19 @@ fn store_cell(
     requires top { IfSome kept.now.common HasSmallTop }
     requires can { IfSome kept.now.common (CanWork (plain_amount amount) (range_at (program_of items.now) (known_in items.now) place)) }
     ensures value { (wrote : List Bytes) → written ≡ are_written (program_of items.now).layout wrote (amount_items (plain_amount amount.entry))
-        → m.new ≡ cell_stored size (receiver_of (form_at (program_of items.now).layout place)) mode
+        → m.new ≡ cell_stored (length pack.now.cells.now) (receiver_of (form_at (program_of items.now).layout place)) mode
             (10 ^ (pack.now.decimals - decimals_of (program_of items.now).layout (of_item place))) (decimal_in kept.now.result)
             (forms.amount_form (program_of items.now) (plain_pack pack.now) (taken_at (known_in items.now) kept.now.common) wrote place (plain_amount amount.entry))
             (cell_of (plain_pack pack.now) (of_item place)) m.old }
-    ensures matrix { IsMatrix size m.new }
+    ensures matrix { IsMatrix (length pack.now.cells.now) m.new }
 {
     match cell_in(pack, PackCell::Item(place)) {
         None => {}
         Some(cell) => {
-            let form = form_of(items, pack, size, place, amount, kept, written);
+            let form = amount_form(items, pack, place, amount, kept.common, written);
             let receiver = receiver_at(&items.program.layout, place);
             let unit = unit_of(&items.program.layout, pack.decimals, PackCell::Item(place));
-            store_at(size, m, cell + 1, form, receiver, mode, unit, decimal_in(kept.result));
+            store_at(pack.cells.len(), m, cell + 1, form, receiver, mode, unit, decimal_in(kept.result));
         }
     }
 }
@@ -111,7 +81,6 @@ fn store_cell(
 fn store_fitting(
     items: &KnownItems,
     pack: &PackView,
-    size: usize,
     m: &mut [i128],
     place: u32,
     mode: Mode,
@@ -119,8 +88,7 @@ fn store_fitting(
     kept: &Kept,
     written: bool,
 )
-    requires size { length pack.now.cells.now ≡ size }
-    requires m { IsMatrix size m.old }
+    requires m { IsMatrix (length pack.now.cells.now) m.old }
     requires unit { HasUnit (program_of items.now).layout pack.now }
     requires fits { CellsFit (owns (program_of items.now)) (known_in items.now) }
     requires own { is_small (bound_at (program_of items.now).layout place) ≡ true }
@@ -129,14 +97,14 @@ fn store_fitting(
     requires can { IfSome kept.now.common (CanWork (plain_amount amount) (range_at (program_of items.now) (known_in items.now) place)) }
     ensures value { (wrote : List Bytes) → written ≡ are_written (program_of items.now).layout wrote (amount_items (plain_amount amount.entry))
         → m.new ≡ fitting_stored (program_of items.now) (known_in items.now) kept.now.common (decimal_in kept.now.result) wrote
-            (plain_pack pack.now) size pack.now.decimals place mode (plain_amount amount.entry) m.old }
-    ensures matrix { IsMatrix size m.new }
+            (plain_pack pack.now) (length pack.now.cells.now) pack.now.decimals place mode (plain_amount amount.entry) m.old }
+    ensures matrix { IsMatrix (length pack.now.cells.now) m.new }
 {
     if has_operands(items, amount, written) {
-        store_cell(items, pack, size, m, place, mode, amount, kept, written);
-        forget(&items.program.layout, Gone::Others(place), pack.cells, size, m);
+        store_cell(items, pack, m, place, mode, amount, kept, written);
+        forget(&items.program.layout, Gone::Others(place), pack.cells, m);
     } else {
-        set_least_matrix(size, m);
+        set_least_matrix(pack.cells.len(), m);
     }
 }
 
@@ -144,7 +112,6 @@ fn store_fitting(
 pub(crate) fn store(
     items: &KnownItems,
     pack: &PackView,
-    size: usize,
     m: &mut [i128],
     place: u32,
     mode: Mode,
@@ -152,8 +119,7 @@ pub(crate) fn store(
     kept: &Kept,
     written: bool,
 )
-    requires size { length pack.now.cells.now ≡ size }
-    requires m { IsMatrix size m.old }
+    requires m { IsMatrix (length pack.now.cells.now) m.old }
     requires unit { HasUnit (program_of items.now).layout pack.now }
     requires fits { CellsFit (owns (program_of items.now)) (known_in items.now) }
     requires own { is_small (bound_at (program_of items.now).layout place) ≡ true }
@@ -162,12 +128,12 @@ pub(crate) fn store(
     requires can { IfSome kept.now.common (CanWork (plain_amount amount) (range_at (program_of items.now) (known_in items.now) place)) }
     ensures value { (wrote : List Bytes) → written ≡ are_written (program_of items.now).layout wrote (amount_items (plain_amount amount.entry))
         → m.new ≡ store_changed (program_of items.now) (known_in items.now) kept.now.common (latest_of kept.now) wrote
-            (plain_pack pack.now) size pack.now.decimals place mode (plain_amount amount.entry) m.old }
-    ensures matrix { IsMatrix size m.new }
+            (plain_pack pack.now) (length pack.now.cells.now) pack.now.decimals place mode (plain_amount amount.entry) m.old }
+    ensures matrix { IsMatrix (length pack.now.cells.now) m.new }
 {
     if !kept.may_fail {
-        store_fitting(items, pack, size, m, place, mode, amount, kept, written);
+        store_fitting(items, pack, m, place, mode, amount, kept, written);
     } else if kept.may_fit {
-        forget(&items.program.layout, Gone::Lost(place), pack.cells, size, m);
+        forget(&items.program.layout, Gone::Lost(place), pack.cells, m);
     }
 }
