@@ -1,0 +1,6 @@
+pub mod Items
+pub mod KnownEnds
+pub mod Filling
+pub mod PackRows
+pub mod SmallPacks
+pub mod Walked

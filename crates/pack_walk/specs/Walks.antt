@@ -1,5 +1,5 @@
 -- What an edge of a statement makes of the matrices of packs, and what it clears.
-use Rattle.std.specs.Prelude.{ℕ, if◌then◌else◌, Bool, true, List, [], ◌∷◌, ℤ, slice_get, Option, Some, None}
+use Rattle.std.specs.Prelude.{ℕ, ◌&&◌, if◌then◌else◌, Bool, true, List, [], ◌∷◌, ℤ, slice_get, Option, Some, None}
 use Rattle.std.specs.Option.{option_map_or}
 use Rattle.cob_tree.specs.declared.fault.Kind.{Kind}
 use Rattle.cob_program.specs.Values.{◌>>=◌}
@@ -36,6 +36,11 @@ module _ (p : Program) (packs : List Pack) (a : Act) (x : Action) where
   abbrev pub steps2_small : List Part → Seen → Seen2 → Option (Seen × Seen2)
   steps2_small [] s r = Some (s, r)
   steps2_small (y ∷ ys) s r = step2_small y s r >>= λ t. steps2_small ys t.0 t.1
+
+  abbrev pub clears_all2 : List Part → Seen → Seen2 → Kind → Bool
+  clears_all2 [] s r fault = true
+  clears_all2 (y ∷ ys) s r fault =
+      clears_part2 p packs a x y s r fault && option_map_or (λ t. clears_all2 ys t.0 t.1 fault) (step2_small y s r) true
 
 -- ---- parts by their numbers
 

@@ -1,5 +1,5 @@
 //! The ends of what a receiver gets, by the first layer and by the matrices.
-ghost use Rattle.std.specs.Prelude.{◌≡◌, ◌≤◌, ◌<◌, ◌≤ℤ◌, ◌^◌, ◌||◌, ◌×◌, length, List, pos, neg_ℤ, int_le, unsigned_abs, Option, Some, IfSome};
+ghost use Rattle.std.specs.Prelude.{◌≡◌, ◌≤◌, ◌<◌, ◌≤ℤ◌, ◌^◌, ◌||◌, length, List, pos, neg_ℤ, int_le, unsigned_abs, Option, Some, IfSome};
 ghost use Rattle.std.specs.Option.{option_map_or};
 ghost use Rattle.cob_program.specs.ActView.{plain_program};
 ghost use Rattle.borrowed_parts.specs.PartView.{plain_part};

@@ -120,12 +120,20 @@ fn item_is_of_operands(layout: &Layout, place: u32, act: &Act, action: Action) -
 }
 
 /// Whether a part writes to bytes of the items of the edge's operands.
+#[tactic(auto, using(crate::proofs::Items::nothing_written))]
 pub(crate) fn writes_operands(program: &Program, act: &Act, action: Action, part: EdgePart) -> bool
     ensures { result ≡ are_written program.now.layout (part_bytes program.now.layout (plain_part part.entry)) (edge_items (plain_act act.now) action) }
 {
     match part {
         EdgePart::Store { item, .. } => item_is_of_operands(&program.layout, item, act, action),
         EdgePart::Bytes { offset, length } => are_of_operands(&program.layout, offset, length, act, action),
-        _ => false,
+        EdgePart::Read(_)
+        | EdgePart::Unread
+        | EdgePart::Divide(_)
+        | EdgePart::Guard { .. }
+        | EdgePart::ReadCount(_)
+        | EdgePart::SetCount { .. }
+        | EdgePart::CountDown(_)
+        | EdgePart::GuardCount { .. } => false,
     }
 }
