@@ -9,17 +9,14 @@ use Rattle.std.proofs.Math.Logic.{∥∥₁_elim}
 use Rattle.std.proofs.lemmas.Bool.{eqb-true, eqb-false, eq-eqb, ne_eqb, ltb-true, ltb-false, or_right}
 use Rattle.std.proofs.lemmas.List.{get_or_default}
 use Rattle.std.proofs.lemmas.List.Sorted.{IsNonDecreasingBy-from_default}
-use Rattle.cob_tree.specs.declared.fault.Kind.{Kind}
 use Rattle.cob_program.specs.declared.act.Stmt as declared_stmt
 use Rattle.cob_program.specs.Act.{Program}
 use Rattle.cob_graph.specs.declared.graph.Edge.{Edge}
 use Rattle.cob_graph.specs.declared.graph.Graph.{Graph}
-use Rattle.cell_rows.specs.Known.{Known}
 use Rattle.graph_runs.specs.Places.{no_edge}
 use Rattle.graph_runs.specs.Sources.{IsSourceGraph}
 use Rattle.graph_runs.specs.Flows.{HasEdgesInOrder, flow_over}
 use Rattle.graph_runs.proofs.Ordering.{in_order}
-use Rattle.cell_layer_laws.specs.Layer.{edge_clears, leaves_clear}
 use Rattle.cell_layer.specs.Held.{IsHeld}
 
 -- ---- edges stand in the order of their sources
@@ -61,37 +58,40 @@ one_fails test (x ∷ xs) (suc k) within fails = ap (λ b. test x && b) (one_fai
 
 -- ---- the edges of a node
 
-module _ (p : Program) (g : Graph) (node : ℕ) (fault : Kind) (cells : List Known) where
+pub stands_among : (g : Graph) (x : Edge) (at : ℕ) → at < length g.edges → x ≡ slice_index_or g.edges at no_edge → Contains g.edges x
+stands_among g x at within is = (at, within, get_or_default g.edges at x no_edge within ∙ sym is)
+
+-- a test of those that leave a node
+module _ (g : Graph) (node : ℕ) (test : Edge → Bool) where
   abbrev edge : ℕ → Edge
   edge k = slice_index_or g.edges k no_edge
 
+  abbrev pub leaves_clear : Edge → Bool
+  leaves_clear x = not (x.from == node) || test x
+
   abbrev pub IsClear : ℕ → Type 0
-  IsClear k = leaves_clear p g node fault cells (edge k) ≡ true
+  IsClear k = leaves_clear (edge k) ≡ true
 
-  other_node : (x : Edge) → ¬ x.from ≡ node → leaves_clear p g node fault cells x ≡ true
-  other_node x differs = ap (λ b. not b || edge_clears p g fault cells x) (ne_eqb x.from node differs)
-
-  pub stands_among : (x : Edge) (at : ℕ) → at < length g.edges → x ≡ edge at → Contains g.edges x
-  stands_among x at within is = (at, within, get_or_default g.edges at x no_edge within ∙ sym is)
+  other_node : (x : Edge) → ¬ x.from ≡ node → leaves_clear x ≡ true
+  other_node x differs = ap (λ b. not b || test x) (ne_eqb x.from node differs)
 
   -- those that leave earlier nodes
   pub earlier : (k : ℕ) → (edge k).from < node → IsClear k
   earlier k below = other_node (edge k) (λ e. omega (arith, e, below))
 
   -- one more edge of the node
-  pub one_more : (at : ℕ) → ((k : ℕ) → k < at → IsClear k) → edge_clears p g fault cells (edge at) ≡ true → (k : ℕ) → k < suc at → IsClear k
+  pub one_more : (at : ℕ) → ((k : ℕ) → k < at → IsClear k) → test (edge at) ≡ true → (k : ℕ) → k < suc at → IsClear k
   one_more at before clears k within = by_place (k == at) refl
     where
       by_place : (b : Bool) → (k == at) ≡ b → IsClear k
-      by_place true e =
-          subst IsClear (sym (eqb-true k at e)) (or_right (not ((edge at).from == node)) (edge_clears p g fault cells (edge at)) clears)
+      by_place true e = subst IsClear (sym (eqb-true k at e)) (or_right (not ((edge at).from == node)) (test (edge at)) clears)
       by_place false e = before k (let differs = eqb-false k at e in omega (arith, within, differs))
 
   -- behind the last edge of the node
   pub behind_own : IsNonDecreasingBy (λ (x : Edge). x.from) g.edges → (at : ℕ) → at < length g.edges → node ≤ (edge at).from →
-      ¬ (edge at).from ≡ node → ((k : ℕ) → k < at → IsClear k) → list_all (leaves_clear p g node fault cells) g.edges ≡ true
+      ¬ (edge at).from ≡ node → ((k : ℕ) → k < at → IsClear k) → list_all leaves_clear g.edges ≡ true
   behind_own rises at inside not_before differs before =
-      all_at (leaves_clear p g node fault cells) g.edges (λ k within. by_place k within (ltb k at) refl)
+      all_at leaves_clear g.edges (λ k within. by_place k within (ltb k at) refl)
     where
       by_place : (k : ℕ) → k < length g.edges → (b : Bool) → ltb k at ≡ b → IsClear k
       by_place k within true e = before k (ltb-true k at e)
@@ -100,11 +100,10 @@ module _ (p : Program) (g : Graph) (node : ℕ) (fault : Kind) (cells : List Kno
           let rise_to = rises at k no_edge past within in
           other_node (edge k) (λ same. differs (omega (arith, same, rise_to, not_before)))
 
-  pub all_clear : ((k : ℕ) → k < length g.edges → IsClear k) → list_all (leaves_clear p g node fault cells) g.edges ≡ true
-  all_clear each = all_at (leaves_clear p g node fault cells) g.edges each
+  pub all_clear : ((k : ℕ) → k < length g.edges → IsClear k) → list_all leaves_clear g.edges ≡ true
+  all_clear each = all_at leaves_clear g.edges each
 
-  pub one_unclear : (at : ℕ) → at < length g.edges → (edge at).from ≡ node → edge_clears p g fault cells (edge at) ≡ false →
-      list_all (leaves_clear p g node fault cells) g.edges ≡ false
+  pub one_unclear : (at : ℕ) → at < length g.edges → (edge at).from ≡ node → test (edge at) ≡ false → list_all leaves_clear g.edges ≡ false
   one_unclear at within same fails =
-      one_fails (leaves_clear p g node fault cells) g.edges at within
-      (ap (λ b. not b || edge_clears p g fault cells (edge at)) (eq-eqb (edge at).from node same) ∙ fails)
+      one_fails leaves_clear g.edges at within
+      (ap (λ b. not b || test (edge at)) (eq-eqb (edge at).from node same) ∙ fails)

@@ -19,8 +19,8 @@ use cob_program::{Program, Stmt};
 use cob_tree::Kind;
 use dom_laws::Layer;
 
-// how many edges leave earlier nodes
-fn edges_before(edges: &[Edge], node: u32) -> usize
+/// How many edges leave earlier nodes, where edges stand in the order of their sources.
+pub fn edges_before(edges: &[Edge], node: u32) -> usize
     requires { IsNonDecreasingBy (λ (x : Edge). x.from) edges.now }
     ensures before { (k : ℕ) (d : Edge) → k < result → (slice_index_or edges.now k d).from < node }
     ensures behind { (k : ℕ) (d : Edge) → result ≤ k → k < length edges.now → node ≤ (slice_index_or edges.now k d).from }
@@ -28,14 +28,16 @@ fn edges_before(edges: &[Edge], node: u32) -> usize
     edges.partition_point(|edge| edge.from < node)
 }
 
-fn edge_at(edges: &[Edge], at: usize) -> Edge
+/// The edge at a place, which counts from 0.
+pub fn edge_at(edges: &[Edge], at: usize) -> Edge
     requires { at < length edges.now }
     ensures { result ≡ slice_index_or edges.now at no_edge }
 {
     edges[at]
 }
 
-fn leaves(edge: Edge, node: u32) -> bool
+/// Whether the edge leaves the node.
+pub fn leaves(edge: Edge, node: u32) -> bool
     ensures { result ≡ (edge.from == node) }
 {
     edge.from == node

@@ -112,8 +112,8 @@ fn statement_at(graph: &Graph, node: u32) -> u32
     }
 }
 
-// the statement that an edge leaves
-fn left<'a>(graph: &Graph, statements: &[&'a Stmt], edge: Edge) -> Option<&'a Stmt>
+/// The statement that an edge leaves.
+pub fn left<'a>(graph: &Graph, statements: &[&'a Stmt], edge: Edge) -> Option<&'a Stmt>
     ensures some { IfSome result (IsNumbered statements.now (left graph.now edge)) }
     ensures none { result ≡ None → All (λ s. ¬ number_in (plain_stmt s.now) ≡ left graph.now edge) statements.now }
 {

@@ -18,6 +18,7 @@ fn word_count(cells: &[Cell]) -> usize
     2 * cells.len() + 1
 }
 
+/// The row of what is known of cells where a run begins.
 pub fn entry_row(alloc: Global, program: &Program, cells: &[Cell]) -> Result<Vec<i128>, AllocError>
     requires sound { HasWellFormedItems program.now.layout }
     requires cells { cells.now ≡ cells_of (plain_program program.now) }

@@ -13,8 +13,8 @@ use cob_graph::Edge;
 use dom_laws::{Steps, System};
 use std::sync::ledger::Ledger;
 
-// the edge with a number, which counts from 1
-fn edge_with(edges: &[Edge], edge: u32) -> Edge
+/// The edge with a number, which counts from 1.
+pub fn edge_with(edges: &[Edge], edge: u32) -> Edge
     requires first { 1 ≤ edge }
     requires last { edge ≤ length edges.now }
     ensures { result ≡ slice_index_or edges.now (edge - 1) no_edge }
@@ -22,7 +22,8 @@ fn edge_with(edges: &[Edge], edge: u32) -> Edge
     edges[edge as usize - 1]
 }
 
-fn is_marked(marks: &[bool], node: u32) -> bool
+/// Whether a node, which counts from 1, is marked.
+pub fn is_marked(marks: &[bool], node: u32) -> bool
     requires first { 1 ≤ node }
     requires last { node ≤ length marks.now }
     ensures { result ≡ slice_index_or marks.now (node - 1) false }

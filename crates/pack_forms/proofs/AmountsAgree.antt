@@ -1,6 +1,5 @@
 -- The forms that the code works out are those of the amounts.
-use Rattle.std.proofs.Common.{◌≡◌, ◌||◌, ℕ, Bool, true, false, if◌then◌else◌, List, [], ◌∷◌, Option, Some, None, is_some, ℤ, refl, sym, ap, ◌∙◌}
-use Rattle.std.specs.List.{list_any}
+use Rattle.std.proofs.Common.{◌≡◌, ◌||◌, ℕ, Bool, true, false, if◌then◌else◌, List, Option, Some, None, is_some, ℤ, refl, sym, ap, ◌∙◌}
 use Rattle.cob_data.specs.declared.layout.Sender.{Sender}
 use Rattle.cob_data.specs.declared.layout.Sender.TheVariants as sender
 use Rattle.cob_program.specs.declared.act.How.{How}
@@ -22,7 +21,7 @@ use Rattle.diff_steps.specs.Packs.{Pack, cell_of, pack_decimals}
 use Rattle.diff_steps.specs.Moments.{Bytes, is_written}
 use Rattle.diff_steps.specs.Forms.{whole_sum, added_forms, turned_if, kept_form, taken_form, operands_form, item_sent, sender_form, multiplied_form, computed_form, amount_form, own_form, is_whole_sender, set_form, lowered_form, has_operands}
 use Rattle.pack_forms.specs.Views.{taken_at}
-use Rattle.pack_forms.specs.Working.{settled_if, kept_by, taken_by, item_by, sender_by, own_by, read_by, multiplied_by, operands_by, computed_by, amount_by}
+use Rattle.pack_forms.specs.Working.{settled_if, kept_by, taken_by, item_by, sender_by, read_by, multiplied_by, operands_by, computed_by, amount_by}
 use Rattle.pack_forms.specs.Writing.{sender_items, amount_items, are_written}
 
 or_none : (b : Bool) → (b || false) ≡ b

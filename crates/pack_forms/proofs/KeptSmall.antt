@@ -2,7 +2,6 @@
 use Rattle.std.proofs.Common.{◌≡◌, ℕ, Bool, true, false, if◌then◌else◌, Option, Some, None, refl, sym, subst}
 use Rattle.std.specs.Prelude.{pos, IfSome}
 use Rattle.std.specs.Option.{option_map}
-use Rattle.cob_program.specs.declared.act.How.{How}
 use Rattle.cob_program.specs.declared.act.How.TheVariants as how
 use Rattle.cob_program.specs.Sum.{Sum, group}
 use Rattle.cob_program.specs.Values.{whole_number, ◌>>=◌}

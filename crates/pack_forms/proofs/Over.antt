@@ -1,28 +1,26 @@
 -- Forms of amounts are over the cells of their pack.
-use Rattle.std.proofs.Common.{◌≡◌, ℕ, ◌<◌, Bool, true, false, if◌then◌else◌, List, length, map, Option, Some, None, ℤ, is_some, refl, sym, subst}
-use Rattle.std.specs.Prelude.{IfSome, pos, neg_ℤ, ◌^◌}
+use Rattle.std.proofs.Common.{◌≡◌, ℕ, ◌<◌, Bool, true, false, if◌then◌else◌, List, length, Option, Some, None, ℤ, is_some, refl, sym, subst}
+use Rattle.std.specs.Prelude.{IfSome}
 use Rattle.std.proofs.lemmas.List.{length-map}
 use Rattle.cob_data.specs.declared.layout.Sender.{Sender}
 use Rattle.cob_data.specs.declared.layout.Sender.TheVariants as sender
 use Rattle.cob_program.specs.declared.act.How.{How}
 use Rattle.cob_program.specs.declared.act.How.TheVariants as how
 use Rattle.cob_program.specs.Sum.{Sum}
-use Rattle.cob_program.specs.Values.{◌>>=◌, root_of}
+use Rattle.cob_program.specs.Values.{◌>>=◌}
 use Rattle.cob_edge_parts.specs.Parts.{Amount, moved, computed, remaining, augmented}
 use Rattle.decimal_interval.specs.declared.bounds.Interval.{Interval}
 use Rattle.linear_form.specs.declared.form.Lin.{Lin}
 use Rattle.linear_form.specs.Forms.{if_small}
 use Rattle.linear_form.specs.Results.{sum_of}
-use Rattle.form_bounds.specs.Values.{IsOver}
 use Rattle.sum_ranges.specs.declared.ranged.Ranged.{Ranged}
 use Rattle.sum_ranges.specs.SumRanges.{product_range}
 use Rattle.sum_forms.specs.Constants.{constant_form, range_form, cell_form, item_form}
-use Rattle.sum_forms.specs.SumForms.{scaled_form, turned_form, sum_form}
+use Rattle.sum_forms.specs.SumForms.{sum_form}
 use Rattle.sum_forms.specs.Values.{IsForm, IsWithin}
 use Rattle.sum_forms.proofs.Shows.{if_there}
-use Rattle.sum_forms.proofs.Within.{constant_within, range_within, cell_within, sum_within, scaled_within, turned_within, item_within, sum_form_within, atom_within}
+use Rattle.sum_forms.proofs.Within.{constant_within, range_within, cell_within, sum_within, scaled_within, turned_within, item_within, sum_form_within}
 use Rattle.result_ranges.specs.declared.amounts.Taken.{Taken}
-use Rattle.cell_steps.specs.Operands.{settled}
 use Rattle.cell_storages.specs.Homes.{Home}
 use Rattle.diff_steps.specs.Packs.{cell_of}
 use Rattle.diff_steps.specs.Forms.{whole_sum, added_forms, turned_if}
@@ -30,7 +28,7 @@ use Rattle.pack_changes.specs.Forms.{IsFormOf}
 use Rattle.pack_forms.specs.declared.cells.PackCell.{PackCell}
 use Rattle.pack_forms.specs.Cells.{plain_cell, plain_cells}
 use Rattle.pack_forms.proofs.Places.{cell_below}
-use Rattle.pack_forms.specs.Working.{settled_if, kept_by, taken_by, item_by, sender_by, own_by, read_by, product_by, multiplied_by, operands_by, computed_by, amount_by}
+use Rattle.pack_forms.specs.Working.{settled_if, kept_by, taken_by, item_by, sender_by, own_by, read_by, multiplied_by, operands_by, computed_by, amount_by}
 
 module _ (size : ℕ) where
   either_over : (b : Bool) (x y : Option Lin) → IfSome x (IsWithin size) → IfSome y (IsWithin size) → IfSome (if b then x else y) (IsWithin size)

@@ -1,12 +1,11 @@
 //! Forms of what is compared with 0: the difference of two sums, and a divisor.
-ghost use Rattle.std.specs.Prelude.{◌≡◌, length, nat_le, true, IfSome};
+ghost use Rattle.std.specs.Prelude.{◌≡◌, length, true, IfSome};
 ghost use Rattle.cob_program.specs.Bounds.{is_small_sum, is_small_atom};
 ghost use Rattle.cob_program.specs.SumView.{plain_sum};
 ghost use Rattle.cob_calc.specs.Contents.{bound_at};
 ghost use Rattle.borrowed_parts.specs.PartView.{plain_divisor};
 ghost use Rattle.sum_ranges.specs.SumRanges as ranges;
 ghost use Rattle.sum_forms.specs.SumForms.{atom_form};
-ghost use Rattle.sum_forms.specs.Values.{IsForm};
 ghost use Rattle.cell_rows.specs.Elements.{CellsFit};
 ghost use Rattle.cell_storages.specs.Homes.{owns};
 ghost use Rattle.cell_steps.specs.Stores.{range_at};

@@ -20,7 +20,7 @@ loop-at-init c =
     let a = c.args in
     record {
       from_first = omega arith;
-      clear = λ k below. earlier (plain_program a.program.now) a.graph.now a.node a.fault (cells_of a.row.now) k
+      clear = λ k below. earlier a.graph.now a.node (edge_clears (plain_program a.program.now) a.graph.now a.fault (cells_of a.row.now)) k
           (subst (λ (xs : List Edge). (slice_index_or xs k no_edge).from < a.node) c.get-edges.ensures
           (c.edges_before-first.ensures.before k no_edge below));
     }
@@ -30,7 +30,7 @@ clears_edge-requires-clause-of_graph c =
     let a = c.args in
     let at = c.loop-at.at in
     let inside : at < length c.get-edges.result.now = search rules in
-    stands_among (plain_program a.program.now) a.graph.now a.node a.fault (cells_of a.row.now) c.edge_at-edge.result at
+    stands_among a.graph.now c.edge_at-edge.result at
     (subst (λ (xs : List Edge). at < length xs) c.get-edges.ensures inside)
     (c.edge_at-edge.ensures ∙ ap (λ (xs : List Edge). slice_index_or xs at no_edge) c.get-edges.ensures)
 
@@ -45,7 +45,7 @@ loop-at-preserved c =
     ap (edge_clears p a.graph.now a.fault cells) (sym is) ∙ sym c.clears_edge.ensures ∙ c.if-not-clears_edge.false in
     record {
       from_first = omega (arith, c.loop-at.invariant.from_first);
-      clear = λ k within. one_more p a.graph.now a.node a.fault cells at c.loop-at.invariant.clear clears k (omega (arith, within));
+      clear = λ k within. one_more a.graph.now a.node (edge_clears p a.graph.now a.fault cells) at c.loop-at.invariant.clear clears k (omega (arith, within));
     }
 
 pub returns-then-not-leaves : goal.returns-then-not-leaves
@@ -58,7 +58,7 @@ returns-then-not-leaves c =
     let is = c.edge_at-edge.ensures ∙ ap (λ (xs : List Edge). slice_index_or xs at no_edge) c.get-edges.ensures in
     let other : ((slice_index_or g.edges at no_edge).from == a.node) ≡ false =
     ap (λ (x : Edge). x.from == a.node) (sym is) ∙ sym c.leaves.ensures ∙ c.if-not-leaves.true in
-    sym (behind_own p g a.node a.fault (cells_of a.row.now)
+    sym (behind_own g a.node (edge_clears p g a.fault (cells_of a.row.now))
     (edges_rise p g a.statements.now c.requires.held) at
     (subst (λ (xs : List Edge). at < length xs) c.get-edges.ensures inside)
     (subst (λ (xs : List Edge). a.node ≤ (slice_index_or xs at no_edge).from) c.get-edges.ensures
@@ -78,7 +78,7 @@ returns-then-not-clears_edge c =
     ap (λ (x : Edge). x.from == a.node) (sym is) ∙ sym c.leaves.ensures ∙ c.if-not-leaves.false in
     let fails : edge_clears p g a.fault cells (slice_index_or g.edges at no_edge) ≡ false =
     ap (edge_clears p g a.fault cells) (sym is) ∙ sym c.clears_edge.ensures ∙ c.if-not-clears_edge.true in
-    sym (one_unclear p g a.node a.fault cells at (subst (λ (xs : List Edge). at < length xs) c.get-edges.ensures inside)
+    sym (one_unclear g a.node (edge_clears p g a.fault cells) at (subst (λ (xs : List Edge). at < length xs) c.get-edges.ensures inside)
     (eqb-true (slice_index_or g.edges at no_edge).from a.node own) fails)
 
 pub returns : goal.returns
@@ -86,6 +86,6 @@ returns c =
     let a = c.args in
     let at = c.loop-at.at in
     let past : length c.get-edges.result.now ≤ at = search rules in
-    sym (all_clear (plain_program a.program.now) a.graph.now a.node a.fault (cells_of a.row.now)
+    sym (all_clear a.graph.now a.node (edge_clears (plain_program a.program.now) a.graph.now a.fault (cells_of a.row.now))
     (λ k within. c.loop-at.invariant.clear k
     (omega (arith, within, subst (λ (xs : List Edge). length xs ≤ at) c.get-edges.ensures past))))
