@@ -20,6 +20,13 @@ use Rattle.pack_changes.specs.Cells.{cell, known_cells, AreEnds, HasEnds, HaveEn
 use Rattle.pack_changes.specs.Ends.{IsNumber}
 use Rattle.pack_walk.specs.Plans.{IsShortHome}
 
+-- what a row says of a cell, in a unit of so many decimals
+abbrev pub known_by : Program → List Known → ℕ → Home → KnownCell
+known_by p known decimals h = cell (known_of (homes_of p) known h) (10 ^ (decimals - decimals_of p.layout h))
+
+abbrev pub all_known : Program → List Known → ℕ → Pack → List KnownCell
+all_known p known decimals pack = map (known_by p known decimals) pack
+
 -- ---- numbers of at most 18 digits, in at most 10^18 units
 
 product_small : (n : ℕ) → n ≤ 10 ^ 18 → 10 ^ 18 * n ≤ 10 ^ 37
@@ -47,8 +54,8 @@ module _ (l : Layout) where
   ends_of own None n short fits few = tt
   ends_of own (Some i) n short fits few =
       let low : neg_ℤ (pos (10 ^ 18)) ≤ℤ i.low = let a = short.low in let b = fits.0 in omega (arith, ints, a, b) in
-      let high : i.high ≤ℤ pos (10 ^ 18) = let a = short.high in let b = fits.1.1 in omega (arith, ints, a, b) in
-      let order = fits.1.0 in
+      let high : i.high ≤ℤ pos (10 ^ 18) = let a = short.high in let b = fits.2 in omega (arith, ints, a, b) in
+      let order = fits.1 in
       record {
         low = number_of i.low n low (omega (arith, ints, high, order)) few;
         high = number_of i.high n (omega (arith, ints, low, order)) high few;

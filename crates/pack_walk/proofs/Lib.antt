@@ -4,3 +4,5 @@ pub mod Filling
 pub mod PackRows
 pub mod SmallPacks
 pub mod Walked
+pub mod Changed
+pub mod Related

@@ -19,14 +19,13 @@ ghost use Rattle.pack_walk.specs.Plans.{plain_plan, plain_plans, IsPlanOf, ArePl
 use crate::counters::{count_down, set_count};
 use crate::gone::{Gone, forget};
 use crate::guards::guard;
-use crate::plans::{PackPlan, view_of};
+use crate::plans::{PackPlan, view_of, words_for};
 use crate::stores::store;
 use borrowed_parts::EdgePart;
 use cell_walk::{Kept, KnownItems};
 use cob_program::Program;
 use cob_runs::Cell;
 use pack_forms::PackView;
-use pack_rows::words_of;
 
 // what a part makes of the matrix of a pack
 fn change(
@@ -122,7 +121,7 @@ pub(crate) fn change_all(
     match plans {
         [] => {}
         [plan, plans @ ..] => {
-            let (first, rest) = out.split_at_mut(words_of(plan.cells.as_slice().len()));
+            let (first, rest) = out.split_at_mut(words_for(plan));
             change_plan(program, cells, before, plan, first, part, kept, written);
             change_all(program, cells, before, plans, rest, part, kept, written);
         }

@@ -17,14 +17,13 @@ ghost use Rattle.pack_changes.specs.Cells.{cell, known_cells, HaveEnds};
 ghost use Rattle.pack_forms.specs.Cells.{plain_cell, plain_cells};
 ghost use Rattle.pack_walk.specs.Plans.{plain_plan, plain_plans, IsPlanOf, ArePlansOf, matrices_for, IsRowFor};
 
-use crate::plans::PackPlan;
+use crate::plans::{PackPlan, words_for};
 use cell_walk::{known_of_count, known_of_item};
 use cob_program::Program;
 use cob_runs::Cell;
 use decimal_interval::Interval;
 use pack_changes::KnownCell;
 use pack_forms::{PackCell, unit_of};
-use pack_rows::words_of;
 
 // what a row says of what a cell is of
 fn known_of(program: &Program, cells: &[Cell], row: &[i128], cell: PackCell) -> Option<Interval>
@@ -69,8 +68,9 @@ fn know_cells(
     requires many { length known.old ≡ length plan.now.cells.items }
     ensures { known.new ≡ known_cells program.now.layout (homes_of (plain_program program.now)) (cells_of row.now) (plain_plan plan.now) }
 {
+    let pack = plan.cells.as_slice();
     for k in 0..known.len() {
-        known[k] = known_cell(program, cells, row, plan.decimals, plan.cells[k]);
+        known[k] = known_cell(program, cells, row, plan.decimals, pack[k]);
     }
 }
 
@@ -88,6 +88,7 @@ fn close(
     ensures value { put_closed program.now.layout (homes_of (plain_program program.now)) (cells_of row.now) (plain_plan plan.now) m.old
         ≡ (if result then Some m.new else None) }
     ensures width { length m.new ≡ length m.old }
+    ensures matrix { IsTrue result → IsMatrix (size_of (plain_plan plan.now)) m.new }
 {
     let mut room = [KnownCell { known: None, unit: 1 }; 8];
     let size = plan.cells.as_slice().len();
@@ -117,7 +118,7 @@ pub fn close_all(
     match plans {
         [] => true,
         [plan, plans @ ..] => {
-            let (first, rest) = out.split_at_mut(words_of(plan.cells.as_slice().len()));
+            let (first, rest) = out.split_at_mut(words_for(plan));
             close(program, cells, plan, row, first) && close_all(program, cells, plans, row, rest)
         }
     }

@@ -22,7 +22,7 @@ ghost use Rattle.pack_walk.specs.Ends.{part_form, end_in_pack, some_end};
 ghost use Rattle.pack_walk.specs.Parts.{CanChange, IsWrittenTo};
 ghost use Rattle.pack_walk.specs.Plans.{plain_plan, plain_plans, IsPlanOf, ArePlansOf, matrices_for, IsRowFor};
 
-use crate::plans::{PackPlan, view_of};
+use crate::plans::{PackPlan, view_of, words_for};
 use borrowed_parts::EdgePart;
 use cell_walk::{Kept, KnownItems};
 use cob_program::Program;
@@ -32,7 +32,6 @@ use decimal_interval::Interval;
 use linear_form::Lin;
 use pack_changes::{shows_high, shows_low};
 use pack_forms::{PackView, amount_form, lowered_form, set_form};
-use pack_rows::words_of;
 use result_ranges::Receiver;
 use sum_ranges::Ranged;
 
@@ -157,7 +156,7 @@ pub(crate) fn end_is_shown(
     match plans {
         [] => false,
         [plan, plans @ ..] => {
-            let (first, rest) = out.split_at(words_of(plan.cells.as_slice().len()));
+            let (first, rest) = out.split_at(words_for(plan));
             pack_shows(
                 program, cells, row, plan, first, part, kept, written, mode, receiver, low,
             ) || end_is_shown(

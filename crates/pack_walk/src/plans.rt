@@ -1,10 +1,12 @@
 //! Packs as they are walked with.
-ghost use Rattle.std.specs.Prelude.{◌≡◌, ◌≤◌, length};
+ghost use Rattle.std.specs.Prelude.{◌≡◌, ◌≤◌};
 ghost use Rattle.diff_steps.specs.Packs.{size_of};
 ghost use Rattle.pack_forms.specs.Views.{plain_pack};
+ghost use Rattle.pack_rows.specs.Rows.{words_of};
 ghost use Rattle.pack_walk.specs.Plans.{plain_plan};
 
 use pack_forms::{PackCell, PackView};
+use pack_rows::words_of;
 
 /// A pack: its cells in turn, at most eight, and the decimals of its unit.
 #[derive(Drop)]
@@ -26,9 +28,10 @@ pub(crate) fn view_of(plan: &PackPlan) -> PackView<'_>
     }
 }
 
-/// How many cells a pack has.
-pub(crate) fn size_of(plan: &PackPlan) -> usize
-    ensures { result ≡ size_of (plain_plan plan.now) }
+/// How many words the matrix of a pack has.
+pub(crate) fn words_for(plan: &PackPlan) -> usize
+    requires { size_of (plain_plan plan.now) ≤ 8 }
+    ensures { result ≡ words_of (size_of (plain_plan plan.now)) }
 {
-    plan.cells.as_slice().len()
+    words_of(plan.cells.as_slice().len())
 }
