@@ -131,7 +131,7 @@ module _ (p : Program) (a : Act) (x : Action) where
 
   -- ---- behind a part that is passed
 
-  stored_common : (t u : Seen) (fails : Bool) (o : Element) → behind_store t fails o ≡ Some u → u.common ≡ t.common
+  pub stored_common : (t u : Seen) (fails : Bool) (o : Element) → behind_store t fails o ≡ Some u → u.common ≡ t.common
   stored_common t u fails None e = absurd cc
   stored_common t u fails (Some cs) e = sym (ap common_of e)
     where
@@ -139,7 +139,7 @@ module _ (p : Program) (a : Act) (x : Action) where
       common_of None = None
       common_of (Some v) = v.common
 
-  counted_common : (t u : Seen) (o : Option (List Known)) → with_cells_if t o ≡ Some u → u.common ≡ t.common
+  pub counted_common : (t u : Seen) (o : Option (List Known)) → with_cells_if t o ≡ Some u → u.common ≡ t.common
   counted_common t u None e = absurd cc
   counted_common t u (Some cs) e = sym (ap common_of e)
     where

@@ -6,3 +6,4 @@ pub mod SmallPacks
 pub mod Walked
 pub mod Changed
 pub mod Related
+pub mod Stepped

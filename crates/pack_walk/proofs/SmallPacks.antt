@@ -32,7 +32,7 @@ all_kept p a x e s = ap (with_common s) (go (sends_small p a x) e s.common)
     go true f o = refl
     go false f o = absurd cc
 
-each_same : (f g : Pack → List ℤ → List ℤ) → ((pack : Pack) (m : List ℤ) → f pack m ≡ g pack m) → (packs : List Pack) (ms : List (List ℤ)) → each_pack f packs ms ≡ each_pack g packs ms
+pub each_same : (f g : Pack → List ℤ → List ℤ) → ((pack : Pack) (m : List ℤ) → f pack m ≡ g pack m) → (packs : List Pack) (ms : List (List ℤ)) → each_pack f packs ms ≡ each_pack g packs ms
 each_same f g same [] ms = refl
 each_same f g same (pack ∷ packs) [] = refl
 each_same f g same (pack ∷ packs) (m ∷ ms) = λ i. same pack m i ∷ each_same f g same packs ms i
