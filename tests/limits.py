@@ -1,9 +1,14 @@
-"""Sources and certificates at each limit, and beyond it by one. `tests/hostile` tries those that are large.
+"""Sources and certificates at each limit, and beyond it by one; and input files, which have none. `tests/hostile` tries
+those sources and certificates that are large.
 
 A source at a limit is run for a step and analysed; all commands refuse one beyond it likewise, and leave no
 certificate."""
 
+import dataclasses
 import itertools
+import pathlib
+import subprocess
+import tempfile
 
 from tests.built import Case, checks_of, refusal
 from tests.reference import checked
@@ -181,6 +186,65 @@ def of_claims():
         yield checked(f"{name} that holds", SAMPLE, lasting, *wanted)
 
 
+RECORD = 1_024
+
+# reads a file's records, counts them, and shows how many there are
+COUNTING = lines_of(
+    [
+        "IDENTIFICATION DIVISION.",
+        "PROGRAM-ID. L.",
+        "ENVIRONMENT DIVISION.",
+        "INPUT-OUTPUT SECTION.",
+        "FILE-CONTROL.",
+        "SELECT F ASSIGN TO INP.",
+        "DATA DIVISION.",
+        "FILE SECTION.",
+        "FD F.",
+        f"01 R PIC X({RECORD}).",
+        "WORKING-STORAGE SECTION.",
+        "77 E PIC X VALUE 'N'.",
+        "77 N PIC 9(5) VALUE 0.",
+        "PROCEDURE DIVISION.",
+        "OPEN INPUT F.",
+        "PERFORM UNTIL E = 'Y'",
+        "READ F AT END MOVE 'Y' TO E",
+        "NOT AT END ADD 1 TO N",
+        "END-READ",
+        "END-PERFORM.",
+        "CLOSE F.",
+        "DISPLAY N.",
+        "STOP RUN.",
+    ]
+)
+
+
+@dataclasses.dataclass
+class LongInput:
+    """A run that counts the records of an input file of so many bytes, all of them zero."""
+
+    length: int
+    status: int
+    out: str
+
+    def tried(self, path):
+        with tempfile.TemporaryDirectory() as folder:
+            pathlib.Path(folder, "S").write_text(COUNTING)
+            with open(pathlib.Path(folder, "INP"), "wb") as file:
+                file.truncate(self.length)
+            done = subprocess.run([path, "run", "S"], cwd=folder, stdin=subprocess.DEVNULL, capture_output=True)
+        found = done.returncode, done.stdout.decode("latin-1")
+        if found == (self.status, self.out):
+            return None
+        return f"an input file of {self.length} bytes: {found} in place of {(self.status, self.out)}"
+
+
+def of_inputs():
+    """An input file of more than 64 MB is read to its end, and one that ends within a record is refused there."""
+    records = 64 * 2**20 // RECORD + 1
+    yield LongInput(records * RECORD, 0, f"{records}\n")
+    yield LongInput(records * RECORD + 1, 12, f"E15 INP length {records * RECORD + 1}\n")
+
+
 def checks():
-    kinds = (of_length, of_data, of_nesting, of_cells, of_nodes, of_packs, of_claims)
+    kinds = (of_length, of_data, of_nesting, of_cells, of_nodes, of_packs, of_claims, of_inputs)
     return checks_of(itertools.chain.from_iterable(kind() for kind in kinds))

@@ -115,7 +115,8 @@ def folders():
     for words in (["check", "D", "C"], ["check", "S", "D"], ["analyse", "D", "C"], ["run", "D"]):
         yield Outer("a folder", words, GIVEN, *READ, {**GIVEN, "D": None}, ready=make)
     yield Outer("a folder", ["analyse", "S", "D"], GIVEN, *WRITTEN, {**GIVEN, "D": None}, ready=make)
-    yield Outer("a folder", ["run", "S", "PAYIN=D"], PAYING, *READ, paid, ready=make)
+    # a folder can be opened, and its first READ fails
+    yield Outer("a folder", ["run", "S", "PAYIN=D"], PAYING, *READ, {**paid, "PAYOUT": ""}, ready=make)
     yield Outer("a folder", ["run", "S", "PAYOUT=D"], PAYING, *WRITTEN, paid, ready=make)
 
 

@@ -35,7 +35,6 @@ RUN = {
     **COMMON,
     1: rf"E18 (?:{'|'.join(KINDS)}) statement {NUMBER} step {NUMBER}",
     6: "E4 write",
-    9: rf"{COMMON[9]}|E10 file-bytes 67108865",
     10: rf"E16 steps {NUMBER}",
     11: rf"E17 status (?:10|35|41|42|46|47|48) statement {NUMBER}",
     12: rf"E15 .+ length {NUMBER}",
@@ -69,7 +68,7 @@ def faults_of_report(out):
 def faults_of_numbers(line):
     """What the numbers of a line can't be."""
     words = line.split(" ")
-    if words[0] == "E10" and words[1] != "file-bytes" and int(words[2]) <= LIMITS.get(words[1], 0):
+    if words[0] == "E10" and int(words[2]) <= LIMITS.get(words[1], 0):
         yield "the count isn't beyond the limit"
     if words[0] == "E13" and words[3] == words[5]:
         yield "the numbers don't differ"
@@ -101,12 +100,11 @@ def faults_of_refusal(command, status, out, line):
         yield "no specified line with this status"
         return
     is_alone = out == line.encode("latin-1") + b"\n"
-    if not is_alone and not (command == "run" and (status in SHOWN_BEFORE or "file-bytes" in line)):
+    if not is_alone and not (command == "run" and status in SHOWN_BEFORE):
         yield "more than a line"
     yield from faults_of_numbers(line)
 
 
 def is_of_the_source(answer):
     """Whether the source is refused, for a cause that every command tells."""
-    is_refusal = answer.status in (2, 9) and re.match(r"E(5|6|7|8|9|10) ", answer.line()) is not None
-    return is_refusal and "file-bytes" not in answer.line()
+    return answer.status in (2, 9) and re.match(r"E(5|6|7|8|9|10) ", answer.line()) is not None

@@ -245,21 +245,22 @@ def without_rights(tally, folder, name, mode, words, status, out):
 
 
 def descriptors(options):
-    """A descriptor beside the three of each program is enough, since no two files are open at once. Where there are
-    only three, the system can't load the C library, and the program doesn't start."""
+    """A descriptor beside the three of each program is enough, and one more for each input file of a run, which stays
+    open while it is read. Where there are only three, the system can't load the C library, and the program doesn't
+    start."""
     tally = Tally("descriptors", options.keep)
     listed = [
-        (["analyse", SOURCE, CERT], b"clean\n"),
-        (["check", SOURCE, CERT], b"clean\n"),
-        (["run", SOURCE], outside.SHOWN.encode()),
+        (["analyse", SOURCE, CERT], 4, b"clean\n"),
+        (["check", SOURCE, CERT], 4, b"clean\n"),
+        (["run", SOURCE], 5, outside.SHOWN.encode()),
     ]
     files = {SOURCE: PAYROLL, CERT: (ROOT / "samples/payroll.cert").read_bytes(), "PAYIN": PAY}
-    for words, out in listed:
+    for words, count, out in listed:
         with Folder(options.program) as folder:
             folder.put(files)
-            answer = folder.asked(*words, shell=["/bin/sh", "-c", 'ulimit -n 4; exec "$0" "$@"'])
+            answer = folder.asked(*words, shell=["/bin/sh", "-c", f'ulimit -n {count}; exec "$0" "$@"'])
             faults = [] if (answer.status, answer.out) == (0, out) else [f"in place of 0, {out!r}"]
-            tally.add(answer, faults, files, f"{words[0]}, four descriptors")
+            tally.add(answer, faults, files, f"{words[0]}, {count} descriptors")
             tally.step()
     return tally
 

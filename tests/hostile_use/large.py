@@ -1,5 +1,5 @@
-"""What is as large as may be, or larger by a byte: certificates, input files of runs, files without an end; and
-programs that ask for much time or memory."""
+"""What is as large as may be, or larger by a byte: certificates; files without an end; and programs that ask for much
+time or memory."""
 
 import itertools
 
@@ -10,7 +10,6 @@ from tests.hostile_use.trials import Folder, Tally
 from tests.limits import FRONT, lines_of
 
 MOST_CERTIFICATE = 67_108_864
-MOST_INPUT = 67_108_864
 MOST_DIGITS = 18
 LONG = -(10**MOST_DIGITS - 1)
 ITEMS = 400
@@ -104,25 +103,19 @@ def certificates(options):
 
 
 def endless(options):
-    """Input files of the most bytes and one more, and files without an end in place of each."""
-    tally = Tally("long files", options.keep)
+    """Files without an end in place of each file that is read."""
+    tally = Tally("files without an end", options.keep)
     listing = (ROOT / "samples/listing.cob").read_bytes()
-    run = ["run", SOURCE, "--steps", "100"]
-    file_bytes = (9, b"E10 file-bytes %d\n" % (MOST_INPUT + 1))
+    # two steps before the loop, and three for each turn of it
+    shown = 32 * (b"\0" * 80 + b"\n")
     with Folder(options.program) as folder:
-        for length in (MOST_INPUT, MOST_INPUT + 1):
-            folder.put({SOURCE: listing, "INP": bytes(length)})
-            # two steps before the loop, and three for each turn of it
-            shown = 32 * (b"\0" * 80 + b"\n")
-            wanted = (10, shown + b"E16 steps 100\n") if length == MOST_INPUT else file_bytes
-            tried(tally, folder, run, wanted, f"an input file of {length} bytes")
         folder.put({SOURCE: listing, CERT: OLD})
         for words, wanted in (
             (["check", "/dev/zero", CERT], (2, b"E5 source too long\n")),
             (["analyse", "/dev/zero", CERT], (2, b"E5 source too long\n")),
             (["run", "/dev/zero"], (2, b"E5 source too long\n")),
             (["check", SOURCE, "/dev/zero"], (3, b"E11 certificate too long\n")),
-            ([*run, "INP=/dev/zero"], file_bytes),
+            (["run", SOURCE, "--steps", "100", "INP=/dev/zero"], (10, shown + b"E16 steps 100\n")),
         ):
             tried(tally, folder, words, wanted, " ".join(words))
     return tally

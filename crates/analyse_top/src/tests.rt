@@ -22,6 +22,26 @@ const HOURS: &str = "H20240131   D00042\0E\\\x02\0\x0cT00001      ";
 
 const PAID: &str = "00042  45.5       965.00TOTAL GROSS       965.00";
 
+// It shows each record of a file that it reads.
+const LISTING: &str =
+    "       IDENTIFICATION DIVISION.\n       PROGRAM-ID. L.\n       ENVIRONMENT DIVISION.\n       INPUT-OUTPUT SECTION.\n       FILE-CONTROL.\n       SELECT F ASSIGN TO INP.\n       DATA DIVISION.\n       FILE SECTION.\n       FD F.\n       01 R PIC X(80).\n       WORKING-STORAGE SECTION.\n       77 E PIC X VALUE 'N'.\n       PROCEDURE DIVISION.\n       OPEN INPUT F.\n       PERFORM UNTIL E = 'Y'\n       READ F AT END MOVE 'Y' TO E\n       NOT AT END DISPLAY R\n       END-READ\n       END-PERFORM.\n       CLOSE F.\n";
+
+// It opens a file, and shows the status of that.
+const OPENER: &str =
+    "       IDENTIFICATION DIVISION.\n       PROGRAM-ID. T.\n       ENVIRONMENT DIVISION.\n       INPUT-OUTPUT SECTION.\n       FILE-CONTROL.\n       SELECT F ASSIGN TO INP FILE STATUS IS S.\n       DATA DIVISION.\n       FILE SECTION.\n       FD F.\n       01 R PIC X(80).\n       WORKING-STORAGE SECTION.\n       77 S PIC XX.\n       PROCEDURE DIVISION.\n       OPEN INPUT F.\n       DISPLAY S.\n";
+
+// It reads one record of a file.
+const READER: &str =
+    "       IDENTIFICATION DIVISION.\n       PROGRAM-ID. R.\n       ENVIRONMENT DIVISION.\n       INPUT-OUTPUT SECTION.\n       FILE-CONTROL.\n       SELECT F ASSIGN TO INP.\n       DATA DIVISION.\n       FILE SECTION.\n       FD F.\n       01 R PIC X(80).\n       PROCEDURE DIVISION.\n       OPEN INPUT F.\n       READ F.\n       CLOSE F.\n";
+
+// A record and a byte.
+const CUT: &str =
+    "AAAAAAAAAAAAAAAAAAAAAAAAAAAAAAAAAAAAAAAAAAAAAAAAAAAAAAAAAAAAAAAAAAAAAAAAAAAAAAAAA";
+
+// Two records.
+const TWO: &str =
+    "AAAAAAAAAAAAAAAAAAAAAAAAAAAAAAAAAAAAAAAAAAAAAAAAAAAAAAAAAAAAAAAAAAAAAAAAAAAAAAAAAAAAAAAAAAAAAAAAAAAAAAAAAAAAAAAAAAAAAAAAAAAAAAAAAAAAAAAAAAAAAAAAAAAAAAAAAAAAAAAA";
+
 fn words_of(alloc: Global, line: &str) -> Result<Vec<String>, AllocError> {
     let mut words = Vec::new(alloc);
     for word in line.split(' ') {
@@ -53,9 +73,9 @@ fn files_of(alloc: Global, failing: u64) -> Result<MemFiles, AllocError> {
 }
 
 // Words, and by the number of the call on files that fails, from a first to a last one, the status and what is shown. Open,
-// two reads and close read a file; create and close empty one, and create, write and close put one. The last row of a
-// command is one call more than it makes.
-const FAULTS: [(&str, u64, u64, u8, &str); 14] = [
+// two reads and close read a whole file; each READ of a program reads a record, and one more reads none at the end. Create
+// and close empty a file, and create, write and close put one. The last row of a command is one call more than it makes.
+const FAULTS: [(&str, u64, u64, u8, &str); 16] = [
     ("check S C", 1, 8, 5, "E3 read\n"),
     ("check S C", 9, 9, 0, "clean\n"),
     ("analyse S C", 1, 4, 5, "E3 read\n"),
@@ -66,19 +86,27 @@ const FAULTS: [(&str, u64, u64, u8, &str); 14] = [
     ("run W", 1, 4, 5, "E3 read\n"),
     ("run W", 5, 9, 6, "E4 write\n"),
     ("run W", 10, 10, 0, "B\n"),
-    ("run P", 1, 8, 5, "E3 read\n"),
-    ("run P", 9, 10, 6, "E4 write\n"),
+    ("run P", 1, 5, 5, "E3 read\n"),
+    ("run P", 6, 7, 6, "E4 write\n"),
+    ("run P", 8, 11, 5, "E3 read\n"),
     (
         "run P",
-        11,
+        12,
+        12,
+        5,
+        "RUN DATE 20240131\nDETAILS 00001 BAD 00000\nE3 read\n",
+    ),
+    (
+        "run P",
         13,
+        15,
         6,
         "RUN DATE 20240131\nDETAILS 00001 BAD 00000\nE4 write\n",
     ),
     (
         "run P",
-        14,
-        14,
+        16,
+        16,
         0,
         "RUN DATE 20240131\nDETAILS 00001 BAD 00000\n",
     ),
@@ -166,6 +194,80 @@ fn few_bytes_at_a_time_are_enough(rt: HostRuntime) -> Result<(), Fail> {
         assert_eq!(rt; sink.bytes(), out.as_bytes(), "{line}");
         assert!(rt; are_fronts(&files, &whole), "{line}");
         assert!(rt; are_fronts(&whole, &files), "{line}");
+    }
+    Ok(())
+}
+
+// The programs that read a file, L, T and R, and files to be read: an empty one, one whose end is cut, and one of two
+// records.
+fn inputs_of(alloc: Global, failing: Vec<u64>) -> Result<MemFiles, AllocError> {
+    let mut files = Vec::new(alloc);
+    add_file(alloc, &mut files, "L", LISTING)?;
+    add_file(alloc, &mut files, "T", OPENER)?;
+    add_file(alloc, &mut files, "R", READER)?;
+    add_file(alloc, &mut files, "EMPTY", "")?;
+    add_file(alloc, &mut files, "CUT", CUT)?;
+    add_file(alloc, &mut files, "TWO", TWO)?;
+    Ok(MemFiles::new(alloc, files, failing))
+}
+
+// What is answered to the words of a run, and what is shown.
+const READINGS: [(&str, u8, &str); 4] = [
+    ("run L INP=EMPTY", 0, ""),
+    (
+        "run L INP=CUT",
+        12,
+        "AAAAAAAAAAAAAAAAAAAAAAAAAAAAAAAAAAAAAAAAAAAAAAAAAAAAAAAAAAAAAAAAAAAAAAAAAAAAAAAA\nE15 INP length 81\n",
+    ),
+    ("run L INP=NONE", 11, "E17 status 35 statement 1\n"),
+    ("run T INP=NONE", 0, "35\n"),
+];
+
+#[test]
+fn files_are_read_by_one_byte_at_a_time_alike(rt: HostRuntime) -> Result<(), Fail> {
+    let alloc = rt.alloc();
+    for (line, status, out) in READINGS {
+        let words = words_of(alloc, line)?;
+        for most in [1_000_000, 1] {
+            let mut files = inputs_of(alloc, Vec::new(alloc))?;
+            files.slow(most);
+            let mut sink = MemSink::new(alloc, Vec::new(alloc));
+            assert_eq!(rt;
+                cobsound(alloc, &words, &mut files, &mut sink),
+                status,
+                "{line}"
+            );
+            assert_eq!(rt; sink.bytes(), out.as_bytes(), "{line}");
+        }
+    }
+    Ok(())
+}
+
+// The calls of these numbers, counted behind those that read the program R by a byte at a time: open, a read for each byte
+// and one at the end, and close.
+fn calls_behind(alloc: Global, first: u64, last: u64) -> Result<Vec<u64>, AllocError> {
+    let mut calls = Vec::new(alloc);
+    for call in first..last {
+        calls.push(call.saturating_add(READER.len() as u64 + 3))?;
+    }
+    Ok(calls)
+}
+
+// Open, 80 reads of a byte and close: a READ doesn't look for the end behind its record.
+#[test]
+fn reading_a_record_takes_no_more_calls_than_its_bytes(rt: HostRuntime) -> Result<(), Fail> {
+    let alloc = rt.alloc();
+    let words = words_of(alloc, "run R INP=TWO")?;
+    for (first, status, out) in [(83, 0, ""), (82, 5, "E3 read\n")] {
+        let mut files = inputs_of(alloc, calls_behind(alloc, first, 201)?)?;
+        files.slow(1);
+        let mut sink = MemSink::new(alloc, Vec::new(alloc));
+        assert_eq!(rt;
+            cobsound(alloc, &words, &mut files, &mut sink),
+            status,
+            "{first}"
+        );
+        assert_eq!(rt; sink.bytes(), out.as_bytes(), "{first}");
     }
     Ok(())
 }

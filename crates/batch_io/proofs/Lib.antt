@@ -5,3 +5,4 @@ pub mod EntriesLemmas
 pub mod PutLemmas
 pub mod MemoryLemmas
 pub mod SlotLemmas
+pub mod RecordLemmas

@@ -83,7 +83,7 @@ known-more (Some old) None id front piece some bytes handle = absurd (cc bytes)
 known-more (Some old) (Some mid) id front piece some bytes handle =
     ap (λ m. Some m) (with_bytes-more old id mid front piece some (cc bytes) (cc handle))
 
-KeepsIds-more : (a b c : FilesState) → KeepsIds a b → KeepsIds b c → KeepsIds a c
+pub KeepsIds-more : (a b c : FilesState) → KeepsIds a b → KeepsIds b c → KeepsIds a c
 KeepsIds-more a b c first second = record {
   purpose = λ id. second.purpose id ∙ first.purpose id;
   handle = λ id is_open.

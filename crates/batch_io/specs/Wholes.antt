@@ -1,5 +1,5 @@
 -- What the calls on whole files and whole texts do.
-use Rattle.std.specs.Prelude.{◌≡◌, ◌≢◌, ◌↔◌, ◌⊎◌, ℕ, ◌+◌, ◌<◌, ◌≤◌, List, [], ◌∷◌, take, length, None, Some, IfSome, IsSomeAnd, Result, Ok, Err, IfOk, OnOk, OnErr, option_map, Vec}
+use Rattle.std.specs.Prelude.{◌≡◌, ◌≢◌, ◌↔◌, ◌⊎◌, ℕ, ◌+◌, ◌<◌, ◌≤◌, List, [], ◌∷◌, take, length, None, Some, IfSome, IsSomeAnd, Result, Ok, Err, is_err, IfOk, OnOk, OnErr, option_map, Vec}
 use Rattle.std.specs.declared.alloc.Global.{Global}
 use Rattle.std.specs.FinMap.{get, insert}
 use Rattle.std.specs.Io.KnownBytes.{append_known}
@@ -26,6 +26,16 @@ pub record ReadsWhole (old new : FilesState) (id limit : ℕ) (result : Result (
   pub writing : new.writing ≡ old.writing
   pub read : (bytes : List ℕ) × ReadSoFar old new id limit result bytes
   pub ended : OnOk result (IfSome (known_rest new id) (λ rest. rest ≡ []))
+
+-- The id's next bytes stand at the front of the buffer: as many as fit, or those to the end of the file. Where a read is
+-- refused, some were read.
+pub record ReadsRecord (old new : FilesState) (id : ℕ) (buffer : List ℕ) (result : Result ℕ Failed) : Type 0 where
+  pub reading : Counts (is_err result) old.reading new.reading
+  pub writing : new.writing ≡ old.writing
+  pub count : IfOk result (λ count. count ≤ length buffer)
+  pub given : IfOk result (λ count. Gives old new id (take count buffer))
+  pub ended : IfOk result (λ count. count < length buffer → IfSome (known_rest new id) (λ rest. rest ≡ []))
+  pub refused : OnErr result ((bytes : List ℕ) × Gives old new id bytes)
 
 -- what a read and the close after it come to: a refused close is Failed, whatever was read
 abbrev pub end_after : {X : Type 0} → Result X ReadEnd → Result Unit Failed → Result X FileEnd

@@ -15,7 +15,7 @@ pub use ends::{Failed, FileEnd, MakeEnd, OpenEnd, ReadEnd};
 pub use memory::{MemFiles, MemSink};
 pub use outside::{Files, Sink};
 pub use real::{RealFiles, StdSink};
-pub use whole::{put_file, put_whole, read_file, read_whole, show_whole};
+pub use whole::{put_file, put_whole, read_file, read_record, read_whole, show_whole};
 
 #[cfg(test)]
 mod tests;

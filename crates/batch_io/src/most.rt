@@ -1,5 +1,5 @@
 //! The most bytes that a read or a write counts.
-ghost use Rattle.std.specs.Prelude.{◌≡◌, ◌≤◌, ◌<◌, min};
+ghost use Rattle.std.specs.Prelude.{◌≡◌, ◌≤◌, ◌<◌, ◌^◌, ◌-◌, min};
 
 // So many bytes at most, and one at least.
 #[derive(Clone, Copy, Drop)]
@@ -10,7 +10,9 @@ pub struct Most {
 
 impl Most {
     // As many as there are.
-    pub fn all() -> Most {
+    pub fn all() -> Most
+        ensures { result.bytes ≡ 2 ^ 64 - 1 }
+    {
         Most { bytes: usize::MAX }
     }
 

@@ -7,13 +7,16 @@ use crate::ends::{Failed, MakeEnd, OpenEnd};
 use crate::outside::{Files, Sink};
 use crate::slots::{add_slot, end_slot};
 use std::alloc::Global;
-use std::io::{ErrorKind, Read, Write};
+use std::io::{BufReader, ErrorKind, Read, Write};
 use std::{fs, io, rt};
+
+// How many bytes of a file that is read are taken from the system at once.
+const AHEAD: usize = 65_536;
 
 // An open file of the system.
 #[derive(Drop)]
 enum Stream<F> {
-    Reading(F),
+    Reading(BufReader<F>),
     Writing(F),
 }
 
@@ -21,6 +24,7 @@ enum Stream<F> {
 #[derive(Drop)]
 pub struct RealFiles<R: rt::Files> {
     rt: R,
+    alloc: Global,
     slots: Vec<Option<Stream<R::File>>>,
     reading: u64,
     writing: u64,
@@ -74,6 +78,7 @@ impl<R: rt::Files> RealFiles<R> {
     {
         RealFiles {
             rt,
+            alloc,
             slots: Vec::new(alloc),
             reading: 0,
             writing: 0,
@@ -88,7 +93,10 @@ impl<R: rt::Files> Files for RealFiles<R> {
 
     fn open(&mut self, name: &str) -> Result<u32, OpenEnd> {
         match fs::open(&self.rt, name) {
-            Ok(file) => Ok(add_slot(&mut self.slots, Stream::Reading(file))?),
+            Ok(file) => match BufReader::with_capacity(self.alloc, AHEAD, file) {
+                Ok(reader) => Ok(add_slot(&mut self.slots, Stream::Reading(reader))?),
+                Err(_) => Err(OpenEnd::Memory),
+            },
             Err(e) if e.kind() == ErrorKind::NotFound => Err(OpenEnd::Absent),
             Err(_) => {
                 self.reading = self.reading.saturating_add(1);

@@ -1,7 +1,7 @@
-//! Whole files and whole texts.
+//! Whole files, records of files, and whole texts.
 ghost use Rattle.std.specs.Prelude.{◌≡◌, ℕ, ◌-◌, ◌^◌, ◌<◌, Some};
 ghost use Rattle.batch_io.specs.FilesState.{Reading, Writing};
-ghost use Rattle.batch_io.specs.Wholes.{ReadsWhole, ReadsToClose, ReadsFile, PutsWhole, PutsToClose, PutsFile, ShowsWhole, end_after};
+ghost use Rattle.batch_io.specs.Wholes.{ReadsRecord, ReadsWhole, ReadsToClose, ReadsFile, PutsWhole, PutsToClose, PutsFile, ShowsWhole, end_after};
 
 use crate::ends::{Failed, FileEnd, MakeEnd, OpenEnd, ReadEnd};
 use crate::outside::{Files, Sink};
@@ -58,6 +58,23 @@ pub fn show_whole<O: Sink>(out: &mut O, bytes: &[u8]) -> Result<(), MakeEnd>
         done += out.write(&bytes[done..])?;
     }
     Ok(())
+}
+
+/// Reads the next bytes into the front of `buf`, by as many reads as that needs and no more, and says how many: as many
+/// as fit, or those to the end of the file.
+pub fn read_record<F: Files>(files: &mut F, id: u32, buf: &mut [u8]) -> Result<usize, Failed>
+    requires { (F.state files.old).purpose id ≡ Some Reading }
+    ensures { ReadsRecord (F.state files.old) (F.state files.new) id buf.new result }
+{
+    let mut done = 0;
+    while done < buf.len() {
+        let count = files.read(id, &mut buf[done..])?;
+        if count == 0 {
+            return Ok(done);
+        }
+        done += count;
+    }
+    Ok(done)
 }
 
 // What a read and the close after it come to. A refused close is Failed, whatever was read.

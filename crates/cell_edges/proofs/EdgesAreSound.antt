@@ -86,7 +86,7 @@ module _ (given : Given) (p : Program) (statement : ℕ) (a : Act) (x : Action) 
 
   -- ---- the beginning
 
-  begins : (cells : List Known) (bytes : List ℕ) (counts : List (Option ℤ)) → IsSoundEdge p statement a x → StandsIn p cells (storage bytes counts) → Agrees p statement a x [] (beginning cells) (run.beginning bytes counts)
+  pub begins : (cells : List Known) (bytes : List ℕ) (counts : List (Option ℤ)) → IsSoundEdge p statement a x → StandsIn p cells (storage bytes counts) → Agrees p statement a x [] (beginning cells) (run.beginning bytes counts)
   begins cells bytes counts sound stands = record {
     sound = sound;
     counts = counts;

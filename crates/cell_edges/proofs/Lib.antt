@@ -18,8 +18,10 @@ pub mod WalkLaws
 pub mod PartsDone
 pub mod QuietParts
 pub mod StoresKeep
+pub mod StoreOutcomes
 pub mod PartsKeep
 pub mod PartsClear
 pub mod EdgesRise
 pub mod EdgesAreSound
+pub mod WalkLawsHold
 pub mod EachEdge

@@ -5,6 +5,7 @@ use Rattle.std.specs.List.{list_all}
 use Rattle.std.specs.Option.{option_map_or}
 use Rattle.std.proofs.lemmas.Int.{ints}
 use Rattle.std.proofs.lemmas.Bool.{eqb-true}
+use Rattle.std.proofs.lemmas.List.{append-nil}
 use Rattle.dec_num.specs.declared.types.Mode.{Mode}
 use Rattle.dec_num.specs.declared.types.Scaled.{Scaled}
 use Rattle.dec_num.specs.Exact.{Fraction}
@@ -53,7 +54,7 @@ use Rattle.cell_edges.proofs.PartsKeep.{numeric, amount_or_other, all_in, same_v
 
 -- ---- tests
 
-not_both : (b : Bool) → b ≡ true → not b ≡ true → ⊥
+pub not_both : (b : Bool) → b ≡ true → not b ≡ true → ⊥
 not_both true e f = cc
 not_both false e f = cc
 
@@ -103,33 +104,34 @@ module _ (given : Given) (p : Program) (statement : ℕ) (a : Act) (x : Action) 
 
   -- ---- divisors
 
-  divide_cleared : (done : List Part) (d : Atom) (s : Seen) (m : Moment) → IsDivided done d → Agrees p statement a x done s m → m.by_zero ≡ false → not (holds_zero (atom_range (range_at p s.cells) d)) ≡ true → divides_by (worth p.layout m.first) d ≡ false → ⊥
-  divide_cleared done d s m q g unzero clear e = by_value (is_there (atom_value (worth p.layout m.first) d) (q.some (worth p.layout m.first) all_count_))
+  -- a divisor that doesn't divide is 0
+  pub zero_divisor : (done : List Part) (d : Atom) (s : Seen) (m : Moment) → IsDivided done d → Agrees p statement a x done s m → m.by_zero ≡ false → divides_by (worth p.layout m.first) d ≡ false
+      → (v : Scaled) × (atom_value (worth p.layout m.first) d ≡ Some v) × (v.units ≡ pos 0)
+  zero_divisor done d s m q g unzero e = by_value (is_there (atom_value (worth p.layout m.first) d) (q.some (worth p.layout m.first) all_count_))
     where
       all_count_ : list_all (divides_by (worth p.layout m.first)) q.atoms ≡ true
       all_count_ =
           let r = read_first p.layout (handled p a x) q.places (divides q.atoms) (run.beginning m.first g.counts) m refl
           (subst (λ (xs : List Part). PassesParts p.layout (handled p a x) xs (run.beginning m.first g.counts) m) q.split g.passed) in
           subst (λ (bytes : List ℕ). list_all (divides_by (worth p.layout bytes)) q.atoms ≡ true) r.first
-          (count_all r.next r.passes)
-        where
-          unit_tail : (ys : List Part) → ys ++ [] ≡ ys
-          unit_tail [] = refl
-          unit_tail (y ∷ ys) = ap (λ (zs : List Part). y ∷ zs) (unit_tail ys)
+          (divisors_count p.layout (handled p a x) q.atoms [] r.next m (subst (λ (xs : List Part). PassesParts p.layout (handled p a x) xs r.next m) (sym (append-nil (divides q.atoms))) r.passes) unzero)
 
-          count_all : (k : Moment) → PassesParts p.layout (handled p a x) (divides q.atoms) k m → list_all (divides_by (worth p.layout k.first)) q.atoms ≡ true
-          count_all k h = divisors_count p.layout (handled p a x) q.atoms [] k m (subst (λ (xs : List Part). PassesParts p.layout (handled p a x) xs k m) (sym (unit_tail (divides q.atoms))) h) unzero
-
-      zero_units : (v : Scaled) → option_map_or (λ w. not (unsigned_abs w.units == 0)) (Some v) false ≡ false → v.units ≡ pos 0
+      zero_units : (v : Scaled) → not (unsigned_abs v.units == 0) ≡ false → v.units ≡ pos 0
       zero_units v f = go (unsigned_abs v.units == 0) refl f
         where
+          is_zero : (n : ℕ) → (n == 0) ≡ true → n ≡ 0
+          is_zero n h = eqb-true n 0 h
+
           go : (b : Bool) → (unsigned_abs v.units == 0) ≡ b → not b ≡ false → v.units ≡ pos 0
           go true h k = let n : unsigned_abs v.units ≡ 0 = is_zero (unsigned_abs v.units) h in omega (arith, ints, n)
-            where
-              is_zero : (n : ℕ) → (n == 0) ≡ true → n ≡ 0
-              is_zero n h = eqb-true n 0 h
           go false h k = absurd cc
 
+      by_value : (v : Scaled) × (atom_value (worth p.layout m.first) d ≡ Some v) → (v : Scaled) × (atom_value (worth p.layout m.first) d ≡ Some v) × (v.units ≡ pos 0)
+      by_value (v, f) = (v, f, zero_units v (subst (λ (o : Option Scaled). option_map_or (λ w. not (unsigned_abs w.units == 0)) o false ≡ false) f e))
+
+  divide_cleared : (done : List Part) (d : Atom) (s : Seen) (m : Moment) → IsDivided done d → Agrees p statement a x done s m → m.by_zero ≡ false → not (holds_zero (atom_range (range_at p s.cells) d)) ≡ true → divides_by (worth p.layout m.first) d ≡ false → ⊥
+  divide_cleared done d s m q g unzero clear e = by_value (zero_divisor done d s m q g unzero e)
+    where
       zero_in : (o : Option Ranged) (v : Scaled) → v.units ≡ pos 0 → IsSomeAnd o (IsIn v) → holds_zero o ≡ true
       zero_in None v z h = absurd h
       zero_in (Some r) v z h =
@@ -137,16 +139,15 @@ module _ (given : Given) (p : Program) (statement : ℕ) (a : Act) (x : Action) 
           and_true (int_le r.units.low (pos 0)) (int_le (pos 0) r.units.high)
           (test_le r.units.low (pos 0) (let l = held.0 in omega (arith, ints, l, z))) (test_le (pos 0) r.units.high (let u = held.1 in omega (arith, ints, u, z)))
 
-      by_value : (v : Scaled) × (atom_value (worth p.layout m.first) d ≡ Some v) → ⊥
-      by_value (v, f) =
-          let zeros : v.units ≡ pos 0 = zero_units v (subst (λ (o : Option Scaled). option_map_or (λ w. not (unsigned_abs w.units == 0)) o false ≡ false) f e) in
+      by_value : (v : Scaled) × (atom_value (worth p.layout m.first) d ≡ Some v) × (v.units ≡ pos 0) → ⊥
+      by_value (v, f, zeros) =
           let inside = atom_in (amount_or_other given p statement a x done d s m q g) (range_at p s.cells) (all_in given p statement a x done d s m q g) d v
           (sym (same_value given p statement a x done d s m q g d (numeric given p statement a x done d s m q g)) ∙ f) in
           not_both (holds_zero (atom_range (range_at p s.cells) d)) (zero_in (atom_range (range_at p s.cells) d) v zeros inside) clear
 
   -- ---- stores
 
-  root_of_amount : (y : Amount) → has_quotient y ≡ true → HasRoot p statement a x y
+  pub root_of_amount : (y : Amount) → has_quotient y ≡ true → HasRoot p statement a x y
   root_of_amount (computed s h) e = tt
   root_of_amount (remaining s scale) e = e
   root_of_amount (moved y) e = tt

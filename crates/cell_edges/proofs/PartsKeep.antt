@@ -13,21 +13,21 @@ use Rattle.dec_num.specs.Scaled.{value_of}
 use Rattle.cob_data.specs.declared.layout.Sender.{Sender}
 use Rattle.decimal_interval.specs.declared.bounds.Interval.{Interval}
 use Rattle.decimal_interval.specs.Bounds.{Holds}
-use Rattle.cob_program.specs.Sum.{Sum, Atom, item, number, group}
-use Rattle.cob_program.specs.Values.{whole_number, atom_value, Root, root_of, ◌>>=◌}
+use Rattle.cob_program.specs.Sum.{Atom, item, number, group}
+use Rattle.cob_program.specs.Values.{whole_number, atom_value, ◌>>=◌}
 use Rattle.cob_program.specs.Act.{Act, Program}
 use Rattle.cob_runs.specs.declared.action.Action.{Action}
-use Rattle.cob_runs.specs.Contents.{form_at, bytes_of, number_at, filled_at, stored as stored_units}
+use Rattle.cob_runs.specs.Contents.{form_at, bytes_of, number_at, filled_at}
 use Rattle.cob_runs.specs.Moves.{takes_number, number_of}
 use Rattle.cob_runs.specs.Computing.{items_in_atom, are_numeric, worth}
-use Rattle.cob_edge_parts.specs.Parts.{Amount, moved, computed, remaining, augmented, Part, read, unread, divide, store, bytes_in, guard, read_count, set_count, count_down, guard_count, divides, parts_of, is_times}
+use Rattle.cob_edge_parts.specs.Parts.{Amount, moved, Part, read, unread, divide, store, bytes_in, guard, read_count, set_count, count_down, guard_count, divides, parts_of, is_times}
 use Rattle.cob_edge_parts.specs.Meaning as run
-use Rattle.cob_edge_parts.specs.Meaning.{Moment, with_storage, with_count, with_failure, divided_by_zero, count_in, divides_by, changed_in, is_left_alone, stored_bytes, stored_or_kept, amount, Divides, Stores}
+use Rattle.cob_edge_parts.specs.Meaning.{Moment, with_storage, with_count, with_failure, divided_by_zero, count_in, divides_by, changed_in, Divides}
 use Rattle.cob_edge_parts.specs.Ranges.{ChangesWithin}
 use Rattle.dom_laws.specs.Walking.{IsSeen}
 use Rattle.sum_ranges.specs.declared.ranged.Ranged.{Ranged}
 use Rattle.sum_ranges.specs.Ranged.{decimal, point, IsIn}
-use Rattle.sum_ranges.specs.SumRanges.{sum_range, atom_range}
+use Rattle.sum_ranges.specs.SumRanges.{atom_range}
 use Rattle.sum_ranges.specs.Vanishing.{may_be_zero}
 use Rattle.sum_ranges.proofs.Sound.{atom_in}
 use Rattle.sum_ranges.proofs.Vanish.{divisor_zero, divisor_missing}
@@ -35,10 +35,7 @@ use Rattle.result_ranges.specs.declared.amounts.Taken.{Taken}
 use Rattle.result_ranges.specs.declared.amounts.AmountRange.{AmountRange}
 use Rattle.result_ranges.specs.Receivers.{receiver_of, counter}
 use Rattle.result_ranges.specs.Amounts.{IsAmount}
-use Rattle.result_ranges.specs.Operands.{alone, taken_from}
-use Rattle.result_ranges.specs.Stores.{operands}
 use Rattle.result_ranges.specs.Results.{IsLeastIfAny, IsKept}
-use Rattle.result_ranges.specs.ResultRanges as result
 use Rattle.result_ranges.specs.ResultRanges.{fitted, result_range, count_range, lowered}
 use Rattle.graph_runs.specs.Counters.{IsCount, PassesPart, PassesParts}
 use Rattle.edge_places.specs.Places.{IsDivided, Counts, IsStored}
@@ -47,11 +44,11 @@ use Rattle.cell_rows.specs.Elements.{joined}
 use Rattle.cell_storages.specs.Homes.{Home, of_item, of_count, homes_of, picture_range, form_range}
 use Rattle.cell_storages.specs.Storages.{storage, known_of, value_at, KnownStands, StandsIn}
 use Rattle.cell_steps.specs.Cells.{known_or, units_of, forgotten, is_in_bytes, is_beside}
-use Rattle.cell_steps.specs.Operands.{edge_amount, amount_of, is_remainder}
+use Rattle.cell_steps.specs.Operands.{edge_amount, amount_of}
 use Rattle.cell_steps.specs.Seen.{Seen, with_cells, with_zero}
-use Rattle.cell_steps.specs.Stores.{stored_cells, stored_element, behind_store, may_vanish, range_at, handled, with_taken, amount_at, result_at, may_exceed, may_fail, stored}
+use Rattle.cell_steps.specs.Stores.{stored_cells, stored_element, behind_store, range_at, handled, with_taken, amount_at, result_at, may_fail, stored}
 use Rattle.cell_steps.specs.Steps.{is_zero_alone, can_divide, known_as, with_cells_if, after_bytes, after_count, after_down, after_divide, step}
-use Rattle.cell_steps.specs.Agreeing.{IsTimesAt, IsSoundEdge, of_operands, writes, is_store, Agrees, walking}
+use Rattle.cell_steps.specs.Agreeing.{IsTimesAt, IsSoundEdge, writes, is_store, Agrees, walking}
 use Rattle.cell_edges.proofs.CellLists.{with_known_length, forgotten_length, joined_left, joined_right}
 use Rattle.cell_edges.proofs.OperandsRise.{or_left, or_right}
 use Rattle.cell_edges.proofs.ResultsFit.{result_fits}
@@ -60,9 +57,10 @@ use Rattle.cell_edges.proofs.HomesStand.{known_left, all_stand_above}
 use Rattle.cell_edges.proofs.Frames.{value_stays, range_changes}
 use Rattle.cell_edges.proofs.Counters.{count_set, count_elsewhere, differs, counted_set}
 use Rattle.cell_edges.proofs.HomesHold.{if_home, home_set, number_holds, range_is_ordered, count_holds}
-use Rattle.cell_edges.proofs.PartsDone.{and_true, any_last, none_written, read_first, read_zero, store_zero, all_contained, contained_all}
+use Rattle.cell_edges.proofs.PartsDone.{any_last, none_written, read_first, read_zero, store_zero, all_contained, contained_all}
 use Rattle.cell_edges.proofs.QuietParts.{same_moment, SeenOn, quiet, quiet_at, read_keeps, guard_keeps, read_count_keeps, guard_count_keeps, times_small}
-use Rattle.cell_edges.proofs.StoresKeep.{then_holds, then_is, TakenAt, taken_at, written_agrees, HasRoot, amount_there, its_amount, counts_amount, amount_meant, stored_stands}
+use Rattle.cell_edges.proofs.StoreOutcomes.{result_meant, each_outcome}
+use Rattle.cell_edges.proofs.StoresKeep.{then_holds, TakenAt, taken_at, written_agrees, counts_amount, stored_stands}
 
 -- ---- numbers
 
@@ -412,128 +410,15 @@ module _ (given : Given) (p : Program) (statement : ℕ) (a : Act) (x : Action) 
     amounts_fit None = tt
     amounts_fit (Some r) = result_fits given.rising mode (form_at p.layout place) r
 
-    module _ (q : IsStored a x done place y) where
-      -- bytes that it gets are of a number of the result
-      result_meant : (held : List ℕ) → m.by_zero ≡ false → stored_bytes p.layout m place mode y ≡ Some held → IsSomeAnd (result_at p a x t place mode y) (λ i. (z : ℤ) × Holds i z × (held ≡ bytes_of (form_at p.layout place) z))
-      result_meant held unzero e =
-          let v = then_is (amount p.layout m y) (stored_units mode (form_at p.layout place)) held e in
-          then_holds (λ (r : AmountRange). IsAmount r v.0) (λ i. (z : ℤ) × Holds i z × (held ≡ bytes_of (form_at p.layout place) z)) (amount_at p a x t place y) (result_range mode (receiver_of (form_at p.layout place)))
-          (amount_meant p statement a x done place y t m g q unzero v.0 v.1) (λ r h. given.fits_ mode (form_at p.layout place) r v.0 held h v.2)
-
-      store_fits : (held : List ℕ) → m.by_zero ≡ false → stored_bytes p.layout m place mode y ≡ Some held → PassesPart p.layout (handled p a x) (store place mode y) m (with_storage m (filled_at p.layout m.storage place held))
-          → SeenNow (done ++ store place mode y ∷ []) (stored p a x t place mode y) (with_storage m (filled_at p.layout m.storage place held))
-      store_fits held unzero e passes = fit_keeps (may_fail p a x t place mode y) (result_at p a x t place mode y) held unzero (amounts_fit (amount_at p a x t place y)) (result_meant held unzero e) passes
-
-      -- ---- why a receiver may keep its value
-
-      abbrev E : Bool
-      E = may_exceed p a x t place mode y
-
-      abbrev V : Bool
-      V = may_vanish t.common y
-
-      abbrev R : Bool
-      R = is_remainder y && t.any_fail
-
-      by_exceeding : handled p a x ≡ true → E ≡ true → may_fail p a x t place mode y ≡ true
-      by_exceeding on e = and_true (handled p a x) (E || (t.may_zero || (V || R))) on (or_left E (t.may_zero || (V || R)) e)
-
-      by_zero : handled p a x ≡ true → t.may_zero ≡ true → may_fail p a x t place mode y ≡ true
-      by_zero on e = and_true (handled p a x) (E || (t.may_zero || (V || R))) on (or_right E (t.may_zero || (V || R)) (or_left t.may_zero (V || R) e))
-
-      by_quotient : handled p a x ≡ true → is_remainder y ≡ true → t.any_fail ≡ true → may_fail p a x t place mode y ≡ true
-      by_quotient on e f = and_true (handled p a x) (E || (t.may_zero || (V || R))) on (or_right E (t.may_zero || (V || R)) (or_right t.may_zero (V || R) (or_right V R (and_true (is_remainder y) t.any_fail e f))))
-
-      -- left alone
-      alone_fails : handled p a x ≡ true → is_left_alone m y ≡ true → may_fail p a x t place mode y ≡ true
-      alone_fails on e = by_kind y refl e m.by_zero refl
-        where
-          by_kind : (u : Amount) → y ≡ u → is_left_alone m u ≡ true → (b : Bool) → m.by_zero ≡ b → may_fail p a x t place mode y ≡ true
-          by_kind u same h true f = by_zero on (g.zero f)
-          by_kind (computed s k) same h false f = absurd cc
-          by_kind (moved k) same h false f = absurd cc
-          by_kind (augmented k) same h false f = absurd cc
-          by_kind (remaining s scale) same h false f =
-              by_quotient on (ap is_remainder same) (g.fails (subst (λ (b : Bool). (b || m.failed) ≡ true) f h) f)
-
-      -- a remainder of what is no quotient
-      no_root : (s : Sum) (scale : ℕ) → y ≡ remaining s scale → root_of s ≡ None → E ≡ true
-      no_root s scale same none =
-          let taken = g.taken in
-          let operands_are : edge_amount a x ≡ Some (of_operands y) = its_amount p statement a x done place y q in
-          go (sum_range (range_at p taken.0) s)
-          (taken.1 ∙ (ap (λ (o : Option Amount). o >>= operands (range_at p taken.0)) (operands_are ∙ ap (λ (u : Amount). Some (of_operands u)) same) ∙ ap (taken_from (range_at p taken.0) s) none))
-        where
-          go : (o : Option Ranged) → t.common ≡ option_map alone o → E ≡ true
-          go None e = subst (λ (c : Option Taken). option_map_or (result.may_fail mode (receiver_of (form_at p.layout place))) (c >>= amount_of y (range_at p t.cells place)) true ≡ true) (sym e) refl
-          go (Some r) e = subst (λ (c : Option Taken). option_map_or (result.may_fail mode (receiver_of (form_at p.layout place))) (c >>= amount_of y (range_at p t.cells place)) true ≡ true) (sym e)
-              (subst (λ (u : Amount). option_map_or (result.may_fail mode (receiver_of (form_at p.layout place))) (amount_of u (range_at p t.cells place) (alone r)) true ≡ true) (sym same) refl)
-
-      -- where it doesn't hold its value
-      misfit_exceeds : m.by_zero ≡ false → stored_bytes p.layout m place mode y ≡ None → E ≡ true
-      misfit_exceeds unzero e = by_amount (amount p.layout m y) refl e
-        where
-          exceeds_in : (o : Option AmountRange) (v : Fraction) → IsSomeAnd o (λ r. IsAmount r v) → stored_units mode (form_at p.layout place) v ≡ None → option_map_or (result.may_fail mode (receiver_of (form_at p.layout place))) o true ≡ true
-          exceeds_in None v h f = absurd h
-          exceeds_in (Some r) v h f = given.fails_ mode (form_at p.layout place) r v h f
-
-          nothing_there : amount p.layout m y ≡ None → is_some (amount p.layout m y) ≡ true → ⊥
-          nothing_there f h = cc
-
-          by_root : (s : Sum) (scale : ℕ) → y ≡ remaining s scale → amount p.layout m y ≡ None → (o : Option Root) → root_of s ≡ o → E ≡ true
-          by_root s scale same f None k = no_root s scale same k
-          by_root s scale same f (Some r) k =
-              absurd (nothing_there f (amount_there p statement a x done place y t m g q unzero (subst (λ (u : Amount). HasRoot p statement a x u) (sym same) (ap is_some k))))
-
-          by_kind : (u : Amount) → y ≡ u → amount p.layout m y ≡ None → E ≡ true
-          by_kind (computed s k) same f = absurd (nothing_there f (amount_there p statement a x done place y t m g q unzero (subst (λ (u : Amount). HasRoot p statement a x u) (sym same) tt)))
-          by_kind (moved k) same f = absurd (nothing_there f (amount_there p statement a x done place y t m g q unzero (subst (λ (u : Amount). HasRoot p statement a x u) (sym same) tt)))
-          by_kind (augmented k) same f = absurd (nothing_there f (amount_there p statement a x done place y t m g q unzero (subst (λ (u : Amount). HasRoot p statement a x u) (sym same) tt)))
-          by_kind (remaining s scale) same f = by_root s scale same f (root_of s) refl
-
-          by_amount : (o : Option Fraction) → amount p.layout m y ≡ o → (o >>= stored_units mode (form_at p.layout place)) ≡ None → E ≡ true
-          by_amount None f h = by_kind y refl f
-          by_amount (Some v) f h = exceeds_in (amount_at p a x t place y) v (amount_meant p statement a x done place y t m g q unzero v f) h
-
-      -- ---- both kinds of edges
-
-      store_keeps : (n : Moment) → (handled p a x ≡ false → m.by_zero ≡ false) → PassesPart p.layout (handled p a x) (store place mode y) m n → SeenNow (done ++ store place mode y ∷ []) (stored p a x t place mode y) n
-      store_keeps n off_zero (h, fits) = go (handled p a x) refl h
-        where
-          here : (n : Moment) (b : Bool) → handled p a x ≡ b → Stores p.layout b place mode y m n → PassesPart p.layout (handled p a x) (store place mode y) m n
-          here n b e k = (subst (λ (c : Bool). Stores p.layout c place mode y m n) (sym e) k, fits)
-
-          left : (on : handled p a x ≡ true) → is_left_alone m y ≡ true → Stores p.layout true place mode y m m → SeenNow (done ++ store place mode y ∷ []) (stored p a x t place mode y) m
-          left on e k = kept_keeps (may_fail p a x t place mode y) (result_at p a x t place mode y) m (alone_fails on e) (here m true on k) refl refl g.stands
-
-          by_bytes : handled p a x ≡ true → m.by_zero ≡ false → (o : Option (List ℕ)) → stored_bytes p.layout m place mode y ≡ o → Stores p.layout true place mode y m (stored_or_kept p.layout m place o)
-              → SeenNow (done ++ store place mode y ∷ []) (stored p a x t place mode y) (stored_or_kept p.layout m place o)
-          by_bytes on unzero None e k =
-              kept_keeps (may_fail p a x t place mode y) (result_at p a x t place mode y) (with_failure m) (by_exceeding on (misfit_exceeds unzero e)) (here (with_failure m) true on k) refl refl g.stands
-          by_bytes on unzero (Some held) e k = store_fits held unzero e (here (with_storage m (filled_at p.layout m.storage place held)) true on k)
-
-          not_alone : (u : Amount) → is_left_alone m u ≡ false → m.by_zero ≡ false
-          not_alone (computed s k) e = e
-          not_alone (moved k) e = e
-          not_alone (augmented k) e = e
-          not_alone (remaining s scale) e = front m.by_zero e
-            where
-              front : (b : Bool) → (b || m.failed) ≡ false → b ≡ false
-              front true f = absurd cc
-              front false f = refl
-
-          by_alone : handled p a x ≡ true → (b : Bool) → is_left_alone m y ≡ b → n ≡ (if b then m else stored_or_kept p.layout m place (stored_bytes p.layout m place mode y)) → SeenNow (done ++ store place mode y ∷ []) (stored p a x t place mode y) n
-          by_alone on true e k = subst (λ (j : Moment). SeenNow (done ++ store place mode y ∷ []) (stored p a x t place mode y) j) (sym k)
-              (left on e (sym (ap (λ (b : Bool). if b then m else stored_or_kept p.layout m place (stored_bytes p.layout m place mode y)) e)))
-          by_alone on false e k = subst (λ (j : Moment). SeenNow (done ++ store place mode y ∷ []) (stored p a x t place mode y) j) (sym k)
-              (by_bytes on (not_alone y e) (stored_bytes p.layout m place mode y) refl (sym (ap (λ (b : Bool). if b then m else stored_or_kept p.layout m place (stored_bytes p.layout m place mode y)) e)))
-
-          go : (b : Bool) → handled p a x ≡ b → Stores p.layout (handled p a x) place mode y m n → SeenNow (done ++ store place mode y ∷ []) (stored p a x t place mode y) n
-          go true on k = by_alone on (is_left_alone m y) refl (subst (λ (c : Bool). Stores p.layout c place mode y m n) on k)
-          go false off k =
-              let w = subst (λ (c : Bool). Stores p.layout c place mode y m n) off k in
-              subst (λ (j : Moment). SeenNow (done ++ store place mode y ∷ []) (stored p a x t place mode y) j) (sym w.2)
-              (store_fits w.0 (off_zero off) w.1 (here (with_storage m (filled_at p.layout m.storage place w.0)) false off (w.0, w.1, refl)))
+    store_keeps : IsStored a x done place y → (n : Moment) → (handled p a x ≡ false → m.by_zero ≡ false) → PassesPart p.layout (handled p a x) (store place mode y) m n
+        → SeenNow (done ++ store place mode y ∷ []) (stored p a x t place mode y) n
+    store_keeps q n off_zero h =
+        each_outcome given p statement a x done place mode y t m g q
+        (λ (j : Moment). PassesPart p.layout (handled p a x) (store place mode y) m j → SeenNow (done ++ store place mode y ∷ []) (stored p a x t place mode y) j)
+        (λ fails passes. kept_keeps (may_fail p a x t place mode y) (result_at p a x t place mode y) m fails passes refl refl g.stands)
+        (λ fails passes. kept_keeps (may_fail p a x t place mode y) (result_at p a x t place mode y) (with_failure m) fails passes refl refl g.stands)
+        (λ held unzero e passes. fit_keeps (may_fail p a x t place mode y) (result_at p a x t place mode y) held unzero (amounts_fit (amount_at p a x t place y)) (result_meant given p statement a x done place mode y t m g q held unzero e) passes)
+        n off_zero h.0 h
 
   -- ---- off edges of size errors no divisor was 0
 

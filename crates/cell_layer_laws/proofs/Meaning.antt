@@ -1,29 +1,26 @@
 -- What is known of cells stands for the runs of a program along its graph.
-use Rattle.std.proofs.Common.{◌≡◌, ℕ, ◌≤ℤ◌, Bool, true, false, if◌then◌else◌, List, [], ◌∷◌, Option, Some, None, ℤ, refl, sym, ap, subst, ◌∙◌, arith}
+use Rattle.std.proofs.Common.{◌≡◌, ℕ, true, List, Option, Some, None, ℤ, sym, ap, subst, ◌∙◌}
 use Rattle.std.specs.Option.{option_map_or}
-use Rattle.std.proofs.lemmas.Int.{ints}
 use Rattle.cob_tree.specs.declared.fault.Kind.{Kind}
 use Rattle.cob_program.specs.Act.{Act, Program}
-use Rattle.cob_program.specs.Values.{◌>>=◌}
 use Rattle.cob_runs.specs.Effects.{act_at}
 use Rattle.cob_graph.specs.declared.graph.Edge.{Edge}
 use Rattle.cob_graph.specs.declared.graph.Graph.{Graph}
 use Rattle.cob_graph.specs.declared.graph.Node.{Node}
-use Rattle.cob_graph.specs.Lookup.{node_at}
-use Rattle.dom_laws.specs.Lattice.{IsElement}
 use Rattle.dom_laws.specs.Meaning.{Storage, IsMeaning}
-use Rattle.cell_rows.specs.Known.{Known, KnownBelow}
-use Rattle.cell_rows.specs.Elements.{Element, ElementFits, CellsBelow, ElementBelow}
+use Rattle.cell_rows.specs.Known.{Known}
+use Rattle.cell_rows.specs.Elements.{Element, ElementBelow}
 use Rattle.cell_rows.specs.Rows.{element_of}
 use Rattle.cell_rows.proofs.Rows.{element_back}
 use Rattle.graph_runs.specs.Places.{edge_at, IsOf, DoesAt}
 use Rattle.graph_runs.specs.Doing.{Begins, Acts, MeetsAt}
-use Rattle.cell_storages.specs.Homes.{Home, is_home, homes_of, owns}
-use Rattle.cell_storages.specs.Storages.{known_of, storage, value_at, KnownStands, StandsIn, ElementStands}
+use Rattle.cell_storages.specs.Homes.{homes_of, owns}
+use Rattle.cell_storages.specs.Storages.{storage, value_at, StandsIn, ElementStands}
 use Rattle.cell_steps.specs.Edges.{post_cells, clears_edge}
 use Rattle.cell_layer_laws.specs.Entry.{entry_cells}
-use Rattle.cell_layer_laws.specs.Layer.{statement_at, row_for, left, edge_cells, post_at, row_post, edge_clears, clears_at, cell_flow, cell_meaning}
+use Rattle.cell_layer_laws.specs.Layer.{statement_at, row_for, left, edge_cells, post_at, edge_clears, clears_at, cell_flow, cell_meaning}
 use Rattle.cell_layer_laws.proofs.Entry.{entry_fits, entry_stands}
+use Rattle.cell_edges.proofs.HomesStand.{all_stand_above}
 use Rattle.cell_edges.proofs.EachEdge.{all_posts_stand, none_cleared_is_met}
 use Rattle.edge_premises.proofs.Edges.{edges_are_sound_of_sources}
 use Rattle.cell_layer_laws.proofs.Flow.{lattice, post_fits}
@@ -31,32 +28,13 @@ use Rattle.cell_layer_laws.proofs.Clears.{cleared_on, clears_stay}
 
 -- ---- less is known above
 
-stands_above : (c d : Known) (v : Option ℤ) → KnownBelow c d → KnownStands c v → KnownStands d v
-stands_above c None v h s = tt
-stands_above None (Some j) v h s = absurd h
-stands_above (Some i) (Some j) None h s = s
-stands_above (Some i) (Some j) (Some v) (low, high) (a, b) = (omega (arith, ints, low, a), omega (arith, ints, high, b))
-
-all_above : (hs : List Home) (cs ds : List Known) (h : Home) (v : Option ℤ) → CellsBelow cs ds → KnownStands (known_of hs cs h) v →
-    KnownStands (known_of hs ds h) v
-all_above [] cs ds h v below stands = tt
-all_above (k ∷ hs) [] [] h v below stands = tt
-all_above (k ∷ hs) [] (d ∷ ds) h v below stands = absurd below
-all_above (k ∷ hs) (c ∷ cs) [] h v below stands = absurd below
-all_above (k ∷ hs) (c ∷ cs) (d ∷ ds) h v below stands = by_home (is_home k h) (λ s. all_above hs cs ds h v below.1 s) stands
-  where
-    by_home : (b : Bool) → (KnownStands (known_of hs cs h) v → KnownStands (known_of hs ds h) v) →
-        KnownStands (if b then c else known_of hs cs h) v → KnownStands (if b then d else known_of hs ds h) v
-    by_home true rest s = stands_above c d v below.0 s
-    by_home false rest s = rest s
-
 element_above : (p : Program) (x y : Element) (s : Storage) → ElementBelow x y → ElementStands p x s → ElementStands p y s
 element_above p None y s below stands = absurd stands
 element_above p (Some cs) None s below stands = absurd below
 element_above p (Some cs) (Some ds) s below stands = record {
   whole = stands.whole;
   counted = stands.counted;
-  known = λ h. all_above (homes_of p) cs ds h (value_at p.layout s h) below (stands.known h);
+  known = λ h. all_stand_above (homes_of p) cs ds h (value_at p.layout s h) below (stands.known h);
 }
 
 -- ---- the statement at a node

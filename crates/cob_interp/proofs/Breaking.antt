@@ -21,7 +21,7 @@ use Rattle.cob_interp.specs.Told.{seen, seen_file, seen_files, IsSyncedIn, IsSyn
 use Rattle.cob_interp.specs.Touching.{IsPartOf, makes_by, makes_none, TouchesIn, Touches}
 use Rattle.cob_interp.specs.Running.{Outside, IfTold, makes_next, StandsIn, Stands, RestsIn, Rests, BreaksOff, IsBroken}
 use Rattle.cob_interp.proofs.SeenFiles.{SeenAt, seen_at}
-use Rattle.cob_interp.proofs.Passing.{ids_pass, append_twice}
+use Rattle.cob_interp.proofs.Passing.{append_twice}
 use Rattle.cob_interp.proofs.OneEndLemmas as one_end
 
 -- ---- contents that are told
@@ -35,14 +35,14 @@ told_on P Q (Some first) (Some told) c t f = f first told refl t
 -- ---- a part of a file
 
 module _ (told now : Contents) (path : List ℕ) (makes : Bool) where
-  part_by_mode : (content : Option (List ℕ)) (m : Mode) (place : ℕ) → IsSyncedIn told m path content
+  part_by_mode : (content : Option (List ℕ)) (m : Mode) (place : ℕ) → IsSyncedIn told m path content place
       → IsPartOf makes (file content m place) (get told path) (get now path)
       → IsPartOf makes (seen_file told path (file content m place)) (seen_file told path (file content m place)).content
       (get now path)
   part_by_mode content closed place s (inl same) = inl same
   part_by_mode content closed place s (inr (inl front)) = let e = front.0 in cc
   part_by_mode content closed place s (inr (inr empty)) = inr (inr (empty.0, (refl, empty.1.1)))
-  part_by_mode content (reading ended) place s (inl same) = inl (same ∙ s)
+  part_by_mode content (reading ended) place s (inl same) = inl same
   part_by_mode content (reading ended) place s (inr (inl front)) = let e = front.0 in cc
   part_by_mode content (reading ended) place s (inr (inr empty)) = let e = empty.1.0 in cc
   part_by_mode content writing place s (inl same) = inr (inl (refl, (0, same ∙ s.0)))
@@ -75,7 +75,6 @@ module _ (paths : List (List ℕ)) (makes : ℕ → Bool) (w : World) where
   pub touches_pass : (a b c : FilesState) → Touches paths makes w a b → Touches paths makes w b c
       → Touches paths makes w a c
   touches_pass a b c h k = record {
-    ids = ids_pass a b c h.ids k.ids;
     known = λ told e.
         let t = h.known told e in
         let u = k.known t.now t.is in

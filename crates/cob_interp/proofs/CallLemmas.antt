@@ -5,7 +5,8 @@ use Rattle.cob_program.specs.declared.act.Opening.{Opening}
 use Rattle.cob_program.specs.Act.{Act, move, arith, if_, evaluate, perform, go, nothing, stop, open_files, close_files, read, write, show}
 use Rattle.cob_interp.specs.declared.parts.Call.TheVariants as call
 use Rattle.cob_interp.specs.Setting.{IsCall}
-use Rattle.cob_interp.specs.Doing.{IsPlain}
+use Rattle.cob_plan.specs.declared.node.Op.{Op}
+use Rattle.cob_interp.specs.Doing.{IsPlain, IsQuiet}
 
 module _ (os : Bor (List Opening)) where
   pub is_open : (a : Act) → IsCall a (call.Open os) → a ≡ open_files os.now
@@ -39,34 +40,35 @@ module _ (fs : Bor (List ℕ)) where
   is_close (write r from) is = absurd is
   is_close (show xs) is = absurd is
 
-pub plain_read : (a : Act) (file : ℕ) → IsCall a (call.Read file) → IsPlain a
-plain_read (open_files os) file is = absurd is
-plain_read (close_files xs) file is = absurd is
-plain_read (read f into end fine) file is = tt
-plain_read (move x places) file is = tt
-plain_read (arith sum targets remainder size fine) file is = tt
-plain_read (if_ t held other) file is = tt
-plain_read (evaluate ws other) file is = tt
-plain_read (perform body turns) file is = tt
-plain_read (go para) file is = tt
-plain_read nothing file is = tt
-plain_read stop file is = tt
-plain_read (write r from) file is = tt
-plain_read (show xs) file is = tt
+-- a READ's later nodes
+pub quiet_read : (a : Act) (file : ℕ) → IsCall a (call.Read file) → (o : Op) → IsQuiet o → IsPlain o a
+quiet_read (open_files os) file is o quiet = absurd is
+quiet_read (close_files xs) file is o quiet = absurd is
+quiet_read (read f into end fine) file is o quiet = quiet
+quiet_read (move x places) file is o quiet = absurd is
+quiet_read (arith sum targets remainder size fine) file is o quiet = absurd is
+quiet_read (if_ t held other) file is o quiet = absurd is
+quiet_read (evaluate ws other) file is o quiet = absurd is
+quiet_read (perform body turns) file is o quiet = absurd is
+quiet_read (go para) file is o quiet = absurd is
+quiet_read nothing file is o quiet = absurd is
+quiet_read stop file is o quiet = absurd is
+quiet_read (write r from) file is o quiet = absurd is
+quiet_read (show xs) file is o quiet = absurd is
 
-pub plain_other : (a : Act) → IsCall a call.Other → IsPlain a
-plain_other (open_files os) is = absurd is
-plain_other (close_files xs) is = absurd is
-plain_other (read f into end fine) is = tt
-plain_other (move x places) is = tt
-plain_other (arith sum targets remainder size fine) is = tt
-plain_other (if_ t held other) is = tt
-plain_other (evaluate ws other) is = tt
-plain_other (perform body turns) is = tt
-plain_other (go para) is = tt
-plain_other nothing is = tt
-plain_other stop is = tt
-plain_other (write r from) is = tt
-plain_other (show xs) is = tt
+pub plain_other : (o : Op) (a : Act) → IsCall a call.Other → IsPlain o a
+plain_other o (open_files os) is = absurd is
+plain_other o (close_files xs) is = absurd is
+plain_other o (read f into end fine) is = absurd is
+plain_other o (move x places) is = tt
+plain_other o (arith sum targets remainder size fine) is = tt
+plain_other o (if_ t held other) is = tt
+plain_other o (evaluate ws other) is = tt
+plain_other o (perform body turns) is = tt
+plain_other o (go para) is = tt
+plain_other o nothing is = tt
+plain_other o stop is = tt
+plain_other o (write r from) is = tt
+plain_other o (show xs) is = tt
 
-pub ruleset calls = (is_close, plain_read, plain_other)
+pub ruleset calls = (is_close, quiet_read, plain_other)

@@ -6,7 +6,7 @@ use Rattle.cob_data.specs.declared.layout.FileDecl.{FileDecl}
 use Rattle.cob_data.specs.declared.layout.Layout.{Layout}
 use Rattle.cob_program.specs.declared.act.Opening.{Opening}
 use Rattle.cob_runs.specs.Contents.{fitted, bytes_at}
-use Rattle.cob_runs.specs.Files.{File, opened, after_close, after_read, after_write, with_status}
+use Rattle.cob_runs.specs.Files.{File, reading, opened, after_close, after_read, after_write, with_status}
 use Rattle.cob_runs.specs.State.{World, with_storage, with_files}
 use Rattle.cob_runs.specs.Acts.{is_fine, decl_at, with_file, file_act, open_one, close_one, take_on, take_one, undefined_if, written_world, write_on, write_one}
 use Rattle.cob_interp.specs.Told.{seen_file, seen_files, seen, IsSynced, AreSynced, AreDistinct, AgreeBut, IsReadyToOpen, IsReadyToClose}
@@ -92,24 +92,26 @@ module _ (l : Layout) (told : Contents) (paths : List (List ℕ)) (text : List �
   unchanged : CallFollows told paths text (w, 0) (seen told paths text w, 0)
   unchanged = record { status = refl; world = refl; synced = s }
 
-  read_on : (place : ℕ) (decl : Option FileDecl) (o other : Option File) → SeenAt told paths place o other
+  -- of a file that isn't read, or whose end was met
+  read_on : (place : ℕ) (decl : Option FileDecl) (o other : Option File)
+      → ((f : File) → o ≡ Some f → f.mode ≡ reading false → ⊥) → SeenAt told paths place o other
       → CallFollows told paths text (take_on l None place decl o w) (take_on l None place decl other
       (seen told paths text w))
-  read_on place None o other sees = unchanged
-  read_on place (Some d) None None sees = unchanged
-  read_on place (Some d) None (Some h) sees = cc
-  read_on place (Some d) (Some f) None sees = cc
-  read_on place (Some d) (Some f) (Some h) sees =
+  read_on place None o other idle sees = unchanged
+  read_on place (Some d) None None idle sees = unchanged
+  read_on place (Some d) None (Some h) idle sees = cc
+  read_on place (Some d) (Some f) None idle sees = cc
+  read_on place (Some d) (Some f) (Some h) idle sees =
       let h_is : h ≡ seen_file told sees.0 f = cc in
-      let follows = read_follows told sees.0 d.length f sees.3 in
+      let follows = read_follows told sees.0 d.length f (idle f refl) sees.3 in
       rw h_is (changed l told told paths text apart w s place sees.0 (after_read d.length f).file _ _ _
       (after_read d.length f).status _
       (λ name e. refl) sees.1 follows.file follows.synced
       (rw (follows.found, follows.status) refl) follows.status)
 
-  pub take_one_follows : (place : ℕ)
+  pub take_one_follows : (place : ℕ) → ((f : File) → slice_get w.files place ≡ Some f → f.mode ≡ reading false → ⊥)
       → CallFollows told paths text (take_one l None place w) (take_one l None place (seen told paths text w))
-  take_one_follows place = read_on place (decl_at l place) _ _ (seen_at told paths w.files place s)
+  take_one_follows place idle = read_on place (decl_at l place) _ _ idle (seen_at told paths w.files place s)
 
   undefined_none : (b : Bool) (d : FileDecl) (v : World) → undefined_if l b None d v ≡ v
   undefined_none true d v = refl

@@ -45,7 +45,6 @@ refused_halts s budget start sink old new v text end.ReadFault well r = rose_on 
 refused_halts s budget start sink old new v text end.WriteFault well r = inl
     (rose_on start.files.writing old.writing new.writing well.writing r)
 refused_halts s budget start sink old new v text end.Memory well r = tt
-refused_halts s budget start sink old new v text (end.Long count) well r = absurd r
 refused_halts s budget start sink old new v text (end.Ragged file count) well r = absurd r
 refused_halts s budget start sink old new v text (end.StepsSpent count) well r = absurd r
 refused_halts s budget start sink old new v text (end.IoStop status_ statement) well r = absurd r

@@ -24,6 +24,9 @@ use Rattle.cob_interp.specs.declared.setting.Place.{Place}
 use Rattle.cob_interp.specs.Setting.{program_of}
 use Rattle.cob_interp.specs.Doing.{answered, DoesPart}
 use Rattle.cob_interp.specs.Touching.{ClosesOnly, OpensOnly}
+use Rattle.cob_interp.specs.Tracking.{IsReading, KeepsPlaces}
+use Rattle.cob_interp.proofs.Places.{set_keeps}
+use Rattle.cob_interp.proofs.TrackLemmas.{places_stay}
 use Rattle.cob_interp.proofs.Onward.{effect_by_act}
 use Rattle.cob_interp.proofs.CallsLead.{one_of_two}
 
@@ -116,6 +119,16 @@ module _ (l : Layout) (w : World) where
   pub close_one_closes : (place : ℕ) → ClosesOnly w (close_one l place w).0
   close_one_closes place = closes_on place (decl_at l place) (slice_get w.files place) refl
 
+  keeps_on : (place : ℕ) (d : Option FileDecl) (o : Option File)
+      → KeepsPlaces w.files (file_act l after_close place d o w).0.files
+  keeps_on place None o = places_stay w.files
+  keeps_on place (Some d) None = places_stay w.files
+  keeps_on place (Some d) (Some f) = set_keeps w.files place (after_close f).0
+      (λ reads. subst (λ (m : Mode). IsReading m → ⊥) (sym (closed_by_mode f.content f.mode f.place)) (λ r. r) reads)
+
+  pub close_one_keeps : (place : ℕ) → KeepsPlaces w.files (close_one l place w).0.files
+  close_one_keeps place = keeps_on place (decl_at l place) (slice_get w.files place)
+
   opens_on : (output : Bool) (place : ℕ) (d : Option FileDecl) (o : Option File) → slice_get w.files place ≡ o
       → OpensOnly w (file_act l (opened output) place d o w).0
   opens_on output place None o has = opens_stay w
@@ -161,39 +174,42 @@ module _ (p : Program) (number k : ℕ) (w v : World) where
       sym (effect_by_act p number w x.0 b its)
       ∙ subst (λ (y : Action × ℕ). effect p number None w y.0 ≡ Ok (Some v)) is does
 
-  module _ (fs : List ℕ) (its : act_at p number ≡ Some (close_files fs)) where
-    closed_so : (fine : Bool) (o : Option ℕ) → effects.closed p number None w fine o ≡ Ok (Some v) → ClosesOnly w v
+  -- what holds behind each CLOSE
+  module _ (fs : List ℕ) (its : act_at p number ≡ Some (close_files fs)) (Is : World → Type 0)
+      (each : (file_ : ℕ) → Is (close_one p.layout file_ w).0) where
+    closed_so : (fine : Bool) (o : Option ℕ) → effects.closed p number None w fine o ≡ Ok (Some v) → Is v
     closed_so fine None e = absurd (not_going v e)
     closed_so fine (Some file_) e =
-        subst (λ (u : World). ClosesOnly w u) (by_status_is p number w v fine (close_one p.layout file_ w) e)
-        (close_one_closes p.layout w file_)
+        subst Is (by_status_is p number w v fine (close_one p.layout file_ w) e) (each file_)
 
-    pub close_edge_closes : (fine bad : ℕ) (a : Action) (m : ℕ) → Contains (op_edges (op.Close k fine bad)) (a, m)
-        → effect p number None w a ≡ Ok (Some v) → ClosesOnly w v
-    close_edge_closes fine bad a m out does = elim (one_of_two _ _ _ out) [
+    pub close_edge_is : (fine bad : ℕ) (a : Action) (m : ℕ) → Contains (op_edges (op.Close k fine bad)) (a, m)
+        → effect p number None w a ≡ Ok (Some v) → Is v
+    close_edge_is fine bad a m out does = elim (one_of_two _ _ _ out) [
       | inl is ↦ closed_so true (slice_get fs k) (does_by_act (close_files fs) its (action.Close k, fine) a m is does)
       | inr is ↦ closed_so false (slice_get fs k) (does_by_act (close_files fs) its (action.Bad k, bad) a m is does)
     ]
 
-  module _ (os : List Opening) (its : act_at p number ≡ Some (open_files os)) where
-    opened_so : (fine : Bool) (o : Option Opening) → effects.opened p number None w fine o ≡ Ok (Some v) → OpensOnly w v
-    opened_so fine None e = absurd (not_going v e)
-    opened_so fine (Some o) e =
-        subst (λ (u : World). OpensOnly w u) (by_status_is p number w v fine (open_one p.layout o w) e)
-        (open_one_opens p.layout w o)
+  -- and behind each OPEN
+  module _ (os : List Opening) (its : act_at p number ≡ Some (open_files os)) (Is : World → Type 0)
+      (each : (o : Opening) → slice_get os k ≡ Some o → Is (open_one p.layout o w).0) where
+    opened_so : (fine : Bool) (o : Option Opening) → slice_get os k ≡ o
+        → effects.opened p number None w fine o ≡ Ok (Some v) → Is v
+    opened_so fine None at e = absurd (not_going v e)
+    opened_so fine (Some o) at e =
+        subst Is (by_status_is p number w v fine (open_one p.layout o w) e) (each o at)
 
-    pub open_edge_opens : (fine bad : ℕ) (a : Action) (m : ℕ) → Contains (op_edges (op.Open k fine bad)) (a, m)
-        → effect p number None w a ≡ Ok (Some v) → OpensOnly w v
-    open_edge_opens fine bad a m out does = elim (one_of_two _ _ _ out) [
-      | inl is ↦ opened_so true (slice_get os k) (does_by_act (open_files os) its (action.Open k, fine) a m is does)
-      | inr is ↦ opened_so false (slice_get os k) (does_by_act (open_files os) its (action.Bad k, bad) a m is does)
+    pub open_edge_is : (fine bad : ℕ) (a : Action) (m : ℕ) → Contains (op_edges (op.Open k fine bad)) (a, m)
+        → effect p number None w a ≡ Ok (Some v) → Is v
+    open_edge_is fine bad a m out does = elim (one_of_two _ _ _ out) [
+      | inl is ↦ opened_so true (slice_get os k) refl (does_by_act (open_files os) its (action.Open k, fine) a m is does)
+      | inr is ↦ opened_so false (slice_get os k) refl (does_by_act (open_files os) its (action.Bad k, bad) a m is does)
     ]
 
 -- ---- the part of a node
 
 module _ (s : Setting) (x : Place) (step : ℕ) (w v : World) where
   -- what each way on leaves holds where the node's part is done
-  where_done : (IsIt : Type 0) (o : Op) → x.plan_node.now.op ≡ o
+  pub where_done : (IsIt : Type 0) (o : Op) → x.plan_node.now.op ≡ o
       → ((a : Action) (m : ℕ) → Contains (op_edges o) (a, m)
       → effect (program_of s) x.statement.now.number None w a ≡ Ok (Some v) → IsIt)
       → (result : Result ℕ RunEnd) → DoesPart s x step w v result → IfOk result (λ _. IsIt)
@@ -210,14 +226,24 @@ module _ (s : Setting) (x : Place) (step : ℕ) (w v : World) where
       → (result : Result ℕ RunEnd) → DoesPart s x step w v result → IfOk result (λ _. ClosesOnly w v)
   close_part fs k fine bad is its result d =
       where_done (ClosesOnly w v) (op.Close k fine bad) is
-      (close_edge_closes (program_of s) x.statement.now.number k w v fs its fine bad) result d
+      (close_edge_is (program_of s) x.statement.now.number k w v fs its (λ (u : World). ClosesOnly w u)
+      (close_one_closes s.program.now.layout w) fine bad) result d
+
+  pub close_places : (fs : List ℕ) (k fine bad : ℕ) → x.plan_node.now.op ≡ op.Close k fine bad
+      → act_at (program_of s) x.statement.now.number ≡ Some (close_files fs)
+      → (result : Result ℕ RunEnd) → DoesPart s x step w v result → IfOk result (λ _. KeepsPlaces w.files v.files)
+  close_places fs k fine bad is its result d =
+      where_done (KeepsPlaces w.files v.files) (op.Close k fine bad) is
+      (close_edge_is (program_of s) x.statement.now.number k w v fs its (λ (u : World). KeepsPlaces w.files u.files)
+      (close_one_keeps s.program.now.layout w) fine bad) result d
 
   pub open_part : (os : List Opening) (k fine bad : ℕ) → x.plan_node.now.op ≡ op.Open k fine bad
       → act_at (program_of s) x.statement.now.number ≡ Some (open_files os)
       → (result : Result ℕ RunEnd) → DoesPart s x step w v result → IfOk result (λ _. OpensOnly w v)
   open_part os k fine bad is its result d =
       where_done (OpensOnly w v) (op.Open k fine bad) is
-      (open_edge_opens (program_of s) x.statement.now.number k w v os its fine bad) result d
+      (open_edge_is (program_of s) x.statement.now.number k w v os its (λ (u : World). OpensOnly w u)
+      (λ o at. open_one_opens s.program.now.layout w o) fine bad) result d
 
 -- behind other changes
 pub opens_behind : (w u v : World) (result : Result ℕ RunEnd) → OpensOnly w u → IfOk result (λ _. OpensOnly u v)

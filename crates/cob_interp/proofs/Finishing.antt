@@ -44,7 +44,6 @@ module _ (p : Program) (g : Graph) (paths : List (List ℕ)) (budget : ℕ) wher
   if_refused (Err end.ReadFault) P x = x
   if_refused (Err end.WriteFault) P x = x
   if_refused (Err end.Memory) P x = x
-  if_refused (Err (end.Long count)) P x = x
   if_refused (Err (end.Ragged file count)) P x = tt
   if_refused (Err (end.StepsSpent count)) P x = tt
   if_refused (Err (end.IoStop status statement)) P x = tt
@@ -68,7 +67,6 @@ module _ (p : Program) (g : Graph) (paths : List (List ℕ)) (budget : ℕ) wher
     file_ends old new sink text end.WriteFault well r =
         inl (rose_on start.files.writing old.writing new.writing well.writing r)
     file_ends old new sink text end.Memory well r = tt
-    file_ends old new sink text (end.Long count) well r = absurd r
     file_ends old new sink text (end.Ragged file count) well r = absurd r
     file_ends old new sink text (end.StepsSpent count) well r = absurd r
     file_ends old new sink text (end.IoStop status statement) well r = absurd r
@@ -151,7 +149,6 @@ module _ (p : Program) (g : Graph) (paths : List (List ℕ)) (budget : ℕ) wher
   own_rests start now w (Err end.ReadFault) own h = cc
   own_rests start now w (Err end.WriteFault) own h = cc
   own_rests start now w (Err end.Memory) own h = cc
-  own_rests start now w (Err (end.Long count)) own h = cc
   own_rests start now w (Err (end.Ragged file count)) own h = h
   own_rests start now w (Err (end.StepsSpent count)) own h = h
   own_rests start now w (Err (end.IoStop status statement)) own h = h
@@ -163,7 +160,6 @@ module _ (p : Program) (g : Graph) (paths : List (List ℕ)) (budget : ℕ) wher
   own_ends start now (Err end.ReadFault) own h = cc
   own_ends start now (Err end.WriteFault) own h = cc
   own_ends start now (Err end.Memory) own h = cc
-  own_ends start now (Err (end.Long count)) own h = cc
   own_ends start now (Err (end.Ragged file count)) own h = h
   own_ends start now (Err (end.StepsSpent count)) own h = h
   own_ends start now (Err (end.IoStop status statement)) own h = h
@@ -222,7 +218,7 @@ module _ (p : Program) (g : Graph) (paths : List (List ℕ)) (budget : ℕ) wher
       shown = subst (λ (u : World). Rests p g paths budget start (outside files new) u r) (sym flushes.world)
           (rests_flushed p g paths start files old new w budget r flushes.gains rests)
 
-      broken : IsBroken p g paths budget start (outside behind new)
+      pub broken : IsBroken p g paths budget start (outside behind new)
       broken = rests_break p g paths budget start (outside files new) (outside behind new) v r 0 touches
           (append_none new.told) shown
 
@@ -249,7 +245,6 @@ module _ (p : Program) (g : Graph) (paths : List (List ℕ)) (budget : ℕ) wher
   refused_runs start now w end.ReadFault is off = record { ends = off.halts; part = off.part }
   refused_runs start now w end.WriteFault is off = record { ends = off.halts; part = off.part }
   refused_runs start now w end.Memory is off = record { ends = off.halts; part = off.part }
-  refused_runs start now w (end.Long count) is off = record { ends = off.halts; part = off.part }
   refused_runs start now w (end.Ragged file count) is off = cc
   refused_runs start now w (end.StepsSpent count) is off = cc
   refused_runs start now w (end.IoStop status statement) is off = cc

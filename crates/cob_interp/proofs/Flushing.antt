@@ -17,7 +17,7 @@ use Rattle.cob_interp.specs.Ends.{told_files}
 use Rattle.cob_interp.specs.Told.{seen, seen_files}
 use Rattle.cob_interp.specs.Running.{Outside, outside, IsWell, IfTold, StandsIf, Stands, RestsIn, Rests}
 use Rattle.cob_interp.specs.Walking.{IsSinkRefusal, Gains, Flushes, MayFlush, Refuses}
-use Rattle.cob_interp.proofs.Passing.{ids_stay, well_passes, stands_behind}
+use Rattle.cob_interp.proofs.Passing.{well_passes, stands_behind}
 use Rattle.cob_interp.proofs.Breaking.{told_on}
 
 -- ---- what the sink does
@@ -54,7 +54,7 @@ may_flush_faults old new w v (inr same) = ap (λ (s : SinkState). s.faults) same
 flushed_well : (files : FilesState) (old new : SinkState) (text : List ℕ) → Gains old new text
     → IsWell (outside files old) (outside files new) text
 flushed_well files old new text gains =
-    record { reading = refl; writing = refl; faults = gains.faults; ids = ids_stay files; gained = gains.told }
+    record { reading = refl; writing = refl; faults = gains.faults; gained = gains.told }
 
 flushed_seen : (told : Contents) (paths : List (List ℕ)) (text : List ℕ) (w : World)
     → seen told paths text w ≡ seen told paths (text ++ w.shown) (without_shown w)

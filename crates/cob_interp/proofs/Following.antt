@@ -1,6 +1,6 @@
 -- What an edge does to the world as the run sees it, beside what it does to the world as it is kept.
-use Rattle.std.proofs.Common.{◌≡◌, ℕ, ◌==◌, ◌&&◌, Bool, true, false, not, if◌then◌else◌, List, [], ◌∷◌, Option, Some, None, Result, Ok, Err, ℤ, pos, ◌-ℤ◌, refl, ap, append_assoc}
-use Rattle.std.specs.Prelude.{slice_get}
+use Rattle.std.proofs.Common.{◌≡◌, ℕ, zero, suc, arith as arith_, ◌==◌, ◌&&◌, Bool, true, false, not, if◌then◌else◌, List, [], ◌∷◌, Option, Some, None, Result, Ok, Err, ℤ, pos, ◌-ℤ◌, refl, ap, subst, append_assoc}
+use Rattle.std.specs.Prelude.{slice_get, Contains}
 use Rattle.std.specs.Option.{option_map_or}
 use Rattle.batch_io.specs.FilesState.{Contents}
 use Rattle.cob_tree.specs.declared.fault.Kind.{Kind}
@@ -25,9 +25,80 @@ use Rattle.cob_runs.specs.State.{World, with_storage}
 use Rattle.cob_runs.specs.Acts.{augment, is_fine, count_of, with_count, write_one, into_if, file_from}
 use Rattle.cob_runs.specs.Steps.{is_left, is_given}
 use Rattle.cob_runs.specs.Effects.{Effect, computed, tested, decided, counted, taken, taken_if, met, effect_of, by_status, ended_with, bad_read, tests_in_act, status_of, status_in, status_by, shown, wrote, file_call, read_with}
-use Rattle.cob_interp.specs.Doing.{IsPlain}
+use Rattle.cob_plan.specs.declared.node.Op.{Op}
+use Rattle.cob_plan.specs.declared.node.Op.TheVariants as op
+use Rattle.cob_plan.specs.Plan.{op_edges}
+use Rattle.cob_interp.specs.Doing.{IsPlain, IsQuiet}
 use Rattle.cob_interp.specs.Told.{seen, seen_files, AreSynced, AreDistinct}
-use Rattle.cob_interp.proofs.Calls.{CallFollows, take_one_follows, write_one_follows}
+use Rattle.cob_interp.proofs.Calls.{CallFollows, write_one_follows}
+
+-- ---- edges that call no file but by WRITE
+
+-- the statement is neither OPEN nor CLOSE
+abbrev IsNoCall : Act → Type 0
+IsNoCall (open_files os) = ⊥
+IsNoCall (close_files fs) = ⊥
+IsNoCall _ = Unit {0}
+
+abbrev IsStill : Action → Type 0
+IsStill action.Skip = Unit {0}
+IsStill action.Assign = Unit {0}
+IsStill _ = ⊥
+
+-- the edge of such a statement, which isn't a READ's own
+abbrev pub IsPlainFor : Action → Act → Type 0
+IsPlainFor a (open_files os) = ⊥
+IsPlainFor a (close_files fs) = ⊥
+IsPlainFor a (read f into end fine) = IsStill a
+IsPlainFor a _ = Unit {0}
+
+no_call : (a : Action) (b : Act) → IsPlainFor a b → IsNoCall b
+no_call a (open_files os) plain = absurd plain
+no_call a (close_files fs) plain = absurd plain
+no_call a (read f into end fine) plain = tt
+no_call a (act.move x places) plain = tt
+no_call a (arith sum targets remainder size fine) plain = tt
+no_call a (if_ t held other) plain = tt
+no_call a (evaluate ws other) plain = tt
+no_call a (perform body turns) plain = tt
+no_call a (go para) plain = tt
+no_call a nothing plain = tt
+no_call a stop plain = tt
+no_call a (write r from) plain = tt
+no_call a (act.show xs) plain = tt
+
+still_edge : (x y : Action × ℕ) → IsStill x.0 → Contains (x ∷ []) y → IsStill y.0
+still_edge x y still (zero, within, at) = subst (λ (z : Action × ℕ). IsStill z.0) at still
+still_edge x y still (suc k, within, at) = absurd (omega arith_)
+
+quiet_edge : (o : Op) → IsQuiet o → (a : Action) (m : ℕ) → Contains (op_edges o) (a, m) → IsStill a
+quiet_edge (op.Skip to) quiet a m out = still_edge (action.Skip, to) (a, m) tt out
+quiet_edge (op.Assign to) quiet a m out = still_edge (action.Assign, to) (a, m) tt out
+quiet_edge (op.Show to) quiet a m out = absurd quiet
+quiet_edge (op.SetCount to) quiet a m out = absurd quiet
+quiet_edge (op.CountDown to) quiet a m out = absurd quiet
+quiet_edge (op.Compute fine size) quiet a m out = absurd quiet
+quiet_edge (op.Test k held other) quiet a m out = absurd quiet
+quiet_edge (op.Open k fine bad) quiet a m out = absurd quiet
+quiet_edge (op.Close k fine bad) quiet a m out = absurd quiet
+quiet_edge (op.Read found end bad) quiet a m out = absurd quiet
+quiet_edge (op.Write fine bad) quiet a m out = absurd quiet
+quiet_edge op.Final quiet a m out = absurd quiet
+
+pub plain_edge : (o : Op) (b : Act) → IsPlain o b → (a : Action) (m : ℕ) → Contains (op_edges o) (a, m) → IsPlainFor a b
+plain_edge o (open_files os) plain a m out = absurd plain
+plain_edge o (close_files fs) plain a m out = absurd plain
+plain_edge o (read f into end fine) plain a m out = quiet_edge o plain a m out
+plain_edge o (act.move x places) plain a m out = tt
+plain_edge o (arith sum targets remainder size fine) plain a m out = tt
+plain_edge o (if_ t held other) plain a m out = tt
+plain_edge o (evaluate ws other) plain a m out = tt
+plain_edge o (perform body turns) plain a m out = tt
+plain_edge o (go para) plain a m out = tt
+plain_edge o nothing plain a m out = tt
+plain_edge o stop plain a m out = tt
+plain_edge o (write r from) plain a m out = tt
+plain_edge o (act.show xs) plain a m out = tt
 
 -- the effect on the world as it is seen, beside that on the world as it is kept
 abbrev pub Follows : Contents → List (List ℕ) → List ℕ → Effect → Effect → Type 0
@@ -285,7 +356,7 @@ module _ (p : Program) (number : ℕ) (told : Contents) (paths : List (List ℕ)
       by_status_follows told paths text p number w as_seen _ _ (write_one_follows p.layout told paths text apart w s f
       r) fine
 
-  call_follows : (fine : Bool) (k : ℕ) (b : Act) → IsPlain b → Follows told paths text
+  call_follows : (fine : Bool) (k : ℕ) (b : Act) → IsNoCall b → Follows told paths text
       (file_call p number None w fine k b) (file_call p number None as_seen fine k b)
   call_follows fine k (write r from) plain = wrote_by fine r (file_from p.layout 0 p.layout.files r)
   call_follows fine k (open_files os) plain = absurd plain
@@ -301,27 +372,24 @@ module _ (p : Program) (number : ℕ) (told : Contents) (paths : List (List ℕ)
   call_follows fine k (read f into end fine_) plain = refl
   call_follows fine k (act.show xs) plain = refl
 
-  read_with_follows : (status : ℕ) (b : Act) → Follows told paths text
+  read_with_follows : (status : ℕ) (b : Act) → IsPlainFor action.Take b → Follows told paths text
       (read_with p number None w status b) (read_with p number None as_seen status b)
-  read_with_follows status (read f into end fine) =
-      ended_follows told paths text p number w as_seen _ _ (take_one_follows p.layout told paths text apart w s f)
-      status
-  read_with_follows status (write r from) = refl
-  read_with_follows status (open_files os) = refl
-  read_with_follows status (close_files fs) = refl
-  read_with_follows status (perform body turns) = refl
-  read_with_follows status (arith sum targets remainder size fine) = refl
-  read_with_follows status (act.move x places) = refl
-  read_with_follows status (if_ t held other) = refl
-  read_with_follows status (evaluate ws other) = refl
-  read_with_follows status (go para) = refl
-  read_with_follows status nothing = refl
-  read_with_follows status stop = refl
-  read_with_follows status (act.show xs) = refl
+  read_with_follows status (read f into end fine) plain = absurd plain
+  read_with_follows status (write r from) plain = refl
+  read_with_follows status (open_files os) plain = refl
+  read_with_follows status (close_files fs) plain = refl
+  read_with_follows status (perform body turns) plain = refl
+  read_with_follows status (arith sum targets remainder size fine) plain = refl
+  read_with_follows status (act.move x places) plain = refl
+  read_with_follows status (if_ t held other) plain = refl
+  read_with_follows status (evaluate ws other) plain = refl
+  read_with_follows status (go para) plain = refl
+  read_with_follows status nothing plain = refl
+  read_with_follows status stop plain = refl
+  read_with_follows status (act.show xs) plain = refl
 
-  bad_follows : (k : ℕ) (b : Act) → IsPlain b → FollowsBy (action.Bad k) b
-  bad_follows k (read f into end fine) plain =
-      bad_read_follows told paths text p number w as_seen _ _ (take_one_follows p.layout told paths text apart w s f)
+  bad_follows : (k : ℕ) (b : Act) → IsPlainFor (action.Bad k) b → FollowsBy (action.Bad k) b
+  bad_follows k (read f into end fine) plain = absurd plain
   bad_follows k (write r from) plain = call_follows false k (write r from) plain
   bad_follows k (open_files os) plain = absurd plain
   bad_follows k (close_files fs) plain = absurd plain
@@ -335,9 +403,24 @@ module _ (p : Program) (number : ℕ) (told : Contents) (paths : List (List ℕ)
   bad_follows k stop plain = refl
   bad_follows k (act.show xs) plain = refl
 
+  at_end : (b : Act) → IsPlainFor action.AtEnd b → IsPlainFor action.Take b
+  at_end (read f into end fine) plain = absurd plain
+  at_end (open_files os) plain = absurd plain
+  at_end (close_files fs) plain = absurd plain
+  at_end (act.move x places) plain = tt
+  at_end (arith sum targets remainder size fine) plain = tt
+  at_end (if_ t held other) plain = tt
+  at_end (evaluate ws other) plain = tt
+  at_end (perform body turns) plain = tt
+  at_end (go para) plain = tt
+  at_end nothing plain = tt
+  at_end stop plain = tt
+  at_end (write r from) plain = tt
+  at_end (act.show xs) plain = tt
+
   -- ---- all of them
 
-  pub plain_follows : (a : Action) (b : Act) → IsPlain b → FollowsBy a b
+  pub plain_follows : (a : Action) (b : Act) → IsPlainFor a b → FollowsBy a b
   plain_follows action.Skip b plain = (refl, s)
   plain_follows action.Assign b plain = assigned_follows b
   plain_follows action.Done b plain = computed_follows false b
@@ -346,12 +429,12 @@ module _ (p : Program) (number : ℕ) (told : Contents) (paths : List (List ℕ)
   plain_follows (action.False k) b plain = tested_follows false k b
   plain_follows action.SetCount b plain = counted_follows b
   plain_follows action.Down b plain = down_by (count_of p.layout number w)
-  plain_follows (action.Open k) b plain = call_follows true k b plain
-  plain_follows (action.Close k) b plain = call_follows true k b plain
-  plain_follows action.Take b plain = read_with_follows 0 b
-  plain_follows action.AtEnd b plain = read_with_follows 10 b
+  plain_follows (action.Open k) b plain = call_follows true k b (no_call (action.Open k) b plain)
+  plain_follows (action.Close k) b plain = call_follows true k b (no_call (action.Close k) b plain)
+  plain_follows action.Take b plain = read_with_follows 0 b plain
+  plain_follows action.AtEnd b plain = read_with_follows 10 b (at_end b plain)
   plain_follows (action.Bad k) b plain = bad_follows k b plain
-  plain_follows action.Write b plain = call_follows true 0 b plain
+  plain_follows action.Write b plain = call_follows true 0 b (no_call action.Write b plain)
   plain_follows action.Show b plain = shown_follows b
 
   wrote_status : (r : ℕ) (file : Option ℕ) →
@@ -360,9 +443,24 @@ module _ (p : Program) (number : ℕ) (told : Contents) (paths : List (List ℕ)
   wrote_status r None = refl
   wrote_status r (Some f) = ap Some (write_one_follows p.layout told paths text apart w s f r).status
 
-  status_by_same : (k : ℕ) (b : Act) → IsPlain b
+  at_end_bad : (b : Act) → IsPlainFor action.AtEnd b → IsPlainFor (action.Bad 0) b
+  at_end_bad (read f into end fine) plain = absurd plain
+  at_end_bad (open_files os) plain = absurd plain
+  at_end_bad (close_files fs) plain = absurd plain
+  at_end_bad (act.move x places) plain = tt
+  at_end_bad (arith sum targets remainder size fine) plain = tt
+  at_end_bad (if_ t held other) plain = tt
+  at_end_bad (evaluate ws other) plain = tt
+  at_end_bad (perform body turns) plain = tt
+  at_end_bad (go para) plain = tt
+  at_end_bad nothing plain = tt
+  at_end_bad stop plain = tt
+  at_end_bad (write r from) plain = tt
+  at_end_bad (act.show xs) plain = tt
+
+  status_by_same : (k : ℕ) (b : Act) → IsPlainFor (action.Bad k) b
       → status_by p number None as_seen k b ≡ status_by p number None w k b
-  status_by_same k (read f into end fine) plain = ap Some (take_one_follows p.layout told paths text apart w s f).status
+  status_by_same k (read f into end fine) plain = absurd plain
   status_by_same k (write r from) plain = wrote_status r (file_from p.layout 0 p.layout.files r)
   status_by_same k (open_files os) plain = absurd plain
   status_by_same k (close_files fs) plain = absurd plain
@@ -376,8 +474,8 @@ module _ (p : Program) (number : ℕ) (told : Contents) (paths : List (List ℕ)
   status_by_same k stop plain = refl
   status_by_same k (act.show xs) plain = refl
 
-  pub plain_status : (a : Action) (b : Act) → IsPlain b
+  pub plain_status : (a : Action) (b : Act) → IsPlainFor a b
       → status_of p number None as_seen a b ≡ status_of p number None w a b
-  plain_status action.AtEnd b plain = status_by_same 0 b plain
+  plain_status action.AtEnd b plain = status_by_same 0 b (at_end_bad b plain)
   plain_status (action.Bad k) b plain = status_by_same k b plain
   plain_status _ b plain = refl

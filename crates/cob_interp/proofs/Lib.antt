@@ -9,8 +9,17 @@ pub mod NodeLemmas
 pub mod CallsLead
 pub mod CloseLemmas
 pub mod OpenLemmas
-pub mod Openings
-pub mod OpeningLemmas
+pub mod OpenLeads
+pub mod ReadLemmas
+pub mod ReadLeads
+pub mod RecordReads
+pub mod ReadParts
+pub mod Placing
+pub mod TrackLemmas
+pub mod InputLemmas
+pub mod Windows
+pub mod Readied
+pub mod Places
 pub mod StepLemmas
 pub mod CallLemmas
 pub mod Beginnings
@@ -23,4 +32,5 @@ pub mod Breaking
 pub mod Flushing
 pub mod Putting
 pub mod Finishing
+pub mod ClosingInputs
 pub mod Starting

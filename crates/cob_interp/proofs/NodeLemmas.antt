@@ -14,12 +14,13 @@ use Rattle.cob_interp.specs.Told.{AreDistinct}
 use Rattle.cob_interp.specs.Running.{Outside, RestsIn}
 use Rattle.cob_interp.specs.Setting.{program_of, paths_of, IsPlace}
 use Rattle.cob_interp.specs.Doing.{IsPlain, answered, Leads, DoesPart}
+use Rattle.cob_interp.proofs.Following.{plain_edge}
 use Rattle.cob_interp.proofs.Passing.{stands_on, rests_on}
 use Rattle.cob_interp.proofs.Onward.{plain_goes, plain_faults, plain_stops}
 
 module _ (s : Setting) (budget : ℕ) (x : Place) (step node : ℕ) (now : Outside) (w v : World)
     (apart : AreDistinct (paths_of s))
-    (is : IsPlace s node x) (plain : IsPlain (plain_act x.statement.now.act.now)) where
+    (is : IsPlace s node x) (plain : IsPlain x.plan_node.now.op (plain_act x.statement.now.act.now)) where
   own : x.statement.now.number ≡ is.plan_node.node.statement
   own = is.number ∙ is.plan_node.statement
 
@@ -32,7 +33,8 @@ module _ (s : Setting) (budget : ℕ) (x : Place) (step node : ℕ) (now : Outsi
       stands_on (program_of s) s.graph.now (paths_of s) start now w v u.left step node step step to
       (λ first told text st. plain_goes (program_of s) s.graph.now (paths_of s) first told text apart w v u.left step
       node to is.plan_node.node
-      done.action (plain_act x.statement.now.act.now) st is.plan_node.stands (u.counts is.plan_node.node is.plan_node.stands) its plain
+      done.action (plain_act x.statement.now.act.now) st is.plan_node.stands (u.counts is.plan_node.node is.plan_node.stands) its
+      (plain_edge x.plan_node.now.op _ plain done.action to done.out)
       (is.plan_node.edges done.action to done.out)
       (subst (λ (n : ℕ). effect (program_of s) n None w done.action ≡ Ok (Some v)) own done.does)
       (subst (λ (n : ℕ). is_handled (program_of s) n done.action ≡ true) own done.goes_on))
@@ -43,7 +45,8 @@ module _ (s : Setting) (budget : ℕ) (x : Place) (step node : ℕ) (now : Outsi
       (Err (end.Fault kind n step))) (sym own)
       (plain_faults (program_of s) s.graph.now (paths_of s) first told text apart w v u.left step node done.to
       is.plan_node.node
-      done.action (plain_act x.statement.now.act.now) st is.plan_node.stands (u.counts is.plan_node.node is.plan_node.stands) its plain
+      done.action (plain_act x.statement.now.act.now) st is.plan_node.stands (u.counts is.plan_node.node is.plan_node.stands) its
+      (plain_edge x.plan_node.now.op _ plain done.action done.to done.out)
       (is.plan_node.edges done.action done.to done.out) budget within kind
       (subst (λ (n : ℕ). effect (program_of s) n None w done.action ≡ Err kind) own done.meets)
       (ap (λ (z : World). z.files) done.others) (ap (λ (z : World). z.shown) done.others)))
@@ -54,7 +57,8 @@ module _ (s : Setting) (budget : ℕ) (x : Place) (step node : ℕ) (now : Outsi
       (Err (end.IoStop status_ n))) (sym own)
       (plain_stops (program_of s) s.graph.now (paths_of s) first told text apart w v u.left step node done.to
       is.plan_node.node
-      done.action (plain_act x.statement.now.act.now) st is.plan_node.stands (u.counts is.plan_node.node is.plan_node.stands) its plain
+      done.action (plain_act x.statement.now.act.now) st is.plan_node.stands (u.counts is.plan_node.node is.plan_node.stands) its
+      (plain_edge x.plan_node.now.op _ plain done.action done.to done.out)
       (is.plan_node.edges done.action done.to done.out) budget within status_
       (subst (λ (n : ℕ). effect (program_of s) n None w done.action ≡ Ok (Some v)) own done.does)
       (subst (λ (n : ℕ). status (program_of s) n None w done.action ≡ Some status_) own done.gives)

@@ -1,5 +1,5 @@
 -- A run on told files has one end within a budget.
-use Rattle.std.proofs.Common.{◌≡◌, ◌≢◌, ◌<◌, ◌≤◌, ◌⊎◌, ℕ, zero, suc, ◌+◌, Bool, true, false, length, Option, Some, None, Result, Ok, Err, inl, inr, eqb-true, refl, sym, ap, subst, ◌∙◌, arith}
+use Rattle.std.proofs.Common.{◌≡◌, ◌≢◌, ◌<◌, ◌≤◌, ◌⊎◌, ℕ, zero, suc, Bool, true, false, length, Option, Some, None, Result, Ok, Err, inl, inr, eqb-true, refl, sym, ap, subst, ◌∙◌, arith}
 use Rattle.std.specs.Prelude.{◌==◌, ◌&&◌, if◌then◌else◌, slice_get}
 use Rattle.std.specs.Option.{option_map_or}
 use Rattle.std.proofs.lemmas.Bool.{false≢true, eq-eqb}
@@ -18,7 +18,7 @@ use Rattle.cob_graph_laws.specs.Ways.{next_statement}
 use Rattle.cob_interp.specs.declared.ends.Ended.{Ended}
 use Rattle.cob_interp.specs.declared.ends.RunEnd.{RunEnd}
 use Rattle.cob_interp.specs.declared.ends.RunEnd.TheVariants as end
-use Rattle.cob_interp.specs.Ends.{cut_by, long_by, file_limit, IsFree, state_after, AreFree, IsEnd}
+use Rattle.cob_interp.specs.Ends.{cut_by, IsFree, state_after, AreFree, IsEnd}
 use Rattle.cob_interp.specs.OneEnd.{OneEnd}
 
 -- ---- the end that a state tells behind so many steps
@@ -28,7 +28,6 @@ size_in w file = option_map_or (λ f. length (bytes_in f)) (slice_get w.files fi
 
 abbrev act_end : World → Act → Result Ended RunEnd
 act_end w (read f into at_end fine) = Err (end.Ragged f (size_in w f))
-act_end w (open_files os) = Err (end.Long (file_limit + 1))
 act_end w _ = Err end.Memory
 
 module _ (p : Program) (contents : Contents) (budget : ℕ) where
@@ -106,14 +105,7 @@ module _ (p : Program) (contents : Contents) (budget : ℕ) where
         within = omega (arith, l);
         before = λ m k. earlier m n (omega (arith, k)) y.outcome;
         free = y.free;
-        stops = λ g f. absurd (cut_unfree _ y.stops.cut (f.uncut file));
-      }
-  stands (Err (end.Long count)) n y =
-      let l = y.within in record {
-        within = omega (arith, l);
-        before = λ m k. earlier m n (omega (arith, k)) y.outcome;
-        free = y.free;
-        stops = λ g f. absurd (cut_unfree _ y.stops.long f.short);
+        stops = λ g f. absurd (cut_unfree _ y.stops.cut (f file));
       }
   stands (Err end.ReadFault) n y = absurd y
   stands (Err end.WriteFault) n y = absurd y
@@ -178,27 +170,6 @@ module _ (p : Program) (contents : Contents) (budget : ℕ) where
   cut_at w file None e = absurd (false≢true e)
   cut_at w file (Some a) e = cut_act w file a e
 
-  long_act : (w : World) (statement : ℕ) (a : Act) → long_by p statement a w ≡ true → act_end w a ≡ Err (end.Long
-      (file_limit + 1))
-  long_act w statement (open_files os) e = refl
-  long_act w statement (read f into at_end fine) e = absurd (false≢true e)
-  long_act w statement (move x places) e = absurd (false≢true e)
-  long_act w statement (arithmetic s targets remainder size fine) e = absurd (false≢true e)
-  long_act w statement (if_ t held other) e = absurd (false≢true e)
-  long_act w statement (evaluate ws other) e = absurd (false≢true e)
-  long_act w statement (perform body turns) e = absurd (false≢true e)
-  long_act w statement (go para) e = absurd (false≢true e)
-  long_act w statement nothing e = absurd (false≢true e)
-  long_act w statement stop e = absurd (false≢true e)
-  long_act w statement (close_files fs) e = absurd (false≢true e)
-  long_act w statement (write r from) e = absurd (false≢true e)
-  long_act w statement (show xs) e = absurd (false≢true e)
-
-  long_at : (w : World) (statement : ℕ) (a : Option Act) → option_map_or (λ a. long_by p statement a w) a false ≡ true →
-      option_map_or (act_end w) a (Err end.Memory) ≡ Err (end.Long (file_limit + 1))
-  long_at w statement None e = absurd (false≢true e)
-  long_at w statement (Some a) e = long_act w statement a e
-
   is_end : (a : Result Ended RunEnd) (n : ℕ) → IsEnd p contents budget a n → a ≡ end_at n
   is_end (Ok e) n x =
       ap (λ (i : ℕ). Ok (record { steps = i })) x.0 ∙ is_over _ outcome.Ended n (state_after p contents n) x.1.outcome
@@ -215,12 +186,6 @@ module _ (p : Program) (contents : Contents) (budget : ℕ) where
       let s = state_after p contents n in
       ap (λ (i : ℕ). Err (end.Ragged file i)) y.stops.counted
       ∙ stopped n s _ y.within (cut_at s.world file (act_at p (next_statement p s.control)) y.stops.cut)
-      ∙ is_over _ Going n s y.outcome
-  is_end (Err (end.Long count)) n y =
-      let s = state_after p contents n in
-      ap (λ (i : ℕ). Err (end.Long i)) y.stops.counted
-      ∙ stopped n s _ y.within
-      (long_at s.world (next_statement p s.control) (act_at p (next_statement p s.control)) y.stops.long)
       ∙ is_over _ Going n s y.outcome
   is_end (Err end.ReadFault) n y = absurd y
   is_end (Err end.WriteFault) n y = absurd y

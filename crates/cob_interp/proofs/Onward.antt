@@ -16,11 +16,10 @@ use Rattle.cob_graph_laws.specs.Ways.{passed, onward}
 use Rattle.cob_graph_laws.specs.Told.{Way, IsOverAfter, GoesOnAfter}
 use Rattle.cob_interp.specs.declared.ends.Ended.{Ended}
 use Rattle.cob_interp.specs.declared.ends.RunEnd.TheVariants as end
-use Rattle.cob_interp.specs.Doing.{IsPlain}
 use Rattle.cob_interp.specs.Told.{seen, seen_files, AreSynced, AreDistinct, KeepsNames}
-use Rattle.cob_interp.specs.Ends.{told_files, meets_cut, meets_too_long, IsFree, AreFree, IsCutAt, state_after}
+use Rattle.cob_interp.specs.Ends.{told_files, meets_cut, IsFree, AreFree, IsCutAt, state_after}
 use Rattle.cob_interp.specs.Running.{StandsIn, RestsIn}
-use Rattle.cob_interp.proofs.Following.{Follows, plain_follows, plain_status}
+use Rattle.cob_interp.proofs.Following.{Follows, IsPlainFor, plain_follows, plain_status}
 
 -- ---- effects that follow
 
@@ -103,7 +102,7 @@ module _ (p : Program) (g : Graph) (paths : List (List ℕ)) where
   module _ (first told : Contents) (text : List ℕ) (apart : AreDistinct paths) (w v : World) (left step n m : ℕ)
       (x : Node) (a : Action)
       (b : Act) (s : StandsIn p g paths first told text w left step n) (at : node_at g.nodes n ≡ Some x)
-      (counts : step ≡ passed left x) (its : act_at p x.statement ≡ Some b) (plain : IsPlain b)
+      (counts : step ≡ passed left x) (its : act_at p x.statement ≡ Some b) (plain : IsPlainFor a b)
       (out : Contains g.edges (edge n a m)) where
     follows : Follows told paths text (effect p x.statement None w a) (effect p x.statement None
         (seen told paths text w) a)
@@ -216,13 +215,12 @@ module _ (p : Program) (g : Graph) (paths : List (List ℕ)) where
 
       -- nothing stops the step that begins here
       pub begins_freely : ((file : ℕ) → meets_cut p x.statement (seen told paths text w) file ≡ false)
-          → meets_too_long p x.statement (seen told paths text w) ≡ false
           → StandsIn p g paths first told text w steps (steps + 1) n
-      begins_freely uncut short = record {
+      begins_freely uncut = record {
         tells = s.tells;
         way = s.way;
         synced = s.synced;
         others = s.others;
         free = one_more p (told_files first paths) steps s.free
-            (record { uncut = rw (goes_on.next, goes_on.world) uncut; short = rw (goes_on.next, goes_on.world) short });
+            (rw (goes_on.next, goes_on.world) uncut);
       }

@@ -1,26 +1,24 @@
 -- What comes of the outside's files where a file is to be opened.
-use Rattle.std.proofs.Common.{◌≡◌, ℕ, zero, suc, ◌<◌, Bool, true, false, not, ◌&&◌, List, [], ◌∷◌, ◌++◌, length, Option, Some, None, refl, sym, ap, subst, ◌∙◌, arith}
-use Rattle.std.specs.Prelude.{slice_get, slice_set, nat_lt, IsSomeAnd}
-use Rattle.std.specs.Option.{option_map, option_map_or}
-use Rattle.std.specs.FinMap.{get}
-use Rattle.std.proofs.lemmas.Bool.Decides.{nat_tests}
-use Rattle.batch_io.specs.FilesState.{Contents, FilesState}
+use Rattle.std.proofs.Common.{◌≡◌, ℕ, zero, suc, ◌<◌, Bool, true, false, List, [], ◌∷◌, ◌++◌, length, Option, Some, None, inl, inr, refl, sym, ap, subst, ◌∙◌}
+use Rattle.std.specs.Prelude.{slice_get, slice_set, is_some, IsSome, IfSome}
+use Rattle.std.specs.Option.{option_map}
+use Rattle.batch_io.specs.FilesState.{Contents, FilesState, known_bytes, known_handle}
 use Rattle.cob_program.specs.declared.act.Opening.{Opening}
-use Rattle.cob_runs.specs.Files.{File, file, Mode, closed, reading, writing}
+use Rattle.cob_runs.specs.Files.{File, file, Mode, closed, reading, writing, opened, opened_in}
 use Rattle.cob_runs.specs.State.{World, with_files}
 use Rattle.cob_world.specs.declared.files.FileMode.{FileMode}
 use Rattle.cob_world.specs.declared.files.FileMode.TheVariants as mode
 use Rattle.cob_world.specs.Views.{plain_mode}
 use Rattle.cob_world.specs.Calling.{refilled, refilled_on}
-use Rattle.cob_interp.specs.declared.ends.RunEnd.{RunEnd}
-use Rattle.cob_interp.specs.declared.ends.RunEnd.TheVariants as end
 use Rattle.cob_interp.specs.declared.setting.Setting.{Setting}
 use Rattle.cob_interp.specs.Told.{seen, seen_file, seen_files, IsSyncedIn, AreSynced, IsReadyToOpenIn}
-use Rattle.cob_interp.specs.Ends.{file_limit, is_closed, is_long, file_is_long}
-use Rattle.cob_interp.specs.Setting.{program_of, paths_of}
-use Rattle.cob_interp.specs.Readying.{Puts, IsShort, IsPath, LoadsInto, ReadyToOpen, IsLongNamed, IsLongHere, IsRefusedToLoad, IsRefusedToOpen}
+use Rattle.cob_interp.specs.Ends.{is_closed}
+use Rattle.cob_interp.specs.Setting.{paths_of}
+use Rattle.cob_interp.specs.Readying.{Puts, IsPath, IsOpenedAt, OpensInto, StandsOrBegins, ReadyToOpen}
+use Rattle.cob_interp.specs.Tracking.{Ids, IsRead, AreOpen, IsReading, KeepsPlaces}
+use Rattle.cob_interp.proofs.TrackLemmas.{read_in_set, places_stay}
+use Rattle.cob_interp.proofs.Places.{set_keeps}
 use Rattle.cob_interp.proofs.SeenFiles.{SeenAt, seen_at}
-use Rattle.cob_interp.proofs.Passing.{ids_stay}
 
 -- the file whose mode was asked
 pub has_file : (m : FileMode) (o : Option File) → option_map plain_mode (Some m) ≡ option_map (λ f. f.mode) o
@@ -44,7 +42,7 @@ module _ (told : Contents) (f : File) (is_closed_ : f.mode ≡ closed) (content 
   seen_closed : (path : List ℕ) → seen_file told path (file content f.mode f.place) ≡ seen_file told path f
   seen_closed path = rw is_closed_ refl
 
-  synced_closed : (path : List ℕ) → IsSyncedIn told f.mode path content
+  synced_closed : (path : List ℕ) → IsSyncedIn told f.mode path content f.place
   synced_closed path = rw is_closed_ tt
 
   refilled_seen : (paths : List (List ℕ)) (fs : List File) (place : ℕ) → AreSynced told paths fs
@@ -72,23 +70,36 @@ refilled_is : (fs : List File) (place : ℕ) (f : File) (content : Option (List 
     → refilled place content fs ≡ slice_set fs place (file content f.mode f.place)
 refilled_is fs place f content has = ap (refilled_on place content fs) has
 
--- ---- how long it is
+-- ---- what an OPEN lets be read
 
-short_is_not_long : (content : Option (List ℕ)) → IsShort content
-    → nat_lt file_limit (length (option_map_or (λ bytes. bytes) content [])) ≡ false
-short_is_not_long None short = refl
-short_is_not_long (Some bytes) short = grind (arith, nat_tests)
+output_unread : (f : File) {output : Bool} → f.mode ≡ closed → output ≡ true → IsReading (opened output f).0.mode → ⊥
+output_unread f {output} mode_ out reads = by f.mode output mode_ out reads where
+  by : (m : Mode) (b : Bool) → m ≡ closed → b ≡ true → IsReading (opened_in b m f).0.mode → ⊥
+  by closed true e g r = r
+  by closed false e g r = absurd cc
+  by (reading ended) b e g r = absurd cc
+  by writing b e g r = absurd cc
 
-long_is_long : (content : Option (List ℕ)) → IsSomeAnd content (λ bytes. file_limit < length bytes)
-    → nat_lt file_limit (length (option_map_or (λ bytes. bytes) content [])) ≡ true
-long_is_long None long = absurd long
-long_is_long (Some bytes) long = grind (arith, nat_tests)
+open_reads : (output : Bool) (f : File) → (f.mode ≡ closed → ⊥) → IsReading (opened output f).0.mode → IsReading f.mode
+open_reads output f open_ reads = by f.mode refl open_ reads where
+  by : (m : Mode) → f.mode ≡ m → (m ≡ closed → ⊥) → IsReading (opened_in output m f).0.mode → IsReading f.mode
+  by closed e n r = absurd (n refl)
+  by (reading ended) e n r = r
+  by writing e n r = r
+
+absent_unread : (content : Option (List ℕ)) (m : Mode) (place : ℕ) → m ≡ closed → is_some content ≡ false
+    → IsReading (opened false (file content m place)).0.mode → ⊥
+absent_unread None closed place e none r = r
+absent_unread (Some bytes) closed place e none r = absurd cc
+absent_unread content (reading ended) place e none r = absurd cc
+absent_unread content writing place e none r = absurd cc
 
 module _ (s : Setting) (w : World) (o : Opening) (path : List ℕ) (is : IsPath s o.file path) (f : File)
     (has : slice_get w.files o.file ≡ Some f) where
   pub output_ready : (old new : FilesState) → f.mode ≡ closed → o.output ≡ true → Puts old new path []
-      → ReadyToOpen s w w o old new
-  output_ready old new mode output puts = record {
+      → (ids : Ids) → ((other id : ℕ) → IsRead ids other id → known_handle new id ≡ known_handle old id)
+      → ReadyToOpen s w w o old new ids ids
+  output_ready old new mode output puts ids stand = record {
     path = path;
     file = f;
     is = is;
@@ -99,72 +110,95 @@ module _ (s : Setting) (w : World) (o : Opening) (path : List ℕ) (is : IsPath 
           let k = puts.known told e in
           record { now = k.now; is = k.is; others = k.others; it = rw (mode, output) k.it };
     };
-    same = λ told text e synced. (refl, synced, rw output refl);
+    stand = record {
+      stand = λ other id is_. inl (is_, stand other id is_, λ e reads. absurd (output_unread f mode output reads));
+    };
+    keeps = places_stay w.files;
+    same = λ told text e synced. (refl, synced);
   }
 
-  not_long_open : (told : Contents) (text : List ℕ) → (m : Mode) → f.mode ≡ m → (m ≡ closed → ⊥)
-      → AreSynced told (paths_of s) w.files
-      → file_is_long (program_of s) o (seen told (paths_of s) text w) ≡ false
-  not_long_open told text m mode open_ synced =
-      rw (seen_file_at told (paths_of s) w.files o.file path f synced is.path_ has)
-      (not_long o.output m mode open_) where
-        not_long : (b : Bool) (m : Mode) → f.mode ≡ m → (m ≡ closed → ⊥)
-            → (not b && is_long (seen_file told path f)) ≡ false
-        not_long true m e n = refl
-        not_long false closed e n = absurd (n refl)
-        not_long false (reading ended) e n = rw e refl
-        not_long false writing e n = rw e refl
-
   -- the file is open: its status will tell
-  pub open_ready : (old : FilesState) → (f.mode ≡ closed → ⊥) → ReadyToOpen s w w o old old
-  open_ready old open_ = record {
+  pub open_ready : (old : FilesState) → (f.mode ≡ closed → ⊥) → (ids : Ids) → ReadyToOpen s w w o old old ids ids
+  open_ready old open_ ids = record {
     path = path;
     file = f;
     is = is;
     has = has;
     ready = record {
-      well = record { reading = refl; writing = refl; ids = ids_stay old };
+      well = record { reading = refl; writing = refl };
       known = λ told e.
           record { now = told; is = e; others = λ name apart. refl; it = agrees told o.output f.mode open_ };
     };
-    same = λ told text e synced. (refl, synced, not_long_open told text f.mode refl open_ synced);
+    stand = record { stand = λ other id is_. inl (is_, refl, λ e reads. open_reads o.output f open_ reads) };
+    keeps = places_stay w.files;
+    same = λ told text e synced. (refl, synced);
   } where
     agrees : (told : Contents) (b : Bool) (m : Mode) → (m ≡ closed → ⊥) → IsReadyToOpenIn told told path b m f.content
     agrees told b closed n = absurd (n refl)
     agrees told b (reading ended) n = refl
     agrees told b writing n = refl
 
-  module _ (old new : FilesState) (mode_ : f.mode ≡ closed) (input : o.output ≡ false) where
-    seen_length : (told : Contents) (text : List ℕ) (content : Option (List ℕ)) → get told path ≡ content
-        → AreSynced told (paths_of s) w.files
-        → file_is_long (program_of s) o (seen told (paths_of s) text w) ≡ nat_lt file_limit (length
-        (option_map_or (λ bytes. bytes) content []))
-    seen_length told text content holds synced =
-        rw (seen_file_at told (paths_of s) w.files o.file path f synced is.path_ has, input, mode_)
-        (ap (λ (c : Option (List ℕ)). nat_lt file_limit (length (option_map_or (λ bytes. bytes) c []))) holds)
+  module _ (old new : FilesState) (before after : Ids) (mode_ : f.mode ≡ closed) (input : o.output ≡ false) where
+    -- where ids stand behind it
+    opened_stand : o.file < length before → (there : Bool) → IsOpenedAt new before after path o.file there
+        → ((other : ℕ) → IsSome (old.purpose other) → known_handle new other ≡ known_handle old other)
+        → AreOpen old before → (content : Option (List ℕ)) → is_some content ≡ there
+        → StandsOrBegins old new before after path o.file o.output (file content f.mode f.place)
+    opened_stand within false same others live content none = record {
+      stand = λ other id is_.
+          let was : IsRead before other id = subst (λ ids. IsRead ids other id) same is_ in
+          inl (
+            was,
+            others id (subst (λ x. IsSome x) (sym (live.purpose other id was)) refl),
+            λ e reads. absurd (absent_unread content f.mode f.place mode_ none
+                (subst (λ b. IsReading (opened b (file content f.mode f.place)).0.mode) input reads)),
+          );
+    }
+    opened_stand within true begun others live content some = record {
+      stand = λ other id is_. elim (read_in_set before o.file other id (Some begun.0) within
+          (subst (λ ids. IsRead ids other id) begun.1 is_)) [
+            | inl here ↦
+                let e : begun.0 ≡ id = cc in
+                inr (
+                  here.0,
+                  mode_,
+                  subst (λ n. IfSome (known_handle new n)
+                      (λ handle. handle ≡ record { name = path; place = 0 })) e begun.2,
+                )
+            | inr was ↦ inl (
+              was.1,
+              others id (subst (λ x. IsSome x) (sym (live.purpose other id was.1)) refl),
+              λ e reads. absurd (was.0 e),
+            )
+          ];
+    }
 
-    pub loaded_ready : (v : World) → LoadsInto old new path o.file w v → ReadyToOpen s w v o old new
-    loaded_ready v loads =
-        let content = loads.content in
+    pub opened_ready : (v : World) → OpensInto old new before after path o.file w v → known_bytes new ≡ known_bytes old
+        → AreOpen old before → ReadyToOpen s w v o old new before after
+    opened_ready v opens known live =
+        let content = opens.content in
         let g = file content f.mode f.place in
         let files_ : v.files ≡ slice_set w.files o.file g =
-        ap (λ (u : World). u.files) loads.world ∙ refilled_is w.files o.file f content has in
+        ap (λ (u : World). u.files) opens.world ∙ refilled_is w.files o.file f content has in
         let world_ : v ≡ with_files w (slice_set w.files o.file g) =
-        loads.world ∙ ap (with_files w) (refilled_is w.files o.file f content has) in
+        opens.world ∙ ap (with_files w) (refilled_is w.files o.file f content has) in
         record {
           path = path;
           file = g;
           is = is;
           has = ap (λ (fs : List File). slice_get fs o.file) files_ ∙ get_set w.files o.file f g has;
           ready = record {
-            well = loads.reads.well;
+            well = opens.opens.well;
             known = λ told e. record {
               now = told;
-              is = loads.reads.known ∙ e;
+              is = known ∙ e;
               others = λ name apart. refl;
-              it = rw (input, mode_) (refl, sym (loads.reads.is told e));
+              it = rw (input, mode_) (refl, opens.is ∙ opens.opens.there_ told e);
             };
           };
+          stand = opened_stand opens.opens.within opens.there opens.opens.opened opens.opens.others live content opens.is;
+          keeps = subst (λ (fs : List File). KeepsPlaces w.files fs) (sym files_) (set_keeps w.files o.file g
+              (λ reads. subst (λ (m : Mode). IsReading m → ⊥) (sym mode_) (λ r. r) reads));
           same = λ told text e synced.
               let r = refilled_seen told f mode_ content (paths_of s) w.files o.file synced has in (
                 ap (seen told (paths_of s) text) world_
@@ -176,32 +210,8 @@ module _ (s : Setting) (w : World) (o : Opening) (path : List ℕ) (is : IsPath 
                           ++ w.shown;
                     }) r.0,
                 subst (λ (fs : List File). AreSynced told (paths_of s) fs) (sym files_) r.1,
-                seen_length told text content (loads.reads.is told e) synced ∙ short_is_not_long content
-                    loads.reads.short,
               );
         }
-
-    pub long_here : (count : ℕ) → IsLongNamed old new path count → IsLongHere s w o old new count
-    long_here count long = record {
-      well = long.well;
-      counted = long.counted;
-      long = λ told text e synced. seen_length told text (get told path) refl synced ∙ long_is_long (get told path)
-          (long.long told e);
-    }
-
--- why the load was refused
-pub refused_load : (s : Setting) (w : World) (o : Opening) (path : List ℕ) (is : IsPath s o.file path) (f : File)
-    (has : slice_get w.files o.file ≡ Some f) (old new : FilesState) → f.mode ≡ closed → o.output ≡ false → (e : RunEnd)
-    → IsRefusedToLoad old new path e → IsRefusedToOpen s w o old new e
-refused_load s w o path is f has old new mode_ input (end.Long count) r = long_here s w o path is f has old new mode_
-    input count r
-refused_load s w o path is f has old new mode_ input end.ReadFault r = r
-refused_load s w o path is f has old new mode_ input end.WriteFault r = r
-refused_load s w o path is f has old new mode_ input end.Memory r = r
-refused_load s w o path is f has old new mode_ input (end.Ragged file_ count) r = r
-refused_load s w o path is f has old new mode_ input (end.StepsSpent count) r = r
-refused_load s w o path is f has old new mode_ input (end.IoStop status_ statement) r = r
-refused_load s w o path is f has old new mode_ input (end.Fault kind statement step) r = r
 
 pub is_closed_true : (m : FileMode) (n : Mode) → n ≡ plain_mode m → is_closed (plain_mode m) ≡ true → n ≡ closed
 is_closed_true mode.Closed n seen_ e = seen_

@@ -36,7 +36,6 @@ well_stays a = record {
   reading = refl;
   writing = refl;
   faults = refl;
-  ids = ids_stay a.files;
   gained = append_none
       a.sink.told;
 }
@@ -46,7 +45,6 @@ well_passes a b c text more h k = record {
   reading = k.reading ∙ h.reading;
   writing = k.writing ∙ h.writing;
   faults = k.faults ∙ h.faults;
-  ids = ids_pass a.files b.files c.files h.ids k.ids;
   gained = k.gained ∙ ap (λ (told : Option (List ℕ)). append_known told more) h.gained ∙ append_twice a.sink.told text
       more;
 }
@@ -75,6 +73,23 @@ module _ (p : Program) (g : Graph) (paths : List (List ℕ)) where
     stays None b t = tt
     stays (Some first) None t = absurd t
     stays (Some first) (Some told) t = f first told s.text t
+
+  -- where the outside stays as it is, by what it tells
+  pub stands_told : (start now : Outside) (w v : World) (left begun node left_ begun_ node_ : ℕ)
+      → ((first told : Contents) (text : List ℕ) → known_bytes now.files ≡ Some told
+      → StandsIn p g paths first told text w left begun node
+      → StandsIn p g paths first told text v left_ begun_ node_)
+      → Stands p g paths start now w left begun node → Stands p g paths start now v left_ begun_ node_
+  stands_told start now w v left begun node left_ begun_ node_ f s = record {
+    text = s.text;
+    well = s.well;
+    told = stays (known_bytes start.files) (known_bytes now.files) refl s.told;
+  } where
+    stays : (a b : Option Contents) → known_bytes now.files ≡ b → StandsIf p g paths a b s.text w left begun node
+        → StandsIf p g paths a b s.text v left_ begun_ node_
+    stays None b e t = tt
+    stays (Some first) None e t = absurd t
+    stays (Some first) (Some told) e t = f first told s.text e t
 
   -- where it changes
   pub stands_behind : (start now then_ : Outside) (w v : World) (more : List ℕ) (left begun node left_ begun_ node_ : ℕ)
@@ -129,6 +144,23 @@ module _ (p : Program) (g : Graph) (paths : List (List ℕ)) where
       stays (Some first) None t = absurd t
       stays (Some first) (Some told) t = f first told s.text t
 
+    -- where the outside stays as it is, by what it tells
+    pub rests_told : (start now : Outside) (w v : World) (left begun node : ℕ) (result : Result Ended RunEnd)
+        → ((first told : Contents) (text : List ℕ) → known_bytes now.files ≡ Some told
+        → StandsIn p g paths first told text w left begun node
+        → RestsIn p g paths budget first told text v result)
+        → Stands p g paths start now w left begun node → Rests p g paths budget start now v result
+    rests_told start now w v left begun node result f s = record {
+      text = s.text;
+      well = s.well;
+      told = stays (known_bytes start.files) (known_bytes now.files) refl s.told;
+    } where
+      stays : (a b : Option Contents) → known_bytes now.files ≡ b → StandsIf p g paths a b s.text w left begun node
+          → RestsIf p g paths budget a b s.text v result
+      stays None b e t = tt
+      stays (Some first) None e t = absurd t
+      stays (Some first) (Some told) e t = f first told s.text e t
+
 -- ---- where a file was made ready
 
 pub readied_well : (old new : FilesState) (sink : SinkState) → AreWell old new
@@ -137,7 +169,6 @@ readied_well old new sink well = record {
   reading = well.reading;
   writing = well.writing;
   faults = refl;
-  ids = well.ids;
   gained = append_none sink.told;
 }
 

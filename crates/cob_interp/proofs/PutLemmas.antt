@@ -2,7 +2,7 @@
 use Rattle.std.proofs.Common.{◌≡◌, ℕ, Bool, List, Option, Some, ◌⊎◌, inl, inr, refl, sym, ap, subst, ◌∙◌}
 use Rattle.std.specs.Prelude.{option_map}
 use Rattle.std.specs.FinMap.{insert}
-use Rattle.batch_io.specs.FilesState.{Contents, FilesState, KeepsIds}
+use Rattle.batch_io.specs.FilesState.{Contents, FilesState}
 use Rattle.batch_io.specs.Wholes.{Holds}
 use Rattle.cob_interp.specs.Readying.{Puts, Readies}
 use Rattle.cob_runs.specs.Files.{File, Mode, closed, reading, writing}
@@ -11,12 +11,11 @@ use Rattle.cob_world.specs.declared.files.FileMode.TheVariants as mode
 use Rattle.cob_world.specs.Views.{plain_mode}
 use Rattle.cob_interp.specs.Told.{IsReadyToCloseIn, IsReadyToClose}
 use Rattle.cob_interp.proofs.SeenFiles.{insert_agrees, insert_gets}
-use Rattle.cob_interp.proofs.Passing.{ids_stay}
 
 pub put_done : (old new : FilesState) (name bytes : List ℕ) → new.reading ≡ old.reading → new.writing ≡ old.writing
-    → KeepsIds old new → Holds old new name bytes → Puts old new name bytes
-put_done old new name bytes r w ids held = record {
-  well = record { reading = r; writing = w; ids = ids };
+    → Holds old new name bytes → Puts old new name bytes
+put_done old new name bytes r w held = record {
+  well = record { reading = r; writing = w };
   known = λ told e. record {
     now = insert told name bytes;
     is = held ∙ ap (option_map (λ m. insert m name bytes)) e;
@@ -51,7 +50,7 @@ not_writing_ready told path writing content not = absurd (not refl)
 pub kept_ready : (old : FilesState) (path : List ℕ) (f : File) → (f.mode ≡ writing → ⊥)
     → Readies old old path (λ told now. IsReadyToClose told now path f)
 kept_ready old path f not = record {
-  well = record { reading = refl; writing = refl; ids = ids_stay old };
+  well = record { reading = refl; writing = refl };
   known = λ told e. record {
     now = told;
     is = e;

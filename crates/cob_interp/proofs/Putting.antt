@@ -13,7 +13,6 @@ use Rattle.cob_interp.specs.Told.{seen_file, seen_files, IsSyncedIn, IsSynced, A
 use Rattle.cob_interp.specs.Readying.{AreWell, Keeps, Readies, IsRefusal}
 use Rattle.cob_interp.specs.Walking.{IsPutTo, PutsTo}
 use Rattle.cob_interp.proofs.SeenFiles.{contains_at}
-use Rattle.cob_interp.proofs.Passing.{ids_stay, ids_pass}
 use Rattle.cob_interp.proofs.CallsLead.{others_keep}
 use Rattle.cob_interp.proofs.CloseLemmas.{rose_on}
 
@@ -23,14 +22,12 @@ well_passes : (a b c : FilesState) → AreWell a b → AreWell b c → AreWell a
 well_passes a b c h k = record {
   reading = k.reading ∙ h.reading;
   writing = k.writing ∙ h.writing;
-  ids = ids_pass a b c h.ids k.ids;
 }
 
 pub refused_on : (a b c : FilesState) (e : RunEnd) → AreWell a b → IsRefusal b c e → IsRefusal a c e
 refused_on a b c end.ReadFault well r = rose_on a.reading b.reading c.reading well.reading r
 refused_on a b c end.WriteFault well r = rose_on a.writing b.writing c.writing well.writing r
 refused_on a b c end.Memory well r = tt
-refused_on a b c (end.Long count) well r = absurd r
 refused_on a b c (end.Ragged file_ count) well r = absurd r
 refused_on a b c (end.StepsSpent count) well r = absurd r
 refused_on a b c (end.IoStop status_ statement) well r = absurd r
@@ -80,10 +77,10 @@ module _ (told mid now : Contents) (path : List ℕ) where
   becomes_ready f same ready = earlier_in f.mode f.content same ready
 
 module _ (told now : Contents) (path : List ℕ) where
-  content_by_mode : (content : Option (List ℕ)) (m : Mode) (place : ℕ) → IsSyncedIn told m path content
+  content_by_mode : (content : Option (List ℕ)) (m : Mode) (place : ℕ) → IsSyncedIn told m path content place
       → IsReadyToCloseIn told now path m content → get now path ≡ (seen_file told path (file content m place)).content
   content_by_mode content closed place s ready = ready
-  content_by_mode content (reading ended) place s ready = ready ∙ s
+  content_by_mode content (reading ended) place s ready = ready
   content_by_mode content writing place s ready = ready
 
   -- its name holds what the run sees
@@ -95,7 +92,7 @@ module _ (told now : Contents) (path : List ℕ) where
 
 pub puts_none : (paths : List (List ℕ)) (w : World) (a : FilesState) → PutsTo paths w 0 a a
 puts_none paths w a = record {
-  well = record { reading = refl; writing = refl; ids = ids_stay a };
+  well = record { reading = refl; writing = refl };
   known = λ told e. record {
     now = told;
     is = e;

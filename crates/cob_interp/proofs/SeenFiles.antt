@@ -54,14 +54,14 @@ insert_gets told path bytes =
 module _ (told now : Contents) (path : List ℕ) (agree : get now path ≡ get told path) where
   pub seen_in_same : (m : Mode) (f : File) → seen_in now m path f ≡ seen_in told m path f
   seen_in_same closed f = ap (λ content. file content closed f.place) agree
-  seen_in_same (reading ended) f = refl
+  seen_in_same (reading ended) f = ap (λ content. file content (reading ended) f.place) agree
   seen_in_same writing f = refl
 
-  pub synced_same : (m : Mode) (content : Option (List ℕ)) → IsSyncedIn told m path content
-      → IsSyncedIn now m path content
-  synced_same closed content s = tt
-  synced_same (reading ended) content s = agree ∙ s
-  synced_same writing content s = (agree ∙ s.0, s.1)
+  pub synced_same : (m : Mode) (content : Option (List ℕ)) (place : ℕ) → IsSyncedIn told m path content place
+      → IsSyncedIn now m path content place
+  synced_same closed content place s = tt
+  synced_same (reading ended) content place s = (s.0, agree ∙ s.1, s.2)
+  synced_same writing content place s = (agree ∙ s.0, s.1)
 
 -- ---- all of them
 
@@ -80,7 +80,7 @@ all_synced_same told now [] [] agree s = tt
 all_synced_same told now [] (f ∷ fs) agree s = s
 all_synced_same told now (path ∷ paths) [] agree s = s
 all_synced_same told now (path ∷ paths) (f ∷ fs) agree s =
-    (synced_same told now path agree.0 f.mode f.content s.0, all_synced_same told now paths fs agree.1 s.1)
+    (synced_same told now path agree.0 f.mode f.content f.place s.0, all_synced_same told now paths fs agree.1 s.1)
 
 -- what is seen of the file at a place
 abbrev pub SeenAt : Contents → List (List ℕ) → ℕ → Option File → Option File → Type 0
@@ -126,4 +126,4 @@ module _ (told now : Contents) (path : List ℕ) (but : AgreeBut told now path) 
       )
   synced_set (q ∷ paths) (f ∷ fs) (suc i) apart s at own =
       let other = but q (λ e. apart.0 (subst (Contains paths) (sym e) (contains_at paths i path at))) in
-      (synced_same told now q other f.mode f.content s.0, synced_set paths fs i apart.1 s.1 at own)
+      (synced_same told now q other f.mode f.content f.place s.0, synced_set paths fs i apart.1 s.1 at own)

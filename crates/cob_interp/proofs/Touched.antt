@@ -7,7 +7,7 @@ use Rattle.std.specs.FinMap.{get, insert}
 use Rattle.std.proofs.Math.Seq.{take-length}
 use Rattle.std.proofs.lemmas.Bool.{false≢true, eq-eqb}
 use Rattle.batch_io.specs.declared.ends.MakeEnd.{MakeEnd}
-use Rattle.batch_io.specs.FilesState.{Contents, FilesState, KeepsIds, known_bytes}
+use Rattle.batch_io.specs.FilesState.{Contents, FilesState, known_bytes}
 use Rattle.batch_io.specs.Wholes.{Holds, PutsFile}
 use Rattle.cob_program.specs.declared.act.Opening.{Opening}
 use Rattle.cob_program.specs.Act.{Act, open_files}
@@ -16,7 +16,6 @@ use Rattle.cob_runs.specs.State.{World}
 use Rattle.cob_interp.specs.Told.{AreDistinct, AgreeBut}
 use Rattle.cob_interp.specs.Touching.{IsFront, IsEmptied, IsPartOf, makes_in, makes_by, makes_none, IsPutIn, PutsPart, TouchesOne, Touches, Makes, ClosesOnly, OpensOnly}
 use Rattle.cob_interp.proofs.SeenFiles.{contains_at, insert_agrees, insert_gets}
-use Rattle.cob_interp.proofs.Passing.{ids_stay, ids_pass}
 use Rattle.cob_interp.proofs.CallsLead.{others_keep}
 
 -- ---- one name
@@ -37,11 +36,9 @@ module _ (old new : FilesState) (name bytes : List ℕ) where
   pub puts_part : (result : Result (Unit {0}) MakeEnd) → PutsFile old new name bytes result
       → PutsPart old new name bytes
   puts_part (Ok u) p = record {
-    ids = p.ids;
     known = held_part (length bytes) (subst (λ (x : List ℕ). Holds old new name x) (sym (take-length bytes)) p.ok);
   }
   puts_part (Err e) p = record {
-    ids = p.ids;
     known = λ told is. elim p.err [
       | inl same ↦ kept_part told (same ∙ is)
       | inr held ↦ held_part held.0 held.2 told is
@@ -52,7 +49,6 @@ module _ (old new : FilesState) (name bytes : List ℕ) where
 
 pub untouched_one : (a : FilesState) (path : List ℕ) (makes : Bool) (f : File) → TouchesOne a a path makes f
 untouched_one a path makes f = record {
-  ids = ids_stay a;
   known = λ told is. record { now = told; is = is; others = λ other apart. refl; it = inl refl };
 }
 
@@ -67,7 +63,6 @@ module _ (old new : FilesState) (path bytes : List ℕ) (f : File) (mode_ : f.mo
   -- a file that is being written is put
   pub written_touches : PutsPart old new path bytes → TouchesOne old new path false f
   written_touches p = record {
-    ids = p.ids;
     known = λ told is.
         let k = p.known told is in
         record { now = k.now; is = k.is; others = k.others; it = part_by_put (get told path) (get k.now path) k.it };
@@ -113,7 +108,6 @@ module _ (paths : List (List ℕ)) (makes : ℕ → Bool) (w : World) (old new :
     (has : slice_get w.files place ≡ Some f) where
   pub touches_by_one : TouchesOne old new path (makes place) f → Touches paths makes w old new
   touches_by_one one = record {
-    ids = one.ids;
     known = λ told is.
         let k = one.known told is in
         record {
@@ -142,7 +136,6 @@ module _ (paths : List (List ℕ)) (makes : ℕ → Bool) (w : World) (old new :
   -- a closed file that is opened for output is put empty
   pub makes_by_put : f.mode ≡ closed → makes place ≡ true → PutsPart old new path [] → Makes paths makes w old new
   makes_by_put mode_ made p = record {
-    ids = p.ids;
     known = λ told is.
         let k = p.known told is in
         record {
@@ -159,10 +152,9 @@ module _ (paths : List (List ℕ)) (makes : ℕ → Bool) (w : World) (old new :
 -- ---- where the contents stay
 
 module _ (paths : List (List ℕ)) (makes : ℕ → Bool) (w : World) where
-  pub makes_same : (old new : FilesState) → KeepsIds old new → known_bytes new ≡ known_bytes old
+  pub makes_same : (old new : FilesState) → known_bytes new ≡ known_bytes old
       → Makes paths makes w old new
-  makes_same old new ids same = record {
-    ids = ids;
+  makes_same old new same = record {
     known = λ told is. record {
       now = told;
       is = same ∙ is;
@@ -172,11 +164,10 @@ module _ (paths : List (List ℕ)) (makes : ℕ → Bool) (w : World) where
   }
 
   pub makes_stay : (a : FilesState) → Makes paths makes w a a
-  makes_stay a = makes_same a a (ids_stay a) refl
+  makes_stay a = makes_same a a refl
 
   pub touches_stay : (a : FilesState) → Touches paths makes w a a
   touches_stay a = record {
-    ids = ids_stay a;
     known = λ told is. record {
       now = told;
       is = is;
@@ -190,7 +181,6 @@ module _ (paths : List (List ℕ)) (makes : ℕ → Bool) (w : World) where
 
   pub makes_touch : (old new : FilesState) → Makes paths makes w old new → Touches paths makes w old new
   makes_touch old new m = record {
-    ids = m.ids;
     known = λ told is.
         let k = m.known told is in
         record {
@@ -216,7 +206,6 @@ module _ (paths : List (List ℕ)) (makes more : ℕ → Bool) (w : World)
 
   pub touches_more : Touches paths makes w old new → Touches paths more w old new
   touches_more t = record {
-    ids = t.ids;
     known = λ told is.
         let k = t.known told is in
         record {
@@ -237,7 +226,6 @@ module _ (paths : List (List ℕ)) (makes more : ℕ → Bool) (w : World)
 
   pub makes_more : Makes paths makes w old new → Makes paths more w old new
   makes_more m = record {
-    ids = m.ids;
     known = λ told is.
         let k = m.known told is in
         record {
@@ -301,7 +289,6 @@ module _ (paths : List (List ℕ)) (w v : World) (a b c : FilesState) where
   pub touches_on : Touches paths makes_none w a b → ClosesOnly w v → Touches paths makes_none v b c
       → Touches paths makes_none w a c
   touches_on t only u = record {
-    ids = ids_pass a b c t.ids u.ids;
     known = λ told is.
         let h = t.known told is in
         let k = u.known h.now h.is in
@@ -329,7 +316,6 @@ module _ (paths : List (List ℕ)) (w v : World) (a b c : FilesState) where
   pub makes_on : (makes : ℕ → Bool) → Makes paths makes w a b → OpensOnly w v → Makes paths makes v b c
       → Makes paths makes w a c
   makes_on makes m only n = record {
-    ids = ids_pass a b c m.ids n.ids;
     known = λ told is.
         let h = m.known told is in
         let k = n.known h.now h.is in

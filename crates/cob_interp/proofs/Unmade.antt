@@ -143,4 +143,3 @@ module _ (p : Program) (g : Graph) (whole : IsWellFormed p) (is : IsGraph p g) (
     unmade_kept (Err end.ReadFault) x = by_break x.part
     unmade_kept (Err end.WriteFault) x = by_break x.part
     unmade_kept (Err end.Memory) x = by_break x.part
-    unmade_kept (Err (end.Long count)) x = by_break x.part

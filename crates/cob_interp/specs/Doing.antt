@@ -1,33 +1,42 @@
 -- What doing the part of a node comes to.
-use Rattle.std.specs.Prelude.{◌≡◌, ◌≤◌, ◌<◌, ◌+◌, ℕ, true, List, drop, length, slice_get, Some, Result, Ok, Err}
+use Rattle.std.specs.Prelude.{◌≡◌, ◌≤◌, ℕ, true, List, length, slice_get, Some, Result, Ok, Err}
 use Rattle.std.specs.Option.{option_map_or}
-use Rattle.cob_program.specs.declared.act.Opening.{Opening}
-use Rattle.cob_runs.specs.Effects.{act_at}
-use Rattle.cob_graph.specs.declared.graph.Node.{Node}
-use Rattle.cob_graph.specs.Lookup.{node_at}
-use Rattle.cob_graph_laws.specs.Ways.{passed}
 use Rattle.cob_plan.specs.declared.node.Op.{Op}
 use Rattle.cob_plan.specs.declared.node.Op.TheVariants as op
 use Rattle.cob_plan.specs.declared.end.DoEnd.{DoEnd}
 use Rattle.cob_plan.specs.declared.end.DoEnd.TheVariants as does
 use Rattle.cob_plan.specs.Doing.{Does}
 use Rattle.cob_interp.specs.declared.setting.Place.{Place}
-use Rattle.cob_program.specs.Act.{Act, open_files, close_files}
-use Rattle.cob_runs.specs.State.{World}
+use Rattle.cob_program.specs.Act.{Act, open_files, close_files, read}
+use Rattle.cob_runs.specs.State.{World, with_files}
 use Rattle.cob_interp.specs.declared.ends.RunEnd.{RunEnd}
 use Rattle.cob_interp.specs.declared.ends.RunEnd.TheVariants as end
 use Rattle.cob_interp.specs.declared.setting.Setting.{Setting}
-use Rattle.cob_interp.specs.Running.{Outside, IsUnderway, Arrives, Opens, ArrivesOpening}
+use Rattle.cob_interp.specs.Running.{Outside, IsUnderway, Arrives}
 use Rattle.cob_interp.specs.Setting.{program_of, paths_of}
 use Rattle.cob_interp.specs.Ends.{cut_file}
+use Rattle.cob_interp.specs.Tracking.{Ids}
+use Rattle.cob_interp.specs.Readying.{GivesWindow, HasRest, settled}
+use Rattle.cob_world.specs.Calling.{replaced}
+use Rattle.batch_io.specs.Faults.{Rose}
+use Rattle.cob_data.specs.declared.layout.FileDecl.{FileDecl}
+use Rattle.cob_interp.specs.Told.{seen_files, AreSynced}
+use Rattle.batch_io.specs.FilesState.{Contents, FilesState, known_bytes}
 use Rattle.cob_runs.specs.Acts.{decl_at}
 use Rattle.cob_runs.specs.Files.{bytes_in}
 
--- The statement is neither OPEN nor CLOSE.
-abbrev pub IsPlain : Act → Type 0
-IsPlain (open_files os) = ⊥
-IsPlain (close_files fs) = ⊥
-IsPlain _ = Unit {0}
+-- The operation does nothing with files.
+abbrev pub IsQuiet : Op → Type 0
+IsQuiet (op.Skip to) = Unit {0}
+IsQuiet (op.Assign to) = Unit {0}
+IsQuiet _ = ⊥
+
+-- The operation of a statement neither opens, nor closes, nor reads a file.
+abbrev pub IsPlain : Op → Act → Type 0
+IsPlain o (open_files os) = ⊥
+IsPlain o (close_files fs) = ⊥
+IsPlain o (read f into end_ fine) = IsQuiet o
+IsPlain o _ = Unit {0}
 
 -- how the run ends where a node's part isn't done
 abbrev pub halted : ℕ → ℕ → DoEnd → RunEnd
@@ -51,32 +60,39 @@ Leads s budget step node old new w v result =
     (start : Outside) → step ≤ budget → IsUnderway (program_of s) s.graph.now (paths_of s) start old w step node
     → Arrives (program_of s) s.graph.now (paths_of s) budget start new v step result
 
--- The run goes on from a node at which the next file of an OPEN is opened.
-abbrev pub LeadsOpening : Setting → ℕ → ℕ → ℕ → ℕ → List Opening → ℕ → Outside → Outside → World → World
-    → Result ℕ RunEnd → Type 0
-LeadsOpening s budget steps node number os k old new w v result =
-    (start : Outside) (left : ℕ) → steps < budget → act_at (program_of s) number ≡ Some (open_files os)
-    → ((x : Node) → node_at s.graph.now.nodes node ≡ Some x → steps + 1 ≡ passed left x)
-    → Opens (program_of s) s.graph.now (paths_of s) start old w left steps node number os (drop k os)
-    → ArrivesOpening (program_of s) s.graph.now (paths_of s) budget start new v steps number os (drop (k + 1) os) result
-
--- The run goes on from the first node of an OPEN.
-abbrev pub LeadsOver : Setting → ℕ → ℕ → ℕ → ℕ → List Opening → Outside → Outside → World → World → Result ℕ RunEnd
-    → Type 0
-LeadsOver s budget steps node number os old new w v result =
-    (start : Outside) → steps < budget → act_at (program_of s) number ≡ Some (open_files os)
-    → ((x : Node) → node_at s.graph.now.nodes node ≡ Some x → x.starts ≡ true)
-    → Opens (program_of s) s.graph.now (paths_of s) start old w steps steps node number os os
-    → Arrives (program_of s) s.graph.now (paths_of s) budget start new v (steps + 1) result
-
 -- the operation opens the file of this number
 abbrev pub IsOpenOf : Op → ℕ → Type 0
 IsOpenOf (op.Open file fine bad) number = file ≡ number
 IsOpenOf _ number = ⊥
 
--- the file at a place ends within a record, and this says so
-abbrev pub IsRaggedAt : Setting → World → ℕ → RunEnd → Type 0
-IsRaggedAt s w file (end.Ragged place count) =
-    (place ≡ file) × ((count ≡ option_map_or (λ f. length (bytes_in f)) (slice_get w.files file) 0)
-    × (cut_file (decl_at s.program.now.layout file) (slice_get w.files file) ≡ true))
-IsRaggedAt s w file _ = ⊥
+-- the file at a place is seen to end within a record, and this says so
+abbrev pub IsRaggedAt : Setting → FilesState → World → ℕ → RunEnd → Type 0
+IsRaggedAt s files w file (end.Ragged place count) =
+    (place ≡ file)
+    × ((told : Contents) → known_bytes files ≡ Some told → AreSynced told (paths_of s) w.files
+    → let sees = slice_get (seen_files told (paths_of s) w.files) file in
+    (count ≡ option_map_or (λ f. length (bytes_in f)) sees 0)
+    × (cut_file (decl_at s.program.now.layout file) sees ≡ true))
+IsRaggedAt s files w file _ = ⊥
+
+-- A READ's part is done with the next record, or nothing, in place of what the file holds.
+pub record DoesRead (s : Setting) (x : Place) (step : ℕ) (old new : FilesState) (ids : Ids) (file before : ℕ)
+    (w v : World) (result : Result ℕ RunEnd) : Type 0 where
+  pub decl : FileDecl
+  pub declared : decl_at s.program.now.layout file ≡ Some decl
+  pub window : List ℕ
+  pub gives : GivesWindow old new ids file decl.length window
+  pub mid : World
+  pub does : DoesPart s x step (with_files w (replaced file (Some window) 0 w.files)) mid result
+  pub settles : v ≡ settled file before mid
+
+-- It is done so, or refused, or the file has a rest that is no record.
+abbrev pub ReadsPart : Setting → Place → ℕ → FilesState → FilesState → Ids → ℕ → ℕ → World → World → Result ℕ RunEnd
+    → Type 0
+ReadsPart s x step old new ids file before w v (Err end.ReadFault) = Rose old.reading new.reading
+ReadsPart s x step old new ids file before w v (Err end.WriteFault) = Rose old.writing new.writing
+ReadsPart s x step old new ids file before w v (Err end.Memory) = Unit {0}
+ReadsPart s x step old new ids file before w v (Err (end.Ragged place count)) =
+    (place ≡ file) × (v ≡ w) × ((decl : FileDecl) × (decl_at s.program.now.layout file ≡ Some decl)
+    × HasRest old new ids file decl.length before count)
+ReadsPart s x step old new ids file before w v result = DoesRead s x step old new ids file before w v result

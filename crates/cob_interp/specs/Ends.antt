@@ -1,18 +1,15 @@
 -- How a program's run on told files ends within a budget of steps.
-use Rattle.std.specs.Prelude.{◌≡◌, ◌≤◌, ◌<◌, ◌==◌, ◌&&◌, nat_lt, not, ℕ, ◌+◌, if◌then◌else◌, Bool, true, false, List, [], ◌∷◌, length, map, slice_get, Option, Some, Result, Ok, Err}
+use Rattle.std.specs.Prelude.{◌≡◌, ◌≤◌, ◌<◌, ◌==◌, ◌&&◌, nat_lt, ℕ, Bool, true, false, List, [], length, map, slice_get, Option, Some, Result, Ok, Err}
 use Rattle.std.specs.Option.{option_map_or}
 use Rattle.std.specs.FinMap.{get}
 use Rattle.batch_io.specs.FilesState as outside
 use Rattle.cob_data.specs.declared.layout.FileDecl.{FileDecl}
-use Rattle.cob_program.specs.declared.act.Opening.{Opening}
-use Rattle.cob_program.specs.Act.{Act, open_files, read, Program}
+use Rattle.cob_program.specs.Act.{Act, read, Program}
 use Rattle.cob_meaning.specs.declared.straight.Outcome.{Outcome}
 use Rattle.cob_meaning.specs.declared.straight.Outcome.TheVariants.{Going, Fault, IoStop}
 use Rattle.cob_meaning.specs.declared.straight.Outcome.TheVariants as outcome
 use Rattle.cob_runs.specs.Files.{File, Mode, closed, reading, bytes_in, after_read}
 use Rattle.cob_runs.specs.State.{World, State}
-use Rattle.cob_runs.specs.Acts.{has_status, open_one}
-use Rattle.cob_runs.specs.Steps.{outcome_of}
 use Rattle.cob_runs.specs.Effects.{act_at}
 use Rattle.cob_runs.specs.Runs.{Contents, run}
 use Rattle.cob_graph_laws.specs.Ways.{next_statement}
@@ -24,7 +21,7 @@ use Rattle.cob_interp.specs.declared.ends.RunEnd.TheVariants as end
 abbrev pub told_files : outside.Contents → List (List ℕ) → Contents
 told_files told paths = map (get told) paths
 
--- ---- files that end within a record, and files that are too long to be read
+-- ---- files that end within a record
 
 -- A file in this mode is read, and its end wasn't met.
 abbrev pub reads_on : Mode → Bool
@@ -39,33 +36,11 @@ abbrev pub cut_file : Option FileDecl → Option File → Bool
 cut_file (Some d) (Some f) = is_cut d f
 cut_file d f = false
 
--- an input file is read whole, if it has at most so many bytes
-abbrev pub file_limit : ℕ
-file_limit = 67108864
-
 abbrev pub is_closed : Mode → Bool
 is_closed closed = true
 is_closed _ = false
 
-abbrev pub is_long : File → Bool
-is_long f = is_closed f.mode && nat_lt file_limit (length (bytes_in f))
-
 module _ (p : Program) where
-  abbrev pub file_is_long : Opening → World → Bool
-  file_is_long o w = not o.output && option_map_or is_long (slice_get w.files o.file) false
-
-  abbrev pub unless_over : Outcome → Bool → Bool
-  unless_over Going b = b
-  unless_over o b = false
-
-  -- Whether one of the files is too long, where they are opened in turn until one ends the run.
-  abbrev pub meets_long : ℕ → List Opening → World → Bool
-  meets_long number [] w = false
-  meets_long number (o ∷ os) w =
-      if file_is_long o w then true
-      else unless_over (outcome_of number (has_status p.layout o.file) (open_one p.layout o w).1)
-      (meets_long number os (open_one p.layout o w).0)
-
   abbrev pub cut_by : Act → World → ℕ → Bool
   cut_by (read f into end fine) w file = f == file && cut_file (slice_get p.layout.files f) (slice_get w.files f)
   cut_by _ w file = false
@@ -74,18 +49,9 @@ module _ (p : Program) where
   abbrev pub meets_cut : ℕ → World → ℕ → Bool
   meets_cut statement w file = option_map_or (λ a. cut_by a w file) (act_at p statement) false
 
-  abbrev pub long_by : ℕ → Act → World → Bool
-  long_by number (open_files os) w = meets_long number os w
-  long_by number _ w = false
-
-  -- the next statement is an OPEN that meets a file that's too long
-  abbrev pub meets_too_long : ℕ → World → Bool
-  meets_too_long statement w = option_map_or (λ a. long_by statement a w) (act_at p statement) false
-
-  -- The run goes on, and neither a ragged end nor a long file stops the next step.
-  pub record IsFree (s : State) : Type 0 where
-    pub uncut : (file : ℕ) → meets_cut (next_statement p s.control) s.world file ≡ false
-    pub short : meets_too_long (next_statement p s.control) s.world ≡ false
+  -- No ragged end stops the next step.
+  abbrev pub IsFree : State → Type 0
+  IsFree s = (file : ℕ) → meets_cut (next_statement p s.control) s.world file ≡ false
 
   -- ---- ends
 
@@ -122,10 +88,6 @@ module _ (p : Program) where
         pub cut : meets_cut statement w file ≡ true
         pub counted : count ≡ option_map_or (λ f. length (bytes_in f)) (slice_get w.files file) 0
 
-      pub record IsLongAt (count statement : ℕ) (w : World) : Type 0 where
-        pub long : meets_too_long statement w ≡ true
-        pub counted : count ≡ file_limit + 1
-
       -- What each answer says, behind so many steps. Faults of the outside and want of memory have clauses of their
       -- own.
       abbrev pub IsEnd : Result Ended RunEnd → ℕ → Type 0
@@ -134,7 +96,6 @@ module _ (p : Program) where
       IsEnd (Err (end.IoStop status statement)) n = EndsAfter n (IoStop status statement)
       IsEnd (Err (end.Fault kind statement step)) n = (step ≡ n) × EndsAfter n (Fault kind statement)
       IsEnd (Err (end.Ragged file count)) n = IsStopped n (IsCutAt file count)
-      IsEnd (Err (end.Long count)) n = IsStopped n (IsLongAt count)
       IsEnd (Err end.ReadFault) n = ⊥
       IsEnd (Err end.WriteFault) n = ⊥
       IsEnd (Err end.Memory) n = ⊥

@@ -1,5 +1,6 @@
 pub mod Ends
 pub mod Told
+pub mod Tracking
 pub mod Touching
 pub mod Running
 pub mod Walking

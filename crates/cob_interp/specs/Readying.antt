@@ -1,11 +1,11 @@
 -- How the outside's files are made ready for OPEN and CLOSE.
-use Rattle.std.specs.Prelude.{◌≡◌, ◌<◌, ◌+◌, ℕ, true, false, List, slice_get, Option, Some, IsSomeAnd, IfSome, length, ◌≤◌}
+use Rattle.std.specs.Prelude.{◌≡◌, ◌<◌, ◌≤◌, ◌⊎◌, ◌+◌, ℕ, Bool, true, false, List, [], length, take, slice_get, slice_set, Option, Some, None, IsSome, IfSome, is_some, Result, Ok, Err, MatchResult}
 use Rattle.std.specs.FinMap.{get}
-use Rattle.batch_io.specs.FilesState.{Contents, FilesState, KeepsIds, known_bytes}
+use Rattle.batch_io.specs.FilesState.{Contents, FilesState, Gives, known_bytes, known_handle, known_rest}
 use Rattle.batch_io.specs.Faults.{Rose}
 use Rattle.cob_data.specs.declared.layout.FileDecl.{FileDecl}
 use Rattle.cob_program.specs.declared.act.Opening.{Opening}
-use Rattle.cob_runs.specs.Files.{File}
+use Rattle.cob_runs.specs.Files.{File, file, closed, reading, opened}
 use Rattle.cob_runs.specs.State.{World, with_files}
 use Rattle.cob_world.specs.Calling.{refilled}
 use Rattle.cob_runs.specs.Acts.{decl_at}
@@ -13,14 +13,13 @@ use Rattle.cob_interp.specs.declared.ends.RunEnd.{RunEnd}
 use Rattle.cob_interp.specs.declared.ends.RunEnd.TheVariants as end
 use Rattle.cob_interp.specs.declared.setting.Setting.{Setting}
 use Rattle.cob_interp.specs.Told.{seen, AreSynced, AgreeBut, IsReadyToOpen, IsReadyToClose}
-use Rattle.cob_interp.specs.Ends.{file_limit, file_is_long}
-use Rattle.cob_interp.specs.Setting.{program_of, paths_of}
+use Rattle.cob_interp.specs.Tracking.{Ids, IsRead, IsReading, KeepsPlaces}
+use Rattle.cob_interp.specs.Setting.{paths_of}
 
--- no fault was met, and ids are as they were
+-- no fault was met
 pub record AreWell (old new : FilesState) : Type 0 where
   pub reading : new.reading ≡ old.reading
   pub writing : new.writing ≡ old.writing
-  pub ids : KeepsIds old new
 
 -- no fault was met, and each name but one holds what it held
 pub record Keeps (told : Contents) (known : Option Contents) (path : List ℕ) (IsIt : Contents → Type 0) : Type 0 where
@@ -44,33 +43,17 @@ IsRefusal old new _ = ⊥
 abbrev pub Puts : FilesState → FilesState → List ℕ → List ℕ → Type 0
 Puts old new name bytes = Readies old new name (λ told now. get now name ≡ Some bytes)
 
-abbrev pub IsShort : Option (List ℕ) → Type 0
-IsShort content = IfSome content (λ bytes. length bytes ≤ file_limit)
-
--- the name's bytes were read, and they are few enough
-pub record Reads (old new : FilesState) (name : List ℕ) (content : Option (List ℕ)) : Type 0 where
-  pub well : AreWell old new
-  pub known : known_bytes new ≡ known_bytes old
-  pub short : IsShort content
-  pub is : (told : Contents) → known_bytes old ≡ Some told → get told name ≡ content
-
--- the name has too many bytes
-pub record IsLongNamed (old new : FilesState) (name : List ℕ) (count : ℕ) : Type 0 where
-  pub well : AreWell old new
-  pub counted : count ≡ file_limit + 1
-  pub long : (told : Contents) → known_bytes old ≡ Some told
-      → IsSomeAnd (get told name) (λ bytes. file_limit < length bytes)
-
-abbrev pub IsRefusedToLoad : FilesState → FilesState → List ℕ → RunEnd → Type 0
-IsRefusedToLoad old new name (end.Long count) = IsLongNamed old new name count
-IsRefusedToLoad old new name e = IsRefusal old new e
-
 -- ---- a file of the program
 
 pub record IsPath (s : Setting) (place : ℕ) (path : List ℕ) : Type 0 where
   pub decl : FileDecl
   pub declared : decl_at s.program.now.layout place ≡ Some decl
   pub path_ : slice_get (paths_of s) place ≡ Some path
+
+pub record IsSize (s : Setting) (place size : ℕ) : Type 0 where
+  pub decl : FileDecl
+  pub declared : decl_at s.program.now.layout place ≡ Some decl
+  pub size_ : decl.length ≡ size
 
 pub record ReadyToClose (s : Setting) (w : World) (place : ℕ) (old new : FilesState) : Type 0 where
   pub path : List ℕ
@@ -79,30 +62,120 @@ pub record ReadyToClose (s : Setting) (w : World) (place : ℕ) (old new : Files
   pub has : slice_get w.files place ≡ Some file
   pub ready : Readies old new path (λ told now. IsReadyToClose told now path file)
 
--- the bytes of the name were read into the file at a place
-pub record LoadsInto (old new : FilesState) (path : List ℕ) (place : ℕ) (w v : World) : Type 0 where
+-- ---- files that are read
+
+-- The file at a place is read now under an id that stands at the first byte of this name; or it isn't there.
+abbrev pub IsOpenedAt : FilesState → Ids → Ids → List ℕ → ℕ → Bool → Type 0
+IsOpenedAt new before after name place true =
+    (id : ℕ) × (after ≡ slice_set before place (Some id))
+    × IfSome (known_handle new id) (λ handle. handle ≡ record { name = name; place = 0 })
+IsOpenedAt new before after name place false = after ≡ before
+
+-- a file of this name is opened for the file at a place, if it is there
+pub record OpensFor (old new : FilesState) (before after : Ids) (name : List ℕ) (place : ℕ) (there : Bool) : Type 0 where
+  pub well : AreWell old new
+  pub within : place < length before
+  pub there_ : (told : Contents) → known_bytes old ≡ Some told → there ≡ is_some (get told name)
+  pub opened : IsOpenedAt new before after name place there
+  pub others : (other : ℕ) → IsSome (old.purpose other) → known_handle new other ≡ known_handle old other
+
+-- the id of the file at a place, if it has one, is closed
+pub record ClosesFor (old new : FilesState) (before after : Ids) (place : ℕ) : Type 0 where
+  pub well : AreWell old new
+  pub ids : (other id : ℕ) → IsRead after other id → IsRead before other id × (known_handle new id ≡ known_handle old id)
+
+abbrev pub first_refusal : Result (Unit {0}) RunEnd → Result (Unit {0}) RunEnd → Result (Unit {0}) RunEnd
+first_refusal (Ok u) other = other
+first_refusal (Err e) other = Err e
+
+-- All ids that were open are closed, whatever a close answers.
+pub record ClosesAll (old new : FilesState) (result : Result (Unit {0}) RunEnd) : Type 0 where
+  pub later : old.reading ≤ new.reading
+  pub writing : new.writing ≡ old.writing
+  pub reading : MatchResult result (λ _. new.reading ≡ old.reading) (λ e. IsRefusal old new e)
+
+-- The next bytes of the file at a place stand at the front of its room: as many as fit, or those to the end.
+pub record GivesRecord (old new : FilesState) (ids : Ids) (place : ℕ) (room : List ℕ) (count : ℕ) : Type 0 where
+  pub well : AreWell old new
+  pub id : ℕ
+  pub is : IsRead ids place id
+  pub within : count ≤ length room
+  pub given : Gives old new id (take count room)
+  pub ended : count < length room → IfSome (known_rest new id) (λ rest. rest ≡ [])
+
+-- A file of this name is opened for the file at a place, and what the kept file gets in place of its bytes is there
+-- exactly where that is.
+pub record OpensInto (old new : FilesState) (before after : Ids) (path : List ℕ) (place : ℕ) (w v : World) : Type 0 where
+  pub there : Bool
+  pub opens : OpensFor old new before after path place there
   pub content : Option (List ℕ)
-  pub reads : Reads old new path content
+  pub is : is_some content ≡ there
   pub world : v ≡ with_files w (refilled place content w.files)
 
-pub record ReadyToOpen (s : Setting) (w v : World) (o : Opening) (old new : FilesState) : Type 0 where
+-- A file that an OPEN lets be read is read under a new id, at its first byte. All other ids stand where they stood.
+pub record StandsOrBegins (old new : FilesState) (before after : Ids) (path : List ℕ) (place : ℕ) (output : Bool)
+    (f : File) : Type 0 where
+  pub stand : (other id : ℕ) → IsRead after other id
+      → (IsRead before other id × (known_handle new id ≡ known_handle old id)
+      × (other ≡ place → IsReading (opened output f).0.mode → IsReading f.mode))
+      ⊎ ((other ≡ place) × (f.mode ≡ closed)
+      × IfSome (known_handle new id) (λ handle. handle ≡ record { name = path; place = 0 }))
+
+pub record ReadyToOpen (s : Setting) (w v : World) (o : Opening) (old new : FilesState) (before after : Ids)
+    : Type 0 where
   pub path : List ℕ
   pub file : File
   pub is : IsPath s o.file path
   pub has : slice_get v.files o.file ≡ Some file
   pub ready : Readies old new path (λ told now. IsReadyToOpen told now path o.output file)
-  -- the file's new content isn't seen, and it is short
+  -- ids stand where they stood, but for one that the file may have got, which stands at its first byte
+  pub stand : StandsOrBegins old new before after path o.file o.output file
+  pub keeps : KeepsPlaces w.files v.files
+  -- the file's new content isn't seen
   pub same : (told : Contents) (text : List ℕ) → known_bytes old ≡ Some told → AreSynced told (paths_of s) w.files
       → (seen told (paths_of s) text v ≡ seen told (paths_of s) text w) × AreSynced told (paths_of s) v.files
-      × (file_is_long (program_of s) o (seen told (paths_of s) text w) ≡ false)
 
--- the file that is to be read is too long
-pub record IsLongHere (s : Setting) (w : World) (o : Opening) (old new : FilesState) (count : ℕ) : Type 0 where
+-- ---- a READ
+
+-- the next record of the file at a place, or nothing at its end
+pub record GivesWindow (old new : FilesState) (ids : Ids) (place size : ℕ) (window : List ℕ) : Type 0 where
   pub well : AreWell old new
-  pub counted : count ≡ file_limit + 1
-  pub long : (told : Contents) (text : List ℕ) → known_bytes old ≡ Some told → AreSynced told (paths_of s) w.files
-      → file_is_long (program_of s) o (seen told (paths_of s) text w) ≡ true
+  pub id : ℕ
+  pub is : IsRead ids place id
+  pub given : Gives old new id window
+  pub whole : (length window ≡ size) ⊎ ((window ≡ []) × (0 < size) × IfSome (known_rest new id) (λ rest. rest ≡ []))
 
-abbrev pub IsRefusedToOpen : Setting → World → Opening → FilesState → FilesState → RunEnd → Type 0
-IsRefusedToOpen s w o old new (end.Long count) = IsLongHere s w o old new count
-IsRefusedToOpen s w o old new e = IsRefusal old new e
+-- the file at a place, of which so many bytes were read before, has fewer bytes left than a record
+pub record HasRest (old new : FilesState) (ids : Ids) (place size before count : ℕ) : Type 0 where
+  pub well : AreWell old new
+  pub id : ℕ
+  pub is : IsRead ids place id
+  pub left : List ℕ
+  pub given : Gives old new id left
+  pub some : 0 < length left
+  pub few : length left < size
+  pub ended : IfSome (known_rest new id) (λ rest. rest ≡ [])
+  pub counted : count ≡ before + length left
+
+abbrev pub IsRestOr : FilesState → FilesState → Ids → ℕ → ℕ → ℕ → RunEnd → Type 0
+IsRestOr old new ids place size before (end.Ragged file_ count) =
+    (file_ ≡ place) × HasRest old new ids place size before count
+IsRestOr old new ids place size before e = IsRefusal old new e
+
+-- A file holds a window no more, and its place goes on behind so many bytes.
+abbrev pub settled_file : ℕ → File → File
+settled_file before f = file (Some []) f.mode (before + f.place)
+
+abbrev pub settled_on : ℕ → ℕ → List File → Option File → List File
+settled_on place before files None = files
+settled_on place before files (Some f) = slice_set files place (settled_file before f)
+
+abbrev pub settled : ℕ → ℕ → World → World
+settled place before w = with_files w (settled_on place before w.files (slice_get w.files place))
+
+-- the bytes that were read of a file that is read, whose end wasn't met
+abbrev pub IsReadOn : Option File → Option ℕ → Type 0
+IsReadOn None None = Unit {0}
+IsReadOn None (Some before) = ⊥
+IsReadOn (Some f) None = f.mode ≡ reading false → ⊥
+IsReadOn (Some f) (Some before) = (f.mode ≡ reading false) × (f.place ≡ before)

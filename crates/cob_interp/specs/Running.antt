@@ -1,10 +1,10 @@
 -- What a run does to the outside's files and sink.
-use Rattle.std.specs.Prelude.{◌≡◌, ◌≤◌, ◌<◌, ◌⊎◌, ℕ, ◌+◌, Bool, true, false, List, [], ◌++◌, take, length, slice_get, Option, Some, None, IfSome, Result, Ok, Err}
+use Rattle.std.specs.Prelude.{◌≡◌, ◌≤◌, ◌<◌, ◌⊎◌, ℕ, Bool, true, false, List, [], ◌++◌, take, length, slice_get, Option, Some, None, Result, Ok, Err}
 use Rattle.std.specs.Option.{option_map_or}
 use Rattle.std.specs.Io.KnownBytes.{append_known}
 use Rattle.std.specs.FinMap.{get}
 use Rattle.batch_io.specs.Faults.{Rose}
-use Rattle.batch_io.specs.FilesState.{Contents, FilesState, KeepsIds, known_bytes}
+use Rattle.batch_io.specs.FilesState.{Contents, FilesState, known_bytes}
 use Rattle.batch_io.specs.SinkState.{SinkState}
 use Rattle.cob_program.specs.Act.{Program}
 use Rattle.cob_runs.specs.Files.{File}
@@ -14,14 +14,13 @@ use Rattle.cob_graph.specs.declared.graph.Graph.{Graph}
 use Rattle.cob_graph.specs.declared.graph.Node.{Node}
 use Rattle.cob_graph.specs.Lookup.{node_at}
 use Rattle.cob_graph_laws.specs.Ways.{next_statement, passed}
-use Rattle.cob_program.specs.declared.act.Opening.{Opening}
 use Rattle.cob_graph_laws.specs.Kept.{NeverMakes}
-use Rattle.cob_graph_laws.specs.Told.{Way, WaysTell, GoesOnAfter}
+use Rattle.cob_graph_laws.specs.Told.{Way, WaysTell}
 use Rattle.cob_interp.specs.declared.ends.Ended.{Ended}
 use Rattle.cob_interp.specs.declared.ends.Ending.{Ending}
 use Rattle.cob_interp.specs.declared.ends.RunEnd.{RunEnd}
 use Rattle.cob_interp.specs.declared.ends.RunEnd.TheVariants as end
-use Rattle.cob_interp.specs.Ends.{told_files, meets_long, AreFree, IsEnd, state_after}
+use Rattle.cob_interp.specs.Ends.{told_files, AreFree, IsEnd, state_after}
 use Rattle.cob_interp.specs.Told.{seen, seen_files, AreSynced, KeepsNames, Holds}
 use Rattle.cob_interp.specs.Touching.{IsPartOf, makes_by}
 
@@ -35,12 +34,11 @@ pub record Outside : Type 0 where
 abbrev pub outside : FilesState → SinkState → Outside
 outside files sink = record { files = files; sink = sink }
 
--- no fault was told so far, ids are as they were, and the sink gained this text
+-- no fault was told so far, and the sink gained this text
 pub record IsWell (old new : Outside) (text : List ℕ) : Type 0 where
   pub reading : new.files.reading ≡ old.files.reading
   pub writing : new.files.writing ≡ old.files.writing
   pub faults : new.sink.faults ≡ old.sink.faults
-  pub ids : KeepsIds old.files new.files
   pub gained : new.sink.told ≡ append_known old.sink.told text
 
 -- a fact of the first contents and of those behind them, where contents are told
@@ -82,25 +80,6 @@ module _ (p : Program) (g : Graph) (paths : List (List ℕ)) where
     pub left : ℕ
     pub stands : Stands start now w left step node
     pub counts : (x : Node) → node_at g.nodes node ≡ Some x → step ≡ passed left x
-
-  -- ---- a run that is in an OPEN
-
-  -- So many steps were begun freely, and then an OPEN with these files, of which so many are left to be opened. Whether
-  -- one that is too long is met is to be seen of those.
-  pub record OpensIn (first told : Contents) (text : List ℕ) (w : World) (left steps node number : ℕ)
-      (os rest : List Opening) : Type 0
-    where
-      pub stands : StandsIn first told text w left steps node
-      pub begin : World
-      pub begins : GoesOnAfter p g (told_files first paths) [] steps number begin
-      pub same : meets_long p number os begin ≡ meets_long p number rest (seen told paths text w)
-
-  pub record Opens (start now : Outside) (w : World) (left steps node number : ℕ)
-      (os rest : List Opening) : Type 0 where
-    pub text : List ℕ
-    pub well : IsWell start now text
-    pub told : IfTold (λ first told. OpensIn first told text w left steps node number os rest)
-        (known_bytes start.files) (known_bytes now.files)
 
   -- ---- a run that has ended
 
@@ -160,39 +139,26 @@ module _ (p : Program) (g : Graph) (paths : List (List ℕ)) where
         IfTold (λ first told. BreaksOff first told start.sink now.sink) (known_bytes start.files)
         (known_bytes now.files)
 
-    -- a refusal by the outside, for want of memory, or of a file that's too long
+    -- a refusal by the outside, or for want of memory
     abbrev pub IfRefused : Result Ended RunEnd → Type 0 → Type 0
     IfRefused (Err end.ReadFault) P = P
     IfRefused (Err end.WriteFault) P = P
     IfRefused (Err end.Memory) P = P
-    IfRefused (Err (end.Long count)) P = P
     IfRefused result P = Unit {0}
 
-    -- an input file is too long
-    abbrev pub IsTooLong : Option Contents → ℕ → Type 0
-    IsTooLong known count =
-        IfSome known (λ first. (n : ℕ) × IsEnd p (told_files first paths) budget (Err (end.Long count)) n)
-
-    -- Why the run was refused: a fault of the outside, which its count shows, or an input file that is too long. Of
-    -- want of memory nothing is said. Any other answer is the run's own end.
+    -- Why the run was refused: a fault of the outside, which its count shows. Of want of memory nothing is said. Any
+    -- other answer is the run's own end.
     abbrev pub EndsBy : (Outside → Outside → Result Ended RunEnd → Type 0) → Outside → Outside → Result Ended RunEnd
         → Type 0
     EndsBy own old new (Err end.ReadFault) = RoseReading old new
     EndsBy own old new (Err end.WriteFault) = RoseWriting old new
     EndsBy own old new (Err end.Memory) = Unit {0}
-    EndsBy own old new (Err (end.Long count)) = IsTooLong (known_bytes old.files) count
     EndsBy own old new result = own old new result
 
     -- ---- a run that goes on or halts
 
     abbrev pub Halts : Outside → Outside → World → Result Ended RunEnd → Type 0
     Halts start now w result = EndsBy (λ old new r. Rests old new w r) start now result
-
-    -- what a call answers that opens a file in an OPEN
-    abbrev pub ArrivesOpening : Outside → Outside → World → ℕ → ℕ → List Opening → List Opening → Result ℕ RunEnd
-        → Type 0
-    ArrivesOpening start now w steps number os rest (Ok node) = Opens start now w (steps + 1) steps node number os rest
-    ArrivesOpening start now w steps number os rest (Err e) = Halts start now w (Err e)
 
     -- what a call answers that does a node's part: the next node, where all goes on to stand, or why the run halts
     abbrev pub Arrives : Outside → Outside → World → ℕ → Result ℕ RunEnd → Type 0

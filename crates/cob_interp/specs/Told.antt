@@ -1,16 +1,16 @@
 -- How the world of a program's run stands in what the interpreter keeps: a world of its own, the outside's files, and
 -- the text that was already shown.
-use Rattle.std.specs.Prelude.{◌≡◌, ◌≢◌, ℕ, Bool, true, false, List, [], ◌∷◌, ◌++◌, map, Contains, Option, Some}
+use Rattle.std.specs.Prelude.{◌≡◌, ◌≢◌, ◌≤◌, ℕ, Bool, true, false, List, [], ◌∷◌, ◌++◌, length, map, Contains, Option, Some, is_some}
 use Rattle.std.specs.FinMap.{get}
 use Rattle.batch_io.specs.FilesState.{Contents}
 use Rattle.cob_runs.specs.Files.{File, file, Mode, closed, reading, writing}
 use Rattle.cob_runs.specs.State.{World}
 
 module _ (told : Contents) where
-  -- a closed file holds what is told under its path; an open one is kept
+  -- a file holds what is told under its path; one that is being written is kept
   abbrev pub seen_in : Mode → List ℕ → File → File
   seen_in closed path f = file (get told path) closed f.place
-  seen_in (reading ended) path f = f
+  seen_in (reading ended) path f = file (get told path) (reading ended) f.place
   seen_in writing path f = f
 
   abbrev pub seen_file : List ℕ → File → File
@@ -26,14 +26,16 @@ module _ (told : Contents) where
   seen paths text w =
       record { storage = w.storage; counts = w.counts; files = seen_files paths w.files; shown = text ++ w.shown }
 
-  -- An open file is told too: all of it where it is read, and nothing yet where it is written.
-  abbrev pub IsSyncedIn : Mode → List ℕ → Option (List ℕ) → Type 0
-  IsSyncedIn closed path content = Unit {0}
-  IsSyncedIn (reading ended) path content = get told path ≡ content
-  IsSyncedIn writing path content = (get told path ≡ Some []) × ((bytes : List ℕ) × (content ≡ Some bytes))
+  -- An open file is told too: of one that is read, no more was read than it has; of one that is written, nothing is
+  -- told yet.
+  abbrev pub IsSyncedIn : Mode → List ℕ → Option (List ℕ) → ℕ → Type 0
+  IsSyncedIn closed path content place = Unit {0}
+  IsSyncedIn (reading ended) path content place =
+      (bytes : List ℕ) × (get told path ≡ Some bytes) × (place ≤ length bytes)
+  IsSyncedIn writing path content place = (get told path ≡ Some []) × ((bytes : List ℕ) × (content ≡ Some bytes))
 
   abbrev pub IsSynced : List ℕ → File → Type 0
-  IsSynced path f = IsSyncedIn f.mode path f.content
+  IsSynced path f = IsSyncedIn f.mode path f.content f.place
 
   -- each file has its path
   abbrev pub AreSynced : List (List ℕ) → List File → Type 0
@@ -64,10 +66,11 @@ module _ (told now : Contents) where
   AgreeBut path = (name : List ℕ) → name ≢ path → get now name ≡ get told name
 
   module _ (path : List ℕ) where
-    -- a closed file that is opened for writing is told empty, and one that is opened for reading is kept as it is told
+    -- a closed file that is opened for writing is told empty, and one that is opened for reading is kept as there
+    -- exactly where it is told
     abbrev pub IsReadyToOpenIn : Bool → Mode → Option (List ℕ) → Type 0
     IsReadyToOpenIn true closed content = get now path ≡ Some []
-    IsReadyToOpenIn false closed content = (get now path ≡ get told path) × (content ≡ get told path)
+    IsReadyToOpenIn false closed content = (get now path ≡ get told path) × (is_some content ≡ is_some (get told path))
     IsReadyToOpenIn output (reading ended) content = get now path ≡ get told path
     IsReadyToOpenIn output writing content = get now path ≡ get told path
 

@@ -2,7 +2,7 @@
 use Rattle.std.specs.Prelude.{◌≡◌, ℕ, ◌==◌, ◌&&◌, ◌⊎◌, Bool, true, false, List, [], take, slice_get, Option, Some}
 use Rattle.std.specs.List.{list_any}
 use Rattle.std.specs.FinMap.{get}
-use Rattle.batch_io.specs.FilesState.{Contents, FilesState, KeepsIds, known_bytes}
+use Rattle.batch_io.specs.FilesState.{Contents, FilesState, known_bytes}
 use Rattle.cob_program.specs.declared.act.Opening.{Opening}
 use Rattle.cob_program.specs.Act.{Act, open_files}
 use Rattle.cob_runs.specs.Files.{File, closed, writing, bytes_in}
@@ -19,7 +19,8 @@ IsFront f now = (f.mode ≡ writing) × ((n : ℕ) × (now ≡ Some (take n (byt
 abbrev pub IsEmptied : Bool → File → Option (List ℕ) → Type 0
 IsEmptied makes f now = (makes ≡ true) × ((f.mode ≡ closed) × (now ≡ Some []))
 
--- A file is told as these bytes; or, where it is being written, as a front of them; or, where it is closed and opened for output, nothing yet.
+-- A file is told as these bytes; or, where it is being written, as a front of them; or, where it is closed and opened for
+-- output, nothing yet.
 abbrev pub IsPartOf : Bool → File → Option (List ℕ) → Option (List ℕ) → Type 0
 IsPartOf makes f whole now = (now ≡ whole) ⊎ (IsFront f now ⊎ IsEmptied makes f now)
 
@@ -45,7 +46,6 @@ pub record IsPutIn (name bytes : List ℕ) (told : Contents) (known : Option Con
   pub it : (get now name ≡ get told name) ⊎ ((n : ℕ) × (get now name ≡ Some (take n bytes)))
 
 pub record PutsPart (old new : FilesState) (name bytes : List ℕ) : Type 0 where
-  pub ids : KeepsIds old new
   pub known : (told : Contents) → known_bytes old ≡ Some told → IsPutIn name bytes told (known_bytes new)
 
 -- the name holds a part of the file
@@ -57,7 +57,6 @@ pub record TouchesOneIn (path : List ℕ) (makes : Bool) (f : File) (told : Cont
   pub it : IsPartOf makes f (get told path) (get now path)
 
 pub record TouchesOne (old new : FilesState) (path : List ℕ) (makes : Bool) (f : File) : Type 0 where
-  pub ids : KeepsIds old new
   pub known : (told : Contents) → known_bytes old ≡ Some told → TouchesOneIn path makes f told (known_bytes new)
 
 -- ---- all names
@@ -77,7 +76,6 @@ module _ (paths : List (List ℕ)) (makes : ℕ → Bool) (w : World) where
 
   -- The names hold a part of their files, whatever the call answers.
   pub record Touches (old new : FilesState) : Type 0 where
-    pub ids : KeepsIds old new
     pub known : (told : Contents) → known_bytes old ≡ Some told → IsTouched told (known_bytes new)
 
   -- In an OPEN each path holds what it held, or nothing yet where its file is closed and opened for output; all other
@@ -91,7 +89,6 @@ module _ (paths : List (List ℕ)) (makes : ℕ → Bool) (w : World) where
     pub others : KeepsNames told now paths
 
   pub record Makes (old new : FilesState) : Type 0 where
-    pub ids : KeepsIds old new
     pub known : (told : Contents) → known_bytes old ≡ Some told → IsMade told (known_bytes new)
 
 -- ---- how files change within a statement

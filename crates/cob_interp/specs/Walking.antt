@@ -81,15 +81,19 @@ pub record PutsTo (paths : List (List ℕ)) (w : World) (count : ℕ) (old new :
 
 -- ---- ends
 
--- the outside or memory failed, or a file is too long
+-- the outside or memory failed
 abbrev pub is_refused : RunEnd → Bool
 is_refused end.ReadFault = true
 is_refused end.WriteFault = true
 is_refused end.Memory = true
-is_refused (end.Long count) = true
 is_refused _ = false
 
 -- The end is the run's own: nothing refused it.
 abbrev pub IsOwnEnd : Result Ended RunEnd → Type 0
 IsOwnEnd (Ok e) = Unit {0}
 IsOwnEnd (Err e) = is_refused e ≡ false
+
+-- The outside or memory refused it.
+abbrev pub IsRefused : Result Ended RunEnd → Type 0
+IsRefused (Ok e) = ⊥
+IsRefused (Err e) = is_refused e ≡ true

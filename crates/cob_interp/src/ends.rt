@@ -19,8 +19,6 @@ pub enum RunEnd {
         file: u32,
         length: u64,
     },
-    /// An input file has more bytes than are read: so many at least.
-    Long(u64),
     /// The run goes on behind so many steps.
     StepsSpent(u64),
     /// A status that nothing handles.

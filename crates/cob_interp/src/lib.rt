@@ -2,11 +2,13 @@
 #![tactic(auto)]
 
 mod ends;
+mod inputs;
 mod laws;
 mod nodes;
 mod opens;
 mod outside;
 mod parts;
+mod reads;
 mod runs;
 mod setting;
 mod steps;

@@ -7,8 +7,10 @@ ghost use Rattle.cob_interp.specs.Running.{Outside, outside};
 ghost use Rattle.cob_interp.specs.Setting.{IsReady, IsPlace, IsPlaced, paths_of};
 ghost use Rattle.cob_interp.specs.Touching.{Touches, ClosesOnly, makes_none};
 ghost use Rattle.cob_interp.specs.Doing.{IsPlain, halted, DoesPart, Leads};
+ghost use Rattle.cob_interp.specs.Tracking.{AreOpen, ArePlaced, KeepsPlaces, Tracks};
 
 use crate::ends::RunEnd;
+use crate::inputs::Inputs;
 use crate::outside::ready_to_close;
 use crate::setting::{Place, Setting};
 use batch_io::Files;
@@ -51,7 +53,7 @@ pub fn do_part(
     }
 }
 
-/// Does the part of a node whose statement is neither OPEN nor CLOSE.
+/// Does the part of a node whose statement neither opens, nor closes, nor reads a file there.
 #[inline(always)]
 pub fn do_plain(
     alloc: Global,
@@ -63,10 +65,11 @@ pub fn do_plain(
     requires ready { IsReady setting.now }
     requires runs { world.old.program ≡ setting.now.program.now }
     requires place { IsPlaced setting.now place.now }
-    requires plain { IsPlain (plain_act place.now.statement.now.act.now) }
+    requires plain { IsPlain place.now.plan_node.now.op (plain_act place.now.statement.now.act.now) }
     ensures kept { world.new.program ≡ world.old.program }
     ensures leads { (now : Outside) (node budget : ℕ) → IsPlace setting.now node place.now
         → Leads setting.now budget step node now now world.old.world world.new.world result }
+    ensures places { IfOk result (λ _. KeepsPlaces world.old.world.files world.new.world.files) }
 {
     do_part(alloc, setting, place, world, step)
 }
@@ -82,6 +85,7 @@ pub fn do_close<F: Files>(
     alloc: Global,
     setting: &Setting,
     files: &mut F,
+    inputs: &mut Inputs,
     place: &Place,
     closed: &[u32],
     world: &mut World,
@@ -91,7 +95,12 @@ pub fn do_close<F: Files>(
     requires runs { world.old.program ≡ setting.now.program.now }
     requires place { IsPlaced setting.now place.now }
     requires its { plain_act place.now.statement.now.act.now ≡ close_files closed.now }
+    requires live { AreOpen (F.state files.old) inputs.old }
+    requires placed { ArePlaced (paths_of setting.now) (F.state files.old) inputs.old world.old.world.files }
     ensures kept { world.new.program ≡ world.old.program }
+    ensures tracks { Tracks (F.state files.old) (F.state files.new) inputs.old inputs.new }
+    ensures placed { IfOk result (λ _. ArePlaced (paths_of setting.now) (F.state files.new) inputs.new
+        world.new.world.files) }
     ensures leads { (sink : SinkState) (node budget : ℕ) → IsPlace setting.now node place.now
         → Leads setting.now budget step node (outside (F.state files.old) sink) (outside (F.state files.new) sink)
         world.old.world world.new.world result }
@@ -105,7 +114,7 @@ pub fn do_close<F: Files>(
     match file_in(closed, file) {
         None => Err(RunEnd::Memory),
         Some(at) => {
-            ready_to_close(setting, files, world, at)?;
+            ready_to_close(setting, files, inputs, world, at)?;
             do_part(alloc, setting, place, world, step)
         }
     }

@@ -1,9 +1,9 @@
-//! How what a run keeps is put outside, and loaded from there.
-ghost use Rattle.std.specs.Prelude.{◌≡◌, MatchResult, [], ◌∷◌, length, false};
-ghost use Rattle.std.specs.Option.{option_map};
+//! How what a run keeps is put outside, and files are opened and closed there.
+ghost use Rattle.std.specs.Prelude.{◌≡◌, List, MatchResult, IfOk, [], ◌∷◌, length, false};
 ghost use Rattle.batch_io.specs.FilesState.{KeepsIds, known_bytes};
-ghost use Rattle.cob_interp.specs.Readying.{IsRefusal, Puts, Reads, IsRefusedToLoad, Readies, ReadyToClose};
-ghost use Rattle.cob_interp.specs.Readying.{LoadsInto, ReadyToOpen, IsRefusedToOpen};
+ghost use Rattle.cob_interp.specs.Readying.{IsRefusal, Puts, Readies, ReadyToClose, OpensInto, ReadyToOpen};
+ghost use Rattle.cob_interp.specs.Tracking.{AreOpen, ArePlaced, Tracks};
+ghost use Rattle.cob_runs.specs.Files as file;
 ghost use Rattle.cob_interp.specs.Ends.{is_closed};
 ghost use Rattle.cob_interp.specs.Told.{IsReadyToClose};
 ghost use Rattle.cob_interp.specs.Touching.{PutsPart, TouchesOne, Touches, Makes, OpensOnly, makes_in, makes_none};
@@ -11,14 +11,12 @@ ghost use Rattle.cob_interp.specs.Setting.{IsReady, paths_of};
 ghost use Rattle.cob_world.specs.Views.{plain_mode};
 
 use crate::ends::RunEnd;
+use crate::inputs::Inputs;
 use crate::setting::Setting;
-use batch_io::{FileEnd, Files, MakeEnd, put_file, read_file};
+use batch_io::{Files, MakeEnd, put_file};
 use cob_program::Opening;
 use cob_world::{File, FileMode, World};
 use std::alloc::Global;
-
-/// The most bytes that an input file may have.
-const FILE_LIMIT: usize = 67_108_864;
 
 /// Makes the file of this name with these bytes.
 pub fn put<F: Files>(files: &mut F, name: &str, bytes: &[u8]) -> Result<(), RunEnd>
@@ -26,29 +24,12 @@ pub fn put<F: Files>(files: &mut F, name: &str, bytes: &[u8]) -> Result<(), RunE
         (λ _. Puts (F.state files.old) (F.state files.new) name.now bytes.now)
         (λ e. IsRefusal (F.state files.old) (F.state files.new) e) }
     ensures part { PutsPart (F.state files.old) (F.state files.new) name.now bytes.now }
+    ensures ids { KeepsIds (F.state files.old) (F.state files.new) }
 {
     match put_file(files, name, bytes) {
         Ok(()) => Ok(()),
         Err(MakeEnd::Failed) => Err(RunEnd::WriteFault),
         Err(MakeEnd::Memory) => Err(RunEnd::Memory),
-    }
-}
-
-/// The bytes of the file of this name, nothing where it isn't there.
-fn load<F: Files>(alloc: Global, files: &mut F, name: &str) -> Result<Option<Vec<u8>>, RunEnd>
-    ensures loads { MatchResult result
-        (λ content. Reads (F.state files.old) (F.state files.new) name.now
-        (option_map (λ v. v.items) content))
-        (λ e. IsRefusedToLoad (F.state files.old) (F.state files.new) name.now e) }
-    ensures ids { KeepsIds (F.state files.old) (F.state files.new) }
-    ensures same { known_bytes (F.state files.new) ≡ known_bytes (F.state files.old) }
-{
-    match read_file(alloc, files, name, FILE_LIMIT) {
-        Ok(bytes) => Ok(Some(bytes)),
-        Err(FileEnd::Absent) => Ok(None),
-        Err(FileEnd::Failed) => Err(RunEnd::ReadFault),
-        Err(FileEnd::Long) => Err(RunEnd::Long(FILE_LIMIT as u64 + 1)),
-        Err(FileEnd::Memory) => Err(RunEnd::Memory),
     }
 }
 
@@ -59,6 +40,7 @@ fn put_written<F: Files>(files: &mut F, path: &str, file: &File) -> Result<(), R
         (λ told now. IsReadyToClose told now path.now file.now))
         (λ e. IsRefusal (F.state files.old) (F.state files.new) e) }
     ensures touches { TouchesOne (F.state files.old) (F.state files.new) path.now false file.now }
+    ensures ids { KeepsIds (F.state files.old) (F.state files.new) }
 {
     match file.mode() {
         FileMode::Writing => match file.bytes() {
@@ -72,8 +54,8 @@ fn put_written<F: Files>(files: &mut F, path: &str, file: &File) -> Result<(), R
     }
 }
 
-/// Before a CLOSE of the file at a place: puts it, where it is being written.
-pub fn ready_to_close<F: Files>(
+/// Puts the file at a place, where it is being written.
+pub fn put_file_at<F: Files>(
     setting: &Setting,
     files: &mut F,
     world: &World,
@@ -85,6 +67,7 @@ pub fn ready_to_close<F: Files>(
         (λ e. IsRefusal (F.state files.old) (F.state files.new) e) }
     ensures touches { Touches (paths_of setting.now) makes_none world.now.world (F.state files.old)
         (F.state files.new) }
+    ensures ids { KeepsIds (F.state files.old) (F.state files.new) }
 {
     match (setting.path(place), world.file(place as usize)) {
         (Some(path), Some(file)) => {
@@ -95,46 +78,85 @@ pub fn ready_to_close<F: Files>(
     }
 }
 
+/// Before a CLOSE of the file at a place: puts it, where it is being written, and closes its id, where it is read.
+pub fn ready_to_close<F: Files>(
+    setting: &Setting,
+    files: &mut F,
+    inputs: &mut Inputs,
+    world: &World,
+    place: u32,
+) -> Result<(), RunEnd>
+    requires ready { IsReady setting.now }
+    requires live { AreOpen (F.state files.old) inputs.old }
+    ensures tracks { Tracks (F.state files.old) (F.state files.new) inputs.old inputs.new }
+    ensures readies { MatchResult result
+        (λ _. ReadyToClose setting.now world.now.world place (F.state files.old) (F.state files.new))
+        (λ e. IsRefusal (F.state files.old) (F.state files.new) e) }
+    ensures placed { (fs : List file.File) → ArePlaced (paths_of setting.now) (F.state files.old) inputs.old fs
+        → IfOk result (λ _. ArePlaced (paths_of setting.now) (F.state files.new) inputs.new fs) }
+    ensures touches { Touches (paths_of setting.now) makes_none world.now.world (F.state files.old)
+        (F.state files.new) }
+{
+    put_file_at(setting, files, world, place)?;
+    inputs.close(files, place as usize)?;
+    Ok(())
+}
+
 fn is_closed(mode: FileMode) -> bool
     ensures { result ≡ is_closed (plain_mode mode) }
 {
     matches!(mode, FileMode::Closed)
 }
 
-/// Reads the bytes of this name into the file at a place.
-fn load_content<F: Files>(
+/// Opens the file of this name for the file at a place, which is there then exactly where that is.
+fn open_input<F: Files>(
     alloc: Global,
+    setting: &Setting,
     files: &mut F,
+    inputs: &mut Inputs,
     world: &mut World,
     path: &str,
     place: u32,
 ) -> Result<(), RunEnd>
+    requires live { AreOpen (F.state files.old) inputs.old }
+    ensures tracks { Tracks (F.state files.old) (F.state files.new) inputs.old inputs.new }
     ensures kept { world.new.program ≡ world.old.program }
-    ensures loads { MatchResult result
-        (λ _. LoadsInto (F.state files.old) (F.state files.new) path.now place world.old.world world.new.world)
-        (λ e. IsRefusedToLoad (F.state files.old) (F.state files.new) path.now e) }
-    ensures ids { KeepsIds (F.state files.old) (F.state files.new) }
     ensures same { known_bytes (F.state files.new) ≡ known_bytes (F.state files.old) }
-    ensures opens { OpensOnly world.old.world world.new.world }
+    ensures opens { MatchResult result
+        (λ _. OpensInto (F.state files.old) (F.state files.new) inputs.old inputs.new path.now place world.old.world
+        world.new.world)
+        (λ e. IsRefusal (F.state files.old) (F.state files.new) e) }
+    ensures only { OpensOnly world.old.world world.new.world }
 {
-    let content = load(alloc, files, path)?;
+    let Some(size) = setting.size(place) else {
+        return Err(RunEnd::Memory);
+    };
+    let content = if inputs.open(alloc, files, path, place as usize, size)? {
+        Some(Vec::new(alloc))
+    } else {
+        None
+    };
     world.set_content(place as usize, content);
     Ok(())
 }
 
-/// Before an OPEN of a file: where it's closed, it is made empty for writing, or read whole for reading.
+/// Before an OPEN of a file: where it's closed, it is made empty for writing, or opened for reading.
 pub fn ready_to_open<F: Files>(
     alloc: Global,
     setting: &Setting,
     files: &mut F,
+    inputs: &mut Inputs,
     world: &mut World,
     opening: Opening,
 ) -> Result<(), RunEnd>
     requires ready { IsReady setting.now }
+    requires live { AreOpen (F.state files.old) inputs.old }
+    ensures tracks { Tracks (F.state files.old) (F.state files.new) inputs.old inputs.new }
     ensures kept { world.new.program ≡ world.old.program }
     ensures readies { MatchResult result
-        (λ _. ReadyToOpen setting.now world.old.world world.new.world opening (F.state files.old) (F.state files.new))
-        (λ e. IsRefusedToOpen setting.now world.old.world opening (F.state files.old) (F.state files.new) e) }
+        (λ _. ReadyToOpen setting.now world.old.world world.new.world opening (F.state files.old) (F.state files.new)
+        inputs.old inputs.new)
+        (λ e. IsRefusal (F.state files.old) (F.state files.new) e) }
     ensures touches { Makes (paths_of setting.now) (makes_in (opening ∷ [])) world.old.world
         (F.state files.old) (F.state files.new) }
     ensures opens { OpensOnly world.old.world world.new.world }
@@ -152,6 +174,6 @@ pub fn ready_to_open<F: Files>(
         put(files, path, &[])?;
         return Ok(());
     }
-    load_content(alloc, files, world, path, opening.file)?;
+    open_input(alloc, setting, files, inputs, world, path, opening.file)?;
     Ok(())
 }

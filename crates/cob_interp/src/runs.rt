@@ -1,5 +1,5 @@
 //! A program is run on the outside's files.
-ghost use Rattle.std.specs.Prelude.{◌≡◌, ℕ, true, false, MatchResult, length};
+ghost use Rattle.std.specs.Prelude.{◌≡◌, ℕ, List, true, false, MatchResult, length};
 ghost use Rattle.batch_io.specs.FilesState.{KeepsIds, known_bytes};
 ghost use Rattle.batch_io.specs.SinkState.{SinkState};
 ghost use Rattle.cob_graph.specs.Graphs.{IsGraph};
@@ -8,14 +8,18 @@ ghost use Rattle.cob_items.specs.WellFormed.{HasWellFormedItems};
 ghost use Rattle.cob_program.specs.ActView.{plain_program};
 ghost use Rattle.cob_world.specs.Doing.{CanDoProgram};
 ghost use Rattle.cob_interp.specs.Readying.{ReadyToClose, IsRefusal};
-ghost use Rattle.cob_interp.specs.Running.{Outside, outside, HaltsOff, IfTold, KeepsUnmade, Runs, TellsOfSink};
+ghost use Rattle.cob_interp.specs.Running.{Outside, outside, HaltsOff, IsBroken, IfTold, KeepsUnmade, Runs, TellsOfSink};
 ghost use Rattle.cob_interp.specs.Setting.{IsReady, program_of, paths_of, texts};
 ghost use Rattle.cob_interp.specs.Told.{AreDistinct};
 ghost use Rattle.cob_interp.specs.Touching.{Touches, makes_none};
-ghost use Rattle.cob_interp.specs.Walking.{by_sink, as_result, TellsBySink, PutsTo, is_refused, IsOwnEnd};
+ghost use Rattle.cob_interp.specs.Tracking.{AreNone, AreOpen, Tracks};
+ghost use Rattle.cob_interp.specs.Walking.{by_sink, as_result, TellsBySink, PutsTo, is_refused, IsOwnEnd, IsRefused};
+ghost use Rattle.cob_program.specs.Act as act;
+ghost use Rattle.cob_graph.specs.declared.graph.Graph as graph;
 
 use crate::ends::{Ended, Ending, RunEnd};
-use crate::outside::ready_to_close;
+use crate::inputs::Inputs;
+use crate::outside::put_file_at;
 use crate::setting::Setting;
 use crate::walk::{Halt, flush, walk};
 use batch_io::{Files, MakeEnd, Sink};
@@ -39,10 +43,11 @@ fn put_at<F: Files>(
         (λ end. IsRefusal (F.state files.old) (F.state files.new) end) }
     ensures touches { Touches (paths_of setting.now) makes_none world.now.world (F.state files.old)
         (F.state files.new) }
+    ensures ids { KeepsIds (F.state files.old) (F.state files.new) }
 {
     match u32::try_from(place) {
         Err(_) => Err(RunEnd::Memory),
-        Ok(place) => ready_to_close(setting, files, world, place),
+        Ok(place) => put_file_at(setting, files, world, place),
     }
 }
 
@@ -55,6 +60,7 @@ fn put_all<F: Files>(setting: &Setting, files: &mut F, world: &World) -> Result<
         (λ end. IsRefusal (F.state files.old) (F.state files.new) end) }
     ensures touches { Touches (paths_of setting.now) makes_none world.now.world (F.state files.old)
         (F.state files.new) }
+    ensures ids { KeepsIds (F.state files.old) (F.state files.new) }
 {
     for place in 0..setting.paths.len() {
         put_at(setting, files, world, place)?;
@@ -76,45 +82,91 @@ fn refused_by_sink(end: MakeEnd) -> Ending
     }
 }
 
-/// Behind the run's own end: shows the text that waits, and puts what is still being written.
+/// Behind a refusal: closes all that are still being read, whatever that answers.
+fn give_up<F: Files>(files: &mut F, inputs: &mut Inputs, ending: Ending) -> Ending
+    requires live { AreOpen (F.state files.old) inputs.old }
+    requires refused { IsRefused ending.end }
+    ensures same { result ≡ ending }
+    ensures tracks { Tracks (F.state files.old) (F.state files.new) inputs.old inputs.new }
+    ensures none { AreNone inputs.new }
+    ensures runs { (p : act.Program) (g : graph.Graph) (paths : List (List ℕ)) (budget : ℕ) (start : Outside)
+        (sink : SinkState)
+        → Runs p g paths budget start (outside (F.state files.old) sink) ending.end
+        → Runs p g paths budget start (outside (F.state files.new) sink) result.end }
+{
+    let _ = inputs.close_all(files);
+    ending
+}
+
+/// What a run comes to that nothing refused, and that is put: it closes all that are still being read.
+fn close_inputs<F: Files>(files: &mut F, inputs: &mut Inputs, end: Result<Ended, RunEnd>) -> Ending
+    requires live { AreOpen (F.state files.old) inputs.old }
+    requires own { IsOwnEnd end }
+    ensures refused { result.sink_refused ≡ false }
+    ensures tracks { Tracks (F.state files.old) (F.state files.new) inputs.old inputs.new }
+    ensures none { AreNone inputs.new }
+    ensures runs { (p : act.Program) (g : graph.Graph) (paths : List (List ℕ)) (budget : ℕ) (start : Outside)
+        (sink : SinkState)
+        → Runs p g paths budget start (outside (F.state files.old) sink) end
+        → IsBroken p g paths budget start (outside (F.state files.old) sink)
+        → Runs p g paths budget start (outside (F.state files.new) sink) result.end }
+{
+    match inputs.close_all(files) {
+        Ok(()) => Ending {
+            end,
+            sink_refused: false,
+        },
+        Err(refusal) => Ending {
+            end: Err(refusal),
+            sink_refused: false,
+        },
+    }
+}
+
+/// Behind the run's own end: shows the text that waits, puts what is still being written, and closes what is still being
+/// read.
 fn finish<F: Files, O: Sink>(
     setting: &Setting,
     files: &mut F,
+    inputs: &mut Inputs,
     world: &mut World,
     out: &mut O,
     end: Result<Ended, RunEnd>,
 ) -> Ending
     requires ready { IsReady setting.now }
     requires own { IsOwnEnd end }
+    requires live { AreOpen (F.state files.old) inputs.old }
     ensures runs { (budget : ℕ) (start : Outside)
         → HaltsOff (program_of setting.now) setting.now.graph.now (paths_of setting.now) budget start
         (outside (F.state files.old) (O.state out.old)) world.old.world end
         → Runs (program_of setting.now) setting.now.graph.now (paths_of setting.now) budget start
         (outside (F.state files.new) (O.state out.new)) result.end }
     ensures sink { TellsOfSink (O.state out.old) (O.state out.new) result }
-    ensures ids { KeepsIds (F.state files.old) (F.state files.new) }
+    ensures tracks { Tracks (F.state files.old) (F.state files.new) inputs.old inputs.new }
+    ensures none { AreNone inputs.new }
 {
     match flush(world, out) {
-        Err(refusal) => refused_by_sink(refusal),
+        Err(refusal) => give_up(files, inputs, refused_by_sink(refusal)),
         Ok(()) => match put_all(setting, files, world) {
-            Err(refusal) => Ending {
-                end: Err(refusal),
-                sink_refused: false,
-            },
-            Ok(()) => Ending {
-                end,
-                sink_refused: false,
-            },
+            Err(refusal) => give_up(
+                files,
+                inputs,
+                Ending {
+                    end: Err(refusal),
+                    sink_refused: false,
+                },
+            ),
+            Ok(()) => close_inputs(files, inputs, end),
         },
     }
 }
 
-/// Whether the outside or memory failed, or a file is too long.
+/// Whether the outside or memory failed.
 fn is_refused(end: RunEnd) -> bool
     ensures { result ≡ is_refused end }
 {
     match end {
-        RunEnd::ReadFault | RunEnd::WriteFault | RunEnd::Long(_) | RunEnd::Memory => true,
+        RunEnd::ReadFault | RunEnd::WriteFault | RunEnd::Memory => true,
         RunEnd::Ragged { .. }
         | RunEnd::StepsSpent(_)
         | RunEnd::IoStop { .. }
@@ -126,11 +178,13 @@ fn is_refused(end: RunEnd) -> bool
 fn ending_of<F: Files, O: Sink>(
     setting: &Setting,
     files: &mut F,
+    inputs: &mut Inputs,
     world: &mut World,
     out: &mut O,
     halted: Result<Ended, Halt>,
 ) -> Ending
     requires ready { IsReady setting.now }
+    requires live { AreOpen (F.state files.old) inputs.old }
     ensures runs { (budget : ℕ) (start : Outside)
         → HaltsOff (program_of setting.now) setting.now.graph.now (paths_of setting.now) budget start
         (outside (F.state files.old) (O.state out.old)) world.old.world (as_result halted)
@@ -138,19 +192,24 @@ fn ending_of<F: Files, O: Sink>(
         (outside (F.state files.new) (O.state out.new)) result.end }
     ensures sink { (first : SinkState) → TellsBySink first (O.state out.old) halted
         → TellsOfSink first (O.state out.new) result }
-    ensures ids { KeepsIds (F.state files.old) (F.state files.new) }
+    ensures tracks { Tracks (F.state files.old) (F.state files.new) inputs.old inputs.new }
+    ensures none { AreNone inputs.new }
 {
     match halted {
-        Ok(ended) => finish(setting, files, world, out, Ok(ended)),
-        Err(Halt::Sink(refusal)) => refused_by_sink(refusal),
+        Ok(ended) => finish(setting, files, inputs, world, out, Ok(ended)),
+        Err(Halt::Sink(refusal)) => give_up(files, inputs, refused_by_sink(refusal)),
         Err(Halt::End(end)) => {
             if is_refused(end) {
-                Ending {
-                    end: Err(end),
-                    sink_refused: false,
-                }
+                give_up(
+                    files,
+                    inputs,
+                    Ending {
+                        end: Err(end),
+                        sink_refused: false,
+                    },
+                )
             } else {
-                finish(setting, files, world, out, Err(end))
+                finish(setting, files, inputs, world, out, Err(end))
             }
         }
     }
@@ -190,14 +249,20 @@ fn run_through<F: Files, O: Sink>(
             sink_refused: false,
         };
     };
+    let Ok(mut inputs) = Inputs::none(alloc, paths.len()) else {
+        return Ending {
+            end: Err(RunEnd::Memory),
+            sink_refused: false,
+        };
+    };
     let setting = Setting {
         program,
         graph,
         plan,
         paths,
     };
-    let halted = walk(alloc, &setting, files, &mut world, out, budget);
-    ending_of(&setting, files, &mut world, out, halted)
+    let halted = walk(alloc, &setting, files, &mut inputs, &mut world, out, budget);
+    ending_of(&setting, files, &mut inputs, &mut world, out, halted)
 }
 
 /// Runs a program as `run` does, and tells whether the sink refused its text.
@@ -228,8 +293,9 @@ pub fn run_to_ending<F: Files, O: Sink>(
 
 /// Runs a program on the outside's files, at most so many steps (ISO 1989:1985, "Nucleus" and "Sequential I-O"; what a
 /// record area holds where the standard leaves it undefined stays, and storage without a VALUE begins with spaces).
-/// Each file's path stands at its place in the order of the SELECT entries. An input file is read whole when it is
-/// opened, and an output file is written when it is closed or the run has ended. Shown text goes to `out`.
+/// Each file's path stands at its place in the order of the SELECT entries. An input file is read record by record, each
+/// where a READ asks for it, into one room of a record's length that is taken when it is opened; an output file is
+/// written when it is closed or the run has ended. Shown text goes to `out`.
 pub fn run<F: Files, O: Sink>(
     alloc: Global,
     program: &Program,

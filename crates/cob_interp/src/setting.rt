@@ -3,7 +3,7 @@ ghost use Rattle.std.specs.Prelude.{◌≡◌, ◌==◌, ℕ, false, Some, None,
 ghost use Rattle.cob_graph.specs.declared.graph.Node.{Node};
 ghost use Rattle.cob_graph.specs.Lookup.{node_at, final_in};
 ghost use Rattle.cob_interp.specs.Setting.{IsReady, IsPlace, StartsAt};
-ghost use Rattle.cob_interp.specs.Readying.{IsPath};
+ghost use Rattle.cob_interp.specs.Readying.{IsPath, IsSize};
 
 use cob_graph::Graph;
 use cob_plan::{Plan, PlanNode, Statement};
@@ -68,6 +68,14 @@ impl<'b> Setting<'b> {
         } else {
             None
         }
+    }
+
+    /// How many bytes a record of the file at a place has.
+    pub fn size(&self, place: u32) -> Option<u32>
+        ensures { IfSome result (λ size. IsSize self.now place size) }
+    {
+        let decl = self.program.layout.files.get().get(place as usize)?;
+        Some(decl.length)
     }
 
     /// The path of the file at a place.

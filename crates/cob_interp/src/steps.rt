@@ -1,27 +1,55 @@
 //! A step of the run: all that its statement does, from the node at which it begins to the next such node.
-ghost use Rattle.std.specs.Prelude.{◌≡◌, ◌+◌, ◌<◌, ℕ, MatchResult, IfOk, false, length, slice_get};
+ghost use Rattle.std.specs.Prelude.{◌≡◌, ◌+◌, ◌<◌, ℕ, IfOk, Some, length};
+ghost use Rattle.batch_io.specs.FilesState.{known_bytes};
 ghost use Rattle.batch_io.specs.SinkState.{SinkState};
-ghost use Rattle.cob_data.specs.declared.layout.FileDecl as declared;
+ghost use Rattle.cob_program.specs.Act.{open_files};
 ghost use Rattle.cob_program.specs.ActView.{plain_act};
-ghost use Rattle.cob_runs.specs.Acts.{decl_at};
-ghost use Rattle.cob_world.specs.Views.{plain_mode};
-ghost use Rattle.cob_interp.specs.Ends.{is_cut, cut_file, reads_on};
+ghost use Rattle.cob_plan.specs.declared.node.Op.{Op};
+ghost use Rattle.cob_runs.specs.Effects.{act_at};
+ghost use Rattle.cob_interp.specs.declared.parts.Call.TheVariants as call;
 ghost use Rattle.cob_interp.specs.Running.{Outside, outside, Stands, Arrives};
-ghost use Rattle.cob_interp.specs.Setting.{IsReady, IsPlace, StartsAt, program_of, paths_of};
-ghost use Rattle.cob_interp.specs.Touching.{Touches, ClosesOnly, makes_by, makes_none};
-ghost use Rattle.cob_interp.specs.Doing.{IsPlain, IsRaggedAt, Leads};
+ghost use Rattle.cob_interp.specs.Setting.{IsReady, IsPlace, IsPlaced, StartsAt, IsCall, program_of, paths_of};
+ghost use Rattle.cob_interp.specs.Touching.{Touches, Makes, ClosesOnly, OpensOnly, makes_by, makes_in, makes_none};
+ghost use Rattle.cob_interp.specs.Tracking.{AreOpen, ArePlaced, KeepsPlaces, Tracks};
+ghost use Rattle.cob_interp.specs.Doing.{IsPlain, IsQuiet, Leads};
 
 use crate::ends::RunEnd;
+use crate::inputs::Inputs;
 use crate::nodes::{do_close, do_plain};
-use crate::opens::open_all;
+use crate::opens::do_open;
 use crate::parts::{Call, call_of};
+use crate::reads::do_read;
 use crate::setting::{Place, Setting};
 use batch_io::Files;
-use cob_world::{File, FileMode, World};
+use cob_plan::Op;
+use cob_program::Opening;
+use cob_world::World;
 use std::alloc::Global;
 
-/// Does the part of a node of a step that is underway, of a statement that is neither OPEN nor CLOSE. Answers the next
-/// node.
+/// Does the part of a READ's later node, where no file is read.
+fn do_quiet(
+    alloc: Global,
+    setting: &Setting,
+    place: &Place,
+    world: &mut World,
+    step: u64,
+) -> Result<u32, RunEnd>
+    requires ready { IsReady setting.now }
+    requires runs { world.old.program ≡ setting.now.program.now }
+    requires placed { IsPlaced setting.now place.now }
+    requires reads { (op : Op) → IsQuiet op → IsPlain op (plain_act place.now.statement.now.act.now) }
+    ensures kept { world.new.program ≡ world.old.program }
+    ensures leads { (now : Outside) (node budget : ℕ) → IsPlace setting.now node place.now
+        → Leads setting.now budget step node now now world.old.world world.new.world result }
+    ensures places { IfOk result (λ _. KeepsPlaces world.old.world.files world.new.world.files) }
+{
+    match place.plan_node.op {
+        Op::Skip { .. } | Op::Assign { .. } => do_plain(alloc, setting, place, world, step),
+        _ => Err(RunEnd::Memory),
+    }
+}
+
+/// Does the part of a node of a step that is underway, where no file is opened, closed or read. Answers the next node.
 #[tactic(auto, using(crate::proofs::CallLemmas::calls))]
 fn do_node(
     alloc: Global,
@@ -35,18 +63,19 @@ fn do_node(
     ensures kept { world.new.program ≡ world.old.program }
     ensures leads { (now : Outside) (budget : ℕ)
         → Leads setting.now budget step node now now world.old.world world.new.world result }
+    ensures places { IfOk result (λ _. KeepsPlaces world.old.world.files world.new.world.files) }
 {
     let Some(place) = setting.place(node) else {
         return Err(RunEnd::Memory);
     };
     match call_of(place.statement.act) {
         Call::Open(_) | Call::Close(_) => Err(RunEnd::Memory),
-        Call::Read(_) => do_plain(alloc, setting, &place, world, step),
+        Call::Read(_) => do_quiet(alloc, setting, &place, world, step),
         Call::Other => do_plain(alloc, setting, &place, world, step),
     }
 }
 
-/// Goes on in a step that is underway, of a statement that is neither OPEN nor CLOSE, until another begins or the run
+/// Goes on in a step that is underway, where no file is opened, closed or read, until another begins or the run
 /// has ended. Answers the node.
 #[inline(never)]
 fn go_through(
@@ -61,6 +90,7 @@ fn go_through(
     ensures kept { world.new.program ≡ world.old.program }
     ensures leads { (now : Outside) (budget : ℕ)
         → Leads setting.now budget step node now now world.old.world world.new.world result }
+    ensures places { IfOk result (λ _. KeepsPlaces world.old.world.files world.new.world.files) }
 {
     let mut at = node;
     for _ in 0..setting.plan.nodes.len() {
@@ -72,8 +102,8 @@ fn go_through(
     Err(RunEnd::Memory)
 }
 
-/// Does all of a step from the place at which it begins, of a statement that is neither OPEN nor CLOSE. Answers the node
-/// behind it.
+/// Does all of a step from the place at which it begins, of a statement that opens, closes and reads no file.
+/// Answers the node behind it.
 #[inline(always)]
 fn go(
     alloc: Global,
@@ -86,10 +116,11 @@ fn go(
     requires ready { IsReady setting.now }
     requires runs { world.old.program ≡ setting.now.program.now }
     requires place { IsPlace setting.now node place.now }
-    requires plain { IsPlain (plain_act place.now.statement.now.act.now) }
+    requires plain { IsPlain place.now.plan_node.now.op (plain_act place.now.statement.now.act.now) }
     ensures kept { world.new.program ≡ world.old.program }
     ensures leads { (now : Outside) (budget : ℕ)
         → Leads setting.now budget step node now now world.old.world world.new.world result }
+    ensures places { IfOk result (λ _. KeepsPlaces world.old.world.files world.new.world.files) }
 {
     let next = do_plain(alloc, setting, place, world, step)?;
     if setting.rests_at(next) {
@@ -98,19 +129,99 @@ fn go(
     go_through(alloc, setting, world, next, step)
 }
 
+/// Opens the next file of an OPEN that is underway. Answers the next node.
+fn open_next<F: Files>(
+    alloc: Global,
+    setting: &Setting,
+    files: &mut F,
+    inputs: &mut Inputs,
+    world: &mut World,
+    node: u32,
+    statement: u32,
+    openings: &[Opening],
+    step: u64,
+) -> Result<u32, RunEnd>
+    requires ready { IsReady setting.now }
+    requires runs { world.old.program ≡ setting.now.program.now }
+    requires its { act_at (program_of setting.now) statement ≡ Some (open_files openings.now) }
+    requires live { AreOpen (F.state files.old) inputs.old }
+    requires placed { ArePlaced (paths_of setting.now) (F.state files.old) inputs.old world.old.world.files }
+    ensures kept { world.new.program ≡ world.old.program }
+    ensures tracks { Tracks (F.state files.old) (F.state files.new) inputs.old inputs.new }
+    ensures placed { IfOk result (λ _. ArePlaced (paths_of setting.now) (F.state files.new) inputs.new
+        world.new.world.files) }
+    ensures leads { (sink : SinkState) (budget : ℕ) → Leads setting.now budget step node
+        (outside (F.state files.old) sink) (outside (F.state files.new) sink) world.old.world world.new.world result }
+    ensures touches { Makes (paths_of setting.now) (makes_in openings.now) world.old.world
+        (F.state files.old) (F.state files.new) }
+    ensures opens { IfOk result (λ _. OpensOnly world.old.world world.new.world) }
+{
+    let Some(place) = setting.place(node) else {
+        return Err(RunEnd::Memory);
+    };
+    if place.plan_node.statement != statement {
+        return Err(RunEnd::Memory);
+    }
+    do_open(alloc, setting, files, inputs, &place, openings, world, step)
+}
+
+/// Opens the files of an OPEN, from its first node on. Answers the node behind it.
+fn open_all<F: Files>(
+    alloc: Global,
+    setting: &Setting,
+    files: &mut F,
+    inputs: &mut Inputs,
+    world: &mut World,
+    node: u32,
+    statement: u32,
+    openings: &[Opening],
+    step: u64,
+) -> Result<u32, RunEnd>
+    requires ready { IsReady setting.now }
+    requires runs { world.old.program ≡ setting.now.program.now }
+    requires its { act_at (program_of setting.now) statement ≡ Some (open_files openings.now) }
+    requires live { AreOpen (F.state files.old) inputs.old }
+    requires placed { ArePlaced (paths_of setting.now) (F.state files.old) inputs.old world.old.world.files }
+    ensures kept { world.new.program ≡ world.old.program }
+    ensures tracks { Tracks (F.state files.old) (F.state files.new) inputs.old inputs.new }
+    ensures placed { IfOk result (λ _. ArePlaced (paths_of setting.now) (F.state files.new) inputs.new
+        world.new.world.files) }
+    ensures leads { (sink : SinkState) (budget : ℕ) → Leads setting.now budget step node
+        (outside (F.state files.old) sink) (outside (F.state files.new) sink) world.old.world world.new.world result }
+    ensures touches { Makes (paths_of setting.now) (makes_in openings.now) world.old.world
+        (F.state files.old) (F.state files.new) }
+{
+    let mut at = node;
+    for _ in 0..setting.plan.nodes.len() {
+        at = open_next(
+            alloc, setting, files, inputs, world, at, statement, openings, step,
+        )?;
+        if setting.rests_at(at) {
+            return Ok(at);
+        }
+    }
+    Err(RunEnd::Memory)
+}
+
 /// Closes the next file of a CLOSE that is underway. Answers the next node.
 #[tactic(auto, using(crate::proofs::CallLemmas::calls))]
 fn close_next<F: Files>(
     alloc: Global,
     setting: &Setting,
     files: &mut F,
+    inputs: &mut Inputs,
     world: &mut World,
     node: u32,
     step: u64,
 ) -> Result<u32, RunEnd>
     requires ready { IsReady setting.now }
     requires runs { world.old.program ≡ setting.now.program.now }
+    requires live { AreOpen (F.state files.old) inputs.old }
+    requires placed { ArePlaced (paths_of setting.now) (F.state files.old) inputs.old world.old.world.files }
     ensures kept { world.new.program ≡ world.old.program }
+    ensures tracks { Tracks (F.state files.old) (F.state files.new) inputs.old inputs.new }
+    ensures placed { IfOk result (λ _. ArePlaced (paths_of setting.now) (F.state files.new) inputs.new
+        world.new.world.files) }
     ensures leads { (sink : SinkState) (budget : ℕ) → Leads setting.now budget step node
         (outside (F.state files.old) sink) (outside (F.state files.new) sink) world.old.world world.new.world result }
     ensures touches { Touches (paths_of setting.now) makes_none world.old.world (F.state files.old)
@@ -121,7 +232,7 @@ fn close_next<F: Files>(
         return Err(RunEnd::Memory);
     };
     match call_of(place.statement.act) {
-        Call::Close(closed) => do_close(alloc, setting, files, &place, closed, world, step),
+        Call::Close(closed) => do_close(alloc, setting, files, inputs, &place, closed, world, step),
         Call::Open(_) | Call::Read(_) | Call::Other => Err(RunEnd::Memory),
     }
 }
@@ -131,13 +242,19 @@ fn close_all<F: Files>(
     alloc: Global,
     setting: &Setting,
     files: &mut F,
+    inputs: &mut Inputs,
     world: &mut World,
     node: u32,
     step: u64,
 ) -> Result<u32, RunEnd>
     requires ready { IsReady setting.now }
     requires runs { world.old.program ≡ setting.now.program.now }
+    requires live { AreOpen (F.state files.old) inputs.old }
+    requires placed { ArePlaced (paths_of setting.now) (F.state files.old) inputs.old world.old.world.files }
     ensures kept { world.new.program ≡ world.old.program }
+    ensures tracks { Tracks (F.state files.old) (F.state files.new) inputs.old inputs.new }
+    ensures placed { IfOk result (λ _. ArePlaced (paths_of setting.now) (F.state files.new) inputs.new
+        world.new.world.files) }
     ensures leads { (sink : SinkState) (budget : ℕ) → Leads setting.now budget step node
         (outside (F.state files.old) sink) (outside (F.state files.new) sink) world.old.world world.new.world result }
     ensures touches { Touches (paths_of setting.now) makes_none world.old.world (F.state files.old)
@@ -145,7 +262,7 @@ fn close_all<F: Files>(
 {
     let mut at = node;
     for _ in 0..setting.plan.nodes.len() {
-        at = close_next(alloc, setting, files, world, at, step)?;
+        at = close_next(alloc, setting, files, inputs, world, at, step)?;
         if setting.rests_at(at) {
             return Ok(at);
         }
@@ -153,40 +270,42 @@ fn close_all<F: Files>(
     Err(RunEnd::Memory)
 }
 
-fn reads_on(mode: FileMode) -> bool
-    ensures { result ≡ reads_on (plain_mode mode) }
+/// Does all of a READ's step from the place at which it begins. Answers the node behind it.
+fn go_read<F: Files>(
+    alloc: Global,
+    setting: &Setting,
+    files: &mut F,
+    inputs: &mut Inputs,
+    world: &mut World,
+    place: &Place,
+    node: u32,
+    file: u32,
+    step: u64,
+) -> Result<u32, RunEnd>
+    requires ready { IsReady setting.now }
+    requires runs { world.old.program ≡ setting.now.program.now }
+    requires starts { StartsAt setting.now node place.now }
+    requires reads { IsCall (plain_act place.now.statement.now.act.now) (call.Read file) }
+    requires live { AreOpen (F.state files.old) inputs.old }
+    requires placed { ArePlaced (paths_of setting.now) (F.state files.old) inputs.old world.old.world.files }
+    ensures kept { world.new.program ≡ world.old.program }
+    ensures tracks { Tracks (F.state files.old) (F.state files.new) inputs.old inputs.new }
+    ensures placed { IfOk result (λ _. ArePlaced (paths_of setting.now) (F.state files.new) inputs.new
+        world.new.world.files) }
+    ensures same { known_bytes (F.state files.new) ≡ known_bytes (F.state files.old) }
+    ensures takes { (sink : SinkState) (budget steps : ℕ) (start : Outside) → step ≡ steps + 1 → steps < budget
+        → Stands (program_of setting.now) setting.now.graph.now (paths_of setting.now) start
+        (outside (F.state files.old) sink) world.old.world steps steps node
+        → Arrives (program_of setting.now) setting.now.graph.now (paths_of setting.now) budget start
+        (outside (F.state files.new) sink) world.new.world step result }
 {
-    matches!(mode, FileMode::Reading { ended: false })
-}
-
-/// Whether a READ of so many bytes would meet fewer of them at the end of the file.
-fn is_cut(file: &File, size: u32) -> bool
-    ensures { (d : declared.FileDecl) → d.length ≡ size → result ≡ is_cut d file.now }
-{
-    let length = file.all().len();
-    let place = file.place();
-    reads_on(file.mode()) && place < length && length - place < size as usize
-}
-
-/// Refuses a READ that would meet a ragged end.
-fn check_cut(setting: &Setting, world: &World, file: u32) -> Result<(), RunEnd>
-    ensures { MatchResult result
-        (λ _. cut_file (decl_at setting.now.program.now.layout file) (slice_get world.now.world.files file) ≡ false)
-        (λ e. IsRaggedAt setting.now world.now.world file e) }
-{
-    let Some(decl) = setting.program.layout.files.get().get(file as usize) else {
-        return Ok(());
-    };
-    let Some(found) = world.file(file as usize) else {
-        return Ok(());
-    };
-    if is_cut(found, decl.length) {
-        return Err(RunEnd::Ragged {
-            file,
-            length: found.all().len() as u64,
-        });
+    let next = do_read(
+        alloc, setting, files, inputs, world, place, node, file, step,
+    )?;
+    if setting.rests_at(next) {
+        return Ok(next);
     }
-    Ok(())
+    go_through(alloc, setting, world, next, step)
 }
 
 /// Takes a step from a node at which it begins. Answers the node behind it.
@@ -195,6 +314,7 @@ pub fn take_step<F: Files>(
     alloc: Global,
     setting: &Setting,
     files: &mut F,
+    inputs: &mut Inputs,
     world: &mut World,
     place: &Place,
     node: u32,
@@ -203,7 +323,12 @@ pub fn take_step<F: Files>(
     requires ready { IsReady setting.now }
     requires runs { world.old.program ≡ setting.now.program.now }
     requires starts { StartsAt setting.now node place.now }
+    requires live { AreOpen (F.state files.old) inputs.old }
+    requires placed { ArePlaced (paths_of setting.now) (F.state files.old) inputs.old world.old.world.files }
     ensures kept { world.new.program ≡ world.old.program }
+    ensures tracks { Tracks (F.state files.old) (F.state files.new) inputs.old inputs.new }
+    ensures placed { IfOk result (λ _. ArePlaced (paths_of setting.now) (F.state files.new) inputs.new
+        world.new.world.files) }
     ensures takes { (sink : SinkState) (budget steps : ℕ) (start : Outside) → step ≡ steps + 1 → steps < budget
         → Stands (program_of setting.now) setting.now.graph.now (paths_of setting.now) start
         (outside (F.state files.old) sink) world.old.world steps steps node
@@ -218,17 +343,17 @@ pub fn take_step<F: Files>(
             alloc,
             setting,
             files,
+            inputs,
             world,
             node,
             place.plan_node.statement,
             openings,
             step,
         ),
-        Call::Close(_) => close_all(alloc, setting, files, world, node, step),
-        Call::Read(file) => {
-            check_cut(setting, world, file)?;
-            go(alloc, setting, world, place, node, step)
-        }
+        Call::Close(_) => close_all(alloc, setting, files, inputs, world, node, step),
+        Call::Read(file) => go_read(
+            alloc, setting, files, inputs, world, place, node, file, step,
+        ),
         Call::Other => go(alloc, setting, world, place, node, step),
     }
 }

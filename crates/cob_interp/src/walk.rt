@@ -1,12 +1,13 @@
 //! A run from its first node to its end.
-ghost use Rattle.std.specs.Prelude.{◌≡◌, ◌+◌, ◌<◌, ℕ, MatchResult, length};
-ghost use Rattle.batch_io.specs.FilesState.{KeepsIds};
+ghost use Rattle.std.specs.Prelude.{◌≡◌, ◌+◌, ◌<◌, ℕ, IfOk, MatchResult, length};
 ghost use Rattle.cob_runs.specs.State as state;
 ghost use Rattle.cob_interp.specs.Running.{Outside, outside, IsAt, GoesOn, HaltsOff};
 ghost use Rattle.cob_interp.specs.Setting.{IsReady, program_of, paths_of};
+ghost use Rattle.cob_interp.specs.Tracking.{AreOpen, ArePlaced, Tracks};
 ghost use Rattle.cob_interp.specs.Walking.{as_result, TellsBySink, Flushes, MayFlush, Refuses};
 
 use crate::ends::{Ended, RunEnd};
+use crate::inputs::Inputs;
 use crate::parts::{Call, call_of};
 use crate::setting::{Place, Setting};
 use crate::steps::take_step;
@@ -64,6 +65,7 @@ fn go_on<F: Files, O: Sink>(
     alloc: Global,
     setting: &Setting,
     files: &mut F,
+    inputs: &mut Inputs,
     world: &mut World,
     out: &mut O,
     node: u32,
@@ -71,21 +73,25 @@ fn go_on<F: Files, O: Sink>(
 ) -> Result<u32, Halt>
     requires ready { IsReady setting.now }
     requires runs { world.old.program ≡ setting.now.program.now }
+    requires live { AreOpen (F.state files.old) inputs.old }
+    requires placed { ArePlaced (paths_of setting.now) (F.state files.old) inputs.old world.old.world.files }
     ensures kept { world.new.program ≡ world.old.program }
+    ensures tracks { Tracks (F.state files.old) (F.state files.new) inputs.old inputs.new }
+    ensures placed { IfOk result (λ _. ArePlaced (paths_of setting.now) (F.state files.new) inputs.new
+        world.new.world.files) }
     ensures goes { (budget steps : ℕ) (start : Outside) → step ≡ steps + 1 → steps < budget
         → IsAt (program_of setting.now) setting.now.graph.now (paths_of setting.now) budget start
         (outside (F.state files.old) (O.state out.old)) world.old.world steps node
         → GoesOn (program_of setting.now) setting.now.graph.now (paths_of setting.now) budget start
         (outside (F.state files.new) (O.state out.new)) world.new.world step (as_result result) }
     ensures sink { TellsBySink (O.state out.old) (O.state out.new) result }
-    ensures ids { KeepsIds (F.state files.old) (F.state files.new) }
 {
     let Some(place) = setting.start(node) else {
         return Err(Halt::End(RunEnd::Memory));
     };
     match flush_before(&place, world, out) {
         Err(end) => Err(Halt::Sink(end)),
-        Ok(()) => match take_step(alloc, setting, files, world, &place, node, step) {
+        Ok(()) => match take_step(alloc, setting, files, inputs, world, &place, node, step) {
             Err(end) => Err(Halt::End(end)),
             Ok(next) => Ok(next),
         },
@@ -113,26 +119,29 @@ pub fn walk<F: Files, O: Sink>(
     alloc: Global,
     setting: &Setting,
     files: &mut F,
+    inputs: &mut Inputs,
     world: &mut World,
     out: &mut O,
     budget: u64,
 ) -> Result<Ended, Halt>
     requires ready { IsReady setting.now }
     requires runs { world.old.program ≡ setting.now.program.now }
+    requires live { AreOpen (F.state files.old) inputs.old }
+    requires placed { ArePlaced (paths_of setting.now) (F.state files.old) inputs.old world.old.world.files }
     ensures halts { (start : Outside)
         → IsAt (program_of setting.now) setting.now.graph.now (paths_of setting.now) budget start
         (outside (F.state files.old) (O.state out.old)) world.old.world 0 1
         → HaltsOff (program_of setting.now) setting.now.graph.now (paths_of setting.now) budget start
         (outside (F.state files.new) (O.state out.new)) world.new.world (as_result result) }
     ensures sink { TellsBySink (O.state out.old) (O.state out.new) result }
-    ensures ids { KeepsIds (F.state files.old) (F.state files.new) }
+    ensures tracks { Tracks (F.state files.old) (F.state files.new) inputs.old inputs.new }
 {
     let mut node = 1;
     for steps in 0..budget {
         if setting.is_final(node) {
             return Ok(Ended { steps });
         }
-        node = go_on(alloc, setting, files, world, out, node, steps + 1)?;
+        node = go_on(alloc, setting, files, inputs, world, out, node, steps + 1)?;
     }
     match end_at(setting, node, budget) {
         Ok(ended) => Ok(ended),

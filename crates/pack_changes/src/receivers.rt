@@ -74,7 +74,14 @@ pub fn fits(mode: Mode, receiver: Receiver, decimals: u32, bound: Option<i128>) 
 
 /// Whether the matrix shows that an amount of a form isn't above the greatest number of a receiver, once it is cut or
 /// rounded. The pack's unit has so many decimals.
-pub fn shows_high(size: usize, m: &[i128], form: Option<Lin>, mode: Mode, receiver: Receiver, decimals: u32) -> bool
+pub fn shows_high(
+    size: usize,
+    m: &[i128],
+    form: Option<Lin>,
+    mode: Mode,
+    receiver: Receiver,
+    decimals: u32,
+) -> bool
     requires size { size ≤ 8 }
     requires m { IsMatrix size m.now }
     requires form { IfSome form (IsFormOf size) }
@@ -87,7 +94,14 @@ pub fn shows_high(size: usize, m: &[i128], form: Option<Lin>, mode: Mode, receiv
 }
 
 /// Whether the matrix shows that it isn't below the least number.
-pub fn shows_low(size: usize, m: &[i128], form: Option<Lin>, mode: Mode, receiver: Receiver, decimals: u32) -> bool
+pub fn shows_low(
+    size: usize,
+    m: &[i128],
+    form: Option<Lin>,
+    mode: Mode,
+    receiver: Receiver,
+    decimals: u32,
+) -> bool
     requires size { size ≤ 8 }
     requires m { IsMatrix size m.now }
     requires form { IfSome form (IsFormOf size) }

@@ -105,9 +105,18 @@ pub fn store_form(
     store_value(size, m, to, signed, known, stored);
 }
 
-/// Stores an amount at a cell of a receiver whose unit is so many of the pack's: a form of the amount, by what is surely
-/// known of its range. Where there is no form, nothing is known of the cell behind it.
-pub fn store_at(size: usize, m: &mut [i128], to: usize, form: Option<Lin>, receiver: Receiver, mode: Mode, unit: i128, amount: Option<AmountRange>)
+/// Stores an amount at a cell of a receiver whose unit is so many of the pack's: a form of the amount, by what is
+/// surely known of its range. Where there is no form, nothing is known of the cell behind it.
+pub fn store_at(
+    size: usize,
+    m: &mut [i128],
+    to: usize,
+    form: Option<Lin>,
+    receiver: Receiver,
+    mode: Mode,
+    unit: i128,
+    amount: Option<AmountRange>,
+)
     requires size { size ≤ 8 }
     requires m { IsMatrix size m.old }
     requires first { 1 ≤ to }

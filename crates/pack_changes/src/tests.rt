@@ -4,9 +4,10 @@ ghost use Rattle.pack_changes.specs.Cells.{HasEnds, HaveEnds};
 ghost use Rattle.pack_changes.specs.Forms.{IsFormOf};
 
 use super::{
-    KnownCell, bound, bound_of_negated, close_again, close_pack, fits, forget_cells,
-    known_of_amount, known_of_range, order, store_form,
+    KnownCell, bound, bound_of_negated, close_again, close_pack, fits, forget_cells, is_apart,
+    known_of_amount, known_of_range, order, relate, shows_high, shows_low, store_at, store_form,
 };
+use cob_tree::Rel;
 use dec_num::Mode;
 use decimal_interval::Interval;
 use diff_bounds::add_bound;
@@ -190,6 +191,57 @@ fn orders(rt: HostRuntime) {
     }
 }
 
+// a relation of the cells, its outcome, and what their difference is bounded by in either direction
+const RELATIONS: [(Rel, bool, i128, i128); 10] = [
+    (Rel::Equal, true, 0, 0),
+    (Rel::Equal, false, NONE, NONE),
+    (Rel::Less, true, -1, NONE),
+    (Rel::Less, false, NONE, 0),
+    (Rel::Greater, true, NONE, -1),
+    (Rel::Greater, false, 0, NONE),
+    (Rel::AtLeast, true, NONE, 0),
+    (Rel::AtLeast, false, -1, NONE),
+    (Rel::AtMost, true, 0, NONE),
+    (Rel::AtMost, false, NONE, -1),
+];
+
+#[test]
+fn relates(rt: HostRuntime) {
+    let difference = form(&rt, (1, -1, 0, 0));
+    for (rel, wanted, first, second) in RELATIONS {
+        let mut m = no_bounds();
+        relate(2, &mut m, true, Some(difference), rel, wanted);
+        assert_eq!(rt; words(&m), [NONE, NONE, NONE, first, NONE, second]);
+    }
+}
+
+#[test]
+fn stores_amounts(rt: HostRuntime) {
+    let receiver = Receiver {
+        digits: 4,
+        scale: 0,
+        signed: false,
+    };
+    let amount = Some(AmountRange::Decimal(Ranged {
+        units: Interval { low: 2, high: 7 },
+        scale: 0,
+    }));
+    let mut m = three_to_five(&rt);
+    store_at(
+        2,
+        &mut m,
+        2,
+        Some(form(&rt, (1, 0, -1, 2))),
+        receiver,
+        Mode::Trunc,
+        1,
+        amount,
+    );
+    assert_eq!(rt; words(&m), [-3, -2, 5, 1, 7, 2]);
+    store_at(2, &mut m, 2, None, receiver, Mode::Trunc, 1, amount);
+    assert_eq!(rt; words(&m), [-3, NONE, 5, NONE, NONE, NONE]);
+}
+
 #[test]
 fn forgets(rt: HostRuntime) {
     let mut m = three_to_five(&rt);
@@ -225,6 +277,26 @@ fn shows_bounds(rt: HostRuntime) {
         not_positive: false,
     };
     assert_eq!(rt; known_of_amount(2, &m, &more, 2, None), nothing);
+}
+
+#[test]
+fn shows_ends(rt: HostRuntime) {
+    let m = three_to_five(&rt);
+    let negative = form(&rt, (-1, 0, 0, 2));
+    assert!(rt; is_apart(2, &m, Some(negative)));
+    assert!(rt; is_apart(2, &m, Some(form(&rt, (1, 0, -2, 0)))));
+    assert!(rt; !is_apart(2, &m, Some(form(&rt, (1, 0, -3, 0)))));
+    assert!(rt; !is_apart(2, &m, None));
+    let receiver = Receiver {
+        digits: 1,
+        scale: 0,
+        signed: true,
+    };
+    let twice = Some(form(&rt, (2, 0, 0, 0)));
+    assert!(rt; !shows_high(2, &m, twice, Mode::Trunc, receiver, 0));
+    assert!(rt; shows_high(2, &m, twice, Mode::Trunc, receiver, 1));
+    assert!(rt; shows_low(2, &m, twice, Mode::Trunc, receiver, 0));
+    assert!(rt; !shows_low(2, &m, None, Mode::Trunc, receiver, 0));
 }
 
 // a mode, the digits and the scale of a receiver, the decimals and units of a bound, and whether it fits

@@ -27,7 +27,7 @@ use Rattle.cell_edges.proofs.PartsKeep.{numeric, counted_down}
 use Rattle.diff_steps.specs.Packs.{Pack, size_of, pack_decimals, cells_in}
 use Rattle.diff_steps.specs.Forms.{cell_at, amount_form, sender_form, lowered_form}
 use Rattle.pack_edges.specs.Showing.{ShowsAt, ShowsValueAt, AmountsAreShown, OperandsAreThere, SendersAreShown, CountersAreShown, DivisorsAreShown, GuardsKeep}
-use Rattle.pack_edges.proofs.CellLaws.{cell_laws}
+use Rattle.cell_edges.proofs.WalkLawsHold.{cell_laws}
 use Rattle.pack_edges.proofs.FormsShowValues.{Told, shown, all_shown}
 use Rattle.pack_edges.proofs.FormsShowSums.{none_after, atom_told}
 use Rattle.pack_edges.proofs.FormsShowAmounts.{ValueTold, moved_told, amount_told, amount_operands}

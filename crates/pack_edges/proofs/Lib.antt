@@ -16,7 +16,6 @@ pub mod PacksKeepCounters
 pub mod PacksKeepStores
 pub mod PacksKeep
 pub mod PacksPartsRise
-pub mod CellLaws
 pub mod FormsShowAmounts
 pub mod FormsShowCounters
 pub mod FormsShowGuards

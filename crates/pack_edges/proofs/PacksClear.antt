@@ -1,12 +1,10 @@
 -- What is cleared before a part, by cells and by differences of them, isn't met there.
-use Rattle.std.proofs.Common.{◌≡◌, ◌<◌, ◌≤◌, ℕ, zero, suc, ◌-◌, ◌^◌, ◌==◌, Bool, true, false, ◌||◌, not, if◌then◌else◌, ◌⊎◌, inl, inr, List, [], ◌∷◌, ◌++◌, Option, Some, None, ℤ, pos, neg_ℤ, ◌≤ℤ◌, ◌-ℤ◌, refl, sym, ap, subst, ◌∙◌, arith}
+use Rattle.std.proofs.Common.{◌≡◌, ◌<◌, ◌≤◌, ℕ, zero, suc, ◌-◌, ◌^◌, Bool, true, false, ◌||◌, not, if◌then◌else◌, ◌⊎◌, inl, inr, List, [], ◌∷◌, ◌++◌, Option, Some, None, ℤ, pos, neg_ℤ, ◌≤ℤ◌, ◌-ℤ◌, refl, sym, ap, subst, ◌∙◌, arith}
 use Rattle.std.specs.Prelude.{IfSome, IsSomeAnd, nat_lt, unsigned_abs}
-use Rattle.std.specs.List.{Contains, list_all}
+use Rattle.std.specs.List.{Contains}
 use Rattle.std.specs.Option.{option_map_or}
 use Rattle.std.proofs.lemmas.Int.{ints}
-use Rattle.std.proofs.lemmas.Bool.{eqb-true}
 use Rattle.std.proofs.lemmas.Bool.Decides.{nat_tests}
-use Rattle.std.proofs.lemmas.List.{append-nil}
 use Rattle.dec_num.specs.declared.types.Mode.{Mode}
 use Rattle.dec_num.specs.declared.types.Mode.TheVariants.{Trunc}
 use Rattle.dec_num.specs.declared.types.Scaled.{Scaled}
@@ -22,15 +20,14 @@ use Rattle.cob_data.specs.declared.layout.Sender.{Sender}
 use Rattle.decimal_interval.specs.declared.bounds.Interval.{Interval}
 use Rattle.decimal_interval.specs.Bounds.{Holds}
 use Rattle.cob_program.specs.Sum.{Atom}
-use Rattle.cob_program.specs.Values.{whole_number, atom_value, ◌>>=◌}
+use Rattle.cob_program.specs.Values.{whole_number, ◌>>=◌}
 use Rattle.cob_program.specs.Act.{Act, Program}
 use Rattle.cob_runs.specs.declared.action.Action.{Action}
 use Rattle.cob_runs.specs.Contents.{form_at, bytes_of, digits_of, scale_of, if_held, stored as stored_units}
 use Rattle.cob_runs.specs.Computing.{worth}
 use Rattle.cob_runs.specs.Moves.{number_of}
-use Rattle.cob_edge_parts.specs.Parts.{Amount, moved, computed, remaining, augmented, Part, read, unread, divide, store, bytes_in, guard, read_count, set_count, count_down, guard_count, divides, parts_of, has_phrase}
-use Rattle.cob_edge_parts.specs.Meaning as run
-use Rattle.cob_edge_parts.specs.Meaning.{Moment, divides_by, misfit_of, stored_bytes, amount, Faults}
+use Rattle.cob_edge_parts.specs.Parts.{Amount, Part, read, unread, divide, store, bytes_in, guard, read_count, set_count, count_down, guard_count, parts_of, has_phrase}
+use Rattle.cob_edge_parts.specs.Meaning.{Moment, divides_by, stored_bytes, amount, Faults}
 use Rattle.cob_edge_parts.specs.Edges.{fault_edge}
 use Rattle.linear_form.specs.declared.form.Lin.{Lin}
 use Rattle.sum_forms.specs.SumForms.{atom_form}
@@ -40,8 +37,8 @@ use Rattle.result_ranges.specs.Receivers.{receiver_of, counter}
 use Rattle.result_ranges.specs.Amounts.{IsAmount}
 use Rattle.result_ranges.specs.ResultRanges.{amount_units, most, lowered}
 use Rattle.result_ranges.proofs.Fitting.{units_hold}
-use Rattle.graph_runs.specs.Counters.{IsCount, IsTooGreat, PassesParts}
-use Rattle.edge_places.specs.Places.{IsDivided, IsStored}
+use Rattle.graph_runs.specs.Counters.{IsCount, IsTooGreat}
+use Rattle.edge_places.specs.Places.{IsStored}
 use Rattle.cell_rows.specs.Known.{Known}
 use Rattle.cell_storages.specs.Homes.{Home, of_count, is_home, homes_of, picture_range}
 use Rattle.cell_storages.specs.Storages.{storage, known_of}
@@ -50,23 +47,23 @@ use Rattle.cell_steps.specs.Operands.{amount_of}
 use Rattle.cell_steps.specs.Seen.{Seen}
 use Rattle.cell_steps.specs.Stores.{range_at, handled, with_taken}
 use Rattle.cell_steps.specs.Clearing.{is_misfit, has_quotient, all_fit, clears_part}
-use Rattle.cell_steps.specs.Agreeing.{Agrees, FaultsOn}
+use Rattle.cell_steps.specs.Agreeing.{FaultsOn}
 use Rattle.cell_edges.proofs.CellLists.{home_is}
 use Rattle.cell_edges.proofs.HomesStand.{same_home}
 use Rattle.cell_edges.proofs.OperandsRise.{or_left, or_right, or_either}
-use Rattle.cell_edges.proofs.PartsDone.{both_true, read_first, divisors_count}
-use Rattle.cell_edges.proofs.StoresKeep.{is_there, TakenAt, taken_at, HasRoot, amount_there, counts_amount, amount_meant}
+use Rattle.cell_edges.proofs.PartsDone.{both_true}
+use Rattle.cell_edges.proofs.StoresKeep.{is_there, TakenAt, taken_at, amount_there, counts_amount, amount_meant}
 use Rattle.cell_edges.proofs.PartsKeep.{sent_holds, counted_down, lower_holds, off_zero}
 use Rattle.cell_edges.proofs.HomesHold.{if_home, count_holds}
 use Rattle.cell_edges.proofs.QuietParts.{times_small}
-use Rattle.cell_edges.proofs.PartsClear.{cleared}
+use Rattle.cell_edges.proofs.PartsClear.{not_both, zero_divisor, root_of_amount, cleared}
 use Rattle.diff_steps.specs.Packs.{Pack, pack_decimals}
 use Rattle.diff_steps.specs.Moments.{Seen2}
 use Rattle.diff_steps.specs.Forms.{cell_at, amount_form, sender_form, set_form, lowered_form, has_operands, is_whole_sender}
 use Rattle.diff_steps.specs.Clearing.{some_pack, ends_fit, is_apart_in, amounts_fit, store_fits, clears_part2}
 use Rattle.pack_edges.specs.Agreeing.{ArePacksOf, Agrees2}
 use Rattle.pack_edges.specs.Showing.{ShowsAt, ShowsValueAt}
-use Rattle.pack_edges.proofs.CellLaws.{cell_laws}
+use Rattle.cell_edges.proofs.WalkLawsHold.{cell_laws}
 use Rattle.pack_edges.proofs.FormsShowMoments.{shows, all_amounts_are_shown, all_operands_are_there, all_senders_are_shown, all_counters_are_shown, all_divisors_are_shown}
 use Rattle.pack_edges.proofs.FormsShowCounters.{lowered_told}
 use Rattle.pack_edges.proofs.PacksKeepCells.{found_cell}
@@ -126,45 +123,14 @@ module _ (p : Program) (packs : List Pack) (of : ArePacksOf p packs) (statement 
 
   -- ---- divisors
 
-  -- a divisor that doesn't divide is 0
-  zero_divisor : (done : List Part) (d : Atom) (s : Seen) (m : Moment) → IsDivided done d → Agrees p statement a x done s m → m.by_zero ≡ false → divides_by (worth p.layout m.first) d ≡ false
-      → (v : Scaled) × (atom_value (worth p.layout m.first) d ≡ Some v) × (v.units ≡ pos 0)
-  zero_divisor done d s m q g unzero e = by_value (is_there (atom_value (worth p.layout m.first) d) (q.some (worth p.layout m.first) all_count_))
-    where
-      all_count_ : list_all (divides_by (worth p.layout m.first)) q.atoms ≡ true
-      all_count_ =
-          let r = read_first p.layout (handled p a x) q.places (divides q.atoms) (run.beginning m.first g.counts) m refl
-          (subst (λ (xs : List Part). PassesParts p.layout (handled p a x) xs (run.beginning m.first g.counts) m) q.split g.passed) in
-          subst (λ (bytes : List ℕ). list_all (divides_by (worth p.layout bytes)) q.atoms ≡ true) r.first
-          (divisors_count p.layout (handled p a x) q.atoms [] r.next m (subst (λ (xs : List Part). PassesParts p.layout (handled p a x) xs r.next m) (sym (append-nil (divides q.atoms))) r.passes) unzero)
-
-      zero_units : (v : Scaled) → not (unsigned_abs v.units == 0) ≡ false → v.units ≡ pos 0
-      zero_units v f = go (unsigned_abs v.units == 0) refl f
-        where
-          is_zero : (n : ℕ) → (n == 0) ≡ true → n ≡ 0
-          is_zero n h = eqb-true n 0 h
-
-          go : (b : Bool) → (unsigned_abs v.units == 0) ≡ b → not b ≡ false → v.units ≡ pos 0
-          go true h k = let n : unsigned_abs v.units ≡ 0 = is_zero (unsigned_abs v.units) h in omega (arith, ints, n)
-          go false h k = absurd cc
-
-      by_value : (v : Scaled) × (atom_value (worth p.layout m.first) d ≡ Some v) → (v : Scaled) × (atom_value (worth p.layout m.first) d ≡ Some v) × (v.units ≡ pos 0)
-      by_value (v, f) = (v, f, zero_units v (subst (λ (o : Option Scaled). option_map_or (λ w. not (unsigned_abs w.units == 0)) o false ≡ false) f e))
-
   divide_cleared : (done rest : List Part) (d : Atom) (s : Seen) (r : Seen2) (m : Moment) → done ++ divide d ∷ rest ≡ parts_of p statement a x → Now done s r m → handled p a x ≡ false → divides_by (worth p.layout m.first) d ≡ false
       → some_pack (is_apart_in p s d) packs r.packs ≡ true → ⊥
   divide_cleared done rest d s r m e g off f apart =
-      let v = zero_divisor done d s m (cell_laws.places_ p statement a x done rest (divide d) e) g.cells (off_zero cell_laws p statement a x done s m g.cells off) f in
+      let v = zero_divisor cell_laws p statement a x done d s m (cell_laws.places_ p statement a x done rest (divide d) e) g.cells (off_zero cell_laws p statement a x done s m g.cells off) f in
       none_apart p packs r.packs (storage m.storage m.counts) of g.matrices g.stand (λ pack. atom_form (pack_decimals p.layout pack) (cell_at p pack s []) (range_at p s.cells) d) v.0 v.2
       (λ pack is few. all_divisors_are_shown p statement a x pack few done rest d e s m g.cells v.0 v.1) apart
 
   -- ---- stores
-
-  root_of_amount : (y : Amount) → has_quotient y ≡ true → HasRoot p statement a x y
-  root_of_amount (computed s h) e = tt
-  root_of_amount (remaining s scale) e = e
-  root_of_amount (moved y) e = tt
-  root_of_amount (augmented y) e = tt
 
   value_shown : (pack : Pack) (m : Moment) (mode : Mode) (f : Form) (v : Fraction) (o : Option Lin) → IfSome o (ShowsValueAt p.layout pack m v)
       → IfSome o (ShowsNear p.layout (storage m.storage m.counts) mode (receiver_of f) (near mode v (pos (receiver_of f).scale)) pack)
@@ -175,7 +141,7 @@ module _ (p : Program) (packs : List Pack) (of : ArePacksOf p packs) (statement 
       → store_fits p packs a x (with_taken p a x s) r place mode y ≡ true → stored_bytes p.layout m place mode y ≡ None → ⊥
   store_cleared done rest place mode y s r m e g unzero clear none =
       let two = both_true (has_quotient y) (not (has_operands p (with_taken p a x s) r.wrote y) || option_map_or (amounts_fit p packs a x (with_taken p a x s) r place mode y) (with_taken p a x s).common true) clear in
-      let v = is_there (amount p.layout m y) (amount_there p statement a x done place y (with_taken p a x s) m taken q unzero (root_of_amount y two.0)) in
+      let v = is_there (amount p.layout m y) (amount_there p statement a x done place y (with_taken p a x s) m taken q unzero (root_of_amount cell_laws p statement a x y two.0)) in
       by_operands v.0 v.1 (or_either (not (has_operands p (with_taken p a x s) r.wrote y)) (option_map_or (amounts_fit p packs a x (with_taken p a x s) r place mode y) (with_taken p a x s).common true) two.1)
     where
       q : IsStored a x done place y
@@ -183,10 +149,6 @@ module _ (p : Program) (packs : List Pack) (of : ArePacksOf p packs) (statement 
 
       taken : TakenAt p statement a x done (with_taken p a x s) m
       taken = taken_at p statement a x cell_laws done (store place mode y) s m refl q g.cells
-
-      not_both : (b : Bool) → b ≡ true → not b ≡ true → ⊥
-      not_both true h k = cc
-      not_both false h k = cc
 
       by_units : (v : Fraction) → amount p.layout m y ≡ Some v → (o : Option Interval) → IsSomeAnd o (λ i. Holds i (near mode v (pos (receiver_of (form_at p.layout place)).scale)))
           → option_map_or (ends_fit p packs r.packs (λ pack. amount_form p pack (with_taken p a x s) r.wrote place y) mode (receiver_of (form_at p.layout place))) o true ≡ true → ⊥

@@ -49,7 +49,7 @@ use Rattle.pack_laws.proofs.Words.{word_at}
 use Rattle.pack_laws.proofs.Known.{known_stands}
 use Rattle.pack_edges.specs.Agreeing.{IsTracked, AreMatrices, IsPackOf, ArePacksOf, Agrees2}
 use Rattle.pack_edges.specs.Showing.{ShowsAt}
-use Rattle.pack_edges.proofs.CellLaws.{cell_laws}
+use Rattle.cell_edges.proofs.WalkLawsHold.{cell_laws}
 use Rattle.pack_edges.proofs.FormsShowMoments.{all_amounts_are_shown, all_operands_are_there, all_senders_are_shown, all_counters_are_shown, all_guards_keep}
 use Rattle.pack_edges.proofs.PacksPutRise.{IsFlat, AreFlat}
 use Rattle.pack_edges.proofs.PacksFit.{changed_are_flat, step2_fits}

@@ -13,13 +13,11 @@ use Rattle.cob_tree.specs.declared.form.Form.TheVariants as form
 use Rattle.cob_data.specs.declared.layout.Item.{Item}
 use Rattle.decimal_interval.specs.Bounds.{Holds}
 use Rattle.num_bytes.specs.Reading.{contents_value}
-use Rattle.cob_program.specs.Sum.{Sum}
-use Rattle.cob_program.specs.Values.{root_of, ◌>>=◌}
 use Rattle.cob_program.specs.Act.{Act, Program}
 use Rattle.cob_runs.specs.declared.action.Action.{Action}
 use Rattle.cob_runs.specs.Contents.{form_at, item_at, bytes_of, digits_of, scale_of, scaled_by, number_at, filled_at, if_held, stored as stored_units}
 use Rattle.cob_runs.specs.Moves.{takes_number}
-use Rattle.cob_edge_parts.specs.Parts.{Amount, moved, computed, remaining, augmented, Part}
+use Rattle.cob_edge_parts.specs.Parts.{Amount, Part}
 use Rattle.cob_edge_parts.specs.Meaning.{Moment, with_storage, is_left_alone, stored_bytes, stored_or_kept, amount, Stores}
 use Rattle.linear_form.specs.declared.form.Lin.{Lin}
 use Rattle.linear_form.specs.Forms.{coef, dot}
@@ -29,30 +27,20 @@ use Rattle.form_bounds.specs.Values.{worths}
 use Rattle.form_images.specs.Assigned.{with_value}
 use Rattle.store_error.specs.Errors.{AreSure}
 use Rattle.store_error.specs.Scales.{Spans}
-use Rattle.sum_ranges.specs.declared.ranged.Ranged.{Ranged}
-use Rattle.sum_ranges.specs.SumRanges.{sum_range}
-use Rattle.result_ranges.specs.declared.amounts.Taken.{Taken}
 use Rattle.result_ranges.specs.declared.amounts.AmountRange.{AmountRange}
 use Rattle.result_ranges.specs.declared.amounts.AmountRange.TheVariants as range
 use Rattle.result_ranges.specs.Receivers.{receiver_of, kept_units}
 use Rattle.result_ranges.specs.Amounts.{IsAmount}
-use Rattle.result_ranges.specs.Operands.{alone, taken_from}
-use Rattle.result_ranges.specs.Stores.{operands}
-use Rattle.result_ranges.specs.ResultRanges as result
-use Rattle.result_ranges.specs.ResultRanges.{result_range}
 use Rattle.edge_places.specs.Places.{IsStored}
 use Rattle.cell_storages.specs.Homes.{Home, of_item, is_home}
 use Rattle.cell_storages.specs.Storages as values
 use Rattle.cell_storages.specs.Storages.{storage}
 use Rattle.cell_steps.specs.Cells.{is_beside}
-use Rattle.cell_steps.specs.Operands.{amount_of, is_remainder}
 use Rattle.cell_steps.specs.Seen.{Seen}
-use Rattle.cell_steps.specs.Stores.{range_at, handled, may_vanish, amount_at, result_at, may_exceed, may_fail, may_fit}
-use Rattle.cell_steps.specs.Agreeing.{of_operands}
-use Rattle.cell_edges.proofs.PartsDone.{and_true}
-use Rattle.cell_edges.proofs.OperandsRise.{or_left, or_right}
+use Rattle.cell_steps.specs.Stores.{handled, amount_at, result_at, may_fail, may_fit}
 use Rattle.cell_edges.proofs.Frames.{others_stay, held_value}
-use Rattle.cell_edges.proofs.StoresKeep.{then_holds, then_is, TakenAt, HasRoot, amount_there, its_amount, amount_meant}
+use Rattle.cell_edges.proofs.StoreOutcomes.{result_meant, each_outcome}
+use Rattle.cell_edges.proofs.StoresKeep.{then_is, TakenAt, amount_meant}
 use Rattle.diff_steps.specs.Packs.{Pack, size_of, cell_of, pack_decimals, unit_of, cells_in, PackStands}
 use Rattle.diff_steps.specs.Matrices.{bottom}
 use Rattle.diff_steps.specs.Moments.{Bytes}
@@ -64,7 +52,7 @@ use Rattle.pack_laws.proofs.Stored.{form_stands}
 use Rattle.pack_laws.proofs.Signs.{known_is_sure}
 use Rattle.pack_edges.specs.Agreeing.{IsPackOf}
 use Rattle.pack_edges.specs.Showing.{ShowsValueAt}
-use Rattle.pack_edges.proofs.CellLaws.{cell_laws}
+use Rattle.cell_edges.proofs.WalkLawsHold.{cell_laws}
 use Rattle.pack_edges.proofs.PacksKeepCells.{found_cell, decimals_within, cell_value, homes_left, put_left, with_any, not_home, other_cell, edited_apart}
 use Rattle.pack_edges.proofs.PacksKeepCounters.{same_shown}
 
@@ -247,72 +235,6 @@ module _ (p : Program) (statement : ℕ) (a : Act) (x : Action) (done : List Par
     lost_kept : PackStands p.layout pack (lost_pack p a x place pack w) (storage m.storage m.counts)
     lost_kept = homes_left p.layout pack (is_lost p a x place) (storage m.storage m.counts) (storage m.storage m.counts) w (λ k h f is_left. refl) stands
 
-  -- ---- why a receiver may keep its value
-
-  -- besides a result that doesn't fit
-  abbrev other_failures : Bool
-  other_failures = t.may_zero || (may_vanish t.common y || (is_remainder y && t.any_fail))
-
-  -- a remainder of what is no quotient has no range
-  no_root : (s : Sum) (scale : ℕ) → y ≡ remaining s scale → root_of s ≡ None → may_exceed p a x t place mode y ≡ true
-  no_root s scale same none =
-      by_taken (sum_range (range_at p g.taken.0) s)
-      (g.taken.1 ∙ (ap (λ (o : Option Amount). o >>= operands (range_at p g.taken.0)) (its_amount p statement a x done place y q ∙ ap (λ (u : Amount). Some (of_operands u)) same) ∙ ap (taken_from (range_at p g.taken.0) s) none))
-    where
-      by_taken : (o : Option Ranged) → t.common ≡ option_map alone o → may_exceed p a x t place mode y ≡ true
-      by_taken None e = subst (λ (c : Option Taken). option_map_or (result.may_fail mode (receiver_of (form_at p.layout place))) (c >>= amount_of y (range_at p t.cells place)) true ≡ true) (sym e) refl
-      by_taken (Some r) e = subst (λ (c : Option Taken). option_map_or (result.may_fail mode (receiver_of (form_at p.layout place))) (c >>= amount_of y (range_at p t.cells place)) true ≡ true) (sym e)
-          (subst (λ (u : Amount). option_map_or (result.may_fail mode (receiver_of (form_at p.layout place))) (amount_of u (range_at p t.cells place) (alone r)) true ≡ true) (sym same) refl)
-
-  exceeds : m.by_zero ≡ false → stored_bytes p.layout m place mode y ≡ None → may_exceed p a x t place mode y ≡ true
-  exceeds unzero e = by_amount (amount p.layout m y) refl e
-    where
-      told : (o : Option AmountRange) (v : Fraction) → IsSomeAnd o (λ r. IsAmount r v) → stored_units mode (form_at p.layout place) v ≡ None → option_map_or (result.may_fail mode (receiver_of (form_at p.layout place))) o true ≡ true
-      told None v h f = absurd h
-      told (Some r) v h f = cell_laws.fails_ mode (form_at p.layout place) r v h f
-
-      nothing_there : amount p.layout m y ≡ None → is_some (amount p.layout m y) ≡ true → ⊥
-      nothing_there f h = cc
-
-      there : HasRoot p statement a x y → is_some (amount p.layout m y) ≡ true
-      there root = amount_there p statement a x done place y t m g q unzero root
-
-      by_root : (s : Sum) (scale : ℕ) → y ≡ remaining s scale → amount p.layout m y ≡ None → (b : Bool) → is_some (root_of s) ≡ b → may_exceed p a x t place mode y ≡ true
-      by_root s scale same f true k = absurd (nothing_there f (there (subst (λ (u : Amount). HasRoot p statement a x u) (sym same) k)))
-      by_root s scale same f false k = no_root s scale same (none_is (root_of s) k)
-        where
-          none_is : {A : Type 0} (o : Option A) → is_some o ≡ false → o ≡ None
-          none_is None h = refl
-          none_is (Some c) h = absurd cc
-
-      by_kind : (u : Amount) → y ≡ u → amount p.layout m y ≡ None → may_exceed p a x t place mode y ≡ true
-      by_kind (remaining s scale) same f = by_root s scale same f (is_some (root_of s)) refl
-      by_kind (computed s h) same f = absurd (nothing_there f (there (subst (λ (u : Amount). HasRoot p statement a x u) (sym same) tt)))
-      by_kind (moved h) same f = absurd (nothing_there f (there (subst (λ (u : Amount). HasRoot p statement a x u) (sym same) tt)))
-      by_kind (augmented h) same f = absurd (nothing_there f (there (subst (λ (u : Amount). HasRoot p statement a x u) (sym same) tt)))
-
-      by_amount : (o : Option Fraction) → amount p.layout m y ≡ o → (o >>= stored_units mode (form_at p.layout place)) ≡ None → may_exceed p a x t place mode y ≡ true
-      by_amount None f h = by_kind y refl f
-      by_amount (Some v) f h = told (amount_at p a x t place y) v (amount_meant p statement a x done place y t m g q unzero v f) h
-
-  fails_by : handled p a x ≡ true → (may_exceed p a x t place mode y || other_failures) ≡ true → may_fail p a x t place mode y ≡ true
-  fails_by on e = and_true (handled p a x) (may_exceed p a x t place mode y || other_failures) on e
-
-  -- a remainder behind a failed quotient, and what stands behind a divisor that is 0
-  alone_fails : is_left_alone m y ≡ true → (may_exceed p a x t place mode y || other_failures) ≡ true
-  alone_fails e = by_zero m.by_zero refl y refl e
-    where
-      by_quotient : (b : Bool) → m.by_zero ≡ b → is_remainder y ≡ true → (b || m.failed) ≡ true → b ≡ false → (may_exceed p a x t place mode y || other_failures) ≡ true
-      by_quotient true f k h z = absurd cc
-      by_quotient false f k h z = or_right (may_exceed p a x t place mode y) other_failures (or_right t.may_zero (may_vanish t.common y || (is_remainder y && t.any_fail)) (or_right (may_vanish t.common y) (is_remainder y && t.any_fail) (and_true (is_remainder y) t.any_fail k (g.fails h f))))
-
-      by_zero : (b : Bool) → m.by_zero ≡ b → (u : Amount) → y ≡ u → is_left_alone m u ≡ true → (may_exceed p a x t place mode y || other_failures) ≡ true
-      by_zero true f u same h = or_right (may_exceed p a x t place mode y) other_failures (or_left t.may_zero (may_vanish t.common y || (is_remainder y && t.any_fail)) (g.zero f))
-      by_zero false f (remaining s scale) same h = by_quotient false f (ap is_remainder same) (subst (λ (b : Bool). (b || m.failed) ≡ true) f h) refl
-      by_zero false f (computed s k) same h = absurd cc
-      by_zero false f (moved k) same h = absurd cc
-      by_zero false f (augmented k) same h = absurd cc
-
   -- ---- the matrix behind the store
 
   module _ (pack : Pack) (of : IsPackOf p pack) (few : size_of pack ≤ 8) (wrote : List Bytes) (w : List ℤ) (stands : PackStands p.layout pack w (storage m.storage m.counts))
@@ -337,12 +259,6 @@ module _ (p : Program) (statement : ℕ) (a : Act) (x : Action) (done : List Par
         is : Gets held
         is = gets held e
 
-        fits : IsSomeAnd (result_at p a x t place mode y) (λ i. (z : ℤ) × Holds i z × (held ≡ bytes_of (form_at p.layout place) z))
-        fits =
-            let v = then_is (amount p.layout m y) (stored_units mode (form_at p.layout place)) held e in
-            then_holds (λ (r : AmountRange). IsAmount r v.0) (λ i. (z : ℤ) × Holds i z × (held ≡ bytes_of (form_at p.layout place) z)) (amount_at p a x t place y) (result_range mode (receiver_of (form_at p.layout place)))
-            (amount_meant p statement a x done place y t m g q unzero v.0 v.1) (λ r h. cell_laws.fits_ mode (form_at p.layout place) r v.0 held h v.2)
-
         never : {A : Type 0} (P : A → Type 0) (o : Option A) → IsSomeAnd o P → is_some o ≡ false → ⊥
         never P None h f = h
         never P (Some c) h f = cc
@@ -350,32 +266,10 @@ module _ (p : Program) (statement : ℕ) (a : Act) (x : Action) (done : List Par
         by_flags : (b c : Bool) → may_fit p a x t place mode y ≡ c → Outcome b c (with_storage m (filled_at p.layout m.storage place held))
         by_flags false c f = stored_stands pack of few wrote w stands held is unzero (there unzero is.v is.worth_) (shown unzero is.v is.worth_)
         by_flags true true f = lost_stored pack of few wrote w stands held is
-        by_flags true false f = absurd (never (λ i. (z : ℤ) × Holds i z × (held ≡ bytes_of (form_at p.layout place) z)) (result_at p a x t place mode y) fits f)
+        by_flags true false f = absurd (never (λ i. (z : ℤ) × Holds i z × (held ≡ bytes_of (form_at p.layout place) z)) (result_at p a x t place mode y) (result_meant cell_laws p statement a x done place mode y t m g q held unzero e) f)
 
     pub store_stands : (n : Moment) → (handled p a x ≡ false → m.by_zero ≡ false) → Stores p.layout (handled p a x) place mode y m n → Behind n
-    store_stands n off_zero h = by_edge (handled p a x) refl h
-      where
-        by_bytes : handled p a x ≡ true → m.by_zero ≡ false → (o : Option (List ℕ)) → stored_bytes p.layout m place mode y ≡ o → Behind (stored_or_kept p.layout m place o)
-        by_bytes on unzero None e = kept (fails_by on (or_left (may_exceed p a x t place mode y) other_failures (exceeds unzero e)))
-        by_bytes on unzero (Some held) e = fitted held unzero e
-
-        not_alone : (u : Amount) → is_left_alone m u ≡ false → m.by_zero ≡ false
-        not_alone (computed s k) e = e
-        not_alone (moved k) e = e
-        not_alone (augmented k) e = e
-        not_alone (remaining s scale) e = front m.by_zero e
-          where
-            front : (b : Bool) → (b || m.failed) ≡ false → b ≡ false
-            front true f = absurd cc
-            front false f = refl
-
-        by_alone : handled p a x ≡ true → (b : Bool) → is_left_alone m y ≡ b → n ≡ (if b then m else stored_or_kept p.layout m place (stored_bytes p.layout m place mode y)) → Behind n
-        by_alone on true e k = subst Behind (sym k) (kept (fails_by on (alone_fails e)))
-        by_alone on false e k = subst Behind (sym k) (by_bytes on (not_alone y e) (stored_bytes p.layout m place mode y) refl)
-
-        by_edge : (b : Bool) → handled p a x ≡ b → Stores p.layout b place mode y m n → Behind n
-        by_edge true on k = by_alone on (is_left_alone m y) refl k
-        by_edge false off (held, e, k) = subst Behind (sym k) (fitted held (off_zero off) e)
+    store_stands n off_zero h = each_outcome cell_laws p statement a x done place mode y t m g q Behind kept kept fitted n off_zero h
 
   -- ---- storage behind the store
 

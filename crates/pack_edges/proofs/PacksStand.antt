@@ -17,6 +17,8 @@ use Rattle.cell_steps.specs.Edges.{steps, finished}
 use Rattle.cell_steps.specs.Agreeing.{IsSoundEdge}
 use Rattle.cell_edges.proofs.EachEdge.{all_posts_stand}
 use Rattle.cell_edges.proofs.StoresKeep.{then_is}
+use Rattle.cell_edges.proofs.WalkLawsHold.{cell_laws}
+use Rattle.cell_edges.proofs.EdgesAreSound.{begins as cells_begin}
 use Rattle.diff_steps.specs.Packs.{Pack, PacksStand}
 use Rattle.diff_steps.specs.Moments.{Seen2, with_packs}
 use Rattle.diff_steps.specs.Steps.{all_closed, changed, step2}
@@ -43,19 +45,7 @@ module _ (p : Program) (packs : List Pack) (statement : ℕ) (a : Act) (x : Acti
   module _ (of : ArePacksOf p packs) (sound : IsSoundEdge p statement a x) (cells : List Known) (bytes : List ℕ) (counts : List (Option ℤ)) (stands : StandsIn p cells (storage bytes counts)) where
     pub begins : (cs : List (List ℤ)) → AreMatrices packs cs → PacksStand p.layout packs cs (storage bytes counts) → Agrees2 p packs statement a x [] (beginning cells) (beginning2 cs) (run.beginning bytes counts)
     begins cs are stand = record {
-      cells = record {
-        sound = sound;
-        counts = counts;
-        passed = refl;
-        stands = stands;
-        fresh = λ e. refl;
-        unwritten = λ e. refl;
-        took = λ e. absurd cc;
-        taken = λ e. absurd cc;
-        zero = λ e. absurd cc;
-        fails = λ e f. absurd cc;
-        all_fail = λ e f. absurd cc;
-      };
+      cells = cells_begin cell_laws p statement a x cells bytes counts sound stands;
       tracked = record { same = λ place e. refl };
       matrices = are;
       stand = stand;

@@ -1,5 +1,5 @@
 -- Where two functions from places to ranges agree on all small items, so do the forms of sums of small numbers.
-use Rattle.std.proofs.Common.{◌≡◌, ℕ, ◌&&◌, Bool, true, false, if◌then◌else◌, List, Option, Some, None, pos, refl, ap, ◌∙◌}
+use Rattle.std.proofs.Common.{◌≡◌, ℕ, ◌&&◌, Bool, true, false, if◌then◌else◌, List, Option, None, pos, refl, ap, ◌∙◌}
 use Rattle.decimal_interval.specs.Corners.{interval}
 use Rattle.cob_program.specs.Sum.{Sum, MkSum, Parts, no_parts, more_parts, Part, MkPart, Factors, no_factors, more_factors, MkFactor, Atom, item, number, group}
 use Rattle.cob_program.specs.Values.{whole_number, ◌>>=◌}
@@ -17,7 +17,7 @@ use Rattle.sum_forms.specs.declared.front.Front.{Front}
 use Rattle.sum_forms.specs.declared.front.Front.TheVariants.{Empty}
 use Rattle.sum_forms.specs.Constants.{constant_form, range_form, item_form}
 use Rattle.sum_forms.specs.Literals.{whole_factor, are_literals}
-use Rattle.sum_forms.specs.SumForms.{turned_form, next_front, next_form, literals_form, sum_form, sum_form_from, part_form, product_form, product_form_from, atom_form}
+use Rattle.sum_forms.specs.SumForms.{turned_form, next_front, next_form, literals_form, sum_form, sum_form_from, part_form, product_form_from, atom_form}
 use Rattle.cell_rows.specs.Known.{Known}
 use Rattle.cell_steps.specs.Stores.{range_at}
 use Rattle.cell_walk.specs.ShortRanges.{short_range_at}

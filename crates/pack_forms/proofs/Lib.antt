@@ -9,3 +9,5 @@ pub mod Having
 pub mod Premises
 pub mod WholeSums
 pub mod AmountsAgree
+pub mod Over
+pub mod KeptSmall

@@ -1,5 +1,5 @@
 -- The place of a home in a pack.
-use Rattle.std.proofs.Common.{◌≡◌, ℕ, ◌+◌, zero, suc, ◌<◌, Bool, true, false, if◌then◌else◌, List, [], ◌∷◌, length, get_or, drop, map, Option, Some, None, refl, sym, ap, ◌∙◌, arith}
+use Rattle.std.proofs.Common.{◌≡◌, ℕ, suc, ◌<◌, Bool, true, false, if◌then◌else◌, [], ◌∷◌, length, Option, Some, None, refl, ap, ◌∙◌, arith}
 use Rattle.std.specs.Prelude.{IfSome}
 use Rattle.std.specs.Option.{option_map}
 use Rattle.cell_storages.specs.Homes.{Home, is_home}
@@ -24,3 +24,17 @@ pub place_from_first : (home : Home) (hs : Pack) → place_from 0 home hs ≡ ce
 place_from_first home [] = refl
 place_from_first home (h ∷ hs) =
     ap (λ (o : Option ℕ). if is_home h home then Some 0 else o) (place_shifted 0 home hs ∙ ap (λ (o : Option ℕ). option_map (λ k. suc k) o) (place_from_first home hs))
+
+cell_further : (size : ℕ) (o : Option ℕ) → IfSome o (λ k. k < size) → IfSome (option_map (λ k. suc k) o) (λ k. k < suc size)
+cell_further size None h = tt
+cell_further size (Some k) h = omega (arith, h)
+
+either_cell : (here : Bool) (size : ℕ) (o : Option ℕ) → IfSome o (λ k. k < suc size) → IfSome (if here then Some 0 else o) (λ k. k < suc size)
+either_cell true size o h = omega arith
+either_cell false size o h = h
+
+-- a cell of a pack is one of so many
+pub cell_below : (home : Home) (hs : Pack) → IfSome (cell_of hs home) (λ k. k < length hs)
+cell_below home [] = tt
+cell_below home (h ∷ hs) =
+    either_cell (is_home h home) (length hs) (option_map (λ k. suc k) (cell_of hs home)) (cell_further (length hs) (cell_of hs home) (cell_below home hs))

@@ -3,7 +3,7 @@ use Rattle.std.proofs.Common.{◌≡◌, ◌&&◌, ℕ, Bool, true, false, Optio
 use Rattle.std.specs.Prelude.{IfSome}
 use Rattle.cob_program.specs.declared.act.How.{How}
 use Rattle.cob_program.specs.declared.act.How.TheVariants as how
-use Rattle.cob_program.specs.Sum.{Sum, MkSum, Parts, no_parts, more_parts, MkPart, Factors, no_factors, more_factors, MkFactor, Atom, item, number, group}
+use Rattle.cob_program.specs.Sum.{Sum, MkSum, no_parts, more_parts, MkPart, no_factors, more_factors, MkFactor, Atom, item, number, group}
 use Rattle.cob_program.specs.Bounds.{Bound, exactly, sum_bound, factor_bound, part_most, atom_most, is_small, is_small_sum, is_small_sum_from, is_small_part, is_small_product, is_small_atom}
 use Rattle.cob_program.proofs.Steps.{both}
 use Rattle.cob_edge_parts.specs.Parts.{computed}

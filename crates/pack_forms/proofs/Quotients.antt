@@ -51,7 +51,7 @@ pub quotient_below : (a b : Ranged) (low high : ℤ) → low ≡ b.units.low →
 quotient_below a b low high e f none =
     let up = pos (shift a b) in
     let there = mapped_there (λ i. ranged i (quotient_scale a.scale b.scale)) (quotients up a.units b.units)
-        ∙ either_there (int_le (pos 1) b.units.high) (int_le (pos 1) (neg_ℤ b.units.low)) _ _ in
+    ∙ either_there (int_le (pos 1) b.units.high) (int_le (pos 1) (neg_ℤ b.units.low)) _ _ in
     let missing : int_le (pos 1) b.units.high ≡ false = subst (λ (z : ℤ). int_le (pos 1) z ≡ false) f none in
     ap (λ (z : ℤ). int_lt z (pos 0)) e ∙ below_zero b.units.low
     ∙ sym (there ∙ ap (λ t. t || int_le (pos 1) (neg_ℤ b.units.low)) missing)

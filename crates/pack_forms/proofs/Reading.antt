@@ -1,5 +1,5 @@
 -- Sums that are read.
-use Rattle.std.proofs.Common.{◌≡◌, ◌&&◌, ℕ, Bool, true, false, Option, Some, None, is_some, refl, subst}
+use Rattle.std.proofs.Common.{◌≡◌, ◌&&◌, ℕ, Bool, true, false, Option, Some, None, is_some}
 use Rattle.cob_program.specs.Sum.{Sum}
 use Rattle.cob_program.specs.Values.{Root, root_of}
 use Rattle.cob_program.specs.Bounds.{Bound, is_small_sum, is_small_root}

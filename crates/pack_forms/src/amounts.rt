@@ -1,5 +1,5 @@
 //! Forms of what receivers get.
-ghost use Rattle.std.specs.Prelude.{◌≡◌, ◌≤◌, true, false, List, Some, None, IfSome};
+ghost use Rattle.std.specs.Prelude.{◌≡◌, length, ◌≤◌, true, false, List, Some, None, IfSome};
 ghost use Rattle.cob_program.specs.Bounds.{is_small};
 ghost use Rattle.cob_program.specs.SumView.{plain_sum};
 ghost use Rattle.cob_calc.specs.Contents.{bound_at};
@@ -19,6 +19,7 @@ ghost use Rattle.cell_storages.specs.Homes.{owns};
 ghost use Rattle.cell_steps.specs.Stores.{range_at};
 ghost use Rattle.diff_steps.specs.Forms as forms;
 ghost use Rattle.diff_steps.specs.Moments.{Bytes};
+ghost use Rattle.pack_changes.specs.Forms.{IsFormOf};
 ghost use Rattle.pack_forms.specs.Sizes.{HasSmallTop};
 ghost use Rattle.pack_forms.specs.Views.{plain_pack, item_cell, HasUnit, program_of, known_in, taken_at};
 ghost use Rattle.pack_forms.specs.Working.{settled_if, own_by, product_by, multiplied_by, computed_by, amount_by};
@@ -210,7 +211,7 @@ pub fn amount_form(
     requires can { IfSome common (CanWork (plain_amount amount) (range_at (program_of items.now) (known_in items.now) place)) }
     ensures value { (wrote : List Bytes) → written ≡ are_written (program_of items.now).layout wrote (amount_items (plain_amount amount.entry))
         → result ≡ forms.amount_form (program_of items.now) (plain_pack pack.now) (taken_at (known_in items.now) common) wrote place (plain_amount amount.entry) }
-    ensures good { IfSome result IsForm }
+    ensures of_pack { IfSome result (IsFormOf (length pack.now.cells.now)) }
 {
     form_of_amount(items, pack, place, amount, common, written)
 }

@@ -1,5 +1,5 @@
 //! What the cells of a pack are of, and their units.
-ghost use Rattle.std.specs.Prelude.{◌≡◌, ◌-◌, ◌^◌, ◌<◌, ◌≤◌, length, pos, slice_index_or, get_or};
+ghost use Rattle.std.specs.Prelude.{◌≡◌, ◌-◌, ◌^◌, ◌≤◌, pos};
 ghost use Rattle.cob_runs.specs.Contents.{form_at, scale_of};
 ghost use Rattle.cell_storages.specs.Homes.{is_home};
 ghost use Rattle.diff_steps.specs.Packs as packs;
@@ -30,8 +30,9 @@ pub(crate) fn is_same(one: PackCell, other: PackCell) -> bool
     }
 }
 
+/// The decimals of an item.
 #[tactic(auto, using(crate::proofs::Units::receiver_scale))]
-fn item_decimals(layout: &Layout, place: u32) -> u32
+pub(crate) fn item_decimals(layout: &Layout, place: u32) -> u32
     ensures { result ≡ scale_of (form_at layout.now place) }
 {
     receiver_at(layout, place).scale

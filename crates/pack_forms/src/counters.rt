@@ -1,5 +1,5 @@
 //! Forms of counters.
-ghost use Rattle.std.specs.Prelude.{◌≡◌, ◌<◌, ◌^◌, pos, neg_ℤ, List, Option, IfSome};
+ghost use Rattle.std.specs.Prelude.{◌≡◌, length, ◌<◌, ◌^◌, pos, neg_ℤ, List, Option, IfSome};
 ghost use Rattle.decimal_interval.specs.Corners.{interval};
 ghost use Rattle.linear_form.specs.Forms.{if_small};
 ghost use Rattle.sum_ranges.specs.Ranged.{ranged};
@@ -13,6 +13,7 @@ ghost use Rattle.cell_steps.specs.Cells.{units_of};
 ghost use Rattle.diff_steps.specs.Forms as forms;
 ghost use Rattle.diff_steps.specs.Moments.{Bytes};
 ghost use Rattle.diff_steps.specs.Packs.{cell_of};
+ghost use Rattle.pack_changes.specs.Forms.{IsFormOf};
 ghost use Rattle.pack_forms.specs.Views.{plain_pack, HasUnit, program_of, known_in, taken_at};
 
 use crate::cells::PackCell;
@@ -60,7 +61,7 @@ pub fn lowered_form(items: &KnownItems, pack: &PackView, statement: u32) -> Opti
     requires fits { CellsFit (owns (program_of items.now)) (known_in items.now) }
     ensures value { (common : Option declared_taken.Taken) (wrote : List Bytes) →
         result ≡ forms.lowered_form (program_of items.now) (plain_pack pack.now) (taken_at (known_in items.now) common) wrote statement }
-    ensures good { IfSome result IsForm }
+    ensures of_pack { IfSome result (IsFormOf (length pack.now.cells.now)) }
 {
     added(counter_form(items, pack, statement), one_less(pack))
 }

@@ -18,6 +18,6 @@ pub use amounts::amount_form;
 pub use cells::{PackCell, pack_decimals, unit_of};
 pub use counters::lowered_form;
 pub use operands::has_operands;
-pub use pack::PackView;
-pub use senders::sender_form;
+pub use pack::{PackView, cell_in};
+pub use senders::set_form;
 pub use sides::{are_fine, difference_form, divisor_form};

@@ -30,7 +30,7 @@ fn place_of(cells: &[PackCell], sought: PackCell) -> Option<usize>
 }
 
 /// The cell of the pack that is of the same, cells counted from 0.
-pub(crate) fn cell_in(pack: &PackView, sought: PackCell) -> Option<usize>
+pub fn cell_in(pack: &PackView, sought: PackCell) -> Option<usize>
     ensures value { result ≡ cell_of (plain_cells pack.now.cells.now) (plain_cell sought) }
     ensures within { IfSome result (λ k. k < length pack.now.cells.now) }
     ensures few { IfSome result (λ k. k < 8) }

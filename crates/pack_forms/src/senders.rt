@@ -1,19 +1,20 @@
 //! Forms of senders.
-ghost use Rattle.std.specs.Prelude.{◌≡◌, ◌<◌, List, IfSome};
-ghost use Rattle.cob_program.specs.Act.{Program};
+ghost use Rattle.std.specs.Prelude.{◌≡◌, ◌<◌, ◌==◌, length, List, IfSome};
 ghost use Rattle.sum_forms.specs.Values.{IsForm};
-ghost use Rattle.cell_rows.specs.Known.{Known};
 ghost use Rattle.diff_steps.specs.Forms as forms;
+ghost use Rattle.diff_steps.specs.Forms.{is_whole_sender};
 ghost use Rattle.diff_steps.specs.Moments.{Bytes};
+ghost use Rattle.pack_changes.specs.Forms.{IsFormOf};
 ghost use Rattle.pack_forms.specs.Sizes.{HasSmallTop};
-ghost use Rattle.pack_forms.specs.Views.{plain_pack, item_cell, HasUnit, taken_at};
+ghost use Rattle.pack_forms.specs.Views.{plain_pack, item_cell, HasUnit, program_of, known_in, taken_at};
 ghost use Rattle.pack_forms.specs.Working.{item_by, sender_by};
 ghost use Rattle.pack_forms.specs.Writing.{sender_items, are_written};
 
-use crate::cells::PackCell;
+use crate::cells::{PackCell, item_decimals};
 use crate::pack::{PackView, cell_in};
 use crate::taken::kept_form;
-use cob_data::Sender;
+use cell_walk::KnownItems;
+use cob_data::{Layout, Sender};
 use linear_form::Lin;
 use result_ranges::Taken;
 use sum_forms::cell_form;
@@ -36,6 +37,7 @@ fn item_form(pack: &PackView, place: u32, common: Option<Taken>, written: bool) 
     }
 }
 
+/// The form of a sender.
 pub(crate) fn form_of_sender(
     pack: &PackView,
     sender: &Sender,
@@ -54,19 +56,35 @@ pub(crate) fn form_of_sender(
     }
 }
 
-/// The form of a sender where operands are taken: `common` is what they were then, and `written` says whether the edge has
-/// written to bytes of the sender's item.
-pub fn sender_form(
+// ---- counters
+
+fn is_whole_sender(layout: &Layout, sender: &Sender) -> bool
+    ensures { result ≡ is_whole_sender layout.now sender.now }
+{
+    match sender {
+        Sender::Item(place) => item_decimals(layout, *place) == 0,
+        Sender::Number(number) => number.scale == 0,
+        Sender::Text(_) | Sender::Fill(_) | Sender::Zero => true,
+    }
+}
+
+/// The form of what a counter is set to, where operands are taken: `common` is what they were then, and `written` says
+/// whether the edge has written to bytes of the sender's item. A sender with decimals has none.
+pub fn set_form(
+    items: &KnownItems,
     pack: &PackView,
     sender: &Sender,
     common: Option<Taken>,
     written: bool,
 ) -> Option<Lin>
+    requires unit { HasUnit (program_of items.now).layout pack.now }
     requires kept { IfSome common HasSmallTop }
-    ensures value { (p : Program) (cells : List Known) (wrote : List Bytes) → HasUnit p.layout pack.now
-        → written ≡ are_written p.layout wrote (sender_items sender.now)
-        → result ≡ forms.sender_form p (plain_pack pack.now) (taken_at cells common) wrote sender.now }
-    ensures good { IfSome result IsForm }
+    ensures value { (wrote : List Bytes) → written ≡ are_written (program_of items.now).layout wrote (sender_items sender.now)
+        → result ≡ forms.set_form (program_of items.now) (plain_pack pack.now) (taken_at (known_in items.now) common) wrote sender.now }
+    ensures of_pack { IfSome result (IsFormOf (length pack.now.cells.now)) }
 {
-    form_of_sender(pack, sender, common, written)
+    if is_whole_sender(&items.program.layout, sender) {
+        return form_of_sender(pack, sender, common, written);
+    }
+    None
 }

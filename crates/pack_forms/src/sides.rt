@@ -1,18 +1,18 @@
 //! Forms of what is compared with 0: the difference of two sums, and a divisor.
-ghost use Rattle.std.specs.Prelude.{◌≡◌, nat_le, true, IfSome};
+ghost use Rattle.std.specs.Prelude.{◌≡◌, length, true, IfSome};
 ghost use Rattle.cob_program.specs.Bounds.{is_small_sum, is_small_atom};
 ghost use Rattle.cob_program.specs.SumView.{plain_sum};
 ghost use Rattle.cob_calc.specs.Contents.{bound_at};
 ghost use Rattle.borrowed_parts.specs.PartView.{plain_divisor};
 ghost use Rattle.sum_ranges.specs.SumRanges as ranges;
 ghost use Rattle.sum_forms.specs.SumForms.{atom_form};
-ghost use Rattle.sum_forms.specs.Values.{IsForm};
 ghost use Rattle.cell_rows.specs.Elements.{CellsFit};
 ghost use Rattle.cell_storages.specs.Homes.{owns};
 ghost use Rattle.cell_steps.specs.Stores.{range_at};
 ghost use Rattle.diff_steps.specs.Guards as guards;
 ghost use Rattle.diff_steps.specs.Guards.{has_decimals};
 ghost use Rattle.diff_steps.specs.Packs as packs;
+ghost use Rattle.pack_changes.specs.Forms.{IsFormOf};
 ghost use Rattle.pack_forms.specs.Views.{plain_pack, item_cell, HasUnit, program_of, known_in};
 
 use crate::forms::{added, turned};
@@ -32,7 +32,7 @@ pub fn difference_form(items: &KnownItems, pack: &PackView, left: &Sum, right: &
     requires right { is_small_sum (bound_at (program_of items.now).layout) (plain_sum right.now) ≡ true }
     ensures value { result ≡ guards.difference_form (packs.pack_decimals (program_of items.now).layout (plain_pack pack.now)) (item_cell pack.now)
         (range_at (program_of items.now) (known_in items.now)) (plain_sum left.now) (plain_sum right.now) }
-    ensures good { IfSome result IsForm }
+    ensures of_pack { IfSome result (IsFormOf (length pack.now.cells.now)) }
 {
     let more = form_of_sum(items, pack, left);
     let less = form_of_sum(items, pack, right);
@@ -78,7 +78,7 @@ pub fn divisor_form(items: &KnownItems, pack: &PackView, divisor: Divisor) -> Op
     requires small { is_small_atom (bound_at (program_of items.now).layout) (plain_divisor divisor) ≡ true }
     ensures value { result ≡ atom_form (packs.pack_decimals (program_of items.now).layout (plain_pack pack.now)) (item_cell pack.now)
         (range_at (program_of items.now) (known_in items.now)) (plain_divisor divisor.entry) }
-    ensures good { IfSome result IsForm }
+    ensures of_pack { IfSome result (IsFormOf (length pack.now.cells.now)) }
 {
     form_of_divisor(items, pack, divisor)
 }

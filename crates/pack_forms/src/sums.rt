@@ -95,12 +95,7 @@ fn is_quotient(sum: &Sum) -> bool
 /// The form of operands to whose bytes the edge hasn't written. `whole` says that the whole sum is stored: a quotient that
 /// is its last operation then has none.
 #[tactic(auto, using(crate::proofs::Reading::readable))]
-pub(crate) fn form_read(
-    items: &KnownItems,
-    pack: &PackView,
-    sum: &Sum,
-    whole: bool,
-) -> Option<Lin>
+pub(crate) fn form_read(items: &KnownItems, pack: &PackView, sum: &Sum, whole: bool) -> Option<Lin>
     requires fits { CellsFit (owns (program_of items.now)) (known_in items.now) }
     requires small { is_small_taken (bound_at (program_of items.now).layout) whole (plain_sum sum.now) ≡ true }
     ensures value { result ≡ read_by pack.now.decimals (item_cell pack.now) (range_at (program_of items.now) (known_in items.now)) whole (plain_sum sum.now) }

@@ -9,7 +9,7 @@ use Rattle.cob_interp.specs.declared.ends.Ended.{Ended}
 use Rattle.cob_interp.specs.declared.ends.RunEnd.{RunEnd}
 use Rattle.cob_interp.specs.declared.ends.RunEnd.TheVariants as end
 use Rattle.cob_interp.specs.Ends.{told_files, IsEnd}
-use Rattle.cob_interp.specs.Running.{Outside, outside, IfTold, EndsRunIf, EndsWell, EndsBy, BreaksOff, IsBroken, IfRefused, IsTooLong, KeepsUnmade, Runs}
+use Rattle.cob_interp.specs.Running.{Outside, outside, IfTold, EndsRunIf, EndsWell, EndsBy, BreaksOff, IsBroken, IfRefused, KeepsUnmade, Runs}
 use Rattle.cob_interp.proofs.Passing.{ids_pass}
 use Rattle.command_words.specs.Commands.{Run, IsCommand}
 use Rattle.command_words.specs.Commands as command
@@ -43,8 +43,6 @@ module _ (p : Program) (g : Graph) (paths : List (List ℕ)) (budget : ℕ) wher
     comes_to (Err end.ReadFault) h = inl (inl refl)
     comes_to (Err end.WriteFault) h = inl (inr (inl refl))
     comes_to (Err end.Memory) h = inl (inr (inr refl))
-    comes_to (Err (end.Long count)) h =
-        inr (subst (λ (k : Option Contents). IsTooLong p g paths budget k count) known h)
     comes_to (Ok e) h = inr (own_end (Ok e) h)
     comes_to (Err (end.Ragged file count)) h = inr (own_end (Err (end.Ragged file count)) h)
     comes_to (Err (end.StepsSpent count)) h = inr (own_end (Err (end.StepsSpent count)) h)
@@ -84,8 +82,6 @@ module _ (p : Program) (g : Graph) (paths : List (List ℕ)) (budget : ℕ) wher
     ends_on (Err end.WriteFault) (inl h) = inl (subst (λ (n : ℕ). Rose n new.files.writing) reads.writing h)
     ends_on (Err end.WriteFault) (inr h) = inr h
     ends_on (Err end.Memory) h = tt
-    ends_on (Err (end.Long count)) h =
-        subst (λ (k : Option Contents). IsTooLong p g paths budget k count) reads.contents h
     ends_on (Ok e) h = well_on (Ok e) h
     ends_on (Err (end.Ragged file count)) h = well_on (Err (end.Ragged file count)) h
     ends_on (Err (end.StepsSpent count)) h = well_on (Err (end.StepsSpent count)) h
@@ -98,7 +94,6 @@ module _ (p : Program) (g : Graph) (paths : List (List ℕ)) (budget : ℕ) wher
     refused_on (Err end.ReadFault) h = broken_on h
     refused_on (Err end.WriteFault) h = broken_on h
     refused_on (Err end.Memory) h = broken_on h
-    refused_on (Err (end.Long count)) h = broken_on h
     refused_on (Ok e) h = tt
     refused_on (Err (end.Ragged file count)) h = tt
     refused_on (Err (end.StepsSpent count)) h = tt

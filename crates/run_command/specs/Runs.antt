@@ -70,7 +70,6 @@ abbrev pub run_status : RunEnd → ℕ
 run_status end.ReadFault = 5
 run_status end.WriteFault = 6
 run_status (end.Ragged file count) = 12
-run_status (end.Long count) = 9
 run_status (end.StepsSpent count) = 10
 run_status (end.IoStop status statement) = 11
 run_status (end.Fault kind statement step) = 1

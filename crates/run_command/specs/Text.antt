@@ -35,7 +35,6 @@ abbrev pub run_text : List FileDecl → RunEnd → List ℕ
 run_text files run.ReadFault = read_fault_line
 run_text files run.WriteFault = write_fault_line
 run_text files (run.Ragged file count) = ragged_line (external_at files file) count
-run_text files (run.Long count) = number_line (codes "E10 file-bytes ") count
 run_text files (run.StepsSpent count) = number_line (codes "E16 steps ") count
 run_text files (run.IoStop status statement) = stop_line status statement
 run_text files (run.Fault kind statement step) = fault_line kind statement step

@@ -17,7 +17,6 @@ fn run_status(end: RunEnd) -> u8
         RunEnd::ReadFault => READ_FAULT,
         RunEnd::WriteFault => WRITE_FAULT,
         RunEnd::Memory => OUT_OF_MEMORY,
-        RunEnd::Long(_) => 9,
         RunEnd::StepsSpent(_) => 10,
         RunEnd::IoStop { .. } => 11,
         RunEnd::Ragged { .. } => 12,

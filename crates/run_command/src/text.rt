@@ -71,7 +71,6 @@ fn push_run_end(text: &mut Vec<u8>, files: &[FileDecl], end: RunEnd) -> Result<(
         RunEnd::ReadFault => text.extend_from_slice(b"E3 read\n"),
         RunEnd::WriteFault => text.extend_from_slice(b"E4 write\n"),
         RunEnd::Ragged { file, length } => push_ragged(text, files, file, length),
-        RunEnd::Long(count) => push_number_line(text, b"E10 file-bytes ", count),
         RunEnd::StepsSpent(count) => push_number_line(text, b"E16 steps ", count),
         RunEnd::IoStop { status, statement } => push_stop(text, status, statement),
         RunEnd::Fault {

@@ -24,26 +24,26 @@ use Rattle.sum_forms.proofs.Shows.{if_there}
 use Rattle.sum_forms.proofs.Sound.{if_then, either}
 
 module _ (size : ℕ) where
-  constant_within : (i : Interval) → IsWithin size (constant_form i)
+  pub constant_within : (i : Interval) → IsWithin size (constant_form i)
   constant_within i k h l = coef-coefs_of (λ _. pos 0) k l
 
-  range_within : (f : ℕ) (r : Ranged) → IfSome (range_form f r) (IsWithin size)
+  pub range_within : (f : ℕ) (r : Ranged) → IfSome (range_form f r) (IsWithin size)
   range_within f r = if_there (IsWithin size) (constant_form (outward f r)) (constant_within (outward f r))
 
-  cell_within : (at : ℕ) → at < size → IsWithin size (cell_form at)
+  pub cell_within : (at : ℕ) → at < size → IsWithin size (cell_form at)
   cell_within at h k low high = coef-coefs_of (λ j. if nat_eq j at then pos 1 else pos 0) k high ∙ rw (ne_eqb k at (λ e. omega arith)) refl
 
   multiple_within : (a : Lin) (by : ℤ) → IsWithin size a → IsWithin size (multiple_of a by)
   multiple_within a by h k low high = coef-coefs_of (scaled_coefs a by) k high ∙ ap (λ (x : ℤ). x *ℤ by) (h k low high) ∙ zero-*ℤ by
 
-  sum_within : (a b : Lin) → IsWithin size a → IsWithin size b → IsWithin size (sum_of a b)
+  pub sum_within : (a b : Lin) → IsWithin size a → IsWithin size b → IsWithin size (sum_of a b)
   sum_within a b h j k low high =
       coef-coefs_of (added_coefs a b) k high ∙ ap (λ (x : ℤ). x +ℤ coef b k) (h k low high) ∙ ap (λ (x : ℤ). pos 0 +ℤ x) (j k low high)
 
-  scaled_within : (by : ℤ) (o : Option Lin) → IfSome o (IsWithin size) → IfSome (o >>= scaled_form by) (IsWithin size)
+  pub scaled_within : (by : ℤ) (o : Option Lin) → IfSome o (IsWithin size) → IfSome (o >>= scaled_form by) (IsWithin size)
   scaled_within by o h = if_then o (IsWithin size) (IsWithin size) (scaled_form by) h (λ a l. if_there (IsWithin size) (multiple_of a by) (multiple_within a by l))
 
-  turned_within : (minus : Bool) (o : Option Lin) → IfSome o (IsWithin size) → IfSome (o >>= turned_form minus) (IsWithin size)
+  pub turned_within : (minus : Bool) (o : Option Lin) → IfSome o (IsWithin size) → IfSome (o >>= turned_form minus) (IsWithin size)
   turned_within false o h = if_then o (IsWithin size) (IsWithin size) (turned_form false) h (λ a l. l)
   turned_within true o h = scaled_within (negsuc 0) o h
 
@@ -61,7 +61,7 @@ module _ (size : ℕ) where
   any_then (Some r) next h = h r
 
 module _ (f : ℕ) (cell : ℕ → Option ℕ) (range : ℕ → Ranged) (size : ℕ) (few : (place k : ℕ) → cell place ≡ Some k → k < size) where
-  item_within : (place : ℕ) (o : Option ℕ) → cell place ≡ o → IfSome (item_form f o (range place)) (IsWithin size)
+  pub item_within : (place : ℕ) (o : Option ℕ) → cell place ≡ o → IfSome (item_form f o (range place)) (IsWithin size)
   item_within place (Some k) e = cell_within size k (few place k e)
   item_within place None e = range_within size f (range place)
 
@@ -92,7 +92,7 @@ module _ (f : ℕ) (cell : ℕ → Option ℕ) (range : ℕ → Ranged) (size : 
         (λ q. product_within fs (next_front front (whole_factor over minus atom)) q _
         (next_within size f front (whole_factor over minus atom) over q before (atom_form f cell range atom >>= turned_form minus) h own)))
 
-    atom_within : (a : Atom) → IfSome (atom_form f cell range a) (IsWithin size)
+    pub atom_within : (a : Atom) → IfSome (atom_form f cell range a) (IsWithin size)
     atom_within (item place) = item_within place (cell place) refl
     atom_within (number n) = range_within size f (point (literal n))
     atom_within (group s) = sum_form_within s

@@ -7,7 +7,7 @@ use Rattle.cob_interp.proofs.outside.put.Goals as goal
 pub returns-in-Ok-clause-puts : goal.returns-in-Ok-clause-puts
 returns-in-Ok-clause-puts g c = put_done _ _ c.args.name.now c.args.bytes.now c.put_file.ensures.reading
     (c.put_file.ensures.writing.kept (ap make_failed c.in-Ok.is))
-    c.put_file.ensures.ids c.in-Ok.ensures.ok
+    c.in-Ok.ensures.ok
 
 pub returns-in-Ok-clause-part : goal.returns-in-Ok-clause-part
 returns-in-Ok-clause-part g c = puts_part _ _ c.args.name.now c.args.bytes.now _ c.put_file.ensures

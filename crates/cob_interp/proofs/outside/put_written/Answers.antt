@@ -1,6 +1,7 @@
 use Rattle.std.proofs.Common.{false, ap, sym, ◌∙◌}
 use Rattle.cob_interp.proofs.PutLemmas.{put_ready, other_ready}
 use Rattle.cob_world.specs.Views.{plain_mode}
+use Rattle.cob_interp.proofs.Passing.{ids_stay}
 use Rattle.cob_interp.proofs.Touched.{untouched_one, written_touches}
 use Rattle.cob_interp.proofs.outside.put_written.Goals as goal
 
@@ -14,6 +15,7 @@ pub returns-in-Closed : goal.returns-in-Closed
 returns-in-Closed g c = record {
   readies = other_ready _ c.args.path.now c.args.file.now c.mode.result c.mode.ensures c.in-Closed.is;
   touches = untouched_one _ c.args.path.now false c.args.file.now;
+  ids = ids_stay _;
 }
 
 pub returns-in_err-put-in-Some-clause-touches : goal.returns-in_err-put-in-Some-clause-touches

@@ -1,23 +1,41 @@
-use Rattle.std.proofs.Common.{sym}
 use Rattle.cob_interp.specs.Setting.{paths_of}
 use Rattle.cob_interp.specs.Touching.{makes_none}
-use Rattle.cob_interp.proofs.Touched.{touches_stay, touches_by_one}
+use Rattle.cob_interp.proofs.Readied.{placed_ids, placed_closed, ready_closed, touches_known}
+use Rattle.cob_interp.proofs.TrackLemmas.{tracks_ids, tracks_pass}
 use Rattle.cob_interp.proofs.outside.ready_to_close.Goals as goal
 
-pub returns-in_ok-put_written-in-Some-Some-clause-touches : goal.returns-in_ok-put_written-in-Some-Some-clause-touches
-returns-in_ok-put_written-in-Some-Some-clause-touches g c =
-    touches_by_one (paths_of c.args.setting.now) makes_none c.args.world.now.world _ _ c.args.place c.in-Some-Some.path.now
-    c.in-Some-Some.file.now c.requires.ready.distinct c.in-Some-Some.ensures.path_ (sym c.in-Some-Some.ensures')
-    c.in_ok-put_written-in-Some-Some.ensures.touches
+pub close-requires : goal.close-requires
+close-requires g c = record { live = (tracks_ids _ _ _ c.in_ok-put_file_at.ensures.ids c.requires.live).live }
 
-pub returns-in_err-put_written-in-Some-Some-clause-touches : goal.returns-in_err-put_written-in-Some-Some-clause-touches
-returns-in_err-put_written-in-Some-Some-clause-touches g c =
-    touches_by_one (paths_of c.args.setting.now) makes_none c.args.world.now.world _ _ c.args.place c.in-Some-Some.path.now
-    c.in-Some-Some.file.now c.requires.ready.distinct c.in-Some-Some.ensures.path_ (sym c.in-Some-Some.ensures')
-    c.in_err-put_written-in-Some-Some.ensures.touches
+pub returns-in_err-put_file_at-clause-tracks : goal.returns-in_err-put_file_at-clause-tracks
+returns-in_err-put_file_at-clause-tracks g c = tracks_ids _ _ _ c.in_err-put_file_at.ensures.ids c.requires.live
 
-pub returns-in_default-clause-touches : goal.returns-in_default-clause-touches
-returns-in_default-clause-touches g c = touches_stay (paths_of c.args.setting.now) makes_none c.args.world.now.world _
+pub returns-in_err-close-clause-tracks : goal.returns-in_err-close-clause-tracks
+returns-in_err-close-clause-tracks g c =
+    tracks_pass _ _ _ _ _ _ (tracks_ids _ _ _ c.in_ok-put_file_at.ensures.ids c.requires.live)
+    c.in_err-close.ensures.tracks
 
-pub returns-in_default-2-clause-touches : goal.returns-in_default-2-clause-touches
-returns-in_default-2-clause-touches g c = touches_stay (paths_of c.args.setting.now) makes_none c.args.world.now.world _
+pub returns-clause-tracks : goal.returns-clause-tracks
+returns-clause-tracks g c =
+    tracks_pass _ _ _ _ _ _ (tracks_ids _ _ _ c.in_ok-put_file_at.ensures.ids c.requires.live)
+    c.in_ok-close.ensures.tracks
+
+pub returns-clause-readies : goal.returns-clause-readies
+returns-clause-readies g c =
+    ready_closed c.args.setting.now c.args.world.now.world c.args.place _ _ _ c.in_ok-put_file_at.ensures.readies
+    c.in_ok-close.ensures.closes.well c.in_ok-close.ensures.same
+
+pub returns-clause-placed : goal.returns-clause-placed
+returns-clause-placed g c fs placed =
+    placed_closed (paths_of c.args.setting.now) _ _ fs _ _ _ c.in_ok-close.ensures.closes
+    (placed_ids (paths_of c.args.setting.now) _ _ fs _ c.in_ok-put_file_at.ensures.ids c.requires.live placed)
+
+pub returns-clause-touches : goal.returns-clause-touches
+returns-clause-touches g c =
+    touches_known (paths_of c.args.setting.now) makes_none c.args.world.now.world _ _ _
+    c.in_ok-put_file_at.ensures.touches c.in_ok-close.ensures.same
+
+pub returns-in_err-close-clause-touches : goal.returns-in_err-close-clause-touches
+returns-in_err-close-clause-touches g c =
+    touches_known (paths_of c.args.setting.now) makes_none c.args.world.now.world _ _ _
+    c.in_ok-put_file_at.ensures.touches c.in_err-close.ensures.same

@@ -1,6 +1,8 @@
-use Rattle.std.proofs.Common.{sym, ◌∙◌}
-use Rattle.std.proofs.lemmas.Result.{err_from_is_err_and}
-use Rattle.cob_interp.proofs.OpenLemmas.{has_file, output_ready, open_ready, loaded_ready, refused_load, is_closed_true, is_closed_false}
+use Rattle.std.proofs.Common.{sym, refl, subst, Option, ◌∙◌}
+use Rattle.std.specs.Prelude.{IsSome}
+use Rattle.batch_io.specs.FilesState.{Purpose}
+use Rattle.cob_interp.proofs.TrackLemmas.{tracks_ids}
+use Rattle.cob_interp.proofs.OpenLemmas.{has_file, output_ready, open_ready, opened_ready, is_closed_true, is_closed_false}
 use Rattle.std.proofs.Common.{[], ◌∷◌}
 use Rattle.cob_interp.specs.Setting.{paths_of}
 use Rattle.cob_interp.specs.Touching.{makes_in}
@@ -11,31 +13,31 @@ pub returns-then-not-is_closed-clause-readies : goal.returns-then-not-is_closed-
 returns-then-not-is_closed-clause-readies g c =
     let h = has_file c.in-Some-file_mode.mode _ c.in-Some-file_mode.ensures in
     open_ready c.args.setting.now c.args.world.now.world c.args.opening c.in-Some.path.now c.in-Some.ensures h.0 h.1 _
-    (is_closed_false c.in-Some-file_mode.mode h.0.mode h.2 (sym c.is_closed.ensures ∙ c.if-not-is_closed.true))
+    (is_closed_false c.in-Some-file_mode.mode h.0.mode h.2 (sym c.is_closed.ensures ∙ c.if-not-is_closed.true)) _
 
 pub returns-then-opening-clause-readies : goal.returns-then-opening-clause-readies
 returns-then-opening-clause-readies g c =
     let h = has_file c.in-Some-file_mode.mode _ c.in-Some-file_mode.ensures in
-    output_ready c.args.setting.now c.args.world.now.world c.args.opening c.in-Some.path.now c.in-Some.ensures h.0 h.1 _ _
+    output_ready c.args.setting.now c.args.world.now.world c.args.opening c.in-Some.path.now c.in-Some.ensures h.0
+    h.1 _ _
     (is_closed_true c.in-Some-file_mode.mode h.0.mode h.2 (sym c.is_closed.ensures ∙ c.if-not-is_closed.false))
-    c.if-opening.true c.in_ok-put.ensures.puts
+    c.if-opening.true c.in_ok-put.ensures.puts _
+    (λ other id is. c.in_ok-put.ensures.ids.handle id
+    (subst (λ (o : Option Purpose). IsSome o) (sym (c.requires.live.purpose other id is)) refl))
 
 pub returns-clause-readies : goal.returns-clause-readies
 returns-clause-readies g c =
     let h = has_file c.in-Some-file_mode.mode _ c.in-Some-file_mode.ensures in
-    loaded_ready c.args.setting.now c.args.world.now.world c.args.opening c.in-Some.path.now c.in-Some.ensures h.0 h.1 _ _
-    (is_closed_true c.in-Some-file_mode.mode h.0.mode h.2 (sym c.is_closed.ensures ∙ c.if-not-is_closed.false))
-    c.if-opening.false _ c.in_ok-load_content.ensures.loads
+    opened_ready c.args.setting.now c.args.world.now.world c.args.opening c.in-Some.path.now c.in-Some.ensures h.0
+    h.1 _ _
+    _ _ (is_closed_true c.in-Some-file_mode.mode h.0.mode h.2 (sym c.is_closed.ensures ∙ c.if-not-is_closed.false))
+    c.if-opening.false _ c.in_ok-open_input.ensures.opens c.in_ok-open_input.ensures.same c.requires.live
 
-pub returns-in_err-load_content-clause-readies : goal.returns-in_err-load_content-clause-readies
-returns-in_err-load_content-clause-readies g c =
-    let h = has_file c.in-Some-file_mode.mode _ c.in-Some-file_mode.ensures in
-    let p = err_from_is_err_and c.from_residual-in_err-load_content.result
-    c.from_residual-in_err-load_content.ensures.1 in
-    rw (p.1, p.2)
-    (refused_load c.args.setting.now c.args.world.now.world c.args.opening c.in-Some.path.now c.in-Some.ensures h.0 h.1 _ _
-    (is_closed_true c.in-Some-file_mode.mode h.0.mode h.2 (sym c.is_closed.ensures ∙ c.if-not-is_closed.false))
-    c.if-opening.false _ c.in_err-load_content.ensures.loads)
+pub returns-then-opening-clause-tracks : goal.returns-then-opening-clause-tracks
+returns-then-opening-clause-tracks g c = tracks_ids _ _ _ c.in_ok-put.ensures.ids c.requires.live
+
+pub returns-in_err-put-clause-tracks : goal.returns-in_err-put-clause-tracks
+returns-in_err-put-clause-tracks g c = tracks_ids _ _ _ c.in_err-put.ensures.ids c.requires.live
 
 pub returns-in_default-clause-touches : goal.returns-in_default-clause-touches
 returns-in_default-clause-touches g c =
@@ -52,7 +54,8 @@ returns-then-not-is_closed-clause-touches g c =
 pub returns-in_err-put-clause-touches : goal.returns-in_err-put-clause-touches
 returns-in_err-put-clause-touches g c =
     let h = has_file c.in-Some-file_mode.mode _ c.in-Some-file_mode.ensures in
-    makes_by_put (paths_of c.args.setting.now) (makes_in (c.args.opening ∷ [])) c.args.world.now.world _ _ c.args.opening.file
+    makes_by_put (paths_of c.args.setting.now) (makes_in (c.args.opening ∷ [])) c.args.world.now.world _ _
+    c.args.opening.file
     c.in-Some.path.now h.0 c.requires.ready.distinct c.in-Some.ensures.path_ h.1
     (is_closed_true c.in-Some-file_mode.mode h.0.mode h.2 (sym c.is_closed.ensures ∙ c.if-not-is_closed.false))
     (makes_own c.args.opening c.if-opening.true) c.in_err-put.ensures.part
@@ -60,17 +63,18 @@ returns-in_err-put-clause-touches g c =
 pub returns-then-opening-clause-touches : goal.returns-then-opening-clause-touches
 returns-then-opening-clause-touches g c =
     let h = has_file c.in-Some-file_mode.mode _ c.in-Some-file_mode.ensures in
-    makes_by_put (paths_of c.args.setting.now) (makes_in (c.args.opening ∷ [])) c.args.world.now.world _ _ c.args.opening.file
+    makes_by_put (paths_of c.args.setting.now) (makes_in (c.args.opening ∷ [])) c.args.world.now.world _ _
+    c.args.opening.file
     c.in-Some.path.now h.0 c.requires.ready.distinct c.in-Some.ensures.path_ h.1
     (is_closed_true c.in-Some-file_mode.mode h.0.mode h.2 (sym c.is_closed.ensures ∙ c.if-not-is_closed.false))
     (makes_own c.args.opening c.if-opening.true) c.in_ok-put.ensures.part
 
-pub returns-in_err-load_content-clause-touches : goal.returns-in_err-load_content-clause-touches
-returns-in_err-load_content-clause-touches g c =
+pub returns-in_err-open_input-clause-touches : goal.returns-in_err-open_input-clause-touches
+returns-in_err-open_input-clause-touches g c =
     makes_same (paths_of c.args.setting.now) (makes_in (c.args.opening ∷ [])) c.args.world.now.world _ _
-    c.in_err-load_content.ensures.ids c.in_err-load_content.ensures.same
+    c.in_err-open_input.ensures.same
 
 pub returns-clause-touches : goal.returns-clause-touches
 returns-clause-touches g c =
     makes_same (paths_of c.args.setting.now) (makes_in (c.args.opening ∷ [])) c.args.world.now.world _ _
-    c.in_ok-load_content.ensures.ids c.in_ok-load_content.ensures.same
+    c.in_ok-open_input.ensures.same

@@ -5,6 +5,7 @@ use Rattle.cob_program.specs.ActView.{plain_program}
 use Rattle.cob_interp.specs.Running.{outside}
 use Rattle.cob_interp.specs.Setting.{texts}
 use Rattle.cob_interp.proofs.Starting.{begins_with, refused_first}
+use Rattle.cob_interp.proofs.TrackLemmas.{ids_kept, tracks_pass}
 use Rattle.cob_interp.proofs.runs.run_through.Goals as goal
 
 pub returns-in_default-clause-runs : goal.returns-in_default-clause-runs
@@ -19,6 +20,12 @@ returns-in_default-first-clause-runs g c =
     (length-map c.args.paths.now string_bytes ∙ c.requires.paths) c.ways_tell_of_runs.ensures c.requires.whole
     c.requires.graph c.args.budget _
 
+pub returns-in_default-none-clause-runs : goal.returns-in_default-none-clause-runs
+returns-in_default-none-clause-runs g c =
+    refused_first (plain_program c.args.program.now) c.args.graph.now (texts c.args.paths.now)
+    (length-map c.args.paths.now string_bytes ∙ c.requires.paths) c.ways_tell_of_runs.ensures c.requires.whole
+    c.requires.graph c.args.budget _
+
 pub returns-clause-runs : goal.returns-clause-runs
 returns-clause-runs g c =
     let start = outside (g.F.Files.state c.args.files.now) (g.O.Sink.state c.args.out.now) in
@@ -28,3 +35,8 @@ returns-clause-runs g c =
     (length-map c.args.paths.now string_bytes ∙ c.requires.paths) c.ways_tell_of_runs.ensures c.requires.whole
     c.requires.graph c.args.budget start
     _ c.new.result.items c.in-Ok-first.world.world c.new.ensures.items c.in-Ok-first.ensures.value))
+
+pub returns-clause-ids : goal.returns-clause-ids
+returns-clause-ids g c =
+    ids_kept _ _ _ _ c.in-Ok-none.ensures c.ending_of.ensures.none
+    (tracks_pass _ _ _ _ _ _ c.walk-halted.ensures.tracks c.ending_of.ensures.tracks)

@@ -5,6 +5,7 @@ use Rattle.cob_interp.specs.Touching.{makes_none}
 use Rattle.cob_interp.proofs.StepLemmas.{goes_on_underway}
 use Rattle.cob_interp.proofs.Touched.{touches_stay, touches_on}
 use Rattle.cob_interp.proofs.Closings.{closes_stay, closes_pass}
+use Rattle.cob_interp.proofs.TrackLemmas.{tracks_stay, tracks_pass}
 use Rattle.cob_interp.proofs.steps.close_all.Goals as goal
 
 pub loop-init : goal.loop-init
@@ -13,6 +14,9 @@ loop-init g c = record {
   underway = λ sink start underway. underway;
   touches = touches_stay (paths_of c.args.setting.now) makes_none c.args.world.now.world _;
   only = closes_stay _;
+  live = c.requires.live;
+  placed = c.requires.placed;
+  tracks = tracks_stay _ _ c.requires.live;
 }
 
 pub loop-preserved : goal.loop-preserved
@@ -24,6 +28,9 @@ loop-preserved g c = record {
   touches = touches_on (paths_of c.args.setting.now) _ _ _ _ _ c.loop.invariant.touches c.loop.invariant.only
       c.in_ok-at.ensures.touches;
   only = closes_pass _ _ _ c.loop.invariant.only c.in_ok-at.ensures.closes;
+  live = c.in_ok-at.ensures.tracks.live;
+  placed = c.in_ok-at.ensures.placed;
+  tracks = tracks_pass _ _ _ _ _ _ c.loop.invariant.tracks c.in_ok-at.ensures.tracks;
 }
 
 pub returns-in_err-at-clause-touches : goal.returns-in_err-at-clause-touches
@@ -35,6 +42,12 @@ pub returns-then-rests_at-clause-touches : goal.returns-then-rests_at-clause-tou
 returns-then-rests_at-clause-touches g c =
     touches_on (paths_of c.args.setting.now) _ _ _ _ _ c.loop.invariant.touches c.loop.invariant.only
     c.in_ok-at.ensures.touches
+
+pub returns-in_err-at-clause-tracks : goal.returns-in_err-at-clause-tracks
+returns-in_err-at-clause-tracks g c = tracks_pass _ _ _ _ _ _ c.loop.invariant.tracks c.in_err-at.ensures.tracks
+
+pub returns-then-rests_at-clause-tracks : goal.returns-then-rests_at-clause-tracks
+returns-then-rests_at-clause-tracks g c = tracks_pass _ _ _ _ _ _ c.loop.invariant.tracks c.in_ok-at.ensures.tracks
 
 pub returns-in_err-at-clause-leads : goal.returns-in_err-at-clause-leads
 returns-in_err-at-clause-leads g c =

@@ -3,6 +3,7 @@ use Rattle.batch_io.specs.SinkState.{SinkState}
 use Rattle.cob_interp.specs.Running.{Outside, outside, IsUnderway}
 use Rattle.cob_interp.specs.Setting.{program_of, paths_of}
 use Rattle.cob_interp.specs.Touching.{Touches, ClosesOnly, makes_none}
+use Rattle.cob_interp.specs.Tracking.{AreOpen, ArePlaced, Tracks}
 use Rattle.cob_interp.proofs.steps.close_all.Given as goal
 
 -- the first files were closed
@@ -16,6 +17,10 @@ invariant-loop g l = record {
       → IsUnderway (program_of l.setting) l.setting.graph.now (paths_of l.setting) start
       (outside (g.F.Files.state l.files) sink)
       l.world.world l.step l.at;
-  touches : Touches (paths_of l.setting) makes_none l.fn.world.world (g.F.Files.state l.fn.files) (g.F.Files.state l.files);
+  touches : Touches (paths_of l.setting) makes_none l.fn.world.world (g.F.Files.state l.fn.files)
+      (g.F.Files.state l.files);
   only : ClosesOnly l.fn.world.world l.world.world;
+  live : AreOpen (g.F.Files.state l.files) l.inputs;
+  placed : ArePlaced (paths_of l.setting) (g.F.Files.state l.files) l.inputs l.world.world.files;
+  tracks : Tracks (g.F.Files.state l.fn.files) (g.F.Files.state l.files) l.fn.inputs l.inputs;
 }

@@ -1,6 +1,7 @@
 use Rattle.std.proofs.Common.{arith}
 use Rattle.std.proofs.lemmas.Result.{err_from_is_err_and}
 use Rattle.cob_interp.proofs.StepLemmas.{goes_on_underway}
+use Rattle.cob_interp.proofs.Placing.{places_behind}
 use Rattle.cob_interp.proofs.steps.go.Goals as goal
 
 pub returns-in_err-next-clause-leads : goal.returns-in_err-next-clause-leads
@@ -18,3 +19,6 @@ returns-clause-leads c = λ now budget start within u.
     (goes_on_underway c.args.setting.now start now _ c.args.step _
     (c.rests_at.ensures c.if-rests_at.false)
     (c.in_ok-next.ensures.leads now c.args.node c.args.step c.requires.place start (omega arith) u))
+
+pub returns-clause-places : goal.returns-clause-places
+returns-clause-places c = places_behind _ _ _ _ c.in_ok-next.ensures.places c.go_through.ensures.places

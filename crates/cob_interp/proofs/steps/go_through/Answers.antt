@@ -1,7 +1,11 @@
-use Rattle.std.proofs.Common.{◌∙◌, arith}
+use Rattle.std.proofs.Common.{◌∙◌, arith, refl}
 use Rattle.std.proofs.lemmas.Result.{err_from_is_err_and}
 use Rattle.cob_interp.proofs.StepLemmas.{goes_on_underway}
+use Rattle.cob_interp.proofs.TrackLemmas.{places_stay, places_pass}
 use Rattle.cob_interp.proofs.steps.go_through.Goals as goal
+
+pub loop-init : goal.loop-init
+loop-init c = record { kept = refl; underway = λ now start u. u; places = places_stay _ }
 
 pub returns-in_err-at-clause-leads : goal.returns-in_err-at-clause-leads
 returns-in_err-at-clause-leads c =
@@ -16,4 +20,8 @@ loop-preserved c = record {
   underway = λ now start u. goes_on_underway c.args.setting.now start now _ c.args.step _
       (c.rests_at.ensures c.if-rests_at.false)
       (c.in_ok-at.ensures.leads now c.args.step start (omega arith) (c.loop.invariant.underway now start u));
+  places = places_pass _ _ _ c.loop.invariant.places c.in_ok-at.ensures.places;
 }
+
+pub returns-then-rests_at-clause-places : goal.returns-then-rests_at-clause-places
+returns-then-rests_at-clause-places c = places_pass _ _ _ c.loop.invariant.places c.in_ok-at.ensures.places

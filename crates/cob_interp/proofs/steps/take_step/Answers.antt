@@ -1,4 +1,3 @@
-use Rattle.std.proofs.lemmas.Result.{err_from_is_err_and}
 use Rattle.std.proofs.Common.{◌≡◌, ℕ, Some, ap, subst, ◌∙◌}
 use Rattle.cob_program.specs.Act.{open_files}
 use Rattle.cob_program.specs.ActView.{plain_act}
@@ -7,7 +6,9 @@ use Rattle.cob_interp.specs.Running.{outside}
 use Rattle.cob_interp.specs.Setting.{program_of, paths_of}
 use Rattle.cob_interp.specs.Touching.{makes_by}
 use Rattle.cob_interp.proofs.CallLemmas.{is_open, is_close}
-use Rattle.cob_interp.proofs.Taking.{free_read, free_close, free_other, step_begins, opening_begins, ragged_arrives}
+use Rattle.cob_interp.proofs.Taking.{free_close, free_open, free_other, step_begins}
+use Rattle.cob_interp.proofs.Readied.{touches_known}
+use Rattle.cob_interp.proofs.Placing.{placed_behind}
 use Rattle.cob_interp.proofs.Touched.{touches_stay, opening_touches, none_touches}
 use Rattle.cob_interp.proofs.steps.take_step.Goals as goal
 
@@ -29,38 +30,26 @@ returns-in-Close-clause-touches g c =
     c.args.world.now.world _ _
     c.close_all.ensures.touches
 
-pub returns-in_err-check_cut-in-Read-clause-touches : goal.returns-in_err-check_cut-in-Read-clause-touches
-returns-in_err-check_cut-in-Read-clause-touches g c =
-    touches_stay (paths_of c.args.setting.now) (makes_by (plain_act c.args.place.now.statement.now.act.now))
-    c.args.world.now.world _
-
-pub returns-in_ok-check_cut-in-Read-clause-touches : goal.returns-in_ok-check_cut-in-Read-clause-touches
-returns-in_ok-check_cut-in-Read-clause-touches g c =
-    touches_stay (paths_of c.args.setting.now) (makes_by (plain_act c.args.place.now.statement.now.act.now))
-    c.args.world.now.world _
-
 pub returns-in-Other-clause-touches : goal.returns-in-Other-clause-touches
 returns-in-Other-clause-touches g c =
     touches_stay (paths_of c.args.setting.now) (makes_by (plain_act c.args.place.now.statement.now.act.now))
     c.args.world.now.world _
 
-pub returns-in_err-check_cut-in-Read-clause-takes : goal.returns-in_err-check_cut-in-Read-clause-takes
-returns-in_err-check_cut-in-Read-clause-takes g c =
-    let p = err_from_is_err_and c.from_residual.result c.from_residual.ensures.1 in
-    rw (p.1, p.2)
-    (λ sink budget steps start counted within stands.
-    ragged_arrives c.args.setting.now c.args.node c.args.place.now c.requires.starts budget steps c.args.step counted
-    within start
-    (outside (g.F.Files.state c.args.files.now) sink) c.args.world.now.world stands c.in-Read.file c.in-Read.ensures _
-    c.in_err-check_cut-in-Read.ensures)
+pub returns-in-Read-clause-touches : goal.returns-in-Read-clause-touches
+returns-in-Read-clause-touches g c =
+    touches_known (paths_of c.args.setting.now) (makes_by (plain_act c.args.place.now.statement.now.act.now))
+    c.args.world.now.world _ _ _
+    (touches_stay (paths_of c.args.setting.now) (makes_by (plain_act c.args.place.now.statement.now.act.now))
+    c.args.world.now.world (g.F.Files.state c.args.files.now)) c.go_read.ensures.same
 
 pub returns-in-Open-clause-takes : goal.returns-in-Open-clause-takes
 returns-in-Open-clause-takes g c = λ sink budget steps start counted within stands.
-    opening_begins c.args.setting.now c.args.node c.args.place.now c.requires.starts budget steps c.args.step counted
+    step_begins c.args.setting.now c.args.node c.args.place.now c.requires.starts budget steps c.args.step counted
     within start
     (outside (g.F.Files.state c.args.files.now) sink) c.args.world.now.world stands
-    (outside (g.F.Files.state c.open_all.new.files) sink) c.open_all.new.world.world _ c.in-Open.openings.now
-    (is_open c.in-Open.openings _ c.in-Open.ensures) (c.open_all.ensures.leads sink budget steps counted)
+    (outside (g.F.Files.state c.open_all.new.files) sink) c.open_all.new.world.world _
+    (free_open c.in-Open.openings.now _ (is_open c.in-Open.openings _ c.in-Open.ensures))
+    (c.open_all.ensures.leads sink budget)
 
 pub returns-in-Close-clause-takes : goal.returns-in-Close-clause-takes
 returns-in-Close-clause-takes g c = λ sink budget steps start counted within stands.
@@ -68,24 +57,18 @@ returns-in-Close-clause-takes g c = λ sink budget steps start counted within st
     within start
     (outside (g.F.Files.state c.args.files.now) sink) c.args.world.now.world stands
     (outside (g.F.Files.state c.close_all.new.files) sink) c.close_all.new.world.world _
-    (free_close (program_of c.args.setting.now) c.args.world.now.world _ _ (is_close c.in-Close.field-0 _ c.in-Close.ensures))
+    (free_close c.in-Close.field-0.now _ (is_close c.in-Close.field-0 _ c.in-Close.ensures))
     (c.close_all.ensures.leads sink budget)
-
-pub returns-in_ok-check_cut-in-Read-clause-takes : goal.returns-in_ok-check_cut-in-Read-clause-takes
-returns-in_ok-check_cut-in-Read-clause-takes g c = λ sink budget steps start counted within stands.
-    step_begins c.args.setting.now c.args.node c.args.place.now c.requires.starts budget steps c.args.step counted
-    within start
-    (outside (g.F.Files.state c.args.files.now) sink) c.args.world.now.world stands
-    (outside (g.F.Files.state c.args.files.now) sink) c.go.new.world.world _
-    (free_read (program_of c.args.setting.now) c.args.world.now.world c.in-Read.file _ c.in-Read.ensures
-    c.in_ok-check_cut-in-Read.ensures)
-    (c.go.ensures.leads _ budget)
 
 pub returns-in-Other-clause-takes : goal.returns-in-Other-clause-takes
 returns-in-Other-clause-takes g c = λ sink budget steps start counted within stands.
     step_begins c.args.setting.now c.args.node c.args.place.now c.requires.starts budget steps c.args.step counted
     within start
     (outside (g.F.Files.state c.args.files.now) sink) c.args.world.now.world stands
-    (outside (g.F.Files.state c.args.files.now) sink) c.go-in-Other.new.world.world _
-    (free_other (program_of c.args.setting.now) c.args.world.now.world _ c.in-Other.ensures)
-    (c.go-in-Other.ensures.leads _ budget)
+    (outside (g.F.Files.state c.args.files.now) sink) c.go.new.world.world _
+    (free_other _ c.in-Other.ensures) (c.go.ensures.leads _ budget)
+
+pub returns-in-Other-clause-placed : goal.returns-in-Other-clause-placed
+returns-in-Other-clause-placed g c =
+    placed_behind (paths_of c.args.setting.now) (g.F.Files.state c.args.files.now) _ c.args.world.now.world.files _ _
+    c.go.ensures.places c.requires.placed

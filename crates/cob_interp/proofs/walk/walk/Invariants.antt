@@ -1,5 +1,5 @@
 use Rattle.std.proofs.Common.{◌≡◌}
-use Rattle.batch_io.specs.FilesState.{KeepsIds}
+use Rattle.cob_interp.specs.Tracking.{AreOpen, ArePlaced, Tracks}
 use Rattle.cob_interp.specs.Running.{Outside, outside, IsAt}
 use Rattle.cob_interp.specs.Setting.{program_of, paths_of}
 use Rattle.cob_interp.proofs.walk.walk.Given as goal
@@ -13,5 +13,7 @@ invariant-loop-steps g l = record {
       → IsAt (program_of l.setting) l.setting.graph.now (paths_of l.setting) l.budget start
       (outside (g.F.Files.state l.files) (g.O.Sink.state l.out)) l.world.world l.steps l.node;
   sink : (g.O.Sink.state l.out).faults ≡ (g.O.Sink.state l.fn.out).faults;
-  ids : KeepsIds (g.F.Files.state l.fn.files) (g.F.Files.state l.files);
+  live : AreOpen (g.F.Files.state l.files) l.inputs;
+  placed : ArePlaced (paths_of l.setting) (g.F.Files.state l.files) l.inputs l.world.world.files;
+  tracks : Tracks (g.F.Files.state l.fn.files) (g.F.Files.state l.files) l.fn.inputs l.inputs;
 }

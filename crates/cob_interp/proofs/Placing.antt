@@ -1,0 +1,290 @@
+-- Where ids stand behind an OPEN, a CLOSE and a READ.
+use Rattle.std.proofs.Common.{◌≡◌, ◌≢◌, ℕ, ◌+◌, ◌<◌, ◌⊎◌, Bool, true, false, List, [], length, Option, Some, None, Result, Ok, Err, inl, inr, refl, sym, ap, subst, ◌∙◌, take_all, arith}
+use Rattle.std.specs.Prelude.{Contains, slice_get, slice_set, option_map, IsSome, IfSome, IfOk}
+use Rattle.std.proofs.lemmas.Bool.{cases_eq}
+use Rattle.std.proofs.lemmas.Bool.Decides.{nat_tests}
+use Rattle.batch_io.specs.FilesState.{FilesState, Handle, Purpose, known_handle, moved_by}
+use Rattle.cob_data.specs.declared.layout.FileDecl.{FileDecl}
+use Rattle.cob_data.specs.declared.layout.Layout.{Layout}
+use Rattle.cob_runs.specs.Files.{File, file, Mode, closed, reading, writing, opened, Taken, after_read}
+use Rattle.cob_runs.specs.State.{World, with_files}
+use Rattle.cob_runs.specs.Acts.{decl_at, file_act, open_one, take_on, take_one}
+use Rattle.cob_world.specs.Calling.{replaced}
+use Rattle.cob_interp.specs.Tracking.{Ids, IsRead, AreOpen, IsReading, ArePlaced, KeepsPlaces}
+use Rattle.cob_interp.specs.Readying.{GivesWindow, IsReadOn, settled, settled_file}
+use Rattle.cob_program.specs.declared.act.Opening.{Opening}
+use Rattle.cob_interp.specs.Readying.{StandsOrBegins}
+use Rattle.cob_interp.proofs.Places.{got_in_set, set_keeps_as}
+use Rattle.cob_interp.proofs.TrackLemmas.{get_set_other, placed_on, places_stay, places_pass}
+use Rattle.cob_interp.proofs.OneFile.{takes, from_place, from_end}
+use Rattle.cob_plan.specs.declared.node.Op.TheVariants as op
+use Rattle.cob_plan.specs.Plan.{op_edges}
+use Rattle.cob_program.specs.Act.{Act, Phrase, Stmts, open_files, read}
+use Rattle.cob_runs.specs.declared.action.Action.{Action}
+use Rattle.cob_runs.specs.Effects.{act_at, effect, effect_of}
+use Rattle.cob_interp.specs.declared.ends.RunEnd.{RunEnd}
+use Rattle.cob_interp.specs.declared.setting.Setting.{Setting}
+use Rattle.cob_interp.specs.declared.setting.Place.{Place}
+use Rattle.cob_interp.specs.Setting.{program_of, paths_of}
+use Rattle.cob_interp.specs.Doing.{IsPlain, DoesPart}
+use Rattle.cob_interp.proofs.Onward.{effect_by_act}
+use Rattle.cob_interp.proofs.Following.{plain_edge}
+use Rattle.cob_interp.proofs.Places.{plain_keeps, where_keeps}
+use Rattle.cob_interp.proofs.Closings.{where_done, open_edge_is}
+use Rattle.cob_interp.proofs.ReadLemmas.{get_set, three, taken_test, kept_files}
+
+-- ---- handles
+
+moved_handle : (o new : Option Handle) (path : List ℕ) (place n : ℕ) → new ≡ option_map (moved_by n) o
+    → IfSome o (λ handle. handle ≡ record { name = path; place = place })
+    → IfSome new (λ handle. handle ≡ record { name = path; place = place + n })
+moved_handle o new path place n e h =
+    subst (λ (x : Option Handle). IfSome x (λ handle. handle ≡ record { name = path; place = place + n })) (sym e)
+    (by o h) where
+      by : (x : Option Handle) → IfSome x (λ handle. handle ≡ record { name = path; place = place })
+          → IfSome (option_map (moved_by n) x) (λ handle. handle ≡ record { name = path; place = place + n })
+      by None h_ = tt
+      by (Some handle) h_ = ap (moved_by n) h_
+
+-- ---- a READ with a window
+
+-- where the kept file stands behind it
+kept_place : (size : ℕ) (window : List ℕ) → (length window ≡ size) ⊎ ((window ≡ []) × (0 < size))
+    → (after_read size (file (Some window) (reading false) 0)).file.place ≡ length window
+kept_place size window (inl e) =
+    let p : 0 + size ≡ length window = omega arith in
+    ap (λ (t : Taken). t.file.place) (takes size (file (Some window) (reading false) 0) (Some window) refl
+    (from_place size 0 window window (grind (arith, nat_tests)) (take_all size window (omega arith)))) ∙ p
+kept_place size window (inr e) =
+    let h : length window ≡ 0 = ap (λ (l : List ℕ). length l) e.0 in
+    let some = e.1 in
+    ap (λ (t : Taken). t.file.place) (takes size (file (Some window) (reading false) 0) None refl
+    (from_end size 0 window (grind (arith, nat_tests)))) ∙ sym h
+
+module _ (old new : FilesState) (paths : List (List ℕ)) (ids : Ids) (live : AreOpen old ids) (files : List File)
+    (placed : ArePlaced paths old ids files) (place size : ℕ) (f g : File) (has : slice_get files place ≡ Some f)
+    (mode_ : f.mode ≡ reading false) (window : List ℕ) (gives : GivesWindow old new ids place size window)
+    (stands_at : g.place ≡ f.place + length window) where
+  here : (id : ℕ) (path : List ℕ) → IsRead ids place id → slice_get paths place ≡ Some path
+      → IfSome (known_handle new id) (λ handle. handle ≡ record { name = path; place = g.place })
+  here id path is at =
+      let same : gives.id ≡ id = let h = gives.is in cc in
+      let reads : IsReading f.mode = subst IsReading (sym mode_) tt in
+      subst (λ (n : ℕ). IfSome (known_handle new id) (λ handle. handle ≡ record { name = path; place = n }))
+      (sym stands_at)
+      (moved_handle (known_handle old id) (known_handle new id) path f.place (length window)
+      (subst (λ (n : ℕ). known_handle new n ≡ option_map (moved_by (length window)) (known_handle old n)) same
+      gives.given.moved) (placed place id path f is at has reads))
+
+  pub window_placed : ArePlaced paths new ids (slice_set files place g)
+  window_placed other id path h is at there reads = elim (cases_eq other place) [
+    | inl same ↦
+        let set : slice_get (slice_set files place g) place ≡ Some g = get_set files place f g has in
+        let got : slice_get (slice_set files place g) place ≡ Some h =
+        subst (λ (n : ℕ). slice_get (slice_set files place g) n ≡ Some h) same there in
+        let e : g ≡ h = cc in
+        subst (λ (x : File). IfSome (known_handle new id) (λ handle. handle ≡ record { name = path; place = x.place })) e
+        (here id path (subst (λ (n : ℕ). IsRead ids n id) same is)
+        (subst (λ (n : ℕ). slice_get paths n ≡ Some path) same at))
+    | inr apart ↦
+        let before = placed other id path h is at (sym (get_set_other files place other g apart) ∙ there) reads in
+        let differs : id ≢ gives.id =
+        λ e. apart (live.apart other place id is (subst (λ (n : ℕ). IsRead ids place n) (sym e) gives.is)) in
+        subst (λ (o : Option Handle). IfSome o (λ handle. handle ≡ record { name = path; place = h.place }))
+        (sym (gives.given.others id differs
+        (subst (λ (o : Option Purpose). IsSome o) (sym (live.purpose other id is)) refl))) before
+  ]
+
+-- ---- an OPEN and a CLOSE
+
+pub placed_behind : (paths : List (List ℕ)) (a : FilesState) (ids : Ids) (fs gs : List File) {A E : Type 0}
+    (result : Result A E) → IfOk result (λ _. KeepsPlaces fs gs) → ArePlaced paths a ids fs
+    → IfOk result (λ _. ArePlaced paths a ids gs)
+placed_behind paths a ids fs gs (Ok x) keeps placed = placed_on paths a ids fs gs keeps placed
+placed_behind paths a ids fs gs (Err e) keeps placed = tt
+
+pub places_behind : (fs gs hs : List File) {A E : Type 0} (result : Result A E) → KeepsPlaces fs gs
+    → IfOk result (λ _. KeepsPlaces gs hs) → IfOk result (λ _. KeepsPlaces fs hs)
+places_behind fs gs hs (Ok x) first then_ = places_pass fs gs hs first then_
+places_behind fs gs hs (Err e) first then_ = tt
+
+module _ (l : Layout) (paths : List (List ℕ)) (old new : FilesState) (before after : Ids) (w : World) (o : Opening)
+    (path : List ℕ) (f : File) (at : slice_get paths o.file ≡ Some path) (has : slice_get w.files o.file ≡ Some f)
+    (stand : StandsOrBegins old new before after path o.file o.output f) (placed : ArePlaced paths old before w.files) where
+  still_closed : f.mode ≡ closed → IsReading f.mode → ⊥
+  still_closed e reads = subst IsReading e reads
+
+  opened_place : (output : Bool) (content : Option (List ℕ)) (place : ℕ)
+      → IsReading (opened output (file content closed place)).0.mode → (opened output (file content closed place)).0.place ≡ 0
+  opened_place true content place reads = refl
+  opened_place false None place reads = absurd reads
+  opened_place false (Some bytes) place reads = refl
+
+  begun_place : f.mode ≡ closed → IsReading (opened o.output f).0.mode → (opened o.output f).0.place ≡ 0
+  begun_place e reads =
+      subst (λ (m : Mode). IsReading (opened o.output (file f.content m f.place)).0.mode
+      → (opened o.output (file f.content m f.place)).0.place ≡ 0) (sym e) (opened_place o.output f.content f.place) reads
+
+  open_same : (m : Mode) (content : Option (List ℕ)) (place : ℕ) → IsReading m
+      → (opened o.output (file content m place)).0 ≡ file content m place
+  open_same closed content place reads = absurd reads
+  open_same (reading ended) content place reads = refl
+  open_same writing content place reads = absurd reads
+
+  abbrev Is : List File → Type 0
+  Is fs = ArePlaced paths new after fs
+
+  -- where the file is opened
+  opened_in_set : Is (slice_set w.files o.file (opened o.output f).0)
+  opened_in_set other id q g is at_ has_ reads = elim (got_in_set w.files o.file other (opened o.output f).0 g has_) [
+    | inl here ↦
+        let own : IsReading (opened o.output f).0.mode =
+        subst (λ (x : File). IsReading x.mode) (sym here.1) reads in
+        let same : path ≡ q = let h = subst (λ (n : ℕ). slice_get paths n ≡ Some q) here.0 at_ in cc in
+        elim (stand.stand other id is) [
+          | inl stays ↦
+              let was : IsReading f.mode = stays.2 here.0 own in
+              let kept : (opened o.output f).0 ≡ f = open_same f.mode f.content f.place was in
+              subst (λ (h : Option Handle). IfSome h (λ handle. handle ≡ record { name = q; place = g.place })) (sym stays.1)
+              (subst (λ (x : File). IfSome (known_handle old id) (λ handle. handle ≡ record { name = q; place = x.place }))
+              (sym kept ∙ here.1)
+              (placed other id q f stays.0 at_ (subst (λ (n : ℕ). slice_get w.files n ≡ Some f) (sym here.0) has) was))
+          | inr begins ↦
+              subst (λ (x : File). IfSome (known_handle new id) (λ handle. handle ≡ record { name = q; place = x.place }))
+              here.1
+              (subst (λ (n : ℕ). IfSome (known_handle new id) (λ handle. handle ≡ record { name = q; place = n }))
+              (sym (begun_place begins.1 own))
+              (subst (λ (x : List ℕ). IfSome (known_handle new id) (λ handle. handle ≡ record { name = x; place = 0 }))
+              same begins.2))
+        ]
+    | inr there ↦ elim (stand.stand other id is) [
+      | inl stays ↦
+          subst (λ (h : Option Handle). IfSome h (λ handle. handle ≡ record { name = q; place = g.place })) (sym stays.1)
+          (placed other id q g stays.0 at_ there reads)
+      | inr begins ↦
+          let own : slice_get w.files o.file ≡ Some g = subst (λ (n : ℕ). slice_get w.files n ≡ Some g) begins.0 there in
+          let same : f ≡ g = cc in
+          absurd (still_closed begins.1 (subst (λ (x : File). IsReading x.mode) (sym same) reads))
+    ]
+  ]
+
+  -- where it isn't
+  unopened : Is w.files
+  unopened other id q g is at_ has_ reads = elim (stand.stand other id is) [
+    | inl stays ↦
+        subst (λ (h : Option Handle). IfSome h (λ handle. handle ≡ record { name = q; place = g.place })) (sym stays.1)
+        (placed other id q g stays.0 at_ has_ reads)
+    | inr begins ↦
+        let own : slice_get w.files o.file ≡ Some g = subst (λ (n : ℕ). slice_get w.files n ≡ Some g) begins.0 has_ in
+        let same : f ≡ g = cc in
+        absurd (still_closed begins.1 (subst (λ (x : File). IsReading x.mode) (sym same) reads))
+  ]
+
+  opened_by : (decl : Option FileDecl) (x : Option File) → x ≡ Some f
+      → Is (file_act l (opened o.output) o.file decl x w).0.files
+  opened_by None x e = unopened
+  opened_by (Some d) None e = unopened
+  opened_by (Some d) (Some y) e =
+      let same : f ≡ y = cc in
+      subst (λ (z : File). Is (slice_set w.files o.file (opened o.output z).0)) same opened_in_set
+
+  pub open_one_placed : Is (open_one l o w).0.files
+  open_one_placed = opened_by (decl_at l o.file) (slice_get w.files o.file) has
+
+-- ---- the part of a node
+
+module _ (s : Setting) (x : Place) (step : ℕ) (w v : World) (b : Act)
+    (its : act_at (program_of s) x.statement.now.number ≡ Some b) (result : Result ℕ RunEnd)
+    (does : DoesPart s x step w v result) where
+  -- where no file is opened, closed or read
+  pub plain_places : IsPlain x.plan_node.now.op b → IfOk result (λ _. KeepsPlaces w.files v.files)
+  plain_places plain =
+      where_done s x step w v (KeepsPlaces w.files v.files) x.plan_node.now.op refl
+      (λ a m out does_. where_keeps w v (effect_of (program_of s) x.statement.now.number None w a b)
+      (plain_keeps (program_of s) x.statement.now.number w a b (plain_edge x.plan_node.now.op b plain a m out))
+      (sym (effect_by_act (program_of s) x.statement.now.number w a b its) ∙ does_)) result does
+
+  -- where a file is opened
+  pub open_places : (os : List Opening) (k fine bad : ℕ) → b ≡ open_files os → x.plan_node.now.op ≡ op.Open k fine bad
+      → (o : Opening) → slice_get os k ≡ Some o → (paths : List (List ℕ)) (new : FilesState) (after : Ids)
+      → ArePlaced paths new after (open_one s.program.now.layout o w).0.files
+      → IfOk result (λ _. ArePlaced paths new after v.files)
+  open_places os k fine bad is op_is o at paths new after placed =
+      where_done s x step w v (ArePlaced paths new after v.files) (op.Open k fine bad) op_is
+      (open_edge_is (program_of s) x.statement.now.number k w v os (its ∙ ap Some is)
+      (λ (u : World). ArePlaced paths new after u.files)
+      (λ o_ at_. let same : o ≡ o_ = cc in
+      subst (λ (y : Opening). ArePlaced paths new after (open_one s.program.now.layout y w).0.files) same placed)
+      fine bad) result does
+
+  -- where a file is read
+  module _ (f : ℕ) (into : Option ℕ) (end_ : Phrase) (fine_ : Stmts) (is_read : b ≡ read f into end_ fine_) where
+    its_read : act_at (program_of s) x.statement.now.number ≡ Some (read f into end_ fine_)
+    its_read = its ∙ ap Some is_read
+
+    abbrev of : Action → Type 0
+    of a = effect_of (program_of s) x.statement.now.number None w a (read f into end_ fine_) ≡ Ok (Some v)
+
+    by_edge : (found end_to bad : ℕ) (a : Action) (m : ℕ) → Contains (op_edges (op.Read found end_to bad)) (a, m)
+        → effect (program_of s) x.statement.now.number None w a ≡ Ok (Some v)
+        → v ≡ (take_one s.program.now.layout None f w).0
+    by_edge found end_to bad a m out does_ =
+        let h = sym (effect_by_act (program_of s) x.statement.now.number w a (read f into end_ fine_) its_read) ∙ does_ in
+        elim (three _ _ _ _ out) [
+          | inl e ↦ sym (taken_test _ _ _ (subst (λ (y : Action × ℕ). of y.0) (sym e) h)).1
+          | inr (inl e) ↦ sym (taken_test _ _ _ (subst (λ (y : Action × ℕ). of y.0) (sym e) h)).1
+          | inr (inr e) ↦ sym (taken_test _ _ _ (subst (λ (y : Action × ℕ). of y.0) (sym e) h)).1
+        ]
+
+    pub read_done : (found end_to bad : ℕ) → x.plan_node.now.op ≡ op.Read found end_to bad
+        → IfOk result (λ _. v ≡ (take_one s.program.now.layout None f w).0)
+    read_done found end_to bad op_is =
+        where_done s x step w v (v ≡ (take_one s.program.now.layout None f w).0) (op.Read found end_to bad) op_is
+        (by_edge found end_to bad) result does
+
+-- ---- behind a READ
+
+module _ (s : Setting) (old new : FilesState) (ids : Ids) (live : AreOpen old ids) (w : World)
+    (placed : ArePlaced (paths_of s) old ids w.files) (place : ℕ) (f : File) (d : FileDecl)
+    (has : slice_get w.files place ≡ Some f) (mode_ : f.mode ≡ reading false)
+    (declared : decl_at s.program.now.layout place ≡ Some d) (window : List ℕ)
+    (gives : GivesWindow old new ids place d.length window) where
+  whole_or_none : (length window ≡ d.length) ⊎ ((window ≡ []) × (0 < d.length))
+  whole_or_none = elim gives.whole [
+    | inl full ↦ inl full
+    | inr none ↦ inr (none.0, none.1)
+  ]
+
+  pub read_placed : (mid : World)
+      → mid ≡ (take_one s.program.now.layout None place (with_files w (replaced place (Some window) 0 w.files))).0
+      → ArePlaced (paths_of s) new ids (settled place f.place mid).files
+  read_placed mid is =
+      let g = settled_file f.place (after_read d.length (file (Some window) (reading false) 0)).file in
+      let at : g.place ≡ f.place + length window =
+      ap (λ (n : ℕ). f.place + n) (kept_place d.length window whole_or_none) in
+      subst (λ (fs : List File). ArePlaced (paths_of s) new ids fs)
+      (sym (ap (λ (u : World). (settled place f.place u).files) is
+      ∙ kept_files s.program.now.layout w place f d has declared window mode_))
+      (window_placed old new (paths_of s) ids live w.files placed place d.length f g has mode_ window gives at)
+
+-- a file that isn't read, or whose end was met
+idle_kept : (size : ℕ) (content : Option (List ℕ)) (m : Mode) (place : ℕ) → (m ≡ reading false → ⊥)
+    → (after_read size (file content m place)).file ≡ file content m place
+idle_kept size content closed place idle = refl
+idle_kept size content (reading true) place idle = refl
+idle_kept size content (reading false) place idle = absurd (idle refl)
+idle_kept size content writing place idle = refl
+
+idle_on : (l : Layout) (w : World) (place : ℕ) (decl : Option FileDecl) (o : Option File) → slice_get w.files place ≡ o
+    → IsReadOn o None → KeepsPlaces w.files (take_on l None place decl o w).0.files
+idle_on l w place None o has idle = places_stay w.files
+idle_on l w place (Some d) None has idle = places_stay w.files
+idle_on l w place (Some d) (Some f) has idle =
+    set_keeps_as w.files place f (after_read d.length f).file has
+    (λ reads. idle_kept d.length f.content f.mode f.place idle)
+
+pub idle_placed : (l : Layout) (w v : World) (place : ℕ) → IsReadOn (slice_get w.files place) None
+    → v ≡ (take_one l None place w).0 → KeepsPlaces w.files v.files
+idle_placed l w v place idle is =
+    subst (λ (u : World). KeepsPlaces w.files u.files) (sym is)
+    (idle_on l w place (decl_at l place) (slice_get w.files place) refl idle)

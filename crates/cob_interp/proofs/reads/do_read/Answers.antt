@@ -1,0 +1,34 @@
+use Rattle.cob_interp.proofs.RecordReads.{idle_arrives, window_arrives}
+use Rattle.cob_interp.proofs.ReadParts.{idle_part_placed, window_part_placed}
+use Rattle.cob_interp.proofs.reads.do_read.Goals as goal
+
+pub returns-in-None-clause-placed : goal.returns-in-None-clause-placed
+returns-in-None-clause-placed g c =
+    idle_part_placed c.args.setting.now c.args.node c.args.place.now c.requires.starts c.args.file c.requires.reads
+    c.args.step c.in-Read.found c.in-Read.end c.in-Read.bad c.in-Read.is (g.F.Files.state c.args.files.now)
+    (g.F.Files.state c.args.files.now) c.args.inputs.now c.args.world.now.world c.requires.placed _ _ c.in-None.ensures
+    c.do_part.ensures.does
+
+pub returns-in-None-clause-takes : goal.returns-in-None-clause-takes
+returns-in-None-clause-takes g c = λ sink budget steps start counted within stands.
+    idle_arrives c.args.setting.now c.args.node c.args.place.now c.requires.starts c.requires.ready.distinct c.args.file
+    c.requires.reads budget steps c.args.step counted within start sink (g.F.Files.state c.args.files.now)
+    (g.F.Files.state c.args.files.now) c.args.world.now.world stands c.in-Read.found c.in-Read.end c.in-Read.bad
+    c.in-Read.is _ _ c.in-None.ensures c.do_part.ensures.does
+
+pub returns-in-Some-clause-placed : goal.returns-in-Some-clause-placed
+returns-in-Some-clause-placed g c =
+    rw c.do_window.ensures.ids
+    (window_part_placed c.args.setting.now c.args.node c.args.place.now c.requires.starts c.args.file c.requires.reads
+    c.args.step c.in-Read.found c.in-Read.end c.in-Read.bad c.in-Read.is (g.F.Files.state c.args.files.now)
+    (g.F.Files.state c.do_window.new.files) c.args.inputs.now c.args.world.now.world c.requires.placed c.requires.live
+    c.in-Some.before c.in-Some.ensures _ _ c.do_window.ensures.reads)
+
+pub returns-in-Some-clause-takes : goal.returns-in-Some-clause-takes
+returns-in-Some-clause-takes g c = λ sink budget steps start counted within stands.
+    window_arrives c.args.setting.now c.args.node c.args.place.now c.requires.starts c.requires.ready.distinct
+    c.args.file
+    c.requires.reads budget steps c.args.step counted within start sink (g.F.Files.state c.args.files.now)
+    (g.F.Files.state c.do_window.new.files) c.args.world.now.world stands c.in-Read.found c.in-Read.end c.in-Read.bad
+    c.in-Read.is c.args.inputs.now c.requires.placed c.in-Some.before c.in-Some.ensures c.do_window.ensures.same _ _
+    c.do_window.ensures.reads

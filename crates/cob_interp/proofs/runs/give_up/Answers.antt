@@ -1,0 +1,7 @@
+use Rattle.cob_interp.proofs.ClosingInputs.{refused_on}
+use Rattle.cob_interp.proofs.runs.give_up.Goals as goal
+
+pub returns-clause-runs : goal.returns-clause-runs
+returns-clause-runs g c p graph paths budget start sink runs =
+    refused_on p graph paths budget start sink _ _ c.close_all.ensures.same c.args.ending.end c.requires.refused
+    c.close_all.result c.close_all.ensures.counts runs

@@ -1,0 +1,25 @@
+use Rattle.std.proofs.Common.{arith}
+use Rattle.std.proofs.lemmas.Result.{err_from_is_err_and}
+use Rattle.cob_interp.specs.Running.{outside}
+use Rattle.cob_interp.specs.Setting.{paths_of}
+use Rattle.cob_interp.proofs.StepLemmas.{goes_on_underway}
+use Rattle.cob_interp.proofs.Placing.{placed_behind}
+use Rattle.cob_interp.proofs.steps.go_read.Goals as goal
+
+pub returns-in_err-next-clause-takes : goal.returns-in_err-next-clause-takes
+returns-in_err-next-clause-takes g c =
+    let p = err_from_is_err_and c.from_residual.result c.from_residual.ensures.1 in
+    rw (p.1, p.2) c.in_err-next.ensures.takes
+
+pub returns-clause-placed : goal.returns-clause-placed
+returns-clause-placed g c =
+    placed_behind (paths_of c.args.setting.now) (g.F.Files.state c.do_read.new.files) _ _ _ _
+    c.go_through.ensures.places
+    c.in_ok-next.ensures.placed
+
+pub returns-clause-takes : goal.returns-clause-takes
+returns-clause-takes g c = λ sink budget steps start counted within stands.
+    c.go_through.ensures.leads (outside (g.F.Files.state c.do_read.new.files) sink) budget start
+    (omega (arith, counted, within))
+    (goes_on_underway c.args.setting.now start _ _ c.args.step _ (c.rests_at.ensures c.if-rests_at.false)
+    (c.in_ok-next.ensures.takes sink budget steps start counted within stands))

@@ -1,0 +1,26 @@
+use Rattle.std.proofs.Common.{◌≡◌}
+use Rattle.batch_io.specs.SinkState.{SinkState}
+use Rattle.cob_interp.specs.Running.{Outside, outside, IsUnderway}
+use Rattle.cob_interp.specs.Setting.{program_of, paths_of}
+use Rattle.cob_interp.specs.Touching.{Makes, OpensOnly, makes_in}
+use Rattle.cob_interp.specs.Tracking.{AreOpen, ArePlaced, Tracks}
+use Rattle.cob_interp.proofs.steps.open_all.Given as goal
+
+-- the first files were opened
+abbrev pub invariant-loop : goal.invariant-loop
+invariant-loop g l = record {
+  kept : l.world.program ≡ l.fn.world.program;
+  underway : (sink : SinkState) (start : Outside)
+      → IsUnderway (program_of l.setting) l.setting.graph.now (paths_of l.setting) start
+      (outside (g.F.Files.state l.fn.files) sink)
+      l.fn.world.world l.step l.node
+      → IsUnderway (program_of l.setting) l.setting.graph.now (paths_of l.setting) start
+      (outside (g.F.Files.state l.files) sink)
+      l.world.world l.step l.at;
+  touches : Makes (paths_of l.setting) (makes_in l.openings) l.fn.world.world (g.F.Files.state l.fn.files)
+      (g.F.Files.state l.files);
+  only : OpensOnly l.fn.world.world l.world.world;
+  live : AreOpen (g.F.Files.state l.files) l.inputs;
+  placed : ArePlaced (paths_of l.setting) (g.F.Files.state l.files) l.inputs l.world.world.files;
+  tracks : Tracks (g.F.Files.state l.fn.files) (g.F.Files.state l.files) l.fn.inputs l.inputs;
+}

@@ -1,0 +1,168 @@
+//! READ (ISO 1989:1985, "The READ statement"): the next record is read where the statement asks for it.
+ghost use Rattle.std.specs.Prelude.{◌≡◌, ◌+◌, ◌<◌, ℕ, MatchResult, IfOk, IfSome, Some, None, length, slice_get};
+ghost use Rattle.batch_io.specs.FilesState.{known_bytes};
+ghost use Rattle.batch_io.specs.SinkState.{SinkState};
+ghost use Rattle.cob_program.specs.ActView.{plain_act};
+ghost use Rattle.cob_interp.specs.declared.parts.Call.TheVariants as call;
+ghost use Rattle.cob_interp.specs.declared.ends.RunEnd.TheVariants as end;
+ghost use Rattle.cob_interp.specs.Doing.{ReadsPart};
+ghost use Rattle.cob_interp.specs.Readying.{GivesWindow, IsRestOr, IsReadOn, settled};
+ghost use Rattle.cob_interp.specs.Running.{Outside, outside, Stands, Arrives};
+ghost use Rattle.cob_interp.specs.Setting.{IsReady, StartsAt, IsCall, IsPlaced, program_of, paths_of};
+ghost use Rattle.cob_interp.specs.Tracking.{AreOpen, ArePlaced, Tracks};
+
+use crate::ends::RunEnd;
+use crate::inputs::Inputs;
+use crate::nodes::do_part;
+use crate::setting::{Place, Setting};
+use batch_io::Files;
+use cob_plan::Op;
+use cob_world::{FileMode, World};
+use std::alloc::Global;
+
+/// The next record of the file at a place, or nothing at its end. A rest that is no record is refused.
+fn window_of<F: Files>(
+    alloc: Global,
+    files: &mut F,
+    inputs: &mut Inputs,
+    file: u32,
+    size: u32,
+    before: usize,
+) -> Result<Vec<u8>, RunEnd>
+    requires live { AreOpen (F.state files.old) inputs.old }
+    ensures tracks { Tracks (F.state files.old) (F.state files.new) inputs.old inputs.new }
+    ensures same { known_bytes (F.state files.new) ≡ known_bytes (F.state files.old) }
+    ensures kept { inputs.new ≡ inputs.old }
+    ensures gives { MatchResult result
+        (λ window. GivesWindow (F.state files.old) (F.state files.new) inputs.old file size window.items)
+        (λ e. IsRestOr (F.state files.old) (F.state files.new) inputs.old file size before e) }
+{
+    let (room, count) = inputs.next_record(alloc, files, file as usize)?;
+    if room.len() != size as usize {
+        return Err(RunEnd::Memory);
+    }
+    if count == room.len() {
+        return Ok(room);
+    }
+    inputs.give_room(file as usize, room);
+    if count == 0 {
+        return Ok(Vec::new(alloc));
+    }
+    match before.checked_add(count) {
+        None => Err(RunEnd::Memory),
+        Some(length) => Err(RunEnd::Ragged {
+            file,
+            length: length as u64,
+        }),
+    }
+}
+
+/// Behind a READ: the file at a place gives its room back, and its place goes on behind so many bytes.
+fn settle(
+    alloc: Global,
+    inputs: &mut Inputs,
+    world: &mut World,
+    file: u32,
+    before: usize,
+) -> Result<(), RunEnd>
+    ensures kept { world.new.program ≡ world.old.program }
+    ensures same { inputs.new ≡ inputs.old }
+    ensures settles { MatchResult result (λ _. world.new.world ≡ settled file before world.old.world)
+        (λ e. e ≡ end.Memory) }
+{
+    let Some(found) = world.file(file as usize) else {
+        return Ok(());
+    };
+    let Some(place) = before.checked_add(found.place()) else {
+        return Err(RunEnd::Memory);
+    };
+    match world.replace_content(file as usize, Some(Vec::new(alloc)), place) {
+        Some(room) if !room.as_slice().is_empty() => inputs.give_room(file as usize, room),
+        _ => {}
+    }
+    Ok(())
+}
+
+/// How many bytes were read of the file at a place, if it is read and its end wasn't met.
+fn read_so_far(world: &World, file: u32) -> Option<usize>
+    ensures { IsReadOn (slice_get world.now.world.files file) result }
+{
+    let found = world.file(file as usize)?;
+    match found.mode() {
+        FileMode::Reading { ended: false } => Some(found.place()),
+        _ => None,
+    }
+}
+
+/// Does the part of a READ's node, of a file that is read on, of which so many bytes were read.
+fn do_window<F: Files>(
+    alloc: Global,
+    setting: &Setting,
+    files: &mut F,
+    inputs: &mut Inputs,
+    world: &mut World,
+    place: &Place,
+    file: u32,
+    before: usize,
+    step: u64,
+) -> Result<u32, RunEnd>
+    requires ready { IsReady setting.now }
+    requires runs { world.old.program ≡ setting.now.program.now }
+    requires placed { IsPlaced setting.now place.now }
+    requires live { AreOpen (F.state files.old) inputs.old }
+    ensures kept { world.new.program ≡ world.old.program }
+    ensures tracks { Tracks (F.state files.old) (F.state files.new) inputs.old inputs.new }
+    ensures same { known_bytes (F.state files.new) ≡ known_bytes (F.state files.old) }
+    ensures ids { inputs.new ≡ inputs.old }
+    ensures reads { ReadsPart setting.now place.now step (F.state files.old) (F.state files.new) inputs.old file before
+        world.old.world world.new.world result }
+{
+    let Some(size) = setting.size(file) else {
+        return Err(RunEnd::Memory);
+    };
+    let window = window_of(alloc, files, inputs, file, size, before)?;
+    let _ = world.replace_content(file as usize, Some(window), 0);
+    let next = do_part(alloc, setting, place, world, step);
+    settle(alloc, inputs, world, file, before)?;
+    next
+}
+
+/// Does the part of a READ's first node. Answers the next node.
+pub fn do_read<F: Files>(
+    alloc: Global,
+    setting: &Setting,
+    files: &mut F,
+    inputs: &mut Inputs,
+    world: &mut World,
+    place: &Place,
+    node: u32,
+    file: u32,
+    step: u64,
+) -> Result<u32, RunEnd>
+    requires ready { IsReady setting.now }
+    requires runs { world.old.program ≡ setting.now.program.now }
+    requires starts { StartsAt setting.now node place.now }
+    requires reads { IsCall (plain_act place.now.statement.now.act.now) (call.Read file) }
+    requires live { AreOpen (F.state files.old) inputs.old }
+    requires placed { ArePlaced (paths_of setting.now) (F.state files.old) inputs.old world.old.world.files }
+    ensures kept { world.new.program ≡ world.old.program }
+    ensures tracks { Tracks (F.state files.old) (F.state files.new) inputs.old inputs.new }
+    ensures same { known_bytes (F.state files.new) ≡ known_bytes (F.state files.old) }
+    ensures placed { IfOk result (λ _. ArePlaced (paths_of setting.now) (F.state files.new) inputs.new
+        world.new.world.files) }
+    ensures takes { (sink : SinkState) (budget steps : ℕ) (start : Outside) → step ≡ steps + 1 → steps < budget
+        → Stands (program_of setting.now) setting.now.graph.now (paths_of setting.now) start
+        (outside (F.state files.old) sink) world.old.world steps steps node
+        → Arrives (program_of setting.now) setting.now.graph.now (paths_of setting.now) budget start
+        (outside (F.state files.new) sink) world.new.world step result }
+{
+    let Op::Read { .. } = place.plan_node.op else {
+        return Err(RunEnd::Memory);
+    };
+    match read_so_far(world, file) {
+        None => do_part(alloc, setting, place, world, step),
+        Some(before) => do_window(
+            alloc, setting, files, inputs, world, place, file, before, step,
+        ),
+    }
+}
