@@ -60,3 +60,34 @@ pub missing_item : (l : Layout) (place : ℕ) (places : List ℕ) → item_at l 
 missing_item l place places e =
     nothing_written l places
     ∙ ap (λ o. are_written l (option_map_or (λ (i : Item). bytes i.offset i.length ∷ []) o []) places) (sym e)
+
+-- ---- what was written to by more parts
+
+or_swapped : (a b : Bool) → (a || b) ≡ (b || a)
+or_swapped true true = refl
+or_swapped true false = refl
+or_swapped false true = refl
+or_swapped false false = refl
+
+or_parted : (a b c d : Bool) → ((a || b) || (c || d)) ≡ ((a || c) || (b || d))
+or_parted true b c d = refl
+or_parted false true true d = refl
+or_parted false true false d = refl
+or_parted false false c d = refl
+
+module _ (l : Layout) (bs wrote : List Bytes) where
+  item_more : (place : ℕ) → is_written l (bs ++ wrote) place ≡ (is_written l wrote place || is_written l bs place)
+  item_more place = at (item_at l place)
+    where
+      shares : Item → Bytes → Bool
+      shares i b = share_bytes b.offset b.count i.offset i.length
+
+      at : (o : Option Item) → option_map_or (λ i. list_any (shares i) (bs ++ wrote)) o false ≡ (option_map_or (λ i. list_any (shares i) wrote) o false || option_map_or (λ i. list_any (shares i) bs) o false)
+      at None = refl
+      at (Some i) = list_any-append (shares i) bs wrote ∙ or_swapped (list_any (shares i) bs) (list_any (shares i) wrote)
+
+  pub written_more : (places : List ℕ) → are_written l (bs ++ wrote) places ≡ (are_written l wrote places || are_written l bs places)
+  written_more [] = refl
+  written_more (place ∷ places) =
+      (λ i. item_more place i || written_more places i)
+      ∙ or_parted (is_written l wrote place) (is_written l bs place) (are_written l wrote places) (are_written l bs places)

@@ -7,3 +7,4 @@ pub mod Walked
 pub mod Changed
 pub mod Related
 pub mod Stepped
+pub mod WalkSteps

@@ -63,7 +63,7 @@ module _ (p : Program) (a : Act) (x : Action) where
   change_same (guard_count n wanted) s wrote pack m h = refl
 
   module _ (packs : List Pack) where
-    trim2 : Seen × Seen2 → Seen × Seen2
+    abbrev trim2 : Seen × Seen2 → Seen × Seen2
     trim2 t = (trim t.0, t.1)
 
     changed_same : (y : Part) (s : Seen) (r : Seen2) → IsSmallPart p a x y → changed p a x packs y (trim s) r ≡ changed p a x packs y s r
@@ -71,7 +71,7 @@ module _ (p : Program) (a : Act) (x : Action) where
         ap (λ (ms : List (List ℤ)). record { wrote = written_by p a x y ++ r.wrote; packs = ms })
         (each_same (changed_pack p a x y (trim s) r.wrote) (changed_pack p a x y s r.wrote) (λ pack m. change_same y s r.wrote pack m h) packs r.packs)
 
-    closed_to : Seen2 → Seen → Option (Seen × Seen2)
+    abbrev closed_to : Seen2 → Seen → Option (Seen × Seen2)
     closed_to c t = all_closed p t.cells packs c.packs >>= λ ms. Some (t, with_packs c ms)
 
     step2_same : (y : Part) (s : Seen) (r : Seen2) → IsSmallPart p a x y → step2_small p packs a x y (trim s) r ≡ option_map trim2 (step2 p a x packs y s r)

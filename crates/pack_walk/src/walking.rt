@@ -1,5 +1,5 @@
 //! The walk over the parts of an edge.
-ghost use Rattle.std.specs.Prelude.{◌≡◌, ◌≤◌, ◌<◌, ◌&&◌, ◌++◌, not, true, false, length, List, slice_get, Some, None, IsTrue, if◌then◌else◌};
+ghost use Rattle.std.specs.Prelude.{◌≡◌, ◌≤◌, ◌<◌, ◌&&◌, ◌||◌, ◌++◌, not, true, false, length, List, slice_get, Some, None, IsTrue, if◌then◌else◌};
 ghost use Rattle.std.specs.List.{AllByRecursion};
 ghost use Rattle.cob_program.specs.ActView.{plain_stmt, plain_program};
 ghost use Rattle.cob_edge_parts.specs.Parts.{is_handled};
@@ -37,6 +37,20 @@ fn writes(program: &Program, statement: &Stmt, action: Action, part: EdgePart) -
         (edge_items (act_in (plain_stmt statement.now)) action) }
 {
     writes_operands(program, &statement.act, action, part)
+}
+
+// whether it, or an earlier part, does
+fn written_behind(
+    program: &Program,
+    statement: &Stmt,
+    action: Action,
+    part: EdgePart,
+    written: bool,
+) -> bool
+    ensures { result ≡ (written || are_written program.now.layout (part_bytes program.now.layout (plain_part part.entry))
+        (edge_items (act_in (plain_stmt statement.now)) action)) }
+{
+    written || writes(program, statement, action, part)
 }
 
 // Leads the matrices over a part that the row has passed. Answers false where a cycle is negative behind it.
@@ -151,7 +165,7 @@ pub(crate) fn step(
         None => false,
         Some(part) => {
             let wrote = *written;
-            *written = wrote || writes(program, statement, action, part);
+            *written = written_behind(program, statement, action, part, wrote);
             step_over(program, cells, statement, action, number, part, plans, row, kept, wrote, out)
         }
     }
