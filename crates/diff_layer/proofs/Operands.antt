@@ -52,7 +52,7 @@ small_prop p (guard_count n wanted) = Unit-prop
 module _ (p : Program) (n : ℕ) (a : Act) (x : Action) where
   is_of_edge : (done : List Part) (y : Part) → IsInPlace n a x done y → IsSmall p y → IsOfEdge p a x y
   is_of_edge done (store place mode y) stands small = record { operands = its_amount p n a x done place y stands; small = small }
-  is_of_edge done (set_count m y) stands small = counts_amount p n a x a x y stands.1.0
+  is_of_edge done (set_count m y) stands small = counts_amount p n a x a x y stands.1
   is_of_edge done (read place) stands small = tt
   is_of_edge done unread stands small = tt
   is_of_edge done (divide d) stands small = tt
