@@ -8,3 +8,4 @@ pub mod Changed
 pub mod Related
 pub mod Stepped
 pub mod WalkSteps
+pub mod SourceOperands

@@ -73,6 +73,22 @@ begins_at p cells plans y x row kept out is few fits matrices begins = record {
   told = nothing_written p.layout (edge_items (act_in y) x);
 }
 
+module _ (p : Program) (cells : List Cell) (plans : List PackPlan) (y : Stmt) (x : Action) (row : List ℤ) (kept : Kept) (out : List ℤ)
+    (is : IsRowOf p cells row) (few : length row ≤ 1025) (fits : CellsFit (owns p) (cells_of row)) (matrices : IsRowFor plans out) (begins : seen row kept ≡ beginning (cells_of row)) where
+  pub walk_begins : IsWalkedTo p cells plans y x (cells_of row) (matrices_for plans out) 0 row kept false out
+  unfolding begins_at
+  walk_begins = record {
+    at = begins_at p cells plans y x row kept out is few fits matrices begins;
+    same = ap (λ s. steps2_small p (plain_plans plans) (act_in y) x (edge_parts p y x) s (beginning2 (matrices_for plans out))) begins;
+  }
+
+  pub clear_begins : (fault : Kind) → IsClearTo p cells plans y x (cells_of row) (matrices_for plans out) fault 0 row kept false out
+  unfolding begins_at
+  clear_begins fault = record {
+    at = begins_at p cells plans y x row kept out is few fits matrices begins;
+    same = ap (λ s. clears_all2 p (plain_plans plans) (act_in y) x (edge_parts p y x) s (beginning2 (matrices_for plans out)) fault) begins;
+  }
+
 module _ (p : Program) (cells : List Cell) (plans : List PackPlan) (y : Stmt) (x : Action) where
   -- ---- over a part
 
@@ -110,6 +126,7 @@ module _ (p : Program) (cells : List Cell) (plans : List PackPlan) (y : Stmt) (x
 
       pub walks_on : Now → b ≡ true → WritesTo k written written2 → IsRowOf p cells row2 → length row2 ≤ 1025 → CanStep p (act_in y) x (seen row2 kept2) → IsRowFor plans out2 →
           IsWalkedTo p cells plans y x first firsts (k + 1) row2 kept2 written2 out2
+      unfolding next_at
       walks_on now e writes is few can matrices = record {
         at = next_at now.at writes is few can matrices;
         same =
@@ -132,6 +149,7 @@ module _ (p : Program) (cells : List Cell) (plans : List PackPlan) (y : Stmt) (x
 
         pub clears_on : (now : Clear) → its_clear now ≡ true → b ≡ true → WritesTo k written written2 → IsRowOf p cells row2 → length row2 ≤ 1025 → CanStep p (act_in y) x (seen row2 kept2) → IsRowFor plans out2 →
             IsClearTo p cells plans y x first firsts fault (k + 1) row2 kept2 written2 out2
+        unfolding next_at
         clears_on now clear e writes is few can matrices = record {
           at = next_at now.at writes is few can matrices;
           same =

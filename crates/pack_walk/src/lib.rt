@@ -3,6 +3,7 @@
 #![tactic(auto)]
 
 mod changing;
+mod clearing;
 mod closing;
 mod counters;
 mod ends;
@@ -13,6 +14,7 @@ mod stores;
 mod walking;
 mod writing;
 
+pub use clearing::packs_clear;
 pub use closing::close_all;
 pub use plans::PackPlan;
 pub use walking::walk_packs;
