@@ -64,9 +64,10 @@ module _ (p : Program) (n : ℕ) (a : Act) (x : Action) where
 
   are_of_edge : (done rest : List Part) → done ++ rest ≡ parts_of p n a x → AllByRecursion (IsSmall p) rest → AllByRecursion (IsOfEdge p a x) rest
   are_of_edge done [] split small = tt
-  are_of_edge done (y ∷ rest) split small =
-      (is_of_edge done y (parts_are_in_place p n a x done rest y split) small.0,
-      are_of_edge (done ++ y ∷ []) rest (append_assoc done (y ∷ []) rest ∙ split) small.1)
+  are_of_edge done (y ∷ rest) split small = (
+    is_of_edge done y (parts_are_in_place p n a x done rest y split) small.0,
+    are_of_edge (done ++ y ∷ []) rest (append_assoc done (y ∷ []) rest ∙ split) small.1,
+  )
 
 of_statement : (p : Program) (y : Stmt) (x : Action) → AllByRecursion (IsSmall p) (edge_parts p y x) → AllByRecursion (IsOfEdge p (act_in y) x) (edge_parts p y x)
 of_statement p (MkStmt n line a) x small = are_of_edge p n a x [] (parts_of p n a x) refl small
