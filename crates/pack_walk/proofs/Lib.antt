@@ -11,3 +11,4 @@ pub mod WalkSteps
 pub mod SourceOperands
 pub mod Nearness
 pub mod Divisors
+pub mod Cleared

@@ -1,5 +1,5 @@
 -- Which faults of a part the matrices show not to be met, where the first layer doesn't.
-use Rattle.std.specs.Prelude.{ℕ, ◌||◌, ◌&&◌, not, Bool, true, false, List, ℤ, neg_ℤ, int_le, Option, Some, None}
+use Rattle.std.specs.Prelude.{ℕ, ◌||◌, ◌&&◌, not, if◌then◌else◌, Bool, true, false, List, ℤ, neg_ℤ, int_le, Option, Some, None}
 use Rattle.std.specs.Option.{option_map_or}
 use Rattle.dec_num.specs.declared.types.Mode.{Mode}
 use Rattle.dec_num.specs.declared.types.Mode.TheVariants.{Trunc}
@@ -10,7 +10,7 @@ use Rattle.cob_program.specs.Sum.{Atom}
 use Rattle.cob_program.specs.Act.{Act, Program}
 use Rattle.cob_runs.specs.declared.action.Action.{Action}
 use Rattle.cob_runs.specs.Contents.{form_at}
-use Rattle.cob_edge_parts.specs.Parts.{Amount, remaining, Part, divide, store, set_count, count_down}
+use Rattle.cob_edge_parts.specs.Parts.{Amount, Part, divide, store, set_count, count_down}
 use Rattle.result_ranges.specs.declared.amounts.Taken.{Taken}
 use Rattle.result_ranges.specs.declared.amounts.Receiver.{Receiver}
 use Rattle.result_ranges.specs.declared.amounts.AmountRange.{AmountRange}
@@ -21,6 +21,7 @@ use Rattle.cell_amounts.specs.Working.{amount_from}
 use Rattle.cell_rows.specs.Known.{Known}
 use Rattle.cell_storages.specs.Homes.{of_count, homes_of}
 use Rattle.cell_steps.specs.Cells.{units_of}
+use Rattle.cell_steps.specs.Operands.{is_remainder}
 use Rattle.cell_steps.specs.Seen.{Seen}
 use Rattle.cell_steps.specs.Stores.{range_at}
 use Rattle.cell_walk.specs.Walks.{with_taken_small}
@@ -65,10 +66,11 @@ module _ (p : Program) (known : List Known) (common : Option Taken) (wrote : Lis
 
 -- A store where its operands are taken. A remainder has no form.
 module _ (p : Program) (packs : List Pack) (a : Act) (x : Action) where
+  abbrev pub taken_shown : ℕ → Mode → Amount → Seen → Seen2 → Bool
+  taken_shown place mode y t r = store_shown p (with_taken_small p a x t).cells (with_taken_small p a x t).common r.wrote place mode y packs r.packs
+
   abbrev pub store_cleared : ℕ → Mode → Amount → Seen → Seen2 → Bool
-  store_cleared place mode (remaining s scale) t r = false
-  store_cleared place mode y t r =
-      store_shown p (with_taken_small p a x t).cells (with_taken_small p a x t).common r.wrote place mode y packs r.packs
+  store_cleared place mode y t r = if is_remainder y then false else taken_shown place mode y t r
 
   -- where the count is sent
   abbrev pub set_cleared : Part → Seen → Seen2 → Bool

@@ -27,7 +27,7 @@ ghost use Rattle.diff_steps.specs.Clearing.{some_pack};
 ghost use Rattle.diff_steps.specs.Moments.{Bytes};
 ghost use Rattle.diff_steps.specs.Packs.{size_of};
 ghost use Rattle.pack_forms.specs.Writing.{amount_items, are_written};
-ghost use Rattle.pack_walk.specs.Clears.{divisor_apart, both_shown, range_shown, amount_shown, store_shown, count_shown, store_cleared, set_cleared, down_cleared, part_cleared, IsSetCount};
+ghost use Rattle.pack_walk.specs.Clears.{divisor_apart, both_shown, range_shown, amount_shown, store_shown, count_shown, taken_shown, store_cleared, set_cleared, down_cleared, part_cleared, IsSetCount};
 ghost use Rattle.pack_walk.specs.Parts.{CanChange, IsOfEdge, IsStoreOf, IsWrittenTo};
 ghost use Rattle.pack_walk.specs.Plans.{plain_plan, plain_plans, IsPlanOf, ArePlansOf, matrices_for, IsRowFor};
 ghost use Rattle.pack_walk.specs.Walks.{seen2, clears2_at, statement_clears2};
@@ -38,7 +38,7 @@ use crate::ends::{end_is_shown, high_end_fits, low_end_fits};
 use crate::plans::{PackPlan, view_of, words_for};
 use crate::walking::step;
 use borrowed_parts::{Amount, Divisor, EdgePart, part_at, part_count};
-use cell_amounts::{amount_from, receiver_at};
+use cell_amounts::{amount_from, is_remainder, receiver_at};
 use cell_walk::{Kept, KnownItems, clears_part, count_units, item_range, with_operands};
 use cob_program::{Act, Program, Stmt};
 use cob_runs::{Action, Cell};
@@ -368,7 +368,36 @@ fn set_fits(
     }
 }
 
-// ---- parts
+// whether a store fits, where its operands are taken
+fn taken_fits(
+    program: &Program,
+    cells: &[Cell],
+    row: &[i128],
+    act: &Act,
+    action: Action,
+    plans: &[PackPlan],
+    out: &[i128],
+    place: u32,
+    mode: Mode,
+    amount: Amount,
+    kept: &Kept,
+    written: bool,
+) -> bool
+    requires row { IsRowOf (plain_program program.now) cells.now row.now }
+    requires small { IsSmallStore (plain_program program.now) (plain_act act.now) action place (plain_amount amount) }
+    requires of_edge { IsStoreOf (plain_program program.now) (plain_act act.now) action (plain_amount amount) }
+    requires can { CanStep (plain_program program.now) (plain_act act.now) action (seen row.now kept.now) }
+    requires plans { ArePlansOf (plain_program program.now) plans.now }
+    requires matrices { IsRowFor plans.now out.now }
+    ensures { (wrote : List Bytes) → written ≡ are_written program.now.layout wrote (amount_items (plain_amount amount.entry))
+        → result ≡ taken_shown (plain_program program.now) (plain_plans plans.now) (plain_act act.now) action place mode (plain_amount amount.entry)
+            (seen row.now kept.now) (seen2 wrote (matrices_for plans.now out.now)) }
+{
+    let moment = with_operands(program, cells, row, act, action, kept);
+    store_fits(
+        program, cells, row, act, action, plans, out, place, mode, amount, &moment, written,
+    )
+}
 
 // whether a store's fault is not met, where the first layer doesn't show it
 fn store_clears(
@@ -395,16 +424,15 @@ fn store_clears(
         → result ≡ store_cleared (plain_program program.now) (plain_plans plans.now) (plain_act act.now) action place mode (plain_amount amount.entry)
             (seen row.now kept.now) (seen2 wrote (matrices_for plans.now out.now)) }
 {
-    match amount {
-        Amount::Remaining(_, _) => false,
-        Amount::Moved(_) | Amount::Computed(_, _) | Amount::Augmented(_) => {
-            let moment = with_operands(program, cells, row, act, action, kept);
-            store_fits(
-                program, cells, row, act, action, plans, out, place, mode, amount, &moment, written,
-            )
-        }
+    if is_remainder(amount) {
+        return false;
     }
+    taken_fits(
+        program, cells, row, act, action, plans, out, place, mode, amount, kept, written,
+    )
 }
+
+// ---- parts
 
 fn set_clears(
     program: &Program,
