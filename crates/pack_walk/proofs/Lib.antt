@@ -9,3 +9,6 @@ pub mod Related
 pub mod Stepped
 pub mod WalkSteps
 pub mod SourceOperands
+pub mod Nearness
+pub mod Divisors
+pub mod Cleared

@@ -1,5 +1,5 @@
 -- Rows of packs, a matrix at a time.
-use Rattle.std.proofs.Common.{◌≡◌, ◌≤◌, ℕ, ◌+◌, ◌*◌, ◌-◌, List, [], ◌∷◌, ◌++◌, length, length-append, take, drop, map, get_or, ℤ, Bool, true, false, if◌then◌else◌, Option, Some, None, refl, sym, ap, subst, ◌∙◌, take_all, take_at, drop_at, length-take-le, take-append-drop, arith}
+use Rattle.std.proofs.Common.{◌≡◌, ◌≤◌, ℕ, ◌+◌, ◌*◌, ◌-◌, List, [], ◌∷◌, ◌++◌, length, length-append, take, drop, map, get_or, ℤ, Bool, true, false, ◌||◌, if◌then◌else◌, Option, Some, None, refl, sym, ap, subst, ◌∙◌, take_all, take_at, drop_at, length-take-le, take-append-drop, arith}
 use Rattle.cob_program.specs.Values.{◌>>=◌}
 use Rattle.cob_program.specs.Act.{Program}
 use Rattle.diff_bounds.specs.Matrix.{IsMatrix}
@@ -7,6 +7,7 @@ use Rattle.cell_rows.specs.Known.{Known}
 use Rattle.cell_storages.specs.Homes.{homes_of}
 use Rattle.diff_steps.specs.Matrices.{put_closed}
 use Rattle.diff_steps.specs.Steps.{each_pack, all_closed}
+use Rattle.diff_steps.specs.Clearing.{some_pack}
 use Rattle.diff_steps.specs.Packs.{Pack, size_of}
 use Rattle.pack_edges.specs.Agreeing.{AreMatrices}
 use Rattle.pack_rows.specs.Rows.{words_of, width_of, matrices_in}
@@ -104,6 +105,22 @@ module _ (plans : List PackPlan) (plan : PackPlan) (some : 1 ≤ length plans) (
 
   pub other_rows : IsRowFor others back
   other_rows = subst (IsRowFor others) (sym second) (rest_row plan others row its_row)
+
+  -- ---- shown by some pack
+
+  shown_split : (f : Pack → List ℤ → Bool) → (f (plain_plan plan) front || some_pack f (plain_plans others) (matrices_for others back)) ≡ some_pack f (plain_plans plans) (matrices_for plans row)
+  shown_split f =
+      (λ i. f (plain_plan plan) (first i) || some_pack f (plain_plans others) (matrices_for others (second i)))
+      ∙ ap (λ (ps : List PackPlan). some_pack f (plain_plans ps) (matrices_for ps row)) (sym are)
+
+  pub shown_first : (f : Pack → List ℤ → Bool) (b : Bool) → b ≡ f (plain_plan plan) front → b ≡ true → b ≡ some_pack f (plain_plans plans) (matrices_for plans row)
+  shown_first f b e so =
+      so ∙ (ap (λ c. c || some_pack f (plain_plans others) (matrices_for others back)) (sym so ∙ e) ∙ shown_split f)
+
+  pub shown_later : (f : Pack → List ℤ → Bool) (b c : Bool) → b ≡ f (plain_plan plan) front → b ≡ false → c ≡ some_pack f (plain_plans others) (matrices_for others back)
+      → c ≡ some_pack f (plain_plans plans) (matrices_for plans row)
+  shown_later f b c e so g =
+      g ∙ (ap (λ d. d || some_pack f (plain_plans others) (matrices_for others back)) (sym so ∙ e) ∙ shown_split f)
 
   module _ (m out : List ℤ) (wide : length m ≡ length front) where
     pub rows_together : IsMatrix (size_of (plain_plan plan)) m → IsRowFor others out → IsRowFor plans (m ++ out)

@@ -24,6 +24,7 @@ use Rattle.diff_steps.specs.Steps.{each_pack, all_closed, changed_pack, changed,
 use Rattle.pack_forms.specs.Sizes.{HasSmallTop}
 use Rattle.pack_forms.specs.Writing.{amount_items, are_written}
 use Rattle.pack_forms.proofs.KeptSmall.{kept_small}
+use Rattle.pack_walk.specs.Clears.{IsSetCount}
 use Rattle.pack_walk.specs.Parts.{IsOfEdge, IsWrittenTo, CanChange, plan_changed}
 use Rattle.pack_walk.specs.Walks.{seen2, passed_to, step2_small}
 use Rattle.pack_walk.specs.Writing.{edge_items, items_of_amount, part_bytes}
@@ -128,3 +129,15 @@ module _ (p : Program) (a : Act) (x : Action) where
 pub step_there : (p : Program) (y : Stmt) (x : Action) (k : ℕ) (part : Part) (s : Seen) (o : Option Seen) → slice_get (edge_parts p y x) k ≡ Some part → step_at p y x k s ≡ o →
     step_small p (act_in y) x part s ≡ o
 step_there p y x k part s o there e = sym (ap (λ (q : Option Part). q >>= λ z. step_small p (act_in y) x z s) there) ∙ e
+
+pub set_can : (p : Program) (known : List Known) (common : Option Taken) (y : Part) → IsSetCount y → IfSome common HasSmallTop → CanChange p known common y
+set_can p known common (set_count n z) is top = top
+set_can p known common (read place) is top = absurd is
+set_can p known common unread is top = absurd is
+set_can p known common (divide d) is top = absurd is
+set_can p known common (store place mode y) is top = absurd is
+set_can p known common (bytes_in offset count) is top = absurd is
+set_can p known common (guard t wanted) is top = absurd is
+set_can p known common (read_count n) is top = absurd is
+set_can p known common (count_down n) is top = absurd is
+set_can p known common (guard_count n wanted) is top = absurd is

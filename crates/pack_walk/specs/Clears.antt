@@ -1,26 +1,31 @@
 -- Which faults of a part the matrices show not to be met, where the first layer doesn't.
-use Rattle.std.specs.Prelude.{ℕ, ◌||◌, ◌&&◌, not, Bool, true, false, List, ℤ, neg_ℤ, int_le, Option, Some, None}
+use Rattle.std.specs.Prelude.{ℕ, ◌||◌, ◌&&◌, not, if◌then◌else◌, Bool, true, false, List, ℤ, neg_ℤ, int_le, Option, Some, None}
 use Rattle.std.specs.Option.{option_map_or}
 use Rattle.dec_num.specs.declared.types.Mode.{Mode}
 use Rattle.dec_num.specs.declared.types.Mode.TheVariants.{Trunc}
 use Rattle.decimal_interval.specs.declared.bounds.Interval.{Interval}
+use Rattle.cob_tree.specs.declared.fault.Kind.{Kind}
+use Rattle.cob_tree.specs.declared.fault.Kind.TheVariants as kind
 use Rattle.cob_program.specs.Sum.{Atom}
 use Rattle.cob_program.specs.Act.{Act, Program}
 use Rattle.cob_runs.specs.declared.action.Action.{Action}
 use Rattle.cob_runs.specs.Contents.{form_at}
-use Rattle.cob_edge_parts.specs.Parts.{Amount, remaining, Part, store}
+use Rattle.cob_edge_parts.specs.Parts.{Amount, Part, divide, store, set_count, count_down}
 use Rattle.result_ranges.specs.declared.amounts.Taken.{Taken}
 use Rattle.result_ranges.specs.declared.amounts.Receiver.{Receiver}
 use Rattle.result_ranges.specs.declared.amounts.AmountRange.{AmountRange}
 use Rattle.result_ranges.specs.declared.amounts.AmountRange.TheVariants as range
 use Rattle.result_ranges.specs.Receivers.{receiver_of, counter}
-use Rattle.result_ranges.specs.ResultRanges.{most, near_range}
+use Rattle.result_ranges.specs.ResultRanges.{most, near_range, lowered}
 use Rattle.cell_amounts.specs.Working.{amount_from}
 use Rattle.cell_rows.specs.Known.{Known}
+use Rattle.cell_storages.specs.Homes.{of_count, homes_of}
+use Rattle.cell_steps.specs.Cells.{units_of}
+use Rattle.cell_steps.specs.Operands.{is_remainder}
 use Rattle.cell_steps.specs.Seen.{Seen}
 use Rattle.cell_steps.specs.Stores.{range_at}
 use Rattle.cell_walk.specs.Walks.{with_taken_small}
-use Rattle.diff_steps.specs.Clearing.{is_apart_in}
+use Rattle.diff_steps.specs.Clearing.{some_pack, is_apart_in}
 use Rattle.diff_steps.specs.Forms.{has_operands}
 use Rattle.diff_steps.specs.Moments.{Bytes, Seen2}
 use Rattle.diff_steps.specs.Packs.{Pack}
@@ -61,7 +66,31 @@ module _ (p : Program) (known : List Known) (common : Option Taken) (wrote : Lis
 
 -- A store where its operands are taken. A remainder has no form.
 module _ (p : Program) (packs : List Pack) (a : Act) (x : Action) where
+  abbrev pub taken_shown : ℕ → Mode → Amount → Seen → Seen2 → Bool
+  taken_shown place mode y t r = store_shown p (with_taken_small p a x t).cells (with_taken_small p a x t).common r.wrote place mode y packs r.packs
+
   abbrev pub store_cleared : ℕ → Mode → Amount → Seen → Seen2 → Bool
-  store_cleared place mode (remaining s scale) t r = false
-  store_cleared place mode y t r =
-      store_shown p (with_taken_small p a x t).cells (with_taken_small p a x t).common r.wrote place mode y packs r.packs
+  store_cleared place mode y t r = if is_remainder y then false else taken_shown place mode y t r
+
+  -- where the count is sent
+  abbrev pub set_cleared : Part → Seen → Seen2 → Bool
+  set_cleared y t r = count_shown p (with_taken_small p a x t).cells (with_taken_small p a x t).common r.wrote y packs r.packs
+
+module _ (p : Program) (packs : List Pack) where
+  abbrev pub down_cleared : ℕ → Seen → Seen2 → Bool
+  down_cleared n s r =
+      range_shown p s.cells s.common r.wrote (count_down n) Trunc counter packs r.packs (lowered (units_of p.layout (homes_of p) s.cells (of_count n)))
+
+module _ (p : Program) (packs : List Pack) (a : Act) (x : Action) where
+  -- the fault of a part that the first layer doesn't clear
+  abbrev pub part_cleared : Part → Seen → Seen2 → Kind → Bool
+  part_cleared (divide d) s r kind.Zero = some_pack (divisor_apart p s.cells d) packs r.packs
+  part_cleared (store place mode y) s r fault = store_cleared p packs a x place mode y s r
+  part_cleared (set_count n y) s r kind.Size = set_cleared p packs a x (set_count n y) s r
+  part_cleared (count_down n) s r kind.Size = down_cleared p packs n s r
+  part_cleared _ s r fault = false
+
+-- the part sets a counter
+abbrev pub IsSetCount : Part → Type 0
+IsSetCount (set_count n y) = Unit {0}
+IsSetCount _ = ⊥

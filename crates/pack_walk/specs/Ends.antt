@@ -27,6 +27,8 @@ module _ (p : Program) (known : List Known) (common : Option Taken) (wrote : Lis
   part_form (count_down statement) pack = lowered_form p pack (taken_at known common) wrote statement
   part_form y pack = None
 
+  abbrev pub shows_end : Part → Mode → Receiver → Bool → Pack → List ℤ → Bool
+  shows_end y mode r low pack m = end_in_pack (size_of pack) (pack_decimals p.layout pack) m (part_form y pack) mode r low
+
   abbrev pub some_end : Part → Mode → Receiver → Bool → List Pack → List (List ℤ) → Bool
-  some_end y mode r low packs ms =
-      some_pack (λ pack m. end_in_pack (size_of pack) (pack_decimals p.layout pack) m (part_form y pack) mode r low) packs ms
+  some_end y mode r low packs ms = some_pack (shows_end y mode r low) packs ms

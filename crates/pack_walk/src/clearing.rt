@@ -1,5 +1,5 @@
 //! The faults that what is known of cells and of differences before a part shows not to be met there.
-ghost use Rattle.std.specs.Prelude.{◌≡◌, ◌≤◌, ◌<◌, true, length, List, slice_get, Some, IfSome};
+ghost use Rattle.std.specs.Prelude.{◌≡◌, ◌≤◌, ◌<◌, true, length, List, neg_ℤ, int_le, IfSome};
 ghost use Rattle.std.specs.List.{AllByRecursion};
 ghost use Rattle.dec_num.specs.declared.types.Mode.TheVariants.{Trunc};
 ghost use Rattle.cob_program.specs.ActView.{plain_act, plain_stmt, plain_program};
@@ -10,8 +10,10 @@ ghost use Rattle.diff_bounds.specs.Matrix.{IsMatrix};
 ghost use Rattle.edge_sizes.specs.Sizes.{IsSmallPart, IsSmallStore};
 ghost use Rattle.sum_ranges.specs.Sizes.{IsSmallRange};
 ghost use Rattle.result_ranges.specs.Receivers.{counter};
-ghost use Rattle.result_ranges.specs.ResultRanges.{near_range};
+ghost use Rattle.result_ranges.specs.ResultRanges.{near_range, most};
 ghost use Rattle.result_ranges.specs.Sizes.{IsReceiver, IsSmallAmount};
+ghost use Rattle.cell_amounts.specs.Small.{has_small_sum};
+ghost use Rattle.cell_amounts.specs.Working.{CanWork, amount_from as found_amount};
 ghost use Rattle.cell_rows.specs.Elements.{CellsFit};
 ghost use Rattle.cell_rows.specs.Rows.{cells_of};
 ghost use Rattle.cell_storages.specs.Homes.{owns};
@@ -21,12 +23,11 @@ ghost use Rattle.cell_walk.specs.ProgramRows.{IsRowOf};
 ghost use Rattle.cell_walk.specs.Statements.{act_in};
 ghost use Rattle.cell_walk.specs.Walks.{CanStep};
 ghost use Rattle.cell_layer.specs.Edges.{CanWalk};
-ghost use Rattle.cell_steps.specs.Clearing.{clears_part as cell_clears};
-ghost use Rattle.diff_steps.specs.Clearing.{some_pack, clears_part2};
+ghost use Rattle.diff_steps.specs.Clearing.{some_pack};
 ghost use Rattle.diff_steps.specs.Moments.{Bytes};
 ghost use Rattle.diff_steps.specs.Packs.{size_of};
 ghost use Rattle.pack_forms.specs.Writing.{amount_items, are_written};
-ghost use Rattle.pack_walk.specs.Clears.{divisor_apart, both_shown, range_shown, amount_shown, store_shown, count_shown, store_cleared};
+ghost use Rattle.pack_walk.specs.Clears.{divisor_apart, both_shown, range_shown, amount_shown, store_shown, count_shown, taken_shown, store_cleared, set_cleared, down_cleared, part_cleared, IsSetCount};
 ghost use Rattle.pack_walk.specs.Parts.{CanChange, IsOfEdge, IsStoreOf, IsWrittenTo};
 ghost use Rattle.pack_walk.specs.Plans.{plain_plan, plain_plans, IsPlanOf, ArePlansOf, matrices_for, IsRowFor};
 ghost use Rattle.pack_walk.specs.Walks.{seen2, clears2_at, statement_clears2};
@@ -37,7 +38,7 @@ use crate::ends::{end_is_shown, high_end_fits, low_end_fits};
 use crate::plans::{PackPlan, view_of, words_for};
 use crate::walking::step;
 use borrowed_parts::{Amount, Divisor, EdgePart, part_at, part_count};
-use cell_amounts::{amount_from, receiver_at};
+use cell_amounts::{amount_from, is_remainder, receiver_at};
 use cell_walk::{Kept, KnownItems, clears_part, count_units, item_range, with_operands};
 use cob_program::{Act, Program, Stmt};
 use cob_runs::{Action, Cell};
@@ -46,7 +47,7 @@ use dec_num::Mode;
 use decimal_interval::Interval;
 use pack_changes::is_apart;
 use pack_forms::{divisor_form, has_operands};
-use result_ranges::{AmountRange, Receiver, lowered};
+use result_ranges::{AmountRange, Receiver, Taken, lowered};
 use sum_ranges::Ranged;
 
 // the greatest number of a counter
@@ -203,12 +204,22 @@ fn amount_fits(
     }
 }
 
-fn own_range(program: &Program, cells: &[Cell], row: &[i128], place: u32) -> Ranged
+// what a receiver is to get
+fn amount_for(
+    program: &Program,
+    cells: &[Cell],
+    row: &[i128],
+    place: u32,
+    amount: Amount,
+    common: Option<Taken>,
+) -> Option<AmountRange>
     requires row { IsRowOf (plain_program program.now) cells.now row.now }
-    requires small { is_small (bound_at program.now.layout place) ≡ true }
-    ensures { result ≡ range_at (plain_program program.now) (cells_of row.now) place }
+    requires own { is_small (bound_at program.now.layout place) ≡ true }
+    requires can { IfSome common (CanWork (plain_amount amount) (range_at (plain_program program.now) (cells_of row.now) place)) }
+    ensures { result ≡ found_amount common (plain_amount amount.entry) (range_at (plain_program program.now) (cells_of row.now) place) }
 {
-    item_range(program, cells, row, place)
+    let own = item_range(program, cells, row, place);
+    amount_from(amount, own, common)
 }
 
 // whether a store fits that the first layer doesn't show to fit; no run comes to one whose operands have no range
@@ -245,7 +256,7 @@ fn store_fits(
     if !has_operands(&items, amount, written) {
         return true;
     }
-    let found = amount_from(amount, own_range(program, cells, row, place), kept.common);
+    let found = amount_for(program, cells, row, place, amount, kept.common);
     let part = EdgePart::Store {
         item: place,
         mode,
@@ -258,6 +269,28 @@ fn store_fits(
 }
 
 // ---- counters
+
+fn counter() -> Receiver
+    ensures { result ≡ counter }
+{
+    Receiver {
+        digits: 18,
+        scale: 0,
+        signed: true,
+    }
+}
+
+fn is_not_above(units: Interval) -> bool
+    ensures { result ≡ int_le units.high (most 18) }
+{
+    units.high <= LARGEST
+}
+
+fn is_not_below(units: Interval) -> bool
+    ensures { result ≡ int_le (neg_ℤ (most 18)) units.low }
+{
+    -LARGEST <= units.low
+}
 
 // whether a number of an interval fits a counter
 fn counter_fits(
@@ -280,13 +313,9 @@ fn counter_fits(
         → result ≡ range_shown (plain_program program.now) (cells_of row.now) kept.now.common wrote (plain_part part.entry) Trunc counter
             (plain_plans plans.now) (matrices_for plans.now out.now) units }
 {
-    let receiver = Receiver {
-        digits: 18,
-        scale: 0,
-        signed: true,
-    };
-    let high = units.high <= LARGEST;
-    let low = -LARGEST <= units.low;
+    let receiver = counter();
+    let high = is_not_above(units);
+    let low = is_not_below(units);
     ends_fit(
         program,
         cells,
@@ -339,7 +368,36 @@ fn set_fits(
     }
 }
 
-// ---- parts
+// whether a store fits, where its operands are taken
+fn taken_fits(
+    program: &Program,
+    cells: &[Cell],
+    row: &[i128],
+    act: &Act,
+    action: Action,
+    plans: &[PackPlan],
+    out: &[i128],
+    place: u32,
+    mode: Mode,
+    amount: Amount,
+    kept: &Kept,
+    written: bool,
+) -> bool
+    requires row { IsRowOf (plain_program program.now) cells.now row.now }
+    requires small { IsSmallStore (plain_program program.now) (plain_act act.now) action place (plain_amount amount) }
+    requires of_edge { IsStoreOf (plain_program program.now) (plain_act act.now) action (plain_amount amount) }
+    requires can { CanStep (plain_program program.now) (plain_act act.now) action (seen row.now kept.now) }
+    requires plans { ArePlansOf (plain_program program.now) plans.now }
+    requires matrices { IsRowFor plans.now out.now }
+    ensures { (wrote : List Bytes) → written ≡ are_written program.now.layout wrote (amount_items (plain_amount amount.entry))
+        → result ≡ taken_shown (plain_program program.now) (plain_plans plans.now) (plain_act act.now) action place mode (plain_amount amount.entry)
+            (seen row.now kept.now) (seen2 wrote (matrices_for plans.now out.now)) }
+{
+    let moment = with_operands(program, cells, row, act, action, kept);
+    store_fits(
+        program, cells, row, act, action, plans, out, place, mode, amount, &moment, written,
+    )
+}
 
 // whether a store's fault is not met, where the first layer doesn't show it
 fn store_clears(
@@ -366,15 +424,62 @@ fn store_clears(
         → result ≡ store_cleared (plain_program program.now) (plain_plans plans.now) (plain_act act.now) action place mode (plain_amount amount.entry)
             (seen row.now kept.now) (seen2 wrote (matrices_for plans.now out.now)) }
 {
-    match amount {
-        Amount::Remaining(_, _) => false,
-        Amount::Moved(_) | Amount::Computed(_, _) | Amount::Augmented(_) => {
-            let moment = with_operands(program, cells, row, act, action, kept);
-            store_fits(
-                program, cells, row, act, action, plans, out, place, mode, amount, &moment, written,
-            )
-        }
+    if is_remainder(amount) {
+        return false;
     }
+    taken_fits(
+        program, cells, row, act, action, plans, out, place, mode, amount, kept, written,
+    )
+}
+
+// ---- parts
+
+fn set_clears(
+    program: &Program,
+    cells: &[Cell],
+    row: &[i128],
+    act: &Act,
+    action: Action,
+    part: EdgePart,
+    plans: &[PackPlan],
+    out: &[i128],
+    kept: &Kept,
+    written: bool,
+) -> bool
+    requires row { IsRowOf (plain_program program.now) cells.now row.now }
+    requires sum { has_small_sum (bound_at program.now.layout) (plain_act act.now) ≡ true }
+    requires can { CanStep (plain_program program.now) (plain_act act.now) action (seen row.now kept.now) }
+    requires sets { IsSetCount (plain_part part) }
+    requires plans { ArePlansOf (plain_program program.now) plans.now }
+    requires matrices { IsRowFor plans.now out.now }
+    ensures { (wrote : List Bytes) → IsWrittenTo program.now.layout wrote written (plain_part part.entry)
+        → result ≡ set_cleared (plain_program program.now) (plain_plans plans.now) (plain_act act.now) action (plain_part part.entry)
+            (seen row.now kept.now) (seen2 wrote (matrices_for plans.now out.now)) }
+{
+    let moment = with_operands(program, cells, row, act, action, kept);
+    set_fits(program, cells, row, plans, out, part, &moment, written)
+}
+
+fn down_clears(
+    program: &Program,
+    cells: &[Cell],
+    row: &[i128],
+    number: u32,
+    plans: &[PackPlan],
+    out: &[i128],
+    kept: &Kept,
+    written: bool,
+) -> bool
+    requires row { IsRowOf (plain_program program.now) cells.now row.now }
+    requires fits { CellsFit (owns (plain_program program.now)) (cells_of row.now) }
+    requires plans { ArePlansOf (plain_program program.now) plans.now }
+    requires matrices { IsRowFor plans.now out.now }
+    ensures { (wrote : List Bytes) → result ≡ down_cleared (plain_program program.now) (plain_plans plans.now) number
+        (seen row.now kept.now) (seen2 wrote (matrices_for plans.now out.now)) }
+{
+    let units = lowered(count_units(program, cells, row, number));
+    let part = EdgePart::CountDown(number);
+    counter_fits(program, cells, row, plans, out, part, kept, written, units)
 }
 
 // whether the fault of a part is not met, where the first layer doesn't show it
@@ -398,27 +503,27 @@ fn is_shown(
     requires plans { ArePlansOf (plain_program program.now) plans.now }
     requires matrices { IsRowFor plans.now out.now }
     ensures { (wrote : List Bytes) → IsWrittenTo program.now.layout wrote written (plain_part part.entry)
-        → cell_clears (plain_program program.now) (plain_act act.now) action (plain_part part.entry) (seen row.now kept.now) fault ≡ false
-        → result ≡ clears_part2 (plain_program program.now) (plain_plans plans.now) (plain_act act.now) action (plain_part part.entry)
+        → result ≡ part_cleared (plain_program program.now) (plain_plans plans.now) (plain_act act.now) action (plain_part part.entry)
             (seen row.now kept.now) (seen2 wrote (matrices_for plans.now out.now)) fault }
 {
     match part {
-        EdgePart::Divide(divisor) => {
-            matches!(fault, Kind::Zero) && is_apart_in_some(program, cells, row, plans, out, divisor)
-        }
+        EdgePart::Divide(divisor) => match fault {
+            Kind::Zero => is_apart_in_some(program, cells, row, plans, out, divisor),
+            Kind::Size | Kind::Class | Kind::Truncation => false,
+        },
         EdgePart::Store { item, mode, amount } => store_clears(
             program, cells, row, act, action, plans, out, item, mode, amount, kept, written,
         ),
-        EdgePart::SetCount { .. } => {
-            let moment = with_operands(program, cells, row, act, action, kept);
-            matches!(fault, Kind::Size)
-                && set_fits(program, cells, row, plans, out, part, &moment, written)
-        }
-        EdgePart::CountDown(number) => {
-            let units = lowered(count_units(program, cells, row, number));
-            matches!(fault, Kind::Size)
-                && counter_fits(program, cells, row, plans, out, part, kept, written, units)
-        }
+        EdgePart::SetCount { .. } => match fault {
+            Kind::Size => set_clears(
+                program, cells, row, act, action, part, plans, out, kept, written,
+            ),
+            Kind::Zero | Kind::Class | Kind::Truncation => false,
+        },
+        EdgePart::CountDown(number) => match fault {
+            Kind::Size => down_clears(program, cells, row, number, plans, out, kept, written),
+            Kind::Zero | Kind::Class | Kind::Truncation => false,
+        },
         EdgePart::Read(_)
         | EdgePart::Unread
         | EdgePart::Bytes { .. }

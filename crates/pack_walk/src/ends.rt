@@ -78,8 +78,8 @@ fn end_fits(
     low: bool,
 ) -> bool
     requires size { size ≤ 8 }
-    requires m { IsMatrix (length pack.now.cells.now) m.now }
-    requires form { IfSome form (IsFormOf (length pack.now.cells.now)) }
+    requires m { IsMatrix size m.now }
+    requires form { IfSome form (IsFormOf size) }
     requires digits { receiver.digits ≤ 18 }
     requires scale { receiver.scale ≤ 18 }
     requires decimals { decimals ≤ 18 }
