@@ -1,19 +1,20 @@
 -- Matrices of bounds, bound by bound and pack by pack.
-use Rattle.std.proofs.Common.{◌≡◌, ℕ, ◌+◌, ◌-◌, ◌*◌, ◌/◌, ◌%◌, ◌<◌, ◌≤◌, Bool, true, false, ◌&&◌, ◌==◌, List, [], ◌∷◌, length, take, drop, get_or, set, ℤ, pos, inl, inr, refl, sym, ap, subst, ◌∙◌, arith, length-set, get_or-set_same, get_or-set_other}
-use Rattle.std.specs.Prelude.{nat_eq}
+use Rattle.std.proofs.Common.{◌≡◌, ◌≢◌, ℕ, replicate, ◌+◌, ◌-◌, ◌*◌, ◌/◌, ◌%◌, ◌<◌, ◌≤◌, Bool, true, false, ◌&&◌, ◌==◌, List, [], ◌∷◌, length, take, drop, get_or, set, ℤ, pos, inl, inr, refl, sym, ap, subst, ◌∙◌, arith, length-set, get_or-set_same, get_or-set_other}
+use Rattle.std.specs.Prelude.{nat_eq, if◌then◌else◌}
 use Rattle.std.specs.List.{AllByRecursion}
 use Rattle.std.proofs.lemmas.Bool.{cases_eq, eqb-true, eq-eqb, ne_eqb}
-use Rattle.std.proofs.lemmas.Nat.{div-mul-add, mod-mul-add, div-add-mod'}
-use Rattle.std.proofs.lemmas.List.{take_all, drop_more}
+use Rattle.std.proofs.lemmas.Nat.{div-mul-add, mod-mul-add, div-add-mod', mod_below}
+use Rattle.std.proofs.lemmas.List.{take_all, drop_more, length-replicate, get_or-replicate}
 use Rattle.std.proofs.lemmas.List.Elements.{All-from_recursion}
 use Rattle.std.proofs.lemmas.List.FromFn.{fill_by_all, get_or-map-range_with_len, length-map-range_with_len}
 use Rattle.diff_bounds.specs.declared.Pack.{Pack}
+use Rattle.diff_bounds.specs.Matrix.{word}
 use Rattle.diff_bounds.specs.Lattice.{matrix_of}
-use Rattle.diff_bounds.proofs.Places.{place_fits}
+use Rattle.diff_bounds.proofs.Places.{place_fits, word-set_other, word-set_same}
 use Rattle.cert_text.specs.declared.cert.Bound.{Bound}
 use Rattle.pack_rows.specs.Rows.{words_of}
 use Rattle.claimed_matrices.specs.Claims.{cells_in, claimed_matrix, claimed_word, is_of, sizes_of}
-use Rattle.claimed_matrices.specs.Written.{IsBoundOf}
+use Rattle.claimed_matrices.specs.Written.{IsBoundOf, plain_word}
 
 -- ---- a matrix from a function
 
@@ -22,6 +23,55 @@ matrix_word size f k h = get_or-map-range_with_len f 0 (words_of size) k k (pos 
 
 pub matrix_width : (size : ℕ) (f : ℕ → ℤ) → length (matrix_of size f) ≡ words_of size
 matrix_width size f = length-map-range_with_len f 0 (words_of size)
+
+-- ---- one word off the diagonal
+
+-- with zeros at so many places of the diagonal
+pub record IsPlainTo (x : ℤ) (size count : ℕ) (m : List ℤ) : Type 0 where
+  pub width : length m ≡ words_of size
+  pub zeros : (i : ℕ) → i < count → i < size + 1 → word (size + 1) m i i ≡ pos 0
+  pub others : (k : ℕ) → k < words_of size → k / (size + 1) ≢ k % (size + 1) → get_or m k (pos 0) ≡ x
+
+pub plain_first : (x : ℤ) (size n : ℕ) (m : List ℤ) → m ≡ replicate n x → n ≡ words_of size → IsPlainTo x size 0 m
+plain_first x size n m e f = record {
+  width = ap length e ∙ length-replicate n x ∙ f;
+  zeros = λ i h g. absurd (omega (arith, h));
+  others = λ k h ne. ap (λ (ws : List ℤ). get_or ws k (pos 0)) e ∙ get_or-replicate n k x (pos 0) (omega (arith, h, f, length-replicate n x));
+}
+
+pub plain_more : (x : ℤ) (size count at : ℕ) (y : ℤ) (m : List ℤ) → count < size + 1 → at ≡ count * (size + 1) + count → y ≡ pos 0
+    → IsPlainTo x size count m → IsPlainTo x size (count + 1) (set m at y)
+plain_more x size count at y m few e zero_word are = record {
+  width = length-set m at y ∙ are.width;
+  zeros = λ i h g. elim (cases_eq i count) as (λ _. word (size + 1) (set m at y) i i ≡ pos 0) [
+    | inl same ↦
+        subst (λ (n : ℕ). word (size + 1) (set m at y) n n ≡ pos 0) (sym same)
+        (word-set_same (size + 1) m count count at y are.width few few e ∙ zero_word)
+    | inr ne ↦ word-set_other (size + 1) m count count at y i i few g e (λ f k. ne f) ∙ are.zeros i (omega (arith, h, ne)) g
+  ];
+  others = λ k h ne.
+      get_or-set_other m at k y (pos 0) (λ same.
+      let row = ap (λ (n : ℕ). n / (size + 1)) (same ∙ e) ∙ div-mul-add count (size + 1) count few in
+      let column = ap (λ (n : ℕ). n % (size + 1)) (same ∙ e) ∙ mod-mul-add count (size + 1) count few in
+      ne (row ∙ sym column))
+      ∙ are.others k h ne;
+}
+
+pub plain_all : (x : ℤ) (size count : ℕ) (m : List ℤ) → size + 1 ≤ count → IsPlainTo x size count m → m ≡ matrix_of size (plain_word x size)
+plain_all x size count m all are =
+    fill_by_all (plain_word x size) m (words_of size) (pos 0) are.width
+    (λ k h. elim (cases_eq (k / (size + 1)) (k % (size + 1))) as (λ _. get_or m k (pos 0) ≡ plain_word x size k) [
+      | inl same ↦
+          let i = k % (size + 1) in
+          let low : i < size + 1 = mod_below k (size + 1) (omega arith) in
+          let place : i * (size + 1) + i ≡ k = ap (λ (q : ℕ). q * (size + 1) + i) (sym same) ∙ div-add-mod' k (size + 1) in
+          let on : nat_eq (k / (size + 1)) (k % (size + 1)) ≡ true = eq-eqb _ _ same in
+          subst (λ (q : ℕ). get_or m q (pos 0) ≡ pos 0) place (are.zeros i (omega (arith, all, low)) low)
+          ∙ sym (ap (λ t. if t then pos 0 else x) on)
+      | inr ne ↦
+          let off : nat_eq (k / (size + 1)) (k % (size + 1)) ≡ false = ne_eqb _ _ ne in
+          are.others k h ne ∙ sym (ap (λ t. if t then pos 0 else x) off)
+    ])
 
 -- ---- one bound
 

@@ -1,5 +1,5 @@
 //! The row of matrices that the claims of a node mean.
-ghost use Rattle.std.specs.Prelude.{◌≡◌, ◌≢◌, ◌≤◌, ◌<◌, ◌+◌, ◌^◌, ℕ, length, take, slice_get, Some};
+ghost use Rattle.std.specs.Prelude.{◌≡◌, ◌≢◌, ◌≤◌, ◌<◌, ◌+◌, ◌^◌, ℕ, [], length, take, slice_get, Some};
 ghost use Rattle.std.specs.List.{AllByRecursion};
 ghost use Rattle.cert_text.specs.View.{place_of};
 ghost use Rattle.diff_bounds.specs.Lattice.{matrix_of};
@@ -17,27 +17,25 @@ pub(crate) const NONE: i128 = 100_000_000_000_000_000_000_000_000_000_000_000_00
 // the least word of a matrix off its diagonal
 pub(crate) const LOWEST: i128 = -10_000_000_000_000_000_000_000_000_000_000_000_000;
 
-// a word of the matrix with one word off its diagonal
-fn plain_word(word: i128, size: usize, at: usize) -> i128
-    requires { size ≤ 8 }
-    ensures { result ≡ plain_word word size at }
-{
-    if at / (size + 1) == at % (size + 1) {
-        0
-    } else {
-        word
-    }
-}
-
 // Makes the matrix with one word off its diagonal.
 fn set_plain(word: i128, size: usize, m: &mut [i128])
     requires size { size ≤ 8 }
     requires width { length m.old ≡ words_of size }
     ensures { m.new ≡ matrix_of size (plain_word word size) }
 {
-    for at in 0..m.len() {
-        m[at] = plain_word(word, size, at);
+    m.fill(word);
+    for place in 0..size + 1 {
+        m[place * (size + 1) + place] = 0;
     }
+}
+
+// Makes the matrix of no bounds.
+fn set_unbounded(size: usize, m: &mut [i128])
+    requires size { size ≤ 8 }
+    requires width { length m.old ≡ words_of size }
+    ensures { (pack : ℕ) → m.new ≡ claimed_matrix [] pack size }
+{
+    set_plain(NONE, size, m);
 }
 
 // Makes the matrix of a pack's bounds. Of two bounds of one place the first would count.
@@ -47,7 +45,7 @@ fn set_matrix(pack: u32, size: usize, bounds: &[Bound], m: &mut [i128])
     requires bounds { AllByRecursion (IsBoundOf pack size) bounds.now }
     ensures { m.new ≡ claimed_matrix bounds.now pack size }
 {
-    set_plain(NONE, size, m);
+    set_unbounded(size, m);
     for k in (0..bounds.len()).rev() {
         let bound = bounds[k];
         m[bound.row as usize * (size + 1) + bound.column as usize] = bound.most;

@@ -12,7 +12,8 @@ mod laws;
 pub use claims::set_claimed;
 pub use gaps::first_gap;
 pub use laws::{
-    allowed_claims_fit, claimed_rows_are_elements, gaps_are_of_bounds, gaps_tell_the_order, unreached_rows_are_least,
+    allowed_claims_fit, claimed_rows_are_elements, gaps_are_of_bounds, gaps_tell_the_order,
+    unreached_rows_are_least,
 };
 
 #[cfg(test)]
