@@ -16,7 +16,8 @@ use Rattle.cert_check.specs.declared.ends.CheckEnd.{CheckEnd}
 use Rattle.cert_check.specs.declared.ends.CheckEnd.TheVariants as check
 use Rattle.cert_check.specs.declared.ends.Shape.{Shape}
 use Rattle.cert_check.specs.declared.ends.Shape.TheVariants as shape
-use Rattle.cert_check.specs.Claims.{leak, leaks, open_at, open_pairs}
+use Rattle.cert_check.specs.Claims.{leak, leaks, open_pairs}
+use Rattle.cert_check.specs.OpenPairs.{open_at}
 
 -- the certificate is of as many cells as the program, and of as many nodes as its graph
 pub record HasShape (p : Program) (g : Graph) (c : Certificate) : Type 0 where
@@ -40,7 +41,7 @@ pub record Accepts (p : Program) (g : Graph) (c : Certificate) (pairs : List Ope
 abbrev pub Refuses : Program → Graph → Certificate → CheckEnd → Type 0
 Refuses p g c (check.Shape what found wanted) = Misfits p g c what found wanted
 Refuses p g c (check.NotInductive layer edge gap) =
-    HasShape p g c × (layer ≡ 1) × (slice_get (leaks p g c) 0 ≡ Some (leak edge gap))
+    HasShape p g c × (slice_get (leaks p g c) 0 ≡ Some (leak layer edge gap))
 Refuses p g c check.Memory = Unit {0}
 
 abbrev pub Checks : Program → Graph → Certificate → Result (Vec Open Global) CheckEnd → Type 0
