@@ -47,6 +47,5 @@ module _ (g : Graph) (clears : ℕ → Kind → Bool) where
   cleared_to nodes statement = by_kind (λ fault. list_all (node_clears_by g clears statement fault) (range_with_len 1 nodes))
 
   -- this is noted at each statement
-  pub record AreClearedTo (statements nodes : ℕ) (noted : List Cleared) : Type 0 where
-    pub count : length noted ≡ statements
+  pub record AreClearedTo (nodes : ℕ) (noted : List Cleared) : Type 0 where
     pub each : (k : ℕ) → k < length noted → get_or noted k all_cleared ≡ cleared_to nodes (suc k)
