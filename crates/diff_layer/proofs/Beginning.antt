@@ -3,8 +3,18 @@ use Rattle.std.proofs.Common.{◌≡◌, ◌≤◌, ℕ, List, [], ◌∷◌, ma
 use Rattle.std.specs.List.{AllByRecursion}
 use Rattle.std.proofs.lemmas.Simd.{map-map}
 use Rattle.std.proofs.lemmas.List.{length-map}
+use Rattle.std.proofs.lemmas.Option.{same_Some}
 use Rattle.cob_program.specs.Act.{Program}
+use Rattle.cob_runs.specs.declared.action.Cell.{Cell}
+use Rattle.cob_graph.specs.Graphs.{cells_of as program_cells}
 use Rattle.cell_rows.specs.Known.{Known}
+use Rattle.cell_rows.specs.Elements.{CellsFit}
+use Rattle.cell_rows.specs.Rows as rows
+use Rattle.cell_rows.specs.Rows.{cells_of}
+use Rattle.cell_rows.proofs.Rows.{element_back}
+use Rattle.cell_storages.specs.Homes.{homes_of, owns}
+use Rattle.cell_layer_laws.specs.Entry.{entry_known, entry_cells}
+use Rattle.cell_walk.specs.ProgramRows.{IsRowOf}
 use Rattle.diff_steps.specs.Packs.{Pack, size_of}
 use Rattle.diff_steps.specs.Steps.{all_closed}
 use Rattle.diff_steps.specs.Edges.{bottoms, or_bottoms, no_bounds, entry_packs}
@@ -23,7 +33,7 @@ plans_are_few p [] are = tt
 plans_are_few p (plan ∷ plans) are = (are.0.few, plans_are_few p plans are.1)
 
 module _ (p : Program) (plans : List PackPlan) (are : ArePlansOf p plans) (sizes : List ℕ) (same : sizes ≡ sizes_of (plain_plans plans)) where
-  packs : List Pack
+  abbrev pub packs : List Pack
   packs = plain_plans plans
 
   free_is : row_of (map no_bounds sizes) ≡ row_of (unbounded_packs packs)
@@ -59,3 +69,19 @@ module _ (p : Program) (plans : List PackPlan) (are : ArePlansOf p plans) (sizes
 
   pub wide_is : (lists : List (List ℤ)) → length lists ≡ length plans → width_of sizes ≡ (matrices_beside sizes lists).width
   wide_is lists listed = sym (width_is sizes lists (listed ∙ sym (length-map plans plain_plan) ∙ sym (many_in sizes packs same)))
+
+-- ---- what is known of cells
+
+module _ (p : Program) (row : List ℤ) (is : row ≡ rows.row_of (entry_cells p)) (fits : CellsFit (owns p) (entry_cells p)) where
+  pub known_is : cells_of row ≡ entry_cells p
+  known_is = ap cells_of is ∙ same_Some (cells_of (rows.row_of (entry_cells p))) (entry_cells p) (element_back (owns p) (Some (entry_cells p)) fits)
+
+  pub is_row_of : (cells : List Cell) → cells ≡ program_cells p → IsRowOf p cells row
+  is_row_of cells same = record {
+    cells_are = same;
+    reached = is ∙ ap rows.row_of (sym known_is);
+    count = ap length known_is ∙ length-map (homes_of p) (entry_known p.layout);
+  }
+
+  pub its_fit : CellsFit (owns p) (cells_of row)
+  its_fit = subst (CellsFit (owns p)) (sym known_is) fits

@@ -5,3 +5,4 @@ pub mod Short
 pub mod Walked
 pub mod Facts
 pub mod Beginning
+pub mod Layers

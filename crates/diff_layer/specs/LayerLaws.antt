@@ -82,7 +82,7 @@ ordered_by packs lists ends = packs_are_a_lattice (sizes_of packs) lists (thresh
 -- ---- packs
 
 module _ (p : Program) (g : Graph) (statements : List (Bor declared_stmt.Stmt)) (held : ∥ IsHeld p g statements ∥₁) where
-  source_of : ∥ IsSourceGraph p g ∥₁
+  pub source_of : ∥ IsSourceGraph p g ∥₁
   source_of = ∥∥₁_elim held ∥∥₁_prop (λ h. ∣ h.source ∣₁)
 
   distinct_homes : HasDistinctHomes p

@@ -5,9 +5,8 @@ ghost use Rattle.cob_program.specs.ActView.{plain_program};
 ghost use Rattle.cob_graph.specs.Graphs.{cells_of};
 ghost use Rattle.cob_items.specs.WellFormed.{HasWellFormedItems};
 ghost use Rattle.cell_rows.specs.Elements.{CellsFit};
-ghost use Rattle.cell_rows.specs.Rows.{cells_of as known_in};
+ghost use Rattle.cell_rows.specs.Rows.{row_of as known_row};
 ghost use Rattle.cell_storages.specs.Homes.{owns};
-ghost use Rattle.cell_walk.specs.ProgramRows.{IsRowOf};
 ghost use Rattle.cell_walk.specs.SmallCells.{has_small_cells};
 ghost use Rattle.cell_layer_laws.specs.Entry.{entry_cells};
 ghost use Rattle.diff_steps.specs.Packs.{size_of};
@@ -74,14 +73,15 @@ fn set_entry(
     row: &[i128],
     out: &mut [i128],
 )
-    requires row { IsRowOf (plain_program program.now) cells.now row.now }
-    requires fits { CellsFit (owns (plain_program program.now)) (known_in row.now) }
+    requires row { row.now ≡ known_row (entry_cells (plain_program program.now)) }
+    requires cells { cells.now ≡ cells_of (plain_program program.now) }
+    requires fits { CellsFit (owns (plain_program program.now)) (entry_cells (plain_program program.now)) }
     requires small_cells { has_small_cells (plain_program program.now) ≡ true }
     requires plans { ArePlansOf (plain_program program.now) plans.now }
     requires sizes { sizes.now ≡ map size_of (plain_plans plans.now) }
     requires listed { length thresholds.now ≡ length plans.now }
     requires width { length out.old ≡ width_of sizes.now }
-    ensures { out.new ≡ row_of (entry_packs (plain_program program.now) (plain_plans plans.now) (known_in row.now)) }
+    ensures { out.new ≡ row_of (entry_packs (plain_program program.now) (plain_plans plans.now) (entry_cells (plain_program program.now))) }
 {
     set_free(sizes, out);
     if !close_all(program, cells, plans, row, out) {

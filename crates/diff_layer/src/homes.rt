@@ -76,11 +76,7 @@ fn add_items(cells: &mut Vec<PackCell>, items: &[Item]) -> Result<(), AllocError
 
 // ---- counters
 
-fn add_turns(
-    cells: &mut Vec<PackCell>,
-    statement: u32,
-    turns: &Turns,
-) -> Result<(), AllocError>
+fn add_turns(cells: &mut Vec<PackCell>, statement: u32, turns: &Turns) -> Result<(), AllocError>
     ensures { OnOk result (cells.new.items ≡ cells.old.items ++ cells_of (turns_homes statement (plain_turns turns.now))) }
 {
     match turns {
