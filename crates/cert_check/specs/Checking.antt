@@ -12,6 +12,7 @@ use Rattle.cob_graph.specs.declared.graph.Graph.{Graph}
 use Rattle.cob_graph.specs.Graphs.{cells_of}
 use Rattle.graph_runs.specs.Sources.{IsSourceGraph}
 use Rattle.cert_text.specs.View.{Certificate}
+use Rattle.cert_text.specs.Allowed.{IsAllowed}
 use Rattle.cert_check.specs.declared.ends.CheckEnd.{CheckEnd}
 use Rattle.cert_check.specs.declared.ends.CheckEnd.TheVariants as check
 use Rattle.cert_check.specs.declared.ends.Shape.{Shape}
@@ -54,8 +55,8 @@ CoversRuns p pairs =
     (contents : Contents) (first : List ℕ) (choices : List Choice) (n : ℕ) (kind : Kind) (statement : ℕ) →
     (run p contents first choices n).outcome ≡ Fault kind statement → Contains pairs (open_at statement kind)
 
--- The open pairs of an inductive certificate cover the runs of a source's program.
+-- The open pairs of an inductive certificate that the format allows cover the runs of a source's program.
 abbrev pub AcceptedClaimsCoverRuns : Type 0
 AcceptedClaimsCoverRuns =
-    (p : Program) (g : Graph) (c : Certificate) (pairs : List Open) → IsSourceGraph p g → Accepts p g c pairs
+    (p : Program) (g : Graph) (c : Certificate) (pairs : List Open) → IsSourceGraph p g → IsAllowed c → Accepts p g c pairs
     → CoversRuns p pairs
