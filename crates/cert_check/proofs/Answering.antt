@@ -21,7 +21,7 @@ use Rattle.cert_check.specs.Clearing.{TestsTell}
 use Rattle.cert_check.specs.Checking.{HasShape, Accepts, Refuses}
 use Rattle.cert_check.proofs.Accepting.{cells_tell}
 use Rattle.cert_check.proofs.Asking.{claimed_element}
-use Rattle.cert_check.proofs.Bounds.{no_other_leaks}
+use Rattle.cert_check.proofs.BoundsKept.{no_other_leaks}
 use Rattle.cert_check.proofs.LayerLaws.{layer_laws}
 use Rattle.cert_check.proofs.Leaking.{leaks_first, no_leaks}
 

@@ -1,6 +1,8 @@
 -- The answers of a check of packs, from what the pass and the nodes say of the rows that the code has.
 use Rattle.std.proofs.Common.{◌≡◌, ◌≢◌, ◌≤◌, ℕ, List, [], ◌∷◌, ◌++◌, Bool, map, length, slice_get, Some, ℤ, refl, sym, ap, subst, ◌∙◌, arith}
+use Rattle.std.specs.Prelude.{Vec}
 use Rattle.std.specs.List.{AllByRecursion}
+use Rattle.std.specs.declared.alloc.Global.{Global}
 use Rattle.std.proofs.lemmas.List.{length-map}
 use Rattle.cob_tree.specs.declared.fault.Kind.{Kind}
 use Rattle.cob_tree.specs.declared.fault.Open.{Open}
@@ -20,7 +22,7 @@ use Rattle.claimed_matrices.specs.Claims as matrices
 use Rattle.claimed_matrices.proofs.Allowing.{claims_fit_there}
 use Rattle.diff_bounds.specs.declared.Pack as declared
 use Rattle.diff_steps.specs.Packs.{Pack}
-use Rattle.pack_rows.specs.Rows.{width_of}
+use Rattle.pack_rows.specs.Rows.{width_of, lists_of}
 use Rattle.diff_layer.proofs.Rows.{width_is}
 use Rattle.diff_layer_laws.specs.Layer.{sizes_of, diff_lattice, diff_flow, diff_meaning}
 use Rattle.diff_layer_laws.specs.Packs.{pack_in, packs_of}
@@ -32,8 +34,12 @@ use Rattle.cert_check.specs.Claims.{cell_leaks, pack_leaks, row_at, packs_at, pa
 use Rattle.cert_check.specs.Clearing.{TestsTell}
 use Rattle.cert_check.specs.Given.{IsGiven, BoundsAreKept, BoundsLeakFirst}
 use Rattle.cert_check.specs.Checking.{HasShape, Accepts, Refuses}
-use Rattle.cert_check.proofs.Bounds.{sizes_are, packs_tell, bounds_element, no_pack_leaks, pack_leaks_first}
+use Rattle.cert_check.proofs.BoundsKept.{sizes_are, packs_tell, bounds_element, no_pack_leaks, pack_leaks_first}
 use Rattle.cert_check.proofs.PackNumbers.{packs_in_are}
+
+-- as many lists as packs
+pub listed_in : (packs : List declared.Pack) (thresholds : List (Vec ℤ Global)) → length thresholds ≡ length packs → length (lists_of thresholds) ≡ length packs
+listed_in packs thresholds listed = length-map thresholds (λ list. list.items) ∙ listed
 
 module _ (p : Program) (g : Graph) (c : Certificate) (ranges : List Interval) (given : IsGiven p g c ranges) (packs : List declared.Pack)
     (cells : cells_in packs ≡ c.packs) (d : Certificate) (cert : d ≡ c) where
@@ -87,8 +93,8 @@ module _ (p : Program) (g : Graph) (c : Certificate) (ranges : List Interval) (g
   nodes_counted = node_counted (length g.nodes) (omega arith)
 
   module _ (lists : List (List ℤ)) (listed : length lists ≡ length packs) where
-    listed_too : length lists ≡ length c.packs
-    listed_too = listed ∙ many
+    pub listed_there : length lists ≡ length c.packs
+    listed_there = listed ∙ many
 
     sizes_same : sizes_of (packs_at p g c) ≡ matrices.sizes_of (cells_in packs)
     sizes_same = sizes_are p g c ∙ ap matrices.sizes_of (sym cells)
@@ -96,7 +102,7 @@ module _ (p : Program) (g : Graph) (c : Certificate) (ranges : List Interval) (g
     width_there : (diff_lattice (packs_at p g c) lists).width ≡ width_of (matrices.sizes_of (cells_in packs))
     width_there =
         width_is (sizes_of (packs_at p g c)) lists
-        (listed_too ∙ sym (length-map c.packs (pack_in (homes_of p))) ∙ sym (length-map (packs_at p g c) (λ (pack : Pack). length pack)))
+        (listed_there ∙ sym (length-map c.packs (pack_in (homes_of p))) ∙ sym (length-map (packs_at p g c) (λ (pack : Pack). length pack)))
         ∙ ap width_of sizes_same
 
     pub element_width : (row : List ℤ) → IsElement (diff_lattice (packs_at p g c) lists) row → length row ≡ width_of (matrices.sizes_of (cells_in packs))
@@ -116,7 +122,7 @@ module _ (p : Program) (g : Graph) (c : Certificate) (ranges : List Interval) (g
     pub bounds_are_elements : HasElements (diff_lattice (packs_of p packs) lists) (diff_flow p g (packs_of p packs) facts) rows
     bounds_are_elements =
         moved_back (λ ps fs rs. HasElements (diff_lattice ps lists) (diff_flow p g ps fs) rs)
-        (λ node is. bounds_element p g c given.source shape given.allowed lists listed_too node)
+        (λ node is. bounds_element p g c given.source shape given.allowed lists listed_there node)
 
     -- ---- what is said
 
@@ -138,7 +144,7 @@ module _ (p : Program) (g : Graph) (c : Certificate) (ranges : List Interval) (g
     module _ (none : cell_leaks p g c ≡ []) where
       pub refuses_packs : (e : ℕ) (gap : Gap) → BoundsLeakFirst p g c lists e → slice_get (pack_gaps p g c e) 0 ≡ Some gap →
           Refuses p g c (check.NotInductive 2 e gap)
-      refuses_packs e gap leak first = (shape, pack_leaks_first p g c given.source shape given.allowed lists listed_too none e gap leak first)
+      refuses_packs e gap leak first = (shape, pack_leaks_first p g c given.source shape given.allowed lists listed_there none e gap leak first)
 
       pub accepts_packs : (pairs : List Open) → c.packs ≢ [] → BoundsAreKept p g c lists →
           ((clears : ℕ → Kind → Bool) → TestsTell (diff_flow p g (packs_of p packs) facts) (diff_meaning p g (packs_of p packs) facts) rows clears →
@@ -147,7 +153,7 @@ module _ (p : Program) (g : Graph) (c : Certificate) (ranges : List Interval) (g
         shape = shape;
         inductive =
             ap (λ (xs : List Leak). xs ++ pack_leaks p g c) none
-            ∙ no_pack_leaks p g c given.source shape given.allowed lists listed_too kept;
+            ∙ no_pack_leaks p g c given.source shape given.allowed lists listed_there kept;
         pairs_are =
             are (claims_clear p g c)
             (moved_back (λ ps fs rs. TestsTell (diff_flow p g ps fs) (diff_meaning p g ps fs) rs (claims_clear p g c)) (packs_tell p g c c.packs some));

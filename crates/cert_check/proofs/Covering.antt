@@ -42,7 +42,7 @@ use Rattle.cert_check.proofs.Lists.{both_empty}
 use Rattle.cert_check.proofs.Accepting.{cells_tell, cleared_at, open_or_cleared}
 use Rattle.cert_check.proofs.LayerLaws.{LayerLaws}
 use Rattle.cert_check.proofs.Leaking.{kept_where_no_leaks}
-use Rattle.cert_check.proofs.Bounds.{packs_tell, flows, means, bounds_kept}
+use Rattle.cert_check.proofs.BoundsKept.{packs_tell, flows, means, bounds_kept}
 
 one_number : (g : Graph) (node a b : ℕ) → IsOf g node a → IsOf g node b → a ≡ b
 one_number g node a b first second =

@@ -1,7 +1,7 @@
 pub mod Lists
 pub mod FirstLeaks
 pub mod PackNumbers
-pub mod Bounds
+pub mod BoundsKept
 pub mod Beside
 pub mod Accepting
 pub mod Covering

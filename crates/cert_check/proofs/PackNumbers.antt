@@ -1,17 +1,21 @@
 -- The packs of a certificate that its format allows are packs of a program's cells.
-use Rattle.std.proofs.Common.{◌≡◌, ◌<◌, ◌≤◌, ℕ, zero, suc, ◌+◌, List, [], ◌∷◌, map, length, true, ◌&&◌, refl, sym, ap, subst, ◌∙◌, arith}
-use Rattle.std.specs.Prelude.{nat_lt, nat_le, slice_index_or}
+use Rattle.std.proofs.Common.{◌≡◌, ◌<◌, ◌≤◌, ℕ, zero, suc, ◌+◌, List, [], ◌∷◌, ◌++◌, map, length, true, ◌&&◌, ℤ, refl, sym, ap, subst, ◌∙◌, arith}
+use Rattle.std.specs.Prelude.{Vec, nat_lt, nat_le, slice_index_or}
 use Rattle.std.specs.List.{AllByRecursion}
+use Rattle.std.specs.declared.alloc.Global.{Global}
 use Rattle.std.proofs.lemmas.Bool.{and_parts, leb-true, ltb-true}
 use Rattle.cob_program.specs.Act.{Program}
 use Rattle.cell_storages.specs.Homes.{homes_of}
 use Rattle.diff_bounds.specs.declared.Pack as declared
+use Rattle.diff_bounds.specs.Widening.{AreThresholds}
+use Rattle.pack_rows.specs.Rows.{lists_of}
 use Rattle.diff_steps.specs.Packs.{Pack, size_of}
 use Rattle.pack_edges.specs.Agreeing.{ArePacksOf}
 use Rattle.cert_text.specs.Allowed.{cells_rise, pack_fits, packs_fit}
 use Rattle.claimed_matrices.specs.Claims.{cells_in}
 use Rattle.diff_layer_laws.specs.Packs.{pack_in, packs_in, AreRisingNumbers, ArePacksOfCells}
 use Rattle.diff_layer_laws.proofs.Packed.{HasDistinctHomes, is_pack, few_cells}
+use Rattle.cert_check.specs.Given.{AreEmptyLists}
 
 -- ---- rising numbers
 
@@ -83,3 +87,32 @@ module _ (p : Program) (cells : ℕ) (many : cells ≡ length (homes_of p)) (dis
 pub packs_in_are : (p : Program) (packs : List declared.Pack) → packs_in (homes_of p) packs ≡ map (pack_in (homes_of p)) (cells_in packs)
 packs_in_are p [] = refl
 packs_in_are p (pack ∷ packs) = ap (λ (rest : List Pack). pack_in (homes_of p) pack.cells.items ∷ rest) (packs_in_are p packs)
+
+-- ---- no thresholds
+
+none_are_thresholds : AreThresholds []
+none_are_thresholds = record { low = λ k h. absurd (omega (arith, h)); high = λ k h. absurd (omega (arith, h)) }
+
+pub empty_are_thresholds : (lists : List (Vec ℤ Global)) → AllByRecursion (λ list. list.items ≡ []) lists → AllByRecursion AreThresholds (lists_of lists)
+empty_are_thresholds [] are = tt
+empty_are_thresholds (list ∷ lists) are = (subst AreThresholds (sym are.0) none_are_thresholds, empty_are_thresholds lists are.1)
+
+pub empty_are_short : (lists : List (Vec ℤ Global)) → AllByRecursion (λ list. list.items ≡ []) lists → AllByRecursion (λ list. length list.items ≤ 2048) lists
+empty_are_short [] are = tt
+empty_are_short (list ∷ lists) are = (let none = ap length are.0 in omega (arith, none), empty_are_short lists are.1)
+
+-- one list more
+pub one_list_more : (count : ℕ) (lists : List (Vec ℤ Global)) (list : Vec ℤ Global) → AreEmptyLists count lists → list.items ≡ [] →
+    AreEmptyLists (count + 1) (lists ++ list ∷ [])
+one_list_more count lists list are none = record {
+  many = more lists ∙ ap (λ n. n + 1) are.many;
+  empty = with_one lists are.empty;
+}
+  where
+    more : (xs : List (Vec ℤ Global)) → length (xs ++ list ∷ []) ≡ length xs + 1
+    more [] = refl
+    more (x ∷ xs) = ap suc (more xs)
+
+    with_one : (xs : List (Vec ℤ Global)) → AllByRecursion (λ y. y.items ≡ []) xs → AllByRecursion (λ y. y.items ≡ []) (xs ++ list ∷ [])
+    with_one [] all = (none, tt)
+    with_one (x ∷ xs) all = (all.0, with_one xs all.1)
