@@ -7,11 +7,8 @@ use Rattle.check_command.proofs.OneCheck.{one_for_certificate}
 use Rattle.analyse_command.specs.Analysis.{analysis, pairs_of, report_of}
 use Rattle.analyse_command.proofs.findings.texts_of.Goals as goal
 
-pub check_plain-requires-clause-allowed : goal.check_plain-requires-clause-allowed
-check_plain-requires-clause-allowed c = c.requires.found.allowed
-
-pub check_plain-requires-clause-plain : goal.check_plain-requires-clause-plain
-check_plain-requires-clause-plain c = c.requires.found.plain
+pub check_certificate-requires-clause-allowed : goal.check_certificate-requires-clause-allowed
+check_certificate-requires-clause-allowed c = c.requires.found.allowed
 
 pub returns : goal.returns
 returns c =
