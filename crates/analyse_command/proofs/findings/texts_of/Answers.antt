@@ -19,7 +19,7 @@ returns c =
     let found = c.requires.found in
     let same : plain_answer c.in_ok-report.report ≡ report_of a =
     one_for_certificate p graph claims (plain_answer c.in_ok-report.report) (report_of a) c.in_ok-report.ensures
-    (found.plain, (pairs_of a, found.accepts, refl)) in
+    (pairs_of a, found.accepts, refl) in
     record {
       found = found;
       certificate = c.in_ok-certificate.ensures;
