@@ -111,7 +111,7 @@ one_list_more count lists list are none = record {
   where
     more : (xs : List (Vec ℤ Global)) → length (xs ++ list ∷ []) ≡ length xs + 1
     more [] = refl
-    more (x ∷ xs) = ap suc (more xs)
+    more (x ∷ xs) = let rest = more xs in omega (arith, rest)
 
     with_one : (xs : List (Vec ℤ Global)) → AllByRecursion (λ y. y.items ≡ []) xs → AllByRecursion (λ y. y.items ≡ []) (xs ++ list ∷ [])
     with_one [] all = (none, tt)
