@@ -63,13 +63,13 @@ module _ (p : Program) (count : ℕ) (many : count ≡ length (homes_of p)) (dis
       by_order (inr not_less) (inl more) = let less = are.rising k j more at.within in absurd (omega (arith, less, same))
       by_order (inr not_less) (inr not_more) = omega (arith, not_less, not_more)
 
-  is_pack : IsPackOf p (pack_in (homes_of p) numbers)
+  pub is_pack : IsPackOf p (pack_in (homes_of p) numbers)
   is_pack = record {
     homes = λ k h e. contained k h (is_at k h e);
     distinct = λ j k h e f. one_place j k h (is_at j h e) (is_at k h f);
   }
 
-  few_cells : size_of (pack_in (homes_of p) numbers) ≤ 8
+  pub few_cells : size_of (pack_in (homes_of p) numbers) ≤ 8
   few_cells = let same = length-map numbers (home_at (homes_of p)) in omega (arith, same, are.few)
 
 module _ (p : Program) (count : ℕ) (many : count ≡ length (homes_of p)) (distinct : HasDistinctHomes p) where

@@ -8,7 +8,7 @@ use Rattle.cert_check.proofs.Pairs.{pairs_are_statements}
 use Rattle.alarm_report.specs.Alarms.{IsStatementOf, alarms_of}
 use Rattle.command_answers.proofs.Limits.{within_limits}
 use Rattle.check_command.proofs.Numbers.{as_many_statements}
-use Rattle.check_command.proofs.certificate.check_plain.Goals as goal
+use Rattle.check_command.proofs.certificate.check_certificate.Goals as goal
 
 pub check-requires-clause-source : goal.check-requires-clause-source
 check-requires-clause-source c =
@@ -31,10 +31,7 @@ alarms_of-requires c =
 
 pub returns-in_ok-alarms_of-in-Ok : goal.returns-in_ok-alarms_of-in-Ok
 returns-in_ok-alarms_of-in-Ok c = (
-  c.requires.plain,
-  (
-    c.in-Ok.pairs.items,
-    c.in-Ok.ensures.exact,
-    c.in_ok-alarms_of-in-Ok.ensures ∙ ap (alarms_of (plain_program c.args.laid.now.program)) c.deref.ensures.value,
-  ),
+  c.in-Ok.pairs.items,
+  c.in-Ok.ensures.exact,
+  c.in_ok-alarms_of-in-Ok.ensures ∙ ap (alarms_of (plain_program c.args.laid.now.program)) c.deref.ensures.value,
 )
