@@ -1,0 +1,158 @@
+//! The paragraphs that a PERFORM reaches, and what it mentions with them.
+ghost use Rattle.std.specs.Prelude.{◌≡◌, ◌≤◌, ◌++◌, ◌==◌, [], ℕ, length, map, if◌then◌else◌, IfOk, OnOk};
+ghost use Rattle.pack_choice.specs.Mentions.{lists_of};
+ghost use Rattle.pack_choice.specs.Reaching.{
+  is_in_mention,
+  is_performed,
+  is_performed_by,
+  is_performed_in,
+  marks_of,
+  mentions_from,
+  reached,
+  whole_mentions,
+};
+
+use crate::mention::Mention;
+use std::alloc::{AllocError, Global};
+
+fn is_in_mention(para: usize, mention: Mention) -> bool
+    ensures { result ≡ is_in_mention para mention }
+{
+    match mention {
+        Mention::Item(_) => false,
+        Mention::Range(first, last) => first as usize <= para && para <= last as usize,
+    }
+}
+
+fn is_performed(para: usize, mentions: &[Mention]) -> bool
+    ensures { result ≡ is_performed para mentions.now }
+{
+    for mention in mentions {
+        if is_in_mention(para, *mention) {
+            return true;
+        }
+    }
+    false
+}
+
+fn is_performed_in(marks: &[bool], texts: &[Vec<Mention>], para: usize) -> bool
+    requires { length marks.now ≡ length texts.now }
+    ensures { result ≡ is_performed_in marks.now (lists_of texts.now) para }
+{
+    for k in 0..marks.len() {
+        if marks[k] && is_performed(para, texts[k].as_slice()) {
+            return true;
+        }
+    }
+    false
+}
+
+fn is_performed_by(
+    own: &[Mention],
+    marks: &[bool],
+    texts: &[Vec<Mention>],
+    para: usize,
+) -> bool
+    requires { length marks.now ≡ length texts.now }
+    ensures { result ≡ is_performed_by (lists_of texts.now) own.now marks.now para }
+{
+    is_performed(para, own) || is_performed_in(marks, texts, para)
+}
+
+// The paragraphs that the statement itself performs.
+fn first_marks(
+    alloc: Global,
+    texts: &[Vec<Mention>],
+    own: &[Mention],
+) -> Result<Vec<bool>, AllocError>
+    ensures { IfOk result (λ marks. marks.items ≡ marks_of (lists_of texts.now) own.now (λ para. is_performed para own.now)) }
+{
+    let mut marks = Vec::with_capacity(alloc, texts.len())?;
+    for para in 0..texts.len() {
+        marks.push(is_performed(para, own))?;
+    }
+    Ok(marks)
+}
+
+// Those, and what the marked ones perform.
+fn next_marks(
+    alloc: Global,
+    texts: &[Vec<Mention>],
+    own: &[Mention],
+    marks: &[bool],
+) -> Result<Vec<bool>, AllocError>
+    requires { length marks.now ≡ length texts.now }
+    ensures { IfOk result (λ next. next.items
+        ≡ marks_of (lists_of texts.now) own.now (is_performed_by (lists_of texts.now) own.now marks.now)) }
+{
+    let mut next = Vec::with_capacity(alloc, texts.len())?;
+    for para in 0..texts.len() {
+        next.push(is_performed_by(own, marks, texts, para))?;
+    }
+    Ok(next)
+}
+
+// A mark for each paragraph: whether it is reached.
+fn reached(
+    alloc: Global,
+    texts: &[Vec<Mention>],
+    own: &[Mention],
+) -> Result<Vec<bool>, AllocError>
+    ensures { IfOk result (λ marks. marks.items ≡ reached (lists_of texts.now) own.now) }
+{
+    let mut marks = first_marks(alloc, texts, own)?;
+    for round in 0..texts.len() {
+        let next = next_marks(alloc, texts, own, marks.as_slice())?;
+        if next.as_slice() == marks.as_slice() {
+            return Ok(marks);
+        }
+        marks = next;
+    }
+    Ok(marks)
+}
+
+fn add_all(mentions: &mut Vec<Mention>, more: &[Mention]) -> Result<(), AllocError>
+    ensures { OnOk result (mentions.new.items ≡ mentions.old.items ++ more.now) }
+{
+    for mention in more {
+        mentions.push(*mention)?;
+    }
+    Ok(())
+}
+
+// What is mentioned at a paragraph: all of it, where it is reached, or else what the statement mentions, where it stands there.
+fn add_text(
+    mentions: &mut Vec<Mention>,
+    is_reached: bool,
+    text: &[Mention],
+    is_home: bool,
+    own: &[Mention],
+) -> Result<(), AllocError>
+    ensures { OnOk result (mentions.new.items
+        ≡ mentions.old.items ++ (if is_reached then text.now else if is_home then own.now else [])) }
+{
+    if is_reached {
+        return add_all(mentions, text);
+    }
+    if is_home {
+        return add_all(mentions, own);
+    }
+    Ok(())
+}
+
+/// What a statement in a paragraph mentions with what it reaches, in the order of the source.
+pub fn whole_mentions(
+    alloc: Global,
+    texts: &[Vec<Mention>],
+    own: &[Mention],
+    home: usize,
+) -> Result<Vec<Mention>, AllocError>
+    ensures { IfOk result (λ mentions. mentions.items ≡ whole_mentions (lists_of texts.now) own.now home) }
+{
+    let marks = reached(alloc, texts, own)?;
+    let mut mentions = Vec::new(alloc);
+    for (para, text) in texts.iter().enumerate() {
+        add_text(&mut mentions, marks[para], text.as_slice(), para == home, own)?;
+    }
+    Ok(mentions)
+}
