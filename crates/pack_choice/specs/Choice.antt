@@ -15,7 +15,7 @@ use Rattle.pack_choice.specs.declared.mention.Mention.{Mention}
 use Rattle.pack_choice.specs.declared.mention.Mention.TheVariants as mention
 use Rattle.pack_choice.specs.Mentions.{stmt_mentions, texts_of}
 use Rattle.pack_choice.specs.Reaching.{whole_mentions}
-use Rattle.pack_choice.specs.Firsts.{holds, first_distinct}
+use Rattle.pack_choice.specs.Firsts.{holds, noted, first_distinct}
 
 -- ---- what is mentioned together
 
@@ -50,9 +50,12 @@ abbrev pub is_numeric : Form → Bool
 is_numeric (form.Number digits scale signed kept) = true
 is_numeric _ = false
 
+abbrev pub is_numeric_at : Program → ℕ → Bool
+is_numeric_at p place = is_numeric (form_at p.layout place)
+
 -- the number of a numeric item's cell, from 1 on
 abbrev pub numeric_cell : Program → Mention → Option ℕ
-numeric_cell p (mention.Item place) = if is_numeric (form_at p.layout place) then option_map suc (number_of p (of_item place)) else None
+numeric_cell p (mention.Item place) = if is_numeric_at p place then option_map suc (number_of p (of_item place)) else None
 numeric_cell p (mention.Range first last) = None
 
 abbrev pub most_cells : ℕ
@@ -73,7 +76,7 @@ cells_together p xs = rising (length (cells_of p)) (first_cells p xs)
 
 abbrev pub same_cells : List ℕ → List ℕ → Bool
 same_cells [] [] = true
-same_cells (a ∷ as) (b ∷ bs) = (a == b) && same_cells as bs
+same_cells (m ∷ ms) (n ∷ ns) = (m == n) && same_cells ms ns
 same_cells _ _ = false
 
 -- a pack has two cells at least
@@ -91,6 +94,15 @@ packs_among lists = first_distinct same_cells most_packs (filter is_pack lists)
 -- left out; the first 32 are the packs.
 abbrev pub packs_of : Program → List (List ℕ)
 packs_of p = packs_among (map (cells_together p) (all_mentions p))
+
+-- ---- how the code goes
+
+abbrev pub noted_if : List ℕ → Option ℕ → List ℕ
+noted_if cells None = cells
+noted_if cells (Some number) = noted (λ a b. a == b) most_cells cells number
+
+abbrev pub noted_pack : List (List ℕ) → List ℕ → List (List ℕ)
+noted_pack packs cells = if is_pack cells then noted same_cells most_packs packs cells else packs
 
 -- what contracts see of packs
 abbrev pub numbers_of : List declared.Pack → List (List ℕ)

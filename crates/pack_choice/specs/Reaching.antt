@@ -1,6 +1,6 @@
 -- The paragraphs that a PERFORM reaches: those of its range, and those of the ranges that are performed in these or in its own
 -- list. Paragraphs are named by their places, and stand as what is mentioned in each.
-use Rattle.std.specs.Prelude.{ℕ, zero, suc, Bool, true, false, ◌&&◌, ◌||◌, ◌==◌, nat_le, if◌then◌else◌, List, [], ◌∷◌, ◌++◌, length, map}
+use Rattle.std.specs.Prelude.{ℕ, zero, suc, Bool, true, false, not, ◌&&◌, ◌||◌, ◌==◌, nat_le, if◌then◌else◌, List, [], ◌∷◌, ◌++◌, length, map}
 use Rattle.std.specs.List.{range_with_len}
 use Rattle.pack_choice.specs.declared.mention.Mention.{Mention}
 use Rattle.pack_choice.specs.declared.mention.Mention.TheVariants as mention
@@ -14,9 +14,13 @@ abbrev pub is_performed : ℕ → List Mention → Bool
 is_performed para [] = false
 is_performed para (x ∷ xs) = is_in_mention para x || is_performed para xs
 
+-- whether a paragraph performs it, if that is marked
+abbrev pub performs : ℕ → Bool → List Mention → Bool
+performs para mark text = mark && is_performed para text
+
 -- whether one of the marked paragraphs performs it
 abbrev pub is_performed_in : List Bool → List (List Mention) → ℕ → Bool
-is_performed_in (mark ∷ marks) (text ∷ texts) para = (mark && is_performed para text) || is_performed_in marks texts para
+is_performed_in (mark ∷ marks) (text ∷ texts) para = performs para mark text || is_performed_in marks texts para
 is_performed_in _ _ para = false
 
 module _ (texts : List (List Mention)) (own : List Mention) where
@@ -45,3 +49,12 @@ module _ (texts : List (List Mention)) (own : List Mention) where
 
   abbrev pub whole_mentions : ℕ → List Mention
   whole_mentions home = mentions_from home 0 reached texts
+
+-- ---- how the code goes
+
+abbrev pub is_same : Bool → Bool → Bool
+is_same a b = if a then b else not b
+
+abbrev pub same_marks : List Bool → List Bool → Bool
+same_marks (x ∷ xs) (y ∷ ys) = is_same x y && same_marks xs ys
+same_marks _ _ = true

@@ -2,14 +2,14 @@
 //! mentions together in its loops and paragraphs.
 #![tactic(auto)]
 
+mod choice;
 mod conditions;
 mod firsts;
 mod mention;
 mod reaching;
+mod rising;
 mod statements;
 mod sums;
 
+pub use choice::packs;
 pub use mention::Mention;
-pub use firsts::{holds, note};
-pub use reaching::whole_mentions;
-pub use statements::{mentions_of, texts_of};

@@ -6,9 +6,12 @@ ghost use Rattle.pack_choice.specs.Reaching.{
   is_performed,
   is_performed_by,
   is_performed_in,
+  is_same,
   marks_of,
   mentions_from,
+  performs,
   reached,
+  same_marks,
   whole_mentions,
 };
 
@@ -35,12 +38,18 @@ fn is_performed(para: usize, mentions: &[Mention]) -> bool
     false
 }
 
+fn performs(para: usize, mark: bool, text: &[Mention]) -> bool
+    ensures { result ≡ performs para mark text.now }
+{
+    mark && is_performed(para, text)
+}
+
 fn is_performed_in(marks: &[bool], texts: &[Vec<Mention>], para: usize) -> bool
     requires { length marks.now ≡ length texts.now }
     ensures { result ≡ is_performed_in marks.now (lists_of texts.now) para }
 {
     for k in 0..marks.len() {
-        if marks[k] && is_performed(para, texts[k].as_slice()) {
+        if performs(para, marks[k], texts[k].as_slice()) {
             return true;
         }
     }
@@ -92,6 +101,24 @@ fn next_marks(
     Ok(next)
 }
 
+fn is_same(a: bool, b: bool) -> bool
+    ensures { result ≡ is_same a b }
+{
+    a == b
+}
+
+fn same_marks(next: &[bool], marks: &[bool]) -> bool
+    requires { length next.now ≡ length marks.now }
+    ensures { result ≡ same_marks next.now marks.now }
+{
+    for k in 0..marks.len() {
+        if !is_same(next[k], marks[k]) {
+            return false;
+        }
+    }
+    true
+}
+
 // A mark for each paragraph: whether it is reached.
 fn reached(
     alloc: Global,
@@ -103,7 +130,7 @@ fn reached(
     let mut marks = first_marks(alloc, texts, own)?;
     for round in 0..texts.len() {
         let next = next_marks(alloc, texts, own, marks.as_slice())?;
-        if next.as_slice() == marks.as_slice() {
+        if same_marks(next.as_slice(), marks.as_slice()) {
             return Ok(marks);
         }
         marks = next;
