@@ -51,3 +51,22 @@ module _ (texts : List (List Mention)) (own : List Mention) where
   ended n l e =
       let whole : length texts ≡ n + (length texts - n) = omega (arith, l) in
       sym (ap at whole ∙ stays n (length texts - n) e)
+
+  module _ (n : ℕ) (marks next : List Bool) (is : marks ≡ at n) where
+    abbrev IsNext : List Bool → Type 0
+    IsNext s = next ≡ marks_of texts own (is_performed_by texts own s)
+
+    pub turned : (s : List Bool) → s ≡ marks → IsNext s → next ≡ at (n + 1)
+    turned s e step =
+        let more : suc n ≡ n + 1 = omega arith in
+        step ∙ ap (λ ms. marks_of texts own (is_performed_by texts own ms)) (e ∙ is) ∙ ap at more
+
+    module _ (s t u : List Bool) (e : s ≡ marks) (f : t ≡ next) (g : u ≡ marks) (step : IsNext s) where
+      pub same_width : length t ≡ length u
+      same_width =
+          ap length f ∙ ap length (turned s e step) ∙ wide (n + 1) ∙ sym (wide n) ∙ sym (ap length is) ∙ sym (ap length g)
+
+      pub ended_at : n < length texts → same_marks t u ≡ true → marks ≡ reached texts own
+      ended_at l h =
+          let less : n + 1 ≡ suc n = omega arith in
+          is ∙ ended n l (sym (turned s e step ∙ ap at less) ∙ sym f ∙ same_are t u same_width h ∙ g ∙ is)

@@ -101,6 +101,9 @@ abbrev pub noted_if : List ℕ → Option ℕ → List ℕ
 noted_if cells None = cells
 noted_if cells (Some number) = noted (λ a b. a == b) most_cells cells number
 
+abbrev pub noted_mention : Program → List ℕ → Mention → List ℕ
+noted_mention p cells x = noted_if cells (numeric_cell p x)
+
 abbrev pub noted_pack : List (List ℕ) → List ℕ → List (List ℕ)
 noted_pack packs cells = if is_pack cells then noted same_cells most_packs packs cells else packs
 

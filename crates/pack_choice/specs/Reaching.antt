@@ -40,15 +40,15 @@ module _ (texts : List (List Mention)) (own : List Mention) where
   abbrev pub reached : List Bool
   reached = reached_through (length texts)
 
-  -- What the statement mentions with what it reaches, in the order of the source, of paragraphs from a place on: the
-  -- statement itself stands in the paragraph `home`.
-  abbrev pub mentions_from : ℕ → ℕ → List Bool → List (List Mention) → List Mention
-  mentions_from home at (mark ∷ marks) (text ∷ rest) =
-      (if mark then text else if at == home then own else []) ++ mentions_from home (suc at) marks rest
-  mentions_from home at _ _ = []
+module _ (own : List Mention) (home : ℕ) where
+  -- What a statement mentions with what it reaches, in the order of the source, of paragraphs from a place on: the statement
+  -- itself stands in the paragraph `home`.
+  abbrev pub mentions_from : ℕ → List Bool → List (List Mention) → List Mention
+  mentions_from at (mark ∷ marks) (text ∷ texts) = (if mark then text else if at == home then own else []) ++ mentions_from (suc at) marks texts
+  mentions_from at _ _ = []
 
-  abbrev pub whole_mentions : ℕ → List Mention
-  whole_mentions home = mentions_from home 0 reached texts
+abbrev pub whole_mentions : List (List Mention) → List Mention → ℕ → List Mention
+whole_mentions texts own home = mentions_from own home 0 (reached texts own) texts
 
 -- ---- how the code goes
 

@@ -125,7 +125,8 @@ fn reached(
     texts: &[Vec<Mention>],
     own: &[Mention],
 ) -> Result<Vec<bool>, AllocError>
-    ensures { IfOk result (λ marks. marks.items ≡ reached (lists_of texts.now) own.now) }
+    ensures value { IfOk result (λ marks. marks.items ≡ reached (lists_of texts.now) own.now) }
+    ensures wide { IfOk result (λ marks. length marks.items ≡ length texts.now) }
 {
     let mut marks = first_marks(alloc, texts, own)?;
     for round in 0..texts.len() {
@@ -167,6 +168,23 @@ fn add_text(
     Ok(())
 }
 
+fn add_texts(
+    mentions: &mut Vec<Mention>,
+    marks: &[bool],
+    texts: &[Vec<Mention>],
+    own: &[Mention],
+    home: usize,
+) -> Result<(), AllocError>
+    requires { length marks.now ≡ length texts.now }
+    ensures { OnOk result (mentions.new.items
+        ≡ mentions.old.items ++ mentions_from own.now home 0 marks.now (lists_of texts.now)) }
+{
+    for para in 0..marks.len() {
+        add_text(mentions, marks[para], texts[para].as_slice(), para == home, own)?;
+    }
+    Ok(())
+}
+
 /// What a statement in a paragraph mentions with what it reaches, in the order of the source.
 pub fn whole_mentions(
     alloc: Global,
@@ -178,8 +196,6 @@ pub fn whole_mentions(
 {
     let marks = reached(alloc, texts, own)?;
     let mut mentions = Vec::new(alloc);
-    for (para, text) in texts.iter().enumerate() {
-        add_text(&mut mentions, marks[para], text.as_slice(), para == home, own)?;
-    }
+    add_texts(&mut mentions, marks.as_slice(), texts, own, home)?;
     Ok(mentions)
 }
