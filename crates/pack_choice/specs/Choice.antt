@@ -1,7 +1,8 @@
 -- The packs of a program: cells whose differences an analysis tracks.
-use Rattle.std.specs.Prelude.{ℕ, suc, Bool, true, false, ◌&&◌, ◌==◌, nat_le, if◌then◌else◌, List, [], ◌∷◌, ◌++◌, length, map, Option, None, Some}
+use Rattle.std.specs.Prelude.{ℕ, suc, Bool, true, false, ◌==◌, nat_eq, nat_le, if◌then◌else◌, List, [], ◌∷◌, ◌++◌, length, map, Option, None, Some}
 use Rattle.std.specs.List.{filter, filter_map, range_with_len}
 use Rattle.std.specs.Option.{option_map}
+use Rattle.std.specs.Cmp.Lexicographic.{pointwise}
 use Rattle.cob_tree.specs.declared.form.Form.{Form}
 use Rattle.cob_tree.specs.declared.form.Form.TheVariants as form
 use Rattle.cob_program.specs.Act.{Turns, once, Stmt, MkStmt, Act, perform, Para, Program}
@@ -75,9 +76,7 @@ cells_together p xs = rising (length (cells_of p)) (first_cells p xs)
 -- ---- packs
 
 abbrev pub same_cells : List ℕ → List ℕ → Bool
-same_cells [] [] = true
-same_cells (m ∷ ms) (n ∷ ns) = (m == n) && same_cells ms ns
-same_cells _ _ = false
+same_cells xs ys = pointwise nat_eq xs ys
 
 -- a pack has two cells at least
 abbrev pub is_pack : List ℕ → Bool
