@@ -28,3 +28,13 @@ pub loop-round-preserved : goal.loop-round-preserved
 loop-round-preserved c =
     let l = c.loop-round in
     turned (lists_of c.args.texts.now) c.args.own.now l.round _ _ l.invariant _ c.as_slice.ensures.value c.in_ok-next.ensures
+
+pub returns-then-same_marks-clause-wide : goal.returns-then-same_marks-clause-wide
+returns-then-same_marks-clause-wide c =
+    let l = c.loop-round in
+    ap length l.invariant ∙ wide (lists_of c.args.texts.now) c.args.own.now l.round ∙ length-map c.args.texts.now _
+
+pub returns-clause-wide : goal.returns-clause-wide
+returns-clause-wide c =
+    let l = c.loop-round in
+    ap length l.invariant ∙ wide (lists_of c.args.texts.now) c.args.own.now l.round ∙ length-map c.args.texts.now _
