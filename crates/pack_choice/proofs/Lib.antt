@@ -1,3 +1,4 @@
 pub mod Marks
 pub mod Noting
+pub mod Chosen
 pub mod Examples
