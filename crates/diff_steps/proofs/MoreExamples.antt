@@ -326,7 +326,7 @@ zero_by_differences : behind (abu ∷ []) (worked (less (item 0) (item 1)) (targ
     action.Done (cells (to (pos 2) (pos 5)) (to (pos 2) (pos 5)) any any any any any)
     (words3 none none none none (pos 0) none none (pos 0) none none none none ∷ [])
     ≡ words3 (minus 2) (minus 2) (pos 0) (pos 5) (pos 0) (pos 5) (pos 5) (pos 0) (pos 5) (pos 0) (minus 2) (minus 2)
-      ∷ []
+    ∷ []
 unfolding sums_through if_small coefs_of
 zero_by_differences = refl
 
@@ -388,7 +388,7 @@ may_fail_over : behind (ab ∷ av ∷ []) (worked (alone (item 0)) (target 5 how
     action.Size (cells (to (pos 1) (pos 4)) (to (pos 95) (pos 99)) any any any (to (pos 95) (pos 99)) any)
     (nothing ∷ words none none none none none (pos 93) ∷ [])
     ≡ words (minus 1) none (pos 4) none none none ∷ words (minus 2) (minus 95) (pos 4) (minus 91) (pos 99) (pos 97)
-      ∷ []
+    ∷ []
 unfolding sums_through if_small coefs_of
 may_fail_over = refl
 
@@ -423,7 +423,7 @@ remained : behind (ab ∷ au ∷ [])
     (arith (quotient (item 0) four) (target 1 how.Whole Trunc ∷ []) (Some 2) left_out no_stmts) action.Done
     (cells (to (pos 8) (pos 20)) any any any any any any) (nothing ∷ nothing ∷ [])
     ≡ words (minus 8) (minus 2) (pos 20) (pos 18) (pos 5) (minus 3)
-      ∷ words (minus 8) (pos 0) (pos 20) (pos 20) (pos 4) (minus 4) ∷ []
+    ∷ words (minus 8) (pos 0) (pos 20) (pos 20) (pos 4) (minus 4) ∷ []
 unfolding sums_through if_small coefs_of
 remained = refl
 
