@@ -34,6 +34,7 @@ use Rattle.result_ranges.specs.Stores.{operands, amount_range}
 use Rattle.result_ranges.specs.Receivers.{receiver_of, counter}
 use Rattle.result_ranges.specs.ResultRanges.{most, exceeds, amount_units, may_fail, near_range, lowered, count_may_fail}
 use Rattle.cell_amounts.specs.Working.{amount_from}
+use Rattle.cell_rows.specs.Known.{Known}
 use Rattle.cell_storages.specs.Homes.{of_count, homes_of}
 use Rattle.cell_steps.specs.Cells.{units_of}
 use Rattle.cell_steps.specs.Operands.{edge_amount, edge_operands, settled, amount_of}
