@@ -83,8 +83,8 @@ module _ (p : Program) (a : Act) (x : Action) where
         ≡ stored_pack p a x t wrote place mode y pack m
     fitting_is place mode y m =
         λ i. if same_operands p pack t known common wrote y cells i
-            then forgotten_cells (size_of pack) (is_other p a x place) 1 pack (cell_is place mode y (cell_of pack (of_item place)) m i)
-            else bottom (size_of pack)
+        then forgotten_cells (size_of pack) (is_other p a x place) 1 pack (cell_is place mode y (cell_of pack (of_item place)) m i)
+        else bottom (size_of pack)
 
     store_is : (latest : Latest) (place : ℕ) (mode : Mode) (y : Amount) (m : List ℤ) → latest ≡ outcome p a x t place mode y →
         store_changed p known common latest wrote pack (size_of pack) (pack_decimals p.layout pack) place mode y m ≡ pack_behind_store p a x t wrote place mode y pack m

@@ -362,7 +362,7 @@ module _ (p : Program) (packs : List Pack) (a : Act) (x : Action) (t : Seen) (wr
       ≡ (not (has_operands p t wrote y) || option_map_or (amounts_fit p packs a x t (seen2 wrote ms) place mode y) t.common true)
   shown_is y root falls =
       λ i. not (same_operands p [] t t.cells t.common wrote y refl i)
-          || (amount_is y root (sym (alone_as y) ∙ falls) (found y) refl ∙ sym (amounts_as y)) i
+      || (amount_is y root (sym (alone_as y) ∙ falls) (found y) refl ∙ sym (amounts_as y)) i
 
   abbrev cleared_at : Amount → Bool
   cleared_at (remaining s scale) = false
