@@ -84,22 +84,22 @@ def node_cases(chance, given):
                 yield f"clears {node} {kind} {words_of(row)}", str(told).lower()
 
 
-def answers(source, lines):
-    """The driver's answers."""
+def answers(crate, source, lines):
+    """A driver's answers."""
     with tempfile.TemporaryDirectory() as folder:
         path = pathlib.Path(folder, "S")
         path.write_text(source, "latin-1")
         given = "".join(f"{line}\n" for line in lines).encode()
-        done = subprocess.run([program("edge_driver"), path], input=given, capture_output=True)
+        done = subprocess.run([program(crate), path], input=given, capture_output=True)
     return done.stdout.decode().split("\n")[:-1]
 
 
 def told(name, source):
     """What is wrong with the answers for a source."""
-    given = shown(answers(source, ["show"]))
+    given = shown(answers("edge_driver", source, ["show"]))
     chance = random.Random(name)
     cases = [*edge_cases(chance, given), *node_cases(chance, given)]
-    came = answers(source, [line for line, _ in cases])
+    came = answers("edge_driver", source, [line for line, _ in cases])
     pairs = [(line, wanted, answer) for (line, wanted), answer in zip(cases, came) if answer != wanted]
     wrong = [f"{answer!r} in place of {wanted!r} to {line}" for line, wanted, answer in pairs]
     if not cases or len(came) != len(cases):

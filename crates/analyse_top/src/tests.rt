@@ -72,9 +72,10 @@ fn files_of(alloc: Global, failing: u64) -> Result<MemFiles, AllocError> {
     Ok(MemFiles::new(alloc, files, Vec::from_slice(alloc, &[failing])?))
 }
 
-// Words, and by the number of the call on files that fails, from a first to a last one, the status and what is shown. Open,
-// two reads and close read a whole file; each READ of a program reads a record, and one more reads none at the end. Create
-// and close empty a file, and create, write and close put one. The last row of a command is one call more than it makes.
+// Words, and by the number of the call on files that fails, from a first to a last one, the status and what is shown.
+// Open, two reads and close read a whole file; each READ of a program reads a record, and one more reads none at the
+// end. Create and close empty a file, and create, write and close put one. The last row of a command is one call more
+// than it makes.
 const FAULTS: [(&str, u64, u64, u8, &str); 16] = [
     ("check S C", 1, 8, 5, "E3 read\n"),
     ("check S C", 9, 9, 0, "clean\n"),
@@ -243,8 +244,8 @@ fn files_are_read_by_one_byte_at_a_time_alike(rt: HostRuntime) -> Result<(), Fai
     Ok(())
 }
 
-// The calls of these numbers, counted behind those that read the program R by a byte at a time: open, a read for each byte
-// and one at the end, and close.
+// The calls of these numbers, counted behind those that read the program R by a byte at a time: open, a read for each
+// byte and one at the end, and close.
 fn calls_behind(alloc: Global, first: u64, last: u64) -> Result<Vec<u64>, AllocError> {
     let mut calls = Vec::new(alloc);
     for call in first..last {

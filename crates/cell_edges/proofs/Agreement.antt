@@ -1,6 +1,6 @@
 -- What a sum, its stored value and its remainder are worth rests on the sum's items alone.
 use Rattle.std.proofs.Common.{◌≡◌, ℕ, Bool, true, false, List, [], ◌∷◌, ◌++◌, Option, Some, None, is_some, pos, refl, ap, subst, ◌∙◌}
-use Rattle.std.specs.Prelude.{◌&&◌, unwrap_or}
+use Rattle.std.specs.Prelude.{unwrap_or}
 use Rattle.dec_num.specs.declared.types.Scaled.{Scaled}
 use Rattle.dec_num.specs.Scaled.{value_of}
 use Rattle.cob_data.specs.declared.layout.Layout.{Layout}
@@ -11,6 +11,7 @@ use Rattle.cob_program.specs.Values.{whole_number, negated, plus, product, with_
 use Rattle.cob_runs.specs.Contents.{number_at}
 use Rattle.cob_runs.specs.Computing as computing
 use Rattle.cob_runs.specs.Computing.{items_in, items_in_parts, items_in_factors, items_in_atom, are_numeric, worth, cut_quotient, remainder_of}
+use Rattle.cell_edges.proofs.PartsDone.{both_true}
 
 bind_same : {A B : Type 0} (x y : Option A) (f g : A → Option B) → x ≡ y → ((a : A) → f a ≡ g a) → (x >>= f) ≡ (y >>= g)
 bind_same None y f g e h = ap (λ o. o >>= g) e
@@ -128,12 +129,8 @@ module _ (l : Layout) (storage : List ℕ) (other : ℕ → Scaled) where
   same_number None a b e = absurd cc
   same_number (Some v) a b e = refl
 
-  both : (b c : Bool) → (b && c) ≡ true → (b ≡ true) × (c ≡ true)
-  both true c e = (refl, e)
-  both false c e = absurd cc
-
   pub numeric_agree : (places : List ℕ) → are_numeric l storage places ≡ true → Agree (worth l storage) (λ place. unwrap_or (number_at l storage place) (other place)) places
   numeric_agree [] e = tt
   numeric_agree (p ∷ ps) e =
-      let k = both (is_some (number_at l storage p)) (are_numeric l storage ps) e in
+      let k = both_true (is_some (number_at l storage p)) (are_numeric l storage ps) e in
       (same_number (number_at l storage p) (whole_number (pos 0)) (other p) k.0, numeric_agree ps k.1)

@@ -33,6 +33,7 @@ use Rattle.cell_edges.proofs.WalkLaws.{Given}
 use Rattle.cell_edges.proofs.PartsDone.{both_true, read_first}
 use Rattle.cell_edges.proofs.PartsKeep.{keeps}
 use Rattle.cell_edges.proofs.PartsClear.{cleared}
+use Rattle.cell_edges.proofs.OperandsRise.{or_right}
 
 module _ (given : Given) (p : Program) (statement : ℕ) (a : Act) (x : Action) where
   -- ---- the walk
@@ -106,10 +107,6 @@ module _ (given : Given) (p : Program) (statement : ℕ) (a : Act) (x : Action) 
   any_behind : (xs ys : List Part) → list_any is_store ys ≡ true → list_any is_store (xs ++ ys) ≡ true
   any_behind [] ys e = e
   any_behind (z ∷ xs) ys e = or_right (is_store z) (list_any is_store (xs ++ ys)) (any_behind xs ys e)
-    where
-      or_right : (b c : Bool) → c ≡ true → (b || c) ≡ true
-      or_right true c e = refl
-      or_right false c e = e
 
   any_before : (xs ys : List Part) → list_any is_store xs ≡ true → list_any is_store (xs ++ ys) ≡ true
   any_before [] ys e = absurd cc

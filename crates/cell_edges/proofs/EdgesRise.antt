@@ -19,6 +19,7 @@ use Rattle.cell_edges.proofs.ResultLaws.{Given}
 use Rattle.cell_edges.proofs.CellLists.{cells_reflexive}
 use Rattle.cell_edges.proofs.PartsRise.{BelowIf, rises}
 use Rattle.cell_edges.proofs.ClearsFall.{clears_below}
+use Rattle.cell_edges.proofs.PartsDone.{both_true, and_true}
 
 module _ (given : Given) (p : Program) (a : Act) (x : Action) where
   pub begins_below : (as_ bs : List Known) → CellsFit (owns p) as_ → CellsBelow as_ bs → SeenBelow p a x (beginning as_) (beginning bs)
@@ -41,14 +42,6 @@ module _ (given : Given) (p : Program) (a : Act) (x : Action) where
   pub steps_rise : (ys : List Part) (s t : Seen) → SeenBelow p a x s t → BelowIf p a x (steps p a x ys s) (steps p a x ys t)
   steps_rise [] s t h = h
   steps_rise (y ∷ ys) s t h = then_rises (step p a x y s) (step p a x y t) ys (rises given p a x y s t h) (λ u v k. steps_rise ys u v k)
-
-  both_true : (b c : Bool) → (b && c) ≡ true → (b ≡ true) × (c ≡ true)
-  both_true true c e = (refl, e)
-  both_true false c e = absurd cc
-
-  and_true : (b c : Bool) → b ≡ true → c ≡ true → (b && c) ≡ true
-  and_true true c e f = f
-  and_true false c e f = absurd cc
 
   if_falls : (o q : Option Seen) (ys : List Part) (fault : Kind) → BelowIf p a x o q → ((s t : Seen) → SeenBelow p a x s t → clears_parts p a x ys t fault ≡ true → clears_parts p a x ys s fault ≡ true)
       → option_map_or (λ t. clears_parts p a x ys t fault) q true ≡ true → option_map_or (λ s. clears_parts p a x ys s fault) o true ≡ true

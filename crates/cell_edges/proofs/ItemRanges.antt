@@ -21,7 +21,7 @@ use Rattle.cell_edges.proofs.CellLists.{known_fits, known_below}
 around_zero : (n : ℕ) → neg_ℤ (pos n) ≤ℤ pos n
 around_zero n = omega (arith, ints)
 
-above_zero : (n : ℕ) → pos 0 ≤ℤ pos n
+pub above_zero : (n : ℕ) → pos 0 ≤ℤ pos n
 above_zero n = omega (arith, ints)
 
 pub picture_ordered : (digits : ℕ) (signed : Bool) → (picture_range digits signed).low ≤ℤ (picture_range digits signed).high

@@ -1,5 +1,5 @@
 -- What is cleared before a part isn't met there.
-use Rattle.std.proofs.Common.{◌≡◌, ◌≤◌, ℕ, ◌==◌, Bool, true, false, not, if◌then◌else◌, ◌⊎◌, inl, inr, List, [], ◌∷◌, ◌++◌, Option, Some, None, is_some, ℤ, pos, ◌≤ℤ◌, ◌-ℤ◌, refl, sym, ap, subst, ◌∙◌, arith}
+use Rattle.std.proofs.Common.{◌≡◌, ◌≤◌, ℕ, ◌==◌, Bool, true, false, not, if◌then◌else◌, ◌⊎◌, inl, inr, List, [], ◌∷◌, ◌++◌, Option, Some, None, is_some, ℤ, pos, ◌-ℤ◌, refl, sym, ap, subst, ◌∙◌, arith}
 use Rattle.std.specs.Prelude.{IsSomeAnd, int_le, ◌^◌, unsigned_abs}
 use Rattle.std.specs.List.{list_all}
 use Rattle.std.specs.Option.{option_map_or}
@@ -51,15 +51,13 @@ use Rattle.cell_edges.proofs.PartsDone.{both_true, and_true, read_first, divisor
 use Rattle.cell_edges.proofs.QuietParts.{times_small}
 use Rattle.cell_edges.proofs.StoresKeep.{is_there, TakenAt, taken_at, HasRoot, amount_there, counts_amount, amount_meant}
 use Rattle.cell_edges.proofs.PartsKeep.{numeric, amount_or_other, all_in, same_value, sent_holds, counted_down, lower_holds, off_zero}
+use Rattle.cell_edges.proofs.PartsRise.{test_le}
 
 -- ---- tests
 
 pub not_both : (b : Bool) → b ≡ true → not b ≡ true → ⊥
 not_both true e f = cc
 not_both false e f = cc
-
-test_le : (z w : ℤ) → z ≤ℤ w → int_le z w ≡ true
-test_le z w h = grind (arith, ints, h)
 
 exceeded_of : (z : ℤ) → ¬ IsCount z → 10 ^ 18 ≤ unsigned_abs z
 exceeded_of z h = omega (arith, h)

@@ -1,5 +1,5 @@
 -- What is seen behind a part is true where what is seen before it is.
-use Rattle.std.proofs.Common.{◌≡◌, ◌<◌, ◌≤◌, ℕ, ◌+◌, ◌==◌, Bool, true, false, ◌&&◌, ◌||◌, not, if◌then◌else◌, inl, inr, List, [], ◌∷◌, ◌++◌, length, Option, Some, None, is_some, ℤ, pos, ◌≤ℤ◌, ◌-ℤ◌, refl, sym, ap, subst, ◌∙◌, arith}
+use Rattle.std.proofs.Common.{◌≡◌, ◌<◌, ◌≤◌, ℕ, ◌+◌, ◌==◌, Bool, true, false, ◌&&◌, ◌||◌, not, if◌then◌else◌, inl, inr, List, [], ◌∷◌, ◌++◌, length, Option, Some, None, is_some, ℤ, pos, ◌-ℤ◌, refl, sym, ap, subst, ◌∙◌, arith}
 use Rattle.std.specs.Prelude.{IfSome, IsSomeAnd, int_le, nat_lt, ◌^◌, unsigned_abs, unwrap_or, slice_set, ◌-◌}
 use Rattle.std.specs.List.{list_any, Contains}
 use Rattle.std.specs.Option.{option_map, option_map_or}
@@ -61,21 +61,22 @@ use Rattle.cell_edges.proofs.PartsDone.{any_last, none_written, read_first, read
 use Rattle.cell_edges.proofs.QuietParts.{same_moment, SeenOn, quiet, quiet_at, read_keeps, guard_keeps, read_count_keeps, guard_count_keeps, times_small}
 use Rattle.cell_edges.proofs.StoreOutcomes.{result_meant, each_outcome}
 use Rattle.cell_edges.proofs.StoresKeep.{then_holds, TakenAt, taken_at, written_agrees, counts_amount, stored_stands}
+use Rattle.cell_edges.proofs.PartsRise.{le_test}
 
 -- ---- numbers
+
+pub less_by_test : (n k : ℕ) → nat_lt n k ≡ true → n < k
+less_by_test n k f = grind (arith, nat_tests)
+
+pub not_less_by_test : (n k : ℕ) → nat_lt n k ≡ false → n < k → ⊥
+not_less_by_test n k f g = grind (arith, nat_tests)
 
 count_of : (z : ℤ) → ¬ ¬ IsCount z → IsCount z
 count_of z h = go (nat_lt (unsigned_abs z) (10 ^ 18)) refl
   where
     go : (b : Bool) → nat_lt (unsigned_abs z) (10 ^ 18) ≡ b → IsCount z
-    go true e = lt_is (unsigned_abs z) (10 ^ 18) e
-      where
-        lt_is : (n k : ℕ) → nat_lt n k ≡ true → n < k
-        lt_is n k f = grind (arith, nat_tests)
-    go false e = absurd (h (λ k. not_lt (unsigned_abs z) (10 ^ 18) e k))
-      where
-        not_lt : (n k : ℕ) → nat_lt n k ≡ false → n < k → ⊥
-        not_lt n k f g = grind (arith, nat_tests)
+    go true e = less_by_test (unsigned_abs z) (10 ^ 18) e
+    go false e = absurd (h (λ k. not_less_by_test (unsigned_abs z) (10 ^ 18) e k))
 
 some_of_least : (R : ℤ → Type 0) (o : Option Interval) (z : ℤ) → IsLeastIfAny R o → R z → IsSomeAnd o (λ i. Holds i z)
 some_of_least R None z h r = h z r
@@ -157,9 +158,6 @@ module _ (given : Given) (p : Program) (statement : ℕ) (a : Act) (x : Action) 
         isnt_alone : (v : Scaled) (r : Ranged) → IsIn v r → not (unsigned_abs v.units == 0) ≡ true → not (is_zero_alone r) ≡ true
         isnt_alone v r h k = both (int_le (pos 0) r.units.low) (int_le r.units.high (pos 0)) refl refl
           where
-            le_is : (z w : ℤ) → int_le z w ≡ true → z ≤ℤ w
-            le_is z w f = omega (arith, ints, f)
-
             isnt_zero : (n : ℕ) → not (n == 0) ≡ true → n ≡ 0 → ⊥
             isnt_zero n f e = test (n == 0) refl f
               where
@@ -169,7 +167,7 @@ module _ (given : Given) (p : Program) (statement : ℕ) (a : Act) (x : Action) 
 
             both : (b c : Bool) → int_le (pos 0) r.units.low ≡ b → int_le r.units.high (pos 0) ≡ c → not (b && c) ≡ true
             both true true f g =
-                let low = le_is (pos 0) r.units.low f in let high = le_is r.units.high (pos 0) g in let held = h.held in
+                let low = le_test (pos 0) r.units.low f in let high = le_test r.units.high (pos 0) g in let held = h.held in
                 absurd (isnt_zero (unsigned_abs v.units) k (let l = held.0 in let u = held.1 in omega (arith, ints, low, high, l, u)))
             both true false f g = refl
             both false c f g = refl

@@ -46,6 +46,7 @@ use Rattle.cell_edges.proofs.CellLists.{cells_transitive, with_known_fits, forgo
 use Rattle.cell_edges.proofs.ItemRanges.{units_fit, units_below, range_ordered, range_below, knows_more}
 use Rattle.cell_edges.proofs.OperandsRise.{or_left, or_right, or_either, or_rises, and_rises, untaken_operands, operands_vanish_rises, edge_operands_below, AmountBelowIf, amount_below, divisor_zero_rises}
 use Rattle.cell_edges.proofs.ResultsFit.{result_fits, count_fits}
+use Rattle.cell_edges.proofs.PartsDone.{both_true, and_true}
 
 -- nothing lies below all
 abbrev pub BelowIf : Program → Act → Action → Option Seen → Option Seen → Type 0
@@ -163,19 +164,11 @@ module _ (p : Program) where
 
 -- ---- divisors
 
-le_test : (z w : ℤ) → int_le z w ≡ true → z ≤ℤ w
+pub le_test : (z w : ℤ) → int_le z w ≡ true → z ≤ℤ w
 le_test z w e = omega (arith, ints, e)
 
-test_le : (z w : ℤ) → z ≤ℤ w → int_le z w ≡ true
+pub test_le : (z w : ℤ) → z ≤ℤ w → int_le z w ≡ true
 test_le z w e = grind (arith, ints, e)
-
-both_true : (b c : Bool) → (b && c) ≡ true → (b ≡ true) × (c ≡ true)
-both_true true c e = (refl, e)
-both_true false c e = absurd cc
-
-and_true : (b c : Bool) → b ≡ true → c ≡ true → (b && c) ≡ true
-and_true true c e f = f
-and_true false c e f = absurd cc
 
 pub not_falls : (b c : Bool) → (c ≡ true → b ≡ true) → not b ≡ true → not c ≡ true
 not_falls true c h e = absurd cc

@@ -1,5 +1,5 @@
 -- The laws of results and of guards, put in.
-use Rattle.std.proofs.Common.{Option, Some, None, IfSome, ℤ, ◌≤ℤ◌}
+use Rattle.std.proofs.Common.{Option, Some, None, IfSome, ◌≤ℤ◌}
 use Rattle.decimal_interval.specs.declared.bounds.Interval.{Interval}
 use Rattle.result_ranges.specs.Results.{IsInside, IsInsideIfAny}
 use Rattle.result_ranges.proofs.Keeping.{kept_least}

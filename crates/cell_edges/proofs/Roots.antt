@@ -35,7 +35,7 @@ end_is x scale =
 ranged_is : (r : Ranged) (low high : ℤ) (scale : ℕ) → low ≡ r.units.low → high ≡ r.units.high → scale ≡ r.scale → ranged (interval low high) scale ≡ r
 ranged_is r low high scale e f g = rw (e, f, g) refl
 
-plus_zero : (b : Ranged) → plus_range (point (whole_number (pos 0))) b ≡ b
+pub plus_zero : (b : Ranged) → plus_range (point (whole_number (pos 0))) b ≡ b
 plus_zero b = ranged_is b _ _ _ (end_is b.units.low b.scale) (end_is b.units.high b.scale) (joint_is b.scale)
 
 -- ---- the last factor

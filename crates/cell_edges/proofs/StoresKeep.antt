@@ -8,7 +8,9 @@ use Rattle.dec_num.specs.Exact.{Fraction}
 use Rattle.dec_num.specs.Scaled.{value_of}
 use Rattle.dec_num.proofs.Powers.{ten_positive}
 use Rattle.cob_tree.specs.declared.form.Form.{Form}
+use Rattle.cob_tree.specs.declared.form.Usage.{Usage}
 use Rattle.cob_tree.specs.declared.form.Form.TheVariants as form
+use Rattle.cob_data.specs.declared.layout.Layout.{Layout}
 use Rattle.cob_data.specs.declared.layout.Item.{Item}
 use Rattle.cob_data.specs.declared.layout.Sender.{Sender}
 use Rattle.cob_data.specs.declared.layout.Sender.TheVariants as sender
@@ -35,7 +37,8 @@ use Rattle.result_ranges.specs.Amounts.{IsAmount}
 use Rattle.graph_runs.specs.Counters.{PassesPart, PassesParts}
 use Rattle.edge_places.specs.Places.{IsBehindOperands, EndsWithRead, IsComputed, IsBehindSender, Moves, Augments, Counts, IsStored, IsInPlace}
 use Rattle.cell_rows.specs.Known.{Known, KnownFits}
-use Rattle.cell_storages.specs.Homes.{of_item, homes_of, picture_range, form_range}
+use Rattle.cell_storages.specs.Homes.{Home, of_item, homes_of, picture_range, form_range}
+use Rattle.cell_storages.specs.Premises.{HasSoundItems}
 use Rattle.cell_storages.specs.Storages.{storage, known_of, value_at, KnownStands, StandsIn}
 use Rattle.cell_steps.specs.Cells.{forgotten, is_beside}
 use Rattle.cell_steps.specs.Operands.{edge_amount, edge_operands, amount_of, operands_vanish}
@@ -355,46 +358,61 @@ back_holds : (digits : ℕ) (signed : Bool) (i : Interval) (z : ℤ) → KnownFi
 back_holds digits true i z k h = h
 back_holds digits false i z (l, o, m) (b, c) = let same : pos (unsigned_abs z) ≡ z = omega (arith, ints, l, b) in subst (λ (w : ℤ). Holds i w) (sym same) (b, c)
 
+-- the item holds the number, as it is read back, and items that have none of its bytes keep theirs
+pub record IsItemFilled (l : Layout) (place : ℕ) (z : ℤ) (before held : List ℕ) (counts : List (Option ℤ)) : Type 0 where
+  pub same_length : length (filled_at l before place held) ≡ length before
+  pub others : (h : Home) → is_beside l place h ≡ false → value_at l (storage (filled_at l before place held) counts) h ≡ value_at l (storage before counts) h
+  pub new : (digits scale : ℕ) (signed : Bool) (usage : Usage) → form_at l place ≡ form.Number digits scale signed usage
+      → value_at l (storage (filled_at l before place held) counts) (of_item place) ≡ Some (if signed then z else pos (unsigned_abs z))
+
+pub item_is_filled : (l : Layout) (place : ℕ) (z : ℤ) (before held : List ℕ) (counts : List (Option ℤ)) → HasSoundItems l → takes_number (form_at l place) ≡ true → unsigned_abs z < 10 ^ digits_of (form_at l place)
+    → held ≡ bytes_of (form_at l place) z → length before ≡ l.storage → IsItemFilled l place z before held counts
+item_is_filled l place z before held counts items takes room is whole = by_item (item_at l place) refl
+  where
+    no_item : item_at l place ≡ None → ⊥
+    no_item e = let none : form_at l place ≡ form.Group = ap (λ (o : Option Item). option_map_or (λ j. j.form) o form.Group) e in
+        let f : takes_number form.Group ≡ true = subst (λ (k : Form). takes_number k ≡ true) none takes in cc
+
+    by_item : (o : Option Item) → item_at l place ≡ o → IsItemFilled l place z before held counts
+    by_item None e = absurd (no_item e)
+    by_item (Some j) e = record {
+      same_length = filled_length l place j e before held counts long within;
+      others = λ h apart. others_stay l place j e before held counts long within h apart;
+      new = λ digits scale signed usage k.
+          held_value l place j e before held counts long within
+          ∙ ap (contents_value (form_at l place)) is ∙ items.back place digits scale signed usage z k (subst (λ (f : Form). unsigned_abs z < 10 ^ digits_of f) k room);
+    }
+      where
+        its_form : form_at l place ≡ j.form
+        its_form = ap (λ (o : Option Item). option_map_or (λ k. k.form) o form.Group) e
+
+        long : length held ≡ j.length
+        long = ap length (is ∙ ap (λ (f : Form). bytes_of f z) its_form) ∙ items.whole place j z e (subst (λ (f : Form). takes_number f ≡ true) its_form takes) (subst (λ (f : Form). unsigned_abs z < 10 ^ digits_of f) its_form room)
+
+        within : j.offset + j.length ≤ length before
+        within = subst (λ (n : ℕ). j.offset + j.length ≤ n) (sym whole) (items.within place j e)
+
 module _ (p : Program) (statement : ℕ) (a : Act) (x : Action) (sound : IsSoundEdge p statement a x) where
   -- storage behind a store of a number in the interval
   pub stored_stands : (place : ℕ) (cells : List Known) (m : Moment) (i : Interval) (z : ℤ) (held : List ℕ) → takes_number (form_at p.layout place) ≡ true
       → KnownFits (form_range (form_at p.layout place)) (Some i) → Holds i z → held ≡ bytes_of (form_at p.layout place) z → StandsIn p cells (storage m.storage m.counts)
       → StandsIn p (stored_cells p place cells i) (storage (filled_at p.layout m.storage place held) m.counts)
-  stored_stands place cells m i z held takes fits holds is stands = by_item (item_at p.layout place) refl
+  stored_stands place cells m i z held takes fits holds is stands = record {
+    whole = fill.same_length ∙ stands.whole;
+    counted = stands.counted;
+    known = home_set p (forgotten (is_beside p.layout place) (homes_of p) cells) (storage (filled_at p.layout m.storage place held) m.counts) (of_item place) (stored_known (form_at p.layout place) i)
+        (λ there. new (form_at p.layout place) refl)
+        (λ h there d. known_left (λ k. KnownStands k (value_at p.layout (storage (filled_at p.layout m.storage place held) m.counts) h)) tt (is_beside p.layout place) (homes_of p) cells h
+        (λ apart. subst (λ (v : Option ℤ). KnownStands (known_of (homes_of p) cells h) v) (sym (fill.others h apart)) (stands.known h)));
+  }
     where
-      room : unsigned_abs z < 10 ^ digits_of (form_at p.layout place)
-      room = has_room (form_at p.layout place) i z takes fits holds
+      fill : IsItemFilled p.layout place z m.storage held m.counts
+      fill = item_is_filled p.layout place z m.storage held m.counts sound.items takes (has_room (form_at p.layout place) i z takes fits holds) is stands.whole
 
-      no_item : item_at p.layout place ≡ None → ⊥
-      no_item e = let none : form_at p.layout place ≡ form.Group = ap (λ (o : Option Item). option_map_or (λ j. j.form) o form.Group) e in
-          let f : takes_number form.Group ≡ true = subst (λ (k : Form). takes_number k ≡ true) none takes in cc
-
-      by_item : (o : Option Item) → item_at p.layout place ≡ o → StandsIn p (stored_cells p place cells i) (storage (filled_at p.layout m.storage place held) m.counts)
-      by_item None e = absurd (no_item e)
-      by_item (Some j) e = record {
-        whole = filled_length p.layout place j e m.storage held m.counts long within ∙ stands.whole;
-        counted = stands.counted;
-        known = home_set p (forgotten (is_beside p.layout place) (homes_of p) cells) (storage (filled_at p.layout m.storage place held) m.counts) (of_item place) (stored_known (form_at p.layout place) i)
-            (λ there. new (form_at p.layout place) refl)
-            (λ h there d. known_left (λ k. KnownStands k (value_at p.layout (storage (filled_at p.layout m.storage place held) m.counts) h)) tt (is_beside p.layout place) (homes_of p) cells h
-            (λ apart. subst (λ (v : Option ℤ). KnownStands (known_of (homes_of p) cells h) v) (sym (others_stay p.layout place j e m.storage held m.counts long within h apart)) (stands.known h)));
-      }
-        where
-          its_form : form_at p.layout place ≡ j.form
-          its_form = ap (λ (o : Option Item). option_map_or (λ k. k.form) o form.Group) e
-
-          long : length held ≡ j.length
-          long = ap length (is ∙ ap (λ (f : Form). bytes_of f z) its_form) ∙ sound.items.whole place j z e (subst (λ (f : Form). takes_number f ≡ true) its_form takes) (subst (λ (f : Form). unsigned_abs z < 10 ^ digits_of f) its_form room)
-
-          within : j.offset + j.length ≤ length m.storage
-          within = subst (λ (n : ℕ). j.offset + j.length ≤ n) (sym stands.whole) (sound.items.within place j e)
-
-          new : (f : Form) → form_at p.layout place ≡ f → KnownStands (stored_known f i) (value_at p.layout (storage (filled_at p.layout m.storage place held) m.counts) (of_item place))
-          new form.Group k = tt
-          new (form.Text n) k = tt
-          new (form.Edited picture digits scale) k = tt
-          new (form.Number digits scale signed kept) k =
-              let back : contents_value (form_at p.layout place) held ≡ Some (if signed then z else pos (unsigned_abs z)) =
-              ap (contents_value (form_at p.layout place)) is ∙ sound.items.back place digits scale signed kept z k (subst (λ (f : Form). unsigned_abs z < 10 ^ digits_of f) k room) in
-              subst (λ (v : Option ℤ). KnownStands (Some i) v) (sym (held_value p.layout place j e m.storage held m.counts long within ∙ back))
-              (back_holds digits signed i z (subst (λ (f : Form). KnownFits (form_range f) (Some i)) k fits) holds)
+      new : (f : Form) → form_at p.layout place ≡ f → KnownStands (stored_known f i) (value_at p.layout (storage (filled_at p.layout m.storage place held) m.counts) (of_item place))
+      new form.Group k = tt
+      new (form.Text n) k = tt
+      new (form.Edited picture digits scale) k = tt
+      new (form.Number digits scale signed kept) k =
+          subst (λ (v : Option ℤ). KnownStands (Some i) v) (sym (fill.new digits scale signed kept k))
+          (back_holds digits signed i z (subst (λ (f : Form). KnownFits (form_range f) (Some i)) k fits) holds)

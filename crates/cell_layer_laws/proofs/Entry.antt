@@ -1,5 +1,5 @@
 -- What is known of cells where a run begins is true of first storage, and lies in the cells' own ranges.
-use Rattle.std.proofs.Common.{◌≡◌, ℕ, Bool, true, false, ◌==◌, if◌then◌else◌, List, [], ◌∷◌, map, length, Option, Some, None, Result, Ok, Err, ℤ, ◌≤ℤ◌, refl, sym, ap, subst, ◌∙◌, arith}
+use Rattle.std.proofs.Common.{◌≡◌, ℕ, Bool, true, false, if◌then◌else◌, List, [], ◌∷◌, map, length, Option, Some, None, Result, Ok, Err, ℤ, refl, sym, ap, subst, ◌∙◌, arith}
 use Rattle.std.specs.Result.{result_ok}
 use Rattle.std.specs.Option.{option_map_or}
 use Rattle.std.proofs.Props.{props}
@@ -7,7 +7,6 @@ use Rattle.std.proofs.Math.Logic.{∥∥₁_elim}
 use Rattle.std.proofs.lemmas.Bool.{eqb-true}
 use Rattle.std.proofs.lemmas.Int.{ints}
 use Rattle.cob_tree.specs.declared.fault.Kind.{Kind}
-use Rattle.cob_tree.specs.declared.form.Form.{Form}
 use Rattle.cob_tree.specs.declared.form.Form.TheVariants as form
 use Rattle.cob_data.specs.declared.layout.Item.{Item}
 use Rattle.cob_data.specs.declared.layout.Layout.{Layout}
@@ -23,15 +22,14 @@ use Rattle.decimal_interval.specs.Bounds.{Holds}
 use Rattle.dom_laws.specs.Meaning.{Storage}
 use Rattle.cell_rows.specs.Known.{Known, KnownFits}
 use Rattle.cell_rows.specs.Elements.{CellsFit}
-use Rattle.graph_runs.specs.Sources.{HasValue, IsSourceGraph}
+use Rattle.graph_runs.specs.Sources.{IsSourceGraph}
 use Rattle.graph_runs.specs.Doing.{Begins}
 use Rattle.graph_runs.specs.Counters.{IsCounted}
 use Rattle.graph_runs.proofs.Counting.{begins_counted}
-use Rattle.data_laws.specs.Values.{BeginsWith, FirstStorageIsWhole, ValuesStandAtFirst}
+use Rattle.data_laws.specs.Values.{BeginsWith}
 use Rattle.data_laws.proofs.Stored.{first_storage_is_whole, values_stand_at_first}
 use Rattle.cell_storages.specs.Homes.{Home, of_item, of_count, is_home, homes_of, form_range, home_range, owns}
-use Rattle.cell_storages.specs.Storages.{known_of, storage, value_at, KnownStands, StandsIn}
-use Rattle.cell_storages.specs.Premises.{HasSoundItems}
+use Rattle.cell_storages.specs.Storages.{known_of, value_at, KnownStands, StandsIn}
 use Rattle.cell_facts.proofs.Sound.{items_are_sound}
 use Rattle.cell_layer_laws.specs.Entry.{value_bytes, point, entry_known, entry_cells}
 

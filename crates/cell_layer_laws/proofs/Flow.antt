@@ -1,15 +1,14 @@
 -- What is known of cells flows along a program's graph: each edge makes elements of elements, and more of more.
-use Rattle.std.proofs.Common.{◌≡◌, ℕ, List, Option, Some, None, ℤ, sym, ap, subst}
+use Rattle.std.proofs.Common.{ℕ, List, Option, Some, None, ℤ, sym, ap, subst}
 use Rattle.std.specs.Option.{option_map_or}
 use Rattle.std.proofs.Props.{props}
 use Rattle.std.proofs.Math.Logic.{∥∥₁_elim}
 use Rattle.cob_program.specs.Act.{Act, Program}
-use Rattle.cob_program.specs.Values.{◌>>=◌}
 use Rattle.cob_runs.specs.Effects.{act_at}
 use Rattle.cob_graph.specs.declared.graph.Edge.{Edge}
 use Rattle.cob_graph.specs.declared.graph.Graph.{Graph}
 use Rattle.dom_laws.specs.Lattice.{Lattice, IsElement}
-use Rattle.dom_laws.specs.Flow.{IsNode, IsEdge, IsFlow}
+use Rattle.dom_laws.specs.Flow.{IsFlow}
 use Rattle.cell_rows.specs.Known.{Known}
 use Rattle.cell_rows.specs.Elements.{Element, CellsFit, ElementFits, CellsBelow, ElementBelow}
 use Rattle.cell_rows.specs.Rows.{row_from, width_of, element_of, cells_lattice, RowBelow}
@@ -22,7 +21,6 @@ use Rattle.cell_storages.specs.Homes.{owns}
 use Rattle.cell_steps.specs.Edges.{post_cells}
 use Rattle.cell_layer_laws.specs.Entry.{entry_cells}
 use Rattle.cell_layer_laws.specs.Layer.{row_for, left, edge_cells, post_at, row_post, cell_flow}
-use Rattle.cell_layer_laws.specs.Laws.{CellsFlow}
 use Rattle.cell_edges.proofs.EachEdge.{posts_fit_owns, all_posts_rise}
 use Rattle.cell_layer_laws.proofs.Entry.{entry_fits}
 

@@ -1,5 +1,5 @@
 -- What is known of cells along the graph of a program: the first layer of the analysis (Cousot and Cousot 1977).
-use Rattle.std.specs.Prelude.{◌≡◌, ℕ, ◌==◌, not, ◌||◌, Bool, true, List, Option, Some, ℤ}
+use Rattle.std.specs.Prelude.{◌≡◌, ℕ, ◌==◌, not, ◌||◌, Bool, true, List, Some, ℤ}
 use Rattle.std.specs.Option.{option_map_or}
 use Rattle.std.specs.List.{list_all}
 use Rattle.cob_tree.specs.declared.fault.Kind.{Kind}

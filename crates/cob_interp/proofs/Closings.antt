@@ -1,6 +1,7 @@
 -- How the files change where they are opened and closed.
 use Rattle.std.proofs.Common.{◌≡◌, ℕ, zero, suc, Bool, true, false, not, if◌then◌else◌, List, [], ◌∷◌, Option, Some, None, Result, Ok, Err, ◌⊎◌, inl, inr, refl, sym, ap, subst, ◌∙◌}
-use Rattle.std.specs.Prelude.{Contains, slice_get, slice_set, IfOk}
+use Rattle.std.specs.Prelude.{Contains, slice_get, slice_set, IsSome, IfOk}
+use Rattle.std.proofs.lemmas.Bool.{false≢true}
 use Rattle.cob_data.specs.declared.layout.FileDecl.{FileDecl}
 use Rattle.cob_data.specs.declared.layout.Layout.{Layout}
 use Rattle.cob_plan.specs.declared.node.Op.{Op}
@@ -24,9 +25,9 @@ use Rattle.cob_interp.specs.declared.setting.Place.{Place}
 use Rattle.cob_interp.specs.Setting.{program_of}
 use Rattle.cob_interp.specs.Doing.{answered, DoesPart}
 use Rattle.cob_interp.specs.Touching.{ClosesOnly, OpensOnly}
-use Rattle.cob_interp.specs.Tracking.{IsReading, KeepsPlaces}
-use Rattle.cob_interp.proofs.Places.{set_keeps}
-use Rattle.cob_interp.proofs.TrackLemmas.{places_stay}
+use Rattle.cob_interp.specs.Tracking.{IsReading, StayAt, purpose_in, purposes_of}
+use Rattle.cob_interp.proofs.Places.{set_stays}
+use Rattle.cob_interp.proofs.Purposes.{purposes_set}
 use Rattle.cob_interp.proofs.Onward.{effect_by_act}
 use Rattle.cob_interp.proofs.CallsLead.{one_of_two}
 
@@ -93,6 +94,10 @@ module _ (w v : World) (place : ℕ) (e g : File) (has : slice_get w.files place
     ];
   }
 
+-- the file at a place is read no more, and the others stay
+abbrev pub EndsAt : List File → ℕ → List File → Type 0
+EndsAt fs place gs = StayAt fs gs × (purposes_of gs ≡ slice_set (purposes_of fs) place None)
+
 -- ---- calls
 
 closed_by_mode : (content : Option (List ℕ)) (m : Mode) (place : ℕ)
@@ -119,15 +124,25 @@ module _ (l : Layout) (w : World) where
   pub close_one_closes : (place : ℕ) → ClosesOnly w (close_one l place w).0
   close_one_closes place = closes_on place (decl_at l place) (slice_get w.files place) refl
 
-  keeps_on : (place : ℕ) (d : Option FileDecl) (o : Option File)
-      → KeepsPlaces w.files (file_act l after_close place d o w).0.files
-  keeps_on place None o = places_stay w.files
-  keeps_on place (Some d) None = places_stay w.files
-  keeps_on place (Some d) (Some f) = set_keeps w.files place (after_close f).0
-      (λ reads. subst (λ (m : Mode). IsReading m → ⊥) (sym (closed_by_mode f.content f.mode f.place)) (λ r. r) reads)
+  ends_on : (place : ℕ) (d : Option FileDecl) (o : Option File) → IsSome d → IsSome o
+      → EndsAt w.files place (file_act l after_close place d o w).0.files
+  ends_on place None o declared has = absurd (false≢true declared)
+  ends_on place (Some d) None declared has = absurd (false≢true has)
+  ends_on place (Some d) (Some f) declared has =
+      let shut = closed_by_mode f.content f.mode f.place in (
+        set_stays w.files place (after_close f).0
+            (λ reads. subst (λ (m : Mode). IsReading m → ⊥) (sym shut) (λ r. r) reads),
+        purposes_set w.files place (after_close f).0
+            ∙ ap (λ (m : Mode). slice_set (purposes_of w.files) place (purpose_in m)) shut,
+      )
 
-  pub close_one_keeps : (place : ℕ) → KeepsPlaces w.files (close_one l place w).0.files
-  close_one_keeps place = keeps_on place (decl_at l place) (slice_get w.files place)
+  -- a file that is closed is read no more
+  pub close_one_ends : (place : ℕ) (d : FileDecl) (f : File) → decl_at l place ≡ Some d → slice_get w.files place ≡ Some f
+      → EndsAt w.files place (close_one l place w).0.files
+  close_one_ends place d f declared has =
+      ends_on place (decl_at l place) (slice_get w.files place)
+      (subst (λ (o : Option FileDecl). IsSome o) (sym declared) refl)
+      (subst (λ (o : Option File). IsSome o) (sym has) refl)
 
   opens_on : (output : Bool) (place : ℕ) (d : Option FileDecl) (o : Option File) → slice_get w.files place ≡ o
       → OpensOnly w (file_act l (opened output) place d o w).0
@@ -176,17 +191,18 @@ module _ (p : Program) (number k : ℕ) (w v : World) where
 
   -- what holds behind each CLOSE
   module _ (fs : List ℕ) (its : act_at p number ≡ Some (close_files fs)) (Is : World → Type 0)
-      (each : (file_ : ℕ) → Is (close_one p.layout file_ w).0) where
-    closed_so : (fine : Bool) (o : Option ℕ) → effects.closed p number None w fine o ≡ Ok (Some v) → Is v
-    closed_so fine None e = absurd (not_going v e)
-    closed_so fine (Some file_) e =
-        subst Is (by_status_is p number w v fine (close_one p.layout file_ w) e) (each file_)
+      (each : (file_ : ℕ) → slice_get fs k ≡ Some file_ → Is (close_one p.layout file_ w).0) where
+    closed_so : (fine : Bool) (o : Option ℕ) → slice_get fs k ≡ o → effects.closed p number None w fine o ≡ Ok (Some v)
+        → Is v
+    closed_so fine None at e = absurd (not_going v e)
+    closed_so fine (Some file_) at e =
+        subst Is (by_status_is p number w v fine (close_one p.layout file_ w) e) (each file_ at)
 
     pub close_edge_is : (fine bad : ℕ) (a : Action) (m : ℕ) → Contains (op_edges (op.Close k fine bad)) (a, m)
         → effect p number None w a ≡ Ok (Some v) → Is v
     close_edge_is fine bad a m out does = elim (one_of_two _ _ _ out) [
-      | inl is ↦ closed_so true (slice_get fs k) (does_by_act (close_files fs) its (action.Close k, fine) a m is does)
-      | inr is ↦ closed_so false (slice_get fs k) (does_by_act (close_files fs) its (action.Bad k, bad) a m is does)
+      | inl is ↦ closed_so true (slice_get fs k) refl (does_by_act (close_files fs) its (action.Close k, fine) a m is does)
+      | inr is ↦ closed_so false (slice_get fs k) refl (does_by_act (close_files fs) its (action.Bad k, bad) a m is does)
     ]
 
   -- and behind each OPEN
@@ -227,15 +243,19 @@ module _ (s : Setting) (x : Place) (step : ℕ) (w v : World) where
   close_part fs k fine bad is its result d =
       where_done (ClosesOnly w v) (op.Close k fine bad) is
       (close_edge_is (program_of s) x.statement.now.number k w v fs its (λ (u : World). ClosesOnly w u)
-      (close_one_closes s.program.now.layout w) fine bad) result d
+      (λ file_ at. close_one_closes s.program.now.layout w file_) fine bad) result d
 
-  pub close_places : (fs : List ℕ) (k fine bad : ℕ) → x.plan_node.now.op ≡ op.Close k fine bad
+  pub close_ends : (fs : List ℕ) (k fine bad : ℕ) → x.plan_node.now.op ≡ op.Close k fine bad
       → act_at (program_of s) x.statement.now.number ≡ Some (close_files fs)
-      → (result : Result ℕ RunEnd) → DoesPart s x step w v result → IfOk result (λ _. KeepsPlaces w.files v.files)
-  close_places fs k fine bad is its result d =
-      where_done (KeepsPlaces w.files v.files) (op.Close k fine bad) is
-      (close_edge_is (program_of s) x.statement.now.number k w v fs its (λ (u : World). KeepsPlaces w.files u.files)
-      (close_one_keeps s.program.now.layout w) fine bad) result d
+      → (place : ℕ) (decl : FileDecl) (f : File) → slice_get fs k ≡ Some place
+      → decl_at s.program.now.layout place ≡ Some decl → slice_get w.files place ≡ Some f
+      → (result : Result ℕ RunEnd) → DoesPart s x step w v result → IfOk result (λ _. EndsAt w.files place v.files)
+  close_ends fs k fine bad is its place decl f at declared has result d =
+      where_done (EndsAt w.files place v.files) (op.Close k fine bad) is
+      (close_edge_is (program_of s) x.statement.now.number k w v fs its (λ (u : World). EndsAt w.files place u.files)
+      (λ file_ at_. let same : place ≡ file_ = cc in
+      subst (λ (n : ℕ). EndsAt w.files place (close_one s.program.now.layout n w).0.files) same
+      (close_one_ends s.program.now.layout w place decl f declared has)) fine bad) result d
 
   pub open_part : (os : List Opening) (k fine bad : ℕ) → x.plan_node.now.op ≡ op.Open k fine bad
       → act_at (program_of s) x.statement.now.number ≡ Some (open_files os)

@@ -136,9 +136,10 @@ module _ (old new : FilesState) (ids : Ids) (place id : ℕ) (is : IsRead ids pl
 
 -- ---- a record
 
-pub record_given : (old new : FilesState) (ids : Ids) (place id : ℕ) (room : List ℕ) (count : ℕ) → IsRead ids place id
-    → ReadsRecord old new id room (Ok count) → GivesRecord old new ids place room count
-record_given old new ids place id room count is reads = record {
+pub record_given : (old new : FilesState) (ids : Ids) (place id size : ℕ) (room : List ℕ) (count : ℕ) → IsRead ids place id
+    → length room ≡ size → ReadsRecord old new id room (Ok count) → GivesRecord old new ids place size room count
+record_given old new ids place id size room count is whole reads = record {
+  whole = whole;
   well = record { reading = reads.reading.kept refl; writing = reads.writing };
   id = id;
   is = is;

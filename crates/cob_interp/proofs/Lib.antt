@@ -19,6 +19,7 @@ pub mod TrackLemmas
 pub mod InputLemmas
 pub mod Windows
 pub mod Readied
+pub mod Purposes
 pub mod Places
 pub mod StepLemmas
 pub mod CallLemmas

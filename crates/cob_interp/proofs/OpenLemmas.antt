@@ -2,7 +2,7 @@
 use Rattle.std.proofs.Common.{◌≡◌, ℕ, zero, suc, ◌<◌, Bool, true, false, List, [], ◌∷◌, ◌++◌, length, Option, Some, None, inl, inr, refl, sym, ap, subst, ◌∙◌}
 use Rattle.std.specs.Prelude.{slice_get, slice_set, is_some, IsSome, IfSome}
 use Rattle.std.specs.Option.{option_map}
-use Rattle.batch_io.specs.FilesState.{Contents, FilesState, known_bytes, known_handle}
+use Rattle.batch_io.specs.FilesState.{Contents, FilesState, Purpose, Reading, known_bytes, known_handle}
 use Rattle.cob_program.specs.declared.act.Opening.{Opening}
 use Rattle.cob_runs.specs.Files.{File, file, Mode, closed, reading, writing, opened, opened_in}
 use Rattle.cob_runs.specs.State.{World, with_files}
@@ -15,9 +15,10 @@ use Rattle.cob_interp.specs.Told.{seen, seen_file, seen_files, IsSyncedIn, AreSy
 use Rattle.cob_interp.specs.Ends.{is_closed}
 use Rattle.cob_interp.specs.Setting.{paths_of}
 use Rattle.cob_interp.specs.Readying.{Puts, IsPath, IsOpenedAt, OpensInto, StandsOrBegins, ReadyToOpen}
-use Rattle.cob_interp.specs.Tracking.{Ids, IsRead, AreOpen, IsReading, KeepsPlaces}
+use Rattle.cob_interp.specs.Tracking.{Ids, IsRead, AreOpen, IsReading, StayAt, purpose_in, purposes_of, purpose_for, purposes_for}
 use Rattle.cob_interp.proofs.TrackLemmas.{read_in_set, places_stay}
-use Rattle.cob_interp.proofs.Places.{set_keeps}
+use Rattle.cob_interp.proofs.Places.{set_stays}
+use Rattle.cob_interp.proofs.Purposes.{map_set, set_same, purpose_at, purposes_kept}
 use Rattle.cob_interp.proofs.SeenFiles.{SeenAt, seen_at}
 
 -- the file whose mode was asked
@@ -94,8 +95,40 @@ absent_unread (Some bytes) closed place e none r = absurd cc
 absent_unread content (reading ended) place e none r = absurd cc
 absent_unread content writing place e none r = absurd cc
 
+-- what the file is open for then
+output_purpose : (content : Option (List ℕ)) (m : Mode) (place : ℕ) (output : Bool) → m ≡ closed → output ≡ true
+    → purpose_in (opened output (file content m place)).0.mode ≡ purpose_in m
+output_purpose content closed place true e out = refl
+output_purpose content closed place false e out = cc
+output_purpose content (reading ended) place output e out = cc
+output_purpose content writing place output e out = cc
+
+open_purpose : (output : Bool) (content : Option (List ℕ)) (m : Mode) (place : ℕ) → (m ≡ closed → ⊥)
+    → purpose_in (opened output (file content m place)).0.mode ≡ purpose_in m
+open_purpose output content closed place open_ = absurd (open_ refl)
+open_purpose output content (reading ended) place open_ = refl
+open_purpose output content writing place open_ = refl
+
+abbrev purpose_if : Bool → Option Purpose
+purpose_if true = Some Reading
+purpose_if false = None
+
+input_purpose : (content : Option (List ℕ)) (m : Mode) (place : ℕ) (output : Bool) → m ≡ closed → output ≡ false
+    → purpose_in (opened output (file content m place)).0.mode ≡ purpose_if (is_some content)
+input_purpose content m place true e input = cc
+input_purpose None closed place false e input = refl
+input_purpose (Some bytes) closed place false e input = refl
+input_purpose content (reading ended) place false e input = cc
+input_purpose content writing place false e input = cc
+
 module _ (s : Setting) (w : World) (o : Opening) (path : List ℕ) (is : IsPath s o.file path) (f : File)
     (has : slice_get w.files o.file ≡ Some f) where
+  unchanged : {p : Option Purpose} → p ≡ purpose_in f.mode
+      → slice_set (purposes_of w.files) o.file p ≡ purposes_of w.files
+  unchanged {p} e =
+      set_same (purposes_of w.files) o.file p
+      (purpose_at w.files o.file f has ∙ ap (λ (q : Option Purpose). Some q) (sym e))
+
   pub output_ready : (old new : FilesState) → f.mode ≡ closed → o.output ≡ true → Puts old new path []
       → (ids : Ids) → ((other id : ℕ) → IsRead ids other id → known_handle new id ≡ known_handle old id)
       → ReadyToOpen s w w o old new ids ids
@@ -113,6 +146,7 @@ module _ (s : Setting) (w : World) (o : Opening) (path : List ℕ) (is : IsPath 
     stand = record {
       stand = λ other id is_. inl (is_, stand other id is_, λ e reads. absurd (output_unread f mode output reads));
     };
+    purposes = λ h. h ∙ sym (unchanged (output_purpose f.content f.mode f.place o.output mode output));
     keeps = places_stay w.files;
     same = λ told text e synced. (refl, synced);
   }
@@ -130,6 +164,7 @@ module _ (s : Setting) (w : World) (o : Opening) (path : List ℕ) (is : IsPath 
           record { now = told; is = e; others = λ name apart. refl; it = agrees told o.output f.mode open_ };
     };
     stand = record { stand = λ other id is_. inl (is_, refl, λ e reads. open_reads o.output f open_ reads) };
+    purposes = λ h. h ∙ sym (unchanged (open_purpose o.output f.content f.mode f.place open_));
     keeps = places_stay w.files;
     same = λ told text e synced. (refl, synced);
   } where
@@ -173,6 +208,24 @@ module _ (s : Setting) (w : World) (o : Opening) (path : List ℕ) (is : IsPath 
           ];
     }
 
+    -- which files have ids behind it
+    opened_purposes : (there : Bool) → IsOpenedAt new before after path o.file there
+        → (content : Option (List ℕ)) → is_some content ≡ there → purposes_for before ≡ purposes_of w.files
+        → purposes_for after
+        ≡ slice_set (purposes_of w.files) o.file (purpose_in (opened o.output (file content f.mode f.place)).0.mode)
+    opened_purposes there at content is h =
+        let p = input_purpose content f.mode f.place o.output mode_ input in
+        by there at (p ∙ ap purpose_if is) where
+          by : (b : Bool) → IsOpenedAt new before after path o.file b
+              → purpose_in (opened o.output (file content f.mode f.place)).0.mode ≡ purpose_if b
+              → purposes_for after
+              ≡ slice_set (purposes_of w.files) o.file (purpose_in (opened o.output (file content f.mode f.place)).0.mode)
+          by false same p = ap purposes_for same ∙ h ∙ sym (unchanged (p ∙ ap purpose_in (sym mode_)))
+          by true begun p =
+              ap purposes_for begun.1 ∙ map_set purpose_for before o.file (Some begun.0)
+              ∙ ap (λ (ps : List (Option Purpose)). slice_set ps o.file (Some Reading)) h
+              ∙ ap (slice_set (purposes_of w.files) o.file) (sym p)
+
     pub opened_ready : (v : World) → OpensInto old new before after path o.file w v → known_bytes new ≡ known_bytes old
         → AreOpen old before → ReadyToOpen s w v o old new before after
     opened_ready v opens known live =
@@ -197,8 +250,15 @@ module _ (s : Setting) (w : World) (o : Opening) (path : List ℕ) (is : IsPath 
             };
           };
           stand = opened_stand opens.opens.within opens.there opens.opens.opened opens.opens.others live content opens.is;
-          keeps = subst (λ (fs : List File). KeepsPlaces w.files fs) (sym files_) (set_keeps w.files o.file g
-              (λ reads. subst (λ (m : Mode). IsReading m → ⊥) (sym mode_) (λ r. r) reads));
+          purposes = λ h.
+              opened_purposes opens.there opens.opens.opened content opens.is h
+              ∙ ap (λ (ps : List (Option Purpose)). slice_set ps o.file (purpose_in (opened o.output g).0.mode))
+              (sym (ap purposes_of files_ ∙ purposes_kept w.files o.file f g has refl));
+          keeps = record {
+            each = subst (λ (fs : List File). StayAt w.files fs) (sym files_) (set_stays w.files o.file g
+                (λ reads. subst (λ (m : Mode). IsReading m → ⊥) (sym mode_) (λ r. r) reads));
+            purposes = ap purposes_of files_ ∙ purposes_kept w.files o.file f g has refl;
+          };
           same = λ told text e synced.
               let r = refilled_seen told f mode_ content (paths_of s) w.files o.file synced has in (
                 ap (seen told (paths_of s) text) world_

@@ -25,7 +25,8 @@ use Rattle.cob_runs.specs.State.{World, with_storage}
 use Rattle.cob_runs.specs.Acts.{show, undefined_if, with_file, with_count, count_of, write_on, write_one, into_if, file_from, is_fine, decl_at}
 use Rattle.cob_runs.specs.Contents.{fitted, bytes_at, number_at, form_at, filled_at, stored}
 use Rattle.cob_runs.specs.Effects.{Effect, taken, taken_if, met, effect_of, computed, counted, tested, decided, shown, wrote, file_call, read_with, tests_in_act, assigned}
-use Rattle.cob_interp.specs.Tracking.{IsReading, KeepsPlaces}
+use Rattle.cob_interp.specs.Tracking.{IsReading, purpose_in, StayAt, KeepsPlaces}
+use Rattle.cob_interp.proofs.Purposes.{purposes_kept}
 use Rattle.cob_interp.proofs.Following.{IsPlainFor}
 
 -- ---- one file is new
@@ -42,18 +43,16 @@ got_in_set (x ∷ fs) (suc place) (suc p) e g is = elim (got_in_set fs place p e
 ]
 
 -- it isn't read
-pub set_keeps : (fs : List File) (place : ℕ) (e : File) → (IsReading e.mode → ⊥) → KeepsPlaces fs (slice_set fs place e)
-set_keeps fs place e not_read = record {
-  each = λ p g is reads. elim (got_in_set fs place p e g is) [
-    | inl here ↦ absurd (not_read (subst (λ (x : File). IsReading x.mode) (sym here.1) reads))
-    | inr there ↦ (g, there, reads, refl)
-  ];
-}
+pub set_stays : (fs : List File) (place : ℕ) (e : File) → (IsReading e.mode → ⊥) → StayAt fs (slice_set fs place e)
+set_stays fs place e not_read p g is reads = elim (got_in_set fs place p e g is) [
+  | inl here ↦ absurd (not_read (subst (λ (x : File). IsReading x.mode) (sym here.1) reads))
+  | inr there ↦ (g, there, reads, refl)
+]
 
 -- or it is as it was, where it is read
 pub set_keeps_as : (fs : List File) (place : ℕ) (f e : File) → slice_get fs place ≡ Some f → (IsReading e.mode → e ≡ f)
-    → KeepsPlaces fs (slice_set fs place e)
-set_keeps_as fs place f e has as_it_was = record {
+    → purpose_in e.mode ≡ purpose_in f.mode → KeepsPlaces fs (slice_set fs place e)
+set_keeps_as fs place f e has as_it_was same_purpose = record {
   each = λ p g is reads. elim (got_in_set fs place p e g is) [
     | inl here ↦
         let own : IsReading e.mode = subst (λ (x : File). IsReading x.mode) (sym here.1) reads in
@@ -65,11 +64,12 @@ set_keeps_as fs place f e has as_it_was = record {
         )
     | inr there ↦ (g, there, reads, refl)
   ];
+  purposes = purposes_kept fs place f e has same_purpose;
 }
 
 pub same_keeps : (fs gs : List File) → gs ≡ fs → KeepsPlaces fs gs
 same_keeps fs gs e = subst (λ (hs : List File). KeepsPlaces fs hs) (sym e)
-    (record { each = λ p g is reads. (g, is, reads, refl) })
+    (record { each = λ p g is reads. (g, is, reads, refl); purposes = refl })
 
 -- ---- an effect
 
@@ -265,6 +265,14 @@ module _ (p : Program) (number : ℕ) (w : World) where
     by content (reading ended) place reads = refl
     by content writing place reads = absurd reads
 
+  written_purpose : (r : List ℕ) (f : File) → purpose_in (after_write r f).0.mode ≡ purpose_in f.mode
+  written_purpose r f = by f.content f.mode f.place where
+    by : (content : Option (List ℕ)) (m : Mode) (place : ℕ)
+        → purpose_in (after_write r (file content m place)).0.mode ≡ purpose_in m
+    by content closed place = refl
+    by content (reading ended) place = refl
+    by content writing place = refl
+
   undefined_none : (b : Bool) (d : FileDecl) (v : World) → undefined_if p.layout b None d v ≡ v
   undefined_none true d v = refl
   undefined_none false d v = refl
@@ -277,7 +285,7 @@ module _ (p : Program) (number : ℕ) (w : World) where
       let r = fitted d.length (bytes_at p.layout w.storage rec_) in
       let x = with_file p.layout place d (after_write r f) w in
       subst (λ (u : World). KeepsPlaces w.files u.files) (sym (undefined_none (is_fine x.1) d x.0))
-      (set_keeps_as w.files place f (after_write r f).0 has (written_mode r f))
+      (set_keeps_as w.files place f (after_write r f).0 has (written_mode r f) (written_purpose r f))
 
   wrote_by : (fine : Bool) (r : ℕ) (file : Option ℕ) → Keeps w (wrote p number None w fine r file)
   wrote_by fine r None = tt

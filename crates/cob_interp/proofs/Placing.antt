@@ -1,21 +1,22 @@
 -- Where ids stand behind an OPEN, a CLOSE and a READ.
 use Rattle.std.proofs.Common.{◌≡◌, ◌≢◌, ℕ, ◌+◌, ◌<◌, ◌⊎◌, Bool, true, false, List, [], length, Option, Some, None, Result, Ok, Err, inl, inr, refl, sym, ap, subst, ◌∙◌, take_all, arith}
 use Rattle.std.specs.Prelude.{Contains, slice_get, slice_set, option_map, IsSome, IfSome, IfOk}
-use Rattle.std.proofs.lemmas.Bool.{cases_eq}
+use Rattle.std.proofs.lemmas.Bool.{cases_eq, false≢true}
 use Rattle.std.proofs.lemmas.Bool.Decides.{nat_tests}
-use Rattle.batch_io.specs.FilesState.{FilesState, Handle, Purpose, known_handle, moved_by}
+use Rattle.batch_io.specs.FilesState.{FilesState, Handle, Purpose, Reading, known_handle, moved_by}
 use Rattle.cob_data.specs.declared.layout.FileDecl.{FileDecl}
 use Rattle.cob_data.specs.declared.layout.Layout.{Layout}
-use Rattle.cob_runs.specs.Files.{File, file, Mode, closed, reading, writing, opened, Taken, after_read}
+use Rattle.cob_runs.specs.Files.{File, file, Mode, closed, reading, writing, opened, Taken, taken_from, record_at, after_read}
 use Rattle.cob_runs.specs.State.{World, with_files}
 use Rattle.cob_runs.specs.Acts.{decl_at, file_act, open_one, take_on, take_one}
 use Rattle.cob_world.specs.Calling.{replaced}
-use Rattle.cob_interp.specs.Tracking.{Ids, IsRead, AreOpen, IsReading, ArePlaced, KeepsPlaces}
+use Rattle.cob_interp.specs.Tracking.{Ids, IsRead, AreOpen, IsReading, purpose_in, purposes_of, purpose_for, purposes_for, StandAt, ArePlaced, KeepsPlaces}
 use Rattle.cob_interp.specs.Readying.{GivesWindow, IsReadOn, settled, settled_file}
 use Rattle.cob_program.specs.declared.act.Opening.{Opening}
 use Rattle.cob_interp.specs.Readying.{StandsOrBegins}
 use Rattle.cob_interp.proofs.Places.{got_in_set, set_keeps_as}
-use Rattle.cob_interp.proofs.TrackLemmas.{get_set_other, placed_on, places_stay, places_pass}
+use Rattle.cob_interp.proofs.TrackLemmas.{get_set_other, stand_on, placed_on, places_stay, places_pass}
+use Rattle.cob_interp.proofs.Purposes.{map_set, purposes_set, purposes_kept}
 use Rattle.cob_interp.proofs.OneFile.{takes, from_place, from_end}
 use Rattle.cob_plan.specs.declared.node.Op.TheVariants as op
 use Rattle.cob_plan.specs.Plan.{op_edges}
@@ -30,7 +31,7 @@ use Rattle.cob_interp.specs.Doing.{IsPlain, DoesPart}
 use Rattle.cob_interp.proofs.Onward.{effect_by_act}
 use Rattle.cob_interp.proofs.Following.{plain_edge}
 use Rattle.cob_interp.proofs.Places.{plain_keeps, where_keeps}
-use Rattle.cob_interp.proofs.Closings.{where_done, open_edge_is}
+use Rattle.cob_interp.proofs.Closings.{EndsAt, where_done, open_edge_is}
 use Rattle.cob_interp.proofs.ReadLemmas.{get_set, three, taken_test, kept_files}
 
 -- ---- handles
@@ -64,7 +65,7 @@ kept_place size window (inr e) =
 module _ (old new : FilesState) (paths : List (List ℕ)) (ids : Ids) (live : AreOpen old ids) (files : List File)
     (placed : ArePlaced paths old ids files) (place size : ℕ) (f g : File) (has : slice_get files place ≡ Some f)
     (mode_ : f.mode ≡ reading false) (window : List ℕ) (gives : GivesWindow old new ids place size window)
-    (stands_at : g.place ≡ f.place + length window) where
+    (stands_at : g.place ≡ f.place + length window) (still : purpose_in g.mode ≡ purpose_in f.mode) where
   here : (id : ℕ) (path : List ℕ) → IsRead ids place id → slice_get paths place ≡ Some path
       → IfSome (known_handle new id) (λ handle. handle ≡ record { name = path; place = g.place })
   here id path is at =
@@ -74,10 +75,10 @@ module _ (old new : FilesState) (paths : List (List ℕ)) (ids : Ids) (live : Ar
       (sym stands_at)
       (moved_handle (known_handle old id) (known_handle new id) path f.place (length window)
       (subst (λ (n : ℕ). known_handle new n ≡ option_map (moved_by (length window)) (known_handle old n)) same
-      gives.given.moved) (placed place id path f is at has reads))
+      gives.given.moved) (placed.stand place id path f is at has reads))
 
-  pub window_placed : ArePlaced paths new ids (slice_set files place g)
-  window_placed other id path h is at there reads = elim (cases_eq other place) [
+  window_stand : StandAt paths new ids (slice_set files place g)
+  window_stand other id path h is at there reads = elim (cases_eq other place) [
     | inl same ↦
         let set : slice_get (slice_set files place g) place ≡ Some g = get_set files place f g has in
         let got : slice_get (slice_set files place g) place ≡ Some h =
@@ -87,13 +88,19 @@ module _ (old new : FilesState) (paths : List (List ℕ)) (ids : Ids) (live : Ar
         (here id path (subst (λ (n : ℕ). IsRead ids n id) same is)
         (subst (λ (n : ℕ). slice_get paths n ≡ Some path) same at))
     | inr apart ↦
-        let before = placed other id path h is at (sym (get_set_other files place other g apart) ∙ there) reads in
+        let before = placed.stand other id path h is at (sym (get_set_other files place other g apart) ∙ there) reads in
         let differs : id ≢ gives.id =
         λ e. apart (live.apart other place id is (subst (λ (n : ℕ). IsRead ids place n) (sym e) gives.is)) in
         subst (λ (o : Option Handle). IfSome o (λ handle. handle ≡ record { name = path; place = h.place }))
         (sym (gives.given.others id differs
         (subst (λ (o : Option Purpose). IsSome o) (sym (live.purpose other id is)) refl))) before
   ]
+
+  pub window_placed : ArePlaced paths new ids (slice_set files place g)
+  window_placed = record {
+    stand = window_stand;
+    purposes = placed.purposes ∙ sym (purposes_kept files place f g has still);
+  }
 
 -- ---- an OPEN and a CLOSE
 
@@ -110,7 +117,7 @@ places_behind fs gs hs (Err e) first then_ = tt
 
 module _ (l : Layout) (paths : List (List ℕ)) (old new : FilesState) (before after : Ids) (w : World) (o : Opening)
     (path : List ℕ) (f : File) (at : slice_get paths o.file ≡ Some path) (has : slice_get w.files o.file ≡ Some f)
-    (stand : StandsOrBegins old new before after path o.file o.output f) (placed : ArePlaced paths old before w.files) where
+    (stand : StandsOrBegins old new before after path o.file o.output f) (placed : StandAt paths old before w.files) where
   still_closed : f.mode ≡ closed → IsReading f.mode → ⊥
   still_closed e reads = subst IsReading e reads
 
@@ -132,7 +139,7 @@ module _ (l : Layout) (paths : List (List ℕ)) (old new : FilesState) (before a
   open_same writing content place reads = absurd reads
 
   abbrev Is : List File → Type 0
-  Is fs = ArePlaced paths new after fs
+  Is fs = StandAt paths new after fs
 
   -- where the file is opened
   opened_in_set : Is (slice_set w.files o.file (opened o.output f).0)
@@ -188,8 +195,39 @@ module _ (l : Layout) (paths : List (List ℕ)) (old new : FilesState) (before a
       let same : f ≡ y = cc in
       subst (λ (z : File). Is (slice_set w.files o.file (opened o.output z).0)) same opened_in_set
 
-  pub open_one_placed : Is (open_one l o w).0.files
-  open_one_placed = opened_by (decl_at l o.file) (slice_get w.files o.file) has
+  open_one_stand : Is (open_one l o w).0.files
+  open_one_stand = opened_by (decl_at l o.file) (slice_get w.files o.file) has
+
+  opened_purpose : (decl : Option FileDecl) (x : Option File) → IsSome decl → x ≡ Some f
+      → purposes_of (file_act l (opened o.output) o.file decl x w).0.files
+      ≡ slice_set (purposes_of w.files) o.file (purpose_in (opened o.output f).0.mode)
+  opened_purpose None x declared e = absurd (false≢true declared)
+  opened_purpose (Some d) None declared e = cc
+  opened_purpose (Some d) (Some y) declared e =
+      let same : f ≡ y = cc in
+      purposes_set w.files o.file (opened o.output y).0
+      ∙ ap (λ (z : File). slice_set (purposes_of w.files) o.file (purpose_in (opened o.output z).0.mode)) (sym same)
+
+  pub open_one_placed : (d : FileDecl) → decl_at l o.file ≡ Some d
+      → purposes_for after ≡ slice_set (purposes_of w.files) o.file (purpose_in (opened o.output f).0.mode)
+      → ArePlaced paths new after (open_one l o w).0.files
+  open_one_placed d declared purposes = record {
+    stand = open_one_stand;
+    purposes = purposes
+        ∙ sym (opened_purpose (decl_at l o.file) (slice_get w.files o.file)
+        (subst (λ (x : Option FileDecl). IsSome x) (sym declared) refl) has);
+  }
+
+-- where a file is closed
+pub placed_ends : (paths : List (List ℕ)) (old new : FilesState) (before after : Ids) (fs gs : List File) (place : ℕ)
+    {A E : Type 0} (result : Result A E) → IfOk result (λ _. EndsAt fs place gs) → ArePlaced paths old before fs
+    → StandAt paths new after fs → after ≡ slice_set before place None → IfOk result (λ _. ArePlaced paths new after gs)
+placed_ends paths old new before after fs gs place (Ok x) ends placed stand is = record {
+  stand = stand_on paths new after fs gs ends.0 stand;
+  purposes = ap purposes_for is ∙ map_set purpose_for before place None
+      ∙ ap (λ (ps : List (Option Purpose)). slice_set ps place None) placed.purposes ∙ sym ends.1;
+}
+placed_ends paths old new before after fs gs place (Err e) ends placed stand is = tt
 
 -- ---- the part of a node
 
@@ -244,6 +282,19 @@ module _ (s : Setting) (x : Place) (step : ℕ) (w v : World) (b : Act)
 
 -- ---- behind a READ
 
+taken_purpose : (size : ℕ) (content : Option (List ℕ)) (place : ℕ) (r : Option (List ℕ))
+    → purpose_in (taken_from size (file content (reading false) place) r).file.mode ≡ Some Reading
+taken_purpose size content place None = refl
+taken_purpose size content place (Some bytes) = refl
+
+read_purpose : (size : ℕ) (content : Option (List ℕ)) (m : Mode) (place : ℕ)
+    → purpose_in (after_read size (file content m place)).file.mode ≡ purpose_in m
+read_purpose size content closed place = refl
+read_purpose size content (reading true) place = refl
+read_purpose size content (reading false) place =
+    taken_purpose size content place (record_at size (file content (reading false) place))
+read_purpose size content writing place = refl
+
 module _ (s : Setting) (old new : FilesState) (ids : Ids) (live : AreOpen old ids) (w : World)
     (placed : ArePlaced (paths_of s) old ids w.files) (place : ℕ) (f : File) (d : FileDecl)
     (has : slice_get w.files place ≡ Some f) (mode_ : f.mode ≡ reading false)
@@ -262,10 +313,13 @@ module _ (s : Setting) (old new : FilesState) (ids : Ids) (live : AreOpen old id
       let g = settled_file f.place (after_read d.length (file (Some window) (reading false) 0)).file in
       let at : g.place ≡ f.place + length window =
       ap (λ (n : ℕ). f.place + n) (kept_place d.length window whole_or_none) in
+      let still : purpose_in g.mode ≡ purpose_in f.mode =
+      read_purpose d.length (Some window) (reading false) 0 ∙ ap purpose_in (sym mode_) in
       subst (λ (fs : List File). ArePlaced (paths_of s) new ids fs)
       (sym (ap (λ (u : World). (settled place f.place u).files) is
       ∙ kept_files s.program.now.layout w place f d has declared window mode_))
-      (window_placed old new (paths_of s) ids live w.files placed place d.length f g has mode_ window gives at)
+      (window_placed old new (paths_of s) ids live w.files placed place d.length f g has mode_ window gives at
+      still)
 
 -- a file that isn't read, or whose end was met
 idle_kept : (size : ℕ) (content : Option (List ℕ)) (m : Mode) (place : ℕ) → (m ≡ reading false → ⊥)
@@ -281,7 +335,7 @@ idle_on l w place None o has idle = places_stay w.files
 idle_on l w place (Some d) None has idle = places_stay w.files
 idle_on l w place (Some d) (Some f) has idle =
     set_keeps_as w.files place f (after_read d.length f).file has
-    (λ reads. idle_kept d.length f.content f.mode f.place idle)
+    (λ reads. idle_kept d.length f.content f.mode f.place idle) (read_purpose d.length f.content f.mode f.place)
 
 pub idle_placed : (l : Layout) (w v : World) (place : ℕ) → IsReadOn (slice_get w.files place) None
     → v ≡ (take_one l None place w).0 → KeepsPlaces w.files v.files

@@ -8,21 +8,21 @@ use Rattle.cob_interp.specs.declared.setting.Setting.{Setting}
 use Rattle.cob_interp.specs.Readying.{AreWell, Keeps, ReadyToClose, ClosesFor}
 use Rattle.cob_interp.specs.Touching.{IsTouched, Touches}
 use Rattle.cob_interp.specs.Told.{IsReadyToClose}
-use Rattle.cob_interp.specs.Tracking.{Ids, AreOpen, ArePlaced}
+use Rattle.cob_interp.specs.Tracking.{Ids, AreOpen, StandAt}
 
 module _ (paths : List (List ℕ)) (a b : FilesState) (fs : List File) where
-  pub placed_ids : (ids : Ids) → KeepsIds a b → AreOpen a ids → ArePlaced paths a ids fs → ArePlaced paths b ids fs
-  placed_ids ids keeps live placed place id path f is at has reads =
+  pub stand_ids : (ids : Ids) → KeepsIds a b → AreOpen a ids → StandAt paths a ids fs → StandAt paths b ids fs
+  stand_ids ids keeps live stand place id path f is at has reads =
       subst (λ (o : Option Handle). IfSome o (λ handle. handle ≡ record { name = path; place = f.place }))
       (sym (keeps.handle id (subst (λ (o : Option Purpose). IsSome o) (sym (live.purpose place id is)) refl)))
-      (placed place id path f is at has reads)
+      (stand place id path f is at has reads)
 
-  pub placed_closed : (before after : Ids) (place : ℕ) → ClosesFor a b before after place → ArePlaced paths a before fs
-      → ArePlaced paths b after fs
-  placed_closed before after place closes placed q id path f is at has reads =
+  pub stand_closed : (before after : Ids) (place : ℕ) → ClosesFor a b before after place → StandAt paths a before fs
+      → StandAt paths b after fs
+  stand_closed before after place closes stand q id path f is at has reads =
       let c = closes.ids q id is in
       subst (λ (o : Option Handle). IfSome o (λ handle. handle ≡ record { name = path; place = f.place })) (sym c.1)
-      (placed q id path f c.0 at has reads)
+      (stand q id path f c.0 at has reads)
 
 pub ready_closed : (s : Setting) (w : World) (place : ℕ) (old mid new : FilesState) → ReadyToClose s w place old mid
     → AreWell mid new → known_bytes new ≡ known_bytes mid → ReadyToClose s w place old new

@@ -1,8 +1,8 @@
 -- Where a run begins.
 use Rattle.std.proofs.Common.{◌≡◌, ℕ, zero, suc, ◌+◌, ◌-◌, List, [], ◌∷◌, length, map, inl, Option, Some, None, Err, refl, sym, ap, subst, ◌∙◌, arith}
-use Rattle.std.specs.Prelude.{slice_get}
+use Rattle.std.specs.Prelude.{slice_get, replicate}
 use Rattle.std.specs.FinMap.{get}
-use Rattle.batch_io.specs.FilesState.{Contents, known_bytes}
+use Rattle.batch_io.specs.FilesState.{Contents, FilesState, Purpose, known_bytes}
 use Rattle.cob_data.specs.declared.layout.FileDecl.{FileDecl}
 use Rattle.cob_program.specs.Act.{Program}
 use Rattle.cob_meaning.specs.declared.straight.Outcome.{Outcome}
@@ -22,6 +22,8 @@ use Rattle.cob_interp.specs.Ends.{told_files, AreFree, state_after}
 use Rattle.cob_interp.specs.Told.{seen, seen_files, AreSynced}
 use Rattle.cob_interp.specs.Running.{Outside, IfTold, makes_next, StandsIn, StandsIf, BreaksOff, IsAt, Runs}
 use Rattle.cob_interp.proofs.Passing.{append_none, well_stays}
+use Rattle.cob_interp.specs.Tracking.{Ids, AreNone, purposes_of, purposes_for, ArePlaced}
+use Rattle.cob_interp.proofs.TrackLemmas.{none_stand}
 use Rattle.cob_interp.proofs.Breaking.{part_seen}
 
 -- ---- the first files
@@ -56,6 +58,21 @@ first_synced told [] [] n same = tt
 first_synced told [] (d ∷ ds) n same = cc
 first_synced told (path ∷ paths) [] n same = cc
 first_synced told (path ∷ paths) (d ∷ ds) n same = (tt, first_synced told paths ds (suc n) (omega (arith, same)))
+
+-- none of them is open
+pub first_purposes : (contents : runs.Contents) (n : ℕ) (ds : List FileDecl)
+    → purposes_of (first_files contents n ds) ≡ replicate (length ds) None
+first_purposes contents n [] = refl
+first_purposes contents n (d ∷ ds) = ap (λ (ps : List (Option Purpose)). None ∷ ps) (first_purposes contents (suc n) ds)
+
+pub placed_first : (p : Program) (contents : runs.Contents) (paths : List (List ℕ)) (state : FilesState) (ids : Ids)
+    (w : World) (count : ℕ) → count ≡ length p.layout.files → AreNone ids → purposes_for ids ≡ replicate count None
+    → w ≡ first_world p contents [] → ArePlaced paths state ids w.files
+placed_first p contents paths state ids w count same none purposes is = record {
+  stand = none_stand paths state ids w.files none;
+  purposes = purposes ∙ ap (λ (n : ℕ). replicate n None) same ∙ sym (first_purposes contents 0 p.layout.files)
+      ∙ sym (ap (λ (v : World). purposes_of v.files) is);
+}
 
 -- ---- the first state
 

@@ -5,7 +5,7 @@ use Rattle.std.proofs.lemmas.Bool.{cases_eq, false≢true}
 use Rattle.batch_io.specs.FilesState.{FilesState, Reading, Gives, KeepsIds, KeepsOthers, known_handle}
 use Rattle.batch_io.specs.FilesCalls.{OpensId}
 use Rattle.cob_runs.specs.Files.{File}
-use Rattle.cob_interp.specs.Tracking.{Ids, IsRead, IsElse, AreNone, AreOpen, KeepsBut, Tracks, ArePlaced, KeepsPlaces}
+use Rattle.cob_interp.specs.Tracking.{Ids, IsRead, IsElse, AreNone, AreOpen, KeepsBut, Tracks, StandAt, ArePlaced, StayAt, KeepsPlaces}
 
 -- ---- no id changes
 
@@ -214,20 +214,27 @@ ids_kept old new ids last none none_ t =
 
 -- ---- where they stand
 
-pub none_placed : (paths : List (List ℕ)) (a : FilesState) (ids : Ids) (fs : List File) → AreNone ids
-    → ArePlaced paths a ids fs
-none_placed paths a ids fs none place id path f is = absurd (none place id is)
+pub none_stand : (paths : List (List ℕ)) (a : FilesState) (ids : Ids) (fs : List File) → AreNone ids
+    → StandAt paths a ids fs
+none_stand paths a ids fs none place id path f is = absurd (none place id is)
+
+pub stand_on : (paths : List (List ℕ)) (a : FilesState) (ids : Ids) (fs gs : List File) → StayAt fs gs
+    → StandAt paths a ids fs → StandAt paths a ids gs
+stand_on paths a ids fs gs stay stand place id path g is at has reads =
+    let f = stay place g has reads in
+    subst (λ n. IfSome (known_handle a id) (λ handle. handle ≡ record { name = path; place = n })) f.3
+    (stand place id path f.0 is at f.1 f.2)
 
 -- where the files that are read keep their places
 pub placed_on : (paths : List (List ℕ)) (a : FilesState) (ids : Ids) (fs gs : List File) → KeepsPlaces fs gs
     → ArePlaced paths a ids fs → ArePlaced paths a ids gs
-placed_on paths a ids fs gs keeps placed place id path g is at has reads =
-    let f = keeps.each place g has reads in
-    subst (λ n. IfSome (known_handle a id) (λ handle. handle ≡ record { name = path; place = n })) f.3
-    (placed place id path f.0 is at f.1 f.2)
+placed_on paths a ids fs gs keeps placed = record {
+  stand = stand_on paths a ids fs gs keeps.each placed.stand;
+  purposes = placed.purposes ∙ sym keeps.purposes;
+}
 
 pub places_stay : (fs : List File) → KeepsPlaces fs fs
-places_stay fs = record { each = λ place g has reads. (g, has, reads, refl) }
+places_stay fs = record { each = λ place g has reads. (g, has, reads, refl); purposes = refl }
 
 pub places_pass : (fs gs hs : List File) → KeepsPlaces fs gs → KeepsPlaces gs hs → KeepsPlaces fs hs
 places_pass fs gs hs h k = record {
@@ -235,4 +242,5 @@ places_pass fs gs hs h k = record {
       let g = k.each place x has reads in
       let f = h.each place g.0 g.1 g.2 in
       (f.0, f.1, f.2, f.3 ∙ g.3);
+  purposes = k.purposes ∙ h.purposes;
 }

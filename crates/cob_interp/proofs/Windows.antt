@@ -45,7 +45,7 @@ module _ (old new : FilesState) (paths : List (List ℕ)) (ids : Ids) (files : L
   pub given_split : (left : List ℕ) × (known_rest new id ≡ Some left) × (drop f.place all ≡ window ++ left)
   given_split =
       rest_split (known_rest new id) window (drop f.place all)
-      (sym (rest_at old.told id told path f.place all e (placed place id path f is at has (reads_mode f.mode mode_)) held)
+      (sym (rest_at old.told id told path f.place all e (placed.stand place id path f is at has (reads_mode f.mode mode_)) held)
       ∙ given.rest)
 
 pub left_none : (o : Option (List ℕ)) (left : List ℕ) → o ≡ Some left → IfSome o (λ rest. rest ≡ []) → left ≡ []
@@ -55,7 +55,10 @@ left_none (Some rest) left e h = let same : rest ≡ left = cc in sym same ∙ h
 -- ---- what a READ is given
 
 module _ (old new : FilesState) (ids : Ids) (place size : ℕ) (room : List ℕ) (count : ℕ)
-    (gives : GivesRecord old new ids place room count) (long : length room ≡ size) where
+    (gives : GivesRecord old new ids place size room count) where
+  long : length room ≡ size
+  long = gives.whole
+
   -- a whole record
   pub window_full : count ≡ length room → GivesWindow old new ids place size room
   window_full e = record {

@@ -13,7 +13,7 @@ use Rattle.cob_interp.specs.declared.ends.RunEnd.{RunEnd}
 use Rattle.cob_interp.specs.declared.ends.RunEnd.TheVariants as end
 use Rattle.cob_interp.specs.declared.setting.Setting.{Setting}
 use Rattle.cob_interp.specs.Told.{seen, AreSynced, AgreeBut, IsReadyToOpen, IsReadyToClose}
-use Rattle.cob_interp.specs.Tracking.{Ids, IsRead, IsReading, KeepsPlaces}
+use Rattle.cob_interp.specs.Tracking.{Ids, IsRead, IsReading, purpose_in, purposes_of, purposes_for, KeepsPlaces}
 use Rattle.cob_interp.specs.Setting.{paths_of}
 
 -- no fault was met
@@ -94,8 +94,10 @@ pub record ClosesAll (old new : FilesState) (result : Result (Unit {0}) RunEnd) 
   pub writing : new.writing ≡ old.writing
   pub reading : MatchResult result (λ _. new.reading ≡ old.reading) (λ e. IsRefusal old new e)
 
--- The next bytes of the file at a place stand at the front of its room: as many as fit, or those to the end.
-pub record GivesRecord (old new : FilesState) (ids : Ids) (place : ℕ) (room : List ℕ) (count : ℕ) : Type 0 where
+-- The next bytes of the file at a place stand at the front of its room, which holds so many: as many as fit, or those to
+-- the end.
+pub record GivesRecord (old new : FilesState) (ids : Ids) (place size : ℕ) (room : List ℕ) (count : ℕ) : Type 0 where
+  pub whole : length room ≡ size
   pub well : AreWell old new
   pub id : ℕ
   pub is : IsRead ids place id
@@ -130,6 +132,9 @@ pub record ReadyToOpen (s : Setting) (w v : World) (o : Opening) (old new : File
   pub ready : Readies old new path (λ told now. IsReadyToOpen told now path o.output file)
   -- ids stand where they stood, but for one that the file may have got, which stands at its first byte
   pub stand : StandsOrBegins old new before after path o.file o.output file
+  -- and the file has one exactly where it is read then
+  pub purposes : purposes_for before ≡ purposes_of w.files
+      → purposes_for after ≡ slice_set (purposes_of v.files) o.file (purpose_in (opened o.output file).0.mode)
   pub keeps : KeepsPlaces w.files v.files
   -- the file's new content isn't seen
   pub same : (told : Contents) (text : List ℕ) → known_bytes old ≡ Some told → AreSynced told (paths_of s) w.files

@@ -1,7 +1,7 @@
 //! Files that are being read.
-ghost use Rattle.std.specs.Prelude.{◌≡◌, ◌<◌, ℕ, IfOk, IfSome, MatchResult, None, length, slice_set};
+ghost use Rattle.std.specs.Prelude.{◌≡◌, ◌<◌, ℕ, IfOk, IfSome, MatchResult, Some, None, length, replicate, slice_get, slice_set};
 ghost use Rattle.batch_io.specs.FilesState.{known_bytes};
-ghost use Rattle.cob_interp.specs.Tracking.{IsRead, AreNone, AreOpen, Tracks};
+ghost use Rattle.cob_interp.specs.Tracking.{IsRead, IsReadAt, AreNone, AreOpen, Tracks, purposes_for};
 ghost use Rattle.cob_interp.specs.Readying.{IsRefusal, OpensFor, ClosesFor, ClosesAll, GivesRecord, first_refusal};
 
 use crate::ends::RunEnd;
@@ -45,7 +45,8 @@ fn first_of(first: Result<(), RunEnd>, other: Result<(), RunEnd>) -> Result<(), 
 impl Inputs {
     /// None of so many files.
     pub fn none(alloc: Global, count: usize) -> Result<Inputs, AllocError>
-        ensures { IfOk result (λ ids. AreNone ids) }
+        ensures none { IfOk result (λ ids. AreNone ids) }
+        ensures purposes { IfOk result (λ ids. purposes_for ids ≡ replicate count None) }
     {
         let mut ids = Vec::with_capacity(alloc, count)?;
         let mut rooms = Vec::with_capacity(alloc, count)?;
@@ -73,13 +74,17 @@ impl Inputs {
         self.ids[place] = id;
     }
 
-    fn take_room(&mut self, alloc: Global, place: usize) -> Vec<u8>
-        ensures { self.new ≡ self.old }
+    // The room of the file at a place, which has so many bytes: it takes no memory where it has them already.
+    fn take_room(&mut self, alloc: Global, place: usize, size: u32) -> Result<Vec<u8>, AllocError>
+        ensures kept { self.new ≡ self.old }
+        ensures room { IfOk result (λ room. length room.items ≡ size) }
     {
-        match self.rooms.get_mut(place) {
+        let mut room = match self.rooms.get_mut(place) {
             Some(room) => mem::replace(room, Vec::new(alloc)),
             None => Vec::new(alloc),
-        }
+        };
+        room.resize(size as usize, 0)?;
+        Ok(room)
     }
 
     /// Gives the room of the file at a place back.
@@ -91,8 +96,8 @@ impl Inputs {
         }
     }
 
-    /// Opens the file of this name for the file at a place, with room for one record of so many bytes. Answers whether
-    /// it is there.
+    /// Opens the file of this name for the file at a place, which isn't read, with room for one record of so many bytes.
+    /// Answers whether it is there.
     pub fn open<F: Files>(
         &mut self,
         alloc: Global,
@@ -102,18 +107,13 @@ impl Inputs {
         size: u32,
     ) -> Result<bool, RunEnd>
         requires live { AreOpen (F.state files.old) self.old }
+        requires free { slice_get self.old place ≡ Some None }
         ensures tracks { Tracks (F.state files.old) (F.state files.new) self.old self.new }
         ensures same { known_bytes (F.state files.new) ≡ known_bytes (F.state files.old) }
         ensures opens { MatchResult result
             (λ there. OpensFor (F.state files.old) (F.state files.new) self.old self.new name.now place there)
             (λ e. IsRefusal (F.state files.old) (F.state files.new) e) }
     {
-        if place >= self.ids.len() {
-            return Err(RunEnd::Memory);
-        }
-        if let Some(_) = self.id(place) {
-            return Err(RunEnd::Memory);
-        }
         let Ok(room) = room_of(alloc, size) else {
             return Err(RunEnd::Memory);
         };
@@ -165,26 +165,30 @@ impl Inputs {
         closed
     }
 
-    /// Reads the next bytes of the file at a place into its room: a record, or those to the end. Answers the room,
-    /// which is to be given back, and how many bytes at its front were read.
+    /// Reads the next bytes of the file at a place, which is read, into its room of so many bytes: a record, or those to
+    /// the end. Answers the room, which is to be given back, and how many bytes at its front were read.
     pub fn next_record<F: Files>(
         &mut self,
         alloc: Global,
         files: &mut F,
         place: usize,
+        size: u32,
     ) -> Result<(Vec<u8>, usize), RunEnd>
         requires live { AreOpen (F.state files.old) self.old }
+        requires reads { IsReadAt self.old place }
         ensures tracks { Tracks (F.state files.old) (F.state files.new) self.old self.new }
         ensures same { known_bytes (F.state files.new) ≡ known_bytes (F.state files.old) }
         ensures kept { self.new ≡ self.old }
         ensures gives { MatchResult result
-            (λ r. GivesRecord (F.state files.old) (F.state files.new) self.old place r.0.items r.1)
+            (λ r. GivesRecord (F.state files.old) (F.state files.new) self.old place size r.0.items r.1)
             (λ e. IsRefusal (F.state files.old) (F.state files.new) e) }
     {
         let Some(id) = self.id(place) else {
+            unreachable!()
+        };
+        let Ok(mut room) = self.take_room(alloc, place, size) else {
             return Err(RunEnd::Memory);
         };
-        let mut room = self.take_room(alloc, place);
         match read_record(files, id, room.as_mut_slice()) {
             Ok(count) => Ok((room, count)),
             Err(Failed) => Err(RunEnd::ReadFault),

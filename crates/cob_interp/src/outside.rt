@@ -1,8 +1,8 @@
 //! How what a run keeps is put outside, and files are opened and closed there.
-ghost use Rattle.std.specs.Prelude.{◌≡◌, List, MatchResult, IfOk, [], ◌∷◌, length, false};
+ghost use Rattle.std.specs.Prelude.{◌≡◌, List, MatchResult, IfOk, [], ◌∷◌, Some, None, length, slice_get, slice_set, false};
 ghost use Rattle.batch_io.specs.FilesState.{KeepsIds, known_bytes};
 ghost use Rattle.cob_interp.specs.Readying.{IsRefusal, Puts, Readies, ReadyToClose, OpensInto, ReadyToOpen};
-ghost use Rattle.cob_interp.specs.Tracking.{AreOpen, ArePlaced, Tracks};
+ghost use Rattle.cob_interp.specs.Tracking.{AreOpen, ArePlaced, StandAt, Tracks};
 ghost use Rattle.cob_runs.specs.Files as file;
 ghost use Rattle.cob_interp.specs.Ends.{is_closed};
 ghost use Rattle.cob_interp.specs.Told.{IsReadyToClose};
@@ -92,8 +92,9 @@ pub fn ready_to_close<F: Files>(
     ensures readies { MatchResult result
         (λ _. ReadyToClose setting.now world.now.world place (F.state files.old) (F.state files.new))
         (λ e. IsRefusal (F.state files.old) (F.state files.new) e) }
-    ensures placed { (fs : List file.File) → ArePlaced (paths_of setting.now) (F.state files.old) inputs.old fs
-        → IfOk result (λ _. ArePlaced (paths_of setting.now) (F.state files.new) inputs.new fs) }
+    ensures stand { (fs : List file.File) → StandAt (paths_of setting.now) (F.state files.old) inputs.old fs
+        → IfOk result (λ _. StandAt (paths_of setting.now) (F.state files.new) inputs.new fs) }
+    ensures emptied { IfOk result (λ _. inputs.new ≡ slice_set inputs.old place None) }
     ensures touches { Touches (paths_of setting.now) makes_none world.now.world (F.state files.old)
         (F.state files.new) }
 {
@@ -119,6 +120,7 @@ fn open_input<F: Files>(
     place: u32,
 ) -> Result<(), RunEnd>
     requires live { AreOpen (F.state files.old) inputs.old }
+    requires free { slice_get inputs.old place ≡ Some None }
     ensures tracks { Tracks (F.state files.old) (F.state files.new) inputs.old inputs.new }
     ensures kept { world.new.program ≡ world.old.program }
     ensures same { known_bytes (F.state files.new) ≡ known_bytes (F.state files.old) }
@@ -151,6 +153,7 @@ pub fn ready_to_open<F: Files>(
 ) -> Result<(), RunEnd>
     requires ready { IsReady setting.now }
     requires live { AreOpen (F.state files.old) inputs.old }
+    requires placed { ArePlaced (paths_of setting.now) (F.state files.old) inputs.old world.old.world.files }
     ensures tracks { Tracks (F.state files.old) (F.state files.new) inputs.old inputs.new }
     ensures kept { world.new.program ≡ world.old.program }
     ensures readies { MatchResult result

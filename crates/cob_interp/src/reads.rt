@@ -9,7 +9,7 @@ ghost use Rattle.cob_interp.specs.Doing.{ReadsPart};
 ghost use Rattle.cob_interp.specs.Readying.{GivesWindow, IsRestOr, IsReadOn, settled};
 ghost use Rattle.cob_interp.specs.Running.{Outside, outside, Stands, Arrives};
 ghost use Rattle.cob_interp.specs.Setting.{IsReady, StartsAt, IsCall, IsPlaced, program_of, paths_of};
-ghost use Rattle.cob_interp.specs.Tracking.{AreOpen, ArePlaced, Tracks};
+ghost use Rattle.cob_interp.specs.Tracking.{IsReadAt, AreOpen, ArePlaced, Tracks};
 
 use crate::ends::RunEnd;
 use crate::inputs::Inputs;
@@ -30,6 +30,7 @@ fn window_of<F: Files>(
     before: usize,
 ) -> Result<Vec<u8>, RunEnd>
     requires live { AreOpen (F.state files.old) inputs.old }
+    requires reads { IsReadAt inputs.old file }
     ensures tracks { Tracks (F.state files.old) (F.state files.new) inputs.old inputs.new }
     ensures same { known_bytes (F.state files.new) ≡ known_bytes (F.state files.old) }
     ensures kept { inputs.new ≡ inputs.old }
@@ -37,10 +38,7 @@ fn window_of<F: Files>(
         (λ window. GivesWindow (F.state files.old) (F.state files.new) inputs.old file size window.items)
         (λ e. IsRestOr (F.state files.old) (F.state files.new) inputs.old file size before e) }
 {
-    let (room, count) = inputs.next_record(alloc, files, file as usize)?;
-    if room.len() != size as usize {
-        return Err(RunEnd::Memory);
-    }
+    let (room, count) = inputs.next_record(alloc, files, file as usize, size)?;
     if count == room.len() {
         return Ok(room);
     }
@@ -110,6 +108,7 @@ fn do_window<F: Files>(
     requires runs { world.old.program ≡ setting.now.program.now }
     requires placed { IsPlaced setting.now place.now }
     requires live { AreOpen (F.state files.old) inputs.old }
+    requires reads { IsReadAt inputs.old file }
     ensures kept { world.new.program ≡ world.old.program }
     ensures tracks { Tracks (F.state files.old) (F.state files.new) inputs.old inputs.new }
     ensures same { known_bytes (F.state files.new) ≡ known_bytes (F.state files.old) }

@@ -8,7 +8,6 @@ use Rattle.dec_num.specs.declared.types.Scaled.{Scaled}
 use Rattle.dec_num.specs.Exact.{Fraction}
 use Rattle.dec_num.specs.Scaled.{value_of}
 use Rattle.dec_num.proofs.Signed.{neg_ℤ_times}
-use Rattle.decimal_interval.specs.Corners.{interval}
 use Rattle.cob_data.specs.declared.layout.Layout.{Layout}
 use Rattle.cob_data.specs.declared.layout.Sender.{Sender}
 use Rattle.cob_data.specs.declared.layout.Sender.TheVariants as sender
@@ -29,8 +28,8 @@ use Rattle.cob_edge_parts.specs.Meaning.{Moment, with_own, amount, ReadsAt}
 use Rattle.cob_edge_parts.proofs.Divisors.{sum_counts, result_counts}
 use Rattle.linear_form.specs.declared.form.Lin.{Lin}
 use Rattle.sum_ranges.specs.declared.ranged.Ranged.{Ranged}
-use Rattle.sum_ranges.specs.Ranged.{decimal, ranged, point, IsIn}
-use Rattle.sum_ranges.specs.SumRanges.{plus_range, product_range, sum_range}
+use Rattle.sum_ranges.specs.Ranged.{decimal, point, IsIn}
+use Rattle.sum_ranges.specs.SumRanges.{product_range, sum_range}
 use Rattle.sum_ranges.proofs.Least.{point_in}
 use Rattle.sum_forms.specs.Constants.{range_form}
 use Rattle.sum_forms.specs.Literals.{whole_factor}
@@ -58,6 +57,8 @@ use Rattle.diff_steps.specs.Forms.{negated_if, whole_sum, added_forms, turned_if
 use Rattle.pack_edges.specs.Agreeing.{IsTracked}
 use Rattle.pack_edges.proofs.FormsShowValues.{IsTold, Told, range_told, scaled_told, turned_told, added_told, same_told}
 use Rattle.pack_edges.proofs.FormsShowSums.{item_told, sum_told, sum_ranged}
+use Rattle.cell_edges.proofs.Roots.{plus_zero}
+use Rattle.std.proofs.lemmas.Bool.{or_parts}
 
 -- ---- decimals
 
@@ -74,15 +75,6 @@ plus_nothing v =
     let e : max 0 v.scale ≡ v.scale = omega arith in
     ap (λ (n : ℕ). decimal ((pos 0 *ℤ pos (10 ^ (n - 0))) +ℤ (v.units *ℤ pos (10 ^ (n - v.scale)))) n) e
     ∙ ap (λ (u : ℤ). decimal u v.scale) (nothing_added v.units (v.scale - 0) v.scale)
-
-range_is : (r : Ranged) (low high : ℤ) (scale : ℕ) → low ≡ r.units.low → high ≡ r.units.high → scale ≡ r.scale → ranged (interval low high) scale ≡ r
-range_is r low high scale e f g = rw (e, f, g) refl
-
-plus_nothing_range : (r : Ranged) → plus_range (point (whole_number (pos 0))) r ≡ r
-plus_nothing_range r =
-    let e : max 0 r.scale ≡ r.scale = omega arith in
-    ap (λ (n : ℕ). ranged (interval ((pos 0 *ℤ pos (10 ^ (n - 0))) +ℤ (r.units.low *ℤ pos (10 ^ (n - r.scale)))) ((pos 0 *ℤ pos (10 ^ (n - 0))) +ℤ (r.units.high *ℤ pos (10 ^ (n - r.scale))))) n) e
-    ∙ range_is r _ _ r.scale (nothing_added r.units.low (r.scale - 0) r.scale) (nothing_added r.units.high (r.scale - 0) r.scale) refl
 
 -- a sum that is one whole literal
 whole_negated : (minus : Bool) (k : ℤ) (y : Scaled) → y.units ≡ k *ℤ pos (10 ^ y.scale) → (negated minus y).units ≡ negated_if minus k *ℤ pos (10 ^ (negated minus y).scale)
@@ -132,21 +124,17 @@ module _ (cells : ℕ → Option ℤ) (f : ℕ) where
 
 -- ---- items that weren't written
 
-both_false : (b c : Bool) → (b || c) ≡ false → (b ≡ false) × (c ≡ false)
-both_false true c e = absurd cc
-both_false false c e = (refl, e)
-
 module _ (l : Layout) (wrote : List Bytes) (m : Moment) (tracked : IsTracked l wrote m) where
   same_worths : (places : List ℕ) → list_any (is_written l wrote) places ≡ false → Agree (worth l m.storage) (worth l m.first) places
   same_worths [] e = tt
   same_worths (place ∷ places) e =
-      let two = both_false (is_written l wrote place) (list_any (is_written l wrote) places) e in
+      let two = or_parts (is_written l wrote place) (list_any (is_written l wrote) places) e in
       (ap (λ (o : Option Scaled). unwrap_or o (whole_number (pos 0))) (tracked.same place two.0), same_worths places two.1)
 
   still_numeric : (places : List ℕ) → list_any (is_written l wrote) places ≡ false → are_numeric l m.first places ≡ true → are_numeric l m.storage places ≡ true
   still_numeric [] e numeric = refl
   still_numeric (place ∷ places) e numeric =
-      let two = both_false (is_written l wrote place) (list_any (is_written l wrote) places) e in
+      let two = or_parts (is_written l wrote place) (list_any (is_written l wrote) places) e in
       let both = both_true (is_some (number_at l m.first place)) (are_numeric l m.first places) numeric in
       and_true (is_some (number_at l m.storage place)) (are_numeric l m.storage places) (ap is_some (tracked.same place two.0) ∙ both.0) (still_numeric places two.1 both.1)
 
@@ -207,7 +195,7 @@ module _ (p : Program) (statement : ℕ) (a : Act) (x : Action) (pack : Pack) (f
       where
         go : (o : Option Taken) → IsSomeAnd o (λ c. IsSomeAnd (amount_of (augmented y) (point (whole_number (pos 0))) c) (λ r. IsAmount r (value_of (plus (whole_number (pos 0)) v)))) → IsSomeAnd o (IsKeptOf (value_of v))
         go None h = h
-        go (Some c) (w, inside, same) = λ none. (w, subst (λ (r : Ranged). IsIn w r) (plus_nothing_range c.top) inside, ap value_of (sym (plus_nothing v)) ∙ same)
+        go (Some c) (w, inside, same) = λ none. (w, subst (λ (r : Ranged). IsIn w r) (plus_zero c.top) inside, ap value_of (sym (plus_nothing v)) ∙ same)
 
     -- what a sum is worth that isn't stored whole
     summand_kept : (s : Sum) (v : Scaled) → edge_amount a x ≡ Some (computed s how.Whole) → sum_value (worth p.layout m.first) s ≡ Some v → IsSomeAnd (t.common >>= settled) (IsKeptOf (value_of v))
@@ -215,7 +203,7 @@ module _ (p : Program) (statement : ℕ) (a : Act) (x : Action) (pack : Pack) (f
       where
         settled_go : (o : Option Taken) → IsSomeAnd (o >>= amount_range (computed s how.Plus) (point (whole_number (pos 0)))) (λ r. IsAmount r (value_of (plus (whole_number (pos 0)) v))) → IsSomeAnd o (IsKeptOf (value_of v))
         settled_go None h = h
-        settled_go (Some c) (w, inside, same) = λ none. (w, subst (λ (r : Ranged). IsIn w r) (plus_nothing_range c.top) inside, ap value_of (sym (plus_nothing v)) ∙ same)
+        settled_go (Some c) (w, inside, same) = λ none. (w, subst (λ (r : Ranged). IsIn w r) (plus_zero c.top) inside, ap value_of (sym (plus_nothing v)) ∙ same)
 
         go : (o : Option Taken) → IsSomeAnd o (λ c. IsSomeAnd (amount_of (computed s how.Plus) (point (whole_number (pos 0))) c) (λ r. IsAmount r (value_of (plus (whole_number (pos 0)) v)))) → IsSomeAnd (o >>= settled) (IsKeptOf (value_of v))
         go None h = h

@@ -44,6 +44,7 @@ use Rattle.pack_edges.proofs.PacksKeepCells.{found_cell, decimals_within, no_cel
 use Rattle.pack_edges.proofs.PacksKeepCells as cell
 use Rattle.pack_edges.proofs.FormsShowItems.{HaveValues, item_form_is_of_values, sum_form_is_of_values}
 use Rattle.pack_edges.proofs.FormsShowValues.{Told, told, range_told, cell_told}
+use Rattle.cell_edges.proofs.ItemRanges.{above_zero}
 
 -- in a finer unit
 units_up : (z : ℤ) (scale f : ℕ) → scale ≤ f → (z *ℤ pos (10 ^ (f - scale))) *ℤ pos (10 ^ scale) ≡ z *ℤ pos (10 ^ f)
@@ -58,9 +59,6 @@ both_zero m n = zero-*ℤ (pos m) ∙ sym (zero-*ℤ (pos n))
 
 below_zero : (n : ℕ) → neg_ℤ (pos n) ≤ℤ pos 0
 below_zero n = omega (arith, ints)
-
-above_zero : (n : ℕ) → pos 0 ≤ℤ pos n
-above_zero n = omega (arith, ints)
 
 zero_in_picture : (digits : ℕ) (signed : Bool) → Holds (picture_range digits signed) (pos 0)
 zero_in_picture digits true = (below_zero (10 ^ digits - 1), above_zero (10 ^ digits - 1))

@@ -4,7 +4,6 @@ use Rattle.std.specs.Prelude.{IfSome, IsSomeAnd, nat_lt, unsigned_abs}
 use Rattle.std.specs.List.{Contains}
 use Rattle.std.specs.Option.{option_map_or}
 use Rattle.std.proofs.lemmas.Int.{ints}
-use Rattle.std.proofs.lemmas.Bool.Decides.{nat_tests}
 use Rattle.dec_num.specs.declared.types.Mode.{Mode}
 use Rattle.dec_num.specs.declared.types.Mode.TheVariants.{Trunc}
 use Rattle.dec_num.specs.declared.types.Scaled.{Scaled}
@@ -53,7 +52,7 @@ use Rattle.cell_edges.proofs.HomesStand.{same_home}
 use Rattle.cell_edges.proofs.OperandsRise.{or_left, or_right, or_either}
 use Rattle.cell_edges.proofs.PartsDone.{both_true}
 use Rattle.cell_edges.proofs.StoresKeep.{is_there, TakenAt, taken_at, amount_there, counts_amount, amount_meant}
-use Rattle.cell_edges.proofs.PartsKeep.{sent_holds, counted_down, lower_holds, off_zero}
+use Rattle.cell_edges.proofs.PartsKeep.{not_less_by_test, sent_holds, counted_down, lower_holds, off_zero}
 use Rattle.cell_edges.proofs.HomesHold.{if_home, count_holds}
 use Rattle.cell_edges.proofs.QuietParts.{times_small}
 use Rattle.cell_edges.proofs.PartsClear.{not_both, zero_divisor, root_of_amount, cleared}
@@ -72,6 +71,9 @@ use Rattle.pack_edges.proofs.PacksClearEnds.{ShowsNear, ends_hold, none_apart}
 
 -- ---- what fits
 
+size_within : (n : ℕ) (z : ℤ) → 1 ≤ n → neg_ℤ (pos (n - 1)) ≤ℤ z → z ≤ℤ pos (n - 1) → unsigned_abs z < n
+size_within n z one l h = omega (arith, ints, one, l, h)
+
 unheld : (f : Form) (z : ℤ) → if_held f z ≡ None → neg_ℤ (most (receiver_of f).digits) ≤ℤ z → z ≤ℤ most (receiver_of f).digits → ⊥
 unheld f z e low high = go (nat_lt (unsigned_abs z) (10 ^ digits_of f)) refl e
   where
@@ -81,24 +83,15 @@ unheld f z e low high = go (nat_lt (unsigned_abs z) (10 ^ digits_of f)) refl e
     digits_same (form.Number digits scale signed kept) = refl
     digits_same (form.Edited picture digits scale) = refl
 
-    size_within : (n : ℕ) → 1 ≤ n → neg_ℤ (pos (n - 1)) ≤ℤ z → z ≤ℤ pos (n - 1) → unsigned_abs z < n
-    size_within n one l h = omega (arith, ints, one, l, h)
-
     within : unsigned_abs z < 10 ^ digits_of f
-    within = subst (λ (d : ℕ). unsigned_abs z < 10 ^ d) (digits_same f) (size_within (10 ^ (receiver_of f).digits) (ten_positive (receiver_of f).digits) low high)
-
-    not_lt : (n k : ℕ) → nat_lt n k ≡ false → n < k → ⊥
-    not_lt n k g h = grind (arith, nat_tests)
+    within = subst (λ (d : ℕ). unsigned_abs z < 10 ^ d) (digits_same f) (size_within (10 ^ (receiver_of f).digits) z (ten_positive (receiver_of f).digits) low high)
 
     go : (b : Bool) → nat_lt (unsigned_abs z) (10 ^ digits_of f) ≡ b → (if b then Some (bytes_of f z) else None) ≡ None → ⊥
     go true lt h = cc
-    go false lt h = not_lt (unsigned_abs z) (10 ^ digits_of f) lt within
+    go false lt h = not_less_by_test (unsigned_abs z) (10 ^ digits_of f) lt within
 
 counts : (z : ℤ) → neg_ℤ (most 18) ≤ℤ z → z ≤ℤ most 18 → IsCount z
-counts z low high = size_within (10 ^ 18) (ten_positive 18) low high
-  where
-    size_within : (n : ℕ) → 1 ≤ n → neg_ℤ (pos (n - 1)) ≤ℤ z → z ≤ℤ pos (n - 1) → unsigned_abs z < n
-    size_within n one l h = omega (arith, ints, one, l, h)
+counts z low high = size_within (10 ^ 18) z (ten_positive 18) low high
 
 -- ---- homes
 

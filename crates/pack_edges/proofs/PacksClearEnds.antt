@@ -40,6 +40,7 @@ use Rattle.diff_steps.specs.Clearing.{some_pack, high_fits, low_fits, high_shown
 use Rattle.pack_laws.specs.Orders.{IsShown}
 use Rattle.pack_laws.proofs.Stored.{coef_turned}
 use Rattle.pack_edges.specs.Agreeing.{AreMatrices, IsPackOf, ArePacksOf}
+use Rattle.std.proofs.Math.IntN.{zero-*ℤ}
 
 -- ---- bounds
 
@@ -175,10 +176,7 @@ module _ (p : Program) (packs : List Pack) (ms : List (List ℤ)) (s : Storage) 
           lt_of u f = grind (arith, ints)
 
       nothing : (n : ℕ) → d.units *ℤ pos n ≡ pos 0
-      nothing n = ap (λ (x : ℤ). x *ℤ pos n) zero_ ∙ zero_times n
-        where
-          zero_times : (n : ℕ) → pos 0 *ℤ pos n ≡ pos 0
-          zero_times n = omega (arith, ints)
+      nothing n = ap (λ (x : ℤ). x *ℤ pos n) zero_ ∙ zero-*ℤ (pos n)
 
       over_none : (u : ℤ) (n : ℕ) → u <ℤ pos 0 → 1 ≤ n → (u *ℤ pos n) <ℤ pos 0
       over_none u n lt some = let more = times_monotone u (negsuc 0) n (omega (arith, ints, lt)) in let one : negsuc 0 *ℤ pos n ≡ neg_ℤ (pos n) = omega (arith, ints) in omega (arith, ints, more, one, some)

@@ -58,6 +58,7 @@ use Rattle.pack_edges.proofs.PacksPutRise.{matrix_is_flat, lower_of}
 use Rattle.pack_edges.proofs.SignsRise.{upper_lower_if, upper_negated_lower_if}
 use Rattle.pack_edges.proofs.PacksStoresRise.{operands_rise}
 use Rattle.pack_edges.proofs.FormsRise.{are_taken, divisor_narrower, lowered_narrower, set_narrower, amount_narrower}
+use Rattle.pack_edges.proofs.PacksPutRise.{negated_falls}
 
 -- ---- tests of numbers
 
@@ -69,9 +70,6 @@ above_falls x y z h e = grind (arith, h, e)
 
 less_falls : (x y z : ℤ) → x ≤ℤ y → int_lt y z ≡ true → int_lt x z ≡ true
 less_falls x y z h e = grind (arith, h, e)
-
-negated_falls : (x y : ℤ) → x ≤ℤ y → neg_ℤ y ≤ℤ neg_ℤ x
-negated_falls x y h = omega (arith, ints, h)
 
 both_rise : (b c d e : Bool) → (b ≡ true → d ≡ true) → (c ≡ true → e ≡ true) → (b && c) ≡ true → (d && e) ≡ true
 both_rise b c d e f g h =

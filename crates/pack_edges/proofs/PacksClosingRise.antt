@@ -49,7 +49,7 @@ best_above true true best sum = omega (arith, ints, clamps)
 best_above true false best sum = omega (arith, ints)
 best_above false q best sum = omega (arith, ints)
 
-through_both : (x y z : ℤ) → x ≤ℤ y → y ≤ℤ z → x ≤ℤ z
+pub through_both : (x y z : ℤ) → x ≤ℤ y → y ≤ℤ z → x ≤ℤ z
 through_both x y z h k = omega (arith, ints, h, k)
 
 chosen_rises : (p q r u : Bool) (b s c t : ℤ) → (r ≡ true → p ≡ true) → (u ≡ true → q ≡ true) → b ≤ℤ c → s ≤ℤ t → chosen p q b s ≤ℤ chosen r u c t

@@ -31,6 +31,7 @@ use Rattle.pack_edges.proofs.PacksWordsRise.{bottom_below, matrix_is_high}
 use Rattle.pack_edges.proofs.PacksFit.{changed_are_flat, posts_fit}
 use Rattle.pack_edges.proofs.PacksPartsRise.{changed_rises}
 use Rattle.pack_edges.proofs.PacksClearsFall.{PacksBelow, clears_part2_falls}
+use Rattle.cell_edges.proofs.PartsDone.{and_true}
 
 -- ---- where no run comes
 
@@ -114,15 +115,11 @@ module _ (p : Program) (a : Act) (x : Action) (packs : List Pack) where
   if_falls (Some u) None ys fault h more e = absurd h
   if_falls (Some u) (Some v) ys fault h more e = more u.0 v.0 u.1 v.1 h.0 h.1 e
 
-  both_true : (b c : Bool) → b ≡ true → c ≡ true → (b && c) ≡ true
-  both_true true c e f = f
-  both_true false c e f = absurd cc
-
   clears_parts2_fall : (ys : List Part) (s t : Seen) (r q : Seen2) (fault : Kind) → SeenBelow p a x s t → PacksBelow packs r q → clears_parts2 p packs a x ys t q fault ≡ true → clears_parts2 p packs a x ys s r fault ≡ true
   clears_parts2_fall [] s t r q fault below under e = refl
   clears_parts2_fall (y ∷ ys) s t r q fault below under e =
       let two = and_parts (clears_part2 p packs a x y t q fault) (option_map_or (λ v. clears_parts2 p packs a x ys v.0 v.1 fault) (step2 p a x packs y t q) true) e in
-      both_true (clears_part2 p packs a x y s r fault) (option_map_or (λ u. clears_parts2 p packs a x ys u.0 u.1 fault) (step2 p a x packs y s r) true)
+      and_true (clears_part2 p packs a x y s r fault) (option_map_or (λ u. clears_parts2 p packs a x ys u.0 u.1 fault) (step2 p a x packs y s r) true)
       (clears_part2_falls p packs r q under a x s t below y fault two.0)
       (if_falls (step2 p a x packs y s r) (step2 p a x packs y t q) ys fault (step2_rises y s t r q below under) (λ u v k l h g c. clears_parts2_fall ys u v k l fault h g c) two.1)
 

@@ -57,6 +57,7 @@ use Rattle.pack_edges.proofs.PacksKeepClosed.{closed_stands}
 use Rattle.pack_edges.proofs.PacksKeepCells.{homes_left}
 use Rattle.pack_edges.proofs.PacksKeepCounters.{IsWholeShown, same_shown, counted_stands}
 use Rattle.pack_edges.proofs.PacksKeepStores.{store_stands, store_changes}
+use Rattle.std.proofs.lemmas.Bool.{or_parts}
 
 -- ---- a row of matrices
 
@@ -142,17 +143,13 @@ quiet_tracked l wrote m n e f h = record { same = λ place k. ap (λ (bytes : Li
 
 -- ---- bytes that are written
 
-or_false : (b c : Bool) → (b || c) ≡ false → (b ≡ false) × (c ≡ false)
-or_false true c e = absurd cc
-or_false false c e = (refl, e)
-
 written_first : (l : Layout) (b : Bytes) (wrote : List Bytes) (place : ℕ) → is_written l (b ∷ wrote) place ≡ false → (is_in_bytes l b.offset b.count (of_item place) ≡ false) × (is_written l wrote place ≡ false)
 written_first l b wrote place e = go (item_at l place) e
   where
     go : (o : Option Item) → option_map_or (λ i. share_bytes b.offset b.count i.offset i.length || list_any (λ c. share_bytes c.offset c.count i.offset i.length) wrote) o false ≡ false
         → (option_map_or (λ i. share_bytes b.offset b.count i.offset i.length) o false ≡ false) × (option_map_or (λ i. list_any (λ c. share_bytes c.offset c.count i.offset i.length) wrote) o false ≡ false)
     go None e = (refl, refl)
-    go (Some i) e = or_false (share_bytes b.offset b.count i.offset i.length) _ e
+    go (Some i) e = or_parts (share_bytes b.offset b.count i.offset i.length) _ e
 
 written_item : (l : Layout) (place : ℕ) (wrote : List Bytes) (other : ℕ) → is_written l (item_bytes l place ++ wrote) other ≡ false → (is_beside l place (of_item other) ≡ false) × (is_written l wrote other ≡ false)
 written_item l place wrote other e = go (item_at l place) e

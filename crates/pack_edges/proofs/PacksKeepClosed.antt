@@ -2,7 +2,7 @@
 use Rattle.std.proofs.Common.{◌≡◌, ◌≢◌, ℕ, zero, suc, ◌+◌, ◌<◌, ◌≤◌, Bool, true, false, ◌&&◌, List, ℤ, pos, ◌+ℤ◌, ◌≤ℤ◌, Option, Some, None, ◌⊎◌, inl, inr, refl, sym, subst, ◌∙◌, arith}
 use Rattle.std.specs.Prelude.{IsSomeAnd, int_lt, int_le, if◌then◌else◌}
 use Rattle.std.specs.Int.{int_min}
-use Rattle.std.proofs.lemmas.Int.{ints, clamps}
+use Rattle.std.proofs.lemmas.Int.{ints}
 use Rattle.std.proofs.lemmas.Bool.{cases_eq}
 use Rattle.decimal_interval.proofs.Ends.{min_is_one}
 use Rattle.diff_bounds.specs.Matrix.{word, none, largest, IsBound}
@@ -15,6 +15,7 @@ use Rattle.closed_matrices.specs.Closed.{opened, lesser, through, is_tame, sums_
 use Rattle.diff_steps.specs.Matrices.{with_words}
 use Rattle.pack_laws.proofs.Words.{word_at}
 use Rattle.pack_edges.proofs.PacksPutRise.{IsFlat}
+use Rattle.form_bounds.proofs.Numbers.{cut_above}
 
 differ_sum : (c d : ℤ) (x y z : Option ℤ) → DifferBy c x y → DifferBy d y z → DifferBy (c +ℤ d) x z
 differ_sum c d (Some x) (Some y) (Some z) h k = omega (arith, ints, h, k)
@@ -25,9 +26,6 @@ differ_sum c d None y z h k = absurd h
 differ_self : (c : ℤ) (x : Option ℤ) → DifferBy c x x → pos 0 ≤ℤ c
 differ_self c (Some x) h = omega (arith, ints, h)
 differ_self c None h = absurd h
-
-cut_above : (z : ℤ) → z ≤ℤ largest → z ≤ℤ cut_of z
-cut_above z h = grind (arith, ints, clamps)
 
 module _ (n : ℕ) (values : ℕ → Option ℤ) where
   -- a sum that bounds the difference of two places' values, or one from a place to itself that isn't below 0

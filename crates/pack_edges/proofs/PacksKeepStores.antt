@@ -1,8 +1,7 @@
 -- Stores: what is known of differences behind them is true of what a run leaves.
-use Rattle.std.proofs.Common.{◌≡◌, ◌<◌, ◌≤◌, ℕ, suc, ◌+◌, ◌-◌, ◌^◌, Bool, true, false, ◌&&◌, ◌||◌, not, if◌then◌else◌, List, length, Option, Some, None, is_some, ℤ, pos, ◌*ℤ◌, refl, sym, ap, subst, ◌∙◌, arith}
+use Rattle.std.proofs.Common.{◌≡◌, ◌<◌, ◌≤◌, ℕ, suc, ◌+◌, ◌-◌, ◌^◌, Bool, true, false, ◌&&◌, ◌||◌, not, if◌then◌else◌, List, Option, Some, None, is_some, ℤ, pos, ◌*ℤ◌, refl, sym, ap, subst, ◌∙◌, arith}
 use Rattle.std.specs.Prelude.{IfSome, IsSomeAnd, nat_lt, slice_get, unsigned_abs}
-use Rattle.std.specs.Option.{option_map, option_map_or}
-use Rattle.std.proofs.lemmas.Bool.Decides.{nat_tests}
+use Rattle.std.specs.Option.{option_map}
 use Rattle.std.proofs.lemmas.Option.{slice_get_within}
 use Rattle.dec_num.specs.declared.types.Mode.{Mode}
 use Rattle.dec_num.specs.declared.types.Scaled.{Scaled}
@@ -10,12 +9,10 @@ use Rattle.dec_num.specs.Exact.{Fraction, near}
 use Rattle.dec_num.specs.Scaled.{value_of}
 use Rattle.cob_tree.specs.declared.form.Form.{Form}
 use Rattle.cob_tree.specs.declared.form.Form.TheVariants as form
-use Rattle.cob_data.specs.declared.layout.Item.{Item}
 use Rattle.decimal_interval.specs.Bounds.{Holds}
-use Rattle.num_bytes.specs.Reading.{contents_value}
 use Rattle.cob_program.specs.Act.{Act, Program}
 use Rattle.cob_runs.specs.declared.action.Action.{Action}
-use Rattle.cob_runs.specs.Contents.{form_at, item_at, bytes_of, digits_of, scale_of, scaled_by, number_at, filled_at, if_held, stored as stored_units}
+use Rattle.cob_runs.specs.Contents.{form_at, bytes_of, digits_of, scale_of, scaled_by, number_at, filled_at, if_held, stored as stored_units}
 use Rattle.cob_runs.specs.Moves.{takes_number}
 use Rattle.cob_edge_parts.specs.Parts.{Amount, Part}
 use Rattle.cob_edge_parts.specs.Meaning.{Moment, with_storage, is_left_alone, stored_bytes, stored_or_kept, amount, Stores}
@@ -38,9 +35,8 @@ use Rattle.cell_storages.specs.Storages.{storage}
 use Rattle.cell_steps.specs.Cells.{is_beside}
 use Rattle.cell_steps.specs.Seen.{Seen}
 use Rattle.cell_steps.specs.Stores.{handled, amount_at, result_at, may_fail, may_fit}
-use Rattle.cell_edges.proofs.Frames.{others_stay, held_value}
 use Rattle.cell_edges.proofs.StoreOutcomes.{result_meant, each_outcome}
-use Rattle.cell_edges.proofs.StoresKeep.{then_is, TakenAt, amount_meant}
+use Rattle.cell_edges.proofs.StoresKeep.{IsItemFilled, item_is_filled, then_is, TakenAt, amount_meant}
 use Rattle.diff_steps.specs.Packs.{Pack, size_of, cell_of, pack_decimals, unit_of, cells_in, PackStands}
 use Rattle.diff_steps.specs.Matrices.{bottom}
 use Rattle.diff_steps.specs.Moments.{Bytes}
@@ -55,28 +51,16 @@ use Rattle.pack_edges.specs.Showing.{ShowsValueAt}
 use Rattle.cell_edges.proofs.WalkLawsHold.{cell_laws}
 use Rattle.pack_edges.proofs.PacksKeepCells.{found_cell, decimals_within, cell_value, homes_left, put_left, with_any, not_home, other_cell, edited_apart}
 use Rattle.pack_edges.proofs.PacksKeepCounters.{same_shown}
+use Rattle.cell_edges.proofs.PartsKeep.{less_by_test}
 
 -- ---- the bytes of a number
 
 held_is : (f : Form) (z : ℤ) (held : List ℕ) → if_held f z ≡ Some held → (unsigned_abs z < 10 ^ digits_of f) × (held ≡ bytes_of f z)
 held_is f z held e = go (nat_lt (unsigned_abs z) (10 ^ digits_of f)) refl e
   where
-    lt_is : (n k : ℕ) → nat_lt n k ≡ true → n < k
-    lt_is n k h = grind (arith, nat_tests)
-
     go : (b : Bool) → nat_lt (unsigned_abs z) (10 ^ digits_of f) ≡ b → (if b then Some (bytes_of f z) else None) ≡ Some held → (unsigned_abs z < 10 ^ digits_of f) × (held ≡ bytes_of f z)
-    go true lt h = let same : bytes_of f z ≡ held = cc in (lt_is (unsigned_abs z) (10 ^ digits_of f) lt, sym same)
+    go true lt h = let same : bytes_of f z ≡ held = cc in (less_by_test (unsigned_abs z) (10 ^ digits_of f) lt, sym same)
     go false lt h = absurd cc
-
-item_there : (p : Program) (place : ℕ) → takes_number (form_at p.layout place) ≡ true → (i : Item) × (item_at p.layout place ≡ Some i)
-item_there p place takes = go (item_at p.layout place) refl
-  where
-    go : (o : Option Item) → item_at p.layout place ≡ o → (i : Item) × (item_at p.layout place ≡ Some i)
-    go (Some i) e = (i, e)
-    go None e =
-        let none : form_at p.layout place ≡ form.Group = ap (λ (o : Option Item). option_map_or (λ j. j.form) o form.Group) e in
-        let f : takes_number form.Group ≡ true = subst (λ (k : Form). takes_number k ≡ true) none takes in
-        absurd cc
 
 module _ (p : Program) (statement : ℕ) (a : Act) (x : Action) (done : List Part) (place : ℕ) (mode : Mode) (y : Amount) (t : Seen) (m : Moment) (g : TakenAt p statement a x done t m)
     (q : IsStored a x done place y) (takes : takes_number (form_at p.layout place) ≡ true) where
@@ -102,40 +86,27 @@ module _ (p : Program) (statement : ℕ) (a : Act) (x : Action) (done : List Par
         → values.value_at p.layout (storage (filled_at p.layout m.storage place held) m.counts) (of_item place) ≡ Some (kept_units (receiver_of (form_at p.layout place)).signed (near mode v (pos (receiver_of (form_at p.layout place)).scale)))
 
   filled : (held : List ℕ) (is : Gets held) → IsFilled held is.v
-  filled held is = by_item (item_there p place takes)
+  filled held is = record { others = fill.others; new = λ uncut. by_form (form_at p.layout place) refl uncut }
     where
-      by_item : (i : Item) × (item_at p.layout place ≡ Some i) → IsFilled held is.v
-      by_item (item, at) = record { others = λ h e. others_stay p.layout place item at m.storage held m.counts long within h e; new = λ uncut. by_form (form_at p.layout place) refl uncut }
-        where
-          its_form : form_at p.layout place ≡ item.form
-          its_form = ap (λ (o : Option Item). option_map_or (λ k. k.form) o form.Group) at
+      fill : IsItemFilled p.layout place (near mode is.v (pos (scale_of (form_at p.layout place)))) m.storage held m.counts
+      fill = item_is_filled p.layout place (near mode is.v (pos (scale_of (form_at p.layout place)))) m.storage held m.counts g.sound.items takes is.room is.bytes g.stands.whole
 
-          long : length held ≡ item.length
-          long = ap length (is.bytes ∙ ap (λ (f : Form). bytes_of f (near mode is.v (pos (scale_of (form_at p.layout place))))) its_form)
-              ∙ g.sound.items.whole place item (near mode is.v (pos (scale_of (form_at p.layout place)))) at (subst (λ (f : Form). takes_number f ≡ true) its_form takes)
-              (subst (λ (f : Form). unsigned_abs (near mode is.v (pos (scale_of (form_at p.layout place)))) < 10 ^ digits_of f) its_form is.room)
+      by_sign : (b : Bool) (z : ℤ) → (if b then z else pos (unsigned_abs z)) ≡ kept_units b z
+      by_sign true z = refl
+      by_sign false z = refl
 
-          within : item.offset + item.length ≤ length m.storage
-          within = subst (λ (n : ℕ). item.offset + item.length ≤ n) (sym g.stands.whole) (g.sound.items.within place item at)
+      no_number : (f : Form) → form_at p.layout place ≡ f → (takes_number f ≡ true → ⊥) → ⊥
+      no_number f e none = none (subst (λ (k : Form). takes_number k ≡ true) e takes)
 
-          by_sign : (b : Bool) (z : ℤ) → (if b then z else pos (unsigned_abs z)) ≡ kept_units b z
-          by_sign true z = refl
-          by_sign false z = refl
-
-          no_number : (f : Form) → form_at p.layout place ≡ f → (takes_number f ≡ true → ⊥) → ⊥
-          no_number f e none = none (subst (λ (k : Form). takes_number k ≡ true) e takes)
-
-          by_form : (f : Form) → form_at p.layout place ≡ f → ((picture : List ℕ) (digits scale : ℕ) → f ≡ form.Edited picture digits scale → ⊥)
-              → values.value_at p.layout (storage (filled_at p.layout m.storage place held) m.counts) (of_item place) ≡ Some (kept_units (receiver_of f).signed (near mode is.v (pos (receiver_of f).scale)))
-          by_form form.Group e uncut = absurd (no_number form.Group e (λ h. cc))
-          by_form (form.Text n) e uncut = absurd (no_number (form.Text n) e (λ h. cc))
-          by_form (form.Edited picture digits scale) e uncut = absurd (uncut picture digits scale refl)
-          by_form (form.Number digits scale signed kept) e uncut =
-              held_value p.layout place item at m.storage held m.counts long within
-              ∙ ap (contents_value (form_at p.layout place)) is.bytes
-              ∙ g.sound.items.back place digits scale signed kept (near mode is.v (pos (scale_of (form_at p.layout place)))) e (subst (λ (f : Form). unsigned_abs (near mode is.v (pos (scale_of (form_at p.layout place)))) < 10 ^ digits_of f) e is.room)
-              ∙ ap Some (by_sign signed (near mode is.v (pos (scale_of (form_at p.layout place)))))
-              ∙ ap (λ (f : Form). Some (kept_units signed (near mode is.v (pos (scale_of f))))) e
+      by_form : (f : Form) → form_at p.layout place ≡ f → ((picture : List ℕ) (digits scale : ℕ) → f ≡ form.Edited picture digits scale → ⊥)
+          → values.value_at p.layout (storage (filled_at p.layout m.storage place held) m.counts) (of_item place) ≡ Some (kept_units (receiver_of f).signed (near mode is.v (pos (receiver_of f).scale)))
+      by_form form.Group e uncut = absurd (no_number form.Group e (λ h. cc))
+      by_form (form.Text n) e uncut = absurd (no_number (form.Text n) e (λ h. cc))
+      by_form (form.Edited picture digits scale) e uncut = absurd (uncut picture digits scale refl)
+      by_form (form.Number digits scale signed kept) e uncut =
+          fill.new digits scale signed kept e
+          ∙ ap Some (by_sign signed (near mode is.v (pos (scale_of (form_at p.layout place)))))
+          ∙ ap (λ (f : Form). Some (kept_units signed (near mode is.v (pos (scale_of f))))) e
 
   -- ---- the matrix of a pack
 

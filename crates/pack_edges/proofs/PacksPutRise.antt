@@ -54,7 +54,7 @@ min_rises x y p q h k = omega (arith, ints, clamps, h, k)
 min_below : (x y p : ℤ) → x ≤ℤ y → int_min x p ≤ℤ y
 min_below x y p h = omega (arith, ints, clamps, h)
 
-negated_falls : (x y : ℤ) → x ≤ℤ y → neg_ℤ y ≤ℤ neg_ℤ x
+pub negated_falls : (x y : ℤ) → x ≤ℤ y → neg_ℤ y ≤ℤ neg_ℤ x
 negated_falls x y h = omega (arith, ints, h)
 
 high_rises : (unit : ℕ) (c d : Known) (x y : ℤ) → KnownBelow c d → x ≤ℤ y → high_word unit c x ≤ℤ high_word unit d y

@@ -2,7 +2,6 @@
 use Rattle.std.proofs.Common.{◌≡◌, ◌≢◌, ℕ, suc, ◌+◌, ◌≤◌, Bool, true, false, List, ℤ, ◌≤ℤ◌, Option, Some, None, ◌⊎◌, inl, inr, refl, sym, subst, ◌∙◌, arith}
 use Rattle.std.specs.Prelude.{◌&&◌, ◌||◌, not, if◌then◌else◌, is_some}
 use Rattle.std.specs.List.{list_any}
-use Rattle.std.proofs.lemmas.Int.{ints}
 use Rattle.std.proofs.lemmas.Bool.{cases_eq, false≢true}
 use Rattle.dec_num.specs.declared.types.Mode.{Mode}
 use Rattle.cob_program.specs.Values.{◌>>=◌}
@@ -48,6 +47,7 @@ use Rattle.pack_edges.proofs.FormsRise.{amount_narrower}
 use Rattle.pack_edges.proofs.SignsRise.{amount_surer}
 use Rattle.pack_edges.proofs.PacksPutRise.{off_of}
 use Rattle.pack_edges.proofs.PacksWordsRise.{IsHigh, HasTop, matrix_is_high, matrix_has_top, value_high, forgotten_high, cells_high, bottom_high, bottom_below, is_gone_at, cells_rise, kept_below, gone_at_cell, cell_within}
+use Rattle.pack_edges.proofs.PacksClosingRise.{through_both}
 
 -- ---- numbers of an amount
 is_there : {A B : Type 0} (o : Option A) (next : A → Option B) → is_some (o >>= next) ≡ true → (r : A) × (o ≡ Some r)
@@ -123,9 +123,6 @@ module _ (p : Program) (a : Act) (x : Action) (s t : Seen) (h : TakenBelow risin
         (known_of_amount (size_of pack) n g (receiver_of (form_at p.layout place)).scale (amount_at p a x t place y)) k
         (surer f g k (receiver_of (form_at p.layout place)).scale (amount_at p a x s place y) (amount_at p a x t place y) b)
 
-    through : (z v w : ℤ) → z ≤ℤ v → v ≤ℤ w → z ≤ℤ w
-    through z v w k l = omega (arith, ints, k, l)
-
     image_top : (to : ℕ) (last : to ≤ size_of pack) (z : List ℤ) → IsImage (size_of pack) to last m z → HasTop (size_of pack) z
     image_top to last z image = record { most = λ i j g k ne. each i j g k ne (cases_eq i to) (cases_eq j to) }
       where
@@ -133,7 +130,7 @@ module _ (p : Program) (a : Act) (x : Action) (s t : Seen) (h : TakenBelow risin
         each i j g k ne (inl e) (inl f) = absurd (ne (e ∙ sym f))
         each i j g k ne (inl e) (inr apart) = subst (λ (q : ℕ). word (size_of pack + 1) z q j ≤ℤ none) (sym e) (image.row j k apart)
         each i j g k ne (inr off) (inl f) = subst (λ (q : ℕ). word (size_of pack + 1) z i q ≤ℤ none) (sym f) (image.column i g off)
-        each i j g k ne (inr off) (inr apart) = through (word (size_of pack + 1) z i j) (word (size_of pack + 1) m i j) none (image.others i j g k off apart) (top.most i j g k ne)
+        each i j g k ne (inr off) (inr apart) = through_both (word (size_of pack + 1) z i j) (word (size_of pack + 1) m i j) none (image.others i j g k off apart) (top.most i j g k ne)
 
     abbrev below_stored : Option ℕ → List ℤ
     below_stored k = stored_cell p a x s wrote place mode y pack k m
@@ -193,7 +190,7 @@ module _ (p : Program) (a : Act) (x : Action) (s t : Seen) (h : TakenBelow risin
         → word (size_of pack + 1) (below_stored k) i j ≤ℤ word (size_of pack + 1) n i j
     unlost_rises None e i j l g ne b c = off.words i j l g ne
     unlost_rises (Some k) e i j l g ne b c =
-        through (word (size_of pack + 1) (below_stored (Some k)) i j) (word (size_of pack + 1) m i j) (word (size_of pack + 1) n i j)
+        through_both (word (size_of pack + 1) (below_stored (Some k)) i j) (word (size_of pack + 1) m i j) (word (size_of pack + 1) n i j)
         ((cell_image (suc k) (within k e) (amount_form p pack s wrote place y)).others i j l g (apart i b) (apart j c)) (off.words i j l g ne)
       where
         apart : (i : ℕ) → is_gone_at (size_of pack) (is_lost p a x place) 1 pack i ≡ false → i ≡ suc k → ⊥

@@ -30,9 +30,10 @@ use Rattle.diff_steps.specs.Stores.{assigned_or_forgotten, absolute_stored, valu
 use Rattle.diff_steps.specs.Guards.{demanded_if, at_most, ordered}
 use Rattle.store_error.specs.declared.known.Known as sure
 use Rattle.pack_laws.specs.Orders.{AreLowerOff}
-use Rattle.pack_laws.proofs.Words.{word_at}
+use Rattle.pack_laws.proofs.Words.{word_at, lesser_word, min_left, min_both}
 use Rattle.pack_edges.proofs.PacksClosingRise.{order_along}
 use Rattle.pack_edges.proofs.PacksPutRise.{IsFlat}
+use Rattle.cell_edges.proofs.OperandsRise.{or_right}
 
 -- ---- zeros on the diagonal
 flat_words : (size : ℕ) (w : ℕ → ℕ → ℤ) → ((i : ℕ) → i < size + 1 → w i i ≡ pos 0) → IsFlat size (with_words size w)
@@ -190,12 +191,9 @@ module _ (size : ℕ) where
   min_is_high : (x y z : ℤ) → z ≡ int_min x y → neg_ℤ largest ≤ℤ x → neg_ℤ largest ≤ℤ y → neg_ℤ largest ≤ℤ z
   min_is_high x y z e h k = omega (arith, ints, clamps, e, h, k)
 
-  lesser_word : (a b : List ℤ) (i j : ℕ) → i ≤ size → j ≤ size → word (size + 1) (lesser size a b) i j ≡ int_min (word (size + 1) a i j) (word (size + 1) b i j)
-  lesser_word a b i j h g = word_at size (λ i j. int_min (word (size + 1) a i j) (word (size + 1) b i j)) i j (omega arith) (omega arith)
-
   lesser_high : (a b : List ℤ) → IsHigh a → IsHigh b → IsHigh (lesser size a b)
   lesser_high a b is are = record {
-    least = λ i j h g ne. min_is_high (word (size + 1) a i j) (word (size + 1) b i j) (word (size + 1) (lesser size a b) i j) (lesser_word a b i j h g) (is.least i j h g ne) (are.least i j h g ne);
+    least = λ i j h g ne. min_is_high (word (size + 1) a i j) (word (size + 1) b i j) (word (size + 1) (lesser size a b) i j) (lesser_word size a b i j h g) (is.least i j h g ne) (are.least i j h g ne);
   }
 
   put_high : (to : ℕ) (o : Option Lin) (m : List ℤ) → IsHigh m → IsHigh (assigned_or_forgotten size to o m)
@@ -324,17 +322,13 @@ module _ (size : ℕ) where
       first true false g h k = absurd (false≢true k)
       first false d g h k = absurd (false≢true h)
 
-      last : (c g : Bool) → g ≡ true → (c || g) ≡ true
-      last true g h = refl
-      last false g h = h
-
       further : IfSought is_gone home at hs i → (o : Option ℕ) → cell_of hs home ≡ o → option_map (λ n. suc n) o ≡ Some k → is_gone_at is_gone (suc at) hs i ≡ true
       further more None d g = absurd cc
       further more (Some n) d g = let same : suc n ≡ k = cc in more n d (omega (arith, f, same))
 
       by_test : IfSought is_gone home at hs i → (b : Bool) → is_home h home ≡ b → (if b then Some 0 else option_map (λ n. suc n) (cell_of hs home)) ≡ Some k → ((is_gone h && nat_eq i at) || is_gone_at is_gone (suc at) hs i) ≡ true
       by_test more true d g = let same : 0 ≡ k = cc in first (is_gone h) (nat_eq i at) (is_gone_at is_gone (suc at) hs i) (goes h d) (eq-eqb i at (omega (arith, f, same)))
-      by_test more false d g = last (is_gone h && nat_eq i at) (is_gone_at is_gone (suc at) hs i) (further more (cell_of hs home) refl g)
+      by_test more false d g = or_right (is_gone h && nat_eq i at) (is_gone_at is_gone (suc at) hs i) (further more (cell_of hs home) refl g)
 
   -- ---- demands
 
@@ -342,13 +336,10 @@ module _ (size : ℕ) where
   demanded_is form m = record { words = λ i j h g. word_at size (lowered (word (size + 1) m) (coef_at form.coefs) form.constant.low size) i j (omega arith) (omega arith) }
 
   module _ (a b : List ℤ) (lower : AreLower (size + 1) (word (size + 1) a) (word (size + 1) b)) where
-    min_along : (x y z t : ℤ) → z ≡ int_min x y → x ≤ℤ t → z ≤ℤ t
-    min_along x y z t e h = omega (arith, ints, clamps, e, h)
-
     demanded_if_rises : (o q : Option Lin) → IsNarrowerIfAny o q → AreLowerOff size (demanded_if size o a) (demanded_if size q b)
     demanded_if_rises None None h = record { words = λ i j l g ne. lower.words i j (omega arith) (omega arith) }
     demanded_if_rises (Some f) None h = record {
-      words = λ i j l g ne. min_along (word (size + 1) a i j) _ (word (size + 1) (demanded size f a) i j) (word (size + 1) b i j) ((demanded_is f a).words i j l g) (lower.words i j (omega arith) (omega arith));
+      words = λ i j l g ne. min_left (word (size + 1) a i j) _ (word (size + 1) (demanded size f a) i j) (word (size + 1) b i j) ((demanded_is f a).words i j l g) (lower.words i j (omega arith) (omega arith));
     }
     demanded_if_rises None (Some g) h = absurd h
     demanded_if_rises (Some f) (Some g) h = record {
@@ -364,9 +355,6 @@ module _ (size : ℕ) where
         sum_there f (constant_form (interval (pos 1) (pos 1))) g (constant_form (interval (pos 1) (pos 1))) h
         (record { coefs = refl; low = omega (arith, ints); ordered = omega (arith, ints); high = omega (arith, ints) })
 
-    min_of_both : (x y z p q r : ℤ) → z ≡ int_min x y → r ≡ int_min p q → x ≤ℤ p → y ≤ℤ q → z ≤ℤ r
-    min_of_both x y z p q r e f h k = omega (arith, ints, clamps, e, f, h, k)
-
     pub ordered_rises : (fine : Bool) (o q : Option Lin) (l e g : Bool) → IsNarrowerIfAny o q → AreLowerOff size (ordered size fine o l e g a) (ordered size fine q l e g b)
     ordered_rises fine o q true e false h = demanded_if_rises (at_most fine e o) (at_most fine e q) (at_most_rises fine e o q h)
     ordered_rises fine o q false e true h =
@@ -376,8 +364,8 @@ module _ (size : ℕ) where
         let first = demanded_if_rises o q h in
         let last = demanded_if_rises (o >>= turned_form true) (q >>= turned_form true) (turns_narrower true o q h) in
         record {
-          words = λ i j l k ne. min_of_both _ _ _ _ _ _
-              (lesser_word (demanded_if size o a) (demanded_if size (o >>= turned_form true) a) i j l k) (lesser_word (demanded_if size q b) (demanded_if size (q >>= turned_form true) b) i j l k)
+          words = λ i j l k ne. min_both _ _ _ _ _ _
+              (lesser_word size (demanded_if size o a) (demanded_if size (o >>= turned_form true) a) i j l k) (lesser_word size (demanded_if size q b) (demanded_if size (q >>= turned_form true) b) i j l k)
               (first.words i j l k ne) (last.words i j l k ne);
         }
     ordered_rises fine o q true e true h = record { words = λ i j l k ne. lower.words i j (omega arith) (omega arith) }

@@ -3,7 +3,7 @@ use Rattle.std.proofs.Common.{◌≡◌, ◌&&◌, ℕ, Bool, true, false, Optio
 use Rattle.std.specs.Prelude.{IfSome}
 use Rattle.cob_program.specs.declared.act.How.{How}
 use Rattle.cob_program.specs.declared.act.How.TheVariants as how
-use Rattle.cob_program.specs.Sum.{Sum, MkSum, no_parts, more_parts, MkPart, no_factors, more_factors, MkFactor, Atom, item, number, group}
+use Rattle.cob_program.specs.Sum.{Sum, MkSum, no_parts, more_parts, MkPart, no_factors, more_factors, MkFactor, Atom}
 use Rattle.cob_program.specs.Bounds.{Bound, exactly, sum_bound, factor_bound, part_most, atom_most, is_small, is_small_sum, is_small_sum_from, is_small_part, is_small_product, is_small_atom}
 use Rattle.cob_program.proofs.Steps.{both}
 use Rattle.cob_edge_parts.specs.Parts.{computed}
@@ -12,6 +12,7 @@ use Rattle.sum_ranges.specs.SumRanges.{product_range}
 use Rattle.sum_ranges.specs.Sizes.{IsSmallRange}
 use Rattle.sum_ranges.specs.Working.{CanMultiplyRanges}
 use Rattle.sum_forms.specs.Literals.{is_short}
+use Rattle.sum_forms.proofs.Loops.{short_atom}
 use Rattle.result_ranges.specs.declared.amounts.Taken.{Taken}
 use Rattle.result_ranges.specs.Operands.{is_whole}
 use Rattle.result_ranges.proofs.Working.{product_small}
@@ -31,11 +32,6 @@ can_multiply s own None can = tt
 can_multiply s own (Some t) can = can.given
 
 -- ---- literals
-
-short_atom : (bound : ℕ → Bound) (a : Atom) → is_small_atom bound a ≡ true → is_short a ≡ true
-short_atom bound (item place) e = refl
-short_atom bound (number n) e = e
-short_atom bound (group s) e = refl
 
 short_factor : (bound : ℕ → Bound) (over minus : Bool) (a : Atom) (b : Bound) → is_small_product bound b (more_factors (MkFactor over minus a) no_factors) ≡ true → is_short a ≡ true
 short_factor bound over minus a b e =

@@ -1,5 +1,5 @@
--- Forms of amounts by whether the edge has written to bytes of the operands' items: in units of so many decimals, by the
--- cells of items, by their ranges, and by what operands were when they were taken.
+-- Forms of amounts by whether the edge has written to bytes of the operands' items: in units of so many decimals, by
+-- the cells of items, by their ranges, and by what operands were when they were taken.
 use Rattle.std.specs.Prelude.{ℕ, ◌&&◌, if◌then◌else◌, Bool, true, false, ℤ, Option, Some, None, is_some}
 use Rattle.cob_data.specs.declared.layout.Sender.{Sender}
 use Rattle.cob_data.specs.declared.layout.Sender.TheVariants as sender

@@ -192,9 +192,9 @@ fn form_of_amount(
     }
 }
 
-/// The form of what the item at a place gets, where operands are taken: `common` is what they were then, and `written` says
-/// whether the edge has written to bytes of the items that they are read of. A quotient that stays exact, a remainder, and
-/// what doesn't fit machine words have none.
+/// The form of what the item at a place gets, where operands are taken: `common` is what they were then, and `written`
+/// says whether the edge has written to bytes of the items that they are read of. A quotient that stays exact and a
+/// remainder have none; nor has one whose numbers would reach 10^37 in absolute value.
 pub fn amount_form(
     items: &KnownItems,
     pack: &PackView,

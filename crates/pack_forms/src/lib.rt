@@ -1,5 +1,5 @@
-//! What receivers get, as linear forms over the cells of a pack (Miné 2001): of a sender, of a sum, of a counter less one,
-//! and the difference of two sums. No call takes memory.
+//! What receivers get, as linear forms over the cells of a pack (Miné 2001): of a sender, of a sum, of a counter less
+//! one; and the difference of two sums. No call takes memory.
 #![tactic(auto)]
 
 mod amounts;

@@ -106,8 +106,8 @@ fn has_range(items: &KnownItems, sum: &Sum, how: How) -> bool
     }
 }
 
-/// Whether operands that are read off their items have a range; none has where a divisor among them is 0 alone. `written`
-/// says whether the edge has written to bytes of their items.
+/// Whether operands that are read off their items have a range; they have none where a divisor among them is 0 alone.
+/// `written` says whether the edge has written to bytes of their items.
 pub fn has_operands(items: &KnownItems, amount: Amount, written: bool) -> bool
     requires fits { CellsFit (owns (program_of items.now)) (known_in items.now) }
     requires small { is_small_amount (bound_at (program_of items.now).layout) (plain_amount amount) ≡ true }

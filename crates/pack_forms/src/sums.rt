@@ -92,8 +92,8 @@ fn is_quotient(sum: &Sum) -> bool
     is_quotient_of(&sum.parts)
 }
 
-/// The form of operands to whose bytes the edge hasn't written. `whole` says that the whole sum is stored: a quotient that
-/// is its last operation then has none.
+/// The form of operands to whose bytes the edge hasn't written. `whole` says that the whole sum is stored: a quotient
+/// that is its last operation then has none.
 #[tactic(auto, using(crate::proofs::Reading::readable))]
 pub(crate) fn form_read(items: &KnownItems, pack: &PackView, sum: &Sum, whole: bool) -> Option<Lin>
     requires fits { CellsFit (owns (program_of items.now)) (known_in items.now) }

@@ -1,8 +1,7 @@
 -- Stores keep the order of matrices.
 use Rattle.std.proofs.Common.{◌≡◌, ◌≢◌, ℕ, ◌+◌, ◌≤◌, Bool, true, false, List, ℤ, pos, neg_ℤ, ◌≤ℤ◌, Option, Some, None, ◌⊎◌, inl, inr, refl, sym, subst, ◌∙◌, arith}
 use Rattle.std.specs.Prelude.{if◌then◌else◌, ◌&&◌, ◌||◌}
-use Rattle.std.specs.Int.{int_min}
-use Rattle.std.proofs.lemmas.Int.{ints, clamps}
+use Rattle.std.proofs.lemmas.Int.{ints}
 use Rattle.std.proofs.lemmas.Bool.{cases_eq, false≢true}
 use Rattle.dec_num.specs.declared.types.Mode.{Mode}
 use Rattle.dec_num.specs.declared.types.Mode.TheVariants.{Trunc, Round}
@@ -27,7 +26,7 @@ use Rattle.sum_forms.proofs.Narrower.{turns_narrower, sum_there}
 use Rattle.diff_steps.specs.Matrices.{forgotten, assigned, lesser}
 use Rattle.diff_steps.specs.Stores.{widened_form, assigned_or_forgotten, absolute_stored, form_stored}
 use Rattle.pack_laws.specs.Orders.{AreLowerOff}
-use Rattle.pack_laws.proofs.Words.{word_at}
+use Rattle.pack_laws.proofs.Words.{lesser_word, min_left, min_right, min_both}
 use Rattle.pack_laws.proofs.Kept.{are_forgotten, are_assigned}
 
 -- no bound is greater than none
@@ -74,23 +73,11 @@ module _ (size to : ℕ) (last : to ≤ size) where
   put_image None a = forgotten_image a
   put_image (Some f) a = assigned_image f a
 
-  lesser_word : (x y : List ℤ) (i j : ℕ) → i ≤ size → j ≤ size → word (size + 1) (lesser size x y) i j ≡ int_min (word (size + 1) x i j) (word (size + 1) y i j)
-  lesser_word x y i j h g = word_at size (λ i j. int_min (word (size + 1) x i j) (word (size + 1) y i j)) i j (omega arith) (omega arith)
-
-  min_left : (x y z t : ℤ) → z ≡ int_min x y → x ≤ℤ t → z ≤ℤ t
-  min_left x y z t e h = omega (arith, ints, clamps, e, h)
-
-  min_right : (x y z t : ℤ) → z ≡ int_min x y → y ≤ℤ t → z ≤ℤ t
-  min_right x y z t e h = omega (arith, ints, clamps, e, h)
-
-  min_both : (x y z p q r : ℤ) → z ≡ int_min x y → r ≡ int_min p q → x ≤ℤ p → y ≤ℤ q → z ≤ℤ r
-  min_both x y z p q r e f h k = omega (arith, ints, clamps, e, f, h, k)
-
   lesser_image : (a x y : List ℤ) → IsImage a x → IsImage a (lesser size x y)
   lesser_image a x y is = record {
-    row = λ j h ne. min_left _ _ _ none (lesser_word x y to j last h) (is.row j h ne);
-    column = λ i h ne. min_left _ _ _ none (lesser_word x y i to h last) (is.column i h ne);
-    others = λ i j h g off apart. min_left _ _ _ (word (size + 1) a i j) (lesser_word x y i j h g) (is.others i j h g off apart);
+    row = λ j h ne. min_left _ _ _ none (lesser_word size x y to j last h) (is.row j h ne);
+    column = λ i h ne. min_left _ _ _ none (lesser_word size x y i to h last) (is.column i h ne);
+    others = λ i j h g off apart. min_left _ _ _ (word (size + 1) a i j) (lesser_word size x y i j h g) (is.others i j h g off apart);
   }
 
   absolute_image : (o : Option Lin) (n p : Bool) (a : List ℤ) → IsImage a (absolute_stored size to o n p a)
@@ -131,13 +118,13 @@ module _ (size to : ℕ) (last : to ≤ size) where
     }
 
     lesser_left : (x y z : List ℤ) → AreLowerOff size x z → AreLowerOff size (lesser size x y) z
-    lesser_left x y z is = record { words = λ i j h g ne. min_left _ _ _ (word (size + 1) z i j) (lesser_word x y i j h g) (is.words i j h g ne) }
+    lesser_left x y z is = record { words = λ i j h g ne. min_left _ _ _ (word (size + 1) z i j) (lesser_word size x y i j h g) (is.words i j h g ne) }
 
     lesser_right : (x y z : List ℤ) → AreLowerOff size y z → AreLowerOff size (lesser size x y) z
-    lesser_right x y z is = record { words = λ i j h g ne. min_right _ _ _ (word (size + 1) z i j) (lesser_word x y i j h g) (is.words i j h g ne) }
+    lesser_right x y z is = record { words = λ i j h g ne. min_right _ _ _ (word (size + 1) z i j) (lesser_word size x y i j h g) (is.words i j h g ne) }
 
     lesser_both : (x y z t : List ℤ) → AreLowerOff size x z → AreLowerOff size y t → AreLowerOff size (lesser size x y) (lesser size z t)
-    lesser_both x y z t is are = record { words = λ i j h g ne. min_both _ _ _ _ _ _ (lesser_word x y i j h g) (lesser_word z t i j h g) (is.words i j h g ne) (are.words i j h g ne) }
+    lesser_both x y z t is are = record { words = λ i j h g ne. min_both _ _ _ _ _ _ (lesser_word size x y i j h g) (lesser_word size z t i j h g) (is.words i j h g ne) (are.words i j h g ne) }
 
     absolute_lower : (o p : Option Lin) (n q m r : Bool) → IsNarrowerIfAny o p → (m ≡ true → n ≡ true) → (r ≡ true → q ≡ true) → AreLowerOff size (absolute_stored size to o n q a) (absolute_stored size to p m r b)
     absolute_lower o p n q false false h k l = image_below (absolute_stored size to o n q a) (absolute_image o n q a)

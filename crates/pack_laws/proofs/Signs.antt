@@ -25,15 +25,13 @@ use Rattle.store_error.proofs.Scales.{times_cancel}
 use Rattle.sum_forms.specs.SumForms.{turned_form}
 use Rattle.sum_forms.proofs.Shows.{if_there}
 use Rattle.diff_steps.specs.Stores.{is_low, upper_negated, known_of_range}
+use Rattle.std.proofs.Math.IntN.{zero-*ℤ}
 
 -- ---- signs of a value by those of an end
 
 not_below : (x u : ℤ) (p t : ℕ) → 0 < t → pos 0 ≤ℤ x → (x *ℤ pos p) ≤ℤ (u *ℤ pos t) → pos 0 ≤ℤ u
-not_below x u p t some h le = times_cancel (pos 0) u t some (at_least x p h (pos 0 *ℤ pos t) (u *ℤ pos t) (zero_times t) le)
+not_below x u p t some h le = times_cancel (pos 0) u t some (at_least x p h (pos 0 *ℤ pos t) (u *ℤ pos t) (zero-*ℤ (pos t)) le)
   where
-    zero_times : (n : ℕ) → pos 0 *ℤ pos n ≡ pos 0
-    zero_times n = omega (arith, ints)
-
     product_above : (x : ℤ) (p : ℕ) → pos 0 ≤ℤ x → pos 0 ≤ℤ (x *ℤ pos p)
     product_above (pos a) p h = omega (arith, ints)
     product_above (negsuc a) p h = absurd (omega (arith, ints, h))
@@ -42,11 +40,8 @@ not_below x u p t some h le = times_cancel (pos 0) u t some (at_least x p h (pos
     at_least x p h y z e le = let q = product_above x p h in omega (arith, ints, q, e, le)
 
 pub not_above : (x u : ℤ) (p t : ℕ) → 0 < t → x ≤ℤ pos 0 → (u *ℤ pos t) ≤ℤ (x *ℤ pos p) → u ≤ℤ pos 0
-not_above x u p t some h le = times_cancel u (pos 0) t some (at_most x p h (pos 0 *ℤ pos t) (u *ℤ pos t) (zero_times t) le)
+not_above x u p t some h le = times_cancel u (pos 0) t some (at_most x p h (pos 0 *ℤ pos t) (u *ℤ pos t) (zero-*ℤ (pos t)) le)
   where
-    zero_times : (n : ℕ) → pos 0 *ℤ pos n ≡ pos 0
-    zero_times n = omega (arith, ints)
-
     product_below : (x : ℤ) (p : ℕ) → x ≤ℤ pos 0 → (x *ℤ pos p) ≤ℤ pos 0
     product_below (pos a) p h = let e : a ≡ 0 = omega (arith, ints, h) in let f : a * p ≡ 0 = ap (λ n. n * p) e ∙ omega arith in omega (arith, ints, f)
     product_below (negsuc a) p h = omega (arith, ints)

@@ -13,12 +13,9 @@ use Rattle.diff_bounds.specs.Lattice.{matrix_of, bottom_word, matrices}
 use Rattle.diff_bounds.proofs.MatrixLattice.{lattice_of_matrices}
 use Rattle.pack_rows.specs.Rows.{words_of, matrices_beside, are_at_most, is_least, packs_lattice, lists_of}
 use Rattle.pack_rows.proofs.Lattices.{no_row, no_words_are_a_lattice, beside_is_a_lattice, arrivals_are_a_lattice}
+use Rattle.std.proofs.lemmas.Bool.{and_parts}
 
 -- ---- words
-
-both_true : (a b : Bool) → (a && b) ≡ true → (a ≡ true) × (b ≡ true)
-both_true true b e = (refl, e)
-both_true false b e = absurd cc
 
 le_is : (x y : ℤ) → int_le x y ≡ true → x ≤ℤ y
 le_is x y e = omega (arith, ints, e)
@@ -32,8 +29,8 @@ words_at_most xs ys e = record { words = each xs ys e }
     each : (xs ys : List ℤ) → are_at_most xs ys ≡ true → (k : ℕ) → k < length xs → get_or xs k (pos 0) ≤ℤ get_or ys k (pos 0)
     each [] ys e k h = absurd (omega (arith, h))
     each (x ∷ xs) [] e k h = absurd cc
-    each (x ∷ xs) (y ∷ ys) e zero h = le_is x y (both_true (int_le x y) (are_at_most xs ys) e).0
-    each (x ∷ xs) (y ∷ ys) e (suc k) h = each xs ys (both_true (int_le x y) (are_at_most xs ys) e).1 k (omega (arith, h))
+    each (x ∷ xs) (y ∷ ys) e zero h = le_is x y (and_parts (int_le x y) (are_at_most xs ys) e).0
+    each (x ∷ xs) (y ∷ ys) e (suc k) h = each xs ys (and_parts (int_le x y) (are_at_most xs ys) e).1 k (omega (arith, h))
 
 pub at_most_itself : (xs : List ℤ) → are_at_most xs xs ≡ true
 at_most_itself [] = refl
@@ -117,7 +114,7 @@ told_below (n ∷ ns) (ts ∷ lists) are row is e =
     let first = matrices n ts in
     let rest = matrices_beside ns lists in
     let width : length first.least ≡ first.width = (lattice_of_matrices n ts are.0).least_element.width in
-    let two = both_true (are_at_most (take first.width row) first.least) (are_at_most (drop first.width row) rest.least)
+    let two = and_parts (are_at_most (take first.width row) first.least) (are_at_most (drop first.width row) rest.least)
     (sym (at_most_pieces (take first.width row) (drop first.width row) first.least rest.least (is.formed.0.width ∙ sym width))
     ∙ subst (λ (x : List ℤ). are_at_most x (first.least ++ rest.least) ≡ true) (sym (take-append-drop first.width row)) e) in (
       subst (first.Below (take first.width row)) (sym (take_at first.least rest.least first.width width)) (words_at_most (take first.width row) first.least two.0),

@@ -5,7 +5,7 @@ use Rattle.cob_interp.specs.Touching.{makes_in}
 use Rattle.cob_interp.proofs.OpenLeads.{open_leads}
 use Rattle.cob_interp.proofs.Touched.{makes_stay, makes_more, makes_one}
 use Rattle.cob_interp.proofs.Closings.{open_part, opens_behind}
-use Rattle.cob_interp.proofs.TrackLemmas.{placed_on}
+use Rattle.cob_interp.proofs.TrackLemmas.{stand_on}
 use Rattle.cob_interp.proofs.Placing.{open_places, open_one_placed}
 use Rattle.cob_interp.proofs.opens.do_open.Goals as goal
 
@@ -54,4 +54,6 @@ returns-in_ok-ready_to_open-in-Some-clause-placed g c =
     (g.F.Files.state c.args.files.now)
     (g.F.Files.state c.ready_to_open.new.files) _ _ _ c.in-Some.opening
     ready.path ready.file ready.is.path_ ready.has ready.stand
-    (placed_on (paths_of c.args.setting.now) (g.F.Files.state c.args.files.now) _ _ _ ready.keeps c.requires.placed))
+    (stand_on (paths_of c.args.setting.now) (g.F.Files.state c.args.files.now) _ _ _ ready.keeps.each
+    c.requires.placed.stand)
+    ready.is.decl ready.is.declared (ready.purposes c.requires.placed.purposes))

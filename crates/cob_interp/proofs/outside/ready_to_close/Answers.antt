@@ -1,6 +1,6 @@
 use Rattle.cob_interp.specs.Setting.{paths_of}
 use Rattle.cob_interp.specs.Touching.{makes_none}
-use Rattle.cob_interp.proofs.Readied.{placed_ids, placed_closed, ready_closed, touches_known}
+use Rattle.cob_interp.proofs.Readied.{stand_ids, stand_closed, ready_closed, touches_known}
 use Rattle.cob_interp.proofs.TrackLemmas.{tracks_ids, tracks_pass}
 use Rattle.cob_interp.proofs.outside.ready_to_close.Goals as goal
 
@@ -25,10 +25,10 @@ returns-clause-readies g c =
     ready_closed c.args.setting.now c.args.world.now.world c.args.place _ _ _ c.in_ok-put_file_at.ensures.readies
     c.in_ok-close.ensures.closes.well c.in_ok-close.ensures.same
 
-pub returns-clause-placed : goal.returns-clause-placed
-returns-clause-placed g c fs placed =
-    placed_closed (paths_of c.args.setting.now) _ _ fs _ _ _ c.in_ok-close.ensures.closes
-    (placed_ids (paths_of c.args.setting.now) _ _ fs _ c.in_ok-put_file_at.ensures.ids c.requires.live placed)
+pub returns-clause-stand : goal.returns-clause-stand
+returns-clause-stand g c fs stand =
+    stand_closed (paths_of c.args.setting.now) _ _ fs _ _ _ c.in_ok-close.ensures.closes
+    (stand_ids (paths_of c.args.setting.now) _ _ fs _ c.in_ok-put_file_at.ensures.ids c.requires.live stand)
 
 pub returns-clause-touches : goal.returns-clause-touches
 returns-clause-touches g c =

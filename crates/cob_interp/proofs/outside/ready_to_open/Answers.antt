@@ -1,3 +1,6 @@
+use Rattle.std.proofs.Common.{ap}
+use Rattle.cob_interp.specs.Tracking.{purpose_in}
+use Rattle.cob_interp.proofs.Purposes.{slot_free}
 use Rattle.std.proofs.Common.{sym, refl, subst, Option, ◌∙◌}
 use Rattle.std.specs.Prelude.{IsSome}
 use Rattle.batch_io.specs.FilesState.{Purpose}
@@ -78,3 +81,11 @@ pub returns-clause-touches : goal.returns-clause-touches
 returns-clause-touches g c =
     makes_same (paths_of c.args.setting.now) (makes_in (c.args.opening ∷ [])) c.args.world.now.world _ _
     c.in_ok-open_input.ensures.same
+
+pub open_input-requires-clause-free : goal.open_input-requires-clause-free
+open_input-requires-clause-free g c =
+    let h = has_file c.in-Some-file_mode.mode _ c.in-Some-file_mode.ensures in
+    let shut = is_closed_true c.in-Some-file_mode.mode h.0.mode h.2
+    (sym c.is_closed.ensures ∙ c.if-not-is_closed.false) in
+    slot_free c.args.inputs.now c.args.world.now.world.files c.requires.placed.purposes c.args.opening.file h.0 h.1
+    (ap purpose_in shut)

@@ -1,4 +1,7 @@
-use Rattle.cob_interp.proofs.RecordReads.{idle_arrives, window_arrives}
+use Rattle.std.proofs.Common.{ap}
+use Rattle.cob_interp.specs.Tracking.{purpose_in}
+use Rattle.cob_interp.proofs.Purposes.{slot_read}
+use Rattle.cob_interp.proofs.RecordReads.{idle_arrives, window_arrives, on_file}
 use Rattle.cob_interp.proofs.ReadParts.{idle_part_placed, window_part_placed}
 use Rattle.cob_interp.proofs.reads.do_read.Goals as goal
 
@@ -32,3 +35,9 @@ returns-in-Some-clause-takes g c = λ sink budget steps start counted within sta
     (g.F.Files.state c.do_window.new.files) c.args.world.now.world stands c.in-Read.found c.in-Read.end c.in-Read.bad
     c.in-Read.is c.args.inputs.now c.requires.placed c.in-Some.before c.in-Some.ensures c.do_window.ensures.same _ _
     c.do_window.ensures.reads
+
+pub do_window-requires-clause-reads : goal.do_window-requires-clause-reads
+do_window-requires-clause-reads g c =
+    let f = on_file _ c.in-Some.before c.in-Some.ensures in
+    slot_read c.args.inputs.now c.args.world.now.world.files c.requires.placed.purposes c.args.file f.0 f.1
+    (ap purpose_in f.2)

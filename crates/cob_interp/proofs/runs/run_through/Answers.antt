@@ -4,7 +4,7 @@ use Rattle.std.proofs.lemmas.List.{length-map}
 use Rattle.cob_program.specs.ActView.{plain_program}
 use Rattle.cob_interp.specs.Running.{outside}
 use Rattle.cob_interp.specs.Setting.{texts}
-use Rattle.cob_interp.proofs.Starting.{begins_with, refused_first}
+use Rattle.cob_interp.proofs.Starting.{begins_with, refused_first, placed_first}
 use Rattle.cob_interp.proofs.TrackLemmas.{ids_kept, tracks_pass}
 use Rattle.cob_interp.proofs.runs.run_through.Goals as goal
 
@@ -38,5 +38,10 @@ returns-clause-runs g c =
 
 pub returns-clause-ids : goal.returns-clause-ids
 returns-clause-ids g c =
-    ids_kept _ _ _ _ c.in-Ok-none.ensures c.ending_of.ensures.none
+    ids_kept _ _ _ _ c.in-Ok-none.ensures.none c.ending_of.ensures.none
     (tracks_pass _ _ _ _ _ _ c.walk-halted.ensures.tracks c.ending_of.ensures.tracks)
+
+pub walk-halted-requires-clause-placed : goal.walk-halted-requires-clause-placed
+walk-halted-requires-clause-placed g c =
+    placed_first (plain_program c.args.program.now) _ (texts c.args.paths.now) (g.F.Files.state c.args.files.now) _ _ _
+    c.requires.paths c.in-Ok-none.ensures.none c.in-Ok-none.ensures.purposes c.in-Ok-first.ensures.value

@@ -1,5 +1,9 @@
-use Rattle.cob_interp.specs.Tracking.{AreNone}
+use Rattle.std.proofs.Common.{◌≡◌, None, replicate}
+use Rattle.cob_interp.specs.Tracking.{AreNone, purposes_for}
 use Rattle.cob_interp.proofs.inputs.Inputs.none.Given as goal
 
 abbrev pub invariant-loop : goal.invariant-loop
-invariant-loop l = AreNone l.ids.items
+invariant-loop l = record {
+  none : AreNone l.ids.items;
+  purposes : purposes_for l.ids.items ≡ replicate l.counter None;
+}

@@ -1,12 +1,13 @@
-use Rattle.std.proofs.Common.{◌<◌, length, refl, sym, subst, ◌∙◌, rules}
+use Rattle.std.proofs.Common.{None, sym, subst, ◌∙◌}
+use Rattle.std.proofs.lemmas.Option.{slice_get_within}
 use Rattle.cob_interp.specs.Tracking.{Ids, Tracks}
 use Rattle.cob_interp.proofs.TrackLemmas.{tracks_opened}
 use Rattle.cob_interp.proofs.inputs.Inputs.open.Goals as goal
 
 pub returns-in-Ok-open-clause-tracks : goal.returns-in-Ok-open-clause-tracks
 returns-in-Ok-open-clause-tracks g c =
-    let within : c.args.place < length c.args.self.now = search rules in
+    let within = slice_get_within c.args.self.now c.args.place None c.requires.free in
     subst (λ (ids : Ids). Tracks (g.F.Files.state c.args.files.now) (g.F.Files.state c.open.new.self) c.args.self.now ids)
     (sym (c.give_room.ensures ∙ c.put_id.ensures))
     (tracks_opened _ _ c.args.self.now c.args.place c.in-Ok-open.id c.args.name.now within
-    (λ other is. c.in_default.ensures.none refl other is) c.in-Ok-open.ensures.call.ids c.requires.live)
+    (λ other is. let free = c.requires.free in cc) c.in-Ok-open.ensures.call.ids c.requires.live)

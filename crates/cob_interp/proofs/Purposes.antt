@@ -1,0 +1,90 @@
+-- Which files have ids, and what for.
+use Rattle.std.proofs.Common.{◌≡◌, ℕ, zero, suc, ◌+◌, List, [], ◌∷◌, ◌++◌, map, replicate, Option, Some, None, refl, sym, ap, ◌∙◌, arith}
+use Rattle.std.specs.Prelude.{slice_get, slice_set, option_map}
+use Rattle.std.proofs.lemmas.Option.{slice_get-map}
+use Rattle.batch_io.specs.FilesState.{Purpose, Reading}
+use Rattle.cob_runs.specs.Files.{File}
+use Rattle.cob_interp.specs.Tracking.{Ids, IsReadAt, purpose_in, purposes_of, purpose_for, purposes_for}
+
+-- ---- one element is new
+
+pub map_set : {X Y : Type 0} (f : X → Y) (xs : List X) (place : ℕ) (x : X)
+    → map f (slice_set xs place x) ≡ slice_set (map f xs) place (f x)
+map_set f [] place x = refl
+map_set f (y ∷ xs) zero x = refl
+map_set {X} {Y} f (y ∷ xs) (suc place) x = ap (λ (ys : List Y). f y ∷ ys) (map_set f xs place x)
+
+pub set_same : {X : Type 0} (xs : List X) (place : ℕ) (x : X) → slice_get xs place ≡ Some x → slice_set xs place x ≡ xs
+set_same [] place x at = refl
+set_same {X} (y ∷ xs) zero x at = let same : y ≡ x = cc in ap (λ (z : X). z ∷ xs) (sym same)
+set_same {X} (y ∷ xs) (suc place) x at = ap (λ (ys : List X). y ∷ ys) (set_same xs place x at)
+
+pub purposes_set : (fs : List File) (place : ℕ) (g : File)
+    → purposes_of (slice_set fs place g) ≡ slice_set (purposes_of fs) place (purpose_in g.mode)
+purposes_set fs place g = map_set (λ (f : File). purpose_in f.mode) fs place g
+
+pub purpose_at : (fs : List File) (place : ℕ) (f : File) → slice_get fs place ≡ Some f
+    → slice_get (purposes_of fs) place ≡ Some (purpose_in f.mode)
+purpose_at fs place f has =
+    slice_get-map (λ (g : File). purpose_in g.mode) fs place
+    ∙ ap (λ (o : Option File). option_map (λ (g : File). purpose_in g.mode) o) has
+
+-- a file that is new keeps its purpose
+pub purposes_kept : (fs : List File) (place : ℕ) (f g : File) → slice_get fs place ≡ Some f
+    → purpose_in g.mode ≡ purpose_in f.mode → purposes_of (slice_set fs place g) ≡ purposes_of fs
+purposes_kept fs place f g has same =
+    purposes_set fs place g
+    ∙ set_same (purposes_of fs) place (purpose_in g.mode)
+    (purpose_at fs place f has ∙ ap (λ (o : Option Purpose). Some o) (sym same))
+
+-- ---- files that are closed
+
+purposes_pushed : (ids : Ids) → purposes_for (ids ++ None ∷ []) ≡ purposes_for ids ++ None ∷ []
+purposes_pushed [] = refl
+purposes_pushed (x ∷ ids) = ap (λ (ps : List (Option Purpose)). purpose_for x ∷ ps) (purposes_pushed ids)
+
+abbrev nothing : Option Purpose
+nothing = None
+
+none_next : (n : ℕ) → replicate n nothing ++ None ∷ [] ≡ replicate (suc n) nothing
+none_next zero = refl
+none_next (suc n) = ap (λ (ps : List (Option Purpose)). None ∷ ps) (none_next n)
+
+pub none_pushed : (ids : Ids) (n : ℕ) → purposes_for ids ≡ replicate n None
+    → purposes_for (ids ++ None ∷ []) ≡ replicate (n + 1) None
+none_pushed ids n e =
+    let next : suc n ≡ n + 1 = omega arith in
+    purposes_pushed ids ∙ ap (λ (ps : List (Option Purpose)). ps ++ None ∷ []) e ∙ none_next n
+    ∙ ap (λ (k : ℕ). replicate k None) next
+
+-- ---- the id of a file
+
+slot_is : (ids : Ids) (place : ℕ) (p : Option Purpose) → slice_get (purposes_for ids) place ≡ Some p
+    → (slot : Option ℕ) × (slice_get ids place ≡ Some slot) × (purpose_for slot ≡ p)
+slot_is [] place p at = cc
+slot_is (x ∷ ids) zero p at = (x, refl, cc)
+slot_is (x ∷ ids) (suc place) p at = slot_is ids place p at
+
+unheld : (slot : Option ℕ) → purpose_for slot ≡ None → slot ≡ None
+unheld None e = refl
+unheld (Some id) e = cc
+
+held : (slot : Option ℕ) → purpose_for slot ≡ Some Reading → (id : ℕ) × (slot ≡ Some id)
+held None e = cc
+held (Some id) e = (id, refl)
+
+module _ (ids : Ids) (fs : List File) (same : purposes_for ids ≡ purposes_of fs) (place : ℕ) (f : File)
+    (has : slice_get fs place ≡ Some f) where
+  slot_at : (slot : Option ℕ) × (slice_get ids place ≡ Some slot) × (purpose_for slot ≡ purpose_in f.mode)
+  slot_at =
+      slot_is ids place (purpose_in f.mode)
+      (ap (λ (ps : List (Option Purpose)). slice_get ps place) same ∙ purpose_at fs place f has)
+
+  pub slot_free : purpose_in f.mode ≡ None → slice_get ids place ≡ Some None
+  slot_free e = let s = slot_at in s.1 ∙ ap (λ (o : Option ℕ). Some o) (unheld s.0 (s.2 ∙ e))
+
+  pub slot_read : purpose_in f.mode ≡ Some Reading → IsReadAt ids place
+  slot_read e =
+      let s = slot_at in
+      let h = held s.0 (s.2 ∙ e) in
+      (h.0, s.1 ∙ ap (λ (o : Option ℕ). Some o) h.1)
