@@ -13,3 +13,4 @@ pub mod Nearness
 pub mod Divisors
 pub mod Cleared
 pub mod ClearedAt
+pub mod ShortHomes
