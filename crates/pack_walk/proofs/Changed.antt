@@ -1,8 +1,7 @@
 -- What a part makes of a pack, by what is kept behind it.
-use Rattle.std.proofs.Common.{◌≡◌, ℕ, suc, ◌-◌, ◌^◌, Bool, true, false, if◌then◌else◌, List, ℤ, Option, Some, None, refl, sym, ap, ◌∙◌}
+use Rattle.std.proofs.Common.{◌≡◌, ℕ, suc, Bool, true, false, if◌then◌else◌, List, ℤ, Option, Some, None, refl, sym, ap, ◌∙◌}
 use Rattle.std.specs.Option.{option_map}
 use Rattle.dec_num.specs.declared.types.Mode.{Mode}
-use Rattle.cob_program.specs.Values.{◌>>=◌}
 use Rattle.cob_program.specs.Logic.{Test, numbers, texts, member, numeric, always}
 use Rattle.cob_program.specs.Act.{Act, Program}
 use Rattle.cob_runs.specs.declared.action.Action.{Action}
@@ -17,26 +16,24 @@ use Rattle.result_ranges.specs.Receivers.{receiver_of}
 use Rattle.cell_rows.specs.Known.{Known}
 use Rattle.cell_rows.specs.Elements.{Element}
 use Rattle.cell_storages.specs.Homes.{of_item, of_count}
-use Rattle.cell_steps.specs.Seen.{Seen, with_cells}
-use Rattle.cell_steps.specs.Stores.{with_taken, taking, amount_at, may_fail, behind_store, stored}
-use Rattle.cell_steps.specs.Steps.{with_cells_if, after_count}
+use Rattle.cell_steps.specs.Seen.{Seen}
+use Rattle.cell_steps.specs.Stores.{with_taken, taking, amount_at, behind_store}
+use Rattle.cell_steps.specs.Steps.{with_cells_if}
 use Rattle.edge_sizes.specs.Sizes.{IsSmallPart}
 use Rattle.cell_walk.specs.Latest.{Latest, ranges_of, outcome, latest_behind}
 use Rattle.cell_walk.specs.Walks.{with_taken_small, step_small}
 use Rattle.cell_walk.proofs.SmallEdges.{all_is_taken}
-use Rattle.diff_steps.specs.Packs.{Pack, size_of, cell_of, decimals_of, pack_decimals, unit_of}
+use Rattle.diff_steps.specs.Packs.{Pack, size_of, cell_of, pack_decimals, unit_of}
 use Rattle.diff_steps.specs.Matrices.{bottom}
 use Rattle.diff_steps.specs.Moments.{Bytes}
-use Rattle.diff_steps.specs.Forms.{amount_form, set_form, has_operands}
+use Rattle.diff_steps.specs.Forms.{amount_form, set_form}
 use Rattle.diff_steps.specs.Stores.{known_of_amount, forgotten_cells}
-use Rattle.diff_steps.specs.Steps.{by_outcome, is_other, form_at_cell, stored_cell, stored_pack, lost_pack, pack_behind_store, counted_pack, counter_stored, guarded_pack, changed_pack}
+use Rattle.diff_steps.specs.Steps.{by_outcome, is_other, form_at_cell, stored_cell, stored_pack, lost_pack, pack_behind_store, counter_stored, guarded_pack, changed_pack}
 use Rattle.pack_changes.specs.Receiving.{stored_at}
 use Rattle.pack_changes.proofs.AtCell.{at_cell}
 use Rattle.pack_forms.specs.Views.{taken_at}
 use Rattle.pack_forms.proofs.AmountsAgree.{same_amount_form, same_set_form, same_operands}
-use Rattle.pack_walk.specs.declared.gone.Gone.TheVariants as gone
-use Rattle.pack_walk.specs.Gone.{is_gone}
-use Rattle.pack_walk.specs.Changes.{decimal_in, cell_stored, cell_assigned, fitting_stored, store_changed, guard_changed, part_changed}
+use Rattle.pack_walk.specs.Changes.{decimal_in, cell_stored, cell_assigned, fitting_stored, store_changed, guard_changed}
 use Rattle.pack_walk.specs.Parts.{plan_changed}
 
 -- ---- a decimal is known by what it is worked out of, and nothing else is
@@ -83,8 +80,8 @@ module _ (p : Program) (a : Act) (x : Action) where
         ≡ stored_pack p a x t wrote place mode y pack m
     fitting_is place mode y m =
         λ i. if same_operands p pack t known common wrote y cells i
-            then forgotten_cells (size_of pack) (is_other p a x place) 1 pack (cell_is place mode y (cell_of pack (of_item place)) m i)
-            else bottom (size_of pack)
+        then forgotten_cells (size_of pack) (is_other p a x place) 1 pack (cell_is place mode y (cell_of pack (of_item place)) m i)
+        else bottom (size_of pack)
 
     store_is : (latest : Latest) (place : ℕ) (mode : Mode) (y : Amount) (m : List ℤ) → latest ≡ outcome p a x t place mode y →
         store_changed p known common latest wrote pack (size_of pack) (pack_decimals p.layout pack) place mode y m ≡ pack_behind_store p a x t wrote place mode y pack m

@@ -1,5 +1,5 @@
 -- What both layers clear, where the first one does and where it doesn't.
-use Rattle.std.proofs.Common.{◌≡◌, ◌≢◌, ℕ, Bool, true, false, ◌||◌, ◌&&◌, not, if◌then◌else◌, List, [], ◌∷◌, ℤ, pos, neg_ℤ, Option, Some, None, is_some, refl, sym, ap, subst, ◌∙◌, arith}
+use Rattle.std.proofs.Common.{◌≡◌, ℕ, Bool, true, false, ◌||◌, ◌&&◌, not, if◌then◌else◌, List, [], ◌∷◌, ℤ, neg_ℤ, Option, Some, None, is_some, refl, sym, ap, subst, ◌∙◌, arith}
 use Rattle.std.specs.Prelude.{int_le, int_lt}
 use Rattle.std.specs.Option.{option_map, option_map_or}
 use Rattle.std.specs.List.{list_any}
@@ -10,7 +10,6 @@ use Rattle.dec_num.specs.declared.types.Mode.TheVariants.{Trunc}
 use Rattle.decimal_interval.specs.declared.bounds.Interval.{Interval}
 use Rattle.cob_tree.specs.declared.fault.Kind.{Kind}
 use Rattle.cob_tree.specs.declared.fault.Kind.TheVariants as kind
-use Rattle.cob_program.specs.declared.act.How.{How}
 use Rattle.cob_program.specs.declared.act.How.TheVariants as how
 use Rattle.cob_program.specs.Sum.{Sum}
 use Rattle.cob_program.specs.Values.{◌>>=◌, Root, root_of}
@@ -34,9 +33,10 @@ use Rattle.result_ranges.specs.Stores.{operands, amount_range}
 use Rattle.result_ranges.specs.Receivers.{receiver_of, counter}
 use Rattle.result_ranges.specs.ResultRanges.{most, exceeds, amount_units, may_fail, near_range, lowered, count_may_fail}
 use Rattle.cell_amounts.specs.Working.{amount_from}
+use Rattle.cell_rows.specs.Known.{Known}
 use Rattle.cell_storages.specs.Homes.{of_count, homes_of}
 use Rattle.cell_steps.specs.Cells.{units_of}
-use Rattle.cell_steps.specs.Operands.{edge_amount, edge_operands, settled, amount_of}
+use Rattle.cell_steps.specs.Operands.{edge_operands, settled, amount_of}
 use Rattle.cell_steps.specs.Seen.{Seen}
 use Rattle.cell_steps.specs.Stores.{range_at, with_taken}
 use Rattle.cell_steps.specs.Clearing.{is_misfit, has_quotient, all_fit_of, all_fit, all_count, clears_part}
@@ -45,14 +45,13 @@ use Rattle.cell_walk.specs.Walks.{if_sent_small, with_taken_small, clears_small,
 use Rattle.cell_walk.proofs.SmallEdges.{all_is_taken}
 use Rattle.cell_walk.proofs.Stepping.{taken_can, taken_written}
 use Rattle.diff_steps.specs.Packs.{Pack, size_of, pack_decimals}
-use Rattle.diff_steps.specs.Moments.{Bytes, Seen2, is_written}
+use Rattle.diff_steps.specs.Moments.{Bytes, is_written}
 use Rattle.diff_steps.specs.Forms.{amount_form, set_form, lowered_form, has_operands, kept_form, cell_at}
 use Rattle.diff_steps.specs.Stores.{upper_negated}
 use Rattle.diff_steps.specs.Clearing.{some_pack, high_fits, low_fits, ends_fit, high_shown, low_shown, is_apart_in, amounts_fit, store_fits, clears_part2}
-use Rattle.pack_forms.specs.Views.{taken_at}
 use Rattle.pack_forms.proofs.AmountsAgree.{same_amount_form, same_set_form, same_operands, same_lowered_form}
-use Rattle.pack_walk.specs.Ends.{part_form, end_in_pack, shows_end}
-use Rattle.pack_walk.specs.Clears.{range_shown, amount_shown, store_shown, count_shown, store_cleared, set_cleared, down_cleared, part_cleared}
+use Rattle.pack_walk.specs.Ends.{part_form, shows_end}
+use Rattle.pack_walk.specs.Clears.{range_shown, amount_shown, store_shown, count_shown, store_cleared, set_cleared, part_cleared}
 use Rattle.pack_walk.specs.Parts.{IsStoreOf, IsOfEdge}
 use Rattle.pack_walk.specs.Walks.{seen2}
 
@@ -361,7 +360,7 @@ module _ (p : Program) (packs : List Pack) (a : Act) (x : Action) (t : Seen) (wr
       ≡ (not (has_operands p t wrote y) || option_map_or (amounts_fit p packs a x t (seen2 wrote ms) place mode y) t.common true)
   shown_is y root falls =
       λ i. not (same_operands p [] t t.cells t.common wrote y refl i)
-          || (amount_is y root (sym (alone_as y) ∙ falls) (found y) refl ∙ sym (amounts_as y)) i
+      || (amount_is y root (sym (alone_as y) ∙ falls) (found y) refl ∙ sym (amounts_as y)) i
 
   abbrev cleared_at : Amount → Bool
   cleared_at (remaining s scale) = false

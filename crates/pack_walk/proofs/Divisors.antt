@@ -1,5 +1,5 @@
 -- A divisor that the matrix of a pack shows not to be 0.
-use Rattle.std.proofs.Common.{◌≡◌, ℕ, Bool, List, length, map, ℤ, Option, sym, ap, ◌∙◌}
+use Rattle.std.proofs.Common.{◌≡◌, List, length, ℤ, Option, sym, ap, ◌∙◌}
 use Rattle.std.proofs.lemmas.List.{length-map}
 use Rattle.cob_program.specs.Sum.{Atom}
 use Rattle.cob_program.specs.Act.{Program}

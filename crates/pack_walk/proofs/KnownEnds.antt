@@ -1,10 +1,9 @@
 -- What a row says of the cells of a pack are numbers that words of its matrix can be.
-use Rattle.std.proofs.Common.{◌≡◌, ◌≤◌, ◌<◌, ◌+◌, ◌*◌, ◌-◌, ◌^◌, ℕ, zero, suc, List, [], ◌∷◌, length, map, ℤ, pos, negsuc, neg_ℤ, ◌*ℤ◌, ◌≤ℤ◌, Option, Some, None, refl, sym, ap, subst, ◌∙◌, arith}
+use Rattle.std.proofs.Common.{◌≤◌, ◌<◌, ◌*◌, ◌-◌, ◌^◌, ℕ, zero, suc, List, [], ◌∷◌, length, map, ℤ, pos, neg_ℤ, ◌*ℤ◌, ◌≤ℤ◌, Some, None, arith}
 use Rattle.std.specs.Prelude.{max, slice_index_or, IfSome}
 use Rattle.std.specs.List.{AllByRecursion}
 use Rattle.std.proofs.lemmas.Int.{ints}
 use Rattle.dec_num.proofs.Powers.{ten_positive, ten_monotone}
-use Rattle.decimal_interval.specs.declared.bounds.Interval.{Interval}
 use Rattle.decimal_interval.proofs.Ends.{times_grows}
 use Rattle.cob_data.specs.declared.layout.Layout.{Layout}
 use Rattle.cob_program.specs.Act.{Program}
@@ -14,7 +13,7 @@ use Rattle.cell_rows.specs.Elements.{CellsFit}
 use Rattle.cell_storages.specs.Homes.{Home, homes_of, home_range, owns}
 use Rattle.cell_storages.specs.Storages.{known_of}
 use Rattle.cell_edges.proofs.CellLists.{known_fits}
-use Rattle.diff_steps.specs.Packs.{Pack, decimals_of, pack_decimals, unit_of}
+use Rattle.diff_steps.specs.Packs.{Pack, decimals_of, pack_decimals}
 use Rattle.pack_changes.specs.declared.closings.KnownCell.{KnownCell}
 use Rattle.pack_changes.specs.Cells.{cell, known_cells, AreEnds, HasEnds, HaveEnds}
 use Rattle.pack_changes.specs.Ends.{IsNumber}

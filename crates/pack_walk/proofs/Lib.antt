@@ -12,3 +12,5 @@ pub mod SourceOperands
 pub mod Nearness
 pub mod Divisors
 pub mod Cleared
+pub mod ClearedAt
+pub mod ShortHomes

@@ -1,5 +1,5 @@
 -- Rows of packs, a matrix at a time.
-use Rattle.std.proofs.Common.{◌≡◌, ◌≤◌, ℕ, ◌+◌, ◌*◌, ◌-◌, List, [], ◌∷◌, ◌++◌, length, length-append, take, drop, map, get_or, ℤ, Bool, true, false, ◌||◌, if◌then◌else◌, Option, Some, None, refl, sym, ap, subst, ◌∙◌, take_all, take_at, drop_at, length-take-le, take-append-drop, arith}
+use Rattle.std.proofs.Common.{◌≡◌, ◌≤◌, ℕ, ◌-◌, List, [], ◌∷◌, ◌++◌, length, length-append, take, drop, map, get_or, ℤ, Bool, true, false, ◌||◌, if◌then◌else◌, Option, Some, None, refl, sym, ap, subst, ◌∙◌, take_all, take_at, drop_at, take-append-drop, arith}
 use Rattle.cob_program.specs.Values.{◌>>=◌}
 use Rattle.cob_program.specs.Act.{Program}
 use Rattle.diff_bounds.specs.Matrix.{IsMatrix}
@@ -10,7 +10,7 @@ use Rattle.diff_steps.specs.Steps.{each_pack, all_closed}
 use Rattle.diff_steps.specs.Clearing.{some_pack}
 use Rattle.diff_steps.specs.Packs.{Pack, size_of}
 use Rattle.pack_edges.specs.Agreeing.{AreMatrices}
-use Rattle.pack_rows.specs.Rows.{words_of, width_of, matrices_in}
+use Rattle.pack_rows.specs.Rows.{words_of, width_of}
 use Rattle.pack_walk.specs.declared.plans.PackPlan.{PackPlan}
 use Rattle.pack_walk.specs.Plans.{plain_plan, plain_plans, matrices_for, IsRowFor}
 

@@ -1,5 +1,5 @@
 -- What is kept of operands changes neither what an edge makes of packs nor what it clears, where its parts are small.
-use Rattle.std.proofs.Common.{◌≡◌, Bool, true, false, ◌||◌, ◌&&◌, not, if◌then◌else◌, List, [], ◌∷◌, ◌++◌, ℤ, Option, Some, None, refl, sym, ap, ◌∙◌}
+use Rattle.std.proofs.Common.{◌≡◌, Bool, true, false, ◌&&◌, if◌then◌else◌, List, [], ◌∷◌, ◌++◌, ℤ, Option, Some, None, refl, ap, ◌∙◌}
 use Rattle.std.specs.List.{AllByRecursion}
 use Rattle.std.specs.Option.{option_map, option_map_or}
 use Rattle.cob_tree.specs.declared.fault.Kind.{Kind}
@@ -14,12 +14,12 @@ use Rattle.cell_rows.specs.Known.{Known}
 use Rattle.cell_steps.specs.Seen.{Seen, beginning}
 use Rattle.cell_steps.specs.Steps.{step}
 use Rattle.edge_sizes.specs.Sizes.{sends_small, IsSmallPart}
-use Rattle.cell_walk.specs.Walks.{with_common, if_sent_small, trimmed}
+use Rattle.cell_walk.specs.Walks.{with_common, trimmed}
 use Rattle.cell_walk.proofs.SmallEdges.{step_same}
 use Rattle.diff_steps.specs.Packs.{Pack}
 use Rattle.diff_steps.specs.Moments.{Bytes, Seen2, with_packs}
 use Rattle.diff_steps.specs.Steps.{each_pack, all_closed, guarded_pack, changed_pack, changed, written_by, step2}
-use Rattle.diff_steps.specs.Edges.{beginning2, steps2, finished2}
+use Rattle.diff_steps.specs.Edges.{steps2, finished2}
 use Rattle.diff_steps.specs.Clearing.{clears_part2, clears_parts2}
 use Rattle.pack_walk.specs.Walks.{step2_small, steps2_small, clears_all2}
 

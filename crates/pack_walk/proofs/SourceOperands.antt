@@ -1,5 +1,5 @@
 -- The operands of each edge of a source's program are its own, and can be worked with.
-use Rattle.std.proofs.Common.{◌≡◌, ℕ, true, ◌&&◌, Some}
+use Rattle.std.proofs.Common.{◌≡◌, ℕ, true, Some}
 use Rattle.std.specs.List.{AllByRecursion}
 use Rattle.std.proofs.lemmas.Bool.{and_parts}
 use Rattle.cob_program.specs.declared.act.How.{How}

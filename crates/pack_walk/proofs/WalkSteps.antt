@@ -1,6 +1,7 @@
 -- How far an edge is walked with both rows.
 use Rattle.std.proofs.Common.{◌≡◌, ◌≤◌, ◌<◌, ◌+◌, ℕ, suc, Bool, true, false, ◌&&◌, not, if◌then◌else◌, List, [], ◌++◌, drop, length, ℤ, Option, Some, None, refl, sym, ap, subst, ◌∙◌, arith}
 use Rattle.std.specs.List.{AllByRecursion}
+use Rattle.std.specs.Option.{option_map_or}
 use Rattle.cob_tree.specs.declared.fault.Kind.{Kind}
 use Rattle.cob_program.specs.Values.{◌>>=◌}
 use Rattle.cob_program.specs.Act.{Stmt, Program}
@@ -22,6 +23,7 @@ use Rattle.cell_walk.specs.Walks.{CanStep}
 use Rattle.diff_steps.specs.Moments.{Bytes, Seen2}
 use Rattle.diff_steps.specs.Steps.{all_closed}
 use Rattle.diff_steps.specs.Edges.{beginning2, steps2, finished2}
+use Rattle.diff_steps.specs.Clearing.{clears_parts2}
 use Rattle.pack_forms.specs.Writing.{are_written}
 use Rattle.pack_walk.specs.declared.plans.PackPlan.{PackPlan}
 use Rattle.pack_walk.specs.Plans.{plain_plans, matrices_for, IsRowFor}
@@ -163,6 +165,17 @@ module _ (p : Program) (cells : List Cell) (plans : List PackPlan) (y : Stmt) (x
         clear_stops now clear e =
             sym (cleared_stopped p (plain_plans plans) (act_in y) x (edge_parts p y x) k (seen row kept) (seen2 now.at.wrote (matrices_for plans out)) fault within clear (none_is now.at e)) ∙ now.same
 
+module _ (p : Program) (cells : List Cell) (plans : List PackPlan) (y : Stmt) (x : Action) (first : List Known) (firsts : List (List ℤ)) (fault : Kind) (k : ℕ) (row : List ℤ) (kept : Kept) (written : Bool)
+    (out : List ℤ) (now : IsClearTo p cells plans y x first firsts fault k row kept written out) where
+  pub clear_fails : k < length (edge_parts p y x) → clears2_at p (plain_plans plans) y x k (seen row kept) (seen2 now.at.wrote (matrices_for plans out)) fault ≡ false →
+      false ≡ clears_all2 p (plain_plans plans) (act_in y) x (edge_parts p y x) (beginning first) (beginning2 firsts) fault
+  clear_fails within e =
+      sym (not_cleared p (plain_plans plans) (act_in y) x (edge_parts p y x) k (seen row kept) (seen2 now.at.wrote (matrices_for plans out)) fault within e) ∙ now.same
+
+  pub clear_ends : length (edge_parts p y x) ≤ k → true ≡ clears_all2 p (plain_plans plans) (act_in y) x (edge_parts p y x) (beginning first) (beginning2 firsts) fault
+  clear_ends past =
+      sym (all_cleared p (plain_plans plans) (act_in y) x (edge_parts p y x) k (seen row kept) (seen2 now.at.wrote (matrices_for plans out)) fault past) ∙ now.same
+
 -- ---- the whole edge
 
 module _ (p : Program) (cells : List Cell) (plans : List PackPlan) (y : Stmt) (x : Action) (first : List Known) (ms : List (List ℤ)) (small : AllByRecursion (IsSmallPart p (act_in y) x) (edge_parts p y x)) where
@@ -191,3 +204,10 @@ module _ (p : Program) (cells : List Cell) (plans : List PackPlan) (y : Stmt) (x
       go true false f = refl
       go false true f = refl
       go false false f = absurd cc
+
+  pub clears_from_closed : (cs : List (List ℤ)) (fault : Kind) (b : Bool) → all_closed p first (plain_plans plans) ms ≡ Some cs →
+      b ≡ clears_all2 p (plain_plans plans) (act_in y) x (edge_parts p y x) (beginning first) (beginning2 cs) fault → b ≡ statement_clears2 p (plain_plans plans) y x first ms fault
+  clears_from_closed cs fault b closes e =
+      e
+      ∙ (clears_are_small2 p (act_in y) x (plain_plans plans) (edge_parts p y x) first (beginning2 cs) fault small
+      ∙ sym (ap (λ (q : Option (List (List ℤ))). option_map_or (λ ks. clears_parts2 p (plain_plans plans) (act_in y) x (edge_parts p y x) (beginning first) (beginning2 ks) fault) q true) closes))

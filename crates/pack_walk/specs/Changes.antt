@@ -56,8 +56,8 @@ module _ (p : Program) (known : List Known) (common : Option Taken) where
   fitting_stored amount wrote pack size decimals place mode y m =
       if has_operands p (taken_at known common) wrote y
       then forgotten_cells size (is_gone p.layout (gone.Others place)) 1 pack
-          (cell_stored size (receiver_of (form_at p.layout place)) mode (10 ^ (decimals - decimals_of p.layout (of_item place))) amount
-          (amount_form p pack (taken_at known common) wrote place y) (cell_of pack (of_item place)) m)
+      (cell_stored size (receiver_of (form_at p.layout place)) mode (10 ^ (decimals - decimals_of p.layout (of_item place))) amount
+      (amount_form p pack (taken_at known common) wrote place y) (cell_of pack (of_item place)) m)
       else bottom size
 
   abbrev pub store_changed : Latest → List Bytes → Pack → ℕ → ℕ → ℕ → Mode → Amount → List ℤ → List ℤ

@@ -58,7 +58,7 @@ module _ (p : Program) (known : List Known) (common : Option Taken) (wrote : Lis
   store_shown place mode y packs ms =
       not (has_operands p (taken_at known common) wrote y)
       || amount_shown p known common wrote (store place mode y) mode (receiver_of (form_at p.layout place)) packs ms
-          (amount_from common y (range_at p known place))
+      (amount_from common y (range_at p known place))
 
   -- what a counter is set to
   abbrev pub count_shown : Part → List Pack → List (List ℤ) → Bool

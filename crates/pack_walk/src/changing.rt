@@ -42,7 +42,7 @@ fn change(
     requires can { CanChange (program_of items.now) (known_in items.now) kept.now.common (plain_part part) }
     ensures value { (wrote : List Bytes) → IsWrittenTo (program_of items.now).layout wrote written (plain_part part.entry)
         → m.new ≡ part_changed (program_of items.now) (known_in items.now) kept.now.common (latest_of kept.now) wrote
-            (plain_pack pack.now) (length pack.now.cells.now) pack.now.decimals (plain_part part.entry) m.old }
+        (plain_pack pack.now) (length pack.now.cells.now) pack.now.decimals (plain_part part.entry) m.old }
     ensures matrix { IsMatrix (length pack.now.cells.now) m.new }
 {
     match part {
@@ -51,7 +51,10 @@ fn change(
         }
         EdgePart::Bytes { offset, length } => forget(
             &items.program.layout,
-            Gone::Bytes { offset, count: length },
+            Gone::Bytes {
+                offset,
+                count: length,
+            },
             pack.cells,
             m,
         ),
@@ -85,7 +88,7 @@ fn change_plan(
     requires matrix { IsMatrix (size_of (plain_plan plan.now)) m.old }
     ensures value { (wrote : List Bytes) → IsWrittenTo program.now.layout wrote written (plain_part part.entry)
         → m.new ≡ plan_changed (plain_program program.now) (cells_of before.now) kept.now.common (latest_of kept.now) wrote
-            (plain_part part.entry) (plain_plan plan.now) m.old }
+        (plain_part part.entry) (plain_plan plan.now) m.old }
     ensures matrix { IsMatrix (size_of (plain_plan plan.now)) m.new }
 {
     let items = KnownItems {
@@ -115,7 +118,7 @@ pub(crate) fn change_all(
     requires matrices { IsRowFor plans.now out.old }
     ensures value { (wrote : List Bytes) → IsWrittenTo program.now.layout wrote written (plain_part part.entry)
         → matrices_for plans.now out.new ≡ each_pack (plan_changed (plain_program program.now) (cells_of before.now) kept.now.common (latest_of kept.now) wrote (plain_part part.entry))
-            (plain_plans plans.now) (matrices_for plans.now out.old) }
+        (plain_plans plans.now) (matrices_for plans.now out.old) }
     ensures matrices { IsRowFor plans.now out.new }
 {
     match plans {

@@ -132,10 +132,16 @@ fn ends_fit(
     requires scale { receiver.scale ≤ 18 }
     ensures { (wrote : List Bytes) → IsWrittenTo program.now.layout wrote written (plain_part part.entry)
         → result ≡ both_shown (plain_program program.now) (cells_of row.now) kept.now.common wrote (plain_part part.entry) mode receiver high low
-            (plain_plans plans.now) (matrices_for plans.now out.now) }
+        (plain_plans plans.now) (matrices_for plans.now out.now) }
 {
-    (high || end_is_shown(program, cells, row, plans, out, part, kept, written, mode, receiver, false))
-        && (low || end_is_shown(program, cells, row, plans, out, part, kept, written, mode, receiver, true))
+    (high
+        || end_is_shown(
+            program, cells, row, plans, out, part, kept, written, mode, receiver, false,
+        ))
+        && (low
+            || end_is_shown(
+                program, cells, row, plans, out, part, kept, written, mode, receiver, true,
+            ))
 }
 
 // ---- stores
@@ -163,11 +169,13 @@ fn decimal_fits(
     requires range { IsSmallRange range }
     ensures { (wrote : List Bytes) → IsWrittenTo program.now.layout wrote written (plain_part part.entry)
         → result ≡ range_shown (plain_program program.now) (cells_of row.now) kept.now.common wrote (plain_part part.entry) mode receiver
-            (plain_plans plans.now) (matrices_for plans.now out.now) (near_range mode receiver.scale range) }
+        (plain_plans plans.now) (matrices_for plans.now out.now) (near_range mode receiver.scale range) }
 {
     let high = high_end_fits(mode, receiver, range);
     let low = low_end_fits(mode, receiver, range);
-    ends_fit(program, cells, row, plans, out, part, kept, written, mode, receiver, high, low)
+    ends_fit(
+        program, cells, row, plans, out, part, kept, written, mode, receiver, high, low,
+    )
 }
 
 // whether a result fits that the first layer doesn't show to fit: a quotient has no form
@@ -193,7 +201,7 @@ fn amount_fits(
     requires small { IfSome amount IsSmallAmount }
     ensures { (wrote : List Bytes) → IsWrittenTo program.now.layout wrote written (plain_part part.entry)
         → result ≡ amount_shown (plain_program program.now) (cells_of row.now) kept.now.common wrote (plain_part part.entry) mode receiver
-            (plain_plans plans.now) (matrices_for plans.now out.now) amount }
+        (plain_plans plans.now) (matrices_for plans.now out.now) amount }
 {
     match amount {
         None => true,
@@ -246,7 +254,7 @@ fn store_fits(
     requires matrices { IsRowFor plans.now out.now }
     ensures { (wrote : List Bytes) → written ≡ are_written program.now.layout wrote (amount_items (plain_amount amount.entry))
         → result ≡ store_shown (plain_program program.now) (cells_of row.now) kept.now.common wrote place mode (plain_amount amount.entry)
-            (plain_plans plans.now) (matrices_for plans.now out.now) }
+        (plain_plans plans.now) (matrices_for plans.now out.now) }
 {
     let items = KnownItems {
         program,
@@ -311,7 +319,7 @@ fn counter_fits(
     requires matrices { IsRowFor plans.now out.now }
     ensures { (wrote : List Bytes) → IsWrittenTo program.now.layout wrote written (plain_part part.entry)
         → result ≡ range_shown (plain_program program.now) (cells_of row.now) kept.now.common wrote (plain_part part.entry) Trunc counter
-            (plain_plans plans.now) (matrices_for plans.now out.now) units }
+        (plain_plans plans.now) (matrices_for plans.now out.now) units }
 {
     let receiver = counter();
     let high = is_not_above(units);
@@ -350,7 +358,7 @@ fn set_fits(
     requires matrices { IsRowFor plans.now out.now }
     ensures { (wrote : List Bytes) → IsWrittenTo program.now.layout wrote written (plain_part part.entry)
         → result ≡ count_shown (plain_program program.now) (cells_of row.now) kept.now.common wrote (plain_part part.entry)
-            (plain_plans plans.now) (matrices_for plans.now out.now) }
+        (plain_plans plans.now) (matrices_for plans.now out.now) }
 {
     match kept.common {
         None => true,
@@ -391,7 +399,7 @@ fn taken_fits(
     requires matrices { IsRowFor plans.now out.now }
     ensures { (wrote : List Bytes) → written ≡ are_written program.now.layout wrote (amount_items (plain_amount amount.entry))
         → result ≡ taken_shown (plain_program program.now) (plain_plans plans.now) (plain_act act.now) action place mode (plain_amount amount.entry)
-            (seen row.now kept.now) (seen2 wrote (matrices_for plans.now out.now)) }
+        (seen row.now kept.now) (seen2 wrote (matrices_for plans.now out.now)) }
 {
     let moment = with_operands(program, cells, row, act, action, kept);
     store_fits(
@@ -422,7 +430,7 @@ fn store_clears(
     requires matrices { IsRowFor plans.now out.now }
     ensures { (wrote : List Bytes) → written ≡ are_written program.now.layout wrote (amount_items (plain_amount amount.entry))
         → result ≡ store_cleared (plain_program program.now) (plain_plans plans.now) (plain_act act.now) action place mode (plain_amount amount.entry)
-            (seen row.now kept.now) (seen2 wrote (matrices_for plans.now out.now)) }
+        (seen row.now kept.now) (seen2 wrote (matrices_for plans.now out.now)) }
 {
     if is_remainder(amount) {
         return false;
@@ -454,7 +462,7 @@ fn set_clears(
     requires matrices { IsRowFor plans.now out.now }
     ensures { (wrote : List Bytes) → IsWrittenTo program.now.layout wrote written (plain_part part.entry)
         → result ≡ set_cleared (plain_program program.now) (plain_plans plans.now) (plain_act act.now) action (plain_part part.entry)
-            (seen row.now kept.now) (seen2 wrote (matrices_for plans.now out.now)) }
+        (seen row.now kept.now) (seen2 wrote (matrices_for plans.now out.now)) }
 {
     let moment = with_operands(program, cells, row, act, action, kept);
     set_fits(program, cells, row, plans, out, part, &moment, written)
@@ -504,7 +512,7 @@ fn is_shown(
     requires matrices { IsRowFor plans.now out.now }
     ensures { (wrote : List Bytes) → IsWrittenTo program.now.layout wrote written (plain_part part.entry)
         → result ≡ part_cleared (plain_program program.now) (plain_plans plans.now) (plain_act act.now) action (plain_part part.entry)
-            (seen row.now kept.now) (seen2 wrote (matrices_for plans.now out.now)) fault }
+        (seen row.now kept.now) (seen2 wrote (matrices_for plans.now out.now)) fault }
 {
     match part {
         EdgePart::Divide(divisor) => match fault {
@@ -558,7 +566,7 @@ fn clears(
     requires matrices { IsRowFor plans.now out.now }
     ensures { (wrote : List Bytes) → written ≡ are_written program.now.layout wrote (edge_items (act_in (plain_stmt statement.now)) action)
         → result ≡ clears2_at (plain_program program.now) (plain_plans plans.now) (plain_stmt statement.now) action number
-            (seen row.now kept.now) (seen2 wrote (matrices_for plans.now out.now)) fault }
+        (seen row.now kept.now) (seen2 wrote (matrices_for plans.now out.now)) fault }
 {
     if clears_part(program, cells, statement, action, number, row, kept, fault) {
         return true;
@@ -608,10 +616,23 @@ pub fn packs_clear(
     let mut kept = Kept::new();
     let mut written = false;
     for number in 0..part_count(program, statement, action) {
-        if !clears(program, cells, statement, action, number, plans, row, &kept, written, out, fault) {
+        if !clears(
+            program, cells, statement, action, number, plans, row, &kept, written, out, fault,
+        ) {
             return false;
         }
-        if !step(program, cells, statement, action, number, plans, row, &mut kept, &mut written, out) {
+        if !step(
+            program,
+            cells,
+            statement,
+            action,
+            number,
+            plans,
+            row,
+            &mut kept,
+            &mut written,
+            out,
+        ) {
             return true;
         }
     }

@@ -74,13 +74,7 @@ fn know_cells(
     }
 }
 
-fn close(
-    program: &Program,
-    cells: &[Cell],
-    plan: &PackPlan,
-    row: &[i128],
-    m: &mut [i128],
-) -> bool
+fn close(program: &Program, cells: &[Cell], plan: &PackPlan, row: &[i128], m: &mut [i128]) -> bool
     requires row { IsRowOf (plain_program program.now) cells.now row.now }
     requires fits { CellsFit (owns (plain_program program.now)) (cells_of row.now) }
     requires plan { IsPlanOf (plain_program program.now) plan.now }
@@ -90,7 +84,10 @@ fn close(
     ensures width { length m.new ≡ length m.old }
     ensures matrix { IsTrue result → IsMatrix (size_of (plain_plan plan.now)) m.new }
 {
-    let mut room = [KnownCell { known: None, unit: 1 }; 8];
+    let mut room = [KnownCell {
+        known: None,
+        unit: 1,
+    }; 8];
     let size = plan.cells.as_slice().len();
     let known = &mut room[..size];
     know_cells(program, cells, row, plan, known);

@@ -47,8 +47,8 @@ pub(crate) fn set_count(
     requires top { IfSome kept.now.common HasSmallTop }
     ensures value { (wrote : List Bytes) → written ≡ are_written (program_of items.now).layout wrote (sender_items sender.now)
         → m.new ≡ cell_assigned (length pack.now.cells.now)
-            (forms.set_form (program_of items.now) (plain_pack pack.now) (taken_at (known_in items.now) kept.now.common) wrote sender.now)
-            (cell_of (plain_pack pack.now) (of_count statement)) m.old }
+        (forms.set_form (program_of items.now) (plain_pack pack.now) (taken_at (known_in items.now) kept.now.common) wrote sender.now)
+        (cell_of (plain_pack pack.now) (of_count statement)) m.old }
     ensures matrix { IsMatrix (length pack.now.cells.now) m.new }
 {
     let form = set_form(items, pack, sender, kept.common, written);

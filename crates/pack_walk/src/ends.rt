@@ -115,7 +115,7 @@ fn pack_shows(
     requires scale { receiver.scale ≤ 18 }
     ensures { (wrote : List Bytes) → IsWrittenTo program.now.layout wrote written (plain_part part.entry)
         → result ≡ end_in_pack (size_of (plain_plan plan.now)) (pack_decimals program.now.layout (plain_plan plan.now)) m.now
-            (part_form (plain_program program.now) (cells_of row.now) kept.now.common wrote (plain_part part.entry) (plain_plan plan.now)) mode receiver low }
+        (part_form (plain_program program.now) (cells_of row.now) kept.now.common wrote (plain_part part.entry) (plain_plan plan.now)) mode receiver low }
 {
     let items = KnownItems {
         program,
@@ -124,7 +124,15 @@ fn pack_shows(
     };
     let pack = view_of(plan);
     let form = form_for(&items, &pack, part, kept, written);
-    end_fits(pack.cells.len(), m, form, mode, receiver, plan.decimals, low)
+    end_fits(
+        pack.cells.len(),
+        m,
+        form,
+        mode,
+        receiver,
+        plan.decimals,
+        low,
+    )
 }
 
 /// Whether the matrix of some pack shows that an end of what the receiver of a part gets fits it: the low end, or the high
@@ -151,7 +159,7 @@ pub(crate) fn end_is_shown(
     requires scale { receiver.scale ≤ 18 }
     ensures { (wrote : List Bytes) → IsWrittenTo program.now.layout wrote written (plain_part part.entry)
         → result ≡ some_end (plain_program program.now) (cells_of row.now) kept.now.common wrote (plain_part part.entry) mode receiver low
-            (plain_plans plans.now) (matrices_for plans.now out.now) }
+        (plain_plans plans.now) (matrices_for plans.now out.now) }
 {
     match plans {
         [] => false,
@@ -176,7 +184,12 @@ fn is_at_most(mode: Mode, receiver: Receiver, units: i128, scale: u32) -> bool
     ensures high { result ≡ high_fits mode receiver scale (Some units) }
     ensures low { result ≡ low_fits mode receiver scale (Some units) }
 {
-    match fit(Scaled { units, scale }, receiver.digits, receiver.scale, mode) {
+    match fit(
+        Scaled { units, scale },
+        receiver.digits,
+        receiver.scale,
+        mode,
+    ) {
         Fit::Stored(_) => true,
         Fit::TooBig => units < 0,
     }

@@ -22,10 +22,7 @@ pub(crate) enum Gone {
     /// An item, and what has bytes of it.
     Lost(u32),
     /// What has bytes from an offset on, so many.
-    Bytes {
-        offset: u32,
-        count: u32,
-    },
+    Bytes { offset: u32, count: u32 },
 }
 
 /// The item at a place, if there is one.

@@ -43,13 +43,7 @@ fn relate(
 }
 
 /// Makes of a pack's matrix what a test with such an outcome leaves of it.
-pub(crate) fn guard(
-    items: &KnownItems,
-    pack: &PackView,
-    m: &mut [i128],
-    test: &Test,
-    wanted: bool,
-)
+pub(crate) fn guard(items: &KnownItems, pack: &PackView, m: &mut [i128], test: &Test, wanted: bool)
     requires m { IsMatrix (length pack.now.cells.now) m.old }
     requires unit { HasUnit (program_of items.now).layout pack.now }
     requires fits { CellsFit (owns (program_of items.now)) (known_in items.now) }

@@ -60,9 +60,9 @@ fn store_cell(
     requires can { IfSome kept.now.common (CanWork (plain_amount amount) (range_at (program_of items.now) (known_in items.now) place)) }
     ensures value { (wrote : List Bytes) → written ≡ are_written (program_of items.now).layout wrote (amount_items (plain_amount amount.entry))
         → m.new ≡ cell_stored (length pack.now.cells.now) (receiver_of (form_at (program_of items.now).layout place)) mode
-            (10 ^ (pack.now.decimals - decimals_of (program_of items.now).layout (of_item place))) (decimal_in kept.now.result)
-            (forms.amount_form (program_of items.now) (plain_pack pack.now) (taken_at (known_in items.now) kept.now.common) wrote place (plain_amount amount.entry))
-            (cell_of (plain_pack pack.now) (of_item place)) m.old }
+        (10 ^ (pack.now.decimals - decimals_of (program_of items.now).layout (of_item place))) (decimal_in kept.now.result)
+        (forms.amount_form (program_of items.now) (plain_pack pack.now) (taken_at (known_in items.now) kept.now.common) wrote place (plain_amount amount.entry))
+        (cell_of (plain_pack pack.now) (of_item place)) m.old }
     ensures matrix { IsMatrix (length pack.now.cells.now) m.new }
 {
     match cell_in(pack, PackCell::Item(place)) {
@@ -71,7 +71,16 @@ fn store_cell(
             let form = amount_form(items, pack, place, amount, kept.common, written);
             let receiver = receiver_at(&items.program.layout, place);
             let unit = unit_of(&items.program.layout, pack.decimals, PackCell::Item(place));
-            store_at(pack.cells.len(), m, cell + 1, form, receiver, mode, unit, decimal_in(kept.result));
+            store_at(
+                pack.cells.len(),
+                m,
+                cell + 1,
+                form,
+                receiver,
+                mode,
+                unit,
+                decimal_in(kept.result),
+            );
         }
     }
 }
@@ -97,7 +106,7 @@ fn store_fitting(
     requires can { IfSome kept.now.common (CanWork (plain_amount amount) (range_at (program_of items.now) (known_in items.now) place)) }
     ensures value { (wrote : List Bytes) → written ≡ are_written (program_of items.now).layout wrote (amount_items (plain_amount amount.entry))
         → m.new ≡ fitting_stored (program_of items.now) (known_in items.now) kept.now.common (decimal_in kept.now.result) wrote
-            (plain_pack pack.now) (length pack.now.cells.now) pack.now.decimals place mode (plain_amount amount.entry) m.old }
+        (plain_pack pack.now) (length pack.now.cells.now) pack.now.decimals place mode (plain_amount amount.entry) m.old }
     ensures matrix { IsMatrix (length pack.now.cells.now) m.new }
 {
     if has_operands(items, amount, written) {
@@ -128,7 +137,7 @@ pub(crate) fn store(
     requires can { IfSome kept.now.common (CanWork (plain_amount amount) (range_at (program_of items.now) (known_in items.now) place)) }
     ensures value { (wrote : List Bytes) → written ≡ are_written (program_of items.now).layout wrote (amount_items (plain_amount amount.entry))
         → m.new ≡ store_changed (program_of items.now) (known_in items.now) kept.now.common (latest_of kept.now) wrote
-            (plain_pack pack.now) (length pack.now.cells.now) pack.now.decimals place mode (plain_amount amount.entry) m.old }
+        (plain_pack pack.now) (length pack.now.cells.now) pack.now.decimals place mode (plain_amount amount.entry) m.old }
     ensures matrix { IsMatrix (length pack.now.cells.now) m.new }
 {
     if !kept.may_fail {

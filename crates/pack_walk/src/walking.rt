@@ -74,9 +74,9 @@ fn pass(
     requires matrices { IsRowFor plans.now out.old }
     ensures closed { (wrote : List Bytes) → IsWrittenTo program.now.layout wrote written (plain_part part.entry)
         → all_closed (plain_program program.now) (cells_of row.now) (plain_plans plans.now)
-            (each_pack (plan_changed (plain_program program.now) (cells_of before.now) kept.now.common (latest_of kept.now) wrote (plain_part part.entry))
-            (plain_plans plans.now) (matrices_for plans.now out.old))
-            ≡ (if result then Some (matrices_for plans.now out.new) else None) }
+        (each_pack (plan_changed (plain_program program.now) (cells_of before.now) kept.now.common (latest_of kept.now) wrote (plain_part part.entry))
+        (plain_plans plans.now) (matrices_for plans.now out.old))
+        ≡ (if result then Some (matrices_for plans.now out.new) else None) }
     ensures matrices { IsTrue result → IsRowFor plans.now out.new }
 {
     change_all(program, cells, before, plans, out, part, kept, written);
@@ -110,8 +110,8 @@ fn step_over(
     requires matrices { IsRowFor plans.now out.old }
     ensures steps { (wrote : List Bytes) → written ≡ are_written program.now.layout wrote (edge_items (act_in (plain_stmt statement.now)) action)
         → step2_small (plain_program program.now) (plain_plans plans.now) (act_in (plain_stmt statement.now)) action (plain_part part.entry)
-            (seen row.old kept.old) (seen2 wrote (matrices_for plans.now out.old))
-            ≡ passed_to result (seen row.new kept.new) (seen2 (part_bytes program.now.layout (plain_part part.entry) ++ wrote) (matrices_for plans.now out.new)) }
+        (seen row.old kept.old) (seen2 wrote (matrices_for plans.now out.old))
+        ≡ passed_to result (seen row.new kept.new) (seen2 (part_bytes program.now.layout (plain_part part.entry) ++ wrote) (matrices_for plans.now out.new)) }
     ensures row { IsRowOf (plain_program program.now) cells.now row.new }
     ensures words { length row.new ≡ length row.old }
     ensures can { IsTrue result → CanStep (plain_program program.now) (act_in (plain_stmt statement.now)) action (seen row.new kept.new) }
@@ -150,12 +150,12 @@ pub(crate) fn step(
     requires matrices { IsRowFor plans.now out.old }
     ensures steps { (wrote : List Bytes) → written.old ≡ are_written program.now.layout wrote (edge_items (act_in (plain_stmt statement.now)) action)
         → step2_at (plain_program program.now) (plain_plans plans.now) (plain_stmt statement.now) action number
-            (seen row.old kept.old) (seen2 wrote (matrices_for plans.now out.old))
-            ≡ passed_to result (seen row.new kept.new)
-            (seen2 (bytes_at (plain_program program.now) (plain_stmt statement.now) action number ++ wrote) (matrices_for plans.now out.new)) }
+        (seen row.old kept.old) (seen2 wrote (matrices_for plans.now out.old))
+        ≡ passed_to result (seen row.new kept.new)
+        (seen2 (bytes_at (plain_program program.now) (plain_stmt statement.now) action number ++ wrote) (matrices_for plans.now out.new)) }
     ensures writes { (wrote : List Bytes) → written.old ≡ are_written program.now.layout wrote (edge_items (act_in (plain_stmt statement.now)) action)
         → written.new ≡ are_written program.now.layout (bytes_at (plain_program program.now) (plain_stmt statement.now) action number ++ wrote)
-            (edge_items (act_in (plain_stmt statement.now)) action) }
+        (edge_items (act_in (plain_stmt statement.now)) action) }
     ensures row { IsRowOf (plain_program program.now) cells.now row.new }
     ensures words { length row.new ≡ length row.old }
     ensures can { IsTrue result → CanStep (plain_program program.now) (act_in (plain_stmt statement.now)) action (seen row.new kept.new) }
@@ -166,7 +166,9 @@ pub(crate) fn step(
         Some(part) => {
             let wrote = *written;
             *written = written_behind(program, statement, action, part, wrote);
-            step_over(program, cells, statement, action, number, part, plans, row, kept, wrote, out)
+            step_over(
+                program, cells, statement, action, number, part, plans, row, kept, wrote, out,
+            )
         }
     }
 }
@@ -208,7 +210,18 @@ pub fn walk_packs(
     let mut kept = Kept::new();
     let mut written = false;
     for number in 0..part_count(program, statement, action) {
-        if !step(program, cells, statement, action, number, plans, row, &mut kept, &mut written, out) {
+        if !step(
+            program,
+            cells,
+            statement,
+            action,
+            number,
+            plans,
+            row,
+            &mut kept,
+            &mut written,
+            out,
+        ) {
             return false;
         }
     }

@@ -126,7 +126,13 @@ pub(crate) fn writes_operands(program: &Program, act: &Act, action: Action, part
 {
     match part {
         EdgePart::Store { item, .. } => item_is_of_operands(&program.layout, item, act, action),
-        EdgePart::Bytes { offset, length } => are_of_operands(&program.layout, offset, length, act, action),
+        EdgePart::Bytes { offset, length } => are_of_operands(
+            &program.layout,
+            offset,
+            length,
+            act,
+            action,
+        ),
         EdgePart::Read(_)
         | EdgePart::Unread
         | EdgePart::Divide(_)

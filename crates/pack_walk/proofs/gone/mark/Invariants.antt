@@ -1,4 +1,3 @@
-use Rattle.std.proofs.Common.{◌≡◌, length, map, take}
 use Rattle.pack_forms.specs.Cells.{plain_cell}
 use Rattle.pack_walk.specs.Gone.{is_gone}
 use Rattle.pack_walk.proofs.Filling.{IsFilledTo}
