@@ -6,3 +6,4 @@ pub mod Walked
 pub mod Facts
 pub mod Beginning
 pub mod Layers
+pub mod Operands

@@ -1,5 +1,5 @@
 //! The row of what is known of differences where a run begins.
-ghost use Rattle.std.specs.Prelude.{◌≡◌, ◌≤◌, true, length, map, IfOk};
+ghost use Rattle.std.specs.Prelude.{◌≡◌, ◌≤◌, length, map, IfOk};
 ghost use Rattle.std.specs.List.{AllByRecursion};
 ghost use Rattle.cob_program.specs.ActView.{plain_program};
 ghost use Rattle.cob_graph.specs.Graphs.{cells_of};
@@ -7,7 +7,6 @@ ghost use Rattle.cob_items.specs.WellFormed.{HasWellFormedItems};
 ghost use Rattle.cell_rows.specs.Elements.{CellsFit};
 ghost use Rattle.cell_rows.specs.Rows.{row_of as known_row};
 ghost use Rattle.cell_storages.specs.Homes.{owns};
-ghost use Rattle.cell_walk.specs.SmallCells.{has_small_cells};
 ghost use Rattle.cell_layer_laws.specs.Entry.{entry_cells};
 ghost use Rattle.diff_steps.specs.Packs.{size_of};
 ghost use Rattle.diff_steps.specs.Edges.{no_bounds, entry_packs};
@@ -76,7 +75,6 @@ fn set_entry(
     requires row { row.now ≡ known_row (entry_cells (plain_program program.now)) }
     requires cells { cells.now ≡ cells_of (plain_program program.now) }
     requires fits { CellsFit (owns (plain_program program.now)) (entry_cells (plain_program program.now)) }
-    requires small_cells { has_small_cells (plain_program program.now) ≡ true }
     requires plans { ArePlansOf (plain_program program.now) plans.now }
     requires sizes { sizes.now ≡ map size_of (plain_plans plans.now) }
     requires listed { length thresholds.now ≡ length plans.now }
@@ -102,7 +100,6 @@ pub fn entry_words(
     requires cells { cells.now ≡ cells_of (plain_program program.now) }
     requires few { length cells.now ≤ 512 }
     requires fits { CellsFit (owns (plain_program program.now)) (entry_cells (plain_program program.now)) }
-    requires small_cells { has_small_cells (plain_program program.now) ≡ true }
     requires plans { ArePlansOf (plain_program program.now) plans.now }
     requires packs { length plans.now ≤ 32 }
     requires sizes { sizes.now ≡ map size_of (plain_plans plans.now) }

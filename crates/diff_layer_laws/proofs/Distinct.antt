@@ -9,11 +9,8 @@ use Rattle.cob_data.specs.declared.layout.Item.{Item}
 use Rattle.cob_program.specs.Act.{Turns, times, Stmt, MkStmt, Act, perform, Program}
 use Rattle.cob_program.specs.Statements.{program_statements}
 use Rattle.cob_graph.specs.declared.graph.Graph.{Graph}
-use Rattle.graph_runs.specs.Sources.{IsSourceGraph}
+use Rattle.graph_runs.specs.Sources.{number_of, IsSourceGraph}
 use Rattle.cell_storages.specs.Homes.{Home, of_item, of_count, home_of, if_named, item_homes, turns_homes, act_homes, count_homes, homes_of}
-
-abbrev pub number_in : Stmt → ℕ
-number_in (MkStmt number line a) = number
 
 -- ---- the order of homes: items by their places, and then counters by their statements
 
@@ -78,12 +75,12 @@ act_rises : (low : ℕ) (a : Act) (hs : List Home) → RisingCounts (low + 1) hs
 act_rises low (perform body turns) hs later = turns_rise low turns hs later
 act_rises low _ hs later = skipped low hs later
 
-counts_rise : (low count : ℕ) (ss : List Stmt) → map number_in ss ≡ range_with_len low count → RisingCounts low (count_homes ss)
+counts_rise : (low count : ℕ) (ss : List Stmt) → map number_of ss ≡ range_with_len low count → RisingCounts low (count_homes ss)
 counts_rise low count [] order = record { rise = tt; from = tt }
 counts_rise low zero (MkStmt m line a ∷ ss) order = absurd cc
 counts_rise low (suc count) (MkStmt m line a ∷ ss) order =
     let same : low ≡ m = cc in
-    let rest : map number_in ss ≡ range_with_len (low + 1) count = cc in
+    let rest : map number_of ss ≡ range_with_len (low + 1) count = cc in
     subst (λ n. RisingCounts low (act_homes n a ++ count_homes ss)) same (act_rises low a (count_homes ss) (counts_rise (low + 1) count ss rest))
 
 -- ---- items before them
@@ -140,15 +137,12 @@ items_rise low from (i ∷ is_) rest counts =
 
 -- ---- all of them
 
-pub homes_are_distinct : (p : Program) (count : ℕ) → map number_in (program_statements p) ≡ range_with_len 1 count → (j k : ℕ) (h : Home) →
+pub homes_are_distinct : (p : Program) (count : ℕ) → map number_of (program_statements p) ≡ range_with_len 1 count → (j k : ℕ) (h : Home) →
     slice_get (homes_of p) j ≡ Some h → slice_get (homes_of p) k ≡ Some h → j ≡ k
 homes_are_distinct p count order =
     one_place (homes_of p) (items_rise 0 1 p.layout.items (count_homes (program_statements p)) (counts_rise 1 count (program_statements p) order)).rise
 
-numbers_are_in_order : (p : Program) (g : Graph) → IsSourceGraph p g → map number_in (program_statements p) ≡ range_with_len 1 p.statements
-numbers_are_in_order p g source = ?
-
 -- so it is for each source's program
 pub homes_of_sources_are_distinct : (p : Program) (g : Graph) → IsSourceGraph p g → (j k : ℕ) (h : Home) →
     slice_get (homes_of p) j ≡ Some h → slice_get (homes_of p) k ≡ Some h → j ≡ k
-homes_of_sources_are_distinct p g source = homes_are_distinct p p.statements (numbers_are_in_order p g source)
+homes_of_sources_are_distinct p g source = homes_are_distinct p p.statements source.order

@@ -2,8 +2,19 @@
 //! words and in place, beside the row of what is known of cells (Miné 2001). No call takes memory.
 #![tactic(auto)]
 
+mod changing;
+mod clearing;
+mod closing;
+mod counters;
+mod ends;
+mod gone;
+mod guards;
 mod plans;
+mod stores;
 mod walking;
+mod writing;
 
+pub use clearing::packs_clear;
+pub use closing::close_all;
 pub use plans::PackPlan;
-pub use walking::{close_all, packs_clear, walk_packs};
+pub use walking::walk_packs;

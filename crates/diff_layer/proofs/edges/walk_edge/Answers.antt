@@ -3,6 +3,7 @@ use Rattle.cob_program.specs.ActView.{plain_program}
 use Rattle.cell_rows.specs.Rows.{cells_of}
 use Rattle.cell_layer.proofs.Leaving.{can_walk}
 use Rattle.pack_walk.specs.Plans.{plain_plans, matrices_for}
+use Rattle.diff_layer.proofs.Operands.{of_edge}
 use Rattle.diff_layer.proofs.Walked.{walks_it, walks_none}
 use Rattle.diff_layer.proofs.edges.walk_edge.Goals as goal
 
@@ -11,6 +12,12 @@ walk_packs-requires-clause-can c =
     let a = c.args in
     can_walk (plain_program a.program.now) a.graph.now a.statements.now c.requires.held a.edge c.requires.of_graph c.in-Some.statement
     (rw c.in-Some.is at c.left.ensures.some) c.get.result.now a.row.now c.get.ensures c.requires.reached c.requires.fits
+
+pub walk_packs-requires-clause-of_edge : goal.walk_packs-requires-clause-of_edge
+walk_packs-requires-clause-of_edge c =
+    let a = c.args in
+    of_edge (plain_program a.program.now) a.graph.now a.statements.now c.requires.held a.edge c.in-Some.statement
+    (rw c.in-Some.is at c.left.ensures.some)
 
 pub returns-in-Some : goal.returns-in-Some
 returns-in-Some c =

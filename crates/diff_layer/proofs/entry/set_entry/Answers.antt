@@ -47,7 +47,7 @@ returns-then-not-close_all c =
     let p = plain_program a.program.now in
     let closes : all_closed p (entry_cells p) (plain_plans a.plans.now) (matrices_for a.plans.now c.set_free.new.row) ≡ None =
     ap (λ known. all_closed p known (plain_plans a.plans.now) (matrices_for a.plans.now c.set_free.new.row)) (sym (known_is p a.row.now c.requires.row c.requires.fits))
-    ∙ c.close_all.ensures ∙ ap (λ b. if b then Some (matrices_for a.plans.now c.close_all.new.out) else None) c.if-not-close_all.true in
+    ∙ c.close_all.ensures.closed ∙ ap (λ b. if b then Some (matrices_for a.plans.now c.close_all.new.out) else None) c.if-not-close_all.true in
     c.set_least.ensures
     ∙ least_entry p a.plans.now c.requires.plans a.sizes.now c.requires.sizes c.set_free.new.row c.set_free.ensures (entry_cells p) (lists_of a.thresholds.now)
     (length-map a.thresholds.now (λ list. list.items) ∙ c.requires.listed) closes
@@ -58,6 +58,6 @@ returns-else-not-close_all c =
     let p = plain_program a.program.now in
     let closes : all_closed p (entry_cells p) (plain_plans a.plans.now) (matrices_for a.plans.now c.set_free.new.row) ≡ Some (matrices_for a.plans.now c.close_all.new.out) =
     ap (λ known. all_closed p known (plain_plans a.plans.now) (matrices_for a.plans.now c.set_free.new.row)) (sym (known_is p a.row.now c.requires.row c.requires.fits))
-    ∙ c.close_all.ensures ∙ ap (λ b. if b then Some (matrices_for a.plans.now c.close_all.new.out) else None) c.if-not-close_all.false in
+    ∙ c.close_all.ensures.closed ∙ ap (λ b. if b then Some (matrices_for a.plans.now c.close_all.new.out) else None) c.if-not-close_all.false in
     closed_is p a.plans.now c.requires.plans a.sizes.now c.requires.sizes c.set_free.new.row c.set_free.ensures (entry_cells p) c.close_all.new.out
     (c.close_all.auto.out ∙ c.set_free.auto.row ∙ c.requires.width) closes

@@ -4,7 +4,6 @@ use Rattle.cob_program.specs.ActView.{plain_program}
 use Rattle.cell_storages.specs.Homes.{homes_of}
 use Rattle.cell_layer_laws.specs.Entry.{entry_cells}
 use Rattle.cell_layer_laws.proofs.Entry.{entry_fits}
-use Rattle.cell_walk.proofs.SmallHomes.{cells_are_small}
 use Rattle.cell_layer.specs.Heads.{heads_of}
 use Rattle.cell_layer.proofs.Making.{targets_first, targets_last, few_edges, held_by, sound_items, cells_are}
 use Rattle.diff_steps.specs.Edges.{entry_packs}
@@ -61,13 +60,6 @@ entry_words-requires-clause-fits g c =
     let graph = c.args.graph.now in
     let source = c.requires.source in
     entry_fits p graph source
-
-pub entry_words-requires-clause-small_cells : goal.entry_words-requires-clause-small_cells
-entry_words-requires-clause-small_cells g c =
-    let p = plain_program c.args.program.now in
-    let graph = c.args.graph.now in
-    let source = c.requires.source in
-    cells_are_small p (sound_items p graph source)
 
 pub entry_words-requires-clause-plans : goal.entry_words-requires-clause-plans
 entry_words-requires-clause-plans g c =
