@@ -14,7 +14,6 @@ MOST_STORAGE = 1_048_576
 SOURCE = rf"E5 source too long|E[67] line {NUMBER} column {NUMBER}|E8 line {NUMBER}|E9 {RULE} line {NUMBER}"
 LIMITS = {"nesting": 64, "items": 512, "storage": MOST_STORAGE, "files": 16, "cells": 512, "nodes": 4_096}
 PLACE = rf"reach|cell {NUMBER} class|cell {NUMBER} (?:low|high) reached {VALUE} claimed {VALUE}"
-
 BOUND = rf"pack {NUMBER} row {NUMBER} column {NUMBER} reached (?:none|{VALUE}) claimed {VALUE}"
 
 # behind the words and the files, by command and status: the line of a refusal

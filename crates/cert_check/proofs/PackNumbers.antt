@@ -11,8 +11,10 @@ use Rattle.diff_bounds.specs.Widening.{AreThresholds}
 use Rattle.pack_rows.specs.Rows.{lists_of}
 use Rattle.diff_steps.specs.Packs.{Pack, size_of}
 use Rattle.pack_edges.specs.Agreeing.{ArePacksOf}
-use Rattle.cert_text.specs.Allowed.{cells_rise, pack_fits, packs_fit}
-use Rattle.claimed_matrices.specs.Claims.{cells_in}
+use Rattle.cert_text.specs.declared.cert.Element as text
+use Rattle.cert_text.specs.View.{Place, NotReached, Holds, place_of}
+use Rattle.cert_text.specs.Allowed.{bounds_fit, cells_rise, claims_fit, no_key, pack_fits, packs_fit, place_fits, places_all_fit}
+use Rattle.claimed_matrices.specs.Claims.{HasFittingBounds, cells_in}
 use Rattle.diff_layer_laws.specs.Packs.{pack_in, packs_in, AreRisingNumbers, ArePacksOfCells}
 use Rattle.diff_layer_laws.proofs.Packed.{HasDistinctHomes, is_pack, few_cells}
 use Rattle.cert_check.specs.Given.{AreEmptyLists}
@@ -116,3 +118,17 @@ one_list_more count lists list are none = record {
     with_one : (xs : List (Vec ℤ Global)) → AllByRecursion (λ y. y.items ≡ []) xs → AllByRecursion (λ y. y.items ≡ []) (xs ++ list ∷ [])
     with_one [] all = (none, tt)
     with_one (x ∷ xs) all = (all.0, with_one xs all.1)
+
+-- ---- bounds of nodes
+
+module _ (cells : ℕ) (packs : List (List ℕ)) where
+  bounds_of : (place : Place) → place_fits cells packs place ≡ true → HasFittingBounds packs place
+  bounds_of NotReached e = tt
+  bounds_of (Holds claims bounds) e = (and_parts (claims_fit cells 0 claims) (bounds_fit packs no_key bounds) e).1
+
+  pub bounds_all : (places : List text.Element) → places_all_fit cells packs (map place_of places) ≡ true →
+      AllByRecursion (λ place. HasFittingBounds packs (place_of place)) places
+  bounds_all [] e = tt
+  bounds_all (x ∷ places) e =
+      let both = and_parts (place_fits cells packs (place_of x)) (places_all_fit cells packs (map place_of places)) e in
+      (bounds_of (place_of x) both.0, bounds_all places both.1)

@@ -3,5 +3,5 @@ use Rattle.std.specs.List.{AllByRecursion}
 use Rattle.cert_check.specs.Given.{AreEmptyLists}
 use Rattle.cert_check.proofs.packs.no_thresholds.Given as goal
 
-abbrev pub invariant-loop-_pack : goal.invariant-loop-_pack
-invariant-loop-_pack l = AreEmptyLists l._pack-index l.lists.items
+abbrev pub invariant-loop-pack : goal.invariant-loop-pack
+invariant-loop-pack l = AreEmptyLists l.pack-index l.lists.items
