@@ -139,3 +139,22 @@ pub(crate) fn taken(
 {
     take(program, cells, row, act, action, kept)
 }
+
+/// What is kept where the operands of the edge are taken, right before the first part that writes.
+pub fn with_operands(
+    program: &Program,
+    cells: &[Cell],
+    row: &[i128],
+    act: &Act,
+    action: Action,
+    kept: &Kept,
+) -> Kept
+    requires row { IsRowOf (plain_program program.now) cells.now row.now }
+    requires sum { has_small_sum (bound_at program.now.layout) (plain_act act.now) ≡ true }
+    requires can { CanStep (plain_program program.now) (plain_act act.now) action (seen row.now kept.now) }
+    ensures same { seen row.now result ≡ with_taken_small (plain_program program.now) (plain_act act.now) action (seen row.now kept.now) }
+    ensures written { result.written ≡ true }
+    ensures can { CanStep (plain_program program.now) (plain_act act.now) action (seen row.now result) }
+{
+    taken(program, cells, row, act, action, *kept)
+}

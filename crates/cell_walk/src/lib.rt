@@ -28,7 +28,7 @@ pub use counters::count_units;
 pub use firsts::first;
 pub use forgetting::share_bytes;
 pub use items::{KnownItems, item_is_numeric, item_range};
-pub use kept::Kept;
+pub use kept::{Kept, with_operands};
 pub use knowing::{known_of_count, known_of_item};
 pub use scales::Taken;
 pub use taking::taken;

@@ -48,10 +48,10 @@ no_bounds_stand l pack s = record {
     unbounded x e b = omega (arith, ints, e, b)
 
 -- of each pack
-abbrev unbounded_packs : List Pack → List (List ℤ)
+abbrev pub unbounded_packs : List Pack → List (List ℤ)
 unbounded_packs packs = map (λ pack. no_bounds (size_of pack)) packs
 
-unbounded_are : (packs : List Pack) → AllByRecursion (λ pack. size_of pack ≤ 8) packs → AreMatrices packs (unbounded_packs packs)
+pub unbounded_are : (packs : List Pack) → AllByRecursion (λ pack. size_of pack ≤ 8) packs → AreMatrices packs (unbounded_packs packs)
 unbounded_are [] few = tt
 unbounded_are (pack ∷ packs) few = ((few.0, no_bounds_are_matrix (size_of pack)), unbounded_are packs few.1)
 

@@ -3,3 +3,5 @@ pub mod Entry
 pub mod Flow
 pub mod Clears
 pub mod Meaning
+pub mod Distinct
+pub mod Packed

@@ -166,6 +166,7 @@ adding_is_source = record {
   values = alone;
   signs = only_sign;
   numbers = λ n a its. number_in_order n a (n == 1) (n == 2) refl refl its;
+  order = refl;
 }
   where
     only_item : All (IsWellFormedItem adding.layout) adding.layout.items

@@ -1,13 +1,14 @@
 -- What every source's program and its graph keep, as far as an analysis needs it.
-use Rattle.std.specs.Prelude.{◌≡◌, ◌≤◌, ℕ, true, Some}
-use Rattle.std.specs.List.{All}
+use Rattle.std.specs.Prelude.{◌≡◌, ◌≤◌, ℕ, true, map, Some}
+use Rattle.std.specs.List.{All, range_with_len}
 use Rattle.cob_tree.specs.declared.form.Form.{Form}
 use Rattle.cob_tree.specs.declared.form.Form.TheVariants as form
 use Rattle.cob_tree.specs.declared.form.Usage.TheVariants as usage
 use Rattle.cob_data.specs.declared.layout.Item.{Item}
 use Rattle.cob_data.specs.declared.layout.Layout.{Layout}
 use Rattle.cob_data.specs.declared.layout.Sender.{Sender}
-use Rattle.cob_program.specs.Act.{Act, Program}
+use Rattle.cob_program.specs.Act.{Stmt, MkStmt, Act, Program}
+use Rattle.cob_program.specs.Statements.{program_statements}
 use Rattle.cob_runs.specs.Contents.{item_at}
 use Rattle.cob_runs.specs.Effects.{act_at}
 use Rattle.cob_items.specs.WellFormed.{HasWellFormedItems}
@@ -41,6 +42,13 @@ SeparateItemsHaveSigns l = All (λ i. HasSignIfSeparate i.form) l.items
 
 -- ---- statements
 
+abbrev pub number_of : Stmt → ℕ
+number_of (MkStmt number line a) = number
+
+-- from one on, in the order of the source, as many as are counted
+abbrev pub AreNumberedInOrder : Program → Type 0
+AreNumberedInOrder p = map number_of (program_statements p) ≡ range_with_len 1 p.statements
+
 -- the numbers of statements lie within their count
 abbrev pub StatementsAreCounted : Program → Type 0
 StatementsAreCounted p = (n : ℕ) (a : Act) → act_at p n ≡ Some a → (1 ≤ n) × (n ≤ p.statements)
@@ -59,3 +67,4 @@ pub record IsSourceGraph (p : Program) (g : Graph) : Type 0 where
   pub values : ValuesStandApart p.layout
   pub signs : SeparateItemsHaveSigns p.layout
   pub numbers : StatementsAreCounted p
+  pub order : AreNumberedInOrder p

@@ -21,7 +21,8 @@ fn least_word(size: usize, at: usize) -> i128
     }
 }
 
-fn set_least_matrix(size: usize, m: &mut [i128])
+/// Makes the least matrix of so many cells, whatever it held.
+pub fn set_least_matrix(size: usize, m: &mut [i128])
     requires size { size ≤ 8 }
     requires width { length m.old ≡ words_of size }
     ensures { m.new ≡ matrix_of size (bottom_word size) }

@@ -13,7 +13,7 @@ mod widening;
 
 pub use joining::join;
 pub use laws::rows_are_a_lattice;
-pub use least::{is_least, set_least};
+pub use least::{is_least, set_least, set_least_matrix};
 pub use order::leq;
 pub use sizes::{height_of, width_of, words_of};
 pub use widening::widen;

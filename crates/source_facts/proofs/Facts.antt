@@ -28,4 +28,5 @@ sources_have_source_graphs bytes p g is graph =
       values = subst (λ (q : Program). ValuesStandApart q.layout) (sym is.program) (values_stand_apart is.tree is.keeps.has_layout);
       signs = subst (λ (q : Program). SeparateItemsHaveSigns q.layout) (sym is.program) (separate_items_have_signs is.tree is.keeps.has_layout);
       numbers = sources_count_statements bytes p is;
+      order = sources_number_statements bytes p is;
     }

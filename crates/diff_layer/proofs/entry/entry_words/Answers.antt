@@ -1,0 +1,10 @@
+use Rattle.cob_program.specs.ActView.{plain_program}
+use Rattle.pack_walk.specs.Plans.{plain_plans}
+use Rattle.diff_layer.proofs.Beginning.{plans_are_few}
+use Rattle.diff_layer.proofs.Sizes.{small_in}
+use Rattle.diff_layer.proofs.entry.entry_words.Goals as goal
+
+pub width_of-requires-clause-small : goal.width_of-requires-clause-small
+width_of-requires-clause-small c =
+    let a = c.args in
+    small_in a.sizes.now (plain_plans a.plans.now) c.requires.sizes (plans_are_few (plain_program a.program.now) a.plans.now c.requires.plans)

@@ -1,0 +1,122 @@
+//! The row of what is known of differences where a run begins.
+ghost use Rattle.std.specs.Prelude.{◌≡◌, ◌≤◌, length, map, IfOk};
+ghost use Rattle.std.specs.List.{AllByRecursion};
+ghost use Rattle.cob_program.specs.ActView.{plain_program};
+ghost use Rattle.cob_graph.specs.Graphs.{cells_of};
+ghost use Rattle.cob_items.specs.WellFormed.{HasWellFormedItems};
+ghost use Rattle.cell_rows.specs.Elements.{CellsFit};
+ghost use Rattle.cell_rows.specs.Rows.{row_of as known_row};
+ghost use Rattle.cell_storages.specs.Homes.{owns};
+ghost use Rattle.cell_layer_laws.specs.Entry.{entry_cells};
+ghost use Rattle.diff_steps.specs.Packs.{size_of};
+ghost use Rattle.diff_steps.specs.Edges.{no_bounds, entry_packs};
+ghost use Rattle.pack_rows.specs.Rows.{words_of, width_of, row_of};
+ghost use Rattle.pack_walk.specs.Plans.{plain_plans, ArePlansOf};
+ghost use Rattle.diff_layer.specs.Edges.{free_word};
+
+use cell_layer::entry_row;
+use cob_program::Program;
+use cob_runs::Cell;
+use pack_rows::{set_least, width_of, words_of};
+use pack_walk::{PackPlan, close_all};
+use std::alloc::{AllocError, Global};
+
+/// The word of no bound.
+const NONE: i128 = 100_000_000_000_000_000_000_000_000_000_000_000_000;
+
+// a word of the matrix that bounds nothing
+fn free_word(size: usize, at: usize) -> i128
+    requires { size ≤ 8 }
+    ensures { result ≡ free_word size at }
+{
+    if at / (size + 1) == at % (size + 1) {
+        0
+    } else {
+        NONE
+    }
+}
+
+fn set_free_matrix(size: usize, m: &mut [i128])
+    requires size { size ≤ 8 }
+    requires width { length m.old ≡ words_of size }
+    ensures { m.new ≡ no_bounds size }
+{
+    for at in 0..m.len() {
+        m[at] = free_word(size, at);
+    }
+}
+
+// makes the row that bounds nothing
+fn set_free(sizes: &[usize], row: &mut [i128])
+    requires small { AllByRecursion (λ n. n ≤ 8) sizes.now }
+    requires width { length row.old ≡ width_of sizes.now }
+    ensures { row.new ≡ row_of (map no_bounds sizes.now) }
+{
+    match sizes {
+        [] => {}
+        [size, sizes @ ..] => {
+            let (first, rest) = row.split_at_mut(words_of(*size));
+            set_free_matrix(*size, first);
+            set_free(sizes, rest);
+        }
+    }
+}
+
+// lowers the row that bounds nothing to what is known of cells where a run begins
+fn set_entry(
+    program: &Program,
+    cells: &[Cell],
+    plans: &[PackPlan],
+    sizes: &[usize],
+    thresholds: &[Vec<i128>],
+    row: &[i128],
+    out: &mut [i128],
+)
+    requires row { row.now ≡ known_row (entry_cells (plain_program program.now)) }
+    requires cells { cells.now ≡ cells_of (plain_program program.now) }
+    requires fits { CellsFit (owns (plain_program program.now)) (entry_cells (plain_program program.now)) }
+    requires plans { ArePlansOf (plain_program program.now) plans.now }
+    requires sizes { sizes.now ≡ map size_of (plain_plans plans.now) }
+    requires listed { length thresholds.now ≡ length plans.now }
+    requires width { length out.old ≡ width_of sizes.now }
+    ensures { out.new ≡ row_of (entry_packs (plain_program program.now) (plain_plans plans.now) (entry_cells (plain_program program.now))) }
+{
+    set_free(sizes, out);
+    if !close_all(program, cells, plans, row, out) {
+        set_least(sizes, thresholds, out);
+    }
+}
+
+/// The row of what is known of differences where a run begins.
+pub fn entry_words(
+    alloc: Global,
+    program: &Program,
+    cells: &[Cell],
+    plans: &[PackPlan],
+    sizes: &[usize],
+    thresholds: &[Vec<i128>],
+) -> Result<Vec<i128>, AllocError>
+    requires sound { HasWellFormedItems program.now.layout }
+    requires cells { cells.now ≡ cells_of (plain_program program.now) }
+    requires few { length cells.now ≤ 512 }
+    requires fits { CellsFit (owns (plain_program program.now)) (entry_cells (plain_program program.now)) }
+    requires plans { ArePlansOf (plain_program program.now) plans.now }
+    requires packs { length plans.now ≤ 32 }
+    requires sizes { sizes.now ≡ map size_of (plain_plans plans.now) }
+    requires listed { length thresholds.now ≡ length plans.now }
+    ensures { IfOk result (λ words. words.items ≡ row_of (entry_packs (plain_program program.now) (plain_plans plans.now)
+        (entry_cells (plain_program program.now)))) }
+{
+    let row = entry_row(alloc, program, cells)?;
+    let mut words = vec![in alloc; 0; width_of(sizes)]?;
+    set_entry(
+        program,
+        cells,
+        plans,
+        sizes,
+        thresholds,
+        row.as_slice(),
+        words.as_mut_slice(),
+    );
+    Ok(words)
+}

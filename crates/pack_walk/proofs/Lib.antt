@@ -1,0 +1,16 @@
+pub mod Items
+pub mod KnownEnds
+pub mod Filling
+pub mod PackRows
+pub mod SmallPacks
+pub mod Walked
+pub mod Changed
+pub mod Related
+pub mod Stepped
+pub mod WalkSteps
+pub mod SourceOperands
+pub mod Nearness
+pub mod Divisors
+pub mod Cleared
+pub mod ClearedAt
+pub mod ShortHomes

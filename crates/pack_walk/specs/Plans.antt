@@ -1,0 +1,42 @@
+-- Packs as the code has them.
+use Rattle.std.specs.Prelude.{◌≡◌, ◌≤◌, ◌^◌, List, map, length, ℤ, pos, neg_ℤ, ◌≤ℤ◌}
+use Rattle.std.specs.List.{AllByRecursion}
+use Rattle.cob_data.specs.declared.layout.Layout.{Layout}
+use Rattle.cob_program.specs.Act.{Program}
+use Rattle.cell_storages.specs.Homes.{Home, home_range}
+use Rattle.diff_steps.specs.Packs.{Pack, size_of, decimals_of, pack_decimals}
+use Rattle.pack_rows.specs.Rows.{width_of, matrices_in}
+use Rattle.pack_edges.specs.Agreeing.{AreMatrices, IsPackOf}
+use Rattle.pack_forms.specs.Cells.{plain_cells}
+use Rattle.pack_walk.specs.declared.plans.PackPlan.{PackPlan}
+
+abbrev pub plain_plan : PackPlan → Pack
+plain_plan plan = plain_cells plan.cells.items
+
+abbrev pub plain_plans : List PackPlan → List Pack
+plain_plans plans = map plain_plan plans
+
+-- A cell whose own numbers have at most 18 digits, as many decimals among them.
+pub record IsShortHome (l : Layout) (h : Home) : Type 0 where
+  pub low : neg_ℤ (pos (10 ^ 18)) ≤ℤ (home_range l h).low
+  pub high : (home_range l h).high ≤ℤ pos (10 ^ 18)
+  pub decimals : decimals_of l h ≤ 18
+
+-- A pack of a program, with its unit.
+pub record IsPlanOf (p : Program) (plan : PackPlan) : Type 0 where
+  pub few : size_of (plain_plan plan) ≤ 8
+  pub short : AllByRecursion (IsShortHome p.layout) (plain_plan plan)
+  pub unit : plan.decimals ≡ pack_decimals p.layout (plain_plan plan)
+  pub pack : IsPackOf p (plain_plan plan)
+
+abbrev pub ArePlansOf : Program → List PackPlan → Type 0
+ArePlansOf p plans = AllByRecursion (IsPlanOf p) plans
+
+-- the matrices in a row of words
+abbrev pub matrices_for : List PackPlan → List ℤ → List (List ℤ)
+matrices_for plans row = matrices_in (map size_of (plain_plans plans)) row
+
+-- the row has a matrix for each pack, and no other words
+pub record IsRowFor (plans : List PackPlan) (row : List ℤ) : Type 0 where
+  pub width : length row ≡ width_of (map size_of (plain_plans plans))
+  pub matrices : AreMatrices (plain_plans plans) (matrices_for plans row)

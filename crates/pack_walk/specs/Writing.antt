@@ -1,0 +1,32 @@
+-- The bytes that parts write to, and the items that an edge's operands are read of.
+use Rattle.std.specs.Prelude.{ℕ, List, [], ◌∷◌, Option, Some, None}
+use Rattle.cob_data.specs.declared.layout.Layout.{Layout}
+use Rattle.cob_program.specs.Sum.{Part as Product, MkPart}
+use Rattle.cob_program.specs.Act.{Act}
+use Rattle.cob_runs.specs.declared.action.Action.{Action}
+use Rattle.cob_runs.specs.Computing.{items_in_factors}
+use Rattle.cob_edge_parts.specs.Parts.{Amount, Part, store, bytes_in}
+use Rattle.cell_steps.specs.Operands.{edge_amount}
+use Rattle.diff_steps.specs.Moments.{Bytes, item_bytes}
+use Rattle.pack_forms.specs.Writing.{amount_items}
+
+abbrev pub bytes : ℕ → ℕ → Bytes
+bytes offset count = record { offset = offset; count = count }
+
+-- the bytes that a part writes to
+abbrev pub part_bytes : Layout → Part → List Bytes
+part_bytes l (store place mode y) = item_bytes l place
+part_bytes l (bytes_in offset count) = bytes offset count ∷ []
+part_bytes l _ = []
+
+-- the items of a product
+abbrev pub product_items : Product → List ℕ
+product_items (MkPart minus fs) = items_in_factors fs
+
+abbrev pub items_of_amount : Option Amount → List ℕ
+items_of_amount None = []
+items_of_amount (Some y) = amount_items y
+
+-- the items that the operands of an edge are read of
+abbrev pub edge_items : Act → Action → List ℕ
+edge_items a x = items_of_amount (edge_amount a x)
