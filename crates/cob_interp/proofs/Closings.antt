@@ -24,8 +24,8 @@ use Rattle.cob_interp.specs.declared.setting.Setting.{Setting}
 use Rattle.cob_interp.specs.declared.setting.Place.{Place}
 use Rattle.cob_interp.specs.Setting.{program_of}
 use Rattle.cob_interp.specs.Doing.{answered, DoesPart}
-use Rattle.cob_interp.specs.Touching.{ClosesOnly, OpensOnly}
-use Rattle.cob_interp.specs.Tracking.{IsReading, StayAt, purpose_in, purposes_of}
+use Rattle.cob_interp.specs.Touching.{ShutsOnly, OpensOnly}
+use Rattle.cob_interp.specs.Tracking.{IsOpen, StayAt, purpose_in, purposes_of}
 use Rattle.cob_interp.proofs.Places.{set_stays}
 use Rattle.cob_interp.proofs.Purposes.{purposes_set}
 use Rattle.cob_interp.proofs.Onward.{effect_by_act}
@@ -33,24 +33,11 @@ use Rattle.cob_interp.proofs.CallsLead.{one_of_two}
 
 -- ---- none or several changes
 
-pub closes_stay : (w : World) → ClosesOnly w w
-closes_stay w = record { each = λ place f has. (f, has, inl refl) }
+shuts_stay : (w : World) → ShutsOnly w w
+shuts_stay w = record { each = λ place f has. (f, has, inl refl) }
 
 pub opens_stay : (w : World) → OpensOnly w w
 opens_stay w = record { each = λ place f has. (f, has, λ shut. shut) }
-
-closed_on : (f g h : File) → (g ≡ f) ⊎ (g.mode ≡ closed) → (h ≡ g) ⊎ (h.mode ≡ closed) → (h ≡ f) ⊎ (h.mode ≡ closed)
-closed_on f g h (inl same) (inl same_) = inl (same_ ∙ same)
-closed_on f g h (inr shut) (inl same_) = inr (ap (λ (x : File). x.mode) same_ ∙ shut)
-closed_on f g h how (inr shut) = inr shut
-
-pub closes_pass : (w v u : World) → ClosesOnly w v → ClosesOnly v u → ClosesOnly w u
-closes_pass w v u first then_ = record {
-  each = λ place f has.
-      let g = first.each place f has in
-      let h = then_.each place g.0 g.1 in
-      (h.0, h.1, closed_on f g.0 h.0 g.2 h.2);
-}
 
 pub opens_pass : (w v u : World) → OpensOnly w v → OpensOnly v u → OpensOnly w u
 opens_pass w v u first then_ = record {
@@ -78,7 +65,7 @@ module _ (w v : World) (place : ℕ) (e g : File) (has : slice_get w.files place
       subst (λ (fs : List File). (slice_get fs p ≡ Some f) ⊎ ((e ≡ f) × (slice_get fs p ≡ Some g))) (sym files_)
       (set_at w.files place p e g f has at)
 
-  pub set_closes : g.mode ≡ closed → ClosesOnly w v
+  pub set_closes : g.mode ≡ closed → ShutsOnly w v
   set_closes shut = record {
     each = λ p f at. elim (set_in p f at) [
       | inl same ↦ (f, same, inl refl)
@@ -114,14 +101,14 @@ open_by_mode output content writing place shut = shut
 
 module _ (l : Layout) (w : World) where
   closes_on : (place : ℕ) (d : Option FileDecl) (o : Option File) → slice_get w.files place ≡ o
-      → ClosesOnly w (file_act l after_close place d o w).0
-  closes_on place None o has = closes_stay w
-  closes_on place (Some d) None has = closes_stay w
+      → ShutsOnly w (file_act l after_close place d o w).0
+  closes_on place None o has = shuts_stay w
+  closes_on place (Some d) None has = shuts_stay w
   closes_on place (Some d) (Some f) has =
       set_closes w (with_file l place d (after_close f) w).0 place f (after_close f).0 has refl
       (closed_by_mode f.content f.mode f.place)
 
-  pub close_one_closes : (place : ℕ) → ClosesOnly w (close_one l place w).0
+  pub close_one_closes : (place : ℕ) → ShutsOnly w (close_one l place w).0
   close_one_closes place = closes_on place (decl_at l place) (slice_get w.files place) refl
 
   ends_on : (place : ℕ) (d : Option FileDecl) (o : Option File) → IsSome d → IsSome o
@@ -131,7 +118,7 @@ module _ (l : Layout) (w : World) where
   ends_on place (Some d) (Some f) declared has =
       let shut = closed_by_mode f.content f.mode f.place in (
         set_stays w.files place (after_close f).0
-            (λ reads. subst (λ (m : Mode). IsReading m → ⊥) (sym shut) (λ r. r) reads),
+            (λ reads. subst (λ (m : Mode). IsOpen m → ⊥) (sym shut) (λ r. r) reads),
         purposes_set w.files place (after_close f).0
             ∙ ap (λ (m : Mode). slice_set (purposes_of w.files) place (purpose_in m)) shut,
       )
@@ -239,10 +226,10 @@ module _ (s : Setting) (x : Place) (step : ℕ) (w v : World) where
 
   pub close_part : (fs : List ℕ) (k fine bad : ℕ) → x.plan_node.now.op ≡ op.Close k fine bad
       → act_at (program_of s) x.statement.now.number ≡ Some (close_files fs)
-      → (result : Result ℕ RunEnd) → DoesPart s x step w v result → IfOk result (λ _. ClosesOnly w v)
+      → (result : Result ℕ RunEnd) → DoesPart s x step w v result → IfOk result (λ _. ShutsOnly w v)
   close_part fs k fine bad is its result d =
-      where_done (ClosesOnly w v) (op.Close k fine bad) is
-      (close_edge_is (program_of s) x.statement.now.number k w v fs its (λ (u : World). ClosesOnly w u)
+      where_done (ShutsOnly w v) (op.Close k fine bad) is
+      (close_edge_is (program_of s) x.statement.now.number k w v fs its (λ (u : World). ShutsOnly w u)
       (λ file_ at. close_one_closes s.program.now.layout w file_) fine bad) result d
 
   pub close_ends : (fs : List ℕ) (k fine bad : ℕ) → x.plan_node.now.op ≡ op.Close k fine bad

@@ -1,10 +1,10 @@
 pub mod SeenFiles
 pub mod OneFile
+pub mod Waiting
 pub mod Calls
 pub mod Following
 pub mod Passing
 pub mod Onward
-pub mod PutLemmas
 pub mod NodeLemmas
 pub mod CallsLead
 pub mod CloseLemmas
@@ -16,7 +16,7 @@ pub mod RecordReads
 pub mod ReadParts
 pub mod Placing
 pub mod TrackLemmas
-pub mod InputLemmas
+pub mod HandleLemmas
 pub mod Windows
 pub mod Readied
 pub mod Purposes
@@ -33,5 +33,8 @@ pub mod Breaking
 pub mod Flushing
 pub mod Putting
 pub mod Finishing
-pub mod ClosingInputs
+pub mod ClosingHandles
+pub mod EmptyRooms
+pub mod Going
+pub mod Emptying
 pub mod Starting

@@ -10,12 +10,13 @@ use Rattle.cob_runs.specs.Files.{File, file, Mode, closed, reading, writing, ope
 use Rattle.cob_runs.specs.State.{World, with_files}
 use Rattle.cob_runs.specs.Acts.{decl_at, file_act, open_one, take_on, take_one}
 use Rattle.cob_world.specs.Calling.{replaced}
-use Rattle.cob_interp.specs.Tracking.{Ids, IsRead, AreOpen, IsReading, purpose_in, purposes_of, purpose_for, purposes_for, StandAt, ArePlaced, KeepsPlaces}
+use Rattle.cob_interp.specs.declared.handles.Held.{Held}
+use Rattle.cob_interp.specs.Tracking.{Ids, IsHeld, AreOpen, IsOpen, purpose_in, purposes_of, purpose_for, purposes_for, StandAt, ArePlaced, KeepsPlaces}
 use Rattle.cob_interp.specs.Readying.{GivesWindow, IsReadOn, settled, settled_file}
 use Rattle.cob_program.specs.declared.act.Opening.{Opening}
 use Rattle.cob_interp.specs.Readying.{StandsOrBegins}
 use Rattle.cob_interp.proofs.Places.{got_in_set, set_keeps_as}
-use Rattle.cob_interp.proofs.TrackLemmas.{get_set_other, stand_on, placed_on, places_stay, places_pass}
+use Rattle.cob_interp.proofs.TrackLemmas.{get_set_other, same_slot, stand_on, placed_on, places_stay, places_pass}
 use Rattle.cob_interp.proofs.Purposes.{map_set, purposes_set, purposes_kept}
 use Rattle.cob_interp.proofs.OneFile.{takes, from_place, from_end}
 use Rattle.cob_plan.specs.declared.node.Op.TheVariants as op
@@ -66,34 +67,35 @@ module _ (old new : FilesState) (paths : List (List ℕ)) (ids : Ids) (live : Ar
     (placed : ArePlaced paths old ids files) (place size : ℕ) (f g : File) (has : slice_get files place ≡ Some f)
     (mode_ : f.mode ≡ reading false) (window : List ℕ) (gives : GivesWindow old new ids place size window)
     (stands_at : g.place ≡ f.place + length window) (still : purpose_in g.mode ≡ purpose_in f.mode) where
-  here : (id : ℕ) (path : List ℕ) → IsRead ids place id → slice_get paths place ≡ Some path
+  here : (id : ℕ) (writes : Bool) (path : List ℕ) → IsHeld ids place writes id → slice_get paths place ≡ Some path
       → IfSome (known_handle new id) (λ handle. handle ≡ record { name = path; place = g.place })
-  here id path is at =
-      let same : gives.id ≡ id = let h = gives.is in cc in
-      let reads : IsReading f.mode = subst IsReading (sym mode_) tt in
+  here id writes path is at =
+      let same : gives.id ≡ id = ap (λ (x : Held). x.id)
+      (same_slot (record { id = gives.id; writes = false }) (record { id = id; writes = writes }) (sym gives.is ∙ is)) in
+      let reads : IsOpen f.mode = subst IsOpen (sym mode_) tt in
       subst (λ (n : ℕ). IfSome (known_handle new id) (λ handle. handle ≡ record { name = path; place = n }))
       (sym stands_at)
       (moved_handle (known_handle old id) (known_handle new id) path f.place (length window)
       (subst (λ (n : ℕ). known_handle new n ≡ option_map (moved_by (length window)) (known_handle old n)) same
-      gives.given.moved) (placed.stand place id path f is at has reads))
+      gives.given.moved) (placed.stand place id writes path f is at has reads))
 
   window_stand : StandAt paths new ids (slice_set files place g)
-  window_stand other id path h is at there reads = elim (cases_eq other place) [
+  window_stand other id writes path h is at there reads = elim (cases_eq other place) [
     | inl same ↦
         let set : slice_get (slice_set files place g) place ≡ Some g = get_set files place f g has in
         let got : slice_get (slice_set files place g) place ≡ Some h =
         subst (λ (n : ℕ). slice_get (slice_set files place g) n ≡ Some h) same there in
         let e : g ≡ h = cc in
         subst (λ (x : File). IfSome (known_handle new id) (λ handle. handle ≡ record { name = path; place = x.place })) e
-        (here id path (subst (λ (n : ℕ). IsRead ids n id) same is)
+        (here id writes path (subst (λ (n : ℕ). IsHeld ids n writes id) same is)
         (subst (λ (n : ℕ). slice_get paths n ≡ Some path) same at))
     | inr apart ↦
-        let before = placed.stand other id path h is at (sym (get_set_other files place other g apart) ∙ there) reads in
+        let before = placed.stand other id writes path h is at (sym (get_set_other files place other g apart) ∙ there) reads in
         let differs : id ≢ gives.id =
-        λ e. apart (live.apart other place id is (subst (λ (n : ℕ). IsRead ids place n) (sym e) gives.is)) in
+        λ e. apart (live.apart other place id writes false is (subst (λ (n : ℕ). IsHeld ids place false n) (sym e) gives.is)) in
         subst (λ (o : Option Handle). IfSome o (λ handle. handle ≡ record { name = path; place = h.place }))
         (sym (gives.given.others id differs
-        (subst (λ (o : Option Purpose). IsSome o) (sym (live.purpose other id is)) refl))) before
+        (subst (λ (o : Option Purpose). IsSome o) (sym (live.purpose other id writes is)) refl))) before
   ]
 
   pub window_placed : ArePlaced paths new ids (slice_set files place g)
@@ -118,44 +120,44 @@ places_behind fs gs hs (Err e) first then_ = tt
 module _ (l : Layout) (paths : List (List ℕ)) (old new : FilesState) (before after : Ids) (w : World) (o : Opening)
     (path : List ℕ) (f : File) (at : slice_get paths o.file ≡ Some path) (has : slice_get w.files o.file ≡ Some f)
     (stand : StandsOrBegins old new before after path o.file o.output f) (placed : StandAt paths old before w.files) where
-  still_closed : f.mode ≡ closed → IsReading f.mode → ⊥
-  still_closed e reads = subst IsReading e reads
+  still_closed : f.mode ≡ closed → IsOpen f.mode → ⊥
+  still_closed e reads = subst IsOpen e reads
 
   opened_place : (output : Bool) (content : Option (List ℕ)) (place : ℕ)
-      → IsReading (opened output (file content closed place)).0.mode → (opened output (file content closed place)).0.place ≡ 0
+      → IsOpen (opened output (file content closed place)).0.mode → (opened output (file content closed place)).0.place ≡ 0
   opened_place true content place reads = refl
   opened_place false None place reads = absurd reads
   opened_place false (Some bytes) place reads = refl
 
-  begun_place : f.mode ≡ closed → IsReading (opened o.output f).0.mode → (opened o.output f).0.place ≡ 0
+  begun_place : f.mode ≡ closed → IsOpen (opened o.output f).0.mode → (opened o.output f).0.place ≡ 0
   begun_place e reads =
-      subst (λ (m : Mode). IsReading (opened o.output (file f.content m f.place)).0.mode
+      subst (λ (m : Mode). IsOpen (opened o.output (file f.content m f.place)).0.mode
       → (opened o.output (file f.content m f.place)).0.place ≡ 0) (sym e) (opened_place o.output f.content f.place) reads
 
-  open_same : (m : Mode) (content : Option (List ℕ)) (place : ℕ) → IsReading m
+  open_same : (m : Mode) (content : Option (List ℕ)) (place : ℕ) → IsOpen m
       → (opened o.output (file content m place)).0 ≡ file content m place
   open_same closed content place reads = absurd reads
   open_same (reading ended) content place reads = refl
-  open_same writing content place reads = absurd reads
+  open_same writing content place reads = refl
 
   abbrev Is : List File → Type 0
   Is fs = StandAt paths new after fs
 
   -- where the file is opened
   opened_in_set : Is (slice_set w.files o.file (opened o.output f).0)
-  opened_in_set other id q g is at_ has_ reads = elim (got_in_set w.files o.file other (opened o.output f).0 g has_) [
+  opened_in_set other id writes q g is at_ has_ reads = elim (got_in_set w.files o.file other (opened o.output f).0 g has_) [
     | inl here ↦
-        let own : IsReading (opened o.output f).0.mode =
-        subst (λ (x : File). IsReading x.mode) (sym here.1) reads in
+        let own : IsOpen (opened o.output f).0.mode =
+        subst (λ (x : File). IsOpen x.mode) (sym here.1) reads in
         let same : path ≡ q = let h = subst (λ (n : ℕ). slice_get paths n ≡ Some q) here.0 at_ in cc in
-        elim (stand.stand other id is) [
+        elim (stand.stand other id writes is) [
           | inl stays ↦
-              let was : IsReading f.mode = stays.2 here.0 own in
+              let was : IsOpen f.mode = stays.2 here.0 own in
               let kept : (opened o.output f).0 ≡ f = open_same f.mode f.content f.place was in
               subst (λ (h : Option Handle). IfSome h (λ handle. handle ≡ record { name = q; place = g.place })) (sym stays.1)
               (subst (λ (x : File). IfSome (known_handle old id) (λ handle. handle ≡ record { name = q; place = x.place }))
               (sym kept ∙ here.1)
-              (placed other id q f stays.0 at_ (subst (λ (n : ℕ). slice_get w.files n ≡ Some f) (sym here.0) has) was))
+              (placed other id writes q f stays.0 at_ (subst (λ (n : ℕ). slice_get w.files n ≡ Some f) (sym here.0) has) was))
           | inr begins ↦
               subst (λ (x : File). IfSome (known_handle new id) (λ handle. handle ≡ record { name = q; place = x.place }))
               here.1
@@ -164,27 +166,27 @@ module _ (l : Layout) (paths : List (List ℕ)) (old new : FilesState) (before a
               (subst (λ (x : List ℕ). IfSome (known_handle new id) (λ handle. handle ≡ record { name = x; place = 0 }))
               same begins.2))
         ]
-    | inr there ↦ elim (stand.stand other id is) [
+    | inr there ↦ elim (stand.stand other id writes is) [
       | inl stays ↦
           subst (λ (h : Option Handle). IfSome h (λ handle. handle ≡ record { name = q; place = g.place })) (sym stays.1)
-          (placed other id q g stays.0 at_ there reads)
+          (placed other id writes q g stays.0 at_ there reads)
       | inr begins ↦
           let own : slice_get w.files o.file ≡ Some g = subst (λ (n : ℕ). slice_get w.files n ≡ Some g) begins.0 there in
           let same : f ≡ g = cc in
-          absurd (still_closed begins.1 (subst (λ (x : File). IsReading x.mode) (sym same) reads))
+          absurd (still_closed begins.1 (subst (λ (x : File). IsOpen x.mode) (sym same) reads))
     ]
   ]
 
   -- where it isn't
   unopened : Is w.files
-  unopened other id q g is at_ has_ reads = elim (stand.stand other id is) [
+  unopened other id writes q g is at_ has_ reads = elim (stand.stand other id writes is) [
     | inl stays ↦
         subst (λ (h : Option Handle). IfSome h (λ handle. handle ≡ record { name = q; place = g.place })) (sym stays.1)
-        (placed other id q g stays.0 at_ has_ reads)
+        (placed other id writes q g stays.0 at_ has_ reads)
     | inr begins ↦
         let own : slice_get w.files o.file ≡ Some g = subst (λ (n : ℕ). slice_get w.files n ≡ Some g) begins.0 has_ in
         let same : f ≡ g = cc in
-        absurd (still_closed begins.1 (subst (λ (x : File). IsReading x.mode) (sym same) reads))
+        absurd (still_closed begins.1 (subst (λ (x : File). IsOpen x.mode) (sym same) reads))
   ]
 
   opened_by : (decl : Option FileDecl) (x : Option File) → x ≡ Some f
@@ -329,13 +331,20 @@ idle_kept size content (reading true) place idle = refl
 idle_kept size content (reading false) place idle = absurd (idle refl)
 idle_kept size content writing place idle = refl
 
+idle_open : (size : ℕ) (content : Option (List ℕ)) (m : Mode) (place : ℕ) → (m ≡ reading false → ⊥)
+    → IsOpen (after_read size (file content m place)).file.mode
+    → IsOpen m × (place ≡ (after_read size (file content m place)).file.place)
+idle_open size content m place idle open_ =
+    let e = idle_kept size content m place idle in
+    (subst (λ (x : File). IsOpen x.mode) e open_, sym (ap (λ (x : File). x.place) e))
+
 idle_on : (l : Layout) (w : World) (place : ℕ) (decl : Option FileDecl) (o : Option File) → slice_get w.files place ≡ o
     → IsReadOn o None → KeepsPlaces w.files (take_on l None place decl o w).0.files
 idle_on l w place None o has idle = places_stay w.files
 idle_on l w place (Some d) None has idle = places_stay w.files
 idle_on l w place (Some d) (Some f) has idle =
     set_keeps_as w.files place f (after_read d.length f).file has
-    (λ reads. idle_kept d.length f.content f.mode f.place idle) (read_purpose d.length f.content f.mode f.place)
+    (λ open_. idle_open d.length f.content f.mode f.place idle open_) (read_purpose d.length f.content f.mode f.place)
 
 pub idle_placed : (l : Layout) (w v : World) (place : ℕ) → IsReadOn (slice_get w.files place) None
     → v ≡ (take_one l None place w).0 → KeepsPlaces w.files v.files

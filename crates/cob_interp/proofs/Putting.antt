@@ -9,7 +9,7 @@ use Rattle.cob_runs.specs.Files.{File, file, Mode, closed, reading, writing}
 use Rattle.cob_runs.specs.State.{World}
 use Rattle.cob_interp.specs.declared.ends.RunEnd.{RunEnd}
 use Rattle.cob_interp.specs.declared.ends.RunEnd.TheVariants as end
-use Rattle.cob_interp.specs.Told.{seen_file, seen_files, IsSyncedIn, IsSynced, AreSynced, AreDistinct, IsReadyToCloseIn, IsReadyToClose}
+use Rattle.cob_interp.specs.Told.{seen_file, seen_files, IsSyncedIn, IsSynced, AreSynced, AreDistinct, IsOutIn, IsOut}
 use Rattle.cob_interp.specs.Readying.{AreWell, Keeps, Readies, IsRefusal}
 use Rattle.cob_interp.specs.Walking.{IsPutTo, PutsTo}
 use Rattle.cob_interp.proofs.SeenFiles.{contains_at}
@@ -53,38 +53,38 @@ one_place (q ∷ paths) (suc i) (suc j) path apart at other = ap suc (one_place 
 
 module _ (told mid now : Contents) (path : List ℕ) where
   later_in : (m : Mode) (content : Option (List ℕ)) → get now path ≡ get mid path
-      → IsReadyToCloseIn told mid path m content
-      → IsReadyToCloseIn told now path m content
+      → IsOutIn told mid path m content
+      → IsOutIn told now path m content
   later_in closed content same ready = same ∙ ready
   later_in (reading ended) content same ready = same ∙ ready
   later_in writing content same ready = same ∙ ready
 
   -- it stays told where its name holds what it held
-  stays_ready : (f : File) → get now path ≡ get mid path → IsReadyToClose told mid path f
-      → IsReadyToClose told now path f
+  stays_ready : (f : File) → get now path ≡ get mid path → IsOut told mid path f
+      → IsOut told now path f
   stays_ready f same ready = later_in f.mode f.content same ready
 
   earlier_in : (m : Mode) (content : Option (List ℕ)) → get mid path ≡ get told path
-      → IsReadyToCloseIn mid now path m content
-      → IsReadyToCloseIn told now path m content
+      → IsOutIn mid now path m content
+      → IsOutIn told now path m content
   earlier_in closed content same ready = ready ∙ same
   earlier_in (reading ended) content same ready = ready ∙ same
   earlier_in writing content same ready = ready
 
   -- the same, where it was as before until it was put
-  becomes_ready : (f : File) → get mid path ≡ get told path → IsReadyToClose mid now path f
-      → IsReadyToClose told now path f
+  becomes_ready : (f : File) → get mid path ≡ get told path → IsOut mid now path f
+      → IsOut told now path f
   becomes_ready f same ready = earlier_in f.mode f.content same ready
 
 module _ (told now : Contents) (path : List ℕ) where
   content_by_mode : (content : Option (List ℕ)) (m : Mode) (place : ℕ) → IsSyncedIn told m path content place
-      → IsReadyToCloseIn told now path m content → get now path ≡ (seen_file told path (file content m place)).content
+      → IsOutIn told now path m content → get now path ≡ (seen_file told path (file content m place)).content
   content_by_mode content closed place s ready = ready
   content_by_mode content (reading ended) place s ready = ready
   content_by_mode content writing place s ready = ready
 
   -- its name holds what the run sees
-  content_told : (f : File) → IsSynced told path f → IsReadyToClose told now path f
+  content_told : (f : File) → IsSynced told path f → IsOut told now path f
       → get now path ≡ (seen_file told path f).content
   content_told f s ready = content_by_mode f.content f.mode f.place s ready
 
@@ -110,17 +110,17 @@ module _ (paths : List (List ℕ)) (apart : AreDistinct paths) (w : World) (coun
       not (one_place paths place count path apart (subst (λ (q : List ℕ). slice_get paths place ≡ Some q) same at_) at)
 
   module _ (told : Contents) (known : Option Contents) (k : IsPutTo paths w count told known)
-      (r : Keeps k.now (known_bytes c) path (λ now. IsReadyToClose k.now now path f)) where
+      (r : Keeps k.now (known_bytes c) path (λ now. IsOut k.now now path f)) where
     next_done : (place : ℕ) (other : List ℕ) (o : File) → slice_get paths place ≡ Some other
         → slice_get w.files place ≡ Some o
-        → (place ≡ count) ⊎ ((place < count) ⊎ (count < place)) → place < count + 1 → IsReadyToClose told r.now other o
+        → (place ≡ count) ⊎ ((place < count) ⊎ (count < place)) → place < count + 1 → IsOut told r.now other o
     next_done place other o at_ has_ (inl this) below =
         let there = subst (λ (n : ℕ). slice_get paths n ≡ Some other) this at_ in
         let found = subst (λ (n : ℕ). slice_get w.files n ≡ Some o) this has_ in
         let same : path ≡ other = cc in
         let its : f ≡ o = cc in
-        subst (λ (q : List ℕ). IsReadyToClose told r.now q o) same
-        (subst (λ (x : File). IsReadyToClose told r.now path x) its
+        subst (λ (q : List ℕ). IsOut told r.now q o) same
+        (subst (λ (x : File). IsOut told r.now path x) its
         (becomes_ready told k.now r.now path f (k.left count path (omega arith) at) r.it))
     next_done place other o at_ has_ (inr (inl l)) below =
         stays_ready told k.now r.now other o (r.others other (apart_from place other at_ (λ e. omega (arith, e, l))))
@@ -139,7 +139,7 @@ module _ (paths : List (List ℕ)) (apart : AreDistinct paths) (w : World) (coun
     }
 
   -- one more
-  pub puts_next : (a : FilesState) → Readies b c path (λ told now. IsReadyToClose told now path f)
+  pub puts_next : (a : FilesState) → Readies b c path (λ told now. IsOut told now path f)
       → PutsTo paths w count a b
       → PutsTo paths w (count + 1) a c
   puts_next a ready h = record {
@@ -150,7 +150,7 @@ module _ (paths : List (List ℕ)) (apart : AreDistinct paths) (w : World) (coun
 -- names hold what the run sees
 pub contents_told : (told now : Contents) (paths : List (List ℕ)) (fs : List File) → AreSynced told paths fs
     → ((place : ℕ) (path : List ℕ) (f : File) → slice_get paths place ≡ Some path → slice_get fs place ≡ Some f
-    → IsReadyToClose told now path f)
+    → IsOut told now path f)
     → map (get now) paths ≡ map (λ f. f.content) (seen_files told paths fs)
 contents_told told now [] [] s ready = refl
 contents_told told now [] (f ∷ fs) s ready = absurd s
@@ -162,7 +162,7 @@ contents_told told now (path ∷ paths) (f ∷ fs) s ready =
 
 pub all_done : (paths : List (List ℕ)) (w : World) (count : ℕ) (told : Contents) (known : Option Contents)
     → length paths ≤ count → (k : IsPutTo paths w count told known) (place : ℕ) (path : List ℕ) (f : File)
-    → slice_get paths place ≡ Some path → slice_get w.files place ≡ Some f → IsReadyToClose told k.now path f
+    → slice_get paths place ≡ Some path → slice_get w.files place ≡ Some f → IsOut told k.now path f
 all_done paths w count told known all k place path f at has =
     let within = slice_get_within paths place path at in
     k.done place path f (omega (arith, within, all)) at has

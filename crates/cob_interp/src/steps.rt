@@ -14,7 +14,7 @@ ghost use Rattle.cob_interp.specs.Tracking.{AreOpen, ArePlaced, KeepsPlaces, Tra
 ghost use Rattle.cob_interp.specs.Doing.{IsPlain, IsQuiet, Leads};
 
 use crate::ends::RunEnd;
-use crate::inputs::Inputs;
+use crate::handles::Handles;
 use crate::nodes::{do_close, do_plain};
 use crate::opens::do_open;
 use crate::parts::{Call, call_of};
@@ -134,7 +134,7 @@ fn open_next<F: Files>(
     alloc: Global,
     setting: &Setting,
     files: &mut F,
-    inputs: &mut Inputs,
+    handles: &mut Handles,
     world: &mut World,
     node: u32,
     statement: u32,
@@ -144,11 +144,11 @@ fn open_next<F: Files>(
     requires ready { IsReady setting.now }
     requires runs { world.old.program ≡ setting.now.program.now }
     requires its { act_at (program_of setting.now) statement ≡ Some (open_files openings.now) }
-    requires live { AreOpen (F.state files.old) inputs.old }
-    requires placed { ArePlaced (paths_of setting.now) (F.state files.old) inputs.old world.old.world.files }
+    requires live { AreOpen (F.state files.old) handles.old }
+    requires placed { ArePlaced (paths_of setting.now) (F.state files.old) handles.old world.old.world.files }
     ensures kept { world.new.program ≡ world.old.program }
-    ensures tracks { Tracks (F.state files.old) (F.state files.new) inputs.old inputs.new }
-    ensures placed { IfOk result (λ _. ArePlaced (paths_of setting.now) (F.state files.new) inputs.new
+    ensures tracks { Tracks (F.state files.old) (F.state files.new) handles.old handles.new }
+    ensures placed { IfOk result (λ _. ArePlaced (paths_of setting.now) (F.state files.new) handles.new
         world.new.world.files) }
     ensures leads { (sink : SinkState) (budget : ℕ) → Leads setting.now budget step node
         (outside (F.state files.old) sink) (outside (F.state files.new) sink) world.old.world world.new.world result }
@@ -162,7 +162,7 @@ fn open_next<F: Files>(
     if place.plan_node.statement != statement {
         return Err(RunEnd::Memory);
     }
-    do_open(alloc, setting, files, inputs, &place, openings, world, step)
+    do_open(alloc, setting, files, handles, &place, openings, world, step)
 }
 
 /// Opens the files of an OPEN, from its first node on. Answers the node behind it.
@@ -170,7 +170,7 @@ fn open_all<F: Files>(
     alloc: Global,
     setting: &Setting,
     files: &mut F,
-    inputs: &mut Inputs,
+    handles: &mut Handles,
     world: &mut World,
     node: u32,
     statement: u32,
@@ -180,11 +180,11 @@ fn open_all<F: Files>(
     requires ready { IsReady setting.now }
     requires runs { world.old.program ≡ setting.now.program.now }
     requires its { act_at (program_of setting.now) statement ≡ Some (open_files openings.now) }
-    requires live { AreOpen (F.state files.old) inputs.old }
-    requires placed { ArePlaced (paths_of setting.now) (F.state files.old) inputs.old world.old.world.files }
+    requires live { AreOpen (F.state files.old) handles.old }
+    requires placed { ArePlaced (paths_of setting.now) (F.state files.old) handles.old world.old.world.files }
     ensures kept { world.new.program ≡ world.old.program }
-    ensures tracks { Tracks (F.state files.old) (F.state files.new) inputs.old inputs.new }
-    ensures placed { IfOk result (λ _. ArePlaced (paths_of setting.now) (F.state files.new) inputs.new
+    ensures tracks { Tracks (F.state files.old) (F.state files.new) handles.old handles.new }
+    ensures placed { IfOk result (λ _. ArePlaced (paths_of setting.now) (F.state files.new) handles.new
         world.new.world.files) }
     ensures leads { (sink : SinkState) (budget : ℕ) → Leads setting.now budget step node
         (outside (F.state files.old) sink) (outside (F.state files.new) sink) world.old.world world.new.world result }
@@ -194,7 +194,7 @@ fn open_all<F: Files>(
     let mut at = node;
     for _ in 0..setting.plan.nodes.len() {
         at = open_next(
-            alloc, setting, files, inputs, world, at, statement, openings, step,
+            alloc, setting, files, handles, world, at, statement, openings, step,
         )?;
         if setting.rests_at(at) {
             return Ok(at);
@@ -209,30 +209,31 @@ fn close_next<F: Files>(
     alloc: Global,
     setting: &Setting,
     files: &mut F,
-    inputs: &mut Inputs,
+    handles: &mut Handles,
     world: &mut World,
     node: u32,
     step: u64,
 ) -> Result<u32, RunEnd>
     requires ready { IsReady setting.now }
     requires runs { world.old.program ≡ setting.now.program.now }
-    requires live { AreOpen (F.state files.old) inputs.old }
-    requires placed { ArePlaced (paths_of setting.now) (F.state files.old) inputs.old world.old.world.files }
+    requires live { AreOpen (F.state files.old) handles.old }
+    requires placed { ArePlaced (paths_of setting.now) (F.state files.old) handles.old world.old.world.files }
     ensures kept { world.new.program ≡ world.old.program }
-    ensures tracks { Tracks (F.state files.old) (F.state files.new) inputs.old inputs.new }
-    ensures placed { IfOk result (λ _. ArePlaced (paths_of setting.now) (F.state files.new) inputs.new
+    ensures tracks { Tracks (F.state files.old) (F.state files.new) handles.old handles.new }
+    ensures placed { IfOk result (λ _. ArePlaced (paths_of setting.now) (F.state files.new) handles.new
         world.new.world.files) }
     ensures leads { (sink : SinkState) (budget : ℕ) → Leads setting.now budget step node
         (outside (F.state files.old) sink) (outside (F.state files.new) sink) world.old.world world.new.world result }
     ensures touches { Touches (paths_of setting.now) makes_none world.old.world (F.state files.old)
         (F.state files.new) }
-    ensures closes { IfOk result (λ _. ClosesOnly world.old.world world.new.world) }
+    ensures closes { IfOk result (λ _. ClosesOnly (paths_of setting.now) (F.state files.old) (F.state files.new)
+        world.old.world world.new.world) }
 {
     let Some(place) = setting.place(node) else {
         return Err(RunEnd::Memory);
     };
     match call_of(place.statement.act) {
-        Call::Close(closed) => do_close(alloc, setting, files, inputs, &place, closed, world, step),
+        Call::Close(closed) => do_close(alloc, setting, files, handles, &place, closed, world, step),
         Call::Open(_) | Call::Read(_) | Call::Other => Err(RunEnd::Memory),
     }
 }
@@ -242,18 +243,18 @@ fn close_all<F: Files>(
     alloc: Global,
     setting: &Setting,
     files: &mut F,
-    inputs: &mut Inputs,
+    handles: &mut Handles,
     world: &mut World,
     node: u32,
     step: u64,
 ) -> Result<u32, RunEnd>
     requires ready { IsReady setting.now }
     requires runs { world.old.program ≡ setting.now.program.now }
-    requires live { AreOpen (F.state files.old) inputs.old }
-    requires placed { ArePlaced (paths_of setting.now) (F.state files.old) inputs.old world.old.world.files }
+    requires live { AreOpen (F.state files.old) handles.old }
+    requires placed { ArePlaced (paths_of setting.now) (F.state files.old) handles.old world.old.world.files }
     ensures kept { world.new.program ≡ world.old.program }
-    ensures tracks { Tracks (F.state files.old) (F.state files.new) inputs.old inputs.new }
-    ensures placed { IfOk result (λ _. ArePlaced (paths_of setting.now) (F.state files.new) inputs.new
+    ensures tracks { Tracks (F.state files.old) (F.state files.new) handles.old handles.new }
+    ensures placed { IfOk result (λ _. ArePlaced (paths_of setting.now) (F.state files.new) handles.new
         world.new.world.files) }
     ensures leads { (sink : SinkState) (budget : ℕ) → Leads setting.now budget step node
         (outside (F.state files.old) sink) (outside (F.state files.new) sink) world.old.world world.new.world result }
@@ -262,7 +263,7 @@ fn close_all<F: Files>(
 {
     let mut at = node;
     for _ in 0..setting.plan.nodes.len() {
-        at = close_next(alloc, setting, files, inputs, world, at, step)?;
+        at = close_next(alloc, setting, files, handles, world, at, step)?;
         if setting.rests_at(at) {
             return Ok(at);
         }
@@ -275,7 +276,7 @@ fn go_read<F: Files>(
     alloc: Global,
     setting: &Setting,
     files: &mut F,
-    inputs: &mut Inputs,
+    handles: &mut Handles,
     world: &mut World,
     place: &Place,
     node: u32,
@@ -286,11 +287,11 @@ fn go_read<F: Files>(
     requires runs { world.old.program ≡ setting.now.program.now }
     requires starts { StartsAt setting.now node place.now }
     requires reads { IsCall (plain_act place.now.statement.now.act.now) (call.Read file) }
-    requires live { AreOpen (F.state files.old) inputs.old }
-    requires placed { ArePlaced (paths_of setting.now) (F.state files.old) inputs.old world.old.world.files }
+    requires live { AreOpen (F.state files.old) handles.old }
+    requires placed { ArePlaced (paths_of setting.now) (F.state files.old) handles.old world.old.world.files }
     ensures kept { world.new.program ≡ world.old.program }
-    ensures tracks { Tracks (F.state files.old) (F.state files.new) inputs.old inputs.new }
-    ensures placed { IfOk result (λ _. ArePlaced (paths_of setting.now) (F.state files.new) inputs.new
+    ensures tracks { Tracks (F.state files.old) (F.state files.new) handles.old handles.new }
+    ensures placed { IfOk result (λ _. ArePlaced (paths_of setting.now) (F.state files.new) handles.new
         world.new.world.files) }
     ensures same { known_bytes (F.state files.new) ≡ known_bytes (F.state files.old) }
     ensures takes { (sink : SinkState) (budget steps : ℕ) (start : Outside) → step ≡ steps + 1 → steps < budget
@@ -300,7 +301,7 @@ fn go_read<F: Files>(
         (outside (F.state files.new) sink) world.new.world step result }
 {
     let next = do_read(
-        alloc, setting, files, inputs, world, place, node, file, step,
+        alloc, setting, files, handles, world, place, node, file, step,
     )?;
     if setting.rests_at(next) {
         return Ok(next);
@@ -314,7 +315,7 @@ pub fn take_step<F: Files>(
     alloc: Global,
     setting: &Setting,
     files: &mut F,
-    inputs: &mut Inputs,
+    handles: &mut Handles,
     world: &mut World,
     place: &Place,
     node: u32,
@@ -323,11 +324,11 @@ pub fn take_step<F: Files>(
     requires ready { IsReady setting.now }
     requires runs { world.old.program ≡ setting.now.program.now }
     requires starts { StartsAt setting.now node place.now }
-    requires live { AreOpen (F.state files.old) inputs.old }
-    requires placed { ArePlaced (paths_of setting.now) (F.state files.old) inputs.old world.old.world.files }
+    requires live { AreOpen (F.state files.old) handles.old }
+    requires placed { ArePlaced (paths_of setting.now) (F.state files.old) handles.old world.old.world.files }
     ensures kept { world.new.program ≡ world.old.program }
-    ensures tracks { Tracks (F.state files.old) (F.state files.new) inputs.old inputs.new }
-    ensures placed { IfOk result (λ _. ArePlaced (paths_of setting.now) (F.state files.new) inputs.new
+    ensures tracks { Tracks (F.state files.old) (F.state files.new) handles.old handles.new }
+    ensures placed { IfOk result (λ _. ArePlaced (paths_of setting.now) (F.state files.new) handles.new
         world.new.world.files) }
     ensures takes { (sink : SinkState) (budget steps : ℕ) (start : Outside) → step ≡ steps + 1 → steps < budget
         → Stands (program_of setting.now) setting.now.graph.now (paths_of setting.now) start
@@ -343,16 +344,16 @@ pub fn take_step<F: Files>(
             alloc,
             setting,
             files,
-            inputs,
+            handles,
             world,
             node,
             place.plan_node.statement,
             openings,
             step,
         ),
-        Call::Close(_) => close_all(alloc, setting, files, inputs, world, node, step),
+        Call::Close(_) => close_all(alloc, setting, files, handles, world, node, step),
         Call::Read(file) => go_read(
-            alloc, setting, files, inputs, world, place, node, file, step,
+            alloc, setting, files, handles, world, place, node, file, step,
         ),
         Call::Other => go(alloc, setting, world, place, node, step),
     }

@@ -24,7 +24,7 @@ returns-in-Err-put_all-clause-runs g c budget start off =
 
 pub returns-in-Ok-put_all-clause-runs : goal.returns-in-Ok-put_all-clause-runs
 returns-in-Ok-put_all-clause-runs g c budget start off =
-    c.close_inputs.ensures.runs (program_of c.args.setting.now) c.args.setting.now.graph.now
+    c.close_handles.ensures.runs (program_of c.args.setting.now) c.args.setting.now.graph.now
     (paths_of c.args.setting.now) budget start _
     (finished (program_of c.args.setting.now) c.args.setting.now.graph.now
     (paths_of c.args.setting.now) budget start _ _ _

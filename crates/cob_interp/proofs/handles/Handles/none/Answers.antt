@@ -1,8 +1,8 @@
 use Rattle.std.proofs.Common.{◌∙◌, ap}
 use Rattle.cob_interp.specs.Tracking.{Ids, purposes_for}
-use Rattle.cob_interp.proofs.InputLemmas.{none_more}
+use Rattle.cob_interp.proofs.HandleLemmas.{none_more}
 use Rattle.cob_interp.proofs.Purposes.{none_pushed}
-use Rattle.cob_interp.proofs.inputs.Inputs.none.Goals as goal
+use Rattle.cob_interp.proofs.handles.Handles.none.Goals as goal
 
 pub loop-preserved : goal.loop-preserved
 loop-preserved c =

@@ -1,5 +1,5 @@
-use Rattle.cob_interp.proofs.ClosingInputs.{closed_well, closed_ill}
-use Rattle.cob_interp.proofs.runs.close_inputs.Goals as goal
+use Rattle.cob_interp.proofs.ClosingHandles.{closed_well, closed_ill}
+use Rattle.cob_interp.proofs.runs.close_handles.Goals as goal
 
 pub returns-in-Ok-clause-runs : goal.returns-in-Ok-clause-runs
 returns-in-Ok-clause-runs g c p graph paths budget start sink runs broken =
