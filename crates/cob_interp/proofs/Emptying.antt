@@ -1,6 +1,8 @@
 -- Where what waits of a file went out: the run sees what it saw.
-use Rattle.std.proofs.Common.{◌≡◌, ℕ, zero, suc, Bool, List, [], ◌++◌, length, Option, Some, None, Result, inl, inr, ◌⊎◌, refl, sym, ap, subst, ◌∙◌, append-nil}
-use Rattle.std.specs.Prelude.{slice_get, slice_set}
+use Rattle.std.proofs.Common.{◌≡◌, ℕ, ◌+◌, ◌<◌, Bool, List, [], ◌++◌, Option, Some, None, Result, inl, inr, ◌⊎◌, Ok, Err, refl, sym, ap, subst, ◌∙◌, append-nil, arith}
+use Rattle.std.specs.Prelude.{slice_get, slice_set, IfOk, MatchResult}
+use Rattle.std.specs.FinMap.{get}
+use Rattle.std.proofs.lemmas.Bool.{cases_eq, cases_order}
 use Rattle.batch_io.specs.FilesState.{Contents, FilesState, known_bytes}
 use Rattle.batch_io.specs.SinkState.{SinkState}
 use Rattle.cob_program.specs.Act.{Program}
@@ -11,13 +13,13 @@ use Rattle.cob_runs.specs.State.{World, with_files}
 use Rattle.cob_interp.specs.declared.ends.Ended.{Ended}
 use Rattle.cob_interp.specs.declared.ends.RunEnd.{RunEnd}
 use Rattle.cob_interp.specs.declared.setting.Setting.{Setting}
-use Rattle.cob_interp.specs.Ends.{told_files}
-use Rattle.cob_interp.specs.Told.{seen, seen_file, seen_files, AreSynced, IsSyncedIn, IsSynced, AreDistinct}
+use Rattle.cob_interp.specs.Ends.{told_files, UnlessRefused}
+use Rattle.cob_interp.specs.Told.{seen, seen_file, seen_files, AreSynced, IsSyncedIn, IsSynced, AreDistinct, IsOutIn, IsOut}
 use Rattle.cob_interp.specs.Setting.{paths_of}
 use Rattle.cob_interp.specs.Tracking.{IsOpen, purpose_in, KeepsPlaces}
-use Rattle.cob_interp.specs.Readying.{GoesOut, emptied_in, emptied_file, emptied_on, emptied, SeesIn, Sees}
-use Rattle.cob_interp.specs.Touching.{ShutsOnly, ClosesIn, ClosesOnly}
-use Rattle.cob_interp.specs.Running.{Outside, outside, IfTold, StandsIn, StandsIf, Stands, RestsIn, Rests}
+use Rattle.cob_interp.specs.Readying.{Keeps, GoesOut, IsRefusal, emptied_in, emptied_file, emptied_on, emptied, AreEmptied, Sees}
+use Rattle.cob_interp.specs.Touching.{IsPartOf, Touches, ShutsOnly, ClosesOnly}
+use Rattle.cob_interp.specs.Running.{Outside, outside, IfTold, StandsIn, StandsIf, Stands, IsUnderway, RestsIn, Rests}
 use Rattle.cob_interp.proofs.SeenFiles.{seen_set, synced_set, seen_in_same, synced_same}
 use Rattle.cob_interp.proofs.Waiting.{out_seen}
 use Rattle.cob_interp.proofs.OpenLemmas.{seen_file_at, get_set}
@@ -61,6 +63,46 @@ module _ (s : Setting) (apart : AreDistinct (paths_of s)) (w : World) (place : �
   files_ : (emptied place w).files ≡ slice_set w.files place (emptied_file out.file)
   files_ = emptied_files w place out.file out.has
 
+  module _ (told : Contents) (known_ : Option Contents)
+      (k : Keeps told known_ out.path (λ now. IsOut told now out.path out.file)) where
+    each_out : (p : ℕ) (q : List ℕ) (g : File) → slice_get (paths_of s) p ≡ Some q → slice_get w.files p ≡ Some g
+        → IsSynced told q g
+        → (h : File) × (slice_get (emptied place w).files p ≡ Some h) × IsSynced k.now q h
+        × (seen_file k.now q h ≡ seen_file told q g)
+    each_out p q g at has synced = elim (apart_or_same (paths_of s) place p out.path q apart out.is.path_ at) [
+      | inl here ↦
+          let at_here : slice_get (paths_of s) p ≡ Some out.path =
+          subst (λ (n : ℕ). slice_get (paths_of s) n ≡ Some out.path) here out.is.path_ in
+          let has_here : slice_get w.files p ≡ Some out.file =
+          subst (λ (n : ℕ). slice_get w.files n ≡ Some out.file) here out.has in
+          let same_path : out.path ≡ q = cc in
+          let same_file : out.file ≡ g = cc in
+          let own : IsSynced told out.path out.file =
+          subst (λ (x : List ℕ). IsSynced told x out.file) (sym same_path)
+          (subst (λ (x : File). IsSynced told q x) (sym same_file) synced) in
+          let sees = out_seen told k.now out.path out.file k.it own in (
+            emptied_file out.file,
+            subst (λ (n : ℕ). slice_get (emptied place w).files n ≡ Some (emptied_file out.file)) here
+                (ap (λ (fs : List File). slice_get fs place) files_
+                ∙ get_set w.files place out.file (emptied_file out.file) out.has),
+            subst (λ (x : List ℕ). IsSynced k.now x (emptied_file out.file)) same_path sees.1,
+            subst (λ (x : List ℕ). seen_file k.now x (emptied_file out.file) ≡ seen_file told x g) same_path
+                (sees.0 ∙ ap (seen_file told out.path) same_file),
+          )
+      | inr differ ↦
+          let apart_ : (p ≡ place) → ⊥ =
+          λ same. let there : slice_get (paths_of s) place ≡ Some q =
+          subst (λ (n : ℕ). slice_get (paths_of s) n ≡ Some q) same at in
+          let is = out.is.path_ in
+          let e_ : q ≡ out.path = cc in differ e_ in (
+            g,
+            ap (λ (fs : List File). slice_get fs p) files_
+                ∙ get_set_other w.files place p (emptied_file out.file) apart_ ∙ has,
+            synced_same told k.now q (k.others q differ) g.mode g.content g.place synced,
+            seen_in_same told k.now q (k.others q differ) g.mode g,
+          )
+    ]
+
   pub sees_out : Sees (paths_of s) old new w (emptied place w)
   sees_out = record {
     well = out.ready.well;
@@ -83,58 +125,50 @@ module _ (s : Setting) (apart : AreDistinct (paths_of s)) (w : World) (place : �
                     (synced_set told k.now out.path k.others (emptied_file out.file) (paths_of s) w.files place apart synced
                     out.is.path_ sees.1),
               );
+          each = each_out told (known_bytes new) k;
           others = others_keep told told k.now (paths_of s) place out.path out.is.path_ k.others (λ name none. refl);
         };
   }
 
-  pub closes_out : ClosesOnly (paths_of s) old new w (emptied place w)
-  closes_out = record {
-    known = λ told e.
-        let k = out.ready.known told e in
-        record {
-          now = k.now;
-          is = k.is;
-          each = λ p q g at has synced. elim (apart_or_same (paths_of s) place p out.path q apart out.is.path_ at) [
-            | inl here ↦
-                let at_here : slice_get (paths_of s) p ≡ Some out.path =
-                subst (λ (n : ℕ). slice_get (paths_of s) n ≡ Some out.path) here out.is.path_ in
-                let has_here : slice_get w.files p ≡ Some out.file =
-                subst (λ (n : ℕ). slice_get w.files n ≡ Some out.file) here out.has in
-                let same_path : out.path ≡ q = cc in
-                let same_file : out.file ≡ g = cc in
-                let own : IsSynced told out.path out.file =
-                subst (λ (x : List ℕ). IsSynced told x out.file) (sym same_path)
-                (subst (λ (x : File). IsSynced told q x) (sym same_file) synced) in
-                let sees = out_seen told k.now out.path out.file k.it own in (
-                  emptied_file out.file,
-                  subst (λ (n : ℕ). slice_get (emptied place w).files n ≡ Some (emptied_file out.file)) here
-                      (ap (λ (fs : List File). slice_get fs place) files_
-                      ∙ get_set w.files place out.file (emptied_file out.file) out.has),
-                  subst (λ (x : List ℕ). IsSynced k.now x (emptied_file out.file)) same_path sees.1,
-                  inl (subst (λ (x : List ℕ). seen_file k.now x (emptied_file out.file) ≡ seen_file told x g) same_path
-                      (sees.0 ∙ ap (seen_file told out.path) same_file)),
-                )
-            | inr differ ↦
-                let apart_ : (p ≡ place) → ⊥ =
-                λ same. let there : slice_get (paths_of s) place ≡ Some q =
-                subst (λ (n : ℕ). slice_get (paths_of s) n ≡ Some q) same at in
-                let is = out.is.path_ in
-                let e_ : q ≡ out.path = cc in differ e_ in (
-                  g,
-                  ap (λ (fs : List File). slice_get fs p) files_
-                      ∙ get_set_other w.files place p (emptied_file out.file) apart_ ∙ has,
-                  synced_same told k.now q (k.others q differ) g.mode g.content g.place synced,
-                  inl (seen_in_same told k.now q (k.others q differ) g.mode g),
-                )
-          ];
-        };
+  -- a file of which nothing waits
+  again_in : (now : Contents) (content : Option (List ℕ)) (m : Mode) (at : ℕ)
+      → IsOutIn now now out.path (emptied_in m (file content m at)).mode (emptied_in m (file content m at))
+  again_in now content closed at = refl
+  again_in now content (reading ended) at = refl
+  again_in now content writing at = λ bytes is. is ∙ ap (λ (x : List ℕ). Some x) (sym (append-nil bytes))
+
+  -- what waited went out already
+  pub out_again : GoesOut s (emptied place w) place new new
+  out_again = record {
+    path = out.path;
+    file = emptied_file out.file;
+    is = out.is;
+    has = ap (λ (fs : List File). slice_get fs place) files_
+        ∙ get_set w.files place out.file (emptied_file out.file) out.has;
+    ready = record {
+      well = record { reading = refl; writing = refl };
+      known = λ told e. record {
+        now = told;
+        is = e;
+        others = λ name differ. refl;
+        it = again_in told out.file.content out.file.mode out.file.place;
+      };
+    };
   }
 
 -- ---- closes
 
-pub closes_stay : (paths : List (List ℕ)) (a : FilesState) (w : World) → ClosesOnly paths a a w w
-closes_stay paths a w = record {
-  known = λ told e. record { now = told; is = e; each = λ place path f at has s. (f, has, s, inl refl) };
+pub sees_closes : (paths : List (List ℕ)) (a b : FilesState) (w v : World) → Sees paths a b w v → ClosesOnly paths a b w v
+sees_closes paths a b w v sees = record {
+  known = λ told e.
+      let k = sees.known told e in
+      record {
+        now = k.now;
+        is = k.is;
+        each = λ place path f at has s.
+            let g = k.each place path f at has s in
+            (g.0, g.1, g.2, inl g.3);
+      };
 }
 
 closed_synced : (told : Contents) (path : List ℕ) (f : File) → f.mode ≡ closed → IsSynced told path f
@@ -190,6 +224,17 @@ closes_pass paths a b c w v u first then_ = record {
             (x.0, x.1, x.2, closed_on told h.now k.now path f g.0 x.0 g.3 x.3);
       };
 }
+
+-- behind the CLOSE of a file of which nothing waits
+pub closes_behind : (s : Setting) (apart : AreDistinct (paths_of s)) (w : World) (place : ℕ) (old new : FilesState)
+    → GoesOut s w place old new → (v : World) (result : Result ℕ RunEnd)
+    → UnlessRefused result (ShutsOnly (emptied place w) v)
+    → IfOk result (λ _. ClosesOnly (paths_of s) old new w v)
+closes_behind s apart w place old new out v (Ok to) shuts =
+    closes_pass (paths_of s) old new new w (emptied place w) v
+    (sees_closes (paths_of s) old new w (emptied place w) (sees_out s apart w place old new out))
+    (closes_shut (paths_of s) new (emptied place w) v shuts)
+closes_behind s apart w place old new out v (Err e) shuts = tt
 
 -- ---- the run goes on standing
 
@@ -264,6 +309,7 @@ sees_stay paths a w = record {
     now = told;
     is = e;
     same = λ synced. (refl, synced);
+    each = λ place path f at has synced. (f, has, synced, refl);
     others = λ name none. refl;
   };
 }
@@ -283,6 +329,108 @@ sees_pass paths a b c w v u h k = record {
             let first = x.same synced in
             let then_ = y.same first.1 in
             (then_.0 ∙ first.0, then_.1);
+        each = λ place path f at has synced.
+            let g = x.each place path f at has synced in
+            let i = y.each place path g.0 at g.1 g.2 in
+            (i.0, i.1, i.2, i.3 ∙ g.3);
         others = λ name none. y.others name none ∙ x.others name none;
       };
 }
+
+-- a step that is underway goes on so
+pub underway_sees : (p : Program) (g : Graph) (paths : List (List ℕ)) (start : Outside) (sink : SinkState)
+    (old new : FilesState) (w v : World) → Sees paths old new w v → (step node : ℕ)
+    → IsUnderway p g paths start (outside old sink) w step node
+    → IsUnderway p g paths start (outside new sink) v step node
+underway_sees p g paths start sink old new w v sees step node u = record {
+  left = u.left;
+  stands = stands_sees p g paths start sink old new w v sees u.left step node u.stands;
+  counts = u.counts;
+}
+
+-- what is left then is what a later call leaves
+pub touches_sees : (paths : List (List ℕ)) (makes : ℕ → Bool) (a b c : FilesState) (w v : World) → Sees paths a b w v
+    → Touches paths makes v b c → Touches paths makes w a c
+touches_sees paths makes a b c w v sees touches = record {
+  known = λ told e.
+      let h = sees.known told e in
+      let k = touches.known h.now h.is in
+      record {
+        now = k.now;
+        is = k.is;
+        touches = record {
+          its = λ place path f at has s.
+              let g = h.each place path f at has s in
+              subst (λ (x : File). IsPartOf (makes place) x x.content (get k.now path)) g.3
+              (k.touches.its place path g.0 at g.1 g.2);
+          others = λ name none. k.touches.others name none ∙ h.others name none;
+        };
+      };
+}
+
+-- ---- what waits of a file goes out, or that is refused
+
+module _ (s : Setting) (w v : World) (place : ℕ) (old new : FilesState) (result : Result (Unit {0}) RunEnd)
+    (goes : MatchResult result (λ _. GoesOut s w place old new) (λ e. IsRefusal old new e))
+    (is : IfOk result (λ _. v ≡ emptied place w)) where
+  abbrev Goes : Result (Unit {0}) RunEnd → Type 0
+  Goes r = MatchResult r (λ _. GoesOut s w place old new) (λ e. IsRefusal old new e)
+
+  abbrev Empties : Result (Unit {0}) RunEnd → Type 0
+  Empties r = IfOk r (λ _. v ≡ emptied place w)
+
+  pub sees_behind : AreDistinct (paths_of s)
+      → MatchResult result (λ _. Sees (paths_of s) old new w v) (λ e. IsRefusal old new e)
+  sees_behind apart = by result goes is where
+    by : (r : Result (Unit {0}) RunEnd) → Goes r → Empties r
+        → MatchResult r (λ _. Sees (paths_of s) old new w v) (λ e. IsRefusal old new e)
+    by (Ok u) out e = subst (λ (x : World). Sees (paths_of s) old new w x) (sym e) (sees_out s apart w place old new out)
+    by (Err e) refusal e_ = refusal
+
+  pub keeps_behind : IfOk result (λ _. KeepsPlaces w.files v.files)
+  keeps_behind = by result goes is where
+    by : (r : Result (Unit {0}) RunEnd) → Goes r → Empties r → IfOk r (λ _. KeepsPlaces w.files v.files)
+    by (Ok u) out e = subst (λ (x : World). KeepsPlaces w.files x.files) (sym e) (emptied_keeps w place out.file out.has)
+    by (Err e) refusal e_ = tt
+
+-- ---- files of which nothing waits
+
+emptied_bytes : (content : Option (List ℕ)) (m : Mode) (at : ℕ) → (emptied_in m (file content m at)).mode ≡ writing
+    → bytes_in (emptied_in m (file content m at)) ≡ []
+emptied_bytes content closed at e = cc
+emptied_bytes content (reading ended) at e = cc
+emptied_bytes content writing at e = refl
+
+below_next : (place count : ℕ) → place < count + 1 → (place ≡ count → ⊥) → place < count
+below_next place count below apart = elim (cases_order place count) [
+  | inl same ↦ absurd (apart same)
+  | inr (inl less) ↦ less
+  | inr (inr more) ↦ absurd (omega (arith, below, more))
+]
+
+emptied_on_next : (fs : List File) (count : ℕ) (o : Option File) → slice_get fs count ≡ o → AreEmptied fs count
+    → AreEmptied (emptied_on count fs o) (count + 1)
+emptied_on_next fs count None none all place f below has mode_ = elim (cases_eq place count) [
+  | inl here ↦
+      let at : slice_get fs count ≡ Some f = subst (λ (n : ℕ). slice_get fs n ≡ Some f) here has in
+      cc
+  | inr apart ↦ all place f (below_next place count below apart) has mode_
+]
+emptied_on_next fs count (Some g) is all place f below has mode_ = elim (cases_eq place count) [
+  | inl here ↦
+      let at : slice_get (slice_set fs count (emptied_file g)) count ≡ Some f =
+      subst (λ (n : ℕ). slice_get (slice_set fs count (emptied_file g)) n ≡ Some f) here has in
+      let set = get_set fs count g (emptied_file g) is in
+      let same : emptied_file g ≡ f = cc in
+      subst (λ (x : File). bytes_in x ≡ []) same
+      (emptied_bytes g.content g.mode g.place (ap (λ (x : File). x.mode) same ∙ mode_))
+  | inr apart ↦
+      all place f (below_next place count below apart)
+      (sym (get_set_other fs count place (emptied_file g) apart) ∙ has) mode_
+]
+
+pub emptied_next : (w : World) (count : ℕ) → AreEmptied w.files count → AreEmptied (emptied count w).files (count + 1)
+emptied_next w count all = emptied_on_next w.files count (slice_get w.files count) refl all
+
+pub emptied_none : (fs : List File) → AreEmptied fs 0
+emptied_none fs place f below has mode_ = absurd (omega (arith, below))

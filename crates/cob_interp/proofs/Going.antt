@@ -8,14 +8,14 @@ use Rattle.cob_interp.specs.declared.ends.RunEnd.{RunEnd}
 use Rattle.cob_interp.specs.declared.setting.Setting.{Setting}
 use Rattle.cob_interp.specs.Setting.{paths_of}
 use Rattle.cob_interp.specs.Told.{IsOut}
-use Rattle.cob_interp.specs.Tracking.{Ids, ArePlaced}
+use Rattle.cob_interp.specs.Tracking.{Ids, AreWritten}
 use Rattle.cob_interp.specs.Readying.{IsRefusal, IsNamed, IsPath, Readies, GoesOut}
 
 module _ (s : Setting) (w : World) (place : ℕ) (old new : FilesState) (ids : Ids) (path : List ℕ) (f : File)
     (is : IsPath s place path) (has : slice_get w.files place ≡ Some f)
-    (placed : ArePlaced (paths_of s) old ids w.files) where
+    (written : AreWritten (paths_of s) old ids w.files) where
   pub named_at : IsNamed old ids place path f
-  named_at id writes held open_ = placed.stand place id writes path f held is.path_ has open_
+  named_at id writes held mode_ = written.stand place id writes path f held is.path_ has mode_
 
   pub goes_by : (result : Result (Unit {0}) RunEnd)
       → MatchResult result

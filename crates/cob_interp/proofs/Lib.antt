@@ -21,6 +21,7 @@ pub mod Windows
 pub mod Readied
 pub mod Purposes
 pub mod Places
+pub mod Written
 pub mod StepLemmas
 pub mod CallLemmas
 pub mod Beginnings

@@ -1,9 +1,10 @@
 -- Where ids stand behind an OPEN, a CLOSE and a READ.
 use Rattle.std.proofs.Common.{◌≡◌, ◌≢◌, ℕ, ◌+◌, ◌<◌, ◌⊎◌, Bool, true, false, List, [], length, Option, Some, None, Result, Ok, Err, inl, inr, refl, sym, ap, subst, ◌∙◌, take_all, arith}
-use Rattle.std.specs.Prelude.{Contains, slice_get, slice_set, option_map, IsSome, IfSome, IfOk}
+use Rattle.std.specs.Prelude.{Contains, slice_get, slice_set, option_map, IsSome, IfSome}
 use Rattle.std.proofs.lemmas.Bool.{cases_eq, false≢true}
 use Rattle.std.proofs.lemmas.Bool.Decides.{nat_tests}
 use Rattle.batch_io.specs.FilesState.{FilesState, Handle, Purpose, Reading, known_handle, moved_by}
+use Rattle.cob_tree.specs.declared.fault.Kind.{Kind}
 use Rattle.cob_data.specs.declared.layout.FileDecl.{FileDecl}
 use Rattle.cob_data.specs.declared.layout.Layout.{Layout}
 use Rattle.cob_runs.specs.Files.{File, file, Mode, closed, reading, writing, opened, Taken, taken_from, record_at, after_read}
@@ -16,14 +17,14 @@ use Rattle.cob_interp.specs.Readying.{GivesWindow, IsReadOn, settled, settled_fi
 use Rattle.cob_program.specs.declared.act.Opening.{Opening}
 use Rattle.cob_interp.specs.Readying.{StandsOrBegins}
 use Rattle.cob_interp.proofs.Places.{got_in_set, set_keeps_as}
-use Rattle.cob_interp.proofs.TrackLemmas.{get_set_other, same_slot, stand_on, placed_on, places_stay, places_pass}
+use Rattle.cob_interp.proofs.TrackLemmas.{get_set_other, same_slot, stand_on, places_stay}
 use Rattle.cob_interp.proofs.Purposes.{map_set, purposes_set, purposes_kept}
 use Rattle.cob_interp.proofs.OneFile.{takes, from_place, from_end}
 use Rattle.cob_plan.specs.declared.node.Op.TheVariants as op
 use Rattle.cob_plan.specs.Plan.{op_edges}
 use Rattle.cob_program.specs.Act.{Act, Phrase, Stmts, open_files, read}
 use Rattle.cob_runs.specs.declared.action.Action.{Action}
-use Rattle.cob_runs.specs.Effects.{act_at, effect, effect_of}
+use Rattle.cob_runs.specs.Effects.{Effect, act_at, effect, effect_of}
 use Rattle.cob_interp.specs.declared.ends.RunEnd.{RunEnd}
 use Rattle.cob_interp.specs.declared.setting.Setting.{Setting}
 use Rattle.cob_interp.specs.declared.setting.Place.{Place}
@@ -31,8 +32,10 @@ use Rattle.cob_interp.specs.Setting.{program_of, paths_of}
 use Rattle.cob_interp.specs.Doing.{IsPlain, DoesPart}
 use Rattle.cob_interp.proofs.Onward.{effect_by_act}
 use Rattle.cob_interp.proofs.Following.{plain_edge}
-use Rattle.cob_interp.proofs.Places.{plain_keeps, where_keeps}
-use Rattle.cob_interp.proofs.Closings.{EndsAt, where_done, open_edge_is}
+use Rattle.cob_interp.specs.Ends.{UnlessRefused}
+use Rattle.cob_interp.proofs.CallsLead.{never_faults}
+use Rattle.cob_interp.proofs.Places.{plain_keeps, same_keeps, where_keeps}
+use Rattle.cob_interp.proofs.Closings.{EndsAt, where_done, open_done}
 use Rattle.cob_interp.proofs.ReadLemmas.{get_set, three, taken_test, kept_files}
 
 -- ---- handles
@@ -105,17 +108,6 @@ module _ (old new : FilesState) (paths : List (List ℕ)) (ids : Ids) (live : Ar
   }
 
 -- ---- an OPEN and a CLOSE
-
-pub placed_behind : (paths : List (List ℕ)) (a : FilesState) (ids : Ids) (fs gs : List File) {A E : Type 0}
-    (result : Result A E) → IfOk result (λ _. KeepsPlaces fs gs) → ArePlaced paths a ids fs
-    → IfOk result (λ _. ArePlaced paths a ids gs)
-placed_behind paths a ids fs gs (Ok x) keeps placed = placed_on paths a ids fs gs keeps placed
-placed_behind paths a ids fs gs (Err e) keeps placed = tt
-
-pub places_behind : (fs gs hs : List File) {A E : Type 0} (result : Result A E) → KeepsPlaces fs gs
-    → IfOk result (λ _. KeepsPlaces gs hs) → IfOk result (λ _. KeepsPlaces fs hs)
-places_behind fs gs hs (Ok x) first then_ = places_pass fs gs hs first then_
-places_behind fs gs hs (Err e) first then_ = tt
 
 module _ (l : Layout) (paths : List (List ℕ)) (old new : FilesState) (before after : Ids) (w : World) (o : Opening)
     (path : List ℕ) (f : File) (at : slice_get paths o.file ≡ Some path) (has : slice_get w.files o.file ≡ Some f)
@@ -222,14 +214,13 @@ module _ (l : Layout) (paths : List (List ℕ)) (old new : FilesState) (before a
 
 -- where a file is closed
 pub placed_ends : (paths : List (List ℕ)) (old new : FilesState) (before after : Ids) (fs gs : List File) (place : ℕ)
-    {A E : Type 0} (result : Result A E) → IfOk result (λ _. EndsAt fs place gs) → ArePlaced paths old before fs
-    → StandAt paths new after fs → after ≡ slice_set before place None → IfOk result (λ _. ArePlaced paths new after gs)
-placed_ends paths old new before after fs gs place (Ok x) ends placed stand is = record {
+    → EndsAt fs place gs → ArePlaced paths old before fs → StandAt paths new after fs
+    → after ≡ slice_set before place None → ArePlaced paths new after gs
+placed_ends paths old new before after fs gs place ends placed stand is = record {
   stand = stand_on paths new after fs gs ends.0 stand;
   purposes = ap purposes_for is ∙ map_set purpose_for before place None
       ∙ ap (λ (ps : List (Option Purpose)). slice_set ps place None) placed.purposes ∙ sym ends.1;
 }
-placed_ends paths old new before after fs gs place (Err e) ends placed stand is = tt
 
 -- ---- the part of a node
 
@@ -237,50 +228,70 @@ module _ (s : Setting) (x : Place) (step : ℕ) (w v : World) (b : Act)
     (its : act_at (program_of s) x.statement.now.number ≡ Some b) (result : Result ℕ RunEnd)
     (does : DoesPart s x step w v result) where
   -- where no file is opened, closed or read
-  pub plain_places : IsPlain x.plan_node.now.op b → IfOk result (λ _. KeepsPlaces w.files v.files)
+  pub plain_places : IsPlain x.plan_node.now.op b → UnlessRefused result (KeepsPlaces w.files v.files)
   plain_places plain =
       where_done s x step w v (KeepsPlaces w.files v.files) x.plan_node.now.op refl
       (λ a m out does_. where_keeps w v (effect_of (program_of s) x.statement.now.number None w a b)
       (plain_keeps (program_of s) x.statement.now.number w a b (plain_edge x.plan_node.now.op b plain a m out))
-      (sym (effect_by_act (program_of s) x.statement.now.number w a b its) ∙ does_)) result does
+      (sym (effect_by_act (program_of s) x.statement.now.number w a b its) ∙ does_))
+      (λ kind a m out meets others. same_keeps w.files v.files (ap (λ (u : World). u.files) others)) result does
 
   -- where a file is opened
   pub open_places : (os : List Opening) (k fine bad : ℕ) → b ≡ open_files os → x.plan_node.now.op ≡ op.Open k fine bad
       → (o : Opening) → slice_get os k ≡ Some o → (paths : List (List ℕ)) (new : FilesState) (after : Ids)
       → ArePlaced paths new after (open_one s.program.now.layout o w).0.files
-      → IfOk result (λ _. ArePlaced paths new after v.files)
+      → UnlessRefused result (ArePlaced paths new after v.files)
   open_places os k fine bad is op_is o at paths new after placed =
-      where_done s x step w v (ArePlaced paths new after v.files) (op.Open k fine bad) op_is
-      (open_edge_is (program_of s) x.statement.now.number k w v os (its ∙ ap Some is)
-      (λ (u : World). ArePlaced paths new after u.files)
+      open_done s x step w v (λ (u : World). ArePlaced paths new after u.files) os k fine bad op_is (its ∙ ap Some is)
       (λ o_ at_. let same : o ≡ o_ = cc in
       subst (λ (y : Opening). ArePlaced paths new after (open_one s.program.now.layout y w).0.files) same placed)
-      fine bad) result does
+      result does
 
   -- where a file is read
   module _ (f : ℕ) (into : Option ℕ) (end_ : Phrase) (fine_ : Stmts) (is_read : b ≡ read f into end_ fine_) where
     its_read : act_at (program_of s) x.statement.now.number ≡ Some (read f into end_ fine_)
     its_read = its ∙ ap Some is_read
 
-    abbrev of : Action → Type 0
-    of a = effect_of (program_of s) x.statement.now.number None w a (read f into end_ fine_) ≡ Ok (Some v)
+    abbrev of : Effect → Action → Type 0
+    of e a = effect_of (program_of s) x.statement.now.number None w a (read f into end_ fine_) ≡ e
+
+    own : (e : Effect) (a : Action) → effect (program_of s) x.statement.now.number None w a ≡ e → of e a
+    own e a does_ = sym (effect_by_act (program_of s) x.statement.now.number w a (read f into end_ fine_) its_read) ∙ does_
+
+    abbrev done : Effect
+    done = Ok (Some v)
+
+    abbrev faulty : Kind → Effect
+    faulty kind = Err kind
 
     by_edge : (found end_to bad : ℕ) (a : Action) (m : ℕ) → Contains (op_edges (op.Read found end_to bad)) (a, m)
         → effect (program_of s) x.statement.now.number None w a ≡ Ok (Some v)
         → v ≡ (take_one s.program.now.layout None f w).0
     by_edge found end_to bad a m out does_ =
-        let h = sym (effect_by_act (program_of s) x.statement.now.number w a (read f into end_ fine_) its_read) ∙ does_ in
+        let h = own done a does_ in
         elim (three _ _ _ _ out) [
-          | inl e ↦ sym (taken_test _ _ _ (subst (λ (y : Action × ℕ). of y.0) (sym e) h)).1
-          | inr (inl e) ↦ sym (taken_test _ _ _ (subst (λ (y : Action × ℕ). of y.0) (sym e) h)).1
-          | inr (inr e) ↦ sym (taken_test _ _ _ (subst (λ (y : Action × ℕ). of y.0) (sym e) h)).1
+          | inl e ↦ sym (taken_test _ _ _ (subst (λ (y : Action × ℕ). of done y.0) (sym e) h)).1
+          | inr (inl e) ↦ sym (taken_test _ _ _ (subst (λ (y : Action × ℕ). of done y.0) (sym e) h)).1
+          | inr (inr e) ↦ sym (taken_test _ _ _ (subst (λ (y : Action × ℕ). of done y.0) (sym e) h)).1
+        ]
+
+    by_edge_sound : (found end_to bad : ℕ) (kind : Kind) (a : Action) (m : ℕ)
+        → Contains (op_edges (op.Read found end_to bad)) (a, m)
+        → effect (program_of s) x.statement.now.number None w a ≡ Err kind → ⊥
+    by_edge_sound found end_to bad kind a m out meets =
+        let h = own (faulty kind) a meets in
+        elim (three _ _ _ _ out) [
+          | inl e ↦ never_faults _ _ kind (subst (λ (y : Action × ℕ). of (faulty kind) y.0) (sym e) h)
+          | inr (inl e) ↦ never_faults _ _ kind (subst (λ (y : Action × ℕ). of (faulty kind) y.0) (sym e) h)
+          | inr (inr e) ↦ never_faults _ _ kind (subst (λ (y : Action × ℕ). of (faulty kind) y.0) (sym e) h)
         ]
 
     pub read_done : (found end_to bad : ℕ) → x.plan_node.now.op ≡ op.Read found end_to bad
-        → IfOk result (λ _. v ≡ (take_one s.program.now.layout None f w).0)
+        → UnlessRefused result (v ≡ (take_one s.program.now.layout None f w).0)
     read_done found end_to bad op_is =
         where_done s x step w v (v ≡ (take_one s.program.now.layout None f w).0) (op.Read found end_to bad) op_is
-        (by_edge found end_to bad) result does
+        (by_edge found end_to bad)
+        (λ kind a m out meets others. absurd (by_edge_sound found end_to bad kind a m out meets)) result does
 
 -- ---- behind a READ
 

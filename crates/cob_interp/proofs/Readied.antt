@@ -8,7 +8,7 @@ use Rattle.cob_interp.specs.declared.setting.Setting.{Setting}
 use Rattle.cob_interp.specs.Readying.{AreWell, Keeps, GoesOut, ClosesFor}
 use Rattle.cob_interp.specs.Touching.{IsTouched, Touches}
 use Rattle.cob_interp.specs.Told.{IsOut}
-use Rattle.cob_interp.specs.Tracking.{Ids, AreOpen, StandAt}
+use Rattle.cob_interp.specs.Tracking.{Ids, AreOpen, StandAt, ArePlaced}
 
 module _ (paths : List (List ℕ)) (a b : FilesState) (fs : List File) where
   pub stand_ids : (ids : Ids) → KeepsIds a b → AreOpen a ids → StandAt paths a ids fs → StandAt paths b ids fs
@@ -16,6 +16,12 @@ module _ (paths : List (List ℕ)) (a b : FilesState) (fs : List File) where
       subst (λ (o : Option Handle). IfSome o (λ handle. handle ≡ record { name = path; place = f.place }))
       (sym (keeps.handle id (subst (λ (o : Option Purpose). IsSome o) (sym (live.purpose place id writes is)) refl)))
       (stand place id writes path f is at has reads)
+
+  pub placed_ids : (ids : Ids) → KeepsIds a b → AreOpen a ids → ArePlaced paths a ids fs → ArePlaced paths b ids fs
+  placed_ids ids keeps live placed = record {
+    stand = stand_ids ids keeps live placed.stand;
+    purposes = placed.purposes;
+  }
 
   pub stand_closed : (before after : Ids) (place : ℕ) → ClosesFor a b before after place → StandAt paths a before fs
       → StandAt paths b after fs

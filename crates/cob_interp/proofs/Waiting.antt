@@ -10,7 +10,7 @@ use Rattle.cob_world.specs.declared.files.FileMode.{FileMode}
 use Rattle.cob_world.specs.declared.files.FileMode.TheVariants as mode
 use Rattle.cob_world.specs.Views.{plain_mode}
 use Rattle.cob_interp.specs.Told.{seen_file, IsSyncedIn, IsSynced, IsOutIn, IsOut, AgreeBut}
-use Rattle.cob_interp.specs.Tracking.{Ids, IsOpen}
+use Rattle.cob_interp.specs.Tracking.{Ids}
 use Rattle.cob_interp.specs.Touching.{IsPartOf, TouchesOne}
 use Rattle.cob_interp.specs.declared.ends.RunEnd.{RunEnd}
 use Rattle.cob_interp.specs.Readying.{IsRefusal, Readies, IsNamed, PutsUnder, PutsUnderPart, emptied_in, emptied_file}
@@ -81,16 +81,13 @@ untouched_one a path f = record {
 
 module _ (old new : FilesState) (ids : Ids) (place : ℕ) (path : List ℕ) (f : File) (named : IsNamed old ids place path f)
     (mode_ : f.mode ≡ writing) where
-  open_ : IsOpen f.mode
-  open_ = subst IsOpen (sym mode_) tt
-
   pub put_readies : PutsUnder old new ids place (bytes_in f)
       → Readies old new path (λ told now. IsOut told now path f)
   put_readies puts = record {
     well = puts.well;
     known = λ told e. record {
       now = appended told path (bytes_in f);
-      is = puts.grows ∙ grown_by old.told puts.id told path f.place (bytes_in f) e (named puts.id true puts.is open_);
+      is = puts.grows ∙ grown_by old.told puts.id told path f.place (bytes_in f) e (named puts.id true puts.is mode_);
       others = appended_agrees told path (bytes_in f);
       it = subst (λ (m : Mode). IsOutIn told (appended told path (bytes_in f)) path m f) (sym mode_)
           (λ front is. appended_gets told path (bytes_in f) front is);
@@ -107,11 +104,14 @@ module _ (old new : FilesState) (ids : Ids) (place : ℕ) (path : List ℕ) (f :
       let w = bytes_in (file content writing at) in
       let front : take (length s.0 + n) (bytes_at told path ++ w) ≡ s.0 ++ take n w =
       ap (λ (c : Option (List ℕ)). take (length s.0 + n) (unwrap_or c [] ++ w)) s.1 ∙ take-append-add s.0 w n in
-      inr (inl (refl, (
-        length s.0 + n,
-        appended_gets told path (take n b) s.0 s.1
-            ∙ ap (λ (x : List ℕ). Some (s.0 ++ take n x)) is ∙ ap (λ (x : List ℕ). Some x) (sym front),
-      )))
+      inr (inl (
+        refl,
+        (
+          length s.0 + n,
+          appended_gets told path (take n b) s.0 s.1
+              ∙ ap (λ (x : List ℕ). Some (s.0 ++ take n x)) is ∙ ap (λ (x : List ℕ). Some x) (sym front),
+        ),
+      ))
 
   pub put_touches : PutsUnderPart old new ids place (bytes_in f) → TouchesOne old new path f
   put_touches puts = record {
@@ -119,7 +119,7 @@ module _ (old new : FilesState) (ids : Ids) (place : ℕ) (path : List ℕ) (f :
       now = appended told path (take puts.front.0 (bytes_in f));
       is = puts.front.1
           ∙ grown_by old.told puts.id told path f.place (take puts.front.0 (bytes_in f)) e
-          (named puts.id true puts.is open_);
+          (named puts.id true puts.is mode_);
       others = appended_agrees told path (take puts.front.0 (bytes_in f));
       it = λ s. part_put told puts.front.0 f.content f.mode f.place mode_ s (bytes_in f) refl;
     };

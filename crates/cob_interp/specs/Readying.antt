@@ -13,7 +13,7 @@ use Rattle.cob_runs.specs.Acts.{decl_at}
 use Rattle.cob_interp.specs.declared.ends.RunEnd.{RunEnd}
 use Rattle.cob_interp.specs.declared.ends.RunEnd.TheVariants as end
 use Rattle.cob_interp.specs.declared.setting.Setting.{Setting}
-use Rattle.cob_interp.specs.Told.{seen, seen_files, AreSynced, AgreeBut, KeepsNames, IsReadyToOpen, IsOut}
+use Rattle.cob_interp.specs.Told.{seen, seen_file, seen_files, IsSynced, AreSynced, AgreeBut, KeepsNames, IsReadyToOpen, IsOut}
 use Rattle.cob_interp.specs.Tracking.{Ids, IsHeld, IsOpen, purpose_in, purposes_of, purposes_for, KeepsPlaces}
 use Rattle.cob_interp.specs.Setting.{paths_of}
 
@@ -67,10 +67,10 @@ pub record PutsUnderPart (old new : FilesState) (ids : Ids) (place : ℕ) (bytes
   pub is : IsHeld ids place true id
   pub front : (n : ℕ) × Grows old new id (take n bytes)
 
--- What is told of the id at a place is this path.
+-- What is told of the id at a place, where its file is written, is this path.
 abbrev pub IsNamed : FilesState → Ids → ℕ → List ℕ → File → Type 0
 IsNamed state ids place path f =
-    (id : ℕ) (writes : Bool) → IsHeld ids place writes id → IsOpen f.mode
+    (id : ℕ) (writes : Bool) → IsHeld ids place writes id → f.mode ≡ writing
     → IfSome (known_handle state id) (λ handle. handle ≡ record { name = path; place = f.place })
 
 -- What waits of the file at a place went out.
@@ -110,6 +110,10 @@ pub record SeesIn (paths : List (List ℕ)) (w v : World) (told : Contents) (kno
   pub is : known ≡ Some now
   pub same : AreSynced told paths w.files
       → (seen_files now paths v.files ≡ seen_files told paths w.files) × AreSynced now paths v.files
+  pub each : (place : ℕ) (path : List ℕ) (f : File) → slice_get paths place ≡ Some path
+      → slice_get w.files place ≡ Some f → IsSynced told path f
+      → (g : File) × (slice_get v.files place ≡ Some g) × IsSynced now path g
+      × (seen_file now path g ≡ seen_file told path f)
   pub others : KeepsNames told now paths
 
 pub record Sees (paths : List (List ℕ)) (old new : FilesState) (w v : World) : Type 0 where

@@ -1,8 +1,10 @@
 -- Which ids are open for the files that are read and written, and where they stand.
-use Rattle.std.specs.Prelude.{◌≡◌, ℕ, Bool, true, false, List, map, slice_get, Option, Some, None, IsSome, IfSome}
+use Rattle.std.specs.Prelude.{◌≡◌, ℕ, Bool, true, false, List, map, slice_get, Option, Some, None, IsSome, IfSome, Result, MatchResult}
 use Rattle.batch_io.specs.FilesState.{FilesState, Purpose, Reading, Writing, known_handle}
 use Rattle.cob_runs.specs.Files.{File, Mode, closed, reading, writing}
+use Rattle.cob_interp.specs.declared.ends.RunEnd.{RunEnd}
 use Rattle.cob_interp.specs.declared.handles.Held.{Held}
+use Rattle.cob_interp.specs.Ends.{IfOwn}
 
 -- for each file the id under which it is open, if it is, and what for
 abbrev pub Ids : Type 0
@@ -78,6 +80,19 @@ StandAt paths state ids files =
 pub record ArePlaced (paths : List (List ℕ)) (state : FilesState) (ids : Ids) (files : List File) : Type 0 where
   pub stand : StandAt paths state ids files
   pub purposes : purposes_for ids ≡ purposes_of files
+
+-- Each file that is written is so under an id that stands for its path.
+pub record AreWritten (paths : List (List ℕ)) (state : FilesState) (ids : Ids) (files : List File) : Type 0 where
+  pub held : (place : ℕ) (f : File) → slice_get files place ≡ Some f → f.mode ≡ writing → IsHeldFor ids place true
+  pub stand : (place id : ℕ) (writes : Bool) (path : List ℕ) (f : File) → IsHeld ids place writes id
+      → slice_get paths place ≡ Some path → slice_get files place ≡ Some f → f.mode ≡ writing
+      → IfSome (known_handle state id) (λ handle. handle ≡ record { name = path; place = f.place })
+
+-- Where a part of a statement was done, each file has its id; where the run came to its own end there, those that are
+-- written have theirs.
+abbrev pub AreLeft : {A : Type 0} → List (List ℕ) → FilesState → Ids → List File → Result A RunEnd → Type 0
+AreLeft paths state ids files result =
+    MatchResult result (λ _. ArePlaced paths state ids files) (λ e. IfOwn e (AreWritten paths state ids files))
 
 -- Each file that is open now was open before, at the same place.
 abbrev pub StayAt : List File → List File → Type 0

@@ -3,11 +3,12 @@ ghost use Rattle.std.specs.Prelude.{◌≡◌, ℕ, IfOk, length, slice_get};
 ghost use Rattle.batch_io.specs.SinkState.{SinkState};
 ghost use Rattle.cob_program.specs.Act.{open_files, close_files};
 ghost use Rattle.cob_program.specs.ActView.{plain_act};
+ghost use Rattle.cob_interp.specs.Ends.{UnlessRefused};
 ghost use Rattle.cob_interp.specs.Running.{Outside, outside};
 ghost use Rattle.cob_interp.specs.Setting.{IsReady, IsPlace, IsPlaced, paths_of};
 ghost use Rattle.cob_interp.specs.Touching.{Touches, ClosesOnly, makes_none};
 ghost use Rattle.cob_interp.specs.Doing.{IsPlain, halted, DoesPart, Leads};
-ghost use Rattle.cob_interp.specs.Tracking.{AreOpen, ArePlaced, KeepsPlaces, Tracks};
+ghost use Rattle.cob_interp.specs.Tracking.{AreLeft, AreOpen, ArePlaced, KeepsPlaces, Tracks};
 
 use crate::ends::RunEnd;
 use crate::handles::Handles;
@@ -69,7 +70,7 @@ pub fn do_plain(
     ensures kept { world.new.program ≡ world.old.program }
     ensures leads { (now : Outside) (node budget : ℕ) → IsPlace setting.now node place.now
         → Leads setting.now budget step node now now world.old.world world.new.world result }
-    ensures places { IfOk result (λ _. KeepsPlaces world.old.world.files world.new.world.files) }
+    ensures places { UnlessRefused result (KeepsPlaces world.old.world.files world.new.world.files) }
 {
     do_part(alloc, setting, place, world, step)
 }
@@ -99,8 +100,7 @@ pub fn do_close<F: Files>(
     requires placed { ArePlaced (paths_of setting.now) (F.state files.old) handles.old world.old.world.files }
     ensures kept { world.new.program ≡ world.old.program }
     ensures tracks { Tracks (F.state files.old) (F.state files.new) handles.old handles.new }
-    ensures placed { IfOk result (λ _. ArePlaced (paths_of setting.now) (F.state files.new) handles.new
-        world.new.world.files) }
+    ensures placed { AreLeft (paths_of setting.now) (F.state files.new) handles.new world.new.world.files result }
     ensures leads { (sink : SinkState) (node budget : ℕ) → IsPlace setting.now node place.now
         → Leads setting.now budget step node (outside (F.state files.old) sink) (outside (F.state files.new) sink)
         world.old.world world.new.world result }

@@ -6,7 +6,7 @@ ghost use Rattle.cob_program.specs.ActView.{plain_act};
 ghost use Rattle.cob_interp.specs.Running.{outside};
 ghost use Rattle.cob_interp.specs.Setting.{IsReady, IsPlace, IsPlaced, paths_of};
 ghost use Rattle.cob_interp.specs.Touching.{Makes, OpensOnly, makes_in};
-ghost use Rattle.cob_interp.specs.Tracking.{AreOpen, ArePlaced, Tracks};
+ghost use Rattle.cob_interp.specs.Tracking.{AreLeft, AreOpen, ArePlaced, Tracks};
 ghost use Rattle.cob_interp.specs.Doing.{IsFresh, Leads};
 
 use crate::ends::RunEnd;
@@ -72,8 +72,7 @@ pub fn do_open<F: Files>(
     requires placed { ArePlaced (paths_of setting.now) (F.state files.old) handles.old world.old.world.files }
     ensures kept { world.new.program ≡ world.old.program }
     ensures tracks { Tracks (F.state files.old) (F.state files.new) handles.old handles.new }
-    ensures placed { IfOk result (λ _. ArePlaced (paths_of setting.now) (F.state files.new) handles.new
-        world.new.world.files) }
+    ensures placed { AreLeft (paths_of setting.now) (F.state files.new) handles.new world.new.world.files result }
     ensures leads { (sink : SinkState) (node budget : ℕ) → IsPlace setting.now node place.now
         → Leads setting.now budget step node (outside (F.state files.old) sink) (outside (F.state files.new) sink)
         world.old.world world.new.world result }

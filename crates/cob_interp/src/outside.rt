@@ -2,7 +2,7 @@
 ghost use Rattle.std.specs.Prelude.{◌≡◌, List, ℕ, true, MatchResult, IfOk, IfSome, [], ◌∷◌, Some, None, length, slice_get, slice_set};
 ghost use Rattle.batch_io.specs.FilesState.{KeepsIds, known_bytes};
 ghost use Rattle.cob_interp.specs.Readying.{IsRefusal, IsNamed, Readies, GoesOut, OpensInto, ReadyToOpen, emptied, IsWrittenAt};
-ghost use Rattle.cob_interp.specs.Tracking.{AreOpen, ArePlaced, IsHeldFor, StandAt, Tracks};
+ghost use Rattle.cob_interp.specs.Tracking.{AreOpen, ArePlaced, AreWritten, IsHeldFor, StandAt, Tracks};
 ghost use Rattle.cob_runs.specs.Files as file;
 ghost use Rattle.cob_runs.specs.Files.{writing};
 ghost use Rattle.cob_interp.specs.Ends.{is_closed};
@@ -52,7 +52,7 @@ fn put_out<F: Files>(
 ) -> Result<(), RunEnd>
     requires ready { IsReady setting.now }
     requires live { AreOpen (F.state files.old) handles.now }
-    requires placed { ArePlaced (paths_of setting.now) (F.state files.old) handles.now world.now.world.files }
+    requires written { AreWritten (paths_of setting.now) (F.state files.old) handles.now world.now.world.files }
     ensures goes { MatchResult result
         (λ _. GoesOut setting.now world.now.world place (F.state files.old) (F.state files.new))
         (λ e. IsRefusal (F.state files.old) (F.state files.new) e) }
@@ -104,7 +104,7 @@ pub fn write_out<F: Files>(
 ) -> Result<(), RunEnd>
     requires ready { IsReady setting.now }
     requires live { AreOpen (F.state files.old) handles.now }
-    requires placed { ArePlaced (paths_of setting.now) (F.state files.old) handles.now world.old.world.files }
+    requires written { AreWritten (paths_of setting.now) (F.state files.old) handles.now world.old.world.files }
     ensures kept { world.new.program ≡ world.old.program }
     ensures goes { MatchResult result
         (λ _. GoesOut setting.now world.old.world place (F.state files.old) (F.state files.new))

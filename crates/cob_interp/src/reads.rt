@@ -1,5 +1,5 @@
 //! READ (ISO 1989:1985, "The READ statement"): the next record is read where the statement asks for it.
-ghost use Rattle.std.specs.Prelude.{◌≡◌, ◌+◌, ◌<◌, ℕ, MatchResult, IfOk, IfSome, Some, None, false, length, slice_get};
+ghost use Rattle.std.specs.Prelude.{◌≡◌, ◌+◌, ◌<◌, ℕ, MatchResult, IfSome, Some, None, false, length, slice_get};
 ghost use Rattle.batch_io.specs.FilesState.{known_bytes};
 ghost use Rattle.batch_io.specs.SinkState.{SinkState};
 ghost use Rattle.cob_program.specs.ActView.{plain_act};
@@ -9,7 +9,7 @@ ghost use Rattle.cob_interp.specs.Doing.{ReadsPart};
 ghost use Rattle.cob_interp.specs.Readying.{GivesWindow, IsRestOr, IsReadOn, settled};
 ghost use Rattle.cob_interp.specs.Running.{Outside, outside, Stands, Arrives};
 ghost use Rattle.cob_interp.specs.Setting.{IsReady, StartsAt, IsCall, IsPlaced, program_of, paths_of};
-ghost use Rattle.cob_interp.specs.Tracking.{IsHeldFor, AreOpen, ArePlaced, Tracks};
+ghost use Rattle.cob_interp.specs.Tracking.{IsHeldFor, AreLeft, AreOpen, ArePlaced, Tracks};
 
 use crate::ends::RunEnd;
 use crate::handles::Handles;
@@ -147,8 +147,7 @@ pub fn do_read<F: Files>(
     ensures kept { world.new.program ≡ world.old.program }
     ensures tracks { Tracks (F.state files.old) (F.state files.new) handles.old handles.new }
     ensures same { known_bytes (F.state files.new) ≡ known_bytes (F.state files.old) }
-    ensures placed { IfOk result (λ _. ArePlaced (paths_of setting.now) (F.state files.new) handles.new
-        world.new.world.files) }
+    ensures placed { AreLeft (paths_of setting.now) (F.state files.new) handles.new world.new.world.files result }
     ensures takes { (sink : SinkState) (budget steps : ℕ) (start : Outside) → step ≡ steps + 1 → steps < budget
         → Stands (program_of setting.now) setting.now.graph.now (paths_of setting.now) start
         (outside (F.state files.old) sink) world.old.world steps steps node

@@ -12,7 +12,7 @@ ghost use Rattle.cob_interp.specs.Running.{Outside, outside, HaltsOff, IsBroken,
 ghost use Rattle.cob_interp.specs.Setting.{IsReady, program_of, paths_of, texts};
 ghost use Rattle.cob_interp.specs.Told.{AreDistinct};
 ghost use Rattle.cob_interp.specs.Touching.{Touches, makes_none};
-ghost use Rattle.cob_interp.specs.Tracking.{AreNone, AreOpen, ArePlaced, Tracks};
+ghost use Rattle.cob_interp.specs.Tracking.{AreLeft, AreNone, AreOpen, AreWritten, Tracks};
 ghost use Rattle.cob_interp.specs.Walking.{by_sink, as_result, TellsBySink, is_refused, IsOwnEnd, IsRefused};
 ghost use Rattle.cob_program.specs.Act as act;
 ghost use Rattle.cob_graph.specs.declared.graph.Graph as graph;
@@ -41,7 +41,7 @@ fn write_at<F: Files>(
 ) -> Result<(), RunEnd>
     requires ready { IsReady setting.now }
     requires live { AreOpen (F.state files.old) handles.now }
-    requires placed { ArePlaced (paths_of setting.now) (F.state files.old) handles.now world.old.world.files }
+    requires written { AreWritten (paths_of setting.now) (F.state files.old) handles.now world.old.world.files }
     ensures kept { world.new.program ≡ world.old.program }
     ensures goes { MatchResult result
         (λ _. GoesOut setting.now world.old.world place (F.state files.old) (F.state files.new))
@@ -67,7 +67,7 @@ fn write_all<F: Files>(
 ) -> Result<(), RunEnd>
     requires ready { IsReady setting.now }
     requires live { AreOpen (F.state files.old) handles.now }
-    requires placed { ArePlaced (paths_of setting.now) (F.state files.old) handles.now world.old.world.files }
+    requires written { AreWritten (paths_of setting.now) (F.state files.old) handles.now world.old.world.files }
     ensures writes { MatchResult result
         (λ _. Sees (paths_of setting.now) (F.state files.old) (F.state files.new) world.old.world world.new.world
         × AreEmptied world.new.world.files (length setting.now.paths.now))
@@ -113,7 +113,11 @@ fn give_up<F: Files>(files: &mut F, handles: &mut Handles, ending: Ending) -> En
 }
 
 /// What a run comes to that nothing refused, and of which nothing waits: it closes all that are still open.
-fn close_handles<F: Files>(files: &mut F, handles: &mut Handles, end: Result<Ended, RunEnd>) -> Ending
+fn close_handles<F: Files>(
+    files: &mut F,
+    handles: &mut Handles,
+    end: Result<Ended, RunEnd>,
+) -> Ending
     requires live { AreOpen (F.state files.old) handles.old }
     requires own { IsOwnEnd end }
     ensures refused { result.sink_refused ≡ false }
@@ -150,7 +154,7 @@ fn finish<F: Files, O: Sink>(
     requires ready { IsReady setting.now }
     requires own { IsOwnEnd end }
     requires live { AreOpen (F.state files.old) handles.old }
-    requires placed { ArePlaced (paths_of setting.now) (F.state files.old) handles.old world.old.world.files }
+    requires written { AreWritten (paths_of setting.now) (F.state files.old) handles.old world.old.world.files }
     ensures runs { (budget : ℕ) (start : Outside)
         → HaltsOff (program_of setting.now) setting.now.graph.now (paths_of setting.now) budget start
         (outside (F.state files.old) (O.state out.old)) world.old.world end
@@ -201,8 +205,8 @@ fn ending_of<F: Files, O: Sink>(
 ) -> Ending
     requires ready { IsReady setting.now }
     requires live { AreOpen (F.state files.old) handles.old }
-    requires placed { IsOwnEnd (as_result halted) → ArePlaced (paths_of setting.now) (F.state files.old) handles.old
-        world.old.world.files }
+    requires placed { AreLeft (paths_of setting.now) (F.state files.old) handles.old world.old.world.files
+        (as_result halted) }
     ensures runs { (budget : ℕ) (start : Outside)
         → HaltsOff (program_of setting.now) setting.now.graph.now (paths_of setting.now) budget start
         (outside (F.state files.old) (O.state out.old)) world.old.world (as_result halted)
@@ -279,7 +283,15 @@ fn run_through<F: Files, O: Sink>(
         plan,
         paths,
     };
-    let halted = walk(alloc, &setting, files, &mut handles, &mut world, out, budget);
+    let halted = walk(
+        alloc,
+        &setting,
+        files,
+        &mut handles,
+        &mut world,
+        out,
+        budget,
+    );
     ending_of(
         alloc,
         &setting,

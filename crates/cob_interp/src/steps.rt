@@ -7,10 +7,11 @@ ghost use Rattle.cob_program.specs.ActView.{plain_act};
 ghost use Rattle.cob_plan.specs.declared.node.Op.{Op};
 ghost use Rattle.cob_runs.specs.Effects.{act_at};
 ghost use Rattle.cob_interp.specs.declared.parts.Call.TheVariants as call;
+ghost use Rattle.cob_interp.specs.Ends.{UnlessRefused};
 ghost use Rattle.cob_interp.specs.Running.{Outside, outside, Stands, Arrives};
 ghost use Rattle.cob_interp.specs.Setting.{IsReady, IsPlace, IsPlaced, StartsAt, IsCall, program_of, paths_of};
 ghost use Rattle.cob_interp.specs.Touching.{Touches, Makes, ClosesOnly, OpensOnly, makes_by, makes_in, makes_none};
-ghost use Rattle.cob_interp.specs.Tracking.{AreOpen, ArePlaced, KeepsPlaces, Tracks};
+ghost use Rattle.cob_interp.specs.Tracking.{AreLeft, AreOpen, ArePlaced, KeepsPlaces, Tracks};
 ghost use Rattle.cob_interp.specs.Doing.{IsPlain, IsQuiet, Leads};
 
 use crate::ends::RunEnd;
@@ -41,7 +42,7 @@ fn do_quiet(
     ensures kept { world.new.program ≡ world.old.program }
     ensures leads { (now : Outside) (node budget : ℕ) → IsPlace setting.now node place.now
         → Leads setting.now budget step node now now world.old.world world.new.world result }
-    ensures places { IfOk result (λ _. KeepsPlaces world.old.world.files world.new.world.files) }
+    ensures places { UnlessRefused result (KeepsPlaces world.old.world.files world.new.world.files) }
 {
     match place.plan_node.op {
         Op::Skip { .. } | Op::Assign { .. } => do_plain(alloc, setting, place, world, step),
@@ -63,7 +64,7 @@ fn do_node(
     ensures kept { world.new.program ≡ world.old.program }
     ensures leads { (now : Outside) (budget : ℕ)
         → Leads setting.now budget step node now now world.old.world world.new.world result }
-    ensures places { IfOk result (λ _. KeepsPlaces world.old.world.files world.new.world.files) }
+    ensures places { UnlessRefused result (KeepsPlaces world.old.world.files world.new.world.files) }
 {
     let Some(place) = setting.place(node) else {
         return Err(RunEnd::Memory);
@@ -90,7 +91,7 @@ fn go_through(
     ensures kept { world.new.program ≡ world.old.program }
     ensures leads { (now : Outside) (budget : ℕ)
         → Leads setting.now budget step node now now world.old.world world.new.world result }
-    ensures places { IfOk result (λ _. KeepsPlaces world.old.world.files world.new.world.files) }
+    ensures places { UnlessRefused result (KeepsPlaces world.old.world.files world.new.world.files) }
 {
     let mut at = node;
     for _ in 0..setting.plan.nodes.len() {
@@ -120,7 +121,7 @@ fn go(
     ensures kept { world.new.program ≡ world.old.program }
     ensures leads { (now : Outside) (budget : ℕ)
         → Leads setting.now budget step node now now world.old.world world.new.world result }
-    ensures places { IfOk result (λ _. KeepsPlaces world.old.world.files world.new.world.files) }
+    ensures places { UnlessRefused result (KeepsPlaces world.old.world.files world.new.world.files) }
 {
     let next = do_plain(alloc, setting, place, world, step)?;
     if setting.rests_at(next) {
@@ -148,8 +149,7 @@ fn open_next<F: Files>(
     requires placed { ArePlaced (paths_of setting.now) (F.state files.old) handles.old world.old.world.files }
     ensures kept { world.new.program ≡ world.old.program }
     ensures tracks { Tracks (F.state files.old) (F.state files.new) handles.old handles.new }
-    ensures placed { IfOk result (λ _. ArePlaced (paths_of setting.now) (F.state files.new) handles.new
-        world.new.world.files) }
+    ensures placed { AreLeft (paths_of setting.now) (F.state files.new) handles.new world.new.world.files result }
     ensures leads { (sink : SinkState) (budget : ℕ) → Leads setting.now budget step node
         (outside (F.state files.old) sink) (outside (F.state files.new) sink) world.old.world world.new.world result }
     ensures touches { Makes (paths_of setting.now) (makes_in openings.now) world.old.world
@@ -162,7 +162,9 @@ fn open_next<F: Files>(
     if place.plan_node.statement != statement {
         return Err(RunEnd::Memory);
     }
-    do_open(alloc, setting, files, handles, &place, openings, world, step)
+    do_open(
+        alloc, setting, files, handles, &place, openings, world, step,
+    )
 }
 
 /// Opens the files of an OPEN, from its first node on. Answers the node behind it.
@@ -184,8 +186,7 @@ fn open_all<F: Files>(
     requires placed { ArePlaced (paths_of setting.now) (F.state files.old) handles.old world.old.world.files }
     ensures kept { world.new.program ≡ world.old.program }
     ensures tracks { Tracks (F.state files.old) (F.state files.new) handles.old handles.new }
-    ensures placed { IfOk result (λ _. ArePlaced (paths_of setting.now) (F.state files.new) handles.new
-        world.new.world.files) }
+    ensures placed { AreLeft (paths_of setting.now) (F.state files.new) handles.new world.new.world.files result }
     ensures leads { (sink : SinkState) (budget : ℕ) → Leads setting.now budget step node
         (outside (F.state files.old) sink) (outside (F.state files.new) sink) world.old.world world.new.world result }
     ensures touches { Makes (paths_of setting.now) (makes_in openings.now) world.old.world
@@ -220,8 +221,7 @@ fn close_next<F: Files>(
     requires placed { ArePlaced (paths_of setting.now) (F.state files.old) handles.old world.old.world.files }
     ensures kept { world.new.program ≡ world.old.program }
     ensures tracks { Tracks (F.state files.old) (F.state files.new) handles.old handles.new }
-    ensures placed { IfOk result (λ _. ArePlaced (paths_of setting.now) (F.state files.new) handles.new
-        world.new.world.files) }
+    ensures placed { AreLeft (paths_of setting.now) (F.state files.new) handles.new world.new.world.files result }
     ensures leads { (sink : SinkState) (budget : ℕ) → Leads setting.now budget step node
         (outside (F.state files.old) sink) (outside (F.state files.new) sink) world.old.world world.new.world result }
     ensures touches { Touches (paths_of setting.now) makes_none world.old.world (F.state files.old)
@@ -233,7 +233,9 @@ fn close_next<F: Files>(
         return Err(RunEnd::Memory);
     };
     match call_of(place.statement.act) {
-        Call::Close(closed) => do_close(alloc, setting, files, handles, &place, closed, world, step),
+        Call::Close(closed) => do_close(
+            alloc, setting, files, handles, &place, closed, world, step,
+        ),
         Call::Open(_) | Call::Read(_) | Call::Other => Err(RunEnd::Memory),
     }
 }
@@ -254,8 +256,7 @@ fn close_all<F: Files>(
     requires placed { ArePlaced (paths_of setting.now) (F.state files.old) handles.old world.old.world.files }
     ensures kept { world.new.program ≡ world.old.program }
     ensures tracks { Tracks (F.state files.old) (F.state files.new) handles.old handles.new }
-    ensures placed { IfOk result (λ _. ArePlaced (paths_of setting.now) (F.state files.new) handles.new
-        world.new.world.files) }
+    ensures placed { AreLeft (paths_of setting.now) (F.state files.new) handles.new world.new.world.files result }
     ensures leads { (sink : SinkState) (budget : ℕ) → Leads setting.now budget step node
         (outside (F.state files.old) sink) (outside (F.state files.new) sink) world.old.world world.new.world result }
     ensures touches { Touches (paths_of setting.now) makes_none world.old.world (F.state files.old)
@@ -291,8 +292,7 @@ fn go_read<F: Files>(
     requires placed { ArePlaced (paths_of setting.now) (F.state files.old) handles.old world.old.world.files }
     ensures kept { world.new.program ≡ world.old.program }
     ensures tracks { Tracks (F.state files.old) (F.state files.new) handles.old handles.new }
-    ensures placed { IfOk result (λ _. ArePlaced (paths_of setting.now) (F.state files.new) handles.new
-        world.new.world.files) }
+    ensures placed { AreLeft (paths_of setting.now) (F.state files.new) handles.new world.new.world.files result }
     ensures same { known_bytes (F.state files.new) ≡ known_bytes (F.state files.old) }
     ensures takes { (sink : SinkState) (budget steps : ℕ) (start : Outside) → step ≡ steps + 1 → steps < budget
         → Stands (program_of setting.now) setting.now.graph.now (paths_of setting.now) start
@@ -328,8 +328,7 @@ pub fn take_step<F: Files>(
     requires placed { ArePlaced (paths_of setting.now) (F.state files.old) handles.old world.old.world.files }
     ensures kept { world.new.program ≡ world.old.program }
     ensures tracks { Tracks (F.state files.old) (F.state files.new) handles.old handles.new }
-    ensures placed { IfOk result (λ _. ArePlaced (paths_of setting.now) (F.state files.new) handles.new
-        world.new.world.files) }
+    ensures placed { AreLeft (paths_of setting.now) (F.state files.new) handles.new world.new.world.files result }
     ensures takes { (sink : SinkState) (budget steps : ℕ) (start : Outside) → step ≡ steps + 1 → steps < budget
         → Stands (program_of setting.now) setting.now.graph.now (paths_of setting.now) start
         (outside (F.state files.old) sink) world.old.world steps steps node

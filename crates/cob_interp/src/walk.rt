@@ -8,7 +8,7 @@ ghost use Rattle.cob_interp.specs.Running.{Outside, outside, Stands, Arrives, Is
 ghost use Rattle.cob_interp.specs.Setting.{IsReady, StartsAt, program_of, paths_of};
 ghost use Rattle.cob_interp.specs.Readying.{IsRefusal, Sees};
 ghost use Rattle.cob_interp.specs.Touching.{Touches, makes_by, makes_none};
-ghost use Rattle.cob_interp.specs.Tracking.{AreOpen, ArePlaced, KeepsPlaces, Tracks};
+ghost use Rattle.cob_interp.specs.Tracking.{AreLeft, AreOpen, ArePlaced, KeepsPlaces, Tracks};
 ghost use Rattle.cob_interp.specs.Walking.{as_result, TellsBySink, Flushes, MayFlush, Refuses};
 
 use crate::ends::{Ended, RunEnd};
@@ -132,8 +132,7 @@ fn take_roomy_step<F: Files>(
     requires placed { ArePlaced (paths_of setting.now) (F.state files.old) handles.old world.old.world.files }
     ensures kept { world.new.program ≡ world.old.program }
     ensures tracks { Tracks (F.state files.old) (F.state files.new) handles.old handles.new }
-    ensures placed { IfOk result (λ _. ArePlaced (paths_of setting.now) (F.state files.new) handles.new
-        world.new.world.files) }
+    ensures placed { AreLeft (paths_of setting.now) (F.state files.new) handles.new world.new.world.files result }
     ensures takes { (sink : SinkState) (budget steps : ℕ) (start : Outside) → step ≡ steps + 1 → steps < budget
         → Stands (program_of setting.now) setting.now.graph.now (paths_of setting.now) start
         (outside (F.state files.old) sink) world.old.world steps steps node
@@ -164,8 +163,8 @@ fn go_on<F: Files, O: Sink>(
     requires placed { ArePlaced (paths_of setting.now) (F.state files.old) handles.old world.old.world.files }
     ensures kept { world.new.program ≡ world.old.program }
     ensures tracks { Tracks (F.state files.old) (F.state files.new) handles.old handles.new }
-    ensures placed { IfOk result (λ _. ArePlaced (paths_of setting.now) (F.state files.new) handles.new
-        world.new.world.files) }
+    ensures placed { AreLeft (paths_of setting.now) (F.state files.new) handles.new world.new.world.files
+        (as_result result) }
     ensures goes { (budget steps : ℕ) (start : Outside) → step ≡ steps + 1 → steps < budget
         → IsAt (program_of setting.now) setting.now.graph.now (paths_of setting.now) budget start
         (outside (F.state files.old) (O.state out.old)) world.old.world steps node
@@ -222,6 +221,8 @@ pub fn walk<F: Files, O: Sink>(
         (outside (F.state files.new) (O.state out.new)) world.new.world (as_result result) }
     ensures sink { TellsBySink (O.state out.old) (O.state out.new) result }
     ensures tracks { Tracks (F.state files.old) (F.state files.new) handles.old handles.new }
+    ensures placed { AreLeft (paths_of setting.now) (F.state files.new) handles.new world.new.world.files
+        (as_result result) }
 {
     let mut node = 1;
     for steps in 0..budget {

@@ -3,7 +3,12 @@ use Rattle.cob_interp.specs.Setting.{paths_of}
 use Rattle.cob_interp.specs.Touching.{makes_none}
 use Rattle.cob_interp.proofs.Readied.{stand_ids, stand_closed, out_closed, touches_known}
 use Rattle.cob_interp.proofs.TrackLemmas.{tracks_ids, tracks_pass}
+use Rattle.cob_interp.proofs.Written.{written_placed}
 use Rattle.cob_interp.proofs.outside.ready_to_close.Goals as goal
+
+pub write_out-requires-clause-written : goal.write_out-requires-clause-written
+write_out-requires-clause-written g c =
+    written_placed (paths_of c.args.setting.now) _ c.args.handles.now c.args.world.now.world.files c.requires.placed
 
 pub close-requires : goal.close-requires
 close-requires g c = record { live = (tracks_ids _ _ _ c.in_ok-write_out.ensures.ids c.requires.live).live }

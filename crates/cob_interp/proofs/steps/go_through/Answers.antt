@@ -2,6 +2,7 @@ use Rattle.std.proofs.Common.{◌∙◌, arith, refl}
 use Rattle.std.proofs.lemmas.Result.{err_from_is_err_and}
 use Rattle.cob_interp.proofs.StepLemmas.{goes_on_underway}
 use Rattle.cob_interp.proofs.TrackLemmas.{places_stay, places_pass}
+use Rattle.cob_interp.proofs.Written.{places_behind}
 use Rattle.cob_interp.proofs.steps.go_through.Goals as goal
 
 pub loop-init : goal.loop-init
@@ -25,3 +26,9 @@ loop-preserved c = record {
 
 pub returns-then-rests_at-clause-places : goal.returns-then-rests_at-clause-places
 returns-then-rests_at-clause-places c = places_pass _ _ _ c.loop.invariant.places c.in_ok-at.ensures.places
+
+pub returns-in_err-at-clause-places : goal.returns-in_err-at-clause-places
+returns-in_err-at-clause-places c =
+    let p = err_from_is_err_and c.from_residual.result c.from_residual.ensures.1 in
+    rw (p.1, p.2)
+    (places_behind c.do_node.result _ _ _ c.loop.invariant.places c.do_node.ensures.places)
