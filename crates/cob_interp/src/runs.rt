@@ -332,8 +332,9 @@ pub fn run_to_ending<F: Files, O: Sink>(
 /// Runs a program on the outside's files, at most so many steps (ISO 1989:1985, "Nucleus" and "Sequential I-O"; what a
 /// record area holds where the standard leaves it undefined stays, and storage without a VALUE begins with spaces).
 /// Each file's path stands at its place in the order of the SELECT entries. An input file is read record by record, each
-/// where a READ asks for it, into one room of a record's length that is taken when it is opened; an output file is
-/// written when it is closed or the run has ended. Shown text goes to `out`.
+/// where a READ asks for it, into one room of a record's length that is taken when it is opened. What is written to an
+/// output file waits in a room of 65,536 bytes, or of one longer record, that is taken then too: it goes out where a WRITE
+/// has no room, when the file is closed, and when the run has ended. Shown text goes to `out`.
 pub fn run<F: Files, O: Sink>(
     alloc: Global,
     program: &Program,
