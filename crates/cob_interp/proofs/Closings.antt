@@ -162,6 +162,9 @@ refilled_opens w v place content is =
 not_going : (v : World) → not_taken ≡ Ok (Some v) → ⊥
 not_going v e = cc
 
+not_faulty : (kind : Kind) → not_taken ≡ Err kind → ⊥
+not_faulty kind e = cc
+
 taken_is : (b : Bool) (u v : World) → taken_if b u ≡ Ok (Some v) → u ≡ v
 taken_is true u v e = cc
 taken_is false u v e = cc
@@ -179,19 +182,12 @@ module _ (p : Program) (number k : ℕ) (w v : World) where
       sym (effect_by_act p number w x.0 b its)
       ∙ subst (λ (y : Action × ℕ). effect p number None w y.0 ≡ e) is does
 
-  abbrev done : Effect
-  done = Ok (Some v)
-
-  abbrev faulty : Kind → Effect
-  faulty kind = Err kind
-
-  closed_sound : (kind : Kind) (fine : Bool) (o : Option ℕ) → effects.closed p number None w fine o ≡ faulty kind → ⊥
-  closed_sound kind fine None e = cc
+  closed_sound : (kind : Kind) (fine : Bool) (o : Option ℕ) → effects.closed p number None w fine o ≡ Err kind → ⊥
+  closed_sound kind fine None e = not_faulty kind e
   closed_sound kind fine (Some file_) e = by_status_sound p number w fine (close_one p.layout file_ w) kind e
 
-  opened_sound : (kind : Kind) (fine : Bool) (o : Option Opening) → effects.opened p number None w fine o ≡ faulty kind
-      → ⊥
-  opened_sound kind fine None e = cc
+  opened_sound : (kind : Kind) (fine : Bool) (o : Option Opening) → effects.opened p number None w fine o ≡ Err kind → ⊥
+  opened_sound kind fine None e = not_faulty kind e
   opened_sound kind fine (Some o) e = by_status_sound p number w fine (open_one p.layout o w) kind e
 
   -- neither CLOSE nor OPEN meets a fault
@@ -199,18 +195,18 @@ module _ (p : Program) (number k : ℕ) (w v : World) where
       (m : ℕ) → Contains (op_edges (op.Close k fine bad)) (a, m) → effect p number None w a ≡ Err kind → ⊥
   close_edge_sound fs its fine bad kind a m out meets = elim (one_of_two _ _ _ out) [
     | inl is ↦ closed_sound kind true (slice_get fs k)
-        (does_by_act (faulty kind) (close_files fs) its (action.Close k, fine) a m is meets)
+        (does_by_act (Err kind) (close_files fs) its (action.Close k, fine) a m is meets)
     | inr is ↦ closed_sound kind false (slice_get fs k)
-        (does_by_act (faulty kind) (close_files fs) its (action.Bad k, bad) a m is meets)
+        (does_by_act (Err kind) (close_files fs) its (action.Bad k, bad) a m is meets)
   ]
 
   open_edge_sound : (os : List Opening) → act_at p number ≡ Some (open_files os) → (fine bad : ℕ) (kind : Kind)
       (a : Action) (m : ℕ) → Contains (op_edges (op.Open k fine bad)) (a, m) → effect p number None w a ≡ Err kind → ⊥
   open_edge_sound os its fine bad kind a m out meets = elim (one_of_two _ _ _ out) [
     | inl is ↦ opened_sound kind true (slice_get os k)
-        (does_by_act (faulty kind) (open_files os) its (action.Open k, fine) a m is meets)
+        (does_by_act (Err kind) (open_files os) its (action.Open k, fine) a m is meets)
     | inr is ↦ opened_sound kind false (slice_get os k)
-        (does_by_act (faulty kind) (open_files os) its (action.Bad k, bad) a m is meets)
+        (does_by_act (Err kind) (open_files os) its (action.Bad k, bad) a m is meets)
   ]
 
   -- what holds behind each CLOSE
@@ -225,8 +221,8 @@ module _ (p : Program) (number k : ℕ) (w v : World) where
     close_edge_is : (fine bad : ℕ) (a : Action) (m : ℕ) → Contains (op_edges (op.Close k fine bad)) (a, m)
         → effect p number None w a ≡ Ok (Some v) → Is v
     close_edge_is fine bad a m out does = elim (one_of_two _ _ _ out) [
-      | inl is ↦ closed_so true (slice_get fs k) refl (does_by_act done (close_files fs) its (action.Close k, fine) a m is does)
-      | inr is ↦ closed_so false (slice_get fs k) refl (does_by_act done (close_files fs) its (action.Bad k, bad) a m is does)
+      | inl is ↦ closed_so true (slice_get fs k) refl (does_by_act (Ok (Some v)) (close_files fs) its (action.Close k, fine) a m is does)
+      | inr is ↦ closed_so false (slice_get fs k) refl (does_by_act (Ok (Some v)) (close_files fs) its (action.Bad k, bad) a m is does)
     ]
 
   -- and behind each OPEN
@@ -241,8 +237,8 @@ module _ (p : Program) (number k : ℕ) (w v : World) where
     open_edge_is : (fine bad : ℕ) (a : Action) (m : ℕ) → Contains (op_edges (op.Open k fine bad)) (a, m)
         → effect p number None w a ≡ Ok (Some v) → Is v
     open_edge_is fine bad a m out does = elim (one_of_two _ _ _ out) [
-      | inl is ↦ opened_so true (slice_get os k) refl (does_by_act done (open_files os) its (action.Open k, fine) a m is does)
-      | inr is ↦ opened_so false (slice_get os k) refl (does_by_act done (open_files os) its (action.Bad k, bad) a m is does)
+      | inl is ↦ opened_so true (slice_get os k) refl (does_by_act (Ok (Some v)) (open_files os) its (action.Open k, fine) a m is does)
+      | inr is ↦ opened_so false (slice_get os k) refl (does_by_act (Ok (Some v)) (open_files os) its (action.Bad k, bad) a m is does)
     ]
 
 -- ---- the part of a node

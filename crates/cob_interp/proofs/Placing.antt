@@ -258,32 +258,26 @@ module _ (s : Setting) (x : Place) (step : ℕ) (w v : World) (b : Act)
     own : (e : Effect) (a : Action) → effect (program_of s) x.statement.now.number None w a ≡ e → of e a
     own e a does_ = sym (effect_by_act (program_of s) x.statement.now.number w a (read f into end_ fine_) its_read) ∙ does_
 
-    abbrev done : Effect
-    done = Ok (Some v)
-
-    abbrev faulty : Kind → Effect
-    faulty kind = Err kind
-
     by_edge : (found end_to bad : ℕ) (a : Action) (m : ℕ) → Contains (op_edges (op.Read found end_to bad)) (a, m)
         → effect (program_of s) x.statement.now.number None w a ≡ Ok (Some v)
         → v ≡ (take_one s.program.now.layout None f w).0
     by_edge found end_to bad a m out does_ =
-        let h = own done a does_ in
+        let h = own (Ok (Some v)) a does_ in
         elim (three _ _ _ _ out) [
-          | inl e ↦ sym (taken_test _ _ _ (subst (λ (y : Action × ℕ). of done y.0) (sym e) h)).1
-          | inr (inl e) ↦ sym (taken_test _ _ _ (subst (λ (y : Action × ℕ). of done y.0) (sym e) h)).1
-          | inr (inr e) ↦ sym (taken_test _ _ _ (subst (λ (y : Action × ℕ). of done y.0) (sym e) h)).1
+          | inl e ↦ sym (taken_test _ _ _ (subst (λ (y : Action × ℕ). of (Ok (Some v)) y.0) (sym e) h)).1
+          | inr (inl e) ↦ sym (taken_test _ _ _ (subst (λ (y : Action × ℕ). of (Ok (Some v)) y.0) (sym e) h)).1
+          | inr (inr e) ↦ sym (taken_test _ _ _ (subst (λ (y : Action × ℕ). of (Ok (Some v)) y.0) (sym e) h)).1
         ]
 
     by_edge_sound : (found end_to bad : ℕ) (kind : Kind) (a : Action) (m : ℕ)
         → Contains (op_edges (op.Read found end_to bad)) (a, m)
         → effect (program_of s) x.statement.now.number None w a ≡ Err kind → ⊥
     by_edge_sound found end_to bad kind a m out meets =
-        let h = own (faulty kind) a meets in
+        let h = own (Err kind) a meets in
         elim (three _ _ _ _ out) [
-          | inl e ↦ never_faults _ _ kind (subst (λ (y : Action × ℕ). of (faulty kind) y.0) (sym e) h)
-          | inr (inl e) ↦ never_faults _ _ kind (subst (λ (y : Action × ℕ). of (faulty kind) y.0) (sym e) h)
-          | inr (inr e) ↦ never_faults _ _ kind (subst (λ (y : Action × ℕ). of (faulty kind) y.0) (sym e) h)
+          | inl e ↦ never_faults _ _ kind (subst (λ (y : Action × ℕ). of (Err kind) y.0) (sym e) h)
+          | inr (inl e) ↦ never_faults _ _ kind (subst (λ (y : Action × ℕ). of (Err kind) y.0) (sym e) h)
+          | inr (inr e) ↦ never_faults _ _ kind (subst (λ (y : Action × ℕ). of (Err kind) y.0) (sym e) h)
         ]
 
     pub read_done : (found end_to bad : ℕ) → x.plan_node.now.op ≡ op.Read found end_to bad

@@ -1,12 +1,12 @@
 -- What names hold behind a run of whose files nothing waits.
-use Rattle.std.proofs.Common.{◌≡◌, ℕ, suc, ◌<◌, ◌≤◌, List, [], ◌∷◌, ◌++◌, length, map, Option, Some, refl, sym, ap, ◌∙◌, append-nil, arith}
-use Rattle.std.specs.Prelude.{slice_get, unwrap_or}
+use Rattle.std.proofs.Common.{◌≡◌, ℕ, suc, ◌≤◌, List, [], ◌∷◌, ◌++◌, length, map, Option, Some, refl, sym, ap, ◌∙◌, append-nil, arith}
+use Rattle.std.specs.Prelude.{unwrap_or}
 use Rattle.std.specs.FinMap.{get}
 use Rattle.batch_io.specs.FilesState.{Contents, FilesState}
 use Rattle.cob_runs.specs.Files.{File, file, Mode, closed, reading, writing, bytes_in}
 use Rattle.cob_interp.specs.declared.ends.RunEnd.{RunEnd}
 use Rattle.cob_interp.specs.declared.ends.RunEnd.TheVariants as end
-use Rattle.cob_interp.specs.Told.{seen_file, seen_files, IsSyncedIn, IsSynced, AreSynced}
+use Rattle.cob_interp.specs.Told.{seen_file, seen_files, IsSyncedIn, AreSynced}
 use Rattle.cob_interp.specs.Readying.{AreWell, IsRefusal, AreEmptied}
 use Rattle.cob_interp.proofs.CloseLemmas.{rose_on}
 

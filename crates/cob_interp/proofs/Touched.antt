@@ -1,17 +1,13 @@
 -- What is left outside of a file that is put, and of all files.
-use Rattle.std.proofs.Common.{◌≡◌, ◌≢◌, ℕ, zero, suc, Bool, true, false, ◌||◌, ◌&&◌, ◌==◌, List, [], ◌∷◌, take, length, Option, Some, Result, Ok, Err, ◌⊎◌, inl, inr, refl, sym, ap, subst, ◌∙◌}
-use Rattle.std.specs.Prelude.{Contains, slice_get, option_map}
-use Rattle.std.specs.Option.{option_map_or}
+use Rattle.std.proofs.Common.{◌≡◌, ◌≢◌, ℕ, zero, suc, Bool, true, false, ◌||◌, ◌&&◌, ◌==◌, List, [], ◌∷◌, Option, Some, ◌⊎◌, inl, inr, refl, sym, ap, subst, ◌∙◌}
+use Rattle.std.specs.Prelude.{Contains, slice_get}
 use Rattle.std.specs.List.{list_any}
-use Rattle.std.specs.FinMap.{get, insert}
-use Rattle.std.proofs.Math.Seq.{take-length}
+use Rattle.std.specs.FinMap.{get}
 use Rattle.std.proofs.lemmas.Bool.{false≢true, eq-eqb}
-use Rattle.batch_io.specs.declared.ends.MakeEnd.{MakeEnd}
 use Rattle.batch_io.specs.FilesState.{Contents, FilesState, known_bytes}
-use Rattle.batch_io.specs.Wholes.{Holds, PutsFile}
 use Rattle.cob_program.specs.declared.act.Opening.{Opening}
 use Rattle.cob_program.specs.Act.{Act, open_files}
-use Rattle.cob_runs.specs.Files.{File, Mode, closed, writing, bytes_in}
+use Rattle.cob_runs.specs.Files.{File, Mode, closed, writing}
 use Rattle.cob_runs.specs.State.{World}
 use Rattle.cob_interp.specs.Told.{seen_in, seen_file, IsSynced, AreDistinct, AgreeBut}
 use Rattle.cob_interp.specs.Readying.{CreatesPart}

@@ -1,10 +1,10 @@
 -- What waits of a file that is written, before it goes out and behind it.
-use Rattle.std.proofs.Common.{◌≡◌, ◌≢◌, ℕ, ◌+◌, Bool, true, false, List, [], ◌∷◌, ◌++◌, length, take, take_at, append-nil, Option, Some, None, Result, Ok, Err, inl, inr, ◌⊎◌, refl, sym, ap, subst, ◌∙◌}
+use Rattle.std.proofs.Common.{◌≡◌, ℕ, ◌+◌, Bool, true, false, List, [], ◌∷◌, ◌++◌, length, take, take_at, append-nil, Option, Some, None, Result, Ok, Err, inl, inr, ◌⊎◌, refl, sym, ap, subst, ◌∙◌}
 use Rattle.std.specs.Prelude.{option_map, unwrap_or, IfSome, MatchResult}
 use Rattle.std.specs.FinMap.{get, insert}
 use Rattle.std.proofs.Math.Seq.{take-append-add}
-use Rattle.batch_io.specs.FilesState.{Contents, FilesState, Told, Handle, known_bytes, bytes_at}
-use Rattle.batch_io.specs.Wholes.{with_bytes, Grows}
+use Rattle.batch_io.specs.FilesState.{Contents, FilesState, Told, Handle, bytes_at}
+use Rattle.batch_io.specs.Wholes.{with_bytes}
 use Rattle.cob_runs.specs.Files.{File, file, Mode, closed, reading, writing, bytes_in}
 use Rattle.cob_world.specs.declared.files.FileMode.{FileMode}
 use Rattle.cob_world.specs.declared.files.FileMode.TheVariants as mode

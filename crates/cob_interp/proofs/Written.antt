@@ -1,18 +1,21 @@
 -- Files that are written have ids that stand for their paths, wherever the run ends.
 use Rattle.std.proofs.Common.{◌≡◌, ◌≢◌, ℕ, Bool, true, false, List, Option, Some, Result, Ok, Err, refl, sym, ap, subst, ◌∙◌}
-use Rattle.std.specs.Prelude.{slice_get, IsSome, IfSome, IfOk}
+use Rattle.std.specs.Prelude.{slice_get, IsSome, IfSome}
 use Rattle.std.proofs.lemmas.Bool.{false≢true}
 use Rattle.batch_io.specs.declared.ends.MakeEnd.{MakeEnd}
 use Rattle.batch_io.specs.declared.ends.MakeEnd.TheVariants as make
 use Rattle.batch_io.specs.FilesState.{FilesState, Handle, Purpose, Writing, Gives, KeepsIds, known_handle}
 use Rattle.cob_runs.specs.Files.{File, Mode, closed, reading, writing}
+use Rattle.cob_interp.specs.declared.ends.Ended.{Ended}
 use Rattle.cob_interp.specs.declared.ends.RunEnd.{RunEnd}
 use Rattle.cob_interp.specs.declared.ends.RunEnd.TheVariants as end
 use Rattle.cob_interp.specs.declared.handles.Held.{Held}
+use Rattle.cob_interp.specs.declared.walk.Halt.{Halt}
+use Rattle.cob_interp.specs.declared.walk.Halt.TheVariants as halt
 use Rattle.cob_interp.specs.Ends.{IfOwn, UnlessRefused}
 use Rattle.cob_interp.specs.Readying.{IsRefusal}
-use Rattle.cob_interp.specs.Tracking.{Ids, IsHeld, AreOpen, IsOpen, purpose_in, purposes_of, ArePlaced, AreWritten, AreLeft, KeepsPlaces}
-use Rattle.cob_interp.specs.Walking.{by_sink, is_refused}
+use Rattle.cob_interp.specs.Tracking.{Ids, IsHeld, AreOpen, IsOpen, purpose_in, ArePlaced, AreWritten, AreLeft, KeepsPlaces}
+use Rattle.cob_interp.specs.Walking.{by_sink, as_result, is_refused}
 use Rattle.cob_interp.proofs.Purposes.{purpose_at, slot_held}
 use Rattle.cob_interp.proofs.TrackLemmas.{same_slot, placed_on, places_pass}
 
@@ -132,10 +135,6 @@ pub unless_weaker : {A : Type 0} (result : Result A RunEnd) (P Q : Type 0) → (
 unless_weaker (Ok x) P Q f p = f p
 unless_weaker (Err e) P Q f p = own_weaker e P Q f p
 
-pub unless_ok : {A : Type 0} (result : Result A RunEnd) (P : Type 0) → UnlessRefused result P → IfOk result (λ _. P)
-unless_ok (Ok x) P p = p
-unless_ok (Err e) P p = tt
-
 -- ---- what is left
 
 pub left_by : {A : Type 0} (result : Result A RunEnd) (paths : List (List ℕ)) (a : FilesState) (ids : Ids)
@@ -156,3 +155,9 @@ pub places_behind : {A : Type 0} (result : Result A RunEnd) (fs gs hs : List Fil
     → UnlessRefused result (KeepsPlaces gs hs) → UnlessRefused result (KeepsPlaces fs hs)
 places_behind result fs gs hs first then_ =
     unless_weaker result (KeepsPlaces gs hs) (KeepsPlaces fs hs) (λ k. places_pass fs gs hs first k) then_
+
+-- behind a step, and behind the run
+pub left_on : (paths : List (List ℕ)) (a : FilesState) (ids : Ids) (fs : List File) (e : Halt)
+    → AreLeft paths a ids fs (as_result {A = ℕ} (Err e)) → AreLeft paths a ids fs (as_result {A = Ended} (Err e))
+left_on paths a ids fs (halt.End e) left = left
+left_on paths a ids fs (halt.Sink e) left = left

@@ -1,7 +1,6 @@
 //! Files that are open outside.
 ghost use Rattle.std.specs.Prelude.{◌≡◌, ◌<◌, ℕ, Bool, true, false, IfOk, IfSome, MatchResult, Some, None, [], length, replicate, slice_get, slice_set};
 ghost use Rattle.batch_io.specs.FilesState.{known_bytes, KeepsIds};
-ghost use Rattle.batch_io.specs.Wholes.{PutsWhole};
 ghost use Rattle.cob_interp.specs.Tracking.{IsHeld, IsHeldFor, AreNone, AreOpen, Tracks, purposes_for};
 ghost use Rattle.cob_interp.specs.Readying.{IsRefusal, OpensFor, CreatesFor, CreatesPart, ClosesFor, ClosesAll, GivesRecord, PutsUnder, PutsUnderPart, close_fault, first_refusal};
 

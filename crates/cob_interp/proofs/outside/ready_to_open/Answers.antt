@@ -1,10 +1,7 @@
 use Rattle.std.proofs.Common.{ap}
 use Rattle.cob_interp.specs.Tracking.{purpose_in}
 use Rattle.cob_interp.proofs.Purposes.{slot_free}
-use Rattle.std.proofs.Common.{sym, refl, subst, Option, ◌∙◌}
-use Rattle.std.specs.Prelude.{IsSome}
-use Rattle.batch_io.specs.FilesState.{Purpose}
-use Rattle.cob_interp.proofs.TrackLemmas.{tracks_ids}
+use Rattle.std.proofs.Common.{sym, ◌∙◌}
 use Rattle.cob_interp.proofs.OpenLemmas.{has_file, output_ready, open_ready, opened_ready, is_closed_true, is_closed_false}
 use Rattle.std.proofs.Common.{[], ◌∷◌}
 use Rattle.cob_interp.specs.Setting.{paths_of}
