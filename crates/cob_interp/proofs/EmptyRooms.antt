@@ -4,6 +4,7 @@ use Rattle.std.specs.Prelude.{slice_get, slice_set}
 use Rattle.cob_runs.specs.Files.{File, file, Mode, closed, reading, writing}
 use Rattle.cob_runs.specs.State.{World, with_files}
 use Rattle.cob_world.specs.Calling.{refilled, refilled_on, replaced, replaced_on}
+use Rattle.cob_interp.specs.Doing.{IsFresh}
 use Rattle.cob_interp.specs.Readying.{IsWrittenAt, emptied_in, emptied_file, emptied_on, emptied}
 use Rattle.cob_interp.proofs.OpenLemmas.{get_set}
 use Rattle.cob_interp.proofs.Purposes.{set_same}
@@ -55,3 +56,15 @@ pub emptied_twice : (place at : ℕ) (w v : World) → IsWrittenAt (slice_get w.
 emptied_twice place at w v is e =
     ap (λ (u : World). with_files u (refilled place (Some []) u.files)) e
     ∙ ap (with_files w) (twice_on place w.files (slice_get w.files place) at refl is)
+
+-- ---- the same bytes
+
+fresh_on : (place : ℕ) (fs : List File) (o : Option File) → slice_get fs place ≡ o → IsFresh o
+    → refilled_on place (Some []) fs o ≡ fs
+fresh_on place fs None has fresh = refl
+fresh_on place fs (Some f) has fresh =
+    ap (slice_set fs place) (sym (ap (λ (c : Option (List ℕ)). file c f.mode f.place) fresh)) ∙ set_same fs place f has
+
+pub fresh_filled : (place : ℕ) (w : World) → IsFresh (slice_get w.files place)
+    → with_files w (refilled place (Some []) w.files) ≡ w
+fresh_filled place w fresh = ap (with_files w) (fresh_on place w.files (slice_get w.files place) refl fresh)

@@ -65,11 +65,6 @@ abbrev pub IsFresh : Option File → Type 0
 IsFresh None = Unit {0}
 IsFresh (Some f) = f.content ≡ Some []
 
--- the operation opens the file of this number
-abbrev pub IsOpenOf : Op → ℕ → Type 0
-IsOpenOf (op.Open file fine bad) number = file ≡ number
-IsOpenOf _ number = ⊥
-
 -- the file at a place is seen to end within a record, and this says so
 abbrev pub IsRaggedAt : Setting → FilesState → World → ℕ → RunEnd → Type 0
 IsRaggedAt s files w file (end.Ragged place count) =

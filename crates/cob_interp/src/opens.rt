@@ -1,5 +1,5 @@
 //! OPEN (ISO 1989:1985, "The OPEN statement").
-ghost use Rattle.std.specs.Prelude.{◌≡◌, ℕ, true, IfOk, length, slice_get};
+ghost use Rattle.std.specs.Prelude.{◌≡◌, ℕ, true, IfOk, [], slice_get};
 ghost use Rattle.batch_io.specs.SinkState.{SinkState};
 ghost use Rattle.cob_program.specs.Act.{open_files};
 ghost use Rattle.cob_program.specs.ActView.{plain_act};
@@ -39,6 +39,16 @@ fn is_fresh(world: &World, place: u32) -> bool
     }
 }
 
+/// A file of which nothing waits gets this room, which is empty.
+fn fill_with(world: &mut World, place: u32, room: Vec<u8>)
+    requires fresh { IsFresh (slice_get world.old.world.files place) }
+    requires empty { room.items ≡ [] }
+    ensures kept { world.new.program ≡ world.old.program }
+    ensures same { world.new.world ≡ world.old.world }
+{
+    world.set_content(place as usize, Some(room));
+}
+
 /// Behind an OPEN: a file that is written gets the room that was taken for it.
 fn lend_room(alloc: Global, handles: &mut Handles, world: &mut World, place: u32)
     ensures kept { world.new.program ≡ world.old.program }
@@ -49,7 +59,7 @@ fn lend_room(alloc: Global, handles: &mut Handles, world: &mut World, place: u32
         return;
     }
     if let Some(room) = handles.take_empty_room(alloc, place as usize) {
-        world.set_content(place as usize, Some(room));
+        fill_with(world, place, room);
     }
 }
 
