@@ -245,14 +245,14 @@ def without_rights(tally, folder, name, mode, words, status, out):
 
 
 def descriptors(options):
-    """A descriptor beside the three of each program is enough, and one more for each input file of a run, which stays
-    open while it is read. Where there are only three, the system can't load the C library, and the program doesn't
+    """A descriptor beside the three of each program is enough, and one for each file that a run has open at once: the two
+    of payroll need one more. Where there are only three, the system can't load the C library, and the program doesn't
     start."""
     tally = Tally("descriptors", options.keep)
     listed = [
         (["analyse", SOURCE, CERT], 4, b"clean\n"),
         (["check", SOURCE, CERT], 4, b"clean\n"),
-        (["run", SOURCE], 5, outside.SHOWN.encode()),
+        (["run", SOURCE], 6, outside.SHOWN.encode()),
     ]
     files = {SOURCE: PAYROLL, CERT: (ROOT / "samples/payroll.cert").read_bytes(), "PAYIN": PAY}
     for words, count, out in listed:
