@@ -245,14 +245,13 @@ def without_rights(tally, folder, name, mode, words, status, out):
 
 
 def descriptors(options):
-    """A descriptor beside the three of each program is enough, and one for each file that a run has open at once: the two
-    of payroll need one more. Where there are only three, the system can't load the C library, and the program doesn't
-    start."""
+    """A descriptor beside the three of each program is enough, and two for a run with an input and an output file, which
+    stay open. Where there are only three, the system can't load the C library, and the program doesn't start."""
     tally = Tally("descriptors", options.keep)
     listed = [
         (["analyse", SOURCE, CERT], 4, b"clean\n"),
         (["check", SOURCE, CERT], 4, b"clean\n"),
-        (["run", SOURCE], 6, outside.SHOWN.encode()),
+        (["run", SOURCE], 5, outside.SHOWN.encode()),
     ]
     files = {SOURCE: PAYROLL, CERT: (ROOT / "samples/payroll.cert").read_bytes(), "PAYIN": PAY}
     for words, count, out in listed:
