@@ -35,22 +35,25 @@ returns-in_err-ready_to_open-in-Some-clause-touches g c =
 
 pub returns-in_ok-ready_to_open-in-Some-clause-leads : goal.returns-in_ok-ready_to_open-in-Some-clause-leads
 returns-in_ok-ready_to_open-in-Some-clause-leads g c sink node budget is =
-    open_leads c.args.setting.now budget c.args.place.now c.args.step node sink _ _ _ _ _ c.requires.ready.distinct is
+    rw c.lend_room.ensures.same
+    (open_leads c.args.setting.now budget c.args.place.now c.args.step node sink _ _ _ _ _ c.requires.ready.distinct is
     c.in-Open.file c.in-Open.fine c.in-Open.bad c.in-Some.opening c.args.openings.now c.in-Open.is c.requires.its
-    (sym c.in-Some.ensures) _ _ c.in_ok-ready_to_open-in-Some.ensures.readies _ c.do_part.ensures.does
+    (sym c.in-Some.ensures) _ _ c.in_ok-ready_to_open-in-Some.ensures.readies _ c.do_part-next.ensures.does)
 
 pub returns-in_ok-ready_to_open-in-Some-clause-opens : goal.returns-in_ok-ready_to_open-in-Some-clause-opens
 returns-in_ok-ready_to_open-in-Some-clause-opens g c =
-    opens_behind _ _ _ _ c.in_ok-ready_to_open-in-Some.ensures.opens
+    rw c.lend_room.ensures.same
+    (opens_behind _ _ _ _ c.in_ok-ready_to_open-in-Some.ensures.opens
     (open_part c.args.setting.now c.args.place.now c.args.step _ _ c.args.openings.now c.in-Open.file c.in-Open.fine
-    c.in-Open.bad c.in-Open.is (c.requires.place.its ∙ ap Some c.requires.its) _ c.do_part.ensures.does)
+    c.in-Open.bad c.in-Open.is (c.requires.place.its ∙ ap Some c.requires.its) _ c.do_part-next.ensures.does))
 
 pub returns-in_ok-ready_to_open-in-Some-clause-placed : goal.returns-in_ok-ready_to_open-in-Some-clause-placed
 returns-in_ok-ready_to_open-in-Some-clause-placed g c =
     let ready = c.in_ok-ready_to_open-in-Some.ensures.readies in
-    left_by _ (paths_of c.args.setting.now) (g.F.Files.state c.ready_to_open.new.files) _ _
+    rw (c.lend_room.ensures.ids, c.lend_room.ensures.same)
+    (left_by _ (paths_of c.args.setting.now) (g.F.Files.state c.ready_to_open.new.files) _ _
     (open_places c.args.setting.now c.args.place.now c.args.step _ _ (plain_act c.args.place.now.statement.now.act.now)
-    c.requires.place.its _ c.do_part.ensures.does c.args.openings.now c.in-Open.file c.in-Open.fine c.in-Open.bad
+    c.requires.place.its _ c.do_part-next.ensures.does c.args.openings.now c.in-Open.file c.in-Open.fine c.in-Open.bad
     c.requires.its c.in-Open.is c.in-Some.opening (sym c.in-Some.ensures) (paths_of c.args.setting.now)
     (g.F.Files.state c.ready_to_open.new.files) _
     (open_one_placed c.args.setting.now.program.now.layout (paths_of c.args.setting.now)
@@ -59,7 +62,7 @@ returns-in_ok-ready_to_open-in-Some-clause-placed g c =
     ready.path ready.file ready.is.path_ ready.has ready.stand
     (stand_on (paths_of c.args.setting.now) (g.F.Files.state c.args.files.now) _ _ _ ready.keeps.each
     c.requires.placed.stand)
-    ready.is.decl ready.is.declared (ready.purposes c.requires.placed.purposes)))
+    ready.is.decl ready.is.declared (ready.purposes c.requires.placed.purposes))))
 
 pub returns-in_err-ready_to_open-in-Some-clause-placed : goal.returns-in_err-ready_to_open-in-Some-clause-placed
 returns-in_err-ready_to_open-in-Some-clause-placed g c =
