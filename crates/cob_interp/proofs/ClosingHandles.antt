@@ -1,4 +1,4 @@
--- Behind a run's end: what is still being read is closed.
+-- Behind a run's end: what is still open is closed.
 use Rattle.std.proofs.Common.{◌≡◌, ℕ, ◌≤◌, List, inl, inr, Option, Result, Ok, Err, sym, subst, ◌∙◌, arith}
 use Rattle.batch_io.specs.Faults.{Rose}
 use Rattle.batch_io.specs.FilesState.{Contents, FilesState, known_bytes}
@@ -27,10 +27,10 @@ module _ (p : Program) (g : Graph) (paths : List (List ℕ)) (budget : ℕ) (sta
       → Runs p g paths budget start (outside old sink) e → Runs p g paths budget start (outside new sink) e
   refused_on (Ok e) refused r closes runs = absurd refused
   refused_on (Err end.ReadFault) refused r closes runs =
-      record { ends = rose_later _ _ _ closes.later runs.ends; part = broken_on runs.part }
+      record { ends = rose_later _ _ _ closes.reading runs.ends; part = broken_on runs.part }
   refused_on (Err end.WriteFault) refused r closes runs = record {
     ends = elim runs.ends [
-      | inl rose ↦ inl (subst (λ (n : ℕ). Rose start.files.writing n) (sym closes.writing) rose)
+      | inl rose ↦ inl (rose_later _ _ _ closes.writing rose)
       | inr rose ↦ inr rose
     ];
     part = broken_on runs.part;
@@ -76,7 +76,7 @@ module _ (p : Program) (g : Graph) (paths : List (List ℕ)) (budget : ℕ) (sta
   -- behind the run's own end, where all closes go well
   pub closed_well : (e : Result Ended RunEnd) → IsOwnEnd e → ClosesAll old new (Ok tt)
       → Runs p g paths budget start (outside old sink) e → Runs p g paths budget start (outside new sink) e
-  closed_well e own closes runs = own_runs e own (well_on e closes.reading closes.writing (own_well e own runs))
+  closed_well e own closes runs = own_runs e own (well_on e closes.counts.reading closes.counts.writing (own_well e own runs))
 
   -- and where one fails
   pub closed_ill : (e : Result Ended RunEnd) → IsOwnEnd e → (refusal : RunEnd) → ClosesAll old new (Err refusal)
@@ -84,7 +84,7 @@ module _ (p : Program) (g : Graph) (paths : List (List ℕ)) (budget : ℕ) (sta
       → Runs p g paths budget start (outside new sink) (Err refusal)
   closed_ill e own refusal closes runs broken =
       let well = own_well e own runs in
-      by refusal closes.reading well.reading well.writing where
+      by refusal closes.counts well.reading well.writing where
         by : (r : RunEnd) → IsRefusal old new r → old.reading ≡ start.files.reading → old.writing ≡ start.files.writing
             → Runs p g paths budget start (outside new sink) (Err r)
         by end.ReadFault rose reading writing =

@@ -67,4 +67,6 @@ returns-in_ok-ready_to_open-in-Some-clause-placed g c =
 pub returns-in_err-ready_to_open-in-Some-clause-placed : goal.returns-in_err-ready_to_open-in-Some-clause-placed
 returns-in_err-ready_to_open-in-Some-clause-placed g c =
     let p = err_from_is_err_and c.from_residual.result c.from_residual.ensures.1 in
-    rw (p.1, p.2) (refused_own _ _ _ _ c.in_err-ready_to_open-in-Some.ensures.readies)
+    rw (p.1, p.2)
+    (refused_own (g.F.Files.state c.args.files.now) (g.F.Files.state c.ready_to_open.new.files) _ _
+    c.in_err-ready_to_open-in-Some.ensures.readies)

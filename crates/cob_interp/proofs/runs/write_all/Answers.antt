@@ -48,7 +48,9 @@ loop-place-preserved g c =
 pub returns-in_err-write_at-clause-writes : goal.returns-in_err-write_at-clause-writes
 returns-in_err-write_at-clause-writes g c =
     let p = err_from_is_err_and c.from_residual.result c.from_residual.ensures.1 in
-    rw (p.1, p.2) (refused_on _ _ _ _ c.loop-place.invariant.sees.well c.in_err-write_at.ensures.goes)
+    rw (p.1, p.2)
+    (refused_on (g.F.Files.state c.args.files.now) (g.F.Files.state c.loop-place.files)
+    (g.F.Files.state c.write_at.new.files) _ c.loop-place.invariant.sees.well c.in_err-write_at.ensures.goes)
 
 pub returns-in_err-write_at-clause-touches : goal.returns-in_err-write_at-clause-touches
 returns-in_err-write_at-clause-touches g c =

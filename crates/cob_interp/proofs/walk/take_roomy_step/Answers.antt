@@ -24,7 +24,9 @@ returns-in_err-make_room-clause-tracks g c = tracks_ids _ _ _ c.in_err-make_room
 pub returns-in_err-make_room-clause-placed : goal.returns-in_err-make_room-clause-placed
 returns-in_err-make_room-clause-placed g c =
     let p = err_from_is_err_and c.from_residual.result c.from_residual.ensures.1 in
-    rw (p.1, p.2) (refused_own _ _ _ _ c.in_err-make_room.ensures.sees)
+    rw (p.1, p.2)
+    (refused_own (g.F.Files.state c.args.files.now) (g.F.Files.state c.make_room.new.files) _ _
+    c.in_err-make_room.ensures.sees)
 
 pub returns-in_err-make_room-clause-takes : goal.returns-in_err-make_room-clause-takes
 returns-in_err-make_room-clause-takes g c =
