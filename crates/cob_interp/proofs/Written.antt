@@ -107,6 +107,15 @@ own_weaker (end.StepsSpent count) P Q f x = f x
 own_weaker (end.IoStop status statement) P Q f x = f x
 own_weaker (end.Fault kind statement step) P Q f x = f x
 
+pub own_any : (e : RunEnd) (P : Type 0) → P → IfOwn e P
+own_any end.ReadFault P x = tt
+own_any end.WriteFault P x = tt
+own_any end.Memory P x = tt
+own_any (end.Ragged file count) P x = x
+own_any (end.StepsSpent count) P x = x
+own_any (end.IoStop status statement) P x = x
+own_any (end.Fault kind statement step) P x = x
+
 -- a refusal isn't
 pub refused_own : (old new : FilesState) (P : Type 0) (e : RunEnd) → IsRefusal old new e → IfOwn e P
 refused_own old new P end.ReadFault refused = tt

@@ -1,7 +1,21 @@
+use Rattle.std.proofs.Common.{Result, sym, subst, ◌∙◌}
+use Rattle.cob_interp.specs.declared.ends.Ended.{Ended}
+use Rattle.cob_interp.specs.declared.walk.Halt.{Halt}
 use Rattle.cob_interp.specs.Setting.{paths_of}
+use Rattle.cob_interp.specs.Tracking.{AreLeft}
+use Rattle.cob_interp.specs.Walking.{as_result}
 use Rattle.cob_interp.proofs.Written.{written_placed, own_is}
 use Rattle.cob_interp.proofs.runs.ending_of.Goals as goal
 
 pub finish-requires-clause-written : goal.finish-requires-clause-written
 finish-requires-clause-written g c =
-    written_placed (paths_of c.args.setting.now) _ _ _ c.requires.placed
+    written_placed (paths_of c.args.setting.now) (g.F.Files.state c.args.files.now) c.args.handles.now
+    c.args.world.now.world.files
+    (subst (λ (h : Result Ended Halt). AreLeft (paths_of c.args.setting.now) (g.F.Files.state c.args.files.now)
+    c.args.handles.now c.args.world.now.world.files (as_result h)) c.in-Ok.is c.requires.placed)
+
+pub finish-requires-in-Err-End-clause-written : goal.finish-requires-in-Err-End-clause-written
+finish-requires-in-Err-End-clause-written g c =
+    own_is _ c.in-Err-End.end (sym c.is_refused.ensures ∙ c.if-is_refused.false)
+    (subst (λ (h : Result Ended Halt). AreLeft (paths_of c.args.setting.now) (g.F.Files.state c.args.files.now)
+    c.args.handles.now c.args.world.now.world.files (as_result h)) c.in-Err-End.is c.requires.placed)

@@ -21,8 +21,8 @@ write_all-requires-clause-written g c =
     subst (λ (u : World). AreWritten (paths_of c.args.setting.now) (g.F.Files.state c.args.files.now) c.args.handles.now
     u.files) (sym c.in-Ok.ensures.flushes.world) c.requires.written
 
-pub give_up-in-Err-write_all-requires-clause-live : goal.give_up-in-Err-write_all-requires-clause-live
-give_up-in-Err-write_all-requires-clause-live g c =
+pub give_up-requires-in-Err-write_all-clause-live : goal.give_up-requires-in-Err-write_all-clause-live
+give_up-requires-in-Err-write_all-clause-live g c =
     (tracks_ids _ _ _ c.in-Err-write_all.ensures.ids c.requires.live).live
 
 pub close_handles-requires-clause-live : goal.close_handles-requires-clause-live
