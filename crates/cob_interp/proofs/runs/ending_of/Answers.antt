@@ -1,4 +1,4 @@
-use Rattle.std.proofs.Common.{Result, sym, subst, ◌∙◌}
+use Rattle.std.proofs.Common.{Result, Err, sym, subst, ◌∙◌}
 use Rattle.cob_interp.specs.declared.ends.Ended.{Ended}
 use Rattle.cob_interp.specs.declared.walk.Halt.{Halt}
 use Rattle.cob_interp.specs.Setting.{paths_of}
@@ -14,8 +14,10 @@ finish-requires-clause-written g c =
     (subst (λ (h : Result Ended Halt). AreLeft (paths_of c.args.setting.now) (g.F.Files.state c.args.files.now)
     c.args.handles.now c.args.world.now.world.files (as_result h)) c.in-Ok.is c.requires.placed)
 
-pub finish-requires-in-Err-End-clause-written : goal.finish-requires-in-Err-End-clause-written
-finish-requires-in-Err-End-clause-written g c =
+pub finish-requires-else-is_refused-clause-written : goal.finish-requires-else-is_refused-clause-written
+finish-requires-else-is_refused-clause-written g c =
     own_is _ c.in-Err-End.end (sym c.is_refused.ensures ∙ c.if-is_refused.false)
+    (subst (λ (e : Halt). AreLeft (paths_of c.args.setting.now) (g.F.Files.state c.args.files.now) c.args.handles.now
+    c.args.world.now.world.files (as_result {A = Ended} (Err e))) c.in-Err-End.field-0-is
     (subst (λ (h : Result Ended Halt). AreLeft (paths_of c.args.setting.now) (g.F.Files.state c.args.files.now)
-    c.args.handles.now c.args.world.now.world.files (as_result h)) c.in-Err-End.is c.requires.placed)
+    c.args.handles.now c.args.world.now.world.files (as_result h)) c.in-Err-End.is c.requires.placed))
