@@ -170,3 +170,10 @@ pub left_on : (paths : List (List ℕ)) (a : FilesState) (ids : Ids) (fs : List 
     → AreLeft paths a ids fs (as_result {A = ℕ} (Err e)) → AreLeft paths a ids fs (as_result {A = Ended} (Err e))
 left_on paths a ids fs (halt.End e) left = left
 left_on paths a ids fs (halt.Sink e) left = left
+
+-- behind a run that came to its own end
+pub left_own : (paths : List (List ℕ)) (a : FilesState) (ids : Ids) (fs : List File) (h : Result Ended Halt) (e : RunEnd)
+    → h ≡ Err (halt.End e) → is_refused e ≡ false → AreLeft paths a ids fs (as_result h) → AreWritten paths a ids fs
+left_own paths a ids fs h e is own left =
+    own_is (AreWritten paths a ids fs) e own
+    (subst (λ (x : Result Ended Halt). AreLeft paths a ids fs (as_result x)) is left)
