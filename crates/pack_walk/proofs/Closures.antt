@@ -34,8 +34,7 @@ module _ (n : ℕ) (old new : ℕ → ℕ → ℤ) (closure : IsClosure n old ne
       let rest = path_behind v j p path.places.0 g (record { places = path.places.1; bounds = path.bounds.1 }) in
       let less : path_sum old i r.0 v ≤ℤ new i v = not_above_cut (new i v) (path_sum old i r.0 v) path.bounds.0 r.2 in
       let later : path_sum old v rest.0 j ≤ℤ path_sum new v p j = rest.2 in
-      let joined = sum_join old i r.0 v rest.0 j in
-      (
+      let joined = sum_join old i r.0 v rest.0 j in (
         r.0 ++ v ∷ rest.0,
         record {
           places = below_join n r.0 v rest.0 r.1.places path.places.0 rest.1.places;

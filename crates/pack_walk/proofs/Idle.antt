@@ -15,7 +15,7 @@ use Rattle.pack_forms.specs.declared.cells.PackCell.{PackCell}
 use Rattle.pack_forms.specs.Cells.{plain_cell, plain_cells}
 use Rattle.pack_walk.specs.Closed.{AreClosedBy, IsIdle}
 use Rattle.pack_walk.specs.Parts.{plan_changed}
-use Rattle.pack_walk.proofs.PackRows.{named}
+use Rattle.pack_walk.proofs.PackRows.{split_is}
 
 module _ (p : Program) (before known : List Known) (common : Option Taken) (latest : Latest) (wrote : List Bytes) where
   nothing_changed : (y : Part) → IsIdle y → (pack : Pack) (m : List ℤ) → plan_changed p before common latest wrote y pack m ≡ m
@@ -40,8 +40,8 @@ module _ (p : Program) (before known : List Known) (common : Option Taken) (late
       ∙ (ap (λ o. o >>= λ d. all_closed p known packs (each_pack (plan_changed p before common latest wrote y) packs ms) >>= λ ds. Some (d ∷ ds)) closes.0
       ∙ ap (λ o. o >>= λ ds. Some (m ∷ ds)) (idle_closed y idle packs ms closes.1))
 
--- ---- a slice's first cell, which a pattern names, and those behind it
+-- ---- the first cell, and those behind it
 
-pub all_cells : (P : Home → Type 0) (pack : List PackCell) (cell : PackCell) → 1 ≤ length pack → cell ≡ get_or pack 0 cell → P (plain_cell cell)
+pub all_cells : (P : Home → Type 0) (pack : List PackCell) (d : PackCell) → 1 ≤ length pack → P (plain_cell (get_or pack 0 d))
     → AllByRecursion P (plain_cells (take (length pack - 1) (drop 1 pack))) → AllByRecursion P (plain_cells pack)
-all_cells P pack cell some is here rest = subst (λ (cs : List PackCell). AllByRecursion P (plain_cells cs)) (sym (named pack cell some is)) (here, rest)
+all_cells P pack d some here rest = subst (λ (cs : List PackCell). AllByRecursion P (plain_cells cs)) (sym (split_is pack d some)) (here, rest)

@@ -85,13 +85,13 @@ fn is_known_alike(
     cells: &[Cell],
     before: &[i128],
     row: &[i128],
-    cell: PackCell,
+    cell: &PackCell,
 ) -> bool
     requires before { IsRowOf (plain_program program.now) cells.now before.now }
     requires row { IsRowOf (plain_program program.now) cells.now row.now }
-    ensures { IsTrue result → IsKnownAlike (plain_program program.now) (cells_of before.now) (cells_of row.now) (plain_cell cell) }
+    ensures { IsTrue result → IsKnownAlike (plain_program program.now) (cells_of before.now) (cells_of row.now) (plain_cell cell.now) }
 {
-    is_numbered_alike(before, row, number_of(program, cells, cell))
+    is_numbered_alike(before, row, number_of(program, cells, *cell))
 }
 
 fn are_known_alike(
@@ -108,7 +108,7 @@ fn are_known_alike(
     match pack {
         [] => true,
         [cell, pack @ ..] => {
-            is_known_alike(program, cells, before, row, *cell)
+            is_known_alike(program, cells, before, row, cell)
                 && are_known_alike(program, cells, before, row, pack)
         }
     }
@@ -226,8 +226,11 @@ fn pass_packs(
         [] => true,
         [plan, plans @ ..] => {
             let (first, rest) = out.split_at_mut(words_for(plan));
-            pass_pack(program, cells, part, before, row, kept, written, plan, first)
-                && pass_packs(program, cells, part, before, row, kept, written, plans, rest)
+            pass_pack(
+                program, cells, part, before, row, kept, written, plan, first,
+            ) && pass_packs(
+                program, cells, part, before, row, kept, written, plans, rest,
+            )
         }
     }
 }

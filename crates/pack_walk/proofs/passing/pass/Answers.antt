@@ -9,7 +9,7 @@ use Rattle.pack_walk.proofs.Idle.{idle_closed}
 use Rattle.pack_walk.proofs.passing.pass.Goals as goal
 
 pub returns-then-is_untouched-clause-closed : goal.returns-then-is_untouched-clause-closed
-returns-then-is_untouched-clause-closed t c wrote written =
+returns-then-is_untouched-clause-closed c wrote written =
     let x = c.args in
     let p = plain_program x.program.now in
     let so = c.if-is_untouched.true in
@@ -19,6 +19,6 @@ returns-then-is_untouched-clause-closed t c wrote written =
     ∙ sym (ap (λ b. if b then Some (matrices_for x.plans.now x.out.now) else None) so)
 
 pub returns-then-is_untouched-clause-matrices : goal.returns-then-is_untouched-clause-matrices
-returns-then-is_untouched-clause-matrices t c so =
+returns-then-is_untouched-clause-matrices c so =
     let x = c.args in
     subst (λ row. IsClosedRow (plain_program x.program.now) (cells_of row) x.plans.now x.out.now) (c.is_untouched.ensures.same so) c.requires.matrices
