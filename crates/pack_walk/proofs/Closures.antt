@@ -1,5 +1,5 @@
 -- A closure is its own closure.
-use Rattle.std.proofs.Common.{◌≡◌, ℕ, ◌+◌, ◌<◌, ◌≤◌, List, [], ◌∷◌, ◌++◌, ℤ, pos, ◌≤ℤ◌, ◌<ℤ◌, Some, refl, sym, subst, arith}
+use Rattle.std.proofs.Common.{◌≡◌, ℕ, ◌+◌, ◌<◌, ◌≤◌, List, [], ◌∷◌, ◌++◌, ℤ, ◌≤ℤ◌, ◌<ℤ◌, Some, sym, subst, arith}
 use Rattle.std.proofs.lemmas.Int.{ints, clamps, by_lt_z}
 use Rattle.diff_bounds.specs.Matrix.{word, none, IsBound, IsWord, IsMatrix}
 use Rattle.diff_bounds.specs.Paths.{path_sum, IsPath, cut_of, HasNoNegativeCycle, IsClosure}

@@ -1,5 +1,5 @@
 //! What a part makes of the matrices of packs.
-ghost use Rattle.std.specs.Prelude.{◌≡◌, ◌≤◌, length, List};
+ghost use Rattle.std.specs.Prelude.{◌≡◌, length, List};
 ghost use Rattle.cob_program.specs.ActView.{plain_program};
 ghost use Rattle.borrowed_parts.specs.PartView.{plain_part};
 ghost use Rattle.diff_bounds.specs.Matrix.{IsMatrix};
@@ -10,16 +10,15 @@ ghost use Rattle.cell_walk.specs.Kept.{latest_of};
 ghost use Rattle.cell_walk.specs.ProgramRows.{IsRowOf};
 ghost use Rattle.diff_steps.specs.Moments.{Bytes};
 ghost use Rattle.diff_steps.specs.Packs.{size_of};
-ghost use Rattle.diff_steps.specs.Steps.{each_pack};
 ghost use Rattle.pack_forms.specs.Views.{plain_pack, HasUnit, program_of, known_in};
 ghost use Rattle.pack_walk.specs.Changes.{part_changed};
 ghost use Rattle.pack_walk.specs.Parts.{CanChange, IsWrittenTo, plan_changed};
-ghost use Rattle.pack_walk.specs.Plans.{plain_plan, plain_plans, IsPlanOf, ArePlansOf, matrices_for, IsRowFor};
+ghost use Rattle.pack_walk.specs.Plans.{plain_plan, IsPlanOf};
 
 use crate::counters::{count_down, set_count};
 use crate::gone::{Gone, forget};
 use crate::guards::guard;
-use crate::plans::{PackPlan, view_of, words_for};
+use crate::plans::{PackPlan, view_of};
 use crate::stores::store;
 use borrowed_parts::EdgePart;
 use cell_walk::{Kept, KnownItems};

@@ -1,6 +1,5 @@
 //! Matrices lowered to what is known of their cells, and closed.
 ghost use Rattle.std.specs.Prelude.{◌≡◌, ◌-◌, ◌^◌, ◌≤◌, length, IsTrue, Some, None, if◌then◌else◌};
-ghost use Rattle.std.specs.List.{AllByRecursion};
 ghost use Rattle.cob_program.specs.ActView.{plain_program};
 ghost use Rattle.diff_bounds.specs.Matrix.{IsMatrix};
 ghost use Rattle.cell_rows.specs.Known.{IsOrdered};
@@ -13,8 +12,8 @@ ghost use Rattle.diff_steps.specs.Matrices.{put_closed};
 ghost use Rattle.diff_steps.specs.Packs as packs;
 ghost use Rattle.diff_steps.specs.Packs.{size_of};
 ghost use Rattle.diff_steps.specs.Steps.{all_closed};
-ghost use Rattle.pack_changes.specs.Cells.{cell, known_cells, HaveEnds};
-ghost use Rattle.pack_forms.specs.Cells.{plain_cell, plain_cells};
+ghost use Rattle.pack_changes.specs.Cells.{cell, known_cells};
+ghost use Rattle.pack_forms.specs.Cells.{plain_cell};
 ghost use Rattle.pack_walk.specs.Closed.{IsClosedBy, IsClosedRow};
 ghost use Rattle.pack_walk.specs.Plans.{plain_plan, plain_plans, IsPlanOf, ArePlansOf, matrices_for, IsRowFor};
 

@@ -1,6 +1,6 @@
 //! The matrices behind a part that the row has passed. One is closed again where the part has changed its words or what is
 //! known of its pack's cells; else it is closed still.
-ghost use Rattle.std.specs.Prelude.{◌≡◌, ◌≤◌, ◌<◌, length, List, IsTrue, Some, None, if◌then◌else◌};
+ghost use Rattle.std.specs.Prelude.{◌≡◌, length, List, IsTrue, Some, None, if◌then◌else◌};
 ghost use Rattle.std.specs.List.{AllByRecursion};
 ghost use Rattle.cob_program.specs.ActView.{plain_program};
 ghost use Rattle.borrowed_parts.specs.PartView.{plain_part};
@@ -19,7 +19,7 @@ ghost use Rattle.diff_steps.specs.Steps.{each_pack, all_closed};
 ghost use Rattle.pack_forms.specs.Cells.{plain_cell, plain_cells};
 ghost use Rattle.pack_walk.specs.Closed.{IsClosedBy, IsClosedRow, IsKnownAlike, IsIdle};
 ghost use Rattle.pack_walk.specs.Parts.{CanChange, IsWrittenTo, plan_changed};
-ghost use Rattle.pack_walk.specs.Plans.{plain_plan, plain_plans, IsPlanOf, ArePlansOf, matrices_for, IsRowFor};
+ghost use Rattle.pack_walk.specs.Plans.{plain_plan, plain_plans, IsPlanOf, ArePlansOf, matrices_for};
 
 use crate::changing::change_plan;
 use crate::closing::close_again;
