@@ -20,8 +20,7 @@ use Rattle.cell_layer_laws.specs.Layer.{cell_flow, post_at, row_for}
 use Rattle.cert_text.specs.View.{Place, Certificate}
 use Rattle.cert_check.proofs.Lists.{equal_or_less}
 use Rattle.cert_check.proofs.Accepting.{claimed}
-use Rattle.cert_check.proofs.Covering.{LayerLaws}
-use Rattle.cert_check.proofs.LayerLaws.{layer_laws}
+use Rattle.cert_check.proofs.LayerLaws.{LayerLaws, layer_laws}
 use Rattle.analyse_core.specs.Thresholds.{thresholds_of}
 use Rattle.analyse_core.specs.Certificates.{place_for}
 use Rattle.analyse_core.specs.Assignments.{IsOfRows}

@@ -1,4 +1,8 @@
 pub mod Lists
+pub mod FirstLeaks
+pub mod PackNumbers
+pub mod BoundsKept
+pub mod Beside
 pub mod Accepting
 pub mod Covering
 pub mod LayerLaws

@@ -8,4 +8,4 @@ pub returns : goal.returns
 returns c =
     accepts (plain_program c.args.layer.now.program.now) c.args.layer.now.graph.now (view c.args.rows.now.cert.now)
     (lists_of c.args.layer.now.thresholds.now) c.args.rows.now.owns.now c.requires.given.own c.requires.given.source (record { cells = c.requires.given.cells; nodes = c.requires.given.nodes })
-    c.in_ok-pairs.pairs.items c.requires.inductive c.in_ok-pairs.ensures
+    c.requires.plain c.in_ok-pairs.pairs.items c.requires.inductive c.in_ok-pairs.ensures
