@@ -1,0 +1,1 @@
+-- The bounds of a row are as a certificate may have them.

@@ -1,0 +1,1 @@
+-- The bounds of a row mean this row.
