@@ -129,7 +129,7 @@ same_matrices : (pack : ℕ) (sizes : List ℕ) (xs ys : List Bound) → ((q i j
 same_matrices pack [] xs ys same = refl
 same_matrices pack (n ∷ ns) xs ys same =
     let first : claimed_matrix xs pack n ≡ claimed_matrix ys pack n =
-        λ i. matrix_of n (λ k. if nat_eq (k / (n + 1)) (k % (n + 1)) then pos 0 else same pack (k / (n + 1)) (k % (n + 1)) (omega arith) i) in
+    λ i. matrix_of n (λ k. if nat_eq (k / (n + 1)) (k % (n + 1)) then pos 0 else same pack (k / (n + 1)) (k % (n + 1)) (omega arith) i) in
     let rest = same_matrices (suc pack) ns xs ys (λ q i j low. same q i j (omega (arith, low))) in
     λ i. first i ∷ rest i
 
@@ -169,12 +169,12 @@ row_is pack (n ∷ ns) (ts ∷ lists) row listed is =
     let first = matrix_is pack n m others is.formed.0.formed (λ i j. before_these (suc pack) ns rest pack i j none (omega arith)) in
     let second = row_is (suc pack) ns lists rest (omega (arith, listed)) is.formed.1 in
     let third : matrices_from (suc pack) ns others ≡ matrices_from (suc pack) ns (matrix_bounds pack n m ++ others) =
-        same_matrices (suc pack) ns others (matrix_bounds pack n m ++ others)
-        (λ q i j low.
-        it_is_sought others q i j
-        ∙ sym
-        (it_is_sought (matrix_bounds pack n m ++ others) q i j ∙ sought_behind (matrix_bounds pack n m) others q i j none
-        ∙ of_another pack n m q i j (sought others q i j none) (λ e. omega (arith, e, low)))) in
+    same_matrices (suc pack) ns others (matrix_bounds pack n m ++ others)
+    (λ q i j low.
+    it_is_sought others q i j
+    ∙ sym
+    (it_is_sought (matrix_bounds pack n m ++ others) q i j ∙ sought_behind (matrix_bounds pack n m) others q i j none
+    ∙ of_another pack n m q i j (sought others q i j none) (λ e. omega (arith, e, low)))) in
     sym (take-append-drop w row) ∙ (λ i. first i ++ second i) ∙ ap (λ ms. claimed_matrix (matrix_bounds pack n m ++ others) pack n ++ row_of ms) third
 
 pub bounds_mean : BoundsMeanTheirRow
