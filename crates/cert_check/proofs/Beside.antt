@@ -1,5 +1,5 @@
 -- The answers of a check of packs, from what the pass and the nodes say of the rows that the code has.
-use Rattle.std.proofs.Common.{◌≡◌, ◌≢◌, ◌≤◌, ℕ, List, [], ◌∷◌, ◌++◌, Bool, map, length, slice_get, Some, ℤ, refl, sym, ap, subst, ◌∙◌, arith}
+use Rattle.std.proofs.Common.{◌≡◌, ◌≢◌, ◌≤◌, ℕ, List, [], ◌∷◌, ◌++◌, Bool, map, length, slice_get, Option, Some, None, ℤ, refl, sym, ap, subst, ◌∙◌, arith}
 use Rattle.std.specs.Prelude.{Vec}
 use Rattle.std.specs.List.{AllByRecursion}
 use Rattle.std.specs.declared.alloc.Global.{Global}
@@ -19,6 +19,7 @@ use Rattle.claimed_rows.specs.declared.gap.Gap.{Gap}
 use Rattle.claimed_rows.specs.Claims.{claimed_row, place_at}
 use Rattle.claimed_matrices.specs.Claims.{cells_in}
 use Rattle.claimed_matrices.specs.Claims as matrices
+use Rattle.claimed_matrices.specs.Gaps as of_matrices
 use Rattle.claimed_matrices.proofs.Allowing.{claims_fit_there}
 use Rattle.diff_bounds.specs.declared.Pack as declared
 use Rattle.diff_steps.specs.Packs.{Pack}
@@ -28,13 +29,13 @@ use Rattle.diff_layer_laws.specs.Layer.{sizes_of, diff_lattice, diff_flow, diff_
 use Rattle.diff_layer_laws.specs.Packs.{pack_in, packs_of}
 use Rattle.cert_check.specs.declared.ends.CheckEnd.TheVariants as check
 use Rattle.cert_check.specs.declared.ends.Leak.{Leak}
-use Rattle.cert_check.specs.Along.{arrives}
+use Rattle.cert_check.specs.Along.{arrives, led_to}
 use Rattle.cert_check.specs.OpenPairs.{pairs_by}
 use Rattle.cert_check.specs.Claims.{cell_leaks, pack_leaks, row_at, packs_at, pack_sizes, bounds_row, pack_gaps, claims_clear}
 use Rattle.cert_check.specs.Clearing.{TestsTell}
 use Rattle.cert_check.specs.Given.{IsGiven, BoundsAreKept, BoundsLeakFirst}
 use Rattle.cert_check.specs.Checking.{HasShape, Accepts, Refuses}
-use Rattle.cert_check.proofs.BoundsKept.{sizes_are, packs_tell, bounds_element, no_pack_leaks, pack_leaks_first}
+use Rattle.cert_check.proofs.BoundsKept.{sizes_are, packs_tell, arrived_element, bounds_element, no_pack_leaks, pack_leaks_first, pack_gap_is, there_is_a_pack_gap}
 use Rattle.cert_check.proofs.PackNumbers.{packs_in_are}
 
 -- as many lists as packs
@@ -49,12 +50,6 @@ module _ (p : Program) (g : Graph) (c : Certificate) (ranges : List Interval) (g
 
   abbrev rows : ℕ → List ℤ
   rows node = matrices.claimed_row (matrices.sizes_of d.packs) (place_at d node)
-
-  abbrev lattice_by : List (List ℤ) → List Pack → Lattice
-  lattice_by lists ps = diff_lattice ps lists
-
-  abbrev flow_by : List Pack → (ℕ → List ℤ) → Flow
-  flow_by ps fs = diff_flow p g ps fs
 
   packs_same : packs_of p packs ≡ packs_at p g c
   packs_same = packs_in_are p packs ∙ ap (map (pack_in (homes_of p))) cells
@@ -108,8 +103,12 @@ module _ (p : Program) (g : Graph) (c : Certificate) (ranges : List Interval) (g
     pub element_width : (row : List ℤ) → IsElement (diff_lattice (packs_at p g c) lists) row → length row ≡ width_of (matrices.sizes_of (cells_in packs))
     element_width row is = is.width ∙ width_there
 
-    pub its_width : (words : ℕ) → words ≡ (diff_lattice (packs_of p packs) lists).width → words ≡ width_of (matrices.sizes_of (cells_in packs))
-    its_width words e = e ∙ ap (λ (ps : List Pack). (diff_lattice ps lists).width) packs_same ∙ width_there
+    pub its_width : (words : ℕ) → words ≡ (diff_lattice (packs_of p packs) lists).width → words ≡ width_of (matrices.sizes_of d.packs)
+    its_width words e =
+        e
+        ∙ ap (λ (ps : List Pack). (diff_lattice ps lists).width) packs_same
+        ∙ width_there
+        ∙ ap (λ (ps : List (List ℕ)). width_of (matrices.sizes_of ps)) (cells ∙ sym (ap (λ (x : Certificate). x.packs) cert))
 
     pub width_moved : (words : ℕ) → words ≡ (diff_lattice (packs_of p packs) lists).width → words ≡ (diff_lattice (packs_at p g c) lists).width
     width_moved words e = e ∙ ap (λ (ps : List Pack). (diff_lattice ps lists).width) packs_same
@@ -138,6 +137,36 @@ module _ (p : Program) (g : Graph) (c : Certificate) (ranges : List Interval) (g
 
     pub kept_moved : IsInductive (diff_lattice (packs_of p packs) lists) (diff_flow p g (packs_of p packs) facts) rows → BoundsAreKept p g c lists
     kept_moved h = moved (λ ps fs rs. IsInductive (diff_lattice ps lists) (diff_flow p g ps fs) rs) h
+
+    -- ---- gaps
+
+    abbrev flow : Flow
+    flow = diff_flow p g (packs_at p g c) (row_at p g c)
+
+    pub reached_width : (e : ℕ) (row : List ℤ) → row ≡ arrives flow (bounds_row p g c) e → BoundsLeakFirst p g c lists e →
+        length row ≡ width_of (matrices.sizes_of (cells_in packs))
+    reached_width e row is leak =
+        element_width row
+        (subst (IsElement (diff_lattice (packs_at p g c) lists)) (sym is) (arrived_element p g c given.source shape given.allowed lists listed_there e leak.within))
+
+    pub claimed_width : (node : ℕ) (row : List ℤ) → row ≡ rows node → length row ≡ width_of (matrices.sizes_of (cells_in packs))
+    claimed_width node row is =
+        element_width row
+        (subst (IsElement (diff_lattice (packs_at p g c) lists)) (sym (row_moved node row is))
+        (bounds_element p g c given.source shape given.allowed lists listed_there node))
+
+    module _ (e node : ℕ) (row most : List ℤ) (row_is : row ≡ arrives flow (bounds_row p g c) e) (most_is : most ≡ rows node)
+        (node_is : node ≡ led_to flow e) (first : Option Gap)
+        (first_is : first ≡ slice_get (of_matrices.gaps (matrices.sizes_of (cells_in packs)) row most) 0) where
+      pub first_pack_gap : slice_get (pack_gaps p g c e) 0 ≡ first
+      first_pack_gap =
+          pack_gap_is p g c given.source shape given.allowed lists listed_there e (matrices.sizes_of (cells_in packs)) row most
+          (ap matrices.sizes_of cells) row_is (row_moved node most most_is ∙ ap (bounds_row p g c) node_is) first first_is
+
+      pub there_is_one : first ≡ None → BoundsLeakFirst p g c lists e → ⊥
+      there_is_one =
+          there_is_a_pack_gap p g c given.source shape given.allowed lists listed_there e (matrices.sizes_of (cells_in packs)) row most
+          (ap matrices.sizes_of cells) row_is (row_moved node most most_is ∙ ap (bounds_row p g c) node_is) first first_is
 
     -- ---- answers
 

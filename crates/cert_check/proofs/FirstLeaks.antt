@@ -12,6 +12,10 @@ use Rattle.cert_check.specs.declared.ends.Leak.{Leak}
 use Rattle.cert_check.specs.Claims.{leak, leaks_of}
 use Rattle.cert_check.proofs.Lists.{each_empty, equal_or_less, map_empty}
 
+pub first_behind : {A : Type 0} (xs ys : List A) (x : A) → slice_get xs 0 ≡ Some x → slice_get (xs ++ ys) 0 ≡ Some x
+first_behind [] ys x e = absurd (cc e)
+first_behind (y ∷ xs) ys x e = e
+
 module _ {A : Type 0} (f : ℕ → List A) where
   pub all_empty : (first count : ℕ) → ((k : ℕ) → first ≤ k → k < first + count → f k ≡ []) → flat_map f (range_with_len first count) ≡ []
   all_empty first zero h = refl
@@ -19,25 +23,17 @@ module _ {A : Type 0} (f : ℕ → List A) where
       ap (λ xs. xs ++ flat_map f (range_with_len (first + 1) count)) (h first (omega arith) (omega arith))
       ∙ all_empty (first + 1) count (λ k l m. h k (omega (arith, l)) (omega (arith, m)))
 
-  first_of : (xs ys : List A) (x : A) → slice_get xs 0 ≡ Some x → slice_get (xs ++ ys) 0 ≡ Some x
-  first_of [] ys x e = absurd (cc e)
-  first_of (y ∷ xs) ys x e = e
-
   -- the first of those that there are
   first_there : (first count n : ℕ) (x : A) → first ≤ n → n < first + count → ((k : ℕ) → first ≤ k → k < n → f k ≡ []) →
       slice_get (f n) 0 ≡ Some x → slice_get (flat_map f (range_with_len first count)) 0 ≡ Some x
   first_there first zero n x l m h e = absurd (omega (arith, l, m))
   first_there first (suc count) n x l m h e =
       elim (equal_or_less first n l) [
-        | inl same ↦ first_of (f first) _ x (subst (λ k. slice_get (f k) 0 ≡ Some x) (sym same) e)
+        | inl same ↦ first_behind (f first) _ x (subst (λ k. slice_get (f k) 0 ≡ Some x) (sym same) e)
         | inr later ↦
             ap (λ xs. slice_get (xs ++ flat_map f (range_with_len (first + 1) count)) 0) (h first (omega arith) (omega (arith, later)))
             ∙ first_there (first + 1) count n x (omega (arith, later)) (omega (arith, m)) (λ k a b. h k (omega (arith, a)) b) e
       ]
-
-pub first_behind : {A : Type 0} (xs ys : List A) (x : A) → slice_get xs 0 ≡ Some x → slice_get (xs ++ ys) 0 ≡ Some x
-first_behind [] ys x e = absurd (cc e)
-first_behind (y ∷ xs) ys x e = e
 
 first_leak : (layer e : ℕ) (gs : List Gap) (gap : Gap) → slice_get gs 0 ≡ Some gap → slice_get (map (leak layer e) gs) 0 ≡ Some (leak layer e gap)
 first_leak layer e [] gap h = absurd (cc h)

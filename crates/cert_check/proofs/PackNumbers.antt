@@ -1,9 +1,9 @@
 -- The packs of a certificate that its format allows are packs of a program's cells.
-use Rattle.std.proofs.Common.{◌≡◌, ◌<◌, ◌≤◌, ℕ, zero, suc, ◌+◌, List, [], ◌∷◌, ◌++◌, map, length, true, ◌&&◌, ℤ, refl, sym, ap, subst, ◌∙◌, arith}
+use Rattle.std.proofs.Common.{◌≡◌, ◌≢◌, ◌<◌, ◌≤◌, ◌==◌, ℕ, zero, suc, ◌+◌, List, [], ◌∷◌, ◌++◌, map, length, true, false, ◌&&◌, ℤ, refl, sym, ap, subst, ◌∙◌, arith}
 use Rattle.std.specs.Prelude.{Vec, nat_lt, nat_le, slice_index_or}
 use Rattle.std.specs.List.{AllByRecursion}
 use Rattle.std.specs.declared.alloc.Global.{Global}
-use Rattle.std.proofs.lemmas.Bool.{and_parts, leb-true, ltb-true}
+use Rattle.std.proofs.lemmas.Bool.{and_parts, eqb-true, eqb-false, leb-true, ltb-true}
 use Rattle.cob_program.specs.Act.{Program}
 use Rattle.cell_storages.specs.Homes.{homes_of}
 use Rattle.diff_bounds.specs.declared.Pack as declared
@@ -89,6 +89,16 @@ module _ (p : Program) (cells : ℕ) (many : cells ≡ length (homes_of p)) (dis
 pub packs_in_are : (p : Program) (packs : List declared.Pack) → packs_in (homes_of p) packs ≡ map (pack_in (homes_of p)) (cells_in packs)
 packs_in_are p [] = refl
 packs_in_are p (pack ∷ packs) = ap (λ (rest : List Pack). pack_in (homes_of p) pack.cells.items ∷ rest) (packs_in_are p packs)
+
+-- ---- whether there are packs
+
+pub no_packs : (packs items : List declared.Pack) → packs ≡ items → (length packs == 0) ≡ true → cells_in items ≡ []
+no_packs [] items same e = ap cells_in (sym same)
+no_packs (pack ∷ packs) items same e = absurd (let none = eqb-true (length (pack ∷ packs)) 0 e in omega (arith, none))
+
+pub some_packs : (packs items : List declared.Pack) → packs ≡ items → (length packs == 0) ≡ false → cells_in items ≢ []
+some_packs [] items same e = absurd (eqb-false 0 0 e refl)
+some_packs (pack ∷ packs) items same e = λ none. absurd (let apart = ap cells_in same ∙ none in cc apart)
 
 -- ---- no thresholds
 

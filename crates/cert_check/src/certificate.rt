@@ -112,7 +112,7 @@ fn check_beside(alloc: Global, layer: &CellLayer, rows: &ClaimedRows) -> Result<
         (lists_of layer.now.thresholds.now) }
     ensures { Checks (plain_program layer.now.program.now) layer.now.graph.now (view rows.now.cert.now) result }
 {
-    if rows.cert.packs.is_empty() {
+    if rows.cert.packs.as_slice().is_empty() {
         left_open(alloc, layer, rows)
     } else {
         check_packs(alloc, layer.program, layer.graph, rows)

@@ -1,10 +1,7 @@
-use Rattle.std.proofs.Common.{◌≡◌, ap, subst, sym, ◌∙◌, [], length, arith}
-use Rattle.std.specs.Prelude.{IsTrue}
+use Rattle.std.proofs.Common.{ap, subst, sym, ◌∙◌, [], length, arith}
 use Rattle.std.specs.List.{AllByRecursion}
 use Rattle.cob_program.specs.ActView.{plain_program}
 use Rattle.cert_text.specs.View.{view}
-use Rattle.cert_text.specs.Allowed.{packs_fit}
-use Rattle.claimed_matrices.specs.Claims.{cells_in}
 use Rattle.diff_bounds.specs.declared.Pack as declared
 use Rattle.diff_layer_laws.specs.Packs.{ArePacksOfCells}
 use Rattle.cert_check.proofs.Asking.{claimed_element}
@@ -36,6 +33,9 @@ new-requires-clause-packs c =
 
 pub new-requires-clause-ends : goal.new-requires-clause-ends
 new-requires-clause-ends c = empty_are_thresholds c.as_slice.result.now (subst (AllByRecursion _) (sym c.as_slice.ensures.value) c.in_ok-lists.ensures.empty)
+
+pub new-requires-clause-lists : goal.new-requires-clause-lists
+new-requires-clause-lists c = empty_are_short c.as_slice.result.now (subst (AllByRecursion _) (sym c.as_slice.ensures.value) c.in_ok-lists.ensures.empty)
 
 pub new-requires-clause-facts : goal.new-requires-clause-facts
 new-requires-clause-facts c = λ node first last.
