@@ -26,7 +26,7 @@ use Rattle.analyse_core.specs.Certificates.{place_for}
 use Rattle.analyse_core.specs.Assignments.{IsOfRows}
 use Rattle.analyse_core.specs.Plain.{known_of, along, joined_along, plain_to, plain_at, plain_certificate, GoesOn, PlainEvaluationAssigns}
 use Rattle.analyse_core.proofs.Claiming.{claimed_is}
-use Rattle.analyse_core.proofs.Finding.{is_accepted, shape}
+use Rattle.analyse_core.proofs.Finding.{cells_leak_nowhere, shape}
 
 module _ (p : Program) (g : Graph) (laws : LayerLaws p g) where
   abbrev ranges : List Interval
@@ -218,6 +218,6 @@ plain_assigns p g source on =
     let of_rows = plain_of_rows p g laws on in
     record {
       shape = shape p g (plain_certificate p g) source (rows p g laws) of_rows;
-      inductive = (is_accepted p g (plain_certificate p g) source (rows p g laws) of_rows).inductive;
+      inductive = cells_leak_nowhere p g (plain_certificate p g) source (rows p g laws) of_rows;
       heads = λ node is. absurd (no_head p g laws on node is);
     }

@@ -33,7 +33,7 @@ use Rattle.cert_text.specs.Allowed.{IsAllowed, packs_fit, claim_fits, claims_fit
 use Rattle.claimed_rows.specs.Claims.{claimed_row, place_at}
 use Rattle.claimed_rows.specs.Gaps.{IsSmall}
 use Rattle.cert_check.specs.OpenPairs.{all_kinds, if_open, open_at, node_clears_by}
-use Rattle.cert_check.specs.Claims.{cells_clear, claims_at, claims_clear, clears_with, row_at, is_cleared, open_of, opens_of, open_pairs}
+use Rattle.cert_check.specs.Claims.{cell_leaks, cells_clear, claims_at, claims_clear, clears_with, row_at, is_cleared, open_of, opens_of, open_pairs}
 use Rattle.cert_check.specs.Checking.{Accepts, HasShape}
 use Rattle.cert_check.proofs.Accepting.{claimed, claimed_back}
 use Rattle.cert_check.proofs.BoundsKept.{no_other_leaks}
@@ -198,10 +198,13 @@ module _ (p : Program) (g : Graph) (c : Certificate) (source : ∥ IsSourceGraph
   pub has_no_packs : c.packs ≡ []
   has_no_packs = ap (λ (d : Certificate). d.packs) found.is
 
+  pub cells_leak_nowhere : cell_leaks p g c ≡ []
+  cells_leak_nowhere = no_leaks p g c (thresholds_of p) laws rows_inductive
+
   pub is_accepted : Accepts p g c (open_pairs p g c)
   is_accepted = record {
     shape = shape;
-    inductive = no_other_leaks p g c has_no_packs (no_leaks p g c (thresholds_of p) laws rows_inductive);
+    inductive = no_other_leaks p g c has_no_packs cells_leak_nowhere;
     pairs_are = refl;
   }
 
