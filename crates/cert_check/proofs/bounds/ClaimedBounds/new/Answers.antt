@@ -1,4 +1,4 @@
-use Rattle.std.proofs.Common.{◌≡◌, ◌≤◌, List, map, ap, subst, sym, ◌∙◌}
+use Rattle.std.proofs.Common.{◌≤◌, List, ap, subst, sym, ◌∙◌}
 use Rattle.std.specs.List.{All, AllByRecursion, flat_map}
 use Rattle.std.proofs.lemmas.List.Elements.{All-from_recursion}
 use Rattle.std.proofs.lemmas.List.Folds.{flat_map-map}
