@@ -1,10 +1,13 @@
 """What edges of a program's control graph make of differences of cells in packs, beside what is known of the cells, and
 which faults both show not to be met, answered by the program diff_driver for random rows and matrices. What must come
 is worked out by `differences`, from what each part of an edge does. Of two cases of which one knows at least as much as
-the other, its answer does too."""
+the other, its answer does too.
+
+With `--large` each program is tried with more cases than the gate has time for, more than 10,000 pairs in all."""
 
 import json
 import random
+import sys
 
 from tests import differences
 from tests.built import CASES
@@ -39,7 +42,7 @@ def random_packs(chance, given, edges):
     named, packs = mentioned(given, edges), []
     for _ in range(chance.choice((1, 1, 2, 3))):
         size = min(len(given.cells), chance.choices(range(2, 9), (60, 60, 20, 4, 2, 2, 2))[0])
-        some = chance.sample(named, min(len(named), size)) if chance.random() < 0.9 else []
+        some = chance.sample(named, min(len(named), size, chance.choice((0, 1, 2, 8, 8, 8, 8, 8))))
         others = [cell for cell in range(len(given.cells)) if cell not in some]
         packs.append(pack_of(given, sorted(some + chance.sample(others, size - len(some)))))
     return packs
@@ -113,8 +116,10 @@ def is_below(a, b):
 
 # ---- cases: a line for the driver, and what must come
 
-ROWS_OF_EDGE = 6
-ROWS_OF_NODE = 2
+IS_LARGE = "--large" in sys.argv[1:]
+
+ROWS_OF_EDGE = 12 if IS_LARGE else 1
+ROWS_OF_NODE = 4 if IS_LARGE else 1
 
 
 def written(call, packs, row, matrices):
@@ -201,7 +206,7 @@ def told(name, source):
 
 
 def checks():
-    for file in ("edges.jsonl", "analyses.jsonl"):
+    for file in ("differences.jsonl", "edges.jsonl", "analyses.jsonl"):
         for number, line in enumerate((CASES / file).open(), 1):
             source = json.loads(line)["source"]
             yield lambda given=(f"{file} {number}", source): told(*given)

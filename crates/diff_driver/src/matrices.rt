@@ -38,7 +38,10 @@ fn lower_word(size: usize, m: &mut [i128], row: usize, column: usize, word: &str
     requires column { column ≤ size }
     ensures { IsMatrix size m.new }
 {
-    if row == column || word == "-" {
+    if row == column {
+        return true;
+    }
+    if word == "-" {
         return true;
     }
     match bound_of(word) {

@@ -5,7 +5,7 @@ use Rattle.std.proofs.Math.Logic.{∥∥₁_elim}
 use Rattle.cob_program.specs.ActView.{plain_program}
 use Rattle.pack_rows.specs.Rows.{lists_of}
 use Rattle.claimed_matrices.specs.Claims.{cells_in, sizes_of}
-use Rattle.diff_driver.proofs.Rows.{are_small, layer_element, layer_width}
+use Rattle.diff_driver.proofs.LayerRows.{are_small, layer_element, layer_width}
 use Rattle.diff_driver.proofs.cases.answer_by_layer.Goals as goal
 
 pub row_with-requires-clause-small : goal.row_with-requires-clause-small
