@@ -118,8 +118,8 @@ def is_below(a, b):
 
 IS_LARGE = "--large" in sys.argv[1:]
 
-ROWS_OF_EDGE = 12 if IS_LARGE else 1
-ROWS_OF_NODE = 4 if IS_LARGE else 1
+ROWS_OF_EDGE = 6 if IS_LARGE else 1
+ROWS_OF_NODE = 6 if IS_LARGE else 2
 
 
 def written(call, packs, row, matrices):
@@ -156,13 +156,20 @@ def clears_case(given, node, kind, packs, row, matrices):
     return written(f"clears {node} {kind}", packs, row, matrices), str(told).lower()
 
 
+def open_kinds(given, node):
+    """The kinds of faults that a node may meet where nothing is known."""
+    unknown = [None] * len(given.cells)
+    return [kind for kind in KINDS if not differences.clears(given, node, kind, unknown, [], [])]
+
+
 def node_pairs(chance, given):
     for node in range(1, given.nodes + 1):
         edges = [edge for edge in given.edges if edge.source == node]
-        for _ in range(ROWS_OF_NODE):
+        kinds = open_kinds(given, node)
+        for _ in range(ROWS_OF_NODE if kinds else 1):
             packs, row, matrices = random_case(chance, given, edges)
             lower = lower_case(chance, given, packs, row, matrices)
-            for kind in KINDS:
+            for kind in kinds or KINDS[:1]:
                 yield tuple(clears_case(given, node, kind, packs, *each) for each in (lower, (row, matrices)))
 
 
