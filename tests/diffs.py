@@ -3,7 +3,8 @@ which faults both show not to be met, answered by the program diff_driver for ra
 is worked out by `differences`, from what each part of an edge does. Of two cases of which one knows at least as much as
 the other, its answer does too.
 
-With `--large` each program is tried with more cases than the gate has time for, more than 10,000 pairs in all."""
+The gate tries the programs that are made for this, and one of fifteen others; `--large` has all tried, with more than
+20,000 pairs of cases."""
 
 import json
 import random
@@ -116,10 +117,8 @@ def is_below(a, b):
 
 # ---- cases: a line for the driver, and what must come
 
-IS_LARGE = "--large" in sys.argv[1:]
-
-ROWS_OF_EDGE = 6 if IS_LARGE else 1
-ROWS_OF_NODE = 6 if IS_LARGE else 2
+ROWS_OF_EDGE = 4
+ROWS_OF_NODE = 4
 
 
 def written(call, packs, row, matrices):
@@ -165,11 +164,11 @@ def open_kinds(given, node):
 def node_pairs(chance, given):
     for node in range(1, given.nodes + 1):
         edges = [edge for edge in given.edges if edge.source == node]
-        kinds = open_kinds(given, node)
-        for _ in range(ROWS_OF_NODE if kinds else 1):
+        # the others are asked for once
+        for kinds in [KINDS] + [open_kinds(given, node)] * (ROWS_OF_NODE - 1):
             packs, row, matrices = random_case(chance, given, edges)
             lower = lower_case(chance, given, packs, row, matrices)
-            for kind in kinds or KINDS[:1]:
+            for kind in kinds:
                 yield tuple(clears_case(given, node, kind, packs, *each) for each in (lower, (row, matrices)))
 
 
@@ -212,8 +211,17 @@ def told(name, source):
     return f"{name}: {len(wrong)} wrong, the first: {wrong[0]}" if wrong else None
 
 
-def checks():
-    for file in ("differences.jsonl", "edges.jsonl", "analyses.jsonl"):
+# One of so many programs that aren't made for this is tried.
+SHARE = 1 if "--large" in sys.argv[1:] else 15
+
+
+def programs():
+    for file, share in (("differences.jsonl", 1), ("edges.jsonl", SHARE), ("analyses.jsonl", SHARE)):
         for number, line in enumerate((CASES / file).open(), 1):
-            source = json.loads(line)["source"]
-            yield lambda given=(f"{file} {number}", source): told(*given)
+            if number % share == 0:
+                yield f"{file} {number}", json.loads(line)["source"]
+
+
+def checks():
+    for given in programs():
+        yield lambda given=given: told(*given)
