@@ -44,11 +44,7 @@ fn packs_in(alloc: Global, words: &[&str], cells: u32) -> Result<Option<Vec<Pack
 }
 
 /// The packs of some words, of a program with so many cells; nothing where they can't be read or are too many.
-pub fn packs_of(
-    alloc: Global,
-    words: &[&str],
-    cells: u32,
-) -> Result<Option<Vec<Pack>>, AllocError>
+pub fn packs_of(alloc: Global, words: &[&str], cells: u32) -> Result<Option<Vec<Pack>>, AllocError>
     ensures few { IfOk result (λ read. IfSome read (λ packs. length packs.items ≤ 32)) }
     ensures cells { IfOk result (λ read. IfSome read (λ packs. ArePacksOfCells cells packs.items)) }
 {

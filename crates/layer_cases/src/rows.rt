@@ -59,4 +59,3 @@ pub fn row_of(alloc: Global, owns: &[Interval], place: &Element) -> Result<Vec<i
     set_claimed_row(owns, place, row.as_mut_slice());
     Ok(row)
 }
-

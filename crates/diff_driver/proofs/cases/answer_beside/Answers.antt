@@ -17,3 +17,6 @@ new-requires-clause-ends c =
 pub new-requires-clause-lists : goal.new-requires-clause-lists
 new-requires-clause-lists c =
     are_short (sizes_of (cells_in c.args.packs.now)) c.as_slice.result.now (ap lists_of c.as_slice.ensures.value ∙ c.in_ok-thresholds.ensures)
+
+pub new-requires-clause-facts : goal.new-requires-clause-facts
+new-requires-clause-facts c = λ node first last. c.requires.row

@@ -3,10 +3,14 @@ use Rattle.std.specs.List.{AllByRecursion, AllByRecursion-prop}
 use Rattle.std.proofs.Props.{props}
 use Rattle.std.proofs.Math.Logic.{∥∥₁_elim}
 use Rattle.cob_program.specs.ActView.{plain_program}
+use Rattle.dom_laws.specs.Lattice.{IsElement}
 use Rattle.pack_rows.specs.Rows.{lists_of}
 use Rattle.claimed_matrices.specs.Claims.{cells_in, sizes_of}
 use Rattle.diff_driver.proofs.LayerRows.{are_small, layer_element, layer_width}
 use Rattle.diff_driver.proofs.cases.answer_by_layer.Goals as goal
+
+pub row_with-requires-clause-few : goal.row_with-requires-clause-few
+row_with-requires-clause-few c = c.args.layer.now.few
 
 pub row_with-requires-clause-small : goal.row_with-requires-clause-small
 row_with-requires-clause-small c =
@@ -22,5 +26,5 @@ row_with-requires-clause-width c =
 pub answer_to-requires : goal.answer_to-requires
 answer_to-requires c =
     let layer = c.args.layer.now in
-    layer_element (plain_program layer.program.now) layer.packs.now (lists_of layer.thresholds.now) c.requires _
-    (search)
+    subst (IsElement _) (sym c.as_slice.ensures.value)
+    (layer_element (plain_program layer.program.now) layer.packs.now (lists_of layer.thresholds.now) c.requires _ c.in-Some.ensures)

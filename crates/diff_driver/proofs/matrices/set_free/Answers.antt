@@ -1,4 +1,4 @@
-use Rattle.std.proofs.Common.{◌≡◌, [], length, sym, subst, ◌∙◌}
+use Rattle.std.proofs.Common.{[], length, refl, sym, subst, ◌∙◌}
 use Rattle.std.specs.Prelude.{IsTrue}
 use Rattle.std.proofs.lemmas.List.{length-map}
 use Rattle.dom_laws.specs.Lattice.{IsElement}
@@ -15,7 +15,7 @@ set_claimed-requires-clause-width c = c.requires.width ∙ width_for (sizes_of (
 pub returns : goal.returns
 returns c =
     let cells = cells_in c.args.packs.now in
-    let fits = subst (λ bounds. IsTrue (bounds_fit cells no_key bounds)) (sym c.new-2.ensures.items) tt in
+    let fits = subst (λ bounds. IsTrue (bounds_fit cells no_key bounds)) (sym c.new-2.ensures.items) refl in
     let listed = length-map (sizes_of cells) (λ n. []) ∙ length-map cells length in
     subst (IsElement (rows_of_packs c.args.packs.now)) (sym c.set_claimed.ensures)
     (c.claimed_rows_are_elements.ensures cells (no_thresholds (sizes_of cells)) (Holds c.new.result.items c.new-2.result.items) listed fits)
