@@ -7,7 +7,8 @@ a limit and beyond it, `outside` files and standard outputs that fail, `report`,
 the tool around the program and of its document, `calls` the calls of libraries, `ranges` those that work with ranges of
 numbers, `matrices` those with matrices and forms, `edges` and `diffs` those with edges of control graphs, and `slow`
 the comparison of the interpreter with the plain slow step. The last six need programs of their own, which the gate
-builds: without them their cases are left out, which is told, and is a failure where the word is `--all`.
+builds: without them their cases are left out, which is told, and is a failure where the word is `--all`. With `--large`
+`diffs` tries all of its programs.
 """
 
 import itertools

@@ -1,29 +1,10 @@
 //! Answers to cases.
-use crate::flow::{entry, post};
-use crate::rows::shown_words;
-use cob_tree::Kind;
+ghost use Rattle.dom_laws.specs.Lattice.{IsElement};
+
+use crate::matrices::shown_words;
 use dom_laws::Layer;
+use layer_cases::{kind_of, number_of, post};
 use std::alloc::{AllocError, Global};
-
-fn kind_of(word: &str) -> Option<Kind> {
-    match word {
-        "SIZE" => Some(Kind::Size),
-        "TRUNCATION" => Some(Kind::Truncation),
-        "ZERO" => Some(Kind::Zero),
-        "CLASS" => Some(Kind::Class),
-        _ => None,
-    }
-}
-
-// The number of one of so many.
-fn number_of(word: &str, count: u32) -> Option<u32> {
-    let number = word.parse::<u32>().ok()?;
-    if 1 <= number && number <= count {
-        Some(number)
-    } else {
-        None
-    }
-}
 
 // What an edge makes of matrices.
 fn post_case<L: Layer>(
@@ -31,7 +12,9 @@ fn post_case<L: Layer>(
     layer: &L,
     edge: &str,
     row: &[i128],
-) -> Result<Option<String>, AllocError> {
+) -> Result<Option<String>, AllocError>
+    requires { IsElement (L.lattice layer.now) row.now }
+{
     let Some(edge) = number_of(edge, layer.edges()) else {
         return Ok(None);
     };
@@ -47,7 +30,9 @@ fn clears_case<L: Layer>(
     node: &str,
     kind: &str,
     row: &[i128],
-) -> Result<Option<String>, AllocError> {
+) -> Result<Option<String>, AllocError>
+    requires { IsElement (L.lattice layer.now) row.now }
+{
     let (Some(node), Some(kind)) = (number_of(node, layer.nodes()), kind_of(kind)) else {
         return Ok(None);
     };
@@ -57,7 +42,7 @@ fn clears_case<L: Layer>(
 
 fn entry_case<L: Layer>(alloc: Global, layer: &L) -> Result<Option<String>, AllocError> {
     let mut out = vec![in alloc; 0; layer.words()]?;
-    entry(layer, out.as_mut_slice());
+    layer.entry(out.as_mut_slice());
     Ok(Some(shown_words(alloc, out.as_slice())?))
 }
 
@@ -67,7 +52,9 @@ pub fn answer_to<L: Layer>(
     layer: &L,
     words: &[&str],
     row: &[i128],
-) -> Result<Option<String>, AllocError> {
+) -> Result<Option<String>, AllocError>
+    requires { IsElement (L.lattice layer.now) row.now }
+{
     match words {
         ["post", edge] => post_case(alloc, layer, edge, row),
         ["clears", node, kind] => clears_case(alloc, layer, node, kind, row),

@@ -1,19 +1,23 @@
 //! The cases of a source, over the layers of its graph.
+ghost use Rattle.std.specs.Prelude.{◌≡◌, ◌≤◌, length};
 ghost use Rattle.cob_program.specs.ActView.{plain_program};
 ghost use Rattle.cob_graph.specs.declared.graph.Graph.{Graph as AnyGraph};
 ghost use Rattle.cob_graph.specs.Graphs.{IsGraph};
 ghost use Rattle.cob_graph_build.specs.Limits.{IsWithinLimits};
 ghost use Rattle.graph_runs.specs.Sources.{IsSourceGraph};
+ghost use Rattle.cell_rows.specs.Rows.{IsRow};
 ghost use Rattle.cell_storages.specs.Homes.{owns};
-ghost use Rattle.std.specs.Prelude.{◌≡◌};
+ghost use Rattle.pack_rows.specs.Rows.{lists_of};
+ghost use Rattle.claimed_matrices.specs.Claims.{cells_in, sizes_of};
+ghost use Rattle.diff_layer_laws.specs.Packs.{ArePacksOfCells};
+ghost use Rattle.diff_driver.specs.Rows.{no_thresholds};
 
 use crate::answers::answer_to;
 use crate::facts::SameRow;
-use crate::inputs::{claimed_by, packs_of, set_matrices};
-use crate::rows::row_of;
+use crate::matrices::row_with;
+use crate::packs::{no_thresholds, packs_of};
 use case_words::words_of;
 use cert_check::own_ranges;
-use cert_text::Element;
 use cob_graph::Graph;
 use cob_graph_build::{graph_of, nested};
 use cob_program::Program;
@@ -21,27 +25,26 @@ use decimal_interval::Interval;
 use diff_bounds::Pack;
 use diff_layer::DiffLayer;
 use dom_laws::Domain;
+use layer_cases::{claimed_by, row_of};
 use std::alloc::{AllocError, Global};
 use std::io;
 
 /// What a case that can't be read is answered.
 const NO_CASE: &str = "no case";
 
-fn sizes_of(alloc: Global, packs: &[Pack]) -> Result<Vec<usize>, AllocError> {
-    let mut sizes = Vec::new(alloc);
-    for pack in packs {
-        sizes.push(pack.cells.len())?;
+// By the layer over packs, with its row.
+fn answer_by_layer(
+    alloc: Global,
+    layer: &DiffLayer<SameRow>,
+    case: &[&str],
+    words: &[&str],
+) -> Result<Option<String>, AllocError>
+    requires { lists_of layer.now.thresholds.now ≡ no_thresholds (sizes_of (cells_in layer.now.packs.now)) }
+{
+    match row_with(alloc, layer.packs, words, layer.words())? {
+        Some(row) => answer_to(alloc, layer, case, row.as_slice()),
+        None => Ok(None),
     }
-    Ok(sizes)
-}
-
-// No thresholds: nothing is widened.
-fn no_thresholds(alloc: Global, packs: &[Pack]) -> Result<Vec<Vec<i128>>, AllocError> {
-    let mut lists = Vec::new(alloc);
-    for _ in packs {
-        lists.push(Vec::new(alloc))?;
-    }
-    Ok(lists)
 }
 
 // Beside what is known of the cells, the same at each node.
@@ -53,34 +56,42 @@ fn answer_beside(
     row: &[i128],
     case: &[&str],
     words: &[&str],
-) -> Result<Option<String>, AllocError> {
+) -> Result<Option<String>, AllocError>
+    requires source { ∥ IsSourceGraph (plain_program program.now) graph.now ∥₁ }
+    requires limits { IsWithinLimits graph.now }
+    requires few { length packs.now ≤ 32 }
+    requires packs { ArePacksOfCells (length graph.now.cells) packs.now }
+    requires row { IsRow (owns (plain_program program.now)) row.now }
+{
     let facts = SameRow {
         row,
         nodes: graph.nodes.get().len() as u32,
     };
     let thresholds = no_thresholds(alloc, packs)?;
     let layer = DiffLayer::new(alloc, program, graph, packs, thresholds.as_slice(), &facts)?;
-    let sizes = sizes_of(alloc, packs)?;
-    let mut from = vec![in alloc; 0; layer.words()]?;
-    set_matrices(sizes.as_slice(), words, from.as_mut_slice());
-    answer_to(alloc, &layer, case, from.as_slice())
+    answer_by_layer(alloc, &layer, case, words)
 }
 
+// By the words of the packs and of the cells.
 fn answer_in_packs(
     alloc: Global,
     program: &Program,
     graph: &Graph,
     ranges: &[Interval],
     sections: &[Vec<&str>],
-) -> Result<Option<String>, AllocError> {
+) -> Result<Option<String>, AllocError>
+    requires source { ∥ IsSourceGraph (plain_program program.now) graph.now ∥₁ }
+    requires limits { IsWithinLimits graph.now }
+    requires ranges { ranges.now ≡ owns (plain_program program.now) }
+{
     let [case, packs, row, words] = sections else {
         return Ok(None);
     };
-    let cells = ranges.len() as u32;
-    let (Some(packs), Some(place)) = (
-        packs_of(alloc, packs.as_slice(), cells)?,
-        claimed_by(alloc, row.as_slice())?,
-    ) else {
+    let cells = graph.cells.get().len() as u32;
+    let Some(packs) = packs_of(alloc, packs.as_slice(), cells)? else {
+        return Ok(None);
+    };
+    let Some(place) = claimed_by(alloc, row.as_slice())? else {
         return Ok(None);
     };
     let row = row_of(alloc, ranges, &place)?;
@@ -101,7 +112,11 @@ fn answer_line(
     graph: &Graph,
     ranges: &[Interval],
     line: &str,
-) -> io::Result<()> {
+) -> io::Result<()>
+    requires source { ∥ IsSourceGraph (plain_program program.now) graph.now ∥₁ }
+    requires limits { IsWithinLimits graph.now }
+    requires ranges { ranges.now ≡ owns (plain_program program.now) }
+{
     let mut sections = Vec::new(rt.alloc());
     for section in line.split('|') {
         sections.push(words_of(rt.alloc(), section)?)?;

@@ -6,17 +6,18 @@
 //! - `clears NODE KIND | PACKS | ROW | WORDS`: whether row and matrices show that the node meets no fault of the kind.
 //! - `entry | PACKS | ROW | WORDS`: the matrices where a run begins, whatever row and words are.
 //!
-//! A pack is the numbers of its cells, which count from 1, in rising order and with a point between them. A row has two
-//! words for each cell: the ends of its interval, or `- -` where nothing is known of it. Words are those of the packs'
-//! matrices, row by row and one matrix behind the other, each a number or `-`.
+//! A pack is the numbers of its cells, at most 8, which count from 1, in rising order and with a point between them;
+//! there are at most 32 packs. A row has two words for each cell: the ends of its interval, or `- -` where nothing is
+//! known of it. Words are those of the packs' matrices, row by row and one matrix behind the other, each a number of at
+//! most 10^37 in absolute value, or `-` where there is no bound; so it is of those left out at the end. Those of a
+//! diagonal say nothing.
 #![tactic(auto)]
 
 mod answers;
 mod cases;
 mod facts;
-mod flow;
-mod inputs;
-mod rows;
+mod matrices;
+mod packs;
 
 use cases::answer_for_program;
 use cob_front::program_in;
