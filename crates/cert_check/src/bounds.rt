@@ -63,11 +63,7 @@ fn rows_of(
 
 impl<'a> ClaimedBounds<'a> {
     /// Makes the rows of all nodes, each with so many words.
-    pub fn new(
-        alloc: Global,
-        cert: &'a Cert,
-        words: usize,
-    ) -> Result<ClaimedBounds<'a>, AllocError>
+    pub fn new(alloc: Global, cert: &'a Cert, words: usize) -> Result<ClaimedBounds<'a>, AllocError>
         requires allowed { IsAllowed (view cert.now) }
         requires words { words ≡ width_of (sizes_of (view cert.now).packs) }
         ensures { IfOk result (λ rows. rows.cert.now ≡ cert.now) }

@@ -15,7 +15,7 @@ arrive-requires-clause-out c =
     let listed = listed_in _ _ c.args.layer.now.listed in
     width_moved_back _ _ _ _ c.requires.given _ c.requires.packs _ c.requires.cert _ listed _ c.requires.out
 
-pub gap_at-gap-requires-clause-row : goal.gap_at-requires-clause-row
+pub gap_at-gap-requires-clause-row : goal.gap_at-gap-requires-clause-row
 gap_at-gap-requires-clause-row c =
     let listed = listed_in _ _ c.args.layer.now.listed in
     arrives_moved _ _ _ _ c.requires.given _ c.requires.packs _ c.requires.cert _ listed c.args.edge c.arrive.new.out c.arrive.ensures.row
