@@ -1,4 +1,4 @@
-use Rattle.std.proofs.Common.{length, ap}
+use Rattle.std.proofs.Common.{ap}
 use Rattle.std.specs.Prelude.{is_some}
 use Rattle.cert_check.proofs.Beside.{listed_in, nodes_counted, bounds_are_elements, width_moved_back, leak_moved, kept_moved}
 use Rattle.cert_check.proofs.packs.check_edges.Goals as goal
@@ -15,7 +15,7 @@ pass-requires-clause-rows c =
 pub pass-requires-clause-out : goal.pass-requires-clause-out
 pass-requires-clause-out c =
     let listed = listed_in _ _ c.args.layer.now.listed in
-    width_moved_back _ _ _ _ c.requires.given _ c.requires.packs _ c.requires.cert _ listed (length c.args.out.old) c.requires.out
+    width_moved_back _ _ _ _ c.requires.given _ c.requires.packs _ c.requires.cert _ listed _ c.requires.out
 
 pub leak_at-requires-clause-leak : goal.leak_at-requires-clause-leak
 leak_at-requires-clause-leak c =

@@ -12,7 +12,7 @@ new-requires-clause-allowed c =
 pub new-requires-clause-words : goal.new-requires-clause-words
 new-requires-clause-words c =
     let listed = listed_in _ _ c.args.layer.now.listed in
-    its_width _ _ _ _ c.requires.given _ c.requires.packs _ c.requires.cert _ listed c.words.result c.words.ensures
+    its_width _ _ _ _ c.requires.given _ c.requires.packs _ c.requires.cert _ listed c.words-words.result c.words-words.ensures
 
 pub check_edges-requires-clause-cert : goal.check_edges-requires-clause-cert
 check_edges-requires-clause-cert c =
@@ -21,4 +21,5 @@ check_edges-requires-clause-cert c =
 pub check_edges-requires-clause-out : goal.check_edges-requires-clause-out
 check_edges-requires-clause-out c =
     let listed = listed_in _ _ c.args.layer.now.listed in
-    width_moved _ _ _ _ c.requires.given _ c.requires.packs _ c.requires.cert _ listed _ (search)
+    width_moved _ _ _ _ c.requires.given _ c.requires.packs _ c.requires.cert _ listed _
+    (c.as_mut_slice.ensures.len ∙ c.in_ok-out.ensures.len ∙ c.words-words.ensures)

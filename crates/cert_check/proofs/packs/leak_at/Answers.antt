@@ -1,4 +1,3 @@
-use Rattle.std.proofs.Common.{length}
 use Rattle.cert_check.proofs.Beside.{listed_in, nodes_counted, bounds_are_elements, arrives_moved, width_moved_back, refuses_packs}
 use Rattle.cert_check.proofs.packs.leak_at.Goals as goal
 
@@ -14,10 +13,10 @@ arrive-requires-clause-rows c =
 pub arrive-requires-clause-out : goal.arrive-requires-clause-out
 arrive-requires-clause-out c =
     let listed = listed_in _ _ c.args.layer.now.listed in
-    width_moved_back _ _ _ _ c.requires.given _ c.requires.packs _ c.requires.cert _ listed (length c.args.out.old) c.requires.out
+    width_moved_back _ _ _ _ c.requires.given _ c.requires.packs _ c.requires.cert _ listed _ c.requires.out
 
-pub gap_at-requires-clause-row : goal.gap_at-requires-clause-row
-gap_at-requires-clause-row c =
+pub gap_at-gap-requires-clause-row : goal.gap_at-gap-requires-clause-row
+gap_at-gap-requires-clause-row c =
     let listed = listed_in _ _ c.args.layer.now.listed in
     arrives_moved _ _ _ _ c.requires.given _ c.requires.packs _ c.requires.cert _ listed c.args.edge c.arrive.new.out c.arrive.ensures.row
 

@@ -4,4 +4,4 @@ use Rattle.cert_check.specs.Given.{AreEmptyLists}
 use Rattle.cert_check.proofs.packs.no_thresholds.Given as goal
 
 abbrev pub invariant-loop-pack : goal.invariant-loop-pack
-invariant-loop-pack l = AreEmptyLists l.pack-index l.lists.items
+invariant-loop-pack l = AreEmptyLists l._pack-index l.lists.items
