@@ -7,4 +7,3 @@ pub mod Facts
 pub mod Beginning
 pub mod Layers
 pub mod Operands
-pub mod ClearedByCells

@@ -71,8 +71,7 @@ fn change(
     }
 }
 
-/// Makes of the matrix of a pack what a part makes of it, by the row before it, and by what is kept behind it.
-pub(crate) fn change_plan(
+fn change_plan(
     program: &Program,
     cells: &[Cell],
     before: &[i128],
@@ -99,4 +98,35 @@ pub(crate) fn change_plan(
     };
     let pack = view_of(plan);
     change(&items, &pack, m, part, kept, written);
+}
+
+/// Makes of the matrices of all packs what a part makes of them, by the row before it, and by what is kept behind it.
+pub(crate) fn change_all(
+    program: &Program,
+    cells: &[Cell],
+    before: &[i128],
+    plans: &[PackPlan],
+    out: &mut [i128],
+    part: EdgePart,
+    kept: &Kept,
+    written: bool,
+)
+    requires row { IsRowOf (plain_program program.now) cells.now before.now }
+    requires fits { CellsFit (owns (plain_program program.now)) (cells_of before.now) }
+    requires plans { ArePlansOf (plain_program program.now) plans.now }
+    requires can { CanChange (plain_program program.now) (cells_of before.now) kept.now.common (plain_part part) }
+    requires matrices { IsRowFor plans.now out.old }
+    ensures value { (wrote : List Bytes) → IsWrittenTo program.now.layout wrote written (plain_part part.entry)
+        → matrices_for plans.now out.new ≡ each_pack (plan_changed (plain_program program.now) (cells_of before.now) kept.now.common (latest_of kept.now) wrote (plain_part part.entry))
+        (plain_plans plans.now) (matrices_for plans.now out.old) }
+    ensures matrices { IsRowFor plans.now out.new }
+{
+    match plans {
+        [] => {}
+        [plan, plans @ ..] => {
+            let (first, rest) = out.split_at_mut(words_for(plan));
+            change_plan(program, cells, before, plan, first, part, kept, written);
+            change_all(program, cells, before, plans, rest, part, kept, written);
+        }
+    }
 }

@@ -9,7 +9,6 @@ mod counters;
 mod ends;
 mod gone;
 mod guards;
-mod passing;
 mod plans;
 mod stores;
 mod walking;
