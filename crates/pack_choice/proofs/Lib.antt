@@ -1,4 +1,0 @@
-pub mod Marks
-pub mod Noting
-pub mod Chosen
-pub mod Examples
