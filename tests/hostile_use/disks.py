@@ -245,9 +245,8 @@ def without_rights(tally, folder, name, mode, words, status, out):
 
 
 def descriptors(options):
-    """A descriptor beside the three of each program is enough, and one more for each input file of a run, which stays
-    open while it is read. Where there are only three, the system can't load the C library, and the program doesn't
-    start."""
+    """A descriptor beside the three of each program is enough, and two for a run with an input and an output file, which
+    stay open. Where there are only three, the system can't load the C library, and the program doesn't start."""
     tally = Tally("descriptors", options.keep)
     listed = [
         (["analyse", SOURCE, CERT], 4, b"clean\n"),

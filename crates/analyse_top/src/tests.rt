@@ -74,8 +74,8 @@ fn files_of(alloc: Global, failing: u64) -> Result<MemFiles, AllocError> {
 
 // Words, and by the number of the call on files that fails, from a first to a last one, the status and what is shown.
 // Open, two reads and close read a whole file; each READ of a program reads a record, and one more reads none at the
-// end. Create and close empty a file, and create, write and close put one. The last row of a command is one call more
-// than it makes.
+// end. Create, write and close make a file, at once or between other calls of the program. The last row of a command is
+// one call more than it makes.
 const FAULTS: [(&str, u64, u64, u8, &str); 16] = [
     ("check S C", 1, 8, 5, "E3 read\n"),
     ("check S C", 9, 9, 0, "clean\n"),
@@ -85,29 +85,29 @@ const FAULTS: [(&str, u64, u64, u8, &str); 16] = [
     ("trial 2", 1, 3, 6, "E4 write\n"),
     ("trial 2", 4, 4, 0, "nodes 17\nclean\n"),
     ("run W", 1, 4, 5, "E3 read\n"),
-    ("run W", 5, 9, 6, "E4 write\n"),
-    ("run W", 10, 10, 0, "B\n"),
+    ("run W", 5, 7, 6, "E4 write\n"),
+    ("run W", 8, 8, 0, "B\n"),
     ("run P", 1, 5, 5, "E3 read\n"),
-    ("run P", 6, 7, 6, "E4 write\n"),
-    ("run P", 8, 11, 5, "E3 read\n"),
+    ("run P", 6, 6, 6, "E4 write\n"),
+    ("run P", 7, 10, 5, "E3 read\n"),
     (
         "run P",
-        12,
-        12,
+        11,
+        11,
         5,
         "RUN DATE 20240131\nDETAILS 00001 BAD 00000\nE3 read\n",
     ),
     (
         "run P",
+        12,
         13,
-        15,
         6,
         "RUN DATE 20240131\nDETAILS 00001 BAD 00000\nE4 write\n",
     ),
     (
         "run P",
-        16,
-        16,
+        14,
+        14,
         0,
         "RUN DATE 20240131\nDETAILS 00001 BAD 00000\n",
     ),
@@ -195,6 +195,32 @@ fn few_bytes_at_a_time_are_enough(rt: HostRuntime) -> Result<(), Fail> {
         assert_eq!(rt; sink.bytes(), out.as_bytes(), "{line}");
         assert!(rt; are_fronts(&files, &whole), "{line}");
         assert!(rt; are_fronts(&whole, &files), "{line}");
+    }
+    Ok(())
+}
+
+// How many bytes a name holds.
+fn count_of(files: &MemFiles, name: &str) -> usize {
+    match files.bytes(name) {
+        None => usize::MAX,
+        Some(held) => held.len(),
+    }
+}
+
+// The first write of payroll by a byte at a time comes behind the source (open, a read for each byte and one at the end,
+// close), open and create, a read for each byte of its input and one at the end, and close.
+#[test]
+fn a_write_that_fails_leaves_the_bytes_before_it(rt: HostRuntime) -> Result<(), Fail> {
+    let alloc = rt.alloc();
+    let words = words_of(alloc, "run P")?;
+    let before = (PAYROLL.len() as u64).saturating_add(HOURS.len() as u64 + 8);
+    for written in 0..PAID.len() {
+        let mut files = files_of(alloc, before.saturating_add(written as u64))?;
+        files.slow(1);
+        let mut sink = MemSink::new(alloc, Vec::new(alloc));
+        assert_eq!(rt; cobsound(alloc, &words, &mut files, &mut sink), 6, "{written}");
+        assert_eq!(rt; count_of(&files, "PAYOUT"), written, "{written}");
+        assert!(rt; holds_front(&files, "PAYOUT", PAID), "{written}");
     }
     Ok(())
 }

@@ -5,10 +5,10 @@ use Rattle.std.specs.Option.{option_map_or}
 use Rattle.std.specs.FinMap.{get}
 use Rattle.std.specs.Io.KnownBytes.{append_known}
 use Rattle.std.proofs.Math.Seq.{take-append-add}
-use Rattle.batch_io.specs.FilesState.{Contents, FilesState, known_bytes}
+use Rattle.batch_io.specs.FilesState.{Contents, known_bytes}
 use Rattle.batch_io.specs.SinkState.{SinkState}
 use Rattle.cob_program.specs.Act.{Act, Program}
-use Rattle.cob_runs.specs.Files.{File, file, Mode, closed, reading, writing}
+use Rattle.cob_runs.specs.Files.{File}
 use Rattle.cob_runs.specs.State.{World}
 use Rattle.cob_runs.specs.Effects.{act_at}
 use Rattle.cob_graph.specs.declared.graph.Graph.{Graph}
@@ -17,7 +17,7 @@ use Rattle.cob_graph.specs.Lookup.{node_at}
 use Rattle.cob_interp.specs.declared.ends.Ended.{Ended}
 use Rattle.cob_interp.specs.declared.ends.RunEnd.{RunEnd}
 use Rattle.cob_interp.specs.Ends.{told_files, AreFree, state_after}
-use Rattle.cob_interp.specs.Told.{seen, seen_file, seen_files, IsSyncedIn, IsSynced, AreSynced, KeepsNames}
+use Rattle.cob_interp.specs.Told.{seen, seen_file, seen_files, IsSynced, AreSynced, KeepsNames}
 use Rattle.cob_interp.specs.Touching.{IsPartOf, makes_by, makes_none, TouchesIn, Touches}
 use Rattle.cob_interp.specs.Running.{Outside, IfTold, makes_next, StandsIn, Stands, RestsIn, Rests, BreaksOff, IsBroken}
 use Rattle.cob_interp.proofs.SeenFiles.{SeenAt, seen_at}
@@ -34,63 +34,15 @@ told_on P Q (Some first) (Some told) c t f = f first told refl t
 
 -- ---- a part of a file
 
-module _ (told now : Contents) (path : List ℕ) (makes : Bool) where
-  part_by_mode : (content : Option (List ℕ)) (m : Mode) (place : ℕ) → IsSyncedIn told m path content place
-      → IsPartOf makes (file content m place) (get told path) (get now path)
-      → IsPartOf makes (seen_file told path (file content m place)) (seen_file told path (file content m place)).content
-      (get now path)
-  part_by_mode content closed place s (inl same) = inl same
-  part_by_mode content closed place s (inr (inl front)) = let e = front.0 in cc
-  part_by_mode content closed place s (inr (inr empty)) = inr (inr (empty.0, (refl, empty.1.1)))
-  part_by_mode content (reading ended) place s (inl same) = inl same
-  part_by_mode content (reading ended) place s (inr (inl front)) = let e = front.0 in cc
-  part_by_mode content (reading ended) place s (inr (inr empty)) = let e = empty.1.0 in cc
-  part_by_mode content writing place s (inl same) = inr (inl (refl, (0, same ∙ s.0)))
-  part_by_mode content writing place s (inr (inl front)) = inr (inl front)
-  part_by_mode content writing place s (inr (inr empty)) = let e = empty.1.0 in cc
-
-  -- what is a part of the file as it is kept is one of it as the run sees it
-  seen_part : (f : File) → IsSynced told path f → IsPartOf makes f (get told path) (get now path)
-      → IsPartOf makes (seen_file told path f) (seen_file told path f).content (get now path)
-  seen_part f s part = part_by_mode f.content f.mode f.place s part
-
 part_of_any : (makes : Bool) (f : File) (whole now : Option (List ℕ)) → IsPartOf false f whole now
     → IsPartOf makes f whole now
 part_of_any makes f whole now (inl same) = inl same
 part_of_any makes f whole now (inr (inl front)) = inr (inl front)
 part_of_any makes f whole now (inr (inr empty)) = let e = empty.0 in cc
 
-part_passes : (makes : Bool) (f : File) (old mid new : Option (List ℕ)) → IsPartOf makes f old mid
-    → IsPartOf makes f mid new
-    → IsPartOf makes f old new
-part_passes makes f old mid new (inl same) (inl again) = inl (again ∙ same)
-part_passes makes f old mid new (inr (inl front)) (inl again) =
-    inr (inl (front.0, (front.1.0, again ∙ front.1.1)))
-part_passes makes f old mid new (inr (inr empty)) (inl again) = inr (inr (empty.0, (empty.1.0, again ∙ empty.1.1)))
-part_passes makes f old mid new part (inr other) = inr other
-
 -- ---- all files
 
 module _ (paths : List (List ℕ)) (makes : ℕ → Bool) (w : World) where
-  pub touches_pass : (a b c : FilesState) → Touches paths makes w a b → Touches paths makes w b c
-      → Touches paths makes w a c
-  touches_pass a b c h k = record {
-    known = λ told e.
-        let t = h.known told e in
-        let u = k.known t.now t.is in
-        record {
-          now = u.now;
-          is = u.is;
-          touches = record {
-            its = λ place path f at has.
-                part_passes (makes place) f (get told path) (get t.now path) (get u.now path)
-                (t.touches.its place path f at has)
-                (u.touches.its place path f at has);
-            others = λ name none. u.touches.others name none ∙ t.touches.others name none;
-          };
-        };
-  }
-
   -- what the run sees of the file at a place holds a part of it
   part_at : (told now : Contents) → AreSynced told paths w.files → TouchesIn paths makes w told now
       → (place : ℕ) (path : List ℕ) (o : Option File) (g : File) → slice_get paths place ≡ Some path
@@ -101,8 +53,7 @@ module _ (paths : List (List ℕ)) (makes : ℕ → Bool) (w : World) where
       let same : sees.0 ≡ path = cc in
       let is : g ≡ seen_file told path f = subst (λ (q : List ℕ). g ≡ seen_file told q f) same cc in
       subst (λ (x : File). IsPartOf (makes place) x x.content (get now path)) (sym is)
-      (seen_part told now path (makes place) f (subst (λ (q : List ℕ). IsSynced told q f) same sees.3)
-      (t.its place path f at has))
+      (t.its place path f at has (subst (λ (q : List ℕ). IsSynced told q f) same sees.3))
 
   pub part_seen : (told now : Contents) → AreSynced told paths w.files → TouchesIn paths makes w told now
       → (place : ℕ) (path : List ℕ) (g : File) → slice_get paths place ≡ Some path

@@ -9,7 +9,7 @@ use Rattle.cob_runs.specs.Contents.{fitted, bytes_at}
 use Rattle.cob_runs.specs.Files.{File, reading, opened, after_close, after_read, after_write, with_status}
 use Rattle.cob_runs.specs.State.{World, with_storage, with_files}
 use Rattle.cob_runs.specs.Acts.{is_fine, decl_at, with_file, file_act, open_one, close_one, take_on, take_one, undefined_if, written_world, write_on, write_one}
-use Rattle.cob_interp.specs.Told.{seen_file, seen_files, seen, IsSynced, AreSynced, AreDistinct, AgreeBut, IsReadyToOpen, IsReadyToClose}
+use Rattle.cob_interp.specs.Told.{seen_file, seen_files, seen, IsSynced, AreSynced, AreDistinct, AgreeBut, IsReadyToOpen, IsOut}
 use Rattle.cob_interp.proofs.SeenFiles.{SeenAt, seen_at, seen_set, synced_set}
 use Rattle.cob_interp.proofs.OneFile.{FileFollows, read_follows, write_follows, open_follows, close_follows}
 
@@ -79,7 +79,7 @@ module _ (l : Layout) (told now : Contents) (paths : List (List ℕ)) (text : Li
 
   pub close_one_follows : (place : ℕ) (d : FileDecl) (f : File) (path : List ℕ) → AgreeBut told now path
       → slice_get paths place ≡ Some path → decl_at l place ≡ Some d → slice_get w.files place ≡ Some f
-      → IsReadyToClose told now path f → IsSynced told path f
+      → IsOut told now path f → IsSynced told path f
       → CallFollows now paths text (close_one l place w) (close_one l place (seen told paths text w))
   close_one_follows place d f path but at declared is ready own =
       act_follows after_close place d f path (decl_at l place) but at declared is

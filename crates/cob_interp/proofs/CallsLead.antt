@@ -31,11 +31,11 @@ pub others_keep : (first told now : Contents) (paths : List (List ℕ)) (place :
 others_keep first told now paths place path at but keeps name none =
     but name (λ e. none (subst (Contains paths) (sym e) (contains_at paths place path at))) ∙ keeps name none
 
-never_faults : (b : Bool) (v : World) (kind : Kind) → taken_if b v ≡ Err kind → ⊥
+pub never_faults : (b : Bool) (v : World) (kind : Kind) → taken_if b v ≡ Err kind → ⊥
 never_faults true v kind e = cc
 never_faults false v kind e = cc
 
-by_status_sound : (p : Program) (number : ℕ) (w : World) (fine : Bool) (x : World × ℕ) (kind : Kind)
+pub by_status_sound : (p : Program) (number : ℕ) (w : World) (fine : Bool) (x : World × ℕ) (kind : Kind)
     → by_status p number None w fine x ≡ Err kind → ⊥
 by_status_sound p number w true x kind e = never_faults (is_fine x.1) x.0 kind e
 by_status_sound p number w false x kind e = never_faults (not (is_fine x.1)) x.0 kind e

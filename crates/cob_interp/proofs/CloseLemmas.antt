@@ -20,10 +20,10 @@ use Rattle.cob_interp.specs.declared.ends.RunEnd.{RunEnd}
 use Rattle.cob_interp.specs.declared.ends.RunEnd.TheVariants as end
 use Rattle.cob_interp.specs.declared.setting.Setting.{Setting}
 use Rattle.cob_interp.specs.declared.setting.Place.{Place}
-use Rattle.cob_interp.specs.Told.{seen_files, AreSynced, IsSynced, AreDistinct, AgreeBut, IsReadyToClose}
+use Rattle.cob_interp.specs.Told.{seen_files, AreSynced, IsSynced, AreDistinct, AgreeBut, IsOut}
 use Rattle.cob_interp.specs.Running.{Outside, outside, IsWell, Halts, StandsIn, RestsIn}
 use Rattle.cob_interp.specs.Setting.{program_of, paths_of, IsPlace}
-use Rattle.cob_interp.specs.Readying.{IsRefusal, ReadyToClose}
+use Rattle.cob_interp.specs.Readying.{IsRefusal, GoesOut}
 use Rattle.cob_interp.specs.Doing.{answered, Leads, DoesPart}
 use Rattle.cob_interp.proofs.SeenFiles.{SeenAt, seen_at}
 use Rattle.cob_interp.proofs.Calls.{close_one_follows}
@@ -70,7 +70,7 @@ own_synced told paths fs place path f s at has =
 module _ (s : Setting) (budget : ℕ) (x : Place) (step node : ℕ) (sink : SinkState) (old new : FilesState) (w v : World)
     (apart : AreDistinct (paths_of s)) (is : IsPlace s node x) (k fine bad file : ℕ) (fs : List ℕ)
     (op_is : x.plan_node.now.op ≡ op.Close k fine bad) (its : plain_act x.statement.now.act.now ≡ close_files fs)
-    (at : slice_get fs k ≡ Some file) (ready : ReadyToClose s w file old new) where
+    (at : slice_get fs k ≡ Some file) (ready : GoesOut s w file old new) where
   own : x.statement.now.number ≡ is.plan_node.node.statement
   own = is.number ∙ is.plan_node.statement
 
@@ -78,7 +78,7 @@ module _ (s : Setting) (budget : ℕ) (x : Place) (step node : ℕ) (sink : Sink
   act_is = subst (λ (n : ℕ). act_at (program_of s) n ≡ Some (close_files fs)) own (is.statement.its ∙ ap Some its)
 
   edge_follows : (first told now : Contents) (text : List ℕ) (left : ℕ) → AgreeBut told now ready.path
-      → IsReadyToClose told now ready.path ready.file
+      → IsOut told now ready.path ready.file
       → StandsIn (program_of s) s.graph.now (paths_of s) first told text w left step node
       → (a : Action) (m : ℕ) → Contains (op_edges x.plan_node.now.op) (a, m)
       → EdgeFollows (program_of s) is.plan_node.node.statement told now (paths_of s) text w a

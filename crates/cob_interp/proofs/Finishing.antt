@@ -25,16 +25,17 @@ use Rattle.cob_interp.specs.declared.walk.Halt.{Halt}
 use Rattle.cob_interp.specs.declared.walk.Halt.TheVariants as halt
 use Rattle.cob_interp.specs.Setting.{program_of, paths_of, StartsAt}
 use Rattle.cob_interp.specs.Touching.{makes_by, makes_none, Touches}
-use Rattle.cob_interp.specs.Readying.{IsRefusal}
+use Rattle.cob_interp.specs.Readying.{IsRefusal, Sees, AreEmptied}
 use Rattle.cob_interp.specs.Running.{Outside, outside, IsWell, IfTold, Stands, RestsIn, Rests, EndsRun, EndsWell, IsBroken, IfRefused, EndsBy, Halts, Arrives, IsAt, GoesOn, HaltsOff, Runs, TellsOfSink}
-use Rattle.cob_interp.specs.Walking.{by_sink, as_result, IsSinkRefusal, TellsBySink, Flushes, MayFlush, Refuses, PutsTo, is_refused, IsOwnEnd}
+use Rattle.cob_interp.specs.Walking.{by_sink, as_result, IsSinkRefusal, TellsBySink, Flushes, MayFlush, Refuses, is_refused, IsOwnEnd}
 use Rattle.cob_interp.proofs.Passing.{append_none, rests_on}
 use Rattle.cob_interp.proofs.Onward.{ends_well, spends}
 use Rattle.cob_interp.proofs.CloseLemmas.{rose_on}
 use Rattle.cob_interp.proofs.Touched.{touches_stay}
 use Rattle.cob_interp.proofs.Breaking.{told_on, broken_here, rests_break}
 use Rattle.cob_interp.proofs.Flushing.{stands_shown, rests_flushed}
-use Rattle.cob_interp.proofs.Putting.{contents_told, all_done}
+use Rattle.cob_interp.proofs.Putting.{contents_told, emptied_up_to}
+use Rattle.cob_interp.proofs.Emptying.{rests_sees}
 
 module _ (p : Program) (g : Graph) (paths : List (List ℕ)) (budget : ℕ) where
   -- ---- refusals
@@ -165,33 +166,31 @@ module _ (p : Program) (g : Graph) (paths : List (List ℕ)) (budget : ℕ) wher
   own_ends start now (Err (end.IoStop status statement)) own h = h
   own_ends start now (Err (end.Fault kind statement step)) own h = h
 
-  -- nothing waits, and all files are put
-  rests_put : (start : Outside) (old new : FilesState) (sink : SinkState) (w : World) (count : ℕ)
-      (r : Result Ended RunEnd) → w.shown ≡ []
-      → length paths ≤ count → PutsTo paths w count old new → Rests p g paths budget start (outside old sink) w r
-      → EndsWell p g paths budget start (outside new sink) r
-  rests_put start old new sink w count r none all puts s = record {
-    reading = puts.well.reading ∙ s.well.reading;
-    writing = puts.well.writing ∙ s.well.writing;
+  -- nothing waits
+  rests_put : (start : Outside) (files : FilesState) (sink : SinkState) (w : World) (r : Result Ended RunEnd)
+      → w.shown ≡ [] → AreEmptied w.files (length paths) → Rests p g paths budget start (outside files sink) w r
+      → EndsWell p g paths budget start (outside files sink) r
+  rests_put start files sink w r silent none s = record {
+    reading = s.well.reading;
+    writing = s.well.writing;
     faults = s.well.faults;
     run = told_on (λ first told. RestsIn p g paths budget first told s.text w r)
         (λ first told. EndsRun p g paths budget first told start.sink sink r)
-        (known_bytes start.files) (known_bytes old) (known_bytes new) s.told
+        (known_bytes start.files) (known_bytes files) (known_bytes files) s.told
         (λ first told e st.
-        let k = puts.known told e in
         subst (λ (c : Option Contents). IfTold (λ f n. EndsRun p g paths budget f n start.sink sink r) (Some first) c)
-        (sym k.is)
+        (sym e)
         (record {
           steps = st.steps;
           answer = st.answer;
           holds = record {
-            its = contents_told told k.now paths w.files st.synced (all_done paths w count told (known_bytes new) all k)
+            its = contents_told told paths w.files st.synced none
                 ∙ ap (λ (fs : List File). map (λ f. f.content) fs) (sym st.files);
-            others = λ name not. k.others name not ∙ st.others name not;
+            others = st.others;
           };
           shows = s.well.gained
               ∙ ap (append_known start.sink.told)
-              (sym (st.shown ∙ ap (λ (t : List ℕ). s.text ++ t) none ∙ append-nil s.text));
+              (sym (st.shown ∙ ap (λ (t : List ℕ). s.text ++ t) silent ∙ append-nil s.text));
         }));
   }
 
@@ -230,11 +229,14 @@ module _ (p : Program) (g : Graph) (paths : List (List ℕ)) (budget : ℕ) wher
         part = if_refused (Err e) (IsBroken p g paths budget start (outside behind new)) broken;
       }
 
-      pub finished : (count : ℕ) → length paths ≤ count → PutsTo paths v count files behind
-          → Runs p g paths budget start (outside behind new) r
-      finished count all puts = record {
+      pub finished : (u : World) (count : ℕ) → length paths ≤ count → Sees paths files behind v u
+          → AreEmptied u.files count → Runs p g paths budget start (outside behind new) r
+      finished u count all sees none = record {
         ends = own_ends start (outside behind new) r own
-            (rests_put start files behind new v count r (ap (λ (u : World). u.shown) flushes.world) all puts shown);
+            (rests_put start behind new u r
+            (ap (λ (x : World). x.shown) sees.world ∙ ap (λ (x : World). x.shown) flushes.world)
+            (emptied_up_to u.files (length paths) count all none)
+            (rests_sees p g paths start new files behind v u sees budget r shown));
         part = if_refused r (IsBroken p g paths budget start (outside behind new)) broken;
       }
 

@@ -1,10 +1,10 @@
 pub mod SeenFiles
 pub mod OneFile
+pub mod Waiting
 pub mod Calls
 pub mod Following
 pub mod Passing
 pub mod Onward
-pub mod PutLemmas
 pub mod NodeLemmas
 pub mod CallsLead
 pub mod CloseLemmas
@@ -16,11 +16,12 @@ pub mod RecordReads
 pub mod ReadParts
 pub mod Placing
 pub mod TrackLemmas
-pub mod InputLemmas
+pub mod HandleLemmas
 pub mod Windows
 pub mod Readied
 pub mod Purposes
 pub mod Places
+pub mod Written
 pub mod StepLemmas
 pub mod CallLemmas
 pub mod Beginnings
@@ -33,5 +34,8 @@ pub mod Breaking
 pub mod Flushing
 pub mod Putting
 pub mod Finishing
-pub mod ClosingInputs
+pub mod ClosingHandles
+pub mod EmptyRooms
+pub mod Going
+pub mod Emptying
 pub mod Starting

@@ -1,13 +1,13 @@
 -- What a call on a file does to it as the run sees it.
-use Rattle.std.proofs.Common.{◌≡◌, ℕ, ◌+◌, ◌<◌, ◌≤◌, ◌⊎◌, Bool, true, false, List, [], ◌++◌, length, take, drop, length-append, length-drop, take_at, take_all, Option, Some, None, inl, inr, refl, sym, ap, ◌∙◌, arith}
-use Rattle.std.specs.Prelude.{nat_le, nat_lt, is_some, ◌==◌, ◌&&◌}
+use Rattle.std.proofs.Common.{◌≡◌, ℕ, ◌+◌, ◌<◌, ◌≤◌, ◌⊎◌, Bool, true, false, List, [], ◌++◌, length, take, drop, length-append, length-drop, take_at, take_all, append_assoc, Option, Some, None, inl, inr, refl, sym, ap, ◌∙◌, arith}
+use Rattle.std.specs.Prelude.{nat_le, nat_lt, is_some, unwrap_or, ◌==◌, ◌&&◌}
 use Rattle.std.proofs.lemmas.Bool.Decides.{nat_tests}
 use Rattle.std.specs.FinMap.{get}
-use Rattle.batch_io.specs.FilesState.{Contents}
+use Rattle.batch_io.specs.FilesState.{Contents, bytes_at}
 use Rattle.cob_runs.specs.Contents.{area}
 use Rattle.cob_runs.specs.Files.{File, file, Mode, closed, reading, writing, opened, opened_new, after_close, Taken, after_read, taken_from, record_at, record_from, after_write, bytes_in}
 use Rattle.cob_interp.specs.Readying.{settled_file}
-use Rattle.cob_interp.specs.Told.{seen_file, IsSyncedIn, IsSynced, IsReadyToOpenIn, IsReadyToCloseIn, IsReadyToOpen, IsReadyToClose}
+use Rattle.cob_interp.specs.Told.{seen_file, IsSyncedIn, IsSynced, IsReadyToOpenIn, IsOutIn, IsReadyToOpen, IsOut}
 
 -- a call's outcome on the file as it is seen, beside that on the file as it is kept
 pub record FileFollows (now : Contents) (path : List ℕ) (kept seen_ : File × ℕ) : Type 0 where
@@ -171,7 +171,12 @@ module _ (told : Contents) (path : List ℕ) where
   write_by_mode r content closed place s = record { status = refl; file = refl; synced = s }
   write_by_mode r content (reading ended) place s = record { status = refl; file = refl; synced = s }
   write_by_mode r content writing place s =
-      record { status = refl; file = refl; synced = (s.0, (bytes_in (file content writing place) ++ r, refl)) }
+      record {
+        status = refl;
+        file = ap (λ (b : List ℕ). file (Some b) writing place)
+            (append_assoc (bytes_at told path) (bytes_in (file content writing place)) r);
+        synced = s;
+      }
 
   pub write_follows : (r : List ℕ) (f : File) → IsSynced told path f
       → FileFollows told path (after_write r f) (after_write r (seen_file told path f))
@@ -197,8 +202,11 @@ module _ (told now : Contents) (path : List ℕ) where
       → IsSyncedIn told m path content place
       → FileFollows now path (opened output (file content m place))
       (opened output (seen_file told path (file content m place)))
-  open_by_mode true content closed place ready s =
-      record { status = refl; file = refl; synced = (ready, ([], refl)) }
+  open_by_mode true content closed place ready s = record {
+    status = refl;
+    file = sym (ap (λ (c : Option (List ℕ)). file (Some (unwrap_or c [] ++ [])) writing 0) ready);
+    synced = ([], ready);
+  }
   open_by_mode false content closed place ready s =
       open_content content (get told path) ready.1 ready.0
   open_by_mode output content (reading ended) place ready s = record {
@@ -206,14 +214,18 @@ module _ (told now : Contents) (path : List ℕ) where
     file = ap (λ (c : Option (List ℕ)). file c (reading ended) place) (sym ready);
     synced = (s.0, ready ∙ s.1, s.2);
   }
-  open_by_mode output content writing place ready s =
-      record { status = refl; file = refl; synced = (ready ∙ s.0, s.1) }
+  open_by_mode output content writing place ready s = record {
+    status = refl;
+    file = ap (λ (c : Option (List ℕ)). file (Some (unwrap_or c [] ++ bytes_in (file content writing place))) writing place)
+        (sym ready);
+    synced = (s.0, ready ∙ s.1);
+  }
 
   pub open_follows : (output : Bool) (f : File) → IsReadyToOpen told now path output f → IsSynced told path f
       → FileFollows now path (opened output f) (opened output (seen_file told path f))
   open_follows output f ready s = open_by_mode output f.content f.mode f.place ready s
 
-  close_by_mode : (content : Option (List ℕ)) (m : Mode) (place : ℕ) → IsReadyToCloseIn told now path m content
+  close_by_mode : (content : Option (List ℕ)) (m : Mode) (place : ℕ) → IsOutIn told now path m (file content m place)
       → IsSyncedIn told m path content place
       → FileFollows now path (after_close (file content m place))
       (after_close (seen_file told path (file content m place)))
@@ -221,9 +233,14 @@ module _ (told now : Contents) (path : List ℕ) where
       record { status = refl; file = ap (λ (c : Option (List ℕ)). file c closed place) (sym ready); synced = tt }
   close_by_mode content (reading ended) place ready s =
       record { status = refl; file = ap (λ (c : Option (List ℕ)). file c closed 0) (sym ready); synced = tt }
-  close_by_mode content writing place ready s =
-      record { status = refl; file = ap (λ (c : Option (List ℕ)). file c closed 0) (sym ready); synced = tt }
+  close_by_mode content writing place ready s = record {
+    status = refl;
+    file = ap (λ (c : Option (List ℕ)). file c closed 0)
+        (ap (λ (c : Option (List ℕ)). Some (unwrap_or c [] ++ bytes_in (file content writing place))) s.1
+        ∙ sym (ready s.0 s.1));
+    synced = tt;
+  }
 
-  pub close_follows : (f : File) → IsReadyToClose told now path f → IsSynced told path f
+  pub close_follows : (f : File) → IsOut told now path f → IsSynced told path f
       → FileFollows now path (after_close f) (after_close (seen_file told path f))
   close_follows f ready s = close_by_mode f.content f.mode f.place ready s

@@ -2,7 +2,7 @@
 use Rattle.std.proofs.Common.{◌≡◌, ℕ, zero, suc, ◌<◌, Bool, true, false, List, [], ◌∷◌, ◌++◌, length, Option, Some, None, inl, inr, refl, sym, ap, subst, ◌∙◌}
 use Rattle.std.specs.Prelude.{slice_get, slice_set, is_some, IsSome, IfSome}
 use Rattle.std.specs.Option.{option_map}
-use Rattle.batch_io.specs.FilesState.{Contents, FilesState, Purpose, Reading, known_bytes, known_handle}
+use Rattle.batch_io.specs.FilesState.{Contents, FilesState, Purpose, Reading, Writing, known_bytes, known_handle}
 use Rattle.cob_program.specs.declared.act.Opening.{Opening}
 use Rattle.cob_runs.specs.Files.{File, file, Mode, closed, reading, writing, opened, opened_in}
 use Rattle.cob_runs.specs.State.{World, with_files}
@@ -14,9 +14,10 @@ use Rattle.cob_interp.specs.declared.setting.Setting.{Setting}
 use Rattle.cob_interp.specs.Told.{seen, seen_file, seen_files, IsSyncedIn, AreSynced, IsReadyToOpenIn}
 use Rattle.cob_interp.specs.Ends.{is_closed}
 use Rattle.cob_interp.specs.Setting.{paths_of}
-use Rattle.cob_interp.specs.Readying.{Puts, IsPath, IsOpenedAt, OpensInto, StandsOrBegins, ReadyToOpen}
-use Rattle.cob_interp.specs.Tracking.{Ids, IsRead, AreOpen, IsReading, StayAt, purpose_in, purposes_of, purpose_for, purposes_for}
-use Rattle.cob_interp.proofs.TrackLemmas.{read_in_set, places_stay}
+use Rattle.cob_interp.specs.Readying.{IsPath, IsOpenedAt, KeepsHandles, CreatesFor, OpensInto, StandsOrBegins, ReadyToOpen}
+use Rattle.cob_interp.specs.declared.handles.Held.{Held}
+use Rattle.cob_interp.specs.Tracking.{Ids, IsHeld, AreOpen, IsOpen, StayAt, purpose_in, purposes_of, purpose_for, purposes_for}
+use Rattle.cob_interp.proofs.TrackLemmas.{held_in_set, same_held, places_stay}
 use Rattle.cob_interp.proofs.Places.{set_stays}
 use Rattle.cob_interp.proofs.Purposes.{map_set, set_same, purpose_at, purposes_kept}
 use Rattle.cob_interp.proofs.SeenFiles.{SeenAt, seen_at}
@@ -27,7 +28,7 @@ pub has_file : (m : FileMode) (o : Option File) → option_map plain_mode (Some 
 has_file m None e = cc
 has_file m (Some f) e = (f, refl, cc)
 
-seen_file_at : (told : Contents) (paths : List (List ℕ)) (fs : List File) (place : ℕ) (path : List ℕ) (f : File)
+pub seen_file_at : (told : Contents) (paths : List (List ℕ)) (fs : List File) (place : ℕ) (path : List ℕ) (f : File)
     → AreSynced told paths fs → slice_get paths place ≡ Some path → slice_get fs place ≡ Some f
     → slice_get (seen_files told paths fs) place ≡ Some (seen_file told path f)
 seen_file_at told paths fs place path f s at has =
@@ -61,7 +62,7 @@ module _ (told : Contents) (f : File) (is_closed_ : f.mode ≡ closed) (content 
       let r = refilled_seen paths fs place s.1 has in
       (ap (λ (gs : List File). seen_file told path x ∷ gs) r.0, (s.0, r.1))
 
-get_set : (fs : List File) (place : ℕ) (f g : File) → slice_get fs place ≡ Some f
+pub get_set : (fs : List File) (place : ℕ) (f g : File) → slice_get fs place ≡ Some f
     → slice_get (slice_set fs place g) place ≡ Some g
 get_set [] place f g has = cc
 get_set (x ∷ fs) zero f g has = refl
@@ -73,23 +74,15 @@ refilled_is fs place f content has = ap (refilled_on place content fs) has
 
 -- ---- what an OPEN lets be read
 
-output_unread : (f : File) {output : Bool} → f.mode ≡ closed → output ≡ true → IsReading (opened output f).0.mode → ⊥
-output_unread f {output} mode_ out reads = by f.mode output mode_ out reads where
-  by : (m : Mode) (b : Bool) → m ≡ closed → b ≡ true → IsReading (opened_in b m f).0.mode → ⊥
-  by closed true e g r = r
-  by closed false e g r = absurd cc
-  by (reading ended) b e g r = absurd cc
-  by writing b e g r = absurd cc
-
-open_reads : (output : Bool) (f : File) → (f.mode ≡ closed → ⊥) → IsReading (opened output f).0.mode → IsReading f.mode
+open_reads : (output : Bool) (f : File) → (f.mode ≡ closed → ⊥) → IsOpen (opened output f).0.mode → IsOpen f.mode
 open_reads output f open_ reads = by f.mode refl open_ reads where
-  by : (m : Mode) → f.mode ≡ m → (m ≡ closed → ⊥) → IsReading (opened_in output m f).0.mode → IsReading f.mode
+  by : (m : Mode) → f.mode ≡ m → (m ≡ closed → ⊥) → IsOpen (opened_in output m f).0.mode → IsOpen f.mode
   by closed e n r = absurd (n refl)
   by (reading ended) e n r = r
   by writing e n r = r
 
 absent_unread : (content : Option (List ℕ)) (m : Mode) (place : ℕ) → m ≡ closed → is_some content ≡ false
-    → IsReading (opened false (file content m place)).0.mode → ⊥
+    → IsOpen (opened false (file content m place)).0.mode → ⊥
 absent_unread None closed place e none r = r
 absent_unread (Some bytes) closed place e none r = absurd cc
 absent_unread content (reading ended) place e none r = absurd cc
@@ -97,7 +90,7 @@ absent_unread content writing place e none r = absurd cc
 
 -- what the file is open for then
 output_purpose : (content : Option (List ℕ)) (m : Mode) (place : ℕ) (output : Bool) → m ≡ closed → output ≡ true
-    → purpose_in (opened output (file content m place)).0.mode ≡ purpose_in m
+    → purpose_in (opened output (file content m place)).0.mode ≡ Some Writing
 output_purpose content closed place true e out = refl
 output_purpose content closed place false e out = cc
 output_purpose content (reading ended) place output e out = cc
@@ -123,30 +116,54 @@ input_purpose content writing place false e input = cc
 
 module _ (s : Setting) (w : World) (o : Opening) (path : List ℕ) (is : IsPath s o.file path) (f : File)
     (has : slice_get w.files o.file ≡ Some f) where
+  -- where ids stand behind a file that is opened
+  begun_stand : (old new : FilesState) (before after : Ids) (output : Bool) (g : File) → g.mode ≡ closed
+      → (writes : Bool) → o.file < length before → IsOpenedAt new before after path o.file writes true
+      → KeepsHandles old new → AreOpen old before → StandsOrBegins old new before after path o.file output g
+  begun_stand old new before after output g mode_ writes within begun others live = record {
+    stand = λ other id u is_. elim (held_in_set before o.file other id u (Some (record { id = begun.0; writes = writes }))
+        within (subst (λ ids. IsHeld ids other u id) begun.1 is_)) [
+          | inl here ↦ inr (
+            here.0,
+            mode_,
+            subst (λ n. IfSome (known_handle new n) (λ handle. handle ≡ record { name = path; place = 0 }))
+                (ap (λ (x : Held). x.id) (same_held (record { id = begun.0; writes = writes })
+                (record { id = id; writes = u }) here.1)) begun.2,
+          )
+          | inr was ↦ inl (
+            was.1,
+            others id (subst (λ x. IsSome x) (sym (live.purpose other id u was.1)) refl),
+            λ e reads. absurd (was.0 e),
+          )
+        ];
+  }
+
   unchanged : {p : Option Purpose} → p ≡ purpose_in f.mode
       → slice_set (purposes_of w.files) o.file p ≡ purposes_of w.files
   unchanged {p} e =
       set_same (purposes_of w.files) o.file p
       (purpose_at w.files o.file f has ∙ ap (λ (q : Option Purpose). Some q) (sym e))
 
-  pub output_ready : (old new : FilesState) → f.mode ≡ closed → o.output ≡ true → Puts old new path []
-      → (ids : Ids) → ((other id : ℕ) → IsRead ids other id → known_handle new id ≡ known_handle old id)
-      → ReadyToOpen s w w o old new ids ids
-  output_ready old new mode output puts ids stand = record {
+  pub output_ready : (old new : FilesState) (before after : Ids) → f.mode ≡ closed → o.output ≡ true
+      → CreatesFor old new before after path o.file → AreOpen old before → ReadyToOpen s w w o old new before after
+  output_ready old new before after mode output creates live = record {
     path = path;
     file = f;
     is = is;
     has = has;
     ready = record {
-      well = puts.well;
+      well = creates.empties.well;
       known = λ told e.
-          let k = puts.known told e in
+          let k = creates.empties.known told e in
           record { now = k.now; is = k.is; others = k.others; it = rw (mode, output) k.it };
     };
-    stand = record {
-      stand = λ other id is_. inl (is_, stand other id is_, λ e reads. absurd (output_unread f mode output reads));
-    };
-    purposes = λ h. h ∙ sym (unchanged (output_purpose f.content f.mode f.place o.output mode output));
+    stand = begun_stand old new before after o.output f mode true creates.within creates.opened creates.others live;
+    purposes = λ h.
+        ap purposes_for creates.opened.1
+        ∙ map_set purpose_for before o.file (Some (record { id = creates.opened.0; writes = true }))
+        ∙ ap (λ (ps : List (Option Purpose)). slice_set ps o.file (Some Writing)) h
+        ∙ ap (slice_set (purposes_of w.files) o.file)
+        (sym (output_purpose f.content f.mode f.place o.output mode output));
     keeps = places_stay w.files;
     same = λ told text e synced. (refl, synced);
   }
@@ -163,7 +180,7 @@ module _ (s : Setting) (w : World) (o : Opening) (path : List ℕ) (is : IsPath 
       known = λ told e.
           record { now = told; is = e; others = λ name apart. refl; it = agrees told o.output f.mode open_ };
     };
-    stand = record { stand = λ other id is_. inl (is_, refl, λ e reads. open_reads o.output f open_ reads) };
+    stand = record { stand = λ other id writes is_. inl (is_, refl, λ e reads. open_reads o.output f open_ reads) };
     purposes = λ h. h ∙ sym (unchanged (open_purpose o.output f.content f.mode f.place open_));
     keeps = places_stay w.files;
     same = λ told text e synced. (refl, synced);
@@ -175,54 +192,37 @@ module _ (s : Setting) (w : World) (o : Opening) (path : List ℕ) (is : IsPath 
 
   module _ (old new : FilesState) (before after : Ids) (mode_ : f.mode ≡ closed) (input : o.output ≡ false) where
     -- where ids stand behind it
-    opened_stand : o.file < length before → (there : Bool) → IsOpenedAt new before after path o.file there
-        → ((other : ℕ) → IsSome (old.purpose other) → known_handle new other ≡ known_handle old other)
-        → AreOpen old before → (content : Option (List ℕ)) → is_some content ≡ there
+    opened_stand : o.file < length before → (there : Bool) → IsOpenedAt new before after path o.file false there
+        → KeepsHandles old new → AreOpen old before → (content : Option (List ℕ)) → is_some content ≡ there
         → StandsOrBegins old new before after path o.file o.output (file content f.mode f.place)
     opened_stand within false same others live content none = record {
-      stand = λ other id is_.
-          let was : IsRead before other id = subst (λ ids. IsRead ids other id) same is_ in
+      stand = λ other id writes is_.
+          let was : IsHeld before other writes id = subst (λ ids. IsHeld ids other writes id) same is_ in
           inl (
             was,
-            others id (subst (λ x. IsSome x) (sym (live.purpose other id was)) refl),
+            others id (subst (λ x. IsSome x) (sym (live.purpose other id writes was)) refl),
             λ e reads. absurd (absent_unread content f.mode f.place mode_ none
-                (subst (λ b. IsReading (opened b (file content f.mode f.place)).0.mode) input reads)),
+                (subst (λ b. IsOpen (opened b (file content f.mode f.place)).0.mode) input reads)),
           );
     }
-    opened_stand within true begun others live content some = record {
-      stand = λ other id is_. elim (read_in_set before o.file other id (Some begun.0) within
-          (subst (λ ids. IsRead ids other id) begun.1 is_)) [
-            | inl here ↦
-                let e : begun.0 ≡ id = cc in
-                inr (
-                  here.0,
-                  mode_,
-                  subst (λ n. IfSome (known_handle new n)
-                      (λ handle. handle ≡ record { name = path; place = 0 })) e begun.2,
-                )
-            | inr was ↦ inl (
-              was.1,
-              others id (subst (λ x. IsSome x) (sym (live.purpose other id was.1)) refl),
-              λ e reads. absurd (was.0 e),
-            )
-          ];
-    }
+    opened_stand within true begun others live content some =
+        begun_stand old new before after o.output (file content f.mode f.place) mode_ false within begun others live
 
     -- which files have ids behind it
-    opened_purposes : (there : Bool) → IsOpenedAt new before after path o.file there
+    opened_purposes : (there : Bool) → IsOpenedAt new before after path o.file false there
         → (content : Option (List ℕ)) → is_some content ≡ there → purposes_for before ≡ purposes_of w.files
         → purposes_for after
         ≡ slice_set (purposes_of w.files) o.file (purpose_in (opened o.output (file content f.mode f.place)).0.mode)
     opened_purposes there at content is h =
         let p = input_purpose content f.mode f.place o.output mode_ input in
         by there at (p ∙ ap purpose_if is) where
-          by : (b : Bool) → IsOpenedAt new before after path o.file b
+          by : (b : Bool) → IsOpenedAt new before after path o.file false b
               → purpose_in (opened o.output (file content f.mode f.place)).0.mode ≡ purpose_if b
               → purposes_for after
               ≡ slice_set (purposes_of w.files) o.file (purpose_in (opened o.output (file content f.mode f.place)).0.mode)
           by false same p = ap purposes_for same ∙ h ∙ sym (unchanged (p ∙ ap purpose_in (sym mode_)))
           by true begun p =
-              ap purposes_for begun.1 ∙ map_set purpose_for before o.file (Some begun.0)
+              ap purposes_for begun.1 ∙ map_set purpose_for before o.file (Some (record { id = begun.0; writes = false }))
               ∙ ap (λ (ps : List (Option Purpose)). slice_set ps o.file (Some Reading)) h
               ∙ ap (slice_set (purposes_of w.files) o.file) (sym p)
 
@@ -256,7 +256,7 @@ module _ (s : Setting) (w : World) (o : Opening) (path : List ℕ) (is : IsPath 
               (sym (ap purposes_of files_ ∙ purposes_kept w.files o.file f g has refl));
           keeps = record {
             each = subst (λ (fs : List File). StayAt w.files fs) (sym files_) (set_stays w.files o.file g
-                (λ reads. subst (λ (m : Mode). IsReading m → ⊥) (sym mode_) (λ r. r) reads));
+                (λ reads. subst (λ (m : Mode). IsOpen m → ⊥) (sym mode_) (λ r. r) reads));
             purposes = ap purposes_of files_ ∙ purposes_kept w.files o.file f g has refl;
           };
           same = λ told text e synced.

@@ -25,7 +25,7 @@ use Rattle.cob_runs.specs.State.{World, with_storage}
 use Rattle.cob_runs.specs.Acts.{show, undefined_if, with_file, with_count, count_of, write_on, write_one, into_if, file_from, is_fine, decl_at}
 use Rattle.cob_runs.specs.Contents.{fitted, bytes_at, number_at, form_at, filled_at, stored}
 use Rattle.cob_runs.specs.Effects.{Effect, taken, taken_if, met, effect_of, computed, counted, tested, decided, shown, wrote, file_call, read_with, tests_in_act, assigned}
-use Rattle.cob_interp.specs.Tracking.{IsReading, purpose_in, StayAt, KeepsPlaces}
+use Rattle.cob_interp.specs.Tracking.{IsOpen, purpose_in, StayAt, KeepsPlaces}
 use Rattle.cob_interp.proofs.Purposes.{purposes_kept}
 use Rattle.cob_interp.proofs.Following.{IsPlainFor}
 
@@ -43,24 +43,24 @@ got_in_set (x ∷ fs) (suc place) (suc p) e g is = elim (got_in_set fs place p e
 ]
 
 -- it isn't read
-pub set_stays : (fs : List File) (place : ℕ) (e : File) → (IsReading e.mode → ⊥) → StayAt fs (slice_set fs place e)
+pub set_stays : (fs : List File) (place : ℕ) (e : File) → (IsOpen e.mode → ⊥) → StayAt fs (slice_set fs place e)
 set_stays fs place e not_read p g is reads = elim (got_in_set fs place p e g is) [
-  | inl here ↦ absurd (not_read (subst (λ (x : File). IsReading x.mode) (sym here.1) reads))
+  | inl here ↦ absurd (not_read (subst (λ (x : File). IsOpen x.mode) (sym here.1) reads))
   | inr there ↦ (g, there, reads, refl)
 ]
 
--- or it is as it was, where it is read
-pub set_keeps_as : (fs : List File) (place : ℕ) (f e : File) → slice_get fs place ≡ Some f → (IsReading e.mode → e ≡ f)
-    → purpose_in e.mode ≡ purpose_in f.mode → KeepsPlaces fs (slice_set fs place e)
+-- or it is at the place where it was, and open for the same
+pub set_keeps_as : (fs : List File) (place : ℕ) (f e : File) → slice_get fs place ≡ Some f
+    → (IsOpen e.mode → IsOpen f.mode × (f.place ≡ e.place)) → purpose_in e.mode ≡ purpose_in f.mode
+    → KeepsPlaces fs (slice_set fs place e)
 set_keeps_as fs place f e has as_it_was same_purpose = record {
   each = λ p g is reads. elim (got_in_set fs place p e g is) [
     | inl here ↦
-        let own : IsReading e.mode = subst (λ (x : File). IsReading x.mode) (sym here.1) reads in
-        let same : f ≡ g = sym (as_it_was own) ∙ here.1 in (
+        let was = as_it_was (subst (λ (x : File). IsOpen x.mode) (sym here.1) reads) in (
           f,
           subst (λ (n : ℕ). slice_get fs n ≡ Some f) (sym here.0) has,
-          subst (λ (x : File). IsReading x.mode) (sym same) reads,
-          ap (λ (x : File). x.place) same,
+          was.0,
+          was.1 ∙ ap (λ (x : File). x.place) here.1,
         )
     | inr there ↦ (g, there, reads, refl)
   ];
@@ -257,13 +257,14 @@ module _ (p : Program) (number : ℕ) (w : World) where
 
   -- ---- WRITE
 
-  written_mode : (r : List ℕ) (f : File) → IsReading (after_write r f).0.mode → (after_write r f).0 ≡ f
-  written_mode r f reads = by f.content f.mode f.place reads where
-    by : (content : Option (List ℕ)) (m : Mode) (place : ℕ) → IsReading (after_write r (file content m place)).0.mode
-        → (after_write r (file content m place)).0 ≡ file content m place
-    by content closed place reads = refl
-    by content (reading ended) place reads = refl
-    by content writing place reads = absurd reads
+  written_mode : (r : List ℕ) (f : File) → IsOpen (after_write r f).0.mode
+      → IsOpen f.mode × (f.place ≡ (after_write r f).0.place)
+  written_mode r f open_ = by f.content f.mode f.place open_ where
+    by : (content : Option (List ℕ)) (m : Mode) (place : ℕ) → IsOpen (after_write r (file content m place)).0.mode
+        → IsOpen m × (place ≡ (after_write r (file content m place)).0.place)
+    by content closed place open_ = absurd open_
+    by content (reading ended) place open_ = (tt, refl)
+    by content writing place open_ = (tt, refl)
 
   written_purpose : (r : List ℕ) (f : File) → purpose_in (after_write r f).0.mode ≡ purpose_in f.mode
   written_purpose r f = by f.content f.mode f.place where

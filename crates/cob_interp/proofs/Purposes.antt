@@ -1,10 +1,11 @@
 -- Which files have ids, and what for.
-use Rattle.std.proofs.Common.{◌≡◌, ℕ, zero, suc, ◌+◌, List, [], ◌∷◌, ◌++◌, map, replicate, Option, Some, None, refl, sym, ap, ◌∙◌, arith}
+use Rattle.std.proofs.Common.{◌≡◌, ℕ, zero, suc, ◌+◌, Bool, true, false, List, [], ◌∷◌, ◌++◌, map, replicate, Option, Some, None, refl, sym, ap, ◌∙◌, arith}
 use Rattle.std.specs.Prelude.{slice_get, slice_set, option_map}
 use Rattle.std.proofs.lemmas.Option.{slice_get-map}
-use Rattle.batch_io.specs.FilesState.{Purpose, Reading}
+use Rattle.batch_io.specs.FilesState.{Purpose}
 use Rattle.cob_runs.specs.Files.{File}
-use Rattle.cob_interp.specs.Tracking.{Ids, IsReadAt, purpose_in, purposes_of, purpose_for, purposes_for}
+use Rattle.cob_interp.specs.declared.handles.Held.{Held}
+use Rattle.cob_interp.specs.Tracking.{Ids, IsHeldFor, purpose_by, purpose_in, purposes_of, purpose_for, purposes_for}
 
 -- ---- one element is new
 
@@ -60,31 +61,40 @@ none_pushed ids n e =
 -- ---- the id of a file
 
 slot_is : (ids : Ids) (place : ℕ) (p : Option Purpose) → slice_get (purposes_for ids) place ≡ Some p
-    → (slot : Option ℕ) × (slice_get ids place ≡ Some slot) × (purpose_for slot ≡ p)
+    → (slot : Option Held) × (slice_get ids place ≡ Some slot) × (purpose_for slot ≡ p)
 slot_is [] place p at = cc
 slot_is (x ∷ ids) zero p at = (x, refl, cc)
 slot_is (x ∷ ids) (suc place) p at = slot_is ids place p at
 
-unheld : (slot : Option ℕ) → purpose_for slot ≡ None → slot ≡ None
+unheld : (slot : Option Held) → purpose_for slot ≡ None → slot ≡ None
 unheld None e = refl
-unheld (Some id) e = cc
+unheld (Some x) e = cc
 
-held : (slot : Option ℕ) → purpose_for slot ≡ Some Reading → (id : ℕ) × (slot ≡ Some id)
-held None e = cc
-held (Some id) e = (id, refl)
+same_use : (a b : Bool) → purpose_by a ≡ purpose_by b → a ≡ b
+same_use true true e = refl
+same_use false false e = refl
+same_use true false e = cc
+same_use false true e = cc
+
+held : (slot : Option Held) (writes : Bool) → purpose_for slot ≡ Some (purpose_by writes)
+    → (id : ℕ) × (slot ≡ Some (record { id = id; writes = writes }))
+held None writes e = cc
+held (Some x) writes e =
+    let same : purpose_by x.writes ≡ purpose_by writes = cc in
+    (x.id, ap (λ (b : Bool). Some (record { id = x.id; writes = b })) (same_use x.writes writes same))
 
 module _ (ids : Ids) (fs : List File) (same : purposes_for ids ≡ purposes_of fs) (place : ℕ) (f : File)
     (has : slice_get fs place ≡ Some f) where
-  slot_at : (slot : Option ℕ) × (slice_get ids place ≡ Some slot) × (purpose_for slot ≡ purpose_in f.mode)
+  slot_at : (slot : Option Held) × (slice_get ids place ≡ Some slot) × (purpose_for slot ≡ purpose_in f.mode)
   slot_at =
       slot_is ids place (purpose_in f.mode)
       (ap (λ (ps : List (Option Purpose)). slice_get ps place) same ∙ purpose_at fs place f has)
 
   pub slot_free : purpose_in f.mode ≡ None → slice_get ids place ≡ Some None
-  slot_free e = let s = slot_at in s.1 ∙ ap (λ (o : Option ℕ). Some o) (unheld s.0 (s.2 ∙ e))
+  slot_free e = let s = slot_at in s.1 ∙ ap (λ (o : Option Held). Some o) (unheld s.0 (s.2 ∙ e))
 
-  pub slot_read : purpose_in f.mode ≡ Some Reading → IsReadAt ids place
-  slot_read e =
+  pub slot_held : (writes : Bool) → purpose_in f.mode ≡ Some (purpose_by writes) → IsHeldFor ids place writes
+  slot_held writes e =
       let s = slot_at in
-      let h = held s.0 (s.2 ∙ e) in
-      (h.0, s.1 ∙ ap (λ (o : Option ℕ). Some o) h.1)
+      let h = held s.0 writes (s.2 ∙ e) in
+      (h.0, s.1 ∙ ap (λ (o : Option Held). Some o) h.1)

@@ -5,28 +5,34 @@ use Rattle.batch_io.specs.FilesState.{Contents, FilesState, Handle, Purpose, Kee
 use Rattle.cob_runs.specs.Files.{File}
 use Rattle.cob_runs.specs.State.{World}
 use Rattle.cob_interp.specs.declared.setting.Setting.{Setting}
-use Rattle.cob_interp.specs.Readying.{AreWell, Keeps, ReadyToClose, ClosesFor}
+use Rattle.cob_interp.specs.Readying.{AreWell, Keeps, GoesOut, ClosesFor}
 use Rattle.cob_interp.specs.Touching.{IsTouched, Touches}
-use Rattle.cob_interp.specs.Told.{IsReadyToClose}
-use Rattle.cob_interp.specs.Tracking.{Ids, AreOpen, StandAt}
+use Rattle.cob_interp.specs.Told.{IsOut}
+use Rattle.cob_interp.specs.Tracking.{Ids, AreOpen, StandAt, ArePlaced}
 
 module _ (paths : List (List ℕ)) (a b : FilesState) (fs : List File) where
   pub stand_ids : (ids : Ids) → KeepsIds a b → AreOpen a ids → StandAt paths a ids fs → StandAt paths b ids fs
-  stand_ids ids keeps live stand place id path f is at has reads =
+  stand_ids ids keeps live stand place id writes path f is at has reads =
       subst (λ (o : Option Handle). IfSome o (λ handle. handle ≡ record { name = path; place = f.place }))
-      (sym (keeps.handle id (subst (λ (o : Option Purpose). IsSome o) (sym (live.purpose place id is)) refl)))
-      (stand place id path f is at has reads)
+      (sym (keeps.handle id (subst (λ (o : Option Purpose). IsSome o) (sym (live.purpose place id writes is)) refl)))
+      (stand place id writes path f is at has reads)
+
+  pub placed_ids : (ids : Ids) → KeepsIds a b → AreOpen a ids → ArePlaced paths a ids fs → ArePlaced paths b ids fs
+  placed_ids ids keeps live placed = record {
+    stand = stand_ids ids keeps live placed.stand;
+    purposes = placed.purposes;
+  }
 
   pub stand_closed : (before after : Ids) (place : ℕ) → ClosesFor a b before after place → StandAt paths a before fs
       → StandAt paths b after fs
-  stand_closed before after place closes stand q id path f is at has reads =
-      let c = closes.ids q id is in
+  stand_closed before after place closes stand q id writes path f is at has reads =
+      let c = closes.ids q id writes is in
       subst (λ (o : Option Handle). IfSome o (λ handle. handle ≡ record { name = path; place = f.place })) (sym c.1)
-      (stand q id path f c.0 at has reads)
+      (stand q id writes path f c.0 at has reads)
 
-pub ready_closed : (s : Setting) (w : World) (place : ℕ) (old mid new : FilesState) → ReadyToClose s w place old mid
-    → AreWell mid new → known_bytes new ≡ known_bytes mid → ReadyToClose s w place old new
-ready_closed s w place old mid new ready well same = record {
+pub out_closed : (s : Setting) (w : World) (place : ℕ) (old mid new : FilesState) → GoesOut s w place old mid
+    → AreWell mid new → known_bytes new ≡ known_bytes mid → GoesOut s w place old new
+out_closed s w place old mid new ready well same = record {
   path = ready.path;
   file = ready.file;
   is = ready.is;
@@ -37,7 +43,7 @@ ready_closed s w place old mid new ready well same = record {
       writing = well.writing ∙ ready.ready.well.writing;
     };
     known = λ told e.
-        subst (λ (c : Option Contents). Keeps told c ready.path (λ now. IsReadyToClose told now ready.path ready.file))
+        subst (λ (c : Option Contents). Keeps told c ready.path (λ now. IsOut told now ready.path ready.file))
         (sym same) (ready.ready.known told e);
   };
 }

@@ -1,12 +1,12 @@
 -- The files as the run sees them, where one of them changes.
-use Rattle.std.proofs.Common.{◌≡◌, ℕ, zero, suc, cond, List, [], ◌∷◌, Option, Some, None, refl, sym, ap, subst, ◌∙◌, zero-lt-suc, suc-le-suc}
-use Rattle.std.specs.Prelude.{Contains, slice_get, slice_set}
+use Rattle.std.proofs.Common.{◌≡◌, ℕ, zero, suc, cond, List, [], ◌∷◌, ◌++◌, Option, Some, None, refl, sym, ap, subst, ◌∙◌, zero-lt-suc, suc-le-suc}
+use Rattle.std.specs.Prelude.{Contains, slice_get, slice_set, unwrap_or}
 use Rattle.std.specs.FinMap.{get, insert, get-insert}
 use Rattle.std.proofs.lemmas.Cmp.{nat_list_cmp_total}
 use Rattle.std.proofs.lemmas.Bool.{false_from_ne_true}
 use Rattle.batch_io.specs.FilesState.{Contents}
 use Rattle.batch_io.proofs.EntriesLemmas.{is_same, same_name}
-use Rattle.cob_runs.specs.Files.{File, file, Mode, closed, reading, writing}
+use Rattle.cob_runs.specs.Files.{File, file, Mode, closed, reading, writing, bytes_in}
 use Rattle.cob_interp.specs.Told.{seen_in, seen_file, seen_files, IsSyncedIn, IsSynced, AreSynced, AreDistinct, AgreeBut}
 
 -- ---- contents that agree
@@ -55,13 +55,13 @@ module _ (told now : Contents) (path : List ℕ) (agree : get now path ≡ get t
   pub seen_in_same : (m : Mode) (f : File) → seen_in now m path f ≡ seen_in told m path f
   seen_in_same closed f = ap (λ content. file content closed f.place) agree
   seen_in_same (reading ended) f = ap (λ content. file content (reading ended) f.place) agree
-  seen_in_same writing f = refl
+  seen_in_same writing f = ap (λ content. file (Some (unwrap_or content [] ++ bytes_in f)) writing f.place) agree
 
   pub synced_same : (m : Mode) (content : Option (List ℕ)) (place : ℕ) → IsSyncedIn told m path content place
       → IsSyncedIn now m path content place
   synced_same closed content place s = tt
   synced_same (reading ended) content place s = (s.0, agree ∙ s.1, s.2)
-  synced_same writing content place s = (agree ∙ s.0, s.1)
+  synced_same writing content place s = (s.0, agree ∙ s.1)
 
 -- ---- all of them
 

@@ -1,5 +1,5 @@
 -- Where a run begins.
-use Rattle.std.proofs.Common.{◌≡◌, ℕ, zero, suc, ◌+◌, ◌-◌, List, [], ◌∷◌, length, map, inl, Option, Some, None, Err, refl, sym, ap, subst, ◌∙◌, arith}
+use Rattle.std.proofs.Common.{◌≡◌, ℕ, zero, suc, ◌+◌, ◌-◌, List, [], ◌∷◌, length, map, Option, Some, None, Err, refl, sym, ap, subst, ◌∙◌, arith}
 use Rattle.std.specs.Prelude.{slice_get, replicate}
 use Rattle.std.specs.FinMap.{get}
 use Rattle.batch_io.specs.FilesState.{Contents, FilesState, Purpose, known_bytes}
@@ -24,6 +24,7 @@ use Rattle.cob_interp.specs.Running.{Outside, IfTold, makes_next, StandsIn, Stan
 use Rattle.cob_interp.proofs.Passing.{append_none, well_stays}
 use Rattle.cob_interp.specs.Tracking.{Ids, AreNone, purposes_of, purposes_for, ArePlaced}
 use Rattle.cob_interp.proofs.TrackLemmas.{none_stand}
+use Rattle.cob_interp.proofs.Waiting.{part_held}
 use Rattle.cob_interp.proofs.Breaking.{part_seen}
 
 -- ---- the first files
@@ -130,7 +131,7 @@ module _ (p : Program) (g : Graph) (paths : List (List ℕ)) (same : length path
           part_seen paths (λ n. makes_next p (state_after p (told_files told paths) 0) n)
           (first_world p [] []) told told
           (first_synced told paths p.layout.files 0 same)
-          (record { its = λ n q x at_ has_. inl refl; others = λ name none. refl }) place path f at
+          (record { its = λ n q x at_ has_ s. part_held told q _ x s; others = λ name none. refl }) place path f at
           (subst (λ (w : World). slice_get w.files place ≡ Some f) (begin_world told) has);
       others = λ name none. refl;
       shows = (0, append_none start.sink.told);

@@ -1,76 +1,30 @@
 -- What is left outside of a file that is put, and of all files.
-use Rattle.std.proofs.Common.{◌≡◌, ◌≢◌, ℕ, zero, suc, Bool, true, false, ◌||◌, ◌&&◌, ◌==◌, List, [], ◌∷◌, take, length, Option, Some, Result, Ok, Err, ◌⊎◌, inl, inr, refl, sym, ap, subst, ◌∙◌}
-use Rattle.std.specs.Prelude.{Contains, slice_get, option_map}
-use Rattle.std.specs.Option.{option_map_or}
+use Rattle.std.proofs.Common.{◌≡◌, ◌≢◌, ℕ, zero, suc, Bool, true, false, ◌||◌, ◌&&◌, ◌==◌, List, [], ◌∷◌, Option, Some, ◌⊎◌, inl, inr, refl, sym, ap, subst, ◌∙◌}
+use Rattle.std.specs.Prelude.{Contains, slice_get}
 use Rattle.std.specs.List.{list_any}
-use Rattle.std.specs.FinMap.{get, insert}
-use Rattle.std.proofs.Math.Seq.{take-length}
+use Rattle.std.specs.FinMap.{get}
 use Rattle.std.proofs.lemmas.Bool.{false≢true, eq-eqb}
-use Rattle.batch_io.specs.declared.ends.MakeEnd.{MakeEnd}
 use Rattle.batch_io.specs.FilesState.{Contents, FilesState, known_bytes}
-use Rattle.batch_io.specs.Wholes.{Holds, PutsFile}
 use Rattle.cob_program.specs.declared.act.Opening.{Opening}
 use Rattle.cob_program.specs.Act.{Act, open_files}
-use Rattle.cob_runs.specs.Files.{File, Mode, closed, writing, bytes_in}
+use Rattle.cob_runs.specs.Files.{File, Mode, closed, writing}
 use Rattle.cob_runs.specs.State.{World}
-use Rattle.cob_interp.specs.Told.{AreDistinct, AgreeBut}
-use Rattle.cob_interp.specs.Touching.{IsFront, IsEmptied, IsPartOf, makes_in, makes_by, makes_none, IsPutIn, PutsPart, TouchesOne, Touches, Makes, ClosesOnly, OpensOnly}
-use Rattle.cob_interp.proofs.SeenFiles.{contains_at, insert_agrees, insert_gets}
+use Rattle.cob_interp.specs.Told.{seen_in, seen_file, IsSynced, AreDistinct, AgreeBut}
+use Rattle.cob_interp.specs.Readying.{CreatesPart}
+use Rattle.cob_interp.specs.Touching.{IsEmptied, IsPartOf, makes_in, makes_by, makes_none, TouchesOne, Touches, Makes, ClosesOnly, OpensOnly}
+use Rattle.cob_interp.proofs.SeenFiles.{contains_at}
+use Rattle.cob_interp.proofs.Waiting.{part_held}
 use Rattle.cob_interp.proofs.CallsLead.{others_keep}
-
--- ---- one name
-
-module _ (old new : FilesState) (name bytes : List ℕ) where
-  kept_part : (told : Contents) → known_bytes new ≡ Some told → IsPutIn name bytes told (known_bytes new)
-  kept_part told is = record { now = told; is = is; others = λ other apart. refl; it = inl refl }
-
-  held_part : (n : ℕ) → Holds old new name (take n bytes) → (told : Contents) → known_bytes old ≡ Some told
-      → IsPutIn name bytes told (known_bytes new)
-  held_part n held told is = record {
-    now = insert told name (take n bytes);
-    is = held ∙ ap (option_map (λ m. insert m name (take n bytes))) is;
-    others = insert_agrees told name (take n bytes);
-    it = inr (n, insert_gets told name (take n bytes));
-  }
-
-  pub puts_part : (result : Result (Unit {0}) MakeEnd) → PutsFile old new name bytes result
-      → PutsPart old new name bytes
-  puts_part (Ok u) p = record {
-    known = held_part (length bytes) (subst (λ (x : List ℕ). Holds old new name x) (sym (take-length bytes)) p.ok);
-  }
-  puts_part (Err e) p = record {
-    known = λ told is. elim p.err [
-      | inl same ↦ kept_part told (same ∙ is)
-      | inr held ↦ held_part held.0 held.2 told is
-    ];
-  }
-
--- ---- one file
-
-pub untouched_one : (a : FilesState) (path : List ℕ) (makes : Bool) (f : File) → TouchesOne a a path makes f
-untouched_one a path makes f = record {
-  known = λ told is. record { now = told; is = is; others = λ other apart. refl; it = inl refl };
-}
-
-module _ (old new : FilesState) (path bytes : List ℕ) (f : File) (mode_ : f.mode ≡ writing)
-    (content_ : f.content ≡ Some bytes) where
-  part_by_put : (a b : Option (List ℕ)) → (b ≡ a) ⊎ ((n : ℕ) × (b ≡ Some (take n bytes))) → IsPartOf false f a b
-  part_by_put a b (inl same) = inl same
-  part_by_put a b (inr front) =
-      let its : bytes_in f ≡ bytes = ap (λ (c : Option (List ℕ)). option_map_or (λ x. x) c []) content_ in
-      inr (inl (mode_, (front.0, front.1 ∙ ap (λ (x : List ℕ). Some (take front.0 x)) (sym its))))
-
-  -- a file that is being written is put
-  pub written_touches : PutsPart old new path bytes → TouchesOne old new path false f
-  written_touches p = record {
-    known = λ told is.
-        let k = p.known told is in
-        record { now = k.now; is = k.is; others = k.others; it = part_by_put (get told path) (get k.now path) k.it };
-  }
 
 -- ---- one file of all
 
-apart_or_same : (paths : List (List ℕ)) (i j : ℕ) (path q : List ℕ) → AreDistinct paths → slice_get paths i ≡ Some path
+part_of_any : (makes : Bool) (f : File) (whole now : Option (List ℕ)) → IsPartOf false f whole now
+    → IsPartOf makes f whole now
+part_of_any makes f whole now (inl same) = inl same
+part_of_any makes f whole now (inr (inl front)) = inr (inl front)
+part_of_any makes f whole now (inr (inr empty)) = let e = empty.0 in cc
+
+pub apart_or_same : (paths : List (List ℕ)) (i j : ℕ) (path q : List ℕ) → AreDistinct paths → slice_get paths i ≡ Some path
     → slice_get paths j ≡ Some q → (i ≡ j) ⊎ (q ≢ path)
 apart_or_same [] i j path q apart at there = cc
 apart_or_same (x ∷ xs) zero zero path q apart at there = inl refl
@@ -106,7 +60,7 @@ module _ (Is : ℕ → File → Option (List ℕ) → Option (List ℕ) → Type
 module _ (paths : List (List ℕ)) (makes : ℕ → Bool) (w : World) (old new : FilesState) (place : ℕ) (path : List ℕ)
     (f : File) (apart : AreDistinct paths) (at : slice_get paths place ≡ Some path)
     (has : slice_get w.files place ≡ Some f) where
-  pub touches_by_one : TouchesOne old new path (makes place) f → Touches paths makes w old new
+  pub touches_by_one : TouchesOne old new path f → Touches paths makes w old new
   touches_by_one one = record {
     known = λ told is.
         let k = one.known told is in
@@ -114,28 +68,31 @@ module _ (paths : List (List ℕ)) (makes : ℕ → Bool) (w : World) (old new :
           now = k.now;
           is = k.is;
           touches = record {
-            its = all_by_one (λ (p : ℕ) (g : File) (a b : Option (List ℕ)). IsPartOf (makes p) g a b)
-                (λ p g a. inl refl)
-                paths w.files place path f apart at has told k.now k.others k.it;
+            its = λ p q g at_ has_ s. elim (apart_or_same paths place p path q apart at at_) [
+              | inl here ↦
+                  let at_here : slice_get paths p ≡ Some path = subst (λ (n : ℕ). slice_get paths n ≡ Some path) here at in
+                  let has_here : slice_get w.files p ≡ Some f =
+                  subst (λ (n : ℕ). slice_get w.files n ≡ Some f) here has in
+                  let same_path : path ≡ q = cc in
+                  let same_file : f ≡ g = cc in
+                  part_of_any (makes p) (seen_file told q g) (seen_file told q g).content (get k.now q)
+                  (subst (λ (x : List ℕ). IsSynced told x g
+                  → IsPartOf false (seen_file told x g) (seen_file told x g).content (get k.now x)) same_path
+                  (subst (λ (x : File). IsSynced told path x
+                  → IsPartOf false (seen_file told path x) (seen_file told path x).content (get k.now path)) same_file
+                  k.it) s)
+              | inr differ ↦
+                  subst (λ (c : Option (List ℕ)). IsPartOf (makes p) (seen_file told q g) (seen_file told q g).content c)
+                  (sym (k.others q differ)) (part_held told q (makes p) g s)
+            ];
             others = others_keep told told k.now paths place path at k.others (λ name none. refl);
           };
         };
   }
 
-  take_none : (n : ℕ) → take {A = ℕ} n [] ≡ []
-  take_none zero = refl
-  take_none (suc n) = refl
-
-  empty_part : f.mode ≡ closed → makes place ≡ true → (a b : Option (List ℕ))
-      → (b ≡ a) ⊎ ((n : ℕ) × (b ≡ Some (take n [])))
-      → (b ≡ a) ⊎ IsEmptied (makes place) f b
-  empty_part mode_ made a b (inl same) = inl same
-  empty_part mode_ made a b (inr front) =
-      inr (made, (mode_, front.1 ∙ ap (λ (x : List ℕ). Some x) (take_none front.0)))
-
-  -- a closed file that is opened for output is put empty
-  pub makes_by_put : f.mode ≡ closed → makes place ≡ true → PutsPart old new path [] → Makes paths makes w old new
-  makes_by_put mode_ made p = record {
+  -- a closed file that is opened for output is made empty
+  pub makes_by_create : f.mode ≡ closed → makes place ≡ true → CreatesPart old new path → Makes paths makes w old new
+  makes_by_create mode_ made p = record {
     known = λ told is.
         let k = p.known told is in
         record {
@@ -144,7 +101,10 @@ module _ (paths : List (List ℕ)) (makes : ℕ → Bool) (w : World) (old new :
           its = all_by_one (λ (p : ℕ) (g : File) (a b : Option (List ℕ)). (b ≡ a) ⊎ IsEmptied (makes p) g b)
               (λ p g a. inl refl)
               paths w.files place path f apart at has told k.now k.others
-              (empty_part mode_ made (get told path) (get k.now path) k.it);
+              (elim k.it [
+                | inl same ↦ inl same
+                | inr empty ↦ inr (made, (mode_, empty))
+              ]);
           others = others_keep told told k.now paths place path at k.others (λ name none. refl);
         };
   }
@@ -171,13 +131,24 @@ module _ (paths : List (List ℕ)) (makes : ℕ → Bool) (w : World) where
     known = λ told is. record {
       now = told;
       is = is;
-      touches = record { its = λ place path f at has. inl refl; others = λ name none. refl };
+      touches = record {
+        its = λ place path f at has s. part_held told path (makes place) f s;
+        others = λ name none. refl;
+      };
     };
   }
 
-  made_part : (make : Bool) (f : File) (a b : Option (List ℕ)) → (b ≡ a) ⊎ IsEmptied make f b → IsPartOf make f a b
-  made_part make f a b (inl same) = inl same
-  made_part make f a b (inr emptied) = inr (inr emptied)
+  closed_seen : (told : Contents) (path : List ℕ) (f : File) → f.mode ≡ closed → (seen_file told path f).mode ≡ closed
+  closed_seen told path f e = ap (λ (m : Mode). (seen_in told m path f).mode) e
+
+  made_part : (told now : Contents) (make : Bool) (path : List ℕ) (f : File) → IsSynced told path f
+      → (get now path ≡ get told path) ⊎ IsEmptied make f (get now path)
+      → IsPartOf make (seen_file told path f) (seen_file told path f).content (get now path)
+  made_part told now make path f s (inl same) =
+      subst (λ (c : Option (List ℕ)). IsPartOf make (seen_file told path f) (seen_file told path f).content c) (sym same)
+      (part_held told path make f s)
+  made_part told now make path f s (inr emptied) =
+      inr (inr (emptied.0, (closed_seen told path f emptied.1.0, emptied.1.1)))
 
   pub makes_touch : (old new : FilesState) → Makes paths makes w old new → Touches paths makes w old new
   makes_touch old new m = record {
@@ -187,8 +158,7 @@ module _ (paths : List (List ℕ)) (makes : ℕ → Bool) (w : World) where
           now = k.now;
           is = k.is;
           touches = record {
-            its = λ place path f at has. made_part (makes place) f (get told path) (get k.now path)
-                (k.its place path f at has);
+            its = λ place path f at has s. made_part told k.now (makes place) path f s (k.its place path f at has);
             others = k.others;
           };
         };
@@ -212,8 +182,9 @@ module _ (paths : List (List ℕ)) (makes more : ℕ → Bool) (w : World)
           now = k.now;
           is = k.is;
           touches = record {
-            its = λ place path f at has. more_part place f (get told path) (get k.now path)
-                (k.touches.its place path f at has);
+            its = λ place path f at has s.
+                more_part place (seen_file told path f) (seen_file told path f).content (get k.now path)
+                (k.touches.its place path f at has s);
             others = k.touches.others;
           };
         };
@@ -277,29 +248,46 @@ module _ (paths : List (List ℕ)) (w v : World) (a b c : FilesState) where
   closed_writing : (m : Mode) → m ≡ closed → m ≡ writing → ⊥
   closed_writing m shut open_ = let e : closed ≡ writing = sym shut ∙ open_ in cc
 
-  part_on : (f g : File) (x y z : Option (List ℕ)) → (g ≡ f) ⊎ (g.mode ≡ closed) → IsPartOf false f x y
-      → IsPartOf false g y z
-      → IsPartOf false f x z
-  part_on f g x y z how first (inl same) = subst (λ (o : Option (List ℕ)). IsPartOf false f x o) (sym same) first
-  part_on f g x y z (inl is) first (inr (inl front)) = inr (inl (subst (λ (h : File). IsFront h z) is front))
-  part_on f g x y z (inr shut) first (inr (inl front)) = absurd (closed_writing g.mode shut front.0)
-  part_on f g x y z how first (inr (inr emptied)) = absurd (false≢true emptied.0)
+  shut_content : (mid : Contents) (path : List ℕ) (g : File) → g.mode ≡ closed
+      → ((seen_file mid path g).content ≡ get mid path) × ((seen_file mid path g).mode ≡ closed)
+  shut_content mid path g e = (
+    ap (λ (m : Mode). (seen_in mid m path g).content) e,
+    ap (λ (m : Mode). (seen_in mid m path g).mode) e,
+  )
+
+  part_on : (f g : File) (mid z : Option (List ℕ)) → (g ≡ f) ⊎ ((g.content ≡ mid) × (g.mode ≡ closed))
+      → IsPartOf false f f.content mid → IsPartOf false g g.content z → IsPartOf false f f.content z
+  part_on f g mid z (inl is) first part = subst (λ (h : File). IsPartOf false h h.content z) is part
+  part_on f g mid z (inr shut) first (inl same) =
+      subst (λ (o : Option (List ℕ)). IsPartOf false f f.content o) (sym (same ∙ shut.0)) first
+  part_on f g mid z (inr shut) first (inr (inl front)) = absurd (closed_writing g.mode shut.1 front.0)
+  part_on f g mid z how first (inr (inr emptied)) = absurd (false≢true emptied.0)
 
   -- in a CLOSE
-  pub touches_on : Touches paths makes_none w a b → ClosesOnly w v → Touches paths makes_none v b c
+  pub touches_on : Touches paths makes_none w a b → ClosesOnly paths a b w v → Touches paths makes_none v b c
       → Touches paths makes_none w a c
   touches_on t only u = record {
     known = λ told is.
         let h = t.known told is in
+        let o = only.known told is in
+        let same : o.now ≡ h.now = let x = o.is in let y = h.is in cc in
         let k = u.known h.now h.is in
         record {
           now = k.now;
           is = k.is;
           touches = record {
-            its = λ place path f at has.
-                let g = only.each place f has in
-                part_on f g.0 (get told path) (get h.now path) (get k.now path) g.2 (h.touches.its place path f at has)
-                (k.touches.its place path g.0 at g.1);
+            its = λ place path f at has s.
+                let g = o.each place path f at has s in
+                let synced : IsSynced h.now path g.0 = subst (λ (m : Contents). IsSynced m path g.0) same g.2 in
+                let how : (seen_file h.now path g.0 ≡ seen_file told path f) ⊎ (g.0.mode ≡ closed) =
+                subst (λ (m : Contents). (seen_file m path g.0 ≡ seen_file told path f) ⊎ (g.0.mode ≡ closed)) same g.3 in
+                part_on (seen_file told path f) (seen_file h.now path g.0) (get h.now path) (get k.now path)
+                (elim how [
+                  | inl sees ↦ inl sees
+                  | inr shut ↦ inr (shut_content h.now path g.0 shut)
+                ])
+                (h.touches.its place path f at has s)
+                (k.touches.its place path g.0 at g.1 synced);
             others = λ name none. k.touches.others name none ∙ h.touches.others name none;
           };
         };

@@ -6,7 +6,7 @@ use Rattle.std.specs.Io.KnownBytes.{prepend_known}
 use Rattle.batch_io.specs.FilesState.{Contents, FilesState, Told, Handle, Gives, known_bytes, known_rest, rest_of, bytes_at}
 use Rattle.cob_runs.specs.Files.{File, Mode, reading}
 use Rattle.cob_interp.specs.Told.{IsSynced, IsSyncedIn}
-use Rattle.cob_interp.specs.Tracking.{Ids, IsRead, IsReading, ArePlaced}
+use Rattle.cob_interp.specs.Tracking.{Ids, IsHeld, IsOpen, ArePlaced}
 use Rattle.cob_interp.specs.Readying.{GivesRecord, GivesWindow, HasRest}
 use Rattle.std.proofs.Math.Seq.{take-length}
 
@@ -33,11 +33,11 @@ pub bytes_told : (told : Contents) (path : List ℕ) (f : File) → f.mode ≡ r
     → (all : List ℕ) × (get told path ≡ Some all) × (f.place ≤ length all)
 bytes_told told path f mode_ s = subst (λ (m : Mode). IsSyncedIn told m path f.content f.place) mode_ s
 
-reads_mode : (m : Mode) → m ≡ reading false → IsReading m
-reads_mode m e = subst IsReading (sym e) tt
+reads_mode : (m : Mode) → m ≡ reading false → IsOpen m
+reads_mode m e = subst IsOpen (sym e) tt
 
 module _ (old new : FilesState) (paths : List (List ℕ)) (ids : Ids) (files : List File) (placed : ArePlaced paths old ids files)
-    (place id : ℕ) (path : List ℕ) (f : File) (is : IsRead ids place id) (at : slice_get paths place ≡ Some path)
+    (place id : ℕ) (path : List ℕ) (f : File) (is : IsHeld ids place false id) (at : slice_get paths place ≡ Some path)
     (has : slice_get files place ≡ Some f) (mode_ : f.mode ≡ reading false) (window : List ℕ)
     (given : Gives old new id window) (told : Contents) (e : known_bytes old ≡ Some told) (all : List ℕ)
     (held : get told path ≡ Some all) where
@@ -45,7 +45,7 @@ module _ (old new : FilesState) (paths : List (List ℕ)) (ids : Ids) (files : L
   pub given_split : (left : List ℕ) × (known_rest new id ≡ Some left) × (drop f.place all ≡ window ++ left)
   given_split =
       rest_split (known_rest new id) window (drop f.place all)
-      (sym (rest_at old.told id told path f.place all e (placed.stand place id path f is at has (reads_mode f.mode mode_)) held)
+      (sym (rest_at old.told id told path f.place all e (placed.stand place id false path f is at has (reads_mode f.mode mode_)) held)
       ∙ given.rest)
 
 pub left_none : (o : Option (List ℕ)) (left : List ℕ) → o ≡ Some left → IfSome o (λ rest. rest ≡ []) → left ≡ []

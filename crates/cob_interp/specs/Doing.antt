@@ -1,5 +1,5 @@
 -- What doing the part of a node comes to.
-use Rattle.std.specs.Prelude.{◌≡◌, ◌≤◌, ℕ, true, List, length, slice_get, Some, Result, Ok, Err}
+use Rattle.std.specs.Prelude.{◌≡◌, ◌≤◌, ℕ, true, List, [], length, slice_get, Option, None, Some, Result, Ok, Err}
 use Rattle.std.specs.Option.{option_map_or}
 use Rattle.cob_plan.specs.declared.node.Op.{Op}
 use Rattle.cob_plan.specs.declared.node.Op.TheVariants as op
@@ -23,7 +23,7 @@ use Rattle.cob_data.specs.declared.layout.FileDecl.{FileDecl}
 use Rattle.cob_interp.specs.Told.{seen_files, AreSynced}
 use Rattle.batch_io.specs.FilesState.{Contents, FilesState, known_bytes}
 use Rattle.cob_runs.specs.Acts.{decl_at}
-use Rattle.cob_runs.specs.Files.{bytes_in}
+use Rattle.cob_runs.specs.Files.{File, bytes_in}
 
 -- The operation does nothing with files.
 abbrev pub IsQuiet : Op → Type 0
@@ -60,10 +60,10 @@ Leads s budget step node old new w v result =
     (start : Outside) → step ≤ budget → IsUnderway (program_of s) s.graph.now (paths_of s) start old w step node
     → Arrives (program_of s) s.graph.now (paths_of s) budget start new v step result
 
--- the operation opens the file of this number
-abbrev pub IsOpenOf : Op → ℕ → Type 0
-IsOpenOf (op.Open file fine bad) number = file ≡ number
-IsOpenOf _ number = ⊥
+-- Of the file, if there is one, no bytes wait.
+abbrev pub IsFresh : Option File → Type 0
+IsFresh None = Unit {0}
+IsFresh (Some f) = f.content ≡ Some []
 
 -- the file at a place is seen to end within a record, and this says so
 abbrev pub IsRaggedAt : Setting → FilesState → World → ℕ → RunEnd → Type 0

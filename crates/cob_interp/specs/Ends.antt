@@ -1,5 +1,5 @@
 -- How a program's run on told files ends within a budget of steps.
-use Rattle.std.specs.Prelude.{◌≡◌, ◌≤◌, ◌<◌, ◌==◌, ◌&&◌, nat_lt, ℕ, Bool, true, false, List, [], length, map, slice_get, Option, Some, Result, Ok, Err}
+use Rattle.std.specs.Prelude.{◌≡◌, ◌≤◌, ◌<◌, ◌==◌, ◌&&◌, nat_lt, ℕ, Bool, true, false, List, [], length, map, slice_get, Option, Some, Result, Ok, Err, MatchResult}
 use Rattle.std.specs.Option.{option_map_or}
 use Rattle.std.specs.FinMap.{get}
 use Rattle.batch_io.specs.FilesState as outside
@@ -39,6 +39,16 @@ cut_file d f = false
 abbrev pub is_closed : Mode → Bool
 is_closed closed = true
 is_closed _ = false
+
+-- a fact of a run's end, where neither the outside nor memory refused it
+abbrev pub IfOwn : RunEnd → Type 0 → Type 0
+IfOwn end.ReadFault P = Unit {0}
+IfOwn end.WriteFault P = Unit {0}
+IfOwn end.Memory P = Unit {0}
+IfOwn _ P = P
+
+abbrev pub UnlessRefused : {A : Type 0} → Result A RunEnd → Type 0 → Type 0
+UnlessRefused result P = MatchResult result (λ _. P) (λ e. IfOwn e P)
 
 module _ (p : Program) where
   abbrev pub cut_by : Act → World → ℕ → Bool

@@ -2,16 +2,16 @@
 -- the text that was already shown.
 use Rattle.std.specs.Prelude.{◌≡◌, ◌≢◌, ◌≤◌, ℕ, Bool, true, false, List, [], ◌∷◌, ◌++◌, length, map, Contains, Option, Some, is_some}
 use Rattle.std.specs.FinMap.{get}
-use Rattle.batch_io.specs.FilesState.{Contents}
-use Rattle.cob_runs.specs.Files.{File, file, Mode, closed, reading, writing}
+use Rattle.batch_io.specs.FilesState.{Contents, bytes_at}
+use Rattle.cob_runs.specs.Files.{File, file, Mode, closed, reading, writing, bytes_in}
 use Rattle.cob_runs.specs.State.{World}
 
 module _ (told : Contents) where
-  -- a file holds what is told under its path; one that is being written is kept
+  -- A file holds what is told under its path; behind that of one that is being written stands what waits of it.
   abbrev pub seen_in : Mode → List ℕ → File → File
   seen_in closed path f = file (get told path) closed f.place
   seen_in (reading ended) path f = file (get told path) (reading ended) f.place
-  seen_in writing path f = f
+  seen_in writing path f = file (Some (bytes_at told path ++ bytes_in f)) writing f.place
 
   abbrev pub seen_file : List ℕ → File → File
   seen_file path f = seen_in f.mode path f
@@ -26,13 +26,12 @@ module _ (told : Contents) where
   seen paths text w =
       record { storage = w.storage; counts = w.counts; files = seen_files paths w.files; shown = text ++ w.shown }
 
-  -- An open file is told too: of one that is read, no more was read than it has; of one that is written, nothing is
-  -- told yet.
+  -- An open file is told too; of one that is read, no more was read than it has.
   abbrev pub IsSyncedIn : Mode → List ℕ → Option (List ℕ) → ℕ → Type 0
   IsSyncedIn closed path content place = Unit {0}
   IsSyncedIn (reading ended) path content place =
       (bytes : List ℕ) × (get told path ≡ Some bytes) × (place ≤ length bytes)
-  IsSyncedIn writing path content place = (get told path ≡ Some []) × ((bytes : List ℕ) × (content ≡ Some bytes))
+  IsSyncedIn writing path content place = (bytes : List ℕ) × (get told path ≡ Some bytes)
 
   abbrev pub IsSynced : List ℕ → File → Type 0
   IsSynced path f = IsSyncedIn f.mode path f.content f.place
@@ -58,7 +57,7 @@ pub record Holds (old new : Contents) (paths : List (List ℕ)) (files : List Fi
   pub its : map (get new) paths ≡ map (λ f. f.content) files
   pub others : KeepsNames old new paths
 
--- ---- where the outside's files are made ready for OPEN and CLOSE
+-- ---- where the outside's files are made ready for OPEN, and what waits goes out
 
 module _ (told now : Contents) where
   -- each name but one holds what it held
@@ -74,14 +73,14 @@ module _ (told now : Contents) where
     IsReadyToOpenIn output (reading ended) content = get now path ≡ get told path
     IsReadyToOpenIn output writing content = get now path ≡ get told path
 
-    -- a file that was written is told
-    abbrev pub IsReadyToCloseIn : Mode → Option (List ℕ) → Type 0
-    IsReadyToCloseIn closed content = get now path ≡ get told path
-    IsReadyToCloseIn (reading ended) content = get now path ≡ get told path
-    IsReadyToCloseIn writing content = get now path ≡ content
+    -- what waits of a file that is being written went out
+    abbrev pub IsOutIn : Mode → File → Type 0
+    IsOutIn closed f = get now path ≡ get told path
+    IsOutIn (reading ended) f = get now path ≡ get told path
+    IsOutIn writing f = (bytes : List ℕ) → get told path ≡ Some bytes → get now path ≡ Some (bytes ++ bytes_in f)
 
     abbrev pub IsReadyToOpen : Bool → File → Type 0
     IsReadyToOpen output f = IsReadyToOpenIn output f.mode f.content
 
-    abbrev pub IsReadyToClose : File → Type 0
-    IsReadyToClose f = IsReadyToCloseIn f.mode f.content
+    abbrev pub IsOut : File → Type 0
+    IsOut f = IsOutIn f.mode f

@@ -7,7 +7,7 @@ use Rattle.cob_program.specs.declared.act.Opening.{Opening}
 use Rattle.cob_program.specs.Act.{Act, open_files}
 use Rattle.cob_runs.specs.Files.{File, closed, writing, bytes_in}
 use Rattle.cob_runs.specs.State.{World}
-use Rattle.cob_interp.specs.Told.{AgreeBut, KeepsNames}
+use Rattle.cob_interp.specs.Told.{seen_file, IsSynced, AgreeBut, KeepsNames}
 
 -- ---- what is told of a file
 
@@ -38,35 +38,25 @@ makes_none place = false
 
 -- ---- one name
 
--- The name holds what it held, or a front of these bytes; all other names hold what they held.
-pub record IsPutIn (name bytes : List ℕ) (told : Contents) (known : Option Contents) : Type 0 where
-  pub now : Contents
-  pub is : known ≡ Some now
-  pub others : AgreeBut told now name
-  pub it : (get now name ≡ get told name) ⊎ ((n : ℕ) × (get now name ≡ Some (take n bytes)))
-
-pub record PutsPart (old new : FilesState) (name bytes : List ℕ) : Type 0 where
-  pub known : (told : Contents) → known_bytes old ≡ Some told → IsPutIn name bytes told (known_bytes new)
-
--- the name holds a part of the file
-pub record TouchesOneIn (path : List ℕ) (makes : Bool) (f : File) (told : Contents)
-    (known : Option Contents) : Type 0 where
+-- the name holds a part of the file as the run sees it
+pub record TouchesOneIn (path : List ℕ) (f : File) (told : Contents) (known : Option Contents) : Type 0 where
   pub now : Contents
   pub is : known ≡ Some now
   pub others : AgreeBut told now path
-  pub it : IsPartOf makes f (get told path) (get now path)
+  pub it : IsSynced told path f
+      → IsPartOf false (seen_file told path f) (seen_file told path f).content (get now path)
 
-pub record TouchesOne (old new : FilesState) (path : List ℕ) (makes : Bool) (f : File) : Type 0 where
-  pub known : (told : Contents) → known_bytes old ≡ Some told → TouchesOneIn path makes f told (known_bytes new)
+pub record TouchesOne (old new : FilesState) (path : List ℕ) (f : File) : Type 0 where
+  pub known : (told : Contents) → known_bytes old ≡ Some told → TouchesOneIn path f told (known_bytes new)
 
 -- ---- all names
 
 module _ (paths : List (List ℕ)) (makes : ℕ → Bool) (w : World) where
-  -- each path holds what it held or a part of its file in this world; all other names hold what they held
+  -- each path holds a part of its file as the run sees it; all other names hold what they held
   pub record TouchesIn (told now : Contents) : Type 0 where
     pub its : (place : ℕ) (path : List ℕ) (f : File) → slice_get paths place ≡ Some path
-        → slice_get w.files place ≡ Some f
-        → IsPartOf (makes place) f (get told path) (get now path)
+        → slice_get w.files place ≡ Some f → IsSynced told path f
+        → IsPartOf (makes place) (seen_file told path f) (seen_file told path f).content (get now path)
     pub others : KeepsNames told now paths
 
   pub record IsTouched (told : Contents) (known : Option Contents) : Type 0 where
@@ -93,10 +83,22 @@ module _ (paths : List (List ℕ)) (makes : ℕ → Bool) (w : World) where
 
 -- ---- how files change within a statement
 
--- a CLOSE leaves each file as it was, or closed
-pub record ClosesOnly (old new : World) : Type 0 where
+-- A CLOSE leaves each file as it was, or closed.
+pub record ShutsOnly (old new : World) : Type 0 where
   pub each : (place : ℕ) (f : File) → slice_get old.files place ≡ Some f
       → (g : File) × (slice_get new.files place ≡ Some g) × ((g ≡ f) ⊎ (g.mode ≡ closed))
+
+-- So the run sees it.
+pub record ClosesIn (paths : List (List ℕ)) (w v : World) (told : Contents) (known : Option Contents) : Type 0 where
+  pub now : Contents
+  pub is : known ≡ Some now
+  pub each : (place : ℕ) (path : List ℕ) (f : File) → slice_get paths place ≡ Some path
+      → slice_get w.files place ≡ Some f → IsSynced told path f
+      → (g : File) × (slice_get v.files place ≡ Some g) × IsSynced now path g
+      × ((seen_file now path g ≡ seen_file told path f) ⊎ (g.mode ≡ closed))
+
+pub record ClosesOnly (paths : List (List ℕ)) (old new : FilesState) (w v : World) : Type 0 where
+  pub known : (told : Contents) → known_bytes old ≡ Some told → ClosesIn paths w v told (known_bytes new)
 
 -- an OPEN closes no file
 pub record OpensOnly (old new : World) : Type 0 where

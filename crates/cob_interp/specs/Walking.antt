@@ -1,13 +1,10 @@
 -- Why a run halts, and what becomes of text and files that wait.
-use Rattle.std.specs.Prelude.{◌≡◌, ◌≤◌, ◌<◌, ◌⊎◌, ℕ, Bool, true, false, List, take, slice_get, Option, Some, Result, Ok, Err}
-use Rattle.std.specs.FinMap.{get}
+use Rattle.std.specs.Prelude.{◌≡◌, ◌⊎◌, ℕ, Bool, true, false, List, take, Result, Ok, Err}
 use Rattle.std.specs.Io.KnownBytes.{append_known}
 use Rattle.batch_io.specs.Faults.{Rose}
-use Rattle.batch_io.specs.FilesState.{Contents, FilesState, known_bytes}
 use Rattle.batch_io.specs.SinkState.{SinkState}
 use Rattle.batch_io.specs.declared.ends.MakeEnd.{MakeEnd}
 use Rattle.batch_io.specs.declared.ends.MakeEnd.TheVariants as make
-use Rattle.cob_runs.specs.Files.{File}
 use Rattle.cob_runs.specs.State.{World}
 use Rattle.cob_world.specs.Becoming.{without_shown}
 use Rattle.cob_interp.specs.declared.ends.Ended.{Ended}
@@ -15,8 +12,6 @@ use Rattle.cob_interp.specs.declared.ends.RunEnd.{RunEnd}
 use Rattle.cob_interp.specs.declared.ends.RunEnd.TheVariants as end
 use Rattle.cob_interp.specs.declared.walk.Halt.{Halt}
 use Rattle.cob_interp.specs.declared.walk.Halt.TheVariants as halt
-use Rattle.cob_interp.specs.Readying.{AreWell}
-use Rattle.cob_interp.specs.Told.{KeepsNames, IsReadyToClose}
 
 -- the sink's refusal as the run's
 abbrev pub by_sink : MakeEnd → RunEnd
@@ -60,24 +55,6 @@ pub record Refuses (old new : SinkState) (w v : World) (e : MakeEnd) : Type 0 wh
   pub front : (n : ℕ) × (new.told ≡ append_known old.told (take n w.shown))
   pub why : IsSinkRefusal old new e
   pub world : v ≡ w
-
--- ---- files that wait
-
--- The files at the first places are told, so many of them, and at the others what was told.
-pub record IsPutTo (paths : List (List ℕ)) (w : World) (count : ℕ) (told : Contents)
-    (known : Option Contents) : Type 0 where
-  pub now : Contents
-  pub is : known ≡ Some now
-  pub done : (place : ℕ) (path : List ℕ) (f : File) → place < count → slice_get paths place ≡ Some path
-      → slice_get w.files place ≡ Some f
-      → IsReadyToClose told now path f
-  pub left : (place : ℕ) (path : List ℕ) → count ≤ place → slice_get paths place ≡ Some path
-      → get now path ≡ get told path
-  pub others : KeepsNames told now paths
-
-pub record PutsTo (paths : List (List ℕ)) (w : World) (count : ℕ) (old new : FilesState) : Type 0 where
-  pub well : AreWell old new
-  pub known : (told : Contents) → known_bytes old ≡ Some told → IsPutTo paths w count told (known_bytes new)
 
 -- ---- ends
 

@@ -2,7 +2,7 @@
 #![tactic(auto)]
 
 mod ends;
-mod inputs;
+mod handles;
 mod laws;
 mod nodes;
 mod opens;

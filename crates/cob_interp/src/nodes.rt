@@ -3,14 +3,15 @@ ghost use Rattle.std.specs.Prelude.{◌≡◌, ℕ, IfOk, length, slice_get};
 ghost use Rattle.batch_io.specs.SinkState.{SinkState};
 ghost use Rattle.cob_program.specs.Act.{open_files, close_files};
 ghost use Rattle.cob_program.specs.ActView.{plain_act};
+ghost use Rattle.cob_interp.specs.Ends.{UnlessRefused};
 ghost use Rattle.cob_interp.specs.Running.{Outside, outside};
 ghost use Rattle.cob_interp.specs.Setting.{IsReady, IsPlace, IsPlaced, paths_of};
 ghost use Rattle.cob_interp.specs.Touching.{Touches, ClosesOnly, makes_none};
 ghost use Rattle.cob_interp.specs.Doing.{IsPlain, halted, DoesPart, Leads};
-ghost use Rattle.cob_interp.specs.Tracking.{AreOpen, ArePlaced, KeepsPlaces, Tracks};
+ghost use Rattle.cob_interp.specs.Tracking.{AreLeft, AreOpen, ArePlaced, KeepsPlaces, Tracks};
 
 use crate::ends::RunEnd;
-use crate::inputs::Inputs;
+use crate::handles::Handles;
 use crate::outside::ready_to_close;
 use crate::setting::{Place, Setting};
 use batch_io::Files;
@@ -69,7 +70,7 @@ pub fn do_plain(
     ensures kept { world.new.program ≡ world.old.program }
     ensures leads { (now : Outside) (node budget : ℕ) → IsPlace setting.now node place.now
         → Leads setting.now budget step node now now world.old.world world.new.world result }
-    ensures places { IfOk result (λ _. KeepsPlaces world.old.world.files world.new.world.files) }
+    ensures places { UnlessRefused result (KeepsPlaces world.old.world.files world.new.world.files) }
 {
     do_part(alloc, setting, place, world, step)
 }
@@ -85,7 +86,7 @@ pub fn do_close<F: Files>(
     alloc: Global,
     setting: &Setting,
     files: &mut F,
-    inputs: &mut Inputs,
+    handles: &mut Handles,
     place: &Place,
     closed: &[u32],
     world: &mut World,
@@ -95,18 +96,18 @@ pub fn do_close<F: Files>(
     requires runs { world.old.program ≡ setting.now.program.now }
     requires place { IsPlaced setting.now place.now }
     requires its { plain_act place.now.statement.now.act.now ≡ close_files closed.now }
-    requires live { AreOpen (F.state files.old) inputs.old }
-    requires placed { ArePlaced (paths_of setting.now) (F.state files.old) inputs.old world.old.world.files }
+    requires live { AreOpen (F.state files.old) handles.old }
+    requires placed { ArePlaced (paths_of setting.now) (F.state files.old) handles.old world.old.world.files }
     ensures kept { world.new.program ≡ world.old.program }
-    ensures tracks { Tracks (F.state files.old) (F.state files.new) inputs.old inputs.new }
-    ensures placed { IfOk result (λ _. ArePlaced (paths_of setting.now) (F.state files.new) inputs.new
-        world.new.world.files) }
+    ensures tracks { Tracks (F.state files.old) (F.state files.new) handles.old handles.new }
+    ensures placed { AreLeft (paths_of setting.now) (F.state files.new) handles.new world.new.world.files result }
     ensures leads { (sink : SinkState) (node budget : ℕ) → IsPlace setting.now node place.now
         → Leads setting.now budget step node (outside (F.state files.old) sink) (outside (F.state files.new) sink)
         world.old.world world.new.world result }
     ensures touches { Touches (paths_of setting.now) makes_none world.old.world (F.state files.old)
         (F.state files.new) }
-    ensures closes { IfOk result (λ _. ClosesOnly world.old.world world.new.world) }
+    ensures closes { IfOk result (λ _. ClosesOnly (paths_of setting.now) (F.state files.old) (F.state files.new)
+        world.old.world world.new.world) }
 {
     let Op::Close { file, .. } = place.plan_node.op else {
         return Err(RunEnd::Memory);
@@ -114,7 +115,7 @@ pub fn do_close<F: Files>(
     match file_in(closed, file) {
         None => Err(RunEnd::Memory),
         Some(at) => {
-            ready_to_close(setting, files, inputs, world, at)?;
+            ready_to_close(alloc, setting, files, handles, world, at)?;
             do_part(alloc, setting, place, world, step)
         }
     }

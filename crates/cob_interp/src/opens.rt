@@ -1,23 +1,23 @@
 //! OPEN (ISO 1989:1985, "The OPEN statement").
-ghost use Rattle.std.specs.Prelude.{◌≡◌, ℕ, IfOk, length, slice_get};
+ghost use Rattle.std.specs.Prelude.{◌≡◌, ℕ, true, IfOk, [], slice_get};
 ghost use Rattle.batch_io.specs.SinkState.{SinkState};
 ghost use Rattle.cob_program.specs.Act.{open_files};
 ghost use Rattle.cob_program.specs.ActView.{plain_act};
 ghost use Rattle.cob_interp.specs.Running.{outside};
 ghost use Rattle.cob_interp.specs.Setting.{IsReady, IsPlace, IsPlaced, paths_of};
 ghost use Rattle.cob_interp.specs.Touching.{Makes, OpensOnly, makes_in};
-ghost use Rattle.cob_interp.specs.Tracking.{AreOpen, ArePlaced, Tracks};
-ghost use Rattle.cob_interp.specs.Doing.{Leads};
+ghost use Rattle.cob_interp.specs.Tracking.{AreLeft, AreOpen, ArePlaced, Tracks};
+ghost use Rattle.cob_interp.specs.Doing.{IsFresh, Leads};
 
 use crate::ends::RunEnd;
-use crate::inputs::Inputs;
+use crate::handles::Handles;
 use crate::nodes::do_part;
 use crate::outside::ready_to_open;
 use crate::setting::{Place, Setting};
 use batch_io::Files;
 use cob_plan::Op;
 use cob_program::Opening;
-use cob_world::World;
+use cob_world::{FileMode, World};
 use std::alloc::Global;
 
 fn opening_in(openings: &[Opening], number: u32) -> Option<Opening>
@@ -26,12 +26,49 @@ fn opening_in(openings: &[Opening], number: u32) -> Option<Opening>
     openings.get(number as usize).copied()
 }
 
+/// Whether the file at a place is being written, and nothing waits of it.
+fn is_fresh(world: &World, place: u32) -> bool
+    ensures { result ≡ true → IsFresh (slice_get world.now.world.files place) }
+{
+    match world.file(place as usize) {
+        None => false,
+        Some(found) => match (found.mode(), found.bytes()) {
+            (FileMode::Writing, Some(bytes)) => bytes.is_empty(),
+            _ => false,
+        },
+    }
+}
+
+/// A file of which nothing waits gets this room, which is empty.
+fn fill_with(world: &mut World, place: u32, room: Vec<u8>)
+    requires fresh { IsFresh (slice_get world.old.world.files place) }
+    requires empty { room.items ≡ [] }
+    ensures kept { world.new.program ≡ world.old.program }
+    ensures same { world.new.world ≡ world.old.world }
+{
+    world.set_content(place as usize, Some(room));
+}
+
+/// Behind an OPEN: a file that is written gets the room that was taken for it.
+fn lend_room(alloc: Global, handles: &mut Handles, world: &mut World, place: u32)
+    ensures kept { world.new.program ≡ world.old.program }
+    ensures same { world.new.world ≡ world.old.world }
+    ensures ids { handles.new ≡ handles.old }
+{
+    if !is_fresh(world, place) {
+        return;
+    }
+    if let Some(room) = handles.take_empty_room(alloc, place as usize) {
+        fill_with(world, place, room);
+    }
+}
+
 /// Does the part of a node whose statement is an OPEN of these files.
 pub fn do_open<F: Files>(
     alloc: Global,
     setting: &Setting,
     files: &mut F,
-    inputs: &mut Inputs,
+    handles: &mut Handles,
     place: &Place,
     openings: &[Opening],
     world: &mut World,
@@ -41,12 +78,11 @@ pub fn do_open<F: Files>(
     requires runs { world.old.program ≡ setting.now.program.now }
     requires place { IsPlaced setting.now place.now }
     requires its { plain_act place.now.statement.now.act.now ≡ open_files openings.now }
-    requires live { AreOpen (F.state files.old) inputs.old }
-    requires placed { ArePlaced (paths_of setting.now) (F.state files.old) inputs.old world.old.world.files }
+    requires live { AreOpen (F.state files.old) handles.old }
+    requires placed { ArePlaced (paths_of setting.now) (F.state files.old) handles.old world.old.world.files }
     ensures kept { world.new.program ≡ world.old.program }
-    ensures tracks { Tracks (F.state files.old) (F.state files.new) inputs.old inputs.new }
-    ensures placed { IfOk result (λ _. ArePlaced (paths_of setting.now) (F.state files.new) inputs.new
-        world.new.world.files) }
+    ensures tracks { Tracks (F.state files.old) (F.state files.new) handles.old handles.new }
+    ensures placed { AreLeft (paths_of setting.now) (F.state files.new) handles.new world.new.world.files result }
     ensures leads { (sink : SinkState) (node budget : ℕ) → IsPlace setting.now node place.now
         → Leads setting.now budget step node (outside (F.state files.old) sink) (outside (F.state files.new) sink)
         world.old.world world.new.world result }
@@ -60,8 +96,10 @@ pub fn do_open<F: Files>(
     match opening_in(openings, file) {
         None => Err(RunEnd::Memory),
         Some(opening) => {
-            ready_to_open(alloc, setting, files, inputs, world, opening)?;
-            do_part(alloc, setting, place, world, step)
+            ready_to_open(alloc, setting, files, handles, world, opening)?;
+            let next = do_part(alloc, setting, place, world, step);
+            lend_room(alloc, handles, world, opening.file);
+            next
         }
     }
 }

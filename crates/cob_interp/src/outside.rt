@@ -1,105 +1,150 @@
-//! How what a run keeps is put outside, and files are opened and closed there.
-ghost use Rattle.std.specs.Prelude.{◌≡◌, List, MatchResult, IfOk, [], ◌∷◌, Some, None, length, slice_get, slice_set, false};
+//! How files are opened and closed outside, and what waits of those that are written goes out.
+ghost use Rattle.std.specs.Prelude.{◌≡◌, List, ℕ, true, MatchResult, IfOk, IfSome, [], ◌∷◌, Some, None, length, slice_get, slice_set};
 ghost use Rattle.batch_io.specs.FilesState.{KeepsIds, known_bytes};
-ghost use Rattle.cob_interp.specs.Readying.{IsRefusal, Puts, Readies, ReadyToClose, OpensInto, ReadyToOpen};
-ghost use Rattle.cob_interp.specs.Tracking.{AreOpen, ArePlaced, StandAt, Tracks};
+ghost use Rattle.cob_interp.specs.Readying.{IsRefusal, IsNamed, Readies, GoesOut, OpensInto, ReadyToOpen, emptied, IsWrittenAt};
+ghost use Rattle.cob_interp.specs.Tracking.{AreOpen, ArePlaced, AreWritten, IsHeldFor, StandAt, Tracks};
 ghost use Rattle.cob_runs.specs.Files as file;
+ghost use Rattle.cob_runs.specs.Files.{writing};
 ghost use Rattle.cob_interp.specs.Ends.{is_closed};
-ghost use Rattle.cob_interp.specs.Told.{IsReadyToClose};
-ghost use Rattle.cob_interp.specs.Touching.{PutsPart, TouchesOne, Touches, Makes, OpensOnly, makes_in, makes_none};
+ghost use Rattle.cob_interp.specs.Told.{IsOut};
+ghost use Rattle.cob_interp.specs.Touching.{TouchesOne, Touches, Makes, OpensOnly, makes_in, makes_none};
 ghost use Rattle.cob_interp.specs.Setting.{IsReady, paths_of};
 ghost use Rattle.cob_world.specs.Views.{plain_mode};
 
 use crate::ends::RunEnd;
-use crate::inputs::Inputs;
+use crate::handles::Handles;
 use crate::setting::Setting;
-use batch_io::{Files, MakeEnd, put_file};
+use batch_io::Files;
 use cob_program::Opening;
 use cob_world::{File, FileMode, World};
 use std::alloc::Global;
 
-/// Makes the file of this name with these bytes.
-pub fn put<F: Files>(files: &mut F, name: &str, bytes: &[u8]) -> Result<(), RunEnd>
-    ensures puts { MatchResult result
-        (λ _. Puts (F.state files.old) (F.state files.new) name.now bytes.now)
-        (λ e. IsRefusal (F.state files.old) (F.state files.new) e) }
-    ensures part { PutsPart (F.state files.old) (F.state files.new) name.now bytes.now }
-    ensures ids { KeepsIds (F.state files.old) (F.state files.new) }
-{
-    match put_file(files, name, bytes) {
-        Ok(()) => Ok(()),
-        Err(MakeEnd::Failed) => Err(RunEnd::WriteFault),
-        Err(MakeEnd::Memory) => Err(RunEnd::Memory),
-    }
-}
-
-/// Puts a file that is being written.
-fn put_written<F: Files>(files: &mut F, path: &str, file: &File) -> Result<(), RunEnd>
+/// Writes what waits of a file that is being written. Of others nothing does.
+fn put_waiting<F: Files>(
+    files: &mut F,
+    handles: &Handles,
+    place: u32,
+    file: &File,
+) -> Result<(), RunEnd>
+    requires live { AreOpen (F.state files.old) handles.now }
+    requires held { file.now.mode ≡ writing → IsHeldFor handles.now place true }
     ensures readies { MatchResult result
-        (λ _. Readies (F.state files.old) (F.state files.new) path.now
-        (λ told now. IsReadyToClose told now path.now file.now))
+        (λ _. (path : List ℕ) → IsNamed (F.state files.old) handles.now place path file.now
+        → Readies (F.state files.old) (F.state files.new) path (λ told now. IsOut told now path file.now))
         (λ e. IsRefusal (F.state files.old) (F.state files.new) e) }
-    ensures touches { TouchesOne (F.state files.old) (F.state files.new) path.now false file.now }
+    ensures touches { (path : List ℕ) → IsNamed (F.state files.old) handles.now place path file.now
+        → TouchesOne (F.state files.old) (F.state files.new) path file.now }
     ensures ids { KeepsIds (F.state files.old) (F.state files.new) }
 {
     match file.mode() {
-        FileMode::Writing => match file.bytes() {
-            None => Err(RunEnd::Memory),
-            Some(bytes) => {
-                put(files, path, bytes)?;
-                Ok(())
-            }
-        },
+        FileMode::Writing => handles.put(files, place as usize, file.all()),
         FileMode::Closed | FileMode::Reading { .. } => Ok(()),
     }
 }
 
-/// Puts the file at a place, where it is being written.
-pub fn put_file_at<F: Files>(
+/// Writes what waits of the file at a place, where it is being written.
+fn put_out<F: Files>(
     setting: &Setting,
     files: &mut F,
+    handles: &Handles,
     world: &World,
     place: u32,
 ) -> Result<(), RunEnd>
     requires ready { IsReady setting.now }
-    ensures readies { MatchResult result
-        (λ _. ReadyToClose setting.now world.now.world place (F.state files.old) (F.state files.new))
+    requires live { AreOpen (F.state files.old) handles.now }
+    requires written { AreWritten (paths_of setting.now) (F.state files.old) handles.now world.now.world.files }
+    ensures goes { MatchResult result
+        (λ _. GoesOut setting.now world.now.world place (F.state files.old) (F.state files.new))
         (λ e. IsRefusal (F.state files.old) (F.state files.new) e) }
     ensures touches { Touches (paths_of setting.now) makes_none world.now.world (F.state files.old)
         (F.state files.new) }
     ensures ids { KeepsIds (F.state files.old) (F.state files.new) }
 {
     match (setting.path(place), world.file(place as usize)) {
-        (Some(path), Some(file)) => {
-            put_written(files, path, file)?;
-            Ok(())
-        }
+        (Some(_path), Some(file)) => put_waiting(files, handles, place, file),
         _ => Err(RunEnd::Memory),
     }
 }
 
-/// Before a CLOSE of the file at a place: puts it, where it is being written, and closes its id, where it is read.
-pub fn ready_to_close<F: Files>(
+/// How many bytes were read of the file at a place, where it is being written.
+fn written_place(world: &World, place: u32) -> Option<usize>
+    ensures { IsWrittenAt (slice_get world.now.world.files place) result }
+{
+    let found = world.file(place as usize)?;
+    match found.mode() {
+        FileMode::Writing => Some(found.place()),
+        _ => None,
+    }
+}
+
+/// Nothing waits of the file at a place any more, where it is being written. Its room stays.
+fn empty_waiting(alloc: Global, world: &mut World, place: u32)
+    ensures kept { world.new.program ≡ world.old.program }
+    ensures emptied { world.new.world ≡ emptied place world.old.world }
+{
+    let Some(at) = written_place(world, place) else {
+        return;
+    };
+    let waited = world.replace_content(place as usize, Some(Vec::new(alloc)), at);
+    let Some(mut room) = waited else {
+        return;
+    };
+    room.clear();
+    world.set_content(place as usize, Some(room));
+}
+
+/// Writes out what waits of the file at a place, where it is being written.
+pub fn write_out<F: Files>(
+    alloc: Global,
     setting: &Setting,
     files: &mut F,
-    inputs: &mut Inputs,
-    world: &World,
+    handles: &Handles,
+    world: &mut World,
     place: u32,
 ) -> Result<(), RunEnd>
     requires ready { IsReady setting.now }
-    requires live { AreOpen (F.state files.old) inputs.old }
-    ensures tracks { Tracks (F.state files.old) (F.state files.new) inputs.old inputs.new }
-    ensures readies { MatchResult result
-        (λ _. ReadyToClose setting.now world.now.world place (F.state files.old) (F.state files.new))
+    requires live { AreOpen (F.state files.old) handles.now }
+    requires written { AreWritten (paths_of setting.now) (F.state files.old) handles.now world.old.world.files }
+    ensures kept { world.new.program ≡ world.old.program }
+    ensures goes { MatchResult result
+        (λ _. GoesOut setting.now world.old.world place (F.state files.old) (F.state files.new))
         (λ e. IsRefusal (F.state files.old) (F.state files.new) e) }
-    ensures stand { (fs : List file.File) → StandAt (paths_of setting.now) (F.state files.old) inputs.old fs
-        → IfOk result (λ _. StandAt (paths_of setting.now) (F.state files.new) inputs.new fs) }
-    ensures emptied { IfOk result (λ _. inputs.new ≡ slice_set inputs.old place None) }
-    ensures touches { Touches (paths_of setting.now) makes_none world.now.world (F.state files.old)
+    ensures emptied { IfOk result (λ _. world.new.world ≡ emptied place world.old.world) }
+    ensures touches { Touches (paths_of setting.now) makes_none world.old.world (F.state files.old)
+        (F.state files.new) }
+    ensures ids { KeepsIds (F.state files.old) (F.state files.new) }
+{
+    put_out(setting, files, handles, world, place)?;
+    empty_waiting(alloc, world, place);
+    Ok(())
+}
+
+/// Before a CLOSE of the file at a place: writes out what waits of it, where it is being written, and closes its id.
+pub fn ready_to_close<F: Files>(
+    alloc: Global,
+    setting: &Setting,
+    files: &mut F,
+    handles: &mut Handles,
+    world: &mut World,
+    place: u32,
+) -> Result<(), RunEnd>
+    requires ready { IsReady setting.now }
+    requires live { AreOpen (F.state files.old) handles.old }
+    requires placed { ArePlaced (paths_of setting.now) (F.state files.old) handles.old world.old.world.files }
+    ensures kept { world.new.program ≡ world.old.program }
+    ensures tracks { Tracks (F.state files.old) (F.state files.new) handles.old handles.new }
+    ensures goes { MatchResult result
+        (λ _. GoesOut setting.now world.old.world place (F.state files.old) (F.state files.new))
+        (λ e. IsRefusal (F.state files.old) (F.state files.new) e) }
+    ensures emptied { IfOk result (λ _. world.new.world ≡ emptied place world.old.world) }
+    ensures stand { (fs : List file.File) → StandAt (paths_of setting.now) (F.state files.old) handles.old fs
+        → IfOk result (λ _. StandAt (paths_of setting.now) (F.state files.new) handles.new fs) }
+    ensures closed { IfOk result (λ _. handles.new ≡ slice_set handles.old place None) }
+    ensures touches { Touches (paths_of setting.now) makes_none world.old.world (F.state files.old)
         (F.state files.new) }
 {
-    put_file_at(setting, files, world, place)?;
-    inputs.close(files, place as usize)?;
+    write_out(alloc, setting, files, handles, world, place)?;
+    handles.close(files, place as usize)?;
     Ok(())
 }
 
@@ -114,18 +159,18 @@ fn open_input<F: Files>(
     alloc: Global,
     setting: &Setting,
     files: &mut F,
-    inputs: &mut Inputs,
+    handles: &mut Handles,
     world: &mut World,
     path: &str,
     place: u32,
 ) -> Result<(), RunEnd>
-    requires live { AreOpen (F.state files.old) inputs.old }
-    requires free { slice_get inputs.old place ≡ Some None }
-    ensures tracks { Tracks (F.state files.old) (F.state files.new) inputs.old inputs.new }
+    requires live { AreOpen (F.state files.old) handles.old }
+    requires free { slice_get handles.old place ≡ Some None }
+    ensures tracks { Tracks (F.state files.old) (F.state files.new) handles.old handles.new }
     ensures kept { world.new.program ≡ world.old.program }
     ensures same { known_bytes (F.state files.new) ≡ known_bytes (F.state files.old) }
     ensures opens { MatchResult result
-        (λ _. OpensInto (F.state files.old) (F.state files.new) inputs.old inputs.new path.now place world.old.world
+        (λ _. OpensInto (F.state files.old) (F.state files.new) handles.old handles.new path.now place world.old.world
         world.new.world)
         (λ e. IsRefusal (F.state files.old) (F.state files.new) e) }
     ensures only { OpensOnly world.old.world world.new.world }
@@ -133,7 +178,7 @@ fn open_input<F: Files>(
     let Some(size) = setting.size(place) else {
         return Err(RunEnd::Memory);
     };
-    let content = if inputs.open(alloc, files, path, place as usize, size)? {
+    let content = if handles.open(alloc, files, path, place as usize, size)? {
         Some(Vec::new(alloc))
     } else {
         None
@@ -147,18 +192,18 @@ pub fn ready_to_open<F: Files>(
     alloc: Global,
     setting: &Setting,
     files: &mut F,
-    inputs: &mut Inputs,
+    handles: &mut Handles,
     world: &mut World,
     opening: Opening,
 ) -> Result<(), RunEnd>
     requires ready { IsReady setting.now }
-    requires live { AreOpen (F.state files.old) inputs.old }
-    requires placed { ArePlaced (paths_of setting.now) (F.state files.old) inputs.old world.old.world.files }
-    ensures tracks { Tracks (F.state files.old) (F.state files.new) inputs.old inputs.new }
+    requires live { AreOpen (F.state files.old) handles.old }
+    requires placed { ArePlaced (paths_of setting.now) (F.state files.old) handles.old world.old.world.files }
+    ensures tracks { Tracks (F.state files.old) (F.state files.new) handles.old handles.new }
     ensures kept { world.new.program ≡ world.old.program }
     ensures readies { MatchResult result
         (λ _. ReadyToOpen setting.now world.old.world world.new.world opening (F.state files.old) (F.state files.new)
-        inputs.old inputs.new)
+        handles.old handles.new)
         (λ e. IsRefusal (F.state files.old) (F.state files.new) e) }
     ensures touches { Makes (paths_of setting.now) (makes_in (opening ∷ [])) world.old.world
         (F.state files.old) (F.state files.new) }
@@ -174,9 +219,12 @@ pub fn ready_to_open<F: Files>(
         return Ok(());
     }
     if opening.output {
-        put(files, path, &[])?;
+        let Some(size) = setting.size(opening.file) else {
+            return Err(RunEnd::Memory);
+        };
+        handles.create(alloc, files, path, opening.file as usize, size)?;
         return Ok(());
     }
-    open_input(alloc, setting, files, inputs, world, path, opening.file)?;
+    open_input(alloc, setting, files, handles, world, path, opening.file)?;
     Ok(())
 }

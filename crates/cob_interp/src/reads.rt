@@ -1,5 +1,5 @@
 //! READ (ISO 1989:1985, "The READ statement"): the next record is read where the statement asks for it.
-ghost use Rattle.std.specs.Prelude.{◌≡◌, ◌+◌, ◌<◌, ℕ, MatchResult, IfOk, IfSome, Some, None, length, slice_get};
+ghost use Rattle.std.specs.Prelude.{◌≡◌, ◌+◌, ◌<◌, ℕ, MatchResult, IfSome, Some, None, false, length, slice_get};
 ghost use Rattle.batch_io.specs.FilesState.{known_bytes};
 ghost use Rattle.batch_io.specs.SinkState.{SinkState};
 ghost use Rattle.cob_program.specs.ActView.{plain_act};
@@ -9,10 +9,10 @@ ghost use Rattle.cob_interp.specs.Doing.{ReadsPart};
 ghost use Rattle.cob_interp.specs.Readying.{GivesWindow, IsRestOr, IsReadOn, settled};
 ghost use Rattle.cob_interp.specs.Running.{Outside, outside, Stands, Arrives};
 ghost use Rattle.cob_interp.specs.Setting.{IsReady, StartsAt, IsCall, IsPlaced, program_of, paths_of};
-ghost use Rattle.cob_interp.specs.Tracking.{IsReadAt, AreOpen, ArePlaced, Tracks};
+ghost use Rattle.cob_interp.specs.Tracking.{IsHeldFor, AreLeft, AreOpen, ArePlaced, Tracks};
 
 use crate::ends::RunEnd;
-use crate::inputs::Inputs;
+use crate::handles::Handles;
 use crate::nodes::do_part;
 use crate::setting::{Place, Setting};
 use batch_io::Files;
@@ -24,25 +24,25 @@ use std::alloc::Global;
 fn window_of<F: Files>(
     alloc: Global,
     files: &mut F,
-    inputs: &mut Inputs,
+    handles: &mut Handles,
     file: u32,
     size: u32,
     before: usize,
 ) -> Result<Vec<u8>, RunEnd>
-    requires live { AreOpen (F.state files.old) inputs.old }
-    requires reads { IsReadAt inputs.old file }
-    ensures tracks { Tracks (F.state files.old) (F.state files.new) inputs.old inputs.new }
+    requires live { AreOpen (F.state files.old) handles.old }
+    requires reads { IsHeldFor handles.old file false }
+    ensures tracks { Tracks (F.state files.old) (F.state files.new) handles.old handles.new }
     ensures same { known_bytes (F.state files.new) ≡ known_bytes (F.state files.old) }
-    ensures kept { inputs.new ≡ inputs.old }
+    ensures kept { handles.new ≡ handles.old }
     ensures gives { MatchResult result
-        (λ window. GivesWindow (F.state files.old) (F.state files.new) inputs.old file size window.items)
-        (λ e. IsRestOr (F.state files.old) (F.state files.new) inputs.old file size before e) }
+        (λ window. GivesWindow (F.state files.old) (F.state files.new) handles.old file size window.items)
+        (λ e. IsRestOr (F.state files.old) (F.state files.new) handles.old file size before e) }
 {
-    let (room, count) = inputs.next_record(alloc, files, file as usize, size)?;
+    let (room, count) = handles.next_record(alloc, files, file as usize, size)?;
     if count == room.len() {
         return Ok(room);
     }
-    inputs.give_room(file as usize, room);
+    handles.give_room(file as usize, room);
     if count == 0 {
         return Ok(Vec::new(alloc));
     }
@@ -58,13 +58,13 @@ fn window_of<F: Files>(
 /// Behind a READ: the file at a place gives its room back, and its place goes on behind so many bytes.
 fn settle(
     alloc: Global,
-    inputs: &mut Inputs,
+    handles: &mut Handles,
     world: &mut World,
     file: u32,
     before: usize,
 ) -> Result<(), RunEnd>
     ensures kept { world.new.program ≡ world.old.program }
-    ensures same { inputs.new ≡ inputs.old }
+    ensures same { handles.new ≡ handles.old }
     ensures settles { MatchResult result (λ _. world.new.world ≡ settled file before world.old.world)
         (λ e. e ≡ end.Memory) }
 {
@@ -75,7 +75,7 @@ fn settle(
         return Err(RunEnd::Memory);
     };
     match world.replace_content(file as usize, Some(Vec::new(alloc)), place) {
-        Some(room) if !room.as_slice().is_empty() => inputs.give_room(file as usize, room),
+        Some(room) if !room.as_slice().is_empty() => handles.give_room(file as usize, room),
         _ => {}
     }
     Ok(())
@@ -97,7 +97,7 @@ fn do_window<F: Files>(
     alloc: Global,
     setting: &Setting,
     files: &mut F,
-    inputs: &mut Inputs,
+    handles: &mut Handles,
     world: &mut World,
     place: &Place,
     file: u32,
@@ -107,22 +107,22 @@ fn do_window<F: Files>(
     requires ready { IsReady setting.now }
     requires runs { world.old.program ≡ setting.now.program.now }
     requires placed { IsPlaced setting.now place.now }
-    requires live { AreOpen (F.state files.old) inputs.old }
-    requires reads { IsReadAt inputs.old file }
+    requires live { AreOpen (F.state files.old) handles.old }
+    requires reads { IsHeldFor handles.old file false }
     ensures kept { world.new.program ≡ world.old.program }
-    ensures tracks { Tracks (F.state files.old) (F.state files.new) inputs.old inputs.new }
+    ensures tracks { Tracks (F.state files.old) (F.state files.new) handles.old handles.new }
     ensures same { known_bytes (F.state files.new) ≡ known_bytes (F.state files.old) }
-    ensures ids { inputs.new ≡ inputs.old }
-    ensures reads { ReadsPart setting.now place.now step (F.state files.old) (F.state files.new) inputs.old file before
+    ensures ids { handles.new ≡ handles.old }
+    ensures reads { ReadsPart setting.now place.now step (F.state files.old) (F.state files.new) handles.old file before
         world.old.world world.new.world result }
 {
     let Some(size) = setting.size(file) else {
         return Err(RunEnd::Memory);
     };
-    let window = window_of(alloc, files, inputs, file, size, before)?;
+    let window = window_of(alloc, files, handles, file, size, before)?;
     let _ = world.replace_content(file as usize, Some(window), 0);
     let next = do_part(alloc, setting, place, world, step);
-    settle(alloc, inputs, world, file, before)?;
+    settle(alloc, handles, world, file, before)?;
     next
 }
 
@@ -131,7 +131,7 @@ pub fn do_read<F: Files>(
     alloc: Global,
     setting: &Setting,
     files: &mut F,
-    inputs: &mut Inputs,
+    handles: &mut Handles,
     world: &mut World,
     place: &Place,
     node: u32,
@@ -142,13 +142,12 @@ pub fn do_read<F: Files>(
     requires runs { world.old.program ≡ setting.now.program.now }
     requires starts { StartsAt setting.now node place.now }
     requires reads { IsCall (plain_act place.now.statement.now.act.now) (call.Read file) }
-    requires live { AreOpen (F.state files.old) inputs.old }
-    requires placed { ArePlaced (paths_of setting.now) (F.state files.old) inputs.old world.old.world.files }
+    requires live { AreOpen (F.state files.old) handles.old }
+    requires placed { ArePlaced (paths_of setting.now) (F.state files.old) handles.old world.old.world.files }
     ensures kept { world.new.program ≡ world.old.program }
-    ensures tracks { Tracks (F.state files.old) (F.state files.new) inputs.old inputs.new }
+    ensures tracks { Tracks (F.state files.old) (F.state files.new) handles.old handles.new }
     ensures same { known_bytes (F.state files.new) ≡ known_bytes (F.state files.old) }
-    ensures placed { IfOk result (λ _. ArePlaced (paths_of setting.now) (F.state files.new) inputs.new
-        world.new.world.files) }
+    ensures placed { AreLeft (paths_of setting.now) (F.state files.new) handles.new world.new.world.files result }
     ensures takes { (sink : SinkState) (budget steps : ℕ) (start : Outside) → step ≡ steps + 1 → steps < budget
         → Stands (program_of setting.now) setting.now.graph.now (paths_of setting.now) start
         (outside (F.state files.old) sink) world.old.world steps steps node
@@ -161,7 +160,7 @@ pub fn do_read<F: Files>(
     match read_so_far(world, file) {
         None => do_part(alloc, setting, place, world, step),
         Some(before) => do_window(
-            alloc, setting, files, inputs, world, place, file, before, step,
+            alloc, setting, files, handles, world, place, file, before, step,
         ),
     }
 }

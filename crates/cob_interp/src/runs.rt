@@ -1,5 +1,5 @@
 //! A program is run on the outside's files.
-ghost use Rattle.std.specs.Prelude.{◌≡◌, ℕ, List, true, false, MatchResult, length};
+ghost use Rattle.std.specs.Prelude.{◌≡◌, ℕ, List, true, false, IfOk, MatchResult, length};
 ghost use Rattle.batch_io.specs.FilesState.{KeepsIds, known_bytes};
 ghost use Rattle.batch_io.specs.SinkState.{SinkState};
 ghost use Rattle.cob_graph.specs.Graphs.{IsGraph};
@@ -7,19 +7,19 @@ ghost use Rattle.cob_graph.specs.WellFormed.{IsWellFormed};
 ghost use Rattle.cob_items.specs.WellFormed.{HasWellFormedItems};
 ghost use Rattle.cob_program.specs.ActView.{plain_program};
 ghost use Rattle.cob_world.specs.Doing.{CanDoProgram};
-ghost use Rattle.cob_interp.specs.Readying.{ReadyToClose, IsRefusal};
+ghost use Rattle.cob_interp.specs.Readying.{GoesOut, IsRefusal, Sees, AreEmptied, emptied};
 ghost use Rattle.cob_interp.specs.Running.{Outside, outside, HaltsOff, IsBroken, IfTold, KeepsUnmade, Runs, TellsOfSink};
 ghost use Rattle.cob_interp.specs.Setting.{IsReady, program_of, paths_of, texts};
 ghost use Rattle.cob_interp.specs.Told.{AreDistinct};
 ghost use Rattle.cob_interp.specs.Touching.{Touches, makes_none};
-ghost use Rattle.cob_interp.specs.Tracking.{AreNone, AreOpen, Tracks};
-ghost use Rattle.cob_interp.specs.Walking.{by_sink, as_result, TellsBySink, PutsTo, is_refused, IsOwnEnd, IsRefused};
+ghost use Rattle.cob_interp.specs.Tracking.{AreLeft, AreNone, AreOpen, AreWritten, Tracks};
+ghost use Rattle.cob_interp.specs.Walking.{by_sink, as_result, TellsBySink, is_refused, IsOwnEnd, IsRefused};
 ghost use Rattle.cob_program.specs.Act as act;
 ghost use Rattle.cob_graph.specs.declared.graph.Graph as graph;
 
 use crate::ends::{Ended, Ending, RunEnd};
-use crate::inputs::Inputs;
-use crate::outside::put_file_at;
+use crate::handles::Handles;
+use crate::outside::write_out;
 use crate::setting::Setting;
 use crate::walk::{Halt, flush, walk};
 use batch_io::{Files, MakeEnd, Sink};
@@ -30,40 +30,54 @@ use cob_program::Program;
 use cob_world::World;
 use std::alloc::Global;
 
-/// Puts the file at a place, where it is still being written.
-fn put_at<F: Files>(
+/// Writes out what still waits of the file at a place.
+fn write_at<F: Files>(
+    alloc: Global,
     setting: &Setting,
     files: &mut F,
-    world: &World,
+    handles: &Handles,
+    world: &mut World,
     place: usize,
 ) -> Result<(), RunEnd>
     requires ready { IsReady setting.now }
-    ensures readies { MatchResult result
-        (λ _. ReadyToClose setting.now world.now.world place (F.state files.old) (F.state files.new))
-        (λ end. IsRefusal (F.state files.old) (F.state files.new) end) }
-    ensures touches { Touches (paths_of setting.now) makes_none world.now.world (F.state files.old)
+    requires live { AreOpen (F.state files.old) handles.now }
+    requires written { AreWritten (paths_of setting.now) (F.state files.old) handles.now world.old.world.files }
+    ensures kept { world.new.program ≡ world.old.program }
+    ensures goes { MatchResult result
+        (λ _. GoesOut setting.now world.old.world place (F.state files.old) (F.state files.new))
+        (λ e. IsRefusal (F.state files.old) (F.state files.new) e) }
+    ensures emptied { IfOk result (λ _. world.new.world ≡ emptied place world.old.world) }
+    ensures touches { Touches (paths_of setting.now) makes_none world.old.world (F.state files.old)
         (F.state files.new) }
     ensures ids { KeepsIds (F.state files.old) (F.state files.new) }
 {
     match u32::try_from(place) {
         Err(_) => Err(RunEnd::Memory),
-        Ok(place) => put_file_at(setting, files, world, place),
+        Ok(place) => write_out(alloc, setting, files, handles, world, place),
     }
 }
 
-/// Puts each file that is still being written.
-fn put_all<F: Files>(setting: &Setting, files: &mut F, world: &World) -> Result<(), RunEnd>
+/// Writes out what still waits of all files.
+fn write_all<F: Files>(
+    alloc: Global,
+    setting: &Setting,
+    files: &mut F,
+    handles: &Handles,
+    world: &mut World,
+) -> Result<(), RunEnd>
     requires ready { IsReady setting.now }
-    ensures puts { MatchResult result
-        (λ _. PutsTo (paths_of setting.now) world.now.world (length setting.now.paths.now)
-        (F.state files.old) (F.state files.new))
+    requires live { AreOpen (F.state files.old) handles.now }
+    requires written { AreWritten (paths_of setting.now) (F.state files.old) handles.now world.old.world.files }
+    ensures writes { MatchResult result
+        (λ _. Sees (paths_of setting.now) (F.state files.old) (F.state files.new) world.old.world world.new.world
+        × AreEmptied world.new.world.files (length setting.now.paths.now))
         (λ end. IsRefusal (F.state files.old) (F.state files.new) end) }
-    ensures touches { Touches (paths_of setting.now) makes_none world.now.world (F.state files.old)
+    ensures touches { Touches (paths_of setting.now) makes_none world.old.world (F.state files.old)
         (F.state files.new) }
     ensures ids { KeepsIds (F.state files.old) (F.state files.new) }
 {
     for place in 0..setting.paths.len() {
-        put_at(setting, files, world, place)?;
+        write_at(alloc, setting, files, handles, world, place)?;
     }
     Ok(())
 }
@@ -82,36 +96,40 @@ fn refused_by_sink(end: MakeEnd) -> Ending
     }
 }
 
-/// Behind a refusal: closes all that are still being read, whatever that answers.
-fn give_up<F: Files>(files: &mut F, inputs: &mut Inputs, ending: Ending) -> Ending
-    requires live { AreOpen (F.state files.old) inputs.old }
+/// Behind a refusal: closes all that are still open, whatever that answers.
+fn give_up<F: Files>(files: &mut F, handles: &mut Handles, ending: Ending) -> Ending
+    requires live { AreOpen (F.state files.old) handles.old }
     requires refused { IsRefused ending.end }
     ensures same { result ≡ ending }
-    ensures tracks { Tracks (F.state files.old) (F.state files.new) inputs.old inputs.new }
-    ensures none { AreNone inputs.new }
+    ensures tracks { Tracks (F.state files.old) (F.state files.new) handles.old handles.new }
+    ensures none { AreNone handles.new }
     ensures runs { (p : act.Program) (g : graph.Graph) (paths : List (List ℕ)) (budget : ℕ) (start : Outside)
         (sink : SinkState)
         → Runs p g paths budget start (outside (F.state files.old) sink) ending.end
         → Runs p g paths budget start (outside (F.state files.new) sink) result.end }
 {
-    let _ = inputs.close_all(files);
+    let _ = handles.close_all(files);
     ending
 }
 
-/// What a run comes to that nothing refused, and that is put: it closes all that are still being read.
-fn close_inputs<F: Files>(files: &mut F, inputs: &mut Inputs, end: Result<Ended, RunEnd>) -> Ending
-    requires live { AreOpen (F.state files.old) inputs.old }
+/// What a run comes to that nothing refused, and of which nothing waits: it closes all that are still open.
+fn close_handles<F: Files>(
+    files: &mut F,
+    handles: &mut Handles,
+    end: Result<Ended, RunEnd>,
+) -> Ending
+    requires live { AreOpen (F.state files.old) handles.old }
     requires own { IsOwnEnd end }
     ensures refused { result.sink_refused ≡ false }
-    ensures tracks { Tracks (F.state files.old) (F.state files.new) inputs.old inputs.new }
-    ensures none { AreNone inputs.new }
+    ensures tracks { Tracks (F.state files.old) (F.state files.new) handles.old handles.new }
+    ensures none { AreNone handles.new }
     ensures runs { (p : act.Program) (g : graph.Graph) (paths : List (List ℕ)) (budget : ℕ) (start : Outside)
         (sink : SinkState)
         → Runs p g paths budget start (outside (F.state files.old) sink) end
         → IsBroken p g paths budget start (outside (F.state files.old) sink)
         → Runs p g paths budget start (outside (F.state files.new) sink) result.end }
 {
-    match inputs.close_all(files) {
+    match handles.close_all(files) {
         Ok(()) => Ending {
             end,
             sink_refused: false,
@@ -123,40 +141,41 @@ fn close_inputs<F: Files>(files: &mut F, inputs: &mut Inputs, end: Result<Ended,
     }
 }
 
-/// Behind the run's own end: shows the text that waits, puts what is still being written, and closes what is still being
-/// read.
+/// Behind the run's own end: shows the text that waits, writes out what waits of files, and closes what is still open.
 fn finish<F: Files, O: Sink>(
+    alloc: Global,
     setting: &Setting,
     files: &mut F,
-    inputs: &mut Inputs,
+    handles: &mut Handles,
     world: &mut World,
     out: &mut O,
     end: Result<Ended, RunEnd>,
 ) -> Ending
     requires ready { IsReady setting.now }
     requires own { IsOwnEnd end }
-    requires live { AreOpen (F.state files.old) inputs.old }
+    requires live { AreOpen (F.state files.old) handles.old }
+    requires written { AreWritten (paths_of setting.now) (F.state files.old) handles.old world.old.world.files }
     ensures runs { (budget : ℕ) (start : Outside)
         → HaltsOff (program_of setting.now) setting.now.graph.now (paths_of setting.now) budget start
         (outside (F.state files.old) (O.state out.old)) world.old.world end
         → Runs (program_of setting.now) setting.now.graph.now (paths_of setting.now) budget start
         (outside (F.state files.new) (O.state out.new)) result.end }
     ensures sink { TellsOfSink (O.state out.old) (O.state out.new) result }
-    ensures tracks { Tracks (F.state files.old) (F.state files.new) inputs.old inputs.new }
-    ensures none { AreNone inputs.new }
+    ensures tracks { Tracks (F.state files.old) (F.state files.new) handles.old handles.new }
+    ensures none { AreNone handles.new }
 {
     match flush(world, out) {
-        Err(refusal) => give_up(files, inputs, refused_by_sink(refusal)),
-        Ok(()) => match put_all(setting, files, world) {
+        Err(refusal) => give_up(files, handles, refused_by_sink(refusal)),
+        Ok(()) => match write_all(alloc, setting, files, handles, world) {
             Err(refusal) => give_up(
                 files,
-                inputs,
+                handles,
                 Ending {
                     end: Err(refusal),
                     sink_refused: false,
                 },
             ),
-            Ok(()) => close_inputs(files, inputs, end),
+            Ok(()) => close_handles(files, handles, end),
         },
     }
 }
@@ -176,15 +195,18 @@ fn is_refused(end: RunEnd) -> bool
 
 /// What a run comes to that has halted so.
 fn ending_of<F: Files, O: Sink>(
+    alloc: Global,
     setting: &Setting,
     files: &mut F,
-    inputs: &mut Inputs,
+    handles: &mut Handles,
     world: &mut World,
     out: &mut O,
     halted: Result<Ended, Halt>,
 ) -> Ending
     requires ready { IsReady setting.now }
-    requires live { AreOpen (F.state files.old) inputs.old }
+    requires live { AreOpen (F.state files.old) handles.old }
+    requires placed { AreLeft (paths_of setting.now) (F.state files.old) handles.old world.old.world.files
+        (as_result halted) }
     ensures runs { (budget : ℕ) (start : Outside)
         → HaltsOff (program_of setting.now) setting.now.graph.now (paths_of setting.now) budget start
         (outside (F.state files.old) (O.state out.old)) world.old.world (as_result halted)
@@ -192,24 +214,24 @@ fn ending_of<F: Files, O: Sink>(
         (outside (F.state files.new) (O.state out.new)) result.end }
     ensures sink { (first : SinkState) → TellsBySink first (O.state out.old) halted
         → TellsOfSink first (O.state out.new) result }
-    ensures tracks { Tracks (F.state files.old) (F.state files.new) inputs.old inputs.new }
-    ensures none { AreNone inputs.new }
+    ensures tracks { Tracks (F.state files.old) (F.state files.new) handles.old handles.new }
+    ensures none { AreNone handles.new }
 {
     match halted {
-        Ok(ended) => finish(setting, files, inputs, world, out, Ok(ended)),
-        Err(Halt::Sink(refusal)) => give_up(files, inputs, refused_by_sink(refusal)),
+        Ok(ended) => finish(alloc, setting, files, handles, world, out, Ok(ended)),
+        Err(Halt::Sink(refusal)) => give_up(files, handles, refused_by_sink(refusal)),
         Err(Halt::End(end)) => {
             if is_refused(end) {
                 give_up(
                     files,
-                    inputs,
+                    handles,
                     Ending {
                         end: Err(end),
                         sink_refused: false,
                     },
                 )
             } else {
-                finish(setting, files, inputs, world, out, Err(end))
+                finish(alloc, setting, files, handles, world, out, Err(end))
             }
         }
     }
@@ -249,7 +271,7 @@ fn run_through<F: Files, O: Sink>(
             sink_refused: false,
         };
     };
-    let Ok(mut inputs) = Inputs::none(alloc, paths.len()) else {
+    let Ok(mut handles) = Handles::none(alloc, paths.len()) else {
         return Ending {
             end: Err(RunEnd::Memory),
             sink_refused: false,
@@ -261,8 +283,24 @@ fn run_through<F: Files, O: Sink>(
         plan,
         paths,
     };
-    let halted = walk(alloc, &setting, files, &mut inputs, &mut world, out, budget);
-    ending_of(&setting, files, &mut inputs, &mut world, out, halted)
+    let halted = walk(
+        alloc,
+        &setting,
+        files,
+        &mut handles,
+        &mut world,
+        out,
+        budget,
+    );
+    ending_of(
+        alloc,
+        &setting,
+        files,
+        &mut handles,
+        &mut world,
+        out,
+        halted,
+    )
 }
 
 /// Runs a program as `run` does, and tells whether the sink refused its text.
@@ -294,8 +332,9 @@ pub fn run_to_ending<F: Files, O: Sink>(
 /// Runs a program on the outside's files, at most so many steps (ISO 1989:1985, "Nucleus" and "Sequential I-O"; what a
 /// record area holds where the standard leaves it undefined stays, and storage without a VALUE begins with spaces).
 /// Each file's path stands at its place in the order of the SELECT entries. An input file is read record by record, each
-/// where a READ asks for it, into one room of a record's length that is taken when it is opened; an output file is
-/// written when it is closed or the run has ended. Shown text goes to `out`.
+/// where a READ asks for it, into one room of a record's length that is taken when it is opened. What is written to an
+/// output file waits in a room of 65,536 bytes, or of one longer record, that is taken then too: it goes out where a WRITE
+/// has no room, when the file is closed, and when the run has ended. Shown text goes to `out`.
 pub fn run<F: Files, O: Sink>(
     alloc: Global,
     program: &Program,

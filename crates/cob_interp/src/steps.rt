@@ -7,14 +7,15 @@ ghost use Rattle.cob_program.specs.ActView.{plain_act};
 ghost use Rattle.cob_plan.specs.declared.node.Op.{Op};
 ghost use Rattle.cob_runs.specs.Effects.{act_at};
 ghost use Rattle.cob_interp.specs.declared.parts.Call.TheVariants as call;
+ghost use Rattle.cob_interp.specs.Ends.{UnlessRefused};
 ghost use Rattle.cob_interp.specs.Running.{Outside, outside, Stands, Arrives};
 ghost use Rattle.cob_interp.specs.Setting.{IsReady, IsPlace, IsPlaced, StartsAt, IsCall, program_of, paths_of};
 ghost use Rattle.cob_interp.specs.Touching.{Touches, Makes, ClosesOnly, OpensOnly, makes_by, makes_in, makes_none};
-ghost use Rattle.cob_interp.specs.Tracking.{AreOpen, ArePlaced, KeepsPlaces, Tracks};
+ghost use Rattle.cob_interp.specs.Tracking.{AreLeft, AreOpen, ArePlaced, KeepsPlaces, Tracks};
 ghost use Rattle.cob_interp.specs.Doing.{IsPlain, IsQuiet, Leads};
 
 use crate::ends::RunEnd;
-use crate::inputs::Inputs;
+use crate::handles::Handles;
 use crate::nodes::{do_close, do_plain};
 use crate::opens::do_open;
 use crate::parts::{Call, call_of};
@@ -41,7 +42,7 @@ fn do_quiet(
     ensures kept { world.new.program ≡ world.old.program }
     ensures leads { (now : Outside) (node budget : ℕ) → IsPlace setting.now node place.now
         → Leads setting.now budget step node now now world.old.world world.new.world result }
-    ensures places { IfOk result (λ _. KeepsPlaces world.old.world.files world.new.world.files) }
+    ensures places { UnlessRefused result (KeepsPlaces world.old.world.files world.new.world.files) }
 {
     match place.plan_node.op {
         Op::Skip { .. } | Op::Assign { .. } => do_plain(alloc, setting, place, world, step),
@@ -63,7 +64,7 @@ fn do_node(
     ensures kept { world.new.program ≡ world.old.program }
     ensures leads { (now : Outside) (budget : ℕ)
         → Leads setting.now budget step node now now world.old.world world.new.world result }
-    ensures places { IfOk result (λ _. KeepsPlaces world.old.world.files world.new.world.files) }
+    ensures places { UnlessRefused result (KeepsPlaces world.old.world.files world.new.world.files) }
 {
     let Some(place) = setting.place(node) else {
         return Err(RunEnd::Memory);
@@ -90,7 +91,7 @@ fn go_through(
     ensures kept { world.new.program ≡ world.old.program }
     ensures leads { (now : Outside) (budget : ℕ)
         → Leads setting.now budget step node now now world.old.world world.new.world result }
-    ensures places { IfOk result (λ _. KeepsPlaces world.old.world.files world.new.world.files) }
+    ensures places { UnlessRefused result (KeepsPlaces world.old.world.files world.new.world.files) }
 {
     let mut at = node;
     for _ in 0..setting.plan.nodes.len() {
@@ -120,7 +121,7 @@ fn go(
     ensures kept { world.new.program ≡ world.old.program }
     ensures leads { (now : Outside) (budget : ℕ)
         → Leads setting.now budget step node now now world.old.world world.new.world result }
-    ensures places { IfOk result (λ _. KeepsPlaces world.old.world.files world.new.world.files) }
+    ensures places { UnlessRefused result (KeepsPlaces world.old.world.files world.new.world.files) }
 {
     let next = do_plain(alloc, setting, place, world, step)?;
     if setting.rests_at(next) {
@@ -134,7 +135,7 @@ fn open_next<F: Files>(
     alloc: Global,
     setting: &Setting,
     files: &mut F,
-    inputs: &mut Inputs,
+    handles: &mut Handles,
     world: &mut World,
     node: u32,
     statement: u32,
@@ -144,12 +145,11 @@ fn open_next<F: Files>(
     requires ready { IsReady setting.now }
     requires runs { world.old.program ≡ setting.now.program.now }
     requires its { act_at (program_of setting.now) statement ≡ Some (open_files openings.now) }
-    requires live { AreOpen (F.state files.old) inputs.old }
-    requires placed { ArePlaced (paths_of setting.now) (F.state files.old) inputs.old world.old.world.files }
+    requires live { AreOpen (F.state files.old) handles.old }
+    requires placed { ArePlaced (paths_of setting.now) (F.state files.old) handles.old world.old.world.files }
     ensures kept { world.new.program ≡ world.old.program }
-    ensures tracks { Tracks (F.state files.old) (F.state files.new) inputs.old inputs.new }
-    ensures placed { IfOk result (λ _. ArePlaced (paths_of setting.now) (F.state files.new) inputs.new
-        world.new.world.files) }
+    ensures tracks { Tracks (F.state files.old) (F.state files.new) handles.old handles.new }
+    ensures placed { AreLeft (paths_of setting.now) (F.state files.new) handles.new world.new.world.files result }
     ensures leads { (sink : SinkState) (budget : ℕ) → Leads setting.now budget step node
         (outside (F.state files.old) sink) (outside (F.state files.new) sink) world.old.world world.new.world result }
     ensures touches { Makes (paths_of setting.now) (makes_in openings.now) world.old.world
@@ -162,7 +162,9 @@ fn open_next<F: Files>(
     if place.plan_node.statement != statement {
         return Err(RunEnd::Memory);
     }
-    do_open(alloc, setting, files, inputs, &place, openings, world, step)
+    do_open(
+        alloc, setting, files, handles, &place, openings, world, step,
+    )
 }
 
 /// Opens the files of an OPEN, from its first node on. Answers the node behind it.
@@ -170,7 +172,7 @@ fn open_all<F: Files>(
     alloc: Global,
     setting: &Setting,
     files: &mut F,
-    inputs: &mut Inputs,
+    handles: &mut Handles,
     world: &mut World,
     node: u32,
     statement: u32,
@@ -180,12 +182,11 @@ fn open_all<F: Files>(
     requires ready { IsReady setting.now }
     requires runs { world.old.program ≡ setting.now.program.now }
     requires its { act_at (program_of setting.now) statement ≡ Some (open_files openings.now) }
-    requires live { AreOpen (F.state files.old) inputs.old }
-    requires placed { ArePlaced (paths_of setting.now) (F.state files.old) inputs.old world.old.world.files }
+    requires live { AreOpen (F.state files.old) handles.old }
+    requires placed { ArePlaced (paths_of setting.now) (F.state files.old) handles.old world.old.world.files }
     ensures kept { world.new.program ≡ world.old.program }
-    ensures tracks { Tracks (F.state files.old) (F.state files.new) inputs.old inputs.new }
-    ensures placed { IfOk result (λ _. ArePlaced (paths_of setting.now) (F.state files.new) inputs.new
-        world.new.world.files) }
+    ensures tracks { Tracks (F.state files.old) (F.state files.new) handles.old handles.new }
+    ensures placed { AreLeft (paths_of setting.now) (F.state files.new) handles.new world.new.world.files result }
     ensures leads { (sink : SinkState) (budget : ℕ) → Leads setting.now budget step node
         (outside (F.state files.old) sink) (outside (F.state files.new) sink) world.old.world world.new.world result }
     ensures touches { Makes (paths_of setting.now) (makes_in openings.now) world.old.world
@@ -194,7 +195,7 @@ fn open_all<F: Files>(
     let mut at = node;
     for _ in 0..setting.plan.nodes.len() {
         at = open_next(
-            alloc, setting, files, inputs, world, at, statement, openings, step,
+            alloc, setting, files, handles, world, at, statement, openings, step,
         )?;
         if setting.rests_at(at) {
             return Ok(at);
@@ -209,30 +210,32 @@ fn close_next<F: Files>(
     alloc: Global,
     setting: &Setting,
     files: &mut F,
-    inputs: &mut Inputs,
+    handles: &mut Handles,
     world: &mut World,
     node: u32,
     step: u64,
 ) -> Result<u32, RunEnd>
     requires ready { IsReady setting.now }
     requires runs { world.old.program ≡ setting.now.program.now }
-    requires live { AreOpen (F.state files.old) inputs.old }
-    requires placed { ArePlaced (paths_of setting.now) (F.state files.old) inputs.old world.old.world.files }
+    requires live { AreOpen (F.state files.old) handles.old }
+    requires placed { ArePlaced (paths_of setting.now) (F.state files.old) handles.old world.old.world.files }
     ensures kept { world.new.program ≡ world.old.program }
-    ensures tracks { Tracks (F.state files.old) (F.state files.new) inputs.old inputs.new }
-    ensures placed { IfOk result (λ _. ArePlaced (paths_of setting.now) (F.state files.new) inputs.new
-        world.new.world.files) }
+    ensures tracks { Tracks (F.state files.old) (F.state files.new) handles.old handles.new }
+    ensures placed { AreLeft (paths_of setting.now) (F.state files.new) handles.new world.new.world.files result }
     ensures leads { (sink : SinkState) (budget : ℕ) → Leads setting.now budget step node
         (outside (F.state files.old) sink) (outside (F.state files.new) sink) world.old.world world.new.world result }
     ensures touches { Touches (paths_of setting.now) makes_none world.old.world (F.state files.old)
         (F.state files.new) }
-    ensures closes { IfOk result (λ _. ClosesOnly world.old.world world.new.world) }
+    ensures closes { IfOk result (λ _. ClosesOnly (paths_of setting.now) (F.state files.old) (F.state files.new)
+        world.old.world world.new.world) }
 {
     let Some(place) = setting.place(node) else {
         return Err(RunEnd::Memory);
     };
     match call_of(place.statement.act) {
-        Call::Close(closed) => do_close(alloc, setting, files, inputs, &place, closed, world, step),
+        Call::Close(closed) => do_close(
+            alloc, setting, files, handles, &place, closed, world, step,
+        ),
         Call::Open(_) | Call::Read(_) | Call::Other => Err(RunEnd::Memory),
     }
 }
@@ -242,19 +245,18 @@ fn close_all<F: Files>(
     alloc: Global,
     setting: &Setting,
     files: &mut F,
-    inputs: &mut Inputs,
+    handles: &mut Handles,
     world: &mut World,
     node: u32,
     step: u64,
 ) -> Result<u32, RunEnd>
     requires ready { IsReady setting.now }
     requires runs { world.old.program ≡ setting.now.program.now }
-    requires live { AreOpen (F.state files.old) inputs.old }
-    requires placed { ArePlaced (paths_of setting.now) (F.state files.old) inputs.old world.old.world.files }
+    requires live { AreOpen (F.state files.old) handles.old }
+    requires placed { ArePlaced (paths_of setting.now) (F.state files.old) handles.old world.old.world.files }
     ensures kept { world.new.program ≡ world.old.program }
-    ensures tracks { Tracks (F.state files.old) (F.state files.new) inputs.old inputs.new }
-    ensures placed { IfOk result (λ _. ArePlaced (paths_of setting.now) (F.state files.new) inputs.new
-        world.new.world.files) }
+    ensures tracks { Tracks (F.state files.old) (F.state files.new) handles.old handles.new }
+    ensures placed { AreLeft (paths_of setting.now) (F.state files.new) handles.new world.new.world.files result }
     ensures leads { (sink : SinkState) (budget : ℕ) → Leads setting.now budget step node
         (outside (F.state files.old) sink) (outside (F.state files.new) sink) world.old.world world.new.world result }
     ensures touches { Touches (paths_of setting.now) makes_none world.old.world (F.state files.old)
@@ -262,7 +264,7 @@ fn close_all<F: Files>(
 {
     let mut at = node;
     for _ in 0..setting.plan.nodes.len() {
-        at = close_next(alloc, setting, files, inputs, world, at, step)?;
+        at = close_next(alloc, setting, files, handles, world, at, step)?;
         if setting.rests_at(at) {
             return Ok(at);
         }
@@ -275,7 +277,7 @@ fn go_read<F: Files>(
     alloc: Global,
     setting: &Setting,
     files: &mut F,
-    inputs: &mut Inputs,
+    handles: &mut Handles,
     world: &mut World,
     place: &Place,
     node: u32,
@@ -286,12 +288,11 @@ fn go_read<F: Files>(
     requires runs { world.old.program ≡ setting.now.program.now }
     requires starts { StartsAt setting.now node place.now }
     requires reads { IsCall (plain_act place.now.statement.now.act.now) (call.Read file) }
-    requires live { AreOpen (F.state files.old) inputs.old }
-    requires placed { ArePlaced (paths_of setting.now) (F.state files.old) inputs.old world.old.world.files }
+    requires live { AreOpen (F.state files.old) handles.old }
+    requires placed { ArePlaced (paths_of setting.now) (F.state files.old) handles.old world.old.world.files }
     ensures kept { world.new.program ≡ world.old.program }
-    ensures tracks { Tracks (F.state files.old) (F.state files.new) inputs.old inputs.new }
-    ensures placed { IfOk result (λ _. ArePlaced (paths_of setting.now) (F.state files.new) inputs.new
-        world.new.world.files) }
+    ensures tracks { Tracks (F.state files.old) (F.state files.new) handles.old handles.new }
+    ensures placed { AreLeft (paths_of setting.now) (F.state files.new) handles.new world.new.world.files result }
     ensures same { known_bytes (F.state files.new) ≡ known_bytes (F.state files.old) }
     ensures takes { (sink : SinkState) (budget steps : ℕ) (start : Outside) → step ≡ steps + 1 → steps < budget
         → Stands (program_of setting.now) setting.now.graph.now (paths_of setting.now) start
@@ -300,7 +301,7 @@ fn go_read<F: Files>(
         (outside (F.state files.new) sink) world.new.world step result }
 {
     let next = do_read(
-        alloc, setting, files, inputs, world, place, node, file, step,
+        alloc, setting, files, handles, world, place, node, file, step,
     )?;
     if setting.rests_at(next) {
         return Ok(next);
@@ -314,7 +315,7 @@ pub fn take_step<F: Files>(
     alloc: Global,
     setting: &Setting,
     files: &mut F,
-    inputs: &mut Inputs,
+    handles: &mut Handles,
     world: &mut World,
     place: &Place,
     node: u32,
@@ -323,12 +324,11 @@ pub fn take_step<F: Files>(
     requires ready { IsReady setting.now }
     requires runs { world.old.program ≡ setting.now.program.now }
     requires starts { StartsAt setting.now node place.now }
-    requires live { AreOpen (F.state files.old) inputs.old }
-    requires placed { ArePlaced (paths_of setting.now) (F.state files.old) inputs.old world.old.world.files }
+    requires live { AreOpen (F.state files.old) handles.old }
+    requires placed { ArePlaced (paths_of setting.now) (F.state files.old) handles.old world.old.world.files }
     ensures kept { world.new.program ≡ world.old.program }
-    ensures tracks { Tracks (F.state files.old) (F.state files.new) inputs.old inputs.new }
-    ensures placed { IfOk result (λ _. ArePlaced (paths_of setting.now) (F.state files.new) inputs.new
-        world.new.world.files) }
+    ensures tracks { Tracks (F.state files.old) (F.state files.new) handles.old handles.new }
+    ensures placed { AreLeft (paths_of setting.now) (F.state files.new) handles.new world.new.world.files result }
     ensures takes { (sink : SinkState) (budget steps : ℕ) (start : Outside) → step ≡ steps + 1 → steps < budget
         → Stands (program_of setting.now) setting.now.graph.now (paths_of setting.now) start
         (outside (F.state files.old) sink) world.old.world steps steps node
@@ -343,16 +343,16 @@ pub fn take_step<F: Files>(
             alloc,
             setting,
             files,
-            inputs,
+            handles,
             world,
             node,
             place.plan_node.statement,
             openings,
             step,
         ),
-        Call::Close(_) => close_all(alloc, setting, files, inputs, world, node, step),
+        Call::Close(_) => close_all(alloc, setting, files, handles, world, node, step),
         Call::Read(file) => go_read(
-            alloc, setting, files, inputs, world, place, node, file, step,
+            alloc, setting, files, handles, world, place, node, file, step,
         ),
         Call::Other => go(alloc, setting, world, place, node, step),
     }

@@ -1,17 +1,24 @@
 //! A run from its first node to its end.
 ghost use Rattle.std.specs.Prelude.{◌≡◌, ◌+◌, ◌<◌, ℕ, IfOk, MatchResult, length};
+ghost use Rattle.batch_io.specs.FilesState.{KeepsIds};
+ghost use Rattle.batch_io.specs.SinkState.{SinkState};
+ghost use Rattle.cob_program.specs.ActView.{plain_act};
 ghost use Rattle.cob_runs.specs.State as state;
-ghost use Rattle.cob_interp.specs.Running.{Outside, outside, IsAt, GoesOn, HaltsOff};
-ghost use Rattle.cob_interp.specs.Setting.{IsReady, program_of, paths_of};
-ghost use Rattle.cob_interp.specs.Tracking.{AreOpen, ArePlaced, Tracks};
+ghost use Rattle.cob_interp.specs.Running.{Outside, outside, Stands, Arrives, IsAt, GoesOn, HaltsOff};
+ghost use Rattle.cob_interp.specs.Setting.{IsReady, StartsAt, program_of, paths_of};
+ghost use Rattle.cob_interp.specs.Readying.{IsRefusal, Sees};
+ghost use Rattle.cob_interp.specs.Touching.{Touches, makes_by, makes_none};
+ghost use Rattle.cob_interp.specs.Tracking.{AreLeft, AreOpen, ArePlaced, KeepsPlaces, Tracks};
 ghost use Rattle.cob_interp.specs.Walking.{as_result, TellsBySink, Flushes, MayFlush, Refuses};
 
 use crate::ends::{Ended, RunEnd};
-use crate::inputs::Inputs;
+use crate::handles::{Handles, is_full};
+use crate::outside::write_out;
 use crate::parts::{Call, call_of};
 use crate::setting::{Place, Setting};
 use crate::steps::take_step;
 use batch_io::{Files, MakeEnd, Sink, show_whole};
+use cob_program::Act;
 use cob_world::World;
 use std::alloc::Global;
 
@@ -60,12 +67,91 @@ fn flush_before<O: Sink>(place: &Place, world: &mut World, out: &mut O) -> Resul
     }
 }
 
+/// The file to which a statement writes a record, if it is a WRITE.
+fn written_file(place: &Place, world: &World) -> Option<u32> {
+    match place.statement.act {
+        Act::Write { rec, .. } => u32::try_from(world.file_of(*rec)?).ok(),
+        _ => None,
+    }
+}
+
+/// The file that a statement is to write a record to for which there is no room behind those that wait.
+fn full_file(setting: &Setting, place: &Place, world: &World) -> Option<u32> {
+    let file = written_file(place, world)?;
+    let size = setting.size(file)?;
+    let found = world.file(file as usize)?;
+    if is_full(found.all().len(), size) {
+        Some(file)
+    } else {
+        None
+    }
+}
+
+/// Before a WRITE: writes out what waits of its file, where there is no room for one more record.
+fn make_room<F: Files>(
+    alloc: Global,
+    setting: &Setting,
+    files: &mut F,
+    handles: &Handles,
+    world: &mut World,
+    place: &Place,
+) -> Result<(), RunEnd>
+    requires ready { IsReady setting.now }
+    requires live { AreOpen (F.state files.old) handles.now }
+    requires placed { ArePlaced (paths_of setting.now) (F.state files.old) handles.now world.old.world.files }
+    ensures kept { world.new.program ≡ world.old.program }
+    ensures sees { MatchResult result
+        (λ _. Sees (paths_of setting.now) (F.state files.old) (F.state files.new) world.old.world world.new.world)
+        (λ e. IsRefusal (F.state files.old) (F.state files.new) e) }
+    ensures touches { Touches (paths_of setting.now) makes_none world.old.world (F.state files.old)
+        (F.state files.new) }
+    ensures ids { KeepsIds (F.state files.old) (F.state files.new) }
+    ensures places { IfOk result (λ _. KeepsPlaces world.old.world.files world.new.world.files) }
+{
+    match full_file(setting, place, world) {
+        None => Ok(()),
+        Some(file) => write_out(alloc, setting, files, handles, world, file),
+    }
+}
+
+/// Makes room for a record that is to be written, and takes a step. Answers the node behind it.
+fn take_roomy_step<F: Files>(
+    alloc: Global,
+    setting: &Setting,
+    files: &mut F,
+    handles: &mut Handles,
+    world: &mut World,
+    place: &Place,
+    node: u32,
+    step: u64,
+) -> Result<u32, RunEnd>
+    requires ready { IsReady setting.now }
+    requires runs { world.old.program ≡ setting.now.program.now }
+    requires starts { StartsAt setting.now node place.now }
+    requires live { AreOpen (F.state files.old) handles.old }
+    requires placed { ArePlaced (paths_of setting.now) (F.state files.old) handles.old world.old.world.files }
+    ensures kept { world.new.program ≡ world.old.program }
+    ensures tracks { Tracks (F.state files.old) (F.state files.new) handles.old handles.new }
+    ensures placed { AreLeft (paths_of setting.now) (F.state files.new) handles.new world.new.world.files result }
+    ensures takes { (sink : SinkState) (budget steps : ℕ) (start : Outside) → step ≡ steps + 1 → steps < budget
+        → Stands (program_of setting.now) setting.now.graph.now (paths_of setting.now) start
+        (outside (F.state files.old) sink) world.old.world steps steps node
+        → Arrives (program_of setting.now) setting.now.graph.now (paths_of setting.now) budget start
+        (outside (F.state files.new) sink) world.new.world step result }
+    ensures touches { Touches (paths_of setting.now) (makes_by (plain_act place.now.statement.now.act.now))
+        world.old.world
+        (F.state files.old) (F.state files.new) }
+{
+    make_room(alloc, setting, files, handles, world, place)?;
+    take_step(alloc, setting, files, handles, world, place, node, step)
+}
+
 /// Shows text that waits, where that's due, and takes a step. Answers the node behind it.
 fn go_on<F: Files, O: Sink>(
     alloc: Global,
     setting: &Setting,
     files: &mut F,
-    inputs: &mut Inputs,
+    handles: &mut Handles,
     world: &mut World,
     out: &mut O,
     node: u32,
@@ -73,12 +159,12 @@ fn go_on<F: Files, O: Sink>(
 ) -> Result<u32, Halt>
     requires ready { IsReady setting.now }
     requires runs { world.old.program ≡ setting.now.program.now }
-    requires live { AreOpen (F.state files.old) inputs.old }
-    requires placed { ArePlaced (paths_of setting.now) (F.state files.old) inputs.old world.old.world.files }
+    requires live { AreOpen (F.state files.old) handles.old }
+    requires placed { ArePlaced (paths_of setting.now) (F.state files.old) handles.old world.old.world.files }
     ensures kept { world.new.program ≡ world.old.program }
-    ensures tracks { Tracks (F.state files.old) (F.state files.new) inputs.old inputs.new }
-    ensures placed { IfOk result (λ _. ArePlaced (paths_of setting.now) (F.state files.new) inputs.new
-        world.new.world.files) }
+    ensures tracks { Tracks (F.state files.old) (F.state files.new) handles.old handles.new }
+    ensures placed { AreLeft (paths_of setting.now) (F.state files.new) handles.new world.new.world.files
+        (as_result result) }
     ensures goes { (budget steps : ℕ) (start : Outside) → step ≡ steps + 1 → steps < budget
         → IsAt (program_of setting.now) setting.now.graph.now (paths_of setting.now) budget start
         (outside (F.state files.old) (O.state out.old)) world.old.world steps node
@@ -91,7 +177,7 @@ fn go_on<F: Files, O: Sink>(
     };
     match flush_before(&place, world, out) {
         Err(end) => Err(Halt::Sink(end)),
-        Ok(()) => match take_step(alloc, setting, files, inputs, world, &place, node, step) {
+        Ok(()) => match take_roomy_step(alloc, setting, files, handles, world, &place, node, step) {
             Err(end) => Err(Halt::End(end)),
             Ok(next) => Ok(next),
         },
@@ -119,29 +205,31 @@ pub fn walk<F: Files, O: Sink>(
     alloc: Global,
     setting: &Setting,
     files: &mut F,
-    inputs: &mut Inputs,
+    handles: &mut Handles,
     world: &mut World,
     out: &mut O,
     budget: u64,
 ) -> Result<Ended, Halt>
     requires ready { IsReady setting.now }
     requires runs { world.old.program ≡ setting.now.program.now }
-    requires live { AreOpen (F.state files.old) inputs.old }
-    requires placed { ArePlaced (paths_of setting.now) (F.state files.old) inputs.old world.old.world.files }
+    requires live { AreOpen (F.state files.old) handles.old }
+    requires placed { ArePlaced (paths_of setting.now) (F.state files.old) handles.old world.old.world.files }
     ensures halts { (start : Outside)
         → IsAt (program_of setting.now) setting.now.graph.now (paths_of setting.now) budget start
         (outside (F.state files.old) (O.state out.old)) world.old.world 0 1
         → HaltsOff (program_of setting.now) setting.now.graph.now (paths_of setting.now) budget start
         (outside (F.state files.new) (O.state out.new)) world.new.world (as_result result) }
     ensures sink { TellsBySink (O.state out.old) (O.state out.new) result }
-    ensures tracks { Tracks (F.state files.old) (F.state files.new) inputs.old inputs.new }
+    ensures tracks { Tracks (F.state files.old) (F.state files.new) handles.old handles.new }
+    ensures placed { AreLeft (paths_of setting.now) (F.state files.new) handles.new world.new.world.files
+        (as_result result) }
 {
     let mut node = 1;
     for steps in 0..budget {
         if setting.is_final(node) {
             return Ok(Ended { steps });
         }
-        node = go_on(alloc, setting, files, inputs, world, out, node, steps + 1)?;
+        node = go_on(alloc, setting, files, handles, world, out, node, steps + 1)?;
     }
     match end_at(setting, node, budget) {
         Ok(ended) => Ok(ended),

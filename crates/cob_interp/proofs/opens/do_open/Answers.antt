@@ -1,4 +1,5 @@
 use Rattle.std.proofs.Common.{[], ◌∷◌, sym, Some, ap, ◌∙◌}
+use Rattle.std.proofs.lemmas.Result.{err_from_is_err_and}
 use Rattle.cob_program.specs.ActView.{plain_act}
 use Rattle.cob_interp.specs.Setting.{paths_of}
 use Rattle.cob_interp.specs.Touching.{makes_in}
@@ -7,6 +8,7 @@ use Rattle.cob_interp.proofs.Touched.{makes_stay, makes_more, makes_one}
 use Rattle.cob_interp.proofs.Closings.{open_part, opens_behind}
 use Rattle.cob_interp.proofs.TrackLemmas.{stand_on}
 use Rattle.cob_interp.proofs.Placing.{open_places, open_one_placed}
+use Rattle.cob_interp.proofs.Written.{left_by, refused_own}
 use Rattle.cob_interp.proofs.opens.do_open.Goals as goal
 
 pub returns-in_default-clause-touches : goal.returns-in_default-clause-touches
@@ -33,21 +35,25 @@ returns-in_err-ready_to_open-in-Some-clause-touches g c =
 
 pub returns-in_ok-ready_to_open-in-Some-clause-leads : goal.returns-in_ok-ready_to_open-in-Some-clause-leads
 returns-in_ok-ready_to_open-in-Some-clause-leads g c sink node budget is =
-    open_leads c.args.setting.now budget c.args.place.now c.args.step node sink _ _ _ _ _ c.requires.ready.distinct is
+    rw c.lend_room.ensures.same
+    (open_leads c.args.setting.now budget c.args.place.now c.args.step node sink _ _ _ _ _ c.requires.ready.distinct is
     c.in-Open.file c.in-Open.fine c.in-Open.bad c.in-Some.opening c.args.openings.now c.in-Open.is c.requires.its
-    (sym c.in-Some.ensures) _ _ c.in_ok-ready_to_open-in-Some.ensures.readies _ c.do_part.ensures.does
+    (sym c.in-Some.ensures) _ _ c.in_ok-ready_to_open-in-Some.ensures.readies _ c.do_part-next.ensures.does)
 
 pub returns-in_ok-ready_to_open-in-Some-clause-opens : goal.returns-in_ok-ready_to_open-in-Some-clause-opens
 returns-in_ok-ready_to_open-in-Some-clause-opens g c =
-    opens_behind _ _ _ _ c.in_ok-ready_to_open-in-Some.ensures.opens
+    rw c.lend_room.ensures.same
+    (opens_behind _ _ _ _ c.in_ok-ready_to_open-in-Some.ensures.opens
     (open_part c.args.setting.now c.args.place.now c.args.step _ _ c.args.openings.now c.in-Open.file c.in-Open.fine
-    c.in-Open.bad c.in-Open.is (c.requires.place.its ∙ ap Some c.requires.its) _ c.do_part.ensures.does)
+    c.in-Open.bad c.in-Open.is (c.requires.place.its ∙ ap Some c.requires.its) _ c.do_part-next.ensures.does))
 
 pub returns-in_ok-ready_to_open-in-Some-clause-placed : goal.returns-in_ok-ready_to_open-in-Some-clause-placed
 returns-in_ok-ready_to_open-in-Some-clause-placed g c =
     let ready = c.in_ok-ready_to_open-in-Some.ensures.readies in
-    open_places c.args.setting.now c.args.place.now c.args.step _ _ (plain_act c.args.place.now.statement.now.act.now)
-    c.requires.place.its _ c.do_part.ensures.does c.args.openings.now c.in-Open.file c.in-Open.fine c.in-Open.bad
+    rw (c.lend_room.ensures.ids, c.lend_room.ensures.same)
+    (left_by _ (paths_of c.args.setting.now) (g.F.Files.state c.ready_to_open.new.files) _ _
+    (open_places c.args.setting.now c.args.place.now c.args.step _ _ (plain_act c.args.place.now.statement.now.act.now)
+    c.requires.place.its _ c.do_part-next.ensures.does c.args.openings.now c.in-Open.file c.in-Open.fine c.in-Open.bad
     c.requires.its c.in-Open.is c.in-Some.opening (sym c.in-Some.ensures) (paths_of c.args.setting.now)
     (g.F.Files.state c.ready_to_open.new.files) _
     (open_one_placed c.args.setting.now.program.now.layout (paths_of c.args.setting.now)
@@ -56,4 +62,11 @@ returns-in_ok-ready_to_open-in-Some-clause-placed g c =
     ready.path ready.file ready.is.path_ ready.has ready.stand
     (stand_on (paths_of c.args.setting.now) (g.F.Files.state c.args.files.now) _ _ _ ready.keeps.each
     c.requires.placed.stand)
-    ready.is.decl ready.is.declared (ready.purposes c.requires.placed.purposes))
+    ready.is.decl ready.is.declared (ready.purposes c.requires.placed.purposes))))
+
+pub returns-in_err-ready_to_open-in-Some-clause-placed : goal.returns-in_err-ready_to_open-in-Some-clause-placed
+returns-in_err-ready_to_open-in-Some-clause-placed g c =
+    let p = err_from_is_err_and c.from_residual.result c.from_residual.ensures.1 in
+    rw (p.1, p.2)
+    (refused_own (g.F.Files.state c.args.files.now) (g.F.Files.state c.ready_to_open.new.files) _ _
+    c.in_err-ready_to_open-in-Some.ensures.readies)

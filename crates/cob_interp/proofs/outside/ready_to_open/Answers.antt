@@ -1,15 +1,12 @@
 use Rattle.std.proofs.Common.{ap}
 use Rattle.cob_interp.specs.Tracking.{purpose_in}
 use Rattle.cob_interp.proofs.Purposes.{slot_free}
-use Rattle.std.proofs.Common.{sym, refl, subst, Option, ◌∙◌}
-use Rattle.std.specs.Prelude.{IsSome}
-use Rattle.batch_io.specs.FilesState.{Purpose}
-use Rattle.cob_interp.proofs.TrackLemmas.{tracks_ids}
+use Rattle.std.proofs.Common.{sym, ◌∙◌}
 use Rattle.cob_interp.proofs.OpenLemmas.{has_file, output_ready, open_ready, opened_ready, is_closed_true, is_closed_false}
 use Rattle.std.proofs.Common.{[], ◌∷◌}
 use Rattle.cob_interp.specs.Setting.{paths_of}
 use Rattle.cob_interp.specs.Touching.{makes_in}
-use Rattle.cob_interp.proofs.Touched.{makes_stay, makes_same, makes_by_put, makes_own}
+use Rattle.cob_interp.proofs.Touched.{makes_stay, makes_same, makes_by_create, makes_own}
 use Rattle.cob_interp.proofs.outside.ready_to_open.Goals as goal
 
 pub returns-then-not-is_closed-clause-readies : goal.returns-then-not-is_closed-clause-readies
@@ -22,11 +19,9 @@ pub returns-then-opening-clause-readies : goal.returns-then-opening-clause-readi
 returns-then-opening-clause-readies g c =
     let h = has_file c.in-Some-file_mode.mode _ c.in-Some-file_mode.ensures in
     output_ready c.args.setting.now c.args.world.now.world c.args.opening c.in-Some.path.now c.in-Some.ensures h.0
-    h.1 _ _
+    h.1 _ _ _ _
     (is_closed_true c.in-Some-file_mode.mode h.0.mode h.2 (sym c.is_closed.ensures ∙ c.if-not-is_closed.false))
-    c.if-opening.true c.in_ok-put.ensures.puts _
-    (λ other id is. c.in_ok-put.ensures.ids.handle id
-    (subst (λ (o : Option Purpose). IsSome o) (sym (c.requires.live.purpose other id is)) refl))
+    c.if-opening.true c.in_ok-create.ensures.creates c.requires.live
 
 pub returns-clause-readies : goal.returns-clause-readies
 returns-clause-readies g c =
@@ -35,12 +30,6 @@ returns-clause-readies g c =
     h.1 _ _
     _ _ (is_closed_true c.in-Some-file_mode.mode h.0.mode h.2 (sym c.is_closed.ensures ∙ c.if-not-is_closed.false))
     c.if-opening.false _ c.in_ok-open_input.ensures.opens c.in_ok-open_input.ensures.same c.requires.live
-
-pub returns-then-opening-clause-tracks : goal.returns-then-opening-clause-tracks
-returns-then-opening-clause-tracks g c = tracks_ids _ _ _ c.in_ok-put.ensures.ids c.requires.live
-
-pub returns-in_err-put-clause-tracks : goal.returns-in_err-put-clause-tracks
-returns-in_err-put-clause-tracks g c = tracks_ids _ _ _ c.in_err-put.ensures.ids c.requires.live
 
 pub returns-in_default-clause-touches : goal.returns-in_default-clause-touches
 returns-in_default-clause-touches g c =
@@ -54,23 +43,23 @@ pub returns-then-not-is_closed-clause-touches : goal.returns-then-not-is_closed-
 returns-then-not-is_closed-clause-touches g c =
     makes_stay (paths_of c.args.setting.now) (makes_in (c.args.opening ∷ [])) c.args.world.now.world _
 
-pub returns-in_err-put-clause-touches : goal.returns-in_err-put-clause-touches
-returns-in_err-put-clause-touches g c =
+pub returns-in_err-create-clause-touches : goal.returns-in_err-create-clause-touches
+returns-in_err-create-clause-touches g c =
     let h = has_file c.in-Some-file_mode.mode _ c.in-Some-file_mode.ensures in
-    makes_by_put (paths_of c.args.setting.now) (makes_in (c.args.opening ∷ [])) c.args.world.now.world _ _
+    makes_by_create (paths_of c.args.setting.now) (makes_in (c.args.opening ∷ [])) c.args.world.now.world _ _
     c.args.opening.file
     c.in-Some.path.now h.0 c.requires.ready.distinct c.in-Some.ensures.path_ h.1
     (is_closed_true c.in-Some-file_mode.mode h.0.mode h.2 (sym c.is_closed.ensures ∙ c.if-not-is_closed.false))
-    (makes_own c.args.opening c.if-opening.true) c.in_err-put.ensures.part
+    (makes_own c.args.opening c.if-opening.true) c.in_err-create.ensures.part
 
 pub returns-then-opening-clause-touches : goal.returns-then-opening-clause-touches
 returns-then-opening-clause-touches g c =
     let h = has_file c.in-Some-file_mode.mode _ c.in-Some-file_mode.ensures in
-    makes_by_put (paths_of c.args.setting.now) (makes_in (c.args.opening ∷ [])) c.args.world.now.world _ _
+    makes_by_create (paths_of c.args.setting.now) (makes_in (c.args.opening ∷ [])) c.args.world.now.world _ _
     c.args.opening.file
     c.in-Some.path.now h.0 c.requires.ready.distinct c.in-Some.ensures.path_ h.1
     (is_closed_true c.in-Some-file_mode.mode h.0.mode h.2 (sym c.is_closed.ensures ∙ c.if-not-is_closed.false))
-    (makes_own c.args.opening c.if-opening.true) c.in_ok-put.ensures.part
+    (makes_own c.args.opening c.if-opening.true) c.in_ok-create.ensures.part
 
 pub returns-in_err-open_input-clause-touches : goal.returns-in_err-open_input-clause-touches
 returns-in_err-open_input-clause-touches g c =
@@ -87,5 +76,17 @@ open_input-requires-clause-free g c =
     let h = has_file c.in-Some-file_mode.mode _ c.in-Some-file_mode.ensures in
     let shut = is_closed_true c.in-Some-file_mode.mode h.0.mode h.2
     (sym c.is_closed.ensures ∙ c.if-not-is_closed.false) in
-    slot_free c.args.inputs.now c.args.world.now.world.files c.requires.placed.purposes c.args.opening.file h.0 h.1
+    slot_free c.args.handles.now c.args.world.now.world.files c.requires.placed.purposes c.args.opening.file h.0 h.1
     (ap purpose_in shut)
+
+pub create-requires-clause-free : goal.create-requires-clause-free
+create-requires-clause-free g c =
+    let h = has_file c.in-Some-file_mode.mode _ c.in-Some-file_mode.ensures in
+    let shut = is_closed_true c.in-Some-file_mode.mode h.0.mode h.2
+    (sym c.is_closed.ensures ∙ c.if-not-is_closed.false) in
+    slot_free c.args.handles.now c.args.world.now.world.files c.requires.placed.purposes c.args.opening.file h.0 h.1
+    (ap purpose_in shut)
+
+pub returns-in_default-size-clause-touches : goal.returns-in_default-size-clause-touches
+returns-in_default-size-clause-touches g c =
+    makes_stay (paths_of c.args.setting.now) (makes_in (c.args.opening ∷ [])) c.args.world.now.world _

@@ -1,15 +1,15 @@
-use Rattle.std.proofs.Common.{ap}
+use Rattle.std.proofs.Common.{false, ap}
 use Rattle.cob_interp.specs.Tracking.{purpose_in}
-use Rattle.cob_interp.proofs.Purposes.{slot_read}
+use Rattle.cob_interp.proofs.Purposes.{slot_held}
 use Rattle.cob_interp.proofs.RecordReads.{idle_arrives, window_arrives, on_file}
-use Rattle.cob_interp.proofs.ReadParts.{idle_part_placed, window_part_placed}
+use Rattle.cob_interp.proofs.ReadParts.{idle_part_left, window_part_left}
 use Rattle.cob_interp.proofs.reads.do_read.Goals as goal
 
 pub returns-in-None-clause-placed : goal.returns-in-None-clause-placed
 returns-in-None-clause-placed g c =
-    idle_part_placed c.args.setting.now c.args.node c.args.place.now c.requires.starts c.args.file c.requires.reads
+    idle_part_left c.args.setting.now c.args.node c.args.place.now c.requires.starts c.args.file c.requires.reads
     c.args.step c.in-Read.found c.in-Read.end c.in-Read.bad c.in-Read.is (g.F.Files.state c.args.files.now)
-    (g.F.Files.state c.args.files.now) c.args.inputs.now c.args.world.now.world c.requires.placed _ _ c.in-None.ensures
+    (g.F.Files.state c.args.files.now) c.args.handles.now c.args.world.now.world c.requires.placed _ _ c.in-None.ensures
     c.do_part.ensures.does
 
 pub returns-in-None-clause-takes : goal.returns-in-None-clause-takes
@@ -22,9 +22,9 @@ returns-in-None-clause-takes g c = λ sink budget steps start counted within sta
 pub returns-in-Some-clause-placed : goal.returns-in-Some-clause-placed
 returns-in-Some-clause-placed g c =
     rw c.do_window.ensures.ids
-    (window_part_placed c.args.setting.now c.args.node c.args.place.now c.requires.starts c.args.file c.requires.reads
+    (window_part_left c.args.setting.now c.args.node c.args.place.now c.requires.starts c.args.file c.requires.reads
     c.args.step c.in-Read.found c.in-Read.end c.in-Read.bad c.in-Read.is (g.F.Files.state c.args.files.now)
-    (g.F.Files.state c.do_window.new.files) c.args.inputs.now c.args.world.now.world c.requires.placed c.requires.live
+    (g.F.Files.state c.do_window.new.files) c.args.handles.now c.args.world.now.world c.requires.placed c.requires.live
     c.in-Some.before c.in-Some.ensures _ _ c.do_window.ensures.reads)
 
 pub returns-in-Some-clause-takes : goal.returns-in-Some-clause-takes
@@ -33,11 +33,11 @@ returns-in-Some-clause-takes g c = λ sink budget steps start counted within sta
     c.args.file
     c.requires.reads budget steps c.args.step counted within start sink (g.F.Files.state c.args.files.now)
     (g.F.Files.state c.do_window.new.files) c.args.world.now.world stands c.in-Read.found c.in-Read.end c.in-Read.bad
-    c.in-Read.is c.args.inputs.now c.requires.placed c.in-Some.before c.in-Some.ensures c.do_window.ensures.same _ _
+    c.in-Read.is c.args.handles.now c.requires.placed c.in-Some.before c.in-Some.ensures c.do_window.ensures.same _ _
     c.do_window.ensures.reads
 
 pub do_window-requires-clause-reads : goal.do_window-requires-clause-reads
 do_window-requires-clause-reads g c =
     let f = on_file _ c.in-Some.before c.in-Some.ensures in
-    slot_read c.args.inputs.now c.args.world.now.world.files c.requires.placed.purposes c.args.file f.0 f.1
-    (ap purpose_in f.2)
+    slot_held c.args.handles.now c.args.world.now.world.files c.requires.placed.purposes c.args.file f.0 f.1
+    false (ap purpose_in f.2)

@@ -1,4 +1,4 @@
-use Rattle.cob_interp.proofs.ClosingInputs.{refused_on}
+use Rattle.cob_interp.proofs.ClosingHandles.{refused_on}
 use Rattle.cob_interp.proofs.runs.give_up.Goals as goal
 
 pub returns-clause-runs : goal.returns-clause-runs

@@ -4,7 +4,7 @@ use Rattle.cob_interp.specs.Setting.{paths_of}
 use Rattle.cob_interp.specs.Touching.{makes_none}
 use Rattle.cob_interp.proofs.StepLemmas.{goes_on_underway}
 use Rattle.cob_interp.proofs.Touched.{touches_stay, touches_on}
-use Rattle.cob_interp.proofs.Closings.{closes_stay, closes_pass}
+use Rattle.cob_interp.proofs.Emptying.{sees_stay, sees_closes, closes_pass}
 use Rattle.cob_interp.proofs.TrackLemmas.{tracks_stay, tracks_pass}
 use Rattle.cob_interp.proofs.steps.close_all.Goals as goal
 
@@ -13,7 +13,7 @@ loop-init g c = record {
   kept = refl;
   underway = λ sink start underway. underway;
   touches = touches_stay (paths_of c.args.setting.now) makes_none c.args.world.now.world _;
-  only = closes_stay _;
+  only = sees_closes (paths_of c.args.setting.now) _ _ _ _ (sees_stay (paths_of c.args.setting.now) _ _);
   live = c.requires.live;
   placed = c.requires.placed;
   tracks = tracks_stay _ _ c.requires.live;
@@ -27,7 +27,7 @@ loop-preserved g c = record {
       (c.in_ok-at.ensures.leads sink c.args.step start (omega arith) (c.loop.invariant.underway sink start underway));
   touches = touches_on (paths_of c.args.setting.now) _ _ _ _ _ c.loop.invariant.touches c.loop.invariant.only
       c.in_ok-at.ensures.touches;
-  only = closes_pass _ _ _ c.loop.invariant.only c.in_ok-at.ensures.closes;
+  only = closes_pass (paths_of c.args.setting.now) _ _ _ _ _ _ c.loop.invariant.only c.in_ok-at.ensures.closes;
   live = c.in_ok-at.ensures.tracks.live;
   placed = c.in_ok-at.ensures.placed;
   tracks = tracks_pass _ _ _ _ _ _ c.loop.invariant.tracks c.in_ok-at.ensures.tracks;

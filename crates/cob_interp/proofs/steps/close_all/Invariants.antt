@@ -19,8 +19,9 @@ invariant-loop g l = record {
       l.world.world l.step l.at;
   touches : Touches (paths_of l.setting) makes_none l.fn.world.world (g.F.Files.state l.fn.files)
       (g.F.Files.state l.files);
-  only : ClosesOnly l.fn.world.world l.world.world;
-  live : AreOpen (g.F.Files.state l.files) l.inputs;
-  placed : ArePlaced (paths_of l.setting) (g.F.Files.state l.files) l.inputs l.world.world.files;
-  tracks : Tracks (g.F.Files.state l.fn.files) (g.F.Files.state l.files) l.fn.inputs l.inputs;
+  only : ClosesOnly (paths_of l.setting) (g.F.Files.state l.fn.files) (g.F.Files.state l.files) l.fn.world.world
+      l.world.world;
+  live : AreOpen (g.F.Files.state l.files) l.handles;
+  placed : ArePlaced (paths_of l.setting) (g.F.Files.state l.files) l.handles l.world.world.files;
+  tracks : Tracks (g.F.Files.state l.fn.files) (g.F.Files.state l.files) l.fn.handles l.handles;
 }

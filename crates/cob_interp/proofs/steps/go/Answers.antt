@@ -1,7 +1,7 @@
 use Rattle.std.proofs.Common.{arith}
 use Rattle.std.proofs.lemmas.Result.{err_from_is_err_and}
 use Rattle.cob_interp.proofs.StepLemmas.{goes_on_underway}
-use Rattle.cob_interp.proofs.Placing.{places_behind}
+use Rattle.cob_interp.proofs.Written.{places_behind}
 use Rattle.cob_interp.proofs.steps.go.Goals as goal
 
 pub returns-in_err-next-clause-leads : goal.returns-in_err-next-clause-leads

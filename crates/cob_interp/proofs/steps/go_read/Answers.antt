@@ -3,7 +3,7 @@ use Rattle.std.proofs.lemmas.Result.{err_from_is_err_and}
 use Rattle.cob_interp.specs.Running.{outside}
 use Rattle.cob_interp.specs.Setting.{paths_of}
 use Rattle.cob_interp.proofs.StepLemmas.{goes_on_underway}
-use Rattle.cob_interp.proofs.Placing.{placed_behind}
+use Rattle.cob_interp.proofs.Written.{left_behind}
 use Rattle.cob_interp.proofs.steps.go_read.Goals as goal
 
 pub returns-in_err-next-clause-takes : goal.returns-in_err-next-clause-takes
@@ -13,9 +13,8 @@ returns-in_err-next-clause-takes g c =
 
 pub returns-clause-placed : goal.returns-clause-placed
 returns-clause-placed g c =
-    placed_behind (paths_of c.args.setting.now) (g.F.Files.state c.do_read.new.files) _ _ _ _
-    c.go_through.ensures.places
-    c.in_ok-next.ensures.placed
+    left_behind _ (paths_of c.args.setting.now) (g.F.Files.state c.do_read.new.files) _ _ _
+    c.go_through.ensures.places c.in_ok-next.ensures.placed
 
 pub returns-clause-takes : goal.returns-clause-takes
 returns-clause-takes g c = λ sink budget steps start counted within stands.

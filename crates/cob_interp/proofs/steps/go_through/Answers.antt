@@ -1,7 +1,9 @@
 use Rattle.std.proofs.Common.{◌∙◌, arith, refl}
 use Rattle.std.proofs.lemmas.Result.{err_from_is_err_and}
+use Rattle.cob_interp.specs.Tracking.{KeepsPlaces}
 use Rattle.cob_interp.proofs.StepLemmas.{goes_on_underway}
 use Rattle.cob_interp.proofs.TrackLemmas.{places_stay, places_pass}
+use Rattle.cob_interp.proofs.Written.{own_weaker}
 use Rattle.cob_interp.proofs.steps.go_through.Goals as goal
 
 pub loop-init : goal.loop-init
@@ -25,3 +27,11 @@ loop-preserved c = record {
 
 pub returns-then-rests_at-clause-places : goal.returns-then-rests_at-clause-places
 returns-then-rests_at-clause-places c = places_pass _ _ _ c.loop.invariant.places c.in_ok-at.ensures.places
+
+pub returns-in_err-at-clause-places : goal.returns-in_err-at-clause-places
+returns-in_err-at-clause-places c =
+    let p = err_from_is_err_and c.from_residual.result c.from_residual.ensures.1 in
+    rw (p.1, p.2)
+    (own_weaker _ (KeepsPlaces c.loop.world.world.files c.do_node.new.world.world.files)
+    (KeepsPlaces c.args.world.now.world.files c.do_node.new.world.world.files)
+    (λ k. places_pass _ _ _ c.loop.invariant.places k) c.in_err-at.ensures.places)

@@ -20,7 +20,7 @@ invariant-loop g l = record {
   touches : Makes (paths_of l.setting) (makes_in l.openings) l.fn.world.world (g.F.Files.state l.fn.files)
       (g.F.Files.state l.files);
   only : OpensOnly l.fn.world.world l.world.world;
-  live : AreOpen (g.F.Files.state l.files) l.inputs;
-  placed : ArePlaced (paths_of l.setting) (g.F.Files.state l.files) l.inputs l.world.world.files;
-  tracks : Tracks (g.F.Files.state l.fn.files) (g.F.Files.state l.files) l.fn.inputs l.inputs;
+  live : AreOpen (g.F.Files.state l.files) l.handles;
+  placed : ArePlaced (paths_of l.setting) (g.F.Files.state l.files) l.handles l.world.world.files;
+  tracks : Tracks (g.F.Files.state l.fn.files) (g.F.Files.state l.files) l.fn.handles l.handles;
 }

@@ -8,7 +8,7 @@ use Rattle.cob_interp.specs.Touching.{makes_by}
 use Rattle.cob_interp.proofs.CallLemmas.{is_open, is_close}
 use Rattle.cob_interp.proofs.Taking.{free_close, free_open, free_other, step_begins}
 use Rattle.cob_interp.proofs.Readied.{touches_known}
-use Rattle.cob_interp.proofs.Placing.{placed_behind}
+use Rattle.cob_interp.proofs.Written.{left_behind}
 use Rattle.cob_interp.proofs.Touched.{touches_stay, opening_touches, none_touches}
 use Rattle.cob_interp.proofs.steps.take_step.Goals as goal
 
@@ -70,5 +70,5 @@ returns-in-Other-clause-takes g c = λ sink budget steps start counted within st
 
 pub returns-in-Other-clause-placed : goal.returns-in-Other-clause-placed
 returns-in-Other-clause-placed g c =
-    placed_behind (paths_of c.args.setting.now) (g.F.Files.state c.args.files.now) _ c.args.world.now.world.files _ _
+    left_behind _ (paths_of c.args.setting.now) (g.F.Files.state c.args.files.now) _ c.args.world.now.world.files _
     c.go.ensures.places c.requires.placed

@@ -13,7 +13,7 @@ invariant-loop-steps g l = record {
       → IsAt (program_of l.setting) l.setting.graph.now (paths_of l.setting) l.budget start
       (outside (g.F.Files.state l.files) (g.O.Sink.state l.out)) l.world.world l.steps l.node;
   sink : (g.O.Sink.state l.out).faults ≡ (g.O.Sink.state l.fn.out).faults;
-  live : AreOpen (g.F.Files.state l.files) l.inputs;
-  placed : ArePlaced (paths_of l.setting) (g.F.Files.state l.files) l.inputs l.world.world.files;
-  tracks : Tracks (g.F.Files.state l.fn.files) (g.F.Files.state l.files) l.fn.inputs l.inputs;
+  live : AreOpen (g.F.Files.state l.files) l.handles;
+  placed : ArePlaced (paths_of l.setting) (g.F.Files.state l.files) l.handles l.world.world.files;
+  tracks : Tracks (g.F.Files.state l.fn.files) (g.F.Files.state l.files) l.fn.handles l.handles;
 }

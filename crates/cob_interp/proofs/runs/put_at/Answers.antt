@@ -1,7 +1,0 @@
-use Rattle.cob_interp.specs.Setting.{paths_of}
-use Rattle.cob_interp.specs.Touching.{makes_none}
-use Rattle.cob_interp.proofs.Touched.{touches_stay}
-use Rattle.cob_interp.proofs.runs.put_at.Goals as goal
-
-pub returns-in-Err-clause-touches : goal.returns-in-Err-clause-touches
-returns-in-Err-clause-touches g c = touches_stay (paths_of c.args.setting.now) makes_none c.args.world.now.world _
