@@ -1,6 +1,6 @@
 -- What a row says of the cells of a pack are numbers that words of its matrix can be.
-use Rattle.std.proofs.Common.{◌≤◌, ◌<◌, ◌*◌, ◌-◌, ◌^◌, ℕ, zero, suc, List, [], ◌∷◌, length, map, ℤ, pos, neg_ℤ, ◌*ℤ◌, ◌≤ℤ◌, Some, None, arith}
-use Rattle.std.specs.Prelude.{max, slice_index_or, IfSome}
+use Rattle.std.proofs.Common.{◌≡◌, ◌≤◌, ◌<◌, ◌*◌, ◌-◌, ◌^◌, ℕ, zero, suc, List, [], ◌∷◌, length, map, ℤ, pos, neg_ℤ, ◌*ℤ◌, ◌≤ℤ◌, Some, None, arith}
+use Rattle.std.specs.Prelude.{max, slice_get, slice_index_or, IfSome}
 use Rattle.std.specs.List.{AllByRecursion}
 use Rattle.std.proofs.lemmas.Int.{ints}
 use Rattle.dec_num.proofs.Powers.{ten_positive, ten_monotone}
@@ -13,7 +13,8 @@ use Rattle.cell_rows.specs.Elements.{CellsFit}
 use Rattle.cell_storages.specs.Homes.{Home, homes_of, home_range, owns}
 use Rattle.cell_storages.specs.Storages.{known_of}
 use Rattle.cell_edges.proofs.CellLists.{known_fits}
-use Rattle.diff_steps.specs.Packs.{Pack, decimals_of, pack_decimals}
+use Rattle.cell_walk.proofs.Stepping.{held_at}
+use Rattle.diff_steps.specs.Packs.{Pack, decimals_of, pack_decimals, unit_of}
 use Rattle.pack_changes.specs.declared.closings.KnownCell.{KnownCell}
 use Rattle.pack_changes.specs.Cells.{cell, known_cells, AreEnds, HasEnds, HaveEnds}
 use Rattle.pack_changes.specs.Ends.{IsNumber}
@@ -96,3 +97,9 @@ pub known_cells_end : (p : Program) (known : List Known) (pack : Pack) → Cells
 known_cells_end p known pack fits short =
     have_ends (known_cells p.layout (homes_of p) known pack)
     (each_ends p.layout (homes_of p) known fits (pack_decimals p.layout pack) (few_decimals p.layout pack short) pack short)
+
+-- the ends of a cell of a pack
+pub cell_ends_at : (p : Program) (known : List Known) (pack : Pack) → CellsFit (owns p) known → AllByRecursion (IsShortHome p.layout) pack →
+    (k : ℕ) (h : Home) → slice_get pack k ≡ Some h → HasEnds (cell (known_of (homes_of p) known h) (unit_of p.layout pack h))
+cell_ends_at p known pack fits short k h at =
+    cell_ends p.layout (homes_of p) known fits (pack_decimals p.layout pack) (few_decimals p.layout pack short) h (held_at (IsShortHome p.layout) pack k h short at)

@@ -2,6 +2,9 @@ pub mod Items
 pub mod KnownEnds
 pub mod Filling
 pub mod PackRows
+pub mod Closures
+pub mod Staying
+pub mod Idle
 pub mod SmallPacks
 pub mod Walked
 pub mod Changed

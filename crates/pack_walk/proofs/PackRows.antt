@@ -12,6 +12,7 @@ use Rattle.diff_steps.specs.Packs.{Pack, size_of}
 use Rattle.pack_edges.specs.Agreeing.{AreMatrices}
 use Rattle.pack_rows.specs.Rows.{words_of, width_of}
 use Rattle.pack_walk.specs.declared.plans.PackPlan.{PackPlan}
+use Rattle.pack_walk.specs.Closed.{IsClosedBy, AreClosedBy, IsClosedRow}
 use Rattle.pack_walk.specs.Plans.{plain_plan, plain_plans, matrices_for, IsRowFor}
 
 -- the first and those behind it
@@ -56,33 +57,26 @@ module _ (plan : PackPlan) (plans : List PackPlan) where
 
   -- ---- closed
 
-  module _ (p : Program) (known : List Known) (row m out : List ℤ) where
+  module _ (p : Program) (known : List Known) (k : List ℤ) (ks : List (List ℤ)) (m out : List ℤ) where
     abbrev closed_first : Option (List ℤ)
-    closed_first = put_closed p.layout (homes_of p) known (plain_plan plan) (take n row)
+    closed_first = put_closed p.layout (homes_of p) known (plain_plan plan) k
 
     pub closed_both : (b c : Bool) → closed_first ≡ (if b then Some m else None) → b ≡ true
-        → all_closed p known (plain_plans plans) (matrices_for plans (drop n row)) ≡ (if c then Some (matrices_for plans out) else None) → length m ≡ n
-        → all_closed p known (plain_plans (plan ∷ plans)) (matrices_for (plan ∷ plans) row) ≡ (if c then Some (matrices_for (plan ∷ plans) (m ++ out)) else None)
+        → all_closed p known (plain_plans plans) ks ≡ (if c then Some (matrices_for plans out) else None) → length m ≡ n
+        → all_closed p known (plain_plans (plan ∷ plans)) (k ∷ ks) ≡ (if c then Some (matrices_for (plan ∷ plans) (m ++ out)) else None)
     closed_both b c e is f wide =
-        ap (λ o. o >>= λ k. all_closed p known (plain_plans plans) (matrices_for plans (drop n row)) >>= λ ks. Some (k ∷ ks)) (e ∙ ap (λ (d : Bool). if d then Some m else None) is)
-        ∙ (ap (λ o. o >>= λ ks. Some (m ∷ ks)) f ∙ go c)
+        ap (λ o. o >>= λ d. all_closed p known (plain_plans plans) ks >>= λ ds. Some (d ∷ ds)) (e ∙ ap (λ (d : Bool). if d then Some m else None) is)
+        ∙ (ap (λ o. o >>= λ ds. Some (m ∷ ds)) f ∙ go c)
       where
-        go : (c : Bool) → ((if c then Some (matrices_for plans out) else None) >>= λ ks. Some (m ∷ ks)) ≡ (if c then Some (matrices_for (plan ∷ plans) (m ++ out)) else None)
+        go : (c : Bool) → ((if c then Some (matrices_for plans out) else None) >>= λ ds. Some (m ∷ ds)) ≡ (if c then Some (matrices_for (plan ∷ plans) (m ++ out)) else None)
         go true = ap Some (sym (matrices_together m out wide))
         go false = refl
 
     pub closed_neither : (b : Bool) (ms : List (List ℤ)) → closed_first ≡ (if b then Some m else None) → b ≡ false
-        → all_closed p known (plain_plans (plan ∷ plans)) (matrices_for (plan ∷ plans) row) ≡ (if b then Some ms else None)
+        → all_closed p known (plain_plans (plan ∷ plans)) (k ∷ ks) ≡ (if b then Some ms else None)
     closed_neither b ms e is =
-        ap (λ o. o >>= λ k. all_closed p known (plain_plans plans) (matrices_for plans (drop n row)) >>= λ ks. Some (k ∷ ks)) (e ∙ ap (λ (d : Bool). if d then Some m else None) is)
+        ap (λ o. o >>= λ d. all_closed p known (plain_plans plans) ks >>= λ ds. Some (d ∷ ds)) (e ∙ ap (λ (d : Bool). if d then Some m else None) is)
         ∙ sym (ap (λ (d : Bool). if d then Some ms else None) is)
-
-  -- ---- changed
-
-  pub changed_both : (f : Pack → List ℤ → List ℤ) (row m out : List ℤ) → length m ≡ n → m ≡ f (plain_plan plan) (take n row)
-      → matrices_for plans out ≡ each_pack f (plain_plans plans) (matrices_for plans (drop n row))
-      → matrices_for (plan ∷ plans) (m ++ out) ≡ each_pack f (plain_plans (plan ∷ plans)) (matrices_for (plan ∷ plans) row)
-  changed_both f row m out wide e g = matrices_together m out wide ∙ (λ i. e i ∷ g i)
 
 -- ---- where a pattern parts the plans, and a call the row
 
@@ -106,6 +100,19 @@ module _ (plans : List PackPlan) (plan : PackPlan) (some : 1 ≤ length plans) (
   pub other_rows : IsRowFor others back
   other_rows = subst (IsRowFor others) (sym second) (rest_row plan others row its_row)
 
+  module _ (p : Program) (known : List Known) (closes : AreClosedBy p known (plain_plans plans) (matrices_for plans row)) where
+    closed_parts : AreClosedBy p known (plain_plans (plan ∷ others)) (matrices_for (plan ∷ others) row)
+    closed_parts = subst (λ (ps : List PackPlan). AreClosedBy p known (plain_plans ps) (matrices_for ps row)) are closes
+
+    pub closed_matrix : IsClosedBy p known (plain_plan plan) front
+    closed_matrix = subst (IsClosedBy p known (plain_plan plan)) (sym first) closed_parts.0
+
+    pub closed_others : IsClosedRow p known others back
+    closed_others = record {
+      matrices = other_rows;
+      closed = subst (λ (r : List ℤ). AreClosedBy p known (plain_plans others) (matrices_for others r)) (sym second) closed_parts.1;
+    }
+
   -- ---- shown by some pack
 
   shown_split : (f : Pack → List ℤ → Bool) → (f (plain_plan plan) front || some_pack f (plain_plans others) (matrices_for others back)) ≡ some_pack f (plain_plans plans) (matrices_for plans row)
@@ -126,28 +133,48 @@ module _ (plans : List PackPlan) (plan : PackPlan) (some : 1 ≤ length plans) (
     pub rows_together : IsMatrix (size_of (plain_plan plan)) m → IsRowFor others out → IsRowFor plans (m ++ out)
     rows_together matrix rests = subst (λ (ps : List PackPlan). IsRowFor ps (m ++ out)) (sym are) (row_together plan others m out its_row.matrices.0.0 matrix rests)
 
-    pub changed_together : (f : Pack → List ℤ → List ℤ) → m ≡ f (plain_plan plan) front → matrices_for others out ≡ each_pack f (plain_plans others) (matrices_for others back)
-        → matrices_for plans (m ++ out) ≡ each_pack f (plain_plans plans) (matrices_for plans row)
-    changed_together f e g =
-        subst (λ (ps : List PackPlan). matrices_for ps (m ++ out) ≡ each_pack f (plain_plans ps) (matrices_for ps row)) (sym are)
-        (changed_both plan others f row m out (wide ∙ front_wide) (e ∙ ap (f (plain_plan plan)) first) (g ∙ ap (λ r. each_pack f (plain_plans others) (matrices_for others r)) second))
-
     module _ (p : Program) (known : List Known) where
-      abbrev closed_front : Option (List ℤ)
-      closed_front = put_closed p.layout (homes_of p) known (plain_plan plan) front
+      abbrev closed_front : List ℤ → Option (List ℤ)
+      closed_front k = put_closed p.layout (homes_of p) known (plain_plan plan) k
 
-      front_is : put_closed p.layout (homes_of p) known (plain_plan plan) (take (words_of (size_of (plain_plan plan))) row) ≡ closed_front
-      front_is = ap (put_closed p.layout (homes_of p) known (plain_plan plan)) (sym first)
-
-      pub closed_together : (b c : Bool) → closed_front ≡ (if b then Some m else None) → b ≡ true
+      pub closed_together : (b c : Bool) → closed_front front ≡ (if b then Some m else None) → b ≡ true
           → all_closed p known (plain_plans others) (matrices_for others back) ≡ (if c then Some (matrices_for others out) else None)
           → all_closed p known (plain_plans plans) (matrices_for plans row) ≡ (if c then Some (matrices_for plans (m ++ out)) else None)
       closed_together b c e so f =
           subst (λ (ps : List PackPlan). all_closed p known (plain_plans ps) (matrices_for ps row) ≡ (if c then Some (matrices_for ps (m ++ out)) else None)) (sym are)
-          (closed_both plan others p known row m out b c (front_is ∙ e) so (ap (λ r. all_closed p known (plain_plans others) (matrices_for others r)) (sym second) ∙ f) (wide ∙ front_wide))
+          (closed_both plan others p known (take (words_of (size_of (plain_plan plan))) row) (matrices_for others (drop (words_of (size_of (plain_plan plan))) row)) m out b c
+          (ap closed_front (sym first) ∙ e) so (ap (λ r. all_closed p known (plain_plans others) (matrices_for others r)) (sym second) ∙ f) (wide ∙ front_wide))
 
-      pub not_closed : (b : Bool) (ms : List (List ℤ)) → closed_front ≡ (if b then Some m else None) → b ≡ false
+      pub not_closed : (b : Bool) (ms : List (List ℤ)) → closed_front front ≡ (if b then Some m else None) → b ≡ false
           → all_closed p known (plain_plans plans) (matrices_for plans row) ≡ (if b then Some ms else None)
       not_closed b ms e so =
           subst (λ (ps : List PackPlan). all_closed p known (plain_plans ps) (matrices_for ps row) ≡ (if b then Some ms else None)) (sym are)
-          (closed_neither plan others p known row m out b ms (front_is ∙ e) so)
+          (closed_neither plan others p known (take (words_of (size_of (plain_plan plan))) row) (matrices_for others (drop (words_of (size_of (plain_plan plan))) row)) m out b ms
+          (ap closed_front (sym first) ∙ e) so)
+
+      pub closed_rows_together : IsMatrix (size_of (plain_plan plan)) m → IsClosedBy p known (plain_plan plan) m → IsClosedRow p known others out → IsClosedRow p known plans (m ++ out)
+      closed_rows_together matrix closes rest = record {
+        matrices = rows_together matrix rest.matrices;
+        closed =
+            subst (λ (ps : List PackPlan). AreClosedBy p known (plain_plans ps) (matrices_for ps (m ++ out))) (sym are)
+            (subst (AreClosedBy p known (plain_plans (plan ∷ others))) (sym (matrices_together plan others m out (wide ∙ front_wide))) (closes, rest.closed));
+      }
+
+      -- ---- changed before
+
+      module _ (f : Pack → List ℤ → List ℤ) where
+        pub passed_together : (b c : Bool) → closed_front (f (plain_plan plan) front) ≡ (if b then Some m else None) → b ≡ true
+            → all_closed p known (plain_plans others) (each_pack f (plain_plans others) (matrices_for others back)) ≡ (if c then Some (matrices_for others out) else None)
+            → all_closed p known (plain_plans plans) (each_pack f (plain_plans plans) (matrices_for plans row)) ≡ (if c then Some (matrices_for plans (m ++ out)) else None)
+        passed_together b c e so g =
+            subst (λ (ps : List PackPlan). all_closed p known (plain_plans ps) (each_pack f (plain_plans ps) (matrices_for ps row)) ≡ (if c then Some (matrices_for ps (m ++ out)) else None)) (sym are)
+            (closed_both plan others p known (f (plain_plan plan) (take (words_of (size_of (plain_plan plan))) row))
+            (each_pack f (plain_plans others) (matrices_for others (drop (words_of (size_of (plain_plan plan))) row))) m out b c (ap (λ r. closed_front (f (plain_plan plan) r)) (sym first) ∙ e) so
+            (ap (λ r. all_closed p known (plain_plans others) (each_pack f (plain_plans others) (matrices_for others r))) (sym second) ∙ g) (wide ∙ front_wide))
+
+        pub not_passed : (b : Bool) (ms : List (List ℤ)) → closed_front (f (plain_plan plan) front) ≡ (if b then Some m else None) → b ≡ false
+            → all_closed p known (plain_plans plans) (each_pack f (plain_plans plans) (matrices_for plans row)) ≡ (if b then Some ms else None)
+        not_passed b ms e so =
+            subst (λ (ps : List PackPlan). all_closed p known (plain_plans ps) (each_pack f (plain_plans ps) (matrices_for ps row)) ≡ (if b then Some ms else None)) (sym are)
+            (closed_neither plan others p known (f (plain_plan plan) (take (words_of (size_of (plain_plan plan))) row))
+            (each_pack f (plain_plans others) (matrices_for others (drop (words_of (size_of (plain_plan plan))) row))) m out b ms (ap (λ r. closed_front (f (plain_plan plan) r)) (sym first) ∙ e) so)

@@ -26,7 +26,8 @@ use Rattle.diff_steps.specs.Edges.{beginning2, steps2, finished2}
 use Rattle.diff_steps.specs.Clearing.{clears_parts2}
 use Rattle.pack_forms.specs.Writing.{are_written}
 use Rattle.pack_walk.specs.declared.plans.PackPlan.{PackPlan}
-use Rattle.pack_walk.specs.Plans.{plain_plans, matrices_for, IsRowFor}
+use Rattle.pack_walk.specs.Closed.{IsClosedRow}
+use Rattle.pack_walk.specs.Plans.{plain_plans, matrices_for}
 use Rattle.pack_walk.specs.Walks.{seen2, passed_to, steps2_small, clears_all2, step2_at, clears2_at, bytes_at, statement_walked, statement_clears2}
 use Rattle.pack_walk.specs.Writing.{edge_items}
 use Rattle.pack_walk.proofs.Items.{nothing_written}
@@ -38,7 +39,7 @@ pub record IsAt (p : Program) (cells : List Cell) (plans : List PackPlan) (y : S
   pub row_of : IsRowOf p cells row
   pub words : length row ≤ 1025
   pub can : CanStep p (act_in y) x (seen row kept)
-  pub matrices : IsRowFor plans out
+  pub matrices : IsClosedRow p (cells_of row) plans out
   -- the bytes that were written to
   pub wrote : List Bytes
   pub told : written ≡ are_written p.layout wrote (edge_items (act_in y) x)
@@ -65,7 +66,7 @@ module _ (p : Program) (cells : List Cell) (plans : List PackPlan) (y : Stmt) (x
 -- ---- at the beginning
 
 pub begins_at : (p : Program) (cells : List Cell) (plans : List PackPlan) (y : Stmt) (x : Action) (row : List ℤ) (kept : Kept) (out : List ℤ) →
-    IsRowOf p cells row → length row ≤ 1025 → CellsFit (owns p) (cells_of row) → IsRowFor plans out → seen row kept ≡ beginning (cells_of row) → IsAt p cells plans y x row kept false out
+    IsRowOf p cells row → length row ≤ 1025 → CellsFit (owns p) (cells_of row) → IsClosedRow p (cells_of row) plans out → seen row kept ≡ beginning (cells_of row) → IsAt p cells plans y x row kept false out
 begins_at p cells plans y x row kept out is few fits matrices begins = record {
   row_of = is;
   words = few;
@@ -76,7 +77,7 @@ begins_at p cells plans y x row kept out is few fits matrices begins = record {
 }
 
 module _ (p : Program) (cells : List Cell) (plans : List PackPlan) (y : Stmt) (x : Action) (row : List ℤ) (kept : Kept) (out : List ℤ)
-    (is : IsRowOf p cells row) (few : length row ≤ 1025) (fits : CellsFit (owns p) (cells_of row)) (matrices : IsRowFor plans out) (begins : seen row kept ≡ beginning (cells_of row)) where
+    (is : IsRowOf p cells row) (few : length row ≤ 1025) (fits : CellsFit (owns p) (cells_of row)) (matrices : IsClosedRow p (cells_of row) plans out) (begins : seen row kept ≡ beginning (cells_of row)) where
   pub walk_begins : IsWalkedTo p cells plans y x (cells_of row) (matrices_for plans out) 0 row kept false out
   unfolding begins_at
   walk_begins = record {
@@ -104,7 +105,7 @@ module _ (p : Program) (cells : List Cell) (plans : List PackPlan) (y : Stmt) (x
 
   module _ (k : ℕ) (row : List ℤ) (kept : Kept) (written : Bool) (out row2 : List ℤ) (kept2 : Kept) (written2 : Bool) (out2 : List ℤ) (b : Bool)
       (steps : StepsTo k row kept written out b row2 kept2 out2) where
-    pub next_at : (at : IsAt p cells plans y x row kept written out) → WritesTo k written written2 → IsRowOf p cells row2 → length row2 ≤ 1025 → CanStep p (act_in y) x (seen row2 kept2) → IsRowFor plans out2 →
+    pub next_at : (at : IsAt p cells plans y x row kept written out) → WritesTo k written written2 → IsRowOf p cells row2 → length row2 ≤ 1025 → CanStep p (act_in y) x (seen row2 kept2) → IsClosedRow p (cells_of row2) plans out2 →
         IsAt p cells plans y x row2 kept2 written2 out2
     next_at at writes is few can matrices = record {
       row_of = is;
@@ -126,7 +127,7 @@ module _ (p : Program) (cells : List Cell) (plans : List PackPlan) (y : Stmt) (x
       abbrev Now : Type 0
       Now = IsWalkedTo p cells plans y x first firsts k row kept written out
 
-      pub walks_on : Now → b ≡ true → WritesTo k written written2 → IsRowOf p cells row2 → length row2 ≤ 1025 → CanStep p (act_in y) x (seen row2 kept2) → IsRowFor plans out2 →
+      pub walks_on : Now → b ≡ true → WritesTo k written written2 → IsRowOf p cells row2 → length row2 ≤ 1025 → CanStep p (act_in y) x (seen row2 kept2) → IsClosedRow p (cells_of row2) plans out2 →
           IsWalkedTo p cells plans y x first firsts (k + 1) row2 kept2 written2 out2
       unfolding next_at
       walks_on now e writes is few can matrices = record {
@@ -149,7 +150,7 @@ module _ (p : Program) (cells : List Cell) (plans : List PackPlan) (y : Stmt) (x
         abbrev its_clear : Clear → Bool
         its_clear now = clears2_at p (plain_plans plans) y x k (seen row kept) (seen2 now.at.wrote (matrices_for plans out)) fault
 
-        pub clears_on : (now : Clear) → its_clear now ≡ true → b ≡ true → WritesTo k written written2 → IsRowOf p cells row2 → length row2 ≤ 1025 → CanStep p (act_in y) x (seen row2 kept2) → IsRowFor plans out2 →
+        pub clears_on : (now : Clear) → its_clear now ≡ true → b ≡ true → WritesTo k written written2 → IsRowOf p cells row2 → length row2 ≤ 1025 → CanStep p (act_in y) x (seen row2 kept2) → IsClosedRow p (cells_of row2) plans out2 →
             IsClearTo p cells plans y x first firsts fault (k + 1) row2 kept2 written2 out2
         unfolding next_at
         clears_on now clear e writes is few can matrices = record {

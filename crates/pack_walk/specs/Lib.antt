@@ -5,4 +5,5 @@ pub mod Changes
 pub mod Parts
 pub mod Ends
 pub mod Clears
+pub mod Closed
 pub mod Walks

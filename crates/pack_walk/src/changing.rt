@@ -1,5 +1,5 @@
 //! What a part makes of the matrices of packs.
-ghost use Rattle.std.specs.Prelude.{◌≡◌, ◌≤◌, length, List};
+ghost use Rattle.std.specs.Prelude.{◌≡◌, length, List};
 ghost use Rattle.cob_program.specs.ActView.{plain_program};
 ghost use Rattle.borrowed_parts.specs.PartView.{plain_part};
 ghost use Rattle.diff_bounds.specs.Matrix.{IsMatrix};
@@ -10,16 +10,15 @@ ghost use Rattle.cell_walk.specs.Kept.{latest_of};
 ghost use Rattle.cell_walk.specs.ProgramRows.{IsRowOf};
 ghost use Rattle.diff_steps.specs.Moments.{Bytes};
 ghost use Rattle.diff_steps.specs.Packs.{size_of};
-ghost use Rattle.diff_steps.specs.Steps.{each_pack};
 ghost use Rattle.pack_forms.specs.Views.{plain_pack, HasUnit, program_of, known_in};
 ghost use Rattle.pack_walk.specs.Changes.{part_changed};
 ghost use Rattle.pack_walk.specs.Parts.{CanChange, IsWrittenTo, plan_changed};
-ghost use Rattle.pack_walk.specs.Plans.{plain_plan, plain_plans, IsPlanOf, ArePlansOf, matrices_for, IsRowFor};
+ghost use Rattle.pack_walk.specs.Plans.{plain_plan, IsPlanOf};
 
 use crate::counters::{count_down, set_count};
 use crate::gone::{Gone, forget};
 use crate::guards::guard;
-use crate::plans::{PackPlan, view_of, words_for};
+use crate::plans::{PackPlan, view_of};
 use crate::stores::store;
 use borrowed_parts::EdgePart;
 use cell_walk::{Kept, KnownItems};
@@ -71,7 +70,8 @@ fn change(
     }
 }
 
-fn change_plan(
+/// Makes of the matrix of a pack what a part makes of it, by the row before it, and by what is kept behind it.
+pub(crate) fn change_plan(
     program: &Program,
     cells: &[Cell],
     before: &[i128],
@@ -98,35 +98,4 @@ fn change_plan(
     };
     let pack = view_of(plan);
     change(&items, &pack, m, part, kept, written);
-}
-
-/// Makes of the matrices of all packs what a part makes of them, by the row before it, and by what is kept behind it.
-pub(crate) fn change_all(
-    program: &Program,
-    cells: &[Cell],
-    before: &[i128],
-    plans: &[PackPlan],
-    out: &mut [i128],
-    part: EdgePart,
-    kept: &Kept,
-    written: bool,
-)
-    requires row { IsRowOf (plain_program program.now) cells.now before.now }
-    requires fits { CellsFit (owns (plain_program program.now)) (cells_of before.now) }
-    requires plans { ArePlansOf (plain_program program.now) plans.now }
-    requires can { CanChange (plain_program program.now) (cells_of before.now) kept.now.common (plain_part part) }
-    requires matrices { IsRowFor plans.now out.old }
-    ensures value { (wrote : List Bytes) → IsWrittenTo program.now.layout wrote written (plain_part part.entry)
-        → matrices_for plans.now out.new ≡ each_pack (plan_changed (plain_program program.now) (cells_of before.now) kept.now.common (latest_of kept.now) wrote (plain_part part.entry))
-        (plain_plans plans.now) (matrices_for plans.now out.old) }
-    ensures matrices { IsRowFor plans.now out.new }
-{
-    match plans {
-        [] => {}
-        [plan, plans @ ..] => {
-            let (first, rest) = out.split_at_mut(words_for(plan));
-            change_plan(program, cells, before, plan, first, part, kept, written);
-            change_all(program, cells, before, plans, rest, part, kept, written);
-        }
-    }
 }

@@ -1,6 +1,5 @@
 //! Matrices lowered to what is known of their cells, and closed.
 ghost use Rattle.std.specs.Prelude.{◌≡◌, ◌-◌, ◌^◌, ◌≤◌, length, IsTrue, Some, None, if◌then◌else◌};
-ghost use Rattle.std.specs.List.{AllByRecursion};
 ghost use Rattle.cob_program.specs.ActView.{plain_program};
 ghost use Rattle.diff_bounds.specs.Matrix.{IsMatrix};
 ghost use Rattle.cell_rows.specs.Known.{IsOrdered};
@@ -13,8 +12,9 @@ ghost use Rattle.diff_steps.specs.Matrices.{put_closed};
 ghost use Rattle.diff_steps.specs.Packs as packs;
 ghost use Rattle.diff_steps.specs.Packs.{size_of};
 ghost use Rattle.diff_steps.specs.Steps.{all_closed};
-ghost use Rattle.pack_changes.specs.Cells.{cell, known_cells, HaveEnds};
-ghost use Rattle.pack_forms.specs.Cells.{plain_cell, plain_cells};
+ghost use Rattle.pack_changes.specs.Cells.{cell, known_cells};
+ghost use Rattle.pack_forms.specs.Cells.{plain_cell};
+ghost use Rattle.pack_walk.specs.Closed.{IsClosedBy, IsClosedRow};
 ghost use Rattle.pack_walk.specs.Plans.{plain_plan, plain_plans, IsPlanOf, ArePlansOf, matrices_for, IsRowFor};
 
 use crate::plans::{PackPlan, words_for};
@@ -83,6 +83,7 @@ fn close(program: &Program, cells: &[Cell], plan: &PackPlan, row: &[i128], m: &m
         ≡ (if result then Some m.new else None) }
     ensures width { length m.new ≡ length m.old }
     ensures matrix { IsTrue result → IsMatrix (size_of (plain_plan plan.now)) m.new }
+    ensures stays { IsTrue result → IsClosedBy (plain_program program.now) (cells_of row.now) (plain_plan plan.now) m.new }
 {
     let mut room = [KnownCell {
         known: None,
@@ -92,6 +93,39 @@ fn close(program: &Program, cells: &[Cell], plan: &PackPlan, row: &[i128], m: &m
     let known = &mut room[..size];
     know_cells(program, cells, row, plan, known);
     pack_changes::close_pack(size, m, known)
+}
+
+/// Does it with what a part has made of a matrix that was closed by what was known of cells before it.
+pub(crate) fn close_again(
+    program: &Program,
+    cells: &[Cell],
+    plan: &PackPlan,
+    before: &[i128],
+    row: &[i128],
+    last: &[i128],
+    m: &mut [i128],
+) -> bool
+    requires row { IsRowOf (plain_program program.now) cells.now row.now }
+    requires fits { CellsFit (owns (plain_program program.now)) (cells_of before.now) }
+    requires fit { CellsFit (owns (plain_program program.now)) (cells_of row.now) }
+    requires plan { IsPlanOf (plain_program program.now) plan.now }
+    requires last { IsMatrix (size_of (plain_plan plan.now)) last.now }
+    requires closed { IsClosedBy (plain_program program.now) (cells_of before.now) (plain_plan plan.now) last.now }
+    requires matrix { IsMatrix (size_of (plain_plan plan.now)) m.old }
+    ensures value { put_closed program.now.layout (homes_of (plain_program program.now)) (cells_of row.now) (plain_plan plan.now) m.old
+        ≡ (if result then Some m.new else None) }
+    ensures width { length m.new ≡ length m.old }
+    ensures matrix { IsTrue result → IsMatrix (size_of (plain_plan plan.now)) m.new }
+    ensures stays { IsTrue result → IsClosedBy (plain_program program.now) (cells_of row.now) (plain_plan plan.now) m.new }
+{
+    let mut room = [KnownCell {
+        known: None,
+        unit: 1,
+    }; 8];
+    let size = plan.cells.as_slice().len();
+    let known = &mut room[..size];
+    know_cells(program, cells, row, plan, known);
+    pack_changes::close_again(size, m, last, known)
 }
 
 /// Lowers the matrices of all packs to what is known of their cells, and closes them. Answers false where a cycle of one
@@ -111,6 +145,7 @@ pub fn close_all(
         ≡ (if result then Some (matrices_for plans.now out.new) else None) }
     ensures width { length out.new ≡ length out.old }
     ensures matrices { IsTrue result → IsRowFor plans.now out.new }
+    ensures stays { IsTrue result → IsClosedRow (plain_program program.now) (cells_of row.now) plans.now out.new }
 {
     match plans {
         [] => true,

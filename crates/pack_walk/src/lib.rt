@@ -9,6 +9,7 @@ mod counters;
 mod ends;
 mod gone;
 mod guards;
+mod passing;
 mod plans;
 mod stores;
 mod walking;

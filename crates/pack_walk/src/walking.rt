@@ -5,25 +5,23 @@ ghost use Rattle.cob_program.specs.ActView.{plain_stmt, plain_program};
 ghost use Rattle.cob_edge_parts.specs.Parts.{is_handled};
 ghost use Rattle.borrowed_parts.specs.PartView.{edge_parts, plain_part};
 ghost use Rattle.edge_sizes.specs.Sizes.{IsSmallPart};
-ghost use Rattle.cell_rows.specs.Elements.{CellsFit};
 ghost use Rattle.cell_rows.specs.Rows.{cells_of};
-ghost use Rattle.cell_storages.specs.Homes.{owns};
-ghost use Rattle.cell_walk.specs.Kept.{seen, latest_of};
+ghost use Rattle.cell_walk.specs.Kept.{seen};
 ghost use Rattle.cell_walk.specs.ProgramRows.{IsRowOf};
 ghost use Rattle.cell_walk.specs.SmallCells.{has_small_cells};
 ghost use Rattle.cell_walk.specs.Statements.{act_in};
 ghost use Rattle.cell_walk.specs.Walks.{CanStep};
 ghost use Rattle.cell_layer.specs.Edges.{CanWalk};
 ghost use Rattle.diff_steps.specs.Moments.{Bytes};
-ghost use Rattle.diff_steps.specs.Steps.{each_pack, all_closed};
 ghost use Rattle.pack_forms.specs.Writing.{are_written};
-ghost use Rattle.pack_walk.specs.Parts.{CanChange, IsWrittenTo, IsOfEdge, plan_changed};
+ghost use Rattle.pack_walk.specs.Closed.{IsClosedRow};
+ghost use Rattle.pack_walk.specs.Parts.{IsOfEdge};
 ghost use Rattle.pack_walk.specs.Plans.{plain_plans, ArePlansOf, matrices_for, IsRowFor};
 ghost use Rattle.pack_walk.specs.Walks.{seen2, step2_small, step2_at, bytes_at, passed_to, statement_walked};
 ghost use Rattle.pack_walk.specs.Writing.{edge_items, part_bytes};
 
-use crate::changing::change_all;
 use crate::closing::close_all;
+use crate::passing::pass;
 use crate::plans::PackPlan;
 use crate::writing::writes_operands;
 use borrowed_parts::{EdgePart, part_at, part_count};
@@ -53,36 +51,6 @@ fn written_behind(
     written || writes(program, statement, action, part)
 }
 
-// Leads the matrices over a part that the row has passed. Answers false where a cycle is negative behind it.
-fn pass(
-    program: &Program,
-    cells: &[Cell],
-    part: EdgePart,
-    before: &[i128],
-    row: &[i128],
-    kept: &Kept,
-    written: bool,
-    plans: &[PackPlan],
-    out: &mut [i128],
-) -> bool
-    requires before { IsRowOf (plain_program program.now) cells.now before.now }
-    requires row { IsRowOf (plain_program program.now) cells.now row.now }
-    requires fits { CellsFit (owns (plain_program program.now)) (cells_of before.now) }
-    requires fit { CellsFit (owns (plain_program program.now)) (cells_of row.now) }
-    requires plans { ArePlansOf (plain_program program.now) plans.now }
-    requires can { CanChange (plain_program program.now) (cells_of before.now) kept.now.common (plain_part part) }
-    requires matrices { IsRowFor plans.now out.old }
-    ensures closed { (wrote : List Bytes) → IsWrittenTo program.now.layout wrote written (plain_part part.entry)
-        → all_closed (plain_program program.now) (cells_of row.now) (plain_plans plans.now)
-        (each_pack (plan_changed (plain_program program.now) (cells_of before.now) kept.now.common (latest_of kept.now) wrote (plain_part part.entry))
-        (plain_plans plans.now) (matrices_for plans.now out.old))
-        ≡ (if result then Some (matrices_for plans.now out.new) else None) }
-    ensures matrices { IsTrue result → IsRowFor plans.now out.new }
-{
-    change_all(program, cells, before, plans, out, part, kept, written);
-    close_all(program, cells, plans, row, out)
-}
-
 // Leads both rows over a part. Answers false where no run passes it.
 fn step_over(
     program: &Program,
@@ -107,7 +75,7 @@ fn step_over(
     requires can { CanStep (plain_program program.now) (act_in (plain_stmt statement.now)) action (seen row.old kept.old) }
     requires there { slice_get (edge_parts (plain_program program.now) (plain_stmt statement.now) action) number ≡ Some (plain_part part) }
     requires plans { ArePlansOf (plain_program program.now) plans.now }
-    requires matrices { IsRowFor plans.now out.old }
+    requires matrices { IsClosedRow (plain_program program.now) (cells_of row.old) plans.now out.old }
     ensures steps { (wrote : List Bytes) → written ≡ are_written program.now.layout wrote (edge_items (act_in (plain_stmt statement.now)) action)
         → step2_small (plain_program program.now) (plain_plans plans.now) (act_in (plain_stmt statement.now)) action (plain_part part.entry)
         (seen row.old kept.old) (seen2 wrote (matrices_for plans.now out.old))
@@ -115,7 +83,7 @@ fn step_over(
     ensures row { IsRowOf (plain_program program.now) cells.now row.new }
     ensures words { length row.new ≡ length row.old }
     ensures can { IsTrue result → CanStep (plain_program program.now) (act_in (plain_stmt statement.now)) action (seen row.new kept.new) }
-    ensures matrices { IsTrue result → IsRowFor plans.now out.new }
+    ensures matrices { IsTrue result → IsClosedRow (plain_program program.now) (cells_of row.new) plans.now out.new }
 {
     let mut room = [0; 1025];
     let before = &mut room[..row.len()];
@@ -147,7 +115,7 @@ pub(crate) fn step(
     requires can { CanStep (plain_program program.now) (act_in (plain_stmt statement.now)) action (seen row.old kept.old) }
     requires within { number < length (edge_parts (plain_program program.now) (plain_stmt statement.now) action) }
     requires plans { ArePlansOf (plain_program program.now) plans.now }
-    requires matrices { IsRowFor plans.now out.old }
+    requires matrices { IsClosedRow (plain_program program.now) (cells_of row.old) plans.now out.old }
     ensures steps { (wrote : List Bytes) → written.old ≡ are_written program.now.layout wrote (edge_items (act_in (plain_stmt statement.now)) action)
         → step2_at (plain_program program.now) (plain_plans plans.now) (plain_stmt statement.now) action number
         (seen row.old kept.old) (seen2 wrote (matrices_for plans.now out.old))
@@ -159,7 +127,7 @@ pub(crate) fn step(
     ensures row { IsRowOf (plain_program program.now) cells.now row.new }
     ensures words { length row.new ≡ length row.old }
     ensures can { IsTrue result → CanStep (plain_program program.now) (act_in (plain_stmt statement.now)) action (seen row.new kept.new) }
-    ensures matrices { IsTrue result → IsRowFor plans.now out.new }
+    ensures matrices { IsTrue result → IsClosedRow (plain_program program.now) (cells_of row.new) plans.now out.new }
 {
     match part_at(program, statement, action, number) {
         None => false,

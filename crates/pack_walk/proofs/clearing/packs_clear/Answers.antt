@@ -9,7 +9,7 @@ pub loop-number-init : goal.loop-number-init
 loop-number-init c =
     let x = c.args in
     clear_begins (plain_program x.program.now) x.cells.now x.plans.now (plain_stmt x.statement.now) x.action x.row.now c.new-kept.result c.close_all.new.out
-    c.requires.can.row_of c.requires.words c.requires.can.fits (c.close_all.ensures.matrices (search rules)) (c.new-kept.ensures.begins x.row.now) x.fault
+    c.requires.can.row_of c.requires.words c.requires.can.fits (c.close_all.ensures.stays (search rules)) (c.new-kept.ensures.begins x.row.now) x.fault
 
 pub returns-then-not-clears : goal.returns-then-not-clears
 returns-then-not-clears c =

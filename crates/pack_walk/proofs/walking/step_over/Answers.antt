@@ -8,6 +8,7 @@ use Rattle.cell_walk.specs.Latest.{latest_behind}
 use Rattle.cell_walk.specs.Statements.{act_in}
 use Rattle.edge_sizes.specs.Sizes.{IsSmallPart}
 use Rattle.cell_walk.proofs.Stepping.{held_at}
+use Rattle.pack_walk.specs.Closed.{IsClosedRow}
 use Rattle.pack_walk.specs.Parts.{IsOfEdge, CanChange}
 use Rattle.pack_walk.specs.Plans.{plain_plans, matrices_for}
 use Rattle.pack_walk.proofs.Stepped.{written_to, can_change, stepped, step_there}
@@ -26,6 +27,11 @@ pass-requires-clause-can c =
     let on = step_there p y x.action x.number part s (Some t) c.requires.there (c.walk.ensures.on c.if-walk.true) in
     subst (λ row. CanChange p (cells_of row) c.walk.new.kept.common part) (sym c.copy_from_slice.ensures.after)
     (can_change p (act_in y) x.action part s t small of_edge c.requires.can on)
+
+pub pass-requires-clause-matrices : goal.pass-requires-clause-matrices
+pass-requires-clause-matrices c =
+    let x = c.args in
+    subst (λ row. IsClosedRow (plain_program x.program.now) (cells_of row) x.plans.now x.out.now) (sym c.copy_from_slice.ensures.after) c.requires.matrices
 
 pub returns-then-walk-clause-steps : goal.returns-then-walk-clause-steps
 returns-then-walk-clause-steps c wrote written =
