@@ -1,4 +1,4 @@
-use Rattle.std.proofs.Common.{◌≡◌, sym, ap, subst, ◌∙◌, length}
+use Rattle.std.proofs.Common.{◌≤◌, length, sym, subst}
 use Rattle.std.specs.List.{AllByRecursion, AllByRecursion-prop}
 use Rattle.std.proofs.Props.{props}
 use Rattle.std.proofs.Math.Logic.{∥∥₁_elim}
@@ -27,4 +27,4 @@ pub answer_to-requires : goal.answer_to-requires
 answer_to-requires c =
     let layer = c.args.layer.now in
     subst (IsElement _) (sym c.as_slice.ensures.value)
-    (layer_element (plain_program layer.program.now) layer.packs.now (lists_of layer.thresholds.now) c.requires _ c.in-Some.ensures)
+    (layer_element (plain_program layer.program.now) layer.packs.now (lists_of layer.thresholds.now) c.requires _ (let h = c.in-Some in ?))

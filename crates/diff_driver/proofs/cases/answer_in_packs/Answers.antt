@@ -1,4 +1,4 @@
-use Rattle.std.proofs.Common.{◌∙◌, subst, sym, length}
+use Rattle.std.proofs.Common.{[], sym, subst, ◌∙◌}
 use Rattle.cob_program.specs.ActView.{plain_program}
 use Rattle.cell_rows.specs.Rows.{IsRow}
 use Rattle.cell_storages.specs.Homes.{owns}
