@@ -6,7 +6,6 @@ use Rattle.cob_program.specs.Act.{Program}
 use Rattle.cell_storages.specs.Homes.{Home, homes_of}
 use Rattle.dom_laws.specs.Lattice.{IsElement}
 use Rattle.diff_bounds.specs.declared.Pack.{Pack}
-use Rattle.diff_steps.specs.Packs.{size_of}
 use Rattle.pack_rows.specs.Rows.{packs_lattice}
 use Rattle.claimed_matrices.specs.Claims.{cells_in, sizes_of}
 use Rattle.diff_layer_laws.specs.Layer as layer
@@ -18,7 +17,7 @@ sizes_same : (homes : List Home) (packs : List Pack) → sizes_of (cells_in pack
 sizes_same homes [] = refl
 sizes_same homes (pack ∷ packs) =
     ap (λ n. n ∷ sizes_of (cells_in packs)) (sym (length-map pack.cells.items (home_at homes)))
-    ∙ ap (λ ns. size_of (pack_in homes pack.cells.items) ∷ ns) (sizes_same homes packs)
+    ∙ ap (λ ns. length (pack_in homes pack.cells.items) ∷ ns) (sizes_same homes packs)
 
 module _ (p : Program) (packs : List Pack) (lists : List (List ℤ)) (none : lists ≡ no_thresholds (sizes_of (cells_in packs))) where
   same_lattice : rows_of_packs packs ≡ diff_lattice (packs_of p packs) lists

@@ -1,4 +1,5 @@
-use Rattle.std.proofs.Common.{◌≡◌, sym, ap, subst, ◌∙◌, length}
+use Rattle.std.proofs.Common.{◌≤◌, length, sym, subst}
+use Rattle.std.specs.Prelude.{IfSome}
 use Rattle.std.specs.List.{AllByRecursion, AllByRecursion-prop}
 use Rattle.std.proofs.Props.{props}
 use Rattle.std.proofs.Math.Logic.{∥∥₁_elim}
@@ -6,6 +7,7 @@ use Rattle.cob_program.specs.ActView.{plain_program}
 use Rattle.dom_laws.specs.Lattice.{IsElement}
 use Rattle.pack_rows.specs.Rows.{lists_of}
 use Rattle.claimed_matrices.specs.Claims.{cells_in, sizes_of}
+use Rattle.diff_driver.specs.Rows.{rows_of_packs}
 use Rattle.diff_driver.proofs.LayerRows.{are_small, layer_element, layer_width}
 use Rattle.diff_driver.proofs.cases.answer_by_layer.Goals as goal
 
@@ -26,5 +28,6 @@ row_with-requires-clause-width c =
 pub answer_to-requires : goal.answer_to-requires
 answer_to-requires c =
     let layer = c.args.layer.now in
+    let is = subst (λ o. IfSome o (λ row. IsElement (rows_of_packs layer.packs.now) row.items)) c.in-Some.is c.in_ok-row.ensures in
     subst (IsElement _) (sym c.as_slice.ensures.value)
-    (layer_element (plain_program layer.program.now) layer.packs.now (lists_of layer.thresholds.now) c.requires _ c.in-Some.ensures)
+    (layer_element (plain_program layer.program.now) layer.packs.now (lists_of layer.thresholds.now) c.requires _ is)
