@@ -218,7 +218,11 @@ fn a_write_that_fails_leaves_the_bytes_before_it(rt: HostRuntime) -> Result<(), 
         let mut files = files_of(alloc, before.saturating_add(written as u64))?;
         files.slow(1);
         let mut sink = MemSink::new(alloc, Vec::new(alloc));
-        assert_eq!(rt; cobsound(alloc, &words, &mut files, &mut sink), 6, "{written}");
+        assert_eq!(rt;
+            cobsound(alloc, &words, &mut files, &mut sink),
+            6,
+            "{written}"
+        );
         assert_eq!(rt; count_of(&files, "PAYOUT"), written, "{written}");
         assert!(rt; holds_front(&files, "PAYOUT", PAID), "{written}");
     }

@@ -91,13 +91,9 @@ pub fn check_certificate<'a>(alloc: Global, laid: &Laid, cert: &Cert) -> Result<
                 wanted,
             },
         ) => Ok(Answer::CertificateMisfit(what, found, wanted)),
-        Err(
-            CheckEnd::NotInductive {
-                layer,
-                edge,
-                gap,
-            },
-        ) => Ok(Answer::NotInductive(layer, edge, gap)),
+        Err(CheckEnd::NotInductive { layer, edge, gap }) => Ok(Answer::NotInductive(
+            layer, edge, gap,
+        )),
         Err(CheckEnd::Memory) => Err(Stop::Memory),
     }
 }
