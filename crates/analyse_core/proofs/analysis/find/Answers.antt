@@ -7,7 +7,7 @@ use Rattle.cell_storages.specs.Homes.{owns}
 use Rattle.analyse_core.specs.Literals.{program_literals}
 use Rattle.analyse_core.specs.Thresholds.{thresholds_of}
 use Rattle.analyse_core.proofs.CellLists.{each_short, lists_short}
-use Rattle.analyse_core.proofs.Finding.{thresholds_are}
+use Rattle.analyse_core.proofs.Owned.{thresholds_are}
 use Rattle.analyse_core.proofs.analysis.find.Goals as goal
 
 pub new-requires-clause-ends : goal.new-requires-clause-ends
