@@ -16,17 +16,16 @@ ghost use Rattle.analyse_core.specs.Found.{IsFound};
 
 use crate::certificate::certificate_of;
 use crate::listing::thresholds;
-use crate::solving::{NoBounds, pack_words, solve_cells, solve_packs};
+use crate::solving::{NoBounds, rows_for_cells, rows_for_packs, solve_cells, solve_packs};
 use cell_layer::CellLayer;
 use cert_text::Cert;
 use cob_graph::Graph;
 use cob_program::Program;
 use diff_bounds::Pack;
-use dom_laws::{Domain, Steps, System};
+use dom_laws::{Steps, System};
 use pack_choice::{pack_thresholds, packs};
 use std::alloc::{AllocError, Global};
 use std::sync::ledger::Ledger;
-use widen_solver::Store;
 
 // The certificate of the first layer's rows, where there are no packs.
 fn found_alone<L: Ledger>(
@@ -45,7 +44,7 @@ fn found_alone<L: Ledger>(
     ensures at_least { OnOk result (steps.old + length layer.now.graph.now.edges ≤ steps.new) }
     ensures at_most { steps.new ≤ steps.old + most_steps (plain_program layer.now.program.now) layer.now.graph.now }
 {
-    let mut rows = Store::new(alloc, layer.nodes(), layer.words())?;
+    let mut rows = rows_for_cells(alloc, layer)?;
     solve_cells(layer, &mut rows, steps);
     let bounds = NoBounds {
         nodes: layer.nodes(),
@@ -71,8 +70,8 @@ fn found_together<L: Ledger>(
     ensures at_least { OnOk result (steps.old + length layer.now.graph.now.edges ≤ steps.new) }
     ensures at_most { steps.new ≤ steps.old + most_steps (plain_program layer.now.program.now) layer.now.graph.now }
 {
-    let mut rows = Store::new(alloc, layer.nodes(), layer.words())?;
-    let mut bounds = Store::new(alloc, layer.nodes(), pack_words(packs.as_slice()))?;
+    let mut rows = rows_for_cells(alloc, layer)?;
+    let mut bounds = rows_for_packs(alloc, layer.nodes(), packs.as_slice())?;
     solve_cells(layer, &mut rows, steps);
     solve_packs(
         alloc,

@@ -1,5 +1,5 @@
 //! Both layers, solved.
-ghost use Rattle.std.specs.Prelude.{◌≡◌, ◌≤◌, ◌+◌, ◌*◌, [], length, OnOk};
+ghost use Rattle.std.specs.Prelude.{◌≡◌, ◌≤◌, ◌+◌, ◌*◌, [], length, IfOk, OnOk};
 ghost use Rattle.std.specs.List.{AllByRecursion};
 ghost use Rattle.cob_program.specs.ActView.{plain_program};
 ghost use Rattle.cob_graph_build.specs.Limits.{IsWithinLimits};
@@ -9,10 +9,11 @@ ghost use Rattle.cell_rows.specs.Rows.{lists_of, width_of as row_width};
 ghost use Rattle.cell_storages.specs.Homes.{owns};
 ghost use Rattle.claimed_matrices.specs.Claims.{cells_in, sizes_of};
 ghost use Rattle.pack_rows.specs.Rows.{width_of};
+ghost use Rattle.pack_choice.specs.Choice.{packs_of};
 ghost use Rattle.widen_solver.specs.Stored.{row_at};
 ghost use Rattle.analyse_core.specs.Thresholds.{thresholds_of};
 ghost use Rattle.analyse_core.specs.Packs.{ArePacksGiven, pack_lattice};
-ghost use Rattle.analyse_core.specs.Assignments.{layer_steps};
+ghost use Rattle.analyse_core.specs.Assignments.{layer_steps, pack_steps};
 ghost use Rattle.analyse_core.specs.Found.{AreFoundBounds, AreFoundCells};
 
 use cell_layer::CellLayer;
@@ -20,7 +21,7 @@ use cob_graph::Graph;
 use cob_program::Program;
 use diff_bounds::Pack;
 use diff_layer::DiffLayer;
-use dom_laws::{Rows, Steps};
+use dom_laws::{Domain, Rows, Steps, System};
 use pack_rows::words_of;
 use std::alloc::{AllocError, Global};
 use std::sync::ledger::Ledger;
@@ -43,8 +44,8 @@ impl Rows for NoBounds {
     }
 }
 
-/// How many words a row of matrices for the packs has.
-pub fn pack_words(packs: &[Pack]) -> usize
+// How many words a row of matrices for the packs has.
+fn pack_words(packs: &[Pack]) -> usize
     requires few { length packs.now ≤ 32 }
     requires small { AllByRecursion (λ n. n ≤ 8) (sizes_of (cells_in packs.now)) }
     ensures value { result ≡ width_of (sizes_of (cells_in packs.now)) }
@@ -55,6 +56,28 @@ pub fn pack_words(packs: &[Pack]) -> usize
         [] => 0,
         [first, rest @ ..] => words_of(first.cells.len()) + pack_words(rest),
     }
+}
+
+/// Rows for the nodes of the first layer.
+pub fn rows_for_cells(alloc: Global, layer: &CellLayer) -> Result<Store, AllocError>
+    requires nodes { length layer.now.graph.now.nodes ≤ 4096 }
+    requires cells { length (owns (plain_program layer.now.program.now)) ≤ 512 }
+    ensures nodes { IfOk result (λ rows. length rows.rows ≡ length layer.now.graph.now.nodes) }
+    ensures words { IfOk result (λ rows. rows.words ≡ row_width (owns (plain_program layer.now.program.now))) }
+{
+    Store::new(alloc, layer.nodes(), layer.words())
+}
+
+/// Rows of matrices for so many nodes.
+pub fn rows_for_packs(alloc: Global, nodes: u32, packs: &[Pack]) -> Result<Store, AllocError>
+    requires nodes { nodes ≤ 4096 }
+    requires some { 1 ≤ length packs.now }
+    requires few { length packs.now ≤ 32 }
+    requires small { AllByRecursion (λ n. n ≤ 8) (sizes_of (cells_in packs.now)) }
+    ensures nodes { IfOk result (λ bounds. length bounds.rows ≡ nodes) }
+    ensures words { IfOk result (λ bounds. bounds.words ≡ width_of (sizes_of (cells_in packs.now))) }
+{
+    Store::new(alloc, nodes, pack_words(packs))
 }
 
 /// Solves the first layer.
@@ -100,6 +123,7 @@ pub fn solve_packs<L: Ledger>(
     requires source { ∥ IsSourceGraph (plain_program program.now) graph.now ∥₁ }
     requires limits { IsWithinLimits graph.now }
     requires packs { ArePacksGiven (plain_program program.now) packs.now thresholds.now }
+    requires some { 1 ≤ length packs.now }
     requires count { length rows.now.rows ≡ length graph.now.nodes }
     requires cells { AreFoundCells (plain_program program.now) graph.now (row_at rows.now.rows) }
     requires nodes { length bounds.old.rows ≡ length graph.now.nodes }
@@ -108,7 +132,7 @@ pub fn solve_packs<L: Ledger>(
     ensures found { OnOk result (AreFoundBounds (plain_program program.now) graph.now (row_at rows.now.rows) (row_at bounds.new.rows)) }
     ensures at_least { steps.old ≤ steps.new }
     ensures at_most { let p = plain_program program.now in
-        steps.new ≤ steps.old + layer_steps p graph.now (pack_lattice p).height }
+        steps.new ≤ steps.old + pack_steps p graph.now (packs_of p) }
 {
     let layer = DiffLayer::new(alloc, program, graph, packs, thresholds, rows)?;
     solve_bounds(&layer, bounds, steps);
