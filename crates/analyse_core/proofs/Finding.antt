@@ -69,6 +69,15 @@ module _ (p : Program) (g : Graph) (source : ∥ IsSourceGraph p g ∥₁) (read
   laws : LayerLaws p g
   laws = layer_laws p g source
 
+  -- ---- heads
+
+  head_is_node : (head : ℕ) → IsHead flow head → IsNode flow head
+  head_is_node head (e, edge, back, at) =
+      subst (IsNode flow) at ((flows p g source ready rows (are_facts p g source ready rows bounds found beside)).target_node e edge)
+
+  head_of_cells : (head : ℕ) → IsHead flow head → IsHead cells_flow head
+  head_of_cells head (e, edge, back, at) = (e, record { first = edge.first; last = edge.last }, back, at)
+
   -- ---- it is allowed
 
   row_fits : (node : ℕ) → IsNode flow node → IsElement (packs_lattice pack_sizes (pack_lists p)) (bounds node)
@@ -170,9 +179,8 @@ module _ (p : Program) (g : Graph) (source : ∥ IsSourceGraph p g ∥₁) (read
       bounds_below node is =
           beside.dominated others others_inductive
           (packs.heads_are_fixed (sizes_of (packs_for p)) (pack_lists p) ready.ends flow others
-          (λ head (e, edge, back, at).
-          others_element head (subst (IsNode flow) at ((flows p g source ready rows (are_facts p g source ready rows bounds found beside)).target_node e edge)))
-          (λ head (e, edge, back, at). pack_assigns.heads head (e, record { first = edge.first; last = edge.last }, back, at))) node is
+          (λ head is_head. others_element head (head_is_node head is_head)) (λ head is_head. pack_assigns.heads head (head_of_cells head is_head)))
+          node is
 
       together_clear : (node : ℕ) (fault : Kind) → IsNode flow node →
           clears_at2 p g (packs_for p) node (claims_at p g x node) (matrices_in (sizes_of (packs_for p)) (others node)) fault ≡ true →

@@ -125,6 +125,10 @@ neither : (a b : Bool) → (a || b) ≡ false → (a ≡ false) × (b ≡ false)
 neither true b e = absurd (false≢true (sym e))
 neither false b e = (refl, e)
 
+both_true : (a b : Bool) → a ≡ true → b ≡ true → (a && b) ≡ true
+both_true true b e f = f
+both_true false b e f = absurd (false≢true e)
+
 low_enough : (x y : ℤ) → int_lt x y ≡ false → int_le y x ≡ true
 low_enough x y e = grind (arith, ints, e)
 
@@ -213,7 +217,8 @@ module _ (p : Program) (packs : List Pack) (a : Act) (x : Action) where
   parts_clear [] s r fault e = refl
   parts_clear (y ∷ ys) s r fault e =
       let two = and_parts (clears_part p a x y s fault) (option_map_or (λ t. clears_parts p a x ys t fault) (step p a x y s) true) e in
-      rw (part_clears y s r fault two.0) (by_step (step2 p a x packs y s r) refl (λ t f. parts_clear ys t.0 t.1 fault f) two.1)
+      both_true (clears_part2 p packs a x y s r fault) (option_map_or (λ t. clears_parts2 p packs a x ys t.0 t.1 fault) (step2 p a x packs y s r) true)
+      (part_clears y s r fault two.0) (by_step (step2 p a x packs y s r) refl (λ t f. parts_clear ys t.0 t.1 fault f) two.1)
     where
       by_step : (o : Option (Seen × Seen2)) → step2 p a x packs y s r ≡ o →
           ((t : Seen × Seen2) → clears_parts p a x ys t.0 fault ≡ true → clears_parts2 p packs a x ys t.0 t.1 fault ≡ true) →
