@@ -89,6 +89,12 @@ module _ (p : Program) (g : Graph) (packs : List declared.Pack) (lists : List (V
       ∙ sym (length-map (cells_in packs) length) ∙ ap length (sym sizes_same) in
       e ∙ ap width_of (sym sizes_same) ∙ sym (width_is (layer.sizes_of packs_there) (lists_of lists) many)
 
+  pub width_found : (bounds : ℕ → List ℤ) → AreFoundBounds p g facts bounds → (node : ℕ) → 1 ≤ node → node ≤ length g.nodes →
+      length (bounds node) ≡ width_of (sizes_of (cells_in packs))
+  width_found bounds found node first last =
+      (found.inductive.elements node (record { first = first; last = last })).width ∙ sym (ap (λ (l : Lattice). l.width) lattice_same)
+      ∙ sym (words_fit (width_of (sizes_of (cells_in packs))) refl)
+
   pub steps_fit : (before after : ℕ) → after ≤ before + step_bound lattice_there flow_there →
       after ≤ before + layer_steps p g (pack_lattice p).height
   steps_fit before after h =
