@@ -31,19 +31,19 @@ module _ (p : Program) (packs : List Pack) (fault : Kind) where
     rest_too : (ys : List Part) (y : Part) (s : Seen) (r : Seen2)
         → ((t : Seen) (q : Seen2) → clears_parts p a x ys t fault ≡ true → clears_parts2 p packs a x ys t q fault ≡ true)
         → option_map_or (λ t. clears_parts p a x ys t fault) (step p a x y s) true ≡ true
-        → option_map_or (λ t. clears_parts2 p packs a x ys t.0 t.1 fault) (step2 p a x packs y s r) true ≡ true
+        → option_map_or (λ (u : Seen × Seen2). clears_parts2 p packs a x ys u.0 u.1 fault) (step2 p a x packs y s r) true ≡ true
     rest_too ys y s r more = by_cells (step p a x y s)
       where
         next : Seen2
         next = changed p a x packs y s r
 
         by_packs : (t : Seen) → clears_parts p a x ys t fault ≡ true → (o : Option (List (List ℤ)))
-            → option_map_or (λ u. clears_parts2 p packs a x ys u.0 u.1 fault) (o >>= λ ms. Some (t, with_packs next ms)) true ≡ true
+            → option_map_or (λ (u : Seen × Seen2). clears_parts2 p packs a x ys u.0 u.1 fault) (o >>= λ ms. Some (t, with_packs next ms)) true ≡ true
         by_packs t e None = refl
         by_packs t e (Some ms) = more t (with_packs next ms) e
 
         by_cells : (o : Option Seen) → option_map_or (λ t. clears_parts p a x ys t fault) o true ≡ true
-            → option_map_or (λ u. clears_parts2 p packs a x ys u.0 u.1 fault)
+            → option_map_or (λ (u : Seen × Seen2). clears_parts2 p packs a x ys u.0 u.1 fault)
             (o >>= λ t. all_closed p t.cells packs next.packs >>= λ ms. Some (t, with_packs next ms)) true ≡ true
         by_cells None e = refl
         by_cells (Some t) e = by_packs t e (all_closed p t.cells packs next.packs)
@@ -52,7 +52,7 @@ module _ (p : Program) (packs : List Pack) (fault : Kind) where
     parts_too [] s r e = refl
     parts_too (y ∷ ys) s r e =
         let two = and_parts (clears_part p a x y s fault) (option_map_or (λ t. clears_parts p a x ys t fault) (step p a x y s) true) e in
-        and_true (clears_part2 p packs a x y s r fault) (option_map_or (λ t. clears_parts2 p packs a x ys t.0 t.1 fault) (step2 p a x packs y s r) true)
+        and_true (clears_part2 p packs a x y s r fault) (option_map_or (λ (u : Seen × Seen2). clears_parts2 p packs a x ys u.0 u.1 fault) (step2 p a x packs y s r) true)
         (cleared_too p packs a x s r.wrote r.packs y fault two.0)
         (rest_too ys y s r (λ t q h. parts_too ys t q h) two.1)
 
