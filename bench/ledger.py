@@ -8,6 +8,7 @@ ACCOUNTS = 32
 AMOUNTS = ("OPENED", "PAID-IN", "PAID-OUT", "BALANCE")
 # Amounts that would grow above it are set anew.
 MOST = 9_999
+LARGEST = 99_999
 
 
 def differences(values):
@@ -19,11 +20,12 @@ def differences(values):
 
 
 class Ledger:
-    """Postings of written numbers to accounts: all that is known at a node is one value for each cell, so that the
-    certificate claims each value and each difference within a pack."""
+    """Postings of written numbers to accounts: at each node a cell has one value, so that the certificate claims each
+    difference within a pack, and of the cells alone either their values or no more than their pictures tell."""
 
-    def __init__(self, nodes, seed=1):
+    def __init__(self, nodes, tells_values, seed=1):
         self.random = random.Random(seed)
+        self.tells_values = tells_values
         self.accounts = [[self.random.randrange(1_000, 2_000), 2, 1, 1_000] for _ in range(ACCOUNTS)]
         data = [f"77 {self.name(account, place)} PIC S9(5) VALUE {value}."
                 for account, values in enumerate(self.accounts) for place, value in enumerate(values)]
@@ -43,11 +45,14 @@ class Ledger:
         self.lines.append(line)
         self.known += [self.claims()] * nodes
 
+    def range_of(self, value):
+        return f"{value} {value}" if self.tells_values else f"{-LARGEST} {LARGEST}"
+
     def claims(self):
         cells, bounds = ["c 1 0 0"], []
         for account, values in enumerate(self.accounts):
             first = len(AMOUNTS) * account + 2
-            cells += [f"c {first + place} {value} {value}" for place, value in enumerate(values)]
+            cells += [f"c {first + place} {self.range_of(value)}" for place, value in enumerate(values)]
             bounds += [f"d {account + 1} {row} {column} {most}" for row, column, most in differences(values)]
         return "\n".join(cells + bounds)
 
