@@ -1,6 +1,6 @@
 -- The paragraphs that a PERFORM reaches: those of its range, and those of the ranges that are performed in these or in its own
 -- list. Paragraphs are named by their places, and stand as what is mentioned in each.
-use Rattle.std.specs.Prelude.{ℕ, zero, suc, Bool, true, false, not, ◌&&◌, ◌||◌, ◌==◌, nat_le, if◌then◌else◌, List, [], ◌∷◌, ◌++◌, length, map}
+use Rattle.std.specs.Prelude.{◌≡◌, ◌<◌, ℕ, zero, suc, Bool, true, false, not, ◌&&◌, ◌||◌, ◌==◌, nat_le, if◌then◌else◌, List, [], ◌∷◌, ◌++◌, length, map, slice_index_or}
 use Rattle.std.specs.List.{range_with_len}
 use Rattle.pack_choice.specs.declared.mention.Mention.{Mention}
 use Rattle.pack_choice.specs.declared.mention.Mention.TheVariants as mention
@@ -46,6 +46,20 @@ module _ (own : List Mention) (home : ℕ) where
   abbrev pub mentions_from : ℕ → List Bool → List (List Mention) → List Mention
   mentions_from at (mark ∷ marks) (text ∷ texts) = (if mark then text else if at == home then own else []) ++ mentions_from (suc at) marks texts
   mentions_from at _ _ = []
+
+-- What is reached, by a relation: a range that the statement mentions has the paragraph, or one that a reached paragraph does.
+pub data IsReached (texts : List (List Mention)) (own : List Mention) : ℕ → Type 0 where
+  directly : {para : ℕ} → is_performed para own ≡ true → IsReached texts own para
+  onward : {para : ℕ} (over : ℕ) → IsReached texts own over → is_performed para (slice_index_or texts over []) ≡ true → IsReached texts own para
+
+-- just these are marked
+pub record AreMarksOfReached (texts : List (List Mention)) (own : List Mention) (marks : List Bool) : Type 0 where
+  pub wide : length marks ≡ length texts
+  pub marked : (para : ℕ) → para < length texts → slice_index_or marks para false ≡ true → IsReached texts own para
+  pub whole : (para : ℕ) → para < length texts → IsReached texts own para → slice_index_or marks para false ≡ true
+
+abbrev pub ReachedAreMarked : Type 0
+ReachedAreMarked = (texts : List (List Mention)) (own : List Mention) → AreMarksOfReached texts own (reached texts own)
 
 abbrev pub whole_mentions : List (List Mention) → List Mention → ℕ → List Mention
 whole_mentions texts own home = mentions_from own home 0 (reached texts own) texts

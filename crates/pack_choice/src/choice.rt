@@ -1,9 +1,12 @@
 //! The packs of a program.
-ghost use Rattle.std.specs.Prelude.{◌≡◌, ◌≤◌, ◌++◌, ◌∷◌, ◌==◌, [], length, map, suc, nat_le, if◌then◌else◌, IsTrue, IfOk, OnOk};
+ghost use Rattle.std.specs.Prelude.{◌≡◌, ◌≤◌, ◌++◌, ◌∷◌, ◌==◌, [], length, map, suc, nat_le, if◌then◌else◌, IsTrue, IfOk, OnOk, IfSome, ◌<◌};
+ghost use Rattle.std.specs.Option.{option_map};
 ghost use Rattle.std.specs.List.{fold, filter_map};
 ghost use Rattle.cob_program.specs.ActView.{plain_act, plain_para, plain_paras, plain_program, plain_stmt, plain_turns};
 ghost use Rattle.cob_program.specs.Statements.{plain_references};
 ghost use Rattle.cob_graph.specs.Graphs.{cells_of};
+ghost use Rattle.cell_storages.specs.Homes.{of_item};
+ghost use Rattle.cell_homes.specs.Numbers.{number_of};
 ghost use Rattle.graph_runs.specs.Sources.{IsSourceGraph};
 ghost use Rattle.cert_text.specs.Allowed.{packs_fit};
 ghost use Rattle.pack_choice.specs.Mentions.{lists_of};
@@ -126,6 +129,25 @@ fn is_number_at(program: &Program, place: u32) -> bool
     }
 }
 
+// A number that counts from 0, counted from 1.
+fn from_one(number: Option<usize>) -> Option<u32>
+    requires { IfSome number (λ k. k < 512) }
+    ensures { result ≡ option_map suc number }
+{
+    match number {
+        Some(k) => Some(k as u32 + 1),
+        None => None,
+    }
+}
+
+fn cell_number(program: &Program, cells: &[Cell], place: u32) -> Option<u32>
+    requires cells { cells.now ≡ cells_of (plain_program program.now) }
+    requires few { length cells.now ≤ 512 }
+    ensures { result ≡ option_map suc (number_of (plain_program program.now) (of_item place)) }
+{
+    from_one(cell_of(cells, place))
+}
+
 // The number of a numeric item's cell.
 fn numeric_cell(program: &Program, cells: &[Cell], mention: Mention) -> Option<u32>
     requires cells { cells.now ≡ cells_of (plain_program program.now) }
@@ -133,10 +155,14 @@ fn numeric_cell(program: &Program, cells: &[Cell], mention: Mention) -> Option<u
     ensures { result ≡ numeric_cell (plain_program program.now) mention }
 {
     match mention {
-        Mention::Item(place) if is_number_at(program, place) => {
-            cell_of(cells, place).map(|k| k as u32 + 1)
+        Mention::Item(place) => {
+            if is_number_at(program, place) {
+                cell_number(program, cells, place)
+            } else {
+                None
+            }
         }
-        _ => None,
+        Mention::Range(..) => None,
     }
 }
 
@@ -244,6 +270,37 @@ fn note_all(
     Ok(())
 }
 
+// Those of what loops mention, and then those of what paragraphs do.
+fn noted(
+    alloc: Global,
+    program: &Program,
+    cells: &[Cell],
+    loops: &[Vec<Mention>],
+    texts: &[Vec<Mention>],
+) -> Result<Vec<Pack>, AllocError>
+    requires cells { cells.now ≡ cells_of (plain_program program.now) }
+    requires few { length cells.now ≤ 512 }
+    ensures { IfOk result (λ packs. numbers_of packs.items
+        ≡ fold noted_pack (fold noted_pack [] (map (cells_together (plain_program program.now)) (lists_of loops.now)))
+            (map (cells_together (plain_program program.now)) (lists_of texts.now))) }
+{
+    let mut packs = Vec::new(alloc);
+    note_all(alloc, program, cells, &mut packs, loops)?;
+    note_all(alloc, program, cells, &mut packs, texts)?;
+    Ok(packs)
+}
+
+fn packs_of(alloc: Global, program: &Program, cells: &[Cell]) -> Result<Vec<Pack>, AllocError>
+    requires cells { cells.now ≡ cells_of (plain_program program.now) }
+    requires few { length cells.now ≤ 512 }
+    ensures { IfOk result (λ packs. numbers_of packs.items ≡ packs_of (plain_program program.now)) }
+{
+    let paras = program.paras.get();
+    let texts = texts_of(alloc, paras)?;
+    let loops = loop_lists(alloc, texts.as_slice(), paras)?;
+    noted(alloc, program, cells, loops.as_slice(), texts.as_slice())
+}
+
 /// The packs of a program, by the numbers of their cells in its graph: for each PERFORM that loops, with the ranges that
 /// it reaches, and then for each paragraph, the first 8 numeric cells that are receivers of arithmetic or stand in
 /// relations. At most 32, each of 2 to 8 cells, in rising order.
@@ -254,12 +311,5 @@ pub fn packs(alloc: Global, program: &Program, graph: &Graph) -> Result<Vec<Pack
     ensures few { IfOk result (λ packs. length packs.items ≤ 32) }
     ensures fit { IfOk result (λ packs. IsTrue (packs_fit (length graph.now.cells) (numbers_of packs.items))) }
 {
-    let paras = program.paras.get();
-    let cells = graph.cells.get();
-    let texts = texts_of(alloc, paras)?;
-    let loops = loop_lists(alloc, texts.as_slice(), paras)?;
-    let mut packs = Vec::new(alloc);
-    note_all(alloc, program, cells, &mut packs, loops.as_slice())?;
-    note_all(alloc, program, cells, &mut packs, texts.as_slice())?;
-    Ok(packs)
+    packs_of(alloc, program, graph.cells.get())
 }

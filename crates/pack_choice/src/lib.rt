@@ -5,11 +5,14 @@
 mod choice;
 mod conditions;
 mod firsts;
+mod laws;
 mod mention;
 mod reaching;
-mod rising;
 mod statements;
 mod sums;
+mod thresholds;
 
 pub use choice::packs;
+pub use laws::reached_paragraphs_are_marked;
 pub use mention::Mention;
+pub use thresholds::pack_thresholds;
