@@ -1,6 +1,6 @@
 """The packs of a source: cells of which an analysis tracks differences, by what the source mentions together in its loops
-and in its paragraphs. Read from the source's words alone: a source that the language refuses isn't noticed. The cells
-that certificates of the cases list in their packs must be those of their sources."""
+and in its paragraphs. They are read from the source's words alone, and a source that the language refuses isn't noticed.
+The packs of the cases were worked out by an independent program, and must come."""
 
 import dataclasses
 import itertools
@@ -473,18 +473,12 @@ def packs(source):
 # ---- cases
 
 
-def listed(certificate):
-    return [[int(cell) for cell in line.split()[1:]] for line in certificate.split("\n") if line.startswith("pack ")]
-
-
 def told(name, source, wanted):
     found = packs(source)
     return None if found == wanted else f"{name}: packs {found} in place of {wanted}"
 
 
 def checks():
-    for number, line in enumerate((CASES / "checked.jsonl").open(), 1):
+    for number, line in enumerate((CASES / "packs.jsonl").open(), 1):
         case = json.loads(line)
-        wanted = listed(case["certificate"])
-        if wanted:
-            yield lambda given=(f"packs of checked.jsonl {number}", case["source"], wanted): told(*given)
+        yield lambda given=(f"packs.jsonl {number}", case["source"], case["packs"]): told(*given)

@@ -3,8 +3,7 @@ use Rattle.std.specs.Prelude.{ℕ, suc, Bool, true, false, ◌==◌, nat_eq, nat
 use Rattle.std.specs.List.{filter, filter_map, range_with_len}
 use Rattle.std.specs.Option.{option_map}
 use Rattle.std.specs.Cmp.Lexicographic.{pointwise}
-use Rattle.cob_tree.specs.declared.form.Form.{Form}
-use Rattle.cob_tree.specs.declared.form.Form.TheVariants as form
+use Rattle.cob_data.specs.ItemRules.{is_numeric}
 use Rattle.cob_program.specs.Act.{Turns, once, Stmt, MkStmt, Act, perform, Para, Program}
 use Rattle.cob_program.specs.Statements.{para_statements}
 use Rattle.cob_runs.specs.Contents.{form_at}
@@ -46,10 +45,6 @@ abbrev pub all_mentions : Program → List (List Mention)
 all_mentions p = all_loops (texts_of p.paras) 0 p.paras ++ texts_of p.paras
 
 -- ---- cells
-
-abbrev pub is_numeric : Form → Bool
-is_numeric (form.Number digits scale signed kept) = true
-is_numeric _ = false
 
 abbrev pub is_numeric_at : Program → ℕ → Bool
 is_numeric_at p place = is_numeric (form_at p.layout place)

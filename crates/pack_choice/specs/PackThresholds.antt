@@ -34,10 +34,13 @@ abbrev pub list_thresholds : ℤ → List ℤ → List ℤ
 list_thresholds units [] = []
 list_thresholds units (t ∷ ts) = with_negative (t *ℤ units) ++ list_thresholds units ts
 
+-- those of a cell by its number, in units of so many decimals
+abbrev pub cell_thresholds : List Cell → List (List ℤ) → ℕ → ℕ → List ℤ
+cell_thresholds cells lists decimals number = list_thresholds (cell_units cells decimals number) (own_thresholds lists number)
+
 abbrev pub cells_thresholds : List Cell → List (List ℤ) → ℕ → List ℕ → List ℤ
 cells_thresholds cells lists decimals [] = []
-cells_thresholds cells lists decimals (n ∷ ns) =
-    list_thresholds (cell_units cells decimals n) (own_thresholds lists n) ++ cells_thresholds cells lists decimals ns
+cells_thresholds cells lists decimals (n ∷ ns) = cell_thresholds cells lists decimals n ++ cells_thresholds cells lists decimals ns
 
 -- by the program's cells, a list of thresholds for each of them, and the numbers of the pack's cells
 abbrev pub thresholds_of_pack : List Cell → List (List ℤ) → List ℕ → List ℤ

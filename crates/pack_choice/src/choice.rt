@@ -2,6 +2,7 @@
 ghost use Rattle.std.specs.Prelude.{◌≡◌, ◌≤◌, ◌++◌, ◌∷◌, ◌==◌, [], length, map, suc, nat_le, if◌then◌else◌, IsTrue, IfOk, OnOk, IfSome, ◌<◌};
 ghost use Rattle.std.specs.Option.{option_map};
 ghost use Rattle.std.specs.List.{fold, filter_map};
+ghost use Rattle.cob_data.specs.ItemRules.{is_numeric};
 ghost use Rattle.cob_program.specs.ActView.{plain_act, plain_para, plain_paras, plain_program, plain_stmt, plain_turns};
 ghost use Rattle.cob_program.specs.Statements.{plain_references};
 ghost use Rattle.cob_graph.specs.Graphs.{cells_of};
@@ -17,7 +18,6 @@ ghost use Rattle.pack_choice.specs.Choice.{
   cells_together,
   first_cells,
   is_numeric_at,
-  is_numeric,
   is_once,
   is_pack,
   loop_mentions,
@@ -38,7 +38,6 @@ use crate::reaching::whole_mentions;
 use crate::statements::{mentions_of, texts_of};
 use cell_homes::cell_of;
 use cob_graph::Graph;
-use cob_items::item_at;
 use cob_program::{Act, Para, Program, Stmt, Turns};
 use cob_runs::Cell;
 use cob_tree::Form;
@@ -123,7 +122,7 @@ fn is_numeric(form: &Form) -> bool
 fn is_number_at(program: &Program, place: u32) -> bool
     ensures { result ≡ is_numeric_at (plain_program program.now) place }
 {
-    match item_at(&program.layout, place) {
+    match program.layout.items.get().get(place as usize) {
         Some(item) => is_numeric(&item.form),
         None => false,
     }

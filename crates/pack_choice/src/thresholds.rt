@@ -9,6 +9,7 @@ ghost use Rattle.pack_choice.specs.PackThresholds.{
   HasFewCells,
   HasFewDecimals,
   IsCellList,
+  cell_thresholds,
   cell_units,
   cells_thresholds,
   finest,
@@ -74,6 +75,14 @@ fn own_thresholds(lists: &[Vec<i64>], number: u32) -> &[i64]
     }
 }
 
+fn times(x: i128, y: i128) -> i128
+    requires { unsigned_abs (x *ℤ y) ≤ 10 ^ 37 }
+    ensures value { result ≡ x *ℤ y }
+    ensures size { unsigned_abs result ≤ 10 ^ 37 }
+{
+    x * y
+}
+
 // A threshold in the pack's units.
 #[tactic(auto, using(crate::proofs::PackUnits::product_fits))]
 fn in_units(threshold: i64, units: i128) -> i128
@@ -81,13 +90,15 @@ fn in_units(threshold: i64, units: i128) -> i128
     ensures value { result ≡ threshold *ℤ units }
     ensures size { unsigned_abs result ≤ 10 ^ 37 }
 {
-    threshold as i128 * units
+    times(threshold as i128, units)
 }
 
-fn add_both(list: &mut Vec<i128>, number: i128) -> Result<(), AllocError>
-    requires { unsigned_abs number ≤ 10 ^ 37 }
-    ensures { OnOk result (list.new.items ≡ list.old.items ++ with_negative number) }
+// Adds a threshold in the pack's units, and its negative.
+fn add_both(list: &mut Vec<i128>, threshold: i64, units: i128) -> Result<(), AllocError>
+    requires { unsigned_abs units ≤ 10 ^ 18 }
+    ensures { OnOk result (list.new.items ≡ list.old.items ++ with_negative (threshold *ℤ units)) }
 {
+    let number = in_units(threshold, units);
     list.push(number)?;
     list.push(-number)?;
     Ok(())
@@ -98,9 +109,23 @@ fn add_list(list: &mut Vec<i128>, thresholds: &[i64], units: i128) -> Result<(),
     ensures { OnOk result (list.new.items ≡ list.old.items ++ list_thresholds units thresholds.now) }
 {
     for threshold in thresholds {
-        add_both(list, in_units(*threshold, units))?;
+        add_both(list, *threshold, units)?;
     }
     Ok(())
+}
+
+fn add_cell(
+    list: &mut Vec<i128>,
+    cells: &[Cell],
+    lists: &[Vec<i64>],
+    decimals: u32,
+    number: u32,
+) -> Result<(), AllocError>
+    requires { decimals ≤ 18 }
+    ensures { OnOk result (list.new.items
+        ≡ list.old.items ++ cell_thresholds cells.now (lists_of lists.now) decimals number) }
+{
+    add_list(list, own_thresholds(lists, number), cell_units(cells, decimals, number))
 }
 
 fn add_cells(
@@ -115,8 +140,7 @@ fn add_cells(
         ≡ list.old.items ++ cells_thresholds cells.now (lists_of lists.now) decimals numbers.now) }
 {
     for number in numbers {
-        let units = cell_units(cells, decimals, *number);
-        add_list(list, own_thresholds(lists, *number), units)?;
+        add_cell(list, cells, lists, decimals, *number)?;
     }
     Ok(())
 }
