@@ -3,7 +3,6 @@ and in its paragraphs. They are read from the source's words alone, and a source
 The packs of the cases were worked out by an independent program, and must come."""
 
 import dataclasses
-import itertools
 import json
 import re
 
@@ -16,72 +15,47 @@ def text_of(source):
     """The text in columns 8 to 72, with continued lines joined."""
     text, opened = "", None
     for line in source.splitlines():
-        line = line.rstrip("\r").ljust(72)[:72]
+        line = line.ljust(72)[:72]
         if line[6] in "*/Dd" or (line[6] == " " and not line[7:].strip()):
             continue
         more = line[7:]
         if line[6] == "-":
-            more = more.lstrip()[1:] if opened else more.lstrip()
-            text = text if opened else text.rstrip()
+            more, text = (more.lstrip()[1:], text) if opened else (more.lstrip(), text.rstrip())
         else:
             text += " "
         text += more
-        for letter in more:
-            if opened is None and letter in "'\"":
-                opened = letter
-            elif letter == opened:
-                opened = None
+        for mark in re.findall("['\"]", more):
+            opened = mark if opened is None else None if mark == opened else opened
     return text + " "
 
 
-WORDS = re.compile(
-    r"""(?i)\s+|[,;](?=\s)
-    |(?P<pic>\bPIC(?:TURE)?[\s,;]+(?:IS[\s,;]+)?(?P<picture>[^\s]+))
+WORD = re.compile(
+    r"""\bPIC(?:TURE)?[\s,;]+(?:IS[\s,;]+)?(?P<picture>\S+?)[.,;]?(?=\s)
     |(?P<text>'(?:[^']|'')*'|"(?:[^"]|"")*")
-    |(?P<number>(?:(?<=[\s(])[+-])?(?:\d+\.\d+|\.\d+|\d+)(?![\w-]))
-    |(?P<word>[a-z0-9](?:[a-z0-9-]*[a-z0-9])?)
-    |(?P<mark><=|>=|[()+\-*/=<>.])""",
-    re.VERBOSE,
+    |(?P<number>(?:(?<=[\s(])[+-])?\d*\.?\d+(?![\w-]))
+    |(?P<word>[A-Z0-9](?:[A-Z0-9-]*[A-Z0-9])?)
+    |(?P<mark>[=.](?=\s))""",
+    re.VERBOSE | re.IGNORECASE,
 )
 
-DROPPED = set(
-    "IS ARE THAN THEN ON AT WITH MODE CONTAINS CHARACTER CHARACTERS RECORD RECORDS NEXT USAGE SIGN".split()
-)
+DROPPED = set("IS ARE THAN THEN ON AT WITH MODE CONTAINS CHARACTER CHARACTERS RECORD RECORDS NEXT USAGE SIGN".split())
 
-SAME = {
-    "THROUGH": "THRU",
-    "IN": "OF",
-    "ZEROS": "ZERO",
-    "ZEROES": "ZERO",
-    "SPACES": "SPACE",
-    "QUOTES": "QUOTE",
-    "HIGH-VALUES": "HIGH-VALUE",
-    "LOW-VALUES": "LOW-VALUE",
-    "VALUES": "VALUE",
-}
-
-FIGURATIVE = {"ZERO", "SPACE", "QUOTE", "HIGH-VALUE", "LOW-VALUE"}
-
-VERBS = set(
-    "MOVE SET DISPLAY ADD SUBTRACT MULTIPLY DIVIDE COMPUTE IF EVALUATE PERFORM GO EXIT CONTINUE STOP OPEN CLOSE READ WRITE".split()
-)
+SAME = {"THROUGH": "THRU", "IN": "OF", "ZEROS": "ZERO", "ZEROES": "ZERO"}
 
 
 def words_of(source):
-    """Words in capitals; numbers and texts as such, pictures behind PIC."""
-    words, text = [], text_of(source)
-    for found in WORDS.finditer(text):
-        if found["pic"]:
-            picture = found["picture"]
-            stop = picture.endswith(".")
-            words += ["PIC", "picture " + re.sub(r"[.,;]$", "", picture)] + (["."] if stop else [])
-        elif found["text"] or found["number"]:
-            words.append("'" if found["text"] else "number " + found["number"])
-        elif found["word"]:
+    """Words in capitals, numbers, pictures behind PIC, texts as a mark, stops, and of all other marks the equality."""
+    words = []
+    text = text_of(source)
+    for found in WORD.finditer(text):
+        kind = found.lastgroup
+        if kind == "picture":
+            words += ["PIC", found["picture"].upper(), *(["."] if text[found.end() - 1] == "." else [])]
+        elif kind == "word":
             word = found["word"].upper()
             words += [] if word in DROPPED else [SAME.get(word, word)]
-        elif found["mark"]:
-            words.append(found["mark"])
+        else:
+            words.append("'" if kind == "text" else found[kind])
     return words
 
 
@@ -91,309 +65,176 @@ def words_of(source):
 @dataclasses.dataclass
 class Item:
     names: tuple
-    picture: str | None
+    picture: str
+
+    def symbols(self):
+        return set(re.sub(r"\(\d+\)", "", self.picture))
 
     def is_numeric(self):
-        return self.picture is not None and not re.search("[ABXZ,./0*$]", re.sub(r"\(\d+\)", "", self.picture.upper()))
-
-    def length(self):
-        return sum(int(count or 1) for _, count in re.findall(r"(.)(?:\((\d+)\))?", self.picture))
+        return bool(self.picture) and self.symbols() <= set("S9V")
 
     def has_cell(self):
         """A named item that is a number, or a text of at most 18 bytes."""
-        if self.picture is None or self.names[0] == "FILLER":
-            return False
-        is_text = set(re.sub(r"\(\d+\)", "", self.picture.upper())) <= {"X", "9"}
-        return self.is_numeric() or (is_text and self.length() <= 18)
+        length = sum(int(count or 1) for count in re.findall(r"[X9](?:\((\d+)\))?", self.picture))
+        is_text = bool(self.picture) and self.symbols() <= set("X9") and length <= 18
+        return self.names[0] != "FILLER" and (self.is_numeric() or is_text)
 
 
-def entries(words):
-    """The level, the name and the words of each entry."""
-    entry = []
+def items_of(words):
+    """The items in the order of their entries, each with its names from its own to the outermost."""
+    items, above, entry = [], [], []
     for word in words:
         if word != ".":
             entry.append(word)
             continue
-        if entry and entry[0].startswith("number ") and entry[0] != "number 88":
-            named = len(entry) > 1 and entry[1] not in ("PIC", "REDEFINES", "VALUE", "BINARY", "COMP", "COMP-3")
-            yield int(entry[0][7:]), entry[1] if named else "FILLER", entry[2 if named else 1 :]
-        elif entry and entry[0] == "FD":
-            yield 0, entry[1], []
-        elif entry[-1:] == ["SECTION"]:
-            yield -1, "", []
+        if entry and (entry[0] == "FD" or (entry[0].isdigit() and entry[0] != "88")):
+            level = {"FD": 0, "77": 1}.get(entry[0]) if entry[0] in ("FD", "77") else int(entry[0])
+            above = [(other, name) for other, name in above if other < level]
+            names = (entry[1], *[name for _, name in reversed(above)])
+            items.append(Item(names, entry[entry.index("PIC") + 1] if "PIC" in entry else ""))
+            above.append((level, entry[1]))
         entry = []
-
-
-def items_of(words):
-    items, above = [], []
-    for level, name, clauses in entries(words):
-        level = 1 if level == 77 else level
-        above = [(other, outer) for other, outer in above if other < level]
-        picture = next((word[8:] for word in clauses if word.startswith("picture ")), None)
-        items.append(Item((name, *[outer for _, outer in reversed(above)]), picture))
-        above.append((level, name))
     return items
 
 
 # ---- what is mentioned
 
+VERBS = set(
+    """MOVE SET DISPLAY ADD SUBTRACT MULTIPLY DIVIDE COMPUTE IF EVALUATE PERFORM GO EXIT CONTINUE STOP OPEN CLOSE READ
+    WRITE""".split()
+)
+
+ARITHMETIC = {"ADD", "SUBTRACT", "MULTIPLY", "DIVIDE", "COMPUTE"}
+
+ENDS = VERBS | {".", "ELSE", "WHEN", "SIZE", "END"}
+
 
 class Reader:
-    """Reads the words behind PROCEDURE DIVISION. What is mentioned stands in a list of cells' numbers and of ranges of
-    paragraphs, each as a pair of names, from the first to the last."""
+    """Reads the words behind PROCEDURE DIVISION. A mention is a cell's number, or a pair of names of paragraphs."""
 
     def __init__(self, words, items):
-        self.words, self.at = words, 0
+        self.words, self.at, self.items, self.loops = words, 0, items, []
         cells = [item for item in items if item.has_cell()]
         self.cells = {item.names: number for number, item in enumerate(cells, 1) if item.is_numeric()}
-        self.items = items
-        self.loops = []
 
     def next(self, ahead=0):
-        return self.words[self.at + ahead] if self.at + ahead < len(self.words) else ""
+        return self.words[self.at + ahead] if self.at + ahead < len(self.words) else "."
 
-    def take(self, *words):
-        """Passes over one of these, if it stands here."""
-        if self.next() in words:
-            self.at += 1
-            return self.words[self.at - 1]
-        return None
+    def word(self):
+        self.at += 1
+        return self.words[self.at - 1]
+
+    def take(self, word):
+        """Passes over a word, if it stands here."""
+        stands = self.next() == word
+        self.at += stands
+        return stands
 
     def reference(self):
-        """An item with its qualifiers: the number of its cell, if it is a number."""
-        names = [self.next()]
-        self.at += 1
+        """The number of a cell, if a numeric item stands here."""
+        names = [self.word()]
         while self.take("OF"):
-            names.append(self.next())
-            self.at += 1
-        for item in self.items:
-            if item.names[0] == names[0] and all(name in item.names for name in names[1:]):
-                return [self.cells[item.names]] if item.names in self.cells else []
-        return []
+            names.append(self.word())
+        found = [item for item in self.items if item.names[0] == names[0] and set(names) <= set(item.names)]
+        return [self.cells[item.names] for item in found[:1] if item.names in self.cells]
 
-    def is_name(self):
-        word = self.next()
-        return bool(re.match("[A-Z0-9][A-Z0-9-]*$", word)) and word not in VERBS | FIGURATIVE | OWN
-
-    def operand(self):
-        if self.is_name():
-            return self.reference()
-        self.at += 1
-        return []
-
-    def operands(self):
-        while self.is_name() or self.next() in FIGURATIVE or self.next() == "'" or self.next().startswith("number "):
-            self.operand()
+    def is_over(self):
+        """Whether a statement or a phrase begins or ends here."""
+        word = self.next(self.next() == "NOT")
+        return word in ENDS or word.startswith("END-")
 
     def receivers(self):
-        cells = []
-        while self.is_name():
-            cells += self.reference()
-            self.take("ROUNDED")
+        """The items before the equality of a COMPUTE, or else behind the last of these words."""
+        cells, is_sum = [], False
+        while not self.is_over():
+            is_sum = is_sum or self.next() == "="
+            cells = [] if self.next() in ("TO", "FROM", "BY", "INTO", "GIVING") else cells
+            found = self.reference()
+            cells = cells if is_sum else cells + found
         return cells
-
-    # -- conditions: a bare name, and what stands before NUMERIC, isn't in a relation
-
-    def expression(self):
-        cells, depth = [], 0
-        while True:
-            word = self.next()
-            if word == "(":
-                depth, self.at = depth + 1, self.at + 1
-            elif word == ")" and depth:
-                depth, self.at = depth - 1, self.at + 1
-            elif word in OPERATORS:
-                self.at += 1
-            elif word == "'" or word.startswith("number ") or (word in FIGURATIVE and self.is_operand_place()):
-                self.at += 1
-            elif self.is_name() and self.is_operand_place():
-                cells += self.reference()
-            else:
-                return cells
-
-    def is_operand_place(self):
-        """Behind an operator, a parenthesis, or what begins an expression."""
-        return self.at == self.began or self.words[self.at - 1] in OPERATORS
-
-    def relation(self):
-        """Passes over a relation, with its NOT."""
-        start = self.at
-        self.take("NOT")
-        if self.take("GREATER", "LESS"):
-            if self.next() == "OR" and self.next(1) == "EQUAL":
-                self.at += 2
-            self.take("TO")
-            return True
-        if self.take("EQUAL"):
-            self.take("TO")
-            return True
-        if self.take("=", "<", ">", "<=", ">="):
-            return True
-        self.at = start
-        return False
-
-    def side(self):
-        self.began = self.at
-        return self.expression()
-
-    def simple(self):
-        if self.next() == "(" and self.holds_condition():
-            self.at += 1
-            cells = self.condition()
-            self.at += 1
-            return cells
-        if self.relation():
-            return self.side()
-        cells = self.side()
-        if self.relation():
-            return cells + self.side()
-        start = self.at
-        self.take("NOT")
-        if self.take("POSITIVE", "NEGATIVE", "ZERO"):
-            return cells
-        if self.take("NUMERIC"):
-            return []
-        self.at = start
-        # an abbreviated relation's second side is an item, and a condition-name isn't
-        return cells
-
-    def holds_condition(self):
-        """Whether more than an expression stands in the parentheses."""
-        depth = 0
-        for before, word in itertools.pairwise(["(", *self.words[self.at :]]):
-            depth += (word == "(") - (word == ")")
-            if depth == 0 or word in CONDITIONS or (word == "ZERO" and before not in OPERATORS):
-                break
-        return depth > 0
 
     def condition(self):
-        self.take("NOT")
-        cells = self.simple()
-        while self.take("AND", "OR"):
-            self.take("NOT") if self.next(1) not in RELATIONS else None
-            cells += self.simple()
+        """The items in relations and under sign tests: all but those of class tests. A condition-name is no item."""
+        cells = []
+        while not self.is_over():
+            found = self.reference()
+            cells += [] if self.next(self.next() == "NOT") == "NUMERIC" else found
         return cells
 
-    # -- statements
-
-    def arithmetic(self, verb):
-        if verb == "COMPUTE":
-            cells = self.receivers()
-            self.at += 1
-            self.side()
-        else:
-            self.operands()
-            word = self.take("TO", "FROM", "BY", "INTO")
-            start = self.at
-            cells = self.receivers() if word else []
-            if self.next() != "GIVING":
-                self.operands()
-            if self.take("GIVING"):
-                cells = self.receivers()
-            elif word and self.at == start:
-                raise ValueError("no receiver")
-            if self.take("REMAINDER"):
-                cells += self.reference()
-        return cells + self.phrases("SIZE", "END-" + verb)
-
-    def phrases(self, word, end):
+    def phrases(self, word, length):
+        """What the lists behind a phrase and behind its NOT mention."""
         mentions = []
-        for negated in (False, True):
-            if (self.next(negated) == word) and (not negated or self.next() == "NOT"):
-                self.at += negated + (2 if word == "SIZE" else 1)
+        for count in (0, 1):
+            if self.next(count) == word and (count == 0 or self.next() == "NOT"):
+                self.at += count + length
                 mentions += self.statements()
-        self.take(end)
         return mentions
 
     def evaluate(self):
-        is_true = self.take("TRUE")
-        if not is_true:
-            self.reference()
-        mentions = []
+        is_true, mentions = self.next() == "TRUE", []
+        self.reference()
         while self.take("WHEN"):
-            if not self.take("OTHER"):
-                mentions += self.selection(is_true)
-            if self.next() != "WHEN":
-                mentions += self.statements()
-        self.take("END-EVALUATE")
-        return mentions
-
-    def selection(self, is_true):
-        if self.take("ANY"):
-            return []
-        if is_true:
-            return self.condition()
-        self.side()
-        if self.take("THRU"):
-            self.side()
-        return []
-
-    def perform(self):
-        number = len(self.loops)
-        self.loops.append(None)
-        span = []
-        if self.is_name() and self.next(1) != "TIMES" and not self.is_count():
-            first = last = self.next()
-            self.at += 1
-            if self.take("THRU"):
-                last = self.next()
-                self.at += 1
-            span = [(first, last)]
-        control = self.control()
-        mentions = (control or []) + span
-        if not span:
-            mentions += self.statements()
-            self.take("END-PERFORM")
-        self.loops[number] = (self.para, mentions) if control is not None else None
+            found = self.condition()
+            mentions += (found if is_true else []) + self.statements()
         return mentions
 
     def is_count(self):
-        """Whether a qualified count of TIMES stands here."""
-        at = self.at + 1
-        while at + 1 < len(self.words) and self.words[at] == "OF":
-            at += 2
-        return self.words[at] == "TIMES"
+        """Whether what stands here is the count of TIMES."""
+        start = self.at
+        self.reference()
+        counts, self.at = self.next() == "TIMES", start
+        return counts
+
+    def span(self):
+        """The first and the last paragraph that a PERFORM names, if it has no list of its own."""
+        if self.is_over() or self.next() in ("TEST", "VARYING", "UNTIL") or self.is_count():
+            return []
+        first = self.word()
+        return [(first, self.word() if self.take("THRU") else first)]
 
     def control(self):
-        """What a loop's control mentions, or None where there is no loop."""
-        start = self.at
-        if self.next().startswith("number ") or self.is_name() or self.next() in FIGURATIVE:
-            self.operand()
-            if self.take("TIMES"):
-                return []
-            self.at = start
-            return None
+        """What the control of a loop mentions, or None where a PERFORM doesn't loop."""
         cells = []
         if self.take("TEST"):
-            self.at += 1
+            self.word()
         if self.take("VARYING"):
             cells = self.reference()
-            self.at += 1
-            self.operand()
-            self.at += 1
-            self.operand()
-        elif self.next() != "UNTIL":
+            while self.next() != "UNTIL":
+                self.word()
+        if self.take("UNTIL"):
+            return cells + self.condition()
+        if self.is_over():
             return None
-        self.at += 1
-        return cells + self.condition()
+        self.reference()
+        return [] if self.take("TIMES") else None
+
+    def perform(self):
+        place = len(self.loops)
+        self.loops.append(None)
+        span = self.span()
+        control = self.control()
+        mentions = (control or []) + (span or self.statements())
+        if control is not None:
+            self.loops[place] = (self.para, mentions)
+        return mentions
 
     def statement(self):
-        verb = self.take(*VERBS)
-        if verb in ("ADD", "SUBTRACT", "MULTIPLY", "DIVIDE", "COMPUTE"):
-            return self.arithmetic(verb)
-        if verb == "IF":
+        verb, mentions = self.word(), []
+        if verb in ARITHMETIC:
+            mentions = self.receivers() + self.phrases("SIZE", 2)
+        elif verb == "IF":
             mentions = self.condition() + self.statements()
-            if self.take("ELSE"):
-                mentions += self.statements()
-            self.take("END-IF")
-            return mentions
-        if verb == "EVALUATE":
-            return self.evaluate()
-        if verb == "PERFORM":
-            return self.perform()
-        while self.next() not in VERBS | PHRASES | {"."} and not self.next().startswith("END-"):
-            self.at += 1
-        return self.phrases("END", "END-READ") if verb == "READ" else []
+            mentions += self.statements() if self.take("ELSE") else []
+        elif verb == "EVALUATE":
+            mentions = self.evaluate()
+        elif verb == "PERFORM":
+            mentions = self.perform()
+        else:
+            while not self.is_over():
+                self.word()
+            mentions = self.phrases("END", 1) if verb == "READ" else []
+        self.take("END-" + verb)
+        return mentions
 
     def statements(self):
         mentions = []
@@ -402,32 +243,16 @@ class Reader:
         return mentions
 
     def paragraphs(self):
-        """What each paragraph mentions, with its name."""
+        """The name of each paragraph, and what it mentions. The first has no name."""
         paras = [("", [])]
-        while self.next() and self.next() not in ("END", "END-PROGRAM"):
+        while self.at < len(self.words) and self.next() != "END":
             self.para = len(paras) - 1
             if self.next() in VERBS:
                 paras[-1][1].extend(self.statements())
-                self.at += 1
-            else:
-                paras.append((self.next(), []))
-                self.at += 2
+            elif not self.take("."):
+                paras.append((self.word(), []))
         return paras
 
-
-PHRASES = {"ELSE", "WHEN", "SIZE", "NOT", "END"}
-
-RELATIONS = {"=", "<", ">", "<=", ">=", "EQUAL", "GREATER", "LESS"}
-
-CONDITIONS = RELATIONS | {"AND", "OR", "NOT", "NUMERIC", "POSITIVE", "NEGATIVE"}
-
-OPERATORS = {"(", "+", "-", "*", "/"}
-
-OWN = set(
-    """TO FROM BY INTO GIVING ROUNDED REMAINDER SIZE ERROR NOT END ELSE WHEN OTHER TRUE ANY THRU OF AND OR TIMES UNTIL
-    VARYING TEST BEFORE AFTER NUMERIC POSITIVE NEGATIVE EQUAL GREATER LESS INPUT OUTPUT RUN END-ADD END-SUBTRACT
-    END-MULTIPLY END-DIVIDE END-COMPUTE END-IF END-EVALUATE END-PERFORM END-READ END-WRITE""".split()
-)
 
 # ---- packs
 
@@ -435,24 +260,21 @@ OWN = set(
 def reached(paras, own):
     """The places of the paragraphs that are performed in a list, or in paragraphs that are."""
     names = [name for name, _ in paras]
-    found, left = set(), [own]
+    found, left = set(), list(own)
     while left:
-        for mention in left.pop():
-            if isinstance(mention, tuple):
-                span = range(names.index(mention[0]), names.index(mention[1]) + 1)
-                left += [paras[para][1] for para in span if para not in found]
-                found |= set(span)
+        mention = left.pop()
+        if isinstance(mention, tuple):
+            span = set(range(names.index(mention[0]), names.index(mention[1]) + 1)) - found
+            found |= span
+            left += [other for para in span for other in paras[para][1]]
     return found
 
 
 def together(paras, home, own):
-    """What a loop mentions with what it reaches, in the order of the source."""
+    """What a loop in a paragraph mentions with what it reaches, in the order of the source."""
     found = reached(paras, own)
-    return [
-        mention
-        for para, (_, mentions) in enumerate(paras)
-        for mention in (mentions if para in found else own if para == home else [])
-    ]
+    lists = [mentions if para in found else own if para == home else [] for para, (_, mentions) in enumerate(paras)]
+    return [mention for mentions in lists for mention in mentions]
 
 
 def packs(source):
@@ -463,8 +285,8 @@ def packs(source):
     loops = [together(paras, *loop) for loop in reader.loops if loop]
     found = []
     for mentions in [*loops, *[mentions for _, mentions in paras]]:
-        cells = list(dict.fromkeys(mention for mention in mentions if isinstance(mention, int)))
-        pack = sorted(cells[:8])
+        cells = dict.fromkeys(mention for mention in mentions if isinstance(mention, int))
+        pack = sorted(list(cells)[:8])
         if len(pack) > 1 and pack not in found:
             found.append(pack)
     return found[:32]
