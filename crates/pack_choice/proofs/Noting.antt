@@ -77,3 +77,13 @@ module _ {A B : Type 0} (f : B → A → B) (test : A → Bool) where
   pub passing_over : (b : B) (xs : List A) → fold f b (filter test xs) ≡ fold step b xs
   passing_over b [] = refl
   passing_over b (x ∷ xs) = one (test x) b x (filter test xs) ∙ passing_over (step b x) xs
+
+-- ---- steps of a fold that a loop makes
+
+module _ {A B : Type 0} (f : B → A → B) where
+  pub fold_step : (old new : B) (x : A) (left rest : List A) (all : B) → new ≡ f old x → left ≡ x ∷ rest →
+      fold f old left ≡ all → fold f new rest ≡ all
+  fold_step old new x left rest all e cut whole = ap (λ b. fold f b rest) e ∙ ap (fold f old) (sym cut) ∙ whole
+
+  pub fold_done : (old : B) (left : List A) (all : B) → left ≡ [] → fold f old left ≡ all → old ≡ all
+  fold_done old left all none whole = ap (fold f old) (sym none) ∙ whole

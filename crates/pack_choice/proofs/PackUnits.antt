@@ -15,7 +15,7 @@ use Rattle.diff_bounds.specs.Widening.{AreThresholds}
 use Rattle.pack_choice.specs.Choice.{numbers_of}
 use Rattle.pack_choice.specs.Rising.{sorted, Rises}
 use Rattle.pack_choice.specs.PackThresholds.{scale_at, finest, cell_units, own_thresholds, with_negative, list_thresholds, cells_thresholds, thresholds_of_pack, IsCellList, HasFewDecimals, HasFewCells, IsWord}
-use Rattle.pack_choice.proofs.Rising.{all_sorted, sorted_length, sorted_rises}
+use Rattle.pack_choice.proofs.Rising.{all_at, all_sorted, sorted_length, sorted_rises}
 
 -- ---- units
 
@@ -101,15 +101,10 @@ module _ (cells : List Cell) (lists : List (List ℤ)) (are : AllByRecursion IsC
       (list_words (cell_units cells decimals n) (own_thresholds lists n) (units_are_few cells decimals n d) (own_is_list lists (n - 1) are).small)
       (cells_words decimals ns d)
 
-  word_at : (ts : List ℤ) (k : ℕ) → AllByRecursion IsWord ts → k < length ts → IsWord (get_or ts k (pos 0))
-  word_at [] k h l = absurd (omega (arith, l))
-  word_at (t ∷ ts) zero h l = h.0
-  word_at (t ∷ ts) (suc k) h l = word_at ts k h.1 (omega (arith, l))
-
   words_are : (ts : List ℤ) → AllByRecursion IsWord ts → AreThresholds ts
   words_are ts h = record {
-    low = λ k l. let w = word_at ts k h l in omega (arith, ints, w);
-    high = λ k l. let w = word_at ts k h l in omega (arith, ints, w);
+    low = λ k l. let w = all_at IsWord ts k h l in omega (arith, ints, w);
+    high = λ k l. let w = all_at IsWord ts k h l in omega (arith, ints, w);
   }
 
   ends_each : (packs : List (List ℕ)) → AllByRecursion HasFewDecimals cells → AllByRecursion AreThresholds (map (thresholds_of_pack cells lists) packs)

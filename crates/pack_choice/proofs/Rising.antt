@@ -3,7 +3,7 @@ use Rattle.std.proofs.Common.{◌≡◌, ℕ, zero, suc, ◌+◌, ◌<◌, ◌�
 use Rattle.std.specs.Prelude.{Contains}
 use Rattle.std.specs.List.{fold, AllByRecursion, dedup}
 use Rattle.std.specs.List.Sorted.{IsPermutation, IsSorted, IsStrictlySortedBy}
-use Rattle.std.specs.Ordering.{int_cmp, int_eq, Ordering, Less}
+use Rattle.std.specs.Ordering.{int_cmp, int_eq, Less}
 use Rattle.std.proofs.lemmas.Int.{ints, by_lt_z}
 use Rattle.std.proofs.lemmas.Cmp.{int_cmp_total, int_eq_equiv, int_ranked}
 use Rattle.std.proofs.lemmas.List.Kept.{Contains-dedup, Contains-from_dedup, IsStrictlySortedBy-dedup}
@@ -29,6 +29,11 @@ module _ (P : ℤ → Type 0) where
       by_lt_z z t
       (λ (gt : z <ℤ t). rw (not_below t z le, below_is z t gt) (p, h))
       (λ (ge : t ≤ℤ z). rw (not_below t z le, not_below z t ge) h))
+
+  pub all_at : (ts : List ℤ) (k : ℕ) → AllByRecursion P ts → k < length ts → P (get_or ts k (pos 0))
+  all_at [] k h l = absurd (omega (arith, l))
+  all_at (t ∷ ts) zero h l = h.0
+  all_at (t ∷ ts) (suc k) h l = all_at ts k h.1 (omega (arith, l))
 
   all_put : (ts zs : List ℤ) → AllByRecursion P ts → AllByRecursion P zs → AllByRecursion P (fold (λ us z. inserted z us) ts zs)
   all_put ts [] h k = h
