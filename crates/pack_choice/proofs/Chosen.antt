@@ -1,8 +1,9 @@
 -- What the loops note are the packs of the definition.
-use Rattle.std.proofs.Common.{◌≡◌, ◌≤◌, ◌<◌, ℕ, length, arith, List, [], ◌∷◌, ◌++◌, map, Option, Some, None, refl, sym, ap, ◌∙◌}
+use Rattle.std.proofs.Common.{◌≡◌, ◌≤◌, ◌<◌, ◌+◌, Bool, true, false, cond, if◌then◌else◌, ℕ, length, arith, List, [], ◌∷◌, ◌++◌, map, Option, Some, None, refl, sym, ap, ◌∙◌}
 use Rattle.std.specs.Prelude.{◌==◌, IfSome}
-use Rattle.std.specs.List.{fold, filter_map, cons_option}
-use Rattle.std.proofs.lemmas.List.{map-append, length-map}
+use Rattle.std.specs.List.{fold, filter, filter_map, range_with_len, cons_option}
+use Rattle.std.proofs.lemmas.List.FromFn.{filter_of_map_range_with_len_more}
+use Rattle.std.proofs.lemmas.List.{map-append, map-id, length-map}
 use Rattle.std.proofs.lemmas.List.Sums.{fold-append}
 use Rattle.cob_program.specs.Act.{Program}
 use Rattle.cob_runs.specs.declared.action.Cell.{Cell}
@@ -62,3 +63,17 @@ number_is_small p cells place (Some k) same few e =
     let alike = ap length (cells_same p) in
     let count = ap length same in
     omega (arith, within, many, also, alike, count, few)
+
+-- ---- numbers in turn
+
+choice_is : (b : Bool) (x : ℕ) → cond b (x ∷ []) [] ≡ (if b then x ∷ [] else [])
+choice_is true x = refl
+choice_is false x = refl
+
+pub held_more : (test : ℕ → Bool) (k j : ℕ) (old new : List ℕ) → j ≡ k + 1 → old ≡ filter test (range_with_len 1 k) →
+    new ≡ old ++ (if test j then j ∷ [] else []) → new ≡ filter test (range_with_len 1 (k + 1))
+held_more test k j old new e is more =
+    more ∙ ap (λ xs. xs ++ (if test j then j ∷ [] else [])) (is ∙ sym (ap (filter test) (map-id (range_with_len 1 k))))
+    ∙ sym (ap (λ ys. filter test (map (λ (x : ℕ). x) (range_with_len 1 k)) ++ ys) (choice_is (test j) j))
+    ∙ sym (filter_of_map_range_with_len_more test (λ (x : ℕ). x) 1 k j (omega (arith, e)))
+    ∙ ap (filter test) (map-id (range_with_len 1 (k + 1)))

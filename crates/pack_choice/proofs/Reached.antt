@@ -33,11 +33,11 @@ AreKept [] [] = Unit {0}
 AreKept (x ∷ xs) (y ∷ ys) = (x ≡ true → y ≡ true) × AreKept xs ys
 AreKept _ _ = ⊥
 
-unit_of : Bool → ℕ
+abbrev unit_of : Bool → ℕ
 unit_of true = 1
 unit_of false = 0
 
-count : List Bool → ℕ
+abbrev count : List Bool → ℕ
 count [] = 0
 count (x ∷ xs) = unit_of x + count xs
 

@@ -1,9 +1,9 @@
 -- Lists that rise: a number is put in, and what a sort leaves without repetitions.
-use Rattle.std.proofs.Common.{◌≡◌, ℕ, zero, suc, ◌+◌, ◌<◌, ◌≤◌, List, [], ◌∷◌, ◌++◌, length, get_or, Bool, true, false, ℤ, pos, ◌≤ℤ◌, ◌<ℤ◌, ◌⊎◌, inl, inr, ⊎_elim, int_lt, if◌then◌else◌, refl, sym, ap, ◌∙◌, subst, arith}
+use Rattle.std.proofs.Common.{◌≡◌, ℕ, zero, suc, ◌+◌, ◌<◌, ◌≤◌, List, [], ◌∷◌, ◌++◌, length, get_or, Bool, true, false, ℤ, pos, ◌≤ℤ◌, ◌<ℤ◌, ◌⊎◌, inl, inr, ⊎_elim, int_lt, Less, if◌then◌else◌, refl, sym, ap, ◌∙◌, subst, arith}
 use Rattle.std.specs.Prelude.{Contains}
 use Rattle.std.specs.List.{fold, AllByRecursion, dedup}
 use Rattle.std.specs.List.Sorted.{IsPermutation, IsSorted, IsStrictlySortedBy}
-use Rattle.std.specs.Ordering.{int_cmp, int_eq, Less}
+use Rattle.std.specs.Ordering.{int_cmp, int_eq}
 use Rattle.std.proofs.lemmas.Int.{ints, by_lt_z}
 use Rattle.std.proofs.lemmas.Cmp.{int_cmp_total, int_eq_equiv, int_ranked}
 use Rattle.std.proofs.lemmas.List.Kept.{Contains-dedup, Contains-from_dedup, IsStrictlySortedBy-dedup}
@@ -127,7 +127,7 @@ one_behind t z u ts h (inl e) = inr (inl e)
 one_behind t z u ts h (inr more) = ⊎_elim (λ (e : z ≡ u). inl e) (λ (k : Has ts u). inr (inr k)) (h more)
 
 inserted_only : (z u : ℤ) (ts : List ℤ) → Has (inserted z ts) u → (z ≡ u) ⊎ Has ts u
-inserted_only z u [] h = h
+inserted_only z u [] = λ (h : (z ≡ u) ⊎ Has [] u). h
 inserted_only z u (t ∷ ts) =
     by_lt_z t z
     (λ (lt : t <ℤ z). rw (below_is t z lt) (one_behind t z u ts (inserted_only z u ts)))

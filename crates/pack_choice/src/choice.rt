@@ -192,16 +192,25 @@ fn first_cells(
     Ok(list)
 }
 
+fn add_held(list: &mut Vec<u32>, cells: &[u32], number: u32) -> Result<(), AllocError>
+    ensures { OnOk result (list.new.items
+        ≡ list.old.items ++ (if holds (λ a b. a == b) cells.now number then number ∷ [] else [])) }
+{
+    if holds(cells, number) {
+        list.push(number)?;
+    }
+    Ok(())
+}
+
 // Those of so many cells that are among some, in rising order.
+#[tactic(auto, using(crate::proofs::Chosen::held_more))]
 fn rising(alloc: Global, count: usize, cells: &[u32]) -> Result<Vec<u32>, AllocError>
     requires { count ≤ 512 }
     ensures { IfOk result (λ list. list.items ≡ rising count cells.now) }
 {
     let mut list = Vec::new(alloc);
-    for number in 1..count as u32 + 1 {
-        if holds(cells, number) {
-            list.push(number)?;
-        }
+    for k in 0..count {
+        add_held(&mut list, cells, k as u32 + 1)?;
     }
     Ok(list)
 }

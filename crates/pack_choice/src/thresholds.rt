@@ -1,5 +1,5 @@
 //! The thresholds of packs.
-ghost use Rattle.std.specs.Prelude.{◌≡◌, ◌≤◌, ◌≤ℤ◌, ◌*ℤ◌, ◌++◌, ◌^◌, pos, neg_ℤ, length, map, IfOk, OnOk, unsigned_abs};
+ghost use Rattle.std.specs.Prelude.{◌≡◌, ◌≤◌, ◌-◌, ◌*ℤ◌, ◌++◌, ◌^◌, length, map, IfOk, OnOk, unsigned_abs};
 ghost use Rattle.std.specs.List.{AllByRecursion};
 ghost use Rattle.cell_rows.specs.Rows.{lists_of};
 ghost use Rattle.diff_bounds.specs.Widening.{AreThresholds};
