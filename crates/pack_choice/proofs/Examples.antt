@@ -65,9 +65,9 @@ packs_once = refl
 abbrev turning : Program
 turning = with_items
     (unnamed (stmt1 1 (perform (inline (stmt1 2 nothing no_stmts))
-      (varying false 1 (sender.Item 0) (sender.Item 0)
-        (any_of (more_logics (test (member 3 [])) (more_logics (test (numbers (of_item 2) rel.Greater (atom_sum (numeral (48 ∷ []) 0)))) no_logics)))))
-      no_stmts)
+    (varying false 1 (sender.Item 0) (sender.Item 0)
+    (any_of (more_logics (test (member 3 [])) (more_logics (test (numbers (of_item 2) rel.Greater (atom_sum (numeral (48 ∷ []) 0)))) no_logics)))))
+    no_stmts)
     ∷ [])
 
 what_turns : packs_of turning ≡ (2 ∷ 3 ∷ []) ∷ []
@@ -78,7 +78,7 @@ abbrev nine : Program
 nine = record {
   layout = record { items = map number (range_with_len 0 9); flags = []; files = []; storage = 9 };
   paras = unnamed (stmt1 1 (arith (atom_sum (numeral (49 ∷ []) 0)) (map (λ place. record { item = place; how = how.Plus; mode = mode.Trunc })
-    (8 ∷ 7 ∷ 6 ∷ 5 ∷ 4 ∷ 3 ∷ 2 ∷ 1 ∷ 0 ∷ [])) None left_out no_stmts) no_stmts) ∷ [];
+      (8 ∷ 7 ∷ 6 ∷ 5 ∷ 4 ∷ 3 ∷ 2 ∷ 1 ∷ 0 ∷ [])) None left_out no_stmts) no_stmts) ∷ [];
   statements = 1;
 }
 

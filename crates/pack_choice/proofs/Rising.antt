@@ -189,8 +189,8 @@ one_list (x ∷ xs) (y ∷ ys) r s f g =
     let e = same_first x y xs ys r s (f x (inl refl)) (g y (inl refl)) in
     ap (λ z. z ∷ xs) e
     ∙ ap (λ zs. y ∷ zs) (one_list xs ys (rest x xs r) (rest y ys s)
-      (λ u h. later x u xs ys r h (subst (λ z. (z ≡ u) ⊎ Has ys u) (sym e) (f u (inr h))))
-      (λ u h. later y u ys xs s h (subst (λ z. (z ≡ u) ⊎ Has xs u) e (g u (inr h)))))
+    (λ u h. later x u xs ys r h (subst (λ z. (z ≡ u) ⊎ Has ys u) (sym e) (f u (inr h))))
+    (λ u h. later y u ys xs s h (subst (λ z. (z ≡ u) ⊎ Has xs u) e (g u (inr h)))))
 
 -- ---- a sort, and then without repetitions
 

@@ -253,7 +253,10 @@ fn is_there(packs: &[Pack], cells: &[u32]) -> bool
 fn note_pack(packs: &mut Vec<Pack>, cells: Vec<u32>) -> Result<(), AllocError>
     ensures { OnOk result (numbers_of packs.new.items ≡ noted_pack (numbers_of packs.old.items) cells.items) }
 {
-    if cells.len() < 2 || is_there(packs.as_slice(), cells.as_slice()) || MOST_PACKS <= packs.len() {
+    if cells.len() < 2
+        || is_there(packs.as_slice(), cells.as_slice())
+        || MOST_PACKS <= packs.len()
+    {
         return Ok(());
     }
     packs.push(Pack { cells })?;
@@ -273,7 +276,8 @@ fn note_all(
         ≡ fold noted_pack (numbers_of packs.old.items) (map (cells_together (plain_program program.now)) (lists_of lists.now))) }
 {
     for mentions in lists {
-        note_pack(packs, cells_together(alloc, program, cells, mentions.as_slice())?)?;
+        let together = cells_together(alloc, program, cells, mentions.as_slice())?;
+        note_pack(packs, together)?;
     }
     Ok(())
 }
@@ -290,7 +294,7 @@ fn noted(
     requires few { length cells.now ≤ 512 }
     ensures { IfOk result (λ packs. numbers_of packs.items
         ≡ fold noted_pack (fold noted_pack [] (map (cells_together (plain_program program.now)) (lists_of loops.now)))
-            (map (cells_together (plain_program program.now)) (lists_of texts.now))) }
+        (map (cells_together (plain_program program.now)) (lists_of texts.now))) }
 {
     let mut packs = Vec::new(alloc);
     note_all(alloc, program, cells, &mut packs, loops)?;

@@ -56,12 +56,7 @@ fn is_performed_in(marks: &[bool], texts: &[Vec<Mention>], para: usize) -> bool
     false
 }
 
-fn is_performed_by(
-    own: &[Mention],
-    marks: &[bool],
-    texts: &[Vec<Mention>],
-    para: usize,
-) -> bool
+fn is_performed_by(own: &[Mention], marks: &[bool], texts: &[Vec<Mention>], para: usize) -> bool
     requires { length marks.now ≡ length texts.now }
     ensures { result ≡ is_performed_by (lists_of texts.now) own.now marks.now para }
 {
@@ -120,11 +115,7 @@ fn same_marks(next: &[bool], marks: &[bool]) -> bool
 }
 
 // A mark for each paragraph: whether it is reached.
-fn reached(
-    alloc: Global,
-    texts: &[Vec<Mention>],
-    own: &[Mention],
-) -> Result<Vec<bool>, AllocError>
+fn reached(alloc: Global, texts: &[Vec<Mention>], own: &[Mention]) -> Result<Vec<bool>, AllocError>
     ensures value { IfOk result (λ marks. marks.items ≡ reached (lists_of texts.now) own.now) }
     ensures wide { IfOk result (λ marks. length marks.items ≡ length texts.now) }
 {
@@ -180,7 +171,13 @@ fn add_texts(
         ≡ mentions.old.items ++ mentions_from own.now home 0 marks.now (lists_of texts.now)) }
 {
     for para in 0..marks.len() {
-        add_text(mentions, marks[para], texts[para].as_slice(), para == home, own)?;
+        add_text(
+            mentions,
+            marks[para],
+            texts[para].as_slice(),
+            para == home,
+            own,
+        )?;
     }
     Ok(())
 }

@@ -125,7 +125,11 @@ fn add_cell(
     ensures { OnOk result (list.new.items
         ≡ list.old.items ++ cell_thresholds cells.now (lists_of lists.now) decimals number) }
 {
-    add_list(list, own_thresholds(lists, number), cell_units(cells, decimals, number))
+    add_list(
+        list,
+        own_thresholds(lists, number),
+        cell_units(cells, decimals, number),
+    )
 }
 
 fn add_cells(

@@ -13,7 +13,7 @@ loop-statement-preserved c =
     added _ _ _ (loops_mentions texts c.args.home (plain_references (drop (l.statement-index + 1) c.args.statements.now))) _ _
     c.in_ok-add_loop.ensures
     (ap (λ xs. loops_mentions texts c.args.home (plain_references xs))
-      (item_step c.args.statements.now l.statement-index c.statement-item.result c.loop-statement-test.true c.statement-item.is))
+    (item_step c.args.statements.now l.statement-index c.statement-item.result c.loop-statement-test.true c.statement-item.is))
     l.invariant
 
 pub returns : goal.returns

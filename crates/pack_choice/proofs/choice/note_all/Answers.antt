@@ -13,9 +13,9 @@ loop-mentions-preserved c =
     let p = plain_program c.args.program.now in
     fold_step noted_pack _ _ _ _ (map (cells_together p) (lists_of (drop (l.mentions-index + 1) c.args.lists.now))) _
     (c.in_ok-note_pack.ensures
-      ∙ ap (noted_pack (numbers_of l.packs.items)) (c.in_ok-cells_together.ensures ∙ ap (cells_together p) c.as_slice.ensures.value))
+    ∙ ap (noted_pack (numbers_of l.packs.items)) (c.in_ok-together.ensures ∙ ap (cells_together p) c.as_slice.ensures.value))
     (ap (λ xs. map (cells_together p) (lists_of xs))
-      (item_step c.args.lists.now l.mentions-index c.mentions-item.result c.loop-mentions-test.true c.mentions-item.is))
+    (item_step c.args.lists.now l.mentions-index c.mentions-item.result c.loop-mentions-test.true c.mentions-item.is))
     l.invariant
 
 pub returns : goal.returns
