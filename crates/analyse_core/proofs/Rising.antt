@@ -5,8 +5,13 @@ use Rattle.std.proofs.lemmas.Int.{ints, by_lt_z}
 use Rattle.decimal_interval.specs.declared.bounds.Interval.{Interval}
 use Rattle.decimal_interval.specs.Thresholds.{IsListed}
 use Rattle.cell_rows.specs.Known.{HasEnds}
-pub use Rattle.pack_choice.proofs.Rising.{below_is, not_below, all_inserted, all_at, inserted_length, inserted_rises, Has, inserted_has, inserted_keeps}
 use Rattle.analyse_core.specs.Thresholds.{inserted, rank_in, holds_at, RisesFrom, Rises}
+
+below_is : (t z : ℤ) → t <ℤ z → int_lt t z ≡ true
+below_is t z h = grind (arith, ints)
+
+not_below : (t z : ℤ) → z ≤ℤ t → int_lt t z ≡ false
+not_below t z h = grind (arith, ints)
 
 at_most_is : (t z : ℤ) → t ≤ℤ z → int_le t z ≡ true
 at_most_is t z h = grind (arith, ints)
@@ -49,6 +54,86 @@ pub goes_in : (z : ℤ) (ts : List ℤ) (k : ℕ) → k ≡ rank_in z ts → hol
 goes_in z ts k e h =
     let here : holds_at ts (rank_in z ts) z ≡ false = subst (λ i. holds_at ts i z ≡ false) e h in
     ap (λ i. insert ts i z) e ∙ sym (inserted_at z ts ∙ ap (λ b. if b then ts else insert ts (rank_in z ts) z) here)
+
+-- ---- what holds of each number
+
+module _ (P : ℤ → Type 0) where
+  pub all_inserted : (z : ℤ) (ts : List ℤ) → P z → AllByRecursion P ts → AllByRecursion P (inserted z ts)
+  all_inserted z [] p h = (p, tt)
+  all_inserted z (t ∷ ts) p h =
+      by_lt_z t z
+      (λ (lt : t <ℤ z). rw (below_is t z lt) (h.0, all_inserted z ts p h.1))
+      (λ (le : z ≤ℤ t).
+      by_lt_z z t
+      (λ (gt : z <ℤ t). rw (not_below t z le, below_is z t gt) (p, h))
+      (λ (ge : t ≤ℤ z). rw (not_below t z le, not_below z t ge) h))
+
+  pub all_at : (ts : List ℤ) (k : ℕ) → AllByRecursion P ts → k < length ts → P (get_or ts k (pos 0))
+  all_at [] k h l = absurd (omega (arith, l))
+  all_at (t ∷ ts) zero h l = h.0
+  all_at (t ∷ ts) (suc k) h l = all_at ts k h.1 (omega (arith, l))
+
+pub inserted_length : (z : ℤ) (ts : List ℤ) → length (inserted z ts) ≤ suc (length ts)
+inserted_length z [] = omega arith
+inserted_length z (t ∷ ts) =
+    by_lt_z t z
+    (λ (lt : t <ℤ z). rw (below_is t z lt) (let more = inserted_length z ts in omega (arith, more)))
+    (λ (le : z ≤ℤ t).
+    by_lt_z z t
+    (λ (gt : z <ℤ t). rw (not_below t z le, below_is z t gt) (omega arith))
+    (λ (ge : t ≤ℤ z). rw (not_below t z le, not_below z t ge) (omega arith)))
+
+-- ---- it rises still
+
+rises_behind : (s z : ℤ) (ts : List ℤ) → s <ℤ z → RisesFrom s ts → RisesFrom s (inserted z ts)
+rises_behind s z [] l h = (l, tt)
+rises_behind s z (t ∷ ts) l h =
+    by_lt_z t z
+    (λ (lt : t <ℤ z). rw (below_is t z lt) (h.0, rises_behind t z ts lt h.1))
+    (λ (le : z ≤ℤ t).
+    by_lt_z z t
+    (λ (gt : z <ℤ t). rw (not_below t z le, below_is z t gt) (l, (gt, h.1)))
+    (λ (ge : t ≤ℤ z). rw (not_below t z le, not_below z t ge) h))
+
+pub inserted_rises : (z : ℤ) (ts : List ℤ) → Rises ts → Rises (inserted z ts)
+inserted_rises z [] h = tt
+inserted_rises z (t ∷ ts) h =
+    by_lt_z t z
+    (λ (lt : t <ℤ z). rw (below_is t z lt) (rises_behind t z ts lt h))
+    (λ (le : z ≤ℤ t).
+    by_lt_z z t
+    (λ (gt : z <ℤ t). rw (not_below t z le, below_is z t gt) (gt, h))
+    (λ (ge : t ≤ℤ z). rw (not_below t z le, not_below z t ge) h))
+
+-- ---- what it holds
+
+abbrev pub Has : List ℤ → ℤ → Type 0
+Has [] u = ⊥
+Has (t ∷ ts) u = (t ≡ u) ⊎ Has ts u
+
+pub inserted_has : (z : ℤ) (ts : List ℤ) → Has (inserted z ts) z
+inserted_has z [] = inl refl
+inserted_has z (t ∷ ts) =
+    by_lt_z t z
+    (λ (lt : t <ℤ z). rw (below_is t z lt) (inr (inserted_has z ts)))
+    (λ (le : z ≤ℤ t).
+    by_lt_z z t
+    (λ (gt : z <ℤ t). rw (not_below t z le, below_is z t gt) (inl refl))
+    (λ (ge : t ≤ℤ z). rw (not_below t z le, not_below z t ge) (inl (omega (arith, ints, le, ge)))))
+
+has_behind : (t z u : ℤ) (ts : List ℤ) → (Has ts u → Has (inserted z ts) u) → (t ≡ u) ⊎ Has ts u → (t ≡ u) ⊎ Has (inserted z ts) u
+has_behind t z u ts h (inl e) = inl e
+has_behind t z u ts h (inr more) = inr (h more)
+
+pub inserted_keeps : (z u : ℤ) (ts : List ℤ) → Has ts u → Has (inserted z ts) u
+inserted_keeps z u [] h = absurd h
+inserted_keeps z u (t ∷ ts) h =
+    by_lt_z t z
+    (λ (lt : t <ℤ z). rw (below_is t z lt) (has_behind t z u ts (inserted_keeps z u ts) h))
+    (λ (le : z ≤ℤ t).
+    by_lt_z z t
+    (λ (gt : z <ℤ t). rw (not_below t z le, below_is z t gt) (inr h))
+    (λ (ge : t ≤ℤ z). rw (not_below t z le, not_below z t ge) h))
 
 has_place : (ts : List ℤ) (u : ℤ) → Has ts u → (k : ℕ) × (k < length ts) × (get_or ts k (pos 0) ≡ u)
 has_place [] u h = absurd h

@@ -1,7 +1,7 @@
 -- The packs of a program fit: at most 32, each of 2 to 8 cells in rising order.
 use Rattle.std.proofs.Common.{◌≡◌, ℕ, zero, suc, ◌+◌, ◌<◌, ◌≤◌, Bool, true, false, ◌&&◌, ◌||◌, List, [], ◌∷◌, ◌++◌, map, length, take, cond, if◌then◌else◌, refl, sym, ap, ◌∙◌, subst, arith}
 use Rattle.std.specs.Prelude.{◌==◌, nat_le, nat_lt, IsTrue}
-use Rattle.std.specs.List.{fold, filter, range_with_len, AllByRecursion}
+use Rattle.std.specs.List.{fold, filter, filter_map, range_with_len, AllByRecursion}
 use Rattle.std.proofs.Props.{props}
 use Rattle.std.proofs.Math.Logic.{∥∥₁_elim}
 use Rattle.std.proofs.lemmas.Bool.Decides.{nat_tests}
@@ -14,7 +14,7 @@ use Rattle.cert_text.specs.Allowed.{cells_rise, pack_fits, packs_fit}
 use Rattle.diff_bounds.specs.declared.Pack as declared
 use Rattle.pack_choice.specs.declared.mention.Mention.{Mention}
 use Rattle.pack_choice.specs.Firsts.{holds, added, distinct}
-use Rattle.pack_choice.specs.Choice.{most_cells, first_cells, rising, cells_together, same_cells, is_pack, most_packs, packs_of, all_mentions, numbers_of}
+use Rattle.pack_choice.specs.Choice.{numeric_cell, most_cells, first_cells, rising, cells_together, same_cells, is_pack, most_packs, packs_of, all_mentions, numbers_of}
 
 abbrev same : ℕ → ℕ → Bool
 same a b = a == b
@@ -99,7 +99,7 @@ none_held (x ∷ xs) = none_held xs
 few_held : (ys : List ℕ) (a n : ℕ) → length (filter (holds same ys) (range_with_len a n)) ≤ length ys
 few_held [] a n = let none = ap length (none_held (range_with_len a n)) in omega (arith, none)
 few_held (y ∷ ys) a n =
-    let parts = either (same y) (holds same ys) (range_with_len a n) in
+    let parts : length (filter (holds same (y ∷ ys)) (range_with_len a n)) ≤ length (filter (same y) (range_with_len a n)) + length (filter (holds same ys) (range_with_len a n)) = either (same y) (holds same ys) (range_with_len a n) in
     let one = one_at_most y a n in
     let more = few_held ys a n in
     omega (arith, parts, one, more)
@@ -126,8 +126,8 @@ module _ (p : Program) where
 
   few_together : (xs : List Mention) → length (cells_together p xs) ≤ 8
   few_together xs =
-      let most = few_held (first_cells p xs) 1 count in
-      let first : length (first_cells p xs) ≤ most_cells = taken_length most_cells (distinct same _) in
+      let most : length (cells_together p xs) ≤ length (first_cells p xs) = few_held (first_cells p xs) 1 count in
+      let first : length (first_cells p xs) ≤ 8 = taken_length most_cells (distinct same (filter_map (numeric_cell p) xs)) in
       omega (arith, most, first)
 
   fits : (xs : List Mention) → is_pack (cells_together p xs) ≡ true → pack_fits count (cells_together p xs) ≡ true

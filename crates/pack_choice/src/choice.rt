@@ -24,6 +24,7 @@ ghost use Rattle.pack_choice.specs.Choice.{
   loops,
   loops_mentions,
   noted_if,
+  noted_mention,
   noted_pack,
   numbers_of,
   numeric_cell,
@@ -174,7 +175,21 @@ fn note_cell(list: &mut Vec<u32>, cell: Option<u32>) -> Result<(), AllocError>
     }
 }
 
+fn note_mention(
+    list: &mut Vec<u32>,
+    program: &Program,
+    cells: &[Cell],
+    mention: Mention,
+) -> Result<(), AllocError>
+    requires cells { cells.now ≡ cells_of (plain_program program.now) }
+    requires few { length cells.now ≤ 512 }
+    ensures { OnOk result (list.new.items ≡ noted_mention (plain_program program.now) list.old.items mention) }
+{
+    note_cell(list, numeric_cell(program, cells, mention))
+}
+
 // The first cells of what is mentioned.
+#[tactic(auto, using(crate::proofs::Noting::fold_step))]
 fn first_cells(
     alloc: Global,
     program: &Program,
@@ -187,7 +202,7 @@ fn first_cells(
 {
     let mut list = Vec::new(alloc);
     for mention in mentions {
-        note_cell(&mut list, numeric_cell(program, cells, *mention))?;
+        note_mention(&mut list, program, cells, *mention)?;
     }
     Ok(list)
 }

@@ -51,12 +51,18 @@ pub fn add_side(mentions: &mut Vec<Mention>, side: &Sender) -> Result<(), AllocE
     }
 }
 
+fn add_target(mentions: &mut Vec<Mention>, target: &Target) -> Result<(), AllocError>
+    ensures { OnOk result (mentions.new.items ≡ mentions.old.items ++ target_mentions target.now) }
+{
+    add_item(mentions, target.item)
+}
+
 /// Adds receivers.
 pub fn add_targets(mentions: &mut Vec<Mention>, targets: &[Target]) -> Result<(), AllocError>
     ensures { OnOk result (mentions.new.items ≡ mentions.old.items ++ targets_mentions targets.now) }
 {
     for target in targets {
-        add_item(mentions, target.item)?;
+        add_target(mentions, target)?;
     }
     Ok(())
 }

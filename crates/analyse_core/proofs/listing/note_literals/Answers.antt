@@ -3,7 +3,7 @@ use Rattle.std.proofs.lemmas.List.{drop_all}
 use Rattle.cob_program.proofs.Loops.{item_step}
 use Rattle.analyse_core.specs.Literals.{numbers_of}
 use Rattle.analyse_core.specs.Thresholds.{noted_beside}
-use Rattle.pack_choice.proofs.Noting.{fold_step, fold_done}
+use Rattle.analyse_core.proofs.Noting.{fold_step, fold_done}
 use Rattle.analyse_core.proofs.listing.note_literals.Goals as goal
 
 pub loop-number-preserved : goal.loop-number-preserved

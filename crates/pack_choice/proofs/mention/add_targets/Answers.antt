@@ -7,7 +7,7 @@ use Rattle.pack_choice.proofs.mention.add_targets.Goals as goal
 pub loop-target-preserved : goal.loop-target-preserved
 loop-target-preserved c =
     let l = c.loop-target in
-    added _ _ _ (targets_mentions (drop (l.target-index + 1) c.args.targets.now)) _ _ c.in_ok-add_item.ensures
+    added _ _ _ (targets_mentions (drop (l.target-index + 1) c.args.targets.now)) _ _ c.in_ok-add_target.ensures
     (ap targets_mentions (item_step c.args.targets.now l.target-index c.target-item.result c.loop-target-test.true c.target-item.is))
     l.invariant
 

@@ -1,14 +1,7 @@
-use Rattle.std.proofs.Common.{◌+◌, drop}
+use Rattle.std.proofs.Common.{drop}
 use Rattle.std.proofs.lemmas.List.{drop_all}
-use Rattle.cob_program.proofs.Loops.{item_step, added, nothing_left}
+use Rattle.cob_program.proofs.Loops.{nothing_left}
 use Rattle.pack_choice.proofs.reaching.add_all.Goals as goal
-
-pub loop-mention-preserved : goal.loop-mention-preserved
-loop-mention-preserved c =
-    let l = c.loop-mention in
-    added _ _ _ (drop (l.mention-index + 1) c.args.more.now) _ _ c.in_ok-push.ensures.items
-    (item_step c.args.more.now l.mention-index c.mention-item.result c.loop-mention-test.true c.mention-item.is)
-    l.invariant
 
 pub returns : goal.returns
 returns c =
