@@ -66,9 +66,18 @@ def started_by_shell(command, folder, redirection):
     return ended(subprocess.Popen(words, cwd=folder, stdout=subprocess.PIPE))
 
 
+def launched_by_shell(command, folder, redirection):
+    """By the launcher, which puts something in the place of each standard stream that is closed."""
+    words = ["sh", "-c", f'exec "$0" "$@" {redirection}', ROOT / "cobsound", *command[1:]]
+    env = {**os.environ, "COBSOUND_PROGRAM": str(command[0])}
+    return ended(subprocess.Popen(words, cwd=folder, stdout=subprocess.PIPE, env=env))
+
+
 def with_sink(command, folder, sink):
     """Starts the program with this standard output: `gone` has no reader from the start, and the reader of `one line`
     goes when it has that line."""
+    if sink == "all closed":
+        return launched_by_shell(command, folder, SINKS[sink])
     if sink in SINKS:
         return started_by_shell(command, folder, SINKS[sink])
     if sink == "gone":
