@@ -5,9 +5,10 @@ around the sample certificate, `analysed` reports of `analyse` that were worked 
 independent program looked at, `trials` those of `trial`, `programs` small programs by subject, `limits` what stands at
 a limit and beyond it, `outside` files and standard outputs that fail, `report`, `report_files` and `nightly` those of
 the tool around the program and of its document, `calls` the calls of libraries, `ranges` those that work with ranges of
-numbers, `matrices` those with matrices and forms, `edges` those with edges of control graphs and `slow` the comparison
-of the interpreter with the plain slow step. The last five need programs of their own, which the gate builds: without
-them their cases are left out, which is told, and is a failure where the word is `--all`.
+numbers, `matrices` those with matrices and forms, `edges` and `diffs` those with edges of control graphs, and `slow`
+the comparison of the interpreter with the plain slow step. The last six need programs of their own, which the gate
+builds: without them their cases are left out, which is told, and is a failure where the word is `--all`. With `--large`
+`diffs` tries all of its programs.
 """
 
 import itertools
@@ -15,13 +16,13 @@ import sys
 from concurrent.futures import ThreadPoolExecutor
 from os import cpu_count
 
-from tests import analysed, analyses, built, calls, edges, limits, matrices, nightly, outside, programs, ranges
+from tests import analysed, analyses, built, calls, diffs, edges, limits, matrices, nightly, outside, programs, ranges
 from tests import reference, report, report_files, sample, slow, trials
 
 TOOL = (report, report_files, nightly)
 
 # These need programs of their own.
-DRIVEN = (calls, ranges, matrices, edges, slow)
+DRIVEN = (calls, ranges, matrices, edges, diffs, slow)
 
 
 def missing():

@@ -123,8 +123,8 @@ def of_nodes():
         yield from limit(f"{count} paragraphs in a loop", [*loop, *paragraphs], refused)
 
 
-# what is answered to a certificate with packs, which aren't checked yet
-PACKED = "E20 line 4"
+# what is answered to a certificate with packs that claims nothing of them
+PACKED = "clean"
 NINE = items(9, "9")
 
 
@@ -133,6 +133,11 @@ def with_packs(packs, claims=()):
     listed = [f"pack {' '.join(map(str, pack))}" for pack in packs]
     lines = ["COBSOUND 1", "cells 9", "nodes 3", f"packs {len(packs)}", *listed]
     return "\n".join([*lines, "node 1", *claims, "node 2", "node 3", "end", ""])
+
+
+def unbounded(claimed):
+    """What is answered where a bound is claimed of two cells of which nothing is known where a run begins."""
+    return f"E14 layer 2 edge 0 pack 1 row 1 column 2 reached none claimed {claimed}"
 
 
 def of_packs():
@@ -148,15 +153,15 @@ def of_packs():
         "a pack of a cell": (with_packs([(1,)]), "E12 line 5"),
         "a pack with the last cell": (with_packs([(8, 9)]), PACKED),
         "a pack with a cell beyond": (with_packs([(8, 10)]), "E12 line 5"),
-        "the last column": (with_packs(pair, ["d 1 1 2 0"]), PACKED),
+        "the last column": (with_packs(pair, ["d 1 1 2 0"]), unbounded(0)),
         "a column beyond": (with_packs(pair, ["d 1 1 3 0"]), "E12 line 7"),
-        "the greatest bound": (with_packs(pair, [f"d 1 1 2 {MOST_BOUND}"]), PACKED),
-        "the least bound": (with_packs(pair, [f"d 1 1 2 -{MOST_BOUND}"]), PACKED),
+        "the greatest bound": (with_packs(pair, [f"d 1 1 2 {MOST_BOUND}"]), unbounded(MOST_BOUND)),
+        "the least bound": (with_packs(pair, [f"d 1 1 2 -{MOST_BOUND}"]), unbounded(-MOST_BOUND)),
         "a greater bound": (with_packs(pair, [f"d 1 1 2 {MOST_BOUND + 1}"]), "E12 line 7"),
         "a lesser bound": (with_packs(pair, [f"d 1 1 2 -{MOST_BOUND + 1}"]), "E12 line 7"),
     }
     for name, (certificate, line) in texts.items():
-        yield checked(name, NINE, certificate, 2 if line == PACKED else 3, f"{line}\n")
+        yield checked(name, NINE, certificate, 0 if line == PACKED else 3, f"{line}\n")
 
 
 def of_claims():

@@ -20,15 +20,12 @@ def checked(name, source, certificate, status, out):
 
 
 def certified():
-    """Those of checked.jsonl are of the whole language. Those of thin.jsonl and straight.jsonl were worked out for
-    programs without branches, read by a grammar of their own, as their certificates were; changed.jsonl has those
-    that the whole language answers otherwise, with the reason. Those of certified_by_rule.jsonl were worked out by
-    hand."""
-    changed = {case["case"]: case for _, case in cases_of("changed.jsonl")}
+    """Those of checked.jsonl are of the whole language, with and without packs. Those of thin.jsonl and straight.jsonl
+    were worked out for programs without branches, as their certificates were; where the whole language answers
+    otherwise, the reason stands beside the answer. Those of certified_by_rule.jsonl were worked out by hand."""
     for file in ("checked.jsonl", "thin.jsonl", "straight.jsonl"):
         for name, case in cases_of(file):
-            wanted = changed.get(name, case)
-            yield checked(name, case["source"], case["certificate"], wanted["status"], wanted["out"])
+            yield checked(name, case["source"], case["certificate"], case["status"], case["out"])
     for name, case in cases_of("certified_by_rule.jsonl"):
         yield checked(f"{name}, {case['rule']}", case["source"], case["certificate"], case["status"], case["out"])
 

@@ -164,7 +164,7 @@ ANSWERS = [
     ("E13 cells found 1 wanted 2\n", 3, 3),
     ("E13 nodes found 1 wanted 2\n", 3, 3),
     ("E14 layer 1 edge 1 reach\n", 3, 3),
-    ("E20 line 4\n", 2, 3),
+    ("E14 layer 2 edge 1 pack 1 row 1 column 2 reached none claimed -2\n", 3, 3),
     ("E1 usage analyse\n", 4, 3),
     ("E3 read\n", 5, 3),
     ("E4 write\n", 6, 3),

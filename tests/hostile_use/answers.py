@@ -14,6 +14,7 @@ MOST_STORAGE = 1_048_576
 SOURCE = rf"E5 source too long|E[67] line {NUMBER} column {NUMBER}|E8 line {NUMBER}|E9 {RULE} line {NUMBER}"
 LIMITS = {"nesting": 64, "items": 512, "storage": MOST_STORAGE, "files": 16, "cells": 512, "nodes": 4_096}
 PLACE = rf"reach|cell {NUMBER} class|cell {NUMBER} (?:low|high) reached {VALUE} claimed {VALUE}"
+BOUND = rf"pack {NUMBER} row {NUMBER} column {NUMBER} reached (?:none|{VALUE}) claimed {VALUE}"
 
 # behind the words and the files, by command and status: the line of a refusal
 COMMON = {
@@ -26,9 +27,8 @@ COMMON = {
 }
 CHECK = {
     **COMMON,
-    2: rf"{SOURCE}|E20 line 4",
     3: rf"E11 certificate too long|E12 line {NUMBER}|E13 (?:cells|nodes) found {NUMBER} wanted {NUMBER}"
-    rf"|E14 layer 1 edge {NUMBER} (?:{PLACE})",
+    rf"|E14 layer 1 edge {NUMBER} (?:{PLACE})|E14 layer 2 edge {NUMBER} {BOUND}",
 }
 ANALYSE = {**COMMON, 3: "E11 certificate too long", 6: "E4 write"}
 RUN = {

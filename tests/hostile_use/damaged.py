@@ -168,7 +168,7 @@ class Damaged:
     def surprises(checked, given):
         """What the plain reader says otherwise of a certificate, and a fault that an accepted one hides."""
         wanted = refusal_of(given.certificate, *given.shape)
-        is_early = checked.line().startswith(("E12 ", "E13 ", "E20 ")) and checked.status in (2, 3)
+        is_early = checked.line().startswith(("E12 ", "E13 ")) and checked.status == 3
         if (wanted or is_early) and checked.line() != wanted:
             yield f"in place of {wanted}"
         yield from faults_of_claims(given.fault, checked)

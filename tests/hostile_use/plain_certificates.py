@@ -97,11 +97,9 @@ def refusal_of(text, cells, nodes):
     """The line that a certificate is refused with before its claims are looked at, for a program of so many cells and
     nodes; nothing where it isn't."""
     try:
-        found_cells, found_nodes, packs = Reader(text).read()
+        found_cells, found_nodes, _packs = Reader(text).read()
     except Refused as refused:
         return f"E12 line {refused}"
-    if packs:
-        return "E20 line 4"
     if found_cells != cells:
         return f"E13 cells found {found_cells} wanted {cells}"
     if found_nodes != nodes:

@@ -9,10 +9,10 @@ use Rattle.cob_graph.specs.declared.graph.Graph.{Graph}
 use Rattle.cert_text.specs.View.{Certificate}
 use Rattle.cert_text.specs.Allowed.{IsAllowed}
 use Rattle.cert_text.specs.Text.{spelling}
-use Rattle.cert_check.specs.Claims.{is_cleared, open_pairs}
+use Rattle.cert_check.specs.Claims.{open_pairs}
 use Rattle.cert_check.specs.Checking.{Accepts}
 use Rattle.alarm_report.specs.Alarms.{alarms_of}
-use Rattle.analyse_core.specs.Assignments.{IsThresholdAssignment, MissesNothing}
+use Rattle.analyse_core.specs.Assignments.{IsThresholdAssignment, MissesNothing, is_cleared_in}
 use Rattle.command_answers.specs.Profile.{IsProgramOf}
 use Rattle.command_answers.specs.Answer.{Answer, Report}
 
@@ -58,4 +58,4 @@ pub record IsAnalysisOf (known : Option Contents) (source : List ℕ) (a : Analy
 pub record CanBeClean (p : Program) (g : Graph) : Type 0 where
   pub assignment : Certificate
   pub assigns : IsThresholdAssignment p g assignment
-  pub clears : (statement : ℕ) (fault : Kind) → is_cleared p g assignment statement fault ≡ true
+  pub clears : (statement : ℕ) (fault : Kind) → is_cleared_in p g assignment statement fault ≡ true

@@ -14,7 +14,7 @@ ghost use Rattle.analyse_command.specs.Steps.{IsFinding, IsFindingFor, IsFinding
 use analyse_core::analyse as analyse_program;
 use batch_io::{Files, MakeEnd, Sink, put_file};
 use cert_text::{Cert, print};
-use check_command::{CERTIFICATE_LIMIT, check_plain};
+use check_command::{CERTIFICATE_LIMIT, check_certificate};
 use command_answers::{
     Answer, CERTIFICATE_REFUSED, Laid, OUT_OF_MEMORY, Stop, WRITE_FAULT, answer_text, read_source,
     show_line, show_text, status_of,
@@ -41,7 +41,7 @@ fn texts_of(alloc: Global, laid: &Laid, cert: &Cert) -> Result<Findings, Stop>
         (IsFinding [] (analysis (plain_program laid.now.program) laid.now.graph (view cert.now)))
         (λ stop. stop ≡ Stop.Memory) }
 {
-    let report = check_plain(alloc, laid, cert)?;
+    let report = check_certificate(alloc, laid, cert)?;
     let certificate = print(alloc, cert)?;
     let text = answer_text(alloc, &report)?;
     Ok(Findings {

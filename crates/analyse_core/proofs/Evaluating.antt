@@ -20,14 +20,13 @@ use Rattle.cell_layer_laws.specs.Layer.{cell_flow, post_at, row_for}
 use Rattle.cert_text.specs.View.{Place, Certificate}
 use Rattle.cert_check.proofs.Lists.{equal_or_less}
 use Rattle.cert_check.proofs.Accepting.{claimed}
-use Rattle.cert_check.proofs.Covering.{LayerLaws}
-use Rattle.cert_check.proofs.LayerLaws.{layer_laws}
+use Rattle.cert_check.proofs.LayerLaws.{LayerLaws, layer_laws}
 use Rattle.analyse_core.specs.Thresholds.{thresholds_of}
 use Rattle.analyse_core.specs.Certificates.{place_for}
 use Rattle.analyse_core.specs.Assignments.{IsOfRows}
 use Rattle.analyse_core.specs.Plain.{known_of, along, joined_along, plain_to, plain_at, plain_certificate, GoesOn, PlainEvaluationAssigns}
 use Rattle.analyse_core.proofs.Claiming.{claimed_is}
-use Rattle.analyse_core.proofs.Finding.{is_accepted, shape}
+use Rattle.analyse_core.proofs.Finding.{cells_leak_nowhere, shape}
 
 module _ (p : Program) (g : Graph) (laws : LayerLaws p g) where
   abbrev ranges : List Interval
@@ -219,6 +218,6 @@ plain_assigns p g source on =
     let of_rows = plain_of_rows p g laws on in
     record {
       shape = shape p g (plain_certificate p g) source (rows p g laws) of_rows;
-      inductive = (is_accepted p g (plain_certificate p g) source (rows p g laws) of_rows).inductive;
+      inductive = cells_leak_nowhere p g (plain_certificate p g) source (rows p g laws) of_rows;
       heads = λ node is. absurd (no_head p g laws on node is);
     }

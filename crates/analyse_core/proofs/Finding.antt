@@ -32,17 +32,18 @@ use Rattle.cert_text.specs.View.{Certificate}
 use Rattle.cert_text.specs.Allowed.{IsAllowed, packs_fit, claim_fits, claims_fit, place_fits, places_all_fit}
 use Rattle.claimed_rows.specs.Claims.{claimed_row, place_at}
 use Rattle.claimed_rows.specs.Gaps.{IsSmall}
-use Rattle.cert_check.specs.Claims.{all_kinds, claims_at, row_at, node_clears, is_cleared, if_open, open_at, open_of, opens_of, open_pairs}
+use Rattle.cert_check.specs.OpenPairs.{all_kinds, if_open, open_at, node_clears_by}
+use Rattle.cert_check.specs.Claims.{cell_leaks, cells_clear, claims_at, claims_clear, clears_with, row_at, is_cleared, open_of, opens_of, open_pairs}
 use Rattle.cert_check.specs.Checking.{Accepts, HasShape}
-use Rattle.cert_check.proofs.Accepting.{claimed, claimed_back, accepted_is_inductive}
+use Rattle.cert_check.proofs.Accepting.{claimed, claimed_back}
+use Rattle.cert_check.proofs.BoundsKept.{no_other_leaks}
 use Rattle.cert_check.proofs.Asking.{is_said, is_small}
-use Rattle.cert_check.proofs.Covering.{LayerLaws}
-use Rattle.cert_check.proofs.LayerLaws.{layer_laws}
-use Rattle.cert_check.proofs.Leaking.{no_leaks}
+use Rattle.cert_check.proofs.LayerLaws.{LayerLaws, layer_laws}
+use Rattle.cert_check.proofs.Leaking.{no_leaks, kept_where_no_leaks}
 use Rattle.analyse_core.specs.Literals.{program_literals}
 use Rattle.analyse_core.specs.Thresholds.{IsSmallCell, thresholds_of}
 use Rattle.analyse_core.specs.Certificates.{claim, claims_from, place_for, CanBeClaimed}
-use Rattle.analyse_core.specs.Assignments.{IsListedElement, IsThresholdAssignment, MissesNothing, IsOfRows, IsFound, written_at}
+use Rattle.analyse_core.specs.Assignments.{is_cleared_in, IsListedElement, IsThresholdAssignment, MissesNothing, IsOfRows, IsFound, written_at}
 use Rattle.analyse_core.proofs.Claiming.{claimed_row_is, place_is}
 use Rattle.analyse_core.proofs.CellLists.{are_thresholds, ListsLieIn, lists_lie_in}
 use Rattle.analyse_core.proofs.CellSizes.{graph_cells_small, cells_are}
@@ -194,15 +195,18 @@ module _ (p : Program) (g : Graph) (c : Certificate) (source : ∥ IsSourceGraph
         ∙ length-map (range_with_len 1 (length g.nodes)) (λ node. place_for (elements node)) ∙ length-range_with_len 1 (length g.nodes);
   }
 
+  pub has_no_packs : c.packs ≡ []
+  has_no_packs = ap (λ (d : Certificate). d.packs) found.is
+
+  pub cells_leak_nowhere : cell_leaks p g c ≡ []
+  cells_leak_nowhere = no_leaks p g c (thresholds_of p) laws rows_inductive
+
   pub is_accepted : Accepts p g c (open_pairs p g c)
   is_accepted = record {
     shape = shape;
-    inductive = no_leaks p g c (thresholds_of p) laws rows_inductive;
+    inductive = no_other_leaks p g c has_no_packs cells_leak_nowhere;
     pairs_are = refl;
   }
-
-  pub has_no_packs : c.packs ≡ []
-  has_no_packs = ap (λ (d : Certificate). d.packs) found.is
 
   pub is_allowed : length (cells_of p) ≤ 512 → length g.nodes ≤ 4096 → IsAllowed c
   is_allowed few_cells few_nodes =
@@ -231,7 +235,7 @@ module _ (p : Program) (g : Graph) (c : Certificate) (source : ∥ IsSourceGraph
     lies_below : (node : ℕ) → IsNode flow node → lattice.Below (rows node) (row_at p g x node)
     lies_below node is =
         dominated (row_at p g x)
-        (accepted_is_inductive p g x (thresholds_of p) laws.entry_fits laws.post_fits assigns.inductive)
+        (kept_where_no_leaks p g x (thresholds_of p) laws assigns.inductive)
         (heads_are_fixed (owns p) (thresholds_of p) (thresholds_are p g source) flow (row_at p g x) heads_listed) node is
 
     clears_there : (node : ℕ) (fault : Kind) → IsNode flow node → clears_at p g node (claims_at p g x node) fault ≡ true →
@@ -247,23 +251,27 @@ module _ (p : Program) (g : Graph) (c : Certificate) (source : ∥ IsSourceGraph
     or_clears true a b h e = h e
     or_clears false a b h e = refl
 
-    node_cleared : (statement : ℕ) (fault : Kind) (node : ℕ) → IsNode flow node → node_clears p g x statement fault node ≡ true →
-        node_clears p g c statement fault node ≡ true
+    -- without packs the claims of cells are all
+    claims_there : (node : ℕ) (fault : Kind) → cells_clear p g c node fault ≡ true → claims_clear p g c node fault ≡ true
+    claims_there node fault e = subst (λ (ps : List (List ℕ)). clears_with p g c ps node fault ≡ true) (sym has_no_packs) e
+
+    node_cleared : (statement : ℕ) (fault : Kind) (node : ℕ) → IsNode flow node → node_clears_by g (cells_clear p g x) statement fault node ≡ true →
+        node_clears_by g (claims_clear p g c) statement fault node ≡ true
     node_cleared statement fault node is =
-        or_clears (statement_at g node == statement) (clears_at p g node (claims_at p g x node) fault)
-        (clears_at p g node (claims_at p g c node) fault) (clears_there node fault is)
+        or_clears (statement_at g node == statement) (cells_clear p g x node fault) (claims_clear p g c node fault)
+        (λ e. claims_there node fault (clears_there node fault is e))
 
     all_cleared : (statement : ℕ) (fault : Kind) (first count : ℕ) → 1 ≤ first → first + count ≤ suc (length g.nodes) →
-        list_all (node_clears p g x statement fault) (range_with_len first count) ≡ true →
-        list_all (node_clears p g c statement fault) (range_with_len first count) ≡ true
+        list_all (node_clears_by g (cells_clear p g x) statement fault) (range_with_len first count) ≡ true →
+        list_all (node_clears_by g (claims_clear p g c) statement fault) (range_with_len first count) ≡ true
     all_cleared statement fault first zero l h e = refl
     all_cleared statement fault first (suc count) l h e =
-        let parts = and_parts (node_clears p g x statement fault first) (list_all (node_clears p g x statement fault) (range_with_len (first + 1) count)) e in
-        ap (λ b. b && list_all (node_clears p g c statement fault) (range_with_len (first + 1) count))
+        let parts = and_parts (node_clears_by g (cells_clear p g x) statement fault first) (list_all (node_clears_by g (cells_clear p g x) statement fault) (range_with_len (first + 1) count)) e in
+        ap (λ b. b && list_all (node_clears_by g (claims_clear p g c) statement fault) (range_with_len (first + 1) count))
         (node_cleared statement fault first (record { first = l; last = omega (arith, h) }) parts.0)
         ∙ all_cleared statement fault (first + 1) count (omega (arith, l)) (omega (arith, h)) parts.1
 
-    cleared_too : (statement : ℕ) (fault : Kind) → is_cleared p g x statement fault ≡ true → is_cleared p g c statement fault ≡ true
+    cleared_too : (statement : ℕ) (fault : Kind) → is_cleared_in p g x statement fault ≡ true → is_cleared p g c statement fault ≡ true
     cleared_too statement fault e = all_cleared statement fault 1 (length g.nodes) (omega arith) (omega arith) e
 
 -- ---- open pairs aren't cleared

@@ -1,5 +1,5 @@
 -- Assignments of what is known of cells to the nodes of a program's graph, whose heads have thresholds as ends.
-use Rattle.std.specs.Prelude.{◌≡◌, ◌+◌, ◌*◌, ℕ, true, List, [], ◌∷◌, length, None, Some, ℤ}
+use Rattle.std.specs.Prelude.{◌≡◌, ◌+◌, ◌*◌, ℕ, Bool, true, List, [], ◌∷◌, length, None, Some, ℤ}
 use Rattle.std.specs.List.{Contains}
 use Rattle.cob_tree.specs.declared.fault.Kind.{Kind}
 use Rattle.cob_program.specs.Act.{Program}
@@ -14,7 +14,8 @@ use Rattle.cert_text.specs.View.{Certificate}
 use Rattle.claimed_rows.specs.Claims.{place_at, written_element}
 use Rattle.cell_storages.specs.Homes.{owns}
 use Rattle.cell_layer_laws.specs.Layer.{cell_flow}
-use Rattle.cert_check.specs.Claims.{leaks, is_cleared, open_at, open_pairs}
+use Rattle.cert_check.specs.OpenPairs.{open_at, is_cleared_by}
+use Rattle.cert_check.specs.Claims.{cell_leaks, cells_clear, open_pairs}
 use Rattle.cert_check.specs.Checking.{HasShape}
 use Rattle.analyse_core.specs.Thresholds.{thresholds_of}
 use Rattle.analyse_core.specs.Certificates.{certificate_for}
@@ -42,16 +43,20 @@ module _ (p : Program) (g : Graph) where
   abbrev pub written_at : Certificate → ℕ → Element
   written_at x node = written_element (length (owns p)) (place_at x node)
 
-  -- It has no leak, and an edge goes back to no node but where all ends are thresholds.
+  -- What it claims of cells has no leak, and an edge goes back to no node but where all ends are thresholds.
   pub record IsThresholdAssignment (x : Certificate) : Type 0 where
     pub shape : HasShape p g x
-    pub inductive : leaks p g x ≡ []
+    pub inductive : cell_leaks p g x ≡ []
     pub heads : (node : ℕ) → IsHead (cell_flow p g) node → IsListedElement (thresholds_of p) (written_at x node)
+
+  -- what it claims of cells shows at each node of the statement that there is no such fault
+  abbrev pub is_cleared_in : Certificate → ℕ → Kind → Bool
+  is_cleared_in x statement fault = is_cleared_by g (cells_clear p g x) statement fault
 
   -- What some such assignment clears at every node of a statement isn't open.
   abbrev pub MissesNothing : Certificate → Type 0
   MissesNothing c =
-      (x : Certificate) → IsThresholdAssignment x → (statement : ℕ) (fault : Kind) → is_cleared p g x statement fault ≡ true
+      (x : Certificate) → IsThresholdAssignment x → (statement : ℕ) (fault : Kind) → is_cleared_in x statement fault ≡ true
       → ¬ Contains (open_pairs p g c) (open_at statement fault)
 
   -- ---- what the analysis finds

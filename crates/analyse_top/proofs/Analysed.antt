@@ -58,7 +58,6 @@ accepted_where later source certificate bytes a is found fits there held = recor
   claims = a.claims;
   holds = record { bytes = bytes; held = there; is_program = is };
   held = record { allowed = found.allowed; held = held; fits = fits };
-  plain = found.plain;
   accepts = found.accepts;
 }
 
@@ -160,7 +159,7 @@ module _ (sound : CheckingIsSound) (one_reading : OneReading) (call : Call) (con
               is_of.found tells.fits (stays differ) (insert_gets contents certificate (text_of a));
           status = (shown_by call low certificate [] a tells).0;
           shown = (shown_by call low certificate [] a tells).1;
-          named = names_all sound is_of.bytes a.program a.graph a.claims (pairs_of a) is_of.is_program is_of.found.accepts;
+          named = names_all sound is_of.bytes a.program a.graph a.claims (pairs_of a) is_of.is_program is_of.found.allowed is_of.found.accepts;
         }
 
     by_analysis : EndsByAnalysis call → IsAnalysed contents call source certificate
@@ -228,7 +227,7 @@ module _ (sound : CheckingIsSound) (one_reading : OneReading) (call : Call) (con
               accepted_where later source certificate (trial_text count) a same_source found trial_tells.fits;
           status = trial_shown.0;
           shown = trial_shown.1;
-          named = names_all sound (trial_text count) a.program a.graph a.claims (pairs_of a) same_source found.accepts;
+          named = names_all sound (trial_text count) a.program a.graph a.claims (pairs_of a) same_source found.allowed found.accepts;
         }
 
   pub trials_are_accepted : TrialsAreAccepted call

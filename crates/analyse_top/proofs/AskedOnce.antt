@@ -10,7 +10,7 @@ use Rattle.cob_front.specs.Laws.{OneAnswer}
 use Rattle.command_words.specs.Commands.{Command, Run, IsCommand, OneReading}
 use Rattle.command_words.specs.Commands as command
 use Rattle.command_answers.specs.Profile.{IsProgramOf, IsProfileCause}
-use Rattle.command_answers.specs.Answer.{Answer, Usage, Absent, Refused, NotYet, CertificateLong, CertificateBad, CertificateMisfit, NotInductive, Report, AnswersSource, HoldsProgram}
+use Rattle.command_answers.specs.Answer.{Answer, Usage, Absent, Refused, CertificateLong, CertificateBad, CertificateMisfit, NotInductive, Report, AnswersSource, HoldsProgram}
 use Rattle.command_answers.proofs.Found.{held_bytes}
 use Rattle.command_answers.proofs.Sources.{no_cause}
 use Rattle.trial_source.specs.Trial.{trial_text}
@@ -47,11 +47,10 @@ module _ (law : (bytes : List ℕ) → OneAnswer bytes) (graphs : OneGraph) (one
       let same : w.0 ≡ k.bytes = same_Some w.0 k.bytes (sym w.1 ∙ k.held) in
       no_cause law k.bytes p g cause k.is_program (subst (λ (bytes : List ℕ). IsProfileCause bytes cause) same w.2)
   unread_or_read source (Usage word) p g h k = h
-  unread_or_read source (NotYet line) p g h k = h
   unread_or_read source CertificateLong p g h k = h
   unread_or_read source (CertificateBad line) p g h k = h
   unread_or_read source (CertificateMisfit what found wanted) p g h k = h
-  unread_or_read source (NotInductive edge gap) p g h k = h
+  unread_or_read source (NotInductive layer edge gap) p g h k = h
   unread_or_read source (Report alarms) p g h k = h
 
   -- words that ask for the analysis of a program have no answer
@@ -68,11 +67,10 @@ module _ (law : (bytes : List ℕ) → OneAnswer bytes) (one_reading : OneReadin
   refused_or_tried (Refused cause) h = no_cause law (trial_text count) p g cause is_program h
   refused_or_tried (Absent name) h = h
   refused_or_tried (Usage word) h = h
-  refused_or_tried (NotYet line) h = h
   refused_or_tried CertificateLong h = h
   refused_or_tried (CertificateBad line) h = h
   refused_or_tried (CertificateMisfit what found wanted) h = h
-  refused_or_tried (NotInductive edge gap) h = h
+  refused_or_tried (NotInductive layer edge gap) h = h
   refused_or_tried (Report alarms) h = h
 
   -- words that ask for the trial of a program have no answer

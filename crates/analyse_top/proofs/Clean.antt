@@ -8,7 +8,8 @@ use Rattle.cob_program.specs.Act.{Program}
 use Rattle.cob_runs.specs.Runs.{IsFaultless}
 use Rattle.cob_graph.specs.declared.graph.Graph.{Graph}
 use Rattle.cert_text.specs.View.{Certificate}
-use Rattle.cert_check.specs.Claims.{open_at}
+use Rattle.cert_text.specs.Allowed.{IsAllowed}
+use Rattle.cert_check.specs.OpenPairs.{open_at}
 use Rattle.cert_check.specs.Checking.{Accepts, AcceptedClaimsCoverRuns, CoversRuns}
 use Rattle.source_facts.specs.Sources.{SourcesHaveSourceGraphs}
 use Rattle.alarm_report.specs.declared.alarms.Alarm.{Alarm}
@@ -32,11 +33,11 @@ use Rattle.analyse_top.proofs.Words.{analyse_or_check, check_or_run, check_or_tr
 abbrev pub CheckingIsSound : Type 0
 CheckingIsSound =
     (bytes : List ℕ) (p : Program) (g : Graph) (c : Certificate) (pairs : List Open) → IsProgramOf bytes p g
-    → Accepts p g c pairs → CoversRuns p pairs
+    → IsAllowed c → Accepts p g c pairs → CoversRuns p pairs
 
 pub checking_is_sound : SourcesHaveSourceGraphs → AcceptedClaimsCoverRuns → CheckingIsSound
-checking_is_sound have cover bytes p g c pairs is accepts =
-    cover p g c pairs (have bytes p g is.is_source is.is_graph) accepts
+checking_is_sound have cover bytes p g c pairs is allowed accepts =
+    cover p g c pairs (have bytes p g is.is_source is.is_graph) allowed accepts
 
 contained_alarm : (p : Program) (pairs : List Open) (pair : Open) → Contains pairs pair
     → Contains (alarms_of p pairs) (alarm_in (program_statements p) pair)
@@ -51,9 +52,9 @@ none_contained x (k, l, e) = omega (arith, l)
 
 -- a report on what is accepted names all faults
 pub names_all : CheckingIsSound → (bytes : List ℕ) (p : Program) (g : Graph) (c : Certificate) (pairs : List Open)
-    → IsProgramOf bytes p g → Accepts p g c pairs → NameAllFaults (alarms_of p pairs) p
-names_all sound bytes p g c pairs is accepts told first choices n kind statement fault =
-    let there = sound bytes p g c pairs is accepts told first choices n kind statement fault in
+    → IsProgramOf bytes p g → IsAllowed c → Accepts p g c pairs → NameAllFaults (alarms_of p pairs) p
+names_all sound bytes p g c pairs is allowed accepts told first choices n kind statement fault =
+    let there = sound bytes p g c pairs is allowed accepts told first choices n kind statement fault in
     (alarm_in (program_statements p) (open_at statement kind), contained_alarm p pairs (open_at statement kind) there, (refl, refl))
 
 module _ (sound : CheckingIsSound) (one_reading : OneReading) (contents : Contents) (source certificate : List ℕ) where
@@ -66,7 +67,7 @@ module _ (sound : CheckingIsSound) (one_reading : OneReading) (contents : Conten
 
   reported_by : (alarms : List Alarm) (p : Program) (g : Graph) → HoldsProgram contents source p g
       → AnswersProgram contents certificate p g (Report alarms) → Reported alarms
-  reported_by alarms p g holds (c, held, (none, (pairs, accepts, are))) = record {
+  reported_by alarms p g holds (c, held, (pairs, accepts, are)) = record {
     pairs = pairs;
     accepted = record {
       program = p;
@@ -74,12 +75,11 @@ module _ (sound : CheckingIsSound) (one_reading : OneReading) (contents : Conten
       claims = c;
       holds = holds;
       held = held;
-      plain = none;
       accepts = accepts;
     };
     alarms_are = are;
     named = subst (λ (xs : List Alarm). NameAllFaults xs p) (sym are)
-        (names_all sound holds.bytes p g c pairs holds.is_program accepts);
+        (names_all sound holds.bytes p g c pairs holds.is_program held.allowed accepts);
   }
 
   reported_for : (alarms : List Alarm) → AnswersCheck contents source certificate (Report alarms) → Reported alarms
@@ -173,7 +173,7 @@ module _ (sound : CheckingIsSound) (one_reading : OneReading) (call : Call) (con
       inr (
         check source certificate,
         is,
-        inr (a.program, a.graph, a.holds, (a.claims, a.held, (a.plain, (pairs, a.accepts, refl)))),
+        inr (a.program, a.graph, a.holds, (a.claims, a.held, (pairs, a.accepts, refl))),
       )
 
   pub accepts_exactly : IsExact call → AcceptsExactly call

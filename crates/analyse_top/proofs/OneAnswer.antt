@@ -4,7 +4,7 @@ use Rattle.batch_io.specs.FilesState.{Contents}
 use Rattle.command_words.specs.Commands.{Command, Run, OneReading}
 use Rattle.command_words.specs.Commands as command
 use Rattle.cob_front.specs.declared.refusal.Refusal.{Refusal}
-use Rattle.command_answers.specs.Answer.{Answer, Usage, Absent, Refused, NotYet, CertificateLong, CertificateBad, CertificateMisfit, NotInductive, Report}
+use Rattle.command_answers.specs.Answer.{Answer, Usage, Absent, Refused, CertificateLong, CertificateBad, CertificateMisfit, NotInductive, Report}
 use Rattle.command_answers.proofs.Sources.{Ending, EndsIn, read, refused}
 use Rattle.check_command.proofs.OneCheck.{TextsAreApart, one_for_check}
 use Rattle.trial_source.specs.Trial.{trial_text}
@@ -24,19 +24,17 @@ module _ (contents : Contents) (one_ending : (bytes : List ℕ) (a b : Ending) �
       ap (λ (x : Ending). Refused (cause_or d x)) (one_ending (trial_text count) (refused d) (refused e) h k)
   one_for_trial count (Usage word) b h k = absurd h
   one_for_trial count (Absent name) b h k = absurd h
-  one_for_trial count (NotYet line) b h k = absurd h
   one_for_trial count CertificateLong b h k = absurd h
   one_for_trial count (CertificateBad line) b h k = absurd h
   one_for_trial count (CertificateMisfit what found wanted) b h k = absurd h
-  one_for_trial count (NotInductive edge gap) b h k = absurd h
+  one_for_trial count (NotInductive layer edge gap) b h k = absurd h
   one_for_trial count (Report alarms) b h k = absurd h
   one_for_trial count a (Usage word) h k = absurd k
   one_for_trial count a (Absent name) h k = absurd k
-  one_for_trial count a (NotYet line) h k = absurd k
   one_for_trial count a CertificateLong h k = absurd k
   one_for_trial count a (CertificateBad line) h k = absurd k
   one_for_trial count a (CertificateMisfit what found wanted) h k = absurd k
-  one_for_trial count a (NotInductive edge gap) h k = absurd k
+  one_for_trial count a (NotInductive layer edge gap) h k = absurd k
   one_for_trial count a (Report alarms) h k = absurd k
 
   one_for_command : (c : Command) (a b : Answer) → AnswersCommand (Some contents) c a

@@ -180,15 +180,14 @@ ReportsAreComplete call =
 
 -- ---- when `check` answers 0 or 1
 
--- SOURCE is of the profile, and CERT is a certificate of its program, within the limit and without packs, which is
--- inductive and leaves these pairs open.
+-- SOURCE is of the profile, and CERT is a certificate of its program, within the limit, which is inductive and leaves
+-- these pairs open.
 pub record IsAccepted (contents : Contents) (source certificate : List ℕ) (pairs : List Open) : Type 0 where
   pub program : Program
   pub graph : Graph
   pub claims : Certificate
   pub holds : HoldsProgram contents source program graph
   pub held : HoldsCertificate contents certificate claims
-  pub plain : claims.packs ≡ []
   pub accepts : Accepts program graph claims pairs
 
 -- their report: `clean` with status 0 where there are none, else the alarms with status 1

@@ -13,7 +13,7 @@ mod layer;
 mod statements;
 
 pub use clearing::{edge_at, edges_before, leaves};
-pub use edges::{has_few_parts, left};
+pub use edges::{clears_edge, has_few_parts, left};
 pub use entry::entry_row;
 pub use flowing::{edge_with, is_marked};
 pub use heads::heads_of;

@@ -1,5 +1,6 @@
 -- The answers of a check, from what the pass and the nodes say.
-use Rattle.std.proofs.Common.{◌≡◌, ℕ, List, slice_get, Some, ℤ, refl}
+use Rattle.std.proofs.Common.{◌≡◌, ℕ, List, [], Bool, slice_get, Some, ℤ, sym, subst}
+use Rattle.cob_tree.specs.declared.fault.Kind.{Kind}
 use Rattle.cob_tree.specs.declared.fault.Open.{Open}
 use Rattle.cob_program.specs.Act.{Program}
 use Rattle.cob_graph.specs.declared.graph.Graph.{Graph}
@@ -12,11 +13,15 @@ use Rattle.claimed_rows.specs.declared.gap.Gap.{Gap}
 use Rattle.claimed_rows.specs.Claims.{claimed_row, place_at}
 use Rattle.graph_runs.specs.Sources.{IsSourceGraph}
 use Rattle.cell_storages.specs.Homes.{owns}
-use Rattle.cell_layer_laws.specs.Layer.{cell_flow}
+use Rattle.cell_layer_laws.specs.Layer.{cell_flow, cell_meaning}
 use Rattle.cert_check.specs.declared.ends.CheckEnd.TheVariants as check
-use Rattle.cert_check.specs.Claims.{edge_gaps, open_pairs, row_at}
+use Rattle.cert_check.specs.OpenPairs.{pairs_by}
+use Rattle.cert_check.specs.Claims.{edge_gaps, row_at, claims_clear, clears_with}
+use Rattle.cert_check.specs.Clearing.{TestsTell}
 use Rattle.cert_check.specs.Checking.{HasShape, Accepts, Refuses}
+use Rattle.cert_check.proofs.Accepting.{cells_tell}
 use Rattle.cert_check.proofs.Asking.{claimed_element}
+use Rattle.cert_check.proofs.BoundsKept.{no_other_leaks}
 use Rattle.cert_check.proofs.LayerLaws.{layer_laws}
 use Rattle.cert_check.proofs.Leaking.{leaks_first, no_leaks}
 
@@ -30,12 +35,20 @@ module _ (p : Program) (g : Graph) (c : Certificate) (lists : List (List ℤ)) (
   module _ (source : ∥ IsSourceGraph p g ∥₁) (shape : HasShape p g c) where
     pub refuses : (e : ℕ) (gap : Gap) → IsFirstLeak (cells_lattice (owns p) lists) (cell_flow p g) (row_at p g c) e →
         slice_get (edge_gaps p g c e) 0 ≡ Some gap → Refuses p g c (check.NotInductive 1 e gap)
-    refuses e gap leak first = (shape, refl, leaks_first p g c lists (layer_laws p g source) e gap leak first)
+    refuses e gap leak first = (shape, leaks_first p g c lists (layer_laws p g source) e gap leak first)
 
-    pub accepts : (pairs : List Open) → IsInductive (cells_lattice (owns p) lists) (cell_flow p g) (row_at p g c) →
-        pairs ≡ open_pairs p g c → Accepts p g c pairs
-    accepts pairs inductive are = record {
-      shape = shape;
-      inductive = no_leaks p g c lists (layer_laws p g source) inductive;
-      pairs_are = are;
-    }
+    -- a certificate without packs
+    module _ (plain : c.packs ≡ []) where
+      tell : TestsTell (cell_flow p g) (cell_meaning p g) claimed_rows (claims_clear p g c)
+      tell =
+          subst (λ (os : List Interval). TestsTell (cell_flow p g) (cell_meaning p g) (λ node. claimed_row os (place_at c node)) (claims_clear p g c)) (sym same)
+          (subst (λ (ps : List (List ℕ)). TestsTell (cell_flow p g) (cell_meaning p g) (row_at p g c) (clears_with p g c ps)) (sym plain) (cells_tell p g c))
+
+      pub accepts : (pairs : List Open) → IsInductive (cells_lattice (owns p) lists) (cell_flow p g) (row_at p g c) →
+          ((clears : ℕ → Kind → Bool) → TestsTell (cell_flow p g) (cell_meaning p g) claimed_rows clears → pairs ≡ pairs_by g clears p.statements) →
+          Accepts p g c pairs
+      accepts pairs inductive are = record {
+        shape = shape;
+        inductive = no_other_leaks p g c plain (no_leaks p g c lists (layer_laws p g source) inductive);
+        pairs_are = are (claims_clear p g c) tell;
+      }

@@ -6,7 +6,6 @@ use Rattle.std.proofs.lemmas.Bool.{and_parts, ltb-true}
 use Rattle.std.proofs.lemmas.Int.{ints}
 use Rattle.std.proofs.lemmas.List.{length-map}
 use Rattle.std.proofs.lemmas.List.Elements.{recursion_from_All}
-use Rattle.cob_tree.specs.declared.fault.Kind.{Kind}
 use Rattle.cob_program.specs.Act.{Program}
 use Rattle.cob_graph.specs.declared.graph.Graph.{Graph}
 use Rattle.cert_text.specs.declared.cert.Claim.{Claim}
@@ -23,7 +22,6 @@ use Rattle.cell_rows.specs.Rows.{element_of, row_from, cells_lattice, IsSaid}
 use Rattle.claimed_rows.specs.Claims.{claimed_row, place_at}
 use Rattle.claimed_rows.specs.Gaps.{IsSmall, AreSmall, AreSmallClaims, HasSmallClaims}
 use Rattle.cell_storages.specs.Homes.{owns}
-use Rattle.cell_layer_laws.specs.Layer.{clears_at}
 use Rattle.cert_check.specs.Claims.{claims_at, row_at}
 use Rattle.inductive_pass.specs.Leaks.{IsFirstLeak}
 use Rattle.cert_check.specs.Along.{arrives}
@@ -56,12 +54,11 @@ same_answer true b h = sym (h.0 refl)
 same_answer false true h = absurd (cc (h.1 refl))
 same_answer false false h = refl
 
-pub clears_is : (p : Program) (g : Graph) (c : Certificate) (ranges : List Interval) → ranges ≡ owns p → (node : ℕ) (fault : Kind)
-    (row : List ℤ) (answer : Bool) → row ≡ claimed_row ranges (place_at c node) →
-    IsTrue answer ↔ (clears_at p g node (element_of row) fault ≡ true) → answer ≡ clears_at p g node (claims_at p g c node) fault
-clears_is p g c ranges same node fault row answer e h =
-    same_answer answer (clears_at p g node (element_of row) fault) h
-    ∙ ap (λ x. clears_at p g node x fault) (ap element_of e ∙ claimed_means p g c ranges same node)
+-- an answer about the row that is shown, and what a test tells of the row that is meant
+pub clears_tell : (answer b : Bool) (Clears : List ℤ → Type 0) (row its : List ℤ) → row ≡ its → IsTrue answer ↔ Clears row →
+    Clears its ↔ (b ≡ true) → answer ≡ b
+clears_tell answer b Clears row its e h tell =
+    same_answer answer b (λ is. tell.0 (subst Clears e (h.0 is)), λ is. h.1 (subst Clears (sym e) (tell.1 is)))
 
 -- ---- small numbers
 

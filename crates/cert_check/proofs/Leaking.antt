@@ -1,6 +1,5 @@
 -- The first edge that doesn't keep the claimed rows has the first leak.
-use Rattle.std.proofs.Common.{◌≡◌, ℕ, zero, suc, ◌+◌, ◌≤◌, ◌<◌, List, [], ◌∷◌, ◌++◌, map, length, slice_get, Option, Some, None, ℤ, refl, sym, ap, ◌∙◌, subst, inl, inr, arith}
-use Rattle.std.specs.List.{flat_map, range_with_len}
+use Rattle.std.proofs.Common.{◌≡◌, ◌↔◌, ℕ, zero, suc, ◌≤◌, List, [], length, slice_get, Option, Some, None, ℤ, refl, sym, ap, ◌∙◌, subst}
 use Rattle.cob_program.specs.Act.{Program}
 use Rattle.cob_graph.specs.declared.graph.Graph.{Graph}
 use Rattle.cert_text.specs.View.{Certificate, Place}
@@ -16,39 +15,12 @@ use Rattle.claimed_rows.proofs.Telling.{gaps_tell}
 use Rattle.graph_runs.specs.Places.{edge_at}
 use Rattle.cell_storages.specs.Homes.{owns}
 use Rattle.cell_layer_laws.specs.Layer.{post_at, cell_flow}
-use Rattle.cert_check.specs.Claims.{leak, leaks, edge_leaks, edge_gaps, comes_along, leads_to, claims_at, row_at}
+use Rattle.cert_check.specs.Claims.{leak, leaks, cell_leaks, pack_leaks, edge_gaps, comes_along, leads_to, claims_at, row_at}
 use Rattle.inductive_pass.specs.Leaks.{Keeps, IsFirstLeak}
 use Rattle.cert_check.specs.Along.{led_to, arrives}
-use Rattle.cert_check.proofs.Lists.{equal_or_less}
-use Rattle.cert_check.proofs.Accepting.{claims_fit, claimed_back}
-use Rattle.cert_check.proofs.Covering.{LayerLaws}
-
-module _ {A : Type 0} (f : ℕ → List A) where
-  pub all_empty : (first count : ℕ) → ((k : ℕ) → first ≤ k → k < first + count → f k ≡ []) → flat_map f (range_with_len first count) ≡ []
-  all_empty first zero h = refl
-  all_empty first (suc count) h =
-      ap (λ xs. xs ++ flat_map f (range_with_len (first + 1) count)) (h first (omega arith) (omega arith))
-      ∙ all_empty (first + 1) count (λ k l m. h k (omega (arith, l)) (omega (arith, m)))
-
-  first_of : (xs ys : List A) (x : A) → slice_get xs 0 ≡ Some x → slice_get (xs ++ ys) 0 ≡ Some x
-  first_of [] ys x e = absurd (cc e)
-  first_of (y ∷ xs) ys x e = e
-
-  -- the first of those that there are
-  pub first_there : (first count n : ℕ) (x : A) → first ≤ n → n < first + count → ((k : ℕ) → first ≤ k → k < n → f k ≡ []) →
-      slice_get (f n) 0 ≡ Some x → slice_get (flat_map f (range_with_len first count)) 0 ≡ Some x
-  first_there first zero n x l m h e = absurd (omega (arith, l, m))
-  first_there first (suc count) n x l m h e =
-      elim (equal_or_less first n l) [
-        | inl same ↦ first_of (f first) _ x (subst (λ k. slice_get (f k) 0 ≡ Some x) (sym same) e)
-        | inr later ↦
-            ap (λ xs. slice_get (xs ++ flat_map f (range_with_len (first + 1) count)) 0) (h first (omega arith) (omega (arith, later)))
-            ∙ first_there (first + 1) count n x (omega (arith, later)) (omega (arith, m)) (λ k a b. h k (omega (arith, a)) b) e
-      ]
-
-first_leak : (e : ℕ) (gs : List Gap) (gap : Gap) → slice_get gs 0 ≡ Some gap → slice_get (map (leak e) gs) 0 ≡ Some (leak e gap)
-first_leak e [] gap h = absurd (cc h)
-first_leak e (x ∷ gs) gap h = ap (λ o. elim o [ None ↦ None | Some y ↦ Some (leak e y) ]) h
+use Rattle.cert_check.proofs.FirstLeaks.{none_leak, keeps_all, leaks_here, has_a_gap, first_behind}
+use Rattle.cert_check.proofs.Accepting.{claims_fit, claimed, claimed_back}
+use Rattle.cert_check.proofs.LayerLaws.{LayerLaws}
 
 module _ (p : Program) (g : Graph) (c : Certificate) (thresholds : List (List ℤ)) (laws : LayerLaws p g) where
   comes_fits : (e : ℕ) → ElementFits (owns p) (comes_along p g c e)
@@ -90,30 +62,29 @@ module _ (p : Program) (g : Graph) (c : Certificate) (thresholds : List (List �
       (subst (λ x. ElementBelow x (claims_at p g c (leads_to p g c e))) (arrived e)
       (subst (ElementBelow (element_of (arrives (cell_flow p g) (row_at p g c) e))) (there_is e) (below_of e keeps)))
 
-  pub no_gaps_kept : (e : ℕ) → edge_gaps p g c e ≡ [] → KeepsAt e
+  no_gaps_kept : (e : ℕ) → edge_gaps p g c e ≡ [] → KeepsAt e
   no_gaps_kept e none =
       of_below e
       (subst (ElementBelow (element_of (arrives (cell_flow p g) (row_at p g c) e))) (sym (there_is e))
       (subst (λ x. ElementBelow x (claims_at p g c (leads_to p g c e))) (sym (arrived e))
       ((gaps_tell (owns p) (comes_along p g c e) (place_at c (leads_to p g c e)) (comes_fits e)).0 none)))
 
-  no_leaks_of : (e : ℕ) → KeepsAt e → edge_leaks p g c e ≡ []
-  no_leaks_of e keeps = ap (map (leak e)) (kept_no_gaps e keeps)
+  gaps_tell_all : (e : ℕ) → e ≤ length g.edges → (edge_gaps p g c e ≡ []) ↔ KeepsAt e
+  gaps_tell_all e last = (no_gaps_kept e, kept_no_gaps e)
 
-  all_kept : IsInductive (cells_lattice (owns p) thresholds) (cell_flow p g) (row_at p g c) → (e : ℕ) → e ≤ length g.edges → KeepsAt e
-  all_kept is zero last = is.entry
-  all_kept is (suc e) last = is.edges (suc e) (record { first = omega arith; last = last })
+  pub no_leaks : IsInductive (cells_lattice (owns p) thresholds) (cell_flow p g) (row_at p g c) → cell_leaks p g c ≡ []
+  no_leaks is = none_leak p g c 1 (edge_gaps p g c) (cells_lattice (owns p) thresholds) (cell_flow p g) (row_at p g c) refl gaps_tell_all is
 
-  pub no_leaks : IsInductive (cells_lattice (owns p) thresholds) (cell_flow p g) (row_at p g c) → leaks p g c ≡ []
-  no_leaks is =
-      all_empty (edge_leaks p g c) 0 (suc (length g.edges)) (λ k l m. no_leaks_of k (all_kept is k (omega (arith, m))))
+  pub kept_where_no_leaks : cell_leaks p g c ≡ [] → IsInductive (cells_lattice (owns p) thresholds) (cell_flow p g) (row_at p g c)
+  kept_where_no_leaks none =
+      keeps_all p g c 1 (edge_gaps p g c) (cells_lattice (owns p) thresholds) (cell_flow p g) (row_at p g c) refl gaps_tell_all
+      (λ node is. claimed p g c thresholds node) none
 
   pub leaks_first : (e : ℕ) (gap : Gap) → IsFirstLeak (cells_lattice (owns p) thresholds) (cell_flow p g) (row_at p g c) e →
-      slice_get (edge_gaps p g c e) 0 ≡ Some gap → slice_get (leaks p g c) 0 ≡ Some (leak e gap)
-  leaks_first e gap is f =
-      let last = is.within in
-      first_there (edge_leaks p g c) 0 (suc (length g.edges)) e (leak e gap) (omega arith) (omega (arith, last))
-      (λ k l m. no_leaks_of k (is.before k m)) (first_leak e (edge_gaps p g c e) gap f)
+      slice_get (edge_gaps p g c e) 0 ≡ Some gap → slice_get (leaks p g c) 0 ≡ Some (leak 1 e gap)
+  leaks_first e gap is first =
+      first_behind (cell_leaks p g c) (pack_leaks p g c) (leak 1 e gap)
+      (leaks_here p g c 1 (edge_gaps p g c) (cells_lattice (owns p) thresholds) (cell_flow p g) (row_at p g c) refl gaps_tell_all e gap is first)
 
   -- the first gap at the node that an edge leads to
   module _ (e : ℕ) (ranges : List Interval) (row : List ℤ) (place : Place) (same : ranges ≡ owns p)
@@ -126,11 +97,8 @@ module _ (p : Program) (g : Graph) (c : Certificate) (thresholds : List (List �
         ∙ ap (λ x. slice_get (gaps (length (owns p)) x place) 0) (ap element_of row_is ∙ arrived e)
         ∙ ap (λ y. slice_get (gaps (length (owns p)) (comes_along p g c e) y) 0) (place_is ∙ ap (place_at c) (leads_is e)))
 
-    none_first : (gs : List Gap) → slice_get gs 0 ≡ None → gs ≡ []
-    none_first [] h = refl
-    none_first (x ∷ gs) h = absurd (cc h)
-
     pub there_is_a_gap : (first : Option Gap) → first ≡ slice_get (gaps (length ranges) (element_of row) place) 0 → first ≡ None →
         IsFirstLeak (cells_lattice (owns p) thresholds) (cell_flow p g) (row_at p g c) e → ⊥
-    there_is_a_gap first h none leak =
-        leak.leaks (no_gaps_kept e (none_first (edge_gaps p g c e) (first_gap_is first h ∙ none)))
+    there_is_a_gap first h none leak_ =
+        has_a_gap p g c 1 (edge_gaps p g c) (cells_lattice (owns p) thresholds) (cell_flow p g) (row_at p g c) refl gaps_tell_all e leak_
+        (first_gap_is first h ∙ none)

@@ -1,4 +1,9 @@
 pub mod Lists
+pub mod FirstLeaks
+pub mod PackNumbers
+pub mod RowsBehind
+pub mod BoundsKept
+pub mod Beside
 pub mod Accepting
 pub mod Covering
 pub mod LayerLaws

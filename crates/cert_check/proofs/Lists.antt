@@ -4,7 +4,7 @@ use Rattle.std.specs.List.{Contains, flat_map, list_all, range_with_len}
 use Rattle.std.proofs.lemmas.Bool.{and_parts}
 use Rattle.std.proofs.lemmas.List.Elements.{Contains-append_left, Contains-append_right}
 
-both_empty : {A : Type 0} (as_ bs : List A) → as_ ++ bs ≡ [] → (as_ ≡ []) × (bs ≡ [])
+pub both_empty : {A : Type 0} (as_ bs : List A) → as_ ++ bs ≡ [] → (as_ ≡ []) × (bs ≡ [])
 both_empty [] bs e = (refl, e)
 both_empty (a ∷ as_) bs e = absurd (cc e)
 

@@ -7,13 +7,11 @@ use Rattle.std.proofs.lemmas.List.{length-set, get_or-set_same, get_or-set_other
 use Rattle.cob_tree.specs.declared.fault.Kind.{Kind}
 use Rattle.cob_tree.specs.declared.fault.Kind.TheVariants as kind
 use Rattle.cob_tree.specs.declared.fault.Open.{Open}
-use Rattle.cob_program.specs.Act.{Program}
 use Rattle.cob_graph.specs.declared.graph.Graph.{Graph}
-use Rattle.cert_text.specs.View.{Certificate}
-use Rattle.cell_layer_laws.specs.Layer.{statement_at, clears_at}
+use Rattle.cell_layer_laws.specs.Layer.{statement_at}
 use Rattle.cert_check.specs.declared.cleared.Cleared.{Cleared}
-use Rattle.cert_check.specs.Claims.{claims_at, node_clears, opens_of, open_pairs}
-use Rattle.cert_check.specs.Clearing.{by_kind, all_cleared, both, left_open, IsNoted, cleared_at, cleared_to, AreClearedTo}
+use Rattle.cert_check.specs.OpenPairs.{node_clears_by, opens_by}
+use Rattle.cert_check.specs.Clearing.{by_kind, all_cleared, both, left_open, IsNoted, cleared_to, AreClearedTo}
 
 -- ---- one note
 
@@ -101,65 +99,59 @@ with_node false x test =
     same_fields x.size x.truncation x.zero x.class _ _ _ _ (sym (and_true x.size)) (sym (and_true x.truncation)) (sym (and_true x.zero))
     (sym (and_true x.class))
 
-module _ (p : Program) (g : Graph) (c : Certificate) where
+module _ (g : Graph) (clears : ℕ → Kind → Bool) where
   one_more : (n s : ℕ) →
-      (if statement_at g (suc n) == s then both (cleared_to p g c n s) (cleared_at p g c (suc n)) else cleared_to p g c n s)
-      ≡ cleared_to p g c (suc n) s
+      (if statement_at g (suc n) == s then both (cleared_to g clears n s) (by_kind (clears (suc n))) else cleared_to g clears n s)
+      ≡ cleared_to g clears (suc n) s
   one_more n s =
-      with_node (statement_at g (suc n) == s) (cleared_to p g c n s) (clears_at p g (suc n) (claims_at p g c (suc n)))
+      with_node (statement_at g (suc n) == s) (cleared_to g clears n s) (clears (suc n))
       ∙ same_fields _ _ _ _ _ _ _ _ (more kind.Size) (more kind.Truncation) (more kind.Zero) (more kind.Class)
     where
       more : (fault : Kind) →
-          (list_all (node_clears p g c s fault) (range_with_len 1 n) && node_clears p g c s fault (suc n))
-          ≡ list_all (node_clears p g c s fault) (range_with_len 1 (suc n))
-      more fault = sym (all_more (node_clears p g c s fault) 1 n (suc n) (omega arith))
+          (list_all (node_clears_by g clears s fault) (range_with_len 1 n) && node_clears_by g clears s fault (suc n))
+          ≡ list_all (node_clears_by g clears s fault) (range_with_len 1 (suc n))
+      more fault = sym (all_more (node_clears_by g clears s fault) 1 n (suc n) (omega arith))
 
-  pub noted_more : (n statement : ℕ) (old new : List Cleared) → AreClearedTo p g c n old → statement ≡ statement_at g (suc n) →
-      IsNoted statement (cleared_at p g c (suc n)) old new → AreClearedTo p g c (suc n) new
+  pub noted_more : (n statement : ℕ) (old new : List Cleared) → AreClearedTo g clears n old → statement ≡ statement_at g (suc n) →
+      IsNoted statement (by_kind (clears (suc n))) old new → AreClearedTo g clears (suc n) new
   noted_more n statement old new are e noted = record {
-    count = noted.count ∙ are.count;
     each = λ k within.
         let within_old : k < length old = subst (λ m. k < m) noted.count within in
         noted.each k within_old
-        ∙ ap (λ x. if statement == suc k then both x (cleared_at p g c (suc n)) else x) (are.each k within_old)
-        ∙ ap (λ m. if m == suc k then both (cleared_to p g c n (suc k)) (cleared_at p g c (suc n)) else cleared_to p g c n (suc k)) e
+        ∙ ap (λ x. if statement == suc k then both x (by_kind (clears (suc n))) else x) (are.each k within_old)
+        ∙ ap (λ m. if m == suc k then both (cleared_to g clears n (suc k)) (by_kind (clears (suc n))) else cleared_to g clears n (suc k)) e
         ∙ one_more n (suc k);
   }
 
-  pub none_noted : (count : ℕ) → count ≡ p.statements → AreClearedTo p g c 0 (replicate count all_cleared)
-  none_noted count e = record {
-    count = length-replicate count all_cleared ∙ e;
+  pub none_noted : (count : ℕ) → AreClearedTo g clears 0 (replicate count all_cleared)
+  none_noted count = record {
     each = λ k within. get_or-replicate count k all_cleared all_cleared (subst (λ m. k < m) (length-replicate count all_cleared) within);
   }
 
   -- the pairs of one more statement
-  pub pairs_more : (k : ℕ) (pairs : List Open) (noted : List Cleared) (x : Cleared) → AreClearedTo p g c (length g.nodes) noted →
-      k < length noted → x ≡ get_or noted k all_cleared → pairs ≡ flat_map (opens_of p g c) (range_with_len 1 k) →
-      pairs ++ left_open x (suc k) ≡ flat_map (opens_of p g c) (range_with_len 1 (suc k))
+  pub pairs_more : (k : ℕ) (pairs : List Open) (noted : List Cleared) (x : Cleared) → AreClearedTo g clears (length g.nodes) noted →
+      k < length noted → x ≡ get_or noted k all_cleared → pairs ≡ flat_map (opens_by g clears) (range_with_len 1 k) →
+      pairs ++ left_open x (suc k) ≡ flat_map (opens_by g clears) (range_with_len 1 (suc k))
   pairs_more k pairs noted x are within e f =
       ap (λ ps. ps ++ left_open x (suc k)) f
-      ∙ ap (λ y. flat_map (opens_of p g c) (range_with_len 1 k) ++ left_open y (suc k)) (e ∙ are.each k within)
-      ∙ sym (flat_more (opens_of p g c) 1 k (suc k) (omega arith))
-
-  pub all_pairs : (k : ℕ) (pairs : List Open) (noted : List Cleared) → AreClearedTo p g c (length g.nodes) noted → k ≡ length noted →
-      pairs ≡ flat_map (opens_of p g c) (range_with_len 1 k) → pairs ≡ open_pairs p g c
-  all_pairs k pairs noted are e f = f ∙ ap (λ n. flat_map (opens_of p g c) (range_with_len 1 n)) (e ∙ are.count)
+      ∙ ap (λ y. flat_map (opens_by g clears) (range_with_len 1 k) ++ left_open y (suc k)) (e ∙ are.each k within)
+      ∙ sym (flat_more (opens_by g clears) 1 k (suc k) (omega arith))
 
   -- the same with k + 1
-  pub noted_next : (n m statement : ℕ) (cleared : Cleared) (old new : List Cleared) → AreClearedTo p g c n old → m ≡ suc n →
-      statement ≡ statement_at g m → cleared ≡ cleared_at p g c m → IsNoted statement cleared old new → AreClearedTo p g c m new
+  pub noted_next : (n m statement : ℕ) (cleared : Cleared) (old new : List Cleared) → AreClearedTo g clears n old → m ≡ suc n →
+      statement ≡ statement_at g m → cleared ≡ by_kind (clears m) → IsNoted statement cleared old new → AreClearedTo g clears m new
   noted_next n m statement cleared old new are f e is noted =
-      subst (λ k. AreClearedTo p g c k new) (sym f)
+      subst (λ k. AreClearedTo g clears k new) (sym f)
       (noted_more n statement old new are (e ∙ ap (statement_at g) f)
-      (subst (λ x. IsNoted statement x old new) (is ∙ ap (cleared_at p g c) f) noted))
+      (subst (λ x. IsNoted statement x old new) (is ∙ ap (λ k. by_kind (clears k)) f) noted))
 
-  pub pairs_next : (k j : ℕ) (old new : List Open) (noted : List Cleared) (x d : Cleared) → AreClearedTo p g c (length g.nodes) noted →
-      j ≡ suc k → k < length noted → x ≡ get_or noted k d → old ≡ flat_map (opens_of p g c) (range_with_len 1 k) →
-      new ≡ old ++ left_open x j → new ≡ flat_map (opens_of p g c) (range_with_len 1 j)
+  pub pairs_next : (k j : ℕ) (old new : List Open) (noted : List Cleared) (x d : Cleared) → AreClearedTo g clears (length g.nodes) noted →
+      j ≡ suc k → k < length noted → x ≡ get_or noted k d → old ≡ flat_map (opens_by g clears) (range_with_len 1 k) →
+      new ≡ old ++ left_open x j → new ≡ flat_map (opens_by g clears) (range_with_len 1 j)
   pairs_next k j old new noted x d are f within e before after =
       after ∙ ap (λ m. old ++ left_open x m) f
       ∙ pairs_more k old noted x are within (e ∙ get_or_default noted k d all_cleared within) before
-      ∙ ap (λ m. flat_map (opens_of p g c) (range_with_len 1 m)) (sym f)
+      ∙ ap (λ m. flat_map (opens_by g clears) (range_with_len 1 m)) (sym f)
 
 -- a slice that is written back into its vector
 pub written_back : {A : Type 0} (xs items : List A) (n : ℕ) → n ≡ length xs → take n (xs ++ drop (length xs) items) ≡ xs

@@ -9,7 +9,8 @@ use Rattle.cob_program.specs.Act.{Program}
 use Rattle.cob_program.specs.Statements.{program_statements}
 use Rattle.cob_graph.specs.declared.graph.Graph.{Graph}
 use Rattle.cert_text.specs.View.{Certificate}
-use Rattle.cert_check.specs.Claims.{is_cleared, all_kinds, open_at, open_of, opens_of, open_pairs}
+use Rattle.cert_check.specs.OpenPairs.{all_kinds, open_at}
+use Rattle.cert_check.specs.Claims.{is_cleared, open_of, opens_of, open_pairs}
 
 abbrev IsWithin : ℕ → Open → Type 0
 IsWithin most pair = (1 ≤ pair.statement) × (pair.statement ≤ most)

@@ -6,6 +6,7 @@ use Rattle.std.specs.declared.alloc.Global.{Global}
 use Rattle.std.proofs.Props.{props}
 use Rattle.std.proofs.Math.Logic.{∥∥₁_elim}
 use Rattle.std.proofs.lemmas.Bool.{leb-true}
+use Rattle.std.proofs.lemmas.List.{length-map}
 use Rattle.std.proofs.lemmas.List.Elements.{All-from_recursion, recursion_from_All}
 use Rattle.cob_tree.specs.declared.form.Form.{Form}
 use Rattle.cob_tree.specs.declared.form.Form.TheVariants as form
@@ -100,6 +101,9 @@ module _ (p : Program) (g : Graph) (source : ∥ IsSourceGraph p g ∥₁) where
   graph_ranges =
       ∥∥₁_elim source (hlevel props) (λ (s : IsSourceGraph p g).
       ap (map own_range) s.graph.cells ∙ sym (homes_have_own_ranges p s.whole))
+
+  pub range_count : length (owns p) ≡ length g.cells
+  range_count = sym (ap length graph_ranges) ∙ length-map g.cells own_range
 
   pub cell_count : length g.cells ≡ length (cells_of p)
   cell_count = ∥∥₁_elim source (hlevel props) (λ (s : IsSourceGraph p g). ap length s.graph.cells)

@@ -12,11 +12,13 @@ use Rattle.cob_graph.specs.declared.graph.Graph.{Graph}
 use Rattle.cob_graph.specs.Graphs.{cells_of}
 use Rattle.graph_runs.specs.Sources.{IsSourceGraph}
 use Rattle.cert_text.specs.View.{Certificate}
+use Rattle.cert_text.specs.Allowed.{IsAllowed}
 use Rattle.cert_check.specs.declared.ends.CheckEnd.{CheckEnd}
 use Rattle.cert_check.specs.declared.ends.CheckEnd.TheVariants as check
 use Rattle.cert_check.specs.declared.ends.Shape.{Shape}
 use Rattle.cert_check.specs.declared.ends.Shape.TheVariants as shape
-use Rattle.cert_check.specs.Claims.{leak, leaks, open_at, open_pairs}
+use Rattle.cert_check.specs.Claims.{leak, leaks, open_pairs}
+use Rattle.cert_check.specs.OpenPairs.{open_at}
 
 -- the certificate is of as many cells as the program, and of as many nodes as its graph
 pub record HasShape (p : Program) (g : Graph) (c : Certificate) : Type 0 where
@@ -40,7 +42,7 @@ pub record Accepts (p : Program) (g : Graph) (c : Certificate) (pairs : List Ope
 abbrev pub Refuses : Program → Graph → Certificate → CheckEnd → Type 0
 Refuses p g c (check.Shape what found wanted) = Misfits p g c what found wanted
 Refuses p g c (check.NotInductive layer edge gap) =
-    HasShape p g c × (layer ≡ 1) × (slice_get (leaks p g c) 0 ≡ Some (leak edge gap))
+    HasShape p g c × (slice_get (leaks p g c) 0 ≡ Some (leak layer edge gap))
 Refuses p g c check.Memory = Unit {0}
 
 abbrev pub Checks : Program → Graph → Certificate → Result (Vec Open Global) CheckEnd → Type 0
@@ -53,8 +55,8 @@ CoversRuns p pairs =
     (contents : Contents) (first : List ℕ) (choices : List Choice) (n : ℕ) (kind : Kind) (statement : ℕ) →
     (run p contents first choices n).outcome ≡ Fault kind statement → Contains pairs (open_at statement kind)
 
--- The open pairs of an inductive certificate cover the runs of a source's program.
+-- The open pairs of an inductive certificate that the format allows cover the runs of a source's program.
 abbrev pub AcceptedClaimsCoverRuns : Type 0
 AcceptedClaimsCoverRuns =
-    (p : Program) (g : Graph) (c : Certificate) (pairs : List Open) → IsSourceGraph p g → Accepts p g c pairs
+    (p : Program) (g : Graph) (c : Certificate) (pairs : List Open) → IsSourceGraph p g → IsAllowed c → Accepts p g c pairs
     → CoversRuns p pairs

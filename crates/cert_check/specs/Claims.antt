@@ -1,8 +1,7 @@
 -- What a certificate claims of a program's graph: where it leaks, and which faults it leaves open.
-use Rattle.std.specs.Prelude.{◌==◌, ◌||◌, not, ℕ, zero, suc, List, [], ◌∷◌, map, length, Bool, Some, ℤ, if◌then◌else◌}
-use Rattle.std.specs.List.{flat_map, list_all, range_with_len}
+use Rattle.std.specs.Prelude.{ℕ, zero, suc, List, [], ◌∷◌, ◌++◌, map, length, Bool, Some, ℤ}
+use Rattle.std.specs.List.{flat_map, range_with_len}
 use Rattle.cob_tree.specs.declared.fault.Kind.{Kind}
-use Rattle.cob_tree.specs.declared.fault.Kind.TheVariants as kind
 use Rattle.cob_tree.specs.declared.fault.Open.{Open}
 use Rattle.cob_program.specs.Act.{Program}
 use Rattle.cob_graph.specs.declared.graph.Graph.{Graph}
@@ -11,23 +10,23 @@ use Rattle.cell_rows.specs.Elements.{Element}
 use Rattle.claimed_rows.specs.declared.gap.Gap.{Gap}
 use Rattle.claimed_rows.specs.Claims.{claimed_element, claimed_row, place_at}
 use Rattle.claimed_rows.specs.Gaps.{gaps}
+use Rattle.claimed_matrices.specs.Claims as matrices
+use Rattle.claimed_matrices.specs.Gaps as matrices_gaps
 use Rattle.graph_runs.specs.Places.{edge_at}
-use Rattle.cell_storages.specs.Homes.{owns}
+use Rattle.cell_storages.specs.Homes.{homes_of, owns}
 use Rattle.cell_layer_laws.specs.Entry.{entry_cells}
-use Rattle.cell_layer_laws.specs.Layer.{post_at, statement_at, clears_at}
+use Rattle.cell_layer_laws.specs.Layer.{post_at, clears_at}
+use Rattle.pack_rows.specs.Rows.{row_of}
+use Rattle.diff_steps.specs.Packs.{Pack}
+use Rattle.diff_steps.specs.Edges.{entry_packs}
+use Rattle.diff_layer_laws.specs.Layer.{packs_post, clears_at2}
+use Rattle.diff_layer_laws.specs.Packs.{pack_in}
 use Rattle.cert_check.specs.declared.ends.Leak.{Leak}
+use Rattle.cert_check.specs.OpenPairs.{node_clears_by, is_cleared_by, open_by, opens_by, pairs_by}
 
-abbrev pub leak : ℕ → Gap → Leak
-leak edge gap = record { edge = edge; gap = gap }
-
-abbrev pub all_kinds : List Kind
-all_kinds = kind.Size ∷ kind.Truncation ∷ kind.Zero ∷ kind.Class ∷ []
-
-abbrev pub open_at : ℕ → Kind → Open
-open_at statement fault = record { statement = statement; kind = fault }
-
-abbrev pub if_open : Bool → ℕ → Kind → List Open
-if_open is_cleared statement fault = if is_cleared then [] else open_at statement fault ∷ []
+-- of cells in layer 1, of packs in layer 2
+abbrev pub leak : ℕ → ℕ → Gap → Leak
+leak layer edge gap = record { layer = layer; edge = edge; gap = gap }
 
 module _ (p : Program) (g : Graph) (c : Certificate) where
   -- ---- what nodes claim
@@ -39,44 +38,87 @@ module _ (p : Program) (g : Graph) (c : Certificate) where
   abbrev pub row_at : ℕ → List ℤ
   row_at node = claimed_row (owns p) (place_at c node)
 
+  -- the packs, by what their cells are of
+  abbrev pub packs_at : List Pack
+  packs_at = map (pack_in (homes_of p)) c.packs
+
+  abbrev pub pack_sizes : List ℕ
+  pack_sizes = matrices.sizes_of c.packs
+
+  -- the matrix of each pack
+  abbrev pub bounds_at : ℕ → List (List ℤ)
+  bounds_at node = matrices.claimed_matrices pack_sizes (place_at c node)
+
+  abbrev pub bounds_row : ℕ → List ℤ
+  bounds_row node = matrices.claimed_row pack_sizes (place_at c node)
+
   -- ---- leaks
 
-  -- what comes along an edge; edge 0 is the entry, which leads to node 1
-  abbrev pub comes_along : ℕ → Element
-  comes_along zero = Some (entry_cells p)
-  comes_along (suc e) = post_at p g (suc e) (claims_at (edge_at g (suc e)).from)
-
+  -- where an edge leads; edge 0 is the entry, which leads to node 1
   abbrev pub leads_to : ℕ → ℕ
   leads_to zero = 1
   leads_to (suc e) = (edge_at g (suc e)).to
+
+  -- what comes along it
+  abbrev pub comes_along : ℕ → Element
+  comes_along zero = Some (entry_cells p)
+  comes_along (suc e) = post_at p g (suc e) (claims_at (edge_at g (suc e)).from)
 
   -- its gaps in the claims of the node there, which are compared as they are written
   abbrev pub edge_gaps : ℕ → List Gap
   edge_gaps e = gaps (length (owns p)) (comes_along e) (place_at c (leads_to e))
 
-  abbrev pub edge_leaks : ℕ → List Leak
-  edge_leaks e = map (leak e) (edge_gaps e)
+  -- the matrices that come along it, beside what is claimed of the cells at its source
+  abbrev pub packs_along : ℕ → List (List ℤ)
+  packs_along zero = entry_packs p packs_at (entry_cells p)
+  packs_along (suc e) =
+      packs_post p g packs_at (edge_at g (suc e)) (claims_at (edge_at g (suc e)).from) (bounds_at (edge_at g (suc e)).from)
 
-  -- All places at which the certificate isn't inductive, edge by edge.
+  abbrev pub pack_gaps : ℕ → List Gap
+  pack_gaps e = matrices_gaps.gaps pack_sizes (row_of (packs_along e)) (bounds_row (leads_to e))
+
+  abbrev pub leaks_of : ℕ → (ℕ → List Gap) → List Leak
+  leaks_of layer gaps_of = flat_map (λ e. map (leak layer e) (gaps_of e)) (range_with_len 0 (suc (length g.edges)))
+
+  -- the places at which what is claimed of cells isn't inductive, edge by edge
+  abbrev pub cell_leaks : List Leak
+  cell_leaks = leaks_of 1 edge_gaps
+
+  -- and those at which what is claimed of packs isn't
+  abbrev pub pack_leaks : List Leak
+  pack_leaks = leaks_of 2 pack_gaps
+
+  -- All places at which the certificate isn't inductive.
   abbrev pub leaks : List Leak
-  leaks = flat_map edge_leaks (range_with_len 0 (suc (length g.edges)))
+  leaks = cell_leaks ++ pack_leaks
 
   -- ---- what is left open
 
+  -- what the claims of a node show of cells alone
+  abbrev pub cells_clear : ℕ → Kind → Bool
+  cells_clear node fault = clears_at p g node (claims_at node) fault
+
+  -- and with those of packs; without packs there is no second layer
+  abbrev pub clears_with : List (List ℕ) → ℕ → Kind → Bool
+  clears_with [] node fault = cells_clear node fault
+  clears_with (pack ∷ packs) node fault = clears_at2 p g packs_at node (claims_at node) (bounds_at node) fault
+
+  abbrev pub claims_clear : ℕ → Kind → Bool
+  claims_clear node fault = clears_with c.packs node fault
+
   abbrev pub node_clears : ℕ → Kind → ℕ → Bool
-  node_clears statement fault node =
-      not (statement_at g node == statement) || clears_at p g node (claims_at node) fault
+  node_clears statement fault node = node_clears_by g claims_clear statement fault node
 
   -- each node of the statement clears the fault
   abbrev pub is_cleared : ℕ → Kind → Bool
-  is_cleared statement fault = list_all (node_clears statement fault) (range_with_len 1 (length g.nodes))
+  is_cleared statement fault = is_cleared_by g claims_clear statement fault
 
   abbrev pub open_of : ℕ → Kind → List Open
-  open_of statement fault = if_open (is_cleared statement fault) statement fault
+  open_of statement fault = open_by g claims_clear statement fault
 
   abbrev pub opens_of : ℕ → List Open
-  opens_of statement = flat_map (open_of statement) all_kinds
+  opens_of statement = opens_by g claims_clear statement
 
   -- the faults that some node of the statement doesn't clear, by statement, then by kind
   abbrev pub open_pairs : List Open
-  open_pairs = flat_map opens_of (range_with_len 1 p.statements)
+  open_pairs = pairs_by g claims_clear p.statements

@@ -1,15 +1,14 @@
 -- Which kinds of fault are cleared, by node and by statement.
-use Rattle.std.specs.Prelude.{◌≡◌, ℕ, suc, ◌<◌, ◌&&◌, ◌==◌, List, Bool, true, get_or, length, if◌then◌else◌}
+use Rattle.std.specs.Prelude.{◌≡◌, ◌↔◌, ℕ, suc, ◌<◌, ◌&&◌, ◌==◌, List, Bool, true, get_or, length, if◌then◌else◌, ℤ}
 use Rattle.std.specs.List.{flat_map, list_all, range_with_len}
 use Rattle.cob_tree.specs.declared.fault.Kind.{Kind}
 use Rattle.cob_tree.specs.declared.fault.Kind.TheVariants as kind
 use Rattle.cob_tree.specs.declared.fault.Open.{Open}
-use Rattle.cob_program.specs.Act.{Program}
 use Rattle.cob_graph.specs.declared.graph.Graph.{Graph}
-use Rattle.cert_text.specs.View.{Certificate}
-use Rattle.cell_layer_laws.specs.Layer.{clears_at}
+use Rattle.dom_laws.specs.Flow.{Flow, IsNode}
+use Rattle.dom_laws.specs.Meaning.{Meaning}
 use Rattle.cert_check.specs.declared.cleared.Cleared.{Cleared}
-use Rattle.cert_check.specs.Claims.{all_kinds, claims_at, node_clears, if_open}
+use Rattle.cert_check.specs.OpenPairs.{all_kinds, if_open, node_clears_by}
 
 -- by kind
 abbrev pub by_kind : (Kind → Bool) → Cleared
@@ -37,16 +36,16 @@ pub record IsNoted (statement : ℕ) (cleared : Cleared) (old new : List Cleared
   pub each : (k : ℕ) → k < length old →
       get_or new k all_cleared ≡ (if statement == suc k then both (get_or old k all_cleared) cleared else get_or old k all_cleared)
 
-module _ (p : Program) (g : Graph) (c : Certificate) where
-  -- what a node clears
-  abbrev pub cleared_at : ℕ → Cleared
-  cleared_at node = by_kind (clears_at p g node (claims_at p g c node))
+-- The rows of a layer's nodes clear what these tests tell.
+abbrev pub TestsTell : Flow → Meaning → (ℕ → List ℤ) → (ℕ → Kind → Bool) → Type 0
+TestsTell f m rows clears =
+    (node : ℕ) (fault : Kind) → IsNode f node → m.Clears node (rows node) fault ↔ (clears node fault ≡ true)
 
+module _ (g : Graph) (clears : ℕ → Kind → Bool) where
   -- what those of the first nodes clear that are of the statement
   abbrev pub cleared_to : ℕ → ℕ → Cleared
-  cleared_to nodes statement = by_kind (λ fault. list_all (node_clears p g c statement fault) (range_with_len 1 nodes))
+  cleared_to nodes statement = by_kind (λ fault. list_all (node_clears_by g clears statement fault) (range_with_len 1 nodes))
 
   -- this is noted at each statement
   pub record AreClearedTo (nodes : ℕ) (noted : List Cleared) : Type 0 where
-    pub count : length noted ≡ p.statements
     pub each : (k : ℕ) → k < length noted → get_or noted k all_cleared ≡ cleared_to nodes (suc k)

@@ -1,6 +1,8 @@
 -- What the parts of a check are given.
-use Rattle.std.specs.Prelude.{◌≡◌, ◌≤◌, ℕ, List, length, ℤ}
-use Rattle.std.specs.List.{All}
+use Rattle.std.specs.Prelude.{◌≡◌, ◌≤◌, ℕ, List, [], length, ℤ}
+use Rattle.std.specs.List.{All, AllByRecursion}
+use Rattle.std.specs.Prelude.{Vec}
+use Rattle.std.specs.declared.alloc.Global.{Global}
 use Rattle.cob_program.specs.Act.{Program}
 use Rattle.cob_graph.specs.declared.graph.Graph.{Graph}
 use Rattle.cob_graph.specs.Graphs.{cells_of}
@@ -14,7 +16,8 @@ use Rattle.claimed_rows.specs.Gaps.{IsSmall}
 use Rattle.graph_runs.specs.Sources.{IsSourceGraph}
 use Rattle.cell_storages.specs.Homes.{owns}
 use Rattle.cell_layer_laws.specs.Layer.{cell_flow}
-use Rattle.cert_check.specs.Claims.{row_at}
+use Rattle.diff_layer_laws.specs.Layer.{diff_lattice, diff_flow}
+use Rattle.cert_check.specs.Claims.{row_at, packs_at, bounds_row}
 
 -- a source's graph, a certificate of its shape, and the own ranges of its cells
 pub record IsGiven (p : Program) (g : Graph) (c : Certificate) (ranges : List Interval) : Type 0 where
@@ -28,10 +31,23 @@ pub record IsGiven (p : Program) (g : Graph) (c : Certificate) (ranges : List In
   pub few_cells : length ranges ≤ 512
 
 module _ (p : Program) (g : Graph) (c : Certificate) (thresholds : List (List ℤ)) where
-  -- the edges keep what is claimed
+  -- the edges keep what is claimed of cells
   abbrev pub ClaimsAreKept : Type 0
   ClaimsAreKept = IsInductive (cells_lattice (owns p) thresholds) (cell_flow p g) (row_at p g c)
 
   -- the first edge that doesn't
   abbrev pub LeaksFirst : ℕ → Type 0
   LeaksFirst e = IsFirstLeak (cells_lattice (owns p) thresholds) (cell_flow p g) (row_at p g c) e
+
+  -- they keep what is claimed of packs, beside what is claimed of cells
+  abbrev pub BoundsAreKept : Type 0
+  BoundsAreKept = IsInductive (diff_lattice (packs_at p g c) thresholds) (diff_flow p g (packs_at p g c) (row_at p g c)) (bounds_row p g c)
+
+  abbrev pub BoundsLeakFirst : ℕ → Type 0
+  BoundsLeakFirst e =
+      IsFirstLeak (diff_lattice (packs_at p g c) thresholds) (diff_flow p g (packs_at p g c) (row_at p g c)) (bounds_row p g c) e
+
+-- no thresholds for each of so many packs
+pub record AreEmptyLists (packs : ℕ) (lists : List (Vec ℤ Global)) : Type 0 where
+  pub many : length lists ≡ packs
+  pub empty : AllByRecursion (λ list. list.items ≡ []) lists

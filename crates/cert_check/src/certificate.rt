@@ -1,4 +1,4 @@
-//! The check of a certificate without packs.
+//! The check of a certificate.
 ghost use Rattle.std.specs.Prelude.{◌≡◌, ◌≤◌, ◌<◌, ◌^◌, [], map, length, slice_get, Some, IfOk, MatchResult};
 ghost use Rattle.cob_program.specs.ActView.{plain_program};
 ghost use Rattle.cob_graph_build.specs.Limits.{IsWithinLimits};
@@ -20,6 +20,7 @@ ghost use Rattle.cert_check.specs.Ranges.{ends_of};
 use crate::edges::{arrive, led_to};
 use crate::ends::{CheckEnd, Shape};
 use crate::nodes::open_pairs;
+use crate::packs::check_packs;
 use crate::ranges::{all_ends, own_ranges};
 use crate::rows::ClaimedRows;
 use cell_layer::CellLayer;
@@ -92,15 +93,30 @@ fn leak_at(layer: &CellLayer, rows: &ClaimedRows, edge: u32, out: &mut [i128]) -
     }
 }
 
-// What an inductive certificate leaves open.
+// What an inductive certificate without packs leaves open.
 fn left_open(alloc: Global, layer: &CellLayer, rows: &ClaimedRows) -> Result<Vec<Open>, CheckEnd>
+    requires given { IsGiven (plain_program layer.now.program.now) layer.now.graph.now (view rows.now.cert.now) rows.now.owns.now }
+    requires plain { (view rows.now.cert.now).packs ≡ [] }
+    requires inductive { ClaimsAreKept (plain_program layer.now.program.now) layer.now.graph.now (view rows.now.cert.now)
+        (lists_of layer.now.thresholds.now) }
+    ensures { Checks (plain_program layer.now.program.now) layer.now.graph.now (view rows.now.cert.now) result }
+{
+    let pairs = open_pairs(alloc, layer, rows, layer.graph, layer.program.statements)?;
+    Ok(pairs)
+}
+
+// What remains to check where the claims of cells are inductive.
+fn check_beside(alloc: Global, layer: &CellLayer, rows: &ClaimedRows) -> Result<Vec<Open>, CheckEnd>
     requires given { IsGiven (plain_program layer.now.program.now) layer.now.graph.now (view rows.now.cert.now) rows.now.owns.now }
     requires inductive { ClaimsAreKept (plain_program layer.now.program.now) layer.now.graph.now (view rows.now.cert.now)
         (lists_of layer.now.thresholds.now) }
     ensures { Checks (plain_program layer.now.program.now) layer.now.graph.now (view rows.now.cert.now) result }
 {
-    let pairs = open_pairs(alloc, layer, rows)?;
-    Ok(pairs)
+    if rows.cert.packs.as_slice().is_empty() {
+        left_open(alloc, layer, rows)
+    } else {
+        check_packs(alloc, layer.program, layer.graph, rows)
+    }
 }
 
 // Goes over the edges and then over the nodes.
@@ -111,7 +127,7 @@ fn check_edges(alloc: Global, layer: &CellLayer, rows: &ClaimedRows) -> Result<V
     let mut out = vec![in alloc; 0; layer.words()]?;
     match pass(layer, rows, out.as_mut_slice()) {
         Some(edge) => Err(leak_at(layer, rows, edge, out.as_mut_slice())),
-        None => left_open(alloc, layer, rows),
+        None => check_beside(alloc, layer, rows),
     }
 }
 
@@ -179,7 +195,7 @@ fn check_all(
     }
 }
 
-/// Checks a certificate without packs for a program and its graph, and lists what it leaves open.
+/// Checks a certificate for a program and its graph, and lists what it leaves open.
 pub fn check(
     alloc: Global,
     program: &Program,
@@ -189,7 +205,6 @@ pub fn check(
     requires source { ∥ IsSourceGraph (plain_program program.now) graph.now ∥₁ }
     requires limits { IsWithinLimits graph.now }
     requires allowed { IsAllowed (view cert.now) }
-    requires plain { (view cert.now).packs ≡ [] }
     ensures exact { Checks (plain_program program.now) graph.now (view cert.now) result }
     ensures sound { IfOk result (λ pairs. CoversRuns (plain_program program.now) pairs.items) }
 {

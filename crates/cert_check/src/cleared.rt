@@ -1,6 +1,6 @@
 //! Which kinds of fault are cleared.
 ghost use Rattle.std.specs.Prelude.{◌≡◌, ◌++◌, OnOk};
-ghost use Rattle.cert_check.specs.Claims.{if_open};
+ghost use Rattle.cert_check.specs.OpenPairs.{if_open};
 ghost use Rattle.cert_check.specs.Clearing.{IsNoted, both, left_open};
 
 use cob_tree::{Kind, Open};

@@ -13,9 +13,11 @@ pub enum Shape {
     Nodes,
 }
 
-/// An edge, and a place at which what it reaches doesn't lie in its target's claims.
+/// An edge, and a place at which what it reaches doesn't lie in its target's claims: of cells in layer 1, of packs in
+/// layer 2.
 #[derive(Clone, Copy, Debug, PartialEq, Eq)]
 pub struct Leak {
+    pub layer: u8,
     pub edge: u32,
     pub gap: Gap,
 }
@@ -30,7 +32,8 @@ pub enum CheckEnd {
         found: u32,
         wanted: u32,
     },
-    /// What an edge makes of its source's claims doesn't lie in its target's claims. Edge 0 is the entry.
+    /// What an edge makes of its source's claims doesn't lie in its target's claims: of cells in layer 1, of packs in
+    /// layer 2. Edge 0 is the entry.
     #[error("the certificate is not inductive at edge {edge}")]
     NotInductive {
         layer: u8,

@@ -3,12 +3,14 @@
 //! It trusts nothing of whoever made the certificate.
 #![tactic(auto)]
 
+mod bounds;
 mod certificate;
 mod cleared;
 mod edges;
 mod ends;
 mod laws;
 mod nodes;
+mod packs;
 mod ranges;
 mod rows;
 

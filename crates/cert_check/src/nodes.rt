@@ -1,37 +1,36 @@
 //! The faults that some node of a statement doesn't clear.
-ghost use Rattle.std.specs.Prelude.{◌≡◌, ◌≤◌, ◌<◌, ◌^◌, length, IfOk};
-ghost use Rattle.cob_program.specs.ActView.{plain_program};
-ghost use Rattle.cell_layer_laws.specs.Layer.{clears_at, statement_at};
-ghost use Rattle.cert_text.specs.View.{view};
-ghost use Rattle.cert_check.specs.Claims.{claims_at, open_pairs};
-ghost use Rattle.cert_check.specs.Clearing.{AreClearedTo, cleared_at};
-ghost use Rattle.cert_check.specs.Given.{IsGiven};
+ghost use Rattle.std.specs.Prelude.{◌≡◌, ◌≤◌, ◌<◌, ℕ, Bool, length, IfOk};
+ghost use Rattle.cob_tree.specs.declared.fault.Kind.{Kind};
+ghost use Rattle.dom_laws.specs.Flow.{IsNode};
+ghost use Rattle.inductive_pass.specs.Leaks.{HasElements};
+ghost use Rattle.cell_layer_laws.specs.Layer.{statement_at};
+ghost use Rattle.cert_check.specs.OpenPairs.{pairs_by};
+ghost use Rattle.cert_check.specs.Clearing.{AreClearedTo, TestsTell, by_kind};
 
 use crate::cleared::{Cleared, note, push_left_open};
-use crate::rows::ClaimedRows;
-use cell_layer::CellLayer;
 use cob_graph::Graph;
 use cob_tree::{Kind, Open};
 use dom_laws::{Layer, Rows};
 use std::alloc::{AllocError, Global};
 
 // Whether a node clears a fault.
-fn clears(layer: &CellLayer, rows: &ClaimedRows, node: u32, fault: Kind) -> bool
-    requires given { IsGiven (plain_program layer.now.program.now) layer.now.graph.now (view rows.now.cert.now) rows.now.owns.now }
-    requires first { 1 ≤ node }
-    requires last { node ≤ length layer.now.graph.now.nodes }
-    ensures { let p = plain_program layer.now.program.now in let g = layer.now.graph.now in
-        result ≡ clears_at p g node (claims_at p g (view rows.now.cert.now) node) fault }
+fn clears<L: Layer, R: Rows>(layer: &L, rows: &R, node: u32, fault: Kind) -> bool
+    requires count { (L.flow layer.now).nodes ≤ R.count rows.now }
+    requires rows { HasElements (L.lattice layer.now) (L.flow layer.now) (R.row_at rows.now) }
+    requires node { IsNode (L.flow layer.now) node }
+    ensures { (clears : ℕ → Kind → Bool) → TestsTell (L.flow layer.now) (L.meaning layer.now) (R.row_at rows.now) clears
+        → result ≡ clears node fault }
 {
     layer.clears(node, rows.row(node), fault)
 }
 
 // What a node clears.
-fn clears_all(layer: &CellLayer, rows: &ClaimedRows, node: u32) -> Cleared
-    requires given { IsGiven (plain_program layer.now.program.now) layer.now.graph.now (view rows.now.cert.now) rows.now.owns.now }
-    requires first { 1 ≤ node }
-    requires last { node ≤ length layer.now.graph.now.nodes }
-    ensures { result ≡ cleared_at (plain_program layer.now.program.now) layer.now.graph.now (view rows.now.cert.now) node }
+fn clears_all<L: Layer, R: Rows>(layer: &L, rows: &R, node: u32) -> Cleared
+    requires count { (L.flow layer.now).nodes ≤ R.count rows.now }
+    requires rows { HasElements (L.lattice layer.now) (L.flow layer.now) (R.row_at rows.now) }
+    requires node { IsNode (L.flow layer.now) node }
+    ensures { (clears : ℕ → Kind → Bool) → TestsTell (L.flow layer.now) (L.meaning layer.now) (R.row_at rows.now) clears
+        → result ≡ by_kind (clears node) }
 {
     Cleared {
         size: clears(layer, rows, node, Kind::Size),
@@ -53,23 +52,35 @@ fn statement_at(graph: &Graph, node: u32) -> u32
 }
 
 // Notes at each statement what all its nodes clear.
-fn note_nodes(layer: &CellLayer, rows: &ClaimedRows, noted: &mut [Cleared])
-    requires given { IsGiven (plain_program layer.now.program.now) layer.now.graph.now (view rows.now.cert.now) rows.now.owns.now }
-    requires none { AreClearedTo (plain_program layer.now.program.now) layer.now.graph.now (view rows.now.cert.now) 0 noted.old }
-    ensures { AreClearedTo (plain_program layer.now.program.now) layer.now.graph.now (view rows.now.cert.now)
-        (length layer.now.graph.now.nodes) noted.new }
+fn note_nodes<L: Layer, R: Rows>(layer: &L, rows: &R, graph: &Graph, noted: &mut [Cleared])
+    requires nodes { (L.flow layer.now).nodes ≡ length graph.now.nodes }
+    requires count { (L.flow layer.now).nodes ≤ R.count rows.now }
+    requires rows { HasElements (L.lattice layer.now) (L.flow layer.now) (R.row_at rows.now) }
+    requires none { (clears : ℕ → Kind → Bool) → AreClearedTo graph.now clears 0 noted.old }
+    ensures { (clears : ℕ → Kind → Bool) → TestsTell (L.flow layer.now) (L.meaning layer.now) (R.row_at rows.now) clears
+        → AreClearedTo graph.now clears (length graph.now.nodes) noted.new }
 {
-    for k in 0..layer.graph.nodes.get().len() as u32 {
+    for k in 0..layer.nodes() {
         let cleared = clears_all(layer, rows, k + 1);
-        note(noted, statement_at(layer.graph, k + 1), cleared);
+        note(noted, statement_at(graph, k + 1), cleared);
     }
 }
 
-// For each statement what all its nodes clear.
-fn cleared(alloc: Global, layer: &CellLayer, rows: &ClaimedRows) -> Result<Vec<Cleared>, AllocError>
-    requires given { IsGiven (plain_program layer.now.program.now) layer.now.graph.now (view rows.now.cert.now) rows.now.owns.now }
-    ensures { IfOk result (λ noted. AreClearedTo (plain_program layer.now.program.now) layer.now.graph.now
-        (view rows.now.cert.now) (length layer.now.graph.now.nodes) noted.items) }
+// For each of so many statements what all its nodes clear.
+fn cleared<L: Layer, R: Rows>(
+    alloc: Global,
+    layer: &L,
+    rows: &R,
+    graph: &Graph,
+    statements: u32,
+) -> Result<Vec<Cleared>, AllocError>
+    requires nodes { (L.flow layer.now).nodes ≡ length graph.now.nodes }
+    requires count { (L.flow layer.now).nodes ≤ R.count rows.now }
+    requires rows { HasElements (L.lattice layer.now) (L.flow layer.now) (R.row_at rows.now) }
+    ensures count { IfOk result (λ noted. length noted.items ≡ statements) }
+    ensures cleared { IfOk result (λ noted. (clears : ℕ → Kind → Bool)
+        → TestsTell (L.flow layer.now) (L.meaning layer.now) (R.row_at rows.now) clears
+        → AreClearedTo graph.now clears (length graph.now.nodes) noted.items) }
 {
     let all = Cleared {
         size: true,
@@ -77,25 +88,29 @@ fn cleared(alloc: Global, layer: &CellLayer, rows: &ClaimedRows) -> Result<Vec<C
         zero: true,
         class: true,
     };
-    let mut noted = vec![in alloc; all; layer.program.statements as usize]?;
-    note_nodes(layer, rows, noted.as_mut_slice());
+    let mut noted = vec![in alloc; all; statements as usize]?;
+    note_nodes(layer, rows, graph, noted.as_mut_slice());
     Ok(noted)
 }
 
-/// The faults that some node of a statement doesn't clear, by statement, then by kind.
-#[tactic(auto, using(crate::proofs::Noting::all_pairs))]
-pub(crate) fn open_pairs(
+/// The faults that some node of one of so many statements doesn't clear by its row, by statement, then by kind.
+pub(crate) fn open_pairs<L: Layer, R: Rows>(
     alloc: Global,
-    layer: &CellLayer,
-    rows: &ClaimedRows,
+    layer: &L,
+    rows: &R,
+    graph: &Graph,
+    statements: u32,
 ) -> Result<Vec<Open>, AllocError>
-    requires given { IsGiven (plain_program layer.now.program.now) layer.now.graph.now (view rows.now.cert.now) rows.now.owns.now }
-    ensures { IfOk result (λ pairs. pairs.items
-        ≡ open_pairs (plain_program layer.now.program.now) layer.now.graph.now (view rows.now.cert.now)) }
+    requires nodes { (L.flow layer.now).nodes ≡ length graph.now.nodes }
+    requires count { (L.flow layer.now).nodes ≤ R.count rows.now }
+    requires rows { HasElements (L.lattice layer.now) (L.flow layer.now) (R.row_at rows.now) }
+    ensures { IfOk result (λ pairs. (clears : ℕ → Kind → Bool)
+        → TestsTell (L.flow layer.now) (L.meaning layer.now) (R.row_at rows.now) clears
+        → pairs.items ≡ pairs_by graph.now clears statements) }
 {
-    let noted = cleared(alloc, layer, rows)?;
+    let noted = cleared(alloc, layer, rows, graph, statements)?;
     let mut pairs = Vec::new(alloc);
-    for k in 0..layer.program.statements {
+    for k in 0..statements {
         push_left_open(&mut pairs, k + 1, noted[k as usize])?;
     }
     Ok(pairs)

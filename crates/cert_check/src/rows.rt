@@ -57,8 +57,8 @@ impl<'a> ClaimedRows<'a> {
     }
 }
 
-// The row with a number from 0.
-fn row_at(rows: &[Vec<i128>], place: usize) -> &[i128]
+/// The row with a number from 0.
+pub(crate) fn row_at(rows: &[Vec<i128>], place: usize) -> &[i128]
     requires { place < length rows.now }
     ensures { result.now ≡ get_or (words_of rows.now) place [] }
 {

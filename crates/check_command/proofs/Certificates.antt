@@ -16,7 +16,7 @@ use Rattle.command_answers.specs.declared.answer.Stop.{Stop}
 use Rattle.command_answers.specs.declared.answer.Stop.TheVariants as stop
 use Rattle.command_answers.specs.declared.answer.Answer as code
 use Rattle.command_answers.specs.declared.source.Laid.{Laid}
-use Rattle.command_answers.specs.Answer.{Answer, Usage, Absent, Refused, NotYet, CertificateLong, CertificateBad, CertificateMisfit, NotInductive, Report, AnswersSource}
+use Rattle.command_answers.specs.Answer.{Answer, Usage, Absent, Refused, CertificateLong, CertificateBad, CertificateMisfit, NotInductive, Report, AnswersSource}
 use Rattle.command_answers.specs.Steps.{HoldsLaid}
 use Rattle.command_answers.specs.View.{plain_answer}
 use Rattle.command_answers.proofs.Found.{at_held}
@@ -41,9 +41,8 @@ module _ (p : Program) (g : Graph) (certificate bytes : List ℕ) (fits : length
       by_text : (answer : Answer) → AnswersBytes bytes p g answer → AnswersProgram contents certificate p g answer
       by_text (CertificateBad line) h =
           at_held (get contents certificate) bytes (λ bs. (length bs ≤ certificate_limit) × RefusedBy bs (text.Syntax line)) held (fits, h)
-      by_text (NotYet line) h = (h.0, holds h.0 h.1 h.2, h.3)
       by_text (CertificateMisfit what found wanted) h = (h.0, holds h.0 h.1 h.2, h.3)
-      by_text (NotInductive edge gap) h = (h.0, holds h.0 h.1 h.2, h.3)
+      by_text (NotInductive layer edge gap) h = (h.0, holds h.0 h.1 h.2, h.3)
       by_text (Report alarms) h = (h.0, holds h.0 h.1 h.2, h.3)
       by_text (Usage word) h = absurd h.3
       by_text (Absent name) h = absurd h.3

@@ -21,7 +21,7 @@ use Rattle.cert_check.specs.Claims.{leak, leaks}
 use Rattle.cert_check.specs.Checking.{HasShape, Misfits, Accepts}
 use Rattle.alarm_report.specs.declared.alarms.Alarm.{Alarm}
 use Rattle.alarm_report.specs.Alarms.{alarms_of}
-use Rattle.command_answers.specs.Answer.{Answer, Usage, Absent, Refused, NotYet, CertificateLong, CertificateBad, CertificateMisfit, NotInductive, Report, AnswersSource}
+use Rattle.command_answers.specs.Answer.{Answer, Usage, Absent, Refused, CertificateLong, CertificateBad, CertificateMisfit, NotInductive, Report, AnswersSource}
 use Rattle.command_answers.specs.Profile.{IsProfileCause}
 use Rattle.command_answers.proofs.Found.{Found, Missing, Long, Bad, Good, Finds, at_held, held_bytes, one_found}
 use Rattle.command_answers.proofs.Sources.{Ending, refused, read, EndsIn}
@@ -31,9 +31,6 @@ use Rattle.check_command.specs.Answers.{AnswersCheck, AnswersProgram, AnswersCer
 
 -- What the parts of the checker's answer come to.
 module _ (p : Program) (g : Graph) (c : Certificate) where
-  packs_or_none : {A : Type 0} → ¬ (c.packs ≡ []) → (c.packs ≡ []) → A
-  packs_or_none some none = absurd (some none)
-
   cells_differ : (is : HasShape p g c) (found wanted : ℕ) → Misfits p g c shape.Cells found wanted → ⊥
   cells_differ is found wanted (f, w, differ) = differ (f ∙ is.cells ∙ sym w)
 
@@ -53,13 +50,13 @@ module _ (p : Program) (g : Graph) (c : Certificate) where
   one_misfit shape.Nodes shape.Nodes found wanted found' wanted' (same, f, w, d) (same', f', w', d') =
       ap (λ n. CertificateMisfit shape.Nodes n wanted) (f ∙ sym f') ∙ ap (CertificateMisfit shape.Nodes found') (w ∙ sym w')
 
-  one_leak : (edge edge' : ℕ) (gap gap' : Gap) → slice_get (leaks p g c) 0 ≡ Some (leak edge gap)
-      → slice_get (leaks p g c) 0 ≡ Some (leak edge' gap') → NotInductive edge gap ≡ NotInductive edge' gap'
-  one_leak edge edge' gap gap' h k =
-      ap (λ (l : Leak). NotInductive l.edge l.gap) (same_Some (leak edge gap) (leak edge' gap') (sym h ∙ k))
+  one_leak : (layer layer' edge edge' : ℕ) (gap gap' : Gap) → slice_get (leaks p g c) 0 ≡ Some (leak layer edge gap)
+      → slice_get (leaks p g c) 0 ≡ Some (leak layer' edge' gap') → NotInductive layer edge gap ≡ NotInductive layer' edge' gap'
+  one_leak layer layer' edge edge' gap gap' h k =
+      ap (λ (l : Leak). NotInductive l.layer l.edge l.gap) (same_Some (leak layer edge gap) (leak layer' edge' gap') (sym h ∙ k))
 
-  leak_or_none : {A : Type 0} (edge : ℕ) (gap : Gap) → slice_get (leaks p g c) 0 ≡ Some (leak edge gap) → leaks p g c ≡ [] → A
-  leak_or_none edge gap first none = let apart = sym first ∙ ap (λ xs. slice_get xs 0) none in absurd (cc apart)
+  leak_or_none : {A : Type 0} (layer edge : ℕ) (gap : Gap) → slice_get (leaks p g c) 0 ≡ Some (leak layer edge gap) → leaks p g c ≡ [] → A
+  leak_or_none layer edge gap first none = let apart = sym first ∙ ap (λ xs. slice_get xs 0) none in absurd (cc apart)
 
   one_report : (alarms others : List Alarm) (pairs pairs' : List Open) → Accepts p g c pairs → Accepts p g c pairs'
       → alarms ≡ alarms_of p pairs → others ≡ alarms_of p pairs' → Report alarms ≡ Report others
@@ -67,23 +64,16 @@ module _ (p : Program) (g : Graph) (c : Certificate) where
       ap Report (e ∙ ap (alarms_of p) (h.pairs_are ∙ sym k.pairs_are) ∙ sym f)
 
   pub one_for_certificate : (a b : Answer) → AnswersCertificate p g c a → AnswersCertificate p g c b → a ≡ b
-  one_for_certificate (NotYet line) (NotYet other) h k = ap NotYet (h.1 ∙ sym k.1)
-  one_for_certificate (NotYet line) (CertificateMisfit what found wanted) h k = packs_or_none h.0 k.0
-  one_for_certificate (NotYet line) (NotInductive edge gap) h k = packs_or_none h.0 k.0
-  one_for_certificate (NotYet line) (Report alarms) h k = packs_or_none h.0 k.0
-  one_for_certificate (CertificateMisfit what found wanted) (NotYet line) h k = packs_or_none k.0 h.0
-  one_for_certificate (NotInductive edge gap) (NotYet line) h k = packs_or_none k.0 h.0
-  one_for_certificate (Report alarms) (NotYet line) h k = packs_or_none k.0 h.0
   one_for_certificate (CertificateMisfit what found wanted) (CertificateMisfit other found' wanted') h k =
-      one_misfit what other found wanted found' wanted' h.1 k.1
-  one_for_certificate (CertificateMisfit what found wanted) (NotInductive edge gap) h k = absurd (no_misfit what found wanted k.1.0 h.1)
-  one_for_certificate (CertificateMisfit what found wanted) (Report alarms) h k = absurd (no_misfit what found wanted k.1.1.shape h.1)
-  one_for_certificate (NotInductive edge gap) (CertificateMisfit what found wanted) h k = absurd (no_misfit what found wanted h.1.0 k.1)
-  one_for_certificate (Report alarms) (CertificateMisfit what found wanted) h k = absurd (no_misfit what found wanted h.1.1.shape k.1)
-  one_for_certificate (NotInductive edge gap) (NotInductive edge' gap') h k = one_leak edge edge' gap gap' h.1.2 k.1.2
-  one_for_certificate (NotInductive edge gap) (Report alarms) h k = leak_or_none edge gap h.1.2 k.1.1.inductive
-  one_for_certificate (Report alarms) (NotInductive edge gap) h k = leak_or_none edge gap k.1.2 h.1.1.inductive
-  one_for_certificate (Report alarms) (Report others) h k = one_report alarms others h.1.0 k.1.0 h.1.1 k.1.1 h.1.2 k.1.2
+      one_misfit what other found wanted found' wanted' h k
+  one_for_certificate (CertificateMisfit what found wanted) (NotInductive layer edge gap) h k = absurd (no_misfit what found wanted k.0 h)
+  one_for_certificate (CertificateMisfit what found wanted) (Report alarms) h k = absurd (no_misfit what found wanted k.1.shape h)
+  one_for_certificate (NotInductive layer edge gap) (CertificateMisfit what found wanted) h k = absurd (no_misfit what found wanted h.0 k)
+  one_for_certificate (Report alarms) (CertificateMisfit what found wanted) h k = absurd (no_misfit what found wanted h.1.shape k)
+  one_for_certificate (NotInductive layer edge gap) (NotInductive layer' edge' gap') h k = one_leak layer layer' edge edge' gap gap' h.1 k.1
+  one_for_certificate (NotInductive layer edge gap) (Report alarms) h k = leak_or_none layer edge gap h.1 k.1.inductive
+  one_for_certificate (Report alarms) (NotInductive layer edge gap) h k = leak_or_none layer edge gap k.1 h.1.inductive
+  one_for_certificate (Report alarms) (Report others) h k = one_report alarms others h.0 k.0 h.1 k.1 h.2 k.2
   one_for_certificate (Usage word) b h k = absurd h
   one_for_certificate (Absent name) b h k = absurd h
   one_for_certificate (Refused cause) b h k = absurd h
@@ -140,9 +130,8 @@ module _ (laws : TextsAreApart) where
     means (Absent name) h = (Missing, h.0, ap Absent h.1)
     means CertificateLong h = (Long, h, refl)
     means (CertificateBad line) h = (Bad line, h, refl)
-    means (NotYet line) h = by_text (NotYet line) h.0 h.1 h.2
     means (CertificateMisfit what found wanted) h = by_text (CertificateMisfit what found wanted) h.0 h.1 h.2
-    means (NotInductive edge gap) h = by_text (NotInductive edge gap) h.0 h.1 h.2
+    means (NotInductive layer edge gap) h = by_text (NotInductive layer edge gap) h.0 h.1 h.2
     means (Report alarms) h = by_text (Report alarms) h.0 h.1 h.2
     means (Usage word) h = absurd h.2
     means (Refused cause) h = absurd h.2
@@ -186,12 +175,11 @@ module _ (contents : Contents) where
   refusal_means name certificate (Refused cause) h =
       let w = held_bytes (get contents name) (λ bytes. IsProfileCause bytes cause) h in
       inr (record { bytes = w.0; held = w.1; ending = refused cause; ends = w.2; leads = refl })
-  refusal_means name certificate (NotYet line) h = absurd h
   refusal_means name certificate (Usage word) h = absurd h
   refusal_means name certificate CertificateLong h = absurd h
   refusal_means name certificate (CertificateBad line) h = absurd h
   refusal_means name certificate (CertificateMisfit what found wanted) h = absurd h
-  refusal_means name certificate (NotInductive edge gap) h = absurd h
+  refusal_means name certificate (NotInductive layer edge gap) h = absurd h
   refusal_means name certificate (Report alarms) h = absurd h
 
   check_means : (name certificate : List ℕ) (answer : Answer) → AnswersCheck contents name certificate answer

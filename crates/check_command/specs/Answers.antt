@@ -13,7 +13,7 @@ use Rattle.cert_text.specs.Texts.{RefusedBy}
 use Rattle.cert_check.specs.declared.ends.CheckEnd.TheVariants as check
 use Rattle.cert_check.specs.Checking.{Accepts, Refuses}
 use Rattle.alarm_report.specs.Alarms.{alarms_of}
-use Rattle.command_answers.specs.Answer.{Answer, Absent, NotYet, CertificateLong, CertificateBad, CertificateMisfit, NotInductive, Report, HoldsProgram, AnswersSource}
+use Rattle.command_answers.specs.Answer.{Answer, Absent, CertificateLong, CertificateBad, CertificateMisfit, NotInductive, Report, HoldsProgram, AnswersSource}
 
 -- ---- the certificate
 
@@ -26,21 +26,14 @@ pub record HoldsCertificate (contents : Contents) (name : List ℕ) (c : Certifi
   pub held : get contents name ≡ Some (spelling c)
   pub fits : length (spelling c) ≤ certificate_limit
 
--- the line that tells the number of packs
-abbrev pub packs_line : ℕ
-packs_line = 4
-
 -- ---- the answer
 
--- A refusal of a certificate that reads, or the statements that it leaves open. Certificates with packs aren't checked
--- yet.
+-- A refusal of a certificate that reads, or the statements that it leaves open.
 abbrev pub AnswersCertificate : Program → Graph → Certificate → Answer → Type 0
-AnswersCertificate p g c (NotYet line) = ¬ (c.packs ≡ []) × (line ≡ packs_line)
-AnswersCertificate p g c (CertificateMisfit what found wanted) =
-    (c.packs ≡ []) × Refuses p g c (check.Shape what found wanted)
-AnswersCertificate p g c (NotInductive edge gap) = (c.packs ≡ []) × Refuses p g c (check.NotInductive 1 edge gap)
+AnswersCertificate p g c (CertificateMisfit what found wanted) = Refuses p g c (check.Shape what found wanted)
+AnswersCertificate p g c (NotInductive layer edge gap) = Refuses p g c (check.NotInductive layer edge gap)
 AnswersCertificate p g c (Report alarms) =
-    (c.packs ≡ []) × ((pairs : List Open) × Accepts p g c pairs × (alarms ≡ alarms_of p pairs))
+    (pairs : List Open) × Accepts p g c pairs × (alarms ≡ alarms_of p pairs)
 AnswersCertificate p g c _ = ⊥
 
 -- What the file with the certificate shows of the program, or why it isn't read.

@@ -1,5 +1,5 @@
 //! `check`: the answer to a source and a certificate.
-ghost use Rattle.std.specs.Prelude.{◌≡◌, [], IfOk, IfSome, MatchResult};
+ghost use Rattle.std.specs.Prelude.{◌≡◌, IfOk, IfSome, MatchResult};
 ghost use Rattle.batch_io.specs.FilesState.{known_bytes};
 ghost use Rattle.cert_text.specs.View.{view};
 ghost use Rattle.cert_text.specs.Allowed.{IsAllowed};
@@ -19,9 +19,6 @@ use std::alloc::Global;
 
 /// The most bytes of a certificate.
 pub const CERTIFICATE_LIMIT: usize = 67_108_864;
-
-// The line that tells the number of packs.
-const PACKS_LINE: u32 = 4;
 
 /// Answers `check SOURCE CERT`.
 pub fn check<'a, F: Files>(
@@ -75,26 +72,10 @@ fn check_bytes<'a>(alloc: Global, laid: &Laid, bytes: &[u8]) -> Result<Answer<'a
     }
 }
 
-// Answers for a certificate. One with packs isn't checked yet.
-fn check_certificate<'a>(alloc: Global, laid: &Laid, cert: &Cert) -> Result<Answer<'a>, Stop>
+/// Answers for a certificate.
+pub fn check_certificate<'a>(alloc: Global, laid: &Laid, cert: &Cert) -> Result<Answer<'a>, Stop>
     requires source { IsOfSource laid.now }
     requires allowed { IsAllowed (view cert.now) }
-    ensures { MatchResult result
-        (λ answer. AnswersCertificate (plain_program laid.now.program) laid.now.graph (view cert.now) (plain_answer answer))
-        (λ stop. stop ≡ Stop.Memory) }
-{
-    if cert.packs.is_empty() {
-        check_plain(alloc, laid, cert)
-    } else {
-        Ok(Answer::NotYet(PACKS_LINE))
-    }
-}
-
-/// Answers for a certificate without packs.
-pub fn check_plain<'a>(alloc: Global, laid: &Laid, cert: &Cert) -> Result<Answer<'a>, Stop>
-    requires source { IsOfSource laid.now }
-    requires allowed { IsAllowed (view cert.now) }
-    requires plain { (view cert.now).packs ≡ [] }
     ensures { MatchResult result
         (λ answer. AnswersCertificate (plain_program laid.now.program) laid.now.graph (view cert.now) (plain_answer answer))
         (λ stop. stop ≡ Stop.Memory) }
@@ -110,13 +91,9 @@ pub fn check_plain<'a>(alloc: Global, laid: &Laid, cert: &Cert) -> Result<Answer
                 wanted,
             },
         ) => Ok(Answer::CertificateMisfit(what, found, wanted)),
-        Err(
-            CheckEnd::NotInductive {
-                layer: _,
-                edge,
-                gap,
-            },
-        ) => Ok(Answer::NotInductive(edge, gap)),
+        Err(CheckEnd::NotInductive { layer, edge, gap }) => Ok(Answer::NotInductive(
+            layer, edge, gap,
+        )),
         Err(CheckEnd::Memory) => Err(Stop::Memory),
     }
 }

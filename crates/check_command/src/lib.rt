@@ -5,4 +5,4 @@
 
 mod certificate;
 
-pub use certificate::{CERTIFICATE_LIMIT, check, check_plain};
+pub use certificate::{CERTIFICATE_LIMIT, check, check_certificate};

@@ -3,7 +3,7 @@ use Rattle.std.proofs.Common.{◌≡◌, ℕ, ◌≤◌, List, [], ◌∷◌, �
 use Rattle.cob_front.specs.declared.refusal.Refusal.{Refusal}
 use Rattle.cob_front.specs.declared.refusal.Refusal.TheVariants as end
 use Rattle.alarm_report.specs.declared.alarms.Alarm.{Alarm}
-use Rattle.command_answers.specs.Answer.{Answer, Usage, Absent, Refused, NotYet, CertificateLong, CertificateBad, CertificateMisfit, NotInductive, Report, refusal_status, status_of, status_unwritten}
+use Rattle.command_answers.specs.Answer.{Answer, Usage, Absent, Refused, CertificateLong, CertificateBad, CertificateMisfit, NotInductive, Report, refusal_status, status_of, status_unwritten}
 
 refusal_is_high : (cause : Refusal) (n : ℕ) → refusal_status cause ≡ n → (n ≡ 0) ⊎ (n ≡ 1) → ⊥
 refusal_is_high end.TooLong n e (inl z) = omega (arith, e, z)
@@ -35,22 +35,20 @@ pub low_status : (answer : Answer) (n : ℕ) → status_of answer ≡ n → (n �
 low_status (Usage word) n e low = absurd (above_one n 4 (omega arith) e low)
 low_status (Absent name) n e low = absurd (above_one n 7 (omega arith) e low)
 low_status (Refused cause) n e low = absurd (refusal_is_high cause n e low)
-low_status (NotYet line) n e low = absurd (above_one n 2 (omega arith) e low)
 low_status CertificateLong n e low = absurd (above_one n 3 (omega arith) e low)
 low_status (CertificateBad line) n e low = absurd (above_one n 3 (omega arith) e low)
 low_status (CertificateMisfit what found wanted) n e low = absurd (above_one n 3 (omega arith) e low)
-low_status (NotInductive edge gap) n e low = absurd (above_one n 3 (omega arith) e low)
+low_status (NotInductive layer edge gap) n e low = absurd (above_one n 3 (omega arith) e low)
 low_status (Report alarms) n e low = (alarms, refl)
 
 pub never_low : (answer : Answer) (n : ℕ) → status_unwritten answer ≡ n → (n ≡ 0) ⊎ (n ≡ 1) → ⊥
 never_low (Usage word) n e low = above_one n 4 (omega arith) e low
 never_low (Absent name) n e low = above_one n 7 (omega arith) e low
 never_low (Refused cause) n e low = refusal_is_high cause n e low
-never_low (NotYet line) n e low = above_one n 2 (omega arith) e low
 never_low CertificateLong n e low = above_one n 3 (omega arith) e low
 never_low (CertificateBad line) n e low = above_one n 3 (omega arith) e low
 never_low (CertificateMisfit what found wanted) n e low = above_one n 3 (omega arith) e low
-never_low (NotInductive edge gap) n e low = above_one n 3 (omega arith) e low
+never_low (NotInductive layer edge gap) n e low = above_one n 3 (omega arith) e low
 never_low (Report alarms) n e low = above_one n 6 (omega arith) e low
 
 pub no_alarm : (alarms : List Alarm) → status_of (Report alarms) ≡ 0 → alarms ≡ []

@@ -11,7 +11,7 @@ use Rattle.claimed_rows.specs.declared.gap.Gap.{Gap}
 use Rattle.cert_check.specs.declared.ends.Shape.{Shape}
 use Rattle.alarm_report.specs.declared.alarms.Alarm.{Alarm}
 use Rattle.alarm_report.specs.Text.{line_end, report_text}
-use Rattle.command_answers.specs.Text.{at_line, gap_text, refusal_text, shape_line}
+use Rattle.command_answers.specs.Text.{at_line, leak_line, refusal_text, shape_line}
 use Rattle.command_answers.specs.Profile.{IsProgramOf, IsProfileCause}
 
 -- ---- answers, their texts and statuses
@@ -24,15 +24,13 @@ pub data Answer : Type 0 where
   Absent : List ℕ → Answer
   -- the source isn't of the profile, for this cause
   Refused : Refusal → Answer
-  -- the line of the certificate on which a form stands that isn't checked yet
-  NotYet : ℕ → Answer
   CertificateLong : Answer
   -- the first line with which no certificate's text goes on
   CertificateBad : ℕ → Answer
   -- the certificate's number of cells or nodes, and the program's
   CertificateMisfit : Shape → ℕ → ℕ → Answer
-  -- the first edge at which the certificate isn't inductive, and the first place there
-  NotInductive : ℕ → Gap → Answer
+  -- the layer and the first edge at which the certificate isn't inductive, and the first place there
+  NotInductive : ℕ → ℕ → Gap → Answer
   -- the certificate holds, and leaves these statements open
   Report : List Alarm → Answer
 
@@ -44,11 +42,10 @@ abbrev pub answer_text : Answer → List ℕ
 answer_text (Usage word) = usage_text word
 answer_text (Absent name) = codes "E2 absent " ++ name ++ line_end
 answer_text (Refused cause) = refusal_text cause
-answer_text (NotYet line) = at_line (codes "E20") line
 answer_text CertificateLong = codes "E11 certificate too long" ++ line_end
 answer_text (CertificateBad line) = at_line (codes "E12") line
 answer_text (CertificateMisfit what found wanted) = shape_line what found wanted
-answer_text (NotInductive edge gap) = codes "E14 layer 1 edge " ++ decimal edge ++ gap_text gap ++ line_end
+answer_text (NotInductive layer edge gap) = leak_line layer edge gap
 answer_text (Report alarms) = report_text alarms
 
 abbrev pub refusal_status : Refusal → ℕ
@@ -65,11 +62,10 @@ abbrev pub status_of : Answer → ℕ
 status_of (Usage word) = 4
 status_of (Absent name) = 7
 status_of (Refused cause) = refusal_status cause
-status_of (NotYet line) = 2
 status_of CertificateLong = 3
 status_of (CertificateBad line) = 3
 status_of (CertificateMisfit what found wanted) = 3
-status_of (NotInductive edge gap) = 3
+status_of (NotInductive layer edge gap) = 3
 status_of (Report []) = 0
 status_of (Report (alarm ∷ alarms)) = 1
 
@@ -79,11 +75,10 @@ status_unwritten (Report alarms) = 6
 status_unwritten (Usage word) = status_of (Usage word)
 status_unwritten (Absent name) = status_of (Absent name)
 status_unwritten (Refused cause) = status_of (Refused cause)
-status_unwritten (NotYet line) = status_of (NotYet line)
 status_unwritten CertificateLong = status_of CertificateLong
 status_unwritten (CertificateBad line) = status_of (CertificateBad line)
 status_unwritten (CertificateMisfit what found wanted) = status_of (CertificateMisfit what found wanted)
-status_unwritten (NotInductive edge gap) = status_of (NotInductive edge gap)
+status_unwritten (NotInductive layer edge gap) = status_of (NotInductive layer edge gap)
 
 -- ---- the answer to a source
 

@@ -37,6 +37,10 @@ gap_text (gap.Low cell reached claimed) = cell_text cell ++ codes " low" ++ ends
 gap_text (gap.High cell reached claimed) = cell_text cell ++ codes " high" ++ ends_text reached claimed
 gap_text (gap.Diff pack row column reached claimed) = place_text pack row column ++ difference_text reached claimed
 
+-- the line of a place at which a certificate isn't inductive
+abbrev pub leak_line : ℕ → ℕ → Gap → List ℕ
+leak_line layer edge gap = codes "E14 layer " ++ decimal layer ++ codes " edge " ++ decimal edge ++ gap_text gap ++ line_end
+
 abbrev pub shape_text : Shape → List ℕ
 shape_text shape.Cells = codes "cells"
 shape_text shape.Nodes = codes "nodes"

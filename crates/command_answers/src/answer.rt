@@ -18,15 +18,13 @@ pub enum Answer<'a> {
     Absent(&'a str),
     /// The source isn't of the profile.
     Refused(Refusal),
-    /// The line of the certificate on which a form stands that isn't checked yet.
-    NotYet(u32),
     CertificateLong,
     /// The first line with which no certificate's text goes on.
     CertificateBad(u32),
     /// The certificate's number of cells or nodes, and the program's.
     CertificateMisfit(Shape, u32, u32),
-    /// The first edge at which the certificate isn't inductive, and the first place there.
-    NotInductive(u32, Gap),
+    /// The layer and the first edge at which the certificate isn't inductive, and the first place there.
+    NotInductive(u8, u32, Gap),
     Report(Vec<Alarm>),
 }
 

@@ -84,11 +84,10 @@ pub fn status_of(answer: &Answer) -> u8
         Answer::Report(alarms) if alarms.is_empty() => 0,
         Answer::Report(_) => 1,
         Answer::Refused(cause) => refusal_status(*cause),
-        Answer::NotYet(_) => 2,
         Answer::CertificateLong
         | Answer::CertificateBad(_)
         | Answer::CertificateMisfit(_, _, _)
-        | Answer::NotInductive(_, _) => CERTIFICATE_REFUSED,
+        | Answer::NotInductive(_, _, _) => CERTIFICATE_REFUSED,
         Answer::Usage(_) | Answer::NoPaths(_) => 4,
         Answer::Absent(_) => 7,
     }

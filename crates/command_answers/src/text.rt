@@ -1,7 +1,7 @@
 //! The text of answers: reports and refusals.
 ghost use Rattle.std.specs.Prelude.{◌≡◌, ◌++◌, codes, decimal, OnOk, IfOk};
 ghost use Rattle.alarm_report.specs.Text.{line_end};
-ghost use Rattle.command_answers.specs.Text.{at_line, bound_text, gap_text, over_line, refusal_text, rule_text, shape_line, shape_text, ends_text, cell_text, difference_text, place_text, place_line, which_text};
+ghost use Rattle.command_answers.specs.Text.{at_line, bound_text, gap_text, leak_line, over_line, refusal_text, rule_text, shape_line, shape_text, ends_text, cell_text, difference_text, place_text, place_line, which_text};
 ghost use Rattle.command_answers.specs.View.{plain_answer};
 ghost use Rattle.command_answers.specs.Answer.{answer_text, usage_text};
 
@@ -233,11 +233,12 @@ fn push_refusal(text: &mut Vec<u8>, cause: Refusal) -> Result<(), AllocError>
     }
 }
 
-fn push_leak(text: &mut Vec<u8>, edge: u32, gap: &Gap) -> Result<(), AllocError>
-    ensures { OnOk result
-        (text.new.items ≡ text.old.items ++ (codes "E14 layer 1 edge " ++ decimal edge ++ gap_text gap.now ++ line_end)) }
+fn push_leak(text: &mut Vec<u8>, layer: u8, edge: u32, gap: &Gap) -> Result<(), AllocError>
+    ensures { OnOk result (text.new.items ≡ text.old.items ++ leak_line layer edge gap.now) }
 {
-    text.extend_from_slice(b"E14 layer 1 edge ")?;
+    text.extend_from_slice(b"E14 layer ")?;
+    push_number(text, layer)?;
+    text.extend_from_slice(b" edge ")?;
     push_number(text, edge)?;
     push_gap(text, gap)?;
     text.extend_from_slice(b"\n")
@@ -272,11 +273,10 @@ fn push_answer(text: &mut Vec<u8>, answer: &Answer) -> Result<(), AllocError>
         Answer::NoPaths(word) => push_usage(text, word.as_str()),
         Answer::Absent(name) => push_word(text, b"E2 absent ", name),
         Answer::Refused(cause) => push_refusal(text, *cause),
-        Answer::NotYet(line) => push_line(text, b"E20", *line),
         Answer::CertificateLong => text.extend_from_slice(b"E11 certificate too long\n"),
         Answer::CertificateBad(line) => push_line(text, b"E12", *line),
         Answer::CertificateMisfit(what, found, wanted) => push_misfit(text, *what, *found, *wanted),
-        Answer::NotInductive(edge, gap) => push_leak(text, *edge, gap),
+        Answer::NotInductive(layer, edge, gap) => push_leak(text, *layer, *edge, gap),
         Answer::Report(alarms) => push_report(text, alarms),
     }
 }

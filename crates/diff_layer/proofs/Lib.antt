@@ -7,3 +7,4 @@ pub mod Facts
 pub mod Beginning
 pub mod Layers
 pub mod Operands
+pub mod ClearedByCells

@@ -121,8 +121,8 @@ fn clears_walking(
     }
 }
 
-/// Whether both layers show that no part of an edge meets such a fault.
-pub fn clears_edge(
+// works on copies of both rows
+fn copy_clears(
     program: &Program,
     graph: &Graph,
     statements: &[&Stmt],
@@ -151,4 +151,34 @@ pub fn clears_edge(
     let out = &mut matrices[..from.len()];
     out.copy_from_slice(from);
     clears_walking(program, graph, statements, plans, edge, row, out, fault)
+}
+
+/// Whether both layers show that no part of an edge meets such a fault. Matrices are looked at where the first layer alone
+/// doesn't show it.
+pub fn clears_edge(
+    program: &Program,
+    graph: &Graph,
+    statements: &[&Stmt],
+    plans: &[PackPlan],
+    edge: Edge,
+    fact: &[i128],
+    from: &[i128],
+    fault: Kind,
+) -> bool
+    requires held { ∥ IsHeld (plain_program program.now) graph.now statements.now ∥₁ }
+    requires of_graph { Contains graph.now.edges edge }
+    requires plans { ArePlansOf (plain_program program.now) plans.now }
+    requires packs { length plans.now ≤ 32 }
+    requires reached { IsReached fact.now }
+    requires fits { CellsFit (owns (plain_program program.now)) (cells_of fact.now) }
+    requires words { length fact.now ≤ 1025 }
+    requires few { length from.now ≤ 2592 }
+    requires matrices { IsRowFor plans.now from.now }
+    ensures { result ≡ edge_clears2 (plain_program program.now) graph.now (plain_plans plans.now) fault (cells_of fact.now)
+        (matrices_for plans.now from.now) edge }
+{
+    if cell_layer::clears_edge(program, graph, statements, edge, fact, fault) {
+        return true;
+    }
+    copy_clears(program, graph, statements, plans, edge, fact, from, fault)
 }

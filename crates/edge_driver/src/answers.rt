@@ -1,37 +1,13 @@
 //! Answers to cases.
-ghost use Rattle.std.specs.Prelude.{◌≤◌, IfSome};
 ghost use Rattle.dom_laws.specs.Lattice.{IsElement};
 ghost use Rattle.cert_text.specs.View.{Place};
 ghost use Rattle.claimed_rows.specs.Claims.{claimed_row};
 
-use crate::flow::post;
-use crate::rows::{claimed_by, row_of, shown_row};
-use cob_tree::Kind;
+use crate::rows::shown_row;
 use decimal_interval::Interval;
 use dom_laws::Layer;
+use layer_cases::{claimed_by, kind_of, number_of, post, row_of};
 use std::alloc::{AllocError, Global};
-
-fn kind_of(word: &str) -> Option<Kind> {
-    match word {
-        "SIZE" => Some(Kind::Size),
-        "TRUNCATION" => Some(Kind::Truncation),
-        "ZERO" => Some(Kind::Zero),
-        "CLASS" => Some(Kind::Class),
-        _ => None,
-    }
-}
-
-// The number of one of so many.
-fn number_of(word: &str, count: u32) -> Option<u32>
-    ensures { IfSome result (λ number. (1 ≤ number) × (number ≤ count)) }
-{
-    let number = word.parse::<u32>().ok()?;
-    if 1 <= number && number <= count {
-        Some(number)
-    } else {
-        None
-    }
-}
 
 // What an edge makes of a row.
 fn post_case<L: Layer>(

@@ -12,7 +12,6 @@
 
 mod answers;
 mod cases;
-mod flow;
 mod graph_text;
 mod part_text;
 mod rows;

@@ -13,7 +13,7 @@ use Rattle.cob_front.specs.Laws.{OneAnswer}
 use Rattle.command_words.specs.Commands.{Run}
 use Rattle.file_paths.specs.Paths.{paths_of}
 use Rattle.command_answers.specs.Profile.{IsOfProfile, IsProfileCause}
-use Rattle.command_answers.specs.Answer.{Answer, Usage, Absent, Refused, NotYet, CertificateLong, CertificateBad, CertificateMisfit, NotInductive, Report}
+use Rattle.command_answers.specs.Answer.{Answer, Usage, Absent, Refused, CertificateLong, CertificateBad, CertificateMisfit, NotInductive, Report}
 use Rattle.command_answers.proofs.Found.{held_bytes}
 use Rattle.command_answers.proofs.Sources.{one_cause, none_in_profile}
 use Rattle.run_command.specs.Runs.{Task, task, Makes, HoldsTask, BlamesWord, AnswersRun}
@@ -106,11 +106,10 @@ module _ (r : Run) where
       answer_comes (Usage word) h =
           let w = held_bytes (get contents r.source) (λ bytes. BlamesWord bytes r.names word) h in
           (Some (blamed word), (w.0, w.1, w.2), refl)
-      answer_comes (NotYet line) h = absurd h
       answer_comes CertificateLong h = absurd h
       answer_comes (CertificateBad line) h = absurd h
       answer_comes (CertificateMisfit what found wanted) h = absurd h
-      answer_comes (NotInductive edge gap) h = absurd h
+      answer_comes (NotInductive layer edge gap) h = absurd h
       answer_comes (Report alarms) h = absurd h
 
       pub one_for_run : (a b : Answer) → AnswersRun contents r a → AnswersRun contents r b → a ≡ b

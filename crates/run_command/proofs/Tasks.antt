@@ -16,7 +16,7 @@ use Rattle.command_answers.specs.declared.answer.Answer as code
 use Rattle.command_answers.specs.declared.answer.Stop.{Stop}
 use Rattle.command_answers.specs.declared.source.Laid.{Laid}
 use Rattle.command_answers.specs.Profile.{IsProfileCause}
-use Rattle.command_answers.specs.Answer.{Answer, Usage, Absent, Refused, NotYet, CertificateLong, CertificateBad, CertificateMisfit, NotInductive, Report}
+use Rattle.command_answers.specs.Answer.{Answer, Usage, Absent, Refused, CertificateLong, CertificateBad, CertificateMisfit, NotInductive, Report}
 use Rattle.command_answers.specs.Steps.{Reads, refused_by_fault, answer_to, IsLaid}
 use Rattle.command_answers.specs.View.{plain_answer, plain_result}
 use Rattle.command_answers.proofs.Found.{at_held}
@@ -96,11 +96,10 @@ module _ (r : Run) (bytes : List ℕ) where
   known_answer (Some contents) held (Usage word) h =
       at_held (get contents r.source) bytes (λ bs. BlamesWord bs r.names word) held h
   known_answer (Some contents) held (Absent name) h = absurd h
-  known_answer (Some contents) held (NotYet line) h = absurd h
   known_answer (Some contents) held CertificateLong h = absurd h
   known_answer (Some contents) held (CertificateBad line) h = absurd h
   known_answer (Some contents) held (CertificateMisfit what found wanted) h = absurd h
-  known_answer (Some contents) held (NotInductive edge gap) h = absurd h
+  known_answer (Some contents) held (NotInductive layer edge gap) h = absurd h
   known_answer (Some contents) held (Report alarms) h = absurd h
 
   module _ (known : Option Contents) (held : IfSome known (λ contents. get contents r.source ≡ Some bytes)) where

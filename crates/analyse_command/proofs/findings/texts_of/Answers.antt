@@ -7,11 +7,8 @@ use Rattle.check_command.proofs.OneCheck.{one_for_certificate}
 use Rattle.analyse_command.specs.Analysis.{analysis, pairs_of, report_of}
 use Rattle.analyse_command.proofs.findings.texts_of.Goals as goal
 
-pub check_plain-requires-clause-allowed : goal.check_plain-requires-clause-allowed
-check_plain-requires-clause-allowed c = c.requires.found.allowed
-
-pub check_plain-requires-clause-plain : goal.check_plain-requires-clause-plain
-check_plain-requires-clause-plain c = c.requires.found.plain
+pub check_certificate-requires-clause-allowed : goal.check_certificate-requires-clause-allowed
+check_certificate-requires-clause-allowed c = c.requires.found.allowed
 
 pub returns : goal.returns
 returns c =
@@ -22,7 +19,7 @@ returns c =
     let found = c.requires.found in
     let same : plain_answer c.in_ok-report.report ≡ report_of a =
     one_for_certificate p graph claims (plain_answer c.in_ok-report.report) (report_of a) c.in_ok-report.ensures
-    (found.plain, (pairs_of a, found.accepts, refl)) in
+    (pairs_of a, found.accepts, refl) in
     record {
       found = found;
       certificate = c.in_ok-certificate.ensures;

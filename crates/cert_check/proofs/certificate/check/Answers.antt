@@ -8,4 +8,5 @@ pub returns-clause-sound : goal.returns-clause-sound
 returns-clause-sound c =
     let p = plain_program c.args.program.now in
     let g = c.args.graph.now in
-    answer_covers p g (view c.args.cert.now) c.check_all.result c.requires.source (layer_laws p g c.requires.source) c.check_all.ensures
+    answer_covers p g (view c.args.cert.now) c.check_all.result c.requires.source (layer_laws p g c.requires.source) c.requires.allowed
+    c.check_all.ensures

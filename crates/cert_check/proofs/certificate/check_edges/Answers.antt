@@ -14,8 +14,8 @@ pass-requires-clause-rows c =
     have_elements (plain_program c.args.layer.now.program.now) c.args.layer.now.graph.now (view c.args.rows.now.cert.now)
     (lists_of c.args.layer.now.thresholds.now) c.args.rows.now.owns.now c.requires.given.own
 
-pub left_open-requires-clause-inductive : goal.left_open-requires-clause-inductive
-left_open-requires-clause-inductive c =
+pub check_beside-requires-clause-inductive : goal.check_beside-requires-clause-inductive
+check_beside-requires-clause-inductive c =
     let p = plain_program c.args.layer.now.program.now in
     let g = c.args.layer.now.graph.now in
     inductive_there p g (view c.args.rows.now.cert.now) c.args.rows.now.owns.now c.requires.given.own

@@ -3,5 +3,5 @@ use Rattle.cert_check.proofs.LayerLaws.{layer_laws}
 use Rattle.cert_check.proofs.laws.accepted_claims_cover_runs.Goals as goal
 
 pub returns : goal.returns
-returns c = λ p g cert pairs source accepts.
-    accepted_covers p g cert pairs ∣ source ∣₁ (layer_laws p g ∣ source ∣₁) accepts
+returns c = λ p g cert pairs source allowed accepts.
+    accepted_covers p g cert pairs ∣ source ∣₁ (layer_laws p g ∣ source ∣₁) allowed accepts

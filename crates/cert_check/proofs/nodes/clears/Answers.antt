@@ -1,21 +1,14 @@
-use Rattle.cob_program.specs.ActView.{plain_program}
-use Rattle.cert_text.specs.View.{view}
-use Rattle.cell_rows.specs.Rows.{lists_of}
-use Rattle.cert_check.proofs.Asking.{claimed_element, clears_is}
-use Rattle.cert_check.proofs.nodes.clears.Goals as goal
 use Rattle.std.proofs.Common.{subst, sym}
 use Rattle.dom_laws.specs.Lattice.{IsElement}
-use Rattle.cell_rows.specs.Rows.{cells_lattice}
-use Rattle.cell_storages.specs.Homes.{owns}
+use Rattle.cert_check.proofs.Asking.{clears_tell}
+use Rattle.cert_check.proofs.nodes.clears.Goals as goal
 
 pub clears-requires-clause-row : goal.clears-requires-clause-row
-clears-requires-clause-row c =
-    let p = plain_program c.args.layer.now.program.now in
-    let lists = lists_of c.args.layer.now.thresholds.now in
-    subst (IsElement (cells_lattice (owns p) lists)) (sym c.row.ensures)
-    (claimed_element p c.args.layer.now.graph.now (view c.args.rows.now.cert.now) c.args.rows.now.owns.now c.requires.given.own lists c.args.node)
+clears-requires-clause-row g c =
+    subst (IsElement (g.L.Domain.lattice c.args.layer.now)) (sym c.row.ensures) (c.requires.rows c.args.node c.requires.node)
 
 pub returns : goal.returns
-returns c =
-    clears_is (plain_program c.args.layer.now.program.now) c.args.layer.now.graph.now (view c.args.rows.now.cert.now)
-    c.args.rows.now.owns.now c.requires.given.own c.args.node c.args.fault c.row.result.now c.clears.result c.row.ensures c.clears.ensures
+returns g c = λ clears tell.
+    clears_tell c.clears.result (clears c.args.node c.args.fault)
+    (λ row. (g.L.Layer.meaning c.args.layer.now).Clears c.args.node row c.args.fault) c.row.result.now (g.R.Rows.row_at c.args.rows.now c.args.node)
+    c.row.ensures c.clears.ensures (tell c.args.node c.args.fault c.requires.node)

@@ -1,10 +1,11 @@
-use Rattle.std.proofs.Common.{◌≡◌}
+use Rattle.std.specs.Prelude.{◌≡◌, ℕ, Bool}
 use Rattle.std.specs.List.{flat_map, range_with_len}
-use Rattle.cob_program.specs.ActView.{plain_program}
-use Rattle.cert_text.specs.View.{view}
-use Rattle.cert_check.specs.Claims.{opens_of}
+use Rattle.cob_tree.specs.declared.fault.Kind.{Kind}
+use Rattle.cert_check.specs.OpenPairs.{opens_by}
+use Rattle.cert_check.specs.Clearing.{TestsTell}
 use Rattle.cert_check.proofs.nodes.open_pairs.Given as goal
 
 abbrev pub invariant-loop-k : goal.invariant-loop-k
-invariant-loop-k l =
-    l.pairs.items ≡ flat_map (opens_of (plain_program l.fn.layer.program.now) l.fn.layer.graph.now (view l.fn.rows.cert.now)) (range_with_len 1 l.k)
+invariant-loop-k g l =
+    (clears : ℕ → Kind → Bool) → TestsTell (g.L.System.flow l.fn.layer) (g.L.Layer.meaning l.fn.layer) (g.R.Rows.row_at l.fn.rows) clears →
+    l.pairs.items ≡ flat_map (opens_by l.fn.graph clears) (range_with_len 1 l.k)

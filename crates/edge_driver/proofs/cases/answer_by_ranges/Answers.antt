@@ -3,7 +3,7 @@ use Rattle.cob_program.specs.ActView.{plain_program}
 use Rattle.cell_rows.specs.Rows.{lists_of}
 use Rattle.cell_storages.specs.Homes.{owns}
 use Rattle.cert_check.proofs.Sources.{lists_are_short, thresholds_of}
-use Rattle.edge_driver.proofs.Claims.{claimed_element}
+use Rattle.layer_cases.proofs.Claims.{claims_are_elements}
 use Rattle.edge_driver.proofs.cases.answer_by_ranges.Goals as goal
 
 pub new-requires-clause-lists : goal.new-requires-clause-lists
@@ -16,5 +16,5 @@ new-requires-clause-ends c =
 pub answer_lines-requires : goal.answer_lines-requires
 answer_lines-requires c =
     let o = c.in_ok-layer in
-    λ place. claimed_element (plain_program o.layer.program.now) c.args.graph.now (lists_of o.layer.thresholds.now) c.args.ranges.now
-    (c.requires.ranges ∙ ap (λ q. owns (plain_program q)) (sym o.ensures.program)) place
+    λ place. claims_are_elements (owns (plain_program o.layer.program.now)) c.args.ranges.now
+    (c.requires.ranges ∙ ap (λ q. owns (plain_program q)) (sym o.ensures.program)) (lists_of o.layer.thresholds.now) place

@@ -1,0 +1,152 @@
+//! The cases of a source, over the layers of its graph.
+ghost use Rattle.std.specs.Prelude.{◌≡◌, ◌≤◌, length};
+ghost use Rattle.cob_program.specs.ActView.{plain_program};
+ghost use Rattle.cob_graph.specs.declared.graph.Graph.{Graph as AnyGraph};
+ghost use Rattle.cob_graph.specs.Graphs.{IsGraph};
+ghost use Rattle.cob_graph_build.specs.Limits.{IsWithinLimits};
+ghost use Rattle.graph_runs.specs.Sources.{IsSourceGraph};
+ghost use Rattle.cell_rows.specs.Rows.{IsRow};
+ghost use Rattle.cell_storages.specs.Homes.{owns};
+ghost use Rattle.pack_rows.specs.Rows.{lists_of};
+ghost use Rattle.claimed_matrices.specs.Claims.{cells_in, sizes_of};
+ghost use Rattle.diff_layer_laws.specs.Packs.{ArePacksOfCells};
+ghost use Rattle.diff_driver.specs.Rows.{no_thresholds};
+
+use crate::answers::answer_to;
+use crate::facts::SameRow;
+use crate::matrices::row_with;
+use crate::packs::{no_thresholds, packs_of};
+use case_words::words_of;
+use cert_check::own_ranges;
+use cob_graph::Graph;
+use cob_graph_build::{graph_of, nested};
+use cob_program::Program;
+use decimal_interval::Interval;
+use diff_bounds::Pack;
+use diff_layer::DiffLayer;
+use dom_laws::Domain;
+use layer_cases::{claimed_by, row_of};
+use std::alloc::{AllocError, Global};
+use std::io;
+
+/// What a case that can't be read is answered.
+const NO_CASE: &str = "no case";
+
+// By the layer over packs, with its row.
+fn answer_by_layer(
+    alloc: Global,
+    layer: &DiffLayer<SameRow>,
+    case: &[&str],
+    words: &[&str],
+) -> Result<Option<String>, AllocError>
+    requires { lists_of layer.now.thresholds.now ≡ no_thresholds (sizes_of (cells_in layer.now.packs.now)) }
+{
+    match row_with(alloc, layer.packs, words, layer.words())? {
+        Some(row) => answer_to(alloc, layer, case, row.as_slice()),
+        None => Ok(None),
+    }
+}
+
+// Beside what is known of the cells, the same at each node.
+fn answer_beside(
+    alloc: Global,
+    program: &Program,
+    graph: &Graph,
+    packs: &[Pack],
+    row: &[i128],
+    case: &[&str],
+    words: &[&str],
+) -> Result<Option<String>, AllocError>
+    requires source { ∥ IsSourceGraph (plain_program program.now) graph.now ∥₁ }
+    requires limits { IsWithinLimits graph.now }
+    requires few { length packs.now ≤ 32 }
+    requires packs { ArePacksOfCells (length graph.now.cells) packs.now }
+    requires row { IsRow (owns (plain_program program.now)) row.now }
+{
+    let facts = SameRow {
+        row,
+        nodes: graph.nodes.get().len() as u32,
+    };
+    let thresholds = no_thresholds(alloc, packs)?;
+    let layer = DiffLayer::new(alloc, program, graph, packs, thresholds.as_slice(), &facts)?;
+    answer_by_layer(alloc, &layer, case, words)
+}
+
+// By the words of the packs and of the cells.
+fn answer_in_packs(
+    alloc: Global,
+    program: &Program,
+    graph: &Graph,
+    ranges: &[Interval],
+    sections: &[Vec<&str>],
+) -> Result<Option<String>, AllocError>
+    requires source { ∥ IsSourceGraph (plain_program program.now) graph.now ∥₁ }
+    requires limits { IsWithinLimits graph.now }
+    requires ranges { ranges.now ≡ owns (plain_program program.now) }
+{
+    let [case, packs, row, words] = sections else {
+        return Ok(None);
+    };
+    let cells = graph.cells.get().len() as u32;
+    let Some(packs) = packs_of(alloc, packs.as_slice(), cells)? else {
+        return Ok(None);
+    };
+    let Some(place) = claimed_by(alloc, row.as_slice())? else {
+        return Ok(None);
+    };
+    let row = row_of(alloc, ranges, &place)?;
+    answer_beside(
+        alloc,
+        program,
+        graph,
+        packs.as_slice(),
+        row.as_slice(),
+        case.as_slice(),
+        words.as_slice(),
+    )
+}
+
+fn answer_line(
+    rt: &HostRuntime,
+    program: &Program,
+    graph: &Graph,
+    ranges: &[Interval],
+    line: &str,
+) -> io::Result<()>
+    requires source { ∥ IsSourceGraph (plain_program program.now) graph.now ∥₁ }
+    requires limits { IsWithinLimits graph.now }
+    requires ranges { ranges.now ≡ owns (plain_program program.now) }
+{
+    let mut sections = Vec::new(rt.alloc());
+    for section in line.split('|') {
+        sections.push(words_of(rt.alloc(), section)?)?;
+    }
+    match answer_in_packs(rt.alloc(), program, graph, ranges, sections.as_slice())? {
+        Some(answer) => println!(rt; "{answer}"),
+        None => println!(rt; "{NO_CASE}"),
+    }
+}
+
+fn answer_over_graph(rt: &HostRuntime, program: &Program, graph: &Graph) -> io::Result<()>
+    requires source { ∥ IsSourceGraph (plain_program program.now) graph.now ∥₁ }
+    requires limits { IsWithinLimits graph.now }
+{
+    let ranges = own_ranges(rt.alloc(), graph.cells.get())?;
+    for line in rt.lines(rt.alloc()) {
+        answer_line(rt, program, graph, ranges.as_slice(), line?.as_str())?;
+    }
+    Ok(())
+}
+
+/// Answers the cases of the standard input for a program, or says why it has no graph.
+pub fn answer_for_program(rt: &HostRuntime, program: &Program) -> io::Result<()>
+    requires { (g : AnyGraph) → IsGraph (plain_program program.now) g → IsSourceGraph (plain_program program.now) g }
+{
+    if let Err(end) = nested(rt.alloc(), program) {
+        return println!(rt; "{end:?}");
+    }
+    match graph_of(rt.alloc(), program) {
+        Ok(graph) => answer_over_graph(rt, program, &graph),
+        Err(end) => println!(rt; "{end:?}"),
+    }
+}

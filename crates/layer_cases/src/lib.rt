@@ -1,0 +1,14 @@
+//! What the programs that try a layer of the analysis share: words of their cases, the row that the words of cells claim,
+//! and what an edge makes of a row.
+//!
+//! A row has two words for each cell: the ends of its interval, or `- -` where nothing is known of it. Each interval is
+//! met with the cell's own range.
+#![tactic(auto)]
+
+mod flow;
+mod rows;
+mod words;
+
+pub use flow::post;
+pub use rows::{claimed_by, row_of};
+pub use words::{kind_of, number_of};
