@@ -12,7 +12,7 @@ use Rattle.decimal_interval.specs.declared.bounds.Interval.{Interval}
 use Rattle.cell_rows.specs.Known.{HasEnds}
 use Rattle.cell_rows.specs.Elements.{AreThresholds}
 use Rattle.cell_rows.specs.Rows.{lists_of}
-use Rattle.cell_storages.specs.Homes.{own_range, picture_range}
+use Rattle.cell_steps.specs.Homes.{own_range, picture_range}
 use Rattle.analyse_core.specs.Thresholds.{lies_in, can_take, inserted, noted, all_noted, firsts, beside_literal, noted_beside, cell_thresholds, thresholds_for, Rises}
 use Rattle.analyse_core.proofs.Rising.{Has, LiesIn, all_inserted, inserted_length, inserted_rises, inserted_has, inserted_keeps, has_ends}
 

@@ -14,9 +14,9 @@ use Rattle.cell_rows.specs.Elements.{Element, ElementFits, ElementBelow, joined_
 use Rattle.cell_rows.specs.Rows.{cells_lattice, element_of, row_from, width_of}
 use Rattle.cell_rows.proofs.AllCells.{element_reflexive, element_transitive, element_join_fits, element_join_left, element_join_right}
 use Rattle.cell_rows.proofs.Rows.{element_back}
-use Rattle.cell_storages.specs.Homes.{owns}
-use Rattle.cell_layer_laws.specs.Entry.{entry_cells}
-use Rattle.cell_layer_laws.specs.Layer.{cell_flow, post_at, row_for}
+use Rattle.cell_steps.specs.Homes.{owns}
+use Rattle.cell_laws.specs.Entry.{entry_cells}
+use Rattle.cell_laws.specs.Layer.{cell_flow, post_at, row_for}
 use Rattle.cert_text.specs.View.{Place, Certificate}
 use Rattle.cert_check.proofs.Lists.{equal_or_less}
 use Rattle.cert_check.proofs.Accepting.{claimed}

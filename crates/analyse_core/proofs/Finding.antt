@@ -25,9 +25,9 @@ use Rattle.cell_rows.specs.Known.{Known}
 use Rattle.cell_rows.specs.Elements.{Element, CellsFit, ElementFits, AreThresholds}
 use Rattle.cell_rows.specs.Rows.{cells_lattice, element_of}
 use Rattle.cell_rows.proofs.AllCells.{fits_length}
-use Rattle.cell_storages.specs.Homes.{own_range, picture_range, owns}
-use Rattle.cell_facts.proofs.Homes.{homes_have_own_ranges}
-use Rattle.cell_layer_laws.specs.Layer.{cell_flow, clears_at, statement_at}
+use Rattle.cell_steps.specs.Homes.{own_range, picture_range, owns}
+use Rattle.cell_laws.proofs.Homes.{homes_have_own_ranges}
+use Rattle.cell_laws.specs.Layer.{cell_flow, clears_at, statement_at}
 use Rattle.cert_text.specs.View.{Certificate}
 use Rattle.cert_text.specs.Allowed.{IsAllowed, packs_fit, claim_fits, claims_fit, place_fits, places_all_fit}
 use Rattle.claimed_rows.specs.Claims.{claimed_row, place_at}

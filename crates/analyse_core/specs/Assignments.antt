@@ -12,8 +12,8 @@ use Rattle.cell_rows.specs.Elements.{Element, height_of}
 use Rattle.cell_rows.specs.Rows.{cells_lattice, element_of}
 use Rattle.cert_text.specs.View.{Certificate}
 use Rattle.claimed_rows.specs.Claims.{place_at, written_element}
-use Rattle.cell_storages.specs.Homes.{owns}
-use Rattle.cell_layer_laws.specs.Layer.{cell_flow}
+use Rattle.cell_steps.specs.Homes.{owns}
+use Rattle.cell_laws.specs.Layer.{cell_flow}
 use Rattle.cert_check.specs.OpenPairs.{open_at, is_cleared_by}
 use Rattle.cert_check.specs.Claims.{cell_leaks, cells_clear, open_pairs}
 use Rattle.cert_check.specs.Checking.{HasShape}

@@ -10,7 +10,7 @@ ghost use Rattle.cob_graph.specs.Graphs.{IsGraph};
 ghost use Rattle.cob_graph_build.specs.Limits.{IsWithinLimits};
 ghost use Rattle.graph_runs.specs.Sources.{IsSourceGraph};
 ghost use Rattle.cell_rows.specs.Rows.{lists_of};
-ghost use Rattle.cell_storages.specs.Homes.{owns};
+ghost use Rattle.cell_steps.specs.Homes.{owns};
 ghost use Rattle.cert_check.specs.Ranges.{ends_of};
 
 mod timing;

@@ -16,7 +16,7 @@ use Rattle.cob_program.specs.SumView.{plain_sum}
 use Rattle.cob_program.specs.ActView.{plain_act, plain_stmts, plain_whens}
 use Rattle.cob_program.specs.Act.{arith, if_, evaluate, read, given}
 use Rattle.cob_program.specs.Statements.{whens_statements}
-use Rattle.cell_storages.specs.Homes.{Home, count_homes}
+use Rattle.cell_steps.specs.Homes.{Home, count_homes}
 use Rattle.cell_homes.specs.Numbers.{list_homes, inner_homes}
 
 abbrev pub block_homes : Vec declared_stmt.Stmt Global → List Home

@@ -5,7 +5,7 @@ use Rattle.cob_program.specs.Act.{Program}
 use Rattle.cob_program.specs.Statements.{program_statements}
 use Rattle.cob_runs.specs.declared.action.Cell.{Cell}
 use Rattle.cob_graph.specs.Graphs.{cells_of}
-use Rattle.cell_storages.specs.Homes.{of_item, of_count, item_homes, count_homes, homes_of}
+use Rattle.cell_steps.specs.Homes.{of_item, of_count, item_homes, count_homes, homes_of}
 use Rattle.cell_homes.specs.Numbers.{place_from, item_from, items_of, items_before, left_at, number_of}
 use Rattle.cell_homes.proofs.LeftLemmas.{left_most, found_place, no_place}
 use Rattle.cell_homes.proofs.Parallel.{items_first, as_many, items_passed, cells_same, item_place}

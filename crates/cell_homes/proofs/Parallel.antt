@@ -10,7 +10,7 @@ use Rattle.cob_program.specs.Statements.{program_statements}
 use Rattle.cob_runs.specs.declared.action.Cell.{Cell}
 use Rattle.cob_graph.specs.Graphs as graph
 use Rattle.cob_graph.specs.Graphs.{cell, cells_of, item_cells, counters}
-use Rattle.cell_storages.specs.Homes.{Home, of_item, of_count, is_home, home_of, if_named, item_homes, turns_homes, act_homes, stmt_homes, count_homes, homes_of}
+use Rattle.cell_steps.specs.Homes.{Home, of_item, of_count, is_home, home_of, if_named, item_homes, turns_homes, act_homes, stmt_homes, count_homes, homes_of}
 use Rattle.cell_homes.specs.Numbers.{place_from, item_of, items_of, is_item, item_from, items_before}
 
 form_same : (place : ℕ) (f : Form) → items_of (graph.cell_of place f) ≡ map item_of (home_of place f)

@@ -19,7 +19,7 @@ use Rattle.result_ranges.specs.declared.amounts.AmountRange.TheVariants as range
 use Rattle.result_ranges.specs.declared.amounts.Taken.{Taken}
 use Rattle.result_ranges.specs.Sizes.{IsSmallAmount}
 use Rattle.cell_amounts.specs.Working.{CanGive, CanWork}
-use Rattle.edge_sizes.specs.Sizes.{IsSmallStore, IsSmallPart}
+use Rattle.cell_laws.specs.Sizes.{IsSmallStore, IsSmallPart}
 
 -- ---- items
 

@@ -24,9 +24,9 @@ use Rattle.data_laws.specs.Statements.{IsIn, IsFound}
 use Rattle.data_laws.proofs.Listed.{found_is_listed, listed_is_found}
 use Rattle.cell_rows.specs.Known.{Known}
 use Rattle.cell_steps.specs.Edges.{post_cells, clears_edge}
-use Rattle.cell_layer_laws.specs.Layer.{left, edge_cells, edge_clears}
-use Rattle.edge_sizes.specs.Sizes.{IsSmallPart}
-use Rattle.edge_sizes.proofs.Small.{edges_are_small_of_sources}
+use Rattle.cell_laws.specs.Layer.{left, edge_cells, edge_clears}
+use Rattle.cell_laws.specs.Sizes.{IsSmallPart}
+use Rattle.cell_laws.proofs.Small.{edges_are_small_of_sources}
 use Rattle.cell_walk.specs.Statements.{number_in, act_in}
 use Rattle.cell_layer.specs.Statements.{IsNumbered}
 use Rattle.cell_layer.specs.Edges.{statement_post, statement_clears}

@@ -20,10 +20,10 @@ use Rattle.cell_rows.specs.Known.{Known}
 use Rattle.cell_rows.specs.Elements.{CellsFit}
 use Rattle.cell_rows.specs.Rows.{IsReached, cells_of}
 use Rattle.cell_rows.proofs.AllCells.{fits_length}
-use Rattle.cell_storages.specs.Homes.{homes_of, home_range, owns}
+use Rattle.cell_steps.specs.Homes.{homes_of, home_range, owns}
 use Rattle.cell_walk.proofs.SmallHomes.{cells_are_small}
-use Rattle.cell_layer_laws.specs.Layer.{left, row_for, edge_cells, edge_clears}
-use Rattle.edge_sizes.specs.Sizes.{IsSmallPart}
+use Rattle.cell_laws.specs.Layer.{left, row_for, edge_cells, edge_clears}
+use Rattle.cell_laws.specs.Sizes.{IsSmallPart}
 use Rattle.cell_walk.specs.Statements.{act_in, number_in}
 use Rattle.cell_layer.specs.Statements.{IsNumbered}
 use Rattle.cell_layer.specs.Edges.{CanWalk, statement_post, statement_clears}

@@ -22,9 +22,9 @@ use Rattle.graph_runs.specs.Places.{no_edge}
 use Rattle.graph_runs.specs.Sources.{IsSourceGraph}
 use Rattle.graph_runs.specs.Flows.{HasEdgesInOrder, flow_over}
 use Rattle.graph_runs.proofs.Ordering.{in_order, graphs_are_flows}
-use Rattle.cell_storages.specs.Homes.{homes_of, home_range, owns}
-use Rattle.cell_layer_laws.specs.Entry.{entry_cells}
-use Rattle.cell_layer_laws.specs.Layer.{row_for}
+use Rattle.cell_steps.specs.Homes.{homes_of, home_range, owns}
+use Rattle.cell_laws.specs.Entry.{entry_cells}
+use Rattle.cell_laws.specs.Layer.{row_for}
 use Rattle.cell_layer.specs.Held.{HasFewParts, IsHeld}
 use Rattle.cell_walk.proofs.FirstCells.{homes_many}
 use Rattle.cell_layer.proofs.AtMostOne.{items_prop}

@@ -11,11 +11,11 @@ use Rattle.cell_rows.specs.Known.{Known}
 use Rattle.cell_rows.specs.Elements.{CellsFit}
 use Rattle.cell_rows.specs.Rows.{cells_of, width_of}
 use Rattle.cell_rows.proofs.Places.{words_length}
-use Rattle.cell_storages.specs.Homes.{homes_of, home_range, owns}
+use Rattle.cell_steps.specs.Homes.{homes_of, home_range, owns}
 use Rattle.cell_steps.specs.Seen.{Seen, beginning}
 use Rattle.cell_steps.specs.Edges.{finished}
 use Rattle.cell_walk.specs.ProgramRows.{IsRowOf}
-use Rattle.edge_sizes.specs.Sizes.{IsSmallPart}
+use Rattle.cell_laws.specs.Sizes.{IsSmallPart}
 use Rattle.cell_walk.specs.Statements.{act_in}
 use Rattle.cell_walk.specs.Walks.{steps_small, clears_all_small, CanStep}
 use Rattle.cell_walk.proofs.SmallEdges.{posts_are_small, clears_are_small}

@@ -9,13 +9,13 @@ use Rattle.borrowed_parts.specs.PartView.{edge_parts}
 use Rattle.cell_rows.specs.Known.{Known}
 use Rattle.cell_rows.specs.Elements.{Element, CellsFit}
 use Rattle.cell_rows.specs.Rows.{cells_of}
-use Rattle.cell_storages.specs.Homes.{owns}
+use Rattle.cell_steps.specs.Homes.{owns}
 use Rattle.cell_steps.specs.Seen.{beginning}
 use Rattle.cell_steps.specs.Clearing.{clears_parts}
 use Rattle.cell_steps.specs.Edges.{steps, finished}
 use Rattle.cell_walk.specs.SmallCells.{has_small_cells}
 use Rattle.cell_walk.specs.ProgramRows.{IsRowOf}
-use Rattle.edge_sizes.specs.Sizes.{IsSmallPart}
+use Rattle.cell_laws.specs.Sizes.{IsSmallPart}
 use Rattle.cell_walk.specs.Statements.{act_in}
 
 module _ (p : Program) (y : Stmt) (x : Action) where

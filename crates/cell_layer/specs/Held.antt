@@ -11,7 +11,7 @@ use Rattle.cob_graph.specs.declared.graph.Edge.{Edge}
 use Rattle.cob_graph.specs.declared.graph.Graph.{Graph}
 use Rattle.cob_edge_parts.specs.Parts.{parts_of}
 use Rattle.graph_runs.specs.Sources.{IsSourceGraph}
-use Rattle.cell_layer_laws.specs.Layer.{left}
+use Rattle.cell_laws.specs.Layer.{left}
 use Rattle.cell_walk.specs.Statements.{number_in, act_in}
 
 -- The parts of an edge can be counted by a `u32`,

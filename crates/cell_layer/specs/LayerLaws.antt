@@ -16,10 +16,10 @@ use Rattle.cell_rows.specs.Elements.{AreThresholds}
 use Rattle.cell_rows.specs.Rows.{cells_lattice}
 use Rattle.cell_rows.proofs.Rows.{cells_are_a_lattice}
 use Rattle.graph_runs.specs.Sources.{IsSourceGraph}
-use Rattle.cell_storages.specs.Homes.{owns}
-use Rattle.cell_layer_laws.specs.Layer.{cell_flow, cell_meaning}
-use Rattle.cell_layer_laws.proofs.Flow.{cells_flow}
-use Rattle.cell_layer_laws.proofs.Meaning.{cells_mean}
+use Rattle.cell_steps.specs.Homes.{owns}
+use Rattle.cell_laws.specs.Layer.{cell_flow, cell_meaning}
+use Rattle.cell_laws.proofs.Flow.{cells_flow}
+use Rattle.cell_laws.proofs.Meaning.{cells_mean}
 use Rattle.cell_layer.specs.Held.{IsHeld}
 
 -- ---- thresholds

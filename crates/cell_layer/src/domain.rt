@@ -4,7 +4,7 @@ ghost use Rattle.std.specs.List.{All};
 ghost use Rattle.cob_program.specs.ActView.{plain_program};
 ghost use Rattle.cell_rows.specs.Elements.{height_of};
 ghost use Rattle.cell_rows.specs.Rows.{cells_lattice, lists_of};
-ghost use Rattle.cell_storages.specs.Homes.{owns};
+ghost use Rattle.cell_steps.specs.Homes.{owns};
 ghost use Rattle.cell_layer.specs.LayerLaws.{ordered_by};
 
 use crate::layer::CellLayer;

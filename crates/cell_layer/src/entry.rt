@@ -4,7 +4,7 @@ ghost use Rattle.cob_program.specs.ActView.{plain_program};
 ghost use Rattle.cob_graph.specs.Graphs.{cells_of};
 ghost use Rattle.cob_items.specs.WellFormed.{HasWellFormedItems};
 ghost use Rattle.cell_rows.specs.Rows.{row_of};
-ghost use Rattle.cell_layer_laws.specs.Entry.{entry_cells};
+ghost use Rattle.cell_laws.specs.Entry.{entry_cells};
 
 use cell_walk::first;
 use cob_program::Program;

@@ -2,7 +2,7 @@
 ghost use Rattle.std.specs.Prelude.{◌≡◌, ◌≤◌, ◌-◌, false, length, slice_index_or};
 ghost use Rattle.cob_program.specs.ActView.{plain_program};
 ghost use Rattle.graph_runs.specs.Places.{no_edge};
-ghost use Rattle.cell_layer_laws.specs.Layer.{cell_flow};
+ghost use Rattle.cell_laws.specs.Layer.{cell_flow};
 ghost use Rattle.cell_rows.specs.Rows.{lists_of};
 ghost use Rattle.cell_layer.specs.LayerLaws.{flows_by};
 

@@ -5,9 +5,9 @@ ghost use Rattle.cob_program.specs.ActView.{plain_program};
 ghost use Rattle.graph_runs.specs.Sources.{IsSourceGraph};
 ghost use Rattle.cell_rows.specs.Elements.{AreThresholds};
 ghost use Rattle.cell_rows.specs.Rows.{lists_of};
-ghost use Rattle.cell_storages.specs.Homes.{owns};
-ghost use Rattle.cell_layer_laws.specs.Entry.{entry_cells};
-ghost use Rattle.cell_layer_laws.specs.Layer.{row_for};
+ghost use Rattle.cell_steps.specs.Homes.{owns};
+ghost use Rattle.cell_laws.specs.Entry.{entry_cells};
+ghost use Rattle.cell_laws.specs.Layer.{row_for};
 ghost use Rattle.cell_layer.specs.Heads.{heads_of};
 ghost use Rattle.cell_layer.specs.Held.{IsHeld};
 

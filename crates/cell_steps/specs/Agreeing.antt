@@ -20,9 +20,9 @@ use Rattle.sum_ranges.specs.Ranged.{IsIn}
 use Rattle.result_ranges.specs.declared.amounts.Taken.{Taken}
 use Rattle.result_ranges.specs.Amounts.{IsAmount}
 use Rattle.graph_runs.specs.Counters.{PassesPart, FaultsAtPart, PassesParts}
-use Rattle.cell_storages.specs.Homes.{of_count, homes_of}
-use Rattle.cell_storages.specs.Storages.{storage, StandsIn}
-use Rattle.cell_storages.specs.Premises.{HasSoundItems}
+use Rattle.cell_steps.specs.Homes.{of_count, homes_of}
+use Rattle.cell_steps.specs.Storages.{storage, StandsIn}
+use Rattle.cell_steps.specs.Premises.{HasSoundItems}
 use Rattle.cell_rows.specs.Known.{Known}
 use Rattle.cell_steps.specs.Operands.{edge_amount, edge_operands, amount_of}
 use Rattle.cell_steps.specs.Seen.{Seen}

@@ -7,8 +7,8 @@ use Rattle.decimal_interval.specs.declared.bounds.Interval.{Interval}
 use Rattle.sum_ranges.specs.declared.ranged.Ranged.{Ranged}
 use Rattle.sum_ranges.specs.Ranged.{ranged}
 use Rattle.cell_rows.specs.Known.{Known}
-use Rattle.cell_storages.specs.Homes.{Home, of_item, of_count, is_home, home_range}
-use Rattle.cell_storages.specs.Storages.{known_of}
+use Rattle.cell_steps.specs.Homes.{Home, of_item, of_count, is_home, home_range}
+use Rattle.cell_steps.specs.Storages.{known_of}
 
 -- whether a home is known to have a number, which none without a cell is
 abbrev pub is_known : List Home → List Known → Home → Bool

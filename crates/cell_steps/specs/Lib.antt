@@ -1,3 +1,6 @@
+pub mod Homes
+pub mod Storages
+pub mod Premises
 pub mod Cells
 pub mod Operands
 pub mod Seen

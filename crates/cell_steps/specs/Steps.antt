@@ -17,7 +17,7 @@ use Rattle.guard_ranges.specs.declared.cuts.Cuts.{Cuts}
 use Rattle.guard_ranges.specs.Guards.{guarded}
 use Rattle.guard_ranges.specs.Counts.{count_kept}
 use Rattle.cell_rows.specs.Known.{Known}
-use Rattle.cell_storages.specs.Homes.{Home, of_item, of_count, homes_of}
+use Rattle.cell_steps.specs.Homes.{Home, of_item, of_count, homes_of}
 use Rattle.cell_steps.specs.Cells.{units_of, is_numeric, with_known, forgotten, is_in_bytes}
 use Rattle.cell_steps.specs.Seen.{Seen, with_cells, with_zero}
 use Rattle.cell_steps.specs.Stores.{range_at, handled, with_taken, stored}

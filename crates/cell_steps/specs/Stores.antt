@@ -17,7 +17,7 @@ use Rattle.result_ranges.specs.Receivers.{receiver_of}
 use Rattle.result_ranges.specs.ResultRanges as result
 use Rattle.cell_rows.specs.Known.{Known}
 use Rattle.cell_rows.specs.Elements.{Element, joined_element}
-use Rattle.cell_storages.specs.Homes.{of_item, homes_of}
+use Rattle.cell_steps.specs.Homes.{of_item, homes_of}
 use Rattle.cell_steps.specs.Cells as cells
 use Rattle.cell_steps.specs.Cells.{with_known, forgotten, is_beside}
 use Rattle.cell_steps.specs.Operands.{edge_operands, operands_vanish, amount_of, may_divide_by_zero, is_remainder}

@@ -11,9 +11,9 @@ use Rattle.guard_ranges.proofs.Least.{test_le}
 use Rattle.guard_ranges.proofs.CountLaws.{count_part}
 use Rattle.cell_rows.specs.Known.{Known, IsOrdered}
 use Rattle.cell_rows.specs.Elements.{CellsFit}
-use Rattle.cell_storages.specs.Homes.{of_count, homes_of, owns}
+use Rattle.cell_steps.specs.Homes.{of_count, homes_of, owns}
 use Rattle.cell_steps.specs.Cells.{units_of}
-use Rattle.cell_edges.proofs.ItemRanges.{units_fit}
+use Rattle.cell_laws.proofs.ItemRanges.{units_fit}
 use Rattle.cell_walk.proofs.ShortBounds.{signed_ends}
 
 pub count_is_ordered : (p : Program) (cells : List Known) (statement : ℕ) (i : Interval) → CellsFit (owns p) cells →

@@ -14,11 +14,11 @@ use Rattle.guard_ranges.specs.Meaning.{CutFits, CutsFit}
 use Rattle.guard_ranges.proofs.GuardLaws.{guard_fits}
 use Rattle.cell_rows.specs.Known.{Known}
 use Rattle.cell_rows.specs.Elements.{CellsFit}
-use Rattle.cell_storages.specs.Homes.{homes_of, owns}
+use Rattle.cell_steps.specs.Homes.{homes_of, owns}
 use Rattle.cell_steps.specs.Cells.{is_numeric}
 use Rattle.cell_steps.specs.Stores.{range_at}
 use Rattle.cell_steps.specs.Steps.{all_cut, guarded_cells}
-use Rattle.cell_edges.proofs.ItemRanges.{range_ordered}
+use Rattle.cell_laws.proofs.ItemRanges.{range_ordered}
 use Rattle.cell_walk.specs.ShortRanges.{short_range_at}
 use Rattle.cell_walk.proofs.ShortAnswers.{short_is}
 use Rattle.cell_walk.specs.Tests.{class_item, IsOrderedCut, AreOrderedCuts}

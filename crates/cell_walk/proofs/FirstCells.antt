@@ -19,13 +19,13 @@ use Rattle.cob_runs.specs.declared.action.Cell.{Cell}
 use Rattle.cob_runs.specs.Contents.{item_at, form_at}
 use Rattle.cob_items.specs.WellFormed.{IsShort}
 use Rattle.cob_graph.specs.Graphs.{cells_of}
-use Rattle.cell_storages.specs.Homes.{Home, of_item, of_count, home_of, if_named, item_homes, turns_homes, act_homes, count_homes, homes_of}
+use Rattle.cell_steps.specs.Homes.{Home, of_item, of_count, home_of, if_named, item_homes, turns_homes, act_homes, count_homes, homes_of}
 use Rattle.cell_homes.specs.Numbers.{item_of, items_of}
 use Rattle.cell_homes.proofs.Parallel.{cells_same}
 use Rattle.cell_rows.specs.Known.{Known, IsOrdered}
 use Rattle.cell_rows.specs.Rows as rows
 use Rattle.cell_rows.specs.Rows.{IsReached, words_in, cells_in, row_of, row_from}
-use Rattle.cell_layer_laws.specs.Entry.{value_bytes, point, entry_known, entry_cells}
+use Rattle.cell_laws.specs.Entry.{value_bytes, point, entry_known, entry_cells}
 use Rattle.cell_walk.specs.Firsts.{first_known, first_cells}
 
 -- ---- a row that is reached

@@ -14,7 +14,7 @@ use Rattle.cob_program.specs.Statements.{program_statements}
 use Rattle.cob_runs.specs.declared.action.Cell.{Cell}
 use Rattle.cob_runs.specs.Contents.{item_at}
 use Rattle.cob_graph.specs.Graphs.{cells_of}
-use Rattle.cell_storages.specs.Homes.{Home, of_item, of_count, home_of, if_named, item_homes, turns_homes, act_homes, count_homes, homes_of}
+use Rattle.cell_steps.specs.Homes.{Home, of_item, of_count, home_of, if_named, item_homes, turns_homes, act_homes, count_homes, homes_of}
 use Rattle.cell_rows.specs.Known.{Known}
 use Rattle.cell_rows.specs.Rows as rows
 use Rattle.cell_rows.specs.Rows.{IsReached}

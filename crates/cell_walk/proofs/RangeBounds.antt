@@ -6,10 +6,10 @@ use Rattle.cob_calc.specs.Contents.{bound_at}
 use Rattle.sum_ranges.specs.Working.{AreBounded}
 use Rattle.cell_rows.specs.Known.{Known}
 use Rattle.cell_rows.specs.Elements.{CellsFit}
-use Rattle.cell_storages.specs.Homes.{of_item, homes_of, owns}
+use Rattle.cell_steps.specs.Homes.{of_item, homes_of, owns}
 use Rattle.cell_steps.specs.Cells.{units_of}
 use Rattle.cell_steps.specs.Stores.{range_at}
-use Rattle.cell_edges.proofs.ItemRanges.{units_fit}
+use Rattle.cell_laws.proofs.ItemRanges.{units_fit}
 use Rattle.cell_walk.proofs.ShortBounds.{form_within}
 
 pub ranges_are_bounded : (p : Program) (cells : List Known) → CellsFit (owns p) cells → AreBounded (range_at p cells) (bound_at p.layout)

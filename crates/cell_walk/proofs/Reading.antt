@@ -9,12 +9,12 @@ use Rattle.cob_calc.specs.Contents.{bound_at}
 use Rattle.sum_ranges.specs.declared.ranged.Ranged.{Ranged}
 use Rattle.cell_rows.specs.Known.{Known, IsOrdered}
 use Rattle.cell_rows.specs.Elements.{CellsFit}
-use Rattle.cell_storages.specs.Homes.{Home, of_item, is_home, homes_of, owns}
+use Rattle.cell_steps.specs.Homes.{Home, of_item, is_home, homes_of, owns}
 use Rattle.cell_steps.specs.Cells.{units_of, with_known}
 use Rattle.cell_steps.specs.Stores.{range_at}
 use Rattle.cell_steps.specs.Steps.{read_cells}
-use Rattle.cell_edges.proofs.CellLists.{home_is}
-use Rattle.cell_edges.proofs.ItemRanges.{range_ordered}
+use Rattle.cell_laws.proofs.CellLists.{home_is}
+use Rattle.cell_laws.proofs.ItemRanges.{range_ordered}
 use Rattle.cell_walk.specs.SmallCells.{is_small_home, has_small_cells}
 
 no_cell : (l : Layout) (place : ℕ) (new : Known) (hs : List Home) (cs : List Known) → list_all (is_small_home l) hs ≡ true →

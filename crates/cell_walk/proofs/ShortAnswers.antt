@@ -15,7 +15,7 @@ use Rattle.cell_rows.specs.Known.{Known}
 use Rattle.cell_steps.specs.Operands.{edge_amount, operands_vanish}
 use Rattle.cell_steps.specs.Stores.{range_at}
 use Rattle.cell_amounts.specs.Small.{is_small_amount, has_small_sum}
-use Rattle.edge_sizes.specs.Sizes.{sends_small}
+use Rattle.cell_laws.specs.Sizes.{sends_small}
 use Rattle.cell_walk.specs.ShortRanges.{if_small, short_range_at}
 use Rattle.cell_walk.proofs.SumsAgree.{atom_same, zero_same, operands_same, operands_vanish_same}
 

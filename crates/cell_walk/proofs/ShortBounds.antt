@@ -15,10 +15,10 @@ use Rattle.sum_ranges.specs.Sizes.{IsRangeWithin}
 use Rattle.sum_ranges.specs.Working.{AreBounded}
 use Rattle.cell_rows.specs.Known.{Known, KnownFits}
 use Rattle.cell_rows.specs.Elements.{CellsFit}
-use Rattle.cell_storages.specs.Homes.{of_item, homes_of, owns, picture_range, form_range}
+use Rattle.cell_steps.specs.Homes.{of_item, homes_of, owns, picture_range, form_range}
 use Rattle.cell_steps.specs.Cells.{units_of}
 use Rattle.cell_steps.specs.Stores.{range_at}
-use Rattle.cell_edges.proofs.ItemRanges.{units_fit}
+use Rattle.cell_laws.proofs.ItemRanges.{units_fit}
 use Rattle.cell_walk.specs.ShortRanges.{if_small, short_range_at}
 
 size_within : (m : ℕ) (z : ℤ) → neg_ℤ (pos m) ≤ℤ z → z ≤ℤ pos m → unsigned_abs z ≤ m

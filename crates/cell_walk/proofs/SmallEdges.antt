@@ -15,14 +15,14 @@ use Rattle.sum_ranges.specs.Vanishing.{may_be_zero}
 use Rattle.result_ranges.specs.declared.amounts.Taken.{Taken}
 use Rattle.result_ranges.specs.ResultRanges.{count_range, lowered}
 use Rattle.cell_rows.specs.Known.{Known}
-use Rattle.cell_storages.specs.Homes.{of_item, of_count, homes_of}
+use Rattle.cell_steps.specs.Homes.{of_item, of_count, homes_of}
 use Rattle.cell_steps.specs.Cells.{units_of}
 use Rattle.cell_steps.specs.Seen.{Seen, beginning, with_cells, with_zero}
 use Rattle.cell_steps.specs.Stores.{range_at, handled, taking, with_taken, stored}
 use Rattle.cell_steps.specs.Steps.{can_divide, known_as, read_cells, guarded_cells, counted_cells, with_cells_if, after_read, after_bytes, after_count, after_divide, step}
 use Rattle.cell_steps.specs.Clearing.{is_misfit, all_fit, all_count, clears_part, clears_parts}
 use Rattle.cell_steps.specs.Edges.{steps, finished}
-use Rattle.edge_sizes.specs.Sizes.{sends_small, IsSmallPart}
+use Rattle.cell_laws.specs.Sizes.{sends_small, IsSmallPart}
 use Rattle.cell_walk.specs.Walks.{with_common, if_sent_small, trimmed, with_taken_small, step_small, clears_small, steps_small, clears_all_small}
 
 module _ (p : Program) (a : Act) (x : Action) where

@@ -30,17 +30,17 @@ use Rattle.result_ranges.specs.Sizes.{IsSmallAmount}
 use Rattle.cell_amounts.specs.Working.{CanSettleFor, CanWork, amount_from, units_from}
 use Rattle.cell_rows.specs.Known.{Known, IsOrdered, KnownFits}
 use Rattle.cell_rows.specs.Elements.{Element, CellsFit, ElementFits}
-use Rattle.cell_storages.specs.Homes.{Home, of_item, of_count, homes_of, form_range, home_range, picture_range, owns}
+use Rattle.cell_steps.specs.Homes.{Home, of_item, of_count, homes_of, form_range, home_range, picture_range, owns}
 use Rattle.cell_steps.specs.Cells.{units_of, forgotten, is_in_bytes, is_beside}
 use Rattle.cell_steps.specs.Operands.{edge_operands}
 use Rattle.cell_steps.specs.Seen.{Seen, with_cells, with_zero}
 use Rattle.cell_steps.specs.Stores.{range_at, handled, taking, amount_at, result_at, may_fail, stored_known, stored_cells, stored_element, behind_store, stored}
 use Rattle.cell_steps.specs.Steps.{can_divide, known_as, read_cells, guarded_cells, counted_cells, with_cells_if, after_read, after_divide}
-use Rattle.cell_edges.proofs.CellLists.{cells_reflexive, with_known_fits, forgotten_fits, stored_fits}
-use Rattle.cell_edges.proofs.ResultsFit.{result_fits, count_fits}
-use Rattle.cell_edges.proofs.PartsRise.{FitBelow, FitBelowIf, stored_known_fits, read_cells_below, guarded_below, counted_below}
-use Rattle.cell_edges.proofs.ResultLawsHold.{rising}
-use Rattle.edge_sizes.specs.Sizes.{sends_small, IsSmallStore, IsSmallPart}
+use Rattle.cell_laws.proofs.CellLists.{cells_reflexive, with_known_fits, forgotten_fits, stored_fits}
+use Rattle.cell_laws.proofs.ResultsFit.{result_fits, count_fits}
+use Rattle.cell_laws.proofs.PartsRise.{FitBelow, FitBelowIf, stored_known_fits, read_cells_below, guarded_below, counted_below}
+use Rattle.cell_laws.proofs.ResultLawsHold.{rising}
+use Rattle.cell_laws.specs.Sizes.{sends_small, IsSmallStore, IsSmallPart}
 use Rattle.cell_walk.specs.Kept.{step_at}
 use Rattle.cell_walk.specs.Statements.{act_in}
 use Rattle.cell_walk.specs.Walks.{if_sent_small, trimmed, with_taken_small, step_small, CanStep}

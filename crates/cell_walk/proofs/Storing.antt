@@ -8,8 +8,8 @@ use Rattle.cob_program.specs.Act.{Program}
 use Rattle.cob_runs.specs.Contents.{form_at}
 use Rattle.cell_rows.specs.Known.{Known, joined_known}
 use Rattle.cell_rows.specs.Elements.{joined}
-use Rattle.cell_storages.specs.Homes.{Home, of_item, is_home, homes_of}
-use Rattle.cell_storages.specs.Storages.{known_of}
+use Rattle.cell_steps.specs.Homes.{Home, of_item, is_home, homes_of}
+use Rattle.cell_steps.specs.Storages.{known_of}
 use Rattle.cell_steps.specs.Cells.{with_known, forgotten, is_beside}
 use Rattle.cell_steps.specs.Stores.{stored_known, stored_cells, stored_element}
 use Rattle.cell_walk.specs.Kept.{kept_or_new}

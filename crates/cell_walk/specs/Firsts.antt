@@ -6,8 +6,8 @@ use Rattle.num_bytes.specs.Reading.{contents_value}
 use Rattle.cob_runs.specs.declared.action.Cell.{Cell}
 use Rattle.cob_program.specs.Values.{◌>>=◌}
 use Rattle.cell_rows.specs.Known.{Known}
-use Rattle.cell_storages.specs.Homes.{of_item}
-use Rattle.cell_layer_laws.specs.Entry.{point, entry_known}
+use Rattle.cell_steps.specs.Homes.{of_item}
+use Rattle.cell_laws.specs.Entry.{point, entry_known}
 
 -- the number that bytes of an item of the form are read as
 abbrev pub read_known : Form → List ℕ → Known

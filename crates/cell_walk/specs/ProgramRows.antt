@@ -6,7 +6,7 @@ use Rattle.cob_graph.specs.Graphs.{cells_of}
 use Rattle.cell_rows.specs.Known.{Known}
 use Rattle.cell_rows.specs.Rows as rows
 use Rattle.cell_rows.specs.Rows.{IsReached}
-use Rattle.cell_storages.specs.Homes.{homes_of}
+use Rattle.cell_steps.specs.Homes.{homes_of}
 
 -- what is known of the cell with a number, if there is one
 abbrev pub known_in : List Known → Option ℕ → Known

@@ -13,13 +13,13 @@ use Rattle.sum_ranges.specs.declared.ranged.Ranged.{Ranged}
 use Rattle.sum_ranges.specs.Working.{AreBounded}
 use Rattle.result_ranges.specs.declared.amounts.Taken.{Taken}
 use Rattle.cell_rows.specs.Elements.{CellsFit}
-use Rattle.cell_storages.specs.Homes.{owns}
+use Rattle.cell_steps.specs.Homes.{owns}
 use Rattle.cell_steps.specs.Operands.{edge_operands}
 use Rattle.cell_steps.specs.Seen.{Seen}
 use Rattle.cell_steps.specs.Stores.{taking, stored}
 use Rattle.cell_steps.specs.Steps.{after_bytes, after_count, step}
 use Rattle.cell_steps.specs.Clearing.{is_misfit, all_fit, all_count, clears_part}
-use Rattle.edge_sizes.specs.Sizes.{sends_small}
+use Rattle.cell_laws.specs.Sizes.{sends_small}
 
 abbrev pub with_common : Seen → Option Taken → Seen
 with_common s common =

@@ -5,7 +5,7 @@ ghost use Rattle.cob_program.specs.ActView.{plain_program};
 ghost use Rattle.result_ranges.specs.ResultRanges.{lowered, count_range};
 ghost use Rattle.cell_rows.specs.Elements.{CellsFit};
 ghost use Rattle.cell_rows.specs.Rows.{cells_of};
-ghost use Rattle.cell_storages.specs.Homes.{of_count, picture_range, homes_of, owns};
+ghost use Rattle.cell_steps.specs.Homes.{of_count, picture_range, homes_of, owns};
 ghost use Rattle.cell_steps.specs.Cells.{is_known, known_or, units_of};
 ghost use Rattle.cell_steps.specs.Steps.{known_as, read_cells, counted_cells};
 ghost use Rattle.cell_walk.specs.ProgramRows.{IsRowOf};

@@ -5,7 +5,7 @@ ghost use Rattle.cob_program.specs.ActView.{plain_program};
 ghost use Rattle.result_ranges.specs.ResultRanges.{lowered, count_may_fail};
 ghost use Rattle.cell_rows.specs.Elements.{CellsFit};
 ghost use Rattle.cell_rows.specs.Rows.{cells_of};
-ghost use Rattle.cell_storages.specs.Homes.{owns, homes_of, of_count};
+ghost use Rattle.cell_steps.specs.Homes.{owns, homes_of, of_count};
 ghost use Rattle.cell_steps.specs.Cells.{units_of};
 ghost use Rattle.cell_steps.specs.Steps.{after_count, after_down, counted_cells, with_cells_if};
 ghost use Rattle.cell_walk.specs.ProgramRows.{IsRowOf};

@@ -9,7 +9,7 @@ ghost use Rattle.sum_ranges.specs.Vanishing.{holds_zero};
 ghost use Rattle.borrowed_parts.specs.PartView.{plain_divisor};
 ghost use Rattle.cell_rows.specs.Elements.{CellsFit};
 ghost use Rattle.cell_rows.specs.Rows.{cells_of};
-ghost use Rattle.cell_storages.specs.Homes.{owns};
+ghost use Rattle.cell_steps.specs.Homes.{owns};
 ghost use Rattle.cell_steps.specs.Steps.{can_divide, after_divide};
 ghost use Rattle.cell_steps.specs.Stores.{range_at};
 ghost use Rattle.cell_walk.specs.ProgramRows.{IsRowOf};

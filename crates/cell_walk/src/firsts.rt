@@ -11,9 +11,9 @@ ghost use Rattle.cob_runs.specs.Contents.{item_at, form_at, fitted, number_in, s
 ghost use Rattle.cob_runs.specs.Moves.{takes_number, number_of, text_of, moved_text, moved_number, moved};
 ghost use Rattle.cob_graph.specs.Graphs.{cells_of as program_cells};
 ghost use Rattle.cob_items.specs.WellFormed.{HasWellFormedItems, IsWellFormedForm, IsWellFormedItem, IsShort, IsConstant, IsCountable, CanMove};
-ghost use Rattle.cell_storages.specs.Homes.{of_item};
+ghost use Rattle.cell_steps.specs.Homes.{of_item};
 ghost use Rattle.cell_rows.specs.Rows.{IsReached, cells_of, row_of};
-ghost use Rattle.cell_layer_laws.specs.Entry.{entry_known, entry_cells};
+ghost use Rattle.cell_laws.specs.Entry.{entry_known, entry_cells};
 ghost use Rattle.cell_walk.specs.Firsts.{read_known, put_known, first_known, first_cells};
 
 use crate::pictures::item_at;

@@ -5,7 +5,7 @@ ghost use Rattle.cob_program.specs.Bounds.{of_digits, is_small};
 ghost use Rattle.cob_calc.specs.Contents.{bound_at};
 ghost use Rattle.sum_ranges.specs.Ranged.{ranged};
 ghost use Rattle.cell_rows.specs.Rows.{cells_of};
-ghost use Rattle.cell_storages.specs.Homes.{picture_range, homes_of};
+ghost use Rattle.cell_steps.specs.Homes.{picture_range, homes_of};
 ghost use Rattle.cell_steps.specs.Cells.{known_or, is_numeric};
 ghost use Rattle.cell_steps.specs.Stores.{range_at};
 ghost use Rattle.cell_walk.specs.ProgramRows.{IsRowOf};

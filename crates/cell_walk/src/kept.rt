@@ -6,7 +6,7 @@ ghost use Rattle.cob_edge_parts.specs.Parts.{is_handled};
 ghost use Rattle.cell_amounts.specs.Small.{has_small_sum};
 ghost use Rattle.cell_rows.specs.Elements.{CellsFit};
 ghost use Rattle.cell_rows.specs.Rows.{cells_of};
-ghost use Rattle.cell_storages.specs.Homes.{owns};
+ghost use Rattle.cell_steps.specs.Homes.{owns};
 ghost use Rattle.cell_steps.specs.Operands.{edge_operands, operands_vanish};
 ghost use Rattle.cell_steps.specs.Seen.{beginning};
 ghost use Rattle.cell_steps.specs.Stores.{range_at};

@@ -1,8 +1,8 @@
 //! What is known of a cell, by its home.
 ghost use Rattle.std.specs.Prelude.{◌≡◌, Some};
 ghost use Rattle.cob_program.specs.ActView.{plain_program};
-ghost use Rattle.cell_storages.specs.Homes.{of_item, of_count, homes_of};
-ghost use Rattle.cell_storages.specs.Storages.{known_of};
+ghost use Rattle.cell_steps.specs.Homes.{of_item, of_count, homes_of};
+ghost use Rattle.cell_steps.specs.Storages.{known_of};
 ghost use Rattle.cell_rows.specs.Known.{IsOrdered};
 ghost use Rattle.cell_rows.specs.Rows.{IsReached, cells_of};
 ghost use Rattle.cell_steps.specs.Cells.{with_known};

@@ -3,7 +3,7 @@ ghost use Rattle.std.specs.Prelude.{◌≡◌, true};
 ghost use Rattle.cob_program.specs.ActView.{plain_program};
 ghost use Rattle.cell_rows.specs.Elements.{CellsFit};
 ghost use Rattle.cell_rows.specs.Rows.{cells_of};
-ghost use Rattle.cell_storages.specs.Homes.{of_item, owns};
+ghost use Rattle.cell_steps.specs.Homes.{of_item, owns};
 ghost use Rattle.cell_steps.specs.Steps.{read_cells};
 ghost use Rattle.cell_walk.specs.ProgramRows.{IsRowOf};
 ghost use Rattle.cell_walk.specs.SmallCells.{has_small_cells};

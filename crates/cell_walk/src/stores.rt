@@ -13,11 +13,11 @@ ghost use Rattle.cell_amounts.specs.Working.{CanSettleFor, CanWork, amount_from,
 ghost use Rattle.cell_rows.specs.Elements.{CellsFit};
 ghost use Rattle.cell_rows.specs.Known.{IsOrdered, joined_known};
 ghost use Rattle.cell_rows.specs.Rows.{cells_of};
-ghost use Rattle.cell_storages.specs.Homes.{owns, homes_of, of_item};
-ghost use Rattle.cell_storages.specs.Storages.{known_of};
+ghost use Rattle.cell_steps.specs.Homes.{owns, homes_of, of_item};
+ghost use Rattle.cell_steps.specs.Storages.{known_of};
 ghost use Rattle.cell_steps.specs.Operands.{is_remainder};
 ghost use Rattle.cell_steps.specs.Stores.{range_at, may_vanish, stored, stored_known, stored_cells, stored_element};
-ghost use Rattle.edge_sizes.specs.Sizes.{IsSmallStore};
+ghost use Rattle.cell_laws.specs.Sizes.{IsSmallStore};
 ghost use Rattle.cell_walk.specs.ProgramRows.{IsRowOf};
 ghost use Rattle.cell_walk.specs.Kept.{seen, latest_of, kept_or_new};
 ghost use Rattle.cell_walk.specs.Latest.{ranges_of, outcome};

@@ -11,12 +11,12 @@ ghost use Rattle.sum_ranges.specs.Vanishing.{holds_zero, may_be_zero};
 ghost use Rattle.sum_ranges.specs.Working.{AreBounded};
 ghost use Rattle.cell_rows.specs.Elements.{CellsFit};
 ghost use Rattle.cell_rows.specs.Rows.{cells_of};
-ghost use Rattle.cell_storages.specs.Homes.{owns};
+ghost use Rattle.cell_steps.specs.Homes.{owns};
 ghost use Rattle.cell_steps.specs.Operands.{edge_operands, operands_vanish};
 ghost use Rattle.cell_steps.specs.Stores.{range_at};
 ghost use Rattle.borrowed_parts.specs.PartView.{plain_amount, plain_divisor};
 ghost use Rattle.cell_amounts.specs.Small.{is_small_sender, has_small_sum};
-ghost use Rattle.edge_sizes.specs.Sizes.{is_small_sent, sends_small};
+ghost use Rattle.cell_laws.specs.Sizes.{is_small_sent, sends_small};
 ghost use Rattle.cell_walk.specs.ProgramRows.{IsRowOf};
 
 use crate::items::KnownItems;

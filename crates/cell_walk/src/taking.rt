@@ -7,7 +7,7 @@ ghost use Rattle.sum_ranges.specs.Taking.{is_small_taken};
 ghost use Rattle.result_ranges.specs.Operands.{is_whole, taken_sum};
 ghost use Rattle.cell_rows.specs.Elements.{CellsFit};
 ghost use Rattle.cell_rows.specs.Rows.{cells_of};
-ghost use Rattle.cell_storages.specs.Homes.{owns};
+ghost use Rattle.cell_steps.specs.Homes.{owns};
 ghost use Rattle.cell_steps.specs.Stores.{range_at};
 ghost use Rattle.cell_walk.specs.ProgramRows.{IsRowOf};
 ghost use Rattle.cell_walk.specs.Taking.{taken_of};

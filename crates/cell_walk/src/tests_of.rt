@@ -8,7 +8,7 @@ ghost use Rattle.guard_ranges.specs.Guards.{guarded};
 ghost use Rattle.guard_ranges.specs.Small.{is_small_test};
 ghost use Rattle.cell_rows.specs.Elements.{CellsFit};
 ghost use Rattle.cell_rows.specs.Rows.{cells_of};
-ghost use Rattle.cell_storages.specs.Homes.{homes_of, owns};
+ghost use Rattle.cell_steps.specs.Homes.{homes_of, owns};
 ghost use Rattle.cell_steps.specs.Cells.{is_numeric};
 ghost use Rattle.cell_steps.specs.Stores.{range_at};
 ghost use Rattle.cell_steps.specs.Steps.{cut_cells, all_cut, guarded_cells};

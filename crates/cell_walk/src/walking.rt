@@ -3,7 +3,7 @@ ghost use Rattle.std.specs.Prelude.{◌≡◌, ◌<◌, ◌-◌, ◌^◌, min, t
 ghost use Rattle.std.specs.List.{AllByRecursion};
 ghost use Rattle.cob_program.specs.ActView.{plain_stmt, plain_program};
 ghost use Rattle.borrowed_parts.specs.PartView.{edge_parts};
-ghost use Rattle.edge_sizes.specs.Sizes.{IsSmallPart};
+ghost use Rattle.cell_laws.specs.Sizes.{IsSmallPart};
 ghost use Rattle.cell_walk.specs.SmallCells.{has_small_cells};
 ghost use Rattle.cell_walk.specs.ProgramRows.{IsRowOf};
 ghost use Rattle.cell_walk.specs.Kept.{seen, step_at, latest_of, latest_at};

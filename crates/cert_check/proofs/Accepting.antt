@@ -26,8 +26,8 @@ use Rattle.claimed_rows.specs.Claims.{claimed_element, place_at, met_known, met_
 use Rattle.claimed_rows.proofs.Telling.{written_length}
 use Rattle.graph_runs.specs.Places.{IsOf}
 use Rattle.graph_runs.specs.Clearing.{IsClearAt}
-use Rattle.cell_storages.specs.Homes.{owns}
-use Rattle.cell_layer_laws.specs.Layer.{statement_at, clears_at, cell_flow, cell_meaning}
+use Rattle.cell_steps.specs.Homes.{owns}
+use Rattle.cell_laws.specs.Layer.{statement_at, clears_at, cell_flow, cell_meaning}
 use Rattle.cert_check.specs.OpenPairs.{open_at, node_clears_by, is_cleared_by, open_by, opens_by, pairs_by}
 use Rattle.cert_check.specs.Claims.{claims_at, row_at, cells_clear}
 use Rattle.cert_check.specs.Clearing.{TestsTell}

@@ -12,8 +12,8 @@ use Rattle.cell_rows.specs.Rows.{cells_lattice}
 use Rattle.claimed_rows.specs.declared.gap.Gap.{Gap}
 use Rattle.claimed_rows.specs.Claims.{claimed_row, place_at}
 use Rattle.graph_runs.specs.Sources.{IsSourceGraph}
-use Rattle.cell_storages.specs.Homes.{owns}
-use Rattle.cell_layer_laws.specs.Layer.{cell_flow, cell_meaning}
+use Rattle.cell_steps.specs.Homes.{owns}
+use Rattle.cell_laws.specs.Layer.{cell_flow, cell_meaning}
 use Rattle.cert_check.specs.declared.ends.CheckEnd.TheVariants as check
 use Rattle.cert_check.specs.OpenPairs.{pairs_by}
 use Rattle.cert_check.specs.Claims.{edge_gaps, row_at, claims_clear, clears_with}

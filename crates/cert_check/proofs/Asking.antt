@@ -21,7 +21,7 @@ use Rattle.cell_rows.specs.Elements.{Element, CellsFit, ElementFits}
 use Rattle.cell_rows.specs.Rows.{element_of, row_from, cells_lattice, IsSaid}
 use Rattle.claimed_rows.specs.Claims.{claimed_row, place_at}
 use Rattle.claimed_rows.specs.Gaps.{IsSmall, AreSmall, AreSmallClaims, HasSmallClaims}
-use Rattle.cell_storages.specs.Homes.{owns}
+use Rattle.cell_steps.specs.Homes.{owns}
 use Rattle.cert_check.specs.Claims.{claims_at, row_at}
 use Rattle.inductive_pass.specs.Leaks.{IsFirstLeak}
 use Rattle.cert_check.specs.Along.{arrives}

@@ -13,7 +13,7 @@ use Rattle.dom_laws.specs.Lattice.{Lattice, IsElement}
 use Rattle.dom_laws.specs.Flow.{Flow, IsInductive}
 use Rattle.dom_laws.specs.Meaning.{Meaning}
 use Rattle.inductive_pass.specs.Leaks.{HasElements, IsFirstLeak}
-use Rattle.cell_storages.specs.Homes.{homes_of, owns}
+use Rattle.cell_steps.specs.Homes.{homes_of, owns}
 use Rattle.cert_text.specs.View.{Certificate}
 use Rattle.claimed_rows.specs.declared.gap.Gap.{Gap}
 use Rattle.claimed_rows.specs.Claims.{claimed_row, place_at}
@@ -25,8 +25,8 @@ use Rattle.diff_bounds.specs.declared.Pack as declared
 use Rattle.diff_steps.specs.Packs.{Pack}
 use Rattle.pack_rows.specs.Rows.{width_of, lists_of}
 use Rattle.diff_layer.proofs.Rows.{width_is}
-use Rattle.diff_layer_laws.specs.Layer.{sizes_of, diff_lattice, diff_flow, diff_meaning}
-use Rattle.diff_layer_laws.specs.Packs.{pack_in, packs_of}
+use Rattle.pack_laws.specs.Layer.{sizes_of, diff_lattice, diff_flow, diff_meaning}
+use Rattle.pack_laws.specs.Packs.{pack_in, packs_of}
 use Rattle.cert_check.specs.declared.ends.CheckEnd.TheVariants as check
 use Rattle.cert_check.specs.declared.ends.Leak.{Leak}
 use Rattle.cert_check.specs.Along.{arrives, led_to}

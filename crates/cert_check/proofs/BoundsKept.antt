@@ -14,7 +14,7 @@ use Rattle.dom_laws.specs.Meaning.{IsMeaning}
 use Rattle.graph_runs.specs.Places.{edge_at}
 use Rattle.graph_runs.specs.Sources.{IsSourceGraph}
 use Rattle.cell_rows.specs.Rows.{element_of}
-use Rattle.cell_storages.specs.Homes.{homes_of, owns}
+use Rattle.cell_steps.specs.Homes.{homes_of, owns}
 use Rattle.cell_walk.proofs.FirstCells.{homes_many}
 use Rattle.cert_text.specs.declared.cert.Bound.{Bound}
 use Rattle.cert_text.specs.View.{Certificate, Place, NotReached, Holds}
@@ -31,12 +31,12 @@ use Rattle.claimed_matrices.proofs.Standing.{rows_are_elements}
 use Rattle.claimed_matrices.proofs.Telling.{gaps_tell}
 use Rattle.claimed_matrices.proofs.Allowing.{claims_fit_there}
 use Rattle.diff_steps.specs.Packs.{Pack, size_of}
-use Rattle.diff_layer_laws.specs.Layer.{AreFacts, ArePacks, sizes_of, diff_lattice, diff_flow, diff_meaning, clears_at2, packs_post}
-use Rattle.diff_layer_laws.specs.Packs.{home_at, pack_in}
-use Rattle.diff_layer_laws.proofs.Packed.{HasDistinctHomes}
-use Rattle.diff_layer_laws.proofs.Distinct.{homes_of_sources_are_distinct}
-use Rattle.diff_layer_laws.proofs.Flow.{packs_flow}
-use Rattle.diff_layer_laws.proofs.Meaning.{packs_mean}
+use Rattle.pack_laws.specs.Layer.{AreFacts, ArePacks, sizes_of, diff_lattice, diff_flow, diff_meaning, clears_at2, packs_post}
+use Rattle.pack_laws.specs.Packs.{home_at, pack_in}
+use Rattle.pack_laws.proofs.Packed.{HasDistinctHomes}
+use Rattle.pack_laws.proofs.Distinct.{homes_of_sources_are_distinct}
+use Rattle.pack_laws.proofs.Flow.{packs_flow}
+use Rattle.pack_laws.proofs.Meaning.{packs_mean}
 use Rattle.inductive_pass.specs.Leaks.{Keeps, IsFirstLeak}
 use Rattle.cert_check.specs.declared.ends.Leak.{Leak}
 use Rattle.cert_check.specs.Along.{led_to, arrives}

@@ -29,10 +29,10 @@ use Rattle.graph_runs.specs.Doing.{graph_runs}
 use Rattle.graph_runs.specs.Clearing.{IsLayerOf}
 use Rattle.graph_runs.proofs.Following.{faults_are_reached}
 use Rattle.graph_runs.proofs.Clearing.{includes_itself, cleared_is_not_met}
-use Rattle.cell_storages.specs.Homes.{owns}
-use Rattle.cell_layer_laws.specs.Entry.{entry_cells}
-use Rattle.cell_layer_laws.specs.Layer.{post_at, cell_flow, cell_meaning}
-use Rattle.diff_layer_laws.specs.Layer.{diff_lattice, diff_flow, diff_meaning}
+use Rattle.cell_steps.specs.Homes.{owns}
+use Rattle.cell_laws.specs.Entry.{entry_cells}
+use Rattle.cell_laws.specs.Layer.{post_at, cell_flow, cell_meaning}
+use Rattle.pack_laws.specs.Layer.{diff_lattice, diff_flow, diff_meaning}
 use Rattle.cert_check.specs.OpenPairs.{open_at, is_cleared_by}
 use Rattle.cert_check.specs.Claims.{leaks, cell_leaks, pack_leaks, row_at, packs_at, bounds_row, clears_with, is_cleared, open_pairs, claims_clear}
 use Rattle.cert_check.specs.Clearing.{TestsTell}

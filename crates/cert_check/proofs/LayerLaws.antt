@@ -7,12 +7,12 @@ use Rattle.dom_laws.specs.Meaning.{IsMeaning}
 use Rattle.graph_runs.specs.Sources.{IsSourceGraph}
 use Rattle.cell_rows.specs.Elements.{Element, ElementFits}
 use Rattle.cell_rows.specs.Rows.{cells_lattice}
-use Rattle.cell_storages.specs.Homes.{owns}
-use Rattle.cell_layer_laws.specs.Entry.{entry_cells}
-use Rattle.cell_layer_laws.specs.Layer.{post_at, cell_flow, cell_meaning}
-use Rattle.cell_layer_laws.proofs.Entry.{entry_fits}
-use Rattle.cell_layer_laws.proofs.Flow.{cells_flow, post_fits}
-use Rattle.cell_layer_laws.proofs.Meaning.{cells_mean}
+use Rattle.cell_steps.specs.Homes.{owns}
+use Rattle.cell_laws.specs.Entry.{entry_cells}
+use Rattle.cell_laws.specs.Layer.{post_at, cell_flow, cell_meaning}
+use Rattle.cell_laws.proofs.Entry.{entry_fits}
+use Rattle.cell_laws.proofs.Flow.{cells_flow, post_fits}
+use Rattle.cell_laws.proofs.Meaning.{cells_mean}
 
 pub record LayerLaws (p : Program) (g : Graph) : Type 0 where
   pub flows : (thresholds : List (List ℤ)) → IsFlow (cells_lattice (owns p) thresholds) (cell_flow p g)

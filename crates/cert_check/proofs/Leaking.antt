@@ -13,8 +13,8 @@ use Rattle.claimed_rows.specs.declared.gap.Gap.{Gap}
 use Rattle.claimed_rows.specs.Claims.{place_at}
 use Rattle.claimed_rows.proofs.Telling.{gaps_tell}
 use Rattle.graph_runs.specs.Places.{edge_at}
-use Rattle.cell_storages.specs.Homes.{owns}
-use Rattle.cell_layer_laws.specs.Layer.{post_at, cell_flow}
+use Rattle.cell_steps.specs.Homes.{owns}
+use Rattle.cell_laws.specs.Layer.{post_at, cell_flow}
 use Rattle.cert_check.specs.Claims.{leak, leaks, cell_leaks, pack_leaks, edge_gaps, comes_along, leads_to, claims_at, row_at}
 use Rattle.inductive_pass.specs.Leaks.{Keeps, IsFirstLeak}
 use Rattle.cert_check.specs.Along.{led_to, arrives}

@@ -8,7 +8,7 @@ use Rattle.cob_tree.specs.declared.fault.Kind.{Kind}
 use Rattle.cob_tree.specs.declared.fault.Kind.TheVariants as kind
 use Rattle.cob_tree.specs.declared.fault.Open.{Open}
 use Rattle.cob_graph.specs.declared.graph.Graph.{Graph}
-use Rattle.cell_layer_laws.specs.Layer.{statement_at}
+use Rattle.cell_laws.specs.Layer.{statement_at}
 use Rattle.cert_check.specs.declared.cleared.Cleared.{Cleared}
 use Rattle.cert_check.specs.OpenPairs.{node_clears_by, opens_by}
 use Rattle.cert_check.specs.Clearing.{by_kind, all_cleared, both, left_open, IsNoted, cleared_to, AreClearedTo}

@@ -5,18 +5,18 @@ use Rattle.std.specs.List.{AllByRecursion}
 use Rattle.std.specs.declared.alloc.Global.{Global}
 use Rattle.std.proofs.lemmas.Bool.{and_parts, eqb-true, eqb-false, leb-true, ltb-true}
 use Rattle.cob_program.specs.Act.{Program}
-use Rattle.cell_storages.specs.Homes.{homes_of}
+use Rattle.cell_steps.specs.Homes.{homes_of}
 use Rattle.diff_bounds.specs.declared.Pack as declared
 use Rattle.diff_bounds.specs.Widening.{AreThresholds}
 use Rattle.pack_rows.specs.Rows.{lists_of}
 use Rattle.diff_steps.specs.Packs.{Pack, size_of}
-use Rattle.pack_edges.specs.Agreeing.{ArePacksOf}
+use Rattle.pack_laws.specs.Agreeing.{ArePacksOf}
 use Rattle.cert_text.specs.declared.cert.Element as text
 use Rattle.cert_text.specs.View.{Place, NotReached, Holds, place_of}
 use Rattle.cert_text.specs.Allowed.{bounds_fit, cells_rise, claims_fit, no_key, pack_fits, packs_fit, place_fits, places_all_fit}
 use Rattle.claimed_matrices.specs.Claims.{HasFittingBounds, cells_in}
-use Rattle.diff_layer_laws.specs.Packs.{pack_in, packs_in, AreRisingNumbers, ArePacksOfCells}
-use Rattle.diff_layer_laws.proofs.Packed.{HasDistinctHomes, is_pack, few_cells}
+use Rattle.pack_laws.specs.Packs.{pack_in, packs_in, AreRisingNumbers, ArePacksOfCells}
+use Rattle.pack_laws.proofs.Packed.{HasDistinctHomes, is_pack, few_cells}
 use Rattle.cert_check.specs.Given.{AreEmptyLists}
 
 -- ---- rising numbers

@@ -20,8 +20,8 @@ use Rattle.cob_graph.specs.Graphs.{cell, cell_of, if_named, item_cells, counters
 use Rattle.cob_items.specs.WellFormed.{IsWellFormedForm, IsWellFormedItem}
 use Rattle.decimal_interval.specs.declared.bounds.Interval.{Interval}
 use Rattle.graph_runs.specs.Sources.{IsSourceGraph}
-use Rattle.cell_storages.specs.Homes.{own_range, owns}
-use Rattle.cell_facts.proofs.Homes.{homes_have_own_ranges}
+use Rattle.cell_steps.specs.Homes.{own_range, owns}
+use Rattle.cell_laws.proofs.Homes.{homes_have_own_ranges}
 use Rattle.cell_rows.specs.Elements.{AreThresholds}
 use Rattle.cell_rows.specs.Rows.{lists_of}
 use Rattle.cert_text.specs.View.{Certificate}

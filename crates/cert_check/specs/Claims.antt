@@ -13,14 +13,14 @@ use Rattle.claimed_rows.specs.Gaps.{gaps}
 use Rattle.claimed_matrices.specs.Claims as matrices
 use Rattle.claimed_matrices.specs.Gaps as matrices_gaps
 use Rattle.graph_runs.specs.Places.{edge_at}
-use Rattle.cell_storages.specs.Homes.{homes_of, owns}
-use Rattle.cell_layer_laws.specs.Entry.{entry_cells}
-use Rattle.cell_layer_laws.specs.Layer.{post_at, clears_at}
+use Rattle.cell_steps.specs.Homes.{homes_of, owns}
+use Rattle.cell_laws.specs.Entry.{entry_cells}
+use Rattle.cell_laws.specs.Layer.{post_at, clears_at}
 use Rattle.pack_rows.specs.Rows.{row_of}
 use Rattle.diff_steps.specs.Packs.{Pack}
 use Rattle.diff_steps.specs.Edges.{entry_packs}
-use Rattle.diff_layer_laws.specs.Layer.{packs_post, clears_at2}
-use Rattle.diff_layer_laws.specs.Packs.{pack_in}
+use Rattle.pack_laws.specs.Layer.{packs_post, clears_at2}
+use Rattle.pack_laws.specs.Packs.{pack_in}
 use Rattle.cert_check.specs.declared.ends.Leak.{Leak}
 use Rattle.cert_check.specs.OpenPairs.{node_clears_by, is_cleared_by, open_by, opens_by, pairs_by}
 

@@ -14,9 +14,9 @@ use Rattle.inductive_pass.specs.Leaks.{IsFirstLeak}
 use Rattle.cell_rows.specs.Rows.{cells_lattice}
 use Rattle.claimed_rows.specs.Gaps.{IsSmall}
 use Rattle.graph_runs.specs.Sources.{IsSourceGraph}
-use Rattle.cell_storages.specs.Homes.{owns}
-use Rattle.cell_layer_laws.specs.Layer.{cell_flow}
-use Rattle.diff_layer_laws.specs.Layer.{diff_lattice, diff_flow}
+use Rattle.cell_steps.specs.Homes.{owns}
+use Rattle.cell_laws.specs.Layer.{cell_flow}
+use Rattle.pack_laws.specs.Layer.{diff_lattice, diff_flow}
 use Rattle.cert_check.specs.Claims.{row_at, packs_at, bounds_row}
 
 -- a source's graph, a certificate of its shape, and the own ranges of its cells

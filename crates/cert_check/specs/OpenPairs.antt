@@ -5,7 +5,7 @@ use Rattle.cob_tree.specs.declared.fault.Kind.{Kind}
 use Rattle.cob_tree.specs.declared.fault.Kind.TheVariants as kind
 use Rattle.cob_tree.specs.declared.fault.Open.{Open}
 use Rattle.cob_graph.specs.declared.graph.Graph.{Graph}
-use Rattle.cell_layer_laws.specs.Layer.{statement_at}
+use Rattle.cell_laws.specs.Layer.{statement_at}
 
 abbrev pub all_kinds : List Kind
 all_kinds = kind.Size ∷ kind.Truncation ∷ kind.Zero ∷ kind.Class ∷ []

@@ -5,7 +5,7 @@ ghost use Rattle.dom_laws.specs.Lattice.{IsElement};
 ghost use Rattle.cert_text.specs.View.{view};
 ghost use Rattle.claimed_matrices.specs.Claims.{cells_in};
 ghost use Rattle.pack_rows.specs.Rows.{lists_of};
-ghost use Rattle.diff_layer_laws.specs.Layer.{diff_lattice, diff_flow};
+ghost use Rattle.pack_laws.specs.Layer.{diff_lattice, diff_flow};
 ghost use Rattle.cert_check.specs.Along.{arrives};
 ghost use Rattle.cert_check.specs.Checking.{Checks, Refuses};
 ghost use Rattle.cert_check.specs.Claims.{bounds_row, cell_leaks, pack_gaps, packs_at, row_at};

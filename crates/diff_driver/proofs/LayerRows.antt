@@ -3,14 +3,14 @@ use Rattle.std.proofs.Common.{◌≡◌, ◌≤◌, ℕ, List, [], ◌∷◌, le
 use Rattle.std.specs.List.{AllByRecursion}
 use Rattle.std.proofs.lemmas.List.{length-map}
 use Rattle.cob_program.specs.Act.{Program}
-use Rattle.cell_storages.specs.Homes.{Home, homes_of}
+use Rattle.cell_steps.specs.Homes.{Home, homes_of}
 use Rattle.dom_laws.specs.Lattice.{IsElement}
 use Rattle.diff_bounds.specs.declared.Pack.{Pack}
 use Rattle.pack_rows.specs.Rows.{packs_lattice}
 use Rattle.claimed_matrices.specs.Claims.{cells_in, sizes_of}
-use Rattle.diff_layer_laws.specs.Layer as layer
-use Rattle.diff_layer_laws.specs.Layer.{diff_lattice}
-use Rattle.diff_layer_laws.specs.Packs.{home_at, pack_in, packs_in, packs_of, ArePacksOfCells}
+use Rattle.pack_laws.specs.Layer as layer
+use Rattle.pack_laws.specs.Layer.{diff_lattice}
+use Rattle.pack_laws.specs.Packs.{home_at, pack_in, packs_in, packs_of, ArePacksOfCells}
 use Rattle.diff_driver.specs.Rows.{no_thresholds, rows_of_packs}
 
 sizes_same : (homes : List Home) (packs : List Pack) → sizes_of (cells_in packs) ≡ layer.sizes_of (packs_in homes packs)

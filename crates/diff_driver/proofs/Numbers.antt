@@ -3,7 +3,7 @@ use Rattle.std.proofs.Common.{◌≡◌, ◌<◌, ◌≤◌, ◌⊎◌, inl, inr
 use Rattle.std.specs.Prelude.{slice_index_or}
 use Rattle.std.proofs.lemmas.Bool.{cases_lt}
 use Rattle.std.proofs.lemmas.List.{length-append, get_or_append_left, get_or_at}
-use Rattle.diff_layer_laws.specs.Packs.{AreRisingNumbers, ArePacksOfCells}
+use Rattle.pack_laws.specs.Packs.{AreRisingNumbers, ArePacksOfCells}
 use Rattle.diff_bounds.specs.declared.Pack.{Pack}
 
 -- of so many cells, and none is above the last

@@ -6,10 +6,10 @@ ghost use Rattle.cob_graph.specs.Graphs.{IsGraph};
 ghost use Rattle.cob_graph_build.specs.Limits.{IsWithinLimits};
 ghost use Rattle.graph_runs.specs.Sources.{IsSourceGraph};
 ghost use Rattle.cell_rows.specs.Rows.{IsRow};
-ghost use Rattle.cell_storages.specs.Homes.{owns};
+ghost use Rattle.cell_steps.specs.Homes.{owns};
 ghost use Rattle.pack_rows.specs.Rows.{lists_of};
 ghost use Rattle.claimed_matrices.specs.Claims.{cells_in, sizes_of};
-ghost use Rattle.diff_layer_laws.specs.Packs.{ArePacksOfCells};
+ghost use Rattle.pack_laws.specs.Packs.{ArePacksOfCells};
 ghost use Rattle.diff_driver.specs.Rows.{no_thresholds};
 
 use crate::answers::answer_to;

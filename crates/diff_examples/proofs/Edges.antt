@@ -28,7 +28,7 @@ use Rattle.linear_form.specs.Forms.{if_small, coefs_of}
 use Rattle.diff_bounds.specs.Matrix.{none}
 use Rattle.closed_matrices.specs.Closed.{sums_through}
 use Rattle.cell_rows.specs.Known.{Known}
-use Rattle.cell_storages.specs.Homes.{of_item, of_count}
+use Rattle.cell_steps.specs.Homes.{of_item, of_count}
 use Rattle.diff_steps.specs.Packs.{Pack}
 use Rattle.diff_steps.specs.Edges.{post_packs, bottoms}
 use Rattle.diff_steps.specs.Clearing.{clears_edge2}

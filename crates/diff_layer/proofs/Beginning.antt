@@ -12,19 +12,19 @@ use Rattle.cell_rows.specs.Elements.{CellsFit}
 use Rattle.cell_rows.specs.Rows as rows
 use Rattle.cell_rows.specs.Rows.{cells_of}
 use Rattle.cell_rows.proofs.Rows.{element_back}
-use Rattle.cell_storages.specs.Homes.{homes_of, owns}
-use Rattle.cell_layer_laws.specs.Entry.{entry_known, entry_cells}
+use Rattle.cell_steps.specs.Homes.{homes_of, owns}
+use Rattle.cell_laws.specs.Entry.{entry_known, entry_cells}
 use Rattle.cell_walk.specs.ProgramRows.{IsRowOf}
 use Rattle.diff_steps.specs.Packs.{Pack, size_of}
 use Rattle.diff_steps.specs.Steps.{all_closed}
 use Rattle.diff_steps.specs.Edges.{bottoms, or_bottoms, no_bounds, entry_packs}
 use Rattle.pack_rows.specs.Rows.{width_of, matrices_in, row_of, matrices_beside}
-use Rattle.pack_edges.specs.Agreeing.{AreMatrices}
+use Rattle.pack_laws.specs.Agreeing.{AreMatrices}
 use Rattle.pack_walk.specs.declared.plans.PackPlan.{PackPlan}
 use Rattle.pack_walk.specs.Plans.{plain_plan, plain_plans, IsPlanOf, ArePlansOf, matrices_for, IsRowFor}
-use Rattle.diff_layer_laws.specs.Layer.{sizes_of}
-use Rattle.diff_layer_laws.proofs.Pieces.{matrices_back}
-use Rattle.diff_layer_laws.proofs.Entry.{unbounded_packs, unbounded_are}
+use Rattle.pack_laws.specs.Layer.{sizes_of}
+use Rattle.pack_laws.proofs.Pieces.{matrices_back}
+use Rattle.pack_laws.proofs.Entry.{unbounded_packs, unbounded_are}
 use Rattle.diff_layer.proofs.Rows.{row_back, least_is, width_is}
 use Rattle.diff_layer.proofs.Sizes.{many_in}
 

@@ -15,14 +15,14 @@ use Rattle.cell_steps.specs.Seen.{Seen, beginning}
 use Rattle.cell_steps.specs.Steps.{step}
 use Rattle.cell_steps.specs.Clearing.{clears_part, clears_parts}
 use Rattle.cell_steps.specs.Edges.{clears_edge}
-use Rattle.cell_edges.proofs.PartsDone.{and_true}
-use Rattle.cell_layer_laws.specs.Layer.{edge_clears, left}
+use Rattle.cell_laws.proofs.PartsDone.{and_true}
+use Rattle.cell_laws.specs.Layer.{edge_clears, left}
 use Rattle.diff_steps.specs.Packs.{Pack}
 use Rattle.diff_steps.specs.Moments.{Seen2, with_packs}
 use Rattle.diff_steps.specs.Steps.{all_closed, changed, step2}
 use Rattle.diff_steps.specs.Edges.{beginning2}
 use Rattle.diff_steps.specs.Clearing.{clears_edge2, clears_part2, clears_parts2}
-use Rattle.diff_layer_laws.specs.Layer.{edge_clears2}
+use Rattle.pack_laws.specs.Layer.{edge_clears2}
 use Rattle.pack_walk.proofs.Cleared.{cleared_too}
 
 module _ (p : Program) (packs : List Pack) (fault : Kind) where

@@ -17,19 +17,19 @@ use Rattle.dom_laws.specs.Lattice.{IsElement}
 use Rattle.dom_laws.specs.Flow.{IsEdge, IsNode}
 use Rattle.graph_runs.specs.Places.{no_edge, edge_at}
 use Rattle.cell_rows.specs.Rows.{IsRow, element_of}
-use Rattle.cell_storages.specs.Homes.{Home, homes_of, home_range, owns}
+use Rattle.cell_steps.specs.Homes.{Home, homes_of, home_range, owns}
 use Rattle.cell_layer.specs.Held.{IsHeld}
 use Rattle.cell_layer.proofs.Making.{sound_items}
 use Rattle.diff_bounds.specs.declared.Pack as declared
 use Rattle.diff_steps.specs.Packs.{Pack, size_of}
 use Rattle.diff_steps.specs.Edges.{bottoms}
 use Rattle.pack_rows.specs.Rows.{width_of, matrices_in, row_of, matrices_beside, lists_of}
-use Rattle.pack_edges.specs.Agreeing.{AreMatrices, IsPackOf, ArePacksOf}
+use Rattle.pack_laws.specs.Agreeing.{AreMatrices, IsPackOf, ArePacksOf}
 use Rattle.pack_walk.specs.declared.plans.PackPlan.{PackPlan}
 use Rattle.pack_walk.specs.Plans.{plain_plan, plain_plans, IsShortHome, ArePlansOf, matrices_for, IsRowFor}
-use Rattle.diff_layer_laws.specs.Packs.{packs_of, ArePacksOfCells}
-use Rattle.diff_layer_laws.specs.Layer.{Facts, AreFacts, ArePacks, sizes_of, diff_lattice, packs_post, diff_post, diff_flow}
-use Rattle.diff_layer_laws.proofs.Pieces.{are_matrices}
+use Rattle.pack_laws.specs.Packs.{packs_of, ArePacksOfCells}
+use Rattle.pack_laws.specs.Layer.{Facts, AreFacts, ArePacks, sizes_of, diff_lattice, packs_post, diff_post, diff_flow}
+use Rattle.pack_laws.proofs.Pieces.{are_matrices}
 use Rattle.diff_layer.specs.Plans.{HasUnit, HaveUnits}
 use Rattle.diff_layer.specs.Edges.{packs_walked}
 use Rattle.diff_layer.specs.LayerLaws.{source_of, cells_for_homes, its_packs, facts_of, flows_by}

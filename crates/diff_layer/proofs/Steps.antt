@@ -8,13 +8,13 @@ use Rattle.cob_program.specs.declared.act.Stmt as declared_stmt
 use Rattle.cob_program.specs.ActView.{plain_stmt}
 use Rattle.cob_program.specs.Statements.{plain_references}
 use Rattle.std.specs.Borrow.{Bor}
-use Rattle.cell_storages.specs.Homes.{Home, of_item, of_count, if_named, home_of, item_homes, stmt_homes, count_homes}
+use Rattle.cell_steps.specs.Homes.{Home, of_item, of_count, if_named, home_of, item_homes, stmt_homes, count_homes}
 use Rattle.diff_bounds.specs.declared.Pack as declared
 use Rattle.pack_forms.specs.declared.cells.PackCell.{PackCell}
 use Rattle.pack_forms.specs.Cells.{plain_cell, plain_cells}
 use Rattle.pack_walk.specs.declared.plans.PackPlan.{PackPlan}
 use Rattle.pack_walk.specs.Plans.{plain_plan, plain_plans}
-use Rattle.diff_layer_laws.specs.Packs.{home_at, pack_in}
+use Rattle.pack_laws.specs.Packs.{home_at, pack_in}
 use Rattle.diff_layer.specs.Plans.{cell_of, cells_of, HasUnit, HaveUnits, IsPlanFor, ArePlansFor, sizes_in}
 
 pub items_step : (xs : List Item) (i place next : ℕ) (x : Item) → i < length xs → x ≡ get_or xs i x → next ≡ place + 1 →

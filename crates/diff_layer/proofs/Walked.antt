@@ -13,7 +13,7 @@ use Rattle.cob_program.specs.Act.{Stmt, MkStmt, Act, Program}
 use Rattle.cob_graph.specs.declared.graph.Edge.{Edge}
 use Rattle.cob_graph.specs.declared.graph.Graph.{Graph}
 use Rattle.cell_rows.specs.Known.{Known}
-use Rattle.cell_layer_laws.specs.Layer.{left}
+use Rattle.cell_laws.specs.Layer.{left}
 use Rattle.cell_walk.specs.Statements.{act_in, number_in}
 use Rattle.cell_layer.specs.Statements.{IsNumbered}
 use Rattle.cell_layer.specs.Held.{IsHeld, IsLeft}
@@ -22,7 +22,7 @@ use Rattle.diff_steps.specs.Packs.{Pack}
 use Rattle.diff_steps.specs.Edges.{walked_packs}
 use Rattle.diff_steps.specs.Clearing.{clears_edge2}
 use Rattle.pack_walk.specs.Walks.{statement_walked, statement_clears2}
-use Rattle.diff_layer_laws.specs.Layer.{edge_clears2}
+use Rattle.pack_laws.specs.Layer.{edge_clears2}
 use Rattle.diff_layer.specs.Edges.{edge_walked}
 
 module _ (p : Program) (g : Graph) (packs : List Pack) (x : Edge) (cells : List Known) (ms : List (List ℤ)) where

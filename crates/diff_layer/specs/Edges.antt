@@ -8,7 +8,7 @@ use Rattle.cob_graph.specs.declared.graph.Edge.{Edge}
 use Rattle.cob_graph.specs.declared.graph.Graph.{Graph}
 use Rattle.cell_rows.specs.Known.{Known}
 use Rattle.cell_rows.specs.Elements.{Element}
-use Rattle.cell_layer_laws.specs.Layer.{left}
+use Rattle.cell_laws.specs.Layer.{left}
 use Rattle.diff_bounds.specs.Matrix.{none}
 use Rattle.diff_steps.specs.Packs.{Pack}
 use Rattle.diff_steps.specs.Edges.{walked_packs}

@@ -18,7 +18,7 @@ use Rattle.graph_runs.specs.Sources.{IsSourceGraph}
 use Rattle.cell_rows.specs.Known.{Known, KnownFits}
 use Rattle.cell_rows.specs.Elements.{Element, CellsFit, ElementFits}
 use Rattle.cell_rows.specs.Rows.{IsRow, element_of}
-use Rattle.cell_storages.specs.Homes.{Home, homes_of, owns}
+use Rattle.cell_steps.specs.Homes.{Home, homes_of, owns}
 use Rattle.cell_walk.proofs.FirstCells.{homes_many}
 use Rattle.cell_layer.specs.Held.{IsHeld}
 use Rattle.diff_bounds.specs.declared.Pack as declared
@@ -26,12 +26,12 @@ use Rattle.diff_bounds.specs.Widening.{AreThresholds}
 use Rattle.diff_steps.specs.Packs.{Pack}
 use Rattle.pack_rows.specs.Rows.{lists_of}
 use Rattle.pack_rows.proofs.Rows.{packs_are_a_lattice}
-use Rattle.diff_layer_laws.specs.Layer.{Facts, AreFacts, ArePacks, sizes_of, diff_lattice, diff_flow, diff_meaning}
-use Rattle.diff_layer_laws.proofs.Flow.{packs_flow}
-use Rattle.diff_layer_laws.proofs.Meaning.{packs_mean}
-use Rattle.diff_layer_laws.specs.Packs.{packs_of, AreRisingNumbers, ArePacksOfCells}
-use Rattle.diff_layer_laws.proofs.Distinct.{homes_of_sources_are_distinct}
-use Rattle.diff_layer_laws.proofs.Packed.{HasDistinctHomes, are_packs}
+use Rattle.pack_laws.specs.Layer.{Facts, AreFacts, ArePacks, sizes_of, diff_lattice, diff_flow, diff_meaning}
+use Rattle.pack_laws.proofs.Flow.{packs_flow}
+use Rattle.pack_laws.proofs.Meaning.{packs_mean}
+use Rattle.pack_laws.specs.Packs.{packs_of, AreRisingNumbers, ArePacksOfCells}
+use Rattle.pack_laws.proofs.Distinct.{homes_of_sources_are_distinct}
+use Rattle.pack_laws.proofs.Packed.{HasDistinctHomes, are_packs}
 
 -- ---- what has one proof at most
 

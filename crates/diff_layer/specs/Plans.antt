@@ -2,14 +2,14 @@
 use Rattle.std.specs.Prelude.{◌≡◌, ℕ, List, map, length}
 use Rattle.std.specs.List.{AllByRecursion}
 use Rattle.cob_data.specs.declared.layout.Layout.{Layout}
-use Rattle.cell_storages.specs.Homes.{Home, of_item, of_count}
+use Rattle.cell_steps.specs.Homes.{Home, of_item, of_count}
 use Rattle.diff_bounds.specs.declared.Pack as declared
 use Rattle.diff_steps.specs.Packs.{pack_decimals}
 use Rattle.pack_forms.specs.declared.cells.PackCell.{PackCell}
 use Rattle.pack_forms.specs.declared.cells.PackCell.TheVariants.{Item, Count}
 use Rattle.pack_walk.specs.declared.plans.PackPlan.{PackPlan}
 use Rattle.pack_walk.specs.Plans.{plain_plan, plain_plans}
-use Rattle.diff_layer_laws.specs.Packs.{pack_in, packs_in}
+use Rattle.pack_laws.specs.Packs.{pack_in, packs_in}
 
 abbrev pub cell_of : Home → PackCell
 cell_of (of_item place) = Item place

@@ -4,12 +4,12 @@ ghost use Rattle.std.specs.List.{list_all};
 ghost use Rattle.cob_program.specs.ActView.{plain_program};
 ghost use Rattle.cell_rows.specs.Elements.{CellsFit};
 ghost use Rattle.cell_rows.specs.Rows.{IsReached, cells_of};
-ghost use Rattle.cell_storages.specs.Homes.{owns};
+ghost use Rattle.cell_steps.specs.Homes.{owns};
 ghost use Rattle.cell_layer.specs.Held.{IsHeld};
 ghost use Rattle.pack_rows.specs.Rows.{lists_of};
 ghost use Rattle.pack_walk.specs.Plans.{plain_plans, ArePlansOf, matrices_for, IsRowFor};
-ghost use Rattle.diff_layer_laws.specs.Layer.{leaves_clear2, diff_meaning};
-ghost use Rattle.diff_layer_laws.specs.Packs.{packs_of};
+ghost use Rattle.pack_laws.specs.Layer.{leaves_clear2, diff_meaning};
+ghost use Rattle.pack_laws.specs.Packs.{packs_of};
 ghost use Rattle.diff_layer.specs.LayerLaws.{means_by};
 
 use crate::edges::clears_edge;

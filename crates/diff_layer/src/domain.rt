@@ -1,8 +1,8 @@
 //! Rows of matrices as a domain.
 ghost use Rattle.cob_program.specs.ActView.{plain_program};
 ghost use Rattle.pack_rows.specs.Rows.{lists_of};
-ghost use Rattle.diff_layer_laws.specs.Layer.{diff_lattice};
-ghost use Rattle.diff_layer_laws.specs.Packs.{packs_of};
+ghost use Rattle.pack_laws.specs.Layer.{diff_lattice};
+ghost use Rattle.pack_laws.specs.Packs.{packs_of};
 ghost use Rattle.diff_layer.specs.LayerLaws.{ordered_by};
 
 use crate::layer::DiffLayer;

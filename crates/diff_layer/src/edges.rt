@@ -3,10 +3,10 @@ ghost use Rattle.std.specs.Prelude.{◌≡◌, ◌≤◌, length, if◌then◌el
 ghost use Rattle.cob_program.specs.ActView.{plain_program};
 ghost use Rattle.cell_rows.specs.Rows.{IsReached, IsRow, cells_of, element_of};
 ghost use Rattle.cell_rows.specs.Elements.{CellsFit};
-ghost use Rattle.cell_storages.specs.Homes.{owns};
+ghost use Rattle.cell_steps.specs.Homes.{owns};
 ghost use Rattle.cell_layer.specs.Held.{IsHeld};
 ghost use Rattle.pack_walk.specs.Plans.{plain_plans, ArePlansOf, matrices_for, IsRowFor};
-ghost use Rattle.diff_layer_laws.specs.Layer.{edge_clears2};
+ghost use Rattle.pack_laws.specs.Layer.{edge_clears2};
 ghost use Rattle.diff_layer.specs.Edges.{edge_walked, packs_walked};
 
 use cell_layer::left;

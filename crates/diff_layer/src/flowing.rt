@@ -1,8 +1,8 @@
 //! The graph of a program as a system over rows of matrices.
 ghost use Rattle.cob_program.specs.ActView.{plain_program};
 ghost use Rattle.pack_rows.specs.Rows.{lists_of};
-ghost use Rattle.diff_layer_laws.specs.Layer.{diff_flow};
-ghost use Rattle.diff_layer_laws.specs.Packs.{packs_of};
+ghost use Rattle.pack_laws.specs.Layer.{diff_flow};
+ghost use Rattle.pack_laws.specs.Packs.{packs_of};
 ghost use Rattle.diff_layer.specs.LayerLaws.{flows_by};
 
 use crate::edges::passes_edge;

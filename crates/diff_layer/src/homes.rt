@@ -3,7 +3,7 @@ ghost use Rattle.std.specs.Prelude.{◌≡◌, ◌+◌, ◌++◌, ◌∷◌, [],
 ghost use Rattle.cob_tree.specs.declared.form.Form.TheVariants as form;
 ghost use Rattle.cob_program.specs.ActView.{plain_act, plain_stmt, plain_turns, plain_program};
 ghost use Rattle.cob_program.specs.Statements.{plain_references, program_statements};
-ghost use Rattle.cell_storages.specs.Homes.{home_of, if_named, item_homes, turns_homes, act_homes, stmt_homes, count_homes, homes_of};
+ghost use Rattle.cell_steps.specs.Homes.{home_of, if_named, item_homes, turns_homes, act_homes, stmt_homes, count_homes, homes_of};
 ghost use Rattle.pack_forms.specs.declared.cells.PackCell.TheVariants.{Item as OfItem};
 ghost use Rattle.diff_layer.specs.Plans.{cells_of};
 

@@ -3,15 +3,15 @@ ghost use Rattle.std.specs.Prelude.{◌≡◌, ◌≤◌, ℕ, length, IfOk};
 ghost use Rattle.std.specs.List.{AllByRecursion};
 ghost use Rattle.cob_program.specs.ActView.{plain_program};
 ghost use Rattle.graph_runs.specs.Sources.{IsSourceGraph};
-ghost use Rattle.cell_layer_laws.specs.Entry.{entry_cells};
+ghost use Rattle.cell_laws.specs.Entry.{entry_cells};
 ghost use Rattle.cell_layer.specs.Heads.{heads_of};
 ghost use Rattle.cell_layer.specs.Held.{IsHeld};
 ghost use Rattle.diff_bounds.specs.Widening.{AreThresholds};
 ghost use Rattle.diff_steps.specs.Edges.{entry_packs};
 ghost use Rattle.pack_rows.specs.Rows.{row_of, lists_of};
 ghost use Rattle.pack_walk.specs.Plans.{plain_plans};
-ghost use Rattle.diff_layer_laws.specs.Layer.{AreFacts, sizes_of};
-ghost use Rattle.diff_layer_laws.specs.Packs.{packs_of, ArePacksOfCells};
+ghost use Rattle.pack_laws.specs.Layer.{AreFacts, sizes_of};
+ghost use Rattle.pack_laws.specs.Packs.{packs_of, ArePacksOfCells};
 ghost use Rattle.diff_layer.specs.Plans.{HaveUnits};
 
 use crate::entry::entry_words;

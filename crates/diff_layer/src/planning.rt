@@ -2,10 +2,10 @@
 ghost use Rattle.std.specs.Prelude.{◌≡◌, ◌≤◌, length, IfOk};
 ghost use Rattle.cob_program.specs.ActView.{plain_program};
 ghost use Rattle.cob_program.specs.Statements.{plain_references, program_statements};
-ghost use Rattle.cell_storages.specs.Homes.{homes_of};
+ghost use Rattle.cell_steps.specs.Homes.{homes_of};
 ghost use Rattle.pack_forms.specs.Cells.{plain_cell, plain_cells};
 ghost use Rattle.pack_walk.specs.Plans.{plain_plans};
-ghost use Rattle.diff_layer_laws.specs.Packs.{home_at, pack_in, packs_in, AreRisingNumbers, ArePacksOfCells};
+ghost use Rattle.pack_laws.specs.Packs.{home_at, pack_in, packs_in, AreRisingNumbers, ArePacksOfCells};
 ghost use Rattle.diff_layer.specs.Plans.{IsPlanFor, ArePlansFor, sizes_in};
 
 use crate::homes::homes_of;

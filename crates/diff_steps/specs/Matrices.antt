@@ -11,8 +11,8 @@ use Rattle.form_bounds.specs.Upper.{coef_at}
 use Rattle.form_images.specs.Assigned.{upper_less, less_upper}
 use Rattle.form_images.specs.Demanded.{lowered}
 use Rattle.cell_rows.specs.Known.{Known}
-use Rattle.cell_storages.specs.Homes.{Home}
-use Rattle.cell_storages.specs.Storages.{known_of}
+use Rattle.cell_steps.specs.Homes.{Home}
+use Rattle.cell_steps.specs.Storages.{known_of}
 use Rattle.diff_steps.specs.Packs.{Pack, size_of, unit_of}
 
 -- the matrix with these words, by row and column

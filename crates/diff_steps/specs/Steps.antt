@@ -10,7 +10,7 @@ use Rattle.cob_edge_parts.specs.Parts.{Amount, Part, store, bytes_in, guard, set
 use Rattle.linear_form.specs.declared.form.Lin.{Lin}
 use Rattle.result_ranges.specs.Receivers.{receiver_of}
 use Rattle.cell_rows.specs.Known.{Known}
-use Rattle.cell_storages.specs.Homes.{Home, of_item, of_count, is_home, homes_of}
+use Rattle.cell_steps.specs.Homes.{Home, of_item, of_count, is_home, homes_of}
 use Rattle.cell_steps.specs.Cells.{is_in_bytes, is_beside}
 use Rattle.cell_steps.specs.Seen.{Seen}
 use Rattle.cell_steps.specs.Stores.{range_at, with_taken, amount_at, may_fail, may_fit}

@@ -14,7 +14,7 @@ use Rattle.result_ranges.specs.declared.amounts.AmountRange.{AmountRange}
 use Rattle.result_ranges.specs.declared.amounts.AmountRange.TheVariants as range
 use Rattle.sum_forms.specs.Constants.{constant_form}
 use Rattle.sum_forms.specs.SumForms.{turned_form}
-use Rattle.cell_storages.specs.Homes.{Home}
+use Rattle.cell_steps.specs.Homes.{Home}
 use Rattle.diff_steps.specs.Matrices.{forgotten, assigned, lesser}
 
 -- ---- what is surely known of an amount

@@ -7,7 +7,7 @@ ghost use Rattle.cob_graph_build.specs.Limits.{IsWithinLimits};
 ghost use Rattle.graph_runs.specs.Sources.{IsSourceGraph};
 ghost use Rattle.dom_laws.specs.Lattice.{IsElement};
 ghost use Rattle.cell_rows.specs.Rows.{lists_of};
-ghost use Rattle.cell_storages.specs.Homes.{owns};
+ghost use Rattle.cell_steps.specs.Homes.{owns};
 ghost use Rattle.cert_text.specs.View.{Place};
 ghost use Rattle.cert_check.specs.Ranges.{ends_of};
 ghost use Rattle.claimed_rows.specs.Claims.{claimed_row};

@@ -19,9 +19,9 @@ use Rattle.cob_graph_laws.specs.Ways.{Comes}
 use Rattle.cob_edge_parts.specs.Parts.{is_handled, number_reads, read_count, set_count, count_down, count_parts, parts_of}
 use Rattle.cob_edge_parts.specs.Meaning.{Moment, beginning}
 use Rattle.cob_edge_parts.specs.Edges.{StandFor}
-use Rattle.positive_counts.specs.Counts.{IsPositiveIn}
-use Rattle.positive_counts.proofs.Counted.{counters_are_positive}
-use Rattle.positive_counts.proofs.Sent.{sent_counts_are_short}
+use Rattle.graph_runs.specs.Counts.{IsPositiveIn}
+use Rattle.graph_runs.proofs.Counted.{counters_are_positive}
+use Rattle.graph_runs.proofs.Sent.{sent_counts_are_short}
 use Rattle.graph_runs.specs.Sources.{IsSourceGraph}
 use Rattle.graph_runs.specs.Counters.{IsCount}
 use Rattle.graph_runs.proofs.Counting.{AreSmall}

@@ -1,3 +1,15 @@
+pub mod Inside
+pub mod Sizes
+pub mod Entering
+pub mod Firsts
+pub mod Loops
+pub mod Statements
+pub mod Whole
+pub mod Effects
+pub mod Counted
+pub mod Short
+pub mod Sent
+pub mod CountExamples
 pub mod Numbering
 pub mod Targets
 pub mod Few

@@ -1,3 +1,5 @@
+pub mod Counts
+pub mod Sent
 pub mod Places
 pub mod Sources
 pub mod Counters

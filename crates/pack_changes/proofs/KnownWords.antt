@@ -14,8 +14,8 @@ use Rattle.decimal_interval.specs.declared.bounds.Interval.{Interval}
 use Rattle.diff_bounds.specs.Matrix.{word}
 use Rattle.closed_matrices.specs.Closed.{closed}
 use Rattle.cell_rows.specs.Known.{Known}
-use Rattle.cell_storages.specs.Homes.{Home}
-use Rattle.cell_storages.specs.Storages.{known_of}
+use Rattle.cell_steps.specs.Homes.{Home}
+use Rattle.cell_steps.specs.Storages.{known_of}
 use Rattle.diff_steps.specs.Packs.{Pack, unit_of}
 use Rattle.diff_steps.specs.Matrices as pack
 use Rattle.diff_steps.specs.Matrices.{with_words, high_word, low_word, put_word, put_closed}

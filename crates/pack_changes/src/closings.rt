@@ -5,7 +5,7 @@ ghost use Rattle.diff_bounds.specs.Matrix.{word, IsMatrix};
 ghost use Rattle.closed_matrices.specs.Closed.{closed};
 ghost use Rattle.closed_matrices.specs.Settled.{IsTightBut};
 ghost use Rattle.cell_rows.specs.Known.{Known};
-ghost use Rattle.cell_storages.specs.Homes.{Home};
+ghost use Rattle.cell_steps.specs.Homes.{Home};
 ghost use Rattle.diff_steps.specs.Packs.{Pack};
 ghost use Rattle.diff_steps.specs.Matrices.{with_words, put_closed};
 ghost use Rattle.pack_changes.specs.Cells.{put_cells, closed_with, known_cells, HasEnds, HaveEnds, IsPutAt};

@@ -1,7 +1,7 @@
 //! Cells that are forgotten.
 ghost use Rattle.std.specs.Prelude.{◌≡◌, ◌+◌, ◌≤◌, Bool, List, length, map};
 ghost use Rattle.diff_bounds.specs.Matrix.{IsMatrix};
-ghost use Rattle.cell_storages.specs.Homes.{Home};
+ghost use Rattle.cell_steps.specs.Homes.{Home};
 ghost use Rattle.diff_steps.specs.Stores.{forgotten_cells};
 ghost use Rattle.pack_changes.specs.Gone.{forgotten_if, forgotten_marked};
 

@@ -14,7 +14,7 @@ use Rattle.sum_ranges.specs.SumRanges.{sum_range}
 use Rattle.sum_forms.specs.Constants.{item_form}
 use Rattle.result_ranges.specs.declared.amounts.Taken.{Taken}
 use Rattle.cell_rows.specs.Known.{Known}
-use Rattle.cell_storages.specs.Homes.{of_item}
+use Rattle.cell_steps.specs.Homes.{of_item}
 use Rattle.cell_steps.specs.Seen.{Seen}
 use Rattle.cell_steps.specs.Stores.{range_at}
 use Rattle.diff_steps.specs.Packs.{Pack, cell_of, pack_decimals}

@@ -6,7 +6,7 @@ use Rattle.sum_ranges.specs.Ranged.{ranged}
 use Rattle.sum_ranges.specs.Sizes.{IsSmallRange}
 use Rattle.cell_rows.specs.Known.{Known}
 use Rattle.cell_rows.specs.Elements.{CellsFit}
-use Rattle.cell_storages.specs.Homes.{of_count, homes_of, owns}
+use Rattle.cell_steps.specs.Homes.{of_count, homes_of, owns}
 use Rattle.cell_steps.specs.Cells.{units_of}
 use Rattle.cell_walk.proofs.CounterRanges.{count_is_small, count_is_ordered}
 

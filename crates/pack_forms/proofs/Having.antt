@@ -7,7 +7,7 @@ use Rattle.sum_ranges.specs.declared.ranged.Ranged.{Ranged}
 use Rattle.sum_ranges.specs.SumRanges.{sum_range}
 use Rattle.result_ranges.specs.declared.amounts.Taken.{Taken}
 use Rattle.result_ranges.specs.Operands.{alone, taken_sum}
-use Rattle.cell_edges.proofs.Roots.{settled_is}
+use Rattle.cell_laws.proofs.Roots.{settled_is}
 use Rattle.cell_steps.specs.Operands.{settled}
 
 alone_there : (o : Option Ranged) → is_some (option_map alone o) ≡ is_some o

@@ -24,9 +24,9 @@ use Rattle.cell_amounts.specs.Small.{is_small_amount, has_small_sum}
 use Rattle.cell_amounts.specs.Working.{amount_from}
 use Rattle.cell_steps.specs.Operands.{edge_amount, edge_operands}
 use Rattle.cell_steps.specs.Seen.{Seen}
-use Rattle.edge_sizes.specs.Sizes.{sends_small}
-use Rattle.edge_sizes.proofs.Senders.{moved_small}
-use Rattle.edge_sizes.proofs.Sums.{whole_small}
+use Rattle.cell_laws.specs.Sizes.{sends_small}
+use Rattle.cell_laws.proofs.Senders.{moved_small}
+use Rattle.cell_laws.proofs.Sums.{whole_small}
 use Rattle.cell_walk.specs.Walks.{if_sent_small, CanStep}
 use Rattle.cell_walk.proofs.ShortAnswers.{edge_is_small}
 use Rattle.pack_forms.specs.Sizes.{HasSmallTop}

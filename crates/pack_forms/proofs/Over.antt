@@ -21,7 +21,7 @@ use Rattle.sum_forms.specs.Values.{IsForm, IsWithin}
 use Rattle.sum_forms.proofs.Shows.{if_there}
 use Rattle.sum_forms.proofs.Within.{constant_within, range_within, cell_within, sum_within, scaled_within, turned_within, item_within, sum_form_within}
 use Rattle.result_ranges.specs.declared.amounts.Taken.{Taken}
-use Rattle.cell_storages.specs.Homes.{Home}
+use Rattle.cell_steps.specs.Homes.{Home}
 use Rattle.diff_steps.specs.Packs.{cell_of}
 use Rattle.diff_steps.specs.Forms.{whole_sum, added_forms, turned_if}
 use Rattle.pack_changes.specs.Forms.{IsFormOf}

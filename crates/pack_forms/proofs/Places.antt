@@ -2,7 +2,7 @@
 use Rattle.std.proofs.Common.{◌≡◌, ℕ, suc, ◌<◌, Bool, true, false, if◌then◌else◌, [], ◌∷◌, length, Option, Some, None, refl, ap, ◌∙◌, arith}
 use Rattle.std.specs.Prelude.{IfSome}
 use Rattle.std.specs.Option.{option_map}
-use Rattle.cell_storages.specs.Homes.{Home, is_home}
+use Rattle.cell_steps.specs.Homes.{Home, is_home}
 use Rattle.diff_steps.specs.Packs.{Pack, cell_of}
 
 -- the same, places counted from a number on

@@ -1,6 +1,6 @@
 -- What the cells of a pack are of.
 use Rattle.std.specs.Prelude.{List, map}
-use Rattle.cell_storages.specs.Homes.{Home, of_item, of_count}
+use Rattle.cell_steps.specs.Homes.{Home, of_item, of_count}
 use Rattle.diff_steps.specs.Packs.{Pack}
 use Rattle.pack_forms.specs.declared.cells.PackCell.{PackCell}
 use Rattle.pack_forms.specs.declared.cells.PackCell.TheVariants.{Item, Count}

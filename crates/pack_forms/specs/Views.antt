@@ -6,7 +6,7 @@ use Rattle.cob_program.specs.ActView.{plain_program}
 use Rattle.result_ranges.specs.declared.amounts.Taken.{Taken}
 use Rattle.cell_rows.specs.Known.{Known}
 use Rattle.cell_rows.specs.Rows.{cells_of}
-use Rattle.cell_storages.specs.Homes.{of_item}
+use Rattle.cell_steps.specs.Homes.{of_item}
 use Rattle.cell_steps.specs.Seen.{Seen}
 use Rattle.cell_walk.specs.declared.items.KnownItems.{KnownItems}
 use Rattle.diff_steps.specs.Packs.{Pack, cell_of, pack_decimals}

@@ -15,7 +15,7 @@ ghost use Rattle.result_ranges.specs.Operands.{is_whole};
 ghost use Rattle.cell_amounts.specs.Small.{is_small_amount};
 ghost use Rattle.cell_amounts.specs.Working.{CanSettle, CanWork};
 ghost use Rattle.cell_rows.specs.Elements.{CellsFit};
-ghost use Rattle.cell_storages.specs.Homes.{owns};
+ghost use Rattle.cell_steps.specs.Homes.{owns};
 ghost use Rattle.cell_steps.specs.Stores.{range_at};
 ghost use Rattle.diff_steps.specs.Forms as forms;
 ghost use Rattle.diff_steps.specs.Moments.{Bytes};

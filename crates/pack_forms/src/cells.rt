@@ -1,7 +1,7 @@
 //! What the cells of a pack are of, and their units.
 ghost use Rattle.std.specs.Prelude.{◌≡◌, ◌-◌, ◌^◌, ◌≤◌, pos};
 ghost use Rattle.cob_runs.specs.Contents.{form_at, scale_of};
-ghost use Rattle.cell_storages.specs.Homes.{is_home};
+ghost use Rattle.cell_steps.specs.Homes.{is_home};
 ghost use Rattle.diff_steps.specs.Packs as packs;
 ghost use Rattle.diff_steps.specs.Packs.{decimals_of};
 ghost use Rattle.pack_forms.specs.Cells.{plain_cell, plain_cells};

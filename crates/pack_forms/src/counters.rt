@@ -8,7 +8,7 @@ ghost use Rattle.sum_forms.specs.Constants as constants;
 ghost use Rattle.sum_forms.specs.Values.{IsForm};
 ghost use Rattle.result_ranges.specs.declared.amounts.Taken as declared_taken;
 ghost use Rattle.cell_rows.specs.Elements.{CellsFit};
-ghost use Rattle.cell_storages.specs.Homes.{of_count, homes_of, owns};
+ghost use Rattle.cell_steps.specs.Homes.{of_count, homes_of, owns};
 ghost use Rattle.cell_steps.specs.Cells.{units_of};
 ghost use Rattle.diff_steps.specs.Forms as forms;
 ghost use Rattle.diff_steps.specs.Moments.{Bytes};

@@ -11,7 +11,7 @@ ghost use Rattle.result_ranges.specs.Stores as stores;
 ghost use Rattle.cell_amounts.specs.Small.{is_small_amount};
 ghost use Rattle.cell_amounts.specs.Working.{CanSettle};
 ghost use Rattle.cell_rows.specs.Elements.{CellsFit};
-ghost use Rattle.cell_storages.specs.Homes.{owns};
+ghost use Rattle.cell_steps.specs.Homes.{owns};
 ghost use Rattle.cell_steps.specs.Operands.{settled};
 ghost use Rattle.cell_steps.specs.Stores.{range_at};
 ghost use Rattle.result_ranges.specs.declared.amounts.Taken as declared_taken;

@@ -1,6 +1,6 @@
 //! Where the cells of a pack stand.
 ghost use Rattle.std.specs.Prelude.{◌≡◌, ◌<◌, ◌≤◌, length, IfSome};
-ghost use Rattle.cell_storages.specs.Homes.{of_item};
+ghost use Rattle.cell_steps.specs.Homes.{of_item};
 ghost use Rattle.diff_steps.specs.Packs.{cell_of};
 ghost use Rattle.pack_forms.specs.Cells.{plain_cell, plain_cells};
 

@@ -9,7 +9,7 @@ ghost use Rattle.sum_ranges.specs.Taking.{is_small_taken};
 ghost use Rattle.sum_forms.specs.SumForms as sums;
 ghost use Rattle.sum_forms.specs.Values.{IsForm};
 ghost use Rattle.cell_rows.specs.Elements.{CellsFit};
-ghost use Rattle.cell_storages.specs.Homes.{owns};
+ghost use Rattle.cell_steps.specs.Homes.{owns};
 ghost use Rattle.cell_steps.specs.Stores.{range_at};
 ghost use Rattle.borrowed_parts.specs.PartView.{plain_divisor};
 ghost use Rattle.pack_forms.specs.Views.{item_cell, program_of, known_in};

@@ -11,9 +11,9 @@ use Rattle.dom_laws.specs.Meaning.{Storage}
 use Rattle.diff_bounds.specs.Matrix.{word, IsBound}
 use Rattle.diff_bounds.specs.Storages.{value_at, DifferBy, StandsIn}
 use Rattle.cell_rows.specs.Known.{Known}
-use Rattle.cell_storages.specs.Homes.{Home}
-use Rattle.cell_storages.specs.Storages as cells
-use Rattle.cell_storages.specs.Storages.{known_of, KnownStands}
+use Rattle.cell_steps.specs.Homes.{Home}
+use Rattle.cell_steps.specs.Storages as cells
+use Rattle.cell_steps.specs.Storages.{known_of, KnownStands}
 use Rattle.diff_steps.specs.Packs.{Pack, size_of, unit_of, cells_in, PackStands}
 use Rattle.diff_steps.specs.Matrices.{with_words, high_word, low_word, put_high, put_low, put_word}
 use Rattle.pack_laws.proofs.Words.{word_at}

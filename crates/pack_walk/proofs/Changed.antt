@@ -15,11 +15,11 @@ use Rattle.result_ranges.specs.declared.amounts.AmountRange.TheVariants as range
 use Rattle.result_ranges.specs.Receivers.{receiver_of}
 use Rattle.cell_rows.specs.Known.{Known}
 use Rattle.cell_rows.specs.Elements.{Element}
-use Rattle.cell_storages.specs.Homes.{of_item, of_count}
+use Rattle.cell_steps.specs.Homes.{of_item, of_count}
 use Rattle.cell_steps.specs.Seen.{Seen}
 use Rattle.cell_steps.specs.Stores.{with_taken, taking, amount_at, behind_store}
 use Rattle.cell_steps.specs.Steps.{with_cells_if}
-use Rattle.edge_sizes.specs.Sizes.{IsSmallPart}
+use Rattle.cell_laws.specs.Sizes.{IsSmallPart}
 use Rattle.cell_walk.specs.Latest.{Latest, ranges_of, outcome, latest_behind}
 use Rattle.cell_walk.specs.Walks.{with_taken_small, step_small}
 use Rattle.cell_walk.proofs.SmallEdges.{all_is_taken}

@@ -34,13 +34,13 @@ use Rattle.result_ranges.specs.Receivers.{receiver_of, counter}
 use Rattle.result_ranges.specs.ResultRanges.{most, exceeds, amount_units, may_fail, near_range, lowered, count_may_fail}
 use Rattle.cell_amounts.specs.Working.{amount_from}
 use Rattle.cell_rows.specs.Known.{Known}
-use Rattle.cell_storages.specs.Homes.{of_count, homes_of}
+use Rattle.cell_steps.specs.Homes.{of_count, homes_of}
 use Rattle.cell_steps.specs.Cells.{units_of}
 use Rattle.cell_steps.specs.Operands.{edge_operands, settled, amount_of}
 use Rattle.cell_steps.specs.Seen.{Seen}
 use Rattle.cell_steps.specs.Stores.{range_at, with_taken}
 use Rattle.cell_steps.specs.Clearing.{is_misfit, has_quotient, all_fit_of, all_fit, all_count, clears_part}
-use Rattle.edge_sizes.specs.Sizes.{sends_small, IsSmallPart, IsSmallStore}
+use Rattle.cell_laws.specs.Sizes.{sends_small, IsSmallPart, IsSmallStore}
 use Rattle.cell_walk.specs.Walks.{if_sent_small, with_taken_small, clears_small, CanStep}
 use Rattle.cell_walk.proofs.SmallEdges.{all_is_taken}
 use Rattle.cell_walk.proofs.Stepping.{taken_can, taken_written}

@@ -13,7 +13,7 @@ use Rattle.cob_runs.specs.declared.action.Action.{Action}
 use Rattle.cob_edge_parts.specs.Parts.{Part}
 use Rattle.borrowed_parts.specs.PartView.{edge_parts}
 use Rattle.cell_steps.specs.Seen.{Seen}
-use Rattle.edge_sizes.specs.Sizes.{IsSmallPart}
+use Rattle.cell_laws.specs.Sizes.{IsSmallPart}
 use Rattle.cell_walk.specs.Kept.{clears_at_part}
 use Rattle.cell_walk.specs.Statements.{act_in}
 use Rattle.cell_walk.specs.Walks.{clears_small, CanStep}

@@ -10,9 +10,9 @@ use Rattle.cob_program.specs.Act.{Program}
 use Rattle.diff_bounds.specs.Matrix.{largest}
 use Rattle.cell_rows.specs.Known.{Known, KnownFits}
 use Rattle.cell_rows.specs.Elements.{CellsFit}
-use Rattle.cell_storages.specs.Homes.{Home, homes_of, home_range, owns}
-use Rattle.cell_storages.specs.Storages.{known_of}
-use Rattle.cell_edges.proofs.CellLists.{known_fits}
+use Rattle.cell_steps.specs.Homes.{Home, homes_of, home_range, owns}
+use Rattle.cell_steps.specs.Storages.{known_of}
+use Rattle.cell_laws.proofs.CellLists.{known_fits}
 use Rattle.cell_walk.proofs.Stepping.{held_at}
 use Rattle.diff_steps.specs.Packs.{Pack, decimals_of, pack_decimals, unit_of}
 use Rattle.pack_changes.specs.declared.closings.KnownCell.{KnownCell}

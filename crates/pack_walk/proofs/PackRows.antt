@@ -4,12 +4,12 @@ use Rattle.cob_program.specs.Values.{◌>>=◌}
 use Rattle.cob_program.specs.Act.{Program}
 use Rattle.diff_bounds.specs.Matrix.{IsMatrix}
 use Rattle.cell_rows.specs.Known.{Known}
-use Rattle.cell_storages.specs.Homes.{homes_of}
+use Rattle.cell_steps.specs.Homes.{homes_of}
 use Rattle.diff_steps.specs.Matrices.{put_closed}
 use Rattle.diff_steps.specs.Steps.{each_pack, all_closed}
 use Rattle.diff_steps.specs.Clearing.{some_pack}
 use Rattle.diff_steps.specs.Packs.{Pack, size_of}
-use Rattle.pack_edges.specs.Agreeing.{AreMatrices}
+use Rattle.pack_laws.specs.Agreeing.{AreMatrices}
 use Rattle.pack_rows.specs.Rows.{words_of, width_of}
 use Rattle.pack_walk.specs.declared.plans.PackPlan.{PackPlan}
 use Rattle.pack_walk.specs.Closed.{IsClosedBy, AreClosedBy, IsClosedRow}

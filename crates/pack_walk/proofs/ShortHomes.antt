@@ -15,9 +15,9 @@ use Rattle.cob_program.specs.Act.{once, times, until, varying, Stmt, MkStmt, Act
 use Rattle.cob_program.specs.Statements.{program_statements}
 use Rattle.cob_runs.specs.Contents.{item_at, form_at, scale_of}
 use Rattle.cob_items.specs.WellFormed.{IsWellFormedForm, IsWellFormedItem, HasWellFormedItems}
-use Rattle.cell_storages.specs.Homes.{Home, of_item, of_count, picture_range, form_range, if_named, home_of, item_homes, act_homes, count_homes, homes_of}
+use Rattle.cell_steps.specs.Homes.{Home, of_item, of_count, picture_range, form_range, if_named, home_of, item_homes, act_homes, count_homes, homes_of}
 use Rattle.diff_steps.specs.Packs.{Pack}
-use Rattle.pack_edges.specs.Agreeing.{IsPackOf}
+use Rattle.pack_laws.specs.Agreeing.{IsPackOf}
 use Rattle.pack_walk.specs.Plans.{IsShortHome}
 
 -- the numbers of at most 18 digits

@@ -13,7 +13,7 @@ use Rattle.result_ranges.specs.declared.amounts.Taken.{Taken}
 use Rattle.cell_rows.specs.Known.{Known}
 use Rattle.cell_steps.specs.Seen.{Seen, beginning}
 use Rattle.cell_steps.specs.Steps.{step}
-use Rattle.edge_sizes.specs.Sizes.{sends_small, IsSmallPart}
+use Rattle.cell_laws.specs.Sizes.{sends_small, IsSmallPart}
 use Rattle.cell_walk.specs.Walks.{with_common, trimmed}
 use Rattle.cell_walk.proofs.SmallEdges.{step_same}
 use Rattle.diff_steps.specs.Packs.{Pack}

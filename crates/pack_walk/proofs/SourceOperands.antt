@@ -19,9 +19,9 @@ use Rattle.cob_graph.specs.declared.graph.Graph.{Graph}
 use Rattle.graph_runs.specs.Sources.{IsSourceGraph}
 use Rattle.sum_ranges.specs.Taking.{is_small_taken}
 use Rattle.result_ranges.specs.Operands.{is_whole}
-use Rattle.edge_premises.proofs.Doing.{can_do_at}
-use Rattle.edge_premises.proofs.Parts.{IsSourceAmount, IsSourcePart, every, parts_are_kept}
-use Rattle.edge_sizes.proofs.Short.{countable_small, number_small}
+use Rattle.cell_laws.proofs.Doing.{can_do_at}
+use Rattle.cell_laws.proofs.PremiseParts.{IsSourceAmount, IsSourcePart, every, parts_are_kept}
+use Rattle.cell_laws.proofs.Short.{countable_small, number_small}
 use Rattle.pack_walk.specs.Parts.{IsStoreOf, IsOfEdge}
 
 module _ (p : Program) (sound : HasWellFormedItems p.layout) (a : Act) (x : Action) where

@@ -12,7 +12,7 @@ use Rattle.cell_rows.specs.Known.{Known}
 use Rattle.cell_steps.specs.Agreeing.{of_operands}
 use Rattle.cell_steps.specs.Seen.{Seen}
 use Rattle.cell_steps.specs.Stores.{range_at, taking}
-use Rattle.edge_sizes.specs.Sizes.{IsSmallPart}
+use Rattle.cell_laws.specs.Sizes.{IsSmallPart}
 use Rattle.cell_walk.specs.Kept.{step_at}
 use Rattle.cell_walk.specs.Latest.{Latest, latest_behind}
 use Rattle.cell_walk.specs.Statements.{act_in}

@@ -12,9 +12,9 @@ use Rattle.borrowed_parts.specs.PartView.{edge_parts}
 use Rattle.cell_rows.specs.Known.{Known}
 use Rattle.cell_rows.specs.Rows.{cells_of}
 use Rattle.cell_rows.specs.Elements.{CellsFit}
-use Rattle.cell_storages.specs.Homes.{owns}
+use Rattle.cell_steps.specs.Homes.{owns}
 use Rattle.cell_steps.specs.Seen.{Seen, beginning}
-use Rattle.edge_sizes.specs.Sizes.{IsSmallPart}
+use Rattle.cell_laws.specs.Sizes.{IsSmallPart}
 use Rattle.cell_walk.specs.declared.kept.Kept.{Kept}
 use Rattle.cell_walk.specs.Kept.{seen}
 use Rattle.cell_walk.specs.ProgramRows.{IsRowOf}

@@ -14,7 +14,7 @@ use Rattle.result_ranges.specs.declared.amounts.AmountRange.TheVariants as range
 use Rattle.result_ranges.specs.Receivers.{receiver_of}
 use Rattle.sum_ranges.specs.declared.ranged.Ranged.{Ranged}
 use Rattle.cell_rows.specs.Known.{Known}
-use Rattle.cell_storages.specs.Homes.{of_item, of_count}
+use Rattle.cell_steps.specs.Homes.{of_item, of_count}
 use Rattle.cell_steps.specs.Stores.{range_at}
 use Rattle.cell_walk.specs.Latest.{Latest}
 use Rattle.diff_steps.specs.Packs.{Pack, cell_of, decimals_of}

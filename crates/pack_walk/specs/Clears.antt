@@ -19,7 +19,7 @@ use Rattle.result_ranges.specs.Receivers.{receiver_of, counter}
 use Rattle.result_ranges.specs.ResultRanges.{most, near_range, lowered}
 use Rattle.cell_amounts.specs.Working.{amount_from}
 use Rattle.cell_rows.specs.Known.{Known}
-use Rattle.cell_storages.specs.Homes.{of_count, homes_of}
+use Rattle.cell_steps.specs.Homes.{of_count, homes_of}
 use Rattle.cell_steps.specs.Cells.{units_of}
 use Rattle.cell_steps.specs.Operands.{is_remainder}
 use Rattle.cell_steps.specs.Seen.{Seen}

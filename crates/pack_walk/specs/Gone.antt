@@ -1,7 +1,7 @@
 -- Cells that a part leaves nothing known of.
 use Rattle.std.specs.Prelude.{◌&&◌, ◌||◌, not, Bool}
 use Rattle.cob_data.specs.declared.layout.Layout.{Layout}
-use Rattle.cell_storages.specs.Homes.{Home, of_item, is_home}
+use Rattle.cell_steps.specs.Homes.{Home, of_item, is_home}
 use Rattle.cell_steps.specs.Cells.{is_in_bytes, is_beside}
 use Rattle.pack_walk.specs.declared.gone.Gone.{Gone}
 use Rattle.pack_walk.specs.declared.gone.Gone.TheVariants.{Others, Lost, Bytes}

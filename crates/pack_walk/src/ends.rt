@@ -10,7 +10,7 @@ ghost use Rattle.result_ranges.specs.ResultRanges.{most, near_range};
 ghost use Rattle.result_ranges.specs.Sizes.{IsReceiver};
 ghost use Rattle.cell_rows.specs.Elements.{CellsFit};
 ghost use Rattle.cell_rows.specs.Rows.{cells_of};
-ghost use Rattle.cell_storages.specs.Homes.{owns};
+ghost use Rattle.cell_steps.specs.Homes.{owns};
 ghost use Rattle.cell_walk.specs.ProgramRows.{IsRowOf};
 ghost use Rattle.diff_steps.specs.Clearing.{high_fits, low_fits, some_pack, high_shown, low_shown};
 ghost use Rattle.diff_steps.specs.Moments.{Bytes};

@@ -3,7 +3,7 @@ ghost use Rattle.std.specs.Prelude.{◌≡◌, ◌≤◌, length, map};
 ghost use Rattle.std.specs.Option.{option_copied};
 ghost use Rattle.cob_runs.specs.Contents.{item_at};
 ghost use Rattle.diff_bounds.specs.Matrix.{IsMatrix};
-ghost use Rattle.cell_storages.specs.Homes.{of_item, is_home};
+ghost use Rattle.cell_steps.specs.Homes.{of_item, is_home};
 ghost use Rattle.cell_steps.specs.Cells.{is_in_bytes, is_beside};
 ghost use Rattle.diff_steps.specs.Stores.{forgotten_cells};
 ghost use Rattle.pack_forms.specs.Cells.{plain_cell, plain_cells};

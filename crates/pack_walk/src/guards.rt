@@ -8,7 +8,7 @@ ghost use Rattle.diff_bounds.specs.Matrix.{IsMatrix};
 ghost use Rattle.guard_ranges.specs.Small.{is_small_test};
 ghost use Rattle.result_ranges.specs.declared.amounts.Taken.{Taken};
 ghost use Rattle.cell_rows.specs.Elements.{CellsFit};
-ghost use Rattle.cell_storages.specs.Homes.{owns};
+ghost use Rattle.cell_steps.specs.Homes.{owns};
 ghost use Rattle.cell_steps.specs.Stores.{range_at};
 ghost use Rattle.diff_steps.specs.Guards as guards;
 ghost use Rattle.pack_forms.specs.Views.{plain_pack, item_cell, HasUnit, program_of, known_in};

@@ -9,7 +9,7 @@ ghost use Rattle.cob_graph.specs.Graphs.{cells_of as program_cells};
 ghost use Rattle.cell_rows.specs.Elements.{CellsFit};
 ghost use Rattle.cell_rows.specs.Rows.{IsReached, cells_of};
 ghost use Rattle.cell_homes.specs.Numbers.{number_of};
-ghost use Rattle.cell_storages.specs.Homes.{homes_of, owns};
+ghost use Rattle.cell_steps.specs.Homes.{homes_of, owns};
 ghost use Rattle.cell_walk.specs.Kept.{latest_of};
 ghost use Rattle.cell_walk.specs.ProgramRows.{known_in, IsCellNumber, IsRowOf};
 ghost use Rattle.diff_steps.specs.Matrices.{put_closed};

@@ -9,7 +9,7 @@ ghost use Rattle.result_ranges.specs.Receivers.{receiver_of};
 ghost use Rattle.cell_amounts.specs.Small.{is_small_amount};
 ghost use Rattle.cell_amounts.specs.Working.{CanWork};
 ghost use Rattle.cell_rows.specs.Elements.{CellsFit};
-ghost use Rattle.cell_storages.specs.Homes.{of_item, owns};
+ghost use Rattle.cell_steps.specs.Homes.{of_item, owns};
 ghost use Rattle.cell_steps.specs.Stores.{range_at};
 ghost use Rattle.cell_walk.specs.Kept.{latest_of};
 ghost use Rattle.diff_steps.specs.Forms as forms;

@@ -4,7 +4,7 @@ ghost use Rattle.std.specs.List.{AllByRecursion};
 ghost use Rattle.cob_program.specs.ActView.{plain_stmt, plain_program};
 ghost use Rattle.cob_edge_parts.specs.Parts.{is_handled};
 ghost use Rattle.borrowed_parts.specs.PartView.{edge_parts, plain_part};
-ghost use Rattle.edge_sizes.specs.Sizes.{IsSmallPart};
+ghost use Rattle.cell_laws.specs.Sizes.{IsSmallPart};
 ghost use Rattle.cell_rows.specs.Rows.{cells_of};
 ghost use Rattle.cell_walk.specs.Kept.{seen};
 ghost use Rattle.cell_walk.specs.ProgramRows.{IsRowOf};

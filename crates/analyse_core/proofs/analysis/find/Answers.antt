@@ -3,7 +3,7 @@ use Rattle.cob_program.specs.ActView.{plain_program}
 use Rattle.cob_graph.specs.Graphs.{cells_of}
 use Rattle.cell_rows.specs.Elements.{AreThresholds}
 use Rattle.cell_rows.specs.Rows.{lists_of}
-use Rattle.cell_storages.specs.Homes.{owns}
+use Rattle.cell_steps.specs.Homes.{owns}
 use Rattle.analyse_core.specs.Literals.{program_literals}
 use Rattle.analyse_core.specs.Thresholds.{thresholds_of}
 use Rattle.analyse_core.proofs.CellLists.{each_short, lists_short}

@@ -4,8 +4,8 @@ use Rattle.cob_program.specs.ActView.{plain_program}
 use Rattle.cob_graph.specs.Graphs.{cells_of}
 use Rattle.dom_laws.specs.Flow.{IsDominated, IsInductive}
 use Rattle.cell_rows.specs.Rows.{cells_lattice, element_of}
-use Rattle.cell_storages.specs.Homes.{owns}
-use Rattle.cell_layer_laws.specs.Layer.{cell_flow}
+use Rattle.cell_steps.specs.Homes.{owns}
+use Rattle.cell_laws.specs.Layer.{cell_flow}
 use Rattle.cert_text.specs.View.{view}
 use Rattle.widen_solver.specs.Stored.{row_at}
 use Rattle.analyse_core.specs.Certificates.{certificate_for}

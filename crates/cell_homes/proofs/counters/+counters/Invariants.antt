@@ -1,7 +1,7 @@
 use Rattle.std.proofs.Common.{◌≡◌, drop}
 use Rattle.cob_program.specs.ActView.{plain_stmts, plain_whens}
 use Rattle.cob_program.specs.Statements.{list_statements, whens_statements}
-use Rattle.cell_storages.specs.Homes.{count_homes}
+use Rattle.cell_steps.specs.Homes.{count_homes}
 use Rattle.cell_homes.specs.Numbers.{left_at}
 use Rattle.cell_homes.proofs.counters.+counters.Given as goal
 

@@ -1,7 +1,7 @@
 use Rattle.std.proofs.Common.{◌-◌, length, refl, ap, ◌∙◌}
 use Rattle.cob_program.specs.ActView.{plain_paras, plain_program}
 use Rattle.cob_program.specs.Statements.{paras_statements}
-use Rattle.cell_storages.specs.Homes.{count_homes}
+use Rattle.cell_steps.specs.Homes.{count_homes}
 use Rattle.cell_homes.specs.Numbers.{left_at}
 use Rattle.cell_homes.proofs.CountLemmas.{items_fit, found_number, left_fits, no_number}
 use Rattle.cell_homes.proofs.counters.cell_of_count.Goals as goal

@@ -1,7 +1,7 @@
 use Rattle.std.proofs.Common.{◌≡◌, drop}
 use Rattle.cob_program.specs.ActView.{plain_paras}
 use Rattle.cob_program.specs.Statements.{paras_statements}
-use Rattle.cell_storages.specs.Homes.{count_homes}
+use Rattle.cell_steps.specs.Homes.{count_homes}
 use Rattle.cell_homes.specs.Numbers.{left_at}
 use Rattle.cell_homes.proofs.counters.in_paras.Given as goal
 

@@ -5,7 +5,7 @@ use Rattle.cob_program.specs.ActView.{plain_program}
 use Rattle.cob_graph.specs.declared.graph.Edge.{Edge}
 use Rattle.cell_rows.specs.Rows.{cells_of}
 use Rattle.graph_runs.specs.Places.{no_edge}
-use Rattle.cell_layer_laws.specs.Layer.{edge_clears}
+use Rattle.cell_laws.specs.Layer.{edge_clears}
 use Rattle.cell_layer.proofs.OwnEdges.{edges_rise, stands_among, earlier, one_more, behind_own, all_clear, one_unclear}
 use Rattle.cell_layer.proofs.clearing.clears_node.Goals as goal
 

@@ -2,7 +2,7 @@ use Rattle.std.proofs.Common.{◌≡◌, ◌≤◌, ◌<◌, ◌+◌, suc, drop,
 use Rattle.cob_program.specs.ActView.{plain_stmt, plain_program}
 use Rattle.borrowed_parts.specs.PartView.{edge_parts}
 use Rattle.cell_rows.specs.Rows.{cells_of, row_from, width_of}
-use Rattle.cell_storages.specs.Homes.{owns}
+use Rattle.cell_steps.specs.Homes.{owns}
 use Rattle.cell_steps.specs.Edges.{finished}
 use Rattle.cell_walk.specs.Statements.{act_in}
 use Rattle.cell_walk.specs.Walks.{steps_small}

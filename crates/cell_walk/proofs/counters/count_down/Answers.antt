@@ -3,7 +3,7 @@ use Rattle.std.specs.Option.{option_map}
 use Rattle.cob_program.specs.ActView.{plain_program}
 use Rattle.result_ranges.specs.ResultRanges.{lowered, count_range}
 use Rattle.cell_rows.specs.Rows.{cells_of}
-use Rattle.cell_storages.specs.Homes.{of_count}
+use Rattle.cell_steps.specs.Homes.{of_count}
 use Rattle.cell_steps.specs.Steps.{known_as}
 use Rattle.cell_walk.proofs.CounterRanges.{count_is_small}
 use Rattle.cell_walk.proofs.counters.count_down.Goals as goal

@@ -2,7 +2,7 @@ use Rattle.std.proofs.Common.{Some, sym, ap, ◌∙◌}
 use Rattle.std.specs.Option.{option_map}
 use Rattle.cob_program.specs.ActView.{plain_program}
 use Rattle.cell_rows.specs.Rows.{cells_of}
-use Rattle.cell_storages.specs.Homes.{of_count}
+use Rattle.cell_steps.specs.Homes.{of_count}
 use Rattle.cell_steps.specs.Steps.{known_as}
 use Rattle.cell_walk.proofs.CounterRanges.{counted_is_ordered}
 use Rattle.cell_walk.proofs.counters.set_count.Goals as goal

@@ -1,7 +1,7 @@
 use Rattle.std.proofs.Common.{sym, ap, ◌∙◌}
 use Rattle.std.specs.Option.{option_copied}
 use Rattle.cob_program.specs.ActView.{plain_program}
-use Rattle.cell_storages.specs.Homes.{homes_of}
+use Rattle.cell_steps.specs.Homes.{homes_of}
 use Rattle.cell_rows.specs.Rows.{cells_of}
 use Rattle.cell_walk.proofs.Forgotten.{nothing_beside}
 use Rattle.cell_walk.proofs.forgetting.forget_beside.Goals as goal

@@ -1,6 +1,6 @@
 use Rattle.std.proofs.Common.{Some}
 use Rattle.cob_program.specs.ActView.{plain_program}
-use Rattle.cell_storages.specs.Homes.{of_count}
+use Rattle.cell_steps.specs.Homes.{of_count}
 use Rattle.cell_rows.specs.Rows.{cells_of}
 use Rattle.cell_walk.proofs.CellNumbers.{number_fits, set_by_number, set_row}
 use Rattle.cell_walk.proofs.knowing.know_count.Goals as goal

@@ -1,5 +1,5 @@
 use Rattle.cob_program.specs.ActView.{plain_program}
-use Rattle.cell_storages.specs.Homes.{of_item}
+use Rattle.cell_steps.specs.Homes.{of_item}
 use Rattle.cell_rows.specs.Rows.{cells_of}
 use Rattle.cell_walk.proofs.CellNumbers.{number_fits, set_by_number, set_row}
 use Rattle.cell_walk.proofs.knowing.set_item.Goals as goal

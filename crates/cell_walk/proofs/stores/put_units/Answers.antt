@@ -2,7 +2,7 @@ use Rattle.std.proofs.Common.{Some, sym, ap, ◌∙◌}
 use Rattle.cob_program.specs.ActView.{plain_program}
 use Rattle.cell_rows.specs.Known.{Known}
 use Rattle.cell_rows.specs.Rows.{cells_of}
-use Rattle.cell_storages.specs.Homes.{of_item, homes_of}
+use Rattle.cell_steps.specs.Homes.{of_item, homes_of}
 use Rattle.cell_steps.specs.Cells.{with_known, forgotten, is_beside}
 use Rattle.cell_walk.proofs.Storing.{put_is}
 use Rattle.cell_walk.proofs.stores.put_units.Goals as goal

@@ -2,7 +2,7 @@ use Rattle.std.proofs.Common.{◌≡◌, ◌≤◌, map, length, ap, sym, ◌∙
 use Rattle.std.specs.List.{All}
 use Rattle.std.proofs.lemmas.List.{length-map}
 use Rattle.cob_program.specs.ActView.{plain_program}
-use Rattle.cell_storages.specs.Homes.{own_range}
+use Rattle.cell_steps.specs.Homes.{own_range}
 use Rattle.claimed_rows.specs.Gaps.{IsSmall}
 use Rattle.cert_check.specs.Ranges.{IsShort}
 use Rattle.cert_check.proofs.Sources.{graph_cells_short, graph_ranges}

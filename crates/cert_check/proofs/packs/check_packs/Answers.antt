@@ -4,7 +4,7 @@ use Rattle.std.proofs.lemmas.List.{length-map}
 use Rattle.cob_program.specs.ActView.{plain_program}
 use Rattle.cert_text.specs.View.{view}
 use Rattle.diff_bounds.specs.declared.Pack as declared
-use Rattle.diff_layer_laws.specs.Packs.{ArePacksOfCells}
+use Rattle.pack_laws.specs.Packs.{ArePacksOfCells}
 use Rattle.cert_check.specs.Claims.{cell_leaks}
 use Rattle.cert_check.proofs.Asking.{claimed_element}
 use Rattle.cert_check.proofs.Sources.{cell_count, range_count}

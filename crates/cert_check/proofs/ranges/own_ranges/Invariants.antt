@@ -1,7 +1,7 @@
 use Rattle.std.proofs.Common.{◌≡◌, map}
 use Rattle.std.specs.Prelude.{take}
 use Rattle.std.specs.List.{All}
-use Rattle.cell_storages.specs.Homes.{own_range}
+use Rattle.cell_steps.specs.Homes.{own_range}
 use Rattle.claimed_rows.specs.Gaps.{IsSmall}
 use Rattle.cert_check.proofs.ranges.own_ranges.Given as goal
 

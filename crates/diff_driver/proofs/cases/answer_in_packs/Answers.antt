@@ -1,7 +1,7 @@
 use Rattle.std.proofs.Common.{[], sym, subst, ◌∙◌}
 use Rattle.cob_program.specs.ActView.{plain_program}
 use Rattle.cell_rows.specs.Rows.{IsRow}
-use Rattle.cell_storages.specs.Homes.{owns}
+use Rattle.cell_steps.specs.Homes.{owns}
 use Rattle.cert_text.specs.View.{place_of}
 use Rattle.layer_cases.proofs.Claims.{claims_are_elements}
 use Rattle.diff_driver.proofs.cases.answer_in_packs.Goals as goal

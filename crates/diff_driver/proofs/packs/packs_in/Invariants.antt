@@ -1,5 +1,5 @@
 use Rattle.std.proofs.Common.{◌≡◌, length}
-use Rattle.diff_layer_laws.specs.Packs.{ArePacksOfCells}
+use Rattle.pack_laws.specs.Packs.{ArePacksOfCells}
 use Rattle.diff_driver.proofs.packs.packs_in.Given as goal
 
 abbrev pub invariant-loop-word : goal.invariant-loop-word

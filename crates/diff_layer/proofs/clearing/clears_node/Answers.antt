@@ -7,7 +7,7 @@ use Rattle.cell_rows.specs.Rows.{cells_of}
 use Rattle.graph_runs.specs.Places.{no_edge}
 use Rattle.cell_layer.proofs.OwnEdges.{edges_rise, stands_among, earlier, one_more, behind_own, all_clear, one_unclear}
 use Rattle.pack_walk.specs.Plans.{plain_plans, matrices_for}
-use Rattle.diff_layer_laws.specs.Layer.{edge_clears2}
+use Rattle.pack_laws.specs.Layer.{edge_clears2}
 use Rattle.diff_layer.proofs.clearing.clears_node.Goals as goal
 
 pub edges_before-first-requires : goal.edges_before-first-requires

@@ -3,7 +3,7 @@ use Rattle.cob_program.specs.ActView.{plain_program}
 use Rattle.cell_rows.specs.Rows.{cells_of}
 use Rattle.cell_layer.proofs.OwnEdges.{IsClear}
 use Rattle.pack_walk.specs.Plans.{plain_plans, matrices_for}
-use Rattle.diff_layer_laws.specs.Layer.{edge_clears2}
+use Rattle.pack_laws.specs.Layer.{edge_clears2}
 use Rattle.diff_layer.proofs.clearing.clears_node.Given as goal
 
 abbrev pub invariant-loop-at : goal.invariant-loop-at

@@ -2,7 +2,7 @@ use Rattle.std.proofs.Common.{◌≡◌, ◌∙◌, Some, None, sym, ap}
 use Rattle.std.specs.Prelude.{if◌then◌else◌}
 use Rattle.std.proofs.lemmas.List.{length-map}
 use Rattle.cob_program.specs.ActView.{plain_program}
-use Rattle.cell_layer_laws.specs.Entry.{entry_cells}
+use Rattle.cell_laws.specs.Entry.{entry_cells}
 use Rattle.diff_steps.specs.Steps.{all_closed}
 use Rattle.pack_rows.specs.Rows.{lists_of}
 use Rattle.pack_walk.specs.Plans.{plain_plans, matrices_for}

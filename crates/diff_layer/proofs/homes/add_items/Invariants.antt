@@ -1,5 +1,5 @@
 use Rattle.std.proofs.Common.{◌≡◌, ◌++◌, drop}
-use Rattle.cell_storages.specs.Homes.{item_homes}
+use Rattle.cell_steps.specs.Homes.{item_homes}
 use Rattle.diff_layer.specs.Plans.{cells_of}
 use Rattle.diff_layer.proofs.homes.add_items.Given as goal
 

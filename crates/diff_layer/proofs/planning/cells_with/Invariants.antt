@@ -1,6 +1,6 @@
 use Rattle.std.proofs.Common.{◌≡◌, take}
 use Rattle.pack_forms.specs.Cells.{plain_cells}
-use Rattle.diff_layer_laws.specs.Packs.{pack_in}
+use Rattle.pack_laws.specs.Packs.{pack_in}
 use Rattle.diff_layer.proofs.planning.cells_with.Given as goal
 
 abbrev pub invariant-loop-number : goal.invariant-loop-number

@@ -1,5 +1,5 @@
 use Rattle.std.proofs.Common.{length}
-use Rattle.cell_storages.specs.Homes.{of_count}
+use Rattle.cell_steps.specs.Homes.{of_count}
 use Rattle.pack_forms.proofs.Over.{few, lowered_of_pack}
 use Rattle.pack_forms.proofs.counters.lowered_form.Goals as goal
 

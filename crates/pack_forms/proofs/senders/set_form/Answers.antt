@@ -1,5 +1,5 @@
 use Rattle.std.proofs.Common.{length}
-use Rattle.cell_storages.specs.Homes.{of_item}
+use Rattle.cell_steps.specs.Homes.{of_item}
 use Rattle.pack_forms.specs.Views.{item_cell}
 use Rattle.pack_forms.proofs.Over.{sender_over, few, is_of_pack}
 use Rattle.pack_forms.proofs.senders.set_form.Goals as goal

@@ -1,6 +1,6 @@
 use Rattle.std.proofs.Common.{length}
 use Rattle.cob_program.specs.SumView.{plain_sum}
-use Rattle.cell_storages.specs.Homes.{of_item}
+use Rattle.cell_steps.specs.Homes.{of_item}
 use Rattle.cell_steps.specs.Stores.{range_at}
 use Rattle.pack_forms.specs.Views.{item_cell, program_of, known_in}
 use Rattle.pack_forms.proofs.Differences.{difference_is}

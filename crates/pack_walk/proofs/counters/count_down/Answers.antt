@@ -1,5 +1,5 @@
 use Rattle.std.proofs.Common.{length, ◌∙◌, ap}
-use Rattle.cell_storages.specs.Homes.{of_count}
+use Rattle.cell_steps.specs.Homes.{of_count}
 use Rattle.diff_steps.specs.Packs.{cell_of}
 use Rattle.pack_forms.specs.Views.{plain_pack}
 use Rattle.pack_walk.specs.Changes.{cell_assigned}

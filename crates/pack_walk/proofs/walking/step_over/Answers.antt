@@ -6,7 +6,7 @@ use Rattle.cell_rows.specs.Rows.{cells_of}
 use Rattle.cell_walk.specs.Kept.{seen, latest_of}
 use Rattle.cell_walk.specs.Latest.{latest_behind}
 use Rattle.cell_walk.specs.Statements.{act_in}
-use Rattle.edge_sizes.specs.Sizes.{IsSmallPart}
+use Rattle.cell_laws.specs.Sizes.{IsSmallPart}
 use Rattle.cell_walk.proofs.Stepping.{held_at}
 use Rattle.pack_walk.specs.Closed.{IsClosedRow}
 use Rattle.pack_walk.specs.Parts.{IsOfEdge, CanChange}

@@ -1,8 +1,8 @@
 use Rattle.std.proofs.Common.{◌≡◌, ◌-◌, ◌∙◌, List, Bool, length, sym, ap, false, Some, arith}
 use Rattle.std.specs.Prelude.{slice_index_or}
 use Rattle.cob_program.specs.ActView.{plain_program}
-use Rattle.cell_layer_laws.specs.Entry.{entry_cells}
-use Rattle.cell_layer_laws.specs.Layer.{row_for, row_post}
+use Rattle.cell_laws.specs.Entry.{entry_cells}
+use Rattle.cell_laws.specs.Layer.{row_for, row_post}
 use Rattle.cell_layer.specs.Heads.{is_head}
 use Rattle.cell_layer.proofs.Marks.{length-heads, mark_of, head_is, is_head_of}
 use Rattle.cell_layer.proofs.flowing.CellLayerSystem.is_head.Goals as goal

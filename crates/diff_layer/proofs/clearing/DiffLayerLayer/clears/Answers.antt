@@ -1,9 +1,9 @@
 use Rattle.std.proofs.Common.{◌≡◌, ◌∙◌, true, sym, ap, subst}
 use Rattle.cob_program.specs.ActView.{plain_program}
 use Rattle.cell_rows.specs.Rows.{IsRow, is_reached}
-use Rattle.cell_storages.specs.Homes.{owns}
+use Rattle.cell_steps.specs.Homes.{owns}
 use Rattle.pack_walk.specs.Plans.{plain_plans, ArePlansOf}
-use Rattle.diff_layer_laws.specs.Packs.{packs_of}
+use Rattle.pack_laws.specs.Packs.{packs_of}
 use Rattle.diff_layer.specs.LayerLaws.{facts_of}
 use Rattle.diff_layer.proofs.Facts.{is_there, cells_fit}
 use Rattle.diff_layer.proofs.Layers.{are_plans, is_row_for, few_in, few_facts}

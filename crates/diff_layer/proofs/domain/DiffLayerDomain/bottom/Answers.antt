@@ -1,8 +1,8 @@
 use Rattle.std.proofs.Common.{◌≡◌, ◌∙◌, sym, ap}
 use Rattle.cob_program.specs.ActView.{plain_program}
 use Rattle.pack_rows.specs.Rows.{matrices_beside, lists_of}
-use Rattle.diff_layer_laws.specs.Layer.{sizes_of}
-use Rattle.diff_layer_laws.specs.Packs.{packs_of}
+use Rattle.pack_laws.specs.Layer.{sizes_of}
+use Rattle.pack_laws.specs.Packs.{packs_of}
 use Rattle.diff_layer.specs.LayerLaws.{its_packs}
 use Rattle.diff_layer.proofs.Sizes.{small_in}
 use Rattle.diff_layer.proofs.domain.DiffLayerDomain.bottom.Goals as goal

@@ -2,8 +2,8 @@ use Rattle.std.proofs.Common.{◌≡◌, ◌∙◌, subst}
 use Rattle.std.specs.Prelude.{IsTrue, ◌↔◌}
 use Rattle.cob_program.specs.ActView.{plain_program}
 use Rattle.pack_rows.specs.Rows.{matrices_beside, lists_of}
-use Rattle.diff_layer_laws.specs.Layer.{sizes_of}
-use Rattle.diff_layer_laws.specs.Packs.{packs_of}
+use Rattle.pack_laws.specs.Layer.{sizes_of}
+use Rattle.pack_laws.specs.Packs.{packs_of}
 use Rattle.diff_layer.specs.LayerLaws.{its_packs}
 use Rattle.diff_layer.proofs.Sizes.{small_in, element_in}
 use Rattle.diff_layer.proofs.domain.DiffLayerDomain.leq.Goals as goal

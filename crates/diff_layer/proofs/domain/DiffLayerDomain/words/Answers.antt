@@ -4,8 +4,8 @@ use Rattle.diff_steps.specs.Packs.{size_of}
 use Rattle.diff_layer.proofs.Rows.{width_is}
 use Rattle.cob_program.specs.ActView.{plain_program}
 use Rattle.pack_rows.specs.Rows.{width_of, lists_of}
-use Rattle.diff_layer_laws.specs.Layer.{sizes_of}
-use Rattle.diff_layer_laws.specs.Packs.{packs_of}
+use Rattle.pack_laws.specs.Layer.{sizes_of}
+use Rattle.pack_laws.specs.Packs.{packs_of}
 use Rattle.diff_layer.specs.LayerLaws.{its_packs}
 use Rattle.diff_layer.proofs.Sizes.{small_in}
 use Rattle.diff_layer.proofs.domain.DiffLayerDomain.words.Goals as goal

@@ -1,13 +1,13 @@
 use Rattle.std.proofs.Common.{◌≡◌, ◌-◌, ◌∙◌, List, Bool, length, sym, ap, false, arith}
 use Rattle.std.specs.Prelude.{slice_index_or}
 use Rattle.cob_program.specs.ActView.{plain_program}
-use Rattle.cell_layer_laws.specs.Entry.{entry_cells}
+use Rattle.cell_laws.specs.Entry.{entry_cells}
 use Rattle.cell_layer.specs.Heads.{is_head}
 use Rattle.cell_layer.proofs.Marks.{length-heads, mark_of, head_is, is_head_of}
 use Rattle.diff_steps.specs.Edges.{entry_packs}
 use Rattle.pack_rows.specs.Rows.{row_of}
-use Rattle.diff_layer_laws.specs.Layer.{diff_post}
-use Rattle.diff_layer_laws.specs.Packs.{packs_of}
+use Rattle.pack_laws.specs.Layer.{diff_post}
+use Rattle.pack_laws.specs.Packs.{packs_of}
 use Rattle.diff_layer.proofs.flowing.DiffLayerSystem.is_head.Goals as goal
 
 pub is_marked-requires-clause-last : goal.is_marked-requires-clause-last

@@ -5,11 +5,11 @@ use Rattle.cob_graph.specs.declared.graph.Edge.{Edge}
 use Rattle.dom_laws.specs.Flow.{IsNode}
 use Rattle.graph_runs.specs.Places.{no_edge, edge_at}
 use Rattle.cell_rows.specs.Rows.{IsRow, element_of}
-use Rattle.cell_storages.specs.Homes.{owns}
+use Rattle.cell_steps.specs.Homes.{owns}
 use Rattle.pack_rows.specs.Rows.{matrices_beside, lists_of}
 use Rattle.pack_walk.specs.Plans.{plain_plans, ArePlansOf, matrices_for, IsRowFor}
-use Rattle.diff_layer_laws.specs.Layer.{sizes_of, diff_flow}
-use Rattle.diff_layer_laws.specs.Packs.{packs_of}
+use Rattle.pack_laws.specs.Layer.{sizes_of, diff_flow}
+use Rattle.pack_laws.specs.Packs.{packs_of}
 use Rattle.diff_layer.specs.Edges.{packs_walked}
 use Rattle.diff_layer.specs.LayerLaws.{its_packs, facts_of, flows_by}
 use Rattle.diff_layer.proofs.Layers.{are_plans, as_many, is_row_for, few_facts, among, passed, stopped}

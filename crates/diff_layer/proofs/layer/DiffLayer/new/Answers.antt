@@ -1,16 +1,16 @@
 use Rattle.std.proofs.Common.{◌≡◌, ◌≤◌, ◌∙◌, length, sym, ap, subst}
 use Rattle.std.specs.List.{All}
 use Rattle.cob_program.specs.ActView.{plain_program}
-use Rattle.cell_storages.specs.Homes.{homes_of}
-use Rattle.cell_layer_laws.specs.Entry.{entry_cells}
-use Rattle.cell_layer_laws.proofs.Entry.{entry_fits}
+use Rattle.cell_steps.specs.Homes.{homes_of}
+use Rattle.cell_laws.specs.Entry.{entry_cells}
+use Rattle.cell_laws.proofs.Entry.{entry_fits}
 use Rattle.cell_layer.specs.Heads.{heads_of}
 use Rattle.cell_layer.proofs.Making.{targets_first, targets_last, few_edges, held_by, sound_items, cells_are}
 use Rattle.diff_steps.specs.Edges.{entry_packs}
 use Rattle.pack_rows.specs.Rows.{row_of}
 use Rattle.pack_walk.specs.Plans.{plain_plans, ArePlansOf}
-use Rattle.diff_layer_laws.specs.Layer.{sizes_of}
-use Rattle.diff_layer_laws.specs.Packs.{packs_of, ArePacksOfCells}
+use Rattle.pack_laws.specs.Layer.{sizes_of}
+use Rattle.pack_laws.specs.Packs.{packs_of, ArePacksOfCells}
 use Rattle.diff_layer.specs.LayerLaws.{cells_for_homes}
 use Rattle.diff_layer.proofs.Layers.{are_plans}
 use Rattle.diff_layer.proofs.Rows.{same_sizes}

@@ -1,5 +1,0 @@
-use Rattle.cell_edges.proofs.EachEdge.{all_flags_rise}
-use Rattle.cell_edges.proofs.laws.flags_rise.Goals as goal
-
-pub returns : goal.returns
-returns c = all_flags_rise

@@ -1,5 +1,0 @@
-use Rattle.cell_edges.proofs.EachEdge.{all_posts_stand}
-use Rattle.cell_edges.proofs.laws.posts_stand.Goals as goal
-
-pub returns : goal.returns
-returns c = all_posts_stand

@@ -1,8 +1,0 @@
--- What an analysis of cells relies on holds of each layout.
-use Rattle.cob_data.specs.declared.layout.Layout.{Layout}
-use Rattle.cob_items.specs.WellFormed.{HasWellFormedItems}
-use Rattle.graph_runs.specs.Sources.{SeparateItemsHaveSigns}
-use Rattle.cell_storages.specs.Premises.{HasSoundItems}
-
-abbrev pub ItemsAreSound : Type 0
-ItemsAreSound = (l : Layout) → HasWellFormedItems l → SeparateItemsHaveSigns l → HasSoundItems l

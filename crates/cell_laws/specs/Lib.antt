@@ -1,0 +1,9 @@
+pub mod Entry
+pub mod Layer
+pub mod Laws
+pub mod Sizes
+pub mod Edges
+pub mod Cells
+pub mod Items
+pub mod Places
+pub mod EdgeLaws

@@ -1,4 +1,0 @@
-pub mod Entry
-pub mod Flow
-pub mod Clears
-pub mod Meaning

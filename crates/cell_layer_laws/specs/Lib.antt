@@ -1,3 +1,0 @@
-pub mod Entry
-pub mod Layer
-pub mod Laws

@@ -1,0 +1,25 @@
+-- What an analysis of cells needs of a program's data.
+use Rattle.std.specs.Prelude.{◌≡◌, ◌<◌, ◌≤◌, ℕ, ◌+◌, ◌^◌, Bool, true, List, length, ℤ, unsigned_abs, Some, if◌then◌else◌, pos}
+use Rattle.cob_tree.specs.declared.form.Usage.{Usage}
+use Rattle.cob_tree.specs.declared.form.Form.TheVariants as form
+use Rattle.cob_data.specs.declared.layout.Item.{Item}
+use Rattle.cob_data.specs.declared.layout.Layout.{Layout}
+use Rattle.num_bytes.specs.Reading.{contents_value}
+use Rattle.cob_runs.specs.Contents.{item_at, form_at, bytes_at, bytes_of, digits_of}
+use Rattle.cob_runs.specs.Moves.{takes_number}
+use Rattle.decimal_interval.specs.Bounds.{Holds}
+use Rattle.cell_steps.specs.Homes.{form_range}
+
+pub record HasSoundItems (l : Layout) : Type 0 where
+  -- an item lies within storage
+  pub within : (place : ℕ) (i : Item) → item_at l place ≡ Some i → i.offset + i.length ≤ l.storage
+  -- the number that it holds lies in its own range
+  pub own : (place : ℕ) (bytes : List ℕ) (z : ℤ) → length bytes ≡ l.storage
+      → contents_value (form_at l place) (bytes_at l bytes place) ≡ Some z → Holds (form_range (form_at l place)) z
+  -- the bytes of a number that it has room for are as many as its own,
+  pub whole : (place : ℕ) (i : Item) (z : ℤ) → item_at l place ≡ Some i → takes_number i.form ≡ true
+      → unsigned_abs z < 10 ^ digits_of i.form → length (bytes_of i.form z) ≡ i.length
+  -- and are read as that number, or as its absolute value where the item has no sign
+  pub back : (place digits scale : ℕ) (signed : Bool) (usage : Usage) (z : ℤ) → form_at l place ≡ form.Number digits scale signed usage
+      → unsigned_abs z < 10 ^ digits
+      → contents_value (form_at l place) (bytes_of (form_at l place) z) ≡ Some (if signed then z else pos (unsigned_abs z))

@@ -1,0 +1,43 @@
+-- What is known of cells, and the storages of which it is true.
+use Rattle.std.specs.Prelude.{◌≡◌, ℕ, List, ◌∷◌, length, Option, Some, None, ℤ, if◌then◌else◌}
+use Rattle.cob_data.specs.declared.layout.Layout.{Layout}
+use Rattle.cob_program.specs.Act.{Program}
+use Rattle.cob_runs.specs.Contents.{form_at, bytes_at}
+use Rattle.cob_edge_parts.specs.Meaning.{count_in}
+use Rattle.num_bytes.specs.Reading.{contents_value}
+use Rattle.decimal_interval.specs.Bounds.{Holds}
+use Rattle.dom_laws.specs.Meaning.{Storage}
+use Rattle.cell_rows.specs.Known.{Known}
+use Rattle.cell_rows.specs.Elements.{Element}
+use Rattle.graph_runs.specs.Counters.{IsCounted}
+use Rattle.cell_steps.specs.Homes.{Home, of_item, of_count, is_home, homes_of}
+
+-- what is known of a home: that of the first cell that is of it
+abbrev pub known_of : List Home → List Known → Home → Known
+known_of (h ∷ hs) (c ∷ cs) home = if is_home h home then c else known_of hs cs home
+known_of _ _ home = None
+
+abbrev pub storage : List ℕ → List (Option ℤ) → Storage
+storage bytes counters = record { bytes = bytes; counters = counters }
+
+-- the number of a cell in its units, if it has one
+abbrev pub value_at : Layout → Storage → Home → Option ℤ
+value_at l s (of_item place) = contents_value (form_at l place) (bytes_at l s.bytes place)
+value_at l s (of_count statement) = count_in s.counters statement
+
+-- where something is known there is a number, and it lies in the interval
+abbrev pub KnownStands : Known → Option ℤ → Type 0
+KnownStands None v = Unit {0}
+KnownStands (Some i) None = ⊥
+KnownStands (Some i) (Some v) = Holds i v
+
+-- What is known of each home is true of the storage. Storage has its length, and each TIMES a number, without which what
+-- is unknown couldn't be a number of its own range.
+pub record StandsIn (p : Program) (cells : List Known) (s : Storage) : Type 0 where
+  pub whole : length s.bytes ≡ p.layout.storage
+  pub counted : IsCounted p s.counters
+  pub known : (h : Home) → KnownStands (known_of (homes_of p) cells h) (value_at p.layout s h)
+
+abbrev pub ElementStands : Program → Element → Storage → Type 0
+ElementStands p None s = ⊥
+ElementStands p (Some cells) s = StandsIn p cells s

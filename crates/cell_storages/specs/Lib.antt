@@ -1,3 +1,0 @@
-pub mod Homes
-pub mod Storages
-pub mod Premises

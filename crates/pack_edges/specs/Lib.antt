@@ -1,4 +1,0 @@
-pub mod Agreeing
-pub mod Showing
-pub mod Rising
-pub mod EdgeLaws
