@@ -9,12 +9,12 @@ use Rattle.cob_graph.specs.declared.graph.Graph.{Graph}
 use Rattle.cert_text.specs.View.{Certificate}
 use Rattle.cert_text.specs.Allowed.{IsAllowed}
 use Rattle.cert_text.specs.Text.{spelling}
-use Rattle.cert_check.specs.Claims.{open_pairs}
-use Rattle.cert_check.specs.Checking.{Accepts}
+use Rattle.check_command.specs.Shared.Checker.Claims.{open_pairs}
+use Rattle.check_command.specs.Shared.Checker.Checking.{Accepts}
 use Rattle.alarm_report.specs.Alarms.{alarms_of}
 use Rattle.analyse_core.specs.Assignments.{IsThresholdAssignment, MissesNothing, is_cleared_in}
-use Rattle.command_answers.specs.Profile.{IsProgramOf}
-use Rattle.command_answers.specs.Answer.{Answer, Report}
+use Rattle.check_command.specs.Shared.Profile.{IsProgramOf}
+use Rattle.check_command.specs.Shared.Answer.{Answer, Report}
 
 -- a program with its graph, and a certificate for it
 pub record Analysis : Type 0 where

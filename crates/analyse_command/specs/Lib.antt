@@ -1,3 +1,6 @@
 pub mod Analysis
 pub mod Endings
 pub mod Steps
+pub use Rattle.check_command.specs.Answers
+pub use Rattle.check_command.specs.Shared
+pub use Rattle.check_command.specs.Types

@@ -5,4 +5,6 @@
 
 mod findings;
 
+pub use check_command::answers as answers;
+pub use check_command::check;
 pub use findings::{Findings, findings_for, found_for, tell};

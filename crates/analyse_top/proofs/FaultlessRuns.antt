@@ -18,9 +18,9 @@ use Rattle.cob_interp.specs.Running.{outside}
 use Rattle.alarm_report.specs.declared.alarms.Alarm.{Alarm}
 use Rattle.command_words.specs.Commands.{Command, Run, OneReading}
 use Rattle.command_words.specs.Commands as command
-use Rattle.command_answers.specs.Answer.{Answer, Report}
-use Rattle.command_answers.specs.Call.{Call}
-use Rattle.command_answers.proofs.Statuses.{low_status, never_low}
+use Rattle.analyse_command.specs.Shared.Answer.{Answer, Report}
+use Rattle.analyse_command.specs.Shared.Call.{Call}
+use Rattle.analyse_command.proofs.Shared.Statuses.{low_status, never_low}
 use Rattle.run_command.specs.Runs.{Task, HoldsTask, AsksFor, TellsEnd, run_status}
 use Rattle.run_command.proofs.RunEnds.{refused_or_ends}
 use Rattle.analyse_top.specs.Answers.{Answers, AnswersCommand}

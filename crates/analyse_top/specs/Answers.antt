@@ -3,8 +3,8 @@ use Rattle.std.specs.Prelude.{◌≡◌, ℕ, ◌⊎◌, List, [], ◌∷◌, Op
 use Rattle.batch_io.specs.FilesState.{Contents}
 use Rattle.command_words.specs.Commands.{Command, IsCommand}
 use Rattle.command_words.specs.Commands as command
-use Rattle.command_answers.specs.Answer.{Answer, Usage, AnswersSource}
-use Rattle.check_command.specs.Answers.{AnswersCheck}
+use Rattle.analyse_command.specs.Shared.Answer.{Answer, Usage, AnswersSource}
+use Rattle.analyse_command.specs.Answers.{AnswersCheck}
 use Rattle.trial_command.specs.Endings.{AnswersTrial}
 use Rattle.run_command.specs.Runs.{AnswersRun}
 

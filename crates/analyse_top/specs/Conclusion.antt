@@ -22,15 +22,15 @@ use Rattle.alarm_report.specs.declared.alarms.Alarm.{Alarm}
 use Rattle.alarm_report.specs.Alarms.{alarms_of}
 use Rattle.alarm_report.specs.Text.{report_text}
 use Rattle.cert_text.specs.View.{Certificate}
-use Rattle.cert_check.specs.Checking.{Accepts}
+use Rattle.analyse_command.specs.Shared.Checker.Checking.{Accepts}
 use Rattle.command_words.specs.Commands.{Run, IsCommand}
 use Rattle.command_words.specs.Commands as command
-use Rattle.command_answers.specs.Text.{memory_line, read_fault_line}
-use Rattle.command_answers.specs.Showing.{Gains, GainsFront, Shows}
-use Rattle.command_answers.specs.Profile.{IsProgramOf}
-use Rattle.command_answers.specs.Answer.{Answer, Report, HoldsProgram, answer_text, status_of, status_unwritten}
-use Rattle.command_answers.specs.Call.{Call}
-use Rattle.check_command.specs.Answers.{HoldsCertificate, certificate_limit}
+use Rattle.analyse_command.specs.Shared.Text.{memory_line, read_fault_line}
+use Rattle.analyse_command.specs.Shared.Showing.{Gains, GainsFront, Shows}
+use Rattle.analyse_command.specs.Shared.Profile.{IsProgramOf}
+use Rattle.analyse_command.specs.Shared.Answer.{Answer, Report, HoldsProgram, answer_text, status_of, status_unwritten}
+use Rattle.analyse_command.specs.Shared.Call.{Call}
+use Rattle.analyse_command.specs.Answers.{HoldsCertificate, certificate_limit}
 use Rattle.analyse_command.specs.Analysis.{Analysis, CanBeClean, IsAnalysisOf, pairs_of, report_of, text_of}
 use Rattle.analyse_command.specs.Endings.{IsTooLong, EndsByAnalysis}
 use Rattle.trial_source.specs.Trial.{trial_text}

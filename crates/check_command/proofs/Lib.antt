@@ -1,3 +1,4 @@
 pub mod Numbers
 pub mod Certificates
 pub mod OneCheck
+pub mod Shared

@@ -14,11 +14,11 @@ use Rattle.cert_text.specs.Allowed.{IsAllowed}
 use Rattle.cert_text.specs.Text.{spelling}
 use Rattle.cert_text.specs.Texts.{IsText, RefusedBy}
 use Rattle.claimed_rows.specs.declared.gap.Gap.{Gap}
-use Rattle.cert_check.specs.declared.ends.Leak.{Leak}
-use Rattle.cert_check.specs.declared.ends.Shape.{Shape}
-use Rattle.cert_check.specs.declared.ends.Shape.TheVariants as shape
-use Rattle.cert_check.specs.Claims.{leak, leaks}
-use Rattle.cert_check.specs.Checking.{HasShape, Misfits, Accepts}
+use Rattle.command_answers.specs.Checker.Leak.{Leak}
+use Rattle.command_answers.specs.Checker.Shape.{Shape}
+use Rattle.command_answers.specs.Checker.Shape.TheVariants as shape
+use Rattle.command_answers.specs.Checker.Claims.{leak, leaks}
+use Rattle.command_answers.specs.Checker.Checking.{HasShape, Misfits, Accepts}
 use Rattle.alarm_report.specs.declared.alarms.Alarm.{Alarm}
 use Rattle.alarm_report.specs.Alarms.{alarms_of}
 use Rattle.command_answers.specs.Answer.{Answer, Usage, Absent, Refused, CertificateLong, CertificateBad, CertificateMisfit, NotInductive, Report, AnswersSource}

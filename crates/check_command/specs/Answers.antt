@@ -10,8 +10,8 @@ use Rattle.cert_text.specs.View.{Certificate}
 use Rattle.cert_text.specs.Allowed.{IsAllowed}
 use Rattle.cert_text.specs.Text.{spelling}
 use Rattle.cert_text.specs.Texts.{RefusedBy}
-use Rattle.cert_check.specs.declared.ends.CheckEnd.TheVariants as check
-use Rattle.cert_check.specs.Checking.{Accepts, Refuses}
+use Rattle.command_answers.specs.Checker.CheckEnd.TheVariants as check
+use Rattle.command_answers.specs.Checker.Checking.{Accepts, Refuses}
 use Rattle.alarm_report.specs.Alarms.{alarms_of}
 use Rattle.command_answers.specs.Answer.{Answer, Absent, CertificateLong, CertificateBad, CertificateMisfit, NotInductive, Report, HoldsProgram, AnswersSource}
 

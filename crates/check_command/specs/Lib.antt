@@ -1,2 +1,4 @@
 pub mod Answers
 pub mod Steps
+pub mod Shared
+pub mod Types

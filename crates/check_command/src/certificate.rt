@@ -11,9 +11,8 @@ ghost use Rattle.check_command.specs.Steps.{AnswersBytes};
 
 use alarm_report::alarms_of;
 use batch_io::{FileEnd, Files, read_file};
-use cert_check::{CheckEnd, check as check_claims};
 use cert_text::{Cert, CertEnd, read as read_certificate};
-use command_answers::{Answer, Laid, Stop, read_source};
+use command_answers::{Answer, CheckEnd, Laid, Stop, check_claims, read_source};
 use source_facts::{sources_have_source_graphs, statements_are_counted};
 use std::alloc::Global;
 

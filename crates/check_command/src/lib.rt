@@ -6,3 +6,4 @@
 mod certificate;
 
 pub use certificate::{CERTIFICATE_LIMIT, check, check_certificate};
+pub use command_answers as answers;

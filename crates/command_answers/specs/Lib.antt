@@ -5,3 +5,4 @@ pub mod Answer
 pub mod Call
 pub mod View
 pub mod Steps
+pub mod Checker

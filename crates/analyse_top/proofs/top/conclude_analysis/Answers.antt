@@ -1,7 +1,7 @@
 use Rattle.std.proofs.Common.{inl, inr}
 use Rattle.batch_io.specs.FilesState.{known_bytes}
 use Rattle.command_words.specs.Commands.{analyse}
-use Rattle.command_answers.specs.Call.{call}
+use Rattle.analyse_command.specs.Shared.Call.{call}
 use Rattle.analyse_command.proofs.Telling.{ends_by_analysis}
 use Rattle.analyse_top.proofs.Endings.{answers_command, ends_found}
 use Rattle.analyse_top.proofs.top.conclude_analysis.Goals as goal

@@ -1,7 +1,7 @@
 use Rattle.std.proofs.Common.{inl}
 use Rattle.batch_io.specs.FilesState.{known_bytes}
 use Rattle.command_words.specs.Commands.{check}
-use Rattle.command_answers.specs.Call.{call}
+use Rattle.analyse_command.specs.Shared.Call.{call}
 use Rattle.analyse_top.proofs.Endings.{answers_command, ends_found}
 use Rattle.analyse_top.proofs.top.conclude_check.Goals as goal
 

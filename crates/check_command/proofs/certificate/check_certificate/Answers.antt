@@ -4,7 +4,7 @@ use Rattle.cob_tree.specs.declared.fault.Open.{Open}
 use Rattle.cob_program.specs.ActView.{plain_program}
 use Rattle.cob_program.specs.Statements.{program_statements}
 use Rattle.cert_text.specs.View.{view}
-use Rattle.cert_check.proofs.Pairs.{pairs_are_statements}
+use Rattle.command_answers.proofs.Checker.Pairs.{pairs_are_statements}
 use Rattle.alarm_report.specs.Alarms.{IsStatementOf, alarms_of}
 use Rattle.command_answers.proofs.Limits.{within_limits}
 use Rattle.check_command.proofs.Numbers.{as_many_statements}
