@@ -5,6 +5,5 @@
 
 mod findings;
 
-pub use check_command::answers as answers;
-pub use check_command::check;
+pub use check_command::{answers as answers, check};
 pub use findings::{Findings, findings_for, found_for, tell};
