@@ -1,2 +1,2 @@
--- The checker's own ranges of cells, passed on to the drivers.
-pub use Rattle.cert_check.specs.Ranges.{IsShort, ends_of}
+-- Own ranges of cells, passed on to the drivers.
+pub use Rattle.cell_ranges.specs.Ranges.{IsShort, ends_of}
