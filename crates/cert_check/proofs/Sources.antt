@@ -12,7 +12,6 @@ use Rattle.cert_check.specs.declared.ends.CheckEnd.TheVariants as check
 use Rattle.cert_check.specs.declared.ends.Shape.TheVariants as shape
 use Rattle.cert_check.specs.Counts.{HasCounts, MisfitsCounts}
 use Rattle.cert_check.specs.Checking.{HasShape, Refuses}
-
 -- passed on
 pub use Rattle.cell_ranges.proofs.Sources.{graph_cells_short}
 
