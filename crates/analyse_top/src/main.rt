@@ -5,11 +5,10 @@ mod top;
 
 use batch_io::{RealFiles, StdSink};
 use std::alloc::Global;
-use std::env;
 use std::io::{self, ErrorKind};
 use std::os::fd::AsRawFd;
 use std::process::ExitCode;
-use std::{fs, mem};
+use std::{env, fs, mem};
 use top::cobsound;
 
 // The status where a word of the command isn't text.
