@@ -1,8 +1,9 @@
 -- The packs that an analysis is given.
-use Rattle.std.proofs.Common.{◌≡◌, ℕ, ◌+◌, ◌*◌, ◌^◌, ◌<◌, ◌≤◌, List, [], ◌∷◌, length, map, ℤ, ◌≤ℤ◌, refl, sym, ap, ◌∙◌, subst, arith}
+use Rattle.std.proofs.Common.{◌≡◌, ℕ, ◌^◌, ◌<◌, ◌≤◌, ◌==◌, true, false, List, [], ◌∷◌, length, map, ℤ, refl, sym, ap, ◌∙◌, subst, arith}
 use Rattle.std.specs.Prelude.{Vec, IsTrue, unsigned_abs}
 use Rattle.std.specs.declared.alloc.Global.{Global}
 use Rattle.std.specs.List.{AllByRecursion}
+use Rattle.std.proofs.lemmas.Bool.{eqb-true, eqb-false}
 use Rattle.std.proofs.lemmas.Int.{ints}
 use Rattle.std.proofs.lemmas.List.{length-map}
 use Rattle.std.proofs.lemmas.List.Elements.{recursion_from_All}
@@ -26,7 +27,7 @@ use Rattle.pack_choice.specs.PackThresholds.{HasFewCells, HasFewDecimals, IsCell
 use Rattle.cert_check.proofs.PackNumbers.{packs_rise}
 use Rattle.analyse_core.specs.Thresholds.{IsSmallCell, thresholds_of}
 use Rattle.analyse_core.specs.Literals.{program_literals}
-use Rattle.analyse_core.specs.Packs.{ArePacksGiven, ArePacksReady, pack_lists}
+use Rattle.analyse_core.specs.Packs.{ArePacksGiven, pack_lists}
 use Rattle.analyse_core.proofs.CellLists.{ListsLieIn, lists_short}
 use Rattle.analyse_core.proofs.CellSizes.{cells_are, graph_cells_small}
 use Rattle.analyse_core.proofs.Owned.{owns_small, thresholds_lie_in}
@@ -75,6 +76,16 @@ module _ (p : Program) (packs : List declared.Pack) (lists : List (Vec ℤ Globa
 
   pub given_ends : AllByRecursion AreThresholds (lists_of lists)
   given_ends = subst (AllByRecursion AreThresholds) (sym given.lists_are) given.ready.ends
+
+-- ---- whether there are packs
+
+pub none_there : (packs items : List declared.Pack) → packs ≡ items → (length packs == 0) ≡ true → items ≡ []
+none_there [] items same e = sym same
+none_there (pack ∷ packs) items same e = absurd (let none = eqb-true (length (pack ∷ packs)) 0 e in omega (arith, none))
+
+pub some_there : (packs items : List declared.Pack) → packs ≡ items → (length packs == 0) ≡ false → 1 ≤ length items
+some_there [] items same e = absurd (eqb-false 0 0 e refl)
+some_there (pack ∷ packs) items same e = let many = ap length same in omega (arith, many)
 
 -- ---- thresholds of cells
 

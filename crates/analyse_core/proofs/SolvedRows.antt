@@ -1,7 +1,8 @@
 -- What the solver's calls say of the analysis.
-use Rattle.std.proofs.Common.{◌≡◌, ◌≢◌, ℕ, zero, suc, ◌+◌, ◌-◌, ◌*◌, ◌≤◌, List, [], ◌∷◌, length, take, drop, map, get_or, ℤ, if◌then◌else◌, ◌&&◌, ◌||◌, nat_eq, nat_le, refl, sym, ap, ◌∙◌, subst, arith}
+use Rattle.std.proofs.Common.{◌≡◌, ℕ, zero, suc, ◌+◌, ◌*◌, ◌^◌, ◌≤◌, List, [], ◌∷◌, length, map, ℤ, if◌then◌else◌, ◌&&◌, ◌||◌, nat_eq, nat_le, refl, sym, ap, ◌∙◌, subst, arith}
 use Rattle.std.specs.Prelude.{Vec}
 use Rattle.std.specs.declared.alloc.Global.{Global}
+use Rattle.std.proofs.Math.Nat.{mul-le-mul_left}
 use Rattle.std.proofs.lemmas.List.{length-map}
 use Rattle.cob_program.specs.Act.{Program}
 use Rattle.cob_graph.specs.declared.graph.Graph.{Graph}
@@ -13,9 +14,8 @@ use Rattle.dom_laws.specs.Flow.{Flow, goes_back_to, heads_up_to, head_count, IsD
 use Rattle.cell_laws.specs.Layer.{cell_flow}
 use Rattle.diff_bounds.specs.declared.Pack as declared
 use Rattle.diff_steps.specs.Packs.{Pack}
-use Rattle.pack_rows.specs.Rows.{lists_of, width_of, words_of}
+use Rattle.pack_rows.specs.Rows.{lists_of, width_of}
 use Rattle.claimed_matrices.specs.Claims.{cells_in, sizes_of}
-use Rattle.claimed_matrices.proofs.Filling.{sizes_split}
 use Rattle.pack_laws.specs.Layer as layer
 use Rattle.pack_laws.specs.Layer.{diff_flow, diff_lattice}
 use Rattle.pack_laws.specs.Packs as of_code
@@ -24,15 +24,15 @@ use Rattle.pack_choice.specs.Choice.{packs_of}
 use Rattle.pack_choice.specs.PackThresholds.{thresholds_of_pack}
 use Rattle.cert_check.proofs.BoundsKept.{sizes_are}
 use Rattle.cert_check.proofs.PackNumbers.{packs_in_are}
-use Rattle.diff_layer.proofs.Rows.{width_is}
+use Rattle.diff_layer.proofs.Rows.{few_words, width_is}
 use Rattle.widen_solver.specs.Solving.{step_bound}
 use Rattle.cell_rows.specs.Elements.{height_of}
 use Rattle.cell_rows.specs.Rows.{cells_lattice}
 use Rattle.analyse_core.specs.Thresholds.{thresholds_of}
-use Rattle.analyse_core.specs.Packs.{ArePacksGiven, packs_for, pack_flow, pack_lattice, pack_lists}
+use Rattle.analyse_core.specs.Packs.{ArePacksGiven, packs_for, pack_lattice, pack_lists}
 use Rattle.analyse_core.specs.Assignments.{layer_steps, pack_steps}
 use Rattle.analyse_core.specs.Found.{AreFoundBounds, AreFoundCells}
-use Rattle.analyse_core.proofs.PacksGiven.{given_listed}
+use Rattle.analyse_core.proofs.PacksGiven.{given_count, given_few, given_listed, given_small}
 
 -- ---- heads are those of the graph
 
@@ -48,6 +48,20 @@ module _ (p : Program) (g : Graph) (packs : List Pack) (facts : ℕ → List ℤ
 
   pub same_head_count : head_count (diff_flow p g packs facts) ≡ head_count (cell_flow p g)
   same_head_count = same_heads (length g.nodes)
+
+-- with packs there are steps of the second layer
+steps_of_packs : (p : Program) (g : Graph) (ps : List (List ℕ)) → 1 ≤ length ps → pack_steps p g ps ≡ layer_steps p g (pack_lattice p).height
+steps_of_packs p g [] some = absurd (omega (arith, some))
+steps_of_packs p g (pack ∷ ps) some = refl
+
+-- ---- how many words a row has
+
+some_words : (ns : List ℕ) → 1 ≤ length ns → 1 ≤ width_of ns
+some_words [] some = absurd (omega (arith, some))
+some_words (n ∷ ns) some =
+    let one : 1 ≤ n + 1 = omega arith in
+    let square = mul-le-mul_left (n + 1) one in
+    omega (arith, square)
 
 -- ---- the second layer of the code
 
@@ -89,18 +103,42 @@ module _ (p : Program) (g : Graph) (packs : List declared.Pack) (lists : List (V
       ∙ sym (length-map (cells_in packs) length) ∙ ap length (sym sizes_same) in
       e ∙ ap width_of (sym sizes_same) ∙ sym (width_is (layer.sizes_of packs_there) (lists_of lists) many)
 
+  pub words_there : (words : ℕ) → words ≡ lattice_there.width → words ≡ width_of (sizes_of (cells_in packs))
+  words_there words e = e ∙ sym (words_fit (width_of (sizes_of (cells_in packs))) refl)
+
+  sizes_many : length (sizes_of (cells_in packs)) ≡ length packs
+  sizes_many = length-map (cells_in packs) length ∙ length-map packs (λ pack. pack.cells.items)
+
+  pub has_words : (words : ℕ) → words ≡ lattice_there.width → 1 ≤ length packs → 1 ≤ words
+  has_words words e some =
+      let same = words_there words e in
+      let many = sizes_many in
+      let more = some_words (sizes_of (cells_in packs)) (omega (arith, many, some)) in
+      omega (arith, same, more)
+
+  pub rows_fit : (nodes words : ℕ) → words ≡ lattice_there.width → nodes ≤ 4096 → length (cells_of p) ≤ 512 → (nodes + 2) * words ≤ 2 ^ 32
+  rows_fit nodes words e few small =
+      let same = words_there words e in
+      let many = sizes_many in
+      let packs_few = given_few p packs lists given in
+      let most = few_words (sizes_of (cells_in packs)) (given_small p packs lists given small) in
+      let most_words : words ≤ 2592 = omega (arith, same, many, packs_few, most) in
+      let room = mul-le-mul_left (nodes + 2) most_words in
+      omega (arith, room, few)
+
   pub width_found : (bounds : ℕ → List ℤ) → AreFoundBounds p g facts bounds → (node : ℕ) → 1 ≤ node → node ≤ length g.nodes →
       length (bounds node) ≡ width_of (sizes_of (cells_in packs))
   width_found bounds found node first last =
       (found.inductive.elements node (record { first = first; last = last })).width ∙ sym (ap (λ (l : Lattice). l.width) lattice_same)
       ∙ sym (words_fit (width_of (sizes_of (cells_in packs))) refl)
 
-  pub steps_fit : (before after : ℕ) → after ≤ before + step_bound lattice_there flow_there →
-      after ≤ before + layer_steps p g (pack_lattice p).height
-  steps_fit before after h =
+  pub steps_fit : (before after : ℕ) → 1 ≤ length packs → after ≤ before + step_bound lattice_there flow_there →
+      after ≤ before + pack_steps p g (packs_of p)
+  steps_fit before after some h =
+      let many = given_count p packs lists given in
       let same : step_bound lattice_there flow_there ≡ layer_steps p g (pack_lattice p).height =
       λ i. length g.edges * (same_head_count p g packs_there facts i * (lattice_same i).height + 2) in
-      subst (λ n. after ≤ before + n) same h
+      subst (λ n. after ≤ before + n) (same ∙ sym (steps_of_packs p g (packs_of p) (omega (arith, many, some)))) h
 
 -- ---- the first layer of the code
 
@@ -115,14 +153,6 @@ module _ (p : Program) (g : Graph) (lists : List (List ℤ)) (same : lists ≡ t
   pub cell_steps_fit : (before after : ℕ) → after ≤ before + step_bound (cells_lattice (owns p) lists) (cell_flow p g) →
       after ≤ before + layer_steps p g (height_of (thresholds_of p))
   cell_steps_fit before after h = subst (λ (ls : List (List ℤ)). after ≤ before + layer_steps p g (height_of ls)) same h
-
--- ---- words
-
-pub words_split : (packs : List declared.Pack) (first : declared.Pack) (n words rest result : ℕ) → 1 ≤ length packs → first ≡ get_or packs 0 first →
-    n ≡ length first.cells.items → words ≡ words_of n → rest ≡ width_of (sizes_of (cells_in (take (length packs - 1) (drop 1 packs)))) →
-    result ≡ words + rest → result ≡ width_of (sizes_of (cells_in packs))
-words_split packs first n words rest result some is e f h k =
-    k ∙ (λ i. f i + h i) ∙ sym (ap width_of (sizes_split packs first n some is e))
 
 -- ---- without packs
 
@@ -141,9 +171,3 @@ none_found p g rows none = record {
       subst (λ (ps : List (List ℕ)). IsDominated (lattice_for p ps) (flow_for p g rows ps) (λ node. [])) (sym none)
       (λ others inductive heads node is. tt);
 }
-
--- ---- steps
-
-pub steps_of_packs : (p : Program) (g : Graph) (ps : List (List ℕ)) → 1 ≤ length ps → pack_steps p g ps ≡ layer_steps p g (pack_lattice p).height
-steps_of_packs p g [] some = absurd (omega (arith, some))
-steps_of_packs p g (pack ∷ ps) some = refl

@@ -16,7 +16,7 @@ ghost use Rattle.analyse_core.specs.Found.{IsFound};
 
 use crate::certificate::certificate_of;
 use crate::listing::thresholds;
-use crate::solving::{NoBounds, rows_for_cells, rows_for_packs, solve_cells, solve_packs};
+use crate::solving::{NoBounds, solve_cells, solve_packs};
 use cell_layer::CellLayer;
 use cert_text::Cert;
 use cob_graph::Graph;
@@ -44,8 +44,7 @@ fn found_alone<L: Ledger>(
     ensures at_least { OnOk result (steps.old + length layer.now.graph.now.edges ≤ steps.new) }
     ensures at_most { steps.new ≤ steps.old + most_steps (plain_program layer.now.program.now) layer.now.graph.now }
 {
-    let mut rows = rows_for_cells(alloc, layer)?;
-    solve_cells(layer, &mut rows, steps);
+    let rows = solve_cells(alloc, layer, steps)?;
     let bounds = NoBounds {
         nodes: layer.nodes(),
     };
@@ -53,7 +52,7 @@ fn found_alone<L: Ledger>(
     certificate_of(alloc, none, &rows, &bounds, layer.nodes(), cells)
 }
 
-// The certificate of both layers' rows. All that they take while they are solved is taken before.
+// The certificate of both layers' rows.
 fn found_together<L: Ledger>(
     alloc: Global,
     layer: &CellLayer,
@@ -70,17 +69,14 @@ fn found_together<L: Ledger>(
     ensures at_least { OnOk result (steps.old + length layer.now.graph.now.edges ≤ steps.new) }
     ensures at_most { steps.new ≤ steps.old + most_steps (plain_program layer.now.program.now) layer.now.graph.now }
 {
-    let mut rows = rows_for_cells(alloc, layer)?;
-    let mut bounds = rows_for_packs(alloc, layer.nodes(), packs.as_slice())?;
-    solve_cells(layer, &mut rows, steps);
-    solve_packs(
+    let rows = solve_cells(alloc, layer, steps)?;
+    let bounds = solve_packs(
         alloc,
         layer.program,
         layer.graph,
         packs.as_slice(),
         lists,
         &rows,
-        &mut bounds,
         steps,
     )?;
     let cells = layer.graph.cells.get().len() as u32;

@@ -1,5 +1,4 @@
-use Rattle.std.proofs.Common.{◌≡◌, ◌≤◌, List, map, ℤ, ◌∙◌, ap, sym, subst, length}
-use Rattle.std.specs.Prelude.{IsTrue}
+use Rattle.std.proofs.Common.{◌≤◌, List, map, ℤ, ◌∙◌, ap, sym, subst, length}
 use Rattle.std.specs.List.{AllByRecursion}
 use Rattle.std.proofs.lemmas.List.{length-map}
 use Rattle.cob_program.specs.ActView.{plain_program}
@@ -7,9 +6,11 @@ use Rattle.cob_graph.specs.Graphs.{cells_of}
 use Rattle.cell_rows.specs.Elements.{AreThresholds}
 use Rattle.cell_rows.specs.Rows.{lists_of}
 use Rattle.cell_steps.specs.Homes.{owns}
-use Rattle.pack_choice.specs.PackThresholds.{HasFewCells, HasFewDecimals}
+use Rattle.pack_choice.specs.Choice.{numbers_of}
+use Rattle.pack_choice.specs.PackThresholds.{HasFewCells, HasFewDecimals, thresholds_of_pack}
 use Rattle.analyse_core.specs.Literals.{program_literals}
 use Rattle.analyse_core.specs.Thresholds.{thresholds_of}
+use Rattle.analyse_core.specs.Packs.{ArePacksGiven}
 use Rattle.analyse_core.proofs.CellLists.{each_short, lists_short}
 use Rattle.analyse_core.proofs.Owned.{thresholds_are}
 use Rattle.analyse_core.proofs.PacksGiven.{cell_lists_are_small, cells_have_few_decimals, few_cells, packs_given}
@@ -43,3 +44,15 @@ new-requires-clause-lists g c = λ k d l.
     let p = plain_program c.args.program.now in
     each_short c.as_slice-3.result.now (thresholds_of p) k d (ap lists_of c.as_slice-3.ensures.value ∙ c.in_ok-cell_lists.ensures.value)
     (lists_short (program_literals p) (cells_of p)) l
+
+pub found-requires-clause-packs : goal.found-requires-clause-packs
+found-requires-clause-packs g c =
+    let p = plain_program c.args.program.now in
+    let graph = c.args.graph.now in
+    let cell_lists = c.as_slice.result.now in
+    let given = c.in_ok-packs.ensures in
+    let lists = c.in_ok-lists.ensures in
+    let same = (λ i. map (thresholds_of_pack (c.get.ensures i) (lists_of cell_lists)) (numbers_of (c.as_slice-2.ensures.value i))) in
+    subst (ArePacksGiven p c.in_ok-packs.packs.items) (sym c.as_slice-4.ensures.value)
+    (packs_given p graph c.requires.source c.in_ok-packs.packs.items (lists_of cell_lists) c.in_ok-lists.lists.items given.value given.few given.fit
+    (ap lists_of c.as_slice.ensures.value ∙ c.in_ok-cell_lists.ensures.value) (lists.value ∙ same) lists.short lists.ends)

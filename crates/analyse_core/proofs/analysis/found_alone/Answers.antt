@@ -1,15 +1,13 @@
-use Rattle.std.proofs.Common.{◌≡◌, ◌∙◌, ℕ, List, ℤ, length, ap, sym, subst, arith}
+use Rattle.std.proofs.Common.{◌≡◌, ◌∙◌, ℕ, length, ap, sym, subst, arith}
 use Rattle.std.specs.Prelude.{◌≤◌, []}
 use Rattle.std.specs.List.{AllByRecursion}
 use Rattle.std.proofs.lemmas.Result.{IfOk-weaker}
 use Rattle.cob_program.specs.ActView.{plain_program}
-use Rattle.cob_graph.specs.Graphs.{cells_of}
 use Rattle.cell_rows.specs.Rows.{element_of}
 use Rattle.cert_text.specs.View.{view}
 use Rattle.pack_rows.specs.Rows.{width_of}
 use Rattle.claimed_matrices.specs.Claims.{cells_in, sizes_of}
 use Rattle.widen_solver.specs.Stored.{row_at}
-use Rattle.pack_choice.specs.Choice.{packs_of}
 use Rattle.analyse_core.specs.Certificates.{certificate_for}
 use Rattle.analyse_core.specs.Found.{IsFound}
 use Rattle.analyse_core.proofs.CellSizes.{cells_are}
@@ -17,8 +15,8 @@ use Rattle.analyse_core.proofs.Owned.{owns_count, row_can_be_claimed}
 use Rattle.analyse_core.proofs.SolvedRows.{none_found}
 use Rattle.analyse_core.proofs.analysis.found_alone.Goals as goal
 
-pub rows_for_cells-requires-clause-cells : goal.rows_for_cells-requires-clause-cells
-rows_for_cells-requires-clause-cells g c =
+pub solve_cells-requires-clause-cells : goal.solve_cells-requires-clause-cells
+solve_cells-requires-clause-cells g c =
     let p = plain_program c.args.layer.now.program.now in
     let graph = c.args.layer.now.graph.now in
     let count = owns_count p graph c.requires.source in
@@ -39,7 +37,7 @@ certificate_of-requires-clause-rows g c =
     let graph = c.args.layer.now.graph.now in
     let cells : length c.get.result.now ≡ length graph.cells = ap length c.get.ensures in
     λ node l h.
-    row_can_be_claimed p graph c.requires.source (row_at c.solve_cells.new.rows.rows) c.solve_cells.ensures.found.inductive
+    row_can_be_claimed p graph c.requires.source (row_at c.in_ok-rows.rows.rows) c.in_ok-rows.ensures.found.inductive
     (length c.get.result.now) (cells ∙ ap length (cells_are p graph c.requires.source)) node l (omega (arith, h, c.nodes-2.ensures))
 
 pub certificate_of-requires-clause-widths : goal.certificate_of-requires-clause-widths
@@ -50,7 +48,7 @@ pub returns-clause-found : goal.returns-clause-found
 returns-clause-found g c =
     let p = plain_program c.args.layer.now.program.now in
     let graph = c.args.layer.now.graph.now in
-    let rows = row_at c.solve_cells.new.rows.rows in
+    let rows = row_at c.in_ok-rows.rows.rows in
     let cells = ap length c.get.ensures ∙ ap length (cells_are p graph c.requires.source) in
     let nodes = c.nodes-2.ensures in
     let none = ap cells_in c.requires.none ∙ sym c.requires.packs in
@@ -63,7 +61,7 @@ returns-clause-found g c =
       rows = rows;
       bounds = λ node. [];
       ready = c.requires.ready;
-      cells_found = c.solve_cells.ensures.found;
+      cells_found = c.in_ok-rows.ensures.found;
       bounds_found = none_found p graph rows c.requires.packs;
       is = is ∙ same;
     })

@@ -1,5 +1,6 @@
-use Rattle.std.proofs.Common.{length, ap}
+use Rattle.std.proofs.Common.{◌≤◌, length, ap, subst, arith}
 use Rattle.cob_program.specs.ActView.{plain_program}
+use Rattle.cob_graph.specs.Graphs.{cells_of}
 use Rattle.analyse_core.proofs.CellSizes.{cells_are}
 use Rattle.analyse_core.proofs.PacksGiven.{given_ends, given_few, given_listed, given_rise}
 use Rattle.analyse_core.proofs.solving.solve_packs.Goals as goal
@@ -22,3 +23,9 @@ new-requires-clause-ends g c = given_ends (plain_program c.args.program.now) c.a
 pub new-requires-clause-facts : goal.new-requires-clause-facts
 new-requires-clause-facts g c = λ node first last.
     (c.requires.cells.inductive.elements node (record { first = first; last = last })).formed
+
+pub solve_bounds-requires-clause-cells : goal.solve_bounds-requires-clause-cells
+solve_bounds-requires-clause-cells g c =
+    let same = ap (λ q. length (cells_of (plain_program q))) c.in_ok-layer.ensures.program in
+    let few = subst (λ cs. length cs ≤ 512) (cells_are (plain_program c.args.program.now) c.args.graph.now c.requires.source) c.requires.limits.cells in
+    omega (arith, same, few)
