@@ -67,7 +67,7 @@ def started_by_shell(command, folder, redirection):
 
 
 def launched_by_shell(command, folder, redirection):
-    """By the launcher, which puts something in the place of each standard stream that is closed."""
+    """By the launcher, which itself puts something in the place of each standard stream that is closed."""
     words = ["sh", "-c", f'exec "$0" "$@" {redirection}', ROOT / "cobsound", *command[1:]]
     env = {**os.environ, "COBSOUND_PROGRAM": str(command[0])}
     return ended(subprocess.Popen(words, cwd=folder, stdout=subprocess.PIPE, env=env))
@@ -76,8 +76,8 @@ def launched_by_shell(command, folder, redirection):
 def with_sink(command, folder, sink):
     """Starts the program with this standard output: `gone` has no reader from the start, and the reader of `one line`
     goes when it has that line."""
-    if sink == "all closed":
-        return launched_by_shell(command, folder, SINKS[sink])
+    if sink == "launched":
+        return launched_by_shell(command, folder, SINKS["all closed"])
     if sink in SINKS:
         return started_by_shell(command, folder, SINKS[sink])
     if sink == "gone":
@@ -185,7 +185,7 @@ def sinks():
     """A standard output that can't be written. A report ends with status 6, a refusal with its own; CERT is whole."""
     bad = SAMPLE.replace("RUN.", "RUN")
     paid = {**PAYING, "PAYOUT": Front(PAID)}
-    for sink in (*SINKS, "gone"):
+    for sink in (*SINKS, "launched", "gone"):
         yield Outer(f"{sink}", ["check", "S", "C"], GIVEN, 6, "", sink=sink)
         yield Outer(f"{sink}", ["analyse", "S", "NEW"], GIVEN, 6, "", {**GIVEN, "NEW": CERTIFICATE}, sink=sink)
         yield Outer(f"{sink}", ["run", "S"], PAYING, 6, "", paid, sink=sink)

@@ -7,7 +7,9 @@ use batch_io::{RealFiles, StdSink};
 use std::alloc::Global;
 use std::env;
 use std::io::{self, ErrorKind};
+use std::os::fd::AsRawFd;
 use std::process::ExitCode;
+use std::{fs, mem};
 use top::cobsound;
 
 // The status where a word of the command isn't text.
@@ -42,7 +44,19 @@ fn status(rt: &HostRuntime) -> u8 {
     }
 }
 
+// Puts what can be read alone in the place of each standard stream that is closed, so that a write to it fails. A file
+// that is opened later would take that place, and shown text would go into it.
+fn fill_closed_streams(rt: &HostRuntime) {
+    for _ in 0..3 {
+        match fs::open(rt, "/dev/null") {
+            Ok(file) if file.as_raw_fd() <= 2 => mem::forget(file),
+            _ => return,
+        }
+    }
+}
+
 fn main(rt: HostRuntime) -> ExitCode {
+    fill_closed_streams(&rt);
     ExitCode::from(status(&rt))
 }
 

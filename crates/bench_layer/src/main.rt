@@ -11,12 +11,12 @@ ghost use Rattle.cob_graph_build.specs.Limits.{IsWithinLimits};
 ghost use Rattle.graph_runs.specs.Sources.{IsSourceGraph};
 ghost use Rattle.cell_rows.specs.Rows.{lists_of};
 ghost use Rattle.cell_steps.specs.Homes.{owns};
-ghost use Rattle.cert_check.specs.Ranges.{ends_of};
+ghost use Rattle.cell_ranges.specs.Ranges.{ends_of};
 
 mod timing;
 
 use cell_layer::CellLayer;
-use cert_check::{all_ends, own_ranges};
+use cell_ranges::{all_ends, own_ranges};
 use cob_front::program_in;
 use cob_graph::Graph;
 use cob_graph_build::{graph_of, nested};

@@ -1,11 +1,9 @@
 -- Claims of cells as rows, and each fault of a statement is open or cleared.
-use Rattle.std.proofs.Common.{◌≡◌, ℕ, zero, suc, ◌≤◌, ◌==◌, List, [], ◌∷◌, length, Bool, true, false, Option, Some, None, ℤ, int_le, if◌then◌else◌, refl, sym, ap, ◌∙◌, subst, inl, inr, ◌⊎◌, arith}
+use Rattle.std.proofs.Common.{◌≡◌, ℕ, ◌≤◌, ◌==◌, List, [], ◌∷◌, length, Bool, true, false, Option, ℤ, if◌then◌else◌, refl, sym, ap, ◌∙◌, subst, inl, inr, ◌⊎◌, arith}
 use Rattle.std.specs.Prelude.{◌||◌, not}
 use Rattle.std.specs.List.{Contains}
 use Rattle.std.specs.Option.{option_map_or}
 use Rattle.std.proofs.lemmas.Bool.{eq-eqb}
-use Rattle.std.proofs.lemmas.Int.{ints, clamps}
-use Rattle.std.proofs.lemmas.Option.{same_Some}
 use Rattle.std.proofs.lemmas.List.Elements.{Contains-append_left, Contains-append_right}
 use Rattle.cob_tree.specs.declared.fault.Kind.{Kind}
 use Rattle.cob_tree.specs.declared.fault.Kind.TheVariants as kind
@@ -13,56 +11,24 @@ use Rattle.cob_tree.specs.declared.fault.Open.{Open}
 use Rattle.cob_program.specs.Act.{Program}
 use Rattle.cob_graph.specs.declared.graph.Graph.{Graph}
 use Rattle.cob_graph.specs.declared.graph.Node.{Node}
-use Rattle.cert_text.specs.View.{Certificate, Place, NotReached, Holds}
+use Rattle.cert_text.specs.View.{Certificate}
 use Rattle.decimal_interval.specs.declared.bounds.Interval.{Interval}
 use Rattle.dom_laws.specs.Lattice.{Lattice, IsElement}
 use Rattle.dom_laws.specs.Flow.{Flow}
 use Rattle.dom_laws.specs.Meaning.{Meaning}
-use Rattle.cell_rows.specs.Known.{Known, KnownFits}
 use Rattle.cell_rows.specs.Elements.{Element, ElementFits}
 use Rattle.cell_rows.specs.Rows.{row_from, width_of, element_of, cells_lattice}
 use Rattle.cell_rows.proofs.Rows.{element_back, row_width}
-use Rattle.claimed_rows.specs.Claims.{claimed_element, place_at, met_known, met_cells, with_cell, met, written_from}
-use Rattle.claimed_rows.proofs.Telling.{written_length}
+use Rattle.claimed_rows.specs.Claims.{place_at}
 use Rattle.graph_runs.specs.Places.{IsOf}
 use Rattle.graph_runs.specs.Clearing.{IsClearAt}
 use Rattle.cell_steps.specs.Homes.{owns}
 use Rattle.cell_laws.specs.Layer.{statement_at, clears_at, cell_flow, cell_meaning}
+use Rattle.cell_ranges.proofs.Claims.{claims_fit}
 use Rattle.cert_check.specs.OpenPairs.{open_at, node_clears_by, is_cleared_by, open_by, opens_by, pairs_by}
 use Rattle.cert_check.specs.Claims.{claims_at, row_at, cells_clear}
 use Rattle.cert_check.specs.Clearing.{TestsTell}
 use Rattle.cert_check.proofs.Lists.{there_for, each_holds}
-
--- ---- claims as elements
-
-known_fits : (own : Interval) (c d : Known) → met_known own c ≡ Some d → KnownFits own d
-known_fits own None d e = subst (KnownFits own) (same_Some None d e) tt
-known_fits own (Some i) d e = by_test (int_le (met own i).low (met own i).high) refl e
-  where
-    by_test : (x : Bool) → int_le (met own i).low (met own i).high ≡ x → (if x then Some (Some (met own i)) else None) ≡ Some d →
-        KnownFits own d
-    by_test false f g = absurd (cc g)
-    by_test true f g =
-        subst (KnownFits own) (same_Some (Some (met own i)) d g)
-        (omega (arith, ints, clamps), grind (arith, ints, f), omega (arith, ints, clamps))
-
-with_cell_fits : (own : Interval) (ranges : List Interval) (c : Option Known) (e : Element) → ((d : Known) → c ≡ Some d → KnownFits own d) →
-    ElementFits ranges e → ElementFits (own ∷ ranges) (with_cell c e)
-with_cell_fits own ranges None e h k = tt
-with_cell_fits own ranges (Some c) None h k = tt
-with_cell_fits own ranges (Some c) (Some cs) h k = (h c refl, k)
-
-met_fits : (ranges : List Interval) (cs : List Known) → length cs ≡ length ranges → ElementFits ranges (met_cells ranges cs)
-met_fits [] [] l = tt
-met_fits [] (c ∷ cs) l = absurd (omega (arith, l))
-met_fits (own ∷ ranges) [] l = absurd (omega (arith, l))
-met_fits (own ∷ ranges) (c ∷ cs) l =
-    with_cell_fits own ranges (met_known own c) (met_cells ranges cs) (λ d e. known_fits own c d e) (met_fits ranges cs (omega (arith, l)))
-
--- what claims mean lies in the cells' own ranges
-pub claims_fit : (ranges : List Interval) (place : Place) → ElementFits ranges (claimed_element ranges place)
-claims_fit ranges NotReached = tt
-claims_fit ranges (Holds claims bounds) = met_fits ranges (written_from 1 (length ranges) claims) (written_length 1 (length ranges) claims)
 
 -- ---- claims as rows
 

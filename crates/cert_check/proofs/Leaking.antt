@@ -19,7 +19,8 @@ use Rattle.cert_check.specs.Claims.{leak, leaks, cell_leaks, pack_leaks, edge_ga
 use Rattle.inductive_pass.specs.Leaks.{Keeps, IsFirstLeak}
 use Rattle.cert_check.specs.Along.{led_to, arrives}
 use Rattle.cert_check.proofs.FirstLeaks.{none_leak, keeps_all, leaks_here, has_a_gap, first_behind}
-use Rattle.cert_check.proofs.Accepting.{claims_fit, claimed, claimed_back}
+use Rattle.cell_ranges.proofs.Claims.{claims_fit}
+use Rattle.cert_check.proofs.Accepting.{claimed, claimed_back}
 use Rattle.cert_check.proofs.LayerLaws.{LayerLaws}
 
 module _ (p : Program) (g : Graph) (c : Certificate) (thresholds : List (List ℤ)) (laws : LayerLaws p g) where

@@ -11,12 +11,11 @@ mod ends;
 mod laws;
 mod nodes;
 mod packs;
-mod ranges;
 mod rows;
 
+pub use cell_ranges::{all_ends, own_ranges};
 pub use certificate::check;
 pub use claimed_rows::Gap;
 pub use ends::{CheckEnd, Shape};
 pub use inductive_pass::pass;
 pub use laws::accepted_claims_cover_runs;
-pub use ranges::{all_ends, own_ranges};

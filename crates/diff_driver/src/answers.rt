@@ -6,20 +6,22 @@ use dom_laws::Layer;
 use layer_cases::{kind_of, number_of, post};
 use std::alloc::{AllocError, Global};
 
-// What an edge makes of matrices.
+// What an edge makes of matrices, so often.
 fn post_case<L: Layer>(
     alloc: Global,
     layer: &L,
+    turns: &str,
     edge: &str,
     row: &[i128],
 ) -> Result<Option<String>, AllocError>
     requires { IsElement (L.lattice layer.now) row.now }
 {
-    let Some(edge) = number_of(edge, layer.edges()) else {
+    let (Some(turns), Some(edge)) = (turns.parse::<u32>().ok(), number_of(edge, layer.edges()))
+    else {
         return Ok(None);
     };
     let mut out = vec![in alloc; 0; layer.words()]?;
-    post(layer, edge, row, out.as_mut_slice());
+    post(layer, edge, row, out.as_mut_slice(), turns);
     Ok(Some(shown_words(alloc, out.as_slice())?))
 }
 
@@ -56,7 +58,8 @@ pub fn answer_to<L: Layer>(
     requires { IsElement (L.lattice layer.now) row.now }
 {
     match words {
-        ["post", edge] => post_case(alloc, layer, edge, row),
+        ["post", edge] => post_case(alloc, layer, "1", edge, row),
+        ["posts", turns, edge] => post_case(alloc, layer, turns, edge, row),
         ["clears", node, kind] => clears_case(alloc, layer, node, kind, row),
         ["entry"] => entry_case(alloc, layer),
         _ => Ok(None),

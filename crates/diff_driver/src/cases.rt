@@ -5,19 +5,20 @@ ghost use Rattle.cob_graph.specs.declared.graph.Graph.{Graph as AnyGraph};
 ghost use Rattle.cob_graph.specs.Graphs.{IsGraph};
 ghost use Rattle.cob_graph_build.specs.Limits.{IsWithinLimits};
 ghost use Rattle.graph_runs.specs.Sources.{IsSourceGraph};
+ghost use Rattle.dom_laws.specs.Lattice.{IsElement};
 ghost use Rattle.cell_rows.specs.Rows.{IsRow};
 ghost use Rattle.cell_steps.specs.Homes.{owns};
 ghost use Rattle.pack_rows.specs.Rows.{lists_of};
 ghost use Rattle.claimed_matrices.specs.Claims.{cells_in, sizes_of};
 ghost use Rattle.pack_laws.specs.Packs.{ArePacksOfCells};
-ghost use Rattle.diff_driver.specs.Rows.{no_thresholds};
+ghost use Rattle.diff_driver.specs.Rows.{no_thresholds, rows_of_packs};
 
 use crate::answers::answer_to;
+use crate::closing::close_case;
 use crate::facts::SameRow;
 use crate::matrices::row_with;
 use crate::packs::{no_thresholds, packs_of};
 use case_words::words_of;
-use cert_check::own_ranges;
 use cob_graph::Graph;
 use cob_graph_build::{graph_of, nested};
 use cob_program::Program;
@@ -25,12 +26,28 @@ use decimal_interval::Interval;
 use diff_bounds::Pack;
 use diff_layer::DiffLayer;
 use dom_laws::Domain;
-use layer_cases::{claimed_by, row_of};
+use layer_cases::{claimed_by, own_ranges, row_of};
 use std::alloc::{AllocError, Global};
 use std::io;
 
 /// What a case that can't be read is answered.
 const NO_CASE: &str = "no case";
+
+// By the layer over packs, or by its matrices alone.
+fn answer_in_row(
+    alloc: Global,
+    layer: &DiffLayer<SameRow>,
+    case: &[&str],
+    row: &[i128],
+) -> Result<Option<String>, AllocError>
+    requires thresholds { lists_of layer.now.thresholds.now ≡ no_thresholds (sizes_of (cells_in layer.now.packs.now)) }
+    requires row { IsElement (rows_of_packs layer.now.packs.now) row.now }
+{
+    match case {
+        ["close", turns] => close_case(alloc, layer.packs, turns, row),
+        _ => answer_to(alloc, layer, case, row),
+    }
+}
 
 // By the layer over packs, with its row.
 fn answer_by_layer(
@@ -42,7 +59,7 @@ fn answer_by_layer(
     requires { lists_of layer.now.thresholds.now ≡ no_thresholds (sizes_of (cells_in layer.now.packs.now)) }
 {
     match row_with(alloc, layer.packs, words, layer.words())? {
-        Some(row) => answer_to(alloc, layer, case, row.as_slice()),
+        Some(row) => answer_in_row(alloc, layer, case, row.as_slice()),
         None => Ok(None),
     }
 }

@@ -3,6 +3,9 @@
 //! graph. The word is the source's path; each line of the standard input is a case:
 //!
 //! - `post EDGE | PACKS | ROW | WORDS`: what the edge makes of the matrices.
+//! - `posts TURNS EDGE | PACKS | ROW | WORDS`: the same, made so often, for bench/posts.
+//! - `close TURNS | PACKS | ROW | WORDS`: the closures of the matrices, whatever the row is, made so often, or `none`
+//!   where a cycle is negative.
 //! - `clears NODE KIND | PACKS | ROW | WORDS`: whether row and matrices show that the node meets no fault of the kind.
 //! - `entry | PACKS | ROW | WORDS`: the matrices where a run begins, whatever row and words are.
 //!
@@ -15,6 +18,7 @@
 
 mod answers;
 mod cases;
+mod closing;
 mod facts;
 mod matrices;
 mod packs;

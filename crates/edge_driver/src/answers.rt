@@ -27,7 +27,7 @@ fn post_case<L: Layer>(
     };
     let row = row_of(alloc, owns, &place)?;
     let mut out = vec![in alloc; 0; layer.words()]?;
-    post(layer, edge, row.as_slice(), out.as_mut_slice());
+    post(layer, edge, row.as_slice(), out.as_mut_slice(), 1);
     Ok(Some(shown_row(alloc, out.as_slice())?))
 }
 

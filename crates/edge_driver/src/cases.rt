@@ -9,19 +9,19 @@ ghost use Rattle.dom_laws.specs.Lattice.{IsElement};
 ghost use Rattle.cell_rows.specs.Rows.{lists_of};
 ghost use Rattle.cell_steps.specs.Homes.{owns};
 ghost use Rattle.cert_text.specs.View.{Place};
-ghost use Rattle.cert_check.specs.Ranges.{ends_of};
+ghost use Rattle.layer_cases.specs.Ranges.{ends_of};
 ghost use Rattle.claimed_rows.specs.Claims.{claimed_row};
 
 use crate::answers::answer_to;
 use crate::graph_text::show_graph;
 use case_words::words_of;
 use cell_layer::CellLayer;
-use cert_check::{all_ends, own_ranges};
 use cob_graph::Graph;
 use cob_graph_build::{graph_of, nested};
 use cob_program::Program;
 use decimal_interval::Interval;
 use dom_laws::Layer;
+use layer_cases::{all_ends, own_ranges};
 use std::io;
 
 /// What a case that can't be read is answered.

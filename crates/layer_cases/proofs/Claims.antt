@@ -7,7 +7,7 @@ use Rattle.cell_rows.specs.Rows.{cells_lattice, row_from, width_of}
 use Rattle.cell_rows.proofs.Rows.{element_back, row_width}
 use Rattle.cert_text.specs.View.{Place}
 use Rattle.claimed_rows.specs.Claims.{claimed_element, claimed_row}
-use Rattle.cert_check.proofs.Accepting.{claims_fit}
+use Rattle.cell_ranges.proofs.Claims.{claims_fit}
 
 element : (ranges : List Interval) (thresholds : List (List ℤ)) (place : Place) → IsElement (cells_lattice ranges thresholds) (claimed_row ranges place)
 element ranges thresholds place =

@@ -13,6 +13,7 @@ fn post_counted<S: System, L: Ledger>(
     edge: u32,
     from: &[i128],
     out: &mut [i128],
+    turns: u32,
     blank: Blank,
 )
     requires name { blank.name ≡ L.name }
@@ -23,14 +24,16 @@ fn post_counted<S: System, L: Ledger>(
     requires out { length out.old ≡ (S.lattice system.now).width }
 {
     let mut steps = Steps::<L>::open(blank);
-    system.post(edge, from, out, &mut steps);
+    for _ in 0..turns {
+        system.post(edge, from, out, &mut steps);
+    }
 }
 
-/// Makes what the edge makes of the row at its source.
-pub fn post<S: System>(system: &S, edge: u32, from: &[i128], out: &mut [i128])
+/// Makes what the edge makes of the row at its source, so often.
+pub fn post<S: System>(system: &S, edge: u32, from: &[i128], out: &mut [i128], turns: u32)
     requires edge { IsEdge (S.flow system.now) edge }
     requires from { IsElement (S.lattice system.now) from.now }
     requires out { length out.old ≡ (S.lattice system.now).width }
 {
-    post_counted::<S, Brand>(system, edge, from, out, Blank::new(1));
+    post_counted::<S, Brand>(system, edge, from, out, turns, Blank::new(1));
 }

@@ -2,8 +2,8 @@ use Rattle.std.proofs.Common.{map, ap, sym, ◌∙◌, subst}
 use Rattle.std.specs.List.{All}
 use Rattle.cob_program.specs.ActView.{plain_program}
 use Rattle.cell_steps.specs.Homes.{own_range}
-use Rattle.cert_check.specs.Ranges.{IsShort}
-use Rattle.cert_check.proofs.Sources.{graph_cells_short, graph_ranges}
+use Rattle.cell_ranges.specs.Ranges.{IsShort}
+use Rattle.cell_ranges.proofs.Sources.{graph_cells_short, graph_ranges}
 use Rattle.bench_layer.proofs.time_over_graph.Goals as goal
 
 pub own_ranges-requires : goal.own_ranges-requires

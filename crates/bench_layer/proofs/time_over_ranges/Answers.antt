@@ -1,6 +1,6 @@
 use Rattle.cob_program.specs.ActView.{plain_program}
 use Rattle.cell_rows.specs.Rows.{lists_of}
-use Rattle.cert_check.proofs.Sources.{lists_are_short, thresholds_of}
+use Rattle.cell_ranges.proofs.Sources.{lists_are_short, thresholds_of}
 use Rattle.bench_layer.proofs.time_over_ranges.Goals as goal
 
 pub new-requires-clause-lists : goal.new-requires-clause-lists

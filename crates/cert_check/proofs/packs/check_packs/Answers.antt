@@ -7,7 +7,7 @@ use Rattle.diff_bounds.specs.declared.Pack as declared
 use Rattle.pack_laws.specs.Packs.{ArePacksOfCells}
 use Rattle.cert_check.specs.Claims.{cell_leaks}
 use Rattle.cert_check.proofs.Asking.{claimed_element}
-use Rattle.cert_check.proofs.Sources.{cell_count, range_count}
+use Rattle.cell_ranges.proofs.Sources.{cell_count, range_count}
 use Rattle.cert_check.proofs.PackNumbers.{packs_rise, empty_are_thresholds, empty_are_short}
 use Rattle.cert_check.proofs.packs.check_packs.Goals as goal
 

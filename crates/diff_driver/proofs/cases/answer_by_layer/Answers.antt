@@ -8,7 +8,7 @@ use Rattle.dom_laws.specs.Lattice.{IsElement}
 use Rattle.pack_rows.specs.Rows.{lists_of}
 use Rattle.claimed_matrices.specs.Claims.{cells_in, sizes_of}
 use Rattle.diff_driver.specs.Rows.{rows_of_packs}
-use Rattle.diff_driver.proofs.LayerRows.{are_small, layer_element, layer_width}
+use Rattle.diff_driver.proofs.LayerRows.{are_small, layer_width}
 use Rattle.diff_driver.proofs.cases.answer_by_layer.Goals as goal
 
 pub row_with-requires-clause-few : goal.row_with-requires-clause-few
@@ -25,9 +25,8 @@ row_with-requires-clause-width c =
     let layer = c.args.layer.now in
     layer_width (plain_program layer.program.now) layer.packs.now (lists_of layer.thresholds.now) c.requires _ c.words.ensures
 
-pub answer_to-requires : goal.answer_to-requires
-answer_to-requires c =
+pub answer_in_row-requires-clause-row : goal.answer_in_row-requires-clause-row
+answer_in_row-requires-clause-row c =
     let layer = c.args.layer.now in
     let is = subst (λ o. IfSome o (λ row. IsElement (rows_of_packs layer.packs.now) row.items)) c.in-Some.is c.in_ok-row.ensures in
-    subst (IsElement _) (sym c.as_slice.ensures.value)
-    (layer_element (plain_program layer.program.now) layer.packs.now (lists_of layer.thresholds.now) c.requires _ is)
+    subst (IsElement _) (sym c.as_slice.ensures.value) is

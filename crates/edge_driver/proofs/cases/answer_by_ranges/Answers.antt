@@ -2,7 +2,7 @@ use Rattle.std.proofs.Common.{ap, sym, ◌∙◌}
 use Rattle.cob_program.specs.ActView.{plain_program}
 use Rattle.cell_rows.specs.Rows.{lists_of}
 use Rattle.cell_steps.specs.Homes.{owns}
-use Rattle.cert_check.proofs.Sources.{lists_are_short, thresholds_of}
+use Rattle.layer_cases.proofs.Sources.{lists_are_short, thresholds_of}
 use Rattle.layer_cases.proofs.Claims.{claims_are_elements}
 use Rattle.edge_driver.proofs.cases.answer_by_ranges.Goals as goal
 

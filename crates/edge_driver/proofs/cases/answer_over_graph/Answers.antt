@@ -2,8 +2,8 @@ use Rattle.std.proofs.Common.{map, ap, sym, ◌∙◌, subst}
 use Rattle.std.specs.List.{All}
 use Rattle.cob_program.specs.ActView.{plain_program}
 use Rattle.cell_steps.specs.Homes.{own_range}
-use Rattle.cert_check.specs.Ranges.{IsShort}
-use Rattle.cert_check.proofs.Sources.{graph_cells_short, graph_ranges}
+use Rattle.layer_cases.specs.Ranges.{IsShort}
+use Rattle.layer_cases.proofs.Sources.{graph_cells_short, graph_ranges}
 use Rattle.edge_driver.proofs.cases.answer_over_graph.Goals as goal
 
 pub own_ranges-requires : goal.own_ranges-requires

@@ -4,7 +4,7 @@ ghost use Rattle.std.specs.List.{All};
 ghost use Rattle.cell_rows.specs.Rows.{lists_of};
 ghost use Rattle.cell_steps.specs.Homes.{largest, own_range};
 ghost use Rattle.claimed_rows.specs.Gaps.{IsSmall};
-ghost use Rattle.cert_check.specs.Ranges.{IsShort, ends_of};
+ghost use Rattle.cell_ranges.specs.Ranges.{IsShort, ends_of};
 
 use cob_runs::Cell;
 use dec_num::pow10;

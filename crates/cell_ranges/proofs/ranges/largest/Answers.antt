@@ -1,7 +1,7 @@
 use Rattle.std.proofs.Common.{arith}
 use Rattle.std.proofs.lemmas.Int.{ints}
 use Rattle.dec_num.proofs.Powers.{ten_positive, ten_monotone}
-use Rattle.cert_check.proofs.ranges.largest.Goals as goal
+use Rattle.cell_ranges.proofs.ranges.largest.Goals as goal
 
 pub overflow_cast-result : goal.overflow_cast-result
 overflow_cast-result c =

@@ -3,7 +3,7 @@ use Rattle.std.specs.Prelude.{take}
 use Rattle.std.specs.List.{All}
 use Rattle.cell_steps.specs.Homes.{own_range}
 use Rattle.claimed_rows.specs.Gaps.{IsSmall}
-use Rattle.cert_check.proofs.ranges.own_ranges.Given as goal
+use Rattle.cell_ranges.proofs.ranges.own_ranges.Given as goal
 
 abbrev pub invariant-loop-cell : goal.invariant-loop-cell
 invariant-loop-cell l = record {
