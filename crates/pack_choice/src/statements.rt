@@ -1,5 +1,5 @@
 //! What statements and paragraphs mention, each statement's own before that of its lists.
-ghost use Rattle.std.specs.Prelude.{◌≡◌, ◌++◌, map, OnOk, IfOk};
+ghost use Rattle.std.specs.Prelude.{◌≡◌, ◌++◌, OnOk, IfOk};
 ghost use Rattle.cob_program.specs.ActView.{
   plain_act,
   plain_body,
