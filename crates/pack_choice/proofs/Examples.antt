@@ -1,5 +1,5 @@
 -- Packs of small programs, worked out.
-use Rattle.std.specs.Prelude.{◌≡◌, ℕ, false, List, [], ◌∷◌, Some, None, map, ℤ, pos, neg_ℤ}
+use Rattle.std.specs.Prelude.{◌≡◌, ℕ, false, List, [], ◌∷◌, None, map, pos, neg_ℤ}
 use Rattle.std.specs.List.{range_with_len}
 use Rattle.std.proofs.Common.{refl}
 use Rattle.cob_tree.specs.declared.form.Form.TheVariants as form
@@ -11,7 +11,7 @@ use Rattle.dec_num.specs.declared.types.Mode.TheVariants as mode
 use Rattle.cob_program.specs.declared.act.How.TheVariants as how
 use Rattle.cob_program.specs.Sum.{Sum, MkSum, no_parts, more_parts, MkPart, no_factors, more_factors, MkFactor, item}
 use Rattle.cob_program.specs.Logic.{numbers, member, Logic, test, any_of, more_logics, no_logics}
-use Rattle.cob_program.specs.Act.{once, until, varying, Stmts, no_stmts, left_out, Act, arith, if_, nothing, perform, stop, range, inline, Para, Program}
+use Rattle.cob_program.specs.Act.{once, until, varying, no_stmts, left_out, Act, arith, if_, nothing, perform, stop, range, inline, Para, Program}
 use Rattle.cob_graph.proofs.Examples.{item_of, numeral, atom_sum, stmt1, para, unnamed}
 use Rattle.cob_runs.specs.declared.action.Cell.{Cell}
 use Rattle.pack_choice.specs.Choice.{packs_of}

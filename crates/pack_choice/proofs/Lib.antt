@@ -1,3 +1,4 @@
+pub mod OwnFirst
 pub mod Marks
 pub mod Reached
 pub mod Noting

@@ -1,5 +1,5 @@
 -- The thresholds of a pack are few, and within what a word of a matrix can be.
-use Rattle.std.proofs.Common.{◌≡◌, ℕ, zero, suc, ◌+◌, ◌-◌, ◌*◌, ◌^◌, ◌<◌, ◌≤◌, max, List, [], ◌∷◌, ◌++◌, map, length, get_or, ℤ, pos, neg_ℤ, ◌≤ℤ◌, ◌*ℤ◌, refl, sym, ap, ◌∙◌, subst, arith}
+use Rattle.std.proofs.Common.{◌≡◌, ℕ, zero, suc, ◌+◌, ◌-◌, ◌*◌, ◌^◌, ◌<◌, ◌≤◌, List, [], ◌∷◌, ◌++◌, map, length, get_or, ℤ, neg_ℤ, ◌*ℤ◌, sym, ap, ◌∙◌, subst, arith}
 use Rattle.std.specs.Prelude.{unsigned_abs, slice_get, Vec}
 use Rattle.std.specs.declared.alloc.Global.{Global}
 use Rattle.std.specs.List.{AllByRecursion}
@@ -9,12 +9,12 @@ use Rattle.std.proofs.lemmas.List.{length-append, length-map}
 use Rattle.dec_num.proofs.Bounds.{size_of_product}
 use Rattle.dec_num.proofs.Powers.{ten_monotone}
 use Rattle.cob_runs.specs.declared.action.Cell.{Cell}
-use Rattle.cell_rows.specs.Rows.{lists_of}
+use Rattle.pack_choice.specs.Mentions.{lists_of}
 use Rattle.diff_bounds.specs.declared.Pack as declared
 use Rattle.diff_bounds.specs.Widening.{AreThresholds}
 use Rattle.pack_choice.specs.Choice.{numbers_of}
 use Rattle.pack_choice.specs.Rising.{sorted, Rises}
-use Rattle.pack_choice.specs.PackThresholds.{scale_at, finest, cell_units, own_thresholds, with_negative, list_thresholds, cells_thresholds, thresholds_of_pack, IsCellList, HasFewDecimals, HasFewCells, IsWord}
+use Rattle.pack_choice.specs.PackThresholds.{scale_at, finest, cell_units, own_thresholds, list_thresholds, cells_thresholds, thresholds_of_pack, IsCellList, HasFewDecimals, HasFewCells, IsWord}
 use Rattle.pack_choice.proofs.Rising.{all_at, all_sorted, sorted_length, sorted_rises}
 
 -- ---- units

@@ -1,12 +1,12 @@
 -- The marks of the last round are those of the paragraphs that are reached.
-use Rattle.std.proofs.Common.{◌≡◌, ◌+◌, ◌≤◌, ◌<◌, ◌⊎◌, inl, inr, ⊎_elim, ℕ, zero, suc, Bool, true, false, ◌&&◌, ◌||◌, ◌-◌, List, [], ◌∷◌, ◌++◌, map, length, get_or, refl, sym, ap, ◌∙◌, subst, arith}
+use Rattle.std.proofs.Common.{◌≡◌, ◌+◌, ◌≤◌, ◌<◌, ◌⊎◌, inl, inr, ⊎_elim, ℕ, zero, suc, Bool, true, false, ◌&&◌, ◌||◌, ◌-◌, List, [], ◌∷◌, map, length, get_or, refl, sym, ap, ◌∙◌, arith}
 use Rattle.std.specs.List.{range_with_len}
 use Rattle.std.proofs.lemmas.Bool.{cases_lt}
 use Rattle.std.proofs.lemmas.List.{get_or_past}
-use Rattle.std.proofs.lemmas.List.FromFn.{get_or-map-range_with_len, length-map-range_with_len}
+use Rattle.std.proofs.lemmas.List.FromFn.{get_or-map-range_with_len}
 use Rattle.pack_choice.specs.declared.mention.Mention.{Mention}
-use Rattle.pack_choice.specs.Reaching.{is_same, same_marks, marks_of, is_performed, performs, is_performed_in, is_performed_by, reached_through, reached, IsReached, directly, onward, AreMarksOfReached, ReachedAreMarked}
-use Rattle.pack_choice.proofs.Marks.{same_are, wide, stays}
+use Rattle.pack_choice.specs.Reaching.{same_marks, marks_of, is_performed, performs, is_performed_in, is_performed_by, reached_through, reached, IsReached, directly, onward, ReachedAreMarked}
+use Rattle.pack_choice.proofs.Marks.{same_are, wide}
 
 -- ---- tests
 

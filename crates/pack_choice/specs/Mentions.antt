@@ -129,6 +129,24 @@ para_mentions x = stmts_mentions x.body
 abbrev pub texts_of : List Para → List (List Mention)
 texts_of xs = map para_mentions xs
 
+-- ---- how the code goes
+
+-- what a statement mentions beside its lists
+abbrev pub own_mentions : Act → List Mention
+own_mentions (arith s targets remainder size fine) = targets_mentions targets ++ if_item remainder
+own_mentions (if_ t held other) = logic_mentions t
+own_mentions (perform body turns) = turns_mentions turns
+own_mentions _ = []
+
+-- what its lists do
+abbrev pub inner_mentions : Act → List Mention
+inner_mentions (arith s targets remainder size fine) = phrase_mentions size ++ stmts_mentions fine
+inner_mentions (if_ t held other) = stmts_mentions held ++ stmts_mentions other
+inner_mentions (evaluate ws other) = whens_mentions ws ++ stmts_mentions other
+inner_mentions (perform body turns) = body_mentions body
+inner_mentions (read f into end fine) = phrase_mentions end ++ stmts_mentions fine
+inner_mentions _ = []
+
 -- what contracts see of lists in a list
 abbrev pub lists_of : {A : Type 0} → List (Vec A Global) → List (List A)
 lists_of xs = map (λ x. x.items) xs

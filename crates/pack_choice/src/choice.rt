@@ -1,9 +1,9 @@
 //! The packs of a program.
-ghost use Rattle.std.specs.Prelude.{◌≡◌, ◌≤◌, ◌++◌, ◌∷◌, ◌==◌, [], length, map, suc, nat_le, if◌then◌else◌, IsTrue, IfOk, OnOk, IfSome, ◌<◌};
+ghost use Rattle.std.specs.Prelude.{◌≡◌, ◌≤◌, ◌++◌, ◌∷◌, ◌==◌, [], length, map, suc, if◌then◌else◌, IsTrue, IfOk, OnOk, IfSome, ◌<◌};
 ghost use Rattle.std.specs.Option.{option_map};
-ghost use Rattle.std.specs.List.{fold, filter_map};
+ghost use Rattle.std.specs.List.{fold};
 ghost use Rattle.cob_data.specs.ItemRules.{is_numeric};
-ghost use Rattle.cob_program.specs.ActView.{plain_act, plain_para, plain_paras, plain_program, plain_stmt, plain_turns};
+ghost use Rattle.cob_program.specs.ActView.{plain_act, plain_paras, plain_program, plain_stmt};
 ghost use Rattle.cob_program.specs.Statements.{plain_references};
 ghost use Rattle.cob_graph.specs.Graphs.{cells_of};
 ghost use Rattle.cell_steps.specs.Homes.{of_item};
@@ -14,12 +14,9 @@ ghost use Rattle.pack_choice.specs.Mentions.{lists_of};
 ghost use Rattle.pack_choice.specs.Firsts.{holds};
 ghost use Rattle.pack_choice.specs.Choice.{
   all_loops,
-  all_mentions,
   cells_together,
   first_cells,
   is_numeric_at,
-  is_once,
-  is_pack,
   loop_mentions,
   loops,
   loops_mentions,

@@ -1,5 +1,5 @@
 //! The first so many numbers, each once.
-ghost use Rattle.std.specs.Prelude.{◌≡◌, ◌==◌, nat_le, length, OnOk};
+ghost use Rattle.std.specs.Prelude.{◌≡◌, ◌==◌, OnOk};
 ghost use Rattle.pack_choice.specs.Firsts.{holds, noted};
 
 use std::alloc::AllocError;

@@ -1,5 +1,5 @@
 //! The paragraphs that a PERFORM reaches, and what it mentions with them.
-ghost use Rattle.std.specs.Prelude.{◌≡◌, ◌≤◌, ◌++◌, ◌==◌, [], ℕ, length, map, if◌then◌else◌, IfOk, OnOk};
+ghost use Rattle.std.specs.Prelude.{◌≡◌, ◌++◌, ◌==◌, [], length, if◌then◌else◌, IfOk, OnOk};
 ghost use Rattle.pack_choice.specs.Mentions.{lists_of};
 ghost use Rattle.pack_choice.specs.Reaching.{
   is_in_mention,

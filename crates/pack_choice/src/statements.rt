@@ -1,5 +1,5 @@
 //! What statements and paragraphs mention, each statement's own before that of its lists.
-ghost use Rattle.std.specs.Prelude.{◌≡◌, ◌++◌, map, OnOk, IfOk};
+ghost use Rattle.std.specs.Prelude.{◌≡◌, ◌++◌, OnOk, IfOk};
 ghost use Rattle.cob_program.specs.ActView.{
   plain_act,
   plain_body,
@@ -14,7 +14,9 @@ ghost use Rattle.cob_program.specs.ActView.{
 ghost use Rattle.pack_choice.specs.Mentions.{
   act_mentions,
   body_mentions,
+  inner_mentions,
   lists_of,
+  own_mentions,
   para_mentions,
   stmt_mentions,
   stmts_mentions,
@@ -42,6 +44,25 @@ fn add_turns(mentions: &mut Vec<Mention>, turns: &Turns) -> Result<(), AllocErro
     }
 }
 
+// What a statement mentions beside its lists.
+fn add_own(mentions: &mut Vec<Mention>, act: &Act) -> Result<(), AllocError>
+    ensures { OnOk result (mentions.new.items ≡ mentions.old.items ++ own_mentions (plain_act act.now)) }
+{
+    match act {
+        Act::Arith {
+            targets,
+            remainder,
+            ..
+        } => {
+            add_targets(mentions, targets.get())?;
+            add_if(mentions, *remainder)
+        }
+        Act::If { test, .. } => add_logic(mentions, test),
+        Act::Perform { turns, .. } => add_turns(mentions, turns),
+        _ => Ok(()),
+    }
+}
+
 #[cycle(statements)]
 fn add_list(mentions: &mut Vec<Mention>, list: &[Stmt]) -> Result<(), AllocError>
     ensures { OnOk result (mentions.new.items ≡ mentions.old.items ++ stmts_mentions (plain_stmts list.now)) }
@@ -60,35 +81,28 @@ fn add_statement(mentions: &mut Vec<Mention>, statement: &Stmt) -> Result<(), Al
 }
 
 #[cycle(statements)]
+#[tactic(auto, using(crate::proofs::OwnFirst::own_first))]
 fn add_act(mentions: &mut Vec<Mention>, act: &Act) -> Result<(), AllocError>
     ensures { OnOk result (mentions.new.items ≡ mentions.old.items ++ act_mentions (plain_act act.now)) }
 {
+    add_own(mentions, act)?;
+    add_inner(mentions, act)
+}
+
+// What the lists of a statement mention.
+#[cycle(statements)]
+fn add_inner(mentions: &mut Vec<Mention>, act: &Act) -> Result<(), AllocError>
+    ensures { OnOk result (mentions.new.items ≡ mentions.old.items ++ inner_mentions (plain_act act.now)) }
+{
     match act {
-        Act::Arith {
-            targets,
-            remainder,
-            size: None,
-            fine,
-            ..
-        } => {
-            add_targets(mentions, targets.get())?;
-            add_if(mentions, *remainder)?;
-            add_list(mentions, fine)
-        }
-        Act::Arith {
-            targets,
-            remainder,
-            size: Some(list),
-            fine,
-            ..
-        } => {
-            add_targets(mentions, targets.get())?;
-            add_if(mentions, *remainder)?;
-            add_list(mentions, list)?;
-            add_list(mentions, fine)
-        }
-        Act::If { test, yes, no } => {
-            add_logic(mentions, test)?;
+        Act::Arith { size, fine, .. } => match size {
+            None => add_list(mentions, fine),
+            Some(list) => {
+                add_list(mentions, list)?;
+                add_list(mentions, fine)
+            }
+        },
+        Act::If { yes, no, .. } => {
             add_list(mentions, yes)?;
             add_list(mentions, no)
         }
@@ -96,23 +110,14 @@ fn add_act(mentions: &mut Vec<Mention>, act: &Act) -> Result<(), AllocError>
             add_whens(mentions, whens)?;
             add_list(mentions, other)
         }
-        Act::Perform { body, turns } => {
-            add_turns(mentions, turns)?;
-            add_body(mentions, body)
-        }
-        Act::Read {
-            end: None,
-            fine,
-            ..
-        } => add_list(mentions, fine),
-        Act::Read {
-            end: Some(list),
-            fine,
-            ..
-        } => {
-            add_list(mentions, list)?;
-            add_list(mentions, fine)
-        }
+        Act::Perform { body, .. } => add_body(mentions, body),
+        Act::Read { end, fine, .. } => match end {
+            None => add_list(mentions, fine),
+            Some(list) => {
+                add_list(mentions, list)?;
+                add_list(mentions, fine)
+            }
+        },
         _ => Ok(()),
     }
 }

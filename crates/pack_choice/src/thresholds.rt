@@ -1,7 +1,7 @@
 //! The thresholds of packs.
 ghost use Rattle.std.specs.Prelude.{◌≡◌, ◌≤◌, ◌-◌, ◌*ℤ◌, ◌++◌, ◌^◌, length, map, IfOk, OnOk, unsigned_abs};
 ghost use Rattle.std.specs.List.{AllByRecursion};
-ghost use Rattle.cell_rows.specs.Rows.{lists_of};
+ghost use Rattle.pack_choice.specs.Mentions.{lists_of};
 ghost use Rattle.diff_bounds.specs.Widening.{AreThresholds};
 ghost use Rattle.pack_choice.specs.Choice.{numbers_of};
 ghost use Rattle.pack_choice.specs.Rising.{Rises, sorted};

@@ -1,4 +1,4 @@
-use Rattle.std.proofs.Common.{◌≡◌, ◌≤◌, ◌∙◌, ap, sym, subst, length, true}
+use Rattle.std.proofs.Common.{◌≡◌, ◌≤◌, ◌∙◌, length, true}
 use Rattle.std.proofs.lemmas.Result.{IfOk-weaker}
 use Rattle.cob_program.specs.ActView.{plain_program}
 use Rattle.cert_text.specs.Allowed.{packs_fit}

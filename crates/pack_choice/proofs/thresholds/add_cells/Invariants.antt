@@ -1,5 +1,5 @@
 use Rattle.std.proofs.Common.{◌≡◌, ◌++◌, drop}
-use Rattle.cell_rows.specs.Rows.{lists_of}
+use Rattle.pack_choice.specs.Mentions.{lists_of}
 use Rattle.pack_choice.specs.PackThresholds.{cells_thresholds}
 use Rattle.pack_choice.proofs.thresholds.add_cells.Given as goal
 

@@ -1,7 +1,7 @@
 use Rattle.std.proofs.Common.{◌≡◌, ◌≤◌, length, map}
 use Rattle.std.specs.List.{AllByRecursion}
 use Rattle.std.proofs.lemmas.Result.{IfOk-weaker}
-use Rattle.cell_rows.specs.Rows.{lists_of}
+use Rattle.pack_choice.specs.Mentions.{lists_of}
 use Rattle.diff_bounds.specs.Widening.{AreThresholds}
 use Rattle.pack_choice.specs.Choice.{numbers_of}
 use Rattle.pack_choice.specs.Rising.{Rises}

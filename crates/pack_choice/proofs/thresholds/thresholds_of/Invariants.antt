@@ -1,5 +1,5 @@
 use Rattle.std.proofs.Common.{◌≡◌, ◌++◌, drop, map}
-use Rattle.cell_rows.specs.Rows.{lists_of}
+use Rattle.pack_choice.specs.Mentions.{lists_of}
 use Rattle.pack_choice.specs.Choice.{numbers_of}
 use Rattle.pack_choice.specs.PackThresholds.{thresholds_of_pack}
 use Rattle.pack_choice.proofs.thresholds.thresholds_of.Given as goal
