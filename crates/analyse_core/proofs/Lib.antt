@@ -14,3 +14,5 @@ pub mod Finding
 pub mod Evaluating
 pub mod PacksGiven
 pub mod SolvedRows
+mod SameCertificates
+mod SamePackLists

@@ -14,6 +14,7 @@ use Rattle.analyse_core.specs.Packs.{ArePacksGiven}
 use Rattle.analyse_core.proofs.CellLists.{each_short, lists_short}
 use Rattle.analyse_core.proofs.Owned.{thresholds_are}
 use Rattle.analyse_core.proofs.PacksGiven.{cell_lists_are_small, cells_have_few_decimals, few_cells, packs_given}
+use Rattle.analyse_core.proofs.SamePackLists.{same_pack_lists}
 use Rattle.analyse_core.proofs.analysis.find.Goals as goal
 
 pub pack_thresholds-requires-clause-decimals : goal.pack_thresholds-requires-clause-decimals
@@ -52,7 +53,7 @@ found-requires-clause-packs g c =
     let cell_lists = c.as_slice.result.now in
     let given = c.in_ok-packs.ensures in
     let lists = c.in_ok-lists.ensures in
-    let same = (λ i. map (thresholds_of_pack (c.get.ensures i) (lists_of cell_lists)) (numbers_of (c.as_slice-2.ensures.value i))) in
-    subst (ArePacksGiven p c.in_ok-packs.packs.items) (sym c.as_slice-4.ensures.value)
+    subst (λ q. ArePacksGiven (plain_program q) c.in_ok-packs.packs.items c.as_slice-4.result.now) (sym c.in_ok-layer.ensures.program)
+    (subst (ArePacksGiven p c.in_ok-packs.packs.items) (sym c.as_slice-4.ensures.value)
     (packs_given p graph c.requires.source c.in_ok-packs.packs.items (lists_of cell_lists) c.in_ok-lists.lists.items given.value given.few given.fit
-    (ap lists_of c.as_slice.ensures.value ∙ c.in_ok-cell_lists.ensures.value) (lists.value ∙ same) lists.short lists.ends)
+    (ap lists_of c.as_slice.ensures.value ∙ c.in_ok-cell_lists.ensures.value) (lists.value ∙ same_pack_lists (lists_of cell_lists) _ _ _ _ c.get.ensures c.as_slice-2.ensures.value) lists.short lists.ends))

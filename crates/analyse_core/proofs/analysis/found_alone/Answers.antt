@@ -12,6 +12,7 @@ use Rattle.analyse_core.specs.Certificates.{certificate_for}
 use Rattle.analyse_core.specs.Found.{IsFound}
 use Rattle.analyse_core.proofs.CellSizes.{cells_are}
 use Rattle.analyse_core.proofs.Owned.{owns_count, row_can_be_claimed}
+use Rattle.analyse_core.proofs.SameCertificates.{same_certificate}
 use Rattle.analyse_core.proofs.SolvedRows.{none_found}
 use Rattle.analyse_core.proofs.analysis.found_alone.Goals as goal
 
@@ -52,8 +53,6 @@ returns-clause-found g c =
     let cells = ap length c.get.ensures ∙ ap length (cells_are p graph c.requires.source) in
     let nodes = c.nodes-2.ensures in
     let none = ap cells_in c.requires.none ∙ sym c.requires.packs in
-    let same =
-    (λ i. certificate_for (cells i) (none i) (nodes i) (λ (node : ℕ). element_of (rows node)) (λ (node : ℕ). [])) in
     IfOk-weaker c.certificate_of.result
     (λ cert. view cert ≡ certificate_for (length c.get.result.now) (cells_in c.args.none.items) c.nodes-2.result (λ node. element_of (rows node)) (λ node. []))
     (λ cert. IsFound p graph (view cert))
@@ -63,6 +62,6 @@ returns-clause-found g c =
       ready = c.requires.ready;
       cells_found = c.in_ok-rows.ensures.found;
       bounds_found = none_found p graph rows c.requires.packs;
-      is = is ∙ same;
+      is = is ∙ same_certificate (λ node. element_of (rows node)) (λ node. []) _ _ _ _ _ _ cells none nodes;
     })
     c.certificate_of.ensures

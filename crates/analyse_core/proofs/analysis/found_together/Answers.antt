@@ -12,6 +12,7 @@ use Rattle.analyse_core.specs.Found.{IsFound}
 use Rattle.analyse_core.proofs.CellSizes.{cells_are}
 use Rattle.analyse_core.proofs.Owned.{owns_count, row_can_be_claimed}
 use Rattle.analyse_core.proofs.PacksGiven.{given_few, given_small}
+use Rattle.analyse_core.proofs.SameCertificates.{same_certificate}
 use Rattle.analyse_core.proofs.SolvedRows.{width_found}
 use Rattle.analyse_core.proofs.analysis.found_together.Goals as goal
 
@@ -66,8 +67,6 @@ returns-clause-found g c =
     let bounds = row_at c.in_ok-bounds.bounds.rows in
     let cells = ap length c.get.ensures ∙ ap length (cells_are p graph c.requires.source) in
     let nodes = c.nodes.ensures in
-    let same =
-    (λ i. certificate_for (cells i) (c.requires.packs.packs_are i) (nodes i) (λ (node : ℕ). element_of (rows node)) bounds) in
     IfOk-weaker c.certificate_of.result
     (λ cert. view cert ≡ certificate_for (length c.get.result.now) (cells_in c.args.packs.items) c.nodes.result (λ node. element_of (rows node)) bounds)
     (λ cert. IsFound p graph (view cert))
@@ -77,6 +76,6 @@ returns-clause-found g c =
       ready = c.requires.packs.ready;
       cells_found = c.in_ok-rows.ensures.found;
       bounds_found = c.in_ok-bounds.ensures.found;
-      is = is ∙ same;
+      is = is ∙ same_certificate (λ node. element_of (rows node)) bounds _ _ _ _ _ _ cells c.requires.packs.packs_are nodes;
     })
     c.certificate_of.ensures
