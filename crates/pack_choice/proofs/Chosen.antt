@@ -39,7 +39,7 @@ module _ (p : Program) where
       ∙ fold-append noted_pack [] (map (cells_together p) loops) (map (cells_together p) texts))
 
 pub packs_noted : (lists : List (List ℕ)) → fold noted_pack [] lists ≡ packs_among lists
-packs_noted lists = sym (first_noted same_cells most_packs _ ∙ passing_over (noted same_cells most_packs) is_pack [] lists)
+packs_noted lists = sym (first_noted same_cells most_packs (filter is_pack lists) ∙ passing_over (noted same_cells most_packs) is_pack [] lists)
 
 pub packs_are : (p : Program) (texts loops : List (List Mention)) (some all : List (List ℕ)) → texts ≡ texts_of p.paras →
     loops ≡ all_loops texts 0 p.paras → some ≡ fold noted_pack [] (map (cells_together p) loops) →

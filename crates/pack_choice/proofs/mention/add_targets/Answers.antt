@@ -1,6 +1,6 @@
 use Rattle.std.proofs.Common.{◌+◌, ap, drop}
-use Rattle.std.proofs.lemmas.List.{drop_all}
-use Rattle.cob_program.proofs.Loops.{item_step, added, nothing_left}
+use Rattle.std.proofs.lemmas.List.{drop_all, drop_more}
+use Rattle.cob_program.proofs.Loops.{added, nothing_left}
 use Rattle.pack_choice.specs.Mentions.{targets_mentions}
 use Rattle.pack_choice.proofs.mention.add_targets.Goals as goal
 
@@ -8,7 +8,7 @@ pub loop-target-preserved : goal.loop-target-preserved
 loop-target-preserved c =
     let l = c.loop-target in
     added _ _ _ (targets_mentions (drop (l.target-index + 1) c.args.targets.now)) _ _ c.in_ok-add_target.ensures
-    (ap targets_mentions (item_step c.args.targets.now l.target-index c.target-item.result c.loop-target-test.true c.target-item.is))
+    (ap targets_mentions (drop_more c.args.targets.now l.target-index _ c.loop-target-test.true))
     l.invariant
 
 pub returns : goal.returns
