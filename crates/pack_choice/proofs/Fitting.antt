@@ -14,7 +14,7 @@ use Rattle.cert_text.specs.Allowed.{cells_rise, pack_fits, packs_fit}
 use Rattle.diff_bounds.specs.declared.Pack as declared
 use Rattle.pack_choice.specs.declared.mention.Mention.{Mention}
 use Rattle.pack_choice.specs.Firsts.{holds, added, distinct}
-use Rattle.pack_choice.specs.Choice.{numeric_cell, most_cells, first_cells, rising, cells_together, same_cells, is_pack, most_packs, packs_of, all_mentions, numbers_of}
+use Rattle.pack_choice.specs.Choice.{numeric_cell, most_cells, first_cells, cells_together, same_cells, is_pack, most_packs, packs_of, all_mentions, numbers_of}
 
 abbrev same : ℕ → ℕ → Bool
 same a b = a == b

@@ -14,8 +14,8 @@ returns c =
     let last = ap lists_of c.as_slice-3.ensures.value in
     let texts = last ∙ c.in_ok-texts.ensures ∙ ap texts_of paras in
     let loops =
-        ap lists_of c.as_slice-2.ensures.value ∙ c.in_ok-loops.ensures
-        ∙ ap (all_loops _ 0) paras
-        ∙ ap (λ ts. all_loops ts 0 p.paras) (first ∙ sym last) in
+    ap lists_of c.as_slice-2.ensures.value ∙ c.in_ok-loops.ensures
+    ∙ ap (all_loops _ 0) paras
+    ∙ ap (λ ts. all_loops ts 0 p.paras) (first ∙ sym last) in
     IfOk-weaker c.noted.result _ (λ packs. numbers_of packs.items ≡ packs_of p)
     (λ packs is. packs_are p _ _ _ (numbers_of packs.items) texts loops refl is) c.noted.ensures
