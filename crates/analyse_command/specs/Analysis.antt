@@ -1,5 +1,5 @@
 -- What `analyse` finds of a source: a certificate that holds, and misses nothing that its thresholds can show.
-use Rattle.std.specs.Prelude.{◌≡◌, ℕ, true, List, [], Option, Some, IfSome}
+use Rattle.std.specs.Prelude.{◌≡◌, ◌⊎◌, ℕ, true, List, Option, Some, IfSome, ℤ}
 use Rattle.std.specs.FinMap.{get}
 use Rattle.batch_io.specs.FilesState.{Contents}
 use Rattle.cob_tree.specs.declared.fault.Kind.{Kind}
@@ -12,7 +12,8 @@ use Rattle.cert_text.specs.Text.{spelling}
 use Rattle.check_command.specs.Shared.Checker.Claims.{open_pairs}
 use Rattle.check_command.specs.Shared.Checker.Checking.{Accepts}
 use Rattle.alarm_report.specs.Alarms.{alarms_of}
-use Rattle.analyse_core.specs.Assignments.{IsThresholdAssignment, MissesNothing, is_cleared_in}
+use Rattle.analyse_core.specs.Assignments.{IsPackAssignment, IsThresholdAssignment, MissesNothing, MissesNothingTogether, is_cleared_by_both, is_cleared_in}
+use Rattle.analyse_core.specs.Choice.{packs_of}
 use Rattle.check_command.specs.Shared.Profile.{IsProgramOf}
 use Rattle.check_command.specs.Shared.Answer.{Answer, Report}
 
@@ -39,13 +40,14 @@ report_of a = Report (alarms_of a.program (pairs_of a))
 
 -- ---- what is promised of it
 
--- It is a certificate without packs that holds, and no pair is open that some inductive assignment with thresholds at
--- the heads of its loops clears.
+-- It is a certificate with the program's packs that holds. No pair is open that some inductive assignment with thresholds
+-- at the heads of its loops clears, nor one that such assignments of both layers clear together.
 pub record IsFound (a : Analysis) : Type 0 where
   pub allowed : IsAllowed a.claims
-  pub plain : a.claims.packs ≡ []
+  pub packs : a.claims.packs ≡ packs_of a.program
   pub accepts : Accepts a.program a.graph a.claims (pairs_of a)
   pub misses_nothing : MissesNothing a.program a.graph a.claims
+  pub misses_nothing_together : MissesNothingTogether a.program a.graph a.claims
 
 -- The source's file holds bytes of a program of the profile, and this is found for it.
 pub record IsAnalysisOf (known : Option Contents) (source : List ℕ) (a : Analysis) : Type 0 where
@@ -55,7 +57,18 @@ pub record IsAnalysisOf (known : Option Contents) (source : List ℕ) (a : Analy
   pub found : IsFound a
 
 -- Such an assignment clears each fault of each statement.
-pub record CanBeClean (p : Program) (g : Graph) : Type 0 where
+pub record IsCleanByCells (p : Program) (g : Graph) : Type 0 where
   pub assignment : Certificate
   pub assigns : IsThresholdAssignment p g assignment
   pub clears : (statement : ℕ) (fault : Kind) → is_cleared_in p g assignment statement fault ≡ true
+
+-- Such assignments of both layers clear it together.
+pub record IsCleanByBoth (p : Program) (g : Graph) : Type 0 where
+  pub assignment : Certificate
+  pub rows : ℕ → List ℤ
+  pub assigns : IsThresholdAssignment p g assignment
+  pub pack_assigns : IsPackAssignment p g assignment rows
+  pub clears : (statement : ℕ) (fault : Kind) → is_cleared_by_both p g assignment rows statement fault ≡ true
+
+abbrev pub CanBeClean : Program → Graph → Type 0
+CanBeClean p g = IsCleanByCells p g ⊎ IsCleanByBoth p g

@@ -85,34 +85,39 @@ met_cells_back (own ∷ owns) [] h = absurd h
 met_cells_back (own ∷ owns) (c ∷ cs) (h, hs) =
     ap (λ o. with_cell o (met_cells owns cs)) (met_back own c h) ∙ ap (with_cell (Some c)) (met_cells_back owns cs hs)
 
-written_place : (owns : List Interval) (x : Element) → ElementFits owns x → written_element (length owns) (place_for x) ≡ x
-written_place owns None h = refl
-written_place owns (Some cs) h =
-    ap (λ n. Some (written_from 1 n (claims_from 1 cs))) (sym (fits_length owns cs h)) ∙ ap Some (written_back cs 1)
+-- a row of matrices for packs of these sizes beside it says nothing of cells
+module _ (sizes : List ℕ) where
+  written_place : (owns : List Interval) (x : Element) (bounds : List ℤ) → ElementFits owns x →
+      written_element (length owns) (place_for sizes x bounds) ≡ x
+  written_place owns None bounds h = refl
+  written_place owns (Some cs) bounds h =
+      ap (λ n. Some (written_from 1 n (claims_from 1 cs))) (sym (fits_length owns cs h)) ∙ ap Some (written_back cs 1)
 
-met_place : (owns : List Interval) (x : Element) → ElementFits owns x → met_element owns x ≡ x
-met_place owns None h = refl
-met_place owns (Some cs) h = met_cells_back owns cs h
+  met_place : (owns : List Interval) (x : Element) → ElementFits owns x → met_element owns x ≡ x
+  met_place owns None h = refl
+  met_place owns (Some cs) h = met_cells_back owns cs h
 
-pub claimed_is : (owns : List Interval) (x : Element) → ElementFits owns x → claimed_element owns (place_for x) ≡ x
-claimed_is owns x h = ap (met_element owns) (written_place owns x h) ∙ met_place owns x h
+  pub claimed_is : (owns : List Interval) (x : Element) (bounds : List ℤ) → ElementFits owns x → claimed_element owns (place_for sizes x bounds) ≡ x
+  claimed_is owns x bounds h = ap (met_element owns) (written_place owns x bounds h) ∙ met_place owns x h
 
--- a row's claims mean this row
-pub claimed_row_is : (owns : List Interval) (row : List ℤ) → IsRow owns row → claimed_row owns (place_for (element_of row)) ≡ row
-claimed_row_is owns row is =
-    ap (row_from (width_of owns)) (claimed_is owns (element_of row) is.fits) ∙ sym is.said
+  -- a row's claims mean this row
+  pub claimed_row_is : (owns : List Interval) (row bounds : List ℤ) → IsRow owns row → claimed_row owns (place_for sizes (element_of row) bounds) ≡ row
+  claimed_row_is owns row bounds is =
+      ap (row_from (width_of owns)) (claimed_is owns (element_of row) bounds is.fits) ∙ sym is.said
 
--- ---- nodes
+  -- ---- nodes
 
-pub place_is : (nodes : ℕ) (x : ℕ → Element) (node : ℕ) → 1 ≤ node → node ≤ nodes →
-    get_or (places_for nodes x) (node - 1) NotReached ≡ place_for (x node)
-place_is nodes x node l h =
-    get_or-map-range_with_len (λ n. place_for (x n)) 1 nodes (node - 1) node NotReached (omega (arith, l, h)) (omega (arith, l))
+  pub place_is : (nodes : ℕ) (x : ℕ → Element) (bounds : ℕ → List ℤ) (node : ℕ) → 1 ≤ node → node ≤ nodes →
+      get_or (places_for sizes nodes x bounds) (node - 1) NotReached ≡ place_for sizes (x node) (bounds node)
+  place_is nodes x bounds node l h =
+      get_or-map-range_with_len (λ n. place_for sizes (x n) (bounds n)) 1 nodes (node - 1) node NotReached (omega (arith, l, h)) (omega (arith, l))
 
--- what one node more claims
-pub places_more : {E : Type 0} (f : E → Place) (old new : List E) (e : E) (nodes : ℕ) (x : ℕ → Element) → new ≡ old ++ e ∷ [] →
-    f e ≡ place_for (x (nodes + 1)) → map f old ≡ places_for nodes x → map f new ≡ places_for (nodes + 1) x
-places_more f old new e nodes x grown here rest =
-    ap (map f) grown ∙ map-append f old (e ∷ [])
-    ∙ ap (λ p. map f old ++ p ∷ []) here ∙ ap (λ ps. ps ++ place_for (x (nodes + 1)) ∷ []) rest
-    ∙ sym (map-range_with_len_more (λ n. place_for (x n)) 1 nodes (nodes + 1) (omega arith))
+  -- what one node more claims
+  pub places_more : {E : Type 0} (f : E → Place) (old new : List E) (e : E) (nodes : ℕ) (x : ℕ → Element) (bounds : ℕ → List ℤ) →
+      new ≡ old ++ e ∷ [] → f e ≡ place_for sizes (x (nodes + 1)) (bounds (nodes + 1)) → map f old ≡ places_for sizes nodes x bounds →
+      map f new ≡ places_for sizes (nodes + 1) x bounds
+  places_more f old new e nodes x bounds grown here rest =
+      let place : ℕ → Place = λ n. place_for sizes (x n) (bounds n) in
+      ap (map f) grown ∙ map-append f old (e ∷ [])
+      ∙ ap (λ p. map f old ++ p ∷ []) here ∙ ap (λ ps. ps ++ place (nodes + 1) ∷ []) rest
+      ∙ sym (map-range_with_len_more place 1 nodes (nodes + 1) (omega arith))

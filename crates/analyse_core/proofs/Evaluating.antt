@@ -18,15 +18,16 @@ use Rattle.cell_steps.specs.Homes.{owns}
 use Rattle.cell_laws.specs.Entry.{entry_cells}
 use Rattle.cell_laws.specs.Layer.{cell_flow, post_at, row_for}
 use Rattle.cert_text.specs.View.{Place, Certificate}
+use Rattle.cert_check.specs.Claims.{cell_leaks}
+use Rattle.cert_check.specs.Checking.{HasShape}
 use Rattle.cert_check.proofs.Lists.{equal_or_less}
 use Rattle.cert_check.proofs.Accepting.{claimed}
 use Rattle.cert_check.proofs.LayerLaws.{LayerLaws, layer_laws}
 use Rattle.analyse_core.specs.Thresholds.{thresholds_of}
 use Rattle.analyse_core.specs.Certificates.{place_for}
-use Rattle.analyse_core.specs.Assignments.{IsOfRows}
 use Rattle.analyse_core.specs.Plain.{known_of, along, joined_along, plain_to, plain_at, plain_certificate, GoesOn, PlainEvaluationAssigns}
 use Rattle.analyse_core.proofs.Claiming.{claimed_is}
-use Rattle.analyse_core.proofs.Finding.{cells_leak_nowhere, shape}
+use Rattle.analyse_core.proofs.RowClaims.{certificate, shape, no_cell_leaks}
 
 module _ (p : Program) (g : Graph) (laws : LayerLaws p g) where
   abbrev ranges : List Interval
@@ -157,17 +158,21 @@ module _ (p : Program) (g : Graph) (laws : LayerLaws p g) where
   abbrev with_places : List Place → Certificate
   with_places places = record { cells = length (cells_of p); packs = []; nodes = places }
 
+  -- without packs
+  abbrev place_of : Element → Place
+  place_of x = place_for [] x []
+
   same_places : (x y : ℕ → Element) (first count : ℕ) → ((node : ℕ) → x node ≡ y node) →
-      map (λ node. place_for (x node)) (range_with_len first count) ≡ map (λ node. place_for (y node)) (range_with_len first count)
+      map (λ node. place_of (x node)) (range_with_len first count) ≡ map (λ node. place_of (y node)) (range_with_len first count)
   same_places x y first zero h = refl
   same_places x y first (suc count) h =
-      ap (λ z. place_for z ∷ map (λ node. place_for (x node)) (range_with_len (first + 1) count)) (h first)
-      ∙ ap (λ ps. place_for (y first) ∷ ps) (same_places x y (first + 1) count h)
+      ap (λ z. place_of z ∷ map (λ node. place_of (x node)) (range_with_len (first + 1) count)) (h first)
+      ∙ ap (λ ps. place_of (y first) ∷ ps) (same_places x y (first + 1) count h)
 
   row_is : (x : Element) → ElementFits ranges x → IsElement lattice (row_for p x)
   row_is x fits =
-      subst (λ y. IsElement lattice (row_from (width_of ranges) y)) (claimed_is ranges x fits)
-      (claimed p g (record { cells = 0; packs = []; nodes = place_for x ∷ [] }) (thresholds_of p) 1)
+      subst (λ y. IsElement lattice (row_from (width_of ranges) y)) (claimed_is [] ranges x [] fits)
+      (claimed p g (record { cells = 0; packs = []; nodes = place_of x ∷ [] }) (thresholds_of p) 1)
 
   module _ (on : GoesOn p g) where
     before : (node : ℕ) → 1 ≤ node → node ≤ length g.nodes → (e : ℕ) → IsEdge (cell_flow p g) e → (edge_at g e).to ≡ node →
@@ -202,12 +207,9 @@ module _ (p : Program) (g : Graph) (laws : LayerLaws p g) where
               (before (edge_at g e).to to.first to.last e is refl (flows.source_node e is).first)));
         }
 
-    pub plain_of_rows : IsOfRows p g rows (plain_certificate p g)
-    plain_of_rows = record {
-      inductive = plain_inductive;
-      is = ap with_places
-          (same_places (plain_at p g) (λ node. element_of (rows node)) 1 (length g.nodes) (λ node. sym (row_back node)));
-    }
+    pub plain_is : plain_certificate p g ≡ certificate p g [] rows (λ node. [])
+    plain_is =
+        ap with_places (same_places (plain_at p g) (λ node. element_of (rows node)) 1 (length g.nodes) (λ node. sym (row_back node)))
 
     no_head : (node : ℕ) → IsHead (cell_flow p g) node → ⊥
     no_head node (e, is, back, at) = let less = on e is.first is.last in omega (arith, less, back)
@@ -215,9 +217,11 @@ module _ (p : Program) (g : Graph) (laws : LayerLaws p g) where
 pub plain_assigns : PlainEvaluationAssigns
 plain_assigns p g source on =
     let laws = layer_laws p g source in
-    let of_rows = plain_of_rows p g laws on in
+    let kept = plain_inductive p g laws on in
+    let same = plain_is p g laws on in
     record {
-      shape = shape p g (plain_certificate p g) source (rows p g laws) of_rows;
-      inductive = cells_leak_nowhere p g (plain_certificate p g) source (rows p g laws) of_rows;
+      shape = subst (HasShape p g) (sym same) (shape p g [] (rows p g laws) (λ node. []) source kept);
+      inductive =
+          subst (λ (c : Certificate). cell_leaks p g c ≡ []) (sym same) (no_cell_leaks p g [] (rows p g laws) (λ node. []) source kept);
       heads = λ node is. absurd (no_head p g laws on node is);
     }

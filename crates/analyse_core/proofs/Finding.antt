@@ -1,278 +1,233 @@
 -- What the analysis finds is allowed, accepted and misses nothing.
-use Rattle.std.proofs.Common.{◌≡◌, ℕ, zero, suc, ◌+◌, ◌^◌, ◌<◌, ◌≤◌, ◌==◌, ◌&&◌, ◌||◌, not, nat_lt, nat_le, List, [], ◌∷◌, length, map, Bool, true, false, Some, None, ℤ, ◌≤ℤ◌, int_le, inl, inr, refl, sym, ap, ◌∙◌, subst, arith}
-use Rattle.std.specs.Prelude.{unsigned_abs, IsTrue}
-use Rattle.std.specs.List.{AllByRecursion, Contains, flat_map, list_all, range_with_len}
-use Rattle.std.proofs.Props.{props}
-use Rattle.std.proofs.Math.Logic.{∥∥₁_elim}
+use Rattle.std.proofs.Common.{◌≡◌, ℕ, zero, suc, ◌+◌, ◌<◌, ◌≤◌, ◌==◌, ◌&&◌, ◌||◌, not, List, [], ◌∷◌, ◌++◌, length, Bool, true, false, ℤ, inl, inr, refl, sym, ap, ◌∙◌, subst, arith}
+use Rattle.std.specs.Prelude.{IsTrue}
+use Rattle.std.specs.List.{Contains, flat_map, list_all, range_with_len}
 use Rattle.std.proofs.lemmas.Bool.{and_parts}
-use Rattle.std.proofs.lemmas.Bool.Decides.{nat_tests}
-use Rattle.std.proofs.lemmas.Int.{ints}
 use Rattle.std.proofs.lemmas.List.{length-map}
-use Rattle.std.proofs.lemmas.List.FromFn.{length-range_with_len}
-use Rattle.std.proofs.lemmas.List.Elements.{Contains-append_cases, All-from_recursion, recursion_from_All}
-use Rattle.dec_num.proofs.Powers.{ten_monotone, ten_positive}
+use Rattle.std.proofs.lemmas.List.Elements.{Contains-append_cases}
 use Rattle.cob_tree.specs.declared.fault.Kind.{Kind}
 use Rattle.cob_tree.specs.declared.fault.Open.{Open}
 use Rattle.cob_program.specs.Act.{Program}
-use Rattle.cob_runs.specs.declared.action.Cell.{Cell}
 use Rattle.cob_graph.specs.declared.graph.Graph.{Graph}
 use Rattle.cob_graph.specs.Graphs.{cells_of}
 use Rattle.graph_runs.specs.Sources.{IsSourceGraph}
-use Rattle.decimal_interval.specs.declared.bounds.Interval.{Interval}
-use Rattle.dom_laws.specs.Lattice.{Lattice}
-use Rattle.dom_laws.specs.Flow.{Flow, IsNode, IsHead, IsInductive, IsDominated}
-use Rattle.cell_rows.specs.Known.{Known}
-use Rattle.cell_rows.specs.Elements.{Element, CellsFit, ElementFits, AreThresholds}
+use Rattle.dom_laws.specs.Lattice.{Lattice, IsElement}
+use Rattle.dom_laws.specs.Flow.{Flow, IsNode, IsHead, IsInductive}
+use Rattle.cell_rows.specs.Elements.{Element}
 use Rattle.cell_rows.specs.Rows.{cells_lattice, element_of}
-use Rattle.cell_rows.proofs.AllCells.{fits_length}
-use Rattle.cell_steps.specs.Homes.{own_range, picture_range, owns}
-use Rattle.cell_laws.proofs.Homes.{homes_have_own_ranges}
+use Rattle.cell_steps.specs.Homes.{owns}
 use Rattle.cell_laws.specs.Layer.{cell_flow, clears_at, statement_at}
 use Rattle.cert_text.specs.View.{Certificate}
-use Rattle.cert_text.specs.Allowed.{IsAllowed, packs_fit, claim_fits, claims_fit, place_fits, places_all_fit}
-use Rattle.claimed_rows.specs.Claims.{claimed_row, place_at}
-use Rattle.claimed_rows.specs.Gaps.{IsSmall}
-use Rattle.cert_check.specs.OpenPairs.{all_kinds, if_open, open_at, node_clears_by}
-use Rattle.cert_check.specs.Claims.{cell_leaks, cells_clear, claims_at, claims_clear, clears_with, row_at, is_cleared, open_of, opens_of, open_pairs}
-use Rattle.cert_check.specs.Checking.{Accepts, HasShape}
+use Rattle.cert_text.specs.Allowed.{IsAllowed}
+use Rattle.claimed_matrices.specs.Claims as matrices
+use Rattle.pack_rows.specs.Rows.{matrices_in, packs_lattice}
+use Rattle.pack_laws.specs.Layer.{clears_at2, sizes_of}
+use Rattle.pack_laws.specs.Laws.{AreBelow}
+use Rattle.pack_laws.proofs.Clears.{cleared_stays}
+use Rattle.pack_laws.proofs.Flow.{posts_fall}
+use Rattle.pack_choice.specs.Choice.{packs_of}
+use Rattle.row_bounds.proofs.Fitting.{bounds_are_fit}
+use Rattle.cert_check.specs.OpenPairs.{all_kinds, if_open, is_cleared_by, node_clears_by, open_at}
+use Rattle.cert_check.specs.Claims.{bounds_at, cell_leaks, cells_clear, claims_at, claims_clear, clears_with, is_cleared, leaks, open_of, open_pairs, opens_of, pack_leaks, row_at}
+use Rattle.cert_check.specs.Checking.{Accepts}
 use Rattle.cert_check.proofs.Accepting.{claimed, claimed_back}
-use Rattle.cert_check.proofs.BoundsKept.{no_other_leaks}
-use Rattle.cert_check.proofs.Asking.{is_said, is_small}
+use Rattle.cert_check.proofs.BoundsKept as kept
 use Rattle.cert_check.proofs.LayerLaws.{LayerLaws, layer_laws}
-use Rattle.cert_check.proofs.Leaking.{no_leaks, kept_where_no_leaks}
-use Rattle.analyse_core.specs.Literals.{program_literals}
-use Rattle.analyse_core.specs.Thresholds.{IsSmallCell, thresholds_of}
-use Rattle.analyse_core.specs.Certificates.{claim, claims_from, place_for, CanBeClaimed}
-use Rattle.analyse_core.specs.Assignments.{is_cleared_in, IsListedElement, IsThresholdAssignment, MissesNothing, IsOfRows, IsFound, written_at}
-use Rattle.analyse_core.proofs.Claiming.{claimed_row_is, place_is}
-use Rattle.analyse_core.proofs.CellLists.{are_thresholds, ListsLieIn, lists_lie_in}
-use Rattle.analyse_core.proofs.CellSizes.{graph_cells_small, cells_are}
-use Rattle.analyse_core.proofs.Fixed.{heads_are_fixed, claimed_listed}
+use Rattle.cert_check.proofs.Leaking.{kept_where_no_leaks}
+use Rattle.analyse_core.specs.Thresholds.{thresholds_of}
+use Rattle.analyse_core.specs.Packs.{ArePacksReady, packs_for, pack_lists, pack_lattice, pack_flow}
+use Rattle.analyse_core.specs.Assignments.{both_clear, is_cleared_by_both, is_cleared_in, IsListedElement, IsPackAssignment, IsThresholdAssignment, MissesNothing, MissesNothingTogether, written_at}
+use Rattle.analyse_core.specs.Found.{AreFoundBounds, AreFoundCells, IsFound}
+use Rattle.analyse_core.proofs.Allowing.{places_allowed}
+use Rattle.analyse_core.proofs.Fixed.{claimed_listed}
+use Rattle.analyse_core.proofs.Fixed as cells
+use Rattle.analyse_core.proofs.Owned.{owns_count, owns_small, thresholds_are, thresholds_lie_in}
+use Rattle.analyse_core.proofs.PacksBeside.{both_clear_too}
+use Rattle.analyse_core.proofs.PackClaims.{are_facts, are_packs, bounds_inductive, bounds_there, flows, is_lattice, lists_are, shown, shown_below, shown_element}
+use Rattle.analyse_core.proofs.PacksFixed as packs
+use Rattle.analyse_core.proofs.RowClaims.{certificate, claims_there, no_cell_leaks, shape}
 
--- ---- own ranges
+-- ---- the certificate of rows
 
-range_small : (digits : ℕ) (signed : Bool) → digits ≤ 18 → IsSmall (picture_range digits signed)
-range_small digits true h =
-    let m = ten_monotone digits 18 h in let n = ten_positive digits in
-    record { low = omega (arith, ints, m, n); high = omega (arith, ints, m, n) }
-range_small digits false h =
-    let m = ten_monotone digits 18 h in let n = ten_positive digits in
-    record { low = omega (arith, ints, m, n); high = omega (arith, ints, m, n) }
+module _ (p : Program) (g : Graph) (source : ∥ IsSourceGraph p g ∥₁) (ready : ArePacksReady p) (rows bounds : ℕ → List ℤ)
+    (found : AreFoundCells p g rows) (beside : AreFoundBounds p g rows bounds) where
+  abbrev c : Certificate
+  c = certificate p g (packs_of p) rows bounds
 
-ranges_small : (cells : List Cell) → AllByRecursion IsSmallCell cells → AllByRecursion IsSmall (map own_range cells)
-ranges_small [] h = tt
-ranges_small (c ∷ cells) (h, hs) = (range_small c.digits c.signed h.digits, ranges_small cells hs)
+  abbrev cells_flow : Flow
+  cells_flow = cell_flow p g
 
-module _ (p : Program) (g : Graph) (source : ∥ IsSourceGraph p g ∥₁) where
-  pub own_is : owns p ≡ map own_range (cells_of p)
-  own_is = ∥∥₁_elim source (hlevel props) (λ (s : IsSourceGraph p g). homes_have_own_ranges p s.whole)
-
-  pub thresholds_are : AreThresholds (owns p) (thresholds_of p)
-  thresholds_are = subst (λ (os : List Interval). AreThresholds os (thresholds_of p)) (sym own_is) (are_thresholds (program_literals p) (cells_of p))
-
-  thresholds_lie_in : ListsLieIn (owns p) (thresholds_of p)
-  thresholds_lie_in = subst (λ (os : List Interval). ListsLieIn os (thresholds_of p)) (sym own_is) (lists_lie_in (program_literals p) (cells_of p))
-
-  pub owns_small : AllByRecursion IsSmall (owns p)
-  owns_small =
-      subst (AllByRecursion IsSmall) (sym own_is)
-      (ranges_small (cells_of p)
-      (subst (AllByRecursion IsSmallCell) (cells_are p g source) (recursion_from_All IsSmallCell g.cells (graph_cells_small p g source))))
-
-  pub owns_count : length (owns p) ≡ length (cells_of p)
-  owns_count = ap length own_is ∙ length-map (cells_of p) own_range
-
--- ---- claims are allowed
-
-module _ (cells : ℕ) where
-  one_fits : (own i : Interval) (last cell : ℕ) → IsSmall own → own.low ≤ℤ i.low → i.low ≤ℤ i.high → i.high ≤ℤ own.high → last < cell →
-      cell ≤ cells → claim_fits cells last (claim cell i) ≡ true
-  one_fits own i last cell small l o h after within =
-      let a = small.low in
-      let b = small.high in
-      let x : nat_lt last cell ≡ true = grind (arith, nat_tests, after) in
-      let y : nat_le cell cells ≡ true = grind (arith, nat_tests, within) in
-      let z : int_le i.low i.high ≡ true = grind (arith, ints, o) in
-      let lows : unsigned_abs i.low < 10 ^ 18 = omega (arith, ints, a, b, l, o, h) in
-      let highs : unsigned_abs i.high < 10 ^ 18 = omega (arith, ints, a, b, l, o, h) in
-      let u : nat_lt (unsigned_abs i.low) (10 ^ 18) ≡ true = grind (arith, nat_tests, lows) in
-      let v : nat_lt (unsigned_abs i.high) (10 ^ 18) ≡ true = grind (arith, nat_tests, highs) in
-      joined (nat_lt last cell) (nat_le cell cells) (int_le i.low i.high) _ _ x y z u v
-    where
-      joined : (a b c d e : Bool) → a ≡ true → b ≡ true → c ≡ true → d ≡ true → e ≡ true → ((a && b) && (c && (d && e))) ≡ true
-      joined true true true true true p q r s t = refl
-      joined false b c d e p q r s t = absurd (cc p)
-      joined true false c d e p q r s t = absurd (cc q)
-      joined true true false d e p q r s t = absurd (cc r)
-      joined true true true false e p q r s t = absurd (cc s)
-      joined true true true true false p q r s t = absurd (cc t)
-
-  all_fit : (ranges : List Interval) (cs : List Known) (last cell : ℕ) → AllByRecursion IsSmall ranges → CellsFit ranges cs → last < cell →
-      cell + length cs ≤ suc cells → claims_fit cells last (claims_from cell cs) ≡ true
-  all_fit [] [] last cell small fits after within = refl
-  all_fit [] (c ∷ cs) last cell small fits after within = absurd fits
-  all_fit (own ∷ ranges) [] last cell small fits after within = absurd fits
-  all_fit (own ∷ ranges) (None ∷ cs) last cell (small, more) (fits, rest) after within =
-      all_fit ranges cs last (suc cell) more rest (omega (arith, after)) (omega (arith, within))
-  all_fit (own ∷ ranges) (Some i ∷ cs) last cell (small, more) ((l, o, h), rest) after within =
-      ap (λ b. b && claims_fit cells cell (claims_from (suc cell) cs)) (one_fits own i last cell small l o h after (omega (arith, within)))
-      ∙ all_fit ranges cs cell (suc cell) more rest (omega arith) (omega (arith, within))
-
-  place_allowed : (ranges : List Interval) (x : Element) → AllByRecursion IsSmall ranges → length ranges ≡ cells → ElementFits ranges x →
-      place_fits cells [] (place_for x) ≡ true
-  place_allowed ranges None small count fits = refl
-  place_allowed ranges (Some cs) small count fits =
-      let same = fits_length ranges cs fits in
-      ap (λ b. b && true) (all_fit ranges cs 0 1 small fits (omega arith) (omega (arith, same, count)))
-
-  places_allowed : (ranges : List Interval) (x : ℕ → Element) (first count : ℕ) → AllByRecursion IsSmall ranges → length ranges ≡ cells →
-      ((node : ℕ) → first ≤ node → node < first + count → ElementFits ranges (x node)) →
-      places_all_fit cells [] (map (λ node. place_for (x node)) (range_with_len first count)) ≡ true
-  places_allowed ranges x first zero small same fits = refl
-  places_allowed ranges x first (suc count) small same fits =
-      ap (λ b. b && places_all_fit cells [] (map (λ node. place_for (x node)) (range_with_len (first + 1) count)))
-      (place_allowed ranges (x first) small same (fits first (omega arith) (omega arith)))
-      ∙ places_allowed ranges x (first + 1) count small same (λ node l h. fits node (omega (arith, l)) (omega (arith, h)))
-
--- ---- rows that the edges keep can be claimed
-
-module _ (p : Program) (g : Graph) (source : ∥ IsSourceGraph p g ∥₁) (rows : ℕ → List ℤ)
-    (inductive : IsInductive (cells_lattice (owns p) (thresholds_of p)) (cell_flow p g) rows) where
-  pub row_can_be_claimed : (cells : ℕ) → cells ≡ length (cells_of p) → (node : ℕ) → 1 ≤ node → node ≤ length g.nodes → CanBeClaimed cells (rows node)
-  row_can_be_claimed cells e node l h =
-      let is = inductive.elements node (record { first = l; last = h }) in
-      let width = is.width in
-      let count = owns_count p g source in
-      record {
-        said = is_said (owns p) (thresholds_of p) (rows node) is;
-        width = omega (arith, width, count, e);
-        small = is_small (owns p) (thresholds_of p) (rows node) is (All-from_recursion IsSmall (owns p) (owns_small p g source));
-      }
-
--- ---- the certificate's rows
-
-module _ (p : Program) (g : Graph) (c : Certificate) (source : ∥ IsSourceGraph p g ∥₁) (rows : ℕ → List ℤ) (found : IsOfRows p g rows c) where
   abbrev lattice : Lattice
-  lattice = cells_lattice (owns p) (thresholds_of p)
+  lattice = pack_lattice p
 
   abbrev flow : Flow
-  flow = cell_flow p g
+  flow = pack_flow p g rows
 
-  abbrev elements : ℕ → Element
-  elements node = element_of (rows node)
+  abbrev pack_sizes : List ℕ
+  pack_sizes = matrices.sizes_of (packs_of p)
 
   laws : LayerLaws p g
   laws = layer_laws p g source
 
-  place_there : (node : ℕ) → IsNode flow node → place_at c node ≡ place_for (elements node)
-  place_there node is =
-      ap (λ (d : Certificate). place_at d node) found.is ∙ place_is (length g.nodes) elements node is.first is.last
+  -- ---- heads
 
-  row_there : (node : ℕ) → IsNode flow node → row_at p g c node ≡ rows node
-  row_there node is =
-      ap (claimed_row (owns p)) (place_there node is)
-      ∙ claimed_row_is (owns p) (rows node) (found.inductive.elements node is).formed
+  head_is_node : (head : ℕ) → IsHead flow head → IsNode flow head
+  head_is_node head (e, edge, back, at) =
+      subst (IsNode flow) at ((flows p g source ready rows (are_facts p g source ready rows bounds found beside)).target_node e edge)
 
-  first_node : IsNode flow 1
-  first_node = let some = (laws.flows (thresholds_of p)).has_node in record { first = omega arith; last = some }
+  head_of_cells : (head : ℕ) → IsHead flow head → IsHead cells_flow head
+  head_of_cells head (e, edge, back, at) = (e, record { first = edge.first; last = edge.last }, back, at)
 
-  pub rows_inductive : IsInductive lattice flow (row_at p g c)
-  rows_inductive = record {
-    elements = λ node is. claimed p g c (thresholds_of p) node;
-    entry = subst (lattice.Below flow.entry) (sym (row_there 1 first_node)) found.inductive.entry;
-    edges = λ e is.
-        let from = row_there (flow.source e) ((laws.flows (thresholds_of p)).source_node e is) in
-        let to = row_there (flow.target e) ((laws.flows (thresholds_of p)).target_node e is) in
-        subst (λ r. lattice.Below (flow.post e r) (row_at p g c (flow.target e))) (sym from)
-        (subst (lattice.Below (flow.post e (rows (flow.source e)))) (sym to) (found.inductive.edges e is));
-  }
+  -- ---- it is allowed
 
-  pub shape : HasShape p g c
-  shape = record {
-    cells = ap (λ (d : Certificate). d.cells) found.is;
-    nodes =
-        ap (λ (d : Certificate). length d.nodes) found.is
-        ∙ length-map (range_with_len 1 (length g.nodes)) (λ node. place_for (elements node)) ∙ length-range_with_len 1 (length g.nodes);
-  }
+  row_fits : (node : ℕ) → IsNode flow node → IsElement (packs_lattice pack_sizes (pack_lists p)) (bounds node)
+  row_fits node is =
+      subst (λ (ns : List ℕ). IsElement (packs_lattice ns (pack_lists p)) (bounds node)) (kept.sizes_are p g c) (beside.inductive.elements node is)
 
-  pub has_no_packs : c.packs ≡ []
-  has_no_packs = ap (λ (d : Certificate). d.packs) found.is
-
-  pub cells_leak_nowhere : cell_leaks p g c ≡ []
-  cells_leak_nowhere = no_leaks p g c (thresholds_of p) laws rows_inductive
-
-  pub is_accepted : Accepts p g c (open_pairs p g c)
-  is_accepted = record {
-    shape = shape;
-    inductive = no_other_leaks p g c has_no_packs cells_leak_nowhere;
-    pairs_are = refl;
-  }
-
-  pub is_allowed : length (cells_of p) ≤ 512 → length g.nodes ≤ 4096 → IsAllowed c
-  is_allowed few_cells few_nodes =
-      let count = shape.nodes in
-      let cells_are = shape.cells in
+  allowed : length (cells_of p) ≤ 512 → length g.nodes ≤ 4096 → IsAllowed c
+  allowed few_cells few_nodes =
+      let count = (shape p g (packs_of p) rows bounds source found.inductive).nodes in
       record {
-        cells = omega (arith, cells_are, few_cells);
+        cells = omega (arith, few_cells);
         nodes = omega (arith, count, few_nodes);
-        packs = subst (λ ps. length ps ≤ 32) (sym has_no_packs) (omega arith);
-        each_pack = subst (λ ps. IsTrue (packs_fit c.cells ps)) (sym has_no_packs) refl;
+        packs = ready.few;
+        each_pack = ready.fit;
         each_node =
-            subst (λ (d : Certificate). IsTrue (places_all_fit d.cells d.packs d.nodes)) (sym found.is)
-            (places_allowed (length (cells_of p)) (owns p) elements 1 (length g.nodes) (owns_small p g source) (owns_count p g source)
-            (λ node l h. (found.inductive.elements node (record { first = l; last = omega (arith, h) })).formed.fits));
+            places_allowed (length (cells_of p)) (packs_of p) pack_sizes (owns p) (owns_small p g source) (owns_count p g source)
+            (λ node. element_of (rows node)) bounds 1 (length g.nodes)
+            (λ node l h. (found.inductive.elements node (record { first = l; last = omega (arith, h) })).formed.fits)
+            (λ node l h.
+            bounds_are_fit (packs_of p) (pack_lists p) (bounds node) (lists_are p g source ready)
+            (row_fits node (record { first = l; last = omega (arith, h) })));
       }
+
+  -- ---- it is accepted
+
+  accepted : IsAllowed c → Accepts p g c (open_pairs p g c)
+  accepted fits =
+      let its_shape = shape p g (packs_of p) rows bounds source found.inductive in
+      let none = no_cell_leaks p g (packs_of p) rows bounds source found.inductive in
+      let no_more : pack_leaks p g c ≡ [] =
+      kept.no_pack_leaks p g c source its_shape fits (pack_lists p) (lists_are p g source ready)
+      (bounds_inductive p g source ready rows bounds found beside) in
+      record { shape = its_shape; inductive = λ i. none i ++ no_more i; pairs_are = refl }
 
   -- ---- nothing is missed
 
-  module _ (dominated : IsDominated (cells_lattice (owns p) (thresholds_of p)) (cell_flow p g) rows) (x : Certificate)
-      (assigns : IsThresholdAssignment p g x) where
-    heads_listed : (node : ℕ) → IsHead flow node → IsListedElement (thresholds_of p) (element_of (row_at p g x node))
+  module _ (x : Certificate) (assigns : IsThresholdAssignment p g x) where
+    abbrev cells_order : Lattice
+    cells_order = cells_lattice (owns p) (thresholds_of p)
+
+    heads_listed : (node : ℕ) → IsHead cells_flow node → IsListedElement (thresholds_of p) (element_of (row_at p g x node))
     heads_listed node is =
         subst (IsListedElement (thresholds_of p)) (sym (claimed_back p g x (thresholds_of p) node))
         (claimed_listed (owns p) (thresholds_of p) (written_at p g x node) (thresholds_lie_in p g source) (assigns.heads node is))
 
-    lies_below : (node : ℕ) → IsNode flow node → lattice.Below (rows node) (row_at p g x node)
+    lies_below : (node : ℕ) → IsNode cells_flow node → cells_order.Below (rows node) (row_at p g x node)
     lies_below node is =
-        dominated (row_at p g x)
+        found.dominated (row_at p g x)
         (kept_where_no_leaks p g x (thresholds_of p) laws assigns.inductive)
-        (heads_are_fixed (owns p) (thresholds_of p) (thresholds_are p g source) flow (row_at p g x) heads_listed) node is
+        (cells.heads_are_fixed (owns p) (thresholds_of p) (thresholds_are p g source) cells_flow (row_at p g x) heads_listed) node is
 
-    clears_there : (node : ℕ) (fault : Kind) → IsNode flow node → clears_at p g node (claims_at p g x node) fault ≡ true →
-        clears_at p g node (claims_at p g c node) fault ≡ true
-    clears_there node fault is e =
-        subst (λ y. clears_at p g node y fault ≡ true) (claimed_back p g c (thresholds_of p) node)
-        (subst (λ (r : List ℤ). clears_at p g node (element_of r) fault ≡ true) (sym (row_there node is))
+    cells_clear_there : (node : ℕ) (fault : Kind) → IsNode cells_flow node → cells_clear p g x node fault ≡ true → cells_clear p g c node fault ≡ true
+    cells_clear_there node fault is e =
+        subst (λ (y : Element). clears_at p g node y fault ≡ true) (claims_there p g (packs_of p) rows bounds source found.inductive node is)
         ((laws.means (thresholds_of p)).clears_below node (rows node) (row_at p g x node) fault is
         (found.inductive.elements node is) (claimed p g x (thresholds_of p) node) (lies_below node is)
-        (subst (λ y. clears_at p g node y fault ≡ true) (sym (claimed_back p g x (thresholds_of p) node)) e)))
+        (subst (λ (y : Element). clears_at p g node y fault ≡ true) (sym (claimed_back p g x (thresholds_of p) node)) e))
 
-    or_clears : (other a b : Bool) → (a ≡ true → b ≡ true) → (not other || a) ≡ true → (not other || b) ≡ true
-    or_clears true a b h e = h e
-    or_clears false a b h e = refl
+    -- what the first layer clears both clear
+    claims_clear_there : (node : ℕ) (fault : Kind) → IsNode cells_flow node → cells_clear p g x node fault ≡ true → claims_clear p g c node fault ≡ true
+    claims_clear_there node fault is e = by_packs (packs_of p)
+      where
+        by_packs : (ps : List (List ℕ)) → clears_with p g c ps node fault ≡ true
+        by_packs [] = cells_clear_there node fault is e
+        by_packs (pack ∷ ps) =
+            both_clear_too p g (packs_for p) node (claims_at p g c node) (bounds_at p g c node) fault (cells_clear_there node fault is e)
 
-    -- without packs the claims of cells are all
-    claims_there : (node : ℕ) (fault : Kind) → cells_clear p g c node fault ≡ true → claims_clear p g c node fault ≡ true
-    claims_there node fault e = subst (λ (ps : List (List ℕ)). clears_with p g c ps node fault ≡ true) (sym has_no_packs) e
+    -- ---- with packs
 
-    node_cleared : (statement : ℕ) (fault : Kind) (node : ℕ) → IsNode flow node → node_clears_by g (cells_clear p g x) statement fault node ≡ true →
-        node_clears_by g (claims_clear p g c) statement fault node ≡ true
-    node_cleared statement fault node is =
-        or_clears (statement_at g node == statement) (cells_clear p g x node fault) (claims_clear p g c node fault)
-        (λ e. claims_there node fault (clears_there node fault is e))
+    are_below : AreBelow g rows (row_at p g x)
+    are_below node first last = lies_below node (record { first = first; last = last })
 
-    all_cleared : (statement : ℕ) (fault : Kind) (first count : ℕ) → 1 ≤ first → first + count ≤ suc (length g.nodes) →
-        list_all (node_clears_by g (cells_clear p g x) statement fault) (range_with_len first count) ≡ true →
-        list_all (node_clears_by g (claims_clear p g c) statement fault) (range_with_len first count) ≡ true
-    all_cleared statement fault first zero l h e = refl
-    all_cleared statement fault first (suc count) l h e =
-        let parts = and_parts (node_clears_by g (cells_clear p g x) statement fault first) (list_all (node_clears_by g (cells_clear p g x) statement fault) (range_with_len (first + 1) count)) e in
-        ap (λ b. b && list_all (node_clears_by g (claims_clear p g c) statement fault) (range_with_len (first + 1) count))
-        (node_cleared statement fault first (record { first = l; last = omega (arith, h) }) parts.0)
-        ∙ all_cleared statement fault (first + 1) count (omega (arith, l)) (omega (arith, h)) parts.1
+    module _ (others : ℕ → List ℤ) (pack_assigns : IsPackAssignment p g x others) where
+      others_element : (node : ℕ) → IsNode flow node → IsElement lattice (others node)
+      others_element node is = pack_assigns.inductive.elements node (record { first = is.first; last = is.last })
 
-    cleared_too : (statement : ℕ) (fault : Kind) → is_cleared_in p g x statement fault ≡ true → is_cleared p g c statement fault ≡ true
-    cleared_too statement fault e = all_cleared statement fault 1 (length g.nodes) (omega arith) (omega arith) e
+      -- the edges keep them beside what is found of cells
+      others_inductive : IsInductive lattice flow others
+      others_inductive = record {
+        elements = others_element;
+        entry = pack_assigns.inductive.entry;
+        edges = λ e is.
+            let its_facts = are_facts p g source ready rows bounds found beside in
+            let its_flow = flows p g source ready rows its_facts in
+            let over = flows p g source ready (row_at p g x) (kept.are_facts p g x) in
+            let from = others_element (flow.source e) (its_flow.source_node e is) in
+            let to = others_element (flow.target e) (its_flow.target_node e is) in
+            (is_lattice p g source ready).transitive (flow.post e (others (flow.source e)))
+            ((pack_flow p g (row_at p g x)).post e (others (flow.source e))) (others (flow.target e))
+            (its_flow.post_element e (others (flow.source e)) is from)
+            (over.post_element e (others (flow.source e)) (record { first = is.first; last = is.last }) from) to
+            (posts_fall p g (packs_for p) (pack_lists p) rows (row_at p g x) source (are_packs p g source ready) its_facts (kept.are_facts p g x)
+            are_below e (others (flow.source e)) (others (flow.source e)) is from from
+            ((is_lattice p g source ready).reflexive (others (flow.source e)) from))
+            (pack_assigns.inductive.edges e (record { first = is.first; last = is.last }));
+      }
+
+      bounds_below : (node : ℕ) → IsNode flow node → lattice.Below (bounds node) (others node)
+      bounds_below node is =
+          beside.dominated others others_inductive
+          (packs.heads_are_fixed (sizes_of (packs_for p)) (pack_lists p) ready.ends flow others
+          (λ head is_head. others_element head (head_is_node head is_head)) (λ head is_head. pack_assigns.heads head (head_of_cells head is_head)))
+          node is
+
+      together_clear : (node : ℕ) (fault : Kind) → IsNode flow node →
+          clears_at2 p g (packs_for p) node (claims_at p g x node) (matrices_in (sizes_of (packs_for p)) (others node)) fault ≡ true →
+          clears_at2 p g (packs_for p) node (claims_at p g c node) (bounds_at p g c node) fault ≡ true
+      together_clear node fault is e =
+          let ps = packs_for p in
+          let its = shown_element p g source ready rows bounds found beside node is in
+          let below = (is_lattice p g source ready).transitive (shown p g source ready rows bounds found beside node) (bounds node) (others node) its
+          (beside.inductive.elements node is) (others_element node is) (shown_below p g source ready rows bounds found beside node is)
+          (bounds_below node is) in
+          let cells_there = claims_there p g (packs_of p) rows bounds source found.inductive node (record { first = is.first; last = is.last }) in
+          let bounds_are = ap (matrices_in (sizes_of ps)) (sym (bounds_there p g source ready rows bounds found beside node is)) ∙ kept.matrices_are p g c node in
+          let cleared = cleared_stays p g ps (pack_lists p) rows (row_at p g x) (are_packs p g source ready)
+          (are_facts p g source ready rows bounds found beside) (kept.are_facts p g x) are_below node
+          (shown p g source ready rows bounds found beside node) (others node) fault is its (others_element node is) below
+          (subst (λ (y : Element). clears_at2 p g ps node y (matrices_in (sizes_of ps) (others node)) fault ≡ true)
+          (sym (claimed_back p g x (thresholds_of p) node)) e) in
+          sym (λ i. clears_at2 p g ps node (cells_there i) (bounds_are i) fault) ∙ cleared
+
+      both_there : (node : ℕ) (fault : Kind) → IsNode cells_flow node → both_clear p g (packs_of p) x others node fault ≡ true →
+          claims_clear p g c node fault ≡ true
+      both_there node fault is e = by_packs (packs_of p) e
+        where
+          by_packs : (ps : List (List ℕ)) → both_clear p g ps x others node fault ≡ true → clears_with p g c ps node fault ≡ true
+          by_packs [] f = cells_clear_there node fault is f
+          by_packs (pack ∷ ps) f = together_clear node fault (record { first = is.first; last = is.last }) f
+
+-- ---- what is cleared at each node of a statement
+
+module _ (g : Graph) (some more : ℕ → Kind → Bool) (fault : Kind)
+    (rises : (node : ℕ) → 1 ≤ node → node ≤ length g.nodes → some node fault ≡ true → more node fault ≡ true) where
+  or_clears : (other a b : Bool) → (a ≡ true → b ≡ true) → (not other || a) ≡ true → (not other || b) ≡ true
+  or_clears true a b h e = h e
+  or_clears false a b h e = refl
+
+  all_cleared : (statement first count : ℕ) → 1 ≤ first → first + count ≤ suc (length g.nodes) →
+      list_all (node_clears_by g some statement fault) (range_with_len first count) ≡ true →
+      list_all (node_clears_by g more statement fault) (range_with_len first count) ≡ true
+  all_cleared statement first zero l h e = refl
+  all_cleared statement first (suc count) l h e =
+      let parts = and_parts (node_clears_by g some statement fault first) (list_all (node_clears_by g some statement fault) (range_with_len (first + 1) count)) e in
+      ap (λ b. b && list_all (node_clears_by g more statement fault) (range_with_len (first + 1) count))
+      (or_clears (statement_at g first == statement) (some first fault) (more first fault) (rises first l (omega (arith, h))) parts.0)
+      ∙ all_cleared statement (first + 1) count (omega (arith, l)) (omega (arith, h)) parts.1
+
+  cleared_too : (statement : ℕ) → is_cleared_by g some statement fault ≡ true → is_cleared_by g more statement fault ≡ true
+  cleared_too statement e = all_cleared statement 1 (length g.nodes) (omega arith) (omega arith) e
 
 -- ---- open pairs aren't cleared
 
@@ -301,6 +256,41 @@ module _ (p : Program) (g : Graph) (c : Certificate) where
       ap (λ s. is_cleared p g c s fault) (sym same.0) ∙ ap (is_cleared p g c there.0) (sym same.1) ∙ one.0 in
       cc (sym e ∙ open_)
 
-pub misses_nothing : (p : Program) (g : Graph) (c : Certificate) → ∥ IsSourceGraph p g ∥₁ → IsFound p g c → MissesNothing p g c
-misses_nothing p g c source found x assigns statement fault e there =
-    open_is_not_cleared p g c statement fault there (cleared_too p g c source found.rows found.of_rows found.dominated x assigns statement fault e)
+-- ---- what is found
+
+module _ (p : Program) (g : Graph) (c : Certificate) (source : ∥ IsSourceGraph p g ∥₁) (found : IsFound p g c) where
+  abbrev its : Certificate
+  its = certificate p g (packs_of p) found.rows found.bounds
+
+  pub is_allowed : length (cells_of p) ≤ 512 → length g.nodes ≤ 4096 → IsAllowed c
+  is_allowed few_cells few_nodes =
+      subst IsAllowed (sym found.is)
+      (allowed p g source found.ready found.rows found.bounds found.cells_found found.bounds_found few_cells few_nodes)
+
+  pub is_accepted : IsAllowed c → Accepts p g c (open_pairs p g c)
+  is_accepted fits =
+      subst (λ (d : Certificate). Accepts p g d (open_pairs p g d)) (sym found.is)
+      (accepted p g source found.ready found.rows found.bounds found.cells_found found.bounds_found (subst IsAllowed found.is fits))
+
+  pub has_packs : c.packs ≡ packs_of p
+  has_packs = ap (λ (d : Certificate). d.packs) found.is
+
+  pub misses_nothing : MissesNothing p g c
+  misses_nothing x assigns statement fault e there =
+      open_is_not_cleared p g its statement fault
+      (subst (λ (d : Certificate). Contains (open_pairs p g d) (open_at statement fault)) found.is there)
+      (cleared_too g (cells_clear p g x) (claims_clear p g its) fault
+      (λ node l h f.
+      claims_clear_there p g source found.ready found.rows found.bounds found.cells_found found.bounds_found x assigns node fault
+      (record { first = l; last = h }) f)
+      statement e)
+
+  pub misses_nothing_together : MissesNothingTogether p g c
+  misses_nothing_together x others assigns pack_assigns statement fault e there =
+      open_is_not_cleared p g its statement fault
+      (subst (λ (d : Certificate). Contains (open_pairs p g d) (open_at statement fault)) found.is there)
+      (cleared_too g (both_clear p g (packs_of p) x others) (claims_clear p g its) fault
+      (λ node l h f.
+      both_there p g source found.ready found.rows found.bounds found.cells_found found.bounds_found x assigns others pack_assigns node fault
+      (record { first = l; last = h }) f)
+      statement e)

@@ -1,24 +1,28 @@
--- Assignments of what is known of cells to the nodes of a program's graph, whose heads have thresholds as ends.
-use Rattle.std.specs.Prelude.{◌≡◌, ◌+◌, ◌*◌, ℕ, Bool, true, List, [], ◌∷◌, length, None, Some, ℤ}
+-- Assignments of what is known of cells, and of differences, to the nodes of a program's graph, whose heads have thresholds
+-- as ends and words.
+use Rattle.std.specs.Prelude.{◌≡◌, ◌⊎◌, ◌+◌, ◌*◌, ◌/◌, ◌%◌, ◌<◌, ℕ, Bool, true, List, [], ◌∷◌, length, slice_index_or, None, Some, ℤ, pos}
 use Rattle.std.specs.List.{Contains}
 use Rattle.cob_tree.specs.declared.fault.Kind.{Kind}
 use Rattle.cob_program.specs.Act.{Program}
 use Rattle.cob_graph.specs.declared.graph.Graph.{Graph}
-use Rattle.cob_graph.specs.Graphs.{cells_of}
 use Rattle.decimal_interval.specs.Thresholds.{IsListed}
-use Rattle.dom_laws.specs.Flow.{IsHead, IsInductive, IsDominated, head_count}
+use Rattle.dom_laws.specs.Flow.{IsHead, IsInductive, head_count}
 use Rattle.cell_rows.specs.Known.{Known}
 use Rattle.cell_rows.specs.Elements.{Element, height_of}
-use Rattle.cell_rows.specs.Rows.{cells_lattice, element_of}
 use Rattle.cert_text.specs.View.{Certificate}
 use Rattle.claimed_rows.specs.Claims.{place_at, written_element}
 use Rattle.cell_steps.specs.Homes.{owns}
 use Rattle.cell_laws.specs.Layer.{cell_flow}
+use Rattle.diff_bounds.specs.Matrix.{none}
+use Rattle.diff_bounds.specs.Widening as words
+use Rattle.pack_rows.specs.Rows.{matrices_in, packs_lattice}
+use Rattle.pack_laws.specs.Layer.{sizes_of, clears_at2}
+use Rattle.pack_choice.specs.Choice.{packs_of}
 use Rattle.cert_check.specs.OpenPairs.{open_at, is_cleared_by}
-use Rattle.cert_check.specs.Claims.{cell_leaks, cells_clear, open_pairs}
+use Rattle.cert_check.specs.Claims.{cell_leaks, cells_clear, claims_at, open_pairs, row_at}
 use Rattle.cert_check.specs.Checking.{HasShape}
 use Rattle.analyse_core.specs.Thresholds.{thresholds_of}
-use Rattle.analyse_core.specs.Certificates.{certificate_for}
+use Rattle.analyse_core.specs.Packs.{packs_for, pack_lists, pack_lattice, pack_flow}
 
 -- ---- thresholds as ends
 
@@ -36,7 +40,25 @@ abbrev pub IsListedElement : List (List ℤ) → Element → Type 0
 IsListedElement lists None = Unit {0}
 IsListedElement lists (Some cs) = AreListed lists cs
 
--- ---- assignments, as certificates
+-- ---- thresholds as words
+
+abbrev pub IsListedWord : List ℤ → ℤ → Type 0
+IsListedWord ts x = (x ≡ none) ⊎ words.IsListed ts x
+
+-- off the diagonal
+pub record HasListedWords (size : ℕ) (ts m : List ℤ) : Type 0 where
+  pub each : (k : ℕ) → k < length m → ¬ (k / (size + 1) ≡ k % (size + 1)) → IsListedWord ts (slice_index_or m k (pos 0))
+
+abbrev pub HaveListedWords : List ℕ → List (List ℤ) → List (List ℤ) → Type 0
+HaveListedWords [] lists ms = Unit {0}
+HaveListedWords (n ∷ ns) (ts ∷ lists) (m ∷ ms) = HasListedWords n ts m × HaveListedWords ns lists ms
+HaveListedWords _ _ _ = ⊥
+
+-- it is the row that no run comes to, or all its words are thresholds or none
+abbrev pub IsListedRow : List ℕ → List (List ℤ) → List ℤ → Type 0
+IsListedRow sizes lists row = (row ≡ (packs_lattice sizes lists).least) ⊎ HaveListedWords sizes lists (matrices_in sizes row)
+
+-- ---- assignments
 
 module _ (p : Program) (g : Graph) where
   -- what is claimed of a node, as it is written
@@ -49,6 +71,14 @@ module _ (p : Program) (g : Graph) where
     pub inductive : cell_leaks p g x ≡ []
     pub heads : (node : ℕ) → IsHead (cell_flow p g) node → IsListedElement (thresholds_of p) (written_at x node)
 
+  -- Rows of matrices for the program's packs that the edges keep beside what x claims of cells. An edge goes back to no
+  -- node but where all words are thresholds or none.
+  pub record IsPackAssignment (x : Certificate) (rows : ℕ → List ℤ) : Type 0 where
+    pub inductive : IsInductive (pack_lattice p) (pack_flow p g (row_at p g x)) rows
+    pub heads : (node : ℕ) → IsHead (cell_flow p g) node → IsListedRow (sizes_of (packs_for p)) (pack_lists p) (rows node)
+
+  -- ---- what is cleared
+
   -- what it claims of cells shows at each node of the statement that there is no such fault
   abbrev pub is_cleared_in : Certificate → ℕ → Kind → Bool
   is_cleared_in x statement fault = is_cleared_by g (cells_clear p g x) statement fault
@@ -59,21 +89,31 @@ module _ (p : Program) (g : Graph) where
       (x : Certificate) → IsThresholdAssignment x → (statement : ℕ) (fault : Kind) → is_cleared_in x statement fault ≡ true
       → ¬ Contains (open_pairs p g c) (open_at statement fault)
 
-  -- ---- what the analysis finds
+  -- what both show together; without packs there is no second layer
+  abbrev pub both_clear : List (List ℕ) → Certificate → (ℕ → List ℤ) → ℕ → Kind → Bool
+  both_clear [] x rows node fault = cells_clear p g x node fault
+  both_clear (pack ∷ packs) x rows node fault =
+      clears_at2 p g (packs_for p) node (claims_at p g x node) (matrices_in (sizes_of (packs_for p)) (rows node)) fault
 
-  -- the certificate of rows that the edges keep
-  pub record IsOfRows (rows : ℕ → List ℤ) (c : Certificate) : Type 0 where
-    pub inductive : IsInductive (cells_lattice (owns p) (thresholds_of p)) (cell_flow p g) rows
-    pub is : c ≡ certificate_for (length (cells_of p)) (length g.nodes) (λ node. element_of (rows node))
+  abbrev pub is_cleared_by_both : Certificate → (ℕ → List ℤ) → ℕ → Kind → Bool
+  is_cleared_by_both x rows statement fault = is_cleared_by g (both_clear (packs_of p) x rows) statement fault
 
-  -- and that lie below all rows that the edges keep and widening leaves at the heads
-  pub record IsFound (c : Certificate) : Type 0 where
-    pub rows : ℕ → List ℤ
-    pub of_rows : IsOfRows rows c
-    pub dominated : IsDominated (cells_lattice (owns p) (thresholds_of p)) (cell_flow p g) rows
+  -- What some such assignments of both layers together clear at every node of a statement isn't open.
+  abbrev pub MissesNothingTogether : Certificate → Type 0
+  MissesNothingTogether c =
+      (x : Certificate) (rows : ℕ → List ℤ) → IsThresholdAssignment x → IsPackAssignment x rows → (statement : ℕ) (fault : Kind)
+      → is_cleared_by_both x rows statement fault ≡ true → ¬ Contains (open_pairs p g c) (open_at statement fault)
 
   -- ---- steps
 
   -- once over all edges, and once more for each time that a head can grow, and once to see that none does
+  abbrev pub layer_steps : ℕ → ℕ
+  layer_steps height = length g.edges * (head_count (cell_flow p g) * height + 2)
+
+  -- of the second layer
+  abbrev pub pack_steps : List (List ℕ) → ℕ
+  pack_steps [] = 0
+  pack_steps (pack ∷ packs) = layer_steps (pack_lattice p).height
+
   abbrev pub most_steps : ℕ
-  most_steps = length g.edges * (head_count (cell_flow p g) * height_of (thresholds_of p) + 2)
+  most_steps = layer_steps (height_of (thresholds_of p)) + pack_steps (packs_of p)

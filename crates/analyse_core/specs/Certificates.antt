@@ -1,4 +1,5 @@
--- The certificate of what is known of cells at each node: a claim for each cell that is known.
+-- The certificate of what is known of cells and of packs at each node: a claim for each cell that is known, and a bound for
+-- each word of a matrix that is a number.
 use Rattle.std.specs.Prelude.{◌≡◌, ◌+◌, ◌*◌, ℕ, suc, List, [], ◌∷◌, ◌++◌, map, length, Some, None, IfSome, ℤ}
 use Rattle.std.specs.List.{range_with_len}
 use Rattle.decimal_interval.specs.declared.bounds.Interval.{Interval}
@@ -8,6 +9,8 @@ use Rattle.cell_rows.specs.Rows.{IsSaid, element_of}
 use Rattle.cert_text.specs.declared.cert.Claim.{Claim}
 use Rattle.cert_text.specs.View.{Place, NotReached, Holds, Certificate}
 use Rattle.claimed_rows.specs.Gaps.{AreSmall}
+use Rattle.claimed_matrices.specs.Claims.{sizes_of}
+use Rattle.row_bounds.specs.Bounds.{row_bounds}
 
 abbrev pub claim : ℕ → Interval → Claim
 claim cell i = record { cell = cell; low = i.low; high = i.high }
@@ -22,16 +25,17 @@ abbrev pub claims_from : ℕ → List Known → List Claim
 claims_from cell [] = []
 claims_from cell (c ∷ cs) = known_claims cell c ++ claims_from (suc cell) cs
 
-abbrev pub place_for : Element → Place
-place_for None = NotReached
-place_for (Some cs) = Holds (claims_from 1 cs) []
+-- with a row of matrices for packs of these sizes; where no cells are reached, no differences are
+abbrev pub place_for : List ℕ → Element → List ℤ → Place
+place_for sizes None row = NotReached
+place_for sizes (Some cs) row = Holds (claims_from 1 cs) (row_bounds sizes row)
 
-abbrev pub places_for : ℕ → (ℕ → Element) → List Place
-places_for nodes x = map (λ node. place_for (x node)) (range_with_len 1 nodes)
+abbrev pub places_for : List ℕ → ℕ → (ℕ → Element) → (ℕ → List ℤ) → List Place
+places_for sizes nodes x bounds = map (λ node. place_for sizes (x node) (bounds node)) (range_with_len 1 nodes)
 
 -- of so many cells and nodes
-abbrev pub certificate_for : ℕ → ℕ → (ℕ → Element) → Certificate
-certificate_for cells nodes x = record { cells = cells; packs = []; nodes = places_for nodes x }
+abbrev pub certificate_for : ℕ → List (List ℕ) → ℕ → (ℕ → Element) → (ℕ → List ℤ) → Certificate
+certificate_for cells packs nodes x bounds = record { cells = cells; packs = packs; nodes = places_for (sizes_of packs) nodes x bounds }
 
 -- a row of so many cells, with ends of at most 18 digits
 pub record CanBeClaimed (cells : ℕ) (row : List ℤ) : Type 0 where

@@ -42,7 +42,7 @@ module _ (p : Program) (g : Graph) where
   plain_at node = known_of (plain_to (length g.nodes)) node
 
   abbrev pub plain_certificate : Certificate
-  plain_certificate = certificate_for (length (cells_of p)) (length g.nodes) plain_at
+  plain_certificate = certificate_for (length (cells_of p)) [] (length g.nodes) plain_at (λ node. [])
 
   -- each edge leads to a later node
   abbrev pub GoesOn : Type 0

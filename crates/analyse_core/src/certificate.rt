@@ -1,8 +1,11 @@
 //! The certificate of solved rows.
 ghost use Rattle.std.specs.Prelude.{◌≡◌, ◌≤◌, ◌<◌, ◌-◌, ◌^◌, ◌++◌, ℕ, map, length, IfOk, OnOk, IfSome, unsigned_abs};
+ghost use Rattle.std.specs.List.{AllByRecursion};
 ghost use Rattle.cell_rows.specs.Rows.{IsReached, cells_of, element_of};
 ghost use Rattle.cert_text.specs.View.{place_of, view};
 ghost use Rattle.claimed_rows.specs.Gaps.{AreSmall, IsSmall};
+ghost use Rattle.claimed_matrices.specs.Claims.{cells_in, sizes_of};
+ghost use Rattle.pack_rows.specs.Rows.{width_of};
 ghost use Rattle.analyse_core.specs.Certificates.{
   CanBeClaimed,
   certificate_for,
@@ -15,7 +18,9 @@ ghost use Rattle.analyse_core.specs.Certificates.{
 use cell_rows::{is_reached, known_at};
 use cert_text::{Cert, Claim, Element};
 use decimal_interval::Interval;
+use diff_bounds::Pack;
 use dom_laws::Rows;
+use row_bounds::bounds_of;
 use std::alloc::{AllocError, Global};
 
 // An end has at most 18 digits.
@@ -56,58 +61,87 @@ fn claims_of(alloc: Global, row: &[i128], cells: usize) -> Result<Vec<Claim>, Al
     Ok(claims)
 }
 
-// What a row claims of its node.
-fn element_of(alloc: Global, row: &[i128], cells: usize) -> Result<Element, AllocError>
+// What a row, and a row of matrices beside it, claim of their node.
+fn element_of(
+    alloc: Global,
+    packs: &[Pack],
+    row: &[i128],
+    bounds: &[i128],
+    cells: usize,
+) -> Result<Element, AllocError>
+    requires few { length packs.now ≤ 32 }
+    requires small { AllByRecursion (λ n. n ≤ 8) (sizes_of (cells_in packs.now)) }
     requires row { CanBeClaimed cells row.now }
     requires count { cells < 2 ^ 32 - 1 }
-    ensures { IfOk result (λ element. place_of element ≡ place_for (element_of row.now)) }
+    requires width { length bounds.now ≡ width_of (sizes_of (cells_in packs.now)) }
+    ensures { IfOk result (λ element. place_of element ≡ place_for (sizes_of (cells_in packs.now)) (element_of row.now) bounds.now) }
 {
     if !is_reached(row) {
         return Ok(Element::Unreached);
     }
     Ok(Element::At {
         cells: claims_of(alloc, row, cells)?,
-        bounds: Vec::new(alloc),
+        bounds: bounds_of(alloc, packs, bounds)?,
     })
 }
 
 // What the rows of so many nodes claim.
 #[tactic(auto, using(crate::proofs::Claiming::places_more))]
-fn elements_of<R: Rows>(
+fn elements_of<R: Rows, B: Rows>(
     alloc: Global,
+    packs: &[Pack],
     rows: &R,
+    bounds: &B,
     nodes: u32,
     cells: usize,
 ) -> Result<Vec<Element>, AllocError>
+    requires few { length packs.now ≤ 32 }
+    requires small { AllByRecursion (λ n. n ≤ 8) (sizes_of (cells_in packs.now)) }
     requires nodes { R.count rows.now ≡ nodes }
+    requires both { B.count bounds.now ≡ nodes }
     requires rows { (node : ℕ) → 1 ≤ node → node ≤ nodes → CanBeClaimed cells (R.row_at rows.now node) }
+    requires widths { (node : ℕ) → 1 ≤ node → node ≤ nodes → length (B.row_at bounds.now node) ≡ width_of (sizes_of (cells_in packs.now)) }
     requires count { cells < 2 ^ 32 - 1 }
     ensures { IfOk result (λ elements. map place_of elements.items
-        ≡ places_for nodes (λ node. element_of (R.row_at rows.now node))) }
+        ≡ places_for (sizes_of (cells_in packs.now)) nodes (λ node. element_of (R.row_at rows.now node)) (B.row_at bounds.now)) }
 {
     let mut elements = Vec::with_capacity(alloc, nodes as usize)?;
     for node in 0..nodes {
-        elements.push(element_of(alloc, rows.row(node + 1), cells)?)?;
+        let element = element_of(
+            alloc,
+            packs,
+            rows.row(node + 1),
+            bounds.row(node + 1),
+            cells,
+        )?;
+        elements.push(element)?;
     }
     Ok(elements)
 }
 
-/// The certificate of rows of so many cells.
-pub fn certificate_of<R: Rows>(
+/// The certificate of rows of so many cells, and of rows of matrices for these packs, one of each for each node.
+pub fn certificate_of<R: Rows, B: Rows>(
     alloc: Global,
+    packs: Vec<Pack>,
     rows: &R,
+    bounds: &B,
     nodes: u32,
     cells: u32,
 ) -> Result<Cert, AllocError>
+    requires few { length packs.items ≤ 32 }
+    requires small { AllByRecursion (λ n. n ≤ 8) (sizes_of (cells_in packs.items)) }
     requires nodes { R.count rows.now ≡ nodes }
+    requires both { B.count bounds.now ≡ nodes }
     requires rows { (node : ℕ) → 1 ≤ node → node ≤ nodes → CanBeClaimed cells (R.row_at rows.now node) }
+    requires widths { (node : ℕ) → 1 ≤ node → node ≤ nodes → length (B.row_at bounds.now node) ≡ width_of (sizes_of (cells_in packs.items)) }
     requires count { cells < 2 ^ 32 - 1 }
     ensures { IfOk result (λ cert. view cert
-        ≡ certificate_for cells nodes (λ node. element_of (R.row_at rows.now node))) }
+        ≡ certificate_for cells (cells_in packs.items) nodes (λ node. element_of (R.row_at rows.now node)) (B.row_at bounds.now)) }
 {
+    let elements = elements_of(alloc, packs.as_slice(), rows, bounds, nodes, cells as usize)?;
     Ok(Cert {
         cells,
-        packs: Vec::new(alloc),
-        nodes: elements_of(alloc, rows, nodes, cells as usize)?,
+        packs,
+        nodes: elements,
     })
 }

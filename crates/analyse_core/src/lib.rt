@@ -1,5 +1,5 @@
-//! The analysis of a program: thresholds by its literals, the solver over the first layer, and the certificate of what it
-//! finds (Cousot and Cousot 1977).
+//! The analysis of a program: thresholds by its literals, the solver over both layers, and the certificate of what they
+//! find (Cousot and Cousot 1977, Miné 2001).
 #![tactic(auto)]
 
 mod analysis;
@@ -9,6 +9,7 @@ mod laws;
 mod listing;
 mod literals;
 mod program;
+mod solving;
 mod statements;
 mod sums;
 

@@ -12,6 +12,7 @@ use Rattle.cob_graph.specs.declared.graph.Graph.{Graph}
 use Rattle.cob_graph.specs.Graphs.{OneGraph, cells_of}
 use Rattle.cert_text.specs.Allowed.{IsAllowed}
 use Rattle.cert_text.specs.Lengths.{most_bounds, most_bytes}
+use Rattle.analyse_command.specs.Choice.{packs_of}
 use Rattle.cert_text.specs.Text.{spelling}
 use Rattle.cert_text.specs.View.{Certificate}
 use Rattle.cob_front.specs.Laws.{OneAnswer}
@@ -237,8 +238,11 @@ module _ (sound : CheckingIsSound) (one_reading : OneReading) (call : Call) (con
 
   module _ (law : (bytes : List ℕ) → OneAnswer bytes) (graphs : OneGraph) where
     nothing_open : (a : Analysis) → IsFound a → CanBeClean a.program a.graph → (x : Open) → Contains (pairs_of a) x → ⊥
-    nothing_open a found can x there =
-        found.misses_nothing can.assignment can.assigns x.statement x.kind (can.clears x.statement x.kind) there
+    nothing_open a found (inl cells) x there =
+        found.misses_nothing cells.assignment cells.assigns x.statement x.kind (cells.clears x.statement x.kind) there
+    nothing_open a found (inr both) x there =
+        found.misses_nothing_together both.assignment both.rows both.assigns both.pack_assigns x.statement x.kind
+        (both.clears x.statement x.kind) there
 
     none_open : (pairs : List Open) → ((x : Open) → Contains pairs x → ⊥) → pairs ≡ []
     none_open [] h = refl
@@ -276,9 +280,6 @@ module _ (sound : CheckingIsSound) (one_reading : OneReading) (call : Call) (con
 
 -- ---- long texts
 
-without_packs : (cells : ℕ) → 10 + 46 * cells + 49 * 0 ≡ 10 + 46 * cells
-without_packs cells = omega arith
-
 module _ (short : (c : Certificate) → IsAllowed c → c.cells < 1000 → length c.nodes < 10000
     → length (spelling c) ≤ most_bytes c) where
   long_is_large : (call : Call) (bytes : List ℕ) (a : Analysis) → IsProgramOf bytes a.program a.graph → IsFound a
@@ -289,11 +290,11 @@ module _ (short : (c : Certificate) → IsAllowed c → c.cells < 1000 → lengt
       let limits = within_limits a.program is.within a.graph is.is_graph in
       let cells : length (cells_of a.program) ≤ 512 = omega (arith, limits.cells, ap length is.is_graph.cells) in
       let fits = short c found.allowed (omega (arith, shape.cells, cells)) (omega (arith, shape.nodes, limits.nodes)) in
-      let same : most_bytes c ≡ 2000 + length a.graph.nodes * (10 + 46 * length (cells_of a.program)) =
-      ap (λ (packs : List (List ℕ)). 2000 + length c.nodes * (10 + 46 * c.cells + 49 * most_bounds packs)) found.plain
-      ∙ ap (λ (n : ℕ). 2000 + length c.nodes * n) (without_packs c.cells)
-      ∙ ap (λ (n : ℕ). 2000 + length c.nodes * (10 + 46 * n)) shape.cells
-      ∙ ap (λ (n : ℕ). 2000 + n * (10 + 46 * length (cells_of a.program))) shape.nodes in
+      let places = most_bounds (packs_of a.program) in
+      let same : most_bytes c ≡ 2000 + length a.graph.nodes * (10 + 46 * length (cells_of a.program) + 49 * places) =
+      ap (λ (packs : List (List ℕ)). 2000 + length c.nodes * (10 + 46 * c.cells + 49 * most_bounds packs)) found.packs
+      ∙ ap (λ (n : ℕ). 2000 + length c.nodes * (10 + 46 * n + 49 * places)) shape.cells
+      ∙ ap (λ (n : ℕ). 2000 + n * (10 + 46 * length (cells_of a.program) + 49 * places)) shape.nodes in
       subst (λ (n : ℕ). certificate_limit < n) same (omega (arith, long.long, fits))
 
   pub long_texts_are_of_large_programs : (call : Call) → LongTextsAreOfLargePrograms call

@@ -22,6 +22,8 @@ use Rattle.alarm_report.specs.declared.alarms.Alarm.{Alarm}
 use Rattle.alarm_report.specs.Alarms.{alarms_of}
 use Rattle.alarm_report.specs.Text.{report_text}
 use Rattle.cert_text.specs.View.{Certificate}
+use Rattle.cert_text.specs.Lengths.{most_bounds}
+use Rattle.analyse_command.specs.Choice.{packs_of}
 use Rattle.analyse_command.specs.Shared.Checker.Checking.{Accepts}
 use Rattle.command_words.specs.Commands.{Run, IsCommand}
 use Rattle.command_words.specs.Commands as command
@@ -264,9 +266,10 @@ pub record FindsClean (call : Call) : Type 0 where
       → IsCommand call.words (command.trial count) → IsProgramOf (trial_text count) p g
       → CanBeClean p g → call.status ≡ 1 → ⊥
 
--- the program's cells and nodes are many
+-- the program's cells, the places of its packs and its nodes are many
 abbrev pub IsLarge : Analysis → Type 0
-IsLarge a = certificate_limit < 2000 + length a.graph.nodes * (10 + 46 * length (cells_of a.program))
+IsLarge a =
+    certificate_limit < 2000 + length a.graph.nodes * (10 + 46 * length (cells_of a.program) + 49 * most_bounds (packs_of a.program))
 
 -- A text is too long only where they are.
 pub record LongTextsAreOfLargePrograms (call : Call) : Type 0 where

@@ -18,7 +18,13 @@ analyse-requires-clause-limits g c =
 pub texts_of-requires-clause-found : goal.texts_of-requires-clause-found
 texts_of-requires-clause-found g c =
     let is = c.in_ok-cert.ensures in
-    record { allowed = is.allowed; plain = is.plain; accepts = is.accepted; misses_nothing = is.complete }
+    record {
+      allowed = is.allowed;
+      packs = is.packs;
+      accepts = is.accepted;
+      misses_nothing = is.complete;
+      misses_nothing_together = is.together;
+    }
 
 pub returns : goal.returns
 returns g c = weaker_finding c.args.laid.now (view c.in_ok-cert.cert) c.texts_of.result c.texts_of.ensures

@@ -1,0 +1,110 @@
+//! Both layers, solved. Each takes the rows that it is solved in before.
+ghost use Rattle.std.specs.Prelude.{◌≡◌, ◌≤◌, ◌+◌, [], length, IfOk, OnOk};
+ghost use Rattle.cob_program.specs.ActView.{plain_program};
+ghost use Rattle.cob_graph.specs.Graphs.{cells_of};
+ghost use Rattle.cob_graph_build.specs.Limits.{IsWithinLimits};
+ghost use Rattle.graph_runs.specs.Sources.{IsSourceGraph};
+ghost use Rattle.cell_rows.specs.Elements.{height_of};
+ghost use Rattle.cell_rows.specs.Rows.{lists_of};
+ghost use Rattle.cell_steps.specs.Homes.{owns};
+ghost use Rattle.pack_choice.specs.Choice.{packs_of};
+ghost use Rattle.widen_solver.specs.Stored.{row_at};
+ghost use Rattle.analyse_core.specs.Thresholds.{thresholds_of};
+ghost use Rattle.analyse_core.specs.Packs.{ArePacksGiven};
+ghost use Rattle.analyse_core.specs.Assignments.{layer_steps, pack_steps};
+ghost use Rattle.analyse_core.specs.Found.{AreFoundBounds, AreFoundCells};
+
+use cell_layer::CellLayer;
+use cob_graph::Graph;
+use cob_program::Program;
+use diff_bounds::Pack;
+use diff_layer::DiffLayer;
+use dom_laws::{Domain, Rows, Steps, System};
+use std::alloc::{AllocError, Global};
+use std::sync::ledger::Ledger;
+use widen_solver::{Store, solve};
+
+/// The rows of matrices for no packs.
+#[derive(Drop)]
+pub struct NoBounds {
+    pub nodes: u32,
+}
+
+impl Rows for NoBounds {
+    ghost count = { λ bounds. bounds.nodes };
+
+    ghost row_at = { λ bounds node. [] };
+
+    fn row(&self, node: u32) -> &[i128] {
+        let _node = node;
+        &[]
+    }
+}
+
+/// The rows of the first layer, solved.
+pub fn solve_cells<L: Ledger>(
+    alloc: Global,
+    layer: &CellLayer,
+    steps: &mut Steps<L>,
+) -> Result<Store, AllocError>
+    requires nodes { length layer.now.graph.now.nodes ≤ 4096 }
+    requires cells { length (owns (plain_program layer.now.program.now)) ≤ 512 }
+    requires thresholds { lists_of layer.now.thresholds.now ≡ thresholds_of (plain_program layer.now.program.now) }
+    ensures nodes { IfOk result (λ rows. length rows.rows ≡ length layer.now.graph.now.nodes) }
+    ensures found { IfOk result (λ rows. AreFoundCells (plain_program layer.now.program.now) layer.now.graph.now (row_at rows.rows)) }
+    ensures at_least { OnOk result (steps.old + length layer.now.graph.now.edges ≤ steps.new) }
+    ensures at_most { let p = plain_program layer.now.program.now in
+        steps.new ≤ steps.old + layer_steps p layer.now.graph.now (height_of (thresholds_of p)) }
+{
+    let mut rows = Store::new(alloc, layer.nodes(), layer.words())?;
+    solve(layer, &mut rows, steps);
+    Ok(rows)
+}
+
+// The rows of the second layer, solved.
+fn solve_bounds<R: Rows, L: Ledger>(
+    alloc: Global,
+    layer: &DiffLayer<R>,
+    steps: &mut Steps<L>,
+) -> Result<Store, AllocError>
+    requires packs { ArePacksGiven (plain_program layer.now.program.now) layer.now.packs.now layer.now.thresholds.now }
+    requires some { 1 ≤ length layer.now.packs.now }
+    requires nodes { length layer.now.graph.now.nodes ≤ 4096 }
+    requires cells { length (cells_of (plain_program layer.now.program.now)) ≤ 512 }
+    ensures nodes { IfOk result (λ bounds. length bounds.rows ≡ length layer.now.graph.now.nodes) }
+    ensures found { IfOk result (λ bounds. AreFoundBounds (plain_program layer.now.program.now) layer.now.graph.now
+        (R.row_at layer.now.facts.now) (row_at bounds.rows)) }
+    ensures at_least { steps.old ≤ steps.new }
+    ensures at_most { let p = plain_program layer.now.program.now in
+        steps.new ≤ steps.old + pack_steps p layer.now.graph.now (packs_of p) }
+{
+    let mut bounds = Store::new(alloc, layer.nodes(), layer.words())?;
+    solve(layer, &mut bounds, steps);
+    Ok(bounds)
+}
+
+/// The rows of the second layer beside those of the first one, solved.
+pub fn solve_packs<L: Ledger>(
+    alloc: Global,
+    program: &Program,
+    graph: &Graph,
+    packs: &[Pack],
+    thresholds: &[Vec<i128>],
+    rows: &Store,
+    steps: &mut Steps<L>,
+) -> Result<Store, AllocError>
+    requires source { ∥ IsSourceGraph (plain_program program.now) graph.now ∥₁ }
+    requires limits { IsWithinLimits graph.now }
+    requires packs { ArePacksGiven (plain_program program.now) packs.now thresholds.now }
+    requires some { 1 ≤ length packs.now }
+    requires count { length rows.now.rows ≡ length graph.now.nodes }
+    requires cells { AreFoundCells (plain_program program.now) graph.now (row_at rows.now.rows) }
+    ensures nodes { IfOk result (λ bounds. length bounds.rows ≡ length graph.now.nodes) }
+    ensures found { IfOk result (λ bounds. AreFoundBounds (plain_program program.now) graph.now (row_at rows.now.rows) (row_at bounds.rows)) }
+    ensures at_least { steps.old ≤ steps.new }
+    ensures at_most { let p = plain_program program.now in
+        steps.new ≤ steps.old + pack_steps p graph.now (packs_of p) }
+{
+    let layer = DiffLayer::new(alloc, program, graph, packs, thresholds, rows)?;
+    solve_bounds(alloc, &layer, steps)
+}

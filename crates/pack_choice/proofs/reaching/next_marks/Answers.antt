@@ -1,0 +1,11 @@
+use Rattle.std.proofs.Common.{◌++◌, ◌∷◌, [], ap, ◌∙◌}
+use Rattle.pack_choice.specs.Mentions.{lists_of}
+use Rattle.pack_choice.specs.Reaching.{is_performed_by}
+use Rattle.pack_choice.proofs.Marks.{one_more}
+use Rattle.pack_choice.proofs.reaching.next_marks.Goals as goal
+
+pub loop-para-preserved : goal.loop-para-preserved
+loop-para-preserved c =
+    let l = c.loop-para in
+    c.in_ok-push.ensures.items ∙ ap (λ b. l.next.items ++ b ∷ []) c.is_performed_by.ensures
+    ∙ one_more (is_performed_by (lists_of c.args.texts.now) c.args.own.now c.args.marks.now) l.para l.next.items l.invariant

@@ -1,0 +1,6 @@
+pub mod Mentions
+pub mod Reaching
+pub mod Firsts
+pub mod Choice
+pub mod Rising
+pub mod PackThresholds
