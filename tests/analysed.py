@@ -25,7 +25,7 @@ WATER = [
     ["ZERO statement 30 line 85", "TRUNCATION statement 34 line 89"],
     ["TRUNCATION statement 35 line 91"],
     [],
-    ["SIZE statement 25 line 80"],
+    [],
     [],
 ]
 
