@@ -2,13 +2,13 @@
 
 A module each has the cases of a kind: `reference` those that were worked out by an independent program, `sample` those
 around the sample certificate, `analysed` reports of `analyse` that were worked out by hand, `analyses` sources that an
-independent program looked at, `packs` sources with the packs of their cells, `trials` those of `trial`, `programs`
+independent program looked at, `packs` the packs of cells, `trials` those of `trial`, `programs`
 small programs by subject, `limits` what stands at a limit and beyond it, `outside` files and standard outputs that
 fail, `report`, `report_files` and `nightly` those of the tool around the program and of its document, `calls` the calls
 of libraries, `ranges` those that work with ranges of numbers, `matrices` those with matrices and forms, `edges` and
 `diffs` those with edges of control graphs, and `slow` the comparison of the interpreter with the plain slow step. The
 last six need programs of their own, which the gate builds: without them their cases are left out, which is told, and is
-a failure where the word is `--all`.
+a failure where the word is `--all`. With `--large` `diffs` tries all of its programs.
 """
 
 import itertools

@@ -1,10 +1,10 @@
 """`analyse SOURCE CERT`: what it answers, and that `check` answers the same to what it writes.
 
-The sources of analyses.jsonl have the faults that no ranges and differences of items can show not to be met (`least`; null where
-that isn't known), and those that the language's rules and the analysis leave at most (`most`): a report names the
-former, and none beyond the latter. Both were worked out by an independent program. A row of analysed_by_rule.jsonl has a
-program in the form of cases/programs, the report or the refusal that it must get, and the text of its certificate where
-only one is right."""
+The sources of analyses.jsonl have the faults that no ranges and differences of items can show not to be met (`least`;
+null where that isn't known), and those that the language's rules and the analysis leave at most (`most`): a report names
+the former, and none beyond the latter. Both were worked out by an independent program. A row of analysed_by_rule.jsonl
+has a program in the form of cases/programs, the report or the refusal that it must get, and the text of its certificate
+where only one is right."""
 
 import itertools
 import json

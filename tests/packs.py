@@ -1,12 +1,13 @@
 """The packs of a source: cells of which an analysis tracks differences, by what the source mentions together in its loops
 and in its paragraphs. They are read from the source's words alone, and a source that the language refuses isn't noticed.
-The packs of the cases were worked out by an independent program, and must come."""
+The packs of the cases were worked out by an independent program, and must come. `analyse` must write just the packs that
+are read so, of these sources and of those that are analysed."""
 
 import dataclasses
 import json
 import re
 
-from tests.built import CASES
+from tests.built import CASES, ROOT, launcher, ran
 
 # ---- words
 
@@ -300,7 +301,28 @@ def told(name, source, wanted):
     return None if found == wanted else f"{name}: packs {found} in place of {wanted}"
 
 
+def written(path, name, source):
+    """What is wrong with the packs of the certificate that is written, if one is."""
+    _, _, left = ran(path, ["analyse", "S", "C"], {"S": source})
+    lines = [line.split() for line in left.get("C", b"").decode("latin-1").splitlines()]
+    found = [[int(cell) for cell in cells] for word, *cells in lines if word == "pack"]
+    if not lines or found == packs(source):
+        return None
+    return f"{name}: packs {found} are written in place of {packs(source)}"
+
+
+def sources():
+    for name in ("packs", "analyses"):
+        for number, line in enumerate((CASES / f"{name}.jsonl").open(), 1):
+            yield f"packs of {name}.jsonl {number}", json.loads(line)["source"]
+    for file in sorted(ROOT.glob("samples/**/*.cob")):
+        yield f"packs of {file.name}", file.read_text("latin-1")
+
+
 def checks():
+    path = launcher()
     for number, line in enumerate((CASES / "packs.jsonl").open(), 1):
         case = json.loads(line)
         yield lambda given=(f"packs.jsonl {number}", case["source"], case["packs"]): told(*given)
+    for name, source in sources():
+        yield lambda given=(path, name, source): written(*given)
