@@ -18,6 +18,15 @@ def trial(count):
     return source(lines)
 
 
+def trial_in_c(count):
+    """The same in C."""
+    names = [f"p_{number:04}" for number in range(1, count + 1)]
+    paragraphs = [f"static void {name}(void) {{ c += 1; if (c > 9) c = 0; }}" for name in names]
+    calls = [f"        {name}();" for name in names]
+    main = ["int main(void) {", "    for (int times = 100; times > 0; times--) {", *calls, "    }", "    return 0;", "}"]
+    return "\n".join(["int c = 0;", *paragraphs, *main, ""])
+
+
 def name_of(item):
     return f"N-{item:03}"
 
