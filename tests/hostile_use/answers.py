@@ -1,6 +1,7 @@
 """The answers that are specified: each line with its status, by command."""
 
 import itertools
+import math
 import re
 
 KINDS = ("SIZE", "TRUNCATION", "ZERO", "CLASS")
@@ -75,7 +76,8 @@ def faults_of_numbers(line):
     if words[0] in ("E6", "E7") and not 1 <= int(words[4]) <= 72:
         yield "no such column"
     if words[0] == "E14" and words[-2] == "claimed":
-        reached, claimed = int(words[-3]), int(words[-1])
+        reached = math.inf if words[-3] == "none" else int(words[-3])
+        claimed = int(words[-1])
         if reached >= claimed if words[7] == "low" else reached <= claimed:
             yield "what is reached lies within what is claimed"
 
