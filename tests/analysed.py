@@ -1,6 +1,6 @@
-"""What the guide shows of `analyse`: the reports on the samples, among them the steps of its example, and what its words
-answer. The certificate that is written must be answered by `check` with the same report, and the other files must be as
-they were."""
+"""What the guide shows of `analyse`: the reports on the samples, among them the steps of its example, the program that only
+a difference shows to be clean, and what its words answer. The certificate that is written must be answered by `check` with
+the same report, and the other files must be as they were."""
 
 from tests.built import ROOT, Case, checks_of, launcher, ran
 from tests.sample import SAMPLE
@@ -39,6 +39,16 @@ BILLS = [
 ]
 
 
+# what the guide says that its certificate claims of a program, by the node
+COUNTS = {2: "d 1 2 1 0", 5: "d 1 2 1 -1"}
+
+
+def counts():
+    """The guide's program with two counts."""
+    text = (ROOT / "docs/GUIDE.md").read_text("utf-8").split("### What differences show")[1]
+    return next(block for block in text.split("```\n")[1::2] if block.startswith("       IDENTIFICATION"))
+
+
 def water(number):
     return (ROOT / f"samples/water/step{number}.cob").read_text("latin-1")
 
@@ -70,6 +80,7 @@ def samples():
     yield "first", SAMPLE, []
     yield "payroll", (ROOT / "samples/payroll.cob").read_text("latin-1"), []
     yield "listing", (ROOT / "samples/listing.cob").read_text("latin-1"), []
+    yield "counts", counts(), []
     for number, alarms in enumerate(WATER, 1):
         yield f"water {number}", water(number), alarms
 
@@ -77,6 +88,14 @@ def samples():
 def reports():
     for name, source, alarms in samples():
         yield f"analyse, {name}", source, lambda found, alarms=alarms: found == report_of(alarms)
+
+
+def told_of_counts(path):
+    """What is wrong with the claims on the guide's program with two counts."""
+    _, _, left = ran(path, ["analyse", "S", "C"], {"S": counts()})
+    nodes = left["C"].decode().split("node ")[1:]
+    lacking = [line for node, line in COUNTS.items() if line not in nodes[node - 1].splitlines()]
+    return f"counts: {lacking} aren't claimed" if lacking else None
 
 
 def runs():
@@ -117,5 +136,6 @@ def words():
 def checks():
     path = launcher()
     yield from checks_of((*words(), *runs()))
+    yield lambda: told_of_counts(path)
     for name, source, is_wanted in reports():
         yield lambda given=(path, name, source, is_wanted): told(*given)
