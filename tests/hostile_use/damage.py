@@ -155,23 +155,30 @@ def point_claim(text, random):
     )
 
 
+def other_bound(text, random):
+    """A bound on a difference that is another number."""
+    step = random.choice((1, -1)) * 10 ** random.randrange(19)
+    pattern = rb"^(d \d+ \d+ \d+) (-?\d+)\n"
+    return changed_line(text, random, pattern, lambda place: b"%b %d\n" % (place[1], int(place[2]) + step))
+
+
 def dropped_claim(text, random):
-    return changed_line(text, random, rb"^c .*\n", lambda place: b"")
+    return changed_line(text, random, rb"^[cd] .*\n", lambda place: b"")
 
 
 def unreached_node(text, random):
     """A node without claims, or which is claimed never to be reached; or one that can be reached."""
     word = random.choice((b"none", b"none", b"node"))
-    return changed_line(text, random, rb"^no[dn]e (\d+)\n(?:c .*\n)*", lambda place: b"%b %b\n" % (word, place[1]))
+    return changed_line(text, random, rb"^no[dn]e (\d+)\n(?:[cd] .*\n)*", lambda place: b"%b %b\n" % (word, place[1]))
 
 
 def moved_claims(text, random):
     """The claims of a node at another one."""
-    found = re.findall(rb"^node \d+\n((?:c .*\n)*)", text, re.M)
+    found = re.findall(rb"^node \d+\n((?:[cd] .*\n)*)", text, re.M)
     if not found:
         return text
     claims = random.choice(found)
-    pattern = rb"^node (\d+)\n(?:c .*\n)*"
+    pattern = rb"^node (\d+)\n(?:[cd] .*\n)*"
     return changed_line(text, random, pattern, lambda place: b"node %b\n%b" % (place[1], claims))
 
 
@@ -207,7 +214,16 @@ ROUGH = (
 )
 # these leave more of the form, so that what is behind it is reached
 OF_SOURCES = (near_number, near_number, near_number, other_name, other_name, dropped_line, doubled_line)
-OF_CERTIFICATES = (other_claim, point_claim, dropped_claim, unreached_node, moved_claims, near_number, added_pack)
+OF_CERTIFICATES = (
+    other_claim,
+    point_claim,
+    other_bound,
+    dropped_claim,
+    unreached_node,
+    moved_claims,
+    near_number,
+    added_pack,
+)
 
 
 def damaged(text, random, gentle):
