@@ -5,13 +5,14 @@ whole, or as it was, or, behind status 8, hold a front."""
 
 import collections
 import dataclasses
+import json
 import os
 import pathlib
 import shutil
 import subprocess
 
 from bench.sources import trial
-from tests.built import ROOT
+from tests.built import CASES, ROOT
 from tests.hostile_use.damaged import CERT, OLD, SOURCE
 from tests.hostile_use.trials import Folder, Tally
 
@@ -72,6 +73,13 @@ def sample(name):
     return (ROOT / f"samples/{name}").read_bytes()
 
 
+def packed():
+    """A certificate with packs that is accepted, and its source."""
+    cases = map(json.loads, (CASES / "checked.jsonl").open())
+    case = next(case for case in cases if "\npack " in case["certificate"] and case["status"] < 2)
+    return {SOURCE: case["source"].encode("latin-1"), CERT: case["certificate"].encode("latin-1")}
+
+
 def commands():
     first = {SOURCE: sample("first.cob"), CERT: sample("first.cert")}
     payroll = {SOURCE: sample("payroll.cob"), CERT: sample("payroll.cert")}
@@ -80,6 +88,7 @@ def commands():
         yield Command(f"analyse of {name}", WORDS["analyse"], {**files, CERT: OLD})
     run = ["run", SOURCE]
     yield Command("run of payroll", run, {SOURCE: payroll[SOURCE], "PAYIN": sample("PAYIN"), "PAYOUT": OLD})
+    yield Command("check of packs", WORDS["check"], packed())
     yield Command("analyse of orders", WORDS["analyse"], {SOURCE: sample("orders.cob")})
     yield Command("trial of 2 paragraphs", ["trial", "2"], {"TRIAL": OLD})
 
