@@ -1,8 +1,8 @@
 //! Open statements with the lines on which they stand.
-ghost use Rattle.std.specs.Prelude.{◌≡◌, ◌≤◌, All, map, length, IfOk};
+ghost use Rattle.std.specs.Prelude.{◌≡◌, map, IfOk};
 ghost use Rattle.cob_program.specs.ActView.{plain_program, plain_stmt};
-ghost use Rattle.cob_program.specs.Statements.{program_statements, plain_references};
-ghost use Rattle.alarm_report.specs.Alarms.{IsStatementOf, alarm_in, alarms_of, line_in, line_of};
+ghost use Rattle.cob_program.specs.Statements.{plain_references};
+ghost use Rattle.alarm_report.specs.Alarms.{alarm_in, alarms_of, line_in, line_of};
 
 use cob_program::{Program, Stmt};
 use cob_tree::{Kind, Open};
@@ -22,19 +22,21 @@ fn line_of(statement: &Stmt) -> u32
     statement.line
 }
 
-// The line of the statement with a number.
-#[tactic(auto, using(crate::proofs::Lines::line_is))]
+// The line of the statement with a number, 0 where there is none.
+#[tactic(auto, using(crate::proofs::Lines::line_is, crate::proofs::Lines::no_line))]
 fn line_at(statements: &[&Stmt], number: u32) -> u32
-    requires first { 1 ≤ number }
-    requires last { number ≤ length statements.now }
     ensures { result ≡ line_in (plain_references statements.now) number }
 {
-    line_of(statements[number as usize - 1])
+    let at = (number as usize).saturating_sub(1);
+    if at < statements.len() {
+        line_of(statements[at])
+    } else {
+        0
+    }
 }
 
 // The alarm of an open pair.
 fn alarm_in(statements: &[&Stmt], pair: Open) -> Alarm
-    requires { IsStatementOf (plain_references statements.now) pair }
     ensures { result ≡ alarm_in (plain_references statements.now) pair }
 {
     Alarm {
@@ -50,7 +52,6 @@ fn alarms_among(
     statements: &[&Stmt],
     pairs: &[Open],
 ) -> Result<Vec<Alarm>, AllocError>
-    requires { All (IsStatementOf (plain_references statements.now)) pairs.now }
     ensures { IfOk result (λ alarms. alarms.items ≡ map (alarm_in (plain_references statements.now)) pairs.now) }
 {
     let mut alarms = Vec::new(alloc);
@@ -62,7 +63,6 @@ fn alarms_among(
 
 /// The open pairs of a program as alarms, in their order.
 pub fn alarms_of(alloc: Global, program: &Program, pairs: &[Open]) -> Result<Vec<Alarm>, AllocError>
-    requires { All (IsStatementOf (program_statements (plain_program program.now))) pairs.now }
     ensures { IfOk result (λ alarms. alarms.items ≡ alarms_of (plain_program program.now) pairs.now) }
 {
     let statements = program.statements(alloc)?;

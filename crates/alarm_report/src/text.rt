@@ -1,8 +1,7 @@
 //! The text of a report.
-ghost use Rattle.std.specs.Prelude.{◌≡◌, ◌++◌, All, OnOk, IfOk};
+ghost use Rattle.std.specs.Prelude.{◌≡◌, ◌++◌, OnOk, IfOk};
 ghost use Rattle.cob_program.specs.ActView.{plain_program};
-ghost use Rattle.cob_program.specs.Statements.{program_statements};
-ghost use Rattle.alarm_report.specs.Alarms.{IsStatementOf, alarms_of};
+ghost use Rattle.alarm_report.specs.Alarms.{alarms_of};
 ghost use Rattle.alarm_report.specs.Text.{alarm_text, kind_text, report_text};
 
 use crate::alarms::{Alarm, alarms_of};
@@ -59,7 +58,6 @@ pub fn push_report(text: &mut Vec<u8>, alarms: &[Alarm]) -> Result<(), AllocErro
 
 /// The report on a program that leaves these pairs open.
 pub fn report(alloc: Global, program: &Program, pairs: &[Open]) -> Result<Vec<u8>, AllocError>
-    requires { All (IsStatementOf (program_statements (plain_program program.now))) pairs.now }
     ensures { IfOk result (λ text. text.items ≡ report_text (alarms_of (plain_program program.now) pairs.now)) }
 {
     let alarms = alarms_of(alloc, program, pairs)?;

@@ -1,4 +1,7 @@
 //! Single words.
+ghost use Rattle.std.specs.Prelude.{◌≡◌, [], ◌∷◌, map, IfNone, IfSome};
+ghost use Rattle.case_words.specs.Words.{how_word, mode_word, relation_word, IsNoHow, IsNoMode};
+
 use cob_program::How;
 use cob_tree::{Bytes, Num, Rel};
 use dec_num::Mode;
@@ -28,7 +31,9 @@ pub fn wanted_of(words: &[&str]) -> Option<bool> {
 // ---- relations, modes, and what a receiver gets
 
 /// The relation that a word is.
-pub fn relation_of(words: &[&str]) -> Option<Rel> {
+pub fn relation_of(words: &[&str]) -> Option<Rel>
+    ensures { IfSome result (λ relation. map (λ word. word.now) words.now ≡ relation_word relation ∷ []) }
+{
     match words {
         ["="] => Some(Rel::Equal),
         ["<"] => Some(Rel::Less),
@@ -40,7 +45,9 @@ pub fn relation_of(words: &[&str]) -> Option<Rel> {
 }
 
 /// The word for a relation.
-pub fn relation_word(relation: Rel) -> &'static str {
+pub fn relation_word(relation: Rel) -> &'static str
+    ensures { result.now ≡ relation_word relation }
+{
     match relation {
         Rel::Equal => "=",
         Rel::Less => "<",
@@ -51,7 +58,10 @@ pub fn relation_word(relation: Rel) -> &'static str {
 }
 
 /// What becomes of digits past the last kept one.
-pub fn mode_of(word: &str) -> Option<Mode> {
+pub fn mode_of(word: &str) -> Option<Mode>
+    ensures read { IfSome result (λ mode. word.now ≡ mode_word mode) }
+    ensures none { IfNone result (IsNoMode word.now) }
+{
     match word {
         "cut" => Some(Mode::Trunc),
         "rounded" => Some(Mode::Round),
@@ -60,7 +70,9 @@ pub fn mode_of(word: &str) -> Option<Mode> {
 }
 
 /// The word for a mode.
-pub fn mode_word(mode: Mode) -> &'static str {
+pub fn mode_word(mode: Mode) -> &'static str
+    ensures { result.now ≡ mode_word mode }
+{
     match mode {
         Mode::Trunc => "cut",
         Mode::Round => "rounded",
@@ -68,7 +80,10 @@ pub fn mode_word(mode: Mode) -> &'static str {
 }
 
 /// What a receiver gets of a sum.
-pub fn how_of(word: &str) -> Option<How> {
+pub fn how_of(word: &str) -> Option<How>
+    ensures read { IfSome result (λ how. word.now ≡ how_word how) }
+    ensures none { IfNone result (IsNoHow word.now) }
+{
     match word {
         "whole" => Some(How::Whole),
         "plus" => Some(How::Plus),
@@ -80,7 +95,9 @@ pub fn how_of(word: &str) -> Option<How> {
 }
 
 /// The word for what a receiver gets.
-pub fn how_word(how: How) -> &'static str {
+pub fn how_word(how: How) -> &'static str
+    ensures { result.now ≡ how_word how }
+{
     match how {
         How::Whole => "whole",
         How::Plus => "plus",

@@ -1,4 +1,3 @@
-pub mod Numbers
 pub mod Certificates
 pub mod OneCheck
 pub mod Shared

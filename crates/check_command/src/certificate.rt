@@ -13,7 +13,7 @@ use alarm_report::alarms_of;
 use batch_io::{FileEnd, Files, read_file};
 use cert_text::{Cert, CertEnd, read as read_certificate};
 use command_answers::{Answer, CheckEnd, Laid, Stop, check_claims, read_source};
-use source_facts::{sources_have_source_graphs, statements_are_counted};
+use source_facts::sources_have_source_graphs;
 use std::alloc::Global;
 
 /// The most bytes of a certificate.
@@ -80,7 +80,6 @@ pub fn check_certificate<'a>(alloc: Global, laid: &Laid, cert: &Cert) -> Result<
         (λ stop. stop ≡ Stop.Memory) }
 {
     sources_have_source_graphs();
-    statements_are_counted();
     match check_claims(alloc, &laid.program, &laid.graph, cert) {
         Ok(pairs) => Ok(Answer::Report(alarms_of(alloc, &laid.program, &pairs)?)),
         Err(
