@@ -76,6 +76,9 @@ def samples():
     given = {"S": payroll, "PAYIN": pay}
     yield Case("no such folder", ["run", "S", "PAYOUT=no/out"], given, 6, "E4 write\n")
     yield Case("a path twice", ["run", "S", "PAYOUT=PAYIN"], given, 4, "E1 usage PAYOUT=PAYIN\n")
+    lines = [f"{text:80}" for text in ("FIRST", "", "LAST")]
+    given = {"S": listing, "INP": "".join(lines)}
+    yield Case("listing", ["run", "S"], given, 0, "".join(f"{line}\n" for line in lines))
     yield Case("a folder", ["run", "S", "INP=."], {"S": listing}, 5, "E3 read\n")
 
 
