@@ -38,4 +38,5 @@ pub mod ClosingHandles
 pub mod EmptyRooms
 pub mod Going
 pub mod Emptying
+pub mod RoomLemmas
 pub mod Starting

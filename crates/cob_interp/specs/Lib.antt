@@ -7,4 +7,5 @@ pub mod Walking
 pub mod Setting
 pub mod Readying
 pub mod Doing
+pub mod Rooms
 pub mod OneEnd

@@ -1,5 +1,5 @@
 //! Files that are open outside.
-ghost use Rattle.std.specs.Prelude.{◌≡◌, ◌<◌, ℕ, Bool, true, false, IfOk, IfSome, MatchResult, Some, None, [], length, replicate, slice_get, slice_set};
+ghost use Rattle.std.specs.Prelude.{◌≡◌, ◌<◌, ◌≤◌, ◌+◌, ℕ, Bool, true, false, IfOk, IfSome, MatchResult, Some, None, [], length, replicate, slice_get, slice_set};
 ghost use Rattle.batch_io.specs.FilesState.{known_bytes, KeepsIds};
 ghost use Rattle.cob_interp.specs.Tracking.{IsHeld, IsHeldFor, AreNone, AreOpen, Tracks, purposes_for};
 ghost use Rattle.cob_interp.specs.Readying.{IsRefusal, OpensFor, CreatesFor, CreatesPart, ClosesFor, ClosesAll, GivesRecord, PutsUnder, PutsUnderPart, close_fault, first_refusal};
@@ -70,7 +70,10 @@ fn close_fault(writes: bool) -> RunEnd
 }
 
 /// Whether so many more bytes have no room behind those that wait.
-pub fn is_full(waiting: usize, more: u32) -> bool {
+pub fn is_full(waiting: usize, more: u32) -> bool
+    ensures room { result ≡ false → waiting + more ≤ 65_536 }
+    ensures full { result ≡ true → 65_536 < waiting + more }
+{
     match waiting.checked_add(more as usize) {
         None => true,
         Some(count) => count > WAITING_LIMIT,

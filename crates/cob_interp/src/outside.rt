@@ -23,7 +23,7 @@ use std::alloc::Global;
 fn put_waiting<F: Files>(
     files: &mut F,
     handles: &Handles,
-    place: u32,
+    place: usize,
     file: &File,
 ) -> Result<(), RunEnd>
     requires live { AreOpen (F.state files.old) handles.now }
@@ -37,7 +37,7 @@ fn put_waiting<F: Files>(
     ensures ids { KeepsIds (F.state files.old) (F.state files.new) }
 {
     match file.mode() {
-        FileMode::Writing => handles.put(files, place as usize, file.all()),
+        FileMode::Writing => handles.put(files, place, file.all()),
         FileMode::Closed | FileMode::Reading { .. } => Ok(()),
     }
 }
@@ -48,7 +48,7 @@ fn put_out<F: Files>(
     files: &mut F,
     handles: &Handles,
     world: &World,
-    place: u32,
+    place: usize,
 ) -> Result<(), RunEnd>
     requires ready { IsReady setting.now }
     requires live { AreOpen (F.state files.old) handles.now }
@@ -60,17 +60,17 @@ fn put_out<F: Files>(
         (F.state files.new) }
     ensures ids { KeepsIds (F.state files.old) (F.state files.new) }
 {
-    match (setting.path(place), world.file(place as usize)) {
+    match (setting.path(place), world.file(place)) {
         (Some(_path), Some(file)) => put_waiting(files, handles, place, file),
         _ => Err(RunEnd::Memory),
     }
 }
 
 /// How many bytes were read of the file at a place, where it is being written.
-fn written_place(world: &World, place: u32) -> Option<usize>
+fn written_place(world: &World, place: usize) -> Option<usize>
     ensures { IsWrittenAt (slice_get world.now.world.files place) result }
 {
-    let found = world.file(place as usize)?;
+    let found = world.file(place)?;
     match found.mode() {
         FileMode::Writing => Some(found.place()),
         _ => None,
@@ -78,19 +78,19 @@ fn written_place(world: &World, place: u32) -> Option<usize>
 }
 
 /// Nothing waits of the file at a place any more, where it is being written. Its room stays.
-fn empty_waiting(alloc: Global, world: &mut World, place: u32)
+fn empty_waiting(alloc: Global, world: &mut World, place: usize)
     ensures kept { world.new.program ≡ world.old.program }
     ensures emptied { world.new.world ≡ emptied place world.old.world }
 {
     let Some(at) = written_place(world, place) else {
         return;
     };
-    let waited = world.replace_content(place as usize, Some(Vec::new(alloc)), at);
+    let waited = world.replace_content(place, Some(Vec::new(alloc)), at);
     let Some(mut room) = waited else {
         return;
     };
     room.clear();
-    world.set_content(place as usize, Some(room));
+    world.set_content(place, Some(room));
 }
 
 /// Writes out what waits of the file at a place, where it is being written.
@@ -100,7 +100,7 @@ pub fn write_out<F: Files>(
     files: &mut F,
     handles: &Handles,
     world: &mut World,
-    place: u32,
+    place: usize,
 ) -> Result<(), RunEnd>
     requires ready { IsReady setting.now }
     requires live { AreOpen (F.state files.old) handles.now }
@@ -143,7 +143,7 @@ pub fn ready_to_close<F: Files>(
     ensures touches { Touches (paths_of setting.now) makes_none world.old.world (F.state files.old)
         (F.state files.new) }
 {
-    write_out(alloc, setting, files, handles, world, place)?;
+    write_out(alloc, setting, files, handles, world, place as usize)?;
     handles.close(files, place as usize)?;
     Ok(())
 }
@@ -175,7 +175,7 @@ fn open_input<F: Files>(
         (λ e. IsRefusal (F.state files.old) (F.state files.new) e) }
     ensures only { OpensOnly world.old.world world.new.world }
 {
-    let Some(size) = setting.size(place) else {
+    let Some(size) = setting.size(place as usize) else {
         return Err(RunEnd::Memory);
     };
     let content = if handles.open(alloc, files, path, place as usize, size)? {
@@ -209,7 +209,7 @@ pub fn ready_to_open<F: Files>(
         (F.state files.old) (F.state files.new) }
     ensures opens { OpensOnly world.old.world world.new.world }
 {
-    let Some(path) = setting.path(opening.file) else {
+    let Some(path) = setting.path(opening.file as usize) else {
         return Err(RunEnd::Memory);
     };
     let Some(mode) = world.file_mode(opening.file as usize) else {
@@ -219,7 +219,7 @@ pub fn ready_to_open<F: Files>(
         return Ok(());
     }
     if opening.output {
-        let Some(size) = setting.size(opening.file) else {
+        let Some(size) = setting.size(opening.file as usize) else {
             return Err(RunEnd::Memory);
         };
         handles.create(alloc, files, path, opening.file as usize, size)?;

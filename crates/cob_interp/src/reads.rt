@@ -116,7 +116,7 @@ fn do_window<F: Files>(
     ensures reads { ReadsPart setting.now place.now step (F.state files.old) (F.state files.new) handles.old file before
         world.old.world world.new.world result }
 {
-    let Some(size) = setting.size(file) else {
+    let Some(size) = setting.size(file as usize) else {
         return Err(RunEnd::Memory);
     };
     let window = window_of(alloc, files, handles, file, size, before)?;

@@ -7,7 +7,7 @@ ghost use Rattle.cob_graph.specs.WellFormed.{IsWellFormed};
 ghost use Rattle.cob_items.specs.WellFormed.{HasWellFormedItems};
 ghost use Rattle.cob_program.specs.ActView.{plain_program};
 ghost use Rattle.cob_world.specs.Doing.{CanDoProgram};
-ghost use Rattle.cob_interp.specs.Readying.{GoesOut, IsRefusal, Sees, AreEmptied, emptied};
+ghost use Rattle.cob_interp.specs.Readying.{IsRefusal, Sees, AreEmptied};
 ghost use Rattle.cob_interp.specs.Running.{Outside, outside, HaltsOff, IsBroken, IfTold, KeepsUnmade, Runs, TellsOfSink};
 ghost use Rattle.cob_interp.specs.Setting.{IsReady, program_of, paths_of, texts};
 ghost use Rattle.cob_interp.specs.Told.{AreDistinct};
@@ -30,33 +30,6 @@ use cob_program::Program;
 use cob_world::World;
 use std::alloc::Global;
 
-/// Writes out what still waits of the file at a place.
-fn write_at<F: Files>(
-    alloc: Global,
-    setting: &Setting,
-    files: &mut F,
-    handles: &Handles,
-    world: &mut World,
-    place: usize,
-) -> Result<(), RunEnd>
-    requires ready { IsReady setting.now }
-    requires live { AreOpen (F.state files.old) handles.now }
-    requires written { AreWritten (paths_of setting.now) (F.state files.old) handles.now world.old.world.files }
-    ensures kept { world.new.program ≡ world.old.program }
-    ensures goes { MatchResult result
-        (λ _. GoesOut setting.now world.old.world place (F.state files.old) (F.state files.new))
-        (λ e. IsRefusal (F.state files.old) (F.state files.new) e) }
-    ensures emptied { IfOk result (λ _. world.new.world ≡ emptied place world.old.world) }
-    ensures touches { Touches (paths_of setting.now) makes_none world.old.world (F.state files.old)
-        (F.state files.new) }
-    ensures ids { KeepsIds (F.state files.old) (F.state files.new) }
-{
-    match u32::try_from(place) {
-        Err(_) => Err(RunEnd::Memory),
-        Ok(place) => write_out(alloc, setting, files, handles, world, place),
-    }
-}
-
 /// Writes out what still waits of all files.
 fn write_all<F: Files>(
     alloc: Global,
@@ -77,7 +50,7 @@ fn write_all<F: Files>(
     ensures ids { KeepsIds (F.state files.old) (F.state files.new) }
 {
     for place in 0..setting.paths.len() {
-        write_at(alloc, setting, files, handles, world, place)?;
+        write_out(alloc, setting, files, handles, world, place)?;
     }
     Ok(())
 }

@@ -1,12 +1,14 @@
 //! A run from its first node to its end.
-ghost use Rattle.std.specs.Prelude.{◌≡◌, ◌+◌, ◌<◌, ℕ, IfOk, MatchResult, length};
+ghost use Rattle.std.specs.Prelude.{◌≡◌, ◌+◌, ◌<◌, ℕ, true, IfOk, MatchResult, Some, None, length, slice_get};
 ghost use Rattle.batch_io.specs.FilesState.{KeepsIds};
 ghost use Rattle.batch_io.specs.SinkState.{SinkState};
 ghost use Rattle.cob_program.specs.ActView.{plain_act};
+ghost use Rattle.cob_runs.specs.Acts.{decl_at};
 ghost use Rattle.cob_runs.specs.State as state;
 ghost use Rattle.cob_interp.specs.Running.{Outside, outside, Stands, Arrives, IsAt, GoesOn, HaltsOff};
 ghost use Rattle.cob_interp.specs.Setting.{IsReady, StartsAt, program_of, paths_of};
 ghost use Rattle.cob_interp.specs.Readying.{IsRefusal, Sees};
+ghost use Rattle.cob_interp.specs.Rooms.{HasRoom, HasRoomFor, written_by};
 ghost use Rattle.cob_interp.specs.Touching.{Touches, makes_by, makes_none};
 ghost use Rattle.cob_interp.specs.Tracking.{AreLeft, AreOpen, ArePlaced, KeepsPlaces, Tracks};
 ghost use Rattle.cob_interp.specs.Walking.{as_result, TellsBySink, Flushes, MayFlush, Refuses};
@@ -68,22 +70,46 @@ fn flush_before<O: Sink>(place: &Place, world: &mut World, out: &mut O) -> Resul
 }
 
 /// The file to which a statement writes a record, if it is a WRITE.
-fn written_file(place: &Place, world: &World) -> Option<u32> {
+fn written_file(place: &Place, world: &World) -> Option<usize>
+    ensures { result ≡ written_by world.now.program.layout (plain_act place.now.statement.now.act.now) }
+{
     match place.statement.act {
-        Act::Write { rec, .. } => u32::try_from(world.file_of(*rec)?).ok(),
+        Act::Write { rec, .. } => world.file_of(*rec),
         _ => None,
     }
 }
 
+/// Whether there is room for one more record of the file at a place behind those that wait.
+fn has_room(setting: &Setting, world: &World, file: usize) -> bool
+    ensures { result ≡ true → HasRoom (decl_at setting.now.program.now.layout file)
+        (slice_get world.now.world.files file) }
+{
+    let Some(size) = setting.size(file) else {
+        return true;
+    };
+    match world.file(file) {
+        None => true,
+        Some(found) => !is_full(found.all().len(), size),
+    }
+}
+
 /// The file that a statement is to write a record to for which there is no room behind those that wait.
-fn full_file(setting: &Setting, place: &Place, world: &World) -> Option<u32> {
-    let file = written_file(place, world)?;
-    let size = setting.size(file)?;
-    let found = world.file(file as usize)?;
-    if is_full(found.all().len(), size) {
-        Some(file)
-    } else {
-        None
+fn full_file(setting: &Setting, place: &Place, world: &World) -> Option<usize>
+    requires runs { world.now.program ≡ setting.now.program.now }
+    ensures full { (file : ℕ) → result ≡ Some file
+        → written_by setting.now.program.now.layout (plain_act place.now.statement.now.act.now) ≡ Some file }
+    ensures room { result ≡ None → HasRoomFor setting.now world.now.world
+        (plain_act place.now.statement.now.act.now) }
+{
+    match written_file(place, world) {
+        None => None,
+        Some(file) => {
+            if has_room(setting, world, file) {
+                None
+            } else {
+                Some(file)
+            }
+        }
     }
 }
 
@@ -97,6 +123,7 @@ fn make_room<F: Files>(
     place: &Place,
 ) -> Result<(), RunEnd>
     requires ready { IsReady setting.now }
+    requires runs { world.old.program ≡ setting.now.program.now }
     requires live { AreOpen (F.state files.old) handles.now }
     requires placed { ArePlaced (paths_of setting.now) (F.state files.old) handles.now world.old.world.files }
     ensures kept { world.new.program ≡ world.old.program }
@@ -107,6 +134,8 @@ fn make_room<F: Files>(
         (F.state files.new) }
     ensures ids { KeepsIds (F.state files.old) (F.state files.new) }
     ensures places { IfOk result (λ _. KeepsPlaces world.old.world.files world.new.world.files) }
+    ensures room { IfOk result (λ _. HasRoomFor setting.now world.new.world
+        (plain_act place.now.statement.now.act.now)) }
 {
     match full_file(setting, place, world) {
         None => Ok(()),

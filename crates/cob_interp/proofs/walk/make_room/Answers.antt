@@ -1,8 +1,11 @@
+use Rattle.std.proofs.Common.{refl}
+use Rattle.cob_program.specs.ActView.{plain_act}
 use Rattle.cob_interp.specs.Setting.{paths_of}
 use Rattle.cob_interp.specs.Touching.{makes_none}
 use Rattle.cob_interp.proofs.Emptying.{sees_stay, sees_behind, keeps_behind}
 use Rattle.cob_interp.proofs.Passing.{ids_stay}
 use Rattle.cob_interp.proofs.Touched.{touches_stay}
+use Rattle.cob_interp.proofs.RoomLemmas.{room_out}
 use Rattle.cob_interp.proofs.TrackLemmas.{places_stay}
 use Rattle.cob_interp.proofs.Written.{written_placed}
 use Rattle.cob_interp.proofs.walk.make_room.Goals as goal
@@ -32,3 +35,11 @@ pub returns-in-Some-clause-places : goal.returns-in-Some-clause-places
 returns-in-Some-clause-places g c =
     keeps_behind c.args.setting.now c.args.world.now.world _ c.in-Some.file _ _ _ c.write_out.ensures.goes
     c.write_out.ensures.emptied
+
+pub returns-in-None-clause-room : goal.returns-in-None-clause-room
+returns-in-None-clause-room g c = c.in-None.ensures.room refl
+
+pub returns-in-Some-clause-room : goal.returns-in-Some-clause-room
+returns-in-Some-clause-room g c =
+    room_out c.args.setting.now c.args.world.now.world _ (plain_act c.args.place.now.statement.now.act.now)
+    c.in-Some.file c.write_out.result (c.in-Some.ensures.full c.in-Some.file refl) c.write_out.ensures.emptied
