@@ -7,6 +7,7 @@ ghost use Rattle.cob_graph.specs.WellFormed.{IsWellFormed};
 ghost use Rattle.cob_items.specs.WellFormed.{HasWellFormedItems};
 ghost use Rattle.cob_program.specs.ActView.{plain_program};
 ghost use Rattle.cob_world.specs.Doing.{CanDoProgram};
+ghost use Rattle.cob_interp.specs.Able.{CanBeRun};
 ghost use Rattle.cob_interp.specs.Readying.{IsRefusal, Sees, AreEmptied};
 ghost use Rattle.cob_interp.specs.Running.{Outside, outside, HaltsOff, IsBroken, IfTold, KeepsUnmade, Runs, TellsOfSink};
 ghost use Rattle.cob_interp.specs.Setting.{IsReady, program_of, paths_of, texts};
@@ -287,9 +288,7 @@ pub fn run_to_ending<F: Files, O: Sink>(
     budget: u64,
 ) -> Ending
     requires graph { IsGraph (plain_program program.now) graph.now }
-    requires whole { IsWellFormed (plain_program program.now) }
-    requires sound { HasWellFormedItems program.now.layout }
-    requires able { CanDoProgram (plain_program program.now) }
+    requires able { CanBeRun (plain_program program.now) }
     requires paths { length paths.now ≡ length program.now.layout.files }
     requires distinct { AreDistinct (texts paths.now) }
     ensures runs { Runs (plain_program program.now) graph.now (texts paths.now) budget
@@ -318,9 +317,7 @@ pub fn run<F: Files, O: Sink>(
     budget: u64,
 ) -> Result<Ended, RunEnd>
     requires graph { IsGraph (plain_program program.now) graph.now }
-    requires whole { IsWellFormed (plain_program program.now) }
-    requires sound { HasWellFormedItems program.now.layout }
-    requires able { CanDoProgram (plain_program program.now) }
+    requires able { CanBeRun (plain_program program.now) }
     requires paths { length paths.now ≡ length program.now.layout.files }
     requires distinct { AreDistinct (texts paths.now) }
     ensures runs { Runs (plain_program program.now) graph.now (texts paths.now) budget
