@@ -28,6 +28,7 @@ pub mod Beginnings
 pub mod Taking
 pub mod OneEndLemmas
 pub mod Touched
+pub mod Failing
 pub mod Closings
 pub mod Unmade
 pub mod Breaking

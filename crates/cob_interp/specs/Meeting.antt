@@ -34,11 +34,15 @@ writes_files (close_files fs) = true
 writes_files (write r from) = true
 writes_files _ = false
 
+abbrev pub IsMetIn : Act → RunEnd → Type 0
+IsMetIn a end.ReadFault = reads_files a ≡ true
+IsMetIn a end.WriteFault = writes_files a ≡ true
+IsMetIn a _ = Unit {0}
+
 -- a fault of the outside's files is one that the statement may meet
 abbrev pub IsMetBy : {A : Type 0} → Act → Result A RunEnd → Type 0
-IsMetBy a (Err end.ReadFault) = reads_files a ≡ true
-IsMetBy a (Err end.WriteFault) = writes_files a ≡ true
-IsMetBy a _ = Unit {0}
+IsMetBy a (Ok x) = Unit {0}
+IsMetBy a (Err e) = IsMetIn a e
 
 -- ---- results
 
@@ -48,17 +52,25 @@ is_failure end.ReadFault = true
 is_failure end.WriteFault = true
 is_failure _ = false
 
+abbrev pub IfFailure : RunEnd → Type 0 → Type 0
+IfFailure end.ReadFault P = P
+IfFailure end.WriteFault P = P
+IfFailure _ P = Unit {0}
+
 -- a fact where they failed
 abbrev pub IfFailed : {A : Type 0} → Result A RunEnd → Type 0 → Type 0
-IfFailed (Err end.ReadFault) P = P
-IfFailed (Err end.WriteFault) P = P
-IfFailed _ P = Unit {0}
+IfFailed (Ok x) P = Unit {0}
+IfFailed (Err e) P = IfFailure e P
+
+abbrev pub IsFailureBy : Bool → RunEnd → Type 0
+IsFailureBy writes end.ReadFault = writes ≡ false
+IsFailureBy writes end.WriteFault = writes ≡ true
+IsFailureBy writes _ = Unit {0}
 
 -- where they failed, it was by a write, or by a read
 abbrev pub FailsBy : {A : Type 0} → Bool → Result A RunEnd → Type 0
-FailsBy writes (Err end.ReadFault) = writes ≡ false
-FailsBy writes (Err end.WriteFault) = writes ≡ true
-FailsBy writes _ = Unit {0}
+FailsBy writes (Ok x) = Unit {0}
+FailsBy writes (Err e) = IsFailureBy writes e
 
 -- ---- text that waits
 

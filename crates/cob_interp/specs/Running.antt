@@ -54,9 +54,25 @@ RoseReading old new = Rose old.files.reading new.files.reading
 abbrev pub RoseWriting : Outside → Outside → Type 0
 RoseWriting old new = Rose old.files.writing new.files.writing ⊎ Rose old.sink.faults new.sink.faults
 
+-- A count of faults stays where the run came to its end. Behind another end of its own a close may have been refused.
+abbrev pub CountsOn : Result Ended RunEnd → ℕ → ℕ → Type 0
+CountsOn (Ok e) old new = new ≡ old
+CountsOn (Err e) old new = old ≤ new
+
+-- The sink refused text, which its count shows, or memory ran out: a front of the text is shown.
+pub record ShowsFront (old new : SinkState) (result : Result Ended RunEnd) (text : List ℕ) : Type 0 where
+  pub why : (result ≡ Err end.Memory) ⊎ Rose old.faults new.faults
+  pub front : (n : ℕ) × (new.told ≡ append_known old.told (take n text))
+
 -- the next statement opens the file at a place for output
 abbrev pub makes_next : Program → State → ℕ → Bool
 makes_next p s place = option_map_or (λ a. makes_by a place) (act_at p (next_statement p s.control)) false
+
+-- the next statement may meet the fault
+pub record IsMetNext (p : Program) (s : State) (result : Result Ended RunEnd) : Type 0 where
+  pub act : Act
+  pub next : act_at p (next_statement p s.control) ≡ Some act
+  pub met : IsMetBy act result
 
 module _ (p : Program) (g : Graph) (paths : List (List ℕ)) where
   -- The way that the run has come stands in what is kept: it has left so many nodes at which a step begins. So many
@@ -115,11 +131,6 @@ module _ (p : Program) (g : Graph) (paths : List (List ℕ)) where
     EndsRunIf a b sink_before sink_after result =
         IfTold (λ first told. EndsRun first told sink_before sink_after result) a b
 
-    -- A count of faults stays where the run came to its end. Behind another end of its own a close may have been refused.
-    abbrev pub CountsOn : Result Ended RunEnd → ℕ → ℕ → Type 0
-    CountsOn (Ok e) old new = new ≡ old
-    CountsOn (Err e) old new = old ≤ new
-
     -- the run's own end: no fault of the outside was met before it
     pub record EndsWell (old new : Outside) (result : Result Ended RunEnd) : Type 0 where
       pub reading : CountsOn result old.files.reading new.files.reading
@@ -134,17 +145,6 @@ module _ (p : Program) (g : Graph) (paths : List (List ℕ)) where
       pub files : (place : ℕ) (path : List ℕ) (f : File) → slice_get paths place ≡ Some path
           → slice_get (state_after p (told_files first paths) steps).world.files place ≡ Some f
           → IsPartOf false f f.content (get told path)
-
-    -- the next statement may meet the fault
-    pub record IsMetNext (s : State) (result : Result Ended RunEnd) : Type 0 where
-      pub act : Act
-      pub next : act_at p (next_statement p s.control) ≡ Some act
-      pub met : IsMetBy act result
-
-    -- The sink refused text, which its count shows, or memory ran out: a front of the text is shown.
-    pub record ShowsFront (old new : SinkState) (result : Result Ended RunEnd) (text : List ℕ) : Type 0 where
-      pub why : (result ≡ Err end.Memory) ⊎ Rose old.faults new.faults
-      pub front : (n : ℕ) × (new.told ≡ append_known old.told (take n text))
 
     -- The run was broken off behind so many steps, or in the next one: each file holds what it holds there, or a part
     -- of it; what is shown is all that is shown there, unless the sink refused it or memory ran out. A fault of files was
@@ -163,7 +163,7 @@ module _ (p : Program) (g : Graph) (paths : List (List ℕ)) where
           ⊎ ShowsFront sink_before sink_after result (state_after p (told_files first paths) steps).world.shown
       pub meets : IfFailed result (IsOver first told steps
           ⊎ (Rose sink_before.faults sink_after.faults
-          ⊎ IsMetNext (state_after p (told_files first paths) steps) result))
+          ⊎ IsMetNext p (state_after p (told_files first paths) steps) result))
 
     abbrev pub IsBroken : Outside → Outside → Result Ended RunEnd → Type 0
     IsBroken start now result =

@@ -1,6 +1,7 @@
 //! How files are opened and closed outside, and what waits of those that are written goes out.
-ghost use Rattle.std.specs.Prelude.{◌≡◌, List, ℕ, true, MatchResult, IfOk, IfSome, [], ◌∷◌, Some, None, length, slice_get, slice_set};
+ghost use Rattle.std.specs.Prelude.{◌≡◌, List, ℕ, true, false, MatchResult, IfOk, IfErr, IfSome, [], ◌∷◌, Some, None, length, slice_get, slice_set};
 ghost use Rattle.batch_io.specs.FilesState.{KeepsIds, known_bytes};
+ghost use Rattle.cob_interp.specs.Meeting.{FailsBy};
 ghost use Rattle.cob_interp.specs.Readying.{IsRefusal, IsNamed, Readies, GoesOut, OpensInto, ReadyToOpen, emptied, IsWrittenAt};
 ghost use Rattle.cob_interp.specs.Tracking.{AreOpen, ArePlaced, AreWritten, IsHeldFor, StandAt, Tracks};
 ghost use Rattle.cob_runs.specs.Files as file;
@@ -32,6 +33,7 @@ fn put_waiting<F: Files>(
         (λ _. (path : List ℕ) → IsNamed (F.state files.old) handles.now place path file.now
         → Readies (F.state files.old) (F.state files.new) path (λ told now. IsOut told now path file.now))
         (λ e. IsRefusal (F.state files.old) (F.state files.new) e) }
+    ensures fault { FailsBy true result }
     ensures touches { (path : List ℕ) → IsNamed (F.state files.old) handles.now place path file.now
         → TouchesOne (F.state files.old) (F.state files.new) path file.now }
     ensures ids { KeepsIds (F.state files.old) (F.state files.new) }
@@ -56,6 +58,7 @@ fn put_out<F: Files>(
     ensures goes { MatchResult result
         (λ _. GoesOut setting.now world.now.world place (F.state files.old) (F.state files.new))
         (λ e. IsRefusal (F.state files.old) (F.state files.new) e) }
+    ensures fault { FailsBy true result }
     ensures touches { Touches (paths_of setting.now) makes_none world.now.world (F.state files.old)
         (F.state files.new) }
     ensures ids { KeepsIds (F.state files.old) (F.state files.new) }
@@ -109,6 +112,8 @@ pub fn write_out<F: Files>(
     ensures goes { MatchResult result
         (λ _. GoesOut setting.now world.old.world place (F.state files.old) (F.state files.new))
         (λ e. IsRefusal (F.state files.old) (F.state files.new) e) }
+    ensures fault { FailsBy true result }
+    ensures still { IfErr result (λ _. world.new.world ≡ world.old.world) }
     ensures emptied { IfOk result (λ _. world.new.world ≡ emptied place world.old.world) }
     ensures touches { Touches (paths_of setting.now) makes_none world.old.world (F.state files.old)
         (F.state files.new) }
@@ -174,6 +179,7 @@ fn open_input<F: Files>(
         world.new.world)
         (λ e. IsRefusal (F.state files.old) (F.state files.new) e) }
     ensures only { OpensOnly world.old.world world.new.world }
+    ensures fault { FailsBy false result }
 {
     let Some(size) = setting.size(place as usize) else {
         return Err(RunEnd::Memory);
@@ -208,6 +214,7 @@ pub fn ready_to_open<F: Files>(
     ensures touches { Makes (paths_of setting.now) (makes_in (opening ∷ [])) world.old.world
         (F.state files.old) (F.state files.new) }
     ensures opens { OpensOnly world.old.world world.new.world }
+    ensures fault { FailsBy opening.output result }
 {
     let Some(path) = setting.path(opening.file as usize) else {
         return Err(RunEnd::Memory);

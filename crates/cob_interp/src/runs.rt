@@ -1,5 +1,5 @@
 //! A program is run on the outside's files.
-ghost use Rattle.std.specs.Prelude.{◌≡◌, ℕ, List, true, false, IfOk, MatchResult, length};
+ghost use Rattle.std.specs.Prelude.{◌≡◌, ℕ, List, true, false, IfOk, IfErr, MatchResult, Result, Err, length};
 ghost use Rattle.batch_io.specs.FilesState.{KeepsIds, known_bytes};
 ghost use Rattle.batch_io.specs.SinkState.{SinkState};
 ghost use Rattle.cob_graph.specs.Graphs.{IsGraph};
@@ -7,6 +7,9 @@ ghost use Rattle.cob_graph.specs.WellFormed.{IsWellFormed};
 ghost use Rattle.cob_items.specs.WellFormed.{HasWellFormedItems};
 ghost use Rattle.cob_program.specs.ActView.{plain_program};
 ghost use Rattle.cob_world.specs.Doing.{CanDoProgram};
+ghost use Rattle.cob_interp.specs.declared.ends.Ended.{Ended};
+ghost use Rattle.cob_interp.specs.declared.ends.RunEnd.{RunEnd};
+ghost use Rattle.cob_interp.specs.Meeting.{end_behind};
 ghost use Rattle.cob_interp.specs.Able.{CanBeRun};
 ghost use Rattle.cob_interp.specs.Readying.{IsRefusal, Sees, AreEmptied};
 ghost use Rattle.cob_interp.specs.Running.{Outside, outside, HaltsOff, IsBroken, IfTold, KeepsUnmade, Runs, TellsOfSink};
@@ -86,6 +89,19 @@ fn give_up<F: Files>(files: &mut F, handles: &mut Handles, ending: Ending) -> En
     ending
 }
 
+/// Behind the run's own end, with what closing answered: a refused close counts where the run came to its end.
+fn end_behind(end: Result<Ended, RunEnd>, closed: Result<(), RunEnd>) -> Result<Ended, RunEnd>
+    ensures { result ≡ end_behind end closed }
+{
+    match end {
+        Err(own) => Err(own),
+        Ok(ended) => match closed {
+            Ok(()) => Ok(ended),
+            Err(refusal) => Err(refusal),
+        },
+    }
+}
+
 /// What a run comes to that nothing refused, and of which nothing waits: it closes all that are still open.
 fn close_handles<F: Files>(
     files: &mut F,
@@ -95,23 +111,20 @@ fn close_handles<F: Files>(
     requires live { AreOpen (F.state files.old) handles.old }
     requires own { IsOwnEnd end }
     ensures refused { result.sink_refused ≡ false }
+    ensures stays { IfErr end (λ e. result.end ≡ Err e) }
     ensures tracks { Tracks (F.state files.old) (F.state files.new) handles.old handles.new }
     ensures none { AreNone handles.new }
     ensures runs { (p : act.Program) (g : graph.Graph) (paths : List (List ℕ)) (budget : ℕ) (start : Outside)
         (sink : SinkState)
         → Runs p g paths budget start (outside (F.state files.old) sink) end
-        → IsBroken p g paths budget start (outside (F.state files.old) sink)
+        → ((broken : Result Ended RunEnd)
+        → IsBroken p g paths budget start (outside (F.state files.old) sink) broken)
         → Runs p g paths budget start (outside (F.state files.new) sink) result.end }
 {
-    match handles.close_all(files) {
-        Ok(()) => Ending {
-            end,
-            sink_refused: false,
-        },
-        Err(refusal) => Ending {
-            end: Err(refusal),
-            sink_refused: false,
-        },
+    let closed = handles.close_all(files);
+    Ending {
+        end: end_behind(end, closed),
+        sink_refused: false,
     }
 }
 

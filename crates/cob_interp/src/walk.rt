@@ -1,5 +1,5 @@
 //! A run from its first node to its end.
-ghost use Rattle.std.specs.Prelude.{◌≡◌, ◌+◌, ◌<◌, ℕ, true, IfOk, MatchResult, Some, None, length, slice_get};
+ghost use Rattle.std.specs.Prelude.{◌≡◌, ◌+◌, ◌<◌, ℕ, true, false, IfOk, IfErr, MatchResult, Some, None, [], length, slice_get};
 ghost use Rattle.batch_io.specs.FilesState.{KeepsIds};
 ghost use Rattle.batch_io.specs.SinkState.{SinkState};
 ghost use Rattle.cob_program.specs.ActView.{plain_act};
@@ -8,6 +8,7 @@ ghost use Rattle.cob_runs.specs.State as state;
 ghost use Rattle.cob_interp.specs.Running.{Outside, outside, Stands, Arrives, IsAt, GoesOn, HaltsOff};
 ghost use Rattle.cob_interp.specs.Setting.{IsReady, StartsAt, program_of, paths_of};
 ghost use Rattle.cob_interp.specs.Readying.{IsRefusal, Sees};
+ghost use Rattle.cob_interp.specs.Meeting.{IfFailed, IsMetBy, ShowsRest, is_failure, shows_first};
 ghost use Rattle.cob_interp.specs.Rooms.{HasRoom, HasRoomFor, written_by};
 ghost use Rattle.cob_interp.specs.Touching.{Touches, makes_by, makes_none};
 ghost use Rattle.cob_interp.specs.Tracking.{AreLeft, AreOpen, ArePlaced, KeepsPlaces, Tracks};
@@ -16,7 +17,6 @@ ghost use Rattle.cob_interp.specs.Walking.{as_result, TellsBySink, Flushes, MayF
 use crate::ends::{Ended, RunEnd};
 use crate::handles::{Handles, is_full};
 use crate::outside::write_out;
-use crate::parts::{Call, call_of};
 use crate::setting::{Place, Setting};
 use crate::steps::take_step;
 use batch_io::{Files, MakeEnd, Sink, show_whole};
@@ -46,13 +46,18 @@ pub fn flush<O: Sink>(world: &mut World, out: &mut O) -> Result<(), MakeEnd>
     Ok(())
 }
 
-/// Whether text that waits is shown before a statement: much of it, or any before a statement that calls the outside.
-fn is_flushed_before(place: &Place, world: &World) -> bool {
-    let calls = match call_of(place.statement.act) {
-        Call::Open(_) | Call::Close(_) => true,
-        Call::Read(_) | Call::Other => false,
-    };
-    calls || world.shown().len() > SHOWN_LIMIT
+/// Whether all text is shown before a statement: before one that opens or closes files.
+fn shows_first(act: &Act) -> bool
+    ensures { result ≡ shows_first (plain_act act.now) }
+{
+    matches!(act, Act::OpenFiles(_) | Act::CloseFiles(_))
+}
+
+/// Whether text that waits is shown before a statement: where all is, or where it is much.
+fn is_flushed_before(place: &Place, world: &World) -> bool
+    ensures { shows_first (plain_act place.now.statement.now.act.now) ≡ true → result ≡ true }
+{
+    shows_first(place.statement.act) || world.shown().len() > SHOWN_LIMIT
 }
 
 /// Shows the text that waits, where that's due before a statement.
@@ -61,11 +66,39 @@ fn flush_before<O: Sink>(place: &Place, world: &mut World, out: &mut O) -> Resul
     ensures flushes { MatchResult result
         (λ _. MayFlush (O.state out.old) (O.state out.new) world.old.world world.new.world)
         (λ end. Refuses (O.state out.old) (O.state out.new) world.old.world world.new.world end) }
+    ensures first { IfOk result (λ _. shows_first (plain_act place.now.statement.now.act.now) ≡ true
+        → world.new.world.shown ≡ []) }
 {
     if is_flushed_before(place, world) {
         flush(world, out)
     } else {
         Ok(())
+    }
+}
+
+/// Whether the outside's files failed.
+fn is_failure(end: RunEnd) -> bool
+    ensures { result ≡ is_failure end }
+{
+    matches!(end, RunEnd::ReadFault | RunEnd::WriteFault)
+}
+
+/// Behind a statement that was refused: where files failed, what still waits of the text is shown. Answers why the run
+/// halts.
+fn show_rest<O: Sink>(place: &Place, world: &mut World, out: &mut O, end: RunEnd) -> Halt
+    ensures kept { world.new.program ≡ world.old.program }
+    ensures shows { ShowsRest (plain_act place.now.statement.now.act.now) (O.state out.old) (O.state out.new)
+        world.old.world world.new.world end result }
+{
+    if shows_first(place.statement.act) {
+        return Halt::End(end);
+    }
+    if !is_failure(end) {
+        return Halt::End(end);
+    }
+    match flush(world, out) {
+        Ok(()) => Halt::End(end),
+        Err(refusal) => Halt::Sink(refusal),
     }
 }
 
@@ -136,6 +169,8 @@ fn make_room<F: Files>(
     ensures places { IfOk result (λ _. KeepsPlaces world.old.world.files world.new.world.files) }
     ensures room { IfOk result (λ _. HasRoomFor setting.now world.new.world
         (plain_act place.now.statement.now.act.now)) }
+    ensures met { IsMetBy (plain_act place.now.statement.now.act.now) result }
+    ensures still { IfErr result (λ _. world.new.world ≡ world.old.world) }
 {
     match full_file(setting, place, world) {
         None => Ok(()),
@@ -170,6 +205,9 @@ fn take_roomy_step<F: Files>(
     ensures touches { Touches (paths_of setting.now) (makes_by (plain_act place.now.statement.now.act.now))
         world.old.world
         (F.state files.old) (F.state files.new) }
+    ensures met { IsMetBy (plain_act place.now.statement.now.act.now) result }
+    ensures still { shows_first (plain_act place.now.statement.now.act.now) ≡ false
+        → IfFailed result (world.new.world.shown ≡ world.old.world.shown) }
 {
     make_room(alloc, setting, files, handles, world, place)?;
     take_step(alloc, setting, files, handles, world, place, node, step)
@@ -207,7 +245,7 @@ fn go_on<F: Files, O: Sink>(
     match flush_before(&place, world, out) {
         Err(end) => Err(Halt::Sink(end)),
         Ok(()) => match take_roomy_step(alloc, setting, files, handles, world, &place, node, step) {
-            Err(end) => Err(Halt::End(end)),
+            Err(end) => Err(show_rest(&place, world, out, end)),
             Ok(next) => Ok(next),
         },
     }

@@ -7,6 +7,7 @@ use Rattle.std.proofs.Common.{[], ◌∷◌}
 use Rattle.cob_interp.specs.Setting.{paths_of}
 use Rattle.cob_interp.specs.Touching.{makes_in}
 use Rattle.cob_interp.proofs.Touched.{makes_stay, makes_same, makes_by_create, makes_own}
+use Rattle.std.proofs.lemmas.Result.{err_from_is_err_and}
 use Rattle.cob_interp.proofs.outside.ready_to_open.Goals as goal
 
 pub returns-then-not-is_closed-clause-readies : goal.returns-then-not-is_closed-clause-readies
@@ -90,3 +91,13 @@ create-requires-clause-free g c =
 pub returns-in_default-size-clause-touches : goal.returns-in_default-size-clause-touches
 returns-in_default-size-clause-touches g c =
     makes_stay (paths_of c.args.setting.now) (makes_in (c.args.opening ∷ [])) c.args.world.now.world _
+
+pub returns-in_err-create-clause-fault : goal.returns-in_err-create-clause-fault
+returns-in_err-create-clause-fault g c =
+    let p = err_from_is_err_and c.from_residual.result c.from_residual.ensures.1 in
+    rw (p.1, p.2, c.if-opening.true) c.in_err-create.ensures.fault
+
+pub returns-in_err-open_input-clause-fault : goal.returns-in_err-open_input-clause-fault
+returns-in_err-open_input-clause-fault g c =
+    let p = err_from_is_err_and c.from_residual.result c.from_residual.ensures.1 in
+    rw (p.1, p.2, c.if-opening.false) c.in_err-open_input.ensures.fault
