@@ -72,8 +72,8 @@ fn close_fault(writes: bool) -> RunEnd
 
 /// Whether so many more bytes have no room behind those that wait.
 pub fn is_full(waiting: usize, more: u32) -> bool
-    ensures room { result ≡ false → waiting + more ≤ 65_536 }
-    ensures full { result ≡ true → 65_536 < waiting + more }
+    ensures room { result ≡ false → waiting + more ≤ 65536 }
+    ensures full { result ≡ true → 65536 < waiting + more }
 {
     match waiting.checked_add(more as usize) {
         None => true,

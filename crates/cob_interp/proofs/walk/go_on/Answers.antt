@@ -26,8 +26,8 @@ returns-in-Err-take_roomy_step-clause-goes g c budget steps start counted within
 pub returns-in-Err-take_roomy_step-clause-placed : goal.returns-in-Err-take_roomy_step-clause-placed
 returns-in-Err-take_roomy_step-clause-placed g c =
     rest_placed (plain_act c.in-Some.place.statement.now.act.now) _ _ c.take_roomy_step.new.world.world
-    c.show_rest.new.world.world c.in-Err-take_roomy_step.end c.show_rest.result (paths_of c.args.setting.now)
-    (g.F.Files.state c.take_roomy_step.new.files) c.take_roomy_step.new.handles c.show_rest.ensures.shows
+    c.show_rest.new.world.world c.in-Err-take_roomy_step.end c.show_rest.result (paths_of c.args.setting.now) _ _
+    c.show_rest.ensures.shows
     c.in-Err-take_roomy_step.ensures.placed
 
 pub returns-in-Err-take_roomy_step-clause-sink : goal.returns-in-Err-take_roomy_step-clause-sink

@@ -1,4 +1,4 @@
-use Rattle.std.proofs.Common.{refl, sym}
+use Rattle.std.proofs.Common.{ℕ, ◌+◌, ◌≤◌, List, length, refl, sym, subst}
 use Rattle.cob_interp.proofs.RoomLemmas.{no_decl, no_file, room_by, not_true}
 use Rattle.cob_interp.proofs.walk.has_room.Goals as goal
 
@@ -12,4 +12,6 @@ pub returns-in-Some : goal.returns-in-Some
 returns-in-Some c = λ is.
     let size = c.in-Some.ensures.some in
     room_by _ _ size.decl c.in-Some-file.found.now c.in-Some.size size.declared size.size_
-    (sym c.in-Some-file.ensures) (rw c.all.ensures at c.is_full.ensures.room (not_true _ is))
+    (sym c.in-Some-file.ensures)
+    (subst (λ (bytes : List ℕ). length bytes + c.in-Some.size ≤ 65536) c.all.ensures
+    (c.is_full.ensures.room (not_true _ is)))
