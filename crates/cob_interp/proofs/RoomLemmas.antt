@@ -12,9 +12,9 @@ use Rattle.cob_interp.specs.Readying.{emptied}
 use Rattle.cob_interp.specs.Rooms.{HasRoom, HasRoomAt, HasRoomFor, written_by}
 use Rattle.cob_interp.proofs.Emptying.{emptied_here}
 
-pub no_decl : (d : Option FileDecl) (o : Option File) → d ≡ None → HasRoom d o
+pub no_decl : (d : Option FileDecl) (o : Option File) → ((decl : FileDecl) × (d ≡ Some decl) → ⊥) → HasRoom d o
 no_decl None o none = tt
-no_decl (Some d) o none = cc
+no_decl (Some d) o none = absurd (none (d, refl))
 
 pub no_file : (d : Option FileDecl) (o : Option File) → o ≡ None → HasRoom d o
 no_file None o none = tt

@@ -2,7 +2,7 @@
 ghost use Rattle.std.specs.Prelude.{◌≡◌, List, ℕ, true, false, MatchResult, IfOk, IfErr, IfSome, [], ◌∷◌, Some, None, length, slice_get, slice_set};
 ghost use Rattle.batch_io.specs.FilesState.{KeepsIds, known_bytes};
 ghost use Rattle.cob_interp.specs.Meeting.{FailsBy};
-ghost use Rattle.cob_interp.specs.Readying.{IsRefusal, IsNamed, Readies, GoesOut, OpensInto, ReadyToOpen, emptied, IsWrittenAt};
+ghost use Rattle.cob_interp.specs.Readying.{IsDeclared, IsRefusal, IsNamed, Readies, GoesOut, OpensInto, ReadyToOpen, emptied, IsWrittenAt};
 ghost use Rattle.cob_interp.specs.Tracking.{AreOpen, ArePlaced, AreWritten, IsHeldFor, StandAt, Tracks};
 ghost use Rattle.cob_runs.specs.Files as file;
 ghost use Rattle.cob_runs.specs.Files.{writing};
@@ -169,6 +169,7 @@ fn open_input<F: Files>(
     path: &str,
     place: u32,
 ) -> Result<(), RunEnd>
+    requires declared { IsDeclared setting.now place }
     requires live { AreOpen (F.state files.old) handles.old }
     requires free { slice_get handles.old place ≡ Some None }
     ensures tracks { Tracks (F.state files.old) (F.state files.new) handles.old handles.new }
@@ -181,9 +182,7 @@ fn open_input<F: Files>(
     ensures only { OpensOnly world.old.world world.new.world }
     ensures fault { FailsBy false result }
 {
-    let Some(size) = setting.size(place as usize) else {
-        return Err(RunEnd::Memory);
-    };
+    let size = setting.size_at(place as usize);
     let content = if handles.open(alloc, files, path, place as usize, size)? {
         Some(Vec::new(alloc))
     } else {
@@ -226,9 +225,7 @@ pub fn ready_to_open<F: Files>(
         return Ok(());
     }
     if opening.output {
-        let Some(size) = setting.size(opening.file as usize) else {
-            return Err(RunEnd::Memory);
-        };
+        let size = setting.size_at(opening.file as usize);
         handles.create(alloc, files, path, opening.file as usize, size)?;
         return Ok(());
     }

@@ -2,9 +2,8 @@
 ghost use Rattle.std.specs.Prelude.{◌≡◌, ◌==◌, ℕ, false, Some, None, IfSome};
 ghost use Rattle.cob_graph.specs.declared.graph.Node.{Node};
 ghost use Rattle.cob_graph.specs.Lookup.{node_at, final_in};
-ghost use Rattle.cob_runs.specs.Acts.{decl_at};
 ghost use Rattle.cob_interp.specs.Setting.{IsReady, IsPlace, StartsAt};
-ghost use Rattle.cob_interp.specs.Readying.{IsPath, IsSize};
+ghost use Rattle.cob_interp.specs.Readying.{IsDeclared, IsPath, IsSize};
 
 use cob_graph::Graph;
 use cob_plan::{Plan, PlanNode, Statement};
@@ -74,11 +73,22 @@ impl<'b> Setting<'b> {
     /// How many bytes a record of the file at a place has.
     pub fn size(&self, place: usize) -> Option<u32>
         ensures some { IfSome result (λ size. IsSize self.now place size) }
-        ensures none { result ≡ None → decl_at self.now.program.now.layout place ≡ None }
+        ensures none { result ≡ None → IsDeclared self.now place → ⊥ }
     {
         match self.program.layout.files.get().get(place) {
             None => None,
             Some(decl) => Some(decl.length),
+        }
+    }
+
+    /// How many bytes a record of the file at a place has, which is declared.
+    pub fn size_at(&self, place: usize) -> u32
+        requires { IsDeclared self.now place }
+        ensures { IsSize self.now place result }
+    {
+        match self.size(place) {
+            Some(size) => size,
+            None => unreachable!(),
         }
     }
 
