@@ -95,11 +95,11 @@ returns-in_err-create-clause-fault g c =
 
 pub returns-in_err-open_input-clause-fault : goal.returns-in_err-open_input-clause-fault
 returns-in_err-open_input-clause-fault g c =
-    let p = err_from_is_err_and c.from_residual.result c.from_residual.ensures.1 in
+    let p = err_from_is_err_and c.from_residual-in_err-open_input.result c.from_residual-in_err-open_input.ensures.1 in
     rw (p.1, p.2, c.if-opening.false) c.in_err-open_input.ensures.fault
 
 pub open_input-requires-clause-declared : goal.open_input-requires-clause-declared
 open_input-requires-clause-declared g c = (c.in-Some.ensures.decl, c.in-Some.ensures.declared)
 
-pub size_at-requires : goal.size_at-requires
-size_at-requires g c = (c.in-Some.ensures.decl, c.in-Some.ensures.declared)
+pub size_at-size-requires : goal.size_at-size-requires
+size_at-size-requires g c = (c.in-Some.ensures.decl, c.in-Some.ensures.declared)

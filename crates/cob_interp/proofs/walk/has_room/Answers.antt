@@ -8,8 +8,8 @@ returns-in_default c = λ _. no_decl _ _ (c.in_default.ensures.none refl)
 pub returns-in-None : goal.returns-in-None
 returns-in-None c = λ _. no_file _ _ (sym c.in-None.ensures)
 
-pub returns-in-Some : goal.returns-in-Some
-returns-in-Some c = λ is.
+pub returns-in-Some-file : goal.returns-in-Some-file
+returns-in-Some-file c = λ is.
     let size = c.in-Some.ensures.some in
     room_by _ _ size.decl c.in-Some-file.found.now c.in-Some.size size.declared size.size_
     (sym c.in-Some-file.ensures)
