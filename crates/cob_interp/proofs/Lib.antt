@@ -28,6 +28,7 @@ pub mod Beginnings
 pub mod Taking
 pub mod OneEndLemmas
 pub mod Touched
+pub mod Failing
 pub mod Closings
 pub mod Unmade
 pub mod Breaking
@@ -38,4 +39,5 @@ pub mod ClosingHandles
 pub mod EmptyRooms
 pub mod Going
 pub mod Emptying
+pub mod RoomLemmas
 pub mod Starting
