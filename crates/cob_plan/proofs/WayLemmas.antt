@@ -16,7 +16,7 @@ use Rattle.cob_plan.specs.declared.end.DoEnd.TheVariants as end
 use Rattle.cob_plan.specs.declared.called.Called.{Called}
 use Rattle.cob_plan.specs.declared.called.Taken.{Taken}
 use Rattle.cob_plan.specs.Plan.{op_edges}
-use Rattle.cob_plan.specs.Doing.{Does, GoesTo, EndsBy, Meets, Forks, Calls, IsCall, IsTaking}
+use Rattle.cob_plan.specs.Doing.{Does, GoesTo, EndsBy, Meets, Forks, IsCall, IsTaking}
 use Rattle.cob_plan.specs.Leading.{Leads}
 
 -- ---- ways among a node's

@@ -72,12 +72,6 @@ without_error r = r >>= λ x. taken_if (not x.1) x.0
 abbrev pub with_error : Result (World × Bool) Kind → Effect
 with_error r = r >>= λ x. taken_if x.1 x.0
 
--- a call on a file, where the statement has it
-abbrev pub Calls : {C : Type 0} → (C → Type 0) → Result C DoEnd → Type 0
-Calls P (Ok c) = P c
-Calls P (Err end.Memory) = Unit {0}
-Calls P (Err _) = ⊥
-
 -- The statement is a loop with TIMES.
 abbrev pub is_times : Act → Bool
 is_times (perform body (times x)) = true

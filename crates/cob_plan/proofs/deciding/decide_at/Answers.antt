@@ -4,8 +4,14 @@ use Rattle.cob_program.specs.Logic.{Test}
 use Rattle.cob_program.specs.ActView.{plain_act, plain_program}
 use Rattle.cob_runs.specs.Effects.{decided, tests_in_act}
 use Rattle.cob_plan.specs.Doing.{Forks}
-use Rattle.cob_plan.proofs.TestLemmas.{found_test}
+use Rattle.cob_plan.proofs.TestLemmas.{found_test, no_test}
 use Rattle.cob_plan.proofs.deciding.decide_at.Goals as goal
+
+pub unreachable-requires : goal.unreachable-requires
+unreachable-requires c =
+    let s = c.args.statement.now in
+    no_test c.test_at.result s.tests.items (tests_in_act (plain_act s.act.now)) c.args.place c.test_at.ensures c.in-None.is
+    c.requires.its.tests c.requires.there
 
 pub returns-in-Some : goal.returns-in-Some
 returns-in-Some c = λ number.
