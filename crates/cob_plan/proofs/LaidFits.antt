@@ -24,7 +24,7 @@ use Rattle.cob_graph.specs.WellFormed.{AreWellFormed, IsWellFormedPhrase, IsWell
 use Rattle.cob_plan.specs.declared.node.Op.{Op}
 use Rattle.cob_plan.specs.declared.node.Op.TheVariants as op
 use Rattle.cob_plan.specs.Plan.{op_edges}
-use Rattle.cob_plan.specs.Fitting.{Tests, Fits, BeginsRead}
+use Rattle.cob_plan.specs.Fitting.{Tests, Skips, Fits, BeginsRead}
 
 -- ---- how many simple conditions
 
@@ -85,9 +85,10 @@ module _ (p : Program) where
       read = λ b _ its_b. subst (BeginsRead starts o) (same_Some a b (sym its ∙ its_b)) r;
     }
 
-    module _ (begins : (starts : Bool) (o : Op) → BeginsRead starts o a) where
+    -- it may lead on alone, and is no READ
+    module _ (alone : Skips a) (begins : (starts : Bool) (o : Op) → BeginsRead starts o a) where
       skips : (starts : Bool) (to : ℕ) → IsFit (node c number starts ((action.Skip, to) ∷ []))
-      skips starts to = by_op starts (op.Skip to) tt (begins starts (op.Skip to))
+      skips starts to = by_op starts (op.Skip to) alone (begins starts (op.Skip to))
 
       -- so many simple conditions
       module _ (many : ℕ) (tests : (k : ℕ) → k < many → Tests k a) where
@@ -171,13 +172,13 @@ module _ (p : Program) where
       until_fits : (after : Bool) (t : Logic) → Is (until after t) → (at tr fa : ℕ) →
           AreFit (logic_nodes c number true t 0 at tr fa)
       until_fits after t its at tr fa =
-          logic_fits c number (perform body (until after t)) its (λ b o. tt) (length (tests_of t)) (λ k within. within) true
+          logic_fits c number (perform body (until after t)) its tt (λ b o. tt) (length (tests_of t)) (λ k within. within) true
           t 0 at tr fa (omega (arith, counted t))
 
       varying_fits : (after : Bool) (item : ℕ) (start by : Sender) (t : Logic) → Is (varying after item start by t) →
           (at tr fa : ℕ) → AreFit (logic_nodes c number true t 0 at tr fa)
       varying_fits after item start by t its at tr fa =
-          logic_fits c number (perform body (varying after item start by t)) its (λ b o. tt) (length (tests_of t))
+          logic_fits c number (perform body (varying after item start by t)) its tt (λ b o. tt) (length (tests_of t))
           (λ k within. within) true t 0 at tr fa (omega (arith, counted t))
 
       before_fits : (turns : Turns) (x : LaidBody) (at next : ℕ) → Is turns → AreFit (loop_before c number turns x at next)
@@ -265,7 +266,7 @@ module _ (p : Program) where
           let both = length-append (tests_in_list ts) (tests_in_whens ws) in
           append_fit _ _
           (append_fit _ _
-          (any_fit c number (evaluate all last) its (λ b o. tt) (length (tests_in_whens all)) (λ k within. within) false
+          (any_fit c number (evaluate all last) its tt (λ b o. tt) (length (tests_in_whens all)) (λ k within. within) false
           (logics_of us) k at _ _ (omega (arith, within, same, both)))
           (list_fits c lo hi ss xs _ next l.1 w.0))
           (whens_fit c lo hi number all last its ws vs _ _ other next l.2 w.1 (omega (arith, within, same, both)))
@@ -314,7 +315,7 @@ module _ (p : Program) where
       act_fits c lo hi (if_ t held other) (deciding u xs ys) number at next l its w =
           append_fit _ _
           (append_fit _ _
-          (logic_fits c number (if_ t held other) its (λ b o. tt) (length (tests_of t)) (λ k within. within) true u 0 at _ _
+          (logic_fits c number (if_ t held other) its tt (λ b o. tt) (length (tests_of t)) (λ k within. within) true u 0 at _ _
           (omega (arith, counted t, ap tests_in l.0)))
           (list_fits c lo hi held xs _ next l.1 w.1))
           (list_fits c lo hi other ys _ next l.2 w.2)

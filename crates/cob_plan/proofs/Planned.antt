@@ -27,19 +27,19 @@ use Rattle.cob_plan.proofs.LaidFits.{IsFit, EachFits, program_fits}
 abbrev Ways : Type 0
 Ways = List (Action × ℕ)
 
-to_first : Ways → ℕ
+abbrev to_first : Ways → ℕ
 to_first [] = 0
 to_first (x ∷ xs) = x.1
 
-behind : Ways → Ways
+abbrev behind : Ways → Ways
 behind [] = []
 behind (x ∷ xs) = xs
 
-size_of : Ways → Option ℕ
+abbrev size_of : Ways → Option ℕ
 size_of [] = None
 size_of (x ∷ xs) = Some x.1
 
-by_action : Action → ℕ → Ways → Op
+abbrev by_action : Action → ℕ → Ways → Op
 by_action action.Skip to xs = op.Skip to
 by_action action.Assign to xs = op.Assign to
 by_action action.Show to xs = op.Show to
@@ -53,7 +53,7 @@ by_action action.Take to xs = op.Read to (to_first xs) (to_first (behind xs))
 by_action action.Write to xs = op.Write to (to_first xs)
 by_action _ to xs = op.Final
 
-by_edges : Ways → Op
+abbrev by_edges : Ways → Op
 by_edges [] = op.Final
 by_edges (x ∷ xs) = by_action x.0 x.1 xs
 

@@ -1,6 +1,6 @@
 -- Which operations the nodes of a statement have, by what it does.
 use Rattle.std.specs.Prelude.{◌≡◌, ◌≤◌, ◌<◌, ℕ, Bool, true, false, length, Some, is_some}
-use Rattle.cob_program.specs.Act.{Turns, times, varying, Act, move, arith, perform, open_files, close_files, read, write, show, Program}
+use Rattle.cob_program.specs.Act.{Turns, times, varying, Act, move, arith, if_, evaluate, perform, go, nothing, stop, open_files, close_files, read, write, show, Program}
 use Rattle.cob_runs.specs.Acts.{file_from}
 use Rattle.cob_runs.specs.Steps.{is_given}
 use Rattle.cob_runs.specs.Effects.{act_at, tests_in_act}
@@ -17,6 +17,16 @@ IsVarying _ = ⊥
 abbrev pub IsTimes : Turns → Type 0
 IsTimes (times x) = Unit {0}
 IsTimes _ = ⊥
+
+-- it does nothing but lead on
+abbrev pub Skips : Act → Type 0
+Skips (if_ t held other) = Unit {0}
+Skips (evaluate ws other) = Unit {0}
+Skips (perform body turns) = Unit {0}
+Skips (go to) = Unit {0}
+Skips nothing = Unit {0}
+Skips stop = Unit {0}
+Skips _ = ⊥
 
 -- a MOVE, the setting of VARYING, INTO or FROM
 abbrev pub Assigns : Act → Type 0
@@ -71,7 +81,7 @@ Writes p _ = ⊥
 
 -- An operation is one of a statement that does this; the final node's is none's.
 abbrev pub Fits : Program → Op → Act → Type 0
-Fits p (op.Skip to) a = Unit {0}
+Fits p (op.Skip to) a = Skips a
 Fits p (op.Assign to) a = Assigns a
 Fits p (op.Show to) a = Shows a
 Fits p (op.SetCount to) a = Counts a

@@ -43,7 +43,7 @@ returns-in_ok-ready_to_close-in-Some-clause-closes g c =
     closes_behind c.args.setting.now c.requires.ready.distinct w c.in-Some.at _ _
     c.in_ok-ready_to_close-in-Some.ensures.goes _ _
     (close_part c.args.setting.now c.args.place.now c.args.step _ _ c.args.closed.now c.in-Close.file c.in-Close.fine
-    c.in-Close.bad c.in-Close.is (c.requires.place.its ∙ ap Some c.requires.its) _ does)
+    c.in-Close.bad c.in-Close.is (c.requires.place.statement.its ∙ ap Some c.requires.its) _ does)
 
 pub returns-in_ok-ready_to_close-in-Some-clause-placed : goal.returns-in_ok-ready_to_close-in-Some-clause-placed
 returns-in_ok-ready_to_close-in-Some-clause-placed g c =
@@ -62,6 +62,6 @@ returns-in_ok-ready_to_close-in-Some-clause-placed g c =
     (c.in_ok-ready_to_close-in-Some.ensures.stand u.files placed.stand)
     c.in_ok-ready_to_close-in-Some.ensures.closed)
     (close_ends c.args.setting.now c.args.place.now c.args.step u _ c.args.closed.now c.in-Close.file c.in-Close.fine
-    c.in-Close.bad c.in-Close.is (c.requires.place.its ∙ ap Some c.requires.its) c.in-Some.at again.is.decl again.file
+    c.in-Close.bad c.in-Close.is (c.requires.place.statement.its ∙ ap Some c.requires.its) c.in-Some.at again.is.decl again.file
     (sym c.in-Some.ensures) again.is.declared again.has _
     does))

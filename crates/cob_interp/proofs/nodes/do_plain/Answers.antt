@@ -11,4 +11,4 @@ returns-clause-leads c now node budget is =
 pub returns-clause-places : goal.returns-clause-places
 returns-clause-places c =
     plain_places c.args.setting.now c.args.place.now c.args.step _ _ (plain_act c.args.place.now.statement.now.act.now)
-    c.requires.place.its _ c.do_part.ensures.does c.requires.plain
+    c.requires.place.statement.its _ c.do_part.ensures.does c.requires.plain

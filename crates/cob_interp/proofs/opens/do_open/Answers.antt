@@ -45,7 +45,7 @@ returns-in_ok-ready_to_open-in-Some-clause-opens g c =
     rw c.lend_room.ensures.same
     (opens_behind _ _ _ _ c.in_ok-ready_to_open-in-Some.ensures.opens
     (open_part c.args.setting.now c.args.place.now c.args.step _ _ c.args.openings.now c.in-Open.file c.in-Open.fine
-    c.in-Open.bad c.in-Open.is (c.requires.place.its ∙ ap Some c.requires.its) _ c.do_part-next.ensures.does))
+    c.in-Open.bad c.in-Open.is (c.requires.place.statement.its ∙ ap Some c.requires.its) _ c.do_part-next.ensures.does))
 
 pub returns-in_ok-ready_to_open-in-Some-clause-placed : goal.returns-in_ok-ready_to_open-in-Some-clause-placed
 returns-in_ok-ready_to_open-in-Some-clause-placed g c =
@@ -53,7 +53,7 @@ returns-in_ok-ready_to_open-in-Some-clause-placed g c =
     rw (c.lend_room.ensures.ids, c.lend_room.ensures.same)
     (left_by _ (paths_of c.args.setting.now) (g.F.Files.state c.ready_to_open.new.files) _ _
     (open_places c.args.setting.now c.args.place.now c.args.step _ _ (plain_act c.args.place.now.statement.now.act.now)
-    c.requires.place.its _ c.do_part-next.ensures.does c.args.openings.now c.in-Open.file c.in-Open.fine c.in-Open.bad
+    c.requires.place.statement.its _ c.do_part-next.ensures.does c.args.openings.now c.in-Open.file c.in-Open.fine c.in-Open.bad
     c.requires.its c.in-Open.is c.in-Some.opening (sym c.in-Some.ensures) (paths_of c.args.setting.now)
     (g.F.Files.state c.ready_to_open.new.files) _
     (open_one_placed c.args.setting.now.program.now.layout (paths_of c.args.setting.now)

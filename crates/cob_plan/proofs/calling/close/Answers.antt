@@ -5,8 +5,8 @@ use Rattle.cob_plan.specs.Doing.{IsCall}
 use Rattle.cob_plan.proofs.ActViews.{close_is}
 use Rattle.cob_plan.proofs.calling.close.Goals as goal
 
-pub returns-in-CloseFiles-clause-value : goal.returns-in-CloseFiles-clause-value
-returns-in-CloseFiles-clause-value c = λ number.
+pub returns-clause-value : goal.returns-in-CloseFiles-clause-value
+returns-clause-value c = λ number.
     let x = c.in-CloseFiles in
     subst
     (λ (a : Act). IsCall (plain_program c.args.world.now.program) number c.args.place c.args.world.now.world

@@ -5,8 +5,8 @@ use Rattle.cob_plan.specs.Doing.{IsCall}
 use Rattle.cob_plan.proofs.ActViews.{open_is}
 use Rattle.cob_plan.proofs.calling.open.Goals as goal
 
-pub returns-in-OpenFiles-clause-value : goal.returns-in-OpenFiles-clause-value
-returns-in-OpenFiles-clause-value c = λ number.
+pub returns-clause-value : goal.returns-in-OpenFiles-clause-value
+returns-clause-value c = λ number.
     let x = c.in-OpenFiles in
     subst
     (λ (a : Act). IsCall (plain_program c.args.world.now.program) number c.args.place c.args.world.now.world

@@ -6,8 +6,8 @@ use Rattle.cob_plan.specs.Doing.{IsCall}
 use Rattle.cob_plan.proofs.ActViews.{write_is}
 use Rattle.cob_plan.proofs.calling.write.Goals as goal
 
-pub returns-in-Write-clause-value : goal.returns-in-Write-clause-value
-returns-in-Write-clause-value c = λ number.
+pub returns-clause-value : goal.returns-in-Write-clause-value
+returns-clause-value c = λ number.
     let x = c.in-Write in
     subst
     (λ (a : Act). IfOk c.write_record.result (λ called. IsCall (plain_program c.args.world.now.program) number 0
