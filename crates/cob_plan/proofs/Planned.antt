@@ -1,11 +1,11 @@
 -- A plan's nodes have operations of their statements.
-use Rattle.std.proofs.Common.{◌≡◌, ◌≤◌, ℕ, zero, suc, ◌+◌, List, [], ◌∷◌, length, get_or, refl, sym, ap, ◌∙◌, subst}
+use Rattle.std.proofs.Common.{◌≡◌, ◌≤◌, ℕ, zero, suc, List, [], ◌∷◌, get_or, refl, sym, ap, ◌∙◌, subst}
 use Rattle.std.specs.Prelude.{slice_get, Option, Some, None, IfSome}
 use Rattle.std.specs.Borrow.{Bor}
 use Rattle.std.specs.Option.{option_copied}
 use Rattle.std.specs.List.{All}
 use Rattle.std.proofs.lemmas.Option.{same_Some, none-some, slice_get-get_or, slice_get_within}
-use Rattle.cob_program.specs.Act.{Act, Program}
+use Rattle.cob_program.specs.Act.{Program}
 use Rattle.cob_runs.specs.declared.action.Action.{Action}
 use Rattle.cob_runs.specs.declared.action.Action.TheVariants as action
 use Rattle.cob_runs.specs.Effects.{act_at}

@@ -7,14 +7,12 @@ use Rattle.dec_num.specs.declared.types.Scaled.{Scaled}
 use Rattle.cob_data.specs.declared.layout.Layout.{Layout}
 use Rattle.cob_program.specs.declared.act.Target.{Target}
 use Rattle.cob_program.specs.Sum.{Sum}
-use Rattle.cob_program.specs.Act.{Turns, once, times, until, varying, Phrase, Stmts, Act, move, arith, if_, evaluate, perform, go, nothing, stop, open_files, close_files, read, write, show, Body, Program}
+use Rattle.cob_program.specs.Act.{once, times, until, varying, Act, move, arith, if_, evaluate, perform, go, nothing, stop, open_files, close_files, read, write, show, Program}
 use Rattle.cob_runs.specs.Faults.{◌>>=◌}
-use Rattle.cob_runs.specs.Contents.{worth}
-use Rattle.cob_runs.specs.Computing.{Receiving, receiving, received, own_worth, receive, receive_all, remainder_received, has_zero_divisor, after_divisors, after_arithmetic}
+use Rattle.cob_runs.specs.Computing.{worth, Receiving, receiving, received, own_worth, receive, receive_all, remainder_received, has_zero_divisor, after_divisors, after_arithmetic}
 use Rattle.cob_runs.specs.State.{World}
 use Rattle.cob_runs.specs.Acts.{compute}
-use Rattle.cob_runs.specs.Steps.{is_given}
-use Rattle.cob_runs.specs.Effects.{Effect, taken_if, computed}
+use Rattle.cob_runs.specs.Effects.{taken_if, computed}
 use Rattle.cob_plan.specs.declared.end.DoEnd.{DoEnd}
 use Rattle.cob_plan.specs.Doing.{Forks}
 use Rattle.cob_plan.specs.Fitting.{HandlesSize}

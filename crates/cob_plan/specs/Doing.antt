@@ -1,5 +1,5 @@
 -- What doing a node's part of its statement comes to.
-use Rattle.std.specs.Prelude.{◌≡◌, ℕ, ◌==◌, ◌&&◌, not, Bool, true, false, Contains, Option, Some, None, Result, Ok, Err}
+use Rattle.std.specs.Prelude.{◌≡◌, ℕ, ◌==◌, ◌&&◌, not, Bool, true, false, Contains, Some, None, Result, Ok, Err}
 use Rattle.cob_tree.specs.declared.fault.Kind.{Kind}
 use Rattle.cob_program.specs.Act.{times, Act, perform, Program}
 use Rattle.cob_runs.specs.declared.action.Action.{Action}

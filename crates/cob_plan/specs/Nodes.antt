@@ -1,5 +1,5 @@
 -- A graph's nodes, read one after another.
-use Rattle.std.specs.Prelude.{◌≡◌, ◌==◌, ℕ, zero, suc, if◌then◌else◌, List, [], ◌∷◌, length, map, slice_get, Contains, Option, Some}
+use Rattle.std.specs.Prelude.{◌≡◌, ◌==◌, ℕ, suc, if◌then◌else◌, List, [], ◌∷◌, length, map, slice_get, Some}
 use Rattle.std.specs.List.{All}
 use Rattle.cob_runs.specs.declared.action.Action.{Action}
 use Rattle.cob_runs.specs.declared.action.Action.TheVariants as action
@@ -7,7 +7,7 @@ use Rattle.cob_graph.specs.declared.graph.Edge.{Edge}
 use Rattle.cob_graph.specs.declared.graph.Graph.{Graph}
 use Rattle.cob_plan.specs.declared.node.PlanNode.{PlanNode}
 use Rattle.cob_graph.specs.Nodes.{Noded}
-use Rattle.cob_graph.specs.Graphs.{as_node, edges_from, edges_of}
+use Rattle.cob_graph.specs.Graphs.{as_node, edges_of}
 use Rattle.cob_plan.specs.Plan.{op_edges, IsPlanNode}
 
 -- an edge without where it comes from

@@ -6,7 +6,7 @@ use Rattle.cob_plan.specs.Doing.{Meets}
 use Rattle.cob_plan.proofs.ActViews.{perform_is}
 use Rattle.cob_plan.proofs.assigning.set_count.Goals as goal
 
-pub returns-clause-value : goal.returns-in-Perform-clause-value
+pub returns-clause-value : goal.returns-clause-value
 returns-clause-value c =
     let p = c.in-Perform in
     let w = c.args.world.now.world in

@@ -5,7 +5,7 @@ use Rattle.cob_plan.specs.Doing.{IsCall}
 use Rattle.cob_plan.proofs.ActViews.{close_is}
 use Rattle.cob_plan.proofs.calling.close.Goals as goal
 
-pub returns-clause-value : goal.returns-in-CloseFiles-clause-value
+pub returns-clause-value : goal.returns-clause-value
 returns-clause-value c = λ number.
     let x = c.in-CloseFiles in
     subst

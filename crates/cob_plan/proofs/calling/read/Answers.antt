@@ -5,7 +5,7 @@ use Rattle.cob_plan.specs.Doing.{IsTaking}
 use Rattle.cob_plan.proofs.ActViews.{read_is}
 use Rattle.cob_plan.proofs.calling.read.Goals as goal
 
-pub returns-clause-value : goal.returns-in-Read-clause-value
+pub returns-clause-value : goal.returns-clause-value
 returns-clause-value c = λ number.
     let r = c.in-Read in
     subst (λ (a : Act). IsTaking (plain_program c.args.world.now.program) number 0 c.args.world.now.world c.take.new.world.world a c.take.result)

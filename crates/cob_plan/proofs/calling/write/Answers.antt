@@ -6,7 +6,7 @@ use Rattle.cob_plan.specs.Doing.{IsCall}
 use Rattle.cob_plan.proofs.ActViews.{write_is}
 use Rattle.cob_plan.proofs.calling.write.Goals as goal
 
-pub returns-clause-value : goal.returns-in-Write-clause-value
+pub returns-clause-value : goal.returns-clause-value
 returns-clause-value c = λ number.
     let x = c.in-Write in
     subst

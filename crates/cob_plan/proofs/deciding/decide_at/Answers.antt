@@ -1,5 +1,4 @@
-use Rattle.std.proofs.Common.{◌≡◌, true, false, Option, None, sym, subst}
-use Rattle.std.specs.Prelude.{slice_get}
+use Rattle.std.proofs.Common.{true, false, Option, None, sym, subst}
 use Rattle.cob_program.specs.Logic.{Test}
 use Rattle.cob_program.specs.ActView.{plain_act, plain_program}
 use Rattle.cob_runs.specs.Effects.{decided, tests_in_act}
@@ -13,8 +12,8 @@ unreachable-requires c =
     no_test c.test_at.result s.tests.items (tests_in_act (plain_act s.act.now)) c.args.place c.test_at.ensures c.in-None.is
     c.requires.its.tests c.requires.there
 
-pub returns-in-Some : goal.returns-in-Some
-returns-in-Some c = λ number.
+pub returns : goal.returns
+returns c = λ number.
     let p = plain_program c.args.world.now.program in
     let w = c.args.world.now.world in
     let s = c.args.statement.now in

@@ -1,4 +1,4 @@
-use Rattle.std.proofs.Common.{◌≡◌, true, false, None, sym, ◌∙◌, subst}
+use Rattle.std.proofs.Common.{true, false, None, sym, ◌∙◌, subst}
 use Rattle.cob_program.specs.ActView.{plain_act, plain_program}
 use Rattle.cob_runs.specs.Effects.{Effect, decided, tested, tests_in_act}
 use Rattle.std.specs.Prelude.{slice_get}

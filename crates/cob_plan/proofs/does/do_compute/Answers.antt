@@ -16,9 +16,11 @@ without_second-requires c =
     let p = plain_program c.args.world.now.program in
     let s = c.args.statement.now in
     let a = plain_act s.act.now in
-    first_alone p s.number c.args.world.now.world c.compute-outcome.new.world.world a c.compute-outcome.result
-    (subst (λ (o : Option ℕ). HandlesSize (is_some o) a) c.in-None.is c.requires.handles)
-    (c.compute-outcome.ensures.value s.number)
+    record {
+      first = first_alone p s.number c.args.world.now.world c.compute-outcome.new.world.world a c.compute-outcome.result
+          (subst (λ (o : Option ℕ). HandlesSize (is_some o) a) c.in-None.is c.requires.handles)
+          (c.compute-outcome.ensures.value s.number);
+    }
 
 pub returns-in-None-clause-value : goal.returns-in-None-clause-value
 returns-in-None-clause-value c =

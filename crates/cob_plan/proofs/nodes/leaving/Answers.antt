@@ -1,4 +1,4 @@
-use Rattle.std.proofs.Common.{◌≡◌, ◌<◌, length, arith}
+use Rattle.std.proofs.Common.{◌≡◌, arith}
 use Rattle.std.proofs.lemmas.List.Elements.{All-more}
 use Rattle.cob_plan.proofs.NodeList.{front_goes_on, front_stops, front_ends}
 use Rattle.cob_plan.proofs.nodes.leaving.Goals as goal

@@ -1,9 +1,9 @@
-use Rattle.std.proofs.Common.{◌≡◌, ◌≤◌, ◌<◌, ◌+◌, ◌∙◌, sym, ap, subst, List, length, get_or, take, drop, arith}
+use Rattle.std.proofs.Common.{◌≡◌, ◌≤◌, ◌<◌, ◌+◌, ◌∙◌, ap, subst, List, length, get_or, take, drop, arith}
 use Rattle.std.specs.Prelude.{Contains}
 use Rattle.std.specs.List.{All}
 use Rattle.cob_graph.specs.declared.graph.Edge.{Edge}
 use Rattle.cob_plan.specs.Plan.{IsPlanNode}
-use Rattle.cob_plan.specs.Nodes.{AreFirst, at_front}
+use Rattle.cob_plan.specs.Nodes.{at_front}
 use Rattle.cob_plan.proofs.NodeList.{is_plan_node, nodes_more, all_nodes}
 use Rattle.cob_plan.proofs.LaidNodes.{ways_of_one, followed_more}
 use Rattle.cob_plan.proofs.nodes.nodes_of.Goals as goal
