@@ -27,6 +27,7 @@ pub mod CallLemmas
 pub mod Beginnings
 pub mod Taking
 pub mod OneEndLemmas
+mod SomeEndLemmas
 pub mod Touched
 pub mod Closings
 pub mod Unmade
@@ -39,3 +40,4 @@ pub mod EmptyRooms
 pub mod Going
 pub mod Emptying
 pub mod Starting
+mod OpLemmas

@@ -155,7 +155,7 @@ pub fn do_read<F: Files>(
         (outside (F.state files.new) sink) world.new.world step result }
 {
     let Op::Read { .. } = place.plan_node.op else {
-        return Err(RunEnd::Memory);
+        unreachable!();
     };
     match read_so_far(world, file) {
         None => do_part(alloc, setting, place, world, step),
