@@ -27,6 +27,7 @@ pub mod CallLemmas
 pub mod Beginnings
 pub mod Taking
 pub mod OneEndLemmas
+mod SomeEndLemmas
 pub mod Touched
 pub mod Failing
 pub mod Closings
@@ -41,3 +42,4 @@ pub mod Going
 pub mod Emptying
 pub mod RoomLemmas
 pub mod Starting
+mod OpLemmas

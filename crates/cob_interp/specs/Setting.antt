@@ -4,8 +4,9 @@ use Rattle.std.specs.declared.alloc.Global.{Global}
 use Rattle.std.specs.List.{All}
 use Rattle.cob_program.specs.declared.act.Opening.{Opening}
 use Rattle.cob_program.specs.Act.{Act, open_files, close_files, read, Program}
-use Rattle.cob_program.specs.ActView.{plain_program}
+use Rattle.cob_program.specs.ActView.{plain_act, plain_program}
 use Rattle.cob_plan.specs.Plan.{ArePlanNodes, IsPlanNode, IsStatement}
+use Rattle.cob_plan.specs.Fitting.{IsFitting, FitsIts}
 use Rattle.cob_interp.specs.declared.parts.Call.{Call}
 use Rattle.cob_interp.specs.declared.parts.Call.TheVariants as call
 use Rattle.cob_interp.specs.declared.setting.Setting.{Setting}
@@ -23,23 +24,26 @@ paths_of s = texts s.paths.now
 
 pub record IsReady (s : Setting) : Type 0 where
   pub nodes : ArePlanNodes s.graph.now s.plan.nodes.items
+  pub fits : All (FitsIts (program_of s)) s.plan.nodes.items
   pub statements : All (IsStatement (program_of s)) s.plan.statements.items
   pub distinct : AreDistinct (paths_of s)
+
+-- A place's statement is the program's, and the operation of its node is one of that statement.
+pub record IsPlaced (s : Setting) (x : Place) : Type 0 where
+  pub statement : IsStatement (program_of s) x.statement.now
+  pub fits : IsFitting (program_of s) x.plan_node.now (plain_act x.statement.now.act.now)
 
 -- A place has the plan's node with a number, and that node's statement.
 pub record IsPlace (s : Setting) (node : ℕ) (x : Place) : Type 0 where
   pub plan_node : IsPlanNode s.graph.now node x.plan_node.now
   pub statement : IsStatement (program_of s) x.statement.now
+  pub fits : IsFitting (program_of s) x.plan_node.now (plain_act x.statement.now.act.now)
   pub number : x.statement.now.number ≡ x.plan_node.now.statement
 
 -- A place has the plan's node with a number, at which a step begins, and that node's statement.
 pub record StartsAt (s : Setting) (node : ℕ) (x : Place) : Type 0 where
   pub is : IsPlace s node x
   pub starts : x.plan_node.now.starts ≡ true
-
--- A place's statement is the program's, whatever its node is.
-abbrev pub IsPlaced : Setting → Place → Type 0
-IsPlaced s x = IsStatement (program_of s) x.statement.now
 
 abbrev pub IsOpen : Call → List Opening → Type 0
 IsOpen (call.Open os) openings = os.now ≡ openings

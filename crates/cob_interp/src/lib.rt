@@ -15,5 +15,5 @@ mod steps;
 mod walk;
 
 pub use ends::{Ended, Ending, RunEnd};
-pub use laws::one_end;
+pub use laws::{one_end, some_end};
 pub use runs::{run, run_to_ending};

@@ -112,10 +112,10 @@ pub fn do_close<F: Files>(
         world.old.world world.new.world) }
 {
     let Op::Close { file, .. } = place.plan_node.op else {
-        return Err(RunEnd::Memory);
+        unreachable!();
     };
     match file_in(closed, file) {
-        None => Err(RunEnd::Memory),
+        None => unreachable!(),
         Some(at) => {
             ready_to_close(alloc, setting, files, handles, world, at)?;
             do_part(alloc, setting, place, world, step)

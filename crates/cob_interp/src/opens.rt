@@ -93,10 +93,10 @@ pub fn do_open<F: Files>(
     ensures met { IsMetBy (open_files openings.now) result }
 {
     let Op::Open { file, .. } = place.plan_node.op else {
-        return Err(RunEnd::Memory);
+        unreachable!();
     };
     match opening_in(openings, file) {
-        None => Err(RunEnd::Memory),
+        None => unreachable!(),
         Some(opening) => {
             ready_to_open(alloc, setting, files, handles, world, opening)?;
             let next = do_part(alloc, setting, place, world, step);

@@ -161,7 +161,7 @@ pub fn do_read<F: Files>(
     ensures still { IfFailed result (world.new.world ≡ world.old.world) }
 {
     let Op::Read { .. } = place.plan_node.op else {
-        return Err(RunEnd::Memory);
+        unreachable!();
     };
     match read_so_far(world, file) {
         None => do_part(alloc, setting, place, world, step),

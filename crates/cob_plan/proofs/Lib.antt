@@ -2,5 +2,9 @@ mod ActViews
 mod Loops
 mod Sound
 mod NodeList
+mod LaidNodes
+mod LaidFits
+mod Planned
+mod SizeErrors
 mod TestLemmas
 mod WayLemmas

@@ -1,11 +1,13 @@
 -- Nodes of a graph, read one after another.
-use Rattle.std.proofs.Common.{◌≡◌, ◌<◌, ◌≤◌, ℕ, zero, suc, ◌+◌, List, [], ◌∷◌, ◌++◌, length, map, take, drop, get_or, refl, sym, ap, ◌∙◌, subst, add-one, length-append, arith, ◌⊎◌, inl, inr}
+use Rattle.std.proofs.Common.{◌≡◌, ◌<◌, ◌≤◌, ◌==◌, if◌then◌else◌, false, ℕ, zero, suc, ◌+◌, List, [], ◌∷◌, ◌++◌, length, map, take, drop, get_or, refl, sym, ap, ◌∙◌, subst, add-one, length-append, eq-eqb, arith, ◌⊎◌, inl, inr}
 use Rattle.std.specs.Prelude.{slice_get, Contains, Option, Some, None, IfSome}
 use Rattle.std.specs.Borrow.{Bor}
 use Rattle.std.specs.Option.{option_copied}
 use Rattle.std.specs.List.{All}
 use Rattle.std.proofs.lemmas.List.Elements.{All-contains, All-map, All-take, All-drop, All-same, All-contains_itself}
 use Rattle.std.proofs.lemmas.Option.{slice_get-get_or}
+use Rattle.std.proofs.lemmas.List.{drop_all, drop_more}
+use Rattle.std.proofs.lemmas.Bool.Decides.{nat_tests}
 use Rattle.cob_runs.specs.declared.action.Action.{Action}
 use Rattle.cob_graph.specs.declared.graph.Node.{Node}
 use Rattle.cob_graph.specs.declared.graph.Edge.{Edge}
@@ -14,7 +16,7 @@ use Rattle.cob_graph.specs.Lookup.{node_at, edge}
 use Rattle.cob_plan.specs.declared.node.Op.{Op}
 use Rattle.cob_plan.specs.declared.node.PlanNode.{PlanNode}
 use Rattle.cob_plan.specs.Plan.{op_edges, IsPlanNode, ArePlanNodes}
-use Rattle.cob_plan.specs.Nodes.{way, Leave, AreFirst}
+use Rattle.cob_plan.specs.Nodes.{way, at_front, Leave, AreFirst}
 
 -- ---- edges
 
@@ -39,6 +41,26 @@ ways_out all out n o leave within is a m has =
     All-contains (Out all n) (op_edges o) (a, m)
     (All-same (Out all n) (op_edges o) (map way out) is (leads all out n leave within)) has
 
+-- ---- how many leave a node
+
+module _ (n : ℕ) (es : List Edge) (i : ℕ) where
+  front_at : (d : Edge) → i < length es →
+      at_front n (drop i es) ≡ (if (get_or es i d).from == n then suc (at_front n (drop (i + 1) es)) else 0)
+  front_at d within = ap (at_front n) (drop_more es i d within)
+
+  pub front_goes_on : (d : Edge) → i < length es → (get_or es i d).from ≡ n →
+      at_front n (drop i es) ≡ suc (at_front n (drop (i + 1) es))
+  front_goes_on d within same =
+      front_at d within ∙ ap (λ b. if b then suc (at_front n (drop (i + 1) es)) else 0) (eq-eqb _ n same)
+
+  pub front_stops : (d : Edge) → i < length es → ((get_or es i d).from ≡ n → ⊥) → at_front n (drop i es) ≡ 0
+  front_stops d within other =
+      let differs : ((get_or es i d).from == n) ≡ false = grind (arith, nat_tests) in
+      front_at d within ∙ ap (λ b. if b then suc (at_front n (drop (i + 1) es)) else 0) differs
+
+  pub front_ends : length es ≤ i → at_front n (drop i es) ≡ 0
+  front_ends past = ap (at_front n) (drop_all i es past)
+
 -- ---- one node more
 
 pub is_plan_node : (g : Graph) (count number : ℕ) (node : Node) (s : PlanNode) (out : List Edge) →
@@ -54,7 +76,7 @@ is_plan_node g count number node s out within is counted statement starts leave 
   edges = ways_out g.edges out number s.op leave all ways;
 }
 
-last_or_before : (xs : List PlanNode) (x : PlanNode) (i : ℕ) (s : PlanNode) → slice_get (xs ++ x ∷ []) i ≡ Some s →
+pub last_or_before : (xs : List PlanNode) (x : PlanNode) (i : ℕ) (s : PlanNode) → slice_get (xs ++ x ∷ []) i ≡ Some s →
     (slice_get xs i ≡ Some s) ⊎ ((i ≡ length xs) × (x ≡ s))
 last_or_before [] x zero s h = inr (refl, cc)
 last_or_before [] x (suc i) s h = absurd cc

@@ -5,14 +5,14 @@ use Rattle.std.specs.Prelude.{Some}
 use Rattle.std.proofs.lemmas.List.Elements.{All-from_recursion}
 use Rattle.cob_data.specs.declared.layout.Layout.{Layout}
 use Rattle.cob_program.specs.Logic.{Logic, all_of, any_of, not_, test, Logics, no_logics, more_logics}
-use Rattle.cob_program.specs.Act.{Turns, once, times, until, varying, Stmt, MkStmt, Stmts, no_stmts, more_stmts, Phrase, left_out, given, Act, arith, if_, evaluate, perform, read, Whens, no_whens, more_whens, MkWhen, Body, range, inline, Para, Program}
+use Rattle.cob_program.specs.Act.{Turns, until, varying, Stmt, MkStmt, Stmts, no_stmts, more_stmts, Phrase, left_out, given, Act, arith, if_, evaluate, perform, read, Whens, no_whens, more_whens, MkWhen, Body, range, inline, Para, Program}
 use Rattle.cob_program.specs.Statements.{list_statements, phrase_statements, inner_statements, whens_statements, body_statements, para_statements, paras_statements, program_statements}
 use Rattle.cob_runs.specs.Effects.{act_at, tests_of, tests_among, tests_in_list, tests_in_whens, tests_in_turns, tests_in_act}
 use Rattle.cob_graph.specs.WellFormed.{AreWellFormed, IsWellFormedPhrase, IsWellFormedAct, AreWellFormedWhens, IsWellFormedBody, AreWellFormedParas, IsWellFormed}
 use Rattle.cob_calc.specs.Comparing.{CanTest, CanDecide, CanDecideAll}
 use Rattle.cob_world.specs.Doing.{CanTurn, CanDo, CanDoPhrase, CanDoAct, CanDoWhens, CanDoBody, CanDoParas, CanDoProgram}
 use Rattle.cob_plan.specs.declared.statement.Statement.{Statement}
-use Rattle.cob_plan.specs.Listing.{Listed, plain_statement, plain_statements, listed_at, listed}
+use Rattle.cob_plan.specs.Listing.{Listed, plain_statements, listed_at, listed}
 use Rattle.cob_plan.specs.Plan.{IsStatement}
 
 both : {A : Type 0} (P : A → Type 0) (xs ys : List A) → AllByRecursion P xs → AllByRecursion P ys →

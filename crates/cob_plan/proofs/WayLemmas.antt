@@ -1,22 +1,20 @@
 -- Which way is taken: from what a part of a statement comes to.
-use Rattle.std.proofs.Common.{◌≡◌, ℕ, ◌==◌, ◌&&◌, Bool, true, false, not, List, [], ◌∷◌, refl, sym, ap, ◌∙◌, subst, arith, Option, Some, None, Result, Ok, Err}
+use Rattle.std.proofs.Common.{◌≡◌, ℕ, ◌==◌, ◌&&◌, true, false, not, List, [], ◌∷◌, refl, ap, ◌∙◌, arith, Some, None, Ok, Err}
 use Rattle.std.specs.Prelude.{Contains}
 use Rattle.std.specs.Option.{option_map_or}
-use Rattle.cob_tree.specs.declared.fault.Kind.{Kind}
 use Rattle.cob_program.specs.Act.{Act, Program}
 use Rattle.cob_runs.specs.declared.action.Action.{Action}
 use Rattle.cob_runs.specs.declared.action.Action.TheVariants as action
 use Rattle.cob_runs.specs.Acts.{is_fine}
 use Rattle.cob_runs.specs.State.{World}
-use Rattle.cob_runs.specs.Effects.{Effect, not_taken, taken_if, act_at, effect_of, effect, status, status_of, status_by, is_handled, handled_by, end_handled, file_call, called_bad, read_with}
+use Rattle.cob_runs.specs.Effects.{not_taken, taken_if, act_at, effect_of, effect, status, status_of, status_by, is_handled, handled_by, end_handled, called_bad}
 use Rattle.cob_plan.specs.declared.node.Op.{Op}
 use Rattle.cob_plan.specs.declared.node.Op.TheVariants as op
 use Rattle.cob_plan.specs.declared.end.DoEnd.{DoEnd}
 use Rattle.cob_plan.specs.declared.end.DoEnd.TheVariants as end
-use Rattle.cob_plan.specs.declared.called.Called.{Called}
 use Rattle.cob_plan.specs.declared.called.Taken.{Taken}
 use Rattle.cob_plan.specs.Plan.{op_edges}
-use Rattle.cob_plan.specs.Doing.{Does, GoesTo, EndsBy, Meets, Forks, Calls, IsCall, IsTaking}
+use Rattle.cob_plan.specs.Doing.{Does, EndsBy, IsTaking}
 use Rattle.cob_plan.specs.Leading.{Leads}
 
 -- ---- ways among a node's

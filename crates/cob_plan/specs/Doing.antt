@@ -1,5 +1,5 @@
 -- What doing a node's part of its statement comes to.
-use Rattle.std.specs.Prelude.{◌≡◌, ℕ, ◌==◌, ◌&&◌, not, Bool, true, false, Contains, Option, Some, None, Result, Ok, Err}
+use Rattle.std.specs.Prelude.{◌≡◌, ℕ, ◌==◌, ◌&&◌, not, Bool, true, false, Contains, Some, None, Result, Ok, Err}
 use Rattle.cob_tree.specs.declared.fault.Kind.{Kind}
 use Rattle.cob_program.specs.Act.{times, Act, perform, Program}
 use Rattle.cob_runs.specs.declared.action.Action.{Action}
@@ -71,12 +71,6 @@ without_error r = r >>= λ x. taken_if (not x.1) x.0
 
 abbrev pub with_error : Result (World × Bool) Kind → Effect
 with_error r = r >>= λ x. taken_if x.1 x.0
-
--- a call on a file, where the statement has it
-abbrev pub Calls : {C : Type 0} → (C → Type 0) → Result C DoEnd → Type 0
-Calls P (Ok c) = P c
-Calls P (Err end.Memory) = Unit {0}
-Calls P (Err _) = ⊥
 
 -- The statement is a loop with TIMES.
 abbrev pub is_times : Act → Bool

@@ -1,5 +1,5 @@
 -- Ways on from a node of a statement.
-use Rattle.std.specs.Prelude.{◌≡◌, ℕ, true, Contains, Option, Some}
+use Rattle.std.specs.Prelude.{◌≡◌, ℕ, true, Contains, Some}
 use Rattle.cob_program.specs.Act.{Act, Program}
 use Rattle.cob_runs.specs.declared.action.Action.{Action}
 use Rattle.cob_runs.specs.Effects.{act_at, is_handled}

@@ -11,6 +11,7 @@ ghost use Rattle.cob_world.specs.Becoming.{Becomes, BecomesBy};
 ghost use Rattle.cob_world.specs.Needs.{IsNumber};
 ghost use Rattle.cob_world.specs.Doing.{CanMoveTo, CanTurn, CanDoAct};
 ghost use Rattle.cob_plan.specs.Doing.{Meets};
+ghost use Rattle.cob_plan.specs.Fitting.{IsVarying, IsTimes, Assigns, Counts, Shows};
 
 use crate::end::DoEnd;
 use cob_data::Sender;
@@ -73,6 +74,7 @@ fn begin_item(alloc: Global, item: u32, start: &Sender, world: &mut World) -> Re
 }
 
 fn begin_turns(alloc: Global, turns: &Turns, world: &mut World) -> Result<(), DoEnd>
+    requires varies { IsVarying (plain_turns turns.now) }
     requires able { CanTurn world.old.program.layout (plain_turns turns.now) }
     ensures value { (number : ℕ) (body : act.Body)
         → Meets (assigned (plain_program world.old.program) number None world.old.world
@@ -81,7 +83,7 @@ fn begin_turns(alloc: Global, turns: &Turns, world: &mut World) -> Result<(), Do
 {
     match turns {
         Turns::Varying { item, start, .. } => { begin_item(alloc, *item, start, world) }
-        _ => Err(DoEnd::Memory),
+        _ => unreachable!(),
     }
 }
 
@@ -96,6 +98,7 @@ fn move_into(file: u32, into: Option<u32>, world: &mut World) -> Result<(), DoEn
 
 /// What a statement moves: a MOVE all, a loop with VARYING its start, READ into INTO, WRITE from FROM.
 pub fn assign(alloc: Global, act: &Act, world: &mut World) -> Result<(), DoEnd>
+    requires fits { Assigns (plain_act act.now) }
     requires able { CanDoAct world.old.program.layout (plain_act act.now) }
     ensures value { (number : ℕ) → Meets (assigned (plain_program world.old.program) number None world.old.world
         (plain_act act.now))
@@ -107,13 +110,14 @@ pub fn assign(alloc: Global, act: &Act, world: &mut World) -> Result<(), DoEnd>
         Act::Perform { turns, .. } => begin_turns(alloc, turns, world),
         Act::Read { file, into, .. } => move_into(*file, *into, world),
         Act::Write { rec, from } => move_from(alloc, from, *rec, world),
-        _ => Err(DoEnd::Memory),
+        _ => unreachable!(),
     }
 }
 
 // ---- counts
 
 fn count_turns(number: u32, turns: &Turns, world: &mut World) -> Result<(), DoEnd>
+    requires times { IsTimes (plain_turns turns.now) }
     requires able { CanTurn world.old.program.layout (plain_turns turns.now) }
     ensures value { (body : act.Body) → Meets (counted (plain_program world.old.program) number None world.old.world
         (act.perform body (plain_turns turns.now))) world.old.world world.new.world result }
@@ -121,12 +125,13 @@ fn count_turns(number: u32, turns: &Turns, world: &mut World) -> Result<(), DoEn
 {
     match turns {
         Turns::Times(count) => count_outcome(world.set_count(number, count)),
-        _ => Err(DoEnd::Memory),
+        _ => unreachable!(),
     }
 }
 
 /// Sets the count of a loop with TIMES.
 pub fn set_count(number: u32, act: &Act, world: &mut World) -> Result<(), DoEnd>
+    requires fits { Counts (plain_act act.now) }
     requires able { CanDoAct world.old.program.layout (plain_act act.now) }
     ensures value { Meets (counted (plain_program world.old.program) number None world.old.world (plain_act act.now))
         world.old.world world.new.world result }
@@ -134,7 +139,7 @@ pub fn set_count(number: u32, act: &Act, world: &mut World) -> Result<(), DoEnd>
 {
     match act {
         Act::Perform { turns, .. } => count_turns(number, turns, world),
-        _ => Err(DoEnd::Memory),
+        _ => unreachable!(),
     }
 }
 
@@ -161,6 +166,7 @@ fn show_all(senders: &[Sender], world: &mut World) -> Result<(), DoEnd>
 
 /// DISPLAY.
 pub fn show(act: &Act, world: &mut World) -> Result<(), DoEnd>
+    requires fits { Shows (plain_act act.now) }
     ensures value { (number : ℕ) → Meets (shown (plain_program world.old.program) number None world.old.world
         (plain_act act.now))
         world.old.world world.new.world result }
@@ -168,6 +174,6 @@ pub fn show(act: &Act, world: &mut World) -> Result<(), DoEnd>
 {
     match act {
         Act::Show(senders) => show_all(senders.get(), world),
-        _ => Err(DoEnd::Memory),
+        _ => unreachable!(),
     }
 }

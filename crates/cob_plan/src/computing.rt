@@ -11,6 +11,7 @@ ghost use Rattle.cob_runs.specs.Contents.{form_at};
 ghost use Rattle.cob_world.specs.Needs.{IsNumber};
 ghost use Rattle.cob_world.specs.Doing.{CanTurn, CanDoAct};
 ghost use Rattle.cob_plan.specs.Doing.{Forks, without_error, with_error};
+ghost use Rattle.cob_plan.specs.Fitting.{IsVarying, Computes};
 
 use crate::end::DoEnd;
 use cob_data::Sender;
@@ -64,6 +65,7 @@ fn augment_item(item: u32, by: &Sender, world: &mut World) -> Result<bool, DoEnd
 }
 
 fn augment_turns(turns: &Turns, world: &mut World) -> Result<bool, DoEnd>
+    requires varies { IsVarying (plain_turns turns.now) }
     requires able { CanTurn world.old.program.layout (plain_turns turns.now) }
     ensures value { (number : ℕ) (body : act.Body) → Forks
         (computed (plain_program world.old.program) number None world.old.world false
@@ -75,12 +77,13 @@ fn augment_turns(turns: &Turns, world: &mut World) -> Result<bool, DoEnd>
 {
     match turns {
         Turns::Varying { item, by, .. } => augment_item(*item, by, world),
-        _ => Err(DoEnd::Memory),
+        _ => unreachable!(),
     }
 }
 
 /// Arithmetic, or the augmenting of a loop with VARYING. Answers whether no size error is left to its phrase.
 pub fn compute(act: &Act, world: &mut World) -> Result<bool, DoEnd>
+    requires fits { Computes (plain_act act.now) }
     requires able { CanDoAct world.old.program.layout (plain_act act.now) }
     ensures value { (number : ℕ) → Forks
         (computed (plain_program world.old.program) number None world.old.world false (plain_act act.now))
@@ -100,6 +103,6 @@ pub fn compute(act: &Act, world: &mut World) -> Result<bool, DoEnd>
             compute_all(phrase, common, targets.get(), *remainder, world)
         }
         Act::Perform { turns, .. } => augment_turns(turns, world),
-        _ => Err(DoEnd::Memory),
+        _ => unreachable!(),
     }
 }

@@ -1,5 +1,5 @@
 //! Simple conditions, and whether turns are left.
-ghost use Rattle.std.specs.Prelude.{◌≡◌, ℕ, length, slice_get, Some, None, true, false};
+ghost use Rattle.std.specs.Prelude.{◌≡◌, ◌<◌, ℕ, length, slice_get, Some, None, true, false};
 ghost use Rattle.std.specs.Option.{option_map, option_copied};
 ghost use Rattle.cob_program.specs.Act as act;
 ghost use Rattle.cob_program.specs.ActView.{plain_act, plain_turns, plain_program};
@@ -11,6 +11,7 @@ ghost use Rattle.cob_calc.specs.Comparing.{CanTest};
 ghost use Rattle.cob_plan.specs.Listing.{plain_tests};
 ghost use Rattle.cob_plan.specs.Plan.{IsStatement};
 ghost use Rattle.cob_plan.specs.Doing.{Forks, is_times};
+ghost use Rattle.cob_plan.specs.Fitting.{Tests};
 
 use crate::end::DoEnd;
 use crate::statement::Statement;
@@ -42,6 +43,7 @@ fn decide(test: &Test, world: &World) -> Result<bool, DoEnd>
 // The simple condition at a place among those of the statement.
 fn decide_at(statement: &Statement, place: u32, world: &World) -> Result<bool, DoEnd>
     requires its { IsStatement (plain_program world.now.program) statement.now }
+    requires there { place < length (tests_in_act (plain_act statement.now.act.now)) }
     ensures { (number : ℕ) → Forks
         (decided (plain_program world.now.program) number None world.now.world true
         (slice_get (tests_in_act (plain_act statement.now.act.now)) place))
@@ -50,7 +52,7 @@ fn decide_at(statement: &Statement, place: u32, world: &World) -> Result<bool, D
         world.now.world world.now.world result }
 {
     match test_at(statement, place) {
-        None => Err(DoEnd::Memory),
+        None => unreachable!(),
         Some(test) => decide(test, world),
     }
 }
@@ -87,6 +89,7 @@ fn are_times(turns: &Turns) -> bool
 /// Whether turns of a loop with TIMES are left, or else whether the simple condition at a place holds.
 pub fn test(statement: &Statement, place: u32, world: &World) -> Result<bool, DoEnd>
     requires its { IsStatement (plain_program world.now.program) statement.now }
+    requires fits { Tests place (plain_act statement.now.act.now) }
     ensures { Forks
         (tested (plain_program world.now.program) statement.now.number None world.now.world true place
         (plain_act statement.now.act.now))

@@ -1,9 +1,10 @@
 //! What a node does of its statement.
-ghost use Rattle.std.specs.Prelude.{◌≡◌, length, Some, None};
-ghost use Rattle.cob_program.specs.ActView.{plain_program};
+ghost use Rattle.std.specs.Prelude.{◌≡◌, length, Some, None, is_some};
+ghost use Rattle.cob_program.specs.ActView.{plain_act, plain_program};
 ghost use Rattle.cob_plan.specs.declared.node.Op.TheVariants as op;
 ghost use Rattle.cob_plan.specs.Plan.{IsStatement};
 ghost use Rattle.cob_plan.specs.Doing.{Does};
+ghost use Rattle.cob_plan.specs.Fitting.{Fits, Assigns, Shows, Counts, Computes, HandlesSize, Tests, Opens, Closes, Reads, Writes};
 
 use crate::assigning::{assign, count_down, set_count, show};
 use crate::calling::{close, open, read, write};
@@ -29,6 +30,7 @@ fn do_skip(statement: &Statement, to: u32, world: &World) -> Result<u32, DoEnd>
 #[inline(never)]
 fn do_assign(alloc: Global, statement: &Statement, to: u32, world: &mut World) -> Result<u32, DoEnd>
     requires its { IsStatement (plain_program world.old.program) statement.now }
+    requires fits { Assigns (plain_act statement.now.act.now) }
     ensures value { Does (plain_program world.old.program) statement.now.number (op.Assign to) world.old.world
         world.new.world result }
     ensures kept { world.new.program ≡ world.old.program }
@@ -39,6 +41,7 @@ fn do_assign(alloc: Global, statement: &Statement, to: u32, world: &mut World) -
 #[inline(never)]
 fn do_show(statement: &Statement, to: u32, world: &mut World) -> Result<u32, DoEnd>
     requires its { IsStatement (plain_program world.old.program) statement.now }
+    requires fits { Shows (plain_act statement.now.act.now) }
     ensures value { Does (plain_program world.old.program) statement.now.number (op.Show to) world.old.world
         world.new.world result }
     ensures kept { world.new.program ≡ world.old.program }
@@ -49,6 +52,7 @@ fn do_show(statement: &Statement, to: u32, world: &mut World) -> Result<u32, DoE
 #[inline(never)]
 fn do_set_count(statement: &Statement, to: u32, world: &mut World) -> Result<u32, DoEnd>
     requires its { IsStatement (plain_program world.old.program) statement.now }
+    requires fits { Counts (plain_act statement.now.act.now) }
     ensures value { Does (plain_program world.old.program) statement.now.number (op.SetCount to) world.old.world
         world.new.world result }
     ensures kept { world.new.program ≡ world.old.program }
@@ -74,6 +78,8 @@ fn do_compute(
     world: &mut World,
 ) -> Result<u32, DoEnd>
     requires its { IsStatement (plain_program world.old.program) statement.now }
+    requires fits { Computes (plain_act statement.now.act.now) }
+    requires handles { HandlesSize (is_some size) (plain_act statement.now.act.now) }
     ensures value { Does (plain_program world.old.program) statement.now.number (op.Compute fine size) world.old.world
         world.new.world result }
     ensures kept { world.new.program ≡ world.old.program }
@@ -94,6 +100,7 @@ fn do_test(
     world: &World,
 ) -> Result<u32, DoEnd>
     requires its { IsStatement (plain_program world.now.program) statement.now }
+    requires fits { Tests place (plain_act statement.now.act.now) }
     ensures { Does (plain_program world.now.program) statement.now.number (op.Test place held other) world.now.world
         world.now.world result }
 {
@@ -110,6 +117,7 @@ fn do_open(
     world: &mut World,
 ) -> Result<u32, DoEnd>
     requires its { IsStatement (plain_program world.old.program) statement.now }
+    requires fits { Opens file (plain_act statement.now.act.now) }
     ensures value { Does (plain_program world.old.program) statement.now.number (op.Open file fine bad)
         world.old.world world.new.world result }
     ensures kept { world.new.program ≡ world.old.program }
@@ -126,6 +134,7 @@ fn do_close(
     world: &mut World,
 ) -> Result<u32, DoEnd>
     requires its { IsStatement (plain_program world.old.program) statement.now }
+    requires fits { Closes file (plain_act statement.now.act.now) }
     ensures value { Does (plain_program world.old.program) statement.now.number (op.Close file fine bad)
         world.old.world world.new.world result }
     ensures kept { world.new.program ≡ world.old.program }
@@ -142,6 +151,7 @@ fn do_read(
     world: &mut World,
 ) -> Result<u32, DoEnd>
     requires its { IsStatement (plain_program world.old.program) statement.now }
+    requires fits { Reads (plain_act statement.now.act.now) }
     ensures value { Does (plain_program world.old.program) statement.now.number (op.Read found end bad)
         world.old.world world.new.world result }
     ensures kept { world.new.program ≡ world.old.program }
@@ -158,18 +168,20 @@ fn do_write(
     world: &mut World,
 ) -> Result<u32, DoEnd>
     requires its { IsStatement (plain_program world.old.program) statement.now }
+    requires fits { Writes (plain_program world.old.program) (plain_act statement.now.act.now) }
     ensures value { Does (plain_program world.old.program) statement.now.number (op.Write fine bad) world.old.world
         world.new.world result }
     ensures kept { world.new.program ≡ world.old.program }
 {
-    next_after_call(write(alloc, statement.act, world), fine, bad)
+    next_after_call(write(alloc, statement.act, world)?, fine, bad)
 }
 
 /// Does a node's part of its statement, and tells the number of the node to which that leads. A fault changes storage
-/// alone. A node that isn't one of the statement's ends as if memory ran out, and so does the final node.
+/// alone.
 #[inline(always)]
 pub fn do_op(alloc: Global, statement: &Statement, op: &Op, world: &mut World) -> Result<u32, DoEnd>
     requires its { IsStatement (plain_program world.old.program) statement.now }
+    requires fits { Fits (plain_program world.old.program) op.now (plain_act statement.now.act.now) }
     ensures value { Does (plain_program world.old.program) statement.now.number op.now world.old.world world.new.world
         result }
     ensures kept { world.new.program ≡ world.old.program }
@@ -186,6 +198,6 @@ pub fn do_op(alloc: Global, statement: &Statement, op: &Op, world: &mut World) -
         Op::Close { file, fine, bad } => do_close(statement, file, fine, bad, world),
         Op::Read { found, end, bad } => do_read(statement, found, end, bad, world),
         Op::Write { fine, bad } => do_write(alloc, statement, fine, bad, world),
-        Op::Final => Err(DoEnd::Memory),
+        Op::Final => unreachable!(),
     }
 }

@@ -8,7 +8,6 @@ use std::alloc::AllocError;
 pub enum DoEnd {
     Fault(Kind),
     Stop(u8),
-    /// Also where a node isn't one of its statement.
     Memory,
 }
 

@@ -1,5 +1,5 @@
 //! The node to which a node leads, by what its part of a statement came to.
-ghost use Rattle.std.specs.Prelude.{◌≡◌, ℕ, Some, None, true, Contains};
+ghost use Rattle.std.specs.Prelude.{◌≡◌, ℕ, Some, None, Ok, true, false, Contains};
 ghost use Rattle.cob_program.specs.Act as act;
 ghost use Rattle.cob_runs.specs.declared.action.Action.{Action};
 ghost use Rattle.cob_runs.specs.declared.action.Action.TheVariants as action;
@@ -8,7 +8,7 @@ ghost use Rattle.cob_runs.specs.Effects.{Effect, act_at, effect_of, file_call, i
 ghost use Rattle.cob_plan.specs.declared.node.Op.{Op};
 ghost use Rattle.cob_plan.specs.declared.node.Op.TheVariants as op;
 ghost use Rattle.cob_plan.specs.Plan.{op_edges};
-ghost use Rattle.cob_plan.specs.Doing.{Does, Meets, Forks, Calls, IsCall, IsTaking};
+ghost use Rattle.cob_plan.specs.Doing.{Does, Meets, Forks, IsCall, IsTaking};
 ghost use Rattle.cob_plan.specs.Leading.{Leads};
 
 use crate::called::{Called, Taken};
@@ -43,17 +43,19 @@ pub fn next_of_two(outcome: Result<bool, DoEnd>, first: u32, second: u32) -> Res
 
 /// What a part comes to where there is no second way on.
 pub fn without_second(outcome: Result<bool, DoEnd>) -> Result<(), DoEnd>
+    requires first { ¬ outcome ≡ Ok false }
     ensures { (first second : Effect) (old now : World) → Forks first second old now outcome
         → Meets first old now result }
 {
     match outcome {
         Ok(true) => Ok(()),
-        Ok(false) => Err(DoEnd::Memory),
+        Ok(false) => unreachable!(),
         Err(end) => Err(end),
     }
 }
 
-fn next_by_call(called: Called, fine: u32, bad: u32) -> Result<u32, DoEnd>
+/// Where a call on a file goes on: by its status.
+pub fn next_after_call(called: Called, fine: u32, bad: u32) -> Result<u32, DoEnd>
     ensures { (p : act.Program) (number k : ℕ) (a : act.Act) (o : Op) (x : Action) (old now : World)
         → Leads p number a o x fine → Contains (op_edges o) (action.Bad k, bad)
         → effect_of p number None old x a ≡ file_call p number None old true k a
@@ -68,20 +70,8 @@ fn next_by_call(called: Called, fine: u32, bad: u32) -> Result<u32, DoEnd>
     }
 }
 
-/// Where a call on a file goes on: by its status.
-pub fn next_after_call(outcome: Result<Called, DoEnd>, fine: u32, bad: u32) -> Result<u32, DoEnd>
-    ensures { (p : act.Program) (number k : ℕ) (a : act.Act) (o : Op) (x : Action) (old now : World)
-        → Leads p number a o x fine → Contains (op_edges o) (action.Bad k, bad)
-        → effect_of p number None old x a ≡ file_call p number None old true k a
-        → Calls (IsCall p number k old now a) outcome → Does p number o old now result }
-{
-    match outcome {
-        Ok(called) => next_by_call(called, fine, bad),
-        Err(end) => Err(end),
-    }
-}
-
-fn next_by_take(taken: Taken, found: u32, end: u32, bad: u32) -> Result<u32, DoEnd>
+/// Where a READ goes on: by its status.
+pub fn next_after_read(taken: Taken, found: u32, end: u32, bad: u32) -> Result<u32, DoEnd>
     ensures { (p : act.Program) (number : ℕ) (a : act.Act) (old now : World) → act_at p number ≡ Some a
         → IsTaking p number 0 old now a taken → Does p number (op.Read found end bad) old now result }
 {
@@ -97,21 +87,5 @@ fn next_by_take(taken: Taken, found: u32, end: u32, bad: u32) -> Result<u32, DoE
         Ok(bad)
     } else {
         Err(DoEnd::Stop(taken.status))
-    }
-}
-
-/// Where a READ goes on: by its status.
-pub fn next_after_read(
-    outcome: Result<Taken, DoEnd>,
-    found: u32,
-    end: u32,
-    bad: u32,
-) -> Result<u32, DoEnd>
-    ensures { (p : act.Program) (number : ℕ) (a : act.Act) (old now : World) → act_at p number ≡ Some a
-        → Calls (IsTaking p number 0 old now a) outcome → Does p number (op.Read found end bad) old now result }
-{
-    match outcome {
-        Ok(taken) => next_by_take(taken, found, end, bad),
-        Err(end) => Err(end),
     }
 }

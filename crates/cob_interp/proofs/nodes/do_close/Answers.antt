@@ -1,4 +1,5 @@
 use Rattle.std.proofs.Common.{sym, Some, ap, subst, ◌∙◌}
+use Rattle.cob_program.specs.ActView.{plain_act}
 use Rattle.cob_runs.specs.State.{World}
 use Rattle.cob_interp.specs.Doing.{DoesPart}
 use Rattle.cob_interp.specs.Setting.{program_of, paths_of}
@@ -6,7 +7,7 @@ use Rattle.cob_interp.specs.Readying.{emptied}
 use Rattle.cob_interp.specs.Touching.{makes_none}
 use Rattle.cob_interp.specs.Tracking.{ArePlaced}
 use Rattle.cob_interp.proofs.CloseLemmas.{close_leads}
-use Rattle.cob_interp.proofs.Touched.{touches_stay}
+use Rattle.cob_interp.proofs.OpLemmas.{always_closes, closes_there}
 use Rattle.cob_interp.proofs.Closings.{EndsAt, close_part, close_ends}
 use Rattle.cob_interp.proofs.Emptying.{emptied_keeps, sees_out, out_again, underway_sees, closes_behind}
 use Rattle.cob_interp.proofs.Placing.{placed_ends}
@@ -14,8 +15,8 @@ use Rattle.cob_interp.proofs.TrackLemmas.{placed_on}
 use Rattle.cob_interp.proofs.Written.{left_by, unless_weaker}
 use Rattle.cob_interp.proofs.nodes.do_close.Goals as goal
 
-pub returns-in_ok-ready_to_close-in-Some-clause-leads : goal.returns-in_ok-ready_to_close-in-Some-clause-leads
-returns-in_ok-ready_to_close-in-Some-clause-leads g c sink node budget is start within u =
+pub returns-clause-leads : goal.returns-clause-leads
+returns-clause-leads g c sink node budget is start within u =
     let w = c.args.world.now.world in
     let does = subst (λ (z : World). DoesPart c.args.setting.now c.args.place.now c.args.step z c.do_part.new.world.world
     c.do_part.result) c.in_ok-ready_to_close-in-Some.ensures.emptied c.do_part.ensures.does in
@@ -29,24 +30,30 @@ returns-in_ok-ready_to_close-in-Some-clause-leads g c sink node budget is start 
     _ _ w (emptied c.in-Some.at w)
     (sees_out c.args.setting.now c.requires.ready.distinct w c.in-Some.at _ _ out) c.args.step node u)
 
-pub returns-in_default-clause-touches : goal.returns-in_default-clause-touches
-returns-in_default-clause-touches g c = touches_stay (paths_of c.args.setting.now) makes_none c.args.world.now.world _
+pub unreachable-requires : goal.unreachable-requires
+unreachable-requires g c =
+    always_closes (program_of c.args.setting.now) c.args.place.now.plan_node.now.op
+    (plain_act c.args.place.now.statement.now.act.now) c.args.closed.now c.requires.its c.requires.place.fits.fits
+    c.in_default.not-Close
 
-pub returns-in-None-clause-touches : goal.returns-in-None-clause-touches
-returns-in-None-clause-touches g c = touches_stay (paths_of c.args.setting.now) makes_none c.args.world.now.world _
+pub unreachable-requires-in-None : goal.unreachable-requires-in-None
+unreachable-requires-in-None g c =
+    closes_there (program_of c.args.setting.now) c.args.place.now.plan_node.now.op
+    (plain_act c.args.place.now.statement.now.act.now) c.args.closed.now c.requires.its c.requires.place.fits.fits
+    c.in-Close.file c.in-Close.fine c.in-Close.bad c.in-Close.is (sym c.file_in.ensures ∙ c.in-None.is)
 
-pub returns-in_ok-ready_to_close-in-Some-clause-closes : goal.returns-in_ok-ready_to_close-in-Some-clause-closes
-returns-in_ok-ready_to_close-in-Some-clause-closes g c =
+pub returns-clause-closes : goal.returns-clause-closes
+returns-clause-closes g c =
     let w = c.args.world.now.world in
     let does = subst (λ (z : World). DoesPart c.args.setting.now c.args.place.now c.args.step z c.do_part.new.world.world
     c.do_part.result) c.in_ok-ready_to_close-in-Some.ensures.emptied c.do_part.ensures.does in
     closes_behind c.args.setting.now c.requires.ready.distinct w c.in-Some.at _ _
     c.in_ok-ready_to_close-in-Some.ensures.goes _ _
     (close_part c.args.setting.now c.args.place.now c.args.step _ _ c.args.closed.now c.in-Close.file c.in-Close.fine
-    c.in-Close.bad c.in-Close.is (c.requires.place.its ∙ ap Some c.requires.its) _ does)
+    c.in-Close.bad c.in-Close.is (c.requires.place.statement.its ∙ ap Some c.requires.its) _ does)
 
-pub returns-in_ok-ready_to_close-in-Some-clause-placed : goal.returns-in_ok-ready_to_close-in-Some-clause-placed
-returns-in_ok-ready_to_close-in-Some-clause-placed g c =
+pub returns-clause-placed : goal.returns-clause-placed
+returns-clause-placed g c =
     let w = c.args.world.now.world in
     let does = subst (λ (z : World). DoesPart c.args.setting.now c.args.place.now c.args.step z c.do_part.new.world.world
     c.do_part.result) c.in_ok-ready_to_close-in-Some.ensures.emptied c.do_part.ensures.does in
@@ -62,6 +69,6 @@ returns-in_ok-ready_to_close-in-Some-clause-placed g c =
     (c.in_ok-ready_to_close-in-Some.ensures.stand u.files placed.stand)
     c.in_ok-ready_to_close-in-Some.ensures.closed)
     (close_ends c.args.setting.now c.args.place.now c.args.step u _ c.args.closed.now c.in-Close.file c.in-Close.fine
-    c.in-Close.bad c.in-Close.is (c.requires.place.its ∙ ap Some c.requires.its) c.in-Some.at again.is.decl again.file
+    c.in-Close.bad c.in-Close.is (c.requires.place.statement.its ∙ ap Some c.requires.its) c.in-Some.at again.is.decl again.file
     (sym c.in-Some.ensures) again.is.declared again.has _
     does))

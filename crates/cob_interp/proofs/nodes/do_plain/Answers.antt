@@ -12,7 +12,7 @@ returns-clause-leads c now node budget is =
 pub returns-clause-places : goal.returns-clause-places
 returns-clause-places c =
     plain_places c.args.setting.now c.args.place.now c.args.step _ _ (plain_act c.args.place.now.statement.now.act.now)
-    c.requires.place.its _ c.do_part.ensures.does c.requires.plain
+    c.requires.place.statement.its _ c.do_part.ensures.does c.requires.plain
 
 pub returns-clause-fine : goal.returns-clause-fine
 returns-clause-fine c = part_fine c.args.setting.now c.args.place.now c.args.step _ _ _ c.do_part.ensures.does

@@ -2,10 +2,11 @@ use Rattle.std.proofs.Common.{[], ◌∷◌, sym, Some, ap, ◌∙◌}
 use Rattle.std.proofs.lemmas.Result.{err_from_is_err_and}
 use Rattle.cob_program.specs.Act.{open_files}
 use Rattle.cob_program.specs.ActView.{plain_act}
-use Rattle.cob_interp.specs.Setting.{paths_of}
+use Rattle.cob_interp.specs.Setting.{program_of, paths_of}
 use Rattle.cob_interp.specs.Touching.{makes_in}
 use Rattle.cob_interp.proofs.OpenLeads.{open_leads}
-use Rattle.cob_interp.proofs.Touched.{makes_stay, makes_more, makes_one}
+use Rattle.cob_interp.proofs.OpLemmas.{always_opens, opens_there}
+use Rattle.cob_interp.proofs.Touched.{makes_more, makes_one}
 use Rattle.cob_interp.proofs.Closings.{open_part, opens_behind}
 use Rattle.cob_interp.proofs.TrackLemmas.{stand_on}
 use Rattle.cob_interp.proofs.Placing.{open_places, open_one_placed}
@@ -13,16 +14,20 @@ use Rattle.cob_interp.proofs.Written.{left_by, refused_own}
 use Rattle.cob_interp.proofs.Failing.{never_met, open_met, part_fine}
 use Rattle.cob_interp.proofs.opens.do_open.Goals as goal
 
-pub returns-in_default-clause-touches : goal.returns-in_default-clause-touches
-returns-in_default-clause-touches g c =
-    makes_stay (paths_of c.args.setting.now) (makes_in c.args.openings.now) c.args.world.now.world _
+pub unreachable-requires : goal.unreachable-requires
+unreachable-requires g c =
+    always_opens (program_of c.args.setting.now) c.args.place.now.plan_node.now.op
+    (plain_act c.args.place.now.statement.now.act.now) c.args.openings.now c.requires.its c.requires.place.fits.fits
+    c.in_default.not-Open
 
-pub returns-in-None-clause-touches : goal.returns-in-None-clause-touches
-returns-in-None-clause-touches g c =
-    makes_stay (paths_of c.args.setting.now) (makes_in c.args.openings.now) c.args.world.now.world _
+pub unreachable-requires-in-None : goal.unreachable-requires-in-None
+unreachable-requires-in-None g c =
+    opens_there (program_of c.args.setting.now) c.args.place.now.plan_node.now.op
+    (plain_act c.args.place.now.statement.now.act.now) c.args.openings.now c.requires.its c.requires.place.fits.fits
+    c.in-Open.file c.in-Open.fine c.in-Open.bad c.in-Open.is (sym c.opening_in.ensures ∙ c.in-None.is)
 
-pub returns-in_ok-ready_to_open-in-Some-clause-touches : goal.returns-in_ok-ready_to_open-in-Some-clause-touches
-returns-in_ok-ready_to_open-in-Some-clause-touches g c =
+pub returns-clause-touches : goal.returns-clause-touches
+returns-clause-touches g c =
     makes_more (paths_of c.args.setting.now) (makes_in (c.in-Some.opening ∷ [])) (makes_in c.args.openings.now)
     c.args.world.now.world
     (makes_one c.args.openings.now c.in-Open.file c.in-Some.opening (sym c.in-Some.ensures)) _ _
@@ -35,27 +40,27 @@ returns-in_err-ready_to_open-in-Some-clause-touches g c =
     (makes_one c.args.openings.now c.in-Open.file c.in-Some.opening (sym c.in-Some.ensures)) _ _
     c.in_err-ready_to_open-in-Some.ensures.touches
 
-pub returns-in_ok-ready_to_open-in-Some-clause-leads : goal.returns-in_ok-ready_to_open-in-Some-clause-leads
-returns-in_ok-ready_to_open-in-Some-clause-leads g c sink node budget is =
+pub returns-clause-leads : goal.returns-clause-leads
+returns-clause-leads g c sink node budget is =
     rw c.lend_room.ensures.same
     (open_leads c.args.setting.now budget c.args.place.now c.args.step node sink _ _ _ _ _ c.requires.ready.distinct is
     c.in-Open.file c.in-Open.fine c.in-Open.bad c.in-Some.opening c.args.openings.now c.in-Open.is c.requires.its
     (sym c.in-Some.ensures) _ _ c.in_ok-ready_to_open-in-Some.ensures.readies _ c.do_part-next.ensures.does)
 
-pub returns-in_ok-ready_to_open-in-Some-clause-opens : goal.returns-in_ok-ready_to_open-in-Some-clause-opens
-returns-in_ok-ready_to_open-in-Some-clause-opens g c =
+pub returns-clause-opens : goal.returns-clause-opens
+returns-clause-opens g c =
     rw c.lend_room.ensures.same
     (opens_behind _ _ _ _ c.in_ok-ready_to_open-in-Some.ensures.opens
     (open_part c.args.setting.now c.args.place.now c.args.step _ _ c.args.openings.now c.in-Open.file c.in-Open.fine
-    c.in-Open.bad c.in-Open.is (c.requires.place.its ∙ ap Some c.requires.its) _ c.do_part-next.ensures.does))
+    c.in-Open.bad c.in-Open.is (c.requires.place.statement.its ∙ ap Some c.requires.its) _ c.do_part-next.ensures.does))
 
-pub returns-in_ok-ready_to_open-in-Some-clause-placed : goal.returns-in_ok-ready_to_open-in-Some-clause-placed
-returns-in_ok-ready_to_open-in-Some-clause-placed g c =
+pub returns-clause-placed : goal.returns-clause-placed
+returns-clause-placed g c =
     let ready = c.in_ok-ready_to_open-in-Some.ensures.readies in
     rw (c.lend_room.ensures.ids, c.lend_room.ensures.same)
     (left_by _ (paths_of c.args.setting.now) (g.F.Files.state c.ready_to_open.new.files) _ _
     (open_places c.args.setting.now c.args.place.now c.args.step _ _ (plain_act c.args.place.now.statement.now.act.now)
-    c.requires.place.its _ c.do_part-next.ensures.does c.args.openings.now c.in-Open.file c.in-Open.fine c.in-Open.bad
+    c.requires.place.statement.its _ c.do_part-next.ensures.does c.args.openings.now c.in-Open.file c.in-Open.fine c.in-Open.bad
     c.requires.its c.in-Open.is c.in-Some.opening (sym c.in-Some.ensures) (paths_of c.args.setting.now)
     (g.F.Files.state c.ready_to_open.new.files) _
     (open_one_placed c.args.setting.now.program.now.layout (paths_of c.args.setting.now)

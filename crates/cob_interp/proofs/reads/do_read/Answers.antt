@@ -1,10 +1,18 @@
 use Rattle.std.proofs.Common.{false, ap}
+use Rattle.cob_program.specs.ActView.{plain_act}
 use Rattle.cob_interp.specs.Tracking.{purpose_in}
+use Rattle.cob_interp.proofs.OpLemmas.{always_reads}
 use Rattle.cob_interp.proofs.Purposes.{slot_held}
 use Rattle.cob_interp.proofs.RecordReads.{idle_arrives, window_arrives, on_file}
 use Rattle.cob_interp.proofs.ReadParts.{idle_part_left, window_part_left}
 use Rattle.cob_interp.proofs.Failing.{never_fails, never_still, part_fine}
 use Rattle.cob_interp.proofs.reads.do_read.Goals as goal
+
+pub unreachable-requires : goal.unreachable-requires
+unreachable-requires g c =
+    let place = c.args.place.now in
+    always_reads (plain_act place.statement.now.act.now) c.args.file place.plan_node.now.starts place.plan_node.now.op
+    c.requires.reads c.requires.starts.starts c.requires.starts.is.fits.read c.in_default.not-Read
 
 pub returns-in-None-clause-placed : goal.returns-in-None-clause-placed
 returns-in-None-clause-placed g c =

@@ -6,8 +6,8 @@ use Rattle.cob_plan.specs.Doing.{Meets}
 use Rattle.cob_plan.proofs.ActViews.{perform_is}
 use Rattle.cob_plan.proofs.assigning.set_count.Goals as goal
 
-pub returns-in-Perform-clause-value : goal.returns-in-Perform-clause-value
-returns-in-Perform-clause-value c =
+pub returns-clause-value : goal.returns-clause-value
+returns-clause-value c =
     let p = c.in-Perform in
     let w = c.args.world.now.world in
     subst (λ (a : Act). Meets (counted (plain_program c.args.world.now.program) c.args.number None w a) w c.count_turns.new.world.world

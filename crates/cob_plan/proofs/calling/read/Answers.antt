@@ -5,8 +5,8 @@ use Rattle.cob_plan.specs.Doing.{IsTaking}
 use Rattle.cob_plan.proofs.ActViews.{read_is}
 use Rattle.cob_plan.proofs.calling.read.Goals as goal
 
-pub returns-in-Read-clause-value : goal.returns-in-Read-clause-value
-returns-in-Read-clause-value c = λ number.
+pub returns-clause-value : goal.returns-clause-value
+returns-clause-value c = λ number.
     let r = c.in-Read in
     subst (λ (a : Act). IsTaking (plain_program c.args.world.now.program) number 0 c.args.world.now.world c.take.new.world.world a c.take.result)
     (sym (read_is c.args.act.now r.file r.into r.end r.fine r.is))

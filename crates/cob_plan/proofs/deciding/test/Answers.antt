@@ -1,10 +1,15 @@
-use Rattle.std.proofs.Common.{◌≡◌, true, false, None, sym, ◌∙◌, subst}
+use Rattle.std.proofs.Common.{true, false, None, sym, ◌∙◌, subst}
 use Rattle.cob_program.specs.ActView.{plain_act, plain_program}
 use Rattle.cob_runs.specs.Effects.{Effect, decided, tested, tests_in_act}
 use Rattle.std.specs.Prelude.{slice_get}
 use Rattle.cob_plan.specs.Doing.{Forks}
-use Rattle.cob_plan.proofs.TestLemmas.{tested_is}
+use Rattle.cob_plan.proofs.TestLemmas.{tested_is, test_there}
 use Rattle.cob_plan.proofs.deciding.test.Goals as goal
+
+pub decide_at-requires-clause-there : goal.decide_at-requires-clause-there
+decide_at-requires-clause-there c =
+    test_there c.args.place (plain_act c.args.statement.now.act.now) (sym c.is_times.ensures ∙ c.if-is_times.false)
+    c.requires.fits
 
 pub returns-else-is_times : goal.returns-else-is_times
 returns-else-is_times c =

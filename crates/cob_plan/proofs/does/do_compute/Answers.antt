@@ -4,10 +4,23 @@ use Rattle.cob_runs.specs.declared.action.Action.{Action}
 use Rattle.cob_runs.specs.declared.action.Action.TheVariants as action
 use Rattle.cob_plan.specs.declared.node.Op.TheVariants as op
 use Rattle.cob_plan.specs.Doing.{Does}
+use Rattle.cob_plan.specs.Fitting.{HandlesSize}
+use Rattle.cob_plan.proofs.SizeErrors.{first_alone}
 use Rattle.cob_plan.proofs.WayLemmas.{only, second}
 use Rattle.cob_runs.specs.Effects.{computed}
-use Rattle.std.specs.Prelude.{true, false, Some, None}
+use Rattle.std.specs.Prelude.{true, false, Some, None, is_some}
 use Rattle.cob_plan.proofs.does.do_compute.Goals as goal
+
+pub without_second-requires : goal.without_second-requires
+without_second-requires c =
+    let p = plain_program c.args.world.now.program in
+    let s = c.args.statement.now in
+    let a = plain_act s.act.now in
+    record {
+      first = first_alone p s.number c.args.world.now.world c.compute-outcome.new.world.world a c.compute-outcome.result
+          (subst (λ (o : Option ℕ). HandlesSize (is_some o) a) c.in-None.is c.requires.handles)
+          (c.compute-outcome.ensures.value s.number);
+    }
 
 pub returns-in-None-clause-value : goal.returns-in-None-clause-value
 returns-in-None-clause-value c =

@@ -14,4 +14,4 @@ returns-clause-value c =
     let bad : Action × ℕ = (action.Bad 0, c.args.bad) in
     c.next_after_call.ensures p s.number 0 (plain_act s.act.now) (op.Write c.args.fine c.args.bad) (action.Write) c.args.world.now.world c.write.new.world.world
     (record { its = c.requires.its.its; out = only fine (bad ∷ []); handled = refl }) (second fine bad []) refl
-    (c.write.ensures.value s.number)
+    (c.in_ok-write.ensures.value s.number)

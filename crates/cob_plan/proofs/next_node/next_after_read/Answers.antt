@@ -1,7 +1,7 @@
 use Rattle.std.proofs.Common.{◌≡◌, ◌==◌, false, sym, ◌∙◌, arith}
 use Rattle.std.proofs.lemmas.Bool.Decides.{nat_tests}
 use Rattle.cob_plan.proofs.WayLemmas.{goes_found, goes_end, stops_end, taken_bad, taken_stops}
-use Rattle.cob_plan.proofs.next_node.next_by_take.Goals as goal
+use Rattle.cob_plan.proofs.next_node.next_after_read.Goals as goal
 
 pub returns-then-is_fine : goal.returns-then-is_fine
 returns-then-is_fine c = λ p number a old now its h.
