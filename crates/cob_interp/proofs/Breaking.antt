@@ -1,10 +1,11 @@
 -- Where a run may be broken off.
-use Rattle.std.proofs.Common.{◌≡◌, ℕ, ◌+◌, ◌≤◌, Bool, true, false, List, ◌++◌, inl, inr, Option, Some, None, Result, length, take, refl, sym, ap, subst, ◌∙◌}
+use Rattle.std.proofs.Common.{◌≡◌, ℕ, ◌+◌, ◌≤◌, Bool, true, false, List, ◌++◌, inl, inr, Option, Some, None, Result, Err, ◌⊎◌, length, take, refl, sym, ap, subst, ◌∙◌}
 use Rattle.std.specs.Prelude.{slice_get}
 use Rattle.std.specs.Option.{option_map_or}
 use Rattle.std.specs.FinMap.{get}
 use Rattle.std.specs.Io.KnownBytes.{append_known}
 use Rattle.std.proofs.Math.Seq.{take-append-add}
+use Rattle.batch_io.specs.Faults.{Rose}
 use Rattle.batch_io.specs.FilesState.{Contents, known_bytes}
 use Rattle.batch_io.specs.SinkState.{SinkState}
 use Rattle.cob_program.specs.Act.{Act, Program}
@@ -16,12 +17,15 @@ use Rattle.cob_graph.specs.declared.graph.Node.{Node}
 use Rattle.cob_graph.specs.Lookup.{node_at}
 use Rattle.cob_interp.specs.declared.ends.Ended.{Ended}
 use Rattle.cob_interp.specs.declared.ends.RunEnd.{RunEnd}
+use Rattle.cob_interp.specs.declared.ends.RunEnd.TheVariants as end
 use Rattle.cob_interp.specs.Ends.{told_files, AreFree, state_after}
 use Rattle.cob_interp.specs.Told.{seen, seen_file, seen_files, IsSynced, AreSynced, KeepsNames}
 use Rattle.cob_interp.specs.Touching.{IsPartOf, makes_by, makes_none, TouchesIn, Touches}
-use Rattle.cob_interp.specs.Running.{Outside, IfTold, makes_next, StandsIn, Stands, RestsIn, Rests, BreaksOff, IsBroken}
+use Rattle.cob_interp.specs.Meeting.{IsMetBy, IfFailed}
+use Rattle.cob_interp.specs.Running.{Outside, IfTold, makes_next, StandsIn, Stands, RestsIn, Rests, ShowsFront, IsMetNext, IsOver, BreaksOff, IsBroken}
 use Rattle.cob_interp.proofs.SeenFiles.{SeenAt, seen_at}
 use Rattle.cob_interp.proofs.Passing.{append_twice}
+use Rattle.cob_interp.proofs.Failing.{if_failed, failed_any}
 use Rattle.cob_interp.proofs.OneEndLemmas as one_end
 
 -- ---- contents that are told
@@ -63,21 +67,49 @@ module _ (paths : List (List ℕ)) (makes : ℕ → Bool) (w : World) where
       (subst (λ (o : Option File). SeenAt told paths place (slice_get w.files place) o) has
       (seen_at told paths w.files place s))
 
+-- ---- text
+
+-- What is shown of the text that waits where the run is broken off: all of it, or a front.
+abbrev pub ShowsWaiting : SinkState → SinkState → SinkState → List ℕ → Result Ended RunEnd → Type 0
+ShowsWaiting start mid now text r =
+    (now.told ≡ append_known mid.told text)
+    ⊎ (((r ≡ Err end.Memory) ⊎ Rose start.faults now.faults)
+    × ((k : ℕ) × (now.told ≡ append_known mid.told (take k text))))
+
+all_shown : (start mid now : SinkState) (text waits whole : List ℕ) (r : Result Ended RunEnd)
+    → mid.told ≡ append_known start.told text → whole ≡ text ++ waits → ShowsWaiting start mid now waits r
+    → (now.told ≡ append_known start.told whole) ⊎ ShowsFront start now r whole
+all_shown start mid now text waits whole r gained is (inl all) = inl
+    (all ∙ ap (λ (known : Option (List ℕ)). append_known known waits) gained ∙ append_twice start.told text waits
+    ∙ ap (append_known start.told) (sym is))
+all_shown start mid now text waits whole r gained is (inr (why, (k, front))) = inr (record {
+  why = why;
+  front = (
+    length text + k,
+    front ∙ ap (λ (known : Option (List ℕ)). append_known known (take k waits)) gained
+        ∙ append_twice start.told text (take k waits)
+        ∙ ap (append_known start.told) (sym (ap (take (length text + k)) is ∙ take-append-add text waits k)),
+  );
+})
+
 -- ---- the run
 
 module _ (p : Program) (g : Graph) (paths : List (List ℕ)) (budget : ℕ) where
-  module _ (first told now : Contents) (text : List ℕ) (w : World) (steps : ℕ) (makes : ℕ → Bool)
-      (before after : SinkState) (k : ℕ) where
+  module _ (first told now : Contents) (w : World) (steps : ℕ) (makes : ℕ → Bool) (before after : SinkState)
+      (r : Result Ended RunEnd) where
     -- behind so many steps, or in the next one
     breaks_off : steps ≤ budget → AreFree p (told_files first paths) steps
         → (state_after p (told_files first paths) steps).world.files ≡ seen_files told paths w.files
-        → (state_after p (told_files first paths) steps).world.shown ≡ text ++ w.shown
         → AreSynced told paths w.files → KeepsNames first told paths
         → ((place : ℕ) (f : File) (whole other : Option (List ℕ)) → IsPartOf (makes place) f whole other
         → IsPartOf (makes_next p (state_after p (told_files first paths) steps) place) f whole other)
-        → TouchesIn paths makes w told now → after.told ≡ append_known before.told (text ++ take k w.shown)
-        → BreaksOff p g paths budget first now before after
-    breaks_off within free files shown synced others next touches gained = record {
+        → TouchesIn paths makes w told now
+        → (after.told ≡ append_known before.told (state_after p (told_files first paths) steps).world.shown)
+        ⊎ ShowsFront before after r (state_after p (told_files first paths) steps).world.shown
+        → IfFailed r (IsOver p g paths budget first now steps
+        ⊎ (Rose before.faults after.faults ⊎ IsMetNext p (state_after p (told_files first paths) steps) r))
+        → BreaksOff p g paths budget first now before after r
+    breaks_off within free files synced others next touches shows meets = record {
       steps = steps;
       within = within;
       free = free;
@@ -86,21 +118,20 @@ module _ (p : Program) (g : Graph) (paths : List (List ℕ)) (budget : ℕ) wher
           (part_seen paths makes w told now synced touches place path f at
           (subst (λ (fs : List File). slice_get fs place ≡ Some f) files has));
       others = λ name none. touches.others name none ∙ others name none;
-      shows = (
-        length text + k,
-        gained ∙ ap (append_known before.told)
-            (sym (ap (take (length text + k)) shown ∙ take-append-add text w.shown k)),
-      );
+      shows = shows;
+      meets = meets;
     }
 
   -- where it stands at a node at which a step begins, or is in that step
-  pub broken_here : (start mid now : Outside) (w : World) (steps node : ℕ) (x : Node) (a : Act) (k : ℕ)
+  pub broken_here : (start mid now : Outside) (w : World) (steps node : ℕ) (x : Node) (a : Act)
+      (r : Result Ended RunEnd)
       → steps ≤ budget → node_at g.nodes node ≡ Some x → x.starts ≡ true → act_at p x.statement ≡ Some a
-      → Touches paths (makes_by a) w mid.files now.files → now.sink.told ≡ append_known mid.sink.told (take k w.shown)
-      → Stands p g paths start mid w steps steps node → IsBroken p g paths budget start now
-  broken_here start mid now w steps node x a k within at starts its touches gained s =
+      → Touches paths (makes_by a) w mid.files now.files → ShowsWaiting start.sink mid.sink now.sink w.shown r
+      → IfFailed r (Rose start.sink.faults now.sink.faults ⊎ IsMetBy a r)
+      → Stands p g paths start mid w steps steps node → IsBroken p g paths budget start now r
+  broken_here start mid now w steps node x a r within at starts its touches shows met s =
       told_on (λ first told. StandsIn p g paths first told s.text w steps steps node)
-      (λ first told. BreaksOff p g paths budget first told start.sink now.sink)
+      (λ first told. BreaksOff p g paths budget first told start.sink now.sink r)
       (known_bytes start.files) (known_bytes mid.files) (known_bytes now.files) s.told
       (λ first told e st.
       let t = touches.known told e in
@@ -108,31 +139,47 @@ module _ (p : Program) (g : Graph) (paths : List (List ℕ)) (budget : ℕ) wher
       let makes : (place : ℕ) → makes_by a place ≡ makes_next p (state_after p (told_files first paths) steps) place =
       λ place. sym (ap (λ (n : ℕ). option_map_or (λ b. makes_by b place) (act_at p n) false) on.next
       ∙ ap (λ (o : Option Act). option_map_or (λ b. makes_by b place) o false) its) in
-      subst (λ (c : Option Contents). IfTold (λ f_ n. BreaksOff p g paths budget f_ n start.sink now.sink)
+      subst (λ (c : Option Contents). IfTold (λ f_ n. BreaksOff p g paths budget f_ n start.sink now.sink r)
       (Some first) c) (sym t.is)
-      (breaks_off first told t.now s.text w steps (makes_by a) start.sink now.sink k within st.free
-      (ap (λ (u : World). u.files) on.world) (ap (λ (u : World). u.shown) on.world) st.synced st.others
+      (breaks_off first told t.now w steps (makes_by a) start.sink now.sink r within st.free
+      (ap (λ (u : World). u.files) on.world) st.synced st.others
       (λ place f whole other part. subst (λ (b : Bool). IsPartOf b f whole other) (makes place) part) t.touches
-      (gained ∙ ap (λ (known : Option (List ℕ)). append_known known (take k w.shown)) s.well.gained
-      ∙ append_twice start.sink.told s.text (take k w.shown))))
+      (all_shown start.sink mid.sink now.sink s.text w.shown
+      (state_after p (told_files first paths) steps).world.shown r s.well.gained
+      (ap (λ (u : World). u.shown) on.world) shows)
+      (if_failed r (Rose start.sink.faults now.sink.faults ⊎ IsMetBy a r)
+      (IsOver p g paths budget first t.now steps
+      ⊎ (Rose start.sink.faults now.sink.faults ⊎ IsMetNext p (state_after p (told_files first paths) steps) r))
+      (λ m. inr (elim m [
+        | inl rose ↦ inl rose
+        | inr by ↦ inr (record { act = a; next = ap (λ (n : ℕ). act_at p n) on.next ∙ its; met = by })
+      ])) met)))
 
   -- behind the run's own end
-  pub rests_break : (start mid now : Outside) (w : World) (r : Result Ended RunEnd) (k : ℕ)
-      → Touches paths makes_none w mid.files now.files → now.sink.told ≡ append_known mid.sink.told (take k w.shown)
-      → Rests p g paths budget start mid w r → IsBroken p g paths budget start now
-  rests_break start mid now w r k touches gained s =
-      told_on (λ first told. RestsIn p g paths budget first told s.text w r)
-      (λ first told. BreaksOff p g paths budget first told start.sink now.sink)
+  pub rests_break : (start mid now : Outside) (w : World) (own r : Result Ended RunEnd)
+      → Touches paths makes_none w mid.files now.files → ShowsWaiting start.sink mid.sink now.sink w.shown r
+      → Rests p g paths budget start mid w own → IsBroken p g paths budget start now r
+  rests_break start mid now w own r touches shows s =
+      told_on (λ first told. RestsIn p g paths budget first told s.text w own)
+      (λ first told. BreaksOff p g paths budget first told start.sink now.sink r)
       (known_bytes start.files) (known_bytes mid.files) (known_bytes now.files) s.told
       (λ first told e st.
       let t = touches.known told e in
-      let there = one_end.stands p (told_files first paths) budget r st.steps st.answer in
-      subst (λ (c : Option Contents). IfTold (λ f_ n. BreaksOff p g paths budget f_ n start.sink now.sink)
+      let there = one_end.stands p (told_files first paths) budget own st.steps st.answer in
+      subst (λ (c : Option Contents). IfTold (λ f_ n. BreaksOff p g paths budget f_ n start.sink now.sink r)
       (Some first) c) (sym t.is)
-      (breaks_off first told t.now s.text w st.steps makes_none start.sink now.sink k there.within there.free st.files
-      st.shown
+      (breaks_off first told t.now w st.steps makes_none start.sink now.sink r there.within there.free st.files
       st.synced st.others
       (λ place f whole other part.
       part_of_any (makes_next p (state_after p (told_files first paths) st.steps) place) f whole other part) t.touches
-      (gained ∙ ap (λ (known : Option (List ℕ)). append_known known (take k w.shown)) s.well.gained
-      ∙ append_twice start.sink.told s.text (take k w.shown))))
+      (all_shown start.sink mid.sink now.sink s.text w.shown
+      (state_after p (told_files first paths) st.steps).world.shown r s.well.gained st.shown shows)
+      (failed_any r (IsOver p g paths budget first t.now st.steps
+      ⊎ (Rose start.sink.faults now.sink.faults ⊎ IsMetNext p (state_after p (told_files first paths) st.steps) r))
+      (inl (record {
+        own = own;
+        ends = st.answer;
+        files = λ place path f at has.
+            part_seen paths makes_none w told t.now st.synced t.touches place path f at
+            (subst (λ (fs : List File). slice_get fs place ≡ Some f) st.files has);
+      })))))

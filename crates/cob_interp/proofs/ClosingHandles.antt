@@ -1,5 +1,5 @@
 -- Behind a run's end: what is still open is closed.
-use Rattle.std.proofs.Common.{◌≡◌, ℕ, ◌≤◌, List, inl, inr, Option, Result, Ok, Err, sym, subst, ◌∙◌, arith}
+use Rattle.std.proofs.Common.{◌≡◌, ℕ, ◌≤◌, List, inl, inr, Option, Result, Ok, Err, refl, sym, subst, ◌∙◌, arith}
 use Rattle.batch_io.specs.Faults.{Rose}
 use Rattle.batch_io.specs.FilesState.{Contents, FilesState, known_bytes}
 use Rattle.batch_io.specs.SinkState.{SinkState}
@@ -8,8 +8,9 @@ use Rattle.cob_graph.specs.declared.graph.Graph.{Graph}
 use Rattle.cob_interp.specs.declared.ends.Ended.{Ended}
 use Rattle.cob_interp.specs.declared.ends.RunEnd.{RunEnd}
 use Rattle.cob_interp.specs.declared.ends.RunEnd.TheVariants as end
-use Rattle.cob_interp.specs.Readying.{IsRefusal, ClosesAll}
-use Rattle.cob_interp.specs.Running.{outside, Outside, IfTold, EndsRunIf, EndsWell, BreaksOff, IsBroken, Runs}
+use Rattle.cob_interp.specs.Readying.{AreWell, IsRefusal, ClosesAll}
+use Rattle.cob_interp.specs.Running.{outside, Outside, IfTold, CountsOn, EndsRunIf, EndsWell, BreaksOff, IsBroken, Runs}
+use Rattle.cob_interp.specs.Meeting.{end_behind}
 use Rattle.cob_interp.specs.Walking.{IsOwnEnd, IsRefused}
 use Rattle.cob_interp.proofs.CloseLemmas.{rose_on}
 
@@ -18,8 +19,9 @@ rose_later a b c later rose = omega (arith, later, rose)
 
 module _ (p : Program) (g : Graph) (paths : List (List ℕ)) (budget : ℕ) (start : Outside) (sink : SinkState)
     (old new : FilesState) (same : known_bytes new ≡ known_bytes old) where
-  broken_on : IsBroken p g paths budget start (outside old sink) → IsBroken p g paths budget start (outside new sink)
-  broken_on b = subst (λ (c : Option Contents). IfTold (λ f n. BreaksOff p g paths budget f n start.sink sink)
+  broken_on : (q : Result Ended RunEnd) → IsBroken p g paths budget start (outside old sink) q
+      → IsBroken p g paths budget start (outside new sink) q
+  broken_on q b = subst (λ (c : Option Contents). IfTold (λ f n. BreaksOff p g paths budget f n start.sink sink q)
       (known_bytes start.files) c) (sym same) b
 
   -- behind a refusal, whatever the closes answer
@@ -27,25 +29,33 @@ module _ (p : Program) (g : Graph) (paths : List (List ℕ)) (budget : ℕ) (sta
       → Runs p g paths budget start (outside old sink) e → Runs p g paths budget start (outside new sink) e
   refused_on (Ok e) refused r closes runs = absurd refused
   refused_on (Err end.ReadFault) refused r closes runs =
-      record { ends = rose_later _ _ _ closes.reading runs.ends; part = broken_on runs.part }
+      record { ends = rose_later _ _ _ closes.reading runs.ends; part = broken_on (Err end.ReadFault) runs.part }
   refused_on (Err end.WriteFault) refused r closes runs = record {
     ends = elim runs.ends [
       | inl rose ↦ inl (rose_later _ _ _ closes.writing rose)
       | inr rose ↦ inr rose
     ];
-    part = broken_on runs.part;
+    part = broken_on (Err end.WriteFault) runs.part;
   }
-  refused_on (Err end.Memory) refused r closes runs = record { ends = tt; part = broken_on runs.part }
+  refused_on (Err end.Memory) refused r closes runs = record { ends = tt; part = broken_on (Err end.Memory) runs.part }
   refused_on (Err (end.Ragged file count)) refused r closes runs = cc
   refused_on (Err (end.StepsSpent count)) refused r closes runs = cc
   refused_on (Err (end.IoStop status statement)) refused r closes runs = cc
   refused_on (Err (end.Fault kind statement step)) refused r closes runs = cc
 
-  well_on : (e : Result Ended RunEnd) → new.reading ≡ old.reading → new.writing ≡ old.writing
+  counts_on : (e : Result Ended RunEnd) (a b c : ℕ) → CountsOn e a b → b ≤ c → ((x : Ended) → e ≡ Ok x → c ≡ b)
+      → CountsOn e a c
+  counts_on (Ok x) a b c is later same_ = same_ x refl ∙ is
+  counts_on (Err e) a b c is later same_ = omega (arith, is, later)
+
+  well_on : (e : Result Ended RunEnd) (r : Result (Unit {0}) RunEnd) → ClosesAll old new r
+      → ((x : Ended) → e ≡ Ok x → AreWell old new)
       → EndsWell p g paths budget start (outside old sink) e → EndsWell p g paths budget start (outside new sink) e
-  well_on e reading writing well = record {
-    reading = reading ∙ well.reading;
-    writing = writing ∙ well.writing;
+  well_on e r closes stays well = record {
+    reading = counts_on e start.files.reading old.reading new.reading well.reading closes.reading
+        (λ x is. (stays x is).reading);
+    writing = counts_on e start.files.writing old.writing new.writing well.writing closes.writing
+        (λ x is. (stays x is).writing);
     faults = well.faults;
     run = subst (λ (c : Option Contents). EndsRunIf p g paths budget (known_bytes start.files) c start.sink sink e)
         (sym same) well.run;
@@ -73,28 +83,34 @@ module _ (p : Program) (g : Graph) (paths : List (List ℕ)) (budget : ℕ) (sta
   own_runs (Err (end.IoStop status statement)) own well = record { ends = well; part = tt }
   own_runs (Err (end.Fault kind statement step)) own well = record { ends = well; part = tt }
 
-  -- behind the run's own end, where all closes go well
-  pub closed_well : (e : Result Ended RunEnd) → IsOwnEnd e → ClosesAll old new (Ok tt)
-      → Runs p g paths budget start (outside old sink) e → Runs p g paths budget start (outside new sink) e
-  closed_well e own closes runs = own_runs e own (well_on e closes.counts.reading closes.counts.writing (own_well e own runs))
-
-  -- and where one fails
-  pub closed_ill : (e : Result Ended RunEnd) → IsOwnEnd e → (refusal : RunEnd) → ClosesAll old new (Err refusal)
-      → Runs p g paths budget start (outside old sink) e → IsBroken p g paths budget start (outside old sink)
+  -- behind the run's end, where a close fails
+  closed_ill : (x : Ended) (refusal : RunEnd) → IsRefusal old new refusal
+      → EndsWell p g paths budget start (outside old sink) (Ok x)
+      → ((q : Result Ended RunEnd) → IsBroken p g paths budget start (outside old sink) q)
       → Runs p g paths budget start (outside new sink) (Err refusal)
-  closed_ill e own refusal closes runs broken =
-      let well = own_well e own runs in
-      by refusal closes.counts well.reading well.writing where
-        by : (r : RunEnd) → IsRefusal old new r → old.reading ≡ start.files.reading → old.writing ≡ start.files.writing
-            → Runs p g paths budget start (outside new sink) (Err r)
-        by end.ReadFault rose reading writing =
-            record { ends = rose_on start.files.reading old.reading new.reading reading rose; part = broken_on broken }
-        by end.WriteFault rose reading writing = record {
-          ends = inl (rose_on start.files.writing old.writing new.writing writing rose);
-          part = broken_on broken;
-        }
-        by end.Memory rose reading writing = record { ends = tt; part = broken_on broken }
-        by (end.Ragged file count) rose reading writing = absurd rose
-        by (end.StepsSpent count) rose reading writing = absurd rose
-        by (end.IoStop status statement) rose reading writing = absurd rose
-        by (end.Fault kind statement step) rose reading writing = absurd rose
+  closed_ill x end.ReadFault rose well broken = record {
+    ends = rose_on start.files.reading old.reading new.reading well.reading rose;
+    part = broken_on (Err end.ReadFault) (broken (Err end.ReadFault));
+  }
+  closed_ill x end.WriteFault rose well broken = record {
+    ends = inl (rose_on start.files.writing old.writing new.writing well.writing rose);
+    part = broken_on (Err end.WriteFault) (broken (Err end.WriteFault));
+  }
+  closed_ill x end.Memory rose well broken =
+      record { ends = tt; part = broken_on (Err end.Memory) (broken (Err end.Memory)) }
+  closed_ill x (end.Ragged file count) rose well broken = absurd rose
+  closed_ill x (end.StepsSpent count) rose well broken = absurd rose
+  closed_ill x (end.IoStop status statement) rose well broken = absurd rose
+  closed_ill x (end.Fault kind statement step) rose well broken = absurd rose
+
+  -- behind the run's own end
+  pub closed_behind : (e : Result Ended RunEnd) → IsOwnEnd e → (r : Result (Unit {0}) RunEnd) → ClosesAll old new r
+      → Runs p g paths budget start (outside old sink) e
+      → ((q : Result Ended RunEnd) → IsBroken p g paths budget start (outside old sink) q)
+      → Runs p g paths budget start (outside new sink) (end_behind e r)
+  closed_behind (Ok x) own (Ok u) closes runs broken =
+      own_runs (Ok x) own (well_on (Ok x) (Ok u) closes (λ y is. closes.counts) (own_well (Ok x) own runs))
+  closed_behind (Ok x) own (Err refusal) closes runs broken =
+      closed_ill x refusal closes.counts (own_well (Ok x) own runs) broken
+  closed_behind (Err e) own r closes runs broken =
+      own_runs (Err e) own (well_on (Err e) r closes (λ y is. cc) (own_well (Err e) own runs))

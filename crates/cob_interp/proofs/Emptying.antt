@@ -408,6 +408,20 @@ below_next place count below apart = elim (cases_order place count) [
   | inr (inr more) ↦ absurd (omega (arith, below, more))
 ]
 
+-- Nothing waits of the file whose bytes went out.
+emptied_on_here : (fs : List File) (place : ℕ) (o : Option File) → slice_get fs place ≡ o → (f : File)
+    → slice_get (emptied_on place fs o) place ≡ Some f → f.mode ≡ writing → bytes_in f ≡ []
+emptied_on_here fs place None none f has mode_ = cc
+emptied_on_here fs place (Some g) is f has mode_ =
+    let set = get_set fs place g (emptied_file g) is in
+    let same : emptied_file g ≡ f = cc in
+    subst (λ (x : File). bytes_in x ≡ []) same
+    (emptied_bytes g.content g.mode g.place (ap (λ (x : File). x.mode) same ∙ mode_))
+
+pub emptied_here : (w : World) (place : ℕ) (f : File) → slice_get (emptied place w).files place ≡ Some f
+    → f.mode ≡ writing → bytes_in f ≡ []
+emptied_here w place f = emptied_on_here w.files place (slice_get w.files place) refl f
+
 emptied_on_next : (fs : List File) (count : ℕ) (o : Option File) → slice_get fs count ≡ o → AreEmptied fs count
     → AreEmptied (emptied_on count fs o) (count + 1)
 emptied_on_next fs count None none all place f below has mode_ = elim (cases_eq place count) [
@@ -418,12 +432,8 @@ emptied_on_next fs count None none all place f below has mode_ = elim (cases_eq 
 ]
 emptied_on_next fs count (Some g) is all place f below has mode_ = elim (cases_eq place count) [
   | inl here ↦
-      let at : slice_get (slice_set fs count (emptied_file g)) count ≡ Some f =
-      subst (λ (n : ℕ). slice_get (slice_set fs count (emptied_file g)) n ≡ Some f) here has in
-      let set = get_set fs count g (emptied_file g) is in
-      let same : emptied_file g ≡ f = cc in
-      subst (λ (x : File). bytes_in x ≡ []) same
-      (emptied_bytes g.content g.mode g.place (ap (λ (x : File). x.mode) same ∙ mode_))
+      emptied_on_here fs count (Some g) is f
+      (subst (λ (n : ℕ). slice_get (slice_set fs count (emptied_file g)) n ≡ Some f) here has) mode_
   | inr apart ↦
       all place f (below_next place count below apart)
       (sym (get_set_other fs count place (emptied_file g) apart) ∙ has) mode_

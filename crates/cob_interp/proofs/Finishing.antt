@@ -1,8 +1,9 @@
 -- How a run goes on from step to step, and ends.
-use Rattle.std.proofs.Common.{◌≡◌, ℕ, ◌≤◌, ◌<◌, true, false, List, [], ◌++◌, length, map, inl, inr, Option, Some, Result, Ok, Err, refl, sym, ap, subst, ◌∙◌, append-nil, arith}
+use Rattle.std.proofs.Common.{◌≡◌, ℕ, ◌≤◌, ◌<◌, true, false, List, [], ◌++◌, length, map, inl, inr, Option, Some, Result, Ok, Err, ◌⊎◌, true≢false, take, refl, sym, ap, subst, ◌∙◌, append-nil, arith}
 use Rattle.std.specs.Prelude.{string_bytes}
 use Rattle.std.proofs.lemmas.List.{length-map}
 use Rattle.std.specs.Io.KnownBytes.{append_known}
+use Rattle.batch_io.specs.Faults.{Rose}
 use Rattle.batch_io.specs.FilesState.{Contents, FilesState, known_bytes}
 use Rattle.batch_io.specs.SinkState.{SinkState}
 use Rattle.batch_io.specs.declared.ends.MakeEnd.{MakeEnd}
@@ -26,16 +27,20 @@ use Rattle.cob_interp.specs.declared.walk.Halt.TheVariants as halt
 use Rattle.cob_interp.specs.Setting.{program_of, paths_of, StartsAt}
 use Rattle.cob_interp.specs.Touching.{makes_by, makes_none, Touches}
 use Rattle.cob_interp.specs.Readying.{IsRefusal, Sees, AreEmptied}
-use Rattle.cob_interp.specs.Running.{Outside, outside, IsWell, IfTold, Stands, RestsIn, Rests, EndsRun, EndsWell, IsBroken, IfRefused, EndsBy, Halts, Arrives, IsAt, GoesOn, HaltsOff, Runs, TellsOfSink}
+use Rattle.cob_interp.specs.Meeting.{is_failure, IfFailed, IsMetBy, shows_first, ShowsRest}
+use Rattle.cob_interp.specs.Running.{Outside, outside, IsWell, IfTold, CountsOn, Stands, RestsIn, Rests, EndsRun, EndsWell, IsBroken, IfRefused, EndsBy, Halts, Arrives, IsAt, GoesOn, HaltsOff, Runs, TellsOfSink}
 use Rattle.cob_interp.specs.Walking.{by_sink, as_result, IsSinkRefusal, TellsBySink, Flushes, MayFlush, Refuses, is_refused, IsOwnEnd}
 use Rattle.cob_interp.proofs.Passing.{append_none, rests_on}
 use Rattle.cob_interp.proofs.Onward.{ends_well, spends}
 use Rattle.cob_interp.proofs.CloseLemmas.{rose_on}
 use Rattle.cob_interp.proofs.Touched.{touches_stay}
-use Rattle.cob_interp.proofs.Breaking.{told_on, broken_here, rests_break}
+use Rattle.cob_interp.proofs.Breaking.{told_on, ShowsWaiting, broken_here, rests_break}
 use Rattle.cob_interp.proofs.Flushing.{stands_shown, rests_flushed}
 use Rattle.cob_interp.proofs.Putting.{contents_told, emptied_up_to}
 use Rattle.cob_interp.proofs.Emptying.{rests_sees}
+
+abbrev refusal : RunEnd → Result Ended RunEnd
+refusal e = Err e
 
 module _ (p : Program) (g : Graph) (paths : List (List ℕ)) (budget : ℕ) where
   -- ---- refusals
@@ -73,6 +78,29 @@ module _ (p : Program) (g : Graph) (paths : List (List ℕ)) (budget : ℕ) wher
     file_ends old new sink text (end.IoStop status statement) well r = absurd r
     file_ends old new sink text (end.Fault kind statement step) well r = absurd r
 
+  -- the run's own end isn't refused
+  own_part : (r : Result Ended RunEnd) (P : Type 0) → IsOwnEnd r → IfRefused p g paths budget r P
+  own_part (Ok e) P own = tt
+  own_part (Err end.ReadFault) P own = cc
+  own_part (Err end.WriteFault) P own = cc
+  own_part (Err end.Memory) P own = cc
+  own_part (Err (end.Ragged file count)) P own = tt
+  own_part (Err (end.StepsSpent count)) P own = tt
+  own_part (Err (end.IoStop status statement)) P own = tt
+  own_part (Err (end.Fault kind statement step)) P own = tt
+
+  module _ (start : Outside) (mid now : Outside) (text : List ℕ) where
+    -- why only a front is shown
+    sink_why : (e : MakeEnd) → IsWell start mid text → IsSinkRefusal mid.sink now.sink e
+        → (refusal (by_sink e) ≡ refusal end.Memory) ⊎ Rose start.sink.faults now.sink.faults
+    sink_why make.Failed well why = inr (rose_on start.sink.faults mid.sink.faults now.sink.faults well.faults why)
+    sink_why make.Memory well why = inl refl
+
+    sink_meets : (e : MakeEnd) (Q : Type 0) → IsWell start mid text → IsSinkRefusal mid.sink now.sink e
+        → IfFailed {A = Ended} (Err (by_sink e)) (Rose start.sink.faults now.sink.faults ⊎ Q)
+    sink_meets make.Failed Q well why = inl (rose_on start.sink.faults mid.sink.faults now.sink.faults well.faults why)
+    sink_meets make.Memory Q well why = tt
+
   -- ---- a step
 
   module _ (start : Outside) (steps node : ℕ) (x : Node) (a : Act) (within : steps ≤ budget)
@@ -86,30 +114,147 @@ module _ (p : Program) (g : Graph) (paths : List (List ℕ)) (budget : ℕ) wher
       sink_ends (λ old_ new_ r. Rests p g paths budget old_ new_ v r) start (outside files old)
           (outside files new) here.stands.text e
           here.stands.well refuses.why,
-      if_refused (Err (by_sink e)) (IsBroken p g paths budget start (outside files new))
+      if_refused (Err (by_sink e)) (IsBroken p g paths budget start (outside files new) (Err (by_sink e)))
           (broken_here p g paths budget start (outside files old)
-          (outside files new) w steps node x a refuses.front.0 within at starts its
-          (touches_stay paths (makes_by a) w files) refuses.front.1 here.stands),
+          (outside files new) w steps node x a (Err (by_sink e)) within at starts its
+          (touches_stay paths (makes_by a) w files)
+          (inr (
+            sink_why start (outside files old) (outside files new) here.stands.text e here.stands.well refuses.why,
+            refuses.front,
+          ))
+          (sink_meets start (outside files old) (outside files new) here.stands.text e
+          (IsMetBy {A = Ended} a (Err (by_sink e))) here.stands.well refuses.why)
+          here.stands),
     )
 
-    goes_by : (old new : FilesState) (sink : SinkState) (w v : World) (step : ℕ) (r : Result ℕ RunEnd)
+    goes_by : (old new : FilesState) (sink : SinkState) (w v : World) (step next : ℕ)
         → Touches paths (makes_by a) w old new
         → Stands p g paths start (outside old sink) w steps steps node
-        → Arrives p g paths budget start (outside new sink) v step r
-        → GoesOn p g paths budget start (outside new sink) v step r
-    goes_by old new sink w v step (Ok next) touches stands arrives = record {
+        → Arrives p g paths budget start (outside new sink) v step (Ok next)
+        → GoesOn p g paths budget start (outside new sink) v step (Ok next)
+    goes_by old new sink w v step next touches stands arrives = record {
       stands = arrives;
       part = broken_here p g paths budget start (outside old sink)
-          (outside new sink) w steps node x a 0 within at starts its touches
-          (append_none sink.told) stands;
+          (outside new sink) w steps node x a (Err end.Memory) within at starts its touches
+          (inr (inl refl, (0, append_none sink.told))) tt stands;
     }
-    goes_by old new sink w v step (Err e) touches stands arrives = (
-      arrives,
-      if_refused (Err e) (IsBroken p g paths budget start (outside new sink))
-          (broken_here p g paths budget start (outside old sink)
-          (outside new sink) w steps node x a 0 within at starts its touches
-          (append_none sink.told) stands),
-    )
+
+    -- ---- a refusal of the statement, and the text that waits
+
+    -- The statement was refused behind a world with this text that waits, and this much of it was shown then.
+    refused_with : (old new : FilesState) (mid now : SinkState) (w v : World) (step : ℕ) (e : RunEnd)
+        → Touches paths (makes_by a) w old new → IsMetBy {A = Ended} a (Err e)
+        → (is_failure e ≡ true → now.told ≡ append_known mid.told w.shown)
+        → (is_failure e ≡ false → now.told ≡ mid.told)
+        → Stands p g paths start (outside old mid) w steps steps node
+        → Halts p g paths budget start (outside new now) v (Err e)
+        → GoesOn p g paths budget start (outside new now) v step (Err e)
+    refused_with old new mid now w v step e touches met all same stands halts = (halts, part e met all same) where
+      broken : (r : Result Ended RunEnd) → ShowsWaiting start.sink mid now w.shown r
+          → IfFailed r (Rose start.sink.faults now.faults ⊎ IsMetBy a r)
+          → IsBroken p g paths budget start (outside new now) r
+      broken r shows meets =
+          broken_here p g paths budget start (outside old mid) (outside new now) w steps node x a r within at starts its
+          touches shows meets stands
+
+      part : (d : RunEnd) → IsMetBy {A = Ended} a (Err d)
+          → (is_failure d ≡ true → now.told ≡ append_known mid.told w.shown)
+          → (is_failure d ≡ false → now.told ≡ mid.told)
+          → IfRefused p g paths budget (Err d) (IsBroken p g paths budget start (outside new now) (Err d))
+      part end.ReadFault by all_ same_ = broken (Err end.ReadFault) (inl (all_ refl)) (inr by)
+      part end.WriteFault by all_ same_ = broken (Err end.WriteFault) (inl (all_ refl)) (inr by)
+      part end.Memory by all_ same_ =
+          broken (Err end.Memory) (inr (inl refl, (0, same_ refl ∙ append_none mid.told))) tt
+      part (end.Ragged file count) by all_ same_ = tt
+      part (end.StepsSpent count) by all_ same_ = tt
+      part (end.IoStop status statement) by all_ same_ = tt
+      part (end.Fault kind statement step_) by all_ same_ = tt
+
+    -- what is told of the files stays where more text is shown
+    halts_shown : (new : FilesState) (mid now : SinkState) (u v : World) (e : RunEnd) → is_failure e ≡ true
+        → now.faults ≡ mid.faults → Halts p g paths budget start (outside new mid) u (Err e)
+        → Halts p g paths budget start (outside new now) v (Err e)
+    halts_shown new mid now u v end.ReadFault fails same h = h
+    halts_shown new mid now u v end.WriteFault fails same (inl rose) = inl rose
+    halts_shown new mid now u v end.WriteFault fails same (inr rose) =
+        inr (subst (λ (n : ℕ). Rose start.sink.faults n) (sym same) rose)
+    halts_shown new mid now u v end.Memory fails same h = cc
+    halts_shown new mid now u v (end.Ragged file count) fails same h = cc
+    halts_shown new mid now u v (end.StepsSpent count) fails same h = cc
+    halts_shown new mid now u v (end.IoStop status statement) fails same h = cc
+    halts_shown new mid now u v (end.Fault kind statement step) fails same h = cc
+
+    failed : (e : RunEnd) (P : Type 0) → is_failure e ≡ true → IfFailed {A = ℕ} (Err e) P → P
+    failed end.ReadFault P fails h = h
+    failed end.WriteFault P fails h = h
+    failed end.Memory P fails h = cc
+    failed (end.Ragged file count) P fails h = cc
+    failed (end.StepsSpent count) P fails h = cc
+    failed (end.IoStop status statement) P fails h = cc
+    failed (end.Fault kind statement step) P fails h = cc
+
+    module _ (old new : FilesState) (mid now : SinkState) (w u v : World) (step : ℕ) (e : RunEnd)
+        (touches : Touches paths (makes_by a) w old new) (met : IsMetBy {A = ℕ} a (Err e))
+        (first : shows_first a ≡ true → w.shown ≡ [])
+        (still : shows_first a ≡ false → IfFailed {A = ℕ} (Err e) (u.shown ≡ w.shown))
+        (stands : Stands p g paths start (outside old mid) w steps steps node)
+        (arrives : Arrives p g paths budget start (outside new mid) u step (Err e)) where
+      -- nothing more is shown
+      silent : (shows_first a ≡ true) ⊎ (is_failure e ≡ false)
+          → GoesOn p g paths budget start (outside new mid) u step (Err e)
+      silent why =
+          refused_with old new mid mid w u step e touches met
+          (λ fails. elim why [
+            | inl all ↦ append_none mid.told ∙ ap (append_known mid.told) (sym (first all))
+            | inr not_ ↦ absurd (true≢false (sym fails ∙ not_))
+          ])
+          (λ _. refl) stands arrives
+
+      same_text : shows_first a ≡ false → is_failure e ≡ true → u.shown ≡ w.shown
+      same_text waits fails = failed e (u.shown ≡ w.shown) fails (still waits)
+
+      -- all that waits is
+      shown_all : Flushes mid now u v → shows_first a ≡ false → is_failure e ≡ true
+          → GoesOn p g paths budget start (outside new now) v step (Err e)
+      shown_all flushes waits fails =
+          refused_with old new mid now w v step e touches met
+          (λ _. flushes.gains.told ∙ ap (append_known mid.told) (same_text waits fails))
+          (λ not_. absurd (true≢false (sym fails ∙ not_)))
+          stands (halts_shown new mid now u v e fails flushes.gains.faults arrives)
+
+      -- the sink refuses it
+      shown_front : (why : MakeEnd) → Refuses mid now u v why → shows_first a ≡ false → is_failure e ≡ true
+          → GoesOn p g paths budget start (outside new now) v step (Err (by_sink why))
+      shown_front why refuses waits fails = (
+        sink_ends (λ old_ new_ r. Rests p g paths budget old_ new_ v r) start (outside old mid)
+            (outside new now) stands.text why stands.well refuses.why,
+        if_refused (Err (by_sink why)) (IsBroken p g paths budget start (outside new now) (Err (by_sink why)))
+            (broken_here p g paths budget start (outside old mid) (outside new now) w steps node x a
+            (Err (by_sink why)) within at starts its touches
+            (inr (
+              sink_why start (outside old mid) (outside new now) stands.text why stands.well refuses.why,
+              (
+                refuses.front.0,
+                refuses.front.1
+                    ∙ ap (λ (t : List ℕ). append_known mid.told (take refuses.front.0 t)) (same_text waits fails),
+              ),
+            ))
+            (sink_meets start (outside old mid) (outside new now) stands.text why
+            (IsMetBy {A = Ended} a (Err (by_sink why))) stands.well refuses.why)
+            stands),
+      )
+
+      refused_by : (h : Halt) → ShowsRest a mid now u v e h
+          → GoesOn p g paths budget start (outside new now) v step (as_result (Err h))
+      refused_by (halt.End d) (is, inl (sink, world, why)) =
+          subst (λ (f : RunEnd). GoesOn p g paths budget start (outside new now) v step (Err f)) (sym is)
+          (subst (λ (s : SinkState). GoesOn p g paths budget start (outside new s) v step (Err e)) (sym sink)
+          (subst (λ (z : World). GoesOn p g paths budget start (outside new mid) z step (Err e)) (sym world)
+          (silent why)))
+      refused_by (halt.End d) (is, inr (flushes, waits, fails)) =
+          subst (λ (f : RunEnd). GoesOn p g paths budget start (outside new now) v step (Err f)) (sym is)
+          (shown_all flushes waits fails)
+      refused_by (halt.Sink why) (refuses, waits, fails) = shown_front why refuses waits fails
 
   pub halts_off : (start now : Outside) (w : World) (step : ℕ) (e : Halt) → GoesOn p g paths budget start now w step
       (as_result {A = ℕ} (Err e))
@@ -166,13 +311,17 @@ module _ (p : Program) (g : Graph) (paths : List (List ℕ)) (budget : ℕ) wher
   own_ends start now (Err (end.IoStop status statement)) own h = h
   own_ends start now (Err (end.Fault kind statement step)) own h = h
 
+  counts_same : (r : Result Ended RunEnd) (old new : ℕ) → new ≡ old → CountsOn r old new
+  counts_same (Ok e) old new same = same
+  counts_same (Err e) old new same = omega (arith, same)
+
   -- nothing waits
   rests_put : (start : Outside) (files : FilesState) (sink : SinkState) (w : World) (r : Result Ended RunEnd)
       → w.shown ≡ [] → AreEmptied w.files (length paths) → Rests p g paths budget start (outside files sink) w r
       → EndsWell p g paths budget start (outside files sink) r
   rests_put start files sink w r silent none s = record {
-    reading = s.well.reading;
-    writing = s.well.writing;
+    reading = counts_same r start.files.reading files.reading s.well.reading;
+    writing = counts_same r start.files.writing files.writing s.well.writing;
     faults = s.well.faults;
     run = told_on (λ first told. RestsIn p g paths budget first told s.text w r)
         (λ first told. EndsRun p g paths budget first told start.sink sink r)
@@ -206,9 +355,14 @@ module _ (p : Program) (g : Graph) (paths : List (List ℕ)) (budget : ℕ) wher
     text_refused e refuses = record {
       ends = sink_ends (EndsWell p g paths budget) start (outside files old)
           (outside files new) rests.text e rests.well refuses.why;
-      part = if_refused (Err (by_sink e)) (IsBroken p g paths budget start (outside files new))
-          (rests_break p g paths budget start (outside files old) (outside files new) w r refuses.front.0
-          (touches_stay paths makes_none w files) refuses.front.1 rests);
+      part = if_refused (Err (by_sink e)) (IsBroken p g paths budget start (outside files new) (Err (by_sink e)))
+          (rests_break p g paths budget start (outside files old) (outside files new) w r (Err (by_sink e))
+          (touches_stay paths makes_none w files)
+          (inr (
+            sink_why start (outside files old) (outside files new) rests.text e rests.well refuses.why,
+            refuses.front,
+          ))
+          rests);
     }
 
     module _ (flushes : Flushes old new w v) (behind : FilesState)
@@ -217,16 +371,16 @@ module _ (p : Program) (g : Graph) (paths : List (List ℕ)) (budget : ℕ) wher
       shown = subst (λ (u : World). Rests p g paths budget start (outside files new) u r) (sym flushes.world)
           (rests_flushed p g paths start files old new w budget r flushes.gains rests)
 
-      pub broken : IsBroken p g paths budget start (outside behind new)
-      broken = rests_break p g paths budget start (outside files new) (outside behind new) v r 0 touches
-          (append_none new.told) shown
+      pub broken : (q : Result Ended RunEnd) → IsBroken p g paths budget start (outside behind new) q
+      broken q = rests_break p g paths budget start (outside files new) (outside behind new) v r q touches
+          (inl (append_none new.told ∙ ap (λ (u : World). append_known new.told u.shown) (sym flushes.world))) shown
 
       -- a file is refused
       pub file_refused : (e : RunEnd) → IsRefusal files behind e → Runs p g paths budget start (outside behind new)
           (Err e)
-      file_refused e refusal = record {
-        ends = file_ends (EndsWell p g paths budget) start files behind new shown.text e shown.well refusal;
-        part = if_refused (Err e) (IsBroken p g paths budget start (outside behind new)) broken;
+      file_refused e why = record {
+        ends = file_ends (EndsWell p g paths budget) start files behind new shown.text e shown.well why;
+        part = if_refused (Err e) (IsBroken p g paths budget start (outside behind new) (Err e)) (broken (Err e));
       }
 
       pub finished : (u : World) (count : ℕ) → length paths ≤ count → Sees paths files behind v u
@@ -237,7 +391,7 @@ module _ (p : Program) (g : Graph) (paths : List (List ℕ)) (budget : ℕ) wher
             (ap (λ (x : World). x.shown) sees.world ∙ ap (λ (x : World). x.shown) flushes.world)
             (emptied_up_to u.files (length paths) count all none)
             (rests_sees p g paths start new files behind v u sees budget r shown));
-        part = if_refused r (IsBroken p g paths budget start (outside behind new)) broken;
+        part = own_part r (IsBroken p g paths budget start (outside behind new) r) own;
       }
 
   -- it halted by a refusal
@@ -252,14 +406,14 @@ module _ (p : Program) (g : Graph) (paths : List (List ℕ)) (budget : ℕ) wher
   refused_runs start now w (end.IoStop status statement) is off = cc
   refused_runs start now w (end.Fault kind statement step) is off = cc
 
-refused_by : (e : MakeEnd) → is_refused (by_sink e) ≡ true
-refused_by make.Failed = refl
-refused_by make.Memory = refl
+sink_is_refused : (e : MakeEnd) → is_refused (by_sink e) ≡ true
+sink_is_refused make.Failed = refl
+sink_is_refused make.Memory = refl
 
 pub sink_runs : (p : Program) (g : Graph) (paths : List (List ℕ)) (budget : ℕ) (start now : Outside) (w : World)
     (e : MakeEnd)
     → HaltsOff p g paths budget start now w (Err (by_sink e)) → Runs p g paths budget start now (Err (by_sink e))
-sink_runs p g paths budget start now w e off = refused_runs p g paths budget start now w (by_sink e) (refused_by e) off
+sink_runs p g paths budget start now w e off = refused_runs p g paths budget start now w (by_sink e) (sink_is_refused e) off
 
 -- ---- a step of a setting
 
@@ -281,18 +435,35 @@ module _ (s : Setting) (budget steps node : ℕ) (x : Place) (starts : StartsAt 
       (plain_act x.statement.now.act.now)
       (omega (arith, within)) starts.is.plan_node.stands its_start its_act files old new w v step e refuses here
 
-  pub step_taken : MayFlush old new w v → (behind : FilesState) (u : World) (step : ℕ) (r : Result ℕ RunEnd)
-      → Touches (paths_of s) (makes_by (plain_act x.statement.now.act.now)) v files behind
-      → (Stands (program_of s) s.graph.now (paths_of s) start (outside files new) v steps steps node
-      → Arrives (program_of s) s.graph.now (paths_of s) budget start (outside behind new) u step r)
-      → GoesOn (program_of s) s.graph.now (paths_of s) budget start (outside behind new) u step r
-  step_taken may behind u step r touches takes =
-      let stands = stands_shown (program_of s) s.graph.now
-      (paths_of s) start files old new w v steps steps node may here.stands in
-      goes_by (program_of s) s.graph.now (paths_of s) budget start steps node starts.is.plan_node.node
-      (plain_act x.statement.now.act.now)
-      (omega (arith, within)) starts.is.plan_node.stands its_start its_act files behind new v u step r touches stands
-      (takes stands)
+  module _ (may : MayFlush old new w v) (behind : FilesState) (u : World) (step : ℕ)
+      (touches : Touches (paths_of s) (makes_by (plain_act x.statement.now.act.now)) v files behind) where
+    stands : Stands (program_of s) s.graph.now (paths_of s) start (outside files new) v steps steps node
+    stands = stands_shown (program_of s) s.graph.now
+        (paths_of s) start files old new w v steps steps node may here.stands
+
+    pub step_taken : (next : ℕ)
+        → (Stands (program_of s) s.graph.now (paths_of s) start (outside files new) v steps steps node
+        → Arrives (program_of s) s.graph.now (paths_of s) budget start (outside behind new) u step (Ok next))
+        → GoesOn (program_of s) s.graph.now (paths_of s) budget start (outside behind new) u step (Ok next)
+    step_taken next takes =
+        goes_by (program_of s) s.graph.now (paths_of s) budget start steps node starts.is.plan_node.node
+        (plain_act x.statement.now.act.now)
+        (omega (arith, within)) starts.is.plan_node.stands its_start its_act files behind new v u step next touches
+        stands (takes stands)
+
+    pub step_refused : (now : SinkState) (z : World) (e : RunEnd) (h : Halt)
+        → IsMetBy {A = ℕ} (plain_act x.statement.now.act.now) (Err e)
+        → (shows_first (plain_act x.statement.now.act.now) ≡ true → v.shown ≡ [])
+        → (shows_first (plain_act x.statement.now.act.now) ≡ false → IfFailed {A = ℕ} (Err e) (u.shown ≡ v.shown))
+        → ShowsRest (plain_act x.statement.now.act.now) new now u z e h
+        → (Stands (program_of s) s.graph.now (paths_of s) start (outside files new) v steps steps node
+        → Arrives (program_of s) s.graph.now (paths_of s) budget start (outside behind new) u step (Err e))
+        → GoesOn (program_of s) s.graph.now (paths_of s) budget start (outside behind now) z step (as_result (Err h))
+    step_refused now z e h met first still rest takes =
+        refused_by (program_of s) s.graph.now (paths_of s) budget start steps node starts.is.plan_node.node
+        (plain_act x.statement.now.act.now)
+        (omega (arith, within)) starts.is.plan_node.stands its_start its_act files behind new now v u z step e touches
+        met first still stands (takes stands) h rest
 
 -- the budget is spent
 pub budget_spent : (s : Setting) (budget node : ℕ) (x : Place) → StartsAt s node x → (start now : Outside) (w : World)
@@ -313,6 +484,16 @@ pub tells_on : (old mid new : SinkState) (e : Halt) → mid.faults ≡ old.fault
 tells_on old mid new (halt.End e) same tells = tells ∙ same
 tells_on old mid new (halt.Sink make.Failed) same tells = rose_on old.faults mid.faults new.faults same tells
 tells_on old mid new (halt.Sink make.Memory) same tells = tt
+
+-- behind a refused statement
+pub tells_rest : (a : Act) (old mid new : SinkState) (w v : World) (e : RunEnd) (h : Halt) → mid.faults ≡ old.faults
+    → ShowsRest a mid new w v e h → TellsBySink {A = ℕ} old new (Err h)
+tells_rest a old mid new w v e (halt.End d) same (is, inl (sink, world, why)) =
+    ap (λ (s : SinkState). s.faults) sink ∙ same
+tells_rest a old mid new w v e (halt.End d) same (is, inr (flushes, waits, fails)) = flushes.gains.faults ∙ same
+tells_rest a old mid new w v e (halt.Sink make.Failed) same (refuses, waits, fails) =
+    rose_on old.faults mid.faults new.faults same refuses.why
+tells_rest a old mid new w v e (halt.Sink make.Memory) same (refuses, waits, fails) = tt
 
 module _ (old new : SinkState) (e : Ending) where
   pub tells_refused : (why : MakeEnd) → e.end ≡ Err (by_sink why) → e.sink_refused ≡ true → IsSinkRefusal old new why

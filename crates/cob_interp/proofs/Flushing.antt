@@ -1,6 +1,6 @@
 -- Text that waits is shown.
 use Rattle.std.proofs.Common.{◌≡◌, ℕ, List, [], ◌++◌, inl, inr, Option, Some, Result, Ok, Err, refl, sym, ap, subst, ◌∙◌, append-nil}
-use Rattle.std.specs.Prelude.{MatchResult}
+use Rattle.std.specs.Prelude.{IfOk, MatchResult}
 use Rattle.batch_io.specs.FilesState.{Contents, FilesState, known_bytes}
 use Rattle.batch_io.specs.SinkState.{SinkState}
 use Rattle.batch_io.specs.Wholes.{ShowsWhole}
@@ -44,6 +44,11 @@ pub may_flush : (old new : SinkState) (w v : World) (r : Result (Unit {0}) MakeE
     → MatchResult r (λ _. MayFlush old new w v) (λ e. Refuses old new w v e)
 may_flush old new w v (Ok x) f = inl f
 may_flush old new w v (Err e) f = f
+
+pub none_waits : (old new : SinkState) (w v : World) (r : Result (Unit {0}) MakeEnd) (P : Type 0)
+    → MatchResult r (λ _. Flushes old new w v) (λ e. Refuses old new w v e) → IfOk r (λ _. P → v.shown ≡ [])
+none_waits old new w v (Ok x) P f = λ _. ap (λ (u : World). u.shown) f.world
+none_waits old new w v (Err e) P f = tt
 
 pub may_flush_faults : (old new : SinkState) (w v : World) → MayFlush old new w v → new.faults ≡ old.faults
 may_flush_faults old new w v (inl f) = f.gains.faults

@@ -29,6 +29,7 @@ pub mod Taking
 pub mod OneEndLemmas
 mod SomeEndLemmas
 pub mod Touched
+pub mod Failing
 pub mod Closings
 pub mod Unmade
 pub mod Breaking
@@ -39,5 +40,6 @@ pub mod ClosingHandles
 pub mod EmptyRooms
 pub mod Going
 pub mod Emptying
+pub mod RoomLemmas
 pub mod Starting
 mod OpLemmas

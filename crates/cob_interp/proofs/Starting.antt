@@ -1,5 +1,5 @@
 -- Where a run begins.
-use Rattle.std.proofs.Common.{◌≡◌, ℕ, zero, suc, ◌+◌, ◌-◌, List, [], ◌∷◌, length, map, Option, Some, None, Err, refl, sym, ap, subst, ◌∙◌, arith}
+use Rattle.std.proofs.Common.{◌≡◌, ℕ, zero, suc, ◌+◌, ◌-◌, List, [], ◌∷◌, length, map, inl, inr, Option, Some, None, Err, refl, sym, ap, subst, ◌∙◌, arith}
 use Rattle.std.specs.Prelude.{slice_get, replicate}
 use Rattle.std.specs.FinMap.{get}
 use Rattle.batch_io.specs.FilesState.{Contents, FilesState, Purpose, known_bytes}
@@ -122,7 +122,7 @@ module _ (p : Program) (g : Graph) (paths : List (List ℕ)) (same : length path
         (rest (body_at p 0) ∷ paras 1 (length p.paras - 1) ∷ []) Going
         ∙ first_as_seen told
 
-    breaks_first : (told : Contents) → BreaksOff p g paths budget told told start.sink start.sink
+    breaks_first : (told : Contents) → BreaksOff p g paths budget told told start.sink start.sink (Err end.Memory)
     breaks_first told = record {
       steps = 0;
       within = omega arith;
@@ -134,7 +134,8 @@ module _ (p : Program) (g : Graph) (paths : List (List ℕ)) (same : length path
           (record { its = λ n q x at_ has_ s. part_held told q _ x s; others = λ name none. refl }) place path f at
           (subst (λ (w : World). slice_get w.files place ≡ Some f) (begin_world told) has);
       others = λ name none. refl;
-      shows = (0, append_none start.sink.told);
+      shows = inr (record { why = inl refl; front = (0, append_none start.sink.told) });
+      meets = tt;
     }
 
     -- at the first node, with nothing told but what was
@@ -148,7 +149,8 @@ module _ (p : Program) (g : Graph) (paths : List (List ℕ)) (same : length path
       stands (Some told) = stands_first told
 
       breaks : (known : Option Contents)
-          → IfTold (λ first told. BreaksOff p g paths budget first told start.sink start.sink) known known
+          → IfTold (λ first told. BreaksOff p g paths budget first told start.sink start.sink (Err end.Memory)) known
+          known
       breaks None = tt
       breaks (Some told) = breaks_first told
 

@@ -224,7 +224,7 @@ or_false : (a : Bool) → (a || false) ≡ true → a ≡ true
 or_false true e = refl
 or_false false e = e
 
-any_at : (test : Opening → Bool) (os : List Opening) (k : ℕ) (o : Opening) → slice_get os k ≡ Some o → test o ≡ true
+pub any_at : (test : Opening → Bool) (os : List Opening) (k : ℕ) (o : Opening) → slice_get os k ≡ Some o → test o ≡ true
     → list_any test os ≡ true
 any_at test [] k o at e = cc
 any_at test (x ∷ os) zero o at e =

@@ -111,9 +111,9 @@ module _ (p : Program) (g : Graph) (whole : IsWellFormed p) (is : IsGraph p g) (
         → KeepsUnmade p paths first told
     ended before after r x place path at within never = by_content place path at never x.steps x.holds.its
 
-    broken : (before after : SinkState) → BreaksOff p g paths budget first told before after
+    broken : (before after : SinkState) (r : Result Ended RunEnd) → BreaksOff p g paths budget first told before after r
         → KeepsUnmade p paths first told
-    broken before after x place path at within never =
+    broken before after r x place path at within never =
         by_part place path at never x.steps within (λ f has. x.files place path f at has)
 
   module _ (old new : Outside) where
@@ -127,10 +127,10 @@ module _ (p : Program) (g : Graph) (whole : IsWellFormed p) (is : IsGraph p g) (
         (λ first told. KeepsUnmade p paths first told) (λ first told y. ended first told old.sink new.sink r y)
         (known_bytes old.files) (known_bytes new.files) x.run
 
-    by_break : IsBroken p g paths budget old new → IsUnmadeKept
-    by_break x =
-        if_told (λ first told. BreaksOff p g paths budget first told old.sink new.sink)
-        (λ first told. KeepsUnmade p paths first told) (λ first told y. broken first told old.sink new.sink y)
+    by_break : (r : Result Ended RunEnd) → IsBroken p g paths budget old new r → IsUnmadeKept
+    by_break r x =
+        if_told (λ first told. BreaksOff p g paths budget first told old.sink new.sink r)
+        (λ first told. KeepsUnmade p paths first told) (λ first told y. broken first told old.sink new.sink r y)
         (known_bytes old.files) (known_bytes new.files) x
 
     -- however the run ends
@@ -140,6 +140,6 @@ module _ (p : Program) (g : Graph) (whole : IsWellFormed p) (is : IsGraph p g) (
     unmade_kept (Err (end.IoStop status statement)) x = by_end (Err (end.IoStop status statement)) x.ends
     unmade_kept (Err (end.Fault kind statement step)) x = by_end (Err (end.Fault kind statement step)) x.ends
     unmade_kept (Err (end.Ragged file count)) x = by_end (Err (end.Ragged file count)) x.ends
-    unmade_kept (Err end.ReadFault) x = by_break x.part
-    unmade_kept (Err end.WriteFault) x = by_break x.part
-    unmade_kept (Err end.Memory) x = by_break x.part
+    unmade_kept (Err end.ReadFault) x = by_break (Err end.ReadFault) x.part
+    unmade_kept (Err end.WriteFault) x = by_break (Err end.WriteFault) x.part
+    unmade_kept (Err end.Memory) x = by_break (Err end.Memory) x.part

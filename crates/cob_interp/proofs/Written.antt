@@ -1,11 +1,14 @@
 -- Files that are written have ids that stand for their paths, wherever the run ends.
-use Rattle.std.proofs.Common.{◌≡◌, ◌≢◌, ℕ, Bool, true, false, List, Option, Some, Result, Ok, Err, refl, sym, ap, subst, ◌∙◌}
+use Rattle.std.proofs.Common.{◌≡◌, ◌≢◌, ℕ, Bool, true, false, List, Option, Some, Result, Ok, Err, inl, inr, refl, sym, ap, subst, ◌∙◌}
 use Rattle.std.specs.Prelude.{slice_get, IsSome, IfSome}
 use Rattle.std.proofs.lemmas.Bool.{false≢true}
 use Rattle.batch_io.specs.declared.ends.MakeEnd.{MakeEnd}
 use Rattle.batch_io.specs.declared.ends.MakeEnd.TheVariants as make
 use Rattle.batch_io.specs.FilesState.{FilesState, Handle, Purpose, Writing, Gives, KeepsIds, known_handle}
+use Rattle.batch_io.specs.SinkState.{SinkState}
+use Rattle.cob_program.specs.Act.{Act}
 use Rattle.cob_runs.specs.Files.{File, Mode, closed, reading, writing}
+use Rattle.cob_runs.specs.State.{World}
 use Rattle.cob_interp.specs.declared.ends.Ended.{Ended}
 use Rattle.cob_interp.specs.declared.ends.RunEnd.{RunEnd}
 use Rattle.cob_interp.specs.declared.ends.RunEnd.TheVariants as end
@@ -13,6 +16,7 @@ use Rattle.cob_interp.specs.declared.handles.Held.{Held}
 use Rattle.cob_interp.specs.declared.walk.Halt.{Halt}
 use Rattle.cob_interp.specs.declared.walk.Halt.TheVariants as halt
 use Rattle.cob_interp.specs.Ends.{IfOwn, UnlessRefused}
+use Rattle.cob_interp.specs.Meeting.{is_failure, ShowsRest}
 use Rattle.cob_interp.specs.Readying.{IsRefusal}
 use Rattle.cob_interp.specs.Tracking.{Ids, IsHeld, AreOpen, IsOpen, purpose_in, ArePlaced, AreWritten, AreLeft, KeepsPlaces}
 use Rattle.cob_interp.specs.Walking.{by_sink, as_result, is_refused}
@@ -170,6 +174,27 @@ pub left_on : (paths : List (List ℕ)) (a : FilesState) (ids : Ids) (fs : List 
     → AreLeft paths a ids fs (as_result {A = ℕ} (Err e)) → AreLeft paths a ids fs (as_result {A = Ended} (Err e))
 left_on paths a ids fs (halt.End e) left = left
 left_on paths a ids fs (halt.Sink e) left = left
+
+own_failed : (e : RunEnd) (P : Type 0) → is_failure e ≡ true → IfOwn e P
+own_failed end.ReadFault P fails = tt
+own_failed end.WriteFault P fails = tt
+own_failed end.Memory P fails = tt
+own_failed (end.Ragged file count) P fails = cc
+own_failed (end.StepsSpent count) P fails = cc
+own_failed (end.IoStop status statement) P fails = cc
+own_failed (end.Fault kind statement step) P fails = cc
+
+-- behind a step that was refused
+pub rest_placed : (act : Act) (mid now : SinkState) (u v : World) (e : RunEnd) (h : Halt) (paths : List (List ℕ))
+    (a : FilesState) (ids : Ids) → ShowsRest act mid now u v e h → IfOwn e (AreWritten paths a ids u.files)
+    → AreLeft paths a ids v.files (as_result {A = ℕ} (Err h))
+rest_placed act mid now u v e (halt.End d) paths a ids (is, inl (sink, world, why)) left =
+    subst (λ (f : RunEnd). IfOwn f (AreWritten paths a ids v.files)) (sym is)
+    (subst (λ (z : World). IfOwn e (AreWritten paths a ids z.files)) (sym world) left)
+rest_placed act mid now u v e (halt.End d) paths a ids (is, inr (flushes, waits, fails)) left =
+    subst (λ (f : RunEnd). IfOwn f (AreWritten paths a ids v.files)) (sym is)
+    (own_failed e (AreWritten paths a ids v.files) fails)
+rest_placed act mid now u v e (halt.Sink why) paths a ids rest left = sink_own (AreWritten paths a ids v.files) why
 
 -- behind a run that came to its own end
 pub left_own : (paths : List (List ℕ)) (a : FilesState) (ids : Ids) (fs : List File) (h : Result Ended Halt) (e : RunEnd)

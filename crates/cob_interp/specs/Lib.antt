@@ -1,3 +1,4 @@
+pub mod Able
 pub mod Ends
 pub mod Told
 pub mod Tracking
@@ -7,4 +8,6 @@ pub mod Walking
 pub mod Setting
 pub mod Readying
 pub mod Doing
+pub mod Meeting
+pub mod Rooms
 pub mod OneEnd

@@ -47,6 +47,10 @@ pub record IsPath (s : Setting) (place : ℕ) (path : List ℕ) : Type 0 where
   pub declared : decl_at s.program.now.layout place ≡ Some decl
   pub path_ : slice_get (paths_of s) place ≡ Some path
 
+-- the program has a file at this place
+abbrev pub IsDeclared : Setting → ℕ → Type 0
+IsDeclared s place = (decl : FileDecl) × (decl_at s.program.now.layout place ≡ Some decl)
+
 pub record IsSize (s : Setting) (place size : ℕ) : Type 0 where
   pub decl : FileDecl
   pub declared : decl_at s.program.now.layout place ≡ Some decl

@@ -6,7 +6,7 @@ use Rattle.std.specs.FinMap.{get}
 use Rattle.batch_io.specs.Faults.{Rose}
 use Rattle.batch_io.specs.FilesState.{Contents, FilesState, known_bytes}
 use Rattle.batch_io.specs.SinkState.{SinkState}
-use Rattle.cob_program.specs.Act.{Program}
+use Rattle.cob_program.specs.Act.{Act, Program}
 use Rattle.cob_runs.specs.Files.{File}
 use Rattle.cob_runs.specs.State.{World, State}
 use Rattle.cob_runs.specs.Effects.{act_at}
@@ -23,6 +23,7 @@ use Rattle.cob_interp.specs.declared.ends.RunEnd.TheVariants as end
 use Rattle.cob_interp.specs.Ends.{told_files, AreFree, IsEnd, state_after}
 use Rattle.cob_interp.specs.Told.{seen, seen_files, AreSynced, KeepsNames, Holds}
 use Rattle.cob_interp.specs.Touching.{IsPartOf, makes_by}
+use Rattle.cob_interp.specs.Meeting.{IsMetBy, IfFailed}
 
 -- ---- while it runs
 
@@ -53,9 +54,25 @@ RoseReading old new = Rose old.files.reading new.files.reading
 abbrev pub RoseWriting : Outside → Outside → Type 0
 RoseWriting old new = Rose old.files.writing new.files.writing ⊎ Rose old.sink.faults new.sink.faults
 
+-- A count of faults stays where the run came to its end. Behind another end of its own a close may have been refused.
+abbrev pub CountsOn : Result Ended RunEnd → ℕ → ℕ → Type 0
+CountsOn (Ok e) old new = new ≡ old
+CountsOn (Err e) old new = old ≤ new
+
+-- The sink refused text, which its count shows, or memory ran out: a front of the text is shown.
+pub record ShowsFront (old new : SinkState) (result : Result Ended RunEnd) (text : List ℕ) : Type 0 where
+  pub why : (result ≡ Err end.Memory) ⊎ Rose old.faults new.faults
+  pub front : (n : ℕ) × (new.told ≡ append_known old.told (take n text))
+
 -- the next statement opens the file at a place for output
 abbrev pub makes_next : Program → State → ℕ → Bool
 makes_next p s place = option_map_or (λ a. makes_by a place) (act_at p (next_statement p s.control)) false
+
+-- the next statement may meet the fault
+pub record IsMetNext (p : Program) (s : State) (result : Result Ended RunEnd) : Type 0 where
+  pub act : Act
+  pub next : act_at p (next_statement p s.control) ≡ Some act
+  pub met : IsMetBy act result
 
 module _ (p : Program) (g : Graph) (paths : List (List ℕ)) where
   -- The way that the run has come stands in what is kept: it has left so many nodes at which a step begins. So many
@@ -114,16 +131,26 @@ module _ (p : Program) (g : Graph) (paths : List (List ℕ)) where
     EndsRunIf a b sink_before sink_after result =
         IfTold (λ first told. EndsRun first told sink_before sink_after result) a b
 
-    -- the run's own end: no fault of the outside was met
+    -- the run's own end: no fault of the outside was met before it
     pub record EndsWell (old new : Outside) (result : Result Ended RunEnd) : Type 0 where
-      pub reading : new.files.reading ≡ old.files.reading
-      pub writing : new.files.writing ≡ old.files.writing
+      pub reading : CountsOn result old.files.reading new.files.reading
+      pub writing : CountsOn result old.files.writing new.files.writing
       pub faults : new.sink.faults ≡ old.sink.faults
       pub run : EndsRunIf (known_bytes old.files) (known_bytes new.files) old.sink new.sink result
 
+    -- The run's own end comes behind so many steps: each file holds what it holds there, or a front of it.
+    pub record IsOver (first told : Contents) (steps : ℕ) : Type 0 where
+      pub own : Result Ended RunEnd
+      pub ends : IsEnd p (told_files first paths) budget own steps
+      pub files : (place : ℕ) (path : List ℕ) (f : File) → slice_get paths place ≡ Some path
+          → slice_get (state_after p (told_files first paths) steps).world.files place ≡ Some f
+          → IsPartOf false f f.content (get told path)
+
     -- The run was broken off behind so many steps, or in the next one: each file holds what it holds there, or a part
-    -- of it; what is shown is a front of what is shown there.
-    pub record BreaksOff (first told : Contents) (sink_before sink_after : SinkState) : Type 0 where
+    -- of it; what is shown is all that is shown there, unless the sink refused it or memory ran out. A fault of files was
+    -- met by the next statement, or behind the run's own end.
+    pub record BreaksOff (first told : Contents) (sink_before sink_after : SinkState) (result : Result Ended RunEnd)
+        : Type 0 where
       pub steps : ℕ
       pub within : steps ≤ budget
       pub free : AreFree p (told_files first paths) steps
@@ -131,12 +158,16 @@ module _ (p : Program) (g : Graph) (paths : List (List ℕ)) where
           → slice_get (state_after p (told_files first paths) steps).world.files place ≡ Some f
           → IsPartOf (makes_next p (state_after p (told_files first paths) steps) place) f f.content (get told path)
       pub others : KeepsNames first told paths
-      pub shows : (n : ℕ) × (sink_after.told ≡ append_known sink_before.told
-          (take n (state_after p (told_files first paths) steps).world.shown))
+      pub shows : (sink_after.told ≡ append_known sink_before.told
+          (state_after p (told_files first paths) steps).world.shown)
+          ⊎ ShowsFront sink_before sink_after result (state_after p (told_files first paths) steps).world.shown
+      pub meets : IfFailed result (IsOver first told steps
+          ⊎ (Rose sink_before.faults sink_after.faults
+          ⊎ IsMetNext p (state_after p (told_files first paths) steps) result))
 
-    abbrev pub IsBroken : Outside → Outside → Type 0
-    IsBroken start now =
-        IfTold (λ first told. BreaksOff first told start.sink now.sink) (known_bytes start.files)
+    abbrev pub IsBroken : Outside → Outside → Result Ended RunEnd → Type 0
+    IsBroken start now result =
+        IfTold (λ first told. BreaksOff first told start.sink now.sink result) (known_bytes start.files)
         (known_bytes now.files)
 
     -- a refusal by the outside, or for want of memory
@@ -168,21 +199,21 @@ module _ (p : Program) (g : Graph) (paths : List (List ℕ)) where
     -- The run is at a node at which a step begins, or at the last one, wherever it might be broken off now.
     pub record IsAt (start now : Outside) (w : World) (steps node : ℕ) : Type 0 where
       pub stands : Stands start now w steps steps node
-      pub part : IsBroken start now
+      pub part : IsBroken start now (Err end.Memory)
 
     -- the run goes on at a node, or halts
     abbrev pub GoesOn : Outside → Outside → World → ℕ → Result ℕ RunEnd → Type 0
     GoesOn start now w step (Ok node) = IsAt start now w step node
-    GoesOn start now w step (Err e) = Halts start now w (Err e) × IfRefused (Err e) (IsBroken start now)
+    GoesOn start now w step (Err e) = Halts start now w (Err e) × IfRefused (Err e) (IsBroken start now (Err e))
 
     pub record HaltsOff (start now : Outside) (w : World) (result : Result Ended RunEnd) : Type 0 where
       pub halts : Halts start now w result
-      pub part : IfRefused result (IsBroken start now)
+      pub part : IfRefused result (IsBroken start now result)
 
     -- how a run ended, and what is left where it was refused
     pub record Runs (old new : Outside) (result : Result Ended RunEnd) : Type 0 where
       pub ends : EndsBy EndsWell old new result
-      pub part : IfRefused result (IsBroken old new)
+      pub part : IfRefused result (IsBroken old new result)
 
 -- ---- files that are never made
 

@@ -1,7 +1,8 @@
 //! Files that are open outside.
-ghost use Rattle.std.specs.Prelude.{◌≡◌, ◌<◌, ℕ, Bool, true, false, IfOk, IfSome, MatchResult, Some, None, [], length, replicate, slice_get, slice_set};
+ghost use Rattle.std.specs.Prelude.{◌≡◌, ◌<◌, ◌≤◌, ◌+◌, ℕ, Bool, true, false, IfOk, IfSome, MatchResult, Some, None, [], length, replicate, slice_get, slice_set};
 ghost use Rattle.batch_io.specs.FilesState.{known_bytes, KeepsIds};
 ghost use Rattle.cob_interp.specs.Tracking.{IsHeld, IsHeldFor, AreNone, AreOpen, Tracks, purposes_for};
+ghost use Rattle.cob_interp.specs.Meeting.{FailsBy};
 ghost use Rattle.cob_interp.specs.Readying.{IsRefusal, OpensFor, CreatesFor, CreatesPart, ClosesFor, ClosesAll, GivesRecord, PutsUnder, PutsUnderPart, close_fault, first_refusal};
 
 use crate::ends::RunEnd;
@@ -70,7 +71,10 @@ fn close_fault(writes: bool) -> RunEnd
 }
 
 /// Whether so many more bytes have no room behind those that wait.
-pub fn is_full(waiting: usize, more: u32) -> bool {
+pub fn is_full(waiting: usize, more: u32) -> bool
+    ensures room { result ≡ false → waiting + more ≤ 65536 }
+    ensures full { result ≡ true → 65536 < waiting + more }
+{
     match waiting.checked_add(more as usize) {
         None => true,
         Some(count) => count > WAITING_LIMIT,
@@ -175,6 +179,7 @@ impl Handles {
         ensures opens { MatchResult result
             (λ there. OpensFor (F.state files.old) (F.state files.new) self.old self.new name.now place there)
             (λ e. IsRefusal (F.state files.old) (F.state files.new) e) }
+        ensures fault { FailsBy false result }
     {
         let Ok(room) = room_of(alloc, size) else {
             return Err(RunEnd::Memory);
@@ -208,6 +213,7 @@ impl Handles {
         ensures creates { MatchResult result
             (λ _. CreatesFor (F.state files.old) (F.state files.new) self.old self.new name.now place)
             (λ e. IsRefusal (F.state files.old) (F.state files.new) e) }
+        ensures fault { FailsBy true result }
     {
         let Ok(room) = waiting_room(alloc, size) else {
             return Err(RunEnd::Memory);
@@ -230,6 +236,7 @@ impl Handles {
         ensures puts { MatchResult result
             (λ _. PutsUnder (F.state files.old) (F.state files.new) self.now place bytes.now)
             (λ e. IsRefusal (F.state files.old) (F.state files.new) e) }
+        ensures fault { FailsBy true result }
         ensures part { PutsUnderPart (F.state files.old) (F.state files.new) self.now place bytes.now }
         ensures ids { KeepsIds (F.state files.old) (F.state files.new) }
     {
@@ -294,6 +301,7 @@ impl Handles {
         ensures gives { MatchResult result
             (λ r. GivesRecord (F.state files.old) (F.state files.new) self.old place size r.0.items r.1)
             (λ e. IsRefusal (F.state files.old) (F.state files.new) e) }
+        ensures fault { FailsBy false result }
     {
         let id = self.id_for(place, false);
         let Ok(mut room) = self.take_room(alloc, place, size) else {

@@ -6,6 +6,7 @@ ghost use Rattle.cob_program.specs.ActView.{plain_act};
 ghost use Rattle.cob_interp.specs.Ends.{UnlessRefused};
 ghost use Rattle.cob_interp.specs.Running.{Outside, outside};
 ghost use Rattle.cob_interp.specs.Setting.{IsReady, IsPlace, IsPlaced, paths_of};
+ghost use Rattle.cob_interp.specs.Meeting.{IfFailed};
 ghost use Rattle.cob_interp.specs.Touching.{Touches, ClosesOnly, makes_none};
 ghost use Rattle.cob_interp.specs.Doing.{IsPlain, halted, DoesPart, Leads};
 ghost use Rattle.cob_interp.specs.Tracking.{AreLeft, AreOpen, ArePlaced, KeepsPlaces, Tracks};
@@ -71,6 +72,7 @@ pub fn do_plain(
     ensures leads { (now : Outside) (node budget : ℕ) → IsPlace setting.now node place.now
         → Leads setting.now budget step node now now world.old.world world.new.world result }
     ensures places { UnlessRefused result (KeepsPlaces world.old.world.files world.new.world.files) }
+    ensures fine { IfFailed result ⊥ }
 {
     do_part(alloc, setting, place, world, step)
 }

@@ -5,6 +5,7 @@ ghost use Rattle.cob_program.specs.Act.{open_files};
 ghost use Rattle.cob_program.specs.ActView.{plain_act};
 ghost use Rattle.cob_interp.specs.Running.{outside};
 ghost use Rattle.cob_interp.specs.Setting.{IsReady, IsPlace, IsPlaced, paths_of};
+ghost use Rattle.cob_interp.specs.Meeting.{IsMetBy};
 ghost use Rattle.cob_interp.specs.Touching.{Makes, OpensOnly, makes_in};
 ghost use Rattle.cob_interp.specs.Tracking.{AreLeft, AreOpen, ArePlaced, Tracks};
 ghost use Rattle.cob_interp.specs.Doing.{IsFresh, Leads};
@@ -89,6 +90,7 @@ pub fn do_open<F: Files>(
     ensures touches { Makes (paths_of setting.now) (makes_in openings.now) world.old.world
         (F.state files.old) (F.state files.new) }
     ensures opens { IfOk result (λ _. OpensOnly world.old.world world.new.world) }
+    ensures met { IsMetBy (open_files openings.now) result }
 {
     let Op::Open { file, .. } = place.plan_node.op else {
         unreachable!();

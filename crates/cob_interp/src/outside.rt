@@ -1,7 +1,8 @@
 //! How files are opened and closed outside, and what waits of those that are written goes out.
-ghost use Rattle.std.specs.Prelude.{◌≡◌, List, ℕ, true, MatchResult, IfOk, IfSome, [], ◌∷◌, Some, None, length, slice_get, slice_set};
+ghost use Rattle.std.specs.Prelude.{◌≡◌, List, ℕ, true, false, MatchResult, IfOk, IfErr, IfSome, [], ◌∷◌, Some, None, length, slice_get, slice_set};
 ghost use Rattle.batch_io.specs.FilesState.{KeepsIds, known_bytes};
-ghost use Rattle.cob_interp.specs.Readying.{IsRefusal, IsNamed, Readies, GoesOut, OpensInto, ReadyToOpen, emptied, IsWrittenAt};
+ghost use Rattle.cob_interp.specs.Meeting.{FailsBy};
+ghost use Rattle.cob_interp.specs.Readying.{IsDeclared, IsRefusal, IsNamed, Readies, GoesOut, OpensInto, ReadyToOpen, emptied, IsWrittenAt};
 ghost use Rattle.cob_interp.specs.Tracking.{AreOpen, ArePlaced, AreWritten, IsHeldFor, StandAt, Tracks};
 ghost use Rattle.cob_runs.specs.Files as file;
 ghost use Rattle.cob_runs.specs.Files.{writing};
@@ -23,7 +24,7 @@ use std::alloc::Global;
 fn put_waiting<F: Files>(
     files: &mut F,
     handles: &Handles,
-    place: u32,
+    place: usize,
     file: &File,
 ) -> Result<(), RunEnd>
     requires live { AreOpen (F.state files.old) handles.now }
@@ -32,12 +33,13 @@ fn put_waiting<F: Files>(
         (λ _. (path : List ℕ) → IsNamed (F.state files.old) handles.now place path file.now
         → Readies (F.state files.old) (F.state files.new) path (λ told now. IsOut told now path file.now))
         (λ e. IsRefusal (F.state files.old) (F.state files.new) e) }
+    ensures fault { FailsBy true result }
     ensures touches { (path : List ℕ) → IsNamed (F.state files.old) handles.now place path file.now
         → TouchesOne (F.state files.old) (F.state files.new) path file.now }
     ensures ids { KeepsIds (F.state files.old) (F.state files.new) }
 {
     match file.mode() {
-        FileMode::Writing => handles.put(files, place as usize, file.all()),
+        FileMode::Writing => handles.put(files, place, file.all()),
         FileMode::Closed | FileMode::Reading { .. } => Ok(()),
     }
 }
@@ -48,7 +50,7 @@ fn put_out<F: Files>(
     files: &mut F,
     handles: &Handles,
     world: &World,
-    place: u32,
+    place: usize,
 ) -> Result<(), RunEnd>
     requires ready { IsReady setting.now }
     requires live { AreOpen (F.state files.old) handles.now }
@@ -56,21 +58,22 @@ fn put_out<F: Files>(
     ensures goes { MatchResult result
         (λ _. GoesOut setting.now world.now.world place (F.state files.old) (F.state files.new))
         (λ e. IsRefusal (F.state files.old) (F.state files.new) e) }
+    ensures fault { FailsBy true result }
     ensures touches { Touches (paths_of setting.now) makes_none world.now.world (F.state files.old)
         (F.state files.new) }
     ensures ids { KeepsIds (F.state files.old) (F.state files.new) }
 {
-    match (setting.path(place), world.file(place as usize)) {
+    match (setting.path(place), world.file(place)) {
         (Some(_path), Some(file)) => put_waiting(files, handles, place, file),
         _ => Err(RunEnd::Memory),
     }
 }
 
 /// How many bytes were read of the file at a place, where it is being written.
-fn written_place(world: &World, place: u32) -> Option<usize>
+fn written_place(world: &World, place: usize) -> Option<usize>
     ensures { IsWrittenAt (slice_get world.now.world.files place) result }
 {
-    let found = world.file(place as usize)?;
+    let found = world.file(place)?;
     match found.mode() {
         FileMode::Writing => Some(found.place()),
         _ => None,
@@ -78,19 +81,19 @@ fn written_place(world: &World, place: u32) -> Option<usize>
 }
 
 /// Nothing waits of the file at a place any more, where it is being written. Its room stays.
-fn empty_waiting(alloc: Global, world: &mut World, place: u32)
+fn empty_waiting(alloc: Global, world: &mut World, place: usize)
     ensures kept { world.new.program ≡ world.old.program }
     ensures emptied { world.new.world ≡ emptied place world.old.world }
 {
     let Some(at) = written_place(world, place) else {
         return;
     };
-    let waited = world.replace_content(place as usize, Some(Vec::new(alloc)), at);
+    let waited = world.replace_content(place, Some(Vec::new(alloc)), at);
     let Some(mut room) = waited else {
         return;
     };
     room.clear();
-    world.set_content(place as usize, Some(room));
+    world.set_content(place, Some(room));
 }
 
 /// Writes out what waits of the file at a place, where it is being written.
@@ -100,7 +103,7 @@ pub fn write_out<F: Files>(
     files: &mut F,
     handles: &Handles,
     world: &mut World,
-    place: u32,
+    place: usize,
 ) -> Result<(), RunEnd>
     requires ready { IsReady setting.now }
     requires live { AreOpen (F.state files.old) handles.now }
@@ -109,6 +112,8 @@ pub fn write_out<F: Files>(
     ensures goes { MatchResult result
         (λ _. GoesOut setting.now world.old.world place (F.state files.old) (F.state files.new))
         (λ e. IsRefusal (F.state files.old) (F.state files.new) e) }
+    ensures fault { FailsBy true result }
+    ensures still { IfErr result (λ _. world.new.world ≡ world.old.world) }
     ensures emptied { IfOk result (λ _. world.new.world ≡ emptied place world.old.world) }
     ensures touches { Touches (paths_of setting.now) makes_none world.old.world (F.state files.old)
         (F.state files.new) }
@@ -143,7 +148,7 @@ pub fn ready_to_close<F: Files>(
     ensures touches { Touches (paths_of setting.now) makes_none world.old.world (F.state files.old)
         (F.state files.new) }
 {
-    write_out(alloc, setting, files, handles, world, place)?;
+    write_out(alloc, setting, files, handles, world, place as usize)?;
     handles.close(files, place as usize)?;
     Ok(())
 }
@@ -164,6 +169,7 @@ fn open_input<F: Files>(
     path: &str,
     place: u32,
 ) -> Result<(), RunEnd>
+    requires declared { IsDeclared setting.now place }
     requires live { AreOpen (F.state files.old) handles.old }
     requires free { slice_get handles.old place ≡ Some None }
     ensures tracks { Tracks (F.state files.old) (F.state files.new) handles.old handles.new }
@@ -174,10 +180,9 @@ fn open_input<F: Files>(
         world.new.world)
         (λ e. IsRefusal (F.state files.old) (F.state files.new) e) }
     ensures only { OpensOnly world.old.world world.new.world }
+    ensures fault { FailsBy false result }
 {
-    let Some(size) = setting.size(place) else {
-        return Err(RunEnd::Memory);
-    };
+    let size = setting.size_at(place as usize);
     let content = if handles.open(alloc, files, path, place as usize, size)? {
         Some(Vec::new(alloc))
     } else {
@@ -208,8 +213,9 @@ pub fn ready_to_open<F: Files>(
     ensures touches { Makes (paths_of setting.now) (makes_in (opening ∷ [])) world.old.world
         (F.state files.old) (F.state files.new) }
     ensures opens { OpensOnly world.old.world world.new.world }
+    ensures fault { FailsBy opening.output result }
 {
-    let Some(path) = setting.path(opening.file) else {
+    let Some(path) = setting.path(opening.file as usize) else {
         return Err(RunEnd::Memory);
     };
     let Some(mode) = world.file_mode(opening.file as usize) else {
@@ -219,9 +225,7 @@ pub fn ready_to_open<F: Files>(
         return Ok(());
     }
     if opening.output {
-        let Some(size) = setting.size(opening.file) else {
-            return Err(RunEnd::Memory);
-        };
+        let size = setting.size_at(opening.file as usize);
         handles.create(alloc, files, path, opening.file as usize, size)?;
         return Ok(());
     }

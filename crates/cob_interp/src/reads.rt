@@ -6,6 +6,7 @@ ghost use Rattle.cob_program.specs.ActView.{plain_act};
 ghost use Rattle.cob_interp.specs.declared.parts.Call.TheVariants as call;
 ghost use Rattle.cob_interp.specs.declared.ends.RunEnd.TheVariants as end;
 ghost use Rattle.cob_interp.specs.Doing.{ReadsPart};
+ghost use Rattle.cob_interp.specs.Meeting.{FailsBy, IfFailed};
 ghost use Rattle.cob_interp.specs.Readying.{GivesWindow, IsRestOr, IsReadOn, settled};
 ghost use Rattle.cob_interp.specs.Running.{Outside, outside, Stands, Arrives};
 ghost use Rattle.cob_interp.specs.Setting.{IsReady, StartsAt, IsCall, IsPlaced, program_of, paths_of};
@@ -37,6 +38,7 @@ fn window_of<F: Files>(
     ensures gives { MatchResult result
         (λ window. GivesWindow (F.state files.old) (F.state files.new) handles.old file size window.items)
         (λ e. IsRestOr (F.state files.old) (F.state files.new) handles.old file size before e) }
+    ensures fault { FailsBy false result }
 {
     let (room, count) = handles.next_record(alloc, files, file as usize, size)?;
     if count == room.len() {
@@ -115,8 +117,10 @@ fn do_window<F: Files>(
     ensures ids { handles.new ≡ handles.old }
     ensures reads { ReadsPart setting.now place.now step (F.state files.old) (F.state files.new) handles.old file before
         world.old.world world.new.world result }
+    ensures fault { FailsBy false result }
+    ensures still { IfFailed result (world.new.world ≡ world.old.world) }
 {
-    let Some(size) = setting.size(file) else {
+    let Some(size) = setting.size(file as usize) else {
         return Err(RunEnd::Memory);
     };
     let window = window_of(alloc, files, handles, file, size, before)?;
@@ -153,6 +157,8 @@ pub fn do_read<F: Files>(
         (outside (F.state files.old) sink) world.old.world steps steps node
         → Arrives (program_of setting.now) setting.now.graph.now (paths_of setting.now) budget start
         (outside (F.state files.new) sink) world.new.world step result }
+    ensures fault { FailsBy false result }
+    ensures still { IfFailed result (world.new.world ≡ world.old.world) }
 {
     let Op::Read { .. } = place.plan_node.op else {
         unreachable!();

@@ -1,5 +1,5 @@
 //! A program is run on the outside's files.
-ghost use Rattle.std.specs.Prelude.{◌≡◌, ℕ, List, true, false, IfOk, MatchResult, length};
+ghost use Rattle.std.specs.Prelude.{◌≡◌, ℕ, List, true, false, IfOk, IfErr, MatchResult, Result, Err, length};
 ghost use Rattle.batch_io.specs.FilesState.{KeepsIds, known_bytes};
 ghost use Rattle.batch_io.specs.SinkState.{SinkState};
 ghost use Rattle.cob_graph.specs.Graphs.{IsGraph};
@@ -7,7 +7,11 @@ ghost use Rattle.cob_graph.specs.WellFormed.{IsWellFormed};
 ghost use Rattle.cob_items.specs.WellFormed.{HasWellFormedItems};
 ghost use Rattle.cob_program.specs.ActView.{plain_program};
 ghost use Rattle.cob_world.specs.Doing.{CanDoProgram};
-ghost use Rattle.cob_interp.specs.Readying.{GoesOut, IsRefusal, Sees, AreEmptied, emptied};
+ghost use Rattle.cob_interp.specs.declared.ends.Ended.{Ended};
+ghost use Rattle.cob_interp.specs.declared.ends.RunEnd.{RunEnd};
+ghost use Rattle.cob_interp.specs.Meeting.{end_behind};
+ghost use Rattle.cob_interp.specs.Able.{CanBeRun};
+ghost use Rattle.cob_interp.specs.Readying.{IsRefusal, Sees, AreEmptied};
 ghost use Rattle.cob_interp.specs.Running.{Outside, outside, HaltsOff, IsBroken, IfTold, KeepsUnmade, Runs, TellsOfSink};
 ghost use Rattle.cob_interp.specs.Setting.{IsReady, program_of, paths_of, texts};
 ghost use Rattle.cob_interp.specs.Told.{AreDistinct};
@@ -30,33 +34,6 @@ use cob_program::Program;
 use cob_world::World;
 use std::alloc::Global;
 
-/// Writes out what still waits of the file at a place.
-fn write_at<F: Files>(
-    alloc: Global,
-    setting: &Setting,
-    files: &mut F,
-    handles: &Handles,
-    world: &mut World,
-    place: usize,
-) -> Result<(), RunEnd>
-    requires ready { IsReady setting.now }
-    requires live { AreOpen (F.state files.old) handles.now }
-    requires written { AreWritten (paths_of setting.now) (F.state files.old) handles.now world.old.world.files }
-    ensures kept { world.new.program ≡ world.old.program }
-    ensures goes { MatchResult result
-        (λ _. GoesOut setting.now world.old.world place (F.state files.old) (F.state files.new))
-        (λ e. IsRefusal (F.state files.old) (F.state files.new) e) }
-    ensures emptied { IfOk result (λ _. world.new.world ≡ emptied place world.old.world) }
-    ensures touches { Touches (paths_of setting.now) makes_none world.old.world (F.state files.old)
-        (F.state files.new) }
-    ensures ids { KeepsIds (F.state files.old) (F.state files.new) }
-{
-    match u32::try_from(place) {
-        Err(_) => Err(RunEnd::Memory),
-        Ok(place) => write_out(alloc, setting, files, handles, world, place),
-    }
-}
-
 /// Writes out what still waits of all files.
 fn write_all<F: Files>(
     alloc: Global,
@@ -77,7 +54,7 @@ fn write_all<F: Files>(
     ensures ids { KeepsIds (F.state files.old) (F.state files.new) }
 {
     for place in 0..setting.paths.len() {
-        write_at(alloc, setting, files, handles, world, place)?;
+        write_out(alloc, setting, files, handles, world, place)?;
     }
     Ok(())
 }
@@ -112,6 +89,19 @@ fn give_up<F: Files>(files: &mut F, handles: &mut Handles, ending: Ending) -> En
     ending
 }
 
+/// Behind the run's own end, with what closing answered: a refused close counts where the run came to its end.
+fn end_behind(end: Result<Ended, RunEnd>, closed: Result<(), RunEnd>) -> Result<Ended, RunEnd>
+    ensures { result ≡ end_behind end closed }
+{
+    match end {
+        Err(own) => Err(own),
+        Ok(ended) => match closed {
+            Ok(()) => Ok(ended),
+            Err(refusal) => Err(refusal),
+        },
+    }
+}
+
 /// What a run comes to that nothing refused, and of which nothing waits: it closes all that are still open.
 fn close_handles<F: Files>(
     files: &mut F,
@@ -121,23 +111,20 @@ fn close_handles<F: Files>(
     requires live { AreOpen (F.state files.old) handles.old }
     requires own { IsOwnEnd end }
     ensures refused { result.sink_refused ≡ false }
+    ensures stays { IfErr end (λ e. result.end ≡ Err e) }
     ensures tracks { Tracks (F.state files.old) (F.state files.new) handles.old handles.new }
     ensures none { AreNone handles.new }
     ensures runs { (p : act.Program) (g : graph.Graph) (paths : List (List ℕ)) (budget : ℕ) (start : Outside)
         (sink : SinkState)
         → Runs p g paths budget start (outside (F.state files.old) sink) end
-        → IsBroken p g paths budget start (outside (F.state files.old) sink)
+        → ((broken : Result Ended RunEnd)
+        → IsBroken p g paths budget start (outside (F.state files.old) sink) broken)
         → Runs p g paths budget start (outside (F.state files.new) sink) result.end }
 {
-    match handles.close_all(files) {
-        Ok(()) => Ending {
-            end,
-            sink_refused: false,
-        },
-        Err(refusal) => Ending {
-            end: Err(refusal),
-            sink_refused: false,
-        },
+    let closed = handles.close_all(files);
+    Ending {
+        end: end_behind(end, closed),
+        sink_refused: false,
     }
 }
 
@@ -314,9 +301,7 @@ pub fn run_to_ending<F: Files, O: Sink>(
     budget: u64,
 ) -> Ending
     requires graph { IsGraph (plain_program program.now) graph.now }
-    requires whole { IsWellFormed (plain_program program.now) }
-    requires sound { HasWellFormedItems program.now.layout }
-    requires able { CanDoProgram (plain_program program.now) }
+    requires able { CanBeRun (plain_program program.now) }
     requires paths { length paths.now ≡ length program.now.layout.files }
     requires distinct { AreDistinct (texts paths.now) }
     ensures runs { Runs (plain_program program.now) graph.now (texts paths.now) budget
@@ -345,9 +330,7 @@ pub fn run<F: Files, O: Sink>(
     budget: u64,
 ) -> Result<Ended, RunEnd>
     requires graph { IsGraph (plain_program program.now) graph.now }
-    requires whole { IsWellFormed (plain_program program.now) }
-    requires sound { HasWellFormedItems program.now.layout }
-    requires able { CanDoProgram (plain_program program.now) }
+    requires able { CanBeRun (plain_program program.now) }
     requires paths { length paths.now ≡ length program.now.layout.files }
     requires distinct { AreDistinct (texts paths.now) }
     ensures runs { Runs (plain_program program.now) graph.now (texts paths.now) budget

@@ -3,7 +3,7 @@ ghost use Rattle.std.specs.Prelude.{◌≡◌, ◌==◌, ℕ, false, Some, None,
 ghost use Rattle.cob_graph.specs.declared.graph.Node.{Node};
 ghost use Rattle.cob_graph.specs.Lookup.{node_at, final_in};
 ghost use Rattle.cob_interp.specs.Setting.{IsReady, IsPlace, StartsAt};
-ghost use Rattle.cob_interp.specs.Readying.{IsPath, IsSize};
+ghost use Rattle.cob_interp.specs.Readying.{IsDeclared, IsPath, IsSize};
 
 use cob_graph::Graph;
 use cob_plan::{Plan, PlanNode, Statement};
@@ -71,19 +71,33 @@ impl<'b> Setting<'b> {
     }
 
     /// How many bytes a record of the file at a place has.
-    pub fn size(&self, place: u32) -> Option<u32>
-        ensures { IfSome result (λ size. IsSize self.now place size) }
+    pub fn size(&self, place: usize) -> Option<u32>
+        ensures some { IfSome result (λ size. IsSize self.now place size) }
+        ensures none { result ≡ None → IsDeclared self.now place → ⊥ }
     {
-        let decl = self.program.layout.files.get().get(place as usize)?;
-        Some(decl.length)
+        match self.program.layout.files.get().get(place) {
+            None => None,
+            Some(decl) => Some(decl.length),
+        }
+    }
+
+    /// How many bytes a record of the file at a place has, which is declared.
+    pub fn size_at(&self, place: usize) -> u32
+        requires { IsDeclared self.now place }
+        ensures { IsSize self.now place result }
+    {
+        match self.size(place) {
+            Some(size) => size,
+            None => unreachable!(),
+        }
     }
 
     /// The path of the file at a place.
-    pub fn path(&self, place: u32) -> Option<&str>
+    pub fn path(&self, place: usize) -> Option<&str>
         ensures { IfSome result (λ path. IsPath self.now place path.now) }
     {
-        let _decl = self.program.layout.files.get().get(place as usize)?;
-        let path = self.paths.get(place as usize)?;
+        let _decl = self.program.layout.files.get().get(place)?;
+        let path = self.paths.get(place)?;
         Some(path.as_str())
     }
 }

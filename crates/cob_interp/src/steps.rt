@@ -1,5 +1,5 @@
 //! A step of the run: all that its statement does, from the node at which it begins to the next such node.
-ghost use Rattle.std.specs.Prelude.{◌≡◌, ◌+◌, ◌<◌, ℕ, IfOk, Some, length};
+ghost use Rattle.std.specs.Prelude.{◌≡◌, ◌+◌, ◌<◌, ℕ, false, IfOk, Some, length};
 ghost use Rattle.batch_io.specs.FilesState.{known_bytes};
 ghost use Rattle.batch_io.specs.SinkState.{SinkState};
 ghost use Rattle.cob_program.specs.Act.{open_files};
@@ -10,6 +10,7 @@ ghost use Rattle.cob_interp.specs.declared.parts.Call.TheVariants as call;
 ghost use Rattle.cob_interp.specs.Ends.{UnlessRefused};
 ghost use Rattle.cob_interp.specs.Running.{Outside, outside, Stands, Arrives};
 ghost use Rattle.cob_interp.specs.Setting.{IsReady, IsPlace, IsPlaced, StartsAt, IsCall, program_of, paths_of};
+ghost use Rattle.cob_interp.specs.Meeting.{FailsBy, IfFailed, IsMetBy, shows_first};
 ghost use Rattle.cob_interp.specs.Touching.{Touches, Makes, ClosesOnly, OpensOnly, makes_by, makes_in, makes_none};
 ghost use Rattle.cob_interp.specs.Tracking.{AreLeft, AreOpen, ArePlaced, KeepsPlaces, Tracks};
 ghost use Rattle.cob_interp.specs.Doing.{IsPlain, IsQuiet, Leads};
@@ -43,6 +44,7 @@ fn do_quiet(
     ensures leads { (now : Outside) (node budget : ℕ) → IsPlace setting.now node place.now
         → Leads setting.now budget step node now now world.old.world world.new.world result }
     ensures places { UnlessRefused result (KeepsPlaces world.old.world.files world.new.world.files) }
+    ensures fine { IfFailed result ⊥ }
 {
     match place.plan_node.op {
         Op::Skip { .. } | Op::Assign { .. } => do_plain(alloc, setting, place, world, step),
@@ -65,6 +67,7 @@ fn do_node(
     ensures leads { (now : Outside) (budget : ℕ)
         → Leads setting.now budget step node now now world.old.world world.new.world result }
     ensures places { UnlessRefused result (KeepsPlaces world.old.world.files world.new.world.files) }
+    ensures fine { IfFailed result ⊥ }
 {
     let Some(place) = setting.place(node) else {
         return Err(RunEnd::Memory);
@@ -92,6 +95,7 @@ fn go_through(
     ensures leads { (now : Outside) (budget : ℕ)
         → Leads setting.now budget step node now now world.old.world world.new.world result }
     ensures places { UnlessRefused result (KeepsPlaces world.old.world.files world.new.world.files) }
+    ensures fine { IfFailed result ⊥ }
 {
     let mut at = node;
     for _ in 0..setting.plan.nodes.len() {
@@ -122,6 +126,7 @@ fn go(
     ensures leads { (now : Outside) (budget : ℕ)
         → Leads setting.now budget step node now now world.old.world world.new.world result }
     ensures places { UnlessRefused result (KeepsPlaces world.old.world.files world.new.world.files) }
+    ensures fine { IfFailed result ⊥ }
 {
     let next = do_plain(alloc, setting, place, world, step)?;
     if setting.rests_at(next) {
@@ -155,6 +160,7 @@ fn open_next<F: Files>(
     ensures touches { Makes (paths_of setting.now) (makes_in openings.now) world.old.world
         (F.state files.old) (F.state files.new) }
     ensures opens { IfOk result (λ _. OpensOnly world.old.world world.new.world) }
+    ensures met { IsMetBy (open_files openings.now) result }
 {
     let Some(place) = setting.place(node) else {
         return Err(RunEnd::Memory);
@@ -191,6 +197,7 @@ fn open_all<F: Files>(
         (outside (F.state files.old) sink) (outside (F.state files.new) sink) world.old.world world.new.world result }
     ensures touches { Makes (paths_of setting.now) (makes_in openings.now) world.old.world
         (F.state files.old) (F.state files.new) }
+    ensures met { IsMetBy (open_files openings.now) result }
 {
     let mut at = node;
     for _ in 0..setting.plan.nodes.len() {
@@ -294,6 +301,8 @@ fn go_read<F: Files>(
     ensures tracks { Tracks (F.state files.old) (F.state files.new) handles.old handles.new }
     ensures placed { AreLeft (paths_of setting.now) (F.state files.new) handles.new world.new.world.files result }
     ensures same { known_bytes (F.state files.new) ≡ known_bytes (F.state files.old) }
+    ensures fault { FailsBy false result }
+    ensures still { IfFailed result (world.new.world ≡ world.old.world) }
     ensures takes { (sink : SinkState) (budget steps : ℕ) (start : Outside) → step ≡ steps + 1 → steps < budget
         → Stands (program_of setting.now) setting.now.graph.now (paths_of setting.now) start
         (outside (F.state files.old) sink) world.old.world steps steps node
@@ -337,6 +346,9 @@ pub fn take_step<F: Files>(
     ensures touches { Touches (paths_of setting.now) (makes_by (plain_act place.now.statement.now.act.now))
         world.old.world
         (F.state files.old) (F.state files.new) }
+    ensures met { IsMetBy (plain_act place.now.statement.now.act.now) result }
+    ensures still { shows_first (plain_act place.now.statement.now.act.now) ≡ false
+        → IfFailed result (world.new.world ≡ world.old.world) }
 {
     match call_of(place.statement.act) {
         Call::Open(openings) => open_all(

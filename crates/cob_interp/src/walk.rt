@@ -1,12 +1,15 @@
 //! A run from its first node to its end.
-ghost use Rattle.std.specs.Prelude.{◌≡◌, ◌+◌, ◌<◌, ℕ, IfOk, MatchResult, length};
+ghost use Rattle.std.specs.Prelude.{◌≡◌, ◌+◌, ◌<◌, ℕ, true, false, IfOk, IfErr, MatchResult, Some, None, [], length, slice_get};
 ghost use Rattle.batch_io.specs.FilesState.{KeepsIds};
 ghost use Rattle.batch_io.specs.SinkState.{SinkState};
 ghost use Rattle.cob_program.specs.ActView.{plain_act};
+ghost use Rattle.cob_runs.specs.Acts.{decl_at};
 ghost use Rattle.cob_runs.specs.State as state;
 ghost use Rattle.cob_interp.specs.Running.{Outside, outside, Stands, Arrives, IsAt, GoesOn, HaltsOff};
 ghost use Rattle.cob_interp.specs.Setting.{IsReady, StartsAt, program_of, paths_of};
 ghost use Rattle.cob_interp.specs.Readying.{IsRefusal, Sees};
+ghost use Rattle.cob_interp.specs.Meeting.{IfFailed, IsMetBy, ShowsRest, is_failure, shows_first};
+ghost use Rattle.cob_interp.specs.Rooms.{HasRoom, HasRoomFor, written_by};
 ghost use Rattle.cob_interp.specs.Touching.{Touches, makes_by, makes_none};
 ghost use Rattle.cob_interp.specs.Tracking.{AreLeft, AreOpen, ArePlaced, KeepsPlaces, Tracks};
 ghost use Rattle.cob_interp.specs.Walking.{as_result, TellsBySink, Flushes, MayFlush, Refuses};
@@ -14,7 +17,6 @@ ghost use Rattle.cob_interp.specs.Walking.{as_result, TellsBySink, Flushes, MayF
 use crate::ends::{Ended, RunEnd};
 use crate::handles::{Handles, is_full};
 use crate::outside::write_out;
-use crate::parts::{Call, call_of};
 use crate::setting::{Place, Setting};
 use crate::steps::take_step;
 use batch_io::{Files, MakeEnd, Sink, show_whole};
@@ -44,13 +46,18 @@ pub fn flush<O: Sink>(world: &mut World, out: &mut O) -> Result<(), MakeEnd>
     Ok(())
 }
 
-/// Whether text that waits is shown before a statement: much of it, or any before a statement that calls the outside.
-fn is_flushed_before(place: &Place, world: &World) -> bool {
-    let calls = match call_of(place.statement.act) {
-        Call::Open(_) | Call::Close(_) => true,
-        Call::Read(_) | Call::Other => false,
-    };
-    calls || world.shown().len() > SHOWN_LIMIT
+/// Whether all text is shown before a statement: before one that opens or closes files.
+fn shows_first(act: &Act) -> bool
+    ensures { result ≡ shows_first (plain_act act.now) }
+{
+    matches!(act, Act::OpenFiles(_) | Act::CloseFiles(_))
+}
+
+/// Whether text that waits is shown before a statement: where all is, or where it is much.
+fn is_flushed_before(place: &Place, world: &World) -> bool
+    ensures { shows_first (plain_act place.now.statement.now.act.now) ≡ true → result ≡ true }
+{
+    shows_first(place.statement.act) || world.shown().len() > SHOWN_LIMIT
 }
 
 /// Shows the text that waits, where that's due before a statement.
@@ -59,6 +66,8 @@ fn flush_before<O: Sink>(place: &Place, world: &mut World, out: &mut O) -> Resul
     ensures flushes { MatchResult result
         (λ _. MayFlush (O.state out.old) (O.state out.new) world.old.world world.new.world)
         (λ end. Refuses (O.state out.old) (O.state out.new) world.old.world world.new.world end) }
+    ensures first { IfOk result (λ _. shows_first (plain_act place.now.statement.now.act.now) ≡ true
+        → world.new.world.shown ≡ []) }
 {
     if is_flushed_before(place, world) {
         flush(world, out)
@@ -67,23 +76,73 @@ fn flush_before<O: Sink>(place: &Place, world: &mut World, out: &mut O) -> Resul
     }
 }
 
+/// Whether the outside's files failed.
+fn is_failure(end: RunEnd) -> bool
+    ensures { result ≡ is_failure end }
+{
+    matches!(end, RunEnd::ReadFault | RunEnd::WriteFault)
+}
+
+/// Behind a statement that was refused: where files failed, what still waits of the text is shown. Answers why the run
+/// halts.
+fn show_rest<O: Sink>(place: &Place, world: &mut World, out: &mut O, end: RunEnd) -> Halt
+    ensures kept { world.new.program ≡ world.old.program }
+    ensures shows { ShowsRest (plain_act place.now.statement.now.act.now) (O.state out.old) (O.state out.new)
+        world.old.world world.new.world end result }
+{
+    if shows_first(place.statement.act) {
+        return Halt::End(end);
+    }
+    if !is_failure(end) {
+        return Halt::End(end);
+    }
+    match flush(world, out) {
+        Ok(()) => Halt::End(end),
+        Err(refusal) => Halt::Sink(refusal),
+    }
+}
+
 /// The file to which a statement writes a record, if it is a WRITE.
-fn written_file(place: &Place, world: &World) -> Option<u32> {
+fn written_file(place: &Place, world: &World) -> Option<usize>
+    ensures { result ≡ written_by world.now.program.layout (plain_act place.now.statement.now.act.now) }
+{
     match place.statement.act {
-        Act::Write { rec, .. } => u32::try_from(world.file_of(*rec)?).ok(),
+        Act::Write { rec, .. } => world.file_of(*rec),
         _ => None,
     }
 }
 
+/// Whether there is room for one more record of the file at a place behind those that wait.
+fn has_room(setting: &Setting, world: &World, file: usize) -> bool
+    ensures { result ≡ true → HasRoom (decl_at setting.now.program.now.layout file)
+        (slice_get world.now.world.files file) }
+{
+    let Some(size) = setting.size(file) else {
+        return true;
+    };
+    match world.file(file) {
+        None => true,
+        Some(found) => !is_full(found.all().len(), size),
+    }
+}
+
 /// The file that a statement is to write a record to for which there is no room behind those that wait.
-fn full_file(setting: &Setting, place: &Place, world: &World) -> Option<u32> {
-    let file = written_file(place, world)?;
-    let size = setting.size(file)?;
-    let found = world.file(file as usize)?;
-    if is_full(found.all().len(), size) {
-        Some(file)
-    } else {
-        None
+fn full_file(setting: &Setting, place: &Place, world: &World) -> Option<usize>
+    requires runs { world.now.program ≡ setting.now.program.now }
+    ensures full { (file : ℕ) → result ≡ Some file
+        → written_by setting.now.program.now.layout (plain_act place.now.statement.now.act.now) ≡ Some file }
+    ensures room { result ≡ None → HasRoomFor setting.now world.now.world
+        (plain_act place.now.statement.now.act.now) }
+{
+    match written_file(place, world) {
+        None => None,
+        Some(file) => {
+            if has_room(setting, world, file) {
+                None
+            } else {
+                Some(file)
+            }
+        }
     }
 }
 
@@ -97,6 +156,7 @@ fn make_room<F: Files>(
     place: &Place,
 ) -> Result<(), RunEnd>
     requires ready { IsReady setting.now }
+    requires runs { world.old.program ≡ setting.now.program.now }
     requires live { AreOpen (F.state files.old) handles.now }
     requires placed { ArePlaced (paths_of setting.now) (F.state files.old) handles.now world.old.world.files }
     ensures kept { world.new.program ≡ world.old.program }
@@ -107,6 +167,10 @@ fn make_room<F: Files>(
         (F.state files.new) }
     ensures ids { KeepsIds (F.state files.old) (F.state files.new) }
     ensures places { IfOk result (λ _. KeepsPlaces world.old.world.files world.new.world.files) }
+    ensures room { IfOk result (λ _. HasRoomFor setting.now world.new.world
+        (plain_act place.now.statement.now.act.now)) }
+    ensures met { IsMetBy (plain_act place.now.statement.now.act.now) result }
+    ensures still { IfErr result (λ _. world.new.world ≡ world.old.world) }
 {
     match full_file(setting, place, world) {
         None => Ok(()),
@@ -141,6 +205,9 @@ fn take_roomy_step<F: Files>(
     ensures touches { Touches (paths_of setting.now) (makes_by (plain_act place.now.statement.now.act.now))
         world.old.world
         (F.state files.old) (F.state files.new) }
+    ensures met { IsMetBy (plain_act place.now.statement.now.act.now) result }
+    ensures still { shows_first (plain_act place.now.statement.now.act.now) ≡ false
+        → IfFailed result (world.new.world.shown ≡ world.old.world.shown) }
 {
     make_room(alloc, setting, files, handles, world, place)?;
     take_step(alloc, setting, files, handles, world, place, node, step)
@@ -178,7 +245,7 @@ fn go_on<F: Files, O: Sink>(
     match flush_before(&place, world, out) {
         Err(end) => Err(Halt::Sink(end)),
         Ok(()) => match take_roomy_step(alloc, setting, files, handles, world, &place, node, step) {
-            Err(end) => Err(Halt::End(end)),
+            Err(end) => Err(show_rest(&place, world, out, end)),
             Ok(next) => Ok(next),
         },
     }

@@ -9,7 +9,7 @@ use Rattle.cob_interp.specs.declared.ends.Ended.{Ended}
 use Rattle.cob_interp.specs.declared.ends.RunEnd.{RunEnd}
 use Rattle.cob_interp.specs.declared.ends.RunEnd.TheVariants as end
 use Rattle.cob_interp.specs.Ends.{told_files, IsEnd}
-use Rattle.cob_interp.specs.Running.{Outside, outside, IfTold, EndsRunIf, EndsWell, EndsBy, BreaksOff, IsBroken, IfRefused, KeepsUnmade, Runs}
+use Rattle.cob_interp.specs.Running.{Outside, outside, IfTold, CountsOn, EndsRunIf, EndsWell, EndsBy, BreaksOff, IsBroken, IfRefused, KeepsUnmade, Runs}
 use Rattle.cob_interp.proofs.Passing.{ids_pass}
 use Rattle.command_words.specs.Commands.{Run, IsCommand}
 use Rattle.command_words.specs.Commands as command
@@ -59,17 +59,17 @@ module _ (p : Program) (g : Graph) (paths : List (List ℕ)) (budget : ℕ) wher
     same_reading : middle.reading ≡ before.reading
     same_reading = reads.reading.kept refl
 
-    broken_on : IsBroken p g paths budget (outside middle sink) new
-        → IsBroken p g paths budget (outside before sink) new
-    broken_on h =
-        let broken = λ (first told : Contents). BreaksOff p g paths budget first told sink new.sink in
+    broken_on : (result : Result Ended RunEnd) → IsBroken p g paths budget (outside middle sink) new result
+        → IsBroken p g paths budget (outside before sink) new result
+    broken_on result h =
+        let broken = λ (first told : Contents). BreaksOff p g paths budget first told sink new.sink result in
         subst (λ (k : Option Contents). IfTold broken k (known_bytes new.files)) reads.contents h
 
     well_on : (result : Result Ended RunEnd) → EndsWell p g paths budget (outside middle sink) new result
         → EndsWell p g paths budget (outside before sink) new result
     well_on result h = record {
-      reading = h.reading ∙ same_reading;
-      writing = h.writing ∙ reads.writing;
+      reading = subst (λ (n : ℕ). CountsOn result n new.files.reading) same_reading h.reading;
+      writing = subst (λ (n : ℕ). CountsOn result n new.files.writing) reads.writing h.writing;
       faults = h.faults;
       run = subst (λ (k : Option Contents). EndsRunIf p g paths budget k (known_bytes new.files) sink new.sink result)
           reads.contents h.run;
@@ -89,11 +89,11 @@ module _ (p : Program) (g : Graph) (paths : List (List ℕ)) (budget : ℕ) wher
     ends_on (Err (end.Fault kind statement step)) h = well_on (Err (end.Fault kind statement step)) h
 
     refused_on : (result : Result Ended RunEnd)
-        → IfRefused p g paths budget result (IsBroken p g paths budget (outside middle sink) new)
-        → IfRefused p g paths budget result (IsBroken p g paths budget (outside before sink) new)
-    refused_on (Err end.ReadFault) h = broken_on h
-    refused_on (Err end.WriteFault) h = broken_on h
-    refused_on (Err end.Memory) h = broken_on h
+        → IfRefused p g paths budget result (IsBroken p g paths budget (outside middle sink) new result)
+        → IfRefused p g paths budget result (IsBroken p g paths budget (outside before sink) new result)
+    refused_on (Err end.ReadFault) h = broken_on (Err end.ReadFault) h
+    refused_on (Err end.WriteFault) h = broken_on (Err end.WriteFault) h
+    refused_on (Err end.Memory) h = broken_on (Err end.Memory) h
     refused_on (Ok e) h = tt
     refused_on (Err (end.Ragged file count)) h = tt
     refused_on (Err (end.StepsSpent count)) h = tt

@@ -1,6 +1,7 @@
 use Rattle.cob_program.specs.ActView.{plain_act}
 use Rattle.cob_interp.proofs.NodeLemmas.{plain_leads}
 use Rattle.cob_interp.proofs.Placing.{plain_places}
+use Rattle.cob_interp.proofs.Failing.{part_fine}
 use Rattle.cob_interp.proofs.nodes.do_plain.Goals as goal
 
 pub returns-clause-leads : goal.returns-clause-leads
@@ -12,3 +13,6 @@ pub returns-clause-places : goal.returns-clause-places
 returns-clause-places c =
     plain_places c.args.setting.now c.args.place.now c.args.step _ _ (plain_act c.args.place.now.statement.now.act.now)
     c.requires.place.statement.its _ c.do_part.ensures.does c.requires.plain
+
+pub returns-clause-fine : goal.returns-clause-fine
+returns-clause-fine c = part_fine c.args.setting.now c.args.place.now c.args.step _ _ _ c.do_part.ensures.does

@@ -1,5 +1,6 @@
 use Rattle.std.proofs.Common.{[], ◌∷◌, sym, Some, ap, ◌∙◌}
 use Rattle.std.proofs.lemmas.Result.{err_from_is_err_and}
+use Rattle.cob_program.specs.Act.{open_files}
 use Rattle.cob_program.specs.ActView.{plain_act}
 use Rattle.cob_interp.specs.Setting.{program_of, paths_of}
 use Rattle.cob_interp.specs.Touching.{makes_in}
@@ -10,6 +11,7 @@ use Rattle.cob_interp.proofs.Closings.{open_part, opens_behind}
 use Rattle.cob_interp.proofs.TrackLemmas.{stand_on}
 use Rattle.cob_interp.proofs.Placing.{open_places, open_one_placed}
 use Rattle.cob_interp.proofs.Written.{left_by, refused_own}
+use Rattle.cob_interp.proofs.Failing.{never_met, open_met, part_fine}
 use Rattle.cob_interp.proofs.opens.do_open.Goals as goal
 
 pub unreachable-requires : goal.unreachable-requires
@@ -75,3 +77,15 @@ returns-in_err-ready_to_open-in-Some-clause-placed g c =
     rw (p.1, p.2)
     (refused_own (g.F.Files.state c.args.files.now) (g.F.Files.state c.ready_to_open.new.files) _ _
     c.in_err-ready_to_open-in-Some.ensures.readies)
+
+pub returns-in_err-ready_to_open-in-Some-clause-met : goal.returns-in_err-ready_to_open-in-Some-clause-met
+returns-in_err-ready_to_open-in-Some-clause-met g c =
+    let p = err_from_is_err_and c.from_residual.result c.from_residual.ensures.1 in
+    rw (p.1, p.2)
+    (open_met c.args.openings.now c.in-Open.file c.in-Some.opening _ (sym c.in-Some.ensures)
+    c.in_err-ready_to_open-in-Some.ensures.fault)
+
+pub returns-clause-met : goal.returns-clause-met
+returns-clause-met g c =
+    never_met (open_files c.args.openings.now) _
+    (part_fine c.args.setting.now c.args.place.now c.args.step _ _ _ c.do_part-next.ensures.does)

@@ -19,4 +19,5 @@ returns-in-Closed g c = record {
   readies = λ path named. other_readies _ path c.args.file.now c.mode.result c.mode.ensures c.in-Closed.is;
   touches = λ path named. untouched_one _ path c.args.file.now;
   ids = ids_stay _;
+  fault = tt;
 }

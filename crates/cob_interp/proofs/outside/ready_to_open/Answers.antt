@@ -7,6 +7,7 @@ use Rattle.std.proofs.Common.{[], ◌∷◌}
 use Rattle.cob_interp.specs.Setting.{paths_of}
 use Rattle.cob_interp.specs.Touching.{makes_in}
 use Rattle.cob_interp.proofs.Touched.{makes_stay, makes_same, makes_by_create, makes_own}
+use Rattle.std.proofs.lemmas.Result.{err_from_is_err_and}
 use Rattle.cob_interp.proofs.outside.ready_to_open.Goals as goal
 
 pub returns-then-not-is_closed-clause-readies : goal.returns-then-not-is_closed-clause-readies
@@ -87,6 +88,18 @@ create-requires-clause-free g c =
     slot_free c.args.handles.now c.args.world.now.world.files c.requires.placed.purposes c.args.opening.file h.0 h.1
     (ap purpose_in shut)
 
-pub returns-in_default-size-clause-touches : goal.returns-in_default-size-clause-touches
-returns-in_default-size-clause-touches g c =
-    makes_stay (paths_of c.args.setting.now) (makes_in (c.args.opening ∷ [])) c.args.world.now.world _
+pub returns-in_err-create-clause-fault : goal.returns-in_err-create-clause-fault
+returns-in_err-create-clause-fault g c =
+    let p = err_from_is_err_and c.from_residual.result c.from_residual.ensures.1 in
+    rw (p.1, p.2, c.if-opening.true) c.in_err-create.ensures.fault
+
+pub returns-in_err-open_input-clause-fault : goal.returns-in_err-open_input-clause-fault
+returns-in_err-open_input-clause-fault g c =
+    let p = err_from_is_err_and c.from_residual-in_err-open_input.result c.from_residual-in_err-open_input.ensures.1 in
+    rw (p.1, p.2, c.if-opening.false) c.in_err-open_input.ensures.fault
+
+pub open_input-requires-clause-declared : goal.open_input-requires-clause-declared
+open_input-requires-clause-declared g c = (c.in-Some.ensures.decl, c.in-Some.ensures.declared)
+
+pub size_at-size-requires : goal.size_at-size-requires
+size_at-size-requires g c = (c.in-Some.ensures.decl, c.in-Some.ensures.declared)

@@ -5,6 +5,7 @@ use Rattle.cob_interp.proofs.OpLemmas.{always_reads}
 use Rattle.cob_interp.proofs.Purposes.{slot_held}
 use Rattle.cob_interp.proofs.RecordReads.{idle_arrives, window_arrives, on_file}
 use Rattle.cob_interp.proofs.ReadParts.{idle_part_left, window_part_left}
+use Rattle.cob_interp.proofs.Failing.{never_fails, never_still, part_fine}
 use Rattle.cob_interp.proofs.reads.do_read.Goals as goal
 
 pub unreachable-requires : goal.unreachable-requires
@@ -49,3 +50,11 @@ do_window-requires-clause-reads g c =
     let f = on_file _ c.in-Some.before c.in-Some.ensures in
     slot_held c.args.handles.now c.args.world.now.world.files c.requires.placed.purposes c.args.file f.0 f.1
     false (ap purpose_in f.2)
+
+pub returns-in-None-clause-fault : goal.returns-in-None-clause-fault
+returns-in-None-clause-fault g c =
+    never_fails false _ (part_fine c.args.setting.now c.args.place.now c.args.step _ _ _ c.do_part.ensures.does)
+
+pub returns-in-None-clause-still : goal.returns-in-None-clause-still
+returns-in-None-clause-still g c =
+    never_still _ _ (part_fine c.args.setting.now c.args.place.now c.args.step _ _ _ c.do_part.ensures.does)

@@ -1,12 +1,17 @@
-use Rattle.cob_interp.proofs.ClosingHandles.{closed_well, closed_ill}
+use Rattle.std.proofs.Common.{Result, sym, subst}
+use Rattle.cob_interp.specs.declared.ends.Ended.{Ended}
+use Rattle.cob_interp.specs.declared.ends.RunEnd.{RunEnd}
+use Rattle.cob_interp.specs.Running.{outside, Runs}
+use Rattle.cob_interp.proofs.ClosingHandles.{closed_behind}
+use Rattle.cob_interp.proofs.Failing.{own_stays}
 use Rattle.cob_interp.proofs.runs.close_handles.Goals as goal
 
-pub returns-in-Ok-clause-runs : goal.returns-in-Ok-clause-runs
-returns-in-Ok-clause-runs g c p graph paths budget start sink runs broken =
-    closed_well p graph paths budget start sink _ _ c.close_all.ensures.same c.args.end c.requires.own
-    c.in-Ok.ensures.counts runs
+pub returns-clause-stays : goal.returns-clause-stays
+returns-clause-stays g c = own_stays c.args.end c.close_all-closed.result c.end_behind.result c.end_behind.ensures
 
-pub returns-in-Err-clause-runs : goal.returns-in-Err-clause-runs
-returns-in-Err-clause-runs g c p graph paths budget start sink runs broken =
-    closed_ill p graph paths budget start sink _ _ c.close_all.ensures.same c.args.end c.requires.own c.in-Err.refusal
-    c.in-Err.ensures.counts runs broken
+pub returns-clause-runs : goal.returns-clause-runs
+returns-clause-runs g c p graph paths budget start sink runs broken =
+    subst (λ (r : Result Ended RunEnd). Runs p graph paths budget start
+    (outside (g.F.Files.state c.close_all-closed.new.files) sink) r) (sym c.end_behind.ensures)
+    (closed_behind p graph paths budget start sink _ _ c.close_all-closed.ensures.same c.args.end c.requires.own
+    c.close_all-closed.result c.close_all-closed.ensures.counts runs broken)

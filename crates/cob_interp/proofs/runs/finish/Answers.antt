@@ -58,7 +58,7 @@ returns-in-Ok-write_all-clause-runs g c budget start off =
     c.args.world.now.world c.flush.new.world.world c.args.end c.requires.own off c.in-Ok.ensures.flushes _
     c.in-Ok-write_all.ensures.touches
     c.write_all.new.world.world _ (paths_count c.args.setting.now) written.0 written.1)
-    (broken (program_of c.args.setting.now) c.args.setting.now.graph.now
+    (λ q. broken (program_of c.args.setting.now) c.args.setting.now.graph.now
     (paths_of c.args.setting.now) budget start _ _ _
     c.args.world.now.world c.flush.new.world.world c.args.end c.requires.own off c.in-Ok.ensures.flushes _
-    c.in-Ok-write_all.ensures.touches)
+    c.in-Ok-write_all.ensures.touches q)

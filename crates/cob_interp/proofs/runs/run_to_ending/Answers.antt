@@ -3,7 +3,16 @@ use Rattle.cob_interp.specs.Setting.{texts}
 use Rattle.cob_interp.proofs.Unmade.{unmade_kept}
 use Rattle.cob_interp.proofs.runs.run_to_ending.Goals as goal
 
+pub run_through-requires-clause-whole : goal.run_through-requires-clause-whole
+run_through-requires-clause-whole g c = c.requires.able.whole
+
+pub run_through-requires-clause-sound : goal.run_through-requires-clause-sound
+run_through-requires-clause-sound g c = c.requires.able.items
+
+pub run_through-requires-clause-able : goal.run_through-requires-clause-able
+run_through-requires-clause-able g c = c.requires.able.statements
+
 pub returns-clause-unmade : goal.returns-clause-unmade
 returns-clause-unmade g c =
-    unmade_kept (plain_program c.args.program.now) c.args.graph.now c.requires.whole c.requires.graph
+    unmade_kept (plain_program c.args.program.now) c.args.graph.now c.requires.able.whole c.requires.graph
     (texts c.args.paths.now) c.args.budget _ _ _ c.run_through.ensures.runs

@@ -25,40 +25,40 @@ loop-place-init g c = record {
 pub loop-place-preserved : goal.loop-place-preserved
 loop-place-preserved g c =
     let kept = c.loop-place.invariant in
-    let out = c.in_ok-write_at.ensures.goes in
+    let out = c.in_ok-write_out.ensures.goes in
     let w = c.loop-place.world.world in
-    let is = c.in_ok-write_at.ensures.emptied in
+    let is = c.in_ok-write_out.ensures.emptied in
     record {
       sees = subst (λ (u : World). Sees (paths_of c.args.setting.now) (g.F.Files.state c.args.files.now)
-          (g.F.Files.state c.write_at.new.files) c.args.world.now.world u) (sym is)
+          (g.F.Files.state c.write_out.new.files) c.args.world.now.world u) (sym is)
           (sees_pass (paths_of c.args.setting.now) _ _ _ _ _ _ kept.sees
           (sees_out c.args.setting.now c.requires.ready.distinct w c.loop-place.place _ _ out));
       none = subst (λ (u : World). AreEmptied u.files (c.loop-place.place + 1)) (sym is)
           (emptied_next w c.loop-place.place kept.none);
-      live = (tracks_ids _ _ _ c.in_ok-write_at.ensures.ids kept.live).live;
-      written = subst (λ (u : World). AreWritten (paths_of c.args.setting.now) (g.F.Files.state c.write_at.new.files)
+      live = (tracks_ids _ _ _ c.in_ok-write_out.ensures.ids kept.live).live;
+      written = subst (λ (u : World). AreWritten (paths_of c.args.setting.now) (g.F.Files.state c.write_out.new.files)
           c.args.handles.now u.files) (sym is)
           (written_on (paths_of c.args.setting.now) _ c.args.handles.now w.files _
           (emptied_keeps w c.loop-place.place out.file out.has)
           (written_ids (paths_of c.args.setting.now) _ _ c.args.handles.now kept.live w.files kept.written
-          c.in_ok-write_at.ensures.ids));
-      ids = ids_pass _ _ _ kept.ids c.in_ok-write_at.ensures.ids;
+          c.in_ok-write_out.ensures.ids));
+      ids = ids_pass _ _ _ kept.ids c.in_ok-write_out.ensures.ids;
     }
 
-pub returns-in_err-write_at-clause-writes : goal.returns-in_err-write_at-clause-writes
-returns-in_err-write_at-clause-writes g c =
+pub returns-in_err-write_out-clause-writes : goal.returns-in_err-write_out-clause-writes
+returns-in_err-write_out-clause-writes g c =
     let p = err_from_is_err_and c.from_residual.result c.from_residual.ensures.1 in
     rw (p.1, p.2)
     (refused_on (g.F.Files.state c.args.files.now) (g.F.Files.state c.loop-place.files)
-    (g.F.Files.state c.write_at.new.files) _ c.loop-place.invariant.sees.well c.in_err-write_at.ensures.goes)
+    (g.F.Files.state c.write_out.new.files) _ c.loop-place.invariant.sees.well c.in_err-write_out.ensures.goes)
 
-pub returns-in_err-write_at-clause-touches : goal.returns-in_err-write_at-clause-touches
-returns-in_err-write_at-clause-touches g c =
+pub returns-in_err-write_out-clause-touches : goal.returns-in_err-write_out-clause-touches
+returns-in_err-write_out-clause-touches g c =
     touches_sees (paths_of c.args.setting.now) makes_none _ _ _ c.args.world.now.world _ c.loop-place.invariant.sees
-    c.in_err-write_at.ensures.touches
+    c.in_err-write_out.ensures.touches
 
-pub returns-in_err-write_at-clause-ids : goal.returns-in_err-write_at-clause-ids
-returns-in_err-write_at-clause-ids g c = ids_pass _ _ _ c.loop-place.invariant.ids c.in_err-write_at.ensures.ids
+pub returns-in_err-write_out-clause-ids : goal.returns-in_err-write_out-clause-ids
+returns-in_err-write_out-clause-ids g c = ids_pass _ _ _ c.loop-place.invariant.ids c.in_err-write_out.ensures.ids
 
 pub returns-clause-touches : goal.returns-clause-touches
 returns-clause-touches g c =

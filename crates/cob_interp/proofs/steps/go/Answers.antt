@@ -22,3 +22,8 @@ returns-clause-leads c = λ now budget start within u.
 
 pub returns-clause-places : goal.returns-clause-places
 returns-clause-places c = places_behind _ _ _ _ c.in_ok-next.ensures.places c.go_through.ensures.places
+
+pub returns-in_err-next-clause-fine : goal.returns-in_err-next-clause-fine
+returns-in_err-next-clause-fine c =
+    let p = err_from_is_err_and c.from_residual.result c.from_residual.ensures.1 in
+    rw (p.1, p.2) c.in_err-next.ensures.fine

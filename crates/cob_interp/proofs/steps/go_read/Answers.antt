@@ -1,9 +1,10 @@
-use Rattle.std.proofs.Common.{arith}
+use Rattle.std.proofs.Common.{arith, false}
 use Rattle.std.proofs.lemmas.Result.{err_from_is_err_and}
 use Rattle.cob_interp.specs.Running.{outside}
 use Rattle.cob_interp.specs.Setting.{paths_of}
 use Rattle.cob_interp.proofs.StepLemmas.{goes_on_underway}
 use Rattle.cob_interp.proofs.Written.{left_behind}
+use Rattle.cob_interp.proofs.Failing.{never_fails, never_still}
 use Rattle.cob_interp.proofs.steps.go_read.Goals as goal
 
 pub returns-in_err-next-clause-takes : goal.returns-in_err-next-clause-takes
@@ -22,3 +23,19 @@ returns-clause-takes g c = λ sink budget steps start counted within stands.
     (omega (arith, counted, within))
     (goes_on_underway c.args.setting.now start _ _ c.args.step _ (c.rests_at.ensures c.if-rests_at.false)
     (c.in_ok-next.ensures.takes sink budget steps start counted within stands))
+
+pub returns-in_err-next-clause-fault : goal.returns-in_err-next-clause-fault
+returns-in_err-next-clause-fault g c =
+    let p = err_from_is_err_and c.from_residual.result c.from_residual.ensures.1 in
+    rw (p.1, p.2) c.in_err-next.ensures.fault
+
+pub returns-in_err-next-clause-still : goal.returns-in_err-next-clause-still
+returns-in_err-next-clause-still g c =
+    let p = err_from_is_err_and c.from_residual.result c.from_residual.ensures.1 in
+    rw (p.1, p.2) c.in_err-next.ensures.still
+
+pub returns-clause-fault : goal.returns-clause-fault
+returns-clause-fault g c = never_fails false _ c.go_through.ensures.fine
+
+pub returns-clause-still : goal.returns-clause-still
+returns-clause-still g c = never_still _ _ c.go_through.ensures.fine

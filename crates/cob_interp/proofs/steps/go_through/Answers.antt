@@ -35,3 +35,8 @@ returns-in_err-at-clause-places c =
     (own_weaker _ (KeepsPlaces c.loop.world.world.files c.do_node.new.world.world.files)
     (KeepsPlaces c.args.world.now.world.files c.do_node.new.world.world.files)
     (λ k. places_pass _ _ _ c.loop.invariant.places k) c.in_err-at.ensures.places)
+
+pub returns-in_err-at-clause-fine : goal.returns-in_err-at-clause-fine
+returns-in_err-at-clause-fine c =
+    let p = err_from_is_err_and c.from_residual.result c.from_residual.ensures.1 in
+    rw (p.1, p.2) c.in_err-at.ensures.fine

@@ -58,3 +58,8 @@ returns-in_err-at-clause-leads g c =
     rw (p.1, p.2)
     (λ sink budget start within u. c.in_err-at.ensures.leads sink budget start within
     (c.loop.invariant.underway sink start u))
+
+pub returns-in_err-at-clause-met : goal.returns-in_err-at-clause-met
+returns-in_err-at-clause-met g c =
+    let p = err_from_is_err_and c.from_residual.result c.from_residual.ensures.1 in
+    rw (p.1, p.2) c.in_err-at.ensures.met

@@ -1,5 +1,4 @@
-use Rattle.std.proofs.Common.{◌≡◌, ℕ, Some, ap, subst, ◌∙◌}
-use Rattle.cob_program.specs.Act.{open_files}
+use Rattle.std.proofs.Common.{◌≡◌, ℕ, Some, ap, subst, ◌∙◌, sym}
 use Rattle.cob_program.specs.ActView.{plain_act}
 use Rattle.cob_runs.specs.Effects.{act_at}
 use Rattle.cob_interp.specs.Running.{outside}
@@ -10,6 +9,9 @@ use Rattle.cob_interp.proofs.Taking.{free_close, free_open, free_other, step_beg
 use Rattle.cob_interp.proofs.Readied.{touches_known}
 use Rattle.cob_interp.proofs.Written.{left_behind}
 use Rattle.cob_interp.proofs.Touched.{touches_stay, opening_touches, none_touches}
+use Rattle.cob_program.specs.Act.{Act, open_files}
+use Rattle.cob_interp.specs.Meeting.{IsMetBy}
+use Rattle.cob_interp.proofs.Failing.{close_first, close_met, never_met, never_still, open_first, read_met}
 use Rattle.cob_interp.proofs.steps.take_step.Goals as goal
 
 pub open_all-requires-clause-its : goal.open_all-requires-clause-its
@@ -72,3 +74,28 @@ pub returns-in-Other-clause-placed : goal.returns-in-Other-clause-placed
 returns-in-Other-clause-placed g c =
     left_behind _ (paths_of c.args.setting.now) (g.F.Files.state c.args.files.now) _ c.args.world.now.world.files _
     c.go.ensures.places c.requires.placed
+
+pub returns-in-Open-clause-met : goal.returns-in-Open-clause-met
+returns-in-Open-clause-met g c =
+    subst (λ (a : Act). IsMetBy a c.open_all.result) (sym (is_open _ _ c.in-Open.ensures)) c.open_all.ensures.met
+
+pub returns-in-Open-clause-still : goal.returns-in-Open-clause-still
+returns-in-Open-clause-still g c = λ waits. open_first _ _ _ (is_open _ _ c.in-Open.ensures) waits
+
+pub returns-in-Close-clause-met : goal.returns-in-Close-clause-met
+returns-in-Close-clause-met g c = close_met _ _ _ (is_close _ _ c.in-Close.ensures)
+
+pub returns-in-Close-clause-still : goal.returns-in-Close-clause-still
+returns-in-Close-clause-still g c = λ waits. close_first _ _ _ (is_close _ _ c.in-Close.ensures) waits
+
+pub returns-in-Read-clause-met : goal.returns-in-Read-clause-met
+returns-in-Read-clause-met g c = read_met _ _ _ c.in-Read.ensures c.go_read.ensures.fault
+
+pub returns-in-Read-clause-still : goal.returns-in-Read-clause-still
+returns-in-Read-clause-still g c = λ _. c.go_read.ensures.still
+
+pub returns-in-Other-clause-met : goal.returns-in-Other-clause-met
+returns-in-Other-clause-met g c = never_met (plain_act c.args.place.now.statement.now.act.now) _ c.go.ensures.fine
+
+pub returns-in-Other-clause-still : goal.returns-in-Other-clause-still
+returns-in-Other-clause-still g c = λ _. never_still _ _ c.go.ensures.fine

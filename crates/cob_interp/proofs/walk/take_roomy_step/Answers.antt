@@ -8,6 +8,9 @@ use Rattle.cob_interp.proofs.Readied.{placed_ids}
 use Rattle.cob_interp.proofs.Touched.{none_touches}
 use Rattle.cob_interp.proofs.TrackLemmas.{placed_on, tracks_ids, tracks_pass}
 use Rattle.cob_interp.proofs.Written.{refused_own}
+use Rattle.std.proofs.Common.{ap}
+use Rattle.cob_runs.specs.State.{World}
+use Rattle.cob_interp.proofs.Failing.{failed_any, still_shown}
 use Rattle.cob_interp.proofs.walk.take_roomy_step.Goals as goal
 
 pub take_step-requires-clause-live : goal.take_step-requires-clause-live
@@ -56,3 +59,17 @@ pub returns-clause-touches : goal.returns-clause-touches
 returns-clause-touches g c =
     touches_sees (paths_of c.args.setting.now) (makes_by (plain_act c.args.place.now.statement.now.act.now)) _ _ _
     c.args.world.now.world _ c.in_ok-make_room.ensures.sees c.take_step.ensures.touches
+
+pub returns-in_err-make_room-clause-met : goal.returns-in_err-make_room-clause-met
+returns-in_err-make_room-clause-met g c =
+    let p = err_from_is_err_and c.from_residual.result c.from_residual.ensures.1 in
+    rw (p.1, p.2) c.in_err-make_room.ensures.met
+
+pub returns-in_err-make_room-clause-still : goal.returns-in_err-make_room-clause-still
+returns-in_err-make_room-clause-still g c = λ _.
+    failed_any _ _ (ap (λ (w : World). w.shown) c.in_err-make_room.ensures.still)
+
+pub returns-clause-still : goal.returns-clause-still
+returns-clause-still g c = λ waits.
+    still_shown c.take_step.result c.take_step.new.world.world c.make_room.new.world.world c.args.world.now.world
+    (c.take_step.ensures.still waits) c.in_ok-make_room.ensures.sees.world
