@@ -4,7 +4,6 @@ use Rattle.cob_runs.specs.State.{World}
 use Rattle.cob_interp.specs.Doing.{DoesPart}
 use Rattle.cob_interp.specs.Setting.{program_of, paths_of}
 use Rattle.cob_interp.specs.Readying.{emptied}
-use Rattle.cob_interp.specs.Touching.{makes_none}
 use Rattle.cob_interp.specs.Tracking.{ArePlaced}
 use Rattle.cob_interp.proofs.CloseLemmas.{close_leads}
 use Rattle.cob_interp.proofs.OpLemmas.{always_closes, closes_there}

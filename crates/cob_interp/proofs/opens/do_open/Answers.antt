@@ -85,7 +85,7 @@ returns-in_err-ready_to_open-in-Some-clause-met g c =
     (open_met c.args.openings.now c.in-Open.file c.in-Some.opening _ (sym c.in-Some.ensures)
     c.in_err-ready_to_open-in-Some.ensures.fault)
 
-pub returns-in_ok-ready_to_open-in-Some-clause-met : goal.returns-in_ok-ready_to_open-in-Some-clause-met
-returns-in_ok-ready_to_open-in-Some-clause-met g c =
+pub returns-clause-met : goal.returns-clause-met
+returns-clause-met g c =
     never_met (open_files c.args.openings.now) _
     (part_fine c.args.setting.now c.args.place.now c.args.step _ _ _ c.do_part-next.ensures.does)
