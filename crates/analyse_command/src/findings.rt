@@ -1,11 +1,11 @@
 //! `analyse`: the certificate that is found for a source, its file, and its report.
-ghost use Rattle.std.specs.Prelude.{◌≡◌, ◌<◌, List, [], ℕ, MatchResult, IfErr, IfOk, IfSome};
+ghost use Rattle.std.specs.Prelude.{◌≡◌, ◌<◌, List, [], ℕ, false, MatchResult, IfErr, IfOk, IfSome};
 ghost use Rattle.batch_io.specs.FilesState.{KeepsIds, known_bytes};
 ghost use Rattle.cert_text.specs.View.{view};
 ghost use Rattle.cob_program.specs.ActView.{plain_program};
 ghost use Rattle.check_command.specs.Shared.Call.{call};
 ghost use Rattle.check_command.specs.Shared.Steps.{IsOfSource, Reads, refused_by_fault};
-ghost use Rattle.check_command.specs.Shared.Answer.{AnswersSource};
+ghost use Rattle.check_command.specs.Shared.Answer.{AnswersSource, is_usage};
 ghost use Rattle.check_command.specs.Shared.View.{plain_answer};
 ghost use Rattle.analyse_command.specs.Analysis.{Analysis, IsFound, analysis};
 ghost use Rattle.analyse_command.specs.Endings.{EndsWithAnalysis};
@@ -83,6 +83,7 @@ pub fn findings_for<'a, F: Files>(
     ensures finding { IfOk result (IsFindingOf (known_bytes (F.state files.old)) source.now) }
     ensures answer { IfErr result (λ found. IfOk found (λ answer. IfSome (known_bytes (F.state files.old)) (λ contents.
         AnswersSource contents source.now (plain_answer answer)))) }
+    ensures usage { IfErr result (λ found. IfOk found (λ answer. is_usage (plain_answer answer) ≡ false)) }
 {
     let laid = match read_source(alloc, source, files) {
         Ok(laid) => laid,

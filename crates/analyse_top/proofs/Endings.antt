@@ -1,6 +1,6 @@
 -- From what the parts did to how the call ends.
 use Rattle.std.proofs.Common.{◌≡◌, ℕ, true, false, List, length, refl, sym, ap, ◌∙◌, inl, inr, Result, Ok, Err, arith}
-use Rattle.std.specs.Prelude.{IfOk, MatchResult, Option}
+use Rattle.std.specs.Prelude.{IfOk, IfSome, MatchResult, Option, Some, None}
 use Rattle.std.proofs.lemmas.Bool.{false≢true}
 use Rattle.std.proofs.lemmas.List.{take_all}
 use Rattle.std.specs.Io.KnownBytes.{append_known}
@@ -19,7 +19,7 @@ use Rattle.analyse_command.specs.Shared.Call.{Call}
 use Rattle.analyse_command.specs.Shared.Steps.{Reads, stopped_by_fault, ShowsAnswer, ShowsFound}
 use Rattle.analyse_command.specs.Shared.View.{plain_answer, plain_result}
 use Rattle.trial_command.specs.Endings.{AnswersTrial}
-use Rattle.analyse_top.specs.Answers.{Answers, AnswersCommand}
+use Rattle.analyse_top.specs.Answers.{Answers, AnswersCommand, IfKnown}
 use Rattle.analyse_top.specs.Conclusion.{EndsBy, EndsByAnswer, MayBeShown}
 
 whole_front : (old new : SinkState) (text : List ℕ) → Gains old new text → GainsFront old new text
@@ -92,6 +92,20 @@ reads_nothing files = record {
   writing = refl;
   reading = record { later = omega arith; rose = λ b. absurd (false≢true b); kept = λ e. refl };
 }
+
+-- an answer by contents where they are known, and by what is said beside where they aren't
+module _ (IsAnswer : Contents → Answer → Type 0) (Otherwise : Answer → Type 0) where
+  known_or_not : (known : Option Contents) (answer : Answer) → IfSome known (λ contents. IsAnswer contents answer)
+      → Otherwise answer → IfKnown known (λ contents. IsAnswer contents answer) (Otherwise answer)
+  known_or_not None answer is beside = beside
+  known_or_not (Some contents) answer is beside = is
+
+  pub found_or_not : (result : Result code.Answer Stop) (known : Option Contents)
+      → IfOk result (λ answer. IfSome known (λ contents. IsAnswer contents (plain_answer answer)))
+      → IfOk result (λ answer. Otherwise (plain_answer answer))
+      → IfOk result (λ answer. IfKnown known (λ contents. IsAnswer contents (plain_answer answer)) (Otherwise (plain_answer answer)))
+  found_or_not (Err stop) known is beside = tt
+  found_or_not (Ok answer) known is beside = known_or_not known (plain_answer answer) is beside
 
 -- what a command is answered
 pub answers_command : (result : Result code.Answer Stop) (known : Option Contents) (words : List (List ℕ)) (c : Command)

@@ -1,5 +1,5 @@
 -- From the bytes of a certificate, and a source that is read or isn't, to what `check` answers.
-use Rattle.std.proofs.Common.{◌≡◌, ℕ, ◌≤◌, List, length, ap, ◌∙◌, subst, inl, inr, Result, Ok, Err}
+use Rattle.std.proofs.Common.{◌≡◌, ℕ, ◌≤◌, false, List, length, refl, ap, ◌∙◌, subst, inl, inr, Result, Ok, Err}
 use Rattle.std.specs.Prelude.{IfOk, IfSome, MatchResult, Option, Some, None}
 use Rattle.std.specs.FinMap.{get}
 use Rattle.batch_io.specs.FilesState.{Contents}
@@ -16,7 +16,7 @@ use Rattle.command_answers.specs.declared.answer.Stop.{Stop}
 use Rattle.command_answers.specs.declared.answer.Stop.TheVariants as stop
 use Rattle.command_answers.specs.declared.answer.Answer as code
 use Rattle.command_answers.specs.declared.source.Laid.{Laid}
-use Rattle.command_answers.specs.Answer.{Answer, Usage, Absent, Refused, CertificateLong, CertificateBad, CertificateMisfit, NotInductive, Report, AnswersSource}
+use Rattle.command_answers.specs.Answer.{Answer, Usage, Absent, Refused, CertificateLong, CertificateBad, CertificateMisfit, NotInductive, Report, AnswersSource, is_usage}
 use Rattle.command_answers.specs.Steps.{HoldsLaid}
 use Rattle.command_answers.specs.View.{plain_answer}
 use Rattle.command_answers.proofs.Found.{at_held}
@@ -57,6 +57,18 @@ module _ (p : Program) (g : Graph) (certificate bytes : List ℕ) (fits : length
   answers_bytes (Err end) seen known held same h = tt
   answers_bytes (Ok answer) seen known held same h =
       bytes_known known (plain_answer answer) held (subst (λ (bs : List ℕ). AnswersBytes bs p g (plain_answer answer)) same h)
+
+-- an answer to bytes isn't that of words
+module _ (p : Program) (g : Graph) (bytes : List ℕ) where
+  no_usage_answer : (answer : Answer) → AnswersBytes bytes p g answer → is_usage answer ≡ false
+  no_usage_answer (Usage word) h = absurd h.3
+  no_usage_answer _ h = refl
+
+  pub no_usage_of_bytes : (result : Result code.Answer Stop)
+      → MatchResult result (λ answer. AnswersBytes bytes p g (plain_answer answer)) (λ end. end ≡ stop.Memory)
+      → IfOk result (λ answer. is_usage (plain_answer answer) ≡ false)
+  no_usage_of_bytes (Ok answer) h = no_usage_answer (plain_answer answer) h
+  no_usage_of_bytes (Err end) h = tt
 
 -- ---- a source that is read
 

@@ -1,9 +1,10 @@
 //! `check`: the answer to a source and a certificate.
-ghost use Rattle.std.specs.Prelude.{◌≡◌, IfOk, IfSome, MatchResult};
+ghost use Rattle.std.specs.Prelude.{◌≡◌, false, IfOk, IfSome, MatchResult};
 ghost use Rattle.batch_io.specs.FilesState.{known_bytes};
 ghost use Rattle.cert_text.specs.View.{view};
 ghost use Rattle.cert_text.specs.Allowed.{IsAllowed};
 ghost use Rattle.cob_program.specs.ActView.{plain_program};
+ghost use Rattle.command_answers.specs.Answer.{is_usage};
 ghost use Rattle.command_answers.specs.Steps.{Reads, stopped_by_fault, IsOfSource};
 ghost use Rattle.command_answers.specs.View.{plain_answer};
 ghost use Rattle.check_command.specs.Answers.{AnswersCertificate, AnswersCheck, AnswersProgram};
@@ -29,6 +30,7 @@ pub fn check<'a, F: Files>(
     ensures reads { Reads (F.state files.old) (F.state files.new) (stopped_by_fault result) }
     ensures answer { IfOk result (λ answer. IfSome (known_bytes (F.state files.old)) (λ contents.
         AnswersCheck contents source.now certificate.now (plain_answer answer))) }
+    ensures usage { IfOk result (λ answer. is_usage (plain_answer answer) ≡ false) }
 {
     match read_source(alloc, source, files) {
         Ok(laid) => check_program(alloc, &laid, certificate, files),
@@ -47,6 +49,7 @@ fn check_program<'a, F: Files>(
     ensures reads { Reads (F.state files.old) (F.state files.new) (stopped_by_fault result) }
     ensures answer { IfOk result (λ answer. IfSome (known_bytes (F.state files.old)) (λ contents.
         AnswersProgram contents certificate.now (plain_program laid.now.program) laid.now.graph (plain_answer answer))) }
+    ensures usage { IfOk result (λ answer. is_usage (plain_answer answer) ≡ false) }
 {
     match read_file(alloc, files, certificate, CERTIFICATE_LIMIT) {
         Ok(bytes) => check_bytes(alloc, laid, &bytes),

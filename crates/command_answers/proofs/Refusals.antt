@@ -9,7 +9,7 @@ use Rattle.command_answers.specs.declared.answer.Stop.{Stop}
 use Rattle.command_answers.specs.declared.answer.Stop.TheVariants as stop
 use Rattle.command_answers.specs.declared.answer.Answer as code
 use Rattle.command_answers.specs.Profile.{IsProfileCause}
-use Rattle.command_answers.specs.Answer.{Answer, Refused, AnswersSource}
+use Rattle.command_answers.specs.Answer.{Answer, Refused, AnswersSource, is_usage}
 use Rattle.command_answers.specs.Steps.{stopped_by_fault, answer_to}
 use Rattle.command_answers.specs.View.{plain_answer, plain_result}
 use Rattle.command_answers.proofs.Found.{at_held}
@@ -48,6 +48,12 @@ module _ (source bytes : List ℕ) where
   answers_refused (Ok answer) cause seen known held same (inl is) e =
       refused_known known (plain_answer answer) cause held (subst (λ (bs : List ℕ). IsProfileCause bs cause) same is)
       (answered cause (plain_answer answer) (sym e))
+
+-- the answer to it isn't that of words
+pub no_usage : (result : Result code.Answer Stop) (cause : Refusal) → plain_result result ≡ answer_to cause
+    → IfOk result (λ answer. is_usage (plain_answer answer) ≡ false)
+no_usage (Err stop) cause e = tt
+no_usage (Ok answer) cause e = sym (ap is_usage (answered cause (plain_answer answer) (sym e)))
 
 -- the answer to it isn't a fault of the outside
 pub no_fault : (result : Result code.Answer Stop) (cause : Refusal) → plain_result result ≡ answer_to cause

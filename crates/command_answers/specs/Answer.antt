@@ -1,6 +1,6 @@
 -- What a command answers where it runs nothing: an answer, with its text and its status.
 -- Which answer is given is said where the command stands; here, for the source that all of them read.
-use Rattle.std.specs.Prelude.{◌≡◌, ℕ, List, [], ◌∷◌, ◌++◌, codes, decimal, None, Some, IsSomeAnd}
+use Rattle.std.specs.Prelude.{◌≡◌, ℕ, Bool, true, false, List, [], ◌∷◌, ◌++◌, codes, decimal, None, Some, IsSomeAnd}
 use Rattle.std.specs.FinMap.{get}
 use Rattle.batch_io.specs.FilesState.{Contents}
 use Rattle.cob_program.specs.Act.{Program}
@@ -33,6 +33,10 @@ pub data Answer : Type 0 where
   NotInductive : ℕ → ℕ → Gap → Answer
   -- the certificate holds, and leaves these statements open
   Report : List Alarm → Answer
+
+abbrev pub is_usage : Answer → Bool
+is_usage (Usage word) = true
+is_usage _ = false
 
 abbrev pub usage_text : List ℕ → List ℕ
 usage_text [] = codes "E1 usage" ++ line_end

@@ -1,9 +1,9 @@
 //! A source of the profile: its program and graph.
-ghost use Rattle.std.specs.Prelude.{◌≡◌, IfErr, IfOk, IfSome};
+ghost use Rattle.std.specs.Prelude.{◌≡◌, false, IfErr, IfOk, IfSome};
 ghost use Rattle.batch_io.specs.FilesState.{known_bytes};
 ghost use Rattle.cob_program.specs.ActView.{plain_program};
 ghost use Rattle.cob_front.specs.Source.{IsSource, Answers};
-ghost use Rattle.command_answers.specs.Answer.{AnswersSource};
+ghost use Rattle.command_answers.specs.Answer.{AnswersSource, is_usage};
 ghost use Rattle.command_answers.specs.Profile.{IsProfileCause};
 ghost use Rattle.command_answers.specs.Steps.{Reads, HoldsLaid, IsLaid, answer_to, refused_by_fault};
 ghost use Rattle.command_answers.specs.View.{plain_answer, plain_result};
@@ -64,6 +64,7 @@ pub fn read_source<'a, F: Files>(
     ensures holds { IfOk result (HoldsLaid (known_bytes (F.state files.old)) name.now) }
     ensures answer { IfErr result (λ found. IfOk found (λ answer. IfSome (known_bytes (F.state files.old)) (λ contents.
         AnswersSource contents name.now (plain_answer answer)))) }
+    ensures usage { IfErr result (λ found. IfOk found (λ answer. is_usage (plain_answer answer) ≡ false)) }
 {
     let bytes = match read_file(alloc, files, name, SOURCE_LIMIT) {
         Ok(bytes) => bytes,

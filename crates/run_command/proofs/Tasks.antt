@@ -21,7 +21,7 @@ use Rattle.command_answers.specs.Steps.{Reads, refused_by_fault, answer_to, IsLa
 use Rattle.command_answers.specs.View.{plain_answer, plain_result}
 use Rattle.command_answers.proofs.Found.{at_held}
 use Rattle.run_command.specs.declared.task.Task.{Task}
-use Rattle.run_command.specs.Runs.{BlamesWord, HoldsTask, AnswersRun}
+use Rattle.run_command.specs.Runs.{BlamesWord, BlamesIfUsage, HoldsTask, AnswersRun}
 use Rattle.run_command.specs.Steps.{IsReady, IsTask, IsNoTask}
 use Rattle.run_command.specs.View.{plain_task}
 
@@ -125,6 +125,17 @@ module _ (r : Run) (bytes : List ℕ) where
 
       pub found_task : IfOk found (λ t. HoldsTask known r (plain_task t))
       found_task = task_of found its
+
+blames_if_usage : (bytes : List ℕ) (r : Run) (answer : Answer) → IsNoTask bytes r.names (Ok answer)
+    → BlamesIfUsage r answer
+blames_if_usage bytes r (Usage word) h = (bytes, h)
+blames_if_usage bytes r _ h = tt
+
+pub found_blames : (found : Found) (bytes : List ℕ) (r : Run) → ComesOf bytes r found
+    → IfErr found (λ instead. IfOk instead (λ answer. BlamesIfUsage r (plain_answer answer)))
+found_blames (Ok t) bytes r h = tt
+found_blames (Err (Ok answer)) bytes r h = blames_if_usage bytes r (plain_answer answer) h
+found_blames (Err (Err stop)) bytes r h = tt
 
 pub found_ready : (found : Found) (bytes : List ℕ) (r : Run) → ComesOf bytes r found → IfOk found IsReady
 found_ready (Ok t) bytes r h = h.ready

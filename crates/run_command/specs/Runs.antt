@@ -64,6 +64,11 @@ AnswersRun contents r (Refused cause) = IsSomeAnd (get contents r.source) (λ by
 AnswersRun contents r (Usage word) = IsSomeAnd (get contents r.source) (λ bytes. BlamesWord bytes r.names word)
 AnswersRun contents r _ = ⊥
 
+-- Where it is that of words, a word on files is to blame, on some source of the profile.
+abbrev pub BlamesIfUsage : Run → Answer → Type 0
+BlamesIfUsage r (Usage word) = (bytes : List ℕ) × BlamesWord bytes r.names word
+BlamesIfUsage r _ = Unit {0}
+
 -- ---- how its end is told
 
 abbrev pub run_status : RunEnd → ℕ

@@ -7,7 +7,7 @@ ghost use Rattle.cob_interp.specs.Running.{outside};
 ghost use Rattle.command_words.specs.Commands.{plain_run};
 ghost use Rattle.command_answers.specs.Steps.{Reads, refused_by_fault, IsLaid};
 ghost use Rattle.command_answers.specs.View.{plain_answer, plain_result};
-ghost use Rattle.run_command.specs.Runs.{AnswersRun, HoldsTask, RunsTo};
+ghost use Rattle.run_command.specs.Runs.{AnswersRun, BlamesIfUsage, HoldsTask, RunsTo};
 ghost use Rattle.run_command.specs.Steps.{IsReady, IsTask, IsNoTask};
 ghost use Rattle.run_command.specs.View.{plain_task};
 
@@ -81,6 +81,8 @@ pub fn task_for<'a, F: Files>(
     ensures ready { IfOk result IsReady }
     ensures answer { IfErr result (λ found. IfOk found (λ answer. IfSome (known_bytes (F.state files.old)) (λ contents.
         AnswersRun contents (plain_run said.now) (plain_answer answer)))) }
+    ensures blames { IfErr result (λ found. IfOk found (λ answer.
+        BlamesIfUsage (plain_run said.now) (plain_answer answer))) }
 {
     let bytes = match read_file(alloc, files, said.source, SOURCE_LIMIT) {
         Ok(bytes) => bytes,

@@ -1,9 +1,10 @@
-use Rattle.std.proofs.Common.{inl, inr}
+use Rattle.std.proofs.Common.{◌≡◌, false, inl, inr}
 use Rattle.batch_io.specs.FilesState.{known_bytes}
 use Rattle.command_words.specs.Commands.{analyse}
+use Rattle.analyse_command.specs.Shared.Answer.{Answer, AnswersSource, is_usage}
 use Rattle.analyse_command.specs.Shared.Call.{call}
 use Rattle.analyse_command.proofs.Telling.{ends_by_analysis}
-use Rattle.analyse_top.proofs.Endings.{answers_command, ends_found}
+use Rattle.analyse_top.proofs.Endings.{answers_command, ends_found, found_or_not}
 use Rattle.analyse_top.proofs.top.conclude_analysis.Goals as goal
 
 pub returns-in-Ok : goal.returns-in-Ok
@@ -22,4 +23,5 @@ returns-in-Err g c =
     (g.O.Sink.state c.args.out.now) (g.O.Sink.state c.show_found.new.out) c.show_found.result)
     c.in-Err.found c.in-Err.ensures.reads
     (answers_command c.in-Err.found (known_bytes files) words (analyse c.args.source.now c.args.certificate.now) said
-    c.in-Err.ensures.answer) c.show_found.ensures)
+    (found_or_not (λ contents answer. AnswersSource contents c.args.source.now answer) (λ (a : Answer). is_usage a ≡ false)
+    c.in-Err.found (known_bytes files) c.in-Err.ensures.answer c.in-Err.ensures.usage)) c.show_found.ensures)

@@ -3,9 +3,10 @@ use Rattle.batch_io.specs.FilesState.{known_bytes}
 use Rattle.cob_interp.specs.Running.{outside}
 use Rattle.command_words.specs.Commands.{plain_run, run}
 use Rattle.analyse_command.specs.Shared.Call.{call}
+use Rattle.run_command.specs.Runs.{AnswersRun, BlamesIfUsage}
 use Rattle.run_command.specs.View.{plain_task}
 use Rattle.run_command.proofs.RunEnds.{asks_for, runs_behind}
-use Rattle.analyse_top.proofs.Endings.{answers_command, ends_found}
+use Rattle.analyse_top.proofs.Endings.{answers_command, ends_found, found_or_not}
 use Rattle.analyse_top.proofs.top.conclude_run.Goals as goal
 
 pub returns-in-Ok : goal.returns-in-Ok
@@ -30,4 +31,6 @@ returns-in-Err g c =
     (call words files (g.F.Files.state c.task_for.new.files)
     (g.O.Sink.state c.args.out.now) (g.O.Sink.state c.show_found.new.out) c.show_found.result)
     c.in-Err.found c.in-Err.ensures.reads
-    (answers_command c.in-Err.found (known_bytes files) words (run r) said c.in-Err.ensures.answer) c.show_found.ensures)
+    (answers_command c.in-Err.found (known_bytes files) words (run r) said
+    (found_or_not (λ contents answer. AnswersRun contents r answer) (BlamesIfUsage r) c.in-Err.found (known_bytes files)
+    c.in-Err.ensures.answer c.in-Err.ensures.blames)) c.show_found.ensures)

@@ -1,7 +1,7 @@
 use Rattle.std.proofs.Common.{List, ℕ, subst, sym}
 use Rattle.batch_io.specs.FilesState.{known_bytes}
 use Rattle.command_answers.specs.Steps.{IsLaid, Reads}
-use Rattle.command_answers.proofs.Refusals.{answers_refused, no_fault}
+use Rattle.command_answers.proofs.Refusals.{answers_refused, no_fault, no_usage}
 use Rattle.command_answers.proofs.source.read_source.Goals as goal
 
 pub returns-in-Ok-laid_in-clause-holds : goal.returns-in-Ok-laid_in-clause-holds
@@ -23,3 +23,6 @@ returns-clause-answer g c =
     answers_refused c.args.name.now c.in-Ok.bytes.items c.answer_to.result c.in-Err.cause c.deref.result.now
     (known_bytes (g.F.Files.state c.args.files.now)) c.in-Ok.ensures.ok.1 c.deref.ensures.value c.in-Err.ensures
     c.answer_to.ensures
+
+pub returns-clause-usage : goal.returns-clause-usage
+returns-clause-usage g c = no_usage c.answer_to.result c.in-Err.cause c.answer_to.ensures

@@ -1,6 +1,6 @@
 use Rattle.batch_io.specs.FilesState.{known_bytes}
 use Rattle.command_words.specs.Commands.{plain_run}
-use Rattle.run_command.proofs.Tasks.{found_answer, found_reads, found_ready, found_task}
+use Rattle.run_command.proofs.Tasks.{found_answer, found_blames, found_reads, found_ready, found_task}
 use Rattle.run_command.proofs.task.task_for.Goals as goal
 
 pub returns-clause-reads : goal.returns-clause-reads
@@ -25,3 +25,7 @@ returns-clause-answer g c =
     let known = known_bytes (g.F.Files.state c.args.files.now) in
     found_answer (plain_run c.args.said.now) c.in-Ok.bytes.items known c.in-Ok.ensures.ok.1
     c.deref.result.now c.deref.ensures.value c.task_in.result c.task_in.ensures
+
+pub returns-clause-blames : goal.returns-clause-blames
+returns-clause-blames g c =
+    found_blames c.task_in.result c.deref.result.now (plain_run c.args.said.now) c.task_in.ensures
