@@ -76,7 +76,7 @@ fn files_of(alloc: Global, failing: u64) -> Result<MemFiles, AllocError> {
 // Open, two reads and close read a whole file; each READ of a program reads a record, and one more reads none at the
 // end. Create, write and close make a file, at once or between other calls of the program. The last row of a command is
 // one call more than it makes.
-const FAULTS: [(&str, u64, u64, u8, &str); 16] = [
+const FAULTS: [(&str, u64, u64, u8, &str); 17] = [
     ("check S C", 1, 8, 5, "E3 read\n"),
     ("check S C", 9, 9, 0, "clean\n"),
     ("analyse S C", 1, 4, 5, "E3 read\n"),
@@ -89,7 +89,8 @@ const FAULTS: [(&str, u64, u64, u8, &str); 16] = [
     ("run W", 8, 8, 0, "B\n"),
     ("run P", 1, 5, 5, "E3 read\n"),
     ("run P", 6, 6, 6, "E4 write\n"),
-    ("run P", 7, 10, 5, "E3 read\n"),
+    ("run P", 7, 7, 5, "E3 read\n"),
+    ("run P", 8, 10, 5, "RUN DATE 20240131\nE3 read\n"),
     (
         "run P",
         11,
