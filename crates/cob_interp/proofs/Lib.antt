@@ -41,3 +41,4 @@ pub mod Going
 pub mod Emptying
 pub mod RoomLemmas
 pub mod Starting
+pub mod FitLemmas

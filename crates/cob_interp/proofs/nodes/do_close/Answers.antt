@@ -3,10 +3,9 @@ use Rattle.cob_runs.specs.State.{World}
 use Rattle.cob_interp.specs.Doing.{DoesPart}
 use Rattle.cob_interp.specs.Setting.{program_of, paths_of}
 use Rattle.cob_interp.specs.Readying.{emptied}
-use Rattle.cob_interp.specs.Touching.{makes_none}
 use Rattle.cob_interp.specs.Tracking.{ArePlaced}
 use Rattle.cob_interp.proofs.CloseLemmas.{close_leads}
-use Rattle.cob_interp.proofs.Touched.{touches_stay}
+use Rattle.cob_interp.proofs.FitLemmas.{close_op, closes_there, part_on}
 use Rattle.cob_interp.proofs.Closings.{EndsAt, close_part, close_ends}
 use Rattle.cob_interp.proofs.Emptying.{emptied_keeps, sees_out, out_again, underway_sees, closes_behind}
 use Rattle.cob_interp.proofs.Placing.{placed_ends}
@@ -17,37 +16,34 @@ use Rattle.cob_interp.proofs.nodes.do_close.Goals as goal
 pub returns-in_ok-ready_to_close-in-Some-clause-leads : goal.returns-in_ok-ready_to_close-in-Some-clause-leads
 returns-in_ok-ready_to_close-in-Some-clause-leads g c sink node budget is start within u =
     let w = c.args.world.now.world in
+    let o = close_op c.args.place.now.plan_node.now.op c.args.closed.now c.in-Some.at (sym c.in-Some.ensures) in
     let does = subst (λ (z : World). DoesPart c.args.setting.now c.args.place.now c.args.step z c.do_part.new.world.world
     c.do_part.result) c.in_ok-ready_to_close-in-Some.ensures.emptied c.do_part.ensures.does in
     let out = c.in_ok-ready_to_close-in-Some.ensures.goes in
     close_leads c.args.setting.now budget c.args.place.now c.args.step node sink _ _
     (emptied c.in-Some.at w) _ c.requires.ready.distinct is
-    c.in-Close.file c.in-Close.fine c.in-Close.bad c.in-Some.at c.args.closed.now c.in-Close.is c.requires.its
-    (sym c.in-Some.ensures) (out_again c.args.setting.now c.requires.ready.distinct w c.in-Some.at _ _ out) _
+    o.0 o.1 o.2 c.in-Some.at c.args.closed.now o.3 c.requires.its
+    o.4 (out_again c.args.setting.now c.requires.ready.distinct w c.in-Some.at _ _ out) _
     does start within
     (underway_sees (program_of c.args.setting.now) c.args.setting.now.graph.now (paths_of c.args.setting.now) start sink
     _ _ w (emptied c.in-Some.at w)
     (sees_out c.args.setting.now c.requires.ready.distinct w c.in-Some.at _ _ out) c.args.step node u)
 
-pub returns-in_default-clause-touches : goal.returns-in_default-clause-touches
-returns-in_default-clause-touches g c = touches_stay (paths_of c.args.setting.now) makes_none c.args.world.now.world _
-
-pub returns-in-None-clause-touches : goal.returns-in-None-clause-touches
-returns-in-None-clause-touches g c = touches_stay (paths_of c.args.setting.now) makes_none c.args.world.now.world _
-
 pub returns-in_ok-ready_to_close-in-Some-clause-closes : goal.returns-in_ok-ready_to_close-in-Some-clause-closes
 returns-in_ok-ready_to_close-in-Some-clause-closes g c =
     let w = c.args.world.now.world in
+    let o = close_op c.args.place.now.plan_node.now.op c.args.closed.now c.in-Some.at (sym c.in-Some.ensures) in
     let does = subst (λ (z : World). DoesPart c.args.setting.now c.args.place.now c.args.step z c.do_part.new.world.world
     c.do_part.result) c.in_ok-ready_to_close-in-Some.ensures.emptied c.do_part.ensures.does in
     closes_behind c.args.setting.now c.requires.ready.distinct w c.in-Some.at _ _
     c.in_ok-ready_to_close-in-Some.ensures.goes _ _
-    (close_part c.args.setting.now c.args.place.now c.args.step _ _ c.args.closed.now c.in-Close.file c.in-Close.fine
-    c.in-Close.bad c.in-Close.is (c.requires.place.its ∙ ap Some c.requires.its) _ does)
+    (close_part c.args.setting.now c.args.place.now c.args.step _ _ c.args.closed.now o.0 o.1
+    o.2 o.3 (c.requires.place.its ∙ ap Some c.requires.its) _ does)
 
 pub returns-in_ok-ready_to_close-in-Some-clause-placed : goal.returns-in_ok-ready_to_close-in-Some-clause-placed
 returns-in_ok-ready_to_close-in-Some-clause-placed g c =
     let w = c.args.world.now.world in
+    let o = close_op c.args.place.now.plan_node.now.op c.args.closed.now c.in-Some.at (sym c.in-Some.ensures) in
     let does = subst (λ (z : World). DoesPart c.args.setting.now c.args.place.now c.args.step z c.do_part.new.world.world
     c.do_part.result) c.in_ok-ready_to_close-in-Some.ensures.emptied c.do_part.ensures.does in
     let out = c.in_ok-ready_to_close-in-Some.ensures.goes in
@@ -61,7 +57,15 @@ returns-in_ok-ready_to_close-in-Some-clause-placed g c =
     (g.F.Files.state c.ready_to_close.new.files) c.args.handles.now _ u.files _ c.in-Some.at ends placed
     (c.in_ok-ready_to_close-in-Some.ensures.stand u.files placed.stand)
     c.in_ok-ready_to_close-in-Some.ensures.closed)
-    (close_ends c.args.setting.now c.args.place.now c.args.step u _ c.args.closed.now c.in-Close.file c.in-Close.fine
-    c.in-Close.bad c.in-Close.is (c.requires.place.its ∙ ap Some c.requires.its) c.in-Some.at again.is.decl again.file
-    (sym c.in-Some.ensures) again.is.declared again.has _
+    (close_ends c.args.setting.now c.args.place.now c.args.step u _ c.args.closed.now o.0 o.1
+    o.2 o.3 (c.requires.place.its ∙ ap Some c.requires.its) c.in-Some.at again.is.decl again.file
+    o.4 again.is.declared again.has _
     does))
+
+pub unreachable-requires : goal.unreachable-requires
+unreachable-requires g c =
+    closes_there c.args.place.now.plan_node.now.op c.args.closed.now (sym c.in-None.ensures) c.requires.fits
+
+pub returns-in_ok-ready_to_close-in-Some-clause-on : goal.returns-in_ok-ready_to_close-in-Some-clause-on
+returns-in_ok-ready_to_close-in-Some-clause-on g c =
+    part_on c.args.setting.now c.args.place.now c.args.step _ _ _ c.do_part.ensures.does

@@ -4,7 +4,8 @@ use Rattle.cob_program.specs.ActView.{plain_act}
 use Rattle.cob_interp.specs.Setting.{paths_of}
 use Rattle.cob_interp.specs.Touching.{makes_in}
 use Rattle.cob_interp.proofs.OpenLeads.{open_leads}
-use Rattle.cob_interp.proofs.Touched.{makes_stay, makes_more, makes_one}
+use Rattle.cob_interp.proofs.Touched.{makes_more, makes_one}
+use Rattle.cob_interp.proofs.FitLemmas.{open_op, opens_there, opens_within, part_on}
 use Rattle.cob_interp.proofs.Closings.{open_part, opens_behind}
 use Rattle.cob_interp.proofs.TrackLemmas.{stand_on}
 use Rattle.cob_interp.proofs.Placing.{open_places, open_one_placed}
@@ -12,50 +13,47 @@ use Rattle.cob_interp.proofs.Written.{left_by, refused_own}
 use Rattle.cob_interp.proofs.Failing.{never_met, open_met, part_fine}
 use Rattle.cob_interp.proofs.opens.do_open.Goals as goal
 
-pub returns-in_default-clause-touches : goal.returns-in_default-clause-touches
-returns-in_default-clause-touches g c =
-    makes_stay (paths_of c.args.setting.now) (makes_in c.args.openings.now) c.args.world.now.world _
-
-pub returns-in-None-clause-touches : goal.returns-in-None-clause-touches
-returns-in-None-clause-touches g c =
-    makes_stay (paths_of c.args.setting.now) (makes_in c.args.openings.now) c.args.world.now.world _
-
 pub returns-in_ok-ready_to_open-in-Some-clause-touches : goal.returns-in_ok-ready_to_open-in-Some-clause-touches
 returns-in_ok-ready_to_open-in-Some-clause-touches g c =
+    let o = open_op c.args.place.now.plan_node.now.op c.args.openings.now c.in-Some.opening (sym c.in-Some.ensures) in
     makes_more (paths_of c.args.setting.now) (makes_in (c.in-Some.opening ∷ [])) (makes_in c.args.openings.now)
     c.args.world.now.world
-    (makes_one c.args.openings.now c.in-Open.file c.in-Some.opening (sym c.in-Some.ensures)) _ _
+    (makes_one c.args.openings.now o.0 c.in-Some.opening o.4) _ _
     c.in_ok-ready_to_open-in-Some.ensures.touches
 
 pub returns-in_err-ready_to_open-in-Some-clause-touches : goal.returns-in_err-ready_to_open-in-Some-clause-touches
 returns-in_err-ready_to_open-in-Some-clause-touches g c =
+    let o = open_op c.args.place.now.plan_node.now.op c.args.openings.now c.in-Some.opening (sym c.in-Some.ensures) in
     makes_more (paths_of c.args.setting.now) (makes_in (c.in-Some.opening ∷ [])) (makes_in c.args.openings.now)
     c.args.world.now.world
-    (makes_one c.args.openings.now c.in-Open.file c.in-Some.opening (sym c.in-Some.ensures)) _ _
+    (makes_one c.args.openings.now o.0 c.in-Some.opening o.4) _ _
     c.in_err-ready_to_open-in-Some.ensures.touches
 
 pub returns-in_ok-ready_to_open-in-Some-clause-leads : goal.returns-in_ok-ready_to_open-in-Some-clause-leads
 returns-in_ok-ready_to_open-in-Some-clause-leads g c sink node budget is =
+    let o = open_op c.args.place.now.plan_node.now.op c.args.openings.now c.in-Some.opening (sym c.in-Some.ensures) in
     rw c.lend_room.ensures.same
     (open_leads c.args.setting.now budget c.args.place.now c.args.step node sink _ _ _ _ _ c.requires.ready.distinct is
-    c.in-Open.file c.in-Open.fine c.in-Open.bad c.in-Some.opening c.args.openings.now c.in-Open.is c.requires.its
-    (sym c.in-Some.ensures) _ _ c.in_ok-ready_to_open-in-Some.ensures.readies _ c.do_part-next.ensures.does)
+    o.0 o.1 o.2 c.in-Some.opening c.args.openings.now o.3 c.requires.its
+    o.4 _ _ c.in_ok-ready_to_open-in-Some.ensures.readies _ c.do_part-next.ensures.does)
 
 pub returns-in_ok-ready_to_open-in-Some-clause-opens : goal.returns-in_ok-ready_to_open-in-Some-clause-opens
 returns-in_ok-ready_to_open-in-Some-clause-opens g c =
+    let o = open_op c.args.place.now.plan_node.now.op c.args.openings.now c.in-Some.opening (sym c.in-Some.ensures) in
     rw c.lend_room.ensures.same
     (opens_behind _ _ _ _ c.in_ok-ready_to_open-in-Some.ensures.opens
-    (open_part c.args.setting.now c.args.place.now c.args.step _ _ c.args.openings.now c.in-Open.file c.in-Open.fine
-    c.in-Open.bad c.in-Open.is (c.requires.place.its ∙ ap Some c.requires.its) _ c.do_part-next.ensures.does))
+    (open_part c.args.setting.now c.args.place.now c.args.step _ _ c.args.openings.now o.0 o.1
+    o.2 o.3 (c.requires.place.its ∙ ap Some c.requires.its) _ c.do_part-next.ensures.does))
 
 pub returns-in_ok-ready_to_open-in-Some-clause-placed : goal.returns-in_ok-ready_to_open-in-Some-clause-placed
 returns-in_ok-ready_to_open-in-Some-clause-placed g c =
+    let o = open_op c.args.place.now.plan_node.now.op c.args.openings.now c.in-Some.opening (sym c.in-Some.ensures) in
     let ready = c.in_ok-ready_to_open-in-Some.ensures.readies in
     rw (c.lend_room.ensures.ids, c.lend_room.ensures.same)
     (left_by _ (paths_of c.args.setting.now) (g.F.Files.state c.ready_to_open.new.files) _ _
     (open_places c.args.setting.now c.args.place.now c.args.step _ _ (plain_act c.args.place.now.statement.now.act.now)
-    c.requires.place.its _ c.do_part-next.ensures.does c.args.openings.now c.in-Open.file c.in-Open.fine c.in-Open.bad
-    c.requires.its c.in-Open.is c.in-Some.opening (sym c.in-Some.ensures) (paths_of c.args.setting.now)
+    c.requires.place.its _ c.do_part-next.ensures.does c.args.openings.now o.0 o.1 o.2
+    c.requires.its o.3 c.in-Some.opening o.4 (paths_of c.args.setting.now)
     (g.F.Files.state c.ready_to_open.new.files) _
     (open_one_placed c.args.setting.now.program.now.layout (paths_of c.args.setting.now)
     (g.F.Files.state c.args.files.now)
@@ -74,12 +72,26 @@ returns-in_err-ready_to_open-in-Some-clause-placed g c =
 
 pub returns-in_err-ready_to_open-in-Some-clause-met : goal.returns-in_err-ready_to_open-in-Some-clause-met
 returns-in_err-ready_to_open-in-Some-clause-met g c =
+    let o = open_op c.args.place.now.plan_node.now.op c.args.openings.now c.in-Some.opening (sym c.in-Some.ensures) in
     let p = err_from_is_err_and c.from_residual.result c.from_residual.ensures.1 in
     rw (p.1, p.2)
-    (open_met c.args.openings.now c.in-Open.file c.in-Some.opening _ (sym c.in-Some.ensures)
+    (open_met c.args.openings.now o.0 c.in-Some.opening _ o.4
     c.in_err-ready_to_open-in-Some.ensures.fault)
 
 pub returns-in_ok-ready_to_open-in-Some-clause-met : goal.returns-in_ok-ready_to_open-in-Some-clause-met
 returns-in_ok-ready_to_open-in-Some-clause-met g c =
     never_met _ _
     (part_fine c.args.setting.now c.args.place.now c.args.step _ _ _ c.do_part-next.ensures.does)
+
+pub unreachable-requires : goal.unreachable-requires
+unreachable-requires g c =
+    opens_there _ c.args.openings.now _ c.args.place.now.plan_node.now.op (sym c.in-None.ensures) c.requires.fits
+
+pub ready_to_open-requires-clause-within : goal.ready_to_open-requires-clause-within
+ready_to_open-requires-clause-within g c =
+    opens_within _ c.args.openings.now _ c.args.place.now.plan_node.now.op c.in-Some.opening (sym c.in-Some.ensures)
+    c.requires.fits
+
+pub returns-in_ok-ready_to_open-in-Some-clause-on : goal.returns-in_ok-ready_to_open-in-Some-clause-on
+returns-in_ok-ready_to_open-in-Some-clause-on g c =
+    part_on c.args.setting.now c.args.place.now c.args.step _ _ _ c.do_part-next.ensures.does
