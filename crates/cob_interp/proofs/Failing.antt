@@ -1,5 +1,5 @@
 -- Faults of the outside, by which a statement is refused.
-use Rattle.std.proofs.Common.{◌≡◌, ℕ, not, Bool, true, false, List, [], ◌∷◌, ◌⊎◌, inl, inr, Option, Some, None, Result, Ok, Err, refl, sym, ap, subst, ◌∙◌}
+use Rattle.std.proofs.Common.{◌≡◌, ℕ, not, Bool, true, false, List, Some, Result, Ok, Err, refl, sym, ap, subst, ◌∙◌}
 use Rattle.std.specs.Prelude.{slice_get, IfErr}
 use Rattle.std.proofs.lemmas.Bool.{false≢true}
 use Rattle.cob_data.specs.declared.layout.Layout.{Layout}
@@ -7,7 +7,7 @@ use Rattle.cob_plan.specs.declared.end.DoEnd.TheVariants as does
 use Rattle.cob_plan.specs.declared.end.DoEnd.{DoEnd}
 use Rattle.cob_program.specs.declared.act.Opening.{Opening}
 use Rattle.cob_program.specs.Act.{Act, move, arith, if_, evaluate, perform, go, nothing, stop, open_files, close_files, read, write, show}
-use Rattle.cob_runs.specs.State.{World}
+use Rattle.cob_runs.specs.State.{World, with_files}
 use Rattle.cob_interp.specs.declared.ends.Ended.{Ended}
 use Rattle.cob_interp.specs.declared.ends.RunEnd.{RunEnd}
 use Rattle.cob_interp.specs.declared.ends.RunEnd.TheVariants as end
@@ -64,6 +64,13 @@ never_met a (Err (end.Fault kind statement step)) h = tt
 
 pub never_still : {A : Type 0} (r : Result A RunEnd) (P : Type 0) → IfFailed r ⊥ → IfFailed r P
 never_still r P h = if_failed r ⊥ P (λ x. absurd x) h
+
+-- where files failed the text that waits stays, though another file's bytes went out before
+pub still_shown : {A : Type 0} (r : Result A RunEnd) (u v w : World) → IfFailed r (u ≡ v) → v ≡ with_files w v.files
+    → IfFailed r (u.shown ≡ w.shown)
+still_shown r u v w h is =
+    if_failed r (u ≡ v) (u.shown ≡ w.shown)
+    (λ same. ap (λ (x : World). x.shown) same ∙ ap (λ (x : World). x.shown) is) h
 
 -- ---- what a node does
 

@@ -233,9 +233,11 @@ module _ (p : Program) (g : Graph) (paths : List (List ℕ)) (budget : ℕ) wher
             (Err (by_sink why)) within at starts its touches
             (inr (
               sink_why start (outside old mid) (outside new now) stands.text why stands.well refuses.why,
-              refuses.front.0,
-              refuses.front.1
-                  ∙ ap (λ (t : List ℕ). append_known mid.told (take refuses.front.0 t)) (same_text waits fails),
+              (
+                refuses.front.0,
+                refuses.front.1
+                    ∙ ap (λ (t : List ℕ). append_known mid.told (take refuses.front.0 t)) (same_text waits fails),
+              ),
             ))
             (sink_meets start (outside old mid) (outside new now) stands.text why
             (IsMetBy {A = Ended} a (Err (by_sink why))) stands.well refuses.why)

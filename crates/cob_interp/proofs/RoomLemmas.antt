@@ -1,5 +1,5 @@
 -- Room for one more record of a file that is written.
-use Rattle.std.proofs.Common.{◌≡◌, ◌≤◌, ℕ, ◌+◌, Bool, true, false, not, Result, Ok, Err, [], inl, inr, Option, Some, None, length, refl, sym, ap, subst}
+use Rattle.std.proofs.Common.{◌≡◌, ◌≤◌, ℕ, ◌+◌, Bool, true, false, not, Result, Ok, Err, [], inl, inr, Option, Some, None, length, refl, sym, subst}
 use Rattle.std.specs.Prelude.{slice_get, IfOk}
 use Rattle.cob_data.specs.declared.layout.FileDecl.{FileDecl}
 use Rattle.cob_program.specs.Act.{Act}

@@ -1,5 +1,5 @@
 -- Ids that are open, from call to call.
-use Rattle.std.proofs.Common.{◌≡◌, ◌≢◌, ℕ, zero, suc, Bool, true, false, List, [], ◌∷◌, length, Option, Some, None, refl, sym, ap, subst, ◌∙◌, ◌⊎◌, inl, inr, ◌<◌, arith}
+use Rattle.std.proofs.Common.{◌≡◌, ◌≢◌, ℕ, zero, suc, Bool, List, [], ◌∷◌, length, Option, Some, None, refl, sym, ap, subst, ◌∙◌, ◌⊎◌, inl, inr, ◌<◌, arith}
 use Rattle.std.specs.Prelude.{slice_get, slice_set, IsSome, IfSome}
 use Rattle.std.proofs.lemmas.Bool.{cases_eq, false≢true}
 use Rattle.batch_io.specs.FilesState.{FilesState, Gives, KeepsIds, KeepsOthers, known_handle}

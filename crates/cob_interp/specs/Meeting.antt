@@ -1,5 +1,5 @@
 -- Which statements meet faults of the outside, and what becomes then of text that waits.
-use Rattle.std.specs.Prelude.{◌≡◌, ◌⊎◌, ℕ, not, Bool, true, false, List, Result, Ok, Err}
+use Rattle.std.specs.Prelude.{◌≡◌, ◌⊎◌, not, Bool, true, false, List, Result, Ok, Err}
 use Rattle.std.specs.List.{list_any}
 use Rattle.batch_io.specs.SinkState.{SinkState}
 use Rattle.cob_program.specs.declared.act.Opening.{Opening}

@@ -1,5 +1,6 @@
 use Rattle.std.proofs.Common.{[], ◌∷◌, sym, Some, ap, ◌∙◌}
 use Rattle.std.proofs.lemmas.Result.{err_from_is_err_and}
+use Rattle.cob_program.specs.Act.{open_files}
 use Rattle.cob_program.specs.ActView.{plain_act}
 use Rattle.cob_interp.specs.Setting.{paths_of}
 use Rattle.cob_interp.specs.Touching.{makes_in}
@@ -80,7 +81,7 @@ returns-in_err-ready_to_open-in-Some-clause-met g c =
 
 pub returns-in_ok-ready_to_open-in-Some-clause-met : goal.returns-in_ok-ready_to_open-in-Some-clause-met
 returns-in_ok-ready_to_open-in-Some-clause-met g c =
-    never_met _ _
+    never_met (open_files c.args.openings.now) _
     (part_fine c.args.setting.now c.args.place.now c.args.step _ _ _ c.do_part-next.ensures.does)
 
 pub unreachable-requires : goal.unreachable-requires

@@ -96,7 +96,7 @@ pub returns-in-Read-clause-still : goal.returns-in-Read-clause-still
 returns-in-Read-clause-still g c = λ _. c.go_read.ensures.still
 
 pub returns-in-Other-clause-met : goal.returns-in-Other-clause-met
-returns-in-Other-clause-met g c = never_met _ _ c.go.ensures.fine
+returns-in-Other-clause-met g c = never_met (plain_act c.args.place.now.statement.now.act.now) _ c.go.ensures.fine
 
 pub returns-in-Other-clause-still : goal.returns-in-Other-clause-still
 returns-in-Other-clause-still g c = λ _. never_still _ _ c.go.ensures.fine

@@ -1,4 +1,3 @@
-use Rattle.std.proofs.Common.{Ok, Err}
 use Rattle.cob_program.specs.ActView.{plain_act}
 use Rattle.cob_interp.specs.Setting.{paths_of}
 use Rattle.cob_interp.proofs.Finishing.{flush_refused, step_refused, step_taken, tells_rest}

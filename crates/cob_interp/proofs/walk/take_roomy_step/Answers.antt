@@ -8,9 +8,9 @@ use Rattle.cob_interp.proofs.Readied.{placed_ids}
 use Rattle.cob_interp.proofs.Touched.{none_touches}
 use Rattle.cob_interp.proofs.TrackLemmas.{placed_on, tracks_ids, tracks_pass}
 use Rattle.cob_interp.proofs.Written.{refused_own}
-use Rattle.std.proofs.Common.{ap, ◌∙◌}
+use Rattle.std.proofs.Common.{ap}
 use Rattle.cob_runs.specs.State.{World}
-use Rattle.cob_interp.proofs.Failing.{failed_any, if_failed}
+use Rattle.cob_interp.proofs.Failing.{failed_any, still_shown}
 use Rattle.cob_interp.proofs.walk.take_roomy_step.Goals as goal
 
 pub take_step-requires-clause-live : goal.take_step-requires-clause-live
@@ -71,6 +71,5 @@ returns-in_err-make_room-clause-still g c = λ _.
 
 pub returns-clause-still : goal.returns-clause-still
 returns-clause-still g c = λ waits.
-    if_failed _ _ _
-    (λ same. ap (λ (w : World). w.shown) same ∙ ap (λ (w : World). w.shown) c.in_ok-make_room.ensures.sees.world)
-    (c.take_step.ensures.still waits)
+    still_shown c.take_step.result c.take_step.new.world.world c.make_room.new.world.world c.args.world.now.world
+    (c.take_step.ensures.still waits) c.in_ok-make_room.ensures.sees.world
