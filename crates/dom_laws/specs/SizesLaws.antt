@@ -49,11 +49,14 @@ sizes_ordered = record {
   join_left = λ a b e f. omega (arith, ints, clamps);
   join_right = λ a b e f. omega (arith, ints, clamps);
   join_least = λ a b c e f g h k. omega (arith, ints, clamps);
-  widen_element = λ a b e f. let low = widened_low (word a) (word b) e.formed.1 in element _ (omega (arith, ints)) (widened_within (word a) (word b) e.formed.1);
+  widen_element = λ a b e f.
+      let low = widened_low (word a) (word b) e.formed.1 in
+      element _ (omega (arith, ints)) (widened_within (word a) (word b) e.formed.1);
   widen_left = λ a b e f. widened_low (word a) (word b) e.formed.1;
   widen_right = λ a b e f. widened_up (word a) (word b) f.formed.1;
   widen_keeps = λ a b e f h. rw (widened_keeps (word a) (word b) h) (sym (only_word a e.width));
-  widen_falls = λ a b e f h. falls (word a) (word b) (widened (word a) (word b)) f.formed.1 h (widened_grows (word a) (word b) h);
+  widen_falls = λ a b e f h.
+      falls (word a) (word b) (widened (word a) (word b)) f.formed.1 h (widened_grows (word a) (word b) h);
   rank_within = λ a e. omega (arith, ints);
 }
 
@@ -70,10 +73,14 @@ two_nodes_flow = record {
 
 pub bytes_count_means : IsMeaning sizes two_nodes bytes_count
 bytes_count_means = record {
-  stands_above = λ a b s e f h stands small. let stood : pos (length s.bytes) ≤ℤ word a = stands (omega (arith, ints)) in omega (arith, ints);
+  stands_above = λ a b s e f h stands small.
+      let stood : pos (length s.bytes) ≤ℤ word a = stands (omega (arith, ints)) in omega (arith, ints);
   begins = λ s begins granted small. rw begins (omega (arith, ints));
-  kept = λ edge row s t is e granted stands acts small. let stood : pos (length s.bytes) ≤ℤ word row = stands (omega (arith, ints, clamps)) in omega (arith, ints, clamps);
-  cleared = λ node row kind s is e clears granted stands meets. let stood : pos (length s.bytes) ≤ℤ word row = stands clears in omega (arith, ints);
+  kept = λ edge row s t is e granted stands acts small.
+      let stood : pos (length s.bytes) ≤ℤ word row = stands (omega (arith, ints, clamps)) in
+      omega (arith, ints, clamps);
+  cleared = λ node row kind s is e clears granted stands meets.
+      let stood : pos (length s.bytes) ≤ℤ word row = stands clears in omega (arith, ints);
   clears_below = λ node a b kind is e f h clears. omega (arith, ints);
 }
 
