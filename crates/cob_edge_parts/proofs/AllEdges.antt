@@ -11,7 +11,8 @@ use Rattle.cob_runs.specs.declared.action.Action.TheVariants as action
 use Rattle.cob_runs.specs.Files.{Choice}
 use Rattle.cob_runs.specs.State.{World}
 use Rattle.cob_runs.specs.Effects.{Effect, taken, not_taken, tested, counted, effect_of, effect, act_at}
-use Rattle.cob_edge_parts.specs.Parts.{Part, has_phrase, is_handled, is_times, reads_count, assign_parts, compute_parts, condition_parts, count_parts, call_parts, read_parts, bad_parts, parts_of}
+use Rattle.cob_edge_parts.specs.Parts.{Part, has_phrase, is_handled, reads_count, assign_parts, compute_parts, condition_parts, count_parts, call_parts, read_parts, bad_parts, parts_of}
+use Rattle.cob_runs.specs.Effects.{is_times}
 use Rattle.cob_edge_parts.specs.Meaning.{beginning, count_in, Meets}
 use Rattle.cob_edge_parts.specs.Edges.{StandFor, fault_edge, PartsArePassed, PartsArePassedBeside, FaultsAreMet}
 use Rattle.cob_edge_parts.proofs.Moving.{some_of}

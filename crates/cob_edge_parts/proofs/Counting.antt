@@ -177,28 +177,28 @@ module _ (Stand : Standing) (l : Layout) (counts : List (Option ℤ)) (w : World
     refl,
   )
 
-  left_is : (p : Program) (c : Choice) (n : ℤ) → is_positive n ≡ is_left p c (Some n)
-  left_is p c (pos zero) = refl
-  left_is p c (pos (suc n)) = refl
-  left_is p c (negsuc n) = refl
+  left_is : (n : ℤ) → is_positive n ≡ is_left (Some n)
+  left_is (pos zero) = refl
+  left_is (pos (suc n)) = refl
+  left_is (negsuc n) = refl
 
   positive_is : (p : Program) (c : Choice) (statement : ℕ) (h : StandsAt statement) →
-      is_positive h.0 ≡ is_left p c (count_in w.counts statement)
+      is_positive h.0 ≡ is_left (count_in w.counts statement)
   positive_is p c statement h = by_cases h.2
     where
       by_cases : (count_in w.counts statement ≡ Some h.0) ⊎ ((count_in w.counts statement ≡ None) ×
           (is_positive h.0 ≡ false)
           × Stand w.counts (slice_set counts (statement - 1) (Some (h.0 -ℤ pos 1)))) →
-          is_positive h.0 ≡ is_left p c (count_in w.counts statement)
-      by_cases (inl f) = left_is p c h.0 ∙ ap (is_left p c) (sym f)
-      by_cases (inr f) = f.1 ∙ ap (is_left p c) (sym f.0)
+          is_positive h.0 ≡ is_left (count_in w.counts statement)
+      by_cases (inl f) = left_is h.0 ∙ ap is_left (sym f)
+      by_cases (inr f) = f.1 ∙ ap is_left (sym f.0)
 
   pub left_edge : (p : Program) (c : Choice) (statement : ℕ) (wanted : Bool) → Stand w.counts counts →
       StandsAt statement →
       CountsSo Stand l counts false (part.read_count statement ∷ part.guard_count statement wanted ∷ []) w
-      (taken_if (if wanted then is_left p c (count_of l statement w) else not (is_left p c (count_of l statement w))) w)
+      (taken_if (if wanted then is_left (count_of statement w) else not (is_left (count_of statement w))) w)
   left_edge p c statement wanted s h =
-      counted_by statement h.0 wanted (is_left p c (count_in w.counts statement)) s h.1 (positive_is p c statement h)
+      counted_by statement h.0 wanted (is_left (count_in w.counts statement)) s h.1 (positive_is p c statement h)
 
 -- ---- counters that stand for counts
 

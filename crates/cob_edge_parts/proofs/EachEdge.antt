@@ -19,7 +19,8 @@ use Rattle.cob_runs.specs.State.{World, with_storage}
 use Rattle.cob_runs.specs.Acts.{compute, into_if, file_from, move_if}
 use Rattle.cob_runs.specs.Steps.{is_given}
 use Rattle.cob_runs.specs.Effects.{Effect, taken, taken_if, met, assigned, computed, decided, tested, opened, closed, wrote, file_call, called_bad, read_with, shown, tests_in_act}
-use Rattle.cob_edge_parts.specs.Parts.{Part, has_phrase, is_times, file_call_parts, from_parts, arith_parts, test_parts, assign_parts, compute_parts, condition_parts, call_parts, read_parts, bad_parts}
+use Rattle.cob_edge_parts.specs.Parts.{Part, has_phrase, file_call_parts, from_parts, arith_parts, test_parts, assign_parts, compute_parts, condition_parts, call_parts, read_parts, bad_parts}
+use Rattle.cob_runs.specs.Effects.{is_times}
 use Rattle.cob_edge_parts.specs.Meaning.{beginning, Meets}
 use Rattle.cob_edge_parts.proofs.Arithmetic.{ArithSo, arith_does, arith_same, arith_unfailed, bind_ok}
 use Rattle.cob_edge_parts.proofs.Filing.{EdgeSo, if_taken, opened_does, closed_does, taken_does, into_does, wrote_does}

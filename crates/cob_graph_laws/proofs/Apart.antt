@@ -89,7 +89,7 @@ module _ (p : Program) (number : ℕ) (c : Choice) (w : World) where
   of_test (Some t) = of_answer (test_holds p.layout w.storage t) w
 
   of_tested : (k : ℕ) (a : Act) → Exclusive (tested p number c w true k a) (tested p number c w false k a)
-  of_tested k (perform body (times x)) = one_of_two (is_left p c (count_of p.layout number w)) w
+  of_tested k (perform body (times x)) = one_of_two (is_left (count_of number w)) w
   of_tested k a = of_test (slice_get (tests_in_act a) k)
 
   of_computed : (a : Act) → Exclusive (computed p number c w false a) (computed p number c w true a)

@@ -204,7 +204,7 @@ module _ (s : Setting) where
         }
 
   pub ready_steps : (d : Doing) (ds : List Doing) (hs : List (Here s)) (n : ℕ) → Stands s (d ∷ ds) hs n →
-      IsReady (d ∷ ds) → StepsAt (number_of s.p None d) n
+      IsReady (d ∷ ds) → StepsAt (number_of d) n
   ready_steps d ds [] n st r = absurd st
   ready_steps (rest no_stmts) ds (h ∷ hs) n st r = absurd r
   ready_steps (rest (more_stmts (MkStmt number line a) ss)) ds (h ∷ hs) n st r =

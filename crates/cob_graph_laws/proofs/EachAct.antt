@@ -124,7 +124,7 @@ module _ (s : Setting) where
 
   pub front_leads : (d : Doing) (ds : List Doing) (hs : List (Here s)) (k n : ℕ) (w : World) → Stands s (d ∷ ds) hs n →
       IsReady (d ∷ ds) → Way s k n w →
-      Leads s k (number_of s.p (choice s k) d) w (front_done s.p (choice s k) d w ds)
+      Leads s k (number_of d) w (front_done s.p (choice s k) d w ds)
   front_leads d ds [] k n w st r way = absurd st
   front_leads (rest no_stmts) ds (h ∷ hs) k n w st r way = absurd r
   front_leads (rest (more_stmts (MkStmt number line a) ss)) ds (h ∷ hs) k n w st r way =

@@ -124,7 +124,7 @@ module _ (contents : Contents) (place : ℕ) (there : Bool) where
 
     tested_kept : (wanted : Bool) (i : ℕ) (a : Act) → KeptBy (tested p number c w wanted i a)
     tested_kept wanted i (perform body (times x)) =
-        let left = is_left p c (count_of p.layout number w) in if_taken (if wanted then left else not left) w kept
+        let left = is_left (count_of number w) in if_taken (if wanted then left else not left) w kept
     tested_kept wanted i a = decided_kept wanted (slice_get (tests_in_act a) i)
 
     counted_kept : (a : Act) → KeptBy (counted p number c w a)
@@ -225,7 +225,7 @@ module _ (contents : Contents) (place : ℕ) (there : Bool) where
     act_kept (action.True i) a is = tested_kept true i a
     act_kept (action.False i) a is = tested_kept false i a
     act_kept action.SetCount a is = counted_kept a
-    act_kept action.Down a is = counted_down (count_of p.layout number w)
+    act_kept action.Down a is = counted_down (count_of number w)
     act_kept (action.Open i) a is = file_call_kept true i a is
     act_kept (action.Close i) a is = file_call_kept true i a is
     act_kept action.Take a is = read_with_kept 0 a

@@ -175,10 +175,10 @@ module _ (s : Setting) (h : Here s) (hs : List (Here s)) (ds : List Doing) (numb
   test_leads body (times v) x at next y t way st =
       turn_on (first_of_body x (at + 2) (augment_at (times v) at x)) next
       (turn s.p (choice s k) number body (times v) ds)
-      (Ok (is_left s.p (choice s k) (count_of s.p.layout number w)))
+      (Ok (is_left (count_of number w)))
       (two_ways s h.c number k w true (at + 1) 0 (first_of_body x (at + 2) (augment_at (times v) at x)) next
       (perform body (times v))
-      (Ok (is_left s.p (choice s k) (count_of s.p.layout number w))) way
+      (Ok (is_left (count_of number w))) way
       (before s h number body (times v) x at next y).1.0 y.its (λ wanted. refl) _ refl)
       (body_there s h number body (times v) x at next y hs _
       (augment_there s h number body (times v) x at next y hs ds tt tt st))

@@ -259,8 +259,8 @@ module _ (p : Program) (number : ℕ) (told : Contents) (paths : List (List ℕ)
       (tested p number None w wanted k (perform body turns)) (tested p number None as_seen wanted k
       (perform body turns))
   tested_turns wanted k body (times x) =
-      taken_follows told paths text (if wanted then is_left p None (count_of p.layout number w) else not
-      (is_left p None (count_of p.layout number w)))
+      taken_follows told paths text (if wanted then is_left (count_of number w) else not
+      (is_left (count_of number w)))
       w as_seen refl s
   tested_turns wanted k body once = decided_by wanted (slice_get (tests_in_act (perform body once)) k)
   tested_turns wanted k body (until after t) = decided_by wanted
@@ -428,7 +428,7 @@ module _ (p : Program) (number : ℕ) (told : Contents) (paths : List (List ℕ)
   plain_follows (action.True k) b plain = tested_follows true k b
   plain_follows (action.False k) b plain = tested_follows false k b
   plain_follows action.SetCount b plain = counted_follows b
-  plain_follows action.Down b plain = down_by (count_of p.layout number w)
+  plain_follows action.Down b plain = down_by (count_of number w)
   plain_follows (action.Open k) b plain = call_follows true k b (no_call (action.Open k) b plain)
   plain_follows (action.Close k) b plain = call_follows true k b (no_call (action.Close k) b plain)
   plain_follows action.Take b plain = read_with_follows 0 b plain

@@ -189,8 +189,8 @@ module _ (p : Program) (number : ℕ) (w : World) where
   tested_turns : (wanted : Bool) (k : ℕ) (body : Body) (turns : Turns)
       → Keeps w (tested p number None w wanted k (perform body turns))
   tested_turns wanted k body (times x) =
-      kept_if w (if wanted then is_left p None (count_of p.layout number w) else not
-      (is_left p None (count_of p.layout number w))) w (stays w w refl)
+      kept_if w (if wanted then is_left (count_of number w) else not
+      (is_left (count_of number w))) w (stays w w refl)
   tested_turns wanted k body once = decided_by wanted (slice_get (tests_in_act (perform body once)) k)
   tested_turns wanted k body (until after t) = decided_by wanted (slice_get (tests_in_act (perform body (until after t))) k)
   tested_turns wanted k body (varying after item start by t) = decided_by wanted (slice_get (tests_in_act (perform body (varying after item start by t))) k)
@@ -363,7 +363,7 @@ module _ (p : Program) (number : ℕ) (w : World) where
   plain_keeps (action.True k) b plain = tested_keeps true k b
   plain_keeps (action.False k) b plain = tested_keeps false k b
   plain_keeps action.SetCount b plain = counted_keeps b
-  plain_keeps action.Down b plain = down_by (count_of p.layout number w)
+  plain_keeps action.Down b plain = down_by (count_of number w)
   plain_keeps (action.Open k) b plain = call_keeps true k (action.Open k) b plain
   plain_keeps (action.Close k) b plain = call_keeps true k (action.Close k) b plain
   plain_keeps action.Take b plain = take_keeps 0 b plain

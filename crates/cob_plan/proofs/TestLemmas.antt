@@ -10,7 +10,7 @@ use Rattle.cob_program.specs.Act.{times, Act, perform, Program}
 use Rattle.cob_runs.specs.State.{World}
 use Rattle.cob_runs.specs.Effects.{tests_in_act, decided, tested}
 use Rattle.cob_plan.specs.Listing.{plain_tests}
-use Rattle.cob_plan.specs.Doing.{is_times}
+use Rattle.cob_runs.specs.Effects.{is_times}
 
 pub found_test : (r : Option (Bor declared_test.Test)) (x : Bor declared_test.Test) (tests : List (Bor declared_test.Test))
     (all : List Test) (place : ℕ) → option_map plain_test (option_copied r) ≡ slice_get (plain_tests tests) place →

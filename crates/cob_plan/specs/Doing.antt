@@ -78,11 +78,6 @@ Calls P (Ok c) = P c
 Calls P (Err end.Memory) = Unit {0}
 Calls P (Err _) = ⊥
 
--- The statement is a loop with TIMES.
-abbrev pub is_times : Act → Bool
-is_times (perform body (times x)) = true
-is_times _ = false
-
 module _ (p : Program) (number k : ℕ) (old new : World) (a : Act) where
   -- OPEN, CLOSE or WRITE of the k-th file of a statement: its status, and whether the file has FILE STATUS
   pub record IsCall (c : Called) : Type 0 where

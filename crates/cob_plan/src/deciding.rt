@@ -10,7 +10,8 @@ ghost use Rattle.cob_runs.specs.Effects.{decided, tested, tests_in_act};
 ghost use Rattle.cob_calc.specs.Comparing.{CanTest};
 ghost use Rattle.cob_plan.specs.Listing.{plain_tests};
 ghost use Rattle.cob_plan.specs.Plan.{IsStatement};
-ghost use Rattle.cob_plan.specs.Doing.{Forks, is_times};
+ghost use Rattle.cob_plan.specs.Doing.{Forks};
+ghost use Rattle.cob_runs.specs.Effects.{is_times};
 
 use crate::end::DoEnd;
 use crate::statement::Statement;
@@ -57,8 +58,7 @@ fn decide_at(statement: &Statement, place: u32, world: &World) -> Result<bool, D
 
 // Whether turns are left.
 fn is_left(number: u32, world: &World) -> bool
-    ensures { result ≡ is_left (plain_program world.now.program) None
-        (count_of world.now.program.layout number world.now.world) }
+    ensures { result ≡ is_left (count_of number world.now.world) }
 {
     match world.count_of(number) {
         None => false,

@@ -57,6 +57,11 @@ found_among n (x ∷ xs) = or_else (found n x.body) (found_among n xs)
 abbrev pub act_at : Program → ℕ → Option Act
 act_at p n = found_among n p.paras
 
+-- a loop with TIMES
+abbrev pub is_times : Act → Bool
+is_times (perform body (times x)) = true
+is_times _ = false
+
 -- ---- the simple conditions of a statement, in the order of its nodes
 
 abbrev mutual
@@ -128,7 +133,7 @@ module _ (p : Program) (number : ℕ) (c : Choice) (w : World) where
   -- the test of TIMES, or a simple condition
   abbrev pub tested : Bool → ℕ → Act → Effect
   tested wanted k (perform body (times x)) =
-      taken_if (if wanted then is_left p c (count_of p.layout number w) else not (is_left p c (count_of p.layout number w))) w
+      taken_if (if wanted then is_left (count_of number w) else not (is_left (count_of number w))) w
   tested wanted k a = decided wanted (slice_get (tests_in_act a) k)
 
   abbrev pub counted : Act → Effect

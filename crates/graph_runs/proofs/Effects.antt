@@ -59,7 +59,7 @@ module _ (p : Program) (number : ℕ) (c : Choice) (w v : World) where
   tested_counts : (wanted : Bool) (k : ℕ) (a : Act) → tested p number c w wanted k a ≡ Ok (Some v) →
       v.counts ≡ w.counts
   tested_counts wanted k (perform body (times x)) e =
-      let left = is_left p c (count_in w.counts number) in
+      let left = is_left (count_in w.counts number) in
       sym (ap (λ (u : World). u.counts) (is_taken (if wanted then left else not left) w v e).1)
   tested_counts wanted k a e = decided_counts wanted (slice_get (tests_in_act a) k) e
 
@@ -135,7 +135,7 @@ module _ (p : Program) (number : ℕ) (c : Choice) (w v : World) where
 
   -- ---- the test of TIMES
 
-  left_is : (o : Option ℤ) → is_left p c o ≡ true → (n : ℕ) × (o ≡ Some (pos (suc n)))
+  left_is : (o : Option ℤ) → is_left o ≡ true → (n : ℕ) × (o ≡ Some (pos (suc n)))
   left_is (Some (pos (suc n))) e = (n, refl)
   left_is (Some (pos zero)) e = absurd (false≢true e)
   left_is (Some (negsuc n)) e = absurd (false≢true e)
@@ -144,7 +144,7 @@ module _ (p : Program) (number : ℕ) (c : Choice) (w v : World) where
   pub test_held : (k : ℕ) (body : Body) (x : Sender) → act_at p number ≡ Some (perform body (times x)) →
       effect p number c w (action.True k) ≡ Ok (Some v) → IsPositiveIn v.counts number
   test_held k body x is e =
-      let does : taken_if (is_left p c (count_in w.counts number)) w ≡ Ok (Some v) =
+      let does : taken_if (is_left (count_in w.counts number)) w ≡ Ok (Some v) =
       ap (λ (o : Option Act). option_map_or (effect_of p number c w (action.True k)) o not_taken) (sym is) ∙ e in
-      let t = is_taken (is_left p c (count_in w.counts number)) w v does in
+      let t = is_taken (is_left (count_in w.counts number)) w v does in
       subst (λ (u : World). IsPositiveIn u.counts number) t.1 (left_is (count_in w.counts number) t.0)

@@ -92,7 +92,7 @@ mapped : {A B : Type 0} (f : A → B) (o : Option A) (b : B) → option_map f o 
 mapped f None b e = absurd (cc)
 mapped f (Some a) b e = (a, refl, same_Some (f a) b e)
 
-form_short : (l : Layout) (f : Form) (bytes : ℕ) (bs : List ℕ) (v : Scaled) → is_number_form l [] f ≡ true →
+form_short : (l : Layout) (f : Form) (bytes : ℕ) (bs : List ℕ) (v : Scaled) → is_number_form f ≡ true →
     IsWellFormedForm f bytes → length bs ≤ bytes → number_in f bs ≡ Some v → unsigned_abs v.units < 10 ^ 18
 form_short l (form.Number digits scale signed usage) bytes bs v is whole few e =
     let h = mapped (scaled_by scale) (number_value digits signed usage bs) v e in
@@ -108,7 +108,7 @@ found_at P (y ∷ ys) zero x all e = subst P (same_Some y x e) (All-head P y ys 
 found_at P (y ∷ ys) (suc i) x all e = found_at P ys i x (All-tail P y ys all) e
 
 module _ (l : Layout) (whole : HasWellFormedItems l) (storage : List ℕ) where
-  item_short : (place : ℕ) (v : Scaled) (o : Option Item) → item_at l place ≡ o → is_number_form l []
+  item_short : (place : ℕ) (v : Scaled) (o : Option Item) → item_at l place ≡ o → is_number_form
       (option_map_or (λ (i : Item). i.form) o form.Group) ≡ true →
       number_in (option_map_or (λ (i : Item). i.form) o form.Group)
       (option_map_or (λ (i : Item). area storage i.offset i.length) o []) ≡ Some v → unsigned_abs v.units < 10 ^ 18

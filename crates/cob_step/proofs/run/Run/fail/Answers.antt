@@ -9,4 +9,4 @@ returns-clause-done c = λ p ch.
     let w = c.args.self.now.world.world in
     ap (λ ds. state w ds (Fault c.args.kind c.number-statement.result)) c.in_ok-push.ensures
     ∙ ap (λ n. state w (plain_doing c.args.front ∷ plain_control c.args.self.now.control) (Fault c.args.kind n))
-    (c.number-statement.ensures p ch)
+    c.number-statement.ensures
