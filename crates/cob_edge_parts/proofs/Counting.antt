@@ -16,7 +16,7 @@ use Rattle.cob_runs.specs.State.{World}
 use Rattle.cob_runs.specs.Acts.{count_of, set_count, count_down}
 use Rattle.cob_runs.specs.Acts as act
 use Rattle.cob_runs.specs.Steps.{is_left}
-use Rattle.cob_runs.specs.Effects.{Effect, taken, taken_if, met}
+use Rattle.cob_runs.specs.Effects.{Effect, edge_taken, taken_if, met}
 use Rattle.cob_edge_parts.specs.Parts as part
 use Rattle.cob_edge_parts.specs.Parts.{Part, number_reads}
 use Rattle.cob_edge_parts.specs.Meaning.{Moment, beginning, count_in, is_positive, PassesAll, Meets}
@@ -95,7 +95,7 @@ module _ (Stand : Standing) (l : Layout) (counts : List (Option ℤ)) (w : World
 
   down_on : (statement : ℕ) (n : ℤ) (v : World) → count_in counts statement ≡ Some n → v.storage ≡ w.storage →
       Stand v.counts (slice_set counts (statement - 1) (Some (n -ℤ pos 1))) →
-      CountsSo Stand l counts false (part.read_count statement ∷ part.count_down statement ∷ []) w (taken v)
+      CountsSo Stand l counts false (part.read_count statement ∷ part.count_down statement ∷ []) w (edge_taken v)
   down_on statement n v e f s =
       (last, (at (whole_number n), (n, e, refl), (last, refl, refl)), sym f, s, refl)
     where
@@ -107,7 +107,7 @@ module _ (Stand : Standing) (l : Layout) (counts : List (Option ℤ)) (w : World
       ((n : ℤ) → Stand (slice_set w.counts (statement - 1) (Some n)) (slice_set counts (statement - 1) (Some n))) →
       (h : StandsAt statement) → (o : Option ℤ) → count_in w.counts statement ≡ o →
       CountsSo Stand l counts false (part.read_count statement ∷ part.count_down statement ∷ []) w
-      (taken (option_map_or (λ n. act.with_count l statement (n -ℤ pos 1) w) o w))
+      (edge_taken (option_map_or (λ n. act.with_count l statement (n -ℤ pos 1) w) o w))
   down_by statement s h (Some v) e = down_on statement h.0 (act.with_count l statement (v -ℤ pos 1) w) h.1 refl
       (same h.2)
     where
@@ -134,7 +134,7 @@ module _ (Stand : Standing) (l : Layout) (counts : List (Option ℤ)) (w : World
   pub down_edge : (statement : ℕ) →
       ((n : ℤ) → Stand (slice_set w.counts (statement - 1) (Some n)) (slice_set counts (statement - 1) (Some n))) →
       StandsAt statement →
-      CountsSo Stand l counts false (part.read_count statement ∷ part.count_down statement ∷ []) w (taken
+      CountsSo Stand l counts false (part.read_count statement ∷ part.count_down statement ∷ []) w (edge_taken
       (count_down l statement w))
   down_edge statement s h = down_by statement s h (count_in w.counts statement) refl
 

@@ -25,7 +25,7 @@ use Rattle.cob_runs.specs.State.{World, with_storage}
 use Rattle.cob_runs.specs.Acts as acts
 use Rattle.cob_runs.specs.Acts.{is_fine, decl_at, with_file, file_act, open_one, close_one, take_on, take_one, into_if, undefined_if, write_on, write_one, file_from, move_if, count_of, set_count, augment, with_count}
 use Rattle.cob_runs.specs.Steps.{is_given, is_left}
-use Rattle.cob_runs.specs.Effects.{act_at, tests_in_act, Effect, taken_if, not_taken, met, assigned, computed, decided, tested, counted, file_call, called_bad, read_with, shown, effect_of, effect}
+use Rattle.cob_runs.specs.Effects.{act_at, tests_in_act, Effect, taken_if, not_taken, met, edge_assigned, edge_computed, edge_decided, edge_tested, edge_counted, file_call, called_bad, read_with, edge_shown, effect_of, effect}
 use Rattle.cob_runs.specs.Effects as effects
 use Rattle.cob_runs.specs.Runs.{Contents}
 use Rattle.cob_graph_laws.specs.Kept.{NeverMakes, IsKept}
@@ -88,7 +88,7 @@ module _ (contents : Contents) (place : ℕ) (there : Bool) where
     from_kept None r = kept
     from_kept (Some x) r = moved x (r ∷ [])
 
-    assigned_kept : (a : Act) → KeptBy (assigned p number c w a)
+    assigned_kept : (a : Act) → KeptBy (edge_assigned p number c w a)
     assigned_kept (move x places) = moved x places
     assigned_kept (perform body (varying after item start by t)) = moved start (item ∷ [])
     assigned_kept (read f into end fine) = into_kept f into
@@ -104,7 +104,7 @@ module _ (contents : Contents) (place : ℕ) (there : Bool) where
         if_taken (if failed then r.failed else not r.failed) (with_storage w r.storage) kept
     received_kept failed (Err kind) = tt
 
-    computed_kept : (failed : Bool) (a : Act) → KeptBy (computed p number c w failed a)
+    computed_kept : (failed : Bool) (a : Act) → KeptBy (edge_computed p number c w failed a)
     computed_kept true (arith_ s targets remainder size fine) =
         received_kept true (after_arithmetic p.layout (is_given size) w.storage s targets remainder)
     computed_kept false (arith_ s targets remainder size fine) =
@@ -118,16 +118,16 @@ module _ (contents : Contents) (place : ℕ) (there : Bool) where
     answered wanted (Ok b) = if_taken (if wanted then b else not b) w kept
     answered wanted (Err kind) = tt
 
-    decided_kept : (wanted : Bool) (t : Option Test) → KeptBy (decided p number c w wanted t)
+    decided_kept : (wanted : Bool) (t : Option Test) → KeptBy (edge_decided p number c w wanted t)
     decided_kept wanted None = tt
     decided_kept wanted (Some t) = answered wanted (test_holds p.layout w.storage t)
 
-    tested_kept : (wanted : Bool) (i : ℕ) (a : Act) → KeptBy (tested p number c w wanted i a)
+    tested_kept : (wanted : Bool) (i : ℕ) (a : Act) → KeptBy (edge_tested p number c w wanted i a)
     tested_kept wanted i (perform body (times x)) =
         let left = is_left (count_of number w) in if_taken (if wanted then left else not left) w kept
     tested_kept wanted i a = decided_kept wanted (slice_get (tests_in_act a) i)
 
-    counted_kept : (a : Act) → KeptBy (counted p number c w a)
+    counted_kept : (a : Act) → KeptBy (edge_counted p number c w a)
     counted_kept (perform body (times x)) = count_set x
     counted_kept a = tt
 
@@ -211,7 +211,7 @@ module _ (contents : Contents) (place : ℕ) (there : Bool) where
         let x = take_one p.layout c f w in if_taken (x.1 == status) x.0 (take_one_kept f)
     read_with_kept status a = tt
 
-    shown_kept : (a : Act) → KeptBy (shown p number c w a)
+    shown_kept : (a : Act) → KeptBy (edge_shown p number c w a)
     shown_kept (show xs) = kept
     shown_kept a = tt
 

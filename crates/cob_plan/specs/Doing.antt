@@ -1,7 +1,7 @@
 -- What doing a node's part of its statement comes to.
 use Rattle.std.specs.Prelude.{◌≡◌, ℕ, ◌==◌, ◌&&◌, not, Bool, true, false, Contains, Option, Some, None, Result, Ok, Err}
 use Rattle.cob_tree.specs.declared.fault.Kind.{Kind}
-use Rattle.cob_program.specs.Act.{times, Act, perform, Program}
+use Rattle.cob_program.specs.Act.{Act, Program}
 use Rattle.cob_runs.specs.declared.action.Action.{Action}
 use Rattle.cob_runs.specs.Acts.{is_fine}
 use Rattle.cob_runs.specs.Faults.{◌>>=◌}
