@@ -1,7 +1,7 @@
 pub mod Contents
-pub mod Working
-pub mod Exact
-pub mod Receiving
+mod Working
+mod Exact
+mod Receiving
 pub mod Arithmetic
 pub mod Comparing
-pub mod Operand
+mod Operand
