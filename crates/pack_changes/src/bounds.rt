@@ -9,8 +9,7 @@ ghost use Rattle.pack_changes.specs.Ends.{IsNumber};
 ghost use Rattle.pack_changes.specs.Forms.{IsFormOf};
 ghost use Rattle.pack_changes.specs.Receiving.{upper_if, upper_negated_if, is_apart};
 
-use form_bounds::upper;
-use form_images::negated;
+use form_bounds::{negated, upper};
 use linear_form::Lin;
 use result_ranges::AmountRange;
 use store_error::Known;

@@ -5,7 +5,7 @@ ghost use Rattle.diff_steps.specs.Matrices.{forgotten as forgotten_matrix, assig
 ghost use Rattle.diff_steps.specs.Stores.{assigned_or_forgotten};
 ghost use Rattle.pack_changes.specs.Forms.{IsFormOf};
 
-use form_images::{assign, demand, forget};
+use form_bounds::{assign, demand, forget};
 use linear_form::Lin;
 
 // leaves nothing that the matrix says of a cell
