@@ -9,7 +9,7 @@ use Rattle.cell_rows.specs.Known.{Known}
 use Rattle.cell_steps.specs.Homes.{of_item}
 use Rattle.cell_steps.specs.Stores.{range_at}
 use Rattle.diff_steps.specs.Packs.{Pack, cell_of, pack_decimals}
-use Rattle.pack_changes.specs.Receiving.{is_apart}
+use Rattle.pack_forms.specs.Receiving.{is_apart}
 use Rattle.pack_forms.specs.declared.cells.PackCell.{PackCell}
 use Rattle.pack_forms.specs.Cells.{plain_cell, plain_cells}
 use Rattle.pack_walk.specs.Clears.{divisor_apart}

@@ -15,9 +15,9 @@ use Rattle.cell_steps.specs.Storages.{known_of}
 use Rattle.cell_laws.proofs.CellLists.{known_fits}
 use Rattle.cell_walk.proofs.Stepping.{held_at}
 use Rattle.diff_steps.specs.Packs.{Pack, decimals_of, pack_decimals, unit_of}
-use Rattle.pack_changes.specs.declared.closings.KnownCell.{KnownCell}
-use Rattle.pack_changes.specs.Cells.{cell, known_cells, AreEnds, HasEnds, HaveEnds}
-use Rattle.pack_changes.specs.Ends.{IsNumber}
+use Rattle.pack_forms.specs.declared.closings.KnownCell.{KnownCell}
+use Rattle.pack_forms.specs.KnownCells.{cell, known_cells, AreEnds, HasEnds, HaveEnds}
+use Rattle.pack_forms.specs.Ends.{IsNumber}
 use Rattle.pack_walk.specs.Plans.{IsShortHome}
 
 -- what a row says of a cell, in a unit of so many decimals

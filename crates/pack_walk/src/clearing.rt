@@ -45,8 +45,7 @@ use cob_runs::{Action, Cell};
 use cob_tree::Kind;
 use dec_num::Mode;
 use decimal_interval::Interval;
-use pack_changes::is_apart;
-use pack_forms::{divisor_form, has_operands};
+use pack_forms::{divisor_form, has_operands, is_apart};
 use result_ranges::{AmountRange, Receiver, Taken, lowered};
 use sum_ranges::Ranged;
 

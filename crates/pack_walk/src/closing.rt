@@ -12,7 +12,7 @@ ghost use Rattle.diff_steps.specs.Matrices.{put_closed};
 ghost use Rattle.diff_steps.specs.Packs as packs;
 ghost use Rattle.diff_steps.specs.Packs.{size_of};
 ghost use Rattle.diff_steps.specs.Steps.{all_closed};
-ghost use Rattle.pack_changes.specs.Cells.{cell, known_cells};
+ghost use Rattle.pack_forms.specs.KnownCells.{cell, known_cells};
 ghost use Rattle.pack_forms.specs.Cells.{plain_cell};
 ghost use Rattle.pack_walk.specs.Closed.{IsClosedBy, IsClosedRow};
 ghost use Rattle.pack_walk.specs.Plans.{plain_plan, plain_plans, IsPlanOf, ArePlansOf, matrices_for, IsRowFor};
@@ -22,8 +22,7 @@ use cell_walk::{known_of_count, known_of_item};
 use cob_program::Program;
 use cob_runs::Cell;
 use decimal_interval::Interval;
-use pack_changes::KnownCell;
-use pack_forms::{PackCell, unit_of};
+use pack_forms::{KnownCell, PackCell, unit_of};
 
 // what a row says of what a cell is of
 fn known_of(program: &Program, cells: &[Cell], row: &[i128], cell: PackCell) -> Option<Interval>
@@ -92,7 +91,7 @@ fn close(program: &Program, cells: &[Cell], plan: &PackPlan, row: &[i128], m: &m
     let size = plan.cells.as_slice().len();
     let known = &mut room[..size];
     know_cells(program, cells, row, plan, known);
-    pack_changes::close_pack(size, m, known)
+    pack_forms::close_pack(size, m, known)
 }
 
 /// Does it with what a part has made of a matrix that was closed by what was known of cells before it.
@@ -125,7 +124,7 @@ pub(crate) fn close_again(
     let size = plan.cells.as_slice().len();
     let known = &mut room[..size];
     know_cells(program, cells, row, plan, known);
-    pack_changes::close_again(size, m, last, known)
+    pack_forms::close_again(size, m, last, known)
 }
 
 /// Lowers the matrices of all packs to what is known of their cells, and closes them. Answers false where a cycle of one

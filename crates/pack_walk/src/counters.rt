@@ -7,7 +7,7 @@ ghost use Rattle.cell_steps.specs.Homes.{of_count, owns};
 ghost use Rattle.diff_steps.specs.Forms as forms;
 ghost use Rattle.diff_steps.specs.Moments.{Bytes};
 ghost use Rattle.diff_steps.specs.Packs.{cell_of};
-ghost use Rattle.pack_changes.specs.Forms.{IsFormOf};
+ghost use Rattle.pack_forms.specs.Forms.{IsFormOf};
 ghost use Rattle.pack_forms.specs.Sizes.{HasSmallTop};
 ghost use Rattle.pack_forms.specs.Views.{plain_pack, HasUnit, program_of, known_in, taken_at};
 ghost use Rattle.pack_forms.specs.Writing.{sender_items, are_written};
@@ -16,8 +16,7 @@ ghost use Rattle.pack_walk.specs.Changes.{cell_assigned};
 use cell_walk::{Kept, KnownItems};
 use cob_data::Sender;
 use linear_form::Lin;
-use pack_changes::assign_or_forget;
-use pack_forms::{PackCell, PackView, cell_in, lowered_form, set_form};
+use pack_forms::{PackCell, PackView, assign_or_forget, cell_in, lowered_form, set_form};
 
 // makes the counter's cell, where the pack has it, a form
 fn set_cell(pack: &PackView, m: &mut [i128], statement: u32, form: Option<Lin>)

@@ -11,8 +11,7 @@ ghost use Rattle.pack_walk.specs.Gone.{is_gone};
 
 use cell_walk::share_bytes;
 use cob_data::{Item, Layout};
-use pack_changes::forget_cells;
-use pack_forms::PackCell;
+use pack_forms::{PackCell, forget_cells};
 
 /// Which cells are forgotten.
 #[derive(Clone, Copy)]

@@ -39,7 +39,7 @@ fn relate(
 {
     let fine = are_fine(items, pack, left, right);
     let form = difference_form(items, pack, left, right);
-    pack_changes::relate(pack.cells.len(), m, fine, form, rel, wanted);
+    pack_forms::relate(pack.cells.len(), m, fine, form, rel, wanted);
 }
 
 /// Makes of a pack's matrix what a test with such an outcome leaves of it.

@@ -25,8 +25,7 @@ use borrowed_parts::Amount;
 use cell_amounts::receiver_at;
 use cell_walk::{Kept, KnownItems};
 use dec_num::Mode;
-use pack_changes::store_at;
-use pack_forms::{PackCell, PackView, amount_form, cell_in, has_operands, unit_of};
+use pack_forms::{PackCell, PackView, amount_form, cell_in, has_operands, store_at, unit_of};
 use pack_rows::set_least_matrix;
 use result_ranges::{AmountRange, Taken};
 

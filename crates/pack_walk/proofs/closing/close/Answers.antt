@@ -2,7 +2,7 @@ use Rattle.std.proofs.Common.{if◌then◌else◌, Some, None, sym, ap, subst, �
 use Rattle.cob_program.specs.ActView.{plain_program}
 use Rattle.cell_rows.specs.Rows.{cells_of}
 use Rattle.cell_steps.specs.Homes.{homes_of}
-use Rattle.pack_changes.specs.Cells.{HaveEnds}
+use Rattle.pack_forms.specs.KnownCells.{HaveEnds}
 use Rattle.pack_walk.specs.Plans.{plain_plan}
 use Rattle.pack_walk.proofs.KnownEnds.{known_cells_end}
 use Rattle.pack_walk.proofs.Staying.{stays_closed}

@@ -3,8 +3,8 @@ use Rattle.std.proofs.lemmas.List.{length-map}
 use Rattle.cob_program.specs.ActView.{plain_program}
 use Rattle.cell_rows.specs.Rows.{cells_of}
 use Rattle.cell_steps.specs.Homes.{homes_of}
-use Rattle.pack_changes.specs.Cells.{HaveEnds}
-use Rattle.pack_changes.specs.Tight.{IsTightIfSettled}
+use Rattle.pack_forms.specs.KnownCells.{HaveEnds}
+use Rattle.pack_forms.specs.Tight.{IsTightIfSettled}
 use Rattle.pack_forms.specs.declared.cells.PackCell.{PackCell}
 use Rattle.pack_forms.specs.Cells.{plain_cell}
 use Rattle.pack_walk.specs.Plans.{plain_plan}
