@@ -4,9 +4,9 @@ use Rattle.batch_io.specs.FilesState.{KeepsIds}
 use Rattle.alarm_report.specs.Text.{line_end}
 use Rattle.command_words.specs.Commands.{IsCommand}
 use Rattle.command_words.specs.Commands as command
-use Rattle.analyse_command.specs.Shared.Profile.{IsProgramOf, IsProfileCause}
-use Rattle.analyse_command.specs.Shared.Answer.{Answer, Refused}
-use Rattle.analyse_command.specs.Shared.Call.{Call}
+use Rattle.check_command.specs.Shared.Profile.{IsProgramOf, IsProfileCause}
+use Rattle.check_command.specs.Shared.Answer.{Answer, Refused}
+use Rattle.check_command.specs.Shared.Call.{Call}
 use Rattle.analyse_command.specs.Analysis.{Analysis, IsFound}
 use Rattle.analyse_command.specs.Endings.{EndsWithAnalysis}
 use Rattle.trial_source.specs.Trial.{trial_text}

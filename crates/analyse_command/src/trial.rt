@@ -3,14 +3,14 @@
 #![tactic(auto)]
 
 ghost use Rattle.std.specs.Prelude.{◌≡◌, ◌++◌, IfErr, IfOk, MatchResult};
-ghost use Rattle.analyse_command.specs.Shared.Steps.{IsOfSource};
-ghost use Rattle.analyse_command.specs.Shared.View.{plain_answer};
-ghost use Rattle.trial_command.specs.Endings.{AnswersTrial, nodes_line};
-ghost use Rattle.trial_command.specs.Steps.{IsNumberedFinding, IsTrialFinding};
+ghost use Rattle.check_command.specs.Shared.Steps.{IsOfSource};
+ghost use Rattle.check_command.specs.Shared.View.{plain_answer};
+ghost use Rattle.analyse_command.specs.TrialEndings.{AnswersTrial, nodes_line};
+ghost use Rattle.analyse_command.specs.TrialSteps.{IsNumberedFinding, IsTrialFinding};
 
 use alarm_report::push_number;
-use analyse_command::answers::{Answer, Laid, Stop, answer_to, laid_in};
-use analyse_command::{Findings, found_for};
+use check_command::answers::{Answer, Laid, Stop, answer_to, laid_in};
+use crate::findings::{Findings, found_for};
 use std::alloc::{AllocError, Global};
 use trial_source::trial_source;
 

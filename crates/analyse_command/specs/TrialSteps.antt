@@ -2,11 +2,11 @@
 use Rattle.std.specs.Prelude.{ℕ, length}
 use Rattle.cob_program.specs.ActView.{plain_program}
 use Rattle.cert_text.specs.View.{Certificate}
-use Rattle.analyse_command.specs.Types.Laid.{Laid}
+use Rattle.check_command.specs.Types.Laid.{Laid}
 use Rattle.analyse_command.specs.declared.findings.Findings.{Findings}
 use Rattle.analyse_command.specs.Analysis.{Analysis, analysis}
 use Rattle.analyse_command.specs.Steps.{IsFinding}
-use Rattle.trial_command.specs.Endings.{IsTrialOf, nodes_line}
+use Rattle.analyse_command.specs.TrialEndings.{IsTrialOf, nodes_line}
 
 -- of some certificate for what was read, behind the number of its nodes
 abbrev pub IsNumberedFinding : Laid → Findings → Type 0

@@ -8,22 +8,22 @@ use Rattle.cob_program.specs.ActView.{plain_program}
 use Rattle.cob_front.specs.declared.refusal.Refusal.{Refusal}
 use Rattle.cob_front.specs.declared.refusal.Refusal.TheVariants as end
 use Rattle.command_words.specs.Commands.{IsCommand, trial}
-use Rattle.analyse_command.specs.Types.Answer as code
-use Rattle.analyse_command.specs.Types.Stop.{Stop}
-use Rattle.analyse_command.specs.Types.Stop.TheVariants as stop
-use Rattle.analyse_command.specs.Types.Laid.{Laid}
-use Rattle.analyse_command.specs.Shared.Call.{call}
-use Rattle.analyse_command.specs.Shared.Profile.{IsProfileCause}
-use Rattle.analyse_command.specs.Shared.Steps.{IsLaid, answer_to}
-use Rattle.analyse_command.specs.Shared.View.{plain_answer, plain_result}
-use Rattle.analyse_command.proofs.Shared.Refusals.{answered, no_fault, not_memory}
+use Rattle.check_command.specs.Types.Answer as code
+use Rattle.check_command.specs.Types.Stop.{Stop}
+use Rattle.check_command.specs.Types.Stop.TheVariants as stop
+use Rattle.check_command.specs.Types.Laid.{Laid}
+use Rattle.check_command.specs.Shared.Call.{call}
+use Rattle.check_command.specs.Shared.Profile.{IsProfileCause}
+use Rattle.check_command.specs.Shared.Steps.{IsLaid, answer_to}
+use Rattle.check_command.specs.Shared.View.{plain_answer, plain_result}
+use Rattle.check_command.proofs.Shared.Refusals.{answered, no_fault, not_memory}
 use Rattle.analyse_command.specs.declared.findings.Findings.{Findings}
 use Rattle.analyse_command.specs.Analysis.{Analysis, analysis}
 use Rattle.analyse_command.specs.Endings.{EndsWithAnalysis}
 use Rattle.analyse_command.specs.Steps.{IsFinding}
 use Rattle.trial_source.specs.Trial.{trial_text}
-use Rattle.trial_command.specs.Endings.{AnswersTrial, EndsByTrial, trial_name}
-use Rattle.trial_command.specs.Steps.{IsNumberedFinding, IsTrialFinding}
+use Rattle.analyse_command.specs.TrialEndings.{AnswersTrial, EndsByTrial, trial_name}
+use Rattle.analyse_command.specs.TrialSteps.{IsNumberedFinding, IsTrialFinding}
 
 pub found_in_trial : (count : ℕ) (laid : Laid) → IsLaid (trial_text count) laid → (f : Findings)
     → IsNumberedFinding laid f → IsTrialFinding count f

@@ -1,9 +1,9 @@
 use Rattle.std.proofs.Common.{◌≡◌, ℕ, List, ◌⊎◌, ◌∙◌, subst}
 use Rattle.cob_front.specs.declared.refusal.Refusal.TheVariants.{Memory}
-use Rattle.analyse_command.specs.Shared.Profile.{IsProfileCause}
-use Rattle.analyse_command.specs.Shared.Steps.{IsLaid}
-use Rattle.trial_command.proofs.Trials.{found_in_trial, refused_trial}
-use Rattle.trial_command.proofs.trial_findings.Goals as goal
+use Rattle.check_command.specs.Shared.Profile.{IsProfileCause}
+use Rattle.check_command.specs.Shared.Steps.{IsLaid}
+use Rattle.analyse_command.proofs.Trials.{found_in_trial, refused_trial}
+use Rattle.analyse_command.proofs.trial.trial_findings.Goals as goal
 
 pub returns-in-Ok-numbered_findings-clause-finding : goal.returns-in-Ok-numbered_findings-clause-finding
 returns-in-Ok-numbered_findings-clause-finding c =
