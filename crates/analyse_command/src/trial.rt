@@ -8,9 +8,9 @@ ghost use Rattle.check_command.specs.Shared.View.{plain_answer};
 ghost use Rattle.analyse_command.specs.TrialEndings.{AnswersTrial, nodes_line};
 ghost use Rattle.analyse_command.specs.TrialSteps.{IsNumberedFinding, IsTrialFinding};
 
+use crate::findings::{Findings, found_for};
 use alarm_report::push_number;
 use check_command::answers::{Answer, Laid, Stop, answer_to, laid_in};
-use crate::findings::{Findings, found_for};
 use std::alloc::{AllocError, Global};
 use trial_source::trial_source;
 

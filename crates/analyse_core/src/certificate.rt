@@ -17,10 +17,10 @@ ghost use Rattle.analyse_core.specs.Certificates.{
 
 use cell_rows::{is_reached, known_at};
 use cert_text::{Cert, Claim, Element};
+use claimed_rows::bounds_of;
 use decimal_interval::Interval;
 use diff_bounds::Pack;
 use dom_laws::Rows;
-use claimed_rows::bounds_of;
 use std::alloc::{AllocError, Global};
 
 // An end has at most 18 digits.

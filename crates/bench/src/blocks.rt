@@ -4,12 +4,12 @@
 ghost use Rattle.std.specs.Prelude.{◌≡◌, ◌<◌, ◌≤◌};
 
 use crate::chain::Chain;
-use dom_laws::Steps;
 use crate::solving::{is_kept, level_at, solved};
+use dom_laws::Steps;
+use std::io;
 use std::marker::Brand;
 use std::sync::ledger::{Blank, Ledger};
 use std::time::CpuClock;
-use std::io;
 
 // solves the chain once, and shows what comes to its last node and whether the rows are kept
 fn solve_once<L: Ledger>(rt: &HostRuntime, chain: &Chain, steps: &mut Steps<L>) -> io::Result<()>

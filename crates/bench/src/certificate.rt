@@ -2,9 +2,9 @@
 //! timed, prints how many microseconds reading and printing took instead.
 
 use cert_text::{CertEnd, print, read};
+use std::fs;
 use std::io::{self, Write};
 use std::time::Instant;
-use std::fs;
 
 /// Reads the certificate of a file, and prints it or the times.
 pub(super) fn time_certificate(rt: &HostRuntime, path: &str, timed: bool) -> io::Result<()> {

@@ -2,11 +2,11 @@
 //! often the inputs are gone through; the sums of the answers go to standard output, and the times to
 //! standard error.
 
-use dec_num::{Fit, Quot, fit, quot};
 use crate::decimal_inputs::{Division, Numbers, Value};
+use dec_num::{Fit, Quot, fit, quot};
 use std::alloc::AllocError;
-use std::time::CpuClock;
 use std::io;
+use std::time::CpuClock;
 
 const INPUTS: u32 = 1024;
 

@@ -12,6 +12,7 @@ ghost use Rattle.cell_rows.specs.Rows.{lists_of};
 ghost use Rattle.cell_steps.specs.Homes.{owns};
 ghost use Rattle.cell_ranges.specs.Ranges.{ends_of};
 
+use crate::timing::time_first_edge;
 use cell_layer::CellLayer;
 use cell_ranges::{all_ends, own_ranges};
 use cob_front::program_in;
@@ -23,7 +24,6 @@ use source_facts::sources_have_source_graphs;
 use std::marker::Brand;
 use std::sync::ledger::Blank;
 use std::{fs, io};
-use crate::timing::time_first_edge;
 
 // Over the layer with the ends of the own ranges, which are all the thresholds.
 fn time_over_ranges(

@@ -2,12 +2,12 @@
 //! cells, for bench/matrices. The number is how often the matrices are gone through; the sums of the words go to
 //! standard output, and the times to standard error.
 
+use crate::matrix_inputs::{Changed, Matrix, Numbers, Shape};
 use closed_matrices::close_row;
 use diff_bounds::close;
-use crate::matrix_inputs::{Changed, Matrix, Numbers, Shape};
 use std::alloc::{AllocError, Global};
-use std::time::CpuClock;
 use std::io;
+use std::time::CpuClock;
 
 const INPUTS: u32 = 64;
 

@@ -6,8 +6,8 @@ ghost use Rattle.pack_rows.specs.Rows.{width_of, words_of};
 ghost use Rattle.claimed_rows.specs.MatrixClaims.{cells_in, sizes_of};
 ghost use Rattle.claimed_rows.specs.MatrixGaps.{gaps, gaps_from, matrix_gaps, word_gaps};
 
-use crate::matrix_claims::NONE;
 use crate::gap::Gap;
+use crate::matrix_claims::NONE;
 use diff_bounds::Pack;
 use pack_rows::words_of;
 

@@ -7,9 +7,9 @@ use super::{
     allowed_claims_fit, claimed_rows_are_elements, first_matrix_gap, gaps_are_of_bounds,
     matrix_gaps_tell_the_order, set_claimed, unreached_rows_are_least,
 };
+use crate::gap::Gap;
 use crate::matrix_claims::{LOWEST as L, NONE as N};
 use cert_text::{Bound, Element};
-use crate::gap::Gap;
 use diff_bounds::Pack;
 use std::alloc::{AllocError, Global};
 use std::process::Abort;

@@ -9,12 +9,12 @@ ghost use Rattle.diff_layer.specs.Plans.{plain_plans, ArePlansOf, matrices_for, 
 ghost use Rattle.pack_laws.specs.Layer.{edge_clears2};
 ghost use Rattle.diff_layer.specs.Edges.{edge_walked, packs_walked};
 
+use crate::plans::PackPlan;
 use cell_layer::left;
 use cell_rows::is_reached;
 use cob_graph::{Edge, Graph};
 use cob_program::{Program, Stmt};
 use cob_tree::Kind;
-use crate::plans::PackPlan;
 
 /// Makes of matrices what an edge makes of them, beside a row of what is known of cells at its source, which changes.
 /// Answers false where no run passes the edge; the words then aren't told.

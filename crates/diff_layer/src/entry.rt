@@ -14,11 +14,11 @@ ghost use Rattle.pack_rows.specs.Rows.{words_of, width_of, row_of};
 ghost use Rattle.diff_layer.specs.Plans.{plain_plans, ArePlansOf};
 ghost use Rattle.diff_layer.specs.Edges.{free_word};
 
+use crate::plans::PackPlan;
 use cell_layer::entry_row;
 use cob_program::Program;
 use cob_runs::Cell;
 use pack_rows::{set_least, width_of, words_of};
-use crate::plans::PackPlan;
 use std::alloc::{AllocError, Global};
 
 /// The word of no bound.

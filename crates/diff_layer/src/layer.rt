@@ -16,12 +16,12 @@ ghost use Rattle.diff_layer.specs.Planning.{HaveUnits};
 
 use crate::entry::entry_words;
 use crate::planning::{plans_of, sizes_of};
+use crate::plans::PackPlan;
 use cell_layer::{has_few_parts, heads_of};
 use cob_graph::Graph;
 use cob_program::{Program, Stmt};
 use diff_bounds::Pack;
 use dom_laws::Rows;
-use crate::plans::PackPlan;
 use std::alloc::{AllocError, Global};
 
 /// What is known of differences of a program's cells along its graph, in packs, each with a list of thresholds, beside the

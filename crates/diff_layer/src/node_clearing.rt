@@ -14,13 +14,13 @@ ghost use Rattle.diff_layer.specs.LayerLaws.{means_by};
 
 use crate::edges::clears_edge;
 use crate::layer::DiffLayer;
+use crate::plans::PackPlan;
 use cell_layer::{edge_at, edges_before, leaves};
 use cell_rows::is_reached;
 use cob_graph::Graph;
 use cob_program::{Program, Stmt};
 use cob_tree::Kind;
 use dom_laws::{Layer, Rows};
-use crate::plans::PackPlan;
 
 // whether each edge that leaves a node clears the fault
 fn clears_node(

@@ -9,11 +9,11 @@ ghost use Rattle.pack_laws.specs.Packs.{home_at, pack_in, packs_in, AreRisingNum
 ghost use Rattle.diff_layer.specs.Planning.{IsPlanFor, ArePlansFor, sizes_in};
 
 use crate::homes::homes_of;
+use crate::plans::PackPlan;
 use cob_data::Layout;
 use cob_program::{Program, Stmt};
 use diff_bounds::Pack;
 use pack_forms::{PackCell, pack_decimals};
-use crate::plans::PackPlan;
 use std::alloc::{AllocError, Global};
 
 // what the cell with a number is of, which counts from 1
