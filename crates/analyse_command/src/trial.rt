@@ -1,6 +1,5 @@
 //! The command `trial`: a source of the length that is asked for is made and analysed; what is found is then told as of
 //! `analyse`, behind a line with the number of nodes.
-#![tactic(auto)]
 
 ghost use Rattle.std.specs.Prelude.{◌≡◌, ◌++◌, IfErr, IfOk, MatchResult};
 ghost use Rattle.check_command.specs.Shared.Steps.{IsOfSource};

@@ -9,7 +9,9 @@ ghost use Rattle.diff_layer.specs.Plans.{plain_plans, ArePlansOf, matrices_for, 
 ghost use Rattle.pack_laws.specs.Layer.{edge_clears2};
 ghost use Rattle.diff_layer.specs.Edges.{edge_walked, packs_walked};
 
+use crate::clearing::packs_clear;
 use crate::plans::PackPlan;
+use crate::walking::walk_packs;
 use cell_layer::left;
 use cell_rows::is_reached;
 use cob_graph::{Edge, Graph};

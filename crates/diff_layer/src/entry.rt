@@ -14,6 +14,7 @@ ghost use Rattle.pack_rows.specs.Rows.{words_of, width_of, row_of};
 ghost use Rattle.diff_layer.specs.Plans.{plain_plans, ArePlansOf};
 ghost use Rattle.diff_layer.specs.Edges.{free_word};
 
+use crate::closing::close_all;
 use crate::plans::PackPlan;
 use cell_layer::entry_row;
 use cob_program::Program;
