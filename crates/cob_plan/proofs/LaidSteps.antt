@@ -193,7 +193,7 @@ module _ (p : Program) (get : ℕ → Option Noded) (final : ℕ) where
 
   sooner : (number from since to : ℕ) → since ≤ from → Goes number from to → Goes number since to
   sooner number from since to l g = record {
-    way = elim g.way [ | inl r ↦ inl r | inr o ↦ inr (omega (arith, l, o.0), o.1) ];
+    way = elim g.way [ inl r ↦ inl r | inr o ↦ inr (omega (arith, l, o.0), o.1) ];
   }
 
   module _ (c : Copied) (number : ℕ) (a : Act) (its : act_at p number ≡ Some a) where
