@@ -1,6 +1,7 @@
 pub mod Able
 pub mod Ends
 pub mod Told
+pub mod Fitting
 pub mod Tracking
 pub mod Touching
 pub mod Running

@@ -1,5 +1,5 @@
 -- What holds of a program that is run, its plan and its paths.
-use Rattle.std.specs.Prelude.{◌≡◌, ℕ, true, List, map, String, string_bytes}
+use Rattle.std.specs.Prelude.{◌≡◌, ◌<◌, ℕ, true, List, length, map, Some, Result, IfOk, String, string_bytes}
 use Rattle.std.specs.declared.alloc.Global.{Global}
 use Rattle.std.specs.List.{All}
 use Rattle.cob_program.specs.declared.act.Opening.{Opening}
@@ -27,6 +27,10 @@ pub record IsReady (s : Setting) : Type 0 where
   pub fits : All (FitsIts (program_of s)) s.plan.nodes.items
   pub statements : All (IsStatement (program_of s)) s.plan.statements.items
   pub distinct : AreDistinct (paths_of s)
+  -- each step can be gone through
+  pub fits : Fits s.plan.nodes.items s.plan.statements.items (length s.paths.now)
+  -- and each file has its path
+  pub paths : length s.paths.now ≡ length s.program.now.layout.files
 
 -- A place's statement is the program's, and the operation of its node is one of that statement.
 pub record IsPlaced (s : Setting) (x : Place) : Type 0 where
@@ -39,6 +43,28 @@ pub record IsPlace (s : Setting) (node : ℕ) (x : Place) : Type 0 where
   pub statement : IsStatement (program_of s) x.statement.now
   pub fits : IsFitting (program_of s) x.plan_node.now (plain_act x.statement.now.act.now)
   pub number : x.statement.now.number ≡ x.plan_node.now.statement
+
+-- It lies before the last node, does a part of its statement, and leads on.
+pub record FitsPlace (s : Setting) (node : ℕ) (x : Place) : Type 0 where
+  pub above : 0 < node
+  pub below : node < length s.plan.nodes.items
+  pub at : node_at s.plan.nodes.items node ≡ Some x.plan_node.now
+  pub leads : op_leads s.plan.nodes.items node x.plan_node.now.statement x.plan_node.now.op ≡ true
+  pub fits : act_fits (length s.paths.now) (plain_act x.statement.now.act.now) x.plan_node.now.starts x.plan_node.now.op
+      ≡ true
+
+-- the node that is answered is one to which a node of a statement leads
+abbrev pub LeadsOn : Setting → ℕ → ℕ → Result ℕ RunEnd → Type 0
+LeadsOn s from statement result = IfOk result (λ next. leads s.plan.nodes.items from statement next ≡ true)
+
+-- or one to which an operation leads
+abbrev pub LeadsBy : Setting → Op → Result ℕ RunEnd → Type 0
+LeadsBy s o result =
+    (from statement : ℕ) → op_leads s.plan.nodes.items from statement o ≡ true → LeadsOn s from statement result
+
+-- the statement with a number neither opens nor closes files
+abbrev pub IsUncalled : Setting → ℕ → Type 0
+IsUncalled s statement = (a : Act) → act_at (program_of s) statement ≡ Some a → is_uncalled a ≡ true
 
 -- A place has the plan's node with a number, at which a step begins, and that node's statement.
 pub record StartsAt (s : Setting) (node : ℕ) (x : Place) : Type 0 where

@@ -2,6 +2,7 @@
 #![tactic(auto)]
 
 mod ends;
+mod fitting;
 mod handles;
 mod laws;
 mod nodes;

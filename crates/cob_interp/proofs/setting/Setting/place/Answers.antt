@@ -1,7 +1,6 @@
 use Rattle.std.proofs.Common.{ap, sym, ◌∙◌}
 use Rattle.cob_runs.specs.Effects.{act_at}
 use Rattle.cob_interp.proofs.setting.Setting.place.Goals as goal
-use Rattle.cob_interp.specs.Setting.{program_of}
 
 pub returns : goal.returns
 returns c =
