@@ -1,7 +1,6 @@
 pub mod Able
 pub mod Ends
 pub mod Told
-pub mod Fitting
 pub mod Tracking
 pub mod Touching
 pub mod Running

@@ -2,7 +2,6 @@
 #![tactic(auto)]
 
 mod ends;
-mod fitting;
 mod handles;
 mod laws;
 mod nodes;

@@ -1,24 +1,22 @@
 //! What is done at a node of a step.
-ghost use Rattle.std.specs.Prelude.{◌≡◌, ℕ, true, IfOk, is_some};
+ghost use Rattle.std.specs.Prelude.{◌≡◌, ℕ, IfOk, length, slice_get};
 ghost use Rattle.batch_io.specs.SinkState.{SinkState};
 ghost use Rattle.cob_program.specs.Act.{open_files, close_files};
 ghost use Rattle.cob_program.specs.ActView.{plain_act};
 ghost use Rattle.cob_interp.specs.Ends.{UnlessRefused};
 ghost use Rattle.cob_interp.specs.Running.{Outside, outside};
 ghost use Rattle.cob_interp.specs.Setting.{IsReady, IsPlace, IsPlaced, LeadsBy, paths_of};
-ghost use Rattle.cob_interp.specs.Fitting.{closed_of};
 ghost use Rattle.cob_interp.specs.Meeting.{IfFailed};
 ghost use Rattle.cob_interp.specs.Touching.{Touches, ClosesOnly, makes_none};
 ghost use Rattle.cob_interp.specs.Doing.{IsPlain, halted, DoesPart, Leads};
 ghost use Rattle.cob_interp.specs.Tracking.{AreLeft, AreOpen, ArePlaced, KeepsPlaces, Tracks};
 
 use crate::ends::RunEnd;
-use crate::fitting::closed_of;
 use crate::handles::Handles;
 use crate::outside::ready_to_close;
 use crate::setting::{Place, Setting};
 use batch_io::Files;
-use cob_plan::{DoEnd, do_op};
+use cob_plan::{DoEnd, Op, do_op};
 use cob_world::World;
 use std::alloc::Global;
 
@@ -80,6 +78,12 @@ pub fn do_plain(
     do_part(alloc, setting, place, world, step)
 }
 
+fn file_in(files: &[u32], number: u32) -> Option<u32>
+    ensures { result ≡ slice_get files.now number }
+{
+    files.get(number as usize).copied()
+}
+
 /// Does the part of a node whose statement is a CLOSE of these files.
 pub fn do_close<F: Files>(
     alloc: Global,
@@ -95,7 +99,6 @@ pub fn do_close<F: Files>(
     requires runs { world.old.program ≡ setting.now.program.now }
     requires place { IsPlaced setting.now place.now }
     requires its { plain_act place.now.statement.now.act.now ≡ close_files closed.now }
-    requires fits { is_some (closed_of place.now.plan_node.now.op closed.now) ≡ true }
     requires live { AreOpen (F.state files.old) handles.old }
     requires placed { ArePlaced (paths_of setting.now) (F.state files.old) handles.old world.old.world.files }
     ensures kept { world.new.program ≡ world.old.program }

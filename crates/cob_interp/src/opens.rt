@@ -1,26 +1,31 @@
 //! OPEN (ISO 1989:1985, "The OPEN statement").
-ghost use Rattle.std.specs.Prelude.{◌≡◌, ℕ, true, IfOk, [], length, slice_get};
+ghost use Rattle.std.specs.Prelude.{◌≡◌, ℕ, true, IfOk, [], slice_get};
 ghost use Rattle.batch_io.specs.SinkState.{SinkState};
 ghost use Rattle.cob_program.specs.Act.{open_files};
 ghost use Rattle.cob_program.specs.ActView.{plain_act};
 ghost use Rattle.cob_interp.specs.Running.{outside};
 ghost use Rattle.cob_interp.specs.Setting.{IsReady, IsPlace, IsPlaced, LeadsBy, paths_of};
-ghost use Rattle.cob_interp.specs.Fitting.{act_fits};
 ghost use Rattle.cob_interp.specs.Meeting.{IsMetBy};
 ghost use Rattle.cob_interp.specs.Touching.{Makes, OpensOnly, makes_in};
 ghost use Rattle.cob_interp.specs.Tracking.{AreLeft, AreOpen, ArePlaced, Tracks};
 ghost use Rattle.cob_interp.specs.Doing.{IsFresh, Leads};
 
 use crate::ends::RunEnd;
-use crate::fitting::opening_of;
 use crate::handles::Handles;
 use crate::nodes::do_part;
 use crate::outside::ready_to_open;
 use crate::setting::{Place, Setting};
 use batch_io::Files;
+use cob_plan::Op;
 use cob_program::Opening;
 use cob_world::{FileMode, World};
 use std::alloc::Global;
+
+fn opening_in(openings: &[Opening], number: u32) -> Option<Opening>
+    ensures { result ≡ slice_get openings.now number }
+{
+    openings.get(number as usize).copied()
+}
 
 /// Whether the file at a place is being written, and nothing waits of it.
 fn is_fresh(world: &World, place: u32) -> bool
@@ -74,8 +79,6 @@ pub fn do_open<F: Files>(
     requires runs { world.old.program ≡ setting.now.program.now }
     requires place { IsPlaced setting.now place.now }
     requires its { plain_act place.now.statement.now.act.now ≡ open_files openings.now }
-    requires fits { act_fits (length setting.now.paths.now) (open_files openings.now)
-        place.now.plan_node.now.starts place.now.plan_node.now.op ≡ true }
     requires live { AreOpen (F.state files.old) handles.old }
     requires placed { ArePlaced (paths_of setting.now) (F.state files.old) handles.old world.old.world.files }
     ensures kept { world.new.program ≡ world.old.program }

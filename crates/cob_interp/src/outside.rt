@@ -202,7 +202,6 @@ pub fn ready_to_open<F: Files>(
     opening: Opening,
 ) -> Result<(), RunEnd>
     requires ready { IsReady setting.now }
-    requires within { opening.file < length setting.now.paths.now }
     requires live { AreOpen (F.state files.old) handles.old }
     requires placed { ArePlaced (paths_of setting.now) (F.state files.old) handles.old world.old.world.files }
     ensures tracks { Tracks (F.state files.old) (F.state files.new) handles.old handles.new }
@@ -216,7 +215,9 @@ pub fn ready_to_open<F: Files>(
     ensures opens { OpensOnly world.old.world world.new.world }
     ensures fault { FailsBy opening.output result }
 {
-    let path = setting.path_at(opening.file as usize);
+    let Some(path) = setting.path(opening.file as usize) else {
+        return Err(RunEnd::Memory);
+    };
     let Some(mode) = world.file_mode(opening.file as usize) else {
         return Err(RunEnd::Memory);
     };

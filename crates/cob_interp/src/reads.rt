@@ -7,9 +7,9 @@ ghost use Rattle.cob_interp.specs.declared.parts.Call.TheVariants as call;
 ghost use Rattle.cob_interp.specs.declared.ends.RunEnd.TheVariants as end;
 ghost use Rattle.cob_interp.specs.Doing.{ReadsPart};
 ghost use Rattle.cob_interp.specs.Meeting.{FailsBy, IfFailed};
-ghost use Rattle.cob_interp.specs.Readying.{IsDeclared, GivesWindow, IsRestOr, IsReadOn, settled};
+ghost use Rattle.cob_interp.specs.Readying.{GivesWindow, IsRestOr, IsReadOn, settled};
 ghost use Rattle.cob_interp.specs.Running.{Outside, outside, Stands, Arrives};
-ghost use Rattle.cob_interp.specs.Setting.{IsReady, StartsAt, FitsPlace, LeadsBy, IsCall, IsPlaced, program_of, paths_of};
+ghost use Rattle.cob_interp.specs.Setting.{IsReady, StartsAt, IsCall, IsPlaced, LeadsBy, program_of, paths_of};
 ghost use Rattle.cob_interp.specs.Tracking.{IsHeldFor, AreLeft, AreOpen, ArePlaced, Tracks};
 
 use crate::ends::RunEnd;
@@ -17,6 +17,7 @@ use crate::handles::Handles;
 use crate::nodes::do_part;
 use crate::setting::{Place, Setting};
 use batch_io::Files;
+use cob_plan::Op;
 use cob_world::{FileMode, World};
 use std::alloc::Global;
 
@@ -108,10 +109,8 @@ fn do_window<F: Files>(
     requires ready { IsReady setting.now }
     requires runs { world.old.program ≡ setting.now.program.now }
     requires placed { IsPlaced setting.now place.now }
-    requires declared { IsDeclared setting.now file }
     requires live { AreOpen (F.state files.old) handles.old }
     requires reads { IsHeldFor handles.old file false }
-    ensures on { LeadsBy setting.now place.now.plan_node.now.op result }
     ensures kept { world.new.program ≡ world.old.program }
     ensures tracks { Tracks (F.state files.old) (F.state files.new) handles.old handles.new }
     ensures same { known_bytes (F.state files.new) ≡ known_bytes (F.state files.old) }
@@ -120,8 +119,11 @@ fn do_window<F: Files>(
         world.old.world world.new.world result }
     ensures fault { FailsBy false result }
     ensures still { IfFailed result (world.new.world ≡ world.old.world) }
+    ensures on { LeadsBy setting.now place.now.plan_node.now.op result }
 {
-    let size = setting.size_at(file as usize);
+    let Some(size) = setting.size(file as usize) else {
+        return Err(RunEnd::Memory);
+    };
     let window = window_of(alloc, files, handles, file, size, before)?;
     let _ = world.replace_content(file as usize, Some(window), 0);
     let next = do_part(alloc, setting, place, world, step);
@@ -144,7 +146,6 @@ pub fn do_read<F: Files>(
     requires ready { IsReady setting.now }
     requires runs { world.old.program ≡ setting.now.program.now }
     requires starts { StartsAt setting.now node place.now }
-    requires fits { FitsPlace setting.now node place.now }
     requires reads { IsCall (plain_act place.now.statement.now.act.now) (call.Read file) }
     requires live { AreOpen (F.state files.old) handles.old }
     requires placed { ArePlaced (paths_of setting.now) (F.state files.old) handles.old world.old.world.files }

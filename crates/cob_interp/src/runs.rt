@@ -22,7 +22,6 @@ ghost use Rattle.cob_program.specs.Act as act;
 ghost use Rattle.cob_graph.specs.declared.graph.Graph as graph;
 
 use crate::ends::{Ended, Ending, RunEnd};
-use crate::fitting::fits;
 use crate::handles::Handles;
 use crate::outside::write_out;
 use crate::setting::Setting;
@@ -271,12 +270,6 @@ fn run_through<F: Files, O: Sink>(
         plan,
         paths,
     };
-    if !fits(&setting.plan, paths.len()) {
-        return Ending {
-            end: Err(RunEnd::Memory),
-            sink_refused: false,
-        };
-    }
     let halted = walk(
         alloc,
         &setting,

@@ -2,12 +2,10 @@
 ghost use Rattle.std.specs.Prelude.{◌≡◌, ◌==◌, ◌<◌, ◌≤◌, ℕ, false, Some, None, IfSome, length};
 ghost use Rattle.cob_graph.specs.declared.graph.Node.{Node};
 ghost use Rattle.cob_graph.specs.Lookup.{node_at, final_in};
-ghost use Rattle.cob_plan.specs.declared.statement.Statement as declared_statement;
-ghost use Rattle.cob_interp.specs.Fitting.{rests};
+ghost use Rattle.cob_plan.specs.Stepping.{rests};
 ghost use Rattle.cob_interp.specs.Setting.{IsReady, IsPlace, FitsPlace};
 ghost use Rattle.cob_interp.specs.Readying.{IsDeclared, IsPath, IsSize};
 
-use crate::fitting::{node_in, rests, statement_in};
 use cob_graph::Graph;
 use cob_plan::{Plan, PlanNode, Statement};
 use cob_program::Program;
@@ -28,29 +26,6 @@ pub struct Place<'a, 'b> {
     pub statement: &'a Statement<'b>,
 }
 
-/// A node of a plan.
-fn node_here(nodes: &[PlanNode], number: u32) -> &PlanNode
-    requires above { 0 < number }
-    requires within { number ≤ length nodes.now }
-    ensures { node_at nodes.now number ≡ Some result.now }
-{
-    match node_in(nodes, number as usize) {
-        Some(found) => found,
-        None => unreachable!(),
-    }
-}
-
-/// A statement of a plan.
-fn statement_here<'a, 'b>(statements: &'a [Statement<'b>], number: u32) -> &'a Statement<'b>
-    requires { (x : declared_statement.Statement) × (node_at statements.now number ≡ Some x) }
-    ensures { node_at statements.now number ≡ Some result.now }
-{
-    match statement_in(statements, number) {
-        Some(found) => found,
-        None => unreachable!(),
-    }
-}
-
 impl<'b> Setting<'b> {
     /// Whether a node is the last one.
     pub fn is_final(&self, node: u32) -> bool
@@ -65,7 +40,10 @@ impl<'b> Setting<'b> {
         ensures same { result ≡ rests self.now.plan.nodes.items node }
         ensures graph { result ≡ false → (x : Node) → node_at self.now.graph.now.nodes node ≡ Some x → x.starts ≡ false }
     {
-        rests(self.plan.nodes.as_slice(), node as usize)
+        match self.plan.node(node) {
+            None => true,
+            Some(plan_node) => plan_node.starts || node as usize == self.plan.nodes.len(),
+        }
     }
 
     /// A node that isn't the last one, with its statement.
@@ -76,11 +54,15 @@ impl<'b> Setting<'b> {
         ensures is { IsPlace self.now node result }
         ensures fits { FitsPlace self.now node result }
     {
-        let plan_node = node_here(self.plan.nodes.as_slice(), node);
-        let statement = statement_here(self.plan.statements.as_slice(), plan_node.statement);
-        Place {
-            plan_node,
-            statement,
+        match self.plan.node(node) {
+            None => unreachable!(),
+            Some(plan_node) => match self.plan.statement(plan_node.statement) {
+                None => unreachable!(),
+                Some(statement) => Place {
+                    plan_node,
+                    statement,
+                },
+            },
         }
     }
 
@@ -108,24 +90,10 @@ impl<'b> Setting<'b> {
 
     /// The path of the file at a place.
     pub fn path(&self, place: usize) -> Option<&str>
-        ensures some { IfSome result (λ path. IsPath self.now place path.now) }
-        ensures none { result ≡ None → length self.now.paths.now ≡ length self.now.program.now.layout.files
-            → place < length self.now.paths.now → ⊥ }
+        ensures { IfSome result (λ path. IsPath self.now place path.now) }
     {
         let _decl = self.program.layout.files.get().get(place)?;
         let path = self.paths.get(place)?;
         Some(path.as_str())
-    }
-
-    /// The path of the file at a place, which there is.
-    pub fn path_at(&self, place: usize) -> &str
-        requires ready { IsReady self.now }
-        requires within { place < length self.now.paths.now }
-        ensures { IsPath self.now place result.now }
-    {
-        match self.path(place) {
-            Some(path) => path,
-            None => unreachable!(),
-        }
     }
 }

@@ -9,7 +9,7 @@ ghost use Rattle.cob_interp.specs.Running.{Outside, outside, Stands, Arrives, Is
 ghost use Rattle.cob_interp.specs.Setting.{IsReady, StartsAt, FitsPlace, program_of, paths_of};
 ghost use Rattle.cob_interp.specs.Readying.{IsRefusal, Sees};
 ghost use Rattle.cob_interp.specs.Meeting.{IfFailed, IsMetBy, ShowsRest, is_failure, shows_first};
-ghost use Rattle.cob_interp.specs.Fitting.{IsRest};
+ghost use Rattle.cob_plan.specs.Stepping.{IsRest};
 ghost use Rattle.cob_interp.specs.Rooms.{HasRoom, HasRoomFor, written_by};
 ghost use Rattle.cob_interp.specs.Touching.{Touches, makes_by, makes_none};
 ghost use Rattle.cob_interp.specs.Tracking.{AreLeft, AreOpen, ArePlaced, KeepsPlaces, Tracks};

@@ -17,14 +17,13 @@ use Rattle.cob_interp.proofs.nodes.do_close.Goals as goal
 pub returns-clause-leads : goal.returns-clause-leads
 returns-clause-leads g c sink node budget is start within u =
     let w = c.args.world.now.world in
-    let o = close_op c.args.place.now.plan_node.now.op c.args.closed.now c.in-Some.at (sym c.in-Some.ensures) in
     let does = subst (λ (z : World). DoesPart c.args.setting.now c.args.place.now c.args.step z c.do_part.new.world.world
     c.do_part.result) c.in_ok-ready_to_close-in-Some.ensures.emptied c.do_part.ensures.does in
     let out = c.in_ok-ready_to_close-in-Some.ensures.goes in
     close_leads c.args.setting.now budget c.args.place.now c.args.step node sink _ _
     (emptied c.in-Some.at w) _ c.requires.ready.distinct is
-    o.0 o.1 o.2 c.in-Some.at c.args.closed.now o.3 c.requires.its
-    o.4 (out_again c.args.setting.now c.requires.ready.distinct w c.in-Some.at _ _ out) _
+    c.in-Close.file c.in-Close.fine c.in-Close.bad c.in-Some.at c.args.closed.now c.in-Close.is c.requires.its
+    (sym c.in-Some.ensures) (out_again c.args.setting.now c.requires.ready.distinct w c.in-Some.at _ _ out) _
     does start within
     (underway_sees (program_of c.args.setting.now) c.args.setting.now.graph.now (paths_of c.args.setting.now) start sink
     _ _ w (emptied c.in-Some.at w)
@@ -45,7 +44,6 @@ unreachable-requires-in-None g c =
 pub returns-clause-closes : goal.returns-clause-closes
 returns-clause-closes g c =
     let w = c.args.world.now.world in
-    let o = close_op c.args.place.now.plan_node.now.op c.args.closed.now c.in-Some.at (sym c.in-Some.ensures) in
     let does = subst (λ (z : World). DoesPart c.args.setting.now c.args.place.now c.args.step z c.do_part.new.world.world
     c.do_part.result) c.in_ok-ready_to_close-in-Some.ensures.emptied c.do_part.ensures.does in
     closes_behind c.args.setting.now c.requires.ready.distinct w c.in-Some.at _ _
@@ -56,7 +54,6 @@ returns-clause-closes g c =
 pub returns-clause-placed : goal.returns-clause-placed
 returns-clause-placed g c =
     let w = c.args.world.now.world in
-    let o = close_op c.args.place.now.plan_node.now.op c.args.closed.now c.in-Some.at (sym c.in-Some.ensures) in
     let does = subst (λ (z : World). DoesPart c.args.setting.now c.args.place.now c.args.step z c.do_part.new.world.world
     c.do_part.result) c.in_ok-ready_to_close-in-Some.ensures.emptied c.do_part.ensures.does in
     let out = c.in_ok-ready_to_close-in-Some.ensures.goes in
@@ -74,11 +71,3 @@ returns-clause-placed g c =
     c.in-Close.bad c.in-Close.is (c.requires.place.statement.its ∙ ap Some c.requires.its) c.in-Some.at again.is.decl again.file
     (sym c.in-Some.ensures) again.is.declared again.has _
     does))
-
-pub unreachable-requires : goal.unreachable-requires
-unreachable-requires g c =
-    closes_there c.args.place.now.plan_node.now.op c.args.closed.now (sym c.in-None.ensures) c.requires.fits
-
-pub returns-in_ok-ready_to_close-in-Some-clause-on : goal.returns-in_ok-ready_to_close-in-Some-clause-on
-returns-in_ok-ready_to_close-in-Some-clause-on g c =
-    part_on c.args.setting.now c.args.place.now c.args.step _ _ _ c.do_part.ensures.does

@@ -30,23 +30,22 @@ pub returns-clause-touches : goal.returns-clause-touches
 returns-clause-touches g c =
     makes_more (paths_of c.args.setting.now) (makes_in (c.in-Some.opening ∷ [])) (makes_in c.args.openings.now)
     c.args.world.now.world
-    (makes_one c.args.openings.now o.0 c.in-Some.opening o.4) _ _
+    (makes_one c.args.openings.now c.in-Open.file c.in-Some.opening (sym c.in-Some.ensures)) _ _
     c.in_ok-ready_to_open-in-Some.ensures.touches
 
 pub returns-in_err-ready_to_open-in-Some-clause-touches : goal.returns-in_err-ready_to_open-in-Some-clause-touches
 returns-in_err-ready_to_open-in-Some-clause-touches g c =
-    let o = open_op c.args.place.now.plan_node.now.op c.args.openings.now c.in-Some.opening (sym c.in-Some.ensures) in
     makes_more (paths_of c.args.setting.now) (makes_in (c.in-Some.opening ∷ [])) (makes_in c.args.openings.now)
     c.args.world.now.world
-    (makes_one c.args.openings.now o.0 c.in-Some.opening o.4) _ _
+    (makes_one c.args.openings.now c.in-Open.file c.in-Some.opening (sym c.in-Some.ensures)) _ _
     c.in_err-ready_to_open-in-Some.ensures.touches
 
 pub returns-clause-leads : goal.returns-clause-leads
 returns-clause-leads g c sink node budget is =
     rw c.lend_room.ensures.same
     (open_leads c.args.setting.now budget c.args.place.now c.args.step node sink _ _ _ _ _ c.requires.ready.distinct is
-    o.0 o.1 o.2 c.in-Some.opening c.args.openings.now o.3 c.requires.its
-    o.4 _ _ c.in_ok-ready_to_open-in-Some.ensures.readies _ c.do_part-next.ensures.does)
+    c.in-Open.file c.in-Open.fine c.in-Open.bad c.in-Some.opening c.args.openings.now c.in-Open.is c.requires.its
+    (sym c.in-Some.ensures) _ _ c.in_ok-ready_to_open-in-Some.ensures.readies _ c.do_part-next.ensures.does)
 
 pub returns-clause-opens : goal.returns-clause-opens
 returns-clause-opens g c =
@@ -81,26 +80,12 @@ returns-in_err-ready_to_open-in-Some-clause-placed g c =
 
 pub returns-in_err-ready_to_open-in-Some-clause-met : goal.returns-in_err-ready_to_open-in-Some-clause-met
 returns-in_err-ready_to_open-in-Some-clause-met g c =
-    let o = open_op c.args.place.now.plan_node.now.op c.args.openings.now c.in-Some.opening (sym c.in-Some.ensures) in
     let p = err_from_is_err_and c.from_residual.result c.from_residual.ensures.1 in
     rw (p.1, p.2)
-    (open_met c.args.openings.now o.0 c.in-Some.opening _ o.4
+    (open_met c.args.openings.now c.in-Open.file c.in-Some.opening _ (sym c.in-Some.ensures)
     c.in_err-ready_to_open-in-Some.ensures.fault)
 
 pub returns-clause-met : goal.returns-clause-met
 returns-clause-met g c =
     never_met (open_files c.args.openings.now) _
     (part_fine c.args.setting.now c.args.place.now c.args.step _ _ _ c.do_part-next.ensures.does)
-
-pub unreachable-requires : goal.unreachable-requires
-unreachable-requires g c =
-    opens_there _ c.args.openings.now _ c.args.place.now.plan_node.now.op (sym c.in-None.ensures) c.requires.fits
-
-pub ready_to_open-requires-clause-within : goal.ready_to_open-requires-clause-within
-ready_to_open-requires-clause-within g c =
-    opens_within _ c.args.openings.now _ c.args.place.now.plan_node.now.op c.in-Some.opening (sym c.in-Some.ensures)
-    c.requires.fits
-
-pub returns-in_ok-ready_to_open-in-Some-clause-on : goal.returns-in_ok-ready_to_open-in-Some-clause-on
-returns-in_ok-ready_to_open-in-Some-clause-on g c =
-    part_on c.args.setting.now c.args.place.now c.args.step _ _ _ c.do_part-next.ensures.does

@@ -12,28 +12,32 @@ use Rattle.cob_interp.proofs.outside.ready_to_open.Goals as goal
 
 pub returns-then-not-is_closed-clause-readies : goal.returns-then-not-is_closed-clause-readies
 returns-then-not-is_closed-clause-readies g c =
-    let h = has_file c.in-Some.mode _ c.in-Some.ensures in
-    open_ready c.args.setting.now c.args.world.now.world c.args.opening c.path_at-path.result.now c.path_at-path.ensures h.0 h.1 _
-    (is_closed_false c.in-Some.mode h.0.mode h.2 (sym c.is_closed.ensures ∙ c.if-not-is_closed.true)) _
+    let h = has_file c.in-Some-file_mode.mode _ c.in-Some-file_mode.ensures in
+    open_ready c.args.setting.now c.args.world.now.world c.args.opening c.in-Some.path.now c.in-Some.ensures h.0 h.1 _
+    (is_closed_false c.in-Some-file_mode.mode h.0.mode h.2 (sym c.is_closed.ensures ∙ c.if-not-is_closed.true)) _
 
 pub returns-then-opening-clause-readies : goal.returns-then-opening-clause-readies
 returns-then-opening-clause-readies g c =
-    let h = has_file c.in-Some.mode _ c.in-Some.ensures in
-    output_ready c.args.setting.now c.args.world.now.world c.args.opening c.path_at-path.result.now c.path_at-path.ensures h.0
+    let h = has_file c.in-Some-file_mode.mode _ c.in-Some-file_mode.ensures in
+    output_ready c.args.setting.now c.args.world.now.world c.args.opening c.in-Some.path.now c.in-Some.ensures h.0
     h.1 _ _ _ _
-    (is_closed_true c.in-Some.mode h.0.mode h.2 (sym c.is_closed.ensures ∙ c.if-not-is_closed.false))
+    (is_closed_true c.in-Some-file_mode.mode h.0.mode h.2 (sym c.is_closed.ensures ∙ c.if-not-is_closed.false))
     c.if-opening.true c.in_ok-create.ensures.creates c.requires.live
 
 pub returns-clause-readies : goal.returns-clause-readies
 returns-clause-readies g c =
-    let h = has_file c.in-Some.mode _ c.in-Some.ensures in
-    opened_ready c.args.setting.now c.args.world.now.world c.args.opening c.path_at-path.result.now c.path_at-path.ensures h.0
+    let h = has_file c.in-Some-file_mode.mode _ c.in-Some-file_mode.ensures in
+    opened_ready c.args.setting.now c.args.world.now.world c.args.opening c.in-Some.path.now c.in-Some.ensures h.0
     h.1 _ _
-    _ _ (is_closed_true c.in-Some.mode h.0.mode h.2 (sym c.is_closed.ensures ∙ c.if-not-is_closed.false))
+    _ _ (is_closed_true c.in-Some-file_mode.mode h.0.mode h.2 (sym c.is_closed.ensures ∙ c.if-not-is_closed.false))
     c.if-opening.false _ c.in_ok-open_input.ensures.opens c.in_ok-open_input.ensures.same c.requires.live
 
 pub returns-in_default-clause-touches : goal.returns-in_default-clause-touches
 returns-in_default-clause-touches g c =
+    makes_stay (paths_of c.args.setting.now) (makes_in (c.args.opening ∷ [])) c.args.world.now.world _
+
+pub returns-in_default-file_mode-clause-touches : goal.returns-in_default-file_mode-clause-touches
+returns-in_default-file_mode-clause-touches g c =
     makes_stay (paths_of c.args.setting.now) (makes_in (c.args.opening ∷ [])) c.args.world.now.world _
 
 pub returns-then-not-is_closed-clause-touches : goal.returns-then-not-is_closed-clause-touches
@@ -42,20 +46,20 @@ returns-then-not-is_closed-clause-touches g c =
 
 pub returns-in_err-create-clause-touches : goal.returns-in_err-create-clause-touches
 returns-in_err-create-clause-touches g c =
-    let h = has_file c.in-Some.mode _ c.in-Some.ensures in
+    let h = has_file c.in-Some-file_mode.mode _ c.in-Some-file_mode.ensures in
     makes_by_create (paths_of c.args.setting.now) (makes_in (c.args.opening ∷ [])) c.args.world.now.world _ _
     c.args.opening.file
-    c.path_at-path.result.now h.0 c.requires.ready.distinct c.path_at-path.ensures.path_ h.1
-    (is_closed_true c.in-Some.mode h.0.mode h.2 (sym c.is_closed.ensures ∙ c.if-not-is_closed.false))
+    c.in-Some.path.now h.0 c.requires.ready.distinct c.in-Some.ensures.path_ h.1
+    (is_closed_true c.in-Some-file_mode.mode h.0.mode h.2 (sym c.is_closed.ensures ∙ c.if-not-is_closed.false))
     (makes_own c.args.opening c.if-opening.true) c.in_err-create.ensures.part
 
 pub returns-then-opening-clause-touches : goal.returns-then-opening-clause-touches
 returns-then-opening-clause-touches g c =
-    let h = has_file c.in-Some.mode _ c.in-Some.ensures in
+    let h = has_file c.in-Some-file_mode.mode _ c.in-Some-file_mode.ensures in
     makes_by_create (paths_of c.args.setting.now) (makes_in (c.args.opening ∷ [])) c.args.world.now.world _ _
     c.args.opening.file
-    c.path_at-path.result.now h.0 c.requires.ready.distinct c.path_at-path.ensures.path_ h.1
-    (is_closed_true c.in-Some.mode h.0.mode h.2 (sym c.is_closed.ensures ∙ c.if-not-is_closed.false))
+    c.in-Some.path.now h.0 c.requires.ready.distinct c.in-Some.ensures.path_ h.1
+    (is_closed_true c.in-Some-file_mode.mode h.0.mode h.2 (sym c.is_closed.ensures ∙ c.if-not-is_closed.false))
     (makes_own c.args.opening c.if-opening.true) c.in_ok-create.ensures.part
 
 pub returns-in_err-open_input-clause-touches : goal.returns-in_err-open_input-clause-touches
@@ -70,16 +74,16 @@ returns-clause-touches g c =
 
 pub open_input-requires-clause-free : goal.open_input-requires-clause-free
 open_input-requires-clause-free g c =
-    let h = has_file c.in-Some.mode _ c.in-Some.ensures in
-    let shut = is_closed_true c.in-Some.mode h.0.mode h.2
+    let h = has_file c.in-Some-file_mode.mode _ c.in-Some-file_mode.ensures in
+    let shut = is_closed_true c.in-Some-file_mode.mode h.0.mode h.2
     (sym c.is_closed.ensures ∙ c.if-not-is_closed.false) in
     slot_free c.args.handles.now c.args.world.now.world.files c.requires.placed.purposes c.args.opening.file h.0 h.1
     (ap purpose_in shut)
 
 pub create-requires-clause-free : goal.create-requires-clause-free
 create-requires-clause-free g c =
-    let h = has_file c.in-Some.mode _ c.in-Some.ensures in
-    let shut = is_closed_true c.in-Some.mode h.0.mode h.2
+    let h = has_file c.in-Some-file_mode.mode _ c.in-Some-file_mode.ensures in
+    let shut = is_closed_true c.in-Some-file_mode.mode h.0.mode h.2
     (sym c.is_closed.ensures ∙ c.if-not-is_closed.false) in
     slot_free c.args.handles.now c.args.world.now.world.files c.requires.placed.purposes c.args.opening.file h.0 h.1
     (ap purpose_in shut)
@@ -95,7 +99,7 @@ returns-in_err-open_input-clause-fault g c =
     rw (p.1, p.2, c.if-opening.false) c.in_err-open_input.ensures.fault
 
 pub open_input-requires-clause-declared : goal.open_input-requires-clause-declared
-open_input-requires-clause-declared g c = (c.path_at-path.ensures.decl, c.path_at-path.ensures.declared)
+open_input-requires-clause-declared g c = (c.in-Some.ensures.decl, c.in-Some.ensures.declared)
 
 pub size_at-size-requires : goal.size_at-size-requires
-size_at-size-requires g c = (c.path_at-path.ensures.decl, c.path_at-path.ensures.declared)
+size_at-size-requires g c = (c.in-Some.ensures.decl, c.in-Some.ensures.declared)

@@ -6,7 +6,6 @@ use Rattle.cob_interp.proofs.Purposes.{slot_held}
 use Rattle.cob_interp.proofs.RecordReads.{idle_arrives, window_arrives, on_file}
 use Rattle.cob_interp.proofs.ReadParts.{idle_part_left, window_part_left}
 use Rattle.cob_interp.proofs.Failing.{never_fails, never_still, part_fine}
-use Rattle.cob_interp.proofs.FitLemmas.{declared_at, part_on, reads_there}
 use Rattle.cob_interp.proofs.reads.do_read.Goals as goal
 
 pub unreachable-requires : goal.unreachable-requires
@@ -17,41 +16,33 @@ unreachable-requires g c =
 
 pub returns-in-None-clause-placed : goal.returns-in-None-clause-placed
 returns-in-None-clause-placed g c =
-    let r = (reads_there (length c.args.setting.now.paths.now) _ c.args.file _ c.args.place.now.plan_node.now.op c.requires.reads
-    c.requires.starts.starts c.requires.fits.fits).0 in
     idle_part_left c.args.setting.now c.args.node c.args.place.now c.requires.starts c.args.file c.requires.reads
-    c.args.step r.0 r.1 r.2 r.3 (g.F.Files.state c.args.files.now)
+    c.args.step c.in-Read.found c.in-Read.end c.in-Read.bad c.in-Read.is (g.F.Files.state c.args.files.now)
     (g.F.Files.state c.args.files.now) c.args.handles.now c.args.world.now.world c.requires.placed _ _ c.in-None.ensures
     c.do_part.ensures.does
 
 pub returns-in-None-clause-takes : goal.returns-in-None-clause-takes
 returns-in-None-clause-takes g c = λ sink budget steps start counted within stands.
-    let r = (reads_there (length c.args.setting.now.paths.now) _ c.args.file _ c.args.place.now.plan_node.now.op c.requires.reads
-    c.requires.starts.starts c.requires.fits.fits).0 in
     idle_arrives c.args.setting.now c.args.node c.args.place.now c.requires.starts c.requires.ready.distinct c.args.file
     c.requires.reads budget steps c.args.step counted within start sink (g.F.Files.state c.args.files.now)
-    (g.F.Files.state c.args.files.now) c.args.world.now.world stands r.0 r.1 r.2
-    r.3 _ _ c.in-None.ensures c.do_part.ensures.does
+    (g.F.Files.state c.args.files.now) c.args.world.now.world stands c.in-Read.found c.in-Read.end c.in-Read.bad
+    c.in-Read.is _ _ c.in-None.ensures c.do_part.ensures.does
 
 pub returns-in-Some-clause-placed : goal.returns-in-Some-clause-placed
 returns-in-Some-clause-placed g c =
-    let r = (reads_there (length c.args.setting.now.paths.now) _ c.args.file _ c.args.place.now.plan_node.now.op c.requires.reads
-    c.requires.starts.starts c.requires.fits.fits).0 in
     rw c.do_window.ensures.ids
     (window_part_left c.args.setting.now c.args.node c.args.place.now c.requires.starts c.args.file c.requires.reads
-    c.args.step r.0 r.1 r.2 r.3 (g.F.Files.state c.args.files.now)
+    c.args.step c.in-Read.found c.in-Read.end c.in-Read.bad c.in-Read.is (g.F.Files.state c.args.files.now)
     (g.F.Files.state c.do_window.new.files) c.args.handles.now c.args.world.now.world c.requires.placed c.requires.live
     c.in-Some.before c.in-Some.ensures _ _ c.do_window.ensures.reads)
 
 pub returns-in-Some-clause-takes : goal.returns-in-Some-clause-takes
 returns-in-Some-clause-takes g c = λ sink budget steps start counted within stands.
-    let r = (reads_there (length c.args.setting.now.paths.now) _ c.args.file _ c.args.place.now.plan_node.now.op c.requires.reads
-    c.requires.starts.starts c.requires.fits.fits).0 in
     window_arrives c.args.setting.now c.args.node c.args.place.now c.requires.starts c.requires.ready.distinct
     c.args.file
     c.requires.reads budget steps c.args.step counted within start sink (g.F.Files.state c.args.files.now)
-    (g.F.Files.state c.do_window.new.files) c.args.world.now.world stands r.0 r.1 r.2
-    r.3 c.args.handles.now c.requires.placed c.in-Some.before c.in-Some.ensures c.do_window.ensures.same _ _
+    (g.F.Files.state c.do_window.new.files) c.args.world.now.world stands c.in-Read.found c.in-Read.end c.in-Read.bad
+    c.in-Read.is c.args.handles.now c.requires.placed c.in-Some.before c.in-Some.ensures c.do_window.ensures.same _ _
     c.do_window.ensures.reads
 
 pub do_window-requires-clause-reads : goal.do_window-requires-clause-reads
@@ -67,13 +58,3 @@ returns-in-None-clause-fault g c =
 pub returns-in-None-clause-still : goal.returns-in-None-clause-still
 returns-in-None-clause-still g c =
     never_still _ _ (part_fine c.args.setting.now c.args.place.now c.args.step _ _ _ c.do_part.ensures.does)
-
-pub do_window-requires-clause-declared : goal.do_window-requires-clause-declared
-do_window-requires-clause-declared g c =
-    declared_at c.args.setting.now c.args.file c.requires.ready.paths
-    (reads_there (length c.args.setting.now.paths.now) _ c.args.file _ c.args.place.now.plan_node.now.op c.requires.reads
-    c.requires.starts.starts c.requires.fits.fits).1
-
-pub returns-in-None-clause-on : goal.returns-in-None-clause-on
-returns-in-None-clause-on g c =
-    part_on c.args.setting.now c.args.place.now c.args.step _ _ _ c.do_part.ensures.does

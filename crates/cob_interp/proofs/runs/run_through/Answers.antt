@@ -45,9 +45,3 @@ pub walk-halted-requires-clause-placed : goal.walk-halted-requires-clause-placed
 walk-halted-requires-clause-placed g c =
     placed_first (plain_program c.args.program.now) _ (texts c.args.paths.now) (g.F.Files.state c.args.files.now) _ _ _
     c.requires.paths c.in-Ok-none.ensures.none c.in-Ok-none.ensures.purposes c.in-Ok-first.ensures.value
-
-pub returns-then-not-fits-clause-runs : goal.returns-then-not-fits-clause-runs
-returns-then-not-fits-clause-runs g c =
-    refused_first (plain_program c.args.program.now) c.args.graph.now (texts c.args.paths.now)
-    (length-map c.args.paths.now string_bytes ∙ c.requires.paths) c.ways_tell_of_runs.ensures c.requires.whole
-    c.requires.graph c.args.budget _
