@@ -154,7 +154,9 @@ module _ (p : Program) (g : Graph) (kept : IsWellFormed p) (graph : IsGraph p g)
   -- ---- all of them
 
   led_there : (i : ℕ) (x : Noded) → get (suc i) ≡ Some x → IsLed p get final (suc i) x
-  led_there i x laid = led_at p get final steps 1 i x (program_led p ps graph.laid kept).each laid
+  led_there i x laid =
+      subst (λ (n : ℕ). IsLed p get final n x) (omega arith)
+      (led_at p get final steps 1 i x (program_led p ps graph.laid kept).each laid)
 
   node_leads : (n : ℕ) (s : PlanNode) → node_at nodes n ≡ Some s → n < length nodes →
       OpLeadsOn nodes n s.statement s.op
