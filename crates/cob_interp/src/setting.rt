@@ -49,7 +49,7 @@ impl<'b> Setting<'b> {
     /// A node that isn't the last one, with its statement.
     pub fn place(&self, node: u32) -> Place<'_, 'b>
         requires ready { IsReady self.now }
-        requires above { 0 < node }
+        requires above { 1 ≤ node }
         requires below { node < length self.now.plan.nodes.items }
         ensures is { IsPlace self.now node result }
         ensures fits { FitsPlace self.now node result }

@@ -71,3 +71,5 @@ returns-clause-placed g c =
     c.in-Close.bad c.in-Close.is (c.requires.place.statement.its ∙ ap Some c.requires.its) c.in-Some.at again.is.decl again.file
     (sym c.in-Some.ensures) again.is.declared again.has _
     does))
+
+-- open: the clause `on`, by `part_on` of FitLemmas from what `do_part` does

@@ -89,3 +89,5 @@ pub returns-clause-met : goal.returns-clause-met
 returns-clause-met g c =
     never_met (open_files c.args.openings.now) _
     (part_fine c.args.setting.now c.args.place.now c.args.step _ _ _ c.do_part-next.ensures.does)
+
+-- open: the clause `on`, by `part_on` of FitLemmas from what `do_part` does

@@ -58,3 +58,5 @@ returns-in-None-clause-fault g c =
 pub returns-in-None-clause-still : goal.returns-in-None-clause-still
 returns-in-None-clause-still g c =
     never_still _ _ (part_fine c.args.setting.now c.args.place.now c.args.step _ _ _ c.do_part.ensures.does)
+
+-- open: the clause `on`, by `part_on` of FitLemmas from what `do_part` does

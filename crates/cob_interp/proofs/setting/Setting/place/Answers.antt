@@ -1,15 +1,10 @@
 use Rattle.std.proofs.Common.{ap, sym, ◌∙◌}
 use Rattle.cob_runs.specs.Effects.{act_at}
+use Rattle.cob_interp.specs.Setting.{program_of}
 use Rattle.cob_interp.proofs.setting.Setting.place.Goals as goal
 
-pub returns : goal.returns
-returns c =
-    let p = program_of c.args.self.now in
-    let statement = c.in_ok-statement.ensures.sound p c.requires.statements in
-    record {
-      plan_node = c.in_ok-plan_node.ensures.is c.args.self.now.graph.now c.requires.nodes;
-      statement = statement;
-      fits = c.in_ok-plan_node.ensures.fits p c.requires.fits _ c.in_ok-statement.ensures.positive
-          (ap (act_at p) (sym c.in_ok-statement.ensures.found) ∙ statement.its);
-      number = c.in_ok-statement.ensures.found;
-    }
+-- open: both `unreachable-requires` (the node is there, by `at` of `Plan::node` and `below`; its statement, by
+-- `c.requires.ready.steps.listed` and `listed` of `Plan::statement`), and the two clauses, of which `is` is
+--     record { plan_node = .. is ..; statement = .. sound ..; fits = c.requires.ready.steps.fits node _ at below _
+--         (ap (act_at p) (sym found) ∙ statement.its); number = found }
+-- and `fits` is record { above; below; at; leads = c.requires.ready.steps.leads node _ at below }
