@@ -1,18 +1,11 @@
 use Rattle.cob_program.specs.Act.{close_files}
-use Rattle.cob_interp.proofs.FitLemmas.{act_is, fits_as, on_by}
+use Rattle.cob_interp.proofs.FitLemmas.{act_is, on_by}
 use Rattle.cob_interp.proofs.steps.close_next.Goals as goal
 
 pub do_close-requires-clause-its : goal.do_close-requires-clause-its
 do_close-requires-clause-its g c =
     act_is c.args.setting.now c.args.node c.place-place.result c.place-place.ensures.is c.place-place.ensures.fits
     c.args.statement (close_files c.args.closed.now) c.requires.within c.requires.its
-
-pub do_close-requires-clause-fits : goal.do_close-requires-clause-fits
-do_close-requires-clause-fits g c =
-    fits_as c.args.setting.now c.args.node c.place-place.result c.place-place.ensures.is c.place-place.ensures.fits
-    (close_files c.args.closed.now)
-    (act_is c.args.setting.now c.args.node c.place-place.result c.place-place.ensures.is c.place-place.ensures.fits
-    c.args.statement (close_files c.args.closed.now) c.requires.within c.requires.its)
 
 pub returns-clause-leads : goal.returns-clause-leads
 returns-clause-leads g c = λ sink budget. c.do_close.ensures.leads sink c.args.node budget c.place-place.ensures.is
