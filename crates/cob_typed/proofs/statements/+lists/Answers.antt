@@ -1,7 +1,7 @@
 use Rattle.std.proofs.Common.{◌∙◌, ◌+◌, sym, ap, map, option_map, rules}
 use Rattle.cob_tree.specs.declared.stmt.Verb.TheOpen as layer
 use Rattle.cob_tree.specs.declared.stmt.Verb.TheFolds.{fold-roll-Verb}
-use Rattle.cob_tree.specs.declared.stmt.Verb.TheVariants.{rolls-Move, rolls-Display, rolls-PerformRange, rolls-Open, rolls-Close, rolls-AddTo, rolls-AddGiving, rolls-SubtractFrom, rolls-SubtractGiving, rolls-MultiplyBy, rolls-MultiplyGiving, rolls-DivideInto, rolls-DivideGiving, rolls-Compute, rolls-If, rolls-PerformInline, rolls-Read}
+use Rattle.cob_tree.specs.declared.stmt.Verb.TheVariants.{rolls-Move, rolls-Display, rolls-PerformRange, rolls-Open, rolls-Close, rolls-AddTo, rolls-AddGiving, rolls-SubtractFrom, rolls-SubtractGiving, rolls-MultiplyBy, rolls-MultiplyGiving, rolls-DivideInto, rolls-DivideGiving, rolls-Compute, rolls-If, rolls-Evaluate, rolls-PerformInline, rolls-Read}
 use Rattle.cob_tree.specs.ExprView.{plain_expr}
 use Rattle.cob_tree.specs.CondView.{plain_cond}
 use Rattle.cob_tree.specs.Stmt as tree
@@ -16,7 +16,7 @@ use Rattle.cob_typed_verbs.specs.Arithmetic.{add_to, add_giving, subtract_from, 
 use Rattle.cob_typed_verbs.specs.Workings.{plain_worked}
 use Rattle.cob_typed_exprs.proofs.EachLemmas.{map_more}
 use Rattle.cob_typed.proofs.ListLemmas.{stmts_from, whens_from, stmts_step, stmts_end, whens_step, whens_end, stmt_value, stmt_next, stmt_found, when_value, when_next, when_found, whens_behind, whens_none, joined_none}
-use Rattle.cob_typed.proofs.StmtLemmas.{when_is_of, only_found, work_found, if_found, inline_found, read_is, read_found, read_value, choice_found}
+use Rattle.cob_typed.proofs.StmtLemmas.{when_is_of, only_found, work_found, if_found, cases_found, inline_found, read_is, read_found, read_value, choice_found}
 use Rattle.cob_typed.proofs.statements.+lists.Goals as goal
 
 pub add_stmts-loop-statement-preserved : goal.add_stmts-loop-statement-preserved
@@ -164,6 +164,13 @@ typed_verb-returns-in-Ok-typed_lists-clause-found t c =
     let is = ap tree_view.plain_verb (c.in-If.is ∙ sym (rolls-If c.in-If.test c.in-If.yes c.in-If.other c.in-If.ended)) ∙ fold-roll-Verb _ _ _ _ _ _ _ _ (layer.If c.in-If.test c.in-If.yes c.in-If.other c.in-If.ended) in
     if_found c.args.scope.now c.args.line c.args.next.now (tree_view.plain_verb c.args.verb.now) c.args.findings.now.items _ (plain_cond c.in-If.test) (tree_list c.in-If.yes) (tree_phrase c.in-If.other) c.condition.new.findings.items (ap (typed_verb c.args.scope.now c.args.line c.args.next.now) is ∙ search rules) (search rules) (search rules)
 
+pub typed_verb-returns-in-Ok-typed_cases-clause-found : goal.typed_verb-returns-in-Ok-typed_cases-clause-found
+typed_verb-returns-in-Ok-typed_cases-clause-found t c =
+    let e = c.in-Evaluate in
+    let is = ap tree_view.plain_verb (e.is ∙ sym (rolls-Evaluate e.subject e.whens e.other e.ended)) ∙ fold-roll-Verb _ _ _ _ _ _ _ _ (layer.Evaluate e.subject e.whens e.other e.ended) in
+    cases_found c.args.scope.now c.args.line c.args.next.now (tree_view.plain_verb c.args.verb.now) c.args.findings.now.items _ e.subject (tree.whens_of (map tree_view.plain_when e.whens.items)) (tree_phrase e.other) c.looked_at.new.findings.items c.in-Ok-looked_at.given
+    c.in-Ok-looked_at.ensures.value (ap (typed_verb c.args.scope.now c.args.line c.args.next.now) is ∙ search rules) (search rules) (search rules)
+
 pub typed_verb-returns-in-Ok-typed_stmts-clause-found : goal.typed_verb-returns-in-Ok-typed_stmts-clause-found
 typed_verb-returns-in-Ok-typed_stmts-clause-found t c =
     let is = ap tree_view.plain_verb (c.in-PerformInline.is ∙ sym (rolls-PerformInline c.in-PerformInline.turns c.in-PerformInline.body)) ∙ fold-roll-Verb _ _ _ _ _ _ _ _ (layer.PerformInline c.in-PerformInline.turns c.in-PerformInline.body) in
@@ -173,6 +180,11 @@ pub typed_verb-returns-in-Ok-typed_phrases-clause-found : goal.typed_verb-return
 typed_verb-returns-in-Ok-typed_phrases-clause-found t c =
     let is = ap tree_view.plain_verb (c.in-Read.is ∙ sym (rolls-Read c.in-Read.file c.in-Read.into c.in-Read.end c.in-Read.not_end c.in-Read.ended)) ∙ read_is c.in-Read.file c.in-Read.into c.in-Read.end c.in-Read.not_end c.in-Read.ended in
     read_found c.args.scope.now c.args.line c.args.next.now (tree_view.plain_verb c.args.verb.now) c.args.findings.now.items _ c.in-Read.file c.in-Read.into (tree_phrase c.in-Read.end) (tree_phrase c.in-Read.not_end) c.read_parts.new.findings.items (ap (typed_verb c.args.scope.now c.args.line c.args.next.now) is) (search rules) c.in-Ok-typed_phrases.ensures.found
+
+pub typed_verb-returns-in-Ok-typed_phrases-clause-next : goal.typed_verb-returns-in-Ok-typed_phrases-clause-next
+typed_verb-returns-in-Ok-typed_phrases-clause-next t c =
+    let is = ap tree_view.plain_verb (c.in-Read.is ∙ sym (rolls-Read c.in-Read.file c.in-Read.into c.in-Read.end c.in-Read.not_end c.in-Read.ended)) ∙ read_is c.in-Read.file c.in-Read.into c.in-Read.end c.in-Read.not_end c.in-Read.ended in
+    c.in-Ok-typed_phrases.ensures.next ∙ sym (ap (λ (v : tree.Verb). (typed_verb c.args.scope.now c.args.line c.args.next.now v).next) is)
 
 pub typed_verb-returns-in-Ok-typed_phrases-clause-value : goal.typed_verb-returns-in-Ok-typed_phrases-clause-value
 typed_verb-returns-in-Ok-typed_phrases-clause-value t c =
