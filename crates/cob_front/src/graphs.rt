@@ -25,8 +25,9 @@ fn laid_out(alloc: Global, program: &Program) -> Result<Graph, Refusal>
 {
     match graph_of(alloc, program) {
         Ok(graph) => Ok(graph),
-        Err(FlowEnd::Outside { .. } | FlowEnd::Memory) => Err(Refusal::Memory),
+        Err(FlowEnd::Outside { .. }) => unreachable!(),
         Err(FlowEnd::Limit { which, count }) => Err(Refusal::Limit { which, count }),
+        Err(FlowEnd::Memory) => Err(Refusal::Memory),
     }
 }
 
@@ -41,6 +42,7 @@ pub fn graph_in(alloc: Global, program: &Program) -> Result<Graph, Refusal>
     match nested(alloc, program) {
         Ok(()) => laid_out(alloc, program),
         Err(FlowEnd::Outside { rule, line }) => Err(Refusal::Outside { rule, line }),
-        Err(FlowEnd::Limit { .. } | FlowEnd::Memory) => Err(Refusal::Memory),
+        Err(FlowEnd::Limit { .. }) => unreachable!(),
+        Err(FlowEnd::Memory) => Err(Refusal::Memory),
     }
 }

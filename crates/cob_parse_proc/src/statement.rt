@@ -139,8 +139,8 @@ fn whens_in(
     ensures takes { IfOk result (λ x. x.2 ≡ phrase_may (plain_phrase x.1) (may (takes_whens (whens_of (map plain_when x.0.items))))) }
     ensures rest { IfOk result (λ x. length x.3.now ≤ length lexemes.now) }
 {
-    let (first, mut takes_not, mut left) = when_in(alloc, lexemes, room)?;
     let mut whens = with_room(alloc)?;
+    let (first, mut takes_not, mut left) = when_in(alloc, lexemes, room)?;
     whens.push(first)?;
     'whens: while when_begins(left) {
         if let Some(rest) = both_behind(Keyword::When, Keyword::Other, left) {
@@ -273,8 +273,8 @@ pub fn stmts_in(
     if room == 0 {
         return Err(full(lexemes));
     }
-    let (first, mut takes_not, mut left) = stmt_in(alloc, lexemes, room - 1)?;
     let mut stmts = with_room(alloc)?;
+    let (first, mut takes_not, mut left) = stmt_in(alloc, lexemes, room - 1)?;
     stmts.push(first)?;
     'stmts: while starts(left) {
         let (stmt, takes, rest) = stmt_in(alloc, left, room - 1)?;

@@ -241,14 +241,14 @@ pub fn add_in(alloc: Global, lexemes: &[Lexeme]) -> Result<(Arithmetic, &[Lexeme
     ensures gives { Gives (λ x. (plain_arithmetic x.0, signs x.1.now)) result (add_at (signs lexemes.now)) }
     ensures rest { IfOk result (λ x. length x.1.now ≤ length lexemes.now) }
 {
-    let (addends, rest) = opnds_in(alloc, lexemes)?;
+    let (addends, rest) = or_leave!(opnds_in(alloc, lexemes));
     match behind(Keyword::To, rest) {
         Some(rest) => {
-            let (target, rest) = target_in(alloc, rest)?;
+            let (target, rest) = or_leave!(target_in(alloc, rest), addends);
             Ok((added(addends, target), rest))
         }
         None => {
-            let (giving, rest) = giving_in(alloc, rest)?;
+            let (giving, rest) = or_leave!(giving_in(alloc, rest), addends);
             Ok((summed(addends, giving), rest))
         }
     }
@@ -276,9 +276,9 @@ pub fn subtract_in(alloc: Global, lexemes: &[Lexeme]) -> Result<(Arithmetic, &[L
     ensures gives { Gives (λ x. (plain_arithmetic x.0, signs x.1.now)) result (subtract_at (signs lexemes.now)) }
     ensures rest { IfOk result (λ x. length x.1.now ≤ length lexemes.now) }
 {
-    let (less, rest) = opnds_in(alloc, lexemes)?;
-    let rest = expect(Keyword::From, rest)?;
-    let (target, rest) = target_in(alloc, rest)?;
+    let (less, rest) = or_leave!(opnds_in(alloc, lexemes));
+    let rest = or_leave!(expect(Keyword::From, rest), less);
+    let (target, rest) = or_leave!(target_in(alloc, rest), less);
     Ok((subtracted(less, target), rest))
 }
 
@@ -303,9 +303,9 @@ pub fn multiply_in(alloc: Global, lexemes: &[Lexeme]) -> Result<(Arithmetic, &[L
     ensures gives { Gives (λ x. (plain_arithmetic x.0, signs x.1.now)) result (multiply_at (signs lexemes.now)) }
     ensures rest { IfOk result (λ x. length x.1.now ≤ length lexemes.now) }
 {
-    let (factor, rest) = opnd_in(alloc, lexemes)?;
-    let rest = expect(Keyword::By, rest)?;
-    let (target, rest) = target_in(alloc, rest)?;
+    let (factor, rest) = or_leave!(opnd_in(alloc, lexemes));
+    let rest = or_leave!(expect(Keyword::By, rest), factor);
+    let (target, rest) = or_leave!(target_in(alloc, rest), factor);
     Ok((multiplied(factor, target), rest))
 }
 
@@ -364,9 +364,9 @@ fn divide_by_in(
     ensures gives { Gives (λ x. (plain_arithmetic x.0, signs x.1.now)) result (seen (λ p. make_divide (first, inr p)) by_part (signs lexemes.now)) }
     ensures rest { IfOk result (λ x. length x.1.now ≤ length lexemes.now) }
 {
-    let rest = expect(Keyword::By, lexemes)?;
-    let (second, rest) = opnd_in(alloc, rest)?;
-    let (giving, remainder, rest) = giving_remainder_in(alloc, rest)?;
+    let rest = or_leave!(expect(Keyword::By, lexemes), first);
+    let (second, rest) = or_leave!(opnd_in(alloc, rest), first);
+    let (giving, remainder, rest) = or_leave!(giving_remainder_in(alloc, rest), first, second);
     Ok((divided(first, Way::By, second, giving, remainder), rest))
 }
 
@@ -391,9 +391,9 @@ pub fn compute_in(
     ensures gives { Gives (λ x. (plain_arithmetic x.0, signs x.1.now)) result (compute_at room (signs lexemes.now)) }
     ensures rest { IfOk result (λ x. length x.1.now ≤ length lexemes.now) }
 {
-    let (to, rest) = recvs_in(alloc, lexemes)?;
-    let rest = expect_equal(rest)?;
-    let (value, rest) = expr_in(alloc, rest, room)?;
+    let (to, rest) = or_leave!(recvs_in(alloc, lexemes));
+    let rest = or_leave!(expect_equal(rest), to);
+    let (value, rest) = or_leave!(expr_in(alloc, rest, room), to);
     let to = Many::of(to);
     Ok((Arithmetic::Compute { to, value }, rest))
 }

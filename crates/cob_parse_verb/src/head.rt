@@ -40,7 +40,7 @@ fn if_in(alloc: Global, lexemes: &[Lexeme], room: u32) -> Result<(Head, bool, &[
     ensures takes { IfOk result (λ x. x.1 ≡ takes_behind (plain_head x.0) NotRelates) }
     ensures rest { IfOk result (λ x. length x.2.now ≤ length lexemes.now) }
 {
-    let (test, takes_not, rest) = cond_in(alloc, lexemes, room)?;
+    let (test, takes_not, rest) = or_leave!(cond_in(alloc, lexemes, room));
     Ok((Head::If(test), takes_not, rest))
 }
 
@@ -52,7 +52,7 @@ fn add_head(alloc: Global, lexemes: &[Lexeme]) -> Result<(Head, bool, &[Lexeme])
     ensures takes { IfOk result (λ x. x.1 ≡ takes_behind (plain_head x.0) NotRelates) }
     ensures rest { IfOk result (λ x. length x.2.now ≤ length lexemes.now) }
 {
-    let (sum, rest) = add_in(alloc, lexemes)?;
+    let (sum, rest) = or_leave!(add_in(alloc, lexemes));
     Ok((Head::Arithmetic(sum), false, rest))
 }
 
@@ -62,7 +62,7 @@ fn subtract_head(alloc: Global, lexemes: &[Lexeme]) -> Result<(Head, bool, &[Lex
     ensures takes { IfOk result (λ x. x.1 ≡ takes_behind (plain_head x.0) NotRelates) }
     ensures rest { IfOk result (λ x. length x.2.now ≤ length lexemes.now) }
 {
-    let (sum, rest) = subtract_in(alloc, lexemes)?;
+    let (sum, rest) = or_leave!(subtract_in(alloc, lexemes));
     Ok((Head::Arithmetic(sum), false, rest))
 }
 
@@ -72,7 +72,7 @@ fn multiply_head(alloc: Global, lexemes: &[Lexeme]) -> Result<(Head, bool, &[Lex
     ensures takes { IfOk result (λ x. x.1 ≡ takes_behind (plain_head x.0) NotRelates) }
     ensures rest { IfOk result (λ x. length x.2.now ≤ length lexemes.now) }
 {
-    let (sum, rest) = multiply_in(alloc, lexemes)?;
+    let (sum, rest) = or_leave!(multiply_in(alloc, lexemes));
     Ok((Head::Arithmetic(sum), false, rest))
 }
 
@@ -82,7 +82,7 @@ fn divide_head(alloc: Global, lexemes: &[Lexeme]) -> Result<(Head, bool, &[Lexem
     ensures takes { IfOk result (λ x. x.1 ≡ takes_behind (plain_head x.0) NotRelates) }
     ensures rest { IfOk result (λ x. length x.2.now ≤ length lexemes.now) }
 {
-    let (sum, rest) = divide_in(alloc, lexemes)?;
+    let (sum, rest) = or_leave!(divide_in(alloc, lexemes));
     Ok((Head::Arithmetic(sum), false, rest))
 }
 
@@ -96,7 +96,7 @@ fn compute_head(
     ensures takes { IfOk result (λ x. x.1 ≡ takes_behind (plain_head x.0) NotRelates) }
     ensures rest { IfOk result (λ x. length x.2.now ≤ length lexemes.now) }
 {
-    let (sum, rest) = compute_in(alloc, lexemes, room)?;
+    let (sum, rest) = or_leave!(compute_in(alloc, lexemes, room));
     Ok((Head::Arithmetic(sum), false, rest))
 }
 
@@ -145,7 +145,7 @@ pub fn head_in(
     ensures takes { IfOk result (λ x. x.2 ≡ takes_head (x.0, plain_head x.1) NotRelates) }
     ensures rest { IfOk result (λ x. length x.3.now < length lexemes.now) }
 {
-    let (begin, rest) = begin_in(lexemes)?;
-    let (head, takes_not, rest) = behind_in(alloc, begin.start, rest, room)?;
+    let (begin, rest) = or_leave!(begin_in(lexemes));
+    let (head, takes_not, rest) = or_leave!(behind_in(alloc, begin.start, rest, room));
     Ok((begin, head, takes_not, rest))
 }

@@ -36,8 +36,8 @@ fn times_in(alloc: Global, lexemes: &[Lexeme]) -> Result<(Opnd, &[Lexeme]), Halt
     ensures gives { Gives (λ x. ((x.0, tt), signs x.1.now)) result (times_at (signs lexemes.now)) }
     ensures rest { IfOk result (λ x. length x.1.now ≤ length lexemes.now) }
 {
-    let (count, rest) = opnd_in(alloc, lexemes)?;
-    let rest = expect(Keyword::Times, rest)?;
+    let (count, rest) = or_leave!(opnd_in(alloc, lexemes));
+    let rest = or_leave!(expect(Keyword::Times, rest), count);
     Ok((count, rest))
 }
 
@@ -46,11 +46,11 @@ fn varying_in(alloc: Global, lexemes: &[Lexeme]) -> Result<(Varying, &[Lexeme]),
     ensures gives { Gives (λ x. (x.0, signs x.1.now)) result (varying_at (signs lexemes.now)) }
     ensures rest { IfOk result (λ x. length x.1.now ≤ length lexemes.now) }
 {
-    let (item, rest) = ref_in(alloc, lexemes)?;
-    let rest = expect(Keyword::From, rest)?;
-    let (from, rest) = opnd_in(alloc, rest)?;
-    let rest = expect(Keyword::By, rest)?;
-    let (by, rest) = opnd_in(alloc, rest)?;
+    let (item, rest) = or_leave!(ref_in(alloc, lexemes));
+    let rest = or_leave!(expect(Keyword::From, rest), item);
+    let (from, rest) = or_leave!(opnd_in(alloc, rest), item);
+    let rest = or_leave!(expect(Keyword::By, rest), item, from);
+    let (by, rest) = or_leave!(opnd_in(alloc, rest), item, from);
     Ok((Varying { item, from, by }, rest))
 }
 
@@ -59,7 +59,7 @@ fn until_in(alloc: Global, lexemes: &[Lexeme], room: u32) -> Result<(Cond, bool,
     ensures takes { IfOk result (λ x. x.1 ≡ takes_cond (plain_cond x.0) NotRelates) }
     ensures rest { IfOk result (λ x. length x.2.now ≤ length lexemes.now) }
 {
-    let rest = expect(Keyword::Until, lexemes)?;
+    let rest = or_leave!(expect(Keyword::Until, lexemes));
     cond_in(alloc, rest, room)
 }
 
@@ -75,12 +75,12 @@ fn varied_in(
 {
     match behind(Keyword::Varying, lexemes) {
         Some(rest) => {
-            let (varying, rest) = varying_in(alloc, rest)?;
-            let (cond, takes_not, rest) = until_in(alloc, rest, room)?;
+            let (varying, rest) = or_leave!(varying_in(alloc, rest));
+            let (cond, takes_not, rest) = or_leave!(until_in(alloc, rest, room), varying);
             Ok((Some(varying), cond, takes_not, rest))
         }
         None => {
-            let (cond, takes_not, rest) = until_in(alloc, lexemes, room)?;
+            let (cond, takes_not, rest) = or_leave!(until_in(alloc, lexemes, room));
             Ok((None, cond, takes_not, rest))
         }
     }
@@ -98,12 +98,12 @@ pub fn tested_in(
 {
     match behind(Keyword::Test, lexemes) {
         Some(rest) => {
-            let (place, rest) = place_in(rest)?;
-            let (varying, cond, takes_not, rest) = varied_in(alloc, rest, room)?;
+            let (place, rest) = or_leave!(place_in(rest));
+            let (varying, cond, takes_not, rest) = or_leave!(varied_in(alloc, rest, room));
             Ok((until(Some(place), varying, cond), takes_not, rest))
         }
         None => {
-            let (varying, cond, takes_not, rest) = varied_in(alloc, lexemes, room)?;
+            let (varying, cond, takes_not, rest) = or_leave!(varied_in(alloc, lexemes, room));
             Ok((until(None, varying, cond), takes_not, rest))
         }
     }
@@ -121,7 +121,7 @@ pub fn loop_in(
     ensures rest { IfOk result (λ x. length x.2.now ≤ length lexemes.now) }
 {
     if operand_begins(lexemes) {
-        let (count, rest) = times_in(alloc, lexemes)?;
+        let (count, rest) = or_leave!(times_in(alloc, lexemes));
         Ok((times(count), false, rest))
     } else {
         tested_in(alloc, lexemes, room)

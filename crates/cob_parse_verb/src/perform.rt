@@ -32,8 +32,8 @@ fn counted_in(alloc: Global, lexemes: &[Lexeme]) -> Result<(Head, bool, &[Lexeme
     ensures takes { IfOk result (λ x. x.1 ≡ takes_behind (plain_head x.0) NotRelates) }
     ensures rest { IfOk result (λ x. length x.2.now ≤ length lexemes.now) }
 {
-    let (item, rest) = ref_in(alloc, lexemes)?;
-    let rest = expect(Keyword::Times, rest)?;
+    let (item, rest) = or_leave!(ref_in(alloc, lexemes));
+    let rest = or_leave!(expect(Keyword::Times, rest), item);
     Ok((Head::Perform(Some(times(Opnd::Ref(item)))), false, rest))
 }
 
@@ -48,10 +48,10 @@ fn through_in(
     ensures takes { IfOk result (λ x. x.1 ≡ takes_behind (plain_head x.0) NotRelates) }
     ensures rest { IfOk result (λ x. length x.2.now ≤ length lexemes.now) }
 {
-    let rest = expect(Keyword::Thru, lexemes)?;
-    let (thru, rest) = name_at(alloc, rest)?;
+    let rest = or_leave!(expect(Keyword::Thru, lexemes), first);
+    let (thru, rest) = or_leave!(name_at(alloc, rest), first);
     if loop_begins(rest) {
-        let (turns, takes_not, rest) = loop_in(alloc, rest, room)?;
+        let (turns, takes_not, rest) = or_leave!(loop_in(alloc, rest, room), first, thru);
         Ok((range(first, Some(thru), Some(turns)), takes_not, rest))
     } else {
         Ok((range(first, Some(thru), None), false, rest))
@@ -72,7 +72,7 @@ fn ranged_in(
     match behind(Keyword::Thru, lexemes) {
         Some(_) => through_in(alloc, first, lexemes, room),
         None => {
-            let (turns, takes_not, rest) = loop_in(alloc, lexemes, room)?;
+            let (turns, takes_not, rest) = or_leave!(loop_in(alloc, lexemes, room), first);
             Ok((range(first, None, Some(turns)), takes_not, rest))
         }
     }
@@ -102,11 +102,11 @@ fn unnamed_in(alloc: Global, lexemes: &[Lexeme], room: u32) -> Result<(Head, boo
     ensures rest { IfOk result (λ x. length x.2.now ≤ length lexemes.now) }
 {
     if begins_constant(lexemes) {
-        let (count, rest) = const_at(alloc, lexemes)?;
-        let rest = expect(Keyword::Times, rest)?;
+        let (count, rest) = or_leave!(const_at(alloc, lexemes));
+        let rest = or_leave!(expect(Keyword::Times, rest), count);
         Ok((Head::Perform(Some(times(Opnd::Const(count)))), false, rest))
     } else {
-        let (turns, takes_not, rest) = tested_in(alloc, lexemes, room)?;
+        let (turns, takes_not, rest) = or_leave!(tested_in(alloc, lexemes, room));
         Ok((Head::Perform(Some(turns)), takes_not, rest))
     }
 }

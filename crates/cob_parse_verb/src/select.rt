@@ -41,7 +41,7 @@ pub fn evaluate_in(alloc: Global, lexemes: &[Lexeme]) -> Result<(Head, bool, &[L
     match behind(Keyword::True, lexemes) {
         Some(rest) => Ok((Head::Evaluate(Subject::True), false, rest)),
         None => {
-            let (item, rest) = ref_in(alloc, lexemes)?;
+            let (item, rest) = or_leave!(ref_in(alloc, lexemes));
             Ok((Head::Evaluate(Subject::Ref(item)), false, rest))
         }
     }
@@ -90,7 +90,7 @@ fn choice_in(alloc: Global, lexemes: &[Lexeme], room: u32) -> Result<(Sel, bool,
     ensures takes { IfOk result (λ x. x.1 ≡ takes_sel (plain_sel x.0) NotRelates) }
     ensures rest { IfOk result (λ x. length x.2.now < length lexemes.now) }
 {
-    let rest = expect(Keyword::When, lexemes)?;
+    let rest = or_leave!(expect(Keyword::When, lexemes));
     sel_in(alloc, rest, room)
 }
 

@@ -85,9 +85,9 @@ pub fn move_in(alloc: Global, lexemes: &[Lexeme]) -> Result<(Head, bool, &[Lexem
     ensures takes { IfOk result (λ x. x.1 ≡ takes_behind (plain_head x.0) NotRelates) }
     ensures rest { IfOk result (λ x. length x.2.now ≤ length lexemes.now) }
 {
-    let (from, rest) = opnd_in(alloc, lexemes)?;
-    let rest = expect(Keyword::To, rest)?;
-    let (to, rest) = refs_in(alloc, rest)?;
+    let (from, rest) = or_leave!(opnd_in(alloc, lexemes));
+    let rest = or_leave!(expect(Keyword::To, rest), from);
+    let (to, rest) = or_leave!(refs_in(alloc, rest), from);
     Ok((moved(from, Many::of(to)), false, rest))
 }
 
@@ -97,9 +97,9 @@ pub fn set_in(alloc: Global, lexemes: &[Lexeme]) -> Result<(Head, bool, &[Lexeme
     ensures takes { IfOk result (λ x. x.1 ≡ takes_behind (plain_head x.0) NotRelates) }
     ensures rest { IfOk result (λ x. length x.2.now ≤ length lexemes.now) }
 {
-    let (name, rest) = name_at(alloc, lexemes)?;
-    let rest = expect(Keyword::To, rest)?;
-    let rest = expect(Keyword::True, rest)?;
+    let (name, rest) = or_leave!(name_at(alloc, lexemes));
+    let rest = or_leave!(expect(Keyword::To, rest), name);
+    let rest = or_leave!(expect(Keyword::True, rest), name);
     Ok((set(name), false, rest))
 }
 
@@ -109,7 +109,7 @@ pub fn display_in(alloc: Global, lexemes: &[Lexeme]) -> Result<(Head, bool, &[Le
     ensures takes { IfOk result (λ x. x.1 ≡ takes_behind (plain_head x.0) NotRelates) }
     ensures rest { IfOk result (λ x. length x.2.now ≤ length lexemes.now) }
 {
-    let (operands, rest) = opnds_in(alloc, lexemes)?;
+    let (operands, rest) = or_leave!(opnds_in(alloc, lexemes));
     Ok((display(Many::of(operands)), false, rest))
 }
 
@@ -118,7 +118,7 @@ pub fn go_in(alloc: Global, lexemes: &[Lexeme]) -> Result<(Head, bool, &[Lexeme]
     ensures takes { IfOk result (λ x. x.1 ≡ takes_behind (plain_head x.0) NotRelates) }
     ensures rest { IfOk result (λ x. length x.2.now ≤ length lexemes.now) }
 {
-    let (name, rest) = name_at(alloc, lexemes)?;
+    let (name, rest) = or_leave!(name_at(alloc, lexemes));
     Ok((go(name), false, rest))
 }
 
@@ -127,7 +127,7 @@ pub fn stop_in(lexemes: &[Lexeme]) -> Result<(Head, bool, &[Lexeme]), Halt>
     ensures takes { IfOk result (λ x. x.1 ≡ takes_behind (plain_head x.0) NotRelates) }
     ensures rest { IfOk result (λ x. length x.2.now ≤ length lexemes.now) }
 {
-    let rest = expect(Keyword::Run, lexemes)?;
+    let rest = or_leave!(expect(Keyword::Run, lexemes));
     Ok((stop_run(), false, rest))
 }
 
@@ -136,7 +136,7 @@ pub fn open_in(alloc: Global, lexemes: &[Lexeme]) -> Result<(Head, bool, &[Lexem
     ensures takes { IfOk result (λ x. x.1 ≡ takes_behind (plain_head x.0) NotRelates) }
     ensures rest { IfOk result (λ x. length x.2.now ≤ length lexemes.now) }
 {
-    let (files, rest) = files_in(alloc, lexemes)?;
+    let (files, rest) = or_leave!(files_in(alloc, lexemes));
     Ok((open(Many::of(files)), false, rest))
 }
 
@@ -145,7 +145,7 @@ pub fn close_in(alloc: Global, lexemes: &[Lexeme]) -> Result<(Head, bool, &[Lexe
     ensures takes { IfOk result (λ x. x.1 ≡ takes_behind (plain_head x.0) NotRelates) }
     ensures rest { IfOk result (λ x. length x.2.now ≤ length lexemes.now) }
 {
-    let (names, rest) = names_in(alloc, lexemes)?;
+    let (names, rest) = or_leave!(names_in(alloc, lexemes));
     Ok((close(Many::of(names)), false, rest))
 }
 
@@ -154,10 +154,10 @@ fn written_in(alloc: Global, lexemes: &[Lexeme]) -> Result<(Ref, Option<Opnd>, &
     ensures gives { Gives (λ x. ((x.0, x.1), signs x.2.now)) result (written_at (signs lexemes.now)) }
     ensures rest { IfOk result (λ x. length x.2.now ≤ length lexemes.now) }
 {
-    let (item, rest) = ref_in(alloc, lexemes)?;
+    let (item, rest) = or_leave!(ref_in(alloc, lexemes));
     match behind(Keyword::From, rest) {
         Some(rest) => {
-            let (from, rest) = opnd_in(alloc, rest)?;
+            let (from, rest) = or_leave!(opnd_in(alloc, rest), item);
             Ok((item, Some(from), rest))
         }
         None => Ok((item, None, rest)),
@@ -169,7 +169,7 @@ pub fn write_in(alloc: Global, lexemes: &[Lexeme]) -> Result<(Head, bool, &[Lexe
     ensures takes { IfOk result (λ x. x.1 ≡ takes_behind (plain_head x.0) NotRelates) }
     ensures rest { IfOk result (λ x. length x.2.now ≤ length lexemes.now) }
 {
-    let (item, from, rest) = written_in(alloc, lexemes)?;
+    let (item, from, rest) = or_leave!(written_in(alloc, lexemes));
     match behind(Keyword::EndWrite, rest) {
         Some(rest) => Ok((write(item, from, true), false, rest)),
         None => Ok((write(item, from, false), false, rest)),
@@ -182,10 +182,10 @@ pub fn read_in(alloc: Global, lexemes: &[Lexeme]) -> Result<(Head, bool, &[Lexem
     ensures takes { IfOk result (λ x. x.1 ≡ takes_behind (plain_head x.0) NotRelates) }
     ensures rest { IfOk result (λ x. length x.2.now ≤ length lexemes.now) }
 {
-    let (file, rest) = name_at(alloc, lexemes)?;
+    let (file, rest) = or_leave!(name_at(alloc, lexemes));
     match behind(Keyword::Into, rest) {
         Some(rest) => {
-            let (into, rest) = ref_in(alloc, rest)?;
+            let (into, rest) = or_leave!(ref_in(alloc, rest), file);
             let into = Some(into);
             Ok((Head::Read { file, into }, false, rest))
         }

@@ -58,10 +58,10 @@ pub fn aim_in(alloc: Global, lexemes: &[Lexeme]) -> Result<(Aim, &[Lexeme]), Hal
     ensures rest { IfOk result (λ x. length x.1.now ≤ length lexemes.now) }
 {
     if begins_name(lexemes) {
-        let (recvs, rest) = recvs_in(alloc, lexemes)?;
+        let (recvs, rest) = or_leave!(recvs_in(alloc, lexemes));
         Ok((aimed(recvs, giving_begins(rest)), rest))
     } else {
-        let (constant, rest) = const_at(alloc, lexemes)?;
+        let (constant, rest) = or_leave!(const_at(alloc, lexemes));
         Ok((Aim::Operand(Opnd::Const(constant)), rest))
     }
 }
@@ -71,7 +71,7 @@ pub fn giving_in(alloc: Global, lexemes: &[Lexeme]) -> Result<(Vec<Recv>, &[Lexe
     ensures gives { Gives (λ x. ((tt, x.0.items), signs x.1.now)) result (giving_at recvs_at (signs lexemes.now)) }
     ensures rest { IfOk result (λ x. length x.1.now ≤ length lexemes.now) }
 {
-    let rest = expect(Keyword::Giving, lexemes)?;
+    let rest = or_leave!(expect(Keyword::Giving, lexemes));
     recvs_in(alloc, rest)
 }
 
@@ -80,10 +80,10 @@ fn given_in(alloc: Global, lexemes: &[Lexeme]) -> Result<(Vec<Recv>, Option<Ref>
     ensures gives { Gives (λ x. ((x.0.items, x.1), signs x.2.now)) result (given_at (signs lexemes.now)) }
     ensures rest { IfOk result (λ x. length x.2.now ≤ length lexemes.now) }
 {
-    let (recvs, rest) = recvs_in(alloc, lexemes)?;
+    let (recvs, rest) = or_leave!(recvs_in(alloc, lexemes));
     match behind(Keyword::Remainder, rest) {
         Some(rest) => {
-            let (item, rest) = ref_in(alloc, rest)?;
+            let (item, rest) = or_leave!(ref_in(alloc, rest), recvs);
             Ok((recvs, Some(item), rest))
         }
         None => Ok((recvs, None, rest)),
@@ -98,7 +98,7 @@ pub fn giving_remainder_in(
     ensures gives { Gives (λ x. ((tt, (x.0.items, x.1)), signs x.2.now)) result (giving_at given_at (signs lexemes.now)) }
     ensures rest { IfOk result (λ x. length x.2.now ≤ length lexemes.now) }
 {
-    let rest = expect(Keyword::Giving, lexemes)?;
+    let rest = or_leave!(expect(Keyword::Giving, lexemes));
     given_in(alloc, rest)
 }
 

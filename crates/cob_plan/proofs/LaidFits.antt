@@ -1,14 +1,13 @@
 -- The nodes of a program with its copies written in have operations of their statements.
 use Rattle.std.proofs.Common.{◌≡◌, ◌≤◌, ◌<◌, ℕ, zero, suc, ◌+◌, ◌-◌, Bool, true, false, List, [], ◌∷◌, ◌++◌, length, length-append, Some, refl, sym, ap, subst, ◌∙◌, arith}
-use Rattle.std.specs.Prelude.{slice_get, Option, None, is_some}
-use Rattle.std.specs.Option.{option_map_or}
+use Rattle.std.specs.Prelude.{Option, None, is_some}
 use Rattle.std.proofs.lemmas.Option.{same_Some}
 use Rattle.cob_data.specs.declared.layout.Sender.{Sender}
 use Rattle.cob_program.specs.declared.act.Opening.{Opening}
 use Rattle.cob_program.specs.declared.act.Target.{Target}
 use Rattle.cob_program.specs.Sum.{Sum}
 use Rattle.cob_program.specs.Logic.{Test, numbers, texts, member, numeric, always, Logic, all_of, any_of, not_, test, Logics, no_logics, more_logics, logics_of}
-use Rattle.cob_program.specs.Act.{Turns, once, times, until, varying, MkStmt, Stmts, no_stmts, more_stmts, Phrase, left_out, given, Act, move, arith as arithmetic, if_, evaluate, perform, go, nothing, stop, open_files, close_files, read, write, show, Whens, no_whens, more_whens, MkWhen, Body, range, inline, Para, Program}
+use Rattle.cob_program.specs.Act.{Turns, once, times, until, varying, MkStmt, Stmts, no_stmts, more_stmts, Phrase, left_out, given, Act, move, arith as arithmetic, if_, evaluate, perform, go, nothing, stop, open_files, close_files, read, write, show, Whens, no_whens, more_whens, MkWhen, Body, range, inline, Program}
 use Rattle.cob_runs.specs.declared.action.Action.TheVariants as action
 use Rattle.cob_runs.specs.Acts.{file_from}
 use Rattle.cob_runs.specs.Steps.{body_at}
@@ -19,11 +18,12 @@ use Rattle.cob_graph.specs.Nodes.{Noded, Copied, node, test_edges, logic_nodes, 
 use Rattle.cob_graph.specs.Copies.{AreLaid, IsLaidPhrase, IsLaidAct, AreLaidWhens, IsLaidBody, AreLaidParas, file_of}
 use Rattle.cob_graph.specs.Graphs as graphs
 use Rattle.cob_graph.specs.Graphs.{final_of, final_node, main_copy, last_para}
-use Rattle.cob_graph.specs.WellFormed.{AreWellFormed, IsWellFormedPhrase, IsWellFormedAct, AreWellFormedWhens, IsWellFormedBody, AreWellFormedParas, IsWellFormed}
+use Rattle.cob_graph.specs.WellFormed.{AreWellFormed, IsWellFormedPhrase, IsWellFormedAct, AreWellFormedWhens, IsWellFormedBody, IsWellFormed}
 use Rattle.cob_plan.specs.declared.node.Op.{Op}
 use Rattle.cob_plan.specs.declared.node.Op.TheVariants as op
 use Rattle.cob_plan.specs.Plan.{op_edges}
 use Rattle.cob_plan.specs.Fitting.{Tests, Skips, Fits, BeginsRead}
+use Rattle.cob_plan.proofs.ParaLemmas.{para_whole}
 
 -- ---- how many simple conditions
 
@@ -222,12 +222,6 @@ module _ (p : Program) where
 
   -- ---- statements, laid as they stand
 
-  para_whole : (ps : List Para) (n : ℕ) → AreWellFormedParas p ps →
-      AreWellFormed p (option_map_or (λ x. x.body) (slice_get ps n) no_stmts)
-  para_whole [] n w = tt
-  para_whole (x ∷ xs) zero w = w.0
-  para_whole (x ∷ xs) (suc n) w = para_whole xs n w.1
-
   as_laid : (c : Copied) (number at next : ℕ) (x y : LaidAct) → x ≡ y → AreFit (act_nodes c number y at next) →
       AreFit (act_nodes c number x at next)
   as_laid c number at next x y e t = subst (λ (z : LaidAct). AreFit (act_nodes c number z at next)) (sym e) t
@@ -284,7 +278,7 @@ module _ (p : Program) where
           AreLaidParas p lo hi from many ps → AreFit (paras_nodes c ps at next)
       paras_fit c lo hi from zero no_laid_paras at next l = none_fit
       paras_fit c lo hi from (suc n) (more_laid_paras xs ps) at next l =
-          append_fit _ _ (list_fits c lo hi (body_at p from) xs at _ l.0 (para_whole p.paras from whole))
+          append_fit _ _ (list_fits c lo hi (body_at p from) xs at _ l.0 (para_whole p p.paras from whole))
           (paras_fit c lo hi (suc from) n ps _ next l.1)
       paras_fit c lo hi from zero (more_laid_paras xs ps) at next l = absurd l
       paras_fit c lo hi from (suc n) no_laid_paras at next l = absurd l

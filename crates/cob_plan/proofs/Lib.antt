@@ -3,7 +3,11 @@ mod Loops
 mod Sound
 mod NodeList
 mod LaidNodes
+mod ParaLemmas
 mod LaidFits
+mod LaidSteps
+mod Listings
+mod Stepped
 mod Planned
 mod SizeErrors
 mod TestLemmas

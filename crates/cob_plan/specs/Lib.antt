@@ -4,3 +4,4 @@ pub mod Fitting
 pub mod Nodes
 pub mod Doing
 pub mod Leading
+pub mod Stepping

@@ -10,6 +10,7 @@ ghost use Rattle.cob_graph.specs.WellFormed.{IsWellFormed};
 ghost use Rattle.cob_world.specs.Doing.{CanDoProgram};
 ghost use Rattle.cob_plan.specs.Plan.{ArePlanNodes, IsPlanNode, IsStatement};
 ghost use Rattle.cob_plan.specs.Fitting.{FitsIts};
+ghost use Rattle.cob_plan.specs.Stepping.{HasSteps};
 
 use crate::listing::statements_of;
 use crate::node::PlanNode;
@@ -42,6 +43,7 @@ impl<'a> Plan<'a> {
         ensures fits { IfOk result (λ plan. All (FitsIts (plain_program program.now)) plan.nodes.items) }
         ensures statements { IfOk result (λ plan. All (IsStatement (plain_program program.now))
             plan.statements.items) }
+        ensures steps { IfOk result (λ plan. HasSteps plan.nodes.items plan.statements.items) }
     {
         let nodes = nodes_of(alloc, graph)?;
         let statements = statements_of(alloc, program)?;

@@ -12,19 +12,20 @@ use Rattle.cob_tree.specs.Stmt as tree
 use Rattle.cob_tree.specs.StmtView as tree_view
 use Rattle.cob_tree.specs.Cond.{Cond}
 use Rattle.cob_tree.specs.declared.operand.Ref.{Ref}
+use Rattle.cob_tree.specs.declared.stmt.Subject.{Subject}
 use Rattle.cob_program.specs.Act.{Act, Phrase, Stmts, read}
 use Rattle.cob_data.specs.declared.end.Rule.{Rule}
 use Rattle.cob_typed_exprs.specs.declared.finding.Finding.{Finding}
 use Rattle.cob_typed_exprs.specs.Judged.{Broken, Judged, noted, each_of}
 use Rattle.cob_typed_exprs.specs.Scope.{Scope}
 use Rattle.cob_typed_conds.specs.declared.selections.Looked.{Looked}
-use Rattle.cob_typed_conds.specs.Selections.{selection}
+use Rattle.cob_typed_conds.specs.Selections.{looked_at, selection}
 use Rattle.cob_typed_conds.specs.Conditions.{walk_cond}
 use Rattle.cob_typed_verbs.specs.Arithmetic.{Worked}
 use Rattle.cob_typed.specs.Lists.{found_behind, tree_list, tree_phrase}
 use Rattle.cob_typed.specs.Statements.{Numbered, found_on, typed_arith, typed_verb, typed_stmts, turns_of}
 use Rattle.cob_typed_verbs.specs.Verbs.{read_parts}
-use Rattle.cob_typed.specs.StatementSteps.{typed_tail, typed_phrases, typed_lists, typed_when}
+use Rattle.cob_typed.specs.StatementSteps.{typed_tail, typed_phrases, typed_lists, typed_when, typed_cases}
 use Rattle.cob_typed.proofs.FoundLemmas.{found_append, found_noted}
 
 pub stmt_is : (x : declared_stmt.Stmt) → tree_view.plain_stmt x ≡ tree.MkStmt (out-Stmt x).line (tree_view.plain_verb (out-Stmt x).verb)
@@ -70,6 +71,12 @@ module _ (s : Scope) (line n : ℕ) (v : tree.Verb) (old new : List Finding) whe
   pub if_found : (test : Cond) (first_list : tree.Stmts) (other : tree.Phrase) (mid : List Finding) → typed_verb s line n v ≡ typed_verb s line n (tree.if_ test first_list other false) → mid ≡ noted line old (walk_cond s test).broken
       → new ≡ found_behind mid (typed_lists s n first_list other).found → new ≡ found_behind old (typed_verb s line n v).found
   if_found test first_list other mid is first rest = rest_found (walk_cond s test).broken mid (typed_lists s n first_list other).found first rest (ap (λ (x : Numbered Act). x.found) is)
+
+  pub cases_found : (subject : Subject) (whens : tree.Whens) (other : tree.Phrase) (mid : List Finding) (looked : Looked) → looked ≡ (looked_at s subject).value → typed_verb s line n v ≡ typed_verb s line n (tree.evaluate subject whens other false)
+      → mid ≡ noted line old (looked_at s subject).broken → new ≡ found_behind mid (typed_cases s line n looked whens other).found → new ≡ found_behind old (typed_verb s line n v).found
+  cases_found subject whens other mid looked same is first rest =
+      rest_found (looked_at s subject).broken mid (typed_cases s line n (looked_at s subject).value whens other).found first
+      (rest ∙ ap (λ x. found_behind mid (typed_cases s line n x whens other).found) same) (ap (λ (x : Numbered Act). x.found) is)
 
   pub inline_found : (turns : Option tree.Loop) (body : tree.Stmts) (mid : List Finding) → typed_verb s line n v ≡ typed_verb s line n (tree.perform_inline turns body) → mid ≡ noted line old (turns_of s turns).broken
       → new ≡ found_behind mid (typed_stmts s n body).found → new ≡ found_behind old (typed_verb s line n v).found

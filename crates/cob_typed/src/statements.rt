@@ -286,12 +286,12 @@ fn typed_verb(
     ensures found { OnOk result (findings.new.items ≡ found_behind findings.old.items (typed_verb scope.now line next.old (plain_verb verb.now)).found) }
 {
     match verb {
-        Verb::Move { from, to } => Ok(move_act(scope, findings, line, from, to.get())?),
-        Verb::Set(name) => Ok(set_act(scope, findings, line, name)?),
-        Verb::Display(operands) => Ok(show_act(scope, findings, line, operands.get())?),
+        Verb::Move { from, to } => Ok(or_leave!(move_act(scope, findings, line, from, to.get()))),
+        Verb::Set(name) => Ok(or_leave!(set_act(scope, findings, line, name))),
+        Verb::Display(operands) => Ok(or_leave!(show_act(scope, findings, line, operands.get()))),
         Verb::AddTo { addends, to, tail } => {
-            let worked = add_to(scope, findings, line, addends.get(), to.get())?;
-            Ok(typed_tail(scope, findings, next, worked, tail, left)?)
+            let worked = or_leave!(add_to(scope, findings, line, addends.get(), to.get()));
+            Ok(or_leave!(typed_tail(scope, findings, next, worked, tail, left)))
         }
         Verb::AddGiving {
             addends,
@@ -300,12 +300,19 @@ fn typed_verb(
             tail,
         } => {
             let to = to.as_ref();
-            let worked = add_giving(scope, findings, line, addends.get(), to, giving.get())?;
-            Ok(typed_tail(scope, findings, next, worked, tail, left)?)
+            let worked = or_leave!(add_giving(
+                scope,
+                findings,
+                line,
+                addends.get(),
+                to,
+                giving.get()
+            ));
+            Ok(or_leave!(typed_tail(scope, findings, next, worked, tail, left)))
         }
         Verb::SubtractFrom { less, from, tail } => {
-            let worked = subtract_from(scope, findings, line, less.get(), from.get())?;
-            Ok(typed_tail(scope, findings, next, worked, tail, left)?)
+            let worked = or_leave!(subtract_from(scope, findings, line, less.get(), from.get()));
+            Ok(or_leave!(typed_tail(scope, findings, next, worked, tail, left)))
         }
         Verb::SubtractGiving {
             less,
@@ -313,12 +320,19 @@ fn typed_verb(
             giving,
             tail,
         } => {
-            let worked = subtract_giving(scope, findings, line, less.get(), from, giving.get())?;
-            Ok(typed_tail(scope, findings, next, worked, tail, left)?)
+            let worked = or_leave!(subtract_giving(
+                scope,
+                findings,
+                line,
+                less.get(),
+                from,
+                giving.get()
+            ));
+            Ok(or_leave!(typed_tail(scope, findings, next, worked, tail, left)))
         }
         Verb::MultiplyBy { factor, by, tail } => {
-            let worked = multiply_by(scope, findings, line, factor, by.get())?;
-            Ok(typed_tail(scope, findings, next, worked, tail, left)?)
+            let worked = or_leave!(multiply_by(scope, findings, line, factor, by.get()));
+            Ok(or_leave!(typed_tail(scope, findings, next, worked, tail, left)))
         }
         Verb::MultiplyGiving {
             factor,
@@ -326,16 +340,23 @@ fn typed_verb(
             giving,
             tail,
         } => {
-            let worked = multiply_giving(scope, findings, line, factor, by, giving.get())?;
-            Ok(typed_tail(scope, findings, next, worked, tail, left)?)
+            let worked = or_leave!(multiply_giving(
+                scope,
+                findings,
+                line,
+                factor,
+                by,
+                giving.get()
+            ));
+            Ok(or_leave!(typed_tail(scope, findings, next, worked, tail, left)))
         }
         Verb::DivideInto {
             divisor,
             into,
             tail,
         } => {
-            let worked = divide_into(scope, findings, line, divisor, into.get())?;
-            Ok(typed_tail(scope, findings, next, worked, tail, left)?)
+            let worked = or_leave!(divide_into(scope, findings, line, divisor, into.get()));
+            Ok(or_leave!(typed_tail(scope, findings, next, worked, tail, left)))
         }
         Verb::DivideGiving {
             first,
@@ -346,7 +367,7 @@ fn typed_verb(
             tail,
         } => {
             let rest = remainder.as_ref();
-            let worked = divide_giving(
+            let worked = or_leave!(divide_giving(
                 scope,
                 findings,
                 line,
@@ -355,12 +376,12 @@ fn typed_verb(
                 second,
                 giving.get(),
                 rest,
-            )?;
-            Ok(typed_tail(scope, findings, next, worked, tail, left)?)
+            ));
+            Ok(or_leave!(typed_tail(scope, findings, next, worked, tail, left)))
         }
         Verb::Compute { to, value, tail } => {
-            let worked = compute(scope, findings, line, to.get(), value)?;
-            Ok(typed_tail(scope, findings, next, worked, tail, left)?)
+            let worked = or_leave!(compute(scope, findings, line, to.get(), value));
+            Ok(or_leave!(typed_tail(scope, findings, next, worked, tail, left)))
         }
         Verb::If {
             test,
@@ -368,8 +389,8 @@ fn typed_verb(
             other,
             ..
         } => {
-            let test = condition(scope, findings, line, test)?;
-            let (yes, no) = typed_lists(scope, findings, next, yes, other, left)?;
+            let test = or_leave!(condition(scope, findings, line, test));
+            let (yes, no) = or_leave!(typed_lists(scope, findings, next, yes, other, left), test);
             Ok(if_of(test, yes, no))
         }
         Verb::Evaluate {
@@ -378,22 +399,22 @@ fn typed_verb(
             other,
             ..
         } => {
-            let looked = looked_at(scope, findings, line, subject)?;
-            Ok(typed_cases(scope, findings, next, line, looked, whens, other, left)?)
+            let looked = or_leave!(looked_at(scope, findings, line, subject));
+            Ok(or_leave!(typed_cases(scope, findings, next, line, looked, whens, other, left)))
         }
         Verb::PerformRange { first, thru, turns } => {
-            Ok(range_act(scope, findings, line, first, thru.as_ref(), turns.as_ref())?)
+            Ok(or_leave!(range_act(scope, findings, line, first, thru.as_ref(), turns.as_ref())))
         }
         Verb::PerformInline { turns, body } => {
-            let turns = turns_of(scope, findings, line, turns.as_ref())?;
-            let body = typed_stmts(scope, findings, next, body, left)?;
+            let turns = or_leave!(turns_of(scope, findings, line, turns.as_ref()));
+            let body = or_leave!(typed_stmts(scope, findings, next, body, left), turns);
             Ok(perform_of(inline_of(body), turns))
         }
-        Verb::Go(name) => Ok(go_act(scope, findings, line, name)?),
+        Verb::Go(name) => Ok(or_leave!(go_act(scope, findings, line, name))),
         Verb::Exit | Verb::Continue => Ok(nothing()),
         Verb::StopRun => Ok(stop()),
-        Verb::Open(opens) => Ok(open_act(scope, findings, line, opens.get())?),
-        Verb::Close(names) => Ok(close_act(scope, findings, line, names.get())?),
+        Verb::Open(opens) => Ok(or_leave!(open_act(scope, findings, line, opens.get()))),
+        Verb::Close(names) => Ok(or_leave!(close_act(scope, findings, line, names.get()))),
         Verb::Read {
             file,
             into,
@@ -401,12 +422,12 @@ fn typed_verb(
             not_end,
             ..
         } => {
-            let (file, into) = read_parts(scope, findings, line, file, into.as_ref())?;
-            let (end, fine) = typed_phrases(scope, findings, next, end, not_end, left)?;
+            let (file, into) = or_leave!(read_parts(scope, findings, line, file, into.as_ref()));
+            let (end, fine) = or_leave!(typed_phrases(scope, findings, next, end, not_end, left));
             Ok(read_of(file, into, end, fine))
         }
         Verb::Write { record, from, .. } => {
-            Ok(write_act(scope, findings, line, record, from.as_ref())?)
+            Ok(or_leave!(write_act(scope, findings, line, record, from.as_ref())))
         }
     }
 }

@@ -119,7 +119,7 @@ when_in-returns-clause-takes t c = c.in_ok-body.ensures.takes ∙ sym (ap (λ (w
 -- ---- the WHENs
 
 pub whens_in-returns-in_err-first-clause-gives : goal.whens_in-returns-in_err-first-clause-gives
-whens_in-returns-in_err-first-clause-gives t c = gives_wrong _ c.from_residual.result _ c.in_err-first.field-0.0 c.from_residual.ensures.1
+whens_in-returns-in_err-first-clause-gives t c = gives_wrong _ c.from_residual-in_err-first.result _ c.in_err-first.field-0.0 c.from_residual-in_err-first.ensures.1
     (chosen_wrong (stmts_at c.args.room) c.args.room (signs c.args.lexemes.now) c.in_err-first.field-0.0 c.in_err-first.ensures.gives)
 
 pub whens_in-whens-init : goal.whens_in-whens-init
@@ -247,7 +247,7 @@ pub stmts_in-returns-then-room-eq0-clause-gives : goal.stmts_in-returns-then-roo
 stmts_in-returns-then-room-eq0-clause-gives t c = stmts_full c.args.room (signs c.args.lexemes.now) c.full.result c.if-room-eq0.true c.full.ensures
 
 pub stmts_in-returns-in_err-first-clause-gives : goal.stmts_in-returns-in_err-first-clause-gives
-stmts_in-returns-in_err-first-clause-gives t c = gives_wrong _ c.from_residual.result _ c.in_err-first.field-0.0 c.from_residual.ensures.1
+stmts_in-returns-in_err-first-clause-gives t c = gives_wrong _ c.from_residual-in_err-first.result _ c.in_err-first.field-0.0 c.from_residual-in_err-first.ensures.1
     (fails_as c.in_err-first.field-0.0 _ _ (stmts_some c.args.room (signs c.args.lexemes.now) c.if-room-eq0.false) (listed_wrong (stmt_with (stmts_at (c.args.room - 1)) (c.args.room - 1)) (signs c.args.lexemes.now) c.in_err-first.field-0.0 c.in_err-first.ensures.gives))
 
 pub stmts_in-stmts-init : goal.stmts_in-stmts-init

@@ -1,7 +1,7 @@
 use Rattle.std.proofs.Common.{◌∙◌, ◌+◌, sym, ap, map, option_map, rules}
 use Rattle.cob_tree.specs.declared.stmt.Verb.TheOpen as layer
 use Rattle.cob_tree.specs.declared.stmt.Verb.TheFolds.{fold-roll-Verb}
-use Rattle.cob_tree.specs.declared.stmt.Verb.TheVariants.{rolls-Move, rolls-Display, rolls-PerformRange, rolls-Open, rolls-Close, rolls-AddTo, rolls-AddGiving, rolls-SubtractFrom, rolls-SubtractGiving, rolls-MultiplyBy, rolls-MultiplyGiving, rolls-DivideInto, rolls-DivideGiving, rolls-Compute, rolls-If, rolls-PerformInline, rolls-Read}
+use Rattle.cob_tree.specs.declared.stmt.Verb.TheVariants.{rolls-Move, rolls-Display, rolls-PerformRange, rolls-Open, rolls-Close, rolls-AddTo, rolls-AddGiving, rolls-SubtractFrom, rolls-SubtractGiving, rolls-MultiplyBy, rolls-MultiplyGiving, rolls-DivideInto, rolls-DivideGiving, rolls-Compute, rolls-If, rolls-Evaluate, rolls-PerformInline, rolls-Read}
 use Rattle.cob_tree.specs.ExprView.{plain_expr}
 use Rattle.cob_tree.specs.CondView.{plain_cond}
 use Rattle.cob_tree.specs.Stmt as tree
@@ -16,7 +16,7 @@ use Rattle.cob_typed_verbs.specs.Arithmetic.{add_to, add_giving, subtract_from, 
 use Rattle.cob_typed_verbs.specs.Workings.{plain_worked}
 use Rattle.cob_typed_exprs.proofs.EachLemmas.{map_more}
 use Rattle.cob_typed.proofs.ListLemmas.{stmts_from, whens_from, stmts_step, stmts_end, whens_step, whens_end, stmt_value, stmt_next, stmt_found, when_value, when_next, when_found, whens_behind, whens_none, joined_none}
-use Rattle.cob_typed.proofs.StmtLemmas.{when_is_of, only_found, work_found, if_found, inline_found, read_is, read_found, read_value, choice_found}
+use Rattle.cob_typed.proofs.StmtLemmas.{when_is_of, only_found, work_found, if_found, cases_found, inline_found, read_is, read_found, read_value, choice_found}
 use Rattle.cob_typed.proofs.statements.+lists.Goals as goal
 
 pub add_stmts-loop-statement-preserved : goal.add_stmts-loop-statement-preserved
@@ -89,96 +89,108 @@ typed_whens-returns-clause-found t c =
     let l = c.loop-when in
     sym (ap (λ ys. found_behind l.findings.items (typed_whens c.args.scope.now c.args.line l.next c.args.looked ys).found) (whens_end c.args.whens.now l.when-index c.loop-when-test.false)) ∙ l.invariant.found
 
-pub typed_verb-returns-in_ok-move_act-in-Move-clause-found : goal.typed_verb-returns-in_ok-move_act-in-Move-clause-found
-typed_verb-returns-in_ok-move_act-in-Move-clause-found t c =
+pub typed_verb-returns-in-Ok-clause-found : goal.typed_verb-returns-in-Ok-clause-found
+typed_verb-returns-in-Ok-clause-found t c =
     let is = ap tree_view.plain_verb (c.in-Move.is ∙ sym (rolls-Move c.in-Move.from c.in-Move.to)) ∙ fold-roll-Verb _ _ _ _ _ _ _ _ (layer.Move c.in-Move.from c.in-Move.to) in
     only_found c.args.scope.now c.args.line c.args.next.now (tree_view.plain_verb c.args.verb.now) c.args.findings.now.items _ (move_act c.args.scope.now c.in-Move.from c.in-Move.to).broken (search rules) (ap (λ (v : tree.Verb). (typed_verb c.args.scope.now c.args.line c.args.next.now v).found) is)
 
-pub typed_verb-returns-in_ok-show_act-in-Display-clause-found : goal.typed_verb-returns-in_ok-show_act-in-Display-clause-found
-typed_verb-returns-in_ok-show_act-in-Display-clause-found t c =
+pub typed_verb-returns-in-Ok-show_act-clause-found : goal.typed_verb-returns-in-Ok-show_act-clause-found
+typed_verb-returns-in-Ok-show_act-clause-found t c =
     let is = ap tree_view.plain_verb (c.in-Display.is ∙ sym (rolls-Display c.in-Display.operands)) ∙ fold-roll-Verb _ _ _ _ _ _ _ _ (layer.Display c.in-Display.operands) in
     only_found c.args.scope.now c.args.line c.args.next.now (tree_view.plain_verb c.args.verb.now) c.args.findings.now.items _ (show_act c.args.scope.now c.in-Display.operands).broken (search rules) (ap (λ (v : tree.Verb). (typed_verb c.args.scope.now c.args.line c.args.next.now v).found) is)
 
-pub typed_verb-returns-in_ok-range_act-in-PerformRange-clause-found : goal.typed_verb-returns-in_ok-range_act-in-PerformRange-clause-found
-typed_verb-returns-in_ok-range_act-in-PerformRange-clause-found t c =
+pub typed_verb-returns-in-Ok-range_act-clause-found : goal.typed_verb-returns-in-Ok-range_act-clause-found
+typed_verb-returns-in-Ok-range_act-clause-found t c =
     let is = ap tree_view.plain_verb (c.in-PerformRange.is ∙ sym (rolls-PerformRange c.in-PerformRange.first c.in-PerformRange.thru c.in-PerformRange.turns)) ∙ fold-roll-Verb _ _ _ _ _ _ _ _ (layer.PerformRange c.in-PerformRange.first c.in-PerformRange.thru c.in-PerformRange.turns) in
     only_found c.args.scope.now c.args.line c.args.next.now (tree_view.plain_verb c.args.verb.now) c.args.findings.now.items _ (range_act c.args.scope.now c.in-PerformRange.first c.in-PerformRange.thru (option_map tree_view.plain_loop c.in-PerformRange.turns)).broken (search rules) (ap (λ (v : tree.Verb). (typed_verb c.args.scope.now c.args.line c.args.next.now v).found) is)
 
-pub typed_verb-returns-in_ok-open_act-in-Open-clause-found : goal.typed_verb-returns-in_ok-open_act-in-Open-clause-found
-typed_verb-returns-in_ok-open_act-in-Open-clause-found t c =
+pub typed_verb-returns-in-Ok-open_act-clause-found : goal.typed_verb-returns-in-Ok-open_act-clause-found
+typed_verb-returns-in-Ok-open_act-clause-found t c =
     let is = ap tree_view.plain_verb (c.in-Open.is ∙ sym (rolls-Open c.in-Open.opens)) ∙ fold-roll-Verb _ _ _ _ _ _ _ _ (layer.Open c.in-Open.opens) in
     only_found c.args.scope.now c.args.line c.args.next.now (tree_view.plain_verb c.args.verb.now) c.args.findings.now.items _ (open_act c.args.scope.now c.in-Open.opens).broken (search rules) (ap (λ (v : tree.Verb). (typed_verb c.args.scope.now c.args.line c.args.next.now v).found) is)
 
-pub typed_verb-returns-in_ok-close_act-in-Close-clause-found : goal.typed_verb-returns-in_ok-close_act-in-Close-clause-found
-typed_verb-returns-in_ok-close_act-in-Close-clause-found t c =
+pub typed_verb-returns-in-Ok-close_act-clause-found : goal.typed_verb-returns-in-Ok-close_act-clause-found
+typed_verb-returns-in-Ok-close_act-clause-found t c =
     let is = ap tree_view.plain_verb (c.in-Close.is ∙ sym (rolls-Close c.in-Close.names)) ∙ fold-roll-Verb _ _ _ _ _ _ _ _ (layer.Close c.in-Close.names) in
     only_found c.args.scope.now c.args.line c.args.next.now (tree_view.plain_verb c.args.verb.now) c.args.findings.now.items _ (close_act c.args.scope.now c.in-Close.names).broken (search rules) (ap (λ (v : tree.Verb). (typed_verb c.args.scope.now c.args.line c.args.next.now v).found) is)
 
-pub typed_verb-returns-in_ok-typed_tail-in-AddTo-clause-found : goal.typed_verb-returns-in_ok-typed_tail-in-AddTo-clause-found
-typed_verb-returns-in_ok-typed_tail-in-AddTo-clause-found t c =
+pub typed_verb-returns-in-Ok-typed_tail-clause-found : goal.typed_verb-returns-in-Ok-typed_tail-clause-found
+typed_verb-returns-in-Ok-typed_tail-clause-found t c =
     let is = ap tree_view.plain_verb (c.in-AddTo.is ∙ sym (rolls-AddTo c.in-AddTo.addends c.in-AddTo.to c.in-AddTo.tail)) ∙ fold-roll-Verb _ _ _ _ _ _ _ _ (layer.AddTo c.in-AddTo.addends c.in-AddTo.to c.in-AddTo.tail) in
-    work_found c.args.scope.now c.args.line c.args.next.now (tree_view.plain_verb c.args.verb.now) c.args.findings.now.items _ (add_to c.args.scope.now c.in-AddTo.addends c.in-AddTo.to) (tree_view.plain_tail c.in-AddTo.tail) (plain_worked c.in_ok-worked-in-AddTo.worked) c.add_to.new.findings.items (search rules) (search rules) c.in_ok-typed_tail-in-AddTo.ensures.found (ap (typed_verb c.args.scope.now c.args.line c.args.next.now) is)
+    work_found c.args.scope.now c.args.line c.args.next.now (tree_view.plain_verb c.args.verb.now) c.args.findings.now.items _ (add_to c.args.scope.now c.in-AddTo.addends c.in-AddTo.to) (tree_view.plain_tail c.in-AddTo.tail) (plain_worked c.in-Ok-add_to.given) c.add_to.new.findings.items (search rules) (search rules) c.in-Ok-typed_tail.ensures.found (ap (typed_verb c.args.scope.now c.args.line c.args.next.now) is)
 
-pub typed_verb-returns-in_ok-typed_tail-in-AddGiving-clause-found : goal.typed_verb-returns-in_ok-typed_tail-in-AddGiving-clause-found
-typed_verb-returns-in_ok-typed_tail-in-AddGiving-clause-found t c =
+pub typed_verb-returns-in-Ok-typed_tail-2-clause-found : goal.typed_verb-returns-in-Ok-typed_tail-2-clause-found
+typed_verb-returns-in-Ok-typed_tail-2-clause-found t c =
     let is = ap tree_view.plain_verb (c.in-AddGiving.is ∙ sym (rolls-AddGiving c.in-AddGiving.addends c.in-AddGiving.to c.in-AddGiving.giving c.in-AddGiving.tail)) ∙ fold-roll-Verb _ _ _ _ _ _ _ _ (layer.AddGiving c.in-AddGiving.addends c.in-AddGiving.to c.in-AddGiving.giving c.in-AddGiving.tail) in
-    work_found c.args.scope.now c.args.line c.args.next.now (tree_view.plain_verb c.args.verb.now) c.args.findings.now.items _ (add_giving c.args.scope.now c.in-AddGiving.addends c.in-AddGiving.to c.in-AddGiving.giving) (tree_view.plain_tail c.in-AddGiving.tail) (plain_worked c.in_ok-worked-in-AddGiving.worked) c.add_giving.new.findings.items (search rules) (search rules) c.in_ok-typed_tail-in-AddGiving.ensures.found (ap (typed_verb c.args.scope.now c.args.line c.args.next.now) is)
+    work_found c.args.scope.now c.args.line c.args.next.now (tree_view.plain_verb c.args.verb.now) c.args.findings.now.items _ (add_giving c.args.scope.now c.in-AddGiving.addends c.in-AddGiving.to c.in-AddGiving.giving) (tree_view.plain_tail c.in-AddGiving.tail) (plain_worked c.in-Ok-add_giving.given) c.add_giving.new.findings.items (search rules) (search rules) c.in-Ok-typed_tail-2.ensures.found (ap (typed_verb c.args.scope.now c.args.line c.args.next.now) is)
 
-pub typed_verb-returns-in_ok-typed_tail-in-SubtractFrom-clause-found : goal.typed_verb-returns-in_ok-typed_tail-in-SubtractFrom-clause-found
-typed_verb-returns-in_ok-typed_tail-in-SubtractFrom-clause-found t c =
+pub typed_verb-returns-in-Ok-typed_tail-3-clause-found : goal.typed_verb-returns-in-Ok-typed_tail-3-clause-found
+typed_verb-returns-in-Ok-typed_tail-3-clause-found t c =
     let is = ap tree_view.plain_verb (c.in-SubtractFrom.is ∙ sym (rolls-SubtractFrom c.in-SubtractFrom.less c.in-SubtractFrom.from c.in-SubtractFrom.tail)) ∙ fold-roll-Verb _ _ _ _ _ _ _ _ (layer.SubtractFrom c.in-SubtractFrom.less c.in-SubtractFrom.from c.in-SubtractFrom.tail) in
-    work_found c.args.scope.now c.args.line c.args.next.now (tree_view.plain_verb c.args.verb.now) c.args.findings.now.items _ (subtract_from c.args.scope.now c.in-SubtractFrom.less c.in-SubtractFrom.from) (tree_view.plain_tail c.in-SubtractFrom.tail) (plain_worked c.in_ok-worked-in-SubtractFrom.worked) c.subtract_from.new.findings.items (search rules) (search rules) c.in_ok-typed_tail-in-SubtractFrom.ensures.found (ap (typed_verb c.args.scope.now c.args.line c.args.next.now) is)
+    work_found c.args.scope.now c.args.line c.args.next.now (tree_view.plain_verb c.args.verb.now) c.args.findings.now.items _ (subtract_from c.args.scope.now c.in-SubtractFrom.less c.in-SubtractFrom.from) (tree_view.plain_tail c.in-SubtractFrom.tail) (plain_worked c.in-Ok-subtract_from.given) c.subtract_from.new.findings.items (search rules) (search rules) c.in-Ok-typed_tail-3.ensures.found (ap (typed_verb c.args.scope.now c.args.line c.args.next.now) is)
 
-pub typed_verb-returns-in_ok-typed_tail-in-SubtractGiving-clause-found : goal.typed_verb-returns-in_ok-typed_tail-in-SubtractGiving-clause-found
-typed_verb-returns-in_ok-typed_tail-in-SubtractGiving-clause-found t c =
+pub typed_verb-returns-in-Ok-typed_tail-4-clause-found : goal.typed_verb-returns-in-Ok-typed_tail-4-clause-found
+typed_verb-returns-in-Ok-typed_tail-4-clause-found t c =
     let is = ap tree_view.plain_verb (c.in-SubtractGiving.is ∙ sym (rolls-SubtractGiving c.in-SubtractGiving.less c.in-SubtractGiving.from c.in-SubtractGiving.giving c.in-SubtractGiving.tail)) ∙ fold-roll-Verb _ _ _ _ _ _ _ _ (layer.SubtractGiving c.in-SubtractGiving.less c.in-SubtractGiving.from c.in-SubtractGiving.giving c.in-SubtractGiving.tail) in
-    work_found c.args.scope.now c.args.line c.args.next.now (tree_view.plain_verb c.args.verb.now) c.args.findings.now.items _ (subtract_giving c.args.scope.now c.in-SubtractGiving.less c.in-SubtractGiving.from c.in-SubtractGiving.giving) (tree_view.plain_tail c.in-SubtractGiving.tail) (plain_worked c.in_ok-worked-in-SubtractGiving.worked) c.subtract_giving.new.findings.items (search rules) (search rules) c.in_ok-typed_tail-in-SubtractGiving.ensures.found (ap (typed_verb c.args.scope.now c.args.line c.args.next.now) is)
+    work_found c.args.scope.now c.args.line c.args.next.now (tree_view.plain_verb c.args.verb.now) c.args.findings.now.items _ (subtract_giving c.args.scope.now c.in-SubtractGiving.less c.in-SubtractGiving.from c.in-SubtractGiving.giving) (tree_view.plain_tail c.in-SubtractGiving.tail) (plain_worked c.in-Ok-subtract_giving.given) c.subtract_giving.new.findings.items (search rules) (search rules) c.in-Ok-typed_tail-4.ensures.found (ap (typed_verb c.args.scope.now c.args.line c.args.next.now) is)
 
-pub typed_verb-returns-in_ok-typed_tail-in-MultiplyBy-clause-found : goal.typed_verb-returns-in_ok-typed_tail-in-MultiplyBy-clause-found
-typed_verb-returns-in_ok-typed_tail-in-MultiplyBy-clause-found t c =
+pub typed_verb-returns-in-Ok-typed_tail-5-clause-found : goal.typed_verb-returns-in-Ok-typed_tail-5-clause-found
+typed_verb-returns-in-Ok-typed_tail-5-clause-found t c =
     let is = ap tree_view.plain_verb (c.in-MultiplyBy.is ∙ sym (rolls-MultiplyBy c.in-MultiplyBy.factor c.in-MultiplyBy.by c.in-MultiplyBy.tail)) ∙ fold-roll-Verb _ _ _ _ _ _ _ _ (layer.MultiplyBy c.in-MultiplyBy.factor c.in-MultiplyBy.by c.in-MultiplyBy.tail) in
-    work_found c.args.scope.now c.args.line c.args.next.now (tree_view.plain_verb c.args.verb.now) c.args.findings.now.items _ (multiply_by c.args.scope.now c.in-MultiplyBy.factor c.in-MultiplyBy.by) (tree_view.plain_tail c.in-MultiplyBy.tail) (plain_worked c.in_ok-worked-in-MultiplyBy.worked) c.multiply_by.new.findings.items (search rules) (search rules) c.in_ok-typed_tail-in-MultiplyBy.ensures.found (ap (typed_verb c.args.scope.now c.args.line c.args.next.now) is)
+    work_found c.args.scope.now c.args.line c.args.next.now (tree_view.plain_verb c.args.verb.now) c.args.findings.now.items _ (multiply_by c.args.scope.now c.in-MultiplyBy.factor c.in-MultiplyBy.by) (tree_view.plain_tail c.in-MultiplyBy.tail) (plain_worked c.in-Ok-multiply_by.given) c.multiply_by.new.findings.items (search rules) (search rules) c.in-Ok-typed_tail-5.ensures.found (ap (typed_verb c.args.scope.now c.args.line c.args.next.now) is)
 
-pub typed_verb-returns-in_ok-typed_tail-in-MultiplyGiving-clause-found : goal.typed_verb-returns-in_ok-typed_tail-in-MultiplyGiving-clause-found
-typed_verb-returns-in_ok-typed_tail-in-MultiplyGiving-clause-found t c =
+pub typed_verb-returns-in-Ok-typed_tail-6-clause-found : goal.typed_verb-returns-in-Ok-typed_tail-6-clause-found
+typed_verb-returns-in-Ok-typed_tail-6-clause-found t c =
     let is = ap tree_view.plain_verb (c.in-MultiplyGiving.is ∙ sym (rolls-MultiplyGiving c.in-MultiplyGiving.factor c.in-MultiplyGiving.by c.in-MultiplyGiving.giving c.in-MultiplyGiving.tail)) ∙ fold-roll-Verb _ _ _ _ _ _ _ _ (layer.MultiplyGiving c.in-MultiplyGiving.factor c.in-MultiplyGiving.by c.in-MultiplyGiving.giving c.in-MultiplyGiving.tail) in
-    work_found c.args.scope.now c.args.line c.args.next.now (tree_view.plain_verb c.args.verb.now) c.args.findings.now.items _ (multiply_giving c.args.scope.now c.in-MultiplyGiving.factor c.in-MultiplyGiving.by c.in-MultiplyGiving.giving) (tree_view.plain_tail c.in-MultiplyGiving.tail) (plain_worked c.in_ok-worked-in-MultiplyGiving.worked) c.multiply_giving.new.findings.items (search rules) (search rules) c.in_ok-typed_tail-in-MultiplyGiving.ensures.found (ap (typed_verb c.args.scope.now c.args.line c.args.next.now) is)
+    work_found c.args.scope.now c.args.line c.args.next.now (tree_view.plain_verb c.args.verb.now) c.args.findings.now.items _ (multiply_giving c.args.scope.now c.in-MultiplyGiving.factor c.in-MultiplyGiving.by c.in-MultiplyGiving.giving) (tree_view.plain_tail c.in-MultiplyGiving.tail) (plain_worked c.in-Ok-multiply_giving.given) c.multiply_giving.new.findings.items (search rules) (search rules) c.in-Ok-typed_tail-6.ensures.found (ap (typed_verb c.args.scope.now c.args.line c.args.next.now) is)
 
-pub typed_verb-returns-in_ok-typed_tail-in-DivideInto-clause-found : goal.typed_verb-returns-in_ok-typed_tail-in-DivideInto-clause-found
-typed_verb-returns-in_ok-typed_tail-in-DivideInto-clause-found t c =
+pub typed_verb-returns-in-Ok-typed_tail-7-clause-found : goal.typed_verb-returns-in-Ok-typed_tail-7-clause-found
+typed_verb-returns-in-Ok-typed_tail-7-clause-found t c =
     let is = ap tree_view.plain_verb (c.in-DivideInto.is ∙ sym (rolls-DivideInto c.in-DivideInto.divisor c.in-DivideInto.into c.in-DivideInto.tail)) ∙ fold-roll-Verb _ _ _ _ _ _ _ _ (layer.DivideInto c.in-DivideInto.divisor c.in-DivideInto.into c.in-DivideInto.tail) in
-    work_found c.args.scope.now c.args.line c.args.next.now (tree_view.plain_verb c.args.verb.now) c.args.findings.now.items _ (divide_into c.args.scope.now c.in-DivideInto.divisor c.in-DivideInto.into) (tree_view.plain_tail c.in-DivideInto.tail) (plain_worked c.in_ok-worked-in-DivideInto.worked) c.divide_into.new.findings.items (search rules) (search rules) c.in_ok-typed_tail-in-DivideInto.ensures.found (ap (typed_verb c.args.scope.now c.args.line c.args.next.now) is)
+    work_found c.args.scope.now c.args.line c.args.next.now (tree_view.plain_verb c.args.verb.now) c.args.findings.now.items _ (divide_into c.args.scope.now c.in-DivideInto.divisor c.in-DivideInto.into) (tree_view.plain_tail c.in-DivideInto.tail) (plain_worked c.in-Ok-divide_into.given) c.divide_into.new.findings.items (search rules) (search rules) c.in-Ok-typed_tail-7.ensures.found (ap (typed_verb c.args.scope.now c.args.line c.args.next.now) is)
 
-pub typed_verb-returns-in_ok-typed_tail-in-DivideGiving-clause-found : goal.typed_verb-returns-in_ok-typed_tail-in-DivideGiving-clause-found
-typed_verb-returns-in_ok-typed_tail-in-DivideGiving-clause-found t c =
+pub typed_verb-returns-in-Ok-typed_tail-8-clause-found : goal.typed_verb-returns-in-Ok-typed_tail-8-clause-found
+typed_verb-returns-in-Ok-typed_tail-8-clause-found t c =
     let is = ap tree_view.plain_verb (c.in-DivideGiving.is ∙ sym (rolls-DivideGiving c.in-DivideGiving.first c.in-DivideGiving.way c.in-DivideGiving.second c.in-DivideGiving.giving c.in-DivideGiving.remainder c.in-DivideGiving.tail)) ∙ fold-roll-Verb _ _ _ _ _ _ _ _ (layer.DivideGiving c.in-DivideGiving.first c.in-DivideGiving.way c.in-DivideGiving.second c.in-DivideGiving.giving c.in-DivideGiving.remainder c.in-DivideGiving.tail) in
-    work_found c.args.scope.now c.args.line c.args.next.now (tree_view.plain_verb c.args.verb.now) c.args.findings.now.items _ (divide_giving c.args.scope.now c.in-DivideGiving.first c.in-DivideGiving.way c.in-DivideGiving.second c.in-DivideGiving.giving c.in-DivideGiving.remainder) (tree_view.plain_tail c.in-DivideGiving.tail) (plain_worked c.in_ok-worked-in-DivideGiving.worked) c.divide_giving.new.findings.items (search rules) (search rules) c.in_ok-typed_tail-in-DivideGiving.ensures.found (ap (typed_verb c.args.scope.now c.args.line c.args.next.now) is)
+    work_found c.args.scope.now c.args.line c.args.next.now (tree_view.plain_verb c.args.verb.now) c.args.findings.now.items _ (divide_giving c.args.scope.now c.in-DivideGiving.first c.in-DivideGiving.way c.in-DivideGiving.second c.in-DivideGiving.giving c.in-DivideGiving.remainder) (tree_view.plain_tail c.in-DivideGiving.tail) (plain_worked c.in-Ok-divide_giving.given) c.divide_giving.new.findings.items (search rules) (search rules) c.in-Ok-typed_tail-8.ensures.found (ap (typed_verb c.args.scope.now c.args.line c.args.next.now) is)
 
-pub typed_verb-returns-in_ok-typed_tail-in-Compute-clause-found : goal.typed_verb-returns-in_ok-typed_tail-in-Compute-clause-found
-typed_verb-returns-in_ok-typed_tail-in-Compute-clause-found t c =
+pub typed_verb-returns-in-Ok-typed_tail-9-clause-found : goal.typed_verb-returns-in-Ok-typed_tail-9-clause-found
+typed_verb-returns-in-Ok-typed_tail-9-clause-found t c =
     let is = ap tree_view.plain_verb (c.in-Compute.is ∙ sym (rolls-Compute c.in-Compute.to c.in-Compute.value c.in-Compute.tail)) ∙ fold-roll-Verb _ _ _ _ _ _ _ _ (layer.Compute c.in-Compute.to c.in-Compute.value c.in-Compute.tail) in
-    work_found c.args.scope.now c.args.line c.args.next.now (tree_view.plain_verb c.args.verb.now) c.args.findings.now.items _ (compute c.args.scope.now c.in-Compute.to (plain_expr c.in-Compute.value)) (tree_view.plain_tail c.in-Compute.tail) (plain_worked c.in_ok-worked-in-Compute.worked) c.compute.new.findings.items (search rules) (search rules) c.in_ok-typed_tail-in-Compute.ensures.found (ap (typed_verb c.args.scope.now c.args.line c.args.next.now) is)
+    work_found c.args.scope.now c.args.line c.args.next.now (tree_view.plain_verb c.args.verb.now) c.args.findings.now.items _ (compute c.args.scope.now c.in-Compute.to (plain_expr c.in-Compute.value)) (tree_view.plain_tail c.in-Compute.tail) (plain_worked c.in-Ok-compute.given) c.compute.new.findings.items (search rules) (search rules) c.in-Ok-typed_tail-9.ensures.found (ap (typed_verb c.args.scope.now c.args.line c.args.next.now) is)
 
-pub typed_verb-returns-in_ok-yes-in-If-clause-found : goal.typed_verb-returns-in_ok-yes-in-If-clause-found
-typed_verb-returns-in_ok-yes-in-If-clause-found t c =
+pub typed_verb-returns-in-Ok-typed_lists-clause-found : goal.typed_verb-returns-in-Ok-typed_lists-clause-found
+typed_verb-returns-in-Ok-typed_lists-clause-found t c =
     let is = ap tree_view.plain_verb (c.in-If.is ∙ sym (rolls-If c.in-If.test c.in-If.yes c.in-If.other c.in-If.ended)) ∙ fold-roll-Verb _ _ _ _ _ _ _ _ (layer.If c.in-If.test c.in-If.yes c.in-If.other c.in-If.ended) in
     if_found c.args.scope.now c.args.line c.args.next.now (tree_view.plain_verb c.args.verb.now) c.args.findings.now.items _ (plain_cond c.in-If.test) (tree_list c.in-If.yes) (tree_phrase c.in-If.other) c.condition.new.findings.items (ap (typed_verb c.args.scope.now c.args.line c.args.next.now) is ∙ search rules) (search rules) (search rules)
 
-pub typed_verb-returns-in_ok-body-in-PerformInline-clause-found : goal.typed_verb-returns-in_ok-body-in-PerformInline-clause-found
-typed_verb-returns-in_ok-body-in-PerformInline-clause-found t c =
+pub typed_verb-returns-in-Ok-typed_cases-clause-found : goal.typed_verb-returns-in-Ok-typed_cases-clause-found
+typed_verb-returns-in-Ok-typed_cases-clause-found t c =
+    let e = c.in-Evaluate in
+    let is = ap tree_view.plain_verb (e.is ∙ sym (rolls-Evaluate e.subject e.whens e.other e.ended)) ∙ fold-roll-Verb _ _ _ _ _ _ _ _ (layer.Evaluate e.subject e.whens e.other e.ended) in
+    cases_found c.args.scope.now c.args.line c.args.next.now (tree_view.plain_verb c.args.verb.now) c.args.findings.now.items _ e.subject (tree.whens_of (map tree_view.plain_when e.whens.items)) (tree_phrase e.other) c.looked_at.new.findings.items c.in-Ok-looked_at.given
+    c.in-Ok-looked_at.ensures.value (ap (typed_verb c.args.scope.now c.args.line c.args.next.now) is ∙ search rules) (search rules) (search rules)
+
+pub typed_verb-returns-in-Ok-typed_stmts-clause-found : goal.typed_verb-returns-in-Ok-typed_stmts-clause-found
+typed_verb-returns-in-Ok-typed_stmts-clause-found t c =
     let is = ap tree_view.plain_verb (c.in-PerformInline.is ∙ sym (rolls-PerformInline c.in-PerformInline.turns c.in-PerformInline.body)) ∙ fold-roll-Verb _ _ _ _ _ _ _ _ (layer.PerformInline c.in-PerformInline.turns c.in-PerformInline.body) in
     inline_found c.args.scope.now c.args.line c.args.next.now (tree_view.plain_verb c.args.verb.now) c.args.findings.now.items _ (option_map tree_view.plain_loop c.in-PerformInline.turns) (tree_list c.in-PerformInline.body) c.turns_of.new.findings.items (ap (typed_verb c.args.scope.now c.args.line c.args.next.now) is) (search rules) (search rules)
 
-pub typed_verb-returns-in_ok-end-in-Read-clause-found : goal.typed_verb-returns-in_ok-end-in-Read-clause-found
-typed_verb-returns-in_ok-end-in-Read-clause-found t c =
+pub typed_verb-returns-in-Ok-typed_phrases-clause-found : goal.typed_verb-returns-in-Ok-typed_phrases-clause-found
+typed_verb-returns-in-Ok-typed_phrases-clause-found t c =
     let is = ap tree_view.plain_verb (c.in-Read.is ∙ sym (rolls-Read c.in-Read.file c.in-Read.into c.in-Read.end c.in-Read.not_end c.in-Read.ended)) ∙ read_is c.in-Read.file c.in-Read.into c.in-Read.end c.in-Read.not_end c.in-Read.ended in
-    read_found c.args.scope.now c.args.line c.args.next.now (tree_view.plain_verb c.args.verb.now) c.args.findings.now.items _ c.in-Read.file c.in-Read.into (tree_phrase c.in-Read.end) (tree_phrase c.in-Read.not_end) c.read_parts.new.findings.items (ap (typed_verb c.args.scope.now c.args.line c.args.next.now) is) (search rules) c.in_ok-end-in-Read.ensures.found
+    read_found c.args.scope.now c.args.line c.args.next.now (tree_view.plain_verb c.args.verb.now) c.args.findings.now.items _ c.in-Read.file c.in-Read.into (tree_phrase c.in-Read.end) (tree_phrase c.in-Read.not_end) c.read_parts.new.findings.items (ap (typed_verb c.args.scope.now c.args.line c.args.next.now) is) (search rules) c.in-Ok-typed_phrases.ensures.found
 
-pub typed_verb-returns-in_ok-end-in-Read-clause-value : goal.typed_verb-returns-in_ok-end-in-Read-clause-value
-typed_verb-returns-in_ok-end-in-Read-clause-value t c =
+pub typed_verb-returns-in-Ok-typed_phrases-clause-next : goal.typed_verb-returns-in-Ok-typed_phrases-clause-next
+typed_verb-returns-in-Ok-typed_phrases-clause-next t c =
     let is = ap tree_view.plain_verb (c.in-Read.is ∙ sym (rolls-Read c.in-Read.file c.in-Read.into c.in-Read.end c.in-Read.not_end c.in-Read.ended)) ∙ read_is c.in-Read.file c.in-Read.into c.in-Read.end c.in-Read.not_end c.in-Read.ended in
-    read_value c.args.scope.now c.args.line c.args.next.now (tree_view.plain_verb c.args.verb.now) c.in-Read.file c.in-Read.into (tree_phrase c.in-Read.end) (tree_phrase c.in-Read.not_end) _ c.in_ok-file-in-Read.file c.in_ok-file-in-Read.into (plain_phrase c.in_ok-end-in-Read.end) (plain_stmts c.in_ok-end-in-Read.fine)
-    (ap (typed_verb c.args.scope.now c.args.line c.args.next.now) is) c.read_of.ensures (search rules) (search rules) c.in_ok-end-in-Read.ensures.first c.in_ok-end-in-Read.ensures.second
+    c.in-Ok-typed_phrases.ensures.next ∙ sym (ap (λ (v : tree.Verb). (typed_verb c.args.scope.now c.args.line c.args.next.now v).next) is)
+
+pub typed_verb-returns-in-Ok-typed_phrases-clause-value : goal.typed_verb-returns-in-Ok-typed_phrases-clause-value
+typed_verb-returns-in-Ok-typed_phrases-clause-value t c =
+    let is = ap tree_view.plain_verb (c.in-Read.is ∙ sym (rolls-Read c.in-Read.file c.in-Read.into c.in-Read.end c.in-Read.not_end c.in-Read.ended)) ∙ read_is c.in-Read.file c.in-Read.into c.in-Read.end c.in-Read.not_end c.in-Read.ended in
+    read_value c.args.scope.now c.args.line c.args.next.now (tree_view.plain_verb c.args.verb.now) c.in-Read.file c.in-Read.into (tree_phrase c.in-Read.end) (tree_phrase c.in-Read.not_end) _ c.in-Ok-read_parts.given.0 c.in-Ok-read_parts.given.1 (plain_phrase c.in-Ok-typed_phrases.given.0) (plain_stmts c.in-Ok-typed_phrases.given.1)
+    (ap (typed_verb c.args.scope.now c.args.line c.args.next.now) is) c.read_of.ensures (search rules) (search rules) c.in-Ok-typed_phrases.ensures.first c.in-Ok-typed_phrases.ensures.second
 
 pub typed_when-returns-clause-found : goal.typed_when-returns-clause-found
 typed_when-returns-clause-found t c =
